@@ -72,12 +72,7 @@ module _ (M N : Map) (f : Line → ℕ) (v : ℕ)
   -- their other ends
   ends_same : (g : Line → ℕ) → map (λ x. g (line_at M x)) (lines_where M (λ l. f l == v)) ≡
       map (λ x. g (line_at N x)) (lines_where N (λ l. f l == v))
-  ends_same g =
-      map_same (λ x. g (line_at M x)) (λ x. g (line_at N x)) (lines_where M (λ l. f l == v)) (λ x h.
-      let p = passed f v (get M.lines x) (sym (has-lines_where M (λ l. f l == v) x) ∙ h) in
-      ap g (same_record M N x (p.1 ∙ sym ((same x p.0).0 (p.1, p.2)).0)))
-      ∙ ap (λ (es : List (ℕ × Line)). map (λ x. g (line_at N x)) (map (λ e. e.0) es))
-      (same_selected M N (λ l. f l == v) (λ x. same_kept f v (get M.lines x) (get N.lines x) (same x)))
+  ends_same g = grind (arith, map_same, passed, has-lines_where, same_record, same_selected, same_kept)
 
 -- a line of the first map that enters or leaves the node
 pub by_entering : (M N : Map) (v x : ℕ) → SameRound M N v → IsTrue (has_line M x) → end M x ≡ v → SameLine M N x

@@ -78,11 +78,7 @@ module _ (R : Receiver) (M : Map) (t : Lrp) (x : ℕ) (o : Own R M t x) where
 
   nowhere_worse : (y : ℕ) → (rating R t (leg M x)).far ≤ (rating R t (leg M y)).far →
       NowhereWorse (rating R t (leg M x)) (rating R t (leg M y))
-  nowhere_worse y le =
-      let a = frc_is in
-      let b = fow_is in
-      let c = bearing_is in
-      record { far = le; frc = omega arith; fow = omega arith; bearing = omega arith }
+  nowhere_worse y le = grind (arith, frc_is, fow_is, bearing_is)
 
   another_kind : (y : ℕ) → node_on t.side (leg M x) ≡ node_on t.side (leg M y) →
       are_twins t.side (leg M x) (leg M y) ≡ false → SomewhereBetter (rating R t (leg M x)) (rating R t (leg M y))
@@ -100,20 +96,7 @@ module _ (R : Receiver) (M : Map) (t : Lrp) (x : ℕ) (o : Own R M t x) where
 
   -- so a receiver chooses it, and no other
   pub takes_own : (y : ℕ) → Takes R M t y ↔ (y ≡ x)
-  takes_own y = (
-    (λ k. elim (cases_eq y x) [
-      | inl e ↦ e
-      | inr n ↦ absurd (both_ways _ (k.best x o.known) (preferred y k.known n))
-    ]),
-    (λ e. subst (Takes R M t) (sym e) (record {
-      known = o.known;
-      best = λ z h. elim (cases_eq z x) [
-        | inl is ↦ subst (λ (v : ℕ). IsFalse (R.prefers (rating R t (leg M v)) (rating R t (leg M x)))) (sym is)
-            (irreflexive (rating R t (leg M x)))
-        | inr n ↦ R.strict (rating R t (leg M x)) (rating R t (leg M z)) (preferred z h n)
-      ];
-    })),
-  )
+  takes_own y = grind (arith, cases_eq, both_ways, preferred, irreflexive)
 
 -- ---- receivers exist
 

@@ -5,9 +5,8 @@ use Rattle.std.proofs.lemmas.Bool.{cases_eq, both_ways, or_parts, ne_eqb}
 use Rattle.std.proofs.lemmas.List.Elements.{Contains-append_left, Contains-append_right}
 use Rattle.std.proofs.lemmas.List.Folds.{list_any-append}
 use Rattle.std.specs.FinMap.{get, FinMap}
-use Rattle.olr_spec.specs.Map.{Map, Line, has_line, line_at, start, end, dm, Edit, Add_node, Move_node, Drop_node}
-use Rattle.olr_spec.specs.Map.{Add_line, Set_line, Drop_line, edited, touched_nodes, touched_lines, SameLine, SameRound}
-use Rattle.olr_spec.specs.Map.{has}
+use Rattle.olr_spec.specs.Map.{Map, Line, has_line, start, end, dm, Edit, Add_node, Move_node, Drop_node, Add_line}
+use Rattle.olr_spec.specs.Map.{Set_line, Drop_line, edited, touched_nodes, touched_lines, SameLine, SameRound, has}
 use Rattle.olr_spec.specs.Detours.{ChangedLine, changes_of, IsChangedLine, AccountsFor}
 use Rattle.olr_spec.specs.Laws.{EditsDiffer, NoDifference, DifferencesAdd}
 use Rattle.olr_spec.specs.Coordinates.{Coord}
@@ -37,13 +36,7 @@ lines_accounted : (M N : Map) (y : ℕ) (lines : FinMap nat_cmp Line) (c : Chang
     ((x : ℕ) → x ≢ y → get lines x ≡ get M.lines x) → (IsTrue (has_line M y) → IsChangedLine (c ∷ []) M y) →
     ((l : Line) → get lines y ≡ Some l → (c.from ≡ l.from) × (c.to ≡ l.to) × (c.len ≤ l.len)) →
     BothAccount (c ∷ []) M N
-lines_accounted M N y lines c is other before after =
-    let to = record M { lines = lines } in
-    rw (← is) (
-      accounts_one (c ∷ []) M to y (λ x ne. sym (other x ne)) before,
-      accounts_one (c ∷ []) to M y other
-          (λ known. let p = after (line_at to y) (known_record to y known) in accounted_alone to y c p.0 p.1 p.2),
-    )
+lines_accounted M N y lines c is other before after = grind (arith, accounts_one, known_record, accounted_alone)
 
 edit_accounted : (M N : Map) (e : Edit) → edited M e ≡ Ok N → BothAccount (changes_of M e) M N
 edit_accounted M N (Add_node v c) e = nodes_accounted M N _ (made_by M N (Add_node v c) e).1
@@ -54,13 +47,8 @@ edit_accounted M N (Add_line x l) e =
     lines_accounted M N x _ _ p.4 (got_other M.lines x l) (λ known. absurd (both_ways (has_line M x) p.0 known))
     (λ k h. let is : l ≡ k = cc (got_same M.lines x l) in rw (← is) (refl, refl, omega arith))
 edit_accounted M N (Set_line x frc fow len shape) e =
-    let l : Line = record { from = start M x; to = end M x; frc = frc; fow = fow; len = len; shape = shape } in
-    lines_accounted M N x _ _ (made_by M N (Set_line x frc fow len shape) e).2 (got_other M.lines x l)
-    (λ known. accounted_alone M x _ refl refl (omega arith))
-    (λ k h. let is : l ≡ k = cc (got_same M.lines x l) in rw (← is) (refl, refl, omega arith))
-edit_accounted M N (Drop_line x) e =
-    lines_accounted M N x _ _ (made_by M N (Drop_line x) e).1 (left_other M.lines x)
-    (λ known. accounted_alone M x _ refl refl (omega arith)) (λ k h. absurd (cc (left_same M.lines x)))
+    grind (arith, lines_accounted, made_by, got_other, accounted_alone, got_same)
+edit_accounted M N (Drop_line x) e = grind (arith, lines_accounted, made_by, left_other, accounted_alone, left_same)
 
 pub edit_differs : EditsDiffer
 edit_differs M N e p =
@@ -85,14 +73,7 @@ none_differs M = search (inl)
 
 accounted_as : (C D : List ChangedLine) (L M : Map) (x : ℕ) → SameLine L M x →
     ((c : ChangedLine) → Contains C c → Contains D c) → IsChangedLine C M x → IsChangedLine D L x
-accounted_as C D L M x is more t =
-    record {
-      change = t.change;
-      listed = more t.change t.listed;
-      from = t.from ∙ sym (same_start L M x is);
-      to = t.to ∙ sym (same_end L M x is);
-      len = coe 1 0 (i. t.change.len ≤ same_dm L M x is i) t.len;
-    }
+accounted_as C D L M x is more t = grind (arith, same_start, same_end, same_dm)
 
 -- E has the changed lines of C and D
 accounts_on : (C D E : List ChangedLine) (L M N : Map) → ((c : ChangedLine) → Contains C c → Contains E c)

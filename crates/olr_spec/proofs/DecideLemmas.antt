@@ -12,13 +12,13 @@ use Rattle.olr_spec.specs.Extension.{Path, is_path, first, last, passing, MayPre
 use Rattle.olr_spec.specs.Extension.{LongestStart, LongestEnd, Tried, from_start, taken_start, extended_path, limit}
 use Rattle.olr_spec.specs.Points.{node_at, stretch, Covered, fit16, Candidate, ValidCandidate, Greatest, Next, To_end}
 use Rattle.olr_spec.specs.Points.{To_valid, To_passing, NoNext, Follow}
-use Rattle.olr_spec.specs.Encoding.{Answer, Refused, Refusal, path_fault, answer_by_points, Encoding}
+use Rattle.olr_spec.specs.Encoding.{Answer, Refused, path_fault, answer_by_points, Encoding}
 use Rattle.olr_spec.specs.Laws.{OneUnique, SomeAnswer}
 use Rattle.olr_spec.proofs.RouteLemmas.{positive, dm_of-append}
 use Rattle.olr_spec.proofs.MapLemmas.{has-lines_where, passes_at}
 use Rattle.olr_spec.proofs.ListLemmas.{Each, Each-nil, Each-cons, Each-head, Each-tail, Known}
 use Rattle.olr_spec.proofs.RunLemmas.{StartRun-back, start_suffix, end_prefix, last_known}
-use Rattle.olr_spec.proofs.AnswerLemmas.{sound_lines, all_first, all_last, path_nonempty}
+use Rattle.olr_spec.proofs.AnswerLemmas.{sound_lines, all_first, all_last, path_nonempty, by_fault}
 use Rattle.olr_spec.proofs.RunMoves.{EndRun-push}
 
 -- ---- decidable propositions
@@ -203,20 +203,10 @@ some_follow M m ls (suc fuel) i h =
 -- ---- runs of degree-two nodes
 
 dec_MayPrecede : (M : Map) (x : ℕ) (ls : List ℕ) → Dec (MayPrecede M x ls)
-dec_MayPrecede M x ls =
-    dec_as (λ p. record { known = p.0.0; joins = p.0.1; through = p.1.0; onward = p.1.1.0; fresh = p.1.1.1 })
-    (λ p. ((p.known, p.joins), (p.through, (p.onward, p.fresh))))
-    (dec_and (dec_and (dec_true (has_line M x)) (dec_eq (end M x) (start M (first ls))))
-    (dec_and (dec_true (passing M (end M x)))
-    (dec_and (dec_not (dec_eq (start M x) (end M (first ls)))) (dec_false (has ls x)))))
+dec_MayPrecede M x ls = grind (arith, dec_as, dec_and, dec_true, dec_eq, dec_not, dec_false)
 
 dec_MayFollow : (M : Map) (ls : List ℕ) (x : ℕ) → Dec (MayFollow M ls x)
-dec_MayFollow M ls x =
-    dec_as (λ p. record { known = p.0.0; joins = p.0.1; through = p.1.0; onward = p.1.1.0; fresh = p.1.1.1 })
-    (λ p. ((p.known, p.joins), (p.through, (p.onward, p.fresh))))
-    (dec_and (dec_and (dec_true (has_line M x)) (dec_eq (start M x) (end M (last ls))))
-    (dec_and (dec_true (passing M (start M x)))
-    (dec_and (dec_not (dec_eq (end M x) (start M (last ls)))) (dec_false (has ls x)))))
+dec_MayFollow M ls x = grind (arith, dec_as, dec_and, dec_true, dec_eq, dec_not, dec_false)
 
 -- the last element of a list that isn't empty
 pub last_of_list : (x : ℕ) (xs : List ℕ) → (front : List ℕ) × (y : ℕ) × (x ∷ xs ≡ front ++ y ∷ [])
@@ -319,10 +309,7 @@ some_encoding M m P is e =
     let js = some_follow M m E.lines (length E.lines) 0 (omega arith) in
     (answer_by_points M E js.0, encoding_of M P t.0 t.1 js.0 t.2 js.1)
 
-some_by : (M : Map) → IsMap M → (P : Path) → IsTrue (is_path P.lines) → (o : Option Refusal) → path_fault M P ≡ o →
-    (A : Answer) × MatchOption o (Encoding M P A) (λ r. A ≡ Refused r)
-some_by M m P is None e = some_encoding M m P is e
-some_by M m P is (Some r) e = (Refused r, refl)
-
 pub some_answer : SomeAnswer
-some_answer M m P is = some_by M m P is (path_fault M P) refl
+some_answer M m P is =
+    by_fault M P (λ o. (A : Answer) × MatchOption o (Encoding M P A) (λ r. A ≡ Refused r)) (some_encoding M m P is)
+    (λ r. (Refused r, refl))

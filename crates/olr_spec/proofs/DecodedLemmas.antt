@@ -22,7 +22,7 @@ use Rattle.olr_spec.proofs.ListLemmas.{has_cases}
 use Rattle.olr_spec.proofs.AnswerLemmas.{path_also, path_at}
 use Rattle.olr_spec.proofs.KeptLemmas.{two_kept}
 use Rattle.olr_spec.proofs.FieldLemmas.{position_is}
-use Rattle.olr_spec.proofs.FitLemmas.{kept_ends, extended_sound, answered, by_fault}
+use Rattle.olr_spec.proofs.FitLemmas.{kept_ends, extended_sound, answered, by_answer}
 
 -- ---- one rounding
 
@@ -215,7 +215,7 @@ module _ (M : Map) (m : IsMap M) (P : Path) (is : IsTrue (is_path P.lines)) (non
       taken false d h = absurd cc
 
 pub decoded_near : DecodedNear
-decoded_near M m P is r e = let p = by_fault M P r (path_fault M P) refl e in near_point M m P is p.0 r p.1
+decoded_near M m P is r e = let p = by_answer M P r e in near_point M m P is p.0 r p.1
 
 pub decoded_points : DecodedPoints
-decoded_points M m P is r e = let p = by_fault M P r (path_fault M P) refl e in point_at M m P is p.0 r p.1
+decoded_points M m P is r e = let p = by_answer M P r e in point_at M m P is p.0 r p.1

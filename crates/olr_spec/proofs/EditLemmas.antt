@@ -1,7 +1,7 @@
 -- What an edit changes, and what it leaves unchanged.
 use Rattle.std.proofs.Common.{◌⊎◌, ◌↔◌, inl, inr, ◌≡◌, ◌≢◌, ℕ, Bool, true, false, cond, ◌||◌, List, ◌∷◌, Option, Some}
 use Rattle.std.proofs.Common.{None, is_some, Result, Ok, IsTrue, refl, sym, ap, ◌∙◌, subst, nat_cmp, ◌==◌, unwrap_or}
-use Rattle.std.proofs.Common.{[]}
+use Rattle.std.proofs.Common.{[], arith}
 use Rattle.std.proofs.lemmas.Bool.{cases_eq, eq-eqb, ne_eqb, both_ways, and_parts, or_parts, not-false, cond_both}
 use Rattle.std.specs.Ordering.{eq_by_cmp}
 use Rattle.std.specs.Cmp.{nat_cmp_total, unsigned_tied}
@@ -35,32 +35,17 @@ Made M (Drop_line x) N = (has_line M x ≡ true) × (record M { lines = remove M
 pub made_by : (M N : Map) (e : Edit) → edited M e ≡ Ok N → Made M e N
 made_by M N (Add_node v c) e = let p = passed_test _ _ _ N e in (p.0, cc)
 made_by M N (Move_node v c) e = let p = passed_test _ _ _ N e in (not-false _ p.0, cc)
-made_by M N (Drop_node v) e =
-    let p = passed_test _ _ _ N e in
-    let q = passed_test _ _ _ N p.1 in
-    (not-false _ p.0, q.0, cc)
-made_by M N (Add_line x l) e =
-    let p = passed_test _ _ _ N e in
-    let q = passed_test _ _ _ N p.1 in
-    let r = passed_test _ _ _ N q.1 in
-    let ends = and_parts _ _ (not-false _ q.0) in
-    (p.0, ends.0, ends.1, not-false _ r.0, cc)
-made_by M N (Set_line x frc fow len shape) e =
-    let p = passed_test _ _ _ N e in
-    let q = passed_test _ _ _ N p.1 in
-    (not-false _ p.0, not-false _ q.0, cc)
+made_by M N (Drop_node v) e = grind (arith, passed_test, not-false)
+made_by M N (Add_line x l) e = grind (arith, passed_test, and_parts, not-false)
+made_by M N (Set_line x frc fow len shape) e = grind (arith, passed_test, not-false)
 made_by M N (Drop_line x) e = let p = passed_test _ _ _ N e in (not-false _ p.0, cc)
 
 module _ {X : Type 0} where
   pub got_other : (m : FinMap nat_cmp X) (k : ℕ) (v : X) (q : ℕ) → q ≢ k → get (insert m k v) q ≡ get m q
-  got_other m k v q ne =
-      get-insert nat_cmp_total m k v q
-      ∙ ap (λ (b : Bool). cond b (Some v) (get m q)) (unsigned_tied q k ∙ ne_eqb q k ne)
+  got_other m k v q ne = grind (arith, get-insert, nat_cmp_total, unsigned_tied, ne_eqb)
 
   pub got_same : (m : FinMap nat_cmp X) (k : ℕ) (v : X) → get (insert m k v) k ≡ Some v
-  got_same m k v =
-      get-insert nat_cmp_total m k v k
-      ∙ ap (λ (b : Bool). cond b (Some v) (get m k)) (unsigned_tied k k ∙ eq-eqb k k refl)
+  got_same m k v = grind (arith, get-insert, nat_cmp_total, unsigned_tied, eq-eqb)
 
   pub left_other : (m : FinMap nat_cmp X) (k q : ℕ) → q ≢ k → get (remove m k) q ≡ get m q
   left_other m k q ne =
@@ -128,9 +113,7 @@ old_out M x F k out h =
 -- the record that is set
 new_out : (M : Map) (x : ℕ) (F : ℕ → Type 0) (l k : Line) → Each (λ v. ¬ F v) (l.from ∷ l.to ∷ []) →
     get (insert M.lines x l) x ≡ Some k → Out F k
-new_out M x F l k out h =
-    let same : l ≡ k = cc (got_same M.lines x l) in
-    subst (Out F) same (both_out F l.from l.to out)
+new_out M x F l k out h = grind (arith, got_same, both_out)
 
 pub edits_are_local : (M N : Map) (e : Edit) (P : List ℕ) (F : ℕ → Type 0) → edited M e ≡ Ok N →
     ((v : ℕ) → has (touched_nodes M e) v ≡ true → ¬ F v) →
@@ -229,7 +212,5 @@ edits_keep M N (Drop_node v) m h e =
     let p = made_by M N (Drop_node v) e in subst IsMap p.2 (without_node M v m p.1)
 edits_keep M N (Add_line x l) m h e =
     let p = made_by M N (Add_line x l) e in subst IsMap p.4 (with_line M x l m p.3 p.1 p.2 h)
-edits_keep M N (Set_line x frc fow len shape) m h e =
-    let p = made_by M N (Set_line x frc fow len shape) e in
-    subst IsMap p.2 (with_line M x _ m p.1 (m.starts x p.0) (m.ends x p.0) h)
+edits_keep M N (Set_line x frc fow len shape) m h e = grind (arith, made_by, with_line)
 edits_keep M N (Drop_line x) m h e = subst IsMap (made_by M N (Drop_line x) e).1 (without_line M x m)

@@ -8,9 +8,9 @@ use Rattle.std.proofs.lemmas.Int.{ints}
 use Rattle.std.proofs.lemmas.List.{length-map, get_or-map, get_or_past, take-map, drop-map}
 use Rattle.std.specs.List.{fold, find, slice_index, slice_range, AllByRecursion}
 use Rattle.olr_spec.specs.Coordinates.{Coord, is_coord, is_longitude, is_latitude, abs24, relative, fits16}
-use Rattle.olr_spec.specs.Map.{Map, IsMap, Line, is_good, has_line, line_at, coord_at, start, end, has}
+use Rattle.olr_spec.specs.Map.{Map, IsMap, Line, is_good, has_line, line_at, coord_at, has}
 use Rattle.olr_spec.specs.Routes.{dm_of}
-use Rattle.olr_spec.specs.Points.{node_at, stretch, Candidate, fit16}
+use Rattle.olr_spec.specs.Points.{node_at, stretch, Candidate}
 use Rattle.olr_spec.specs.Bearings.{Leg, Scaled, scaled_coord, bearing, sector, up_to, vector, boundary, lies_between}
 use Rattle.olr_spec.specs.Reference.{leg, legs, no_leg, leg_at, position, dm_along, dm_between, from_front, last_where}
 use Rattle.olr_spec.specs.Reference.{first_where, attrs, last_two, middle_points, offset, last_point}
@@ -74,12 +74,7 @@ at_least M ls test d q ks l h =
 -- after the last that passes, none passes
 pub none_after : (M : Map) (ls : List ℕ) (test : ℕ → Bool) (d p : ℕ) (ks : List ℕ) → Linked M ls (p ∷ ks) → d ≤ p →
     (k : ℕ) → has (p ∷ ks) k ≡ true → last_where test d (p ∷ ks) < k → test k ≡ false
-none_after M ls test d p [] l h k i lt =
-    elim (has_cases p [] k i) [
-      | inl is ↦ cond_both (test p) p d (λ y. y < k → test k ≡ false) (λ t g. absurd (omega arith))
-          (λ t g. ap test (sym is) ∙ t) lt
-      | inr j ↦ absurd cc
-    ]
+none_after M ls test d p [] l h k i lt = grind (arith, has_cases, cond_both)
 none_after M ls test d p (q ∷ ks) l h k i lt =
     let step = l.0.after in
     let After : ℕ → Type 0 = λ y. last_where test y (q ∷ ks) < k → test k ≡ false in
@@ -93,12 +88,7 @@ none_after M ls test d p (q ∷ ks) l h k i lt =
 -- before the first that passes, none passes
 pub none_before : (M : Map) (ls : List ℕ) (test : ℕ → Bool) (d p : ℕ) (ks : List ℕ) → Linked M ls (p ∷ ks) → (k : ℕ) →
     has (p ∷ ks) k ≡ true → k < first_where test d (p ∷ ks) → test k ≡ false
-none_before M ls test d p [] l k i lt =
-    elim (has_cases p [] k i) [
-      | inl is ↦ cond_both (test p) p d (λ y. k < y → test k ≡ false) (λ t g. absurd (omega arith))
-          (λ t g. ap test (sym is) ∙ t) lt
-      | inr j ↦ absurd cc
-    ]
+none_before M ls test d p [] l k i lt = grind (arith, has_cases, cond_both)
 none_before M ls test d p (q ∷ ks) l k i lt =
     cond_both (test p) p (first_where test d (q ∷ ks)) (λ y. k < y → test k ≡ false)
     (λ t g. absurd (omega (arith, linked_above M ls p (q ∷ ks) l k i)))
@@ -156,15 +146,7 @@ good_frc : (l : Line) → IsTrue (is_good l) → (l.frc < 8) × (l.fow < 8)
 good_frc l h = (grind (arith, nat_tests, and_parts), grind (arith, nat_tests, and_parts))
 
 leg_good : (M : Map) → IsMap M → (x : ℕ) → IsTrue (has_line M x) → IsLeg (leg M x)
-leg_good M m x h =
-    let g = good_frc (line_at M x) (m.good x h) in
-    record {
-      frc = g.0;
-      fow = g.1;
-      begin = m.places (start M x) (m.starts x h);
-      finish =
-          m.places (end M x) (m.ends x h);
-    }
+leg_good M m x h = grind (arith, good_frc)
 
 no_leg_good : IsLeg no_leg
 no_leg_good = record { frc = omega arith; fow = omega arith; begin = refl; finish = refl }
@@ -227,11 +209,7 @@ module _ (M : Map) (m : IsMap M) (ls : List ℕ) (known : Each (Known M) ls) whe
   relative_fits : (i j : ℕ) → 0 < length ls → Candidate M ls i j →
       IsTrue (fits16 (relative (position (legs M ls) i).lon (position (legs M ls) j).lon))
       × IsTrue (fits16 (relative (position (legs M ls) i).lat (position (legs M ls) j).lat))
-  relative_fits i j n c =
-      let p = position_is i n in
-      let q = position_is j n in
-      and_parts (fits16 (relative (position (legs M ls) i).lon (position (legs M ls) j).lon))
-      (fits16 (relative (position (legs M ls) i).lat (position (legs M ls) j).lat)) ((λ k. fit16 (p k) (q k)) ∙ c.fits)
+  relative_fits i j n c = grind (arith, position_is, and_parts)
 
   -- ---- the LRPs
 

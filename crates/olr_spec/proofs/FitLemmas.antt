@@ -1,6 +1,6 @@
 -- The fields of an answer's reference fit, so it can be encoded as bytes.
-use Rattle.std.proofs.Common.{inl, inr, ◌≡◌, ℕ, ◌+◌, ◌-◌, true, List, ◌∷◌, length, ◌<◌, ◌≤◌, Option, Some, None, IsTrue}
-use Rattle.std.proofs.Common.{refl, sym, ap, ◌∙◌, subst, arith, nat_le, ◌==◌, length-append, MatchOption, []}
+use Rattle.std.proofs.Common.{inl, inr, ◌≡◌, ℕ, ◌+◌, ◌-◌, true, List, ◌∷◌, length, ◌<◌, ◌≤◌, None, IsTrue, sym, ap, ◌∙◌}
+use Rattle.std.proofs.Common.{subst, arith, nat_le, length-append, []}
 use Rattle.std.proofs.lemmas.Bool.{cases_Bool, eqb-true, leb-false, cond_both}
 use Rattle.std.proofs.lemmas.Bool.Decides.{nat_tests}
 use Rattle.std.proofs.lemmas.List.{length-map}
@@ -10,13 +10,13 @@ use Rattle.olr_spec.specs.Extension.{Path, Tried, is_path, extended_path, from_s
 use Rattle.olr_spec.specs.Points.{Follow, last_position}
 use Rattle.olr_spec.specs.Reference.{Reference, leg, legs, dm_between, from_front, to_back, first_kept, last_kept}
 use Rattle.olr_spec.specs.Reference.{kept_points, last_two, reference_by, reference}
-use Rattle.olr_spec.specs.Encoding.{Points, Refused, Refusal, No_next_point, path_fault, answer_by_points, Encoding}
+use Rattle.olr_spec.specs.Encoding.{Points, path_fault, answer_by_points, Encoding, Encodes}
 use Rattle.olr_spec.specs.Bytes.{IsReference}
 use Rattle.olr_spec.specs.Laws.{AnswerFits}
 use Rattle.olr_spec.proofs.RouteLemmas.{dm_of-append}
 use Rattle.olr_spec.proofs.ListLemmas.{Each, Each-append, Each-from, has_here, has_there, has_cases, has_filter}
 use Rattle.olr_spec.proofs.ListLemmas.{filter_has, Known}
-use Rattle.olr_spec.proofs.AnswerLemmas.{sound_lines, path_nonempty, or_None}
+use Rattle.olr_spec.proofs.AnswerLemmas.{sound_lines, path_nonempty, or_None, by_fault}
 use Rattle.olr_spec.proofs.RunMoves.{StartRun-known, EndRun-known}
 use Rattle.olr_spec.proofs.PointMoves.{Each-cond}
 use Rattle.olr_spec.proofs.JoinLemmas.{Linked, follow_linked, kept_linked, between, between_is}
@@ -139,11 +139,7 @@ extended_sound M P is none before after tried =
 -- an answer with a reference has LRPs up to the end, and the reference is that of these LRPs
 pub answered : (M : Map) (E : Path) (js : List ℕ) (r : Reference) → Points r ≡ answer_by_points M E js →
     (last_position 0 js ≡ length E.lines) × (r ≡ reference (legs M E.lines) E.pos E.neg js)
-answered M E js r h =
-    cond_both (last_position 0 js == length E.lines) (Points (reference (legs M E.lines) E.pos E.neg js))
-    (Refused (No_next_point (last_position 0 js)))
-    (λ A. Points r ≡ A → (last_position 0 js ≡ length E.lines) × (r ≡ reference (legs M E.lines) E.pos E.neg js))
-    (λ t e. (eqb-true (last_position 0 js) (length E.lines) t, cc)) (λ t e. absurd cc) h
+answered M E js r h = grind (arith, cond_both, eqb-true)
 
 answer_fits : (M : Map) → IsMap M → (P : Path) → IsTrue (is_path P.lines) → path_fault M P ≡ None → (r : Reference) →
     Encoding M P (Points r) → IsReference r
@@ -154,10 +150,8 @@ answer_fits M m P is none r p =
     subst IsReference (sym a.1) (reference_fits M m E.lines s.known s.size p.points E.pos E.neg p.follow a.0 s.long)
 
 -- a path whose answer is a reference has no fault, and the reference is its encoding
-pub by_fault : (M : Map) (P : Path) (r : Reference) (o : Option Refusal) → path_fault M P ≡ o →
-    MatchOption o (Encoding M P (Points r)) (λ f. Points r ≡ Refused f) → (path_fault M P ≡ None) × Encoding M P (Points r)
-by_fault M P r None f e = (f, e)
-by_fault M P r (Some g) f e = absurd cc
+pub by_answer : (M : Map) (P : Path) (r : Reference) → Encodes M P (Points r) → (path_fault M P ≡ None) × Encoding M P (Points r)
+by_answer M P r = grind (arith, by_fault)
 
 pub encoded_fits : AnswerFits
-encoded_fits M m P is r p = let e = by_fault M P r (path_fault M P) refl p in answer_fits M m P is e.0 r e.1
+encoded_fits M m P is r p = let e = by_answer M P r p in answer_fits M m P is e.0 r e.1

@@ -1,7 +1,7 @@
 -- The routes between the remaining LRPs join to the extended path.
 use Rattle.std.proofs.Common.{◌⊎◌, inl, inr, ◌≡◌, ℕ, zero, suc, ◌+◌, ◌-◌, min, Bool, true, false, cond, ◌&&◌, List, ◌∷◌}
-use Rattle.std.proofs.Common.{◌++◌, length, take, drop, ◌<◌, ◌≤◌, refl, sym, ap, ◌∙◌, subst, arith, nat_le, length-drop}
-use Rattle.std.proofs.Common.{◌↔◌, []}
+use Rattle.std.proofs.Common.{◌++◌, length, take, drop, ◌<◌, ◌≤◌, refl, ap, ◌∙◌, subst, arith, nat_le, length-drop, ◌↔◌}
+use Rattle.std.proofs.Common.{[]}
 use Rattle.std.proofs.lemmas.Bool.{cases_eq, and_parts, and_from, leb-true, le-leb, cond_both}
 use Rattle.std.proofs.lemmas.Bool.Decides.{nat_tests}
 use Rattle.std.proofs.lemmas.List.{drop_more, take_more, get_or-drop}
@@ -71,10 +71,7 @@ alone M ls p q e h = grind (arith, stretch_first, empty_stretch)
 
 -- without its last line, a unique shortest path is the one to the start of this line
 without_last : (M : Map) (s t : ℕ) (xs : List ℕ) (x : ℕ) → LrpRoute M s t (xs ++ x ∷ []) → LrpRoute M s (start M x) xs
-without_last M s t xs x r =
-    let parts = IsRoute-split M s t xs (x ∷ []) (lrp_route_is_route M s t (xs ++ x ∷ []) r) in
-    let route : IsRoute M s (start M x) xs = subst (λ (v : ℕ). IsRoute M s v xs) (sym parts.2.1) parts.1 in
-    prefix_of_route M s (start M x) t xs (x ∷ []) r route (parts.2.0, refl, parts.2.2)
+without_last M s t xs x r = grind (arith, IsRoute-split, lrp_route_is_route, prefix_of_route)
 
 pub joins_last : (M : Map) (ls : List ℕ) (p q : ℕ) → Candidate M ls p q → JoinsLast M ls p q
 joins_last M ls p q c =
@@ -115,10 +112,7 @@ abbrev pub between : ℕ → ℕ → ℕ → Bool
 between a b i = nat_le a i && nat_le i b
 
 pub between_is : (a b i : ℕ) → (between a b i ≡ true) ↔ ((a ≤ i) × (i ≤ b))
-between_is a b i = (
-  (λ h. let p = and_parts (nat_le a i) (nat_le i b) h in (leb-true a i p.0, leb-true i b p.1)),
-  (λ p. and_from (nat_le a i) (nat_le i b) (le-leb a i p.0) (le-leb i b p.1)),
-)
+between_is a b i = grind (arith, and_parts, leb-true, and_from, le-leb)
 
 -- no LRP after b remains
 none_beyond : (M : Map) (ls : List ℕ) (a b p : ℕ) (ks : List ℕ) → b < p → Linked M ls (p ∷ ks) →

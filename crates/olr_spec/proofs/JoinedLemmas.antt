@@ -5,7 +5,7 @@ use Rattle.std.specs.Prelude.{IsTrue, Some}
 use Rattle.olr_spec.specs.Map.{Map, start, end}
 use Rattle.olr_spec.specs.Routes.{IsRoute}
 use Rattle.olr_spec.specs.Extension.{Path, is_path, Tried, first, last, MayPrecede, MayFollow, extended_path, AreJoined}
-use Rattle.olr_spec.specs.Encoding.{Broken, first_break, path_fault}
+use Rattle.olr_spec.specs.Encoding.{first_break, path_fault}
 use Rattle.olr_spec.proofs.RouteLemmas.{IsRoute-append}
 use Rattle.olr_spec.proofs.ListLemmas.{Each, Each-head, Each-tail, Each-from, Known}
 use Rattle.olr_spec.proofs.AnswerLemmas.{or_None, map_None, sound_lines, path_nonempty}
@@ -29,9 +29,7 @@ joined_of M k (x ∷ y ∷ ls) h a e =
     (λ t off. absurd cc) e
 
 pub path_joined : (M : Map) (P : Path) → IsTrue (is_path P.lines) → path_fault M P ≡ None → AreJoined M P.lines
-path_joined M P is e =
-    let break : first_break M 0 P.lines ≡ None = map_None Broken (first_break M 0 P.lines) (or_None _ _ (or_None _ _ e).1).0 in
-    joined_of M 0 P.lines (path_nonempty P.lines is) (Each-from (Known M) P.lines (sound_lines M P e)) break
+path_joined M P is e = grind (arith, map_None, or_None, joined_of, path_nonempty, Each-from, sound_lines)
 
 -- ---- its runs of degree-two nodes
 
@@ -49,20 +47,10 @@ first_pushed [] x h = absurd (omega arith)
 first_pushed (y ∷ ls) x h = refl
 
 preceded : (M : Map) (x : ℕ) (ls : List ℕ) → MayPrecede M x ls → IsJoinedPath M ls → IsJoinedPath M (x ∷ ls)
-preceded M x ls p j =
-    record {
-      some = omega arith;
-      joined = (p.known, refl, coe 1 0 (i. IsRoute M (p.joins i) (end M (last_later x ls j.some i)) ls) j.joined);
-    }
+preceded M x ls p j = grind (arith, last_later)
 
 pushed : (M : Map) (ls : List ℕ) (x : ℕ) → MayFollow M ls x → IsJoinedPath M ls → IsJoinedPath M (ls ++ x ∷ [])
-pushed M ls x p j =
-    let both : IsRoute M (start M (first ls)) (end M x) (ls ++ x ∷ []) =
-    IsRoute-append M (start M (first ls)) (end M (last ls)) (end M x) ls (x ∷ []) j.joined (p.known, p.joins, refl) in
-    record {
-      some = omega (arith, length-append ls (x ∷ []));
-      joined = coe 1 0 (i. IsRoute M (start M (first_pushed ls x j.some i)) (end M (last_push ls x i)) (ls ++ x ∷ [])) both;
-    }
+pushed M ls x p j = grind (arith, IsRoute-append, length-append, first_pushed, last_push)
 
 pub extended_joined : (M : Map) (P : Path) → IsTrue (is_path P.lines) → path_fault M P ≡ None → (b a : List ℕ)
     → Tried M P b a → AreJoined M (extended_path M P b a).lines

@@ -1,8 +1,7 @@
 -- Coverage queries along a path's own lines: what they say without the extension, and that they are the same on another
 -- map where they are clear.
-use Rattle.std.proofs.Common.{inr, ◌≡◌, ℕ, ◌+◌, ◌-◌, min, List, ◌∷◌, ◌++◌, length, ◌<◌, ◌≤◌, sym, ap, ◌∙◌, subst, arith}
-use Rattle.std.proofs.Common.{refl, ◌↔◌, Bool, true, false, IsTrue, Option, None, Some, MatchOption, nat_lt}
-use Rattle.std.proofs.Common.{length-append, []}
+use Rattle.std.proofs.Common.{inr, ◌≡◌, ℕ, ◌+◌, ◌-◌, List, ◌∷◌, ◌++◌, length, ◌<◌, ◌≤◌, sym, ap, ◌∙◌, subst, arith}
+use Rattle.std.proofs.Common.{refl, ◌↔◌, Bool, true, false, IsTrue, None, MatchOption, nat_lt, length-append, []}
 use Rattle.std.proofs.lemmas.List.{drop-append-le, take-append-le, append_assoc, get_or_append_left, get_or-append-add}
 use Rattle.std.proofs.lemmas.List.{length-drop}
 use Rattle.std.proofs.Math.Seq.{drop-append-add}
@@ -12,11 +11,11 @@ use Rattle.olr_spec.specs.Map.{Map, IsMap, start, end, SameLine}
 use Rattle.olr_spec.specs.Routes.{IsRoute, dm_of, UniqueShortest, LrpRoute}
 use Rattle.olr_spec.specs.Extension.{Path, is_path, extended_path, from_start, taken_start, taken_end, AreJoined}
 use Rattle.olr_spec.specs.Points.{stretch, Covered, Follow}
-use Rattle.olr_spec.specs.Encoding.{Refusal, path_fault}
+use Rattle.olr_spec.specs.Encoding.{path_fault}
 use Rattle.olr_spec.specs.Detours.{ChangedLine, AccountsFor, Detour}
 use Rattle.olr_spec.specs.Queries.{IsLastTested, CoverageQuery, query_to, IsQuery, IsClear, KnownQuery, IsKnown}
 use Rattle.olr_spec.specs.Queries.{AreKnown, IsKnownAt, FoundFor, OfQuerying, KnownOfExtended, IsSearched}
-use Rattle.olr_spec.specs.Queries.{SearchedOfExtended, SearchedOf, QueriesOf, QueriesOfExtended, querying}
+use Rattle.olr_spec.specs.Queries.{SearchedOfExtended, SearchedOf, QueriesOf, querying}
 use Rattle.olr_spec.specs.Laws.{OneKnown, OneSearched, KnownHolds, AllSearched}
 use Rattle.olr_spec.proofs.ListLemmas.{Each, Each-head, Each-left, Each-right}
 use Rattle.olr_spec.proofs.RouteLemmas.{dm_of-append, IsRoute-split}
@@ -24,7 +23,7 @@ use Rattle.olr_spec.proofs.AgreeLemmas.{same_start, same_dm_of}
 use Rattle.olr_spec.proofs.RouteMoves.{IsRoute-moves, same_there, clear_unique}
 use Rattle.olr_spec.proofs.JoinLemmas.{stretch_first, follow_linked, Linked}
 use Rattle.olr_spec.proofs.JoinedLemmas.{extended_joined}
-use Rattle.olr_spec.proofs.AnswerLemmas.{path_also, path_at, same_by}
+use Rattle.olr_spec.proofs.AnswerLemmas.{path_also, path_at, same_by, by_fault}
 use Rattle.olr_spec.proofs.WayLemmas.{way_between, next_start}
 use Rattle.olr_spec.proofs.QueryLemmas.{stretch_parts, onward}
 use Rattle.olr_spec.proofs.TestedLemmas.{one_last_tested, one_query}
@@ -119,10 +118,7 @@ module _ (b own a : List ℕ) where
 -- nothing is asked of the last line
 pub covered_unique : (M : Map) (ls : List ℕ) (i j : ℕ) → i < j → j < length ls →
     Covered M ls i j ↔ LrpRoute M (end M (slice_index ls i)) (start M (slice_index ls j)) (stretch ls (i + 1) j)
-covered_unique M ls i j h g =
-    let is : j ≡ min j (length ls - 1) = omega arith in
-    let Route : ℕ → Type 0 = λ m. LrpRoute M (end M (slice_index ls i)) (start M (slice_index ls m)) (stretch ls (i + 1) m) in
-    coe 0 1 (k. (i < (is k) → Route (is k)) ↔ Route j) ((λ c. c h), (λ r lt. r))
+covered_unique M ls i j h g = grind arith
 
 -- a route's lines lead to one node
 one_end : (M : Map) (s t u : ℕ) (xs : List ℕ) → IsRoute M s t xs → IsRoute M s u xs → t ≡ u
@@ -168,21 +164,14 @@ module _ (M : Map) (b own a : List ℕ) (joined : AreJoined M ((b ++ own) ++ a))
         (coe 0 1 (i. IsRoute M (from_known i) e.query.to (stretch own e.first e.last)) k.route) way
 
     pub query_known : e.query ≡ query_to M ls i (length b + e.last)
-    query_known = λ j. record {
-      from = from_known j;
-      to = to_known j;
-      within =
-          (k.within ∙ ap (dm_of M) (sym (part_is e.last (omega arith) (omega arith)))) j;
-    }
+    query_known = grind (arith, from_known, to_known, part_is)
 
     pub before_known : (m : ℕ) → e.first ≤ m → m < e.last →
         UniqueShortest M from (start M (slice_index ls (length b + m))) (stretch ls (i + 1) (length b + m))
     before_known m h g = grind (arith, own_line, from_known, part_is)
 
     pub covered_known : IsTrue e.covered ↔ UniqueShortest M from to (stretch ls (i + 1) (length b + e.last))
-    covered_known =
-        let is = part_is e.last (omega arith) (omega arith) in
-        coe 0 1 (j. IsTrue e.covered ↔ UniqueShortest M (from_known j) (to_known j) (sym is j)) k.covered
+    covered_known = grind (arith, part_is, from_known, to_known)
 
   -- and the other way round
   module _ (tested : IsLastTested M ls i (length b + e.last)) (query : e.query ≡ query_to M ls i (length b + e.last))
@@ -257,42 +246,33 @@ one_known_at M ls lead own i d e p q =
 
 pub one_known : OneKnown
 one_known M m P is ks ls =
-    same_by (path_fault M P) (KnownOfExtended M P) ks ls (λ e. one_list M m P is e
+    same_by (path_fault M P) (KnownOfExtended M P) (λ _. []) ks ls (λ e. one_list M m P is e
     (λ E lead. IsKnownAt M E lead (length P.lines)) (λ E lead. one_known_at M E lead (length P.lines)) ks ls)
 
 pub one_searched : OneSearched
 one_searched M m P is given ks ls =
-    same_by (path_fault M P) (SearchedOfExtended M P given) ks ls (λ e. one_list M m P is e
+    same_by (path_fault M P) (SearchedOfExtended M P given) (λ _. []) ks ls (λ e. one_list M m P is e
     (λ E lead. IsSearched M E lead (length P.lines) given) (λ E lead i k l f g. one_query M E i k l f.0 g.0) ks ls)
 
 -- ---- the coverage queries along a path's own lines are right, and they ascend
-
-known_at : (M : Map) (b own a : List ℕ) → AreJoined M ((b ++ own) ++ a) → (i : ℕ) (e : KnownQuery) →
-    IsKnownAt M ((b ++ own) ++ a) (length b) (length own) i e → IsKnown M own e
-known_at M b own a joined i e k =
-    is_known M b own a joined i e k.begins k.order k.upto k.tested.inside k.tested k.query k.covered
 
 pub none_known : (M : Map) (ls : List ℕ) → AreKnown M ls []
 none_known M ls = record { right = All-nil (IsKnown M ls); ascend = λ j h. absurd (omega arith) }
 
 pub known_holds : KnownHolds
-known_holds M P is ks = by (path_fault M P) refl
-  where
-    by : (o : Option Refusal) → path_fault M P ≡ o → MatchOption o (KnownOfExtended M P ks) (λ _. ks ≡ []) →
-        AreKnown M P.lines ks
-    by None e p =
-        let b = taken_start M p.before P.lines in
-        let a = taken_end M (from_start M P p.before) p.after in
-        let ls = (b ++ P.lines) ++ a in
-        let At = IsKnownAt M ls (length b) (length P.lines) in
-        let joined = extended_joined M P is e p.before p.after p.tried in
-        record {
-          right = found_each At (IsKnown M P.lines) (known_at M b P.lines a joined) (querying ls (0 ∷ p.points)) ks
-              p.holds;
-          ascend = found_increasing At (λ e. e.first) (length b) (λ i x k. k.begins) (querying ls (0 ∷ p.points)) ks
-              (querying_ascend M ls p.points p.follow) p.holds;
-        }
-    by (Some r) e p = subst (AreKnown M P.lines) (sym p) (none_known M P.lines)
+known_holds M P is ks =
+    by_fault M P (λ o. MatchOption o (KnownOfExtended M P ks) (λ _. ks ≡ []) → AreKnown M P.lines ks) (λ e p.
+    let b = taken_start M p.before P.lines in
+    let a = taken_end M (from_start M P p.before) p.after in
+    let ls = (b ++ P.lines) ++ a in
+    let At = IsKnownAt M ls (length b) (length P.lines) in
+    let joined = extended_joined M P is e p.before p.after p.tried in
+    record {
+      right = found_each At (IsKnown M P.lines) (λ i e k. is_known M b P.lines a joined i e k.begins k.order k.upto
+          k.tested.inside k.tested k.query k.covered) (querying ls (0 ∷ p.points)) ks p.holds;
+      ascend = found_increasing At (λ e. e.first) (length b) (λ i x k. k.begins) (querying ls (0 ∷ p.points)) ks
+          (querying_ascend M ls p.points p.follow) p.holds;
+    }) (λ r p. rw p (none_known M P.lines))
 
 -- ---- where nothing is given, everything is searched
 
@@ -305,15 +285,7 @@ found_all M ls lead own (i ∷ is) (q ∷ qs) z =
     inr (q, qs, refl, (z.0, λ r. absurd (omega arith)), found_all M ls lead own is qs z.1)
 
 pub searched_all : (M : Map) (P : Path) (ks : List CoverageQuery) → QueriesOf M P ks → SearchedOf M P [] ks
-searched_all M P ks = by (path_fault M P)
-  where
-    by : (o : Option Refusal) → MatchOption o (QueriesOfExtended M P ks) (λ _. ks ≡ []) →
-        MatchOption o (SearchedOfExtended M P [] ks) (λ _. ks ≡ [])
-    by None p =
-        let ls = (extended_path M P p.before p.after).lines in
-        path_also p (found_all M ls (length (taken_start M p.before P.lines)) (length P.lines)
-        (querying ls (0 ∷ p.points)) ks p.holds)
-    by (Some r) p = p
+searched_all M P ks = grind (arith, by_fault, path_also, found_all)
 
 pub all_searched : AllSearched
 all_searched M m P is ks ls p q = one_searched M m P is [] ks ls (searched_all M P ks p) q

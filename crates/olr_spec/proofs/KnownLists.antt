@@ -5,7 +5,6 @@ use Rattle.std.proofs.lemmas.Bool.{cond_both}
 use Rattle.std.proofs.lemmas.List.Elements.{All-nil, All-cons}
 use Rattle.std.specs.Prelude.{⊤, ◌↔◌}
 use Rattle.std.specs.List.Sorted.{IsStrictlyIncreasing}
-use Rattle.std.specs.List.{slice_index}
 use Rattle.olr_spec.specs.Map.{has}
 use Rattle.olr_spec.specs.Queries.{FoundFor}
 use Rattle.olr_spec.proofs.ListLemmas.{has_here, has_there}
@@ -65,9 +64,7 @@ ascend_filter p k (x ∷ xs) a =
 
 increasing_more : (x y : ℕ) (ys : List ℕ) → x < y → IsStrictlyIncreasing (y ∷ ys) → IsStrictlyIncreasing (x ∷ y ∷ ys)
 increasing_more x y ys lt up zero h = lt
-increasing_more x y ys lt up (suc k) h =
-    let n : suc (k + 1) ≡ suc k + 1 = omega arith in
-    subst (λ (m : ℕ). slice_index (y ∷ ys) k < slice_index (x ∷ y ∷ ys) m) n (up k (omega arith))
+increasing_more x y ys lt up (suc k) h = grind arith
 
 ascend_increasing : (k : ℕ) (xs : List ℕ) → Ascend k xs → IsStrictlyIncreasing xs
 ascend_increasing k [] a = λ j h. absurd (omega arith)

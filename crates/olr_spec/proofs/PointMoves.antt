@@ -4,13 +4,12 @@ use Rattle.std.proofs.Common.{inl, inr, ◌≡◌, ℕ, ◌+◌, ◌-◌, min, B
 use Rattle.std.proofs.Common.{refl, sym, ap, ◌∙◌, arith, ◌==◌, ◌↔◌, suc, not, Some, nat_lt, []}
 use Rattle.std.proofs.lemmas.Bool.{ltb-true, cond_both}
 use Rattle.std.specs.List.{slice_index}
-use Rattle.olr_spec.specs.Coordinates.{Coord}
 use Rattle.olr_spec.specs.Map.{Map, IsMap, start, end, coord_at, SameLine, SameRound, has}
 use Rattle.olr_spec.specs.Routes.{IsRoute, dm_of, LrpRoute}
 use Rattle.olr_spec.specs.Extension.{Path, passing, last, limit}
 use Rattle.olr_spec.specs.Points.{node_at, stretch, Covered, fit16, Candidate, ValidCandidate, Greatest, Next, To_end}
 use Rattle.olr_spec.specs.Points.{To_valid, To_passing, Follow}
-use Rattle.olr_spec.specs.Reference.{leg, legs}
+use Rattle.olr_spec.specs.Reference.{legs}
 use Rattle.olr_spec.specs.Encoding.{first_unknown, first_break, path_fault}
 use Rattle.olr_spec.specs.Queries.{NodeOf, Traversed}
 use Rattle.olr_spec.proofs.RouteLemmas.{empty_unique}
@@ -51,9 +50,7 @@ candidate_by : (M N : Map) (ls : List ℕ) (i j : ℕ) → (Covered M ls i j →
     dm_of M (stretch ls i j) ≡ dm_of N (stretch ls i j) →
     fit16 (coord_at M (node_at M ls i)) (coord_at M (node_at M ls j)) ≡ fit16 (coord_at N (node_at N ls i))
     (coord_at N (node_at N ls j)) → Candidate M ls i j → Candidate N ls i j
-candidate_by M N ls i j covered near fits c =
-    let close : dm_of N (stretch ls i j) ≤ limit = omega arith in
-    assumption (covered c.covered, sym fits ∙ c.fits)
+candidate_by M N ls i j covered near fits c = grind arith
 
 -- the lines ls and the LRPs js, on maps that agree around the lines' ends and on what is covered from the LRPs
 module _ (M N : Map) (ls : List ℕ) (nonempty : 0 < length ls) (same : Each (SameLine M N) ls)
@@ -80,13 +77,7 @@ module _ (M N : Map) (ls : List ℕ) (nonempty : 0 < length ls) (same : Each (Sa
   stretch_same i j = same_dm_of M N (stretch ls i j) (Each-range (SameLine M N) ls i j same)
 
   candidate_same : (i j : ℕ) → has js i ≡ true → Candidate M ls i j ↔ Candidate N ls i j
-  candidate_same i j on =
-      let near = stretch_same i j in
-      let fits = ap (fit16 (coord_at M (node_at M ls i))) (place_same j)
-      ∙ ap (λ (c : Coord). fit16 c (coord_at N (node_at N ls j))) (place_same i) in (
-        (λ c. candidate_by M N ls i j (covers i j on c.after c.upto c.near).0 near fits c),
-        (λ c. candidate_by N M ls i j (covers i j on c.after c.upto (omega arith)).1 (sym near) (sym fits) c),
-      )
+  candidate_same i j on = grind (arith, stretch_same, place_same, candidate_by)
 
   both_valid : (i j : ℕ) → has js i ≡ true → ValidCandidate M ls i j ↔ ValidCandidate N ls i j
   both_valid i j on =
@@ -111,11 +102,7 @@ module _ (M N : Map) (ls : List ℕ) (nonempty : 0 < length ls) (same : Each (Sa
 
 -- on maps that agree around the ends of the lines ls
 pub legs_same : (M N : Map) (ls : List ℕ) → Each (SameLine M N) ls → Each (EndsSame M N) ls → legs M ls ≡ legs N ls
-legs_same M N ls same rounds = map_same (leg M) (leg N) ls (λ x h.
-    let e = same x h in
-    let from = same_coord M N (start M x) (rounds x h).0 ∙ ap (coord_at N) (same_start M N x e) in
-    let to = same_coord M N (end M x) (rounds x h).1 ∙ ap (coord_at N) (same_end M N x e) in
-    λ i. record { line = same_record M N x e i; begin = from i; finish = to i })
+legs_same M N ls same rounds = grind (arith, map_same, same_coord, same_start, same_end, same_record)
 
 -- ---- traversed nodes
 

@@ -135,11 +135,7 @@ module _ (M N : Map) (ls : List ℕ) (same : Each (SameLine M N) ls) (s t : ℕ)
   alike p q = same_dm_of M N (stretch ls p q) (Each-range (SameLine M N) ls p q same)
 
   pub covered_same : (j : ℕ) → min j (length ls - 1) ≤ k → Covered M ls i j ↔ Covered N ls i j
-  covered_same j h =
-      let m = min j (length ls - 1) in (
-        (λ c inside. (routes m inside h).0 (c inside)),
-        (λ c inside. (routes m inside h).1 (c inside)),
-      )
+  covered_same j h = grind arith
 
   -- the coverage query is one of the other map too
   pub query_stays : IsLastTested N ls i k

@@ -1,7 +1,7 @@
 -- Bytes have no fault exactly if some reference encodes as them.
 use Rattle.std.proofs.Common.{inl, inr, ◌≡◌, ℕ, zero, suc, ◌+◌, ◌-◌, ◌*◌, ◌/◌, ◌%◌, ◌<◌, ◌≤◌, ℤ, pos, negsuc, ◌≤ℤ◌}
 use Rattle.std.proofs.Common.{Bool, true, false, cond, not, ◌||◌, List, ◌∷◌, ◌++◌, length, Option, Some, None, IfSome}
-use Rattle.std.proofs.Common.{IsTrue, refl, sym, ap, ◌∙◌, arith, nat_lt, nat_le, ◌==◌, length-append, []}
+use Rattle.std.proofs.Common.{IsTrue, refl, sym, ap, ◌∙◌, arith, nat_lt, nat_le, length-append, []}
 use Rattle.std.proofs.lemmas.Bool.{cases_lt, and_from, or_parts, eqb-true, eq-eqb, leb-false, le-ltb, lt-leb, ltb-false}
 use Rattle.std.proofs.lemmas.Bool.{not-false}
 use Rattle.std.proofs.lemmas.Int.{ints}
@@ -13,7 +13,7 @@ use Rattle.olr_spec.specs.Reference.{Attrs, First, Middle, Last, Reference}
 use Rattle.olr_spec.specs.Bytes.{AreAttrs, IsFirst, IsMiddle, IsLast, IsReference, fits24, residue, signed16, signed24}
 use Rattle.olr_spec.specs.Bytes.{attribute1, attr_bytes, first_bytes, middle_bytes, last_bytes, flag, offset_bytes}
 use Rattle.olr_spec.specs.Bytes.{status_byte, reference_bytes, HasBytes, V3Fault, Length, Status, Flags, Reserved}
-use Rattle.olr_spec.specs.Bytes.{extra, bit, flags_of, attribute1_bytes, has_reserved, v3_fault}
+use Rattle.olr_spec.specs.Bytes.{extra, bit, flags_of, attribute1_bytes, v3_fault}
 use Rattle.olr_spec.specs.Laws.{NoFault}
 use Rattle.olr_spec.proofs.SectorLemmas.{le_test}
 use Rattle.olr_spec.proofs.BytesLemmas.{flag_below}
@@ -158,10 +158,7 @@ read_last a b c d f g (h ∷ k ∷ l ∷ rest) w lf lg e = absurd (omega arith)
 read_points : (m : ℕ) (t : List ℕ) → AreBytes t → 7 * m + 6 ≤ length t →
     bit 6 (slice_index t (7 * m + 5)) + bit 5 (slice_index t (7 * m + 5)) ≡ length t - (7 * m + 6)
     → slice_index t (7 * m + 5) < 128 → reserved (attribute1_bytes t 4 (suc m)) ≡ false → Points t
-read_points zero (a ∷ b ∷ c ∷ d ∷ f ∷ g ∷ rest) w long flags top free =
-    let low : f < 64 = leb-false 64 f (or_parts (nat_le 64 f) false free).0 in
-    read_last a b c d f g rest w low top (let size : suc (suc (suc (suc (suc (suc (length rest)))))) - 6 ≡ length rest =
-    omega arith in flags ∙ size)
+read_points zero (a ∷ b ∷ c ∷ d ∷ f ∷ g ∷ rest) w long flags top free = grind (arith, leb-false, or_parts, read_last)
 read_points (suc m) (a ∷ b ∷ c ∷ d ∷ e ∷ f ∷ g ∷ t) w long flags top free =
     let cut : List ℕ = a ∷ b ∷ c ∷ d ∷ e ∷ f ∷ g ∷ [] in
     let parts = or_parts (nat_le 64 e) (reserved (attribute1_bytes (cut ++ t) 11 (suc m))) free in
@@ -200,23 +197,7 @@ record Passes (b : List ℕ) : Type 0 where
   top : flags_of b < 128
 
 passes : (b : List ℕ) → v3_fault b ≡ None → Passes b
-passes b e =
-    let p = no_fault (nat_lt (length b) 16 || nat_lt 2 (extra b)) Length _ e in
-    let q = no_fault (not (slice_index b 0 == status_byte)) Status _ p.1 in
-    let r = no_fault (not (bit 6 (flags_of b) + bit 5 (flags_of b) == extra b)) Flags _ q.1 in
-    let s = no_fault (has_reserved b) Reserved None r.1 in
-    let size = or_parts (nat_lt (length b) 16) (nat_lt 2 (extra b)) p.0 in
-    let clear =
-    or_parts (reserved (slice_index b 7 ∷ attribute1_bytes b 14 ((length b - 16) / 7 + 1))) (nat_le 128 (flags_of b))
-    s.0 in
-    record {
-      long = ltb-false (length b) 16 size.0;
-      few = ltb-false 2 (extra b) size.1;
-      status = eqb-true (slice_index b 0) 11 (not-false (slice_index b 0 == status_byte) q.0);
-      flags = eqb-true _ _ (not-false _ r.0);
-      free = clear.0;
-      top = leb-false 128 (flags_of b) clear.1;
-    }
+passes b e = grind (arith, no_fault, or_parts, ltb-false, eqb-true, not-false, leb-false)
 
 -- the first ten bytes, and the others
 read_bytes : (b : List ℕ) → AreBytes b → Passes b → (r : Reference) × HasBytes r b

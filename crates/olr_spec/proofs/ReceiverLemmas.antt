@@ -30,7 +30,7 @@ use Rattle.olr_spec.proofs.JoinLemmas.{Linked, follow_linked, kept_linked, joins
 use Rattle.olr_spec.proofs.JoinLemmas.{stretch_first}
 use Rattle.olr_spec.proofs.KeptLemmas.{two_kept}
 use Rattle.olr_spec.proofs.FieldLemmas.{range_legs, linked_above, dm_same, position_is, last_two_linked}
-use Rattle.olr_spec.proofs.FitLemmas.{kept_ends, extended_sound, answered, by_fault}
+use Rattle.olr_spec.proofs.FitLemmas.{kept_ends, extended_sound, answered, by_answer}
 use Rattle.olr_spec.proofs.DecodedLemmas.{middle_count, two_of, answer_decodes, got_index}
 use Rattle.olr_spec.proofs.CandidateLemmas.{Own, takes_own, offset_close, nearer}
 use Rattle.olr_spec.proofs.RecoverLemmas.{within_greatest, recovers_to, recovers_last, extended_once, once_apart}
@@ -415,7 +415,7 @@ module _ (M : Map) (m : IsMap M) (P : Path) (is : IsTrue (is_path P.lines)) (non
 
 pub recovered : Recovered
 recovered R M m P is r e d ws =
-    let p = by_fault M P r (path_fault M P) refl e in
+    let p = by_answer M P r e in
     recovered_of M m P is p.0 r p.1 R d ws
 
 -- ---- the legs together
@@ -446,17 +446,17 @@ stretches_join M P ws p =
 
 pub offsets_close : Offsets
 offsets_close M m P is r e ws s front back l n some =
-    let p = by_fault M P r (path_fault M P) refl e in
+    let p = by_answer M P r e in
     (fronts M m P is p.0 r p.1 ws s front back l n some, backs M m P is p.0 r p.1 ws s front back l n some)
 
 pub steps_close : Distances
 steps_close M m P is r e ws s =
-    let p = by_fault M P r (path_fault M P) refl e in
+    let p = by_answer M P r e in
     all_steps M m P is p.0 r p.1 ws s
 
 pub nearest_own : Nearest
 nearest_own M m P is r e n d scale far w =
-    let p = by_fault M P r (path_fault M P) refl e in (
+    let p = by_answer M P r e in (
       (λ k x h at a.
           spaced_nearest n d scale far w k (decoded_coord r k) Outgoing (leg M x) (near_out M m P is p.0 r p.1 k x h at)
           (candidates M) a),

@@ -5,7 +5,7 @@ use Rattle.std.proofs.lemmas.Bool.{cases_eq, both_ways, and_parts, and_from, not
 use Rattle.std.proofs.lemmas.List.Folds.{list_any-append}
 use Rattle.std.specs.List.{slice_index, fold}
 use Rattle.olr_spec.specs.Map.{Map, line_at, start, end, has}
-use Rattle.olr_spec.specs.Routes.{dm_of, LrpRoute}
+use Rattle.olr_spec.specs.Routes.{LrpRoute}
 use Rattle.olr_spec.specs.Extension.{Path, is_path, none_twice, Tried, extended_path}
 use Rattle.olr_spec.specs.Points.{stretch}
 use Rattle.olr_spec.specs.Bearings.{Leg}
@@ -50,27 +50,11 @@ shortest_is M c s t xs r w ys h =
     ]
 
 route_shortest : (M : Map) (c s t : ℕ) (xs : List ℕ) → LrpRoute M s t xs → Within M c xs → Shortest M c s t xs
-route_shortest M c s t xs r w =
-    record {
-      route = r.route;
-      within = w;
-      first = λ ys v k. elim (dec_same ys xs) [
-        | yes e ↦ omega (arith, ap (dm_of M) e)
-        | no n ↦ omega (arith, r.others ys v n)
-      ];
-    }
+route_shortest M c s t xs r w = grind (arith, dec_same)
 
 pub recovers_to : (M : Map) (ls : List ℕ) (c p q : ℕ) → Within M c (stretch ls p q) → JoinsTo M ls p q →
     (w : List ℕ) → RecoversTo M c (slice_index ls p) (slice_index ls q) w ↔ (w ≡ stretch ls p q)
-recovers_to M ls c p q within j w =
-    let x = slice_index ls p in
-    let s = end M x in
-    let t = start M (slice_index ls q) in
-    let xs = j.0 in
-    let all : Within M c (x ∷ xs) = subst (Within M c) j.1 within in (
-      (λ k. k.1 ∙ ap (λ (ys : List ℕ). x ∷ ys) (shortest_is M c s t xs j.2 all.1 k.0 k.2) ∙ sym j.1),
-      (λ e. (xs, e ∙ j.1, route_shortest M c s t xs j.2 all.1)),
-    )
+recovers_to M ls c p q within j w = grind (arith, shortest_is, route_shortest)
 
 -- ---- the last leg
 
@@ -162,8 +146,6 @@ extended_once M P b a is t =
 pub once_apart : (ls : List ℕ) (i j : ℕ) → none_twice ls ≡ true → i < j → j < length ls → slice_index ls i ≢ slice_index ls j
 once_apart [] i j o lt h e = absurd (omega arith)
 once_apart (x ∷ ls) i zero o lt h e = absurd (omega arith)
-once_apart (x ∷ ls) zero (suc j) o lt h e =
-    let parts = and_parts (not (has ls x)) (none_twice ls) o in
-    both_ways (has ls x) (not-true _ parts.0) (coe 1 0 (i. has ls (e i) ≡ true) (has_index ls j (omega arith)))
+once_apart (x ∷ ls) zero (suc j) o lt h e = grind (arith, and_parts, both_ways, not-true, has_index)
 once_apart (x ∷ ls) (suc i) (suc j) o lt h e =
     once_apart ls i j (and_parts (not (has ls x)) (none_twice ls) o).1 (omega arith) (omega arith) e

@@ -119,27 +119,13 @@ one_least M m s t xs ys l k =
 PrecedesInTieOrder-append : (M : Map) (xs ys zs : List ℕ) → PrecedesInTieOrder M xs ys →
     PrecedesInTieOrder M (xs ++ zs) (ys ++ zs)
 PrecedesInTieOrder-append M xs ys zs (inl h) = inl (omega (arith, dm_of-append M xs zs, dm_of-append M ys zs))
-PrecedesInTieOrder-append M xs ys zs (inr h) =
-    inr (
-      omega (arith, dm_of-append M xs zs, dm_of-append M ys zs),
-      rw (reverse-append xs zs, reverse-append ys zs) (with_front (reverse zs) (reverse xs) (reverse ys) h.1),
-    )
+PrecedesInTieOrder-append M xs ys zs (inr h) = grind (arith, dm_of-append, reverse-append, with_front)
 
 pub prefix_of_least : PrefixOfLeast
-prefix_of_least M s v t xs ys l w u =
-    record {
-      route = w;
-      first = λ zs z b. l.first (zs ++ ys) (IsRoute-append M s v t zs ys z u)
-          (PrecedesInTieOrder-append M zs xs ys b);
-    }
+prefix_of_least M s v t xs ys l w u = grind (arith, IsRoute-append, PrecedesInTieOrder-append)
 
 pub empty_least : EmptyIsLeast
-empty_least M s =
-    record {
-      route = refl;
-      first =
-          λ ys w b. elim b [ inl h ↦ absurd (omega arith) | inr h ↦ nothing_below_nil (reverse ys) h.1 ];
-    }
+empty_least M s = grind (arith, nothing_below_nil)
 
 -- ---- the unique shortest path
 
@@ -151,19 +137,7 @@ empty_unique M m s = record { route = refl; others = λ ys w ne. nonempty ys w n
     nonempty (y ∷ ys) w ne = omega (arith, positive M m y w.0)
 
 pub unique_least : UniqueIsLeast
-unique_least M s t xs o =
-    record {
-      route = o.route;
-      first = λ ys w b.
-          let h = o.others ys w (λ e. not_before_itself M xs (coe 0 1 (i. PrecedesInTieOrder M (e i) xs) b)) in
-          elim b [ inl k ↦ absurd (omega arith) | inr k ↦ absurd (omega arith) ];
-    }
+unique_least M s t xs o = grind (arith, not_before_itself)
 
 pub prefix_of_unique : PrefixOfUnique
-prefix_of_unique M s v t xs ys o w u =
-    record {
-      route = w;
-      others = λ zs z ne.
-          let h = o.others (zs ++ ys) (IsRoute-append M s v t zs ys z u) (λ e. ne (append_cancel_right zs xs ys e)) in
-          omega (arith, dm_of-append M zs ys, dm_of-append M xs ys);
-    }
+prefix_of_unique M s v t xs ys o w u = grind (arith, IsRoute-append, append_cancel_right, dm_of-append)

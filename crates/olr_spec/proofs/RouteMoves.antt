@@ -27,9 +27,7 @@ SameRoutes M N s t d = (xs : List ℕ) → IsRoute M s t xs → dm_of M xs ≤ d
 
 pub route_moves : (M N : Map) (s t d : ℕ) → SameRoutes M N s t d → (xs : List ℕ) → IsRoute M s t xs × (dm_of M xs ≤ d) →
     IsRoute N s t xs × (dm_of N xs ≤ d)
-route_moves M N s t d same xs w =
-    let each = same xs w.0 w.1 in
-    (IsRoute-moves M N s t xs each w.0, omega (arith, same_dm_of M N xs each))
+route_moves M N s t d same xs w = grind (arith, IsRoute-moves, same_dm_of)
 
 unique_moves : (M N : Map) (s t d : ℕ) → SameRoutes M N s t d → SameRoutes N M s t d → (xs : List ℕ) → dm_of M xs ≤ d →
     UniqueShortest M s t xs → UniqueShortest N s t xs
@@ -152,11 +150,7 @@ module _ (M N : Map) (C : List ChangedLine) (accounts : AccountsFor C M N) (t : 
       ]
 
 detour_there : (M N : Map) (C : List ChangedLine) (s t d : ℕ) → Parts M N C s t d → Detour N C s t d
-detour_there M N C s t d p =
-    let o = p.0 in
-    detour_of o.first o.last o.first_listed o.last_listed o.before o.after
-    (IsRoute-moves M N s o.first.from o.before p.1 o.leads) (IsRoute-moves M N o.last.to t o.after p.2 o.returns)
-    (omega (arith, same_dm_of M N o.before p.1, same_dm_of M N o.after p.2))
+detour_there M N C s t d p = grind (arith, IsRoute-moves, same_dm_of)
 
 -- if N has no detour within d
 module _ (M N : Map) (C : List ChangedLine) (s t d : ℕ) (there : AccountsFor C M N) (here : AccountsFor C N M)

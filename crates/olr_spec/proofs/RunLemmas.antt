@@ -1,15 +1,14 @@
 -- From a degree-two node only one line leads on, so a run of such nodes is determined by its length.
-use Rattle.std.proofs.Common.{◌⊎◌, inl, inr, ◌≡◌, ◌≢◌, ℕ, ◌-◌, Bool, true, ◌&&◌, ◌||◌, List, ◌∷◌, ◌++◌, map, length}
-use Rattle.std.proofs.Common.{take, drop, ◌<◌, ◌≤◌, Option, Some, None, is_some, IsTrue, refl, sym, ap, ◌∙◌, subst}
-use Rattle.std.proofs.Common.{arith, ◌==◌, unwrap_or, length-drop, length-take, take-append-drop, append-nil}
-use Rattle.std.proofs.Common.{append_assoc, []}
+use Rattle.std.proofs.Common.{◌⊎◌, ◌≡◌, ◌≢◌, ℕ, ◌-◌, Bool, true, ◌&&◌, ◌||◌, List, ◌∷◌, ◌++◌, map, length, take, drop}
+use Rattle.std.proofs.Common.{◌<◌, ◌≤◌, Option, Some, None, is_some, IsTrue, refl, sym, ap, ◌∙◌, subst, arith, ◌==◌}
+use Rattle.std.proofs.Common.{unwrap_or, length-drop, length-take, take-append-drop, append-nil, append_assoc, []}
 use Rattle.std.proofs.lemmas.Bool.{eq-eqb, cases_lt, and_parts, cond_both}
 use Rattle.std.proofs.lemmas.Bool.Decides.{nat_tests}
 use Rattle.std.specs.FinMap.{get}
 use Rattle.olr_spec.specs.Map.{Map, IsMap, Line, has_line, no_line, lines_in, lines_out, start, end, has}
 use Rattle.olr_spec.specs.Routes.{dm_of}
-use Rattle.olr_spec.specs.Extension.{passing, passes_between, apart, first, last, MayPrecede, MayFollow, StartRun}
-use Rattle.olr_spec.specs.Extension.{EndRun, LongestStart, LongestEnd, Tried, Path, from_start, taken_start, limit}
+use Rattle.olr_spec.specs.Extension.{passing, passes_between, first, last, MayPrecede, MayFollow, StartRun, EndRun}
+use Rattle.olr_spec.specs.Extension.{LongestStart, LongestEnd, Tried, Path, from_start, taken_start, limit}
 use Rattle.olr_spec.specs.Extension.{extended_path}
 use Rattle.olr_spec.specs.Laws.{OneStartRun, OneEndRun}
 use Rattle.olr_spec.proofs.RouteLemmas.{positive, dm_of-append}
@@ -27,27 +26,13 @@ same_pair u w p q h = grind (arith, nat_tests)
 one_way_in : (v : ℕ) (f g : ℕ → ℕ) (ins outs : List ℕ) (x y z : ℕ) → passes_between v (map f ins) (map g outs) ≡ true →
     has ins x ≡ true → has ins y ≡ true → has outs z ≡ true → f x ≢ g z → f y ≢ g z → x ≡ y
 one_way_in v f g (a ∷ []) (p ∷ []) x y z h hx hy hz nx ny = grind (arith, nat_tests)
-one_way_in v f g (a ∷ b ∷ []) (p ∷ q ∷ []) x y z h hx hy hz nx ny =
-    let ends =
-    same_pair (f a) (f b) (g p) (g q)
-    (and_parts (apart v (f a) (f b)) ((g p == f a && g q == f b) || (g p == f b && g q == f a)) h).1 in
-    let cx = one_of_two a b x hx in
-    let cy = one_of_two a b y hy in
-    let cz = one_of_two p q z hz in
-    grind arith
+one_way_in v f g (a ∷ b ∷ []) (p ∷ q ∷ []) x y z h hx hy hz nx ny = grind (arith, same_pair, and_parts, one_of_two)
 one_way_in v f g _ _ x y z h hx hy hz nx ny = absurd cc
 
 one_way_out : (v : ℕ) (f g : ℕ → ℕ) (ins outs : List ℕ) (x y z : ℕ) → passes_between v (map f ins) (map g outs) ≡ true →
     has outs x ≡ true → has outs y ≡ true → has ins z ≡ true → g x ≢ f z → g y ≢ f z → x ≡ y
 one_way_out v f g (a ∷ []) (p ∷ []) x y z h hx hy hz nx ny = grind (arith, nat_tests)
-one_way_out v f g (a ∷ b ∷ []) (p ∷ q ∷ []) x y z h hx hy hz nx ny =
-    let ends =
-    same_pair (f a) (f b) (g p) (g q)
-    (and_parts (apart v (f a) (f b)) ((g p == f a && g q == f b) || (g p == f b && g q == f a)) h).1 in
-    let cx = one_of_two p q x hx in
-    let cy = one_of_two p q y hy in
-    let cz = one_of_two a b z hz in
-    grind arith
+one_way_out v f g (a ∷ b ∷ []) (p ∷ q ∷ []) x y z h hx hy hz nx ny = grind (arith, same_pair, and_parts, one_of_two)
 one_way_out v f g _ _ x y z h hx hy hz nx ny = absurd cc
 
 -- a line of the map passes a test that its record passes
@@ -154,35 +139,19 @@ end_prefix M ls c d k p q h =
 start_no_longer : (M : Map) → IsMap M → (ls front c d : List ℕ) → d ≡ front ++ c → StartRun M d ls →
     dm_of M d ≤ dm_of M c → c ≡ d
 start_no_longer M m ls [] c d e q h = sym e
-start_no_longer M m ls (x ∷ front) c d e q h =
-    let run : StartRun M (x ∷ (front ++ c)) ls = subst (λ (zs : List ℕ). StartRun M zs ls) e q in
-    absurd (omega (arith, positive M m x run.0.known, ap (dm_of M) e, dm_of-append M front c))
+start_no_longer M m ls (x ∷ front) c d e q h = grind (arith, positive, dm_of-append)
 
 end_no_longer : (M : Map) → IsMap M → (ls c back d : List ℕ) → d ≡ c ++ back → EndRun M ls d → dm_of M d ≤ dm_of M c → c ≡ d
 end_no_longer M m ls c [] d e q h = sym (e ∙ append-nil c)
-end_no_longer M m ls c (x ∷ back) d e q h =
-    let p = positive M m x (EndRun-back M ls c x back (coe 0 1 (i. EndRun M ls (e i)) q)) in
-    absurd (omega (arith, ap (dm_of M) e, dm_of-append M c (x ∷ back)))
+end_no_longer M m ls c (x ∷ back) d e q h = grind (arith, positive, EndRun-back, dm_of-append)
 
 pub longest_start : (M : Map) → IsMap M → (ls c d : List ℕ) → IsTrue (has_line M (first ls)) → LongestStart M c ls →
     StartRun M d ls → dm_of M d ≤ limit → (front : List ℕ) × (c ≡ front ++ d)
-longest_start M m ls c d k p q w =
-    elim (cases_lt (length c) (length d)) [
-      | inl h ↦
-          let r = start_suffix M ls c d k p.run q (omega arith) in
-          absurd (omega (arith, ap (λ (zs : List ℕ). length zs) (start_no_longer M m ls r.0 c d r.1 q (p.longest d q w))))
-      | inr h ↦ start_suffix M ls d c k q p.run h
-    ]
+longest_start M m ls c d k p q w = grind (arith, cases_lt, start_suffix, start_no_longer)
 
 pub longest_end : (M : Map) → IsMap M → (ls c d : List ℕ) → IsTrue (has_line M (last ls)) → LongestEnd M ls c →
     EndRun M ls d → dm_of M d ≤ limit → (back : List ℕ) × (c ≡ d ++ back)
-longest_end M m ls c d k p q w =
-    elim (cases_lt (length c) (length d)) [
-      | inl h ↦
-          let r = end_prefix M ls c d k p.run q (omega arith) in
-          absurd (omega (arith, ap (λ (zs : List ℕ). length zs) (end_no_longer M m ls c r.0 d r.1 q (p.longest d q w))))
-      | inr h ↦ end_prefix M ls d c k q p.run h
-    ]
+longest_end M m ls c d k p q w = grind (arith, cases_lt, end_prefix, end_no_longer)
 
 pub one_start : OneStartRun
 one_start M m ls c d k p q = grind (arith, longest_start, start_no_longer)

@@ -1,5 +1,5 @@
 -- The tried runs are the same on two maps that agree around their nodes.
-use Rattle.std.proofs.Common.{◌≡◌, ℕ, ◌+◌, List, ◌∷◌, ◌++◌, length, ◌<◌, ◌≤◌, refl, sym, ap, ◌∙◌, subst, arith}
+use Rattle.std.proofs.Common.{◌≡◌, ℕ, ◌+◌, List, ◌∷◌, ◌++◌, length, ◌<◌, ◌≤◌, refl, sym, ◌∙◌, subst, arith}
 use Rattle.std.proofs.Common.{append_assoc, append-nil, length-append, []}
 use Rattle.olr_spec.specs.Map.{Map, IsMap, start, end, SameLine}
 use Rattle.olr_spec.specs.Routes.{dm_of}
@@ -14,23 +14,11 @@ use Rattle.olr_spec.proofs.AgreeLemmas.{same_dm, same_dm_of, same_passing}
 
 MayPrecede-moves : (M N : Map) (x : ℕ) (ls : List ℕ) → SameLine M N x → SameLine M N (first ls) →
     passing M (end M x) ≡ passing N (end M x) → MayPrecede M x ls → MayPrecede N x ls
-MayPrecede-moves M N x ls e f g p = record {
-  known = sym (same_known M N x e) ∙ p.known;
-  joins = sym (same_end M N x e) ∙ p.joins ∙ same_start M N (first ls) f;
-  through = ap (passing N) (sym (same_end M N x e)) ∙ sym g ∙ p.through;
-  onward = λ is. p.onward (same_start M N x e ∙ is ∙ sym (same_end M N (first ls) f));
-  fresh = p.fresh;
-}
+MayPrecede-moves M N x ls e f g p = grind (arith, same_known, same_end, same_start)
 
 MayFollow-moves : (M N : Map) (ls : List ℕ) (x : ℕ) → SameLine M N x → SameLine M N (last ls) →
     passing M (start M x) ≡ passing N (start M x) → MayFollow M ls x → MayFollow N ls x
-MayFollow-moves M N ls x e f g p = record {
-  known = sym (same_known M N x e) ∙ p.known;
-  joins = sym (same_start M N x e) ∙ p.joins ∙ same_end M N (last ls) f;
-  through = ap (passing N) (sym (same_start M N x e)) ∙ sym g ∙ p.through;
-  onward = λ is. p.onward (same_end M N x e ∙ is ∙ sym (same_start M N (last ls) f));
-  fresh = p.fresh;
-}
+MayFollow-moves M N ls x e f g p = grind (arith, same_known, same_start, same_end)
 
 pub StartRun-known : (M : Map) (c ls : List ℕ) → StartRun M c ls → Each (Known M) c
 StartRun-known M [] ls h = Each-nil (Known M)
@@ -83,15 +71,7 @@ module _ (M N : Map) (m : IsMap M) (ls b : List ℕ) (n : 0 < length ls) (known 
       ((MayPrecede-moves N M x (d ++ ls) is (sym next) pass p.0, rest.0), Each-cons (SameLine M N) x d (sym is) rest.1)
 
   pub longest_start_moves : LongestStart N b ls
-  longest_start_moves =
-      let e = same_dm_of M N b start_same in
-      record {
-        run = StartRun-moves M N b ls n same start_same at_run tried.run;
-        within = omega arith;
-        longest = λ d p w.
-            let back = start_back d p w in
-            omega (arith, same_dm_of M N d back.1, tried.longest d back.0 (omega (arith, same_dm_of M N d back.1)));
-      }
+  longest_start_moves = grind (arith, same_dm_of, start_same, StartRun-moves, start_back)
 
 -- ---- at the end
 

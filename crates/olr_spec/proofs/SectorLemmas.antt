@@ -194,14 +194,7 @@ of_at : (e n : ℤ) (k : ℕ) → At k e n → IsTrue (lies_between (boundary k)
 of_at e n k a = grind (arith, and_from, side, le_test, lt_test)
 
 pub one_sector : OneSector
-one_sector e n j k p q =
-    elim (cases_order j k) [
-      | inl same ↦ same
-      | inr o ↦ elim o [
-        | inl less ↦ absurd (later_fails e n j k less q.0 (at_of e n j p.1) (at_of e n k q.1))
-        | inr more ↦ absurd (later_fails e n k j more p.0 (at_of e n k q.1) (at_of e n j p.1))
-      ]
-    ]
+one_sector e n j k p q = grind (arith, cases_order, later_fails, at_of)
 
 -- ---- at least one sector
 
@@ -219,10 +212,7 @@ crossing e n a (suc d) h g = by_lt_z {P = Crossing e n a (a + suc d)} (side e n 
     (r.0, omega arith, omega arith, r.3))
 
 in_quadrant : (e n : ℤ) (q : ℕ) → q < 4 → InQuadrant q e n → (k : ℕ) × IsSector e n k
-in_quadrant e n q lt h =
-    let t = turns q lt e n h in
-    let r = crossing e n (q * 8) 8 t.0 t.1 in
-    (r.0, (omega arith, of_at e n r.0 r.3))
+in_quadrant e n q lt h = grind (arith, turns, crossing, of_at)
 
 pub some_sector : (e n : ℤ) → ¬ ((e ≡ pos 0) × (n ≡ pos 0)) → (k : ℕ) × IsSector e n k
 some_sector e n ne =

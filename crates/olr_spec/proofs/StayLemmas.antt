@@ -1,8 +1,8 @@
 -- If nothing that a path depends on has changed, its answer, traversed nodes, coverage queries and footprint are the
 -- same.
-use Rattle.std.proofs.Common.{inl, inr, ◌≡◌, ℕ, ◌+◌, List, ◌∷◌, length, true, refl, ◌<◌, ◌≤◌, Option, None, Some}
-use Rattle.std.proofs.Common.{IsTrue, All, Contains, sym, ◌∙◌, subst, arith, MatchOption, ◌↔◌, ◌++◌, length-append}
-use Rattle.std.proofs.Common.{cond, T, [], ap, ◌==◌}
+use Rattle.std.proofs.Common.{inl, inr, ◌≡◌, ℕ, ◌+◌, List, ◌∷◌, length, true, refl, ◌<◌, ◌≤◌, Option, None, IsTrue, All}
+use Rattle.std.proofs.Common.{Contains, sym, ◌∙◌, subst, arith, MatchOption, ◌↔◌, ◌++◌, length-append, cond, T, [], ap}
+use Rattle.std.proofs.Common.{◌==◌}
 use Rattle.std.proofs.lemmas.Bool.{cases_lt, cases_Bool, both_ways}
 use Rattle.std.proofs.lemmas.List.Elements.{All-contains}
 use Rattle.olr_spec.specs.Map.{Map, IsMap, start, end, SameLine, SameRound, has}
@@ -16,11 +16,11 @@ use Rattle.olr_spec.specs.Detours.{ChangedLine, AccountsFor}
 use Rattle.olr_spec.specs.Queries.{Traversed, TraversedOfExtended, TraversedOf, IsLastTested, CoverageQuery, query_to}
 use Rattle.olr_spec.specs.Queries.{IsQuery, IsClear, querying, QueriesOfExtended, QueriesOf, KnownQuery, IsKnownAt}
 use Rattle.olr_spec.specs.Queries.{FoundFor, KnownOfExtended, KnownOf, QueriesFrom}
-use Rattle.olr_spec.specs.Laws.{UntouchedRetained}
+use Rattle.olr_spec.specs.Laws.{UntouchedRetained, AnswersRetained}
 use Rattle.olr_spec.specs.Reference.{reference}
 use Rattle.olr_spec.proofs.ListLemmas.{Each, Each-from, has_first, has_last, Known, EndsSame, Each-append, Each-left}
-use Rattle.olr_spec.proofs.ListLemmas.{Each-right}
-use Rattle.olr_spec.proofs.AnswerLemmas.{sound_lines, path_nonempty, path_at}
+use Rattle.olr_spec.proofs.ListLemmas.{Each-right, Each-to}
+use Rattle.olr_spec.proofs.AnswerLemmas.{sound_lines, path_nonempty, path_at, by_fault}
 use Rattle.olr_spec.proofs.RunLemmas.{one_tried}
 use Rattle.olr_spec.proofs.RouteMoves.{turned_lines}
 use Rattle.olr_spec.proofs.PointMoves.{fault_same, close_stays, Traversed-moves, follow_moves, Each-cond, legs_same}
@@ -42,15 +42,7 @@ RoutesOf M N queries =
 moved : (M N : Map) (ls : List ℕ) (lead own i : ℕ) (e : KnownQuery) → IsLastTested N ls i (lead + e.last) →
     query_to M ls i (lead + e.last) ≡ query_to N ls i (lead + e.last) →
     Covered M ls i (lead + e.last) ↔ Covered N ls i (lead + e.last) → IsKnownAt M ls lead own i e → IsKnownAt N ls lead own i e
-moved M N ls lead own i e tested to covers a =
-    record {
-      begins = a.begins;
-      order = a.order;
-      upto = a.upto;
-      tested = tested;
-      query = a.query ∙ to;
-      covered = ((λ c. covers.0 (a.covered.0 c)), (λ c. a.covered.1 (covers.1 c)));
-    }
+moved M N ls lead own i e tested to covers a = grind (arith, tested, covers)
 
 -- of two maps on which the routes from line i to position k are the same
 module _ (M N : Map) (ls : List ℕ) (same : Each (SameLine M N) ls) (s t : ℕ) (joined : IsRoute M s t ls)
@@ -286,19 +278,6 @@ module _ (M N : Map) (m : IsMap M) (n : IsMap N) (P : Path) (is : IsTrue (is_pat
 
 module _ (M N : Map) (m : IsMap M) (n : IsMap N) (P : Path) (is : IsTrue (is_path P.lines))
     (same : Each (SameLine M N) P.lines) (queries : List CoverageQuery) (routes : RoutesOf M N queries) where
-  by_case : (f : Option Refusal) → path_fault M P ≡ f
-      → ((v : ℕ) → MatchOption f (TraversedOfExtended M P v) (λ _. ⊥) → SameRound M N v)
-      → MatchOption f (QueriesOfExtended M P queries) (λ _. queries ≡ [])
-      → ((A : Answer) → MatchOption f (Encoding M P A) (λ r. A ≡ Refused r)
-      → MatchOption f (Encoding N P A) (λ r. A ≡ Refused r)) × ((v : ℕ) → MatchOption f (TraversedOfExtended M P v) (λ _. ⊥)
-      ↔ MatchOption f (TraversedOfExtended N P v) (λ _. ⊥)) × MatchOption f (QueriesOfExtended N P queries) (λ _. queries ≡ [])
-  by_case None e traversed o = (
-    answer_stays M N m n P is e same traversed queries o routes,
-    traversed_stays M N m n P is e same traversed queries o routes,
-    queries_stay M N m n P is e same traversed queries o routes,
-  )
-  by_case (Some r) e traversed o = ((λ A p. p), (λ v. ((λ h. h), (λ h. h))), o)
-
   pub queried_kept : ((v : ℕ) → TraversedOf M P v → SameRound M N v) → QueriesOf M P queries
       → ((A : Answer) → Encodes M P A → Encodes N P A) × ((v : ℕ) → TraversedOf M P v ↔ TraversedOf N P v)
       × QueriesOf N P queries
@@ -307,46 +286,45 @@ module _ (M N : Map) (m : IsMap M) (n : IsMap N) (P : Path) (is : IsTrue (is_pat
       → MatchOption f (Encoding N P A) (λ r. A ≡ Refused r))
       × ((v : ℕ) → TraversedOf M P v ↔ MatchOption f (TraversedOfExtended N P v) (λ _. ⊥)) × MatchOption f
       (QueriesOfExtended N P queries) (λ _. queries ≡ []))
-      (fault_same M N P same) (by_case (path_fault M P) refl traversed o)
+      (fault_same M N P same)
+      (by_fault M P (λ f. ((v : ℕ) → MatchOption f (TraversedOfExtended M P v) (λ _. ⊥) → SameRound M N v)
+      → MatchOption f (QueriesOfExtended M P queries) (λ _. queries ≡ [])
+      → ((A : Answer) → MatchOption f (Encoding M P A) (λ r. A ≡ Refused r)
+      → MatchOption f (Encoding N P A) (λ r. A ≡ Refused r))
+      × ((v : ℕ) → MatchOption f (TraversedOfExtended M P v) (λ _. ⊥) ↔ MatchOption f (TraversedOfExtended N P v) (λ _. ⊥))
+      × MatchOption f (QueriesOfExtended N P queries) (λ _. queries ≡ []))
+      (λ e traversed o. (
+        answer_stays M N m n P is e same traversed queries o routes,
+        traversed_stays M N m n P is e same traversed queries o routes,
+        queries_stay M N m n P is e same traversed queries o routes,
+      ))
+      (λ r traversed o. ((λ A p. p), (λ v. ((λ h. h), (λ h. h))), o)) traversed o)
+
+-- if each coverage query is clear
+clear : (M N : Map) (C : List ChangedLine) → AccountsFor C M N → AccountsFor C N M → (queries : List CoverageQuery) →
+    All (IsClear N C) queries → RoutesOf M N queries
+clear M N C there here queries all ls each s t joined i k last on =
+    clear_routes M N ls each s t joined i k last C there here (All-contains (IsClear N C) queries (query_to M ls i k) all on)
 
 -- the coverage queries along the path's own lines too
 pub known_kept : (M N : Map) → IsMap M → IsMap N → (C : List ChangedLine) → AccountsFor C M N → AccountsFor C N M →
     (P : Path) → IsTrue (is_path P.lines) → Each (SameLine M N) P.lines → (queries : List CoverageQuery) →
     All (IsClear N C) queries → ((v : ℕ) → TraversedOf M P v → SameRound M N v) → QueriesOf M P queries →
     (ks : List KnownQuery) → KnownOf M P ks → KnownOf N P ks
-known_kept M N m n C accounts back P is same queries clear traversed o ks known =
+known_kept M N m n C there here P is same queries all traversed o ks known =
     subst (λ (f : Option Refusal). MatchOption f (KnownOfExtended N P ks) (λ _. ks ≡ [])) (fault_same M N P same)
-    (by (path_fault M P) refl traversed o known)
-  where
-    by : (f : Option Refusal) → path_fault M P ≡ f
-        → ((v : ℕ) → MatchOption f (TraversedOfExtended M P v) (λ _. ⊥) → SameRound M N v)
-        → MatchOption f (QueriesOfExtended M P queries) (λ _. queries ≡ [])
-        → MatchOption f (KnownOfExtended M P ks) (λ _. ks ≡ []) → MatchOption f (KnownOfExtended N P ks) (λ _. ks ≡ [])
-    by None e traversed o known =
-        known_stay M N m n P is e same traversed queries o (λ ls each s t joined i k last on.
-        clear_routes M N ls each s t joined i k last C accounts back
-        (All-contains (IsClear N C) queries (query_to M ls i k) clear on)) ks known
-    by (Some r) e traversed o known = known
+    (by_fault M P (λ f. ((v : ℕ) → MatchOption f (TraversedOfExtended M P v) (λ _. ⊥) → SameRound M N v)
+    → MatchOption f (QueriesOfExtended M P queries) (λ _. queries ≡ [])
+    → MatchOption f (KnownOfExtended M P ks) (λ _. ks ≡ []) → MatchOption f (KnownOfExtended N P ks) (λ _. ks ≡ []))
+    (λ e traversed o. known_stay M N m n P is e same traversed queries o (clear M N C there here queries all) ks)
+    (λ r traversed o known. known) traversed o known)
 
--- if each coverage query is clear
-pub kept : (M N : Map) → IsMap M → IsMap N → (C : List ChangedLine) → AccountsFor C M N → AccountsFor C N M → (P : Path)
-    → IsTrue (is_path P.lines) → Each (SameLine M N) P.lines → (queries : List CoverageQuery) → All (IsClear N C) queries
-    → ((v : ℕ) → TraversedOf M P v → SameRound M N v) → QueriesOf M P queries
-    → ((A : Answer) → Encodes M P A → Encodes N P A) × ((v : ℕ) → TraversedOf M P v ↔ TraversedOf N P v) × QueriesOf N P queries
-kept M N m n C there here P is same queries clear =
-    queried_kept M N m n P is same queries (λ ls each s t joined i k last on.
-    clear_routes M N ls each s t joined i k last C there here
-    (All-contains (IsClear N C) queries (query_to M ls i k) clear on))
+pub kept : AnswersRetained
+kept M N m n C there here P is same traversed queries o all =
+    queried_kept M N m n P is (Each-from (SameLine M N) P.lines same) queries (clear M N C there here queries all) traversed o
 
 -- the same conclusion from what is touched
 pub untouched_retained : UntouchedRetained
-untouched_retained M N m n T X C d P is lines nodes queries o clear =
-    let same : Each (SameLine M N) P.lines = λ x on.
-    elim (cases_Bool (has X x)) [
-      | inl e ↦ absurd
-          (both_ways (has P.lines x) (lines x e) on)
-      | inr off ↦ d.lines x off
-    ] in
-    let traversed : (v : ℕ) → TraversedOf M P v → SameRound M N v =
-    λ v on. elim (cases_Bool (has T v)) [ inl e ↦ absurd (nodes v e on) | inr off ↦ d.nodes v off ] in
-    kept M N m n C d.there d.here P is same queries clear traversed o
+untouched_retained M N m n T X C d P is lines nodes queries =
+    kept M N m n C d.there d.here P is (Each-to (SameLine M N) P.lines (λ x on. d.lines x (grind (arith, lines, cases_Bool, both_ways))))
+    (λ v on. d.nodes v (grind (arith, nodes, cases_Bool))) queries

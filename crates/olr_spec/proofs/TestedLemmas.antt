@@ -1,19 +1,18 @@
 -- A path has exactly one list of coverage queries, and they determine its footprint.
-use Rattle.std.proofs.Common.{inl, inr, ◌≡◌, ℕ, zero, suc, ◌+◌, ◌-◌, min, true, List, ◌∷◌, length, ◌<◌, ◌≤◌, Option}
-use Rattle.std.proofs.Common.{None, Some, IsTrue, Contains, refl, sym, ap, ◌∙◌, subst, arith, MatchOption, ◌↔◌, ◌⊎◌, T}
-use Rattle.std.proofs.Common.{[]}
+use Rattle.std.proofs.Common.{inl, inr, ◌≡◌, ℕ, zero, suc, ◌+◌, ◌-◌, min, true, List, ◌∷◌, length, ◌<◌, ◌≤◌, None}
+use Rattle.std.proofs.Common.{IsTrue, Contains, refl, sym, ap, ◌∙◌, subst, arith, MatchOption, ◌⊎◌, T, []}
 use Rattle.std.proofs.lemmas.Bool.{cases_lt, cases_eq, cases_order}
 use Rattle.std.specs.List.{AllZip}
 use Rattle.olr_spec.specs.Map.{Map, IsMap, has}
 use Rattle.olr_spec.specs.Routes.{dm_of}
 use Rattle.olr_spec.specs.Extension.{Path, is_path, extended_path, limit}
 use Rattle.olr_spec.specs.Points.{stretch, Covered, Greatest}
-use Rattle.olr_spec.specs.Encoding.{Refusal, path_fault}
+use Rattle.olr_spec.specs.Encoding.{path_fault}
 use Rattle.olr_spec.specs.Footprint.{Sees, Touched, On_path, On_start_run, On_end_run, Within_reach, FootOf}
 use Rattle.olr_spec.specs.Queries.{Traversed, TraversedOfExtended, Needed, IsLastTested, CoverageQuery, query_to}
 use Rattle.olr_spec.specs.Queries.{IsQuery, querying, QueriesOfExtended}
 use Rattle.olr_spec.specs.Laws.{OneLastTested, SomeLastTested, OneQueries, SomeQueries, FootIsQueried, FootAffected}
-use Rattle.olr_spec.proofs.AnswerLemmas.{path_also, path_at, same_by}
+use Rattle.olr_spec.proofs.AnswerLemmas.{path_also, path_at, same_by, by_fault}
 use Rattle.olr_spec.proofs.DecideLemmas.{dec_and, dec_le, dec_Covered, greatest_or_none, some_follow, some_encoding}
 use Rattle.olr_spec.proofs.ListLemmas.{has_here, has_there}
 use Rattle.olr_spec.proofs.RouteMoves.{near_same}
@@ -173,28 +172,16 @@ module _ (M : Map) (m : IsMap M) (P : Path) (is : IsTrue (is_path P.lines)) (sou
 -- ---- whether or not the path has a fault
 
 pub one_queries : OneQueries
-one_queries M m P is ks ls = same_by (path_fault M P) (QueriesOfExtended M P) ks ls (λ e. one_list M m P is e ks ls)
+one_queries M m P is ks ls =
+    same_by (path_fault M P) (QueriesOfExtended M P) (λ _. []) ks ls (λ e. one_list M m P is e ks ls)
 
 pub some_queries : SomeQueries
-some_queries M m P is = by (path_fault M P) refl
-  where
-    by : (o : Option Refusal) → path_fault M P ≡ o
-        → (queries : List CoverageQuery) × MatchOption o (QueriesOfExtended M P queries) (λ _. queries ≡ [])
-    by None e = some_list M m P is e
-    by (Some r) e = ([], refl)
+some_queries M m P is =
+    by_fault M P (λ o. (queries : List CoverageQuery) × MatchOption o (QueriesOfExtended M P queries) (λ _. queries ≡ []))
+    (some_list M m P is) (λ r. ([], refl))
 
 pub foot_queried : FootIsQueried
-foot_queried M m P is queries o v = by (path_fault M P) refl o
-  where
-    none : queries ≡ [] → ⊥ ⊎ ((l : CoverageQuery) × Contains queries l × Sees M l v) → ⊥
-    none e (inl f) = f
-    none e (inr r) = let c = (r.2.0) in omega (arith, ap (λ (ks : List CoverageQuery). length ks) e)
-
-    by : (o : Option Refusal) → path_fault M P ≡ o → MatchOption o (QueriesOfExtended M P queries) (λ _. queries ≡ [])
-        → MatchOption o (FootOf M P v) (λ _. ⊥) ↔
-        (MatchOption o (TraversedOfExtended M P v) (λ _. ⊥) ⊎ ((l : CoverageQuery) × Contains queries l × Sees M l v))
-    by None e p = (foot_there M m P is e queries p v, foot_here M m P is e queries p v)
-    by (Some r) e p = ((λ f. absurd f), none p)
+foot_queried M m P is queries o v = grind (arith, by_fault, foot_there, foot_here)
 
 -- ---- what touched nodes affect
 

@@ -28,8 +28,7 @@ returns c =
       known_holds = known_holds;
       one_searched = one_searched;
       all_searched = all_searched;
-      kept = λ M N m n C there here P is same traversed queries o clear.
-          kept M N m n C there here P is (Each-from (SameLine M N) P.lines same) queries clear traversed o;
+      kept = kept;
       untouched = untouched_retained;
       known_kept = λ M N m n C there here P is same traversed queries o clear.
           known_kept M N m n C there here P is (Each-from (SameLine M N) P.lines same) queries clear traversed o;
