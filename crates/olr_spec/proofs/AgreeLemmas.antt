@@ -1,7 +1,6 @@
 -- What is the same on two maps that agree around a node.
 use Rattle.std.proofs.Common.{◌≡◌, ℕ, ◌+◌, true, List, ◌∷◌, map, Option, Some, None, is_some, IsTrue, refl, sym, ap}
-use Rattle.std.proofs.Common.{◌∙◌, ◌==◌, unwrap_or, ◌↔◌, arith, []}
-use Rattle.std.proofs.lemmas.Bool.{eqb-true}
+use Rattle.std.proofs.Common.{◌∙◌, ◌==◌, unwrap_or, ◌↔◌, arith, [], eqb-true}
 use Rattle.std.specs.FinMap.{get}
 use Rattle.std.proofs.lemmas.Bool.Decides.{nat_tests}
 use Rattle.olr_spec.specs.Map.{Map, Line, has_line, line_at, no_line, start, end, dm, coord_at, no_coord, SameLine}

@@ -1,11 +1,11 @@
 -- Lists of numbers in strictly ascending order: searching for a number, inserting one and removing one.
 use Rattle.std.proofs.Common.{◌≡◌, ◌≢◌, ◌==◌, ℕ, suc, ◌+◌, ◌<◌, ◌≤◌, Bool, true, false, not, ◌&&◌, ◌||◌, ◌⊎◌, inl, inr}
 use Rattle.std.proofs.Common.{List, ◌∷◌, ◌++◌, Contains, Ok, Err, Result, is_ok, length, get_or, refl, sym, ap, ◌∙◌}
-use Rattle.std.proofs.Common.{arith, ⊎_elim, MatchResult, IsPermutation, []}
-use Rattle.std.specs.List.{IsDistinct, insert, remove}
+use Rattle.std.proofs.Common.{arith, ⊎_elim, MatchResult, IsPermutation, [], insert, remove, eq-eqb, ne_eqb, eqb-true}
+use Rattle.std.specs.List.{IsDistinct}
 use Rattle.std.specs.Cmp.{nat_cmp_total, unsigned_tied}
 use Rattle.std.proofs.lemmas.Cmp.{eq_by_cmp_equiv}
-use Rattle.std.proofs.lemmas.Bool.{both_ways, cases_lt, eq-eqb, ne_eqb, eqb-true}
+use Rattle.std.proofs.lemmas.Bool.{both_ways, cases_lt}
 use Rattle.std.proofs.lemmas.List.Sorted.{IsNonDecreasingBy-insert, searched, list_any-IsPermutation}
 use Rattle.std.proofs.lemmas.List.Sorted.{IsPermutation-insert, IsPermutation-remove, IsPermutation-sym}
 use Rattle.std.proofs.lemmas.List.Sorted.{Contains-permutation}
@@ -133,8 +133,7 @@ gone xs i x up at is =
     (cases_lt k i))
 
 without : (b c d : Bool) → (b ≡ true → d ≡ false) → c ≡ (b || d) → d ≡ (not b && c)
-without true c d h e = h refl
-without false c d h e = sym e
+without b c d h e = grind arith
 
 pub has-remove : (xs : List ℕ) (i x n : ℕ) → IsStrictlyIncreasing xs → i < length xs → get_or xs i 0 ≡ x →
     has (remove xs i) n ≡ (not (x == n) && has xs n)
@@ -155,9 +154,7 @@ pub put_has : (xs : List ℕ) (x i v : ℕ) → has (insert xs i x) v ≡ (has x
 put_has xs x i v = has-insert xs i x v ∙ or_comm (x == v) (has xs v)
 
 either : (b c : Bool) → (c ≡ true → b ≡ true) → b ≡ (b || c)
-either true c h = refl
-either false true h = h refl
-either false false h = refl
+either b c h = grind arith
 
 -- a number that is in the list already
 pub stays_has : (xs : List ℕ) (x i v : ℕ) → IsStrictlyIncreasing xs →
@@ -171,9 +168,7 @@ taken_has xs x i v up h = let p =
     place_of xs x (Ok i) up h in has-remove xs i x v up p.0 p.1 ∙ and_comm (not (x == v)) (has xs v)
 
 both : (b c : Bool) → (c ≡ true → b ≡ false) → b ≡ (b && not c)
-both true true h = h refl
-both true false h = refl
-both false c h = refl
+both b c h = grind arith
 
 -- a number that isn't in the list
 pub lacks_has : (xs : List ℕ) (x i v : ℕ) → IsStrictlyIncreasing xs →

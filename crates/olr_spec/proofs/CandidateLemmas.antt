@@ -1,12 +1,11 @@
 -- The path's own line at an LRP is preferred to every other candidate: its node is the nearest if other nodes are three
 -- times the bound of decoding away. And the length that an offset byte cuts off.
 use Rattle.std.proofs.Common.{inl, inr, ◌≡◌, ◌≢◌, ℕ, ◌+◌, ◌-◌, Bool, true, false, not, ◌||◌, List, ◌∷◌, map, ◌<◌, ◌≤◌}
-use Rattle.std.proofs.Common.{◌↔◌, IsTrue, IsFalse, refl, sym, ap, ◌∙◌, subst, arith, nat_lt, ◌==◌, ◌*◌, ℤ, pos, negsuc}
-use Rattle.std.proofs.Common.{◌-ℤ◌, ◌+ℤ◌, nat_le, ◌/◌, cond, Some, None, []}
-use Rattle.std.proofs.lemmas.Bool.{cases_Bool, cases_eq, cases_lt, both_ways, and_parts, and_from, or_cases, eqb-true}
-use Rattle.std.proofs.lemmas.Bool.{eq-eqb, ltb-true, lt-ltb, le-ltb, leb-true}
+use Rattle.std.proofs.Common.{◌↔◌, IsTrue, IsFalse, refl, sym, ap, ◌∙◌, subst, arith, nat_lt, ◌==◌, ◌*◌, ℤ, ◌-ℤ◌}
+use Rattle.std.proofs.Common.{nat_le, ◌/◌, cond, Some, None, [], eqb-true, eq-eqb, ltb-true, lt-ltb, le-ltb, leb-true}
+use Rattle.std.proofs.Common.{nat_abs}
+use Rattle.std.proofs.lemmas.Bool.{cases_Bool, cases_eq, cases_lt, both_ways, and_parts, and_from, or_cases}
 use Rattle.std.specs.List.{list_all}
-use Rattle.std.specs.Prelude.{nat_abs}
 use Rattle.std.proofs.Math.Nat.{mul-le-mul_left, mul-le-mul_right, mul-lt-mul_of_pos_left, le_of_mul-le-mul_left}
 use Rattle.std.proofs.Math.Nat.{mul-add, mul_left_comm, mul_assoc, mul_comm, mul-pos, div-mul-le_self, lt-div-mul-add}
 use Rattle.std.proofs.lemmas.Int.{ints}
@@ -21,14 +20,9 @@ use Rattle.olr_spec.specs.Coordinates.{Coord}
 use Rattle.olr_spec.specs.Decoded.{decoded_bound, IsNear}
 use Rattle.olr_spec.specs.Recovery.{lon_apart, lat_apart, IsWeighted, is_spaced, IsCut, IsClose}
 use Rattle.olr_spec.proofs.ListLemmas.{has_cases}
-use Rattle.olr_spec.proofs.MapLemmas.{has-lines_where, passes_at}
-use Rattle.olr_spec.proofs.AgreeLemmas.{known_record}
+use Rattle.olr_spec.proofs.OrderLemmas.{has_number}
 
 -- ---- a test that all candidates pass
-
-listed : (M : Map) (y : ℕ) → IsTrue (has_line M y) → has (lines_where M (λ _. true)) y ≡ true
-listed M y h =
-    has-lines_where M (λ _. true) y ∙ ap (λ o. passes_at (λ _. true) o) (known_record M y h)
 
 pass_each : (M : Map) (f : ℕ × Leg → Bool) (xs : List ℕ) → list_all f (map (λ x. (x, leg M x)) xs) ≡ true → (y : ℕ) →
     has xs y ≡ true → f (y, leg M y) ≡ true
@@ -42,7 +36,7 @@ pass_each M f (x ∷ xs) a y h =
 
 pub passes : (M : Map) (f : ℕ × Leg → Bool) → IsTrue (list_all f (candidates M)) → (y : ℕ) → IsTrue (has_line M y) →
     f (y, leg M y) ≡ true
-passes M f a y h = pass_each M f (lines_where M (λ _. true)) a y (listed M y h)
+passes M f a y h = pass_each M f (lines_where M (λ _. true)) a y (has_number M y h)
 
 -- ---- the path's own line
 
@@ -110,13 +104,7 @@ abbrev total : Rating → ℕ
 total a = a.far + a.frc + a.fow + a.bearing
 
 smaller : (a b : Rating) → NowhereWorse a b → SomewhereBetter a b → total a < total b
-smaller a b w (inl h) = omega arith
-smaller a b w (inr (inl h)) = omega arith
-smaller a b w (inr (inr (inl h))) = omega arith
-smaller a b w (inr (inr (inr h))) = omega arith
-
-one_way : (m n : ℕ) → nat_lt m n ≡ true → nat_lt n m ≡ false
-one_way m n h = le-ltb n m (omega (arith, ltb-true m n h))
+smaller a b w h = omega arith
 
 -- it prefers the smaller sum of the measure and the differences
 pub some_receiver : SomeReceiver
@@ -131,7 +119,7 @@ some_receiver far = (
     fows = apart_differs;
     bearings = apart_differs;
     monotone = λ a b w h. lt-ltb (total a) (total b) (smaller a b w h);
-    strict = λ a b h. one_way (total a) (total b) h;
+    strict = λ a b h. le-ltb (total b) (total a) (omega (arith, ltb-true (total a) (total b) h));
   },
   refl,
 )
@@ -144,8 +132,7 @@ own_side u scale a b B f unit most ha hb h =
     omega (arith, mul-le-mul_right a most, mul-lt-mul_of_pos_left ha unit, mul-lt-mul_of_pos_left hb unit)
 
 by_latitude : (scale e B f : ℕ) → B + B ≤ e → scale * e ≤ f → scale * B + scale * B ≤ f
-by_latitude scale e B f h g =
-    omega (arith, mul-le-mul_left scale h, mul-add scale B B)
+by_latitude scale e B f h g = omega (arith, mul-le-mul_left scale h, mul-add scale B B)
 
 -- e is the distance D minus at most B
 by_longitude : (n d scale u e D B f : ℕ) → 0 < d → 0 < scale → n * scale ≤ d * u → u ≤ scale → D ≤ e + B →
@@ -173,17 +160,7 @@ by_longitude n d scale u e D B f some unit least most h far g =
 -- ---- distances on an axis
 
 triangle : (p a b : ℤ) → nat_abs (a -ℤ b) ≤ nat_abs (p -ℤ b) + nat_abs (p -ℤ a)
-triangle p a b = by (p -ℤ b) (p -ℤ a) (a -ℤ b) (omega (arith, ints))
-  where
-    by : (x y z : ℤ) → x ≡ y +ℤ z → nat_abs z ≤ nat_abs x + nat_abs y
-    by (pos x) (pos y) (pos z) e = omega (arith, ints)
-    by (pos x) (pos y) (negsuc z) e = omega (arith, ints)
-    by (pos x) (negsuc y) (pos z) e = omega (arith, ints)
-    by (pos x) (negsuc y) (negsuc z) e = omega (arith, ints)
-    by (negsuc x) (pos y) (pos z) e = omega (arith, ints)
-    by (negsuc x) (pos y) (negsuc z) e = omega (arith, ints)
-    by (negsuc x) (negsuc y) (pos z) e = omega (arith, ints)
-    by (negsuc x) (negsuc y) (negsuc z) e = omega (arith, ints)
+triangle p a b = grind (arith, ints)
 
 -- ---- the nearest node
 
@@ -212,19 +189,18 @@ nearer n d scale far w k p a b near spaced =
 -- ---- such measures exist
 
 pub some_weighted : SomeWeighted
-some_weighted n d h some =
-    record {
-      some = some;
-      unit = some;
-      all = λ p c. record {
-        u = n;
-        least = omega (arith, mul_comm n d);
-        most = h;
-        by_lon = omega arith;
-        by_lat = omega arith;
-        by_both = omega arith;
-      };
-    }
+some_weighted n d h some = record {
+  some = some;
+  unit = some;
+  all = λ p c. record {
+    u = n;
+    least = omega (arith, mul_comm n d);
+    most = h;
+    by_lon = omega arith;
+    by_lat = omega arith;
+    by_both = omega arith;
+  };
+}
 
 -- the byte of what remains of an offset
 byte_close : (q s left c : ℕ) → 0 < q → 0 < s → IsCut q s (Some (256 * left / s)) c → IsClose q s left c

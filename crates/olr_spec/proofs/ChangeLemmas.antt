@@ -1,7 +1,7 @@
 -- What one edit changes, and what consecutive edits change.
 use Rattle.std.proofs.Common.{inl, ◌≡◌, ◌≢◌, ℕ, false, true, List, ◌∷◌, ◌++◌, ◌≤◌, Ok, Contains, IsTrue, refl, sym, ◌∙◌}
-use Rattle.std.proofs.Common.{arith, ◌==◌, ◌↔◌, Some, T, nat_cmp, []}
-use Rattle.std.proofs.lemmas.Bool.{cases_eq, both_ways, or_parts, ne_eqb}
+use Rattle.std.proofs.Common.{arith, ◌==◌, ◌↔◌, Some, T, nat_cmp, [], ne_eqb}
+use Rattle.std.proofs.lemmas.Bool.{cases_eq, both_ways, or_parts}
 use Rattle.std.proofs.lemmas.List.Elements.{Contains-append_left, Contains-append_right}
 use Rattle.std.proofs.lemmas.List.Folds.{list_any-append}
 use Rattle.std.specs.FinMap.{get, FinMap}

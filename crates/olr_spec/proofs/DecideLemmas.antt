@@ -1,12 +1,10 @@
 -- Each definition is decidable, so each path has an answer.
 use Rattle.std.proofs.Common.{◌⊎◌, inl, inr, ◌≡◌, ℕ, zero, suc, ◌+◌, Bool, true, List, ◌∷◌, ◌++◌, length, ◌<◌, ◌≤◌}
-use Rattle.std.proofs.Common.{Option, Some, None, is_some, IsTrue, IsFalse, refl, sym, ap, ◌∙◌, subst, arith}
-use Rattle.std.proofs.Common.{MatchOption, length-append, append_assoc, append-nil, []}
+use Rattle.std.proofs.Common.{None, IsTrue, IsFalse, refl, sym, ap, ◌∙◌, subst, arith, MatchOption, length-append}
+use Rattle.std.proofs.Common.{append_assoc, append-nil, [], nat_eq, ◌≢◌}
 use Rattle.std.proofs.lemmas.Bool.{cases_lt, cases_eq, cases_Bool, both_ways}
-use Rattle.std.specs.Prelude.{nat_eq, ◌≢◌}
-use Rattle.std.specs.FinMap.{get}
 use lib.Pointwise.{pointwise, bytes_decides}
-use Rattle.olr_spec.specs.Map.{Map, IsMap, Line, has_line, start, end, dm, coord_at, lines_where, has}
+use Rattle.olr_spec.specs.Map.{Map, IsMap, has_line, start, end, dm, coord_at, lines_where, has}
 use Rattle.olr_spec.specs.Routes.{IsRoute, dm_of, UniqueShortest}
 use Rattle.olr_spec.specs.Extension.{Path, is_path, first, last, passing, MayPrecede, MayFollow, StartRun, EndRun}
 use Rattle.olr_spec.specs.Extension.{LongestStart, LongestEnd, Tried, from_start, taken_start, extended_path, limit}
@@ -15,11 +13,11 @@ use Rattle.olr_spec.specs.Points.{To_valid, To_passing, NoNext, Follow}
 use Rattle.olr_spec.specs.Encoding.{Answer, Refused, path_fault, answer_by_points, Encoding}
 use Rattle.olr_spec.specs.Laws.{OneUnique, SomeAnswer}
 use Rattle.olr_spec.proofs.RouteLemmas.{positive, dm_of-append}
-use Rattle.olr_spec.proofs.MapLemmas.{has-lines_where, passes_at}
 use Rattle.olr_spec.proofs.ListLemmas.{Each, Each-nil, Each-cons, Each-head, Each-tail, Known}
 use Rattle.olr_spec.proofs.RunLemmas.{StartRun-back, start_suffix, end_prefix, last_known}
 use Rattle.olr_spec.proofs.AnswerLemmas.{sound_lines, all_first, all_last, path_nonempty, by_fault}
 use Rattle.olr_spec.proofs.RunMoves.{EndRun-push}
+use Rattle.olr_spec.proofs.OrderLemmas.{has_number}
 
 -- ---- decidable propositions
 
@@ -84,11 +82,10 @@ dec_lists ks (suc n) Q d =
 -- some number of the list, or none
 some_of : (Q : ℕ → Type 0) → ((x : ℕ) → Dec (Q x)) → (xs : List ℕ) → ((x : ℕ) × Q x) ⊎ Each (λ x. ¬ Q x) xs
 some_of Q d [] = inr (Each-nil (λ x. ¬ Q x))
-some_of Q d (x ∷ xs) =
-    elim (d x) [
-      | yes p ↦ inl (x, p)
-      | no f ↦ elim (some_of Q d xs) [ inl s ↦ inl s | inr h ↦ inr (Each-cons (λ x. ¬ Q x) x xs f h) ]
-    ]
+some_of Q d (x ∷ xs) = elim (d x) [
+  | yes p ↦ inl (x, p)
+  | no f ↦ elim (some_of Q d xs) [ inl s ↦ inl s | inr h ↦ inr (Each-cons (λ x. ¬ Q x) x xs f h) ]
+]
 
 -- ---- routes
 
@@ -101,13 +98,6 @@ dec_IsRoute M s t (x ∷ xs) =
 -- the numbers of all lines
 abbrev numbers : Map → List ℕ
 numbers M = lines_where M (λ l. true)
-
-some_passes : (o : Option Line) → is_some o ≡ true → passes_at (λ l. true) o ≡ true
-some_passes None h = absurd cc
-some_passes (Some l) h = refl
-
-has_number : (M : Map) (x : ℕ) → IsTrue (has_line M x) → has (numbers M) x ≡ true
-has_number M x h = has-lines_where M (λ l. true) x ∙ some_passes (get M.lines x) h
 
 route_numbers : (M : Map) (s t : ℕ) (xs : List ℕ) → IsRoute M s t xs → Each (λ x. has (numbers M) x ≡ true) xs
 route_numbers M s t [] w = Each-nil (λ x. has (numbers M) x ≡ true)
@@ -122,11 +112,10 @@ pub dec_same : (xs ys : List ℕ) → Dec (xs ≡ ys)
 dec_same xs ys = dec_as (bytes_decides xs ys).0 (bytes_decides xs ys).1 (dec_true (pointwise nat_eq xs ys))
 
 pub one_unique : OneUnique
-one_unique M s t xs ys p q =
-    elim (dec_same xs ys) [
-      | yes e ↦ e
-      | no ne ↦ let h = p.others ys q.route (λ e. ne (sym e)) in absurd (omega (arith, q.others xs p.route ne))
-    ]
+one_unique M s t xs ys p q = elim (dec_same xs ys) [
+  | yes e ↦ e
+  | no ne ↦ let h = p.others ys q.route (λ e. ne (sym e)) in absurd (omega (arith, q.others xs p.route ne))
+]
 
 pub dec_Unique : (M : Map) → IsMap M → (s t : ℕ) (xs : List ℕ) → Dec (UniqueShortest M s t xs)
 dec_Unique M m s t xs =
@@ -163,42 +152,37 @@ dec_Valid M m ls i j = dec_and (dec_Candidate M m ls i j) (dec_false (passing M 
 pub greatest_or_none : (Q : ℕ → Type 0) → ((k : ℕ) → Dec (Q k)) → (n : ℕ) → ((k : ℕ) → Q k → k < n) →
     ((j : ℕ) × Greatest Q j) ⊎ ((k : ℕ) → ¬ Q k)
 greatest_or_none Q d zero h = inr (λ k q. absurd (omega (arith, h k q)))
-greatest_or_none Q d (suc n) h =
-    elim (d n) [
-      | yes q ↦ inl (n, record { holds = q; others = λ k p. omega (arith, h k p) })
-      | no f ↦ greatest_or_none Q d n
-          (λ k q. elim (cases_eq k n) [ inl e ↦ absurd (f (subst Q e q)) | inr ne ↦ omega (arith, h k q) ])
-    ]
+greatest_or_none Q d (suc n) h = elim (d n) [
+  | yes q ↦ inl (n, record { holds = q; others = λ k p. omega (arith, h k p) })
+  | no f ↦ greatest_or_none Q d n
+      (λ k q. elim (cases_eq k n) [ inl e ↦ absurd (f (subst Q e q)) | inr ne ↦ omega (arith, h k q) ])
+]
 
 pub next_or_none : (M : Map) → IsMap M → (ls : List ℕ) (i : ℕ) → ((j : ℕ) × Next M ls i j) ⊎ NoNext M ls i
-next_or_none M m ls i =
-    elim (dec_Candidate M m ls i (length ls)) [
-      | yes c ↦ inl (length ls, To_end refl c)
-      | no f ↦ elim (greatest_or_none (ValidCandidate M ls i) (dec_Valid M m ls i) (suc (length ls))
-          (λ k c. omega arith)) [
-            | inl g ↦ inl (g.0, To_valid f g.1)
-            | inr none ↦ elim (greatest_or_none (Candidate M ls i) (dec_Candidate M m ls i) (suc (length ls))
-                (λ k c. omega arith)) [
-                  | inl g ↦ inl (g.0, To_passing f none g.1)
-                  | inr h ↦ inr h
-                ]
-          ]
-    ]
+next_or_none M m ls i = elim (dec_Candidate M m ls i (length ls)) [
+  | yes c ↦ inl (length ls, To_end refl c)
+  | no f ↦ elim (greatest_or_none (ValidCandidate M ls i) (dec_Valid M m ls i) (suc (length ls))
+      (λ k c. omega arith)) [
+        | inl g ↦ inl (g.0, To_valid f g.1)
+        | inr none ↦ elim (greatest_or_none (Candidate M ls i) (dec_Candidate M m ls i) (suc (length ls))
+            (λ k c. omega arith)) [
+              | inl g ↦ inl (g.0, To_passing f none g.1)
+              | inr h ↦ inr h
+            ]
+      ]
+]
 
 next_after : (M : Map) (ls : List ℕ) (i j : ℕ) → Next M ls i j → (i < j) × (j ≤ length ls)
-next_after M ls i j (To_end e c) = (omega arith, omega arith)
-next_after M ls i j (To_valid f g) = (g.holds.0.after, g.holds.0.upto)
-next_after M ls i j (To_passing f h g) = (g.holds.after, g.holds.upto)
+next_after M ls i j n = grind arith
 
 pub some_follow : (M : Map) → IsMap M → (ls : List ℕ) (fuel i : ℕ) → length ls ≤ i + fuel → (js : List ℕ) × Follow M ls i js
 some_follow M m ls zero i h = ([], λ j c. absurd (omega arith))
-some_follow M m ls (suc fuel) i h =
-    elim (next_or_none M m ls i) [
-      | inl n ↦
-          let r = some_follow M m ls fuel n.0 (omega (arith, next_after M ls i n.0 n.1)) in
-          (n.0 ∷ r.0, (n.1, r.1))
-      | inr none ↦ ([], none)
-    ]
+some_follow M m ls (suc fuel) i h = elim (next_or_none M m ls i) [
+  | inl n ↦
+      let r = some_follow M m ls fuel n.0 (omega (arith, next_after M ls i n.0 n.1)) in
+      (n.0 ∷ r.0, (n.1, r.1))
+  | inr none ↦ ([], none)
+]
 
 -- ---- runs of degree-two nodes
 

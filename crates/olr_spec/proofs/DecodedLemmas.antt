@@ -1,11 +1,11 @@
 -- The coordinates that the LRPs of an answer are decoded as.
-use Rattle.std.proofs.Common.{inl, inr, ◌≡◌, ℕ, zero, suc, ◌+◌, ◌*◌, ◌/◌, ℤ, pos, negsuc, neg_ℤ, ◌<ℤ◌, ◌*ℤ◌, ◌+ℤ◌, ◌-ℤ◌}
-use Rattle.std.proofs.Common.{true, false, List, ◌∷◌, ◌++◌, length, take, map, ◌<◌, ◌≤◌, Some, None, is_some, IsTrue}
-use Rattle.std.proofs.Common.{cond, Bool, refl, sym, ap, ◌∙◌, subst, arith, nat_le, []}
-use Rattle.std.specs.Prelude.{nat_abs, slice_get, option_map}
-use Rattle.std.proofs.lemmas.Bool.{le-leb, leb-true}
+use Rattle.std.proofs.Common.{◌≡◌, ℕ, zero, suc, ◌+◌, ◌*◌, ◌/◌, ℤ, pos, negsuc, neg_ℤ, ◌<ℤ◌, ◌*ℤ◌, ◌+ℤ◌, ◌-ℤ◌, true}
+use Rattle.std.proofs.Common.{false, List, ◌∷◌, ◌++◌, length, take, map, ◌<◌, ◌≤◌, Some, None, is_some, IsTrue, cond}
+use Rattle.std.proofs.Common.{Bool, refl, ap, ◌∙◌, subst, arith, nat_le, [], ◌-◌, nat_abs, slice_get, option_map}
+use Rattle.std.proofs.Common.{le-leb, leb-true, slice_index}
+use Rattle.std.proofs.lemmas.Bool.{cond-true}
 use Rattle.std.proofs.lemmas.Int.{ints}
-use Rattle.std.specs.List.{slice_index}
+use Rattle.std.proofs.lemmas.Option.{slice_get-get_or}
 use lib.IntN.{+ℤ_assoc}
 use Rattle.olr_spec.specs.Coordinates.{abs24, from_abs24, nearest, relative, from_rel16}
 use Rattle.olr_spec.specs.Map.{Map, IsMap, coord_at, has}
@@ -13,7 +13,8 @@ use Rattle.olr_spec.specs.Extension.{Path, is_path, extended_path}
 use Rattle.olr_spec.specs.Points.{node_at}
 use Rattle.olr_spec.specs.Bearings.{Leg}
 use Rattle.olr_spec.specs.Reference.{Middle, Reference, legs, position, first_kept, last_kept, kept_points, last_two}
-use Rattle.olr_spec.specs.Reference.{middle_points, reference_by_kept, reference_by, last_point}
+use Rattle.olr_spec.specs.Reference.{middle_points, reference_by_kept, reference_by, last_point, Last, from_front}
+use Rattle.olr_spec.specs.Reference.{middle_point, to_back}
 use Rattle.olr_spec.specs.Encoding.{Points, path_fault, Encoding, IsPoint}
 use Rattle.olr_spec.specs.Decoded.{lon_steps, lat_steps, steps_sum, decoded, decoded_bound, IsNear}
 use Rattle.olr_spec.specs.Laws.{DecodedNear, DecodedPoints}
@@ -23,6 +24,7 @@ use Rattle.olr_spec.proofs.AnswerLemmas.{path_also, path_at}
 use Rattle.olr_spec.proofs.KeptLemmas.{two_kept}
 use Rattle.olr_spec.proofs.FieldLemmas.{position_is}
 use Rattle.olr_spec.proofs.FitLemmas.{kept_ends, extended_sound, answered, by_answer}
+use Rattle.olr_spec.proofs.JoinLemmas.{Linked, follow_linked, kept_linked}
 
 -- ---- one rounding
 
@@ -95,19 +97,14 @@ close_on f n h (suc k) (i ∷ ks) a c le =
 
 -- ---- the fields of a reference
 
-lon_relatives : (gs : List Leg) (h i : ℕ) (js : List ℕ) → map (λ (m : Middle). m.dlon) (middle_points gs h i js)
-    ++ (fields.last_point gs (last_two h i js).0 (last_two h i js).1).dlon ∷ []
-    ≡ relatives (λ k. (position gs k).lon) h (i ∷ js)
-lon_relatives gs h i [] = refl
-lon_relatives gs h i (j ∷ js) =
-    ap (λ (zs : List ℤ). relative (position gs h).lon (position gs i).lon ∷ zs) (lon_relatives gs i j js)
-
-lat_relatives : (gs : List Leg) (h i : ℕ) (js : List ℕ) → map (λ (m : Middle). m.dlat) (middle_points gs h i js)
-    ++ (fields.last_point gs (last_two h i js).0 (last_two h i js).1).dlat ∷ []
-    ≡ relatives (λ k. (position gs k).lat) h (i ∷ js)
-lat_relatives gs h i [] = refl
-lat_relatives gs h i (j ∷ js) =
-    ap (λ (zs : List ℤ). relative (position gs h).lat (position gs i).lat ∷ zs) (lat_relatives gs i j js)
+-- by one of the two axes
+relatives_of : (gs : List Leg) (f : ℕ → ℤ) (d : Middle → ℤ) (e : Last → ℤ) →
+    ((h i j : ℕ) → d (middle_point gs h i j) ≡ relative (f h) (f i)) →
+    ((h i : ℕ) → e (last_point gs h i) ≡ relative (f h) (f i)) → (h i : ℕ) (js : List ℕ) →
+    map d (middle_points gs h i js) ++ e (last_point gs (last_two h i js).0 (last_two h i js).1) ∷ []
+    ≡ relatives f h (i ∷ js)
+relatives_of gs f d e p q h i [] = λ n. q h i n ∷ []
+relatives_of gs f d e p q h i (j ∷ js) = λ n. p h i j n ∷ relatives_of gs f d e p q i j js n
 
 pub middle_count : (gs : List Leg) (h i : ℕ) (js : List ℕ) → length (middle_points gs h i js) ≡ length js
 middle_count gs h i [] = refl
@@ -117,25 +114,18 @@ near_of : (gs : List Leg) (p q h i : ℕ) (js : List ℕ) (k : ℕ) → k ≤ le
     × (decoded (reference_by_kept gs p q h i js) k ≡ Some d) × IsNear k d (position gs (slice_index (h ∷ i ∷ js) k))
 near_of gs p q h i js k le =
     let r = reference_by_kept gs p q h i js in
-    let lon = close_on (λ n. (position gs n).lon) 7031250 h k (i ∷ js) (from_abs24 r.first.lon) (close24 (position gs h).lon)
-    le in
-    let lat = close_on (λ n. (position gs n).lat) 7031250 h k (i ∷ js) (from_abs24 r.first.lat) (close24 (position gs h).lat)
-    le in (
+    let near = λ (f : ℕ → ℤ). close_abs (decoded_bound k) _ (f (slice_index (h ∷ i ∷ js) k))
+    (close_on f 7031250 h k (i ∷ js) (from_abs24 (abs24 (f h))) (close24 (f h)) le) in (
       (
         from_abs24 r.first.lon +ℤ steps_sum (take k (lon_steps r)),
         from_abs24 r.first.lat +ℤ steps_sum (take k (lat_steps r)),
       ),
-      ap (λ (b : Bool). cond b (Some (
-        from_abs24 r.first.lon +ℤ steps_sum (take k (lon_steps r)),
-        from_abs24 r.first.lat +ℤ steps_sum (take k (lat_steps r)),
-      )) None) (le-leb k (length r.middle + 1) (omega (arith, middle_count gs h i js))),
+      cond-true _ _ _ (le-leb k (length r.middle + 1) (omega (arith, middle_count gs h i js))),
       record {
-        lon = close_abs (decoded_bound k) _ _
-            (coe 1 0 (j. Close (decoded_bound k) (from_abs24 r.first.lon +ℤ steps_sum (take k (lon_relatives gs h i js j)))
-            (position gs (slice_index (h ∷ i ∷ js) k)).lon) lon);
-        lat = close_abs (decoded_bound k) _ _
-            (coe 1 0 (j. Close (decoded_bound k) (from_abs24 r.first.lat +ℤ steps_sum (take k (lat_relatives gs h i js j)))
-            (position gs (slice_index (h ∷ i ∷ js) k)).lat) lat);
+        lon = rw (relatives_of gs (λ n. (position gs n).lon) (λ m. m.dlon) (λ l. l.dlon) (λ _ _ _. refl) (λ _ _. refl) h i js)
+            (near (λ n. (position gs n).lon));
+        lat = rw (relatives_of gs (λ n. (position gs n).lat) (λ m. m.dlat) (λ l. l.dlat) (λ _ _ _. refl) (λ _ _. refl) h i js)
+            (near (λ n. (position gs n).lat));
       },
     )
 
@@ -144,11 +134,7 @@ near_of gs p q h i js k le =
 -- a list with two different numbers has two elements
 pub two_of : (ks : List ℕ) (a b : ℕ) → has ks a ≡ true → has ks b ≡ true → a < b → (h i : ℕ) × (js : List ℕ) × (ks ≡ h ∷ i ∷ js)
 two_of [] a b p q lt = absurd cc
-two_of (h ∷ []) a b p q lt =
-    elim (has_cases h [] a p) [
-      | inr g ↦ absurd cc
-      | inl e ↦ elim (has_cases h [] b q) [ inr g ↦ absurd cc | inl f ↦ absurd (omega arith) ]
-    ]
+two_of (h ∷ []) a b p q lt = grind (arith, has_cases)
 two_of (h ∷ i ∷ js) a b p q lt = (h, i, js, refl)
 
 -- what is decoded for the LRPs ks: one coordinate for each, near its own
@@ -156,26 +142,59 @@ pub record Decodes (gs : List Leg) (ks : List ℕ) (r : Reference) : Type 0 wher
   pub count : length r.middle + 2 ≡ length ks
   pub near : (k : ℕ) → k < length ks → (d : ℤ × ℤ) × (decoded r k ≡ Some d) × IsNear k d (position gs (slice_index ks k))
 
-decodes : (gs : List Leg) (p q : ℕ) (ks : List ℕ) → (h i : ℕ) × (js : List ℕ) × (ks ≡ h ∷ i ∷ js) →
-    Decodes gs ks (reference_by gs p q ks)
-decodes gs p q ks t = coe 1 0 (i. Decodes gs (t.3 i) (reference_by gs p q (t.3 i))) (record {
-  count = omega (arith, middle_count gs t.0 t.1 t.2);
-  near = λ k lt. near_of gs p q t.0 t.1 t.2 k (omega arith);
-})
+decodes : (gs : List Leg) (p q h i : ℕ) (js : List ℕ) → Decodes gs (h ∷ i ∷ js) (reference_by_kept gs p q h i js)
+decodes gs p q h i js = record {
+  count = omega (arith, middle_count gs h i js);
+  near = λ k lt. near_of gs p q h i js k (omega arith);
+}
 
-pub answer_decodes : (M : Map) → (P : Path) → IsTrue (is_path P.lines) → path_fault M P ≡ None → (r : Reference) →
-    (e : Encoding M P (Points r)) → Decodes (legs M (extended_path M P e.before e.after).lines)
-    (kept_points (legs M (extended_path M P e.before e.after).lines) (extended_path M P e.before e.after).pos
-    (extended_path M P e.before e.after).neg e.points) r
-answer_decodes M P is none r e =
-    let E = extended_path M P e.before e.after in
-    let gs = legs M E.lines in
-    let s = extended_sound M P is none e.before e.after e.tried in
-    let a = answered M E e.points r e.holds in
-    let ends = kept_ends M E.lines e.points E.pos E.neg e.follow a.0 s.long in
-    subst (Decodes gs (kept_points gs E.pos E.neg e.points)) (sym a.1) (decodes gs _ _ (kept_points gs E.pos E.neg e.points)
-    (two_of (kept_points gs E.pos E.neg e.points) (first_kept gs E.pos e.points) (last_kept gs E.neg e.points) ends.0 ends.1
-    (two_kept M E.lines e.points E.pos E.neg e.follow a.0 s.long)))
+-- at least two LRPs remain, h, i and js, and the reference is that of these
+pub record Form (M : Map) (ls ks : List ℕ) (p q : ℕ) (r : Reference) : Type 0 where
+  pub h : ℕ
+  pub i : ℕ
+  pub js : List ℕ
+  pub kept : ks ≡ h ∷ i ∷ js
+  pub linked : Linked M ls (h ∷ i ∷ js)
+  pub fields_are : r ≡ reference_by_kept (legs M ls) p q h i js
+
+module _ (M : Map) (P : Path) (is : IsTrue (is_path P.lines)) (none : path_fault M P ≡ None) (r : Reference)
+    (e : Encoding M P (Points r)) where
+  -- the extended path, its LRPs, those that remain, and what remains of the offsets
+  abbrev pub E : Path
+  E = extended_path M P e.before e.after
+
+  abbrev pub Kept : List ℕ
+  Kept = kept_points (legs M E.lines) E.pos E.neg e.points
+
+  abbrev pub Front : ℕ
+  Front = E.pos - from_front (legs M E.lines) (first_kept (legs M E.lines) E.pos e.points)
+
+  abbrev pub Back : ℕ
+  Back = E.neg - to_back (legs M E.lines) (last_kept (legs M E.lines) E.neg e.points)
+
+  pub form : Form M E.lines Kept Front Back r
+  form =
+      let gs = legs M E.lines in
+      let a = first_kept gs E.pos e.points in
+      let b = last_kept gs E.neg e.points in
+      let s = extended_sound M P is none e.before e.after e.tried in
+      let ans = answered M E e.points r e.holds in
+      let ends = kept_ends M E.lines e.points E.pos E.neg e.follow ans.0 s.long in
+      let t = two_of Kept a b ends.0 ends.1 (two_kept M E.lines e.points E.pos E.neg e.follow ans.0 s.long) in
+      let fields_are : r ≡ reference_by_kept gs Front Back t.0 t.1 t.2 = ans.1 ∙ ap (reference_by gs Front Back) t.3 in
+      record {
+        h = t.0;
+        i = t.1;
+        js = t.2;
+        kept = t.3;
+        linked = subst (Linked M E.lines) t.3
+            (kept_linked M E.lines a b (0 ∷ e.points) (follow_linked M E.lines 0 e.points e.follow));
+        fields_are = fields_are;
+      }
+
+  pub answer_decodes : Decodes (legs M E.lines) Kept r
+  answer_decodes = coe 1 0 (i. Decodes (legs M E.lines) (form.kept i) (form.fields_are i))
+      (decodes (legs M E.lines) Front Back form.h form.i form.js)
 
 pub got_index : (f : ℕ → ℕ) (ks : List ℕ) (k v : ℕ) → option_map f (slice_get ks k) ≡ Some v → (k < length ks)
     × (f (slice_index ks k) ≡ v)
@@ -183,32 +202,27 @@ got_index f [] k v e = absurd cc
 got_index f (x ∷ ks) zero v e = (omega arith, cc)
 got_index f (x ∷ ks) (suc k) v e = let r = got_index f ks k v e in (omega (arith, r.0), r.1)
 
-pub index_got : (ks : List ℕ) (k : ℕ) → k < length ks → slice_get ks k ≡ Some (slice_index ks k)
-index_got [] k lt = absurd (omega arith)
-index_got (x ∷ ks) zero lt = refl
-index_got (x ∷ ks) (suc k) lt = index_got ks k (omega arith)
-
 module _ (M : Map) (m : IsMap M) (P : Path) (is : IsTrue (is_path P.lines)) (none : path_fault M P ≡ None)
     (r : Reference) (e : Encoding M P (Points r)) where
+  abbrev ls : List ℕ
+  ls = (E M P is none r e).lines
+
+  abbrev ks : List ℕ
+  ks = Kept M P is none r e
+
   near_point : (k v : ℕ) → IsPoint M P k v → (d : ℤ × ℤ) × (decoded r k ≡ Some d) × IsNear k d (coord_at M v)
   near_point k v p =
-      let E = extended_path M P e.before e.after in
-      let ks = kept_points (legs M E.lines) E.pos E.neg e.points in
-      let at = got_index (node_at M E.lines) ks k v (path_at m is none e p) in
+      let at = got_index (node_at M ls) ks k v (path_at m is none e p) in
       let near = (answer_decodes M P is none r e).near k at.0 in
       let s = extended_sound M P is none e.before e.after e.tried in
-      let place = position_is M m E.lines s.known (slice_index ks k) s.size ∙ ap (coord_at M) at.1 in
+      let place = position_is M m ls s.known (slice_index ks k) s.size ∙ ap (coord_at M) at.1 in
       (near.0, near.1, subst (IsNear k near.0) place near.2)
 
   point_at : (k : ℕ) → is_some (decoded r k) ≡ true → (v : ℕ) × IsPoint M P k v
   point_at k h =
-      let E = extended_path M P e.before e.after in
-      let ks = kept_points (legs M E.lines) E.pos E.neg e.points in
-      let count = (answer_decodes M P is none r e).count in (
-        node_at M E.lines (slice_index ks k),
-        path_also e (ap (option_map (node_at M E.lines))
-            (index_got ks k (omega (arith, leb-true k (length r.middle + 1) (taken (nat_le k (length r.middle + 1)) _ h))))),
-      )
+      let count = (answer_decodes M P is none r e).count in
+      let within = leb-true k (length r.middle + 1) (taken (nat_le k (length r.middle + 1)) _ h) in
+      (node_at M ls (slice_index ks k), path_also e (ap (option_map (node_at M ls)) (slice_get-get_or ks k 0 (omega arith))))
     where
       taken : (b : Bool) (d : ℤ × ℤ) → is_some (cond b (Some d) None) ≡ true → b ≡ true
       taken true d h = refl

@@ -1,8 +1,8 @@
 -- What an edit changes, and what it leaves unchanged.
 use Rattle.std.proofs.Common.{◌⊎◌, ◌↔◌, inl, inr, ◌≡◌, ◌≢◌, ℕ, Bool, true, false, cond, ◌||◌, List, ◌∷◌, Option, Some}
 use Rattle.std.proofs.Common.{None, is_some, Result, Ok, IsTrue, refl, sym, ap, ◌∙◌, subst, nat_cmp, ◌==◌, unwrap_or}
-use Rattle.std.proofs.Common.{[], arith}
-use Rattle.std.proofs.lemmas.Bool.{cases_eq, eq-eqb, ne_eqb, both_ways, and_parts, or_parts, not-false, cond_both}
+use Rattle.std.proofs.Common.{[], arith, eq-eqb, ne_eqb}
+use Rattle.std.proofs.lemmas.Bool.{cases_eq, both_ways, and_parts, or_parts, not-false, cond_both}
 use Rattle.std.specs.Ordering.{eq_by_cmp}
 use Rattle.std.specs.Cmp.{nat_cmp_total, unsigned_tied}
 use Rattle.std.specs.FinMap.{FinMap, get, insert, remove, entries, get-insert, get-remove}
@@ -76,11 +76,10 @@ agree_by M N P F nodes lines path =
     }
   where
     by : (x : ℕ) (l : Line) (Q : Type 0) → (Out F l → Q → ⊥) → ((get M.lines x ≡ Some l) × Q) ↔ ((get N.lines x ≡ Some l) × Q)
-    by x l Q out_of =
-        elim (lines x) [
-          | inl e ↦ ((λ p. (sym e ∙ p.0, p.1)), (λ p. (e ∙ p.0, p.1)))
-          | inr out ↦ ((λ p. absurd (out_of (out l (inl p.0)) p.1)), (λ p. absurd (out_of (out l (inr p.0)) p.1)))
-        ]
+    by x l Q out_of = elim (lines x) [
+      | inl e ↦ ((λ p. (sym e ∙ p.0, p.1)), (λ p. (e ∙ p.0, p.1)))
+      | inr out ↦ ((λ p. absurd (out_of (out l (inl p.0)) p.1)), (λ p. absurd (out_of (out l (inr p.0)) p.1)))
+    ]
 
 -- maps that differ only at node u
 node_agrees : (M N : Map) (u : ℕ) (nodes : FinMap nat_cmp Coord) (P : List ℕ) (F : ℕ → Type 0) →

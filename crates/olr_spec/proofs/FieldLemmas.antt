@@ -1,12 +1,13 @@
 -- The fields of an answer fit their bits.
 use Rattle.std.proofs.Common.{inl, inr, ◌≡◌, ℕ, zero, suc, ◌+◌, ◌-◌, ◌*◌, ◌/◌, max, ℤ, pos, negsuc, ◌≤ℤ◌, min, Bool}
 use Rattle.std.proofs.Common.{true, false, List, ◌∷◌, length, take, drop, map, ◌<◌, ◌≤◌, Some, None, IfSome, unwrap_or}
-use Rattle.std.proofs.Common.{IsTrue, refl, sym, ap, ◌∙◌, subst, arith, ◌==◌, take-add, div-lt_iff_lt-mul, []}
-use Rattle.std.proofs.lemmas.Bool.{cases_lt, and_parts, ltb-true, and_from, cond_both}
+use Rattle.std.proofs.Common.{IsTrue, refl, sym, ap, ◌∙◌, subst, arith, ◌==◌, take-add, div-lt_iff_lt-mul, [], ltb-true}
+use Rattle.std.proofs.Common.{fold, find, slice_index, slice_range}
+use Rattle.std.proofs.lemmas.Bool.{cases_lt, and_parts, and_from, cond_both}
 use Rattle.std.proofs.lemmas.Bool.Decides.{nat_tests}
 use Rattle.std.proofs.lemmas.Int.{ints}
 use Rattle.std.proofs.lemmas.List.{length-map, get_or-map, get_or_past, take-map, drop-map}
-use Rattle.std.specs.List.{fold, find, slice_index, slice_range, AllByRecursion}
+use Rattle.std.specs.List.{AllByRecursion}
 use Rattle.olr_spec.specs.Coordinates.{Coord, is_coord, is_longitude, is_latitude, abs24, relative, fits16}
 use Rattle.olr_spec.specs.Map.{Map, IsMap, Line, is_good, has_line, line_at, coord_at, has}
 use Rattle.olr_spec.specs.Routes.{dm_of}
@@ -42,11 +43,10 @@ linked_last M ls p q (r ∷ ks) l =
 pub has_last_two : (p q : ℕ) (ks : List ℕ) → (has (p ∷ q ∷ ks) (last_two p q ks).0 ≡ true)
     × (has (p ∷ q ∷ ks) (last_two p q ks).1 ≡ true)
 has_last_two p q [] = (has_here p (q ∷ []), has_there p (q ∷ []) q (has_here q []))
-has_last_two p q (r ∷ ks) = let s =
-    has_last_two q r ks in (
-      has_there p (q ∷ r ∷ ks) (last_two q r ks).0 s.0,
-      has_there p (q ∷ r ∷ ks) (last_two q r ks).1 s.1,
-    )
+has_last_two p q (r ∷ ks) = let s = has_last_two q r ks in (
+  has_there p (q ∷ r ∷ ks) (last_two q r ks).0 s.0,
+  has_there p (q ∷ r ∷ ks) (last_two q r ks).1 s.1,
+)
 
 pub last_two_linked : (M : Map) (ls : List ℕ) (p q : ℕ) (ks : List ℕ) → Linked M ls (p ∷ q ∷ ks) →
     Candidate M ls (last_two p q ks).0 (last_two p q ks).1
@@ -114,19 +114,13 @@ bearing_below : (o : Coord) (s : Scaled) → bearing o s < 32
 bearing_below o s = grind (arith, sector_below)
 
 -- a coordinate in range, in 24-bit steps
-round_below : (n : ℕ) → n ≤ 58982400000000 → (n + 3515625) / 7031250 ≤ 8388608
-round_below n h = omega arith
-
-round_low : (n : ℕ) → n ≤ 58982367232000 → (n + 3515625) / 7031250 ≤ 8388607
-round_low n h = omega arith
-
 abs24_fits : (z : ℤ) → negsuc 58982399999999 ≤ℤ z → z ≤ℤ pos 58982367232000 → (negsuc 8388607 ≤ℤ abs24 z)
     × (abs24 z ≤ℤ pos 8388607)
 abs24_fits (pos zero) lo hi = (omega (arith, ints), omega (arith, ints))
-abs24_fits (pos (suc n)) lo hi = let q =
-    round_low (suc n) (omega (arith, ints)) in (omega (arith, ints), omega (arith, ints))
-abs24_fits (negsuc n) lo hi = let q =
-    round_below (suc n) (omega (arith, ints)) in (omega (arith, ints), omega (arith, ints))
+abs24_fits (pos (suc n)) lo hi =
+    let q : (suc n + 3515625) / 7031250 ≤ 8388607 = omega (arith, ints) in (omega (arith, ints), omega (arith, ints))
+abs24_fits (negsuc n) lo hi =
+    let q : (suc n + 3515625) / 7031250 ≤ 8388608 = omega (arith, ints) in (omega (arith, ints), omega (arith, ints))
 
 longitude_fits : (z : ℤ) → IsTrue (is_longitude z) → IsTrue (fits24 (abs24 z))
 longitude_fits z h = grind (arith, and_parts, abs24_fits, le_yes, and_from, le_test)
@@ -153,13 +147,12 @@ no_leg_good = record { frc = omega arith; fow = omega arith; begin = refl; finis
 
 module _ (M : Map) (m : IsMap M) (ls : List ℕ) (known : Each (Known M) ls) where
   leg_at_good : (i : ℕ) → IsLeg (leg_at (legs M ls) i)
-  leg_at_good i =
-      elim (cases_lt i (length ls)) [
-        | inl lt ↦ subst IsLeg (sym (get_or-map (leg M) ls i 0 no_leg lt))
-            (leg_good M m (slice_index ls i) (known (slice_index ls i) (has_index ls i lt)))
-        | inr ge ↦ subst IsLeg (sym (get_or_past (legs M ls) i no_leg (omega (arith, length-map ls (leg M)))))
-            no_leg_good
-      ]
+  leg_at_good i = elim (cases_lt i (length ls)) [
+    | inl lt ↦ subst IsLeg (sym (get_or-map (leg M) ls i 0 no_leg lt))
+        (leg_good M m (slice_index ls i) (known (slice_index ls i) (has_index ls i lt)))
+    | inr ge ↦ subst IsLeg (sym (get_or_past (legs M ls) i no_leg (omega (arith, length-map ls (leg M)))))
+        no_leg_good
+  ]
 
   position_good : (i : ℕ) → IsTrue (is_coord (position (legs M ls) i))
   position_good i = grind (arith, leg_at_good)

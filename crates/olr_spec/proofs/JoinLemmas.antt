@@ -1,27 +1,18 @@
 -- The routes between the remaining LRPs join to the extended path.
 use Rattle.std.proofs.Common.{◌⊎◌, inl, inr, ◌≡◌, ℕ, zero, suc, ◌+◌, ◌-◌, min, Bool, true, false, cond, ◌&&◌, List, ◌∷◌}
 use Rattle.std.proofs.Common.{◌++◌, length, take, drop, ◌<◌, ◌≤◌, refl, ap, ◌∙◌, subst, arith, nat_le, length-drop, ◌↔◌}
-use Rattle.std.proofs.Common.{[]}
-use Rattle.std.proofs.lemmas.Bool.{cases_eq, and_parts, and_from, leb-true, le-leb, cond_both}
+use Rattle.std.proofs.Common.{[], leb-true, le-leb, get_or-drop, slice_index, filter}
+use Rattle.std.proofs.lemmas.Bool.{cases_eq, and_parts, and_from, cond_both}
 use Rattle.std.proofs.lemmas.Bool.Decides.{nat_tests}
-use Rattle.std.proofs.lemmas.List.{drop_more, take_more, get_or-drop}
-use Rattle.std.specs.List.{slice_index, filter}
+use Rattle.std.proofs.lemmas.List.{drop_more, take_more}
 use Rattle.std.specs.Bool.{⊤}
 use Rattle.olr_spec.specs.Map.{Map, start, end}
-use Rattle.olr_spec.specs.Routes.{IsRoute, LrpRoute}
+use Rattle.olr_spec.specs.Routes.{LrpRoute}
 use Rattle.olr_spec.specs.Points.{stretch, Covered, Candidate, Follow}
-use Rattle.olr_spec.specs.Reference.{legs, kept_points, first_kept, last_kept}
 use Rattle.olr_spec.specs.Joins.{JoinsTo, JoinsLast, Joins}
 use Rattle.olr_spec.specs.Laws.{RoutesJoin}
 use Rattle.olr_spec.proofs.RouteLemmas.{IsRoute-split, prefix_of_unique}
 use Rattle.olr_spec.proofs.AnswerLemmas.{Next-candidate}
-
-pub prefix_of_route : (M : Map) (s v t : ℕ) (xs ys : List ℕ) → LrpRoute M s t (xs ++ ys) → IsRoute M s v xs → IsRoute M v t ys →
-    LrpRoute M s v xs
-prefix_of_route M s v t xs ys r w u = prefix_of_unique M s v t xs ys r w u
-
-pub lrp_route_is_route : (M : Map) (s t : ℕ) (xs : List ℕ) → LrpRoute M s t xs → IsRoute M s t xs
-lrp_route_is_route M s t xs r = r.route
 
 -- ---- parts of a list
 
@@ -71,23 +62,22 @@ alone M ls p q e h = grind (arith, stretch_first, empty_stretch)
 
 -- without its last line, a unique shortest path is the one to the start of this line
 without_last : (M : Map) (s t : ℕ) (xs : List ℕ) (x : ℕ) → LrpRoute M s t (xs ++ x ∷ []) → LrpRoute M s (start M x) xs
-without_last M s t xs x r = grind (arith, IsRoute-split, lrp_route_is_route, prefix_of_route)
+without_last M s t xs x r = grind (arith, IsRoute-split, prefix_of_unique)
 
 pub joins_last : (M : Map) (ls : List ℕ) (p q : ℕ) → Candidate M ls p q → JoinsLast M ls p q
-joins_last M ls p q c =
-    elim (cases_eq q (p + 1)) [
-      | inl e ↦ alone M ls p q e (omega arith)
-      | inr ne ↦
-          let k = q - 1 in
-          let on : k + 1 ≡ q = omega arith in
-          subst (JoinsLast M ls p) on (joins_before M ls p k (omega arith) (omega arith) (elim (cases_eq q (length ls)) [
-            | inl whole ↦ covered_to M ls p q k (omega arith) (omega arith) c.covered
-            | inr within ↦ without_last M (end M (slice_index ls p)) (start M (slice_index ls (k + 1))) (stretch ls (p + 1) k)
-                (slice_index ls k) (coe 0 1 (i. LrpRoute M (end M (slice_index ls p)) (start M (slice_index ls (k + 1)))
-                (stretch_last ls (p + 1) k (omega arith) (omega arith) i))
-                (covered_to M ls p q (k + 1) (omega arith) (omega arith) c.covered))
-          ]))
-    ]
+joins_last M ls p q c = elim (cases_eq q (p + 1)) [
+  | inl e ↦ alone M ls p q e (omega arith)
+  | inr ne ↦
+      let k = q - 1 in
+      let on : k + 1 ≡ q = omega arith in
+      subst (JoinsLast M ls p) on (joins_before M ls p k (omega arith) (omega arith) (elim (cases_eq q (length ls)) [
+        | inl whole ↦ covered_to M ls p q k (omega arith) (omega arith) c.covered
+        | inr within ↦ without_last M (end M (slice_index ls p)) (start M (slice_index ls (k + 1))) (stretch ls (p + 1) k)
+            (slice_index ls k) (coe 0 1 (i. LrpRoute M (end M (slice_index ls p)) (start M (slice_index ls (k + 1)))
+            (stretch_last ls (p + 1) k (omega arith) (omega arith) i))
+            (covered_to M ls p q (k + 1) (omega arith) (omega arith) c.covered))
+      ]))
+]
 
 -- ---- all legs
 
@@ -105,8 +95,7 @@ pub linked_joins : (M : Map) (ls ks : List ℕ) → Linked M ls ks → Joins M l
 linked_joins M ls [] h = tt
 linked_joins M ls (p ∷ []) h = tt
 linked_joins M ls (p ∷ q ∷ []) h = joins_last M ls p q h.0
-linked_joins M ls (p ∷ q ∷ r ∷ ks) h =
-    (joins_to M ls p q (omega arith) h.0, linked_joins M ls (q ∷ r ∷ ks) h.1)
+linked_joins M ls (p ∷ q ∷ r ∷ ks) h = (joins_to M ls p q (omega arith) h.0, linked_joins M ls (q ∷ r ∷ ks) h.1)
 
 abbrev pub between : ℕ → ℕ → ℕ → Bool
 between a b i = nat_le a i && nat_le i b
@@ -142,7 +131,4 @@ kept_linked M ls a b (p ∷ q ∷ ks) l =
         let high : b < q = grind (arith, nat_tests) in none_beyond M ls a b r ks (omega arith) l.1.1
 
 pub routes_join : RoutesJoin
-routes_join M ls js positive negative f e =
-    linked_joins M ls (kept_points (legs M ls) positive negative js)
-    (kept_linked M ls (first_kept (legs M ls) positive js) (last_kept (legs M ls) negative js) (0 ∷ js)
-    (follow_linked M ls 0 js f))
+routes_join M ls js positive negative f e = search (linked_joins, kept_linked, follow_linked)

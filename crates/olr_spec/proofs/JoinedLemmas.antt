@@ -1,7 +1,7 @@
 -- The lines of a path without fault join, and so do those of the extended path.
 use Rattle.std.proofs.Common.{◌≡◌, ◌<◌, ℕ, suc, List, ◌∷◌, ◌++◌, length, None, refl, arith, length-append, ◌==◌, []}
-use Rattle.std.proofs.lemmas.Bool.{eqb-true, cond_both}
-use Rattle.std.specs.Prelude.{IsTrue, Some}
+use Rattle.std.proofs.Common.{eqb-true, IsTrue, Some}
+use Rattle.std.proofs.lemmas.Bool.{cond_both}
 use Rattle.olr_spec.specs.Map.{Map, start, end}
 use Rattle.olr_spec.specs.Routes.{IsRoute}
 use Rattle.olr_spec.specs.Extension.{Path, is_path, Tried, first, last, MayPrecede, MayFollow, extended_path, AreJoined}

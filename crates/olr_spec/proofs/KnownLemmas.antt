@@ -2,15 +2,15 @@
 -- map where they are clear.
 use Rattle.std.proofs.Common.{inr, ◌≡◌, ℕ, ◌+◌, ◌-◌, List, ◌∷◌, ◌++◌, length, ◌<◌, ◌≤◌, sym, ap, ◌∙◌, subst, arith}
 use Rattle.std.proofs.Common.{refl, ◌↔◌, Bool, true, false, IsTrue, None, MatchOption, nat_lt, length-append, []}
-use Rattle.std.proofs.lemmas.List.{drop-append-le, take-append-le, append_assoc, get_or_append_left, get_or-append-add}
-use Rattle.std.proofs.lemmas.List.{length-drop}
+use Rattle.std.proofs.Common.{append_assoc, get_or-append-add, length-drop, slice_index}
+use Rattle.std.proofs.lemmas.List.{drop-append-le, take-append-le, get_or_append_left}
 use Rattle.std.proofs.Math.Seq.{drop-append-add}
-use Rattle.std.specs.List.{slice_index, AllZip}
+use Rattle.std.specs.List.{AllZip}
 use Rattle.std.proofs.lemmas.List.Elements.{All-nil}
 use Rattle.olr_spec.specs.Map.{Map, IsMap, start, end, SameLine}
 use Rattle.olr_spec.specs.Routes.{IsRoute, dm_of, UniqueShortest, LrpRoute}
 use Rattle.olr_spec.specs.Extension.{Path, is_path, extended_path, from_start, taken_start, taken_end, AreJoined}
-use Rattle.olr_spec.specs.Points.{stretch, Covered, Follow}
+use Rattle.olr_spec.specs.Points.{stretch, Covered}
 use Rattle.olr_spec.specs.Encoding.{path_fault}
 use Rattle.olr_spec.specs.Detours.{ChangedLine, AccountsFor, Detour}
 use Rattle.olr_spec.specs.Queries.{IsLastTested, CoverageQuery, query_to, IsQuery, IsClear, KnownQuery, IsKnown}
@@ -138,8 +138,7 @@ module _ (M : Map) (b own a : List ℕ) (joined : AreJoined M ((b ++ own) ++ a))
   to = start M (slice_index ls (length b + e.last))
 
   part_is : (m : ℕ) → e.first ≤ m → m ≤ e.last → stretch ls (i + 1) (length b + m) ≡ stretch own e.first m
-  part_is m h g =
-      ap (λ (n : ℕ). stretch ls n (length b + m)) begins ∙ own_stretch b own a e.first m h (omega arith)
+  part_is m h g = ap (λ (n : ℕ). stretch ls n (length b + m)) begins ∙ own_stretch b own a e.first m h (omega arith)
 
   from_start_of : from ≡ start M (slice_index own e.first)
   from_start_of = grind (arith, next_start, ls, own_line)
@@ -208,10 +207,6 @@ linked_ascend : (M : Map) (ls : List ℕ) (k : ℕ) (js : List ℕ) → Linked M
 linked_ascend M ls k [] l = (omega arith, tt)
 linked_ascend M ls k (j ∷ js) l = (omega arith, (omega arith, (linked_ascend M ls j js l.1).1))
 
-pub querying_ascend : (M : Map) (ls js : List ℕ) → Follow M ls 0 js → Ascend 0 (querying ls (0 ∷ js))
-querying_ascend M ls js f =
-    ascend_filter (λ i. nat_lt (i + 2) (length ls)) 0 (0 ∷ js) (linked_ascend M ls 0 js (follow_linked M ls 0 js f))
-
 -- what holds for the LRPs of one extension and list holds for those of the other, which are the same
 module _ (M : Map) (m : IsMap M) (P : Path) (is : IsTrue (is_path P.lines)) (sound : path_fault M P ≡ None)
     {X : Type 0} (R : List ℕ → ℕ → ℕ → X → Type 0)
@@ -271,7 +266,8 @@ known_holds M P is ks =
       right = found_each At (IsKnown M P.lines) (λ i e k. is_known M b P.lines a joined i e k.begins k.order k.upto
           k.tested.inside k.tested k.query k.covered) (querying ls (0 ∷ p.points)) ks p.holds;
       ascend = found_increasing At (λ e. e.first) (length b) (λ i x k. k.begins) (querying ls (0 ∷ p.points)) ks
-          (querying_ascend M ls p.points p.follow) p.holds;
+          (ascend_filter (λ i. nat_lt (i + 2) (length ls)) 0 (0 ∷ p.points)
+          (linked_ascend M ls 0 p.points (follow_linked M ls 0 p.points p.follow))) p.holds;
     }) (λ r p. rw p (none_known M P.lines))
 
 -- ---- where nothing is given, everything is searched

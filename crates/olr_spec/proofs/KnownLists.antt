@@ -1,9 +1,9 @@
 -- Lists of what some positions have: for each position there is one element or none.
 use Rattle.std.proofs.Common.{inl, inr, ◌≡◌, ℕ, zero, suc, ◌+◌, ◌-◌, List, ◌∷◌, ◌++◌, map, ◌<◌, ◌≤◌, All, refl, sym, ap}
-use Rattle.std.proofs.Common.{◌∙◌, subst, arith, filter, true, Bool, []}
+use Rattle.std.proofs.Common.{◌∙◌, subst, arith, filter, true, Bool, [], ◌↔◌}
 use Rattle.std.proofs.lemmas.Bool.{cond_both}
 use Rattle.std.proofs.lemmas.List.Elements.{All-nil, All-cons}
-use Rattle.std.specs.Prelude.{⊤, ◌↔◌}
+use Rattle.std.specs.Prelude.{⊤}
 use Rattle.std.specs.List.Sorted.{IsStrictlyIncreasing}
 use Rattle.olr_spec.specs.Map.{has}
 use Rattle.olr_spec.specs.Queries.{FoundFor}
@@ -69,8 +69,7 @@ increasing_more x y ys lt up (suc k) h = grind arith
 ascend_increasing : (k : ℕ) (xs : List ℕ) → Ascend k xs → IsStrictlyIncreasing xs
 ascend_increasing k [] a = λ j h. absurd (omega arith)
 ascend_increasing k (x ∷ []) a = λ j h. absurd (omega arith)
-ascend_increasing k (x ∷ y ∷ ys) a =
-    increasing_more x y ys (omega arith) (ascend_increasing (x + 1) (y ∷ ys) a.1)
+ascend_increasing k (x ∷ y ∷ ys) a = increasing_more x y ys (omega arith) (ascend_increasing (x + 1) (y ∷ ys) a.1)
 
 -- elements ascend with their positions
 module _ {X : Type 0} (R : ℕ → X → Type 0) (at : X → ℕ) (lead : ℕ)

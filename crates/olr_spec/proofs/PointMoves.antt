@@ -1,9 +1,8 @@
 -- LRPs, answers and faults are the same on two maps that agree around a path's traversed nodes and on the positions that
 -- are covered from its LRPs.
 use Rattle.std.proofs.Common.{inl, inr, ◌≡◌, ℕ, ◌+◌, ◌-◌, min, Bool, true, false, cond, List, ◌∷◌, length, ◌<◌, ◌≤◌}
-use Rattle.std.proofs.Common.{refl, sym, ap, ◌∙◌, arith, ◌==◌, ◌↔◌, suc, not, Some, nat_lt, []}
-use Rattle.std.proofs.lemmas.Bool.{ltb-true, cond_both}
-use Rattle.std.specs.List.{slice_index}
+use Rattle.std.proofs.Common.{refl, sym, ap, ◌∙◌, arith, ◌==◌, ◌↔◌, suc, not, Some, nat_lt, [], ltb-true, slice_index}
+use Rattle.std.proofs.lemmas.Bool.{cond_both}
 use Rattle.olr_spec.specs.Map.{Map, IsMap, start, end, coord_at, SameLine, SameRound, has}
 use Rattle.olr_spec.specs.Routes.{IsRoute, dm_of, LrpRoute}
 use Rattle.olr_spec.specs.Extension.{Path, passing, last, limit}

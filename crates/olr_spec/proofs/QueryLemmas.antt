@@ -1,10 +1,9 @@
 -- If the routes that an LRP's coverage query tests are the same, since it is clear of changes or two maps agree on the
 -- nodes that it reaches, then the same positions after the LRP are covered on both maps.
 use Rattle.std.proofs.Common.{inl, inr, ◌≡◌, ℕ, ◌+◌, ◌-◌, min, List, ◌++◌, length, take, drop, ◌<◌, ◌≤◌, sym, ap, ◌∙◌}
-use Rattle.std.proofs.Common.{subst, arith, drop-drop, ◌↔◌}
+use Rattle.std.proofs.Common.{subst, arith, drop-drop, ◌↔◌, slice_index}
 use Rattle.std.proofs.lemmas.Bool.{cases_lt}
 use Rattle.std.proofs.Math.Seq.{take-add}
-use Rattle.std.specs.List.{slice_index}
 use Rattle.olr_spec.specs.Map.{Map, start, end, SameLine, SameRound}
 use Rattle.olr_spec.specs.Routes.{IsRoute, dm_of, Reaches, UniqueShortest}
 use Rattle.olr_spec.specs.Extension.{limit}
@@ -139,17 +138,16 @@ module _ (M N : Map) (ls : List ℕ) (same : Each (SameLine M N) ls) (s t : ℕ)
 
   -- the coverage query is one of the other map too
   pub query_stays : IsLastTested N ls i k
-  query_stays =
-      record {
-        after = query.after;
-        inside = query.inside;
-        before = λ m h g. (covered_same m (omega arith)).0 (query.before m h g);
-        needed = elim query.needed [ inl e ↦ inl e | inr n ↦ inr (needed_moves M N ls i k alike n) ];
-        last = elim query.last [
-          | inl bare ↦ inl (λ c. bare ((covered_same k (omega arith)).1 c))
-          | inr all ↦ inr (λ m n. all m (needed_moves N M ls i m (λ p q. sym (alike p q)) n))
-        ];
-      }
+  query_stays = record {
+    after = query.after;
+    inside = query.inside;
+    before = λ m h g. (covered_same m (omega arith)).0 (query.before m h g);
+    needed = elim query.needed [ inl e ↦ inl e | inr n ↦ inr (needed_moves M N ls i k alike n) ];
+    last = elim query.last [
+      | inl bare ↦ inl (λ c. bare ((covered_same k (omega arith)).1 c))
+      | inr all ↦ inr (λ m n. all m (needed_moves N M ls i m (λ p q. sym (alike p q)) n))
+    ];
+  }
 
   -- positions that are near enough
   pub covered_stays : (j : ℕ) → i < j → j ≤ length ls → dm_of M (stretch ls i j) ≤ limit → Covered M ls i j ↔ Covered N ls i j

@@ -1,7 +1,6 @@
 -- Lists of coverage queries: each LRP of the list has one.
 use Rattle.std.proofs.Common.{inl, inr, ◌≡◌, ℕ, ◌+◌, true, List, ◌∷◌, length, ◌<◌, Contains, subst, arith, nat_lt}
-use Rattle.std.proofs.Common.{IsTrue, []}
-use Rattle.std.proofs.lemmas.Bool.{lt-ltb, ltb-true}
+use Rattle.std.proofs.Common.{IsTrue, [], lt-ltb, ltb-true}
 use Rattle.std.specs.List.{AllZip}
 use Rattle.olr_spec.specs.Map.{Map, has}
 use Rattle.olr_spec.specs.Queries.{CoverageQuery, IsQuery, querying}
@@ -23,26 +22,21 @@ module _ {X : Type 0} (R : ℕ → X → Type 0) where
   pub zip_right : (is : List ℕ) (xs : List X) → AllZip R is xs → (i : ℕ) → has is i ≡ true → (x : X) × Contains xs x × R i x
   zip_right [] xs z i h = absurd cc
   zip_right (j ∷ is) [] z i h = absurd z
-  zip_right (j ∷ is) (x ∷ xs) z i h =
-      elim (has_cases j is i h) [
-        | inl e ↦ (x, Contains-here x xs, coe 0 1 (i. R (e i) x) z.0)
-        | inr on ↦ let r = zip_right is xs z.1 i on in (r.0, Contains-later x r.0 xs r.1, r.2)
-      ]
+  zip_right (j ∷ is) (x ∷ xs) z i h = elim (has_cases j is i h) [
+    | inl e ↦ (x, Contains-here x xs, coe 0 1 (i. R (e i) x) z.0)
+    | inr on ↦ let r = zip_right is xs z.1 i on in (r.0, Contains-later x r.0 xs r.1, r.2)
+  ]
 
   pub zip_left : (is : List ℕ) (xs : List X) → AllZip R is xs → (x : X) → Contains xs x → (i : ℕ) × IsTrue (has is i) × R i x
   zip_left [] [] z x c = absurd (omega arith)
   zip_left [] (y ∷ xs) z x c = absurd z
   zip_left (j ∷ is) [] z x c = absurd z
-  zip_left (j ∷ is) (y ∷ xs) z x c =
-      elim (Contains-cases y x xs c) [
-        | inl e ↦ (j, has_here j is, subst (R j) e z.0)
-        | inr on ↦ let r = zip_left is xs z.1 x on in (r.0, has_there j is r.0 r.1, r.2)
-      ]
+  zip_left (j ∷ is) (y ∷ xs) z x c = elim (Contains-cases y x xs c) [
+    | inl e ↦ (j, has_here j is, subst (R j) e z.0)
+    | inr on ↦ let r = zip_left is xs z.1 x on in (r.0, has_there j is r.0 r.1, r.2)
+  ]
 
 -- ---- the LRPs with a coverage query
-
-pub queries_there : (ls is : List ℕ) (i : ℕ) → has is i ≡ true → i + 2 < length ls → has (querying ls is) i ≡ true
-queries_there ls is i h g = filter_has (λ y. nat_lt (y + 2) (length ls)) is i h (lt-ltb (i + 2) (length ls) g)
 
 pub queries_here : (ls is : List ℕ) (i : ℕ) → has (querying ls is) i ≡ true → IsTrue (has is i) × (i + 2 < length ls)
 queries_here ls is i h =
@@ -51,7 +45,8 @@ queries_here ls is i h =
 pub query_for : (M : Map) (ls is : List ℕ) (queries : List CoverageQuery) →
     AllZip (IsQuery M ls) (querying ls is) queries → (i : ℕ)
     → has is i ≡ true → i + 2 < length ls → (l : CoverageQuery) × Contains queries l × IsQuery M ls i l
-query_for M ls is queries z i h g = zip_right (IsQuery M ls) (querying ls is) queries z i (queries_there ls is i h g)
+query_for M ls is queries z i h g = zip_right (IsQuery M ls) (querying ls is) queries z i
+    (filter_has (λ y. nat_lt (y + 2) (length ls)) is i h (lt-ltb (i + 2) (length ls) g))
 
 pub query_from : (M : Map) (ls is : List ℕ) (queries : List CoverageQuery) →
     AllZip (IsQuery M ls) (querying ls is) queries → (l : CoverageQuery) → Contains queries l

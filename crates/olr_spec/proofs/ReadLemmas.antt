@@ -1,13 +1,11 @@
 -- Bytes have no fault exactly if some reference encodes as them.
 use Rattle.std.proofs.Common.{inl, inr, ◌≡◌, ℕ, zero, suc, ◌+◌, ◌-◌, ◌*◌, ◌/◌, ◌%◌, ◌<◌, ◌≤◌, ℤ, pos, negsuc, ◌≤ℤ◌}
 use Rattle.std.proofs.Common.{Bool, true, false, cond, not, ◌||◌, List, ◌∷◌, ◌++◌, length, Option, Some, None, IfSome}
-use Rattle.std.proofs.Common.{IsTrue, refl, sym, ap, ◌∙◌, arith, nat_lt, nat_le, length-append, []}
-use Rattle.std.proofs.lemmas.Bool.{cases_lt, and_from, or_parts, eqb-true, eq-eqb, leb-false, le-ltb, lt-leb, ltb-false}
-use Rattle.std.proofs.lemmas.Bool.{not-false}
+use Rattle.std.proofs.Common.{IsTrue, refl, sym, ap, ◌∙◌, arith, nat_lt, nat_le, length-append, [], eqb-true, eq-eqb}
+use Rattle.std.proofs.Common.{leb-false, le-ltb, ltb-false, get_or-append-add, int_le, All, flat_map, slice_index}
+use Rattle.std.proofs.lemmas.Bool.{cases_lt, and_from, or_parts, lt-leb, not-false}
 use Rattle.std.proofs.lemmas.Int.{ints}
-use Rattle.std.proofs.lemmas.List.{get_or-append-add}
-use Rattle.std.specs.Int.RustNames.{int_le}
-use Rattle.std.specs.List.{All, AllByRecursion, flat_map, list_any, slice_index}
+use Rattle.std.specs.List.{AllByRecursion, list_any}
 use Rattle.olr_spec.specs.Coordinates.{within, fits16}
 use Rattle.olr_spec.specs.Reference.{Attrs, First, Middle, Last, Reference}
 use Rattle.olr_spec.specs.Bytes.{AreAttrs, IsFirst, IsMiddle, IsLast, IsReference, fits24, residue, signed16, signed24}
@@ -33,11 +31,10 @@ bytes_before (x ∷ xs) ys h = (h.0, bytes_before xs ys h.1)
 
 -- a number below twice suc h, as the two's complement of a whole number
 signed_of : (h v : ℕ) → v < suc h + suc h → (z : ℤ) × (negsuc h ≤ℤ z) × (z ≤ℤ pos h) × (residue (suc h + suc h) z ≡ v)
-signed_of h v lt =
-    elim (cases_lt v (suc h)) [
-      | inl low ↦ (pos v, omega (arith, ints), omega (arith, ints), refl)
-      | inr high ↦ (negsuc (suc (h + h) - v), omega (arith, ints), omega (arith, ints), omega arith)
-    ]
+signed_of h v lt = elim (cases_lt v (suc h)) [
+  | inl low ↦ (pos v, omega (arith, ints), omega (arith, ints), refl)
+  | inr high ↦ (negsuc (suc (h + h) - v), omega (arith, ints), omega (arith, ints), omega arith)
+]
 
 in_range : (a b z : ℤ) → a ≤ℤ z → z ≤ℤ b → IsTrue (within a b z)
 in_range a b z h k = and_from (int_le a z) (int_le z b) (le_test a z h) (le_test z b k)
@@ -221,16 +218,12 @@ read_bytes (s ∷ a ∷ b ∷ c ∷ d ∷ e ∷ f ∷ g ∷ k ∷ l ∷ t) w p =
           middle = rest.are_middle;
           last = rest.is_last;
           pos = rest.is_positive;
-          neg =
-              rest.is_negative;
+          neg = rest.is_negative;
         },
         λ i. p.status i ∷ sym first.2 i ++ rest.encoded i,
       ),
     )
 read_bytes _ w p = absurd (omega arith)
-
-pub read_encoded : (b : List ℕ) → All (λ x. x < 256) b → v3_fault b ≡ None → (r : Reference) × HasBytes r b
-read_encoded b h e = read_bytes b (are_bytes b h) (passes b e)
 
 -- ---- bytes of a reference
 
@@ -282,4 +275,5 @@ encoded_passes r h =
     (cond ((low i || clear i) || top i) (Some Reserved) None)))
 
 pub no_fault_where_encoded : NoFault
-no_fault_where_encoded b h = (read_encoded b h, λ p. ap v3_fault p.1.1 ∙ encoded_passes p.0 p.1.0)
+no_fault_where_encoded b h =
+    ((λ e. read_bytes b (are_bytes b h) (passes b e)), (λ p. ap v3_fault p.1.1 ∙ encoded_passes p.0 p.1.0))

@@ -1,25 +1,25 @@
 -- Every receiver recovers the legs between the remaining LRPs, and what the lengths and nodes of these say.
-use Rattle.std.proofs.Common.{◌≡◌, ℕ, suc, ◌+◌, ◌-◌, max, true, List, ◌∷◌, ◌++◌, length, take, drop, map, ◌<◌, ℤ, ◌≤◌}
-use Rattle.std.proofs.Common.{◌↔◌, Some, None, IsTrue, refl, sym, ap, ◌∙◌, subst, arith, slice_get, take-add, drop-drop}
-use Rattle.std.proofs.Common.{inl, inr, zero, Bool, ◌||◌, pos, nat_lt, ◌==◌, Option, unwrap_or, cond, []}
+use Rattle.std.proofs.Common.{◌≡◌, ℕ, suc, ◌+◌, ◌-◌, max, true, List, ◌∷◌, ◌++◌, length, map, ◌<◌, ℤ, ◌≤◌, ◌↔◌, Some}
+use Rattle.std.proofs.Common.{None, IsTrue, refl, sym, ap, ◌∙◌, subst, arith, slice_get, inl, inr, zero, Bool, pos}
+use Rattle.std.proofs.Common.{Option, unwrap_or, cond, [], nat_lt, ◌==◌, ◌||◌, option_map, slice_index, fold, lt-ltb}
+use Rattle.std.proofs.Common.{le-ltb}
 use Rattle.std.specs.Bool.{⊤}
-use Rattle.std.specs.Option.{option_map}
-use Rattle.std.specs.List.{slice_index, concat, fold, list_all, AllZip}
+use Rattle.std.specs.List.{concat, AllZip}
 use Rattle.std.proofs.lemmas.List.{get_or-map}
-use Rattle.std.proofs.lemmas.Bool.{cases_lt, or_cases, or_left, or_right, lt-ltb, le-ltb, and_parts, and_from}
+use Rattle.std.proofs.lemmas.Bool.{cases_lt, or_cases, or_left, or_right, and_parts, and_from}
 use Rattle.olr_spec.specs.Map.{Map, IsMap, coord_at, start, end}
 use Rattle.olr_spec.specs.Extension.{Path, is_path, none_twice, extended_path, first, last, AreJoined}
 use Rattle.olr_spec.specs.Points.{stretch, OfPath, node_at}
-use Rattle.olr_spec.specs.Bearings.{Leg, bearing_out, bearing_back}
+use Rattle.olr_spec.specs.Bearings.{Leg}
 use Rattle.olr_spec.specs.Reference.{Reference, leg, legs, leg_at, no_leg, attrs, first_kept, last_kept, kept_points}
 use Rattle.olr_spec.specs.Reference.{from_front, to_back, Middle, middle_points, last_two, reference_by_kept}
-use Rattle.olr_spec.specs.Reference.{reference_by, Last, last_point}
+use Rattle.olr_spec.specs.Reference.{last_point, dm_between, offset}
 use Rattle.olr_spec.specs.Encoding.{Points, path_fault, Encoding}
 use Rattle.olr_spec.specs.Receiver.{Side, Outgoing, Incoming, lrp_at, last_number, last_lrp, decoded_coord, attributes}
 use Rattle.olr_spec.specs.Receiver.{Receiver, Within, RecoversTo, RecoversLast, RecoversFrom, Recovers, candidates}
-use Rattle.olr_spec.specs.Receiver.{is_nearest, has_no_twin, node_on, coordinate_on, Measure}
+use Rattle.olr_spec.specs.Receiver.{is_nearest, has_no_twin, coordinate_on, Measure, node_on}
 use Rattle.olr_spec.specs.Recovery.{line_by, IsLineAt, Distinct, stretches, IsStretches, IsLeft, IsCut, IsClose, IsStep}
-use Rattle.olr_spec.specs.Recovery.{IsWeighted, is_spaced, are_spaced}
+use Rattle.olr_spec.specs.Recovery.{IsWeighted, are_spaced, is_spaced}
 use Rattle.olr_spec.specs.Routes.{dm_of}
 use Rattle.olr_spec.specs.Decoded.{IsNear}
 use Rattle.olr_spec.specs.Laws.{Recovered, StretchesJoin, Offsets, Distances, Nearest}
@@ -28,15 +28,15 @@ use Rattle.olr_spec.proofs.ListLemmas.{Each, has_index, has_last, last_index, Kn
 use Rattle.olr_spec.proofs.AnswerLemmas.{path_also, path_at}
 use Rattle.olr_spec.proofs.JoinLemmas.{Linked, follow_linked, kept_linked, joins_to, joins_last, empty_stretch}
 use Rattle.olr_spec.proofs.JoinLemmas.{stretch_first}
-use Rattle.olr_spec.proofs.KeptLemmas.{two_kept}
 use Rattle.olr_spec.proofs.FieldLemmas.{range_legs, linked_above, dm_same, position_is, last_two_linked}
-use Rattle.olr_spec.proofs.FitLemmas.{kept_ends, extended_sound, answered, by_answer}
-use Rattle.olr_spec.proofs.DecodedLemmas.{middle_count, two_of, answer_decodes, got_index}
+use Rattle.olr_spec.proofs.FitLemmas.{extended_sound, by_answer}
+use Rattle.olr_spec.proofs.DecodedLemmas.{answer_decodes, got_index, Back, Form, Front, Kept, form}
 use Rattle.olr_spec.proofs.CandidateLemmas.{Own, takes_own, offset_close, nearer}
 use Rattle.olr_spec.proofs.RecoverLemmas.{within_greatest, recovers_to, recovers_last, extended_once, once_apart}
 use Rattle.olr_spec.proofs.RouteLemmas.{positive}
 use Rattle.olr_spec.proofs.WayLemmas.{next_start}
 use Rattle.olr_spec.proofs.JoinedLemmas.{extended_joined}
+use Rattle.olr_spec.proofs.QueryLemmas.{stretch_parts}
 
 -- ---- one LRP
 
@@ -58,28 +58,12 @@ module _ (R : Receiver) (M : Map) (m : IsMap M) (ls : List ℕ) (known : Each (K
 
   own_out : (r : Reference) (k i j : ℕ) → i < length ls → Stands R M Outgoing (decoded_coord r k) (slice_index ls i) →
       Own R M (lrp_at r k (attrs (legs M ls) i j)) (slice_index ls i)
-  own_out r k i j lt s =
-      record {
-        known = known (slice_index ls i) (has_index ls i lt);
-        frc = ap (λ (g : Leg). g.line.frc) (leg_is i lt);
-        fow = ap (λ (g : Leg). g.line.fow) (leg_is i lt);
-        bearing = ap bearing_out (leg_is i lt);
-        nearest = s.nearest;
-        alone = s.alone;
-      }
+  own_out r k i j lt s = grind (arith, has_index, leg_is)
 
   own_in : (r : Reference) (h i : ℕ) → i - 1 < length ls → r.last ≡ fields.last_point (legs M ls) h i →
       Stands R M Incoming (decoded_coord r (last_number r)) (slice_index ls (i - 1)) →
       Own R M (last_lrp r) (slice_index ls (i - 1))
-  own_in r h i lt is s =
-      record {
-        known = known (slice_index ls (i - 1)) (has_index ls (i - 1) lt);
-        frc = ap (λ (l : fields.Last). l.frc) is ∙ ap (λ (g : Leg). g.line.frc) (leg_is (i - 1) lt);
-        fow = ap (λ (l : fields.Last). l.fow) is ∙ ap (λ (g : Leg). g.line.fow) (leg_is (i - 1) lt);
-        bearing = ap (λ (l : fields.Last). l.bearing) is ∙ ap bearing_back (leg_is (i - 1) lt);
-        nearest = s.nearest;
-        alone = s.alone;
-      }
+  own_in r h i lt is s = grind (arith, has_index, leg_is)
 
   within_stretch : (i j : ℕ) → Within M (attrs (legs M ls) i j).lfrc (stretch ls i j)
   within_stretch i j =
@@ -95,39 +79,27 @@ module _ (R : Receiver) (M : Map) (m : IsMap M) (ls : List ℕ) (known : Each (K
       (attrs (legs M ls) h i ∷ map (λ (m : Middle). m.attrs) (middle_points (legs M ls) h i js)) ws
       ↔ (ws ≡ stretches ls (h ∷ i ∷ js))
   from_point r k h i [] l is o ws =
-      let x = slice_index ls h in
       let y = slice_index ls (i - 1) in
       let c = (attrs (legs M ls) h i).lfrc in
-      let own = own_in r h i (omega arith) is o in
-      let apart : h + 1 < i → slice_index ls h ≡ slice_index ls (i - 1) → ⊥ =
-      λ far. once_apart ls h (i - 1) once (omega arith) (omega arith) in
-      let route = recovers_last M ls c h i l.0.after l.0.upto apart (within_stretch h i) (joins_last M ls h i l.0) in (
-        (λ g.
-            let yes = (takes_own R M (last_lrp r) y own g.0).0 g.2 in
-            g.4 ∙ ap (λ (v : List ℕ). v ∷ []) ((route g.1).0 (coe 0 1 (i. RecoversLast M c x (yes i) g.1) g.3))),
-        (λ e. (y, stretch ls h i, (takes_own R M (last_lrp r) y own y).1 refl, (route (stretch ls h i)).1 refl, e)),
+      let takes = takes_own R M (last_lrp r) y (own_in r h i (omega arith) is o) in
+      let route = recovers_last M ls c h i l.0.after l.0.upto
+      (λ far. once_apart ls h (i - 1) once (omega arith) (omega arith)) (within_stretch h i) (joins_last M ls h i l.0) in (
+        (λ g. g.4 ∙ ap (λ (v : List ℕ). v ∷ [])
+            ((route g.1).0 (coe 0 1 (n. RecoversLast M c (slice_index ls h) ((takes g.0).0 g.2 n) g.1) g.3))),
+        (λ e. (y, stretch ls h i, (takes y).1 refl, (route (stretch ls h i)).1 refl, e)),
       )
   from_point r k h i (j ∷ js) l is o ws =
       let y = slice_index ls i in
       let c = (attrs (legs M ls) h i).lfrc in
-      let t = lrp_at r (suc k) (attrs (legs M ls) i j) in
-      let own = own_out r (suc k) i j (omega arith) o.0 in
+      let takes = takes_own R M (lrp_at r (suc k) (attrs (legs M ls) i j)) y (own_out r (suc k) i j (omega arith) o.0) in
       let route = recovers_to M ls c h i (within_stretch h i) (joins_to M ls h i (omega arith) l.0) in
       let rest = from_point r (suc k) i j js l.1 is o.1 in
       let later = attrs (legs M ls) i j ∷ map (λ (m : Middle). m.attrs) (middle_points (legs M ls) i j js) in (
         (λ g.
-            let yes = (takes_own R M t y own g.0).0 g.3 in
+            let yes = (takes g.0).0 g.3 in
             let w : g.1 ≡ stretch ls h i = (route g.1).0 (coe 0 1 (i. RecoversTo M c (slice_index ls h) (yes i) g.1) g.4) in
             g.5 ∙ (λ n. w n ∷ (rest g.2).0 (coe 0 1 (i. RecoversFrom R M r (suc k) (yes i) later g.2) g.6) n)),
-        (λ e. (
-          y,
-          stretch ls h i,
-          stretches ls (i ∷ j ∷ js),
-          (takes_own R M t y own y).1 refl,
-          (route (stretch ls h i)).1 refl,
-          e,
-          (rest (stretches ls (i ∷ j ∷ js))).1 refl,
-        )),
+        (λ e. (y, stretch ls h i, _, (takes y).1 refl, (route (stretch ls h i)).1 refl, e, (rest _).1 refl)),
       )
 
   -- from the first LRP on
@@ -137,11 +109,10 @@ module _ (R : Receiver) (M : Map) (m : IsMap M) (ls : List ℕ) (known : Each (K
   recovers_kept p q h i js l o ws =
       let r = reference_by_kept (legs M ls) p q h i js in
       let x = slice_index ls h in
-      let t = lrp_at r 0 (attrs (legs M ls) h i) in
-      let own = own_out r 0 h i (omega arith) o.0 in
+      let takes = takes_own R M (lrp_at r 0 (attrs (legs M ls) h i)) x (own_out r 0 h i (omega arith) o.0) in
       let rest = from_point r 0 h i js l refl o.1 ws in (
-        (λ g. rest.0 (subst (λ (z : ℕ). RecoversFrom R M r 0 z (attributes r) ws) ((takes_own R M t x own g.0).0 g.1) g.2)),
-        (λ e. (x, (takes_own R M t x own x).1 refl, rest.1 e)),
+        (λ g. rest.0 (subst (λ (z : ℕ). RecoversFrom R M r 0 z (attributes r) ws) ((takes g.0).0 g.1) g.2)),
+        (λ e. (x, (takes x).1 refl, rest.1 e)),
       )
 
 -- ---- legs
@@ -163,240 +134,167 @@ module _ (M : Map) (m : IsMap M) (ls : List ℕ) (known : Each (Known M) ls) whe
       let same = dm_same M m ls known h i in
       (record { low = omega arith; high = omega arith }, steps_of i j js)
 
-  front_cut : (p q h i : ℕ) (js : List ℕ) → Linked M ls (h ∷ i ∷ js) → (n c : ℕ) → 0 < n →
-      IsCut n (first (map (dm_of M) (stretches ls (h ∷ i ∷ js)))) (reference_by_kept (legs M ls) p q h i js).pos c →
-      IsClose n (first (map (dm_of M) (stretches ls (h ∷ i ∷ js)))) p c
-  front_cut p q h i js l n c some k = grind (arith, offset_close, h, i, some_length, dm_same)
+  -- what remains of the offsets, front and back, is near to what their bytes cut off from the first leg and the last
+  abbrev Cuts : ℕ → List (List ℕ) → Reference → ℕ → ℕ → Type 0
+  Cuts n ws r front back =
+      ((c : ℕ) → IsCut n (first (map (dm_of M) ws)) r.pos c → IsClose n (first (map (dm_of M) ws)) front c)
+      × ((c : ℕ) → IsCut n (last (map (dm_of M) ws)) r.neg c → IsClose n (last (map (dm_of M) ws)) back c)
 
-  back_cut : (p q h i : ℕ) (js : List ℕ) → Linked M ls (h ∷ i ∷ js) → (n c : ℕ) → 0 < n →
-      IsCut n (last (map (dm_of M) (stretches ls (h ∷ i ∷ js)))) (reference_by_kept (legs M ls) p q h i js).neg c →
-      IsClose n (last (map (dm_of M) (stretches ls (h ∷ i ∷ js)))) q c
-  back_cut p q h i js l n c some k =
+  cut_close : (left a b n : ℕ) → a < b → a < length ls → 0 < n → (c : ℕ) →
+      IsCut n (dm_of M (stretch ls a b)) (offset left (dm_between (legs M ls) a b)) c →
+      IsClose n (dm_of M (stretch ls a b)) left c
+  cut_close left a b n lt h some c =
+      rw (dm_same M m ls known a b) (offset_close n (dm_of M (stretch ls a b)) left c some (some_length a b lt h))
+
+  cuts_close : (p q h i : ℕ) (js : List ℕ) → Linked M ls (h ∷ i ∷ js) → (n : ℕ) → 0 < n →
+      Cuts n (stretches ls (h ∷ i ∷ js)) (reference_by_kept (legs M ls) p q h i js) p q
+  cuts_close p q h i js l n some =
       let two = last_two h i js in
       let d = last_two_linked M ls h i js l in
-      let long = last_length h i js in
-      let size = dm_of M (stretch ls two.0 two.1) in
-      coe 1 0 (j. IsClose n (long j) q c)
-      (offset_close n size q c some (some_length two.0 two.1 d.after (omega arith))
-      (coe 0 1 (j. IsCut n (long j) (fields.offset q (dm_same M m ls known two.0 two.1 j)) c) k))
+      let front = cut_close p h i n l.0.after (omega arith) some in
+      let back = cut_close q two.0 two.1 n d.after (omega arith) some in
+      (front, rw (last_length h i js) back)
 
 -- ---- positions
 
-linked_bounds : (M : Map) (ls ks : List ℕ) → Linked M ls ks → (k : ℕ) → k + 1 < length ks →
-    (slice_index ks k < slice_index ks (k + 1)) × (slice_index ks (k + 1) ≤ length ls)
+linked_bounds : (M : Map) (ls ks : List ℕ) → Linked M ls ks → (k : ℕ) → suc k < length ks →
+    (slice_index ks k < slice_index ks (suc k)) × (slice_index ks (suc k) ≤ length ls)
 linked_bounds M ls [] l k h = absurd (omega arith)
 linked_bounds M ls (p ∷ []) l k h = absurd (omega arith)
 linked_bounds M ls (p ∷ q ∷ ks) l zero h = (l.0.after, l.0.upto)
-linked_bounds M ls (p ∷ q ∷ ks) l (suc k) h =
-    let next : slice_index (p ∷ q ∷ ks) (suc k + 1) ≡ slice_index (q ∷ ks) (k + 1) =
-    let step : suc k + 1 ≡ suc (k + 1) = omega arith in
-    ap (slice_index (p ∷ q ∷ ks)) step in
-    let rest = linked_bounds M ls (q ∷ ks) l.1 k (omega arith) in
-    (omega (arith, next), omega (arith, next))
+linked_bounds M ls (p ∷ q ∷ ks) l (suc k) h = linked_bounds M ls (q ∷ ks) l.1 k (omega arith)
 
 at_start : (M : Map) (ls : List ℕ) (i : ℕ) → i < length ls → node_at M ls i ≡ start M (slice_index ls i)
-at_start M ls i h =
-    ap (λ (b : Bool). cond b (start M (slice_index ls i)) (end M (last ls))) (lt-ltb i (length ls) h)
+at_start M ls i h = ap (λ (b : Bool). cond b (start M (slice_index ls i)) (end M (last ls))) (lt-ltb i (length ls) h)
 
 at_end : (M : Map) → IsMap M → (ls : List ℕ) → Each (Known M) ls → AreJoined M ls → (i : ℕ) →
     0 < i → i ≤ length ls → node_at M ls i ≡ end M (slice_index ls (i - 1))
-at_end M m ls known joined i some up =
-    elim (cases_lt i (length ls)) [
-      | inl lt ↦
-          let on : i - 1 + 1 ≡ i = omega arith in
-          at_start M ls i lt ∙ ap (λ (k : ℕ). start M (slice_index ls k)) (sym on)
-          ∙ sym (next_start M (start M (first ls)) (end M (last ls)) ls (i - 1) joined (omega arith))
-      | inr ge ↦
-          let whole : length ls ≡ i = omega arith in
-          ap (λ (b : Bool). cond b (start M (slice_index ls i)) (end M (last ls))) (le-ltb i (length ls) ge)
-          ∙ ap (end M) (last_index ls (omega arith)) ∙ ap (λ (k : ℕ). end M (slice_index ls (k - 1))) whole
-    ]
-
--- a weaker test passes for all candidates too
-weaker : (f g : ℕ × Leg → Bool) → ((c : ℕ × Leg) → f c ≡ true → g c ≡ true) → (cs : List (ℕ × Leg)) →
-    list_all f cs ≡ true → list_all g cs ≡ true
-weaker f g h [] a = refl
-weaker f g h (c ∷ cs) a =
-    let parts = and_parts (f c) (list_all f cs) a in
-    and_from (g c) (list_all g cs) (h c parts.0) (weaker f g h cs parts.1)
+at_end M m ls known joined i some up = elim (cases_lt i (length ls)) [
+  | inl lt ↦
+      let on : i - 1 + 1 ≡ i = omega arith in
+      at_start M ls i lt ∙ ap (λ (k : ℕ). start M (slice_index ls k)) (sym on)
+      ∙ sym (next_start M (start M (first ls)) (end M (last ls)) ls (i - 1) joined (omega arith))
+  | inr ge ↦
+      let whole : length ls ≡ i = omega arith in
+      ap (λ (b : Bool). cond b (start M (slice_index ls i)) (end M (last ls))) (le-ltb i (length ls) ge)
+      ∙ ap (end M) (last_index ls (omega arith)) ∙ ap (λ (k : ℕ). end M (slice_index ls (k - 1))) whole
+]
 
 spaced_nearest : (n d scale : ℕ) (far : Measure) → IsWeighted n d scale far → (k : ℕ) (p : ℤ × ℤ) (s : Side) (g : Leg) →
     IsNear k p (coordinate_on s g) → (cs : List (ℕ × Leg)) → IsTrue (are_spaced n d k s g cs) → IsTrue (is_nearest far s p g cs)
-spaced_nearest n d scale far w k p s g near cs a =
-    weaker
-    (λ c. node_on s c.1 == node_on s g || is_spaced n d k (coordinate_on s g) (coordinate_on s c.1))
-    (λ c. node_on s c.1 == node_on s g || nat_lt (far p (coordinate_on s g)) (far p (coordinate_on s c.1)))
-    (λ c h. elim (or_cases (node_on s c.1 == node_on s g) (is_spaced n d k (coordinate_on s g) (coordinate_on s c.1))
-    h) [
+spaced_nearest n d scale far w k p s g near [] a = refl
+spaced_nearest n d scale far w k p s g near (c ∷ cs) a =
+    let here = coordinate_on s g in
+    let there = coordinate_on s c.1 in
+    let parts = and_parts (node_on s c.1 == node_on s g || is_spaced n d k here there) (are_spaced n d k s g cs) a in
+    and_from (node_on s c.1 == node_on s g || nat_lt (far p here) (far p there)) (is_nearest far s p g cs)
+    (elim (or_cases (node_on s c.1 == node_on s g) (is_spaced n d k here there) parts.0) [
       | inl e ↦ or_left _ _ e
-      | inr f ↦ or_right _ _
-          (lt-ltb (far p (coordinate_on s g)) (far p (coordinate_on s c.1))
-          (nearer n d scale far w k p (coordinate_on s g) (coordinate_on s c.1) near f))
-    ]) cs a
+      | inr f ↦ or_right _ _ (lt-ltb (far p here) (far p there) (nearer n d scale far w k p here there near f))
+    ]) (spaced_nearest n d scale far w k p s g near cs parts.1)
 
 -- ---- an answer
-
--- at least two LRPs remain, h, i and js, and the reference is that of these
-pub record Form (M : Map) (ls ks : List ℕ) (p q : ℕ) (r : Reference) : Type 0 where
-  pub h : ℕ
-  pub i : ℕ
-  pub js : List ℕ
-  pub kept : ks ≡ h ∷ i ∷ js
-  pub linked : Linked M ls (h ∷ i ∷ js)
-  pub fields_are : r ≡ reference_by_kept (legs M ls) p q h i js
-  pub size : last_number r + 1 ≡ length ks
 
 -- a property of the path's extension and LRPs holds for those of the encoding, since they are unique
 module _ (M : Map) (m : IsMap M) (P : Path) (is : IsTrue (is_path P.lines)) (none : path_fault M P ≡ None)
     (r : Reference) (e : Encoding M P (Points r)) where
-  pub same_path : (Q : Path → List ℕ → Type 0) → OfPath M P (λ E _ _ js. Q E js) →
+  same_path : (Q : Path → List ℕ → Type 0) → OfPath M P (λ E _ _ js. Q E js) →
       Q (extended_path M P e.before e.after) e.points
   same_path Q p = path_at m is none e p
 
-  -- the extended path, its LRPs, and those that remain
-  abbrev pub Lines : List ℕ
+  abbrev Lines : List ℕ
   Lines = (extended_path M P e.before e.after).lines
 
-  abbrev pub Kept : List ℕ
-  Kept =
-      kept_points (legs M Lines) (extended_path M P e.before e.after).pos (extended_path M P e.before e.after).neg
-      e.points
-
-  line_at_point : (s : Side) (k p : ℕ) → slice_get Kept k ≡ Some p → IsLineAt M P s k (line_by s Lines p)
-  line_at_point s k p at = path_also e (ap (option_map (line_by s Lines)) at)
-
-  module _ (R : Receiver) (d : Distinct R.far M P r) where
-    owns_from : (k : ℕ) (ks : List ℕ) → ((n : ℕ) → slice_get Kept (k + n) ≡ slice_get ks n) →
-        k + length ks ≡ last_number r + 1 → Owns R M Lines r k ks
-    owns_from k [] at size = tt
-    owns_from k (h ∷ []) at size =
-        let on : k + 0 ≡ last_number r = omega arith in
-        let here = line_at_point Incoming (last_number r) h (ap (slice_get Kept) (sym on) ∙ at 0) in
-        record { nearest = d.incoming.nearest _ here; alone = d.incoming.alone _ here }
-    owns_from k (h ∷ i ∷ js) at size =
-        let on : k + 0 ≡ k = omega arith in
-        let here = line_at_point Outgoing k h (ap (slice_get Kept) (sym on) ∙ at 0) in
-        let own = d.outgoing k (omega arith) in (
-          record { nearest = own.nearest _ here; alone = own.alone _ here },
-          owns_from (suc k) (i ∷ js)
-              (λ n. let step : suc k + n ≡ k + suc n = omega arith in ap (slice_get Kept) step ∙ at (suc n))
-              (omega arith),
-        )
-
-  -- what remains of the offsets
-  abbrev pub Front : ℕ
-  Front =
-      (extended_path M P e.before e.after).pos
-      - from_front (legs M Lines) (first_kept (legs M Lines) (extended_path M P e.before e.after).pos e.points)
-
-  abbrev pub Back : ℕ
-  Back =
-      (extended_path M P e.before e.after).neg
-      - to_back (legs M Lines) (last_kept (legs M Lines) (extended_path M P e.before e.after).neg e.points)
-
-  pub form : Form M Lines Kept Front Back r
-  form =
-      let E = extended_path M P e.before e.after in
-      let gs = legs M Lines in
-      let a = first_kept gs E.pos e.points in
-      let b = last_kept gs E.neg e.points in
-      let p = E.pos - from_front gs a in
-      let q = E.neg - to_back gs b in
-      let s = extended_sound M P is none e.before e.after e.tried in
-      let ans = answered M E e.points r e.holds in
-      let ends = kept_ends M Lines e.points E.pos E.neg e.follow ans.0 s.long in
-      let t = two_of Kept a b ends.0 ends.1 (two_kept M Lines e.points E.pos E.neg e.follow ans.0 s.long) in
-      let fields_are : r ≡ reference_by_kept gs p q t.0 t.1 t.2 = ans.1 ∙ ap (reference_by gs p q) t.3 in
-      let count = middle_count gs t.0 t.1 t.2 in
-      let length_is = ap (λ (ks : List ℕ). length ks) t.3 in
-      let place_is = ap (λ (v : Reference). last_number v + 1) fields_are in
-      record {
-        h = t.0;
-        i = t.1;
-        js = t.2;
-        kept = t.3;
-        linked = subst (Linked M Lines) t.3
-            (kept_linked M Lines a b (0 ∷ e.points) (follow_linked M Lines 0 e.points e.follow));
-        fields_are = fields_are;
-        size = omega arith;
-      }
-
-  recovered_by : (R : Receiver) → Distinct R.far M P r → (ws : List (List ℕ)) → Recovers R M r ws ↔ (ws ≡ stretches Lines Kept)
-  recovered_by R d ws =
-      let f = form in
-      let s = extended_sound M P is none e.before e.after e.tried in
-      let once = extended_once M P e.before e.after is e.tried in
-      let all = owns_from R d 0 Kept (λ n. let z : 0 + n ≡ n = omega arith in ap (slice_get Kept) z) (omega arith) in
-      let by_kept = recovers_kept R M m Lines s.known once Front Back f.h f.i f.js f.linked
-      (coe 0 1 (i. Owns R M Lines (f.fields_are i) 0 (f.kept i)) all) ws in
-      coe 1 0 (i. Recovers R M (f.fields_are i) ws ↔ (ws ≡ stretches Lines (f.kept i))) by_kept
-
-  recovered_of : (R : Receiver) → Distinct R.far M P r → (ws : List (List ℕ)) → Recovers R M r ws ↔ IsStretches M P ws
-  recovered_of R d ws =
-      let by = recovered_by R d ws in (
-        (λ g. path_also e (by.0 g)),
-        (λ p. by.1 (same_path (λ E js. ws ≡ stretches E.lines (kept_points (legs M E.lines) E.pos E.neg js)) p)),
-      )
+  abbrev Points_kept : List ℕ
+  Points_kept = Kept M P is none r e
 
   known_lines : Each (Known M) Lines
   known_lines = (extended_sound M P is none e.before e.after e.tried).known
 
-  stretches_are : (ws : List (List ℕ)) → IsStretches M P ws → ws ≡ stretches Lines (form.h ∷ form.i ∷ form.js)
+  formed : Form M Lines Points_kept (Front M P is none r e) (Back M P is none r e) r
+  formed = form M P is none r e
+
+  size : last_number r + 1 ≡ length Points_kept
+  size = omega (arith, (answer_decodes M P is none r e).count)
+
+  line_at_point : (s : Side) (k p : ℕ) → slice_get Points_kept k ≡ Some p → IsLineAt M P s k (line_by s Lines p)
+  line_at_point s k p at = path_also e (ap (option_map (line_by s Lines)) at)
+
+  module _ (R : Receiver) (d : Distinct R.far M P r) where
+    owns_from : (k : ℕ) (ks : List ℕ) → ((n : ℕ) → slice_get Points_kept (k + n) ≡ slice_get ks n) →
+        k + length ks ≡ last_number r + 1 → Owns R M Lines r k ks
+    owns_from k [] at size = tt
+    owns_from k (h ∷ []) at size =
+        let on : k + 0 ≡ last_number r = omega arith in
+        let here = line_at_point Incoming (last_number r) h (ap (slice_get Points_kept) (sym on) ∙ at 0) in
+        record { nearest = d.incoming.nearest _ here; alone = d.incoming.alone _ here }
+    owns_from k (h ∷ i ∷ js) at size =
+        let on : k + 0 ≡ k = omega arith in
+        let here = line_at_point Outgoing k h (ap (slice_get Points_kept) (sym on) ∙ at 0) in
+        let own = d.outgoing k (omega arith) in (
+          record { nearest = own.nearest _ here; alone = own.alone _ here },
+          owns_from (suc k) (i ∷ js)
+              (λ n. let step : suc k + n ≡ k + suc n = omega arith in ap (slice_get Points_kept) step ∙ at (suc n))
+              (omega arith),
+        )
+
+  recovered_by : (R : Receiver) → Distinct R.far M P r → (ws : List (List ℕ)) → Recovers R M r ws ↔ (ws ≡ stretches Lines Points_kept)
+  recovered_by R d ws =
+      let f = formed in
+      let s = extended_sound M P is none e.before e.after e.tried in
+      let once = extended_once M P e.before e.after is e.tried in
+      let all = owns_from R d 0 Points_kept (λ n. let z : 0 + n ≡ n = omega arith in ap (slice_get Points_kept) z)
+      (omega (arith, size)) in
+      coe 1 0 (i. Recovers R M (f.fields_are i) ws ↔ (ws ≡ stretches Lines (f.kept i)))
+      (recovers_kept R M m Lines s.known once (Front M P is none r e) (Back M P is none r e) f.h f.i f.js f.linked
+      (coe 0 1 (i. Owns R M Lines (f.fields_are i) 0 (f.kept i)) all) ws)
+
+  recovered_of : (R : Receiver) → Distinct R.far M P r → (ws : List (List ℕ)) → Recovers R M r ws ↔ IsStretches M P ws
+  recovered_of R d ws = let by = recovered_by R d ws in (
+    (λ g. path_also e (by.0 g)),
+    (λ p. by.1 (same_path (λ E js. ws ≡ stretches E.lines (kept_points (legs M E.lines) E.pos E.neg js)) p)),
+  )
+
+  stretches_are : (ws : List (List ℕ)) → IsStretches M P ws → ws ≡ stretches Lines (formed.h ∷ formed.i ∷ formed.js)
   stretches_are ws s =
       same_path (λ E js. ws ≡ stretches E.lines (kept_points (legs M E.lines) E.pos E.neg js)) s
-      ∙ ap (stretches Lines) form.kept
+      ∙ ap (stretches Lines) formed.kept
 
-  left_is : (front back : ℕ) → IsLeft M P front back → (front ≡ Front) × (back ≡ Back)
-  left_is front back =
-      same_path (λ E js. (front ≡ E.pos - from_front (legs M E.lines) (first_kept (legs M E.lines) E.pos js))
-      × (back ≡ E.neg - to_back (legs M E.lines) (last_kept (legs M E.lines) E.neg js)))
-
-  fronts : (ws : List (List ℕ)) → IsStretches M P ws → (front back : ℕ) → IsLeft M P front back → (n : ℕ) → 0 < n →
-      (c : ℕ) → IsCut n (first (map (dm_of M) ws)) r.pos c → IsClose n (first (map (dm_of M) ws)) front c
-  fronts ws s front back l n some c k =
-      let are = stretches_are ws s in
-      coe 1 0 (i. IsClose n (first (map (dm_of M) (are i))) ((left_is front back l).0 i) c)
-      (front_cut M m Lines known_lines Front Back form.h form.i form.js form.linked n c some
-      (coe 0 1 (i. IsCut n (first (map (dm_of M) (are i))) (form.fields_are i).pos c) k))
-
-  backs : (ws : List (List ℕ)) → IsStretches M P ws → (front back : ℕ) → IsLeft M P front back → (n : ℕ) → 0 < n →
-      (c : ℕ) → IsCut n (last (map (dm_of M) ws)) r.neg c → IsClose n (last (map (dm_of M) ws)) back c
-  backs ws s front back l n some c k =
-      let are = stretches_are ws s in
-      coe 1 0 (i. IsClose n (last (map (dm_of M) (are i))) ((left_is front back l).1 i) c)
-      (back_cut M m Lines known_lines Front Back form.h form.i form.js form.linked n c some
-      (coe 0 1 (i. IsCut n (last (map (dm_of M) (are i))) (form.fields_are i).neg c) k))
+  cuts : (ws : List (List ℕ)) → IsStretches M P ws → (front back : ℕ) → IsLeft M P front back → (n : ℕ) → 0 < n →
+      Cuts M m Lines known_lines n ws r front back
+  cuts ws s front back l n some =
+      let left = same_path (λ E js. (front ≡ E.pos - from_front (legs M E.lines) (first_kept (legs M E.lines) E.pos js))
+      × (back ≡ E.neg - to_back (legs M E.lines) (last_kept (legs M E.lines) E.neg js))) l in
+      coe 1 0 (i. Cuts M m Lines known_lines n (stretches_are ws s i) (formed.fields_are i) (left.0 i) (left.1 i))
+      (cuts_close M m Lines known_lines (Front M P is none r e) (Back M P is none r e) formed.h formed.i formed.js formed.linked n some)
 
   all_steps : (ws : List (List ℕ)) → IsStretches M P ws → AllZip (λ a w. IsStep a (dm_of M w)) (attributes r) ws
   all_steps ws s =
-      coe 1 0 (i. AllZip (λ a w. IsStep a (dm_of M w)) (attributes (form.fields_are i)) (stretches_are ws s i))
-      (steps_of M m Lines known_lines form.h form.i form.js)
+      coe 1 0 (i. AllZip (λ a w. IsStep a (dm_of M w)) (attributes (formed.fields_are i)) (stretches_are ws s i))
+      (steps_of M m Lines known_lines formed.h formed.i formed.js)
 
   -- ---- the nearest node
 
-  place_below : (k : ℕ) → k ≤ last_number r → k < length Kept
-  place_below k h = let size = form.size in omega arith
-
   bounds : (k : ℕ) → k < last_number r →
-      (slice_index Kept k < slice_index Kept (k + 1)) × (slice_index Kept (k + 1) ≤ length Lines)
+      (slice_index Points_kept k < slice_index Points_kept (k + 1)) × (slice_index Points_kept (k + 1) ≤ length Lines)
   bounds k h =
-      let size = form.size in
-      let all = ap (λ (ks : List ℕ). length ks) form.kept in
-      coe 1 0 (i. (slice_index (form.kept i) k < slice_index (form.kept i) (k + 1))
-      × (slice_index (form.kept i) (k + 1) ≤ length Lines))
-      (linked_bounds M Lines (form.h ∷ form.i ∷ form.js) form.linked k (omega arith))
+      let on : k + 1 ≡ suc k = omega arith in
+      let all = ap (λ (ks : List ℕ). length ks) formed.kept in
+      coe 1 0 (i. (slice_index (formed.kept i) k < slice_index (formed.kept i) (on i))
+      × (slice_index (formed.kept i) (on i) ≤ length Lines))
+      (linked_bounds M Lines (formed.h ∷ formed.i ∷ formed.js) formed.linked k (omega (arith, size)))
 
   -- LRP k is decoded near the node of its line x
   near_line : (s : Side) (k x : ℕ) → k ≤ last_number r → IsLineAt M P s k x →
-      ((i : ℕ) → slice_index Kept k ≡ i → coord_at M (node_at M Lines i) ≡ coordinate_on s (leg M (line_by s Lines i))) →
+      ((i : ℕ) → slice_index Points_kept k ≡ i → coord_at M (node_at M Lines i) ≡ coordinate_on s (leg M (line_by s Lines i))) →
       IsNear k (decoded_coord r k) (coordinate_on s (leg M x))
   near_line s k x h at on =
       let there = same_path (λ E js. option_map (line_by s E.lines) (slice_get (kept_points (legs M E.lines) E.pos E.neg js) k)
       ≡ Some x) at in
-      let near = (answer_decodes M P is none r e).near k (place_below k h) in
+      let near = (answer_decodes M P is none r e).near k (omega (arith, size)) in
       let some = (extended_sound M P is none e.before e.after e.tried).size in
-      let place_is = position_is M m Lines known_lines (slice_index Kept k) some ∙ on (slice_index Kept k) refl
-      ∙ ap (λ (y : ℕ). coordinate_on s (leg M y)) (got_index (line_by s Lines) Kept k x there).1 in
+      let place_is = position_is M m Lines known_lines (slice_index Points_kept k) some ∙ on (slice_index Points_kept k) refl
+      ∙ ap (λ (y : ℕ). coordinate_on s (leg M y)) (got_index (line_by s Lines) Points_kept k x there).1 in
       coe 0 1 (i. IsNear k (sym (ap (λ (o : Option (ℤ × ℤ)). unwrap_or o (pos 0, pos 0)) near.1) i) (place_is i)) near.2
 
   near_out : (k x : ℕ) → k < last_number r → IsLineAt M P Outgoing k x → IsNear k (decoded_coord r k) (leg M x).begin
@@ -420,20 +318,12 @@ recovered R M m P is r e d ws =
 
 -- ---- the legs together
 
-stretch_through : (ls : List ℕ) (p q t : ℕ) → p ≤ q → q ≤ t → stretch ls p q ++ stretch ls q t ≡ stretch ls p t
-stretch_through ls p q t h k =
-    let on : q ≡ p + (q - p) = omega arith in
-    let size : q - p + (t - q) ≡ t - p = omega arith in
-    ap (λ (xs : List ℕ). take (q - p) (drop p ls) ++ take (t - q) xs)
-    (ap (λ (n : ℕ). drop n ls) on ∙ sym (drop-drop (q - p) p ls))
-    ∙ sym (take-add (q - p) (t - q) (drop p ls)) ∙ ap (λ (n : ℕ). take n (drop p ls)) size
-
 joined : (M : Map) (ls ks : List ℕ) → Linked M ls ks → concat (stretches ls ks) ≡ stretch ls (first ks) (last ks)
 joined M ls [] l = sym (empty_stretch ls 0 0 (omega arith))
 joined M ls (p ∷ []) l = sym (empty_stretch ls p p (omega arith))
 joined M ls (p ∷ q ∷ ks) l = ap (λ (xs : List ℕ). stretch ls p q ++ xs) (joined M ls (q ∷ ks) l.1)
-    ∙ stretch_through ls p q (last (q ∷ ks)) (omega arith)
-    (linked_above M ls q ks l.1 (last (q ∷ ks)) (has_last (q ∷ ks) (omega arith)))
+    ∙ sym (stretch_parts ls p q (last (q ∷ ks)) (omega arith)
+    (linked_above M ls q ks l.1 (last (q ∷ ks)) (has_last (q ∷ ks) (omega arith))))
 
 pub stretches_join : StretchesJoin
 stretches_join M P ws p =
@@ -445,9 +335,7 @@ stretches_join M P ws p =
     path_also p (ap concat p.holds ∙ joined M E.lines ks linked)
 
 pub offsets_close : Offsets
-offsets_close M m P is r e ws s front back l n some =
-    let p = by_answer M P r e in
-    (fronts M m P is p.0 r p.1 ws s front back l n some, backs M m P is p.0 r p.1 ws s front back l n some)
+offsets_close M m P is r e = let p = by_answer M P r e in cuts M m P is p.0 r p.1
 
 pub steps_close : Distances
 steps_close M m P is r e ws s =
@@ -455,12 +343,11 @@ steps_close M m P is r e ws s =
     all_steps M m P is p.0 r p.1 ws s
 
 pub nearest_own : Nearest
-nearest_own M m P is r e n d scale far w =
-    let p = by_answer M P r e in (
-      (λ k x h at a.
-          spaced_nearest n d scale far w k (decoded_coord r k) Outgoing (leg M x) (near_out M m P is p.0 r p.1 k x h at)
-          (candidates M) a),
-      (λ x at a.
-          spaced_nearest n d scale far w (last_number r) (decoded_coord r (last_number r)) Incoming (leg M x)
-          (near_in M m P is p.0 r p.1 x at) (candidates M) a),
-    )
+nearest_own M m P is r e n d scale far w = let p = by_answer M P r e in (
+  (λ k x h at a.
+      spaced_nearest n d scale far w k (decoded_coord r k) Outgoing (leg M x) (near_out M m P is p.0 r p.1 k x h at)
+      (candidates M) a),
+  (λ x at a.
+      spaced_nearest n d scale far w (last_number r) (decoded_coord r (last_number r)) Incoming (leg M x)
+      (near_in M m P is p.0 r p.1 x at) (candidates M) a),
+)

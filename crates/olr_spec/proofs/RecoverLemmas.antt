@@ -1,9 +1,9 @@
 -- A shortest route over lines within the LFRCNP is the leg of the extended path.
 use Rattle.std.proofs.Common.{inl, inr, ◌≡◌, ◌==◌, ◌≢◌, ℕ, zero, suc, ◌+◌, ◌-◌, max, Bool, true, false, not, List, ◌∷◌}
 use Rattle.std.proofs.Common.{◌++◌, length, ◌<◌, ◌≤◌, ◌↔◌, IsTrue, map, refl, sym, ap, ◌∙◌, subst, arith, []}
+use Rattle.std.proofs.Common.{slice_index, fold}
 use Rattle.std.proofs.lemmas.Bool.{cases_eq, both_ways, and_parts, and_from, not_from_false, not-true, or_cases}
 use Rattle.std.proofs.lemmas.List.Folds.{list_any-append}
-use Rattle.std.specs.List.{slice_index, fold}
 use Rattle.olr_spec.specs.Map.{Map, line_at, start, end, has}
 use Rattle.olr_spec.specs.Routes.{LrpRoute}
 use Rattle.olr_spec.specs.Extension.{Path, is_path, none_twice, Tried, extended_path}
@@ -42,12 +42,11 @@ within_greatest M a (x ∷ xs) =
 
 shortest_is : (M : Map) (c s t : ℕ) (xs : List ℕ) → LrpRoute M s t xs → Within M c xs → (ys : List ℕ) →
     Shortest M c s t ys → ys ≡ xs
-shortest_is M c s t xs r w ys h =
-    elim (dec_same ys xs) [
-      | yes e ↦ e
-      | no n ↦
-          absurd (omega (arith, r.others ys h.route n, h.first xs r.route w))
-    ]
+shortest_is M c s t xs r w ys h = elim (dec_same ys xs) [
+  | yes e ↦ e
+  | no n ↦
+      absurd (omega (arith, r.others ys h.route n, h.first xs r.route w))
+]
 
 route_shortest : (M : Map) (c s t : ℕ) (xs : List ℕ) → LrpRoute M s t xs → Within M c xs → Shortest M c s t xs
 route_shortest M c s t xs r w = grind (arith, dec_same)
@@ -64,15 +63,7 @@ not_one x (v ∷ xs) y z e = cc
 
 one_line : (M : Map) (ls : List ℕ) (c p q : ℕ) → q ≡ p + 1 → stretch ls p q ≡ slice_index ls p ∷ [] → (w : List ℕ) →
     RecoversLast M c (slice_index ls p) (slice_index ls (q - 1)) w ↔ (w ≡ stretch ls p q)
-one_line M ls c p q e is w =
-    let on : p ≡ q - 1 = omega arith in
-    let same : slice_index ls p ≡ slice_index ls (q - 1) = ap (slice_index ls) on in
-    (forth same, λ g. One_line same (g ∙ is))
-  where
-    forth : slice_index ls p ≡ slice_index ls (q - 1) →
-        RecoversLast M c (slice_index ls p) (slice_index ls (q - 1)) w → w ≡ stretch ls p q
-    forth same (One_line f g) = g ∙ sym is
-    forth same (More_lines xs n g h k) = absurd (n same)
+one_line M ls c p q e is w = grind (arith, One_line)
 
 more_lines : (M : Map) (c x y : ℕ) (all r : List ℕ) → x ≢ y → Within M c all → all ≡ x ∷ (r ++ y ∷ []) →
     LrpRoute M (end M x) (start M y) r → (w : List ℕ) → RecoversLast M c x y w ↔ (w ≡ all)

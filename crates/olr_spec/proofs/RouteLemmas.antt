@@ -65,11 +65,10 @@ cons_compared x xs ys (as_long rest e) = as_long rest (ap (λ (zs : List ℕ). x
 compare_lists : (xs ys : List ℕ) → Compared xs ys
 compare_lists [] ys = shorter ys refl
 compare_lists (x ∷ xs) [] = as_long (x ∷ xs) refl
-compare_lists (x ∷ xs) (y ∷ ys) =
-    elim (cases_order x y) [
-      | inl e ↦ subst (λ (z : ℕ). Compared (x ∷ xs) (z ∷ ys)) e (cons_compared x xs ys (compare_lists xs ys))
-      | inr o ↦ elim o [ inl h ↦ below (inl h) | inr h ↦ above (inl h) ]
-    ]
+compare_lists (x ∷ xs) (y ∷ ys) = elim (cases_order x y) [
+  | inl e ↦ subst (λ (z : ℕ). Compared (x ∷ xs) (z ∷ ys)) e (cons_compared x xs ys (compare_lists xs ys))
+  | inr o ↦ elim o [ inl h ↦ below (inl h) | inr h ↦ above (inl h) ]
+]
 
 not_self : (xs : List ℕ) → ¬ FirstSmaller xs xs
 not_self [] h = h
@@ -87,8 +86,7 @@ nothing_below_nil (x ∷ xs) h = h
 -- ---- the shortest path
 
 pub not_before_itself : (M : Map) (xs : List ℕ) → ¬ PrecedesInTieOrder M xs xs
-not_before_itself M xs (inl h) = absurd (omega arith)
-not_before_itself M xs (inr h) = not_self (reverse xs) h.1
+not_before_itself M xs h = grind (arith, not_self)
 
 -- a route that ends as an equally long one does is this one
 same_end : (M : Map) → IsMap M → (s t : ℕ) (xs ys rest : List ℕ) → reverse ys ≡ reverse xs ++ rest → IsRoute M s t ys →
@@ -109,12 +107,11 @@ equally_long M m s t xs ys w u e a b (shorter rest is) = sym (same_end M m s t x
 equally_long M m s t xs ys w u e a b (as_long rest is) = same_end M m s t ys xs rest is w e
 
 pub one_least : OneLeast
-one_least M m s t xs ys l k =
-    elim (cases_order (dm_of M xs) (dm_of M ys)) [
-      | inl e ↦ equally_long M m s t xs ys l.route k.route e (k.first xs l.route) (l.first ys k.route)
-          (compare_lists (reverse xs) (reverse ys))
-      | inr o ↦ elim o [ inl h ↦ absurd (k.first xs l.route (inl h)) | inr h ↦ absurd (l.first ys k.route (inl h)) ]
-    ]
+one_least M m s t xs ys l k = elim (cases_order (dm_of M xs) (dm_of M ys)) [
+  | inl e ↦ equally_long M m s t xs ys l.route k.route e (k.first xs l.route) (l.first ys k.route)
+      (compare_lists (reverse xs) (reverse ys))
+  | inr o ↦ elim o [ inl h ↦ absurd (k.first xs l.route (inl h)) | inr h ↦ absurd (l.first ys k.route (inl h)) ]
+]
 
 PrecedesInTieOrder-append : (M : Map) (xs ys zs : List ℕ) → PrecedesInTieOrder M xs ys →
     PrecedesInTieOrder M (xs ++ zs) (ys ++ zs)

@@ -81,18 +81,17 @@ module _ (M N : Map) (s limit : ℕ) (round : (v : ℕ) → Reaches M s limit v 
 abbrev pub detour_of : {M : Map} {C : List ChangedLine} {s t d : ℕ} (first last : ChangedLine) → Contains C first → Contains C
     last → (before after : List ℕ) → IsRoute M s first.from before → IsRoute M last.to t after →
     dm_of M before + first.len + dm_of M after ≤ d → Detour M C s t d
-detour_of first last f l before after leads returns h =
-    record {
-      first = first;
-      last = last;
-      first_listed = f;
-      last_listed = l;
-      before = before;
-      after = after;
-      leads = leads;
-      returns = returns;
-      within = h;
-    }
+detour_of first last f l before after leads returns h = record {
+  first = first;
+  last = last;
+  first_listed = f;
+  last_listed = l;
+  before = before;
+  after = after;
+  leads = leads;
+  returns = returns;
+  within = h;
+}
 
 -- after its last changed line a route is one of both maps
 abbrev Rest : Map → Map → List ChangedLine → ℕ → ℕ → Type 0
@@ -111,14 +110,13 @@ module _ (M N : Map) (C : List ChangedLine) (accounts : AccountsFor C M N) (t : 
 
   rest_of : (s d : ℕ) (xs : List ℕ) → IsRoute M s t xs → dm_of M xs ≤ d → Each (SameLine M N) xs ⊎ Rest M N C t d
   rest_of s d [] w h = inl (Each-nil (SameLine M N))
-  rest_of s d (x ∷ xs) w h =
-      elim (rest_of (end M x) d xs w.2 (omega arith)) [
-        | inr r ↦ inr r
-        | inl each ↦ elim (accounts x w.0) [
-          | inl is ↦ inl (Each-cons (SameLine M N) x xs is each)
-          | inr c ↦ inr (after_change d x xs c w.2 each (omega arith))
-        ]
-      ]
+  rest_of s d (x ∷ xs) w h = elim (rest_of (end M x) d xs w.2 (omega arith)) [
+    | inr r ↦ inr r
+    | inl each ↦ elim (accounts x w.0) [
+      | inl is ↦ inl (Each-cons (SameLine M N) x xs is each)
+      | inr c ↦ inr (after_change d x xs c w.2 each (omega arith))
+    ]
+  ]
 
   -- the parts of a route before its first changed line and after its last one
   parts_of : (s d : ℕ) (xs : List ℕ) → IsRoute M s t xs → dm_of M xs ≤ d → Each (SameLine M N) xs ⊎ Parts M N C s t d
@@ -177,25 +175,23 @@ near_moves : (M N : Map) (T : List ℕ) → ((v : ℕ) → has T v ≡ false →
     → has T w ≡ true → IsRoute M s w xs → dm_of M xs ≤ d → Near N T s d
 near_moves M N T round s w d [] on route h =
     record { node = s; route = []; touched = rw route on; leads = refl; within = omega arith }
-near_moves M N T round s w d (x ∷ xs) on route h =
-    elim (cases_Bool (has T s)) [
-      | inl e ↦ record { node = s; route = []; touched = e; leads = refl; within = omega arith }
-      | inr e ↦
-          let is : SameLine M N x = by_leaving M N s x (round s e) route.0 route.1 in
-          let n = near_moves M N T round (end M x) w (d - dm M x) xs on route.2 (omega arith) in
-          record {
-            node = n.node;
-            route = x ∷ n.route;
-            touched = n.touched;
-            leads = (sym (same_known M N x is) ∙ route.0, sym (same_start M N x is) ∙ route.1, coe 0 1 (i. IsRoute N (same_end M N x is i) n.node n.route) n.leads);
-            within = omega (arith, same_dm M N x is);
-          }
-    ]
+near_moves M N T round s w d (x ∷ xs) on route h = elim (cases_Bool (has T s)) [
+  | inl e ↦ record { node = s; route = []; touched = e; leads = refl; within = omega arith }
+  | inr e ↦
+      let is : SameLine M N x = by_leaving M N s x (round s e) route.0 route.1 in
+      let n = near_moves M N T round (end M x) w (d - dm M x) xs on route.2 (omega arith) in
+      record {
+        node = n.node;
+        route = x ∷ n.route;
+        touched = n.touched;
+        leads = (sym (same_known M N x is) ∙ route.0, sym (same_start M N x is) ∙ route.1, coe 0 1 (i. IsRoute N (same_end M N x is i) n.node n.route) n.leads);
+        within = omega (arith, same_dm M N x is);
+      }
+]
 
 near_there : (M N : Map) (T : List ℕ) → ((v : ℕ) → has T v ≡ false → SameRound M N v) → (s d : ℕ) → Near M T s d
     → Near N T s d
 near_there M N T round s d m = near_moves M N T round s m.node d m.route m.touched m.leads m.within
 
 pub near_same : NearStays
-near_same M N T round s d =
-    (near_there M N T round s d, near_there N M T (λ v e. turned_round M N v (round v e)) s d)
+near_same M N T round s d = (near_there M N T round s d, near_there N M T (λ v e. turned_round M N v (round v e)) s d)

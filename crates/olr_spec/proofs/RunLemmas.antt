@@ -1,18 +1,18 @@
 -- From a degree-two node only one line leads on, so a run of such nodes is determined by its length.
-use Rattle.std.proofs.Common.{◌⊎◌, ◌≡◌, ◌≢◌, ℕ, ◌-◌, Bool, true, ◌&&◌, ◌||◌, List, ◌∷◌, ◌++◌, map, length, take, drop}
-use Rattle.std.proofs.Common.{◌<◌, ◌≤◌, Option, Some, None, is_some, IsTrue, refl, sym, ap, ◌∙◌, subst, arith, ◌==◌}
-use Rattle.std.proofs.Common.{unwrap_or, length-drop, length-take, take-append-drop, append-nil, append_assoc, []}
-use Rattle.std.proofs.lemmas.Bool.{eq-eqb, cases_lt, and_parts, cond_both}
+use Rattle.std.proofs.Common.{◌⊎◌, ◌≡◌, ◌≢◌, ℕ, ◌-◌, true, ◌&&◌, ◌||◌, List, ◌∷◌, ◌++◌, map, length, take, drop, ◌<◌}
+use Rattle.std.proofs.Common.{◌≤◌, IsTrue, refl, sym, ap, ◌∙◌, subst, arith, ◌==◌, length-drop, length-take}
+use Rattle.std.proofs.Common.{take-append-drop, append-nil, append_assoc, []}
+use Rattle.std.proofs.lemmas.Bool.{cases_lt, and_parts, cond_both}
 use Rattle.std.proofs.lemmas.Bool.Decides.{nat_tests}
-use Rattle.std.specs.FinMap.{get}
-use Rattle.olr_spec.specs.Map.{Map, IsMap, Line, has_line, no_line, lines_in, lines_out, start, end, has}
+use Rattle.olr_spec.specs.Map.{Map, IsMap, has_line, lines_in, lines_out, start, end, has, line_at}
 use Rattle.olr_spec.specs.Routes.{dm_of}
 use Rattle.olr_spec.specs.Extension.{passing, passes_between, first, last, MayPrecede, MayFollow, StartRun, EndRun}
 use Rattle.olr_spec.specs.Extension.{LongestStart, LongestEnd, Tried, Path, from_start, taken_start, limit}
 use Rattle.olr_spec.specs.Extension.{extended_path}
 use Rattle.olr_spec.specs.Laws.{OneStartRun, OneEndRun}
 use Rattle.olr_spec.proofs.RouteLemmas.{positive, dm_of-append}
-use Rattle.olr_spec.proofs.MapLemmas.{has-lines_where, passes_at}
+use Rattle.olr_spec.proofs.OrderLemmas.{exactly_in, exactly_out}
+use Rattle.olr_spec.proofs.AgreeLemmas.{known_record}
 
 -- ---- degree-two nodes
 
@@ -35,19 +35,11 @@ one_way_out v f g (a ∷ []) (p ∷ []) x y z h hx hy hz nx ny = grind (arith, n
 one_way_out v f g (a ∷ b ∷ []) (p ∷ q ∷ []) x y z h hx hy hz nx ny = grind (arith, same_pair, and_parts, one_of_two)
 one_way_out v f g _ _ x y z h hx hy hz nx ny = absurd cc
 
--- a line of the map passes a test that its record passes
-known_passes : (test : Line → Bool) (o : Option Line) → is_some o ≡ true → test (unwrap_or o no_line) ≡ true →
-    passes_at test o ≡ true
-known_passes test None h t = absurd cc
-known_passes test (Some l) h t = t
-
 pub entering : (M : Map) (v x : ℕ) → IsTrue (has_line M x) → end M x ≡ v → has (lines_in M v) x ≡ true
-entering M v x h e =
-    has-lines_where M (λ l. l.to == v) x ∙ known_passes (λ l. l.to == v) (get M.lines x) h (eq-eqb (end M x) v e)
+entering M v x h e = (exactly_in M v x).1 (line_at M x, (known_record M x h, e))
 
 pub leaving : (M : Map) (v x : ℕ) → IsTrue (has_line M x) → start M x ≡ v → has (lines_out M v) x ≡ true
-leaving M v x h e =
-    has-lines_where M (λ l. l.from == v) x ∙ known_passes (λ l. l.from == v) (get M.lines x) h (eq-eqb (start M x) v e)
+leaving M v x h e = (exactly_out M v x).1 (line_at M x, (known_record M x h, e))
 
 -- ---- runs with the same number of lines
 

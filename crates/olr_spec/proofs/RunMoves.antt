@@ -41,12 +41,11 @@ last_of_both P ls c n h k =
 StartRun-moves : (M N : Map) (c ls : List ℕ) → 0 < length ls → Each (SameLine M N) ls → Each (SameLine M N) c →
     Each (EndsSame M N) c → StartRun M c ls → StartRun N c ls
 StartRun-moves M N [] ls n s h r p = tt
-StartRun-moves M N (x ∷ c) ls n s h r p =
-    let rest = Each-tail (SameLine M N) x c h in (
-      MayPrecede-moves M N x (c ++ ls) (Each-head (SameLine M N) x c h) (first_of_both (SameLine M N) c ls n rest s)
-          (same_passing M N (end M x) (Each-head (EndsSame M N) x c r).1) p.0,
-      StartRun-moves M N c ls n s rest (Each-tail (EndsSame M N) x c r) p.1,
-    )
+StartRun-moves M N (x ∷ c) ls n s h r p = let rest = Each-tail (SameLine M N) x c h in (
+  MayPrecede-moves M N x (c ++ ls) (Each-head (SameLine M N) x c h) (first_of_both (SameLine M N) c ls n rest s)
+      (same_passing M N (end M x) (Each-head (EndsSame M N) x c r).1) p.0,
+  StartRun-moves M N c ls n s rest (Each-tail (EndsSame M N) x c r) p.1,
+)
 
 module _ (M N : Map) (m : IsMap M) (ls b : List ℕ) (n : 0 < length ls) (known : Each (Known M) ls)
     (same : Each (SameLine M N) ls) (at_lines : Each (EndsSame M N) ls) (at_run : Each (EndsSame M N) b)
@@ -78,13 +77,12 @@ module _ (M N : Map) (m : IsMap M) (ls b : List ℕ) (n : 0 < length ls) (known 
 EndRun-moves : (M N : Map) (ls c : List ℕ) → 0 < length ls → Each (SameLine M N) ls → Each (SameLine M N) c →
     Each (EndsSame M N) c → EndRun M ls c → EndRun N ls c
 EndRun-moves M N ls [] n s h r p = tt
-EndRun-moves M N ls (x ∷ c) n s h r p =
-    let is = Each-head (SameLine M N) x c h in (
-      MayFollow-moves M N ls x is (s (last ls) (has_last ls n))
-          (same_passing M N (start M x) (Each-head (EndsSame M N) x c r).0) p.0,
-      EndRun-moves M N (ls ++ x ∷ []) c (omega (arith, length-append ls (x ∷ []))) (Each-push (SameLine M N) ls x s is)
-          (Each-tail (SameLine M N) x c h) (Each-tail (EndsSame M N) x c r) p.1,
-    )
+EndRun-moves M N ls (x ∷ c) n s h r p = let is = Each-head (SameLine M N) x c h in (
+  MayFollow-moves M N ls x is (s (last ls) (has_last ls n))
+      (same_passing M N (start M x) (Each-head (EndsSame M N) x c r).0) p.0,
+  EndRun-moves M N (ls ++ x ∷ []) c (omega (arith, length-append ls (x ∷ []))) (Each-push (SameLine M N) ls x s is)
+      (Each-tail (SameLine M N) x c h) (Each-tail (EndsSame M N) x c r) p.1,
+)
 
 pub EndRun-push : (M : Map) (ls c : List ℕ) (x : ℕ) → EndRun M ls c → MayFollow M (ls ++ c) x → EndRun M ls (c ++ x ∷ [])
 EndRun-push M ls [] x p q = (coe 0 1 (i. MayFollow M (append-nil ls i) x) q, tt)

@@ -1,12 +1,10 @@
 -- Each direction is in one sector.
 use Rattle.std.proofs.Common.{inl, inr, ◌≡◌, ℕ, zero, suc, ◌+◌, ◌-◌, ◌*◌, ◌/◌, ◌%◌, ◌<◌, ◌≤◌, ℤ, pos, ◌≤ℤ◌, ◌<ℤ◌, ◌*ℤ◌}
 use Rattle.std.proofs.Common.{◌-ℤ◌, neg_ℤ, Bool, true, false, T, List, ◌∷◌, Some, unwrap_or, IsTrue, ◌==◌, map, refl}
-use Rattle.std.proofs.Common.{sym, ap, ◌∙◌, subst, arith, []}
-use Rattle.std.proofs.lemmas.Bool.{and_parts, and_from, cases_order, eq-eqb, or_left, or_right, both_ways, cond_both}
+use Rattle.std.proofs.Common.{sym, ap, ◌∙◌, subst, arith, [], eq-eqb, int_le, int_lt, find}
+use Rattle.std.proofs.lemmas.Bool.{and_parts, and_from, cases_order, or_left, or_right, both_ways, cond_both}
 use Rattle.std.proofs.lemmas.List.Folds.{list_any-append}
 use Rattle.std.proofs.lemmas.Int.{ints, by_lt_z}
-use Rattle.std.specs.Int.RustNames.{int_le, int_lt}
-use Rattle.std.specs.List.{find}
 use Rattle.olr_spec.specs.Bearings.{vector, quarter_turn, boundary, beyond, lies_between, IsSector, up_to}
 use Rattle.olr_spec.specs.Map.{has}
 use Rattle.olr_spec.specs.Laws.{OneSector, SomeSector}
@@ -77,8 +75,7 @@ pub neg_left : (a b : ℤ) → neg_ℤ a *ℤ b ≡ neg_ℤ (a *ℤ b)
 neg_left a b = grind (arith, ints)
 
 turns_into : (x y e n : ℤ) → e *ℤ neg_ℤ x -ℤ n *ℤ y ≡ neg_ℤ n *ℤ y -ℤ e *ℤ x
-turns_into x y e n =
-    omega (arith, neg_right e x, neg_left n y, ints)
+turns_into x y e n = omega (arith, neg_right e x, neg_left n y, ints)
 
 side_turned : (k : ℕ) → k < 25 → (e n : ℤ) → side e n (k + 8) ≡ side (neg_ℤ n) e k
 side_turned k lt e n = grind (arith, turned, turns_into)

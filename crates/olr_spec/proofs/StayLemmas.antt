@@ -189,32 +189,23 @@ module _ (M N : Map) (m : IsMap M) (n : IsMap N) (P : Path) (is : IsTrue (is_pat
 
     covers : (i j : ℕ) → has (0 ∷ o.points) i ≡ true → i < j → j ≤ length E.lines → dm_of M (stretch E.lines i j) ≤ limit
         → Covered M E.lines i j ↔ Covered N E.lines i j
-    covers i j on h g near =
-        elim (cases_lt (i + 2) (length E.lines)) [
-          | inl far ↦
-              let l = query_for M E.lines (0 ∷ o.points) queries o.holds i on far in
-              let k = l.2 in
-              covered_stays M N E.lines all_same (start M (first E.lines)) (end M (last E.lines)) joined i k.0 k.1
-              (stay i k.0 k.1 (subst (Contains queries) k.2 l.1)) j h g near
-          | inr close ↦ close_stays M N m n E.lines all_same i j h g (omega arith)
-        ]
+    covers i j on h g near = elim (cases_lt (i + 2) (length E.lines)) [
+      | inl far ↦
+          let l = query_for M E.lines (0 ∷ o.points) queries o.holds i on far in
+          let k = l.2 in
+          covered_stays M N E.lines all_same (start M (first E.lines)) (end M (last E.lines)) joined i k.0 k.1
+          (stay i k.0 k.1 (subst (Contains queries) k.2 l.1)) j h g near
+      | inr close ↦ close_stays M N m n E.lines all_same i j h g (omega arith)
+    ]
 
     -- the same runs and LRPs, with a property of them on the other map
     goes_over : {R : Path → List ℕ → List ℕ → List ℕ → Type 0} →
         R (extended_path N P o.before o.after) o.before o.after o.points → OfPath N P R
-    goes_over h = record {
-      before = o.before;
-      after = o.after;
-      points = o.points;
-      tried = tried_there o.before o.after o.tried;
-      follow = follow_there o.before o.after o.tried o.points covers o.follow;
-      holds = h;
-    }
+    goes_over h = search (tried_there, follow_there, covers) depth 6
 
     -- the answer
     answer_stays : (A : Answer) → Encoding M P A → Encoding N P A
-    answer_stays A p =
-        goes_over (path_at m is sound o p ∙ answer_there o.before o.after o.tried o.points)
+    answer_stays A p = goes_over (path_at m is sound o p ∙ answer_there o.before o.after o.tried o.points)
 
     -- the traversed nodes
     traversed_stays : (v : ℕ) → TraversedOfExtended M P v ↔ TraversedOfExtended N P v

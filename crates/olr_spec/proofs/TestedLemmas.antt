@@ -22,22 +22,20 @@ use Rattle.olr_spec.proofs.QueryLists.{query_for, query_from, queries_here}
 -- ---- the last position that is tested
 
 no_later : (M : Map) (ls : List ℕ) (i j k : ℕ) → IsLastTested M ls i j → IsLastTested M ls i k → ¬ (j < k)
-no_later M ls i j k p q lt =
-    elim p.last [
-      | inl bare ↦ bare (q.before j p.after lt)
-      | inr all ↦ elim q.needed [
-        | inl e ↦ absurd (omega arith)
-        | inr n ↦ absurd (omega (arith, all k n))
-      ]
-    ]
+no_later M ls i j k p q lt = elim p.last [
+  | inl bare ↦ bare (q.before j p.after lt)
+  | inr all ↦ elim q.needed [
+    | inl e ↦ absurd (omega arith)
+    | inr n ↦ absurd (omega (arith, all k n))
+  ]
+]
 
 pub one_last_tested : OneLastTested
-one_last_tested M ls i j k p q =
-    elim (cases_order j k) [
-      | inl e ↦ e
-      | inr (inl lt) ↦ absurd (no_later M ls i j k p q lt)
-      | inr (inr gt) ↦ absurd (no_later M ls i k j q p gt)
-    ]
+one_last_tested M ls i j k p q = elim (cases_order j k) [
+  | inl e ↦ e
+  | inr (inl lt) ↦ absurd (no_later M ls i j k p q lt)
+  | inr (inr gt) ↦ absurd (no_later M ls i k j q p gt)
+]
 
 -- from position i + 1 on, where f is the farthest position that is near enough
 module _ (M : Map) (m : IsMap M) (ls : List ℕ) (i f : ℕ)
@@ -45,37 +43,30 @@ module _ (M : Map) (m : IsMap M) (ls : List ℕ) (i f : ℕ)
   abbrev most : ℕ
   most = min f (length ls - 1)
 
-  at_most : (k : ℕ) → Needed M ls i k → k ≤ most
-  at_most k n = omega (arith, far.others n.0 (n.1, n.2))
-
-  is_needed : (k : ℕ) → k ≤ most → Needed M ls i k
-  is_needed k h = (f, far.holds.0, far.holds.1, h)
-
   test_on : (fuel k : ℕ) → length ls ≤ k + fuel → i < k → k < length ls → ((j : ℕ) → i < j → j < k → Covered M ls i j)
       → (k ≡ i + 1) ⊎ Needed M ls i k → (j : ℕ) × IsLastTested M ls i j
   test_on zero k u a h before n = absurd (omega arith)
-  test_on (suc fuel) k u a h before n =
-      elim (dec_Covered M m ls i k) [
-        | no bare ↦ (k, record { after = a; inside = h; before = before; needed = n; last = inl bare })
-        | yes c ↦ elim (cases_lt k most) [
-          | inr done ↦ (
-            k,
-            record {
-              after = a;
-              inside = h;
-              before = before;
-              needed = n;
-              last = inr (λ j w. omega (arith, at_most j w));
-            },
-          )
-          | inl more ↦ test_on fuel (k + 1) (omega arith) (omega arith) (omega arith)
-              (λ j b g. elim (cases_eq j k) [
-                | inl e ↦ subst (Covered M ls i) (sym e) c
-                | inr ne ↦ before j b (omega arith)
-              ])
-              (inr (is_needed (k + 1) (omega arith)))
-        ]
-      ]
+  test_on (suc fuel) k u a h before n = elim (dec_Covered M m ls i k) [
+    | no bare ↦ (k, record { after = a; inside = h; before = before; needed = n; last = inl bare })
+    | yes c ↦ elim (cases_lt k most) [
+      | inr done ↦ (
+        k,
+        record {
+          after = a;
+          inside = h;
+          before = before;
+          needed = n;
+          last = inr (λ j w. omega (arith, far.others w.0 (w.1, w.2)));
+        },
+      )
+      | inl more ↦ test_on fuel (k + 1) (omega arith) (omega arith) (omega arith)
+          (λ j b g. elim (cases_eq j k) [
+            | inl e ↦ subst (Covered M ls i) (sym e) c
+            | inr ne ↦ before j b (omega arith)
+          ])
+          (inr (f, far.holds.0, far.holds.1, omega arith))
+    ]
+  ]
 
 pub some_last_tested : SomeLastTested
 some_last_tested M m ls i h =

@@ -4,9 +4,8 @@ use Rattle.olr_spec.proofs.ReadLemmas.{no_fault_where_encoded}
 use Rattle.olr_spec.proofs.laws_of_bytes.Goals as goal
 
 pub returns : goal.returns
-returns c =
-    record {
-      one_byte_form = λ r x y p q. p.1 ∙ sym q.1;
-      one_decoding = λ r s x p q. one_decoding r s p.0 q.0 (sym p.1 ∙ q.1);
-      no_fault = no_fault_where_encoded;
-    }
+returns c = record {
+  one_byte_form = λ r x y p q. p.1 ∙ sym q.1;
+  one_decoding = λ r s x p q. one_decoding r s p.0 q.0 (sym p.1 ∙ q.1);
+  no_fault = no_fault_where_encoded;
+}
