@@ -1,6 +1,6 @@
 -- What is the same on two maps that agree around a node.
-use Rattle.std.proofs.Common.{◌≡◌, ℕ, ◌+◌, true, List, ◌∷◌, map, Option, Some, None, is_some, IsTrue, refl, sym, ap}
-use Rattle.std.proofs.Common.{◌∙◌, ◌==◌, unwrap_or, ◌↔◌, arith, [], eqb-true}
+use Rattle.std.proofs.Common.{◌≡◌, ℕ, ◌+◌, true, List, ◌∷◌, map, Option, Some, is_some, IsTrue, refl, sym, ap, ◌∙◌}
+use Rattle.std.proofs.Common.{◌==◌, unwrap_or, ◌↔◌, arith, [], eqb-true}
 use Rattle.std.specs.FinMap.{get}
 use Rattle.std.proofs.lemmas.Bool.Decides.{nat_tests}
 use Rattle.olr_spec.specs.Map.{Map, Line, has_line, line_at, no_line, start, end, dm, coord_at, no_coord, SameLine}
@@ -18,8 +18,7 @@ turned_round M N v r = record {
 }
 
 pub some_is : {X : Type 0} (o : Option X) (d : X) → is_some o ≡ true → o ≡ Some (unwrap_or o d)
-some_is None d h = absurd cc
-some_is (Some x) d h = refl
+some_is o d h = grind arith
 
 pub known_record : (M : Map) (x : ℕ) → IsTrue (has_line M x) → get M.lines x ≡ Some (line_at M x)
 known_record M x h = some_is (get M.lines x) no_line h
@@ -59,8 +58,7 @@ same_kept f v o p h = grind (arith, nat_tests)
 
 pub passed : (f : Line → ℕ) (v : ℕ) (o : Option Line) → passes_at (λ l. f l == v) o ≡ true → (l : Line) × (o ≡ Some l)
     × (f l ≡ v)
-passed f v None h = absurd cc
-passed f v (Some l) h = (l, refl, eqb-true (f l) v h)
+passed f v o h = grind (arith, eqb-true)
 
 -- the lines that have v as their end f, which are the same on both maps
 module _ (M N : Map) (f : Line → ℕ) (v : ℕ)

@@ -98,11 +98,8 @@ pub has-insert : (xs : List ℕ) (i x n : ℕ) → has (insert xs i x) n ≡ ((x
 has-insert xs i x n = sym (list_any-IsPermutation (λ y. y == n) (x ∷ xs) (insert xs i x) (IsPermutation-insert xs i x))
 
 pub insert_adds : (xs : List ℕ) (x i n : ℕ) → Contains (insert xs i x) n → Contains xs n ⊎ (n ≡ x)
-insert_adds xs x i n c = ⊎_elim
-    (λ (h : Contains (x ∷ []) n). inr (Contains-one x n h))
-    (λ (h : Contains xs n). inl h)
-    (Contains-append_cases (x ∷ []) xs n
-    (Contains-permutation (insert xs i x) (x ∷ xs) n
+insert_adds xs x i n c = ⊎_elim (λ (h : Contains (x ∷ []) n). inr (Contains-one x n h)) (λ (h : Contains xs n). inl h)
+    (Contains-append_cases (x ∷ []) xs n (Contains-permutation (insert xs i x) (x ∷ xs) n
     (IsPermutation-sym (x ∷ xs) (insert xs i x) (IsPermutation-insert xs i x)) c))
 
 pub insert_keeps : (xs : List ℕ) (x i n : ℕ) → Contains xs n ⊎ (n ≡ x) → Contains (insert xs i x) n

@@ -9,12 +9,12 @@ use Rattle.std.specs.List.{list_all}
 use Rattle.std.proofs.Math.Nat.{mul-le-mul_left, mul-le-mul_right, mul-lt-mul_of_pos_left, le_of_mul-le-mul_left}
 use Rattle.std.proofs.Math.Nat.{mul-add, mul_left_comm, mul_assoc, mul_comm, mul-pos, div-mul-le_self, lt-div-mul-add}
 use Rattle.std.proofs.lemmas.Int.{ints}
-use Rattle.olr_spec.specs.Map.{Map, has_line, line_at, coord_at, lines_where, has}
+use Rattle.olr_spec.specs.Map.{Map, has_line, line_at, lines_where, has}
 use Rattle.olr_spec.specs.Bearings.{Leg}
 use Rattle.olr_spec.specs.Reference.{leg, offset}
-use Rattle.olr_spec.specs.Receiver.{Side, Outgoing, Incoming, node_on, coordinate_on, sector_on, candidates, Lrp}
-use Rattle.olr_spec.specs.Receiver.{Rating, NowhereWorse, SomewhereBetter, IsDifference, Receiver, rating, Takes}
-use Rattle.olr_spec.specs.Receiver.{is_nearest, are_twins, has_no_twin, Measure}
+use Rattle.olr_spec.specs.Receiver.{Side, node_on, coordinate_on, sector_on, candidates, Lrp, Rating, NowhereWorse}
+use Rattle.olr_spec.specs.Receiver.{SomewhereBetter, IsDifference, Receiver, rating, Takes, is_nearest, are_twins}
+use Rattle.olr_spec.specs.Receiver.{has_no_twin, Measure}
 use Rattle.olr_spec.specs.Laws.{SomeReceiver, SomeWeighted}
 use Rattle.olr_spec.specs.Coordinates.{Coord}
 use Rattle.olr_spec.specs.Decoded.{decoded_bound, IsNear}
@@ -51,8 +51,7 @@ pub record Own (R : Receiver) (M : Map) (t : Lrp) (x : ℕ) : Type 0 where
 
 same_coordinate : (M : Map) (s : Side) (x y : ℕ) → node_on s (leg M x) ≡ node_on s (leg M y) →
     coordinate_on s (leg M x) ≡ coordinate_on s (leg M y)
-same_coordinate M Outgoing x y e = ap (coord_at M) e
-same_coordinate M Incoming x y e = ap (coord_at M) e
+same_coordinate M s x y e = grind arith
 
 none_apart : (d : ℕ → ℕ → ℕ) → IsDifference d → (a b : ℕ) → a ≡ b → d a b ≡ 0
 none_apart d h a b e = subst (λ (c : ℕ). d a c ≡ 0) e (h.same a)
@@ -141,11 +140,8 @@ by_longitude n d scale u e D B f some unit least most h far g =
     let few : n ≤ d = le_of_mul-le-mul_left
     (let goal : scale * n ≤ scale * d = omega (arith, mul-le-mul_left d most, mul_comm n scale, mul_comm d scale) in
     goal) unit in
-    let split : n * D ≤ n * e + n * B = let one : n * D ≤ n * (e + B) = mul-le-mul_left n h in
-    let two = mul-add n e B in
-    omega arith in
-    let lost : n * B ≤ d * B = mul-le-mul_right B few in
-    let kept : d * B + d * B ≤ n * e = omega arith in
+    let split : n * D ≤ n * e + n * B = omega (arith, mul-le-mul_left n h, mul-add n e B) in
+    let kept : d * B + d * B ≤ n * e = omega (arith, mul-le-mul_right B few) in
     let scaled : scale * (d * B + d * B) ≤ scale * (n * e) = mul-le-mul_left scale kept in
     let sum = mul-add scale (d * B) (d * B) in
     let turn = mul_left_comm scale d B in

@@ -5,13 +5,13 @@ use Rattle.std.proofs.lemmas.Bool.{cases_eq, both_ways, or_parts}
 use Rattle.std.proofs.lemmas.List.Elements.{Contains-append_left, Contains-append_right}
 use Rattle.std.proofs.lemmas.List.Folds.{list_any-append}
 use Rattle.std.specs.FinMap.{get, FinMap}
-use Rattle.olr_spec.specs.Map.{Map, Line, has_line, start, end, dm, Edit, Add_node, Move_node, Drop_node, Add_line}
-use Rattle.olr_spec.specs.Map.{Set_line, Drop_line, edited, touched_nodes, touched_lines, SameLine, SameRound, has}
+use Rattle.olr_spec.specs.Map.{Map, Line, has_line, start, end, dm, Edit, edited, touched_nodes, touched_lines}
+use Rattle.olr_spec.specs.Map.{SameLine, SameRound, has}
 use Rattle.olr_spec.specs.Detours.{ChangedLine, changes_of, IsChangedLine, AccountsFor}
 use Rattle.olr_spec.specs.Laws.{EditsDiffer, NoDifference, DifferencesAdd}
 use Rattle.olr_spec.specs.Coordinates.{Coord}
 use Rattle.olr_spec.proofs.AgreeLemmas.{same_known, same_start, same_end, same_dm, known_record}
-use Rattle.olr_spec.proofs.EditLemmas.{made_by, got_other, got_same, left_other, left_same, edits_are_local}
+use Rattle.olr_spec.proofs.EditLemmas.{edits_are_local, edit_laws}
 use Rattle.olr_spec.proofs.ListLemmas.{Contains-here}
 
 -- ---- one edit
@@ -39,16 +39,7 @@ lines_accounted : (M N : Map) (y : ℕ) (lines : FinMap nat_cmp Line) (c : Chang
 lines_accounted M N y lines c is other before after = grind (arith, accounts_one, known_record, accounted_alone)
 
 edit_accounted : (M N : Map) (e : Edit) → edited M e ≡ Ok N → BothAccount (changes_of M e) M N
-edit_accounted M N (Add_node v c) e = nodes_accounted M N _ (made_by M N (Add_node v c) e).1
-edit_accounted M N (Move_node v c) e = nodes_accounted M N _ (made_by M N (Move_node v c) e).1
-edit_accounted M N (Drop_node v) e = nodes_accounted M N _ (made_by M N (Drop_node v) e).2
-edit_accounted M N (Add_line x l) e =
-    let p = made_by M N (Add_line x l) e in
-    lines_accounted M N x _ _ p.4 (got_other M.lines x l) (λ known. absurd (both_ways (has_line M x) p.0 known))
-    (λ k h. let is : l ≡ k = cc (got_same M.lines x l) in rw (← is) (refl, refl, omega arith))
-edit_accounted M N (Set_line x frc fow len shape) e =
-    grind (arith, lines_accounted, made_by, got_other, accounted_alone, got_same)
-edit_accounted M N (Drop_line x) e = grind (arith, lines_accounted, made_by, left_other, accounted_alone, left_same)
+edit_accounted M N e p = grind (arith, edit_laws, nodes_accounted, lines_accounted, accounted_alone, both_ways)
 
 pub edit_differs : EditsDiffer
 edit_differs M N e p =

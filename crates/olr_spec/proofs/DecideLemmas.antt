@@ -1,7 +1,7 @@
 -- Each definition is decidable, so each path has an answer.
 use Rattle.std.proofs.Common.{◌⊎◌, inl, inr, ◌≡◌, ℕ, zero, suc, ◌+◌, Bool, true, List, ◌∷◌, ◌++◌, length, ◌<◌, ◌≤◌}
 use Rattle.std.proofs.Common.{None, IsTrue, IsFalse, refl, sym, ap, ◌∙◌, subst, arith, MatchOption, length-append}
-use Rattle.std.proofs.Common.{append_assoc, append-nil, [], nat_eq, ◌≢◌}
+use Rattle.std.proofs.Common.{append_assoc, [], nat_eq, ◌≢◌}
 use Rattle.std.proofs.lemmas.Bool.{cases_lt, cases_eq, cases_Bool, both_ways}
 use lib.Pointwise.{pointwise, bytes_decides}
 use Rattle.olr_spec.specs.Map.{Map, IsMap, has_line, start, end, dm, coord_at, lines_where, has}
@@ -14,7 +14,7 @@ use Rattle.olr_spec.specs.Encoding.{Answer, Refused, path_fault, answer_by_point
 use Rattle.olr_spec.specs.Laws.{OneUnique, SomeAnswer}
 use Rattle.olr_spec.proofs.RouteLemmas.{positive, dm_of-append}
 use Rattle.olr_spec.proofs.ListLemmas.{Each, Each-nil, Each-cons, Each-head, Each-tail, Known}
-use Rattle.olr_spec.proofs.RunLemmas.{StartRun-back, start_suffix, end_prefix, last_known}
+use Rattle.olr_spec.proofs.RunLemmas.{StartRun-back, start_suffix, end_prefix, last_known, EndRun-at}
 use Rattle.olr_spec.proofs.AnswerLemmas.{sound_lines, all_first, all_last, path_nonempty, by_fault}
 use Rattle.olr_spec.proofs.RunMoves.{EndRun-push}
 use Rattle.olr_spec.proofs.OrderLemmas.{has_number}
@@ -22,17 +22,13 @@ use Rattle.olr_spec.proofs.OrderLemmas.{has_number}
 -- ---- decidable propositions
 
 pub dec_and : {A B : Type 0} → Dec A → Dec B → Dec (A × B)
-dec_and (yes a) (yes b) = yes (a, b)
-dec_and (yes a) (no b) = no (λ p. b p.1)
-dec_and (no a) d = no (λ p. a p.0)
+dec_and d e = grind arith
 
 dec_as : {A B : Type 0} → (A → B) → (B → A) → Dec A → Dec B
-dec_as f g (yes a) = yes (f a)
-dec_as f g (no n) = no (λ b. n (g b))
+dec_as f g d = grind arith
 
 dec_not : {A : Type 0} → Dec A → Dec (¬ A)
-dec_not (yes a) = no (λ f. f a)
-dec_not (no a) = yes a
+dec_not d = grind arith
 
 dec_true : (b : Bool) → Dec (IsTrue b)
 dec_true b = elim (cases_Bool b) [ inl e ↦ yes e | inr e ↦ no (λ f. both_ways b e f) ]
@@ -56,28 +52,21 @@ dec_each Q d (x ∷ xs) =
     dec_as (λ p. Each-cons Q x xs p.0 p.1) (λ h. (Each-head Q x xs h, Each-tail Q x xs h)) (dec_and (d x) (dec_each Q d xs))
 
 -- for each list of at most n of these numbers
-dec_lists : (ks : List ℕ) (n : ℕ) (Q : List ℕ → Type 0) → ((w : List ℕ) → Dec (Q w)) →
-    Dec ((w : List ℕ) → Each (λ x. has ks x ≡ true) w → length w ≤ n → Q w)
-dec_lists ks zero Q d =
-    dec_as only (λ h. h [] (Each-nil (λ x. has ks x ≡ true)) (omega arith)) (d [])
-  where
-    only : Q [] → (w : List ℕ) → Each (λ x. has ks x ≡ true) w → length w ≤ zero → Q w
-    only p [] e h = p
-    only p (x ∷ w) e h = absurd (omega arith)
+abbrev AllLists : List ℕ → ℕ → (List ℕ → Type 0) → Type 0
+AllLists ks n Q = (w : List ℕ) → Each (λ x. has ks x ≡ true) w → length w ≤ n → Q w
+
+dec_lists : (ks : List ℕ) (n : ℕ) (Q : List ℕ → Type 0) → ((w : List ℕ) → Dec (Q w)) → Dec (AllLists ks n Q)
+dec_lists ks zero Q d = dec_as (λ p. elim [ [] ↦ λ e h. p | x ∷ w ↦ λ e h. absurd (omega arith) ])
+    (λ h. h [] (Each-nil (λ x. has ks x ≡ true)) (omega arith)) (d [])
 dec_lists ks (suc n) Q d =
-    let Rest : ℕ → Type 0 = λ k. (w : List ℕ) → Each (λ x. has ks x ≡ true) w → length w ≤ n → Q (k ∷ w) in
-    dec_as (λ p. both p.0 p.1)
-    (λ h. (
-      h [] (Each-nil (λ x. has ks x ≡ true)) (omega arith),
-      λ k i w e l. h (k ∷ w) (Each-cons (λ x. has ks x ≡ true) k w i e) (omega arith),
-    ))
+    let In : ℕ → Type 0 = λ x. has ks x ≡ true in
+    let Rest : ℕ → Type 0 = λ k. AllLists ks n (λ w. Q (k ∷ w)) in
+    dec_as (λ (p : Q [] × Each Rest ks). elim [
+      | [] ↦ λ e h. p.0
+      | k ∷ w ↦ λ e h. p.1 k (Each-head In k w e) w (Each-tail In k w e) (omega arith)
+    ])
+    (λ h. (h [] (Each-nil In) (omega arith), (λ k i w e l. h (k ∷ w) (Each-cons In k w i e) (omega arith))))
     (dec_and (d []) (dec_each Rest (λ k. dec_lists ks n (λ w. Q (k ∷ w)) (λ w. d (k ∷ w))) ks))
-  where
-    both : Q [] → Each (λ k. (w : List ℕ) → Each (λ x. has ks x ≡ true) w → length w ≤ n → Q (k ∷ w)) ks →
-        (w : List ℕ) → Each (λ x. has ks x ≡ true) w → length w ≤ suc n → Q w
-    both p r [] e h = p
-    both p r (k ∷ w) e h =
-        r k (Each-head (λ x. has ks x ≡ true) k w e) w (Each-tail (λ x. has ks x ≡ true) k w e) (omega arith)
 
 -- some number of the list, or none
 some_of : (Q : ℕ → Type 0) → ((x : ℕ) → Dec (Q x)) → (xs : List ℕ) → ((x : ℕ) × Q x) ⊎ Each (λ x. ¬ Q x) xs
@@ -201,15 +190,10 @@ last_of_list x (y ∷ xs) = let r = last_of_list y xs in (x ∷ r.0, r.1, ap (λ
 no_longer_start : (M : Map) (ls c d : List ℕ) → IsTrue (has_line M (first ls)) → StartRun M c ls →
     Each (λ x. ¬ (MayPrecede M x (c ++ ls) × (dm M x + dm_of M c ≤ limit))) (numbers M) → StartRun M d ls →
     dm_of M d ≤ limit → dm_of M d ≤ dm_of M c
-no_longer_start M ls c d k p none q w =
-    elim (cases_lt (length c) (length d)) [
-      | inl more ↦
-          let r = start_suffix M ls c d k p q (omega arith) in
-          absurd (beyond r.0 r.1 more)
-      | inr le ↦
-          let r = start_suffix M ls d c k q p le in
-          omega (arith, ap (dm_of M) r.1, dm_of-append M r.0 d)
-    ]
+no_longer_start M ls c d k p none q w = elim (cases_lt (length c) (length d)) [
+  | inl more ↦ let r = start_suffix M ls c d k p q (omega arith) in absurd (beyond r.0 r.1 more)
+  | inr le ↦ let r = start_suffix M ls d c k q p le in omega (arith, ap (dm_of M) r.1, dm_of-append M r.0 d)
+]
   where
     beyond : (front : List ℕ) → d ≡ front ++ c → length c < length d → ⊥
     beyond [] e more = omega (arith, ap (λ (zs : List ℕ). length zs) e)
@@ -220,23 +204,13 @@ no_longer_start M ls c d k p none q w =
         let run : StartRun M (y ∷ c) ls = StartRun-back M ls s.0 (y ∷ c) (coe 0 1 (i. StartRun M (parts i) ls) q) in
         none y (has_number M y run.0.known) (run.0, omega (arith, ap (dm_of M) parts, dm_of-append M s.0 (y ∷ c)))
 
-EndRun-at : (M : Map) (ls c : List ℕ) (x : ℕ) (back : List ℕ) → EndRun M ls (c ++ x ∷ back) → MayFollow M (ls ++ c) x
-EndRun-at M ls [] x back p = coe 1 0 (i. MayFollow M (append-nil ls i) x) p.0
-EndRun-at M ls (y ∷ c) x back p =
-    coe 0 1 (i. MayFollow M (append_assoc ls (y ∷ []) c i) x) (EndRun-at M (ls ++ y ∷ []) c x back p.1)
-
 no_longer_end : (M : Map) (ls c d : List ℕ) → IsTrue (has_line M (last ls)) → EndRun M ls c →
     Each (λ x. ¬ (MayFollow M (ls ++ c) x × (dm M x + dm_of M c ≤ limit))) (numbers M) → EndRun M ls d →
     dm_of M d ≤ limit → dm_of M d ≤ dm_of M c
-no_longer_end M ls c d k p none q w =
-    elim (cases_lt (length c) (length d)) [
-      | inl more ↦
-          let r = end_prefix M ls c d k p q (omega arith) in
-          absurd (beyond r.0 r.1 more)
-      | inr le ↦
-          let r = end_prefix M ls d c k q p le in
-          omega (arith, ap (dm_of M) r.1, dm_of-append M d r.0)
-    ]
+no_longer_end M ls c d k p none q w = elim (cases_lt (length c) (length d)) [
+  | inl more ↦ let r = end_prefix M ls c d k p q (omega arith) in absurd (beyond r.0 r.1 more)
+  | inr le ↦ let r = end_prefix M ls d c k q p le in omega (arith, ap (dm_of M) r.1, dm_of-append M d r.0)
+]
   where
     beyond : (back : List ℕ) → d ≡ c ++ back → length c < length d → ⊥
     beyond [] e more = omega (arith, ap (λ (zs : List ℕ). length zs) e, length-append c [])
@@ -272,16 +246,11 @@ some_tried : (M : Map) → IsMap M → (P : Path) → 0 < length P.lines → IsT
     IsTrue (has_line M (last P.lines)) → (b : List ℕ) × (a : List ℕ) × Tried M P b a
 some_tried M m P n f l =
     let b = some_start M m P.lines f (suc limit) [] (omega arith) tt (omega arith) in
-    let a =
-    some_end M m (from_start M P b.0) (last_known M (taken_start M b.0 P.lines) P.lines n l) (suc limit) []
+    let a = some_end M m (from_start M P b.0) (last_known M (taken_start M b.0 P.lines) P.lines n l) (suc limit) []
     (omega arith) tt (omega arith) in
     (b.0, a.0, record { before = b.1; after = a.1 })
 
 -- ---- an answer
-
-encoding_of : (M : Map) (P : Path) (b a js : List ℕ) → Tried M P b a → Follow M (extended_path M P b a).lines 0 js →
-    Encoding M P (answer_by_points M (extended_path M P b a) js)
-encoding_of M P b a js t f = record { before = b; after = a; points = js; tried = t; follow = f; holds = refl }
 
 pub some_encoding : (M : Map) → IsMap M → (P : Path) → IsTrue (is_path P.lines) → path_fault M P ≡ None → (A : Answer)
     × Encoding M P A
@@ -291,7 +260,9 @@ some_encoding M m P is e =
     let t = some_tried M m P n (all_first (Known M) P.lines n known) (all_last (Known M) P.lines n known) in
     let E = extended_path M P t.0 t.1 in
     let js = some_follow M m E.lines (length E.lines) 0 (omega arith) in
-    (answer_by_points M E js.0, encoding_of M P t.0 t.1 js.0 t.2 js.1)
+    let p : Encoding M P (answer_by_points M E js.0) =
+    record { before = t.0; after = t.1; points = js.0; tried = t.2; follow = js.1; holds = refl } in
+    (answer_by_points M E js.0, p)
 
 pub some_answer : SomeAnswer
 some_answer M m P is =

@@ -1,8 +1,8 @@
 -- The coordinates that the LRPs of an answer are decoded as.
-use Rattle.std.proofs.Common.{◌≡◌, ℕ, zero, suc, ◌+◌, ◌*◌, ◌/◌, ℤ, pos, negsuc, neg_ℤ, ◌<ℤ◌, ◌*ℤ◌, ◌+ℤ◌, ◌-ℤ◌, true}
-use Rattle.std.proofs.Common.{false, List, ◌∷◌, ◌++◌, length, take, map, ◌<◌, ◌≤◌, Some, None, is_some, IsTrue, cond}
-use Rattle.std.proofs.Common.{Bool, refl, ap, ◌∙◌, subst, arith, nat_le, [], ◌-◌, nat_abs, slice_get, option_map}
-use Rattle.std.proofs.Common.{le-leb, leb-true, slice_index}
+use Rattle.std.proofs.Common.{◌≡◌, ℕ, zero, suc, ◌+◌, ◌*◌, ℤ, pos, negsuc, neg_ℤ, ◌<ℤ◌, ◌+ℤ◌, ◌-ℤ◌, true, false, List}
+use Rattle.std.proofs.Common.{◌∷◌, ◌++◌, length, take, map, ◌<◌, ◌≤◌, Some, None, is_some, IsTrue, cond, Bool, refl, ap}
+use Rattle.std.proofs.Common.{◌∙◌, subst, arith, nat_le, [], ◌-◌, nat_abs, slice_get, option_map, le-leb, leb-true}
+use Rattle.std.proofs.Common.{slice_index}
 use Rattle.std.proofs.lemmas.Bool.{cond-true}
 use Rattle.std.proofs.lemmas.Int.{ints}
 use Rattle.std.proofs.lemmas.Option.{slice_get-get_or}
@@ -40,33 +40,13 @@ close_abs n a b c = size (a -ℤ b) (omega (arith, ints)) (omega (arith, ints))
     size (pos m) h k = omega (arith, ints)
     size (negsuc m) h k = omega (arith, ints)
 
-above24 : (m q : ℕ) → q ≡ (m + 3515625) / 7031250 → Close 7031250 (from_abs24 (pos q)) (pos m)
-above24 m zero e = record { below = omega (arith, ints); above = omega (arith, ints) }
-above24 m (suc q) e = record { below = omega (arith, ints); above = omega (arith, ints) }
-
-below24 : (m q : ℕ) → q ≡ (suc m + 3515625) / 7031250 → Close 7031250 (from_abs24 (neg_ℤ (pos q))) (negsuc m)
-below24 m zero e = record { below = omega (arith, ints); above = omega (arith, ints) }
-below24 m (suc q) e = record { below = omega (arith, ints); above = omega (arith, ints) }
-
-plus_one : (n : ℕ) → pos 1 *ℤ pos n ≡ pos n
-plus_one n = omega (arith, ints)
-
-minus_one : (n : ℕ) → negsuc 0 *ℤ pos n ≡ neg_ℤ (pos n)
-minus_one n = omega (arith, ints)
-
 -- a coordinate and the 24-bit step that it is rounded to
 close24 : (z : ℤ) → Close 7031250 (from_abs24 (abs24 z)) z
-close24 (pos zero) = record { below = omega (arith, ints); above = omega (arith, ints) }
-close24 (pos (suc n)) = coe 1 0 (i. Close 7031250 (from_abs24 (plus_one ((suc n + 3515625) / 7031250) i)) (pos (suc n)))
-    (above24 (suc n) ((suc n + 3515625) / 7031250) refl)
-close24 (negsuc n) = coe 1 0 (i. Close 7031250 (from_abs24 (minus_one ((suc n + 3515625) / 7031250) i)) (negsuc n))
-    (below24 n ((suc n + 3515625) / 7031250) refl)
+close24 z = grind (arith, ints)
 
 -- a difference and its relative value are at most half a relative step apart
 close16 : (z : ℤ) → Close 1638401 (from_rel16 (nearest 1638400 3276800 z)) z
-close16 (pos zero) = record { below = omega (arith, ints); above = omega (arith, ints) }
-close16 (pos (suc n)) = record { below = omega (arith, ints); above = omega (arith, ints) }
-close16 (negsuc n) = record { below = omega (arith, ints); above = omega (arith, ints) }
+close16 z = grind (arith, ints)
 
 -- ---- sums of relative values
 

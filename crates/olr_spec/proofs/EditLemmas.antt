@@ -16,8 +16,7 @@ use Rattle.olr_spec.proofs.AgreeLemmas.{known_record}
 use Rattle.olr_spec.proofs.MapLemmas.{has-lines_where, none_has, passes_at}
 
 pub passed_test : {A F : Type 0} (b : Bool) (f : F) (r : Result A F) (x : A) → unless b f r ≡ Ok x → (b ≡ false) × (r ≡ Ok x)
-passed_test true f r x e = absurd cc
-passed_test false f r x e = (refl, e)
+passed_test b f r x e = grind arith
 
 -- the conditions of an accepted edit, and the map that it makes
 abbrev pub Made : Map → Edit → Map → Type 0
@@ -33,12 +32,7 @@ Made M (Set_line x frc fow len shape) N =
 Made M (Drop_line x) N = (has_line M x ≡ true) × (record M { lines = remove M.lines x } ≡ N)
 
 pub made_by : (M N : Map) (e : Edit) → edited M e ≡ Ok N → Made M e N
-made_by M N (Add_node v c) e = let p = passed_test _ _ _ N e in (p.0, cc)
-made_by M N (Move_node v c) e = let p = passed_test _ _ _ N e in (not-false _ p.0, cc)
-made_by M N (Drop_node v) e = grind (arith, passed_test, not-false)
-made_by M N (Add_line x l) e = grind (arith, passed_test, and_parts, not-false)
-made_by M N (Set_line x frc fow len shape) e = grind (arith, passed_test, not-false)
-made_by M N (Drop_line x) e = let p = passed_test _ _ _ N e in (not-false _ p.0, cc)
+made_by M N e p = grind (arith, passed_test, not-false, and_parts)
 
 module _ {X : Type 0} where
   pub got_other : (m : FinMap nat_cmp X) (k : ℕ) (v : X) (q : ℕ) → q ≢ k → get (insert m k v) q ≡ get m q
@@ -48,12 +42,14 @@ module _ {X : Type 0} where
   got_same m k v = grind (arith, get-insert, nat_cmp_total, unsigned_tied, eq-eqb)
 
   pub left_other : (m : FinMap nat_cmp X) (k q : ℕ) → q ≢ k → get (remove m k) q ≡ get m q
-  left_other m k q ne =
-      get-remove nat_cmp_total m k q ∙ ap (λ (b : Bool). cond b None (get m q)) (unsigned_tied q k ∙ ne_eqb q k ne)
+  left_other m k q ne = grind (arith, get-remove, nat_cmp_total, unsigned_tied, ne_eqb)
 
   pub left_same : (m : FinMap nat_cmp X) (k : ℕ) → get (remove m k) k ≡ None
   left_same m k =
       get-remove nat_cmp_total m k k ∙ ap (λ (b : Bool). cond b None (get m k)) (unsigned_tied k k ∙ eq-eqb k k refl)
+
+-- what an accepted edit made, and what is then found
+pub ruleset edit_laws = (made_by, got_same, got_other, left_same, left_other)
 
 -- ---- locality
 
@@ -205,11 +201,4 @@ without_line M x m = record {
 }
 
 pub edits_keep : EditsKeep
-edits_keep M N (Add_node v c) m h e = subst IsMap (made_by M N (Add_node v c) e).1 (with_node M v c m h)
-edits_keep M N (Move_node v c) m h e = subst IsMap (made_by M N (Move_node v c) e).1 (with_node M v c m h)
-edits_keep M N (Drop_node v) m h e =
-    let p = made_by M N (Drop_node v) e in subst IsMap p.2 (without_node M v m p.1)
-edits_keep M N (Add_line x l) m h e =
-    let p = made_by M N (Add_line x l) e in subst IsMap p.4 (with_line M x l m p.3 p.1 p.2 h)
-edits_keep M N (Set_line x frc fow len shape) m h e = grind (arith, made_by, with_line)
-edits_keep M N (Drop_line x) m h e = subst IsMap (made_by M N (Drop_line x) e).1 (without_line M x m)
+edits_keep M N e m h p = grind (arith, made_by, with_node, without_node, with_line, without_line)

@@ -1,6 +1,6 @@
 -- The fields of an answer fit their bits.
-use Rattle.std.proofs.Common.{inl, inr, ◌≡◌, ℕ, zero, suc, ◌+◌, ◌-◌, ◌*◌, ◌/◌, max, ℤ, pos, negsuc, ◌≤ℤ◌, min, Bool}
-use Rattle.std.proofs.Common.{true, false, List, ◌∷◌, length, take, drop, map, ◌<◌, ◌≤◌, Some, None, IfSome, unwrap_or}
+use Rattle.std.proofs.Common.{inl, inr, ◌≡◌, ℕ, suc, ◌+◌, ◌-◌, ◌*◌, ◌/◌, max, ℤ, pos, negsuc, ◌≤ℤ◌, min, Bool, true}
+use Rattle.std.proofs.Common.{false, List, ◌∷◌, length, take, drop, map, ◌<◌, ◌≤◌, Some, None, IfSome, unwrap_or}
 use Rattle.std.proofs.Common.{IsTrue, refl, sym, ap, ◌∙◌, subst, arith, ◌==◌, take-add, div-lt_iff_lt-mul, [], ltb-true}
 use Rattle.std.proofs.Common.{fold, find, slice_index, slice_range}
 use Rattle.std.proofs.lemmas.Bool.{cases_lt, and_parts, and_from, cond_both}
@@ -106,8 +106,7 @@ find_each Q p (x ∷ xs) d h q =
     (λ _. find_each Q p xs d (Each-tail Q x xs h) q)
 
 pub sector_below : (e n : ℤ) → sector e n < 32
-sector_below e n =
-    find_each (λ k. k < 32) (λ k. lies_between (boundary k) (boundary (suc k)) (vector e n)) (up_to 32) 0
+sector_below e n = find_each (λ k. k < 32) (λ k. lies_between (boundary k) (boundary (suc k)) (vector e n)) (up_to 32) 0
     (up_to_below 32) (omega arith)
 
 bearing_below : (o : Coord) (s : Scaled) → bearing o s < 32
@@ -116,11 +115,7 @@ bearing_below o s = grind (arith, sector_below)
 -- a coordinate in range, in 24-bit steps
 abs24_fits : (z : ℤ) → negsuc 58982399999999 ≤ℤ z → z ≤ℤ pos 58982367232000 → (negsuc 8388607 ≤ℤ abs24 z)
     × (abs24 z ≤ℤ pos 8388607)
-abs24_fits (pos zero) lo hi = (omega (arith, ints), omega (arith, ints))
-abs24_fits (pos (suc n)) lo hi =
-    let q : (suc n + 3515625) / 7031250 ≤ 8388607 = omega (arith, ints) in (omega (arith, ints), omega (arith, ints))
-abs24_fits (negsuc n) lo hi =
-    let q : (suc n + 3515625) / 7031250 ≤ 8388608 = omega (arith, ints) in (omega (arith, ints), omega (arith, ints))
+abs24_fits z lo hi = grind (arith, ints)
 
 longitude_fits : (z : ℤ) → IsTrue (is_longitude z) → IsTrue (fits24 (abs24 z))
 longitude_fits z h = grind (arith, and_parts, abs24_fits, le_yes, and_from, le_test)
@@ -160,10 +155,9 @@ module _ (M : Map) (m : IsMap M) (ls : List ℕ) (known : Each (Known M) ls) whe
   pub first_fits : (i : ℕ) → IsTrue (fits24 (abs24 (position (legs M ls) i).lon))
       × IsTrue (fits24 (abs24 (position (legs M ls) i).lat))
   first_fits i =
-      let p =
-      and_parts (is_longitude (position (legs M ls) i).lon) (is_latitude (position (legs M ls) i).lat)
-      (position_good i) in
-      (longitude_fits (position (legs M ls) i).lon p.0, latitude_fits (position (legs M ls) i).lat p.1)
+      let c = position (legs M ls) i in
+      let p = and_parts (is_longitude c.lon) (is_latitude c.lat) (position_good i) in
+      (longitude_fits c.lon p.0, latitude_fits c.lat p.1)
 
   -- ---- parts of the list of lines
 
@@ -217,15 +211,8 @@ module _ (M : Map) (m : IsMap M) (ls : List ℕ) (known : Each (Known M) ls) whe
   last_fits h i n c =
       let r = relative_fits h i n c in
       let g = leg_at_good (i - 1) in
-      record {
-        dlon = r.0;
-        dlat = r.1;
-        frc = g.frc;
-        fow = g.fow;
-        bearing =
-            bearing_below (leg_at (legs M ls) (i - 1)).finish
-            (scaled_coord (leg_at (legs M ls) (i - 1)) ((leg_at (legs M ls) (i - 1)).line.len - 200));
-      }
+      let last = leg_at (legs M ls) (i - 1) in
+      assumption (bearing_below last.finish (scaled_coord last (last.line.len - 200)))
 
 -- ---- offsets
 

@@ -32,41 +32,31 @@ module _ (M : Map) (m : IsMap M) (ls : List ℕ) (known : Each (Known M) ls) (n 
       → Each (λ k. a < k → positive < from_front (legs M ls) k) ks → Each (λ k. k < b → negative < to_back (legs M ls) k) ks
       → IsReference (reference_by (legs M ls) (positive - from_front (legs M ls) a) (negative - to_back (legs M ls) b) ks)
   by_kept [] l ha hb above below after before = absurd cc
-  by_kept (h ∷ []) l ha hb above below after before =
-      let p = linked_above M ls h [] tt a ha in
-      let q = below h (has_here h []) in
-      let r = above h (has_here h []) in
-      let s = linked_above M ls h [] tt b hb in
-      absurd (only h a b ha hb two)
+  by_kept (h ∷ []) l ha hb above below after before = absurd (only h a b ha hb two)
     where
       only : (h a b : ℕ) → has (h ∷ []) a ≡ true → has (h ∷ []) b ≡ true → a < b → ⊥
       only h a b p q lt = grind (arith, nat_tests)
   by_kept (h ∷ i ∷ ks) l ha hb above below after before =
       let gs = legs M ls in
-      let low = linked_above M ls h (i ∷ ks) l a ha in
-      let high = above h (has_here h (i ∷ ks)) in
-      let first : h ≡ a = omega arith in
+      let first : h ≡ a = omega (arith, linked_above M ls h (i ∷ ks) l a ha, above h (has_here h (i ∷ ks))) in
       let first_front = ap (from_front gs) first in
       let far = after i (has_there h (i ∷ ks) i (has_here i ks)) (omega arith) in
       let sum = from_front-add gs h i (omega arith) in
       let two_last = last_two h i ks in
       let c = last_two_linked M ls h i ks l in
       let hx = has_last_two h i ks in
-      let top = linked_last M ls h i ks l b hb in
-      let limit_b = below two_last.1 hx.1 in
-      let last : two_last.1 ≡ b = omega arith in
+      let last : two_last.1 ≡ b = omega (arith, linked_last M ls h i ks l b hb, below two_last.1 hx.1) in
       let last_back = ap (to_back gs) last in
       let far_back = before two_last.0 hx.0 (omega arith) in
       let sum_back = from_front-add gs two_last.0 two_last.1 (omega arith) in
-      let all_x = whole gs two_last.0 in
-      let all_y = whole gs two_last.1 in
       let f = first_fits M m ls known h in
       record {
         first = record { lon = f.0; lat = f.1; attrs = attrs_fit M m ls known h i l.0 };
         middle = middles_fit M m ls known h i ks n l;
         last = last_fits M m ls known two_last.0 two_last.1 n c;
         pos = offset_fits (positive - from_front gs a) (dm_between gs h i) (omega arith);
-        neg = offset_fits (negative - to_back gs b) (dm_between gs two_last.0 two_last.1) (omega arith);
+        neg = offset_fits (negative - to_back gs b) (dm_between gs two_last.0 two_last.1)
+            (omega (arith, whole gs two_last.0, whole gs two_last.1));
       }
 
 -- the first and the last LRP by the offsets are among those that remain

@@ -1,7 +1,7 @@
 -- The routes between the remaining LRPs join to the extended path.
-use Rattle.std.proofs.Common.{◌⊎◌, inl, inr, ◌≡◌, ℕ, zero, suc, ◌+◌, ◌-◌, min, Bool, true, false, cond, ◌&&◌, List, ◌∷◌}
-use Rattle.std.proofs.Common.{◌++◌, length, take, drop, ◌<◌, ◌≤◌, refl, ap, ◌∙◌, subst, arith, nat_le, length-drop, ◌↔◌}
-use Rattle.std.proofs.Common.{[], leb-true, le-leb, get_or-drop, slice_index, filter}
+use Rattle.std.proofs.Common.{◌⊎◌, inl, inr, ◌≡◌, ℕ, ◌+◌, ◌-◌, min, Bool, true, false, cond, ◌&&◌, List, ◌∷◌, ◌++◌}
+use Rattle.std.proofs.Common.{length, take, drop, ◌<◌, ◌≤◌, refl, ap, ◌∙◌, subst, arith, nat_le, length-drop, ◌↔◌, []}
+use Rattle.std.proofs.Common.{leb-true, le-leb, get_or-drop, slice_index, filter}
 use Rattle.std.proofs.lemmas.Bool.{cases_eq, and_parts, and_from, cond_both}
 use Rattle.std.proofs.lemmas.Bool.Decides.{nat_tests}
 use Rattle.std.proofs.lemmas.List.{drop_more, take_more}
@@ -17,8 +17,7 @@ use Rattle.olr_spec.proofs.AnswerLemmas.{Next-candidate}
 -- ---- parts of a list
 
 take_one : (n : ℕ) (x : ℕ) (xs : List ℕ) → 0 < n → take n (x ∷ xs) ≡ x ∷ take (n - 1) xs
-take_one zero x xs h = absurd (omega arith)
-take_one (suc n) x xs h = ap (λ (k : ℕ). x ∷ take k xs) (omega arith)
+take_one n x xs h = grind arith
 
 pub stretch_first : (ls : List ℕ) (p q : ℕ) → p < q → p < length ls → stretch ls p q ≡ slice_index ls p ∷ stretch ls (p + 1) q
 stretch_first ls p q h k = grind (arith, drop_more, take_one)
@@ -106,8 +105,7 @@ between_is a b i = grind (arith, and_parts, leb-true, and_from, le-leb)
 -- no LRP after b remains
 none_beyond : (M : Map) (ls : List ℕ) (a b p : ℕ) (ks : List ℕ) → b < p → Linked M ls (p ∷ ks) →
     filter (between a b) (p ∷ ks) ≡ []
-none_beyond M ls a b p [] h l = let gone : between a b p ≡ false =
-    grind (arith, nat_tests) in ap (λ (t : Bool). cond t (p ∷ []) []) gone
+none_beyond M ls a b p [] h l = grind (arith, nat_tests)
 none_beyond M ls a b p (q ∷ ks) h l =
     let rest = none_beyond M ls a b q ks (omega arith) l.1 in
     let gone : between a b p ≡ false = grind (arith, nat_tests) in
@@ -115,8 +113,7 @@ none_beyond M ls a b p (q ∷ ks) h l =
 
 pub kept_linked : (M : Map) (ls : List ℕ) (a b : ℕ) (ks : List ℕ) → Linked M ls ks → Linked M ls (filter (between a b) ks)
 kept_linked M ls a b [] l = tt
-kept_linked M ls a b (p ∷ []) l =
-    elim (between a b p) as (λ t. Linked M ls (cond t (p ∷ []) [])) [ true ↦ tt | false ↦ tt ]
+kept_linked M ls a b (p ∷ []) l = cond_both (between a b p) (p ∷ []) [] (Linked M ls) (λ _. tt) (λ _. tt)
 kept_linked M ls a b (p ∷ q ∷ ks) l =
     let rest = kept_linked M ls a b (q ∷ ks) l.1 in
     let later : List ℕ = filter (between a b) ks in

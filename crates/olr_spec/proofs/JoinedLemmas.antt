@@ -39,12 +39,10 @@ record IsJoinedPath (M : Map) (ls : List ℕ) : Type 0 where
   joined : AreJoined M ls
 
 last_later : (x : ℕ) (ls : List ℕ) → 0 < length ls → last (x ∷ ls) ≡ last ls
-last_later x [] h = absurd (omega arith)
-last_later x (y ∷ ls) h = refl
+last_later x ls h = grind arith
 
 first_pushed : (ls : List ℕ) (x : ℕ) → 0 < length ls → first (ls ++ x ∷ []) ≡ first ls
-first_pushed [] x h = absurd (omega arith)
-first_pushed (y ∷ ls) x h = refl
+first_pushed ls x h = grind arith
 
 preceded : (M : Map) (x : ℕ) (ls : List ℕ) → MayPrecede M x ls → IsJoinedPath M ls → IsJoinedPath M (x ∷ ls)
 preceded M x ls p j = grind (arith, last_later)

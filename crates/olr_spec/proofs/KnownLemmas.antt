@@ -1,8 +1,8 @@
 -- Coverage queries along a path's own lines: what they say without the extension, and that they are the same on another
 -- map where they are clear.
 use Rattle.std.proofs.Common.{inr, ◌≡◌, ℕ, ◌+◌, ◌-◌, List, ◌∷◌, ◌++◌, length, ◌<◌, ◌≤◌, sym, ap, ◌∙◌, subst, arith}
-use Rattle.std.proofs.Common.{refl, ◌↔◌, Bool, true, false, IsTrue, None, MatchOption, nat_lt, length-append, []}
-use Rattle.std.proofs.Common.{append_assoc, get_or-append-add, length-drop, slice_index}
+use Rattle.std.proofs.Common.{refl, ◌↔◌, Bool, true, IsTrue, None, MatchOption, nat_lt, length-append, [], append_assoc}
+use Rattle.std.proofs.Common.{get_or-append-add, length-drop, slice_index}
 use Rattle.std.proofs.lemmas.List.{drop-append-le, take-append-le, get_or_append_left}
 use Rattle.std.proofs.Math.Seq.{drop-append-add}
 use Rattle.std.specs.List.{AllZip}
@@ -151,12 +151,11 @@ module _ (M : Map) (b own a : List ℕ) (joined : AreJoined M ((b ++ own) ++ a))
 
   -- what is right of the path is right of the extended path
   module _ (k : IsKnown M own e) where
-    first_is : start M (slice_index own e.first) ≡ e.query.from
-    first_is = (coe 0 1 (j. IsRoute M e.query.from e.query.to (stretch_first own e.first e.last order (omega arith) j))
-        k.route).1
-
     pub from_known : e.query.from ≡ from
-    from_known = sym first_is ∙ sym from_start_of
+    from_known =
+        let first = (coe 0 1 (j. IsRoute M e.query.from e.query.to (stretch_first own e.first e.last order (omega arith) j))
+        k.route).1 in
+        sym first ∙ sym from_start_of
 
     pub to_known : e.query.to ≡ to
     to_known = one_end M from e.query.to to (stretch own e.first e.last)
@@ -175,14 +174,10 @@ module _ (M : Map) (b own a : List ℕ) (joined : AreJoined M ((b ++ own) ++ a))
   -- and the other way round
   module _ (tested : IsLastTested M ls i (length b + e.last)) (query : e.query ≡ query_to M ls i (length b + e.last))
       (covered : IsTrue e.covered ↔ Covered M ls i (length b + e.last)) where
-    from_is : from ≡ e.query.from
-    from_is = sym (ap (λ (q : CoverageQuery). q.from) query)
-
-    to_is : to ≡ e.query.to
-    to_is = sym (ap (λ (q : CoverageQuery). q.to) query)
-
     pub is_known : IsKnown M own e
     is_known =
+        let from_is : from ≡ e.query.from = sym (ap (λ (q : CoverageQuery). q.from) query) in
+        let to_is : to ≡ e.query.to = sym (ap (λ (q : CoverageQuery). q.to) query) in
         let c = covered_unique M ls i (length b + e.last) (omega arith) inside in
         record {
           order = order;
@@ -220,22 +215,12 @@ module _ (M : Map) (m : IsMap M) (P : Path) (is : IsTrue (is_path P.lines)) (sou
       let lead = length (taken_start M p.before P.lines) in
       one_found (R E lead) (one E lead) (querying E (0 ∷ p.points)) xs ys p.holds (path_at m is sound p q)
 
+same_bool : (x y : Bool) → (x ≡ true → y ≡ true) → (y ≡ true → x ≡ true) → x ≡ y
+same_bool x y f g = grind arith
+
 one_known_at : (M : Map) (ls : List ℕ) (lead own i : ℕ) (d e : KnownQuery) → IsKnownAt M ls lead own i d →
     IsKnownAt M ls lead own i e → d ≡ e
-one_known_at M ls lead own i d e p q =
-    let first : d.first ≡ e.first = omega arith in
-    let same = one_last_tested M ls i (lead + d.last) (lead + e.last) p.tested q.tested in
-    let last : d.last ≡ e.last = omega arith in
-    let query : d.query ≡ e.query = p.query ∙ ap (query_to M ls i) same ∙ sym q.query in
-    let covers = coe 0 1 (j. Covered M ls i (lead + d.last) ↔ Covered M ls i (same j)) ((λ c. c), (λ c. c)) in
-    let covered : d.covered ≡ e.covered = same_bool d.covered e.covered (λ t. q.covered.1 (covers.0 (p.covered.0 t)))
-    (λ t. p.covered.1 (covers.1 (q.covered.0 t))) in
-    λ j. record { query = query j; first = first j; last = last j; covered = covered j }
-  where
-    same_bool : (x y : Bool) → (x ≡ true → y ≡ true) → (y ≡ true → x ≡ true) → x ≡ y
-    same_bool true y f g = sym (f refl)
-    same_bool false true f g = g refl
-    same_bool false false f g = refl
+one_known_at M ls lead own i d e p q = grind (arith, one_last_tested, same_bool)
 
 -- ---- whether or not the path has a fault
 
@@ -275,10 +260,9 @@ known_holds M P is ks =
 found_all : (M : Map) (ls : List ℕ) (lead own : ℕ) (is : List ℕ) (qs : List CoverageQuery) → AllZip (IsQuery M ls) is qs
     → FoundFor (IsSearched M ls lead own []) is qs
 found_all M ls lead own [] [] z = refl
-found_all M ls lead own [] (q ∷ qs) z = absurd z
-found_all M ls lead own (i ∷ is) [] z = absurd z
 found_all M ls lead own (i ∷ is) (q ∷ qs) z =
     inr (q, qs, refl, (z.0, λ r. absurd (omega arith)), found_all M ls lead own is qs z.1)
+found_all M ls lead own _ _ z = absurd z
 
 pub searched_all : (M : Map) (P : Path) (ks : List CoverageQuery) → QueriesOf M P ks → SearchedOf M P [] ks
 searched_all M P ks = grind (arith, by_fault, path_also, found_all)

@@ -1,6 +1,6 @@
 -- Lists of what some positions have: for each position there is one element or none.
-use Rattle.std.proofs.Common.{inl, inr, ◌≡◌, ℕ, zero, suc, ◌+◌, ◌-◌, List, ◌∷◌, ◌++◌, map, ◌<◌, ◌≤◌, All, refl, sym, ap}
-use Rattle.std.proofs.Common.{◌∙◌, subst, arith, filter, true, Bool, [], ◌↔◌}
+use Rattle.std.proofs.Common.{inl, inr, ◌≡◌, ℕ, ◌+◌, ◌-◌, List, ◌∷◌, ◌++◌, map, ◌<◌, ◌≤◌, All, refl, sym, ap, ◌∙◌}
+use Rattle.std.proofs.Common.{subst, arith, filter, true, Bool, [], ◌↔◌}
 use Rattle.std.proofs.lemmas.Bool.{cond_both}
 use Rattle.std.proofs.lemmas.List.Elements.{All-nil, All-cons}
 use Rattle.std.specs.Prelude.{⊤}
@@ -63,8 +63,7 @@ ascend_filter p k (x ∷ xs) a =
     (λ _. ascend_from k (x + 1) (filter p xs) (omega arith) (ascend_filter p (x + 1) xs a.1))
 
 increasing_more : (x y : ℕ) (ys : List ℕ) → x < y → IsStrictlyIncreasing (y ∷ ys) → IsStrictlyIncreasing (x ∷ y ∷ ys)
-increasing_more x y ys lt up zero h = lt
-increasing_more x y ys lt up (suc k) h = grind arith
+increasing_more x y ys lt up k h = grind arith
 
 ascend_increasing : (k : ℕ) (xs : List ℕ) → Ascend k xs → IsStrictlyIncreasing xs
 ascend_increasing k [] a = λ j h. absurd (omega arith)

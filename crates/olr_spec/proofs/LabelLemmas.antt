@@ -31,8 +31,7 @@ module _ (M : Map) (m : IsMap M) (s limit : ℕ) (dist : ℕ → Option ℕ) (tr
       Fine (end M y) (front ++ y ∷ [])
   step front y k short fine =
       let w = l.routes (start M y) fine.0 fine.1 in
-      let near : fine.0 ≤ dm_of M front =
-      elim (cases_lt (dm_of M front) fine.0) [
+      let near : fine.0 ≤ dm_of M front = elim (cases_lt (dm_of M front) fine.0) [
         | inl lt ↦ absurd (fine.2 (inl (omega arith)))
         | inr le ↦ le
       ] in

@@ -1,16 +1,15 @@
 -- Options with and without a value, and results that are Ok.
-use Rattle.std.proofs.Common.{◌≡◌, false, Option, Some, None, is_some, IsSome, Result, Ok, IsOk, refl, sym, ap, subst}
+use Rattle.std.proofs.Common.{arith, ◌≡◌, false, Option, Some, None, is_some, IsSome, Result, Ok, IsOk, refl, sym, ap}
+use Rattle.std.proofs.Common.{subst}
 
 pub some_of : {A : Type 0} (o : Option A) → IsSome o → (x : A) × (o ≡ Some x)
-some_of None h = absurd cc
-some_of (Some x) h = (x, refl)
+some_of o h = grind arith
 
 pub is_some_of : {A : Type 0} (o : Option A) (x : A) → o ≡ Some x → IsSome o
 is_some_of o x e = ap (λ p. is_some p) e
 
 pub none_of : {A : Type 0} (o : Option A) → is_some o ≡ false → o ≡ None
-none_of None h = refl
-none_of (Some x) h = absurd cc
+none_of o h = grind arith
 
 -- an option with a value isn't None
 pub there_not : {A : Type 0} (o : Option A) → IsSome o → o ≡ None → ⊥

@@ -1,7 +1,7 @@
 -- LRPs, answers and faults are the same on two maps that agree around a path's traversed nodes and on the positions that
 -- are covered from its LRPs.
-use Rattle.std.proofs.Common.{inl, inr, ◌≡◌, ℕ, ◌+◌, ◌-◌, min, Bool, true, false, cond, List, ◌∷◌, length, ◌<◌, ◌≤◌}
-use Rattle.std.proofs.Common.{refl, sym, ap, ◌∙◌, arith, ◌==◌, ◌↔◌, suc, not, Some, nat_lt, [], ltb-true, slice_index}
+use Rattle.std.proofs.Common.{◌≡◌, ℕ, ◌+◌, ◌-◌, min, Bool, true, cond, List, ◌∷◌, length, ◌<◌, ◌≤◌, refl, sym, ap, ◌∙◌}
+use Rattle.std.proofs.Common.{arith, ◌==◌, ◌↔◌, suc, not, Some, nat_lt, [], ltb-true, slice_index}
 use Rattle.std.proofs.lemmas.Bool.{cond_both}
 use Rattle.olr_spec.specs.Map.{Map, IsMap, start, end, coord_at, SameLine, SameRound, has}
 use Rattle.olr_spec.specs.Routes.{IsRoute, dm_of, LrpRoute}
@@ -39,8 +39,7 @@ close_stays M N m n ls same i j h g close =
     )
 
 pub Each-cond : (Q : ℕ → Type 0) (b : Bool) (xs : List ℕ) → Each Q xs → Each Q (cond b [] xs)
-Each-cond Q true xs h = Each-nil Q
-Each-cond Q false xs h = h
+Each-cond Q b xs h = grind (arith, Each-nil)
 
 Greatest-moves : (Q S : ℕ → Type 0) (j : ℕ) → ((k : ℕ) → Q k ↔ S k) → Greatest Q j → Greatest S j
 Greatest-moves Q S j same h = record { holds = (same j).0 h.holds; others = λ k s. h.others k ((same k).1 s) }
@@ -110,9 +109,7 @@ NodeOf-moves M N xs v h o = grind (arith, same_start, same_end)
 
 pub Traversed-moves : (M N : Map) (ls b a : List ℕ) (v : ℕ) → Each (SameLine M N) ls → Each (SameLine M N) b
     → Each (SameLine M N) a → Traversed M ls b a v → Traversed N ls b a v
-Traversed-moves M N ls b a v h i j (inl o) = inl (NodeOf-moves M N ls v h o)
-Traversed-moves M N ls b a v h i j (inr (inl o)) = inr (inl (NodeOf-moves M N b v i o))
-Traversed-moves M N ls b a v h i j (inr (inr o)) = inr (inr (NodeOf-moves M N a v j o))
+Traversed-moves M N ls b a v h i j t = grind (arith, NodeOf-moves)
 
 unknown_same : (M N : Map) (ls : List ℕ) → Each (SameLine M N) ls → first_unknown M ls ≡ first_unknown N ls
 unknown_same M N [] h = refl

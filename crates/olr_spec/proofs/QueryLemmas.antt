@@ -153,12 +153,11 @@ module _ (M N : Map) (ls : List ℕ) (same : Each (SameLine M N) ls) (s t : ℕ)
   pub covered_stays : (j : ℕ) → i < j → j ≤ length ls → dm_of M (stretch ls i j) ≤ limit → Covered M ls i j ↔ Covered N ls i j
   covered_stays j h g near =
       let e = alike i j in
+      let joined_there = IsRoute-moves M N s t ls same joined in
       elim (cases_lt k (min j (length ls - 1))) [
         | inl beyond ↦ (
           (λ c. absurd (covered_known M ls s t joined i k query j h g near beyond c)),
-          (λ c. absurd (covered_known N ls s t (IsRoute-moves M N s t ls same joined) i k query_stays j h g
-              (omega arith)
-              beyond c)),
+          (λ c. absurd (covered_known N ls s t joined_there i k query_stays j h g (omega arith) beyond c)),
         )
         | inr within ↦ covered_same j (omega arith)
       ]

@@ -11,12 +11,9 @@ module _ {X : Type 0} (R S : ℕ → X → Type 0) where
   pub zip_moves : (is : List ℕ) (xs : List X) → ((i : ℕ) (x : X) → Contains xs x → R i x → S i x) → AllZip R is xs
       → AllZip S is xs
   zip_moves [] [] f z = tt
-  zip_moves [] (x ∷ xs) f z = absurd z
-  zip_moves (i ∷ is) [] f z = absurd z
-  zip_moves (i ∷ is) (x ∷ xs) f z = (
-    f i x (Contains-here x xs) z.0,
-    zip_moves is xs (λ j y c. f j y (Contains-later x y xs c)) z.1,
-  )
+  zip_moves (i ∷ is) (x ∷ xs) f z =
+      (f i x (Contains-here x xs) z.0, zip_moves is xs (λ j y c. f j y (Contains-later x y xs c)) z.1)
+  zip_moves _ _ f z = absurd z
 
 module _ {X : Type 0} (R : ℕ → X → Type 0) where
   pub zip_right : (is : List ℕ) (xs : List X) → AllZip R is xs → (i : ℕ) → has is i ≡ true → (x : X) × Contains xs x × R i x

@@ -181,8 +181,7 @@ read_points _ _ w long flags top free = absurd (omega arith)
 -- ---- bytes without a fault
 
 no_fault : (b : Bool) (f : V3Fault) (o : Option V3Fault) → cond b (Some f) o ≡ None → (b ≡ false) × (o ≡ None)
-no_fault true f o e = absurd cc
-no_fault false f o e = (refl, e)
+no_fault b f o e = grind arith
 
 -- what holds if none of the four tests reports a fault
 record Passes (b : List ℕ) : Type 0 where
@@ -213,13 +212,7 @@ read_bytes (s ∷ a ∷ b ∷ c ∷ d ∷ e ∷ f ∷ g ∷ k ∷ l ∷ t) w p =
     (ap reserved (sym (attributes_behind cut t 4 (suc m)) ∙ ap (attribute1_bytes (cut ++ t) 14) (sym count)) ∙ parts.1) in (
       record { first = first.0; middle = rest.middle; last = rest.last; pos = rest.positive; neg = rest.negative },
       (
-        record {
-          first = first.1;
-          middle = rest.are_middle;
-          last = rest.is_last;
-          pos = rest.is_positive;
-          neg = rest.is_negative;
-        },
+        assumption first.1,
         λ i. p.status i ∷ sym first.2 i ++ rest.encoded i,
       ),
     )
@@ -232,8 +225,7 @@ middles_length [] = refl
 middles_length (p ∷ ps) = omega (arith, length-append (middle_bytes p) (flat_map middle_bytes ps), middles_length ps)
 
 flag_is : (o : Option ℕ) → length (offset_bytes o) ≡ flag o
-flag_is None = refl
-flag_is (Some n) = refl
+flag_is o = grind arith
 
 -- none of the LRPs' attribute bytes has a reserved bit
 unreserved : (ps : List Middle) (l : Last) (positive negative : Option ℕ) → AllByRecursion IsMiddle ps → IsLast l

@@ -312,9 +312,7 @@ module _ (M : Map) (m : IsMap M) (P : Path) (is : IsTrue (is_path P.lines)) (non
       (extended_joined M P is none e.before e.after e.tried) i (omega (arith, is_i, b.0)) (omega (arith, is_i, b.1))))
 
 pub recovered : Recovered
-recovered R M m P is r e d ws =
-    let p = by_answer M P r e in
-    recovered_of M m P is p.0 r p.1 R d ws
+recovered R M m P is r e d ws = let p = by_answer M P r e in recovered_of M m P is p.0 r p.1 R d ws
 
 -- ---- the legs together
 
@@ -338,9 +336,7 @@ pub offsets_close : Offsets
 offsets_close M m P is r e = let p = by_answer M P r e in cuts M m P is p.0 r p.1
 
 pub steps_close : Distances
-steps_close M m P is r e ws s =
-    let p = by_answer M P r e in
-    all_steps M m P is p.0 r p.1 ws s
+steps_close M m P is r e ws s = let p = by_answer M P r e in all_steps M m P is p.0 r p.1 ws s
 
 pub nearest_own : Nearest
 nearest_own M m P is r e n d scale far w = let p = by_answer M P r e in (

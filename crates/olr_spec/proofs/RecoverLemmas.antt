@@ -1,8 +1,8 @@
 -- A shortest route over lines within the LFRCNP is the leg of the extended path.
-use Rattle.std.proofs.Common.{inl, inr, ◌≡◌, ◌==◌, ◌≢◌, ℕ, zero, suc, ◌+◌, ◌-◌, max, Bool, true, false, not, List, ◌∷◌}
-use Rattle.std.proofs.Common.{◌++◌, length, ◌<◌, ◌≤◌, ◌↔◌, IsTrue, map, refl, sym, ap, ◌∙◌, subst, arith, []}
-use Rattle.std.proofs.Common.{slice_index, fold}
-use Rattle.std.proofs.lemmas.Bool.{cases_eq, both_ways, and_parts, and_from, not_from_false, not-true, or_cases}
+use Rattle.std.proofs.Common.{inl, inr, ◌≡◌, ◌==◌, ◌≢◌, ℕ, zero, suc, ◌+◌, ◌-◌, max, true, false, not, List, ◌∷◌, ◌++◌}
+use Rattle.std.proofs.Common.{length, ◌<◌, ◌≤◌, ◌↔◌, IsTrue, map, refl, sym, ap, ◌∙◌, subst, arith, [], slice_index}
+use Rattle.std.proofs.Common.{fold, eq-eqb, ne_eqb, ◌||◌}
+use Rattle.std.proofs.lemmas.Bool.{cases_eq, both_ways, and_parts, and_from, not_from_false, not-true, or_parts}
 use Rattle.std.proofs.lemmas.List.Folds.{list_any-append}
 use Rattle.olr_spec.specs.Map.{Map, line_at, start, end, has}
 use Rattle.olr_spec.specs.Routes.{LrpRoute}
@@ -12,7 +12,7 @@ use Rattle.olr_spec.specs.Bearings.{Leg}
 use Rattle.olr_spec.specs.Reference.{legs}
 use Rattle.olr_spec.specs.Joins.{JoinsTo, JoinsLast}
 use Rattle.olr_spec.specs.Receiver.{Within, Shortest, RecoversTo, RecoversLast, One_line, More_lines}
-use Rattle.olr_spec.proofs.ListLemmas.{has_here, has_there, has_cases, has_index}
+use Rattle.olr_spec.proofs.ListLemmas.{has_index}
 use Rattle.olr_spec.proofs.DecideLemmas.{dec_same}
 use Rattle.olr_spec.proofs.RunLemmas.{extended_keeps}
 use Rattle.olr_spec.proofs.JoinLemmas.{stretch_first, stretch_last, empty_stretch}
@@ -44,8 +44,7 @@ shortest_is : (M : Map) (c s t : ℕ) (xs : List ℕ) → LrpRoute M s t xs → 
     Shortest M c s t ys → ys ≡ xs
 shortest_is M c s t xs r w ys h = elim (dec_same ys xs) [
   | yes e ↦ e
-  | no n ↦
-      absurd (omega (arith, r.others ys h.route n, h.first xs r.route w))
+  | no n ↦ absurd (omega (arith, r.others ys h.route n, h.first xs r.route w))
 ]
 
 route_shortest : (M : Map) (c s t : ℕ) (xs : List ℕ) → LrpRoute M s t xs → Within M c xs → Shortest M c s t xs
@@ -86,7 +85,7 @@ recovers_last M ls c p q lt up differ within j w =
     elim (cases_eq q (p + 1)) [
       | inl e ↦ one_line M ls c p q e (elim j [ inl is ↦ is | inr t ↦ absurd (too_long t.0 t.1 e) ]) w
       | inr ne ↦ elim j [
-        | inl is ↦ absurd (too_short is (omega arith))
+        | inl is ↦ absurd (not_one _ _ _ _ (sym (parts (omega arith)) ∙ is))
         | inr t ↦
             more_lines M c (slice_index ls p) (slice_index ls (q - 1)) (stretch ls p q) t.0 (differ (omega arith))
             within t.1 t.2 w
@@ -100,9 +99,6 @@ recovers_last M ls c p q lt up differ within j w =
         ∙ ap (λ (zs : List ℕ). slice_index ls p ∷ zs)
         (ap (stretch ls (p + 1)) (sym on) ∙ stretch_last ls (p + 1) (q - 1) (omega arith) (omega arith))
 
-    too_short : stretch ls p q ≡ slice_index ls p ∷ [] → p + 1 < q → ⊥
-    too_short is far = not_one _ _ _ _ (sym (parts far) ∙ is)
-
     too_long : (r : List ℕ) → stretch ls p q ≡ slice_index ls p ∷ (r ++ slice_index ls (q - 1) ∷ []) → q ≡ p + 1 → ⊥
     too_long r is e =
         let none : stretch ls (p + 1) q ≡ [] = empty_stretch ls (p + 1) q (omega arith) in
@@ -110,23 +106,14 @@ recovers_last M ls c p q lt up differ within j w =
 
 -- ---- no line twice
 
-is_false : (b : Bool) → (b ≡ true → ⊥) → b ≡ false
-is_false true n = absurd (n refl)
-is_false false n = refl
-
 pushed_once : (ls : List ℕ) (x : ℕ) → none_twice ls ≡ true → has ls x ≡ false → none_twice (ls ++ x ∷ []) ≡ true
 pushed_once [] x o h = refl
 pushed_once (y ∷ ls) x o h =
     let parts = and_parts (not (has ls y)) (none_twice ls) o in
-    let fresh : has (ls ++ x ∷ []) y ≡ false =
-    is_false _ (λ t. elim (or_cases _ _ (sym (list_any-append (λ v. v == y) ls (x ∷ [])) ∙ t)) [
-      | inl k ↦ both_ways _ (not-true _ parts.0) k
-      | inr e ↦ elim (has_cases x [] y e) [
-        | inl is ↦ both_ways _ h (coe 1 0 (i. has (y ∷ ls) (is i) ≡ true) (has_here y ls))
-        | inr n ↦ absurd cc
-      ]
-    ]) in
-    and_from _ _ (not_from_false _ fresh) (pushed_once ls x parts.1 (is_false _ (λ t. both_ways _ h (has_there y ls x t))))
+    let off = or_parts (y == x) (has ls x) h in
+    let differ : (x == y) ≡ false = ne_eqb x y (λ e. both_ways (y == x) off.0 (eq-eqb y x (sym e))) in
+    let fresh = list_any-append (λ v. v == y) ls (x ∷ []) ∙ (λ i. not-true _ parts.0 i || (differ i || false)) in
+    and_from _ _ (not_from_false _ fresh) (pushed_once ls x parts.1 off.1)
 
 pub extended_once : (M : Map) (P : Path) (b a : List ℕ) → IsTrue (is_path P.lines) → Tried M P b a →
     none_twice (extended_path M P b a).lines ≡ true

@@ -4,25 +4,19 @@ use Rattle.std.proofs.Common.{arith, IsTrue, []}
 use Rattle.std.proofs.lemmas.Bool.{cases_order, and_parts}
 use Rattle.std.proofs.lemmas.Bool.Decides.{nat_tests}
 use Rattle.std.proofs.lemmas.List.{reverse-append, reverse-reverse, append_cancel_right}
-use Rattle.olr_spec.specs.Map.{Map, IsMap, Line, is_good, has_node, has_line, end, dm, line_at}
+use Rattle.olr_spec.specs.Map.{Map, IsMap, has_node, has_line, end, dm}
 use Rattle.olr_spec.specs.Routes.{IsRoute, dm_of, FirstSmaller, PrecedesInTieOrder}
 use Rattle.olr_spec.specs.Laws.{NoLongerSuffix, OneLeast, PrefixOfLeast, EmptyIsLeast, EmptyIsUnique, UniqueIsLeast}
 use Rattle.olr_spec.specs.Laws.{PrefixOfUnique}
 
-good_length : (l : Line) → IsTrue (is_good l) → 0 < l.len
-good_length l h = grind (arith, nat_tests, and_parts)
-
 pub positive : (M : Map) → IsMap M → (x : ℕ) → IsTrue (has_line M x) → 0 < dm M x
-positive M m x h = good_length (line_at M x) (m.good x h)
+positive M m x h = let good = m.good x h in grind (arith, nat_tests, and_parts)
 
 -- ---- joined routes
 
--- a good line is at most 10^6 dm long
-good_short : (l : Line) → IsTrue (is_good l) → l.len ≤ 1000000
-good_short l h = grind (arith, nat_tests, and_parts)
-
+-- at most 10^6 dm
 pub line_short : (M : Map) → IsMap M → (x : ℕ) → IsTrue (has_line M x) → dm M x ≤ 1000000
-line_short M m x h = good_short (line_at M x) (m.good x h)
+line_short M m x h = let good = m.good x h in grind (arith, nat_tests, and_parts)
 
 pub dm_of-append : (M : Map) (xs ys : List ℕ) → dm_of M (xs ++ ys) ≡ dm_of M xs + dm_of M ys
 dm_of-append M [] ys = omega arith
@@ -101,10 +95,7 @@ same_end M m s t xs ys rest is w e =
 equally_long : (M : Map) → IsMap M → (s t : ℕ) (xs ys : List ℕ) → IsRoute M s t xs → IsRoute M s t ys →
     dm_of M xs ≡ dm_of M ys → ¬ PrecedesInTieOrder M xs ys → ¬ PrecedesInTieOrder M ys xs →
     Compared (reverse xs) (reverse ys) → xs ≡ ys
-equally_long M m s t xs ys w u e a b (below h) = absurd (a (inr (e, h)))
-equally_long M m s t xs ys w u e a b (above h) = absurd (b (inr (sym e, h)))
-equally_long M m s t xs ys w u e a b (shorter rest is) = sym (same_end M m s t xs ys rest is u (sym e))
-equally_long M m s t xs ys w u e a b (as_long rest is) = same_end M m s t ys xs rest is w e
+equally_long M m s t xs ys w u e a b c = grind (arith, same_end)
 
 pub one_least : OneLeast
 one_least M m s t xs ys l k = elim (cases_order (dm_of M xs) (dm_of M ys)) [
@@ -115,8 +106,7 @@ one_least M m s t xs ys l k = elim (cases_order (dm_of M xs) (dm_of M ys)) [
 
 PrecedesInTieOrder-append : (M : Map) (xs ys zs : List ℕ) → PrecedesInTieOrder M xs ys →
     PrecedesInTieOrder M (xs ++ zs) (ys ++ zs)
-PrecedesInTieOrder-append M xs ys zs (inl h) = inl (omega (arith, dm_of-append M xs zs, dm_of-append M ys zs))
-PrecedesInTieOrder-append M xs ys zs (inr h) = grind (arith, dm_of-append, reverse-append, with_front)
+PrecedesInTieOrder-append M xs ys zs p = grind (arith, dm_of-append, reverse-append, with_front)
 
 pub prefix_of_least : PrefixOfLeast
 prefix_of_least M s v t xs ys l w u = grind (arith, IsRoute-append, PrecedesInTieOrder-append)

@@ -71,23 +71,21 @@ first_known M (x ∷ c) ls h k = h.0.known
 pub same_start_run : (M : Map) (ls c d : List ℕ) → IsTrue (has_line M (first ls)) → StartRun M c ls →
     StartRun M d ls → length c ≡ length d → c ≡ d
 same_start_run M ls [] [] k p q e = refl
-same_start_run M ls [] (y ∷ d) k p q e = absurd (omega arith)
-same_start_run M ls (x ∷ c) [] k p q e = absurd (omega arith)
 same_start_run M ls (x ∷ c) (y ∷ d) k p q e =
     let rest : c ≡ d = same_start_run M ls c d k p.1 q.1 (omega arith) in
     let is = one_precedes M (c ++ ls) x y (first_known M c ls p.1 k) p.0 (coe 1 0 (i. MayPrecede M y ((rest i) ++ ls)) q.0) in
     λ i. is i ∷ rest i
+same_start_run M ls _ _ k p q e = absurd (omega arith)
 
 pub same_end_run : (M : Map) (ls c d : List ℕ) → IsTrue (has_line M (last ls)) → EndRun M ls c → EndRun M ls d →
     length c ≡ length d → c ≡ d
 same_end_run M ls [] [] k p q e = refl
-same_end_run M ls [] (y ∷ d) k p q e = absurd (omega arith)
-same_end_run M ls (x ∷ c) [] k p q e = absurd (omega arith)
 same_end_run M ls (x ∷ c) (y ∷ d) k p q e =
     let is : x ≡ y = one_follows M ls x y k p.0 q.0 in
     let known : IsTrue (has_line M (last (ls ++ x ∷ []))) = coe 1 0 (i. IsTrue (has_line M (last_push ls x i))) p.0.known in
     let rest = same_end_run M (ls ++ x ∷ []) c d known p.1 (coe 1 0 (i. EndRun M (ls ++ (is i) ∷ []) d) q.1) (omega arith) in
     λ i. is i ∷ rest i
+same_end_run M ls _ _ k p q e = absurd (omega arith)
 
 -- ---- parts of runs
 
@@ -99,13 +97,10 @@ pub EndRun-front : (M : Map) (ls c back : List ℕ) → EndRun M ls (c ++ back) 
 EndRun-front M ls [] back h = tt
 EndRun-front M ls (x ∷ c) back h = (h.0, EndRun-front M (ls ++ x ∷ []) c back h.1)
 
-EndRun-back : (M : Map) (ls c : List ℕ) (x : ℕ) (back : List ℕ) → EndRun M ls (c ++ x ∷ back) → IsTrue (has_line M x)
-EndRun-back M ls [] x back h = h.0.known
-EndRun-back M ls (y ∷ c) x back h = EndRun-back M (ls ++ y ∷ []) c x back h.1
-
--- the last n elements of a list
-back_of : (n : ℕ) (d : List ℕ) → n ≤ length d → length (drop (length d - n) d) ≡ n
-back_of n d h = omega (arith, length-drop (length d - n) d)
+pub EndRun-at : (M : Map) (ls c : List ℕ) (x : ℕ) (back : List ℕ) → EndRun M ls (c ++ x ∷ back) → MayFollow M (ls ++ c) x
+EndRun-at M ls [] x back p = coe 1 0 (i. MayFollow M (append-nil ls i) x) p.0
+EndRun-at M ls (y ∷ c) x back p =
+    coe 0 1 (i. MayFollow M (append_assoc ls (y ∷ []) c i) x) (EndRun-at M (ls ++ y ∷ []) c x back p.1)
 
 -- of two runs one is a suffix of the other
 pub start_suffix : (M : Map) (ls c d : List ℕ) → IsTrue (has_line M (first ls)) → StartRun M c ls →
@@ -114,7 +109,7 @@ start_suffix M ls c d k p q h =
     let n = length d - length c in
     let parts : take n d ++ drop n d ≡ d = take-append-drop n d in
     let back : StartRun M (drop n d) ls = StartRun-back M ls (take n d) (drop n d) (coe 1 0 (i. StartRun M (parts i) ls) q) in
-    let same : c ≡ drop n d = same_start_run M ls c (drop n d) k p back (sym (back_of (length c) d h)) in
+    let same : c ≡ drop n d = same_start_run M ls c (drop n d) k p back (omega (arith, length-drop n d)) in
     (take n d, sym parts ∙ ap (λ (zs : List ℕ). take n d ++ zs) (sym same))
 
 pub end_prefix : (M : Map) (ls c d : List ℕ) → IsTrue (has_line M (last ls)) → EndRun M ls c → EndRun M ls d →
@@ -135,7 +130,7 @@ start_no_longer M m ls (x ∷ front) c d e q h = grind (arith, positive, dm_of-a
 
 end_no_longer : (M : Map) → IsMap M → (ls c back d : List ℕ) → d ≡ c ++ back → EndRun M ls d → dm_of M d ≤ dm_of M c → c ≡ d
 end_no_longer M m ls c [] d e q h = sym (e ∙ append-nil c)
-end_no_longer M m ls c (x ∷ back) d e q h = grind (arith, positive, EndRun-back, dm_of-append)
+end_no_longer M m ls c (x ∷ back) d e q h = grind (arith, positive, EndRun-at, dm_of-append)
 
 pub longest_start : (M : Map) → IsMap M → (ls c d : List ℕ) → IsTrue (has_line M (first ls)) → LongestStart M c ls →
     StartRun M d ls → dm_of M d ≤ limit → (front : List ℕ) × (c ≡ front ++ d)

@@ -1,7 +1,7 @@
 -- Each direction is in one sector.
 use Rattle.std.proofs.Common.{inl, inr, ◌≡◌, ℕ, zero, suc, ◌+◌, ◌-◌, ◌*◌, ◌/◌, ◌%◌, ◌<◌, ◌≤◌, ℤ, pos, ◌≤ℤ◌, ◌<ℤ◌, ◌*ℤ◌}
-use Rattle.std.proofs.Common.{◌-ℤ◌, neg_ℤ, Bool, true, false, T, List, ◌∷◌, Some, unwrap_or, IsTrue, ◌==◌, map, refl}
-use Rattle.std.proofs.Common.{sym, ap, ◌∙◌, subst, arith, [], eq-eqb, int_le, int_lt, find}
+use Rattle.std.proofs.Common.{◌-ℤ◌, neg_ℤ, Bool, true, T, List, ◌∷◌, Some, unwrap_or, IsTrue, ◌==◌, map, refl, sym, ap}
+use Rattle.std.proofs.Common.{◌∙◌, subst, arith, [], eq-eqb, int_le, int_lt, find}
 use Rattle.std.proofs.lemmas.Bool.{and_parts, and_from, cases_order, or_left, or_right, both_ways, cond_both}
 use Rattle.std.proofs.lemmas.List.Folds.{list_any-append}
 use Rattle.std.proofs.lemmas.Int.{ints, by_lt_z}
@@ -19,8 +19,7 @@ lt_yes : (a b : ℤ) → int_lt a b ≡ true → a <ℤ b
 lt_yes a b e = record { lt = subst T (sym e) tt }
 
 T_is : (b : Bool) → T b → b ≡ true
-T_is true h = refl
-T_is false h = absurd h
+T_is b h = grind arith
 
 pub le_test : (a b : ℤ) → a ≤ℤ b → int_le a b ≡ true
 le_test a b h = T_is (int_le a b) h.le
@@ -36,12 +35,11 @@ up_to_below (suc n) = Each-push (λ k. k < suc n) (up_to n) n (λ k h. omega (ar
 
 has_below : (n k : ℕ) → k < n → has (up_to n) k ≡ true
 has_below zero k lt = absurd (omega arith)
-has_below (suc n) k lt =
-    list_any-append (λ y. y == k) (up_to n) (n ∷ [])
-    ∙ elim (cases_order k n) [
-      | inl e ↦ or_right _ _ (or_left _ _ (eq-eqb n k (sym e)))
-      | inr o ↦ elim o [ inl below ↦ or_left _ _ (has_below n k below) | inr above ↦ absurd (omega arith) ]
-    ]
+has_below (suc n) k lt = list_any-append (λ y. y == k) (up_to n) (n ∷ []) ∙ elim (cases_order k n) [
+  | inl e ↦ or_right _ _ (or_left _ _ (eq-eqb n k (sym e)))
+  | inr (inl below) ↦ or_left _ _ (has_below n k below)
+  | inr (inr above) ↦ absurd (omega arith)
+]
 
 -- ---- quadrants
 
@@ -86,56 +84,44 @@ side_on e n q j lq lj =
     let on : suc q * 8 + j ≡ q * 8 + j + 8 = omega arith in
     ap (side e n) on ∙ side_turned (q * 8 + j) (omega arith) e n
 
--- a direction between two boundaries of a quarter is in this quarter, where one before a boundary is before the next too
-of_quarter : (j : ℕ) → j < 8 → (e n : ℤ) → (At j e n → InQuadrant 0 e n)
-    × (InQuadrant 0 e n → side e n j <ℤ pos 0 → side e n (suc j) <ℤ pos 0)
-of_quarter zero lt e n = ((λ h. (omega (arith, ints), omega (arith, ints))), (λ h f. omega (arith, ints)))
-of_quarter (suc zero) lt e n = ((λ h. (omega (arith, ints), omega (arith, ints))), (λ h f. omega (arith, ints)))
-of_quarter (suc (suc zero)) lt e n = ((λ h. (omega (arith, ints), omega (arith, ints))), (λ h f. omega (arith, ints)))
-of_quarter (suc (suc (suc zero))) lt e n = ((λ h. (omega (arith, ints), omega (arith, ints))), (λ h f. omega (arith, ints)))
-of_quarter (suc (suc (suc (suc zero)))) lt e n =
-    ((λ h. (omega (arith, ints), omega (arith, ints))), (λ h f. omega (arith, ints)))
-of_quarter (suc (suc (suc (suc (suc zero))))) lt e n =
-    ((λ h. (omega (arith, ints), omega (arith, ints))), (λ h f. omega (arith, ints)))
-of_quarter (suc (suc (suc (suc (suc (suc zero)))))) lt e n =
-    ((λ h. (omega (arith, ints), omega (arith, ints))), (λ h f. omega (arith, ints)))
-of_quarter (suc (suc (suc (suc (suc (suc (suc zero))))))) lt e n =
-    ((λ h. (omega (arith, ints), omega (arith, ints))), (λ h f. omega (arith, ints)))
+-- a direction between boundary j of quarter q and the next is in this quarter, where one before a boundary is before the
+-- next too
+abbrev Stays : ℕ → ℕ → ℤ → ℤ → Type 0
+Stays q j e n =
+    ((pos 0 ≤ℤ side e n (q * 8 + j)) × (side e n (q * 8 + suc j) <ℤ pos 0) → InQuadrant q e n)
+    × (InQuadrant q e n → side e n (q * 8 + j) <ℤ pos 0 → side e n (q * 8 + suc j) <ℤ pos 0)
+
+of_quarter : (j : ℕ) → j < 8 → (e n : ℤ) → Stays 0 j e n
+of_quarter zero lt e n = omega (arith, ints)
+of_quarter (suc zero) lt e n = omega (arith, ints)
+of_quarter (suc (suc zero)) lt e n = omega (arith, ints)
+of_quarter (suc (suc (suc zero))) lt e n = omega (arith, ints)
+of_quarter (suc (suc (suc (suc zero)))) lt e n = omega (arith, ints)
+of_quarter (suc (suc (suc (suc (suc zero))))) lt e n = omega (arith, ints)
+of_quarter (suc (suc (suc (suc (suc (suc zero)))))) lt e n = omega (arith, ints)
+of_quarter (suc (suc (suc (suc (suc (suc (suc zero))))))) lt e n = omega (arith, ints)
 of_quarter _ lt e n = absurd (omega arith)
 
-sits_in : (q j : ℕ) → q < 4 → j < 8 → (e n : ℤ) → At (q * 8 + j) e n → InQuadrant q e n
-sits_in zero j lq lj e n h = let is : 0 * 8 + j ≡ j = omega arith in (of_quarter j lj e n).0 (coe 0 1 (i. At (is i) e n) h)
-sits_in (suc q) j lq lj e n h =
+in_quarter : (q j : ℕ) → q < 4 → j < 8 → (e n : ℤ) → Stays q j e n
+in_quarter zero j lq lj e n = of_quarter j lj e n
+in_quarter (suc q) j lq lj e n =
     let here = side_on e n q j (omega arith) (omega arith) in
-    let next : side e n (suc (suc q * 8 + j)) ≡ side (neg_ℤ n) e (suc (q * 8 + j)) =
-    (let on : suc (suc q * 8 + j) ≡ suc q * 8 + suc j = omega arith in ap (side e n) on)
-    ∙ side_on e n q (suc j) (omega arith) (omega arith)
-    ∙ (let back : q * 8 + suc j ≡ suc (q * 8 + j) = omega arith in ap (side (neg_ℤ n) e) back) in
-    sits_in q j (omega arith) lj (neg_ℤ n) e (coe 0 1 (i. pos 0 ≤ℤ (here i)) h.0, coe 0 1 (i. (next i) <ℤ pos 0) h.1)
+    let next = side_on e n q (suc j) (omega arith) (omega arith) in
+    coe 1 0 (i. ((pos 0 ≤ℤ here i) × (next i <ℤ pos 0) → InQuadrant (suc q) e n)
+    × (InQuadrant (suc q) e n → here i <ℤ pos 0 → next i <ℤ pos 0)) (in_quarter q j (omega arith) lj (neg_ℤ n) e)
 
-sits : (k : ℕ) → k < 32 → (e n : ℤ) → At k e n → InQuadrant (k / 8) e n
-sits k lt e n h = let is : k ≡ k / 8 * 8 + k % 8 =
-    omega arith in sits_in (k / 8) (k % 8) (omega arith) (omega arith) e n (subst (λ (m : ℕ). At m e n) is h)
-
-falls_in : (q j : ℕ) → q < 4 → j < 8 → (e n : ℤ) → InQuadrant q e n → side e n (q * 8 + j) <ℤ pos 0 →
-    side e n (q * 8 + suc j) <ℤ pos 0
-falls_in zero j lq lj e n h f =
-    let is : 0 * 8 + j ≡ j = omega arith in
-    let next : suc j ≡ 0 * 8 + suc j = omega arith in
-    coe 0 1 (i. side e n (next i) <ℤ pos 0) ((of_quarter j lj e n).1 h (coe 0 1 (i. side e n (is i) <ℤ pos 0) f))
-falls_in (suc q) j lq lj e n h f = coe 1 0 (i. (side_on e n q (suc j) (omega arith) (omega arith) i) <ℤ pos 0)
-    (falls_in q j (omega arith) lj (neg_ℤ n) e h (coe 0 1 (i. (side_on e n q j (omega arith) (omega arith) i) <ℤ pos 0) f))
-
-falls : (k : ℕ) → k < 32 → (e n : ℤ) → InQuadrant (k / 8) e n → side e n k <ℤ pos 0 → side e n (suc k) <ℤ pos 0
-falls k lt e n h f =
-    let is : k ≡ k / 8 * 8 + k % 8 = omega arith in
+by_quarter : (k : ℕ) → k < 32 → (e n : ℤ) → (At k e n → InQuadrant (k / 8) e n)
+    × (InQuadrant (k / 8) e n → side e n k <ℤ pos 0 → side e n (suc k) <ℤ pos 0)
+by_quarter k lt e n =
+    let is : k / 8 * 8 + k % 8 ≡ k = omega arith in
     let next : k / 8 * 8 + suc (k % 8) ≡ suc k = omega arith in
-    subst (λ (m : ℕ). side e n m <ℤ pos 0) next
-    (falls_in (k / 8) (k % 8) (omega arith) (omega arith) e n h (subst (λ (m : ℕ). side e n m <ℤ pos 0) is f))
+    coe 0 1 (i. ((pos 0 ≤ℤ side e n (is i)) × (side e n (next i) <ℤ pos 0) → InQuadrant (k / 8) e n)
+    × (InQuadrant (k / 8) e n → side e n (is i) <ℤ pos 0 → side e n (next i) <ℤ pos 0))
+    (in_quarter (k / 8) (k % 8) (omega arith) (omega arith) e n)
 
 -- the directions of a quarter are on its first boundary or clockwise of it, and before the first of the next quarter
 turns : (q : ℕ) → q < 4 → (e n : ℤ) → InQuadrant q e n → (pos 0 ≤ℤ side e n (q * 8)) × (side e n (q * 8 + 8) <ℤ pos 0)
-turns zero lq e n h = (omega (arith, ints), omega (arith, ints))
+turns zero lq e n h = omega (arith, ints)
 turns (suc q) lq e n h =
     let r = turns q (omega arith) (neg_ℤ n) e h in
     let start : suc q * 8 ≡ q * 8 + 8 = omega arith in (
@@ -153,7 +139,7 @@ falls_on e n j (suc d) lt same q h =
     let on : j + suc d ≡ suc (j + d) = omega arith in
     let here : (j + d) / 8 ≡ j / 8 = omega arith in
     let before : side e n (j + d) <ℤ pos 0 = falls_on e n j d (omega arith) here q h in
-    let after = falls (j + d) (omega arith) e n (subst (λ (k : ℕ). InQuadrant k e n) (sym here) q) before in
+    let after = (by_quarter (j + d) (omega arith) e n).1 (subst (λ (k : ℕ). InQuadrant k e n) (sym here) q) before in
     subst (λ (k : ℕ). side e n k <ℤ pos 0) (sym on) after
 
 -- a direction is in one quadrant
@@ -170,7 +156,7 @@ clash z a b = omega (arith, ints)
 
 later_fails : (e n : ℤ) (j k : ℕ) → j < k → k < 32 → At j e n → At k e n → ⊥
 later_fails e n j k lt h a b =
-    let p = sits j (omega arith) e n a in
+    let p = (by_quarter j (omega arith) e n).0 a in
     elim (cases_order (j / 8) (k / 8)) [
       | inl same ↦
           let d = k - suc j in
@@ -178,10 +164,8 @@ later_fails e n j k lt h a b =
           let next : suc j / 8 ≡ j / 8 = omega arith in
           clash (side e n k) b.0 (coe 0 1 (i. side e n (on i) <ℤ pos 0)
           (falls_on e n (suc j) d (omega arith) (omega arith) (coe 1 0 (i. InQuadrant (next i) e n) p) a.1))
-      | inr o ↦ elim o [
-        | inl less ↦ one_quadrant e n (j / 8) (k / 8) less (omega arith) p (sits k h e n b)
-        | inr more ↦ absurd (omega arith)
-      ]
+      | inr (inl less) ↦ one_quadrant e n (j / 8) (k / 8) less (omega arith) p ((by_quarter k h e n).0 b)
+      | inr (inr more) ↦ absurd (omega arith)
     ]
 
 at_of : (e n : ℤ) (k : ℕ) → IsTrue (lies_between (boundary k) (boundary (suc k)) (vector e n)) → At k e n

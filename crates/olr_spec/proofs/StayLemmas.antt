@@ -51,8 +51,7 @@ module _ (M N : Map) (ls : List ℕ) (same : Each (SameLine M N) ls) (s t : ℕ)
   Both p = (query_to M ls i p ≡ query_to N ls i p) × (Covered M ls i p ↔ Covered N ls i p)
 
   both : Both k
-  both =
-      (to_same M N ls same s t joined i k query, covered_same M N ls same s t joined i k query routes k (omega arith))
+  both = grind (arith, to_same, covered_same)
 
   tested : IsLastTested N ls i k
   tested = query_stays M N ls same s t joined i k query routes
@@ -269,21 +268,20 @@ module _ (M N : Map) (m : IsMap M) (n : IsMap N) (P : Path) (is : IsTrue (is_pat
 
 module _ (M N : Map) (m : IsMap M) (n : IsMap N) (P : Path) (is : IsTrue (is_path P.lines))
     (same : Each (SameLine M N) P.lines) (queries : List CoverageQuery) (routes : RoutesOf M N queries) where
+  -- by the faults f and g of the path on the two maps
+  abbrev Stay : Option Refusal → Option Refusal → Type 0
+  Stay f g =
+      ((A : Answer) → MatchOption f (Encoding M P A) (λ r. A ≡ Refused r) → MatchOption g (Encoding N P A) (λ r. A ≡ Refused r))
+      × ((v : ℕ) → MatchOption f (TraversedOfExtended M P v) (λ _. ⊥) ↔ MatchOption g (TraversedOfExtended N P v) (λ _. ⊥))
+      × MatchOption g (QueriesOfExtended N P queries) (λ _. queries ≡ [])
+
   pub queried_kept : ((v : ℕ) → TraversedOf M P v → SameRound M N v) → QueriesOf M P queries
       → ((A : Answer) → Encodes M P A → Encodes N P A) × ((v : ℕ) → TraversedOf M P v ↔ TraversedOf N P v)
       × QueriesOf N P queries
   queried_kept traversed o =
-      subst (λ (f : Option Refusal). ((A : Answer) → Encodes M P A
-      → MatchOption f (Encoding N P A) (λ r. A ≡ Refused r))
-      × ((v : ℕ) → TraversedOf M P v ↔ MatchOption f (TraversedOfExtended N P v) (λ _. ⊥)) × MatchOption f
-      (QueriesOfExtended N P queries) (λ _. queries ≡ []))
-      (fault_same M N P same)
+      subst (Stay (path_fault M P)) (fault_same M N P same)
       (by_fault M P (λ f. ((v : ℕ) → MatchOption f (TraversedOfExtended M P v) (λ _. ⊥) → SameRound M N v)
-      → MatchOption f (QueriesOfExtended M P queries) (λ _. queries ≡ [])
-      → ((A : Answer) → MatchOption f (Encoding M P A) (λ r. A ≡ Refused r)
-      → MatchOption f (Encoding N P A) (λ r. A ≡ Refused r))
-      × ((v : ℕ) → MatchOption f (TraversedOfExtended M P v) (λ _. ⊥) ↔ MatchOption f (TraversedOfExtended N P v) (λ _. ⊥))
-      × MatchOption f (QueriesOfExtended N P queries) (λ _. queries ≡ []))
+      → MatchOption f (QueriesOfExtended M P queries) (λ _. queries ≡ []) → Stay f f)
       (λ e traversed o. (
         answer_stays M N m n P is e same traversed queries o routes,
         traversed_stays M N m n P is e same traversed queries o routes,

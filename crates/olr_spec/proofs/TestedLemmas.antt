@@ -12,6 +12,7 @@ use Rattle.olr_spec.specs.Footprint.{Sees, Touched, On_path, On_start_run, On_en
 use Rattle.olr_spec.specs.Queries.{Traversed, TraversedOfExtended, Needed, IsLastTested, CoverageQuery, query_to}
 use Rattle.olr_spec.specs.Queries.{IsQuery, querying, QueriesOfExtended}
 use Rattle.olr_spec.specs.Laws.{OneLastTested, SomeLastTested, OneQueries, SomeQueries, FootIsQueried, FootAffected}
+use Rattle.olr_spec.specs.Detours.{Near}
 use Rattle.olr_spec.proofs.AnswerLemmas.{path_also, path_at, same_by, by_fault}
 use Rattle.olr_spec.proofs.DecideLemmas.{dec_and, dec_le, dec_Covered, greatest_or_none, some_follow, some_encoding}
 use Rattle.olr_spec.proofs.ListLemmas.{has_here, has_there}
@@ -46,27 +47,21 @@ module _ (M : Map) (m : IsMap M) (ls : List ℕ) (i f : ℕ)
   test_on : (fuel k : ℕ) → length ls ≤ k + fuel → i < k → k < length ls → ((j : ℕ) → i < j → j < k → Covered M ls i j)
       → (k ≡ i + 1) ⊎ Needed M ls i k → (j : ℕ) × IsLastTested M ls i j
   test_on zero k u a h before n = absurd (omega arith)
-  test_on (suc fuel) k u a h before n = elim (dec_Covered M m ls i k) [
-    | no bare ↦ (k, record { after = a; inside = h; before = before; needed = n; last = inl bare })
-    | yes c ↦ elim (cases_lt k most) [
-      | inr done ↦ (
-        k,
-        record {
-          after = a;
-          inside = h;
-          before = before;
-          needed = n;
-          last = inr (λ j w. omega (arith, far.others w.0 (w.1, w.2)));
-        },
-      )
-      | inl more ↦ test_on fuel (k + 1) (omega arith) (omega arith) (omega arith)
-          (λ j b g. elim (cases_eq j k) [
-            | inl e ↦ subst (Covered M ls i) (sym e) c
-            | inr ne ↦ before j b (omega arith)
-          ])
-          (inr (f, far.holds.0, far.holds.1, omega arith))
-    ]
-  ]
+  test_on (suc fuel) k u a h before n =
+      let found : (¬ Covered M ls i k) ⊎ ((j : ℕ) → Needed M ls i j → j ≤ k) → (j : ℕ) × IsLastTested M ls i j =
+      λ l. (k, record { after = a; inside = h; before = before; needed = n; last = l }) in
+      elim (dec_Covered M m ls i k) [
+        | no bare ↦ found (inl bare)
+        | yes c ↦ elim (cases_lt k most) [
+          | inr done ↦ found (inr (λ j w. omega (arith, far.others w.0 (w.1, w.2))))
+          | inl more ↦ test_on fuel (k + 1) (omega arith) (omega arith) (omega arith)
+              (λ j b g. elim (cases_eq j k) [
+                | inl e ↦ subst (Covered M ls i) (sym e) c
+                | inr ne ↦ before j b (omega arith)
+              ])
+              (inr (f, far.holds.0, far.holds.1, omega arith))
+        ]
+      ]
 
 pub some_last_tested : SomeLastTested
 some_last_tested M m ls i h =
@@ -75,10 +70,9 @@ some_last_tested M m ls i h =
     (suc (length ls)) (λ k n. omega arith)) [
       | inl g ↦ test_on M m ls i g.0 g.1 (length ls) (i + 1) (omega arith) (omega arith) h
           (λ j b l. absurd (omega arith)) (inl refl)
-      | inr none ↦ absurd (none i (
-        omega arith,
-        subst (λ (zs : List ℕ). dm_of M zs ≤ limit) (sym (empty_stretch ls i i (omega arith))) (omega arith),
-      ))
+      | inr none ↦
+          let empty : dm_of M (stretch ls i i) ≡ 0 = ap (dm_of M) (empty_stretch ls i i (omega arith)) in
+          absurd (none i (omega arith, omega arith))
     ]
 
 -- ---- the coverage queries
@@ -89,11 +83,8 @@ one_query M ls i k l p q = p.2 ∙ ap (query_to M ls i) (one_last_tested M ls i 
 one_zip : (M : Map) (ls is : List ℕ) (ks hs : List CoverageQuery) → AllZip (IsQuery M ls) is ks → AllZip (IsQuery M ls) is hs
     → ks ≡ hs
 one_zip M ls [] [] [] p q = refl
-one_zip M ls [] [] (h ∷ hs) p q = absurd q
-one_zip M ls [] (k ∷ ks) hs p q = absurd p
-one_zip M ls (i ∷ is) [] hs p q = absurd p
-one_zip M ls (i ∷ is) (k ∷ ks) [] p q = absurd q
 one_zip M ls (i ∷ is) (k ∷ ks) (h ∷ hs) p q = λ j. one_query M ls i k h p.0 q.0 j ∷ one_zip M ls is ks hs p.1 q.1 j
+one_zip M ls _ _ _ p q = grind arith
 
 some_zip : (M : Map) → IsMap M → (ls is : List ℕ) → ((i : ℕ) → has is i ≡ true → i + 2 < length ls)
     → (queries : List CoverageQuery) × AllZip (IsQuery M ls) is queries
@@ -113,10 +104,8 @@ module _ (M : Map) (m : IsMap M) (P : Path) (is : IsTrue (is_path P.lines)) (sou
   some_list =
       let p = (some_encoding M m P is sound).1 in
       let ls = (extended_path M P p.before p.after).lines in
-      let z = some_zip M m ls (querying ls (0 ∷ p.points)) (λ i on. (queries_here ls (0 ∷ p.points) i on).1) in (
-        z.0,
-        path_also p z.1,
-      )
+      let z = some_zip M m ls (querying ls (0 ∷ p.points)) (λ i on. (queries_here ls (0 ∷ p.points) i on).1) in
+      (z.0, path_also p z.1)
 
   -- the footprint
   foot_there : (queries : List CoverageQuery) → QueriesOfExtended M P queries → (v : ℕ) → FootOf M P v
@@ -131,31 +120,21 @@ module _ (M : Map) (m : IsMap M) (P : Path) (is : IsTrue (is_path P.lines)) (sou
       by (On_path n) = inl (traversed (inl n))
       by (On_start_run n) = inl (traversed (inr (inl n)))
       by (On_end_run n) = inl (traversed (inr (inr n)))
-      by (Within_reach t) =
-          let ls = (extended_path M P o.before o.after).lines in
-          let l = query_for M ls (0 ∷ o.points) queries o.holds t.0 t.1 t.2 in
-          inr (l.0, l.1, subst (λ (k : CoverageQuery). Sees M k v) (one_query M ls t.0 t.3.0 l.0 t.3.1 l.2) t.3.2)
+      by (Within_reach (i, on, far, (q, query, sees))) =
+          let l = query_for M _ (0 ∷ o.points) queries o.holds i on far in
+          inr (l.0, l.1, subst (λ (k : CoverageQuery). Sees M k v) (one_query M _ i q l.0 query l.2) sees)
 
   foot_here : (queries : List CoverageQuery) → QueriesOfExtended M P queries → (v : ℕ)
       → TraversedOfExtended M P v ⊎ ((l : CoverageQuery) × Contains queries l × Sees M l v) → FootOf M P v
   foot_here queries o v (inl p) =
       let ls = (extended_path M P p.before p.after).lines in
       let js = some_follow M m ls (length ls) 0 (omega arith) in
-      record {
-        before = p.before;
-        after = p.after;
-        points = js.0;
-        tried = p.tried;
-        follow = js.1;
-        holds = by
-            p.traversed;
-      }
-    where
-      by : {js : List ℕ} → Traversed M (extended_path M P p.before p.after).lines p.before p.after v
-          → Touched M (extended_path M P p.before p.after).lines p.before p.after js v
-      by (inl n) = On_path n
-      by (inr (inl n)) = On_start_run n
-      by (inr (inr n)) = On_end_run n
+      let touched : Touched M ls p.before p.after js.0 v = elim p.traversed [
+        | inl n ↦ On_path n
+        | inr (inl n) ↦ On_start_run n
+        | inr (inr n) ↦ On_end_run n
+      ] in
+      record { before = p.before; after = p.after; points = js.0; tried = p.tried; follow = js.1; holds = touched }
   foot_here queries o v (inr r) =
       let i = query_from M ((extended_path M P o.before o.after).lines) (0 ∷ o.points) queries o.holds r.0 r.1 in
       path_also o (Within_reach (i.0, i.1, i.2, (r.0, i.3, r.2)))
@@ -180,17 +159,9 @@ pub foot_affected : FootAffected
 foot_affected M N m T round P is queries o = (
   (λ f. elim ((foot_queried M m P is queries o f.0).0 f.2) [
     | inl traversed ↦ inl (f.0, f.1, traversed)
-    | inr (l, on, r) ↦ inr (
-      l,
-      on,
-      (near_same M N T round l.from l.within).0 (record {
-        node = f.0;
-        route = r.0;
-        touched = f.1;
-        leads = r.1;
-        within = r.2;
-      }),
-    )
+    | inr (l, on, r) ↦
+        let n : Near M T l.from l.within = record { node = f.0; route = r.0; touched = f.1; leads = r.1; within = r.2 } in
+        inr (l, on, (near_same M N T round l.from l.within).0 n)
   ]),
   elim [
     | inl traversed ↦ (traversed.0, traversed.1, (foot_queried M m P is queries o traversed.0).1 (inl traversed.2))

@@ -1,7 +1,6 @@
 -- One edit restores the map from before an accepted edit, and the empty map is sound.
 use Rattle.std.proofs.Common.{inl, inr, ◌≡◌, ◌≢◌, ℕ, Bool, true, false, cond, ◌||◌, List, ◌∷◌, map, Option, Some, None}
-use Rattle.std.proofs.Common.{is_some, Result, Ok, refl, sym, ap, ◌∙◌, nat_cmp, ◌==◌, unwrap_or, [], arith, eqb-true}
-use Rattle.std.proofs.Common.{filter}
+use Rattle.std.proofs.Common.{is_some, Result, Ok, sym, ap, ◌∙◌, nat_cmp, ◌==◌, unwrap_or, [], arith, eqb-true, filter}
 use Rattle.std.proofs.lemmas.Bool.{cases_eq, cases_Bool, both_ways, and_from, or_cases}
 use Rattle.std.specs.List.{list_any}
 use Rattle.std.specs.Cmp.{nat_cmp_total}
@@ -13,7 +12,7 @@ use Rattle.olr_spec.specs.Laws.{EmptyIsSound, EditsUndo}
 use Rattle.olr_spec.proofs.MapLemmas.{has-lines_where, passes_at}
 use Rattle.olr_spec.proofs.ListLemmas.{has_here}
 use Rattle.olr_spec.proofs.AgreeLemmas.{some_is}
-use Rattle.olr_spec.proofs.EditLemmas.{made_by, got_other, got_same, left_other, left_same}
+use Rattle.olr_spec.proofs.EditLemmas.{got_other, got_same, left_other, left_same, edit_laws}
 use Rattle.olr_spec.proofs.OptionLemmas.{none_of, there_not}
 
 -- ---- finite maps
@@ -54,8 +53,7 @@ any_has test (e ∷ es) h =
     ] h
 
 pub passed_line : (test : Line → Bool) (o : Option Line) → passes_at test o ≡ true → (l : Line) × (o ≡ Some l) × (test l ≡ true)
-passed_line test None h = absurd cc
-passed_line test (Some l) h = (l, refl, h)
+passed_line test o h = grind arith
 
 -- a node that isn't on a sound map has no lines
 unused_where_absent : (M : Map) → IsMap M → (v : ℕ) → has_node M v ≡ false → in_use M v ≡ false
@@ -86,12 +84,8 @@ back_of M (Set_line x frc fow len shape) = let l = line_at M x in Set_line x l.f
 back_of M (Drop_line x) = Add_line x (line_at M x)
 
 pub takes_back : (M : Map) → IsMap M → (N : Map) (e : Edit) → edited M e ≡ Ok N → edited N (back_of M e) ≡ Ok M
-takes_back M m N (Add_node v c) e = grind (arith, made_by, drop_added, none_of, got_same, unused_where_absent)
-takes_back M m N (Move_node v c) e = grind (arith, made_by, set_back, some_is, got_same)
-takes_back M m N (Drop_node v) e = grind (arith, made_by, put_back, some_is, left_same)
-takes_back M m N (Add_line x l) e = grind (arith, made_by, drop_added, none_of, got_same)
-takes_back M m N (Set_line x frc fow len shape) e = grind (arith, made_by, got_same, set_back, some_is)
-takes_back M m N (Drop_line x) e = grind (arith, made_by, and_from, put_back, some_is, left_same)
+takes_back M m N e p =
+    grind (arith, edit_laws, drop_added, put_back, set_back, none_of, some_is, unused_where_absent, and_from)
 
 pub edits_undo : EditsUndo
 edits_undo M N e m h = (back_of M e, takes_back M m N e h)
