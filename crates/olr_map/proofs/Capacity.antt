@@ -1,5 +1,5 @@
 -- Empty tables, and tables with more capacity.
-use Rattle.std.proofs.Common.{◌≡◌, ◌==◌, ◌&&◌, ℕ, ◌<◌, ◌≤◌, Bool, true, false, cond, [], Option, Some, None, is_some}
+use Rattle.std.proofs.Common.{◌≡◌, ◌==◌, ◌&&◌, ℕ, ◌<◌, ◌≤◌, Bool, true, false, cond, [], length, Option, Some, None, is_some}
 use Rattle.std.proofs.Common.{unwrap_or, refl, sym, ap, ◌∙◌, subst, arith}
 use Rattle.std.specs.Option.{option_map, option_map_or}
 use Rattle.std.specs.FinMap.{FinMap}
@@ -8,6 +8,7 @@ use Rattle.std.specs.Ordering.{nat_cmp}
 use Rattle.std.proofs.lemmas.Bool.{and_from, and_parts, cond-true, eqb-true, eq-eqb}
 use Rattle.std.proofs.lemmas.Option.{same_Some}
 use Rattle.olr_spec.specs.Coordinates.{Coord}
+use Rattle.olr_spec.specs.Map as maps
 use Rattle.olr_spec.specs.Map.{Map, IsMap, Line, has_node, has_line, line_at}
 use Rattle.olr_map.specs.SlotIndexes.{pairs_of, slot_by, spare_of}
 use Rattle.olr_map.specs.Slotted.{at}
@@ -15,9 +16,9 @@ use Rattle.olr_map.specs.SlotMaps.{held, things_of, all_held, spare_numbers}
 use Rattle.olr_map.specs.HavingSlots.{in_slot}
 use Rattle.olr_map.specs.Columns.{node_slots, node_room}
 use Rattle.olr_map.specs.NodeLinks.{links_at}
-use Rattle.olr_map.specs.Linked.{spare_links, IsRoomier}
-use Rattle.olr_map.specs.Tables.{far, node_in, links_in, map_from, node_slot, IsListed, IsIndexed, AreTables}
-use Rattle.olr_map.specs.Changes.{Room, tables_map, room_of, spare_at, IsRoomWithin, IsReserved}
+use Rattle.olr_map.specs.Linked.{lines_on, links_room, IsRoomier}
+use Rattle.olr_map.specs.Tables.{far, lines_at, node_in, links_in, map_from, node_slot, IsListed, IsIndexed, AreTables}
+use Rattle.olr_map.specs.Changes.{Room, HasRoomFor, tables_map, room_of, room_at, IsRoomWithin, IsReserved}
 use Rattle.olr_map.specs.declared.blocks.Blocks.{Blocks}
 use Rattle.olr_map.specs.declared.links.Links.{Links}
 use Rattle.olr_map.specs.declared.slots.NodeSlots.{NodeSlots}
@@ -72,15 +73,14 @@ kept_none b s ls no_nodes no_slots no_lines =
 -- ---- at least as much capacity
 
 pub within_same : (R : Room) → IsRoomWithin R R
-within_same R = record { nodes = omega arith; outs = λ v. omega arith; ins = λ v. omega arith }
+within_same R = record { nodes = omega arith; lines = λ side v. omega arith }
 
 pub within_trans : (R S T : Room) → IsRoomWithin R S → IsRoomWithin S T → IsRoomWithin R T
 within_trans R S T a b =
     let n = a.nodes in let m = b.nodes in
     record {
       nodes = omega arith;
-      outs = λ v. let p = a.outs v in let q = b.outs v in omega arith;
-      ins = λ v. let p = a.ins v in let q = b.ins v in omega arith;
+      lines = λ side v. let p = a.lines side v in let q = b.lines side v in omega arith;
     }
 
 pub reserved_trans : (s t u : RoadMap) → IsReserved s t → IsReserved t u → IsReserved s u
@@ -96,6 +96,19 @@ reserved_trans s t u a b =
       lines = omega arith;
       slots = λ v. b.slots v ∙ a.slots v;
     }
+
+-- there is capacity for a line, first in the list of its start and then in that of its end
+pub both_fit : (s mid new : RoadMap) (x : ℕ) (l : Line) (p q : ℕ) → (slot_by s.index l.from ≡ Some p)
+    × (slot_by s.index l.to ≡ Some q) → IsReserved s mid → IsReserved mid new →
+    ((v : ℕ) → slot_by s.index v ≡ Some p → length (lines_at Out (tables_map mid) v) < room_at Out mid v) →
+    ((v : ℕ) → slot_by mid.index v ≡ Some q → length (lines_at In (tables_map new) v) < room_at In new v) →
+    HasRoomFor (tables_map new) (room_of new) (maps.Add_line x l)
+both_fit s mid new x l p q slots first second out into Out =
+    let fits = out l.from slots.0 in
+    let more = second.more.lines Out l.from in
+    let same = ap (λ M. length (lines_at Out M l.from)) second.map in
+    omega arith
+both_fit s mid new x l p q slots first second out into In = into l.to (first.slots l.to ∙ slots.1)
 
 -- ---- more capacity for numbers
 
@@ -129,14 +142,14 @@ module _ (t : RoadMap) (b' : Blocks) (same : (k : ℕ) → slot_by b' k ≡ slot
   pub index_reserved : (kept' : AreTables b' (node_slots t.nodes) (all_held t.lines)) → spare_of t.index ≤ spare_of b' →
       IsReserved t (record { index = b'; nodes = t.nodes; lines = t.lines; kept = kept' })
   index_reserved kept' le =
-      let stays : (side : Side) (v : ℕ) → spare_at side t v
-      ≤ option_map_or (λ l. spare_links l) (links_in side b' (node_slots t.nodes) v) 0 =
+      let stays : (side : Side) (v : ℕ) → room_at side t v
+      ≤ option_map_or (λ l. links_room l) (links_in side b' (node_slots t.nodes) v) 0 =
       λ side v.
-      let is = ap (λ o. option_map_or (λ l. spare_links l) (option_map (links_at side) o) 0) (index_node v) in
+      let is = ap (λ o. option_map_or (λ l. links_room l) (option_map (links_at side) o) 0) (index_node v) in
       omega arith in
       record {
         map = index_map;
-        more = record { nodes = omega arith; outs = stays Out; ins = stays In };
+        more = record { nodes = omega arith; lines = stays };
         nodes = le;
         lines = omega arith;
         slots = same;
@@ -194,7 +207,7 @@ module _ (t : RoadMap) (nodes' : NodeSlots) (side : Side) (v : ℕ) (old new : L
                   ∙ ap (λ z. links_in z t.index (node_slots t.nodes) v) (side_is s side both.0) ∙ r.was,
               subst (IsRoomier old) (same_Some _ _ j) more,
             )
-        | false ↦ λ i j. (h, j, record { lines = refl; ends = refl; spare = omega arith })
+        | false ↦ λ i j. (h, j, record { lines = refl; ends = refl; room = omega arith })
       ] refl (sym (r.now s k) ∙ is)
 
   pub roomier_kept : AreTables t.index (node_slots nodes') (all_held t.lines)
@@ -213,36 +226,39 @@ module _ (t : RoadMap) (nodes' : NodeSlots) (side : Side) (v : ℕ) (old new : L
   roomier_reserved kept' room =
       record {
         map = roomier_map;
-        more = record { nodes = omega arith; outs = stays Out; ins = stays In };
+        more = record { nodes = omega arith; lines = stays };
         nodes = omega arith;
         lines = omega arith;
         slots = λ u. refl;
       } where
-        stays : (s : Side) (k : ℕ) → option_map_or (λ l. spare_links l) (links_in s t.index (node_slots t.nodes) k) 0
-            ≤ option_map_or (λ l. spare_links l) (links_in s t.index (node_slots nodes') k) 0
+        stays : (s : Side) (k : ℕ) → option_map_or (λ l. links_room l) (links_in s t.index (node_slots t.nodes) k) 0
+            ≤ option_map_or (λ l. links_room l) (links_in s t.index (node_slots nodes') k) 0
         stays s k = step (links_in s t.index (node_slots nodes') k) refl where
           step : (o : Option Links) → links_in s t.index (node_slots nodes') k ≡ o →
-              option_map_or (λ l. spare_links l) (links_in s t.index (node_slots t.nodes) k) 0
-              ≤ option_map_or (λ l. spare_links l) o 0
+              option_map_or (λ l. links_room l) (links_in s t.index (node_slots t.nodes) k) 0
+              ≤ option_map_or (λ l. links_room l) o 0
           step (Some h) e =
               let m = roomier_links s k h e in
-              let le = m.2.spare in
-              let is = ap (λ o. option_map_or (λ l. spare_links l) o 0) m.1 in
+              let le = m.2.room in
+              let is = ap (λ o. option_map_or (λ l. links_room l) o 0) m.1 in
               omega arith
           step None e =
               elim (same_side s side && (v == k)) as (λ c.
               cond c (Some new) (links_in s t.index (node_slots t.nodes) k) ≡ None →
-              option_map_or (λ l. spare_links l) (links_in s t.index (node_slots t.nodes) k) 0 ≤ 0) [
+              option_map_or (λ l. links_room l) (links_in s t.index (node_slots t.nodes) k) 0 ≤ 0) [
                 | true ↦ λ j. absurd cc
-                | false ↦ λ j. let is = ap (λ o. option_map_or (λ l. spare_links l) o 0) j in omega arith
+                | false ↦ λ j. let is = ap (λ o. option_map_or (λ l. links_room l) o 0) j in omega arith
               ] (sym (r.now s k) ∙ e)
 
   -- the node in this slot has capacity
-  pub roomier_here : (p u : ℕ) → slot_by t.index v ≡ Some p → slot_by t.index u ≡ Some p → 0 < spare_links new →
-      0 < option_map_or (λ l. spare_links l) (links_in side t.index (node_slots nodes') u) 0
+  pub roomier_here : (p u : ℕ) → slot_by t.index v ≡ Some p → slot_by t.index u ≡ Some p →
+      length (lines_on new) < links_room new
+      → length (lines_at side (map_from t.index (node_slots nodes') (all_held t.lines)) u)
+      < option_map_or (λ l. links_room l) (links_in side t.index (node_slots nodes') u) 0
   roomier_here p u here there lt =
       let one = one_node t.index (node_slots t.nodes) t.kept.indexed v u p here there in
-      let is = ap (λ o. option_map_or (λ l. spare_links l) o 0) (r.now side u
-      ∙ cond-true (same_side side side && (v == u)) (Some new) _
-      (and_from (same_side side side) (v == u) (itself side) (eq-eqb v u one))) in
+      let is = r.now side u ∙ cond-true (same_side side side && (v == u)) (Some new) _
+      (and_from (same_side side side) (v == u) (itself side) (eq-eqb v u one)) in
+      let long = ap (λ zs. length zs) (roomier_kept.listed side u new is).numbers in
+      let room = ap (λ o. option_map_or (λ l. links_room l) o 0) is in
       omega arith

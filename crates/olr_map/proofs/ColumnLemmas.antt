@@ -9,6 +9,7 @@ use Rattle.olr_map.specs.Slotted.{at, IsWritten, IsInserted, IsRemoved, IsReplac
 use Rattle.olr_map.specs.Slabs.{slots_of, Fills}
 use Rattle.olr_map.specs.Columns.{with_lines, rows, node_slots}
 use Rattle.olr_map.specs.NodeLinks.{links_at, with_links, IsRelinked}
+use Rattle.olr_map.specs.Tables.{sides}
 use Rattle.olr_map.specs.declared.links.Links.{Links}
 use Rattle.olr_map.specs.declared.slab.Slab.{Slab}
 use Rattle.olr_map.specs.declared.slots.NodeEntry.{NodeEntry}
@@ -99,11 +100,14 @@ module _ (s : NodeSlots) where
       IsComposed (at hs p) (get_or os p d) (get_or is p d) e
   columns p e d here = composed _ _ _ e (sym (row_at hs os is p d s.outs_beside s.ins_beside) ∙ here)
 
-  pub outs_read : (p : ℕ) (e : NodeEntry) (w : Links) → at (node_slots s) p ≡ Some e → w ≡ get_or os p w → w ≡ e.outs
-  outs_read p e w here r = r ∙ (columns p e w here).outs
+  -- the lines on one side
+  abbrev pub column : Side → Column
+  column side = sides os is side
 
-  pub ins_read : (p : ℕ) (e : NodeEntry) (w : Links) → at (node_slots s) p ≡ Some e → w ≡ get_or is p w → w ≡ e.ins
-  ins_read p e w here r = r ∙ (columns p e w here).ins
+  pub links_read : (side : Side) (p : ℕ) (e : NodeEntry) (w : Links) → at (node_slots s) p ≡ Some e →
+      w ≡ get_or (column side) p w → w ≡ links_at side e
+  links_read Out p e w here r = r ∙ (columns p e w here).outs
+  links_read In p e w here r = r ∙ (columns p e w here).ins
 
   -- ---- after a change of one column, or of all
 
@@ -134,56 +138,47 @@ module _ (s : NodeSlots) where
     pub head_there : is_some (at hs p) ≡ true
     head_there = ap (λ v. is_some v) (columns p e e.outs here).head
 
-    pub outs_are : {side : Side} → side ≡ Out → (w : Links) → w ≡ get_or os p w → w ≡ links_at side e
-    outs_are at_side w r = outs_read p e w here r ∙ ap (λ (x : Side). links_at x e) (sym at_side)
-
-    pub ins_are : {side : Side} → side ≡ In → (w : Links) → w ≡ get_or is p w → w ≡ links_at side e
-    ins_are at_side w r = ins_read p e w here r ∙ ap (λ (x : Side). links_at x e) (sym at_side)
-
     -- the entry is that of its columns
     pub entry_is : (h : NodeHead) (o i : Links) → at hs p ≡ Some h → o ≡ get_or os p o → i ≡ get_or is p i →
         e ≡ record { outs = o; ins = i; id = h.id; place = h.place }
     entry_is h o i at_head r q =
         let head : record { id = e.id; place = e.place } ≡ h = same_Some _ _ (sym (columns p e o here).head ∙ at_head) in
         λ j. record {
-          outs = sym (outs_read p e o here r) j;
-          ins = sym (ins_read p e i here q) j;
+          outs = sym (links_read Out p e o here r) j;
+          ins = sym (links_read In p e i here q) j;
           id = (head j).id;
           place = (head j).place;
         }
 
     -- other lines on one side
-    pub relinked_outs : {side : Side} {R : Links → Links → Type 0} → side ≡ Out → (w l : Links) → w ≡ get_or os p w → R w l
-        → IsRelinked (node_slots s) (rows hs (set os p l) is) side p R
-    relinked_outs {side} {R} at_side w l r holds =
-        let lt = inside p there in
-        let same = s.outs_beside in
-        let long = length-set os p l in
-        let k = columns p e w here in
-        subst (λ (x : Side). IsRelinked (node_slots s) (rows hs (set os p l) is) x p R) (sym at_side) (record {
+    pub relinked : (side : Side) {R : Links → Links → Type 0} (w l : Links) → w ≡ get_or (column side) p w → R w l →
+        IsRelinked (node_slots s) (rows hs (sides (set os p l) os side) (sides is (set is p l) side)) side p R
+    relinked side {R} w l r holds =
+        record {
           entry = e;
           links = l;
-          is = rows_written hs (set os p l) is (omega arith) s.ins_beside p w (at hs p) l (get_or is p w) (Some e)
-              (Some (with_links Out e l)) here (λ j. with_lines (k.head j) l (k.ins j)) (unchanged_at (at hs) p _ refl)
-              (λ q. get_or-written os p q l w (omega arith)) (unchanged_at (λ q. get_or is q w) p _ refl);
-          holds = subst (λ (o : Links). R o l) (outs_read p e w here r) holds;
-        })
+          is = row side;
+          holds = subst (λ (o : Links). R o l) (links_read side p e w here r) holds;
+        } where
+          k : IsComposed (at hs p) (get_or os p w) (get_or is p w) e
+          k = columns p e w here
 
-    pub relinked_ins : {side : Side} {R : Links → Links → Type 0} → side ≡ In → (w l : Links) → w ≡ get_or is p w → R w l
-        → IsRelinked (node_slots s) (rows hs os (set is p l)) side p R
-    relinked_ins {side} {R} at_side w l r holds =
-        let lt = inside p there in
-        let same = s.ins_beside in
-        let long = length-set is p l in
-        let k = columns p e w here in
-        subst (λ (x : Side). IsRelinked (node_slots s) (rows hs os (set is p l)) x p R) (sym at_side) (record {
-          entry = e;
-          links = l;
-          is = rows_written hs os (set is p l) s.outs_beside (omega arith) p w (at hs p) (get_or os p w) l (Some e)
-              (Some (with_links In e l)) here (λ j. with_lines (k.head j) (k.outs j) l) (unchanged_at (at hs) p _ refl)
-              (unchanged_at (λ q. get_or os q w) p _ refl) (λ q. get_or-written is p q l w (omega arith));
-          holds = subst (λ (o : Links). R o l) (ins_read p e w here r) holds;
-        })
+          row : (c : Side) → IsReplaced (node_slots s) (rows hs (sides (set os p l) os c) (sides is (set is p l) c)) p e
+              (with_links c e l)
+          row Out =
+              let lt = inside p there in
+              let same = s.outs_beside in
+              let long = length-set os p l in
+              rows_written hs (set os p l) is (omega arith) s.ins_beside p w (at hs p) l (get_or is p w) (Some e) _ here
+              (λ j. with_lines (k.head j) l (k.ins j)) (unchanged_at (at hs) p _ refl)
+              (λ q. get_or-written os p q l w (omega arith)) (unchanged_at (λ q. get_or is q w) p _ refl)
+          row In =
+              let lt = inside p there in
+              let same = s.ins_beside in
+              let long = length-set is p l in
+              rows_written hs os (set is p l) s.outs_beside (omega arith) p w (at hs p) (get_or os p w) l (Some e) _ here
+              (λ j. with_lines (k.head j) (k.outs j) l) (unchanged_at (at hs) p _ refl)
+              (unchanged_at (λ q. get_or os q w) p _ refl) (λ q. get_or-written is p q l w (omega arith))
 
     -- another head
     pub head_turned : (heads : Heads) (f g : NodeHead) → IsReplaced hs heads p f g → length heads ≡ length hs →

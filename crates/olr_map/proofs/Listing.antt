@@ -1,30 +1,28 @@
 -- The lines of a node with their far ends, after a line is added, removed or set, and after nodes are added or removed.
 use Rattle.std.proofs.Common.{◌≡◌, ◌==◌, ◌&&◌, ◌||◌, ℕ, zero, suc, ◌<◌, ◌≤◌, Bool, true, false, cond, not, List, [], ◌∷◌}
-use Rattle.std.proofs.Common.{map, Option, Some, None, is_some, unwrap_or, length, get_or, set, inl, inr, refl, sym, ap}
-use Rattle.std.proofs.Common.{◌∙◌, subst, arith}
+use Rattle.std.proofs.Common.{map, Option, Some, None, is_some, unwrap_or, length, get_or, set, Result, Ok, Err, refl, sym, ap}
+use Rattle.std.proofs.Common.{◌∙◌, arith}
 use Rattle.std.specs.Option.{option_map}
 use Rattle.std.specs.List.{insert, remove}
-use Rattle.std.specs.List.Sorted.{IsStrictlyIncreasing}
+use Rattle.std.specs.List.Sorted.{IsStrictlyIncreasing, IsStrictlySortedBy, IsBinarySearchResult}
 use Rattle.std.specs.FinMap.{FinMap, get}
 use Rattle.std.specs.Ordering.{nat_cmp}
-use Rattle.std.proofs.lemmas.Bool.{cases_order, cond-true, cond-false, eq-eqb, eqb-true, ne_eqb, false_from_ne_true, or_parts}
-use Rattle.std.proofs.lemmas.List.{ext_get_or, get_or-map, length-map, length-set}
-use Rattle.std.proofs.lemmas.Map.Keys.{below_from_sorted, sorted_from_strictly_increasing}
+use Rattle.std.proofs.lemmas.Bool.{cond-true, cond-false, eq-eqb, ne_eqb, false_from_ne_true, or_parts}
+use Rattle.std.proofs.lemmas.Map.Keys.{sorted_from_strictly_increasing}
 use Rattle.olr_spec.specs.Coordinates.{Coord}
 use Rattle.olr_spec.specs.Map.{Map, IsMap, Line, has_node, line_at, no_line, in_use, has}
-use Rattle.olr_spec.proofs.AscendingLists.{has-insert, has-remove, has_at}
+use Rattle.olr_spec.proofs.AscendingLists.{has-insert, has-remove, has_at, place_of, place_not, put_ascends, ascends-remove}
 use Rattle.olr_spec.proofs.ListLemmas.{map_same}
 use Rattle.olr_spec.proofs.MapLemmas.{has-lines_where, passes_at}
 use Rattle.olr_spec.proofs.OrderLemmas.{ascend_in, ascend_out}
 use Rattle.olr_map.specs.Tables.{near, far, lines_at, end_at, IsListed}
-use Rattle.olr_map.specs.Linked.{lines_on, ends_on, IsLinked, IsUnlinked, IsReset}
+use Rattle.olr_map.specs.Linked.{lines_on, ends_on, links_room, IsPut}
 use Rattle.olr_map.specs.declared.links.Links.{Links}
 use Rattle.olr_map.specs.declared.read.LineEnd.{LineEnd}
 use Rattle.olr_map.specs.declared.slots.Side.{Side}
 use Rattle.olr_map.specs.declared.slots.Side.TheVariants.{Out, In}
 use Rattle.olr_map.proofs.Insertions.{over_cond, unchanged_at}
-use Rattle.olr_map.proofs.Numbers.{same_ascending}
-use Rattle.olr_map.proofs.SlotLemmas.{get_or-written}
+use Rattle.olr_map.proofs.Numbers.{above, same_ascending}
 use Rattle.olr_map.proofs.LineRecords.{none_passes, used_by, other_node, line_starts, line_ends}
 
 -- ---- lists
@@ -41,34 +39,18 @@ module _ {Y : Type 0} where
   map-removed f (x ∷ xs) (suc i) lt = ap (λ zs. f x ∷ zs) (map-removed f xs i (omega arith))
 
   -- functions that differ at one number of an ascending list
-  map_set_at : (f g : ℕ → Y) (x : ℕ) (xs : List ℕ) (i : ℕ) → IsStrictlyIncreasing xs → i < length xs → get_or xs i 0 ≡ x
-      → ((y : ℕ) → (x == y) ≡ false → f y ≡ g y) → set (map f xs) i (g x) ≡ map g xs
-  map_set_at f g x xs i up lt is h =
-      let f_long = length-map xs f in
-      let g_long = length-map xs g in
-      let long = length-set (map f xs) i (g x) in
-      ext_get_or (g x) (set (map f xs) i (g x)) (map g xs) (omega arith)
-      (λ q inside. get_or-written (map f xs) i q (g x) (g x) (omega arith) ∙ step q (omega arith)) where
-        other : (q : ℕ) → q < length xs → (i == q) ≡ false → x ≡ get_or xs q 0 → ⊥
-        other q at' ne e =
-            let sorted = sorted_from_strictly_increasing xs up in
-            elim (cases_order i q) [
-              | inl s ↦ let t = eq-eqb i q s in cc
-              | inr o ↦ elim o [
-                | inl low ↦ let below = below_from_sorted xs i q 0 sorted low at' in omega arith
-                | inr high ↦ let below = below_from_sorted xs q i 0 sorted high lt in omega arith
-              ]
-            ]
-
-        step : (q : ℕ) → q < length xs → cond (i == q) (g x) (get_or (map f xs) q (g x)) ≡ get_or (map g xs) q (g x)
-        step q at' =
-            let to : get_or (map g xs) q (g x) ≡ g (get_or xs q 0) = get_or-map g xs q 0 (g x) at' in
-            elim (i == q) as (λ c. (i == q) ≡ c →
-            cond c (g x) (get_or (map f xs) q (g x)) ≡ get_or (map g xs) q (g x)) [
-              | true ↦ λ e. ap g (sym is ∙ ap (λ n. get_or xs n 0) (eqb-true i q e)) ∙ sym to
-              | false ↦ λ e. get_or-map f xs q 0 (g x) at' ∙ h (get_or xs q 0) (ne_eqb x (get_or xs q 0) (other q at' e))
-                  ∙ sym to
-            ] refl
+  map_put : (f g : ℕ → Y) (x : ℕ) → ((n : ℕ) → (x == n) ≡ false → f n ≡ g n) → (xs : List ℕ) (i : ℕ) →
+      IsStrictlySortedBy nat_cmp xs → i < length xs → get_or xs i 0 ≡ x → set (map f xs) i (g x) ≡ map g xs
+  unfolding IsStrictlySortedBy
+  map_put f g x same [] i up lt is = absurd (omega arith)
+  map_put f g x same (y ∷ ys) zero up lt is =
+      let others = map_same f g ys (λ z t. same z (ne_eqb x z (λ e. let low = above y z ys up.0 t in omega arith))) in
+      λ j. g (sym is j) ∷ others j
+  map_put f g x same (y ∷ ys) (suc i) up lt is =
+      let low = above y x ys up.0 (has_at ys i x (omega arith) is) in
+      let first = same y (ne_eqb x y (λ e. omega arith)) in
+      let others = map_put f g x same ys i up.1 (omega arith) is in
+      λ j. first j ∷ others j
 
 or_cond : (b c : Bool) → (b || c) ≡ cond b true c
 or_cond true c = refl
@@ -78,58 +60,80 @@ and_cond : (b c : Bool) → (not b && c) ≡ cond b false c
 and_cond true c = refl
 and_cond false c = refl
 
--- ---- a list in which number x is now o
+-- ---- a list in which a search for number x had this result
 
-pub record IsChanged (old new : Links) (x : ℕ) (o : Option LineEnd) : Type 0 where
-  pub ascends : IsStrictlyIncreasing (lines_on new)
-  pub numbers : (n : ℕ) → has (lines_on new) n ≡ cond (x == n) (is_some o) (has (lines_on old) n)
-  pub ends : (f g : ℕ → LineEnd) → ends_on old ≡ map f (lines_on old) → ((n : ℕ) → (x == n) ≡ false → f n ≡ g n) →
-      ((e : LineEnd) → o ≡ Some e → e ≡ g x) → ends_on new ≡ map g (lines_on new)
-
-module _ (old new : Links) (x : ℕ) where
+module _ (old new : Links) (x : ℕ) (up : IsStrictlyIncreasing (lines_on old)) where
   abbrev xs : List ℕ
   xs = lines_on old
 
-  pub linked : (e : LineEnd) → has xs x ≡ false → IsLinked old new x e → IsChanged old new x (Some e)
-  linked e absent k =
-      let other : (y : ℕ) → has xs y ≡ true → (x == y) ≡ false =
-      λ y t. ne_eqb x y (λ is. let no = ap (has xs) (sym is) ∙ absent in cc) in
+  abbrev Finds : Result ℕ ℕ → Type 0
+  Finds r = IsBinarySearchResult (λ y. nat_cmp y x) xs r
+
+  -- the lines other than x
+  others : (y : ℕ) → has xs x ≡ false → has xs y ≡ true → (x == y) ≡ false
+  others y absent t = ne_eqb x y (λ is. let no = ap (has xs) (sym is) ∙ absent in cc)
+
+  pub inserted : (i : ℕ) (e : LineEnd) → Finds (Err i) → lines_on new ≡ insert xs i x →
+      ends_on new ≡ insert (ends_on old) i e → links_room new ≡ links_room old → IsPut old new x (Some e)
+  inserted i e found lines ends room =
+      let place = place_of xs x (Err i) up found in
+      let absent = place_not xs x i place in
       record {
-        ascends = k.ascends;
-        numbers = λ n. ap (λ zs. has zs n) k.lines ∙ has-insert xs k.index x n ∙ or_cond (x == n) (has xs n);
+        ascends = rw lines (put_ascends xs x i up found);
+        numbers = λ n. ap (λ zs. has zs n) lines ∙ has-insert xs i x n ∙ or_cond (x == n) (has xs n);
         ends = λ f g before same last.
-            k.ends ∙ ap (λ zs. insert zs k.index e) (before ∙ map_same f g xs (λ y t. same y (other y t)))
-            ∙ ap (insert (map g xs) k.index) (last e refl) ∙ sym (map-inserted g xs k.index x k.within)
-            ∙ ap (map g) (sym k.lines);
+            ends ∙ ap (λ zs. insert zs i e) (before ∙ map_same f g xs (λ y t. same y (others y absent t)))
+            ∙ ap (insert (map g xs) i) (last e refl) ∙ sym (map-inserted g xs i x place.0) ∙ ap (map g) (sym lines);
+        room = room;
+        free = λ none. absurd cc;
       }
 
-  module _ (up : IsStrictlyIncreasing xs) where
-    pub unlinked : IsUnlinked old new x → IsChanged old new x None
-    unlinked k =
-        let less : (n : ℕ) → has (remove xs k.index) n ≡ cond (x == n) false (has xs n) =
-        λ n. has-remove xs k.index x n up k.within k.is ∙ and_cond (x == n) (has xs n) in
-        record {
-          ascends = k.ascends;
-          numbers = λ n. ap (λ zs. has zs n) k.lines ∙ less n;
-          ends = λ f g before same last.
-              k.ends ∙ ap (λ zs. remove zs k.index) before ∙ sym (map-removed f xs k.index k.within)
-              ∙ map_same f g (remove xs k.index) (λ y t. same y (other (x == y) (has xs y) (sym (less y) ∙ t)))
-              ∙ ap (map g) (sym k.lines);
-        } where
-          other : (b c : Bool) → cond b false c ≡ true → b ≡ false
-          other true c h = absurd cc
-          other false c h = refl
+  pub removed : (i : ℕ) → Finds (Ok i) → lines_on new ≡ remove xs i → ends_on new ≡ remove (ends_on old) i →
+      links_room new ≡ links_room old → length (lines_on new) < links_room new → IsPut old new x None
+  removed i found lines ends room free =
+      let place = place_of xs x (Ok i) up found in
+      let less : (n : ℕ) → has (remove xs i) n ≡ cond (x == n) false (has xs n) =
+      λ n. has-remove xs i x n up place.0 place.1 ∙ and_cond (x == n) (has xs n) in
+      record {
+        ascends = rw lines (ascends-remove xs i up place.0);
+        numbers = λ n. ap (λ zs. has zs n) lines ∙ less n;
+        ends = λ f g before same last.
+            ends ∙ ap (λ zs. remove zs i) before ∙ sym (map-removed f xs i place.0)
+            ∙ map_same f g (remove xs i) (λ y t. same y (other (x == y) (has xs y) (sym (less y) ∙ t)))
+            ∙ ap (map g) (sym lines);
+        room = room;
+        free = λ _ _. free;
+      } where
+        other : (b c : Bool) → cond b false c ≡ true → b ≡ false
+        other true c h = absurd cc
+        other false c h = refl
 
-    pub reset : (e : LineEnd) → IsReset old new x e → IsChanged old new x (Some e)
-    reset e k =
-        record {
-          ascends = subst IsStrictlyIncreasing (sym k.lines) up;
-          numbers = λ n.
-              ap (λ zs. has zs n) k.lines ∙ unchanged_at (has xs) x true (has_at xs k.index x k.within k.is) n;
-          ends = λ f g before same last.
-              k.ends ∙ ap (λ zs. set zs k.index e) before ∙ ap (set (map f xs) k.index) (last e refl)
-              ∙ map_set_at f g x xs k.index up k.within k.is same ∙ ap (map g) (sym k.lines);
-        }
+  pub reset : (i : ℕ) (e : LineEnd) → Finds (Ok i) → lines_on new ≡ xs → ends_on new ≡ set (ends_on old) i e →
+      links_room new ≡ links_room old → IsPut old new x (Some e)
+  reset i e found lines ends room =
+      let place = place_of xs x (Ok i) up found in
+      record {
+        ascends = rw lines up;
+        numbers = λ n. ap (λ zs. has zs n) lines ∙ unchanged_at (has xs) x true (has_at xs i x place.0 place.1) n;
+        ends = λ f g before same last.
+            ends ∙ ap (λ zs. set zs i e) before ∙ ap (set (map f xs) i) (last e refl)
+            ∙ map_put f g x same xs i (sorted_from_strictly_increasing xs up) place.0 place.1 ∙ ap (map g) (sym lines);
+        room = room;
+        free = λ none. absurd cc;
+      }
+
+-- a line that is not in the list remains absent
+pub absent_put : (l : Links) (x i : ℕ) → IsStrictlyIncreasing (lines_on l) →
+    IsBinarySearchResult (λ y. nat_cmp y x) (lines_on l) (Err i) → IsPut l l x None
+absent_put l x i up found =
+    let absent = place_not (lines_on l) x i (place_of (lines_on l) x (Err i) up found) in
+    record {
+      ascends = up;
+      numbers = unchanged_at (has (lines_on l)) x false absent;
+      ends = λ f g before same last. before ∙ map_same f g (lines_on l) (λ y t. same y (others l l x up y absent t));
+      room = refl;
+      free = λ _ there. absurd cc;
+    }
 
 -- ---- one side of a node
 
@@ -238,7 +242,7 @@ module _ (side : Side) (P : ℕ → ℕ) (M N : Map) (x : ℕ) (o w : Option Lin
 
     -- a node at an end
     pub here_listed : ((l : Line) → w ≡ Some l → at_v l ≡ true) → (old new : Links) →
-        IsChanged old new x (option_map (seen side P) w) → IsListed side M P v old → IsListed side N P v new
+        IsPut old new x (option_map (seen side P) w) → IsListed side M P v old → IsListed side N P v new
     here_listed now_at old new k h =
         let numbers : lines_on new ≡ lines_at side N v =
         same_ascending (lines_on new) (lines_at side N v) k.ascends (ascends_at side N v)

@@ -1,69 +1,55 @@
 -- Changes that can be made with some capacity can be made with more.
-use Rattle.std.proofs.Common.{◌≡◌, ◌==◌, ℕ, ◌+◌, ◌<◌, ◌≤◌, true, false, cond, List, [], ◌∷◌, ◌++◌, reverse, Ok, IsOk}
+use Rattle.std.proofs.Common.{◌≡◌, ◌==◌, ℕ, ◌+◌, ◌≤◌, true, false, cond, List, [], ◌∷◌, ◌++◌, reverse, Ok, IsOk}
 use Rattle.std.proofs.Common.{sym, ap, ◌∙◌, subst, arith}
 use Rattle.std.proofs.lemmas.List.{reverse-append}
 use Rattle.olr_spec.specs.Map as map
-use Rattle.olr_spec.specs.Map.{Map, start, end, edited}
+use Rattle.olr_spec.specs.Map.{Map, edited}
 use Rattle.olr_map.specs.Changes.{Room, IsRoomWithin, HasRoomFor, changed_at, room_after, change_edit, CanMake}
 use Rattle.olr_map.specs.Changes.{map_after, node_puts, line_puts, all_node_puts, all_line_puts}
 use Rattle.olr_map.specs.Undos.{CanMakeAll, made_all}
+use Rattle.olr_map.specs.Linked.{room_kept}
+use Rattle.olr_map.specs.Tables.{near, sides}
+use Rattle.olr_map.specs.declared.slots.Side.{Side}
 use Rattle.olr_map.specs.declared.change.TableChange.{TableChange}
 use Rattle.olr_map.specs.declared.change.TableChange.TheVariants.{PutNode, MoveNode, TakeNode, PutLine, SetLine}
 use Rattle.olr_map.specs.declared.change.TableChange.TheVariants.{TakeLine}
 use Rattle.olr_map.proofs.Making.{made_ok}
 
-changed_within : (f g : ℕ → ℕ) (k m n : ℕ) → ((v : ℕ) → f v ≤ g v) → m ≤ n → (v : ℕ) →
-    changed_at k m f v ≤ changed_at k n g v
-changed_within f g k m n h le v = elim (k == v) as (λ b. cond b m (f v) ≤ cond b n (g v)) [ true ↦ le | false ↦ h v ]
+room_fits : (M : Map) (R S : Room) (e : map.Edit) → IsRoomWithin R S → HasRoomFor M R e → HasRoomFor M S e
+room_fits M R S (map.Add_node v c) w h = let n = w.nodes in omega (arith, h)
+room_fits M R S (map.Move_node v c) w h = tt
+room_fits M R S (map.Drop_node v) w h = tt
+room_fits M R S (map.Add_line x l) w h = λ side. let fits = h side in let le = w.lines side (near side l) in omega arith
+room_fits M R S (map.Set_line x frc fow len shape) w h = tt
+room_fits M R S (map.Drop_line x) w h = tt
 
-room_fits : (R S : Room) (e : map.Edit) → IsRoomWithin R S → HasRoomFor R e → HasRoomFor S e
-room_fits R S (map.Add_node v c) w h = let n = w.nodes in omega (arith, h)
-room_fits R S (map.Move_node v c) w h = tt
-room_fits R S (map.Drop_node v) w h = tt
-room_fits R S (map.Add_line x l) w h =
-    let b : 0 < R.outs l.from = h.0 in
-    let c : 0 < R.ins l.to = h.1 in
-    let q = w.outs l.from in
-    let r = w.ins l.to in
-    (omega arith, omega arith)
-room_fits R S (map.Set_line x frc fow len shape) w h = tt
-room_fits R S (map.Drop_line x) w h = tt
+-- the same capacity at one node
+changed_within : (R S : Room) (k : ℕ) (n : Side → ℕ) → IsRoomWithin R S → (side : Side) (v : ℕ) →
+    changed_at k (n side) (R.lines side) v ≤ changed_at k (n side) (S.lines side) v
+changed_within R S k n w side v =
+    elim (k == v) as (λ b. cond b (n side) (R.lines side v) ≤ cond b (n side) (S.lines side v)) [
+      | true ↦ omega arith
+      | false ↦ w.lines side v
+    ]
 
-changed_both : (R S : Room) (k j m n a b c d : ℕ) → IsRoomWithin R S → m ≤ n → a ≤ b → c ≤ d →
-    IsRoomWithin (record { nodes = m; outs = changed_at k a R.outs; ins = changed_at j c R.ins })
-    (record { nodes = n; outs = changed_at k b S.outs; ins = changed_at j d S.ins })
-changed_both R S k j m n a b c d w nodes outs ins =
-    record {
-      nodes = nodes;
-      outs = changed_within R.outs S.outs k a b w.outs outs;
-      ins = changed_within R.ins S.ins j c d w.ins ins;
-    }
-
-after_within : (M : Map) (R S : Room) (c : TableChange) → IsRoomWithin R S →
-    IsRoomWithin (room_after M R c) (room_after M S c)
-after_within M R S (PutNode v place o i) w =
-    let n = w.nodes in changed_both R S v v _ _ _ _ _ _ w (omega arith) (omega arith) (omega arith)
-after_within M R S (MoveNode v c) w = w
-after_within M R S (TakeNode v) w =
-    let n = w.nodes in changed_both R S v v _ _ _ _ _ _ w (omega arith) (omega arith) (omega arith)
-after_within M R S (PutLine x l) w =
-    let p = w.outs l.from in
-    let q = w.ins l.to in
-    changed_both R S l.from l.to _ _ _ _ _ _ w w.nodes (omega arith) (omega arith)
-after_within M R S (SetLine x l) w = w
-after_within M R S (TakeLine x) w =
-    let p = w.outs (start M x) in
-    let q = w.ins (end M x) in
-    changed_both R S (start M x) (end M x) _ _ _ _ _ _ w w.nodes (omega arith) (omega arith)
+after_within : (R S : Room) (c : TableChange) → IsRoomWithin R S → IsRoomWithin (room_after R c) (room_after S c)
+after_within R S (PutNode v place o i) w =
+    let n = w.nodes in
+    record { nodes = omega arith; lines = changed_within R S v (λ side. room_kept (sides o i side)) w }
+after_within R S (MoveNode v c) w = w
+after_within R S (TakeNode v) w =
+    let n = w.nodes in record { nodes = omega arith; lines = changed_within R S v (λ _. 0) w }
+after_within R S (PutLine x l) w = w
+after_within R S (SetLine x l) w = w
+after_within R S (TakeLine x) w = w
 
 pub can_with_more : (M : Map) (R S : Room) (c : TableChange) → IsRoomWithin R S → CanMake M R c → CanMake M S c
 can_with_more M R S c w can =
     record {
       accepted = can.accepted;
       placed = can.placed;
-      fits = room_fits R S (change_edit c) w can.fits;
-      whole =
-          can.whole;
+      fits = room_fits M R S (change_edit c) w can.fits;
+      whole = can.whole;
     }
 
 pub all_with_more : (M : Map) (R S : Room) (cs : List TableChange) → IsRoomWithin R S → CanMakeAll M R cs →
@@ -71,8 +57,7 @@ pub all_with_more : (M : Map) (R S : Room) (cs : List TableChange) → IsRoomWit
 all_with_more M R S [] w can = tt
 all_with_more M R S (c ∷ cs) w can = (
   can_with_more M R S c w can.0,
-  all_with_more (map_after M c) (room_after M R c) (room_after M S c) cs
-      (after_within M R S c w) can.1,
+  all_with_more (map_after M c) (room_after R c) (room_after S c) cs (after_within R S c w) can.1,
 )
 
 -- and on an equal map
@@ -98,8 +83,8 @@ pub last_first : (xs : List TableChange) (c : TableChange) → reverse (xs ++ c 
 last_first xs c = reverse-append xs (c ∷ [])
 
 pub one_more : (M N : Map) (R S : Room) (c : TableChange) (cs : List TableChange) → CanMakeAll M R cs → CanMake N S c →
-    map_after N c ≡ M → IsRoomWithin R (room_after N S c) → CanMakeAll N S (c ∷ cs)
-one_more M N R S c cs all can back within = (can, all_on M (map_after N c) R (room_after N S c) cs back within all)
+    map_after N c ≡ M → IsRoomWithin R (room_after S c) → CanMakeAll N S (c ∷ cs)
+one_more M N R S c cs all can back within = (can, all_on M (map_after N c) R (room_after S c) cs back within all)
 
 -- ---- the last edit of a log
 
@@ -108,9 +93,9 @@ last_of xs ys c e = ap (λ (zs : List TableChange). reverse zs) e ∙ last_first
 
 -- once it is undone, the others can be undone
 pub rest_can : (M N : Map) (R S : Room) (c : TableChange) (cs ds : List TableChange) → ds ≡ c ∷ cs → CanMakeAll M R ds →
-    N ≡ map_after M c → IsRoomWithin (room_after M R c) S → CanMakeAll N S cs
+    N ≡ map_after M c → IsRoomWithin (room_after R c) S → CanMakeAll N S cs
 rest_can M N R S c cs ds is all same within =
-    all_on (map_after M c) N (room_after M R c) S cs same within
+    all_on (map_after M c) N (room_after R c) S cs same within
     (subst (λ (es : List TableChange). CanMakeAll M R es) is all).1
 
 pub first_can : (M : Map) (R : Room) (c : TableChange) (cs ds : List TableChange) → ds ≡ c ∷ cs → CanMakeAll M R ds →

@@ -2,7 +2,7 @@
 use Rattle.std.proofs.Common.{◌≡◌, ◌==◌, ℕ, ◌+◌, ◌≤◌, true, false, cond, Result, Ok, Err, IsOk, refl, sym, ap, ◌∙◌}
 use Rattle.std.proofs.Common.{subst, arith}
 use Rattle.std.specs.Result.{result_unwrap_or}
-use Rattle.std.proofs.lemmas.Bool.{eqb-true, eq-eqb, cond-true}
+use Rattle.std.proofs.lemmas.Bool.{eqb-true}
 use Rattle.olr_spec.specs.Map as map
 use Rattle.olr_spec.specs.Map.{Map, IsMap, edited, HasCoord}
 use Rattle.olr_spec.proofs.EditLemmas.{Made, made_by, edits_keep}
@@ -45,9 +45,9 @@ module _ (t : RoadMap) (c : TableChange) (can : CanMake (tables_map t) (room_of 
 
   -- a change that was made, with the one that undoes it
   pub change_made : (new : RoadMap) (back : TableChange) → tables_map new ≡ map_after (tables_map t) c →
-      change_edit back ≡ back_of (tables_map t) (change_edit c) → HasRoomFor (room_of new) (change_edit back) →
-      IsWhole (tables_map new) back → IsRoomWithin (room_after (tables_map t) (room_of t) c) (room_of new)
-      → IsRoomWithin (room_of t) (room_after (tables_map new) (room_of new) back)
+      change_edit back ≡ back_of (tables_map t) (change_edit c) → HasRoomFor (tables_map new) (room_of new) (change_edit back) →
+      IsWhole (tables_map new) back → IsRoomWithin (room_after (room_of t) c) (room_of new)
+      → IsRoomWithin (room_of t) (room_after (room_of new) back)
       → spare_of t.index ≤ spare_of new.index + node_puts c
       → spare_numbers t.lines ≤ spare_numbers new.lines + line_puts c → IsChangeMade t new c back
   change_made new back is inverse fits whole room room_before nodes lines =
@@ -84,11 +84,3 @@ changed_back f h k n m is le v =
       | true ↦ λ p e. let same : f k ≡ f v = ap f (eqb-true k v p) in omega arith
       | false ↦ λ p e. omega arith
     ] refl (is v)
-
-pub changed_here : (f : ℕ → ℕ) (k n : ℕ) → changed_at k n f k ≡ n
-changed_here f k n = cond-true (k == k) n (f k) (eq-eqb k k refl)
-
--- a bound after a change, at an equal number
-pub changed_at_same : (j : ℕ → ℕ) (f h : ℕ → ℕ) (k v : ℕ) → k ≡ v → ((u : ℕ) → f u ≤ changed_at v (j (h v)) h u) →
-    (u : ℕ) → f u ≤ changed_at k (j (h k)) h u
-changed_at_same j f h k v e le u = subst (λ (m : ℕ). f u ≤ changed_at m (j (h m)) h u) (sym e) (le u)

@@ -18,14 +18,13 @@ use Rattle.olr_map.specs.Slotted.{IsWritten, IsInserted, IsRemoved, IsReplaced}
 use Rattle.olr_map.specs.SlotMaps.{all_held}
 use Rattle.olr_map.specs.Columns.{node_slots, node_room}
 use Rattle.olr_map.specs.NodeLinks.{links_at}
-use Rattle.olr_map.specs.Linked.{lines_on, ends_on, spare_links, lines_kept, spare_kept}
-use Rattle.olr_map.specs.Tables.{near, far, node_in, links_in, map_from, node_slot, lines_at, end_at, IsListed}
+use Rattle.olr_map.specs.Linked.{EmptyLinks, lines_on, ends_on, links_room, lines_kept, room_kept}
+use Rattle.olr_map.specs.Tables.{sides, near, far, node_in, links_in, map_from, node_slot, lines_at, end_at, IsListed}
 use Rattle.olr_map.specs.Tables.{IsIndexed, AreTables}
-use Rattle.olr_map.specs.Changes.{tables_map, room_of, spare_at, changed_at, CanMake, map_after, IsChangeMade}
+use Rattle.olr_map.specs.Changes.{tables_map, room_of, room_at, changed_at, CanMake, IsRoomWithin, map_after, IsChangeMade}
 use Rattle.olr_map.specs.declared.blocks.Blocks.{Blocks}
 use Rattle.olr_map.specs.declared.links.Links.{Links}
 use Rattle.olr_map.specs.declared.links.Links.TheVariants.{Inline, Spilled}
-use Rattle.olr_map.specs.declared.links.EmptyLinks.{EmptyLinks}
 use Rattle.olr_map.specs.declared.slots.NodeEntry.{NodeEntry}
 use Rattle.olr_map.specs.declared.slots.NodeSlots.{NodeSlots}
 use Rattle.olr_map.specs.declared.slots.Side.{Side}
@@ -51,8 +50,8 @@ pub record NodeWritten (t : RoadMap) (b' : Blocks) (nodes' : NodeSlots) (v : ℕ
   pub now : (k : ℕ) → slot_by b' k ≡ cond (v == k) (slot_if slot w) (slot_by t.index k)
   pub id : option_map id_of w ≡ slot_if v w
 
-abbrev spare_in : Side → Option NodeEntry → ℕ
-spare_in side e = option_map_or (λ l. spare_links l) (option_map (links_at side) e) 0
+abbrev entry_room : Side → Option NodeEntry → ℕ
+entry_room side e = option_map_or (λ l. links_room l) (option_map (links_at side) e) 0
 
 module _ {t : RoadMap} {b' : Blocks} {nodes' : NodeSlots} {v : ℕ} {o w : Option NodeEntry}
     (r : NodeWritten t b' nodes' v o w) where
@@ -106,18 +105,37 @@ module _ {t : RoadMap} {b' : Blocks} {nodes' : NodeSlots} {v : ℕ} {o w : Optio
   pub other_slot : (u : ℕ) → (v == u) ≡ false → node_slot t.index u ≡ node_slot b' u
   other_slot u ne = sym (ap (λ p. unwrap_or p 0) (r.now u ∙ cond-false (v == u) (slot_if r.slot w) (slot_by t.index u) ne))
 
-  pub spare_before : (side : Side) → spare_at side t v ≡ spare_in side o
-  spare_before side =
-      ap (spare_in side)
-      (node_was t.index (node_slots t.nodes) t.kept.indexed b' (node_slots nodes') r.slot v o w r.is r.was r.now r.id)
+  -- the capacity of the node's lists was that of o, and is that of w
+  module _ (kept' : AreTables b' (node_slots nodes') (all_held t.lines)) where
+    abbrev after : RoadMap
+    after = record { index = b'; nodes = nodes'; lines = t.lines; kept = kept' }
 
-  pub spare_after : (kept' : AreTables b' (node_slots nodes') (all_held t.lines)) (side : Side) (k : ℕ) →
-      spare_at side (record { index = b'; nodes = nodes'; lines = t.lines; kept = kept' }) k
-      ≡ changed_at v (spare_in side w) (spare_at side t) k
-  spare_after kept' side k =
-      ap (λ q. option_map_or (λ l. spare_links l) q 0) (links' side k)
-      ∙ over_cond (λ q. option_map_or (λ l. spare_links l) q 0) (v == k) (option_map (links_at side) w)
-      (links_in side t.index (node_slots t.nodes) k)
+    room_was : (side : Side) → room_at side t v ≡ entry_room side o
+    room_was side =
+        ap (entry_room side)
+        (node_was t.index (node_slots t.nodes) t.kept.indexed b' (node_slots nodes') r.slot v o w r.is r.was r.now r.id)
+
+    room_now : (side : Side) (k : ℕ) → room_at side after k ≡ changed_at v (entry_room side w) (room_at side t) k
+    room_now side k =
+        ap (λ q. option_map_or (λ l. links_room l) q 0) (links' side k)
+        ∙ over_cond (λ q. option_map_or (λ l. links_room l) q 0) (v == k) (option_map (links_at side) w)
+        (links_in side t.index (node_slots t.nodes) k)
+
+    -- as much as was expected, and as much as there was once that is changed back
+    pub room_forth : (side : Side) (n : ℕ) → entry_room side w ≡ n → (k : ℕ) →
+        changed_at v n (room_at side t) k ≤ room_at side after k
+    room_forth side n is k = le_same _ _ (ap (λ m. changed_at v m (room_at side t) k) (sym is) ∙ sym (room_now side k))
+
+    pub room_back : (side : Side) (n : ℕ) → entry_room side o ≡ n → (k : ℕ) →
+        room_at side t k ≤ changed_at v n (room_at side after) k
+    room_back side n is =
+        let was = room_was side in
+        changed_back (room_at side t) (room_at side after) v (entry_room side w) n (room_now side) (omega arith)
+
+    pub room_same : (side : Side) → entry_room side o ≡ entry_room side w → (k : ℕ) →
+        room_at side t k ≤ room_at side after k
+    room_same side is k =
+        le_same _ _ (unchanged_at (room_at side t) v (entry_room side w) (room_was side ∙ is) k ∙ sym (room_now side k))
 
 -- ---- a node is added
 
@@ -128,7 +146,7 @@ beside (Spilled m) = m.value.beside
 -- a list without lines, with this capacity
 pub record IsBare (l : Links) (s : EmptyLinks) : Type 0 where
   pub lines : lines_on l ≡ lines_kept s
-  pub room : spare_links l ≡ spare_kept s
+  pub room : links_room l ≡ room_kept s
 
 module _ (t : RoadMap) (b' : Blocks) (nodes' : NodeSlots) (p n v : ℕ) (q : Coord) (o i : EmptyLinks) (outs ins : Links)
     (bare_outs : IsBare outs o) (bare_ins : IsBare ins i)
@@ -184,24 +202,13 @@ module _ (t : RoadMap) (b' : Blocks) (nodes' : NodeSlots) (p n v : ℕ) (q : Coo
       → IsChangeMade t (record { index = b'; nodes = nodes'; lines = t.lines; kept = kept' }) (PutNode v q o i) (TakeNode v)
   put_node_made kept' room spare =
       let new : RoadMap = record { index = b'; nodes = nodes'; lines = t.lines; kept = kept' } in
-      let after = spare_after put_written kept' in
-      let before = spare_before put_written in
       let fits : 0 < node_room t.nodes = can.fits in
-      let outs_none : spare_at Out t v ≡ 0 = before Out in
-      let ins_none : spare_at In t v ≡ 0 = before In in
-      let outs_same = bare_outs.room in
-      let ins_same = bare_ins.room in
       change_made t (PutNode v q o i) can new (TakeNode v) put_map refl tt tt
-      (record {
-        nodes = omega arith;
-        outs = λ k. le_same _ _ (ap (λ m. changed_at v m (spare_at Out t) k) (sym outs_same) ∙ sym (after Out k));
-        ins = λ k. le_same _ _ (ap (λ m. changed_at v m (spare_at In t) k) (sym ins_same) ∙ sym (after In k));
-      })
-      (record {
-        nodes = omega arith;
-        outs = changed_back (spare_at Out t) (spare_at Out new) v (spare_links outs) 0 (after Out) (omega arith);
-        ins = changed_back (spare_at In t) (spare_at In new) v (spare_links ins) 0 (after In) (omega arith);
-      }) spare (omega arith)
+      (record { nodes = omega arith; lines = λ side. room_forth put_written kept' side _ (same_room side) })
+      (record { nodes = omega arith; lines = λ side. room_back put_written kept' side 0 refl }) spare (omega arith) where
+        same_room : (side : Side) → links_room (links_at side entry) ≡ room_kept (sides o i side)
+        same_room Out = bare_outs.room
+        same_room In = bare_ins.room
 
 -- ---- a node is removed
 
@@ -246,30 +253,22 @@ module _ (t : RoadMap) (b' : Blocks) (nodes' : NodeSlots) (p n v : ℕ) (e : Nod
 
   pub take_node_made : (kept' : AreTables b' (node_slots nodes') (all_held t.lines)) →
       node_room t.nodes + 1 ≤ node_room nodes' → spare_of t.index ≤ spare_of b' → (o i : EmptyLinks) → lines_kept o ≡ [] →
-      lines_kept i ≡ [] → spare_kept o ≡ spare_links e.outs → spare_kept i ≡ spare_links e.ins
+      lines_kept i ≡ [] → room_kept o ≡ links_room e.outs → room_kept i ≡ links_room e.ins
       → IsChangeMade t (record { index = b'; nodes = nodes'; lines = t.lines; kept = kept' }) (TakeNode v)
       (PutNode v e.place o i)
   unfolding take_written
   take_node_made kept' room spare o i no_outs no_ins same_outs same_ins =
       let new : RoadMap = record { index = b'; nodes = nodes'; lines = t.lines; kept = kept' } in
-      let after = spare_after take_written kept' in
-      let before = spare_before take_written in
-      let outs_before : spare_at Out t v ≡ spare_links e.outs = before Out in
-      let ins_before : spare_at In t v ≡ spare_links e.ins = before In in
       let place : e.place ≡ coord_at (tables_map t) v =
       sym (ap (λ c. unwrap_or c no_coord) (node_read t v p e take_written.was is.was)) in
       change_made t (TakeNode v) can new (PutNode v e.place o i) take_map (ap (maps.Add_node v) place) (omega arith)
       (no_outs, no_ins)
-      (record {
-        nodes = omega arith;
-        outs = λ k. le_same _ _ (sym (after Out k));
-        ins = λ k. le_same _ _ (sym (after In k));
-      })
-      (record {
-        nodes = omega arith;
-        outs = changed_back (spare_at Out t) (spare_at Out new) v 0 (spare_kept o) (after Out) (omega arith);
-        ins = changed_back (spare_at In t) (spare_at In new) v 0 (spare_kept i) (after In) (omega arith);
-      }) (omega arith) (omega arith)
+      (record { nodes = omega arith; lines = λ side. room_forth take_written kept' side 0 refl })
+      (record { nodes = omega arith; lines = λ side. room_back take_written kept' side _ (same_room side) }) (omega arith)
+      (omega arith) where
+        same_room : (side : Side) → links_room (links_at side e) ≡ room_kept (sides o i side)
+        same_room Out = sym same_outs
+        same_room In = sym same_ins
 
 -- ---- a node is moved
 
@@ -310,15 +309,12 @@ module _ (t : RoadMap) (nodes' : NodeSlots) (p v : ℕ) (e : NodeEntry) (q : Coo
       (MoveNode v e.place)
   move_node_made kept' room =
       let new : RoadMap = record { index = t.index; nodes = nodes'; lines = t.lines; kept = kept' } in
-      let after = spare_after move_written kept' in
-      let before = spare_before move_written in
-      let outs : (k : ℕ) → spare_at Out t k ≡ spare_at Out new k =
-      λ k. unchanged_at (spare_at Out t) v (spare_links e.outs) (before Out) k ∙ sym (after Out k) in
-      let ins : (k : ℕ) → spare_at In t k ≡ spare_at In new k =
-      λ k. unchanged_at (spare_at In t) v (spare_links e.ins) (before In) k ∙ sym (after In k) in
+      let same : IsRoomWithin (room_of t) (room_of new) =
+      record { nodes = omega arith; lines = λ side. room_same move_written kept' side (same_room side) } in
       let place : e.place ≡ coord_at (tables_map t) v =
       sym (ap (λ c. unwrap_or c no_coord) (node_read t v p e here is.was)) in
-      change_made t (MoveNode v q) can new (MoveNode v e.place) move_map (ap (maps.Move_node v) place) tt tt
-      (record { nodes = omega arith; outs = λ k. le_same _ _ (outs k); ins = λ k. le_same _ _ (ins k) })
-      (record { nodes = omega arith; outs = λ k. le_same _ _ (outs k); ins = λ k. le_same _ _ (ins k) })
-      (omega arith) (omega arith)
+      change_made t (MoveNode v q) can new (MoveNode v e.place) move_map (ap (maps.Move_node v) place) tt tt same same
+      (omega arith) (omega arith) where
+        same_room : (side : Side) → links_room (links_at side e) ≡ links_room (links_at side moved)
+        same_room Out = refl
+        same_room In = refl

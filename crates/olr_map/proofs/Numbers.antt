@@ -17,7 +17,7 @@ distinct_from_ascending xs up =
 
 -- ---- ascending lists with the same numbers are equal
 
-above : (x n : ℕ) (xs : List ℕ) → AllByRecursion (λ (y : ℕ). nat_cmp x y ≡ Less) xs → has xs n ≡ true → x < n
+pub above : (x n : ℕ) (xs : List ℕ) → AllByRecursion (λ (y : ℕ). nat_cmp x y ≡ Less) xs → has xs n ≡ true → x < n
 above x n [] h e = absurd cc
 above x n (y ∷ ys) h e =
     elim (y == n) as (λ b. (y == n) ≡ b → (b || has ys n) ≡ true → x < n) [

@@ -2,6 +2,7 @@
 use Rattle.std.proofs.Common.{◌≡◌, ◌==◌, ℕ, ◌<◌, ◌≤◌, ◌^◌, true, false, List, [], map, Option, Some, None}
 use Rattle.std.proofs.Common.{is_some, IsTrue, SomeIff, unwrap_or, length, refl, sym, ap, subst, ◌∙◌, arith}
 use Rattle.std.specs.Option.{option_map, option_map_or}
+use Rattle.std.proofs.lemmas.Bool.{false_from_ne_true}
 use Rattle.std.proofs.lemmas.Map.Made.{lookup-map_values}
 use Rattle.std.specs.FinMap.{FinMap, get}
 use Rattle.std.specs.Ordering.{nat_cmp}
@@ -134,9 +135,6 @@ module _ (t : RoadMap) where
       got_node b es t.kept.indexed (all_held t.lines) v ∙ ap (λ o. option_map place_of (in_slot es o)) h
       ∙ ap (option_map place_of) is
 
-  pub none_read : (v : ℕ) → slot_by b v ≡ None → get M.nodes v ≡ None
-  none_read v h = got_node b es t.kept.indexed (all_held t.lines) v ∙ ap (λ o. option_map place_of (in_slot es o)) h
-
   -- a slot that is found has an entry
   pub entry_at : (v p : ℕ) → slot_by b v ≡ Some p → (e : NodeEntry) × (at es p ≡ Some e)
   entry_at v p h = entry_of b es t.kept.indexed v p h
@@ -156,25 +154,12 @@ module _ (t : RoadMap) where
   listed_as side v p l h is = let x =
       entry_at v p h in subst (IsListed side M (node_slot b) v) (sym (is x.0 x.1)) (listed_at side v p x.0 h x.1)
 
-  -- what a lookup by the number n of node v found
-  module _ (v n : ℕ) (same : n ≡ v) where
-    pub found_at : (o : Option ℕ) → o ≡ slot_by b n → slot_by b v ≡ o
-    found_at o is = ap (slot_by b) (sym same) ∙ sym is
+  -- an absent node has no lines
+  pub no_lines : (side : Side) (v : ℕ) → (has_node M v ≡ true → ⊥) → [] ≡ lines_at side M v
+  no_lines side v missing = absent_lines side M v t.kept.sound (false_from_ne_true (has_node M v) missing)
 
-    pub found_filled : (p : ℕ) → Some p ≡ slot_by b n → is_some (at es p) ≡ true
-    found_filled p is = filled_in v p (found_at (Some p) is)
-
-    pub found_lines : (side : Side) (p : ℕ) (l : Links) → Some p ≡ slot_by b n →
-        ((e : NodeEntry) → at es p ≡ Some e → l ≡ links_at side e) → IsListed side M (node_slot b) v l
-    found_lines side p l is h = listed_as side v p l (found_at (Some p) is) h
-
-    pub no_lines : (side : Side) → None ≡ slot_by b n → [] ≡ lines_at side M v
-    no_lines side is =
-        absent_lines side M v t.kept.sound
-        (node_missing b es t.kept.indexed (all_held t.lines) v (found_at None is))
-
-    pub no_ends : (side : Side) → None ≡ slot_by b n → [] ≡ map (end_at side M (node_slot b)) (lines_at side M v)
-    no_ends side is = ap (map (end_at side M (node_slot b))) (no_lines side is)
+  pub no_ends : (side : Side) (v : ℕ) → (has_node M v ≡ true → ⊥) → [] ≡ map (end_at side M (node_slot b)) (lines_at side M v)
+  no_ends side v missing = ap (map (end_at side M (node_slot b))) (no_lines side v missing)
 
   -- the slot of a node, by `node_slot`
   pub slot_is : (v p : ℕ) → has_node M v ≡ true → node_slot b v ≡ p → slot_by b v ≡ Some p

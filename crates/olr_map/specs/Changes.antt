@@ -1,22 +1,21 @@
 -- Changes of the tables, each with the change that undoes it.
 --     change_edit c      the edit that a change makes
---     Room, room_of t      the capacity for more nodes, and for more lines at each node
+--     Room, room_of t      the capacity for more nodes, and for the lines at each node
 --     CanMake M R c      on this map, with this capacity, the change is accepted and does not allocate
---     made M c, room_after M R c      the map and the capacity after it
+--     map_after M c, room_after R c      the map and the capacity after it
 --     IsReserved old new      the same map, with at least the capacity
 --     IsChangeMade old new c back      the change was made, and `back` can undo it
-use Rattle.std.specs.Prelude.{◌≡◌, ◌==◌, ℕ, ◌+◌, ◌-◌, ◌<◌, ◌≤◌, if◌then◌else◌, List, [], ◌∷◌, ⊤, IsOk}
+use Rattle.std.specs.Prelude.{◌≡◌, ◌==◌, ℕ, ◌+◌, ◌-◌, ◌<◌, ◌≤◌, if◌then◌else◌, List, [], ◌∷◌, length, ⊤, IsOk}
 use Rattle.std.specs.Option.{option_map_or}
 use Rattle.std.specs.Result.{result_unwrap_or}
 use Rattle.olr_spec.specs.Map as map
 use Rattle.olr_spec.specs.Map.{Map, start, end, edited, HasCoord}
 use Rattle.olr_map.specs.SlotIndexes.{slot_by, spare_of}
 use Rattle.olr_map.specs.SlotMaps.{all_held, spare_numbers}
-use Rattle.olr_map.specs.Linked.{lines_kept, spare_kept, spare_links}
+use Rattle.olr_map.specs.Linked.{lines_kept, room_kept, links_room}
 use Rattle.olr_map.specs.Columns.{node_slots, node_room}
-use Rattle.olr_map.specs.Tables.{map_from, links_in}
+use Rattle.olr_map.specs.Tables.{near, sides, lines_at, map_from, links_in}
 use Rattle.olr_map.specs.declared.slots.Side.{Side}
-use Rattle.olr_map.specs.declared.slots.Side.TheVariants.{Out, In}
 use Rattle.olr_map.specs.declared.road_map.RoadMap.{RoadMap}
 use Rattle.olr_map.specs.declared.change.TableChange.{TableChange}
 use Rattle.olr_map.specs.declared.change.TableChange.TheVariants.{PutNode, MoveNode, TakeNode, PutLine, SetLine}
@@ -30,20 +29,19 @@ change_edit (PutLine id line) = map.Add_line id line
 change_edit (SetLine id line) = map.Set_line id line.frc line.fow line.len line.shape
 change_edit (TakeLine id) = map.Drop_line id
 
--- the capacity for more: for nodes, and for lines that leave and that enter each node
+-- the capacity for more nodes, and for the lines that leave and that enter each node
 pub record Room : Type 0 where
   pub nodes : ℕ
-  pub outs : ℕ → ℕ
-  pub ins : ℕ → ℕ
+  pub lines : Side → ℕ → ℕ
 
 abbrev pub tables_map : RoadMap → Map
 tables_map t = map_from t.index (node_slots t.nodes) (all_held t.lines)
 
-abbrev pub spare_at : Side → RoadMap → ℕ → ℕ
-spare_at side t v = option_map_or (λ l. spare_links l) (links_in side t.index (node_slots t.nodes) v) 0
+abbrev pub room_at : Side → RoadMap → ℕ → ℕ
+room_at side t v = option_map_or (λ l. links_room l) (links_in side t.index (node_slots t.nodes) v) 0
 
 abbrev pub room_of : RoadMap → Room
-room_of t = record { nodes = node_room t.nodes; outs = spare_at Out t; ins = spare_at In t }
+room_of t = record { nodes = node_room t.nodes; lines = λ side. room_at side t }
 
 -- how many node numbers, and line numbers, a change inserts
 abbrev pub node_puts : TableChange → ℕ
@@ -81,8 +79,7 @@ pub record HasNumbers (t : RoadMap) (n l : ℕ) : Type 0 where
 -- at least as much capacity
 pub record IsRoomWithin (R S : Room) : Type 0 where
   pub nodes : R.nodes ≤ S.nodes
-  pub outs : (v : ℕ) → R.outs v ≤ S.outs v
-  pub ins : (v : ℕ) → R.ins v ≤ S.ins v
+  pub lines : (side : Side) (v : ℕ) → R.lines side v ≤ S.lines side v
 
 -- the same map, with its nodes in the same slots, and at least as much capacity
 pub record IsReserved (old new : RoadMap) : Type 0 where
@@ -93,41 +90,21 @@ pub record IsReserved (old new : RoadMap) : Type 0 where
   pub slots : (v : ℕ) → slot_by new.index v ≡ slot_by old.index v
 
 -- capacity for each node and line that the edit adds
-abbrev pub HasRoomFor : Room → map.Edit → Type 0
-HasRoomFor R (map.Add_node id place) = 0 < R.nodes
-HasRoomFor R (map.Add_line id line) = (0 < R.outs line.from) × (0 < R.ins line.to)
-HasRoomFor R _ = ⊤
+abbrev pub HasRoomFor : Map → Room → map.Edit → Type 0
+HasRoomFor M R (map.Add_node id place) = 0 < R.nodes
+HasRoomFor M R (map.Add_line id line) =
+    (side : Side) → length (lines_at side M (near side line)) < R.lines side (near side line)
+HasRoomFor M R _ = ⊤
 
 -- the function with another value at one number
 abbrev pub changed_at : ℕ → ℕ → (ℕ → ℕ) → ℕ → ℕ
 changed_at k n f v = if k == v then n else f v
 
-abbrev pub room_after : Map → Room → TableChange → Room
-room_after M R (PutNode id place outs ins) =
-    record {
-      nodes = R.nodes - 1;
-      outs = changed_at id (spare_kept outs) R.outs;
-      ins =
-          changed_at id (spare_kept ins) R.ins;
-    }
-room_after M R (MoveNode id place) = R
-room_after M R (TakeNode id) =
-    record { nodes = R.nodes + 1; outs = changed_at id 0 R.outs; ins = changed_at id 0 R.ins }
-room_after M R (PutLine id line) =
-    record {
-      nodes = R.nodes;
-      outs = changed_at line.from (R.outs line.from - 1) R.outs;
-      ins =
-          changed_at line.to (R.ins line.to - 1) R.ins;
-    }
-room_after M R (SetLine id line) = R
-room_after M R (TakeLine id) =
-    record {
-      nodes = R.nodes;
-      outs = changed_at (start M id) (R.outs (start M id) + 1) R.outs;
-      ins =
-          changed_at (end M id) (R.ins (end M id) + 1) R.ins;
-    }
+abbrev pub room_after : Room → TableChange → Room
+room_after R (PutNode id place outs ins) =
+    record { nodes = R.nodes - 1; lines = λ side. changed_at id (room_kept (sides outs ins side)) (R.lines side) }
+room_after R (TakeNode id) = record { nodes = R.nodes + 1; lines = λ side. changed_at id 0 (R.lines side) }
+room_after R _ = R
 
 -- a node that is added has no lines yet, and a line that is set keeps its ends
 abbrev pub IsWhole : Map → TableChange → Type 0
@@ -138,7 +115,7 @@ IsWhole M _ = ⊤
 pub record CanMake (M : Map) (R : Room) (c : TableChange) : Type 0 where
   pub accepted : IsOk (edited M (change_edit c))
   pub placed : HasCoord (change_edit c)
-  pub fits : HasRoomFor R (change_edit c)
+  pub fits : HasRoomFor M R (change_edit c)
   pub whole : IsWhole M c
 
 abbrev pub map_after : Map → TableChange → Map
@@ -146,9 +123,9 @@ map_after M c = result_unwrap_or (edited M (change_edit c)) M
 
 pub record IsChangeMade (old new : RoadMap) (c back : TableChange) : Type 0 where
   pub map : tables_map new ≡ map_after (tables_map old) c
-  pub room : IsRoomWithin (room_after (tables_map old) (room_of old) c) (room_of new)
+  pub room : IsRoomWithin (room_after (room_of old) c) (room_of new)
   pub can_back : CanMake (tables_map new) (room_of new) back
   pub before : map_after (tables_map new) back ≡ tables_map old
-  pub room_before : IsRoomWithin (room_of old) (room_after (tables_map new) (room_of new) back)
+  pub room_before : IsRoomWithin (room_of old) (room_after (room_of new) back)
   pub node_numbers : spare_of old.index ≤ spare_of new.index + node_puts c
   pub line_numbers : spare_numbers old.lines ≤ spare_numbers new.lines + line_puts c

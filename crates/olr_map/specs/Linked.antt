@@ -1,19 +1,18 @@
 -- Lines of a node with their far ends.
 --     lines_on l, ends_on l      the lines, and the far end of each
---     spare_in m, spare_links l      the capacity for more lines, in vectors and in a list
---     lines_kept s, spare_kept s      the lines in the memory of an empty list, which are none, and its capacity
---     IsLinked old new id end, IsUnlinked old new id, IsReset old new id end      a line was inserted, was removed, or
---         has another far end
---     IsRoomier old new      the same lines, with at least the capacity for more
-use Rattle.std.specs.Prelude.{◌≡◌, ℕ, ◌+◌, ◌-◌, ◌<◌, ◌≤◌, List, [], min, length, take, set, slice_index, vec_len}
+--     vectors_room m, links_room l      the capacity of vectors and of a list, in lines
+--     lines_kept s, room_kept s      the lines in the memory of an empty list, which are none, and its capacity
+--     IsPut old new x o      line x has the far end o, or it is not in the list if that is none
+--     IsRoomier old new      the same lines, with at least the capacity
+use Rattle.std.specs.Prelude.{◌≡◌, ◌==◌, ℕ, ◌<◌, ◌≤◌, true, false, cond, List, [], min, length, take, map, Option, Some, None}
+use Rattle.std.specs.Option.{is_some}
+use Rattle.std.specs.Global.{Box}
 use Rattle.std.specs.Vec.{vec_capacity}
-use Rattle.std.specs.List.{insert, remove}
 use Rattle.std.specs.List.Sorted.{IsStrictlyIncreasing}
+use Rattle.olr_spec.specs.Map.{has}
 use Rattle.olr_map.specs.declared.links.Links.{Links}
 use Rattle.olr_map.specs.declared.links.Links.TheVariants.{Inline, Spilled}
 use Rattle.olr_map.specs.declared.links.Spilled.{Spilled as Vectors}
-use Rattle.olr_map.specs.declared.links.EmptyLinks.{EmptyLinks}
-use Rattle.olr_map.specs.declared.links.EmptyLinks.TheVariants.{Inline as NoMemory, Spilled as Memory}
 use Rattle.olr_map.specs.declared.read.LineEnd.{LineEnd}
 
 abbrev pub lines_on : Links → List ℕ
@@ -24,47 +23,35 @@ abbrev pub ends_on : Links → List LineEnd
 ends_on (Inline f) = take f.count f.ends
 ends_on (Spilled m) = m.value.ends.items
 
-abbrev pub spare_in : Vectors → ℕ
-spare_in m = min (vec_capacity m.lines - vec_len m.lines) (vec_capacity m.ends - vec_len m.ends)
+abbrev pub vectors_room : Vectors → ℕ
+vectors_room m = min (vec_capacity m.lines) (vec_capacity m.ends)
 
-abbrev pub spare_links : Links → ℕ
-spare_links (Inline f) = 4 - f.count
-spare_links (Spilled m) = spare_in m.value
+abbrev pub links_room : Links → ℕ
+links_room (Inline f) = 4
+links_room (Spilled m) = vectors_room m.value
+
+-- the memory of an empty list: its vectors, if it has any
+abbrev pub EmptyLinks : Type 0
+EmptyLinks = Option (Box Vectors)
 
 abbrev pub lines_kept : EmptyLinks → List ℕ
-lines_kept NoMemory = []
-lines_kept (Memory m) = m.value.lines.items
+lines_kept None = []
+lines_kept (Some m) = m.value.lines.items
 
-abbrev pub spare_kept : EmptyLinks → ℕ
-spare_kept NoMemory = 4
-spare_kept (Memory m) = spare_in m.value
+abbrev pub room_kept : EmptyLinks → ℕ
+room_kept None = 4
+room_kept (Some m) = vectors_room m.value
 
-pub record IsLinked (old new : Links) (id : ℕ) (end : LineEnd) : Type 0 where
-  pub index : ℕ
-  pub within : index ≤ length (lines_on old)
-  pub lines : lines_on new ≡ insert (lines_on old) index id
-  pub ends : ends_on new ≡ insert (ends_on old) index end
+-- where the far ends were f of each line, they are g of each line, if f and g differ at x alone
+pub record IsPut (old new : Links) (x : ℕ) (o : Option LineEnd) : Type 0 where
   pub ascends : IsStrictlyIncreasing (lines_on new)
-  pub room : spare_links new + 1 ≡ spare_links old
-
-pub record IsUnlinked (old new : Links) (id : ℕ) : Type 0 where
-  pub index : ℕ
-  pub within : index < length (lines_on old)
-  pub is : slice_index (lines_on old) index ≡ id
-  pub lines : lines_on new ≡ remove (lines_on old) index
-  pub ends : ends_on new ≡ remove (ends_on old) index
-  pub ascends : IsStrictlyIncreasing (lines_on new)
-  pub room : spare_links new ≡ spare_links old + 1
-
-pub record IsReset (old new : Links) (id : ℕ) (end : LineEnd) : Type 0 where
-  pub index : ℕ
-  pub within : index < length (lines_on old)
-  pub is : slice_index (lines_on old) index ≡ id
-  pub lines : lines_on new ≡ lines_on old
-  pub ends : ends_on new ≡ set (ends_on old) index end
-  pub room : spare_links new ≡ spare_links old
+  pub numbers : (n : ℕ) → has (lines_on new) n ≡ cond (x == n) (is_some o) (has (lines_on old) n)
+  pub ends : (f g : ℕ → LineEnd) → ends_on old ≡ map f (lines_on old) → ((n : ℕ) → (x == n) ≡ false → f n ≡ g n) →
+      ((e : LineEnd) → o ≡ Some e → e ≡ g x) → ends_on new ≡ map g (lines_on new)
+  pub room : links_room new ≡ links_room old
+  pub free : o ≡ None → has (lines_on old) x ≡ true → length (lines_on new) < links_room new
 
 pub record IsRoomier (old new : Links) : Type 0 where
   pub lines : lines_on new ≡ lines_on old
   pub ends : ends_on new ≡ ends_on old
-  pub spare : spare_links old ≤ spare_links new
+  pub room : links_room old ≤ links_room new

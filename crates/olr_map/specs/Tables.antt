@@ -41,6 +41,11 @@ map_from b es F =
 abbrev pub node_slot : Blocks → ℕ → ℕ
 node_slot b v = unwrap_or (slot_by b v) 0
 
+-- the one for a side
+abbrev pub sides : {A : Type 0} → A → A → Side → A
+sides a b Out = a
+sides a b In = b
+
 -- the ends of a line that is in a node's list on one side: the one at this node, and the far one
 abbrev pub near : Side → Line → ℕ
 near Out l = l.from

@@ -17,7 +17,7 @@ use Rattle.olr_map.specs.declared.undo.UndoLog.{UndoLog}
 
 abbrev pub CanMakeAll : Map → Room → List TableChange → Type 0
 CanMakeAll M R [] = ⊤
-CanMakeAll M R (c ∷ cs) = CanMake M R c × CanMakeAll (map_after M c) (room_after M R c) cs
+CanMakeAll M R (c ∷ cs) = CanMake M R c × CanMakeAll (map_after M c) (room_after R c) cs
 
 abbrev pub made_all : Map → List TableChange → Map
 made_all M [] = M
@@ -35,13 +35,13 @@ HasCoord-prop (map.Add_line x l) = hlevel props
 HasCoord-prop (map.Set_line x frc fow len shape) = hlevel props
 HasCoord-prop (map.Drop_line x) = hlevel props
 
-HasRoom-prop : (R : Room) (e : map.Edit) → IsProp (HasRoomFor R e)
-HasRoom-prop R (map.Add_node v c) = hlevel (props, le_prop)
-HasRoom-prop R (map.Move_node v c) = hlevel props
-HasRoom-prop R (map.Drop_node v) = hlevel props
-HasRoom-prop R (map.Add_line x l) = hlevel (props, le_prop)
-HasRoom-prop R (map.Set_line x frc fow len shape) = hlevel props
-HasRoom-prop R (map.Drop_line x) = hlevel props
+HasRoom-prop : (M : Map) (R : Room) (e : map.Edit) → IsProp (HasRoomFor M R e)
+HasRoom-prop M R (map.Add_node v c) = hlevel (props, le_prop)
+HasRoom-prop M R (map.Move_node v c) = hlevel props
+HasRoom-prop M R (map.Drop_node v) = hlevel props
+HasRoom-prop M R (map.Add_line x l) = hlevel (props, le_prop)
+HasRoom-prop M R (map.Set_line x frc fow len shape) = hlevel props
+HasRoom-prop M R (map.Drop_line x) = hlevel props
 
 IsWhole-prop : (M : Map) (c : TableChange) → IsProp (IsWhole M c)
 IsWhole-prop M (PutNode id place outs ins) = hlevel (props, Coded-set (coded_list coded_ℕ))
@@ -52,11 +52,11 @@ IsWhole-prop M (SetLine id line) = hlevel (props, Coded-set coded_ℕ)
 IsWhole-prop M (TakeLine id) = hlevel props
 
 pub CanMake-prop : (M : Map) (R : Room) (c : TableChange) → IsProp (CanMake M R c)
-CanMake-prop M R c = hlevel (props, HasCoord-prop (change_edit c), HasRoom-prop R (change_edit c), IsWhole-prop M c)
+CanMake-prop M R c = hlevel (props, HasCoord-prop (change_edit c), HasRoom-prop M R (change_edit c), IsWhole-prop M c)
 
 pub CanMakeAll-prop : (M : Map) (R : Room) (cs : List TableChange) → IsProp (CanMakeAll M R cs)
 CanMakeAll-prop M R [] = Unit-prop
-CanMakeAll-prop M R (c ∷ cs) = ×_prop (CanMake-prop M R c) (CanMakeAll-prop (map_after M c) (room_after M R c) cs)
+CanMakeAll-prop M R (c ∷ cs) = ×_prop (CanMake-prop M R c) (CanMakeAll-prop (map_after M c) (room_after R c) cs)
 
 pub HasNumbers-prop : (t : RoadMap) (n l : ℕ) → IsProp (HasNumbers t n l)
 HasNumbers-prop t n l = hlevel (props, le_prop)

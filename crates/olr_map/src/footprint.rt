@@ -4,7 +4,6 @@ ghost use Rattle.std.specs.List.Sorted.{IsStrictlyIncreasing};
 
 use crate::ids::NodeId;
 use std::alloc::{AllocError, Global};
-use std::cmp::Ordering;
 use std::marker::Model;
 
 /// A set of node numbers, stored and returned in ascending order.
@@ -88,21 +87,9 @@ fn merge(alloc: Global, left: &[NodeId], right: &[NodeId]) -> Result<Vec<NodeId>
     let mut j = 0;
     while i < left.len() && j < right.len() {
         let (next_left, next_right) = (left[i], right[j]);
-        match next_left.cmp(&next_right) {
-            Ordering::Less => {
-                both.push(next_left)?;
-                i += 1;
-            }
-            Ordering::Equal => {
-                both.push(next_left)?;
-                i += 1;
-                j += 1;
-            }
-            Ordering::Greater => {
-                both.push(next_right)?;
-                j += 1;
-            }
-        }
+        both.push_reserved(next_left.min(next_right));
+        i += usize::from(next_left <= next_right);
+        j += usize::from(next_right <= next_left);
     }
     both.extend_from_slice(&left[i..])?;
     both.extend_from_slice(&right[j..])?;

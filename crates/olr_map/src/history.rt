@@ -5,7 +5,6 @@ use crate::edit::{Edit, EditFault};
 use crate::ids::NodeId;
 use crate::judging::{EditPlan, judge};
 use crate::line::Line;
-use crate::links::EmptyLinks;
 use crate::road_map::RoadMap;
 use crate::slots::Side;
 use crate::undo::{Undo, UndoLog};
@@ -82,7 +81,7 @@ impl RoadMap {
         requires can { CanMake (tables_map self.old) (room_of self.old) change }
         requires numbers { HasNumbers self.old (node_puts change) (line_puts change) }
         ensures map { tables_map self.new ≡ map_after (tables_map self.old) change }
-        ensures room { IsRoomWithin (room_after (tables_map self.old) (room_of self.old) change) (room_of self.new) }
+        ensures room { IsRoomWithin (room_after (room_of self.old) change) (room_of self.new) }
         ensures nodes { spare_of self.old.index ≤ spare_of self.new.index + node_puts change }
         ensures lines { spare_numbers self.old.lines ≤ spare_numbers self.new.lines + line_puts change }
     {
@@ -102,7 +101,7 @@ impl RoadMap {
         requires slots { AreSlots self.old.index (tables_map self.old) slots (edit_of edit.now) }
         requires numbers { HasNumbers self.old nodes lines }
         ensures same { IsReserved self.old self.new }
-        ensures room { OnOk result (HasRoomFor (room_of self.new) (edit_of edit.now)) }
+        ensures room { OnOk result (HasRoomFor (tables_map self.new) (room_of self.new) (edit_of edit.now)) }
         ensures numbers { OnOk result (HasNumbers self.new (nodes + node_numbers (edit_of edit.now))
             (lines + line_numbers (edit_of edit.now))) }
         ensures lacks { OnErr result (IsTrue (allocates (edit_of edit.now))) }
@@ -133,8 +132,8 @@ impl RoadMap {
             Edit::AddNode(id, place) => TableChange::PutNode {
                 id,
                 place,
-                outs: EmptyLinks::Inline,
-                ins: EmptyLinks::Inline,
+                outs: None,
+                ins: None,
             },
             Edit::MoveNode(id, place) => TableChange::MoveNode(id, place),
             Edit::DropNode(id) => TableChange::TakeNode(id),

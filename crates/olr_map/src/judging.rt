@@ -12,7 +12,7 @@ use crate::read::MapRead;
 use olr_coords::Coord;
 
 /// What an edit touches on a map that accepts it.
-#[derive(Clone, Copy, Debug, PartialEq, Eq)]
+#[derive(Clone, Copy)]
 pub struct EditPlan {
     /// The nodes: both ends of the line, or one node twice.
     pub nodes: (NodeId, NodeId),

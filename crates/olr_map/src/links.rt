@@ -1,6 +1,6 @@
 //! The lines that leave a node, or those that enter it, each with its far end.
-ghost use Rattle.std.specs.Prelude.{◌≡◌, ◌+◌, ◌<◌, ◌≤◌, ℕ, [], length, insert, remove, set, slice_index, OnOk, IsTrue};
-ghost use Rattle.std.specs.Prelude.{IsFalse};
+ghost use Rattle.std.specs.Prelude.{◌≡◌, ◌+◌, ◌<◌, ◌≤◌, [], None, length, insert, remove, set, take, IfOk, OnOk, IsFalse};
+ghost use Rattle.std.specs.Vec.{vec_capacity};
 ghost use Rattle.std.specs.List.Sorted.{IsStrictlyIncreasing};
 ghost use Rattle.olr_spec.specs.Map.{has};
 
@@ -18,14 +18,8 @@ pub enum Links {
     Spilled(Box<Spilled>),
 }
 
-/// The memory of an empty list of lines.
-#[derive(Drop)]
-pub enum EmptyLinks {
-    /// No memory of its own.
-    Inline,
-    /// The empty vectors.
-    Spilled(Box<Spilled>),
-}
+/// The memory of an empty list of lines: its vectors, if it has any.
+pub type EmptyLinks = Option<Box<Spilled>>;
 
 /// The numbers of lines, and the far end of each, in vectors.
 #[derive(Drop)]
@@ -36,26 +30,16 @@ pub struct Spilled {
 }
 
 impl Links {
-    ghost use Rattle.olr_map.specs.Linked.{lines_on, ends_on, spare_links, lines_kept, spare_kept};
-    ghost use Rattle.olr_map.specs.Linked.{IsLinked, IsUnlinked, IsReset, IsRoomier};
-
-    /// No lines. Does not allocate.
-    pub fn new() -> Links
-        ensures lines { lines_on result ≡ [] }
-        ensures ends { ends_on result ≡ [] }
-        ensures room { spare_links result ≡ 4 }
-    {
-        Links::Inline(Inline::new())
-    }
+    ghost use Rattle.olr_map.specs.Linked.{lines_on, ends_on, links_room, lines_kept, room_kept, IsPut, IsRoomier};
 
     /// The empty list in this memory.
     pub fn in_empty(spare: EmptyLinks) -> Links
         ensures lines { lines_on result ≡ lines_kept spare }
-        ensures room { spare_links result ≡ spare_kept spare }
+        ensures room { links_room result ≡ room_kept spare }
     {
         match spare {
-            EmptyLinks::Inline => Links::new(),
-            EmptyLinks::Spilled(spilled) => Links::Spilled(spilled),
+            None => Links::Inline(Inline::new()),
+            Some(spilled) => Links::Spilled(spilled),
         }
     }
 
@@ -63,11 +47,11 @@ impl Links {
     pub fn into_empty(self) -> EmptyLinks
         requires { lines_on self ≡ [] }
         ensures lines { lines_kept result ≡ [] }
-        ensures room { spare_kept result ≡ spare_links self }
+        ensures room { room_kept result ≡ links_room self }
     {
         match self {
-            Links::Inline(_) => EmptyLinks::Inline,
-            Links::Spilled(spilled) => EmptyLinks::Spilled(spilled),
+            Links::Inline(_) => None,
+            Links::Spilled(spilled) => Some(spilled),
         }
     }
 
@@ -94,15 +78,13 @@ impl Links {
     /// Reserves capacity for one more line.
     pub fn reserve(&mut self, alloc: Global) -> Result<(), AllocError>
         ensures same { IsRoomier self.old self.new }
-        ensures room { OnOk result (0 < spare_links self.new) }
+        ensures room { OnOk result (length (lines_on self.new) < links_room self.new) }
     {
         match self {
             Links::Inline(inline) => {
-                if inline.lines().len() < INLINE {
-                    return Ok(());
+                if inline.count as usize == INLINE {
+                    *self = Links::Spilled(Spilled::from_inline(alloc, inline)?);
                 }
-                let spilled = Spilled::with_room(alloc, inline)?;
-                *self = Links::Spilled(Box::new(alloc, spilled)?);
                 Ok(())
             }
             Links::Spilled(spilled) => {
@@ -112,50 +94,28 @@ impl Links {
         }
     }
 
-    /// Inserts a line that is not in the list. Capacity for it is reserved.
-    pub fn link(&mut self, id: LineId, end: LineEnd)
+    /// Sets the far end of a line, which is inserted if it is not in the list, or removes the line. Capacity for a new
+    /// line is reserved, and remains after a removal.
+    pub fn put(&mut self, id: LineId, end: Option<LineEnd>)
         requires ascending { IsStrictlyIncreasing (lines_on self.old) }
-        requires absent { IsFalse (has (lines_on self.old) id) }
-        requires room { 0 < spare_links self.old }
-        ensures { IsLinked self.old self.new id end }
+        requires room { IsFalse (has (lines_on self.old) id) → length (lines_on self.old) < links_room self.old }
+        ensures { IsPut self.old self.new id end }
     {
-        match self.lines().binary_search(&id) {
-            Ok(_) => unreachable!(),
-            Err(at) => self.insert(at, id, end),
-        }
-    }
-
-    /// Removes a line that is in the list. Its capacity remains.
-    pub fn unlink(&mut self, id: LineId)
-        requires ascending { IsStrictlyIncreasing (lines_on self.old) }
-        requires there { IsTrue (has (lines_on self.old) id) }
-        ensures { IsUnlinked self.old self.new id }
-    {
-        match self.lines().binary_search(&id) {
-            Ok(at) => self.remove(at),
-            Err(_) => unreachable!(),
-        }
-    }
-
-    /// Sets another far end for a line that is in the list.
-    pub fn set_end(&mut self, id: LineId, end: LineEnd)
-        requires ascending { IsStrictlyIncreasing (lines_on self.old) }
-        requires there { IsTrue (has (lines_on self.old) id) }
-        ensures { IsReset self.old self.new id end }
-    {
-        match self.lines().binary_search(&id) {
-            Ok(at) => self.set_at(at, end),
-            Err(_) => unreachable!(),
+        match (self.lines().binary_search(&id), end) {
+            (Ok(at), Some(end)) => self.set_at(at, end),
+            (Ok(at), None) => self.remove(at),
+            (Err(at), Some(end)) => self.insert(at, id, end),
+            (Err(_), None) => {}
         }
     }
 
     /// Inserts a line at this position. Capacity for it is reserved.
     fn insert(&mut self, at: usize, id: LineId, end: LineEnd)
         requires within { at ≤ length (lines_on self.old) }
-        requires room { 0 < spare_links self.old }
+        requires room { length (lines_on self.old) < links_room self.old }
         ensures lines { lines_on self.new ≡ insert (lines_on self.old) at id }
         ensures ends { ends_on self.new ≡ insert (ends_on self.old) at end }
-        ensures room { spare_links self.new + 1 ≡ spare_links self.old }
+        ensures room { links_room self.new ≡ links_room self.old }
     {
         match self {
             Links::Inline(inline) => inline.insert(at, id, end),
@@ -168,7 +128,8 @@ impl Links {
         requires { at < length (lines_on self.old) }
         ensures lines { lines_on self.new ≡ remove (lines_on self.old) at }
         ensures ends { ends_on self.new ≡ remove (ends_on self.old) at }
-        ensures room { spare_links self.new ≡ spare_links self.old + 1 }
+        ensures room { links_room self.new ≡ links_room self.old }
+        ensures free { length (lines_on self.new) < links_room self.new }
     {
         match self {
             Links::Inline(inline) => inline.remove(at),
@@ -181,7 +142,7 @@ impl Links {
         requires { at < length (lines_on self.old) }
         ensures lines { lines_on self.new ≡ lines_on self.old }
         ensures ends { ends_on self.new ≡ set (ends_on self.old) at end }
-        ensures room { spare_links self.new ≡ spare_links self.old }
+        ensures room { links_room self.new ≡ links_room self.old }
     {
         match self {
             Links::Inline(inline) => inline.set_end(at, end),
@@ -193,29 +154,26 @@ impl Links {
 }
 
 impl Spilled {
-    ghost use Rattle.std.specs.Prelude.{IfOk, take};
-    ghost use Rattle.olr_map.specs.Linked.{spare_in};
+    ghost use Rattle.olr_map.specs.Linked.{vectors_room};
 
-    /// These lines, with capacity for as many again.
-    fn with_room(alloc: Global, inline: &Inline) -> Result<Spilled, AllocError>
-        ensures lines { IfOk result (λ m. m.lines.items ≡ take inline.now.count inline.now.lines) }
-        ensures ends { IfOk result (λ m. m.ends.items ≡ take inline.now.count inline.now.ends) }
-        ensures room { IfOk result (λ m. 0 < spare_in m) }
+    /// These lines in vectors, with capacity for as many again.
+    fn from_inline(alloc: Global, inline: &Inline) -> Result<Box<Spilled>, AllocError>
+        ensures lines { IfOk result (λ m. m.value.lines.items ≡ take inline.now.count inline.now.lines) }
+        ensures ends { IfOk result (λ m. m.value.ends.items ≡ take inline.now.count inline.now.ends) }
+        ensures room { IfOk result (λ m. 8 ≤ vectors_room m.value) }
     {
-        let mut lines = Vec::with_capacity(alloc, 2 * INLINE)?;
-        let mut ends = Vec::with_capacity(alloc, 2 * INLINE)?;
-        lines.extend_from_slice(inline.lines())?;
-        ends.extend_from_slice(inline.ends())?;
-        Ok(Spilled { lines, ends })
+        let lines = with_room(alloc, inline.lines())?;
+        let ends = with_room(alloc, inline.ends())?;
+        Ok(Box::new(alloc, Spilled { lines, ends })?)
     }
 
     /// Inserts a line at this position. Capacity for it is reserved.
     fn insert(&mut self, at: usize, id: LineId, end: LineEnd)
         requires within { at ≤ length self.old.lines.items }
-        requires room { 0 < spare_in self.old }
+        requires room { length self.old.lines.items < vectors_room self.old }
         ensures lines { self.new.lines.items ≡ insert self.old.lines.items at id }
         ensures ends { self.new.ends.items ≡ insert self.old.ends.items at end }
-        ensures room { spare_in self.new + 1 ≡ spare_in self.old }
+        ensures room { vectors_room self.new ≡ vectors_room self.old }
     {
         let lines = self.lines.insert(at, id);
         let ends = self.ends.insert(at, end);
@@ -230,9 +188,20 @@ impl Spilled {
         requires { at < length self.old.lines.items }
         ensures lines { self.new.lines.items ≡ remove self.old.lines.items at }
         ensures ends { self.new.ends.items ≡ remove self.old.ends.items at }
-        ensures room { spare_in self.new ≡ spare_in self.old + 1 }
+        ensures room { vectors_room self.new ≡ vectors_room self.old }
     {
         let _ = self.lines.remove(at);
         let _ = self.ends.remove(at);
     }
+}
+
+/// These values, with capacity for twice as many as are stored in an `Inline`.
+fn with_room<T: Copy>(alloc: Global, values: &[T]) -> Result<Vec<T>, AllocError>
+    requires { length values.now ≤ 8 }
+    ensures items { IfOk result (λ v. v.items ≡ values.now) }
+    ensures room { IfOk result (λ v. 8 ≤ vec_capacity v) }
+{
+    let mut room = Vec::with_capacity(alloc, 2 * INLINE)?;
+    room.extend_from_slice(values)?;
+    Ok(room)
 }

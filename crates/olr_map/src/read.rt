@@ -10,7 +10,7 @@ use crate::line::Line;
 use olr_coords::Coord;
 
 /// A line as seen from one of its ends.
-#[derive(Clone, Copy, Debug, Default, PartialEq, Eq)]
+#[derive(Clone, Copy, Default, PartialEq, Eq)]
 pub struct LineEnd {
     /// The node at the line's other end.
     pub node: NodeId,

@@ -9,7 +9,7 @@ use crate::ids::{LineId, NodeId};
 use crate::line::Line;
 use crate::read::{LineEnd, MapRead};
 use crate::slot_map::SlotMap;
-use crate::slots::NodeSlots;
+use crate::slots::{NodeSlots, Side};
 use crate::undo::{Undo, UndoLog};
 use olr_coords::Coord;
 use std::alloc::Global;
@@ -36,7 +36,7 @@ impl MapRead for RoadMap {
     ghost count = { λ m. length (node_slots m.nodes) };
 
     fn node(&self, id: NodeId) -> Option<Coord> {
-        match self.index.get(id.number()) {
+        match self.slot_of(id) {
             Some(slot) => Some(self.nodes.place(slot)),
             None => None,
         }
@@ -47,35 +47,36 @@ impl MapRead for RoadMap {
     }
 
     fn out_lines(&self, id: NodeId) -> &[LineId] {
-        match self.index.get(id.number()) {
-            Some(slot) => self.nodes.outs(slot).lines(),
+        match self.slot_of(id) {
+            Some(slot) => self.nodes.links(Side::Out, slot).lines(),
             None => &[],
         }
     }
 
     fn in_lines(&self, id: NodeId) -> &[LineId] {
-        match self.index.get(id.number()) {
-            Some(slot) => self.nodes.ins(slot).lines(),
+        match self.slot_of(id) {
+            Some(slot) => self.in_lines_at(slot),
             None => &[],
         }
     }
 
     fn out_ends(&self, id: NodeId) -> &[LineEnd] {
-        match self.index.get(id.number()) {
-            Some(slot) => self.nodes.outs(slot).ends(),
+        match self.slot_of(id) {
+            Some(slot) => self.out_ends_at(slot),
             None => &[],
         }
     }
 
     fn in_ends(&self, id: NodeId) -> &[LineEnd] {
-        match self.index.get(id.number()) {
-            Some(slot) => self.nodes.ins(slot).ends(),
+        match self.slot_of(id) {
+            Some(slot) => self.in_ends_at(slot),
             None => &[],
         }
     }
 
+    #[tactic(auto, using(crate::proofs::ColumnLemmas::slot_count))]
     fn slot_count(&self) -> usize {
-        self.nodes.count()
+        self.nodes.heads.entries.len()
     }
 
     fn slot_of(&self, id: NodeId) -> Option<u32> {
@@ -83,15 +84,15 @@ impl MapRead for RoadMap {
     }
 
     fn in_lines_at(&self, slot: u32) -> &[LineId] {
-        self.nodes.ins(slot).lines()
+        self.nodes.links(Side::In, slot).lines()
     }
 
     fn out_ends_at(&self, slot: u32) -> &[LineEnd] {
-        self.nodes.outs(slot).ends()
+        self.nodes.links(Side::Out, slot).ends()
     }
 
     fn in_ends_at(&self, slot: u32) -> &[LineEnd] {
-        self.nodes.ins(slot).ends()
+        self.nodes.links(Side::In, slot).ends()
     }
 
     ghost sound = { λ m. m.kept.sound };

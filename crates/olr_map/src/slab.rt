@@ -31,20 +31,6 @@ impl<V: Drop> Slab<V> {
         }
     }
 
-    /// The number of slots.
-    pub fn count(&self) -> usize
-        ensures { result ≡ length (slots_of self.now) }
-    {
-        self.entries.len()
-    }
-
-    /// The number of free slots.
-    pub fn free_count(&self) -> usize
-        ensures { result ≡ free_in self.now }
-    {
-        self.free.len()
-    }
-
     /// The value in a slot.
     pub fn entry(&self, slot: u32) -> &V
         requires { IsSome (at (slots_of self.now) slot) }

@@ -64,7 +64,7 @@ fn id_in(heads: &[Option<NodeHead>], slot: usize) -> Option<NodeId>
 }
 
 /// Which of a node's lines: those that leave it, or those that enter it.
-#[derive(Clone, Copy, PartialEq, Eq)]
+#[derive(Clone, Copy)]
 pub enum Side {
     Out,
     In,
@@ -85,7 +85,7 @@ impl NodeSlots {
     ghost use Rattle.olr_map.specs.Slotted.{IsInserted, IsRemoved, IsReplaced};
     ghost use Rattle.olr_map.specs.Columns.{node_slots, node_room};
     ghost use Rattle.olr_map.specs.NodeLinks.{links_at, IsRelinked};
-    ghost use Rattle.olr_map.specs.Linked.{lines_on, spare_links, IsLinked, IsUnlinked, IsReset, IsRoomier};
+    ghost use Rattle.olr_map.specs.Linked.{lines_on, links_room, IsPut, IsRoomier};
     ghost use Rattle.olr_spec.specs.Map.{has};
     ghost use Rattle.olr_map.specs.declared.slots.NodeEntry.{NodeEntry as Entry};
 
@@ -98,13 +98,6 @@ impl NodeSlots {
             outs: Vec::new(alloc),
             ins: Vec::new(alloc),
         }
-    }
-
-    /// The number of slots.
-    pub fn count(&self) -> usize
-        ensures { result ≡ length (node_slots self.now) }
-    {
-        self.heads.count()
     }
 
     /// The numbers of all nodes, in the order of their slots.
@@ -129,20 +122,15 @@ impl NodeSlots {
         self.heads.entry(slot).place
     }
 
-    /// The lines that leave the node in a slot.
-    pub fn outs(&self, slot: u32) -> &Links
+    /// The lines on one side of the node in a slot.
+    pub fn links(&self, side: Side, slot: u32) -> &Links
         requires { IsSome (at (node_slots self.now) slot) }
-        ensures { (e : Entry) → at (node_slots self.now) slot ≡ Some e → result.now ≡ e.outs }
+        ensures { (e : Entry) → at (node_slots self.now) slot ≡ Some e → result.now ≡ links_at side e }
     {
-        &self.outs[slot as usize]
-    }
-
-    /// The lines that enter the node in a slot.
-    pub fn ins(&self, slot: u32) -> &Links
-        requires { IsSome (at (node_slots self.now) slot) }
-        ensures { (e : Entry) → at (node_slots self.now) slot ≡ Some e → result.now ≡ e.ins }
-    {
-        &self.ins[slot as usize]
+        match side {
+            Side::Out => &self.outs[slot as usize],
+            Side::In => &self.ins[slot as usize],
+        }
     }
 
     /// Reserves capacity for `additional` more nodes.
@@ -151,7 +139,7 @@ impl NodeSlots {
         ensures more { node_room self.old ≤ node_room self.new }
         ensures room { OnOk result (additional ≤ node_room self.new) }
     {
-        let added = additional.saturating_sub(self.heads.free_count());
+        let added = additional.saturating_sub(self.heads.free.len());
         self.outs.reserve(added)?;
         self.ins.reserve(added)?;
         self.heads.reserve(additional)
@@ -182,8 +170,8 @@ impl NodeSlots {
         ensures room { node_room self.old + 1 ≤ node_room self.new }
     {
         let NodeHead { id, place } = self.heads.take(slot);
-        let outs = mem::replace(&mut self.outs[slot as usize], Links::new());
-        let ins = mem::replace(&mut self.ins[slot as usize], Links::new());
+        let outs = mem::replace(&mut self.outs[slot as usize], Links::in_empty(None));
+        let ins = mem::replace(&mut self.ins[slot as usize], Links::in_empty(None));
         NodeEntry {
             outs,
             ins,
@@ -208,7 +196,7 @@ impl NodeSlots {
     pub fn reserve_link(&mut self, side: Side, slot: u32) -> Result<(), AllocError>
         requires { IsSome (at (node_slots self.old) slot) }
         ensures turns { IsRelinked (node_slots self.old) (node_slots self.new) side slot
-            (λ o n. IsRoomier o n × OnOk result (0 < spare_links n)) }
+            (λ o n. IsRoomier o n × OnOk result (length (lines_on n) < links_room n)) }
         ensures room { node_room self.new ≡ node_room self.old }
     {
         let alloc = *self.outs.allocator();
@@ -218,49 +206,18 @@ impl NodeSlots {
         }
     }
 
-    /// Inserts a line on one side of the node in a slot. Capacity for it is reserved.
-    pub fn link(&mut self, side: Side, slot: u32, id: LineId, end: LineEnd)
+    /// Sets the far end of a line on one side of the node in a slot, or removes the line, see `Links::put`.
+    pub fn put_end(&mut self, side: Side, slot: u32, id: LineId, end: Option<LineEnd>)
         requires { (e : Entry) × (at (node_slots self.old) slot ≡ Some e)
             × IsStrictlyIncreasing (lines_on (links_at side e))
-            × IsFalse (has (lines_on (links_at side e)) id)
-            × (0 < spare_links (links_at side e)) }
-        ensures turns { IsRelinked (node_slots self.old) (node_slots self.new) side slot
-            (λ o n. IsLinked o n id end) }
+            × (IsFalse (has (lines_on (links_at side e)) id)
+            → length (lines_on (links_at side e)) < links_room (links_at side e)) }
+        ensures turns { IsRelinked (node_slots self.old) (node_slots self.new) side slot (λ o n. IsPut o n id end) }
         ensures room { node_room self.new ≡ node_room self.old }
     {
         match side {
-            Side::Out => self.outs[slot as usize].link(id, end),
-            Side::In => self.ins[slot as usize].link(id, end),
-        }
-    }
-
-    /// Removes a line on one side of the node in a slot. Its capacity remains.
-    pub fn unlink(&mut self, side: Side, slot: u32, id: LineId)
-        requires { (e : Entry) × (at (node_slots self.old) slot ≡ Some e)
-            × IsStrictlyIncreasing (lines_on (links_at side e))
-            × IsTrue (has (lines_on (links_at side e)) id) }
-        ensures turns { IsRelinked (node_slots self.old) (node_slots self.new) side slot
-            (λ o n. IsUnlinked o n id) }
-        ensures room { node_room self.new ≡ node_room self.old }
-    {
-        match side {
-            Side::Out => self.outs[slot as usize].unlink(id),
-            Side::In => self.ins[slot as usize].unlink(id),
-        }
-    }
-
-    /// Sets another far end for a line on one side of the node in a slot.
-    pub fn set_end(&mut self, side: Side, slot: u32, id: LineId, end: LineEnd)
-        requires { (e : Entry) × (at (node_slots self.old) slot ≡ Some e)
-            × IsStrictlyIncreasing (lines_on (links_at side e))
-            × IsTrue (has (lines_on (links_at side e)) id) }
-        ensures turns { IsRelinked (node_slots self.old) (node_slots self.new) side slot
-            (λ o n. IsReset o n id end) }
-        ensures room { node_room self.new ≡ node_room self.old }
-    {
-        match side {
-            Side::Out => self.outs[slot as usize].set_end(id, end),
-            Side::In => self.ins[slot as usize].set_end(id, end),
+            Side::Out => self.outs[slot as usize].put(id, end),
+            Side::In => self.ins[slot as usize].put(id, end),
         }
     }
 }

@@ -12,14 +12,15 @@ use olr_coords::Coord;
 use std::alloc::{AllocError, Global};
 
 impl RoadMap {
-    ghost use Rattle.std.specs.Prelude.{◌+◌, ◌<◌, ◌≤◌, ℕ, IfOk, OnOk, IsTrue, Some, flat_map, ◌↔◌};
+    ghost use Rattle.std.specs.Prelude.{◌+◌, ◌<◌, ◌≤◌, ℕ, length, IfOk, OnOk, IsTrue, Some, flat_map, ◌↔◌};
     ghost use Rattle.olr_map.specs.RoadMaps.{map_of, slot_of};
     ghost use Rattle.std.specs.Prelude.{map as list_map};
     ghost use Rattle.std.specs.FinMap.{entries};
     ghost use Rattle.olr_spec.specs.Map.{has_node, has_line, start, end, lines_out};
     ghost use Rattle.olr_map.specs.SlotIndexes.{slot_by, spare_of};
     ghost use Rattle.olr_map.specs.SlotMaps.{spare_numbers};
-    ghost use Rattle.olr_map.specs.Changes.{tables_map, room_of, spare_at, node_puts, line_puts, IsReserved};
+    ghost use Rattle.olr_map.specs.Tables.{lines_at};
+    ghost use Rattle.olr_map.specs.Changes.{tables_map, room_of, room_at, node_puts, line_puts, IsReserved};
     ghost use Rattle.olr_map.specs.Changes.{HasNumbers, CanMake, IsChangeMade};
     ghost use Rattle.olr_map.specs.declared.change.TableChange.TheVariants.{PutNode, MoveNode, TakeNode, PutLine};
     ghost use Rattle.olr_map.specs.declared.change.TableChange.TheVariants.{SetLine};
@@ -120,7 +121,8 @@ impl RoadMap {
     pub(crate) fn reserve_link(&mut self, side: Side, slot: u32) -> Result<(), AllocError>
         requires { (v : ℕ) × (slot_by self.old.index v ≡ Some slot) }
         ensures same { IsReserved self.old self.new }
-        ensures room { OnOk result ((v : ℕ) → slot_by self.old.index v ≡ Some slot → 0 < spare_at side self.new v) }
+        ensures room { OnOk result ((v : ℕ) → slot_by self.old.index v ≡ Some slot
+            → length (lines_at side (tables_map self.new) v) < room_at side self.new v) }
     {
         self.nodes.reserve_link(side, slot)
     }
@@ -185,8 +187,8 @@ impl RoadMap {
         ensures { IsChangeMade self.old self.new (PutLine id line) (TakeLine id) }
     {
         let (begins, ends) = far_ends(&line, from, to);
-        self.nodes.link(Side::Out, from, id, ends);
-        self.nodes.link(Side::In, to, id, begins);
+        self.nodes.put_end(Side::Out, from, id, Some(ends));
+        self.nodes.put_end(Side::In, to, id, Some(begins));
         self.lines.put(id.number(), line);
     }
 
@@ -197,8 +199,8 @@ impl RoadMap {
         requires end { slot_by self.old.index (end (tables_map self.old) id) ≡ Some to }
         ensures { IsChangeMade self.old self.new (TakeLine id) (PutLine id result) }
     {
-        self.nodes.unlink(Side::Out, from, id);
-        self.nodes.unlink(Side::In, to, id);
+        self.nodes.put_end(Side::Out, from, id, None);
+        self.nodes.put_end(Side::In, to, id, None);
         self.lines.take(id.number())
     }
 
@@ -210,8 +212,8 @@ impl RoadMap {
         ensures { IsChangeMade self.old self.new (SetLine id line) (SetLine id result) }
     {
         let (begins, ends) = far_ends(&line, from, to);
-        self.nodes.set_end(Side::Out, from, id, ends);
-        self.nodes.set_end(Side::In, to, id, begins);
+        self.nodes.put_end(Side::Out, from, id, Some(ends));
+        self.nodes.put_end(Side::In, to, id, Some(begins));
         self.lines.replace(id.number(), line)
     }
 }

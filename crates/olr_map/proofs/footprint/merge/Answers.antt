@@ -1,54 +1,67 @@
-use Rattle.std.proofs.Common.{◌≡◌, ◌<◌, ◌≤◌, ◌⊎◌, length, arith, sym, ◌∙◌, inl, inr}
-use Rattle.std.proofs.lemmas.List.{get_or_read, take_rest}
-use Rattle.std.proofs.lemmas.Cmp.{ranked}
+use Rattle.std.proofs.Common.{◌≡◌, ◌+◌, ◌≤◌, ◌⊎◌, length, arith, ap, sym, ◌∙◌, inl, inr}
+use Rattle.std.proofs.lemmas.Bool.{cases_order}
+use Rattle.std.proofs.lemmas.Bool.Decides.{nat_tests}
+use Rattle.std.proofs.lemmas.List.{get_or_read, length_push, take_rest}
 use Rattle.olr_map.proofs.Merging.{IsMerged, merging_left, merging_right, merging_both, merged_all}
 use Rattle.olr_map.proofs.footprint.merge.Goals as goal
 use Rattle.olr_map.proofs.footprint.merge.Goals.{then-loop-i-test+else-j-right, else-loop-i-test}
 
-pub loop-i-preserved-in-Less : goal.loop-i-preserved-in-Less
-loop-i-preserved-in-Less c =
-    let left = get_or_read c.args.left.now c.loop-i.i c.index-left-i.result c.loop-i-test.true c.index-left-i.is 0 in
-    let right = get_or_read c.args.right.now c.loop-i.j c.index-right-j.result c.if-j-right.true c.index-right-j.is 0 in
-    let lt : c.index-left-i.result < c.index-right-j.result = ranked _ _ _ c.in-Less.ensures in
-    let next =
-    merging_left c.args.left.now c.args.right.now c.loop-i.both.items c.loop-i.i c.loop-i.j c.requires.left
-    c.requires.right c.loop-i.invariant.merging c.loop-i-test.true (λ _. omega arith) in
-    record {
-      left_in = omega arith;
-      right_in = omega arith;
-      merging =
-          rw (c.in_ok-push-in-Less.ensures.items, left) next;
-    }
-
-pub loop-i-preserved-in-Equal : goal.loop-i-preserved-in-Equal
-loop-i-preserved-in-Equal c =
-    let left = get_or_read c.args.left.now c.loop-i.i c.index-left-i.result c.loop-i-test.true c.index-left-i.is 0 in
-    let right = get_or_read c.args.right.now c.loop-i.j c.index-right-j.result c.if-j-right.true c.index-right-j.is 0 in
-    let same : c.index-left-i.result ≡ c.index-right-j.result = ranked _ _ _ c.in-Equal.ensures in
-    let next =
-    merging_both c.args.left.now c.args.right.now c.loop-i.both.items c.loop-i.i c.loop-i.j c.requires.left
-    c.requires.right c.loop-i.invariant.merging c.loop-i-test.true c.if-j-right.true (sym left ∙ same ∙ right) in
-    record {
-      left_in = omega arith;
-      right_in = omega arith;
-      merging =
-          rw (c.in_ok-push-in-Equal.ensures.items, left) next;
-    }
+pub push_reserved-requires : goal.push_reserved-requires
+push_reserved-requires c = let len = c.loop-i.both.ok.0 in let few = c.loop-i.invariant.few in omega arith
 
 pub loop-i-preserved : goal.loop-i-preserved
 loop-i-preserved c =
-    let left = get_or_read c.args.left.now c.loop-i.i c.index-left-i.result c.loop-i-test.true c.index-left-i.is 0 in
-    let right = get_or_read c.args.right.now c.loop-i.j c.index-right-j.result c.if-j-right.true c.index-right-j.is 0 in
-    let lt : c.index-right-j.result < c.index-left-i.result = ranked _ _ _ c.in-Greater.ensures in
-    let next =
-    merging_right c.args.left.now c.args.right.now c.loop-i.both.items c.loop-i.i c.loop-i.j c.requires.left
-    c.requires.right c.loop-i.invariant.merging c.if-j-right.true (λ _. omega arith) in
-    record {
-      left_in = omega arith;
-      right_in = omega arith;
-      merging =
-          rw (c.in_ok-push-in-Greater.ensures.items, right) next;
-    }
+    let l = c.index-left-i.result in
+    let r = c.index-right-j.result in
+    let left = get_or_read c.args.left.now c.loop-i.i l c.loop-i-test.true c.index-left-i.is 0 in
+    let right = get_or_read c.args.right.now c.loop-i.j r c.if-j-right.true c.index-right-j.is 0 in
+    let size = length_push c.loop-i.both.items c.min.result in
+    let pushed = ap (λ xs. length xs) c.push_reserved.ensures.items in
+    elim (cases_order l r) [
+      | inl is ↦
+          let least : c.min.result ≡ l = grind (arith, nat_tests) in
+          let i : c.from-i.result ≡ 1 = grind (arith, nat_tests) in
+          let j : c.from-j.result ≡ 1 = grind (arith, nat_tests) in
+          record {
+            left_in = omega arith;
+            right_in = omega arith;
+            few = omega arith;
+            room = omega arith;
+            merging = rw (c.push_reserved.ensures.items, least, i, j, left) (merging_both c.args.left.now c.args.right.now
+                c.loop-i.both.items c.loop-i.i c.loop-i.j c.requires.left c.requires.right c.loop-i.invariant.merging
+                c.loop-i-test.true c.if-j-right.true (sym left ∙ is ∙ right));
+          }
+      | inr o ↦ elim o [
+        | inl lt ↦
+            let least : c.min.result ≡ l = grind (arith, nat_tests) in
+            let i : c.from-i.result ≡ 1 = grind (arith, nat_tests) in
+            let j : c.from-j.result ≡ 0 = grind (arith, nat_tests) in
+            let same : c.loop-i.j + c.from-j.result ≡ c.loop-i.j = omega arith in
+            record {
+              left_in = omega arith;
+              right_in = omega arith;
+              few = omega arith;
+              room = omega arith;
+              merging = rw (c.push_reserved.ensures.items, least, i, same, left) (merging_left c.args.left.now c.args.right.now
+                  c.loop-i.both.items c.loop-i.i c.loop-i.j c.requires.left c.requires.right c.loop-i.invariant.merging
+                  c.loop-i-test.true (λ _. omega arith));
+            }
+        | inr gt ↦
+            let least : c.min.result ≡ r = grind (arith, nat_tests) in
+            let i : c.from-i.result ≡ 0 = grind (arith, nat_tests) in
+            let j : c.from-j.result ≡ 1 = grind (arith, nat_tests) in
+            let same : c.loop-i.i + c.from-i.result ≡ c.loop-i.i = omega arith in
+            record {
+              left_in = omega arith;
+              right_in = omega arith;
+              few = omega arith;
+              room = omega arith;
+              merging = rw (c.push_reserved.ensures.items, least, same, j, right) (merging_right c.args.left.now c.args.right.now
+                  c.loop-i.both.items c.loop-i.i c.loop-i.j c.requires.left c.requires.right c.loop-i.invariant.merging
+                  c.if-j-right.true (λ _. omega arith));
+            }
+      ]
+    ]
 
 past : (c : goal.In_ok-extend_from_slice-2) → (length c.args.left.now ≤ c.loop-i.i)
     ⊎ (length c.args.right.now ≤ c.loop-i.j)

@@ -1,4 +1,5 @@
 use Rattle.std.proofs.Common.{◌+◌, ◌-◌, ◌≤◌, length}
+use Rattle.std.specs.Vec.{vec_capacity}
 use Rattle.olr_map.proofs.Merging.{Merging}
 use Rattle.olr_map.proofs.footprint.merge.Given as goal
 
@@ -7,6 +8,8 @@ invariant-loop-i l =
     record {
       left_in : l.i ≤ length l.left;
       right_in : l.j ≤ length l.right;
+      few : length l.both.items ≤ l.i + l.j;
+      room : length l.left + length l.right ≤ vec_capacity l.both;
       merging : Merging l.left l.right l.i l.j l.both.items;
     }
 

@@ -3,9 +3,8 @@ use Rattle.olr_map.specs.declared.slots.Side.TheVariants.{In}
 use Rattle.olr_map.proofs.Reading.{slot_filled, slot_lines}
 use Rattle.olr_map.proofs.road_map.RoadMapMapRead.in_lines_at.Goals as goal
 
-pub ins-requires : goal.ins-requires
-ins-requires c = slot_filled c.args.self.now c.args.slot c.requires
+pub links-requires : goal.links-requires
+links-requires c = slot_filled c.args.self.now c.args.slot c.requires
 
 pub returns : goal.returns
-returns c = λ v h e.
-    c.lines.ensures ∙ (slot_lines c.args.self.now In v c.args.slot _ h e c.ins.ensures).numbers
+returns c = λ v h e. c.lines.ensures ∙ (slot_lines c.args.self.now In v c.args.slot _ h e c.links.ensures).numbers

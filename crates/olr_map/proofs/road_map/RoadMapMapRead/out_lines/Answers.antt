@@ -1,15 +1,16 @@
-use Rattle.std.proofs.Common.{◌∙◌}
+use Rattle.std.proofs.Common.{sym, ◌∙◌}
 use Rattle.olr_map.specs.declared.slots.Side.TheVariants.{Out}
-use Rattle.olr_map.proofs.Reading.{found_filled, found_lines, no_lines}
+use Rattle.olr_map.proofs.Reading.{slot_filled, slot_lines, no_lines}
 use Rattle.olr_map.proofs.road_map.RoadMapMapRead.out_lines.Goals as goal
 
-pub outs-requires : goal.outs-requires
-outs-requires c = found_filled c.args.self.now c.args.id _ c.number.ensures.same c.in-Some.slot c.in-Some.ensures
+pub links-requires : goal.links-requires
+links-requires c =
+    slot_filled c.args.self.now c.in-Some.slot (c.args.id, c.in-Some.ensures.0, sym c.in-Some.ensures.1)
 
 pub returns-in-Some : goal.returns-in-Some
 returns-in-Some c =
-    c.lines.ensures ∙ (found_lines c.args.self.now c.args.id _ c.number.ensures.same Out c.in-Some.slot _ c.in-Some.ensures
-    c.outs.ensures).numbers
+    c.lines.ensures ∙ (slot_lines c.args.self.now Out c.args.id c.in-Some.slot _ c.in-Some.ensures.0
+    (sym c.in-Some.ensures.1) c.links.ensures).numbers
 
 pub returns-in-None : goal.returns-in-None
-returns-in-None c = no_lines c.args.self.now c.args.id _ c.number.ensures.same Out c.in-None.ensures
+returns-in-None c = no_lines c.args.self.now Out c.args.id c.in-None.ensures

@@ -1,5 +1,6 @@
 use Rattle.olr_spec.proofs.OptionLemmas.{some_of}
-use Rattle.olr_map.proofs.ColumnLemmas.{inside_outs, inside_ins, relinked_outs, relinked_ins}
+use Rattle.olr_map.specs.declared.slots.Side.TheVariants.{Out, In}
+use Rattle.olr_map.proofs.ColumnLemmas.{inside_outs, inside_ins, relinked}
 use Rattle.olr_map.proofs.slots.NodeSlots.reserve_link.Goals as goal
 
 pub index_mut-requires : goal.index_mut-requires
@@ -11,11 +12,11 @@ index_mut-requires-in-In c = inside_ins c.args.self.now c.args.slot c.requires
 pub returns-in-Out-clause-turns : goal.returns-in-Out-clause-turns
 returns-in-Out-clause-turns c =
     let e = some_of _ c.requires in
-    relinked_outs c.args.self.now c.args.slot e.0 e.1 c.in-Out.is _ _ c.index_mut.ensures.value
-    (c.reserve.ensures.same, c.reserve.ensures.room)
+    rw c.in-Out.is (relinked c.args.self.now c.args.slot e.0 e.1 Out _ _ c.index_mut.ensures.value
+    (c.reserve.ensures.same, c.reserve.ensures.room))
 
 pub returns-in-In-clause-turns : goal.returns-in-In-clause-turns
 returns-in-In-clause-turns c =
     let e = some_of _ c.requires in
-    relinked_ins c.args.self.now c.args.slot e.0 e.1 c.in-In.is _ _ c.index_mut-in-In.ensures.value
-    (c.reserve-in-In.ensures.same, c.reserve-in-In.ensures.room)
+    rw c.in-In.is (relinked c.args.self.now c.args.slot e.0 e.1 In _ _ c.index_mut-in-In.ensures.value
+    (c.reserve-in-In.ensures.same, c.reserve-in-In.ensures.room))
