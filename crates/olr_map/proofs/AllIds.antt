@@ -1,14 +1,14 @@
 -- The numbers of all nodes and of all lines, collected slot by slot and node by node, and then sorted.
-use Rattle.std.proofs.Common.{inl, inr, ◌⊎◌, ◌≡◌, ◌≢◌, ◌==◌, ℕ, ◌+◌, ◌<◌, zero, suc, true, false, T, List, []}
-use Rattle.std.proofs.Common.{◌∷◌, ◌++◌, map, length, get_or, take, Option, Some, None, is_some, nat_cmp, Ordering, Less, unwrap_or}
-use Rattle.std.proofs.Common.{Equal, Greater, is_lt, refl, sym, ap, ◌∙◌, subst, arith}
+use Rattle.std.proofs.Common.{inl, inr, ◌⊎◌, ◌≡◌, ◌≢◌, ◌==◌, ℕ, ◌+◌, ◌<◌, zero, suc, true, false, List, []}
+use Rattle.std.proofs.Common.{◌∷◌, ◌++◌, map, length, get_or, take, Option, Some, None, is_some, nat_cmp, unwrap_or}
+use Rattle.std.proofs.Common.{refl, sym, ap, ◌∙◌, subst, arith}
 use Rattle.std.specs.Option.{option_map}
 use Rattle.std.specs.List.{list_any, flat_map, AllByRecursion, IsDistinct}
-use Rattle.std.specs.List.Sorted.{IsPermutation, IsStrictlySortedBy, IsSortedByKey}
+use Rattle.std.specs.List.Sorted.{IsPermutation, IsSortedByKey}
 use Rattle.std.specs.Ordering.{eq_by_cmp}
 use Rattle.std.specs.Cmp.{unsigned_tied, both_ways}
 use Rattle.std.specs.FinMap.{FinMap, get, entries, entries_sorted, get-entries}
-use Rattle.std.specs.FinMap.Entries.{below_all, is_sorted, is_some-find}
+use Rattle.std.specs.FinMap.Entries.{is_some-find}
 use Rattle.std.proofs.lemmas.Bool.{eq-eqb, ne_eqb, or_cases, or_left, or_right}
 use Rattle.std.proofs.lemmas.List.{append-nil, map-append, take_more}
 use Rattle.std.proofs.lemmas.Grind.{flat_map-append}
@@ -18,7 +18,7 @@ use Rattle.std.proofs.lemmas.Map.Keys.{IsDistinct-head, IsDistinct-tail, IsDisti
 use Rattle.std.proofs.lemmas.Map.Keys.{IsStrictlyIncreasing-from_distinct, IsStrictlyIncreasing-from_sorted}
 use Rattle.olr_spec.specs.Map.{Map, IsMap, Line, has, has_node, has_line, no_line, lines_out}
 use Rattle.olr_spec.proofs.ListLemmas.{has_here, has_there, has_cases}
-use Rattle.olr_spec.proofs.MapLemmas.{T_first, T_second}
+use Rattle.olr_spec.proofs.MapLemmas.{keys_sorted}
 use Rattle.olr_spec.proofs.OrderLemmas.{ascend_out, exactly_out}
 use Rattle.olr_map.specs.Slotted.{at, present}
 use Rattle.olr_map.specs.SlotIndexes.{slot_by}
@@ -75,20 +75,6 @@ module _ {X : Type 0} where
       (λ i. list_any (λ y. same y i) (map (λ e. e.0) (entries m)))
       ∙ sym (is_some-find nat_cmp k (entries m)) ∙ ap (λ (o : Option X). is_some o) (sym (get-entries m k))
 
-  keys_below : (k : ℕ) (es : List (ℕ × X)) → T (below_all nat_cmp k es) →
-      AllByRecursion (λ y. nat_cmp k y ≡ Less) (map (λ e. e.0) es)
-  keys_below k [] h = tt
-  keys_below k (e ∷ es) h = (less (nat_cmp k e.0) (T_first _ _ h), keys_below k es (T_second _ _ h)) where
-    less : (o : Ordering) → T (is_lt o) → o ≡ Less
-    less Less h = refl
-    less Equal h = absurd h
-    less Greater h = absurd h
-
-  keys_in_order : (es : List (ℕ × X)) → T (is_sorted nat_cmp es) → IsStrictlySortedBy nat_cmp (map (λ e. e.0) es)
-  unfolding IsStrictlySortedBy
-  keys_in_order [] h = tt
-  keys_in_order (e ∷ es) h = (keys_below e.0 es (T_first _ _ h), keys_in_order es (T_second _ _ h))
-
   -- numbers that were collected once each, and then sorted
   sorted_keys : (m : FinMap nat_cmp X) (xs ys : List ℕ) → IsPermutation xs ys → IsSortedByKey (λ n. n) nat_cmp ys →
       IsDistinct ◌==◌ xs → ((k : ℕ) → has xs k ≡ is_some (get m k)) → ys ≡ map (λ e. e.0) (entries m)
@@ -96,7 +82,7 @@ module _ {X : Type 0} where
       same_ascending ys (map (λ e. e.0) (entries m))
       (IsStrictlyIncreasing-from_distinct ys (IsNonDecreasingBy-from_sort (λ n. n) ys up)
       (IsDistinct-IsPermutation ◌==◌ eqb_flip xs ys moved once))
-      (IsStrictlyIncreasing-from_sorted _ (keys_in_order (entries m) (entries_sorted m)))
+      (IsStrictlyIncreasing-from_sorted _ (keys_sorted (entries m) (entries_sorted m)))
       (λ k. sym (list_any-IsPermutation (λ y. y == k) xs ys moved) ∙ members k ∙ sym (has_key m k))
 
 -- ---- the numbers of the nodes in slots

@@ -1,4 +1,5 @@
 -- Slots in blocks: after another slot is stored in a block, and as a list.
+use Rattle.std.proofs.lemmas.Grind.{common_steps}
 use Rattle.std.proofs.Common.{◌≡◌, ◌==◌, ℕ, ◌+◌, ◌-◌, ◌*◌, ◌/◌, ◌%◌, ◌<◌, zero, suc, Bool, true, false, cond, List, []}
 use Rattle.std.proofs.Common.{◌∷◌, ◌++◌, Option, Some, None, length, slice_index, nat_eq, refl, sym, ap, ◌∙◌, subst}
 use Rattle.std.proofs.Common.{inl, inr, arith, eqb-true, Result, Ok, Err, IsOk, OnOk}
@@ -22,11 +23,7 @@ same_number : (n k : ℕ) → n / 4 ≡ k / 4 → n % 4 ≡ k % 4 → n ≡ k
 same_number n k e f = let a = div-add-mod' n 4 in let b = div-add-mod' k 4 in omega arith
 
 same_coord : (n k : ℕ) → n / 4 ≡ k / 4 → (n % 4 == k % 4) ≡ (n == k)
-same_coord n k e =
-    elim (cases_eq n k) [
-      | inl is ↦ eq-eqb (n % 4) (k % 4) (ap (λ m. m % 4) is) ∙ sym (eq-eqb n k is)
-      | inr ne ↦ ne_eqb (n % 4) (k % 4) (λ f. ne (same_number n k e f)) ∙ sym (ne_eqb n k ne)
-    ]
+same_coord n k e = grind (arith, common_steps, cases_eq, eq-eqb, ne_eqb, same_number)
 
 -- ---- another block at a number's key
 
@@ -88,9 +85,7 @@ blank_test b false e =
 
 pub not_blank : (b : Block) (place slot : ℕ) (r : Option ℕ) → slot_at b place ≡ cond (place == place) (Some slot) r →
     IsBlank b → ⊥
-not_blank b place slot r is blank =
-    let never : None ≡ Some slot =
-    sym (blank place) ∙ is ∙ ap (λ (t : Bool). cond t (Some slot) r) (eq-eqb place place refl) in cc
+not_blank b place slot r is blank = grind (arith, common_steps, eq-eqb)
 
 -- another block at a key, which is not blank
 pub used_put : (old new : List (ℕ × Block)) (key : ℕ) (b : Block) →

@@ -1,4 +1,5 @@
 -- The lines of a node with their far ends, after a line is added, removed or set, and after nodes are added or removed.
+use Rattle.std.proofs.lemmas.Grind.{common_steps}
 use Rattle.std.proofs.Common.{◌≡◌, ◌==◌, ◌&&◌, ◌||◌, ℕ, zero, suc, ◌<◌, ◌≤◌, Bool, true, false, cond, not, List, [], ◌∷◌}
 use Rattle.std.proofs.Common.{map, Option, Some, None, is_some, unwrap_or, length, get_or, set, Result, Ok, Err, refl, sym, ap}
 use Rattle.std.proofs.Common.{◌∙◌, arith}
@@ -177,9 +178,7 @@ module _ (side : Side) (M : Map) (v : ℕ) where
   ascending_none k lt = absurd (omega arith)
 
   none_listed : ((x : ℕ) (l : Line) → get M.lines x ≡ Some l → test l ≡ false) → [] ≡ lines_at side M v
-  none_listed h =
-      same_ascending [] (lines_at side M v) ascending_none (ascends_at side M v)
-      (λ n. sym (has-lines_where M test n ∙ none_passes test (get M.lines n) (h n)))
+  none_listed h = grind (arith, common_steps, same_ascending, ascending_none, ascends_at, has-lines_where, none_passes)
 
   pub absent_lines : IsMap M → has_node M v ≡ false → [] ≡ lines_at side M v
   absent_lines sound absent =
@@ -217,9 +216,7 @@ module _ (side : Side) (P : ℕ → ℕ) (M N : Map) (x : ℕ) (o w : Option Lin
     at_v l = near side l == v
 
     listed_after : (n : ℕ) → has (lines_at side N v) n ≡ cond (x == n) (passes_at at_v w) (has (lines_at side M v) n)
-    listed_after n =
-        has-lines_where N at_v n ∙ ap (passes_at at_v) (now n) ∙ over_cond (passes_at at_v) (x == n) w (get M.lines n)
-        ∙ ap (cond (x == n) (passes_at at_v w)) (sym (has-lines_where M at_v n))
+    listed_after n = grind (arith, common_steps, has-lines_where, passes_at, over_cond)
 
     listed_before : has (lines_at side M v) x ≡ passes_at at_v o
     listed_before = has-lines_where M at_v x ∙ ap (passes_at at_v) was
@@ -262,10 +259,4 @@ module _ (side : Side) (P : ℕ → ℕ) (M N : Map) (x : ℕ) (o w : Option Lin
 pub replaced : (side : Side) (M : Map) (nodes : FinMap nat_cmp Coord) (P Q : ℕ → ℕ) (v : ℕ) (l : Links)
     → ((y : ℕ) → has (lines_at side M v) y ≡ true → P (far side (line_at M y)) ≡ Q (far side (line_at M y))) →
     IsListed side M P v l → IsListed side (record M { nodes = nodes }) Q v l
-replaced side M nodes P Q v l h k =
-    record {
-      numbers = k.numbers;
-      ends =
-          k.ends ∙ map_same (end_at side M P) (end_at side (record M { nodes = nodes }) Q) (lines_at side M v)
-          (λ y t i. record { node = far side (line_at M y); slot = h y t i; len = (line_at M y).len });
-    }
+replaced side M nodes P Q v l h k = grind (arith, common_steps, map_same)

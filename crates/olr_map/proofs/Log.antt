@@ -1,11 +1,11 @@
 -- Changes that can be made with some capacity can be made with more.
-use Rattle.std.proofs.Common.{◌≡◌, ◌==◌, ℕ, ◌+◌, ◌≤◌, true, false, cond, List, [], ◌∷◌, ◌++◌, reverse, Ok, IsOk}
+use Rattle.std.proofs.Common.{◌≡◌, ◌==◌, ℕ, ◌≤◌, true, false, cond, List, [], ◌∷◌, ◌++◌, reverse, Ok, IsOk}
 use Rattle.std.proofs.Common.{sym, ap, ◌∙◌, subst, arith}
 use Rattle.std.proofs.lemmas.List.{reverse-append}
 use Rattle.olr_spec.specs.Map as map
 use Rattle.olr_spec.specs.Map.{Map, edited}
 use Rattle.olr_map.specs.Changes.{Room, IsRoomWithin, HasRoomFor, changed_at, room_after, change_edit, CanMake}
-use Rattle.olr_map.specs.Changes.{map_after, node_puts, line_puts, all_node_puts, all_line_puts}
+use Rattle.olr_map.specs.Changes.{map_after}
 use Rattle.olr_map.specs.Undos.{CanMakeAll, made_all}
 use Rattle.olr_map.specs.Linked.{room_kept}
 use Rattle.olr_map.specs.Tables.{near, sides}
@@ -105,13 +105,3 @@ first_can M R c cs ds is all = (subst (λ (es : List TableChange). CanMakeAll M 
 pub rest_made : (M N : Map) (c : TableChange) (cs ds : List TableChange) → ds ≡ c ∷ cs → N ≡ map_after M c →
     made_all N cs ≡ made_all M ds
 rest_made M N c cs ds is same = ap (λ (K : Map). made_all K cs) same ∙ ap (made_all M) (sym is)
-
--- ---- how many numbers the undo of a log may put back
-
-pub node_puts_last : (xs ys : List TableChange) (c : TableChange) → xs ≡ ys ++ c ∷ [] →
-    all_node_puts (reverse xs) ≡ node_puts c + all_node_puts (reverse ys)
-node_puts_last xs ys c e = ap (λ zs. all_node_puts zs) (last_of xs ys c e)
-
-pub line_puts_last : (xs ys : List TableChange) (c : TableChange) → xs ≡ ys ++ c ∷ [] →
-    all_line_puts (reverse xs) ≡ line_puts c + all_line_puts (reverse ys)
-line_puts_last xs ys c e = ap (λ zs. all_line_puts zs) (last_of xs ys c e)

@@ -24,8 +24,12 @@ pub made_ok : (M : Map) (c : TableChange) → IsOk (edited M (change_edit c)) �
     edited M (change_edit c) ≡ Ok (map_after M c)
 made_ok M c h = ok_is (edited M (change_edit c)) M h
 
+-- what an accepted edit, or the edit of an accepted change, says of the map
+pub made_from : (M : Map) (e : map.Edit) → IsOk (edited M e) → Made M e (result_unwrap_or (edited M e) M)
+made_from M e h = made_by M (result_unwrap_or (edited M e) M) e (ok_is (edited M e) M h)
+
 pub made_as : (M : Map) (c : TableChange) → IsOk (edited M (change_edit c)) → Made M (change_edit c) (map_after M c)
-made_as M c h = made_by M (map_after M c) (change_edit c) (made_ok M c h)
+made_as M c h = made_from M (change_edit c) h
 
 -- the edit that undoes an edit adds coordinates of the map
 back_placed : (M N : Map) (e : map.Edit) → IsMap M → edited M e ≡ Ok N → HasCoord (back_of M e)

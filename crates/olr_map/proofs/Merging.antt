@@ -1,4 +1,5 @@
 -- Two ascending lists are merged from the front.
+use Rattle.std.proofs.lemmas.Grind.{common_steps}
 use Rattle.std.proofs.Common.{◌≡◌, ◌↔◌, ℕ, ◌+◌, ◌-◌, ◌<◌, ◌≤◌, ◌⊎◌, List, [], ◌∷◌, ◌++◌, Contains, length, get_or, drop}
 use Rattle.std.proofs.Common.{sym, ap, ◌∙◌, inl, inr, arith, ⊎_elim, zero, suc}
 use Rattle.std.specs.List.Sorted.{IsStrictlyIncreasing}
@@ -20,15 +21,7 @@ pub record Merging (left right : List ℕ) (i j : ℕ) (both : List ℕ) : Type 
 
 pushed_below : (xs : List ℕ) (x y : ℕ) → ((k : ℕ) → k < length xs → get_or xs k 0 < x) → x < y → (k : ℕ) →
     k < length (xs ++ x ∷ []) → get_or (xs ++ x ∷ []) k 0 < y
-pushed_below xs x y below lt k in' =
-    let long : length (xs ++ x ∷ []) ≡ length xs + 1 = length_push xs x in
-    ⊎_elim
-    (λ (low : k < length xs).
-    let here : get_or (xs ++ x ∷ []) k 0 ≡ get_or xs k 0 = get_or-append xs (x ∷ []) 0 k low in
-    let step = below k low in omega arith)
-    (λ (last : length xs ≤ k).
-    let here : get_or (xs ++ x ∷ []) k 0 ≡ x = get_or_push xs x 0 k (omega arith) in omega arith)
-    (cases_lt k (length xs))
+pushed_below xs x y below lt k in' = grind (arith, common_steps, length_push, get_or-append, get_or_push, cases_lt)
 
 -- one more number of one list or of both
 module _ (left right both : List ℕ) (i j i' j' x : ℕ) (m : Merging left right i j both) where

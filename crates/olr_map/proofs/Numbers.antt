@@ -1,4 +1,5 @@
 -- Ascending lists of numbers, by the numbers that they contain.
+use Rattle.std.proofs.lemmas.Grind.{common_steps}
 use Rattle.std.proofs.Common.{◌≡◌, ◌==◌, ℕ, ◌<◌, ◌≤◌, true, false, ◌||◌, List, [], ◌∷◌, refl, sym, ap, ◌∙◌, subst}
 use Rattle.std.proofs.Common.{arith, nat_cmp, Less}
 use Rattle.std.specs.List.{AllByRecursion, IsDistinct}
@@ -10,10 +11,7 @@ use Rattle.olr_spec.specs.Map.{has}
 use Rattle.olr_spec.proofs.ListLemmas.{has_here}
 
 pub distinct_from_ascending : (xs : List ℕ) → IsStrictlyIncreasing xs → IsDistinct ◌==◌ xs
-distinct_from_ascending xs up =
-    IsDistinct-from_apart ◌==◌ xs
-    (λ i j d lt h. ne_eqb _ _ (λ e. let low = below_from_sorted xs i j d (sorted_from_strictly_increasing xs up) lt h in
-    omega arith))
+distinct_from_ascending xs up = grind (arith, common_steps, IsDistinct-from_apart, ne_eqb, below_from_sorted, sorted_from_strictly_increasing)
 
 -- ---- ascending lists with the same numbers are equal
 
@@ -27,11 +25,7 @@ above x n (y ∷ ys) h e =
 
 -- a number in a list is its first, or is greater
 in_list : (x n : ℕ) (xs : List ℕ) → AllByRecursion (λ (y : ℕ). nat_cmp x y ≡ Less) xs → has (x ∷ xs) n ≡ true → x ≤ n
-in_list x n xs h e =
-    elim (x == n) as (λ b. (x == n) ≡ b → (b || has xs n) ≡ true → x ≤ n) [
-      | true ↦ λ p q. let is = eqb-true x n p in omega arith
-      | false ↦ λ p q. let lt = above x n xs h q in omega arith
-    ] refl e
+in_list x n xs h e = grind (arith, common_steps, eqb-true, above)
 
 -- the numbers after the first
 tail_has : (x n : ℕ) (xs ys : List ℕ) → AllByRecursion (λ (y : ℕ). nat_cmp x y ≡ Less) xs →

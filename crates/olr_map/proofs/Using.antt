@@ -1,12 +1,13 @@
 -- When a node is in use, by its two lists.
-use Rattle.std.proofs.Common.{◌≡◌, ◌==◌, ◌||◌, ◌<◌, ℕ, Bool, true, false, List, [], ◌∷◌, Some, Result, Ok, Err, IsOk}
-use Rattle.std.proofs.Common.{not, length, map, refl, sym, ap, ◌∙◌, subst, arith}
+use Rattle.std.proofs.lemmas.Grind.{common_steps}
+use Rattle.std.proofs.Common.{◌≡◌, ◌==◌, ◌||◌, ◌<◌, ℕ, true, false, List, [], ◌∷◌, Some, Result, Ok, Err, IsOk}
+use Rattle.std.proofs.Common.{length, map, refl, sym, ap, ◌∙◌, arith}
 use Rattle.std.specs.FinMap.{get, remove}
 use Rattle.std.specs.Result.{MatchResult}
 use Rattle.std.proofs.lemmas.Bool.{eq-eqb, or_left, or_right, or_from, false_from_ne_true, not_from_true}
 use Rattle.std.proofs.lemmas.List.{nil_from_length, length-map}
-use Rattle.olr_spec.specs.Map.{Map, Line, lines_where, lines_in, lines_out, in_use, has_node, unless, edited, MapFault}
-use Rattle.olr_spec.specs.Map.{No_node, Node_in_use, Drop_node, has}
+use Rattle.olr_spec.specs.Map.{Map, Line, lines_where, lines_in, lines_out, in_use, has_node, edited, MapFault}
+use Rattle.olr_spec.specs.Map.{Node_in_use, Drop_node, has}
 use Rattle.olr_spec.proofs.MapLemmas.{has-lines_where, passes_at}
 use Rattle.olr_spec.proofs.UndoLemmas.{passed_line, unless_false}
 use Rattle.olr_map.specs.Edits.{edit_fault_of}
@@ -55,10 +56,7 @@ unused_if_empty M v out in' =
 pub unused_without_ends : (M : Map) (slot : ℕ → ℕ) (v : ℕ) (outs ins : List LineEnd) →
     outs ≡ map (end_out M slot) (lines_out M v) → ins ≡ map (end_in M slot) (lines_in M v)
     → length outs ≡ 0 → length ins ≡ 0 → in_use M v ≡ false
-unused_without_ends M slot v outs ins outs_are ins_are a b =
-    let out = ap (λ zs. length zs) outs_are ∙ length-map (lines_out M v) (end_out M slot) in
-    let in' = ap (λ zs. length zs) ins_are ∙ length-map (lines_in M v) (end_in M slot) in
-    unused_if_empty M v (omega arith) (omega arith)
+unused_without_ends M slot v outs ins outs_are ins_are a b = grind (arith, common_steps, length-map, unused_if_empty)
 
 pub used_by_out : (M : Map) (slot : ℕ → ℕ) (v : ℕ) (outs : List LineEnd) →
     outs ≡ map (end_out M slot) (lines_out M v) → (length outs ≡ 0 → ⊥) → in_use M v ≡ true
@@ -72,27 +70,19 @@ used_by_in M slot v ins are ne = let e =
 
 pub drop_taken : (M : Map) (v : ℕ) → has_node M v ≡ true → in_use M v ≡ false →
     edited M (Drop_node v) ≡ Ok (record M { nodes = remove M.nodes v })
-drop_taken M v there free =
-    unless_false (not (has_node M v)) No_node _ (not_from_true (has_node M v) there)
-    ∙ unless_false (in_use M v) Node_in_use _ free
+drop_taken M v there free = grind (arith, common_steps, unless_false, not_from_true)
 
 pub drop_refused : (M : Map) (v : ℕ) → has_node M v ≡ true → in_use M v ≡ true →
     edited M (Drop_node v) ≡ Err Node_in_use
-drop_refused M v there used =
-    unless_false (not (has_node M v)) No_node _ (not_from_true (has_node M v) there)
-    ∙ ap (λ (b : Bool). unless b Node_in_use (Ok (record M { nodes = remove M.nodes v }))) used
+drop_refused M v there used = grind (arith, common_steps, unless_false, not_from_true)
 
 -- the result for either outcome
 pub ok_at : (r : Result Map MapFault) (N : Map) (j : EditPlan) → r ≡ Ok N →
     MatchResult r (λ _. IsOk {E = EditFault} (Ok j))
     (λ f. ◌≡◌ {A = Result EditPlan EditFault} (Ok j) (Err (edit_fault_of f)))
-ok_at r N j e =
-    subst (λ (s : Result Map MapFault). MatchResult s (λ _. IsOk {E = EditFault} (Ok j))
-    (λ f. ◌≡◌ {A = Result EditPlan EditFault} (Ok j) (Err (edit_fault_of f)))) (sym e) refl
+ok_at r N j e = grind (arith, common_steps)
 
 pub err_at : (r : Result Map MapFault) (f : MapFault) → r ≡ Err f
     → MatchResult r (λ _. IsOk {T = EditPlan} (Err (edit_fault_of f)))
     (λ g. ◌≡◌ {A = Result EditPlan EditFault} (Err (edit_fault_of f)) (Err (edit_fault_of g)))
-err_at r f e =
-    subst (λ (s : Result Map MapFault). MatchResult s (λ _. IsOk {T = EditPlan} (Err (edit_fault_of f)))
-    (λ g. ◌≡◌ {A = Result EditPlan EditFault} (Err (edit_fault_of f)) (Err (edit_fault_of g)))) (sym e) refl
+err_at r f e = grind (arith, common_steps)

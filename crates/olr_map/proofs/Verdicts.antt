@@ -7,7 +7,6 @@ use Rattle.olr_spec.specs.Map as maps
 use Rattle.olr_spec.specs.Map.{Map, MapFault, Node_exists, No_node, Line_exists, No_line, Node_in_use, Bad_shape}
 use Rattle.olr_spec.specs.Map.{has_node, start, end, edited, touched_nodes, has}
 use Rattle.olr_spec.specs.Detours.{ChangedLine, changes_of}
-use Rattle.olr_spec.proofs.EditLemmas.{made_by}
 use Rattle.olr_map.specs.SlotIndexes.{slot_by}
 use Rattle.olr_map.specs.Tables.{node_slot}
 use Rattle.olr_map.specs.Changes.{tables_map}
@@ -19,6 +18,7 @@ use Rattle.olr_map.specs.declared.edit.EditFault.TheVariants.{NodeExists, NoNode
 use Rattle.olr_map.specs.declared.edit.EditFault.TheVariants.{BadShape, Memory}
 use Rattle.olr_map.specs.declared.judging.EditPlan.{EditPlan}
 use Rattle.olr_map.specs.declared.road_map.RoadMap.{RoadMap}
+use Rattle.olr_map.proofs.Making.{made_from}
 use Rattle.olr_map.proofs.Reading.{slot_is}
 
 -- the ends of the one changed line
@@ -40,10 +40,6 @@ planned_node v a b h =
       | false ↦
           λ e f. absurd cc
     ] refl there
-
-accepted_is : {A F : Type 0} (r : Result A F) → IsOk r → (x : A) × (r ≡ Ok x)
-accepted_is (Ok x) h = (x, refl)
-accepted_is (Err f) h = absurd cc
 
 module _ (t : RoadMap) where
   abbrev b : Blocks
@@ -70,21 +66,17 @@ module _ (t : RoadMap) where
   pub plan_slots : (e : maps.Edit) (j : EditPlan) → IsEditPlan M (node_slot b) e j → AreSlots b M j.slots e
   plan_slots (maps.Add_node v c) j h = tt
   plan_slots (maps.Move_node v c) j h =
-      let r = accepted_is (edited M (maps.Move_node v c)) h.accepted in
       slot_at v j.nodes.0 j.slots.0 (sym (planned_node v j.nodes.0 j.nodes.1 h.nodes)) h.first
-      (made_by M r.0 (maps.Move_node v c) r.1).0
+      (made_from M (maps.Move_node v c) h.accepted).0
   plan_slots (maps.Drop_node v) j h = tt
   plan_slots (maps.Add_line x l) j h =
-      let r = accepted_is (edited M (maps.Add_line x l)) h.accepted in
-      let s = made_by M r.0 (maps.Add_line x l) r.1 in
+      let s = made_from M (maps.Add_line x l) h.accepted in
       ends_at j (maps.Add_line x l) _ h refl s.1 s.2
   plan_slots (maps.Set_line x frc fow len shape) j h =
-      let r = accepted_is (edited M (maps.Set_line x frc fow len shape)) h.accepted in
-      let s = line_ends x (made_by M r.0 (maps.Set_line x frc fow len shape) r.1).0 in
+      let s = line_ends x (made_from M (maps.Set_line x frc fow len shape) h.accepted).0 in
       ends_at j (maps.Set_line x frc fow len shape) _ h refl s.0 s.1
   plan_slots (maps.Drop_line x) j h =
-      let r = accepted_is (edited M (maps.Drop_line x)) h.accepted in
-      let s = line_ends x (made_by M r.0 (maps.Drop_line x) r.1).0 in
+      let s = line_ends x (made_from M (maps.Drop_line x) h.accepted).0 in
       ends_at j (maps.Drop_line x) _ h refl s.0 s.1
 
 -- ---- a fault of the map, as it is returned

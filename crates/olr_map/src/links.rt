@@ -1,6 +1,5 @@
 //! The lines that leave a node, or those that enter it, each with its far end.
 ghost use Rattle.std.specs.Prelude.{◌≡◌, ◌+◌, ◌<◌, ◌≤◌, [], None, length, insert, remove, set, take, IfOk, OnOk, IsFalse};
-ghost use Rattle.std.specs.Vec.{vec_capacity};
 ghost use Rattle.std.specs.List.Sorted.{IsStrictlyIncreasing};
 ghost use Rattle.olr_spec.specs.Map.{has};
 
@@ -83,7 +82,8 @@ impl Links {
         match self {
             Links::Inline(inline) => {
                 if inline.count as usize == INLINE {
-                    *self = Links::Spilled(Spilled::from_inline(alloc, inline)?);
+                    let spilled = Spilled::with_room(alloc, inline)?;
+                    *self = Links::Spilled(Box::new(alloc, spilled)?);
                 }
                 Ok(())
             }
@@ -156,15 +156,17 @@ impl Links {
 impl Spilled {
     ghost use Rattle.olr_map.specs.Linked.{vectors_room};
 
-    /// These lines in vectors, with capacity for as many again.
-    fn from_inline(alloc: Global, inline: &Inline) -> Result<Box<Spilled>, AllocError>
-        ensures lines { IfOk result (λ m. m.value.lines.items ≡ take inline.now.count inline.now.lines) }
-        ensures ends { IfOk result (λ m. m.value.ends.items ≡ take inline.now.count inline.now.ends) }
-        ensures room { IfOk result (λ m. 8 ≤ vectors_room m.value) }
+    /// These lines, with capacity for as many again.
+    fn with_room(alloc: Global, inline: &Inline) -> Result<Spilled, AllocError>
+        ensures lines { IfOk result (λ m. m.lines.items ≡ take inline.now.count inline.now.lines) }
+        ensures ends { IfOk result (λ m. m.ends.items ≡ take inline.now.count inline.now.ends) }
+        ensures room { IfOk result (λ m. 8 ≤ vectors_room m) }
     {
-        let lines = with_room(alloc, inline.lines())?;
-        let ends = with_room(alloc, inline.ends())?;
-        Ok(Box::new(alloc, Spilled { lines, ends })?)
+        let mut lines = Vec::with_capacity(alloc, 2 * INLINE)?;
+        let mut ends = Vec::with_capacity(alloc, 2 * INLINE)?;
+        lines.extend_from_slice(inline.lines())?;
+        ends.extend_from_slice(inline.ends())?;
+        Ok(Spilled { lines, ends })
     }
 
     /// Inserts a line at this position. Capacity for it is reserved.
@@ -193,15 +195,4 @@ impl Spilled {
         let _ = self.lines.remove(at);
         let _ = self.ends.remove(at);
     }
-}
-
-/// These values, with capacity for twice as many as are stored in an `Inline`.
-fn with_room<T: Copy>(alloc: Global, values: &[T]) -> Result<Vec<T>, AllocError>
-    requires { length values.now ≤ 8 }
-    ensures items { IfOk result (λ v. v.items ≡ values.now) }
-    ensures room { IfOk result (λ v. 8 ≤ vec_capacity v) }
-{
-    let mut room = Vec::with_capacity(alloc, 2 * INLINE)?;
-    room.extend_from_slice(values)?;
-    Ok(room)
 }

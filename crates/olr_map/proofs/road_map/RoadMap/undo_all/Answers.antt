@@ -1,6 +1,6 @@
-use Rattle.std.proofs.Common.{reverse, ◌∙◌, arith}
-use Rattle.olr_map.specs.Changes.{tables_map, room_of}
-use Rattle.olr_map.proofs.Log.{last_of, first_can, rest_can, rest_made, node_puts_last, line_puts_last}
+use Rattle.std.proofs.Common.{reverse, ap, ◌∙◌, arith}
+use Rattle.olr_map.specs.Changes.{tables_map, room_of, all_node_puts, all_line_puts}
+use Rattle.olr_map.proofs.Log.{last_of, first_can, rest_can, rest_made}
 use Rattle.olr_map.proofs.road_map.RoadMap.undo_all.Goals as goal
 
 pub take_back-requires-clause-can : goal.take_back-requires-clause-can
@@ -12,10 +12,9 @@ take_back-requires-clause-can c =
 
 pub take_back-requires-clause-numbers : goal.take_back-requires-clause-numbers
 take_back-requires-clause-numbers c =
-    let nodes =
-    node_puts_last c.loop-change.changes.items c.pop.new.self.items c.in-Some.change c.in-Some.ensures.items in
-    let lines =
-    line_puts_last c.loop-change.changes.items c.pop.new.self.items c.in-Some.change c.in-Some.ensures.items in
+    let is = last_of c.loop-change.changes.items c.pop.new.self.items c.in-Some.change c.in-Some.ensures.items in
+    let nodes = ap (λ cs. all_node_puts cs) is in
+    let lines = ap (λ cs. all_line_puts cs) is in
     let n = c.loop-change.invariant.nodes in
     let l = c.loop-change.invariant.lines in
     record { nodes = omega arith; lines = omega arith }
@@ -25,10 +24,8 @@ loop-change-preserved c =
     let t = c.loop-change.self in
     let u = c.take_back.new.self in
     let is = last_of c.loop-change.changes.items c.pop.new.self.items c.in-Some.change c.in-Some.ensures.items in
-    let nodes =
-    node_puts_last c.loop-change.changes.items c.pop.new.self.items c.in-Some.change c.in-Some.ensures.items in
-    let lines =
-    line_puts_last c.loop-change.changes.items c.pop.new.self.items c.in-Some.change c.in-Some.ensures.items in
+    let nodes = ap (λ cs. all_node_puts cs) is in
+    let lines = ap (λ cs. all_line_puts cs) is in
     let n = c.loop-change.invariant.nodes in
     let l = c.loop-change.invariant.lines in
     let nodes_left = c.take_back.ensures.nodes in
