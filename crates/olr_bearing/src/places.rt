@@ -10,7 +10,7 @@ use olr_map::{Line, Shape};
 use std::marker::Model;
 
 /// The coordinates of a line's two ends.
-#[derive(Clone, Copy, Debug, PartialEq, Eq)]
+#[derive(Clone, Copy)]
 pub struct Ends {
     /// Where the line starts.
     pub from: Coord,
@@ -19,7 +19,7 @@ pub struct Ends {
 }
 
 /// A coordinate times a width, so that a coordinate between two shape points is whole.
-#[derive(Clone, Copy, Debug, PartialEq, Eq)]
+#[derive(Clone, Copy)]
 pub struct Scaled {
     /// The longitude in units of 1/327,680,000,000 degree, times the width.
     pub lon: i128,

@@ -47,9 +47,11 @@ fn line(rt: &impl Abort, alloc: Global, len: u32, points: &[Shape]) -> Result<Li
     })
 }
 
-fn coord_at(rt: &impl Abort, line: &Line, ends: &Ends, at: u32) -> Scaled {
+/// The longitude, the latitude and the width of a coordinate along a line.
+fn coord_at(rt: &impl Abort, line: &Line, ends: &Ends, at: u32) -> (i128, i128, u32) {
     assert!(rt; line.is_good() && at <= line.len);
-    place(line, *ends, at)
+    let Scaled { lon, lat, width } = place(line, *ends, at);
+    (lon, lat, width)
 }
 
 fn out_of(rt: &impl Abort, line: &Line, ends: &Ends) -> u8 {
@@ -154,14 +156,9 @@ fn sectors_of_the_greatest_directions(rt: HostRuntime) {
 fn places_and_bearings(rt: HostRuntime) -> Result<(), Fail> {
     let line = line(&rt, rt.alloc(), 1000, &[])?;
     let ends = ends_of(at_degrees(&rt, 0, 0), at_degrees(&rt, 100, 0));
-    let at_200 = Scaled {
-        lon: 65_536_000_000,
-        lat: 0,
-        width: 1000,
-    };
-    same!(&rt; coord_at(&rt, &line, &ends, 200), at_200);
-    same!(&rt; coord_at(&rt, &line, &ends, 0).lon, 0);
-    same!(&rt; coord_at(&rt, &line, &ends, 1000).lon, 327_680_000_000);
+    same!(&rt; coord_at(&rt, &line, &ends, 200), (65_536_000_000, 0, 1000));
+    same!(&rt; coord_at(&rt, &line, &ends, 0).0, 0);
+    same!(&rt; coord_at(&rt, &line, &ends, 1000).0, 327_680_000_000);
     same!(&rt; out_of(&rt, &line, &ends), 8);
     same!(&rt; back_of(&rt, &line, &ends), 24);
     Ok(())
@@ -212,18 +209,8 @@ fn shape_point_at_200_dm(rt: HostRuntime) -> Result<(), Fail> {
     let ends = ends_of(at_degrees(&rt, 0, 0), at_degrees(&rt, 300, 0));
     let corner = shape(&rt, 200, 0, -100);
     let line = line(&rt, rt.alloc(), 500, &[corner])?;
-    let at_200 = Scaled {
-        lon: 0,
-        lat: -65_536_000_000,
-        width: 200,
-    };
-    let at_201 = Scaled {
-        lon: 983_040_000,
-        lat: -97_976_320_000,
-        width: 300,
-    };
-    same!(&rt; coord_at(&rt, &line, &ends, 200), at_200);
-    same!(&rt; coord_at(&rt, &line, &ends, 201), at_201);
+    same!(&rt; coord_at(&rt, &line, &ends, 200), (0, -65_536_000_000, 200));
+    same!(&rt; coord_at(&rt, &line, &ends, 201), (983_040_000, -97_976_320_000, 300));
     same!(&rt; out_of(&rt, &line, &ends), 16);
     Ok(())
 }
