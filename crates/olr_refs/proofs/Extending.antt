@@ -2,14 +2,16 @@
 use Rattle.std.proofs.Common.{◌⊎◌, ◌↔◌, ◌≡◌, ℕ, ◌+◌, ◌<◌, Bool, true, false, not, cond, List, [], ◌∷◌, ◌++◌, length}
 use Rattle.std.proofs.Common.{Contains, None, IsTrue, refl, sym, ap, ◌∙◌, subst, arith, length-append}
 use Rattle.std.proofs.lemmas.List.{length-map, map-append}
-use Rattle.olr_spec.specs.Map.{Map, has_line, start, end}
+use Rattle.olr_spec.specs.Map.{Map, has_line}
 use Rattle.olr_spec.specs.Routes.{dm_of}
 use Rattle.olr_spec.specs.Encoding.{first_unknown}
-use Rattle.olr_spec.specs.Extension.{Path, is_path, first, last, passing, LongestStart, LongestEnd, taken_start}
+use Rattle.olr_spec.specs.Extension.{Path, is_path, first, last, LongestStart, LongestEnd, taken_start}
 use Rattle.olr_spec.specs.Extension.{taken_end, from_start}
 use Rattle.olr_spec.specs.Queries.{NodeOf}
+use Rattle.olr_search.specs.declared.distances.Direction.TheVariants.{Along, Against}
 use Rattle.olr_refs.specs.Extends.{Extends}
 use Rattle.olr_refs.specs.ResolvedLines.{ResolvedLine, records_of, ids, AreRecords}
+use Rattle.olr_refs.specs.Runs.{IsRun}
 use Rattle.olr_spec.proofs.AnswerLemmas.{no_unknown, path_nonempty, all_first, all_last}
 use Rattle.olr_refs.proofs.Resolving.{ids_are, are_records, records_append, records_length}
 
@@ -30,103 +32,98 @@ taken_records : (M : Map) (valid : Bool) (rs : List ResolvedLine) → AreRecords
 taken_records M true rs are = are
 taken_records M false rs are = refl
 
-len_taken : (M : Map) (valid : Bool) (rs : List ResolvedLine) →
-    cond valid (dm_of M (ids rs)) 0 ≡ dm_of M (ids (cond valid rs []))
-len_taken M true rs = refl
-len_taken M false rs = refl
+len_taken : (M : Map) (valid : Bool) (rs : List ResolvedLine) (len : ℕ) → len ≡ dm_of M (ids rs) →
+    cond valid len 0 ≡ dm_of M (ids (cond valid rs []))
+len_taken M true rs len e = e
+len_taken M false rs len e = refl
 
 module _ (M : Map) (P : Path) (good : IsTrue (is_path P.lines)) (unknown : first_unknown M P.lines ≡ None)
     (own : List ResolvedLine) (own_is : own ≡ records_of M P.lines) where
-  path_some : 0 < length P.lines
-  path_some = path_nonempty P.lines good
+  some : 0 < length P.lines
+  some = path_nonempty P.lines good
 
   own_ids : ids own ≡ P.lines
   own_ids = ids_are M P.lines own own_is
 
   pub own_some : 0 < length own
-  own_some = let n = path_some in let l = records_length M P.lines own own_is in omega arith
+  own_some = let n = some in let l = records_length M P.lines own own_is in omega arith
 
   pub own_first : IsTrue (has_line M (first (ids own)))
   own_first =
       subst (λ (ls : List ℕ). IsTrue (has_line M (first ls))) (sym own_ids)
-      (all_first (λ x. IsTrue (has_line M x)) P.lines path_some (no_unknown M P.lines unknown))
+      (all_first (λ x. IsTrue (has_line M x)) P.lines some (no_unknown M P.lines unknown))
 
-module _ (M : Map) (P : Path) (good : IsTrue (is_path P.lines)) (unknown : first_unknown M P.lines ≡ None)
-    (own : List ResolvedLine) (own_is : own ≡ records_of M P.lines) (before : List ResolvedLine) (before_valid : Bool)
-    (longest : LongestStart M (ids before) (ids own)) (before_are : AreRecords M before)
-    (is_valid : before_valid ≡ not (passing M (start M (first (ids before ++ ids own)))))
-    (front : List ResolvedLine) (front_is : front ≡ cond before_valid before [] ++ own) where
-  own_same : ids own ≡ P.lines
-  own_same = own_ids M P good unknown own own_is
+  module _ (before : List ResolvedLine) (before_len : ℕ) (before_valid : Bool)
+      (b : IsRun M Against (ids own) before before_len before_valid)
+      (front : List ResolvedLine) (front_is : front ≡ cond before_valid before [] ++ own) where
+    start_is : ids (cond before_valid before []) ≡ taken_start M (ids before) P.lines
+    start_is =
+        taken_is before_valid _ before b.leads ∙ ap (λ (ls : List ℕ). taken_start M (ids before) ls) own_ids
 
-  start_is : ids (cond before_valid before []) ≡ taken_start M (ids before) P.lines
-  start_is =
-      taken_is before_valid _ before
-      (is_valid ∙ ap (λ (ls : List ℕ). not (passing M (start M (first (ids before ++ ls))))) own_same)
+    -- the path, extended at its start
+    from_is : ids front ≡ from_start M P (ids before)
+    from_is =
+        ap ids front_is ∙ map-append (λ (r : ResolvedLine). r.id) (cond before_valid before []) own
+        ∙ (λ i. start_is i ++ own_ids i)
 
-  -- the path, extended at its start
-  from_is : ids front ≡ from_start M P (ids before)
-  from_is =
-      ap ids front_is ∙ map-append (λ (r : ResolvedLine). r.id) (cond before_valid before []) own
-      ∙ (λ i. start_is i ++ own_same i)
+    pub front_records : AreRecords M front
+    front_records =
+        subst (AreRecords M) (sym front_is)
+        (records_append M (cond before_valid before []) own (taken_records M before_valid before b.are)
+        (are_records M P.lines own own_is))
 
-  pub front_records : AreRecords M front
-  front_records =
-      subst (AreRecords M) (sym front_is)
-      (records_append M (cond before_valid before []) own (taken_records M before_valid before before_are)
-      (are_records M P.lines own own_is))
+    pub front_some : 0 < length front
+    front_some =
+        let n = own_some in
+        omega (
+          arith,
+          ap (λ (rs : List ResolvedLine). length rs) front_is,
+          length-append (cond before_valid before []) own,
+        )
 
-  pub front_some : 0 < length front
-  front_some =
-      let n = own_some M P good unknown own own_is in
-      omega (arith, ap (λ (rs : List ResolvedLine). length rs) front_is, length-append (cond before_valid before []) own)
+    pub front_last : IsTrue (has_line M (last (ids front)))
+    front_last =
+        subst (λ (x : ℕ). IsTrue (has_line M x))
+        (sym (ap last from_is ∙ last_behind (taken_start M (ids before) P.lines) P.lines some))
+        (all_last (λ x. IsTrue (has_line M x)) P.lines some (no_unknown M P.lines unknown))
 
-  pub front_last : IsTrue (has_line M (last (ids front)))
-  front_last =
-      subst (λ (x : ℕ). IsTrue (has_line M x))
-      (sym (ap last from_is ∙ last_behind (taken_start M (ids before) P.lines) P.lines (path_nonempty P.lines good)))
-      (all_last (λ x. IsTrue (has_line M x)) P.lines (path_nonempty P.lines good) (no_unknown M P.lines unknown))
+    module _ (after : List ResolvedLine) (after_len : ℕ) (after_valid : Bool)
+        (a : IsRun M Along (ids front) after after_len after_valid)
+        (whole : List ResolvedLine) (whole_is : whole ≡ front ++ cond after_valid after []) where
+      back_is : ids (cond after_valid after []) ≡ taken_end M (from_start M P (ids before)) (ids after)
+      back_is = taken_is after_valid _ after a.leads ∙ ap (λ (zs : List ℕ). taken_end M zs (ids after)) from_is
 
-  module _ (after : List ResolvedLine) (after_valid : Bool) (longest_after : LongestEnd M (ids front) (ids after))
-      (after_are : AreRecords M after)
-      (ends_valid : after_valid ≡ not (passing M (end M (last (ids front ++ ids after)))))
-      (whole : List ResolvedLine) (whole_is : whole ≡ front ++ cond after_valid after []) where
-    back_is : ids (cond after_valid after []) ≡ taken_end M (from_start M P (ids before)) (ids after)
-    back_is =
-        taken_is after_valid _ after
-        (ends_valid ∙ ap (λ (zs : List ℕ). not (passing M (end M (last (zs ++ ids after))))) from_is)
+      pub whole_records : AreRecords M whole
+      whole_records =
+          subst (AreRecords M) (sym whole_is)
+          (records_append M front (cond after_valid after []) front_records
+          (taken_records M after_valid after a.are))
 
-    pub whole_records : AreRecords M whole
-    whole_records =
-        subst (AreRecords M) (sym whole_is)
-        (records_append M front (cond after_valid after []) front_records
-        (taken_records M after_valid after after_are))
-
-    -- what the code composes is the extended path
-    pub extends : (E : Path) (lead : ℕ) (F G : List ℕ) → lead ≡ length (cond before_valid before []) →
-        E.lines ≡ ids whole → E.pos ≡ P.pos + cond before_valid (dm_of M (ids before)) 0 →
-        E.neg ≡ P.neg + cond after_valid (dm_of M (ids after)) 0 →
-        ((v : ℕ) → Contains G v ↔ (Contains F v ⊎ (NodeOf M (ids whole) v
-        ⊎ (NodeOf M (ids before) v ⊎ NodeOf M (ids after) v)))) →
-        Extends M P E lead F G
-    extends E lead F G leads lines pos neg noted =
-        let lines_are : E.lines ≡ from_start M P (ids before) ++ taken_end M (from_start M P (ids before)) (ids after) =
-        lines ∙ ap ids whole_is ∙ map-append (λ (r : ResolvedLine). r.id) front (cond after_valid after [])
-        ∙ (λ i. from_is i ++ back_is i) in
-        let pos_is : E.pos ≡ P.pos + dm_of M (taken_start M (ids before) P.lines) =
-        pos ∙ ap (λ n. P.pos + n) (len_taken M before_valid before ∙ ap (dm_of M) start_is) in
-        let neg_is : E.neg ≡ P.neg + dm_of M (taken_end M (from_start M P (ids before)) (ids after)) =
-        neg ∙ ap (λ n. P.neg + n) (len_taken M after_valid after ∙ ap (dm_of M) back_is) in
-        record {
-          before = ids before;
-          after = ids after;
-          tried = record {
-            before = subst (LongestStart M (ids before)) own_same longest;
-            after = subst (λ (zs : List ℕ). LongestEnd M zs (ids after)) from_is longest_after;
-          };
-          path = λ i. record { lines = lines_are i; pos = pos_is i; neg = neg_is i };
-          leads = leads ∙ sym (length-map (cond before_valid before []) (λ (r : ResolvedLine). r.id))
-              ∙ ap (λ (ls : List ℕ). length ls) start_is;
-          noted = subst (λ (ls : List ℕ). (v : ℕ) → Contains G v ↔ (Contains F v ⊎ (NodeOf M ls v
-              ⊎ (NodeOf M (ids before) v ⊎ NodeOf M (ids after) v)))) (sym lines) noted;
-        }
+      -- what the code composes is the extended path
+      pub extends : (E : Path) (lead : ℕ) (F G : List ℕ) → lead ≡ length (cond before_valid before []) →
+          E.lines ≡ ids whole → E.pos ≡ P.pos + cond before_valid before_len 0 →
+          E.neg ≡ P.neg + cond after_valid after_len 0 →
+          ((v : ℕ) → Contains G v ↔ (Contains F v ⊎ (NodeOf M (ids whole) v
+          ⊎ (NodeOf M (ids before) v ⊎ NodeOf M (ids after) v)))) →
+          Extends M P E lead F G
+      extends E lead F G leads lines pos neg noted =
+          let lines_are : E.lines ≡ from_start M P (ids before) ++ taken_end M (from_start M P (ids before)) (ids after) =
+          lines ∙ ap ids whole_is ∙ map-append (λ (r : ResolvedLine). r.id) front (cond after_valid after [])
+          ∙ (λ i. from_is i ++ back_is i) in
+          let pos_is : E.pos ≡ P.pos + dm_of M (taken_start M (ids before) P.lines) =
+          pos ∙ ap (λ n. P.pos + n) (len_taken M before_valid before before_len b.long ∙ ap (dm_of M) start_is) in
+          let neg_is : E.neg ≡ P.neg + dm_of M (taken_end M (from_start M P (ids before)) (ids after)) =
+          neg ∙ ap (λ n. P.neg + n) (len_taken M after_valid after after_len a.long ∙ ap (dm_of M) back_is) in
+          record {
+            before = ids before;
+            after = ids after;
+            tried = record {
+              before = subst (LongestStart M (ids before)) own_ids b.longest;
+              after = subst (λ (zs : List ℕ). LongestEnd M zs (ids after)) from_is a.longest;
+            };
+            path = λ i. record { lines = lines_are i; pos = pos_is i; neg = neg_is i };
+            leads = leads ∙ sym (length-map (cond before_valid before []) (λ (r : ResolvedLine). r.id))
+                ∙ ap (λ (ls : List ℕ). length ls) start_is;
+            noted = subst (λ (ls : List ℕ). (v : ℕ) → Contains G v ↔ (Contains F v ⊎ (NodeOf M ls v
+                ⊎ (NodeOf M (ids before) v ⊎ NodeOf M (ids after) v)))) (sym lines) noted;
+          }

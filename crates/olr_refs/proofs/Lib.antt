@@ -1,5 +1,4 @@
-pub mod After
-pub mod Before
+pub mod Runs
 pub mod Choosing
 pub mod Distinct
 pub mod EachLine

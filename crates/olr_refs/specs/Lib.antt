@@ -1,6 +1,6 @@
 pub mod Along
 pub mod Answers
-pub mod Beyond
+pub mod Runs
 pub mod Choice
 pub mod Coded
 pub mod ResolvedLines

@@ -1,18 +1,19 @@
-//! Runs of degree-two nodes, by which the ends of a path are extended to valid nodes.
-ghost use Rattle.std.specs.Prelude.{◌≡◌, ◌<◌, ◌≤◌, ◌+◌, ◌⊎◌, IsTrue, IsFalse, not, if◌then◌else◌, IfOk, IfSome, IfNone};
-ghost use Rattle.std.specs.Prelude.{MatchOption, Some, length, [], ◌++◌, ⊤};
-ghost use Rattle.olr_spec.specs.Map.{has_line, start, end, has};
-ghost use Rattle.olr_spec.specs.Routes.{dm_of};
-ghost use Rattle.olr_spec.specs.Extension.{passing, first, last, limit, LongestStart, LongestEnd};
-ghost use Rattle.olr_refs.specs.Beyond.{LiesBefore, LiesAfter};
+//! Runs of degree-two nodes, by which the ends of a path are extended to valid nodes: along its lines from the last one,
+//! and against them from the first.
+ghost use Rattle.std.specs.Prelude.{◌≡◌, ◌<◌, ◌≤◌, ◌+◌, ◌⊎◌, IsTrue, IsFalse, if◌then◌else◌, IfOk, IfSome, IfNone};
+ghost use Rattle.std.specs.Prelude.{MatchOption, Some, length, reverse, [], ⊤};
+ghost use Rattle.olr_spec.specs.Map.{Map, has_line, has};
+ghost use Rattle.olr_spec.specs.Extension.{limit};
+ghost use Rattle.olr_search.specs.Distances.{near_end, far_end};
+ghost use Rattle.olr_refs.specs.Runs.{outermost, in_order, lines_at, LiesBeyond, IsRun};
 ghost use Rattle.olr_refs.specs.ResolvedLines.{record_of, ids, AreRecords};
 
 use crate::line_set::LineSet;
-use crate::lines::{end_of, start_of};
+use crate::lines::far_end_of;
 use crate::nodes::passing;
 use crate::resolved::{ResolvedLine, record_of};
-use olr_map::{LineId, MapRead};
-use olr_search::GREATEST_LIMIT;
+use olr_map::{LineId, MapRead, NodeId};
+use olr_search::{Direction, GREATEST_LIMIT};
 use std::alloc::{AllocError, Global};
 
 /// A run of degree-two nodes: lines that lead through such nodes to the first line of a list, or from its last one.
@@ -50,23 +51,21 @@ struct Beyond {
     line: Option<LineId>,
 }
 
-/// The longest run of degree-two nodes within the limit that leads to the first of these lines. Does not allocate in
-/// the common case, a valid start of the list.
-pub(crate) fn run_before<M: MapRead>(
+/// The longest run of degree-two nodes within the limit that leads from the last of these lines, along them, or to the
+/// first of them, against them. Does not allocate in the common case, a valid end of the list.
+pub(crate) fn longest_run<M: MapRead>(
     alloc: Global,
     map: &M,
+    direction: Direction,
     records: &[ResolvedLine],
 ) -> Result<DegreeTwoRun, AllocError>
     requires some { 0 < length records.now }
-    requires known { IsTrue (has_line (M.map map.now) (first (ids records.now))) }
+    requires known { IsTrue (has_line (M.map map.now) (outermost direction (ids records.now))) }
     requires records { AreRecords (M.map map.now) records.now }
-    ensures longest { IfOk result (λ run. LongestStart (M.map map.now) (ids run.records.items) (ids records.now)) }
-    ensures records { IfOk result (λ run. AreRecords (M.map map.now) run.records.items) }
-    ensures len { IfOk result (λ run. run.len ≡ dm_of (M.map map.now) (ids run.records.items)) }
-    ensures valid { IfOk result (λ run. run.valid ≡ not (passing (M.map map.now)
-        (start (M.map map.now) (first (ids run.records.items ++ ids records.now))))) }
+    ensures { IfOk result
+        (λ run. IsRun (M.map map.now) direction (ids records.now) run.records.items run.len run.valid) }
 {
-    let beyond = line_before(map, records[0]);
+    let beyond = line_beyond(map, direction, outermost_of(direction, records));
     if beyond.line.is_none() {
         return Ok(DegreeTwoRun {
             records: Vec::new(alloc),
@@ -74,99 +73,52 @@ pub(crate) fn run_before<M: MapRead>(
             valid: !beyond.passing,
         });
     }
-    grown_before(alloc, map, records, beyond)
+    grown_run(alloc, map, direction, records, beyond)
 }
 
-/// The longest run of degree-two nodes within the limit that leads from the last of these lines. Does not allocate in
-/// the common case, a valid end of the list.
-pub(crate) fn run_after<M: MapRead>(
+/// The longest run from these lines, built line by line, by what lies beyond the outermost of them.
+fn grown_run<M: MapRead>(
     alloc: Global,
     map: &M,
-    records: &[ResolvedLine],
-) -> Result<DegreeTwoRun, AllocError>
-    requires some { 0 < length records.now }
-    requires known { IsTrue (has_line (M.map map.now) (last (ids records.now))) }
-    requires records { AreRecords (M.map map.now) records.now }
-    ensures longest { IfOk result (λ run. LongestEnd (M.map map.now) (ids records.now) (ids run.records.items)) }
-    ensures records { IfOk result (λ run. AreRecords (M.map map.now) run.records.items) }
-    ensures len { IfOk result (λ run. run.len ≡ dm_of (M.map map.now) (ids run.records.items)) }
-    ensures valid { IfOk result (λ run. run.valid ≡ not (passing (M.map map.now)
-        (end (M.map map.now) (last (ids records.now ++ ids run.records.items))))) }
-{
-    let beyond = line_after(map, records[records.len() - 1]);
-    if beyond.line.is_none() {
-        return Ok(DegreeTwoRun {
-            records: Vec::new(alloc),
-            len: 0,
-            valid: !beyond.passing,
-        });
-    }
-    grown_after(alloc, map, records, beyond)
-}
-
-/// The longest run before these lines, built line by line, by what lies beyond the first of them.
-fn grown_before<M: MapRead>(
-    alloc: Global,
-    map: &M,
+    direction: Direction,
     records: &[ResolvedLine],
     beyond: Beyond,
 ) -> Result<DegreeTwoRun, AllocError>
     requires some { 0 < length records.now }
-    requires known { IsTrue (has_line (M.map map.now) (first (ids records.now))) }
-    requires beyond { LiesBefore (M.map map.now) (first (ids records.now)) beyond.passing beyond.line }
-    ensures longest { IfOk result (λ run. LongestStart (M.map map.now) (ids run.records.items) (ids records.now)) }
-    ensures records { IfOk result (λ run. AreRecords (M.map map.now) run.records.items) }
-    ensures len { IfOk result (λ run. run.len ≡ dm_of (M.map map.now) (ids run.records.items)) }
-    ensures valid { IfOk result (λ run. run.valid ≡ not (passing (M.map map.now)
-        (start (M.map map.now) (first (ids run.records.items ++ ids records.now))))) }
+    requires known { IsTrue (has_line (M.map map.now) (outermost direction (ids records.now))) }
+    requires beyond { LiesBeyond (M.map map.now) direction (outermost direction (ids records.now)) beyond.passing
+        beyond.line }
+    ensures { IfOk result
+        (λ run. IsRun (M.map map.now) direction (ids records.now) run.records.items run.len run.valid) }
 {
-    let ahead = LineSet::of(alloc, records)?;
+    let used = LineSet::of(alloc, records)?;
     let mut run = Vec::new(alloc);
     let mut len = 0;
     let mut at = beyond;
-    while let Some(record) = next_within(map, at.line, len, &ahead) {
+    while let Some(record) = next_within(map, at.line, len, &used) {
         run.push(record)?;
         len += record.len;
-        at = line_before(map, record);
+        at = line_beyond(map, direction, record);
     }
-    run.reverse();
     Ok(DegreeTwoRun {
-        records: run,
+        records: in_order(direction, run),
         len,
         valid: !at.passing,
     })
 }
 
-/// The longest run after these lines, built line by line, by what lies beyond the last of them.
-fn grown_after<M: MapRead>(
-    alloc: Global,
-    map: &M,
-    records: &[ResolvedLine],
-    beyond: Beyond,
-) -> Result<DegreeTwoRun, AllocError>
-    requires some { 0 < length records.now }
-    requires known { IsTrue (has_line (M.map map.now) (last (ids records.now))) }
-    requires beyond { LiesAfter (M.map map.now) (last (ids records.now)) beyond.passing beyond.line }
-    ensures longest { IfOk result (λ run. LongestEnd (M.map map.now) (ids records.now) (ids run.records.items)) }
-    ensures records { IfOk result (λ run. AreRecords (M.map map.now) run.records.items) }
-    ensures len { IfOk result (λ run. run.len ≡ dm_of (M.map map.now) (ids run.records.items)) }
-    ensures valid { IfOk result (λ run. run.valid ≡ not (passing (M.map map.now)
-        (end (M.map map.now) (last (ids records.now ++ ids run.records.items))))) }
+/// The lines of a run, which are listed outwards, in the order of travel.
+fn in_order(direction: Direction, run: Vec<ResolvedLine>) -> Vec<ResolvedLine>
+    ensures { result.items ≡ in_order direction (reverse run.items) }
 {
-    let passed = LineSet::of(alloc, records)?;
-    let mut run = Vec::new(alloc);
-    let mut len = 0;
-    let mut at = beyond;
-    while let Some(record) = next_within(map, at.line, len, &passed) {
-        run.push(record)?;
-        len += record.len;
-        at = line_after(map, record);
+    match direction {
+        Direction::Along => run,
+        Direction::Against => {
+            let mut run = run;
+            run.reverse();
+            run
+        }
     }
-    Ok(DegreeTwoRun {
-        records: run,
-        len,
-        valid: !at.passing,
-    })
 }
 
 /// The line by which a run of the length `len` is extended, as the map has it. None if there is none, if it is in
@@ -195,42 +147,52 @@ fn next_within<M: MapRead>(
     Some(record)
 }
 
-/// What lies before the line `next`: the one line that may precede it enters the degree-two node where `next` begins,
-/// and does not begin where `next` ends.
-fn line_before<M: MapRead>(map: &M, next: ResolvedLine) -> Beyond
-    requires { next ≡ record_of (M.map map.now) next.id }
-    ensures { LiesBefore (M.map map.now) next.id result.passing result.line }
+/// The outermost of some lines: the last one along them, the first one against them.
+fn outermost_of(direction: Direction, records: &[ResolvedLine]) -> ResolvedLine
+    requires { 0 < length records.now }
+    ensures { (M : Map) → AreRecords M records.now → result ≡ record_of M (outermost direction (ids records.now)) }
 {
-    let through = passing(map, next.from);
-    if through {
-        for line in map.in_lines(next.from) {
-            if start_of(map, *line) != next.to {
-                return Beyond {
-                    passing: through,
-                    line: Some(*line),
-                };
-            }
-        }
-    }
-    Beyond {
-        passing: through,
-        line: None,
+    match direction {
+        Direction::Along => records[records.len() - 1],
+        Direction::Against => records[0],
     }
 }
 
-/// What lies after the line `last`: the one line that may follow it leaves the degree-two node where `last` ends, and
-/// does not end where `last` begins.
-fn line_after<M: MapRead>(map: &M, last: ResolvedLine) -> Beyond
-    requires { last ≡ record_of (M.map map.now) last.id }
-    ensures { LiesAfter (M.map map.now) last.id result.passing result.line }
+/// Where a line is entered in this direction, and where it leads.
+fn ends_of(direction: Direction, line: ResolvedLine) -> (NodeId, NodeId)
+    ensures { (M : Map) → line ≡ record_of M line.id
+        → (result.0 ≡ near_end M direction line.id) × (result.1 ≡ far_end M direction line.id) }
 {
-    let through = passing(map, last.to);
+    match direction {
+        Direction::Along => (line.from, line.to),
+        Direction::Against => (line.to, line.from),
+    }
+}
+
+/// The lines that are entered at a node in this direction.
+fn lines_at<M: MapRead>(map: &M, direction: Direction, node: NodeId) -> &[LineId]
+    ensures { result.now ≡ lines_at (M.map map.now) direction node }
+{
+    match direction {
+        Direction::Along => map.out_lines(node),
+        Direction::Against => map.in_lines(node),
+    }
+}
+
+/// What lies beyond a line: the one line that leads on from it is entered at the degree-two node to which it leads, and
+/// does not lead back to where it is entered.
+fn line_beyond<M: MapRead>(map: &M, direction: Direction, line: ResolvedLine) -> Beyond
+    requires { line ≡ record_of (M.map map.now) line.id }
+    ensures { LiesBeyond (M.map map.now) direction line.id result.passing result.line }
+{
+    let (near, far) = ends_of(direction, line);
+    let through = passing(map, far);
     if through {
-        for line in map.out_lines(last.to) {
-            if end_of(map, *line) != last.from {
+        for next in lines_at(map, direction, far) {
+            if far_end_of(map, direction, *next) != near {
                 return Beyond {
                     passing: through,
-                    line: Some(*line),
+                    line: Some(*next),
                 };
             }
         }

@@ -7,10 +7,11 @@ ghost use Rattle.olr_spec.specs.Queries.{NodeOf};
 ghost use Rattle.olr_refs.specs.Extends.{Extends};
 ghost use Rattle.olr_refs.specs.ResolvedLines.{records_of};
 
-use crate::degree_two_runs::{run_after, run_before};
+use crate::degree_two_runs::longest_run;
 use crate::path::Path;
 use crate::resolved::{ResolvedLine, ids_of};
 use olr_map::{Footprint, LineId, MapRead, NodeId};
+use olr_search::Direction;
 use std::alloc::{AllocError, Global};
 use std::marker::Model;
 
@@ -66,11 +67,11 @@ pub fn extend<M: MapRead>(
     ensures records { IfOk result (λ extended. extended.records ≡ records_of (M.map map.now) extended.path.lines) }
     ensures err { OnErr result (footprint.new ≡ footprint.old) }
 {
-    let before = run_before(alloc, map, own)?;
+    let before = longest_run(alloc, map, Direction::Against, own)?;
     let (front, front_len) = before.taken_part();
     let mut records = Vec::from_slice(alloc, front)?;
     records.extend_from_slice(own)?;
-    let after = run_after(alloc, map, &records)?;
+    let after = longest_run(alloc, map, Direction::Along, &records)?;
     let (back, back_len) = after.taken_part();
     records.extend_from_slice(back)?;
     let lines = ids_of(alloc, &records)?;

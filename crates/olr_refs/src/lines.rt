@@ -1,21 +1,19 @@
 //! The ends of lines of a map.
 ghost use Rattle.std.specs.Prelude.{◌≡◌, IsTrue};
-ghost use Rattle.olr_spec.specs.Map.{has_line, start, end};
+ghost use Rattle.olr_spec.specs.Map.{has_line};
+ghost use Rattle.olr_search.specs.Distances.{far_end};
 
 use olr_map::{LineId, MapRead, NodeId};
+use olr_search::Direction;
 
-/// The node where a line of the map begins.
-pub(crate) fn start_of<M: MapRead>(map: &M, line: LineId) -> NodeId
+/// The node to which a line of the map leads in this direction: along it, where it ends, and against it, where it begins.
+pub(crate) fn far_end_of<M: MapRead>(map: &M, direction: Direction, line: LineId) -> NodeId
     requires { IsTrue (has_line (M.map map.now) line) }
-    ensures { result ≡ start (M.map map.now) line }
+    ensures { result ≡ far_end (M.map map.now) direction line }
 {
-    map.line(line).unwrap().from
-}
-
-/// The node where a line of the map ends.
-pub(crate) fn end_of<M: MapRead>(map: &M, line: LineId) -> NodeId
-    requires { IsTrue (has_line (M.map map.now) line) }
-    ensures { result ≡ end (M.map map.now) line }
-{
-    map.line(line).unwrap().to
+    let record = map.line(line).unwrap();
+    match direction {
+        Direction::Along => record.to,
+        Direction::Against => record.from,
+    }
 }

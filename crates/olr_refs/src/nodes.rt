@@ -2,8 +2,9 @@
 ghost use Rattle.std.specs.Prelude.{◌≡◌};
 ghost use Rattle.olr_spec.specs.Extension.{passing, apart};
 
-use crate::lines::{end_of, start_of};
+use crate::lines::far_end_of;
 use olr_map::{MapRead, NodeId};
+use olr_search::Direction;
 
 /// Whether a node is a degree-two node: its lines have exactly two other ends, which differ from each other and from
 /// the node, and lead either from one of them to the other, or once from each and once to each. Every other node is
@@ -12,12 +13,16 @@ pub fn passing<M: MapRead>(map: &M, node: NodeId) -> bool
     ensures { result ≡ passing (M.map map.now) node }
 {
     match (map.in_lines(node), map.out_lines(node)) {
-        ([entering], [leaving]) => are_apart(node, start_of(map, *entering), end_of(map, *leaving)),
+        ([entering], [leaving]) => {
+            let one = far_end_of(map, Direction::Against, *entering);
+            let other = far_end_of(map, Direction::Along, *leaving);
+            are_apart(node, one, other)
+        }
         ([from_one, from_other], [to_one, to_other]) => {
-            let one = start_of(map, *from_one);
-            let other = start_of(map, *from_other);
-            let first = end_of(map, *to_one);
-            let second = end_of(map, *to_other);
+            let one = far_end_of(map, Direction::Against, *from_one);
+            let other = far_end_of(map, Direction::Against, *from_other);
+            let first = far_end_of(map, Direction::Along, *to_one);
+            let second = far_end_of(map, Direction::Along, *to_other);
             are_apart(node, one, other)
                 && ((first == one && second == other) || (first == other && second == one))
         }

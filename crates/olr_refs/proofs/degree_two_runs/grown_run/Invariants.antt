@@ -1,13 +1,13 @@
 use Rattle.std.proofs.Common.{◌-◌, reverse}
 use Rattle.olr_spec.specs.Extension.{limit}
 use Rattle.olr_refs.specs.ResolvedLines.{ids}
-use Rattle.olr_refs.proofs.Before.{GrowsBefore}
-use Rattle.olr_refs.proofs.degree_two_runs.grown_before.Given as goal
+use Rattle.olr_refs.proofs.Runs.{Grows}
+use Rattle.olr_refs.proofs.degree_two_runs.grown_run.Given as goal
 
 -- the run is stored from the list outwards
 abbrev pub invariant-loop-record : goal.invariant-loop-record
 invariant-loop-record g l =
-    GrowsBefore (g.M.MapRead.map l.map) (ids l.records) (reverse l.run.items) l.len l.at.passing l.at.line
+    Grows (g.M.MapRead.map l.map) l.direction (ids l.records) (reverse l.run.items) l.len l.at.passing l.at.line
 
 abbrev pub decreases-loop-record : goal.decreases-loop-record
 decreases-loop-record g l = limit - l.len

@@ -1,0 +1,338 @@
+-- A run of degree-two nodes that leads out from some lines, extended by one line at a time. Each line leads on from the
+-- one before it, which determines it, and is in the run already only if it is one of the lines.
+use Rattle.std.proofs.Common.{◌⊎◌, inl, inr, ◌≡◌, ◌≢◌, ℕ, ◌+◌, ◌<◌, ◌≤◌, ◌==◌, Bool, not, true, false, List, [], ◌∷◌, ◌++◌}
+use Rattle.std.proofs.Common.{length, map, reverse, Option, Some, None, MatchOption, is_some, IsTrue, refl, sym, ap, ◌∙◌, subst}
+use Rattle.std.proofs.Common.{arith, append_assoc, append-nil}
+use Rattle.std.specs.Prelude.{⊤}
+use Rattle.std.proofs.lemmas.Bool.{both_ways, cases_Bool, ne_eqb, or_from, or_parts}
+use Rattle.std.proofs.lemmas.List.{map-append, reverse-append}
+use Rattle.std.proofs.lemmas.List.Folds.{list_any-append}
+use Rattle.std.proofs.lemmas.List.Sorted.{IsPermutation-reverse, list_any-IsPermutation}
+use Rattle.olr_spec.specs.Map.{Map, has_line, dm, has}
+use Rattle.olr_spec.specs.Routes.{dm_of}
+use Rattle.olr_spec.specs.Extension.{first, last, passing, limit, MayPrecede, MayFollow, StartRun, EndRun}
+use Rattle.olr_spec.proofs.RunLemmas.{same_start_run, same_end_run, last_push}
+use Rattle.olr_spec.proofs.RunMoves.{EndRun-push}
+use Rattle.olr_spec.proofs.DecideLemmas.{last_of_list}
+use Rattle.olr_spec.proofs.ListLemmas.{has_here, has_there, has_cases, has_first, has_last}
+use Rattle.olr_spec.proofs.RouteLemmas.{dm_of-append}
+use Rattle.olr_search.specs.Distances.{near_end, far_end}
+use Rattle.olr_search.specs.declared.distances.Direction.{Direction}
+use Rattle.olr_search.specs.declared.distances.Direction.TheVariants.{Along, Against}
+use Rattle.olr_refs.specs.ResolvedLines.{ResolvedLine, record_of, records_of, ids, AreRecords}
+use Rattle.olr_refs.specs.Runs.{outermost, joined, in_order, LeadsOn, LiesBeyond, IsLongest, IsRun}
+
+-- ---- the line beyond a line
+
+module _ (M : Map) where
+  -- a line doesn't lead on from itself
+  another : (d : Direction) (z x : ℕ) → LeadsOn M d z x → z ≢ x
+  another d z x p is = p.onward (ap (far_end M d) (sym is) ∙ sym p.joins ∙ ap (near_end M d) (sym is))
+
+  may_follow : (ls : List ℕ) (x : ℕ) → LeadsOn M Along (last ls) x → has ls x ≡ false → MayFollow M ls x
+  may_follow ls x p h = record { known = p.known; joins = p.joins; through = p.through; onward = p.onward; fresh = h }
+
+  may_precede : (ls : List ℕ) (x : ℕ) → LeadsOn M Against (first ls) x → has ls x ≡ false → MayPrecede M x ls
+  may_precede ls x p h = record { known = p.known; joins = p.joins; through = p.through; onward = p.onward; fresh = h }
+
+  follows : (ls : List ℕ) (x : ℕ) → MayFollow M ls x → LeadsOn M Along (last ls) x
+  follows ls x p = record { known = p.known; joins = p.joins; through = p.through; onward = p.onward }
+
+  precedes : (ls : List ℕ) (x : ℕ) → MayPrecede M x ls → LeadsOn M Against (first ls) x
+  precedes ls x p = record { known = p.known; joins = p.joins; through = p.through; onward = p.onward }
+
+  not_it : (d : Direction) (z x : ℕ) → LeadsOn M d z x → has (z ∷ []) x ≡ false
+  not_it d z x p = or_from _ _ (ne_eqb z x (another d z x p)) refl
+
+  pub one_on : (d : Direction) (z x y : ℕ) → IsTrue (has_line M z) → LeadsOn M d z x → LeadsOn M d z y → x ≡ y
+  one_on Along z x y k p q =
+      let same : x ∷ [] ≡ y ∷ [] =
+      same_end_run M (z ∷ []) (x ∷ []) (y ∷ []) k (may_follow (z ∷ []) x p (not_it Along z x p), tt)
+      (may_follow (z ∷ []) y q (not_it Along z y q), tt) refl in cc
+  one_on Against z x y k p q =
+      let same : x ∷ [] ≡ y ∷ [] =
+      same_start_run M (z ∷ []) (x ∷ []) (y ∷ []) k (may_precede (z ∷ []) x p (not_it Against z x p), tt)
+      (may_precede (z ∷ []) y q (not_it Against z y q), tt) refl in cc
+
+  -- and seen from that line
+  one_from : (d : Direction) (y z x : ℕ) → IsTrue (has_line M y) → IsTrue (has_line M z) → LeadsOn M d y x →
+      LeadsOn M d z x → y ≡ z
+  one_from Along y z x j k p q = one_on Against x y z p.known (turned y j p) (turned z k q)
+    where
+      turned : (w : ℕ) → IsTrue (has_line M w) → LeadsOn M Along w x → LeadsOn M Against x w
+      turned w h r = record {
+        known = h;
+        joins = sym r.joins;
+        through = subst (λ (v : ℕ). IsTrue (passing M v)) r.joins r.through;
+        onward = λ is. r.onward (sym is);
+      }
+  one_from Against y z x j k p q = one_on Along x y z p.known (turned y j p) (turned z k q)
+    where
+      turned : (w : ℕ) → IsTrue (has_line M w) → LeadsOn M Against w x → LeadsOn M Along x w
+      turned w h r = record {
+        known = h;
+        joins = sym r.joins;
+        through = subst (λ (v : ℕ). IsTrue (passing M v)) r.joins r.through;
+        onward = λ is. r.onward (sym is);
+      }
+
+-- ---- runs, from the outermost line inwards
+
+-- the outermost of the lines ls and the run c
+abbrev pub tip : Direction → List ℕ → List ℕ → ℕ
+tip d ls [] = outermost d ls
+tip d ls (x ∷ c) = x
+
+abbrev pub Chain : Map → Direction → List ℕ → List ℕ → Type 0
+Chain M d ls [] = ⊤
+Chain M d ls (x ∷ c) = LeadsOn M d (tip d ls c) x × (has ls x ≡ false) × (has c x ≡ false) × Chain M d ls c
+
+has_outermost : (d : Direction) (ls : List ℕ) → 0 < length ls → has ls (outermost d ls) ≡ true
+has_outermost Along ls h = has_last ls h
+has_outermost Against ls h = has_first ls h
+
+module _ (M : Map) (d : Direction) (ls : List ℕ) (some : 0 < length ls) (known : IsTrue (has_line M (outermost d ls))) where
+  pub tip_known : (c : List ℕ) → Chain M d ls c → IsTrue (has_line M (tip d ls c))
+  tip_known [] p = known
+  tip_known (x ∷ c) p = p.0.known
+
+  tip_in : (c : List ℕ) → (has ls (tip d ls c) ≡ true) ⊎ (has c (tip d ls c) ≡ true)
+  tip_in [] = inl (has_outermost d ls some)
+  tip_in (x ∷ c) = inr (has_here x c)
+
+  back : (front c : List ℕ) → Chain M d ls (front ++ c) → Chain M d ls c
+  back [] c p = p
+  back (x ∷ front) c p = back front c p.3
+
+  -- a line of a run leads on from one of the run or of the lines
+  inwards : (c : List ℕ) (x : ℕ) → Chain M d ls c → has c x ≡ true → (z : ℕ) × IsTrue (has_line M z) × LeadsOn M d z x
+      × ((has ls z ≡ true) ⊎ (has c z ≡ true))
+  inwards [] x p h = absurd cc
+  inwards (y ∷ c) x p h = elim (has_cases y c x h) [
+    | inl is ↦ (
+      tip d ls c,
+      tip_known c p.3,
+      subst (LeadsOn M d (tip d ls c)) is p.0,
+      elim (tip_in c) [ inl i ↦ inl i | inr i ↦ inr (has_there y c (tip d ls c) i) ],
+    )
+    | inr i ↦
+        let r = inwards c x p.3 i in
+        (r.0, r.1, r.2, elim r.3 [ inl j ↦ inl j | inr j ↦ inr (has_there y c r.0 j) ])
+  ]
+
+  -- what leads on from a run is not among its lines
+  pub fresh : (c : List ℕ) (x : ℕ) → Chain M d ls c → LeadsOn M d (tip d ls c) x → has c x ≡ false
+  fresh [] x p q = refl
+  fresh (y ∷ c) x p q =
+      or_from _ _ (ne_eqb y x (another M d y x q)) (elim (cases_Bool (has c x)) [
+        | inr none ↦ none
+        | inl h ↦
+            let r = inwards c x p.3 h in
+            let is : y ≡ r.0 = one_from M d y r.0 x p.0.known r.1 q r.2 in
+            absurd (elim r.3 [
+              | inl i ↦ both_ways (has ls y) p.1 (subst (λ (n : ℕ). has ls n ≡ true) (sym is) i)
+              | inr i ↦ both_ways (has c y) p.2 (subst (λ (n : ℕ). has c n ≡ true) (sym is) i)
+            ])
+      ])
+
+  -- a run from which no line leads on, or none within the limit, is the longest
+  pub no_longer : (c : List ℕ) → Chain M d ls c →
+      ((x : ℕ) → LeadsOn M d (tip d ls c) x → (has ls x ≡ true) ⊎ (limit < dm_of M c + dm M x)) → (e : List ℕ) →
+      Chain M d ls e → dm_of M e ≤ limit → dm_of M e ≤ dm_of M c
+  no_longer c p stops e q w = let r = part_of e q w in omega (arith, ap (dm_of M) r.1, dm_of-append M r.0 e)
+    where
+      one_more : (x : ℕ) (e front : List ℕ) → Chain M d ls (x ∷ e) → dm_of M (x ∷ e) ≤ limit → c ≡ front ++ e →
+          (front : List ℕ) × (c ≡ front ++ x ∷ e)
+      one_more x e [] q w is =
+          absurd (elim (stops x (subst (λ (zs : List ℕ). LeadsOn M d (tip d ls zs) x) (sym is) q.0)) [
+            | inl h ↦ both_ways (has ls x) q.1 h
+            | inr far ↦ let same = ap (dm_of M) is in omega arith
+          ])
+      one_more x e (y ∷ ys) q w is =
+          let s = last_of_list y ys in
+          let parts : c ≡ s.0 ++ (s.1 ∷ e) = is ∙ ap (λ (zs : List ℕ). zs ++ e) s.2 ∙ append_assoc s.0 (s.1 ∷ []) e in
+          let run = back s.0 (s.1 ∷ e) (subst (Chain M d ls) parts p) in
+          let same : s.1 ≡ x = one_on M d (tip d ls e) s.1 x (tip_known e q.3) run.0 q.0 in
+          (s.0, parts ∙ ap (λ (n : ℕ). s.0 ++ (n ∷ e)) same)
+
+      part_of : (e : List ℕ) → Chain M d ls e → dm_of M e ≤ limit → (front : List ℕ) × (c ≡ front ++ e)
+      part_of [] q w = (c, sym (append-nil c))
+      part_of (x ∷ e) q w = let r = part_of e q.3 (omega arith) in one_more x e r.0 q w r.1
+
+-- ---- in the order of travel
+
+pushed : {X : Type 0} (x : X) (c : List X) → reverse (x ∷ c) ≡ reverse c ++ x ∷ []
+pushed x c = reverse-append (x ∷ []) c
+
+has-reverse : (c : List ℕ) (x : ℕ) → has (reverse c) x ≡ has c x
+has-reverse c x = sym (list_any-IsPermutation (λ y. y == x) c (reverse c) (IsPermutation-reverse c))
+
+dm_of-reverse : (M : Map) (c : List ℕ) → dm_of M (reverse c) ≡ dm_of M c
+dm_of-reverse M [] = refl
+dm_of-reverse M (x ∷ c) =
+    omega (arith, ap (dm_of M) (pushed x c), dm_of-append M (reverse c) (x ∷ []), dm_of-reverse M c)
+
+map-reverse : {X Y : Type 0} (f : X → Y) (xs : List X) → map f (reverse xs) ≡ reverse (map f xs)
+map-reverse f [] = refl
+map-reverse {X} {Y} f (x ∷ xs) =
+    ap (map f) (pushed x xs) ∙ map-append f (reverse xs) (x ∷ [])
+    ∙ ap (λ (ys : List Y). ys ++ f x ∷ []) (map-reverse f xs) ∙ sym (pushed (f x) (map f xs))
+
+ids-in_order : (d : Direction) (rs : List ResolvedLine) → ids (in_order d rs) ≡ in_order d (ids rs)
+ids-in_order Along rs = map-reverse (λ (r : ResolvedLine). r.id) rs
+ids-in_order Against rs = refl
+
+records-in_order : (M : Map) (d : Direction) (rs : List ResolvedLine) → AreRecords M rs → AreRecords M (in_order d rs)
+records-in_order M Along rs are =
+    ap (λ (ss : List ResolvedLine). reverse ss) are ∙ sym (map-reverse (record_of M) (ids rs))
+    ∙ ap (records_of M) (sym (ids-in_order Along rs))
+records-in_order M Against rs are = are
+
+order_none : (d : Direction) → ◌≡◌ {A = List ResolvedLine} (in_order d []) []
+order_none Along = refl
+order_none Against = refl
+
+dm_of-in_order : (M : Map) (d : Direction) (c : List ℕ) → dm_of M (in_order d c) ≡ dm_of M c
+dm_of-in_order M Along c = dm_of-reverse M c
+dm_of-in_order M Against c = refl
+
+tip_is : (d : Direction) (ls c : List ℕ) → outermost d (joined d ls (in_order d c)) ≡ tip d ls c
+tip_is Along ls [] = ap last (append-nil ls)
+tip_is Along ls (x ∷ c) =
+    ap (λ (zs : List ℕ). last (ls ++ zs)) (pushed x c) ∙ ap last (sym (append_assoc ls (reverse c) (x ∷ [])))
+    ∙ last_push (ls ++ reverse c) x
+tip_is Against ls [] = refl
+tip_is Against ls (x ∷ c) = refl
+
+module _ (M : Map) (ls : List ℕ) where
+  start_run : (c : List ℕ) → Chain M Against ls c → StartRun M c ls
+  start_run [] p = tt
+  start_run (x ∷ c) p = (
+    may_precede M (c ++ ls) x (subst (λ (z : ℕ). LeadsOn M Against z x) (sym (tip_is Against ls c)) p.0)
+        (list_any-append (λ y. y == x) c ls ∙ or_from _ _ p.2 p.1),
+    start_run c p.3,
+  )
+
+  end_run : (c : List ℕ) → Chain M Along ls c → EndRun M ls (reverse c)
+  end_run [] p = tt
+  end_run (x ∷ c) p =
+      subst (EndRun M ls) (sym (pushed x c)) (EndRun-push M ls (reverse c) x (end_run c p.3)
+      (may_follow M (ls ++ reverse c) x (subst (λ (z : ℕ). LeadsOn M Along z x) (sym (tip_is Along ls c)) p.0)
+      (list_any-append (λ y. y == x) ls (reverse c) ∙ or_from _ _ p.1 (has-reverse c x ∙ p.2))))
+
+  of_start : (c : List ℕ) → StartRun M c ls → Chain M Against ls c
+  of_start [] p = tt
+  of_start (x ∷ c) p =
+      let off = or_parts _ _ (sym (list_any-append (λ y. y == x) c ls) ∙ p.0.fresh) in (
+        subst (λ (z : ℕ). LeadsOn M Against z x) (tip_is Against ls c) (precedes M (c ++ ls) x p.0),
+        off.1,
+        off.0,
+        of_start c p.1,
+      )
+
+  of_end : (done c : List ℕ) → Chain M Along ls done → EndRun M (ls ++ reverse done) c →
+      Chain M Along ls (reverse c ++ done)
+  of_end done [] a p = a
+  of_end done (x ∷ c) a p =
+      let off = or_parts _ _ (sym (list_any-append (λ y. y == x) ls (reverse done)) ∙ p.0.fresh) in
+      let on : (ls ++ reverse done) ++ x ∷ [] ≡ ls ++ reverse (x ∷ done) =
+      append_assoc ls (reverse done) (x ∷ []) ∙ ap (λ (zs : List ℕ). ls ++ zs) (sym (pushed x done)) in
+      let parts : reverse c ++ (x ∷ done) ≡ reverse (x ∷ c) ++ done =
+      sym (ap (λ (zs : List ℕ). zs ++ done) (pushed x c) ∙ append_assoc (reverse c) (x ∷ []) done) in
+      subst (Chain M Along ls) parts (of_end (x ∷ done) c (
+        subst (λ (z : ℕ). LeadsOn M Along z x) (tip_is Along ls done) (follows M (ls ++ reverse done) x p.0),
+        off.0,
+        sym (has-reverse done x) ∙ off.1,
+        a,
+      ) (subst (λ (zs : List ℕ). EndRun M zs c) on p.1))
+
+longest : (M : Map) (d : Direction) (ls c : List ℕ) → Chain M d ls c → dm_of M c ≤ limit →
+    ((e : List ℕ) → Chain M d ls e → dm_of M e ≤ limit → dm_of M e ≤ dm_of M c) → IsLongest M d ls (in_order d c)
+longest M Against ls c p w most =
+    record { run = start_run M ls c p; within = w; longest = λ e q v. most e (of_start M ls e q) v }
+longest M Along ls c p w most =
+    let same = dm_of-reverse M c in
+    record {
+      run = end_run M ls c p;
+      within = omega arith;
+      longest = λ e q v.
+          let there = dm_of-reverse M e in
+          let chain : Chain M Along ls (reverse e) =
+          subst (Chain M Along ls) (append-nil (reverse e))
+          (of_end M ls [] e tt (subst (λ (zs : List ℕ). EndRun M zs e) (sym (append-nil ls)) q)) in
+          let le = most (reverse e) chain (omega arith) in
+          omega arith;
+    }
+
+-- ---- a run as it is built
+
+-- the lines so far, their length, and what lies beyond them
+pub record Grows (M : Map) (d : Direction) (ls : List ℕ) (rs : List ResolvedLine) (len : ℕ) (through : Bool)
+    (line : Option ℕ) : Type 0
+  where
+    pub chain : Chain M d ls (ids rs)
+    pub are : AreRecords M rs
+    pub long : len ≡ dm_of M (ids rs)
+    pub within : len ≤ limit
+    pub beyond : LiesBeyond M d (tip d ls (ids rs)) through line
+
+pub grows_none : (M : Map) (d : Direction) (ls : List ℕ) (through : Bool) (line : Option ℕ) →
+    LiesBeyond M d (outermost d ls) through line → Grows M d ls [] 0 through line
+grows_none M d ls through line b = record { chain = tt; are = refl; long = refl; within = omega arith; beyond = b }
+
+module _ (M : Map) (d : Direction) (ls : List ℕ) (some : 0 < length ls) (known : IsTrue (has_line M (outermost d ls)))
+    (rs : List ResolvedLine) (len : ℕ) (through : Bool) (line : Option ℕ) (grows : Grows M d ls rs len through line)
+  where
+    pub grows_more : (n : ℕ) (r : ResolvedLine) (passes : Bool) (next : Option ℕ) → n ≡ r.len → line ≡ Some r.id →
+        r ≡ record_of M r.id → has ls r.id ≡ false → len + r.len ≤ limit → LiesBeyond M d r.id passes next →
+        Grows M d ls (r ∷ rs) (len + n) passes next
+    grows_more n r passes next added is record_is off near b =
+        let e = grows.long in
+        let l = ap (λ (s : ResolvedLine). s.len) record_is in
+        let on : LeadsOn M d (tip d ls (ids rs)) r.id =
+        subst (λ (o : Option ℕ). MatchOption o ((x : ℕ) → ¬ LeadsOn M d (tip d ls (ids rs)) x)
+        (LeadsOn M d (tip d ls (ids rs)))) is grows.beyond.next in
+        record {
+          chain = (on, off, fresh M d ls some known (ids rs) r.id grows.chain on, grows.chain);
+          are = λ i. record_is i ∷ grows.are i;
+          long = omega arith;
+          within = omega arith;
+          beyond = b;
+        }
+
+    pub finished : (used : List ℕ) → ((x : ℕ) → has used x ≡ has ls x) →
+        MatchOption line ⊤ (λ x. (has used x ≡ true) ⊎ (limit < len + dm M x)) →
+        IsRun M d ls (in_order d rs) len (not through)
+    finished used same none =
+        let e = grows.long in
+        let w = grows.within in
+        record {
+          longest = subst (IsLongest M d ls) (sym (ids-in_order d rs)) (longest M d ls (ids rs) grows.chain (omega arith)
+              (no_longer M d ls some known (ids rs) grows.chain (stops line grows.beyond.next none)));
+          are = records-in_order M d rs grows.are;
+          long = grows.long ∙ sym (ap (dm_of M) (ids-in_order d rs) ∙ dm_of-in_order M d (ids rs));
+          leads = ap not (grows.beyond.node ∙ ap (λ (z : ℕ). passing M (far_end M d z))
+              (sym (ap (λ (c : List ℕ). outermost d (joined d ls c)) (ids-in_order d rs) ∙ tip_is d ls (ids rs))));
+        }
+      where
+        stops : (line : Option ℕ) → MatchOption line ((x : ℕ) → ¬ LeadsOn M d (tip d ls (ids rs)) x)
+            (LeadsOn M d (tip d ls (ids rs))) → MatchOption line ⊤ (λ x. (has used x ≡ true) ⊎ (limit < len + dm M x)) →
+            (x : ℕ) → LeadsOn M d (tip d ls (ids rs)) x → (has ls x ≡ true) ⊎ (limit < dm_of M (ids rs) + dm M x)
+        stops None next off x p = absurd (next x p)
+        stops (Some y) next off x p =
+            let is : y ≡ x =
+            one_on M d (tip d ls (ids rs)) y x (tip_known M d ls some known (ids rs) grows.chain) next p in
+            let e = grows.long in
+            subst (λ (n : ℕ). (has ls n ≡ true) ⊎ (limit < dm_of M (ids rs) + dm M n)) is (elim off [
+              | inl h ↦ inl (sym (same y) ∙ h)
+              | inr far ↦ inr (omega arith)
+            ])
+
+-- if no line leads on, no run does
+pub none_beyond : (M : Map) (d : Direction) (ls : List ℕ) → 0 < length ls → IsTrue (has_line M (outermost d ls)) →
+    (through : Bool) (line : Option ℕ) → LiesBeyond M d (outermost d ls) through line → is_some line ≡ false →
+    IsRun M d ls [] 0 (not through)
+none_beyond M d ls some known through None b none =
+    subst (λ (rs : List ResolvedLine). IsRun M d ls rs 0 (not through)) (order_none d)
+    (finished M d ls some known [] 0 through None (grows_none M d ls through None b) ls (λ x. refl) tt)
+none_beyond M d ls some known through (Some y) b none = absurd cc
