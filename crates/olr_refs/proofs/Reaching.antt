@@ -1,5 +1,5 @@
 -- The positions that are covered, by one route along the lines after a position.
-use Rattle.std.proofs.Common.{◌≡◌, ◌<◌, ◌≤◌, ◌-◌, ◌+◌, ℕ, min, max, Bool, true, false, List, [], ◌∷◌, ◌++◌, length}
+use Rattle.std.proofs.Common.{◌≡◌, ◌<◌, ◌≤◌, ◌-◌, ◌+◌, ℕ, min, max, Bool, List, [], ◌∷◌, ◌++◌, length}
 use Rattle.std.proofs.Common.{take, drop, refl, sym, ap, ◌∙◌, subst, arith, inl, inr}
 use Rattle.std.proofs.lemmas.Bool.{cases_order}
 use Rattle.std.specs.Prelude.{IsTrue, ◌↔◌}
@@ -33,31 +33,12 @@ unique_start M m ls i w h =
     subst (λ (t : ℕ). UniqueShortest M s t []) (next_start M _ _ ls i w h) (empty_unique M m s) in
     subst (UniqueShortest M s (start M (slice_index ls (i + 1)))) (empty_stretch ls (i + 1)) there
 
--- one more line
-unique_on : (M : Map) (ls : List ℕ) (i k : ℕ) → AreJoined M ls → i < k → k + 1 < length ls
-    → UniqueShortest M (end M (slice_index ls i)) (end M (slice_index ls k))
-    (stretch ls (i + 1) k ++ slice_index ls k ∷ []) →
-    UniqueTo M ls i (k + 1)
-unique_on M ls i k w h g r =
-    let s = end M (slice_index ls i) in
-    let there : UniqueShortest M s (start M (slice_index ls (k + 1))) (stretch ls (i + 1) k ++ slice_index ls k ∷ []) =
-    subst (λ (t : ℕ). UniqueShortest M s t (stretch ls (i + 1) k ++ slice_index ls k ∷ [])) (next_start M _ _ ls k w g)
-    r in
-    subst (UniqueShortest M s (start M (slice_index ls (k + 1))))
-    (sym (stretch_last ls (i + 1) k (omega arith) (omega arith)))
-    there
-
-unique_off : (M : Map) (ls : List ℕ) (i k : ℕ) → AreJoined M ls → i < k → k + 1 < length ls
-    → UniqueTo M ls i (k + 1) → UniqueShortest M (end M (slice_index ls i)) (end M (slice_index ls k))
-    (stretch ls (i + 1) k ++ slice_index ls k ∷ [])
-unique_off M ls i k w h g r =
-    let s = end M (slice_index ls i) in
-    let parts : UniqueShortest M s (start M (slice_index ls (k + 1))) (stretch ls (i + 1) k ++ slice_index ls k ∷ []) =
-    subst (UniqueShortest M s (start M (slice_index ls (k + 1))))
-    (stretch_last ls (i + 1) k (omega arith) (omega arith)) r in
-    subst (λ (t : ℕ). UniqueShortest M s t (stretch ls (i + 1) k ++ slice_index ls k ∷ []))
-    (sym (next_start M _ _ ls k w g))
-    parts
+-- with line k, as far as the start of the line after it
+on_is : (M : Map) (ls : List ℕ) (i k : ℕ) → AreJoined M ls → i < k → k + 1 < length ls →
+    UniqueShortest M (end M (slice_index ls i)) (end M (slice_index ls k)) (stretch ls (i + 1) k ++ slice_index ls k ∷ [])
+    ≡ UniqueTo M ls i (k + 1)
+on_is M ls i k w h g = λ j. UniqueShortest M (end M (slice_index ls i)) (next_start M _ _ ls k w g j)
+    (sym (stretch_last ls (i + 1) k (omega arith) (omega arith)) j)
 
 -- a shorter route along the same lines is a unique shortest path too
 unique_shorter : (M : Map) (ls : List ℕ) (i j k : ℕ) → AreJoined M ls → i < j → j ≤ k → k < length ls →
@@ -227,32 +208,15 @@ Extends M slot search line b =
     dm_of M route + dm M line ≤ limit_of search
     → (IsTrue b ↔ UniqueShortest M s (end M line) (route ++ line ∷ []))
 
-extends_at : (M : Map) (slot : ℕ → ℕ) (ls : List ℕ) (i k line : ℕ) (b : Bool) (s : Dijkstra) → AreJoined M ls → i < k →
-    k + 1 < length ls → line ≡ slice_index ls k → Extends M slot s line b
-    → IsSearch M slot Along ((end M (slice_index ls i), 0) ∷ []) s →
-    limit_of s ≡ dm_of M (stretch ls (i + 1) (k + 1)) → UniqueTo M ls i k
-    → (IsTrue b ↔ UniqueShortest M (end M (slice_index ls i)) (end M (slice_index ls k))
-    (stretch ls (i + 1) k ++ slice_index ls k ∷ []))
-extends_at M slot ls i k line b s w h g e f search settled r =
-    let f' : Extends M slot s (slice_index ls k) b = subst (λ (y : ℕ). Extends M slot s y b) e f in
-    let longer = stretch_longer M ls (i + 1) k (omega arith) (omega arith) in
-    f' (end M (slice_index ls i)) (stretch ls (i + 1) k) search r (omega arith)
-
 pub unique_if : (M : Map) (slot : ℕ → ℕ) (ls : List ℕ) (i k line : ℕ) (b : Bool) (s : Dijkstra) → AreJoined M ls →
-    i < k →
-    k + 1 < length ls → line ≡ slice_index ls k → Extends M slot s line b
-    → IsSearch M slot Along ((end M (slice_index ls i), 0) ∷ []) s →
-    limit_of s ≡ dm_of M (stretch ls (i + 1) (k + 1)) → UniqueTo M ls i k → b ≡ true → UniqueTo M ls i (k + 1)
-unique_if M slot ls i k line b s w h g e f search settled r t =
-    unique_on M ls i k w h g ((extends_at M slot ls i k line b s w h g e f search settled r).0 t)
-
-pub not_unique_if : (M : Map) (slot : ℕ → ℕ) (ls : List ℕ) (i k line : ℕ) (b : Bool) (s : Dijkstra) → AreJoined M ls →
     i < k → k + 1 < length ls → line ≡ slice_index ls k → Extends M slot s line b
     → IsSearch M slot Along ((end M (slice_index ls i), 0) ∷ []) s →
-    limit_of s ≡ dm_of M (stretch ls (i + 1) (k + 1)) → UniqueTo M ls i k → b ≡ false → ¬ UniqueTo M ls i (k + 1)
-not_unique_if M slot ls i k line b s w h g e f search settled r t more =
-    let is : b ≡ true =
-    (extends_at M slot ls i k line b s w h g e f search settled r).1 (unique_off M ls i k w h g more) in cc
+    limit_of s ≡ dm_of M (stretch ls (i + 1) (k + 1)) → UniqueTo M ls i k → (IsTrue b ↔ UniqueTo M ls i (k + 1))
+unique_if M slot ls i k line b s w h g e f search settled r =
+    let f' : Extends M slot s (slice_index ls k) b = subst (λ (y : ℕ). Extends M slot s y b) e f in
+    let longer = stretch_longer M ls (i + 1) k (omega arith) (omega arith) in
+    coe 0 1 (j. IsTrue b ↔ on_is M ls i k w h g j)
+    (f' (end M (slice_index ls i)) (stretch ls (i + 1) k) search r (omega arith))
 
 -- if at most one line follows line i, there is nothing between
 pub reach_near_end : (M : Map) → IsMap M → (ls : List ℕ) (i far : ℕ) → AreJoined M ls → i < length ls →
@@ -269,16 +233,4 @@ reach_near_end M m ls i far w h g f =
     covered : (j : ℕ) → i < j → j ≤ far → Covered M ls i j
     covered j a b = λ lt.
         let u = f.upto in
-        let is : i + 1 ≡ min j (length ls - 1) = omega arith in
-        let here : UniqueShortest M (end M (slice_index ls i)) (end M (slice_index ls i)) [] =
-        empty_unique M m (end M (slice_index ls i)) in
-        let next : UniqueShortest M (end M (slice_index ls i)) (start M (slice_index ls (i + 1))) [] =
-        subst (λ (t : ℕ). UniqueShortest M (end M (slice_index ls i)) t []) (next_start M _ _ ls i w (omega arith))
-        here in
-        let there : UniqueShortest M (end M (slice_index ls i)) (start M (slice_index ls (i + 1)))
-        (stretch ls (i + 1) (i + 1)) =
-        subst (UniqueShortest M (end M (slice_index ls i)) (start M (slice_index ls (i + 1))))
-        (empty_stretch ls (i + 1)) next in
-        subst (λ (n : ℕ). UniqueShortest M (end M (slice_index ls i)) (start M (slice_index ls n))
-        (stretch ls (i + 1) n)) is
-        there
+        covered_by M ls i j (i + 1) (omega arith) (unique_start M m ls i w (omega arith)) lt

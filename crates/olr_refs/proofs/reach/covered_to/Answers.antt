@@ -1,11 +1,11 @@
-use Rattle.std.proofs.Common.{◌≡◌, ◌+◌, ℕ, subst, arith, min, ◌-◌, length}
+use Rattle.std.proofs.Common.{◌≡◌, ◌+◌, ℕ, true, false, subst, arith, min, ◌-◌, length}
 use Rattle.std.proofs.lemmas.List.{get_or_default}
 use Rattle.olr_spec.specs.Routes.{dm_of}
 use Rattle.olr_spec.specs.Points.{stretch}
 use Rattle.olr_search.specs.declared.distances.Direction.TheVariants.{Along}
 use Rattle.olr_search.specs.Searches.{limit_of}
 use Rattle.olr_refs.proofs.Stretches.{later_stretch}
-use Rattle.olr_refs.proofs.Reaching.{UniqueTo, tests_start, settled_on, unique_if, not_unique_if, reach_far, reach_to}
+use Rattle.olr_refs.proofs.Reaching.{UniqueTo, tests_start, settled_on, unique_if, reach_far, reach_to}
 use Rattle.olr_refs.proofs.Reaching.{last_far, last_to}
 use Rattle.olr_refs.proofs.reach.covered_to.Goals as goal
 
@@ -38,54 +38,35 @@ overflow_cast-between g c =
 pub settle_to-requires-clause-begun : goal.settle_to-requires-clause-begun
 settle_to-requires-clause-begun g c = (Along, _, c.loop-k.invariant.search)
 
-pub returns-then-not-extends_unique_shortest-clause-search : goal.returns-then-not-extends_unique_shortest-clause-search
-returns-then-not-extends_unique_shortest-clause-search g c = c.in_ok-settle_to.ensures.search _ _
-    c.loop-k.invariant.search
-
-pub returns-then-not-extends_unique_shortest-clause-no_farther :
-    goal.returns-then-not-extends_unique_shortest-clause-no_farther
-returns-then-not-extends_unique_shortest-clause-no_farther g c =
-    settled_on (g.M.MapRead.map c.args.resolved.now.map.now) c.args.resolved.now.lines.now c.args.i c.loop-k.k _ _ _
-    (omega arith) (omega arith) c.loop-k.invariant.settled c.between.ensures.value c.in_ok-settle_to.ensures.limit
-
-pub returns-then-not-extends_unique_shortest-clause-reach : goal.returns-then-not-extends_unique_shortest-clause-reach
-returns-then-not-extends_unique_shortest-clause-reach g c =
+pub returns-then-not-extends_unique_shortest : goal.returns-then-not-extends_unique_shortest
+returns-then-not-extends_unique_shortest g c =
     let M = g.M.MapRead.map c.args.resolved.now.map.now in
-    let slot = g.M.MapRead.node_slot c.args.resolved.now.map.now in
     let ls = c.args.resolved.now.lines.now in
     let read = get_or_default ls c.loop-k.k c.index-resolved-k.result 0 (omega arith) in
     let search = c.in_ok-settle_to.ensures.search _ _ c.loop-k.invariant.search in
     let settled =
     settled_on M ls c.args.i c.loop-k.k _ _ _ (omega arith) (omega arith) c.loop-k.invariant.settled
     c.between.ensures.value c.in_ok-settle_to.ensures.limit in
-    reach_to M ls c.args.i c.args.far c.loop-k.k c.args.resolved.now.joined c.requires.far (omega arith) (omega arith)
-    c.loop-k.invariant.unique
-    (not_unique_if M slot ls c.args.i c.loop-k.k _ c.extends_unique_shortest.result c.settle_to.new.self
-    c.args.resolved.now.joined
-    (omega arith) (omega arith) read c.extends_unique_shortest.ensures search settled c.loop-k.invariant.unique
-    c.if-not-extends_unique_shortest.true)
-
-pub returns-then-not-extends_unique_shortest-clause-last : goal.returns-then-not-extends_unique_shortest-clause-last
-returns-then-not-extends_unique_shortest-clause-last g c =
-    let M = g.M.MapRead.map c.args.resolved.now.map.now in
-    let slot = g.M.MapRead.node_slot c.args.resolved.now.map.now in
-    let ls = c.args.resolved.now.lines.now in
-    let read = get_or_default ls c.loop-k.k c.index-resolved-k.result 0 (omega arith) in
-    let search = c.in_ok-settle_to.ensures.search _ _ c.loop-k.invariant.search in
-    let settled =
-    settled_on M ls c.args.i c.loop-k.k _ _ _ (omega arith) (omega arith) c.loop-k.invariant.settled
-    c.between.ensures.value c.in_ok-settle_to.ensures.limit in
-    last_to M ls c.args.i c.args.far c.loop-k.k c.args.resolved.now.joined c.requires.far (omega arith) (omega arith)
-    c.loop-k.invariant.unique
-    (not_unique_if M slot ls c.args.i c.loop-k.k _ c.extends_unique_shortest.result c.settle_to.new.self
-    c.args.resolved.now.joined
-    (omega arith) (omega arith) read c.extends_unique_shortest.ensures search settled c.loop-k.invariant.unique
-    c.if-not-extends_unique_shortest.true)
+    let more =
+    unique_if M (g.M.MapRead.node_slot c.args.resolved.now.map.now) ls c.args.i c.loop-k.k _
+    c.extends_unique_shortest.result c.settle_to.new.self c.args.resolved.now.joined (omega arith) (omega arith) read
+    c.extends_unique_shortest.ensures search settled c.loop-k.invariant.unique in
+    let no_more : ¬ UniqueTo M ls c.args.i (c.loop-k.k + 1) = λ u.
+    let is : c.extends_unique_shortest.result ≡ true = more.1 u in
+    let is_not : c.extends_unique_shortest.result ≡ false = c.if-not-extends_unique_shortest.true in
+    cc in
+    record {
+      reach = reach_to M ls c.args.i c.args.far c.loop-k.k c.args.resolved.now.joined c.requires.far (omega arith)
+          (omega arith) c.loop-k.invariant.unique no_more;
+      last = last_to M ls c.args.i c.args.far c.loop-k.k c.args.resolved.now.joined c.requires.far (omega arith)
+          (omega arith) c.loop-k.invariant.unique no_more;
+      search = search;
+      no_farther = settled;
+    }
 
 pub loop-k-preserved : goal.loop-k-preserved
 loop-k-preserved g c =
     let M = g.M.MapRead.map c.args.resolved.now.map.now in
-    let slot = g.M.MapRead.node_slot c.args.resolved.now.map.now in
     let ls = c.args.resolved.now.lines.now in
     let read = get_or_default ls c.loop-k.k c.index-resolved-k.result 0 (omega arith) in
     let search = c.in_ok-settle_to.ensures.search _ _ c.loop-k.invariant.search in
@@ -95,32 +76,25 @@ loop-k-preserved g c =
     record {
       search = search;
       settled = settled;
-      unique =
-          unique_if M slot ls c.args.i c.loop-k.k _ c.extends_unique_shortest.result c.settle_to.new.self
-          c.args.resolved.now.joined
-          (omega arith) (omega arith) read c.extends_unique_shortest.ensures search settled c.loop-k.invariant.unique
+      unique = (unique_if M (g.M.MapRead.node_slot c.args.resolved.now.map.now) ls c.args.i c.loop-k.k _
+          c.extends_unique_shortest.result c.settle_to.new.self c.args.resolved.now.joined (omega arith) (omega arith)
+          read c.extends_unique_shortest.ensures search settled c.loop-k.invariant.unique).0
           c.if-not-extends_unique_shortest.false;
     }
 
-pub returns-clause-reach : goal.returns-clause-reach
-returns-clause-reach g c =
-    let M = g.M.MapRead.map c.args.resolved.now.map.now in
-    let ls = c.args.resolved.now.lines.now in
-    reach_far M ls c.args.i c.args.far c.args.resolved.now.joined c.requires.far
-    (λ h. let end : c.loop-k.k ≡ min c.args.far (length ls - 1) = omega arith in
-    subst (UniqueTo M ls c.args.i) end c.loop-k.invariant.unique)
-
-pub returns-clause-last : goal.returns-clause-last
-returns-clause-last g c =
+pub returns : goal.returns
+returns g c =
     let M = g.M.MapRead.map c.args.resolved.now.map.now in
     let ls = c.args.resolved.now.lines.now in
     let end : c.loop-k.k ≡ c.max-end.result = omega arith in
-    last_far M ls c.args.i c.args.far c.max-end.result c.args.resolved.now.joined c.requires.far c.requires.some
-    (omega arith) (subst (UniqueTo M ls c.args.i) end c.loop-k.invariant.unique)
-
-pub returns-clause-no_farther : goal.returns-clause-no_farther
-returns-clause-no_farther g c =
-    let M = g.M.MapRead.map c.args.resolved.now.map.now in
-    let ls = c.args.resolved.now.lines.now in
-    let end : c.loop-k.k ≡ c.max-end.result = omega arith in
-    subst (λ (n : ℕ). limit_of c.loop-k.search ≡ dm_of M (stretch ls (c.args.i + 1) n)) end c.loop-k.invariant.settled
+    let unique = subst (UniqueTo M ls c.args.i) end c.loop-k.invariant.unique in
+    record {
+      reach = reach_far M ls c.args.i c.args.far c.args.resolved.now.joined c.requires.far
+          (λ h. let least : c.loop-k.k ≡ min c.args.far (length ls - 1) = omega arith in
+          subst (UniqueTo M ls c.args.i) least c.loop-k.invariant.unique);
+      last = last_far M ls c.args.i c.args.far c.max-end.result c.args.resolved.now.joined c.requires.far
+          c.requires.some (omega arith) unique;
+      search = c.loop-k.invariant.search;
+      no_farther = subst (λ (n : ℕ). limit_of c.loop-k.search ≡ dm_of M (stretch ls (c.args.i + 1) n)) end
+          c.loop-k.invariant.settled;
+    }
