@@ -1,7 +1,7 @@
 -- The LRPs of a reference, as they are read.
 use Rattle.std.proofs.Common.{◌≡◌, ◌<◌, ◌≤◌, ◌-◌, ◌+◌, ℕ, zero, suc, ℤ, Option, List, [], ◌∷◌, ◌++◌, length, take, refl}
-use Rattle.std.proofs.Common.{sym, ap, ◌∙◌, subst, arith}
-use Rattle.std.specs.List.{slice_index, AllByRecursion}
+use Rattle.std.proofs.Common.{sym, ap, ◌∙◌, arith}
+use Rattle.std.specs.List.{slice_index}
 use Rattle.std.specs.Prelude.{IsTrue}
 use Rattle.olr_spec.specs.Coordinates.{abs24, relative}
 use Rattle.olr_spec.specs.Map.{Map, IsMap}
@@ -10,15 +10,9 @@ use Rattle.olr_spec.specs.Bearings.{Leg, bearing_back}
 use Rattle.olr_spec.specs.Reference.{Attrs, First, Last, Middle, Reference, attrs, dm_between, offset, last_two}
 use Rattle.olr_spec.specs.Reference.{reference_by, first_point, middle_point, middle_points, last_point, legs, leg_at}
 use Rattle.olr_spec.specs.Reference.{position}
-use Rattle.olr_spec.specs.Bytes.{IsMiddle, IsReference}
-use Rattle.olr_spec.proofs.JoinLemmas.{Linked}
-use Rattle.olr_spec.proofs.FieldLemmas.{first_fits, attrs_fit, middles_fit, last_fits, offset_fits}
 use Rattle.olr_spec.specs.Extension.{AreJoined}
-use Rattle.olr_refs.specs.Along.{AreDistances}
 use Rattle.olr_refs.specs.Fields.{middle_points_of}
-use Rattle.olr_refs.specs.KeptPoints.{AreLinked, distance_at}
-use Rattle.olr_refs.proofs.LegLemmas.{joined_known, position_at, between_is}
-use Rattle.olr_refs.proofs.Trimming.{linked_again, linked_end}
+use Rattle.olr_refs.proofs.LegLemmas.{position_at}
 
 -- the differences between neighbours fit 16 bits
 pub neighbours_fit : (M : Map) → IsMap M → (ls : List ℕ) (i j : ℕ) → AreJoined M ls → Candidate M ls i j →
@@ -85,34 +79,6 @@ last_at : (h i : ℕ) (js : List ℕ) → (last_two h i js).1 ≡ slice_index (i
 last_at h i [] = refl
 last_at h i (j ∷ js) = last_at i j js
 
--- the parts of a reference, by the indices of the LRPs in their list
-pub reference_parts : (gs : List Leg) (pos_left neg_left : ℕ) (ks : List ℕ) → 2 ≤ length ks
-    → ◌≡◌ {A = Reference}
-    (record {
-      first = first_point gs (slice_index ks 0) (slice_index ks 1);
-      middle = middle_points_of gs ks;
-      last = last_point gs (slice_index ks (length ks - 1 - 1)) (slice_index ks (length ks - 1));
-      pos = offset pos_left (dm_between gs (slice_index ks 0) (slice_index ks 1));
-      neg = offset neg_left (dm_between gs (slice_index ks (length ks - 1 - 1)) (slice_index ks (length ks - 1)));
-    })
-    (reference_by gs pos_left neg_left ks)
-reference_parts gs pos_left neg_left [] h = absurd (omega arith)
-reference_parts gs pos_left neg_left (p ∷ []) h = absurd (omega arith)
-reference_parts gs pos_left neg_left (p ∷ q ∷ ks) h =
-    let two : length (p ∷ q ∷ ks) - 1 - 1 ≡ length ks = omega arith in
-    let one : length (p ∷ q ∷ ks) - 1 ≡ suc (length ks) = omega arith in
-    let before : slice_index (p ∷ q ∷ ks) (length (p ∷ q ∷ ks) - 1 - 1) ≡ (last_two p q ks).0 =
-    ap (slice_index (p ∷ q ∷ ks)) two ∙ sym (last_two_at p q ks) in
-    let end : slice_index (p ∷ q ∷ ks) (length (p ∷ q ∷ ks) - 1) ≡ (last_two p q ks).1 =
-    ap (slice_index (p ∷ q ∷ ks)) one ∙ sym (last_at p q ks) in
-    λ k. record {
-      first = first_point gs p q;
-      middle = middle_points gs p q ks;
-      last = last_point gs (before k) (end k);
-      pos = offset pos_left (dm_between gs p q);
-      neg = offset neg_left (dm_between gs (before k) (end k));
-    }
-
 -- the reference whose parts are read, with the offsets by distances
 pub reference_read : (M : Map) (ls ks : List ℕ) (pos_left neg_left : ℕ) (first : First) (middle : List Middle)
     (last : Last) (pos neg : Option ℕ) → 2 ≤ length ks
@@ -122,57 +88,18 @@ pub reference_read : (M : Map) (ls ks : List ℕ) (pos_left neg_left : ℕ) (fir
     neg ≡ offset neg_left (dm_between (legs M ls) (slice_index ks (length ks - 1 - 1)) (slice_index ks (length ks - 1)))
     → ◌≡◌ {A = Reference} (record { first = first; middle = middle; last = last; pos = pos; neg = neg })
     (reference_by (legs M ls) pos_left neg_left ks)
-reference_read M ls ks pos_left neg_left first middle last pos neg two hf hm hl pos_is neg_is =
-    let parts : ◌≡◌ {A = Reference} (record { first = first; middle = middle; last = last; pos = pos; neg = neg })
-    (record {
-      first = first_point (legs M ls) (slice_index ks 0) (slice_index ks 1);
-      middle = middle_points_of (legs M ls) ks;
-      last = last_point (legs M ls) (slice_index ks (length ks - 1 - 1)) (slice_index ks (length ks - 1));
-      pos = offset pos_left (dm_between (legs M ls) (slice_index ks 0) (slice_index ks 1));
-      neg = offset neg_left (dm_between (legs M ls) (slice_index ks (length ks - 1 - 1))
-          (slice_index ks (length ks - 1)));
-    }) = λ k. record { first = hf k; middle = hm k; last = hl k; pos = pos_is k; neg = neg_is k } in
-    parts ∙ reference_parts (legs M ls) pos_left neg_left ks two
-
--- ---- fields that fit their bits
-
-middle_fit : (M : Map) → IsMap M → (ls ks : List ℕ) → AreJoined M ls → 0 < length ls → Linked M ls ks →
-    AllByRecursion IsMiddle (middle_points_of (legs M ls) ks)
-middle_fit M m ls [] w n l = tt
-middle_fit M m ls (h ∷ []) w n l = tt
-middle_fit M m ls (h ∷ i ∷ ks) w n l = middles_fit M m ls (joined_known M ls w) h i ks n l
-
--- if the remainders of the offsets are less than the first leg and less than the last
-pub kept_fit : (M : Map) → IsMap M → (ls ds ks : List ℕ) (pos_left neg_left : ℕ) → AreJoined M ls →
-    AreDistances M ls ds → AreLinked M ls ks → 2 ≤ length ks
-    → distance_at ds ks 0 + pos_left < distance_at ds ks 1 →
-    distance_at ds ks (length ks - 2) + neg_left < distance_at ds ks (length ks - 1) →
-    IsReference (reference_by (legs M ls) pos_left neg_left ks)
-kept_fit M m ls ds ks pos_left neg_left w d linked two p q =
-    let a = linked 0 (omega arith) in
-    let b = linked_end M ls ks linked two in
-    let after_a = a.after in
-    let upto_a = a.upto in
-    let after_b = b.after in
-    let long : 0 < length ls = omega arith in
-    let known = joined_known M ls w in
-    let first = first_fits M m ls known (slice_index ks 0) in
-    let pos_stretch = between_is M ls ds (slice_index ks 0) (slice_index ks 1) d (omega arith) a.upto in
-    let neg_stretch =
-    between_is M ls ds (slice_index ks (length ks - 1 - 1)) (slice_index ks (length ks - 1)) d (omega arith) b.upto in
-    let same : length ks - 1 - 1 ≡ length ks - 2 = omega arith in
-    let before = ap (distance_at ds ks) same in
-    subst IsReference (reference_parts (legs M ls) pos_left neg_left ks two) (record {
-      first =
-          record {
-            lon = first.0;
-            lat = first.1;
-            attrs =
-                attrs_fit M m ls known (slice_index ks 0) (slice_index ks 1) a;
-          };
-      middle = middle_fit M m ls ks w long (linked_again M ls ks linked);
-      last = last_fits M m ls known (slice_index ks (length ks - 1 - 1)) (slice_index ks (length ks - 1)) long b;
-      pos = offset_fits pos_left (dm_between (legs M ls) (slice_index ks 0) (slice_index ks 1)) (omega arith);
-      neg = offset_fits neg_left
-          (dm_between (legs M ls) (slice_index ks (length ks - 1 - 1)) (slice_index ks (length ks - 1))) (omega arith);
-    })
+reference_read M ls [] pos_left neg_left first middle last pos neg two hf hm hl hp hn = absurd (omega arith)
+reference_read M ls (p ∷ []) pos_left neg_left first middle last pos neg two hf hm hl hp hn = absurd (omega arith)
+reference_read M ls (p ∷ q ∷ ks) pos_left neg_left first middle last pos neg two hf hm hl hp hn =
+    let gs = legs M ls in
+    let less : length (p ∷ q ∷ ks) - 1 - 1 ≡ length ks = omega arith in
+    let one : length (p ∷ q ∷ ks) - 1 ≡ suc (length ks) = omega arith in
+    let before : slice_index (p ∷ q ∷ ks) (length (p ∷ q ∷ ks) - 1 - 1) ≡ (last_two p q ks).0 =
+    ap (slice_index (p ∷ q ∷ ks)) less ∙ sym (last_two_at p q ks) in
+    let end : slice_index (p ∷ q ∷ ks) (length (p ∷ q ∷ ks) - 1) ≡ (last_two p q ks).1 =
+    ap (slice_index (p ∷ q ∷ ks)) one ∙ sym (last_at p q ks) in
+    let last_is : last ≡ last_point gs (last_two p q ks).0 (last_two p q ks).1 =
+    hl ∙ (λ k. last_point gs (before k) (end k)) in
+    let neg_is : neg ≡ offset neg_left (dm_between gs (last_two p q ks).0 (last_two p q ks).1) =
+    hn ∙ (λ k. offset neg_left (dm_between gs (before k) (end k))) in
+    λ k. record { first = hf k; middle = hm k; last = last_is k; pos = hp k; neg = neg_is k }

@@ -10,7 +10,7 @@ use Rattle.olr_spec.specs.Routes.{dm_of}
 use Rattle.olr_spec.specs.Points.{Candidate, last_position}
 use Rattle.olr_spec.specs.Reference.{leg, legs, dm_along, from_front, to_back, last_where, first_where, first_kept}
 use Rattle.olr_spec.specs.Reference.{last_kept, kept_points, reference, reference_by}
-use Rattle.olr_spec.proofs.JoinLemmas.{Linked, follow_linked, between}
+use Rattle.olr_spec.proofs.JoinLemmas.{Linked, follow_linked, between, kept_linked}
 use Rattle.olr_spec.proofs.KeptLemmas.{dm_along-legs, whole}
 use Rattle.olr_refs.specs.Along.{AreDistances}
 use Rattle.olr_refs.specs.KeptPoints.{later, AreAlong, ArePoints, AreLinked, AreTrimmed, distance_at, whole_distance}
@@ -31,16 +31,6 @@ linked_at M ls (p ∷ q ∷ ps) l (suc k) h =
 pub points_linked : (M : Map) (ls ps : List ℕ) → ArePoints M ls ps → AreLinked M ls ps
 points_linked M ls ps a =
     subst (AreLinked M ls) (sym a.from_start) (linked_at M ls (0 ∷ later ps) (follow_linked M ls 0 (later ps) a.follow))
-
-pub linked_again : (M : Map) (ls ps : List ℕ) → AreLinked M ls ps → Linked M ls ps
-linked_again M ls [] l = tt
-linked_again M ls (p ∷ []) l = tt
-linked_again M ls (p ∷ q ∷ ps) l = (
-  l 0 (omega arith),
-  linked_again M ls (q ∷ ps) (λ k h. let on : suc k + 1 ≡ suc (k + 1) = omega arith in
-      subst (λ (n : ℕ). Candidate M ls (slice_index (q ∷ ps) k) (slice_index (p ∷ q ∷ ps) n)) on
-      (l (suc k) (omega arith))),
-)
 
 -- the last two
 pub linked_end : (M : Map) (ls ps : List ℕ) → AreLinked M ls ps → 2 ≤ length ps →
@@ -84,6 +74,11 @@ points_end M ls ps a =
 pub points_some : (M : Map) (ls ps : List ℕ) → ArePoints M ls ps → 0 < length ps
 points_some M ls ps a = let long : length ps ≡ length (later ps) + 1 =
     ap length a.from_start ∙ omega arith in omega arith
+
+-- lines with a length are some
+pub some_lines : (M : Map) (ls : List ℕ) (n : ℕ) → n < dm_of M ls → 0 < length ls
+some_lines M [] n h = absurd (omega arith)
+some_lines M (x ∷ ls) n h = omega arith
 
 -- ---- lists of which a middle part passes a test
 
@@ -305,12 +300,9 @@ trimmed M ls ds ps positive negative ks pos_left neg_left d p r less =
     let neg_is : neg_left ≡ negative - to_back (legs M ls) (last_kept (legs M ls) negative (later ps)) = omega arith in
     record {
       two = omega arith;
-      linked = λ k h.
-          let step = points_linked M ls ps p (a + k) (omega arith) in
-          let here = at k (a + k) refl (omega arith) in
-          let there = at (k + 1) (a + k + 1) (omega arith) (omega arith) in
-          subst (λ (n : ℕ). Candidate M ls n (slice_index ks (k + 1))) (sym here)
-          (subst (Candidate M ls (slice_index ps (a + k))) (sym there) step);
+      linked = subst (AreLinked M ls) (sym kept_is) (linked_at M ls _
+          (kept_linked M ls (first_kept (legs M ls) positive (later ps)) (last_kept (legs M ls) negative (later ps))
+          (0 ∷ later ps) (follow_linked M ls 0 (later ps) p.follow)));
       pos_within = omega arith;
       neg_within = omega arith;
       value = λ i. reference_by (legs M ls) (pos_is i) (neg_is i) (kept_is i);

@@ -2,6 +2,7 @@
 ghost use Rattle.std.specs.Prelude.{◌≡◌, ◌+◌, ◌-◌, ◌<◌, ◌≤◌, IfOk, length};
 ghost use Rattle.olr_spec.specs.Routes.{dm_of};
 ghost use Rattle.olr_spec.specs.Reference.{legs, reference, reference_by};
+ghost use Rattle.olr_spec.specs.Bytes.{IsReference};
 ghost use Rattle.olr_refs.specs.Along.{AreDistances};
 ghost use Rattle.olr_spec.specs.Extension.{AreJoined};
 ghost use Rattle.olr_refs.specs.KeptPoints.{later, AreLinked, ArePoints, distance_at};
@@ -28,6 +29,8 @@ fn reference_by<M: MapRead>(
         + pos_left < distance_at resolved.now.distances.now kept.now 1 }
     requires neg { distance_at resolved.now.distances.now kept.now (length kept.now - 2)
         + neg_left < distance_at resolved.now.distances.now kept.now (length kept.now - 1) }
+    requires fits { IsReference (reference_by (legs (M.map resolved.now.map.now) resolved.now.lines.now) pos_left neg_left
+        kept.now) }
     ensures { IfOk result (λ r. r ≡ reference_by (legs (M.map resolved.now.map.now) resolved.now.lines.now) pos_left
         neg_left kept.now) }
 {

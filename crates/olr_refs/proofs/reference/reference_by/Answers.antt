@@ -5,7 +5,7 @@ use Rattle.olr_spec.specs.Bytes.{IsReference}
 use Rattle.olr_refs.specs.KeptPoints.{distance_at}
 use Rattle.olr_refs.proofs.Stretches.{dm_stretch}
 use Rattle.olr_refs.proofs.Trimming.{linked_end}
-use Rattle.olr_refs.proofs.PointLemmas.{reference_read, kept_fit}
+use Rattle.olr_refs.proofs.PointLemmas.{reference_read}
 use Rattle.olr_refs.proofs.reference.reference_by.Goals as goal
 
 pub offset-requires-clause-within : goal.offset-requires-clause-within
@@ -59,13 +59,4 @@ returns g c =
     (rw c.between-2.ensures.legs at c.offset-2.ensures)
 
 pub invariant_of-result : goal.invariant_of-result
-invariant_of-result g c =
-    let M = g.M.MapRead.map c.args.resolved.now.map.now in
-    subst IsReference
-    (sym (reference_read M c.args.resolved.now.lines.now c.args.kept.now c.args.pos_left c.args.neg_left _ _ _ _ _
-    c.requires.two
-    c.first_point.ensures c.in_ok-middle.ensures c.last_point.ensures (rw c.between.ensures.legs at c.offset.ensures)
-    (rw c.between-2.ensures.legs at c.offset-2.ensures)))
-    (kept_fit M (g.met.M.MapRead.sound c.args.resolved.now.map.now) c.args.resolved.now.lines.now
-    c.args.resolved.now.distances.now c.args.kept.now c.args.pos_left c.args.neg_left c.args.resolved.now.joined
-    c.args.resolved.now.measured c.requires.linked c.requires.two c.requires.pos c.requires.neg)
+invariant_of-result g c = subst IsReference (sym (returns g c)) c.requires.fits
