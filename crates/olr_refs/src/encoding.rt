@@ -19,9 +19,10 @@ use crate::answer::{Answer, Refusal};
 use crate::chosen::{Choice, Queries, points};
 use crate::coverage_query::{CoverageQuery, KnownQuery};
 use crate::extension::{Extended, extend};
-use crate::faults::{Own, own_lines};
+use crate::faults::own_lines;
 use crate::path::Path;
 use crate::reference::reference_of;
+use crate::resolved::ResolvedLine;
 use crate::reuse::Reuse;
 use olr_map::{Footprint, MapRead};
 use olr_search::{Dijkstra, Work};
@@ -148,7 +149,7 @@ fn encode_whole<M: MapRead>(
     alloc: Global,
     map: &M,
     path: &Path,
-    own: &Own,
+    own: &[ResolvedLine],
     known: &[KnownQuery],
     search: &mut Dijkstra,
     seen: &mut Option<Footprint>,
@@ -156,7 +157,7 @@ fn encode_whole<M: MapRead>(
 ) -> Result<Encoding, AllocError>
     requires path { IsTrue (is_path path.now.lines) }
     requires sound { path_fault (M.map map.now) path.now ≡ None }
-    requires own { own.now.records.items ≡ records_of (M.map map.now) path.now.lines }
+    requires own { own.now ≡ records_of (M.map map.now) path.now.lines }
     requires known { AreKnown (M.map map.now) path.now.lines known.now }
     ensures answer { IfOk result (λ e. EncodingRecord (M.map map.now) path.now (answer_of e.answer)) }
     ensures joins { IfOk result (λ e. JoinsOf (M.map map.now) path.now e.answer) }
@@ -166,7 +167,7 @@ fn encode_whole<M: MapRead>(
         work.new seen.old seen.new) }
 {
     let mut traversed = Footprint::new(alloc);
-    let extended = extend(alloc, map, path, &own.records, &mut traversed)?;
+    let extended = extend(alloc, map, path, own, &mut traversed)?;
     let reuse = Reuse {
         known,
         lead: extended.lead,

@@ -4,7 +4,6 @@ ghost use Rattle.olr_spec.specs.Map.{Map};
 ghost use Rattle.olr_spec.specs.Extension.{is_path};
 ghost use Rattle.olr_spec.specs.Encoding.{first_break, path_fault};
 ghost use Rattle.olr_refs.specs.Answers.{refusal_of};
-ghost use Rattle.olr_refs.specs.Along.{AreDistances};
 ghost use Rattle.olr_refs.specs.ResolvedLines.{records_of};
 
 use crate::along::distances;
@@ -14,25 +13,15 @@ use crate::resolved::{ResolvedLine, resolve};
 use olr_map::MapRead;
 use std::alloc::{AllocError, Global};
 
-/// A path's own lines as a map has them.
-#[derive(Drop)]
-pub struct Own {
-    /// The lines, in order.
-    pub records: Vec<ResolvedLine>,
-    /// The distance of each position from the start, in decimetres.
-    pub distances: Vec<u128>,
-}
-
 /// A path's own lines as the map has them, or the first of reasons 1 to 3 that holds for the path.
 pub fn own_lines<M: MapRead>(
     alloc: Global,
     map: &M,
     path: &Path,
-) -> Result<Result<Own, Refusal>, AllocError>
+) -> Result<Result<Vec<ResolvedLine>, Refusal>, AllocError>
     ensures own { IfOk result (λ r. MatchResult r
         (λ own. (path_fault (M.map map.now) path.now ≡ None)
-        × (own.records.items ≡ records_of (M.map map.now) path.now.lines)
-        × AreDistances (M.map map.now) path.now.lines own.distances.items)
+        × (own.items ≡ records_of (M.map map.now) path.now.lines))
         (λ refusal. path_fault (M.map map.now) path.now ≡ Some (refusal_of refusal))) }
     ensures path { IsTrue (is_path path.now.lines) }
 {
@@ -47,7 +36,7 @@ pub fn own_lines<M: MapRead>(
     if distances[records.len()] <= u128::from(path.pos()) + u128::from(path.neg()) {
         return Ok(Err(Refusal::OffsetTooLong));
     }
-    Ok(Ok(Own { records, distances }))
+    Ok(Ok(records))
 }
 
 /// The index of the first line that does not end where the next one begins.
