@@ -19,7 +19,7 @@ use olr_search::{Dijkstra, Direction, Work};
 use std::alloc::{AllocError, Global};
 
 /// The LRPs of an extended path, or why there are none.
-#[derive(Drop, Debug)]
+#[derive(Drop)]
 pub enum Choice {
     /// The LRPs, from position 0 to the end, by position.
     Positions(Vec<usize>),
@@ -28,7 +28,7 @@ pub enum Choice {
 }
 
 /// Coverage queries of a path.
-#[derive(Drop, Debug)]
+#[derive(Drop)]
 pub struct Queries {
     /// One coverage query from each LRP whose line is followed by two lines or more.
     pub all: Vec<CoverageQuery>,
@@ -37,7 +37,7 @@ pub struct Queries {
 }
 
 /// The LRPs of an extended path, and the coverage queries by which they were found.
-#[derive(Drop, Debug)]
+#[derive(Drop)]
 pub struct Chosen {
     /// The LRPs, or why there are none.
     pub choice: Choice,

@@ -30,7 +30,7 @@ use std::alloc::{AllocError, Global};
 
 /// The answer of a path on a map, and what it depends on. An edit that affects none of that leaves the answer
 /// unchanged.
-#[derive(Drop, Debug)]
+#[derive(Drop)]
 pub struct Encoding {
     /// The answer.
     pub answer: Answer,

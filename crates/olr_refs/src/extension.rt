@@ -17,7 +17,7 @@ use std::marker::Model;
 
 /// A path whose ends are extended to valid nodes where possible: with a run of degree-two nodes before it and one after
 /// it, and with offsets that are raised by the lengths of these runs.
-#[derive(Drop, Debug)]
+#[derive(Drop)]
 pub struct Extended {
     /// The lines, in the order of travel.
     pub lines: Vec<LineId>,
