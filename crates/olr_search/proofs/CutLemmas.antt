@@ -1,57 +1,63 @@
--- How a search that bounds cut keeps what it says.
-use Rattle.std.proofs.Common.{◌≡◌, ℕ, zero, suc, ◌+◌, ◌≤◌, ◌⊎◌, List, Option, Contains, IsTrue, length, refl, sym, ap}
-use Rattle.std.proofs.Common.{subst, inl, inr, arith, ◌∙◌, ◌<◌}
+-- How a search goes on where it may label only some nodes, and what it says in the end.
+use Rattle.std.proofs.Common.{◌≡◌, ℕ, zero, suc, ◌+◌, ◌≤◌, ◌<◌, ◌⊎◌, List, Contains, IsTrue, length, ap, subst, inl, inr}
+use Rattle.std.proofs.Common.{arith, ◌∙◌, refl, sym}
+use Rattle.std.specs.Prelude.{⊤, max}
+use Rattle.std.proofs.lemmas.Bool.{cases_lt}
 use Rattle.olr_spec.specs.Map.{Map, has_node, has_line, dm}
 use Rattle.olr_spec.specs.Routes.{dm_of}
-use Rattle.olr_search.specs.Bounds.{IsUnder, AreBounds, CutAt}
+use Rattle.olr_search.specs.Bounds.{CutAt, IsCut}
 use Rattle.olr_search.specs.Distances.{Way, Leads, near_end, far_end}
-use Rattle.olr_search.specs.Notes.{label_in}
-use Rattle.olr_search.specs.Frontiers.{label_of, IsQueued, Moves}
-use Rattle.olr_search.specs.Searches.{IsLabelled, IsUnderWay}
+use Rattle.olr_search.specs.Frontiers.{label_of, frontier_len, IsQueued, Moves}
+use Rattle.olr_search.specs.Searches.{IsLabelled, IsUnderWay, IsSearch}
 use Rattle.olr_search.specs.declared.frontier.TheConstants.{GREATEST_LIMIT}
 use Rattle.olr_search.specs.declared.frontier.Frontier.{Frontier}
 use Rattle.olr_search.specs.declared.distances.Direction.{Direction}
-use Rattle.olr_search.proofs.SearchLemmas.{Popped, front_skip, front_more, labelled_same}
+use Rattle.olr_search.specs.declared.distances.Dijkstra.{Dijkstra}
+use Rattle.olr_search.proofs.SearchLemmas.{Popped, labelled_same}
 use Rattle.olr_search.proofs.WayLemmas.{way_ends, near_node}
 use Rattle.olr_search.proofs.WayLemmas.WayEnds.{stays, continues}
 
-module _ (M : Map) (slot : ℕ → ℕ) (direction : Direction) (from : List (ℕ × ℕ)) (B : ℕ → Option ℕ) where
-  pub record IsCut (f : Frontier) : Type 0 where
-    pub labelled : IsLabelled M slot direction from f
-    pub begun : (s b : ℕ) → Contains from (s, b) → IsTrue (has_node M s) → label_of f (slot s) ≤ b
-    pub front : (v : ℕ) → IsTrue (has_node M v) → label_of f (slot v) ≤ GREATEST_LIMIT →
-        CutAt M slot direction B f v (label_of f (slot v)) ⊎ IsQueued f (label_of f (slot v)) (slot v)
-
-  cut_better : (f g : Frontier) (v d : ℕ) → ((p : ℕ) → label_of g p ≤ label_of f p) → CutAt M slot direction B f v d →
-      CutAt M slot direction B g v d
-  cut_better f g v d better cut x known near under =
-      let was = cut x known near under in
+module _ (M : Map) (slot : ℕ → ℕ) (direction : Direction) (from : List (ℕ × ℕ)) (P : ℕ → ℕ → Type 0) where
+  cut_better : (f g : Frontier) (v d : ℕ) → ((p : ℕ) → label_of g p ≤ label_of f p) → CutAt M slot direction P f v d →
+      CutAt M slot direction P g v d
+  cut_better f g v d better cut x known near lets =
+      let was = cut x known near lets in
       let le = better (slot (far_end M direction x)) in
       omega arith
 
-  pub cut_begun : (f : Frontier) → IsUnderWay M slot direction from f → IsCut f
+  pub cut_begun : (f : Frontier) → IsUnderWay M slot direction from f → IsCut M slot direction from P f
   cut_begun f u = record {
     labelled = u.labelled;
     begun = u.begun;
     front = λ v known small. elim (u.front v known small) [
-      | inl closed ↦ inl (λ x line near under. closed x line near)
+      | inl closed ↦ inl (λ x line near lets. closed x line near)
       | inr q ↦ inr q
     ];
   }
 
-  pub cut_skip : (f g : Frontier) (d p : ℕ) → Popped M slot direction from f g d p → ¬ (label_of f p ≡ d) → IsCut f →
-      IsCut g
-  cut_skip f g d p k ne u = record {
-    labelled = labelled_same M slot direction from f g k.same k.len k.reached u.labelled;
-    begun = λ s b listed there. let was = u.begun s b listed there in let is = k.same (slot s) in omega arith;
-    front = front_skip M slot direction from (CutAt M slot direction B) cut_better f g d p k.same k.others ne u.front;
+  -- where the labels are the same, and each is still queued if it was
+  pub cut_same : (f g : Frontier) → ((p : ℕ) → label_of g p ≡ label_of f p) → frontier_len g ≡ frontier_len f →
+      g.reached.items ≡ f.reached.items → ((q : ℕ) → IsQueued f (label_of f q) q → IsQueued g (label_of f q) q) →
+      IsCut M slot direction from P f → IsCut M slot direction from P g
+  cut_same f g same len reached kept u = record {
+    labelled = labelled_same M slot direction from f g same len reached u.labelled;
+    begun = λ s b listed there. let was = u.begun s b listed there in let is = same (slot s) in omega arith;
+    front = λ v known small.
+        let is = same (slot v) in
+        subst (λ (e : ℕ). CutAt M slot direction P g v e ⊎ IsQueued g e (slot v)) (sym is)
+        (elim (u.front v known (omega arith)) [
+          | inl cut ↦ inl (cut_better f g v (label_of f (slot v)) (λ q. let s = same q in omega arith) cut)
+          | inr q ↦ inr (kept (slot v) q)
+        ]);
   }
 
+  -- the slot p is removed from the queue at its label d, and the lines from there are followed, up to h
   pub cut_more : (f g h : Frontier) (d p : ℕ) → Popped M slot direction from f g d p → label_of f p ≡ d
       → d ≤ GREATEST_LIMIT → Moves g h
       → ((v : ℕ) (ways : List (ℕ × ℕ)) → IsTrue (has_node M v) → slot v ≡ p → Leads M direction ways v d →
       IsLabelled M slot direction ways g → IsLabelled M slot direction ways h)
-      → ((v : ℕ) → IsTrue (has_node M v) → slot v ≡ p → CutAt M slot direction B h v d) → IsCut f → IsCut h
+      → ((v : ℕ) → IsTrue (has_node M v) → slot v ≡ p → CutAt M slot direction P h v d) →
+      IsCut M slot direction from P f → IsCut M slot direction from P h
   cut_more f g h d p k at small moves labelled closed u =
       let own = u.labelled.nodes p (omega arith) in
       let is : label_of f (slot own.0) ≡ d = ap (label_of f) own.2 ∙ at in
@@ -65,67 +71,100 @@ module _ (M : Map) (slot : ℕ → ℕ) (direction : Direction) (from : List (�
             let same = k.same (slot s) in
             let le = moves.better (slot s) in
             omega arith;
-        front =
-            front_more M slot direction from (CutAt M slot direction B) cut_better f g d p k.same k.others h moves
-            closed u.front;
+        front = λ v known low. elim (moves.fresh (slot v)) [
+          | inr q ↦ inr q
+          | inl kept ↦
+              let same = k.same (slot v) in
+              let is : label_of h (slot v) ≡ label_of f (slot v) = omega arith in
+              subst (λ (e : ℕ). CutAt M slot direction P h v e ⊎ IsQueued h e (slot v)) (sym is)
+              (elim (u.front v known (omega arith)) [
+                | inl c ↦ inl (cut_better f h v (label_of f (slot v))
+                    (λ q. let s = k.same q in let b = moves.better q in omega arith) c)
+                | inr q ↦ elim (k.others (label_of f (slot v)) (slot v) q) [
+                  | inl still ↦ inr (moves.kept (label_of f (slot v)) (slot v) still)
+                  | inr e ↦ inl (subst (CutAt M slot direction P h v) (sym e.0) (closed v known e.1))
+                ]
+              ])
+        ];
       }
 
-  -- nothing is left that waits
-  module _ (f g : Frontier) (u : IsCut f) (table : g.table.items ≡ f.table.items)
-      (kept : (d p : ℕ) → IsQueued f d p → IsQueued g d p)
-      (far : (d p : ℕ) → IsQueued g d p → GREATEST_LIMIT < d) (bounds : AreBounds M direction B) where
-    same : (p : ℕ) → label_of g p ≡ label_of f p
-    same p = ap (λ (t : List ℕ). label_in t p) table
+  -- nothing is left in the queue at a length that Q allows
+  module _ (f : Frontier) (u : IsCut M slot direction from P f) (Q : ℕ → ℕ → Type 0)
+      (lets : (v d : ℕ) → Q v d → P v d × (d ≤ GREATEST_LIMIT) × ((p : ℕ) → ¬ IsQueued f d p))
+      (less : (v d e : ℕ) → Q v d → e ≤ d → Q v e)
+      (before : (x d : ℕ) → IsTrue (has_line M x) → Q (far_end M direction x) (d + dm M x) → Q (near_end M direction x) d)
+    where
+      -- by one more line
+      cut_on : (v e x : ℕ) → IsTrue (has_line M x) → far_end M direction x ≡ v → Q v (e + dm M x)
+          → label_of f (slot (near_end M direction x)) ≤ e → label_of f (slot v) ≤ e + dm M x
+      cut_on v e x known to short low =
+          let w = near_end M direction x in
+          let there : Q (far_end M direction x) (label_of f (slot w) + dm M x) =
+          subst (λ (n : ℕ). Q n (label_of f (slot w) + dm M x)) (sym to) (less v _ _ short (omega arith)) in
+          let here = lets w (label_of f (slot w)) (before x (label_of f (slot w)) known there) in
+          let near = here.1 in
+          elim (u.front w (near_node M u.labelled.sound direction x known) near) [
+            | inl cut ↦
+                let le = cut x known refl (lets (far_end M direction x) _ there).0 in
+                subst (λ (n : ℕ). label_of f (slot n) ≤ e + dm M x) to (omega arith)
+            | inr q ↦ absurd (here.2 (slot w) q)
+          ]
 
-    -- by one line more
-    cut_on : (d v e : ℕ) (x : ℕ) → IsTrue (has_line M x) → far_end M direction x ≡ v → e + dm M x ≡ d → IsUnder B v d
-        → label_of f (slot (near_end M direction x)) ≤ e → label_of f (slot v) ≤ d
-    cut_on d v e x known to long under low =
-        let w = near_end M direction x in
-        let low_bound = under.low in
-        elim (u.front w (near_node M u.labelled.sound direction x known) (omega arith)) [
-          | inl cut ↦
-              let there : IsUnder B (far_end M direction x) (label_of f (slot w) + dm M x) = record {
-                bound = under.bound;
-                at = ap B to ∙ under.at;
-                low = omega arith;
-              } in
-              let le = cut x known refl there in
-              subst (λ (n : ℕ). label_of f (slot n) ≤ d) to (omega arith)
-          | inr q ↦ let lt = far (label_of f (slot w)) (slot w) (kept (label_of f (slot w)) (slot w) q) in
-              absurd (omega arith)
-        ]
+      cut_by : (n s b v : ℕ) (lines : List ℕ) → length lines ≤ n → Contains from (s, b) → IsTrue (has_node M s) →
+          Way M direction s v lines → Q v (b + dm_of M lines) → label_of f (slot v) ≤ b + dm_of M lines
+      cut_by zero s b v lines size listed there way short = elim (way_ends M direction s v lines way) [
+        | stays e none ↦ let le =
+            u.begun s b listed there in subst (λ (w : ℕ). label_of f (slot w) ≤ b + dm_of M lines) e (omega arith)
+        | continues k ↦ let more = k.size in absurd (omega arith)
+      ]
+      cut_by (suc n) s b v lines size listed there way short = elim (way_ends M direction s v lines way) [
+        | stays e none ↦ let le =
+            u.begun s b listed there in subst (λ (w : ℕ). label_of f (slot w) ≤ b + dm_of M lines) e (omega arith)
+        | continues k ↦
+            let more = k.size in
+            let long = k.long in
+            let parts : b + dm_of M lines ≡ b + dm_of M k.front + dm M k.line = omega arith in
+            let last : Q v (b + dm_of M k.front + dm M k.line) = subst (Q v) parts short in
+            let low =
+            cut_by n s b (near_end M direction k.line) k.front (omega arith) listed there k.way
+            (before k.line (b + dm_of M k.front) k.known
+            (subst (λ (w : ℕ). Q w (b + dm_of M k.front + dm M k.line)) (sym k.to) last)) in
+            subst (λ (e : ℕ). label_of f (slot v) ≤ e) (sym parts)
+            (cut_on v (b + dm_of M k.front) k.line k.known k.to last low)
+      ]
 
-    cut_by : (n s b v : ℕ) (lines : List ℕ) → length lines ≤ n → Contains from (s, b) → IsTrue (has_node M s) →
-        Way M direction s v lines → IsUnder B v (b + dm_of M lines) → label_of f (slot v) ≤ b + dm_of M lines
-    cut_by zero s b v lines size listed there way under = elim (way_ends M direction s v lines way) [
-      | stays e none ↦ let le =
-          u.begun s b listed there in subst (λ (w : ℕ). label_of f (slot w) ≤ b + dm_of M lines) e (omega arith)
-      | continues k ↦ let more = k.size in absurd (omega arith)
-    ]
-    cut_by (suc n) s b v lines size listed there way under = elim (way_ends M direction s v lines way) [
-      | stays e none ↦ let le =
-          u.begun s b listed there in subst (λ (w : ℕ). label_of f (slot w) ≤ b + dm_of M lines) e (omega arith)
-      | continues k ↦
-          let more = k.size in
-          let long = k.long in
-          let low = under.low in
-          let c = bounds k.line under.bound k.known (ap B k.to ∙ under.at) (omega arith) in
-          let less = c.2 in
-          let before : IsUnder B (near_end M direction k.line) (b + dm_of M k.front) = record {
-            bound = c.0;
-            at = c.1;
-            low = omega arith;
-          } in
-          cut_on (b + dm_of M lines) v (b + dm_of M k.front) k.line k.known k.to (omega arith) under
-          (cut_by n s b (near_end M direction k.line) k.front (omega arith) listed there k.way before)
-    ]
+      pub cut_settled : (v d : ℕ) → Q v d → Leads M direction from v d → label_of f (slot v) ≤ d
+      cut_settled v d short l =
+          let low =
+          cut_by (length l.lines) l.source l.begun v l.lines (omega arith) l.listed l.there l.way
+          (subst (Q v) (sym l.long) short) in
+          let long = l.long in
+          omega arith
 
-    pub cut_settled : (v d : ℕ) → IsUnder B v d → Leads M direction from v d → label_of g (slot v) ≤ d
-    cut_settled v d under l =
-        let is = same (slot v) in
-        let low =
-        cut_by (length l.lines) l.source l.begun v l.lines (omega arith) l.listed l.there l.way
-        (subst (λ (e : ℕ). IsUnder B v e) (sym l.long) under) in
-        let long = l.long in
-        omega arith
+-- the search s, in which every node may be labelled, is continued to a limit, up to the search t
+pub settled_on_to : (M : Map) (slot : ℕ → ℕ) (direction : Direction) (from : List (ℕ × ℕ)) (s t : Dijkstra) (limit : ℕ) →
+    IsSearch M slot direction from s → t.direction ≡ s.direction → IsCut M slot direction from (λ _ _. ⊤) t.frontier →
+    limit ≤ GREATEST_LIMIT → ((d p : ℕ) → IsQueued t.frontier d p → limit < d)
+    → ((p : ℕ) → label_of t.frontier p ≤ label_of s.frontier p) → t.limit ≡ max s.limit limit →
+    IsSearch M slot direction from t
+settled_on_to M slot direction from s t limit h way u small far better is =
+    let was = h.small in
+    record {
+      way = way ∙ h.way;
+      under_way = record {
+        labelled = u.labelled;
+        begun = u.begun;
+        front = λ v known low. elim (u.front v known low) [
+          | inl cut ↦ inl (λ x line near. cut x line near tt)
+          | inr q ↦ inr q
+        ];
+      };
+      small = omega arith;
+      settled = λ v d known le l. elim (cases_lt limit d) [
+        | inl lt ↦ let low = h.settled v d known (omega arith) l in let less = better (slot v) in omega arith
+        | inr near ↦
+            cut_settled M slot direction from (λ _ _. ⊤) t.frontier u (λ w e. e ≤ limit)
+            (λ w e h. (tt, omega arith, λ p q. let lt = far e p q in omega arith)) (λ w e k h le. omega arith)
+            (λ x e known h. omega arith) v d near l
+      ];
+    }

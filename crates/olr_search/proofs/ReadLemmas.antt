@@ -1,37 +1,45 @@
--- The lists of the lines that leave and enter a node.
+-- The lists of the lines that are entered at a node.
 use Rattle.std.proofs.Common.{◌≡◌, ℕ, ◌<◌, List, Option, true, is_some, IsTrue, length, get_or, sym, ap, ◌∙◌, subst}
 use Rattle.std.specs.Prelude.{unwrap_or}
 use Rattle.std.specs.FinMap.{get}
-use Rattle.olr_spec.specs.Map.{Map, Line, no_line, has_line, start, end, lines_in, lines_out, has}
+use Rattle.olr_spec.specs.Map.{Map, Line, no_line, has_line, end, lines_in, has}
 use Rattle.olr_spec.proofs.ListLemmas.{at_index, has_read}
 use Rattle.olr_spec.proofs.OrderLemmas.{exactly_in, exactly_out}
 use Rattle.olr_spec.proofs.OptionLemmas.{some_of}
+use Rattle.olr_search.specs.Distances.{near_end, lines_at}
+use Rattle.olr_search.specs.declared.distances.Direction.{Direction}
+use Rattle.olr_search.specs.declared.distances.Direction.TheVariants.{Along, Against}
 
--- a line in the list leaves the node
-pub leaves : (M : Map) (v i x : ℕ) (xs : List ℕ) → xs ≡ lines_out M v → i < length xs → x ≡ get_or xs i x →
-    IsTrue (has_line M x) × (start M x ≡ v)
-leaves M v i x xs e lt is =
-    let r = (exactly_out M v x).0 (subst (λ (zs : List ℕ). has zs x ≡ true) e (has_read xs i x lt is)) in
+listed : (M : Map) (d : Direction) (v x : ℕ) → has (lines_at M d v) x ≡ true → IsTrue (has_line M x) × (near_end M d x ≡ v)
+listed M Along v x h =
+    let r = (exactly_out M v x).0 h in
     (ap (λ (o : Option Line). is_some o) r.1.0, ap (λ (o : Option Line). (unwrap_or o no_line).from) r.1.0 ∙ r.1.1)
+listed M Against v x h =
+    let r = (exactly_in M v x).0 h in
+    (ap (λ (o : Option Line). is_some o) r.1.0, ap (λ (o : Option Line). (unwrap_or o no_line).to) r.1.0 ∙ r.1.1)
 
--- and each line that leaves it is in the list
-pub leaving : (M : Map) (v x : ℕ) (xs : List ℕ) → xs ≡ lines_out M v → IsTrue (has_line M x) → start M x ≡ v → (i : ℕ)
-    × (i < length xs) × (get_or xs i 0 ≡ x)
-leaving M v x xs e h from =
+lists : (M : Map) (d : Direction) (v x : ℕ) → IsTrue (has_line M x) → near_end M d x ≡ v → has (lines_at M d v) x ≡ true
+lists M Along v x h near =
     let l = some_of (get M.lines x) h in
-    at_index xs x (subst (λ (zs : List ℕ). has zs x ≡ true) (sym e)
-    ((exactly_out M v x).1 (l.0, (l.1, sym (ap (λ (o : Option Line). (unwrap_or o no_line).from) l.1) ∙ from))))
+    (exactly_out M v x).1 (l.0, (l.1, sym (ap (λ (o : Option Line). (unwrap_or o no_line).from) l.1) ∙ near))
+lists M Against v x h near =
+    let l = some_of (get M.lines x) h in
+    (exactly_in M v x).1 (l.0, (l.1, sym (ap (λ (o : Option Line). (unwrap_or o no_line).to) l.1) ∙ near))
 
--- likewise for the lines that enter the node
+-- a line that is read in the list is entered at the node
+pub read_at : (M : Map) (d : Direction) (v : ℕ) (xs : List ℕ) (i x : ℕ) → xs ≡ lines_at M d v → i < length xs →
+    x ≡ get_or xs i x → IsTrue (has_line M x) × (near_end M d x ≡ v)
+read_at M d v xs i x e lt is = listed M d v x (subst (λ (zs : List ℕ). has zs x ≡ true) e (has_read xs i x lt is))
+
+-- and each line that is entered there is in the list
+pub found_at : (M : Map) (d : Direction) (v : ℕ) (xs : List ℕ) (x : ℕ) → xs ≡ lines_at M d v → IsTrue (has_line M x) →
+    near_end M d x ≡ v → (i : ℕ) × (i < length xs) × (get_or xs i 0 ≡ x)
+found_at M d v xs x e h near = at_index xs x (subst (λ (zs : List ℕ). has zs x ≡ true) (sym e) (lists M d v x h near))
+
 pub enters : (M : Map) (v i x : ℕ) (xs : List ℕ) → xs ≡ lines_in M v → i < length xs → x ≡ get_or xs i x →
     IsTrue (has_line M x) × (end M x ≡ v)
-enters M v i x xs e lt is =
-    let r = (exactly_in M v x).0 (subst (λ (zs : List ℕ). has zs x ≡ true) e (has_read xs i x lt is)) in
-    (ap (λ (o : Option Line). is_some o) r.1.0, ap (λ (o : Option Line). (unwrap_or o no_line).to) r.1.0 ∙ r.1.1)
+enters M v i x xs e lt is = read_at M Against v xs i x e lt is
 
 pub entering : (M : Map) (v x : ℕ) (xs : List ℕ) → xs ≡ lines_in M v → IsTrue (has_line M x) → end M x ≡ v → (i : ℕ)
     × (i < length xs) × (get_or xs i 0 ≡ x)
-entering M v x xs e h to =
-    let l = some_of (get M.lines x) h in
-    at_index xs x (subst (λ (zs : List ℕ). has zs x ≡ true) (sym e)
-    ((exactly_in M v x).1 (l.0, (l.1, sym (ap (λ (o : Option Line). (unwrap_or o no_line).to) l.1) ∙ to))))
+entering M v x xs e h to = found_at M Against v xs x e h to

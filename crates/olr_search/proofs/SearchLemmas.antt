@@ -1,7 +1,7 @@
 -- The invariants of a search that can be continued.
-use Rattle.std.proofs.Common.{◌≡◌, ◌==◌, ℕ, zero, suc, ◌+◌, ◌<◌, ◌≤◌, ◌⊎◌, List, [], ◌∷◌, Contains, IsTrue, length}
+use Rattle.std.proofs.Common.{◌≡◌, ◌==◌, ℕ, ◌+◌, ◌<◌, ◌≤◌, ◌⊎◌, List, [], ◌∷◌, Contains, IsTrue, length}
 use Rattle.std.proofs.Common.{get_or, map, refl, sym, ap, ◌∙◌, subst, inl, inr, arith}
-use Rattle.std.specs.Prelude.{max, sum}
+use Rattle.std.specs.Prelude.{sum}
 use Rattle.std.proofs.Math.ListN.{set}
 use Rattle.std.specs.List.{IsDistinct}
 use Rattle.std.proofs.lemmas.Bool.{cases_eq, cases_lt}
@@ -9,14 +9,13 @@ use Rattle.std.proofs.lemmas.List.{get_or-set_same, get_or-set_other}
 use Rattle.std.proofs.lemmas.List.Elements.{Contains-append_cases}
 use Rattle.std.proofs.lemmas.List.Sums.{sum_by-set}
 use Rattle.olr_spec.specs.Map.{Map, IsMap, has_node}
-use Rattle.olr_spec.specs.Routes.{dm_of}
 use Rattle.olr_spec.proofs.RouteLemmas.{positive}
 use Rattle.olr_spec.proofs.ListLemmas.{Contains-one}
-use Rattle.olr_search.specs.Distances.{Way, Leads, IsDistance, near_end, far_end}
+use Rattle.olr_search.specs.Distances.{Leads, IsDistance}
 use Rattle.olr_search.specs.Notes.{label_in, NotesOnce}
 use Rattle.olr_search.specs.Frontiers.{label_of, frontier_len, queued_len, IsQueued, IsEmpty, IsRelaxed, NotedOnce}
 use Rattle.olr_search.specs.Frontiers.{Moves}
-use Rattle.olr_search.specs.Searches.{ClosedAt, CoversSlots, IsLabelledAt, IsLabelled, IsUnderWay, IsSearch, LiesWithin}
+use Rattle.olr_search.specs.Searches.{CoversSlots, IsLabelledAt, IsLabelled, IsUnderWay, IsSearch, LiesWithin}
 use Rattle.olr_search.specs.Searches.{IsReached}
 use Rattle.olr_search.specs.declared.frontier.TheConstants.{GREATEST_LIMIT}
 use Rattle.olr_search.specs.declared.frontier.TheConstants.{UNREACHED}
@@ -25,7 +24,7 @@ use Rattle.olr_search.specs.declared.frontier.Frontier.{Frontier}
 use Rattle.olr_search.specs.declared.distances.Direction.{Direction}
 use Rattle.olr_search.specs.declared.distances.Dijkstra.{Dijkstra}
 use Rattle.olr_search.proofs.DistinctLemmas.{distinct_more, distinct_none, found_slot}
-use Rattle.olr_search.proofs.WayLemmas.{LastLine, way_ends, near_node, leads_node}
+use Rattle.olr_search.proofs.WayLemmas.{way_ends, leads_node}
 use Rattle.olr_search.proofs.WayLemmas.WayEnds.{stays, continues}
 
 -- ---- one label is lowered
@@ -188,11 +187,6 @@ module _ (M : Map) (slot : ℕ → ℕ) (direction : Direction) (from : List (�
 
   -- ---- the frontier
 
-  pub closed_better : (f g : Frontier) (v d : ℕ) → ((p : ℕ) → label_of g p ≤ label_of f p) →
-      ClosedAt M slot direction f v d → ClosedAt M slot direction g v d
-  closed_better f g v d better closed x known near = let was = closed x known near in let le =
-      better (slot (far_end M direction x)) in omega arith
-
   -- what does not depend on the queue
   pub labelled_same : (f g : Frontier) → ((p : ℕ) → label_of g p ≡ label_of f p) → frontier_len g ≡ frontier_len f →
       g.reached.items ≡ f.reached.items → IsLabelled M slot direction from f → IsLabelled M slot direction from g
@@ -209,51 +203,6 @@ module _ (M : Map) (slot : ℕ → ℕ) (direction : Direction) (from : List (�
     apart = subst (λ (xs : List Reached). IsDistinct ◌==◌ (map (λ (r : Reached). r.node) xs)) (sym reached) l.apart;
   }
 
-  -- the place p is taken out of the queue at length d, between f and g. Each label is closed, in whatever sense, or
-  -- waits
-  module _ (Closed : Frontier → ℕ → ℕ → Type 0) (better : (f g : Frontier) (v d : ℕ) →
-      ((p : ℕ) → label_of g p ≤ label_of f p)
-      → Closed f v d → Closed g v d) (f g : Frontier) (d p : ℕ) (same : (q : ℕ) → label_of g q ≡ label_of f q)
-      (others : (e q : ℕ) → IsQueued f e q → IsQueued g e q ⊎ ((e ≡ d) × (q ≡ p))) where
-    -- its label is another one by now
-    pub front_skip : ¬ (label_of f p ≡ d) →
-        ((v : ℕ) → IsTrue (has_node M v) → label_of f (slot v) ≤ GREATEST_LIMIT →
-        Closed f v (label_of f (slot v)) ⊎ IsQueued f (label_of f (slot v)) (slot v))
-        → (v : ℕ) → IsTrue (has_node M v) → label_of g (slot v) ≤ GREATEST_LIMIT →
-        Closed g v (label_of g (slot v)) ⊎ IsQueued g (label_of g (slot v)) (slot v)
-    front_skip ne front v known small =
-        let is = same (slot v) in
-        let P : ℕ → Type 0 = λ e. Closed g v e ⊎ IsQueued g e (slot v) in
-        subst P (sym is) (elim (front v known (omega arith)) [
-          | inl closed ↦ inl (better f g v (label_of f (slot v)) (λ q. let k = same q in omega arith) closed)
-          | inr q ↦ elim (others (label_of f (slot v)) (slot v) q) [
-            | inl still ↦ inr still
-            | inr h ↦ absurd (ne (ap (label_of f) (sym h.1) ∙ h.0))
-          ]
-        ])
-
-    -- its label is d, and the lines from there are followed, up to h
-    pub front_more : (h : Frontier) → Moves g h →
-        ((v : ℕ) → IsTrue (has_node M v) → slot v ≡ p → Closed h v d)
-        → ((v : ℕ) → IsTrue (has_node M v) → label_of f (slot v) ≤ GREATEST_LIMIT →
-        Closed f v (label_of f (slot v)) ⊎ IsQueued f (label_of f (slot v)) (slot v))
-        → (v : ℕ) → IsTrue (has_node M v) → label_of h (slot v) ≤ GREATEST_LIMIT →
-        Closed h v (label_of h (slot v)) ⊎ IsQueued h (label_of h (slot v)) (slot v)
-    front_more h moves closed front v known small = elim (moves.fresh (slot v)) [
-      | inr q ↦ inr q
-      | inl kept ↦
-          let is : label_of h (slot v) ≡ label_of f (slot v) = kept ∙ same (slot v) in
-          let P : ℕ → Type 0 = λ e. Closed h v e ⊎ IsQueued h e (slot v) in
-          subst P (sym is) (elim (front v known (omega arith)) [
-            | inl c ↦ inl (better f h v (label_of f (slot v))
-                (λ q. let k = same q in let b = moves.better q in omega arith) c)
-            | inr q ↦ elim (others (label_of f (slot v)) (slot v) q) [
-              | inl still ↦ inr (moves.kept (label_of f (slot v)) (slot v) still)
-              | inr e ↦ inl (subst (Closed h v) (sym e.0) (closed v known e.1))
-            ]
-          ])
-    ]
-
   -- the lines of a removed entry are followed, or the label there is another one by now
   pub record Popped (f g : Frontier) (d p : ℕ) : Type 0 where
     pub same : (q : ℕ) → label_of g q ≡ label_of f q
@@ -267,107 +216,7 @@ module _ (M : Map) (slot : ℕ → ℕ) (direction : Direction) (from : List (�
   popped_by f g d p table len reached others =
       record { same = λ q. ap (λ (t : List ℕ). label_in t q) table; len = len; reached = reached; others = others }
 
-  pub under_way_skip : (f g : Frontier) (d p : ℕ) → Popped f g d p → ¬ (label_of f p ≡ d) →
-      IsUnderWay M slot direction from f → IsUnderWay M slot direction from g
-  under_way_skip f g d p k ne u = record {
-    labelled = labelled_same f g k.same k.len k.reached u.labelled;
-    begun = λ s b listed there. let was = u.begun s b listed there in let is = k.same (slot s) in omega arith;
-    front = front_skip (ClosedAt M slot direction) closed_better f g d p k.same k.others ne u.front;
-  }
-
-  pub under_way_more : (f g h : Frontier) (d p : ℕ) → Popped f g d p → label_of f p ≡ d → d ≤ GREATEST_LIMIT → Moves g h
-      → ((v : ℕ) (ways : List (ℕ × ℕ)) → IsTrue (has_node M v) → slot v ≡ p → Leads M direction ways v d →
-      IsLabelled M slot direction ways g → IsLabelled M slot direction ways h)
-      → ((v : ℕ) → IsTrue (has_node M v) → slot v ≡ p → ClosedAt M slot direction h v d) →
-      IsUnderWay M slot direction from f → IsUnderWay M slot direction from h
-  under_way_more f g h d p k at small moves labelled closed u =
-      let own = u.labelled.nodes p (omega arith) in
-      let is : label_of f (slot own.0) ≡ d = ap (label_of f) own.2 ∙ at in
-      let way = subst (λ (e : ℕ). Leads M direction from own.0 e) is (u.labelled.leads own.0 own.1 (omega arith)) in
-      record {
-        labelled = labelled own.0 from own.1 own.2 way (labelled_same f g k.same k.len k.reached u.labelled);
-        begun = λ s b listed there. let was = u.begun s b listed there in let same = k.same (slot s) in let le =
-            moves.better (slot s) in omega arith;
-        front = front_more (ClosedAt M slot direction) closed_better f g d p k.same k.others h moves closed u.front;
-      }
-
-  -- nothing is removed
-  pub under_way_same : (f g : Frontier) → g.table.items ≡ f.table.items → frontier_len g ≡ frontier_len f →
-      g.reached.items ≡ f.reached.items → ((e q : ℕ) → IsQueued f e q → IsQueued g e q) →
-      IsUnderWay M slot direction from f → IsUnderWay M slot direction from g
-  under_way_same f g table len reached kept u =
-      let same : (q : ℕ) → label_of g q ≡ label_of f q = λ q. ap (λ (t : List ℕ). label_in t q) table in
-      record {
-        labelled = labelled_same f g same len reached u.labelled;
-        begun = λ s b listed there. let was = u.begun s b listed there in let is = same (slot s) in omega arith;
-        front = λ v known small.
-            let is = same (slot v) in
-            let P : ℕ → Type 0 = λ e. ClosedAt M slot direction g v e ⊎ IsQueued g e (slot v) in
-            subst P (sym is) (elim (u.front v known (omega arith)) [
-              | inl c ↦ inl (closed_better f g v (label_of f (slot v)) (λ q. let k = same q in omega arith) c)
-              | inr q ↦ inr (kept (label_of f (slot v)) (slot v) q)
-            ]);
-      }
-
   -- ---- what is settled
-
-  module _ (f : Frontier) (limit : ℕ) (u : IsUnderWay M slot direction from f) (small : limit ≤ GREATEST_LIMIT)
-      (far : (d p : ℕ) → IsQueued f d p → limit < d) where
-    -- by one more line
-    settled_on : (s b v : ℕ) (lines : List ℕ) → b + dm_of M lines ≤ limit → (k : LastLine M direction s v lines) →
-        label_of f (slot (near_end M direction k.line)) ≤ b + dm_of M k.front →
-        label_of f (slot v) ≤ b + dm_of M lines
-    settled_on s b v lines short k low =
-        let long = k.long in
-        let w = near_end M direction k.line in
-        elim (u.front w (near_node M u.labelled.sound direction k.line k.known) (omega arith)) [
-          | inl closed ↦
-              let le = closed k.line k.known refl in
-              subst (λ (n : ℕ). label_of f (slot n) ≤ b + dm_of M lines) k.to (omega arith)
-          | inr q ↦ let lt = far (label_of f (slot w)) (slot w) q in absurd (omega arith)
-        ]
-
-    settled_by : (n s b v : ℕ) (lines : List ℕ) → length lines ≤ n → Contains from (s, b) → IsTrue (has_node M s) →
-        Way M direction s v lines → b + dm_of M lines ≤ limit → label_of f (slot v) ≤ b + dm_of M lines
-    settled_by zero s b v lines size listed there way short = elim (way_ends M direction s v lines way) [
-      | stays e none ↦ let le =
-          u.begun s b listed there in subst (λ (w : ℕ). label_of f (slot w) ≤ b + dm_of M lines) e (omega arith)
-      | continues k ↦ let more = k.size in absurd (omega arith)
-    ]
-    settled_by (suc n) s b v lines size listed there way short = elim (way_ends M direction s v lines way) [
-      | stays e none ↦ let le =
-          u.begun s b listed there in subst (λ (w : ℕ). label_of f (slot w) ≤ b + dm_of M lines) e (omega arith)
-      | continues k ↦
-          let more = k.size in
-          let long = k.long in
-          settled_on s b v lines short k
-          (settled_by n s b (near_end M direction k.line) k.front (omega arith) listed there k.way (omega arith))
-    ]
-
-    pub settled_far : (v d : ℕ) → IsTrue (has_node M v) → d ≤ limit → Leads M direction from v d →
-        label_of f (slot v) ≤ d
-    settled_far v d known le l =
-        let long = l.long in
-        subst (λ (e : ℕ). label_of f (slot v) ≤ e) long
-        (settled_by (length l.lines) l.source l.begun v l.lines (omega arith) l.listed l.there l.way (omega arith))
-
-  -- the search s is continued to a limit, up to the search t
-  pub settled_on_to : (s t : Dijkstra) (limit : ℕ) → IsSearch M slot direction from s → t.direction ≡ s.direction →
-      IsUnderWay M slot direction from t.frontier → limit ≤ GREATEST_LIMIT →
-      ((d p : ℕ) → IsQueued t.frontier d p → limit < d)
-      → ((p : ℕ) → label_of t.frontier p ≤ label_of s.frontier p) → t.limit ≡ max s.limit limit →
-      IsSearch M slot direction from t
-  settled_on_to s t limit h way u small far better is =
-      let was = h.small in
-      record {
-        way = way ∙ h.way;
-        under_way = u;
-        small = omega arith;
-        settled = λ v d known le l. elim (cases_lt limit d) [
-          | inl lt ↦ let low = h.settled v d known (omega arith) l in let less = better (slot v) in omega arith
-          | inr near ↦ settled_far t.frontier limit u small far v d known near l
-        ];
-      }
 
   -- at first each route of length 0 stays where it begins
   pub settled_none : (f : Frontier) → IsUnderWay M slot direction from f → (v d : ℕ) → IsTrue (has_node M v) → d ≤ 0 →

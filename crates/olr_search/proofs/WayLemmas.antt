@@ -3,14 +3,14 @@ use Rattle.std.proofs.Common.{◌≡◌, ℕ, ◌+◌, ◌<◌, List, [], ◌∷
 use Rattle.std.proofs.Common.{ap, ◌∙◌, subst, arith, length-append}
 use Rattle.std.proofs.lemmas.List.{get_or-map, length-map}
 use Rattle.std.proofs.lemmas.Grind.{get_or_default_zero}
-use Rattle.olr_spec.specs.Map.{Map, IsMap, has_node, has_line, start, end, dm, lines_in, lines_out}
+use Rattle.olr_spec.specs.Map.{Map, IsMap, has_node, has_line, start, end, dm, lines_in}
 use Rattle.olr_spec.specs.Routes.{IsRoute, dm_of}
 use Rattle.olr_map.specs.Ends.{end_out, end_in, ends_in}
 use Rattle.olr_map.specs.declared.read.LineEnd.{LineEnd}
-use Rattle.olr_search.specs.Distances.{Way, Leads, near_end, far_end, ends_at}
+use Rattle.olr_search.specs.Distances.{Way, Leads, near_end, far_end, lines_at, ends_at}
 use Rattle.olr_search.specs.declared.distances.Direction.{Direction}
 use Rattle.olr_search.specs.declared.distances.Direction.TheVariants.{Along, Against}
-use Rattle.olr_search.proofs.ReadLemmas.{leaves, leaving, enters, entering}
+use Rattle.olr_search.proofs.ReadLemmas.{read_at, found_at}
 use Rattle.olr_search.proofs.RouteEnds.{ends_of, dm_of-line, route_on, last_step}
 use Rattle.olr_search.proofs.RouteEnds.Ends.{empty, ended}
 
@@ -126,31 +126,34 @@ made_at f xs items i e is lt at =
     let long : length items ≡ length xs = ap (λ (zs : List LineEnd). length zs) is ∙ length-map xs f in
     (omega arith, at ∙ ap (λ (zs : List LineEnd). get_or zs i e) is ∙ get_or-map f xs i 0 e (omega arith))
 
-end_by : (M : Map) (slot : ℕ → ℕ) (direction : Direction) (v x : ℕ) (e made : LineEnd) → IsTrue (has_line M x) →
-    near_end M direction x ≡ v → e ≡ made → made.node ≡ far_end M direction x →
-    made.slot ≡ slot (far_end M direction x) → made.len ≡ dm M x
-    → IsEnd M slot direction v e
-end_by M slot direction v x e made known near is node at len = record {
-  line = x;
-  known = known;
-  near = near;
-  node = ap (λ (k : LineEnd). k.node) is ∙ node;
-  there = ap (λ (k : LineEnd). k.slot) is ∙ at;
-  len = ap (λ (k : LineEnd). k.len) is ∙ len;
-}
+-- the far end of a line
+abbrev far_of : Map → (ℕ → ℕ) → Direction → ℕ → LineEnd
+far_of M slot Along x = end_out M slot x
+far_of M slot Against x = end_in M slot x
+
+record IsFar (M : Map) (slot : ℕ → ℕ) (direction : Direction) (x : ℕ) (e : LineEnd) : Type 0 where
+  node : e.node ≡ far_end M direction x
+  there : e.slot ≡ slot (far_end M direction x)
+  len : e.len ≡ dm M x
+
+far_is : (M : Map) (slot : ℕ → ℕ) (direction : Direction) (x : ℕ) → IsFar M slot direction x (far_of M slot direction x)
+far_is M slot Along x = record { node = refl; there = refl; len = refl }
+far_is M slot Against x = record { node = refl; there = refl; len = refl }
+
+ends_are : (M : Map) (slot : ℕ → ℕ) (direction : Direction) (v : ℕ) →
+    ends_at M slot direction v ≡ map (far_of M slot direction) (lines_at M direction v)
+ends_are M slot Along v = refl
+ends_are M slot Against v = refl
 
 pub end_is : (M : Map) (slot : ℕ → ℕ) (direction : Direction) (v : ℕ) (items : List LineEnd) (i : ℕ) (e : LineEnd) →
     items ≡ ends_at M slot direction v → i < length items → e ≡ get_or items i e → IsEnd M slot direction v e
-end_is M slot Along v items i e is lt at =
-    let k = made_at (end_out M slot) (lines_out M v) items i e is lt at in
-    let x = get_or (lines_out M v) i 0 in
-    let own = leaves M v i x (lines_out M v) refl k.0 (sym (get_or_default_zero (lines_out M v) i x k.0)) in
-    end_by M slot Along v x e (end_out M slot x) own.0 own.1 k.1 refl refl refl
-end_is M slot Against v items i e is lt at =
-    let k = made_at (end_in M slot) (lines_in M v) items i e is lt at in
-    let x = get_or (lines_in M v) i 0 in
-    let own = enters M v i x (lines_in M v) refl k.0 (sym (get_or_default_zero (lines_in M v) i x k.0)) in
-    end_by M slot Against v x e (end_in M slot x) own.0 own.1 k.1 refl refl refl
+end_is M slot direction v items i e is lt at =
+    let xs = lines_at M direction v in
+    let k = made_at (far_of M slot direction) xs items i e (is ∙ ends_are M slot direction v) lt at in
+    let x = get_or xs i 0 in
+    let own = read_at M direction v xs i x refl k.0 (sym (get_or_default_zero xs i x k.0)) in
+    let f = subst (IsFar M slot direction x) (sym k.1) (far_is M slot direction x) in
+    record { line = x; known = own.0; near = own.1; node = f.node; there = f.there; len = f.len }
 
 -- the default for a far end
 abbrev pub no_end : LineEnd
@@ -164,31 +167,20 @@ pub record HasEnd (M : Map) (slot : ℕ → ℕ) (direction : Direction) (items 
   pub there : (get_or items index no_end).slot ≡ slot (far_end M direction x)
   pub len : (get_or items index no_end).len ≡ dm M x
 
-has_by : (M : Map) (slot : ℕ → ℕ) (direction : Direction) (f : ℕ → LineEnd) (xs : List ℕ) (items : List LineEnd)
-    (i x : ℕ) → items ≡ map f xs → i < length xs → get_or xs i 0 ≡ x → (f x).node ≡ far_end M direction x →
-    (f x).slot ≡ slot (far_end M direction x) → (f x).len ≡ dm M x
-    → HasEnd M slot direction items x
-has_by M slot direction f xs items i x is lt at node there len =
-    let long : length items ≡ length xs = ap (λ (zs : List LineEnd). length zs) is ∙ length-map xs f in
-    let e : get_or items i no_end ≡ f x =
-    ap (λ (zs : List LineEnd). get_or zs i no_end) is ∙ get_or-map f xs i 0 no_end lt ∙ ap f at in
-    record {
-      index = i;
-      within = omega arith;
-      node = ap (λ (k : LineEnd). k.node) e ∙ node;
-      there = ap (λ (k : LineEnd). k.slot) e ∙ there;
-      len = ap (λ (k : LineEnd). k.len) e ∙ len;
-    }
-
 pub has_end : (M : Map) (slot : ℕ → ℕ) (direction : Direction) (v x : ℕ) (items : List LineEnd) →
     items ≡ ends_at M slot direction v → IsTrue (has_line M x) → near_end M direction x ≡ v →
     HasEnd M slot direction items x
-has_end M slot Along v x items is known near =
-    let k = leaving M v x (lines_out M v) refl known near in
-    has_by M slot Along (end_out M slot) (lines_out M v) items k.0 x is k.1 k.2 refl refl refl
-has_end M slot Against v x items is known near =
-    let k = entering M v x (lines_in M v) refl known near in
-    has_by M slot Against (end_in M slot) (lines_in M v) items k.0 x is k.1 k.2 refl refl refl
+has_end M slot direction v x items is known near =
+    let xs = lines_at M direction v in
+    let made = is ∙ ends_are M slot direction v in
+    let k = found_at M direction v xs x refl known near in
+    let long : length items ≡ length xs =
+    ap (λ (zs : List LineEnd). length zs) made ∙ length-map xs (far_of M slot direction) in
+    let e : get_or items k.0 no_end ≡ far_of M slot direction x =
+    ap (λ (zs : List LineEnd). get_or zs k.0 no_end) made ∙ get_or-map (far_of M slot direction) xs k.0 0 no_end k.1
+    ∙ ap (far_of M slot direction) k.2 in
+    let f = subst (IsFar M slot direction x) (sym e) (far_is M slot direction x) in
+    record { index = k.0; within = omega arith; node = f.node; there = f.there; len = f.len }
 
 -- the i-th line that enters a node, and its far end
 pub record IsEntry (M : Map) (slot : ℕ → ℕ) (to : ℕ) (lines : List ℕ) (i : ℕ) (e : LineEnd) : Type 0 where
@@ -205,7 +197,7 @@ entry_is M slot to lines items same is i e lt at =
     let k =
     made_at (end_in M slot) lines items i e (is ∙ ap (λ (zs : List ℕ). map (end_in M slot) zs) (sym same)) lt at in
     let x = get_or lines i 0 in
-    let own = enters M to i x lines same k.0 (sym (get_or_default_zero lines i x k.0)) in
+    let own = read_at M Against to lines i x same k.0 (sym (get_or_default_zero lines i x k.0)) in
     record {
       within = k.0;
       known = own.0;

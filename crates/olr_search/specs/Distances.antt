@@ -2,12 +2,12 @@
 --     Way M direction s v xs      the lines xs are a route from s to v, or, if the direction is against them, a route
 --         from v to s
 --     near_end M direction x, far_end M direction x      where line x is entered in this direction, and where it leads
---     ends_at M slot direction v      the far ends of the lines that are entered at v
+--     lines_at M direction v, ends_at M slot direction v      the lines that are entered at v, and their far ends
 --     Leads M direction from v d      a route in this direction leads to v from a listed node of the map; d is its
 --         length plus the start value that is listed with the node
 --     IsDistance M direction from v d      the least such d
 use Rattle.std.specs.Prelude.{◌≡◌, ℕ, ◌+◌, ◌≤◌, List, Contains, IsTrue}
-use Rattle.olr_spec.specs.Map.{Map, has_node, start, end}
+use Rattle.olr_spec.specs.Map.{Map, has_node, start, end, lines_in, lines_out}
 use Rattle.olr_spec.specs.Routes.{IsRoute, dm_of}
 use Rattle.olr_map.specs.Ends.{ends_out, ends_in}
 use Rattle.olr_map.specs.declared.read.LineEnd.{LineEnd}
@@ -25,6 +25,10 @@ near_end M Against x = end M x
 abbrev pub far_end : Map → Direction → ℕ → ℕ
 far_end M Along x = end M x
 far_end M Against x = start M x
+
+abbrev pub lines_at : Map → Direction → ℕ → List ℕ
+lines_at M Along v = lines_out M v
+lines_at M Against v = lines_in M v
 
 abbrev pub ends_at : Map → (ℕ → ℕ) → Direction → ℕ → List LineEnd
 ends_at M slot Along v = ends_out M slot v

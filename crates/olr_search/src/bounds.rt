@@ -1,5 +1,5 @@
-//! Distance bounds at nodes, which cut a search.
-ghost use Rattle.std.specs.Prelude.{IsTrue, ◌↔◌};
+//! Which nodes a search may label: every node, or those that distance bounds let it.
+ghost use Rattle.std.specs.Prelude.{ℕ, IsTrue, ⊤, ◌↔◌};
 ghost use Rattle.olr_search.specs.Bounds.{bound_in, IsUnder};
 
 use crate::frontier::GREATEST_LIMIT;
@@ -7,8 +7,38 @@ use olr_map::{NodeId, NumberHasher};
 use std::collections::HashMap;
 use std::hash::BuildHasherDefault;
 
+/// What lets a search label a node at a length.
+pub trait Admits {
+    /// Whether it does.
+    ghost lets: { Self → ℕ → ℕ → Type 0 };
+
+    /// Whether a search may label a node at a length in decimetres.
+    fn admits(&self, node: NodeId, length: u32) -> bool
+        ensures { IsTrue result ↔ lets self.now node length };
+}
+
+/// Every node may be labelled.
+#[derive(Clone, Copy)]
+pub struct Anywhere;
+
+impl Admits for Anywhere {
+    ghost lets = { λ _ _ _. ⊤ };
+
+    fn admits(&self, _node: NodeId, _length: u32) -> bool {
+        true
+    }
+}
+
 /// By a node's number, in decimetres. A node without a bound gets no label.
 pub type Bounds = HashMap<u32, u32, BuildHasherDefault<NumberHasher>>;
+
+impl Admits for HashMap<u32, u32, BuildHasherDefault<NumberHasher>> {
+    ghost lets = { λ bounds v d. IsUnder (bound_in bounds) v d };
+
+    fn admits(&self, node: NodeId, length: u32) -> bool {
+        is_under(self, node, length)
+    }
+}
 
 /// Whether a node has a bound, and the sum of it and a length in decimetres is at most `GREATEST_LIMIT`.
 pub fn is_under(bounds: &Bounds, node: NodeId, length: u32) -> bool

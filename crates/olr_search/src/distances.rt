@@ -14,10 +14,10 @@ ghost use Rattle.olr_search.specs.Bounds.{AreBounds, AreLengths, IsUnder, bound_
 ghost use Rattle.olr_search.specs.declared.frontier.Reached.{Reached as ReachedRecord};
 ghost use Rattle.olr_search.specs.declared.distances.Direction.TheVariants.{Along};
 
-use crate::bounds::Bounds;
+use crate::bounds::{Anywhere, Bounds};
 use crate::frontier::{Frontier, GREATEST_LIMIT, Reached};
 use crate::lines::both_ends;
-use crate::steps::{follow, follow_under, start};
+use crate::steps::{settle, start};
 use olr_map::{LineEnd, LineId, MapRead, NodeId};
 use std::alloc::{AllocError, Global};
 
@@ -89,12 +89,7 @@ impl Dijkstra {
             → IsSearch (M.map map.now) (M.node_slot map.now) direction from self.new) }
         ensures limit { OnOk result (limit_of self.new ≡ max (limit_of self.old) limit) }
     {
-        while let Some(next) = self.frontier.pop_within(limit) {
-            let (dist, slot) = next;
-            if self.frontier.label(slot) == dist {
-                follow(map, self.direction, dist, slot, &mut self.frontier)?;
-            }
-        }
+        settle(map, self.direction, limit, &Anywhere, &mut self.frontier)?;
         self.limit = self.limit.max(limit);
         Ok(())
     }
@@ -115,12 +110,13 @@ impl Dijkstra {
             → (v d : ℕ) → IsUnder (bound_in bounds.now) v d → IsTrue (has_node (M.map map.now) v)
             → Leads (M.map map.now) direction from v d → label_at self.new (M.node_slot map.now v) ≤ d) }
     {
-        while let Some(next) = self.frontier.pop_within(GREATEST_LIMIT) {
-            let (dist, slot) = next;
-            if self.frontier.label(slot) == dist {
-                follow_under(map, self.direction, dist, slot, bounds, &mut self.frontier)?;
-            }
-        }
+        settle(
+            map,
+            self.direction,
+            GREATEST_LIMIT,
+            bounds,
+            &mut self.frontier,
+        )?;
         Ok(())
     }
 

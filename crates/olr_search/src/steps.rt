@@ -1,12 +1,13 @@
-//! The steps of a search that can be continued: the nodes where it begins, and the lines from a node.
-ghost use Rattle.std.specs.Prelude.{◌≡◌, ◌≤◌, ℕ, List, Contains, OnOk, IsTrue};
+//! The steps of a search that can be continued: the nodes where it begins, the lines from a node, and all queued nodes up
+//! to a length.
+ghost use Rattle.std.specs.Prelude.{◌≡◌, ◌≤◌, ◌<◌, ℕ, List, Contains, OnOk, IsTrue};
 ghost use Rattle.olr_spec.specs.Map.{has_node};
 ghost use Rattle.olr_search.specs.Distances.{Leads, ends_at};
-ghost use Rattle.olr_search.specs.Frontiers.{Moves, label_of};
-ghost use Rattle.olr_search.specs.Searches.{ClosedAt, CoversSlots, IsLabelled};
-ghost use Rattle.olr_search.specs.Bounds.{CutAt, bound_in};
+ghost use Rattle.olr_search.specs.Frontiers.{Moves, IsQueued, label_of};
+ghost use Rattle.olr_search.specs.Searches.{CoversSlots, IsLabelled, IsUnderWay};
+ghost use Rattle.olr_search.specs.Bounds.{CutAt, IsCut};
 
-use crate::bounds::{Bounds, is_under};
+use crate::bounds::Admits;
 use crate::distances::Direction;
 use crate::frontier::{Frontier, GREATEST_LIMIT};
 use olr_map::{LineEnd, MapRead, NodeId};
@@ -47,12 +48,14 @@ fn ends_from<M: MapRead>(map: &M, direction: Direction, slot: u32) -> &[LineEnd]
     }
 }
 
-/// Follows the lines from the node in this slot, at the distance `dist` in decimetres: labels their far ends.
-pub fn follow<M: MapRead>(
+/// Follows the lines from the node in this slot, at the distance `dist` in decimetres: labels those of their far ends
+/// that may be labelled.
+fn follow<M: MapRead, A: Admits>(
     map: &M,
     direction: Direction,
     dist: u32,
     slot: u32,
+    admits: &A,
     frontier: &mut Frontier,
 ) -> Result<(), AllocError>
     requires node { (v : ℕ) × IsTrue (has_node (M.map map.now) v) × (M.node_slot map.now v ≡ slot) }
@@ -65,39 +68,39 @@ pub fn follow<M: MapRead>(
         → IsLabelled (M.map map.now) (M.node_slot map.now) direction from frontier.old
         → IsLabelled (M.map map.now) (M.node_slot map.now) direction from frontier.new) }
     ensures closed { OnOk result ((v : ℕ) → IsTrue (has_node (M.map map.now) v) → M.node_slot map.now v ≡ slot
-        → ClosedAt (M.map map.now) (M.node_slot map.now) direction frontier.new v dist) }
+        → CutAt (M.map map.now) (M.node_slot map.now) direction (A.lets admits.now) frontier.new v dist) }
 {
     for end in ends_from(map, direction, slot) {
-        frontier.relax(end.node, end.slot, dist + end.len)?;
+        let length = dist + end.len;
+        if admits.admits(end.node, length) {
+            frontier.relax(end.node, end.slot, length)?;
+        }
     }
     Ok(())
 }
 
-/// As `follow`, but labels only the far ends that the bounds let it.
-pub fn follow_under<M: MapRead>(
+/// Continues a search until nothing is queued at a length of at most `limit` decimetres. Only nodes that may be labelled
+/// get labels.
+pub fn settle<M: MapRead, A: Admits>(
     map: &M,
     direction: Direction,
-    dist: u32,
-    slot: u32,
-    bounds: &Bounds,
+    limit: u32,
+    admits: &A,
     frontier: &mut Frontier,
 ) -> Result<(), AllocError>
-    requires node { (v : ℕ) × IsTrue (has_node (M.map map.now) v) × (M.node_slot map.now v ≡ slot) }
-    requires within { dist ≤ GREATEST_LIMIT }
-    requires room { CoversSlots (M.map map.now) (M.node_slot map.now) frontier.old }
-    ensures moves { OnOk result (Moves frontier.old frontier.new) }
-    ensures labelled { OnOk result ((v : ℕ) (from : List (ℕ × ℕ)) → IsTrue (has_node (M.map map.now) v) →
-        M.node_slot map.now v ≡ slot
-        → Leads (M.map map.now) direction from v dist
-        → IsLabelled (M.map map.now) (M.node_slot map.now) direction from frontier.old
-        → IsLabelled (M.map map.now) (M.node_slot map.now) direction from frontier.new) }
-    ensures closed { OnOk result ((v : ℕ) → IsTrue (has_node (M.map map.now) v) → M.node_slot map.now v ≡ slot
-        → CutAt (M.map map.now) (M.node_slot map.now) direction (bound_in bounds.now) frontier.new v dist) }
+    requires small { limit ≤ GREATEST_LIMIT }
+    requires begun { (from : List (ℕ × ℕ))
+        × IsUnderWay (M.map map.now) (M.node_slot map.now) direction from frontier.old }
+    ensures cut { OnOk result ((from : List (ℕ × ℕ))
+        → IsUnderWay (M.map map.now) (M.node_slot map.now) direction from frontier.old
+        → IsCut (M.map map.now) (M.node_slot map.now) direction from (A.lets admits.now) frontier.new) }
+    ensures better { OnOk result ((p : ℕ) → label_of frontier.new p ≤ label_of frontier.old p) }
+    ensures far { OnOk result ((d p : ℕ) → IsQueued frontier.new d p → limit < d) }
 {
-    for end in ends_from(map, direction, slot) {
-        let length = dist + end.len;
-        if is_under(bounds, end.node, length) {
-            frontier.relax(end.node, end.slot, length)?;
+    while let Some(next) = frontier.pop_within(limit) {
+        let (dist, slot) = next;
+        if frontier.label(slot) == dist {
+            follow(map, direction, dist, slot, admits, frontier)?;
         }
     }
     Ok(())

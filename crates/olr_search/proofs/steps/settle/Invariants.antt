@@ -1,0 +1,17 @@
+use Rattle.std.proofs.Common.{◌≤◌, ℕ, List}
+use Rattle.olr_search.specs.Bounds.{IsCut}
+use Rattle.olr_search.specs.Frontiers.{to_do, label_of}
+use Rattle.olr_search.specs.Searches.{IsUnderWay}
+use Rattle.olr_search.proofs.steps.settle.Given as goal
+
+abbrev pub invariant-loop-next : goal.invariant-loop-next
+invariant-loop-next g l = record {
+  cut : (from : List (ℕ × ℕ)) → IsUnderWay (g.M.MapRead.map l.map) (g.M.MapRead.node_slot l.map) l.direction from
+      l.initial.frontier
+      → IsCut (g.M.MapRead.map l.map) (g.M.MapRead.node_slot l.map) l.direction from (g.A.Admits.lets l.admits)
+      l.frontier;
+  better : (p : ℕ) → label_of l.frontier p ≤ label_of l.initial.frontier p;
+}
+
+abbrev pub decreases-loop-next : goal.decreases-loop-next
+decreases-loop-next g l = to_do l.frontier
