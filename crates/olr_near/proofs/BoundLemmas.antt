@@ -1,5 +1,5 @@
 -- How bounds change, and what follows from them if no line leads on.
-use Rattle.std.proofs.Common.{◌≡◌, ◌≢◌, nat_eq, ◌*◌, ◌^◌, get_or, length, ℕ, ◌+◌, ◌-◌, ◌<◌, ◌≤◌, ◌⊎◌, List, [], ◌∷◌, ◌++◌}
+use Rattle.std.proofs.Common.{◌≡◌, ◌≢◌, nat_eq, ◌*◌, ◌^◌, length, ℕ, ◌+◌, ◌-◌, ◌<◌, ◌≤◌, ◌⊎◌, List, [], ◌∷◌, ◌++◌}
 use Rattle.std.proofs.Common.{Option, Some, None, IsSome, IsTrue, Bool, refl, sym, ap, ◌∙◌, subst, inl, inr, arith, le_trans}
 use Rattle.std.proofs.lemmas.Bool.{cases_Bool, cases_eq, cases_lt, eqb-true, ne_eqb}
 use Rattle.std.specs.Prelude.{sum_by, unwrap_or, min}
@@ -9,24 +9,21 @@ use Rattle.std.specs.HashMap.{IsUnique, PutsEntry, Updates, get, keys, values}
 use Rattle.std.specs.BinaryHeap.{heap_items}
 use Rattle.std.specs.List.Sorted.{IsPermutation}
 use Rattle.std.proofs.Math.Nat.{mul-le-mul_right}
-use Rattle.std.proofs.lemmas.List.{get_or-map, length-map}
+use Rattle.std.proofs.lemmas.List.{length-map}
 use Rattle.std.proofs.lemmas.List.Sums.{sum_by-le}
 use Rattle.std.proofs.lemmas.Map.Entries.{sum_by_puts_entry, length-values_of}
 use Rattle.std.proofs.lemmas.Map.Steps.{length-le_from_distinct_below}
 use Rattle.std.proofs.lemmas.Map.Views.{Contains-from_any, IsSome-lookup_from_Contains}
-use Rattle.olr_spec.specs.Map.{Map, has_line, start, end, dm, lines_out, SameLine, SameRound, has}
+use Rattle.olr_spec.specs.Map.{Map, end, dm, SameLine, SameRound, has}
 use Rattle.olr_spec.specs.Routes.{IsRoute, dm_of}
 use Rattle.olr_spec.specs.Extension.{limit}
 use Rattle.olr_spec.specs.Detours.{Near}
 use Rattle.olr_spec.proofs.RouteLemmas.{IsRoute-append, dm_of-append}
 use Rattle.olr_spec.proofs.AgreeLemmas.{turned_round, by_leaving, same_known, same_start, same_end, same_dm}
-use Rattle.olr_map.specs.Ends.{end_out, ends_out}
-use Rattle.olr_map.specs.declared.read.LineEnd.{LineEnd}
-use Rattle.olr_near.proofs.Waiting.{line_there, pushed_kept, pushed_there}
+use Rattle.olr_near.proofs.Waiting.{pushed_kept, pushed_there}
 use Rattle.olr_near.specs.Bounds.{Numbers, bound_of, IsSource, Within, ClosedAt, IsRight, IsWaiting, IsUnderWay, SameBut, Moves}
 use Rattle.olr_near.specs.Bounds.{IsReopened, IsLowered, IsFollowed, IsLed, lesser}
 use Rattle.olr_near.specs.declared.distance_bounds.DistanceBounds.{DistanceBounds}
-use Rattle.olr_search.proofs.WayLemmas.{no_end}
 
 -- ---- bounds that did not increase
 
@@ -289,18 +286,3 @@ near_bounded M f s w T known right source near =
     let k = source known in
     number_along M f right known s near.node k.number near.route k.at near.leads
     (omega arith)
-
--- ---- the lines from a node
-
--- each line that leaves a node has its far end in the list
-pub end_there : (M : Map) (slot : ℕ → ℕ) (v x : ℕ) (items : List LineEnd) → items ≡ ends_out M slot v →
-    IsTrue (has_line M x) → start M x ≡ v
-    → (k : ℕ) × (k < length items) × ((get_or items k no_end).node ≡ end M x) × ((get_or items k no_end).len ≡ dm M x)
-end_there M slot v x items is known from =
-    let k = line_there M v x known from in
-    let long : length items ≡ length (lines_out M v) =
-    ap (λ (zs : List LineEnd). length zs) is ∙ length-map (lines_out M v) (end_out M slot) in
-    let here : get_or items k.0 no_end ≡ end_out M slot x =
-    ap (λ (zs : List LineEnd). get_or zs k.0 no_end) is ∙ get_or-map (end_out M slot) (lines_out M v) k.0 0 no_end k.1
-    ∙ ap (end_out M slot) k.2 in
-    (k.0, omega arith, ap (λ (e : LineEnd). e.node) here, ap (λ (e : LineEnd). e.len) here)

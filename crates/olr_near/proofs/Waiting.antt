@@ -1,16 +1,11 @@
--- The queue before and after a push and a pop, and where the lines of a node are listed.
-use Rattle.std.proofs.Common.{◌≡◌, ℕ, ◌<◌, ◌⊎◌, List, [], ◌∷◌, IsTrue, length, get_or, refl, ap, inl, inr, arith}
+-- The queue before and after a push and a pop.
+use Rattle.std.proofs.Common.{◌≡◌, ℕ, ◌⊎◌, List, [], ◌∷◌, refl, ap, inl, inr, arith}
 use Rattle.std.specs.declared.cmp.Reverse.{Reverse}
 use Rattle.std.specs.List.Sorted.{IsPermutation}
 use Rattle.std.proofs.lemmas.List.Sorted.{Contains-permutation}
 use Rattle.std.proofs.lemmas.List.Elements.{Contains-append_cases, Contains-append_right}
-use Rattle.olr_spec.specs.Map.{Map, has_line, start, lines_out}
-use Rattle.olr_spec.proofs.ListLemmas.{at_index, Contains-one}
-use Rattle.olr_spec.proofs.OrderLemmas.{exactly_out}
-use Rattle.olr_spec.proofs.AgreeLemmas.{known_record}
+use Rattle.olr_spec.proofs.ListLemmas.{Contains-one}
 use Rattle.olr_near.specs.Bounds.{Waits}
-
--- ---- the heap
 
 abbrev Entry : Type 0
 Entry = Reverse (ℕ × ℕ)
@@ -32,10 +27,3 @@ pushed_kept xs ys x d v p w =
 
 pub pushed_there : (xs ys : List Entry) (x : Entry) → IsPermutation (x ∷ xs) ys → Waits ys x.0.0 x.0.1
 pushed_there xs ys x p = Contains-permutation (x ∷ xs) ys x p (0, omega arith, refl)
-
--- ---- the lines from a node
-
--- each line that leaves a node is in its list
-pub line_there : (M : Map) (v x : ℕ) → IsTrue (has_line M x) → start M x ≡ v → (i : ℕ) × (i < length (lines_out M v))
-    × (get_or (lines_out M v) i 0 ≡ x)
-line_there M v x h from = at_index (lines_out M v) x ((exactly_out M v x).1 (_, (known_record M x h, from)))

@@ -1,11 +1,10 @@
 use Rattle.std.proofs.Common.{◌≡◌, ◌≤◌, ◌+◌, ◌-◌, ℕ, get_or, inl, inr, sym, ap, ◌∙◌, subst, arith}
 use Rattle.std.proofs.lemmas.Bool.{cases_lt}
 use Rattle.std.proofs.lemmas.List.{get_or_default}
-use Rattle.olr_spec.specs.Map.{dm}
 use Rattle.olr_map.specs.declared.read.LineEnd.{LineEnd}
 use Rattle.olr_near.specs.Bounds.{bound_of, Within}
-use Rattle.olr_near.proofs.BoundLemmas.{within_better, moves_then, end_there, lowered_from}
-use Rattle.olr_search.proofs.WayLemmas.{no_end, end_is}
+use Rattle.olr_near.proofs.BoundLemmas.{within_better, moves_then, lowered_from}
+use Rattle.olr_search.proofs.WayLemmas.{no_end, end_is, has_end}
 use Rattle.olr_search.specs.declared.distances.Direction.TheVariants.{Along}
 use Rattle.olr_near.proofs.distance_bounds.DistanceBounds.follow.Goals.{then-end-room+in_ok-relax, else-end-room}
 use Rattle.olr_near.proofs.distance_bounds.DistanceBounds.follow.Goals as goal
@@ -68,9 +67,11 @@ loop-end-preserved g c =
 
 pub returns-clause-closed : goal.returns-clause-closed
 returns-clause-closed g c = λ x known from short.
-    let k = end_there (g.M.MapRead.map c.args.map.now) (g.M.MapRead.node_slot c.args.map.now) c.args.node x
-    c.out_ends-end-items.result.now c.out_ends-end-items.ensures known from in
-    let w = c.loop-end.invariant.followed k.0 (omega arith) (omega arith) in
+    let M = g.M.MapRead.map c.args.map.now in
+    let k = has_end M (g.M.MapRead.node_slot c.args.map.now) Along c.args.node x c.out_ends-end-items.result.now
+    c.out_ends-end-items.ensures known from in
+    let long = k.len in
+    let within = k.within in
+    let w = c.loop-end.invariant.followed k.index (omega arith) (omega arith) in
     let L = bound_of c.loop-end.self in
-    coe 0 1 (i. Within L (k.2 i) (c.args.number + dm (g.M.MapRead.map c.args.map.now) x))
-    (coe 0 1 (i. Within L (get_or c.out_ends-end-items.result.now k.0 no_end).node (c.args.number + (k.3 i))) w)
+    coe 0 1 (i. Within L (k.node i) (c.args.number + k.len i)) w
