@@ -1,7 +1,6 @@
 pub mod Runs
 pub mod Choosing
 pub mod Distinct
-pub mod EachLine
 pub mod Ends
 pub mod Extending
 pub mod Faulting

@@ -2,14 +2,13 @@
 --     outermost d ls      the last of the lines along them, the first against them
 --     joined d ls c      the lines and the run c, in the order of travel
 --     in_order d xs      the elements of a run, which are listed from the outermost one inwards, in the order of travel
---     lines_at M d v      the lines that are entered at node v in this direction
 --     LeadsOn M d z x      line x leads on from line z through a degree-two node, and not back to where z is entered
 --     LiesBeyond M d z through line      whether the node beyond line z is a degree-two node, and the line that leads on
 --         through it, or that there is none
 --     IsLongest M d ls c      c is the longest run within the limit
 --     IsRun M d ls rs len valid      rs is that run as the map has it; its length, and whether it leads to a valid node
 use Rattle.std.specs.Prelude.{◌≡◌, ◌≢◌, ℕ, Bool, not, List, ◌++◌, reverse, Option, MatchOption, IsTrue}
-use Rattle.olr_spec.specs.Map.{Map, has_line, lines_in, lines_out}
+use Rattle.olr_spec.specs.Map.{Map, has_line}
 use Rattle.olr_spec.specs.Routes.{dm_of}
 use Rattle.olr_spec.specs.Extension.{passing, first, last, LongestStart, LongestEnd}
 use Rattle.olr_search.specs.Distances.{near_end, far_end}
@@ -28,10 +27,6 @@ joined Against ls c = c ++ ls
 abbrev pub in_order : {X : Type 0} → Direction → List X → List X
 in_order Along xs = reverse xs
 in_order Against xs = xs
-
-abbrev pub lines_at : Map → Direction → ℕ → List ℕ
-lines_at M Along v = lines_out M v
-lines_at M Against v = lines_in M v
 
 pub record LeadsOn (M : Map) (d : Direction) (z x : ℕ) : Type 0 where
   pub known : IsTrue (has_line M x)

@@ -4,8 +4,8 @@ ghost use Rattle.std.specs.Prelude.{◌≡◌, ◌<◌, ◌≤◌, ◌+◌, ◌�
 ghost use Rattle.std.specs.Prelude.{MatchOption, Some, length, reverse, [], ⊤};
 ghost use Rattle.olr_spec.specs.Map.{Map, has_line, has};
 ghost use Rattle.olr_spec.specs.Extension.{limit};
-ghost use Rattle.olr_search.specs.Distances.{near_end, far_end};
-ghost use Rattle.olr_refs.specs.Runs.{outermost, in_order, lines_at, LiesBeyond, IsRun};
+ghost use Rattle.olr_search.specs.Distances.{near_end, far_end, lines_at};
+ghost use Rattle.olr_refs.specs.Runs.{outermost, in_order, LiesBeyond, IsRun};
 ghost use Rattle.olr_refs.specs.ResolvedLines.{record_of, ids, AreRecords};
 
 use crate::line_set::LineSet;

@@ -2,7 +2,7 @@ use Rattle.std.proofs.Common.{◌≡◌, ℕ, true, false, eqb, IsTrue, ap, sym,
 use Rattle.std.proofs.lemmas.Bool.{both_ways, eq-eqb, not-true}
 use Rattle.olr_spec.specs.Extension.{passing}
 use Rattle.olr_search.specs.Distances.{far_end}
-use Rattle.olr_refs.proofs.EachLine.{read_at, found_at}
+use Rattle.olr_search.proofs.ReadLemmas.{read_at, found_at}
 use Rattle.olr_refs.proofs.degree_two_runs.line_beyond.Goals as goal
 use Rattle.olr_refs.proofs.degree_two_runs.line_beyond.Goals.{then-through+else-loop-next-test, else-through}
 
