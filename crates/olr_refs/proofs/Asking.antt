@@ -29,37 +29,39 @@ use Rattle.std.proofs.lemmas.List.{append-nil}
 -- ---- the LRPs of a list
 
 module _ (M : Map) (ls : List ℕ) (lead own : ℕ) (given : List KnownQuery) where
+  -- where these LRPs are the ones that query
+  asks_by : (is ks : List ℕ) (queries searched : List CoverageQuery) (known : List KnownQuery) (a b : Work)
+      (s t : Option (List ℕ)) → ks ≡ querying ls is → QueriesFrom M ls ks queries →
+      FoundFor (IsKnownAt M ls lead own) ks known → FoundFor (IsSearched M ls lead own given) ks searched →
+      Queried M searched a b → Notes (SeenBy M searched) s t → Asks M ls lead own given is queries known a b s t
+  asks_by is ks queries searched known a b s t e q k o c n =
+      record {
+        searched = searched;
+        each = subst (λ (ks : List ℕ). QueriesFrom M ls ks queries) e q;
+        own_queries = subst (λ (ks : List ℕ). FoundFor (IsKnownAt M ls lead own) ks known) e k;
+        others = subst (λ (ks : List ℕ). FoundFor (IsSearched M ls lead own given) ks searched) e o;
+        counts = c;
+        notes = n;
+      }
+
   pub asks_none : (queries : List CoverageQuery) (known : List KnownQuery) (w : Work) (s : Option (List ℕ)) →
       queries ≡ [] → known ≡ [] → Asks M ls lead own given [] queries known w w s s
   asks_none queries known w s e f =
-      record {
-        searched = [];
-        each = subst (QueriesFrom M ls []) (sym e) tt;
-        own_queries = f;
-        others = refl;
-        counts = queried_none M w;
-        notes = noted_none M [] s refl;
-      }
+      asks_by [] [] queries [] known w w s s refl (subst (QueriesFrom M ls []) (sym e) tt) f refl (queried_none M w)
+      (noted_none M [] s refl)
 
   pub asks_append : (is js : List ℕ) (q r : List CoverageQuery) (k l : List KnownQuery) (a b c : Work)
       (s t u : Option (List ℕ)) → Asks M ls lead own given is q k a b s t → Asks M ls lead own given js r l b c t u →
       Asks M ls lead own given (is ++ js) (q ++ r) (k ++ l) a c s u
   asks_append is js q r k l a b c s t u x y =
-      let both : querying ls is ++ querying ls js ≡ querying ls (is ++ js) =
-      sym (filter-append (λ i. nat_lt (i + 2) (length ls)) is js) in
-      record {
-        searched = x.searched ++ y.searched;
-        each = subst (λ (ks : List ℕ). QueriesFrom M ls ks (q ++ r)) both
-            (zip_append (IsQuery M ls) (querying ls is) (querying ls js) q r x.each y.each);
-        own_queries = subst (λ (ks : List ℕ). FoundFor (IsKnownAt M ls lead own) ks (k ++ l)) both
-            (found_append (IsKnownAt M ls lead own) (querying ls is) (querying ls js) k l x.own_queries y.own_queries);
-        others = subst (λ (ks : List ℕ). FoundFor (IsSearched M ls lead own given) ks (x.searched ++ y.searched)) both
-            (found_append (IsSearched M ls lead own given) (querying ls is) (querying ls js) x.searched y.searched
-            x.others y.others);
-        counts = queried_more M x.searched y.searched a b c x.counts y.counts;
-        notes = notes_more (SeenBy M x.searched) (SeenBy M y.searched) (SeenBy M (x.searched ++ y.searched)) s t u
-            (seen_append M x.searched y.searched) x.notes y.notes;
-      }
+      asks_by (is ++ js) (querying ls is ++ querying ls js) (q ++ r) (x.searched ++ y.searched) (k ++ l) a c s u
+      (sym (filter-append (λ i. nat_lt (i + 2) (length ls)) is js))
+      (zip_append (IsQuery M ls) (querying ls is) (querying ls js) q r x.each y.each)
+      (found_append (IsKnownAt M ls lead own) (querying ls is) (querying ls js) k l x.own_queries y.own_queries)
+      (found_append (IsSearched M ls lead own given) (querying ls is) (querying ls js) x.searched y.searched x.others
+      y.others) (queried_more M x.searched y.searched a b c x.counts y.counts)
+      (notes_more (SeenBy M x.searched) (SeenBy M y.searched) (SeenBy M (x.searched ++ y.searched)) s t u
+      (seen_append M x.searched y.searched) x.notes y.notes)
 
   -- ---- one LRP
 
@@ -67,33 +69,17 @@ module _ (M : Map) (ls : List ℕ) (lead own : ℕ) (given : List KnownQuery) wh
   pub asks_nowhere : (i : ℕ) (w : Work) (s : Option (List ℕ)) → length ls ≤ i + 2 →
       Asks M ls lead own given (i ∷ []) [] [] w w s s
   asks_nowhere i w s h =
-      let none : [] ≡ querying ls (i ∷ []) = grind (arith, nat_tests) in
-      record {
-        searched = [];
-        each = subst (λ (is : List ℕ). QueriesFrom M ls is []) none tt;
-        own_queries = subst (λ (is : List ℕ). FoundFor (IsKnownAt M ls lead own) is []) none refl;
-        others = subst (λ (is : List ℕ). FoundFor (IsSearched M ls lead own given) is []) none refl;
-        counts = queried_none M w;
-        notes = noted_none M [] s refl;
-      }
+      asks_by (i ∷ []) [] [] [] [] w w s s (grind (arith, nat_tests)) tt refl refl (queried_none M w)
+      (noted_none M [] s refl)
 
   -- or where the query is known
   pub asks_known : (i : ℕ) (e : KnownQuery) (w : Work) (s : Option (List ℕ)) → i + 2 < length ls →
       IsKnownAt M ls lead own i e → Contains given e →
       Asks M ls lead own given (i ∷ []) (e.query ∷ []) (e ∷ []) w w s s
   asks_known i e w s h k c =
-      let one : i ∷ [] ≡ querying ls (i ∷ []) = grind (arith, nat_tests) in
-      record {
-        searched = [];
-        each = subst (λ (is : List ℕ). QueriesFrom M ls is (e.query ∷ [])) one
-            ((lead + e.last, k.tested, k.query), tt);
-        own_queries = subst (λ (is : List ℕ). FoundFor (IsKnownAt M ls lead own) is (e ∷ [])) one
-            (found_here (IsKnownAt M ls lead own) i [] e [] k refl);
-        others = subst (λ (is : List ℕ). FoundFor (IsSearched M ls lead own given) is []) one
-            (inl ((λ q x. x.1 (e, c, k)), refl));
-        counts = queried_none M w;
-        notes = noted_none M [] s refl;
-      }
+      asks_by (i ∷ []) (i ∷ []) (e.query ∷ []) [] (e ∷ []) w w s s (grind (arith, nat_tests))
+      ((lead + e.last, k.tested, k.query), tt) (found_here (IsKnownAt M ls lead own) i [] e [] k refl)
+      (inl ((λ q x. x.1 (e, c, k)), refl)) (queried_none M w) (noted_none M [] s refl)
 
   own_here : (i : ℕ) (o : Option KnownQuery) →
       MatchOption o ((e : KnownQuery) → ¬ IsKnownAt M ls lead own i e) (IsKnownAt M ls lead own i) →
@@ -108,17 +94,10 @@ module _ (M : Map) (ls : List ℕ) (lead own : ℕ) (given : List KnownQuery) wh
       Queried M (query ∷ []) a b → Notes (Sees M query) s t →
       Asks M ls lead own given (i ∷ []) (query ∷ []) (option_to_list o) a b s t
   asks_searched i query o a b s t h is fresh known counts notes =
-      let one : i ∷ [] ≡ querying ls (i ∷ []) = grind (arith, nat_tests) in
-      record {
-        searched = query ∷ [];
-        each = subst (λ (is : List ℕ). QueriesFrom M ls is (query ∷ [])) one (is, tt);
-        own_queries = subst (λ (is : List ℕ). FoundFor (IsKnownAt M ls lead own) is (option_to_list o)) one
-            (own_here i o known);
-        others = subst (λ (is : List ℕ). FoundFor (IsSearched M ls lead own given) is (query ∷ [])) one
-            (found_here (IsSearched M ls lead own given) i [] query [] (is, fresh) refl);
-        counts = counts;
-        notes = notes_same (Sees M query) (SeenBy M (query ∷ [])) s t (seen_one M query) notes;
-      }
+      asks_by (i ∷ []) (i ∷ []) (query ∷ []) (query ∷ []) (option_to_list o) a b s t (grind (arith, nat_tests))
+      (is, tt) (own_here i o known)
+      (found_here (IsSearched M ls lead own given) i [] query [] (is, fresh) refl) counts
+      (notes_same (Sees M query) (SeenBy M (query ∷ [])) s t (seen_one M query) notes)
 
 -- ---- from LRP to LRP
 

@@ -96,27 +96,14 @@ same_once ns sorted once moved is v = (
 -- what three lists append, one after the other
 pub three_lists : (M : Map) (ls b a xs ys zs : List ℕ) → HasEnds M [] ls xs → HasEnds M xs b ys → HasEnds M ys a zs →
     (v : ℕ) → Contains zs v ↔ (NodeOf M ls v ⊎ (NodeOf M b v ⊎ NodeOf M a v))
-three_lists M ls b a xs ys zs f g h v = (one_of, among)
-  where
-    first_list : Contains xs v → NodeOf M ls v
-    first_list k = elim ((f v).0 k) [ inl none ↦ absurd (omega (arith, none.1)) | inr n ↦ n ]
-
-    one_of : Contains zs v → NodeOf M ls v ⊎ (NodeOf M b v ⊎ NodeOf M a v)
-    one_of k =
-        elim ((h v).0 k) [
-          | inl j ↦ elim ((g v).0 j) [ inl i ↦ inl (first_list i) | inr n ↦ inr (inl n) ]
-          | inr n ↦ inr (inr n)
-        ]
-
-    among : NodeOf M ls v ⊎ (NodeOf M b v ⊎ NodeOf M a v) → Contains zs v
-    among (inl n) = (h v).1 (inl ((g v).1 (inl ((f v).1 (inr n)))))
-    among (inr (inl n)) = (h v).1 (inl ((g v).1 (inr n)))
-    among (inr (inr n)) = (h v).1 (inr n)
+three_lists M ls b a xs ys zs f g h v =
+    let x = f v in
+    let y = g v in
+    let z = h v in
+    let none : Contains [] v → ⊥ = λ c. let never = c.1 in omega arith in
+    grind arith
 
 -- the members of a set to which numbers were added, by what these are
 pub grown_by : (F G once : List ℕ) (Is : ℕ → Type 0) → ((v : ℕ) → Contains once v ↔ Is v) →
     ((v : ℕ) → Contains G v ↔ (Contains F v ⊎ Contains once v)) → (v : ℕ) → Contains G v ↔ (Contains F v ⊎ Is v)
-grown_by F G once Is is grew v = (
-  λ h. elim ((grew v).0 h) [ inl f ↦ inl f | inr o ↦ inr ((is v).0 o) ],
-  λ h. (grew v).1 (elim h [ inl f ↦ inl f | inr n ↦ inr ((is v).1 n) ]),
-)
+grown_by F G once Is is grew v = let x = is v in let y = grew v in grind arith

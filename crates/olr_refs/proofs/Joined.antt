@@ -32,13 +32,6 @@ known_read M ls k x w h e =
 pub known_get : (M : Map) (ls : List ℕ) (k d : ℕ) → AreJoined M ls → k < length ls → IsTrue (has_line M (get_or ls k d))
 known_get M ls k d w h = known_read M ls k (get_or ls k d) w h (get_or_default ls k d (get_or ls k d) h)
 
--- the last line, as the definitions name it
-pub last_index : (ls : List ℕ) → 0 < length ls → slice_index ls (length ls - 1) ≡ last ls
-last_index [] h = absurd (omega arith)
-last_index (x ∷ []) h = refl
-last_index (x ∷ y ∷ xs) h = let n : length (x ∷ y ∷ xs) - 1 ≡ suc (length (y ∷ xs) - 1) =
-    omega arith in ap (slice_index (x ∷ y ∷ xs)) n ∙ last_index (y ∷ xs) (omega arith)
-
 -- both ends of a line of the map are on the map
 pub start_known : (M : Map) → IsMap M → (x n : ℕ) → IsTrue (has_line M x) → n ≡ start M x → IsTrue (has_node M n)
 start_known M m x n h e = subst (λ v. IsTrue (has_node M v)) (sym e) (m.starts x h)

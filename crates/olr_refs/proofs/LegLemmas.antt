@@ -54,16 +54,6 @@ record_sound M m x l h e =
     subst (λ (r : Line). IsTrue (is_good r) × IsTrue (has_node M r.from) × IsTrue (has_node M r.to)) (sym e)
     (m.good x h, m.starts x h, m.ends x h)
 
--- ---- lengths
-
-pub between_is : (M : Map) (ls ds : List ℕ) (i j : ℕ) → AreDistances M ls ds → i ≤ j → j ≤ length ls →
-    slice_index ds j - slice_index ds i ≡ dm_between (legs M ls) i j
-between_is M ls ds i j a h g =
-    let sum = dm_stretch M ls ds i j a h g in
-    let same : dm_between (legs M ls) i j ≡ dm_of M (stretch ls i j) =
-    ap dm_along (range_map (leg M) ls i j) ∙ dm_along-legs M (stretch ls i j) in
-    omega arith
-
 -- ---- attributes
 
 class_read : (M : Map) (ls : List ℕ) (rs : List ResolvedLine) (i j : ℕ) → rs ≡ records_of M ls →

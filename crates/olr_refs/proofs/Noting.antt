@@ -14,7 +14,7 @@ use Rattle.olr_spec.specs.Extension.{limit}
 use Rattle.olr_spec.specs.Points.{Next, Follow, NoNext, last_position, stretch}
 use Rattle.olr_spec.specs.Footprint.{Sees}
 use Rattle.olr_spec.specs.Queries.{CoverageQuery, IsLastTested}
-use Rattle.olr_spec.proofs.ListLemmas.{Contains-here, Contains-cases}
+use Rattle.olr_spec.proofs.ListLemmas.{Contains-here, Contains-one}
 use Rattle.olr_search.specs.declared.work.Work.{Work}
 use Rattle.olr_search.specs.declared.distances.Direction.TheVariants.{Along}
 use Rattle.olr_search.specs.Counts.{saturated_count}
@@ -27,49 +27,32 @@ use Rattle.olr_refs.proofs.Reaching.{empty_stretch}
 
 -- ---- what a search settles
 
--- what a search labels within a length is reached by a route of at most the length
-near_reach : (M : Map) (s v far : ℕ) → LiesWithin M Along ((s, 0) ∷ []) far v → Reaches M s far v
-near_reach M s v far n =
-    let l = n.1.leads in
-    elim (Contains-cases (s, 0) (l.source, l.begun) [] l.listed) [
-      | inl e ↦
-          let from : s ≡ l.source = ap (λ (p : ℕ × ℕ). p.0) e in
-          let begun : 0 ≡ l.begun = ap (λ (p : ℕ × ℕ). p.1) e in
-          let long = l.long in
-          let within = n.2 in
-          (l.lines, subst (λ (u : ℕ). IsRoute M u v l.lines) (sym from) l.way, omega arith)
-      | inr none ↦ let never : none.0 < 0 = none.1 in absurd (omega arith)
-    ]
-
--- and where the search is settled so far, exactly what such a route reaches
-near_reached : (M : Map) (place : ℕ → ℕ) (s : ℕ) (q : Dijkstra) → IsSearch M place Along ((s, 0) ∷ []) q →
-    IsTrue (has_node M s) → (v : ℕ) → LiesWithin M Along ((s, 0) ∷ []) (limit_of q) v ↔ Reaches M s (limit_of q) v
-near_reached M place s q h there v = (
-  near_reach M s v (limit_of q),
-  λ r. let short = r.2 in
-      near_leads M place Along ((s, 0) ∷ []) q h v (dm_of M r.0) (omega arith) record {
-        source = s;
-        begun = 0;
-        lines = r.0;
-        listed = Contains-here (s, 0) [];
-        there = there;
-        way = r.1;
-        long = omega arith;
-      },
-)
-
 -- a search for a query settles what the query reaches
-pub search_sees : (M : Map) (place : ℕ → ℕ) (l : CoverageQuery) (s : ℕ) (q : Dijkstra) →
-    IsSearch M place Along ((s, 0) ∷ []) q →
-    IsTrue (has_node M s) → s ≡ l.from → limit_of q ≡ l.within → (v : ℕ) →
-    LiesWithin M Along ((s, 0) ∷ []) (limit_of q) v ↔ Sees M l v
-search_sees M place l s q h there begun far v =
-    let reach = near_reached M place s q h there v in
-    let from : Reaches M s (limit_of q) v ↔ Reaches M l.from (limit_of q) v =
-    subst (λ (u : ℕ). Reaches M s (limit_of q) v ↔ Reaches M u (limit_of q) v) begun ((λ r. r), (λ r. r)) in
-    let to : Reaches M l.from (limit_of q) v ↔ Reaches M l.from l.within v =
-    subst (λ (d : ℕ). Reaches M l.from (limit_of q) v ↔ Reaches M l.from d v) far ((λ r. r), (λ r. r)) in
-    ((λ n. to.0 (from.0 (reach.0 n))), (λ r. reach.1 (from.1 (to.1 r))))
+pub search_sees : (M : Map) (place : ℕ → ℕ) (l : CoverageQuery) (q : Dijkstra) →
+    IsSearch M place Along ((l.from, 0) ∷ []) q → IsTrue (has_node M l.from) → limit_of q ≡ l.within → (v : ℕ) →
+    LiesWithin M Along ((l.from, 0) ∷ []) (limit_of q) v ↔ Sees M l v
+search_sees M place l q h there far v = (forth, back)
+  where
+    forth : LiesWithin M Along ((l.from, 0) ∷ []) (limit_of q) v → Sees M l v
+    forth n =
+        let k = n.1.leads in
+        let is = Contains-one (l.from, 0) (k.source, k.begun) k.listed in
+        let long = k.long in
+        let within = n.2 in
+        (k.lines, subst (λ (u : ℕ). IsRoute M u v k.lines) (ap (λ (p : ℕ × ℕ). p.0) is) k.way, omega arith)
+
+    back : Sees M l v → LiesWithin M Along ((l.from, 0) ∷ []) (limit_of q) v
+    back r =
+        let short = r.2 in
+        near_leads M place Along ((l.from, 0) ∷ []) q h v (dm_of M r.0) (omega arith) record {
+          source = l.from;
+          begun = 0;
+          lines = r.0;
+          listed = Contains-here (l.from, 0) [];
+          there = there;
+          way = r.1;
+          long = omega arith;
+        }
 
 -- a coverage query reaches no farther than two LRPs may be apart
 pub query_short : (M : Map) (ls : List ℕ) (i k : ℕ) → IsLastTested M ls i k → dm_of M (stretch ls (i + 1) k) ≤ limit
@@ -142,12 +125,12 @@ queried_more M ks ls a b c f g =
     }
 
 -- one search for a query
-pub one_query : (M : Map) (place : ℕ → ℕ) (l : CoverageQuery) (s n : ℕ) (q : Dijkstra) (before after : Work) →
-    IsSearch M place Along ((s, 0) ∷ []) q → IsTrue (has_node M s) → s ≡ l.from → limit_of q ≡ l.within
-    → Counts M Along ((s, 0) ∷ []) (limit_of q) n
+pub one_query : (M : Map) (place : ℕ → ℕ) (l : CoverageQuery) (n : ℕ) (q : Dijkstra) (before after : Work) →
+    IsSearch M place Along ((l.from, 0) ∷ []) q → IsTrue (has_node M l.from) → limit_of q ≡ l.within
+    → Counts M Along ((l.from, 0) ∷ []) (limit_of q) n
     → after.encodings ≡ before.encodings → after.searches ≡ saturated_count (before.searches + 1) →
     after.settled ≡ saturated_count (before.settled + n) → Queried M (l ∷ []) before after
-one_query M place l s n q before after h there begun far c encodings searches settled =
+one_query M place l n q before after h there far c encodings searches settled =
     record {
       encodings = encodings;
       searches = searches;
@@ -157,7 +140,7 @@ one_query M place l s n q before after h there begun far c encodings searches se
         record {
           nodes = c.nodes;
           apart = c.apart;
-          exactly = λ v. let sees = search_sees M place l s q h there begun far v in
+          exactly = λ v. let sees = search_sees M place l q h there far v in
               ((λ m. sees.0 ((c.exactly v).0 m)), (λ r. (c.exactly v).1 (sees.1 r)));
           many = c.many;
         },
@@ -173,13 +156,6 @@ zip_append R [] xs [] ys z w = w
 zip_append R [] xs (b ∷ bs) ys z w = absurd z
 zip_append R (a ∷ ws) xs [] ys z w = absurd z
 zip_append R (a ∷ ws) xs (b ∷ bs) ys z w = (z.0, zip_append R ws xs bs ys z.1 w)
-
-pub zip_length : {X Y : Type 0} (R : X → Y → Type 0) (xs : List X) (ys : List Y) → AllZip R xs ys →
-    length xs ≡ length ys
-zip_length R [] [] z = refl
-zip_length R [] (y ∷ ys) z = absurd z
-zip_length R (x ∷ xs) [] z = absurd z
-zip_length R (x ∷ xs) (y ∷ ys) z = let rest = zip_length R xs ys z.1 in omega arith
 
 -- ---- from LRP to LRP
 

@@ -29,7 +29,7 @@ use Rattle.olr_refs.specs.Answers as answers
 use Rattle.olr_refs.specs.Choice.{ForPoints, searches_of}
 use Rattle.olr_refs.specs.Reuse.{Reuses, Asks, AsksOf}
 use Rattle.olr_search.specs.declared.work.Work.{Work}
-use Rattle.olr_refs.proofs.Noting.{zip_length}
+use Rattle.std.proofs.lemmas.Slice.Zip.{AllZip-long}
 use Rattle.std.proofs.lemmas.List.Sums.{length-filter}
 use Rattle.olr_refs.specs.Extends.{Extends}
 use Rattle.olr_refs.specs.KeptPoints.{later}
@@ -233,6 +233,6 @@ searches_queried M P queries o = by (path_fault M P) o
         MatchOption f (OfPath M P (λ E _ _ js. length queries ≡ searches_of E.lines (0 ∷ js))) (λ _. length queries ≡ 0)
     by None l =
         let ls = (extended_path M P l.before l.after).lines in
-        path_also l (sym (zip_length (IsQuery M ls) (querying ls (0 ∷ l.points)) queries l.holds)
+        path_also l (AllZip-long (IsQuery M ls) (querying ls (0 ∷ l.points)) queries l.holds
         ∙ length-filter (λ i. nat_lt (i + 2) (length ls)) (0 ∷ l.points))
     by (Some f) e = ap length e

@@ -21,49 +21,20 @@ pub notes_same : (P Q : ℕ → Type 0) (a b : Option (List ℕ)) → ((v : ℕ)
 notes_same P Q None None e n = tt
 notes_same P Q None (Some g) e n = absurd n
 notes_same P Q (Some f) None e n = absurd n
-notes_same P Q (Some f) (Some g) e n = λ v. (forth v, back v)
-  where
-    forth : (v : ℕ) → Contains g v → Contains f v ⊎ Q v
-    forth v c = elim ((n v).0 c) [ inl o ↦ inl o | inr p ↦ inr ((e v).0 p) ]
-
-    back : (v : ℕ) → Contains f v ⊎ Q v → Contains g v
-    back v (inl o) = (n v).1 (inl o)
-    back v (inr q) = (n v).1 (inr ((e v).1 q))
+notes_same P Q (Some f) (Some g) e n = λ v. let p = e v in let q = n v in grind arith
 
 pub notes_none : (P : ℕ → Type 0) (a : Option (List ℕ)) → ((v : ℕ) → P v → ⊥) → Notes P a a
 notes_none P None e = tt
-notes_none P (Some f) e = λ v. (λ c. inl c, back v)
-  where
-    back : (v : ℕ) → Contains f v ⊎ P v → Contains f v
-    back v (inl o) = o
-    back v (inr p) = absurd (e v p)
+notes_none P (Some f) e = λ v. let p = e v in grind arith
 
 pub notes_more : (P Q R : ℕ → Type 0) (a b c : Option (List ℕ)) → ((v : ℕ) → R v ↔ (P v ⊎ Q v)) → Notes P a b →
     Notes Q b c → Notes R a c
-notes_more P Q R None None c e n m = more c m
-  where
-    more : (c : Option (List ℕ)) → Notes Q None c → Notes R None c
-    more None k = tt
-    more (Some h) k = absurd k
+notes_more P Q R None None None e n m = tt
+notes_more P Q R None None (Some h) e n m = absurd m
 notes_more P Q R None (Some g) c e n m = absurd n
 notes_more P Q R (Some f) None c e n m = absurd n
 notes_more P Q R (Some f) (Some g) None e n m = absurd m
-notes_more P Q R (Some f) (Some g) (Some h) e n m = λ v. (forth v, back v)
-  where
-    from : (v : ℕ) → Contains f v ⊎ P v → Contains f v ⊎ R v
-    from v (inl o) = inl o
-    from v (inr p) = inr ((e v).1 (inl p))
-
-    forth : (v : ℕ) → Contains h v → Contains f v ⊎ R v
-    forth v c = elim ((m v).0 c) [ inl o ↦ from v ((n v).0 o) | inr q ↦ inr ((e v).1 (inr q)) ]
-
-    there : (v : ℕ) → P v ⊎ Q v → Contains h v
-    there v (inl p) = (m v).1 (inl ((n v).1 (inr p)))
-    there v (inr q) = (m v).1 (inr q)
-
-    back : (v : ℕ) → Contains f v ⊎ R v → Contains h v
-    back v (inl o) = (m v).1 (inl ((n v).1 (inl o)))
-    back v (inr r) = there v ((e v).0 r)
+notes_more P Q R (Some f) (Some g) (Some h) e n m = λ v. let p = e v in let q = n v in let r = m v in grind arith
 
 -- the nodes of a search are noted
 pub nodes_noted : (P : ℕ → Type 0) (a : Option (List ℕ)) (f g nodes : List ℕ) → a ≡ Some f
@@ -74,10 +45,10 @@ nodes_noted P a f g nodes e n p =
     (notes_same (Contains nodes) P (Some f) (Some g) p n)
 
 -- what the search for a query notes
-pub query_noted : (M : Map) (place : ℕ → ℕ) (l : CoverageQuery) (s : ℕ) (q : Dijkstra) (a b : Option (List ℕ)) →
-    IsSearch M place Along ((s, 0) ∷ []) q → IsTrue (has_node M s) → s ≡ l.from → limit_of q ≡ l.within
-    → Notes (LiesWithin M Along ((s, 0) ∷ []) (limit_of q)) a b → Notes (Sees M l) a b
-query_noted M place l s q a b h there begun far n = notes_same _ _ a b (search_sees M place l s q h there begun far) n
+pub query_noted : (M : Map) (place : ℕ → ℕ) (l : CoverageQuery) (q : Dijkstra) (a b : Option (List ℕ)) →
+    IsSearch M place Along ((l.from, 0) ∷ []) q → IsTrue (has_node M l.from) → limit_of q ≡ l.within
+    → Notes (LiesWithin M Along ((l.from, 0) ∷ []) (limit_of q)) a b → Notes (Sees M l) a b
+query_noted M place l q a b h there far n = notes_same _ _ a b (search_sees M place l q h there far) n
 
 -- ---- what the queries reach
 

@@ -1,10 +1,13 @@
-use Rattle.std.proofs.Common.{ℕ, refl, sym, ◌∙◌, subst, arith}
+use Rattle.std.proofs.Common.{ℕ, [], ◌∷◌, refl, sym, ◌∙◌, subst, arith}
 use Rattle.std.specs.Prelude.{IsTrue}
 use Rattle.olr_spec.specs.Map.{has_node}
 use Rattle.olr_spec.specs.Queries.{CoverageQuery}
 use Rattle.olr_refs.proofs.Noting.{query_short, one_query}
 use Rattle.olr_refs.proofs.Seen.{query_noted}
+use Rattle.olr_search.specs.declared.distances.Direction.TheVariants.{Along}
+use Rattle.olr_search.specs.Searches.{IsSearch}
 use Rattle.olr_refs.proofs.chosen.search_after.Goals as goal
+use Rattle.olr_refs.proofs.chosen.search_after.Given.{Over}
 
 pub overflow_cast-query : goal.overflow_cast-query
 overflow_cast-query g c =
@@ -17,24 +20,29 @@ overflow_cast-query g c =
 pub note_settled-requires : goal.note_settled-requires
 note_settled-requires g c = (_, _, _, _, c.in_ok-tested.ensures.search)
 
+-- the search, as one from where the query begins
+search : (g : Over) (c : goal.After-between g) →
+    IsSearch (g.M.MapRead.map c.args.resolved.now.map.now) (g.M.MapRead.node_slot c.args.resolved.now.map.now) Along
+    ((c.end-from.result, 0) ∷ []) c.covered_to.new.search
+search g c =
+    subst (λ (v : ℕ). IsSearch (g.M.MapRead.map c.args.resolved.now.map.now)
+    (g.M.MapRead.node_slot c.args.resolved.now.map.now) Along ((v, 0) ∷ []) c.covered_to.new.search)
+    (sym c.end-from.ensures.value) c.in_ok-tested.ensures.search
+
 pub returns-clause-seen : goal.returns-clause-seen
 returns-clause-seen g c =
     let M = g.M.MapRead.map c.args.resolved.now.map.now in
     let place = g.M.MapRead.node_slot c.args.resolved.now.map.now in
     let query : CoverageQuery = record { from = c.end-from.result; to = c.node.result; within = c.between.result } in
-    query_noted M place query _ c.covered_to.new.search _ _ c.in_ok-tested.ensures.search
-    (subst (λ (v : ℕ). IsTrue (has_node M v)) c.end-from.ensures.value c.end-from.ensures.known)
-    (sym c.end-from.ensures.value)
+    query_noted M place query c.covered_to.new.search _ _ (search g c) c.end-from.ensures.known
     (c.in_ok-tested.ensures.no_farther ∙ sym c.between.ensures.value)
-    (c.in_ok-note_settled.ensures M place _ _ c.in_ok-tested.ensures.search)
+    (c.in_ok-note_settled.ensures M place _ _ (search g c))
 
 pub returns-clause-work : goal.returns-clause-work
 returns-clause-work g c =
     let M = g.M.MapRead.map c.args.resolved.now.map.now in
     let place = g.M.MapRead.node_slot c.args.resolved.now.map.now in
     let query : CoverageQuery = record { from = c.end-from.result; to = c.node.result; within = c.between.result } in
-    one_query M place query _ c.settled_count.result c.covered_to.new.search c.args.work.now _
-    c.in_ok-tested.ensures.search (subst (λ (v : ℕ). IsTrue (has_node M v)) c.end-from.ensures.value
-    c.end-from.ensures.known) (sym c.end-from.ensures.value)
-    (c.in_ok-tested.ensures.no_farther ∙ sym c.between.ensures.value)
-    (c.settled_count.ensures _ _ _ _ c.in_ok-tested.ensures.search) refl (omega arith) (omega arith)
+    one_query M place query c.settled_count.result c.covered_to.new.search c.args.work.now _ (search g c)
+    c.end-from.ensures.known (c.in_ok-tested.ensures.no_farther ∙ sym c.between.ensures.value)
+    (c.settled_count.ensures _ _ _ _ (search g c)) refl (omega arith) (omega arith)

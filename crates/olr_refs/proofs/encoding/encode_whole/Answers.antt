@@ -34,10 +34,8 @@ returns-clause-answer g c =
 
 pub returns-clause-joins : goal.returns-clause-joins
 returns-clause-joins g c =
-    let M = g.M.MapRead.map c.args.map.now in
-    joins_of M c.args.path.now c.in_ok-answer.answer c.requires.sound
-    (encoding_of M c.args.path.now c.in_ok-extended.extended.path _ _ _ _ c.in_ok-extended.ensures.ok
-    c.in_ok-answer.ensures.answer)
+    joins_of (g.M.MapRead.map c.args.map.now) c.args.path.now c.in_ok-answer.answer c.requires.sound
+    (returns-clause-answer g c)
 
 pub returns-clause-traversed : goal.returns-clause-traversed
 returns-clause-traversed g c =

@@ -38,34 +38,31 @@ returns-then-not-ends_here-clause-none g c = λ n r.
     let is_not : c.ends_here.result ≡ false = c.if-not-ends_here.true in
     cc
 
-pub returns-clause-known : goal.returns-clause-known
-returns-clause-known g c =
+pub returns : goal.returns
+returns g c =
+    let M = g.M.MapRead.map c.args.resolved.now.map.now in
+    let ls = c.args.resolved.now.lines.now in
+    let lead = c.args.reuse.now.lead in
+    let own = c.args.reuse.now.own in
     let known = c.args.reuse.now.known.now in
-    let up = c.requires.reuse.are.ascend in
+    let reuse = c.requires.reuse in
+    let joined = c.args.resolved.now.joined in
+    let up = reuse.are.ascend in
     let leads = c.in_ok-first.ensures in
     let first = c.in_ok-first.first in
     let found = c.binary_search_by_key in
     let by_key = found.ensures.position (λ e. e.first) (answers_always _ _ _ (λ f a r g called. search rules)) in
-    let begins = begins_at known up first found.result by_key found.ensures.bound c.in_ok-k.k c.in_ok-k.ensures.value
+    let at = begins_at known up first found.result by_key found.ensures.bound c.in_ok-k.k c.in_ok-k.ensures.value
     c.index-reuse-k.result in
-    known_at (g.M.MapRead.map c.args.resolved.now.map.now) c.args.resolved.now.lines.now c.args.reuse.now.lead
-    c.args.reuse.now.own known c.requires.reuse c.args.resolved.now.joined c.args.i c.args.far c.requires.some
-    c.requires.far (get_or known c.in_ok-k.k c.index-reuse-k.result)
-    (listed_at known up first found.result found.ensures.bound c.in_ok-k.k c.in_ok-k.ensures.value c.index-reuse-k.result)
-    (omega arith) (c.ends_here.ensures.0 c.if-not-ends_here.false)
-
-pub returns-clause-reach : goal.returns-clause-reach
-returns-clause-reach g c =
-    let known = c.args.reuse.now.known.now in
-    let up = c.requires.reuse.are.ascend in
-    let leads = c.in_ok-first.ensures in
-    let first = c.in_ok-first.first in
-    let found = c.binary_search_by_key in
-    let by_key = found.ensures.position (λ e. e.first) (answers_always _ _ _ (λ f a r g called. search rules)) in
-    let begins = begins_at known up first found.result by_key found.ensures.bound c.in_ok-k.k c.in_ok-k.ensures.value
+    let there = get_or known c.in_ok-k.k c.index-reuse-k.result in
+    let listed = listed_at known up first found.result found.ensures.bound c.in_ok-k.k c.in_ok-k.ensures.value
     c.index-reuse-k.result in
-    reach_known (g.M.MapRead.map c.args.resolved.now.map.now) c.args.resolved.now.lines.now c.args.reuse.now.lead
-    c.args.reuse.now.own known c.requires.reuse c.args.resolved.now.joined c.args.i c.args.far c.requires.some
-    c.requires.far (get_or known c.in_ok-k.k c.index-reuse-k.result)
-    (listed_at known up first found.result found.ensures.bound c.in_ok-k.k c.in_ok-k.ensures.value c.index-reuse-k.result)
-    (omega arith) (c.ends_here.ensures.0 c.if-not-ends_here.false)
+    let ends = c.ends_here.ensures.0 c.if-not-ends_here.false in
+    record {
+      none = λ none. absurd cc;
+      known = known_at M ls lead own known reuse joined c.args.i c.args.far c.requires.some c.requires.far there listed
+          (omega arith) ends;
+      reach = reach_known M ls lead own known reuse joined c.args.i c.args.far c.requires.some c.requires.far there
+          listed (omega arith) ends;
+      given = listed;
+    }

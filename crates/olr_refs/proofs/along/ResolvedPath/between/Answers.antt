@@ -1,6 +1,10 @@
-use Rattle.std.proofs.Common.{arith}
+use Rattle.std.proofs.Common.{◌≡◌, ◌-◌, ◌∙◌, sym, arith}
+use Rattle.std.specs.List.{slice_index}
+use Rattle.olr_spec.specs.Routes.{dm_of}
+use Rattle.olr_spec.specs.Points.{stretch}
+use Rattle.olr_spec.proofs.FieldLemmas.{dm_same}
+use Rattle.olr_refs.proofs.LegLemmas.{joined_known}
 use Rattle.olr_refs.proofs.Stretches.{dm_stretch}
-use Rattle.olr_refs.proofs.LegLemmas.{between_is}
 use Rattle.olr_refs.proofs.along.ResolvedPath.between.Goals as goal
 
 pub overflow_sub-result : goal.overflow_sub-result
@@ -9,13 +13,17 @@ overflow_sub-result g c =
     dm_stretch (g.M.MapRead.map c.args.self.now.map.now) c.args.self.now.lines.now c.args.self.now.distances.now
     c.args.i c.args.j c.args.self.now.measured c.requires.order c.requires.within in omega arith
 
-pub returns-clause-value : goal.returns-clause-value
-returns-clause-value g c =
+pub returns : goal.returns
+returns g c =
+    let M = g.M.MapRead.map c.args.self.now.map.now in
+    let ls = c.args.self.now.lines.now in
+    let ds = c.args.self.now.distances.now in
     let sum =
-    dm_stretch (g.M.MapRead.map c.args.self.now.map.now) c.args.self.now.lines.now c.args.self.now.distances.now
-    c.args.i c.args.j c.args.self.now.measured c.requires.order c.requires.within in omega arith
-
-pub returns-clause-legs : goal.returns-clause-legs
-returns-clause-legs g c =
-    between_is (g.M.MapRead.map c.args.self.now.map.now) c.args.self.now.lines.now c.args.self.now.distances.now
-    c.args.i c.args.j c.args.self.now.measured c.requires.order c.requires.within
+    dm_stretch M ls ds c.args.i c.args.j c.args.self.now.measured c.requires.order c.requires.within in
+    let value : slice_index ds c.args.j - slice_index ds c.args.i ≡ dm_of M (stretch ls c.args.i c.args.j) =
+    omega arith in
+    record {
+      value = value;
+      legs = value ∙ sym (dm_same M (g.met.M.MapRead.sound c.args.self.now.map.now) ls
+          (joined_known M ls c.args.self.now.joined) c.args.i c.args.j);
+    }

@@ -5,7 +5,8 @@ use Rattle.olr_spec.specs.Extension.{last}
 use Rattle.olr_spec.specs.Points.{node_at}
 use Rattle.std.proofs.lemmas.Bool.Decides.{nat_tests}
 use Rattle.olr_refs.specs.ResolvedLines.{ResolvedLine}
-use Rattle.olr_refs.proofs.Joined.{known_at, last_index, start_known}
+use Rattle.olr_spec.proofs.ListLemmas.{last_index}
+use Rattle.olr_refs.proofs.Joined.{known_at, start_known}
 use Rattle.olr_refs.proofs.Resolving.{record_at, records_length}
 use Rattle.olr_refs.proofs.along.ResolvedPath.node.Goals as goal
 
@@ -38,4 +39,4 @@ returns-else-k-self-clause-value g c =
     let long = records_length M ls _ c.args.self.now.resolved in
     let n : length c.args.self.now.records.now - 1 ≡ length ls - 1 = omega arith in
     let is : node_at M ls c.args.k ≡ end M (last ls) = grind (arith, nat_tests) in
-    c.end.ensures.value ∙ ap (end M) (ap (λ (k : ℕ). slice_index ls k) n ∙ last_index ls c.requires.some) ∙ sym is
+    c.end.ensures.value ∙ ap (end M) (ap (λ (k : ℕ). slice_index ls k) n ∙ sym (last_index ls c.requires.some)) ∙ sym is
