@@ -135,10 +135,8 @@ module _ (M : Map) (ls : List ℕ) (lead own : ℕ) (given : List KnownQuery) wh
       AsksAfter M ls lead own given last old new known after b c t u →
       Asks M ls lead own given (done ++ last ∷ []) new after a c s u
   asks_more done last old new known after a b c s t u x y =
-      subst (λ (qs : List CoverageQuery). Asks M ls lead own given (done ++ last ∷ []) qs after a c s u) (sym y.grown)
-      (subst (λ (ks : List KnownQuery). Asks M ls lead own given (done ++ last ∷ []) (old ++ y.queries) ks a c s u)
-      (sym y.own_grown)
-      (asks_append M ls lead own given done (last ∷ []) old y.queries known y.own_queries a b c s t u x y.asks))
+      coe 1 0 (i. Asks M ls lead own given (done ++ last ∷ []) (y.grown i) (y.own_grown i) a c s u)
+      (asks_append M ls lead own given done (last ∷ []) old y.queries known y.own_queries a b c s t u x y.asks)
 
   pub gone_more : (ps qs : List ℕ) (last m : ℕ) (old new : List CoverageQuery) (known after : List KnownQuery)
       (a b c : Work) (s t u : Option (List ℕ)) → Gone M ls lead own given ps last old known a b s t →

@@ -22,62 +22,41 @@ HasEnds M F ls ns = (v : ℕ) → Contains ns v ↔ (Contains F v ⊎ NodeOf M l
 pub no_ends : (M : Map) (F : List ℕ) → HasEnds M F [] F
 no_ends M F v = (λ h. inl h, λ h. elim h [ inl k ↦ k | inr n ↦ absurd cc ])
 
+pushed : (xs : List ℕ) (y v : ℕ) → Contains (xs ++ y ∷ []) v ↔ (Contains xs v ⊎ (y ≡ v))
+pushed xs y v = (
+  Contains-push_cases xs y v,
+  λ c. elim c [
+    | inl k ↦ Contains-append_left xs (y ∷ []) v k
+    | inr e ↦ subst (Contains (xs ++ y ∷ [])) e (Contains-push xs y)
+  ],
+)
+
+both_pushed : (A B C F N O S E : Type 0) → A ↔ (F ⊎ N) → B ↔ (A ⊎ S) → C ↔ (B ⊎ E) → O ↔ (N ⊎ (S ⊎ E)) → C ↔ (F ⊎ O)
+both_pushed A B C F N O S E a b c o = grind arith
+
 module _ (M : Map) (ls : List ℕ) (i x : ℕ) (inside : i < length ls) (is : x ≡ get_or ls i 0) where
   more : (y : ℕ) → has (take (i + 1) ls) y ≡ (has (take i ls) y || (get_or ls i 0 == y))
   more y = list_any_more (λ z. z == y) ls i 0 inside
 
-  ends_cases : (v : ℕ) → NodeOf M (take (i + 1) ls) v → NodeOf M (take i ls) v ⊎ EndOf M x v
-  ends_cases v n =
-      elim (or_cases (has (take i ls) n.0) (get_or ls i 0 == n.0) (sym (more n.0) ∙ n.1)) [
-        | inl low ↦ inl (n.0, low, n.2)
-        | inr e ↦ inr (subst (λ (y : ℕ). EndOf M y v) (sym (is ∙ eqb-true (get_or ls i 0) n.0 e)) n.2)
-      ]
+  nodes_more : (v : ℕ) → NodeOf M (take (i + 1) ls) v ↔ (NodeOf M (take i ls) v ⊎ EndOf M x v)
+  nodes_more v = (cases, back)
+    where
+      cases : NodeOf M (take (i + 1) ls) v → NodeOf M (take i ls) v ⊎ EndOf M x v
+      cases n =
+          elim (or_cases (has (take i ls) n.0) (get_or ls i 0 == n.0) (sym (more n.0) ∙ n.1)) [
+            | inl low ↦ inl (n.0, low, n.2)
+            | inr e ↦ inr (subst (λ (y : ℕ). EndOf M y v) (sym (is ∙ eqb-true (get_or ls i 0) n.0 e)) n.2)
+          ]
 
-  ends_kept : (v : ℕ) → NodeOf M (take i ls) v → NodeOf M (take (i + 1) ls) v
-  ends_kept v n = (n.0, more n.0 ∙ or_left _ _ n.1, n.2)
-
-  ends_here : (v : ℕ) → EndOf M x v → NodeOf M (take (i + 1) ls) v
-  ends_here v e = (x, more x ∙ or_right _ _ (eq-eqb (get_or ls i 0) x (sym is)), e)
+      back : NodeOf M (take i ls) v ⊎ EndOf M x v → NodeOf M (take (i + 1) ls) v
+      back (inl n) = (n.0, more n.0 ∙ or_left _ _ n.1, n.2)
+      back (inr e) = (x, more x ∙ or_right _ _ (eq-eqb (get_or ls i 0) x (sym is)), e)
 
   pub ends_more : (F ns : List ℕ) → HasEnds M F (take i ls) ns →
       HasEnds M F (take (i + 1) ls) ((ns ++ start M x ∷ []) ++ end M x ∷ [])
-  ends_more F ns h v = (one_of, among)
-    where
-      below : Contains ns v → Contains F v ⊎ NodeOf M (take (i + 1) ls) v
-      below k = elim ((h v).0 k) [ inl f ↦ inl f | inr n ↦ inr (ends_kept v n) ]
-
-      one_of : Contains ((ns ++ start M x ∷ []) ++ end M x ∷ []) v → Contains F v ⊎ NodeOf M (take (i + 1) ls) v
-      one_of k =
-          elim (Contains-push_cases (ns ++ start M x ∷ []) (end M x) v k) [
-            | inl j ↦ elim (Contains-push_cases ns (start M x) v j) [
-              | inl low ↦ below low
-              | inr e ↦
-                  inr (ends_here v (inl e))
-            ]
-            | inr e ↦ inr (ends_here v (inr e))
-          ]
-
-      front : Contains (ns ++ start M x ∷ []) v → Contains ((ns ++ start M x ∷ []) ++ end M x ∷ []) v
-      front k = Contains-append_left (ns ++ start M x ∷ []) (end M x ∷ []) v k
-
-      low : Contains ns v → Contains ((ns ++ start M x ∷ []) ++ end M x ∷ []) v
-      low k = front (Contains-append_left ns (start M x ∷ []) v k)
-
-      at_start : start M x ≡ v → Contains ((ns ++ start M x ∷ []) ++ end M x ∷ []) v
-      at_start e = front (subst (λ (n : ℕ). Contains (ns ++ start M x ∷ []) n) e (Contains-push ns (start M x)))
-
-      at_end : end M x ≡ v → Contains ((ns ++ start M x ∷ []) ++ end M x ∷ []) v
-      at_end e =
-          subst (λ (n : ℕ). Contains ((ns ++ start M x ∷ []) ++ end M x ∷ []) n) e
-          (Contains-push (ns ++ start M x ∷ []) (end M x))
-
-      ends : EndOf M x v → Contains ((ns ++ start M x ∷ []) ++ end M x ∷ []) v
-      ends (inl e) = at_start e
-      ends (inr e) = at_end e
-
-      among : Contains F v ⊎ NodeOf M (take (i + 1) ls) v → Contains ((ns ++ start M x ∷ []) ++ end M x ∷ []) v
-      among (inl f) = low ((h v).1 (inl f))
-      among (inr n) = elim (ends_cases v n) [ inl m ↦ low ((h v).1 (inr m)) | inr e ↦ ends e ]
+  ends_more F ns h v =
+      both_pushed _ _ _ _ _ _ _ _ (h v) (pushed ns (start M x) v) (pushed (ns ++ start M x ∷ []) (end M x) v)
+      (nodes_more v)
 
 pub all_ends : (M : Map) (F ls ns : List ℕ) (i : ℕ) → length ls ≤ i → HasEnds M F (take i ls) ns → HasEnds M F ls ns
 all_ends M F ls ns i h ends = subst (λ (zs : List ℕ). HasEnds M F zs ns) (take_all i ls h) ends

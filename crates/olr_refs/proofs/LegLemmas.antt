@@ -1,26 +1,22 @@
 -- The legs of joined lines, by the lines and their distances.
-use Rattle.std.proofs.Common.{◌≡◌, ◌<◌, ◌≤◌, ◌-◌, ◌/◌, ℕ, List, length, take, drop, map, max, sym, ap, ◌∙◌}
-use Rattle.std.proofs.Common.{subst, arith}
+use Rattle.std.proofs.Common.{◌≡◌, ◌<◌, ◌-◌, ◌/◌, ℕ, List, length, take, drop, map, max, sym, ap, ◌∙◌}
+use Rattle.std.proofs.Common.{subst}
 use Rattle.std.proofs.lemmas.List.{get_or-map, drop-map, take-map}
 use Rattle.std.proofs.lemmas.Simd.{map-map}
 use Rattle.std.specs.List.{slice_index, slice_range, fold}
 use Rattle.std.specs.Prelude.{IsTrue}
 use Rattle.olr_spec.specs.Map.{Map, IsMap, Line, is_good, has_line, has_node, line_at, coord_at, start, end}
-use Rattle.olr_spec.specs.Routes.{dm_of}
 use Rattle.olr_spec.specs.Points.{node_at, stretch}
 use Rattle.olr_spec.specs.Bearings.{Leg, bearing_out}
-use Rattle.olr_spec.specs.Reference.{Attrs, attrs, leg, legs, leg_at, no_leg, position, dm_along, dm_between}
+use Rattle.olr_spec.specs.Reference.{Attrs, attrs, leg, legs, leg_at, no_leg, position, dm_between}
 use Rattle.olr_spec.proofs.ListLemmas.{Each}
-use Rattle.olr_spec.proofs.KeptLemmas.{dm_along-legs}
 use Rattle.olr_spec.proofs.FieldLemmas.{position_is}
 use Rattle.olr_spec.specs.Extension.{AreJoined}
 use Rattle.olr_bearing.specs.Legs as ends
 use Rattle.olr_bearing.specs.declared.places.Ends.{Ends}
-use Rattle.olr_refs.specs.Along.{AreDistances}
 use Rattle.olr_refs.specs.Fields.{lowest_class}
 use Rattle.olr_refs.specs.ResolvedLines.{ResolvedLine, record_of, records_of}
 use Rattle.olr_refs.proofs.Joined.{route_known}
-use Rattle.olr_refs.proofs.Stretches.{dm_stretch}
 
 -- each of them is on the map
 pub joined_known : (M : Map) (ls : List ℕ) → AreJoined M ls → Each (λ x. IsTrue (has_line M x)) ls

@@ -37,9 +37,6 @@ module _ (es : List KnownQuery) (up : IsStrictlyIncreasing (map (λ e. e.first) 
       (omega arith) in
       omega (arith, low, read_first j d (omega arith), read_first k d g)
 
-  order : KnownQuery → ℕ
-  order e = ordering_index (nat_cmp e.first x)
-
   higher : (a b : ℕ) → a ≤ b → ordering_index (nat_cmp a x) ≤ ordering_index (nat_cmp b x)
   higher a b le = grind (arith, nat_tests)
 
@@ -142,10 +139,7 @@ there_with M b path a joined i e k begins inside =
 there_any : (M : Map) (ls : List ℕ) (lead own : ℕ) (known : List KnownQuery) → (r : Reuses M ls lead own known) →
     AnyThere M r.path ls lead own
 there_any M ls lead own known r =
-    subst (AnyThere M r.path ls lead) r.owns
-    (subst (λ (n : ℕ). AnyThere M r.path ls n (length r.path)) r.leads
-    (subst (λ (xs : List ℕ). AnyThere M r.path xs (length r.before) (length r.path)) r.lines
-    (there_with M r.before r.path r.after)))
+    coe 0 1 (i. AnyThere M r.path (r.lines i) (r.leads i) (r.owns i)) (there_with M r.before r.path r.after)
 
 module _ (M : Map) (ls : List ℕ) (lead own : ℕ) (known : List KnownQuery) (reuse : Reuses M ls lead own known)
     (joined : AreJoined M ls) (i far : ℕ) (some : i + 1 < length ls) (is_far : IsFar M ls i far) where
@@ -179,34 +173,27 @@ module _ (M : Map) (ls : List ℕ) (lead own : ℕ) (known : List KnownQuery) (r
         let t : e.covered ≡ true = there.covered.1 (subst (UniqueTo M ls i) same u) in
         cc
 
-    reach_covered : e.covered ≡ true → IsReach M ls i far
-    reach_covered t = reach_far M ls i far joined is_far (λ h. covered_there t)
-
-    reach_before : e.covered ≡ false → IsReach M ls i (lead + e.last - 1)
-    reach_before f =
+    found : (b : Bool) → e.covered ≡ b → IsReach M ls i (if b then far else lead + e.last - 1)
+        × IsLastTested M ls i (lead + e.last)
+    found true t =
         let order = there.order in
-        let short = ends.0 in
-        reach_to M ls i far (lead + e.last - 1) joined is_far (omega arith) (omega arith) before_there (no_more f)
-
-    reach_if : (b : Bool) → e.covered ≡ b → IsReach M ls i (if b then far else lead + e.last - 1)
-    reach_if true t = reach_covered t
-    reach_if false f = reach_before f
-
-    pub reach_known : IsReach M ls i (known_reach lead far e)
-    reach_known = reach_if e.covered refl
-
-    tested : (b : Bool) → e.covered ≡ b → IsLastTested M ls i (lead + e.last)
-    tested true t =
-        let order = there.order in
-        let all = ends.1 t in
-        subst (IsLastTested M ls i) (sym all)
-        (last_far M ls i far (min far (length ls - 1)) joined is_far some (omega arith) (covered_there t))
-    tested false f =
+        let all = ends.1 t in (
+          reach_far M ls i far joined is_far (λ h. covered_there t),
+          subst (IsLastTested M ls i) (sym all)
+              (last_far M ls i far (min far (length ls - 1)) joined is_far some (omega arith) (covered_there t)),
+        )
+    found false f =
         let order = there.order in
         let short = ends.0 in
         let same : lead + e.last - 1 + 1 ≡ lead + e.last = omega arith in
-        subst (IsLastTested M ls i) same
-        (last_to M ls i far (lead + e.last - 1) joined is_far (omega arith) (omega arith) before_there (no_more f))
+        let k = lead + e.last - 1 in (
+          reach_to M ls i far k joined is_far (omega arith) (omega arith) before_there (no_more f),
+          subst (IsLastTested M ls i) same
+              (last_to M ls i far k joined is_far (omega arith) (omega arith) before_there (no_more f)),
+        )
+
+    pub reach_known : IsReach M ls i (known_reach lead far e)
+    reach_known = (found e.covered refl).0
 
     pub known_at : IsKnownAt M ls lead own i e
     known_at =
@@ -218,7 +205,7 @@ module _ (M : Map) (ls : List ℕ) (lead own : ℕ) (known : List KnownQuery) (r
           begins = begins;
           order = there.order;
           upto = there.upto;
-          tested = tested e.covered refl;
+          tested = (found e.covered refl).1;
           query = there.query;
           covered = ((λ x. c.1 (t.0 x)), (λ x. t.1 (c.0 x)));
         }

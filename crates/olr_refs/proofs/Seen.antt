@@ -102,23 +102,11 @@ pub noted_foot : (M : Map) → IsMap M → (P : Path) → IsTrue (is_path P.line
     → ((v : ℕ) → Contains foot v ↔ (Contains traversed v ⊎ MatchOption seen ⊥ (λ s. Contains s v))) → (v : ℕ) →
     Contains foot v ↔ Foot M P v
 noted_foot M m P is queries l traversed begun None foot o e n f v = absurd n
-noted_foot M m P is queries l traversed begun (Some seen) foot o e n f v = (forth, back)
-  where
-    law : Foot M P v ↔ (TraversedOf M P v ⊎ SeenBy M queries v)
-    law = foot_queried M m P is queries l v
-
-    none : Contains begun v ⊎ SeenBy M queries v → SeenBy M queries v
-    none (inl c) = let never : c.0 < length begun = c.1 in absurd (omega (arith, ap (λ (vs : List ℕ). length vs) e))
-    none (inr s) = s
-
-    forth : Contains foot v → Foot M P v
-    forth c = elim ((f v).0 c) [
-      | inl p ↦ law.1 (inl ((o v).0 p))
-      | inr s ↦ law.1 (inr (none ((n v).0 s)))
-    ]
-
-    back : Foot M P v → Contains foot v
-    back g = elim (law.0 g) [
-      | inl p ↦ (f v).1 (inl ((o v).1 p))
-      | inr s ↦ (f v).1 (inr ((n v).1 (inr s)))
-    ]
+noted_foot M m P is queries l traversed begun (Some seen) foot o e n f v =
+    let law = foot_queried M m P is queries l v in
+    let x = o v in
+    let y = n v in
+    let z = f v in
+    let none : Contains begun v → ⊥ = λ c.
+    let never = c.1 in omega (arith, ap (λ (vs : List ℕ). length vs) e) in
+    grind arith

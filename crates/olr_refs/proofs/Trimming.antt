@@ -1,9 +1,10 @@
 -- Which LRPs remain, by the distances of all positions.
 use Rattle.std.proofs.Common.{inl, inr, ◌≡◌, ◌<◌, ◌≤◌, ◌-◌, ◌+◌, ℕ, zero, suc, Bool, true, false, cond, List, [], ◌∷◌}
 use Rattle.std.proofs.Common.{length, take, drop, refl, sym, ap, ◌∙◌, subst, arith, nat_le, length-take, length-drop}
-use Rattle.std.proofs.lemmas.Bool.{cases_lt, cases_order, le-leb, lt-leb, and_from}
+use Rattle.std.proofs.lemmas.Bool.{cases_lt, cases_eq, le-leb, lt-leb, and_from}
 use Rattle.std.proofs.lemmas.Bool.Decides.{nat_tests}
 use Rattle.std.proofs.lemmas.List.{take-map, take_all, get_or-take, get_or-drop}
+use Rattle.std.proofs.lemmas.List.Kept.{AllPairs-from_increasing}
 use Rattle.std.specs.List.{slice_index, slice_range, filter}
 use Rattle.olr_spec.specs.Map.{Map}
 use Rattle.olr_spec.specs.Routes.{dm_of}
@@ -41,23 +42,9 @@ linked_end M ls ps l h =
     (l (length ps - 1 - 1) (omega arith))
 
 -- neighbours ascend, so all do
-pub linked_ascend : (M : Map) (ls ps : List ℕ) → AreLinked M ls ps → (j n : ℕ) → suc (j + n) < length ps →
-    slice_index ps j < slice_index ps (suc (j + n))
-linked_ascend M ls ps l j zero h = let on : suc (j + 0) ≡ j + 1 =
-    omega arith in subst (λ (k : ℕ). slice_index ps j < slice_index ps k) (sym on) (l j (omega arith)).after
-linked_ascend M ls ps l j (suc n) h =
-    let front = linked_ascend M ls ps l j n (omega arith) in
-    let on : suc (j + n) + 1 ≡ suc (j + suc n) = omega arith in
-    let step = (l (suc (j + n)) (omega arith)).after in
-    let here : slice_index ps (suc (j + n)) < slice_index ps (suc (j + suc n)) =
-    subst (λ (k : ℕ). slice_index ps (suc (j + n)) < slice_index ps k) on step in
-    omega arith
-
-pub linked_less : (M : Map) (ls ps : List ℕ) → AreLinked M ls ps → (j k : ℕ) → j < k → k < length ps →
+linked_less : (M : Map) (ls ps : List ℕ) → AreLinked M ls ps → (j k : ℕ) → j < k → k < length ps →
     slice_index ps j < slice_index ps k
-linked_less M ls ps l j k h g =
-    let on : suc (j + (k - suc j)) ≡ k = omega arith in
-    subst (λ (n : ℕ). slice_index ps j < slice_index ps n) on (linked_ascend M ls ps l j (k - suc j) (omega arith))
+linked_less M ls ps l j k h g = AllPairs-from_increasing ps (λ n i. (l n i).after) j k 0 h g
 
 last_index : (i : ℕ) (js : List ℕ) → slice_index (i ∷ js) (length js) ≡ last_position i js
 last_index i [] = refl
@@ -147,26 +134,24 @@ module _ (M : Map) (ls ds ps : List ℕ) (d : AreDistances M ls ds) (p : ArePoin
   linked : AreLinked M ls ps
   linked = points_linked M ls ps p
 
+  not_above : (j k : ℕ) → j ≤ k → k < length ps → slice_index ps j ≤ slice_index ps k
+  not_above j k h g =
+      elim (cases_eq j k) [
+        | inl e ↦ let same = ap (slice_index ps) e in omega arith
+        | inr ne ↦ let less = linked_less M ls ps linked j k (omega arith) g in omega arith
+      ]
+
   upto : (k : ℕ) → k < length ps → slice_index ps k ≤ length ls
   upto k h =
       let end = points_end M ls ps p in
-      elim (cases_order k (length ps - 1)) [
-        | inl e ↦ let same = ap (slice_index ps) e in omega arith
-        | inr (inl lt) ↦ let ascend = linked_less M ls ps linked k (length ps - 1) lt (omega arith) in omega arith
-        | inr (inr gt) ↦ absurd (omega arith)
-      ]
+      let le = not_above k (length ps - 1) (omega arith) (omega arith) in
+      omega arith
 
   ascend : (j k : ℕ) → j ≤ k → k < length ps → distance_at ds ps j ≤ distance_at ds ps k
   ascend j k h g =
-      elim (cases_order j k) [
-        | inl e ↦ let same = ap (distance_at ds ps) e in omega arith
-        | inr (inl lt) ↦
-            let less_position = linked_less M ls ps linked j k lt g in
-            let within = upto k g in
-            let long = d.long in
-            distances_rise M ls ds d (slice_index ps j) (slice_index ps k) (omega arith) (omega arith)
-        | inr (inr gt) ↦ absurd (omega arith)
-      ]
+      let within = upto k g in
+      let long = d.long in
+      distances_rise M ls ds d (slice_index ps j) (slice_index ps k) (not_above j k h g) (omega arith)
 
   last_distance : whole_distance ds ≡ slice_index ds (length ls)
   last_distance = let long = d.long in let on : length ds - 1 ≡ length ls = omega arith in ap (slice_index ds) on
@@ -221,14 +206,6 @@ module _ (M : Map) (ls ds ps : List ℕ) (d : AreDistances M ls ds) (p : ArePoin
       let order = ascend k (b - 1) (omega arith) (omega arith) in
       lt-leb (to_back (legs M ls) (slice_index ps k)) negative (omega arith) in
       sym (ap (first_where test 0) (sym p.from_start) ∙ first_where_at test 0 ps b l.within passes before)
-
-  not_above : (j k : ℕ) → j ≤ k → k < length ps → slice_index ps j ≤ slice_index ps k
-  not_above j k h g =
-      elim (cases_order j k) [
-        | inl e ↦ let same = ap (slice_index ps) e in omega arith
-        | inr (inl lt) ↦ let ascend = linked_less M ls ps linked j k lt g in omega arith
-        | inr (inr gt) ↦ absurd (omega arith)
-      ]
 
   range_is : (a b : ℕ) → a ≤ b → b < length ps → filter (between (slice_index ps a) (slice_index ps b)) ps
       ≡ slice_range ps a (b + 1)

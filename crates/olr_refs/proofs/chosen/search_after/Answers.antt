@@ -1,6 +1,4 @@
 use Rattle.std.proofs.Common.{ℕ, [], ◌∷◌, refl, sym, ◌∙◌, subst, arith}
-use Rattle.std.specs.Prelude.{IsTrue}
-use Rattle.olr_spec.specs.Map.{has_node}
 use Rattle.olr_spec.specs.Queries.{CoverageQuery}
 use Rattle.olr_refs.proofs.Noting.{query_short, one_query}
 use Rattle.olr_refs.proofs.Seen.{query_noted}
