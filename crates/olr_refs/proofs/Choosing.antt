@@ -1,7 +1,7 @@
 -- The choice of the next LRP, from the last position that is covered and within the limit back to the first.
 use Rattle.std.proofs.Common.{◌≡◌, ◌<◌, ◌≤◌, ◌-◌, ℕ, Bool, true, false, List, length, sym, subst, arith, inl, inr}
 use Rattle.std.proofs.Common.{Option, Some, None, MatchOption}
-use Rattle.std.proofs.lemmas.Bool.{cases_order}
+use Rattle.std.proofs.lemmas.Bool.{cases_lt, cases_order}
 use Rattle.std.specs.Option.{option_or}
 use Rattle.olr_spec.specs.Coordinates.{Coord}
 use Rattle.olr_spec.specs.Map.{Map, coord_at}
@@ -52,6 +52,13 @@ from_one_less Q k p above here j h q =
       | inr (inr gt) ↦ above j (omega arith) q
     ]
 
+greatest_here : (Q : ℕ → Type 0) (k : ℕ) → 0 < k → Q (k - 1) → ((j : ℕ) → k ≤ j → ¬ Q j) → Greatest Q (k - 1)
+greatest_here Q k p here above =
+    record {
+      holds = here;
+      others = λ j q. elim (cases_lt j k) [ inl lt ↦ omega arith | inr ge ↦ absurd (above j ge q) ];
+    }
+
 last_less : (M : Map) (ls : List ℕ) (i k : ℕ) (last : Option ℕ) → 0 < k → ((j : ℕ) → j ≡ k - 1 → ¬ Candidate M ls i j) →
     Last M ls i k last → Last M ls i (k - 1) last
 last_less M ls i k None p here l = from_one_less (Candidate M ls i) k p l here
@@ -69,17 +76,7 @@ scan_unfit M ls i r k last p s f =
 -- one that fits, at a degree-two node
 last_more : (M : Map) (ls : List ℕ) (i k : ℕ) (last : Option ℕ) → 0 < k → Candidate M ls i (k - 1) →
     Last M ls i k last → Last M ls i (k - 1) (option_or last (Some (k - 1)))
-last_more M ls i k None p c l =
-    record {
-      holds = c;
-      others =
-          λ j d. elim (cases_order j (k - 1)) [
-            | inl e ↦ omega arith
-            | inr (inl lt) ↦ omega arith
-            | inr (inr gt) ↦
-                absurd (l j (omega arith) d)
-          ];
-    }
+last_more M ls i k None p c l = greatest_here (Candidate M ls i) k p c l
 last_more M ls i k (Some m) p c l = l
 
 pub scan_passing : (M : Map) (ls : List ℕ) (i r k : ℕ) (last : Option ℕ) → 0 < k → i < k - 1 → k - 1 ≤ r →
@@ -100,13 +97,5 @@ pub next_valid : (M : Map) (ls : List ℕ) (i r k : ℕ) (last : Option ℕ) →
     IsReach M ls i r → Scanned M ls i r k last → fit M ls i (k - 1) ≡ true → passing M (node_at M ls (k - 1)) ≡ false
     → Next M ls i (k - 1)
 next_valid M ls i r k last p after upto a s f valid =
-    To_valid s.not_end record {
-      holds = (candidate_of M ls i r (k - 1) a after upto f, valid);
-      others =
-          λ j v. elim (cases_order j (k - 1)) [
-            | inl e ↦ omega arith
-            | inr (inl lt) ↦ omega arith
-            | inr (inr gt) ↦
-                absurd (s.no_valid j (omega arith) v)
-          ];
-    }
+    To_valid s.not_end (greatest_here (ValidCandidate M ls i) k p (candidate_of M ls i r (k - 1) a after upto f, valid)
+    s.no_valid)

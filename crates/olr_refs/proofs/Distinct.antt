@@ -3,6 +3,7 @@ use Rattle.std.proofs.Common.{◌≡◌, ◌≢◌, ℕ, ◌+◌, ◌<◌, true,
 use Rattle.std.proofs.Common.{IsPermutation, refl, ◌∙◌, inl, inr, arith}
 use Rattle.std.specs.List.{IsDistinct, AllByRecursion}
 use Rattle.std.specs.List.Sorted.{IsSorted}
+use Rattle.std.specs.Cmp.{nat_eq_equiv}
 use Rattle.std.specs.Ordering.{nat_cmp}
 use Rattle.std.proofs.lemmas.Bool.{both_ways, and_parts, and_from, or_parts, or_from, not-true, not_from_false, ne_eqb}
 use Rattle.std.proofs.lemmas.Bool.{eq-eqb, eqb-true, cases_Bool, cases_order}
@@ -14,12 +15,7 @@ use Rattle.olr_spec.specs.Map.{has}
 use Rattle.olr_spec.specs.Extension.{none_twice}
 
 eqb_flips : (x y : ℕ) → eqb x y ≡ eqb y x
-eqb_flips x y =
-    elim (cases_Bool (eqb y x)) [
-      | inl e ↦ eq-eqb x y (cc (eqb-true y x e)) ∙ cc
-      | inr e ↦
-          ne_eqb x y (λ is. both_ways (eqb y x) e (eq-eqb y x (cc is))) ∙ cc
-    ]
+eqb_flips x y = nat_eq_equiv.symm x y
 
 -- ---- two ways to state it
 

@@ -60,14 +60,7 @@ middle_more gs (p ∷ q ∷ ps) (suc n) h lt =
     let two : suc n + 2 ≡ suc (suc (suc n)) = omega arith in
     let one : suc n + 1 ≡ suc (suc n) = omega arith in
     let less : suc n - 1 ≡ n = omega arith in
-    ap (λ (m : ℕ). middle_points_of gs (take m (p ∷ q ∷ ps))) two ∙ one_more gs p q ps n (omega arith)
-    ∙ ap (λ (m : ℕ). middle_points_of gs (take m (p ∷ q ∷ ps))
-    ++ middle_point gs (slice_index (p ∷ q ∷ ps) n) (slice_index (q ∷ ps) n) (slice_index ps n) ∷ []) (sym one)
-    ∙ ap (λ (m : ℕ). middle_points_of gs (take (suc n + 1) (p ∷ q ∷ ps))
-    ++ middle_point gs (slice_index (p ∷ q ∷ ps) m) (slice_index (q ∷ ps) n) (slice_index ps n) ∷ []) (sym less)
-    ∙ ap (λ (m : ℕ). middle_points_of gs (take (suc n + 1) (p ∷ q ∷ ps))
-    ++ middle_point gs (slice_index (p ∷ q ∷ ps) (suc n - 1)) (slice_index (q ∷ ps) n) (slice_index (p ∷ q ∷ ps) m)
-    ∷ []) (sym one)
+    simp (two, one, less) (one_more gs p q ps n (omega arith))
 
 -- ---- the whole
 

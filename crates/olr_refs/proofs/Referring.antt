@@ -69,8 +69,8 @@ points_answer M E ls ps r e c a =
     )
 
 -- what holds for the extension and its LRPs, whatever the tried runs
-pub of_path : (M : Map) (P E : Path) (lead : ℕ) (F G : List ℕ) (Q : Path → List ℕ → Type 0) → Extends M P E lead F G →
-    ForPoints M E.lines (Q E) → OfPath M P (λ e _ _ js. Q e js)
+of_path : (M : Map) (P E : Path) (lead : ℕ) (F G : List ℕ) (Q : Path → List ℕ → List ℕ → List ℕ → Type 0) →
+    (x : Extends M P E lead F G) → ForPoints M E.lines (Q E x.before x.after) → OfPath M P Q
 of_path M P E lead F G Q x a =
     record {
       before = x.before;
@@ -78,12 +78,12 @@ of_path M P E lead F G Q x a =
       points = a.0;
       tried = x.tried;
       follow = subst (λ (e : Path). Follow M e.lines 0 a.0) x.path a.1;
-      holds = subst (λ (e : Path). Q e a.0) x.path a.2;
+      holds = subst (λ (e : Path). Q e x.before x.after a.0) x.path a.2;
     }
 
 pub encoding_of : (M : Map) (P E : Path) (lead : ℕ) (F G : List ℕ) (A : spec.Answer) → Extends M P E lead F G →
     ForPoints M E.lines (λ js. A ≡ answer_by_points M E js) → Encoding M P A
-encoding_of M P E lead F G A x a = of_path M P E lead F G (λ e js. A ≡ answer_by_points M e js) x a
+encoding_of M P E lead F G A x a = of_path M P E lead F G (λ e _ _ js. A ≡ answer_by_points M e js) x a
 
 -- ---- the routes
 
@@ -167,18 +167,12 @@ pub asks_of : (M : Map) (P E : Path) (lead : ℕ) (F G : List ℕ) (given : List
     ForPoints M E.lines (λ js. Asks M E.lines lead (length P.lines) given (0 ∷ js) queries known a b s t) →
     AsksOf M P given queries known a b s t
 asks_of M P E lead F G given queries known a b s t x f =
-    let led : Asks M E.lines (length (taken_start M x.before P.lines)) (length P.lines) given (0 ∷ f.0) queries known a b
-    s t =
-    subst (λ (n : ℕ). Asks M E.lines n (length P.lines) given (0 ∷ f.0) queries known a b s t) x.leads f.2 in
-    record {
-      before = x.before;
-      after = x.after;
-      points = f.0;
-      tried = x.tried;
-      follow = subst (λ (e : Path). Follow M e.lines 0 f.0) x.path f.1;
-      holds = subst (λ (e : Path). Asks M e.lines (length (taken_start M x.before P.lines)) (length P.lines) given
-          (0 ∷ f.0) queries known a b s t) x.path led;
-    }
+    of_path M P E lead F G (λ e w _ js. Asks M e.lines (length (taken_start M w P.lines)) (length P.lines) given
+    (0 ∷ js) queries known a b s t) x (
+      f.0,
+      f.1,
+      subst (λ (n : ℕ). Asks M E.lines n (length P.lines) given (0 ∷ f.0) queries known a b s t) x.leads f.2,
+    )
 
 -- the path's own lines lie on the extended path
 pub whole_reuses : (M : Map) (P E : Path) (lead : ℕ) (F G : List ℕ) (known : List KnownQuery) →
@@ -208,14 +202,6 @@ local_by M m P is A H e f N n g =
     local_answer M N m n P is record { nodes = λ v h. g.nodes v ((f v).1 h); lines = g.lines } A e
 
 -- ---- where a result is a success
-
-pub if_weaker : {A F : Type 0} (r : Result A F) (P Q : A → Type 0) → ((x : A) → P x → Q x) → IfOk r P → IfOk r Q
-if_weaker (Ok x) P Q f p = f x p
-if_weaker (Err e) P Q f p = tt
-
-pub on_if : {A F : Type 0} (r : Result A F) (P : A → Type 0) (Q : Type 0) → ((x : A) → P x → Q) → IfOk r P → OnOk r Q
-on_if (Ok x) P Q f p = f x p
-on_if (Err e) P Q f p = tt
 
 pub if_on : {A F : Type 0} (r : Result A F) (P : A → Type 0) (Q : Type 0) (R : A → Type 0) →
     ((x : A) → P x → Q → R x) → IfOk r P → OnOk r Q → IfOk r R

@@ -9,9 +9,10 @@ use Rattle.std.specs.List.{slice_index, slice_range, filter}
 use Rattle.olr_spec.specs.Map.{Map}
 use Rattle.olr_spec.specs.Routes.{dm_of}
 use Rattle.olr_spec.specs.Points.{Candidate, last_position}
-use Rattle.olr_spec.specs.Reference.{leg, legs, dm_along, from_front, to_back, last_where, first_where, first_kept}
+use Rattle.olr_spec.specs.Reference.{leg, legs, dm_along, dm_between, from_front, to_back, last_where, first_where, first_kept}
 use Rattle.olr_spec.specs.Reference.{last_kept, kept_points, reference, reference_by}
 use Rattle.olr_spec.proofs.JoinLemmas.{Linked, follow_linked, between, kept_linked}
+use Rattle.olr_spec.proofs.FieldLemmas.{from_front-add}
 use Rattle.olr_spec.proofs.KeptLemmas.{dm_along-legs, whole}
 use Rattle.olr_refs.specs.Along.{AreDistances}
 use Rattle.olr_refs.specs.KeptPoints.{later, AreAlong, ArePoints, AreLinked, AreTrimmed, distance_at, whole_distance}
@@ -224,8 +225,8 @@ pub record IsCut (M : Map) (ls ds ps : List ℕ) (positive negative : ℕ) (ks :
     0 where
   pub two : 2 ≤ length ks
   pub linked : AreLinked M ls ks
-  pub pos_within : distance_at ds ks 0 + pos_left < distance_at ds ks 1
-  pub neg_within : distance_at ds ks (length ks - 2) + neg_left < distance_at ds ks (length ks - 1)
+  pub pos_within : pos_left < dm_between (legs M ls) (slice_index ks 0) (slice_index ks 1)
+  pub neg_within : neg_left < dm_between (legs M ls) (slice_index ks (length ks - 1 - 1)) (slice_index ks (length ks - 1))
   pub value : reference_by (legs M ls) pos_left neg_left ks ≡ reference (legs M ls) positive negative (later ps)
 
 pub trimmed : (M : Map) (ls ds ps : List ℕ) (positive negative : ℕ) (ks : List ℕ) (pos_left neg_left : ℕ) →
@@ -261,8 +262,8 @@ trimmed M ls ds ps positive negative ks pos_left neg_left d p r less =
     ap (slice_index ds) (at 1 (a + 1) refl (omega arith)) in
     let end : distance_at ds ks (length ks - 1) ≡ distance_at ds ps b =
     ap (slice_index ds) (at (length ks - 1) b (omega arith) (omega arith)) in
-    let before : distance_at ds ks (length ks - 2) ≡ distance_at ds ps (b - 1) =
-    ap (slice_index ds) (at (length ks - 2) (b - 1) (omega arith) (omega arith)) in
+    let before : distance_at ds ks (length ks - 1 - 1) ≡ distance_at ds ps (b - 1) =
+    ap (slice_index ds) (at (length ks - 1 - 1) (b - 1) (omega arith) (omega arith)) in
     let next_left = f.next (omega arith) in
     let before_left = l.before (omega arith) in
     let kept_is : ks ≡ kept_points (legs M ls) positive negative (later ps) =
@@ -275,11 +276,24 @@ trimmed M ls ds ps positive negative ks pos_left neg_left d p r less =
     let pos_is : pos_left ≡ positive - from_front (legs M ls) (first_kept (legs M ls) positive (later ps)) =
     omega arith in
     let neg_is : neg_left ≡ negative - to_back (legs M ls) (last_kept (legs M ls) negative (later ps)) = omega arith in
+    let linked : AreLinked M ls ks =
+    subst (AreLinked M ls) (sym kept_is) (linked_at M ls _
+    (kept_linked M ls (first_kept (legs M ls) positive (later ps)) (last_kept (legs M ls) negative (later ps))
+    (0 ∷ later ps) (follow_linked M ls 0 (later ps) p.follow))) in
+    -- the length of a leg, by the distances of its ends
+    let leg_is : (i j : ℕ) → Candidate M ls i j → slice_index ds j ≡ slice_index ds i + dm_between (legs M ls) i j =
+    λ i j c.
+    let after = c.after in
+    let upto = c.upto in
+    let here = front M ls ds ps d p i (omega arith) in
+    let there = front M ls ds ps d p j upto in
+    let sum = from_front-add (legs M ls) i j (omega arith) in
+    omega arith in
+    let first_leg = leg_is _ _ (linked 0 (omega arith)) in
+    let last_leg = leg_is _ _ (linked_end M ls ks linked (omega arith)) in
     record {
       two = omega arith;
-      linked = subst (AreLinked M ls) (sym kept_is) (linked_at M ls _
-          (kept_linked M ls (first_kept (legs M ls) positive (later ps)) (last_kept (legs M ls) negative (later ps))
-          (0 ∷ later ps) (follow_linked M ls 0 (later ps) p.follow)));
+      linked = linked;
       pos_within = omega arith;
       neg_within = omega arith;
       value = λ i. reference_by (legs M ls) (pos_is i) (neg_is i) (kept_is i);

@@ -1,11 +1,11 @@
 //! The reference of an extended path.
-ghost use Rattle.std.specs.Prelude.{◌≡◌, ◌+◌, ◌-◌, ◌<◌, ◌≤◌, IfOk, length};
+ghost use Rattle.std.specs.Prelude.{◌≡◌, ◌+◌, ◌-◌, ◌<◌, ◌≤◌, IfOk, length, slice_index};
 ghost use Rattle.olr_spec.specs.Routes.{dm_of};
-ghost use Rattle.olr_spec.specs.Reference.{legs, reference, reference_by};
+ghost use Rattle.olr_spec.specs.Reference.{legs, dm_between, reference, reference_by};
 ghost use Rattle.olr_spec.specs.Bytes.{IsReference};
 ghost use Rattle.olr_refs.specs.Along.{AreDistances};
 ghost use Rattle.olr_spec.specs.Extension.{AreJoined};
-ghost use Rattle.olr_refs.specs.KeptPoints.{later, AreLinked, ArePoints, distance_at};
+ghost use Rattle.olr_refs.specs.KeptPoints.{later, AreLinked, ArePoints};
 
 use crate::along::ResolvedPath;
 use crate::fields::{first_point, last_point, middle_points, offset};
@@ -25,10 +25,10 @@ fn reference_by<M: MapRead>(
 ) -> Result<Reference, AllocError>
     requires linked { AreLinked (M.map resolved.now.map.now) resolved.now.lines.now kept.now }
     requires two { 2 ≤ length kept.now }
-    requires pos { distance_at resolved.now.distances.now kept.now 0
-        + pos_left < distance_at resolved.now.distances.now kept.now 1 }
-    requires neg { distance_at resolved.now.distances.now kept.now (length kept.now - 2)
-        + neg_left < distance_at resolved.now.distances.now kept.now (length kept.now - 1) }
+    requires pos { pos_left < dm_between (legs (M.map resolved.now.map.now) resolved.now.lines.now)
+        (slice_index kept.now 0) (slice_index kept.now 1) }
+    requires neg { neg_left < dm_between (legs (M.map resolved.now.map.now) resolved.now.lines.now)
+        (slice_index kept.now (length kept.now - 1 - 1)) (slice_index kept.now (length kept.now - 1)) }
     requires fits { IsReference (reference_by (legs (M.map resolved.now.map.now) resolved.now.lines.now) pos_left neg_left
         kept.now) }
     ensures { IfOk result (λ r. r ≡ reference_by (legs (M.map resolved.now.map.now) resolved.now.lines.now) pos_left

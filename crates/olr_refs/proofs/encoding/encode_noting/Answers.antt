@@ -1,32 +1,32 @@
 use Rattle.std.proofs.Common.{refl}
-use Rattle.olr_refs.proofs.Referring.{if_weaker, on_if}
+use Rattle.std.proofs.lemmas.Result.{IfOk-weaker}
 use Rattle.olr_refs.proofs.Asking.{queries_whole, known_whole, searched_whole, searched_of, searched_few}
 use Rattle.olr_refs.proofs.encoding.encode_noting.Goals as goal
 
 pub returns-in-Ok-clause-queries : goal.returns-in-Ok-clause-queries
 returns-in-Ok-clause-queries g c =
-    if_weaker c.encode_whole.result _ _ (λ e a. queries_whole (g.M.MapRead.map c.args.map.now) c.args.path.now _ _ _ _ _
+    IfOk-weaker c.encode_whole.result _ _ (λ e a. queries_whole (g.M.MapRead.map c.args.map.now) c.args.path.now _ _ _ _ _
     _ _ (rw c.in-Ok.is at c.in_ok-refusal.ensures.own).0 a) c.encode_whole.ensures.asks
 
 pub returns-in-Ok-clause-known : goal.returns-in-Ok-clause-known
 returns-in-Ok-clause-known g c =
-    if_weaker c.encode_whole.result _ _ (λ e a. known_whole (g.M.MapRead.map c.args.map.now) c.args.path.now _ _ _ _ _
+    IfOk-weaker c.encode_whole.result _ _ (λ e a. known_whole (g.M.MapRead.map c.args.map.now) c.args.path.now _ _ _ _ _
     _ _ (rw c.in-Ok.is at c.in_ok-refusal.ensures.own).0 a) c.encode_whole.ensures.asks
 
 pub returns-in-Ok-clause-searched : goal.returns-in-Ok-clause-searched
 returns-in-Ok-clause-searched g c =
-    on_if c.encode_whole.result _ _ (λ e a. searched_of (g.M.MapRead.map c.args.map.now) c.args.path.now _ _ _ _ _
+    IfOk-weaker c.encode_whole.result _ _ (λ e a. searched_of (g.M.MapRead.map c.args.map.now) c.args.path.now _ _ _ _ _
     _ _ (rw c.in-Ok.is at c.in_ok-refusal.ensures.own).0 a c.args.work.now refl refl) c.encode_whole.ensures.asks
 
 pub returns-in-Ok-clause-settled : goal.returns-in-Ok-clause-settled
 returns-in-Ok-clause-settled g c =
-    if_weaker c.encode_whole.result _ _ (λ e a. searched_few (g.M.MapRead.map c.args.map.now)
+    IfOk-weaker c.encode_whole.result _ _ (λ e a. searched_few (g.M.MapRead.map c.args.map.now)
     (g.met.M.MapRead.sound c.args.map.now) c.args.path.now c.in_ok-refusal.ensures.path (rw c.in-Ok.is at c.in_ok-refusal.ensures.own).0
     _ _ _ _ _ _ _ a) c.encode_whole.ensures.asks
 
 pub returns-in-Ok-clause-seen : goal.returns-in-Ok-clause-seen
 returns-in-Ok-clause-seen g c =
-    on_if c.encode_whole.result _ _ (λ e a. (
+    IfOk-weaker c.encode_whole.result _ _ (λ e a. (
       a.holds.searched,
       searched_whole (g.M.MapRead.map c.args.map.now) c.args.path.now _ _ _ _ _ _ _ (rw c.in-Ok.is at c.in_ok-refusal.ensures.own).0 a,
       a.holds.notes,
