@@ -6,6 +6,7 @@ use Rattle.std.specs.Prelude.{sum_by, unwrap_or, min}
 use Rattle.std.specs.Option.{option_map}
 use Rattle.std.specs.Cmp.{nat_eq_equiv}
 use Rattle.std.specs.HashMap.{IsUnique, PutsEntry, Updates, get, keys, values}
+use Rattle.std.specs.declared.cmp.Reverse.{Reverse}
 use Rattle.std.specs.BinaryHeap.{heap_items}
 use Rattle.std.specs.List.Sorted.{IsPermutation}
 use Rattle.std.proofs.Math.Nat.{mul-le-mul_right}
@@ -20,10 +21,10 @@ use Rattle.olr_spec.specs.Extension.{limit}
 use Rattle.olr_spec.specs.Detours.{Near}
 use Rattle.olr_spec.proofs.RouteLemmas.{IsRoute-append, dm_of-append}
 use Rattle.olr_spec.proofs.AgreeLemmas.{turned_round, by_leaving, same_known, same_start, same_end, same_dm}
-use Rattle.olr_near.proofs.Waiting.{pushed_kept, pushed_there}
-use Rattle.olr_near.specs.Bounds.{Numbers, bound_of, IsSource, Within, ClosedAt, IsRight, IsWaiting, IsUnderWay, SameBut, Moves}
+use Rattle.olr_near.specs.Bounds.{Numbers, bound_of, IsSource, Within, ClosedAt, IsRight, Waits, IsWaiting, IsUnderWay, SameBut, Moves}
 use Rattle.olr_near.specs.Bounds.{IsReopened, IsLowered, IsFollowed, IsLed, lesser}
 use Rattle.olr_near.specs.declared.distance_bounds.DistanceBounds.{DistanceBounds}
+use Rattle.olr_search.proofs.HeapLemmas.{popped_or, pushed_kept, pushed_there}
 
 -- ---- bounds that did not increase
 
@@ -98,7 +99,7 @@ put_moves f g k v d is updates less p known =
         | inl was ↦ inl was
         | inr h ↦ inr (coe 1 0 (i. IsWaiting g (h.0 i) q) (coe 1 0 (i. IsWaiting g d (h.1 i)) (pushed_there _ _ _ p)))
       ];
-      kept = λ e q w. pushed_kept _ _ _ e q p w;
+      kept = λ e q w. pushed_kept _ _ _ _ p w;
       known = known;
     }
 
@@ -191,6 +192,13 @@ gain_le m below unique =
     le_trans (sum_by-le weight (limit + 1) (values m) (λ i k lt. omega arith)) (mul-le-mul_right (limit + 1) less)
 
 -- ---- the queue
+
+pub popped_others : (xs ys : List (Reverse (ℕ × ℕ))) (x : Reverse (ℕ × ℕ)) (d v : ℕ) → IsPermutation xs (x ∷ ys) →
+    Waits xs d v → Waits ys d v ⊎ ((d ≡ x.0.0) × (v ≡ x.0.1))
+popped_others xs ys x d v p w = elim (popped_or xs ys x (record { 0 = (d, v) }) p w) [
+  | inl h ↦ inl h
+  | inr e ↦ inr (ap (λ (y : Reverse (ℕ × ℕ)). y.0.0) e, ap (λ (y : Reverse (ℕ × ℕ)). y.0.1) e)
+]
 
 -- an entry is removed, between f and g, and its lines are followed, up to h; or the bound is another one by now
 module _ (M : Map) (f g : DistanceBounds) (d v : ℕ) (same : g.bounds ≡ f.bounds) (known : g.known ≡ f.known)

@@ -22,21 +22,24 @@ entry_dist d p small = div-mul-add d (2 ^ 32) p small
 pub entry_slot : (d p : ℕ) → p < 2 ^ 32 → queue_key d p % 2 ^ 32 ≡ p
 entry_slot d p small = mod-mul-add d (2 ^ 32) p small
 
+-- an entry is still there after a pop, or is the removed one
+pub popped_or : {X : Type 0} → (xs ys : List X) (x y : X) → IsPermutation xs (x ∷ ys) → Contains xs y → Contains ys y
+    ⊎ (y ≡ x)
+popped_or xs ys x y perm w = elim (Contains-append_cases (x ∷ []) ys y (Contains-permutation xs (x ∷ ys) y perm w)) [
+  | inl h ↦ inr (Contains-one x y h)
+  | inr h ↦ inl h
+]
+
 pub popped_others : (xs ys : List Entry) (x : Entry) (d p : ℕ) → p < 2 ^ 32 → IsPermutation xs (x ∷ ys) →
     Contains xs (record { 0 = queue_key d p }) → Contains ys (record { 0 = queue_key d p })
     ⊎ ((d ≡ x.0 / 2 ^ 32) × (p ≡ x.0 % 2 ^ 32))
-popped_others xs ys x d p small perm w =
-    elim (Contains-append_cases (x ∷ []) ys (record { 0 = queue_key d p })
-    (Contains-permutation xs (x ∷ ys) (record { 0 = queue_key d p }) perm w)) [
-      | inl h ↦
-          let e = Contains-one x (record { 0 = queue_key d p }) h in
-          inr (
-            sym (entry_dist d p small) ∙ ap (λ (y : Entry). y.0 / 2 ^ 32) e,
-            sym (entry_slot d p small)
-                ∙ ap (λ (y : Entry). y.0 % 2 ^ 32) e,
-          )
-      | inr h ↦ inl h
-    ]
+popped_others xs ys x d p small perm w = elim (popped_or xs ys x (record { 0 = queue_key d p }) perm w) [
+  | inl h ↦ inl h
+  | inr e ↦ inr (
+    sym (entry_dist d p small) ∙ ap (λ (y : Entry). y.0 / 2 ^ 32) e,
+    sym (entry_slot d p small) ∙ ap (λ (y : Entry). y.0 % 2 ^ 32) e,
+  )
+]
 
 low_from_greatest : (x : Entry) (ys : List Entry) → IsUpperBound entry_cmp x ys → (y : Entry) → Contains ys y →
     x.0 ≤ y.0
@@ -54,8 +57,8 @@ popped_least xs ys x d p small perm top w = elim (popped_others xs ys x d p smal
   | inr is ↦ let same = is.0 in omega arith
 ]
 
-pub pushed_kept : (xs ys : List Entry) (x y : Entry) → IsPermutation (x ∷ xs) ys → Contains xs y → Contains ys y
+pub pushed_kept : {X : Type 0} → (xs ys : List X) (x y : X) → IsPermutation (x ∷ xs) ys → Contains xs y → Contains ys y
 pushed_kept xs ys x y perm w = Contains-permutation (x ∷ xs) ys y perm (Contains-append_right (x ∷ []) xs y w)
 
-pub pushed_there : (xs ys : List Entry) (x : Entry) → IsPermutation (x ∷ xs) ys → Contains ys x
+pub pushed_there : {X : Type 0} → (xs ys : List X) (x : X) → IsPermutation (x ∷ xs) ys → Contains ys x
 pushed_there xs ys x perm = Contains-permutation (x ∷ xs) ys x perm (0, omega arith, refl)

@@ -1,6 +1,6 @@
 pub mod RouteEnds
 pub mod ReadLemmas
-mod HeapLemmas
+pub mod HeapLemmas
 pub mod NoteLemmas
 mod DistinctLemmas
 pub mod WayLemmas

@@ -1,8 +1,7 @@
 use Rattle.std.proofs.Common.{◌≡◌, true, false, inl, inr, refl, sym, ◌∙◌, arith}
 use Rattle.olr_near.specs.Bounds.{bound_of}
-use Rattle.olr_near.proofs.Waiting.{popped_others}
 use Rattle.olr_near.proofs.BoundLemmas.{within_better, within_itself, popped_skip, popped_more, gain_le, led_itself}
-use Rattle.olr_near.proofs.BoundLemmas.{led_on}
+use Rattle.olr_near.proofs.BoundLemmas.{led_on, popped_others}
 use Rattle.olr_near.proofs.distance_bounds.DistanceBounds.follow_all.Goals as goal
 
 pub loop-top-init : goal.loop-top-init

@@ -5,7 +5,7 @@ use Rattle.std.specs.HashMap.{get}
 use Rattle.std.specs.BinaryHeap.{heap_items}
 use Rattle.olr_spec.proofs.ListLemmas.{at_index}
 use Rattle.olr_near.specs.Bounds.{Waits, Numbers, bound_of, IsWaiting}
-use Rattle.olr_near.proofs.Waiting.{pushed_kept, pushed_there}
+use Rattle.olr_search.proofs.HeapLemmas.{pushed_kept, pushed_there}
 use Rattle.olr_near.proofs.distance_bounds.DistanceBounds.let_wait.Goals.{in-Some+in_ok-push, in_default}
 use Rattle.olr_near.proofs.distance_bounds.DistanceBounds.let_wait.Goals as goal
 
@@ -37,9 +37,9 @@ loop-node-preserved c =
           let p = w.in_ok-push.ensures.permutation in
           rw w.self-is (record {
             same = inv.same;
-            kept = λ d v k. pushed_kept _ _ _ d v p (inv.kept d v k);
+            kept = λ d v k. pushed_kept _ _ _ _ p (inv.kept d v k);
             waits = λ j d lt at. elim (cases_lt j n) [
-              | inl low ↦ pushed_kept _ _ _ d (get_or items j 0) p (inv.waits j d low at)
+              | inl low ↦ pushed_kept _ _ _ _ p (inv.waits j d low at)
               | inr high ↦
                   let same : j ≡ n = omega arith in
                   let both : ◌≡◌ {A = Option ℕ} (Some w.in-Some.number.now) (Some d) =
