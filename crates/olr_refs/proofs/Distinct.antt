@@ -6,7 +6,7 @@ use Rattle.std.specs.List.Sorted.{IsSorted}
 use Rattle.std.specs.Cmp.{nat_eq_equiv}
 use Rattle.std.specs.Ordering.{nat_cmp}
 use Rattle.std.proofs.lemmas.Bool.{both_ways, and_parts, and_from, or_parts, or_from, not-true, not_from_false, ne_eqb}
-use Rattle.std.proofs.lemmas.Bool.{eq-eqb, eqb-true, cases_Bool, cases_order}
+use Rattle.std.proofs.lemmas.Bool.{eq-eqb, cases_Bool, cases_order}
 use Rattle.std.proofs.lemmas.List.Kept.{AllPairs-from_increasing}
 use Rattle.std.proofs.lemmas.List.Sorted.{IsPermutation-sym, IsNonDecreasingBy-from_sort}
 use Rattle.std.proofs.lemmas.Map.Keys.{IsDistinct-head, IsDistinct-tail, IsDistinct-cons, IsDistinct-IsPermutation}

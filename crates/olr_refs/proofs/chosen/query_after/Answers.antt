@@ -1,23 +1,14 @@
-use Rattle.std.proofs.Common.{[], ◌∷◌, sym, subst, refl}
-use Rattle.olr_spec.specs.Queries.{CoverageQuery}
-use Rattle.olr_refs.specs.Along.{IsReach}
-use Rattle.olr_refs.specs.Reuse.{Asks}
-use Rattle.olr_refs.proofs.Asking.{asks_known, asks_searched}
+use Rattle.std.proofs.Common.{refl}
+use Rattle.olr_refs.proofs.Asking.{asks_searched}
 use Rattle.olr_refs.proofs.chosen.query_after.Goals as goal
-
-pub returns-in-Some-clause-reach : goal.returns-in-Some-clause-reach
-returns-in-Some-clause-reach g c =
-    subst (IsReach (g.M.MapRead.map c.args.resolved.now.map.now) c.args.resolved.now.lines.now c.args.i) (sym c.reach_by-reach.ensures) c.in-Some.ensures.reach
-
-pub returns-in-Some-clause-asks : goal.returns-in-Some-clause-asks
-returns-in-Some-clause-asks g c =
-    subst (λ (q : CoverageQuery). Asks (g.M.MapRead.map c.args.resolved.now.map.now) c.args.resolved.now.lines.now c.args.reuse.now.lead c.args.reuse.now.own c.args.reuse.now.known.now (c.args.i ∷ []) (q ∷ []) (c.in-Some.known ∷ []) c.args.work.now
-    c.args.work.now c.args.seen.now c.args.seen.now) (sym c.query_of.ensures)
-    (asks_known (g.M.MapRead.map c.args.resolved.now.map.now) c.args.resolved.now.lines.now c.args.reuse.now.lead c.args.reuse.now.own c.args.reuse.now.known.now c.args.i c.in-Some.known c.args.work.now c.args.seen.now c.requires.some
-    c.in-Some.ensures.known c.in-Some.ensures.given)
 
 pub returns-in_ok-tested-in-None-clause-asks : goal.returns-in_ok-tested-in-None-clause-asks
 returns-in_ok-tested-in-None-clause-asks g c =
-    asks_searched (g.M.MapRead.map c.args.resolved.now.map.now) c.args.resolved.now.lines.now c.args.reuse.now.lead c.args.reuse.now.own c.args.reuse.now.known.now c.args.i c.in_ok-tested-in-None.query c.own_query-own.result _ _ _ _ c.requires.some
-    (c.in_ok-tested-in-None.tested.last, c.in_ok-tested-in-None.ensures.last, c.in_ok-tested-in-None.ensures.query)
-    (c.in-None.ensures.none refl) c.own_query-own.ensures c.in_ok-tested-in-None.ensures.work c.in_ok-tested-in-None.ensures.seen
+    asks_searched (g.M.MapRead.map c.args.resolved.now.map.now) c.args.resolved.now.lines.now c.args.reuse.now.lead
+    c.args.reuse.now.own c.args.reuse.now.known.now c.args.i c.in_ok-tested-in-None.query c.own_query-own.result
+    _ _ _ _ c.requires.some (
+      c.in_ok-tested-in-None.tested.last,
+      c.in_ok-tested-in-None.ensures.last,
+      c.in_ok-tested-in-None.ensures.query,
+    ) (c.in-None.ensures.none refl) c.own_query-own.ensures c.in_ok-tested-in-None.ensures.work
+    c.in_ok-tested-in-None.ensures.seen

@@ -2,12 +2,6 @@ use Rattle.std.proofs.Common.{rules, arith}
 use Rattle.olr_refs.proofs.LegLemmas.{leg_read, attrs_read}
 use Rattle.olr_refs.proofs.fields.attrs.Goals as goal
 
-pub overflow_cast-result : goal.overflow_cast-result
-overflow_cast-result g c =
-    let long = c.between.ensures.value in
-    let near = c.requires.candidate.near in
-    record { fits = omega arith }
-
 pub returns : goal.returns
 returns g c =
     let M = g.M.MapRead.map c.args.resolved.now.map.now in

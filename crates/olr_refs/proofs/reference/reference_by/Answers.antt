@@ -1,9 +1,6 @@
-use Rattle.std.proofs.Common.{◌-◌, ◌+◌, ◌<◌, ◌≤◌, ◌≡◌, ℕ, sym, subst, length, arith}
-use Rattle.std.specs.List.{slice_index}
+use Rattle.std.proofs.Common.{◌≤◌, ℕ, sym, subst, arith}
 use Rattle.olr_spec.specs.Extension.{limit}
 use Rattle.olr_spec.specs.Bytes.{IsReference}
-use Rattle.olr_refs.specs.KeptPoints.{distance_at}
-use Rattle.olr_refs.proofs.Stretches.{dm_stretch}
 use Rattle.olr_refs.proofs.Trimming.{linked_end}
 use Rattle.olr_refs.proofs.PointLemmas.{reference_read}
 use Rattle.olr_refs.proofs.reference.reference_by.Goals as goal
