@@ -22,7 +22,7 @@ use Rattle.olr_search.specs.declared.work.Work.{Work}
 use Rattle.olr_refs.specs.Choice.{Queried, SeenBy, SettledBy, Notes, raised_count}
 use Rattle.olr_refs.specs.Reuse.{Asks, AsksAfter, AsksOf, Searched}
 use Rattle.olr_refs.proofs.Noting.{queried_none, queried_more, zip_append, Led, led_more, settled_most}
-use Rattle.olr_refs.proofs.Seen.{notes_same, notes_more, seen_one, seen_append, noted_none}
+use Rattle.olr_refs.proofs.Noting.{notes_same, notes_more, seen_one, seen_append, noted_none}
 use Rattle.olr_spec.proofs.TestedLemmas.{foot_queried, one_query}
 use Rattle.std.proofs.lemmas.List.{append-nil}
 

@@ -11,11 +11,9 @@ pub mod PlaceLemmas
 pub mod PointLemmas
 pub mod Reaching
 pub mod Resolving
-pub mod Recovering
 pub mod Reusing
 pub mod Asking
 pub mod Referring
-pub mod Seen
 pub mod Sets
 pub mod Stretches
 pub mod Trimming

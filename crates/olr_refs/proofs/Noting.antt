@@ -1,29 +1,30 @@
 -- The coverage queries of a choice of LRPs, and the counts that its searches raise.
-use Rattle.std.proofs.Common.{◌≡◌, ◌≤◌, ◌+◌, ◌*◌, ℕ, zero, suc, List, [], ◌∷◌, ◌++◌, length, Contains, refl, sym}
-use Rattle.std.proofs.Common.{ap, ◌∙◌, subst, arith, inl, inr, length-append}
-use Rattle.std.specs.Prelude.{IsTrue, ◌↔◌}
+use Rattle.std.proofs.Common.{◌≡◌, ◌≤◌, ◌+◌, ◌*◌, ℕ, zero, suc, List, [], ◌∷◌, ◌++◌, length, Contains, refl, sym, ap}
+use Rattle.std.proofs.Common.{◌∙◌, subst, arith, inl, inr, length-append, ◌<◌, None, Some, Option, ◌⊎◌}
+use Rattle.std.specs.Prelude.{IsTrue, ◌↔◌, MatchOption}
 use Rattle.std.specs.Cmp.{nat_eq_equiv}
 use Rattle.std.specs.List.{AllZip}
 use Rattle.std.proofs.lemmas.Bool.{eqb-true}
-use Rattle.std.proofs.lemmas.List.Elements.{Contains-append_right}
+use Rattle.std.proofs.lemmas.List.Elements.{Contains-append_right, Contains-append_left, Contains-append_cases}
 use Rattle.std.proofs.lemmas.Map.Made.{length-le_from_is_member}
 use Rattle.std.proofs.lemmas.Map.Views.{Contains-from_any, list_any-from_Contains}
-use Rattle.olr_spec.specs.Map.{Map, has_node}
+use Rattle.olr_spec.specs.Map.{Map, has_node, IsMap}
 use Rattle.olr_spec.specs.Routes.{IsRoute, dm_of}
-use Rattle.olr_spec.specs.Extension.{limit}
+use Rattle.olr_spec.specs.Extension.{limit, Path, is_path}
 use Rattle.olr_spec.specs.Points.{Next, Follow, NoNext, last_position, stretch}
-use Rattle.olr_spec.specs.Footprint.{Sees}
-use Rattle.olr_spec.specs.Queries.{CoverageQuery, IsLastTested}
-use Rattle.olr_spec.proofs.ListLemmas.{Contains-here, Contains-one}
+use Rattle.olr_spec.specs.Footprint.{Sees, Foot}
+use Rattle.olr_spec.specs.Queries.{CoverageQuery, IsLastTested, TraversedOf, QueriesOf}
+use Rattle.olr_spec.proofs.ListLemmas.{Contains-here, Contains-one, Contains-cases}
 use Rattle.olr_search.specs.declared.work.Work.{Work}
 use Rattle.olr_search.specs.declared.distances.Direction.TheVariants.{Along}
 use Rattle.olr_search.specs.Counts.{saturated_count}
 use Rattle.olr_search.specs.declared.distances.Dijkstra.{Dijkstra}
 use Rattle.olr_search.specs.Searches.{IsSearch, LiesWithin, Counts, limit_of}
 use Rattle.olr_search.proofs.SearchLemmas.{near_leads}
-use Rattle.olr_refs.specs.Choice.{CountOf, Queried, SeenBy, SettledBy, raised_count}
-use Rattle.olr_refs.proofs.Stretches.{later_stretch, longer_stretch}
+use Rattle.olr_refs.specs.Choice.{CountOf, Queried, SeenBy, SettledBy, raised_count, Notes}
+use Rattle.olr_refs.proofs.Stretches.{stretch_sum}
 use Rattle.olr_refs.proofs.Reaching.{empty_stretch}
+use Rattle.olr_spec.proofs.TestedLemmas.{foot_queried}
 
 -- ---- what a search settles
 
@@ -63,8 +64,8 @@ query_short M ls i k t =
           let after = t.after in
           let within = n.2 in
           let before = n.3 in
-          let later = later_stretch M ls i (i + 1) k (omega arith) (omega arith) in
-          let longer = longer_stretch M ls i k n.0 (omega arith) (omega arith) in
+          let later = stretch_sum M ls i (i + 1) k (omega arith) (omega arith) in
+          let longer = stretch_sum M ls i k n.0 (omega arith) (omega arith) in
           omega arith
     ]
   where
@@ -191,3 +192,99 @@ follows_end M ls points last l h = led_follow M ls 0 last points l (no_next_end 
 
 pub last_is : (M : Map) (ls points : List ℕ) (last : ℕ) → Led M ls 0 points last → last_position 0 points ≡ last
 last_is M ls points last l = led_last M ls 0 last points l
+
+-- ---- what is noted
+
+pub notes_same : (P Q : ℕ → Type 0) (a b : Option (List ℕ)) → ((v : ℕ) → P v ↔ Q v) → Notes P a b → Notes Q a b
+notes_same P Q None None e n = tt
+notes_same P Q None (Some g) e n = absurd n
+notes_same P Q (Some f) None e n = absurd n
+notes_same P Q (Some f) (Some g) e n = λ v. let p = e v in let q = n v in grind arith
+
+pub notes_none : (P : ℕ → Type 0) (a : Option (List ℕ)) → ((v : ℕ) → P v → ⊥) → Notes P a a
+notes_none P None e = tt
+notes_none P (Some f) e = λ v. let p = e v in grind arith
+
+pub notes_more : (P Q R : ℕ → Type 0) (a b c : Option (List ℕ)) → ((v : ℕ) → R v ↔ (P v ⊎ Q v)) → Notes P a b →
+    Notes Q b c → Notes R a c
+notes_more P Q R None None None e n m = tt
+notes_more P Q R None None (Some h) e n m = absurd m
+notes_more P Q R None (Some g) c e n m = absurd n
+notes_more P Q R (Some f) None c e n m = absurd n
+notes_more P Q R (Some f) (Some g) None e n m = absurd m
+notes_more P Q R (Some f) (Some g) (Some h) e n m = λ v. let p = e v in let q = n v in let r = m v in grind arith
+
+-- the nodes of a search are noted
+pub nodes_noted : (P : ℕ → Type 0) (a : Option (List ℕ)) (f g nodes : List ℕ) → a ≡ Some f
+    → ((v : ℕ) → Contains g v ↔ (Contains f v ⊎ Contains nodes v)) → ((v : ℕ) → Contains nodes v ↔ P v) →
+    Notes P a (Some g)
+nodes_noted P a f g nodes e n p =
+    subst (λ (b : Option (List ℕ)). Notes P b (Some g)) (sym e)
+    (notes_same (Contains nodes) P (Some f) (Some g) p n)
+
+-- what the search for a query notes
+pub query_noted : (M : Map) (place : ℕ → ℕ) (l : CoverageQuery) (q : Dijkstra) (a b : Option (List ℕ)) →
+    IsSearch M place Along ((l.from, 0) ∷ []) q → IsTrue (has_node M l.from) → limit_of q ≡ l.within
+    → Notes (LiesWithin M Along ((l.from, 0) ∷ []) (limit_of q)) a b → Notes (Sees M l) a b
+query_noted M place l q a b h there far n = notes_same _ _ a b (search_sees M place l q h there far) n
+
+-- ---- what the queries reach
+
+pub seen_none : (M : Map) (v : ℕ) → SeenBy M [] v → ⊥
+seen_none M v s = let h = s.1.1 in absurd (omega arith)
+
+pub seen_one : (M : Map) (l : CoverageQuery) (v : ℕ) → Sees M l v ↔ SeenBy M (l ∷ []) v
+seen_one M l v = (λ s. (l, Contains-here l [], s), forth)
+  where
+    forth : SeenBy M (l ∷ []) v → Sees M l v
+    forth w = elim (Contains-cases l w.0 [] w.1) [
+      | inl e ↦ subst (λ (k : CoverageQuery). Sees M k v) (sym e) w.2
+      | inr none ↦ let never : none.0 < 0 = none.1 in absurd (omega arith)
+    ]
+
+pub seen_append : (M : Map) (ks ls : List CoverageQuery) (v : ℕ) → SeenBy M (ks ++ ls) v ↔ (SeenBy M ks v ⊎ SeenBy M ls v)
+seen_append M ks ls v = (forth, back)
+  where
+    forth : SeenBy M (ks ++ ls) v → SeenBy M ks v ⊎ SeenBy M ls v
+    forth w = elim (Contains-append_cases ks ls w.0 w.1) [
+      | inl there ↦ inl (w.0, there, w.2)
+      | inr there ↦ inr (w.0, there, w.2)
+    ]
+
+    back : SeenBy M ks v ⊎ SeenBy M ls v → SeenBy M (ks ++ ls) v
+    back (inl w) = (w.0, Contains-append_left ks ls w.0 w.1, w.2)
+    back (inr w) = (w.0, Contains-append_right ks ls w.0 w.1, w.2)
+
+pub noted_none : (M : Map) (queries : List CoverageQuery) (a : Option (List ℕ)) → queries ≡ [] →
+    Notes (SeenBy M queries) a a
+noted_none M queries a e =
+    subst (λ (ks : List CoverageQuery). Notes (SeenBy M ks) a a) (sym e) (notes_none (SeenBy M []) a (seen_none M))
+
+-- ---- the footprint
+
+-- the nodes that were seen are added to the traversed nodes
+pub seen_added : (traversed new : List ℕ) (seen : Option (List ℕ)) (nodes : List ℕ) → seen ≡ Some nodes
+    → ((v : ℕ) → Contains new v ↔ (Contains traversed v ⊎ Contains nodes v)) → (v : ℕ) →
+    Contains new v ↔ (Contains traversed v ⊎ MatchOption seen ⊥ (λ s. Contains s v))
+seen_added traversed new seen nodes e f v =
+    subst (λ (o : Option (List ℕ)). Contains new v ↔ (Contains traversed v ⊎ MatchOption o ⊥ (λ s. Contains s v)))
+    (sym e)
+    (f v)
+
+-- of a path's traversed nodes and what its queries reach
+pub noted_foot : (M : Map) → IsMap M → (P : Path) → IsTrue (is_path P.lines) → (queries : List CoverageQuery) →
+    QueriesOf M P queries →
+    (traversed begun : List ℕ) (seen : Option (List ℕ)) (foot : List ℕ) →
+    ((v : ℕ) → Contains traversed v ↔ TraversedOf M P v)
+    → begun ≡ [] → Notes (SeenBy M queries) (Some begun) seen
+    → ((v : ℕ) → Contains foot v ↔ (Contains traversed v ⊎ MatchOption seen ⊥ (λ s. Contains s v))) → (v : ℕ) →
+    Contains foot v ↔ Foot M P v
+noted_foot M m P is queries l traversed begun None foot o e n f v = absurd n
+noted_foot M m P is queries l traversed begun (Some seen) foot o e n f v =
+    let law = foot_queried M m P is queries l v in
+    let x = o v in
+    let y = n v in
+    let z = f v in
+    let none : Contains begun v → ⊥ = λ c.
+    let never = c.1 in omega (arith, ap (λ (vs : List ℕ). length vs) e) in
+    grind arith

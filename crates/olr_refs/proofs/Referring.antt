@@ -1,20 +1,18 @@
 -- The encoding of a path, by its extension, its LRPs, its coverage queries and its reference.
-use Rattle.std.proofs.Common.{◌≡◌, ◌<◌, ◌+◌, ◌==◌, ◌&&◌, ◌↔◌, ℕ, Bool, true, cond, List, [], ◌∷◌, length, Option}
-use Rattle.std.proofs.Common.{Some, None}
-use Rattle.std.proofs.Common.{MatchOption, Contains, refl, sym, ap, ◌∙◌, subst, arith, inl, inr}
+use Rattle.std.proofs.Common.{◌≡◌, ◌<◌, ◌+◌, ◌==◌, ◌&&◌, ◌↔◌, ℕ, Bool, true, cond, List, [], ◌∷◌, length, Option, Some}
+use Rattle.std.proofs.Common.{None, MatchOption, Contains, refl, sym, ap, ◌∙◌, subst, arith, inl, inr}
 use Rattle.std.proofs.lemmas.Bool.{eq-eqb, and_parts, leb-true}
 use Rattle.std.specs.Prelude.{IsTrue, nat_lt, nat_le, Result, Ok, Err, IfOk, OnOk}
 use Rattle.olr_spec.specs.Map.{Map, IsMap, Agree, has_line}
 use Rattle.olr_spec.specs.Routes.{dm_of}
-use Rattle.olr_spec.specs.Extension.{Path, Tried, is_path, extended_path, from_start, taken_start, taken_end}
-use Rattle.olr_spec.specs.Extension.{AreJoined, none_twice}
+use Rattle.olr_spec.specs.Extension.{Path, Tried, is_path, extended_path, from_start, taken_start, taken_end, AreJoined}
+use Rattle.olr_spec.specs.Extension.{none_twice}
 use Rattle.olr_spec.specs.Points.{Follow, last_position, OfPath}
 use Rattle.olr_spec.specs.Reference.{Reference, legs, reference, first_kept, last_kept, kept_points}
-use Rattle.olr_spec.specs.Encoding as spec
 use Rattle.olr_spec.specs.Encoding.{first_unknown, first_break, path_fault, answer_by_points, Encoding, Encodes}
 use Rattle.olr_spec.specs.Footprint.{Foot}
-use Rattle.olr_spec.specs.Queries.{CoverageQuery, IsQuery, Traversed, TraversedOfExtended, QueriesOf}
-use Rattle.olr_spec.specs.Queries.{QueriesOfExtended, querying, KnownQuery, AreKnown}
+use Rattle.olr_spec.specs.Queries.{CoverageQuery, IsQuery, Traversed, TraversedOfExtended, QueriesOf, QueriesOfExtended}
+use Rattle.olr_spec.specs.Queries.{querying, KnownQuery, AreKnown}
 use Rattle.olr_spec.proofs.AnswerLemmas.{path_nonempty, sound_lines, all_first, all_last, path_also}
 use Rattle.olr_spec.proofs.RunLemmas.{one_tried}
 use Rattle.olr_spec.proofs.DecodedLemmas.{two_of}
@@ -25,7 +23,6 @@ use Rattle.olr_spec.proofs.LocalLemmas.{local_answer}
 use Rattle.olr_spec.proofs.RouteLemmas.{dm_of-append}
 use Rattle.olr_refs.specs.declared.answer.Answer.{Answer}
 use Rattle.olr_refs.specs.declared.answer.Answer.TheVariants.{Points, Refused}
-use Rattle.olr_refs.specs.Answers as answers
 use Rattle.olr_refs.specs.Choice.{ForPoints, searches_of}
 use Rattle.olr_refs.specs.Reuse.{Reuses, Asks, AsksOf}
 use Rattle.olr_search.specs.declared.work.Work.{Work}
@@ -35,6 +32,11 @@ use Rattle.olr_refs.specs.Extends.{Extends}
 use Rattle.olr_refs.specs.KeptPoints.{later}
 use Rattle.olr_refs.specs.Referring.{Joined, JoinsOf, SearchesOf}
 use Rattle.olr_spec.proofs.JoinedLemmas.{extended_joined}
+use Rattle.olr_spec.proofs.ReceiverLemmas.{recovered}
+use Rattle.olr_refs.specs.Answers.{answer_of}
+use Rattle.olr_refs.specs.Recovered.{RecoveredOf}
+use Rattle.olr_spec.specs.Encoding as spec
+use Rattle.olr_refs.specs.Answers as answers
 
 -- ---- a path for which none of reasons 1 to 3 holds
 
@@ -130,10 +132,7 @@ one_traversed M m P is none b a t v traversed =
     one_tried M m P n (all_first Known P.lines n known) (all_last Known P.lines n known) traversed.before
     traversed.after b a
     traversed.tried t in
-    let first : Traversed M (extended_path M P b traversed.after).lines b traversed.after v =
-    subst (λ (c : List ℕ). Traversed M (extended_path M P c traversed.after).lines c traversed.after v) runs.0
-    traversed.traversed in
-    subst (λ (c : List ℕ). Traversed M (extended_path M P b c).lines b c v) runs.1 first
+    coe 0 1 (i. Traversed M (extended_path M P (runs.0 i) (runs.1 i)).lines (runs.0 i) (runs.1 i) v) traversed.traversed
 
 pub traversed_of : (M : Map) → IsMap M → (P E : Path) (lead : ℕ) (F G : List ℕ) → IsTrue (is_path P.lines) → path_fault M P ≡ None
     →
@@ -222,3 +221,8 @@ searches_queried M P queries o = by (path_fault M P) o
         path_also l (AllZip-long (IsQuery M ls) (querying ls (0 ∷ l.points)) queries l.holds
         ∙ length-filter (λ i. nat_lt (i + 2) (length ls)) (0 ∷ l.points))
     by (Some f) e = ap length e
+
+pub recovered_of : (M : Map) → IsMap M → (P : Path) → IsTrue (is_path P.lines) → (A : Answer) →
+    Encodes M P (answer_of A) → RecoveredOf M P A
+recovered_of M m P is (Refused f) e = tt
+recovered_of M m P is (Points r) e = λ R d ws. recovered R M m P is r e d ws

@@ -21,7 +21,7 @@ use Rattle.olr_spec.proofs.TestedLemmas.{one_last_tested}
 use Rattle.olr_refs.specs.Along.{IsFar, IsReach}
 use Rattle.olr_refs.specs.Reuse.{Reuses, known_reach}
 use Rattle.olr_refs.proofs.Reaching.{UniqueTo, reach_far, reach_to, last_far, last_to, needed_most, needed_far}
-use Rattle.olr_refs.proofs.Stretches.{longer_stretch}
+use Rattle.olr_refs.proofs.Stretches.{stretch_sum}
 
 -- ---- by the line where it begins
 
@@ -246,7 +246,7 @@ covered_if M ls i reach last r t order b f g = ((λ h. (r.within last (omega ari
             let far = r.beyond last lt (omega arith) c in
             let near = n.2 in
             let upto = n.3 in
-            let longer = longer_stretch M ls i last n.0 (omega arith) (omega arith) in
+            let longer = stretch_sum M ls i last n.0 (omega arith) (omega arith) in
             absurd (omega arith)
         | inr (inr gt) ↦ g (omega arith)
       ]

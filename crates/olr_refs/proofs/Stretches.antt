@@ -19,16 +19,11 @@ dm_stretch M ls ds i j d h g =
     d.each j g ∙ ap (dm_of M) front ∙ dm_of-append M (take i ls) (stretch ls i j)
     ∙ ap (λ (n : ℕ). n + dm_of M (stretch ls i j)) (sym (d.each i (omega arith)))
 
--- a leg with more lines is at least as long
-pub longer_stretch : (M : Map) (ls : List ℕ) (i j k : ℕ) → i ≤ j → j ≤ k →
-    dm_of M (stretch ls i j) ≤ dm_of M (stretch ls i k)
-longer_stretch M ls i j k h g = let e =
-    ap (dm_of M) (stretch_parts ls i j k h g) ∙ dm_of-append M (stretch ls i j) (stretch ls j k) in omega arith
-
-pub later_stretch : (M : Map) (ls : List ℕ) (i j k : ℕ) → i ≤ j → j ≤ k →
-    dm_of M (stretch ls j k) ≤ dm_of M (stretch ls i k)
-later_stretch M ls i j k h g = let e =
-    ap (dm_of M) (stretch_parts ls i j k h g) ∙ dm_of-append M (stretch ls i j) (stretch ls j k) in omega arith
+-- and its parts are no longer than a leg
+pub stretch_sum : (M : Map) (ls : List ℕ) (i j k : ℕ) → i ≤ j → j ≤ k →
+    dm_of M (stretch ls i k) ≡ dm_of M (stretch ls i j) + dm_of M (stretch ls j k)
+stretch_sum M ls i j k h g =
+    ap (dm_of M) (stretch_parts ls i j k h g) ∙ dm_of-append M (stretch ls i j) (stretch ls j k)
 
 pub distances_rise : (M : Map) (ls ds : List ℕ) → AreDistances M ls ds → (j k : ℕ) → j ≤ k → k < length ds →
     slice_index ds j ≤ slice_index ds k
@@ -43,7 +38,7 @@ far_of M ls ds i k d f =
       near = λ j a b.
           let u = f.upto in let near = f.near in
           let whole = dm_stretch M ls ds i k d f.from (omega arith) in
-          let part = longer_stretch M ls i j k (omega arith) b in omega arith;
+          let part = stretch_sum M ls i j k (omega arith) b in omega arith;
       beyond = λ j a b. let far = f.beyond j a (omega arith) in let from = f.from in let e =
           dm_stretch M ls ds i j d (omega arith) b in omega arith;
     }

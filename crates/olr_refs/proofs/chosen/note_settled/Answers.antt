@@ -2,7 +2,7 @@ use Rattle.std.proofs.Common.{ℕ, List, Contains, sym, subst}
 use Rattle.std.specs.Prelude.{◌↔◌}
 use Rattle.std.specs.List.Sorted.{IsStrictlyIncreasing}
 use Rattle.olr_search.specs.Searches.{LiesWithin, limit_of}
-use Rattle.olr_refs.proofs.Seen.{nodes_noted}
+use Rattle.olr_refs.proofs.Noting.{nodes_noted}
 use Rattle.olr_refs.proofs.chosen.note_settled.Goals as goal
 
 pub note_all-requires : goal.note_all-requires

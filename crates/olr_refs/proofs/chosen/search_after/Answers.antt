@@ -1,7 +1,6 @@
 use Rattle.std.proofs.Common.{ℕ, [], ◌∷◌, refl, sym, ◌∙◌, subst, arith}
 use Rattle.olr_spec.specs.Queries.{CoverageQuery}
-use Rattle.olr_refs.proofs.Noting.{query_short, one_query}
-use Rattle.olr_refs.proofs.Seen.{query_noted}
+use Rattle.olr_refs.proofs.Noting.{query_short, one_query, query_noted}
 use Rattle.olr_search.specs.declared.distances.Direction.TheVariants.{Along}
 use Rattle.olr_search.specs.Searches.{IsSearch}
 use Rattle.olr_refs.proofs.chosen.search_after.Goals as goal

@@ -4,9 +4,8 @@ use Rattle.olr_spec.proofs.KnownLemmas.{all_searched}
 use Rattle.olr_refs.specs.Choice.{Notes, SeenBy, SettledBy, raised_count}
 use Rattle.olr_refs.proofs.Asking.{searched_all}
 use Rattle.olr_refs.specs.Answers.{answer_of}
-use Rattle.olr_refs.proofs.Recovering.{recovered_of}
-use Rattle.olr_refs.proofs.Referring.{local_by, searches_queried}
-use Rattle.olr_refs.proofs.Seen.{noted_foot}
+use Rattle.olr_refs.proofs.Referring.{recovered_of, local_by, searches_queried}
+use Rattle.olr_refs.proofs.Noting.{noted_foot}
 use Rattle.olr_refs.proofs.footprints.refer.Goals as goal
 
 pub returns-clause-recovered : goal.returns-clause-recovered

@@ -1,5 +1,5 @@
 use Rattle.std.proofs.Common.{◌≡◌, Some}
-use Rattle.olr_refs.proofs.Seen.{seen_added}
+use Rattle.olr_refs.proofs.Noting.{seen_added}
 use Rattle.olr_refs.proofs.footprints.with_seen.Goals as goal
 
 pub returns-in_ok-note_all-in-Some : goal.returns-in_ok-note_all-in-Some

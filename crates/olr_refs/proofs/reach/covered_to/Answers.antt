@@ -4,7 +4,7 @@ use Rattle.olr_spec.specs.Routes.{dm_of}
 use Rattle.olr_spec.specs.Points.{stretch}
 use Rattle.olr_search.specs.declared.distances.Direction.TheVariants.{Along}
 use Rattle.olr_search.specs.Searches.{limit_of}
-use Rattle.olr_refs.proofs.Stretches.{later_stretch}
+use Rattle.olr_refs.proofs.Stretches.{stretch_sum}
 use Rattle.olr_refs.proofs.Reaching.{UniqueTo, tests_start, settled_on, unique_if, reach_far, reach_to}
 use Rattle.olr_refs.proofs.Reaching.{last_far, last_to}
 use Rattle.olr_refs.proofs.reach.covered_to.Goals as goal
@@ -20,7 +20,7 @@ settle_to-requires-clause-small g c =
     let M = g.M.MapRead.map c.args.resolved.now.map.now in
     let near = c.requires.far.near (c.loop-k.k + 1) (omega arith) (omega arith) in
     let later =
-    later_stretch M c.args.resolved.now.lines.now c.args.i (c.args.i + 1) (c.loop-k.k + 1) (omega arith) (omega arith)
+    stretch_sum M c.args.resolved.now.lines.now c.args.i (c.args.i + 1) (c.loop-k.k + 1) (omega arith) (omega arith)
     in
     let is = c.between.ensures.value in
     omega arith
@@ -30,7 +30,7 @@ overflow_cast-between g c =
     let M = g.M.MapRead.map c.args.resolved.now.map.now in
     let near = c.requires.far.near (c.loop-k.k + 1) (omega arith) (omega arith) in
     let later =
-    later_stretch M c.args.resolved.now.lines.now c.args.i (c.args.i + 1) (c.loop-k.k + 1) (omega arith) (omega arith)
+    stretch_sum M c.args.resolved.now.lines.now c.args.i (c.args.i + 1) (c.loop-k.k + 1) (omega arith) (omega arith)
     in
     let is = c.between.ensures.value in
     record { fits = omega arith }
