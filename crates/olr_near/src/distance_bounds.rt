@@ -108,6 +108,7 @@ impl DistanceBounds {
     }
 
     /// Adds a query of a length in decimetres that begins at the source, whose lines are then to be followed.
+    #[tactic(auto, using(crate::proofs::BoundLemmas::source_better))]
     pub fn add(&mut self, source: NodeId, within: u32) -> Result<(), AllocError>
         ensures source { IsSource self.new source within }
         ensures lowered { OnOk result (IsLowered self.old self.new source (limit - within)) }
@@ -127,6 +128,7 @@ impl DistanceBounds {
 
     /// Queues these nodes, so that `settle` follows their lines again: required where a line was added or became
     /// shorter.
+    #[tactic(auto, using(crate::proofs::BoundLemmas::reopened_sources))]
     pub fn reopen(&mut self, nodes: &[NodeId]) -> Result<(), AllocError>
         ensures sources { (s w : ℕ) → IsSource self.old s w → IsSource self.new s w }
         ensures under_way { (M N : Map) → SameBut nodes.now M N → IsUnderWay M self.old → IsUnderWay N self.new }
@@ -143,6 +145,7 @@ impl DistanceBounds {
     }
 
     /// Follows the lines of all queued nodes, until the bounds are right.
+    #[tactic(auto, using(crate::proofs::BoundLemmas::source_better))]
     pub fn settle<M: MapRead>(&mut self, map: &M) -> Result<(), AllocError>
         ensures sources { (s w : ℕ) → IsSource self.old s w → IsSource self.new s w }
         ensures right { IsUnderWay (M.map map.now) self.old → IsRight (M.map map.now) self.new }

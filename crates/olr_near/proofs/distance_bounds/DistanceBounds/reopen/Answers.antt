@@ -1,8 +1,5 @@
-use Rattle.olr_near.proofs.BoundLemmas.{reopened_sources, reopened_under_way}
+use Rattle.olr_near.proofs.BoundLemmas.{reopened_under_way}
 use Rattle.olr_near.proofs.distance_bounds.DistanceBounds.reopen.Goals as goal
-
-pub returns-in-Ok-clause-sources : goal.returns-in-Ok-clause-sources
-returns-in-Ok-clause-sources c = reopened_sources c.args.nodes.now c.args.self.now c.let_wait.new.self c.in-Ok.ensures
 
 pub returns-in-Ok-clause-under_way : goal.returns-in-Ok-clause-under_way
 returns-in-Ok-clause-under_way c =

@@ -1,6 +1,4 @@
-use Rattle.std.proofs.Common.{◌==◌, ℕ, List, Contains, sym, subst, arith}
-use Rattle.std.specs.List.{IsDistinct}
-use Rattle.olr_search.specs.Notes.{numbers_of}
+use Rattle.std.proofs.Common.{ℕ, List, Contains, sym, subst, arith}
 use Rattle.olr_search.specs.declared.frontier.Reached.{Reached}
 use Rattle.olr_search.specs.Searches.{LiesWithin}
 use Rattle.olr_search.proofs.SearchLemmas.{labelled_listed, near_listed, listed_reached, listed_near}
@@ -15,11 +13,6 @@ pub returns-clause-labelled : goal.returns-clause-labelled
 returns-clause-labelled c = λ M node_slot direction from v l known small.
     subst (λ (xs : List Reached). Contains xs (record { node = v; slot = node_slot v })) (sym c.labelled_nodes.ensures)
     (labelled_listed M node_slot direction from c.args.self.now.frontier l v known small)
-
-pub returns-clause-once : goal.returns-clause-once
-returns-clause-once c =
-    λ M node_slot direction from h. subst (λ (xs : List Reached). IsDistinct ◌==◌ (numbers_of xs))
-    (sym c.labelled_nodes.ensures) h.under_way.labelled.apart
 
 pub returns-clause-reached : goal.returns-clause-reached
 returns-clause-reached c = λ M node_slot direction from r h there.
