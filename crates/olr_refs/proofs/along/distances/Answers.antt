@@ -1,13 +1,9 @@
-use Rattle.std.proofs.Common.{◌≡◌, ◌+◌, ℕ, length, take, ap, ◌∙◌, refl, sym, arith, rules, subst}
+use Rattle.std.proofs.Common.{◌≡◌, ◌+◌, take, ap, ◌∙◌, sym, arith, rules}
 use Rattle.olr_spec.specs.Routes.{dm_of}
-use Rattle.olr_refs.specs.Along.{DistancesTo}
 use Rattle.olr_refs.specs.ResolvedLines.{ResolvedLine}
-use Rattle.olr_refs.proofs.Joined.{no_distance, longer_by, one_more}
+use Rattle.olr_refs.proofs.Joined.{longer_by, one_more}
 use Rattle.olr_refs.proofs.Resolving.{record_at, records_length}
 use Rattle.olr_refs.proofs.along.distances.Goals as goal
-
-pub loop-record-init : goal.loop-record-init
-loop-record-init c = record { are = λ M ls e. (no_distance M ls _ (search rules), refl); small = omega arith }
 
 pub loop-record-preserved : goal.loop-record-preserved
 loop-record-preserved c =
@@ -23,9 +19,3 @@ loop-record-preserved c =
           (one_more M ls _ _ k _ so_far.0 (search rules) on, on);
       small = omega arith;
     }
-
-pub returns : goal.returns
-returns c = λ M ls e.
-    let long = records_length M ls _ e in
-    let end : c.loop-record.record-index ≡ length ls = omega arith in
-    subst (λ (n : ℕ). DistancesTo M ls n c.loop-record.distances.items) end (c.loop-record.invariant.are M ls e).0

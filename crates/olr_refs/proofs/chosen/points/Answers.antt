@@ -1,14 +1,7 @@
-use Rattle.std.proofs.Common.{◌≡◌, ◌∙◌, ◌++◌, ◌∷◌, [], ℕ, List, ap, sym, arith, length}
-use Rattle.olr_refs.proofs.Asking.{gone_none, gone_more, ended, ended_there}
+use Rattle.std.proofs.Common.{◌≡◌, ◌∙◌, sym, arith, length}
+use Rattle.olr_refs.proofs.Asking.{gone_more, ended, ended_there}
 use Rattle.olr_refs.proofs.Noting.{follows, follows_end, last_is}
 use Rattle.olr_refs.proofs.chosen.points.Goals as goal
-
-pub loop-last-init : goal.loop-last-init
-loop-last-init g c =
-    gone_none (g.M.MapRead.map c.args.resolved.now.map.now) c.args.resolved.now.lines.now c.args.reuse.now.lead
-    c.args.reuse.now.own c.args.reuse.now.known.now _ _ _ c.args.work.now c.args.seen.now
-    (c.in_ok-push.ensures.items ∙ ap (λ (xs : List ℕ). xs ++ 0 ∷ []) c.new-positions.ensures.items)
-    c.new.ensures.items c.new-2.ensures.items
 
 pub loop-last-preserved : goal.loop-last-preserved
 loop-last-preserved g c =

@@ -1,18 +1,11 @@
-use Rattle.std.proofs.Common.{◌≡◌, ◌∷◌, ℕ, List, ap, sym, ◌∙◌, subst}
+use Rattle.std.proofs.Common.{◌≡◌, ◌∷◌, ℕ, List, ap, ◌∙◌, subst}
 use Rattle.olr_spec.specs.Extension.{Path}
 use Rattle.olr_spec.specs.Encoding.{answer_by_points}
 use Rattle.olr_refs.specs.Answers as answers
 use Rattle.olr_refs.specs.Choice.{ForPoints}
 use Rattle.olr_refs.specs.Extends.{ExtendedPath}
-use Rattle.olr_refs.specs.Reuse.{Asks, Reuses}
+use Rattle.olr_refs.specs.Reuse.{Asks}
 use Rattle.olr_refs.proofs.encoding.encode_along.Goals as goal
-
-pub points-requires : goal.points-requires
-points-requires g c =
-    let lines : c.as_slice-lines.result.now ≡ c.args.extended.now.path.lines =
-    c.as_slice-lines.ensures.value ∙ ap (λ (e : ExtendedPath). e.path.lines) c.extended.view_is in
-    subst (λ (ls : List ℕ). Reuses (g.M.MapRead.map c.args.map.now) ls c.args.reuse.now.lead c.args.reuse.now.own
-    c.args.reuse.now.known.now) (sym lines) c.requires.reuse
 
 pub returns-clause-answer : goal.returns-clause-answer
 returns-clause-answer g c =

@@ -1,12 +1,9 @@
 use Rattle.std.proofs.Common.{◌+◌, take, ◌∷◌, ◌++◌, [], ℕ, List, refl, sym, ap, ◌∙◌, subst, arith}
 use Rattle.std.specs.List.{slice_index}
 use Rattle.olr_refs.specs.ResolvedLines.{ResolvedLine}
-use Rattle.olr_refs.proofs.Ends.{HasEnds, no_ends, ends_more, all_ends}
+use Rattle.olr_refs.proofs.Ends.{HasEnds, ends_more, all_ends}
 use Rattle.olr_refs.proofs.Resolving.{record_at, records_length}
 use Rattle.olr_refs.proofs.extension.push_ends.Goals as goal
-
-pub loop-record-init : goal.loop-record-init
-loop-record-init c = λ M ls e. no_ends M c.args.nodes.now.items
 
 pub loop-record-preserved : goal.loop-record-preserved
 loop-record-preserved c = λ M ls e.

@@ -3,19 +3,10 @@ use Rattle.std.proofs.lemmas.Int.{to_z-of_z}
 use mir.Val.{SFits, of_z, to_z}
 use mir.Syntax.{w16}
 use Rattle.olr_spec.specs.Coordinates.{relative}
-use Rattle.olr_spec.specs.Points.{fit16}
 use Rattle.olr_spec.specs.Reference.{legs, position}
 use Rattle.olr_refs.proofs.LegLemmas.{leg_read}
-use Rattle.olr_refs.proofs.PointLemmas.{neighbours_fit, last_read}
+use Rattle.olr_refs.proofs.PointLemmas.{last_read}
 use Rattle.olr_refs.proofs.fields.last_point.Goals as goal
-
-pub differences-dlon-requires : goal.differences-dlon-requires
-differences-dlon-requires g c =
-    let M = g.M.MapRead.map c.args.resolved.now.map.now in
-    (λ k. fit16 (c.place.ensures.position k) (c.place-2.ensures.position k))
-    ∙ neighbours_fit M (g.met.M.MapRead.sound c.args.resolved.now.map.now) c.args.resolved.now.lines.now c.args.h
-    c.args.i
-    c.args.resolved.now.joined c.requires.candidate
 
 pub returns : goal.returns
 returns g c =

@@ -2,7 +2,6 @@ use Rattle.std.proofs.Common.{◌≡◌, ◌+◌, ℕ, true, false, subst, arith
 use Rattle.std.proofs.lemmas.List.{get_or_default}
 use Rattle.olr_spec.specs.Routes.{dm_of}
 use Rattle.olr_spec.specs.Points.{stretch}
-use Rattle.olr_search.specs.declared.distances.Direction.TheVariants.{Along}
 use Rattle.olr_search.specs.Searches.{limit_of}
 use Rattle.olr_refs.proofs.Stretches.{stretch_sum}
 use Rattle.olr_refs.proofs.Reaching.{UniqueTo, tests_start, settled_on, unique_if, reach_far, reach_to}
@@ -34,9 +33,6 @@ overflow_cast-between g c =
     in
     let is = c.between.ensures.value in
     record { fits = omega arith }
-
-pub settle_to-requires-clause-begun : goal.settle_to-requires-clause-begun
-settle_to-requires-clause-begun g c = (Along, _, c.loop-k.invariant.search)
 
 pub returns-then-not-extends_unique_shortest : goal.returns-then-not-extends_unique_shortest
 returns-then-not-extends_unique_shortest g c =

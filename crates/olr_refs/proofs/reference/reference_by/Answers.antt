@@ -1,20 +1,7 @@
-use Rattle.std.proofs.Common.{◌≤◌, ℕ, sym, subst, arith}
-use Rattle.olr_spec.specs.Extension.{limit}
+use Rattle.std.proofs.Common.{sym, subst}
 use Rattle.olr_spec.specs.Bytes.{IsReference}
-use Rattle.olr_refs.proofs.Trimming.{linked_end}
 use Rattle.olr_refs.proofs.PointLemmas.{reference_read}
 use Rattle.olr_refs.proofs.reference.reference_by.Goals as goal
-
-pub offset-requires-clause-short : goal.offset-requires-clause-short
-offset-requires-clause-short g c =
-    let two = c.requires.two in
-    subst (λ (n : ℕ). n ≤ limit) (sym c.between.ensures.value) (c.requires.linked 0 (omega arith)).near
-
-pub offset-requires-2-clause-short : goal.offset-requires-2-clause-short
-offset-requires-2-clause-short g c =
-    let M = g.M.MapRead.map c.args.resolved.now.map.now in
-    subst (λ (n : ℕ). n ≤ limit) (sym c.between-2.ensures.value)
-    (linked_end M c.args.resolved.now.lines.now c.args.kept.now c.requires.linked c.requires.two).near
 
 pub returns : goal.returns
 returns g c =

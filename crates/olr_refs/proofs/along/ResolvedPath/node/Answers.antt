@@ -25,13 +25,6 @@ returns-then-k-self g c =
           (known_at M ls c.args.k c.args.self.now.joined (omega arith)) at;
     }
 
-pub end-requires : goal.end-requires
-end-requires g c =
-    let long =
-    records_length (g.M.MapRead.map c.args.self.now.map.now) c.args.self.now.lines.now _ c.args.self.now.resolved in
-    let some = c.requires.some in
-    omega arith
-
 pub returns-else-k-self-clause-value : goal.returns-else-k-self-clause-value
 returns-else-k-self-clause-value g c =
     let M = g.M.MapRead.map c.args.self.now.map.now in
