@@ -44,12 +44,6 @@ module _ (M : Map) (ls : List ℕ) (lead own : ℕ) (given : List KnownQuery) wh
         notes = n;
       }
 
-  pub asks_none : (queries : List CoverageQuery) (known : List KnownQuery) (w : Work) (s : Option (List ℕ)) →
-      queries ≡ [] → known ≡ [] → Asks M ls lead own given [] queries known w w s s
-  asks_none queries known w s e f =
-      asks_by [] [] queries [] known w w s s refl (subst (QueriesFrom M ls []) (sym e) tt) f refl (queried_none M w)
-      (noted_none M [] s refl)
-
   pub asks_append : (is js : List ℕ) (q r : List CoverageQuery) (k l : List KnownQuery) (a b c : Work)
       (s t u : Option (List ℕ)) → Asks M ls lead own given is q k a b s t → Asks M ls lead own given js r l b c t u →
       Asks M ls lead own given (is ++ js) (q ++ r) (k ++ l) a c s u
@@ -115,20 +109,6 @@ pub record Gone (M : Map) (ls : List ℕ) (lead own : ℕ) (given : List KnownQu
     pub asks : Asks M ls lead own given done queries known before work seen noted
 
 module _ (M : Map) (ls : List ℕ) (lead own : ℕ) (given : List KnownQuery) where
-  pub gone_none : (ps : List ℕ) (queries : List CoverageQuery) (known : List KnownQuery) (w : Work)
-      (s : Option (List ℕ)) → ps ≡ 0 ∷ [] → queries ≡ [] → known ≡ [] →
-      Gone M ls lead own given ps 0 queries known w w s s
-  gone_none ps queries known w s p l k =
-      record {
-        done = [];
-        points = [];
-        positions = p;
-        first = refl;
-        led = refl;
-        within = omega arith;
-        asks = asks_none M ls lead own given queries known w s l k;
-      }
-
   -- a search was made from the last LRP too
   asks_more : (done : List ℕ) (last : ℕ) (old new : List CoverageQuery) (known after : List KnownQuery) (a b c : Work)
       (s t u : Option (List ℕ)) → Asks M ls lead own given done old known a b s t →

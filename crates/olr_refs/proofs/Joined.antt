@@ -41,14 +41,6 @@ end_known M m x n h e = subst (λ v. IsTrue (has_node M v)) (sym e) (m.ends x h)
 
 -- ---- distances
 
-pub no_distance : (M : Map) (ls : List ℕ) (ds : List ℕ) → ds ≡ 0 ∷ [] → DistancesTo M ls 0 ds
-no_distance M ls ds e =
-    record {
-      long = ap length e;
-      each = λ k h. let z : k ≡ 0 = omega arith in
-          subst (λ (j : ℕ). slice_index ds j ≡ dm_of M (take j ls)) (sym z) (ap (λ (xs : List ℕ). slice_index xs 0) e);
-    }
-
 -- the length of one more line
 pub longer_by : (M : Map) (ls : List ℕ) (k : ℕ) → k < length ls →
     dm_of M (take (k + 1) ls) ≡ dm_of M (take k ls) + dm M (slice_index ls k)

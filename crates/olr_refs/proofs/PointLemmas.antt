@@ -2,27 +2,13 @@
 use Rattle.std.proofs.Common.{◌≡◌, ◌<◌, ◌≤◌, ◌-◌, ◌+◌, ℕ, zero, suc, ℤ, Option, List, [], ◌∷◌, ◌++◌, length, take, refl}
 use Rattle.std.proofs.Common.{sym, ap, ◌∙◌, arith}
 use Rattle.std.specs.List.{slice_index}
-use Rattle.std.specs.Prelude.{IsTrue}
 use Rattle.olr_spec.specs.Coordinates.{abs24, relative}
-use Rattle.olr_spec.specs.Map.{Map, IsMap}
-use Rattle.olr_spec.specs.Points.{fit16, Candidate}
+use Rattle.olr_spec.specs.Map.{Map}
 use Rattle.olr_spec.specs.Bearings.{Leg, bearing_back}
 use Rattle.olr_spec.specs.Reference.{Attrs, First, Last, Middle, Reference, attrs, dm_between, offset, last_two}
 use Rattle.olr_spec.specs.Reference.{reference_by, first_point, middle_point, middle_points, last_point, legs, leg_at}
 use Rattle.olr_spec.specs.Reference.{position}
-use Rattle.olr_spec.specs.Extension.{AreJoined}
 use Rattle.olr_refs.specs.Fields.{middle_points_of}
-use Rattle.olr_refs.proofs.LegLemmas.{position_at}
-
--- the differences between neighbours fit 16 bits
-pub neighbours_fit : (M : Map) → IsMap M → (ls : List ℕ) (i j : ℕ) → AreJoined M ls → Candidate M ls i j →
-    IsTrue (fit16 (position (legs M ls) i) (position (legs M ls) j))
-neighbours_fit M m ls i j w c =
-    let after = c.after in
-    let upto = c.upto in
-    let p = position_at M m ls i w (omega arith) in
-    let q = position_at M m ls j w (omega arith) in
-    (λ k. fit16 (p k) (q k)) ∙ c.fits
 
 pub first_read : (gs : List Leg) (i j : ℕ) (lon lat : ℤ) (a : Attrs) → lon ≡ abs24 (position gs i).lon →
     lat ≡ abs24 (position gs i).lat → a ≡ attrs gs i j

@@ -102,7 +102,6 @@ fn search_after<M: MapRead>(
 /// How far the positions after `i` are covered and near enough, where two lines or more follow line `i`; the query for
 /// that; and this as a query along the path's own lines, where it is one. It is searched where it isn't known, and then
 /// what it sees is noted where anything is.
-#[tactic(auto, using(crate::proofs::Asking::asks_known))]
 fn query_after<M: MapRead>(
     alloc: Global,
     resolved: &ResolvedPath<M>,
