@@ -20,8 +20,7 @@ use Rattle.std.specs.declared.alloc.Global.{Global}
 use Rattle.std.specs.declared.rc.Rc.{Rc}
 use Rattle.olr_commands.proofs.NameLemmas.{same_is}
 use Rattle.olr_paths.specs.Laying.{changes_in, path_in}
-use Rattle.olr_paths.proofs.NamedEntries.{Entries, item_of, items_of, asks, same_flip}
-use Rattle.olr_paths.proofs.PathIdLemmas.{First}
+use Rattle.olr_paths.proofs.NamedEntries.{Entries, First, item_of, items_of, asks, same_flip}
 use Rattle.olr_paths.proofs.Overlaying.{Entered, has_name}
 
 -- ---- one path

@@ -1,7 +1,7 @@
 -- The positions that are found have all affected paths, and the paths between them are unchanged.
 use Rattle.std.proofs.Common.{inl, inr, ◌≡◌, ◌≢◌, ℕ, zero, suc, ◌+◌, ◌-◌, ◌<◌, ◌≤◌, ◌==◌, ◌||◌, ◌⊎◌, Bool, true, false}
 use Rattle.std.proofs.Common.{All, List, [], ◌∷◌, ◌++◌, take, length, get_or, slice_get, Option, Some, None, IsTrue}
-use Rattle.std.proofs.Common.{refl, sym, ap, ◌∙◌, subst, arith, min}
+use Rattle.std.proofs.Common.{refl, sym, ap, ◌∙◌, subst, append_assoc, arith, min}
 use Rattle.std.specs.List.Sorted.{IsNonDecreasing}
 use Rattle.std.proofs.lemmas.Bool.{cases_Bool, cases_lt, or_left, eq-eqb}
 use Rattle.std.proofs.lemmas.List.{take_all}
@@ -19,7 +19,7 @@ use Rattle.olr_paths.specs.Renewing.{ToStay, Left}
 use Rattle.olr_paths.specs.Candidates.{Includes, Finds, Covers, CoversAsked, FindsChanged}
 use Rattle.olr_paths.specs.declared.renewal.Renewal.{Renewal}
 use Rattle.olr_paths.specs.declared.renewal.Counted.{Counted}
-use Rattle.std.specs.Prelude.{String, option_map, IfSome}
+use Rattle.std.specs.Prelude.{String, option_map}
 use Rattle.std.specs.List.Sorted.{IsPermutation}
 use Rattle.std.specs.declared.alloc.Global.{Global}
 use Rattle.std.specs.declared.rc.Rc.{Rc}
@@ -30,32 +30,31 @@ use Rattle.olr_spec.specs.Queries.{CoverageQuery}
 use Rattle.olr_spec.specs.Extension.{limit}
 use Rattle.olr_search.specs.Bounds.{AreLengths, label_at}
 use Rattle.olr_search.specs.declared.distances.Direction.TheVariants.{Against}
-use Rattle.olr_paths.specs.Items.{Made, made_of}
+use Rattle.olr_paths.specs.Items.{made_of, items}
 use Rattle.olr_paths.specs.Changes.{TraversedTouched, LineTouched, QueryTouched}
 use Rattle.olr_paths.specs.Touching.{nodes_of, lines_of}
-use Rattle.olr_paths.specs.Searching.{sources, IsAsked, AreAsked, LacksQueries, LackQueries}
+use Rattle.olr_paths.specs.Searching.{sources, IsAsked, AreAsked, LackQueries}
+use Rattle.olr_paths.specs.Origins.{BeginsIn, Begins}
 use Rattle.olr_paths.specs.Candidates.{AreFound}
-use Rattle.olr_paths.specs.Finding.{AreNoted, ArePublished}
 use Rattle.olr_paths.specs.declared.change_set.ChangeSet.{ChangeSet}
 use Rattle.olr_paths.specs.declared.searches.Searches.{Searches}
 use Rattle.olr_paths.specs.declared.finder.Finder.{Finder}
 use Rattle.olr_paths.specs.declared.published.Published.{Published}
 use Rattle.olr_paths.specs.declared.path_list.NamedPath.{NamedPath}
-use Rattle.olr_paths.proofs.NamedEntries.{Entries, item_of, items_of}
+use Rattle.olr_paths.specs.declared.path_list.PathList.{PathList}
+use Rattle.olr_paths.proofs.NamedEntries.{Entries, First, item_of, items_of}
 use Rattle.olr_paths.proofs.Sets.{in_from}
 use Rattle.olr_paths.proofs.Distances.{near_absent, leads_from}
 use Rattle.olr_paths.proofs.AskedLemmas.{listed_at}
 use Rattle.olr_paths.proofs.NotedPositions.{back}
 use Rattle.olr_paths.proofs.Alls.{all_more}
 use Rattle.olr_paths.proofs.RenewedPrefix.{SoFar, so_far_step}
-use Rattle.std.proofs.lemmas.Option.{slice_get_read}
 use Rattle.olr_spec.specs.Extension.{Path}
-use Rattle.olr_paths.specs.Laying.{Changes, TakesNone, change_at, under_changes}
+use Rattle.olr_paths.specs.Laying.{Changes, TakesNone, change_at, under_change, under_changes}
 use Rattle.olr_paths.proofs.Changed.{changed, overlaid_from, change_push, first_only}
 use Rattle.olr_commands.specs.State.{NamesDiffer, same_name}
 use Rattle.olr_paths.specs.Items.{all_named}
 use Rattle.olr_paths.proofs.NamedEntries.{same_flip}
-use Rattle.olr_paths.proofs.PathIdLemmas.{First}
 
 -- ---- lists of numbers
 
@@ -260,22 +259,28 @@ is_there : (o : Option (Rc Published Global)) → o ≢ None → (p : Rc Publish
 is_there None h = absurd (h refl)
 is_there (Some p) h = (p, refl)
 
-module _ (N : Map) (n : IsMap N) (slot : ℕ → ℕ) (t : ChangeSet) (s : Searches) (es : Entries) (ms : List ℕ) (f : Finder)
-    (noted : AreNoted es ms f) (all : ArePublished es) (long : length ms ≡ length es) (found : List ℕ)
-    (traversed : AreFound ms f.traversed (nodes_of t) found) (from : AreFound ms f.by_query_origin (nodes_of t) found)
-    (lines : AreFound ms f.lines (lines_of t) found)
+module _ (N : Map) (n : IsMap N) (slot : ℕ → ℕ) (t : ChangeSet) (s : Searches) (l : PathList) (off_held : l.held ≡ false)
+    (found : List ℕ) (traversed : AreFound l.path_ids.items l.finder.traversed (nodes_of t) found)
+    (from : AreFound l.path_ids.items l.finder.by_query_origin (nodes_of t) found)
+    (lines : AreFound l.path_ids.items l.finder.lines (lines_of t) found)
     (reached : s.far ≡ false → AreLengths N slot Against (sources t) s.near → (v : ℕ) → IsTrue (has_node N v) →
-    label_at s.near (slot v) ≤ limit → Finds ms f.by_query_origin v found) where
-  module _ (k : ℕ) (e : String Global × NamedPath) (at : slice_get es k ≡ Some e) (p : Rc Published Global)
+    label_at s.near (slot v) ≤ limit → Finds l.path_ids.items l.finder.by_query_origin v found) where
+  abbrev ms : List ℕ
+  ms = l.path_ids.items
+
+  abbrev f : Finder
+  f = l.finder
+
+  module _ (k : ℕ) (e : String Global × NamedPath) (at : slice_get l.paths.entries k ≡ Some e) (p : Rc Published Global)
       (some : e.1.published ≡ Some p) (off : has found k ≡ false) where
     lower : k < length ms
-    lower = let lt = slice_get_within es k e at in omega arith
+    lower = omega (arith, slice_get_within l.paths.entries k e at, l.long)
 
     never_traversed : TraversedTouched (nodes_of t) (made_of p.value) → ⊥
     never_traversed h =
         let held =
         All-contains (λ (v : ℕ). IsTrue (holds f.traversed v (get_or ms k 0))) p.value.traversed h.0
-        ((noted k e at p some).0)
+        ((l.noted k e at p some).0)
         h.2 in
         let on =
         All-contains (λ (v : ℕ). Finds ms f.traversed v found) (nodes_of t) h.0 traversed
@@ -287,7 +292,7 @@ module _ (N : Map) (n : IsMap N) (slot : ℕ → ℕ) (t : ChangeSet) (s : Searc
     never_line h =
         let held =
         All-contains (λ (v : ℕ). IsTrue (holds f.lines v (get_or ms k 0))) e.1.path.value.lines h.0
-        ((noted k e at p some).2) (in_from e.1.path.value.lines h.0 h.2) in
+        ((l.noted k e at p some).2) (in_from e.1.path.value.lines h.0 h.2) in
         let on =
         All-contains (λ (v : ℕ). Finds ms f.lines v found) (lines_of t) h.0 lines (in_from (lines_of t) h.0 h.1) k lower
         held in
@@ -300,7 +305,7 @@ module _ (N : Map) (n : IsMap N) (slot : ℕ → ℕ) (t : ChangeSet) (s : Searc
         let held : IsTrue (holds f.by_query_origin v (get_or ms k 0)) =
         All-contains (λ (l : CoverageQuery). IsTrue (holds f.by_query_origin l.from (get_or ms k 0)))
         p.value.queries.items h.0
-        ((noted k e at p some).1) h.1 in
+        ((l.noted k e at p some).1) h.1 in
         elim (cases_Bool s.far) [
           | inl far ↦ a.far far h
           | inr close ↦ elim (cases_Bool (has_node N v)) [
@@ -335,27 +340,19 @@ module _ (N : Map) (n : IsMap N) (slot : ℕ → ℕ) (t : ChangeSet) (s : Searc
       ]),
     )
 
-  pub covers_by : CoversAsked N slot t s (items_of es) found
+  pub covers_by : CoversAsked N slot t s (items l) found
   covers_by k i at off one =
-      let b = back es k i at in
-      let p = is_there b.0.1.published (all k b.0 b.1) in
+      let b = back l.paths.entries k i at in
+      let p = is_there b.0.1.published (l.encoded off_held k b.0 b.1) in
       let made : i.made ≡ Some (made_of p.0.value) =
       ap (λ (x : Item). x.made) (sym b.2) ∙ ap (option_map (λ (q : Rc Published Global). made_of q.value)) p.1 in
-      let a : IsAsked N slot t s (made_of p.0.value) =
-      subst (λ (o : Option Made). IfSome o (IsAsked N slot t s)) made one in
-      subst (λ (x : Item). ToStay N (nodes_of t) (lines_of t) x.made x.path) b.2 (stays_there k b.0 b.1 p.0 p.1 off a)
+      subst (λ (x : Item). ToStay N (nodes_of t) (lines_of t) x.made x.path) b.2 (stays_there k b.0 b.1 p.0 p.1 off
+      (one (made_of p.0.value) made))
 
 -- the positions may be put in another order
 pub covers_order : (N : Map) (T X : List ℕ) (is : List Item) (xs ys : List ℕ) → IsPermutation xs ys →
     Covers N T X is xs → Covers N T X is ys
 covers_order N T X is xs ys same h k i at off = h k i at (list_any-IsPermutation (λ y. y == k) xs ys same ∙ off)
-
--- the same for equal lists
-pub found_moved : {A : Type 0} (number : A → ℕ) (ms ns : List ℕ) (index : Index) (vs ws : List A) (found : List ℕ) →
-    ms ≡ ns → vs ≡ ws → All (λ x. Finds ms index (number x) found) vs → All (λ x. Finds ns index (number x) found) ws
-found_moved number ms ns index vs ws found a b h =
-    subst (λ (ys : List _). All (λ x. Finds ns index (number x) found) ys) b
-    (subst (λ (xs : List ℕ). All (λ x. Finds xs index (number x) found) vs) a h)
 
 -- ---- for a list under changes
 
@@ -370,31 +367,33 @@ module _ (cs : Changes) (is ys : List Item) (keeps : TakesNone cs) where
       elim (overlaid_from cs is ys keeps k j at) [
         | inl a ↦
             let same : j ≡ a.0 = a.2 ∙ ap (λ (c : Option (Option Path)). changed c a.0) (given k a.0 a.1 off) in
-            let one : IfSome a.0.made (IsAsked N slot t s) =
-            subst (λ (i : Item). IfSome i.made (IsAsked N slot t s)) same
-            (asked j (listed_at (under_changes cs is ++ ys) k j at)) in
-            subst (λ (i : Item). ToStay N (nodes_of t) (lines_of t) i.made i.path) (sym same) (covers k a.0 a.1 off one)
+            subst (λ (i : Item). ToStay N (nodes_of t) (lines_of t) i.made i.path) (sym same)
+            (covers k a.0 a.1 off
+            (λ m some. asked j m (listed_at (under_changes cs is ++ ys) k j at) (ap (λ (i : Item). i.made) same ∙ some)))
         | inr b ↦
             let low = slice_get_within ys b.0 j b.2 in
             let on = behind k (let e = b.1 in omega arith) (let e = b.1 in omega arith) in
             let never : ⊥ = cc (on, off) in absurd never
       ]
 
-  -- no path has a coverage query, if none of either list has one
-  pub lack_overlaid : LackQueries is → LackQueries ys → LackQueries (under_changes cs is ++ ys)
-  lack_overlaid first second j on =
-      let at : slice_get (under_changes cs is ++ ys) on.0 ≡ Some j =
-      slice_get_read (under_changes cs is ++ ys) (length (under_changes cs is ++ ys)) on.0 j refl on.1 (sym on.2) in
-      elim (overlaid_from cs is ys keeps on.0 j at) [
-        | inl a ↦ subst (λ (i : Item). LacksQueries i.made) (sym a.2)
-            (lacks_changed (change_at cs a.0.name) a.0 (first a.0 (listed_at is on.0 a.0 a.1)))
-        | inr b ↦ second j (listed_at ys b.0 j b.2)
-      ]
-    where
-      lacks_changed : (c : Option (Option Path)) (i : Item) → LacksQueries i.made → LacksQueries (changed c i).made
-      lacks_changed None i h = h
-      lacks_changed (Some None) i h = h
-      lacks_changed (Some (Some p)) i h = tt
+begins_changed : (c : Option (Option Path)) (i : Item) (js : List Item) (l : CoverageQuery) →
+    Begins (under_change c i ++ js) l → BeginsIn i.made l ⊎ Begins js l
+begins_changed None i js l h = h
+begins_changed (Some None) i js l h = inr h
+begins_changed (Some (Some p)) i js l (inl h) = absurd h
+begins_changed (Some (Some p)) i js l (inr h) = inr h
+
+-- no path has a coverage query, if none of either list has one
+pub lack_overlaid : (cs : Changes) (is ys : List Item) → LackQueries is → LackQueries ys →
+    LackQueries (under_changes cs is ++ ys)
+lack_overlaid cs [] ys first second l h = second l h
+lack_overlaid cs (i ∷ is) ys first second l h =
+    let c = change_at cs i.name in
+    elim (begins_changed c i (under_changes cs is ++ ys) l
+    (subst (λ (js : List Item). Begins js l) (append_assoc (under_change c i) (under_changes cs is) ys) h)) [
+      | inl b ↦ first l (inl b)
+      | inr b ↦ lack_overlaid cs is ys (λ m a. first m (inr a)) second l b
+    ]
 
 -- with more positions
 pub covers_grown : (N : Map) (slot : ℕ → ℕ) (t : ChangeSet) (s : Searches) (is : List Item) (old now : List ℕ) →

@@ -1,13 +1,15 @@
 -- A map's entries as a list of named paths: lookups, edits, and that no name occurs twice.
-use Rattle.std.proofs.Common.{inl, inr, ◌≡◌, ℕ, Bool, true, false, not, cond, if◌then◌else◌, List, [], ◌∷◌}
-use Rattle.std.proofs.Common.{◌++◌, map, slice_get, Option, Some, None, is_some, refl, sym, ap}
+use Rattle.std.proofs.Common.{inl, inr, ◌≡◌, ℕ, zero, suc, ◌<◌, length, get_or, subst, arith, Bool, true, false, not, cond, if◌then◌else◌, List, [], ◌∷◌}
+use Rattle.std.proofs.Common.{map, slice_get, Option, Some, None, is_some, refl, sym, ap}
 use Rattle.std.proofs.Common.{◌∙◌}
 use Rattle.std.proofs.lemmas.Option.{slice_get-map}
-use Rattle.indexmap.specs.IndexMap.{insert_entry}
 use Rattle.std.specs.Prelude.{String, option_map, string_bytes}
 use Rattle.std.specs.Option.{option_and_then}
 use Rattle.std.specs.List.{filter, IsDistinct, AllByRecursion}
-use Rattle.std.specs.Map.{keys_of, lookup, remove_entry, set_value}
+use Rattle.std.specs.Map.{keys_of, lookup}
+use Rattle.indexmap.specs.Layout.{set_value_at}
+use Rattle.std.specs.List.{remove, position}
+use Rattle.std.proofs.lemmas.List.Quantifiers.{position-Some}
 use Rattle.std.specs.Str.{bytes_eq}
 use Rattle.std.specs.String.{string_eq}
 use Rattle.std.specs.declared.alloc.Global.{Global}
@@ -117,51 +119,50 @@ sets_none (i ∷ is) name path made h =
     (set_item name path made) is) r.0
     ∙ ap (λ (js : List Item). i ∷ js) (sets_none is name path made r.1)
 
--- if the first path of a list has the name, no other path has it
-others_absent : (i : Item) (is : List Item) (name : List ℕ) → same_name i.name name ≡ true → absent is i.name →
-    absent is name
-others_absent i is name e h =
-    ap (λ (n : List ℕ). is_some (path_named (all_named is) n)) (sym (same_is i.name name e)) ∙ h
+-- the entry at p is the first of its name
+abbrev pub First : List ℕ → Entries → ℕ → Type 0
+First name [] p = ⊥
+First name (e ∷ es) zero = asks name e.0 ≡ true
+First name (e ∷ es) (suc p) = (asks name e.0 ≡ false) × First name es p
 
-pub removed_items : (es : Entries) (name : List ℕ) → NamesDiffer (all_named (items_of es)) →
-    items_of (remove_entry (asks name) es) ≡ filter (λ i. not (same_name i.name name)) (items_of es)
-removed_items [] name d = refl
-removed_items (e ∷ es) name d =
-    let rest = filter (λ i. not (same_name i.name name)) (items_of es) in
-    elim (cases_Bool (asks name e.0)) [
-      | inl h ↦
-          let here : same_name (string_bytes e.0) name ≡ true = same_flip (string_bytes e.0) name ∙ h in
-          ap (λ (b : Bool). items_of (cond b es (e ∷ remove_entry (asks name) es))) h
-          ∙ sym (keeps_all (items_of es) name (others_absent (item_of e) (items_of es) name here d.0))
-          ∙ sym (ap (λ (b : Bool). cond (not b) (item_of e ∷ rest) rest) here)
-      | inr h ↦
-          let other : same_name (string_bytes e.0) name ≡ false = same_flip (string_bytes e.0) name ∙ h in
-          ap (λ (b : Bool). items_of (cond b es (e ∷ remove_entry (asks name) es))) h
-          ∙ ap (λ (js : List Item). item_of e ∷ js) (removed_items es name d.1)
-          ∙ sym (ap (λ (b : Bool). cond (not b) (item_of e ∷ rest) rest) other)
-    ]
+first_of : (es : Entries) (name : List ℕ) (d : String Global) (p : ℕ) → p < length (keys_of es) →
+    asks name (get_or (keys_of es) p d) ≡ true → ((k : ℕ) → k < p → asks name (get_or (keys_of es) k d) ≡ false) →
+    First name es p
+first_of [] name d p lt h before = absurd (omega arith)
+first_of (e ∷ es) name d zero lt h before = h
+first_of (e ∷ es) name d (suc p) lt h before =
+    (before zero (omega arith), first_of es name d p (omega arith) h (λ k low. before (suc k) (omega arith)))
 
-pub set_items : (es : Entries) (name : List ℕ) (n : NamedPath) → NamesDiffer (all_named (items_of es)) →
-    items_of (set_value (asks name) es n) ≡ map (set_item name n.path.value (made_of_named n)) (items_of es)
-set_items [] name n d = refl
-set_items (e ∷ es) name n d =
-    let set = set_item name n.path.value (made_of_named n) in
-    let first : Bool → Item =
-    λ b. if b then record { name = string_bytes e.0; path = n.path.value; made = made_of_named n } else item_of e in
-    elim (cases_Bool (asks name e.0)) [
-      | inl h ↦
-          let here : same_name (string_bytes e.0) name ≡ true = same_flip (string_bytes e.0) name ∙ h in
-          ap (λ (b : Bool). items_of (cond b ((e.0, n) ∷ es) (e ∷ set_value (asks name) es n))) h
-          ∙ ap (λ (js : List Item). item_of (e.0, n) ∷ js)
-          (sym (sets_none (items_of es) name n.path.value (made_of_named n)
-          (others_absent (item_of e) (items_of es) name here d.0)))
-          ∙ sym (ap (λ (b : Bool). first b ∷ map set (items_of es)) here)
-      | inr h ↦
-          let other : same_name (string_bytes e.0) name ≡ false = same_flip (string_bytes e.0) name ∙ h in
-          ap (λ (b : Bool). items_of (cond b ((e.0, n) ∷ es) (e ∷ set_value (asks name) es n))) h
-          ∙ ap (λ (js : List Item). item_of e ∷ js) (set_items es name n d.1)
-          ∙ sym (ap (λ (b : Bool). first b ∷ map set (items_of es)) other)
-    ]
+pub first_at : (es : Entries) (name : List ℕ) (p : ℕ) → position (asks name) (keys_of es) ≡ Some p → First name es p
+first_at [] name p at = let never : ⊥ = cc (at) in absurd never
+first_at (e ∷ es) name p at =
+    let h = position-Some (asks name) (keys_of (e ∷ es)) p e.0 at in first_of (e ∷ es) name e.0 p h.0 h.1 h.2
+
+-- the first entry of a name is removed
+pub removed_items : (es : Entries) (name : List ℕ) (q : ℕ) → First name es q →
+    NamesDiffer (all_named (items_of es)) →
+    items_of (remove es q) ≡ filter (λ i. not (same_name i.name name)) (items_of es)
+removed_items [] name q h d = absurd h
+removed_items (e ∷ es) name zero h d =
+    let here : same_name (string_bytes e.0) name ≡ true = same_flip (string_bytes e.0) name ∙ h in
+    rw here (sym (keeps_all (items_of es) name (subst (absent (items_of es)) (same_is (string_bytes e.0) name here) d.0)))
+removed_items (e ∷ es) name (suc q) h d =
+    let other : same_name (string_bytes e.0) name ≡ false = same_flip (string_bytes e.0) name ∙ h.0 in
+    rw other (ap (λ (js : List Item). item_of e ∷ js) (removed_items es name q h.1 d.1))
+
+-- the first entry of a name is replaced
+pub set_items : (es : Entries) (name : List ℕ) (q : ℕ) (n : NamedPath) → First name es q →
+    NamesDiffer (all_named (items_of es)) →
+    items_of (set_value_at es q n) ≡ map (set_item name n.path.value (made_of_named n)) (items_of es)
+set_items [] name q n h d = absurd h
+set_items (e ∷ es) name zero n h d =
+    let here : same_name (string_bytes e.0) name ≡ true = same_flip (string_bytes e.0) name ∙ h in
+    rw here (ap (λ (js : List Item). item_of (e.0, n) ∷ js)
+    (sym (sets_none (items_of es) name n.path.value (made_of_named n)
+    (subst (absent (items_of es)) (same_is (string_bytes e.0) name here) d.0))))
+set_items (e ∷ es) name (suc q) n h d =
+    let other : same_name (string_bytes e.0) name ≡ false = same_flip (string_bytes e.0) name ∙ h.0 in
+    rw other (ap (λ (js : List Item). item_of e ∷ js) (set_items es name q n h.1 d.1))
 
 pub set_absent : (es : Entries) (name : List ℕ) (n : NamedPath) → lookup (asks name) es ≡ None →
     items_of es ≡ map (set_item name n.path.value (made_of_named n)) (items_of es)
@@ -203,17 +204,6 @@ paths_named (e ∷ es) name =
       | true ↦ refl
       | false ↦ paths_named es name
     ]
-
--- ---- one more at the end
-
-pub put_items : (es : Entries) (k : String Global) (n : NamedPath) → absent (items_of es) (string_bytes k) →
-    items_of (insert_entry string_eq es k n) ≡ items_of es ++ item_of (k, n) ∷ []
-put_items [] k n h = refl
-put_items (e ∷ es) k n h =
-    let r = not_here (item_of e) (items_of es) (string_bytes k) h in
-    ap (λ (b : Bool). items_of (if b then (e.0, n) ∷ es else e ∷ insert_entry string_eq es k n))
-    (flipped (string_bytes e.0) (string_bytes k) r.0)
-    ∙ ap (λ (js : List Item). item_of e ∷ js) (put_items es k n r.1)
 
 -- the item of an entry
 pub item_at : (es : Entries) (k : ℕ) (e : String Global × NamedPath) → slice_get es k ≡ Some e →

@@ -1,27 +1,26 @@
 -- Results to be stored at positions, with index entries for their path ids.
-use Rattle.std.proofs.Common.{◌≡◌, ℕ, zero, suc, ◌+◌, ◌<◌, List, [], ◌∷◌, ◌++◌, Contains, take, length, get_or}
-use Rattle.std.proofs.Common.{slice_get, Option, Some, None, false, Result, Ok, Err, IsTrue, refl, sym, ap, ◌∙◌, subst}
-use Rattle.std.proofs.Common.{arith}
+use Rattle.std.proofs.Common.{inl, inr, ◌≡◌, ℕ, zero, suc, ◌+◌, ◌<◌, List, [], ◌∷◌, take, length, get_or}
+use Rattle.std.proofs.Common.{slice_get, Option, Some, None, false, Result, Ok, Err, IsTrue, refl, sym, ap, ◌∙◌}
 use Rattle.std.specs.Prelude.{String, option_map, OnOk, OnErr}
 use Rattle.std.specs.Result.{is_err}
-use Rattle.std.specs.Map.{values_of}
 use Rattle.std.specs.declared.alloc.Global.{Global}
 use Rattle.std.specs.declared.rc.Rc.{Rc}
-use Rattle.std.proofs.lemmas.List.Elements.{All-contains, Contains-get_or, Contains-push, Contains-append_left}
-use Rattle.std.proofs.lemmas.Option.{slice_get_read}
+use Rattle.std.proofs.lemmas.List.Elements.{All-contains}
 use Rattle.olr_spec.specs.Map.{has}
 use Rattle.olr_spec.specs.Queries.{CoverageQuery}
 use Rattle.olr_index.specs.PathIds.{holds, path_ids_of}
-use Rattle.olr_paths.specs.Searching.{LacksQueries, LackQueries}
+use Rattle.olr_paths.specs.Searching.{LackQueries}
+use Rattle.olr_paths.specs.Origins.{BeginsIn, Begins}
+use Rattle.olr_paths.specs.declared.path_list.PathList.{PathList}
 use Rattle.olr_paths.specs.Finding.{NamedNoted, AreNoted, AreNotedAt, ArePublished, Grows}
 use Rattle.olr_paths.specs.declared.finder.Finder.{Finder}
 use Rattle.olr_paths.specs.declared.published.Published.{Published}
 use Rattle.olr_paths.specs.declared.path_list.NamedPath.{NamedPath}
 use Rattle.olr_commands.specs.Reply.{Entry}
-use Rattle.olr_paths.specs.Items.{Made, Item, made_of}
+use Rattle.olr_paths.specs.Items.{Made, Item, made_of, items}
 use Rattle.olr_paths.specs.Changes.{Reported}
 use Rattle.olr_paths.proofs.NamedEntries.{Entries, item_of, items_of, item_at, made_of_named}
-use Rattle.olr_paths.proofs.PathIdLemmas.{grown}
+use Rattle.olr_paths.proofs.PathIdLemmas.{named_grown}
 use Rattle.olr_paths.proofs.Alls.{all_more}
 
 abbrev pub One : Type 0
@@ -31,30 +30,13 @@ One = ℕ × NamedPath
 abbrev pub NotedAt : List ℕ → Finder → One → Type 0
 NotedAt ms f r = r.0 < length ms → NamedNoted f (get_or ms r.0 0) r.1
 
-pub at_front : (ms : List ℕ) (f : Finder) (rest : List One) (r : One) → AreNotedAt ms f (rest ++ r ∷ []) →
-    AreNotedAt ms f rest
-at_front ms f rest r h k d lt =
-    All-contains (NotedAt ms f) (rest ++ r ∷ []) (get_or rest k d) h
-    (Contains-append_left rest (r ∷ []) (get_or rest k d) (Contains-get_or rest k d lt))
-
-pub at_last : (ms : List ℕ) (f : Finder) (rest : List One) (r : One) → AreNotedAt ms f (rest ++ r ∷ []) →
-    NotedAt ms f r
-at_last ms f rest r h = All-contains (NotedAt ms f) (rest ++ r ∷ []) r h (Contains-push rest r)
-
--- under a finder with more entries
-pub named_grown : (f g : Finder) (path_id : ℕ) (n : NamedPath) → Grows f g → NamedNoted f path_id n →
-    NamedNoted g path_id n
-named_grown f g path_id n more h p some = grown f g path_id n.path.value.lines p.value.traversed p.value.queries.items
-    more (h p some)
-
 pub at_grown : (ms : List ℕ) (f g : Finder) (fresh : List One) → Grows f g → AreNotedAt ms f fresh →
     AreNotedAt ms g fresh
 at_grown ms f g fresh more h k d lt low = let r : One =
     get_or fresh k d in named_grown f g (get_or ms r.0 0) r.1 more (h k d lt low)
 
 pub noted_grown : (es : Entries) (ms : List ℕ) (f g : Finder) → Grows f g → AreNoted es ms f → AreNoted es ms g
-noted_grown es ms f g more h k e at p some =
-    grown f g (get_or ms k 0) e.1.path.value.lines p.value.traversed p.value.queries.items more (h k e at p some)
+noted_grown es ms f g more h k e at = named_grown f g (get_or ms k 0) e.1 more (h k e at)
 
 -- of the first k, and of one more
 pub at_more : (ms : List ℕ) (f g : Finder) (fresh : List One) (k : ℕ) (d : One) → k < length fresh → Grows f g →
@@ -83,31 +65,26 @@ back [] k i at = let never : ⊥ = cc (at) in absurd never
 back (x ∷ es) zero i at = let same : item_of x ≡ i = cc (at) in (x, refl, same)
 back (x ∷ es) (suc k) i at = back es k i at
 
-none_listed : {A : Type 0} (xs : List A) → ((x : A) → Contains xs x → ⊥) → xs ≡ []
-none_listed [] h = refl
-none_listed (x ∷ xs) h = absurd (h x (0, omega arith, refl))
+lack_from : (es : Entries) (l : CoverageQuery)
+    → ((k : ℕ) (e : String Global × NamedPath) → slice_get es k ≡ Some e → BeginsIn (made_of_named e.1) l → ⊥) →
+    Begins (items_of es) l → ⊥
+lack_from [] l none h = h
+lack_from (e ∷ es) l none (inl b) = none 0 e refl b
+lack_from (e ∷ es) l none (inr b) = lack_from es l (λ k. none (suc k)) b
 
-lacks_made : (o : Option (Rc Published Global)) → ((p : Rc Published Global) → o ≡ Some p → p.value.queries.items ≡ [])
-    →
-    LacksQueries (option_map (λ p. made_of p.value) o)
-lacks_made None h = tt
-lacks_made (Some p) h = h p refl
-
-pub lack_by : (es : Entries) (ms : List ℕ) (f : Finder) → AreNoted es ms f →
-    ((number : ℕ) → path_ids_of f.by_query_origin number ≡ []) → LackQueries (items_of es)
-lack_by es ms f noted empty i on =
-    let at : slice_get (items_of es) on.0 ≡ Some i =
-    slice_get_read (items_of es) (length (items_of es)) on.0 i refl on.1 (sym on.2) in
-    let b = back es on.0 i at in
-    subst (λ (x : Item). LacksQueries x.made) b.2
-    (lacks_made b.0.1.published (λ p some. none_listed p.value.queries.items (λ l there.
-    let held : IsTrue (holds f.by_query_origin l.from (get_or ms on.0 0)) =
-    All-contains (λ (k : CoverageQuery). IsTrue (holds f.by_query_origin k.from (get_or ms on.0 0)))
-    p.value.queries.items l
-    ((noted on.0 b.0 b.1 p some).1) there in
-    let off : holds f.by_query_origin l.from (get_or ms on.0 0) ≡ false =
-    ap (λ (xs : List ℕ). has xs (get_or ms on.0 0)) (empty l.from) in
-    cc (held, off))))
+pub lack_by : (p : PathList) → ((number : ℕ) → path_ids_of p.finder.by_query_origin number ≡ []) →
+    LackQueries (items p)
+lack_by p empty l = lack_from p.paths.entries l (λ k e at. by k e at e.1.published refl) where
+  by : (k : ℕ) (e : String Global × NamedPath) → slice_get p.paths.entries k ≡ Some e →
+      (o : Option (Rc Published Global)) → e.1.published ≡ o → BeginsIn (option_map (λ r. made_of r.value) o) l → ⊥
+  by k e at None is b = b
+  by k e at (Some r) is b =
+      let id = get_or p.path_ids.items k 0 in
+      let held : IsTrue (holds p.finder.by_query_origin l.from id) =
+      All-contains (λ (q : CoverageQuery). IsTrue (holds p.finder.by_query_origin q.from id)) r.value.queries.items l
+      (p.noted k e at r is).1 b in
+      let off = ap (λ (xs : List ℕ). has xs id) (empty l.from) in
+      cc (held, off)
 
 -- lists with the same items are encoded alike
 pub all_same : (es fs : Entries) → items_of fs ≡ items_of es → ArePublished es → ArePublished fs
@@ -120,11 +97,6 @@ all_same es fs same h k e at = λ none.
     none_published : (o : Option (Rc Published Global)) → option_map (λ p. made_of p.value) o ≡ None → o ≡ None
     none_published None h = refl
     none_published (Some p) h = let never : ⊥ = cc (h) in absurd never
-
-pub value_within : (es : Entries) (q : ℕ) (n : NamedPath) → Some n ≡ slice_get (values_of es) q → q < length es
-value_within [] q n at = let never : ⊥ = cc (at) in absurd never
-value_within (x ∷ es) zero n at = omega arith
-value_within (x ∷ es) (suc q) n at = let lt = value_within es q n at in omega arith
 
 -- ---- results
 

@@ -5,11 +5,11 @@
 --     Covers N T X is found      a path whose position isn't found is not affected
 --     CoversAsked N slot t s is found      the same for the paths for which the search was made.
 --     FindsChanged cs is found      a path whose position isn't found is not changed
-use Rattle.std.specs.Prelude.{◌≡◌, ℕ, ◌<◌, List, All, Some, None, IfSome, false, length, get_or, slice_get, IsTrue}
+use Rattle.std.specs.Prelude.{◌≡◌, ℕ, ◌<◌, List, All, Some, None, false, length, get_or, slice_get, IsTrue}
 use Rattle.olr_spec.specs.Map.{Map, has}
 use Rattle.olr_index.specs.PathIds.{holds}
 use Rattle.olr_index.specs.declared.Index.{Index}
-use Rattle.olr_paths.specs.Items.{Item}
+use Rattle.olr_paths.specs.Items.{Made, Item}
 use Rattle.olr_paths.specs.Renewing.{ToStay}
 use Rattle.olr_paths.specs.Laying.{Changes, change_at}
 use Rattle.olr_paths.specs.Touching.{nodes_of, lines_of}
@@ -32,8 +32,8 @@ Covers N T X is found = (k : ℕ) (i : Item) → slice_get is k ≡ Some i → h
 
 abbrev pub CoversAsked : Map → (ℕ → ℕ) → ChangeSet → Searches → List Item → List ℕ → Type 0
 CoversAsked N slot t s is found =
-    (k : ℕ) (i : Item) → slice_get is k ≡ Some i → has found k ≡ false → IfSome i.made (IsAsked N slot t s)
-    → ToStay N (nodes_of t) (lines_of t) i.made i.path
+    (k : ℕ) (i : Item) → slice_get is k ≡ Some i → has found k ≡ false
+    → ((m : Made) → i.made ≡ Some m → IsAsked N slot t s m) → ToStay N (nodes_of t) (lines_of t) i.made i.path
 
 abbrev pub FindsChanged : Changes → List Item → List ℕ → Type 0
 FindsChanged cs is found =

@@ -1,11 +1,12 @@
 -- The searches of a renewal.
 --     IsExactAt N slot t s v w      no route of at most w from the touched nodes to v is shorter than the label of v
---     IsAsked N slot t s m      the search from the touched nodes is made, unless no query of m is touched.
+--     Asked N slot t near unmade m, IsAsked N slot t s m      the search from the touched nodes is made, unless no query
+--         of m is touched
 --     AreAsked      the same of each path that was encoded
---     LacksQueries made, LackQueries is      nothing was made, or it has no query;  so of each path
+--     LackQueries is      no path has a query
 --     AreDetours N slot t d      the searches for the distances to where changed lines begin, and from where they end
 --     AreFarther p q d      two distances together are more than d, or one is none
-use Rattle.std.specs.Prelude.{◌≡◌, ℕ, ◌+◌, ◌<◌, ◌≤◌, min, List, [], map, Contains, Option, Some, None, IfSome}
+use Rattle.std.specs.Prelude.{◌≡◌, ℕ, ◌+◌, ◌<◌, ◌≤◌, min, List, map, Contains, Bool, Option, Some, None}
 use Rattle.std.specs.Prelude.{IsTrue, IsFalse, ⊤}
 use Rattle.olr_spec.specs.Map.{Map, has_node}
 use Rattle.olr_spec.specs.Queries.{CoverageQuery}
@@ -18,6 +19,7 @@ use Rattle.olr_spec.specs.Extension.{limit}
 use Rattle.olr_paths.specs.Items.{Made, Item}
 use Rattle.olr_paths.specs.Changes.{QueryTouched}
 use Rattle.olr_paths.specs.Touching.{nodes_of}
+use Rattle.olr_paths.specs.Origins.{Begins}
 use Rattle.olr_paths.specs.declared.change_set.ChangeSet.{ChangeSet}
 use Rattle.olr_paths.specs.declared.searches.Searches.{Searches}
 use Rattle.olr_paths.specs.declared.detours.Detours.{Detours}
@@ -29,20 +31,20 @@ abbrev pub IsExactAt : Map → (ℕ → ℕ) → ChangeSet → Dijkstra → ℕ 
 IsExactAt N slot t s v w =
     (d : ℕ) → d ≤ w → IsTrue (has_node N v) → Leads N Against (sources t) v d → label_at s (slot v) ≤ d
 
-pub record IsAsked (N : Map) (slot : ℕ → ℕ) (t : ChangeSet) (s : Searches) (m : Made) : Type 0 where
-  pub lengths : IsFalse s.far → AreLengths N slot Against (sources t) s.near
-  pub returned : IsFalse s.far → (l : CoverageQuery) → Contains m.queries l →
-      IsExactAt N slot t s.near l.from (min l.within limit)
-  pub far : IsTrue s.far → ¬ QueryTouched N (nodes_of t) m
+pub record Asked (N : Map) (slot : ℕ → ℕ) (t : ChangeSet) (near : Dijkstra) (unmade : Bool) (m : Made) : Type 0 where
+  pub lengths : IsFalse unmade → AreLengths N slot Against (sources t) near
+  pub returned : IsFalse unmade → (l : CoverageQuery) → Contains m.queries l →
+      IsExactAt N slot t near l.from (min l.within limit)
+  pub far : IsTrue unmade → ¬ QueryTouched N (nodes_of t) m
+
+abbrev pub IsAsked : Map → (ℕ → ℕ) → ChangeSet → Searches → Made → Type 0
+IsAsked N slot t s m = Asked N slot t s.near s.far m
 
 abbrev pub AreAsked : Map → (ℕ → ℕ) → ChangeSet → Searches → List Item → Type 0
-AreAsked N slot t s is = (i : Item) → Contains is i → IfSome i.made (IsAsked N slot t s)
-
-abbrev pub LacksQueries : Option Made → Type 0
-LacksQueries made = IfSome made (λ m. m.queries ≡ [])
+AreAsked N slot t s is = (i : Item) (m : Made) → Contains is i → i.made ≡ Some m → IsAsked N slot t s m
 
 abbrev pub LackQueries : List Item → Type 0
-LackQueries is = (i : Item) → Contains is i → LacksQueries i.made
+LackQueries is = (l : CoverageQuery) → ¬ Begins is l
 
 abbrev pub starts : ChangeSet → List (ℕ × ℕ)
 starts t = map (λ c. (c.from, c.len)) t.changed.items

@@ -9,21 +9,6 @@ use crate::path_list::{NamedPath, PathList};
 use olr_refs::CoverageQuery;
 use std::alloc::AllocError;
 
-/// Appends coverage queries.
-pub(crate) fn note_queries(
-    queries: &[CoverageQuery],
-    new_origins: &mut Vec<CoverageQuery>,
-) -> Result<(), AllocError>
-    ensures before { OnOk result ((v : QueryRecord) → Contains new_origins.old.items v →
-        Contains new_origins.new.items v) }
-    ensures queries { OnOk result ((l : QueryRecord) → Contains queries.now l → Contains new_origins.new.items l) }
-{
-    for query in queries {
-        new_origins.push(*query)?;
-    }
-    Ok(())
-}
-
 /// Appends the coverage queries of a path.
 fn note_named(named: &NamedPath, new_origins: &mut Vec<CoverageQuery>) -> Result<(), AllocError>
     ensures before { OnOk result ((v : QueryRecord) → Contains new_origins.old.items v →
@@ -32,7 +17,7 @@ fn note_named(named: &NamedPath, new_origins: &mut Vec<CoverageQuery>) -> Result
         → Contains new_origins.new.items v) }
 {
     if let Some(published) = &named.published {
-        note_queries(&published.queries, new_origins)?;
+        new_origins.extend_from_slice(&published.queries)?;
     }
     Ok(())
 }

@@ -7,15 +7,15 @@ ghost use Rattle.olr_paths.specs.Touching.{nodes_of, lines_of};
 ghost use Rattle.olr_paths.specs.Searching.{AreAsked};
 ghost use Rattle.olr_paths.specs.Laying.{overlay_changes};
 ghost use Rattle.olr_paths.specs.Showing.{shown_items};
-ghost use Rattle.olr_paths.specs.Candidates.{Includes, Finds, AreFound, Covers, CoversAsked, FindsChanged};
+ghost use Rattle.olr_paths.specs.Candidates.{Includes, Finds, Covers, CoversAsked, FindsChanged};
 
 use crate::change_set::ChangeSet;
+use crate::numbered::Numbered;
 use crate::overlaid_list::OverlaidList;
 use crate::path_list::PathList;
 use crate::searches::Searches;
 use olr_index::Index;
-use olr_map::{LineId, MapRead, NodeId};
-use olr_search::Reached;
+use olr_map::MapRead;
 use std::alloc::{AllocError, Global};
 
 /// The position of the path with this id, by binary search.
@@ -41,53 +41,20 @@ fn put_positions(path_ids: &[u64], of: &[u64], found: &mut Vec<usize>) -> Result
     Ok(())
 }
 
-/// Appends the positions of the paths that have an index entry for one of the nodes.
-fn put_nodes(
+/// Appends the positions of the paths that have an index entry for one of these.
+fn put_found<T: Numbered>(
     path_ids: &[u64],
     index: &Index,
-    nodes: &[NodeId],
+    items: &[T],
     found: &mut Vec<usize>,
 ) -> Result<(), AllocError>
     requires { IsStrictlyIncreasing path_ids.now }
     ensures kept { OnOk result (Includes found.old.items found.new.items) }
-    ensures put { OnOk result (AreFound path_ids.now index.now nodes.now found.new.items) }
+    ensures put { OnOk result
+        (All (λ x. Finds path_ids.now index.now (T.number_of x) found.new.items) items.now) }
 {
-    for node in nodes {
-        put_positions(path_ids, index.of(u64::from(node.number())), found)?;
-    }
-    Ok(())
-}
-
-/// Appends the positions of the paths that have one of the lines.
-fn put_lines(
-    path_ids: &[u64],
-    index: &Index,
-    lines: &[LineId],
-    found: &mut Vec<usize>,
-) -> Result<(), AllocError>
-    requires { IsStrictlyIncreasing path_ids.now }
-    ensures kept { OnOk result (Includes found.old.items found.new.items) }
-    ensures put { OnOk result (AreFound path_ids.now index.now lines.now found.new.items) }
-{
-    for line in lines {
-        put_positions(path_ids, index.of(u64::from(line.number())), found)?;
-    }
-    Ok(())
-}
-
-/// Appends the positions of the paths that have an index entry for one of the nodes that a search labelled.
-fn put_reached(
-    path_ids: &[u64],
-    index: &Index,
-    reached: &[Reached],
-    found: &mut Vec<usize>,
-) -> Result<(), AllocError>
-    requires { IsStrictlyIncreasing path_ids.now }
-    ensures kept { OnOk result (Includes found.old.items found.new.items) }
-    ensures put { OnOk result (All (λ r. Finds path_ids.now index.now r.node found.new.items) reached.now) }
-{
-    for one in reached {
-        put_positions(path_ids, index.of(u64::from(one.node.number())), found)?;
+    for item in items {
+        put_positions(path_ids, index.of(item.index_number()), found)?;
     }
     Ok(())
 }
@@ -136,24 +103,12 @@ fn put_touched<M: MapRead>(
     ensures { OnOk result
         (CoversAsked (M.map map.now) (M.node_slot map.now) touched.now searches.now (items list.now) found.new.items) }
 {
-    put_nodes(
-        &list.path_ids,
-        &list.finder.traversed,
-        &touched.nodes,
-        found,
-    )?;
-    put_nodes(
-        &list.path_ids,
-        &list.finder.by_query_origin,
-        &touched.nodes,
-        found,
-    )?;
-    put_lines(&list.path_ids, &list.finder.lines, &touched.lines, found)?;
-    if searches.far {
-        return Ok(());
-    }
-    let reached = searches.near.labelled_nodes();
-    put_reached(&list.path_ids, &list.finder.by_query_origin, reached, found)?;
+    let ids = list.path_ids.as_slice();
+    let nodes = touched.nodes();
+    put_found(ids, &list.finder.traversed, nodes, found)?;
+    put_found(ids, &list.finder.by_query_origin, nodes, found)?;
+    put_found(ids, &list.finder.lines, touched.lines(), found)?;
+    put_found(ids, &list.finder.by_query_origin, searches.reached(), found)?;
     Ok(())
 }
 

@@ -9,7 +9,7 @@ use std::alloc::{AllocError, Global};
 /// Where a changed line begins and ends, and its length in decimetres: the lesser of the lengths before and after, or
 /// the
 /// only one if the line was added or dropped.
-#[derive(Clone, Copy, Debug)]
+#[derive(Clone, Copy)]
 pub struct ChangedLine {
     /// Where it begins.
     pub from: NodeId,
@@ -20,7 +20,7 @@ pub struct ChangedLine {
 }
 
 /// The nodes and the lines that edits touched, each once and in ascending order, and the lines that they changed.
-#[derive(Drop, Debug)]
+#[derive(Drop)]
 pub struct ChangeSet {
     pub(crate) nodes: Vec<NodeId>,
     pub(crate) lines: Vec<LineId>,
@@ -100,6 +100,13 @@ impl ChangeSet {
         ensures { result.now ≡ nodes_of self.now }
     {
         self.nodes.as_slice()
+    }
+
+    /// The touched lines, each once, in ascending order.
+    pub(crate) fn lines(&self) -> &[LineId]
+        ensures { result.now ≡ lines_of self.now }
+    {
+        self.lines.as_slice()
     }
 
     /// Whether the node was touched, by binary search.

@@ -1,9 +1,11 @@
 //! Which paths have a node or a line, found by its number.
-ghost use Rattle.std.specs.Prelude.{◌≡◌, ℕ, Contains, IsTrue, OnOk};
-ghost use Rattle.std.specs.List.Sorted.{IsStrictlyIncreasing};
+ghost use Rattle.std.specs.Prelude.{◌≡◌, All, Contains, IsTrue, OnOk};
 ghost use Rattle.olr_spec.specs.Queries.{CoverageQuery as QueryRecord};
+ghost use Rattle.std.specs.List.Sorted.{IsStrictlyIncreasing};
+ghost use Rattle.olr_index.specs.PathIds.{holds};
 ghost use Rattle.olr_paths.specs.Finding.{TraversedNoted, FromNoted, KeepsAll, KeepsBut};
 
+use crate::numbered::Numbered;
 use crate::published::Published;
 use olr_index::Index;
 use olr_map::{LineId, NodeId};
@@ -11,8 +13,7 @@ use olr_refs::CoverageQuery;
 use std::alloc::{AllocError, Global};
 
 /// The path ids by the numbers of traversed nodes, of nodes where coverage queries begin, and of lines. It may have
-/// more
-/// entries than the paths need.
+/// more entries than the paths need.
 #[derive(Drop, Debug)]
 pub struct Finder {
     pub(crate) traversed: Index,
@@ -34,8 +35,7 @@ impl Finder {
     }
 
     /// Adds the id of a path to its lines, its traversed nodes and the nodes where its coverage queries begin. If an
-    /// allocation
-    /// fails, some of them have it.
+    /// allocation fails, some of them have it.
     pub(crate) fn note(
         &mut self,
         path_id: u64,
@@ -47,14 +47,13 @@ impl Finder {
         ensures grows { Grows self.old self.new }
         ensures spares { Spares path_id self.old self.new }
     {
-        note_nodes(&mut self.traversed, path_id, published.traversed.as_slice())?;
-        note_queries(&mut self.by_query_origin, path_id, &published.queries)?;
-        note_lines(&mut self.lines, path_id, lines)
+        note_each(&mut self.traversed, path_id, published.traversed.as_slice())?;
+        note_each(&mut self.by_query_origin, path_id, &published.queries)?;
+        note_each(&mut self.lines, path_id, lines)
     }
 
     /// Removes the id from these lines, from the traversed nodes and from the nodes where coverage queries began. Takes
-    /// no
-    /// memory.
+    /// no memory.
     pub(crate) fn forget(&mut self, path_id: u64, lines: &[LineId], replaced: &Published)
         ensures { Spares path_id self.old self.new }
     {
@@ -97,42 +96,14 @@ impl Finder {
     }
 }
 
-/// Adds a path id to nodes. If an allocation fails, some have it.
-fn note_nodes(index: &mut Index, path_id: u64, nodes: &[NodeId]) -> Result<(), AllocError>
-    ensures noted { OnOk result (TraversedNoted index.new path_id nodes.now) }
+/// Adds a path id to the numbers of these. If an allocation fails, some have it.
+fn note_each<T: Numbered>(index: &mut Index, path_id: u64, items: &[T]) -> Result<(), AllocError>
+    ensures noted { OnOk result (All (λ x. IsTrue (holds index.new (T.number_of x) path_id)) items.now) }
     ensures grows { KeepsAll index.old index.new }
     ensures spares { KeepsBut path_id index.old index.new }
 {
-    for node in nodes {
-        index.add(u64::from(node.number()), path_id)?;
-    }
-    Ok(())
-}
-
-/// Adds a path id to lines. If an allocation fails, some have it.
-fn note_lines(index: &mut Index, path_id: u64, lines: &[LineId]) -> Result<(), AllocError>
-    ensures noted { OnOk result (TraversedNoted index.new path_id lines.now) }
-    ensures grows { KeepsAll index.old index.new }
-    ensures spares { KeepsBut path_id index.old index.new }
-{
-    for line in lines {
-        index.add(u64::from(line.number()), path_id)?;
-    }
-    Ok(())
-}
-
-/// Adds a path id to the nodes where coverage queries begin. If an allocation fails, some have it.
-fn note_queries(
-    index: &mut Index,
-    path_id: u64,
-    queries: &[CoverageQuery],
-) -> Result<(), AllocError>
-    ensures noted { OnOk result (FromNoted index.new path_id queries.now) }
-    ensures grows { KeepsAll index.old index.new }
-    ensures spares { KeepsBut path_id index.old index.new }
-{
-    for query in queries {
-        index.add(u64::from(query.from.number()), path_id)?;
+    for item in items {
+        index.add(item.index_number(), path_id)?;
     }
     Ok(())
 }
@@ -141,12 +112,7 @@ fn note_queries(
 fn is_queried_from(queries: &[CoverageQuery], node: NodeId) -> bool
     ensures { (l : QueryRecord) → Contains queries.now l → l.from ≡ node → IsTrue result }
 {
-    for query in queries {
-        if query.from == node {
-            return true;
-        }
-    }
-    false
+    queries.iter().any(|query| query.from == node)
 }
 
 /// Removes a path id from nodes, except from the retained ones. Takes no memory.

@@ -12,7 +12,6 @@ ghost use Rattle.olr_paths.specs.Items.{Made, IsEncodingOf, items, made_of, all_
 ghost use Rattle.olr_paths.specs.Changes.{AreSearched, Rises, set_item};
 ghost use Rattle.olr_paths.specs.Origins.{Begins, new_origins_in};
 
-use crate::begins::note_queries;
 use crate::encoding::{have_64_bits, publish};
 use crate::path_list::{NamedPath, PathList};
 use crate::renewal::push_if_changed;
@@ -52,7 +51,7 @@ impl PathList {
         let mut tried = *work;
         let published = publish(alloc, map, &path, &[], &mut searches.query, &mut tried)?;
         searches.new_origins.clear();
-        note_queries(&published.queries, &mut searches.new_origins)?;
+        searches.new_origins.extend_from_slice(&published.queries)?;
         let mut entries = Vec::with_capacity(alloc, 1)?;
         entries.push(published.entry(alloc, name.as_str())?)?;
         let named = NamedPath {
@@ -95,7 +94,7 @@ impl PathList {
         let mut tried = *work;
         let published = publish(alloc, map, &path, &[], &mut searches.query, &mut tried)?;
         searches.new_origins.clear();
-        note_queries(&published.queries, &mut searches.new_origins)?;
+        searches.new_origins.extend_from_slice(&published.queries)?;
         let mut entries = Vec::new(alloc);
         push_if_changed(alloc, self, name, &published, &mut entries)?;
         let named = NamedPath {

@@ -3,7 +3,6 @@
 #![tactic(auto)]
 
 mod actions;
-mod asked;
 mod asking;
 mod begins;
 mod candidates;
@@ -14,6 +13,7 @@ mod entries;
 mod finder;
 mod giving;
 mod iter;
+mod numbered;
 mod overlaid_list;
 pub mod overlay;
 mod path_list;

@@ -141,8 +141,7 @@ impl PathList {
     }
 
     /// Replaces the path of a name by one that is not encoded yet. It keeps its position. If an allocation fails, the
-    /// list is
-    /// unchanged.
+    /// list is unchanged.
     pub fn hold_other(&mut self, alloc: Global, name: &str, path: Path) -> Result<(), AllocError>
         requires { is_some (path_named (all_named (items self.old)) name.now) ≡ true }
         ensures ok { OnOk result (items self.new ≡ map (set_item name.now path None) (items self.old)) }
@@ -164,13 +163,11 @@ impl PathList {
         let Some(position) = self.paths.get_index_of(name) else {
             return;
         };
-        let Some(named) = self.paths.shift_remove(name) else {
+        let Some((_, named)) = self.paths.shift_remove_index(position) else {
             unreachable!()
         };
         let path_id = self.path_ids.remove(position);
-        if let Some(published) = &named.published {
-            self.finder.forget(path_id, named.path.lines(), published);
-        }
+        forget_named(&mut self.finder, path_id, &named, None);
     }
 
     /// Appends a path. If an allocation fails, the list is unchanged.
@@ -224,7 +221,7 @@ impl PathList {
         };
         renote(&mut self.finder, path_id, current, &named)?;
         self.held = is_held(self.held, &named);
-        if let Some(place) = self.paths.get_mut(name) {
+        if let Some(place) = self.paths.get_index_mut(position) {
             *place = named;
         }
         Ok(())
@@ -252,9 +249,24 @@ fn next_path_id(path_ids: &[u64]) -> Result<u64, AllocError>
     }
 }
 
+/// Adds the index entries of a path, if it was encoded. If an allocation fails, some are added.
+pub(crate) fn note_one(
+    finder: &mut Finder,
+    path_id: u64,
+    named: &NamedPath,
+) -> Result<(), AllocError>
+    ensures noted { OnOk result (NamedNoted finder.new path_id named.now) }
+    ensures grows { Grows finder.old finder.new }
+    ensures spares { Spares path_id finder.old finder.new }
+{
+    let Some(published) = &named.published else {
+        return Ok(());
+    };
+    finder.note(path_id, named.path.lines(), published)
+}
+
 /// Adds the index entries of a path, if it was encoded. If an allocation fails, they are removed again, except for
-/// those of
-/// the retained path.
+/// those of the retained path.
 fn note_named(
     finder: &mut Finder,
     path_id: u64,
@@ -262,16 +274,12 @@ fn note_named(
     kept: Option<&NamedPath>,
 ) -> Result<(), AllocError>
     ensures noted { OnOk result (NamedNoted finder.new path_id named.now) }
-    ensures grows { OnOk result (Grows finder.old finder.new) }
     ensures keeps { IfSome kept.entry (λ k. NamedNoted finder.old path_id k.now → NamedNoted finder.new path_id k.now) }
     ensures spares { Spares path_id finder.old finder.new }
 {
-    let Some(published) = &named.published else {
-        return Ok(());
-    };
-    let noted = finder.note(path_id, named.path.lines(), published);
+    let noted = note_one(finder, path_id, named);
     if noted.is_err() {
-        forget_named(finder, path_id, named.path.lines(), published, kept);
+        forget_named(finder, path_id, named, kept);
     }
     noted
 }
@@ -289,35 +297,43 @@ fn renote(
     ensures spares { Spares path_id finder.old finder.new }
 {
     note_named(finder, path_id, after, Some(before))?;
-    if let Some(published) = &before.published {
-        forget_named(finder, path_id, before.path.lines(), published, Some(after));
-    }
+    forget_named(finder, path_id, before, Some(after));
     Ok(())
 }
 
-/// Removes the index entries of a path, except for those of the retained path, if it was encoded. Takes no memory.
+/// Removes the index entries of a path, if it was encoded, except for those of the retained path. Takes no memory.
 pub(crate) fn forget_named(
     finder: &mut Finder,
     path_id: u64,
-    lines: &[LineId],
-    replaced: &Published,
+    replaced: &NamedPath,
     kept: Option<&NamedPath>,
 )
     ensures keeps { IfSome kept.entry (λ k. NamedNoted finder.old path_id k.now → NamedNoted finder.new path_id k.now) }
     ensures spares { Spares path_id finder.old finder.new }
 {
+    let Some(published) = &replaced.published else {
+        return;
+    };
     let Some(named) = kept else {
-        finder.forget(path_id, lines, replaced);
+        finder.forget(path_id, replaced.path.lines(), published);
         return;
     };
     match &named.published {
-        Some(published) => finder.forget_but(
+        Some(kept) => finder.forget_but(
             path_id,
-            lines,
-            replaced,
-            named.path.lines(),
+            lines_removed(replaced, named),
             published,
+            named.path.lines(),
+            kept,
         ),
-        None => finder.forget(path_id, lines, replaced),
+        None => finder.forget(path_id, replaced.path.lines(), published),
     }
+}
+
+/// The lines of a replaced path; none if it is the same path as the one that is encoded in its place.
+fn lines_removed<'a>(replaced: &'a NamedPath, kept: &NamedPath) -> &'a [LineId] {
+    if Rc::ptr_eq(&replaced.path, &kept.path) {
+        return &[];
+    }
+    replaced.path.lines()
 }

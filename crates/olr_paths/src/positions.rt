@@ -2,17 +2,14 @@
 ghost use Rattle.std.specs.Prelude.{◌≡◌, ◌+◌, ◌≤◌, ◌++◌, OnOk, OnErr, take, length, vec_len, vec_capacity};
 ghost use Rattle.olr_commands.specs.State.{NamesDiffer};
 ghost use Rattle.olr_paths.specs.Items.{items, all_named};
-ghost use Rattle.olr_paths.specs.Finding.{AreNotedAt, NamedNoted, Grows};
+ghost use Rattle.olr_paths.specs.Finding.{AreNotedAt};
 ghost use Rattle.olr_paths.specs.Renewing.{all_put, puts_of};
 
-use crate::finder::Finder;
 use crate::overlay::{Overlay, put_behind};
-use crate::path_list::{NamedPath, PathList, forget_named};
+use crate::path_list::{NamedPath, PathList, forget_named, note_one};
 use indexmap::IndexMap;
-use olr_map::LineId;
 use std::alloc::{AllocError, Global};
 use std::mem;
-use std::rc::Rc;
 
 /// Stores each result at its position, and appends the replaced ones to `before`, which has the capacity. Takes no
 /// memory.
@@ -34,14 +31,6 @@ fn place(
     }
 }
 
-/// The lines of a replaced path; none if it is the same path as the new one, and that was encoded.
-fn lines_removed<'a>(replaced: &'a NamedPath, kept: &NamedPath) -> &'a [LineId] {
-    if kept.published.is_some() && Rc::ptr_eq(&replaced.path, &kept.path) {
-        return &[];
-    }
-    replaced.path.lines()
-}
-
 /// Removes the index entries of replaced or abandoned paths at these positions, except for those of the paths that are
 /// there
 /// now. Takes no memory.
@@ -52,24 +41,9 @@ fn tidy(list: &mut PathList, replaced: &[(usize, NamedPath)])
         let Some((_, kept)) = list.paths.get_index(*position) else {
             continue;
         };
-        let Some(published) = &named.published else {
-            continue;
-        };
         let path_id = list.path_ids[*position];
-        let lines = lines_removed(named, kept);
-        forget_named(&mut list.finder, path_id, lines, published, Some(kept));
+        forget_named(&mut list.finder, path_id, named, Some(kept));
     }
-}
-
-/// Adds the index entries of a result under a path id. If an allocation fails, some are added.
-fn note_one(finder: &mut Finder, path_id: u64, named: &NamedPath) -> Result<(), AllocError>
-    ensures noted { OnOk result (NamedNoted finder.new path_id named.now) }
-    ensures grows { Grows finder.old finder.new }
-{
-    let Some(published) = &named.published else {
-        return Ok(());
-    };
-    finder.note(path_id, named.path.lines(), published)
 }
 
 /// Adds the index entries of results, under the ids of their positions. If an allocation fails, some are added.

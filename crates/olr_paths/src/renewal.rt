@@ -19,7 +19,7 @@ ghost use Rattle.olr_paths.specs.Renewing.{made_at, after_renewal, ReportsIfOthe
 ghost use Rattle.olr_paths.specs.Renewing.{OneSpared, WasBefore, IsRenewal};
 
 use crate::actions::{Action, decide};
-use crate::asked::ask;
+use crate::asking::ask;
 use crate::begins::note_fresh;
 use crate::change_set::ChangeSet;
 use crate::detours::{Detours, clear_known};

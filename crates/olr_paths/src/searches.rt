@@ -4,7 +4,7 @@ ghost use Rattle.olr_paths.specs.Origins.{new_origins_in};
 
 use crate::detours::Detours;
 use olr_refs::CoverageQuery;
-use olr_search::Dijkstra;
+use olr_search::{Dijkstra, Reached};
 use std::alloc::Global;
 
 /// Searches that are restarted for each renewal, so that their tables are allocated once.
@@ -25,6 +25,11 @@ pub struct Searches {
 }
 
 impl Searches {
+    ghost use Rattle.std.specs.Prelude.{◌≡◌, ◌≤◌, ℕ, List, Contains, IsTrue, IsFalse};
+    ghost use Rattle.olr_spec.specs.Map.{Map, has_node};
+    ghost use Rattle.olr_spec.specs.Extension.{limit};
+    ghost use Rattle.olr_search.specs.Bounds.{AreLengths, label_at};
+
     /// Searches that have not begun. Takes no memory.
     pub fn new(alloc: Global) -> Searches {
         Searches {
@@ -54,10 +59,22 @@ impl Searches {
         self.wasted_labels = 0;
     }
 
+    /// The nodes that the search from touched nodes labelled; none if it was not made.
+    pub(crate) fn reached(&self) -> &[Reached]
+        ensures { (M : Map) (slot : ℕ → ℕ) (direction : _) (from : List (ℕ × ℕ)) (v : ℕ) → IsFalse self.now.far
+            → AreLengths M slot direction from self.now.near → IsTrue (has_node M v)
+            → label_at self.now.near (slot v) ≤ limit → Contains result.now (record { node = v; slot = slot v }) }
+    {
+        if self.far {
+            return &[];
+        }
+        self.near.labelled_nodes()
+    }
+
     /// Counts the labels of a renewal's search from touched nodes, if it found no path.
     pub(crate) fn count(&mut self, found: bool) {
-        if !found && !self.far {
-            let labelled = self.near.labelled_nodes().len();
+        if !found {
+            let labelled = self.reached().len();
             self.wasted_labels = self.wasted_labels.saturating_add(labelled);
         }
     }

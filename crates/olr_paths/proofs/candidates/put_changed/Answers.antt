@@ -9,8 +9,7 @@ use Rattle.olr_spec.specs.Extension.{Path}
 use Rattle.olr_paths.specs.Items.{items}
 use Rattle.olr_paths.specs.Laying.{Changes, changes_in, path_in}
 use Rattle.olr_paths.specs.Candidates.{Includes, FindsChanged}
-use Rattle.olr_paths.proofs.NamedEntries.{named_there, same_flip}
-use Rattle.olr_paths.proofs.PathIdLemmas.{First, first_at}
+use Rattle.olr_paths.proofs.NamedEntries.{first_at, named_there, same_flip}
 use Rattle.olr_paths.proofs.Overlaying.{Entered}
 use Rattle.olr_paths.proofs.Changed.{take_more_changes, not_there}
 use Rattle.olr_paths.proofs.Covering.{pushed_kept, changed_more, others_apart}
@@ -50,8 +49,7 @@ loop-k-preserved c =
     let now = c.push.new.self.items in
     let put : now ≡ old ++ q ∷ [] = c.in_ok-push.ensures.items in
     let kept : Includes old now = subst (λ (xs : List ℕ). Includes old xs) (sym put) (pushed_kept old q) in
-    let first : First name es q =
-    first_at es name q c.in-Some-get_index_of.ensures.within (sym c.in-Some-get_index_of.ensures.index) in
+    let first = first_at es name q (sym c.in-Some-get_index_of.ensures.index) in
     let more = take_more_changes cs at e (sym c.in-Some.ensures.entry) in (
       (λ k on. kept k (c.loop-k.invariant.0 k on)),
       subst (λ (ds : Changes). FindsChanged ds (items c.args.overlaid.list.now) now) (sym more)

@@ -1,16 +1,18 @@
-use Rattle.std.proofs.Common.{◌≡◌, ℕ, false, Contains, ◌∙◌, sym, subst}
+use Rattle.std.proofs.Common.{◌≡◌, ℕ, false, Contains, ◌∙◌, subst}
 use Rattle.olr_paths.proofs.Noting.{KeptIn, forgot_more}
-use Rattle.olr_paths.proofs.PathIdLemmas.{not_among}
+use Rattle.olr_spec.proofs.AscendingLists.{place_of, there_found}
 use Rattle.olr_paths.proofs.finder.forget_nodes.Goals as goal
 
 pub loop-node-preserved : goal.loop-node-preserved
 loop-node-preserved c =
+    let xs = c.args.kept.now in
+    let v = c.node-item.result in
+    let r = c.binary_search.result in
     let off : c.is_ok.result ≡ false = cc in
-    let v : c.from.result ≡ c.node-item.result = c.from.ensures ∙ c.number.ensures.same in
+    let place = place_of xs v r c.requires c.binary_search.ensures.position in
     forgot_more (KeptIn (λ (u : ℕ). u) c.args.kept.now) c.args.path_id c.args.index.now c.loop-node.index
     c.remove.new.self
     c.from.result c.loop-node.invariant
-    (λ k. not_among c.args.kept.now c.node-item.result c.binary_search.result c.requires
-    c.binary_search.ensures.position (sym c.is_ok.ensures.value ∙ off)
-    (subst (λ (u : ℕ). Contains c.args.kept.now u) (k.2 ∙ v) k.1))
+    (λ k. let on = there_found xs v r place (subst (Contains xs) (k.2 ∙ c.from.ensures ∙ c.number.ensures.same) k.1) in
+    let never : ⊥ = cc (on, off, c.is_ok.ensures.value) in never)
     c.remove.ensures

@@ -17,7 +17,7 @@ decide-requires-clause-asked g c =
     let slot = g.M.MapRead.node_slot c.args.map.now in
     let shown = c.in-Some.shown in
     made_if (λ p. made_of p.now) (IsAsked N slot c.args.touched.now c.args.searches.now) shown.published
-    (c.requires.asked (shown_item shown)
+    (λ m. c.requires.asked (shown_item shown) m
     (listed_at (shown_items c.args.overlaid) _ (shown_item shown) c.in-Some.ensures.shown))
 
 pub known_for-requires-clause-before : goal.known_for-requires-clause-before

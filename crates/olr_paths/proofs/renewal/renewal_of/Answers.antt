@@ -1,4 +1,4 @@
-use Rattle.std.proofs.Common.{refl, sym, arith, ◌≡◌, ℕ, List, length, ◌∙◌, ap, true, subst}
+use Rattle.std.proofs.Common.{sym, arith, ◌≡◌, ℕ, List, length, ◌∙◌, ap, true, subst}
 use Rattle.std.specs.Prelude.{option_map}
 use Rattle.olr_paths.specs.Items.{Item, items}
 use Rattle.olr_paths.specs.Showing.{shown_items, shown_item}
@@ -11,17 +11,9 @@ use Rattle.olr_paths.specs.declared.renewal.Renewal.{Renewal}
 use Rattle.olr_paths.specs.declared.renewal.Counted.{Counted}
 use Rattle.olr_spec.proofs.OptionLemmas.{none_of}
 use Rattle.olr_paths.proofs.Covering.{past_end}
-use Rattle.olr_paths.proofs.AskedLemmas.{asked_again}
 use Rattle.olr_paths.proofs.RenewedPrefix.{whole, so_far_all}
 use Rattle.olr_paths.proofs.Raising.{kept_up, work_up}
 use Rattle.olr_paths.proofs.renewal.renewal_of.Goals as goal
-
-pub renewal_by-requires-clause-asked : goal.renewal_by-requires-clause-asked
-renewal_by-requires-clause-asked g c =
-    asked_again (g.M.MapRead.map c.args.map.now) (g.M.MapRead.node_slot c.args.map.now) c.args.touched.now
-    c.ask.new.searches
-    (record c.ask.new.searches { detours = c.replace-detours.new.dest; query = c.replace-query.new.dest })
-    (shown_items c.args.overlaid) refl refl c.in_ok-found.ensures.asked
 
 pub renewal_by-requires-clause-covers : goal.renewal_by-requires-clause-covers
 renewal_by-requires-clause-covers g c =

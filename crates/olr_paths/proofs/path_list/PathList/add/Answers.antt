@@ -1,7 +1,6 @@
-use Rattle.std.proofs.Common.{◌≡◌, inl, inr, List, [], ◌∷◌, ◌++◌, Contains, Some, Result, Ok, Err, map}
-use Rattle.std.proofs.Common.{refl, sym, ap, ◌∙◌, subst}
+use Rattle.std.proofs.Common.{◌≡◌, inl, inr, List, [], ◌∷◌, ◌++◌, Some, Result, Ok, Err, map}
+use Rattle.std.proofs.Common.{refl, ap, ◌∙◌, subst}
 use Rattle.std.specs.Prelude.{string_bytes, OnErr}
-use Rattle.olr_spec.specs.Queries.{CoverageQuery}
 use Rattle.olr_commands.specs.Reply.{Entry, entry}
 use Rattle.olr_commands.specs.Words.{entry_of}
 use Rattle.olr_paths.specs.Items.{Made, Item, items, made_of}
@@ -10,6 +9,7 @@ use Rattle.olr_paths.proofs.OriginLemmas.{begins_add}
 use Rattle.olr_spec.proofs.KnownLemmas.{none_known}
 use Rattle.olr_paths.proofs.GivenQueries.{searched_from_none}
 use Rattle.olr_paths.proofs.Raising.{work_up}
+use Rattle.std.proofs.lemmas.List.Elements.{Contains-append_right}
 use Rattle.olr_paths.proofs.path_list.PathList.add.Goals as goal
 
 so_on_err : {T E A : Type 0} (r : Result T E) → A → OnErr r A
@@ -70,8 +70,8 @@ returns-clause-new_origins g c = λ v h.
     } ∷ []) in
     elim (begins_add is j v (subst (λ (js : List Item). Begins js v) now h)) [
       | inl a ↦ inl a
-      | inr b ↦ inr (c.in_ok-note_queries.ensures.queries v
-          (subst (λ (ls : List CoverageQuery). Contains ls v) (sym c.deref.ensures.value) b))
+      | inr b ↦ inr (rw (c.in_ok-extend_from_slice.ensures.items, c.deref.ensures.value)
+          (Contains-append_right c.clear.new.self.items m.queries v b))
     ]
 
 pub returns-clause-rises : goal.returns-clause-rises

@@ -1,19 +1,19 @@
-use Rattle.std.proofs.Common.{◌≡◌, ◌<◌, ◌∙◌, length, ap, sym, get_or, arith}
-use Rattle.std.proofs.lemmas.List.{get_or_default}
+use Rattle.std.proofs.Common.{◌≢◌, ◌<◌, None, sym, ap, length, ◌∙◌, arith}
+use Rattle.std.proofs.lemmas.List.Edits.{length-remove}
+use Rattle.olr_spec.proofs.AscendingLists.{ascends-remove}
 use Rattle.olr_paths.specs.Items.{items}
-use Rattle.olr_paths.proofs.NamedEntries.{removed_items, items_of, keeps_all, named_there}
-use Rattle.olr_paths.proofs.PathIdLemmas.{First, first_at, long_left, ascend_left, noted_left, same_left, all_left}
+use Rattle.olr_paths.proofs.NamedEntries.{first_at, items_of, keeps_all, named_there, removed_items}
+use Rattle.olr_paths.proofs.PathIdLemmas.{each_removed, noted_removed}
 use Rattle.olr_paths.proofs.path_list.PathList.drop_path.Goals as goal
 
 pub returns : goal.returns
 returns c =
-    ap items_of c.shift_remove.ensures.entries
-    ∙ removed_items c.args.self.now.paths.entries c.args.name.now c.len-names.ensures.names
-
-pub returns-in-Some-published : goal.returns-in-Some-published
-returns-in-Some-published c =
-    ap items_of c.shift_remove.ensures.entries
-    ∙ removed_items c.args.self.now.paths.entries c.args.name.now c.len-names.ensures.names
+    let es = c.args.self.now.paths.entries in
+    let name = c.args.name.now in
+    let q = c.in-Some.position in
+    ap items_of c.shift_remove_index.ensures.entries
+    ∙ removed_items es name q (first_at es name q (sym c.in-Some.ensures.index))
+    c.len-names.ensures.names
 
 pub returns-in_default : goal.returns-in_default
 returns-in_default c =
@@ -23,60 +23,18 @@ returns-in_default c =
 
 pub invariant_of-self : goal.invariant_of-self
 invariant_of-self c =
-    let es = c.args.self.now.paths.entries in
-    let fs = c.shift_remove.new.self.entries in
-    let ms = c.args.self.now.path_ids.items in
-    let ns = c.remove-path_id.new.self.items in
-    let name = c.args.name.now in
+    let l = c.args.self.now in
+    let es = l.paths.entries in
+    let ms = l.path_ids.items in
     let q = c.in-Some.position in
-    let path_id = c.remove-path_id.result in
-    let long : length ms ≡ length es = c.args.self.now.long in
-    let at : q < length ms = omega (arith, c.in-Some.ensures.within, long) in
-    let first : First name es q = first_at es name q (omega (arith, at, long)) (sym c.in-Some.ensures.index) in
-    let is : path_id ≡ get_or ms q 0 = c.remove-path_id.ensures.value ∙ get_or_default ms q path_id 0 at in
-    let up = c.args.self.now.ascend in
+    let within : q < length ms = omega (arith, c.in-Some.ensures.within, l.long) in
+    let entries = c.shift_remove_index.ensures.entries in
+    let ids = c.remove-path_id.ensures.items in
     record {
-      long =
-          long_left es fs ms ns name q path_id first c.shift_remove.ensures.entries c.remove-path_id.ensures.items long
-          up at is;
-      ascend =
-          ascend_left es fs ms ns name q path_id first c.shift_remove.ensures.entries c.remove-path_id.ensures.items
-          long
-          up at is;
+      long = rw (entries, ids) (omega (arith, length-remove ms q within, length-remove es q (omega (arith, l.long)), l.long));
+      ascend = rw ids (ascends-remove ms q l.ascend within);
       noted =
-          noted_left es fs ms ns name q path_id first c.shift_remove.ensures.entries c.remove-path_id.ensures.items long
-          up at is c.args.self.now.finder c.forget.new.self c.forget.ensures c.args.self.now.noted;
-      encoded =
-          all_left es fs ms ns name q path_id first c.shift_remove.ensures.entries c.remove-path_id.ensures.items long
-          up at is c.args.self.now.held c.args.self.now.encoded;
-    }
-
-pub invariant_of-self-in_default-published : goal.invariant_of-self-in_default-published
-invariant_of-self-in_default-published c =
-    let es = c.args.self.now.paths.entries in
-    let fs = c.shift_remove.new.self.entries in
-    let ms = c.args.self.now.path_ids.items in
-    let ns = c.remove-path_id.new.self.items in
-    let name = c.args.name.now in
-    let q = c.in-Some.position in
-    let path_id = c.remove-path_id.result in
-    let long : length ms ≡ length es = c.args.self.now.long in
-    let at : q < length ms = omega (arith, c.in-Some.ensures.within, long) in
-    let first : First name es q = first_at es name q (omega (arith, at, long)) (sym c.in-Some.ensures.index) in
-    let is : path_id ≡ get_or ms q 0 = c.remove-path_id.ensures.value ∙ get_or_default ms q path_id 0 at in
-    let up = c.args.self.now.ascend in
-    record {
-      long =
-          long_left es fs ms ns name q path_id first c.shift_remove.ensures.entries c.remove-path_id.ensures.items long
-          up at is;
-      ascend =
-          ascend_left es fs ms ns name q path_id first c.shift_remove.ensures.entries c.remove-path_id.ensures.items
-          long
-          up at is;
-      noted =
-          same_left es fs ms ns name q path_id first c.shift_remove.ensures.entries c.remove-path_id.ensures.items long
-          up at is c.args.self.now.finder c.args.self.now.noted;
-      encoded =
-          all_left es fs ms ns name q path_id first c.shift_remove.ensures.entries c.remove-path_id.ensures.items long
-          up at is c.args.self.now.held c.args.self.now.encoded;
+          rw (entries, ids) (noted_removed l c.forget_named.new.finder q c.remove-path_id.result within
+          c.remove-path_id.ensures.value c.forget_named.ensures.spares);
+      encoded = λ off. rw entries (each_removed (λ _ n. n.published ≢ None) es ms q l.long (l.encoded off));
     }

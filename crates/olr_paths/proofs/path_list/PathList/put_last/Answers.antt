@@ -1,69 +1,57 @@
-use Rattle.std.proofs.Common.{◌≡◌, ◌<◌, ◌++◌, ◌∷◌, [], ◌∙◌, ℕ, List, length, get_or, ap, subst, sym, arith}
-use Rattle.std.specs.List.Sorted.{IsStrictlyIncreasing}
+use Rattle.std.proofs.Common.{◌≢◌, ◌<◌, ℕ, None, List, length, get_or, ◌∙◌, ◌++◌, ◌∷◌, [], subst, arith, ap}
+use Rattle.std.proofs.lemmas.List.{length_push, map-append}
+use Rattle.olr_spec.proofs.AscendingLists.{ascends_push}
 use Rattle.std.specs.String.{string_eq}
 use Rattle.indexmap.specs.IndexMap.{insert_entry}
-use Rattle.olr_paths.specs.Finding.{ArePublished}
-use Rattle.olr_paths.proofs.NamedEntries.{Entries, put_items, items_of}
-use Rattle.olr_paths.proofs.PathIdLemmas.{insert_last, noted_spared, long_more, ascend_more, noted_more}
-use Rattle.olr_paths.proofs.PathIdLemmas.{all_more_unless}
-use Rattle.olr_paths.proofs.PathIdLemmas.{moved_noted}
+use Rattle.olr_paths.specs.Finding.{NamedNoted}
+use Rattle.olr_paths.proofs.NamedEntries.{Entries, item_of}
+use Rattle.olr_paths.proofs.PathIdLemmas.{insert_last, noted_below, each_push}
 use Rattle.olr_paths.proofs.path_list.PathList.put_last.Goals as goal
 
 pub returns-clause-ok : goal.returns-clause-ok
 returns-clause-ok c =
     let es = c.args.self.now.paths.entries in
-    ap items_of c.in-Ok.ensures.entries
-    ∙ ap (λ (ys : Entries). items_of (insert_entry string_eq ys c.args.name c.args.named))
-    c.in_ok-reserve.ensures.entries ∙ put_items es c.args.name c.args.named c.requires
+    rw (c.in-Ok.ensures.entries, c.in_ok-reserve.ensures.entries, insert_last es c.args.name c.args.named c.requires)
+    (map-append item_of es ((c.args.name, c.args.named) ∷ []))
 
 pub invariant_of-self-in-Break-branch-4 : goal.invariant_of-self-in-Break-branch-4
 invariant_of-self-in-Break-branch-4 c =
-    let es = c.args.self.now.paths.entries in
-    let ms = c.args.self.now.path_ids.items in
-    let long : length ms ≡ length es = c.args.self.now.long in
+    let l = c.args.self.now in
     let path_id = c.in_ok-path_id.path_id in
-    let same : c.reserve.new.self.entries ≡ es = c.in_ok-reserve.ensures.entries in
-    let room : c.reserve-2.new.self.items ≡ ms = c.in_ok-reserve-2.ensures.items in
-    let below : (k : ℕ) → k < length ms → get_or ms k 0 < path_id =
+    let below : (k : ℕ) → k < length l.path_ids.items → get_or l.path_ids.items k 0 < path_id =
     subst (λ (xs : List ℕ). (k : ℕ) → k < length xs → get_or xs k 0 < path_id) c.deref.ensures.value
     c.in_ok-path_id.ensures in
+    let entries = c.in_ok-reserve.ensures.entries in
+    let ids = c.in_ok-reserve-2.ensures.items in
     record {
-      long = ap length room ∙ long ∙ sym (ap length same);
-      ascend = subst (λ (xs : List ℕ). IsStrictlyIncreasing xs) (sym room) c.args.self.now.ascend;
-      noted = moved_noted es c.reserve.new.self.entries ms c.reserve-2.new.self.items c.note_named.new.finder same room
-          (noted_spared es ms c.args.self.now.finder c.note_named.new.finder path_id
-          (λ k lt is. let low = below k (omega (arith, lt, long)) in absurd (omega (arith, low, is)))
-          c.note_named.ensures.spares c.args.self.now.noted);
-      encoded = λ off. subst (λ (ys : Entries). ArePublished ys) (sym same) (c.args.self.now.encoded off);
+      long = rw (entries, ids) l.long;
+      ascend = rw ids l.ascend;
+      noted = rw (entries, ids) (noted_below l c.note_named.new.finder path_id below c.note_named.ensures.spares);
+      encoded = λ off. rw entries (l.encoded off);
     }
 
 pub invariant_of-self-2 : goal.invariant_of-self-2
 invariant_of-self-2 c =
-    let es = c.args.self.now.paths.entries in
-    let ms = c.args.self.now.path_ids.items in
-    let long : length ms ≡ length es = c.args.self.now.long in
+    let l = c.args.self.now in
+    let es = l.paths.entries in
+    let ms = l.path_ids.items in
+    let name = c.args.name in
+    let n = c.args.named in
     let path_id = c.in_ok-path_id.path_id in
-    let same : c.reserve.new.self.entries ≡ es = c.in_ok-reserve.ensures.entries in
-    let room : c.reserve-2.new.self.items ≡ ms = c.in_ok-reserve-2.ensures.items in
+    let g = c.note_named.new.finder in
     let below : (k : ℕ) → k < length ms → get_or ms k 0 < path_id =
     subst (λ (xs : List ℕ). (k : ℕ) → k < length xs → get_or xs k 0 < path_id) c.deref.ensures.value
     c.in_ok-path_id.ensures in
-    let name = c.args.name in
-    let n = c.args.named in
-    let fs = c.insert.new.self.entries in
-    let ns = c.push_reserved.new.self.items in
-    let es_is : fs ≡ es ++ (name, n) ∷ [] =
-    c.in-Ok.ensures.entries ∙ ap (λ (ys : Entries). insert_entry string_eq ys name n) same
+    let entries =
+    c.in-Ok.ensures.entries ∙ ap (λ (ys : Entries). insert_entry string_eq ys name n) c.in_ok-reserve.ensures.entries
     ∙ insert_last es name n c.requires in
-    let ms_is : ns ≡ ms ++ path_id ∷ [] = c.push_reserved.ensures.items
-    ∙ ap (λ (xs : List ℕ). xs ++ path_id ∷ []) room in
+    let ids = c.push_reserved.ensures.items ∙ ap (λ (xs : List ℕ). xs ++ path_id ∷ []) c.in_ok-reserve-2.ensures.items in
     record {
-      long = long_more es fs ms ns name n path_id es_is ms_is long;
-      ascend = ascend_more es fs ms ns name n path_id es_is ms_is long c.args.self.now.ascend below;
+      long = rw (entries, ids) (omega (arith, length_push ms path_id, length_push es (name, n), l.long));
+      ascend = rw ids (ascends_push ms path_id l.ascend below);
       noted =
-          noted_more es fs ms ns name n path_id es_is ms_is long c.args.self.now.finder c.note_named.new.finder below
-          c.in_ok-note_named.ensures.spares c.in_ok-note_named.ensures.noted c.args.self.now.noted;
-      encoded =
-          all_more_unless es fs ms ns name n path_id es_is ms_is long c.args.self.now.held c.is_held-held.result
-          c.is_held-held.ensures c.args.self.now.encoded;
+          rw (entries, ids) (each_push (NamedNoted g) es ms name n path_id l.long
+          (noted_below l g path_id below c.note_named.ensures.spares) c.in_ok-note_named.ensures.noted);
+      encoded = λ off. let was = c.is_held-held.ensures off in
+          rw entries (each_push (λ _ m. m.published ≢ None) es ms name n path_id l.long (l.encoded was.0) was.1);
     }

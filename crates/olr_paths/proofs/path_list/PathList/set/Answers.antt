@@ -1,6 +1,5 @@
-use Rattle.std.proofs.Common.{◌≡◌, inl, inr, List, [], ◌∷◌, ◌++◌, Contains, Some, sym, ap, ◌∙◌, subst}
+use Rattle.std.proofs.Common.{◌≡◌, inl, inr, List, [], ◌∷◌, ◌++◌, Some, ap, ◌∙◌, subst}
 use Rattle.std.specs.Prelude.{map}
-use Rattle.olr_spec.specs.Queries.{CoverageQuery}
 use Rattle.olr_commands.specs.Reply.{Entry, entry}
 use Rattle.olr_commands.specs.Words.{entry_of}
 use Rattle.olr_paths.specs.Items.{Made, Item, items, made_of}
@@ -10,6 +9,7 @@ use Rattle.olr_paths.proofs.OriginLemmas.{begins_set}
 use Rattle.olr_spec.proofs.KnownLemmas.{none_known}
 use Rattle.olr_paths.proofs.GivenQueries.{searched_from_none}
 use Rattle.olr_paths.proofs.Raising.{work_up}
+use Rattle.std.proofs.lemmas.List.Elements.{Contains-append_right}
 use Rattle.olr_paths.proofs.path_list.PathList.set.Goals as goal
 
 pub returns-clause-set : goal.returns-clause-set
@@ -53,8 +53,8 @@ returns-clause-new_origins g c = λ v h.
     ∙ (λ i. map (set_item name (c.in_ok-new.ensures.ok i) (Some (made_of (c.in_ok-new-2.ensures.ok i)))) is) in
     elim (begins_set name c.args.path (Some m) is v (subst (λ (js : List Item). Begins js v) now h)) [
       | inl a ↦ inl a
-      | inr b ↦ inr (c.in_ok-note_queries.ensures.queries v
-          (subst (λ (ls : List CoverageQuery). Contains ls v) (sym c.deref.ensures.value) b))
+      | inr b ↦ inr (rw (c.in_ok-extend_from_slice.ensures.items, c.deref.ensures.value)
+          (Contains-append_right c.clear.new.self.items m.queries v b))
     ]
 
 pub returns-clause-rises : goal.returns-clause-rises

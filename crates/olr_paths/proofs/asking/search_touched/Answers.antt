@@ -3,23 +3,21 @@ use Rattle.olr_spec.specs.Detours.{Near}
 use Rattle.olr_spec.specs.Extension.{limit}
 use Rattle.olr_paths.specs.Showing.{shown_items}
 use Rattle.olr_paths.specs.declared.searches.Searches.{Searches}
-use Rattle.olr_paths.proofs.AskedLemmas.{asked_far, asked_lack, asked_searched}
-use Rattle.olr_paths.proofs.asked.search_touched.Goals as goal
-use Rattle.olr_paths.proofs.asked.search_touched.Goals.{then-is_far, else-is_far}
+use Rattle.olr_paths.proofs.AskedLemmas.{asked_far, asked_searched}
+use Rattle.olr_paths.proofs.asking.search_touched.Goals as goal
+use Rattle.olr_paths.proofs.asking.search_touched.Goals.{then-is_far, else-is_far}
 
 pub returns-then-searches : goal.returns-then-searches
 returns-then-searches g c =
     let N = g.M.MapRead.map c.args.map.now in
-    let slot = g.M.MapRead.node_slot c.args.map.now in
-    let is = shown_items c.args.overlaid in
     let s : Searches = record c.args.searches.now { far = c.if-is_far.searches } in
-    elim c.if-is_far.branch [
-      | then-is_far w ↦ asked_far N slot c.args.touched.now s is c.if-searches.true
-          (λ l b. subst (λ (T : List ℕ). ¬ Near N T l.from (min l.within limit)) c.nodes.ensures
-          (c.is_far.ensures.far w.if-is_far.true N l.from l.within c.requires.right (c.requires.sources l b)))
-      | else-is_far w ↦ asked_lack N slot c.args.touched.now s is c.if-searches.true
-          (w.is_without_queries-searches.ensures (sym w.searches-is ∙ c.if-searches.true))
-    ]
+    asked_far N (g.M.MapRead.node_slot c.args.map.now) c.args.touched.now s (shown_items c.args.overlaid)
+    c.if-searches.true
+    (elim c.if-is_far.branch [
+      | then-is_far w ↦ λ l b. subst (λ (T : List ℕ). ¬ Near N T l.from (min l.within limit)) c.nodes.ensures
+          (c.is_far.ensures.far w.if-is_far.true N l.from l.within c.requires.right (c.requires.sources l b))
+      | else-is_far w ↦ λ l b. absurd (w.is_without_queries-searches.ensures (sym w.searches-is ∙ c.if-searches.true) l b)
+    ])
 
 pub returns : goal.returns
 returns g c =

@@ -1,0 +1,7 @@
+use Rattle.std.proofs.Common.{take}
+use Rattle.olr_paths.proofs.Noting.{Noted}
+use Rattle.olr_paths.proofs.finder.note_each.Given as goal
+
+-- the numbers so far have the path id
+abbrev pub invariant-loop-item : goal.invariant-loop-item
+invariant-loop-item g l = Noted g.T.Numbered.number_of l.path_id l.initial.index l.index (take l.item-index l.items)
