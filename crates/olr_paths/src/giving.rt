@@ -14,6 +14,7 @@ ghost use Rattle.olr_paths.specs.Origins.{Begins, new_origins_in};
 
 use crate::encoding::{have_64_bits, publish};
 use crate::path_list::{NamedPath, PathList};
+use crate::published::Published;
 use crate::renewal::push_if_changed;
 use crate::searches::Searches;
 use olr_commands::Entry;
@@ -21,7 +22,29 @@ use olr_map::MapRead;
 use olr_refs::Path;
 use olr_search::Work;
 use std::alloc::{AllocError, Global};
-use std::rc::Rc;
+
+/// Encodes a path that is searched from scratch; its coverage queries are those that the last renewal made. If an
+/// allocation fails, the work may be counted in part.
+fn encode_alone<M: MapRead>(
+    alloc: Global,
+    map: &M,
+    path: &Path,
+    searches: &mut Searches,
+    work: &mut Work,
+) -> Result<Published, AllocError>
+    ensures made { IfOk result (λ p. IsEncodingOf (M.map map.now) path.now (made_of p)) }
+    ensures counted { OnOk result (work.new.encodings ≡ raised_count work.old.encodings 1) }
+    ensures searched { OnOk result ((queries : List QueryRecord) × SearchedFor (M.map map.now) path.now queries
+        × AreSearched (M.map map.now) queries work.old work.new) }
+    ensures rises { OnOk result (Rises work.old work.new) }
+    ensures new_origins { IfOk result (λ p. new_origins_in searches.new ≡ (made_of p).queries) }
+{
+    have_64_bits(work);
+    let published = publish(alloc, map, path, &[], &mut searches.query, work)?;
+    searches.new_origins.clear();
+    searches.new_origins.extend_from_slice(&published.queries)?;
+    Ok(published)
+}
 
 impl PathList {
     /// Encodes a path and appends it. The reply names it. If an allocation fails, list and work are unchanged.
@@ -47,17 +70,11 @@ impl PathList {
         ensures err { OnErr result (items self.new ≡ items self.old) }
         ensures err_work { OnErr result (work.new ≡ work.old) }
     {
-        have_64_bits(work);
         let mut tried = *work;
-        let published = publish(alloc, map, &path, &[], &mut searches.query, &mut tried)?;
-        searches.new_origins.clear();
-        searches.new_origins.extend_from_slice(&published.queries)?;
+        let published = encode_alone(alloc, map, &path, searches, &mut tried)?;
         let mut entries = Vec::with_capacity(alloc, 1)?;
         entries.push(published.entry(alloc, name.as_str())?)?;
-        let named = NamedPath {
-            path: Rc::new(alloc, path)?,
-            published: Some(Rc::new(alloc, published)?),
-        };
+        let named = NamedPath::encoded(alloc, path, published)?;
         self.put_last(name, named)?;
         *work = tried;
         Ok(entries)
@@ -90,17 +107,11 @@ impl PathList {
         ensures err { OnErr result (items self.new ≡ items self.old) }
         ensures err_work { OnErr result (work.new ≡ work.old) }
     {
-        have_64_bits(work);
         let mut tried = *work;
-        let published = publish(alloc, map, &path, &[], &mut searches.query, &mut tried)?;
-        searches.new_origins.clear();
-        searches.new_origins.extend_from_slice(&published.queries)?;
+        let published = encode_alone(alloc, map, &path, searches, &mut tried)?;
         let mut entries = Vec::new(alloc);
         push_if_changed(alloc, self, name, &published, &mut entries)?;
-        let named = NamedPath {
-            path: Rc::new(alloc, path)?,
-            published: Some(Rc::new(alloc, published)?),
-        };
+        let named = NamedPath::encoded(alloc, path, published)?;
         self.put_other(name, named)?;
         *work = tried;
         Ok(entries)

@@ -21,8 +21,23 @@ pub struct NamedPath {
 }
 
 impl NamedPath {
-    ghost use Rattle.std.specs.Prelude.{◌≡◌, IfOk, option_map};
+    ghost use Rattle.std.specs.Prelude.{◌≡◌, Some, IfOk, option_map};
     ghost use Rattle.olr_paths.specs.Items.{made_of};
+
+    /// A path with what is published of it.
+    pub(crate) fn encoded(
+        alloc: Global,
+        path: Path,
+        published: Published,
+    ) -> Result<NamedPath, AllocError>
+        ensures path { IfOk result (λ n. n.path.value ≡ path) }
+        ensures made { IfOk result (λ n. option_map (λ p. made_of p.value) n.published ≡ Some (made_of published)) }
+    {
+        Ok(NamedPath {
+            path: Rc::new(alloc, path)?,
+            published: Some(Rc::new(alloc, published)?),
+        })
+    }
 
     /// A second value that shares the path and what is published of it.
     pub(crate) fn share(&self) -> Result<NamedPath, AllocError>

@@ -1,15 +1,11 @@
 use Rattle.std.proofs.Common.{◌≡◌, inl, inr, List, [], ◌∷◌, ◌++◌, Some, Result, Ok, Err, map}
-use Rattle.std.proofs.Common.{refl, ap, ◌∙◌, subst}
+use Rattle.std.proofs.Common.{refl, ap, sym, ◌∙◌, subst}
 use Rattle.std.specs.Prelude.{string_bytes, OnErr}
 use Rattle.olr_commands.specs.Reply.{Entry, entry}
 use Rattle.olr_commands.specs.Words.{entry_of}
 use Rattle.olr_paths.specs.Items.{Made, Item, items, made_of}
 use Rattle.olr_paths.specs.Origins.{Begins}
 use Rattle.olr_paths.proofs.OriginLemmas.{begins_add}
-use Rattle.olr_spec.proofs.KnownLemmas.{none_known}
-use Rattle.olr_paths.proofs.GivenQueries.{searched_from_none}
-use Rattle.olr_paths.proofs.Raising.{work_up}
-use Rattle.std.proofs.lemmas.List.Elements.{Contains-append_right}
 use Rattle.olr_paths.proofs.path_list.PathList.add.Goals as goal
 
 so_on_err : {T E A : Type 0} (r : Result T E) → A → OnErr r A
@@ -20,37 +16,14 @@ pub returns-clause-added : goal.returns-clause-added
 returns-clause-added g c =
     let m : Made = made_of c.in_ok-published.published in
     let one = c.in_ok-entry.field-0 in
-    let is = items c.args.self.now in
     let name = string_bytes c.args.name in
     let returned : entry_of one ≡ entry name m.answer =
     c.in_ok-entry.ensures ∙ ap (λ n. entry n m.answer) c.as_str.ensures.value in (
       m,
       c.in_ok-published.ensures.made,
-      c.in_ok-put_last.ensures.ok
-          ∙ (λ i. is ++ record {
-            name = name;
-            path = c.in_ok-new.ensures.ok i;
-            made =
-                Some (made_of (c.in_ok-new-2.ensures.ok i));
-          } ∷ []),
-      ap (map entry_of) (c.in_ok-push.ensures.items ∙ ap (λ es. es ++ one ∷ []) c.in_ok-entries.ensures.items)
-          ∙ ap (λ (e : Entry). e ∷ []) returned,
+      rw (← c.in_ok-named.ensures.path, ← c.in_ok-named.ensures.made) c.in_ok-put_last.ensures.ok,
+      rw (c.in_ok-push.ensures.items, c.in_ok-entries.ensures.items) (ap (λ (e : Entry). e ∷ []) returned),
     )
-
-pub returns-clause-counted : goal.returns-clause-counted
-returns-clause-counted g c = c.in_ok-published.ensures.counted
-
-pub returns-clause-searched : goal.returns-clause-searched
-returns-clause-searched g c =
-    let s = c.in_ok-published.ensures.searched in (
-      s.0,
-      searched_from_none (g.M.MapRead.map c.args.map.now) (g.met.M.MapRead.sound c.args.map.now) c.args.path
-          c.publish.ensures.path (made_of c.in_ok-published.published) s.0 c.in_ok-published.ensures.made s.1,
-      s.2,
-    )
-
-pub publish-requires : goal.publish-requires
-publish-requires g c = record { known = none_known (g.M.MapRead.map c.args.map.now) c.args.path.lines }
 
 pub returns-in_err-put_last-clause-err_work : goal.returns-in_err-put_last-clause-err_work
 returns-in_err-put_last-clause-err_work g c = so_on_err c.from_residual-in_err-put_last.result refl
@@ -61,21 +34,8 @@ returns-clause-new_origins g c = λ v h.
     let is = items c.args.self.now in
     let j : Item = record { name = string_bytes c.args.name; path = c.args.path; made = Some m } in
     let now : items c.put_last.new.self ≡ is ++ j ∷ [] =
-    c.in_ok-put_last.ensures.ok
-    ∙ (λ i. is ++ record {
-      name = string_bytes c.args.name;
-      path = c.in_ok-new.ensures.ok i;
-      made =
-          Some (made_of (c.in_ok-new-2.ensures.ok i));
-    } ∷ []) in
+    rw (← c.in_ok-named.ensures.path, ← c.in_ok-named.ensures.made) c.in_ok-put_last.ensures.ok in
     elim (begins_add is j v (subst (λ (js : List Item). Begins js v) now h)) [
       | inl a ↦ inl a
-      | inr b ↦ inr (rw (c.in_ok-extend_from_slice.ensures.items, c.deref.ensures.value)
-          (Contains-append_right c.clear.new.self.items m.queries v b))
+      | inr b ↦ inr (rw c.in_ok-published.ensures.new_origins b)
     ]
-
-pub returns-clause-rises : goal.returns-clause-rises
-returns-clause-rises g c =
-    let s = c.in_ok-published.ensures.searched in
-    work_up (g.M.MapRead.map c.args.map.now) s.0 1 c.args.work.now c.publish.new.work c.have_64_bits.ensures
-    c.in_ok-published.ensures.counted s.2
