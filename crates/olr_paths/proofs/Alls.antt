@@ -1,6 +1,8 @@
 -- What is true of each element, as far as a loop has run.
-use Rattle.std.proofs.Common.{ℕ, ◌+◌, ◌<◌, List, take, length, get_or, All, sym, subst}
-use Rattle.std.proofs.lemmas.List.{take_more}
+use Rattle.std.proofs.Common.{◌≡◌, ℕ, ◌+◌, ◌<◌, List, ◌∷◌, take, drop, length, get_or, slice_get, Some, All, sym, ap, ◌∙◌}
+use Rattle.std.proofs.Common.{subst}
+use Rattle.std.proofs.lemmas.List.{take_more, drop_more}
+use Rattle.std.proofs.lemmas.Option.{slice_get_within, get_or_from_slice_get}
 use Rattle.std.proofs.lemmas.List.Elements.{All-push}
 
 -- of the first k, and of one more
@@ -8,3 +10,8 @@ pub all_more : {X : Type 0} (P : X → Type 0) (xs : List X) (k : ℕ) (d : X) �
     P (get_or xs k d) → All P (take (k + 1) xs)
 all_more P xs k d lt h p =
     subst (λ ys. All P ys) (sym (take_more xs k d lt)) (All-push P (take k xs) (get_or xs k d) h p)
+
+-- the elements from the one at index k on
+pub drop_at : {X : Type 0} (xs : List X) (k : ℕ) (x : X) → slice_get xs k ≡ Some x → drop k xs ≡ x ∷ drop (k + 1) xs
+drop_at xs k x at = drop_more xs k x (slice_get_within xs k x at) ∙ ap (λ y. y ∷ drop (k + 1) xs)
+    (get_or_from_slice_get xs k x x at)

@@ -12,7 +12,6 @@ use Rattle.olr_paths.specs.Items.{Made, Item, all_named}
 use Rattle.olr_paths.specs.Changes.{Reported}
 use Rattle.olr_paths.specs.Laying.{Changes, TakesNone, change_at, drops, under_change, under_changes}
 use Rattle.olr_paths.specs.Renewing.{Put, put, all_put}
-use Rattle.std.proofs.lemmas.Bool.{cases_Bool}
 use Rattle.std.proofs.lemmas.List.{map-append}
 use Rattle.olr_spec.proofs.ListLemmas.{take_more_at}
 use Rattle.std.specs.Prelude.{String, string_bytes}
@@ -154,17 +153,13 @@ put_on_overlaid cs before is ys ps es keeps returned =
 
 has_one : (i : Item) (L : List Item) (name : List ℕ) →
     has_name (i ∷ L) name ≡ cond (same_name i.name name) true (has_name L name)
-has_one i L name =
-    elim (same_name i.name name) as (λ b. is_some (cond b (Some i.path) (path_named (all_named L) name))
-    ≡ cond b true (has_name L name)) [ true ↦ refl | false ↦ refl ]
+has_one i L name = grind arith
 
 names_of_both : (us vs : List Item) (name : List ℕ) → Lies us vs → has_name us name ≡ has_name vs name
 names_of_both [] vs name h = ap (λ (js : List Item). has_name js name) (sym h)
 names_of_both (a ∷ us) [] name h = absurd h
 names_of_both (a ∷ us) (b ∷ vs) name h =
-    has_one a us name
-    ∙ (λ i. cond (same_name (h.0 i) name) true (names_of_both us vs name h.2 i))
-    ∙ sym (has_one b vs name)
+    rw (has_one a us name, h.0, names_of_both us vs name h.2) (sym (has_one b vs name))
 
 pub lies_differ : (us vs : List Item) → Lies us vs → NamesDiffer (all_named vs) → NamesDiffer (all_named us)
 lies_differ [] vs h d = tt
@@ -181,17 +176,7 @@ grown_differ cs is ys keeps d = lies_differ (is ++ ys) (under_changes cs is ++ y
 pub change_push : (cs : Changes) (c : List ℕ × Option Path) (name : List ℕ) → change_at cs name ≡ None →
     same_name c.0 name ≡ false → change_at (cs ++ c ∷ []) name ≡ None
 change_push [] c name none other = ap (λ (b : Bool). cond b (Some c.1) None) other
-change_push (d ∷ cs) c name none other =
-    elim (cases_Bool (same_name d.0 name)) [
-      | inl h ↦
-          let here : change_at (d ∷ cs) name ≡ Some d.1 = ap (λ (b : Bool). cond b (Some d.1) (change_at cs name)) h in
-          let never : ⊥ = cc (here, none) in absurd never
-      | inr h ↦
-          let past : change_at (d ∷ cs) name ≡ change_at cs name =
-          ap (λ (b : Bool). cond b (Some d.1) (change_at cs name)) h in
-          ap (λ (b : Bool). cond b (Some d.1) (change_at (cs ++ c ∷ []) name)) h
-          ∙ change_push cs c name (sym past ∙ none) other
-    ]
+change_push (d ∷ cs) c name none other = grind (arith, change_push cs c name)
 
 pub take_more_changes : (es : Entered) (k : ℕ) (e : String Global × Option (Rc Path Global)) → slice_get es k ≡ Some e →
     changes_in (take (k + 1) es) ≡ changes_in (take k es) ++ (string_bytes e.0, path_in e.1) ∷ []
@@ -215,30 +200,15 @@ stays_so (Some p) h = refl
 
 pub others_keep : (es : Entered) → AreOthers es → TakesNone (changes_in es)
 others_keep [] h name = refl
-others_keep (e ∷ es) h name =
-    elim (same_name (string_bytes e.0) name) as (λ b.
-    drops (cond b (Some (path_in e.1)) (change_at (changes_in es) name)) ≡ false) [
-      | true ↦ stays_so e.1 h.0
-      | false ↦
-          others_keep es h.1 name
-    ]
+others_keep (e ∷ es) h name = grind (arith, stays_so e.1 h.0, others_keep es h.1 name)
 
 -- ---- the position of a name
 
 there_named : (is : List Item) (k : ℕ) (i : Item) (name : List ℕ) → slice_get is k ≡ Some i →
     same_name i.name name ≡ true → has_name is name ≡ true
 there_named [] k i name at same = let never : ⊥ = cc (at) in absurd never
-there_named (x ∷ is) zero i name at same =
-    let e : x ≡ i = cc (at) in
-    has_one x is name ∙ ap (λ (b : Bool). cond b true (has_name is name))
-    (ap (λ (j : Item). same_name j.name name) e ∙ same)
-there_named (x ∷ is) (suc k) i name at same =
-    has_one x is name ∙ ap (λ (b : Bool). cond (same_name x.name name) true b) (there_named is k i name at same)
-    ∙ both_true (same_name x.name name)
-  where
-    both_true : (b : Bool) → cond b true true ≡ true
-    both_true true = refl
-    both_true false = refl
+there_named (x ∷ is) zero i name at same = let e : x ≡ i = cc (at) in grind (arith, has_one x is name)
+there_named (x ∷ is) (suc k) i name at same = grind (arith, has_one x is name, there_named is k i name at same)
 
 -- the first path of a name is the only one
 pub first_only : (es : Entries) (name : List ℕ) (q k : ℕ) (i : Item) → First name es q →
@@ -262,11 +232,7 @@ first_only (e ∷ es) name (suc q) (suc k) i h d at same = ap suc (first_only es
 pub not_there : (es : Entries) (name : List ℕ) (k : ℕ) (i : Item) →
     is_some (path_named (all_named (items_of es)) name) ≡ false → slice_get (items_of es) k ≡ Some i →
     same_name i.name name ≡ false
-not_there es name k i free at =
-    elim (cases_Bool (same_name i.name name)) [
-      | inl on ↦ let never : true ≡ false = sym (there_named (items_of es) k i name at on) ∙ free in absurd cc
-      | inr other ↦ other
-    ]
+not_there es name k i free at = grind (arith, there_named (items_of es) k i name at)
 
 -- ---- if nothing changes, no path is removed
 

@@ -4,7 +4,6 @@ use Rattle.std.proofs.Common.{All, List, [], ◌∷◌, ◌++◌, take, length, 
 use Rattle.std.proofs.Common.{refl, sym, ap, ◌∙◌, subst, append_assoc, arith, min}
 use Rattle.std.specs.List.Sorted.{IsNonDecreasing}
 use Rattle.std.proofs.lemmas.Bool.{cases_Bool, cases_lt, or_left, eq-eqb}
-use Rattle.std.proofs.lemmas.List.{take_all}
 use Rattle.std.proofs.Math.Bool.{or-false}
 use Rattle.std.proofs.lemmas.List.Elements.{All-contains}
 use Rattle.std.proofs.lemmas.Option.{slice_get_within}
@@ -86,19 +85,6 @@ pub record Ranged (from to : ℕ) (old now : List ℕ) : Type 0 where
   pub kept : Includes old now
   pub put : (k : ℕ) → from ≤ k → k < to → IsTrue (has now k)
 
-pub ranged_none : (from : ℕ) (old : List ℕ) → Ranged from from old old
-ranged_none from old = record { kept = λ k on. on; put = λ k low high. absurd (omega arith) }
-
-pub ranged_more : (from to : ℕ) (old now : List ℕ) → Ranged from to old now → Ranged from (to + 1) old (now ++ to ∷ [])
-ranged_more from to old now h =
-    record {
-      kept = λ k on. pushed_kept now to k (h.kept k on);
-      put = λ k low high. elim (cases_lt k to) [
-        | inl under ↦ pushed_kept now to k (h.put k low under)
-        | inr over ↦ pushed_there now to k (omega arith)
-      ];
-    }
-
 -- ---- positions by numbers of nodes or lines
 
 pub record PutAll {A : Type 0} (number : A → ℕ) (path_ids : List ℕ) (index : Index) (xs : List A) (old now : List ℕ) :
@@ -108,9 +94,6 @@ pub record PutAll {A : Type 0} (number : A → ℕ) (path_ids : List ℕ) (index
   pub put : All (λ x. Finds path_ids index (number x) now) xs
 
 module _ {A : Type 0} (number : A → ℕ) (path_ids : List ℕ) (index : Index) (old : List ℕ) where
-  pub put_all_none : PutAll number path_ids index [] old old
-  put_all_none = record { kept = λ k on. on; put = λ k d lt. absurd (omega arith) }
-
   pub put_all_more : (xs : List A) (k : ℕ) (d : A) (v : ℕ) (of now new : List ℕ) → k < length xs →
       v ≡ number (get_or xs k d) → of ≡ path_ids_of index v → PutAll number path_ids index (take k xs) old now
       → Includes now new → ((j : ℕ) → j < length path_ids → IsTrue (has of (get_or path_ids j 0)) → IsTrue (has new j))
@@ -125,10 +108,6 @@ module _ {A : Type 0} (number : A → ℕ) (path_ids : List ℕ) (index : Index)
         put = all_more P xs k d lt (λ i e low j below on. kept j (h.put i e low j below on))
             (subst (λ (u : ℕ). Finds path_ids index u new) is one);
       }
-
-  pub put_all_end : (xs : List A) (k : ℕ) (now : List ℕ) → length xs ≤ k →
-      PutAll number path_ids index (take k xs) old now → All (λ x. Finds path_ids index (number x) now) xs
-  put_all_end xs k now end h = subst (λ ys. All (λ x. Finds path_ids index (number x) now) ys) (take_all k xs end) h.put
 
 pub found_grown : {A : Type 0} (number : A → ℕ) (path_ids : List ℕ) (index : Index) (xs : List A) (old now : List ℕ) →
     Includes old now → All (λ x. Finds path_ids index (number x) old) xs →

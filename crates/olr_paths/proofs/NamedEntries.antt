@@ -1,5 +1,5 @@
 -- A map's entries as a list of named paths: lookups, edits, and that no name occurs twice.
-use Rattle.std.proofs.Common.{inl, inr, ◌≡◌, ℕ, zero, suc, ◌<◌, length, get_or, subst, arith, Bool, true, false, not, cond, if◌then◌else◌, List, [], ◌∷◌}
+use Rattle.std.proofs.Common.{inl, inr, ◌≡◌, ℕ, zero, suc, ◌<◌, length, get_or, subst, arith, Bool, true, false, not, List, [], ◌∷◌}
 use Rattle.std.proofs.Common.{map, slice_get, Option, Some, None, is_some, refl, sym, ap}
 use Rattle.std.proofs.Common.{◌∙◌}
 use Rattle.std.proofs.lemmas.Option.{slice_get-map}
@@ -52,35 +52,19 @@ same_flip a b = elim (cases_Bool (same_name a b)) [
 pub looked_up : (es : Entries) (name : List ℕ) →
     made_in (items_of es) name ≡ option_and_then made_of_named (lookup (asks name) es)
 looked_up [] name = refl
-looked_up (e ∷ es) name =
-    ap (λ (b : Bool). if b then made_of_named e.1 else made_in (items_of es) name) (same_flip (string_bytes e.0) name)
-    ∙ elim (asks name e.0) as (λ b. (if b then made_of_named e.1 else made_in (items_of es) name)
-    ≡ option_and_then made_of_named (cond b (Some e.1) (lookup (asks name) es))) [
-      | true ↦ refl
-      | false ↦ looked_up es name
-    ]
+looked_up (e ∷ es) name = grind (arith, looked_up es name, same_flip (string_bytes e.0) name)
 
 pub named_there : (es : Entries) (name : List ℕ) →
     is_some (lookup (asks name) es) ≡ is_some (path_named (all_named (items_of es)) name)
 named_there [] name = refl
-named_there (e ∷ es) name =
-    elim (asks name e.0) as (λ b. is_some (cond b (Some e.1) (lookup (asks name) es))
-    ≡ is_some (cond b (Some e.1.path.value) (path_named (all_named (items_of es)) name))) [
-      | true ↦ refl
-      | false ↦ named_there es name
-    ]
-    ∙ ap (λ (b : Bool). is_some (cond b (Some e.1.path.value) (path_named (all_named (items_of es)) name)))
-    (same_flip name (string_bytes e.0))
+named_there (e ∷ es) name = grind (arith, named_there es name, same_flip (string_bytes e.0) name)
 
 -- ---- no name occurs twice
 
 others_named : (k : String Global) (es : Entries) → AllByRecursion (λ y. string_eq k y ≡ false) (keys_of es) →
     is_some (path_named (all_named (items_of es)) (string_bytes k)) ≡ false
 others_named k [] h = refl
-others_named k (e ∷ es) h =
-    ap (λ (b : Bool). is_some (cond b (Some e.1.path.value) (path_named (all_named (items_of es)) (string_bytes k))))
-    (flipped (string_bytes k) (string_bytes e.0) h.0)
-    ∙ others_named k es h.1
+others_named k (e ∷ es) h = rw (flipped (string_bytes k) (string_bytes e.0) h.0) (others_named k es h.1)
 
 pub names_differ : (es : Entries) → IsDistinct string_eq (keys_of es) → NamesDiffer (all_named (items_of es))
 unfolding IsDistinct
@@ -95,29 +79,17 @@ absent is name = is_some (path_named (all_named is) name) ≡ false
 
 pub not_here : (i : Item) (is : List Item) (name : List ℕ) → absent (i ∷ is) name → (same_name i.name name ≡ false)
     × absent is name
-not_here i is name h =
-    elim (same_name i.name name) as (λ b. is_some (cond b (Some i.path) (path_named (all_named is) name)) ≡ false →
-    (b ≡ false) × absent is name) [
-      | true ↦ λ e. absurd cc
-      | false ↦ λ e. (refl, e)
-    ] h
+not_here i is name h = grind arith
 
 pub keeps_all : (is : List Item) (name : List ℕ) → absent is name → filter (λ i. not (same_name i.name name)) is ≡ is
 keeps_all [] name h = refl
-keeps_all (i ∷ is) name h =
-    let r = not_here i is name h in
-    ap (λ (b : Bool). cond (not b) (i ∷ filter (λ j. not (same_name j.name name)) is)
-    (filter (λ j. not (same_name j.name name)) is)) r.0
-    ∙ ap (λ (js : List Item). i ∷ js) (keeps_all is name r.1)
+keeps_all (i ∷ is) name h = let r = not_here i is name h in rw r.0 (ap (λ (js : List Item). i ∷ js) (keeps_all is name r.1))
 
 pub sets_none : (is : List Item) (name : List ℕ) (path : Path) (made : Option Made) → absent is name →
     map (set_item name path made) is ≡ is
 sets_none [] name path made h = refl
 sets_none (i ∷ is) name path made h =
-    let r = not_here i is name h in
-    ap (λ (b : Bool). (if b then record { name = i.name; path = path; made = made } else i) ∷ map
-    (set_item name path made) is) r.0
-    ∙ ap (λ (js : List Item). i ∷ js) (sets_none is name path made r.1)
+    let r = not_here i is name h in rw r.0 (ap (λ (js : List Item). i ∷ js) (sets_none is name path made r.1))
 
 -- the entry at p is the first of its name
 abbrev pub First : List ℕ → Entries → ℕ → Type 0
@@ -173,15 +145,11 @@ set_absent es name n h =
 
 pub named_at : (es : Entries) (k : ℕ) (e : String Global × NamedPath) → slice_get es k ≡ Some e →
     slice_get (map (λ i. i.name) (items_of es)) k ≡ Some (string_bytes e.0)
-named_at es k e h =
-    slice_get-map (λ i. i.name) (items_of es) k ∙ ap (option_map (λ (i : Item). i.name)) (slice_get-map item_of es k)
-    ∙ ap (λ (o : Option (String Global × NamedPath)). option_map (λ (i : Item). i.name) (option_map item_of o)) h
+named_at es k e h = rw (slice_get-map (λ (i : Item). i.name) (items_of es) k, slice_get-map item_of es k, h) refl
 
 pub path_at : (es : Entries) (k : ℕ) (e : String Global × NamedPath) → slice_get es k ≡ Some e →
     slice_get (all_named (items_of es)) k ≡ Some (record { name = string_bytes e.0; path = e.1.path.value })
-path_at es k e h =
-    slice_get-map named_of (items_of es) k ∙ ap (option_map named_of) (slice_get-map item_of es k)
-    ∙ ap (λ (o : Option (String Global × NamedPath)). option_map named_of (option_map item_of o)) h
+path_at es k e h = rw (slice_get-map named_of (items_of es) k, slice_get-map item_of es k, h) refl
 
 pub published_absent : (es : Entries) (name : List ℕ) → lookup (asks name) es ≡ None → made_in (items_of es) name ≡ None
 published_absent es name h = looked_up es name ∙ ap (option_and_then made_of_named) h
@@ -196,14 +164,7 @@ path_of_entry n = n.path.value
 pub paths_named : (es : Entries) (name : List ℕ) →
     path_named (all_named (items_of es)) name ≡ option_map path_of_entry (lookup (asks name) es)
 paths_named [] name = refl
-paths_named (e ∷ es) name =
-    ap (λ (b : Bool). cond b (Some e.1.path.value) (path_named (all_named (items_of es)) name))
-    (sym (same_flip name (string_bytes e.0)))
-    ∙ elim (asks name e.0) as (λ b. cond b (Some e.1.path.value) (path_named (all_named (items_of es)) name)
-    ≡ option_map path_of_entry (cond b (Some e.1) (lookup (asks name) es))) [
-      | true ↦ refl
-      | false ↦ paths_named es name
-    ]
+paths_named (e ∷ es) name = grind (arith, paths_named es name, same_flip (string_bytes e.0) name)
 
 -- the item of an entry
 pub item_at : (es : Entries) (k : ℕ) (e : String Global × NamedPath) → slice_get es k ≡ Some e →

@@ -1,8 +1,7 @@
 -- Results to be stored at positions, with index entries for their path ids.
 use Rattle.std.proofs.Common.{inl, inr, ◌≡◌, ℕ, zero, suc, ◌+◌, ◌<◌, List, [], ◌∷◌, take, length, get_or}
-use Rattle.std.proofs.Common.{slice_get, Option, Some, None, false, Result, Ok, Err, IsTrue, refl, sym, ap, ◌∙◌}
-use Rattle.std.specs.Prelude.{String, option_map, OnOk, OnErr}
-use Rattle.std.specs.Result.{is_err}
+use Rattle.std.proofs.Common.{slice_get, Option, Some, None, Result, Ok, Err, IsTrue, refl, sym, ap, ◌∙◌}
+use Rattle.std.specs.Prelude.{String, option_map, OnErr}
 use Rattle.std.specs.declared.alloc.Global.{Global}
 use Rattle.std.specs.declared.rc.Rc.{Rc}
 use Rattle.std.proofs.lemmas.List.Elements.{All-contains}
@@ -99,10 +98,6 @@ all_same es fs same h k e at = λ none.
     none_published (Some p) h = let never : ⊥ = cc (h) in absurd never
 
 -- ---- results
-
-pub unless_err : {A E P : Type 0} (r : Result A E) → is_err r ≡ false → OnOk r P → P
-unless_err (Ok a) h p = p
-unless_err (Err e) h p = absurd cc
 
 pub where_err : {A E P : Type 0} (r : Result A E) → P → OnErr r P
 where_err (Ok a) p = tt

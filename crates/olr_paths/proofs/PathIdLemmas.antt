@@ -3,7 +3,7 @@
 use Rattle.std.proofs.Common.{inl, inr, ◌≡◌, ◌≢◌, ℕ, zero, suc, ◌<◌, Bool, false, not, ◌&&◌, List}
 use Rattle.std.proofs.Common.{[], ◌∷◌, ◌++◌, take, length, get_or, slice_get, Some, Result, Ok, Err, ◌-◌, ◌+◌}
 use Rattle.std.proofs.Common.{refl, sym, ap, ◌∙◌, subst, arith}
-use Rattle.std.specs.Prelude.{String, string_bytes, if◌then◌else◌}
+use Rattle.std.specs.Prelude.{String, string_bytes}
 use Rattle.std.specs.List.{remove}
 use Rattle.std.specs.List.Sorted.{IsStrictlyIncreasing, IsBinarySearchResult}
 use Rattle.std.specs.Ordering.{nat_cmp}
@@ -211,9 +211,7 @@ pub insert_last : (es : Entries) (key : String Global) (n : NamedPath) → absen
 insert_last [] key n h = refl
 insert_last (e ∷ es) key n h =
     let r = not_here (item_of e) (items_of es) (string_bytes key) h in
-    ap (λ (b : Bool). if b then (e.0, n) ∷ es else e ∷ insert_entry string_eq es key n)
-    (flipped (string_bytes e.0) (string_bytes key) r.0)
-    ∙ ap (λ (ys : Entries). e ∷ ys) (insert_last es key n r.1)
+    rw (flipped (string_bytes e.0) (string_bytes key) r.0) (ap (λ (ys : Entries). e ∷ ys) (insert_last es key n r.1))
 
 -- ---- a list without its last paths
 

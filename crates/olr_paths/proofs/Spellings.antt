@@ -1,6 +1,6 @@
 -- The text that is stored with an answer is the one that is published.
 use Rattle.std.proofs.Common.{◌≡◌, ℕ, Bool, List, Bor, IsTrue, Option, Some, None, sym, ap, ◌∙◌, subst}
-use Rattle.std.specs.Prelude.{String, option_map, string_bytes}
+use Rattle.std.specs.Prelude.{option_map}
 use Rattle.std.specs.Option.{option_eq}
 use Rattle.std.specs.Str.{bytes_eq}
 use Rattle.olr_spec.specs.Bytes.{IsReference}
@@ -8,26 +8,9 @@ use Rattle.olr_spec.specs.Encoding as spec
 use Rattle.olr_binary.proofs.TextLemmas.{one_reference}
 use lib.Pointwise.{bytes_decides}
 use Rattle.std.specs.Result.{result_ok}
-use Rattle.std.specs.declared.alloc.Global.{Global}
 use Rattle.olr_spec.specs.Reference.{Reference}
 use Rattle.olr_binary.specs.Text.{IsTextOf, text_of}
 use Rattle.olr_commands.specs.Reply.{published_text}
-use Rattle.olr_refs.specs.Answers.{answer_of}
-use Rattle.olr_refs.specs.declared.answer.Answer.{Answer}
-use Rattle.olr_refs.specs.declared.answer.Answer.TheVariants.{Points, Refused}
-use Rattle.olr_refs.specs.declared.answer.Refusal.{Refusal}
-
-pub encoded_points : (answer : Answer) (r : Reference) (text : Option (String Global)) (t : String Global) →
-    answer ≡ Points r → text ≡ Some t → IsTextOf r (string_bytes t) →
-    option_map string_bytes text ≡ result_ok (published_text (answer_of answer))
-encoded_points answer r text t is kept h =
-    ap (option_map string_bytes) kept ∙ ap Some h.1
-    ∙ sym (ap (λ (a : Answer). result_ok (published_text (answer_of a))) is)
-
-pub encoded_refused : (answer : Answer) (f : Refusal) (text : Option (String Global)) → answer ≡ Refused f →
-    text ≡ None → option_map string_bytes text ≡ result_ok (published_text (answer_of answer))
-encoded_refused answer f text is kept =
-    ap (option_map string_bytes) kept ∙ sym (ap (λ (a : Answer). result_ok (published_text (answer_of a))) is)
 
 -- ---- two texts
 

@@ -1,6 +1,4 @@
-use Rattle.std.proofs.Common.{◌≡◌, ◌++◌, ◌∷◌, [], ◌∙◌, ℕ, List, Option, String, Global, take, refl, false, sym, subst}
-use Rattle.std.proofs.Common.{arith}
-use Rattle.std.proofs.lemmas.List.{take_all}
+use Rattle.std.proofs.Common.{◌≡◌, ◌++◌, ◌∷◌, [], ◌∙◌, ℕ, List, Option, String, Global, take, false, sym, subst}
 use Rattle.std.specs.Prelude.{string_bytes}
 use Rattle.olr_spec.specs.Map.{has}
 use Rattle.olr_commands.specs.State.{same_name}
@@ -14,9 +12,6 @@ use Rattle.olr_paths.proofs.Overlaying.{Entered}
 use Rattle.olr_paths.proofs.Changed.{take_more_changes, not_there}
 use Rattle.olr_paths.proofs.Covering.{pushed_kept, changed_more, others_apart}
 use Rattle.olr_paths.proofs.candidates.put_changed.Goals as goal
-
-pub loop-k-init : goal.loop-k-init
-loop-k-init c = ((λ k on. on), (λ k i at off. refl))
 
 pub loop-k-preserved-in_default-get_index_of : goal.loop-k-preserved-in_default-get_index_of
 loop-k-preserved-in_default-get_index_of c =
@@ -60,12 +55,3 @@ loop-k-preserved c =
           (others_apart es name q old first c.len-names.ensures.names k i there
           (subst (λ (xs : List ℕ). has xs k ≡ false) put off)))),
     )
-
-pub returns-clause-kept : goal.returns-clause-kept
-returns-clause-kept c = c.loop-k.invariant.0
-
-pub returns-clause-put : goal.returns-clause-put
-returns-clause-put c =
-    let cs : Entered = c.args.overlaid.overlay.now.changes.entries in
-    subst (λ (ds : Entered). FindsChanged (changes_in ds) (items c.args.overlaid.list.now) c.loop-k.found.items)
-    (take_all c.loop-k.k cs (omega (arith, c.loop-k-test.false, c.len-k-end.ensures.len))) c.loop-k.invariant.1

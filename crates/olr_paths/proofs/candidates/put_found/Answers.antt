@@ -1,9 +1,6 @@
 use Rattle.std.proofs.Common.{◌∙◌, ap}
-use Rattle.olr_paths.proofs.Covering.{put_all_none, put_all_more, put_all_end}
+use Rattle.olr_paths.proofs.Covering.{put_all_more}
 use Rattle.olr_paths.proofs.candidates.put_found.Goals as goal
-
-pub loop-item-init : goal.loop-item-init
-loop-item-init g c = put_all_none g.T.Numbered.number_of c.args.path_ids.now c.args.index.now c.args.found.now.items
 
 pub loop-item-preserved : goal.loop-item-preserved
 loop-item-preserved g c =
@@ -12,11 +9,3 @@ loop-item-preserved g c =
     c.put_positions.new.found.items c.loop-item-test.true
     (c.index_number.ensures ∙ ap g.T.Numbered.number_of c.item-item.is) c.of.ensures.path_ids
     c.loop-item.invariant c.in_ok-put_positions.ensures.kept c.in_ok-put_positions.ensures.put
-
-pub returns-clause-kept : goal.returns-clause-kept
-returns-clause-kept g c = c.loop-item.invariant.kept
-
-pub returns-clause-put : goal.returns-clause-put
-returns-clause-put g c =
-    put_all_end g.T.Numbered.number_of c.args.path_ids.now c.args.index.now c.args.found.now.items c.args.items.now
-    c.loop-item.item-index c.loop-item.found.items c.loop-item-test.false c.loop-item.invariant

@@ -4,7 +4,6 @@ use Rattle.std.proofs.lemmas.Option.{slice_get_within}
 use Rattle.olr_spec.specs.Map.{has}
 use Rattle.olr_paths.specs.Items.{items}
 use Rattle.olr_paths.proofs.NamedEntries.{item_of}
-use Rattle.olr_paths.proofs.Covering.{covers_grown}
 use Rattle.olr_paths.proofs.candidates.put_listed.Goals as goal
 
 pub returns-then-overlaid-clause-changed : goal.returns-then-overlaid-clause-changed
@@ -22,12 +21,3 @@ returns-then-overlaid-clause-asked g c = λ k i at off asked.
     let lt = slice_get_within (items c.args.overlaid.list.now) k i at in
     let on : has c.put_range.new.found.items k ≡ true = c.in_ok-put_range.ensures.put k (omega arith) (omega arith) in
     let never : true ≡ false = sym on ∙ off in absurd cc
-
-pub returns-clause-changed : goal.returns-clause-changed
-returns-clause-changed g c = c.in_ok-put_changed.ensures.put
-
-pub returns-clause-asked : goal.returns-clause-asked
-returns-clause-asked g c =
-    covers_grown (g.M.MapRead.map c.args.map.now) (g.M.MapRead.node_slot c.args.map.now) c.args.touched.now
-    c.args.searches.now (items c.args.overlaid.list.now) c.put_touched.new.found.items c.put_changed.new.found.items
-    c.in_ok-put_changed.ensures.kept c.in_ok-put_touched.ensures

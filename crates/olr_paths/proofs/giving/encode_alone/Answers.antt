@@ -1,13 +1,7 @@
-use Rattle.std.proofs.Common.{◌≡◌, List, [], ◌++◌, ap, ◌∙◌}
-use Rattle.olr_spec.specs.Queries.{CoverageQuery}
-use Rattle.olr_spec.proofs.KnownLemmas.{none_known}
 use Rattle.olr_paths.specs.Items.{made_of}
 use Rattle.olr_paths.proofs.GivenQueries.{searched_from_none}
 use Rattle.olr_paths.proofs.Raising.{work_up}
 use Rattle.olr_paths.proofs.giving.encode_alone.Goals as goal
-
-pub publish-requires : goal.publish-requires
-publish-requires g c = record { known = none_known (g.M.MapRead.map c.args.map.now) c.args.path.now.lines }
 
 pub returns-clause-searched : goal.returns-clause-searched
 returns-clause-searched g c =
@@ -23,8 +17,3 @@ returns-clause-rises g c =
     let s = c.in_ok-published.ensures.searched in
     work_up (g.M.MapRead.map c.args.map.now) s.0 1 c.args.work.now c.publish.new.work c.have_64_bits.ensures
     c.in_ok-published.ensures.counted s.2
-
-pub returns-clause-new_origins : goal.returns-clause-new_origins
-returns-clause-new_origins g c =
-    c.in_ok-extend_from_slice.ensures.items
-    ∙ (λ i. c.clear.ensures.items i ++ c.deref.ensures.value i)

@@ -1,42 +1,51 @@
-use Rattle.std.proofs.Common.{◌≡◌, ◌∷◌, [], ◌++◌, ◌∙◌, ℕ, List, Some, slice_get, refl, ap, sym, subst}
+use Rattle.std.proofs.Common.{[], ◌++◌, ◌≤◌, ◌∙◌, List, length, refl, ap, sym, arith}
+use Rattle.std.proofs.Common.{append-nil}
+use Rattle.std.proofs.lemmas.List.{length-map, drop_all, take_at}
 use Rattle.olr_paths.specs.Items.{Item, items}
-use Rattle.olr_paths.specs.Renewing as renewing
-use Rattle.olr_paths.specs.Laying.{under_change, change_at, changes_in}
-use Rattle.olr_paths.proofs.NamedEntries.{item_of, item_at, absent}
-use Rattle.olr_paths.proofs.Overlaying.{put_free, overlaid_more, take_first}
+use Rattle.olr_paths.specs.Laying.{under_changes, changes_in}
+use Rattle.olr_paths.proofs.NamedEntries.{item_of, item_at}
+use Rattle.olr_paths.proofs.Overlaying.{put_free, copied_more}
 use Rattle.olr_paths.proofs.overlay.put_behind.Goals as goal
 
 pub put_one-requires : goal.put_one-requires
 put_one-requires c =
     λ j one.
     let cs = changes_in c.args.changes.now.entries in
-    let is = items c.args.list.now in
     let named = c.in-Some.named.now in
     let i : Item = item_of (c.in-Some.name.now, named) in
-    let at : slice_get is c.loop-k.k ≡ Some i =
-    item_at c.args.list.now.paths.entries c.loop-k.k (c.in-Some.name.now, named) (sym c.in-Some.ensures.entry) in
-    subst (λ (q : List ℕ). absent (items c.loop-k.to) q) (sym c.as_str.ensures.value)
-    (put_free cs is (items c.args.to.now) c.loop-k.k i at (items c.loop-k.to) named j c.loop-k.invariant
-    (subst (λ (q : List ℕ). under_change (change_at cs q) (renewing.item_of q named) ≡ j ∷ []) c.as_str.ensures.value
-    one) refl c.requires)
+    let at = item_at c.args.list.now.paths.entries c.loop-k.k (c.in-Some.name.now, named) (sym c.in-Some.ensures.entry) in
+    rw c.as_str.ensures.value (put_free cs (items c.args.list.now) (items c.args.to.now) (items c.loop-k.to) c.loop-k.k
+    c.loop-k.invariant i at named j (rw c.as_str.ensures.value at one) refl c.requires)
+
+pub loop-k-init : goal.loop-k-init
+loop-k-init c = record { done = []; put = sym (append-nil (items c.args.to.now)); rest = refl }
 
 pub loop-k-preserved : goal.loop-k-preserved
 loop-k-preserved c =
     let cs = changes_in c.args.changes.now.entries in
-    let is = items c.args.list.now in
     let named = c.in-Some.named.now in
     let i : Item = item_of (c.in-Some.name.now, named) in
-    let at : slice_get is c.loop-k.k ≡ Some i =
-    item_at c.args.list.now.paths.entries c.loop-k.k (c.in-Some.name.now, named) (sym c.in-Some.ensures.entry) in
-    c.in_ok-put_one.ensures.ok
-    ∙ ap (λ (q : List ℕ). items c.loop-k.to ++ under_change (change_at cs q) (renewing.item_of q named))
-    c.as_str.ensures.value
-    ∙ ap (λ (js : List Item). js ++ under_change (change_at cs i.name) i) c.loop-k.invariant
-    ∙ sym (overlaid_more cs is (items c.args.to.now) c.loop-k.k i at)
+    let at = item_at c.args.list.now.paths.entries c.loop-k.k (c.in-Some.name.now, named) (sym c.in-Some.ensures.entry) in
+    copied_more cs (items c.args.list.now) (items c.args.to.now) (items c.loop-k.to) c.loop-k.k c.loop-k.invariant i at
+    (items c.put_one.new.to) (rw c.as_str.ensures.value at c.in_ok-put_one.ensures.ok)
+
+pub returns-clause-put : goal.returns-clause-put
+returns-clause-put c =
+    let h = c.loop-k.invariant in
+    let is = items c.args.list.now in
+    let past : length is ≤ c.loop-k.k =
+    omega (arith, length-map c.args.list.now.paths.entries item_of, c.loop-k-test.false, c.len-k-end.ensures.len) in
+    h.put ∙ ap (λ (js : List Item). items c.args.to.now ++ js)
+    (sym (append-nil h.done)
+    ∙ ap (λ (js : List Item). h.done ++ under_changes (changes_in c.args.changes.now.entries) js)
+    (sym (drop_all c.loop-k.k is past)) ∙ h.rest)
 
 pub returns-in_err-put_one-clause-before : goal.returns-in_err-put_one-clause-before
 returns-in_err-put_one-clause-before c =
-    take_first (items c.args.to.now) _ (items c.put_one.new.to) (c.in_err-put_one.ensures.err ∙ c.loop-k.invariant)
+    let to = items c.args.to.now in
+    rw (c.in_err-put_one.ensures.err, c.loop-k.invariant.put) (take_at to c.loop-k.invariant.done (length to) refl)
 
 pub returns-clause-before : goal.returns-clause-before
-returns-clause-before c = take_first (items c.args.to.now) _ (items c.loop-k.to) c.loop-k.invariant
+returns-clause-before c =
+    let to = items c.args.to.now in
+    rw c.loop-k.invariant.put (take_at to c.loop-k.invariant.done (length to) refl)

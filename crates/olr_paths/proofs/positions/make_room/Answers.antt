@@ -1,4 +1,4 @@
-use Rattle.std.proofs.Common.{◌∙◌, List, length, take, ap, sym, subst}
+use Rattle.std.proofs.Common.{◌∙◌, List, sym, subst}
 use Rattle.olr_commands.specs.State.{NamesDiffer}
 use Rattle.olr_paths.specs.Items.{Item, items, all_named}
 use Rattle.olr_paths.proofs.Overlaying.{behind_none}
@@ -14,12 +14,3 @@ pub returns-clause-put : goal.returns-clause-put
 returns-clause-put c =
     c.note_all-noted.ensures.same ∙ c.in_ok-put_behind.ensures.put
     ∙ behind_none c.new.result.entries (items c.args.list.now) (items c.args.overlay.now.added) c.new.ensures.empty
-
-pub returns-clause-before : goal.returns-clause-before
-returns-clause-before c =
-    ap (take (length (items c.args.list.now))) c.note_all-noted.ensures.same ∙ c.in_ok-put_behind.ensures.before
-
-pub returns-then-is_err-clause-before : goal.returns-then-is_err-clause-before
-returns-then-is_err-clause-before c =
-    ap (take (length (items c.args.list.now))) (c.tidy.ensures ∙ c.note_all-noted.ensures.same)
-    ∙ c.in_ok-put_behind.ensures.before

@@ -1,6 +1,6 @@
 use Rattle.std.proofs.Common.{◌≡◌, ◌∙◌, get_or, subst, arith}
-use Rattle.std.proofs.lemmas.List.{get_or_default, take_all}
-use Rattle.olr_paths.specs.Finding.{AreNotedAt, NamedNoted, Grows}
+use Rattle.std.proofs.lemmas.List.{get_or_default}
+use Rattle.olr_paths.specs.Finding.{NamedNoted, Grows}
 use Rattle.olr_paths.proofs.NotedPositions.{One, NotedAt, noted_grown, at_more}
 use Rattle.olr_paths.proofs.positions.note_all.Goals as goal
 
@@ -43,9 +43,3 @@ loop-position-preserved c =
           (subst (λ (y : One). NotedAt ms g y) c.loop-position-item.is one),
       c.loop-position.invariant.1,
     )
-
-pub returns-clause-noted : goal.returns-clause-noted
-returns-clause-noted c =
-    let l = c.loop-position.list in
-    subst (λ (rs : _). AreNotedAt l.path_ids.items l.finder rs)
-    (take_all c.loop-position.position-index c.args.fresh.now c.loop-position-test.false) c.loop-position.invariant.0

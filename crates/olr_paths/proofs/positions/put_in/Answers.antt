@@ -1,15 +1,9 @@
-use Rattle.std.proofs.Common.{◌≡◌, ◌∙◌, ℕ, List, length, take, ap, sym}
+use Rattle.std.proofs.Common.{◌≡◌, ◌∙◌, ℕ, length, take, ap, sym}
 use Rattle.std.proofs.lemmas.List.{length-map}
-use Rattle.olr_paths.specs.Items.{Item, items}
-use Rattle.olr_paths.specs.Renewing.{all_put, puts_of}
+use Rattle.olr_paths.specs.Items.{items}
 use Rattle.olr_paths.proofs.NamedEntries.{item_of}
-use Rattle.olr_paths.proofs.NotedPositions.{all_same, unless_err, where_err}
+use Rattle.olr_paths.proofs.NotedPositions.{all_same, where_err}
 use Rattle.olr_paths.proofs.positions.put_in.Goals as goal
-
-pub returns-clause-ok : goal.returns-clause-ok
-returns-clause-ok c =
-    c.tidy.ensures ∙ c.place.ensures ∙ ap (λ (is : List Item). all_put is (puts_of c.args.fresh.items))
-    (unless_err c.make_room-room.result (sym c.if-is_err.ensures.value) c.make_room-room.ensures.put)
 
 pub returns-then-is_err-clause-err : goal.returns-then-is_err-clause-err
 returns-then-is_err-clause-err c =

@@ -23,5 +23,5 @@ returns-clause-ok c =
     puts_one s.changes.entries c.insert.new.self.entries c.in_ok-from_str.field-0 (Some c.in_ok-other.other) name
     (Some path) c.in_ok-insert.ensures.entries c.in_ok-from_str.ensures.ok
     (ap (λ p. Some p) c.in_ok-other.ensures.ok) in
-    set_before name path (under_changes (overlay_changes s) is) ys (under_changes ds is)
+    set_before name (under_changes (overlay_changes s) is) ys path (under_changes ds is)
     (overlaid_set (overlay_changes s) ds name path is puts (not_dropped (overlay_changes s) is ys name there free)) free

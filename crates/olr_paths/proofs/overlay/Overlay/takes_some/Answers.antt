@@ -1,4 +1,4 @@
-use Rattle.std.proofs.Common.{◌≡◌, ◌∷◌, ◌++◌, [], ◌+◌, ◌∙◌, true, false, Option, String, Global, take}
+use Rattle.std.proofs.Common.{◌≡◌, ◌∷◌, ◌++◌, [], ◌+◌, ◌∙◌, true, Option, String, Global, take}
 use Rattle.std.proofs.Common.{is_some, not, ap, sym, subst, arith}
 use Rattle.std.proofs.lemmas.List.{take_all}
 use Rattle.std.specs.declared.rc.Rc.{Rc}
@@ -22,6 +22,3 @@ returns c = λ off.
     let es : Entered = c.args.self.now.changes.entries in
     others_keep es (subst AreOthers
     (take_all c.loop-k.k es (omega (arith, c.loop-k-test.false, c.len-k-end.ensures.len))) c.loop-k.invariant)
-
-pub returns-then-is_none : goal.returns-then-is_none
-returns-then-is_none c = λ (off : true ≡ false). absurd cc

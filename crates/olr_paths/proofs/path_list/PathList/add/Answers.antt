@@ -1,16 +1,12 @@
-use Rattle.std.proofs.Common.{◌≡◌, inl, inr, List, [], ◌∷◌, ◌++◌, Some, Result, Ok, Err, map}
-use Rattle.std.proofs.Common.{refl, ap, sym, ◌∙◌, subst}
-use Rattle.std.specs.Prelude.{string_bytes, OnErr}
+use Rattle.std.proofs.Common.{◌≡◌, inl, inr, List, [], ◌∷◌, ◌++◌, Some}
+use Rattle.std.proofs.Common.{ap, ◌∙◌, subst}
+use Rattle.std.specs.Prelude.{string_bytes}
 use Rattle.olr_commands.specs.Reply.{Entry, entry}
 use Rattle.olr_commands.specs.Words.{entry_of}
 use Rattle.olr_paths.specs.Items.{Made, Item, items, made_of}
 use Rattle.olr_paths.specs.Origins.{Begins}
 use Rattle.olr_paths.proofs.OriginLemmas.{begins_add}
 use Rattle.olr_paths.proofs.path_list.PathList.add.Goals as goal
-
-so_on_err : {T E A : Type 0} (r : Result T E) → A → OnErr r A
-so_on_err (Ok _) a = tt
-so_on_err (Err _) a = a
 
 pub returns-clause-added : goal.returns-clause-added
 returns-clause-added g c =
@@ -24,9 +20,6 @@ returns-clause-added g c =
       rw (← c.in_ok-named.ensures.path, ← c.in_ok-named.ensures.made) c.in_ok-put_last.ensures.ok,
       rw (c.in_ok-push.ensures.items, c.in_ok-entries.ensures.items) (ap (λ (e : Entry). e ∷ []) returned),
     )
-
-pub returns-in_err-put_last-clause-err_work : goal.returns-in_err-put_last-clause-err_work
-returns-in_err-put_last-clause-err_work g c = so_on_err c.from_residual-in_err-put_last.result refl
 
 pub returns-clause-new_origins : goal.returns-clause-new_origins
 returns-clause-new_origins g c = λ v h.
