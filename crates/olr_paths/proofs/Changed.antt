@@ -19,7 +19,7 @@ use Rattle.std.specs.declared.alloc.Global.{Global}
 use Rattle.std.specs.declared.rc.Rc.{Rc}
 use Rattle.olr_commands.proofs.NameLemmas.{same_is}
 use Rattle.olr_paths.specs.Laying.{changes_in, path_in}
-use Rattle.olr_paths.proofs.NamedEntries.{Entries, First, item_of, items_of, asks, same_flip}
+use Rattle.olr_paths.proofs.NamedEntries.{Entries, First, item_of, items_of, same_flip}
 use Rattle.olr_paths.proofs.Overlaying.{Entered, has_name}
 
 -- ---- one path
@@ -216,17 +216,13 @@ pub first_only : (es : Entries) (name : List ℕ) (q k : ℕ) (i : Item) → Fir
 first_only [] name q k i h d at same = absurd h
 first_only (e ∷ es) name zero zero i h d at same = refl
 first_only (e ∷ es) name zero (suc k) i h d at same =
-    let traversed : same_name (string_bytes e.0) name ≡ true = same_flip (string_bytes e.0) name ∙ h in
-    let here : same_name i.name (string_bytes e.0) ≡ true =
-    ap (same_name i.name) (same_is (string_bytes e.0) name traversed) ∙ same in
-    let on : has_name (items_of es) (string_bytes e.0) ≡ true =
-    there_named (items_of es) k i (string_bytes e.0) at here in
-    let never : true ≡ false = sym on ∙ d.0 in absurd cc
+    let free = d.0 in
+    let is : name ≡ string_bytes e.0 = same_is name (string_bytes e.0) h in
+    absurd (grind (arith, there_named (items_of es) k i (string_bytes e.0) at))
 first_only (e ∷ es) name (suc q) zero i h d at same =
     let is : item_of e ≡ i = cc (at) in
-    let on : asks name e.0 ≡ true =
-    same_flip name (string_bytes e.0) ∙ ap (λ (j : Item). same_name j.name name) is ∙ same in
-    let never : true ≡ false = sym on ∙ h.0 in absurd cc
+    let other = h.0 in
+    absurd (grind (arith, same_flip name (string_bytes e.0)))
 first_only (e ∷ es) name (suc q) (suc k) i h d at same = ap suc (first_only es name q k i h.1 d.1 at same)
 
 pub not_there : (es : Entries) (name : List ℕ) (k : ℕ) (i : Item) →

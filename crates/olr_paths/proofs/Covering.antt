@@ -1,9 +1,10 @@
 -- The positions that are found have all affected paths, and the paths between them are unchanged.
-use Rattle.std.proofs.Common.{inl, inr, ◌≡◌, ◌≢◌, ℕ, zero, suc, ◌+◌, ◌-◌, ◌<◌, ◌≤◌, ◌==◌, ◌||◌, ◌⊎◌, Bool, true, false}
+use Rattle.std.proofs.Common.{inl, inr, ◌≡◌, ◌≢◌, ℕ, zero, suc, ◌+◌, ◌-◌, ◌<◌, ◌≤◌, ◌==◌, ◌||◌, ◌⊎◌, false}
 use Rattle.std.proofs.Common.{All, List, [], ◌∷◌, ◌++◌, take, length, get_or, slice_get, Option, Some, None, IsTrue}
 use Rattle.std.proofs.Common.{refl, sym, ap, ◌∙◌, subst, append_assoc, arith, min}
 use Rattle.std.specs.List.Sorted.{IsNonDecreasing}
-use Rattle.std.proofs.lemmas.Bool.{cases_Bool, cases_lt, or_left, eq-eqb}
+use Rattle.std.proofs.lemmas.Bool.{cases_Bool, or_left}
+use Rattle.std.proofs.lemmas.Bool.Decides.{nat_tests}
 use Rattle.std.proofs.Math.Bool.{or-false}
 use Rattle.std.proofs.lemmas.List.Elements.{All-contains}
 use Rattle.std.proofs.lemmas.Option.{slice_get_within}
@@ -59,19 +60,13 @@ use Rattle.olr_paths.proofs.NamedEntries.{same_flip}
 
 pub has_push : (xs : List ℕ) (x v : ℕ) → has (xs ++ x ∷ []) v ≡ (has xs v || (x == v))
 has_push [] x v = or-false (x == v)
-has_push (y ∷ ys) x v = ap (λ (b : Bool). (y == v) || b) (has_push ys x v) ∙ moved (y == v) (has ys v) (x == v) where
-  moved : (a b c : Bool) → (a || (b || c)) ≡ ((a || b) || c)
-  moved true b c = refl
-  moved false b c = refl
+has_push (y ∷ ys) x v = grind (arith, has_push ys x v)
 
 pub pushed_kept : (xs : List ℕ) (x : ℕ) → Includes xs (xs ++ x ∷ [])
 pushed_kept xs x v on = has_push xs x v ∙ or_left (has xs v) (x == v) on
 
 pub pushed_there : (xs : List ℕ) (x v : ℕ) → x ≡ v → IsTrue (has (xs ++ x ∷ []) v)
-pushed_there xs x v is = has_push xs x v ∙ right (has xs v) (x == v) (eq-eqb x v is) where
-  right : (a b : Bool) → b ≡ true → (a || b) ≡ true
-  right true b h = refl
-  right false b h = h
+pushed_there xs x v is = grind (arith, nat_tests, has_push xs x v)
 
 -- ---- positions of path ids
 
@@ -127,16 +122,7 @@ none_between : (found : List ℕ) (long k next position j : ℕ) → IsNonDecrea
 none_between found long k next position j up h is lt within above low =
     elim (cases_Bool (has found j)) [
       | inr e ↦ e
-      | inl on ↦
-          let r = at_index found j on in
-          absurd (elim (cases_lt r.0 k) [
-            | inl before ↦ elim (h.below r.0 before) [
-              | inl small ↦ let e = r.2 in omega arith
-              | inr big ↦ let e = r.2 in
-                  omega arith
-            ]
-            | inr after ↦ let e = r.2 in let s = up k r.0 0 after r.1 in omega arith
-          ])
+      | inl on ↦ let r = at_index found j on in absurd (grind (arith, r.1, r.2, h.below r.0, up k r.0 0))
     ]
 
 none_after : (found : List ℕ) (long k next j : ℕ) → length found ≤ k → Passed found long k next → next ≤ j → j < long →
@@ -144,14 +130,14 @@ none_after : (found : List ℕ) (long k next j : ℕ) → length found ≤ k →
 none_after found long k next j end h above low =
     elim (cases_Bool (has found j)) [
       | inr e ↦ e
-      | inl on ↦
-          let r = at_index found j on in
-          absurd (elim (h.below r.0 (omega (arith, r.1, end))) [
-            | inl small ↦ let e = r.2 in omega arith
-            | inr big ↦
-                let e = r.2 in omega arith
-          ])
+      | inl on ↦ let r = at_index found j on in absurd (grind (arith, r.1, r.2, h.below r.0))
     ]
+
+-- after the last path
+pub past_end : (js : List Item) (q : ℕ) → slice_get js q ≡ None → length js ≤ q
+past_end [] q at = omega arith
+past_end (j ∷ js) zero at = let never : ⊥ = cc (at) in absurd never
+past_end (j ∷ js) (suc q) at = let le = past_end js q at in omega arith
 
 module _ (N : Map) (n : IsMap N) (T X : List ℕ) (C : List ChangedLine) (before is : List Item) (found : List ℕ)
     (follows : Follows before is) (covers : Covers N T X is found) (old : Counted) (r : Renewal) (now : Counted) where
@@ -161,7 +147,7 @@ module _ (N : Map) (n : IsMap N) (T X : List ℕ) (C : List ChangedLine) (before
   gap zero p le free h = subst (λ (q : ℕ). SoFar N T X C before is q r old now) (let e : p ≡ p + 0 = omega arith in e) h
   gap (suc d) p le free h =
       elim (slice_get is p) as (λ o. slice_get is p ≡ o → SoFar N T X C before is (p + suc d) r old now) [
-        | None ↦ λ at. absurd (missing is p at (omega arith))
+        | None ↦ λ at. absurd (omega (arith, past_end is p at))
         | Some i ↦ λ at.
             let one : SoFar N T X C before is (p + 1) r old now =
             so_far_step N n T X C before is p i follows at old r r now now h
@@ -170,11 +156,6 @@ module _ (N : Map) (n : IsMap N) (T X : List ℕ) (C : List ChangedLine) (before
             subst (λ (q : ℕ). SoFar N T X C before is q r old now) (let e : p + 1 + d ≡ p + suc d = omega arith in e)
             rest
       ] refl
-    where
-      missing : (xs : List Item) (k : ℕ) → slice_get xs k ≡ None → k < length xs → ⊥
-      missing [] k at lt = omega arith
-      missing (x ∷ xs) zero at lt = let never : ⊥ = cc (at) in never
-      missing (x ∷ xs) (suc k) at lt = missing xs k at (omega arith)
 
   pub to_candidate : (k next position : ℕ) → IsNonDecreasing found → Passed found (length is) k next →
       position ≡ get_or found k 0 → k < length found → position < length is → next ≤ position →
@@ -194,12 +175,6 @@ module _ (N : Map) (n : IsMap N) (T X : List ℕ) (C : List ChangedLine) (before
       (gap (length is - next) next (omega arith) (λ j a b. none_after found (length is) k next j end h a (omega arith))
       so_far)
 
--- after the last path
-pub past_end : (js : List Item) (q : ℕ) → slice_get js q ≡ None → length js ≤ q
-past_end [] q at = omega arith
-past_end (j ∷ js) zero at = let never : ⊥ = cc (at) in absurd never
-past_end (j ∷ js) (suc q) at = let le = past_end js q at in omega arith
-
 -- with one candidate more
 pub passed_none : (found : List ℕ) (long : ℕ) → Passed found long 0 0
 passed_none found long = record { below = λ j lt. absurd (omega arith); within = omega arith }
@@ -208,29 +183,13 @@ passed_none found long = record { below = λ j lt. absurd (omega arith); within 
 pub passed_over : (found : List ℕ) (long k next position : ℕ) → Passed found long k next → position ≡ get_or found k 0 →
     (position < next) ⊎ (long ≤ position) → Passed found long (k + 1) next
 passed_over found long k next position h at out =
-    record {
-      below = λ j lt. elim (cases_lt j k) [
-        | inl low ↦ h.below j low
-        | inr high ↦ let same : k ≡ j =
-            omega arith in let e : position ≡ get_or found j 0 = at ∙ ap (λ (m : ℕ). get_or found m 0) same in
-            subst (λ (q : ℕ). (q < next) ⊎ (long ≤ q)) e out
-      ];
-      within = h.within;
-    }
+    record { below = λ j lt. grind (arith, h.below j); within = h.within }
 
 -- its position is the next
 pub passed_to : (found : List ℕ) (long k next position : ℕ) → Passed found long k next → position ≡ get_or found k 0 →
     next ≤ position → position < long → Passed found long (k + 1) (position + 1)
 passed_to found long k next position h at le within =
-    record {
-      below = λ j lt. elim (cases_lt j k) [
-        | inl low ↦ elim (h.below j low) [ inl small ↦ inl (omega arith) | inr big ↦ inr big ]
-        | inr high ↦ let same : k ≡ j =
-            omega arith in let e : position ≡ get_or found j 0 = at ∙ ap (λ (m : ℕ). get_or found m 0) same in
-            inl (omega arith)
-      ];
-      within = omega arith;
-    }
+    record { below = λ j lt. grind (arith, h.below j); within = omega arith }
 
 -- ---- the positions that are found have all paths that edits affect
 
@@ -375,23 +334,16 @@ lack_overlaid cs (i ∷ is) ys first second l h =
     ]
 
 -- with more positions
+unfound : (old now : List ℕ) (k : ℕ) → Includes old now → has now k ≡ false → has old k ≡ false
+unfound old now k kept off = grind (arith, kept k)
+
 pub covers_grown : (N : Map) (slot : ℕ → ℕ) (t : ChangeSet) (s : Searches) (is : List Item) (old now : List ℕ) →
     Includes old now → CoversAsked N slot t s is old → CoversAsked N slot t s is now
-covers_grown N slot t s is old now kept h k i at off =
-    h k i at (elim (cases_Bool (has old k)) [
-      | inl on ↦ let there = kept k on in let never : ⊥ = cc (there, off) in
-          absurd never
-      | inr not_yet ↦ not_yet
-    ])
+covers_grown N slot t s is old now kept h k i at off = h k i at (unfound old now k kept off)
 
 pub changed_grown : (cs : Changes) (is : List Item) (old now : List ℕ) → Includes old now → FindsChanged cs is old →
     FindsChanged cs is now
-changed_grown cs is old now kept h k i at off =
-    h k i at (elim (cases_Bool (has old k)) [
-      | inl on ↦ let there = kept k on in let never : ⊥ = cc (there, off) in
-          absurd never
-      | inr not_yet ↦ not_yet
-    ])
+changed_grown cs is old now kept h k i at off = h k i at (unfound old now k kept off)
 
 -- with one change more
 pub changed_more : (cs : Changes) (c : List ℕ × Option Path) (is : List Item) (old now : List ℕ) → Includes old now →
@@ -406,9 +358,4 @@ pub others_apart : (es : Entries) (name : List ℕ) (q : ℕ) (old : List ℕ) �
     NamesDiffer (all_named (items_of es)) → (k : ℕ) (i : Item) → slice_get (items_of es) k ≡ Some i →
     has (old ++ q ∷ []) k ≡ false → same_name name i.name ≡ false
 others_apart es name q old first differ k i at off =
-    elim (cases_Bool (same_name i.name name)) [
-      | inl on ↦
-          let there = pushed_there old q k (first_only es name q k i first differ at on) in
-          let never : ⊥ = cc (there, off) in absurd never
-      | inr other ↦ same_flip name i.name ∙ other
-    ]
+    grind (arith, first_only es name q k i first differ at, pushed_there old q k, same_flip name i.name)

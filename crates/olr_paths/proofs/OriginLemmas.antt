@@ -1,12 +1,11 @@
 -- The coverage queries of a list in which an item was replaced, or a path was added, set or dropped.
-use Rattle.std.proofs.Common.{inl, inr, ◌≡◌, ℕ, zero, suc, ◌+◌, ◌⊎◌, Bool, true, false, cond, if◌then◌else◌, List, []}
+use Rattle.std.proofs.Common.{inl, inr, ◌≡◌, ℕ, zero, suc, ◌+◌, ◌⊎◌, Bool, List, []}
 use Rattle.std.proofs.Common.{◌∷◌, ◌++◌, map, take, slice_get, Contains, Option, Some, sym, subst, arith}
 use Rattle.std.specs.List.{filter}
 use Rattle.std.specs.Prelude.{option_map}
 use Rattle.olr_spec.specs.Extension.{Path}
 use Rattle.olr_spec.specs.Queries.{CoverageQuery}
 use Rattle.olr_spec.proofs.ListLemmas.{Contains-cases}
-use Rattle.olr_commands.specs.State.{same_name}
 use Rattle.olr_paths.specs.Items.{Made, Item, made_of}
 use Rattle.olr_paths.specs.Changes.{set_item}
 use Rattle.olr_paths.specs.Origins.{BeginsIn, Begins, BeginsPut}
@@ -30,17 +29,13 @@ begins_put : (is : List Item) (k : ℕ) (path : Path) (made : Option Made) (v : 
 begins_put [] k path made v h = absurd h
 begins_put (i ∷ is) zero path made v (inl h) = inr h
 begins_put (i ∷ is) zero path made v (inr h) = inl (inr h)
-begins_put (i ∷ is) (suc k) path made v (inl h) = inl (inl h)
-begins_put (i ∷ is) (suc k) path made v (inr h) =
-    elim (begins_put is k path made v h) [ inl l ↦ inl (inr l) | inr r ↦ inr r ]
+begins_put (i ∷ is) (suc k) path made v h = grind (arith, begins_put is k path made v)
 
 pub begins_all_put : (is : List Item) (ps : List Put) (v : CoverageQuery) → Begins (all_put is ps) v → Begins is v
     ⊎ BeginsPut ps v
 begins_all_put is [] v h = inl h
-begins_all_put is (p ∷ ps) v h = elim (begins_put (all_put is ps) p.position p.path p.made v h) [
-  | inl l ↦ elim (begins_all_put is ps v l) [ inl a ↦ inl a | inr b ↦ inr (inr b) ]
-  | inr r ↦ inr (inl r)
-]
+begins_all_put is (p ∷ ps) v h =
+    grind (arith, begins_put (all_put is ps) p.position p.path p.made v h, begins_all_put is ps v)
 
 -- one more, behind the others
 pub begins_push : (es : List (ℕ × NamedPath)) (e : ℕ × NamedPath) (v : CoverageQuery) →
@@ -48,8 +43,7 @@ pub begins_push : (es : List (ℕ × NamedPath)) (e : ℕ × NamedPath) (v : Cov
     BeginsPut (puts_of es) v ⊎ BeginsIn (option_map (λ p. made_of p.value) e.1.published) v
 begins_push [] e v (inl h) = inr h
 begins_push [] e v (inr h) = absurd h
-begins_push (x ∷ es) e v (inl h) = inl (inl h)
-begins_push (x ∷ es) e v (inr h) = elim (begins_push es e v h) [ inl l ↦ inl (inr l) | inr r ↦ inr r ]
+begins_push (x ∷ es) e v h = grind (arith, begins_push es e v)
 
 -- ---- after one path is added, set or dropped
 
@@ -57,32 +51,16 @@ pub begins_add : (is : List Item) (j : Item) (v : CoverageQuery) → Begins (is 
     ⊎ BeginsIn j.made v
 begins_add [] j v (inl h) = inr h
 begins_add [] j v (inr h) = absurd h
-begins_add (i ∷ is) j v (inl h) = inl (inl h)
-begins_add (i ∷ is) j v (inr h) = elim (begins_add is j v h) [ inl l ↦ inl (inr l) | inr r ↦ inr r ]
-
-one_set : (b : Bool) (path : Path) (made : Option Made) (i : Item) (v : CoverageQuery) →
-    BeginsIn (if b then record { name = i.name; path = path; made = made } else i).made v → BeginsIn i.made v
-    ⊎ BeginsIn made v
-one_set true path made i v h = inr h
-one_set false path made i v h = inl h
+begins_add (i ∷ is) j v h = grind (arith, begins_add is j v)
 
 pub begins_set : (name : List ℕ) (path : Path) (made : Option Made) (is : List Item) (v : CoverageQuery) →
     Begins (map (set_item name path made) is) v → Begins is v ⊎ BeginsIn made v
 begins_set name path made [] v h = absurd h
-begins_set name path made (i ∷ is) v (inl h) =
-    elim (one_set (same_name i.name name) path made i v h) [ inl l ↦ inl (inl l) | inr r ↦ inr r ]
-begins_set name path made (i ∷ is) v (inr h) =
-    elim (begins_set name path made is v h) [ inl l ↦ inl (inr l) | inr r ↦ inr r ]
-
-one_kept : (b : Bool) (i : Item) (rest is : List Item) (v : CoverageQuery) → (Begins rest v → Begins is v) →
-    Begins (cond b (i ∷ rest) rest) v → Begins (i ∷ is) v
-one_kept true i rest is v f (inl h) = inl h
-one_kept true i rest is v f (inr h) = inr (f h)
-one_kept false i rest is v f h = inr (f h)
+begins_set name path made (i ∷ is) v h = grind (arith, begins_set name path made is v)
 
 pub begins_drop : (keep : Item → Bool) (is : List Item) (v : CoverageQuery) → Begins (filter keep is) v → Begins is v
 begins_drop keep [] v h = h
-begins_drop keep (i ∷ is) v h = one_kept (keep i) i (filter keep is) is v (begins_drop keep is v) h
+begins_drop keep (i ∷ is) v h = grind (arith, begins_drop keep is v)
 
 -- as far as a loop has come
 pub begins_more : (is : List Item) (k : ℕ) (i : Item) (v : CoverageQuery) → slice_get is k ≡ Some i →
