@@ -1,7 +1,7 @@
-use Rattle.std.proofs.Common.{◌≡◌, List, All, Contains, length, get_or, ◌<◌, true, false, refl, sym, subst, ◌∙◌}
+use Rattle.std.proofs.Common.{◌≡◌, List, All, Contains, true, false, refl, sym, subst, ◌∙◌}
 use Rattle.std.proofs.Common.{arith, min}
 use Rattle.std.proofs.lemmas.List.{take_all}
-use Rattle.std.proofs.lemmas.List.Elements.{All-contains, Contains-get_or}
+use Rattle.std.proofs.lemmas.List.Elements.{All-contains}
 use Rattle.olr_spec.specs.Extension.{limit}
 use Rattle.olr_spec.specs.Detours.{Near}
 use Rattle.olr_spec.specs.Queries.{CoverageQuery}
@@ -16,15 +16,9 @@ is_near-requires-clause-returned g c =
     let slot = g.M.MapRead.node_slot c.args.map.now in
     let t = c.args.touched.now in
     let item : CoverageQuery = c.query-item.result in
-    let xs : List CoverageQuery = c.args.published.now.queries.items in
-    let lt : c.loop-query.query-index < length xs =
-    subst (λ (ys : List CoverageQuery). c.loop-query.query-index < length ys) c.as_slice-queries.ensures.value
-    c.loop-query-test.true in
-    let is : item ≡ get_or xs c.loop-query.query-index item =
-    subst (λ (ys : List CoverageQuery). item ≡ get_or ys c.loop-query.query-index item) c.as_slice-queries.ensures.value
-    c.query-item.is in
-    let on : Contains xs item =
-    subst (λ (l : CoverageQuery). Contains xs l) (sym is) (Contains-get_or xs c.loop-query.query-index item lt) in
+    let at : Contains c.as_slice-queries.result.now item =
+    (c.loop-query.query-index, c.loop-query-test.true, sym c.query-item.is) in
+    let on : Contains c.args.published.now.queries.items item = rw (← c.as_slice-queries.ensures.value) at in
     subst (λ (l : CoverageQuery). IsExactAt N slot t c.args.near.now l.from (min l.within limit)) (sym c.query.view_is)
     (c.requires.returned item on)
 
@@ -34,15 +28,9 @@ returns-then-is_near g c =
     let T = nodes_of c.args.touched.now in
     let item : CoverageQuery = c.query-item.result in
     let yes : c.is_near.result ≡ true = cc in
-    let xs : List CoverageQuery = c.args.published.now.queries.items in
-    let lt : c.loop-query.query-index < length xs =
-    subst (λ (ys : List CoverageQuery). c.loop-query.query-index < length ys) c.as_slice-queries.ensures.value
-    c.loop-query-test.true in
-    let is : item ≡ get_or xs c.loop-query.query-index item =
-    subst (λ (ys : List CoverageQuery). item ≡ get_or ys c.loop-query.query-index item) c.as_slice-queries.ensures.value
-    c.query-item.is in
-    let on : Contains xs item =
-    subst (λ (l : CoverageQuery). Contains xs l) (sym is) (Contains-get_or xs c.loop-query.query-index item lt) in (
+    let at : Contains c.as_slice-queries.result.now item =
+    (c.loop-query.query-index, c.loop-query-test.true, sym c.query-item.is) in
+    let on : Contains c.args.published.now.queries.items item = rw (← c.as_slice-queries.ensures.value) at in (
       (λ t. (
         item,
         on,
