@@ -2,9 +2,9 @@
 -- the list is the same as before.
 --     Through Q N T X C before is ps es t      the paths is are renewed when ps are stored, es reports them, and t are
 --         their totals, from each map that satisfies Q
-use Rattle.std.proofs.Common.{◌≡◌, ◌≢◌, ℕ, map, zero, suc, take, ◌+◌, List}
+use Rattle.std.proofs.Common.{◌≡◌, ℕ, map, zero, suc, take, ◌+◌, List}
 use Rattle.std.proofs.Common.{[], ◌∷◌, ◌++◌, length, slice_get, Option, None, Some, option_map, ◌⊎◌, inl, inr}
-use Rattle.std.proofs.Common.{refl, sym, ap, subst, ◌∙◌, append-nil, append_assoc, arith, IsTrue}
+use Rattle.std.proofs.Common.{refl, sym, ap, subst, ◌∙◌, append-nil, append_assoc, arith, add-one, IsTrue}
 use Rattle.std.proofs.lemmas.List.{length-append, length-take-le, map-append, take_all}
 use Rattle.std.proofs.lemmas.Option.{slice_get_within}
 use Rattle.olr_spec.specs.Map.{Map, IsMap}
@@ -15,7 +15,6 @@ use Rattle.olr_commands.specs.State.{Named}
 use Rattle.olr_spec.specs.Queries.{CoverageQuery, KnownQuery, SearchedOf}
 use Rattle.olr_search.specs.declared.work.Work.{Work}
 use Rattle.olr_refs.specs.Choice.{SettledBy, raised_count}
-use Rattle.olr_commands.specs.Counts.{CountIs, Collects}
 use Rattle.olr_commands.specs.Words.{entry_of}
 use Rattle.olr_commands.specs.Reply.{Entry, entry}
 use Rattle.olr_paths.specs.Items.{Made, Item, IsEncodingOf, named_of, all_named, answer_in}
@@ -42,44 +41,6 @@ AreRemade-push N [] (k ∷ js) i j h one = let never : ⊥ = cc in absurd never
 AreRemade-push N (x ∷ is) [] i j h one = absurd h
 AreRemade-push N (x ∷ is) (k ∷ js) i j h one = (h.0, AreRemade-push N is js i j h.1 one)
 
-Count-more : {A : Type 0} (P : A → Type 0) (xs : List A) (n : ℕ) (x : A) → CountIs P xs n → P x →
-    CountIs P (xs ++ x ∷ []) (n + 1)
-Count-more P [] n x h p = inl (p, (0, refl, ap (λ (k : ℕ). k + 1) h))
-Count-more P (y ∷ ys) n x (inl h) p =
-    inl (h.0, (h.1.0 + 1, Count-more P ys h.1.0 x h.1.1 p, let e = h.1.2 in omega arith))
-Count-more P (y ∷ ys) n x (inr h) p = inr (h.0, Count-more P ys n x h.1 p)
-
-Count-same : {A : Type 0} (P : A → Type 0) (xs : List A) (n : ℕ) (x : A) → CountIs P xs n → ¬ P x →
-    CountIs P (xs ++ x ∷ []) n
-Count-same P [] n x h p = inr (p, h)
-Count-same P (y ∷ ys) n x (inl h) p = inl (h.0, (h.1.0, Count-same P ys h.1.0 x h.1.1 p, h.1.2))
-Count-same P (y ∷ ys) n x (inr h) p = inr (h.0, Count-same P ys n x h.1 p)
-
-Collects-more : {A : Type 0} (E : A → Type 0) (Q : A → List CoverageQuery → Type 0) (xs : List A)
-    (queries own : List CoverageQuery) (x : A) → Collects E Q xs queries → E x → Q x own →
-    Collects E Q (xs ++ x ∷ []) (queries ++ own)
-Collects-more E Q [] queries own x h e q =
-    inl (e, (own, [], q, refl, ap (λ (ks : List CoverageQuery). ks ++ own) h ∙ sym (append-nil own)))
-Collects-more E Q (y ∷ ys) queries own x (inl h) e q =
-    inl (
-      h.0,
-      (
-        h.1.0,
-        h.1.1 ++ own,
-        h.1.2,
-        Collects-more E Q ys h.1.1 own x h.1.3 e q,
-        ap (λ (ks : List CoverageQuery). ks ++ own) h.1.4 ∙ append_assoc h.1.0 h.1.1 own,
-      ),
-    )
-Collects-more E Q (y ∷ ys) queries own x (inr h) e q = inr (h.0, Collects-more E Q ys queries own x h.1 e q)
-
-Collects-same : {A : Type 0} (E : A → Type 0) (Q : A → List CoverageQuery → Type 0) (xs : List A)
-    (queries : List CoverageQuery) (x : A) → Collects E Q xs queries → ¬ E x → Collects E Q (xs ++ x ∷ []) queries
-Collects-same E Q [] queries x h none = inr (none, h)
-Collects-same E Q (y ∷ ys) queries x (inl h) none =
-    inl (h.0, (h.1.0, h.1.1, h.1.2, Collects-same E Q ys h.1.1 x h.1.3 none, h.1.4))
-Collects-same E Q (y ∷ ys) queries x (inr h) none = inr (h.0, Collects-same E Q ys queries x h.1 none)
-
 -- ---- totals, with one path more
 
 abbrev no_totals : Totals
@@ -91,37 +52,64 @@ with_spared t = record { affected = t.affected + 1; spared = t.spared + 1; queri
 abbrev with_encoded : Totals → List CoverageQuery → Totals
 with_encoded t own = record { affected = t.affected + 1; spared = t.spared; queries = t.queries ++ own }
 
+abbrev both : Totals → Totals → Totals
+both t u =
+    record { affected = t.affected + u.affected; spared = t.spared + u.spared; queries = t.queries ++ u.queries }
+
+-- with those of the rest, they are the totals of the whole
+abbrev pub TotalsSoFar : Map → Map → List ℕ → List ℕ → List ChangedLine → List Item → Totals → Type 0
+TotalsSoFar L N T X C is t =
+    (rest : List Item) (u : Totals) → AreTotals L N T X C rest u → AreTotals L N T X C (is ++ rest) (both t u)
+
 module _ (L N : Map) (T X : List ℕ) (C : List ChangedLine) (is : List Item) (t : Totals)
-    (h : AreTotals L N T X C is t) (i : Item) where
-  totals_same : ¬ IsAffected L T X i → AreTotals L N T X C (is ++ i ∷ []) t
-  totals_same free =
+    (h : TotalsSoFar L N T X C is t) where
+  totals_end : AreTotals L N T X C is t
+  totals_end =
+      let k = h [] no_totals (record { affected = refl; spared = refl; queries = refl }) in
+      let a : t.affected + 0 ≡ t.affected = omega arith in
+      let b : t.spared + 0 ≡ t.spared = omega arith in
       record {
-        affected = Count-same (IsAffected L T X) is t.affected i h.affected free;
-        spared = Count-same (IsSpared L N T X C) is t.spared i h.spared (λ o. free o.affected);
-        queries =
-            Collects-same (IsEncodedAgain L N T X C) (SearchesItem L N C) is t.queries i h.queries
-            (λ o. free o.0);
+        affected = rw (append-nil is, a) at k.affected;
+        spared = rw (append-nil is, b) at k.spared;
+        queries = rw (append-nil is, append-nil t.queries) at k.queries;
       }
 
-  totals_spared : IsSpared L N T X C i → AreTotals L N T X C (is ++ i ∷ []) (with_spared t)
-  totals_spared on =
-      record {
-        affected = Count-more (IsAffected L T X) is t.affected i h.affected on.affected;
-        spared = Count-more (IsSpared L N T X C) is t.spared i h.spared on;
-        queries =
-            Collects-same (IsEncodedAgain L N T X C) (SearchesItem L N C) is t.queries i h.queries
-            (λ o. o.1 on);
-      }
+  module _ (i : Item) where
+    totals_same : ¬ IsAffected L T X i → TotalsSoFar L N T X C (is ++ i ∷ []) t
+    totals_same free rest u k =
+        rw append_assoc (h (i ∷ rest) u (record {
+          affected = inr (free, k.affected);
+          spared = inr ((λ o. free o.affected), k.spared);
+          queries = inr ((λ o. free o.0), k.queries);
+        }))
 
-  totals_encoded : (own : List CoverageQuery) → IsEncodedAgain L N T X C i → SearchesItem L N C i own →
-      AreTotals L N T X C (is ++ i ∷ []) (with_encoded t own)
-  totals_encoded own on made =
-      record {
-        affected = Count-more (IsAffected L T X) is t.affected i h.affected on.0;
-        spared = Count-same (IsSpared L N T X C) is t.spared i h.spared on.1;
-        queries =
-            Collects-more (IsEncodedAgain L N T X C) (SearchesItem L N C) is t.queries own i h.queries on made;
-      }
+    totals_spared : IsSpared L N T X C i → TotalsSoFar L N T X C (is ++ i ∷ []) (with_spared t)
+    totals_spared on rest u k =
+        let more =
+        h (i ∷ rest) (with_spared u) (record {
+          affected = inl (on.affected, (u.affected, k.affected, add-one u.affected));
+          spared = inl (on, (u.spared, k.spared, add-one u.spared));
+          queries = inr ((λ o. o.1 on), k.queries);
+        }) in
+        let a : t.affected + 1 + u.affected ≡ t.affected + (u.affected + 1) = omega arith in
+        let b : t.spared + 1 + u.spared ≡ t.spared + (u.spared + 1) = omega arith in
+        rw append_assoc (record { affected = rw a more.affected; spared = rw b more.spared; queries = more.queries })
+
+    totals_encoded : (own : List CoverageQuery) → IsEncodedAgain L N T X C i → SearchesItem L N C i own →
+        TotalsSoFar L N T X C (is ++ i ∷ []) (with_encoded t own)
+    totals_encoded own on made rest u k =
+        let more =
+        h (i ∷ rest) (record { affected = u.affected + 1; spared = u.spared; queries = own ++ u.queries }) (record {
+          affected = inl (on.0, (u.affected, k.affected, add-one u.affected));
+          spared = inr (on.1, k.spared);
+          queries = inl (on, (own, u.queries, made, k.queries, refl));
+        }) in
+        let a : t.affected + 1 + u.affected ≡ t.affected + (u.affected + 1) = omega arith in
+        rw append_assoc (record {
+          affected = rw a more.affected;
+          spared = more.spared;
+          queries = rw (append_assoc t.queries own u.queries) more.queries;
+        })
 
 -- ---- counts, with one path more
 
@@ -169,39 +157,14 @@ module _ (N : Map) (t : Totals) (old now later : Counted)
 abbrev pub answer : Item → Option Answer
 answer i = option_map (λ m. m.answer) i.made
 
-Reported-same : (before js : List Item) (es : List Entry) (j : Item) (A : Answer) → Reported before js es →
-    answer j ≡ Some A → answer_in before j.name ≡ Some A → Reported before (js ++ j ∷ []) es
-Reported-same before [] es j A h is had = (A, [], is, refl, inl (had, h))
-Reported-same before (k ∷ js) es j A h is had = (h.0, h.1, h.2, Reported-same before js h.1 j A h.3 is had, h.4)
-
-Reported-returned : (before js : List Item) (es : List Entry) (j : Item) (A : Answer) → Reported before js es →
-    answer j ≡ Some A → answer_in before j.name ≢ Some A → Reported before (js ++ j ∷ []) (es ++ entry j.name A ∷ [])
-Reported-returned before [] es j A h is had =
-    (A, [], is, refl, inr (had, ap (λ (fs : List Entry). fs ++ entry j.name A ∷ []) h))
-Reported-returned before (k ∷ js) es j A h is had =
-    let more = λ (fs : List Entry). fs ++ entry j.name A ∷ [] in (
-      h.0,
-      more h.1,
-      h.2,
-      Reported-returned before js h.1 j A h.3 is had,
-      elim h.4 [ inl e ↦ inl (e.0, ap more e.1) | inr e ↦ inr (e.0, ap more e.1) ],
-    )
-
-Reported-push : (before js : List Item) (es fs : List Entry) (j : Item) (A : Answer) → Reported before js es →
-    answer j ≡ Some A → ReportsIfOther before j.name A es fs → Reported before (js ++ j ∷ []) fs
-Reported-push before js es fs j A h is returned =
-    elim returned [
-      | inl t ↦ subst (Reported before (js ++ j ∷ [])) (sym t.1) (Reported-same before js es j A h is t.0)
-      | inr t ↦ subst (Reported before (js ++ j ∷ [])) (sym t.1) (Reported-returned before js es j A h is t.0)
-    ]
-
 pub record Through (Q : Map → Type 0) (N : Map) (T X : List ℕ) (C : List ChangedLine) (before is : List Item)
     (ps : List Put) (es : List Entry) (t : Totals) : Type 0 where
   pub local : (ys : List Item) → all_put (is ++ ys) ps ≡ all_put is ps ++ ys
   pub names : all_named (all_put is ps) ≡ all_named is
   pub remade : (L : Map) → Q L → AreRemade N is (all_put is ps)
-  pub reported : Reported before (all_put is ps) es
-  pub totals : (L : Map) → Q L → AreTotals L N T X C is t
+  pub reported : (js : List Item) (fs : List Entry) → Reported before js fs →
+      Reported before (all_put is ps ++ js) (es ++ fs)
+  pub totals : (L : Map) → Q L → TotalsSoFar L N T X C is t
 
 module _ (Q : Map → Type 0) (N : Map) (T X : List ℕ) (C : List ChangedLine) (before : List Item) where
   pub through_none : Through Q N T X C before [] [] [] no_totals
@@ -210,8 +173,14 @@ module _ (Q : Map → Type 0) (N : Map) (T X : List ℕ) (C : List ChangedLine) 
         local = λ ys. refl;
         names = refl;
         remade = λ L q. refl;
-        reported = refl;
-        totals = λ L q. record { affected = refl; spared = refl; queries = refl };
+        reported = λ js fs k. k;
+        totals = λ L q rest u k.
+            let none : (m : ℕ) → 0 + m ≡ m = λ m. omega arith in
+            record {
+              affected = rw (none u.affected) k.affected;
+              spared = rw (none u.spared) k.spared;
+              queries = k.queries;
+            };
       }
 
   -- j is after what was stored, and the rest is unchanged
@@ -219,7 +188,7 @@ module _ (Q : Map → Type 0) (N : Map) (T X : List ℕ) (C : List ChangedLine) 
       Through Q N T X C before is ps es t
       → ((ys : List Item) → all_put (is ++ i ∷ ys) qs ≡ all_put is ps ++ j ∷ ys) → named_of j ≡ named_of i →
       ((L : Map) → Q L → IsRemade N i j) → answer j ≡ Some A → ReportsIfOther before j.name A es fs
-      → ((L : Map) → Q L → AreTotals L N T X C (is ++ i ∷ []) u)
+      → ((L : Map) → Q L → TotalsSoFar L N T X C (is ++ i ∷ []) u)
       → Through Q N T X C before (is ++ i ∷ []) qs fs u
   grown is ps qs es fs t u i j A h puts same one is_A returned totals =
       let end = puts [] in
@@ -234,9 +203,11 @@ module _ (Q : Map → Type 0) (N : Map) (T X : List ℕ) (C : List ChangedLine) 
         remade =
             λ L q. subst (λ (js : List Item). AreRemade N (is ++ i ∷ []) js) (sym end)
             (AreRemade-push N is (all_put is ps) i j (h.remade L q) (one L q));
-        reported =
-            subst (λ (js : List Item). Reported before js fs) (sym end)
-            (Reported-push before (all_put is ps) es fs j A h.reported is_A returned);
+        reported = λ js gs k. rw (end, append_assoc (all_put is ps) (j ∷ []) js) (elim returned [
+          | inl e ↦ rw e.1 (h.reported (j ∷ js) gs (A, gs, is_A, k, inl (e.0, refl)))
+          | inr e ↦ rw (e.1, append_assoc es (entry j.name A ∷ []) gs)
+              (h.reported (j ∷ js) (entry j.name A ∷ gs) (A, gs, is_A, k, inr (e.0, refl)))
+        ]);
         totals = totals;
       }
 
@@ -402,8 +373,9 @@ whole N t before is r old now b h =
     record {
       remade = w.remade b.0 b.1;
       named = w.names;
-      reported = w.reported;
-      counted = λ L q. (h.many, w.totals L q, h.raised);
+      reported =
+          rw (append-nil (after_renewal r is), append-nil (entries_of r)) at (w.reported [] [] refl);
+      counted = λ L q. (h.many, totals_end L N (nodes_of t) (lines_of t) (changed_of t) is h.many (w.totals L q), h.raised);
     }
 
 module _ (N : Map) (n : IsMap N) (T X : List ℕ) (C : List ChangedLine) (before is : List Item) (position : ℕ) (i : Item)
