@@ -19,18 +19,6 @@ module _ {A : Type 0} (P : A → Type 0) where
   picks_none none [] = refl
   picks_none none (x ∷ xs) = inr (none x, picks_none none xs)
 
-  -- with one element more
-  pub picks_more : (xs ys : List A) (x : A) → Picks P xs ys → P x → Picks P (xs ++ x ∷ []) (ys ++ x ∷ [])
-  picks_more [] ys x h p = inl (p, ([], refl, ap (λ (zs : List A). zs ++ x ∷ []) h))
-  picks_more (y ∷ xs) ys x (inl h) p =
-      let r = h.1 in inl (h.0, (r.0 ++ x ∷ [], picks_more xs r.0 x r.1 p, ap (λ (zs : List A). zs ++ x ∷ []) r.2))
-  picks_more (y ∷ xs) ys x (inr h) p = inr (h.0, picks_more xs ys x h.1 p)
-
-  pub picks_same : (xs ys : List A) (x : A) → Picks P xs ys → ¬ P x → Picks P (xs ++ x ∷ []) ys
-  picks_same [] ys x h none = inr (none, h)
-  picks_same (y ∷ xs) ys x (inl h) none = let r = h.1 in inl (h.0, (r.0, picks_same xs r.0 x r.1 none, r.2))
-  picks_same (y ∷ xs) ys x (inr h) none = inr (h.0, picks_same xs ys x h.1 none)
-
   -- what holds of each element and of those that are picked
   picked_each : (Q R : A → Type 0) → ((x : A) → P x → Q x → R x) → (xs ys : List A) → Picks P xs ys → All Q xs →
       All R ys

@@ -1,11 +1,11 @@
-use Rattle.std.proofs.Common.{◌≡◌, ◌≤◌, ℕ, ◌+◌, List, ◌∷◌, [], ◌++◌, take, length, IsTrue, ◌↔◌, true, false, sym, ap}
+use Rattle.std.proofs.Common.{◌≡◌, ◌≤◌, ℕ, ◌+◌, List, ◌∷◌, [], ◌++◌, drop, length, inl, inr, refl, append-nil, append_assoc, IsTrue, ◌↔◌, true, false, sym, ap}
 use Rattle.std.proofs.Common.{subst, arith, ◌∙◌, Vec, Global}
-use Rattle.std.proofs.lemmas.List.{take_all, take_more}
+use Rattle.std.proofs.lemmas.List.{drop_all, drop_more}
 use Rattle.olr_spec.specs.Queries.{CoverageQuery, KnownQuery}
 use Rattle.olr_commands.specs.Counts.{IsAgainClear, Picks, most_changed}
 use Rattle.olr_paths.specs.Touching.{changed_of}
 use Rattle.olr_paths.specs.Changes.{IsKnownClear}
-use Rattle.olr_paths.proofs.Picking.{picks_none, picks_more, picks_same}
+use Rattle.olr_paths.proofs.Picking.{picks_none}
 use Rattle.olr_paths.proofs.detours.clear_known.Goals as goal
 use Rattle.olr_paths.proofs.detours.clear_known.Goals.{then-branch+in_ok-push, else-branch}
 
@@ -22,36 +22,34 @@ loop-one-preserved g c =
     let clear : IsTrue c.in_ok-is_clear.field-0 ↔ IsKnownClear N C item.query =
     subst (λ (l : CoverageQuery). IsTrue c.in_ok-is_clear.field-0 ↔ IsKnownClear N C l)
     (ap (λ (e : KnownQuery). e.query) c.one.view_is) c.in_ok-is_clear.ensures.clear in
-    let more : take k known ++ item ∷ [] ≡ take (k + 1) known =
-    ap (λ (e : KnownQuery). take k known ++ e ∷ []) c.one-item.is
-    ∙ sym (take_more known k item c.loop-one-test.true) in (
-      elim c.if-branch.branch [
+    let rest : drop k known ≡ item ∷ drop (k + 1) known =
+    drop_more known k item c.loop-one-test.true ∙ ap (λ (e : KnownQuery). e ∷ drop (k + 1) known) (sym c.one-item.is) in (
+      (λ ks h. elim c.if-branch.branch [
         | then-branch+in_ok-push w ↦
             let yes = clear.0 w.if-branch.true in
+            let here : Picks P (item ∷ drop (k + 1) known) (item ∷ ks) =
+            inl (record { few = few; on_map = yes.0; clear = yes.1 }, (ks, h, refl)) in
             let grown : c.if-branch.clear.items ≡ old ++ item ∷ [] =
             ap (λ (v : Vec KnownQuery Global). v.items) w.clear-is
             ∙ (w.in_ok-push.ensures.items ∙ ap (λ (e : KnownQuery). old ++ e ∷ []) c.one.view_is) in
-            subst (λ (ks : List KnownQuery). Picks P (take (k + 1) known) ks) (sym grown)
-            (subst (λ (ks : List KnownQuery). Picks P ks (old ++ item ∷ [])) more
-            (picks_more P (take k known) old item c.loop-one.invariant.0
-            (record { few = few; on_map = yes.0; clear = yes.1 })))
+            rw (grown, append_assoc old (item ∷ []) ks) (c.loop-one.invariant.0 (item ∷ ks) (rw rest here))
         | else-branch w ↦
             let same : c.if-branch.clear.items ≡ old = ap (λ (v : Vec KnownQuery Global). v.items) w.clear-is in
-            subst (λ (ks : List KnownQuery). Picks P (take (k + 1) known) ks) (sym same)
-            (subst (λ (ks : List KnownQuery). Picks P ks old) more
-            (picks_same P (take k known) old item c.loop-one.invariant.0
-            (λ e. let on : c.in_ok-is_clear.field-0 ≡ true = clear.1 (e.on_map, e.clear) in
-            let off : c.in_ok-is_clear.field-0 ≡ false = w.if-branch.false in cc)))
-      ],
+            let here : Picks P (item ∷ drop (k + 1) known) ks =
+            inr ((λ e. let on : c.in_ok-is_clear.field-0 ≡ true = clear.1 (e.on_map, e.clear) in
+            let off : c.in_ok-is_clear.field-0 ≡ false = w.if-branch.false in cc), h) in
+            rw same (c.loop-one.invariant.0 ks (rw rest here))
+      ]),
       c.in_ok-is_clear.ensures.detours,
     )
 
+pub loop-one-init : goal.loop-one-init
+loop-one-init g c = ((λ ks h. rw c.new-clear.ensures.items h), c.requires (c.are_few.ensures.0 cc))
+
 pub returns-clause-clear : goal.returns-clause-clear
 returns-clause-clear g c =
-    let P : KnownQuery → Type 0 = λ e. IsAgainClear (g.M.MapRead.map c.args.map.now) (changed_of c.args.touched.now) e.query
-    in
-    subst (λ (ks : List KnownQuery). Picks P ks c.loop-one.clear.items)
-    (take_all c.loop-one.one-index c.args.known.now (omega (arith, c.loop-one-test.false))) c.loop-one.invariant.0
+    rw (append-nil c.loop-one.clear.items) at (c.loop-one.invariant.0 []
+    (rw (drop_all c.loop-one.one-index c.args.known.now c.loop-one-test.false) refl))
 
 pub returns-then-not-are_few-clause-clear : goal.returns-then-not-are_few-clause-clear
 returns-then-not-are_few-clause-clear g c =

@@ -19,24 +19,14 @@ renew_overlaid-requires g c =
     let e = c.new-none.ensures is in
     record {
       keeps = none_keeps (overlay_changes c.new-none.result) (items c.new-none.result.added) c.new-none.ensures;
-      names = subst (λ (js : List Item). NamesDiffer (all_named js)) (sym e) c.len-names.ensures.names;
-      follows = subst (Follows is) (sym e) (follows_self is c.len-names.ensures.names);
-      bounds = subst (AreBoundsOf (g.M.MapRead.map c.args.map.now) c.args.bounds.now) (sym e) c.requires.bounds;
-      before =
-          subst (λ (js : List Item). (L : Map) × WasBefore L (g.M.MapRead.map c.args.map.now) c.args.touched.now js)
-          (sym e) c.requires.before;
+      names = rw e c.len-names.ensures.names;
+      follows = rw e (follows_self is c.len-names.ensures.names);
+      bounds = rw e c.requires.bounds;
+      before = rw e c.requires.before;
     }
 
 pub returns-clause-renewed : goal.returns-clause-renewed
-returns-clause-renewed g c =
-    subst (λ (is : List Item). IfOk c.renew_overlaid.result (λ es. IsRenewal (g.M.MapRead.map c.args.map.now)
-    c.args.touched.now (items c.args.self.now) is (items c.renew_overlaid.new.self) (map entry_of es.items)
-    c.args.work.now c.renew_overlaid.new.work c.args.kept.now c.renew_overlaid.new.kept))
-    (c.new-none.ensures (items c.args.self.now)) c.renew_overlaid.ensures.renewed
+returns-clause-renewed g c = rw (c.new-none.ensures (items c.args.self.now)) at c.renew_overlaid.ensures.renewed
 
 pub returns-clause-new_origins : goal.returns-clause-new_origins
-returns-clause-new_origins g c =
-    subst (λ (is : List Item). OnOk c.renew_overlaid.result ((v : CoverageQuery) →
-    Begins (items c.renew_overlaid.new.self) v → Begins is v
-    ⊎ Contains (new_origins_in c.renew_overlaid.new.searches) v)) (c.new-none.ensures (items c.args.self.now))
-    c.renew_overlaid.ensures.new_origins
+returns-clause-new_origins g c = rw (c.new-none.ensures (items c.args.self.now)) at c.renew_overlaid.ensures.new_origins
