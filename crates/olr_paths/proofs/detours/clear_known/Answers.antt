@@ -1,5 +1,5 @@
 use Rattle.std.proofs.Common.{◌≡◌, ◌≤◌, ℕ, ◌+◌, List, ◌∷◌, [], ◌++◌, drop, length, inl, inr, refl, append-nil, append_assoc, IsTrue, ◌↔◌, true, false, sym, ap}
-use Rattle.std.proofs.Common.{subst, arith, ◌∙◌, Vec, Global}
+use Rattle.std.proofs.Common.{subst, ◌∙◌, Vec, Global}
 use Rattle.std.proofs.lemmas.List.{drop_all, drop_more}
 use Rattle.olr_spec.specs.Queries.{CoverageQuery, KnownQuery}
 use Rattle.olr_commands.specs.Counts.{IsAgainClear, Picks, most_changed}
@@ -36,8 +36,11 @@ loop-one-preserved g c =
         | else-branch w ↦
             let same : c.if-branch.clear.items ≡ old = ap (λ (v : Vec KnownQuery Global). v.items) w.clear-is in
             let here : Picks P (item ∷ drop (k + 1) known) ks =
-            inr ((λ e. let on : c.in_ok-is_clear.field-0 ≡ true = clear.1 (e.on_map, e.clear) in
-            let off : c.in_ok-is_clear.field-0 ≡ false = w.if-branch.false in cc), h) in
+            inr (
+              (λ e. let on : c.in_ok-is_clear.field-0 ≡ true = clear.1 (e.on_map, e.clear) in
+                  let off : c.in_ok-is_clear.field-0 ≡ false = w.if-branch.false in cc),
+              h,
+            ) in
             rw same (c.loop-one.invariant.0 ks (rw rest here))
       ]),
       c.in_ok-is_clear.ensures.detours,

@@ -1,12 +1,5 @@
-use Rattle.std.proofs.Common.{◌⊎◌, List, Contains, map, sym, subst, ◌∙◌}
-use Rattle.olr_spec.specs.Map.{Map}
-use Rattle.olr_commands.specs.State.{NamesDiffer}
-use Rattle.olr_spec.specs.Queries.{CoverageQuery}
-use Rattle.olr_paths.specs.Items.{Item, items, all_named}
-use Rattle.olr_paths.specs.Changes.{Follows}
-use Rattle.olr_paths.specs.Origins.{Begins, AreBoundsOf, new_origins_in}
-use Rattle.olr_paths.specs.Renewing.{WasBefore, IsRenewal}
-use Rattle.olr_commands.specs.Words.{entry_of}
+use Rattle.std.proofs.Common.{◌∙◌}
+use Rattle.olr_paths.specs.Items.{items}
 use Rattle.olr_paths.specs.Laying.{overlay_changes}
 use Rattle.olr_paths.proofs.Changed.{none_keeps}
 use Rattle.olr_paths.proofs.path_list.PathList.renew_over.Goals as goal
