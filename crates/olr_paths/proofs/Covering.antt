@@ -198,6 +198,7 @@ is_there None h = absurd (h refl)
 is_there (Some p) h = (p, refl)
 
 module _ (N : Map) (n : IsMap N) (slot : ℕ → ℕ) (t : ChangeSet) (s : Searches) (l : PathList) (off_held : l.held ≡ false)
+    (known : IsTrue l.finder.known)
     (found : List ℕ) (traversed : AreFound l.path_ids.items l.finder.traversed (nodes_of t) found)
     (from : AreFound l.path_ids.items l.finder.by_query_origin (nodes_of t) found)
     (lines : AreFound l.path_ids.items l.finder.lines (lines_of t) found)
@@ -218,7 +219,7 @@ module _ (N : Map) (n : IsMap N) (slot : ℕ → ℕ) (t : ChangeSet) (s : Searc
     never_traversed h =
         let held =
         All-contains (λ (v : ℕ). IsTrue (holds f.traversed v (get_or ms k 0))) p.value.traversed h.0
-        ((l.noted k e at p some).0)
+        ((l.noted k e at p some known).0)
         h.2 in
         let on =
         All-contains (λ (v : ℕ). Finds ms f.traversed v found) (nodes_of t) h.0 traversed
@@ -230,7 +231,7 @@ module _ (N : Map) (n : IsMap N) (slot : ℕ → ℕ) (t : ChangeSet) (s : Searc
     never_line h =
         let held =
         All-contains (λ (v : ℕ). IsTrue (holds f.lines v (get_or ms k 0))) e.1.path.value.lines h.0
-        ((l.noted k e at p some).2) (in_from e.1.path.value.lines h.0 h.2) in
+        ((l.noted k e at p some known).2) (in_from e.1.path.value.lines h.0 h.2) in
         let on =
         All-contains (λ (v : ℕ). Finds ms f.lines v found) (lines_of t) h.0 lines (in_from (lines_of t) h.0 h.1) k lower
         held in
@@ -243,7 +244,7 @@ module _ (N : Map) (n : IsMap N) (slot : ℕ → ℕ) (t : ChangeSet) (s : Searc
         let held : IsTrue (holds f.by_query_origin v (get_or ms k 0)) =
         All-contains (λ (l : CoverageQuery). IsTrue (holds f.by_query_origin l.from (get_or ms k 0)))
         p.value.queries.items h.0
-        ((l.noted k e at p some).1) h.1 in
+        ((l.noted k e at p some known).1) h.1 in
         elim (cases_Bool s.far) [
           | inl far ↦ a.far far h
           | inr close ↦ elim (cases_Bool (has_node N v)) [

@@ -71,9 +71,9 @@ lack_from [] l none h = h
 lack_from (e ∷ es) l none (inl b) = none 0 e refl b
 lack_from (e ∷ es) l none (inr b) = lack_from es l (λ k. none (suc k)) b
 
-pub lack_by : (p : PathList) → ((number : ℕ) → path_ids_of p.finder.by_query_origin number ≡ []) →
+pub lack_by : (p : PathList) → IsTrue p.finder.known → ((number : ℕ) → path_ids_of p.finder.by_query_origin number ≡ []) →
     LackQueries (items p)
-lack_by p empty l = lack_from p.paths.entries l (λ k e at. by k e at e.1.published refl) where
+lack_by p known empty l = lack_from p.paths.entries l (λ k e at. by k e at e.1.published refl) where
   by : (k : ℕ) (e : String Global × NamedPath) → slice_get p.paths.entries k ≡ Some e →
       (o : Option (Rc Published Global)) → e.1.published ≡ o → BeginsIn (option_map (λ r. made_of r.value) o) l → ⊥
   by k e at None is b = b
@@ -81,7 +81,7 @@ lack_by p empty l = lack_from p.paths.entries l (λ k e at. by k e at e.1.publis
       let id = get_or p.path_ids.items k 0 in
       let held : IsTrue (holds p.finder.by_query_origin l.from id) =
       All-contains (λ (q : CoverageQuery). IsTrue (holds p.finder.by_query_origin q.from id)) r.value.queries.items l
-      (p.noted k e at r is).1 b in
+      (p.noted k e at r is known).1 b in
       let off = ap (λ (xs : List ℕ). has xs id) (empty l.from) in
       cc (held, off)
 

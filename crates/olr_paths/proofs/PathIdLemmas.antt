@@ -29,8 +29,8 @@ use Rattle.olr_commands.proofs.NameLemmas.{flipped}
 -- ---- the index entries of a path, as others are added and removed
 
 pub named_grown : (f g : Finder) (m : ℕ) (n : NamedPath) → Grows f g → NamedNoted f m n → NamedNoted g m n
-named_grown f g m n more h p some =
-    let old = h p some in (
+named_grown f g m n more h p some known =
+    let old = h p some (more.3 known) in (
       (λ k d lt. more.0 _ m (old.0 k d lt)),
       (λ k d lt. more.1 _ m (old.1 k d lt)),
       (λ k d lt. more.2 _ m (old.2 k d lt)),
@@ -38,8 +38,8 @@ named_grown f g m n more h p some =
 
 pub named_spared : (f g : Finder) (path_id m : ℕ) (n : NamedPath) → m ≢ path_id → Spares path_id f g →
     NamedNoted f m n → NamedNoted g m n
-named_spared f g path_id m n ne spare h p some =
-    let old = h p some in (
+named_spared f g path_id m n ne spare h p some known =
+    let old = h p some (spare.3 known) in (
       (λ k d lt. spare.0 _ m ne ∙ old.0 k d lt),
       (λ k d lt. spare.1 _ m ne ∙ old.1 k d lt),
       (λ k d lt. spare.2 _ m ne ∙ old.2 k d lt),

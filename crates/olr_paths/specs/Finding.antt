@@ -1,6 +1,6 @@
 -- Which path ids a finder has, and that it has the entries of each path.
 --     TraversedNoted, FromNoted, LinesNoted      traversed nodes, the first nodes of queries, and lines have a path id.
---     IsNoted      all three
+--     IsNoted      all three, if the entries are known
 --     KeepsAll i j      each number still has its path ids.
 --     KeepsBut path_id i j      each number has the same path ids, except for one id
 --     Grows f g, Spares f g path_id      the same two for a finder
@@ -27,8 +27,9 @@ abbrev pub FromNoted : Index → ℕ → List CoverageQuery → Type 0
 FromNoted i path_id queries = All (λ l. IsTrue (holds i l.from path_id)) queries
 
 abbrev pub IsNoted : Finder → ℕ → List ℕ → List ℕ → List CoverageQuery → Type 0
-IsNoted f path_id xs traversed queries = TraversedNoted f.traversed path_id traversed
-    × FromNoted f.by_query_origin path_id queries × TraversedNoted f.lines path_id xs
+IsNoted f path_id xs traversed queries =
+    IsTrue f.known → TraversedNoted f.traversed path_id traversed × FromNoted f.by_query_origin path_id queries
+    × TraversedNoted f.lines path_id xs
 
 abbrev pub KeepsAll : Index → Index → Type 0
 KeepsAll i j = (n m : ℕ) → IsTrue (holds i n m) → IsTrue (holds j n m)
@@ -37,11 +38,12 @@ abbrev pub KeepsBut : ℕ → Index → Index → Type 0
 KeepsBut path_id i j = (n m : ℕ) → m ≢ path_id → holds j n m ≡ holds i n m
 
 abbrev pub Grows : Finder → Finder → Type 0
-Grows f g = KeepsAll f.traversed g.traversed × KeepsAll f.by_query_origin g.by_query_origin × KeepsAll f.lines g.lines
+Grows f g = KeepsAll f.traversed g.traversed × KeepsAll f.by_query_origin g.by_query_origin
+    × KeepsAll f.lines g.lines × (IsTrue g.known → IsTrue f.known)
 
 abbrev pub Spares : ℕ → Finder → Finder → Type 0
 Spares path_id f g = KeepsBut path_id f.traversed g.traversed × KeepsBut path_id f.by_query_origin g.by_query_origin
-    × KeepsBut path_id f.lines g.lines
+    × KeepsBut path_id f.lines g.lines × (IsTrue g.known → IsTrue f.known)
 
 -- the index entries of a path, if it was encoded
 abbrev pub NamedNoted : Finder → ℕ → NamedPath → Type 0

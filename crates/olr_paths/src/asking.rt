@@ -10,7 +10,7 @@ ghost use Rattle.olr_search.specs.Bounds.{AreLengths};
 ghost use Rattle.olr_near.specs.Bounds.{IsRight, IsSource};
 ghost use Rattle.olr_search.specs.declared.distances.Direction.TheVariants.{Against};
 ghost use Rattle.olr_commands.specs.Counts.{most_changed};
-ghost use Rattle.olr_paths.specs.Items.{made_of};
+ghost use Rattle.olr_paths.specs.Items.{made_of, items};
 ghost use Rattle.olr_paths.specs.Showing.{shown_items};
 ghost use Rattle.olr_paths.specs.Touching.{nodes_of, lines_of, changed_of};
 ghost use Rattle.olr_paths.specs.Searching.{sources, IsExactAt, IsAsked, AreAsked, AreDetours, LackQueries};
@@ -22,6 +22,7 @@ use crate::candidates::candidates;
 use crate::change_set::ChangeSet;
 use crate::detours::begin_detours;
 use crate::overlaid_list::OverlaidList;
+use crate::path_list::PathList;
 use crate::published::Published;
 use crate::searches::Searches;
 use olr_map::{Footprint, LineId, MapRead, NodeId};
@@ -65,12 +66,18 @@ pub(crate) fn search_near<M: MapRead>(
     Ok(())
 }
 
+/// Whether it is known that no path of a list has a coverage query.
+fn lacks_queries(list: &PathList) -> bool
+    ensures { IsTrue result → LackQueries (items list.now) }
+{
+    list.finder.known && list.finder.by_query_origin.is_empty()
+}
+
 /// Whether it is known that no path has a coverage query: then no touched node can be near to one.
 fn is_without_queries(overlaid: OverlaidList<'_>) -> bool
     ensures { IsTrue result → LackQueries (shown_items overlaid.entry) }
 {
-    overlaid.list.finder.by_query_origin.is_empty()
-        && overlaid.overlay.added.finder.by_query_origin.is_empty()
+    lacks_queries(overlaid.list) && lacks_queries(&overlaid.overlay.added)
 }
 
 /// Searches from what edits touched, unless no coverage query can reach it: the distance bounds show so, or no path has

@@ -100,6 +100,7 @@ fn put_touched<M: MapRead>(
     found: &mut Vec<usize>,
 ) -> Result<(), AllocError>
     requires encoded { IsFalse list.now.held }
+    requires known { IsTrue list.now.finder.known }
     ensures { OnOk result
         (CoversAsked (M.map map.now) (M.node_slot map.now) touched.now searches.now (items list.now) found.new.items) }
 {
@@ -113,8 +114,7 @@ fn put_touched<M: MapRead>(
 }
 
 /// Appends the positions of the list's paths that the edits may affect, or that changes replace; all positions if the
-/// list
-/// may have a path that is not encoded yet.
+/// list may have a path that is not encoded yet, or if its index entries are not known.
 fn put_listed<M: MapRead>(
     map: &M,
     overlaid: OverlaidList<'_>,
@@ -128,7 +128,7 @@ fn put_listed<M: MapRead>(
         (CoversAsked (M.map map.now) (M.node_slot map.now) touched.now searches.now (items overlaid.entry.list.now)
         found.new.items) }
 {
-    if overlaid.list.held {
+    if overlaid.list.held || !overlaid.list.finder.known {
         put_range(0, overlaid.list.paths.len(), found)?;
         return Ok(());
     }

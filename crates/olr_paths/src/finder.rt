@@ -1,5 +1,5 @@
 //! Which paths have a node or a line, found by its number.
-ghost use Rattle.std.specs.Prelude.{◌≡◌, All, Contains, IsTrue, OnOk};
+ghost use Rattle.std.specs.Prelude.{◌≡◌, All, Contains, IsTrue, IsFalse, OnOk};
 ghost use Rattle.olr_spec.specs.Queries.{CoverageQuery as QueryRecord};
 ghost use Rattle.std.specs.List.Sorted.{IsStrictlyIncreasing};
 ghost use Rattle.olr_index.specs.PathIds.{holds};
@@ -19,6 +19,8 @@ pub struct Finder {
     pub(crate) traversed: Index,
     pub(crate) by_query_origin: Index,
     pub(crate) lines: Index,
+    /// Whether the entries are known. If not, it has none.
+    pub(crate) known: bool,
 }
 
 impl Finder {
@@ -31,6 +33,17 @@ impl Finder {
             traversed: Index::new(alloc),
             by_query_origin: Index::new(alloc),
             lines: Index::new(alloc),
+            known: true,
+        }
+    }
+
+    /// A finder whose entries are not known. Takes no memory.
+    pub(crate) fn unknown(alloc: Global) -> Finder
+        ensures { IsFalse result.known }
+    {
+        Finder {
+            known: false,
+            ..Finder::new(alloc)
         }
     }
 
@@ -47,6 +60,9 @@ impl Finder {
         ensures grows { Grows self.old self.new }
         ensures spares { Spares path_id self.old self.new }
     {
+        if !self.known {
+            return Ok(());
+        }
         note_each(&mut self.traversed, path_id, published.traversed.as_slice())?;
         note_each(&mut self.by_query_origin, path_id, &published.queries)?;
         note_each(&mut self.lines, path_id, lines)

@@ -188,12 +188,12 @@ impl Overlay {
         Ok(())
     }
 
-    /// The list under these changes. It shares paths and answers with the list.
+    /// The list under these changes, without index entries. It shares paths and answers with the list.
     pub fn overlaid_copy(&self, alloc: Global, list: &PathList) -> Result<PathList, AllocError>
         requires { NamesDiffer (all_named (under_overlay (items list.now) self.now)) }
         ensures { IfOk result (λ l. items l ≡ under_overlay (items list.now) self.now) }
     {
-        let mut overlaid = PathList::new(alloc);
+        let mut overlaid = PathList::unindexed(alloc);
         put_behind(alloc, &self.changes, list, &mut overlaid)?;
         let none = IndexMap::new(alloc);
         put_behind(alloc, &none, &self.added, &mut overlaid)?;

@@ -91,6 +91,18 @@ impl PathList {
         }
     }
 
+    /// The list without paths, to be filled without index entries. Takes no memory.
+    pub(crate) fn unindexed(alloc: Global) -> PathList
+        ensures { items result ≡ [] }
+    {
+        PathList {
+            paths: IndexMap::new(alloc),
+            path_ids: Vec::new(alloc),
+            finder: Finder::unknown(alloc),
+            held: false,
+        }
+    }
+
     /// The number of paths. No name occurs twice.
     pub fn len(&self) -> usize
         ensures len { result ≡ length (items self.now) }

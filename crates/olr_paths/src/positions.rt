@@ -1,10 +1,11 @@
 //! Storing results at the positions of their paths.
-ghost use Rattle.std.specs.Prelude.{◌≡◌, ◌+◌, ◌≤◌, ◌++◌, OnOk, OnErr, take, length, vec_len, vec_capacity};
+ghost use Rattle.std.specs.Prelude.{◌≡◌, ◌+◌, ◌≤◌, ◌++◌, IfOk, OnOk, OnErr, take, length, vec_len, vec_capacity};
 ghost use Rattle.olr_commands.specs.State.{NamesDiffer};
 ghost use Rattle.olr_paths.specs.Items.{items, all_named};
 ghost use Rattle.olr_paths.specs.Finding.{AreNotedAt};
 ghost use Rattle.olr_paths.specs.Renewing.{all_put, puts_of};
 
+use crate::finder::Finder;
 use crate::overlay::{Overlay, put_behind};
 use crate::path_list::{NamedPath, PathList, forget_named, note_one};
 use indexmap::IndexMap;
@@ -43,6 +44,39 @@ fn tidy(list: &mut PathList, replaced: &[(usize, NamedPath)])
         };
         let path_id = list.path_ids[*position];
         forget_named(&mut list.finder, path_id, named, Some(kept));
+    }
+}
+
+impl PathList {
+    ghost use Rattle.std.specs.Prelude.{◌≡◌, IfOk};
+    ghost use Rattle.olr_paths.specs.Finding.{AreNoted};
+    ghost use Rattle.olr_paths.specs.Items.{items};
+
+    /// The index entries of all paths.
+    fn all_noted(&self, alloc: Global) -> Result<Finder, AllocError>
+        ensures { IfOk result (λ finder. AreNoted self.now.paths.entries self.now.path_ids.items finder) }
+    {
+        let mut finder = Finder::new(alloc);
+        for k in 0..self.paths.len() {
+            let Some((_, named)) = self.paths.get_index(k) else {
+                unreachable!()
+            };
+            note_one(&mut finder, self.path_ids[k], named)?;
+        }
+        Ok(finder)
+    }
+
+    /// Adds the index entries of all paths, unless they are known. If an allocation fails, they stay unknown, and edits
+    /// are tested against all paths.
+    pub(crate) fn index(&mut self, alloc: Global)
+        ensures { items self.new ≡ items self.old }
+    {
+        if self.finder.known {
+            return;
+        }
+        if let Ok(finder) = self.all_noted(alloc) {
+            self.finder = finder;
+        }
     }
 }
 

@@ -25,45 +25,9 @@ use olr_search::Work;
 use std::alloc::{AllocError, Global};
 
 impl PathList {
-    /// Encodes on a map the paths that are new and those whose answer changes of it can have changed, and returns those
-    /// whose answer changed. Each affected path is counted as an encoding; `spared` counts those of them that retained
-    /// their answer, and `searches` the coverage queries of the others that are not known from the map before. On that
-    /// map, from which the changes led, the results in the list are right. The bounds are distance bounds that are right
-    /// on the map, for all coverage queries of the list: they cut the search from touched nodes. If an allocation fails,
-    /// list and counts are as before.
-    pub fn renew<M: MapRead>(
-        &mut self,
-        alloc: Global,
-        map: &M,
-        touched: &ChangeSet,
-        bounds: &DistanceBounds,
-        searches: &mut Searches,
-        work: &mut Work,
-        kept: &mut u64,
-    ) -> Result<Vec<Entry>, AllocError>
-        requires bounds { AreBoundsOf (M.map map.now) bounds.now (items self.old) }
-        requires before { (L : Map) × WasBefore L (M.map map.now) touched.now (items self.old) }
-        ensures renewed { IfOk result (λ es. IsRenewal (M.map map.now) touched.now (items self.old) (items self.old)
-            (items self.new) (list_map entry_of es.items) work.old work.new kept.old kept.new) }
-        ensures rises { OnOk result (Rises work.old work.new) }
-        ensures kept { OnOk result (kept.old ≤ kept.new) }
-        ensures new_origins { OnOk result ((v : QueryRecord) → Begins (items self.new) v
-            → Begins (items self.old) v ⊎ Contains (new_origins_in searches.new) v) }
-        ensures err { OnErr result (items self.new ≡ items self.old) }
-        ensures err_work { OnErr result (work.new ≡ work.old) }
-        ensures err_kept { OnErr result (kept.new ≡ kept.old) }
-    {
-        // For the proof alone: no name occurs twice.
-        let _names = self.len();
-        let none = Overlay::new(alloc);
-        self.renew_overlaid(
-            alloc, map, None, &none, touched, bounds, searches, work, kept,
-        )
-    }
-
-    /// The same for the list under changes that remove no path. The replaced and new paths are stored in place, at a
-    /// cost that depends only on the changes. The reported paths are those whose answer is not the earlier one of their
-    /// name, in `before` if it is given.
+    /// `renew_over` for changes that remove no path. The replaced and new paths are stored in place, at a cost that
+    /// depends only on the changes. The reported paths are those whose answer is not the earlier one of their name, in
+    /// `before` if it is given.
     fn renew_overlaid<M: MapRead>(
         &mut self,
         alloc: Global,
@@ -117,10 +81,14 @@ impl PathList {
         Ok(entries)
     }
 
-    /// The same for the list under changes. If they remove no path, they are made in place, at the cost of the changes
-    /// and of the affected paths; otherwise the list is replaced by the list under changes, at the cost of all paths.
-    /// The reported paths are those whose answer is not the earlier one of their name. If an allocation fails, list and
-    /// counts are unchanged.
+    /// Makes the changes of the list, encodes on a map the paths that are new or replaced and those whose answer changes
+    /// of it can have changed, and returns those whose answer is not the earlier one of their name. Each affected path is
+    /// counted as an encoding; `kept` counts those of them that retained their answer, and `work` the coverage queries of
+    /// the others that are not known from the map before. On that map, from which the changes of the map led, the results
+    /// in the list are right. The bounds are distance bounds that are right on the map, for all coverage queries of the
+    /// list: they cut the search from touched nodes. If no path is removed, the changes are made in place, at the cost of
+    /// the changes and of the affected paths; otherwise the list is replaced by the list under changes, at the cost of
+    /// all paths. If an allocation fails, list and counts are unchanged.
     pub fn renew_over<M: MapRead>(
         &mut self,
         alloc: Global,
@@ -149,9 +117,11 @@ impl PathList {
         ensures err_kept { OnErr result (kept.new ≡ kept.old) }
     {
         if !overlay.takes_some() {
-            return self.renew_overlaid(
+            let entries = self.renew_overlaid(
                 alloc, map, None, overlay, touched, bounds, searches, work, kept,
-            );
+            )?;
+            self.index(alloc);
+            return Ok(entries);
         }
         let mut list = overlay.overlaid_copy(alloc, self)?;
         let none = Overlay::new(alloc);
@@ -160,6 +130,7 @@ impl PathList {
             alloc, map, before, &none, touched, bounds, searches, work, kept,
         )?;
         *self = list;
+        self.index(alloc);
         Ok(entries)
     }
 }

@@ -23,7 +23,7 @@ returns g c =
     let kept3 = c.in_ok-put_found-3.ensures.kept in
     let kept4 = c.in_ok-put_found-4.ensures.kept in
     let same = c.as_slice-ids.ensures.value in
-    covers_by N (g.met.M.MapRead.sound c.args.map.now) slot t c.args.searches.now l c.requires.encoded four
+    covers_by N (g.met.M.MapRead.sound c.args.map.now) slot t c.args.searches.now l c.requires.encoded c.requires.known four
     (found_grown (λ (v : ℕ). v) ids f.traversed (nodes_of t) one four
     (λ k on. kept4 k (kept3 k (c.in_ok-put_found-2.ensures.kept k on)))
     (rw (same, c.nodes-nodes.ensures) at c.in_ok-put_found.ensures.put))

@@ -21,7 +21,7 @@ loop-position-preserved-then-position-len c =
     let r : One = c.loop-position-item.result in
     let one : NotedAt l.path_ids.items l.finder r =
     λ low. absurd (omega (arith, low, c.if-position-len.true, c.len.ensures)) in
-    let stay : Grows l.finder l.finder = ((λ n m t. t), (λ n m t. t), (λ n m t. t)) in (
+    let stay : Grows l.finder l.finder = ((λ n m t. t), (λ n m t. t), (λ n m t. t), (λ known. known)) in (
       at_more l.path_ids.items l.finder l.finder c.args.fresh.now c.loop-position.position-index r
           c.loop-position-test.true stay c.loop-position.invariant.0
           (subst (λ (x : One). NotedAt l.path_ids.items l.finder x) c.loop-position-item.is one),
