@@ -1,22 +1,28 @@
 -- How many paths the changes affect, counted by the stored results; none if there are no changes.
 use Rattle.std.proofs.Common.{inl, inr, ◌≡◌, ℕ, ◌≤◌, true, false, List, [], ◌∷◌, map, length, All, Option, Some, None}
-use Rattle.std.proofs.Common.{refl, sym, ap, ◌∙◌, subst, arith}
+use Rattle.std.proofs.Common.{refl, sym, ap, ◌∙◌, subst}
 use Rattle.std.specs.Prelude.{Bool, is_none, MatchOption}
-use Rattle.std.specs.List.{list_any, AllByRecursion}
+use Rattle.std.specs.List.{list_any}
 use Rattle.std.proofs.lemmas.Bool.{both_ways}
 use Rattle.olr_spec.specs.Map.{Map, has}
 use Rattle.olr_spec.specs.Extension.{Path}
 use Rattle.olr_spec.specs.Detours.{ChangedLine}
 use Rattle.olr_spec.specs.Queries.{CoverageQuery, IsClear}
-use Rattle.olr_commands.specs.State.{Named, Content, same_name, Change, State, Command, changes_made}
-use Rattle.olr_commands.specs.Counts.{Affects, By_name, By_node, By_line, CountIs, Raises, all_nodes, all_lines}
-use Rattle.olr_commands.specs.Counts.{all_changed, all_names, most_changed, IsUnchanged, Retains, EncodesAgain, Spares}
-use Rattle.olr_commands.specs.Counts.{SearchedFor, SearchedAgain, Either, SearchesFor, Collects, Searches}
+use Rattle.olr_commands.specs.State.{Named, Content, same_name, Change}
+use Rattle.olr_commands.specs.Counts.{Affects, By_name, By_node, By_line, CountIs, all_nodes, all_lines}
+use Rattle.olr_commands.specs.Counts.{all_changed, all_names, most_changed, IsUnchanged, Retains, EncodesAgain}
+use Rattle.olr_commands.specs.Counts.{SearchedFor, SearchedAgain, Either, SearchesFor, Collects}
 use Rattle.olr_paths.specs.Items.{Made, Item, named_of, all_named}
 use Rattle.olr_paths.specs.Changes.{IsAffected, IsSpared, IsEncodedAgain, SearchesItem, Totals, AreTotals}
 use Rattle.olr_paths.specs.Changes as made
 use Rattle.olr_register.specs.Holding.{held_of}
-use Rattle.olr_commands.proofs.CountLemmas.{unconcerned}
+use Rattle.olr_register.specs.HoldsChange.{AreGiven}
+
+-- by how much changes from c to d, whose paths are ps, raise the counts
+pub record AreRises (c d : Content) (xs : List Change) (ps : List Named) (t : Totals) : Type 0 where
+  pub affected : CountIs (Affects c xs) ps t.affected
+  pub spared : CountIs (Retains c d xs) ps t.spared
+  pub queries : Collects (EncodesAgain c d xs) (SearchesFor c d xs) ps t.queries
 
 some_made : (o : Option Made) → (o ≡ None → ⊥) → is_none o ≡ false
 some_made None h = absurd (h refl)
@@ -25,21 +31,6 @@ some_made (Some m) h = refl
 none_made : (o : Option Made) → is_none o ≡ true → o ≡ None
 none_made None e = refl
 none_made (Some m) e = absurd cc
-
-module _ (c : Content) (changes : List Change) (ns xs : List ℕ)
-    (same_nodes : (v : ℕ) → has ns v ≡ has (all_nodes c changes) v)
-    (same_lines : (x : ℕ) → has xs x ≡ has (all_lines changes) x) where
-  affects_by_made : (i : Item) → is_none i.made ≡ list_any (same_name i.name) (all_names changes) →
-      IsAffected c.map ns xs i → Affects c changes (named_of i)
-  affects_by_made i given (made.By_name e) = By_name (sym given ∙ ap (λ (o : Option Made). is_none o) e)
-  affects_by_made i given (made.By_node v h f) = By_node v (sym (same_nodes v) ∙ h) f
-  affects_by_made i given (made.By_line x h f) = By_line x (sym (same_lines x) ∙ h) f
-
-  made_by_affects : (i : Item) → is_none i.made ≡ list_any (same_name i.name) (all_names changes) →
-      Affects c changes (named_of i) → IsAffected c.map ns xs i
-  made_by_affects i given (By_name h) = made.By_name (none_made i.made (given ∙ h))
-  made_by_affects i given (By_node v h f) = made.By_node v (same_nodes v ∙ h) f
-  made_by_affects i given (By_line x h f) = made.By_line x (same_lines x ∙ h) f
 
 -- ---- the items of a list, and the paths of a content
 
@@ -50,7 +41,7 @@ module _ (names : List (List ℕ)) (P : Item → Type 0) (Q : Named → Type 0)
     (to : (i : Item) → Given names i → P i → Q (named_of i))
     (back : (i : Item) → Given names i → Q (named_of i) → P i) where
   count_named : (is : List Item) (n : ℕ) →
-      AllByRecursion (λ h. h.given ≡ list_any (same_name h.name) names) (map held_of is) → CountIs P is n →
+      AreGiven names (map held_of is) → CountIs P is n →
       CountIs Q (all_named is) n
   count_named [] n given count = count
   count_named (i ∷ is) n given (inl h) =
@@ -59,8 +50,7 @@ module _ (names : List (List ℕ)) (P : Item → Type 0) (Q : Named → Type 0)
 
   collect_named : (R : Item → List CoverageQuery → Type 0) (S : Named → List CoverageQuery → Type 0) →
       ((i : Item) (own : List CoverageQuery) → Given names i → R i own → S (named_of i) own) → (is : List Item)
-      (queries : List CoverageQuery) → AllByRecursion (λ h. h.given ≡ list_any (same_name h.name) names)
-      (map held_of is) → Collects P R is queries → Collects Q S (all_named is) queries
+      (queries : List CoverageQuery) → AreGiven names (map held_of is) → Collects P R is queries → Collects Q S (all_named is) queries
   collect_named R S moved [] queries given h = h
   collect_named R S moved (i ∷ is) queries given (inl h) =
       inl (
@@ -96,10 +86,14 @@ module _ (c d : Content) (changes : List Change) (ns xs : List ℕ) (cs : List C
     (same_nodes : (v : ℕ) → has ns v ≡ has (all_nodes c changes) v)
     (same_lines : (x : ℕ) → has xs x ≡ has (all_lines changes) x) (same_changed : cs ≡ all_changed c changes) where
   affects_to : (i : Item) → Given (all_names changes) i → IsAffected c.map ns xs i → Affects c changes (named_of i)
-  affects_to = affects_by_made c changes ns xs same_nodes same_lines
+  affects_to i given (made.By_name e) = By_name (sym given ∙ ap (λ (o : Option Made). is_none o) e)
+  affects_to i given (made.By_node v h f) = By_node v (sym (same_nodes v) ∙ h) f
+  affects_to i given (made.By_line x h f) = By_line x (sym (same_lines x) ∙ h) f
 
   affects_back : (i : Item) → Given (all_names changes) i → Affects c changes (named_of i) → IsAffected c.map ns xs i
-  affects_back = made_by_affects c changes ns xs same_nodes same_lines
+  affects_back i given (By_name h) = made.By_name (none_made i.made (given ∙ h))
+  affects_back i given (By_node v h f) = made.By_node v (same_nodes v ∙ h) f
+  affects_back i given (By_line x h f) = made.By_line x (same_lines x ∙ h) f
 
   retains_to : (i : Item) → Given (all_names changes) i → IsSpared c.map d.map ns xs cs i →
       Retains c d changes (named_of i)
@@ -141,47 +135,34 @@ module _ (c d : Content) (changes : List Change) (ns xs : List ℕ) (cs : List C
       (subst (λ (ks : List ChangedLine). SearchesItem c.map d.map ks i queries) same_changed h))
 
   module _ (is : List Item) (t : Totals) (totals : AreTotals c.map d.map ns xs cs is t)
-      (given : AllByRecursion (λ h. h.given ≡ list_any (same_name h.name) (all_names changes)) (map held_of is)) where
-    pub counted_changes : CountIs (Affects c changes) (all_named is) t.affected
-    counted_changes =
-        count_named (all_names changes) (IsAffected c.map ns xs) (Affects c changes) affects_to affects_back is
-        t.affected given totals.affected
-
-    pub spared_changes : CountIs (Retains c d changes) (all_named is) t.spared
-    spared_changes =
-        count_named (all_names changes) (IsSpared c.map d.map ns xs cs) (Retains c d changes) retains_to retains_back is
-        t.spared given totals.spared
-
-    pub searched_changes : Collects (EncodesAgain c d changes) (SearchesFor c d changes) (all_named is) t.queries
-    searched_changes =
-        collect_named (all_names changes) (IsEncodedAgain c.map d.map ns xs cs) (EncodesAgain c d changes) encodes_to
-        encodes_back (SearchesItem c.map d.map cs) (SearchesFor c d changes) searches_to is t.queries given
-        totals.queries
+      (given : AreGiven (all_names changes) (map held_of is)) where
+    pub counted_changes : (ps : List Named) → ps ≡ all_named is → AreRises c d changes ps t
+    counted_changes ps same = subst (λ (qs : List Named). AreRises c d changes qs t) (sym same) (record {
+      affected =
+          count_named (all_names changes) (IsAffected c.map ns xs) (Affects c changes) affects_to affects_back is
+          t.affected given totals.affected;
+      spared =
+          count_named (all_names changes) (IsSpared c.map d.map ns xs cs) (Retains c d changes) retains_to retains_back
+          is t.spared given totals.spared;
+      queries =
+          collect_named (all_names changes) (IsEncodedAgain c.map d.map ns xs cs) (EncodesAgain c d changes) encodes_to
+          encodes_back (SearchesItem c.map d.map cs) (SearchesFor c d changes) searches_to is t.queries given
+          totals.queries;
+    })
 
 -- ---- a count of 0
 
-pub none_counted : {A : Type 0} (P : A → Type 0) → ((x : A) → ¬ P x) → (xs : List A) → CountIs P xs 0
-none_counted P none [] = refl
-none_counted P none (x ∷ xs) = inr (none x, none_counted P none xs)
+abbrev pub no_totals : Totals
+no_totals = record { affected = 0; spared = 0; queries = [] }
 
-pub none_collected : (E : Named → Type 0) (Q : Named → List CoverageQuery → Type 0) → ((p : Named) → ¬ E p) →
-    (ps : List Named) → Collects E Q ps []
-none_collected E Q none [] = refl
-none_collected E Q none (p ∷ ps) = inr (none p, none_collected E Q none ps)
-
-pub raises_none : (s t : State) (x : Command) → changes_made s x ≡ [] → Raises s x t 0
-raises_none s t x e =
-    subst (λ (ys : List Change). CountIs (Affects s.content ys) t.content.paths 0) (sym e)
-    (none_counted (Affects s.content []) (unconcerned s.content) t.content.paths)
-
-pub spares_none : (s t : State) (x : Command) → changes_made s x ≡ [] → Spares s x t 0
-spares_none s t x e =
-    subst (λ (ys : List Change). CountIs (Retains s.content t.content ys) t.content.paths 0) (sym e)
-    (none_counted (Retains s.content t.content []) (λ p h. unconcerned s.content p h.affected) t.content.paths)
-
-pub searches_none : (s t : State) (x : Command) → changes_made s x ≡ [] → Searches s x t []
-searches_none s t x e =
-    subst (λ (ys : List Change). Collects (EncodesAgain s.content t.content ys) (SearchesFor s.content t.content ys)
-    t.content.paths []) (sym e)
-    (none_collected (EncodesAgain s.content t.content []) (SearchesFor s.content t.content [])
-    (λ p h. unconcerned s.content p h.0) t.content.paths)
+-- changes that affect no path
+pub none_affected : (c d : Content) (xs : List Change) → ((p : Named) → ¬ Affects c xs p) → (ps : List Named) →
+    AreRises c d xs ps no_totals
+none_affected c d xs none [] = record { affected = refl; spared = refl; queries = refl }
+none_affected c d xs none (p ∷ ps) =
+    let rest = none_affected c d xs none ps in
+    record {
+      affected = inr (none p, rest.affected);
+      spared = inr ((λ h. none p h.affected), rest.spared);
+      queries = inr ((λ h. none p h.0), rest.queries);
+    }

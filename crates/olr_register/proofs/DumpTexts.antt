@@ -42,7 +42,7 @@ module _ {X : Type 0} (q : X → Bool) where
   all_from [] a = refl
   all_from (e ∷ es) a = and_from (q e.1) (list_all (λ e. q e.1) es) a.0 (all_from es a.1)
 
-  pub value_passes : (m : FinMap nat_cmp X) (k : ℕ) (x : X) → Tested q (entries m) → get m k ≡ Some x → q x ≡ true
+  value_passes : (m : FinMap nat_cmp X) (k : ℕ) (x : X) → Tested q (entries m) → get m k ≡ Some x → q x ≡ true
   value_passes m k x a h = found_passes (entries m) k x a (sym (get-entries m k) ∙ h)
 
   all_values : (m : FinMap nat_cmp X) → ((k : ℕ) (x : X) → get m k ≡ Some x → q x ≡ true) → Tested q (entries m)
@@ -80,23 +80,31 @@ one_more q xs k d lt h before =
 -- ---- a map, node by node
 
 module _ (M : Map) where
+  pub shapes_pass : is_recordable_map M ≡ true → (x : ℕ) (l : Line) → get M.lines x ≡ Some l →
+      is_recordable_shape l.shape ≡ true
+  shapes_pass a x l e =
+      value_passes (λ (k : Line). is_recordable_shape k.shape) M.lines x l
+      (and_parts (list_all (λ e. is_recordable_coord e.1) (entries M.nodes))
+      (list_all (λ e. is_recordable_shape e.1.shape) (entries M.lines)) a).1 e
+
+  pub coords_pass : is_recordable_map M ≡ true → (v : ℕ) (c : Coord) → get M.nodes v ≡ Some c →
+      is_recordable_coord c ≡ true
+  coords_pass a v c e =
+      value_passes is_recordable_coord M.nodes v c
+      (and_parts (list_all (λ e. is_recordable_coord e.1) (entries M.nodes))
+      (list_all (λ e. is_recordable_shape e.1.shape) (entries M.lines)) a).0 e
+
   line_by_map : is_recordable_map M ≡ true → (x : ℕ) → is_recordable_line_at M x ≡ true
   line_by_map a x = by (get M.lines x) refl where
     by : (o : Option Line) → get M.lines x ≡ o → is_recordable_shape (unwrap_or o no_line).shape ≡ true
     by None e = refl
-    by (Some l) e =
-        value_passes (λ (k : Line). is_recordable_shape k.shape) M.lines x l
-        (and_parts (list_all (λ e. is_recordable_coord e.1) (entries M.nodes))
-        (list_all (λ e. is_recordable_shape e.1.shape) (entries M.lines)) a).1 e
+    by (Some l) e = shapes_pass a x l e
 
   coord_by_map : is_recordable_map M ≡ true → (v : ℕ) → is_recordable_coord (coord_at M v) ≡ true
   coord_by_map a v = by (get M.nodes v) refl where
     by : (o : Option Coord) → get M.nodes v ≡ o → is_recordable_coord (unwrap_or o no_coord) ≡ true
     by None e = refl
-    by (Some c) e =
-        value_passes is_recordable_coord M.nodes v c
-        (and_parts (list_all (λ e. is_recordable_coord e.1) (entries M.nodes))
-        (list_all (λ e. is_recordable_shape e.1.shape) (entries M.lines)) a).0 e
+    by (Some c) e = coords_pass a v c e
 
   -- a node that records can't encode, or a line that leaves it
   pub not_by_node : (v : ℕ) → is_recordable_node_at M v ≡ false → is_recordable_map M ≡ false
@@ -134,7 +142,7 @@ module _ (M : Map) where
 -- ---- records
 
 -- the text with the record of one more
-pub records-more : {A : Type 0} (f : A → List ℕ) (t : List ℕ) (xs : List A) (k : ℕ) (d : A) → k < length xs
+records-more : {A : Type 0} (f : A → List ℕ) (t : List ℕ) (xs : List A) (k : ℕ) (d : A) → k < length xs
     → (t ++ flat_map f (take k xs)) ++ f (get_or xs k d) ≡ t ++ flat_map f (take (k + 1) xs)
 records-more f t xs k d lt =
     rw (take_more xs k d lt, flat_map-append f (take k xs) (get_or xs k d ∷ []), append-nil (f (get_or xs k d)))
@@ -154,7 +162,7 @@ each_at P (x ∷ xs) zero d a lt = a.0
 each_at P (x ∷ xs) (suc k) d a lt = each_at P xs k d a.1 (omega arith)
 
 -- the entry of the number at an index
-pub key_at : {X : Type 0} (m : FinMap nat_cmp X) (d : ℕ × X) (ids : List ℕ) (k i : ℕ) → ids ≡ map (λ e. e.0) (entries m) →
+key_at : {X : Type 0} (m : FinMap nat_cmp X) (d : ℕ × X) (ids : List ℕ) (k i : ℕ) → ids ≡ map (λ e. e.0) (entries m) →
     k < length ids → i ≡ get_or ids k i
     → (k < length (entries m)) × (i ≡ (get_or (entries m) k d).0) × (get m i ≡ Some (get_or (entries m) k d).1)
 key_at m d ids k i is lt at =
@@ -166,6 +174,24 @@ key_at m d ids k i is lt at =
     each_at (λ e. get m e.0 ≡ Some e.1) (entries m) k d
     (of_entries (λ e. get m e.0 ≡ Some e.1) (entries m) (entries_sorted m) (λ e there. get-entries m e.0 ∙ there)) few in
     (few, key, ap (get m) key ∙ value)
+
+-- the same, for the value o that is read at the key
+module _ {X : Type 0} (m : FinMap nat_cmp X) (d : ℕ × X) (ids : List ℕ) (k id : ℕ) (o : Option X)
+    (is : ids ≡ map (λ e. e.0) (entries m)) (lt : k < length ids) (at : id ≡ get_or ids k id) (read : o ≡ get m id) where
+  pub entry_there : o ≡ None → ⊥
+  entry_there none =
+      let never : None ≡ Some (get_or (entries m) k d).1 = sym none ∙ read ∙ (key_at m d ids k id is lt at).2 in
+      absurd cc
+
+  pub entry_record : (text : ℕ × X → List ℕ) (t : List ℕ) (x : X) → o ≡ Some x
+      → (t ++ flat_map text (take k (entries m))) ++ text (id, x) ≡ t ++ flat_map text (take (k + 1) (entries m))
+  entry_record text t x there =
+      let key = key_at m d ids k id is lt at in
+      let same : Some x ≡ Some (get_or (entries m) k d).1 = sym there ∙ read ∙ key.2 in
+      let value : x ≡ (get_or (entries m) k d).1 = cc in
+      let entry : (id, x) ≡ get_or (entries m) k d = λ i. (key.1 i, value i) in
+      ap (λ (e : ℕ × X). (t ++ flat_map text (take k (entries m))) ++ text e) entry
+      ∙ records-more text t (entries m) k d key.0
 
 texts_of : {A : Type 0} (g : A → Change) (xs : List A) → concat (map record_line (map g xs)) ≡ flat_map (λ x. record_line (g x)) xs
 texts_of g [] = refl

@@ -1,12 +1,23 @@
--- A list with a path added, replaced or dropped: in terms of commands, and the results of its paths.
-use Rattle.std.proofs.Common.{◌≡◌, ℕ, true, false, cond, not, List, [], ◌∷◌, ◌++◌, map, filter, Option, Some, None}
-use Rattle.std.proofs.Common.{refl, ap}
-use Rattle.std.specs.Prelude.{IfSome}
+-- Lists of paths after one is added, replaced or dropped: their names, and what is true of each item.
+use Rattle.std.proofs.Common.{inl, inr, ◌⊎◌, ◌≡◌, ℕ, Bool, true, false, cond, not, List, [], ◌∷◌, ◌++◌, map, filter}
+use Rattle.std.proofs.Common.{Option, Some, None, is_some, length, arith, refl, sym, ap, ◌∙◌}
+use Rattle.std.specs.Prelude.{◌||◌, is_none, IfSome}
+use Rattle.std.specs.List.{list_any}
+use Rattle.std.proofs.Math.Bool.{or-false}
+use Rattle.std.proofs.lemmas.Bool.{or_right}
+use Rattle.std.proofs.lemmas.List.Folds.{list_any-append}
+use lib.Pointwise.{bytes_decides}
 use Rattle.olr_spec.specs.Map.{Map}
 use Rattle.olr_spec.specs.Extension.{Path}
-use Rattle.olr_commands.specs.State.{Named, same_name, with_path}
+use Rattle.olr_commands.specs.State.{Named, same_name, with_path, path_named}
+use Rattle.olr_commands.proofs.NameLemmas.{not_named}
 use Rattle.olr_paths.specs.Items.{Made, Item, IsEncodingOf, AreEncodings, AreEncodingsIfAny, named_of, all_named}
-use Rattle.olr_paths.specs.Changes.{set_item}
+use Rattle.olr_paths.specs.Items.{answer_in}
+use Rattle.olr_paths.specs.Changes.{Reported, Follows, set_item}
+use Rattle.olr_paths.proofs.Following.{answer_made}
+use Rattle.olr_register.specs.RegisterState.{named_held}
+use Rattle.olr_register.specs.Holding.{held_of}
+use Rattle.olr_register.specs.HoldsChange.{AreGiven}
 
 -- ---- names and paths
 
@@ -37,60 +48,115 @@ names_drop name (i ∷ is) =
       | false ↦ rest
     ]
 
--- ---- results
+pub named_twice : (is : List Item) → map named_held (map held_of is) ≡ all_named is
+named_twice [] = refl
+named_twice (i ∷ is) = ap (λ (ps : List Named). named_of i ∷ ps) (named_twice is)
 
-pub made_add : (M : Map) (is : List Item) (name : List ℕ) (path : Path) (m : Made) → AreEncodings M is →
-    IsEncodingOf M path m → AreEncodings M (is ++ record { name = name; path = path; made = Some m } ∷ [])
-made_add M [] name path m a h = ((m, refl, h), tt)
-made_add M (i ∷ is) name path m a h = (a.0, made_add M is name path m a.1 h)
+pub no_items : (is : List Item) {n : ℕ} → n ≡ length is → n ≡ 0 → is ≡ []
+no_items [] size none = refl
+no_items (i ∷ is) size none = absurd (omega arith)
 
-pub made_set : (M : Map) (is : List Item) (name : List ℕ) (path : Path) (m : Made) → AreEncodings M is →
-    IsEncodingOf M path m → AreEncodings M (map (set_item name path (Some m)) is)
-made_set M [] name path m a h = tt
-made_set M (i ∷ is) name path m a h =
-    let one : (n : Made) × ((set_item name path (Some m) i).made ≡ Some n)
-    × IsEncodingOf M (set_item name path (Some m) i).path n =
-    elim (same_name i.name name) as (λ b. (n : Made)
-    × ((cond b (record { name = i.name; path = path; made = Some m }) i).made ≡ Some n)
-    × IsEncodingOf M (cond b (record { name = i.name; path = path; made = Some m }) i).path n) [
-      | true ↦ (m, refl, h)
-      | false ↦ a.0
+-- ---- what is true of each item
+
+-- F says of a list that P holds of each item
+pub record Each (P : Item → Type 0) (F : List Item → Type 0) : Type 0 where
+  pub none : F []
+  pub more : (i : Item) (is : List Item) → P i → F is → F (i ∷ is)
+  pub first : (i : Item) (is : List Item) → F (i ∷ is) → P i
+  pub rest : (i : Item) (is : List Item) → F (i ∷ is) → F is
+
+pub each_add : {P : Item → Type 0} {F : List Item → Type 0} → Each P F → (is : List Item) (j : Item) → P j → F is →
+    F (is ++ j ∷ [])
+each_add e [] j p f = e.more j [] p e.none
+each_add e (i ∷ is) j p f = e.more i (is ++ j ∷ []) (e.first i is f) (each_add e is j p (e.rest i is f))
+
+-- the path of that name is replaced, together with its results
+pub each_set : {P Q : Item → Type 0} {F G : List Item → Type 0} → Each P F → Each Q G → (name : List ℕ) (path : Path)
+    (made : Option Made)
+    → ((i : Item) → same_name i.name name ≡ true → Q (record { name = i.name; path = path; made = made })) →
+    ((i : Item) → same_name i.name name ≡ false → P i → Q i) → (is : List Item) → F is →
+    G (map (set_item name path made) is)
+each_set e d name path made new old [] f = d.none
+each_set {P} {Q} e d name path made new old (i ∷ is) f =
+    let one : Q (set_item name path made i) =
+    elim (same_name i.name name) as (λ b. same_name i.name name ≡ b →
+    Q (cond b (record { name = i.name; path = path; made = made }) i)) [
+      | true ↦ λ same. new i same
+      | false ↦ λ other. old i other (e.first i is f)
+    ] refl in
+    d.more (set_item name path made i) (map (set_item name path made) is) one
+    (each_set e d name path made new old is (e.rest i is f))
+
+pub each_left : {P : Item → Type 0} {F : List Item → Type 0} → Each P F → (keep : Item → Bool) (is : List Item) → F is →
+    F (filter keep is)
+each_left e keep [] f = f
+each_left {P} {F} e keep (i ∷ is) f =
+    let rest = each_left e keep is (e.rest i is f) in
+    elim (keep i) as (λ b. F (cond b (i ∷ filter keep is) (filter keep is))) [
+      | true ↦ e.more i (filter keep is) (e.first i is f) rest
+      | false ↦ rest
+    ]
+
+pub each_encoded : (M : Map) → Each (λ i. (m : Made) × (i.made ≡ Some m) × IsEncodingOf M i.path m) (AreEncodings M)
+each_encoded M = record { none = tt; more = λ i is p f. (p, f); first = λ i is f. f.0; rest = λ i is f. f.1 }
+
+pub each_if_any : (M : Map) → Each (λ i. IfSome i.made (IsEncodingOf M i.path)) (AreEncodingsIfAny M)
+each_if_any M = record { none = tt; more = λ i is p f. (p, f); first = λ i is f. f.0; rest = λ i is f. f.1 }
+
+pub each_follows : (before : List Item) →
+    Each (λ i. (i.made ≡ None) ⊎ (answer_in before i.name ≡ answer_made i.made)) (Follows before)
+each_follows before = record { none = tt; more = λ i is p f. (p, f); first = λ i is f. f.0; rest = λ i is f. f.1 }
+
+pub each_given : (names : List (List ℕ)) →
+    Each (λ i. is_none i.made ≡ list_any (same_name i.name) names) (λ is. AreGiven names (map held_of is))
+each_given names = record { none = tt; more = λ i is p f. (p, f); first = λ i is f. f.0; rest = λ i is f. f.1 }
+
+-- ---- with one name more
+
+one_name : (q name : List ℕ) (names : List (List ℕ)) (b : Bool) → same_name q name ≡ b →
+    list_any (same_name q) (names ++ name ∷ []) ≡ (list_any (same_name q) names || b)
+one_name q name names b e =
+    list_any-append (same_name q) names (name ∷ [])
+    ∙ ap (λ (t : Bool). list_any (same_name q) names || t) (or-false (same_name q name) ∙ e)
+
+given_here : (q name : List ℕ) (names : List (List ℕ)) → same_name q name ≡ true →
+    true ≡ list_any (same_name q) (names ++ name ∷ [])
+given_here q name names e = sym (one_name q name names true e ∙ or_right (list_any (same_name q) names) true refl)
+
+given_still : (q name : List ℕ) (names : List (List ℕ)) (b : Bool) → same_name q name ≡ false →
+    b ≡ list_any (same_name q) names → b ≡ list_any (same_name q) (names ++ name ∷ [])
+given_still q name names b e h = h ∙ sym (one_name q name names false e ∙ or-false (list_any (same_name q) names))
+
+pub given_add : (name : List ℕ) (path : Path) (names : List (List ℕ)) (is : List Item) →
+    is_some (path_named (all_named is) name) ≡ false → AreGiven names (map held_of is)
+    → AreGiven (names ++ name ∷ []) (map held_of (is ++ record { name = name; path = path; made = None } ∷ []))
+given_add name path names [] free g = (given_here name name names ((bytes_decides name name).1 refl), tt)
+given_add name path names (i ∷ is) free g =
+    let p = not_named (named_of i) (all_named is) name free in
+    (given_still i.name name names (is_none i.made) p.0 g.0, given_add name path names is p.1 g.1)
+
+pub given_set : (name : List ℕ) (path : Path) (names : List (List ℕ)) (is : List Item) →
+    AreGiven names (map held_of is) → AreGiven (names ++ name ∷ []) (map held_of (map (set_item name path None) is))
+given_set name path names is g =
+    each_set (each_given names) (each_given (names ++ name ∷ [])) name path None
+    (λ i same. given_here i.name name names same)
+    (λ i other h. given_still i.name name names (is_none i.made) other h) is g
+
+-- if each path was encoded, no batch added or replaced any
+pub given_at_first : (M : Map) (is : List Item) → AreEncodings M is → AreGiven [] (map held_of is)
+given_at_first M [] a = tt
+given_at_first M (i ∷ is) a = (ap is_none a.0.1, given_at_first M is a.1)
+
+-- if each path was encoded, nothing is reported
+pub follows_untold : (M : Map) (before js : List Item) → AreEncodings M js → Follows before js → Reported before js []
+follows_untold M before [] a f = refl
+follows_untold M before (j ∷ js) a f =
+    let made : (j.made ≡ Some a.0.0) = a.0.1 in
+    let is : answer_made j.made ≡ Some a.0.0.answer = ap answer_made made in
+    let was : answer_in before j.name ≡ Some a.0.0.answer =
+    elim f.0 [
+      | inl e ↦ absurd (let no : ◌≡◌ {A = Option Made} None (Some a.0.0) = sym e ∙ made in cc)
+      | inr e ↦ e
+          ∙ is
     ] in
-    (one, made_set M is name path m a.1 h)
-
-pub made_drop : (M : Map) (is : List Item) (name : List ℕ) → AreEncodings M is →
-    AreEncodings M (filter (λ i. not (same_name i.name name)) is)
-made_drop M [] name a = tt
-made_drop M (i ∷ is) name a =
-    let rest = made_drop M is name a.1 in
-    elim (not (same_name i.name name)) as (λ b.
-    AreEncodings M (cond b (i ∷ filter (λ j. not (same_name j.name name)) is)
-    (filter (λ j. not (same_name j.name name)) is))) [ true ↦ (a.0, rest) | false ↦ rest ]
-
--- ---- in a batch, where a path that it added or replaced is not encoded yet
-
-pub any_add : (M : Map) (is : List Item) (name : List ℕ) (path : Path) → AreEncodingsIfAny M is →
-    AreEncodingsIfAny M (is ++ record { name = name; path = path; made = None } ∷ [])
-any_add M [] name path a = (tt, tt)
-any_add M (i ∷ is) name path a = (a.0, any_add M is name path a.1)
-
-pub any_set : (M : Map) (is : List Item) (name : List ℕ) (path : Path) → AreEncodingsIfAny M is →
-    AreEncodingsIfAny M (map (set_item name path None) is)
-any_set M [] name path a = tt
-any_set M (i ∷ is) name path a =
-    let one : IfSome (set_item name path None i).made (IsEncodingOf M (set_item name path None i).path) =
-    elim (same_name i.name name) as (λ b. IfSome (cond b (record { name = i.name; path = path; made = None }) i).made
-    (IsEncodingOf M (cond b (record { name = i.name; path = path; made = None }) i).path)) [
-      | true ↦ tt
-      | false ↦ a.0
-    ] in
-    (one, any_set M is name path a.1)
-
-pub any_drop : (M : Map) (is : List Item) (name : List ℕ) → AreEncodingsIfAny M is →
-    AreEncodingsIfAny M (filter (λ i. not (same_name i.name name)) is)
-any_drop M [] name a = tt
-any_drop M (i ∷ is) name a =
-    let rest = any_drop M is name a.1 in
-    elim (not (same_name i.name name)) as (λ b.
-    AreEncodingsIfAny M (cond b (i ∷ filter (λ j. not (same_name j.name name)) is)
-    (filter (λ j. not (same_name j.name name)) is))) [ true ↦ (a.0, rest) | false ↦ rest ]
+    (a.0.0.answer, [], is, follows_untold M before js a.1 f.1, inl (was, refl))

@@ -3,6 +3,7 @@ use Rattle.std.proofs.Common.{inl, inr, ◌≡◌, ◌==◌, ℕ, false, true, L
 use Rattle.std.proofs.Common.{arith}
 use Rattle.std.specs.Prelude.{◌||◌}
 use Rattle.std.specs.List.{AllByRecursion}
+use Rattle.std.specs.Option.{option_to_list}
 use Rattle.std.proofs.lemmas.Bool.{or_left, or_right}
 use Rattle.std.proofs.lemmas.List.Elements.{Contains-append_cases}
 use Rattle.std.proofs.lemmas.List.Folds.{list_any-append}
@@ -13,7 +14,12 @@ use Rattle.olr_spec.specs.Detours.{ChangedLine, changes_of}
 use Rattle.olr_spec.proofs.ListLemmas.{has_here, Contains-cases}
 use Rattle.olr_spec.proofs.ChangeLemmas.{edit_differs, none_differs, differences_add}
 use Rattle.olr_commands.specs.State.{ArePaths}
+use Rattle.olr_map.specs.EditPlans.{IsEditPlan, planned_changes}
+use Rattle.olr_map.specs.declared.judging.EditPlan.{EditPlan}
 use Rattle.olr_paths.specs.Items.{Item, AreEncodingsIfAny, all_named}
+use Rattle.olr_paths.specs.Touching.{nodes_of, lines_of, changed_of}
+use Rattle.olr_paths.specs.declared.change_set.ChangeSet.{ChangeSet}
+use Rattle.olr_register.specs.Noting.{IsNotedOf}
 use Rattle.olr_paths.specs.Changes.{IsBefore}
 use Rattle.olr_register.specs.Holding.{AreEditsNoted}
 
@@ -77,6 +83,18 @@ pub noted_edit : (M N : Map) (e : Edit) (ns xs : List ℕ) (cs : List ChangedLin
     cs ≡ changes_of M e → AreEditsNoted M N ns xs cs
 noted_edit M N e ns xs cs ok nodes lines changes =
     noted_more M M N e [] [] ns xs [] cs (noted_none M) ok nodes lines changes
+
+-- an edit that was judged, recorded in an empty record r
+pub noted_plan : (M : Map) (slot : ℕ → ℕ) (e : Edit) (j : EditPlan) (r t : ChangeSet) → IsEditPlan M slot e j →
+    nodes_of r ≡ [] → lines_of r ≡ [] → changed_of r ≡ []
+    → ((v : ℕ) → has (nodes_of t) v ≡ (has (nodes_of r) v || ((j.nodes.0 == v) || (j.nodes.1 == v))))
+    → ((y : ℕ) → has (lines_of t) y ≡ (has (lines_of r) y || has (option_to_list j.line) y))
+    → changed_of t ≡ changed_of r ++ planned_changes j → IsNotedOf M e t
+noted_plan M slot e j r t plan no_nodes no_lines no_changes nodes lines changes = record {
+  nodes = λ v. rw (plan.nodes v) (rw no_nodes at (nodes v));
+  lines = λ y. rw (← plan.lines) (rw no_lines at (lines y));
+  changed = rw (← plan.changes) (rw no_changes at changes);
+}
 
 -- ---- what a renewal requires
 

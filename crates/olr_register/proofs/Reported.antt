@@ -1,22 +1,19 @@
--- What is reported of one path that is added, replaced or dropped, and of a list that was renewed.
+-- What is reported of one path that is added, replaced or dropped.
 use Rattle.std.proofs.Common.{inl, inr, ◌⊎◌, ◌≡◌, ◌≢◌, ℕ, Bool, true, false, cond, not, List, [], ◌∷◌, ◌++◌, map}
-use Rattle.std.proofs.Common.{filter, Option, Some, None, is_some, Ok, refl, sym, ap, ◌∙◌, subst}
+use Rattle.std.proofs.Common.{filter, Option, Some, None, is_some, refl, sym, ap, ◌∙◌, subst}
 use Rattle.std.specs.Prelude.{option_map, if◌then◌else◌}
 use Rattle.std.proofs.lemmas.Bool.{cases_Bool}
-use Rattle.olr_spec.specs.Map.{Map, Edit, edited, HasCoord}
+use Rattle.olr_spec.specs.Map.{Map}
 use Rattle.olr_spec.specs.Extension.{Path}
-use Rattle.olr_spec.proofs.EditLemmas.{edits_keep}
 use Rattle.olr_spec.specs.Encoding.{Answer}
-use Rattle.olr_commands.specs.State.{Named, same_name, path_named, NamesDiffer, IsContent}
+use Rattle.olr_commands.specs.State.{same_name, path_named, NamesDiffer, IsContent}
 use Rattle.olr_commands.specs.Reply.{Entry, entry, Differences}
 use Rattle.olr_commands.proofs.NameLemmas.{not_named, same_is}
 use Rattle.olr_paths.specs.Items.{Made, Item, IsEncodingOf, AreEncodings, named_of, all_named, made_in, answer_in}
-use Rattle.olr_paths.specs.Changes.{AreRemade, Reported, Follows, set_item}
-use Rattle.olr_register.proofs.Renewed.{remade_made}
+use Rattle.olr_paths.specs.Changes.{Reported, Follows, set_item}
 use Rattle.olr_register.proofs.Replies.{planned_changes}
-use Rattle.olr_register.proofs.Listed.{made_add, made_set, made_drop}
+use Rattle.olr_register.proofs.Listed.{each_add, each_set, each_left, each_encoded, each_follows, follows_untold}
 use Rattle.olr_paths.proofs.Following.{follows_self}
-use Rattle.olr_register.proofs.Followed.{follows_same, follows_drop, follows_untold}
 
 -- ---- added
 
@@ -53,7 +50,7 @@ reported_add M is name path m es content a free right returned =
     let was : answer_in is name ≡ None = ap (option_map (λ (n : Made). n.answer)) (not_made is name free) in
     let new : answer_in is name ≢ Some m.answer = λ e. let no : ◌≡◌ {A = Option Answer} None (Some m.answer) =
     sym was ∙ e in absurd cc in
-    planned_changes M M is (is ++ j ∷ []) es content a (made_add M is name path m a right)
+    planned_changes M M is (is ++ j ∷ []) es content a (each_add (each_encoded M) is j (m, refl, right) a)
     (subst (Reported is (is ++ j ∷ [])) (sym returned)
     (reported_last is is j m.answer [] refl new (follows_untold M is is a (follows_self is content.names))))
 
@@ -127,12 +124,14 @@ pub reported_set : (M : Map) (is : List Item) (name : List ℕ) (path : Path) (m
     → Differences (record { map = M; paths = all_named is })
     (record { map = M; paths = all_named (map (set_item name path (Some m)) is) }) es
 reported_set M is name path m es content a taken right returned =
-    let made = made_set M is name path m a right in
+    let made =
+    each_set (each_encoded M) (each_encoded M) name path (Some m) (λ i e. (m, refl, right)) (λ i e p. p) is a in
     let self = follows_self is content.names in
     planned_changes M M is (map (set_item name path (Some m)) is) es content a made
     (elim returned [
       | inl h ↦ subst (Reported is (map (set_item name path (Some m)) is)) (sym h.1)
-          (follows_untold M is (map (set_item name path (Some m)) is) made (follows_same is is name path m h.0 self))
+          (follows_untold M is (map (set_item name path (Some m)) is) made (each_set (each_follows is) (each_follows is)
+          name path (Some m) (λ i e. inr (ap (answer_in is) (same_is i.name name e) ∙ h.0)) (λ i e p. p) is self))
       | inr h ↦ subst (Reported is (map (set_item name path (Some m)) is)) (sym h.1)
           (reported_if_set M is name path m h.0 is content.names taken a self)
     ])
@@ -144,37 +143,7 @@ pub reported_drop : (M : Map) (is : List Item) (name : List ℕ) → IsContent (
     → Differences (record { map = M; paths = all_named is })
     (record { map = M; paths = all_named (filter (λ i. not (same_name i.name name)) is) }) []
 reported_drop M is name content a =
-    let left = made_drop M is name a in
-    planned_changes M M is (filter (λ i. not (same_name i.name name)) is) [] content a left
-    (follows_untold M is (filter (λ i. not (same_name i.name name)) is) left
-    (follows_drop is is name (follows_self is content.names)))
-
--- ---- renewed
-
--- what a renewal leaves and reports, on the map after an edit or a batch
-pub record RenewedAll (M N : Map) (before js : List Item) (es : List Entry) : Type 0 where
-  pub made : AreEncodings N js
-  pub content : IsContent (record { map = N; paths = all_named js })
-  pub differences : Differences (record { map = M; paths = all_named before })
-      (record { map = N; paths = all_named js }) es
-
-pub renewed_all : (M N : Map) (before is js : List Item) (es : List Entry) →
-    IsContent (record { map = M; paths = all_named before }) → IsContent (record { map = N; paths = all_named is })
-    → AreEncodings M before → AreRemade N is js → all_named js ≡ all_named is → Reported before js es →
-    RenewedAll M N before js es
-renewed_all M N before is js es content later was remade names reported =
-    let made = remade_made N is js remade in
-    record {
-      made = made;
-      content = subst (λ (ps : List Named). IsContent (record { map = N; paths = ps })) (sym names) later;
-      differences = planned_changes M N before js es content was made reported;
-    }
-
--- of one edit
-pub renewed_edit : (M N : Map) (e : Edit) (is js : List Item) (es : List Entry) →
-    IsContent (record { map = M; paths = all_named is }) → HasCoord e → edited M e ≡ Ok N → AreEncodings M is
-    → AreRemade N is js → all_named js ≡ all_named is → Reported is js es → RenewedAll M N is js es
-renewed_edit M N e is js es content place ok was remade names reported =
-    let later : IsContent (record { map = N; paths = all_named is }) =
-    record { map = edits_keep M N e content.map place ok; paths = content.paths; names = content.names } in
-    renewed_all M N is is js es content later was remade names reported
+    let keep = λ (i : Item). not (same_name i.name name) in
+    let left = each_left (each_encoded M) keep is a in
+    planned_changes M M is (filter keep is) [] content a left
+    (follows_untold M is (filter keep is) left (each_left (each_follows is) keep is (follows_self is content.names)))

@@ -47,7 +47,7 @@ explain_text x text r q is of =
     let bytes = decoded_text q text of in
     let sound : text_fault text ≡ None =
     ap bytes_fault bytes ∙ ap (option_map (λ (f : spec.V3Fault). state.Not_v3 f)) (encoded_passes q of.0) in
-    explain_answered x text r q is sound (reference_bytes q, bytes, (of.0, refl))
+    explain_answered x text r sound (rw is (reference_bytes q, bytes, (of.0, refl)))
 
 bytes_refused : (x : Registered) (text b : List ℕ) (g : spec.V3Fault) (f : CommandFault) →
     decode_of standard text ≡ Ok b → v3_fault b ≡ Some g → command_fault_of f ≡ state.Not_a_reference (state.Not_v3 g)

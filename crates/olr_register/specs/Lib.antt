@@ -5,3 +5,4 @@ pub mod Answering
 pub mod HoldsChange
 pub mod Sparing
 pub mod Dumping
+pub mod Noting

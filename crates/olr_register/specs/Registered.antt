@@ -7,7 +7,7 @@
 --     Applied old c o new      from each state that old represents, the command leads with this outcome to a state
 --         that new represents
 --     Counted old c new      by how much an accepted command raises the count of encodings
-use Rattle.std.specs.Prelude.{◌≡◌, ℕ, ◌+◌, ◌<◌, ◌^◌, List, Option, Some, None, [], ◌∷◌, MatchOption, IsSomeAnd}
+use Rattle.std.specs.Prelude.{◌≡◌, ℕ, List, Option, Some, None, [], ◌∷◌, MatchOption, IsSomeAnd}
 use Rattle.std.specs.Coded.{Coded, code_by, coded_ℕ, coded×}
 use Rattle.std.proofs.Common.{refl}
 use Rattle.olr_spec.specs.Map.{Map}

@@ -6,44 +6,47 @@ ghost use Rattle.olr_commands.specs.History.{History, Headline};
 ghost use Rattle.olr_commands.specs.Words.{command_of, outcome_of};
 ghost use Rattle.olr_register.specs.RegisterState.{Represents};
 
-use crate::paths::Offsets;
+use crate::change::{Change, PathParts};
 use crate::register::Register;
 use olr_commands::{Command, CommandFault, Reply};
 use std::alloc::{AllocError, Global};
 
 impl Register {
     ghost use Rattle.std.specs.Prelude.{◌≡◌, is_some, OnOk, OnErr, IsFalse};
-    ghost use Rattle.olr_commands.specs.State.{IsContent};
+    ghost use Rattle.olr_commands.specs.State.{IsContent, Make};
+    ghost use Rattle.olr_register.specs.HoldsChange.{change_of};
     ghost use Rattle.olr_register.specs.Registered.{Applied, Counted};
     ghost use Rattle.olr_register.specs.Answering.{Answered};
     ghost use Rattle.olr_register.specs.Sparing.{encodes, SparesCounted, SearchesCounted, NoneFalls, SameCounts};
+
+    /// Holds a change in the open batch, or makes it at once if none is open.
+    fn change(&mut self, change: Change) -> Result<Reply, CommandFault>
+        ensures { Answered self.old (Make (change_of change)) result self.new }
+    {
+        if self.is_open() {
+            return self.hold(change);
+        }
+        match change {
+            Change::Edit(edit) => self.edit_now(edit),
+            Change::AddPath(name, parts) => self.add_now(name, parts),
+            Change::SetPath(name, parts) => self.set_now(&name, parts),
+            Change::DropPath(name) => self.drop_now(&name),
+        }
+    }
 
     /// The answer to a command.
     fn answer_to(&mut self, command: Command) -> Result<Reply, CommandFault>
         ensures { Answered self.old (command_of command) result self.new }
     {
-        let open = self.is_open();
         match command {
-            Command::Edit(edit) if open => self.hold_edit(edit),
-            Command::Edit(edit) => self.edit_now(edit),
-            Command::AddPath(name, lines, pos, neg) if open => {
-                self.hold_add(name, lines, Offsets { pos, neg })
+            Command::Edit(edit) => self.change(Change::Edit(edit)),
+            Command::AddPath(name, lines, pos, neg) => {
+                self.change(Change::AddPath(name, PathParts { lines, pos, neg }))
             }
-            Command::AddPath(name, lines, pos, neg) => self.add_now(
-                name,
-                lines,
-                Offsets { pos, neg },
-            ),
-            Command::SetPath(name, lines, pos, neg) if open => {
-                self.hold_set(&name, lines, Offsets { pos, neg })
+            Command::SetPath(name, lines, pos, neg) => {
+                self.change(Change::SetPath(name, PathParts { lines, pos, neg }))
             }
-            Command::SetPath(name, lines, pos, neg) => self.set_now(
-                &name,
-                lines,
-                Offsets { pos, neg },
-            ),
-            Command::DropPath(name) if open => self.hold_drop(&name),
-            Command::DropPath(name) => self.drop_now(&name),
+            Command::DropPath(name) => self.change(Change::DropPath(name)),
             Command::Show(name) => self.show(&name),
             Command::Report => self.report(),
             Command::Dump => self.dump(),

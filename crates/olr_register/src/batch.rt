@@ -1,9 +1,9 @@
 //! An open batch, and the changes that it holds.
 
+use crate::change::{Change, PathParts, path_of};
 use crate::edits::line_changed;
-use crate::paths::{Offsets, path_of};
 use olr_commands::{CommandFault, Reply};
-use olr_map::{Edit, LineId, RoadMap, UndoLog, judge};
+use olr_map::{Edit, RoadMap, UndoLog, judge};
 use olr_paths::{ChangeSet, Overlay, PathList};
 use std::alloc::Global;
 
@@ -25,15 +25,14 @@ pub struct Batch {
 
 impl Batch {
     ghost use Rattle.std.specs.Prelude.{◌≡◌, List, nat_le, string_bytes};
-    ghost use Rattle.olr_spec.specs.Map.{IsMap};
     ghost use Rattle.olr_map.specs.Edits.{edit_of};
-    ghost use Rattle.olr_map.specs.RoadMaps.{CanUndoAll, map_before};
+    ghost use Rattle.olr_map.specs.RoadMaps.{CanUndoAll};
     ghost use Rattle.olr_map.specs.declared.road_map.RoadMap.{RoadMap as Roads};
     ghost use Rattle.olr_commands.specs.State.{On_map, Add_path, Set_path, Drop_path, full, NamesDiffer};
     ghost use Rattle.olr_paths.specs.Items.{Item, items, all_named};
     ghost use Rattle.olr_paths.specs.Laying.{under_overlay};
-    ghost use Rattle.olr_register.specs.Holding.{IsHeld, batch_of};
-    ghost use Rattle.olr_register.specs.HoldsChange.{HoldsChange, path_by};
+    ghost use Rattle.olr_register.specs.Holding.{IsHeld};
+    ghost use Rattle.olr_register.specs.HoldsChange.{Makes, HoldsChange, path_by, change_of};
 
     /// Whether it holds the greatest number of changes.
     fn is_full(&self) -> bool
@@ -42,19 +41,11 @@ impl Batch {
         self.count >= FULL
     }
 
-    /// Makes an edit of its map and holds it. After a fault, map and batch are unchanged.
-    pub(crate) fn edit(&mut self, roads: &mut RoadMap, edit: Edit) -> Result<Reply, CommandFault>
+    /// Makes an edit of its map. After a fault, map and batch are unchanged.
+    fn edit(&mut self, roads: &mut RoadMap, edit: Edit) -> Result<(), CommandFault>
         requires { CanUndoAll roads.old self.old.log }
-        ensures given { (is : List Item)
-            → HoldsChange (batch_of roads.old is self.old) (On_map (edit_of edit)) result
-            (batch_of roads.new is self.new) }
-        ensures held { (before : List Item) → IsMap (map_before roads.old self.old.log)
-            → IsHeld roads.old before self.old → IsHeld roads.new before self.new }
-        ensures before { map_before roads.new self.new.log ≡ map_before roads.old self.old.log }
+        ensures { (is : List Item) → Makes roads.old roads.new is self.old self.new (On_map (edit_of edit)) result }
     {
-        if self.is_full() {
-            return Err(CommandFault::BatchFull);
-        }
         let plan = match judge(roads, &edit) {
             Ok(plan) => plan,
             Err(fault) => return Err(CommandFault::Map(fault)),
@@ -66,104 +57,104 @@ impl Batch {
             Ok(()) => {
                 self.touched
                     .note(plan.nodes, plan.line, line_changed(&plan));
-                self.count += 1;
-                Ok(Reply::Held(self.count))
+                Ok(())
             }
             Err(_) => Err(CommandFault::Memory),
         }
     }
 
-    /// Holds a new path. After a fault the batch is unchanged.
-    pub(crate) fn add_path(
+    /// Adds a path. After a fault the batch is unchanged.
+    fn add_path(
         &mut self,
         alloc: Global,
         list: &PathList,
         name: String,
-        lines: Vec<LineId>,
-        offsets: Offsets,
-    ) -> Result<Reply, CommandFault>
-        ensures given { (roads : Roads) → HoldsChange (batch_of roads (items list.now) self.old)
-            (Add_path (string_bytes name) (path_by lines.items offsets)) result
-            (batch_of roads (items list.now) self.new) }
-        ensures held { (roads : Roads) → IsHeld roads (items list.now) self.old →
-            IsHeld roads (items list.now) self.new }
-        ensures log { self.new.log ≡ self.old.log }
+        parts: PathParts,
+    ) -> Result<(), CommandFault>
+        ensures { (roads : Roads) → Makes roads roads (items list.now) self.old self.new
+            (Add_path (string_bytes name) (path_by parts)) result }
     {
-        if self.is_full() {
-            return Err(CommandFault::BatchFull);
-        }
         if self.overlay.has(list, &name) {
             return Err(CommandFault::PathExists);
         }
-        let path = path_of(alloc, lines, offsets)?;
+        let path = path_of(alloc, parts)?;
         match self.overlay.hold(alloc, name, path) {
-            Ok(()) => {
-                self.count += 1;
-                Ok(Reply::Held(self.count))
-            }
+            Ok(()) => Ok(()),
             Err(_) => Err(CommandFault::Memory),
         }
     }
 
-    /// Holds another path for a name. After a fault the batch is unchanged.
-    pub(crate) fn set_path(
+    /// Replaces the path of a name. After a fault the batch is unchanged.
+    fn set_path(
         &mut self,
         alloc: Global,
         list: &PathList,
         name: &str,
-        lines: Vec<LineId>,
-        offsets: Offsets,
-    ) -> Result<Reply, CommandFault>
+        parts: PathParts,
+    ) -> Result<(), CommandFault>
         requires { NamesDiffer (all_named (under_overlay (items list.now) self.old.overlay)) }
-        ensures given { (roads : Roads) → HoldsChange (batch_of roads (items list.now) self.old)
-            (Set_path name.now (path_by lines.items offsets)) result (batch_of roads (items list.now) self.new) }
-        ensures held { (roads : Roads) → IsHeld roads (items list.now) self.old →
-            IsHeld roads (items list.now) self.new }
-        ensures log { self.new.log ≡ self.old.log }
+        ensures { (roads : Roads) → Makes roads roads (items list.now) self.old self.new
+            (Set_path name.now (path_by parts)) result }
     {
-        if self.is_full() {
-            return Err(CommandFault::BatchFull);
-        }
         if !self.overlay.has(list, name) {
             return Err(CommandFault::NoPath);
         }
-        let path = path_of(alloc, lines, offsets)?;
+        let path = path_of(alloc, parts)?;
         match self.overlay.hold_other(alloc, name, path) {
-            Ok(()) => {
-                self.count += 1;
-                Ok(Reply::Held(self.count))
-            }
+            Ok(()) => Ok(()),
             Err(_) => Err(CommandFault::Memory),
         }
     }
 
-    /// Holds the removal of a path. After a fault the batch is unchanged.
-    pub(crate) fn drop_path(
-        &mut self,
-        alloc: Global,
-        list: &PathList,
-        name: &str,
-    ) -> Result<Reply, CommandFault>
+    /// Removes a path. After a fault the batch is unchanged.
+    fn drop_path(&mut self, alloc: Global, list: &PathList, name: &str) -> Result<(), CommandFault>
         requires { NamesDiffer (all_named (under_overlay (items list.now) self.old.overlay)) }
-        ensures given { (roads : Roads) → HoldsChange (batch_of roads (items list.now) self.old) (Drop_path name.now)
-            result
-            (batch_of roads (items list.now) self.new) }
-        ensures held { (roads : Roads) → IsHeld roads (items list.now) self.old →
-            IsHeld roads (items list.now) self.new }
-        ensures log { self.new.log ≡ self.old.log }
+        ensures { (roads : Roads) → Makes roads roads (items list.now) self.old self.new (Drop_path name.now) result }
     {
-        if self.is_full() {
-            return Err(CommandFault::BatchFull);
-        }
         if !self.overlay.has(list, name) {
             return Err(CommandFault::NoPath);
         }
         match self.overlay.drop_path(alloc, name) {
-            Ok(()) => {
-                self.count += 1;
-                Ok(Reply::Held(self.count))
-            }
+            Ok(()) => Ok(()),
             Err(_) => Err(CommandFault::Memory),
         }
+    }
+
+    /// Makes a change. After a fault, map and batch are unchanged.
+    fn make(
+        &mut self,
+        alloc: Global,
+        roads: &mut RoadMap,
+        list: &PathList,
+        change: Change,
+    ) -> Result<(), CommandFault>
+        requires { IsHeld roads.old (items list.now) self.old }
+        ensures { Makes roads.old roads.new (items list.now) self.old self.new (change_of change) result }
+    {
+        match change {
+            Change::Edit(edit) => self.edit(roads, edit),
+            Change::AddPath(name, parts) => self.add_path(alloc, list, name, parts),
+            Change::SetPath(name, parts) => self.set_path(alloc, list, &name, parts),
+            Change::DropPath(name) => self.drop_path(alloc, list, &name),
+        }
+    }
+
+    /// Makes a change and holds it. After a fault, map and batch are unchanged.
+    pub(crate) fn hold(
+        &mut self,
+        alloc: Global,
+        roads: &mut RoadMap,
+        list: &PathList,
+        change: Change,
+    ) -> Result<Reply, CommandFault>
+        requires { IsHeld roads.old (items list.now) self.old }
+        ensures { HoldsChange roads.old roads.new (items list.now) self.old self.new (change_of change) result }
+    {
+        if self.is_full() {
+            return Err(CommandFault::BatchFull);
+        }
+        self.make(alloc, roads, list, change)?;
+        self.count += 1;
+        Ok(Reply::Held(self.count))
     }
 }

@@ -4,6 +4,7 @@
 mod applying;
 mod batch;
 mod batches;
+mod change;
 mod dumps;
 mod edits;
 mod footprints;

@@ -1,33 +1,39 @@
-//! Numbers of nodes: distance bounds, which cut the search from an edit.
-ghost use Rattle.std.specs.Prelude.{◌⊎◌, ℕ, Contains};
+//! Distance bounds, which cut the search from an edit, and the renewal of a list with them.
+ghost use Rattle.std.specs.Prelude.{◌≡◌, ◌≤◌, ◌⊎◌, ℕ, List, map as list_map, Contains, IfOk, OnOk, OnErr, IsFalse};
 ghost use Rattle.olr_spec.specs.Map.{Map};
 ghost use Rattle.olr_spec.specs.Queries.{CoverageQuery as QueryRecord};
 ghost use Rattle.olr_map.specs.RoadMaps.{map_of};
 ghost use Rattle.olr_near.specs.Bounds.{IsRight, IsSource, SameBut};
-ghost use Rattle.olr_paths.specs.Items.{items};
+ghost use Rattle.olr_commands.specs.Words.{entry_of};
+ghost use Rattle.olr_paths.specs.Items.{Item, items};
+ghost use Rattle.olr_paths.specs.Changes.{Rises};
+ghost use Rattle.olr_paths.specs.Laying.{under_overlay};
 ghost use Rattle.olr_paths.specs.Origins.{Begins, new_origins_in};
-ghost use Rattle.olr_register.specs.Holding.{HasBounds};
+ghost use Rattle.olr_paths.specs.Renewing.{IsRenewal};
+ghost use Rattle.olr_paths.specs.Touching.{nodes_of};
+ghost use Rattle.olr_register.specs.Holding.{HasBounds, CanRenew};
 
-use olr_map::{NodeId, RoadMap};
+use olr_commands::Entry;
+use olr_map::RoadMap;
 use olr_near::DistanceBounds;
-use olr_paths::{PathList, Searches};
+use olr_paths::{ChangeSet, Overlay, PathList, Searches};
 use olr_refs::CoverageQuery;
-use std::alloc::Global;
+use olr_search::Work;
+use std::alloc::{AllocError, Global};
 
 /// The bounds are rebuilt only after searches that found no path have labelled more nodes than this.
 const LEAST: usize = 65_536;
 
-/// Makes the numbers right on the map after edits that touched these nodes. If an allocation fails they are unknown.
-pub(crate) fn ask_near(near: &mut DistanceBounds, roads: &RoadMap, touched: &[NodeId])
-    ensures right { (M : Map) → SameBut touched.now M (map_of roads.now) → IsRight M near.old
-        → IsRight (map_of roads.now) near.new }
-    ensures sources { (s w : ℕ) → IsSource near.old s w → IsSource near.new s w }
+/// Makes the bounds right on the map after edits that touched these nodes. If an allocation fails they are unknown.
+fn ask_near(near: &mut DistanceBounds, roads: &RoadMap, touched: &ChangeSet)
+    ensures { (M : Map) (is : List Item) → SameBut (nodes_of touched.now) M (map_of roads.now) → HasBounds M is near.old
+        → HasBounds (map_of roads.now) is near.new }
 {
-    let _ = near.reopen(touched);
+    let _ = near.reopen(touched.nodes());
     let _ = near.settle(roads);
 }
 
-/// Adds coverage queries, and makes the numbers right. If an allocation fails they are unknown.
+/// Adds coverage queries, and makes the bounds right. If an allocation fails they are unknown.
 fn add_near(near: &mut DistanceBounds, roads: &RoadMap, queries: &[CoverageQuery])
     ensures right { IsRight (map_of roads.now) near.old → IsRight (map_of roads.now) near.new }
     ensures before { (s w : ℕ) → IsSource near.old s w → IsSource near.new s w }
@@ -72,9 +78,8 @@ pub(crate) fn rebuild_bounds(
     paths: &PathList,
     searches: &mut Searches,
 )
-    ensures { IsRight (map_of roads.now) near.old
-        → ((l : QueryRecord) → Begins (items paths.now) l
-        → IsSource near.old l.from l.within ⊎ Contains (new_origins_in searches.old) l)
+    ensures { (is : List Item) → HasBounds (map_of roads.now) is near.old
+        → ((l : QueryRecord) → Begins (items paths.now) l → Begins is l ⊎ Contains (new_origins_in searches.old) l)
         → HasBounds (map_of roads.now) (items paths.now) near.new }
 {
     add_near(near, roads, searches.new_origins());
@@ -83,4 +88,43 @@ pub(crate) fn rebuild_bounds(
     }
     searches.set_back();
     bounds_from_scratch(alloc, near, roads, paths);
+}
+
+/// Encodes the affected paths again after edits that led to the map, with the changes of an overlay, and makes the
+/// bounds right. If an allocation fails, list, work and counts are unchanged, and the bounds are unknown.
+pub(crate) fn renew(
+    alloc: Global,
+    roads: &RoadMap,
+    paths: &mut PathList,
+    overlay: &Overlay,
+    touched: &ChangeSet,
+    near: &mut DistanceBounds,
+    searches: &mut Searches,
+    work: &mut Work,
+    spared: &mut u64,
+) -> Result<Vec<Entry>, AllocError>
+    requires { (M : Map) × CanRenew M (map_of roads.now) (items paths.old)
+        (under_overlay (items paths.old) overlay.now) touched.now near.old }
+    ensures renewed { IfOk result (λ es. IsRenewal (map_of roads.now) touched.now (items paths.old)
+        (under_overlay (items paths.old) overlay.now) (items paths.new) (list_map entry_of es.items) work.old work.new
+        spared.old spared.new) }
+    ensures rises { OnOk result (Rises work.old work.new) }
+    ensures kept { OnOk result (spared.old ≤ spared.new) }
+    ensures bounded { OnOk result (HasBounds (map_of roads.now) (items paths.new) near.new) }
+    ensures err { OnErr result (items paths.new ≡ items paths.old) }
+    ensures err_work { OnErr result (work.new ≡ work.old) }
+    ensures err_kept { OnErr result (spared.new ≡ spared.old) }
+    ensures unknown { OnErr result (IsFalse near.new.known) }
+{
+    ask_near(near, roads, touched);
+    match paths.renew_over(alloc, roads, overlay, touched, near, searches, work, spared) {
+        Ok(entries) => {
+            rebuild_bounds(alloc, near, roads, paths, searches);
+            Ok(entries)
+        }
+        Err(error) => {
+            near.forget();
+            Err(error)
+        }
+    }
 }

@@ -55,8 +55,7 @@ impl Register {
     }
 
     /// The fields of the reference that this text encodes. If it encodes none, the fault says why; `Memory` if an
-    /// allocation
-    /// fails.
+    /// allocation fails.
     pub fn explain(&self, text: &[u8]) -> Result<Reply, CommandFault>
         ensures { Answered self.now (Explain text.now) result self.now }
     {

@@ -10,10 +10,10 @@ use Rattle.olr_paths.specs.Items.{Item, all_named}
 use Rattle.olr_paths.specs.Changes.{IsBefore, AreRemade}
 use Rattle.olr_paths.specs.Touching.{nodes_of, lines_of, changed_of}
 use Rattle.olr_paths.specs.declared.change_set.ChangeSet.{ChangeSet}
-use Rattle.olr_register.proofs.Listed.{names_add, names_drop, any_add, any_drop}
+use Rattle.olr_register.specs.Noting.{IsNotedOf}
+use Rattle.olr_register.proofs.Listed.{names_add, names_drop, each_add, each_left, each_if_any}
 use Rattle.olr_register.proofs.Noted.{noted_edit, is_before}
 use Rattle.olr_register.proofs.Renewed.{remade_made, made_if_any}
-use Rattle.olr_register.proofs.SingleEdit.{IsNotedOf}
 use Rattle.tests_register.specs.Lists.{IsRight}
 
 -- what is true of a result that is Ok
@@ -32,7 +32,7 @@ right_add M is name path good h =
       paths =
           subst ArePaths (sym (names_add is (record { name = name; path = path; made = None })))
           (paths_push (all_named is) (record { name = name; path = path }) h.paths good);
-      made = any_add M is name path h.made;
+      made = each_add (each_if_any M) is (record { name = name; path = path; made = None }) tt h.made;
     }
 
 pub right_drop : (M : Map) (is : List Item) (name : List ℕ) → IsRight M is →
@@ -42,7 +42,7 @@ right_drop M is name h =
       paths =
           subst ArePaths (sym (names_drop name is))
           (paths_filter (λ p. not (same_name p.name name)) (all_named is) h.paths);
-      made = any_drop M is name h.made;
+      made = each_left (each_if_any M) (λ i. not (same_name i.name name)) is h.made;
     }
 
 pub right_renewed : (M N : Map) (is js : List Item) → IsRight M is → AreRemade N is js →

@@ -2,10 +2,11 @@ use Rattle.std.proofs.Common.{inl}
 use Rattle.olr_map.specs.RoadMaps.{map_of}
 use Rattle.olr_register.proofs.nearing.ask_near.Goals as goal
 
-pub returns-clause-right : goal.returns-clause-right
-returns-clause-right c =
-    λ M same right. c.settle.ensures.right
-    (c.reopen.ensures.under_way M (map_of c.args.roads.now) same (λ known u d at. inl (right known u d at)))
-
-pub returns-clause-sources : goal.returns-clause-sources
-returns-clause-sources c = λ s w is. c.settle.ensures.sources s w (c.reopen.ensures.sources s w is)
+pub returns : goal.returns
+returns c = λ M is but h. record {
+  right =
+      c.settle.ensures.right (c.reopen.ensures.under_way M (map_of c.args.roads.now) (rw c.nodes.ensures but)
+      (λ known u d at. inl (h.right known u d at)));
+  sources = λ l on. c.settle.ensures.sources l.from l.within
+      (c.reopen.ensures.sources l.from l.within (h.sources l on));
+}

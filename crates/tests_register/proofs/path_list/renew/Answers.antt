@@ -1,10 +1,9 @@
-use Rattle.std.proofs.Common.{◌==◌, ◌||◌, Ok, ap, ◌∙◌, sym}
-use Rattle.std.specs.Option.{option_to_list}
-use Rattle.olr_spec.specs.Map.{Map, has}
+use Rattle.std.proofs.Common.{Ok, ap, ◌∙◌, sym}
+use Rattle.olr_spec.specs.Map.{Map}
 use Rattle.olr_map.specs.Edits.{edit_of}
 use Rattle.olr_map.specs.RoadMaps.{map_of}
 use Rattle.olr_paths.specs.Items.{items}
-use Rattle.olr_register.proofs.SingleEdit.{noted_plan, only_noted, only_changes}
+use Rattle.olr_register.proofs.Noted.{noted_plan}
 use Rattle.tests_register.proofs.RightLists.{on_ok_at, if_ok_at, right_before, right_renewed}
 use Rattle.tests_register.proofs.path_list.renew.Goals as goal
 
@@ -15,13 +14,11 @@ renew-renewed-requires-clause-before g c =
     let judged = if_ok_at c.judge.result plan _ c.judge.ensures.plan c.expect-plan.ensures in
     let done = on_ok_at c.make.result c.expect-undo.result _ c.make.ensures.done c.expect-undo.ensures in
     let noted =
-    noted_plan M _ (edit_of c.args.edit) plan c.note.new.self judged
-    (only_noted _ _ (λ v. (plan.nodes.0 == v) || (plan.nodes.1 == v))
-    (c.reserve-room.ensures.nodes ∙ c.new-touched.ensures.nodes) c.note.ensures.nodes)
-    (only_noted _ _ (λ x. has (option_to_list plan.line) x)
-    (c.reserve-room.ensures.lines ∙ c.new-touched.ensures.lines) c.note.ensures.lines)
-    (only_changes _ _ _ (c.reserve-room.ensures.changed ∙ c.new-touched.ensures.changed) c.note.ensures.changed
-    ∙ c.line_changed.ensures) in (
+    noted_plan M _ (edit_of c.args.edit) plan c.reserve-room.new.self c.note.new.self judged
+    (c.reserve-room.ensures.nodes ∙ c.new-touched.ensures.nodes)
+    (c.reserve-room.ensures.lines ∙ c.new-touched.ensures.lines)
+    (c.reserve-room.ensures.changed ∙ c.new-touched.ensures.changed) c.note.ensures.nodes c.note.ensures.lines
+    (rw (← c.line_changed.ensures) c.note.ensures.changed) in (
       M,
       right_before M (map_of c.keep.new.self) (edit_of c.args.edit) c.note.new.self (items c.args.list.now)
           c.args.map.now.kept.sound (done ∙ ap (λ (N : Map). Ok N) (sym c.keep.ensures)) noted c.requires,

@@ -1,50 +1,40 @@
-use Rattle.std.proofs.Common.{ℕ, List, refl, sym, ap, ◌∙◌}
-use Rattle.olr_spec.specs.Map.{has}
+use Rattle.std.proofs.Common.{refl}
 use Rattle.olr_map.specs.Edits.{edit_of}
-use Rattle.olr_register.specs.Holding.{batch_of}
-use Rattle.olr_register.proofs.HoldEdits.{edit_accounted, edit_lacks, held_edit, has_either, changes_more, same_batch}
-use Rattle.olr_commands.specs.Words.{map_fault_of}
-use Rattle.olr_register.proofs.Singles.{reported_by_map}
-use Rattle.olr_register.proofs.SingleEdit.{refused_is, taken_is}
+use Rattle.olr_register.specs.Holding.{content_under}
+use Rattle.olr_register.specs.HoldsChange.{ByContent}
+use Rattle.olr_register.proofs.Changing.{edit_refused, edit_lacks}
+use Rattle.olr_register.proofs.Making.{edit_unmade, edit_made}
 use Rattle.olr_register.proofs.batch.Batch.edit.Goals as goal
 
-pub returns-in-Err-clause-given : goal.returns-in-Err-clause-given
-returns-in-Err-clause-given c =
-    λ is.
+pub returns-in-Err : goal.returns-in-Err
+returns-in-Err c = λ is.
     let b = c.args.self.now in
-    let returned = refused_is _ c.in-Err.fault c.in-Err.ensures.fault in
-    edit_accounted (batch_of c.args.roads.now is b) _ (edit_of c.args.edit) _ returned.0 (sym c.if-is_full.ensures)
-    returned.1
-    (ap map_fault_of returned.2 ∙ reported_by_map returned.0) refl
+    let roads = c.args.roads.now in
+    edit_unmade roads roads is b b.log b.touched (edit_of c.args.edit) c.requires refl _ refl refl refl refl
+    (ByContent (edit_refused (content_under roads is b) _ c.in-Err.fault c.in-Err.ensures.fault))
 
-pub returns-then-is_err-clause-given : goal.returns-then-is_err-clause-given
-returns-then-is_err-clause-given c =
-    λ is.
+pub returns-then-is_err : goal.returns-then-is_err
+returns-then-is_err c = λ is.
     let b = c.args.self.now in
-    let ok = taken_is _ c.in-Ok.ensures.plan.accepted in
-    edit_lacks (batch_of c.args.roads.now is b) _ (edit_of c.args.edit) _ ok.0 (sym c.if-is_full.ensures) ok.1 refl
-    (same_batch c.args.roads.now c.args.roads.now is b b.log c.reserve.new.self refl c.reserve.ensures.nodes
-    c.reserve.ensures.lines c.reserve.ensures.changed)
+    let roads = c.args.roads.now in
+    let t = c.reserve.ensures in
+    edit_unmade roads roads is b b.log c.reserve.new.self (edit_of c.args.edit) c.requires refl _ refl t.nodes t.lines
+    t.changed (edit_lacks (content_under roads is b) _ c.in-Ok.ensures.plan.accepted)
 
-pub returns-in-Ok-make_into-clause-held : goal.returns-in-Ok-make_into-clause-held
-returns-in-Ok-make_into-clause-held c =
-    λ before first h.
-    let b = c.args.self.now in
+pub returns-in-Ok-make_into : goal.returns-in-Ok-make_into
+returns-in-Ok-make_into c = λ is.
     let j = c.in-Ok.ensures.plan in
-    held_edit c.args.roads.now c.make_into.new.self before b c.make_into.new.log c.note.new.self (edit_of c.args.edit)
-    (sym c.if-is_full.ensures) j.placed
-    c.make_into.ensures.can_undo c.in-Ok-make_into.ensures.done c.make_into.ensures.before
-    (λ v. has_either _ _ _ _ _ (c.note.ensures.nodes v) (ap (λ (vs : List ℕ). has vs v) c.reserve.ensures.nodes)
-    (j.nodes v))
-    (λ y. has_either _ _ _ _ _ (c.note.ensures.lines y) (ap (λ (ys : List ℕ). has ys y) c.reserve.ensures.lines)
-    (ap (λ (ys : List ℕ). has ys y) (sym j.lines)))
-    (changes_more _ _ _ _ c.reserve.ensures.changed c.note.ensures.changed (c.line_changed.ensures ∙ j.changes)) first h
+    let s = c.reserve.ensures in
+    let t = c.note.ensures in
+    edit_made c.args.roads.now c.make_into.new.self is c.args.self.now c.make_into.new.log c.note.new.self
+    (edit_of c.args.edit) c.make_into.ensures.can_undo c.make_into.ensures.before c.in-Ok-make_into.ensures.done j.placed
+    (λ v. rw (j.nodes v, ← s.nodes) (t.nodes v)) (λ y. rw (← j.lines, ← s.lines) (t.lines y))
+    (rw (← j.changes, ← c.line_changed.ensures, ← s.changed) t.changed)
 
-pub returns-in-Err-make_into-clause-given : goal.returns-in-Err-make_into-clause-given
-returns-in-Err-make_into-clause-given c =
-    λ is.
+pub returns-in-Err-make_into : goal.returns-in-Err-make_into
+returns-in-Err-make_into c = λ is.
     let b = c.args.self.now in
-    let ok = taken_is _ c.in-Ok.ensures.plan.accepted in
-    edit_lacks (batch_of c.args.roads.now is b) _ (edit_of c.args.edit) _ ok.0 (sym c.if-is_full.ensures) ok.1 refl
-    (same_batch c.args.roads.now c.make_into.new.self is b c.make_into.new.log c.reserve.new.self
-    c.in-Err-make_into.ensures.same c.reserve.ensures.nodes c.reserve.ensures.lines c.reserve.ensures.changed)
+    let t = c.reserve.ensures in
+    edit_unmade c.args.roads.now c.make_into.new.self is b c.make_into.new.log c.reserve.new.self (edit_of c.args.edit)
+    c.make_into.ensures.can_undo c.make_into.ensures.before _ c.in-Err-make_into.ensures.same t.nodes t.lines t.changed
+    (edit_lacks (content_under c.args.roads.now is b) _ c.in-Ok.ensures.plan.accepted)

@@ -4,13 +4,13 @@ use Rattle.olr_spec.specs.Encoding.{Answer}
 use Rattle.olr_paths.specs.Items.{Made, items}
 use Rattle.olr_register.specs.Registered.{Registered}
 use Rattle.olr_register.specs.Holding.{map_kept}
-use Rattle.olr_register.proofs.Asking.{answer_is}
+use Rattle.olr_register.proofs.Asking.{answer_published}
 use Rattle.olr_register.proofs.register.Register.answer.Goals as goal
 
 pub returns-in_err-published : goal.returns-in_err-published
 returns-in_err-published c =
     let r = c.self.inside in
-    answer_is (map_kept r.roads r.batch) (items r.paths) _ c.args.name.now _
+    answer_published (map_kept r.roads r.batch) (items r.paths) _ c.args.name.now _
     (ap (λ (x : Registered). x.kept.content) c.self.view_is) c.self.invariant.register.made
     (ap (option_map (λ a. _)) c.from_residual.ensures
     ∙ ap (option_map (λ (m : Made). m.answer)) c.in_err-published.ensures)
@@ -18,6 +18,6 @@ returns-in_err-published c =
 pub returns : goal.returns
 returns c =
     let r = c.self.inside in
-    answer_is (map_kept r.roads r.batch) (items r.paths) _ c.args.name.now _
+    answer_published (map_kept r.roads r.batch) (items r.paths) _ c.args.name.now _
     (ap (λ (x : Registered). x.kept.content) c.self.view_is) c.self.invariant.register.made
     (ap (λ (a : Answer). Some a) c.answer.ensures ∙ ap (option_map (λ (m : Made). m.answer)) c.in_ok-published.ensures)

@@ -1,52 +1,46 @@
 use Rattle.std.proofs.Common.{map, refl, ap, sym}
+use Rattle.olr_spec.proofs.OptionLemmas.{none_of}
 use Rattle.olr_commands.specs.Reply as replies
+use Rattle.olr_commands.specs.State.{Begin}
 use Rattle.olr_commands.specs.Words.{entry_of}
 use Rattle.olr_paths.specs.Items.{items}
 use Rattle.olr_register.proofs.BatchEnds.{open_refused, IsEmpty, begun_held, begin_done}
-use Rattle.olr_register.proofs.Bounded.{bounded_begun}
-use Rattle.olr_register.proofs.Tallies.{tally}
 use Rattle.olr_register.proofs.register.Register.begin.Goals as goal
 
 pub returns-then-is_some : goal.returns-then-is_some
 returns-then-is_some c =
     let s = c.self.inside in
-    rw (← c.self.view_is) (open_refused s.roads (items s.paths) s.batch (tally s.work s.spared)
-    (sym c.if-is_some.ensures))
+    rw (← c.self.view_is)
+    (open_refused s.roads (items s.paths) s.batch _ _ Begin _ (sym c.if-is_some.ensures) (λ d xs. refl))
 
 pub invariant_of-self : goal.invariant_of-self
 invariant_of-self c =
     let s = c.self.inside in
-    let e : IsEmpty (record { log = c.new.result; overlay = c.new-2.result; count = 0; touched = c.new-3.result }) =
+    let none = none_of s.batch (sym c.if-is_some.ensures) in
+    let empty : IsEmpty (record { log = c.new.result; overlay = c.new-2.result; count = 0; touched = c.new-3.result }) =
     record {
       log = c.new.ensures;
       paths = c.new-2.ensures;
       count = refl;
       nodes = c.new-3.ensures.nodes;
-      lines =
-          c.new-3.ensures.lines;
+      lines = c.new-3.ensures.lines;
       changed = c.new-3.ensures.changed;
     } in
-    record {
-      register = begun_held s.roads (items s.paths) s.batch _ (sym c.if-is_some.ensures) c.self.invariant.register e;
-      bounded =
-          bounded_begun s.roads (items s.paths) s.batch
-          (record { log = c.new.result; overlay = c.new-2.result; count = 0; touched = c.new-3.result }) s.near
-          (sym c.if-is_some.ensures) e.log c.self.invariant.bounded;
-    }
+    begun_held s.roads (items s.paths) _ s.near (rw none at c.self.invariant) empty
 
 pub returns : goal.returns
 returns c =
     let s = c.self.inside in
-    let e : IsEmpty (record { log = c.new.result; overlay = c.new-2.result; count = 0; touched = c.new-3.result }) =
+    let none = none_of s.batch (sym c.if-is_some.ensures) in
+    let empty : IsEmpty (record { log = c.new.result; overlay = c.new-2.result; count = 0; touched = c.new-3.result }) =
     record {
       log = c.new.ensures;
       paths = c.new-2.ensures;
       count = refl;
       nodes = c.new-3.ensures.nodes;
-      lines =
-          c.new-3.ensures.lines;
+      lines = c.new-3.ensures.lines;
       changed = c.new-3.ensures.changed;
     } in
-    rw (← c.self.view_is)
-    (begin_done s.roads (items s.paths) s.batch _ (tally s.work s.spared) _ (sym c.if-is_some.ensures)
-    c.self.invariant.register e (ap (λ es. replies.Paths (map entry_of es)) c.new-4.ensures.items))
+    rw (← c.self.view_is, none)
+    (begin_done s.roads (items s.paths) _ s.near (rw none at c.self.invariant) empty _ _ _
+    (ap (λ es. replies.Paths (map entry_of es)) c.new-4.ensures.items))

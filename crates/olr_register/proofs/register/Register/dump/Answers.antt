@@ -1,25 +1,26 @@
-use Rattle.std.proofs.Common.{sym}
+use Rattle.std.proofs.Common.{refl, sym}
 use Rattle.std.specs.List.{list_all}
 use Rattle.std.proofs.lemmas.Bool.{and_parts}
+use Rattle.olr_spec.proofs.OptionLemmas.{none_of}
 use Rattle.olr_map.specs.RoadMaps.{map_of}
 use Rattle.olr_commands.specs.Recordable.{is_name, is_recordable_map}
 use Rattle.olr_commands.specs.Reply.{Dumped}
+use Rattle.olr_commands.specs.State.{Dump}
 use Rattle.olr_paths.specs.Items.{items, all_named}
-use Rattle.olr_register.proofs.Tallies.{tally}
-use Rattle.olr_register.proofs.DumpOutcomes.{dump_open, dump_refused, dump_lacks, dump_done}
+use Rattle.olr_register.proofs.BatchEnds.{open_refused, none_refused}
+use Rattle.olr_register.proofs.DumpOutcomes.{dump_lacks, dump_done}
 use Rattle.olr_register.proofs.register.Register.dump.Goals as goal
 
 pub returns-then-is_some : goal.returns-then-is_some
 returns-then-is_some c =
     let r = c.self.inside in
-    rw (← c.self.view_is) (dump_open r.roads (items r.paths) r.batch (tally r.work r.spared) (sym c.if-is_some.ensures))
+    rw (← c.self.view_is)
+    (open_refused r.roads (items r.paths) r.batch _ _ Dump _ (sym c.if-is_some.ensures) (λ d xs. refl))
 
 pub returns-then-not-is_recordable : goal.returns-then-not-is_recordable
 returns-then-not-is_recordable c =
-    let r = c.self.inside in
-    rw (← c.self.view_is)
-    (dump_refused r.roads (items r.paths) (tally r.work r.spared) r.batch (sym c.if-is_some.ensures)
-    (sym c.if-not-is_recordable.ensures))
+    rw (← c.self.view_is, none_of c.self.inside.batch (sym c.if-is_some.ensures))
+    (none_refused _ _ _ Dump _ (rw (← c.if-not-is_recordable.ensures)))
 
 pub dump_of-requires : goal.dump_of-requires
 dump_of-requires c =
@@ -31,15 +32,11 @@ dump_of-requires c =
 
 pub returns-in-Ok : goal.returns-in-Ok
 returns-in-Ok c =
-    let r = c.self.inside in
-    rw (← c.self.view_is)
-    (dump_done r.roads (items r.paths) (tally r.work r.spared) r.batch _ (sym c.if-is_some.ensures)
-    (sym c.if-not-is_recordable.ensures)
+    rw (← c.self.view_is, none_of c.self.inside.batch (sym c.if-is_some.ensures))
+    (dump_done _ _ _ (sym c.if-not-is_recordable.ensures) _
     (λ i. Dumped (c.in-Ok.ensures.count i) (c.in-Ok.ensures.text i)))
 
 pub returns-in-Err : goal.returns-in-Err
 returns-in-Err c =
-    let r = c.self.inside in
-    rw (← c.self.view_is)
-    (dump_lacks r.roads (items r.paths) (tally r.work r.spared) r.batch (sym c.if-is_some.ensures)
-    (sym c.if-not-is_recordable.ensures))
+    rw (← c.self.view_is, none_of c.self.inside.batch (sym c.if-is_some.ensures))
+    (dump_lacks _ _ _ (sym c.if-not-is_recordable.ensures))

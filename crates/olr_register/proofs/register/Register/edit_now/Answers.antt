@@ -1,178 +1,150 @@
-use Rattle.std.proofs.Common.{length, Ok, refl, ap, ◌∙◌, subst, sym}
-use Rattle.std.proofs.lemmas.Bool.{ne_eqb}
-use Rattle.olr_spec.specs.Map.{Map}
+use Rattle.std.proofs.Common.{List, None, [], map, refl, ap, ◌∙◌}
 use Rattle.olr_map.specs.Edits.{edit_of}
 use Rattle.olr_map.specs.RoadMaps.{map_of}
+use Rattle.olr_commands.specs.Reply as returned
+use Rattle.olr_commands.specs.State.{On_map}
+use Rattle.olr_commands.specs.Words.{entry_of}
+use Rattle.olr_commands.specs.declared.reply.Entry.{Entry}
 use Rattle.olr_paths.specs.Items.{items}
-use Rattle.olr_paths.specs.Changes.{Totals, AreTotals, AreCounted, AreRemade}
-use Rattle.olr_paths.specs.Touching.{nodes_of, lines_of, changed_of}
-use Rattle.olr_register.specs.Holding.{map_kept}
-use Rattle.olr_register.proofs.Singles.{as_before, closed_by, still_closed, same_parts}
-use Rattle.olr_register.proofs.SingleEdit.{refused_is, taken_is, edit_refused, edit_lacks, noted_plan, edit_before}
-use Rattle.olr_register.proofs.SingleEdit.{edit_keeps, edit_done, wants_for_paths}
-use Rattle.olr_register.proofs.Bounded.{kept_closed, bounded_unknown, bounded_same, edit_same_but, bounded_asked}
-use Rattle.olr_register.proofs.Bounded.{bounded_more}
-use Rattle.olr_register.proofs.Tallies.{tally}
+use Rattle.olr_register.specs.Holding.{content_on}
+use Rattle.olr_register.proofs.Asking.{some_named}
+use Rattle.olr_register.proofs.Bounded.{bounded_unknown, right_without}
+use Rattle.olr_register.proofs.Changing.{edit_refused, edit_lacks}
+use Rattle.olr_register.proofs.Listed.{no_items}
+use Rattle.olr_register.proofs.Singles.{reported_now, refused_now, bare_ok, bare_done, still_right, can_edit, edit_held}
+use Rattle.olr_register.proofs.Singles.{edit_done}
+use Rattle.olr_register.proofs.States.{closed, register_moved, kept_moved}
 use Rattle.olr_register.proofs.register.Register.edit_now.Goals as goal
 
 pub returns-in-Err : goal.returns-in-Err
 returns-in-Err c =
     let r = c.self.inside in
-    let p = refused_is _ c.in-Err.fault c.in-Err.ensures.fault in
-    edit_refused r.roads (items r.paths) r.batch (tally r.work r.spared) c.args.self.now (edit_of c.args.edit) p.0
-    c.in-Err.fault c.self.view_is c.requires p.1 p.2
+    let none = closed r.roads (items r.paths) r.batch _ _ _ c.self.view_is c.requires in
+    rw (← c.self.view_is, none) (reported_now _ _ _ (On_map (edit_of c.args.edit)) _ _ refl
+    (edit_refused (content_on (map_of r.roads) (items r.paths)) _ c.in-Err.fault c.in-Err.ensures.fault))
+
+-- ---- where there are no paths
+
+pub invariant_of-self : goal.invariant_of-self
+invariant_of-self c =
+    let r = c.self.inside in
+    let none = closed r.roads (items r.paths) r.batch _ _ _ c.self.view_is c.requires in
+    rw none (kept_moved r.roads c.make.new.self (items r.paths) None None r.near c.in_default.ensures.same tt
+    (rw none at c.self.invariant))
 
 pub returns-in_default : goal.returns-in_default
 returns-in_default c =
     let r = c.self.inside in
-    let some =
-    ne_eqb (length c.args.self.now.kept.content.paths) 0 (λ none. c.if-len-eq0.false (c.len.ensures ∙ none)) in
-    let taken = taken_is _ c.in-Ok.ensures.plan.accepted in
-    as_before c.args.self.now _ _ _ c.self.view_is
-    (edit_lacks r.roads (items r.paths) r.batch (tally r.work r.spared) c.args.self.now (edit_of c.args.edit) taken.0 _
-    c.self.view_is c.requires taken.1 (wants_for_paths _ (edit_of c.args.edit) some) refl)
+    let none = closed r.roads (items r.paths) r.batch _ _ _ c.self.view_is c.requires in
+    let bare = no_items (items r.paths) c.len.ensures.len c.if-len-eq0.true in
+    rw (← c.self.view_is, none, c.in_default.ensures.same, bare)
+    (refused_now _ _ _ (On_map (edit_of c.args.edit)) _ _ refl c.in_default.ensures.lacks
+    (edit_lacks (content_on (map_of r.roads) []) _ c.in-Ok.ensures.plan.accepted))
 
-pub returns-in_default-make : goal.returns-in_default-make
-returns-in_default-make c =
-    let some =
-    ne_eqb (length c.args.self.now.kept.content.paths) 0 (λ none. c.if-len-eq0.false (c.len.ensures ∙ none)) in
+pub invariant_of-self-then-len-eq0 : goal.invariant_of-self-then-len-eq0
+invariant_of-self-then-len-eq0 c =
     let r = c.self.inside in
-    let x = c.args.self.now in
-    let none = closed_by r.roads (items r.paths) r.batch (tally r.work r.spared) x c.self.view_is c.requires in
-    let taken = taken_is _ c.in-Ok.ensures.plan.accepted in
-    as_before x _ _ _ (same_parts r.roads c.make.new.self (items r.paths) (items r.paths) r.batch (tally r.work r.spared)
-    (tally r.work r.spared) none c.in_default-make.ensures.same refl refl ∙ c.self.view_is)
-    (edit_lacks r.roads (items r.paths) r.batch (tally r.work r.spared) x (edit_of c.args.edit) taken.0 _ c.self.view_is
-    c.requires taken.1 (wants_for_paths _ (edit_of c.args.edit) some) refl)
+    let none = closed r.roads (items r.paths) r.batch _ _ _ c.self.view_is c.requires in
+    let bare = no_items (items r.paths) c.len.ensures.len c.if-len-eq0.true in
+    let h = rw (none, bare) at c.self.invariant in
+    let N = map_of c.make.new.self in
+    rw (none, bare)
+    (still_right r.roads c.keep.new.self [] [] N c.clear.new.self (On_map (edit_of c.args.edit)) h.register.content
+    c.in-Ok.ensures.plan.placed c.keep.ensures (bare_ok r.roads N (edit_of c.args.edit) c.in-Ok-make.ensures.done) tt
+    (record { right = right_without N c.clear.new.self c.clear.ensures.bounds; sources = λ v on. absurd on }))
 
-pub returns-in_default-renew : goal.returns-in_default-renew
-returns-in_default-renew c =
-    let some =
-    ne_eqb (length c.args.self.now.kept.content.paths) 0 (λ none. c.if-len-eq0.false (c.len.ensures ∙ none)) in
+pub returns-then-len-eq0 : goal.returns-then-len-eq0
+returns-then-len-eq0 c =
     let r = c.self.inside in
-    let x = c.args.self.now in
-    let e = c.in_default-renew.ensures in
-    let none = closed_by r.roads (items r.paths) r.batch (tally r.work r.spared) x c.self.view_is c.requires in
-    let taken = taken_is _ c.in-Ok.ensures.plan.accepted in
-    as_before x _ _ _ (same_parts r.roads c.undo.new.self (items r.paths) _ r.batch (tally r.work r.spared)
-    (tally c.renew.new.work c.renew.new.kept) none (c.undo.ensures ∙ c.in-Ok-make.ensures.before) e.err
-    (λ i. tally (e.err_work i) (e.err_kept i)) ∙ c.self.view_is)
-    (edit_lacks r.roads (items r.paths) r.batch (tally r.work r.spared) x (edit_of c.args.edit) taken.0 _ c.self.view_is
-    c.requires taken.1 (wants_for_paths _ (edit_of c.args.edit) some) refl)
+    let none = closed r.roads (items r.paths) r.batch _ _ _ c.self.view_is c.requires in
+    let bare = no_items (items r.paths) c.len.ensures.len c.if-len-eq0.true in
+    rw (← c.self.view_is, none, c.keep.ensures, bare)
+    (bare_done r.roads (map_of c.make.new.self) (edit_of c.args.edit) c.in-Ok-make.ensures.done _ _ _
+    (ap (λ (es : List Entry). returned.Paths (map entry_of es)) c.new.ensures.items))
+
+-- ---- out of memory
+
+pub returns-in_default-note_alone : goal.returns-in_default-note_alone
+returns-in_default-note_alone c =
+    let r = c.self.inside in
+    let none = closed r.roads (items r.paths) r.batch _ _ _ c.self.view_is c.requires in
+    let some = some_named (items r.paths) (λ e. c.if-len-eq0.false (c.len.ensures.len ∙ e)) in
+    rw (← c.self.view_is, none) (refused_now _ _ _ (On_map (edit_of c.args.edit)) _ _ refl (rw some)
+    (edit_lacks (content_on (map_of r.roads) (items r.paths)) _ c.in-Ok.ensures.plan.accepted))
 
 pub invariant_of-self-in_default-make : goal.invariant_of-self-in_default-make
 invariant_of-self-in_default-make c =
     let r = c.self.inside in
-    let none =
-    closed_by r.roads (items r.paths) r.batch (tally r.work r.spared) c.args.self.now c.self.view_is c.requires in
-    let same = c.in_default-make.ensures.same in
-    record {
-      register =
-          still_closed r.roads c.make.new.self (items r.paths) (items r.paths) r.batch none same refl
-          c.self.invariant.register;
-      bounded =
-          bounded_same (map_kept r.roads r.batch) (map_kept c.make.new.self r.batch) (items r.paths) r.near
-          (kept_closed c.make.new.self r.batch none ∙ same ∙ sym (kept_closed r.roads r.batch none))
-          c.self.invariant.bounded;
-    }
+    let none = closed r.roads (items r.paths) r.batch _ _ _ c.self.view_is c.requires in
+    rw none (kept_moved r.roads c.make-2.new.self (items r.paths) None None r.near c.in_default-make.ensures.same tt
+    (rw none at c.self.invariant))
 
-pub invariant_of-self-in_default-renew : goal.invariant_of-self-in_default-renew
-invariant_of-self-in_default-renew c =
+pub returns-in_default-make : goal.returns-in_default-make
+returns-in_default-make c =
     let r = c.self.inside in
-    let none =
-    closed_by r.roads (items r.paths) r.batch (tally r.work r.spared) c.args.self.now c.self.view_is c.requires in
-    record {
-      register =
-          still_closed r.roads c.undo.new.self (items r.paths) _ r.batch none
-          (c.undo.ensures ∙ c.in-Ok-make.ensures.before) c.in_default-renew.ensures.err c.self.invariant.register;
-      bounded = bounded_unknown _ _ c.forget.new.self c.forget.ensures;
-    }
+    let none = closed r.roads (items r.paths) r.batch _ _ _ c.self.view_is c.requires in
+    let some = some_named (items r.paths) (λ e. c.if-len-eq0.false (c.len.ensures.len ∙ e)) in
+    rw (← c.self.view_is, none, c.in_default-make.ensures.same)
+    (refused_now _ _ _ (On_map (edit_of c.args.edit)) _ _ refl (rw some)
+    (edit_lacks (content_on (map_of r.roads) (items r.paths)) _ c.in-Ok.ensures.plan.accepted))
 
-pub invariant_of-self-2 : goal.invariant_of-self-2
-invariant_of-self-2 c =
+pub invariant_of-self-in-Err-renew : goal.invariant_of-self-in-Err-renew
+invariant_of-self-in-Err-renew c =
     let r = c.self.inside in
-    let e = edit_of c.args.edit in
-    let t = c.note_alone.new.touched in
-    let returned = c.in-Ok-note_alone.ensures in
-    let noted =
-    noted_plan (map_of r.roads) _ e c.in-Ok.plan t c.in-Ok.ensures.plan returned.nodes returned.lines returned.changed
-    in
-    let ok = c.in-Ok-make.ensures.done ∙ ap (λ (M : Map). Ok M) (sym c.keep.ensures) in
-    let none =
-    closed_by r.roads (items r.paths) r.batch (tally r.work r.spared) c.args.self.now c.self.view_is c.requires in
-    let but =
-    edit_same_but (map_of r.roads) (map_of c.make.new.self) e (nodes_of t) c.in-Ok-make.ensures.done noted.nodes in
-    let was =
-    bounded_same (map_kept r.roads r.batch) (map_of r.roads) (items r.paths) r.near
-    (sym (kept_closed r.roads r.batch none)) c.self.invariant.bounded in
-    let now =
-    bounded_asked (map_of r.roads) (map_of c.make.new.self) (items r.paths) (nodes_of t) c.nodes.result.now r.near
-    c.ask_near.new.near c.nodes.ensures but was c.ask_near.ensures.right c.ask_near.ensures.sources in
-    let renewal = c.in-Ok-renew.ensures.renewed in
-    record {
-      register =
-          edit_keeps r.roads c.keep.new.self (items r.paths) (items c.renew.new.self) r.batch (tally r.work r.spared)
-          c.args.self.now e _ c.self.view_is c.requires c.self.invariant.register c.in-Ok.ensures.plan.placed ok
-          (nodes_of t) (lines_of t) (changed_of t) noted.nodes noted.lines noted.changed
-          (subst (λ (M : Map). AreRemade M (items r.paths) (items c.renew.new.self)) (sym c.keep.ensures)
-          renewal.remade) renewal.named renewal.reported;
-      bounded =
-          bounded_same (map_of c.keep.new.self) (map_kept c.keep.new.self r.batch) _ _
-          (kept_closed c.keep.new.self r.batch none)
-          (bounded_more (map_of c.keep.new.self) (items r.paths) _ c.ask_near.new.near _ _
-          (bounded_same (map_of c.make.new.self) (map_of c.keep.new.self) (items r.paths) _ c.keep.ensures now)
-          c.in-Ok-renew.ensures.new_origins c.rebuild_bounds.ensures);
-    }
+    let none = closed r.roads (items r.paths) r.batch _ _ _ c.self.view_is c.requires in
+    let h = rw none at c.self.invariant in
+    let e = c.in-Err-renew.ensures in
+    rw (none, e.err) (record {
+      register = register_moved r.roads c.undo.new.self (items r.paths) None None
+          (c.undo.ensures ∙ c.in-Ok-make-2.ensures.before) tt h.register;
+      bounded = bounded_unknown _ _ _ e.unknown;
+    })
 
 pub returns : goal.returns
 returns c =
     let r = c.self.inside in
-    let e = edit_of c.args.edit in
-    let t = c.note_alone.new.touched in
-    let returned = c.in-Ok-note_alone.ensures in
-    let noted =
-    noted_plan (map_of r.roads) _ e c.in-Ok.plan t c.in-Ok.ensures.plan returned.nodes returned.lines returned.changed
-    in
-    let ok = c.in-Ok-make.ensures.done ∙ ap (λ (M : Map). Ok M) (sym c.keep.ensures) in
-    let before =
-    edit_before r.roads (items r.paths) r.batch (tally r.work r.spared) c.args.self.now e (map_of c.make.new.self) t
-    c.self.view_is c.requires c.self.invariant.register c.in-Ok-make.ensures.done noted in
-    let renewal = c.in-Ok-renew.ensures.renewed in
-    let count =
-    subst (λ (M : Map). (u : Totals) × AreTotals (map_of r.roads) M (nodes_of t) (lines_of t) (changed_of t)
-    (items r.paths) u × AreCounted M u r.work c.renew.new.work r.spared c.renew.new.kept) (sym c.keep.ensures)
-    (renewal.counted (map_of r.roads) before) in
-    edit_done r.roads c.keep.new.self (items r.paths) (items c.renew.new.self) r.batch (tally r.work r.spared)
-    c.args.self.now e _ c.self.view_is c.requires c.self.invariant.register c.in-Ok.ensures.plan.placed ok
-    (nodes_of t) (lines_of t) (changed_of t) noted.nodes noted.lines noted.changed
-    (subst (λ (M : Map). AreRemade M (items r.paths) (items c.renew.new.self)) (sym c.keep.ensures)
-    renewal.remade) renewal.named renewal.reported
-    (tally c.renew.new.work c.renew.new.kept) _ count.0 refl count.1 count.2
-    (record { work = c.in-Ok-renew.ensures.rises; spared = c.in-Ok-renew.ensures.kept })
+    let none = closed r.roads (items r.paths) r.batch _ _ _ c.self.view_is c.requires in
+    let some = some_named (items r.paths) (λ e. c.if-len-eq0.false (c.len.ensures.len ∙ e)) in
+    let e = c.in-Err-renew.ensures in
+    let same = c.undo.ensures ∙ c.in-Ok-make-2.ensures.before in
+    rw (← c.self.view_is, none, same, e.err, e.err_work, e.err_kept)
+    (refused_now _ _ _ (On_map (edit_of c.args.edit)) _ _ refl (rw some)
+    (edit_lacks (content_on (map_of r.roads) (items r.paths)) _ c.in-Ok.ensures.plan.accepted))
+
+-- ---- accepted
 
 pub renew-requires : goal.renew-requires
 renew-requires c =
     let r = c.self.inside in
+    let none = closed r.roads (items r.paths) r.batch _ _ _ c.self.view_is c.requires in
+    let e = edit_of c.args.edit in (
+      map_of r.roads,
+      rw (c.new-none.ensures (items r.paths))
+          (can_edit r.roads (map_of c.make-2.new.self) (items r.paths) r.near e c.note_alone.new.touched
+          (rw none at c.self.invariant) c.in-Ok-make-2.ensures.done
+          (c.in-Ok-note_alone.ensures (map_of r.roads) _ e c.in-Ok.ensures.plan)),
+    )
+
+pub invariant_of-self-in-Ok-renew : goal.invariant_of-self-in-Ok-renew
+invariant_of-self-in-Ok-renew c =
+    let r = c.self.inside in
+    let none = closed r.roads (items r.paths) r.batch _ _ _ c.self.view_is c.requires in
     let e = edit_of c.args.edit in
-    let t = c.note_alone.new.touched in
-    let returned = c.in-Ok-note_alone.ensures in
-    let noted =
-    noted_plan (map_of r.roads) _ e c.in-Ok.plan t c.in-Ok.ensures.plan returned.nodes returned.lines returned.changed
-    in
-    let none =
-    closed_by r.roads (items r.paths) r.batch (tally r.work r.spared) c.args.self.now c.self.view_is c.requires in
-    let but =
-    edit_same_but (map_of r.roads) (map_of c.make.new.self) e (nodes_of t) c.in-Ok-make.ensures.done noted.nodes in
-    let was =
-    bounded_same (map_kept r.roads r.batch) (map_of r.roads) (items r.paths) r.near
-    (sym (kept_closed r.roads r.batch none)) c.self.invariant.bounded in
-    record {
-      bounds =
-          bounded_asked (map_of r.roads) (map_of c.make.new.self) (items r.paths) (nodes_of t) c.nodes.result.now r.near
-          c.ask_near.new.near c.nodes.ensures but was c.ask_near.ensures.right c.ask_near.ensures.sources;
-      before = (
-        map_of r.roads,
-        edit_before r.roads (items r.paths) r.batch (tally r.work r.spared) c.args.self.now e (map_of c.make.new.self)
-            t c.self.view_is c.requires c.self.invariant.register c.in-Ok-make.ensures.done noted,
-      );
-    }
+    let renewal = rw (c.new-none.ensures (items r.paths)) at c.in-Ok-renew.ensures.renewed in
+    rw none
+    (edit_held r.roads (map_of c.make-2.new.self) (items r.paths) r.near e c.note_alone.new.touched
+    (rw none at c.self.invariant) c.in-Ok-make-2.ensures.done
+    (c.in-Ok-note_alone.ensures (map_of r.roads) _ e c.in-Ok.ensures.plan) _ _ _ _ _ _ renewal c.keep-in-Ok-renew.new.self _
+    c.in-Ok.ensures.plan.placed c.keep-in-Ok-renew.ensures c.in-Ok-renew.ensures.bounded)
+
+pub returns-in-Ok-renew : goal.returns-in-Ok-renew
+returns-in-Ok-renew c =
+    let r = c.self.inside in
+    let none = closed r.roads (items r.paths) r.batch _ _ _ c.self.view_is c.requires in
+    let e = edit_of c.args.edit in
+    let renewal = rw (c.new-none.ensures (items r.paths)) at c.in-Ok-renew.ensures.renewed in
+    rw (← c.self.view_is, none, c.keep-in-Ok-renew.ensures)
+    (edit_done r.roads (map_of c.make-2.new.self) (items r.paths) r.near e c.note_alone.new.touched
+    (rw none at c.self.invariant) c.in-Ok-make-2.ensures.done
+    (c.in-Ok-note_alone.ensures (map_of r.roads) _ e c.in-Ok.ensures.plan) _ _ _ _ _ _ renewal _ refl
+    c.in-Ok-renew.ensures.rises c.in-Ok-renew.ensures.kept)

@@ -1,0 +1,103 @@
+-- What a change makes of the content of a map and a list.
+use Rattle.std.proofs.Common.{inl, inr, ◌⊎◌, ◌≡◌, ℕ, Bool, true, false, not, List, [], ◌∷◌, ◌++◌, map, Option}
+use Rattle.std.proofs.Common.{filter, Result, Ok, Err, IsOk, refl, sym, ap, ◌∙◌}
+use Rattle.std.specs.Prelude.{MatchResult}
+use Rattle.olr_spec.specs.Map.{Map, MapFault}
+use Rattle.olr_spec.specs.Map as map_faults
+use Rattle.olr_spec.specs.Extension.{Path, is_path}
+use Rattle.olr_map.specs.Edits.{edit_fault_of}
+use Rattle.olr_map.specs.declared.edit.EditFault.{EditFault}
+use Rattle.olr_map.specs.declared.judging.EditPlan.{EditPlan}
+use Rattle.olr_commands.specs.State.{Named, Content, same_name, has_path, Fault, Map_fault, Memory, Path_exists, No_path}
+use Rattle.olr_commands.specs.State.{Bad_path, when, Add_path, Set_path, Drop_path, with_map, with_change}
+use Rattle.olr_commands.specs.Reply.{is_reported_first}
+use Rattle.olr_commands.specs.Words.{command_fault_of, map_fault_of}
+use Rattle.olr_commands.specs.declared.fault.CommandFault.{CommandFault}
+use Rattle.olr_commands.specs.declared.fault.CommandFault.TheVariants as rust
+use Rattle.olr_paths.specs.Items.{Made, Item}
+use Rattle.olr_paths.specs.Changes.{set_item}
+use Rattle.olr_paths.proofs.Overlaying.{has_name}
+use Rattle.olr_register.specs.Holding.{content_on}
+use Rattle.olr_register.specs.HoldsChange.{MayReport, ByContent, Lacks}
+use Rattle.olr_register.proofs.Listed.{names_add, names_set, names_drop}
+
+abbrev content_from : Map → List Named → Result Content Fault
+content_from M ps = Ok (record { map = M; paths = ps })
+
+-- ---- the fault of the name takes precedence, then that of the lines
+
+pub add_taken : (c : Content) (name : List ℕ) (path : Path) → has_path c name ≡ true →
+    with_change c (Add_path name path) ≡ Err Path_exists
+add_taken c name path e = rw e
+
+pub set_missing : (c : Content) (name : List ℕ) (path : Path) → has_path c name ≡ false →
+    with_change c (Set_path name path) ≡ Err No_path
+set_missing c name path e = rw e
+
+pub drop_missing : (c : Content) (name : List ℕ) → has_path c name ≡ false →
+    with_change c (Drop_path name) ≡ Err No_path
+drop_missing c name e = rw e
+
+-- out of memory, or lines that are no path
+abbrev pub IsPathFault : List ℕ → CommandFault → Type 0
+IsPathFault lines f = (f ≡ rust.Memory) ⊎ ((f ≡ rust.BadPath) × (is_path lines ≡ false))
+
+bad_path_last : (b : Bool) (c : Content) (g : Fault) → when b Bad_path (Ok c) ≡ Err g → is_reported_first g ≡ false
+bad_path_last true c g e = let same : Bad_path ≡ g = cc in ap is_reported_first (sym same)
+bad_path_last false c g e = absurd cc
+
+lines_refused : (lines : List ℕ) (d : Content) (f : CommandFault) → IsPathFault lines f →
+    MayReport (when (not (is_path lines)) Bad_path (Ok d)) (command_fault_of f)
+lines_refused lines d f (inl e) = Lacks (ap command_fault_of e) (bad_path_last (not (is_path lines)) d)
+lines_refused lines d f (inr h) = ByContent (rw (h.0, h.1))
+
+pub add_refused : (c : Content) (name : List ℕ) (path : Path) (f : CommandFault) → has_path c name ≡ false →
+    IsPathFault path.lines f → MayReport (with_change c (Add_path name path)) (command_fault_of f)
+add_refused c name path f free h = rw free (lines_refused path.lines _ f h)
+
+pub set_refused : (c : Content) (name : List ℕ) (path : Path) (f : CommandFault) → has_path c name ≡ true →
+    IsPathFault path.lines f → MayReport (with_change c (Set_path name path)) (command_fault_of f)
+set_refused c name path f there h = rw there (lines_refused path.lines _ f h)
+
+pub drop_lacks : (c : Content) (name : List ℕ) → has_path c name ≡ true →
+    MayReport (with_change c (Drop_path name)) Memory
+drop_lacks c name there = rw there (Lacks refl (λ g e. absurd cc))
+
+-- ---- faults of an edit, from the result of judging it
+
+reported_by_map : (g : MapFault) → map_fault_of (edit_fault_of g) ≡ Map_fault g
+reported_by_map map_faults.Node_exists = refl
+reported_by_map map_faults.No_node = refl
+reported_by_map map_faults.Line_exists = refl
+reported_by_map map_faults.No_line = refl
+reported_by_map map_faults.Node_in_use = refl
+reported_by_map map_faults.Bad_shape = refl
+
+pub edit_refused : (c : Content) (r : Result Map MapFault) (f : EditFault) →
+    MatchResult r (λ _. IsOk {T = EditPlan} (Err f))
+    (λ g. ◌≡◌ {A = Result EditPlan EditFault} (Err f) (Err (edit_fault_of g))) → with_map c r ≡ Err (map_fault_of f)
+edit_refused c (Ok N) f h = absurd cc
+edit_refused c (Err g) f h =
+    let same : f ≡ edit_fault_of g = cc in
+    ap (λ (k : Fault). Err k) (sym (ap map_fault_of same ∙ reported_by_map g))
+
+pub edit_lacks : (c : Content) (r : Result Map MapFault) → IsOk r → MayReport (with_map c r) Memory
+edit_lacks c (Ok N) h = Lacks refl (λ g e. absurd cc)
+edit_lacks c (Err g) h = absurd cc
+
+-- ---- accepted, with these results of the path
+
+pub add_ok : (M : Map) (is : List Item) (name : List ℕ) (path : Path) (made : Option Made) → has_name is name ≡ false →
+    is_path path.lines ≡ true
+    → with_change (content_on M is) (Add_path name path)
+    ≡ Ok (content_on M (is ++ record { name = name; path = path; made = made } ∷ []))
+add_ok M is name path made free good = rw (free, good) (ap (content_from M) (sym (names_add is _)))
+
+pub set_ok : (M : Map) (is : List Item) (name : List ℕ) (path : Path) (made : Option Made) → has_name is name ≡ true →
+    is_path path.lines ≡ true
+    → with_change (content_on M is) (Set_path name path) ≡ Ok (content_on M (map (set_item name path made) is))
+set_ok M is name path made there good = rw (there, good) (ap (content_from M) (sym (names_set name path made is)))
+
+pub drop_ok : (M : Map) (is : List Item) (name : List ℕ) → has_name is name ≡ true →
+    with_change (content_on M is) (Drop_path name) ≡ Ok (content_on M (filter (λ i. not (same_name i.name name)) is))
+drop_ok M is name there = rw there (ap (content_from M) (sym (names_drop name is)))

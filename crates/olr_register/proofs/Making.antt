@@ -1,0 +1,180 @@
+-- What a change makes of an open batch, by the changed part.
+use Rattle.std.proofs.Common.{◌≡◌, ℕ, ◌+◌, arith, false, List, [], ◌++◌, append-nil, map, Ok, Err, refl, sym, ap}
+use Rattle.std.proofs.Common.{◌∙◌, subst}
+use Rattle.std.specs.Prelude.{◌||◌, nat_le}
+use Rattle.std.proofs.Math.Bool.{or-false}
+use Rattle.std.proofs.lemmas.Bool.{leb-false}
+use Rattle.olr_spec.specs.Map.{Map, Edit, edited, touched_nodes, touched_lines, has, HasCoord}
+use Rattle.olr_spec.specs.Detours.{ChangedLine, changes_of}
+use Rattle.olr_spec.specs.Queries.{CoverageQuery}
+use Rattle.olr_map.specs.RoadMaps.{map_of, map_before, CanUndoAll}
+use Rattle.olr_map.specs.declared.road_map.RoadMap.{RoadMap}
+use Rattle.olr_map.specs.declared.undo.UndoLog.{UndoLog}
+use Rattle.olr_commands.specs.State.{IsContent, full, Change, On_map, Make, HasCoords, with_map, with_change}
+use Rattle.olr_commands.specs.Counts.{nodes_of_change, lines_of_change, changed_by, names_of_change}
+use Rattle.olr_commands.specs.Words.{command_fault_of}
+use Rattle.olr_commands.specs.declared.fault.CommandFault.{CommandFault}
+use Rattle.olr_commands.specs.declared.reply.Reply.TheVariants.{Held}
+use Rattle.olr_commands.proofs.StateLemmas.{changes_keep}
+use Rattle.olr_paths.specs.Items.{Item, AreEncodingsIfAny}
+use Rattle.olr_paths.specs.Changes.{Follows}
+use Rattle.olr_paths.specs.Origins.{Begins}
+use Rattle.olr_paths.specs.Laying.{under_overlay}
+use Rattle.olr_paths.specs.Touching.{nodes_of, lines_of, changed_of}
+use Rattle.olr_paths.specs.declared.change_set.ChangeSet.{ChangeSet}
+use Rattle.olr_paths.specs.declared.overlay.Overlay.{Overlay}
+use Rattle.olr_register.specs.Holding.{content_on, content_under, batch_as, AreEditsNoted, held_of, IsHeldAs, IsHeld}
+use Rattle.olr_register.specs.HoldsChange.{AreGiven, MayReport, IsMade, Makes, HoldsChange}
+use Rattle.olr_register.specs.declared.batch.Batch.{Batch}
+use Rattle.olr_register.proofs.Noted.{noted_more}
+
+-- ---- a change of a path, which makes another overlay
+
+module _ (roads : RoadMap) (is : List Item) (b : Batch) (l : Overlay) (x : Change) where
+  pub path_unmade : (f : CommandFault) → under_overlay is l ≡ under_overlay is b.overlay →
+      MayReport (with_change (content_under roads is b) x) (command_fault_of f) →
+      Makes roads roads is b (record b { overlay = l }) x (Err f)
+  path_unmade f same may = record {
+    count = refl;
+    before = refl;
+    made = tt;
+    refused = may;
+    unchanged = ap (λ (ls : List Item). batch_as roads ls b.count b.touched) same;
+    held = subst (λ (ls : List Item). IsHeldAs roads is ls b.log b.count b.touched) (sym same);
+  }
+
+  pub path_made : (ls : List Item) → under_overlay is l ≡ ls →
+      with_change (content_under roads is b) x ≡ Ok (content_on (map_of roads) ls) → HasCoords (Make x) →
+      nodes_of_change (map_of roads) x ≡ [] → lines_of_change x ≡ [] → changed_by (map_of roads) x ≡ [] →
+      ((names : List (List ℕ)) → AreGiven names (map held_of (under_overlay is b.overlay)) →
+      AreGiven (names ++ names_of_change x) (map held_of ls)) →
+      ((M : Map) → AreEncodingsIfAny M (under_overlay is b.overlay) → AreEncodingsIfAny M ls) →
+      (Follows is (under_overlay is b.overlay) → Follows is ls) →
+      ((v : CoverageQuery) → Begins ls v → Begins (under_overlay is b.overlay) v) →
+      Makes roads roads is b (record b { overlay = l }) x (Ok tt)
+  path_made ls same ok placed nodes lines changed given made follows begins = record {
+    count = refl;
+    before = refl;
+    made = subst (λ (js : List Item). IsMade roads roads (under_overlay is b.overlay) js b.touched b.touched x) (sym same)
+        (record {
+          content = ok;
+          nodes = λ v. sym (ap (λ (vs : List ℕ). has (nodes_of b.touched) v || has vs v) nodes ∙ or-false _);
+          lines = λ y. sym (ap (λ (ys : List ℕ). has (lines_of b.touched) y || has ys y) lines ∙ or-false _);
+          changed =
+              sym (ap (λ (cs : List ChangedLine). changed_of b.touched ++ cs) changed ∙ append-nil _);
+          given = given;
+        });
+    refused = tt;
+    unchanged = tt;
+    held = λ h. subst (λ (js : List Item). IsHeldAs roads is js b.log b.count b.touched) (sym same) (record {
+      undo = h.undo;
+      sound = changes_keep (content_under roads is b) (content_on (map_of roads) ls) x h.sound placed ok;
+      few = h.few;
+      noted = h.noted;
+      made = made (map_before roads b.log) h.made;
+      follows = follows h.follows;
+      begins = λ v on. h.begins v (begins v on);
+    });
+  }
+
+-- ---- an edit
+
+module _ (old new : RoadMap) (is : List Item) (b : Batch) (log : UndoLog) (t : ChangeSet) (e : Edit)
+    (undo : CanUndoAll new log) (same_before : map_before new log ≡ map_before old b.log) where
+  abbrev edited_batch : Batch
+  edited_batch = record { log = log; overlay = b.overlay; count = b.count; touched = t }
+
+  pub edit_unmade : (f : CommandFault) → map_of new ≡ map_of old → nodes_of t ≡ nodes_of b.touched →
+      lines_of t ≡ lines_of b.touched → changed_of t ≡ changed_of b.touched →
+      MayReport (with_change (content_under old is b) (On_map e)) (command_fault_of f) →
+      Makes old new is b edited_batch (On_map e) (Err f)
+  edit_unmade f same nodes lines changed may = record {
+    count = refl;
+    before = same_before;
+    made = tt;
+    refused = may;
+    unchanged = λ i. record {
+      map = same i;
+      paths = map held_of (under_overlay is b.overlay);
+      count = b.count;
+      nodes = nodes i;
+      lines = lines i;
+      changed = changed i;
+    };
+    held = λ h. record {
+      undo = undo;
+      sound = subst (λ (M : Map). IsContent (content_on M (under_overlay is b.overlay))) (sym same) h.sound;
+      few = h.few;
+      noted = coe 0 1 (i. AreEditsNoted (sym same_before i) (sym same i) (sym nodes i) (sym lines i) (sym changed i))
+          h.noted;
+      made = subst (λ (M : Map). AreEncodingsIfAny M (under_overlay is b.overlay)) (sym same_before) h.made;
+      follows = h.follows;
+      begins = h.begins;
+    };
+  }
+
+  pub edit_made : edited (map_of old) e ≡ Ok (map_of new) → HasCoord e →
+      ((v : ℕ) → has (nodes_of t) v ≡ (has (nodes_of b.touched) v || has (touched_nodes (map_of old) e) v)) →
+      ((y : ℕ) → has (lines_of t) y ≡ (has (lines_of b.touched) y || has (touched_lines e) y)) →
+      changed_of t ≡ changed_of b.touched ++ changes_of (map_of old) e →
+      Makes old new is b edited_batch (On_map e) (Ok tt)
+  edit_made done placed nodes lines changed =
+      let content : with_change (content_under old is b) (On_map e)
+      ≡ Ok (content_on (map_of new) (under_overlay is b.overlay)) = ap (with_map (content_under old is b)) done in
+      record {
+        count = refl;
+        before = same_before;
+        made = record {
+          content = content;
+          nodes = nodes;
+          lines = lines;
+          changed = changed;
+          given = λ names g. subst (λ (ns : List (List ℕ)). AreGiven ns (map held_of (under_overlay is b.overlay)))
+              (sym (append-nil names)) g;
+        };
+        refused = tt;
+        unchanged = tt;
+        held = λ h. record {
+          undo = undo;
+          sound = changes_keep (content_under old is b) (content_on (map_of new) (under_overlay is b.overlay))
+              (On_map e) h.sound placed content;
+          few = h.few;
+          noted =
+              subst (λ (M : Map). AreEditsNoted M (map_of new) (nodes_of t) (lines_of t) (changed_of t))
+              (sym same_before)
+              (noted_more (map_before old b.log) (map_of old) (map_of new) e (nodes_of b.touched)
+              (lines_of b.touched) (nodes_of t) (lines_of t) (changed_of b.touched) (changed_of t) h.noted done
+              nodes lines changed);
+          made = subst (λ (M : Map). AreEncodingsIfAny M (under_overlay is b.overlay)) (sym same_before) h.made;
+          follows = h.follows;
+          begins = h.begins;
+        };
+      }
+
+-- ---- held
+
+pub holds_made : (old new : RoadMap) (is : List Item) (b d : Batch) (x : Change) → nat_le full b.count ≡ false →
+    IsHeld old is b → Makes old new is b d x (Ok tt) →
+    HoldsChange old new is b (record d { count = d.count + 1 }) x (Ok (Held (d.count + 1)))
+holds_made old new is b d x room held m =
+    let few = leb-false full b.count room in
+    let same = m.count in
+    let h = m.held held in
+    record {
+      before = m.before;
+      made = m.made;
+      room = room;
+      count = omega arith;
+      reply = refl;
+      refused = tt;
+      unchanged = tt;
+      held = record {
+        undo = h.undo;
+        sound = h.sound;
+        few = omega arith;
+        noted = h.noted;
+        made = h.made;
+        follows = h.follows;
+        begins = h.begins;
+      };
+    }

@@ -1,0 +1,65 @@
+-- The states that a register represents, with a batch open or not.
+use Rattle.std.proofs.Common.{◌≡◌, ℕ, List, Option, Some, None, refl, sym, ap, ◌∙◌, subst}
+use Rattle.std.specs.Prelude.{IfSome}
+use Rattle.olr_spec.specs.Map.{Map}
+use Rattle.olr_map.specs.declared.road_map.RoadMap.{RoadMap}
+use Rattle.olr_search.specs.declared.work.Work.{Work}
+use Rattle.olr_commands.specs.State.{Content, IsContent, Change, State}
+use Rattle.olr_near.specs.declared.distance_bounds.DistanceBounds.{DistanceBounds}
+use Rattle.olr_paths.specs.Items.{Item, AreEncodings}
+use Rattle.olr_register.specs.RegisterState.{Batch, IsBatchOf, RepresentsBatch, Represents}
+use Rattle.olr_register.specs.Registered.{Registered}
+use Rattle.olr_register.specs.Holding.{content_on, map_kept, option_batch, kept_of, IsHeld, IsRegister, HasBounds}
+use Rattle.olr_register.specs.Holding.{IsKeptRight}
+use Rattle.olr_register.specs.declared.batch.Batch.{Batch as Open}
+
+abbrev pub state : Content → Option (List Change) → State
+state c o = record { content = c; batch = o }
+
+abbrev pub register_of : Content → Option Batch → Work → ℕ → Registered
+register_of c o w n = record { kept = record { content = c; batch = o }; work = w; spared = n }
+
+-- by the fields of the struct
+abbrev pub of_parts : RoadMap → List Item → Option Open → Work → ℕ → Registered
+of_parts roads is b w n = record { kept = kept_of roads is b; work = w; spared = n }
+
+no_batch_open : (roads : RoadMap) (is : List Item) (b : Option Open) → option_batch roads is b ≡ None → b ≡ None
+no_batch_open roads is None h = refl
+no_batch_open roads is (Some b) h = absurd cc
+
+-- from the value to the field
+pub closed : (roads : RoadMap) (is : List Item) (b : Option Open) (w : Work) (n : ℕ) (x : Registered) →
+    of_parts roads is b w n ≡ x → x.kept.batch ≡ None → b ≡ None
+closed roads is b w n x view none =
+    no_batch_open roads is b (ap (λ (y : Registered). y.kept.batch) view ∙ none)
+
+-- what is true of a register, on the same map and list with another batch
+pub register_moved : (old new : RoadMap) (is : List Item) (o p : Option Open) → map_kept new p ≡ map_kept old o →
+    IfSome p (IsHeld new is) → IsRegister old is o → IsRegister new is p
+register_moved old new is o p same held h = record {
+  content = subst (λ (M : Map). IsContent (content_on M is)) (sym same) h.content;
+  made = subst (λ (M : Map). AreEncodings M is) (sym same) h.made;
+  held = held;
+}
+
+pub kept_moved : (old new : RoadMap) (is : List Item) (o p : Option Open) (near : DistanceBounds) →
+    map_kept new p ≡ map_kept old o → IfSome p (IsHeld new is) → IsKeptRight old is o near → IsKeptRight new is p near
+kept_moved old new is o p near same held h = record {
+  register = register_moved old new is o p same held h.register;
+  bounded = subst (λ (M : Map). HasBounds M is near) (sym same) h.bounded;
+}
+
+pub in_batch : (c : Content) (b : Batch) (P : State → Type 0) →
+    ((xs : List Change) → IsBatchOf c b xs → P (state c (Some xs)))
+    → (s : State) → Represents (record { content = c; batch = Some b }) s → P s
+in_batch c b P f s h = subst (λ (d : Content). P (state d s.batch)) h.0 (by_batch s.batch h.1) where
+  by_batch : (o : Option (List Change)) → RepresentsBatch c (Some b) o → P (state c o)
+  by_batch (Some xs) i = f xs i
+  by_batch None i = absurd i
+
+pub no_batch : (c : Content) (P : State → Type 0) → P (state c None) → (s : State) →
+    Represents (record { content = c; batch = None }) s → P s
+no_batch c P p s h = subst (λ (d : Content). P (state d s.batch)) h.0 (by_batch s.batch h.1) where
+  by_batch : (o : Option (List Change)) → RepresentsBatch c None o → P (state c o)
+  by_batch (Some xs) i = absurd i
+  by_batch None i = p

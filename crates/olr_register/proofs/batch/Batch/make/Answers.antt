@@ -1,0 +1,5 @@
+use Rattle.olr_paths.specs.Items.{items}
+use Rattle.olr_register.proofs.batch.Batch.make.Goals as goal
+
+pub returns-in-Edit : goal.returns-in-Edit
+returns-in-Edit c = rw c.in-Edit.is (c.edit.ensures (items c.args.list.now))
