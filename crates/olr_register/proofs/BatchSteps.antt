@@ -4,6 +4,7 @@ use Rattle.std.proofs.Common.{Ok, Err, refl, sym, ap, ◌∙◌, subst, append_a
 use Rattle.std.specs.Prelude.{◌==◌, ◌&&◌, ◌||◌, nat_le, flat_map}
 use Rattle.std.proofs.lemmas.List.{append-nil, length_push}
 use Rattle.std.proofs.lemmas.List.Folds.{list_any-append}
+use Rattle.std.proofs.lemmas.Grind.{flat_map-append}
 use Rattle.olr_spec.specs.Map.{has}
 use Rattle.olr_spec.specs.Detours.{ChangedLine}
 use Rattle.olr_map.specs.RoadMaps.{map_of, map_before}
@@ -49,8 +50,7 @@ nodes_push c (y ∷ xs) x =
 
 flat_push : {A : Type 0} (f : Change → List A) (xs : List Change) (x : Change) →
     flat_map f (xs ++ x ∷ []) ≡ flat_map f xs ++ f x
-flat_push f [] x = append-nil (f x)
-flat_push f (y ∷ xs) x = ap (λ vs. f y ++ vs) (flat_push f xs x) ∙ sym (append_assoc (f y) (flat_map f xs) (f x))
+flat_push f xs x = rw (flat_map-append f xs (x ∷ []), append-nil (f x))
 
 -- ---- the step
 

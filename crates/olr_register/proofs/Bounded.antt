@@ -1,16 +1,11 @@
 -- The distance bounds that a register stores: right on its map, with a source where each coverage query of its list
 -- begins.
-use Rattle.std.proofs.Common.{inl, inr, ◌≡◌, ℕ, List, [], ◌∷◌, ◌++◌, map, Option, Some, None, IsFalse}
-use Rattle.std.proofs.Common.{sym, ◌∙◌, subst}
+use Rattle.std.proofs.Common.{◌≡◌, ℕ, List, Option, Some, None, IsFalse}
+use Rattle.std.proofs.Common.{sym, ◌∙◌}
 use Rattle.olr_spec.specs.Map.{Map}
-use Rattle.olr_spec.specs.Extension.{Path}
-use Rattle.olr_spec.specs.Queries.{CoverageQuery}
 use Rattle.olr_near.specs.Bounds.{bound_of, IsRight}
 use Rattle.olr_near.specs.declared.distance_bounds.DistanceBounds.{DistanceBounds}
 use Rattle.olr_paths.specs.Items.{Item}
-use Rattle.olr_paths.specs.Changes.{set_item}
-use Rattle.olr_paths.specs.Origins.{BeginsIn, Begins}
-use Rattle.olr_paths.proofs.OriginLemmas.{begins_add, begins_set}
 use Rattle.olr_register.specs.Holding.{HasBounds}
 
 -- unknown bounds say nothing
@@ -25,14 +20,3 @@ bounded_unknown M is near off =
 -- no node has a bound, and no coverage query begins at a node
 pub right_without : (M : Map) (near : DistanceBounds) → ((v : ℕ) → bound_of near v ≡ None) → IsRight M near
 right_without M near none known u d at = let no : ◌≡◌ {A = Option ℕ} None (Some d) = sym (none u) ∙ at in absurd cc
-
--- ---- a held path has no coverage query yet
-
-pub begins_held : (is : List Item) (j : Item) → j.made ≡ None → (v : CoverageQuery) → Begins (is ++ j ∷ []) v →
-    Begins is v
-begins_held is j none v h =
-    elim (begins_add is j v h) [ inl old ↦ old | inr new ↦ absurd (subst (λ o. BeginsIn o v) none new) ]
-
-pub begins_other : (name : List ℕ) (path : Path) (is : List Item) (v : CoverageQuery) →
-    Begins (map (set_item name path None) is) v → Begins is v
-begins_other name path is v h = elim (begins_set name path None is v h) [ inl old ↦ old | inr new ↦ absurd new ]

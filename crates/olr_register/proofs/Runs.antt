@@ -1,22 +1,15 @@
 -- Whole runs.
 use Rattle.std.proofs.Common.{◌≡◌, ◌∙◌, ◌+◌, ℕ, List, [], ◌∷◌, ◌++◌, map, length-append, Result, refl, sym, ap, subst}
+use Rattle.std.proofs.lemmas.List.{map_push}
 use Rattle.olr_commands.specs.State.{IsContent, State, start_state}
 use Rattle.olr_commands.specs.History.{Whole}
-use Rattle.olr_commands.proofs.HistoryLemmas.{start_sound, SoundOutcome, run_more}
+use Rattle.olr_commands.proofs.HistoryLemmas.{SoundOutcome, run_more}
 use Rattle.olr_commands.specs.Words.{command_of, outcome_of}
 use Rattle.olr_commands.specs.declared.command.Command.{Command as Asked}
 use Rattle.olr_commands.specs.declared.reply.Reply.{Reply as Answered}
 use Rattle.olr_commands.specs.declared.fault.CommandFault.{CommandFault}
 use Rattle.olr_register.specs.RegisterState.{Represents}
 use Rattle.olr_register.specs.Registered.{Registered, Applied, nothing_registered}
-
-map_push : {A B : Type 0} (f : A → B) (xs : List A) (x : A) → map f (xs ++ x ∷ []) ≡ map f xs ++ f x ∷ []
-map_push f [] x = refl
-map_push f (y ∷ xs) x = ap (λ ys. f y ∷ ys) (map_push f xs x)
-
-pub map_same : {A : Type 0} (xs : List A) → map (λ y. y) xs ≡ xs
-map_same [] = refl
-map_same (x ∷ xs) = ap (λ ys. x ∷ ys) (map_same xs)
 
 -- a register in the state to which the commands lead with these answers
 abbrev pub HasRun : Registered → List Asked → List (Result Answered CommandFault) → Type 0
@@ -28,9 +21,6 @@ pub run_starts : (x : Registered) (rs : List (Result Answered CommandFault)) →
 run_starts x rs new none =
     subst (λ (ss : List (Result Answered CommandFault)). HasRun x [] ss) (sym none)
     (subst (λ (y : Registered). HasRun y [] []) (sym new) (start_state, (refl, tt), (refl, refl)))
-
-pub sound_at_start : (x : Registered) → x ≡ nothing_registered → IsContent x.kept.content
-sound_at_start x new = subst (λ (y : Registered). IsContent y.kept.content) (sym new) start_sound.content
 
 pub run_continues : (x y : Registered) (cs : List Asked) (c : Asked) (rs ss : List (Result Answered CommandFault))
     (r : Result Answered CommandFault) → HasRun x cs rs → Applied x (command_of c) (outcome_of r) y →
@@ -47,7 +37,5 @@ run_continues x y cs c rs ss r run applied sound more =
     ∙ sym (length-append (map command_of cs) (command_of c ∷ [])) in (
       next.0,
       next.1,
-      subst (λ ds. Whole SoundOutcome start_state ds (map outcome_of ss) next.0) (sym (map_push command_of cs c))
-          (subst (λ os. Whole SoundOutcome start_state (map command_of cs ++ command_of c ∷ []) os next.0)
-          (sym (ap (λ qs. map outcome_of qs) more ∙ map_push outcome_of rs r)) (size, all)),
+      rw (map_push command_of cs c, more, map_push outcome_of rs r) (size, all),
     )

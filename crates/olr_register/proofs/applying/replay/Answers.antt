@@ -1,25 +1,21 @@
 use Rattle.std.proofs.Common.{arith, sym, ◌∙◌, subst}
+use Rattle.std.proofs.lemmas.List.{map-id}
 use Rattle.std.proofs.lemmas.Iterator.Adapters.{YieldsList-from_vec}
 use Rattle.std.proofs.lemmas.Iterator.Consumers.{YieldsList-end}
 use Rattle.olr_commands.specs.State.{start_state}
 use Rattle.olr_commands.specs.Reply.{IsOutcome}
 use Rattle.olr_commands.proofs.HistoryLemmas.{SoundOutcome, run_each, headline_of_outcomes, start_sound}
-use Rattle.olr_register.proofs.Runs.{HasRun, map_same, run_starts, sound_at_start, run_continues}
+use Rattle.olr_register.proofs.Runs.{HasRun, run_starts, run_continues}
 use Rattle.olr_register.proofs.applying.replay.Goals as goal
 
 pub loop-command-init : goal.loop-command-init
-loop-command-init c = record {
-  run = run_starts c.new-register.result _ c.new-register.ensures c.new-outcomes.ensures.items;
-  sound = sound_at_start c.new-register.result c.new-register.ensures;
-}
+loop-command-init c = run_starts c.new-register.result _ c.new-register.ensures c.new-outcomes.ensures.items
 
 pub loop-command-preserved : goal.loop-command-preserved
-loop-command-preserved c = record {
-  run = run_continues c.loop-command.register c.apply-outcome.new.self c.loop-command.yielded c.in-Some.command
-      c.loop-command.outcomes.items _ c.apply-outcome.result c.loop-command.invariant.run
-      c.apply-outcome.ensures.outcome c.apply-outcome.ensures.sound c.in_ok-push.ensures.items;
-  sound = c.apply-outcome.ensures.sound;
-}
+loop-command-preserved c =
+    run_continues c.loop-command.register c.apply-outcome.new.self c.loop-command.yielded c.in-Some.command
+    c.loop-command.outcomes.items _ c.apply-outcome.result c.loop-command.invariant c.apply-outcome.ensures.outcome
+    c.apply-outcome.ensures.sound c.in_ok-push.ensures.items
 
 -- the state to which all commands lead
 whole_run : (c : goal.After-drop-command-iterator-2) →
@@ -31,7 +27,7 @@ whole_run c =
     YieldsList-end whole c.loop-command.yielded c.loop-command.command-iterator c.loop-command.yielded_by c.next.result
     c.next.new.self c.in-None.is c.next.ensures.steps in
     subst (λ cs. HasRun c.loop-command.register cs c.loop-command.outcomes.items)
-    (sym (map_same c.loop-command.yielded) ∙ all.0) c.loop-command.invariant.run
+    (sym (map-id c.loop-command.yielded) ∙ all.0) c.loop-command.invariant
 
 pub returns-clause-history : goal.returns-clause-history
 returns-clause-history c = let run =

@@ -7,17 +7,15 @@ use Rattle.olr_near.specs.Bounds.{IsSource}
 use Rattle.olr_paths.proofs.Alls.{all_more}
 use Rattle.olr_register.proofs.nearing.add_near.Goals as goal
 
-pub returns-then-not-is_known-clause-right : goal.returns-then-not-is_known-clause-right
-returns-then-not-is_known-clause-right c = λ h. h
-
-pub returns-then-not-is_known-clause-before : goal.returns-then-not-is_known-clause-before
-returns-then-not-is_known-clause-before c = λ s w h. h
-
-pub returns-then-not-is_known-clause-sources : goal.returns-then-not-is_known-clause-sources
-returns-then-not-is_known-clause-sources c = λ l on known.
-    let off : c.is_known.result ≡ false = cc in
-    let never : ⊥ = cc (c.is_known.ensures, off, known) in
-    absurd never
+pub returns-then-not-is_known : goal.returns-then-not-is_known
+returns-then-not-is_known c = record {
+  right = λ h. h;
+  before = λ s w h. h;
+  sources = λ l on known.
+      let off : c.is_known.result ≡ false = cc in
+      let never : ⊥ = cc (c.is_known.ensures, off, known) in
+      absurd never;
+}
 
 pub loop-query-init : goal.loop-query-init
 loop-query-init c = record { under_way = λ h. h; before = λ s w h. h; added = λ j d lt. absurd (omega arith) }
@@ -38,18 +36,15 @@ loop-query-preserved c =
           (subst Q c.query-item.is (subst Q c.query.view_is c.add.ensures.source));
     }
 
-pub returns-clause-right : goal.returns-clause-right
-returns-clause-right c =
-    λ h. c.settle.ensures.right (c.loop-query.invariant.under_way (λ known u d at. inl (h known u d at)))
-
-pub returns-clause-before : goal.returns-clause-before
-returns-clause-before c = λ s w h. c.settle.ensures.sources s w (c.loop-query.invariant.before s w h)
-
-pub returns-clause-sources : goal.returns-clause-sources
-returns-clause-sources c = λ l on.
+pub returns : goal.returns
+returns c =
+    let inv = c.loop-query.invariant in
     let P : CoverageQuery → Type 0 = λ k. IsSource c.loop-query.near k.from k.within in
     let all : All P c.args.queries.now =
     subst (λ (ls : List CoverageQuery). All P ls)
-    (take_all c.loop-query.query-index c.args.queries.now (omega (arith, c.loop-query-test.false)))
-    c.loop-query.invariant.added in
-    c.settle.ensures.sources l.from l.within (All-contains P c.args.queries.now l all on)
+    (take_all c.loop-query.query-index c.args.queries.now (omega (arith, c.loop-query-test.false))) inv.added in
+    record {
+      right = λ h. c.settle.ensures.right (inv.under_way (λ known u d at. inl (h known u d at)));
+      before = λ s w h. c.settle.ensures.sources s w (inv.before s w h);
+      sources = λ l on. c.settle.ensures.sources l.from l.within (All-contains P c.args.queries.now l all on);
+    }

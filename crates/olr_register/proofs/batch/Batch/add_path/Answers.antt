@@ -1,13 +1,13 @@
-use Rattle.std.proofs.Common.{◌≡◌, inl, string_bytes, false, refl, sym, ap, ◌∙◌}
+use Rattle.std.proofs.Common.{◌≡◌, inl, inr, string_bytes, false, refl, sym, ap, ◌∙◌}
 use Rattle.std.proofs.lemmas.Result.{err_from_is_err_and}
 use Rattle.olr_map.specs.RoadMaps.{map_of}
 use Rattle.olr_commands.specs.State.{Add_path}
 use Rattle.olr_paths.specs.Items.{items}
 use Rattle.olr_paths.specs.Laying.{under_overlay}
+use Rattle.olr_paths.proofs.OriginLemmas.{begins_add}
 use Rattle.olr_paths.proofs.Overlaying.{has_name}
 use Rattle.olr_register.specs.Holding.{content_under}
 use Rattle.olr_register.specs.HoldsChange.{ByContent, path_by}
-use Rattle.olr_register.proofs.Bounded.{begins_held}
 use Rattle.olr_register.proofs.Changing.{add_taken, add_refused, add_ok}
 use Rattle.olr_register.proofs.Listed.{each_add, each_if_any, each_follows, given_add}
 use Rattle.olr_register.proofs.Making.{path_unmade, path_made}
@@ -42,7 +42,8 @@ returns-in-Ok c = λ roads.
     path_made roads is b c.hold.new.self (Add_path name path) _ (rw (← c.in_ok-path.ensures.ok) (c.in-Ok.ensures.ok is))
     (add_ok (map_of roads) ks name path _ free c.in_ok-path.ensures.good) tt refl refl refl
     (λ names g. given_add name path names ks free g) (λ M. each_add (each_if_any M) ks _ tt)
-    (each_add (each_follows is) ks _ (inl refl)) (begins_held ks _ refl)
+    (each_add (each_follows is) ks _ (inl refl))
+    (λ v on. elim (begins_add ks _ v on) [ inl old ↦ old | inr never ↦ absurd never ])
 
 pub returns-in-Err : goal.returns-in-Err
 returns-in-Err c = λ roads.

@@ -1,12 +1,12 @@
-use Rattle.std.proofs.Common.{inl, refl, sym}
+use Rattle.std.proofs.Common.{inl, inr, refl, sym}
 use Rattle.std.proofs.lemmas.Result.{err_from_is_err_and}
 use Rattle.olr_map.specs.RoadMaps.{map_of}
 use Rattle.olr_commands.specs.State.{Set_path}
 use Rattle.olr_paths.specs.Items.{items}
 use Rattle.olr_paths.specs.Laying.{under_overlay}
+use Rattle.olr_paths.proofs.OriginLemmas.{begins_set}
 use Rattle.olr_register.specs.Holding.{content_under}
 use Rattle.olr_register.specs.HoldsChange.{ByContent, path_by}
-use Rattle.olr_register.proofs.Bounded.{begins_other}
 use Rattle.olr_register.proofs.Changing.{set_missing, set_refused, set_ok}
 use Rattle.olr_register.proofs.Listed.{each_set, each_if_any, each_follows, given_set}
 use Rattle.olr_register.proofs.Making.{path_unmade, path_made}
@@ -40,7 +40,7 @@ returns-in-Ok c = λ roads.
     (λ names g. given_set name path names ks g)
     (λ M. each_set (each_if_any M) (each_if_any M) name path _ (λ i e. tt) (λ i e p. p) ks)
     (each_set (each_follows is) (each_follows is) name path _ (λ i e. inl refl) (λ i e p. p) ks)
-    (begins_other name path ks)
+    (λ v on. elim (begins_set name path _ ks v on) [ inl old ↦ old | inr never ↦ absurd never ])
 
 pub returns-in-Err : goal.returns-in-Err
 returns-in-Err c = λ roads.
