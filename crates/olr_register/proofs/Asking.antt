@@ -1,5 +1,5 @@
 -- What the register shows of its paths.
-use Rattle.std.proofs.Common.{◌≡◌, ◌≢◌, ℕ, true, false, cond, List, [], ◌∷◌, map, length, Option, Some, None, refl, sym}
+use Rattle.std.proofs.Common.{◌≡◌, ◌≢◌, ℕ, true, false, List, [], ◌∷◌, map, length, Option, Some, None, refl, sym}
 use Rattle.std.proofs.Common.{ap, ◌∙◌, subst}
 use Rattle.std.specs.Prelude.{◌==◌, ◌↔◌, Contains, is_some, option_map, option_and_then, MatchOption}
 use Rattle.std.specs.Prelude.{IsSomeAnd}
@@ -10,46 +10,34 @@ use Rattle.olr_spec.specs.Map.{Map}
 use Rattle.olr_spec.specs.Encoding.{Answer, Encodes}
 use Rattle.olr_spec.specs.Extension.{Path}
 use Rattle.olr_spec.specs.Footprint.{Foot}
-use Rattle.olr_commands.specs.State.{Named, Content, same_name, path_named}
+use Rattle.olr_commands.specs.State.{Named, Content, path_named}
 use Rattle.olr_commands.specs.Reply.{Published, PublishedText, published_text}
 use Rattle.olr_paths.specs.Items.{Made, Item, IsEncodingOf, AreEncodings, named_of, all_named, made_in, answer_in}
 use Rattle.olr_paths.specs.Changes.{AreEncoded}
 use Rattle.olr_register.specs.Registered.{PublishedWhole, HaveEncodings}
 use Rattle.olr_register.specs.Holding.{content_on}
+use Rattle.olr_register.proofs.Replies.{made_found}
 
-answer_found : (M : Map) (is : List Item) (name : List ℕ) → AreEncodings M is →
-    Published (record { map = M; paths = all_named is }) name (answer_in is name)
-answer_found M [] name made = refl
-answer_found M (i ∷ is) name made =
-    elim (same_name i.name name) as (λ b. MatchOption (cond b (Some i.path) (path_named (all_named is) name))
-    (option_map (λ (m : Made). m.answer) (cond b i.made (made_in is name)) ≡ None)
-    (λ P. IsSomeAnd (option_map (λ (m : Made). m.answer) (cond b i.made (made_in is name))) (λ A. Encodes M P A))) [
-      | true ↦ subst (λ (o : Option Made). IsSomeAnd (option_map (λ (m : Made). m.answer) o) (λ A. Encodes M i.path A))
-          (sym made.0.1) made.0.2.answer
-      | false ↦ answer_found M is name made.1
-    ]
-
-whole_found : (M : Map) (is : List Item) (name : List ℕ) → AreEncodings M is →
-    PublishedWhole (record { map = M; paths = all_named is }) name (made_in is name)
-whole_found M [] name made = refl
-whole_found M (i ∷ is) name made =
-    elim (same_name i.name name) as (λ b. MatchOption (cond b (Some i.path) (path_named (all_named is) name))
-    (cond b i.made (made_in is name) ≡ None) (λ P. IsSomeAnd (cond b i.made (made_in is name)) (IsEncodingOf M P))) [
-      | true ↦ subst (λ (o : Option Made). IsSomeAnd o (IsEncodingOf M i.path)) (sym made.0.1) made.0.2
-      | false ↦ whole_found M is name made.1
-    ]
+answer_found : (M : Map) (p : Option Path) (o : Option Made) →
+    MatchOption p (o ≡ None) (λ P. IsSomeAnd o (IsEncodingOf M P)) →
+    MatchOption p (option_map (λ (m : Made). m.answer) o ≡ None)
+    (λ P. IsSomeAnd (option_map (λ (m : Made). m.answer) o) (λ A. Encodes M P A))
+answer_found M None o h = ap (option_map (λ (m : Made). m.answer)) h
+answer_found M (Some P) None h = absurd h
+answer_found M (Some P) (Some m) h = h.answer
 
 -- of a register with this content
 pub answer_published : (M : Map) (is : List Item) (c : Content) (name : List ℕ) (o : Option Answer) →
     content_on M is ≡ c → AreEncodings M is → o ≡ answer_in is name → Published c name o
 answer_published M is c name o e made there =
     subst (λ (d : Content). Published d name o) e
-    (subst (Published (content_on M is) name) (sym there) (answer_found M is name made))
+    (subst (Published (content_on M is) name) (sym there) (answer_found M (path_named (all_named is) name) _
+    (made_found M is name made)))
 
 pub whole_published : (M : Map) (is : List Item) (name : List ℕ) (o : Option Made) → AreEncodings M is →
     o ≡ made_in is name → PublishedWhole (content_on M is) name o
 whole_published M is name o made there =
-    subst (PublishedWhole (content_on M is) name) (sym there) (whole_found M is name made)
+    subst (PublishedWhole (content_on M is) name) (sym there) (made_found M is name made)
 
 -- the stored text is that of the answer
 pub text_published : (M : Map) (is : List Item) (c : Content) (name : List ℕ) (text : Option (List ℕ)) →
@@ -67,13 +55,13 @@ names_of_all (i ∷ is) = ap (λ (ns : List (List ℕ)). i.name ∷ ns) (names_o
 
 pub some_answer_in : (M : Map) (is : List Item) (name : List ℕ) → AreEncodings M is →
     is_some (path_named (all_named is) name) ≡ true → (A : Answer) × (answer_in is name ≡ Some A)
-some_answer_in M [] name made h = absurd cc
-some_answer_in M (i ∷ is) name made h =
-    elim (same_name i.name name) as (λ b. is_some (cond b (Some i.path) (path_named (all_named is) name)) ≡ true →
-    (A : Answer) × (option_map (λ (m : Made). m.answer) (cond b i.made (made_in is name)) ≡ Some A)) [
-      | true ↦ λ e. (made.0.0.answer, ap (option_map (λ (m : Made). m.answer)) made.0.1)
-      | false ↦ λ e. some_answer_in M is name made.1 e
-    ] h
+some_answer_in M is name made =
+    by (path_named (all_named is) name) (made_in is name) (made_found M is name made) where
+      by : (p : Option Path) (o : Option Made) → MatchOption p (o ≡ None) (λ P. IsSomeAnd o (IsEncodingOf M P)) →
+          is_some p ≡ true → (A : Answer) × (option_map (λ (m : Made). m.answer) o ≡ Some A)
+      by None o h some = absurd cc
+      by (Some P) None h some = absurd h
+      by (Some P) (Some m) h some = (m.answer, refl)
 
 -- of a list with paths
 pub some_named : (is : List Item) → length is ≢ 0 → (length (all_named is) == 0) ≡ false

@@ -203,25 +203,4 @@ pub dump_text : (c : Content) (t : List ℕ) →
     ++ flat_map (λ e. record_line (line_change e)) (entries c.map.lines))
     ++ flat_map (λ p. record_line (path_change p)) c.paths ≡ t ++ concat (dump_lines c)
 dump_text c t =
-    let N : List Change = map node_change (entries c.map.nodes) in
-    let L : List Change = map line_change (entries c.map.lines) in
-    let P : List Change = map path_change c.paths in
-    let apart : concat (dump_lines c)
-    ≡ concat (map record_line N) ++ (concat (map record_line L) ++ concat (map record_line P)) =
-    ap (λ (ls : List (List ℕ)). concat ls) (map-append record_line N (L ++ P)
-    ∙ ap (λ (ls : List (List ℕ)). map record_line N ++ ls) (map-append record_line L P))
-    ∙ concat-append (map record_line N) (map record_line L ++ map record_line P)
-    ∙ ap (λ (r : List ℕ). concat (map record_line N) ++ r) (concat-append (map record_line L) (map record_line P)) in
-    let same : concat (map record_line N) ++ (concat (map record_line L) ++ concat (map record_line P))
-    ≡ flat_map (λ e. record_line (node_change e)) (entries c.map.nodes)
-    ++ (flat_map (λ e. record_line (line_change e)) (entries c.map.lines)
-    ++ flat_map (λ p. record_line (path_change p)) c.paths) =
-    λ i. texts_of node_change (entries c.map.nodes) i
-    ++ (texts_of line_change (entries c.map.lines) i ++ texts_of path_change c.paths i) in
-    append_assoc (t ++ flat_map (λ e. record_line (node_change e)) (entries c.map.nodes))
-    (flat_map (λ e. record_line (line_change e)) (entries c.map.lines))
-    (flat_map (λ p. record_line (path_change p)) c.paths)
-    ∙ append_assoc t (flat_map (λ e. record_line (node_change e)) (entries c.map.nodes))
-    (flat_map (λ e. record_line (line_change e)) (entries c.map.lines)
-    ++ flat_map (λ p. record_line (path_change p)) c.paths)
-    ∙ ap (λ (r : List ℕ). t ++ r) (sym (apart ∙ same))
+    simp (map-append, concat-append, append_assoc, texts_of node_change, texts_of line_change, texts_of path_change)

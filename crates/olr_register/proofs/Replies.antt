@@ -1,7 +1,7 @@
 -- What is reported of a list, compared with the answers of the paths on their maps.
-use Rattle.std.proofs.Common.{inl, inr, ◌⊎◌, ◌≡◌, ℕ, true, false, cond, List, [], ◌∷◌, Option, Some, None, refl, sym}
+use Rattle.std.proofs.Common.{inl, inr, ◌≡◌, ℕ, true, false, cond, List, [], ◌∷◌, Option, Some, None, refl, sym}
 use Rattle.std.proofs.Common.{ap, ◌∙◌, subst, ◌↔◌}
-use Rattle.std.specs.Prelude.{option_map, if◌then◌else◌}
+use Rattle.std.specs.Prelude.{option_map, MatchOption, IsSomeAnd}
 use Rattle.olr_spec.specs.Map.{Map}
 use Rattle.olr_spec.specs.Extension.{Path}
 use Rattle.olr_spec.specs.Encoding.{Answer, Encodes}
@@ -12,44 +12,46 @@ use Rattle.olr_commands.proofs.ReplyLemmas.{named_path}
 use Rattle.olr_paths.specs.Items.{Made, Item, IsEncodingOf, AreEncodings, all_named, made_in, answer_in}
 use Rattle.olr_paths.specs.Changes.{Reported}
 
--- a name has a path and its results, or neither
+-- the path of a name and its results, or neither
 abbrev Found : Map → Option Path → Option Made → Type 0
-Found M p o = ((p ≡ None) × (o ≡ None)) ⊎ ((P : Path) × (m : Made) × (p ≡ Some P) × (o ≡ Some m) × IsEncodingOf M P m)
+Found M p o = MatchOption p (o ≡ None) (λ P. IsSomeAnd o (IsEncodingOf M P))
 
-path_and_made : (M : Map) (is : List Item) → AreEncodings M is → (name : List ℕ) →
+pub made_found : (M : Map) (is : List Item) (name : List ℕ) → AreEncodings M is →
     Found M (path_named (all_named is) name) (made_in is name)
-path_and_made M [] a name = inl (refl, refl)
-path_and_made M (i ∷ is) a name =
+made_found M [] name a = refl
+made_found M (i ∷ is) name a =
     elim (same_name i.name name) as (λ b. Found M (cond b (Some i.path) (path_named (all_named is) name))
-    (if b then i.made else made_in is name)) [
-      | true ↦ inr (i.path, a.0.0, refl, a.0.1, a.0.2)
-      | false ↦ path_and_made M is a.1 name
+    (cond b i.made (made_in is name))) [
+      | true ↦ subst (Found M (Some i.path)) (sym a.0.1) a.0.2
+      | false ↦ made_found M is name a.1
     ]
 
 pub answer_held : (M : Map) (is : List Item) → IsContent (record { map = M; paths = all_named is }) →
     AreEncodings M is → (name : List ℕ) (A : Answer)
     → HasAnswer (record { map = M; paths = all_named is }) name A ↔ (answer_in is name ≡ Some A)
-answer_held M is content a name A = by (path_and_made M is a name) where
-  by : Found M (path_named (all_named is) name) (made_in is name) →
-      HasAnswer (record { map = M; paths = all_named is }) name A ↔ (answer_in is name ≡ Some A)
-  by (inl n) = (
-    λ h. absurd (let no : ◌≡◌ {A = Option Path} None (Some h.0) = sym n.0 ∙ h.1 in cc),
-    λ e. absurd (let no : ◌≡◌ {A = Option Answer} None (Some A) = ap (option_map (λ (m : Made). m.answer)) (sym n.1)
-        ∙ e in cc),
-  )
-  by (inr f) = (
-    λ h.
-        let path_is : Some f.0 ≡ Some h.0 = sym f.2 ∙ h.1 in
-        let same : h.0 ≡ f.0 = cc in
-        let one =
-        one_answer M content.map f.0 (named_path (all_named is) name f.0 content.paths f.2) f.1.answer A f.4.answer
-        (subst (λ (P : Path). Encodes M P A) same h.2) in
-        ap (option_map (λ (m : Made). m.answer)) f.3 ∙ ap (λ (B : Answer). Some B) one,
-    λ e.
-        let answer_is : Some f.1.answer ≡ Some A = ap (option_map (λ (m : Made). m.answer)) (sym f.3) ∙ e in
-        let same : f.1.answer ≡ A = cc in
-        (f.0, f.2, subst (Encodes M f.0) same f.4.answer),
-  )
+answer_held M is content a name A =
+    by (path_named (all_named is) name) (made_in is name) refl refl (made_found M is name a) where
+      by : (p : Option Path) (o : Option Made) → path_named (all_named is) name ≡ p → made_in is name ≡ o → Found M p o →
+          HasAnswer (record { map = M; paths = all_named is }) name A ↔ (answer_in is name ≡ Some A)
+      by None o e f none = (
+        λ h. absurd (let no : ◌≡◌ {A = Option Path} None (Some h.0) = sym e ∙ h.1 in cc),
+        λ h. absurd (let no : ◌≡◌ {A = Option Answer} None (Some A) =
+            ap (option_map (λ (m : Made). m.answer)) (sym (f ∙ none)) ∙ h in cc),
+      )
+      by (Some P) None e f h = absurd h
+      by (Some P) (Some m) e f right = (
+        λ h.
+            let path_is : Some P ≡ Some h.0 = sym e ∙ h.1 in
+            let same : h.0 ≡ P = cc in
+            let one =
+            one_answer M content.map P (named_path (all_named is) name P content.paths e) m.answer A right.answer
+            (subst (λ (Q : Path). Encodes M Q A) same h.2) in
+            ap (option_map (λ (n : Made). n.answer)) f ∙ ap (λ (B : Answer). Some B) one,
+        λ h.
+            let answer_is : Some m.answer ≡ Some A = ap (option_map (λ (n : Made). n.answer)) (sym f) ∙ h in
+            let same : m.answer ≡ A = cc in
+            (P, e, subst (Encodes M P) same right.answer),
+      )
 
 -- the stored answer of a path is its answer on the map
 retained_answer : (N : Map) (P : Path) (o : Option Made) (A : Answer) (m : Made) → o ≡ Some m → IsEncodingOf N P m →

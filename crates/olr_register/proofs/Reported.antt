@@ -6,23 +6,17 @@ use Rattle.std.proofs.lemmas.Bool.{cases_Bool}
 use Rattle.olr_spec.specs.Map.{Map}
 use Rattle.olr_spec.specs.Extension.{Path}
 use Rattle.olr_spec.specs.Encoding.{Answer}
+use Rattle.olr_spec.proofs.OptionLemmas.{none_of}
 use Rattle.olr_commands.specs.State.{same_name, path_named, NamesDiffer, IsContent}
 use Rattle.olr_commands.specs.Reply.{Entry, entry, Differences}
 use Rattle.olr_commands.proofs.NameLemmas.{not_named, same_is}
 use Rattle.olr_paths.specs.Items.{Made, Item, IsEncodingOf, AreEncodings, named_of, all_named, made_in, answer_in}
 use Rattle.olr_paths.specs.Changes.{Reported, Follows, set_item}
-use Rattle.olr_register.proofs.Replies.{planned_changes}
+use Rattle.olr_register.proofs.Replies.{made_found, planned_changes}
 use Rattle.olr_register.proofs.Listed.{each_add, each_set, each_left, each_encoded, each_follows, follows_untold}
 use Rattle.olr_paths.proofs.Following.{follows_self}
 
 -- ---- added
-
--- there are no results under an unused name
-not_made : (is : List Item) (name : List ℕ) → is_some (path_named (all_named is) name) ≡ false → made_in is name ≡ None
-not_made [] name h = refl
-not_made (i ∷ is) name h =
-    let p = not_named (named_of i) (all_named is) name h in
-    ap (λ (b : Bool). if b then i.made else made_in is name) p.0 ∙ not_made is name p.1
 
 reported_last : (before js : List Item) (j : Item) (A : Answer) (es : List Entry) →
     option_map (λ m. m.answer) j.made ≡ Some A → answer_in before j.name ≢ Some A → Reported before js es →
@@ -47,7 +41,8 @@ pub reported_add : (M : Map) (is : List Item) (name : List ℕ) (path : Path) (m
     (record { map = M; paths = all_named (is ++ record { name = name; path = path; made = Some m } ∷ []) }) es
 reported_add M is name path m es content a free right returned =
     let j : Item = record { name = name; path = path; made = Some m } in
-    let was : answer_in is name ≡ None = ap (option_map (λ (n : Made). n.answer)) (not_made is name free) in
+    let made : made_in is name ≡ None = rw (none_of (path_named (all_named is) name) free) at (made_found M is name a) in
+    let was : answer_in is name ≡ None = ap (option_map (λ (n : Made). n.answer)) made in
     let new : answer_in is name ≢ Some m.answer = λ e. let no : ◌≡◌ {A = Option Answer} None (Some m.answer) =
     sym was ∙ e in absurd cc in
     planned_changes M M is (is ++ j ∷ []) es content a (each_add (each_encoded M) is j (m, refl, right) a)

@@ -18,9 +18,7 @@ HasRun x cs rs =
 
 pub run_starts : (x : Registered) (rs : List (Result Answered CommandFault)) → x ≡ nothing_registered → rs ≡ [] →
     HasRun x [] rs
-run_starts x rs new none =
-    subst (λ (ss : List (Result Answered CommandFault)). HasRun x [] ss) (sym none)
-    (subst (λ (y : Registered). HasRun y [] []) (sym new) (start_state, (refl, tt), (refl, refl)))
+run_starts x rs new none = rw (new, none) (start_state, (refl, tt), (refl, refl))
 
 pub run_continues : (x y : Registered) (cs : List Asked) (c : Asked) (rs ss : List (Result Answered CommandFault))
     (r : Result Answered CommandFault) → HasRun x cs rs → Applied x (command_of c) (outcome_of r) y →
