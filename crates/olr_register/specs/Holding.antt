@@ -4,7 +4,8 @@
 --     IsHeld, IsRegister      what is true of an open batch, and of map, list and batch
 --     HasBounds M is near      the bounds are right on the map, and they are those of all coverage queries of the list.
 --     IsKeptRight      what is true of the whole
---     CanRenew M N is ls t near      the list ls can be renewed after edits that led from M to N, where is is reported
+--     CanRenew M N is ls t near      the list ls, which the changes of a batch made of the list is, can be renewed after
+--         edits t that led from M to N
 use Rattle.std.specs.Prelude.{ℕ, ◌≤◌, List, map, Contains, Option, Some, None, is_none, IfSome, IsTrue}
 use Rattle.olr_spec.specs.Map.{Map, has}
 use Rattle.olr_spec.specs.Detours.{ChangedLine, Difference}

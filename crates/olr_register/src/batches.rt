@@ -66,7 +66,7 @@ impl Register {
             &mut self.spared,
         ) {
             Ok(entries) => {
-                // With its log: the edits are permanent.
+                // The log is dropped with the batch: its edits are permanent.
                 self.batch = None;
                 Ok(Reply::Paths(entries))
             }
