@@ -1,7 +1,8 @@
 -- Whole runs.
+use Rattle.std.proofs.Common.{rules}
 use Rattle.std.proofs.Common.{inl, inr, ◌≡◌, ℕ, Bool, true, false, cond, not, List, [], ◌∷◌, ◌++◌, length, Option, Some}
-use Rattle.std.proofs.Common.{None, is_some, Result, Ok, Err, refl, sym, ap, ◌∙◌, subst, arith}
-use Rattle.std.specs.Prelude.{nat_le, ◌==◌, ◌||◌, ◌↔◌, MatchOption, IsSomeAnd, IfSome}
+use Rattle.std.proofs.Common.{None, Result, Ok, Err, refl, sym, ap, ◌∙◌, subst, arith}
+use Rattle.std.specs.Prelude.{nat_le, ◌||◌, MatchOption, IsSomeAnd, IfSome}
 use Rattle.std.specs.List.{list_any, AllByRecursion, concat}
 use Rattle.std.specs.Result.{result_unwrap_or}
 use Rattle.std.proofs.lemmas.Bool.{cases_Bool, both_ways, not-false}
@@ -15,10 +16,10 @@ use Rattle.olr_spec.proofs.DecideLemmas.{some_answer}
 use Rattle.olr_spec.proofs.UndoLemmas.{empty_sound}
 use Rattle.olr_refs.specs.Referring.{Joined}
 use Rattle.olr_refs.proofs.Referring.{joined}
-use Rattle.olr_commands.specs.State.{Named, Content, path_named, same_name, ArePaths, NamesDiffer, IsContent, has_path}
-use Rattle.olr_commands.specs.State.{TextFault, Fault, No_path, Batch_full, Count_differs, Change, with_change, next}
+use Rattle.olr_commands.specs.State.{Named, Content, path_named, same_name, ArePaths, NamesDiffer, IsContent}
+use Rattle.olr_commands.specs.State.{Fault, No_path, Batch_full, Count_differs, Change, with_change, next}
 use Rattle.olr_commands.specs.State.{after, Command, Make, Show, Report, Explain, Begin, Commit, Abort, State}
-use Rattle.olr_commands.specs.State.{start_state, full, at_once, into_batch, text_fault, unless_fault, step}
+use Rattle.olr_commands.specs.State.{start_state, full, at_once, into_batch, text_fault, step}
 use Rattle.olr_commands.specs.State.{changes_made, HasCoords, IsState, is_recordable, Not_a_record, Dump}
 use Rattle.olr_commands.specs.Dump.{dump_lines}
 use Rattle.olr_commands.specs.Reply.{Entry, entry, Paths, HasAnswer, Published, ChangedOf, Differences, IsReply}
@@ -27,35 +28,27 @@ use Rattle.olr_commands.specs.History.{Run, History, AllHaveCoords, next_state, 
 use Rattle.olr_commands.specs.History.{IsPublished, names, NamesChanged, reports, IsNamed, IsRefused, Headline}
 use Rattle.olr_commands.specs.History.{IsDump, IsDumped}
 use Rattle.olr_commands.proofs.NameLemmas.{same_is}
-use Rattle.olr_commands.proofs.StateLemmas.{when_ok, next_ok, after_append, steps_keep}
+use Rattle.olr_commands.proofs.StateLemmas.{when_ok, accepted, passed, explain, next_ok, after_append, steps_keep}
 use Rattle.olr_commands.proofs.ReplyLemmas.{named_path}
 use Rattle.olr_commands.proofs.DumpLemmas.{dumps_run}
 
 -- ---- the content
+
+abbrev Still : Content → State → Type 0
+Still c t = t.content ≡ c
 
 -- the changes that an accepted command applies make the new content
 brings : (s t : State) (c : Command) → step s c ≡ Ok t → t.content ≡ after s.content (changes_made s c)
 brings s t c is = by_batch s.content s.batch t c is where
   made_is : (c : Content) (x : Change) (r : Result Content Fault) (t : State) → with_change c x ≡ r → at_once r ≡ Ok t →
       t.content ≡ next c x
-  made_is c x (Ok d) t e is =
-      let same : record { content = d; batch = None } ≡ t = cc in
-      ap (λ (s : State). s.content) (sym same) ∙ sym (next_ok c d x e)
+  made_is c x (Ok d) t e is = accepted (Still (next c x)) _ t is (sym (next_ok c d x e))
   made_is c x (Err f) t e is = absurd cc
 
   held_is : (c : Content) (xs : List Change) (r : Result Content Fault) (t : State) → into_batch c xs r ≡ Ok t →
       t.content ≡ c
-  held_is c xs (Ok d) t is =
-      let same : record { content = c; batch = Some xs } ≡ t = cc in
-      ap (λ (s : State). s.content) (sym same)
+  held_is c xs (Ok d) t is = accepted (Still c) _ t is refl
   held_is c xs (Err f) t is = absurd cc
-
-  unless_is : (s t : State) (o : Option TextFault) → unless_fault s o ≡ Ok t → t.content ≡ s.content
-  unless_is s t None is = let same : s ≡ t = cc in ap (λ (s : State). s.content) (sym same)
-  unless_is s t (Some f) is = absurd cc
-
-  ok_is : (s t : State) → ◌≡◌ {A = Result State Fault} (Ok s) (Ok t) → t.content ≡ s.content
-  ok_is s t is = let same : s ≡ t = cc in ap (λ (s : State). s.content) (sym same)
 
   by_batch : (c : Content) (b : Option (List Change)) (t : State) (x : Command) →
       step (record { content = c; batch = b }) x ≡ Ok t →
@@ -64,25 +57,20 @@ brings s t c is = by_batch s.content s.batch t c is where
   by_batch c (Some xs) t (Make x) is =
       held_is c (xs ++ x ∷ []) (with_change (after c xs) x) t
       (when_ok (nat_le full (length xs)) Batch_full (into_batch c (xs ++ x ∷ []) (with_change (after c xs) x)) t is).1
-  by_batch c None t (Show name) is =
-      ok_is _ t (when_ok (not (has_path c name)) No_path (Ok (record { content = c; batch = None })) t is).1
-  by_batch c (Some xs) t (Show name) is =
-      ok_is _ t (when_ok (not (has_path c name)) No_path (Ok (record { content = c; batch = Some xs })) t is).1
-  by_batch c None t Report is = ok_is _ t is
-  by_batch c (Some xs) t Report is = ok_is _ t is
-  by_batch c None t Dump is =
-      ok_is _ t (when_ok (not (is_recordable c)) Not_a_record (Ok (record { content = c; batch = None })) t is).1
-  by_batch c (Some xs) t Dump is = absurd cc
-  by_batch c None t (Explain text) is = unless_is (record { content = c; batch = None }) t (text_fault text) is
-  by_batch c (Some xs) t (Explain text) is = unless_is (record { content = c; batch = Some xs }) t (text_fault text) is
-  by_batch c None t Begin is = ok_is _ t is
-  by_batch c (Some xs) t Begin is = absurd cc
-  by_batch c None t (Commit count) is = absurd cc
+  by_batch c None t (Show name) is = passed (Still c) _ No_path (record { content = c; batch = None }) t is refl
+  by_batch c (Some xs) t (Show name) is = passed (Still c) _ No_path (record { content = c; batch = Some xs }) t is refl
+  by_batch c None t Report is = accepted (Still c) _ t is refl
+  by_batch c (Some xs) t Report is = accepted (Still c) _ t is refl
+  by_batch c None t Dump is = passed (Still c) _ Not_a_record (record { content = c; batch = None }) t is refl
+  by_batch c None t (Explain text) is =
+      explain (Still c) (record { content = c; batch = None }) t (text_fault text) refl is
+  by_batch c (Some xs) t (Explain text) is =
+      explain (Still c) (record { content = c; batch = Some xs }) t (text_fault text) refl is
+  by_batch c None t Begin is = accepted (Still c) _ t is refl
   by_batch c (Some xs) t (Commit count) is =
-      ok_is _ t (when_ok (not (length xs == count)) Count_differs (Ok (record { content = after c xs; batch = None })) t
-      is).1
-  by_batch c None t Abort is = absurd cc
-  by_batch c (Some xs) t Abort is = ok_is _ t is
+      passed (Still (after c xs)) _ Count_differs (record { content = after c xs; batch = None }) t is refl
+  by_batch c (Some xs) t Abort is = accepted (Still c) _ t is refl
+  by_batch c b t x is = absurd cc
 
 next_state_ok : (s t : State) (c : Command) → step s c ≡ Ok t → next_state s (Some c) ≡ t
 next_state_ok s t c e = ap (λ (r : Result State Fault). result_unwrap_or r s) e
@@ -148,9 +136,7 @@ content_after asked s t (x ∷ xs) (Ok reply ∷ os) h = accepted (asked x) h.1 
       ∙ ap (λ (u : State). after (after s.content (changes_made s c)) (all_changes_made asked u xs os))
       (sym (next_state_ok s h.0 c go))
       ∙ sym (after_append s.content (changes_made s c) (all_changes_made asked (next_state s (Some c)) xs os))
-content_after asked s t (x ∷ xs) (Err fault ∷ os) h =
-    let back : h.0 ≡ s = h.1 in
-    content_after asked s t xs os (subst (λ (u : State). Run (λ a y o b. Leads a (asked y) o b) u xs os t) back h.2)
+content_after asked s t (x ∷ xs) (Err fault ∷ os) h = grind (arith, content_after asked s t xs os)
 
 -- ---- answers
 
@@ -198,15 +184,7 @@ routes_of c name r h = (h.0, h.1, joined_by c.map h.0 r (path_fault c.map h.0) r
 -- in a list without repeated names, the path of a name in the rest isn't the first path
 not_first : (p : Named) (ps : List Named) (name : List ℕ) (P : Path) → NamesDiffer (p ∷ ps) →
     path_named ps name ≡ Some P → same_name p.name name ≡ false
-not_first p ps name P d e =
-    elim (cases_Bool (same_name p.name name)) [
-      | inl h ↦
-          let is : p.name ≡ name = same_is p.name name h in
-          let there : is_some (path_named ps p.name) ≡ true =
-          ap (λ (n : List ℕ). is_some (path_named ps n)) is ∙ ap is_some e in
-          absurd (both_ways (is_some (path_named ps p.name)) d.0 there)
-      | inr h ↦ h
-    ]
+not_first p ps name P d e = grind (arith, cases_Bool, same_is, both_ways, p.name, d.0)
 
 named_first : (p : Named) (ps : List Named) (name : List ℕ) → same_name p.name name ≡ true →
     path_named (p ∷ ps) name ≡ Some p.path
@@ -216,118 +194,79 @@ named_later : (p : Named) (ps : List Named) (name : List ℕ) → same_name p.na
     path_named (p ∷ ps) name ≡ path_named ps name
 named_later p ps name h = ap (λ (b : Bool). cond b (Some p.path) (path_named ps name)) h
 
--- the path of that name in this list has an answer that it did not have before
-Differs : Content → Map → List Named → List ℕ → Type 0
-Differs before M ps name =
-    (A : Answer) × (P : Path) × (path_named ps name ≡ Some P) × Encodes M P A × ¬ HasAnswer before name A
+-- the entry has the answer of a path of this list, which the path did not have before
+Reports : Content → Map → List Named → Entry → Type 0
+Reports before M ps e =
+    (A : Answer) × (P : Path) × (path_named ps e.name ≡ Some P) × Encodes M P A × (e ≡ entry e.name A)
+    × ¬ HasAnswer before e.name A
 
-differs_later : (before : Content) (M : Map) (p : Named) (ps : List Named) (name : List ℕ) → NamesDiffer (p ∷ ps) →
-    Differs before M ps name → Differs before M (p ∷ ps) name
-unfolding Differs
-differs_later before M p ps name d h = (h.0, h.1, named_later p ps name (not_first p ps name h.1 d h.2) ∙ h.2, h.3, h.4)
-
-to_differs : (before : Content) (M : Map) (ps : List Named) (es : List Entry) → NamesDiffer ps →
-    ChangedOf before M ps es → (name : List ℕ) → names es name → Differs before M ps name
-unfolding Differs
-to_differs before M [] es d c name h =
-    let none : list_any (λ (e : Entry). same_name e.name name) [] ≡ true =
-    ap (λ (xs : List Entry). list_any (λ (e : Entry). same_name e.name name) xs) (sym c) ∙ h in
-    absurd cc
-to_differs before M (p ∷ ps) es d c name h =
-    elim c.4 [
-      | inl g ↦ differs_later before M p ps name d
-          (to_differs before M ps c.1 d.1 c.3 name
-          (ap (λ (xs : List Entry). list_any (λ (e : Entry). same_name e.name name) xs) (sym g.1) ∙ h))
-      | inr g ↦
-          let here : (same_name p.name name || list_any (λ (e : Entry). same_name e.name name) c.1) ≡ true =
-          ap (λ (xs : List Entry). list_any (λ (e : Entry). same_name e.name name) xs) (sym g.1) ∙ h in
-          elim (cases_Bool (same_name p.name name)) [
-            | inl same ↦ (
-              c.0,
-              p.path,
-              named_first p ps name same,
-              c.2,
-              subst (λ (n : List ℕ). ¬ HasAnswer before n c.0) (same_is p.name name same) g.0,
-            )
-            | inr other ↦ differs_later before M p ps name d
-                (to_differs before M ps c.1 d.1 c.3 name
-                (ap (λ (b : Bool). b || list_any (λ (e : Entry). same_name e.name name) c.1) (sym other) ∙ here))
-          ]
-    ]
-
-from_differs : (before : Content) (M : Map) → IsMap M → (ps : List Named) (es : List Entry) → ArePaths ps →
-    ChangedOf before M ps es → (name : List ℕ) → Differs before M ps name → names es name
-unfolding Differs
-from_differs before M m [] es a c name h = absurd (let no = h.2 in cc)
-from_differs before M m (p ∷ ps) es a c name h =
-    elim (cases_Bool (same_name p.name name)) [
-      | inl same ↦
-          let path_is : Some p.path ≡ Some h.1 = sym (named_first p ps name same) ∙ h.2 in
-          let is : p.path ≡ h.1 = cc in
-          let answer : Encodes M p.path h.0 = subst (λ (Q : Path). Encodes M Q h.0) (sym is) h.3 in
-          let one : c.0 ≡ h.0 = one_answer M m p.path a.0 c.0 h.0 c.2 answer in
-          elim c.4 [
-            | inl g ↦ absurd (h.4 (subst (λ (A : Answer). HasAnswer before name A) one
-                (subst (λ (n : List ℕ). HasAnswer before n c.0) (same_is p.name name same) g.0)))
-            | inr g ↦ ap (λ (xs : List Entry). list_any (λ (e : Entry). same_name e.name name) xs) g.1
-                ∙ ap (λ (b : Bool). b || list_any (λ (e : Entry). same_name e.name name) c.1) same
-          ]
-      | inr other ↦
-          let rest : names c.1 name =
-          from_differs before M m ps c.1 a.1 c.3 name (h.0, h.1, sym (named_later p ps name other) ∙ h.2, h.3, h.4) in
-          elim c.4 [
-            | inl g ↦ ap (λ (xs : List Entry). list_any (λ (e : Entry). same_name e.name name) xs) g.1 ∙ rest
-            | inr g ↦ ap (λ (xs : List Entry). list_any (λ (e : Entry). same_name e.name name) xs) g.1
-                ∙ ap (λ (b : Bool). b || list_any (λ (e : Entry). same_name e.name name) c.1) other ∙ rest
-          ]
-    ]
-
-replies_name : (before later : Content) (es : List Entry) → IsContent later → Differences before later es →
-    (name : List ℕ)
-    → names es name ↔ ((A : Answer) × HasAnswer later name A × ¬ HasAnswer before name A)
-unfolding Differs
-replies_name before later es i c name = (
-  λ h. let d = to_differs before later.map later.paths es i.names c name h in (d.0, (d.1, d.2, d.3), d.4),
-  λ h. from_differs before later.map i.map later.paths es i.paths c name (h.0, h.1.0, h.1.1, h.1.2, h.2),
-)
-
--- ---- what the entries report
-
-Reports : Map → List Named → Entry → Type 0
-Reports M ps e = (A : Answer) × (P : Path) × (path_named ps e.name ≡ Some P) × Encodes M P A × (e ≡ entry e.name A)
-
-report_later : (M : Map) (p : Named) (ps : List Named) → NamesDiffer (p ∷ ps) → (es : List Entry) →
-    AllByRecursion (Reports M ps) es → AllByRecursion (Reports M (p ∷ ps)) es
+report_later : (before : Content) (M : Map) (p : Named) (ps : List Named) → NamesDiffer (p ∷ ps) → (es : List Entry) →
+    AllByRecursion (Reports before M ps) es → AllByRecursion (Reports before M (p ∷ ps)) es
 unfolding Reports
-report_later M p ps d [] h = tt
-report_later M p ps d (e ∷ es) h = (
-  (h.0.0, h.0.1, named_later p ps e.name (not_first p ps e.name h.0.1 d h.0.2) ∙ h.0.2, h.0.3, h.0.4),
-  report_later M p ps d es h.1,
+report_later before M p ps d [] h = tt
+report_later before M p ps d (e ∷ es) (r, h) = (
+  (r.0, r.1, named_later p ps e.name (not_first p ps e.name r.1 d r.2) ∙ r.2, r.3, r.4, r.5),
+  report_later before M p ps d es h,
 )
 
 report_all : (before : Content) (M : Map) (ps : List Named) (es : List Entry) → NamesDiffer ps →
-    ChangedOf before M ps es →
-    AllByRecursion (Reports M ps) es
+    ChangedOf before M ps es → AllByRecursion (Reports before M ps) es
 unfolding Reports
-report_all before M [] es d c = subst (AllByRecursion (Reports M [])) (sym c) tt
+report_all before M [] es d c = subst (AllByRecursion (Reports before M [])) (sym c) tt
 report_all before M (p ∷ ps) es d c =
-    let rest = report_later M p ps d c.1 (report_all before M ps c.1 d.1 c.3) in
+    let rest = report_later before M p ps d c.1 (report_all before M ps c.1 d.1 c.3) in
     elim c.4 [
-      | inl g ↦ subst (AllByRecursion (Reports M (p ∷ ps))) (sym g.1) rest
-      | inr g ↦ subst (AllByRecursion (Reports M (p ∷ ps))) (sym g.1)
-          ((c.0, p.path, named_first p ps p.name ((bytes_decides p.name p.name).1 refl), c.2, refl), rest)
+      | inl g ↦ subst (AllByRecursion (Reports before M (p ∷ ps))) (sym g.1) rest
+      | inr g ↦ subst (AllByRecursion (Reports before M (p ∷ ps))) (sym g.1)
+          ((c.0, p.path, named_first p ps p.name ((bytes_decides p.name p.name).1 refl), c.2, refl, g.0), rest)
     ]
 
-reported : (c : Content) (es : List Entry) → AllByRecursion (Reports c.map c.paths) es →
-    AllByRecursion (λ e. (A : Answer) × HasAnswer c e.name A × (e ≡ entry e.name A)) es
+abbrev names_any : List Entry → List ℕ → Bool
+names_any es name = list_any (λ e. same_name e.name name) es
+
+-- the entry of a name
+entry_of : (P : Entry → Type 0) (es : List Entry) (name : List ℕ) → AllByRecursion P es → names es name →
+    (e : Entry) × (e.name ≡ name) × P e
+entry_of P [] name a h = absurd cc
+entry_of P (e ∷ es) name a h = grind (arith, cases_Bool, same_is, entry_of P es name a.1)
+
+reported : (before later : Content) (es : List Entry) → AllByRecursion (Reports before later.map later.paths) es →
+    AllByRecursion (λ e. (A : Answer) × HasAnswer later e.name A × (e ≡ entry e.name A)) es
 unfolding Reports
-reported c [] h = tt
-reported c (e ∷ es) h = ((h.0.0, (h.0.1, h.0.2, h.0.3), h.0.4), reported c es h.1)
+reported before later [] h = tt
+reported before later (e ∷ es) (r, h) = ((r.0, (r.1, r.2, r.3), r.4), reported before later es h)
+
+-- a path with an answer that it did not have before has an entry
+named_by : (before : Content) (M : Map) → IsMap M → (ps : List Named) (es : List Entry) → ArePaths ps →
+    ChangedOf before M ps es → (name : List ℕ) (A : Answer) (P : Path) → path_named ps name ≡ Some P → Encodes M P A →
+    ¬ HasAnswer before name A → names es name
+named_by before M m [] es a c name A P is answer new = absurd cc
+named_by before M m (p ∷ ps) es a c name A P is answer new =
+    search (
+      rules,
+      arith,
+      cases_Bool,
+      named_first,
+      one_answer,
+      same_is,
+      named_later,
+      named_by before M m ps c.1 a.1 c.3 name A P,
+    )
 
 pub names_changed : (before later : Content) (es : List Entry) → IsContent later → Differences before later es →
     NamesChanged before later es
+unfolding Reports
 names_changed before later es i c =
-    (replies_name before later es i c, reported later es (report_all before later.map later.paths es i.names c))
+    let all = report_all before later.map later.paths es i.names c in (
+      λ name. (
+        λ h. let e = entry_of (Reports before later.map later.paths) es name all h in
+            let r = e.2 in
+            subst (λ (n : List ℕ). (A : Answer) × HasAnswer later n A × ¬ HasAnswer before n A) e.1
+            (r.0, (r.1, r.2, r.3), r.5),
+        λ h. named_by before later.map i.map later.paths es i.paths c name h.0 h.1.0 h.1.1 h.1.2 h.2,
+      ),
+      reported before later es all,
+    )
 
 pub no_differences : (c : Content) (es : List Entry) → IsContent c → Differences c c es → es ≡ []
 no_differences c [] i d = refl
@@ -347,26 +286,11 @@ reported_of s t c es = by s.batch c where
   by : (b : Option (List Change)) (c : Command) → reports b c ≡ true →
       IsReply (record { content = s.content; batch = b }) c t (Paths es) → Differences s.content t.content es
   by None (Make x) e h = h
-  by None (Show name) e h = absurd cc
-  by None Report e h = absurd cc
-  by None Dump e h = absurd cc
-  by None (Explain text) e h = absurd cc
-  by None Begin e h = absurd cc
-  by None (Commit count) e h = absurd cc
-  by None Abort e h = absurd cc
-  by (Some xs) (Make x) e h = absurd cc
-  by (Some xs) (Show name) e h = absurd cc
-  by (Some xs) Report e h = absurd cc
-  by (Some xs) Dump e h = absurd cc
-  by (Some xs) (Explain text) e h = absurd cc
-  by (Some xs) Begin e h = absurd cc
   by (Some xs) (Commit count) e h = h
-  by (Some xs) Abort e h = absurd cc
+  by b c e h = absurd cc
 
 pub is_named : (s t : State) (c : Command) (o : Outcome) → IsContent t.content → IsOutcome s c o t → IsNamed s c o t
-is_named s t c o sound h report_all es is =
-    names_changed s.content t.content es sound
-    (reported_of s t c es report_all (subst (λ (p : Outcome). IsOutcome s c p t) is h).1)
+is_named s t c o sound h report_all es is = grind (arith, names_changed, sound, reported_of, report_all)
 
 -- the reply with the records of a content is to a dump
 dumped_of : (s t : State) (c : Command) (count : ℕ) (text : List ℕ) → IsContent s.content → step s c ≡ Ok t →
@@ -375,14 +299,9 @@ dumped_of s t c count text i = by s.batch c where
   by : (b : Option (List Change)) (c : Command) → step (record { content = s.content; batch = b }) c ≡ Ok t →
       IsReply (record { content = s.content; batch = b }) c t (Dumped count text)
       → IsDump (record { content = s.content; batch = b }) count text × (t ≡ record { content = s.content; batch = b })
-  by None (Make x) is h = absurd h
-  by (Some xs) (Make x) is h = absurd cc
-  by b (Show name) is h = absurd h
-  by b Report is h = absurd h
   by None Dump is h =
       let here : State = record { content = s.content; batch = None } in
       let p = when_ok (not (is_recordable s.content)) Not_a_record (Ok here) t is in
-      let same : here ≡ t = cc in
       let lines : count ≡ length (dump_lines s.content) = cc in
       let bytes : text ≡ concat (dump_lines s.content) = cc in (
         record {
@@ -391,13 +310,13 @@ dumped_of s t c count text i = by s.batch c where
           bytes = bytes;
           builds = dumps_run s.content i;
         },
-        sym same,
+        accepted (λ u. u ≡ here) here t p.1 refl,
       )
-  by (Some xs) Dump is h = absurd cc
-  by b (Explain text) is h = absurd h
+  by (Some xs) (Make x) is h = absurd cc
   by b Begin is h = absurd cc
-  by b (Commit count) is h = absurd h
   by b Abort is h = absurd cc
+  by (Some xs) Dump is h = absurd cc
+  by b c is h = absurd h
 
 pub is_dumped : (s t : State) (c : Command) (o : Outcome) → IsContent s.content → IsOutcome s c o t → IsDumped s o t
 is_dumped s t c o i h count text is =
@@ -414,44 +333,44 @@ pub record Claimed (s : State) (asked : Option Command) (o : Outcome) (t : State
   pub sound : IsContent t.content
   pub dumped : IsContent s.content → IsDumped s o t
 
-sound_after : {A : Type 0} (P : State → A → Outcome → State → Type 0) →
+-- the content is sound before each step, and at the end
+run_sound : {A : Type 0} (P : State → A → Outcome → State → Type 0) →
     ((s : State) (x : A) (o : Outcome) (t : State) → P s x o t → IsContent t.content)
     → (s : State) (xs : List A) (os : List Outcome) (t : State) → IsContent s.content → Run P s xs os t →
-    IsContent t.content
-sound_after P f s xs [] t i h = subst (λ (a : State). IsContent a.content) h i
-sound_after P f s [] (o ∷ os) t i h = absurd h
-sound_after P f s (x ∷ xs) (o ∷ os) t i h = sound_after P f h.0 xs os t (f s x o h.0 h.1) h.2
+    Run (λ a x o b. P a x o b × IsContent a.content) s xs os t × IsContent t.content
+run_sound P f s xs [] t i h = (h, subst (λ (a : State). IsContent a.content) h i)
+run_sound P f s [] (o ∷ os) t i h = absurd h
+run_sound P f s (x ∷ xs) (o ∷ os) t i h = search (rules, arith, run_sound P f h.0 xs os t (f s x o h.0 h.1) h.2)
 
-dumped_each : {A : Type 0} (P : State → A → Outcome → State → Type 0) (asked : A → Option Command) →
-    ((s : State) (x : A) (o : Outcome) (t : State) → P s x o t → Claimed s (asked x) o t)
+-- runs whose steps have Q, and give what the claims need, from a sound content
+headline_by : {A : Type 0} (P Q : State → A → Outcome → State → Type 0) (asked : A → Option Command)
+    → ((s : State) (x : A) (o : Outcome) (t : State) → P s x o t → Q s x o t × Claimed s (asked x) o t)
     → (s : State) (xs : List A) (os : List Outcome) (t : State) → IsContent s.content → Run P s xs os t →
-    Run (λ a x o b. P a x o b × IsDumped a o b) s xs os t
-dumped_each P asked f s xs [] t i h = h
-dumped_each P asked f s [] (o ∷ os) t i h = absurd h
-dumped_each P asked f s (x ∷ xs) (o ∷ os) t i h =
-    let c = f s x o h.0 h.1 in
-    (h.0, (h.1, c.dumped i), dumped_each P asked f h.0 xs os t c.sound h.2)
+    Headline Q asked s xs os t
+headline_by P Q asked f s xs os t sound h =
+    let all = run_sound P (λ a x o b p. (f a x o b p).1.sound) s xs os t sound h in
+    record {
+      run = run_each P Q (λ a x o b p. (f a x o b p).0) s xs os t h;
+      published =
+          is_published s.content t.content _ all.1 (content_after asked s t xs os
+          (run_each P (λ a x o b. Leads a (asked x) o b) (λ a x o b p. (f a x o b p).1.leads) s xs os t h));
+      joined = routes_of t.content;
+      named =
+          run_each P (λ a x o b. Q a x o b × IfSome (asked x) (λ c. IsNamed a c o b))
+          (λ a x o b p. let k = f a x o b p in (k.0, k.1.named)) s xs os t h;
+      refused =
+          run_each P (λ a x o b. Q a x o b × IsRefused a o b) (λ a x o b p. let k = f a x o b p in (k.0, k.1.refused)) s
+          xs os t h;
+      dumped =
+          run_each (λ a x o b. P a x o b × IsContent a.content) (λ a x o b. Q a x o b × IsDumped a o b)
+          (λ a x o b p. let k = f a x o b p.0 in (k.0, k.1.dumped p.1)) s xs os t all.0;
+    }
 
--- runs whose steps give what the claims need, from a sound content
 pub headline_of : {A : Type 0} (P : State → A → Outcome → State → Type 0) (asked : A → Option Command)
     → ((s : State) (x : A) (o : Outcome) (t : State) → P s x o t → Claimed s (asked x) o t)
     → (s : State) (xs : List A) (os : List Outcome) (t : State) → IsContent s.content → Run P s xs os t →
     Headline P asked s xs os t
-headline_of P asked f s xs os t sound h =
-    record {
-      run = h;
-      published =
-          is_published s.content t.content _ (sound_after P (λ a x o b p. (f a x o b p).sound) s xs os t sound h)
-          (content_after asked s t xs os
-          (run_each P (λ a x o b. Leads a (asked x) o b) (λ a x o b p. (f a x o b p).leads) s xs os t h));
-      joined = routes_of t.content;
-      named =
-          run_each P (λ a x o b. P a x o b × IfSome (asked x) (λ c. IsNamed a c o b))
-          (λ a x o b p. (p, (f a x o b p).named)) s xs os t h;
-      refused =
-          run_each P (λ a x o b. P a x o b × IsRefused a o b) (λ a x o b p. (p, (f a x o b p).refused)) s xs os t h;
-      dumped = dumped_each P asked f s xs os t sound h;
-    }
+headline_of P asked f = headline_by P P asked (λ s x o t p. (p, f s x o t p))
 
 -- ---- the claims of commands
 
@@ -472,42 +391,21 @@ history_keeps s t (c ∷ cs) (o ∷ os) i h p =
     let rest = history_keeps p.0 t cs os mid h.1 p.2 in
     (rest.0, (p.0, (p.1, mid.content), rest.1))
 
-only_outcomes : {A : Type 0} (P Q : State → A → Outcome → State → Type 0) (asked : A → Option Command) (s : State)
-    (xs : List A) (os : List Outcome) (t : State)
-    → ((a : State) (x : A) (o : Outcome) (b : State) → P a x o b → Q a x o b) → Headline P asked s xs os t →
-    Headline Q asked s xs os t
-only_outcomes P Q asked s xs os t f h =
-    record {
-      run = run_each P Q f s xs os t h.run;
-      published = h.published;
-      joined = h.joined;
-      named =
-          run_each (λ a x o b. P a x o b × IfSome (asked x) (λ c. IsNamed a c o b))
-          (λ a x o b. Q a x o b × IfSome (asked x) (λ c. IsNamed a c o b)) (λ a x o b p. (f a x o b p.0, p.1)) s xs os t
-          h.named;
-      refused =
-          run_each (λ a x o b. P a x o b × IsRefused a o b) (λ a x o b. Q a x o b × IsRefused a o b)
-          (λ a x o b p. (f a x o b p.0, p.1)) s xs os t h.refused;
-      dumped =
-          run_each (λ a x o b. P a x o b × IsDumped a o b) (λ a x o b. Q a x o b × IsDumped a o b)
-          (λ a x o b p. (f a x o b p.0, p.1)) s xs os t h.dumped;
-    }
-
 pub headline_of_outcomes : (s : State) (cs : List Command) (os : List Outcome) (t : State) → IsContent s.content →
     Run SoundOutcome s cs os t → Headline IsOutcome (λ c. Some c) s cs os t
 headline_of_outcomes s cs os t sound h =
-    only_outcomes SoundOutcome IsOutcome (λ c. Some c) s cs os t (λ a c o b p. p.0)
-    (headline_of SoundOutcome (λ c. Some c)
-    (λ a c o b p. record {
-      leads = outcome_leads a c o b p.0;
-      named = is_named a b c o p.1 p.0;
-      refused = is_refused a b c o p.0;
-      sound = p.1;
-      dumped = λ i. is_dumped a b c o i p.0;
-    }) s cs os t sound h)
+    headline_by SoundOutcome IsOutcome (λ c. Some c)
+    (λ a c o b p. (
+      p.0,
+      record {
+        leads = outcome_leads a c o b p.0;
+        named = is_named a b c o p.1 p.0;
+        refused = is_refused a b c o p.0;
+        sound = p.1;
+        dumped = λ i. is_dumped a b c o i p.0;
+      },
+    )) s cs os t sound h
 
 pub headline_of_histories : (cs : List Command) (os : List Outcome) (t : State) → AllHaveCoords cs →
     History start_state cs os t → IsState t × Headline IsOutcome (λ c. Some c) start_state cs os t
-headline_of_histories cs os t h run =
-    let k = history_keeps start_state t cs os start_sound h run.1 in
-    (k.0, headline_of_outcomes start_state cs os t start_sound.content k.1)
+headline_of_histories cs os t h run = grind (arith, history_keeps, start_sound, headline_of_outcomes)

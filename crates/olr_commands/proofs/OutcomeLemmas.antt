@@ -1,4 +1,5 @@
 -- Apart from out of memory, a command has one outcome.
+use Rattle.std.proofs.Common.{arith}
 use Rattle.std.proofs.Common.{◌≡◌, Result, Ok, Err, IsFalse, sym, ap, ◌∙◌, subst}
 use Rattle.std.proofs.lemmas.Bool.{both_ways}
 use Rattle.olr_commands.specs.State.{Fault, State, Command, HasCoords, step, IsState}
@@ -27,7 +28,4 @@ one_outcome s t u c (Ok r) (Ok w) i h n m p g =
     (ap (λ (x : Reply). Ok x) one, same)
 one_outcome s t u c (Ok r) (Err f) i h n m p g = absurd (ok_or_err (step s c) t f p.0 (reported_by s c f m g.0))
 one_outcome s t u c (Err f) (Ok w) i h n m p g = absurd (ok_or_err (step s c) u f g.0 (reported_by s c f n p.0))
-one_outcome s t u c (Err f) (Err k) i h n m p g =
-    let both : ◌≡◌ {A = Result State Fault} (Err f) (Err k) = sym (reported_by s c f n p.0) ∙ reported_by s c k m g.0 in
-    let same : f ≡ k = cc in
-    (ap (λ (x : Fault). Err x) same, p.1 ∙ sym g.1)
+one_outcome s t u c (Err f) (Err k) i h n m p g = grind (arith, reported_by)

@@ -1,5 +1,6 @@
 -- A reply is determined.
-use Rattle.std.proofs.Common.{inl, inr, ◌≡◌, ℕ, true, false, cond, List, [], ◌∷◌, Option, Some, None, IsTrue, sym, ap}
+use Rattle.std.proofs.Common.{arith}
+use Rattle.std.proofs.Common.{◌≡◌, ℕ, List, [], ◌∷◌, Option, Some, None, IsTrue, sym, ap}
 use Rattle.std.proofs.Common.{◌∙◌, subst}
 use Rattle.olr_spec.specs.Map.{Map, IsMap}
 use Rattle.olr_spec.specs.Extension.{Path, is_path}
@@ -7,68 +8,39 @@ use Rattle.olr_spec.specs.Reference.{Reference}
 use Rattle.olr_spec.specs.Encoding.{Answer, Encodes}
 use Rattle.olr_spec.proofs.AnswerLemmas.{one_answer}
 use Rattle.olr_spec.proofs.BytesLemmas.{one_decoding}
-use Rattle.olr_commands.specs.State.{Named, Content, same_name, path_named, ArePaths, IsContent, Change, State, Command}
+use Rattle.olr_commands.specs.State.{Named, Content, path_named, ArePaths, IsContent, Change, State, Command}
 use Rattle.olr_commands.specs.State.{Make, Show, Report, Explain, Begin, Commit, Abort, IsState}
 use Rattle.olr_commands.specs.State.{Dump}
-use Rattle.olr_commands.specs.Reply.{Dumped}
-use Rattle.olr_commands.specs.Reply.{Entry, entry, Reply, Paths, Fields, Held, HasAnswer, AllOf, ChangedOf, Differences}
+use Rattle.olr_commands.specs.Reply.{Entry, entry, Reply, Paths, Fields, HasAnswer, AllOf, ChangedOf, Differences}
 use Rattle.olr_commands.specs.Reply.{Shown, Explained, IsPaths, IsFields, IsChangeReply, IsReply}
 
 -- each path has one answer, so a list of paths has one list of entries
 one_all : (M : Map) → IsMap M → (ps : List Named) (es fs : List Entry) → ArePaths ps → AllOf M ps es → AllOf M ps fs →
     es ≡ fs
 one_all M m [] es fs a p q = p ∙ sym q
-one_all M m (n ∷ ps) es fs a p q =
-    let same : p.0 ≡ q.0 = one_answer M m n.path a.0 p.0 q.0 p.2 q.2 in
-    let rest : p.1 ≡ q.1 = one_all M m ps p.1 q.1 a.1 p.3 q.3 in
-    p.4 ∙ (λ i. entry n.name (same i) ∷ rest i) ∙ sym q.4
+one_all M m (n ∷ ps) es fs a p q = grind (arith, one_answer, one_all M m ps p.1 q.1 a.1 p.3 q.3)
 
 one_changed : (s : Content) (M : Map) → IsMap M → (ps : List Named) (es fs : List Entry) → ArePaths ps →
     ChangedOf s M ps es → ChangedOf s M ps fs → es ≡ fs
 one_changed s M m [] es fs a p q = p ∙ sym q
-one_changed s M m (n ∷ ps) es fs a p q =
-    let same : p.0 ≡ q.0 = one_answer M m n.path a.0 p.0 q.0 p.2 q.2 in
-    let rest : p.1 ≡ q.1 = one_changed s M m ps p.1 q.1 a.1 p.3 q.3 in
-    elim p.4 [
-      | inl h ↦ elim q.4 [
-        | inl g ↦ h.1 ∙ rest ∙ sym g.1
-        | inr g ↦ absurd (g.0 (subst (HasAnswer s n.name) same h.0))
-      ]
-      | inr h ↦ elim q.4 [
-        | inl g ↦ absurd (h.0 (subst (HasAnswer s n.name) (sym same) g.0))
-        | inr g ↦ h.1 ∙ (λ i. entry n.name (same i) ∷ rest i) ∙ sym g.1
-      ]
-    ]
+one_changed s M m (n ∷ ps) es fs a p q = grind (arith, one_answer, one_changed s M m ps p.1 q.1 a.1 p.3 q.3)
 
 pub named_path : (ps : List Named) (name : List ℕ) (P : Path) → ArePaths ps → path_named ps name ≡ Some P →
     IsTrue (is_path P.lines)
 named_path [] name P a e = absurd cc
-named_path (p ∷ ps) name P a e =
-    elim (same_name p.name name) as (λ b. cond b (Some p.path) (path_named ps name) ≡ Some P →
-    IsTrue (is_path P.lines)) [
-      | true ↦ λ h. let is : p.path ≡ P = cc in subst (λ (Q : Path). IsTrue (is_path Q.lines)) is a.0
-      | false ↦ λ h. named_path ps name P a.1 h
-    ] e
+named_path (p ∷ ps) name P a e = grind (arith, named_path ps name P a.1)
 
 one_paths : (T : List Entry → Type 0) → ((es fs : List Entry) → T es → T fs → es ≡ fs) → (r q : Reply) → IsPaths r T →
     IsPaths q T → r ≡ q
 one_paths T one (Paths es) (Paths fs) p g = ap (λ (xs : List Entry). Paths xs) (one es fs p g)
-one_paths T one (Paths es) (Fields y) p g = absurd g
-one_paths T one (Paths es) (Held n) p g = absurd g
-one_paths T one (Paths es) (Dumped n t) p g = absurd g
-one_paths T one (Fields x) q p g = absurd p
-one_paths T one (Held n) q p g = absurd p
-one_paths T one (Dumped n t) q p g = absurd p
+one_paths T one (Paths es) q p g = absurd g
+one_paths T one r q p g = absurd p
 
 one_fields : (T : Reference → Type 0) → ((x y : Reference) → T x → T y → x ≡ y) → (r q : Reply) → IsFields r T →
     IsFields q T → r ≡ q
 one_fields T one (Fields x) (Fields y) p g = ap (λ (z : Reference). Fields z) (one x y p g)
-one_fields T one (Fields x) (Paths fs) p g = absurd g
-one_fields T one (Fields x) (Held n) p g = absurd g
-one_fields T one (Fields x) (Dumped n t) p g = absurd g
-one_fields T one (Paths es) q p g = absurd p
-one_fields T one (Held n) q p g = absurd p
-one_fields T one (Dumped n t) q p g = absurd p
+one_fields T one (Fields x) q p g = absurd g
+one_fields T one r q p g = absurd p
 
 -- the path of a name has one answer
 pub one_has : (c : Content) → IsContent c → (name : List ℕ) (A B : Answer) → HasAnswer c name A → HasAnswer c name B →
@@ -105,9 +77,7 @@ pub one_reply : (s t : State) (c : Command) (r q : Reply) → IsState s → IsSt
     r ≡ q
 one_reply s t (Make x) r q i j p g = one_held s.batch s.content t.content j.content r q p g
 one_reply s t (Show name) r q i j p g = one_paths (Shown s.content name) (one_shown s.content name i.content) r q p g
-one_reply s t Report r q i j p g =
-    one_paths (AllOf s.content.map s.content.paths)
-    (λ es fs. one_all s.content.map i.content.map s.content.paths es fs i.content.paths) r q p g
+one_reply s t Report r q i j p g = grind (arith, one_paths, one_all)
 one_reply s t Dump r q i j p g = p ∙ sym g
 one_reply s t (Explain text) r q i j p g = one_fields (Explained text) (one_explained text) r q p g
 one_reply s t Begin r q i j p g = p ∙ sym g

@@ -51,18 +51,7 @@ refusals_decide (Broken n) (Broken m) =
 refusals_decide (No_next_point n) (No_next_point m) =
     elim (numbers_decide n m) [ inl e ↦ inl (ap (λ (k : ℕ). No_next_point k) e) | inr ne ↦ inr (λ e. ne cc) ]
 refusals_decide Offset_too_long Offset_too_long = inl refl
-refusals_decide (Unknown_line n) (Broken m) = inr (λ e. absurd cc)
-refusals_decide (Unknown_line n) Offset_too_long = inr (λ e. absurd cc)
-refusals_decide (Unknown_line n) (No_next_point m) = inr (λ e. absurd cc)
-refusals_decide (Broken n) (Unknown_line m) = inr (λ e. absurd cc)
-refusals_decide (Broken n) Offset_too_long = inr (λ e. absurd cc)
-refusals_decide (Broken n) (No_next_point m) = inr (λ e. absurd cc)
-refusals_decide Offset_too_long (Unknown_line m) = inr (λ e. absurd cc)
-refusals_decide Offset_too_long (Broken m) = inr (λ e. absurd cc)
-refusals_decide Offset_too_long (No_next_point m) = inr (λ e. absurd cc)
-refusals_decide (No_next_point n) (Unknown_line m) = inr (λ e. absurd cc)
-refusals_decide (No_next_point n) (Broken m) = inr (λ e. absurd cc)
-refusals_decide (No_next_point n) Offset_too_long = inr (λ e. absurd cc)
+refusals_decide x y = inr (λ e. absurd cc)
 
 -- a reference is decided by its bytes
 Fits : Answer → Type 0
@@ -78,8 +67,7 @@ answers_decide (Points r) (Points q) f g =
     ]
 answers_decide (Refused x) (Refused y) f g =
     elim (refusals_decide x y) [ inl e ↦ inl (ap (λ (k : Refusal). Refused k) e) | inr ne ↦ inr (λ e. ne cc) ]
-answers_decide (Points r) (Refused y) f g = inr (λ e. absurd cc)
-answers_decide (Refused x) (Points q) f g = inr (λ e. absurd cc)
+answers_decide A B f g = inr (λ e. absurd cc)
 
 answer_fits : (M : Map) → IsMap M → (P : Path) → IsTrue (is_path P.lines) → (A : Answer) → Encodes M P A → Fits A
 unfolding Fits

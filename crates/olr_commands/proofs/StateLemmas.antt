@@ -1,17 +1,16 @@
 -- What changes and commands preserve of the register.
-use Rattle.std.proofs.Common.{◌≡◌, ℕ, ◌+◌, ◌≤◌, arith, Bool, true, false, not, List, [], ◌∷◌, ◌++◌, map, filter, length}
-use Rattle.std.proofs.Common.{Option, Some, None, Result, Ok, Err, refl, sym, ap, ◌∙◌, subst}
-use Rattle.std.specs.Prelude.{nat_le, ◌==◌, IfSome}
+use Rattle.std.proofs.Common.{◌≡◌, ℕ, ◌+◌, ◌≤◌, arith, Bool, true, false, List, [], ◌∷◌, ◌++◌, length}
+use Rattle.std.proofs.Common.{Option, Some, None, Result, Ok, Err, refl, ap, subst}
+use Rattle.std.specs.Prelude.{nat_le, IfSome}
 use Rattle.std.specs.Result.{result_unwrap_or}
 use Rattle.std.proofs.lemmas.Bool.{not-false, leb-false}
 use Rattle.olr_spec.specs.Map.{Map, IsMap, MapFault, edited}
-use Rattle.olr_spec.specs.Extension.{is_path}
-use Rattle.olr_commands.specs.State.{Named, Content, has_path, same_name, with_path, TextFault, Fault, Path_exists}
-use Rattle.olr_commands.specs.State.{No_path, Bad_path, Batch_full, Count_differs, when, Change, On_map, Add_path}
+use Rattle.olr_commands.specs.State.{Content, TextFault, Fault}
+use Rattle.olr_commands.specs.State.{No_path, Batch_full, Count_differs, when, Change, On_map, Add_path}
 use Rattle.olr_commands.specs.State.{Set_path, Drop_path, with_map, with_change, next, after, Command, Make, Show}
 use Rattle.olr_commands.specs.State.{Report, Explain, Begin, Commit, Abort, State, full, at_once, into_batch}
 use Rattle.olr_commands.specs.State.{text_fault, unless_fault, step, IsContent, AllAccepted, IsBatch, IsState}
-use Rattle.olr_commands.specs.State.{HasCoords, is_recordable, Not_a_record, Dump}
+use Rattle.olr_commands.specs.State.{HasCoords, Not_a_record, Dump}
 use Rattle.olr_spec.proofs.EditLemmas.{edits_keep}
 use Rattle.olr_commands.proofs.NameLemmas.{differ_push, differ_set, differ_filter, paths_push, paths_set, paths_filter}
 use Rattle.std.proofs.lemmas.List.{length_push}
@@ -21,50 +20,27 @@ pub when_ok : {A : Type 0} (b : Bool) (f : Fault) (r : Result A Fault) (x : A) �
 when_ok true f r x e = absurd cc
 when_ok false f r x e = (refl, e)
 
+-- what is accepted, at once or if a test passes
+pub accepted : {A : Type 0} (P : A → Type 0) (a b : A) → ◌≡◌ {A = Result A Fault} (Ok a) (Ok b) → P a → P b
+accepted P a b e h = let same : a ≡ b = cc in subst P same h
+
+pub passed : {A : Type 0} (P : A → Type 0) (t : Bool) (f : Fault) (a b : A) → when t f (Ok a) ≡ Ok b → P a → P b
+passed P t f a b e h = accepted P a b (when_ok t f (Ok a) b e).1 h
+
 -- ---- changes
 
 map_keeps : (c d : Content) (r : Result Map MapFault) → ((m : Map) → r ≡ Ok m → IsMap m) → IsContent c →
     with_map c r ≡ Ok d → IsContent d
 map_keeps c d (Ok m) sound i e =
-    let is : record c { map = m } ≡ d = cc in
-    subst IsContent is (record { map = sound m refl; paths = i.paths; names = i.names })
+    accepted IsContent (record c { map = m }) d e (record { map = sound m refl; paths = i.paths; names = i.names })
 map_keeps c d (Err f) sound i e = absurd cc
 
 pub changes_keep : (c d : Content) (x : Change) → IsContent c → HasCoords (Make x) → with_change c x ≡ Ok d →
     IsContent d
 changes_keep c d (On_map e) i h is = map_keeps c d (edited c.map e) (λ m ok. edits_keep c.map m e i.map h ok) i is
-changes_keep c d (Add_path name path) i h is =
-    let to = record c { paths = c.paths ++ record { name = name; path = path } ∷ [] } in
-    let p = when_ok (has_path c name) Path_exists (when (not (is_path path.lines)) Bad_path (Ok to)) d is in
-    let q = when_ok (not (is_path path.lines)) Bad_path (Ok to) d p.1 in
-    let same : to ≡ d = cc in
-    let n : Named = record { name = name; path = path } in
-    subst IsContent same (record {
-      map = i.map;
-      paths =
-          paths_push c.paths n i.paths (not-false (is_path path.lines) q.0);
-      names = differ_push c.paths n i.names p.0;
-    })
-changes_keep c d (Set_path name path) i h is =
-    let to = record c { paths = map (with_path name path) c.paths } in
-    let p = when_ok (not (has_path c name)) No_path (when (not (is_path path.lines)) Bad_path (Ok to)) d is in
-    let q = when_ok (not (is_path path.lines)) Bad_path (Ok to) d p.1 in
-    let same : to ≡ d = cc in
-    subst IsContent same (record {
-      map = i.map;
-      paths =
-          paths_set name path c.paths i.paths (not-false (is_path path.lines) q.0);
-      names = differ_set name path c.paths i.names;
-    })
-changes_keep c d (Drop_path name) i h is =
-    let to = record c { paths = filter (λ p. not (same_name p.name name)) c.paths } in
-    let p = when_ok (not (has_path c name)) No_path (Ok to) d is in
-    let same : to ≡ d = cc in
-    subst IsContent same (record {
-      map = i.map;
-      paths = paths_filter (λ p. not (same_name p.name name)) c.paths i.paths;
-      names = differ_filter (λ p. not (same_name p.name name)) c.paths i.names;
-    })
+changes_keep c d (Add_path name path) i h is = grind (arith, when_ok, accepted, paths_push, not-false, differ_push)
+changes_keep c d (Set_path name path) i h is = grind (arith, when_ok, accepted, paths_set, not-false, differ_set)
+changes_keep c d (Drop_path name) i h is = grind (arith, passed, paths_filter, differ_filter)
 
 -- ---- batches
 
@@ -92,18 +68,7 @@ hold : (c : Content) (xs : List Change) (x : Change) (r : Result Content Fault) 
     with_change (after c xs) x ≡ r → nat_le full (length xs) ≡ false
     → IsContent c → HasCoords (Make x) → IsBatch c xs → into_batch c (xs ++ x ∷ []) r ≡ Ok t → IsState t
 hold c xs x (Ok d) t is room i h b e =
-    let to : State = record { content = c; batch = Some (xs ++ x ∷ []) } in
-    let same : to ≡ t = cc in
-    let there : next (after c xs) x ≡ d = next_ok (after c xs) d x is in
-    let sound : IsContent d = changes_keep (after c xs) d x b.sound h is in
-    subst IsState same (record {
-      content = i;
-      batch = record {
-        accepted = accepted_push c xs x b.accepted (is ∙ ap (λ (y : Content). Ok y) (sym there));
-        sound = subst IsContent (sym (after_push c xs x ∙ there)) sound;
-        few = subst (λ n. n ≤ full) (sym (length_push xs x)) (few_more (length xs) room);
-      };
-    })
+    grind (arith, next_ok, accepted, accepted_push, after_push, changes_keep, length_push, few_more)
 hold c xs x (Err f) t is room i h b e = absurd cc
 
 -- ---- commands
@@ -111,14 +76,12 @@ hold c xs x (Err f) t is room i h b e = absurd cc
 make : (c : Content) (x : Change) (r : Result Content Fault) (t : State) → with_change c x ≡ r → IsContent c →
     HasCoords (Make x) → at_once r ≡ Ok t → IsState t
 make c x (Ok e) t is i h m =
-    let to : State = record { content = e; batch = None } in
-    let same : to ≡ t = cc in
-    subst IsState same (record { content = changes_keep c e x i h is; batch = tt })
+    accepted IsState (record { content = e; batch = None }) t m (record { content = changes_keep c e x i h is; batch = tt })
 make c x (Err f) t is i h m = absurd cc
 
-explain : (s t : State) (o : Option TextFault) → IsState s → unless_fault s o ≡ Ok t → IsState t
-explain s t None i e = let is : s ≡ t = cc in subst IsState is i
-explain s t (Some f) i e = absurd cc
+pub explain : (P : State → Type 0) (s t : State) (o : Option TextFault) → P s → unless_fault s o ≡ Ok t → P t
+explain P s t None h e = accepted P s t e h
+explain P s t (Some f) h e = absurd cc
 
 pub steps_keep : (s t : State) (c : Command) → IsState s → HasCoords c → step s c ≡ Ok t → IsState t
 steps_keep s t c i h is = steps s.content s.batch t c i.content i.batch h is where
@@ -130,29 +93,23 @@ steps_keep s t c i h is = steps s.content s.batch t c i.content i.batch h is whe
       when_ok (nat_le full (length xs)) Batch_full (into_batch c (xs ++ x ∷ []) (with_change (after c xs) x)) t is in
       hold c xs x (with_change (after c xs) x) t refl p.0 i h b p.1
   steps c b t (Show name) i k h is =
-      let p = when_ok (not (has_path c name)) No_path (Ok (record { content = c; batch = b })) t is in
-      let same : record { content = c; batch = b } ≡ t = cc in
-      subst IsState same (record { content = i; batch = k })
-  steps c b t Report i k h is = let same : record { content = c; batch = b } ≡ t =
-      cc in subst IsState same (record { content = i; batch = k })
+      passed IsState _ No_path (record { content = c; batch = b }) t is (record { content = i; batch = k })
+  steps c b t Report i k h is =
+      accepted IsState (record { content = c; batch = b }) t is (record { content = i; batch = k })
   steps c None t Dump i k h is =
-      let p =
-      when_ok (not (is_recordable c)) Not_a_record (Ok (record { content = c; batch = None })) t is in
-      let same : record { content = c; batch = None } ≡ t = cc in
-      subst IsState same (record { content = i; batch = k })
-  steps c (Some xs) t Dump i k h is = absurd cc
+      passed IsState _ Not_a_record (record { content = c; batch = None }) t is (record { content = i; batch = k })
   steps c b t (Explain text) i k h is =
-      explain (record { content = c; batch = b }) t (text_fault text) (record { content = i; batch = k }) is
+      explain IsState (record { content = c; batch = b }) t (text_fault text) (record { content = i; batch = k }) is
   steps c None t Begin i k h is =
-      let same : record { content = c; batch = Some [] } ≡ t = cc in
-      subst IsState same (record { content = i; batch = record { accepted = tt; sound = i; few = omega arith } })
-  steps c (Some xs) t Begin i k h is = absurd cc
-  steps c None t (Commit count) i k h is = absurd cc
+      accepted IsState (record { content = c; batch = Some [] }) t is (record {
+        content = i;
+        batch = record { accepted = tt; sound = i; few = omega arith };
+      })
   steps c (Some xs) t (Commit count) i k h is =
-      let to : State = record { content = after c xs; batch = None } in
-      let p = when_ok (not (length xs == count)) Count_differs (Ok to) t is in
-      let same : to ≡ t = cc in
-      subst IsState same (record { content = k.sound; batch = tt })
-  steps c None t Abort i k h is = absurd cc
-  steps c (Some xs) t Abort i k h is = let same : record { content = c; batch = None } ≡ t =
-      cc in subst IsState same (record { content = i; batch = tt })
+      passed IsState _ Count_differs (record { content = after c xs; batch = None }) t is (record {
+        content = k.sound;
+        batch = tt;
+      })
+  steps c (Some xs) t Abort i k h is =
+      accepted IsState (record { content = c; batch = None }) t is (record { content = i; batch = tt })
+  steps c b t x i k h is = absurd cc

@@ -15,7 +15,7 @@
 --     Spares s c t n      it raises the count of retained answers by n
 --     Collects E Q ps qs      the lists that Q gives the elements of which E holds, joined in order
 --     Searches s c t qs      the coverage queries for which it searches
-use Rattle.std.specs.Prelude.{◌≡◌, ℕ, suc, ◌+◌, ◌<◌, ◌≤◌, ◌^◌, List, [], ◌∷◌, ◌++◌, flat_map, length, All, ◌⊎◌, IsTrue, IsFalse}
+use Rattle.std.specs.Prelude.{◌≡◌, ℕ, suc, ◌≤◌, List, [], ◌∷◌, ◌++◌, flat_map, length, All, ◌⊎◌, IsTrue, IsFalse}
 use Rattle.std.specs.Prelude.{Bool, true, false}
 use Rattle.std.specs.List.{list_any}
 use Rattle.olr_spec.specs.Map.{Map, has_node, touched_nodes, touched_lines, has}

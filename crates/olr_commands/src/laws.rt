@@ -4,6 +4,7 @@ ghost use Rattle.olr_commands.specs.History;
 ghost use Rattle.olr_commands.specs.Laws;
 
 /// What commands preserve, and that a reply is determined.
+#[tactic(auto, using(crate::proofs::StateLemmas::steps_keep, crate::proofs::ReplyLemmas::one_reply, crate::proofs::OutcomeLemmas::one_outcome, crate::proofs::SomeLemmas::some_reply))]
 pub fn laws_of_states()
     ensures kept { Laws.StepsKeep }
     ensures one_reply { Laws.OneReply }
@@ -14,6 +15,7 @@ pub fn laws_of_states()
 {}
 
 /// The rises of the counts of encodings and of retained answers are determined.
+#[tactic(auto, using(crate::proofs::CountLemmas::one_rise, crate::proofs::CountLemmas::no_rise, crate::proofs::CountLemmas::one_spare, crate::proofs::CountLemmas::spares_few))]
 pub fn laws_of_counts()
     ensures one { Laws.OneRise }
     ensures none { Laws.NoRise }
@@ -23,6 +25,7 @@ pub fn laws_of_counts()
 {}
 
 /// The claims about whole runs of commands.
+#[tactic(auto, using(crate::proofs::HistoryLemmas::headline_of_histories, crate::proofs::HistoryLemmas::routes_of, crate::proofs::HistoryLemmas::names_changed, crate::proofs::HistoryLemmas::no_differences, crate::proofs::HistoryLemmas::is_dumped))]
 pub fn claims()
     ensures headline { History.HeadlineOfHistories }
     ensures joined { History.RoutesOfReferences }
@@ -33,6 +36,7 @@ pub fn claims()
 {}
 
 /// The changes that a content is written as build it from an empty one.
+#[tactic(auto, using(crate::proofs::DumpLemmas::dumps_run, crate::proofs::DumpLemmas::dumps_again))]
 pub fn laws_of_dumps()
     ensures lead { Dump.DumpsLead }
     ensures run { Dump.DumpsRun }

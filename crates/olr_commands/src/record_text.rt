@@ -55,6 +55,7 @@ pub fn push_line_record(text: &mut Vec<u8>, id: LineId, line: &Line) -> Result<(
 }
 
 /// Appends the attributes of a line and its shape points.
+#[tactic(auto, using(crate::proofs::RecordLemmas::commas_three))]
 fn push_attributes(text: &mut Vec<u8>, line: &Line) -> Result<(), AllocError>
     requires { IsTrue (is_recordable_shape line.now.shape) }
     ensures { OnOk result (text.new.items ≡ text.old.items
@@ -68,6 +69,7 @@ fn push_attributes(text: &mut Vec<u8>, line: &Line) -> Result<(), AllocError>
 }
 
 /// Appends the record that adds a path.
+#[tactic(auto, using(crate::proofs::RecordLemmas::line_of_three))]
 pub fn push_path_record(text: &mut Vec<u8>, name: &[u8], path: &Path) -> Result<(), AllocError>
     ensures { OnOk result (text.new.items ≡ text.old.items ++ record_line (Add_path name.now path.now)) }
 {
@@ -113,6 +115,7 @@ fn push_shape(text: &mut Vec<u8>, shape: &[Shape]) -> Result<(), AllocError>
 }
 
 /// Appends the number of each line.
+#[tactic(auto, using(crate::proofs::RecordLemmas::numbers_more))]
 fn push_lines(text: &mut Vec<u8>, lines: &[LineId]) -> Result<(), AllocError>
     ensures { OnOk result (text.new.items ≡ text.old.items ++ after_commas (map decimal lines.now)) }
 {

@@ -4,7 +4,7 @@ use olr_binary::Reference;
 use olr_refs::Refusal;
 
 /// A path's string, or the reason why it has none.
-#[derive(Drop, Debug)]
+#[derive(Drop)]
 pub struct Entry {
     /// The path's name.
     pub name: String,
@@ -13,7 +13,7 @@ pub struct Entry {
 }
 
 /// The records of a register: its nodes and its lines in ascending order of their numbers, and its paths in their order.
-#[derive(Drop, Debug)]
+#[derive(Drop)]
 pub struct Dump {
     /// The number of records.
     pub count: usize,
@@ -22,7 +22,7 @@ pub struct Dump {
 }
 
 /// The reply to an accepted command.
-#[derive(Drop, Debug)]
+#[derive(Drop)]
 pub enum Reply {
     /// Paths in the order of the register; after a change, the new ones and those with another answer than before.
     Paths(Vec<Entry>),
