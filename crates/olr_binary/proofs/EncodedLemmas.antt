@@ -1,11 +1,12 @@
 -- The bytes that a reference encodes as have no fault.
+use Rattle.std.proofs.Common.{rules}
 use Rattle.std.proofs.Common.{◌≡◌, ℕ, zero, suc, ◌%◌, ◌<◌, List, [], ◌∷◌, ◌++◌, Option, Some, None, IsSome, IfSome}
-use Rattle.std.proofs.Common.{IfErr, Result, Ok, Err, slice_index, sym, ap, ◌∙◌, arith}
+use Rattle.std.proofs.Common.{IfErr, Result, Ok, Err, slice_index, arith}
 use Rattle.std.specs.List.{AllByRecursion, flat_map}
 use Rattle.base64.specs.GeneralPurpose.{IsBytes}
 use Rattle.olr_spec.specs.Reference.{First, Middle, Last, Reference}
-use Rattle.olr_spec.specs.Bytes.{IsFirst, IsMiddle, IsLast, IsReference, HasBytes, attribute4, first_bytes, last_bytes}
-use Rattle.olr_spec.specs.Bytes.{middle_bytes, offset_bytes, reference_bytes, status_byte, v3_fault}
+use Rattle.olr_spec.specs.Bytes.{IsFirst, IsMiddle, IsLast, IsReference, HasBytes, first_bytes, last_bytes}
+use Rattle.olr_spec.specs.Bytes.{middle_bytes, offset_bytes, reference_bytes, v3_fault}
 use Rattle.olr_spec.proofs.ReadLemmas.{AreBytes, encoded_passes}
 use Rattle.olr_spec.proofs.BytesLemmas.{flag_below}
 use Rattle.olr_binary.specs.declared.faults.V3Fault.{V3Fault as Fault}
@@ -14,12 +15,7 @@ use Rattle.olr_binary.specs.Faults.{bytes_fault_of}
 pub unspelled : {T : Type 0} (b : List ℕ) (r : Result T Fault) → IfErr r (λ f. v3_fault b ≡ bytes_fault_of f) →
     IfErr r (λ f. IsSome (bytes_fault_of f) → (s : Reference) → ¬ HasBytes s b)
 unspelled b (Ok x) reported = tt
-unspelled b (Err f) reported =
-    λ some s has_bytes.
-    let sound : v3_fault b ≡ None = ap v3_fault has_bytes.1 ∙ encoded_passes s has_bytes.0 in
-    let none : bytes_fault_of f ≡ None = sym reported ∙ sound in
-    let never : ⊥ = cc (some, none) in
-    never
+unspelled b (Err f) reported = grind (arith, encoded_passes)
 
 -- ---- each element is a byte
 
@@ -36,39 +32,10 @@ below : (n : ℕ) → n % 256 < 256
 below n = omega arith
 
 first_all : (p : First) → IsFirst p → AreBytes (first_bytes p)
-first_all p fit =
-    let attrs = fit.attrs in (
-      below _,
-      (
-        below _,
-        (
-          below _,
-          (
-            below _,
-            (
-              below _,
-              (
-                below _,
-                (omega (arith, attrs.frc, attrs.fow), (omega (arith, attrs.lfrc, attrs.bearing), (attrs.dnp, tt))),
-              ),
-            ),
-          ),
-        ),
-      ),
-    )
+first_all p fit = grind (arith, below)
 
 middle_all : (p : Middle) → IsMiddle p → AreBytes (middle_bytes p)
-middle_all p fit =
-    let attrs = fit.attrs in (
-      below _,
-      (
-        below _,
-        (
-          below _,
-          (below _, (omega (arith, attrs.frc, attrs.fow), (omega (arith, attrs.lfrc, attrs.bearing), (attrs.dnp, tt)))),
-        ),
-      ),
-    )
+middle_all p fit = grind (arith, below)
 
 middles_all : (ps : List Middle) → AllByRecursion IsMiddle ps → AreBytes (flat_map middle_bytes ps)
 middles_all [] all = tt
@@ -80,30 +47,7 @@ offset_all (Some n) fit = (fit, tt)
 
 last_all : (p : Last) (m n : Option ℕ) → IsLast p → IfSome m (λ k. k < 256) → IfSome n (λ k. k < 256) →
     AreBytes (last_bytes p m n)
-last_all p m n fit some_m some_n =
-    let four : attribute4 m n p.bearing < 128 = omega (arith, flag_below m, flag_below n, fit.bearing) in (
-      below _,
-      (
-        below _,
-        (
-          below _,
-          (
-            below _,
-            (
-              omega (arith, fit.frc, fit.fow),
-              (omega arith, both (offset_bytes m) (offset_bytes n) (offset_all m some_m) (offset_all n some_n)),
-            ),
-          ),
-        ),
-      ),
-    )
+last_all p m n fit some_m some_n = grind (arith, flag_below, below, both, offset_all)
 
 pub reference_bytes-bytes : (r : Reference) → IsReference r → IsBytes (reference_bytes r)
-reference_bytes-bytes r fit =
-    let middle = flat_map middle_bytes r.middle in
-    let last = last_bytes r.last r.pos r.neg in
-    let front =
-    both (status_byte ∷ first_bytes r.first) middle (omega arith, first_all r.first fit.first)
-    (middles_all r.middle fit.middle) in
-    at (reference_bytes r) (both (status_byte ∷ first_bytes r.first ++ middle) last front
-    (last_all r.last r.pos r.neg fit.last fit.pos fit.neg))
+reference_bytes-bytes r fit = search (rules, arith, both, first_all, middles_all, at, last_all)

@@ -14,31 +14,26 @@ abbrev pub some_reserved : List ℕ → ℕ → ℕ → Bool
 some_reserved b i n = list_any (λ a. nat_le 64 a) (attribute1_bytes b i n)
 
 -- a byte without a reserved bit can be skipped
-pub some_reserved-more : (b : List ℕ) (i n : ℕ) → i < n → slice_index b (7 + 7 * i) < 64 →
+pub some_reserved_more : (b : List ℕ) (i n : ℕ) → i < n → slice_index b (7 + 7 * i) < 64 →
     some_reserved b (7 + 7 * (i + 1)) (n - (i + 1)) ≡ some_reserved b (7 + 7 * i) (n - i)
-some_reserved-more b i n within low =
+some_reserved_more b i n within low =
     let left : n - i ≡ suc (n - (i + 1)) = omega arith in
     let next : 7 + 7 * i + 7 ≡ 7 + 7 * (i + 1) = omega arith in
     let free : nat_le 64 (slice_index b (7 + 7 * i)) ≡ false = grind (arith, nat_tests) in
     rw (left, free, next) refl
 
-pub some_reserved-none : (b : List ℕ) (i n k : ℕ) → n ≤ k → some_reserved b i (n - k) ≡ false
-some_reserved-none b i n k past =
-    let left : n - k ≡ 0 = omega arith in
-    rw left refl
+pub some_reserved_none : (b : List ℕ) (i n k : ℕ) → n ≤ k → some_reserved b i (n - k) ≡ false
+some_reserved_none b i n k past = grind arith
 
 -- each byte has no reserved bit
-pub some_reserved-at : (b : List ℕ) (i n : ℕ) → some_reserved b i n ≡ false → (k : ℕ) → k < n →
+pub some_reserved_at : (b : List ℕ) (i n : ℕ) → some_reserved b i n ≡ false → (k : ℕ) → k < n →
     slice_index b (i + 7 * k) < 64
-some_reserved-at b i zero none k within = absurd (omega arith)
-some_reserved-at b i (suc n) none zero within =
-    let here = (or_parts (nat_le 64 (slice_index b i)) _ none).0 in
-    let low = leb-false 64 (slice_index b i) here in
-    rw add-zero low
-some_reserved-at b i (suc n) none (suc k) within =
+some_reserved_at b i zero none k within = absurd (omega arith)
+some_reserved_at b i (suc n) none zero within = grind (arith, or_parts, nat_le, leb-false, add-zero)
+some_reserved_at b i (suc n) none (suc k) within =
     let next : i + 7 + 7 * k ≡ i + 7 * suc k = omega arith in
     let rest = (or_parts (nat_le 64 (slice_index b i)) _ none).1 in
-    subst (λ (j : ℕ). slice_index b j < 64) next (some_reserved-at b (i + 7) n rest k (omega arith))
+    subst (λ (j : ℕ). slice_index b j < 64) next (some_reserved_at b (i + 7) n rest k (omega arith))
 
 module _ (b : List ℕ) (m o : ℕ) (w : IsLayout b m o) where
   pub extra-is : extra b ≡ o
@@ -47,10 +42,8 @@ module _ (b : List ℕ) (m o : ℕ) (w : IsLayout b m o) where
   count-is : (length b - 16) / 7 ≡ m
   count-is = omega (arith, w.size, w.few)
 
-  pub has_reserved-is : has_reserved b ≡ (some_reserved b 7 (m + 2) || nat_le 128 (slice_index b (length b - 1 - o)))
-  has_reserved-is =
-      let more : m + 2 ≡ suc (m + 1) = omega arith in
-      rw (more, extra-is, count-is) refl
+  pub has_reserved_is : has_reserved b ≡ (some_reserved b 7 (m + 2) || nat_le 128 (slice_index b (length b - 1 - o)))
+  has_reserved_is = grind (arith, extra-is, count-is)
 
 -- what holds of bytes without a fault
 pub record HasNoFault (b : List ℕ) : Type 0 where
@@ -85,8 +78,8 @@ module _ (b : List ℕ) (m o : ℕ) (w : IsLayout b m o) (e : v3_fault b ≡ Non
   -- attribute byte 1 of LRP k, of all LRPs
   pub low_attribute1 : (k : ℕ) → k < m + 2 → slice_index b (7 + 7 * k) < 64
   low_attribute1 k within =
-      let none = (or_parts (some_reserved b 7 (m + 2)) _ (sym (has_reserved-is b m o w) ∙ (no_fault b e).reserved)).0 in
-      some_reserved-at b 7 (m + 2) none k within
+      let none = (or_parts (some_reserved b 7 (m + 2)) _ (sym (has_reserved_is b m o w) ∙ (no_fault b e).reserved)).0 in
+      some_reserved_at b 7 (m + 2) none k within
 
   pub status-is : slice_index b 0 ≡ status_byte
   status-is = (no_fault b e).state

@@ -1,6 +1,6 @@
 -- Coordinates after relative steps.
 use Rattle.std.proofs.Common.{◌≡◌, ℕ, ◌+◌, ◌<◌, ◌≤◌, ℤ, pos, ◌+ℤ◌, List, [], ◌∷◌, ◌++◌, length, map, take, get_or}
-use Rattle.std.proofs.Common.{nat_le, true, Some, sym, ap, ◌∙◌, arith, length-append}
+use Rattle.std.proofs.Common.{nat_le, Some, sym, ap, ◌∙◌, arith, length-append}
 use Rattle.std.proofs.lemmas.Int.{ints}
 use lib.IntN.{+ℤ_assoc}
 use Rattle.std.proofs.lemmas.Bool.Decides.{nat_tests}
@@ -17,9 +17,7 @@ none_add z = omega (arith, ints)
 
 steps_sum-push : (zs : List ℤ) (z : ℤ) → steps_sum (zs ++ z ∷ []) ≡ steps_sum zs +ℤ from_rel16 z
 steps_sum-push [] z = add_none (from_rel16 z) ∙ none_add (from_rel16 z)
-steps_sum-push (y ∷ ys) z =
-    ap (λ (n : ℤ). from_rel16 y +ℤ n) (steps_sum-push ys z)
-    ∙ sym (+ℤ_assoc (from_rel16 y) (steps_sum ys) (from_rel16 z))
+steps_sum-push (y ∷ ys) z = grind (arith, ℤ, +ℤ_assoc, steps_sum-push ys z)
 
 -- one more LRP
 pub place-more : (a : ℤ) (f : Middle → ℤ) (ps : List Middle) (i : ℕ) (p : Middle) → i < length ps → p ≡ get_or ps i p
@@ -34,20 +32,11 @@ place-more a f ps i p within is =
 
 module _ (a : ℤ) (f : Middle → ℤ) (ps : List Middle) (z : ℤ) (k : ℕ) where
   axis-between : k ≤ length ps → a +ℤ steps_sum (take k (map f ps ++ z ∷ [])) ≡ a +ℤ steps_sum (map f (take k ps))
-  axis-between within =
-      let size = length-map ps f in
-      let front : take k (map f ps ++ z ∷ []) ≡ map f (take k ps) =
-      take-append-le k (map f ps) (z ∷ []) (omega arith) ∙ take-map f k ps in
-      ap (λ (zs : List ℤ). a +ℤ steps_sum zs) front
+  axis-between within = grind (arith, length-map, take-append-le, take-map, ℤ)
 
   axis-last : k ≡ length ps + 1 → a +ℤ steps_sum (take k (map f ps ++ z ∷ []))
       ≡ a +ℤ steps_sum (map f ps) +ℤ from_rel16 z
-  axis-last last =
-      let size = length-map ps f in
-      let whole : take k (map f ps ++ z ∷ []) ≡ map f ps ++ z ∷ [] =
-      take_all k (map f ps ++ z ∷ []) (omega (arith, length-append (map f ps) (z ∷ []))) in
-      ap (λ (zs : List ℤ). a +ℤ steps_sum zs) whole ∙ ap (λ (n : ℤ). a +ℤ n) (steps_sum-push (map f ps) z)
-      ∙ sym (+ℤ_assoc a (steps_sum (map f ps)) (from_rel16 z))
+  axis-last last = grind (arith, length-map, take_all, length-append, ℤ, steps_sum-push, +ℤ_assoc)
 
 -- an LRP before the last
 pub decoded-between : (r : Reference) (k : ℕ) → k ≤ length r.middle
@@ -55,11 +44,7 @@ pub decoded-between : (r : Reference) (k : ℕ) → k ≤ length r.middle
       from_abs24 r.first.lon +ℤ steps_sum (map (λ m. m.dlon) (take k r.middle)),
       from_abs24 r.first.lat +ℤ steps_sum (map (λ m. m.dlat) (take k r.middle)),
     )
-decoded-between r k within =
-    let test : nat_le k (length r.middle + 1) ≡ true = grind (arith, nat_tests) in
-    let lon = axis-between (from_abs24 r.first.lon) (λ m. m.dlon) r.middle r.last.dlon k within in
-    let lat = axis-between (from_abs24 r.first.lat) (λ m. m.dlat) r.middle r.last.dlat k within in
-    rw test (λ i. Some (lon i, lat i))
+decoded-between r k within = grind (arith, nat_le, nat_tests, axis-between)
 
 -- the last LRP
 pub decoded-last : (r : Reference) (k : ℕ) → k ≡ length r.middle + 1
@@ -68,8 +53,4 @@ pub decoded-last : (r : Reference) (k : ℕ) → k ≡ length r.middle + 1
       from_abs24 r.first.lon +ℤ steps_sum (map (λ m. m.dlon) r.middle) +ℤ from_rel16 r.last.dlon,
       from_abs24 r.first.lat +ℤ steps_sum (map (λ m. m.dlat) r.middle) +ℤ from_rel16 r.last.dlat,
     )
-decoded-last r k last =
-    let test : nat_le k (length r.middle + 1) ≡ true = grind (arith, nat_tests) in
-    let lon = axis-last (from_abs24 r.first.lon) (λ m. m.dlon) r.middle r.last.dlon k last in
-    let lat = axis-last (from_abs24 r.first.lat) (λ m. m.dlat) r.middle r.last.dlat k last in
-    rw test (λ i. Some (lon i, lat i))
+decoded-last r k last = grind (arith, nat_le, nat_tests, axis-last)

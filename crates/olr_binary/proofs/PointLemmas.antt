@@ -1,6 +1,6 @@
 -- LRPs decoded from their bytes.
 use Rattle.std.proofs.Common.{◌≡◌, ℕ, zero, suc, ◌+◌, ◌<◌, ◌≤◌, ◌*◌, List, [], ◌∷◌, ◌++◌, length, drop, slice_index}
-use Rattle.std.proofs.Common.{slice_range, get_or, refl, sym, ap, ◌∙◌, arith}
+use Rattle.std.proofs.Common.{slice_range, refl, sym, ap, ◌∙◌, arith}
 use Rattle.std.specs.List.{AllByRecursion, flat_map}
 use Rattle.std.proofs.Math.Seq.{drop-cons}
 use Rattle.std.proofs.lemmas.List.Concat.{flat_map-append}
@@ -14,9 +14,7 @@ use Rattle.olr_spec.proofs.QueryLemmas.{stretch_parts}
 
 pub part-drop : (i n : ℕ) (xs : List ℕ) → length xs ≡ i + n → part i n xs ≡ drop i xs
 part-drop i zero xs e = sym (drop_all i xs (omega arith))
-part-drop i (suc n) xs e =
-    ap (λ (ys : List ℕ). get_or xs i 0 ∷ ys) (part-drop (suc i) n xs (omega arith))
-    ∙ sym (drop-cons xs i 0 (omega arith))
+part-drop i (suc n) xs e = grind (arith, drop-cons, part-drop (suc i) n xs)
 
 pub first_bytes-parts : (p : First) (bs : List ℕ) → length bs ≡ 9 → signed24 p.lon ≡ part 0 3 bs →
     signed24 p.lat ≡ part 3 3 bs → attr_bytes p.attrs ≡ part 6 3 bs → first_bytes p ≡ bs

@@ -161,6 +161,7 @@ fn layout_of(bytes: &[u8]) -> Option<Layout>
 }
 
 /// Whether a reserved bit is set.
+#[tactic(auto, using(crate::proofs::LayoutLemmas::some_reserved_more, crate::proofs::LayoutLemmas::some_reserved_none, crate::proofs::LayoutLemmas::has_reserved_is))]
 fn has_reserved(bytes: &[u8], layout: Layout) -> bool
     requires { IsLayout bytes.now layout.middle layout.offsets }
     ensures { result ≡ has_reserved bytes.now }

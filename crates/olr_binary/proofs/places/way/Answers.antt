@@ -1,33 +1,13 @@
-use Rattle.std.proofs.Common.{◌≡◌, ◌+ℤ◌, ap, sym, ◌∙◌, rules, arith, List, w16, w32, w64, FitsSigned}
+use Rattle.std.proofs.Common.{◌≡◌, ◌+ℤ◌, ap, ◌∙◌, rules, arith, List, w16, w32, w64, FitsSigned}
 use Rattle.std.specs.Int.{w128}
 use Rattle.std.proofs.lemmas.Int.{ints, to_z-of_z}
 use Rattle.olr_spec.specs.Coordinates.{from_abs24, from_rel16}
-use Rattle.olr_spec.specs.Reference.{First, Middle}
+use Rattle.olr_spec.specs.Reference.{Middle}
 use Rattle.olr_binary.proofs.PlaceLemmas.{add_none, place-more}
 use Rattle.olr_binary.proofs.places.way.Goals as goal
 
 pub loop-point-init : goal.loop-point-init
-loop-point-init c =
-    let lon_32 : FitsSigned w32 c.first.inside.lon = search rules in
-    let lat_32 : FitsSigned w32 c.first.inside.lat = search rules in
-    let lon_64 : FitsSigned w64 c.from_abs24.result = record { sfits = c.from_abs24.type_inv } in
-    let lat_64 : FitsSigned w64 c.from_abs24-2.result = record { sfits = c.from_abs24-2.type_inv } in
-    let lon_128 : FitsSigned w128 c.from-lon.result = record { sfits = c.from-lon.type_inv } in
-    let lat_128 : FitsSigned w128 c.from-lat.result = record { sfits = c.from-lat.type_inv } in
-    let lon : c.from-lon.result ≡ from_abs24 c.args.first.lon =
-    simp to_z-of_z at c.from-lon.ensures ∙ simp to_z-of_z at c.from_abs24.ensures
-    ∙ ap (λ (p : First). from_abs24 p.lon) c.first.view_is
-    in
-    let lat : c.from-lat.result ≡ from_abs24 c.args.first.lat =
-    simp to_z-of_z at c.from-lat.ensures ∙ simp to_z-of_z at c.from_abs24-2.ensures
-    ∙ ap (λ (p : First). from_abs24 p.lat) c.first.view_is
-    in
-    record {
-      lon = to_z-of_z w128 c.from-lon.result lon_128 ∙ lon ∙ sym (add_none (from_abs24 c.args.first.lon));
-      lat = to_z-of_z w128 c.from-lat.result lat_128 ∙ lat ∙ sym (add_none (from_abs24 c.args.first.lat));
-      lon_bound = omega (arith, ints, c.from-lon.ensures);
-      lat_bound = omega (arith, ints, c.from-lat.ensures);
-    }
+loop-point-init c = grind (arith, w32, w64, to_z-of_z, add_none, ints)
 
 pub loop-point-preserved : goal.loop-point-preserved
 loop-point-preserved c =

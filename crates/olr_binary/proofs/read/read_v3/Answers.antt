@@ -1,21 +1,17 @@
-use Rattle.std.proofs.Common.{◌≡◌, ℕ, ◌+◌, ◌-◌, ◌*◌, ◌<◌, List, length, drop, slice_index, slice_range, IfErr, sym}
+use Rattle.std.proofs.Common.{◌≡◌, ℕ, ◌+◌, ◌-◌, ◌*◌, ◌<◌, List, length, drop, slice_index, slice_range, sym}
 use Rattle.std.proofs.Common.{subst, ◌∙◌, arith, rules}
 use Rattle.std.specs.List.{flat_map}
 use Rattle.std.proofs.lemmas.List.{get_or-take, get_or-drop}
 use Rattle.olr_spec.specs.Reference.{Reference}
-use Rattle.olr_spec.specs.Bytes.{IsReference, middle_bytes, status_byte, v3_fault}
+use Rattle.olr_spec.specs.Bytes.{IsReference, middle_bytes, status_byte}
 use Rattle.olr_binary.specs.Codes.{reference_from}
-use Rattle.olr_binary.specs.Faults.{bytes_fault_of}
 use Rattle.olr_binary.proofs.LayoutLemmas.{low_attribute1, status-is}
 use Rattle.olr_binary.proofs.PointLemmas.{reference_bytes-parts}
 use Rattle.olr_binary.proofs.EncodedLemmas.{unspelled}
 use Rattle.olr_binary.proofs.read.read_v3.Goals as goal
 
 pub returns-in_err-layout-clause-unspelled : goal.returns-in_err-layout-clause-unspelled
-returns-in_err-layout-clause-unspelled c =
-    let b : List ℕ = c.args.bytes.now in
-    let reported : IfErr c.from_residual.result (λ fault. v3_fault b ≡ bytes_fault_of fault) = search rules in
-    unspelled b c.from_residual.result reported
+returns-in_err-layout-clause-unspelled c = grind (arith, unspelled)
 
 pub read_last-last-requires-clause-reserved_1 : goal.read_last-last-requires-clause-reserved_1
 read_last-last-requires-clause-reserved_1 c =
