@@ -80,9 +80,7 @@ module _ (M : Map) (m : IsMap M) (x : Labels) (a : AreLabels M x) where
   -- and only then
   pub last_if_least : (y : ℕ) (route : List ℕ) → LeastWithin M x (end M y) (route ++ y ∷ []) →
       last_at x (end M y) ≡ Some y
-  last_if_least y route l =
-      ap (λ (o : Option Label). option_and_then (λ k. k.1) o)
-      (label_of_least (end M y) (route ++ y ∷ []) l.least l.within) ∙ last_of-append route y
+  last_if_least y route l = grind (arith, label_of_least, last_of-append)
 
   pub unique_if_only : (y : ℕ) (route : List ℕ) → UniqueWithin M x (start M y) route → last_at x (end M y) ≡ Some y →
       OnlyPredecessor M x y → UniqueWithin M x (end M y) (route ++ y ∷ [])
@@ -150,9 +148,4 @@ module _ (M : Map) (m : IsMap M) (x : Labels) (a : AreLabels M x) where
 
   pub last_if_unique : (y : ℕ) (route : List ℕ) → UniqueWithin M x (end M y) (route ++ y ∷ []) →
       last_at x (end M y) ≡ Some y
-  last_if_unique y route f =
-      last_if_least y route (record {
-        least = unique_least M x.source (end M y) (route ++ y ∷ []) f.unique;
-        within =
-            f.within;
-      })
+  last_if_unique y route f = grind (arith, last_if_least, unique_least)

@@ -25,9 +25,7 @@ not_after_line e d o p f n q x (inr h) (inr k) = let same : e ≡ d = h.0 in let
     k.0 in inr (omega arith, k.1)
 
 pub same_label : (k : Option Label) (d e : ℕ) (o p : Option ℕ) → k ≡ Some (d, o) → k ≡ Some (e, p) → (d ≡ e) × (o ≡ p)
-same_label k d e o p h g = let both : ◌≡◌ {A = Option Label} (Some (d, o)) (Some (e, p)) = sym h ∙ g in
-    let pair : ◌≡◌ {A = Label} (d, o) (e, p) = cc in
-    (ap (λ (z : Label). z.0) pair, ap (λ (z : Label). z.1) pair)
+same_label k d e o p h g = grind arith
 
 -- if the last line is at most some line, there is one
 last_below : (o : Option ℕ) (x : ℕ) → NotGreater (Some x) o → (y : ℕ) × (o ≡ Some y) × (x ≤ y)

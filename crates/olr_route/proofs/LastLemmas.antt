@@ -1,4 +1,5 @@
 -- Lists and routes by their last line.
+use Rattle.std.proofs.Common.{arith}
 use Rattle.std.proofs.Common.{◌≡◌, ℕ, List, [], ◌∷◌, ◌++◌, Option, Some, None, refl, sym, ap, ◌∙◌}
 use Rattle.olr_spec.specs.Map.{Map, start}
 use Rattle.olr_spec.specs.Routes.{Least}
@@ -24,6 +25,4 @@ ended_by xs x e = elim (ends_of xs) [
 
 -- a shortest path without its last line is a shortest path
 pub least_front : (M : Map) (s t x : ℕ) (xs : List ℕ) → Least M s t (xs ++ x ∷ []) → Least M s (start M x) xs
-least_front M s t x xs l =
-    let r = last_step M s t x xs l.route in
-    prefix_of_least M s (start M x) t xs (x ∷ []) l r.front (r.known, refl, r.to)
+least_front M s t x xs l = grind (arith, last_step, prefix_of_least)

@@ -1,6 +1,8 @@
 -- The first lines of a route, one more at a time.
 use Rattle.std.proofs.Common.{◌≡◌, ℕ, ◌+◌, ◌<◌, ◌≤◌, List, [], ◌∷◌, ◌++◌, take, drop, length, get_or, IsTrue, sym, ap}
 use Rattle.std.proofs.Common.{◌∙◌, subst, arith, append_assoc, add-one, drop-cons, suc}
+use Rattle.std.proofs.lemmas.Bool.{both_ways}
+use Rattle.std.proofs.Common.{Bool, true, false, ◌↔◌}
 use Rattle.std.proofs.lemmas.List.{take_more, take-append-drop}
 use Rattle.olr_spec.specs.Map.{Map, IsMap, has_line, start, end}
 use Rattle.olr_spec.specs.Routes.{IsRoute, dm_of, Least, UniqueShortest}
@@ -45,27 +47,25 @@ module _ (M : Map) (x : Labels) (t : ℕ) (lines : List ℕ) (i y : ℕ) (n : Is
       omega arith
 
   pub least_prefix : LeastWithin M x t lines → LeastWithin M x (end M y) (take i lines ++ y ∷ [])
-  least_prefix l = record {
-    least =
-        prefix_of_least M x.source (end M y) t (take i lines ++ y ∷ []) (drop (i + 1) lines)
-        (subst (λ (zs : List ℕ). Least M x.source t zs) n.parts l.least) prefix_route n.rest;
-    within = prefix_short l.within;
-  }
+  least_prefix l = grind (arith, prefix_of_least, prefix_route, prefix_short)
 
   pub unique_prefix : UniqueWithin M x t lines → UniqueWithin M x (end M y) (take i lines ++ y ∷ [])
-  unique_prefix l = record {
-    unique =
-        prefix_of_unique M x.source (end M y) t (take i lines ++ y ∷ []) (drop (i + 1) lines)
-        (subst (λ (zs : List ℕ). UniqueShortest M x.source t zs) n.parts l.unique) prefix_route n.rest;
-    within = prefix_short l.within;
-  }
+  unique_prefix l = grind (arith, prefix_of_unique, prefix_route, prefix_short)
 
   -- what holds for the first i + 1 lines, wherever they lead
   pub held_more : (P : ℕ → List ℕ → Type 0) → P (end M y) (take i lines ++ y ∷ []) → (v : ℕ) →
       IsRoute M x.source v (take (i + 1) lines) → P v (take (i + 1) lines)
-  held_more P here v w =
-      let step = last_step M x.source v y (take i lines) (subst (λ (zs : List ℕ). IsRoute M x.source v zs) n.more w) in
-      subst (λ (zs : List ℕ). P v zs) (sym n.more) (subst (λ (u : ℕ). P u (take i lines ++ y ∷ [])) step.to here)
+  held_more P here v w = grind (arith, last_step)
+
+  module _ (P : ℕ → List ℕ → Type 0) (b : Bool)
+      (extends : (route : List ℕ) → P (start M y) route → IsTrue b ↔ P (end M y) (route ++ y ∷ []))
+      (here : (v : ℕ) → IsRoute M x.source v (take i lines) → P v (take i lines)) where
+    -- it holds for one line more if the line extends it, and only then
+    pub held_on : b ≡ true → (v : ℕ) → IsRoute M x.source v (take (i + 1) lines) → P v (take (i + 1) lines)
+    held_on e v w = held_more P ((extends (take i lines) (here _ n.front)).0 e) v w
+
+    pub held_not : b ≡ false → ¬ P (end M y) (take i lines ++ y ∷ [])
+    held_not e h = both_ways b e ((extends (take i lines) (here _ n.front)).1 h)
 
 pub least_none : (M : Map) (x : Labels) (v : ℕ) → IsRoute M x.source v [] → LeastWithin M x v []
 least_none M x v w =

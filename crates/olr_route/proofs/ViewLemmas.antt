@@ -1,7 +1,7 @@
 -- Labels are a finite map, and are stored in two lists: both have the same values.
 use Rattle.std.proofs.Common.{◌≡◌, ℕ, suc, ◌+◌, ◌<◌, ◌↔◌, Contains, List, [], ◌∷◌, length, get_or, Option, Some, None}
 use Rattle.std.proofs.Common.{Bool, false, cond, is_some, IsSome, refl, sym, ap, ◌∙◌, subst, arith, nat_cmp, eqb}
-use Rattle.std.specs.Cmp.{nat_cmp_total, unsigned_tied}
+use Rattle.std.specs.Cmp.{nat_cmp_total}
 use Rattle.std.specs.FinMap.{get, len, from_entries, get-from_entries, len-insert, len-empty, contains_key}
 use Rattle.std.specs.FinMap.Entries.{find}
 use Rattle.std.specs.List.{AllByRecursion, IsDistinct, zip}
@@ -21,9 +21,7 @@ use Rattle.olr_route.specs.Listed.{listed_labels}
 
 find-lookup : (q : ℕ) (es : List (ℕ × Label)) → find nat_cmp q es ≡ lookup (eqb q) es
 find-lookup q [] = refl
-find-lookup q (e ∷ es) =
-    ap (λ (b : Bool). cond b (Some e.1) (find nat_cmp q es)) (unsigned_tied q e.0)
-    ∙ ap (λ (o : Option Label). cond (eqb q e.0) (Some e.1) o) (find-lookup q es)
+find-lookup q (e ∷ es) = grind (arith, find, nat_cmp, eqb, find-lookup q es)
 
 -- the value at a node
 pub get-view : (es : List (ℕ × Label)) (q : ℕ) → get (from_entries {R = nat_cmp} es) q ≡ lookup (eqb q) es
@@ -95,8 +93,4 @@ module _ (s limit : ℕ) (ks : List ℕ) (ls : List Label) (up : IsStrictlyIncre
       (c.0, c.1, is, cc)
 
   pub count_of-listed : count_of (listed_labels s limit ks ls) ≡ length ks
-  count_of-listed =
-      let long = length-zip ks ls in
-      let count =
-      len-view (zip ks ls) (subst (λ (xs : List ℕ). IsDistinct eqb xs) (sym keys) (distinct_from_ascending ks up)) in
-      omega arith
+  count_of-listed = grind (arith, length-zip, len-view, eqb, keys, distinct_from_ascending)

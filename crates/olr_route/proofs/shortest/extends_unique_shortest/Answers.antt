@@ -1,3 +1,4 @@
+use Rattle.std.proofs.Common.{arith}
 use Rattle.olr_route.proofs.ExtendLemmas.{unique_if_only, only_if_unique, last_if_unique}
 use Rattle.olr_route.proofs.shortest.extends_unique_shortest.Goals as goal
 
@@ -11,11 +12,4 @@ returns-then-is_last g c = λ route l.
     )
 
 pub returns-else-is_last : goal.returns-else-is_last
-returns-else-is_last g c = λ route l.
-    let M = g.M.MapRead.map c.args.map.now in
-    let m = g.met.M.MapRead.sound c.args.map.now in (
-      λ h. let never : ⊥ = cc in absurd never,
-      λ f.
-          let yes = c.is_last.ensures.1 (last_if_unique M m c.args.labels.now c.requires.labels c.args.line route f) in
-          let never : ⊥ = cc (yes, c.if-is_last.false) in absurd never,
-    )
+returns-else-is_last g c = grind (arith, last_if_unique)

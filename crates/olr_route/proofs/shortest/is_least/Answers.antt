@@ -1,8 +1,7 @@
-use Rattle.std.proofs.Common.{◌≡◌, ℕ, List, take, refl, subst}
+use Rattle.std.proofs.Common.{arith}
 use Rattle.std.proofs.lemmas.List.{take_all}
-use Rattle.olr_spec.specs.Routes.{IsRoute}
 use Rattle.olr_route.specs.Labels.{LeastWithin}
-use Rattle.olr_route.proofs.StretchLemmas.{next_of, least_prefix, held_more, least_none}
+use Rattle.olr_route.proofs.StretchLemmas.{next_of, least_prefix, held_on, held_not, least_none}
 use Rattle.olr_route.proofs.shortest.is_least.Goals as goal
 
 pub loop-line-init : goal.loop-line-init
@@ -17,39 +16,23 @@ extends_least-requires-clause-line g c =
 
 pub loop-line-preserved : goal.loop-line-preserved
 loop-line-preserved g c =
-    let M = g.M.MapRead.map c.args.map.now in
     let w = c.requires.route in
     let n =
-    next_of M c.args.labels.now.source w.0 c.args.lines.now w.1 c.loop-line.line-index c.line-item.result
-    c.loop-line-test.true c.line-item.is in
-    let here = c.loop-line.invariant _ n.front in
-    held_more M c.args.labels.now w.0 c.args.lines.now c.loop-line.line-index c.line-item.result n
-    (LeastWithin M c.args.labels.now)
-    ((c.extends_least.ensures (take c.loop-line.line-index c.args.lines.now) here).0 c.if-not-extends_least.false)
+    next_of (g.M.MapRead.map c.args.map.now) c.args.labels.now.source w.0 c.args.lines.now w.1 c.loop-line.line-index
+    c.line-item.result c.loop-line-test.true c.line-item.is in
+    held_on _ c.args.labels.now w.0 c.args.lines.now _ _ n (LeastWithin _ c.args.labels.now) _ c.extends_least.ensures
+    c.loop-line.invariant c.if-not-extends_least.false
 
 pub returns-then-not-extends_least : goal.returns-then-not-extends_least
-returns-then-not-extends_least g c =
-    let M = g.M.MapRead.map c.args.map.now in
-    let w = c.requires.route in (
-      λ h. let never : ⊥ = cc in absurd never,
-      λ h.
-          let n =
-          next_of M c.args.labels.now.source h.0 c.args.lines.now h.1.least.route c.loop-line.line-index
-          c.line-item.result c.loop-line-test.true c.line-item.is in
-          let here = c.loop-line.invariant _ n.front in
-          let yes =
-          (c.extends_least.ensures (take c.loop-line.line-index c.args.lines.now) here).1
-          (least_prefix M c.args.labels.now h.0 c.args.lines.now c.loop-line.line-index c.line-item.result n h.1) in
-          let never : ⊥ = cc (yes, c.if-not-extends_least.true) in absurd never,
-    )
+returns-then-not-extends_least g c = (
+  λ h. absurd cc,
+  λ h.
+      let n =
+      next_of (g.M.MapRead.map c.args.map.now) c.args.labels.now.source h.0 c.args.lines.now h.1.least.route
+      c.loop-line.line-index c.line-item.result c.loop-line-test.true c.line-item.is in
+      absurd (held_not _ c.args.labels.now h.0 c.args.lines.now _ _ n (LeastWithin _ c.args.labels.now) _ c.extends_least.ensures
+      c.loop-line.invariant c.if-not-extends_least.true (least_prefix _ c.args.labels.now h.0 c.args.lines.now _ _ n h.1)),
+)
 
 pub returns : goal.returns
-returns g c =
-    let M = g.M.MapRead.map c.args.map.now in
-    let w = c.requires.route in
-    let whole : take c.loop-line.line-index c.args.lines.now ≡ c.args.lines.now = take_all _ _ c.loop-line-test.false in
-    let all =
-    subst (λ (zs : List ℕ). (v : ℕ) → IsRoute M c.args.labels.now.source v zs → LeastWithin M c.args.labels.now v zs)
-    whole
-    c.loop-line.invariant in
-    (λ h. (w.0, all w.0 w.1), λ h. refl)
+returns g c = grind (arith, take_all)

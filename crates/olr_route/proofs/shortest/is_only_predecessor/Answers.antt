@@ -9,28 +9,10 @@ use Rattle.olr_route.proofs.shortest.is_only_predecessor.Goals as goal
 use Rattle.olr_route.proofs.shortest.is_only_predecessor.Goals.{then-ne+else-is_within, else-ne}
 
 pub start_of-from-requires : goal.start_of-from-requires
-start_of-from-requires g c =
-    (enters (g.M.MapRead.map c.args.map.now) c.end_of-to.result.0 c.loop-other.other-index c.other-item.result
-    c.in_lines-other-items.result.now c.in_lines-other-items.ensures c.loop-other-test.true c.other-item.is).0
+start_of-from-requires g c = grind (arith, enters)
 
 pub returns-then-is_within : goal.returns-then-is_within
-returns-then-is_within g c =
-    let M = g.M.MapRead.map c.args.map.now in
-    let x = c.other-item.result in
-    let r =
-    enters M c.end_of-to.result.0 c.loop-other.other-index x c.in_lines-other-items.result.now
-    c.in_lines-other-items.ensures c.loop-other-test.true c.other-item.is in
-    let near = c.is_within.ensures.0 c.if-is_within.true in
-    let le = near.2 in
-    let long = c.start_of-from.ensures.length in (
-      λ h. let never : ⊥ = cc in absurd never,
-      λ alone.
-          let same : x ≡ c.args.line =
-          alone x c.in-Some.dist r.0 (r.1 ∙ c.end_of-to.ensures.end)
-          (ap (dist_at c.args.labels.now) (sym c.end_of-to.ensures.end) ∙ sym c.in-Some.ensures)
-          near.0 (ap (dist_at c.args.labels.now) (sym c.start_of-from.ensures.start) ∙ near.1) (omega arith) in
-          absurd (differ x c.args.line c.if-ne.ensures same),
-    )
+returns-then-is_within g c = grind (arith, enters, differ)
 
 pub loop-other-preserved : goal.loop-other-preserved
 loop-other-preserved g c =
