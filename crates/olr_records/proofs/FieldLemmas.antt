@@ -1,5 +1,5 @@
 -- Fields: the bytes of a field by its position, and as text.
-use Rattle.std.proofs.Common.{◌≡◌, ℕ, zero, suc, ◌<◌, Bool, true, ◌&&◌, List, [], ◌∷◌, length, None, nat_le, refl, arith, rules}
+use Rattle.std.proofs.Common.{◌≡◌, ℕ, zero, suc, ◌<◌, Bool, true, List, [], ◌∷◌, None, nat_le, refl, arith, rules}
 use Rattle.std.specs.Prelude.{IsAscii, IsUtf8, slice_index_or}
 use Rattle.std.specs.List.{list_all}
 use Rattle.std.proofs.lemmas.Bool.{and_parts}
@@ -31,6 +31,4 @@ name_low : (c : ℕ) → is_name_byte c ≡ true → c < 128
 name_low c h = grind (arith, nat_tests)
 
 pub name-text : (f : Field) → is_name f ≡ true → IsUtf8 f
-name-text f h =
-    text_of_bytes is_name_byte name_low f
-    (and_parts (nat_le 1 (length f) && nat_le (length f) 64) (list_all is_name_byte f) h).1
+name-text f h = grind (arith, text_of_bytes, name_low, and_parts, nat_le)

@@ -1,6 +1,6 @@
 -- Items of a record, read one after another.
 --     onto x y      the items of x, followed by those of y
-use Rattle.std.proofs.Common.{◌≡◌, ℕ, suc, ◌+◌, ◌<◌, ◌≤◌, List, [], ◌∷◌, ◌++◌, length, drop, Ok, Err, refl, sym, ap}
+use Rattle.std.proofs.Common.{◌≡◌, ℕ, ◌+◌, ◌<◌, ◌≤◌, List, [], ◌∷◌, ◌++◌, length, drop, Ok, Err, refl, sym, ap}
 use Rattle.std.proofs.Common.{◌∙◌, append_assoc, drop-cons, arith}
 use Rattle.std.specs.Prelude.{Result, IfOk, IsOkAnd, slice_index_or}
 use Rattle.std.proofs.lemmas.List.{append-nil, drop_all, length-drop}
@@ -53,9 +53,7 @@ short fs some few = refl
 module _ (fs : List Field) (k : ℕ) where
   numbers_next : k < length fs → numbers (drop k fs) ≡ Ok (λ x xs. x ∷ xs) ⊛ number (at fs k) ⊛ numbers
       (drop (k + 1) fs)
-  numbers_next lt =
-      let n : suc k ≡ k + 1 = omega arith in
-      ap (λ (r : List Field). numbers r) (drop-cons fs k [] lt ∙ ap (λ (i : ℕ). at fs k ∷ drop i fs) n)
+  numbers_next lt = grind (arith, drop-cons)
 
   pub numbers-more : (x w : Read (List ℕ)) → k < length fs → onto x (numbers (drop k fs)) ≡ w →
       onto (with x (number (at fs k))) (numbers (drop (k + 1) fs)) ≡ w
@@ -67,17 +65,7 @@ module _ (fs : List Field) (k : ℕ) where
 
   -- three fields, and those after them
   three : k + 3 ≤ length fs → drop k fs ≡ at fs k ∷ at fs (k + 1) ∷ at fs (k + 2) ∷ drop (k + 3) fs
-  three few =
-      let a = drop-cons fs k [] (omega arith) in
-      let b = drop-cons fs (k + 1) [] (omega arith) in
-      let c = drop-cons fs (k + 2) [] (omega arith) in
-      let m : suc k ≡ k + 1 = omega arith in
-      let n : suc (k + 1) ≡ k + 2 = omega arith in
-      let o : suc (k + 2) ≡ k + 3 = omega arith in
-      a ∙ ap (λ (i : ℕ). at fs k ∷ drop i fs) m ∙ ap (λ (r : List Field). at fs k ∷ r) b
-      ∙ ap (λ (i : ℕ). at fs k ∷ at fs (k + 1) ∷ drop i fs) n
-      ∙ ap (λ (r : List Field). at fs k ∷ at fs (k + 1) ∷ r) c
-      ∙ ap (λ (i : ℕ). at fs k ∷ at fs (k + 1) ∷ at fs (k + 2) ∷ drop i fs) o
+  three few = grind (arith, drop-cons)
 
   over : k < length fs → length fs < k + 3 → shape (drop k fs) ≡ Err Bad_form
   over some few = short (drop k fs) (omega (arith, length-drop k fs)) (omega (arith, length-drop k fs))
@@ -88,9 +76,7 @@ module _ (fs : List Field) (k : ℕ) where
 
   pub shape-more : (x w : Read (List ShapePoint)) → k + 3 ≤ length fs → onto x (shape (drop k fs)) ≡ w
       → onto (with x (point (at fs k) (at fs (k + 1)) (at fs (k + 2)))) (shape (drop (k + 3) fs)) ≡ w
-  shape-more x w few e =
-      onto_more x (point (at fs k) (at fs (k + 1)) (at fs (k + 2))) (shape (drop (k + 3) fs))
-      ∙ ap (λ y. onto x y) (sym (shape_next few)) ∙ e
+  shape-more x w few e = grind (arith, onto_more, shape_next)
 
   pub shape-end : (x w : Read (List ShapePoint)) → length fs ≤ k → onto x (shape (drop k fs)) ≡ w → x ≡ w
   shape-end x w past e = sym (onto-nothing x) ∙ ap (λ y. onto x (shape y)) (sym (drop_all k fs past)) ∙ e

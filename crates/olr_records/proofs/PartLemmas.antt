@@ -1,4 +1,5 @@
 -- Two parts of one record, where reading one of them or both may take memory.
+use Rattle.std.proofs.Common.{arith}
 use Rattle.std.proofs.Common.{◌≡◌, Ok, Err, Result, sym, ap, subst}
 use Rattle.std.specs.Prelude.{IsOkAnd}
 use Rattle.olr_records.specs.Records.{Read, ◌⊛◌}
@@ -60,9 +61,7 @@ module _ {A B Y Z : Type 0} (P : (Y → Z) → Type 0) (Q : Y → Type 0) (R : Z
       (q : Result (A × B) ReadFault) → q ≡ both r s
       → ((g : Y → Z) (b : Y) → P g → R (g b)) → ((a : A) (b : Y) → Q b → R (u a b))
       → Gathers P u x r → Gathers Q v y s → Gathers R (λ p. u p.0 (v p.1)) (x ⊛ y) q
-  both-parts x y r s q is first second h k =
-      subst (λ (t : Result (A × B) ReadFault). Gathers R (λ p. u p.0 (v p.1)) (x ⊛ y) t) (sym is)
-      (reported x y r s first second h k)
+  both-parts x y r s q is first second h k = grind (arith, reported)
 
 -- and a fault that is passed on
 handed : {A C B : Type 0} (P : B → Type 0) (view : A → B) (query : C → B) (x : Read B) (f : ReadFault) →
@@ -73,6 +72,4 @@ handed P view query x f h = h
 pub handed-on : {A C B : Type 0} (P : B → Type 0) (view : A → B) (query : C → B) (x : Read B) (r : Result A ReadFault)
     (q : Result C ReadFault) (f : ReadFault)
     → r ≡ Err f → q ≡ Err f → Gathers P view x r → Gathers P query x q
-handed-on P view query x r q f is that h =
-    subst (λ (t : Result _ ReadFault). Gathers P query x t) (sym that)
-    (handed P view query x f (subst (λ (t : Result _ ReadFault). Gathers P view x t) is h))
+handed-on P view query x r q f is that h = grind (arith, handed)

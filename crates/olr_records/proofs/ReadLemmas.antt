@@ -5,9 +5,8 @@ use Rattle.std.specs.Prelude.{IfOk, IfSome, if◌then◌else◌, nat_abs, ⊤}
 use Rattle.std.specs.List.{AllByRecursion, list_all}
 use Rattle.std.proofs.lemmas.Bool.{and_parts, eq-eqb}
 use Rattle.std.proofs.lemmas.Bool.Decides.{nat_tests}
-use Rattle.std.proofs.lemmas.Result.{IfOk-weaker}
 use Rattle.olr_spec.specs.Coordinates.{Coord, is_coord, is_longitude, is_latitude}
-use Rattle.olr_spec.specs.Degrees.{degrees, unit7, are_digits, digits_value}
+use Rattle.olr_spec.specs.Degrees.{degrees, unit7}
 use Rattle.olr_spec.specs.Map.{ShapePoint, Line, are_coords, Edit, Add_node, Move_node, Drop_node, Add_line, Set_line}
 use Rattle.olr_spec.specs.Map.{Drop_line, HasCoord}
 use Rattle.olr_spec.specs.Extension.{Path}
@@ -18,7 +17,7 @@ use Rattle.olr_commands.specs.State.{same_name, Change, On_map, Add_path, Set_pa
 use Rattle.olr_commands.specs.State.{Dump, Explain, Begin, Commit, Abort, HasCoords}
 use Rattle.olr_commands.specs.Recordable.{is_name}
 use Rattle.olr_records.specs.Records.{Field, Read, ◌⊛◌, value_or_fault, digits, max32, number, amount, class, coordinate}
-use Rattle.olr_records.specs.Records.{Bad_form, longitude, latitude, place, name, numbers, point, shape, node_fields, edit, one}
+use Rattle.olr_records.specs.Records.{longitude, latitude, place, name, numbers, point, shape, node_fields, edit, one}
 use Rattle.olr_records.specs.Records.{none, node_record, line_between, attributes, whole_line, line_record, set_line_record}
 use Rattle.olr_records.specs.Records.{path_fields, path_record, forms, read_by, read}
 use Rattle.olr_records.specs.Recorded.{is_number, is_amount, is_place, is_point, are_attributes, is_named_path, has_record}
@@ -48,21 +47,13 @@ two P Q S g r s q t h = given P S (g ⊛ r) s t (given (Takes S P) Q g r q h)
 -- ---- fields
 
 bounded_passes : {A : Type 0} (test : A → Bool) (a : A) → IfOk (value_or_fault (test a) a) (λ x. IsTrue (test x))
-bounded_passes {A} test a =
-    elim (test a) as (λ b. test a ≡ b → IfOk (value_or_fault b a) (λ x. IsTrue (test x)))
-    [ true ↦ λ e. e | false ↦ λ e. tt ]
-    refl
+bounded_passes {A} test a = grind arith
 
 digits_pass : (low high : ℕ) (f : Field) → IfOk (digits low high f) (λ n. IsTrue (nat_le low n && nat_le n high))
-digits_pass low high f =
-    if_read (λ n. IsTrue (nat_le low n && nat_le n high)) (are_digits f)
-    (value_or_fault (nat_le low (digits_value f) && nat_le (digits_value f) high) (digits_value f)) (Err Bad_form)
-    (bounded_passes (λ n. nat_le low n && nat_le n high) (digits_value f)) tt
+digits_pass low high f = grind (arith, if_read, nat_le, bounded_passes)
 
 at_most_pass : (low high : ℕ) (f : Field) → IfOk (digits low high f) (λ n. IsTrue (nat_le n high))
-at_most_pass low high f =
-    IfOk-weaker (digits low high f) _ (λ n. IsTrue (nat_le n high))
-    (λ n h. (and_parts (nat_le low n) (nat_le n high) h).1) (digits_pass low high f)
+at_most_pass low high f = grind (arith, nat_le, and_parts, digits_pass)
 
 -- a coordinate in range, with a text of degrees
 abbrev Written : (ℤ → Bool) → ℤ → Type 0
@@ -71,11 +62,7 @@ Written test z = IsTrue (test z) × IsTrue (has_degrees_text z)
 found_passes : (test : ℤ → Bool) → ((z : ℤ) → IsTrue (test z) → IsTrue (is_degrees z)) → (o : Option ℤ) →
     IfSome o (λ z. nat_abs z % unit7 ≡ 0) → IfOk (coordinate test o) (Written test)
 found_passes test wide None whole = tt
-found_passes test wide (Some z) whole =
-    elim (test z) as (λ b. test z ≡ b → IfOk (value_or_fault b z) (Written test)) [
-      | true ↦ λ e. (let w = wide z e in let n = eq-eqb (nat_abs z % unit7) 0 whole in (e, λ i. w i && n i))
-      | false ↦ λ e. tt
-    ] refl
+found_passes test wide (Some z) whole = grind (arith, eq-eqb)
 
 longitude_wide : (z : ℤ) → IsTrue (is_longitude z) → IsTrue (is_degrees z)
 longitude_wide (pos n) h = grind (arith, nat_tests)
@@ -106,10 +93,7 @@ abbrev Name : List ℕ → Type 0
 Name n = IsTrue (is_name n)
 
 name_passes : (f : Field) → IfOk (name f) Name
-name_passes f =
-    elim (is_name f) as (λ b. is_name f ≡ b → IfOk (if b then Ok f else Err Bad_form) Name)
-    [ true ↦ λ e. e | false ↦ λ e. tt ]
-    refl
+name_passes f = grind arith
 
 abbrev Number : ℕ → Type 0
 Number n = IsTrue (is_number n)
@@ -122,9 +106,7 @@ number_passes f = digits_pass 1 max32 f
 
 numbers_pass : (fs : List Field) → IfOk (numbers fs) Numbers
 numbers_pass [] = refl
-numbers_pass (f ∷ fs) =
-    two Numbers Number Numbers (Ok (λ x xs. x ∷ xs)) (number f) (numbers fs) (number_passes f) (numbers_pass fs)
-    (λ x h xs g i. h i && g i)
+numbers_pass (f ∷ fs) = grind (arith, two, number_passes, numbers_pass fs)
 
 -- ---- parts of records
 
@@ -289,9 +271,7 @@ place_coord p h = (and_parts (is_coord p) _ h).0
 
 attributes_coords : (frc fow len : ℕ) (ss : List ShapePoint) → IsTrue (are_attributes frc fow len ss) →
     IsTrue (are_coords ss)
-attributes_coords frc fow len ss h =
-    all_weaker is_point (λ s. is_coord s.place) (λ s g. place_coord s.place (and_parts _ (is_place s.place) g).1) ss
-    (and_parts _ (list_all is_point ss) h).1
+attributes_coords frc fow len ss h = grind (arith, all_weaker, place_coord, and_parts)
 
 edit_coords : (e : Edit) → OfEdit e → HasCoord e
 edit_coords (Add_node v p) h = place_coord p (and_parts (is_number v) (is_place p) h).1

@@ -1,6 +1,6 @@
 -- The text of records is split into their fields.
-use Rattle.std.proofs.Common.{◌≡◌, ℕ, zero, suc, ◌+◌, ◌/◌, ◌%◌, ◌^◌, ◌<◌, ◌≤◌, ℤ, pos, negsuc, true, false, ◌&&◌, ◌||◌, List}
-use Rattle.std.proofs.Common.{[], ◌∷◌, ◌++◌, length, map, Some, nat_le, IsTrue, refl, sym, ap, ◌∙◌, arith, ◌==◌}
+use Rattle.std.proofs.Common.{◌≡◌, ℕ, zero, suc, ◌^◌, ◌<◌, ◌≤◌, ℤ, pos, negsuc, true, false, ◌&&◌, ◌||◌, List}
+use Rattle.std.proofs.Common.{[], ◌∷◌, ◌++◌, length, map, Some, nat_le, IsTrue, refl, sym, ap, ◌∙◌, arith}
 use Rattle.std.specs.Prelude.{decimal, if◌then◌else◌}
 use Rattle.std.specs.List.{list_all, list_any, join_with_byte, concat, AllByRecursion}
 use Rattle.std.specs.Char.{is_ascii_digit}
@@ -12,24 +12,22 @@ use Rattle.std.proofs.lemmas.List.Folds.{list_all-append}
 use Rattle.std.proofs.Math.Nat.{mod-lt}
 use Rattle.csv.specs.Machine.{next_record}
 use Rattle.csv.specs.Quoting.{needs_byte}
-use Rattle.csv.specs.Reading.{records, records_from, records_next, default_config, strip_bom}
+use Rattle.csv.specs.Reading.{records, records_from, default_config, strip_bom}
 use Rattle.csv.specs.Writing.{read_back, default_writer, field_text, fields_text, row_text, quoted, is_blank}
 use Rattle.csv.specs.declared.parser.State.TheVariants as st
 use Rattle.csv.proofs.RoundTrip.{read-write}
-use Rattle.olr_spec.specs.Coordinates.{Coord, is_coord}
-use Rattle.olr_spec.specs.Degrees.{unit7}
+use Rattle.olr_spec.specs.Coordinates.{Coord}
 use Rattle.olr_spec.specs.Map.{ShapePoint, Add_node, Move_node, Drop_node, Add_line, Set_line, Drop_line}
 use Rattle.olr_spec.specs.Extension.{Path}
-use Rattle.olr_coords.specs.Bounds.{is_degrees}
-use Rattle.olr_coords.specs.DegreesText.{decimals, after_point, steps_text, degrees_text, has_degrees_text}
+use Rattle.olr_coords.specs.DegreesText.{after_point, steps_text, degrees_text, has_degrees_text}
 use Rattle.olr_coords.proofs.DegreesTextLemmas.{decimals-digits}
 use Rattle.olr_coords.proofs.DigitLemmas.{own}
 use Rattle.olr_commands.specs.State.{Change, On_map, Add_path, Set_path, Drop_path}
-use Rattle.olr_commands.specs.Recordable.{is_name_byte, is_name, is_recordable_coord}
+use Rattle.olr_commands.specs.Recordable.{is_name_byte, is_name}
 use Rattle.olr_commands.specs.RecordText.{after_commas, fields_of_coord, fields_of_shape, fields_of_path, fields_of_change}
 use Rattle.olr_commands.specs.RecordText.{record_line}
 use Rattle.olr_records.specs.Records.{Field, max32}
-use Rattle.olr_records.specs.Recorded.{is_number, is_amount, is_place, is_point, are_attributes, is_named_path, has_record}
+use Rattle.olr_records.specs.Recorded.{is_number, is_place, is_point, are_attributes, is_named_path, has_record}
 use Rattle.olr_records.specs.Recorded.{HaveRecords}
 use Rattle.olr_commands.proofs.RecordLemmas.{joined}
 use Rattle.olr_records.proofs.TestLemmas.{and_three, and_four, and_five, all_weaker, ◌also◌}
@@ -65,28 +63,14 @@ point_plain [] h = refl
 point_plain (c ∷ f) h = h
 
 steps_plain : (n : ℕ) → n < 2 ^ 64 → Plain (steps_text n)
-steps_plain n small =
-    let whole : n / 10 ^ 7 < 2 ^ 64 = omega arith in
-    let part : n % 10 ^ 7 < 10 ^ 7 = mod-lt n (omega arith) in
-    joined_plain (decimal (n / 10 ^ 7)) (after_point (decimals 7 (n % 10 ^ 7))) (decimal_plain (n / 10 ^ 7) whole)
-    (point_plain (decimals 7 (n % 10 ^ 7)) (digits_plain (decimals 7 (n % 10 ^ 7))
-    (decimals-digits 7 (n % 10 ^ 7) part)))
+steps_plain n small = grind (arith, mod-lt, joined_plain, decimal_plain, point_plain, digits_plain, decimals-digits)
 
 degrees_plain : (z : ℤ) → IsTrue (has_degrees_text z) → Plain (degrees_text z)
-degrees_plain (pos n) h =
-    let p = and_parts (is_degrees (pos n)) (n % unit7 == 0) h in
-    let most : n ≤ 58982400000000 = grind (arith, nat_tests) in
-    steps_plain (n / unit7) (omega arith)
-degrees_plain (negsuc n) h =
-    let p = and_parts (is_degrees (negsuc n)) (suc n % unit7 == 0) h in
-    let most : suc n ≤ 58982400000000 = grind (arith, nat_tests) in
-    steps_plain (suc n / unit7) (omega arith)
+degrees_plain (pos n) h = grind (arith, and_parts, nat_tests, steps_plain)
+degrees_plain (negsuc n) h = grind (arith, and_parts, nat_tests, steps_plain)
 
 place_plain : (p : Coord) → IsTrue (is_place p) → AllPlain (fields_of_coord p)
-place_plain p h =
-    let both = and_parts (is_coord p) (is_recordable_coord p) h in
-    let texts = and_parts (has_degrees_text p.lon) (has_degrees_text p.lat) both.1 in
-    degrees_plain p.lon texts.0 also degrees_plain p.lat texts.1 also tt
+place_plain p h = grind (arith, and_parts, degrees_plain)
 
 shape_plain : (ss : List ShapePoint) → IsTrue (list_all is_point ss) → AllPlain (fields_of_shape ss)
 shape_plain [] h = tt
@@ -98,25 +82,17 @@ shape_plain (s ∷ ss) h =
 
 numbers_plain : (xs : List ℕ) → IsTrue (list_all is_number xs) → AllPlain (map decimal xs)
 numbers_plain [] h = tt
-numbers_plain (x ∷ xs) h =
-    let p = and_parts (is_number x) (list_all is_number xs) h in
-    (number_plain x p.0, numbers_plain xs p.1)
+numbers_plain (x ∷ xs) h = grind (arith, and_parts, number_plain, numbers_plain xs)
 
 name_plain : (f : Field) → IsTrue (is_name f) → Plain f
 name_plain f h = (and_parts (nat_le 1 (length f) && nat_le (length f) 64) (list_all is_name_byte f) h).1
 
 attributes_plain : (frc fow len : ℕ) (ss : List ShapePoint) → IsTrue (are_attributes frc fow len ss) →
     AllPlain (decimal frc ∷ decimal fow ∷ decimal len ∷ fields_of_shape ss)
-attributes_plain frc fow len ss h =
-    let p = and_five (nat_le frc 7) (nat_le fow 7) (nat_le 1 len) (nat_le len 1000000) (list_all is_point ss) h in
-    bounded_plain frc 7 (omega arith) p.0 also bounded_plain fow 7 (omega arith) p.1
-    also bounded_plain len 1000000 (omega arith) p.3 also shape_plain ss p.4
+attributes_plain frc fow len ss h = grind (arith, and_five, nat_le, bounded_plain, shape_plain)
 
 path_plain : (n : List ℕ) (p : Path) → IsTrue (is_named_path n p) → AllPlain (fields_of_path n p)
-path_plain n p h =
-    let a = and_four (is_name n) (is_amount p.pos) (is_amount p.neg) (list_all is_number p.lines) h in
-    name_plain n a.0 also bounded_plain p.pos max32 (omega arith) a.1 also bounded_plain p.neg max32 (omega arith) a.2
-    also numbers_plain p.lines a.3
+path_plain n p h = grind (arith, and_four, name_plain, bounded_plain, numbers_plain)
 
 record_plain : (x : Change) → IsTrue (has_record x) → AllPlain (fields_of_change x)
 record_plain (On_map (Add_node v p)) h =
@@ -124,13 +100,8 @@ record_plain (On_map (Add_node v p)) h =
 record_plain (On_map (Move_node v p)) h =
     let a = and_parts (is_number v) (is_place p) h in (refl, (number_plain v a.0, place_plain p a.1))
 record_plain (On_map (Drop_node v)) h = (refl, (number_plain v h, tt))
-record_plain (On_map (Add_line x l)) h =
-    let a = and_four (is_number x) (is_number l.from) (is_number l.to) (are_attributes l.frc l.fow l.len l.shape) h in
-    refl also number_plain x a.0 also number_plain l.from a.1 also number_plain l.to a.2
-    also attributes_plain l.frc l.fow l.len l.shape a.3
-record_plain (On_map (Set_line x frc fow len ss)) h =
-    let a = and_parts (is_number x) (are_attributes frc fow len ss) h in
-    (refl, (number_plain x a.0, attributes_plain frc fow len ss a.1))
+record_plain (On_map (Add_line x l)) h = grind (arith, and_four, number_plain, attributes_plain)
+record_plain (On_map (Set_line x frc fow len ss)) h = grind (arith, and_parts, number_plain, attributes_plain)
 record_plain (On_map (Drop_line x)) h = (refl, (number_plain x h, tt))
 record_plain (Add_path n p) h = (refl, path_plain n p h)
 record_plain (Set_path n p) h = (refl, path_plain n p h)
@@ -158,9 +129,7 @@ fields_are (f ∷ fs) h = λ i. 44 ∷ (field_is f h.0 i ++ fields_are fs h.1 i)
 row_is : (fs : List Field) → 2 ≤ length fs → AllPlain fs →
     row_text default_writer fs ≡ join_with_byte 44 fs ++ 10 ∷ []
 unfolding is_blank
-row_is (f ∷ g ∷ fs) two h =
-    (λ i. (field_is f h.0 i ++ fields_are (g ∷ fs) h.1 i) ++ 10 ∷ [])
-    ∙ ap (λ (t : List ℕ). t ++ 10 ∷ []) (sym (joined f (g ∷ fs)))
+row_is (f ∷ g ∷ fs) two h = grind (arith, field_is, fields_are, joined)
 row_is fs two h = absurd (omega arith)
 
 two_fields : (x : Change) → 2 ≤ length (fields_of_change x)
@@ -188,21 +157,12 @@ all_read : (n : ℕ) (xs : List Change) → length xs < n → HaveRecords xs →
 unfolding records_from next_record
 all_read zero xs l h = absurd (omega arith)
 all_read (suc n) [] l h = refl
-all_read (suc n) (x ∷ xs) l h =
-    ap (records_next (records_from default_config n)) (read_as x (concat (map record_line xs)) h.0)
-    ∙ ap (λ (rs : List (List Field)). fields_of_change x ∷ rs) (all_read n xs (omega arith) h.1)
+all_read (suc n) (x ∷ xs) l h = grind (arith, read_as, all_read n xs)
 
 -- the text has at least a byte for each record
 longer : (xs : List Change) → length xs ≤ length (concat (map record_line xs))
 longer [] = omega arith
-longer (x ∷ xs) =
-    let l = longer xs in
-    let f = join_with_byte 44 (fields_of_change x) in
-    omega (
-      arith,
-      length-append (f ++ 10 ∷ []) (concat (map record_line xs)),
-      length-append f (10 ∷ []),
-    )
+longer (x ∷ xs) = grind (arith, length-append, longer xs)
 
 -- it begins with a letter
 no_mark : (xs : List Change) → strip_bom (concat (map record_line xs)) ≡ concat (map record_line xs)
@@ -213,7 +173,4 @@ no_mark xs = refl
 
 pub records_split : (xs : List Change) → HaveRecords xs →
     records default_config (strip_bom (concat (map record_line xs))) ≡ map fields_of_change xs
-records_split xs h =
-    let l = longer xs in
-    ap (records default_config) (no_mark xs)
-    ∙ all_read (length (concat (map record_line xs)) + 1) xs (omega arith) h
+records_split xs h = grind (arith, longer, no_mark, all_read)

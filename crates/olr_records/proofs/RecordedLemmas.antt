@@ -1,29 +1,30 @@
 -- Commands whose changes have records lead to contents that have records.
-use Rattle.std.proofs.Common.{inl, inr, ◌≡◌, ℕ, Bool, true, false, cond, not, List, [], ◌∷◌, ◌++◌, map, filter, length, Option}
-use Rattle.std.proofs.Common.{Some, None, is_some, unwrap_or, Result, Ok, Err, IsTrue, refl, sym, ap, ◌∙◌, subst, nat_cmp}
+use Rattle.std.proofs.Common.{rules}
+use Rattle.std.proofs.Common.{arith}
+use Rattle.std.proofs.Common.{◌≡◌, ℕ, Bool, true, not, List, [], ◌∷◌, ◌++◌, map, filter, length, Option}
+use Rattle.std.proofs.Common.{Some, None, is_some, unwrap_or, Result, Ok, Err, IsTrue, refl, sym, ◌∙◌, subst, nat_cmp}
 use Rattle.std.specs.Prelude.{nat_le, ◌==◌, ◌&&◌, IfSome}
 use Rattle.std.specs.List.{list_all, AllByRecursion}
 use Rattle.std.specs.FinMap.{FinMap, get, insert, remove, empty, entries, entries_sorted, get-entries, get-empty}
 use Rattle.std.specs.FinMap.Entries.{find}
-use Rattle.std.specs.Cmp.{unsigned_tied}
 use Rattle.std.proofs.lemmas.Bool.{and_parts, cases_eq, eq-eqb, ne_eqb}
 use Rattle.olr_spec.specs.Coordinates.{Coord, is_coord}
 use Rattle.olr_spec.specs.Map.{Map, MapFault, Line, no_line, start, end, Edit, edited, Add_node, Move_node, Drop_node, Add_line}
 use Rattle.olr_spec.specs.Map.{Set_line, Drop_line}
-use Rattle.olr_spec.specs.Extension.{Path, is_path}
+use Rattle.olr_spec.specs.Extension.{Path}
 use Rattle.olr_spec.proofs.EditLemmas.{Made, made_by, got_same, got_other, left_same, left_other}
-use Rattle.olr_commands.specs.State.{Named, Content, has_path, same_name, with_path, TextFault, Fault, Path_exists, No_path}
-use Rattle.olr_commands.specs.State.{Bad_path, Batch_full, Count_differs, when, Change, On_map, Add_path, Set_path, Drop_path}
+use Rattle.olr_commands.specs.State.{Named, Content, has_path, with_path, Fault, No_path}
+use Rattle.olr_commands.specs.State.{Batch_full, Count_differs, Change, On_map, Add_path, Set_path, Drop_path}
 use Rattle.olr_commands.specs.State.{with_map, with_change, after, Command, Make, Show, Not_a_record, no_content, is_recordable}
 use Rattle.olr_commands.specs.State.{start_state, Report, Dump, Explain, Begin, Commit, Abort, State, full, at_once, into_batch}
-use Rattle.olr_commands.specs.State.{text_fault, unless_fault, step}
+use Rattle.olr_commands.specs.State.{text_fault, step}
 use Rattle.olr_commands.specs.Recordable.{is_name, is_recordable_coord, is_recordable_shape}
 use Rattle.olr_commands.specs.Dump.{node_change, line_change, path_change}
 use Rattle.olr_commands.proofs.DumpLemmas.{of_entries}
-use Rattle.olr_commands.proofs.StateLemmas.{when_ok, next_ok, after_push}
-use Rattle.olr_records.specs.Recorded.{is_number, is_amount, is_place, is_point, are_attributes, has_record, Recorded}
+use Rattle.olr_commands.proofs.StateLemmas.{when_ok, accepted, passed, explain, next_ok, after_push}
+use Rattle.olr_records.specs.Recorded.{is_number, is_amount, is_place, are_attributes, has_record, Recorded}
 use Rattle.olr_records.specs.Recorded.{IsRecorded, StaysRecorded}
-use Rattle.olr_records.proofs.TestLemmas.{and_four, and_five, all_weaker, ◌also◌}
+use Rattle.olr_records.proofs.TestLemmas.{and_four, and_five, all_weaker}
 
 -- ---- lists
 
@@ -38,11 +39,7 @@ module _ {X : Type 0} (P : X → Type 0) where
 
   left_all : (test : X → Bool) (xs : List X) → AllByRecursion P xs → AllByRecursion P (filter test xs)
   left_all test [] h = tt
-  left_all test (x ∷ xs) h =
-      elim (test x) as (λ b. AllByRecursion P (cond b (x ∷ filter test xs) (filter test xs))) [
-        | true ↦ (h.0, left_all test xs h.1)
-        | false ↦ left_all test xs h.1
-      ]
+  left_all test (x ∷ xs) h = grind (arith, left_all test xs h.1)
 
 module _ {X Y : Type 0} (f : X → Y) (P : Y → Type 0) where
   of_mapped : (xs : List X) → AllByRecursion P (map f xs) → AllByRecursion (λ x. P (f x)) xs
@@ -58,19 +55,7 @@ module _ {X Y : Type 0} (f : X → Y) (P : Y → Type 0) where
 module _ {X : Type 0} (P : ℕ × X → Type 0) where
   found : (k : ℕ) (v : X) (es : List (ℕ × X)) → AllByRecursion P es → find nat_cmp k es ≡ Some v → P (k, v)
   found k v [] h is = absurd cc
-  found k v (e ∷ es) h is =
-      elim (cases_eq k e.0) [
-        | inl same ↦
-            let here : ◌≡◌ {A = Option X} (Some e.1) (Some v) =
-            sym (ap (λ (b : Bool). cond b (Some e.1) (find nat_cmp k es)) (unsigned_tied k e.0 ∙ eq-eqb k e.0 same))
-            ∙ is in
-            let value : e.1 ≡ v = cc in
-            subst P (λ i. (sym same i, value i)) h.0
-        | inr ne ↦
-            found k v es h.1
-            (sym (ap (λ (b : Bool). cond b (Some e.1) (find nat_cmp k es)) (unsigned_tied k e.0 ∙ ne_eqb k e.0 ne))
-            ∙ is)
-      ]
+  found k v (e ∷ es) h is = grind (arith, cases_eq, find, nat_cmp, eq-eqb, ne_eqb, found k v es h.1)
 
   all_at : (m : FinMap nat_cmp X) → AllByRecursion P (entries m) → (k : ℕ) (v : X) → get m k ≡ Some v → P (k, v)
   all_at m h k v is = found k v (entries m) h (sym (get-entries m k) ∙ is)
@@ -81,24 +66,10 @@ module _ {X : Type 0} (P : ℕ × X → Type 0) where
 
   inserted : (m : FinMap nat_cmp X) (k : ℕ) (v : X) → AllByRecursion P (entries m) → P (k, v) →
       AllByRecursion P (entries (insert m k v))
-  inserted m k v h p =
-      all_entries (insert m k v) (λ q w is. elim (cases_eq q k) [
-        | inl same ↦
-            let here : ◌≡◌ {A = Option X} (Some v) (Some w) =
-            sym (ap (get (insert m k v)) same ∙ got_same m k v) ∙ is in
-            let value : v ≡ w = cc in
-            subst P (λ i. (sym same i, value i)) p
-        | inr ne ↦ all_at m h q w (sym (got_other m k v q ne) ∙ is)
-      ])
+  inserted m k v h p = grind (arith, all_entries, insert, cases_eq, get, got_same, all_at, got_other)
 
   removed : (m : FinMap nat_cmp X) (k : ℕ) → AllByRecursion P (entries m) → AllByRecursion P (entries (remove m k))
-  removed m k h =
-      all_entries (remove m k) (λ q w is. elim (cases_eq q k) [
-        | inl same ↦
-            absurd (let no : ◌≡◌ {A = Option X} None (Some w) =
-            sym (ap (get (remove m k)) same ∙ left_same m k) ∙ is in cc)
-        | inr ne ↦ all_at m h q w (sym (left_other m k q ne) ∙ is)
-      ])
+  removed m k h = grind (arith, all_entries, remove, cases_eq, get, left_same, all_at, left_other)
 
 -- ---- contents
 
@@ -130,11 +101,7 @@ parts_of c h =
     )
 
 of_parts : (c : Content) → MapRecorded c.map → AllByRecursion HasPath c.paths → IsRecorded c
-of_parts c m h =
-    join_all Has (map node_change (entries c.map.nodes)) _
-    (to_mapped node_change Has (entries c.map.nodes) m.nodes)
-    (join_all Has (map line_change (entries c.map.lines)) (map path_change c.paths)
-    (to_mapped line_change Has (entries c.map.lines) m.lines) (to_mapped path_change Has c.paths h))
+of_parts c m h = search (rules, arith, join_all, entries, to_mapped)
 
 line_parts : (x : ℕ) (l : Line) → HasLine (x, l) → IsTrue (is_number x) × IsTrue (is_number l.from)
     × IsTrue (is_number l.to) × IsTrue (are_attributes l.frc l.fow l.len l.shape)
@@ -171,13 +138,6 @@ map_stays M N (Set_line x frc fow len ss) m h made =
 map_stays M N (Drop_line x) m h made =
     subst MapRecorded made.1 (record { nodes = m.nodes; lines = removed HasLine M.lines x m.lines })
 
--- what is accepted, at once or if a test passes
-accepted : {A : Type 0} (P : A → Type 0) (a b : A) → ◌≡◌ {A = Result A Fault} (Ok a) (Ok b) → P a → P b
-accepted P a b e h = let same : a ≡ b = cc in subst P same h
-
-passed : {A : Type 0} (P : A → Type 0) (t : Bool) (f : Fault) (a b : A) → when t f (Ok a) ≡ Ok b → P a → P b
-passed P t f a b e h = accepted P a b (when_ok t f (Ok a) b e).1 h
-
 edit_stays : (c d : Content) (e : Edit) (r : Result Map MapFault) → edited c.map e ≡ r → IsRecorded c →
     Has (On_map e) → with_map c r ≡ Ok d → IsRecorded d
 edit_stays c d e (Ok m) is i h to =
@@ -190,35 +150,13 @@ edit_stays c d e (Err f) is i h to = absurd cc
 set_stays : (name : List ℕ) (path : Path) (ps : List Named) → Has (Set_path name path) → AllByRecursion HasPath ps →
     AllByRecursion HasPath (map (with_path name path) ps)
 set_stays name path [] h g = tt
-set_stays name path (p ∷ ps) h g =
-    let old = path_parts p g.0 in
-    let new = path_parts (record { name = name; path = path }) h in
-    let has : HasPath (record { name = p.name; path = path }) = λ i. old.0 i && new.1 i && new.2 i && new.3 i in
-    elim (same_name p.name name) as (λ x. HasPath (cond x (record { name = p.name; path = path }) p))
-    [ true ↦ has | false ↦ g.0 ]
-    also set_stays name path ps h g.1
+set_stays name path (p ∷ ps) h g = grind (arith, path_parts, set_stays name path ps h g.1)
 
 change_stays : (c d : Content) (x : Change) → IsRecorded c → Has x → with_change c x ≡ Ok d → IsRecorded d
 change_stays c d (On_map e) i h is = edit_stays c d e (edited c.map e) refl i h is
-change_stays c d (Add_path name path) i h is =
-    let n : Named = record { name = name; path = path } in
-    let to : Content = record c { paths = c.paths ++ n ∷ [] } in
-    let p = when_ok (has_path c name) Path_exists (when (not (is_path path.lines)) Bad_path (Ok to)) d is in
-    let parts = parts_of c i in
-    passed IsRecorded (not (is_path path.lines)) Bad_path to d p.1
-    (of_parts to parts.0 (join_all HasPath c.paths (n ∷ []) parts.1 (h, tt)))
-change_stays c d (Set_path name path) i h is =
-    let to : Content = record c { paths = map (with_path name path) c.paths } in
-    let p = when_ok (not (has_path c name)) No_path (when (not (is_path path.lines)) Bad_path (Ok to)) d is in
-    let parts = parts_of c i in
-    passed IsRecorded (not (is_path path.lines)) Bad_path to d p.1
-    (of_parts to parts.0 (set_stays name path c.paths h parts.1))
-change_stays c d (Drop_path name) i h is =
-    let test : Named → Bool = λ p. not (same_name p.name name) in
-    let to : Content = record c { paths = filter test c.paths } in
-    let parts = parts_of c i in
-    passed IsRecorded (not (has_path c name)) No_path to d is
-    (of_parts to parts.0 (left_all HasPath test c.paths parts.1))
+change_stays c d (Add_path name path) i h is = grind (arith, when_ok, parts_of, passed, of_parts, join_all)
+change_stays c d (Set_path name path) i h is = grind (arith, when_ok, parts_of, passed, of_parts, set_stays)
+change_stays c d (Drop_path name) i h is = grind (arith, parts_of, passed, of_parts, left_all)
 
 -- ---- commands
 
@@ -231,15 +169,8 @@ make_stays c x (Err f) t is i h to = absurd cc
 hold_stays : (c : Content) (xs : List Change) (x : Change) (r : Result Content Fault) (t : State) →
     with_change (after c xs) x ≡ r → IsRecorded c → IsRecorded (after c xs) → Has x →
     into_batch c (xs ++ x ∷ []) r ≡ Ok t → StaysRecorded t
-hold_stays c xs x (Ok d) t is i k h to =
-    let there : after c (xs ++ x ∷ []) ≡ d = after_push c xs x ∙ next_ok (after c xs) d x is in
-    accepted StaysRecorded (record { content = c; batch = Some (xs ++ x ∷ []) }) t to
-    (i, subst IsRecorded (sym there) (change_stays (after c xs) d x k h is))
+hold_stays c xs x (Ok d) t is i k h to = grind (arith, after_push, next_ok, accepted, change_stays)
 hold_stays c xs x (Err f) t is i k h to = absurd cc
-
-text_stays : (s t : State) (o : Option TextFault) → StaysRecorded s → unless_fault s o ≡ Ok t → StaysRecorded t
-text_stays s t None i is = accepted StaysRecorded s t is i
-text_stays s t (Some f) i is = absurd cc
 
 pub step_stays : (s t : State) (c : Command) → StaysRecorded s → Recorded c → step s c ≡ Ok t → StaysRecorded t
 step_stays s t c i h is = by_batch s.content s.batch t c i.0 i.1 h is where
@@ -257,7 +188,7 @@ step_stays s t c i h is = by_batch s.content s.batch t c i.0 i.1 h is where
   by_batch c None t Dump i k h is =
       passed StaysRecorded (not (is_recordable c)) Not_a_record (record { content = c; batch = None }) t is (i, k)
   by_batch c b t (Explain text) i k h is =
-      text_stays (record { content = c; batch = b }) t (text_fault text) (i, k) is
+      explain StaysRecorded (record { content = c; batch = b }) t (text_fault text) (i, k) is
   by_batch c None t Begin i k h is = accepted StaysRecorded (record { content = c; batch = Some [] }) t is (i, i)
   by_batch c (Some xs) t (Commit count) i k h is =
       passed StaysRecorded (not (length xs == count)) Count_differs (record { content = after c xs; batch = None }) t is
@@ -289,13 +220,7 @@ place_dumps : (p : Coord) → IsTrue (is_place p) → IsTrue (is_recordable_coor
 place_dumps p h = (and_parts (is_coord p) (is_recordable_coord p) h).1
 
 line_dumps : (e : ℕ × Line) → HasLine e → IsTrue (is_recordable_shape e.1.shape)
-line_dumps e h =
-    let l = e.1 in
-    let p =
-    and_five (nat_le l.frc 7) (nat_le l.fow 7) (nat_le 1 l.len) (nat_le l.len 1000000) (list_all is_point l.shape)
-    (line_parts e.0 l h).3 in
-    all_weaker is_point (λ s. is_recordable_coord s.place)
-    (λ s g. place_dumps s.place (and_parts _ (is_place s.place) g).1) l.shape p.4
+line_dumps e h = grind (arith, and_five, line_parts, all_weaker, place_dumps, and_parts)
 
 pub recorded_dumps : (c : Content) → IsRecorded c → IsTrue (is_recordable c)
 recorded_dumps c h =

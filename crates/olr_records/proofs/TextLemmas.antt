@@ -1,12 +1,12 @@
 -- Lines, and texts of several lines.
-use Rattle.std.proofs.Common.{◌≡◌, ℕ, ◌+◌, ◌<◌, List, [], ◌∷◌, ◌++◌, length, take, get_or, map, refl, sym, ap, ◌∙◌}
+use Rattle.std.proofs.Common.{◌≡◌, ℕ, ◌+◌, ◌<◌, List, [], ◌∷◌, ◌++◌, length, take, get_or, map, refl, ap}
 use Rattle.std.proofs.Common.{append_assoc, arith, ◌≤◌, ◌^◌}
 use Rattle.std.specs.Prelude.{codes, decimal}
 use Rattle.std.specs.List.{concat}
 use Rattle.std.proofs.lemmas.Fmt.{length-decimal-le}
 use Rattle.std.proofs.lemmas.List.{append-nil, length-append, length-map, map-append, take_more}
 use Rattle.std.proofs.lemmas.List.Folds.{concat-append}
-use Rattle.olr_spec.specs.Reference.{Reference}
+use Rattle.olr_spec.specs.Reference.{Middle, Reference}
 use Rattle.olr_commands.specs.Words.{entry_of}
 use Rattle.olr_commands.specs.declared.reply.Entry.{Entry}
 use Rattle.olr_commands.specs.RecordText.{after_commas}
@@ -15,17 +15,14 @@ use Rattle.olr_records.specs.ReplyText.{reply_line, entry_line, accepted_text, f
 use Rattle.olr_records.specs.ReplyText.{reference_lines}
 
 -- a line of a word, two fields and more
-pub fields-line : (t w a b : List ℕ) (fs : List (List ℕ))
+pub fields_line_of : (t w a b : List ℕ) (fs : List (List ℕ))
     → (t ++ w) ++ 44 ∷ (a ++ 44 ∷ (b ++ (after_commas fs ++ 10 ∷ []))) ≡ t ++ reply_line (w ∷ a ∷ b ∷ fs)
-fields-line t w a b fs =
-    let inside : (t ++ w) ++ 44 ∷ (a ++ 44 ∷ (b ++ (after_commas fs ++ 10 ∷ []))) ≡ t
-    ++ ((w ++ after_commas (a ∷ b ∷ fs)) ++ 10 ∷ []) = simp append_assoc refl in
-    inside ∙ ap (λ (r : List ℕ). t ++ (r ++ 10 ∷ [])) (sym (joined w (a ∷ b ∷ fs)))
+fields_line_of t w a b fs = grind (arith, append_assoc, joined)
 
 -- the lines with those of one item more
-pub lines-more : {A : Type 0} (f : A → List ℕ) (t : List ℕ) (xs : List A) (k : ℕ) (d : A) → k < length xs
+lines_more : {A : Type 0} (f : A → List ℕ) (t : List ℕ) (xs : List A) (k : ℕ) (d : A) → k < length xs
     → (t ++ concat (map f (take k xs))) ++ f (get_or xs k d) ≡ t ++ concat (map f (take (k + 1) xs))
-lines-more f t xs k d lt =
+lines_more f t xs k d lt =
     let last : concat (f (get_or xs k d) ∷ []) ≡ f (get_or xs k d) = append-nil (f (get_or xs k d)) in
     rw (
       take_more xs k d lt,
@@ -35,40 +32,37 @@ lines-more f t xs k d lt =
     )
     (append_assoc t (concat (map f (take k xs))) (f (get_or xs k d)))
 
-pub entry-lines : (es : List Entry) → map (λ e. entry_line (entry_of e)) es ≡ map entry_line (map entry_of es)
-entry-lines [] = refl
-entry-lines (e ∷ es) = ap (λ (ls : List (List ℕ)). entry_line (entry_of e) ∷ ls) (entry-lines es)
+pub entries_more : (t : List ℕ) (es : List Entry) (k : ℕ) (d : Entry) → k < length es
+    → (t ++ concat (map (λ e. entry_line (entry_of e)) (take k es))) ++ entry_line (entry_of (get_or es k d))
+    ≡ t ++ concat (map (λ e. entry_line (entry_of e)) (take (k + 1) es))
+entries_more t es k d lt = lines_more (λ e. entry_line (entry_of e)) t es k d lt
+
+pub points_more : (t : List ℕ) (ps : List Middle) (k : ℕ) (d : Middle) → k < length ps
+    → (t ++ concat (map middle_line (take k ps))) ++ middle_line (get_or ps k d)
+    ≡ t ++ concat (map middle_line (take (k + 1) ps))
+points_more t ps k d lt = lines_more middle_line t ps k d lt
+
+pub entry_lines : (es : List Entry) → map (λ e. entry_line (entry_of e)) es ≡ map entry_line (map entry_of es)
+entry_lines [] = refl
+entry_lines (e ∷ es) = ap (λ (ls : List (List ℕ)). entry_line (entry_of e) ∷ ls) (entry_lines es)
 
 -- the text of a reference, part by part
 parts : (t l f x : List ℕ) (m p n : List (List ℕ)) →
     (((((t ++ l) ++ f) ++ concat m) ++ x) ++ concat p) ++ concat n ≡ t ++ (l ++ concat (f ∷ (m ++ x ∷ (p ++ n))))
 parts t l f x m p n = rw (concat-append m (x ∷ (p ++ n)), concat-append p n) (simp append_assoc refl)
 
-pub reference-text : (t : List ℕ) (r : Reference) (n : ℕ)
+pub reference_text : (t : List ℕ) (r : Reference) (n : ℕ)
     → n ≡ length r.middle + 2
     + (length (offset_lines (codes "positive") r.pos) + length (offset_lines (codes "negative") r.neg))
     → (((((t ++ reply_line (codes "ok" ∷ decimal n ∷ [])) ++ first_line r.first) ++ concat (map middle_line r.middle))
     ++ last_line r.last)
     ++ concat (offset_lines (codes "positive") r.pos)) ++ concat (offset_lines (codes "negative") r.neg)
     ≡ t ++ accepted_text (reference_lines r)
-reference-text t r n e =
-    let middle = map middle_line r.middle in
-    let positive = offset_lines (codes "positive") r.pos in
-    let negative = offset_lines (codes "negative") r.neg in
-    let count : n ≡ length (reference_lines r) =
-    omega (
-      arith,
-      length-map r.middle middle_line,
-      length-append middle (last_line r.last ∷ (positive ++ negative)),
-      length-append positive negative,
-    )
-    in
-    parts t (reply_line (codes "ok" ∷ decimal n ∷ [])) (first_line r.first) (last_line r.last) middle positive negative
-    ∙ ap (λ (k : ℕ). t ++ (reply_line (codes "ok" ∷ decimal k ∷ []) ++ concat (reference_lines r))) count
+reference_text t r n e = grind (arith, length-map, length-append, parts)
 
 -- a byte takes at most three digits, and a number of 32 bits at most ten
-pub byte-digits : (n : ℕ) → n < 256 → length (decimal n) ≤ 3
-byte-digits n small = length-decimal-le 3 n (omega arith) (omega arith) (omega arith)
+pub byte_digits : (n : ℕ) → n < 256 → length (decimal n) ≤ 3
+byte_digits n small = length-decimal-le 3 n (omega arith) (omega arith) (omega arith)
 
-pub word-digits : (n : ℕ) → n < 2 ^ 32 → length (decimal n) ≤ 10
-word-digits n small = length-decimal-le 10 n (omega arith) (omega arith) (omega arith)
+pub word_digits : (n : ℕ) → n < 2 ^ 32 → length (decimal n) ≤ 10
+word_digits n small = length-decimal-le 10 n (omega arith) (omega arith) (omega arith)

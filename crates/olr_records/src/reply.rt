@@ -31,6 +31,7 @@ pub fn reply_text(alloc: Global, reply: &Reply) -> Result<Vec<u8>, AllocError>
 }
 
 /// Appends the lines of a reply to an accepted command to a text. It fails if an allocation fails.
+#[tactic(auto, using(crate::proofs::TextLemmas::entry_lines))]
 pub fn append_reply(text: &mut Vec<u8>, reply: &Reply) -> Result<(), AllocError>
     ensures { OnOk result (text.new.items ≡ text.old.items ++ texts.reply_text (reply_of reply.now)) }
 {
@@ -63,6 +64,7 @@ fn push_paths(text: &mut Vec<u8>, entries: &[Entry]) -> Result<(), AllocError>
 }
 
 /// The lines of these paths.
+#[tactic(auto, using(crate::proofs::TextLemmas::entries_more))]
 fn push_entries(text: &mut Vec<u8>, entries: &[Entry]) -> Result<(), AllocError>
     ensures { OnOk result (text.new.items
         ≡ text.old.items ++ concat (map (λ e. texts.entry_line (entry_of e)) entries.now)) }
@@ -115,6 +117,7 @@ fn push_refusal(text: &mut Vec<u8>, refusal: Refusal) -> Result<(), AllocError>
 }
 
 /// The number of lines, and the fields of a reference, LRP by LRP.
+#[tactic(auto, using(crate::proofs::TextLemmas::reference_text))]
 fn push_reference(text: &mut Vec<u8>, reference: &Reference) -> Result<(), AllocError>
     ensures { OnOk result (text.new.items
         ≡ text.old.items ++ texts.accepted_text (texts.reference_lines reference.now)) }
@@ -151,6 +154,7 @@ fn offset_count(offset: Option<u8>) -> usize
 }
 
 /// The lines of the LRPs between the first and the last.
+#[tactic(auto, using(crate::proofs::TextLemmas::points_more))]
 fn push_points(text: &mut Vec<u8>, points: &[Middle]) -> Result<(), AllocError>
     ensures { OnOk result (text.new.items
         ≡ text.old.items ++ concat (map texts.middle_line points.now)) }

@@ -25,6 +25,7 @@ fn put_byte(line: &mut [u8], end: usize, byte: u8) -> usize
 }
 
 /// Writes a number before index `end`, and returns the index where it starts. Most numbers of an LRP have one digit.
+#[tactic(auto, using(crate::proofs::TextLemmas::byte_digits, std::proofs::lemmas::Fmt::decimal_digit))]
 fn put_byte_number(line: &mut [u8], end: usize, number: u8) -> usize
     requires within { end ≤ length line.old }
     requires room { 3 ≤ end }
@@ -39,6 +40,7 @@ fn put_byte_number(line: &mut [u8], end: usize, number: u8) -> usize
 }
 
 /// Writes a comma and a number before index `end`, and returns the index where they start.
+#[tactic(auto, using(crate::proofs::TextLemmas::byte_digits))]
 fn put_number(line: &mut [u8], end: usize, number: u8) -> usize
     requires within { end ≤ length line.old }
     requires room { 4 ≤ end }
@@ -52,6 +54,7 @@ fn put_number(line: &mut [u8], end: usize, number: u8) -> usize
 }
 
 /// Writes a comma and a coordinate before index `end`, and returns the index where they start.
+#[tactic(auto, using(crate::proofs::TextLemmas::word_digits))]
 fn put_coordinate(line: &mut [u8], end: usize, coordinate: i32) -> usize
     requires within { end ≤ length line.old }
     requires room { 12 ≤ end }

@@ -1,7 +1,6 @@
-use Rattle.std.proofs.Common.{sym, ◌∙◌}
+use Rattle.std.proofs.Common.{arith}
 use Rattle.olr_records.proofs.FieldLemmas.{name-text}
 use Rattle.olr_records.proofs.fields.name.Goals as goal
 
 pub from_utf8_unchecked-text-requires : goal.from_utf8_unchecked-text-requires
-from_utf8_unchecked-text-requires c =
-    name-text c.args.field.now (sym c.is_name.ensures ∙ c.if-not-is_name.false)
+from_utf8_unchecked-text-requires c = grind (arith, name-text)

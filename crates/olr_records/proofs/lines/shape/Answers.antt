@@ -1,4 +1,5 @@
-use Rattle.std.proofs.Common.{List, ℕ, ◌+◌, ◌<◌, ◌≤◌, [], drop, length, Ok, subst, arith}
+use Rattle.std.proofs.Common.{rules}
+use Rattle.std.proofs.Common.{List, ℕ, ◌+◌, ◌<◌, ◌≤◌, drop, length, subst, arith}
 use Rattle.std.specs.Prelude.{⊤}
 use Rattle.std.proofs.lemmas.List.{length-drop}
 use Rattle.csv.specs.Records.{fields_of}
@@ -9,10 +10,7 @@ use Rattle.olr_records.proofs.LoopLemmas.{at, with, nothing-onto, shape-end, sha
 use Rattle.olr_records.proofs.lines.shape.Goals as goal
 
 pub loop-k-init : goal.loop-k-init
-loop-k-init c = record {
-  within = c.requires;
-  gathered = (Ok [], c.room-points.ensures, nothing-onto (shape (drop c.args.start (fields_of c.args.fields.now))));
-}
+loop-k-init c = search (rules, arith, nothing-onto)
 
 pub loop-k-preserved : goal.loop-k-preserved
 loop-k-preserved c =
