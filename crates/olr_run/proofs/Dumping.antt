@@ -1,14 +1,14 @@
 -- Dumps in runs of records.
 use Rattle.std.proofs.Common.{inl, inr, ◌≡◌, ◌≢◌, ℕ, Bool, true, false, List, [], ◌∷◌, ◌++◌, map, length, None, Result, Ok, Err}
 use Rattle.std.proofs.Common.{IsTrue, refl, sym, ap, ◌∙◌, subst, arith}
-use Rattle.std.specs.Prelude.{◌||◌, IfErr, IsFalse, is_err, if◌then◌else◌}
+use Rattle.std.specs.Prelude.{◌||◌, IsFalse, is_err}
 use Rattle.std.specs.List.{list_any, concat}
 use Rattle.std.proofs.lemmas.Bool.{both_ways, or_parts}
 use Rattle.std.proofs.lemmas.List.{length-map}
 use Rattle.olr_commands.specs.State.{Content, IsContent, Fault, Memory, Not_a_record, Change, Command, Make, Dump, State}
 use Rattle.olr_commands.specs.State.{is_recordable, start_state, step}
 use Rattle.olr_commands.specs.RecordText.{fields_line, fields_of_change, record_line}
-use Rattle.olr_commands.specs.Dump.{dump_changes, dump_lines, steps_then, steps}
+use Rattle.olr_commands.specs.Dump.{dump_lines, steps_then, steps}
 use Rattle.olr_commands.specs.Reply.{Reply, IsReply, Outcome, IsRefusal, ByState, Lacks, lacks_memory}
 use Rattle.olr_commands.proofs.DumpLemmas.{dumps_run}
 use Rattle.olr_records.specs.Records.{Field, Bad_form, Out_of_range, Read, read}
@@ -20,7 +20,6 @@ use Rattle.olr_records.proofs.RecordedLemmas.{step_stays, recorded_dumps}
 use Rattle.olr_records.proofs.WrittenLemmas.{record_back}
 use Rattle.olr_run.specs.Output.{records_of, CommandOutcome, RecordOutcome, SoundOutcomes, Builds, IsDumpOf}
 use Rattle.olr_run.specs.Output.{Dumps, Outcomes, AllHadMemory, any_refused, AreAnswered, Ran, Status, All_accepted}
-use Rattle.olr_run.specs.Output.{Some_refused, Stopped}
 use Rattle.olr_run.proofs.Lacking.{IsOwn, step_own}
 
 -- ---- the text
@@ -36,20 +35,7 @@ all_lines [] = refl
 all_lines (x ∷ xs) = ap (λ (ls : List (List ℕ)). record_line x ∷ ls) (all_lines xs)
 
 builds : (c : Content) → IsContent c → IsRecorded c → Builds (concat (dump_lines c)) (length (dump_lines c)) c
-builds c sound h =
-    let xs = dump_changes c in
-    let split : records_of (concat (map record_line xs)) ≡ map fields_of_change xs = records_split xs h in
-    record {
-      lines =
-          ap concat (all_lines xs)
-          ∙ sym (ap (λ (rs : List (List Field)). concat (map fields_line rs)) split);
-      count =
-          length-map xs record_line ∙ sym (length-map xs fields_of_change)
-          ∙ sym (ap (λ (rs : List (List Field)). length rs) split);
-      commands = map (λ x. Make x) xs;
-      decoded = ap (λ (rs : List (List Field)). map read rs) split ∙ all_back xs h;
-      leads = dumps_run c sound;
-    }
+builds c sound h = grind (arith, records_split, all_lines, length-map, all_back, dumps_run)
 
 -- ---- one record
 
@@ -57,9 +43,7 @@ builds c sound h =
 of_reply : (s t : State) (c : Command) (reply : Reply) → IsContent s.content → IsRecorded s.content →
     IsReply s c t reply → c ≡ Dump →
     (n : ℕ) × (text : List ℕ) × (reply_text reply ≡ count_line n ++ text) × Builds text n s.content
-of_reply s t c reply sound h is same =
-    let answer = subst (λ (x : Command). IsReply s x t reply) same is in
-    (length (dump_lines s.content), concat (dump_lines s.content), ap reply_text answer, builds s.content sound h)
+of_reply s t c reply sound h is same = grind (arith, builds)
 
 not_by_state : (b : Bool) (f : Fault) → b ≡ true → IsOwn b f → f ≢ Not_a_record
 not_by_state b f is h e =
@@ -67,20 +51,12 @@ not_by_state b f is h e =
 
 not_refused : (s : State) (c : Command) (f : Fault) → IsTrue (is_recordable s.content) → IsRefusal s c f →
     f ≢ Not_a_record
-not_refused s c f can (ByState e) =
-    not_by_state (is_recordable s.content) f can
-    (subst (λ (r : Result State Fault). IfErr r (IsOwn (is_recordable s.content))) e
-    (step_own s.content s.batch c))
+not_refused s c f can (ByState e) = grind (arith, not_by_state, step_own)
 not_refused s c f can (Lacks is may) = λ e. let no : Memory ≡ Not_a_record = sym is ∙ e in cc
 
 command_dumps : (s t : State) (r : Read Command) (fields : List Field) (o : Outcome) → read fields ≡ r →
     IsContent s.content → StaysRecorded s → CommandOutcome s r o t → IsDumpOf s fields o × StaysRecorded t
-command_dumps s t (Ok c) fields (Ok reply) is sound h p = (
-  (λ dump.
-      let same : c ≡ Dump = let both : ◌≡◌ {A = Read Command} (Ok c) (Ok Dump) = sym is ∙ dump in cc in
-      of_reply s t c reply sound h.0 p.1 same),
-  step_stays s t c h (read_recorded fields c is) p.0,
-)
+command_dumps s t (Ok c) fields (Ok reply) is sound h p = grind (arith, of_reply, step_stays, read_recorded)
 command_dumps s t (Ok c) fields (Err fault) is sound h p =
     (not_refused s c fault (recorded_dumps s.content h.0) p.0, subst StaysRecorded (sym p.1) h)
 command_dumps s t (Err f) fields (Ok reply) is sound h p = absurd (let no = p.0 in cc)
@@ -125,14 +101,8 @@ refused_not s v c f is had (Lacks memory may) =
 
 command_goes : (s t v : State) (r : Read Command) (c : Command) (o : Outcome) → r ≡ Ok c → step s c ≡ Ok v →
     IsFalse (lacks_memory o) → CommandOutcome s r o t → (is_err o ≡ false) × (t ≡ v)
-command_goes s t v (Ok d) c (Ok reply) e is had p =
-    let same : d ≡ c = cc in
-    let there : ◌≡◌ {A = Result State Fault} (Ok t) (Ok v) =
-    sym p.0 ∙ ap (step s) same ∙ is in
-    (refl, (let to : t ≡ v = cc in to))
-command_goes s t v (Ok d) c (Err f) e is had p =
-    let same : d ≡ c = cc in
-    absurd (refused_not s v d f (ap (step s) same ∙ is) had p.0)
+command_goes s t v (Ok d) c (Ok reply) e is had p = grind arith
+command_goes s t v (Ok d) c (Err f) e is had p = grind (arith, refused_not)
 command_goes s t v (Err g) c o e is had p = absurd cc
 
 record_goes : (s t v : State) (fields : List Field) (c : Command) (o : Outcome) → read fields ≡ Ok c →
@@ -169,8 +139,4 @@ ended false rs os none (inr h) = absurd cc
 pub dumps_reload : (text : List ℕ) (n : ℕ) (c : Content) (stop : Bool) (t : State) (w : List ℕ) (end : Status) →
     Builds text n c → (p : Ran Outcomes stop start_state (records_of text) t w end) → AllHadMemory p.outcomes →
     (end ≡ All_accepted) × (t ≡ record { content = c; batch = None })
-dumps_reload text n c stop t w end b p had =
-    let all = all_go start_state _ t b.commands (records_of text) p.outcomes b.decoded b.leads had p.each in (
-      p.ended ∙ ap (λ (x : Bool). if x then (if stop then Stopped else Some_refused) else All_accepted) all.0,
-      all.1 (ended stop (records_of text) p.outcomes all.0 p.all),
-    )
+dumps_reload text n c stop t w end b p had = grind (arith, all_go, ended)

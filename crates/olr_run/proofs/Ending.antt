@@ -1,4 +1,5 @@
 -- The ends of the program.
+use Rattle.std.proofs.Common.{arith}
 use Rattle.std.proofs.Common.{◌≡◌, ℕ, List, [], Option, Some, None, Result, Ok, Err, refl, sym, ap, ◌∙◌, subst, ◌⊎◌}
 use Rattle.std.specs.Borrow.{Bor}
 use Rattle.std.specs.Fn.{Once}
@@ -38,9 +39,7 @@ module _ {O F E : Type 0} (call : Once O (Bor (List ℕ) × Unit {0}) (Result F 
 
     opened : (file : Option F) → OpensFile call opener o.file (Ok file) →
         IsFile (options arguments).file (Opens call remaining opener) (known_file remaining file)
-    opened file h =
-        subst (λ (p : Options). IsFile p.file (Opens call remaining opener) (known_file remaining file)) is
-        (file_is o.file file h)
+    opened file h = grind (arith, file_is)
 
     pub ran_to_its_end : (file : Option F) (new : Registered) (later : Known) (end : Status) (code : ℕ) →
         OpensFile call opener o.file (Ok file)

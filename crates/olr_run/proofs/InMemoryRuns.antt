@@ -1,4 +1,6 @@
 -- Runs over bytes in memory are runs of a csv reader that has all of its bytes.
+use Rattle.std.proofs.Common.{arith}
+use Rattle.std.proofs.Common.{rules}
 use Rattle.std.proofs.Common.{◌≡◌, ◌∙◌, ℕ, Bool, List, [], ◌∷◌, Option, Some, None, true, false, refl, ap, inl}
 use Rattle.csv.specs.Reading.{ReadRecord, ReadsNext, default_config, source_of, pending_of, strip_bom}
 use Rattle.csv.specs.declared.reader.Reader.{Reader}
@@ -91,23 +93,12 @@ module _ {W : Type 0} (contents : W → Known) where
   history_as : (a b : InMemory × W) (es : List Event) → History (OfBytes contents) a es b
       → History (OfReader all_known contents) (reader_of a.0, a.1) es (reader_of b.0, b.1)
   history_as a b [] h = ap (λ (p : InMemory × W). (reader_of p.0, p.1)) h
-  history_as a b (e ∷ es) h = (
-    (reader_of h.0.0, h.0.1),
-    happens_as a.0 h.0.0 (contents a.1) (contents h.0.1) e h.1,
-    history_as h.0 b es h.2,
-  )
+  history_as a b (e ∷ es) h = search (rules, arith, reader_of, happens_as, history_as h.0 b es h.2)
 
   module _ (stop : Bool) (old new : Registered) (a b : InMemory × W) where
     pub ran_in_as : (end : Status) → RanIn (OfBytes contents) stop old a new b end →
         RanIn (OfReader all_known contents) stop old (reader_of a.0, a.1) new (reader_of b.0, b.1) end
-    ran_in_as end h =
-        record {
-          records = h.records;
-          texts = h.texts;
-          each = h.each;
-          history = history_as a b _ h.history;
-          answered = h.answered;
-        }
+    ran_in_as end h = search (rules, arith, history_as)
 
     pub cut_in_as : (e : RunFault) → CutIn (OfBytes contents) stop old a new b e →
         CutIn (OfReader all_known contents) stop old (reader_of a.0, a.1) new (reader_of b.0, b.1) e

@@ -159,9 +159,7 @@ first_of remaining a b input rs starts h =
 
 written_is : (before later now : Known) (ws : List (List ℕ)) (os : List Outcome) → now ≡ later →
     map outcome_text os ≡ ws → Appends before later (joined ws) → Appends before now (texts os)
-written_is before later now ws os same e h =
-    subst (λ (k : Known). Appends before k (texts os)) (sym same)
-    (subst (Appends before later) (ap joined (sym e) ∙ joined_texts os) h)
+written_is before later now ws os same e h = grind (arith, joined, joined_texts)
 
 not_writing : (e : RunFault) → IsOfTaking e → e ≢ fault.Write
 not_writing fault.Write h = absurd h

@@ -1,5 +1,6 @@
 -- Two runs on one register are one run over the records of both.
-use Rattle.std.proofs.Common.{◌≡◌, ◌∙◌, ◌≢◌, ◌+◌, ℕ, Bool, true, false, List, [], ◌∷◌, ◌++◌, length, length-append, None, Some}
+use Rattle.std.proofs.Common.{arith}
+use Rattle.std.proofs.Common.{◌≡◌, ◌∙◌, ◌≢◌, ◌+◌, ℕ, Bool, true, false, List, [], ◌∷◌, ◌++◌, length, length-append, Some}
 use Rattle.std.proofs.Common.{inl, inr, refl, sym, ap, subst}
 use Rattle.std.specs.Prelude.{◌&&◌, ◌||◌, is_err, if◌then◌else◌}
 use Rattle.std.proofs.lemmas.Bool.{both_ways, or_from, or_right}
@@ -26,49 +27,23 @@ use Rattle.olr_run.proofs.RunLemmas.{claims_of}
 use Rattle.olr_run.proofs.Running.{represented, status_by, stopped_by, stops_join}
 
 -- no bytes have no records
-pub no_file : (stop : Bool) (old : Registered) (before : Known) →
-    RanOn SoundOutcomes stop old (known_records (Some [])) before old before status.AllAccepted
+pub no_file : (stop : Bool) (old : Registered) (before : Known) → IsContent old.kept.content →
+    RanOn Claims stop old (known_records (Some [])) before old before status.AllAccepted
 unfolding csv_on_literals
-no_file stop old before s represents = (
+no_file stop old before base s represents = (
   s,
   represents,
   [],
   Appends-nil before,
-  record { outcomes = []; each = refl; stops = tt; all = inl refl; wrote = refl; ended = refl },
+  record {
+    outcomes = [];
+    each = claims_of s [] [] s (represented old s base represents) refl;
+    stops = tt;
+    all = inl refl;
+    wrote = refl;
+    ended = refl;
+  },
 )
-
--- the claims are true of a run whose outcomes leave the content sound
-pub only_sound : (stop : Bool) (old : Registered) (records : Records) (before : Known) (new : Registered)
-    (later : Known) (end : Status)
-    → RanOn Claims stop old records before new later end → RanOn SoundOutcomes stop old records before new later end
-only_sound stop old None before new later end h = tt
-only_sound stop old (Some rs) before new later end h =
-    λ s represents.
-    let r = h s represents in
-    let ran = r.4 in (
-      r.0,
-      r.1,
-      r.2,
-      r.3,
-      record {
-        outcomes = ran.outcomes;
-        each = ran.each.headline.run;
-        stops = ran.stops;
-        all = ran.all;
-        wrote = ran.wrote;
-        ended = ran.ended;
-      },
-    )
-
-pub only_sound_faulted : (stop : Bool) (old : Registered) (records : Records) (before : Known) (new : Registered)
-    (later : Known) (e : RunFault)
-    → FaultedOn Claims stop old records before new later e → FaultedOn SoundOutcomes stop old records before new later e
-only_sound_faulted stop old None before new later e h = tt
-only_sound_faulted stop old (Some rs) before new later e h =
-    λ s represents.
-    let r = h s represents in
-    let cut = r.4 in
-    (r.0, r.1, r.2, r.3, record { outcomes = cut.outcomes; each = cut.each.headline.run; stops = cut.stops; wrote = cut.wrote })
 
 -- ---- outcomes of both
 
@@ -115,9 +90,7 @@ texts_join os qs = flat_map-append outcome_text os qs
 
 cut_join : (stop : Bool) (os qs : List Outcome) (second : List ℕ) (e : RunFault) → (stop && any_refused os) ≡ false →
     CutOff stop qs second e → CutOff stop (os ++ qs) (texts os ++ second) e
-cut_join stop os qs second e n (Before_next no_write none wrote) =
-    Before_next no_write (stopped_by stop os qs ∙ or_from (stop && any_refused os) (stop && any_refused qs) n none)
-    (ap (λ (x : List ℕ). texts os ++ x) wrote ∙ sym (texts_join os qs))
+cut_join stop os qs second e n (Before_next no_write none wrote) = grind (arith, stopped_by, or_from, texts_join)
 cut_join stop os qs second e n (No_text is before last are wrote) =
     No_text is (os ++ before) last (ap (λ (x : List Outcome). os ++ x) are ∙ sym (append_assoc os before (last ∷ [])))
     (ap (λ (x : List ℕ). texts os ++ x) wrote ∙ sym (texts_join os before))
@@ -130,7 +103,7 @@ cut_join stop os qs second e n (In_last is before last front rest are text some 
 -- ---- both runs
 
 pub both_stopped : (stop : Bool) (old mid : Registered) (first second : Records) (before later : Known) (p : Status) →
-    IsContent old.kept.content → RanOn SoundOutcomes stop old first before mid later p → p ≡ status.Stopped
+    IsContent old.kept.content → RanOn Claims stop old first before mid later p → p ≡ status.Stopped
     → RanOn Claims stop old (known_both first second) before mid later p
 both_stopped stop old mid (Some rs) (Some ms) before later p base h e =
     λ s represents.
@@ -145,7 +118,7 @@ both_stopped stop old mid (Some rs) (Some ms) before later p base h e =
         outcomes = ran.outcomes;
         each =
             claims_of s (rs ++ ms) ran.outcomes r.0 (represented old s base represents)
-            (run_longer SoundOutcome s r.0 rs ms ran.outcomes ran.each);
+            (run_longer SoundOutcome s r.0 rs ms ran.outcomes ran.each.headline.run);
         stops = ran.stops;
         all = inr (stopped_is stop (any_refused ran.outcomes) stopped);
         wrote = ran.wrote;
@@ -155,7 +128,7 @@ both_stopped stop old mid (Some rs) (Some ms) before later p base h e =
 both_stopped stop old mid first second before later p base h e = tt
 
 pub both_ran : (stop : Bool) (old mid new : Registered) (first second : Records) (before now later : Known)
-    (p q end : Status) → IsContent old.kept.content → RanOn SoundOutcomes stop old first before mid now p →
+    (p q end : Status) → IsContent old.kept.content → RanOn Claims stop old first before mid now p →
     p ≢ status.Stopped
     → RanOn Claims stop mid second now new later q → status_of end ≡ greater (status_of p) (status_of q) →
     RanOn Claims stop old (known_both first second) before new later end
@@ -177,7 +150,7 @@ both_ran stop old mid new (Some rs) (Some ms) before now later p q end base h n 
       record {
         outcomes = one.outcomes ++ two.outcomes;
         each = claims_of s (rs ++ ms) (one.outcomes ++ two.outcomes) b.0 (represented old s base represents)
-            (run_join SoundOutcome s a.0 b.0 rs ms one.outcomes two.outcomes size one.each two.each.headline.run);
+            (run_join SoundOutcome s a.0 b.0 rs ms one.outcomes two.outcomes size one.each.headline.run two.each.headline.run);
         stops = stops_join stop one.outcomes two.outcomes on one.stops two.stops;
         all = all_join stop rs ms one.outcomes two.outcomes size two.all;
         wrote = (λ i. one.wrote i ++ two.wrote i) ∙ sym (texts_join one.outcomes two.outcomes);
@@ -187,7 +160,7 @@ both_ran stop old mid new (Some rs) (Some ms) before now later p q end base h n 
 both_ran stop old mid new first second before now later p q end base h n k e = tt
 
 pub both_faulted_first : (stop : Bool) (old mid : Registered) (first second : Records) (before later : Known)
-    (e : RunFault) → IsContent old.kept.content → FaultedOn SoundOutcomes stop old first before mid later e
+    (e : RunFault) → IsContent old.kept.content → FaultedOn Claims stop old first before mid later e
     → FaultedOn Claims stop old (known_both first second) before mid later e
 both_faulted_first stop old mid (Some rs) (Some ms) before later e base h =
     λ s represents.
@@ -201,7 +174,7 @@ both_faulted_first stop old mid (Some rs) (Some ms) before later e base h =
         outcomes = cut.outcomes;
         each =
             claims_of s (rs ++ ms) cut.outcomes r.0 (represented old s base represents)
-            (run_longer SoundOutcome s r.0 rs ms cut.outcomes cut.each);
+            (run_longer SoundOutcome s r.0 rs ms cut.outcomes cut.each.headline.run);
         stops = cut.stops;
         wrote = cut.wrote;
       },
@@ -209,7 +182,7 @@ both_faulted_first stop old mid (Some rs) (Some ms) before later e base h =
 both_faulted_first stop old mid first second before later e base h = tt
 
 pub both_faulted_second : (stop : Bool) (old mid new : Registered) (first second : Records) (before now later : Known)
-    (p : Status) (e : RunFault) → IsContent old.kept.content → RanOn SoundOutcomes stop old first before mid now p
+    (p : Status) (e : RunFault) → IsContent old.kept.content → RanOn Claims stop old first before mid now p
     → p ≢ status.Stopped → FaultedOn Claims stop mid second now new later e →
     FaultedOn Claims stop old (known_both first second) before new later e
 both_faulted_second stop old mid new (Some rs) (Some ms) before now later p e base h n k =
@@ -227,7 +200,7 @@ both_faulted_second stop old mid new (Some rs) (Some ms) before now later p e ba
       record {
         outcomes = one.outcomes ++ cut.outcomes;
         each = claims_of s (rs ++ ms) (one.outcomes ++ cut.outcomes) b.0 (represented old s base represents)
-            (run_join SoundOutcome s a.0 b.0 rs ms one.outcomes cut.outcomes size one.each cut.each.headline.run);
+            (run_join SoundOutcome s a.0 b.0 rs ms one.outcomes cut.outcomes size one.each.headline.run cut.each.headline.run);
         stops = stops_join stop one.outcomes cut.outcomes on one.stops cut.stops;
         wrote =
             subst (λ (x : List ℕ). CutOff stop (one.outcomes ++ cut.outcomes) (x ++ b.2) e) (sym one.wrote)

@@ -1,13 +1,14 @@
 -- The faults that a command has by its state, and where out of memory may be reported.
-use Rattle.std.proofs.Common.{Bool, true, false, List, [], ◌∷◌, ◌++◌, Option, Some, None, Result, Ok, Err, inl, inr, ◌⊎◌}
-use Rattle.std.proofs.Common.{IsTrue, refl, subst}
-use Rattle.std.specs.Prelude.{◌≡◌, IfErr, IsOkAnd, not, nat_le, ◌==◌, length, ⊤}
+use Rattle.std.proofs.Common.{arith}
+use Rattle.std.proofs.Common.{Bool, true, false, List, Option, Some, None, Result, Ok, Err, inl, inr, ◌⊎◌}
+use Rattle.std.proofs.Common.{IsTrue, refl}
+use Rattle.std.specs.Prelude.{◌≡◌, IfErr, IsOkAnd, not, ⊤}
 use Rattle.olr_spec.specs.Map.{Map, MapFault, edited}
 use Rattle.olr_spec.specs.Extension.{is_path}
-use Rattle.olr_commands.specs.State.{Fault, Memory, No_path, Path_exists, Bad_path, Count_differs, Batch_full, TextFault}
+use Rattle.olr_commands.specs.State.{Fault, Memory, No_path, Path_exists, Bad_path, TextFault}
 use Rattle.olr_commands.specs.State.{Content, State, Change, On_map, Add_path, Set_path, Drop_path, Command, Make, Show}
-use Rattle.olr_commands.specs.State.{Explain, Commit, full, has_path, when, with_change, with_map, at_once}
-use Rattle.olr_commands.specs.State.{into_batch, after, text_fault, unless_fault, step_in, Dump, Not_a_record, is_recordable}
+use Rattle.olr_commands.specs.State.{Explain, Commit, has_path, when, with_change, with_map, at_once}
+use Rattle.olr_commands.specs.State.{into_batch, text_fault, unless_fault, step_in, Dump, Not_a_record, is_recordable}
 use Rattle.olr_commands.specs.Reply.{may_lack, IsRefusal, ByState, Lacks}
 use Rattle.olr_records.specs.Records.{Field, Bad_form, Out_of_range, Read, read, HoldsList}
 use Rattle.olr_run.specs.Output.{CommandOutcome, RecordOutcome}
@@ -59,25 +60,18 @@ dump_own false s = refl
 pub step_own : (c : Content) (batch : Option (List Change)) (x : Command) →
     IfErr (step_in c batch x) (IsOwn (is_recordable c))
 step_own c None (Make x) = made_own (is_recordable c) (with_change c x) (change_own (is_recordable c) c x)
-step_own c (Some xs) (Make x) =
-    when_own (is_recordable c) (nat_le full (length xs)) Batch_full
-    (into_batch c (xs ++ x ∷ []) (with_change (after c xs) x)) tt
-    (held_own (is_recordable c) c _ (with_change (after c xs) x) (change_own (is_recordable c) (after c xs) x))
+step_own c (Some xs) (Make x) = grind (arith, when_own, held_own, change_own)
 step_own c b (Show name) =
     when_own (is_recordable c) (not (has_path c name)) No_path (Ok (record { content = c; batch = b })) tt tt
 step_own c None Dump = dump_own (is_recordable c) (record { content = c; batch = None })
 step_own c b (Explain text) = text_own (is_recordable c) _ (text_fault text)
-step_own c (Some xs) (Commit count) =
-    when_own (is_recordable c) (not (length xs == count)) Count_differs
-    (Ok (record { content = after c xs; batch = None })) tt tt
+step_own c (Some xs) (Commit count) = grind (arith, when_own)
 step_own c b x = tt
 
 -- ---- of a record
 
 refused : (s : State) (c : Command) → IsRefusal s c Memory → IsTrue (may_lack s c)
-refused s c (ByState e) =
-    absurd (subst (λ (r : Result State Fault). IfErr r (IsOwn (is_recordable s.content))) e
-    (step_own s.content s.batch c))
+refused s c (ByState e) = grind (arith, step_own)
 refused s c (Lacks is may) = may
 
 of_command : (s t : State) (r : Read Command) → CommandOutcome s r (Err Memory) t →

@@ -1,8 +1,8 @@
 -- The records of a text, one after another.
 use Rattle.std.proofs.Common.{◌≡◌, ℕ, zero, suc, ◌+◌, ◌<◌, ◌≤◌, Bool, true, false, List, [], ◌∷◌, ◌++◌, length, Option}
-use Rattle.std.proofs.Common.{Some, None, refl, sym, ap, ◌∙◌, subst, arith}
-use Rattle.std.specs.Prelude.{◌==◌, if◌then◌else◌}
-use Rattle.csv.specs.Machine.{Read, next_record, step, in_field, start_field, start_record, after_end, ends_with}
+use Rattle.std.proofs.Common.{Some, None, refl, ap, subst, arith}
+use Rattle.std.specs.Prelude.{if◌then◌else◌}
+use Rattle.csv.specs.Machine.{Read, next_record, step, in_field, start_field, start_record}
 use Rattle.csv.specs.Machine.{is_end, ends_at_end, fields_after, field_after}
 use Rattle.csv.specs.Reading.{records_next, records_from, Reached, default_config, strip_bom}
 use Rattle.csv.specs.declared.parser.State.{State}
@@ -23,18 +23,7 @@ if_rests false p q h g = g
 
 in_field_rests : (c : ℕ) → Rests (in_field default_config c)
 unfolding Rests
-in_field_rests c =
-    if_rests _ (st.StartField, act.EndField)
-    (if ends_with default_config.terminator c then (after_end default_config.terminator c, act.EndRecord) else
-    (st.InField, act.Copy)) (λ e. absurd cc)
-    (if_rests (ends_with default_config.terminator c) (after_end default_config.terminator c, act.EndRecord)
-    (st.InField, act.Copy)
-    (λ e. elim (c == 13) as (λ b. ends_at_end (if b then st.AfterCr else st.StartRecord) ≡ false) [
-      | true ↦
-          refl
-      | false ↦ refl
-    ])
-    (λ e. absurd cc))
+in_field_rests c = grind (arith, if_rests)
 
 start_field_rests : (c : ℕ) → Rests (start_field default_config c)
 unfolding Rests
@@ -65,14 +54,7 @@ read_leaves : (s : State) (fields : List Field) (field xs : List ℕ) (p : Read)
     next_record default_config s fields field xs ≡ Some p
     → (length p.2 ≤ length xs) × (ends_at_end p.1 ≡ false)
 unfolding next_record Rests
-read_leaves s fields field [] p e =
-    elim (ends_at_end s) as (λ b. (if b then Some (fields ++ (field ∷ []), st.StartRecord, []) else None) ≡ Some p →
-    (length p.2 ≤ 0) × (ends_at_end p.1 ≡ false)) [
-      | true ↦ λ h.
-          let is : (fields ++ (field ∷ []), st.StartRecord, []) ≡ p = cc in
-          subst (λ (q : Read). (length q.2 ≤ 0) × (ends_at_end q.1 ≡ false)) is (omega arith, refl)
-      | false ↦ λ h. absurd cc
-    ] e
+read_leaves s fields field [] p e = grind arith
 read_leaves s fields field (c ∷ rest) p e =
     let to : Read = (fields_after (step default_config s c).1 fields field, (step default_config s c).0, rest) in
     let on =
@@ -95,23 +77,8 @@ read_leaves s fields field (c ∷ rest) p e =
 read_shortens : (s : State) (xs : List ℕ) (p : Read) → ends_at_end s ≡ false →
     next_record default_config s [] [] xs ≡ Some p → length p.2 < length xs
 unfolding next_record
-read_shortens s [] p f e =
-    absurd (let no : ◌≡◌ {A = Option Read} None (Some p) =
-    ap (λ (b : Bool). if b then Some ([] ++ ([] ∷ []), st.StartRecord, []) else None) (sym f) ∙ e in cc)
-read_shortens s (c ∷ rest) p f e =
-    let to : Read = (fields_after (step default_config s c).1 [] [], (step default_config s c).0, rest) in
-    let on =
-    next_record default_config (step default_config s c).0 (fields_after (step default_config s c).1 [] [])
-    (field_after (step default_config s c).1 c []) rest in
-    elim (is_end (step default_config s c).1) as (λ b. (if b then Some to else on) ≡ Some p →
-    length p.2 < length (c ∷ rest)) [
-      | true ↦ λ h. let is : to ≡ p = cc in subst (λ (q : Read). length q.2 < length (c ∷ rest)) is (omega arith)
-      | false ↦ λ h.
-          let r =
-          read_leaves (step default_config s c).0 (fields_after (step default_config s c).1 [] [])
-          (field_after (step default_config s c).1 c []) rest p h in
-          let l = r.0 in omega arith
-    ] e
+read_shortens s [] p f e = grind arith
+read_shortens s (c ∷ rest) p f e = grind (arith, read_leaves)
 
 -- with enough steps
 from_reached : (n : ℕ) (s : State) (xs : List ℕ) (records : List (List Field)) (s2 : State) (ys : List ℕ) →
@@ -122,15 +89,7 @@ unfolding Reached records_from
 from_reached n s xs [] s2 ys l f h =
     (n, subst (λ (zs : List ℕ). length zs < n) h.1 l, λ i. records_from default_config n (h.0 i) (h.1 i))
 from_reached zero s xs (r ∷ records) s2 ys l f h = absurd (omega arith)
-from_reached (suc n) s xs (r ∷ records) s2 ys l f h =
-    let p = h.0 in
-    let less = read_shortens s xs p f h.1 in
-    let again = from_reached n p.1 p.2 records s2 ys (omega arith) (read_leaves s [] [] xs p h.1).1 h.3 in (
-      again.0,
-      again.1,
-      ap (λ (o : Option Read). records_next (records_from default_config n) o) h.1
-          ∙ (λ i. sym h.2 i ∷ again.2 i),
-    )
+from_reached (suc n) s xs (r ∷ records) s2 ys l f h = grind (arith, read_shortens, read_leaves, from_reached n)
 
 none_more : (m : ℕ) (s : State) (ys : List ℕ) → length ys < m → next_record default_config s [] [] ys ≡ None →
     records_from default_config m s ys ≡ []

@@ -1,9 +1,9 @@
 -- Runs.
+use Rattle.std.proofs.Common.{rules}
 use Rattle.std.proofs.Common.{inl, inr, ◌≡◌, ℕ, Bool, true, false, List, [], ◌∷◌, Option, None, Some, Ok, Err, IsFalse, refl}
 use Rattle.std.proofs.Common.{sym, ap, ◌∙◌, subst, arith}
 use Rattle.std.specs.Prelude.{◌&&◌, ◌||◌, is_err, IfSome}
 use Rattle.std.specs.Result.{result_ok}
-use Rattle.std.specs.List.{list_any}
 use Rattle.std.proofs.lemmas.Bool.{cases_Bool, both_ways, or_parts}
 use Rattle.olr_commands.specs.State.{IsContent, Fault, Memory, State, Command, HasCoords, IsState}
 use Rattle.olr_commands.specs.Reply.{Outcome, lacks_memory}
@@ -13,7 +13,7 @@ use Rattle.olr_commands.proofs.HistoryLemmas.{headline_of}
 use Rattle.olr_commands.proofs.OutcomeLemmas.{one_outcome}
 use Rattle.olr_records.specs.Records.{Field, Read, read}
 use Rattle.olr_run.specs.Output.{CommandOutcome, OutOfMemory, RecordOutcome, Outcomes, SoundOutcome, SoundOutcomes}
-use Rattle.olr_run.specs.Output.{decoded_command, Claims, StopsAtFault, any_refused, AreAnswered, texts, run_status, Status}
+use Rattle.olr_run.specs.Output.{decoded_command, Claims, StopsAtFault, any_refused, AreAnswered, Status}
 use Rattle.olr_run.specs.Output.{Ran, AllHadMemory}
 use Rattle.olr_records.proofs.ReadLemmas.{coords_read}
 use Rattle.olr_run.proofs.Dumping.{dumps_of}
@@ -38,23 +38,9 @@ outcomes_keep s t (r ∷ rs) (o ∷ os) i p = outcomes_keep p.0 t rs os (record_
 -- a record whose command has this outcome, or which has a fault of its own
 command_claims : (s t : State) (r : Read Command) (o : Outcome) → IsContent t.content → CommandOutcome s r o t →
     Claimed s (result_ok r) o t
-command_claims s t (Ok c) o sound h =
-    record {
-      leads = outcome_leads s c o t h;
-      named = is_named s t c o sound h;
-      refused = is_refused s t c o h;
-      sound = sound;
-      dumped = λ i. is_dumped s t c o i h;
-    }
+command_claims s t (Ok c) o sound h = search (rules, arith, outcome_leads, is_named, is_refused, is_dumped)
 command_claims s t (Err f) (Ok reply) sound h = absurd (let no = h.0 in cc)
-command_claims s t (Err f) (Err g) sound h =
-    record {
-      leads = h.1;
-      named = tt;
-      refused = λ fault is. h.1;
-      sound = sound;
-      dumped = λ i count text is. absurd cc;
-    }
+command_claims s t (Err f) (Err g) sound h = grind arith
 
 leads_nowhere : (s t : State) (asked : Option Command) (f : Fault) → t ≡ s → Leads s asked (Err f) t
 leads_nowhere s t None f e = e
@@ -66,14 +52,7 @@ names_nothing s t (Some c) f = λ reports es is. absurd cc
 
 lacking_claims : (s t : State) (asked : Option Command) (o : Outcome) → IsContent t.content → OutOfMemory s o t →
     Claimed s asked o t
-lacking_claims s t asked o sound h =
-    subst (λ (p : Outcome). Claimed s asked p t) (sym h.0) (record {
-      leads = leads_nowhere s t asked Memory h.1;
-      named = names_nothing s t asked Memory;
-      refused = λ fault is. h.1;
-      sound = sound;
-      dumped = λ i count text is. absurd cc;
-    })
+lacking_claims s t asked o sound h = grind (arith, leads_nowhere, names_nothing)
 
 record_claims : (s : State) (fields : List Field) (o : Outcome) (t : State) → SoundOutcome s fields o t →
     Claimed s (decoded_command fields) o t
@@ -91,11 +70,7 @@ sound_after s t (r ∷ rs) (o ∷ os) i p = sound_after p.0 t rs os p.1.1 p.2
 
 pub claims_of : (s : State) (rs : List (List Field)) (os : List Outcome) (t : State) → IsContent s.content →
     SoundOutcomes s rs os t → Claims s rs os t
-claims_of s rs os t i h =
-    record {
-      headline = headline_of SoundOutcome decoded_command record_claims s rs os t i h;
-      dumps = λ stays. dumps_of s rs os t i stays h;
-    }
+claims_of s rs os t i h = search (rules, arith, headline_of, record_claims, dumps_of)
 
 -- ---- one run
 
@@ -136,27 +111,17 @@ one_list stop s t u [] (o ∷ os) qs i n m a b c d p q = absurd p
 one_list stop s t u (r ∷ rs) [] qs i n m a b c d p q = absurd (none_left stop r rs a)
 one_list stop s t u (r ∷ rs) (o ∷ os) [] i n m a b c d p q = absurd (none_left stop r rs b)
 one_list stop s t u (r ∷ rs) (o ∷ os) (k ∷ qs) i n m a b c d p q =
-    let on = or_parts (lacks_memory o) (list_any lacks_memory os) n in
-    let km = or_parts (lacks_memory k) (list_any lacks_memory qs) m in
-    let head = one_record s p.0 q.0 r o k i on.0 km.0 p.1 q.1 in
-    let again : Outcomes p.0 rs qs u = subst (λ (x : State). Outcomes x rs qs u) (sym head.1) q.2 in
-    elim (cases_Bool (stop && is_err o)) [
-      | inl e ↦
-          let os_none : os ≡ [] = c.0 e in
-          let qs_none : qs ≡ [] = d.0 (ap (λ (x : Outcome). stop && is_err x) (sym head.0) ∙ e) in
-          let t_is : p.0 ≡ t = subst (λ (xs : List Outcome). Outcomes p.0 rs xs t) os_none p.2 in
-          let u_is : p.0 ≡ u = subst (λ (xs : List Outcome). Outcomes p.0 rs xs u) qs_none again in
-          ((λ j. head.0 j ∷ (os_none ∙ sym qs_none) j), sym t_is ∙ u_is)
-      | inr e ↦
-          let rest =
-          one_list stop p.0 t u rs os qs (record_keeps s p.0 r o i p.1) on.1 km.1 (all_rest stop r rs o os e a)
-          (all_rest stop r rs k qs (ap (λ (x : Outcome). stop && is_err x) (sym head.0) ∙ e) b) c.1 d.1 p.2 again in
-          ((λ j. head.0 j ∷ rest.0 j), rest.1)
-    ]
+    grind (
+      arith,
+      or_parts,
+      one_record,
+      cases_Bool,
+      record_keeps,
+      all_rest,
+      one_list stop p.0 t u rs os qs (record_keeps s p.0 r o i p.1),
+    )
 
 pub one_run : (stop : Bool) (s t u : State) (rs : List (List Field)) (w v : List ℕ) (end stand : Status) → IsState s →
     (p : Ran Outcomes stop s rs t w end) (q : Ran Outcomes stop s rs u v stand)
     → AllHadMemory p.outcomes → AllHadMemory q.outcomes → (t ≡ u) × (w ≡ v) × (end ≡ stand)
-one_run stop s t u rs w v end stand i p q n m =
-    let one = one_list stop s t u rs p.outcomes q.outcomes i n m p.all q.all p.stops q.stops p.each q.each in
-    (one.1, p.wrote ∙ ap texts one.0 ∙ sym q.wrote, p.ended ∙ ap (run_status stop) one.0 ∙ sym q.ended)
+one_run stop s t u rs w v end stand i p q n m = grind (arith, one_list)

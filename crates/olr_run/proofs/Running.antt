@@ -1,4 +1,5 @@
 -- The records that a run has answered so far.
+use Rattle.std.proofs.Common.{arith}
 use Rattle.std.proofs.Common.{◌≡◌, ◌∙◌, ◌+◌, ℕ, Bool, true, false, not, List, [], ◌∷◌, ◌++◌, length, map, Ok, Err, Result, inl}
 use Rattle.std.proofs.Common.{inr, refl, sym, ap, subst, length-append}
 use Rattle.std.specs.Prelude.{◌&&◌, ◌||◌, is_err, is_ok, if◌then◌else◌, ⊤, IfErr, IsErrAnd}
@@ -45,9 +46,7 @@ stopped_by stop os qs =
 pub stops_join : (stop : Bool) (os qs : List Outcome) → (stop && any_refused os) ≡ false → StopsAtFault stop os →
     StopsAtFault stop qs → StopsAtFault stop (os ++ qs)
 stops_join stop [] qs n h k = k
-stops_join stop (o ∷ os) qs n h k =
-    let parts = or_parts (stop && is_err o) (stop && any_refused os) (sym (either stop (is_err o) (any_refused os)) ∙ n) in
-    (λ e. absurd (both_ways (stop && is_err o) parts.0 e), stops_join stop os qs parts.1 h.1 k)
+stops_join stop (o ∷ os) qs n h k = grind (arith, or_parts, either, both_ways, stops_join stop os qs)
 
 stops_more : (stop : Bool) (os : List Outcome) (o : Outcome) → (stop && any_refused os) ≡ false → StopsAtFault stop os →
     StopsAtFault stop (os ++ o ∷ [])
@@ -59,9 +58,7 @@ is_other (Err f) b e = ap not e
 
 refused_more : (os : List Outcome) (o : Outcome) (b : Bool) → is_ok o ≡ b →
     any_refused (os ++ o ∷ []) ≡ (any_refused os || not b)
-refused_more os o b e =
-    list_any-append is_err os (o ∷ [])
-    ∙ ap (λ (x : Bool). any_refused os || x) (or-false (is_err o) ∙ is_other o b e)
+refused_more os o b e = grind (arith, list_any-append, or-false, is_other)
 
 -- ---- the records so far
 
@@ -144,10 +141,7 @@ module _ {S : Type 0} (happens : S → Event → S → Type 0) (stop : Bool) (ol
       (text : List ℕ) → length texts ≡ length rs
       → History happens before (exchanges rs texts) mid → happens mid (Took r) taken → happens taken (Wrote text) later →
       History happens before (exchanges (rs ++ r ∷ []) (texts ++ text ∷ [])) later
-  history_more mid taken later rs texts r text l h took wrote =
-      subst (λ (es : List Event). History happens before es later) (sym (exchanges_more rs texts r text l))
-      (history_join happens before mid later (exchanges rs texts) (Took r ∷ Wrote text ∷ []) h
-      (taken, took, (later, wrote, refl)))
+  history_more mid taken later rs texts r text l h took wrote = grind (arith, exchanges_more, texts, history_join)
 
   -- one that does not end the run
   one_more : (now new : Registered) (mid taken later : S) (end next : Status) (fields : List Field) (n : ℕ) (b : Bool) →

@@ -1,7 +1,7 @@
 //! The commands of a file and then those of the input, on one register.
 
 ghost use Rattle.std.specs.Prelude.{◌≡◌, ◌⊎◌, IfOk, IfErr};
-ghost use Rattle.olr_run.specs.Output.{greater, SoundOutcomes, Claims};
+ghost use Rattle.olr_run.specs.Output.{greater, Claims};
 ghost use Rattle.olr_run.specs.Runs.{known_file, known_records, known_both, status_of, RanOn, FaultedOn, HasTooMany};
 
 use crate::ends::{RunFault, Status};
@@ -30,13 +30,14 @@ fn run_file<F: Read + Drop, W: Write>(
     output: &mut W,
     stop: bool,
 ) -> Result<Status, RunFault>
-    ensures ran { IfOk result (RanOn SoundOutcomes stop register.old (known_records (known_file F.remaining file))
+    ensures ran { IfOk result (RanOn Claims stop register.old (known_records (known_file F.remaining file))
         (W.contents output.old) register.new (W.contents output.new)) }
     ensures faulted { IfErr result
-        (FaultedOn SoundOutcomes stop register.old (known_records (known_file F.remaining file))
+        (FaultedOn Claims stop register.old (known_records (known_file F.remaining file))
         (W.contents output.old) register.new (W.contents output.new)) }
     ensures too_many { IfErr result (λ e. e ≡ RunFault.TooMany → HasTooMany (known_file F.remaining file)) }
 {
+    register.is_sound();
     match file {
         Some(file) => run(alloc, register, file, output, stop),
         None => Ok(Status::AllAccepted),

@@ -1,11 +1,10 @@
+use Rattle.std.proofs.Common.{arith}
 use Rattle.std.proofs.Common.{refl}
 use Rattle.olr_run.proofs.Writing.{written_more, front_of, took_nothing}
 use Rattle.olr_run.proofs.output.write_all.Goals as goal
 
 pub loop-written-preserved : goal.loop-written-preserved
-loop-written-preserved g c =
-    written_more _ (g.W.Write.contents c.loop-written.output) _ _ _ _ c.loop-written.invariant c.in-Ok.ensures.bound
-    c.in-Ok.ensures.bytes
+loop-written-preserved g c = grind (arith, written_more)
 
 pub returns-in_default : goal.returns-in_default
 returns-in_default g c =

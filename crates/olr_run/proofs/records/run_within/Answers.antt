@@ -38,17 +38,7 @@ returns-then-stop-clause-ran g c =
     (rw c.if-branch.true at c.in_ok-take.ensures) c.in_ok-write_outcome.ensures
 
 pub records-preserved-then-not-branch : goal.records-preserved-then-not-branch
-records-preserved-then-not-branch g c = (
-  (let few = c.records.invariant.0 in omega arith),
-  refused_so_far g.S.Session.happens _ _ _ _ _ _ _ _ _ (fields_of c.take.new.fields) _ c.in_ok-write_outcome.field-0
-      c.if-not-branch.true c.if-stop.false c.records.invariant.1 (rw c.if-branch.true at c.in_ok-take.ensures)
-      c.in_ok-write_outcome.ensures,
-)
+records-preserved-then-not-branch g c = grind (arith, refused_so_far)
 
 pub records-preserved : goal.records-preserved
-records-preserved g c = (
-  (let few = c.records.invariant.0 in omega arith),
-  accepted_so_far g.S.Session.happens _ _ _ _ _ _ _ _ _ (fields_of c.take.new.fields) _ c.in_ok-write_outcome.field-0
-      c.if-not-branch.false c.records.invariant.1 (rw c.if-branch.true at c.in_ok-take.ensures)
-      c.in_ok-write_outcome.ensures,
-)
+records-preserved g c = grind (arith, accepted_so_far)

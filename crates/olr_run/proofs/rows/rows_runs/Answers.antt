@@ -1,3 +1,4 @@
+use Rattle.std.proofs.Common.{arith}
 use Rattle.std.proofs.Common.{inl, inr, ◌≡◌, [], ◌∷◌, ◌++◌, Option, is_some, not, Ok, Err, refl, ap, ◌∙◌}
 use Rattle.std.specs.Ordering.{nat_cmp}
 use Rattle.std.specs.Cmp.{nat_cmp_total}
@@ -7,18 +8,15 @@ use Rattle.std.specs.Fmt.{digits}
 use Rattle.csv.proofs.OnLiterals.{csv_on_literals}
 use Rattle.olr_spec.specs.Coordinates.{Coord}
 use Rattle.olr_spec.specs.Map.{empty_map, unless, Node_exists, No_node, Node_in_use, Add_node, Drop_node, in_use}
-use Rattle.olr_commands.specs.State.{no_content, start_state, Syntax, Range, Map_fault, On_map, Make, with_map, at_once, step}
+use Rattle.olr_commands.specs.State.{start_state, Syntax, Range, Map_fault, On_map, Make, with_map, at_once, step}
 use Rattle.olr_commands.specs.Reply.{Paths, ByState}
-use Rattle.olr_run.specs.Output.{Before_next, In_last}
+use Rattle.olr_run.specs.Output.{In_last}
 use Rattle.olr_records.specs.Rows.{zero}
 use Rattle.olr_run.specs.Rows.{state20}
 use Rattle.olr_run.proofs.rows.rows_runs.Goals as goal
 
 add_first : step start_state (Make (On_map (Add_node 1 zero))) ≡ Ok state20
-add_first =
-    ap (λ (o : Option Coord).
-    at_once (with_map no_content
-    (unless (is_some o) Node_exists (Ok (record empty_map { nodes = insert empty 1 zero }))))) (get-empty nat_cmp 1)
+add_first = grind (arith, insert, empty, get-empty)
 
 add_again : step state20 (Make (On_map (Add_node 1 zero))) ≡ Err (Map_fault Node_exists)
 add_again =
@@ -86,8 +84,7 @@ returns-clause-cut c =
 
 pub returns-clause-cut_at_once : goal.returns-clause-cut_at_once
 unfolding csv_on_literals digits
-returns-clause-cut_at_once c =
-    record { outcomes = []; each = refl; stops = tt; wrote = Before_next (λ e. absurd cc) refl refl }
+returns-clause-cut_at_once c = grind arith
 
 pub returns-clause-stopped_in_file : goal.returns-clause-stopped_in_file
 unfolding csv_on_literals
