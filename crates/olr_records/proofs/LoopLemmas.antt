@@ -57,8 +57,7 @@ module _ (fs : List Field) (k : ℕ) where
 
   pub numbers-more : (x w : Read (List ℕ)) → k < length fs → onto x (numbers (drop k fs)) ≡ w →
       onto (with x (number (at fs k))) (numbers (drop (k + 1) fs)) ≡ w
-  numbers-more x w lt e =
-      onto_more x (number (at fs k)) (numbers (drop (k + 1) fs)) ∙ ap (λ y. onto x y) (sym (numbers_next lt)) ∙ e
+  numbers-more x w lt e = grind (arith, onto_more, numbers_next)
 
   pub numbers-end : (x w : Read (List ℕ)) → length fs ≤ k → onto x (numbers (drop k fs)) ≡ w → x ≡ w
   numbers-end x w past e = sym (onto-nothing x) ∙ ap (λ y. onto x (numbers y)) (sym (drop_all k fs past)) ∙ e

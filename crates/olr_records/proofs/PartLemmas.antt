@@ -47,8 +47,7 @@ module _ {A B Y Z : Type 0} (P : (Y → Z) → Type 0) (Q : Y → Type 0) (R : Z
       → Gathers P u x r → Gathers Q v y s → Gathers R (λ p. u p.0 (v p.1)) (x ⊛ y) (both r s)
   reported (Err f) y (Err Memory) s first second h k = absurd h
   reported (Ok g) (Ok b) (Err Memory) (Err Memory) first second h k = first g b h
-  reported (Ok g) y (Err Memory) (Ok b) first second h k =
-      subst (λ (q : Read Y). IsOkAnd (Ok g ⊛ q) R) (sym k) (first g (v b) h)
+  reported (Ok g) y (Err Memory) (Ok b) first second h k = grind arith
   reported x (Err f) r (Err Memory) first second h k = absurd k
   reported (Ok g) y (Err Memory) s first second h k = ap (λ (q : Read Y). Ok g ⊛ q) k
   reported x (Ok b) (Ok a) (Err Memory) first second h k =

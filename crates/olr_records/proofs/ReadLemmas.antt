@@ -13,10 +13,10 @@ use Rattle.olr_spec.specs.Extension.{Path}
 use Rattle.olr_coords.specs.Bounds.{is_degrees}
 use Rattle.olr_coords.specs.DegreesText.{has_degrees_text}
 use Rattle.olr_coords.proofs.DegreesTextLemmas.{degrees-whole}
-use Rattle.olr_commands.specs.State.{same_name, Change, On_map, Add_path, Set_path, Drop_path, Command, Make, Show, Report}
+use Rattle.olr_commands.specs.State.{Change, On_map, Add_path, Set_path, Drop_path, Command, Make, Show, Report}
 use Rattle.olr_commands.specs.State.{Dump, Explain, Begin, Commit, Abort, HasCoords}
 use Rattle.olr_commands.specs.Recordable.{is_name}
-use Rattle.olr_records.specs.Records.{Field, Read, ◌⊛◌, value_or_fault, digits, max32, number, amount, class, coordinate}
+use Rattle.olr_records.specs.Records.{Field, Read, ◌⊛◌, value_or_fault, digits, max32, number, amount, coordinate}
 use Rattle.olr_records.specs.Records.{longitude, latitude, place, name, numbers, point, shape, node_fields, edit, one}
 use Rattle.olr_records.specs.Records.{none, node_record, line_between, attributes, whole_line, line_record, set_line_record}
 use Rattle.olr_records.specs.Records.{path_fields, path_record, forms, read_by, read}
@@ -77,17 +77,13 @@ longitude_passes : (f : Field) → IfOk (longitude f) (Written is_longitude)
 longitude_passes f = found_passes is_longitude longitude_wide (degrees f) (degrees-whole f)
 
 latitude_passes : (f : Field) → IfOk (latitude f) (Written is_latitude)
-latitude_passes f =
-    found_passes is_latitude (λ z h. longitude_wide z (latitude_within z h)) (degrees f) (degrees-whole f)
+latitude_passes f = grind (arith, found_passes, longitude_wide, latitude_within, degrees-whole)
 
 abbrev Place : Coord → Type 0
 Place p = IsTrue (is_place p)
 
 place_passes : (lon lat : Field) → IfOk (place lon lat) Place
-place_passes lon lat =
-    two Place (Written is_longitude) (Written is_latitude) (Ok (λ x y. record { lon = x; lat = y })) (longitude lon)
-    (latitude lat) (longitude_passes lon) (latitude_passes lat)
-    (λ x h y g i. (h.0 i && g.0 i) && (h.1 i && g.1 i))
+place_passes lon lat = grind (arith, longitude_passes lon, latitude_passes lat)
 
 abbrev Name : List ℕ → Type 0
 Name n = IsTrue (is_name n)
@@ -106,7 +102,7 @@ number_passes f = digits_pass 1 max32 f
 
 numbers_pass : (fs : List Field) → IfOk (numbers fs) Numbers
 numbers_pass [] = refl
-numbers_pass (f ∷ fs) = grind (arith, two, number_passes, numbers_pass fs)
+numbers_pass (f ∷ fs) = grind (arith, number_passes f, numbers_pass fs)
 
 -- ---- parts of records
 
@@ -114,9 +110,7 @@ abbrev Node : ℕ × Coord → Type 0
 Node p = IsTrue (is_number p.0 && is_place p.1)
 
 node_passes : (fs : List Field) → IfOk (node_fields fs) Node
-node_passes (node ∷ lon ∷ lat ∷ []) =
-    two Node Number Place (Ok (λ x p. (x, p))) (number node) (place lon lat) (number_passes node) (place_passes lon lat)
-    (λ x h p g i. h i && g i)
+node_passes (node ∷ lon ∷ lat ∷ []) = grind (arith, number_passes node, place_passes lon lat)
 node_passes fs = tt
 
 abbrev Shape : List ShapePoint → Type 0
@@ -129,9 +123,7 @@ abbrev On : ℕ → Type 0
 On n = IsTrue (nat_le 1 n && nat_le n 999999)
 
 point_passes : (at lon lat : Field) → IfOk (point at lon lat) Point
-point_passes at lon lat =
-    two Point On Place (Ok (λ x p. record { at = x; place = p })) (digits 1 999999 at) (place lon lat)
-    (digits_pass 1 999999 at) (place_passes lon lat) (λ x h p g i. h i && g i)
+point_passes at lon lat = grind (arith, digits_pass 1 999999 at, place_passes lon lat)
 
 shape_passes : (fs : List Field) → IfOk (shape fs) Shape
 shape_passes [] = refl
@@ -151,12 +143,18 @@ Attributes c = IsTrue (are_attributes c.0 c.1 c.2 c.3)
 
 attributes_pass : (frc fow len : Field) (fs : List Field) → IfOk (attributes frc fow len fs) Attributes
 attributes_pass frc fow len fs =
-    two Attributes Long Shape (Ok (λ a b c d. (a, b, c, d)) ⊛ class frc ⊛ class fow) (digits 1 1000000 len) (shape fs)
-    (digits_pass 1 1000000 len) (shape_passes fs)
-    (two (Takes Long (Takes Shape Attributes)) Class Class (Ok (λ a b c d. (a, b, c, d))) (class frc) (class fow)
-    (at_most_pass 0 7 frc) (at_most_pass 0 7 fow)
-    (λ a h b g c l d s. let p = and_parts (nat_le 1 c) (nat_le c 1000000) l in
-    λ i. h i && g i && p.0 i && p.1 i && s i))
+    grind (
+      arith,
+      two Attributes Long Shape,
+      digits_pass 1 1000000 len,
+      shape_passes fs,
+      two (Takes Long (Takes Shape Attributes)) Class Class,
+      at_most_pass 0 7 frc,
+      at_most_pass 0 7 fow,
+      and_parts,
+      nat_le 1,
+      nat_le,
+    )
 
 abbrev Ends : Line → Type 0
 Ends l = IsTrue (is_number l.from) × IsTrue (is_number l.to) × IsTrue (are_attributes l.frc l.fow l.len l.shape)
@@ -177,8 +175,7 @@ OfEdit e = IsTrue (has_record (On_map e))
 
 node_record_passes : (g : ℕ → Coord → Edit) → ((n : ℕ) (c : Coord) → Node (n, c) → OfEdit (g n c)) →
     (fs : List Field) → IfOk (node_record g fs) OfEdit
-node_record_passes g h fs =
-    given OfEdit Node (Ok (λ p. g p.0 p.1)) (node_fields fs) (node_passes fs) (λ p i. h p.0 p.1 i)
+node_record_passes g h fs = grind (arith, given OfEdit Node, node_passes fs)
 
 line_record_passes : (fs : List Field) → IfOk (line_record fs) OfEdit
 line_record_passes (x ∷ from ∷ to ∷ frc ∷ fow ∷ len ∷ fs) =
@@ -213,18 +210,13 @@ Amount n = IsTrue (is_amount n)
 
 path_fields_pass : (fs : List Field) → IfOk (path_fields fs) NamedPath
 path_fields_pass (n ∷ first ∷ last ∷ fs) =
-    let whole : List ℕ → ℕ → ℕ → List ℕ → List ℕ × Path = λ n p q ls. (n, record { lines = ls; pos = p; neg = q }) in
-    two NamedPath Amount Numbers (Ok whole ⊛ name n ⊛ amount first) (amount last) (numbers fs)
-    (at_most_pass 0 max32 last) (numbers_pass fs)
-    (two (Takes Amount (Takes Numbers NamedPath)) Name Amount (Ok whole) (name n) (amount first) (name_passes n)
-    (at_most_pass 0 max32 first) (λ n a p b q c ls d i. a i && b i && c i && d i))
+    grind (arith, name_passes n, at_most_pass 0 max32 first, at_most_pass 0 max32 last, numbers_pass fs)
 path_fields_pass fs = tt
 
 path_record_passes : (g : List ℕ → Path → Change) →
     ((n : List ℕ) (p : Path) → NamedPath (n, p) → IsTrue (has_record (g n p))) → (fs : List Field) →
     IfOk (path_record g fs) Recorded
-path_record_passes g h fs =
-    given Recorded NamedPath (Ok (λ p. Make (g p.0 p.1))) (path_fields fs) (path_fields_pass fs) (λ p. h p.0 p.1)
+path_record_passes g h fs = grind (arith, given Recorded NamedPath, path_fields_pass fs)
 
 Passes : (List Field → Read Command) → Type 0
 Passes form = (fs : List Field) → IfOk (form fs) Recorded
@@ -233,8 +225,7 @@ by_passes : (rs : List (Field × (List Field → Read Command))) → AllByRecurs
     (word : Field) (fs : List Field) → IfOk (read_by rs word fs) Recorded
 unfolding Passes
 by_passes [] h word fs = tt
-by_passes (r ∷ rs) h word fs =
-    if_read Recorded (same_name word r.0) (r.1 fs) (read_by rs word fs) (h.0 fs) (by_passes rs h.1 word fs)
+by_passes (r ∷ rs) h word fs = grind (arith, if_read, by_passes rs h.1 word fs)
 
 forms_pass : AllByRecursion (λ r. Passes r.1) forms
 unfolding Passes
@@ -276,10 +267,8 @@ attributes_coords frc fow len ss h = grind (arith, all_weaker, place_coord, and_
 edit_coords : (e : Edit) → OfEdit e → HasCoord e
 edit_coords (Add_node v p) h = place_coord p (and_parts (is_number v) (is_place p) h).1
 edit_coords (Move_node v p) h = place_coord p (and_parts (is_number v) (is_place p) h).1
-edit_coords (Add_line x l) h =
-    attributes_coords l.frc l.fow l.len l.shape (and_parts _ (are_attributes l.frc l.fow l.len l.shape) h).1
-edit_coords (Set_line x frc fow len ss) h =
-    attributes_coords frc fow len ss (and_parts (is_number x) (are_attributes frc fow len ss) h).1
+edit_coords (Add_line x l) h = grind (arith, attributes_coords, and_parts)
+edit_coords (Set_line x frc fow len ss) h = grind (arith, attributes_coords, and_parts)
 edit_coords e h = tt
 
 coords : (c : Command) → Recorded c → HasCoords c

@@ -1,6 +1,6 @@
 -- The text of records is split into their fields.
-use Rattle.std.proofs.Common.{◌≡◌, ℕ, zero, suc, ◌^◌, ◌<◌, ◌≤◌, ℤ, pos, negsuc, true, false, ◌&&◌, ◌||◌, List}
-use Rattle.std.proofs.Common.{[], ◌∷◌, ◌++◌, length, map, Some, nat_le, IsTrue, refl, sym, ap, ◌∙◌, arith}
+use Rattle.std.proofs.Common.{◌≡◌, ℕ, zero, suc, ◌^◌, ◌<◌, ◌≤◌, ℤ, pos, negsuc, true, false, ◌&&◌, List}
+use Rattle.std.proofs.Common.{[], ◌∷◌, ◌++◌, length, map, Some, nat_le, IsTrue, refl, ◌∙◌, arith}
 use Rattle.std.specs.Prelude.{decimal, if◌then◌else◌}
 use Rattle.std.specs.List.{list_all, list_any, join_with_byte, concat, AllByRecursion}
 use Rattle.std.specs.Char.{is_ascii_digit}
@@ -114,8 +114,7 @@ plain_byte c h = grind (arith, nat_tests)
 
 no_quotes : (f : Field) → Plain f → list_any (needs_byte default_writer) f ≡ false
 no_quotes [] h = refl
-no_quotes (c ∷ f) h =
-    let p = and_parts (is_name_byte c) (list_all is_name_byte f) h in λ i. plain_byte c p.0 i || no_quotes f p.1 i
+no_quotes (c ∷ f) h = grind (arith, and_parts, plain_byte, no_quotes f)
 
 field_is : (f : Field) → Plain f → field_text default_writer f ≡ f
 field_is f h = λ i. if no_quotes f h i then quoted default_writer f else f
@@ -146,11 +145,14 @@ read_as : (x : Change) (rest : List ℕ) → IsTrue (has_record x) →
     next_record default_config st.StartRecord [] [] (record_line x ++ rest)
     ≡ Some (fields_of_change x, st.StartRecord, rest)
 read_as x rest h =
-    let two = two_fields x in
-    ap (λ (t : List ℕ). next_record default_config st.StartRecord [] [] (t ++ rest))
-    (sym (row_is (fields_of_change x) two (record_plain x h)))
-    ∙ read-write (fields_of_change x) rest
-    ∙ ap (λ (fs : List Field). Some (fs, st.StartRecord, rest)) (read_as_fields (fields_of_change x) two)
+    grind (
+      arith,
+      two_fields x,
+      row_is (fields_of_change x),
+      record_plain x h,
+      read-write (fields_of_change x) rest,
+      read_as_fields (fields_of_change x),
+    )
 
 all_read : (n : ℕ) (xs : List Change) → length xs < n → HaveRecords xs →
     records_from default_config n st.StartRecord (concat (map record_line xs)) ≡ map fields_of_change xs

@@ -105,13 +105,11 @@ of_parts c m h = search (rules, arith, join_all, entries, to_mapped)
 
 line_parts : (x : ℕ) (l : Line) → HasLine (x, l) → IsTrue (is_number x) × IsTrue (is_number l.from)
     × IsTrue (is_number l.to) × IsTrue (are_attributes l.frc l.fow l.len l.shape)
-line_parts x l h =
-    and_four (is_number x) (is_number l.from) (is_number l.to) (are_attributes l.frc l.fow l.len l.shape) h
+line_parts x l h = grind (arith, and_four)
 
 path_parts : (p : Named) → HasPath p → IsTrue (is_name p.name) × IsTrue (is_amount p.path.pos)
     × IsTrue (is_amount p.path.neg) × IsTrue (list_all is_number p.path.lines)
-path_parts p h =
-    and_four (is_name p.name) (is_amount p.path.pos) (is_amount p.path.neg) (list_all is_number p.path.lines) h
+path_parts p h = grind (arith, and_four)
 
 -- the ends of a line that is on the map
 ends_are : (M : Map) (x : ℕ) (o : Option Line) → MapRecorded M → get M.lines x ≡ o → is_some o ≡ true →
@@ -141,9 +139,7 @@ map_stays M N (Drop_line x) m h made =
 edit_stays : (c d : Content) (e : Edit) (r : Result Map MapFault) → edited c.map e ≡ r → IsRecorded c →
     Has (On_map e) → with_map c r ≡ Ok d → IsRecorded d
 edit_stays c d e (Ok m) is i h to =
-    let p = parts_of c i in
-    accepted IsRecorded (record c { map = m }) d to
-    (of_parts (record c { map = m }) (map_stays c.map m e p.0 h (made_by c.map m e is)) p.1)
+    grind (arith, parts_of c i, accepted IsRecorded, of_parts, map_stays c.map m e, made_by c.map m e is)
 edit_stays c d e (Err f) is i h to = absurd cc
 
 -- the path of a name is set
@@ -162,8 +158,7 @@ change_stays c d (Drop_path name) i h is = grind (arith, parts_of, passed, of_pa
 
 make_stays : (c : Content) (x : Change) (r : Result Content Fault) (t : State) → with_change c x ≡ r → IsRecorded c →
     Has x → at_once r ≡ Ok t → StaysRecorded t
-make_stays c x (Ok d) t is i h to =
-    accepted StaysRecorded (record { content = d; batch = None }) t to (change_stays c d x i h is, tt)
+make_stays c x (Ok d) t is i h to = grind (arith, accepted, change_stays)
 make_stays c x (Err f) t is i h to = absurd cc
 
 hold_stays : (c : Content) (xs : List Change) (x : Change) (r : Result Content Fault) (t : State) →

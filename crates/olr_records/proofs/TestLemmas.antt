@@ -1,4 +1,5 @@
 -- Tests joined by `&&`, tests of each item of a list, and facts of each item.
+use Rattle.std.proofs.Common.{arith}
 use Rattle.std.proofs.Common.{◌≡◌, Bool, true, List, [], ◌∷◌, ◌&&◌, IsTrue, refl}
 use Rattle.std.specs.List.{list_all}
 use Rattle.std.proofs.lemmas.Bool.{and_parts}
@@ -7,20 +8,17 @@ pub and_three : (a b c : Bool) → (a && b && c) ≡ true → (a ≡ true) × (b
 and_three a b c h = let p = and_parts (a && b) c h in let q = and_parts a b p.0 in (q.0, q.1, p.1)
 
 pub and_four : (a b c d : Bool) → (a && b && c && d) ≡ true → (a ≡ true) × (b ≡ true) × (c ≡ true) × (d ≡ true)
-and_four a b c d h =
-    let p = and_parts (a && b && c) d h in let q = and_three a b c p.0 in (q.0, q.1, q.2, p.1)
+and_four a b c d h = grind (arith, and_parts, and_three)
 
 pub and_five : (a b c d e : Bool) → (a && b && c && d && e) ≡ true →
     (a ≡ true) × (b ≡ true) × (c ≡ true) × (d ≡ true) × (e ≡ true)
-and_five a b c d e h =
-    let p = and_parts (a && b && c && d) e h in let q = and_four a b c d p.0 in (q.0, q.1, q.2, q.3, p.1)
+and_five a b c d e h = grind (arith, and_parts, and_four)
 
 -- each item that passes one test passes the other
 pub all_weaker : {X : Type 0} (p q : X → Bool) → ((x : X) → IsTrue (p x) → IsTrue (q x)) → (xs : List X) →
     IsTrue (list_all p xs) → IsTrue (list_all q xs)
 all_weaker p q f [] h = refl
-all_weaker p q f (x ∷ xs) h =
-    let r = and_parts (p x) (list_all p xs) h in λ i. f x r.0 i && all_weaker p q f xs r.1 i
+all_weaker p q f (x ∷ xs) h = grind (arith, and_parts, all_weaker p q f xs)
 
 -- a fact, and those after it
 infixr 20 ◌also◌

@@ -23,14 +23,14 @@ fields_line_of t w a b fs = grind (arith, append_assoc, joined)
 lines_more : {A : Type 0} (f : A → List ℕ) (t : List ℕ) (xs : List A) (k : ℕ) (d : A) → k < length xs
     → (t ++ concat (map f (take k xs))) ++ f (get_or xs k d) ≡ t ++ concat (map f (take (k + 1) xs))
 lines_more f t xs k d lt =
-    let last : concat (f (get_or xs k d) ∷ []) ≡ f (get_or xs k d) = append-nil (f (get_or xs k d)) in
-    rw (
+    grind (
+      arith,
+      append-nil (f (get_or xs k d)),
       take_more xs k d lt,
       map-append f (take k xs) (get_or xs k d ∷ []),
       concat-append (map f (take k xs)) (f (get_or xs k d) ∷ []),
-      last,
+      append_assoc t (concat (map f (take k xs))) (f (get_or xs k d)),
     )
-    (append_assoc t (concat (map f (take k xs))) (f (get_or xs k d)))
 
 pub entries_more : (t : List ℕ) (es : List Entry) (k : ℕ) (d : Entry) → k < length es
     → (t ++ concat (map (λ e. entry_line (entry_of e)) (take k es))) ++ entry_line (entry_of (get_or es k d))
