@@ -1,7 +1,6 @@
 -- The bytes that a reference encodes as have no fault.
-use Rattle.std.proofs.Common.{rules}
-use Rattle.std.proofs.Common.{◌≡◌, ℕ, zero, suc, ◌%◌, ◌<◌, List, [], ◌∷◌, ◌++◌, Option, Some, None, IsSome, IfSome}
-use Rattle.std.proofs.Common.{IfErr, Result, Ok, Err, slice_index, arith}
+use Rattle.std.proofs.Common.{rules, ◌≡◌, ℕ, zero, suc, ◌%◌, ◌<◌, List, [], ◌∷◌, ◌++◌, Option, Some, None, IsSome}
+use Rattle.std.proofs.Common.{IfSome, IfErr, Result, Ok, Err, slice_index, arith}
 use Rattle.std.specs.List.{AllByRecursion, flat_map}
 use Rattle.base64.specs.GeneralPurpose.{IsBytes}
 use Rattle.olr_spec.specs.Reference.{First, Middle, Last, Reference}

@@ -1,9 +1,7 @@
 -- The changes that a content is written as build it from an empty one.
-use Rattle.std.proofs.Common.{arith}
-use Rattle.std.proofs.Common.{◌≡◌, ◌≢◌, ℕ, true, false, T, List, [], ◌∷◌, ◌++◌, map}
-use Rattle.std.proofs.Common.{Option, Some, None, is_some, Ok, refl, sym, ap, ◌∙◌, subst}
-use Rattle.std.proofs.Common.{append_assoc}
-use Rattle.std.proofs.Common.{nat_cmp, Ordering, Less, Equal, Greater, is_lt, is_eq}
+use Rattle.std.proofs.Common.{arith, ◌≡◌, ◌≢◌, ℕ, true, false, T, List, [], ◌∷◌, ◌++◌, map, Option, Some, None, is_some}
+use Rattle.std.proofs.Common.{Ok, refl, sym, ap, ◌∙◌, subst, append_assoc, nat_cmp, Ordering, Less, Equal, Greater}
+use Rattle.std.proofs.Common.{is_lt, is_eq}
 use Rattle.std.proofs.lemmas.Bool.{eq-eqb, ne_eqb, cases_eq, both_ways}
 use Rattle.std.proofs.lemmas.List.{append-nil}
 use Rattle.std.specs.List.{AllByRecursion}
@@ -15,9 +13,8 @@ use Rattle.std.specs.FinMap.Entries.{below_all, find, is_sorted}
 use Rattle.olr_spec.specs.Coordinates.{Coord}
 use Rattle.olr_spec.specs.Map.{Map, IsMap, Line, is_good}
 use Rattle.olr_spec.proofs.EditLemmas.{got_other, got_same}
-use Rattle.olr_commands.specs.State.{Named, Content, no_content, path_named}
-use Rattle.olr_commands.specs.State.{Change, with_change, next, Make}
-use Rattle.olr_commands.specs.State.{ArePaths, NamesDiffer}
+use Rattle.olr_commands.specs.State.{Named, Content, no_content, path_named, Change, with_change, next, Make, ArePaths}
+use Rattle.olr_commands.specs.State.{NamesDiffer}
 use Rattle.olr_commands.specs.Dump.{node_change, line_change, path_change, dump_changes, Leads, steps}
 use Rattle.olr_commands.specs.Dump.{DumpsLead, DumpsRun, DumpsAgain}
 use Rattle.olr_commands.proofs.StateLemmas.{next_ok}

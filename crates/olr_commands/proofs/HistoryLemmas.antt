@@ -1,7 +1,6 @@
 -- Whole runs.
-use Rattle.std.proofs.Common.{rules}
-use Rattle.std.proofs.Common.{inl, inr, ◌≡◌, ℕ, Bool, true, false, cond, not, List, [], ◌∷◌, ◌++◌, length, Option, Some}
-use Rattle.std.proofs.Common.{None, Result, Ok, Err, refl, sym, ap, ◌∙◌, subst, arith}
+use Rattle.std.proofs.Common.{rules, inl, inr, ◌≡◌, ℕ, Bool, true, false, cond, not, List, [], ◌∷◌, ◌++◌, length}
+use Rattle.std.proofs.Common.{Option, Some, None, Result, Ok, Err, refl, sym, ap, ◌∙◌, subst, arith}
 use Rattle.std.specs.Prelude.{nat_le, ◌||◌, MatchOption, IsSomeAnd, IfSome}
 use Rattle.std.specs.List.{list_any, AllByRecursion, concat}
 use Rattle.std.specs.Result.{result_unwrap_or}
@@ -220,9 +219,6 @@ report_all before M (p ∷ ps) es d c =
       | inr g ↦ subst (AllByRecursion (Reports before M (p ∷ ps))) (sym g.1)
           ((c.0, p.path, named_first p ps p.name ((bytes_decides p.name p.name).1 refl), c.2, refl, g.0), rest)
     ]
-
-abbrev names_any : List Entry → List ℕ → Bool
-names_any es name = list_any (λ e. same_name e.name name) es
 
 -- the entry of a name
 entry_of : (P : Entry → Type 0) (es : List Entry) (name : List ℕ) → AllByRecursion P es → names es name →

@@ -1,6 +1,5 @@
 -- Lists of named paths: what is preserved when a path is appended, set or dropped.
-use Rattle.std.proofs.Common.{◌≡◌, ℕ, Bool, true, false, List, [], ◌∷◌, ◌++◌, map, is_some}
-use Rattle.std.proofs.Common.{IsTrue, refl, arith}
+use Rattle.std.proofs.Common.{◌≡◌, ℕ, Bool, true, false, List, [], ◌∷◌, ◌++◌, map, is_some, IsTrue, refl, arith}
 use Rattle.std.specs.List.{filter}
 use lib.Pointwise.{bytes_decides}
 use Rattle.olr_spec.specs.Extension.{Path, is_path}

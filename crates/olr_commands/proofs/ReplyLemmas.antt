@@ -1,16 +1,13 @@
 -- A reply is determined.
-use Rattle.std.proofs.Common.{arith}
-use Rattle.std.proofs.Common.{◌≡◌, ℕ, List, [], ◌∷◌, Option, Some, None, IsTrue, sym, ap}
-use Rattle.std.proofs.Common.{◌∙◌, subst}
+use Rattle.std.proofs.Common.{arith, ◌≡◌, ℕ, List, [], ◌∷◌, Option, Some, None, IsTrue, sym, ap, ◌∙◌, subst}
 use Rattle.olr_spec.specs.Map.{Map, IsMap}
 use Rattle.olr_spec.specs.Extension.{Path, is_path}
 use Rattle.olr_spec.specs.Reference.{Reference}
 use Rattle.olr_spec.specs.Encoding.{Answer, Encodes}
 use Rattle.olr_spec.proofs.AnswerLemmas.{one_answer}
 use Rattle.olr_spec.proofs.BytesLemmas.{one_decoding}
-use Rattle.olr_commands.specs.State.{Named, Content, path_named, ArePaths, IsContent, Change, State, Command}
-use Rattle.olr_commands.specs.State.{Make, Show, Report, Explain, Begin, Commit, Abort, IsState}
-use Rattle.olr_commands.specs.State.{Dump}
+use Rattle.olr_commands.specs.State.{Named, Content, path_named, ArePaths, IsContent, Change, State, Command, Make}
+use Rattle.olr_commands.specs.State.{Show, Report, Explain, Begin, Commit, Abort, IsState, Dump}
 use Rattle.olr_commands.specs.Reply.{Entry, entry, Reply, Paths, Fields, HasAnswer, AllOf, ChangedOf, Differences}
 use Rattle.olr_commands.specs.Reply.{Shown, Explained, IsPaths, IsFields, IsChangeReply, IsReply}
 

@@ -1,8 +1,6 @@
 -- A path that is added or set outside of batches: it is encoded, no answer is retained, and nothing else is searched.
-use Rattle.std.proofs.Common.{rules}
-use Rattle.std.proofs.Common.{arith}
-use Rattle.std.proofs.Common.{inr, ◌≡◌, ℕ, Bool, true, false, cond, not, List, [], ◌∷◌, ◌++◌, map, Option, Some}
-use Rattle.std.proofs.Common.{None, is_some, Result, Ok, Err, refl, sym, ap, ◌∙◌, subst, append-nil}
+use Rattle.std.proofs.Common.{rules, arith, inr, ◌⊎◌, ◌≡◌, ℕ, Bool, true, false, cond, not, List, [], ◌∷◌, ◌++◌, map}
+use Rattle.std.proofs.Common.{Option, Some, None, is_some, Result, Ok, Err, refl, sym, ap, ◌∙◌, subst, append-nil}
 use Rattle.std.proofs.Math.Bool.{or-false}
 use Rattle.olr_spec.specs.Map.{has}
 use Rattle.std.specs.List.{list_any}
@@ -20,13 +18,11 @@ use Rattle.olr_commands.proofs.StateLemmas.{when_ok, accepted, passed}
 
 -- ---- one path of a list without repeats
 
--- where the path of that name is
-data Found (p : Named) (ps : List Named) (name : List ℕ) (path : Path) : Type 0 where
-  Here : same_name p.name name ≡ true → p.path ≡ path → is_some (path_named ps name) ≡ false → Found p ps name path
-  Later : same_name p.name name ≡ false → path_named ps name ≡ Some path → Found p ps name path
-
+-- the path of that name is the first, and the others have other names; or it is a later one
 found : (p : Named) (ps : List Named) (name : List ℕ) (path : Path) → NamesDiffer (p ∷ ps) →
-    path_named (p ∷ ps) name ≡ Some path → Found p ps name path
+    path_named (p ∷ ps) name ≡ Some path
+    → ((same_name p.name name ≡ true) × (p.path ≡ path) × (is_some (path_named ps name) ≡ false))
+    ⊎ ((same_name p.name name ≡ false) × (path_named ps name ≡ Some path))
 found p ps name path d h = search (rules, arith, cases_Bool, same_is)
 
 -- what is counted and collected of it

@@ -18,9 +18,8 @@ use Rattle.olr_commands.specs.State.{Named, Content, path_named, same_name, AreP
 use Rattle.olr_commands.specs.State.{Change, Command, Make, Show, Report, Explain, Begin, Commit, Abort, HasCoords}
 use Rattle.olr_commands.specs.State.{State, step, IsState, Dump}
 use Rattle.olr_commands.specs.Dump.{dump_lines}
-use Rattle.olr_commands.specs.Reply.{Dumped}
-use Rattle.olr_commands.specs.Reply.{Entry, entry, Reply, Paths, Held, HasAnswer, AllOf, ChangedOf, Differences, Shown}
-use Rattle.olr_commands.specs.Reply.{IsChangeReply, IsReply}
+use Rattle.olr_commands.specs.Reply.{Dumped, Entry, entry, Reply, Paths, Held, HasAnswer, AllOf, ChangedOf, Differences}
+use Rattle.olr_commands.specs.Reply.{Shown, IsChangeReply, IsReply}
 use Rattle.olr_commands.proofs.StateLemmas.{when_ok, steps_keep}
 use Rattle.olr_commands.proofs.ReplyLemmas.{named_path, one_has}
 

@@ -5,12 +5,11 @@ use Rattle.std.specs.Prelude.{nat_le, IfSome}
 use Rattle.std.specs.Result.{result_unwrap_or}
 use Rattle.std.proofs.lemmas.Bool.{not-false, leb-false}
 use Rattle.olr_spec.specs.Map.{Map, IsMap, MapFault, edited}
-use Rattle.olr_commands.specs.State.{Content, TextFault, Fault}
-use Rattle.olr_commands.specs.State.{No_path, Batch_full, Count_differs, when, Change, On_map, Add_path}
-use Rattle.olr_commands.specs.State.{Set_path, Drop_path, with_map, with_change, next, after, Command, Make, Show}
-use Rattle.olr_commands.specs.State.{Report, Explain, Begin, Commit, Abort, State, full, at_once, into_batch}
-use Rattle.olr_commands.specs.State.{text_fault, unless_fault, step, IsContent, AllAccepted, IsBatch, IsState}
-use Rattle.olr_commands.specs.State.{HasCoords, Not_a_record, Dump}
+use Rattle.olr_commands.specs.State.{Content, TextFault, Fault, No_path, Batch_full, Count_differs, when, Change}
+use Rattle.olr_commands.specs.State.{On_map, Add_path, Set_path, Drop_path, with_map, with_change, next, after, Command}
+use Rattle.olr_commands.specs.State.{Make, Show, Report, Explain, Begin, Commit, Abort, State, full, at_once}
+use Rattle.olr_commands.specs.State.{into_batch, text_fault, unless_fault, step, IsContent, AllAccepted, IsBatch}
+use Rattle.olr_commands.specs.State.{IsState, HasCoords, Not_a_record, Dump}
 use Rattle.olr_spec.proofs.EditLemmas.{edits_keep}
 use Rattle.olr_commands.proofs.NameLemmas.{differ_push, differ_set, differ_filter, paths_push, paths_set, paths_filter}
 use Rattle.std.proofs.lemmas.List.{length_push}

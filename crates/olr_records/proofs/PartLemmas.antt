@@ -1,6 +1,5 @@
 -- Two parts of one record, where reading one of them or both may take memory.
-use Rattle.std.proofs.Common.{arith}
-use Rattle.std.proofs.Common.{◌≡◌, Ok, Err, Result, sym, ap, subst}
+use Rattle.std.proofs.Common.{arith, ◌≡◌, Ok, Err, Result, sym, ap, subst}
 use Rattle.std.specs.Prelude.{IsOkAnd}
 use Rattle.olr_records.specs.Records.{Read, ◌⊛◌}
 use Rattle.olr_records.specs.Words.{Reads, Gathers, both}

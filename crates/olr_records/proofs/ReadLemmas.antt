@@ -119,9 +119,6 @@ Shape ss = IsTrue (list_all is_point ss)
 abbrev Point : ShapePoint → Type 0
 Point s = IsTrue (is_point s)
 
-abbrev On : ℕ → Type 0
-On n = IsTrue (nat_le 1 n && nat_le n 999999)
-
 point_passes : (at lon lat : Field) → IfOk (point at lon lat) Point
 point_passes at lon lat = grind (arith, digits_pass 1 999999 at, place_passes lon lat)
 

@@ -1,7 +1,5 @@
 -- Commands whose changes have records lead to contents that have records.
-use Rattle.std.proofs.Common.{rules}
-use Rattle.std.proofs.Common.{arith}
-use Rattle.std.proofs.Common.{◌≡◌, ℕ, Bool, true, not, List, [], ◌∷◌, ◌++◌, map, filter, length, Option}
+use Rattle.std.proofs.Common.{rules, arith, ◌≡◌, ℕ, Bool, true, not, List, [], ◌∷◌, ◌++◌, map, filter, length, Option}
 use Rattle.std.proofs.Common.{Some, None, is_some, unwrap_or, Result, Ok, Err, IsTrue, refl, sym, ◌∙◌, subst, nat_cmp}
 use Rattle.std.specs.Prelude.{nat_le, ◌==◌, ◌&&◌, IfSome}
 use Rattle.std.specs.List.{list_all, AllByRecursion}

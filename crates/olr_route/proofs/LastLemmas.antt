@@ -1,6 +1,5 @@
 -- Lists and routes by their last line.
-use Rattle.std.proofs.Common.{arith}
-use Rattle.std.proofs.Common.{◌≡◌, ℕ, List, [], ◌∷◌, ◌++◌, Option, Some, None, refl, sym, ap, ◌∙◌}
+use Rattle.std.proofs.Common.{arith, ◌≡◌, ℕ, List, [], ◌∷◌, ◌++◌, Option, Some, None, refl, sym, ap, ◌∙◌}
 use Rattle.olr_spec.specs.Map.{Map, start}
 use Rattle.olr_spec.specs.Routes.{Least}
 use Rattle.olr_spec.proofs.RouteLemmas.{prefix_of_least}

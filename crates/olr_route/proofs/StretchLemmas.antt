@@ -1,8 +1,7 @@
 -- The first lines of a route, one more at a time.
 use Rattle.std.proofs.Common.{◌≡◌, ℕ, ◌+◌, ◌<◌, ◌≤◌, List, [], ◌∷◌, ◌++◌, take, drop, length, get_or, IsTrue, sym, ap}
-use Rattle.std.proofs.Common.{◌∙◌, subst, arith, append_assoc, add-one, drop-cons, suc}
+use Rattle.std.proofs.Common.{◌∙◌, subst, arith, append_assoc, add-one, drop-cons, suc, Bool, true, false, ◌↔◌}
 use Rattle.std.proofs.lemmas.Bool.{both_ways}
-use Rattle.std.proofs.Common.{Bool, true, false, ◌↔◌}
 use Rattle.std.proofs.lemmas.List.{take_more, take-append-drop}
 use Rattle.olr_spec.specs.Map.{Map, IsMap, has_line, start, end}
 use Rattle.olr_spec.specs.Routes.{IsRoute, dm_of, Least, UniqueShortest}

@@ -1,6 +1,4 @@
-use Rattle.std.proofs.Common.{arith}
-use Rattle.std.proofs.Common.{rules}
-use Rattle.std.proofs.Common.{w32}
+use Rattle.std.proofs.Common.{arith, rules, w32}
 use Rattle.std.proofs.lemmas.Int.{to_z-of_z}
 use Rattle.olr_binary.proofs.PointLemmas.{first_bytes-parts}
 use Rattle.olr_binary.proofs.read.read_first.Goals as goal
