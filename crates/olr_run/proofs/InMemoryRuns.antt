@@ -1,7 +1,6 @@
 -- Runs over bytes in memory are runs of a csv reader that has all of its bytes.
-use Rattle.std.proofs.Common.{arith}
-use Rattle.std.proofs.Common.{rules}
-use Rattle.std.proofs.Common.{◌≡◌, ◌∙◌, ℕ, Bool, List, [], ◌∷◌, Option, Some, None, true, false, refl, ap, inl}
+use Rattle.std.proofs.Common.{arith, rules, ◌≡◌, ◌∙◌, ℕ, Bool, List, [], ◌∷◌, Option, Some, None, true, false, refl, ap}
+use Rattle.std.proofs.Common.{inl}
 use Rattle.csv.specs.Reading.{ReadRecord, ReadsNext, default_config, source_of, pending_of, strip_bom}
 use Rattle.csv.specs.declared.reader.Reader.{Reader}
 use Rattle.csv.specs.declared.reader.Trim.TheVariants as trim

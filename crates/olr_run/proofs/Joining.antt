@@ -1,7 +1,6 @@
 -- Two runs on one register are one run over the records of both.
-use Rattle.std.proofs.Common.{arith}
-use Rattle.std.proofs.Common.{◌≡◌, ◌∙◌, ◌≢◌, ◌+◌, ℕ, Bool, true, false, List, [], ◌∷◌, ◌++◌, length, length-append, Some}
-use Rattle.std.proofs.Common.{inl, inr, refl, sym, ap, subst}
+use Rattle.std.proofs.Common.{arith, ◌≡◌, ◌∙◌, ◌≢◌, ◌+◌, ℕ, Bool, true, false, List, [], ◌∷◌, ◌++◌, length}
+use Rattle.std.proofs.Common.{length-append, Some, inl, inr, refl, sym, ap, subst}
 use Rattle.std.specs.Prelude.{◌&&◌, ◌||◌, is_err, if◌then◌else◌}
 use Rattle.std.proofs.lemmas.Bool.{both_ways, or_from, or_right}
 use Rattle.std.proofs.lemmas.List.{append_assoc}

@@ -1,12 +1,8 @@
 -- The faults that a command has by its state, and where out of memory may be reported.
-use Rattle.std.proofs.Common.{arith}
-use Rattle.std.proofs.Common.{Bool, false, List, Option, Some, None, Result, Ok, Err, inl, inr, ◌⊎◌}
-use Rattle.std.proofs.Common.{IsTrue}
+use Rattle.std.proofs.Common.{arith, Bool, false, List, Option, Some, None, Result, Ok, Err, inl, inr, ◌⊎◌, IsTrue}
 use Rattle.std.specs.Prelude.{◌≡◌, IfErr, IsOkAnd, ⊤}
-use Rattle.olr_commands.specs.State.{Fault, Memory}
-use Rattle.olr_commands.specs.State.{Content, State, Change, On_map, Command, Make, Show}
-use Rattle.olr_commands.specs.State.{Explain, Commit, after, with_change}
-use Rattle.olr_commands.specs.State.{step_in, Dump, Not_a_record, is_recordable}
+use Rattle.olr_commands.specs.State.{Fault, Memory, Content, State, Change, On_map, Command, Make, Show, Explain}
+use Rattle.olr_commands.specs.State.{Commit, after, with_change, step_in, Dump, Not_a_record, is_recordable}
 use Rattle.olr_commands.specs.Reply.{may_lack, IsRefusal, ByState, Lacks}
 use Rattle.olr_records.specs.Records.{Field, Bad_form, Out_of_range, Read, read, HoldsList}
 use Rattle.olr_run.specs.Output.{CommandOutcome, RecordOutcome}

@@ -1,7 +1,6 @@
 -- The records that a run has answered so far.
-use Rattle.std.proofs.Common.{arith}
-use Rattle.std.proofs.Common.{◌≡◌, ◌∙◌, ◌+◌, ℕ, Bool, true, false, not, List, [], ◌∷◌, ◌++◌, length, map, Ok, Err, Result, inl}
-use Rattle.std.proofs.Common.{inr, refl, sym, ap, subst, length-append}
+use Rattle.std.proofs.Common.{arith, ◌≡◌, ◌∙◌, ◌+◌, ℕ, Bool, true, false, not, List, [], ◌∷◌, ◌++◌, length, map, Ok}
+use Rattle.std.proofs.Common.{Err, Result, inl, inr, refl, sym, ap, subst, length-append}
 use Rattle.std.specs.Prelude.{◌&&◌, ◌||◌, is_err, is_ok, if◌then◌else◌, ⊤, IfErr, IsErrAnd}
 use Rattle.std.proofs.lemmas.Bool.{both_ways, or_parts}
 use Rattle.std.proofs.lemmas.List.{append-nil}

@@ -1,6 +1,5 @@
 -- By clap's rules for the arguments, which are those of the definition.
-use Rattle.std.proofs.Common.{arith}
-use Rattle.std.proofs.Common.{◌≡◌, ◌∙◌, map, sym, ap, false, true}
+use Rattle.std.proofs.Common.{arith, ◌≡◌, ◌∙◌, map, sym, ap, false, true}
 use Rattle.std.proofs.lemmas.Bool.{false≢true}
 use Rattle.clap.specs.Faults.{fault_of, is_simple_and_free}
 use Rattle.clap.specs.Simple.{App}

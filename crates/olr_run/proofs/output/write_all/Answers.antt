@@ -1,5 +1,4 @@
-use Rattle.std.proofs.Common.{arith}
-use Rattle.std.proofs.Common.{refl}
+use Rattle.std.proofs.Common.{arith, refl}
 use Rattle.olr_run.proofs.Writing.{written_more, front_of, took_nothing}
 use Rattle.olr_run.proofs.output.write_all.Goals as goal
 

@@ -1,5 +1,4 @@
-use Rattle.std.proofs.Common.{arith}
-use Rattle.std.proofs.Common.{inl, inr, ◌≡◌, [], ◌∷◌, ◌++◌, Option, is_some, not, Ok, Err, refl, ap, ◌∙◌}
+use Rattle.std.proofs.Common.{arith, inl, inr, ◌≡◌, [], ◌∷◌, ◌++◌, Option, is_some, not, Ok, Err, refl, ap, ◌∙◌}
 use Rattle.std.specs.Ordering.{nat_cmp}
 use Rattle.std.specs.Cmp.{nat_cmp_total}
 use Rattle.std.specs.FinMap.{insert, remove, empty, get-empty, get-insert}
