@@ -13,8 +13,8 @@ use Rattle.olr_spec.specs.Encoding.{Answer, Points, Refused, Refusal, path_fault
 use Rattle.olr_spec.proofs.AnswerLemmas.{one_answer}
 use Rattle.olr_spec.proofs.DecideLemmas.{some_answer}
 use Rattle.olr_spec.proofs.UndoLemmas.{empty_sound}
-use Rattle.olr_refs.specs.Referring.{Joined}
-use Rattle.olr_refs.proofs.Referring.{joined}
+use Rattle.olr_spec.specs.Joins.{Joined}
+use Rattle.olr_spec.proofs.JoinedAnswers.{joined}
 use Rattle.olr_commands.specs.State.{Named, Content, path_named, same_name, ArePaths, NamesDiffer, IsContent}
 use Rattle.olr_commands.specs.State.{Fault, No_path, Batch_full, Count_differs, Change, with_change, next}
 use Rattle.olr_commands.specs.State.{after, Command, Make, Show, Report, Explain, Begin, Commit, Abort, State}

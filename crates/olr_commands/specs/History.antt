@@ -15,7 +15,7 @@ use Rattle.olr_spec.specs.Map.{Map}
 use Rattle.olr_spec.specs.Extension.{Path}
 use Rattle.olr_spec.specs.Reference.{Reference}
 use Rattle.olr_spec.specs.Encoding.{Answer, Points, Encodes}
-use Rattle.olr_refs.specs.Referring.{Joined}
+use Rattle.olr_spec.specs.Joins.{Joined}
 use Rattle.olr_commands.specs.State.{Content, path_named, same_name, Fault, Change, after, IsContent, State}
 use Rattle.olr_commands.specs.State.{start_state, Command, Make, Commit, HasCoords, step, changes_made, IsState}
 use Rattle.olr_commands.specs.State.{is_recordable}

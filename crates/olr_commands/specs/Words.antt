@@ -11,7 +11,7 @@ use Rattle.olr_map.specs.declared.edit.EditFault.TheVariants as edit
 use Rattle.olr_binary.specs.declared.faults.V3Fault.TheVariants as bytes
 use Rattle.olr_binary.specs.declared.faults.TextFault.{TextFault}
 use Rattle.olr_binary.specs.declared.faults.TextFault.TheVariants as text
-use Rattle.olr_refs.specs.Answers.{refusal_of}
+use Rattle.olr_answers.specs.Answers.{refusal_of}
 use Rattle.olr_commands.specs.State as state
 use Rattle.olr_commands.specs.Reply as reply
 use Rattle.olr_commands.specs.declared.command.Command.{Command}

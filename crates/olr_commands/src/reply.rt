@@ -1,7 +1,7 @@
 //! Replies to accepted commands.
 
 use olr_binary::Reference;
-use olr_refs::Refusal;
+use olr_answers::Refusal;
 
 /// A path's string, or the reason why it has none.
 #[derive(Drop)]

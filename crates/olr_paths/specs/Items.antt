@@ -11,7 +11,7 @@ use Rattle.olr_spec.specs.Map.{Map}
 use Rattle.olr_spec.specs.Extension.{Path}
 use Rattle.olr_spec.specs.Encoding.{Answer, Encodes}
 use Rattle.olr_spec.specs.Queries.{CoverageQuery, KnownQuery, TraversedOf, QueriesOf, KnownOf}
-use Rattle.olr_refs.specs.Answers.{answer_of}
+use Rattle.olr_answers.specs.Answers.{answer_of}
 use Rattle.olr_commands.specs.State.{Named, same_name}
 use Rattle.olr_paths.specs.declared.published.Published.{Published as Encoded}
 use Rattle.olr_paths.specs.declared.path_list.PathList.{PathList}

@@ -4,7 +4,7 @@ ghost use Rattle.std.specs.Result.{result_ok};
 ghost use Rattle.std.specs.Prelude.{List, IsTrue};
 ghost use Rattle.olr_spec.specs.Extension.{is_path};
 ghost use Rattle.olr_spec.specs.Queries.{CoverageQuery as QueryRecord, AreKnown, SearchedOf};
-ghost use Rattle.olr_refs.specs.Answers.{answer_of};
+ghost use Rattle.olr_answers.specs.Answers.{answer_of};
 ghost use Rattle.olr_refs.specs.Choice.{raised_count};
 ghost use Rattle.olr_commands.specs.Reply.{published_text};
 ghost use Rattle.olr_paths.specs.Items.{IsEncodingOf, made_of};

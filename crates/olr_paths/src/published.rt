@@ -1,7 +1,7 @@
 //! What is published of a path.
 ghost use Rattle.std.specs.Prelude.{◌≡◌, option_map, string_bytes};
 ghost use Rattle.std.specs.Result.{result_ok};
-ghost use Rattle.olr_refs.specs.Answers.{answer_of};
+ghost use Rattle.olr_answers.specs.Answers.{answer_of};
 ghost use Rattle.olr_commands.specs.Reply.{published_text};
 
 use olr_commands::Entry;

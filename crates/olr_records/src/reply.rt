@@ -1,7 +1,7 @@
 //! The texts of replies.
 ghost use Rattle.std.specs.Prelude.{◌≡◌, ◌≤◌, ◌++◌, ◌∷◌, [], ℕ, List, decimal, length, map, IfOk, OnOk};
 ghost use Rattle.std.specs.List.{concat};
-ghost use Rattle.olr_refs.specs.Answers.{refusal_of};
+ghost use Rattle.olr_answers.specs.Answers.{refusal_of};
 ghost use Rattle.olr_commands.specs.RecordText.{after_commas};
 ghost use Rattle.olr_commands.specs.Reply.{Paths, Dumped};
 ghost use Rattle.olr_commands.specs.Words.{reply_of, entry_of};
@@ -10,7 +10,7 @@ ghost use Rattle.olr_records.specs.ReplyText as texts;
 use crate::texts::push_point;
 use olr_binary::{Attrs, First, Last, Middle, Reference};
 use olr_commands::{Dump, Entry, Reply, push_field, push_number};
-use olr_refs::Refusal;
+use olr_answers::Refusal;
 use std::alloc::{AllocError, Global};
 
 /// The line of a reply that names no path. It takes no memory.

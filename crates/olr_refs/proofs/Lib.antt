@@ -1,6 +1,5 @@
 pub mod Runs
 pub mod Choosing
-pub mod Distinct
 pub mod Ends
 pub mod Extending
 pub mod Faulting

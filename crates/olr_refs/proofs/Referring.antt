@@ -21,8 +21,8 @@ use Rattle.olr_spec.proofs.JoinLemmas.{routes_join}
 use Rattle.olr_spec.proofs.KeptLemmas.{two_kept}
 use Rattle.olr_spec.proofs.LocalLemmas.{local_answer}
 use Rattle.olr_spec.proofs.RouteLemmas.{dm_of-append}
-use Rattle.olr_refs.specs.declared.answer.Answer.{Answer}
-use Rattle.olr_refs.specs.declared.answer.Answer.TheVariants.{Points, Refused}
+use Rattle.olr_answers.specs.declared.answer.Answer.{Answer}
+use Rattle.olr_answers.specs.declared.answer.Answer.TheVariants.{Points, Refused}
 use Rattle.olr_refs.specs.Choice.{ForPoints, searches_of}
 use Rattle.olr_refs.specs.Reuse.{Reuses, Asks, AsksOf}
 use Rattle.olr_search.specs.declared.work.Work.{Work}
@@ -30,13 +30,14 @@ use Rattle.std.proofs.lemmas.Slice.Zip.{AllZip-long}
 use Rattle.std.proofs.lemmas.List.Sums.{length-filter}
 use Rattle.olr_refs.specs.Extends.{Extends}
 use Rattle.olr_refs.specs.KeptPoints.{later}
-use Rattle.olr_refs.specs.Referring.{Joined, JoinsOf, SearchesOf}
+use Rattle.olr_spec.proofs.JoinedAnswers.{joined}
+use Rattle.olr_refs.specs.Referring.{JoinsOf, SearchesOf}
 use Rattle.olr_spec.proofs.JoinedLemmas.{extended_joined}
 use Rattle.olr_spec.proofs.ReceiverLemmas.{recovered}
-use Rattle.olr_refs.specs.Answers.{answer_of}
+use Rattle.olr_answers.specs.Answers.{answer_of}
 use Rattle.olr_refs.specs.Recovered.{RecoveredOf}
 use Rattle.olr_spec.specs.Encoding as spec
-use Rattle.olr_refs.specs.Answers as answers
+use Rattle.olr_answers.specs.Answers as answers
 
 -- ---- a path for which none of reasons 1 to 3 holds
 
@@ -88,31 +89,6 @@ pub encoding_of : (M : Map) (P E : Path) (lead : ℕ) (F G : List ℕ) (A : spec
 encoding_of M P E lead F G A x a = of_path M P E lead F G (λ e _ _ js. A ≡ answer_by_points M e js) x a
 
 -- ---- the routes
-
--- the offsets are shorter than the extended path
-some_left : (M : Map) (P : Path) → path_fault M P ≡ None → (before after : List ℕ) →
-    (extended_path M P before after).pos + (extended_path M P before after).neg
-    < dm_of M (extended_path M P before after).lines
-some_left M P none before after =
-    let b = taken_start M before P.lines in
-    let fs = from_start M P before in
-    let a = taken_end M fs after in
-    let less = long_enough M P none in
-    omega (arith, dm_of-append M fs a, dm_of-append M b P.lines)
-
--- so at least two LRPs remain
-pub joined : (M : Map) (P : Path) (r : Reference) → path_fault M P ≡ None → Encoding M P (spec.Points r) → Joined M P r
-joined M P r none p =
-    let E = extended_path M P p.before p.after in
-    let gs = legs M E.lines in
-    let is = answered M E p.points r p.holds in
-    let left = some_left M P none p.before p.after in
-    let ends = kept_ends M E.lines p.points E.pos E.neg p.follow is.0 left in
-    let two =
-    two_of (kept_points gs E.pos E.neg p.points) (first_kept gs E.pos p.points) (last_kept gs E.neg p.points) ends.0
-    ends.1 (two_kept M E.lines p.points E.pos E.neg p.follow is.0 left) in
-    let count = ap (λ (ks : List ℕ). length ks) two.3 in
-    path_also p (is.1, is.0, omega arith, routes_join M E.lines p.points E.pos E.neg p.follow is.0)
 
 pub joins_of : (M : Map) (P : Path) (A : Answer) → path_fault M P ≡ None → Encoding M P (answers.answer_of A) →
     JoinsOf M P A

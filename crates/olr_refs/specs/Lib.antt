@@ -1,5 +1,4 @@
 pub mod Along
-pub mod Answers
 pub mod Runs
 pub mod Choice
 pub mod Coded

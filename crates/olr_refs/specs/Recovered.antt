@@ -6,8 +6,8 @@ use Rattle.olr_spec.specs.Map.{Map}
 use Rattle.olr_spec.specs.Extension.{Path}
 use Rattle.olr_spec.specs.Receiver.{Receiver, Recovers}
 use Rattle.olr_spec.specs.Recovery.{Distinct, IsStretches}
-use Rattle.olr_refs.specs.declared.answer.Answer.{Answer}
-use Rattle.olr_refs.specs.declared.answer.Answer.TheVariants.{Points, Refused}
+use Rattle.olr_answers.specs.declared.answer.Answer.{Answer}
+use Rattle.olr_answers.specs.declared.answer.Answer.TheVariants.{Points, Refused}
 
 abbrev pub RecoveredOf : Map → Path → Answer → Type 0
 RecoveredOf M P (Refused f) = ⊤

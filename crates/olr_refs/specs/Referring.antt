@@ -1,5 +1,4 @@
 -- What is known of an encoding beside its answer: the routes that join, and the searches that it makes.
---     Joined M P r      r is the reference of at least two LRPs, and the routes between them join to the extended path
 --     JoinsOf M P A      if the answer has LRPs, this holds for its reference
 --     SearchesOf M P n      the path is encoded by n searches
 use Rattle.std.specs.Prelude.{◌≡◌, ◌≤◌, ℕ, ◌∷◌, length, MatchOption, ⊤}
@@ -8,17 +7,10 @@ use Rattle.olr_spec.specs.Extension.{Path}
 use Rattle.olr_spec.specs.Points.{last_position, OfPath}
 use Rattle.olr_spec.specs.Reference.{Reference, legs, kept_points, reference}
 use Rattle.olr_spec.specs.Encoding.{path_fault}
-use Rattle.olr_spec.specs.Joins.{Joins}
-use Rattle.olr_refs.specs.declared.answer.Answer.{Answer}
-use Rattle.olr_refs.specs.declared.answer.Answer.TheVariants.{Points, Refused}
+use Rattle.olr_spec.specs.Joins.{Joined}
+use Rattle.olr_answers.specs.declared.answer.Answer.{Answer}
+use Rattle.olr_answers.specs.declared.answer.Answer.TheVariants.{Points, Refused}
 use Rattle.olr_refs.specs.Choice.{searches_of}
-
--- the LRPs lead to the end of the extended path
-abbrev pub Joined : Map → Path → Reference → Type 0
-Joined M P r =
-    OfPath M P (λ E _ _ js. (r ≡ reference (legs M E.lines) E.pos E.neg js) × (last_position 0 js ≡ length E.lines)
-    × (2 ≤ length (kept_points (legs M E.lines) E.pos E.neg js))
-    × Joins M E.lines (kept_points (legs M E.lines) E.pos E.neg js))
 
 abbrev pub JoinsOf : Map → Path → Answer → Type 0
 JoinsOf M P (Refused f) = ⊤

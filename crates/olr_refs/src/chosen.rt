@@ -11,7 +11,7 @@ ghost use Rattle.olr_refs.specs.Reuse.{Reuses, Asks, AsksAfter};
 
 use crate::along::ResolvedPath;
 use crate::choice::{last_within_limit, next_of};
-use crate::coverage_query::{CoverageQuery, KnownQuery};
+use olr_answers::{CoverageQuery, KnownQuery};
 use crate::reach::{Tested, covered_to};
 use crate::reuse::{Reuse, known_after, own_query, query_of, reach_by};
 use olr_map::{Footprint, MapRead};

@@ -6,7 +6,7 @@ ghost use Rattle.olr_spec.specs.Encoding.{path_fault, Encoding as EncodingRecord
 ghost use Rattle.olr_spec.specs.Footprint.{Foot};
 ghost use Rattle.olr_spec.specs.Queries.{QueriesOf, TraversedOf, TraversedOfExtended, AreKnown, KnownOf, SearchedOf};
 ghost use Rattle.olr_spec.specs.Queries.{CoverageQuery as QueryRecord};
-ghost use Rattle.olr_refs.specs.Answers.{answer_of};
+ghost use Rattle.olr_answers.specs.Answers.{answer_of};
 ghost use Rattle.olr_spec.specs.Encoding.{answer_by_points as answer_along};
 ghost use Rattle.olr_spec.specs.Routes.{dm_of};
 ghost use Rattle.olr_refs.specs.Choice.{ForPoints, IsChoice, Notes, SeenBy, SettledBy, raised_count};
@@ -15,12 +15,12 @@ ghost use Rattle.olr_refs.specs.ResolvedLines.{records_of};
 ghost use Rattle.olr_refs.specs.Reuse.{Reuses, Asks, AsksOf, Searched};
 
 use crate::along::{ResolvedPath, distances};
-use crate::answer::{Answer, Refusal};
+use olr_answers::{Answer, Refusal};
 use crate::chosen::{Choice, Queries, points};
-use crate::coverage_query::{CoverageQuery, KnownQuery};
+use olr_answers::{CoverageQuery, KnownQuery};
 use crate::extension::{Extended, extend};
 use crate::faults::own_lines;
-use crate::path::Path;
+use olr_answers::Path;
 use crate::reference::reference_of;
 use crate::resolved::ResolvedLine;
 use crate::reuse::Reuse;

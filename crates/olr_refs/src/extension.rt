@@ -8,7 +8,7 @@ ghost use Rattle.olr_refs.specs.Extends.{Extends};
 ghost use Rattle.olr_refs.specs.ResolvedLines.{records_of};
 
 use crate::degree_two_runs::longest_run;
-use crate::path::Path;
+use olr_answers::Path;
 use crate::resolved::{ResolvedLine, ids_of};
 use olr_map::{Footprint, LineId, MapRead, NodeId};
 use olr_search::Direction;

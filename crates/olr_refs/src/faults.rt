@@ -3,12 +3,12 @@ ghost use Rattle.std.specs.Prelude.{◌≡◌, ℕ, List, IsTrue, IfOk, MatchRes
 ghost use Rattle.olr_spec.specs.Map.{Map};
 ghost use Rattle.olr_spec.specs.Extension.{is_path};
 ghost use Rattle.olr_spec.specs.Encoding.{first_break, path_fault};
-ghost use Rattle.olr_refs.specs.Answers.{refusal_of};
+ghost use Rattle.olr_answers.specs.Answers.{refusal_of};
 ghost use Rattle.olr_refs.specs.ResolvedLines.{records_of};
 
 use crate::along::distances;
-use crate::answer::Refusal;
-use crate::path::Path;
+use olr_answers::Refusal;
+use olr_answers::Path;
 use crate::resolved::{ResolvedLine, resolve};
 use olr_map::MapRead;
 use std::alloc::{AllocError, Global};

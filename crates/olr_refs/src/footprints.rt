@@ -5,14 +5,14 @@ ghost use Rattle.olr_spec.specs.Map.{Map, IsMap, Agree};
 ghost use Rattle.olr_spec.specs.Encoding.{Encodes};
 ghost use Rattle.olr_spec.specs.Footprint.{Foot};
 ghost use Rattle.olr_spec.specs.Queries.{CoverageQuery as QueryRecord, QueriesOf};
-ghost use Rattle.olr_refs.specs.Answers.{answer_of};
+ghost use Rattle.olr_answers.specs.Answers.{answer_of};
 ghost use Rattle.olr_refs.specs.Choice.{SettledBy, raised_count};
 ghost use Rattle.olr_refs.specs.Recovered.{RecoveredOf};
 ghost use Rattle.olr_refs.specs.Referring.{JoinsOf, SearchesOf};
 
-use crate::answer::Answer;
+use olr_answers::Answer;
 use crate::encoding::encode_noting;
-use crate::path::Path;
+use olr_answers::Path;
 use olr_map::{Footprint, MapRead};
 use olr_search::{Dijkstra, Work};
 use std::alloc::{AllocError, Global};

@@ -6,7 +6,7 @@ ghost use Rattle.olr_refs.specs.Along.{IsFar, IsReach};
 ghost use Rattle.olr_refs.specs.Reuse.{Reuses, known_reach};
 
 use crate::along::ResolvedPath;
-use crate::coverage_query::{CoverageQuery, KnownQuery};
+use olr_answers::{CoverageQuery, KnownQuery};
 use crate::reach::Tested;
 use olr_map::MapRead;
 

@@ -9,7 +9,7 @@ use Rattle.std.proofs.Common.{refl}
 use Rattle.olr_spec.specs.Map.{Map, has}
 use Rattle.olr_spec.specs.Extension.{Path}
 use Rattle.olr_spec.specs.Codes.{coded_map}
-use Rattle.olr_refs.specs.Coded.{coded_path}
+use Rattle.olr_answers.specs.Coded.{coded_path}
 use Rattle.olr_commands.specs.State.{Named, Content, same_name, Change, after, State}
 use Rattle.olr_spec.specs.Detours.{ChangedLine}
 use Rattle.olr_commands.specs.Counts.{all_nodes, all_lines, all_changed, all_names}

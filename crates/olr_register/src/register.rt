@@ -46,7 +46,7 @@ impl Model for Register {
 impl Register {
     ghost use Rattle.std.specs.Prelude.{◌≡◌, ◌↔◌, length, map, option_map, is_some, slice_get, IsTrue};
     ghost use Rattle.olr_commands.specs.Reply.{Published, PublishedText};
-    ghost use Rattle.olr_refs.specs.Answers.{answer_of};
+    ghost use Rattle.olr_answers.specs.Answers.{answer_of};
     ghost use Rattle.olr_paths.specs.Yielding.{left};
     ghost use Rattle.olr_register.specs.Registered.{AllPublished, nothing_registered};
 

@@ -27,6 +27,7 @@ pub mod RouteMoves
 pub mod PointMoves
 pub mod QueryLists
 pub mod ChangeLemmas
+pub mod JoinedAnswers
 pub mod JoinedLemmas
 pub mod WayLemmas
 pub mod QueryLemmas

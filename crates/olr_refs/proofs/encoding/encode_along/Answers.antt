@@ -1,7 +1,7 @@
 use Rattle.std.proofs.Common.{◌≡◌, ◌∷◌, ℕ, List, ap, ◌∙◌, subst}
 use Rattle.olr_spec.specs.Extension.{Path}
 use Rattle.olr_spec.specs.Encoding.{answer_by_points}
-use Rattle.olr_refs.specs.Answers as answers
+use Rattle.olr_answers.specs.Answers as answers
 use Rattle.olr_refs.specs.Choice.{ForPoints}
 use Rattle.olr_refs.specs.Extends.{ExtendedPath}
 use Rattle.olr_refs.specs.Reuse.{Asks}

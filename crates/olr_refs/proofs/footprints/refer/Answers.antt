@@ -3,7 +3,7 @@ use Rattle.olr_spec.specs.Queries.{CoverageQuery}
 use Rattle.olr_spec.proofs.KnownLemmas.{all_searched}
 use Rattle.olr_refs.specs.Choice.{Notes, SeenBy, SettledBy, raised_count}
 use Rattle.olr_refs.proofs.Asking.{searched_all}
-use Rattle.olr_refs.specs.Answers.{answer_of}
+use Rattle.olr_answers.specs.Answers.{answer_of}
 use Rattle.olr_refs.proofs.Referring.{recovered_of, local_by, searches_queried}
 use Rattle.olr_refs.proofs.Noting.{noted_foot}
 use Rattle.olr_refs.proofs.footprints.refer.Goals as goal

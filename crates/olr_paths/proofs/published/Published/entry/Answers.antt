@@ -1,7 +1,7 @@
 use Rattle.std.proofs.Common.{◌≡◌, rules}
 use Rattle.std.specs.Prelude.{string_bytes}
 use Rattle.std.specs.Result.{result_map_both}
-use Rattle.olr_refs.specs.Answers.{answer_of, refusal_of}
+use Rattle.olr_answers.specs.Answers.{answer_of, refusal_of}
 use Rattle.olr_commands.specs.Reply.{published_text}
 use Rattle.olr_paths.proofs.published.Published.entry.Goals as goal
 use Rattle.olr_paths.proofs.published.Published.entry.Goals.{in-Points+in-Some+in_ok-from_str-in-Some, in-Refused}

@@ -1,5 +1,5 @@
-use Rattle.olr_refs.proofs.Distinct.{AscendsBelow}
-use Rattle.olr_refs.proofs.path.names_twice.Given as goal
+use Rattle.olr_answers.proofs.Distinct.{AscendsBelow}
+use Rattle.olr_answers.proofs.path.names_twice.Given as goal
 
 -- the numbers compared so far are strictly increasing
 abbrev pub invariant-loop-i : goal.invariant-loop-i

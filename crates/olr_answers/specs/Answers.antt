@@ -1,9 +1,9 @@
 -- Answers, and the reasons why a path is not encodable, as those of the specification.
 use Rattle.olr_spec.specs.Encoding as spec
-use Rattle.olr_refs.specs.declared.answer.Answer.{Answer}
-use Rattle.olr_refs.specs.declared.answer.Answer.TheVariants.{Points, Refused}
-use Rattle.olr_refs.specs.declared.answer.Refusal.{Refusal}
-use Rattle.olr_refs.specs.declared.answer.Refusal.TheVariants.{UnknownLine, Broken, OffsetTooLong, NoNextPoint}
+use Rattle.olr_answers.specs.declared.answer.Answer.{Answer}
+use Rattle.olr_answers.specs.declared.answer.Answer.TheVariants.{Points, Refused}
+use Rattle.olr_answers.specs.declared.answer.Refusal.{Refusal}
+use Rattle.olr_answers.specs.declared.answer.Refusal.TheVariants.{UnknownLine, Broken, OffsetTooLong, NoNextPoint}
 
 abbrev pub refusal_of : Refusal → spec.Refusal
 refusal_of (UnknownLine x) = spec.Unknown_line x

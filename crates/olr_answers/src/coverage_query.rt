@@ -18,7 +18,7 @@ pub struct CoverageQuery {
 
 impl Model for CoverageQuery {
     ghost use Rattle.olr_spec.specs.Queries.{CoverageQuery as Record};
-    ghost use Rattle.olr_refs.specs.Coded.{coded_query};
+    ghost use Rattle.olr_answers.specs.Coded.{coded_query};
 
     ghost Value = { Record };
 
@@ -45,7 +45,7 @@ pub struct KnownQuery {
 
 impl Model for KnownQuery {
     ghost use Rattle.olr_spec.specs.Queries.{KnownQuery as Record};
-    ghost use Rattle.olr_refs.specs.Coded.{coded_known};
+    ghost use Rattle.olr_answers.specs.Coded.{coded_known};
 
     ghost Value = { Record };
 

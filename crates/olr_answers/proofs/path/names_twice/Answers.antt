@@ -1,8 +1,8 @@
 use Rattle.std.proofs.Common.{◌≡◌, ℕ, ◌-◌, List, get_or, eqb, false, sym, ◌∙◌, arith}
 use Rattle.std.proofs.lemmas.Bool.{eqb-true}
 use Rattle.std.proofs.lemmas.List.{get_or_read}
-use Rattle.olr_refs.proofs.Distinct.{ascending_once, equal_twice, ascends_more}
-use Rattle.olr_refs.proofs.path.names_twice.Goals as goal
+use Rattle.olr_answers.proofs.Distinct.{ascending_once, equal_twice, ascends_more}
+use Rattle.olr_answers.proofs.path.names_twice.Goals as goal
 
 pub returns-then-eq : goal.returns-then-eq
 returns-then-eq c =

@@ -22,7 +22,7 @@ pub enum PathFault {
 }
 
 impl From<AllocError> for PathFault {
-    ghost use Rattle.olr_refs.specs.declared.path.PathFault.TheVariants.{Memory};
+    ghost use Rattle.olr_answers.specs.declared.path.PathFault.TheVariants.{Memory};
 
     ghost from_gives = { λ _ fault. fault ≡ Memory };
 
@@ -43,7 +43,7 @@ pub struct Path {
 impl Model for Path {
     ghost use Rattle.std.specs.Prelude.{IsTrue};
     ghost use Rattle.olr_spec.specs.Extension.{Path as Record, is_path};
-    ghost use Rattle.olr_refs.specs.Coded.{coded_path};
+    ghost use Rattle.olr_answers.specs.Coded.{coded_path};
 
     ghost Value = { Record };
 

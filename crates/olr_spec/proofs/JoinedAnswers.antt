@@ -1,0 +1,39 @@
+-- The routes between the LRPs of an answer join to the extended path.
+use Rattle.std.proofs.Common.{◌≡◌, ◌<◌, ◌+◌, ℕ, List, length, None, ap, arith}
+use Rattle.olr_spec.specs.Map.{Map}
+use Rattle.olr_spec.specs.Routes.{dm_of}
+use Rattle.olr_spec.specs.Extension.{Path, extended_path, from_start, taken_start, taken_end}
+use Rattle.olr_spec.specs.Reference.{Reference, legs, first_kept, last_kept, kept_points}
+use Rattle.olr_spec.specs.Encoding.{Points, path_fault, Encoding}
+use Rattle.olr_spec.specs.Joins.{Joined}
+use Rattle.olr_spec.proofs.AnswerLemmas.{path_also}
+use Rattle.olr_spec.proofs.DecodedLemmas.{two_of}
+use Rattle.olr_spec.proofs.FitLemmas.{long_enough, kept_ends, answered}
+use Rattle.olr_spec.proofs.JoinLemmas.{routes_join}
+use Rattle.olr_spec.proofs.KeptLemmas.{two_kept}
+use Rattle.olr_spec.proofs.RouteLemmas.{dm_of-append}
+
+-- the offsets are shorter than the extended path
+some_left : (M : Map) (P : Path) → path_fault M P ≡ None → (before after : List ℕ) →
+    (extended_path M P before after).pos + (extended_path M P before after).neg
+    < dm_of M (extended_path M P before after).lines
+some_left M P none before after =
+    let b = taken_start M before P.lines in
+    let fs = from_start M P before in
+    let a = taken_end M fs after in
+    let less = long_enough M P none in
+    omega (arith, dm_of-append M fs a, dm_of-append M b P.lines)
+
+-- so at least two LRPs remain
+pub joined : (M : Map) (P : Path) (r : Reference) → path_fault M P ≡ None → Encoding M P (Points r) → Joined M P r
+joined M P r none p =
+    let E = extended_path M P p.before p.after in
+    let gs = legs M E.lines in
+    let is = answered M E p.points r p.holds in
+    let left = some_left M P none p.before p.after in
+    let ends = kept_ends M E.lines p.points E.pos E.neg p.follow is.0 left in
+    let two =
+    two_of (kept_points gs E.pos E.neg p.points) (first_kept gs E.pos p.points) (last_kept gs E.neg p.points) ends.0
+    ends.1 (two_kept M E.lines p.points E.pos E.neg p.follow is.0 left) in
+    let count = ap (λ (ks : List ℕ). length ks) two.3 in
+    path_also p (is.1, is.0, omega arith, routes_join M E.lines p.points E.pos E.neg p.follow is.0)
