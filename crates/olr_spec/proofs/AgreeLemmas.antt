@@ -3,11 +3,12 @@ use Rattle.std.proofs.Common.{◌≡◌, ℕ, ◌+◌, true, List, ◌∷◌, ma
 use Rattle.std.proofs.Common.{◌==◌, unwrap_or, ◌↔◌, arith, [], eqb-true}
 use Rattle.std.specs.FinMap.{get}
 use Rattle.std.proofs.lemmas.Bool.Decides.{nat_tests}
+use Rattle.std.proofs.lemmas.Map.Entries.{option_filter}
 use Rattle.olr_spec.specs.Map.{Map, Line, has_line, line_at, no_line, start, end, dm, coord_at, no_coord, SameLine}
 use Rattle.olr_spec.specs.Map.{SameRound, lines_where}
 use Rattle.olr_spec.specs.Routes.{dm_of}
 use Rattle.olr_spec.specs.Extension.{passing, passes_between}
-use Rattle.olr_spec.proofs.MapLemmas.{has-lines_where, passes_at, keep_if, same_selected}
+use Rattle.olr_spec.proofs.MapLemmas.{has-lines_where, passes_at, same_selected}
 use Rattle.olr_spec.proofs.ListLemmas.{Each, Each-head, Each-tail, map_same}
 
 pub turned_round : (M N : Map) (v : ℕ) → SameRound M N v → SameRound N M v
@@ -53,7 +54,7 @@ same_coord M N v r = λ i. unwrap_or (r.place i) no_coord
 -- two options that have the same values for which f is v
 same_kept : (f : Line → ℕ) (v : ℕ) (o p : Option Line) →
     ((l : Line) → ((o ≡ Some l) × (f l ≡ v)) ↔ ((p ≡ Some l) × (f l ≡ v))) →
-    keep_if (λ l. f l == v) o ≡ keep_if (λ l. f l == v) p
+    option_filter (λ l. f l == v) o ≡ option_filter (λ l. f l == v) p
 same_kept f v o p h = grind (arith, nat_tests)
 
 pub passed : (f : Line → ℕ) (v : ℕ) (o : Option Line) → passes_at (λ l. f l == v) o ≡ true → (l : Line) × (o ≡ Some l)

@@ -206,8 +206,7 @@ read_bytes (s ∷ a ∷ b ∷ c ∷ d ∷ e ∷ f ∷ g ∷ k ∷ l ∷ t) w p =
     let same = ap (slice_index (cut ++ t)) place ∙ get_or-append-add cut t (7 * m + 5) 0 in
     let left : extra (cut ++ t) ≡ length t - (7 * m + 6) = omega arith in
     let count : m + 1 ≡ suc m = omega arith in
-    let rest =
-    read_points m t w.1.1.1.1.1.1.1.1.1.1 (omega arith) (ap (λ (x : ℕ). bit 6 x + bit 5 x) (sym same) ∙ p.flags ∙ left)
+    let rest = read_points m t w.1.1.1.1.1.1.1.1.1.1 (omega arith) (ap (λ (x : ℕ). bit 6 x + bit 5 x) (sym same) ∙ p.flags ∙ left)
     (coe 0 1 (i. (same i) < 128) p.top)
     (ap reserved (sym (attributes_behind cut t 4 (suc m)) ∙ ap (attribute1_bytes (cut ++ t) 14) (sym count)) ∙ parts.1) in (
       record { first = first.0; middle = rest.middle; last = rest.last; pos = rest.positive; neg = rest.negative },
