@@ -121,11 +121,4 @@ impl RoadMap {
     {
         let Undo { change: _ } = undo;
     }
-
-    /// Makes all edits of a log permanent. Does not allocate.
-    pub fn keep_all(&mut self, log: UndoLog)
-        ensures { map_of self.new ≡ map_of self.old }
-    {
-        let _ = log;
-    }
 }

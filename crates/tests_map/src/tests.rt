@@ -389,9 +389,11 @@ fn far_ends_are_beside_lines(rt: HostRuntime) {
 #[test]
 fn a_log_keeps_all(rt: HostRuntime) -> Result<(), Fail> {
     let mut map = RoadMap::new(rt.alloc());
-    let mut log = UndoLog::new(rt.alloc());
-    map.apply_into(new_node((1, 7, 7)), &mut log)?;
-    map.keep_all(log);
+    {
+        // A log that is dropped keeps its edits.
+        let mut log = UndoLog::new(rt.alloc());
+        map.apply_into(new_node((1, 7, 7)), &mut log)?;
+    }
     let mut log = UndoLog::new(rt.alloc());
     map.apply_into(new_node((2, 7, 7)), &mut log)?;
     map.undo_all(log);
