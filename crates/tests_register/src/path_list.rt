@@ -11,7 +11,7 @@ ghost use Rattle.tests_register.specs.Lists.{IsRight};
 use made_maps::{Plain, STRAIGHT, line, lines, new_node, node, other_line, plain_map};
 use olr_map::{Edit, EditPlan, RoadMap, judge};
 use olr_near::DistanceBounds;
-use olr_paths::{ChangeSet, ChangedLine, PathList, Searches};
+use olr_paths::{ChangeSet, ChangedLine, Overlay, PathList, Searches};
 use olr_refs::Path;
 use olr_search::Work;
 use std::alloc::Global;
@@ -82,7 +82,6 @@ fn line_changed(plan: &EditPlan) -> Option<ChangedLine>
 }
 
 /// Makes an edit of a map, and encodes the new paths of a list and those that the edit may affect.
-#[tactic(auto, using(olr_register::proofs::Bounded::bounded_unknown))]
 fn renew(rt: &impl Abort, alloc: Global, list: &mut PathList, map: &mut RoadMap, edit: Edit)
     requires { IsRight (map_of map.old) (items list.old) }
     ensures { IsRight (map_of map.new) (items list.new) }
@@ -99,9 +98,12 @@ fn renew(rt: &impl Abort, alloc: Global, list: &mut PathList, map: &mut RoadMap,
     bounds.forget();
     let mut searches = Searches::new(alloc);
     let (mut work, mut kept) = (Work::default(), 0);
-    let renewed = list.renew(
+    let none = Overlay::new(alloc);
+    let _names = list.len();
+    let renewed = list.renew_over(
         alloc,
         &*map,
+        &none,
         &touched,
         &bounds,
         &mut searches,

@@ -3,12 +3,14 @@ use Rattle.olr_spec.specs.Map.{Map}
 use Rattle.olr_map.specs.Edits.{edit_of}
 use Rattle.olr_map.specs.RoadMaps.{map_of}
 use Rattle.olr_paths.specs.Items.{items}
+use Rattle.olr_paths.proofs.Following.{follows_self}
+use Rattle.olr_register.proofs.Bounded.{bounded_unknown}
 use Rattle.olr_register.proofs.Noted.{noted_plan}
 use Rattle.tests_register.proofs.RightLists.{on_ok_at, if_ok_at, right_before, right_renewed}
 use Rattle.tests_register.proofs.path_list.renew.Goals as goal
 
-pub renew-renewed-requires-clause-before : goal.renew-renewed-requires-clause-before
-renew-renewed-requires-clause-before g c =
+pub renew_over-renewed-requires : goal.renew_over-renewed-requires
+renew_over-renewed-requires g c =
     let M = map_of c.args.map.now in
     let plan = c.expect-plan.result in
     let judged = if_ok_at c.judge.result plan _ c.judge.ensures.plan c.expect-plan.ensures in
@@ -18,16 +20,26 @@ renew-renewed-requires-clause-before g c =
     (c.reserve-room.ensures.nodes ∙ c.new-touched.ensures.nodes)
     (c.reserve-room.ensures.lines ∙ c.new-touched.ensures.lines)
     (c.reserve-room.ensures.changed ∙ c.new-touched.ensures.changed) c.note.ensures.nodes c.note.ensures.lines
-    (rw (← c.line_changed.ensures) c.note.ensures.changed) in (
-      M,
-      right_before M (map_of c.keep.new.self) (edit_of c.args.edit) c.note.new.self (items c.args.list.now)
-          c.args.map.now.kept.sound (done ∙ ap (λ (N : Map). Ok N) (sym c.keep.ensures)) noted c.requires,
-    )
+    (rw (← c.line_changed.ensures) c.note.ensures.changed) in
+    let is = items c.args.list.now in
+    let e = c.new-none.ensures is in
+    record {
+      names = rw e c.len-names.ensures.names;
+      follows = rw e (follows_self is c.len-names.ensures.names);
+      bounds = rw e (bounded_unknown (map_of c.keep.new.self) is c.forget.new.self c.forget.ensures);
+      before = rw e (
+        M,
+        right_before M (map_of c.keep.new.self) (edit_of c.args.edit) c.note.new.self is c.args.map.now.kept.sound
+            (done ∙ ap (λ (N : Map). Ok N) (sym c.keep.ensures)) noted c.requires,
+      );
+    }
 
 pub returns : goal.returns
 returns g c =
     let M = map_of c.args.map.now in
+    let is = items c.args.list.now in
     let renewed =
-    if_ok_at c.renew-renewed.result c.expect-entries.result _ c.renew-renewed.ensures.renewed c.expect-entries.ensures in
-    right_renewed M (map_of c.keep.new.self) (items c.args.list.now) (items c.renew-renewed.new.self) c.requires
-    renewed.remade renewed.named
+    rw (c.new-none.ensures is) at (if_ok_at c.renew_over-renewed.result c.expect-entries.result _
+    c.renew_over-renewed.ensures.renewed c.expect-entries.ensures) in
+    right_renewed M (map_of c.keep.new.self) is (items c.renew_over-renewed.new.self) c.requires renewed.remade
+    renewed.named
