@@ -3,8 +3,7 @@
 use crate::ids::{LineId, NodeId};
 use crate::line::{Line, Shape};
 use olr_coords::Coord;
-use std::error::Error;
-use std::fmt::{self, Debug, Display, Formatter, Write};
+use thiserror::Error;
 
 /// An edit of a map.
 #[derive(Drop, Debug)]
@@ -30,29 +29,27 @@ pub enum Edit {
 }
 
 /// Why an edit is rejected. The map is then unchanged.
-#[derive(Clone, Copy, Debug, PartialEq, Eq)]
+#[derive(Clone, Copy, Debug, PartialEq, Eq, Error)]
 pub enum EditFault {
     /// The new node is on the map already.
+    #[error("NodeExists")]
     NodeExists,
     /// The node, or an end of the new line, is not on the map.
+    #[error("NoNode")]
     NoNode,
     /// The new line is on the map already.
+    #[error("LineExists")]
     LineExists,
     /// The line is not on the map.
+    #[error("NoLine")]
     NoLine,
     /// A line enters or leaves the node.
+    #[error("NodeInUse")]
     NodeInUse,
     /// The line would not be good.
+    #[error("BadShape")]
     BadShape,
     /// Out of memory: an allocation for the edit failed.
+    #[error("Memory")]
     Memory,
 }
-
-/// The fault's name.
-impl Display for EditFault {
-    fn fmt<W: Write>(&self, f: &mut Formatter<W>) -> fmt::Result {
-        Debug::fmt(self, f)
-    }
-}
-
-impl Error for EditFault {}
