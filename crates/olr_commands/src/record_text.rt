@@ -8,9 +8,9 @@ ghost use Rattle.olr_coords.specs.DegreesText.{degrees_text, has_degrees_text};
 ghost use Rattle.olr_commands.specs.State.{On_map, Add_path};
 
 use itoa::{Buffer, Integer};
+use olr_answers::Path;
 use olr_coords::{Coord, push_degrees};
 use olr_map::{Line, LineId, NodeId, Shape};
-use olr_answers::Path;
 use std::alloc::AllocError;
 
 /// Appends a comma and a field.

@@ -1,7 +1,7 @@
 //! Replies to accepted commands.
 
-use olr_binary::Reference;
 use olr_answers::Refusal;
+use olr_binary::Reference;
 
 /// A path's string, or the reason why it has none.
 #[derive(Drop)]

@@ -8,9 +8,9 @@ ghost use Rattle.olr_commands.specs.Words.{reply_of, entry_of};
 ghost use Rattle.olr_records.specs.ReplyText as texts;
 
 use crate::texts::push_point;
+use olr_answers::Refusal;
 use olr_binary::{Attrs, First, Last, Middle, Reference};
 use olr_commands::{Dump, Entry, Reply, push_field, push_number};
-use olr_answers::Refusal;
 use std::alloc::{AllocError, Global};
 
 /// The line of a reply that names no path. It takes no memory.

@@ -15,15 +15,13 @@ ghost use Rattle.olr_refs.specs.ResolvedLines.{records_of};
 ghost use Rattle.olr_refs.specs.Reuse.{Reuses, Asks, AsksOf, Searched};
 
 use crate::along::{ResolvedPath, distances};
-use olr_answers::{Answer, Refusal};
 use crate::chosen::{Choice, Queries, points};
-use olr_answers::{CoverageQuery, KnownQuery};
 use crate::extension::{Extended, extend};
 use crate::faults::own_lines;
-use olr_answers::Path;
 use crate::reference::reference_of;
 use crate::resolved::ResolvedLine;
 use crate::reuse::Reuse;
+use olr_answers::{Answer, CoverageQuery, KnownQuery, Path, Refusal};
 use olr_map::{Footprint, MapRead};
 use olr_search::{Dijkstra, Work};
 use std::alloc::{AllocError, Global};

@@ -8,8 +8,8 @@ ghost use Rattle.olr_refs.specs.Extends.{Extends};
 ghost use Rattle.olr_refs.specs.ResolvedLines.{records_of};
 
 use crate::degree_two_runs::longest_run;
-use olr_answers::Path;
 use crate::resolved::{ResolvedLine, ids_of};
+use olr_answers::Path;
 use olr_map::{Footprint, LineId, MapRead, NodeId};
 use olr_search::Direction;
 use std::alloc::{AllocError, Global};

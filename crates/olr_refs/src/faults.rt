@@ -7,9 +7,8 @@ ghost use Rattle.olr_answers.specs.Answers.{refusal_of};
 ghost use Rattle.olr_refs.specs.ResolvedLines.{records_of};
 
 use crate::along::distances;
-use olr_answers::Refusal;
-use olr_answers::Path;
 use crate::resolved::{ResolvedLine, resolve};
+use olr_answers::{Path, Refusal};
 use olr_map::MapRead;
 use std::alloc::{AllocError, Global};
 

@@ -10,9 +10,8 @@ ghost use Rattle.olr_refs.specs.Choice.{SettledBy, raised_count};
 ghost use Rattle.olr_refs.specs.Recovered.{RecoveredOf};
 ghost use Rattle.olr_refs.specs.Referring.{JoinsOf, SearchesOf};
 
-use olr_answers::Answer;
 use crate::encoding::encode_noting;
-use olr_answers::Path;
+use olr_answers::{Answer, Path};
 use olr_map::{Footprint, MapRead};
 use olr_search::{Dijkstra, Work};
 use std::alloc::{AllocError, Global};

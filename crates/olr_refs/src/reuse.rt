@@ -6,8 +6,8 @@ ghost use Rattle.olr_refs.specs.Along.{IsFar, IsReach};
 ghost use Rattle.olr_refs.specs.Reuse.{Reuses, known_reach};
 
 use crate::along::ResolvedPath;
-use olr_answers::{CoverageQuery, KnownQuery};
 use crate::reach::Tested;
+use olr_answers::{CoverageQuery, KnownQuery};
 use olr_map::MapRead;
 
 /// What is known of a path's coverage queries, and where its own lines lie on the extended path.
