@@ -14,16 +14,19 @@ import zlib
 
 try:
     import pika
+    from pika.adapters.utils.connection_workflow import AMQPConnectorException
     from pika.exceptions import AMQPError, ConsumerCancelled
 except ImportError:
     # Without it only --help works: see `keep_connected`.
-    pika, AMQPError, ConsumerCancelled = None, OSError, OSError
+    pika, AMQPError, AMQPConnectorException, ConsumerCancelled = None, OSError, OSError, OSError
 
 PLAIN = re.compile(r"[ !#-~]+")
 OF_A_PATH = ("path", "repath", "drop-path", "show")
 REPORTS = ("report", "explain", "dump")
 END = 2**31
 MANY = 20
+# What is raised when a connection is lost or cannot be made. The second is for a broker that accepts it and does not answer.
+LOST = (AMQPError, AMQPConnectorException, OSError)
 
 
 def arguments(text, **more):
@@ -123,7 +126,7 @@ def keep_connected(url, session, say=complain):
         try:
             connection = pika.BlockingConnection(nodes)
             return session(connection)
-        except (AMQPError, OSError) as error:
+        except LOST as error:
             if str(error) != said:
                 said = str(error)
                 say(f"the broker is not available, trying again: {type(error).__name__} {error}")
@@ -137,5 +140,5 @@ def close(connection):
     try:
         if connection and connection.is_open:
             connection.close()
-    except AMQPError:
+    except LOST:
         pass
