@@ -4,11 +4,20 @@ import os
 TOP = os.path.dirname(os.path.dirname(os.path.realpath(__file__)))
 
 
+def rows():
+    """The lines of crates.txt, by the crate's name."""
+    with open(f"{TOP}/crates.txt", encoding="utf-8") as file:
+        return {line.split()[0].rstrip(":"): line for line in file if line.split("#")[0].strip()}
+
+
+def declarations(crates):
+    """The lines of crates.txt about these crates."""
+    return [line for name, line in rows().items() if name in crates]
+
+
 def dependencies():
     """The crates of this repository on which each of them depends."""
-    with open(f"{TOP}/crates.txt", encoding="utf-8") as file:
-        rows = [line.split("#")[0].partition(":") for line in file]
-    named = {name.split()[0]: below.split() for name, colon, below in rows if colon}
+    named = {name: line.split("#")[0].partition(":")[2].split() for name, line in rows().items()}
     return {name: [it for it in below if it in named] for name, below in named.items()}
 
 
