@@ -59,6 +59,17 @@ pub const SIDE: Road = (99, 2, 3, 4, 3, 1500, STRAIGHT);
 /// The worked map: a road of three lines from node 1 to node 4, and the side road, which is added first.
 pub const WORKED: Plan = (PLACES, &[SIDE, FIRST, SECOND, THIRD]);
 
+/// Its records.
+pub const RECORDS: &str = "node,1,6.12683,49.60852
+node,2,6.12838,49.60399
+node,3,6.1279,49.6035
+node,4,6.12817,49.60306
+line,10,1,2,3,2,5610,200,6.12701,49.60838,5410,6.1282,49.60413
+line,20,2,3,3,3,2000,200,6.1282,49.60389
+line,30,3,4,5,3,740,540,6.12792,49.60311
+line,99,2,3,4,3,1500
+";
+
 /// The next number of a pseudorandom sequence.
 pub fn next(seed: u64) -> u64 {
     seed.wrapping_mul(6_364_136_223_846_793_005)

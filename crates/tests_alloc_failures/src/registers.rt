@@ -1,6 +1,7 @@
 //! A register and its twin, to which each command is applied too.
 
 use csv::{ByteRecord, ReaderBuilder};
+use made_maps::RECORDS;
 use olr_commands::{Command, CommandFault, Reply};
 use olr_map::{EditFault, Footprint};
 use olr_records::{ReadFault, fault_text, read_command, reply_text};
@@ -9,17 +10,9 @@ use olr_register::Register;
 use std::alloc::{AllocError, Global};
 use std::process::Abort;
 
-/// A line of the path is dropped and added again; the string is explained; edits and paths are rejected; a road leads
+/// On the worked map. A line of the path is dropped and added again; the string is explained; edits and paths are rejected; a road leads
 /// away, and its end is not reached by the string's search; one batch is committed, one cancels out and one is aborted.
-const SCRIPT: &str = "node,1,6.12683,49.60852
-node,2,6.12838,49.60399
-node,3,6.1279,49.6035
-node,4,6.12817,49.60306
-line,10,1,2,3,2,5610,200,6.12701,49.60838,5410,6.1282,49.60413
-line,20,2,3,3,3,2000,200,6.1282,49.60389
-line,30,3,4,5,3,740,540,6.12792,49.60311
-line,99,2,3,4,3,1500
-path,a,1500,0,10,20,30
+const SCRIPT: &str = "path,a,1500,0,10,20,30
 drop-line,20
 line,20,2,3,3,3,2000,200,6.1282,49.60389
 explain,CwRbWyNG9RpsCQCb/jsbtAT/6/+jK1lE
@@ -192,8 +185,10 @@ fn give(
 
 /// Applies all records to a register and to its twin, which are then alike.
 fn give_all(rt: &impl Abort, alloc: Global, register: &mut Register, twin: &mut Register) {
-    for record in SCRIPT.lines() {
-        give(rt, alloc, register, twin, record);
+    for records in [RECORDS, SCRIPT] {
+        for record in records.lines() {
+            give(rt, alloc, register, twin, record);
+        }
     }
     assert!(rt; register.spared_count() > 0);
     assert_alike(rt, register, twin);

@@ -1,22 +1,11 @@
 //! Sessions of records; each command is applied to a register and to its twin.
 
 use crate::pair::Pair;
-use made_maps::next;
+use made_maps::{RECORDS, next};
 use std::process::Abort;
 use std::test::Fail;
 
-/// A path of three lines with three LRPs: a side road causes the LRP at its second node.
-const THREE_POINTS: &str = "node,1,6.12683,49.60852
-node,2,6.12838,49.60399
-node,3,6.1279,49.6035
-node,4,6.12817,49.60306
-line,10,1,2,3,2,5610,200,6.12701,49.60838,5410,6.1282,49.60413
-line,20,2,3,3,3,2000,200,6.1282,49.60389
-line,30,3,4,5,3,740,540,6.12792,49.60311
-line,99,2,3,4,3,1500
-";
-
-/// The records that the tests of sessions apply after those: registration, a road off the path, and batches.
+/// The records that the tests of sessions apply to the worked map: registration, a road off the path, and batches.
 const SESSIONS: &[&str] = &[
     "path,b,0,0,10
 path,a,1500,0,10,20,30
@@ -90,9 +79,9 @@ fn all<R: Abort + AllocGlobal>(rt: &R, pair: &mut Pair, records: &str) -> Result
     Ok(())
 }
 
-/// Applies the records of three LRPs, and then those of a session, to a register and to its twin.
+/// Applies the records of the worked map, and then those of a session, to a register and to its twin.
 fn one_session<R: Abort + AllocGlobal>(rt: &R, pair: &mut Pair, session: &str) -> Result<(), Fail> {
-    all(rt, pair, THREE_POINTS)?;
+    all(rt, pair, RECORDS)?;
     all(rt, pair, session)
 }
 
@@ -113,7 +102,7 @@ fn all_counted<R: Abort + AllocGlobal>(
     pair: &mut Pair,
     rows: &[(&str, u64, u64)],
 ) -> Result<(), Fail> {
-    all(rt, pair, THREE_POINTS)?;
+    all(rt, pair, RECORDS)?;
     for (record, encodings, kept) in rows {
         pair.step(rt, record)?;
         assert!(rt; pair.encodings() == (*encodings, *kept), "after {record}");
