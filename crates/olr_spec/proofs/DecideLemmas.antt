@@ -14,7 +14,7 @@ use Rattle.olr_spec.specs.Encoding.{Answer, Refused, path_fault, answer_by_point
 use Rattle.olr_spec.specs.Laws.{OneUnique, SomeAnswer}
 use Rattle.olr_spec.proofs.RouteLemmas.{positive, dm_of-append}
 use Rattle.olr_spec.proofs.ListLemmas.{Each, Each-nil, Each-cons, Each-head, Each-tail, Known}
-use Rattle.olr_spec.proofs.RunLemmas.{StartRun-back, start_suffix, end_prefix, last_known, EndRun-at}
+use Rattle.olr_spec.proofs.RunLemmas.{AreRuns, no_longer, start_runs, end_runs, last_known}
 use Rattle.olr_spec.proofs.AnswerLemmas.{sound_lines, all_first, all_last, path_nonempty, by_fault}
 use Rattle.olr_spec.proofs.RunMoves.{EndRun-push}
 use Rattle.olr_spec.proofs.OrderLemmas.{has_number}
@@ -186,68 +186,49 @@ pub last_of_list : (x : ℕ) (xs : List ℕ) → (front : List ℕ) × (y : ℕ)
 last_of_list x [] = ([], x, refl)
 last_of_list x (y ∷ xs) = let r = last_of_list y xs in (x ∷ r.0, r.1, ap (λ (zs : List ℕ). x ∷ zs) r.2)
 
--- if no line may precede c within the limit, no run is longer
-no_longer_start : (M : Map) (ls c d : List ℕ) → IsTrue (has_line M (first ls)) → StartRun M c ls →
-    Each (λ x. ¬ (MayPrecede M x (c ++ ls) × (dm M x + dm_of M c ≤ limit))) (numbers M) → StartRun M d ls →
-    dm_of M d ≤ limit → dm_of M d ≤ dm_of M c
-no_longer_start M ls c d k p none q w = elim (cases_lt (length c) (length d)) [
-  | inl more ↦ let r = start_suffix M ls c d k p q (omega arith) in absurd (beyond r.0 r.1 more)
-  | inr le ↦ let r = start_suffix M ls d c k q p le in omega (arith, ap (dm_of M) r.1, dm_of-append M r.0 d)
-]
-  where
-    beyond : (front : List ℕ) → d ≡ front ++ c → length c < length d → ⊥
-    beyond [] e more = omega (arith, ap (λ (zs : List ℕ). length zs) e)
-    beyond (x ∷ front) e more =
-        let s = last_of_list x front in
-        let y = s.1 in
-        let parts : d ≡ s.0 ++ (y ∷ c) = e ∙ ap (λ (zs : List ℕ). zs ++ c) s.2 ∙ append_assoc s.0 (y ∷ []) c in
-        let run : StartRun M (y ∷ c) ls = StartRun-back M ls s.0 (y ∷ c) (coe 0 1 (i. StartRun M (parts i) ls) q) in
-        none y (has_number M y run.0.known) (run.0, omega (arith, ap (dm_of M) parts, dm_of-append M s.0 (y ∷ c)))
-
-no_longer_end : (M : Map) (ls c d : List ℕ) → IsTrue (has_line M (last ls)) → EndRun M ls c →
-    Each (λ x. ¬ (MayFollow M (ls ++ c) x × (dm M x + dm_of M c ≤ limit))) (numbers M) → EndRun M ls d →
-    dm_of M d ≤ limit → dm_of M d ≤ dm_of M c
-no_longer_end M ls c d k p none q w = elim (cases_lt (length c) (length d)) [
-  | inl more ↦ let r = end_prefix M ls c d k p q (omega arith) in absurd (beyond r.0 r.1 more)
-  | inr le ↦ let r = end_prefix M ls d c k q p le in omega (arith, ap (dm_of M) r.1, dm_of-append M d r.0)
-]
-  where
-    beyond : (back : List ℕ) → d ≡ c ++ back → length c < length d → ⊥
-    beyond [] e more = omega (arith, ap (λ (zs : List ℕ). length zs) e, length-append c [])
-    beyond (x ∷ back) e more =
-        let next : MayFollow M (ls ++ c) x = EndRun-at M ls c x back (coe 0 1 (i. EndRun M ls (e i)) q) in
-        none x (has_number M x next.known) (next, omega (arith, ap (dm_of M) e, dm_of-append M c (x ∷ back)))
-
 -- a longest run, from the run c on, if fewer than fuel decimetres are left
-some_start : (M : Map) → IsMap M → (ls : List ℕ) → IsTrue (has_line M (first ls)) → (fuel : ℕ) (c : List ℕ) →
-    limit < dm_of M c + fuel → StartRun M c ls → dm_of M c ≤ limit → (d : List ℕ) × LongestStart M d ls
-some_start M m ls k zero c f p w = absurd (omega arith)
-some_start M m ls k (suc fuel) c f p w =
-    elim (some_of (λ x. MayPrecede M x (c ++ ls) × (dm M x + dm_of M c ≤ limit))
-    (λ x. dec_and (dec_MayPrecede M x (c ++ ls)) (dec_le (dm M x + dm_of M c) limit)) (numbers M)) [
-      | inl s ↦ some_start M m ls k fuel (s.0 ∷ c) (omega (arith, positive M m s.0 s.1.0.known)) (s.1.0, p) s.1.1
-      | inr none ↦ (c, record { run = p; within = w; longest = λ d q v. no_longer_start M ls c d k p none q v })
-    ]
+module _ (M : Map) (m : IsMap M) (Run : List ℕ → Type 0) (Next : ℕ → List ℕ → Type 0) (runs : AreRuns M Run Next)
+    (dec : (x : ℕ) (c : List ℕ) → Dec (Next x c))
+    (longer : (x : ℕ) (c : List ℕ) → Run c → Next x c → (d : List ℕ) × Run d × (dm_of M d ≡ dm M x + dm_of M c)) where
+  some_run : (fuel : ℕ) (c : List ℕ) → limit < dm_of M c + fuel → Run c → dm_of M c ≤ limit → (d : List ℕ) × Run d
+      × (dm_of M d ≤ limit) × ((e : List ℕ) → Run e → dm_of M e ≤ limit → dm_of M e ≤ dm_of M d)
+  some_run zero c f p w = absurd (omega arith)
+  some_run (suc fuel) c f p w =
+      elim (some_of (λ x. Next x c × (dm M x + dm_of M c ≤ limit))
+      (λ x. dec_and (dec x c) (dec_le (dm M x + dm_of M c) limit)) (numbers M)) [
+        | inl s ↦
+            let d = longer s.0 c p s.1.0 in
+            some_run fuel d.0 (omega (arith, positive M m s.0 (runs.known s.0 c s.1.0), d.2)) d.1 (omega (arith, d.2, s.1.1))
+        | inr none ↦ (
+          c,
+          p,
+          w,
+          λ e q v. no_longer M Run Next runs c e p q (λ x n. elim (cases_lt limit (dm M x + dm_of M c)) [
+            | inl lt ↦ lt
+            | inr le ↦ absurd (none x (has_number M x (runs.known x c n)) (n, le))
+          ]) v,
+        )
+      ]
 
-some_end : (M : Map) → IsMap M → (ls : List ℕ) → IsTrue (has_line M (last ls)) → (fuel : ℕ) (c : List ℕ) →
-    limit < dm_of M c + fuel → EndRun M ls c → dm_of M c ≤ limit → (d : List ℕ) × LongestEnd M ls d
-some_end M m ls k zero c f p w = absurd (omega arith)
-some_end M m ls k (suc fuel) c f p w =
-    elim (some_of (λ x. MayFollow M (ls ++ c) x × (dm M x + dm_of M c ≤ limit))
-    (λ x. dec_and (dec_MayFollow M (ls ++ c) x) (dec_le (dm M x + dm_of M c) limit)) (numbers M)) [
-      | inl s ↦
-          let grows = positive M m s.0 s.1.0.known in
-          some_end M m ls k fuel (c ++ s.0 ∷ []) (omega (arith, dm_of-append M c (s.0 ∷ [])))
-          (EndRun-push M ls c s.0 p s.1.0) (omega (arith, dm_of-append M c (s.0 ∷ [])))
-      | inr none ↦ (c, record { run = p; within = w; longest = λ d q v. no_longer_end M ls c d k p none q v })
-    ]
+some_start : (M : Map) → IsMap M → (ls : List ℕ) → IsTrue (has_line M (first ls)) → (d : List ℕ) × LongestStart M d ls
+some_start M m ls k =
+    let r = some_run M m (λ c. StartRun M c ls) (λ x c. MayPrecede M x (c ++ ls)) (start_runs M ls k)
+    (λ x c. dec_MayPrecede M x (c ++ ls)) (λ x c p n. (x ∷ c, (n, p), refl)) (suc limit) [] (omega arith) tt (omega arith) in
+    (r.0, record { run = r.1; within = r.2; longest = r.3 })
+
+some_end : (M : Map) → IsMap M → (ls : List ℕ) → IsTrue (has_line M (last ls)) → (d : List ℕ) × LongestEnd M ls d
+some_end M m ls k =
+    let r = some_run M m (EndRun M ls) (λ x c. MayFollow M (ls ++ c) x) (end_runs M ls k)
+    (λ x c. dec_MayFollow M (ls ++ c) x)
+    (λ x c p n. (c ++ x ∷ [], EndRun-push M ls c x p n, omega (arith, dm_of-append M c (x ∷ [])))) (suc limit) []
+    (omega arith) tt (omega arith) in
+    (r.0, record { run = r.1; within = r.2; longest = r.3 })
 
 some_tried : (M : Map) → IsMap M → (P : Path) → 0 < length P.lines → IsTrue (has_line M (first P.lines)) →
     IsTrue (has_line M (last P.lines)) → (b : List ℕ) × (a : List ℕ) × Tried M P b a
 some_tried M m P n f l =
-    let b = some_start M m P.lines f (suc limit) [] (omega arith) tt (omega arith) in
-    let a = some_end M m (from_start M P b.0) (last_known M (taken_start M b.0 P.lines) P.lines n l) (suc limit) []
-    (omega arith) tt (omega arith) in
+    let b = some_start M m P.lines f in
+    let a = some_end M m (from_start M P b.0) (last_known M (taken_start M b.0 P.lines) P.lines n l) in
     (b.0, a.0, record { before = b.1; after = a.1 })
 
 -- ---- an answer

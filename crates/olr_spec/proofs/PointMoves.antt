@@ -14,7 +14,7 @@ use Rattle.olr_spec.specs.Queries.{NodeOf, Traversed}
 use Rattle.olr_spec.proofs.RouteLemmas.{empty_unique}
 use Rattle.olr_spec.proofs.JoinLemmas.{empty_stretch}
 use Rattle.olr_spec.proofs.ListLemmas.{Each, Each-nil, Each-head, Each-tail, Each-range, has_last, has_index, map_same}
-use Rattle.olr_spec.proofs.ListLemmas.{EndsSame}
+use Rattle.olr_spec.proofs.RunMoves.{Alike}
 use Rattle.olr_spec.proofs.AgreeLemmas.{same_record, same_start, same_end, same_dm_of, same_coord, same_passing}
 use Rattle.olr_spec.proofs.AgreeLemmas.{same_known}
 
@@ -51,35 +51,24 @@ candidate_by : (M N : Map) (ls : List ℕ) (i j : ℕ) → (Covered M ls i j →
 candidate_by M N ls i j covered near fits c = grind arith
 
 -- the lines ls and the LRPs js, on maps that agree around the lines' ends and on what is covered from the LRPs
-module _ (M N : Map) (ls : List ℕ) (nonempty : 0 < length ls) (same : Each (SameLine M N) ls)
-    (rounds : Each (EndsSame M N) ls) (js : List ℕ)
+module _ (M N : Map) (ls : List ℕ) (nonempty : 0 < length ls) (alike : Each (Alike M N) ls) (js : List ℕ)
     (covers : (i j : ℕ) → has js i ≡ true → i < j → j ≤ length ls → dm_of M (stretch ls i j) ≤ limit
     → Covered M ls i j ↔ Covered N ls i j) where
-  same_index : (i : ℕ) → i < length ls → SameLine M N (slice_index ls i)
-  same_index i h = same (slice_index ls i) (has_index ls i h)
-
-  node_round : (i : ℕ) → SameRound M N (node_at M ls i)
-  node_round i = cond_both (nat_lt i (length ls)) (start M (slice_index ls i)) (end M (last ls)) (SameRound M N)
-      (λ t. (rounds _ (has_index ls i (ltb-true i (length ls) t))).0) (λ _. (rounds _ (has_last ls nonempty)).1)
-
-  same_node : (i : ℕ) → node_at M ls i ≡ node_at N ls i
-  same_node i = grind (arith, ls, same_start, same_index, ltb-true, same_end, has_last)
-
-  place_same : (i : ℕ) → coord_at M (node_at M ls i) ≡ coord_at N (node_at N ls i)
-  place_same i = same_coord M N (node_at M ls i) (node_round i) ∙ ap (coord_at N) (same_node i)
-
-  valid_same : (i : ℕ) → passing M (node_at M ls i) ≡ passing N (node_at N ls i)
-  valid_same i = same_passing M N (node_at M ls i) (node_round i) ∙ ap (passing N) (same_node i)
+  -- a property of what both maps have at a node
+  node_same : {X : Type 0} (f : Map → ℕ → X) → ((v : ℕ) → SameRound M N v → f M v ≡ f N v) → (i : ℕ) →
+      f M (node_at M ls i) ≡ f N (node_at N ls i)
+  node_same f g i = grind (arith, g, alike, has_index, has_last, ltb-true, same_start, same_end)
 
   stretch_same : (i j : ℕ) → dm_of M (stretch ls i j) ≡ dm_of N (stretch ls i j)
-  stretch_same i j = same_dm_of M N (stretch ls i j) (Each-range (SameLine M N) ls i j same)
+  stretch_same i j = same_dm_of M N (stretch ls i j) (Each-range (SameLine M N) ls i j (λ x h. (alike x h).same))
 
   candidate_same : (i j : ℕ) → has js i ≡ true → Candidate M ls i j ↔ Candidate N ls i j
-  candidate_same i j on = grind (arith, stretch_same, place_same, candidate_by)
+  candidate_same i j on = let place = node_same coord_at (same_coord M N) in grind (arith, stretch_same, place, candidate_by)
 
   both_valid : (i j : ℕ) → has js i ≡ true → ValidCandidate M ls i j ↔ ValidCandidate N ls i j
   both_valid i j on =
       let c = candidate_same i j on in
+      let valid_same = node_same passing (same_passing M N) in
       ((λ v. (c.0 v.0, sym (valid_same j) ∙ v.1)), (λ v. (c.1 v.0, valid_same j ∙ v.1)))
 
   next_moves : (i j : ℕ) → has js i ≡ true → Next M ls i j → Next N ls i j
@@ -99,17 +88,17 @@ module _ (M N : Map) (ls : List ℕ) (nonempty : 0 < length ls) (same : Each (Sa
   )
 
 -- on maps that agree around the ends of the lines ls
-pub legs_same : (M N : Map) (ls : List ℕ) → Each (SameLine M N) ls → Each (EndsSame M N) ls → legs M ls ≡ legs N ls
-legs_same M N ls same rounds = grind (arith, map_same, same_coord, same_start, same_end, same_record)
+pub legs_same : (M N : Map) (ls : List ℕ) → Each (Alike M N) ls → legs M ls ≡ legs N ls
+legs_same M N ls alike = grind (arith, map_same, same_coord, same_start, same_end, same_record)
 
 -- ---- traversed nodes
 
-pub NodeOf-moves : (M N : Map) (xs : List ℕ) (v : ℕ) → Each (SameLine M N) xs → NodeOf M xs v → NodeOf N xs v
-NodeOf-moves M N xs v h o = grind (arith, same_start, same_end)
+NodeOf-same : (M N : Map) (xs : List ℕ) (v : ℕ) → Each (Alike M N) xs → NodeOf M xs v ↔ NodeOf N xs v
+NodeOf-same M N xs v h = grind (arith, same_start, same_end)
 
-pub Traversed-moves : (M N : Map) (ls b a : List ℕ) (v : ℕ) → Each (SameLine M N) ls → Each (SameLine M N) b
-    → Each (SameLine M N) a → Traversed M ls b a v → Traversed N ls b a v
-Traversed-moves M N ls b a v h i j t = grind (arith, NodeOf-moves)
+pub Traversed-same : (M N : Map) (ls b a : List ℕ) (v : ℕ) → Each (Alike M N) ls → Each (Alike M N) b
+    → Each (Alike M N) a → Traversed M ls b a v ↔ Traversed N ls b a v
+Traversed-same M N ls b a v h i j = grind (arith, NodeOf-same)
 
 unknown_same : (M N : Map) (ls : List ℕ) → Each (SameLine M N) ls → first_unknown M ls ≡ first_unknown N ls
 unknown_same M N [] h = refl

@@ -1,10 +1,10 @@
 -- From a degree-two node only one line leads on, so a run of such nodes is determined by its length.
-use Rattle.std.proofs.Common.{◌⊎◌, ◌≡◌, ◌≢◌, ℕ, ◌-◌, true, ◌&&◌, ◌||◌, List, ◌∷◌, ◌++◌, map, length, take, drop, ◌<◌}
-use Rattle.std.proofs.Common.{◌≤◌, IsTrue, refl, sym, ap, ◌∙◌, subst, arith, ◌==◌, length-drop, length-take}
+use Rattle.std.proofs.Common.{◌⊎◌, inr, ◌≡◌, ◌≢◌, ℕ, ◌+◌, true, ◌&&◌, ◌||◌, List, ◌∷◌, ◌++◌, map, length, take, drop, ◌<◌}
+use Rattle.std.proofs.Common.{◌≤◌, IsTrue, refl, sym, ap, inl, subst, arith, ◌==◌, length-drop, length-take}
 use Rattle.std.proofs.Common.{take-append-drop, append-nil, append_assoc, []}
-use Rattle.std.proofs.lemmas.Bool.{cases_lt, and_parts, cond_both}
+use Rattle.std.proofs.lemmas.Bool.{cases_lt, cases_order, and_parts, cond_both}
 use Rattle.std.proofs.lemmas.Bool.Decides.{nat_tests}
-use Rattle.olr_spec.specs.Map.{Map, IsMap, has_line, lines_in, lines_out, start, end, has, line_at}
+use Rattle.olr_spec.specs.Map.{Map, IsMap, dm, has_line, lines_in, lines_out, start, end, has, line_at}
 use Rattle.olr_spec.specs.Routes.{dm_of}
 use Rattle.olr_spec.specs.Extension.{passing, passes_between, first, last, MayPrecede, MayFollow, StartRun, EndRun}
 use Rattle.olr_spec.specs.Extension.{LongestStart, LongestEnd, Tried, Path, from_start, taken_start, limit}
@@ -87,64 +87,74 @@ same_end_run M ls (x ∷ c) (y ∷ d) k p q e =
     λ i. is i ∷ rest i
 same_end_run M ls _ _ k p q e = absurd (omega arith)
 
--- ---- parts of runs
-
-pub StartRun-back : (M : Map) (ls front c : List ℕ) → StartRun M (front ++ c) ls → StartRun M c ls
-StartRun-back M ls [] c h = h
-StartRun-back M ls (x ∷ front) c h = StartRun-back M ls front c h.1
-
-pub EndRun-front : (M : Map) (ls c back : List ℕ) → EndRun M ls (c ++ back) → EndRun M ls c
-EndRun-front M ls [] back h = tt
-EndRun-front M ls (x ∷ c) back h = (h.0, EndRun-front M (ls ++ x ∷ []) c back h.1)
-
-pub EndRun-at : (M : Map) (ls c : List ℕ) (x : ℕ) (back : List ℕ) → EndRun M ls (c ++ x ∷ back) → MayFollow M (ls ++ c) x
-EndRun-at M ls [] x back p = coe 1 0 (i. MayFollow M (append-nil ls i) x) p.0
-EndRun-at M ls (y ∷ c) x back p =
-    coe 0 1 (i. MayFollow M (append_assoc ls (y ∷ []) c i) x) (EndRun-at M (ls ++ y ∷ []) c x back p.1)
-
--- of two runs one is a suffix of the other
-pub start_suffix : (M : Map) (ls c d : List ℕ) → IsTrue (has_line M (first ls)) → StartRun M c ls →
-    StartRun M d ls → length c ≤ length d → (front : List ℕ) × (d ≡ front ++ c)
-start_suffix M ls c d k p q h =
-    let n = length d - length c in
-    let parts : take n d ++ drop n d ≡ d = take-append-drop n d in
-    let back : StartRun M (drop n d) ls = StartRun-back M ls (take n d) (drop n d) (coe 1 0 (i. StartRun M (parts i) ls) q) in
-    let same : c ≡ drop n d = same_start_run M ls c (drop n d) k p back (omega (arith, length-drop n d)) in
-    (take n d, sym parts ∙ ap (λ (zs : List ℕ). take n d ++ zs) (sym same))
-
-pub end_prefix : (M : Map) (ls c d : List ℕ) → IsTrue (has_line M (last ls)) → EndRun M ls c → EndRun M ls d →
-    length c ≤ length d → (back : List ℕ) × (d ≡ c ++ back)
-end_prefix M ls c d k p q h =
-    let n = length c in
-    let parts : take n d ++ drop n d ≡ d = take-append-drop n d in
-    let front : EndRun M ls (take n d) = EndRun-front M ls (take n d) (drop n d) (coe 1 0 (i. EndRun M ls (parts i)) q) in
-    let same : c ≡ take n d = same_end_run M ls c (take n d) k p front (omega (arith, length-take n d)) in
-    (drop n d, sym parts ∙ ap (λ (zs : List ℕ). zs ++ drop n d) (sym same))
-
 -- ---- the longest run
 
-start_no_longer : (M : Map) → IsMap M → (ls front c d : List ℕ) → d ≡ front ++ c → StartRun M d ls →
-    dm_of M d ≤ dm_of M c → c ≡ d
-start_no_longer M m ls [] c d e q h = sym e
-start_no_longer M m ls (x ∷ front) c d e q h = grind (arith, positive, dm_of-append)
+-- runs of which any two of the same length are the same, and the lines that may come next to a run, among them that of
+-- any longer run
+pub record AreRuns (M : Map) (Run : List ℕ → Type 0) (Next : ℕ → List ℕ → Type 0) : Type 0 where
+  pub same : (c d : List ℕ) → Run c → Run d → length c ≡ length d → c ≡ d
+  pub more : (c d : List ℕ) → Run c → Run d → length c < length d → (x : ℕ) × Next x c × (dm M x + dm_of M c ≤ dm_of M d)
+  pub known : (x : ℕ) (c : List ℕ) → Next x c → IsTrue (has_line M x)
 
-end_no_longer : (M : Map) → IsMap M → (ls c back d : List ℕ) → d ≡ c ++ back → EndRun M ls d → dm_of M d ≤ dm_of M c → c ≡ d
-end_no_longer M m ls c [] d e q h = sym (e ∙ append-nil c)
-end_no_longer M m ls c (x ∷ back) d e q h = grind (arith, positive, EndRun-at, dm_of-append)
+module _ (M : Map) (Run : List ℕ → Type 0) (Next : ℕ → List ℕ → Type 0) (r : AreRuns M Run Next) (c d : List ℕ)
+    (p : Run c) (q : Run d) where
+  -- where no line may come next within the limit
+  pub no_longer : ((x : ℕ) → Next x c → limit < dm M x + dm_of M c) → dm_of M d ≤ limit → dm_of M d ≤ dm_of M c
+  no_longer none w = elim (cases_order (length c) (length d)) [
+    | inl e ↦ omega (arith, ap (dm_of M) (r.same c d p q e))
+    | inr (inl lt) ↦ let n = r.more c d p q lt in absurd (omega (arith, none n.0 n.1))
+    | inr (inr gt) ↦ omega (arith, (r.more d c q p gt).2)
+  ]
 
-pub longest_start : (M : Map) → IsMap M → (ls c d : List ℕ) → IsTrue (has_line M (first ls)) → LongestStart M c ls →
-    StartRun M d ls → dm_of M d ≤ limit → (front : List ℕ) × (c ≡ front ++ d)
-longest_start M m ls c d k p q w = grind (arith, cases_lt, start_suffix, start_no_longer)
+  one_run : IsMap M → dm_of M c ≡ dm_of M d → c ≡ d
+  one_run m e = elim (cases_order (length c) (length d)) [
+    | inl e ↦ r.same c d p q e
+    | inr (inl lt) ↦ let n = r.more c d p q lt in absurd (omega (arith, positive M m n.0 (r.known n.0 c n.1)))
+    | inr (inr gt) ↦ let n = r.more d c q p gt in absurd (omega (arith, positive M m n.0 (r.known n.0 d n.1)))
+  ]
 
-pub longest_end : (M : Map) → IsMap M → (ls c d : List ℕ) → IsTrue (has_line M (last ls)) → LongestEnd M ls c →
-    EndRun M ls d → dm_of M d ≤ limit → (back : List ℕ) × (c ≡ d ++ back)
-longest_end M m ls c d k p q w = grind (arith, cases_lt, end_prefix, end_no_longer)
+start_more : (M : Map) (ls c d : List ℕ) → IsTrue (has_line M (first ls)) → StartRun M c ls → StartRun M d ls →
+    length c < length d → (x : ℕ) × MayPrecede M x (c ++ ls) × (dm M x + dm_of M c ≤ dm_of M d)
+start_more M ls c [] k p q h = absurd (omega arith)
+start_more M ls c (y ∷ d) k p q h = elim (cases_lt (length c) (length d)) [
+  | inl lt ↦ let r = start_more M ls c d k p q.1 lt in (r.0, r.1, omega arith)
+  | inr le ↦
+      let is : c ≡ d = same_start_run M ls c d k p q.1 (omega arith) in
+      (y, coe 1 0 (i. MayPrecede M y ((is i) ++ ls)) q.0, omega (arith, ap (dm_of M) is))
+]
+
+end_more : (M : Map) (ls c d : List ℕ) → IsTrue (has_line M (last ls)) → EndRun M ls c → EndRun M ls d →
+    length c < length d → (x : ℕ) × MayFollow M (ls ++ c) x × (dm M x + dm_of M c ≤ dm_of M d)
+end_more M ls [] (y ∷ d) k p q h = (y, coe 1 0 (i. MayFollow M (append-nil ls i) y) q.0, omega arith)
+end_more M ls (x ∷ c) (y ∷ d) k p q h =
+    let is : x ≡ y = one_follows M ls x y k p.0 q.0 in
+    let r = end_more M (ls ++ x ∷ []) c d (coe 1 0 (i. IsTrue (has_line M (last_push ls x i))) p.0.known) p.1
+    (coe 1 0 (i. EndRun M (ls ++ (is i) ∷ []) d) q.1) (omega arith) in
+    (r.0, coe 0 1 (i. MayFollow M (append_assoc ls (x ∷ []) c i) r.0) r.1, omega (arith, ap (dm M) is))
+end_more M ls _ _ k p q h = absurd (omega arith)
+
+pub start_runs : (M : Map) (ls : List ℕ) → IsTrue (has_line M (first ls)) →
+    AreRuns M (λ c. StartRun M c ls) (λ x c. MayPrecede M x (c ++ ls))
+start_runs M ls k = record {
+  same = λ c d. same_start_run M ls c d k;
+  more = λ c d. start_more M ls c d k;
+  known = λ x c p. p.known;
+}
+
+pub end_runs : (M : Map) (ls : List ℕ) → IsTrue (has_line M (last ls)) →
+    AreRuns M (EndRun M ls) (λ x c. MayFollow M (ls ++ c) x)
+end_runs M ls k =
+    record { same = λ c d. same_end_run M ls c d k; more = λ c d. end_more M ls c d k; known = λ x c p. p.known }
 
 pub one_start : OneStartRun
-one_start M m ls c d k p q = grind (arith, longest_start, start_no_longer)
+one_start M m ls c d k p q =
+    one_run M (λ c. StartRun M c ls) (λ x c. MayPrecede M x (c ++ ls)) (start_runs M ls k) c d p.run q.run m
+    (omega (arith, p.longest d q.run q.within, q.longest c p.run p.within))
 
 pub one_end : OneEndRun
-one_end M m ls c d k p q = grind (arith, longest_end, end_no_longer)
+one_end M m ls c d k p q =
+    one_run M (EndRun M ls) (λ x c. MayFollow M (ls ++ c) x) (end_runs M ls k) c d p.run q.run m
+    (omega (arith, p.longest d q.run q.within, q.longest c p.run p.within))
 
 -- ---- the path with its extended start
 

@@ -1,6 +1,6 @@
 -- If nothing that a path depends on has changed, its answer, traversed nodes, coverage queries and footprint are the
 -- same.
-use Rattle.std.proofs.Common.{inl, inr, ◌≡◌, ℕ, ◌+◌, List, ◌∷◌, length, true, refl, ◌<◌, ◌≤◌, Option, None, IsTrue, All}
+use Rattle.std.proofs.Common.{◌⊎◌, inl, inr, ◌≡◌, ℕ, ◌+◌, List, ◌∷◌, length, true, refl, ◌<◌, ◌≤◌, Option, None, IsTrue, All}
 use Rattle.std.proofs.Common.{Contains, sym, ◌∙◌, subst, arith, MatchOption, ◌↔◌, ◌++◌, length-append, cond, T, [], ap}
 use Rattle.std.proofs.Common.{◌==◌}
 use Rattle.std.proofs.lemmas.Bool.{cases_lt, cases_Bool, both_ways}
@@ -13,25 +13,24 @@ use Rattle.olr_spec.specs.Points.{stretch, Covered, Follow, OfPath, last_positio
 use Rattle.olr_spec.specs.Encoding.{Answer, Refused, Refusal, path_fault, answer_by_points, Encoding, Encodes}
 use Rattle.olr_spec.specs.Encoding.{No_next_point, Points}
 use Rattle.olr_spec.specs.Detours.{ChangedLine, AccountsFor}
-use Rattle.olr_spec.specs.Queries.{Traversed, TraversedOfExtended, TraversedOf, IsLastTested, CoverageQuery, query_to}
+use Rattle.olr_spec.specs.Queries.{NodeOf, Traversed, TraversedOfExtended, TraversedOf, IsLastTested, CoverageQuery, query_to}
 use Rattle.olr_spec.specs.Queries.{IsQuery, IsClear, querying, QueriesOfExtended, QueriesOf, KnownQuery, IsKnownAt}
 use Rattle.olr_spec.specs.Queries.{FoundFor, KnownOfExtended, KnownOf, QueriesFrom}
 use Rattle.olr_spec.specs.Laws.{UntouchedRetained, AnswersRetained}
 use Rattle.olr_spec.specs.Reference.{reference}
 use Rattle.olr_spec.proofs.ListLemmas.{Each, Each-from, has_first, has_last, Known, EndsSame, Each-append, Each-left}
-use Rattle.olr_spec.proofs.ListLemmas.{Each-right, Each-to}
+use Rattle.olr_spec.proofs.ListLemmas.{Each-right, Each-to, Each-cons, Each-push}
 use Rattle.olr_spec.proofs.AnswerLemmas.{sound_lines, path_nonempty, path_at, by_fault}
-use Rattle.olr_spec.proofs.RunLemmas.{one_tried}
-use Rattle.olr_spec.proofs.RouteMoves.{turned_lines}
-use Rattle.olr_spec.proofs.PointMoves.{fault_same, close_stays, Traversed-moves, follow_moves, Each-cond, legs_same}
+use Rattle.olr_spec.proofs.RunLemmas.{one_tried, extended_keeps}
+use Rattle.olr_spec.proofs.PointMoves.{fault_same, close_stays, Traversed-same, follow_moves, legs_same}
 use Rattle.olr_spec.proofs.JoinedLemmas.{extended_joined}
 use Rattle.olr_spec.proofs.QueryLemmas.{RoutesStay, to_same, clear_routes, query_stays, covered_stays, covered_same}
 use Rattle.olr_spec.proofs.QueryLists.{query_for, queries_here, zip_moves}
 use Rattle.olr_spec.proofs.TestedLemmas.{one_last_tested}
 use Rattle.olr_spec.proofs.KnownLists.{found_moves}
-use Rattle.olr_spec.proofs.RunMoves.{start_same, longest_start_moves, StartRun-known, end_same, first_of_both}
-use Rattle.olr_spec.proofs.RunMoves.{last_of_both, longest_end_moves}
-use Rattle.olr_spec.proofs.AgreeLemmas.{same_dm_of, same_end, same_known, same_passing, same_start}
+use Rattle.olr_spec.proofs.RunMoves.{Alike, same_begin, same_finish, longest_start_moves, StartRun-known, EndRun-known}
+use Rattle.olr_spec.proofs.RunMoves.{longest_end_moves}
+use Rattle.olr_spec.proofs.AgreeLemmas.{same_dm_of, same_known, by_entering}
 
 -- along any lines of both maps, each of these coverage queries has the same routes
 abbrev pub RoutesOf : Map → Map → List CoverageQuery → Type 0
@@ -71,11 +70,11 @@ module _ (M N : Map) (ls : List ℕ) (same : Each (SameLine M N) ls) (s t : ℕ)
 module _ (M N : Map) (m : IsMap M) (n : IsMap N) (P : Path) (is : IsTrue (is_path P.lines))
     (sound : path_fault M P ≡ None) (same : Each (SameLine M N) P.lines)
     (traversed : (v : ℕ) → TraversedOfExtended M P v → SameRound M N v) where
-  known : Each (Known M) P.lines
-  known = Each-from (Known M) P.lines (sound_lines M P sound)
-
   nonempty : 0 < length P.lines
   nonempty = path_nonempty P.lines is
+
+  known : Each (Known M) P.lines
+  known = Each-from (Known M) P.lines (sound_lines M P sound)
 
   module _ (b a : List ℕ) (tried : Tried M P b a) where
     abbrev fs : List ℕ
@@ -84,94 +83,87 @@ module _ (M N : Map) (m : IsMap M) (n : IsMap N) (P : Path) (is : IsTrue (is_pat
     abbrev ls : List ℕ
     ls = (extended_path M P b a).lines
 
-    round : (v : ℕ) → Traversed M ls b a v → SameRound M N v
-    round v h = traversed v (record { before = b; after = a; tried = tried; traversed = h })
+    alike : (xs : List ℕ) → ((v : ℕ) → NodeOf M xs v → Traversed M ls b a v) → Each (Known M) xs → Each (Alike M N) xs
+    alike xs on k x h =
+        let round : (v : ℕ) → (start M x ≡ v) ⊎ (end M x ≡ v) → SameRound M N v =
+        λ v e. traversed v (record { before = b; after = a; tried = tried; traversed = on v (x, h, e) }) in
+        record {
+          known = k x h;
+          same = by_entering M N (end M x) x (round (end M x) (inr refl)) (k x h) refl;
+          begin = round (start M x) (inl refl);
+          finish = round (end M x) (inr refl);
+        }
 
-    ls_round : Each (EndsSame M N) ls
-    ls_round x h = (round (start M x) (inl (x, h, inl refl)), round (end M x) (inl (x, h, inr refl)))
+    ls_alike : Each (Alike M N) ls
+    ls_alike = alike ls (λ v on. inl on) (extended_keeps M (Each (Known M)) (λ x ls p k. Each-cons (Known M) x ls p.known k)
+        (λ ls x p k. Each-push (Known M) ls x k p.known) P b a tried known)
 
-    b_round : Each (EndsSame M N) b
-    b_round x h = (round (start M x) (inr (inl (x, h, inl refl))), round (end M x) (inr (inl (x, h, inr refl))))
+    b_alike : Each (Alike M N) b
+    b_alike = alike b (λ v on. inr (inl on)) (StartRun-known M b P.lines tried.before.run)
 
-    a_round : Each (EndsSame M N) a
-    a_round x h = (round (start M x) (inr (inr (x, h, inl refl))), round (end M x) (inr (inr (x, h, inr refl))))
+    a_alike : Each (Alike M N) a
+    a_alike = alike a (λ v on. inr (inr on)) (EndRun-known M fs a tried.after.run)
 
-    fs_round : Each (EndsSame M N) fs
-    fs_round = Each-left (EndsSame M N) fs (taken_end M fs a) ls_round
+    fs_alike : Each (Alike M N) fs
+    fs_alike = Each-left (Alike M N) fs (taken_end M fs a) ls_alike
 
-    path_round : Each (EndsSame M N) P.lines
-    path_round = Each-right (EndsSame M N) (taken_start M b P.lines) P.lines fs_round
+    before_alike : Each (Alike M N) (b ++ P.lines)
+    before_alike = Each-append (Alike M N) b P.lines b_alike (Each-right (Alike M N) (taken_start M b P.lines) P.lines fs_alike)
 
-    b_same : Each (SameLine M N) b
-    b_same = start_same M N m P.lines b nonempty known same path_round b_round tried.before
+    after_alike : Each (Alike M N) (fs ++ a)
+    after_alike = Each-append (Alike M N) fs a fs_alike a_alike
 
     front_same : taken_start M b P.lines ≡ taken_start N b P.lines
-    front_same =
-        let z = first (b ++ P.lines) in
-        let there = first_of_both (EndsSame M N) b P.lines nonempty b_round path_round in
-        let is : SameLine M N z = first_of_both (SameLine M N) b P.lines nonempty b_same same in
-        λ i. cond ((same_passing M N (start M z) there.0 ∙ ap (passing N) (same_start M N z is)) i) [] b
+    front_same = λ i. cond (same_begin M N (first (b ++ P.lines)) (before_alike _ (has_first (b ++ P.lines)
+        (omega (arith, nonempty, length-append b P.lines)))) i) [] b
 
     fs_same : fs ≡ from_start N P b
     fs_same = λ i. front_same i ++ P.lines
 
-    fs_lines : Each (SameLine M N) fs
-    fs_lines = Each-append (SameLine M N) (taken_start M b P.lines) P.lines (Each-cond (SameLine M N) _ b b_same) same
-
-    fs_known : Each (Known M) fs
-    fs_known = Each-append (Known M) (taken_start M b P.lines) P.lines
-        (Each-cond (Known M) _ b (StartRun-known M b P.lines tried.before.run)) known
-
     fs_nonempty : 0 < length fs
     fs_nonempty = omega (arith, nonempty, length-append (taken_start M b P.lines) P.lines)
 
-    a_same : Each (SameLine M N) a
-    a_same = end_same M N m fs a fs_nonempty fs_known fs_lines fs_round a_round tried.after
-
     tried_there : Tried N P b a
     tried_there = record {
-      before = longest_start_moves M N m P.lines b nonempty known same path_round b_round tried.before;
+      before = longest_start_moves M N m P.lines b nonempty before_alike tried.before;
       after = subst (λ (zs : List ℕ). LongestEnd N zs a) fs_same
-          (longest_end_moves M N m fs a fs_nonempty fs_known fs_lines fs_round a_round tried.after);
+          (longest_end_moves M N m fs a fs_nonempty after_alike tried.after);
     }
 
     back_same : taken_end M fs a ≡ taken_end N (from_start N P b) a
     back_same =
-        let z = last (fs ++ a) in
-        let is : SameLine M N z = last_of_both (SameLine M N) fs a fs_nonempty fs_lines a_same in
-        let there = last_of_both (EndsSame M N) fs a fs_nonempty fs_round a_round in
-        let pass = same_passing M N (end M z) there.1 ∙ ap (passing N) (same_end M N z is)
-        ∙ ap (λ (zs : List ℕ). passing N (end N (last (zs ++ a)))) fs_same in
-        λ i. cond (pass i) [] a
+        (λ i. cond (same_finish M N (last (fs ++ a)) (after_alike _ (has_last (fs ++ a)
+        (omega (arith, fs_nonempty, length-append fs a)))) i) [] a)
+        ∙ ap (λ (zs : List ℕ). taken_end N zs a) fs_same
 
     ls_same : Each (SameLine M N) ls
-    ls_same = Each-append (SameLine M N) fs (taken_end M fs a) fs_lines (Each-cond (SameLine M N) _ a a_same)
+    ls_same x h = (ls_alike x h).same
 
     path_there : extended_path M P b a ≡ extended_path N P b a
     path_there =
-        let front = same_dm_of M N (taken_start M b P.lines) (Each-cond (SameLine M N) _ b b_same) ∙ ap (dm_of N) front_same in
-        let back = same_dm_of M N (taken_end M fs a) (Each-cond (SameLine M N) _ a a_same) ∙ ap (dm_of N) back_same in
+        let front = same_dm_of M N (taken_start M b P.lines)
+        (Each-left (SameLine M N) (taken_start M b P.lines) P.lines (λ x h. (fs_alike x h).same)) ∙ ap (dm_of N) front_same in
+        let back = same_dm_of M N (taken_end M fs a) (Each-right (SameLine M N) fs (taken_end M fs a) ls_same)
+        ∙ ap (dm_of N) back_same in
         λ i. record { lines = fs_same i ++ back_same i; pos = P.pos + front i; neg = P.neg + back i }
 
     follow_there : (js : List ℕ) → ((i j : ℕ) → has (0 ∷ js) i ≡ true → i < j → j ≤ length ls
         → dm_of M (stretch ls i j) ≤ limit → Covered M ls i j ↔ Covered N ls i j) → Follow M ls 0 js →
         Follow N (extended_path N P b a).lines 0 js
     follow_there js covers f = coe 0 1 (i. Follow N (path_there i).lines 0 js) (follow_moves M N ls
-        (omega (arith, fs_nonempty, length-append fs (taken_end M fs a))) ls_same ls_round (0 ∷ js) covers 0 js (λ k h. h) f)
+        (omega (arith, fs_nonempty, length-append fs (taken_end M fs a))) ls_alike (0 ∷ js) covers 0 js (λ k h. h) f)
 
     answer_there : (js : List ℕ) →
         answer_by_points M (extended_path M P b a) js ≡ answer_by_points N (extended_path N P b a) js
     answer_there js =
         let E = extended_path M P b a in
-        (λ i. cond (last_position 0 js == length E.lines) (Points (reference (legs_same M N ls ls_same ls_round i) E.pos E.neg js))
+        (λ i. cond (last_position 0 js == length E.lines) (Points (reference (legs_same M N ls ls_alike i) E.pos E.neg js))
         (Refused (No_next_point (last_position 0 js))))
         ∙ ap (λ (E : Path). answer_by_points N E js) path_there
 
     traversed_moves : (v : ℕ) → Traversed M ls b a v ↔ Traversed N (extended_path N P b a).lines b a v
-    traversed_moves v = coe 0 1 (i. Traversed M ls b a v ↔ Traversed N (path_there i).lines b a v) (
-      Traversed-moves M N ls b a v ls_same b_same a_same,
-      Traversed-moves N M ls b a v (turned_lines M N ls ls_same) (turned_lines M N b b_same) (turned_lines M N a a_same),
-    )
+    traversed_moves v = coe 0 1 (i. Traversed M ls b a v ↔ Traversed N (path_there i).lines b a v)
+        (Traversed-same M N ls b a v ls_alike b_alike a_alike)
 
   module _ (queries : List CoverageQuery) (o : QueriesOfExtended M P queries) (routes : RoutesOf M N queries) where
     abbrev E : Path
