@@ -20,16 +20,21 @@ use Rattle.olr_spec.specs.Laws.{OneKnown, OneSearched, KnownHolds, AllSearched}
 use Rattle.olr_spec.proofs.ListLemmas.{Each, Each-head, Each-left, Each-right}
 use Rattle.olr_spec.proofs.RouteLemmas.{dm_of-append, IsRoute-split}
 use Rattle.olr_spec.proofs.AgreeLemmas.{same_start, same_dm_of}
-use Rattle.olr_spec.proofs.RouteMoves.{IsRoute-moves, same_there, clear_unique}
+use Rattle.olr_spec.proofs.RouteMoves.{IsRoute-moves, same_there, clear_unique, part_stays}
 use Rattle.olr_spec.proofs.JoinLemmas.{stretch_first, follow_linked, Linked}
 use Rattle.olr_spec.proofs.JoinedLemmas.{extended_joined}
 use Rattle.olr_spec.proofs.AnswerLemmas.{path_also, path_at, same_by, by_fault}
-use Rattle.olr_spec.proofs.WayLemmas.{way_between, next_start}
-use Rattle.olr_spec.proofs.QueryLemmas.{stretch_parts, onward}
+use Rattle.olr_spec.proofs.WayLemmas.{next_start}
+use Rattle.olr_spec.proofs.QueryLemmas.{stretch_parts, way_on}
 use Rattle.olr_spec.proofs.TestedLemmas.{one_last_tested, one_query}
 use Rattle.olr_spec.proofs.KnownLists.{one_found, found_each, found_increasing, Ascend, ascend_filter}
 
 -- ---- on another map
+
+-- a route's lines lead to one node
+one_end : (M : Map) (s t u : ℕ) (xs : List ℕ) → IsRoute M s t xs → IsRoute M s u xs → t ≡ u
+one_end M s t u [] v w = sym v ∙ w
+one_end M s t u (x ∷ xs) v w = one_end M (end M x) t u xs v.2 w.2
 
 module _ (M N : Map) (C : List ChangedLine) (there : AccountsFor C M N) (here : AccountsFor C N M) (ls : List ℕ)
     (e : KnownQuery) (k : IsKnown M ls e) (clear : IsClear N C e.query) where
@@ -48,41 +53,12 @@ module _ (M N : Map) (C : List ChangedLine) (there : AccountsFor C M N) (here : 
   same : Each (SameLine M N) whole
   same = same_there M N C s t e.query.within there here clear whole k.route (omega arith)
 
-  parts : (m : ℕ) → e.first ≤ m → m ≤ e.last → whole ≡ part m ++ stretch ls m e.last
-  parts m h g = stretch_parts ls e.first m e.last h g
-
-  part_same : (m : ℕ) → e.first ≤ m → m ≤ e.last → Each (SameLine M N) (part m)
-  part_same m h g = Each-left (SameLine M N) (part m) (stretch ls m e.last)
-      (subst (Each (SameLine M N)) (parts m h g) same)
-
-  rest_same : (m : ℕ) → e.first ≤ m → m ≤ e.last → Each (SameLine M N) (stretch ls m e.last)
-  rest_same m h g = Each-right (SameLine M N) (part m) (stretch ls m e.last)
-      (subst (Each (SameLine M N)) (parts m h g) same)
-
-  -- line m and those after it
-  rest_first : (m : ℕ) → e.first ≤ m → m < e.last → stretch ls m e.last ≡ slice_index ls m ∷ stretch ls (m + 1) e.last
-  rest_first m h g = stretch_first ls m e.last g (omega arith)
-
-  rest_route : (m : ℕ) → e.first ≤ m → m < e.last → IsRoute M (start M (slice_index ls m)) t (stretch ls m e.last)
-  rest_route m h g =
+  -- the lines from position m on
+  after : (m : ℕ) → e.first ≤ m → m < e.last → IsRoute M (start M (slice_index ls m)) t (stretch ls m e.last)
+  after m h g =
       let r = IsRoute-split M s t (part m) (stretch ls m e.last)
-      (coe 0 1 (j. IsRoute M s t (parts m h (omega arith) j)) k.route) in
-      coe 1 0 (j. IsRoute M ((coe 0 1 (j. IsRoute M r.0 t (rest_first m h g j)) r.2).1 j) t (stretch ls m e.last)) r.2
-
-  start_same : (m : ℕ) → e.first ≤ m → m < e.last → start M (slice_index ls m) ≡ start N (slice_index ls m)
-  start_same m h g =
-      same_start M N (slice_index ls m) (Each-head (SameLine M N) (slice_index ls m) (stretch ls (m + 1) e.last)
-      (subst (Each (SameLine M N)) (rest_first m h g) (rest_same m h (omega arith))))
-
-  -- if no detour to the end is as short, none to line m is
-  clear_to : (m : ℕ) → e.first ≤ m → m < e.last → ¬ Detour N C s (start M (slice_index ls m)) (dm_of N (part m))
-  clear_to m h g = λ o.
-      let way = IsRoute-moves M N (start M (slice_index ls m)) t (stretch ls m e.last) (rest_same m h (omega arith))
-      (rest_route m h g) in
-      let longer = onward N C s (start M (slice_index ls m)) t (dm_of N (part m)) (stretch ls m e.last) o way in
-      let sum = sym (dm_of-append N (part m) (stretch ls m e.last)) ∙ ap (dm_of N) (sym (parts m h (omega arith)))
-      ∙ sym (same_dm_of M N whole same) ∙ sym k.within in
-      clear (coe 0 1 (i. Detour N C s t (sum i)) longer)
+      (subst (IsRoute M s t) (stretch_parts ls e.first m e.last h (omega arith)) k.route) in
+      subst (λ (v : ℕ). IsRoute M v t (stretch ls m e.last)) (one_end M s r.0 _ (part m) r.1 (k.before m h g).route) r.2
 
   pub known_stays : IsKnown N ls e
   known_stays =
@@ -93,10 +69,14 @@ module _ (M N : Map) (C : List ChangedLine) (there : AccountsFor C M N) (here : 
         route = IsRoute-moves M N s t whole same k.route;
         within = k.within ∙ long;
         before = λ m h g.
-            let as_long = same_dm_of M N (part m) (part_same m h (omega arith)) in
-            coe 0 1 (j. UniqueShortest N s (start_same m h g j) (part m))
-            ((clear_unique M N C s (start M (slice_index ls m)) (dm_of N (part m)) there here (clear_to m h g) (part m)
-            as_long (omega arith)).0 (k.before m h g));
+            let parts = stretch_parts ls e.first m e.last h (omega arith) in
+            let rest = Each-right (SameLine M N) (part m) (stretch ls m e.last) (subst (Each (SameLine M N)) parts same) in
+            let line = same_start M N (slice_index ls m) (Each-head (SameLine M N) (slice_index ls m) (stretch ls (m + 1) e.last)
+            (subst (Each (SameLine M N)) (stretch_first ls m e.last g (omega arith)) rest)) in
+            subst (λ (v : ℕ). UniqueShortest N s v (part m)) line
+            ((part_stays M N C there here s (start M (slice_index ls m)) t (part m) (stretch ls m e.last)
+            (k.before m h g).route (after m h g)
+            (subst (λ (d : ℕ). ¬ Detour N C s t d) (k.within ∙ ap (dm_of M) parts) clear)).0 (k.before m h g));
         covered =
             let unique = clear_unique M N C s t e.query.within there here clear whole long (omega arith) in
             ((λ c. unique.0 (k.covered.0 c)), (λ r. k.covered.1 (unique.1 r)));
@@ -120,11 +100,6 @@ pub covered_unique : (M : Map) (ls : List ℕ) (i j : ℕ) → i < j → j < len
     Covered M ls i j ↔ LrpRoute M (end M (slice_index ls i)) (start M (slice_index ls j)) (stretch ls (i + 1) j)
 covered_unique M ls i j h g = grind arith
 
--- a route's lines lead to one node
-one_end : (M : Map) (s t u : ℕ) (xs : List ℕ) → IsRoute M s t xs → IsRoute M s u xs → t ≡ u
-one_end M s t u [] v w = sym v ∙ w
-one_end M s t u (x ∷ xs) v w = one_end M (end M x) t u xs v.2 w.2
-
 module _ (M : Map) (b own a : List ℕ) (joined : AreJoined M ((b ++ own) ++ a)) (i : ℕ) (e : KnownQuery)
     (begins : i + 1 ≡ length b + e.first) (order : e.first < e.last) (upto : e.last ≤ length own)
     (inside : length b + e.last < length ((b ++ own) ++ a)) where
@@ -144,10 +119,8 @@ module _ (M : Map) (b own a : List ℕ) (joined : AreJoined M ((b ++ own) ++ a))
   from_start_of = grind (arith, next_start, ls, own_line)
 
   way : IsRoute M from to (stretch own e.first e.last)
-  way =
-      let next = next_start M _ _ ls i joined (omega arith) in
-      coe 0 1 (j. IsRoute M (sym next j) to (part_is e.last (omega arith) (omega arith) j))
-      (way_between M _ _ ls (i + 1) (length b + e.last) joined (omega arith) inside)
+  way = subst (IsRoute M from to) (part_is e.last (omega arith) (omega arith))
+      (way_on M ls _ _ joined i (length b + e.last) (omega arith) inside)
 
   -- what is right of the path is right of the extended path
   module _ (k : IsKnown M own e) where

@@ -13,7 +13,7 @@ use Rattle.olr_spec.specs.Queries.{Needed, IsLastTested, query_to, IsClear}
 use Rattle.olr_spec.proofs.RouteLemmas.{IsRoute-append, dm_of-append, prefix_of_unique}
 use Rattle.olr_spec.proofs.ListLemmas.{Each, Each-range, has_index}
 use Rattle.olr_spec.proofs.AgreeLemmas.{same_start, same_end, same_dm_of}
-use Rattle.olr_spec.proofs.RouteMoves.{IsRoute-moves, unique_same, within, within_other, detour_of, clear_unique}
+use Rattle.olr_spec.proofs.RouteMoves.{IsRoute-moves, unique_same, within, within_other, part_stays}
 use Rattle.olr_spec.proofs.JoinLemmas.{RouteTo}
 use Rattle.olr_spec.proofs.WayLemmas.{way_between, next_start}
 
@@ -25,12 +25,11 @@ stretch_parts ls p m k h g =
     ∙ ap (λ zs. take (m - p) (drop p ls) ++ take (k - m) zs) (drop-drop (m - p) p ls
     ∙ ap (λ (c : ℕ). drop c ls) at)
 
--- a detour to a node of a route leads on to the end of the route
-pub onward : (N : Map) (C : List ChangedLine) (s v t d : ℕ) (xs : List ℕ) → Detour N C s v d → IsRoute N v t xs
-    → Detour N C s t (d + dm_of N xs)
-onward N C s v t d xs o w =
-    detour_of o.first o.last o.first_listed o.last_listed o.before (o.after ++ xs) o.leads
-    (IsRoute-append N o.last.to v t o.after xs o.returns w) (omega (arith, dm_of-append N o.after xs))
+pub way_on : (M : Map) (ls : List ℕ) (s t : ℕ) → IsRoute M s t ls → (i m : ℕ) → i < m → m < length ls
+    → IsRoute M (end M (slice_index ls i)) (start M (slice_index ls m)) (stretch ls (i + 1) m)
+way_on M ls s t joined i m h g =
+    coe 1 0 (j. IsRoute M (next_start M s t ls i joined (omega arith) j) (start M (slice_index ls m)) (stretch ls (i + 1) m))
+    (way_between M s t ls (i + 1) m joined (omega arith) g)
 
 -- a position after one that isn't covered isn't covered either
 pub covered_before : (M : Map) (ls : List ℕ) (s t : ℕ) → IsRoute M s t ls → (i k m : ℕ) → i < k → k ≤ m → m ≤ length ls
@@ -38,15 +37,11 @@ pub covered_before : (M : Map) (ls : List ℕ) (s t : ℕ) → IsRoute M s t ls 
 covered_before M ls s t joined i k m a h g z c = λ inside.
     let n = min m (length ls - 1) in
     let is : min k (length ls - 1) ≡ k = omega arith in
-    let parts = stretch_parts ls (i + 1) k n (omega arith) (omega arith) in
-    let next = next_start M s t ls i joined (omega arith) in
-    let begin = coe 1 0 (j. IsRoute M (next j) (start M (slice_index ls k)) (stretch ls (i + 1) k))
-    (way_between M s t ls (i + 1) k joined (omega arith) z) in
-    let front = prefix_of_unique M (end M (slice_index ls i)) (start M (slice_index ls k)) (start M (slice_index ls n))
-    (stretch ls (i + 1) k) (stretch ls k n)
-    (coe 0 1 (j. UniqueShortest M (end M (slice_index ls i)) (start M (slice_index ls n)) (parts j)) (c (omega arith)))
-    begin (way_between M s t ls k n joined (omega arith) (omega arith)) in
-    coe 1 0 (j. RouteTo M ls i (is j)) front
+    coe 1 0 (j. RouteTo M ls i (is j)) (prefix_of_unique M (end M (slice_index ls i)) (start M (slice_index ls k))
+    (start M (slice_index ls n)) (stretch ls (i + 1) k) (stretch ls k n)
+    (subst (UniqueShortest M (end M (slice_index ls i)) (start M (slice_index ls n)))
+    (stretch_parts ls (i + 1) k n (omega arith) (omega arith)) (c (omega arith)))
+    (way_on M ls s t joined i k a z) (way_between M s t ls k n joined (omega arith) (omega arith)))
 
 -- a position that is near enough and after the last tested one isn't covered
 pub covered_known : (M : Map) (ls : List ℕ) (s t : ℕ) → IsRoute M s t ls → (i k : ℕ) → IsLastTested M ls i k → (j : ℕ)
@@ -83,11 +78,8 @@ module _ (M N : Map) (ls : List ℕ) (same : Each (SameLine M N) ls) (s t : ℕ)
   length_same : (p q : ℕ) → dm_of M (stretch ls p q) ≡ dm_of N (stretch ls p q)
   length_same p q = same_dm_of M N (stretch ls p q) (Each-range (SameLine M N) ls p q same)
 
-  -- the length to position m and on to position k
-  parts_length : (m : ℕ) → i < m → m ≤ k → dm_of N (part m) + dm_of N (stretch ls m k) ≡ dm_of M (part k)
-  parts_length m h g =
-      sym (dm_of-append N (part m) (stretch ls m k)) ∙ ap (dm_of N) (sym (stretch_parts ls (i + 1) m k (omega arith) g))
-      ∙ sym (length_same (i + 1) k)
+  parts : (m : ℕ) → i < m → m ≤ k → part k ≡ part m ++ stretch ls m k
+  parts m h g = stretch_parts ls (i + 1) m k (omega arith) g
 
   -- with the ends that the lines have on the other map
   moved : (m : ℕ) → m ≤ k → UniqueShortest M from (at m) (part m) ↔ UniqueShortest N from (at m) (part m)
@@ -98,29 +90,19 @@ module _ (M N : Map) (ls : List ℕ) (same : Each (SameLine M N) ls) (s t : ℕ)
   pub to_same : query_to M ls i k ≡ query_to N ls i k
   to_same = λ j. record { from = from_same j; to = at_same k query.inside j; within = length_same (i + 1) k j }
 
-  -- if no detour to position k is as short, none to a position before k is
-  clear_at : (C : List ChangedLine) → IsClear N C (query_to M ls i k) → (m : ℕ) → i < m → m ≤ k
-      → ¬ Detour N C from (at m) (dm_of N (part m))
-  clear_at C clear m h g = λ o.
-      let way : IsRoute N (at m) (at k) (stretch ls m k) =
-      IsRoute-moves M N (at m) (at k) (stretch ls m k) (Each-range (SameLine M N) ls m k same)
-      (way_between M s t ls m k joined g query.inside) in
-      let longer = onward N C from (at m) (at k) (dm_of N (part m)) (stretch ls m k) o way in
-      clear (subst (λ (d : ℕ). Detour N C from (at k) d) (parts_length m h g) longer)
-
   pub clear_routes : (C : List ChangedLine) → AccountsFor C M N → AccountsFor C N M → IsClear N C (query_to M ls i k)
       → RoutesStay M N ls i k
   clear_routes C there here clear m h g =
-      let e = length_same (i + 1) m in
-      moved m g (clear_unique M N C from (at m) (dm_of N (part m)) there here (clear_at C clear m h g) (part m) e (omega arith))
+      moved m g (part_stays M N C there here from (at m) (at k) (part m) (stretch ls m k)
+      (way_on M ls s t joined i m h (omega arith)) (way_between M s t ls m k joined g query.inside)
+      (coe 0 1 (j. ¬ Detour N C from (at k) (dm_of M (parts m h g j))) clear))
 
   -- if the maps agree on the nodes that the coverage query reaches
   pub seen_routes : ((v : ℕ) → Reaches M from (dm_of M (part k)) v → SameRound M N v) → RoutesStay M N ls i k
   seen_routes round m h g =
       let d = dm_of M (part k) in
-      let e = length_same (i + 1) m in
       moved m g (unique_same M N from (at m) d (within M N from d round (at m)) (within_other M N from d round (at m)) (part m)
-      e (omega (arith, parts_length m h g)))
+      (length_same (i + 1) m) (omega (arith, ap (dm_of M) (parts m h g), dm_of-append M (part m) (stretch ls m k))))
 
 needed_moves : (M N : Map) (ls : List ℕ) (i m : ℕ) →
     ((p q : ℕ) → dm_of M (stretch ls p q) ≡ dm_of N (stretch ls p q)) → Needed M ls i m → Needed N ls i m

@@ -8,7 +8,7 @@ use Rattle.olr_spec.specs.Routes.{IsRoute, dm_of, Reaches, UniqueShortest}
 use Rattle.olr_spec.specs.Detours.{ChangedLine, IsChangedLine, AccountsFor, Detour, Near}
 use Rattle.olr_spec.specs.Laws.{NearStays}
 use Rattle.olr_spec.proofs.RouteLemmas.{IsRoute-append, dm_of-append}
-use Rattle.olr_spec.proofs.ListLemmas.{Each, Each-nil, Each-cons, Each-head, Each-tail}
+use Rattle.olr_spec.proofs.ListLemmas.{Each, Each-nil, Each-cons, Each-head, Each-tail, Each-left, Each-right}
 use Rattle.olr_spec.proofs.AgreeLemmas.{turned_round, by_leaving, same_known, same_start, same_end, same_dm, same_dm_of}
 
 pub turned_lines : (M N : Map) (xs : List ℕ) → Each (SameLine M N) xs → Each (SameLine N M) xs
@@ -93,58 +93,39 @@ detour_of first last f l before after leads returns h = record {
   within = h;
 }
 
--- after its last changed line a route is one of both maps
-abbrev Rest : Map → Map → List ChangedLine → ℕ → ℕ → Type 0
-Rest M N C t d =
-    (last : ChangedLine) × (after : List ℕ) × Contains C last × Each (SameLine M N) after × IsRoute M last.to t after
-    × (dm_of M after ≤ d)
-
 -- a detour of both maps
 abbrev Parts : Map → Map → List ChangedLine → ℕ → ℕ → ℕ → Type 0
 Parts M N C s t d = (o : Detour M C s t d) × Each (SameLine M N) o.before × Each (SameLine M N) o.after
 
 module _ (M N : Map) (C : List ChangedLine) (accounts : AccountsFor C M N) (t : ℕ) where
-  after_change : (d x : ℕ) (xs : List ℕ) → IsChangedLine C M x → IsRoute M (end M x) t xs → Each (SameLine M N) xs →
-      dm_of M xs ≤ d → Rest M N C t d
-  after_change d x xs c w each h = (c.change, xs, c.listed, each, rw c.to w, h)
-
-  rest_of : (s d : ℕ) (xs : List ℕ) → IsRoute M s t xs → dm_of M xs ≤ d → Each (SameLine M N) xs ⊎ Rest M N C t d
-  rest_of s d [] w h = inl (Each-nil (SameLine M N))
-  rest_of s d (x ∷ xs) w h = elim (rest_of (end M x) d xs w.2 (omega arith)) [
-    | inr r ↦ inr r
-    | inl each ↦ elim (accounts x w.0) [
-      | inl is ↦ inl (Each-cons (SameLine M N) x xs is each)
-      | inr c ↦ inr (after_change d x xs c w.2 each (omega arith))
-    ]
-  ]
-
   -- the parts of a route before its first changed line and after its last one
   parts_of : (s d : ℕ) (xs : List ℕ) → IsRoute M s t xs → dm_of M xs ≤ d → Each (SameLine M N) xs ⊎ Parts M N C s t d
   parts_of s d [] w h = inl (Each-nil (SameLine M N))
   parts_of s d (x ∷ xs) w h =
-      let left : dm_of M xs ≤ d - dm M x = omega arith in
+      let rest : Each (SameLine M N) xs ⊎ Parts M N C (end M x) t (d - dm M x) =
+      parts_of (end M x) (d - dm M x) xs w.2 (omega arith) in
       elim (accounts x w.0) [
-        | inl is ↦ elim (parts_of (end M x) (d - dm M x) xs w.2 left) [
+        | inl is ↦ elim rest [
           | inl each ↦ inl (Each-cons (SameLine M N) x xs is each)
-          | inr p ↦
-              let o = p.0 in
-              inr (
-                detour_of o.first o.last o.first_listed o.last_listed (x ∷ o.before) o.after (w.0, w.1, o.leads)
-                    o.returns (omega arith),
-                Each-cons (SameLine M N) x o.before is p.1,
-                p.2,
-              )
+          | inr (o, b, a) ↦ inr (
+            detour_of o.first o.last o.first_listed o.last_listed (x ∷ o.before) o.after (w.0, w.1, o.leads) o.returns
+                (omega arith),
+            Each-cons (SameLine M N) x o.before is b,
+            a,
+          )
         ]
-        | inr c ↦
-            let r : Rest M N C t (d - dm M x) = elim (rest_of (end M x) (d - dm M x) xs w.2 left) [
-              | inl each ↦ after_change (d - dm M x) x xs c w.2 each left
-              | inr r ↦ r
-            ] in
-            inr (
-              detour_of c.change r.0 c.listed r.2 [] r.1 (sym w.1 ∙ sym c.from) r.4 (omega arith),
-              Each-nil (SameLine M N),
-              r.3,
-            )
+        | inr c ↦ elim rest [
+          | inl each ↦ inr (
+            detour_of c.change c.change c.listed c.listed [] xs (sym w.1 ∙ sym c.from) (rw c.to w.2) (omega arith),
+            Each-nil (SameLine M N),
+            each,
+          )
+          | inr (o, b, a) ↦ inr (
+            detour_of c.change o.last c.listed o.last_listed [] o.after (sym w.1 ∙ sym c.from) o.returns (omega arith),
+            Each-nil (SameLine M N),
+            a,
+          )
+        ]
       ]
 
 detour_there : (M N : Map) (C : List ChangedLine) (s t d : ℕ) → Parts M N C s t d → Detour N C s t d
@@ -168,6 +149,20 @@ module _ (M N : Map) (C : List ChangedLine) (s t d : ℕ) (there : AccountsFor C
   pub clear_unique : (xs : List ℕ) → dm_of M xs ≡ dm_of N xs → dm_of M xs ≤ d →
       UniqueShortest M s t xs ↔ UniqueShortest N s t xs
   clear_unique = unique_same M N s t d same_there same_here
+
+-- where no detour is as short as a route, its part up to a node is the unique shortest path on both maps or on neither
+pub part_stays : (M N : Map) (C : List ChangedLine) → AccountsFor C M N → AccountsFor C N M → (s v t : ℕ) (xs ys : List ℕ) →
+    IsRoute M s v xs → IsRoute M v t ys → ¬ Detour N C s t (dm_of M (xs ++ ys)) →
+    UniqueShortest M s v xs ↔ UniqueShortest N s v xs
+part_stays M N C there here s v t xs ys w u clear =
+    let same = same_there M N C s t (dm_of M (xs ++ ys)) there here clear (xs ++ ys) (IsRoute-append M s v t xs ys w u)
+    (omega arith) in
+    let front = same_dm_of M N xs (Each-left (SameLine M N) xs ys same) in
+    let rest = Each-right (SameLine M N) xs ys same in
+    let back = same_dm_of M N ys rest in
+    clear_unique M N C s v (dm_of N xs) there here (λ o. clear (detour_of o.first o.last o.first_listed o.last_listed
+    o.before (o.after ++ ys) o.leads (IsRoute-append N o.last.to v t o.after ys o.returns (IsRoute-moves M N v t ys rest u))
+    (omega (arith, dm_of-append N o.after ys, dm_of-append M xs ys)))) xs front (omega arith)
 
 -- ---- near
 
