@@ -1,8 +1,10 @@
 -- Each definition is decidable, so each path has an answer.
-use Rattle.std.proofs.Common.{◌⊎◌, inl, inr, ◌≡◌, ℕ, zero, suc, ◌+◌, Bool, true, List, ◌∷◌, ◌++◌, length, ◌<◌, ◌≤◌}
+use Rattle.std.proofs.Common.{◌⊎◌, inl, inr, ◌≡◌, ℕ, zero, suc, ◌+◌, Bool, true, false, List, ◌∷◌, ◌++◌, length, ◌<◌, ◌≤◌}
 use Rattle.std.proofs.Common.{None, IsTrue, IsFalse, refl, sym, ap, ◌∙◌, subst, arith, MatchOption, length-append}
 use Rattle.std.proofs.Common.{append_assoc, [], nat_eq, ◌≢◌}
 use Rattle.std.proofs.lemmas.Bool.{cases_lt, cases_eq, cases_Bool, both_ways}
+use Rattle.std.proofs.Math.Decide.{dec_le, dec_lt, map_dec, ℕ_discrete}
+use Rattle.std.proofs.Math.Bool.{Bool-discrete}
 use lib.Pointwise.{pointwise, bytes_decides}
 use Rattle.olr_spec.specs.Map.{Map, IsMap, has_line, start, end, dm, coord_at, lines_where, has}
 use Rattle.olr_spec.specs.Routes.{IsRoute, dm_of, UniqueShortest}
@@ -24,44 +26,25 @@ use Rattle.olr_spec.proofs.OrderLemmas.{has_number}
 pub dec_and : {A B : Type 0} → Dec A → Dec B → Dec (A × B)
 dec_and d e = grind arith
 
-dec_as : {A B : Type 0} → (A → B) → (B → A) → Dec A → Dec B
-dec_as f g d = grind arith
-
 dec_not : {A : Type 0} → Dec A → Dec (¬ A)
 dec_not d = grind arith
-
-dec_true : (b : Bool) → Dec (IsTrue b)
-dec_true b = elim (cases_Bool b) [ inl e ↦ yes e | inr e ↦ no (λ f. both_ways b e f) ]
-
-dec_false : (b : Bool) → Dec (IsFalse b)
-dec_false b = elim (cases_Bool b) [ inl e ↦ no (λ f. both_ways b f e) | inr e ↦ yes e ]
-
-dec_eq : (m n : ℕ) → Dec (m ≡ n)
-dec_eq m n = elim (cases_eq m n) [ inl e ↦ yes e | inr ne ↦ no ne ]
-
-dec_lt : (m n : ℕ) → Dec (m < n)
-dec_lt m n = elim (cases_lt m n) [ inl h ↦ yes h | inr h ↦ no (λ lt. absurd (omega arith)) ]
-
-pub dec_le : (m n : ℕ) → Dec (m ≤ n)
-dec_le m n = elim (cases_lt n m) [ inl h ↦ no (λ le. absurd (omega arith)) | inr h ↦ yes h ]
 
 -- for each number of a list
 dec_each : (Q : ℕ → Type 0) → ((x : ℕ) → Dec (Q x)) → (xs : List ℕ) → Dec (Each Q xs)
 dec_each Q d [] = yes (Each-nil Q)
-dec_each Q d (x ∷ xs) =
-    dec_as (λ p. Each-cons Q x xs p.0 p.1) (λ h. (Each-head Q x xs h, Each-tail Q x xs h)) (dec_and (d x) (dec_each Q d xs))
+dec_each Q d (x ∷ xs) = grind (arith, d, dec_each Q d xs, Each-cons, Each-head, Each-tail)
 
 -- for each list of at most n of these numbers
 abbrev AllLists : List ℕ → ℕ → (List ℕ → Type 0) → Type 0
 AllLists ks n Q = (w : List ℕ) → Each (λ x. has ks x ≡ true) w → length w ≤ n → Q w
 
 dec_lists : (ks : List ℕ) (n : ℕ) (Q : List ℕ → Type 0) → ((w : List ℕ) → Dec (Q w)) → Dec (AllLists ks n Q)
-dec_lists ks zero Q d = dec_as (λ p. elim [ [] ↦ λ e h. p | x ∷ w ↦ λ e h. absurd (omega arith) ])
+dec_lists ks zero Q d = map_dec (λ p. elim [ [] ↦ λ e h. p | x ∷ w ↦ λ e h. absurd (omega arith) ])
     (λ h. h [] (Each-nil (λ x. has ks x ≡ true)) (omega arith)) (d [])
 dec_lists ks (suc n) Q d =
     let In : ℕ → Type 0 = λ x. has ks x ≡ true in
     let Rest : ℕ → Type 0 = λ k. AllLists ks n (λ w. Q (k ∷ w)) in
-    dec_as (λ (p : Q [] × Each Rest ks). elim [
+    map_dec (λ (p : Q [] × Each Rest ks). elim [
       | [] ↦ λ e h. p.0
       | k ∷ w ↦ λ e h. p.1 k (Each-head In k w e) w (Each-tail In k w e) (omega arith)
     ])
@@ -79,26 +62,23 @@ some_of Q d (x ∷ xs) = elim (d x) [
 -- ---- routes
 
 dec_IsRoute : (M : Map) (s t : ℕ) (xs : List ℕ) → Dec (IsRoute M s t xs)
-dec_IsRoute M s t [] = dec_eq s t
-dec_IsRoute M s t (x ∷ xs) =
-    dec_as (λ p. (p.0.0, p.0.1, p.1)) (λ w. ((w.0, w.1), w.2))
-    (dec_and (dec_and (dec_true (has_line M x)) (dec_eq (start M x) s)) (dec_IsRoute M (end M x) t xs))
+dec_IsRoute M s t [] = ℕ_discrete s t
+dec_IsRoute M s t (x ∷ xs) = grind (arith, Bool-discrete, ℕ_discrete, dec_IsRoute M (end M x) t xs)
 
 -- the numbers of all lines
 abbrev numbers : Map → List ℕ
 numbers M = lines_where M (λ l. true)
 
 route_numbers : (M : Map) (s t : ℕ) (xs : List ℕ) → IsRoute M s t xs → Each (λ x. has (numbers M) x ≡ true) xs
-route_numbers M s t [] w = Each-nil (λ x. has (numbers M) x ≡ true)
-route_numbers M s t (x ∷ xs) w =
-    Each-cons (λ y. has (numbers M) y ≡ true) x xs (has_number M x w.0) (route_numbers M (end M x) t xs w.2)
+route_numbers M s t [] w = grind (arith, Each-nil)
+route_numbers M s t (x ∷ xs) w = grind (arith, route_numbers M (end M x) t xs w.2, Each-cons, has_number)
 
 route_length : (M : Map) → IsMap M → (s t : ℕ) (xs : List ℕ) → IsRoute M s t xs → length xs ≤ dm_of M xs
 route_length M m s t [] w = omega arith
 route_length M m s t (x ∷ xs) w = omega (arith, positive M m x w.0, route_length M m (end M x) t xs w.2)
 
 pub dec_same : (xs ys : List ℕ) → Dec (xs ≡ ys)
-dec_same xs ys = dec_as (bytes_decides xs ys).0 (bytes_decides xs ys).1 (dec_true (pointwise nat_eq xs ys))
+dec_same xs ys = map_dec (bytes_decides xs ys).0 (bytes_decides xs ys).1 (Bool-discrete (pointwise nat_eq xs ys) true)
 
 pub one_unique : OneUnique
 one_unique M s t xs ys p q = elim (dec_same xs ys) [
@@ -109,7 +89,7 @@ one_unique M s t xs ys p q = elim (dec_same xs ys) [
 pub dec_Unique : (M : Map) → IsMap M → (s t : ℕ) (xs : List ℕ) → Dec (UniqueShortest M s t xs)
 dec_Unique M m s t xs =
     let Clear : List ℕ → Type 0 = λ w. ¬ (IsRoute M s t w × ((w ≢ xs) × (dm_of M w ≤ dm_of M xs))) in
-    dec_as (λ p. record {
+    map_dec (λ p. record {
       route = p.0;
       others = λ ys w ne. elim (cases_lt (dm_of M xs) (dm_of M ys)) [
         | inl lt ↦ lt
@@ -124,19 +104,19 @@ dec_Unique M m s t xs =
 -- ---- LRPs
 
 pub dec_Covered : (M : Map) → IsMap M → (ls : List ℕ) (i j : ℕ) → Dec (Covered M ls i j)
-dec_Covered M m ls i j = grind (arith, dec_lt, dec_as, dec_Unique)
+dec_Covered M m ls i j = grind (arith, dec_lt, map_dec, dec_Unique)
 
 dec_Candidate : (M : Map) → IsMap M → (ls : List ℕ) (i j : ℕ) → Dec (Candidate M ls i j)
 dec_Candidate M m ls i j =
-    dec_as (λ p. record { after = p.0.0; upto = p.0.1; covered = p.1.0; near = p.1.1.0; fits = p.1.1.1 })
+    map_dec (λ p. record { after = p.0.0; upto = p.0.1; covered = p.1.0; near = p.1.1.0; fits = p.1.1.1 })
     (λ c. ((c.after, c.upto), (c.covered, (c.near, c.fits))))
     (dec_and (dec_and (dec_lt i j) (dec_le j (length ls)))
     (dec_and (dec_Covered M m ls i j)
     (dec_and (dec_le (dm_of M (stretch ls i j)) limit)
-    (dec_true (fit16 (coord_at M (node_at M ls i)) (coord_at M (node_at M ls j)))))))
+    (Bool-discrete (fit16 (coord_at M (node_at M ls i)) (coord_at M (node_at M ls j))) true))))
 
 dec_Valid : (M : Map) → IsMap M → (ls : List ℕ) (i j : ℕ) → Dec (ValidCandidate M ls i j)
-dec_Valid M m ls i j = dec_and (dec_Candidate M m ls i j) (dec_false (passing M (node_at M ls j)))
+dec_Valid M m ls i j = dec_and (dec_Candidate M m ls i j) (Bool-discrete (passing M (node_at M ls j)) false)
 
 pub greatest_or_none : (Q : ℕ → Type 0) → ((k : ℕ) → Dec (Q k)) → (n : ℕ) → ((k : ℕ) → Q k → k < n) →
     ((j : ℕ) × Greatest Q j) ⊎ ((k : ℕ) → ¬ Q k)
@@ -176,10 +156,10 @@ some_follow M m ls (suc fuel) i h = elim (next_or_none M m ls i) [
 -- ---- runs of degree-two nodes
 
 dec_MayPrecede : (M : Map) (x : ℕ) (ls : List ℕ) → Dec (MayPrecede M x ls)
-dec_MayPrecede M x ls = grind (arith, dec_as, dec_and, dec_true, dec_eq, dec_not, dec_false)
+dec_MayPrecede M x ls = grind (arith, map_dec, dec_and, Bool-discrete, ℕ_discrete, dec_not)
 
 dec_MayFollow : (M : Map) (ls : List ℕ) (x : ℕ) → Dec (MayFollow M ls x)
-dec_MayFollow M ls x = grind (arith, dec_as, dec_and, dec_true, dec_eq, dec_not, dec_false)
+dec_MayFollow M ls x = grind (arith, map_dec, dec_and, Bool-discrete, ℕ_discrete, dec_not)
 
 -- the last element of a list that isn't empty
 pub last_of_list : (x : ℕ) (xs : List ℕ) → (front : List ℕ) × (y : ℕ) × (x ∷ xs ≡ front ++ y ∷ [])
@@ -203,22 +183,20 @@ module _ (M : Map) (m : IsMap M) (Run : List ℕ → Type 0) (Next : ℕ → Lis
           c,
           p,
           w,
-          λ e q v. no_longer M Run Next runs c e p q (λ x n. elim (cases_lt limit (dm M x + dm_of M c)) [
-            | inl lt ↦ lt
-            | inr le ↦ absurd (none x (has_number M x (runs.known x c n)) (n, le))
-          ]) v,
+          λ e q. no_longer M Run Next runs c e p q (λ x n.
+              let none_near = none x (has_number M x (runs.known x c n)) in grind (arith, none_near, cases_lt)),
         )
       ]
 
 some_start : (M : Map) → IsMap M → (ls : List ℕ) → IsTrue (has_line M (first ls)) → (d : List ℕ) × LongestStart M d ls
 some_start M m ls k =
-    let r = some_run M m (λ c. StartRun M c ls) (λ x c. MayPrecede M x (c ++ ls)) (start_runs M ls k)
+    let r = some_run M m _ _ (start_runs M ls k)
     (λ x c. dec_MayPrecede M x (c ++ ls)) (λ x c p n. (x ∷ c, (n, p), refl)) (suc limit) [] (omega arith) tt (omega arith) in
     (r.0, record { run = r.1; within = r.2; longest = r.3 })
 
 some_end : (M : Map) → IsMap M → (ls : List ℕ) → IsTrue (has_line M (last ls)) → (d : List ℕ) × LongestEnd M ls d
 some_end M m ls k =
-    let r = some_run M m (EndRun M ls) (λ x c. MayFollow M (ls ++ c) x) (end_runs M ls k)
+    let r = some_run M m _ _ (end_runs M ls k)
     (λ x c. dec_MayFollow M (ls ++ c) x)
     (λ x c p n. (c ++ x ∷ [], EndRun-push M ls c x p n, omega (arith, dm_of-append M c (x ∷ [])))) (suc limit) []
     (omega arith) tt (omega arith) in

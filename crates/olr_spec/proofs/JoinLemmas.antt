@@ -27,9 +27,7 @@ pub stretch_last : (ls : List ℕ) (p q : ℕ) → p ≤ q → q < length ls →
 stretch_last ls p q h k =
     let n : q + 1 - p ≡ q - p + 1 = omega arith in
     let on : p + (q - p) ≡ q = omega arith in
-    ap (λ (m : ℕ). take m (drop p ls)) n
-    ∙ take_more (drop p ls) (q - p) 0 (omega (arith, length-drop p ls))
-    ∙ ap (λ (x : ℕ). take (q - p) (drop p ls) ++ x ∷ []) (get_or-drop p ls (q - p) 0 ∙ ap (slice_index ls) on)
+    grind (arith, take_more, length-drop, get_or-drop)
 
 pub empty_stretch : (ls : List ℕ) (p q : ℕ) → q ≤ p → stretch ls p q ≡ []
 empty_stretch ls p q h = let e : q - p ≡ 0 = omega arith in ap (λ (n : ℕ). take n (drop p ls)) e
@@ -52,9 +50,7 @@ joins_before M ls p k h g r =
     let last : k + 1 - 1 ≡ k = omega arith in
     let parts = stretch_first ls p (k + 1) (omega arith) (omega arith)
     ∙ ap (λ (zs : List ℕ). slice_index ls p ∷ zs) (stretch_last ls (p + 1) k (omega arith) g) in
-    coe 1 0 (i. (stretch ls p (k + 1) ≡ slice_index ls p ∷ [])
-    ⊎ ((s : List ℕ) × (stretch ls p (k + 1) ≡ slice_index ls p ∷ (s ++ slice_index ls (last i) ∷ []))
-    × LrpRoute M (end M (slice_index ls p)) (start M (slice_index ls (last i))) s)) (inr (stretch ls (p + 1) k, parts, r))
+    grind (arith)
 
 alone : (M : Map) (ls : List ℕ) (p q : ℕ) → q ≡ p + 1 → p < length ls → JoinsLast M ls p q
 alone M ls p q e h = grind (arith, stretch_first, empty_stretch)
@@ -106,10 +102,7 @@ between_is a b i = grind (arith, and_parts, leb-true, and_from, le-leb)
 none_beyond : (M : Map) (ls : List ℕ) (a b p : ℕ) (ks : List ℕ) → b < p → Linked M ls (p ∷ ks) →
     filter (between a b) (p ∷ ks) ≡ []
 none_beyond M ls a b p [] h l = grind (arith, nat_tests)
-none_beyond M ls a b p (q ∷ ks) h l =
-    let rest = none_beyond M ls a b q ks (omega arith) l.1 in
-    let gone : between a b p ≡ false = grind (arith, nat_tests) in
-    ap (λ (t : Bool). cond t (p ∷ filter (between a b) (q ∷ ks)) (filter (between a b) (q ∷ ks))) gone ∙ rest
+none_beyond M ls a b p (q ∷ ks) h l = grind (arith, none_beyond M ls a b q ks (omega arith) l.1, nat_tests)
 
 pub kept_linked : (M : Map) (ls : List ℕ) (a b : ℕ) (ks : List ℕ) → Linked M ls ks → Linked M ls (filter (between a b) ks)
 kept_linked M ls a b [] l = tt

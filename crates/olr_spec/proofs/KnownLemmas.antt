@@ -131,8 +131,7 @@ module _ (M : Map) (b own a : List ℕ) (joined : AreJoined M ((b ++ own) ++ a))
         sym first ∙ sym from_start_of
 
     pub to_known : e.query.to ≡ to
-    to_known = one_end M from e.query.to to (stretch own e.first e.last)
-        (coe 0 1 (i. IsRoute M (from_known i) e.query.to (stretch own e.first e.last)) k.route) way
+    to_known = grind (arith, one_end, from_known, way)
 
     pub query_known : e.query ≡ query_to M ls i (length b + e.last)
     query_known = grind (arith, from_known, to_known, part_is)
@@ -233,9 +232,8 @@ known_holds M P is ks =
 found_all : (M : Map) (ls : List ℕ) (lead own : ℕ) (is : List ℕ) (qs : List CoverageQuery) → AllZip (IsQuery M ls) is qs
     → FoundFor (IsSearched M ls lead own []) is qs
 found_all M ls lead own [] [] z = refl
-found_all M ls lead own (i ∷ is) (q ∷ qs) z =
-    inr (q, qs, refl, (z.0, λ r. absurd (omega arith)), found_all M ls lead own is qs z.1)
-found_all M ls lead own _ _ z = absurd z
+found_all M ls lead own (i ∷ is) (q ∷ qs) z = grind (arith, found_all M ls lead own is qs z.1)
+found_all M ls lead own _ _ z = grind (arith)
 
 pub searched_all : (M : Map) (P : Path) (ks : List CoverageQuery) → QueriesOf M P ks → SearchedOf M P [] ks
 searched_all M P ks = grind (arith, by_fault, path_also, found_all)

@@ -24,18 +24,16 @@ module _ {X : Type 0} (R : ℕ → X → Type 0) where
       f.2 ∙ (λ k. one i f.0 g.0 f.3 g.3 k ∷ one_found one is f.1 g.1 f.4 g.4 k) ∙ sym g.2
 
   pub found_append : (is js : List ℕ) (xs ys : List X) → FoundFor R is xs → FoundFor R js ys → FoundFor R (is ++ js) (xs ++ ys)
-  found_append [] js xs ys f g = coe 1 0 (i. FoundFor R js ((f i) ++ ys)) g
-  found_append (i ∷ is) js xs ys (inl f) g = inl (f.0, found_append is js xs ys f.1 g)
-  found_append (i ∷ is) js xs ys (inr f) g =
-      inr (f.0, f.1 ++ ys, ap (λ (zs : List X). zs ++ ys) f.2, f.3, found_append is js f.1 ys f.4 g)
+  found_append [] js xs ys f g = grind (arith)
+  found_append (i ∷ is) js xs ys (inl f) g = grind (arith, found_append is js xs ys f.1 g)
+  found_append (i ∷ is) js xs ys (inr f) g = grind (arith, found_append is js f.1 ys f.4 g)
 
   -- what holds of each
   pub found_each : (P : X → Type 0) → ((i : ℕ) (x : X) → R i x → P x) → (is : List ℕ) (xs : List X) →
       FoundFor R is xs → All P xs
-  found_each P h [] xs f = subst (All P) (sym f) (All-nil P)
-  found_each P h (i ∷ is) xs (inl f) = found_each P h is xs f.1
-  found_each P h (i ∷ is) xs (inr f) =
-      subst (All P) (sym f.2) (All-cons P f.0 f.1 (h i f.0 f.3) (found_each P h is f.1 f.4))
+  found_each P h [] xs f = grind (arith, All-nil)
+  found_each P h (i ∷ is) xs (inl f) = grind (arith, found_each P h is xs f.1)
+  found_each P h (i ∷ is) xs (inr f) = grind (arith, found_each P h is f.1 f.4, All-cons)
 
 pub found_moves : {X : Type 0} (R S : ℕ → X → Type 0) (is : List ℕ) →
     ((i : ℕ) → has is i ≡ true → (x : X) → R i x ↔ S i x) → (xs : List X) → FoundFor R is xs → FoundFor S is xs
@@ -58,9 +56,7 @@ ascend_from j k (x ∷ xs) h a = (omega arith, a.1)
 
 pub ascend_filter : (p : ℕ → Bool) (k : ℕ) (xs : List ℕ) → Ascend k xs → Ascend k (filter p xs)
 ascend_filter p k [] a = tt
-ascend_filter p k (x ∷ xs) a =
-    cond_both (p x) (x ∷ filter p xs) (filter p xs) (Ascend k) (λ _. (a.0, ascend_filter p (x + 1) xs a.1))
-    (λ _. ascend_from k (x + 1) (filter p xs) (omega arith) (ascend_filter p (x + 1) xs a.1))
+ascend_filter p k (x ∷ xs) a = grind (arith, ascend_filter p (x + 1) xs a.1, cond_both, ascend_from)
 
 increasing_more : (x y : ℕ) (ys : List ℕ) → x < y → IsStrictlyIncreasing (y ∷ ys) → IsStrictlyIncreasing (x ∷ y ∷ ys)
 increasing_more x y ys lt up k h = grind arith

@@ -12,8 +12,7 @@ use Rattle.olr_spec.proofs.DecideLemmas.{last_of_list}
 -- the last lines are compared first
 pub last_first : (xs ys : List ℕ) (x y : ℕ) → FirstSmaller (reverse (xs ++ x ∷ [])) (reverse (ys ++ y ∷ [])) → (x < y)
     ⊎ ((x ≡ y) × FirstSmaller (reverse xs) (reverse ys))
-last_first xs ys x y h = coe 0 1 (i. FirstSmaller (x ∷ reverse xs) (reverse-append ys (y ∷ []) i))
-    (coe 0 1 (i. FirstSmaller (reverse-append xs (x ∷ []) i) (reverse (ys ++ y ∷ []))) h)
+last_first xs ys x y h = grind (arith, reverse-append)
 
 module _ (M : Map) (m : IsMap M) (s limit : ℕ) (dist : ℕ → Option ℕ) (trace : ℕ → List ℕ)
     (l : Settled M s limit dist trace) where
@@ -24,8 +23,7 @@ module _ (M : Map) (m : IsMap M) (s limit : ℕ) (dist : ℕ → Option ℕ) (tr
   last_decides : (front : List ℕ) (y v x : ℕ) → trace v ≡ trace (start M x) ++ x ∷ [] →
       FirstSmaller (reverse (front ++ y ∷ [])) (reverse (trace v)) → (y < x)
       ⊎ ((y ≡ x) × FirstSmaller (reverse front) (reverse (trace (start M x))))
-  last_decides front y v x is h = last_first front (trace (start M x)) y x
-      (coe 0 1 (i. FirstSmaller (reverse (front ++ y ∷ [])) (reverse (is i))) h)
+  last_decides front y v x is h = grind (arith, last_first)
 
   step : (front : List ℕ) (y : ℕ) → IsTrue (has_line M y) → dm_of M front + dm M y ≤ limit → Fine (start M y) front →
       Fine (end M y) (front ++ y ∷ [])

@@ -21,15 +21,11 @@ pub stretch_parts : {A : Type 0} (ls : List A) (p m k : ℕ) → p ≤ m → m �
 stretch_parts ls p m k h g =
     let n : k - p ≡ (m - p) + (k - m) = omega arith in
     let at : p + (m - p) ≡ m = omega arith in
-    ap (λ (c : ℕ). take c (drop p ls)) n ∙ take-add (m - p) (k - m) (drop p ls)
-    ∙ ap (λ zs. take (m - p) (drop p ls) ++ take (k - m) zs) (drop-drop (m - p) p ls
-    ∙ ap (λ (c : ℕ). drop c ls) at)
+    grind (arith, take-add, drop-drop)
 
 pub way_on : (M : Map) (ls : List ℕ) (s t : ℕ) → IsRoute M s t ls → (i m : ℕ) → i < m → m < length ls
     → IsRoute M (end M (slice_index ls i)) (start M (slice_index ls m)) (stretch ls (i + 1) m)
-way_on M ls s t joined i m h g =
-    coe 1 0 (j. IsRoute M (next_start M s t ls i joined (omega arith) j) (start M (slice_index ls m)) (stretch ls (i + 1) m))
-    (way_between M s t ls (i + 1) m joined (omega arith) g)
+way_on M ls s t joined i m h g = grind (arith, next_start, way_between)
 
 -- a position after one that isn't covered isn't covered either
 pub covered_before : (M : Map) (ls : List ℕ) (s t : ℕ) → IsRoute M s t ls → (i k m : ℕ) → i < k → k ≤ m → m ≤ length ls
@@ -84,8 +80,7 @@ module _ (M N : Map) (ls : List ℕ) (same : Each (SameLine M N) ls) (s t : ℕ)
   -- with the ends that the lines have on the other map
   moved : (m : ℕ) → m ≤ k → UniqueShortest M from (at m) (part m) ↔ UniqueShortest N from (at m) (part m)
       → RouteTo M ls i m ↔ RouteTo N ls i m
-  moved m g o =
-      coe 0 1 (j. UniqueShortest M from (at m) (part m) ↔ UniqueShortest N (from_same j) (at_same m (omega arith) j) (part m)) o
+  moved m g o = grind (arith, from_same, at_same)
 
   pub to_same : query_to M ls i k ≡ query_to N ls i k
   to_same = λ j. record { from = from_same j; to = at_same k query.inside j; within = length_same (i + 1) k j }
@@ -136,10 +131,4 @@ module _ (M N : Map) (ls : List ℕ) (same : Each (SameLine M N) ls) (s t : ℕ)
   covered_stays j h g near =
       let e = alike i j in
       let joined_there = IsRoute-moves M N s t ls same joined in
-      elim (cases_lt k (min j (length ls - 1))) [
-        | inl beyond ↦ (
-          (λ c. absurd (covered_known M ls s t joined i k query j h g near beyond c)),
-          (λ c. absurd (covered_known N ls s t joined_there i k query_stays j h g (omega arith) beyond c)),
-        )
-        | inr within ↦ covered_same j (omega arith)
-      ]
+      grind (arith, cases_lt, covered_known, query_stays, within, covered_same)

@@ -36,8 +36,7 @@ module _ {X : Type 0} (R : ℕ → X → Type 0) where
 -- ---- the LRPs with a coverage query
 
 pub queries_here : (ls is : List ℕ) (i : ℕ) → has (querying ls is) i ≡ true → IsTrue (has is i) × (i + 2 < length ls)
-queries_here ls is i h =
-    let p = has_filter (λ y. nat_lt (y + 2) (length ls)) is i h in (p.0, ltb-true (i + 2) (length ls) p.1)
+queries_here ls is i h = grind (arith, has_filter, ltb-true)
 
 pub query_for : (M : Map) (ls is : List ℕ) (queries : List CoverageQuery) →
     AllZip (IsQuery M ls) (querying ls is) queries → (i : ℕ)

@@ -15,11 +15,8 @@ pub turned_lines : (M N : Map) (xs : List ℕ) → Each (SameLine M N) xs → Ea
 turned_lines M N xs h x i = sym (h x i)
 
 pub IsRoute-moves : (M N : Map) (s t : ℕ) (xs : List ℕ) → Each (SameLine M N) xs → IsRoute M s t xs → IsRoute N s t xs
-IsRoute-moves M N s t [] h w = w
-IsRoute-moves M N s t (x ∷ xs) h w =
-    let e = Each-head (SameLine M N) x xs h in
-    let rest = IsRoute-moves M N (end M x) t xs (Each-tail (SameLine M N) x xs h) w.2 in
-    (sym (same_known M N x e) ∙ w.0, sym (same_start M N x e) ∙ w.1, rw (← same_end M N x e) rest)
+IsRoute-moves M N s t [] h w = grind (arith)
+IsRoute-moves M N s t (x ∷ xs) h w = grind (arith, IsRoute-moves M N (end M x) t xs (Each-tail (SameLine M N) x xs h) w.2, Each-head, Each-tail, same_known, same_start, same_end)
 
 -- the routes from s to t of at most d have the same lines on both maps
 abbrev pub SameRoutes : Map → Map → ℕ → ℕ → ℕ → Type 0

@@ -100,18 +100,10 @@ module _ (M : Map) (Run : List ℕ → Type 0) (Next : ℕ → List ℕ → Type
     (p : Run c) (q : Run d) where
   -- where no line may come next within the limit
   pub no_longer : ((x : ℕ) → Next x c → limit < dm M x + dm_of M c) → dm_of M d ≤ limit → dm_of M d ≤ dm_of M c
-  no_longer none w = elim (cases_order (length c) (length d)) [
-    | inl e ↦ omega (arith, ap (dm_of M) (r.same c d p q e))
-    | inr (inl lt) ↦ let n = r.more c d p q lt in absurd (omega (arith, none n.0 n.1))
-    | inr (inr gt) ↦ omega (arith, (r.more d c q p gt).2)
-  ]
+  no_longer none w = grind (arith, cases_order)
 
   one_run : IsMap M → dm_of M c ≡ dm_of M d → c ≡ d
-  one_run m e = elim (cases_order (length c) (length d)) [
-    | inl e ↦ r.same c d p q e
-    | inr (inl lt) ↦ let n = r.more c d p q lt in absurd (omega (arith, positive M m n.0 (r.known n.0 c n.1)))
-    | inr (inr gt) ↦ let n = r.more d c q p gt in absurd (omega (arith, positive M m n.0 (r.known n.0 d n.1)))
-  ]
+  one_run m e = grind (arith, cases_order, positive)
 
 start_more : (M : Map) (ls c d : List ℕ) → IsTrue (has_line M (first ls)) → StartRun M c ls → StartRun M d ls →
     length c < length d → (x : ℕ) × MayPrecede M x (c ++ ls) × (dm M x + dm_of M c ≤ dm_of M d)
@@ -135,26 +127,19 @@ end_more M ls _ _ k p q h = absurd (omega arith)
 
 pub start_runs : (M : Map) (ls : List ℕ) → IsTrue (has_line M (first ls)) →
     AreRuns M (λ c. StartRun M c ls) (λ x c. MayPrecede M x (c ++ ls))
-start_runs M ls k = record {
-  same = λ c d. same_start_run M ls c d k;
-  more = λ c d. start_more M ls c d k;
-  known = λ x c p. p.known;
-}
+start_runs M ls k = grind (arith, same_start_run, start_more)
 
 pub end_runs : (M : Map) (ls : List ℕ) → IsTrue (has_line M (last ls)) →
     AreRuns M (EndRun M ls) (λ x c. MayFollow M (ls ++ c) x)
-end_runs M ls k =
-    record { same = λ c d. same_end_run M ls c d k; more = λ c d. end_more M ls c d k; known = λ x c p. p.known }
+end_runs M ls k = grind (arith, same_end_run, end_more)
 
 pub one_start : OneStartRun
 one_start M m ls c d k p q =
-    one_run M (λ c. StartRun M c ls) (λ x c. MayPrecede M x (c ++ ls)) (start_runs M ls k) c d p.run q.run m
+    one_run M _ _ (start_runs M ls k) c d p.run q.run m
     (omega (arith, p.longest d q.run q.within, q.longest c p.run p.within))
 
 pub one_end : OneEndRun
-one_end M m ls c d k p q =
-    one_run M (EndRun M ls) (λ x c. MayFollow M (ls ++ c) x) (end_runs M ls k) c d p.run q.run m
-    (omega (arith, p.longest d q.run q.within, q.longest c p.run p.within))
+one_end M m ls c d k p q = grind (arith, one_run, end_runs)
 
 -- ---- the path with its extended start
 

@@ -21,12 +21,7 @@ pub record Alike (M N : Map) (x : ℕ) : Type 0 where
   pub finish : SameRound M N (end M x)
 
 pub turned_alike : (M N : Map) (x : ℕ) → Alike M N x → Alike N M x
-turned_alike M N x a = record {
-  known = sym (same_known M N x a.same) ∙ a.known;
-  same = sym a.same;
-  begin = coe 0 1 (i. SameRound N M (same_start M N x a.same i)) (turned_round M N (start M x) a.begin);
-  finish = coe 0 1 (i. SameRound N M (same_end M N x a.same i)) (turned_round M N (end M x) a.finish);
-}
+turned_alike M N x a = grind (arith, same_known, same_start, turned_round, same_end)
 
 pub same_begin : (M N : Map) (x : ℕ) → Alike M N x → passing M (start M x) ≡ passing N (start N x)
 same_begin M N x a = same_passing M N (start M x) a.begin ∙ ap (passing N) (same_start M N x a.same)
@@ -51,14 +46,10 @@ EndRun-push M ls (y ∷ c) x p q =
 
 -- a line that may precede or follow lines whose first or last is alike
 precedes : (M N : Map) (x : ℕ) (ls : List ℕ) → Alike M N (first ls) → MayPrecede M x ls → MayPrecede N x ls × (dm M x ≡ dm N x)
-precedes M N x ls a p =
-    let is = by_entering M N (start M (first ls)) x a.begin p.known p.joins in
-    grind (arith, is, same_known, same_end, same_start, same_passing, same_dm)
+precedes M N x ls a p = grind (arith, by_entering, same_known, same_end, same_start, same_passing, same_dm)
 
 follows : (M N : Map) (ls : List ℕ) (x : ℕ) → Alike M N (last ls) → MayFollow M ls x → MayFollow N ls x × (dm M x ≡ dm N x)
-follows M N ls x a p =
-    let is = by_leaving M N (end M (last ls)) x a.finish p.known p.joins in
-    grind (arith, is, same_known, same_end, same_start, same_passing, same_dm)
+follows M N ls x a p = grind (arith, by_leaving, same_known, same_end, same_start, same_passing, same_dm)
 
 start_moves : (M N : Map) (c ls : List ℕ) → 0 < length ls → Each (Alike M N) (c ++ ls) → StartRun M c ls → StartRun N c ls
 start_moves M N [] ls n a p = tt
@@ -79,38 +70,29 @@ module _ (M N : Map) (m : IsMap M) (ls c : List ℕ) (n : 0 < length ls) where
   -- on M no line may come next to the longest run within the limit, and so none on N
   pub longest_start_moves : Each (Alike M N) (c ++ ls) → LongestStart M c ls → LongestStart N c ls
   longest_start_moves a l =
-      let first_is : Alike M N (first ls) = Each-right (Alike M N) c ls a (first ls) (has_first ls n) in
       let tip = a (first (c ++ ls)) (has_first (c ++ ls) (omega (arith, length-append c ls))) in
+      let own = Each-right (Alike M N) c ls a (first ls) (has_first ls n) in
       let e = same_dm_of M N c (λ x i. (Each-left (Alike M N) c ls a x i).same) in
       let run = start_moves M N c ls n a l.run in
       record {
         run = run;
         within = omega arith;
-        longest = λ d q. no_longer N (λ c. StartRun N c ls) (λ x c. MayPrecede N x (c ++ ls))
-            (start_runs N ls (turned_alike M N (first ls) first_is).known) c d run q (λ x p.
-            let back = precedes N M x (c ++ ls) (turned_alike M N (first (c ++ ls)) tip) p in
-            elim (cases_lt limit (dm N x + dm_of N c)) [
-              | inl lt ↦ lt
-              | inr le ↦ absurd (omega (arith, positive M m x back.0.known, back.1, l.longest (x ∷ c) (back.0, l.run) (omega (arith, back.1))))
-            ]);
+        longest = λ d q. no_longer N _ _ (start_runs N ls (turned_alike M N _ own).known) c d run q (λ x p.
+            let back = precedes N M x (c ++ ls) (turned_alike M N _ tip) p in
+            grind (arith, cases_lt, positive M m x back.0.known, l.longest (x ∷ c) (back.0, l.run)));
       }
 
   pub longest_end_moves : Each (Alike M N) (ls ++ c) → LongestEnd M ls c → LongestEnd N ls c
   longest_end_moves a l =
-      let last_is : Alike M N (last ls) = Each-left (Alike M N) ls c a (last ls) (has_last ls n) in
       let tip = a (last (ls ++ c)) (has_last (ls ++ c) (omega (arith, length-append ls c))) in
+      let own = Each-left (Alike M N) ls c a (last ls) (has_last ls n) in
       let e = same_dm_of M N c (λ x i. (Each-right (Alike M N) ls c a x i).same) in
       let run = end_moves M N ls c n a l.run in
       record {
         run = run;
         within = omega arith;
-        longest = λ d q. no_longer N (EndRun N ls) (λ x c. MayFollow N (ls ++ c) x)
-            (end_runs N ls (turned_alike M N (last ls) last_is).known) c d run q (λ x p.
-            let back = follows N M (ls ++ c) x (turned_alike M N (last (ls ++ c)) tip) p in
-            let longer = EndRun-push M ls c x l.run back.0 in
-            let long = dm_of-append M c (x ∷ []) in
-            elim (cases_lt limit (dm N x + dm_of N c)) [
-              | inl lt ↦ lt
-              | inr le ↦ absurd (omega (arith, positive M m x back.0.known, back.1, l.longest (c ++ x ∷ []) longer (omega (arith, back.1))))
-            ]);
+        longest = λ d q. no_longer N _ _ (end_runs N ls (turned_alike M N _ own).known) c d run q (λ x p.
+            let back = follows N M (ls ++ c) x (turned_alike M N _ tip) p in
+            let longer = l.longest (c ++ x ∷ []) (EndRun-push M ls c x l.run back.0) in
+            grind (arith, cases_lt, positive M m x back.0.known, longer, dm_of-append M c (x ∷ [])));
       }

@@ -87,12 +87,7 @@ module _ (M N : Map) (m : IsMap M) (n : IsMap N) (P : Path) (is : IsTrue (is_pat
     alike xs on k x h =
         let round : (v : ℕ) → (start M x ≡ v) ⊎ (end M x ≡ v) → SameRound M N v =
         λ v e. traversed v (record { before = b; after = a; tried = tried; traversed = on v (x, h, e) }) in
-        record {
-          known = k x h;
-          same = by_entering M N (end M x) x (round (end M x) (inr refl)) (k x h) refl;
-          begin = round (start M x) (inl refl);
-          finish = round (end M x) (inr refl);
-        }
+        grind (arith, known, by_entering)
 
     ls_alike : Each (Alike M N) ls
     ls_alike = alike ls (λ v on. inl on) (extended_keeps M (Each (Known M)) (λ x ls p k. Each-cons (Known M) x ls p.known k)
@@ -253,8 +248,7 @@ module _ (M N : Map) (m : IsMap M) (n : IsMap N) (P : Path) (is : IsTrue (is_pat
         let there = found_moves (IsKnownAt M E.lines lead own) (IsKnownAt N E.lines lead own)
         (querying E.lines (0 ∷ o.points)) (known_query lead own) ks (path_at m is sound o p) in
         let path = path_there o.before o.after o.tried in
-        goes_over (coe 0 1 (i. FoundFor (IsKnownAt N (path i).lines (length (front_same o.before o.after o.tried i)) own)
-        (querying (path i).lines (0 ∷ o.points)) ks) there)
+        grind (arith, goes_over, front_same)
 
 -- ---- whether or not the path has a fault
 

@@ -2,6 +2,7 @@
 use Rattle.std.proofs.Common.{inl, inr, ◌≡◌, ℕ, zero, suc, ◌+◌, ◌-◌, min, true, List, ◌∷◌, length, ◌<◌, ◌≤◌, None}
 use Rattle.std.proofs.Common.{IsTrue, Contains, refl, sym, ap, ◌∙◌, subst, arith, MatchOption, ◌⊎◌, T, []}
 use Rattle.std.proofs.lemmas.Bool.{cases_lt, cases_eq, cases_order}
+use Rattle.std.proofs.Math.Decide.{dec_le}
 use Rattle.std.specs.List.{AllZip}
 use Rattle.olr_spec.specs.Map.{Map, IsMap, has}
 use Rattle.olr_spec.specs.Routes.{dm_of}
@@ -14,7 +15,7 @@ use Rattle.olr_spec.specs.Queries.{IsQuery, querying, QueriesOfExtended}
 use Rattle.olr_spec.specs.Laws.{OneLastTested, SomeLastTested, OneQueries, SomeQueries, FootIsQueried, FootAffected}
 use Rattle.olr_spec.specs.Detours.{Near}
 use Rattle.olr_spec.proofs.AnswerLemmas.{path_also, path_at, same_by, by_fault}
-use Rattle.olr_spec.proofs.DecideLemmas.{dec_and, dec_le, dec_Covered, greatest_or_none, some_follow, some_encoding}
+use Rattle.olr_spec.proofs.DecideLemmas.{dec_and, dec_Covered, greatest_or_none, some_follow, some_encoding}
 use Rattle.olr_spec.proofs.ListLemmas.{has_here, has_there}
 use Rattle.olr_spec.proofs.RouteMoves.{near_same}
 use Rattle.olr_spec.proofs.JoinLemmas.{empty_stretch}
