@@ -174,19 +174,6 @@ linked_ascend : (M : Map) (ls : List ℕ) (k : ℕ) (js : List ℕ) → Linked M
 linked_ascend M ls k [] l = (omega arith, tt)
 linked_ascend M ls k (j ∷ js) l = (omega arith, (omega arith, (linked_ascend M ls j js l.1).1))
 
--- what holds for the LRPs of one extension and list holds for those of the other, which are the same
-module _ (M : Map) (m : IsMap M) (P : Path) (is : IsTrue (is_path P.lines)) (sound : path_fault M P ≡ None)
-    {X : Type 0} (R : List ℕ → ℕ → ℕ → X → Type 0)
-    (one : (ls : List ℕ) (lead i : ℕ) (x y : X) → R ls lead i x → R ls lead i y → x ≡ y) where
-  abbrev Found : List X → Type 0
-  Found xs = OfQuerying M P (λ ls lead is. FoundFor (R ls lead) is xs)
-
-  one_list : (xs ys : List X) → Found xs → Found ys → xs ≡ ys
-  one_list xs ys p q =
-      let E = (extended_path M P p.before p.after).lines in
-      let lead = length (taken_start M p.before P.lines) in
-      one_found (R E lead) (one E lead) (querying E (0 ∷ p.points)) xs ys p.holds (path_at m is sound p q)
-
 same_bool : (x y : Bool) → (x ≡ true → y ≡ true) → (y ≡ true → x ≡ true) → x ≡ y
 same_bool x y f g = grind arith
 
@@ -197,14 +184,14 @@ one_known_at M ls lead own i d e p q = grind (arith, one_last_tested, same_bool)
 -- ---- whether or not the path has a fault
 
 pub one_known : OneKnown
-one_known M m P is ks ls =
-    same_by (path_fault M P) (KnownOfExtended M P) (λ _. []) ks ls (λ e. one_list M m P is e
-    (λ E lead. IsKnownAt M E lead (length P.lines)) (λ E lead. one_known_at M E lead (length P.lines)) ks ls)
+one_known M m P is ks ls = same_by (path_fault M P) (KnownOfExtended M P) (λ _. []) ks ls (λ e p q. one_found _
+    (one_known_at M (extended_path M P p.before p.after).lines (length (taken_start M p.before P.lines)) (length P.lines)) _
+    ks ls p.holds (path_at m is e p q))
 
 pub one_searched : OneSearched
-one_searched M m P is given ks ls =
-    same_by (path_fault M P) (SearchedOfExtended M P given) (λ _. []) ks ls (λ e. one_list M m P is e
-    (λ E lead. IsSearched M E lead (length P.lines) given) (λ E lead i k l f g. one_query M E i k l f.0 g.0) ks ls)
+one_searched M m P is given ks ls = same_by (path_fault M P) (SearchedOfExtended M P given) (λ _. []) ks ls (λ e p q. one_found
+    (IsSearched M (extended_path M P p.before p.after).lines (length (taken_start M p.before P.lines)) (length P.lines) given)
+    (λ i k l f g. one_query M _ i k l f.0 g.0) _ ks ls p.holds (path_at m is e p q))
 
 -- ---- the coverage queries along a path's own lines are right, and they ascend
 

@@ -1,13 +1,12 @@
 -- Labels that no line improves are those of shortest paths.
 use Rattle.std.proofs.Common.{refl, ◌⊎◌, inl, inr, ◌≡◌, ℕ, zero, suc, ◌+◌, List, ◌∷◌, ◌++◌, reverse, length, ◌<◌, ◌≤◌}
-use Rattle.std.proofs.Common.{Option, Some, IsTrue, sym, ap, ◌∙◌, subst, arith, length-append, []}
+use Rattle.std.proofs.Common.{Option, Some, IsTrue, sym, ap, ◌∙◌, subst, arith, length-append, append-nil, append_assoc, []}
 use Rattle.std.proofs.lemmas.Bool.{cases_lt, cases_eq}
 use Rattle.std.proofs.lemmas.List.{reverse-append}
 use Rattle.olr_spec.specs.Map.{Map, IsMap, has_line, start, end, dm}
 use Rattle.olr_spec.specs.Routes.{IsRoute, dm_of, FirstSmaller, PrecedesInTieOrder, Least}
 use Rattle.olr_spec.specs.Labels.{Settled}
-use Rattle.olr_spec.proofs.RouteLemmas.{dm_of-append, IsRoute-split, nothing_below_nil}
-use Rattle.olr_spec.proofs.DecideLemmas.{last_of_list}
+use Rattle.olr_spec.proofs.RouteLemmas.{dm_of-append, nothing_below_nil, not_before_itself}
 
 -- the last lines are compared first
 pub last_first : (xs ys : List ℕ) (x y : ℕ) → FirstSmaller (reverse (xs ++ x ∷ [])) (reverse (ys ++ y ∷ [])) → (x < y)
@@ -63,29 +62,21 @@ module _ (M : Map) (m : IsMap M) (s limit : ℕ) (dist : ℕ → Option ℕ) (tr
         ],
       )
 
-  fine_by : (n : ℕ) (v : ℕ) (ys : List ℕ) → length ys ≤ n → IsRoute M s v ys → dm_of M ys ≤ limit → Fine v ys
-  fine_by n v [] h w short = (0, ap dist (sym w) ∙ l.source, λ b. nothing (ap trace (sym w) ∙ l.at_source) b)
-    where
-      nothing : trace v ≡ [] → ¬ PrecedesInTieOrder M [] (trace v)
-      nothing e (inl lt) = absurd (omega (arith, ap (dm_of M) e))
-      nothing e (inr p) = p.1
-  fine_by zero v (y ∷ ys) h w short = absurd (omega arith)
-  fine_by (suc n) v (y ∷ ys) h w short =
-      let r = last_of_list y ys in
-      let x = r.1 in
-      let parts = IsRoute-split M s v r.0 (x ∷ []) (subst (λ (zs : List ℕ). IsRoute M s v zs) r.2 w) in
-      let long = ap (dm_of M) r.2 ∙ dm_of-append M r.0 (x ∷ []) ∙ plain (dm_of M r.0) (dm M x) in
-      let size = ap (λ (zs : List ℕ). length zs) r.2 in
-      let rest = fine_by n parts.0 r.0 (omega (arith, length-append r.0 (x ∷ []))) parts.1 (omega arith) in
-      let fine : Fine (start M x) r.0 = coe 1 0 (i. Fine (parts.2.1 i) r.0) rest in
-      coe 0 1 (i. Fine (parts.2.2 i) (sym r.2 i)) (step r.0 x parts.2.0 (omega arith) fine)
-    where
-      plain : (a b : ℕ) → a + (b + 0) ≡ a + b
-      plain a b = omega arith
+  fine_on : (ys : List ℕ) (u v : ℕ) (front : List ℕ) → Fine u front → IsRoute M u v ys →
+      dm_of M front + dm_of M ys ≤ limit → Fine v (front ++ ys)
+  fine_on [] u v front f w h = subst (Fine v) (sym (append-nil front)) (subst (λ (x : ℕ). Fine x front) w f)
+  fine_on (y ∷ ys) u v front f w h =
+      let next = step front y w.0 (omega arith) (subst (λ (x : ℕ). Fine x front) (sym w.1) f) in
+      subst (Fine v) (append_assoc front (y ∷ []) ys)
+      (fine_on ys (end M y) v (front ++ y ∷ []) next w.2 (omega (arith, dm_of-append M front (y ∷ []))))
+
+  fine : (v : ℕ) (ys : List ℕ) → IsRoute M s v ys → dm_of M ys ≤ limit → Fine v ys
+  fine v ys w h = fine_on ys s v []
+      (0, l.source, λ b. not_before_itself M [] (subst (PrecedesInTieOrder M []) l.at_source b)) w (omega arith)
 
   -- a route within the limit ends at a labelled node
   pub labelled : (v : ℕ) (ys : List ℕ) → IsRoute M s v ys → dm_of M ys ≤ limit → (e : ℕ) × (dist v ≡ Some e)
-  labelled v ys w h = let f = fine_by (length ys) v ys (omega arith) w h in (f.0, f.1)
+  labelled v ys w h = let f = fine v ys w h in (f.0, f.1)
 
   pub traced_least : (v d : ℕ) → dist v ≡ Some d → Least M s v (trace v)
   traced_least v d e =
@@ -94,6 +85,6 @@ module _ (M : Map) (m : IsMap M) (s limit : ℕ) (dist : ℕ → Option ℕ) (tr
         route = traversed.0;
         first = λ ys w b. elim (cases_lt limit (dm_of M ys)) [
           | inl far ↦ elim b [ inl lt ↦ absurd (omega arith) | inr p ↦ absurd (omega arith) ]
-          | inr near ↦ (fine_by (length ys) v ys (omega arith) w near).2 b
+          | inr near ↦ (fine v ys w near).2 b
         ];
       }

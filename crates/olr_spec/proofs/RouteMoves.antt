@@ -69,11 +69,11 @@ module _ (M N : Map) (s limit : ℕ) (round : (v : ℕ) → Reaches M s limit v 
   pub within_other : (t : ℕ) → SameRoutes N M s t limit
   within_other t xs w h = turned_lines M N xs (onward N other s t [] xs refl w (omega arith))
 
-  pub reach_moves : (v : ℕ) → Reaches M s limit v → Reaches N s limit v
-  reach_moves v r = let p = route_moves M N s v limit (within v) r.0 (r.1, r.2) in (r.0, p.0, p.1)
-
-  pub reach_back : (v : ℕ) → Reaches N s limit v → Reaches M s limit v
-  reach_back v r = let p = route_moves N M s v limit (within_other v) r.0 (r.1, r.2) in (r.0, p.0, p.1)
+  pub reach_same : (v : ℕ) → Reaches M s limit v ↔ Reaches N s limit v
+  reach_same v = (
+    (λ r. let p = route_moves M N s v limit (within v) r.0 (r.1, r.2) in (r.0, p.0, p.1)),
+    (λ r. let p = route_moves N M s v limit (within_other v) r.0 (r.1, r.2) in (r.0, p.0, p.1)),
+  )
 
 abbrev pub detour_of : {M : Map} {C : List ChangedLine} {s t d : ℕ} (first last : ChangedLine) → Contains C first → Contains C
     last → (before after : List ℕ) → IsRoute M s first.from before → IsRoute M last.to t after →

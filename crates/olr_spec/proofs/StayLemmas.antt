@@ -38,33 +38,22 @@ RoutesOf M N queries =
     (ls : List ℕ) → Each (SameLine M N) ls → (s t : ℕ) → IsRoute M s t ls → (i k : ℕ) → IsLastTested M ls i k →
     Contains queries (query_to M ls i k) → RoutesStay M N ls i k
 
-moved : (M N : Map) (ls : List ℕ) (lead own i : ℕ) (e : KnownQuery) → IsLastTested N ls i (lead + e.last) →
-    query_to M ls i (lead + e.last) ≡ query_to N ls i (lead + e.last) →
-    Covered M ls i (lead + e.last) ↔ Covered N ls i (lead + e.last) → IsKnownAt M ls lead own i e → IsKnownAt N ls lead own i e
-moved M N ls lead own i e tested to covers a = grind (arith, tested, covers)
-
 -- of two maps on which the routes from line i to position k are the same
 module _ (M N : Map) (ls : List ℕ) (same : Each (SameLine M N) ls) (s t : ℕ) (joined : IsRoute M s t ls)
     (lead own i k : ℕ) (query : IsLastTested M ls i k) (routes : RoutesStay M N ls i k) (e : KnownQuery) where
-  abbrev Both : ℕ → Type 0
-  Both p = (query_to M ls i p ≡ query_to N ls i p) × (Covered M ls i p ↔ Covered N ls i p)
-
-  both : Both k
-  both = grind (arith, to_same, covered_same)
-
   tested : IsLastTested N ls i k
   tested = query_stays M N ls same s t joined i k query routes
 
+  known_at : k ≡ lead + e.last → IsKnownAt M ls lead own i e ↔ IsKnownAt N ls lead own i e
+  known_at is =
+      let to = to_same M N ls same s t joined i k query in
+      let covered = covered_same M N ls same s t joined i k query routes k (omega arith) in
+      grind (arith, query, tested, to, covered)
+
   known_as : IsKnownAt M ls lead own i e ↔ IsKnownAt N ls lead own i e
   known_as = (
-    (λ a.
-        let is = one_last_tested M ls i k (lead + e.last) query a.tested in
-        let b = subst Both is both in
-        moved M N ls lead own i e (subst (IsLastTested N ls i) is tested) b.0 b.1 a),
-    (λ a.
-        let is = one_last_tested N ls i k (lead + e.last) tested a.tested in
-        let b = subst Both is both in
-        moved N M ls lead own i e (subst (IsLastTested M ls i) is query) (sym b.0) (b.1.1, b.1.0) a),
+    (λ a. (known_at (one_last_tested M ls i k (lead + e.last) query a.tested)).0 a),
+    (λ a. (known_at (one_last_tested N ls i k (lead + e.last) tested a.tested)).1 a),
   )
 
 module _ (M N : Map) (m : IsMap M) (n : IsMap N) (P : Path) (is : IsTrue (is_path P.lines))
@@ -179,7 +168,7 @@ module _ (M N : Map) (m : IsMap M) (n : IsMap N) (P : Path) (is : IsTrue (is_pat
       | inl far ↦
           let l = query_for M E.lines (0 ∷ o.points) queries o.holds i on far in
           let k = l.2 in
-          covered_stays M N E.lines all_same (start M (first E.lines)) (end M (last E.lines)) joined i k.0 k.1
+          covered_stays M N E.lines all_same _ _ joined i k.0 k.1
           (stay i k.0 k.1 (subst (Contains queries) k.2 l.1)) j h g near
       | inr close ↦ close_stays M N m n E.lines all_same i j h g (omega arith)
     ]
@@ -218,13 +207,11 @@ module _ (M N : Map) (m : IsMap M) (n : IsMap N) (P : Path) (is : IsTrue (is_pat
 
     -- the coverage queries
     one_query : (i : ℕ) (l : CoverageQuery) → Contains queries l → IsQuery M E.lines i l → IsQuery N E.lines i l
-    one_query i l on k =
-        let s = start M (first E.lines) in
-        let t = end M (last E.lines) in (
-          k.0,
-          query_stays M N E.lines all_same s t joined i k.0 k.1 (stay i k.0 k.1 (subst (Contains queries) k.2 on)),
-          k.2 ∙ to_same M N E.lines all_same s t joined i k.0 k.1,
-        )
+    one_query i l on k = (
+      k.0,
+      query_stays M N E.lines all_same _ _ joined i k.0 k.1 (stay i k.0 k.1 (subst (Contains queries) k.2 on)),
+      k.2 ∙ to_same M N E.lines all_same _ _ joined i k.0 k.1,
+    )
 
     queries_stay : QueriesOfExtended N P queries
     queries_stay = goes_over (coe 0 1 (i. QueriesFrom N (path_there o.before o.after o.tried i).lines
@@ -238,7 +225,7 @@ module _ (M N : Map) (m : IsMap M) (n : IsMap N) (P : Path) (is : IsTrue (is_pat
         let at = queries_here E.lines (0 ∷ o.points) i on in
         let l = query_for M E.lines (0 ∷ o.points) queries o.holds i at.0 at.1 in
         let k = l.2.0 in
-        known_as M N E.lines all_same (start M (first E.lines)) (end M (last E.lines)) joined lead own i k l.2.1
+        known_as M N E.lines all_same _ _ joined lead own i k l.2.1
         (stay i k l.2.1 (subst (Contains queries) l.2.2 l.1)) e
 
     known_stay : (ks : List KnownQuery) → KnownOfExtended M P ks → KnownOfExtended N P ks
@@ -257,23 +244,20 @@ module _ (M N : Map) (m : IsMap M) (n : IsMap N) (P : Path) (is : IsTrue (is_pat
   -- by the faults f and g of the path on the two maps
   abbrev Stay : Option Refusal → Option Refusal → Type 0
   Stay f g =
-      ((A : Answer) → MatchOption f (Encoding M P A) (λ r. A ≡ Refused r) → MatchOption g (Encoding N P A) (λ r. A ≡ Refused r))
+      ((v : ℕ) → MatchOption f (TraversedOfExtended M P v) (λ _. ⊥) → SameRound M N v) →
+      MatchOption f (QueriesOfExtended M P queries) (λ _. queries ≡ [])
+      → ((A : Answer) → MatchOption f (Encoding M P A) (λ r. A ≡ Refused r) → MatchOption g (Encoding N P A) (λ r. A ≡ Refused r))
       × ((v : ℕ) → MatchOption f (TraversedOfExtended M P v) (λ _. ⊥) ↔ MatchOption g (TraversedOfExtended N P v) (λ _. ⊥))
       × MatchOption g (QueriesOfExtended N P queries) (λ _. queries ≡ [])
+      × ((ks : List KnownQuery) → MatchOption f (KnownOfExtended M P ks) (λ _. ks ≡ []) → MatchOption g (KnownOfExtended N P ks) (λ _. ks ≡ []))
 
-  pub queried_kept : ((v : ℕ) → TraversedOf M P v → SameRound M N v) → QueriesOf M P queries
-      → ((A : Answer) → Encodes M P A → Encodes N P A) × ((v : ℕ) → TraversedOf M P v ↔ TraversedOf N P v)
-      × QueriesOf N P queries
-  queried_kept traversed o =
-      subst (Stay (path_fault M P)) (fault_same M N P same)
-      (by_fault M P (λ f. ((v : ℕ) → MatchOption f (TraversedOfExtended M P v) (λ _. ⊥) → SameRound M N v)
-      → MatchOption f (QueriesOfExtended M P queries) (λ _. queries ≡ []) → Stay f f)
-      (λ e traversed o. (
-        answer_stays M N m n P is e same traversed queries o routes,
-        traversed_stays M N m n P is e same traversed queries o routes,
-        queries_stay M N m n P is e same traversed queries o routes,
-      ))
-      (λ r traversed o. ((λ A p. p), (λ v. ((λ h. h), (λ h. h))), o)) traversed o)
+  pub queried_kept : Stay (path_fault M P) (path_fault N P)
+  queried_kept = subst (Stay (path_fault M P)) (fault_same M N P same) (by_fault M P (λ f. Stay f f) (λ e traversed o. (
+    answer_stays M N m n P is e same traversed queries o routes,
+    traversed_stays M N m n P is e same traversed queries o routes,
+    queries_stay M N m n P is e same traversed queries o routes,
+    known_stay M N m n P is e same traversed queries o routes,
+  )) (λ r traversed o. ((λ A p. p), (λ v. ((λ h. h), (λ h. h))), o, (λ ks p. p))))
 
 -- if each coverage query is clear
 clear : (M N : Map) (C : List ChangedLine) → AccountsFor C M N → AccountsFor C N M → (queries : List CoverageQuery) →
@@ -286,17 +270,13 @@ pub known_kept : (M N : Map) → IsMap M → IsMap N → (C : List ChangedLine) 
     (P : Path) → IsTrue (is_path P.lines) → Each (SameLine M N) P.lines → (queries : List CoverageQuery) →
     All (IsClear N C) queries → ((v : ℕ) → TraversedOf M P v → SameRound M N v) → QueriesOf M P queries →
     (ks : List KnownQuery) → KnownOf M P ks → KnownOf N P ks
-known_kept M N m n C there here P is same queries all traversed o ks known =
-    subst (λ (f : Option Refusal). MatchOption f (KnownOfExtended N P ks) (λ _. ks ≡ [])) (fault_same M N P same)
-    (by_fault M P (λ f. ((v : ℕ) → MatchOption f (TraversedOfExtended M P v) (λ _. ⊥) → SameRound M N v)
-    → MatchOption f (QueriesOfExtended M P queries) (λ _. queries ≡ [])
-    → MatchOption f (KnownOfExtended M P ks) (λ _. ks ≡ []) → MatchOption f (KnownOfExtended N P ks) (λ _. ks ≡ []))
-    (λ e traversed o. known_stay M N m n P is e same traversed queries o (clear M N C there here queries all) ks)
-    (λ r traversed o known. known) traversed o known)
+known_kept M N m n C there here P is same queries all traversed o =
+    (queried_kept M N m n P is same queries (clear M N C there here queries all) traversed o).3
 
 pub kept : AnswersRetained
 kept M N m n C there here P is same traversed queries o all =
-    queried_kept M N m n P is (Each-from (SameLine M N) P.lines same) queries (clear M N C there here queries all) traversed o
+    let k = queried_kept M N m n P is (Each-from (SameLine M N) P.lines same) queries (clear M N C there here queries all)
+    traversed o in (k.0, k.1, k.2)
 
 -- the same conclusion from what is touched
 pub untouched_retained : UntouchedRetained

@@ -96,11 +96,6 @@ some_zip M m ls (i ∷ is) h =
     (query_to M ls i k.0 ∷ rest.0, ((k.0, k.1, refl), rest.1))
 
 module _ (M : Map) (m : IsMap M) (P : Path) (is : IsTrue (is_path P.lines)) (sound : path_fault M P ≡ None) where
-  one_list : (ks ls : List CoverageQuery) → QueriesOfExtended M P ks → QueriesOfExtended M P ls → ks ≡ ls
-  one_list ks ls p q =
-      let E = (extended_path M P p.before p.after).lines in
-      one_zip M E (querying E (0 ∷ p.points)) ks ls p.holds (path_at m is sound p q)
-
   some_list : (queries : List CoverageQuery) × QueriesOfExtended M P queries
   some_list =
       let p = (some_encoding M m P is sound).1 in
@@ -143,8 +138,8 @@ module _ (M : Map) (m : IsMap M) (P : Path) (is : IsTrue (is_path P.lines)) (sou
 -- ---- whether or not the path has a fault
 
 pub one_queries : OneQueries
-one_queries M m P is ks ls =
-    same_by (path_fault M P) (QueriesOfExtended M P) (λ _. []) ks ls (λ e. one_list M m P is e ks ls)
+one_queries M m P is ks ls = same_by (path_fault M P) (QueriesOfExtended M P) (λ _. []) ks ls
+    (λ e p q. one_zip M (extended_path M P p.before p.after).lines _ ks ls p.holds (path_at m is e p q))
 
 pub some_queries : SomeQueries
 some_queries M m P is =
