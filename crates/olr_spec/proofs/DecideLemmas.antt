@@ -81,20 +81,16 @@ pub dec_same : (xs ys : List ℕ) → Dec (xs ≡ ys)
 dec_same xs ys = map_dec (bytes_decides xs ys).0 (bytes_decides xs ys).1 (Bool-discrete (pointwise nat_eq xs ys) true)
 
 pub one_unique : OneUnique
-one_unique M s t xs ys p q = elim (dec_same xs ys) [
-  | yes e ↦ e
-  | no ne ↦ let h = p.others ys q.route (λ e. ne (sym e)) in absurd (omega (arith, q.others xs p.route ne))
-]
+one_unique M s t xs ys p q =
+    let cases = dec_same xs ys in grind (arith, cases)
 
 pub dec_Unique : (M : Map) → IsMap M → (s t : ℕ) (xs : List ℕ) → Dec (UniqueShortest M s t xs)
 dec_Unique M m s t xs =
     let Clear : List ℕ → Type 0 = λ w. ¬ (IsRoute M s t w × ((w ≢ xs) × (dm_of M w ≤ dm_of M xs))) in
     map_dec (λ p. record {
       route = p.0;
-      others = λ ys w ne. elim (cases_lt (dm_of M xs) (dm_of M ys)) [
-        | inl lt ↦ lt
-        | inr le ↦ absurd (p.1 ys (route_numbers M s t ys w) (omega (arith, route_length M m s t ys w)) (w, (ne, le)))
-      ];
+      others = λ ys w ne.
+          let near = p.1 ys (route_numbers M s t ys w) in grind (arith, near, w, ne, cases_lt, route_length M m s t ys w);
     })
     (λ o. (o.route, λ w e h p. absurd (omega (arith, o.others w p.0 p.1.0))))
     (dec_and (dec_IsRoute M s t xs) (dec_lists (numbers M) (dm_of M xs) Clear
@@ -179,13 +175,7 @@ module _ (M : Map) (m : IsMap M) (Run : List ℕ → Type 0) (Next : ℕ → Lis
         | inl s ↦
             let d = longer s.0 c p s.1.0 in
             some_run fuel d.0 (omega (arith, positive M m s.0 (runs.known s.0 c s.1.0), d.2)) d.1 (omega (arith, d.2, s.1.1))
-        | inr none ↦ (
-          c,
-          p,
-          w,
-          λ e q. no_longer M Run Next runs c e p q (λ x n.
-              let none_near = none x (has_number M x (runs.known x c n)) in grind (arith, none_near, cases_lt)),
-        )
+        | inr none ↦ grind (arith, no_longer, has_number, cases_lt)
       ]
 
 some_start : (M : Map) → IsMap M → (ls : List ℕ) → IsTrue (has_line M (first ls)) → (d : List ℕ) × LongestStart M d ls
@@ -219,8 +209,7 @@ some_encoding M m P is e =
     let t = some_tried M m P n (all_first (Known M) P.lines n known) (all_last (Known M) P.lines n known) in
     let E = extended_path M P t.0 t.1 in
     let js = some_follow M m E.lines (length E.lines) 0 (omega arith) in
-    let p : Encoding M P (answer_by_points M E js.0) =
-    record { before = t.0; after = t.1; points = js.0; tried = t.2; follow = js.1; holds = refl } in
+    let p : Encoding M P (answer_by_points M E js.0) = grind (arith) in
     (answer_by_points M E js.0, p)
 
 pub some_answer : SomeAnswer

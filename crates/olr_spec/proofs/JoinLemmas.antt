@@ -67,10 +67,7 @@ joins_last M ls p q c = elim (cases_eq q (p + 1)) [
       let on : k + 1 ≡ q = omega arith in
       subst (JoinsLast M ls p) on (joins_before M ls p k (omega arith) (omega arith) (elim (cases_eq q (length ls)) [
         | inl whole ↦ covered_to M ls p q k (omega arith) (omega arith) c.covered
-        | inr within ↦ without_last M (end M (slice_index ls p)) (start M (slice_index ls (k + 1))) (stretch ls (p + 1) k)
-            (slice_index ls k) (coe 0 1 (i. LrpRoute M (end M (slice_index ls p)) (start M (slice_index ls (k + 1)))
-            (stretch_last ls (p + 1) k (omega arith) (omega arith) i))
-            (covered_to M ls p q (k + 1) (omega arith) (omega arith) c.covered))
+        | inr within ↦ grind (arith, without_last, stretch_last, covered_to)
       ]))
 ]
 

@@ -17,12 +17,7 @@ use Rattle.olr_spec.proofs.RouteLemmas.{dm_of-append}
 some_left : (M : Map) (P : Path) → path_fault M P ≡ None → (before after : List ℕ) →
     (extended_path M P before after).pos + (extended_path M P before after).neg
     < dm_of M (extended_path M P before after).lines
-some_left M P none before after =
-    let b = taken_start M before P.lines in
-    let fs = from_start M P before in
-    let a = taken_end M fs after in
-    let less = long_enough M P none in
-    omega (arith, dm_of-append M fs a, dm_of-append M b P.lines)
+some_left M P none before after = grind (arith, dm_of-append, long_enough)
 
 -- so at least two LRPs remain
 pub joined : (M : Map) (P : Path) (r : Reference) → path_fault M P ≡ None → Encoding M P (Points r) → Joined M P r

@@ -13,7 +13,7 @@ use Rattle.olr_spec.proofs.RunLemmas.{last_push, extended_keeps}
 
 -- ---- a path without fault
 
-joined_of : (M : Map) (k : ℕ) (ls : List ℕ) → 0 < length ls → Each (Known M) ls → first_break M k ls ≡ None → AreJoined M ls
+pub joined_of : (M : Map) (k : ℕ) (ls : List ℕ) → 0 < length ls → Each (Known M) ls → first_break M k ls ≡ None → AreJoined M ls
 joined_of M k [] h a e = absurd (omega arith)
 joined_of M k (x ∷ []) h a e = (Each-head (Known M) x [] a, refl, refl)
 joined_of M k (x ∷ y ∷ ls) h a e =

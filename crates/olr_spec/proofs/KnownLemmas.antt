@@ -77,9 +77,7 @@ module _ (M N : Map) (C : List ChangedLine) (there : AccountsFor C M N) (here : 
             ((part_stays M N C there here s (start M (slice_index ls m)) t (part m) (stretch ls m e.last)
             (k.before m h g).route (after m h g)
             (subst (λ (d : ℕ). ¬ Detour N C s t d) (k.within ∙ ap (dm_of M) parts) clear)).0 (k.before m h g));
-        covered =
-            let unique = clear_unique M N C s t e.query.within there here clear whole long (omega arith) in
-            ((λ c. unique.0 (k.covered.0 c)), (λ r. k.covered.1 (unique.1 r)));
+        covered = grind (arith, clear_unique);
       }
 
 -- ---- on the extended path
@@ -150,21 +148,17 @@ module _ (M : Map) (b own a : List ℕ) (joined : AreJoined M ((b ++ own) ++ a))
     is_known =
         let from_is : from ≡ e.query.from = sym (ap (λ (q : CoverageQuery). q.from) query) in
         let to_is : to ≡ e.query.to = sym (ap (λ (q : CoverageQuery). q.to) query) in
-        let c = covered_unique M ls i (length b + e.last) (omega arith) inside in
         record {
           order = order;
           upto = upto;
-          route = coe 0 1 (j. IsRoute M (from_is j) (to_is j) (stretch own e.first e.last)) way;
-          within = ap (λ (q : CoverageQuery). q.within) query
-              ∙ ap (dm_of M) (part_is e.last (omega arith) (omega arith));
+          route = grind (arith, way);
+          within = grind (arith, part_is);
           before = λ m h g.
               let r = (covered_unique M ls i (length b + m) (omega arith) (omega arith)).0
               (tested.before (length b + m) (omega arith) (omega arith)) in
               let line = own_line b own a m (omega arith) in
               coe 0 1 (j. LrpRoute M (from_is j) (start M (line j)) (part_is m h (omega arith) j)) r;
-          covered = coe 0 1 (j. IsTrue e.covered ↔ LrpRoute M (from_is j) (to_is j)
-              (part_is e.last (omega arith) (omega arith) j))
-              ((λ t. c.0 (covered.0 t)), (λ r. covered.1 (c.1 r)));
+          covered = grind (arith, part_is);
         }
 
 -- ---- the lists of a path

@@ -28,37 +28,26 @@ module _ (M : Map) (m : IsMap M) (s limit : ℕ) (dist : ℕ → Option ℕ) (tr
       Fine (end M y) (front ++ y ∷ [])
   step front y k short fine =
       let w = l.routes (start M y) fine.0 fine.1 in
-      let near : fine.0 ≤ dm_of M front = elim (cases_lt (dm_of M front) fine.0) [
-        | inl lt ↦ absurd (fine.2 (inl (omega arith)))
-        | inr le ↦ le
-      ] in
+      let near : fine.0 ≤ dm_of M front = grind (arith, cases_lt) in
       let c = l.closed (start M y) fine.0 y fine.1 k refl (omega arith) in
       let traversed = l.routes (end M y) c.0 c.1 in
       let long = dm_of-append M front (y ∷ []) in (
         c.0,
         c.1,
-        λ b. elim b [
+        elim [
           | inl lt ↦ elim c.2 [ inl strict ↦ absurd (omega arith) | inr tie ↦ absurd (omega arith) ]
-          | inr same ↦
-              elim c.2 [
-                | inl strict ↦ absurd (omega arith)
-                | inr tie ↦
-                    let here : dm_of M front ≡ dm_of M (trace (start M y)) = omega arith in
-                    elim (cases_eq (end M y) s) [
-                      | inl at ↦ nothing_below_nil (reverse (front ++ y ∷ []))
-                          (coe 0 1 (i. FirstSmaller (reverse (front ++ y ∷ [])) (reverse ((ap trace at ∙ l.at_source) i)))
-                          same.1)
-                      | inr off ↦
-                          let p = l.steps (end M y) c.0 c.1 off in
-                          elim (last_decides front y (end M y) p.0 p.1 same.1) [
-                            | inl lt ↦ absurd (omega (arith, tie.1 p.0 (trace (start M p.0)) p.1))
-                            | inr q ↦ fine.2 (inr (
-                              here,
-                              coe 1 0 (i. FirstSmaller (reverse front) (reverse (trace (start M (q.0 i))))) q.1,
-                            ))
-                          ]
-                    ]
-              ]
+          | inr same ↦ elim c.2 [
+            | inl strict ↦ absurd (omega arith)
+            | inr tie ↦ elim (cases_eq (end M y) s) [
+              | inl at ↦ grind (arith, nothing_below_nil)
+              | inr off ↦
+                  let p = l.steps (end M y) c.0 c.1 off in
+                  elim (last_decides front y (end M y) p.0 p.1 same.1) [
+                    | inl lt ↦ absurd (omega (arith, tie.1 p.0 (trace (start M p.0)) p.1))
+                    | inr q ↦ fine.2 (inr (omega arith, coe 1 0 (i. FirstSmaller (reverse front) (reverse (trace (start M (q.0 i))))) q.1))
+                  ]
+            ]
+          ]
         ],
       )
 

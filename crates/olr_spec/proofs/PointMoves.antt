@@ -30,8 +30,7 @@ pub close_stays : (M N : Map) → IsMap M → IsMap N → (ls : List ℕ) → Ea
 close_stays M N m n ls same i j h g close =
     let k = min j (length ls - 1) in
     let none = empty_stretch ls (i + 1) k (omega arith) in
-    let from : i < k → end M (slice_index ls i) ≡ end N (slice_index ls i) =
-    λ a. same_end M N (slice_index ls i) (same (slice_index ls i) (has_index ls i (omega arith))) in
+    let from : i < k → end M (slice_index ls i) ≡ end N (slice_index ls i) = grind (arith, same_end, has_index) in
     let to : i < k → start M (slice_index ls k) ≡ start N (slice_index ls k) =
     λ a. same_start M N (slice_index ls k) (same (slice_index ls k) (has_index ls k (omega arith))) in (
       (λ c a. empty_route M N n _ _ _ _ (stretch ls (i + 1) k) none (from a) (to a) (c a)),
@@ -74,11 +73,10 @@ module _ (M N : Map) (ls : List ℕ) (nonempty : 0 < length ls) (alike : Each (A
   next_moves : (i j : ℕ) → has js i ≡ true → Next M ls i j → Next N ls i j
   next_moves i j on (To_end e c) = To_end e ((candidate_same i (length ls) on).0 c)
   next_moves i j on (To_valid not_end g) =
-      To_valid (λ c. not_end ((candidate_same i (length ls) on).1 c))
-      (Greatest-moves (ValidCandidate M ls i) (ValidCandidate N ls i) j (λ k. both_valid i k on) g)
+      To_valid (λ c. not_end ((candidate_same i (length ls) on).1 c)) (Greatest-moves _ _ j (λ k. both_valid i k on) g)
   next_moves i j on (To_passing not_end none g) =
       To_passing (λ c. not_end ((candidate_same i (length ls) on).1 c)) (λ k v. none k ((both_valid i k on).1 v))
-      (Greatest-moves (Candidate M ls i) (Candidate N ls i) j (λ k. candidate_same i k on) g)
+      (Greatest-moves _ _ j (λ k. candidate_same i k on) g)
 
   pub follow_moves : (i : ℕ) (ks : List ℕ) → Each (λ k. has js k ≡ true) (i ∷ ks) → Follow M ls i ks → Follow N ls i ks
   follow_moves i [] on f = λ j c. f j ((candidate_same i j (Each-head (λ k. has js k ≡ true) i [] on)).1 c)

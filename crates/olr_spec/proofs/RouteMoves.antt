@@ -181,9 +181,8 @@ near_moves M N T round s w d (x ∷ xs) on route h = elim (cases_Bool (has T s))
       }
 ]
 
-near_there : (M N : Map) (T : List ℕ) → ((v : ℕ) → has T v ≡ false → SameRound M N v) → (s d : ℕ) → Near M T s d
-    → Near N T s d
-near_there M N T round s d m = near_moves M N T round s m.node d m.route m.touched m.leads m.within
-
 pub near_same : NearStays
-near_same M N T round s d = (near_there M N T round s d, near_there N M T (λ v e. turned_round M N v (round v e)) s d)
+near_same M N T round s d = (
+  (λ m. near_moves M N T round s m.node d m.route m.touched m.leads m.within),
+  (λ m. near_moves N M T (λ v e. turned_round M N v (round v e)) s m.node d m.route m.touched m.leads m.within),
+)

@@ -110,9 +110,7 @@ start_more : (M : Map) (ls c d : List ℕ) → IsTrue (has_line M (first ls)) �
 start_more M ls c [] k p q h = absurd (omega arith)
 start_more M ls c (y ∷ d) k p q h = elim (cases_lt (length c) (length d)) [
   | inl lt ↦ let r = start_more M ls c d k p q.1 lt in (r.0, r.1, omega arith)
-  | inr le ↦
-      let is : c ≡ d = same_start_run M ls c d k p q.1 (omega arith) in
-      (y, coe 1 0 (i. MayPrecede M y ((is i) ++ ls)) q.0, omega (arith, ap (dm_of M) is))
+  | inr le ↦ grind (arith, same_start_run)
 ]
 
 end_more : (M : Map) (ls c d : List ℕ) → IsTrue (has_line M (last ls)) → EndRun M ls c → EndRun M ls d →

@@ -125,11 +125,7 @@ module _ (M : Map) (m : IsMap M) (P : Path) (is : IsTrue (is_path P.lines)) (sou
   foot_here queries o v (inl p) =
       let ls = (extended_path M P p.before p.after).lines in
       let js = some_follow M m ls (length ls) 0 (omega arith) in
-      let touched : Touched M ls p.before p.after js.0 v = elim p.traversed [
-        | inl n ↦ On_path n
-        | inr (inl n) ↦ On_start_run n
-        | inr (inr n) ↦ On_end_run n
-      ] in
+      let touched : Touched M ls p.before p.after js.0 v = grind arith in
       record { before = p.before; after = p.after; points = js.0; tried = p.tried; follow = js.1; holds = touched }
   foot_here queries o v (inr r) =
       let i = query_from M ((extended_path M P o.before o.after).lines) (0 ∷ o.points) queries o.holds r.0 r.1 in
