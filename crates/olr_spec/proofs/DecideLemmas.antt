@@ -1,14 +1,14 @@
 -- Each definition is decidable, so each path has an answer.
-use Rattle.std.proofs.Common.{◌⊎◌, inl, inr, ◌≡◌, ℕ, zero, suc, ◌+◌, Bool, true, false, List, ◌∷◌, ◌++◌, length, ◌<◌, ◌≤◌}
-use Rattle.std.proofs.Common.{None, IsTrue, IsFalse, refl, sym, ap, ◌∙◌, subst, arith, MatchOption, length-append}
-use Rattle.std.proofs.Common.{append_assoc, [], nat_eq, ◌≢◌}
-use Rattle.std.proofs.lemmas.Bool.{cases_lt, cases_eq, cases_Bool, both_ways}
+use Rattle.std.proofs.Common.{◌⊎◌, inl, inr, ◌≡◌, ℕ, zero, suc, ◌+◌, true, false, List, ◌∷◌, ◌++◌, length, ◌<◌, ◌≤◌}
+use Rattle.std.proofs.Common.{None, IsTrue, refl, ap, subst, arith, MatchOption}
+use Rattle.std.proofs.Common.{[], nat_eq, ◌≢◌}
+use Rattle.std.proofs.lemmas.Bool.{cases_lt, cases_eq}
 use Rattle.std.proofs.Math.Decide.{dec_le, dec_lt, map_dec, ℕ_discrete}
 use Rattle.std.proofs.Math.Bool.{Bool-discrete}
 use lib.Pointwise.{pointwise, bytes_decides}
-use Rattle.olr_spec.specs.Map.{Map, IsMap, has_line, start, end, dm, coord_at, lines_where, has}
+use Rattle.olr_spec.specs.Map.{Map, IsMap, has_line, end, dm, coord_at, lines_where, has}
 use Rattle.olr_spec.specs.Routes.{IsRoute, dm_of, UniqueShortest}
-use Rattle.olr_spec.specs.Extension.{Path, is_path, first, last, passing, MayPrecede, MayFollow, StartRun, EndRun}
+use Rattle.olr_spec.specs.Extension.{Path, is_path, first, last, passing, MayPrecede, MayFollow}
 use Rattle.olr_spec.specs.Extension.{LongestStart, LongestEnd, Tried, from_start, taken_start, extended_path, limit}
 use Rattle.olr_spec.specs.Points.{node_at, stretch, Covered, fit16, Candidate, ValidCandidate, Greatest, Next, To_end}
 use Rattle.olr_spec.specs.Points.{To_valid, To_passing, NoNext, Follow}

@@ -1,5 +1,5 @@
 -- The routes between the remaining LRPs join to the extended path.
-use Rattle.std.proofs.Common.{◌⊎◌, inl, inr, ◌≡◌, ℕ, ◌+◌, ◌-◌, min, Bool, true, false, cond, ◌&&◌, List, ◌∷◌, ◌++◌}
+use Rattle.std.proofs.Common.{inl, inr, ◌≡◌, ℕ, ◌+◌, ◌-◌, min, Bool, true, false, ◌&&◌, List, ◌∷◌, ◌++◌}
 use Rattle.std.proofs.Common.{length, take, drop, ◌<◌, ◌≤◌, refl, ap, ◌∙◌, subst, arith, nat_le, length-drop, ◌↔◌, []}
 use Rattle.std.proofs.Common.{leb-true, le-leb, get_or-drop, slice_index, filter}
 use Rattle.std.proofs.lemmas.Bool.{cases_eq, and_parts, and_from, cond_both}

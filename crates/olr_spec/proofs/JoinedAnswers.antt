@@ -2,7 +2,7 @@
 use Rattle.std.proofs.Common.{◌≡◌, ◌<◌, ◌+◌, ℕ, List, length, None, ap, arith}
 use Rattle.olr_spec.specs.Map.{Map}
 use Rattle.olr_spec.specs.Routes.{dm_of}
-use Rattle.olr_spec.specs.Extension.{Path, extended_path, from_start, taken_start, taken_end}
+use Rattle.olr_spec.specs.Extension.{Path, extended_path}
 use Rattle.olr_spec.specs.Reference.{Reference, legs, first_kept, last_kept, kept_points}
 use Rattle.olr_spec.specs.Encoding.{Points, path_fault, Encoding}
 use Rattle.olr_spec.specs.Joins.{Joined}

@@ -1,6 +1,6 @@
 -- Lists of what some positions have: for each position there is one element or none.
-use Rattle.std.proofs.Common.{inl, inr, ◌≡◌, ℕ, ◌+◌, ◌-◌, List, ◌∷◌, ◌++◌, map, ◌<◌, ◌≤◌, All, refl, sym, ap, ◌∙◌}
-use Rattle.std.proofs.Common.{subst, arith, filter, true, Bool, [], ◌↔◌}
+use Rattle.std.proofs.Common.{inl, inr, ◌≡◌, ℕ, ◌+◌, ◌-◌, List, ◌∷◌, ◌++◌, map, ◌<◌, ◌≤◌, All, refl, sym, ◌∙◌}
+use Rattle.std.proofs.Common.{arith, filter, true, Bool, [], ◌↔◌}
 use Rattle.std.proofs.lemmas.Bool.{cond_both}
 use Rattle.std.proofs.lemmas.List.Elements.{All-nil, All-cons}
 use Rattle.std.specs.Prelude.{⊤}

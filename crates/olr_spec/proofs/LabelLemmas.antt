@@ -1,6 +1,6 @@
 -- Labels that no line improves are those of shortest paths.
-use Rattle.std.proofs.Common.{refl, ◌⊎◌, inl, inr, ◌≡◌, ℕ, zero, suc, ◌+◌, List, ◌∷◌, ◌++◌, reverse, length, ◌<◌, ◌≤◌}
-use Rattle.std.proofs.Common.{Option, Some, IsTrue, sym, ap, ◌∙◌, subst, arith, length-append, append-nil, append_assoc, []}
+use Rattle.std.proofs.Common.{refl, ◌⊎◌, inl, inr, ◌≡◌, ℕ, ◌+◌, List, ◌∷◌, ◌++◌, reverse, ◌<◌, ◌≤◌}
+use Rattle.std.proofs.Common.{Option, Some, IsTrue, sym, subst, arith, append-nil, append_assoc, []}
 use Rattle.std.proofs.lemmas.Bool.{cases_lt, cases_eq}
 use Rattle.std.proofs.lemmas.List.{reverse-append}
 use Rattle.olr_spec.specs.Map.{Map, IsMap, has_line, start, end, dm}

@@ -1,11 +1,10 @@
 -- LRPs, answers and faults are the same on two maps that agree around a path's traversed nodes and on the positions that
 -- are covered from its LRPs.
-use Rattle.std.proofs.Common.{◌≡◌, ℕ, ◌+◌, ◌-◌, min, Bool, true, cond, List, ◌∷◌, length, ◌<◌, ◌≤◌, refl, sym, ap, ◌∙◌}
-use Rattle.std.proofs.Common.{arith, ◌==◌, ◌↔◌, suc, not, Some, nat_lt, [], ltb-true, slice_index}
-use Rattle.std.proofs.lemmas.Bool.{cond_both}
+use Rattle.std.proofs.Common.{◌≡◌, ℕ, ◌+◌, ◌-◌, min, Bool, true, cond, List, ◌∷◌, length, ◌<◌, ◌≤◌, refl, sym, ◌∙◌}
+use Rattle.std.proofs.Common.{arith, ◌==◌, ◌↔◌, suc, Some, [], ltb-true, slice_index}
 use Rattle.olr_spec.specs.Map.{Map, IsMap, start, end, coord_at, SameLine, SameRound, has}
 use Rattle.olr_spec.specs.Routes.{IsRoute, dm_of, LrpRoute}
-use Rattle.olr_spec.specs.Extension.{Path, passing, last, limit}
+use Rattle.olr_spec.specs.Extension.{Path, passing, limit}
 use Rattle.olr_spec.specs.Points.{node_at, stretch, Covered, fit16, Candidate, ValidCandidate, Greatest, Next, To_end}
 use Rattle.olr_spec.specs.Points.{To_valid, To_passing, Follow}
 use Rattle.olr_spec.specs.Reference.{legs}
@@ -100,9 +99,7 @@ Traversed-same M N ls b a v h i j = grind (arith, NodeOf-same)
 
 unknown_same : (M N : Map) (ls : List ℕ) → Each (SameLine M N) ls → first_unknown M ls ≡ first_unknown N ls
 unknown_same M N [] h = refl
-unknown_same M N (x ∷ ls) h =
-    let is = same_known M N x (Each-head (SameLine M N) x ls h) in
-    λ i. cond (not (is i)) (Some x) (unknown_same M N ls (Each-tail (SameLine M N) x ls h) i)
+unknown_same M N (x ∷ ls) h = grind (arith, unknown_same M N ls, same_known, Each-head, Each-tail)
 
 break_same : (M N : Map) (k : ℕ) (ls : List ℕ) → Each (SameLine M N) ls → first_break M k ls ≡ first_break N k ls
 break_same M N k [] h = refl

@@ -1,6 +1,6 @@
 -- If the routes that an LRP's coverage query tests are the same, since it is clear of changes or two maps agree on the
 -- nodes that it reaches, then the same positions after the LRP are covered on both maps.
-use Rattle.std.proofs.Common.{inl, inr, ◌≡◌, ℕ, ◌+◌, ◌-◌, min, List, ◌++◌, length, take, drop, ◌<◌, ◌≤◌, sym, ap, ◌∙◌}
+use Rattle.std.proofs.Common.{inl, inr, ◌≡◌, ℕ, ◌+◌, ◌-◌, min, List, ◌++◌, length, ◌<◌, ◌≤◌, sym, ap}
 use Rattle.std.proofs.Common.{subst, arith, drop-drop, ◌↔◌, slice_index}
 use Rattle.std.proofs.lemmas.Bool.{cases_lt}
 use Rattle.std.proofs.Math.Seq.{take-add}
@@ -10,7 +10,7 @@ use Rattle.olr_spec.specs.Extension.{limit}
 use Rattle.olr_spec.specs.Points.{stretch, Covered}
 use Rattle.olr_spec.specs.Detours.{ChangedLine, AccountsFor, Detour}
 use Rattle.olr_spec.specs.Queries.{Needed, IsLastTested, query_to, IsClear}
-use Rattle.olr_spec.proofs.RouteLemmas.{IsRoute-append, dm_of-append, prefix_of_unique}
+use Rattle.olr_spec.proofs.RouteLemmas.{dm_of-append, prefix_of_unique}
 use Rattle.olr_spec.proofs.ListLemmas.{Each, Each-range, has_index}
 use Rattle.olr_spec.proofs.AgreeLemmas.{same_start, same_end, same_dm_of}
 use Rattle.olr_spec.proofs.RouteMoves.{IsRoute-moves, unique_same, within, within_other, part_stays}

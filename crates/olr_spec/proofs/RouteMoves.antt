@@ -5,7 +5,7 @@ use Rattle.std.proofs.Common.{Contains, true, false, ◌-◌, []}
 use Rattle.std.proofs.lemmas.Bool.{cases_lt, cases_Bool}
 use Rattle.olr_spec.specs.Map.{Map, has_line, start, end, SameLine, SameRound, dm, has}
 use Rattle.olr_spec.specs.Routes.{IsRoute, dm_of, Reaches, UniqueShortest}
-use Rattle.olr_spec.specs.Detours.{ChangedLine, IsChangedLine, AccountsFor, Detour, Near}
+use Rattle.olr_spec.specs.Detours.{ChangedLine, AccountsFor, Detour, Near}
 use Rattle.olr_spec.specs.Laws.{NearStays}
 use Rattle.olr_spec.proofs.RouteLemmas.{IsRoute-append, dm_of-append}
 use Rattle.olr_spec.proofs.ListLemmas.{Each, Each-nil, Each-cons, Each-head, Each-tail, Each-left, Each-right}

@@ -1,14 +1,13 @@
 -- The tried runs are the same on two maps that agree around their nodes.
-use Rattle.std.proofs.Common.{inl, inr, IsTrue, ap, ◌≡◌, ℕ, ◌+◌, List, ◌∷◌, ◌++◌, length, ◌<◌, ◌≤◌, refl, sym, ◌∙◌, subst, arith}
+use Rattle.std.proofs.Common.{IsTrue, ap, ◌≡◌, ℕ, List, ◌∷◌, ◌++◌, length, ◌<◌, ◌∙◌, arith}
 use Rattle.std.proofs.Common.{append_assoc, append-nil, length-append, []}
 use Rattle.std.proofs.lemmas.Bool.{cases_lt}
-use Rattle.olr_spec.specs.Map.{Map, IsMap, start, end, dm, SameLine, SameRound, has_line}
-use Rattle.olr_spec.specs.Routes.{dm_of}
+use Rattle.olr_spec.specs.Map.{Map, IsMap, start, end, dm, SameLine, has_line}
 use Rattle.olr_spec.specs.Extension.{passing, first, last, MayPrecede, MayFollow, StartRun, EndRun, LongestStart}
-use Rattle.olr_spec.specs.Extension.{LongestEnd, limit}
+use Rattle.olr_spec.specs.Extension.{LongestEnd}
 use Rattle.olr_spec.proofs.RouteLemmas.{dm_of-append, positive}
-use Rattle.olr_spec.proofs.ListLemmas.{Each, Each-nil, Each-cons, Each-head, Each-tail, Each-left, Each-right}
-use Rattle.olr_spec.proofs.ListLemmas.{Each-append, has_first, has_last, Known, EndsSame, Each-push}
+use Rattle.olr_spec.proofs.ListLemmas.{Each, Each-nil, Each-cons, Each-tail, Each-left, Each-right}
+use Rattle.olr_spec.proofs.ListLemmas.{has_first, has_last, Known, EndsSame}
 use Rattle.olr_spec.proofs.RunLemmas.{no_longer, start_runs, end_runs}
 use Rattle.olr_spec.proofs.AgreeLemmas.{turned_round, by_entering, by_leaving, same_known, same_start, same_end}
 use Rattle.olr_spec.proofs.AgreeLemmas.{same_dm, same_dm_of, same_passing}
@@ -17,17 +16,16 @@ use Rattle.olr_spec.proofs.AgreeLemmas.{same_dm, same_dm_of, same_passing}
 pub record Alike (M N : Map) (x : ℕ) : Type 0 where
   pub known : IsTrue (has_line M x)
   pub same : SameLine M N x
-  pub begin : SameRound M N (start M x)
-  pub finish : SameRound M N (end M x)
+  pub ends : EndsSame M N x
 
 pub turned_alike : (M N : Map) (x : ℕ) → Alike M N x → Alike N M x
 turned_alike M N x a = grind (arith, same_known, same_start, turned_round, same_end)
 
 pub same_begin : (M N : Map) (x : ℕ) → Alike M N x → passing M (start M x) ≡ passing N (start N x)
-same_begin M N x a = same_passing M N (start M x) a.begin ∙ ap (passing N) (same_start M N x a.same)
+same_begin M N x a = same_passing M N (start M x) a.ends.0 ∙ ap (passing N) (same_start M N x a.same)
 
 pub same_finish : (M N : Map) (x : ℕ) → Alike M N x → passing M (end M x) ≡ passing N (end N x)
-same_finish M N x a = same_passing M N (end M x) a.finish ∙ ap (passing N) (same_end M N x a.same)
+same_finish M N x a = same_passing M N (end M x) a.ends.1 ∙ ap (passing N) (same_end M N x a.same)
 
 pub StartRun-known : (M : Map) (c ls : List ℕ) → StartRun M c ls → Each (Known M) c
 StartRun-known M [] ls h = Each-nil (Known M)

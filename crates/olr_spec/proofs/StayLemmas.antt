@@ -1,6 +1,6 @@
 -- If nothing that a path depends on has changed, its answer, traversed nodes, coverage queries and footprint are the
 -- same.
-use Rattle.std.proofs.Common.{◌⊎◌, inl, inr, ◌≡◌, ℕ, ◌+◌, List, ◌∷◌, length, true, refl, ◌<◌, ◌≤◌, Option, None, IsTrue, All}
+use Rattle.std.proofs.Common.{◌⊎◌, inl, inr, ◌≡◌, ℕ, ◌+◌, List, ◌∷◌, length, true, ◌<◌, ◌≤◌, Option, None, IsTrue, All}
 use Rattle.std.proofs.Common.{Contains, sym, ◌∙◌, subst, arith, MatchOption, ◌↔◌, ◌++◌, length-append, cond, T, [], ap}
 use Rattle.std.proofs.Common.{◌==◌}
 use Rattle.std.proofs.lemmas.Bool.{cases_lt, cases_Bool, both_ways}
@@ -8,17 +8,17 @@ use Rattle.std.proofs.lemmas.List.Elements.{All-contains}
 use Rattle.olr_spec.specs.Map.{Map, IsMap, start, end, SameLine, SameRound, has}
 use Rattle.olr_spec.specs.Routes.{IsRoute, dm_of}
 use Rattle.olr_spec.specs.Extension.{Path, is_path, first, last, Tried, extended_path, taken_start, limit, from_start}
-use Rattle.olr_spec.specs.Extension.{taken_end, AreJoined, LongestEnd, passing}
+use Rattle.olr_spec.specs.Extension.{taken_end, AreJoined, LongestEnd}
 use Rattle.olr_spec.specs.Points.{stretch, Covered, Follow, OfPath, last_position}
-use Rattle.olr_spec.specs.Encoding.{Answer, Refused, Refusal, path_fault, answer_by_points, Encoding, Encodes}
+use Rattle.olr_spec.specs.Encoding.{Answer, Refused, Refusal, path_fault, answer_by_points, Encoding}
 use Rattle.olr_spec.specs.Encoding.{No_next_point, Points}
 use Rattle.olr_spec.specs.Detours.{ChangedLine, AccountsFor}
 use Rattle.olr_spec.specs.Queries.{NodeOf, Traversed, TraversedOfExtended, TraversedOf, IsLastTested, CoverageQuery, query_to}
 use Rattle.olr_spec.specs.Queries.{IsQuery, IsClear, querying, QueriesOfExtended, QueriesOf, KnownQuery, IsKnownAt}
-use Rattle.olr_spec.specs.Queries.{FoundFor, KnownOfExtended, KnownOf, QueriesFrom}
+use Rattle.olr_spec.specs.Queries.{KnownOfExtended, KnownOf, QueriesFrom}
 use Rattle.olr_spec.specs.Laws.{UntouchedRetained, AnswersRetained}
 use Rattle.olr_spec.specs.Reference.{reference}
-use Rattle.olr_spec.proofs.ListLemmas.{Each, Each-from, has_first, has_last, Known, EndsSame, Each-append, Each-left}
+use Rattle.olr_spec.proofs.ListLemmas.{Each, Each-from, has_first, has_last, Known, Each-append, Each-left}
 use Rattle.olr_spec.proofs.ListLemmas.{Each-right, Each-to, Each-cons, Each-push}
 use Rattle.olr_spec.proofs.AnswerLemmas.{sound_lines, path_nonempty, path_at, by_fault}
 use Rattle.olr_spec.proofs.RunLemmas.{one_tried, extended_keeps}
