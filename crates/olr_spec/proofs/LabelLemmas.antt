@@ -54,10 +54,7 @@ module _ (M : Map) (m : IsMap M) (s limit : ℕ) (dist : ℕ → Option ℕ) (tr
   fine_on : (ys : List ℕ) (u v : ℕ) (front : List ℕ) → Fine u front → IsRoute M u v ys →
       dm_of M front + dm_of M ys ≤ limit → Fine v (front ++ ys)
   fine_on [] u v front f w h = subst (Fine v) (sym (append-nil front)) (subst (λ (x : ℕ). Fine x front) w f)
-  fine_on (y ∷ ys) u v front f w h =
-      let next = step front y w.0 (omega arith) (subst (λ (x : ℕ). Fine x front) (sym w.1) f) in
-      subst (Fine v) (append_assoc front (y ∷ []) ys)
-      (fine_on ys (end M y) v (front ++ y ∷ []) next w.2 (omega (arith, dm_of-append M front (y ∷ []))))
+  fine_on (y ∷ ys) u v front f w h = grind (arith, fine_on ys, step, append_assoc, dm_of-append)
 
   fine : (v : ℕ) (ys : List ℕ) → IsRoute M s v ys → dm_of M ys ≤ limit → Fine v ys
   fine v ys w h = fine_on ys s v []

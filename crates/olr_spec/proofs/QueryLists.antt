@@ -19,19 +19,13 @@ module _ {X : Type 0} (R : ℕ → X → Type 0) where
   pub zip_right : (is : List ℕ) (xs : List X) → AllZip R is xs → (i : ℕ) → has is i ≡ true → (x : X) × Contains xs x × R i x
   zip_right [] xs z i h = absurd cc
   zip_right (j ∷ is) [] z i h = absurd z
-  zip_right (j ∷ is) (x ∷ xs) z i h = elim (has_cases j is i h) [
-    | inl e ↦ (x, Contains-here x xs, coe 0 1 (i. R (e i) x) z.0)
-    | inr on ↦ let r = zip_right is xs z.1 i on in (r.0, Contains-later x r.0 xs r.1, r.2)
-  ]
+  zip_right (j ∷ is) (x ∷ xs) z i h = grind (arith, zip_right is xs z.1 i, has_cases, Contains-here, Contains-later)
 
   pub zip_left : (is : List ℕ) (xs : List X) → AllZip R is xs → (x : X) → Contains xs x → (i : ℕ) × IsTrue (has is i) × R i x
   zip_left [] [] z x c = absurd (omega arith)
   zip_left [] (y ∷ xs) z x c = absurd z
   zip_left (j ∷ is) [] z x c = absurd z
-  zip_left (j ∷ is) (y ∷ xs) z x c = elim (Contains-cases y x xs c) [
-    | inl e ↦ (j, has_here j is, subst (R j) e z.0)
-    | inr on ↦ let r = zip_left is xs z.1 x on in (r.0, has_there j is r.0 r.1, r.2)
-  ]
+  zip_left (j ∷ is) (y ∷ xs) z x c = grind (arith, zip_left is xs z.1 x, Contains-cases, has_here, has_there)
 
 -- ---- the LRPs with a coverage query
 

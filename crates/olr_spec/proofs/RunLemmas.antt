@@ -80,11 +80,7 @@ same_start_run M ls _ _ k p q e = absurd (omega arith)
 pub same_end_run : (M : Map) (ls c d : List ℕ) → IsTrue (has_line M (last ls)) → EndRun M ls c → EndRun M ls d →
     length c ≡ length d → c ≡ d
 same_end_run M ls [] [] k p q e = refl
-same_end_run M ls (x ∷ c) (y ∷ d) k p q e =
-    let is : x ≡ y = one_follows M ls x y k p.0 q.0 in
-    let known : IsTrue (has_line M (last (ls ++ x ∷ []))) = coe 1 0 (i. IsTrue (has_line M (last_push ls x i))) p.0.known in
-    let rest = same_end_run M (ls ++ x ∷ []) c d known p.1 (coe 1 0 (i. EndRun M (ls ++ (is i) ∷ []) d) q.1) (omega arith) in
-    λ i. is i ∷ rest i
+same_end_run M ls (x ∷ c) (y ∷ d) k p q e = grind (arith, same_end_run M (ls ++ x ∷ []) c d, one_follows, last_push)
 same_end_run M ls _ _ k p q e = absurd (omega arith)
 
 -- ---- the longest run
@@ -108,19 +104,12 @@ module _ (M : Map) (Run : List ℕ → Type 0) (Next : ℕ → List ℕ → Type
 start_more : (M : Map) (ls c d : List ℕ) → IsTrue (has_line M (first ls)) → StartRun M c ls → StartRun M d ls →
     length c < length d → (x : ℕ) × MayPrecede M x (c ++ ls) × (dm M x + dm_of M c ≤ dm_of M d)
 start_more M ls c [] k p q h = absurd (omega arith)
-start_more M ls c (y ∷ d) k p q h = elim (cases_lt (length c) (length d)) [
-  | inl lt ↦ let r = start_more M ls c d k p q.1 lt in (r.0, r.1, omega arith)
-  | inr le ↦ grind (arith, same_start_run)
-]
+start_more M ls c (y ∷ d) k p q h = grind (arith, start_more M ls c d k p q.1, cases_lt, same_start_run)
 
 end_more : (M : Map) (ls c d : List ℕ) → IsTrue (has_line M (last ls)) → EndRun M ls c → EndRun M ls d →
     length c < length d → (x : ℕ) × MayFollow M (ls ++ c) x × (dm M x + dm_of M c ≤ dm_of M d)
 end_more M ls [] (y ∷ d) k p q h = (y, coe 1 0 (i. MayFollow M (append-nil ls i) y) q.0, omega arith)
-end_more M ls (x ∷ c) (y ∷ d) k p q h =
-    let is : x ≡ y = one_follows M ls x y k p.0 q.0 in
-    let r = end_more M (ls ++ x ∷ []) c d (coe 1 0 (i. IsTrue (has_line M (last_push ls x i))) p.0.known) p.1
-    (coe 1 0 (i. EndRun M (ls ++ (is i) ∷ []) d) q.1) (omega arith) in
-    (r.0, coe 0 1 (i. MayFollow M (append_assoc ls (x ∷ []) c i) r.0) r.1, omega (arith, ap (dm M) is))
+end_more M ls (x ∷ c) (y ∷ d) k p q h = grind (arith, end_more M (ls ++ x ∷ []) c d, one_follows, last_push, append_assoc)
 end_more M ls _ _ k p q h = absurd (omega arith)
 
 pub start_runs : (M : Map) (ls : List ℕ) → IsTrue (has_line M (first ls)) →
