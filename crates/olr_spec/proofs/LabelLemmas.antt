@@ -69,8 +69,5 @@ module _ (M : Map) (m : IsMap M) (s limit : ℕ) (dist : ℕ → Option ℕ) (tr
       let traversed = l.routes v d e in
       record {
         route = traversed.0;
-        first = λ ys w b. elim (cases_lt limit (dm_of M ys)) [
-          | inl far ↦ elim b [ inl lt ↦ absurd (omega arith) | inr p ↦ absurd (omega arith) ]
-          | inr near ↦ (fine v ys w near).2 b
-        ];
+        first = λ ys w b. let near = fine v ys w in grind (arith, near, cases_lt);
       }

@@ -33,12 +33,9 @@ unique_moves M N s t d there back xs h unique =
     let e = same_dm_of M N xs each in
     record {
       route = IsRoute-moves M N s t xs each unique.route;
-      others = λ ys w other. elim (cases_lt (dm_of N xs) (dm_of N ys)) [
-        | inl longer ↦ longer
-        | inr short ↦
-            let same = back ys w (omega arith) in
-            absurd (omega (arith, same_dm_of N M ys same, unique.others ys (IsRoute-moves N M s t ys same w) other))
-      ];
+      others = λ ys w other.
+          let same = back ys w in
+          grind (arith, same, cases_lt, same_dm_of N M ys, unique.others ys, IsRoute-moves N M s t ys);
     }
 
 pub unique_same : (M N : Map) (s t d : ℕ) → SameRoutes M N s t d → SameRoutes N M s t d → (xs : List ℕ) →
