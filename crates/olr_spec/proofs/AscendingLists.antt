@@ -2,26 +2,23 @@
 use Rattle.std.proofs.Common.{◌≡◌, ◌≢◌, ◌==◌, ℕ, suc, ◌+◌, ◌<◌, ◌≤◌, Bool, true, false, not, ◌&&◌, ◌||◌, ◌⊎◌, inl, inr}
 use Rattle.std.proofs.Common.{List, ◌∷◌, ◌++◌, Contains, Ok, Err, Result, is_ok, length, get_or, refl, sym, ap, ◌∙◌}
 use Rattle.std.proofs.Common.{arith, ⊎_elim, MatchResult, IsPermutation, [], insert, remove, eq-eqb, ne_eqb, eqb-true}
-use Rattle.std.specs.List.{IsDistinct}
-use Rattle.std.specs.Cmp.{nat_cmp_total, unsigned_tied}
-use Rattle.std.proofs.lemmas.Cmp.{eq_by_cmp_equiv}
-use Rattle.std.proofs.lemmas.Bool.{both_ways, cases_lt}
-use Rattle.std.proofs.lemmas.List.Sorted.{IsNonDecreasingBy-insert, searched, list_any-IsPermutation}
+use Rattle.std.proofs.lemmas.Bool.{cases_lt, cases_order, cases_eq}
+use Rattle.std.proofs.Common.{◌-◌}
+use Rattle.std.proofs.lemmas.List.Kept.{AllPairs-from_increasing}
+use Rattle.std.proofs.lemmas.List.Sorted.{searched, list_any-IsPermutation}
 use Rattle.std.proofs.lemmas.List.Sorted.{IsPermutation-insert, IsPermutation-remove, IsPermutation-sym}
 use Rattle.std.proofs.lemmas.List.Sorted.{Contains-permutation}
-use Rattle.std.proofs.lemmas.Map.Keys.{IsStrictlyIncreasing-from_distinct, non_decreasing_from_sorted}
-use Rattle.std.proofs.lemmas.Map.Keys.{IsDistinct-from_sorted, IsDistinct-IsPermutation, IsDistinct-cons}
+use Rattle.std.proofs.lemmas.Map.Keys.{non_decreasing_from_sorted}
 use Rattle.std.proofs.lemmas.Map.Keys.{sorted_from_strictly_increasing}
 use Rattle.std.specs.List.Sorted.{IsStrictlyIncreasing, IsBinarySearchResult}
 use Rattle.std.specs.Ordering.{nat_cmp}
 use Rattle.std.proofs.Math.Bool.{or_comm, and_comm}
 use Rattle.std.proofs.lemmas.List.{get_or_default}
-use Rattle.std.proofs.lemmas.List.Edits.{insert_end, length-remove, get_or-remove_below, get_or-remove_above}
+use Rattle.std.proofs.lemmas.List.Edits.{length-insert, get_or-insert_at, get_or-insert_below, get_or-insert_above, insert_end, length-remove, get_or-remove_below, get_or-remove_above}
 use Rattle.std.proofs.lemmas.List.Elements.{Contains-append_cases, Contains-append_right}
 use Rattle.std.proofs.lemmas.List.Folds.{list_any_at}
-use lib.Dec.{eqb}
 use Rattle.olr_spec.specs.Map.{has}
-use Rattle.olr_spec.proofs.ListLemmas.{Each-to, Contains-one}
+use Rattle.olr_spec.proofs.ListLemmas.{Contains-one}
 
 -- ---- where a search finds a number
 
@@ -75,18 +72,24 @@ there_found xs x (Err i) h c = absurd (not_among xs x i h c)
 
 pub insert_ascends : (xs : List ℕ) (x i : ℕ) → IsStrictlyIncreasing xs → IsSearchResult xs x (Err i) →
     IsStrictlyIncreasing (insert xs i x)
-insert_ascends xs x i up h =
-    let sorted = sorted_from_strictly_increasing xs up in
-    let flips = λ (a b : ℕ). sym (unsigned_tied a b) ∙ (eq_by_cmp_equiv nat_cmp_total).symm a b ∙ unsigned_tied b a in
-    let apart = Each-to (λ y. (x == y) ≡ false) xs (λ y on. ne_eqb x y (λ e. both_ways (has xs y)
-    (coe 0 1 (j. has xs (e j) ≡ false) (place_not xs x i h)) on)) in
-    let distinct = coe 0 1 (j. IsDistinct (λ a b. unsigned_tied a b j) xs) (IsDistinct-from_sorted nat_cmp xs sorted) in
-    IsStrictlyIncreasing-from_distinct (insert xs i x)
-    (IsNonDecreasingBy-insert (λ n. n) xs i x (non_decreasing_from_sorted xs sorted) h.0
-    (λ k d lt. omega (arith, h.0, h.1 k lt, get_or_default xs k d 0 (omega (arith, h.0))))
-    (λ k d ge lt. omega (arith, h.2 k ge lt, get_or_default xs k d 0 lt)))
-    (IsDistinct-IsPermutation eqb flips (x ∷ xs) (insert xs i x) (IsPermutation-insert xs i x)
-    (IsDistinct-cons eqb x xs apart distinct))
+insert_ascends xs x i up h k lt =
+    let back : i < k → k - 1 + 1 ≡ k = λ l. omega arith in
+    grind (
+      arith,
+      cases_order k i,
+      cases_eq (k + 1) i,
+      length-insert xs i x h.0,
+      get_or-insert_at xs i x 0 h.0,
+      get_or-insert_below xs i x 0 k,
+      get_or-insert_below xs i x 0 (k + 1),
+      get_or-insert_above xs i x 0 k,
+      get_or-insert_above xs i x 0 (k - 1),
+      h.1 k,
+      h.2 k,
+      h.2 (k - 1),
+      up k,
+      up (k - 1),
+    )
 
 -- a number above all of them, at the end
 pub ascends_push : (xs : List ℕ) (x : ℕ) → IsStrictlyIncreasing xs → ((k : ℕ) → k < length xs → get_or xs k 0 < x) →
@@ -116,18 +119,15 @@ ascends-remove xs i up at k lt = grind (arith, length-remove, ⊎_elim, get_or-r
 
 -- a number that is removed is no longer in the list
 gone : (xs : List ℕ) (i x : ℕ) → IsStrictlyIncreasing xs → i < length xs → get_or xs i 0 ≡ x → has (remove xs i) x ≡ false
-gone xs i x up at is =
-    let long : length (remove xs i) + 1 ≡ length xs = length-remove xs i at in
-    has_not (remove xs i) x (λ k lt e. ⊎_elim
-    (λ (low : k < i).
-    let here : get_or (remove xs i) k 0 ≡ get_or xs k 0 = get_or-remove_below xs i 0 k low at in
-    let next = ascends xs up (k + 1) i (omega arith) at in
-    omega (arith, up k (omega arith)))
-    (λ (high : i ≤ k).
-    let here : get_or (remove xs i) k 0 ≡ get_or xs (k + 1) 0 = get_or-remove_above xs i 0 k high at in
-    let next = ascends xs up i k high (omega arith) in
-    omega (arith, up k (omega arith)))
-    (cases_lt k i))
+gone xs i x up at is = has_not (remove xs i) x (λ k lt e. grind (
+  arith,
+  cases_lt k i,
+  length-remove xs i at,
+  get_or-remove_below xs i 0 k,
+  get_or-remove_above xs i 0 k,
+  AllPairs-from_increasing xs up k i 0,
+  AllPairs-from_increasing xs up i (k + 1) 0,
+))
 
 without : (b c d : Bool) → (b ≡ true → d ≡ false) → c ≡ (b || d) → d ≡ (not b && c)
 without b c d h e = grind arith

@@ -1,15 +1,15 @@
 -- The path's own line at an LRP is preferred to every other candidate: its node is the nearest if other nodes are three
 -- times the bound of decoding away. And the length that an offset byte cuts off.
-use Rattle.std.proofs.Common.{inl, inr, ◌≡◌, ◌≢◌, ℕ, ◌+◌, ◌-◌, Bool, true, false, not, ◌||◌, List, ◌∷◌, map, ◌<◌, ◌≤◌}
+use Rattle.std.proofs.Common.{inl, inr, ◌≡◌, ◌≢◌, ℕ, ◌+◌, ◌-◌, Bool, true, false, not, ◌||◌, ◌<◌, ◌≤◌}
 use Rattle.std.proofs.Common.{◌↔◌, IsTrue, IsFalse, refl, sym, ap, ◌∙◌, subst, arith, nat_lt, ◌==◌, ◌*◌, ℤ, ◌-ℤ◌}
-use Rattle.std.proofs.Common.{nat_le, ◌/◌, cond, Some, None, [], eqb-true, eq-eqb, ltb-true, lt-ltb, le-ltb, leb-true}
+use Rattle.std.proofs.Common.{nat_le, ◌/◌, cond, Some, None, eqb-true, eq-eqb, ltb-true, lt-ltb, le-ltb, leb-true}
 use Rattle.std.proofs.Common.{nat_abs}
-use Rattle.std.proofs.lemmas.Bool.{cases_Bool, cases_eq, cases_lt, both_ways, and_parts, and_from, or_cases}
+use Rattle.std.proofs.lemmas.Bool.{cases_Bool, cases_eq, cases_lt, both_ways, and_from, or_cases}
 use Rattle.std.specs.List.{list_all}
 use Rattle.std.proofs.Math.Nat.{mul-le-mul_left, mul-le-mul_right, mul-lt-mul_of_pos_left, le_of_mul-le-mul_left}
 use Rattle.std.proofs.Math.Nat.{mul-add, mul_left_comm, mul_assoc, mul_comm, mul-pos, div-mul-le_self, lt-div-mul-add}
 use Rattle.std.proofs.lemmas.Int.{ints}
-use Rattle.olr_spec.specs.Map.{Map, has_line, line_at, lines_where, has}
+use Rattle.olr_spec.specs.Map.{Map, has_line, line_at, lines_where}
 use Rattle.olr_spec.specs.Bearings.{Leg}
 use Rattle.olr_spec.specs.Reference.{leg, offset}
 use Rattle.olr_spec.specs.Receiver.{Side, node_on, coordinate_on, sector_on, candidates, Lrp, Rating, NowhereWorse}
@@ -19,24 +19,20 @@ use Rattle.olr_spec.specs.Laws.{SomeReceiver, SomeWeighted}
 use Rattle.olr_spec.specs.Coordinates.{Coord}
 use Rattle.olr_spec.specs.Decoded.{decoded_bound, IsNear}
 use Rattle.olr_spec.specs.Recovery.{lon_apart, lat_apart, IsWeighted, is_spaced, IsCut, IsClose}
-use Rattle.olr_spec.proofs.ListLemmas.{has_cases}
+use Rattle.std.proofs.lemmas.List.Sums.{AllPass-from_list_all}
+use Rattle.std.proofs.lemmas.List.Folds.{list_all-map}
+use Rattle.olr_spec.proofs.ListLemmas.{at_index}
 use Rattle.olr_spec.proofs.OrderLemmas.{has_number}
 
 -- ---- a test that all candidates pass
 
-pass_each : (M : Map) (f : ℕ × Leg → Bool) (xs : List ℕ) → list_all f (map (λ x. (x, leg M x)) xs) ≡ true → (y : ℕ) →
-    has xs y ≡ true → f (y, leg M y) ≡ true
-pass_each M f [] a y h = absurd cc
-pass_each M f (x ∷ xs) a y h =
-    let parts = and_parts (f (x, leg M x)) (list_all f (map (λ x. (x, leg M x)) xs)) a in
-    elim (has_cases x xs y h) [
-      | inl e ↦ subst (λ (z : ℕ). f (z, leg M z) ≡ true) e parts.0
-      | inr later ↦ pass_each M f xs parts.1 y later
-    ]
-
 pub passes : (M : Map) (f : ℕ × Leg → Bool) → IsTrue (list_all f (candidates M)) → (y : ℕ) → IsTrue (has_line M y) →
     f (y, leg M y) ≡ true
-passes M f a y h = pass_each M f (lines_where M (λ _. true)) a y (has_number M y h)
+passes M f a y h =
+    let xs = lines_where M (λ _. true) in
+    let at = at_index xs y (has_number M y h) in
+    subst (λ (z : ℕ). f (z, leg M z) ≡ true) at.2 (AllPass-from_list_all (λ x. f (x, leg M x)) xs
+    (sym (list_all-map f (λ x. (x, leg M x)) xs) ∙ a) at.0 0 at.1)
 
 -- ---- the path's own line
 
@@ -127,8 +123,7 @@ some_receiver far = (
 
 -- the bound of the measure for the node of the LRP, from both axes
 own_side : (u scale a b B f : ℕ) → 0 < scale → u ≤ scale → a < B → b < B → f ≤ u * a + scale * b → f < scale * B + scale * B
-own_side u scale a b B f unit most ha hb h =
-    omega (arith, mul-le-mul_right a most, mul-lt-mul_of_pos_left ha unit, mul-lt-mul_of_pos_left hb unit)
+own_side u scale a b B f unit most ha hb h = grind (arith, mul-le-mul_right, mul-lt-mul_of_pos_left)
 
 by_latitude : (scale e B f : ℕ) → B + B ≤ e → scale * e ≤ f → scale * B + scale * B ≤ f
 by_latitude scale e B f h g = omega (arith, mul-le-mul_left scale h, mul-add scale B B)

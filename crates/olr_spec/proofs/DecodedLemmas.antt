@@ -6,7 +6,6 @@ use Rattle.std.proofs.Common.{slice_index}
 use Rattle.std.proofs.lemmas.Bool.{cond-true}
 use Rattle.std.proofs.lemmas.Int.{ints}
 use Rattle.std.proofs.lemmas.Option.{slice_get-get_or}
-use lib.IntN.{+ℤ_assoc}
 use Rattle.olr_spec.specs.Coordinates.{abs24, from_abs24, nearest, relative, from_rel16}
 use Rattle.olr_spec.specs.Map.{Map, IsMap, coord_at, has}
 use Rattle.olr_spec.specs.Extension.{Path, is_path, extended_path}
@@ -18,7 +17,6 @@ use Rattle.olr_spec.specs.Reference.{middle_point, to_back}
 use Rattle.olr_spec.specs.Encoding.{Points, path_fault, Encoding, IsPoint}
 use Rattle.olr_spec.specs.Decoded.{lon_steps, lat_steps, steps_sum, decoded, decoded_bound, IsNear}
 use Rattle.olr_spec.specs.Laws.{DecodedNear, DecodedPoints}
-use Rattle.olr_spec.specs.Reference as fields
 use Rattle.olr_spec.proofs.ListLemmas.{has_cases}
 use Rattle.olr_spec.proofs.AnswerLemmas.{path_also, path_at}
 use Rattle.olr_spec.proofs.KeptLemmas.{two_kept}
@@ -55,25 +53,16 @@ abbrev relatives : (ℕ → ℤ) → ℕ → List ℕ → List ℤ
 relatives f h [] = []
 relatives f h (i ∷ ks) = relative (f h) (f i) ∷ relatives f i ks
 
--- one more relative value
-close_step : (n : ℕ) (a r x y : ℤ) → Close n a x → Close 1638401 r (y -ℤ x) → Close (n + 1638400) (a +ℤ r) y
-close_step n a r x y c d = record { below = omega (arith, ints); above = omega (arith, ints) }
-
-close_same : (n m : ℕ) (a b y : ℤ) → n ≡ m → a ≡ b → Close n a y → Close m b y
-close_same n m a b y e f c = subst (λ (k : ℕ). Close k b y) e (subst (λ (z : ℤ). Close n z y) f c)
-
 close_on : (f : ℕ → ℤ) (n h k : ℕ) (ks : List ℕ) (a : ℤ) → Close n a (f h) → k ≤ length ks →
     Close (n + k * 1638400) (a +ℤ steps_sum (take k (relatives f h ks))) (f (slice_index (h ∷ ks) k))
-close_on f n h zero ks a c le =
-    close_same n (n + zero * 1638400) a (a +ℤ pos 0) (f h) (omega arith) (omega (arith, ints)) c
+close_on f n h zero ks a c le = record { below = omega (arith, ints); above = omega (arith, ints) }
 close_on f n h (suc k) [] a c le = absurd (omega arith)
 close_on f n h (suc k) (i ∷ ks) a c le =
     let r = from_rel16 (relative (f h) (f i)) in
-    let rest =
-    close_on f (n + 1638400) i k ks (a +ℤ r) (close_step n a r (f h) (f i) c (close16 (f i -ℤ f h))) (omega arith) in
-    close_same (n + 1638400 + k * 1638400) (n + suc k * 1638400) (a +ℤ r +ℤ steps_sum (take k (relatives f i ks)))
-    (a +ℤ (r +ℤ steps_sum (take k (relatives f i ks)))) (f (slice_index (i ∷ ks) k)) (omega arith)
-    (+ℤ_assoc a r (steps_sum (take k (relatives f i ks)))) rest
+    let near : Close 1638401 r (f i -ℤ f h) = close16 (f i -ℤ f h) in
+    let rest = close_on f (n + 1638400) i k ks (a +ℤ r)
+    (record { below = omega (arith, ints); above = omega (arith, ints) }) (omega arith) in
+    record { below = omega (arith, ints); above = omega (arith, ints) }
 
 -- ---- the fields of a reference
 

@@ -102,8 +102,7 @@ both_out F s t out = (out s (has_here s (t ∷ [])), out t (has_there s (t ∷ [
 -- the record of a line whose ends are outside of F
 old_out : (M : Map) (x : ℕ) (F : ℕ → Type 0) (k : Line) → Each (λ v. ¬ F v) (start M x ∷ end M x ∷ []) →
     get M.lines x ≡ Some k → Out F k
-old_out M x F k out h =
-    subst (Out F) (ap (λ (o : Option Line). unwrap_or o no_line) h) (both_out F (start M x) (end M x) out)
+old_out M x F k out h = grind (arith, both_out)
 
 -- the record that is set
 new_out : (M : Map) (x : ℕ) (F : ℕ → Type 0) (l k : Line) → Each (λ v. ¬ F v) (l.from ∷ l.to ∷ []) →

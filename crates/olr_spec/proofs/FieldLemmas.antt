@@ -28,13 +28,11 @@ use Rattle.olr_spec.proofs.SectorLemmas.{up_to_below, le_yes, le_test}
 -- each LRP is the first of them or after it
 pub linked_above : (M : Map) (ls : List ℕ) (p : ℕ) (ks : List ℕ) → Linked M ls (p ∷ ks) → Each (λ k. p ≤ k) (p ∷ ks)
 linked_above M ls p [] l = Each-cons (λ k. p ≤ k) p [] (omega arith) (Each-nil (λ k. p ≤ k))
-linked_above M ls p (q ∷ ks) l =
-    Each-cons (λ k. p ≤ k) p (q ∷ ks) (omega arith) (λ k h. omega (arith, (linked_above M ls q ks l.1) k h))
+linked_above M ls p (q ∷ ks) l = grind (arith, Each-cons, (linked_above M ls q ks l.1))
 
 pub linked_last : (M : Map) (ls : List ℕ) (p q : ℕ) (ks : List ℕ) → Linked M ls (p ∷ q ∷ ks) →
     Each (λ k. k ≤ (last_two p q ks).1) (p ∷ q ∷ ks)
-linked_last M ls p q [] l =
-    Each-cons (λ k. k ≤ q) p (q ∷ []) (omega arith) (Each-cons (λ k. k ≤ q) q [] (omega arith) (Each-nil (λ k. k ≤ q)))
+linked_last M ls p q [] l = grind (arith, Each-cons, Each-nil)
 linked_last M ls p q (r ∷ ks) l =
     let rest = linked_last M ls q r ks l.1 in
     let h = Each-head (λ k. k ≤ (last_two q r ks).1) q (r ∷ ks) rest in
@@ -43,10 +41,7 @@ linked_last M ls p q (r ∷ ks) l =
 pub has_last_two : (p q : ℕ) (ks : List ℕ) → (has (p ∷ q ∷ ks) (last_two p q ks).0 ≡ true)
     × (has (p ∷ q ∷ ks) (last_two p q ks).1 ≡ true)
 has_last_two p q [] = (has_here p (q ∷ []), has_there p (q ∷ []) q (has_here q []))
-has_last_two p q (r ∷ ks) = let s = has_last_two q r ks in (
-  has_there p (q ∷ r ∷ ks) (last_two q r ks).0 s.0,
-  has_there p (q ∷ r ∷ ks) (last_two q r ks).1 s.1,
-)
+has_last_two p q (r ∷ ks) = grind (arith, has_there, (has_last_two q r ks))
 
 pub last_two_linked : (M : Map) (ls : List ℕ) (p q : ℕ) (ks : List ℕ) → Linked M ls (p ∷ q ∷ ks) →
     Candidate M ls (last_two p q ks).0 (last_two p q ks).1
@@ -55,13 +50,7 @@ last_two_linked M ls p q (r ∷ ks) l = last_two_linked M ls q r ks l.1
 
 pub has_last_where : (test : ℕ → Bool) (d : ℕ) (xs : List ℕ) → has (d ∷ xs) (last_where test d xs) ≡ true
 has_last_where test d [] = has_here d []
-has_last_where test d (x ∷ xs) =
-    cond_both (test x) x d (λ y. has (d ∷ x ∷ xs) (last_where test y xs) ≡ true)
-    (λ _. has_there d (x ∷ xs) (last_where test x xs) (has_last_where test x xs))
-    (λ _. elim (has_cases d xs (last_where test d xs) (has_last_where test d xs)) [
-      | inl e ↦ coe 0 1 (i. has (d ∷ x ∷ xs) (e i) ≡ true) (has_here d (x ∷ xs))
-      | inr h ↦ has_there d (x ∷ xs) (last_where test d xs) (has_there x xs (last_where test d xs) h)
-    ])
+has_last_where test d (x ∷ xs) = grind (arith, cond_both, has_there, has_cases, has_here, (has_last_where test x xs), (has_last_where test d xs))
 
 at_least : (M : Map) (ls : List ℕ) (test : ℕ → Bool) (d q : ℕ) (ks : List ℕ) → Linked M ls (q ∷ ks) → d ≤ q →
     d ≤ last_where test d (q ∷ ks)
@@ -101,9 +90,7 @@ none_before M ls test d p (q ∷ ks) l k i lt =
 
 find_each : (Q : ℕ → Type 0) (p : ℕ → Bool) (xs : List ℕ) (d : ℕ) → Each Q xs → Q d → Q (unwrap_or (find p xs) d)
 find_each Q p [] d h q = q
-find_each Q p (x ∷ xs) d h q =
-    cond_both (p x) (Some x) (find p xs) (λ o. Q (unwrap_or o d)) (λ _. Each-head Q x xs h)
-    (λ _. find_each Q p xs d (Each-tail Q x xs h) q)
+find_each Q p (x ∷ xs) d h q = grind (arith, cond_both, Each-head, Each-tail, (find_each Q p xs d (Each-tail Q x xs h) q))
 
 pub sector_below : (e n : ℤ) → sector e n < 32
 sector_below e n = find_each (λ k. k < 32) (λ k. lies_between (boundary k) (boundary (suc k)) (vector e n)) (up_to 32) 0

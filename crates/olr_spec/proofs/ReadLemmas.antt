@@ -1,16 +1,16 @@
 -- Bytes have no fault exactly if some reference encodes as them.
 use Rattle.std.proofs.Common.{inl, inr, ◌≡◌, ℕ, zero, suc, ◌+◌, ◌-◌, ◌*◌, ◌/◌, ◌%◌, ◌<◌, ◌≤◌, ℤ, pos, negsuc, ◌≤ℤ◌}
-use Rattle.std.proofs.Common.{Bool, true, false, cond, not, ◌||◌, List, ◌∷◌, ◌++◌, length, Option, Some, None, IfSome}
-use Rattle.std.proofs.Common.{IsTrue, refl, sym, ap, ◌∙◌, arith, nat_lt, nat_le, length-append, [], eqb-true, eq-eqb}
+use Rattle.std.proofs.Common.{Bool, false, cond, ◌||◌, List, ◌∷◌, ◌++◌, length, Option, Some, None, IfSome}
+use Rattle.std.proofs.Common.{IsTrue, refl, sym, ap, ◌∙◌, arith, nat_le, length-append, [], eqb-true, eq-eqb}
 use Rattle.std.proofs.Common.{leb-false, le-ltb, ltb-false, get_or-append-add, int_le, All, flat_map, slice_index}
-use Rattle.std.proofs.lemmas.Bool.{cases_lt, and_from, or_parts, lt-leb, not-false}
+use Rattle.std.proofs.lemmas.Bool.{cases_lt, and_from, or_parts, lt-leb, not-false, or_from, not_from_true}
 use Rattle.std.proofs.lemmas.Int.{ints}
 use Rattle.std.specs.List.{AllByRecursion, list_any}
 use Rattle.olr_spec.specs.Coordinates.{within, fits16}
 use Rattle.olr_spec.specs.Reference.{Attrs, First, Middle, Last, Reference}
 use Rattle.olr_spec.specs.Bytes.{AreAttrs, IsFirst, IsMiddle, IsLast, IsReference, fits24, residue, signed16, signed24}
 use Rattle.olr_spec.specs.Bytes.{attribute1, attr_bytes, first_bytes, middle_bytes, last_bytes, flag, offset_bytes}
-use Rattle.olr_spec.specs.Bytes.{status_byte, reference_bytes, HasBytes, V3Fault, Length, Status, Flags, Reserved}
+use Rattle.olr_spec.specs.Bytes.{status_byte, reference_bytes, HasBytes, V3Fault}
 use Rattle.olr_spec.specs.Bytes.{extra, bit, flags_of, attribute1_bytes, v3_fault}
 use Rattle.olr_spec.specs.Laws.{NoFault}
 use Rattle.olr_spec.proofs.SectorLemmas.{le_test}
@@ -22,10 +22,6 @@ AreBytes xs = AllByRecursion (λ x. x < 256) xs
 are_bytes : (xs : List ℕ) → All (λ x. x < 256) xs → AreBytes xs
 are_bytes [] h = tt
 are_bytes (x ∷ xs) h = (h 0 x (omega arith), are_bytes xs (λ k d lt. h (suc k) d (omega arith)))
-
-bytes_before : (xs ys : List ℕ) → AreBytes (xs ++ ys) → AreBytes xs
-bytes_before [] ys h = tt
-bytes_before (x ∷ xs) ys h = (h.0, bytes_before xs ys h.1)
 
 -- ---- decoded fields
 
@@ -63,9 +59,9 @@ read_attrs a b c la lb lc =
       λ i. p i ∷ q i ∷ c ∷ [],
     )
 
-read_first : (a b c d e f g h k : ℕ) → AreBytes (a ∷ b ∷ c ∷ d ∷ e ∷ f ∷ g ∷ h ∷ k ∷ []) → g < 64 → (p : First)
+read_first : (a b c d e f g h k : ℕ) (t : List ℕ) → AreBytes (a ∷ b ∷ c ∷ d ∷ e ∷ f ∷ g ∷ h ∷ k ∷ t) → g < 64 → (p : First)
     × IsFirst p × (first_bytes p ≡ a ∷ b ∷ c ∷ d ∷ e ∷ f ∷ g ∷ h ∷ k ∷ [])
-read_first a b c d e f g h k w lt =
+read_first a b c d e f g h k t w lt =
     let lon = read24 a b c w.0 w.1.0 w.1.1.0 in
     let rest = w.1.1.1 in
     let lat = read24 d e f rest.0 rest.1.0 rest.1.1.0 in
@@ -75,9 +71,9 @@ read_first a b c d e f g h k w lt =
       λ i. lon.2 i ++ lat.2 i ++ attrs.2 i,
     )
 
-read_middle : (a b c d e f g : ℕ) → AreBytes (a ∷ b ∷ c ∷ d ∷ e ∷ f ∷ g ∷ []) → e < 64 → (p : Middle) × IsMiddle p
+read_middle : (a b c d e f g : ℕ) (t : List ℕ) → AreBytes (a ∷ b ∷ c ∷ d ∷ e ∷ f ∷ g ∷ t) → e < 64 → (p : Middle) × IsMiddle p
     × (middle_bytes p ≡ a ∷ b ∷ c ∷ d ∷ e ∷ f ∷ g ∷ [])
-read_middle a b c d e f g w lt =
+read_middle a b c d e f g t w lt =
     let lon = read16 a b w.0 w.1.0 in
     let rest = w.1.1 in
     let lat = read16 c d rest.0 rest.1.0 in
@@ -92,91 +88,73 @@ read_middle a b c d e f g w lt =
 -- attribute bytes after other bytes
 attributes_behind : (xs ys : List ℕ) (i n : ℕ) → attribute1_bytes (xs ++ ys) (length xs + i) n ≡ attribute1_bytes ys i n
 attributes_behind xs ys i zero = refl
-attributes_behind xs ys i (suc n) =
-    let here = get_or-append-add xs ys i 0 in
-    let on : length xs + i + 7 ≡ length xs + (i + 7) = omega arith in
-    λ j. here j ∷ (ap (λ (k : ℕ). attribute1_bytes (xs ++ ys) k n) on ∙ attributes_behind xs ys (i + 7) n) j
+attributes_behind xs ys i (suc n) = grind (arith, get_or-append-add, (attributes_behind xs ys (i + 7) n))
 
 abbrev reserved : List ℕ → Bool
 reserved xs = list_any (λ a. nat_le 64 a) xs
 
 -- ---- the LRPs after the first, and the offsets
 
--- the bytes t are those of some LRPs after the first, up to the end
-record Points (t : List ℕ) : Type 0 where
-  middle : List Middle
-  last : Last
-  positive : Option ℕ
-  negative : Option ℕ
-  are_middle : AllByRecursion IsMiddle middle
-  is_last : IsLast last
-  is_positive : IfSome positive (λ n. n < 256)
-  is_negative : IfSome negative (λ n. n < 256)
-  encoded : t ≡ flat_map middle_bytes middle ++ last_bytes last positive negative
+-- the bytes t are those of a reference after its first LRP, which is p
+abbrev Ends : First → List ℕ → Type 0
+Ends p t =
+    (r : Reference) × IsReference r × (r.first ≡ p) × (t ≡ flat_map middle_bytes r.middle ++ last_bytes r.last r.pos r.neg)
 
--- the last LRP, with the flags of the offsets
-last_with : (a b c d f g : ℕ) (positive negative : Option ℕ) → AreBytes (a ∷ b ∷ c ∷ d ∷ f ∷ g ∷ []) → f < 64 →
-    64 * flag positive + 32 * flag negative + g % 32 ≡ g → IfSome positive (λ n. n < 256) → IfSome negative (λ n. n < 256) →
-    Points (a ∷ b ∷ c ∷ d ∷ f ∷ g ∷ (offset_bytes positive ++ offset_bytes negative))
-last_with a b c d f g positive negative w lt e p n =
-    let lon = read16 a b w.0 w.1.0 in
-    let rest = w.1.1 in
-    let lat = read16 c d rest.0 rest.1.0 in
-    let first : 8 * (f / 8) + f % 8 ≡ f = omega arith in
-    record {
-      middle = [];
-      last = record { dlon = lon.0; dlat = lat.0; frc = f / 8; fow = f % 8; bearing = g % 32 };
-      positive = positive;
-      negative = negative;
-      are_middle = tt;
-      is_last = record { dlon = lon.1; dlat = lat.1; frc = omega arith; fow = omega arith; bearing = omega arith };
-      is_positive = p;
-      is_negative = n;
-      encoded = sym (λ i. lon.2 i ++ lat.2 i ++ first i ∷ e i ∷ (offset_bytes positive ++ offset_bytes negative));
-    }
+offsets_fit : (positive negative : Option ℕ) → AreBytes (offset_bytes positive ++ offset_bytes negative) →
+    IfSome positive (λ n. n < 256) × IfSome negative (λ n. n < 256)
+offsets_fit positive negative w = grind arith
 
-read_last : (a b c d f g : ℕ) (rest : List ℕ) → AreBytes (a ∷ b ∷ c ∷ d ∷ f ∷ g ∷ rest) → f < 64 → g < 128 →
-    bit 6 g + bit 5 g ≡ length rest → Points (a ∷ b ∷ c ∷ d ∷ f ∷ g ∷ rest)
-read_last a b c d f g [] w lf lg e = last_with a b c d f g None None w lf (omega arith) tt tt
-read_last a b c d f g (h ∷ []) w lf lg e =
-    let front : AreBytes (a ∷ b ∷ c ∷ d ∷ f ∷ g ∷ []) = bytes_before (a ∷ b ∷ c ∷ d ∷ f ∷ g ∷ []) (h ∷ []) w in
-    let off = w.1.1.1.1.1.1.0 in
-    elim (cases_lt g 64) [
-      | inl low ↦ last_with a b c d f g None (Some h) front lf (omega arith) tt off
-      | inr high ↦ last_with a b c d f g (Some h) None front lf (omega arith) off tt
-    ]
-read_last a b c d f g (h ∷ k ∷ []) w lf lg e =
-    let front : AreBytes (a ∷ b ∷ c ∷ d ∷ f ∷ g ∷ []) = bytes_before (a ∷ b ∷ c ∷ d ∷ f ∷ g ∷ []) (h ∷ k ∷ []) w in
-    let offs = w.1.1.1.1.1.1 in
-    last_with a b c d f g (Some h) (Some k) front lf (omega arith) offs.0 offs.1.0
-read_last a b c d f g (h ∷ k ∷ l ∷ rest) w lf lg e = absurd (omega arith)
+module _ (p : First) (is : IsFirst p) where
+  -- the last LRP, with the flags of the offsets
+  last_with : (a b c d f g : ℕ) (positive negative : Option ℕ) →
+      AreBytes (a ∷ b ∷ c ∷ d ∷ f ∷ g ∷ (offset_bytes positive ++ offset_bytes negative)) → f < 64 →
+      64 * flag positive + 32 * flag negative + g % 32 ≡ g →
+      Ends p (a ∷ b ∷ c ∷ d ∷ f ∷ g ∷ (offset_bytes positive ++ offset_bytes negative))
+  last_with a b c d f g positive negative w lt e =
+      let lon = read16 a b w.0 w.1.0 in
+      let rest = w.1.1 in
+      let lat = read16 c d rest.0 rest.1.0 in
+      let first : 8 * (f / 8) + f % 8 ≡ f = omega arith in
+      let l : Last = record { dlon = lon.0; dlat = lat.0; frc = f / 8; fow = f % 8; bearing = g % 32 } in
+      let fits = offsets_fit positive negative rest.1.1.1.1 in
+      let is_last : IsLast l =
+      record { dlon = lon.1; dlat = lat.1; frc = omega arith; fow = omega arith; bearing = omega arith } in (
+        record { first = p; middle = []; last = l; pos = positive; neg = negative },
+        record { first = is; middle = tt; last = is_last; pos = fits.0; neg = fits.1 },
+        refl,
+        sym (λ i. lon.2 i ++ lat.2 i ++ first i ∷ e i ∷ (offset_bytes positive ++ offset_bytes negative)),
+      )
 
--- m LRPs before the last
-read_points : (m : ℕ) (t : List ℕ) → AreBytes t → 7 * m + 6 ≤ length t →
-    bit 6 (slice_index t (7 * m + 5)) + bit 5 (slice_index t (7 * m + 5)) ≡ length t - (7 * m + 6)
-    → slice_index t (7 * m + 5) < 128 → reserved (attribute1_bytes t 4 (suc m)) ≡ false → Points t
-read_points zero (a ∷ b ∷ c ∷ d ∷ f ∷ g ∷ rest) w long flags top free = grind (arith, leb-false, or_parts, read_last)
-read_points (suc m) (a ∷ b ∷ c ∷ d ∷ e ∷ f ∷ g ∷ t) w long flags top free =
-    let cut : List ℕ = a ∷ b ∷ c ∷ d ∷ e ∷ f ∷ g ∷ [] in
-    let parts = or_parts (nat_le 64 e) (reserved (attribute1_bytes (cut ++ t) 11 (suc m))) free in
-    let p = read_middle a b c d e f g (bytes_before cut t w) (leb-false 64 e parts.0) in
-    let place : 7 * suc m + 5 ≡ 7 + (7 * m + 5) = omega arith in
-    let same = ap (slice_index (cut ++ t)) place ∙ get_or-append-add cut t (7 * m + 5) 0 in
-    let left : suc (suc (suc (suc (suc (suc (suc (length t))))))) - (7 * suc m + 6) ≡ length t - (7 * m + 6) = omega arith in
-    let rest = read_points m t w.1.1.1.1.1.1.1 (omega arith) (ap (λ (x : ℕ). bit 6 x + bit 5 x) (sym same) ∙ flags ∙ left)
-    (coe 0 1 (i. (same i) < 128) top) (ap reserved (sym (attributes_behind cut t 4 (suc m))) ∙ parts.1) in
-    record {
-      middle = p.0 ∷ rest.middle;
-      last = rest.last;
-      positive = rest.positive;
-      negative = rest.negative;
-      are_middle = (p.1, rest.are_middle);
-      is_last = rest.is_last;
-      is_positive = rest.is_positive;
-      is_negative = rest.is_negative;
-      encoded = λ i. sym p.2 i ++ rest.encoded i;
-    }
-read_points _ _ w long flags top free = absurd (omega arith)
+  read_last : (a b c d f g : ℕ) (rest : List ℕ) → AreBytes (a ∷ b ∷ c ∷ d ∷ f ∷ g ∷ rest) → f < 64 → g < 128 →
+      bit 6 g + bit 5 g ≡ length rest → Ends p (a ∷ b ∷ c ∷ d ∷ f ∷ g ∷ rest)
+  read_last a b c d f g [] w lf lg e = last_with a b c d f g None None w lf (omega arith)
+  read_last a b c d f g (h ∷ []) w lf lg e = elim (cases_lt g 64) [
+    | inl low ↦ last_with a b c d f g None (Some h) w lf (omega arith)
+    | inr high ↦ last_with a b c d f g (Some h) None w lf (omega arith)
+  ]
+  read_last a b c d f g (h ∷ k ∷ []) w lf lg e = last_with a b c d f g (Some h) (Some k) w lf (omega arith)
+  read_last a b c d f g (h ∷ k ∷ l ∷ rest) w lf lg e = absurd (omega arith)
+
+  -- m LRPs before the last
+  read_points : (m : ℕ) (t : List ℕ) → AreBytes t → 7 * m + 6 ≤ length t →
+      bit 6 (slice_index t (7 * m + 5)) + bit 5 (slice_index t (7 * m + 5)) ≡ length t - (7 * m + 6)
+      → slice_index t (7 * m + 5) < 128 → reserved (attribute1_bytes t 4 (suc m)) ≡ false → Ends p t
+  read_points zero (a ∷ b ∷ c ∷ d ∷ f ∷ g ∷ rest) w long flags top free = grind (arith, leb-false, or_parts, read_last)
+  read_points (suc m) (a ∷ b ∷ c ∷ d ∷ e ∷ f ∷ g ∷ t) w long flags top free =
+      let cut : List ℕ = a ∷ b ∷ c ∷ d ∷ e ∷ f ∷ g ∷ [] in
+      let parts = or_parts (nat_le 64 e) (reserved (attribute1_bytes (cut ++ t) 11 (suc m))) free in
+      let q = read_middle a b c d e f g t w (leb-false 64 e parts.0) in
+      let place : 7 * suc m + 5 ≡ 7 + (7 * m + 5) = omega arith in
+      let same = ap (slice_index (cut ++ t)) place ∙ get_or-append-add cut t (7 * m + 5) 0 in
+      let left : suc (suc (suc (suc (suc (suc (suc (length t))))))) - (7 * suc m + 6) ≡ length t - (7 * m + 6) = omega arith in
+      let rest = read_points m t w.1.1.1.1.1.1.1 (omega arith) (ap (λ (x : ℕ). bit 6 x + bit 5 x) (sym same) ∙ flags ∙ left)
+      (coe 0 1 (i. (same i) < 128) top) (ap reserved (sym (attributes_behind cut t 4 (suc m))) ∙ parts.1) in (
+        record rest.0 { middle = q.0 ∷ rest.0.middle },
+        record { first = rest.1.first; middle = (q.1, rest.1.middle); last = rest.1.last; pos = rest.1.pos; neg = rest.1.neg },
+        rest.2,
+        λ i. sym q.2 i ++ rest.3 i,
+      )
+  read_points _ _ w long flags top free = absurd (omega arith)
 
 -- ---- bytes without a fault
 
@@ -195,25 +173,28 @@ record Passes (b : List ℕ) : Type 0 where
 passes : (b : List ℕ) → v3_fault b ≡ None → Passes b
 passes b e = grind (arith, no_fault, or_parts, ltb-false, eqb-true, not-false, leb-false)
 
+no_fault_where : (b : Bool) (f : V3Fault) (o : Option V3Fault) → b ≡ false → o ≡ None → cond b (Some f) o ≡ None
+no_fault_where b f o e h = grind arith
+
+no_fault_from : (b : List ℕ) → Passes b → v3_fault b ≡ None
+no_fault_from b p = grind (arith, no_fault_where, or_from, le-ltb, eq-eqb, not_from_true, lt-leb)
+
 -- the first ten bytes, and the others
 read_bytes : (b : List ℕ) → AreBytes b → Passes b → (r : Reference) × HasBytes r b
 read_bytes (s ∷ a ∷ b ∷ c ∷ d ∷ e ∷ f ∷ g ∷ k ∷ l ∷ t) w p =
     let cut : List ℕ = s ∷ a ∷ b ∷ c ∷ d ∷ e ∷ f ∷ g ∷ k ∷ l ∷ [] in
     let m : ℕ = (length (cut ++ t) - 16) / 7 in
     let parts = or_parts (nat_le 64 g) (reserved (attribute1_bytes (cut ++ t) 14 (m + 1))) p.free in
-    let first = read_first a b c d e f g k l (bytes_before cut t w).1 (leb-false 64 g parts.0) in
+    let first = read_first a b c d e f g k l t w.1 (leb-false 64 g parts.0) in
     let place : length (cut ++ t) - 1 - extra (cut ++ t) ≡ 10 + (7 * m + 5) = omega arith in
     let same = ap (slice_index (cut ++ t)) place ∙ get_or-append-add cut t (7 * m + 5) 0 in
     let left : extra (cut ++ t) ≡ length t - (7 * m + 6) = omega arith in
     let count : m + 1 ≡ suc m = omega arith in
-    let rest = read_points m t w.1.1.1.1.1.1.1.1.1.1 (omega arith) (ap (λ (x : ℕ). bit 6 x + bit 5 x) (sym same) ∙ p.flags ∙ left)
+    let rest = read_points first.0 first.1 m t w.1.1.1.1.1.1.1.1.1.1 (omega arith) (ap (λ (x : ℕ). bit 6 x + bit 5 x) (sym same) ∙ p.flags ∙ left)
     (coe 0 1 (i. (same i) < 128) p.top)
     (ap reserved (sym (attributes_behind cut t 4 (suc m)) ∙ ap (attribute1_bytes (cut ++ t) 14) (sym count)) ∙ parts.1) in (
-      record { first = first.0; middle = rest.middle; last = rest.last; pos = rest.positive; neg = rest.negative },
-      (
-        assumption first.1,
-        λ i. p.status i ∷ sym first.2 i ++ rest.encoded i,
-      ),
+      rest.0,
+      (rest.1, λ i. p.status i ∷ (sym first.2 ∙ ap first_bytes (sym rest.2)) i ++ rest.3 i),
     )
 read_bytes _ w p = absurd (omega arith)
 
@@ -254,17 +235,18 @@ encoded_passes r h =
     let flags = ap (slice_index b) place ∙ get_or-append-add cut (middles ++ ends) (length middles + 5) 0
     ∙ get_or-append-add middles ends 5 0 in
     let bearing = h.last.bearing in
-    let sum : bit 6 (flags_of b) + bit 5 (flags_of b) ≡ extra b = omega (arith, flag_below r.pos, flag_below r.neg) in
-    let long : nat_lt (length b) 16 ≡ false = le-ltb (length b) 16 (omega arith) in
-    let low : nat_le 64 (slice_index b 7) ≡ false = lt-leb 64 (slice_index b 7) (omega arith) in
-    let clear : reserved (attribute1_bytes b 14 ((length b - 16) / 7 + 1)) ≡ false =
-    ap (λ (k : ℕ). reserved (attribute1_bytes b 14 k)) count ∙ ap reserved (attributes_behind cut (middles ++ ends) 4 (suc m))
+    let low = lt-leb 64 (slice_index b 7) (omega arith) in
+    let clear = ap (λ (k : ℕ). reserved (attribute1_bytes b 14 k)) count
+    ∙ ap reserved (attributes_behind cut (middles ++ ends) 4 (suc m))
     ∙ unreserved r.middle r.last r.pos r.neg h.middle h.last in
-    let top : nat_le 128 (flags_of b) ≡ false = lt-leb 128 (flags_of b) (omega (arith, flag_below r.pos, flag_below r.neg)) in
-    λ i. cond (long i || (le-ltb 2 (extra b) (omega arith)) i) (Some Length) (cond (not true) (Some Status)
-    (cond (not (eq-eqb (bit 6 (flags_of b) + bit 5 (flags_of b)) (extra b) sum i)) (Some Flags)
-    (cond ((low i || clear i) || top i) (Some Reserved) None)))
+    no_fault_from b (record {
+      long = omega arith;
+      few = omega arith;
+      status = refl;
+      flags = omega (arith, flag_below r.pos, flag_below r.neg);
+      free = λ i. low i || clear i;
+      top = omega (arith, flag_below r.pos, flag_below r.neg);
+    })
 
 pub no_fault_where_encoded : NoFault
-no_fault_where_encoded b h =
-    ((λ e. read_bytes b (are_bytes b h) (passes b e)), (λ p. ap v3_fault p.1.1 ∙ encoded_passes p.0 p.1.0))
+no_fault_where_encoded b h = grind (arith, read_bytes, are_bytes, passes, encoded_passes)

@@ -5,8 +5,10 @@ use Rattle.std.proofs.Common.{Option, unwrap_or, cond, [], nat_lt, ◌==◌, ◌
 use Rattle.std.proofs.Common.{le-ltb}
 use Rattle.std.specs.Bool.{⊤}
 use Rattle.std.specs.List.{concat, AllZip}
+use Rattle.std.proofs.Common.{get_or}
 use Rattle.std.proofs.lemmas.List.{get_or-map}
-use Rattle.std.proofs.lemmas.Bool.{cases_lt, or_cases, or_left, or_right, and_parts, and_from}
+use Rattle.std.proofs.lemmas.List.Sums.{AllPass-from_list_all, list_all-from_AllPass}
+use Rattle.std.proofs.lemmas.Bool.{cases_lt, or_cases, or_left, or_right}
 use Rattle.olr_spec.specs.Map.{Map, IsMap, coord_at, start, end}
 use Rattle.olr_spec.specs.Extension.{Path, is_path, none_twice, extended_path, first, last, AreJoined}
 use Rattle.olr_spec.specs.Points.{stretch, OfPath, node_at}
@@ -128,11 +130,8 @@ module _ (M : Map) (m : IsMap M) (ls : List ℕ) (known : Each (Known M) ls) whe
 
   steps_of : (h i : ℕ) (js : List ℕ) → AllZip (λ a w. IsStep a (dm_of M w))
       (attrs (legs M ls) h i ∷ map (λ (p : Middle). p.attrs) (middle_points (legs M ls) h i js)) (stretches ls (h ∷ i ∷ js))
-  steps_of h i [] =
-      let same = dm_same M m ls known h i in (record { low = omega arith; high = omega arith }, tt)
-  steps_of h i (j ∷ js) =
-      let same = dm_same M m ls known h i in
-      (record { low = omega arith; high = omega arith }, steps_of i j js)
+  steps_of h i [] = grind (arith, dm_same)
+  steps_of h i (j ∷ js) = grind (arith, dm_same, (steps_of i j js))
 
   -- what remains of the offsets, front and back, is near to what their bytes cut off from the first leg and the last
   abbrev Cuts : ℕ → List (List ℕ) → Reference → ℕ → ℕ → Type 0
@@ -143,8 +142,7 @@ module _ (M : Map) (m : IsMap M) (ls : List ℕ) (known : Each (Known M) ls) whe
   cut_close : (left a b n : ℕ) → a < b → a < length ls → 0 < n → (c : ℕ) →
       IsCut n (dm_of M (stretch ls a b)) (offset left (dm_between (legs M ls) a b)) c →
       IsClose n (dm_of M (stretch ls a b)) left c
-  cut_close left a b n lt h some c =
-      rw (dm_same M m ls known a b) (offset_close n (dm_of M (stretch ls a b)) left c some (some_length a b lt h))
+  cut_close left a b n lt h some c = grind (arith, dm_same, offset_close, some_length)
 
   cuts_close : (p q h i : ℕ) (js : List ℕ) → Linked M ls (h ∷ i ∷ js) → (n : ℕ) → 0 < n →
       Cuts n (stretches ls (h ∷ i ∷ js)) (reference_by_kept (legs M ls) p q h i js) p q
@@ -182,16 +180,19 @@ at_end M m ls known joined i some up = elim (cases_lt i (length ls)) [
 
 spaced_nearest : (n d scale : ℕ) (far : Measure) → IsWeighted n d scale far → (k : ℕ) (p : ℤ × ℤ) (s : Side) (g : Leg) →
     IsNear k p (coordinate_on s g) → (cs : List (ℕ × Leg)) → IsTrue (are_spaced n d k s g cs) → IsTrue (is_nearest far s p g cs)
-spaced_nearest n d scale far w k p s g near [] a = refl
-spaced_nearest n d scale far w k p s g near (c ∷ cs) a =
-    let here = coordinate_on s g in
-    let there = coordinate_on s c.1 in
-    let parts = and_parts (node_on s c.1 == node_on s g || is_spaced n d k here there) (are_spaced n d k s g cs) a in
-    and_from (node_on s c.1 == node_on s g || nat_lt (far p here) (far p there)) (is_nearest far s p g cs)
-    (elim (or_cases (node_on s c.1 == node_on s g) (is_spaced n d k here there) parts.0) [
-      | inl e ↦ or_left _ _ e
-      | inr f ↦ or_right _ _ (lt-ltb (far p here) (far p there) (nearer n d scale far w k p here there near f))
-    ]) (spaced_nearest n d scale far w k p s g near cs parts.1)
+spaced_nearest n d scale far w k p s g near cs a =
+    list_all-from_AllPass _ cs (λ j x lt. here (get_or cs j x) (AllPass-from_list_all _ cs a j x lt))
+  where
+    here : (c : ℕ × Leg) → IsTrue (node_on s c.1 == node_on s g || is_spaced n d k (coordinate_on s g) (coordinate_on s c.1)) →
+        IsTrue (node_on s c.1 == node_on s g || nat_lt (far p (coordinate_on s g)) (far p (coordinate_on s c.1)))
+    here c t = grind (
+      arith,
+      or_cases,
+      or_left,
+      or_right,
+      lt-ltb,
+      nearer n d scale far w k p (coordinate_on s g) (coordinate_on s c.1) near,
+    )
 
 -- ---- an answer
 

@@ -35,8 +35,7 @@ greatest_from M a (x ∷ xs) = omega (arith, greatest_from M (max a (line_at M x
 
 pub within_greatest : (M : Map) (a : ℕ) (xs : List ℕ) → Within M (fold max a (map (λ (g : Leg). g.line.frc) (legs M xs))) xs
 within_greatest M a [] = tt
-within_greatest M a (x ∷ xs) =
-    (omega (arith, greatest_from M (max a (line_at M x).frc) xs), within_greatest M (max a (line_at M x).frc) xs)
+within_greatest M a (x ∷ xs) = grind (arith, greatest_from, (within_greatest M (max a (line_at M x).frc) xs))
 
 -- ---- a unique shortest path is the only shortest route over any lines that include it
 
@@ -125,5 +124,4 @@ pub once_apart : (ls : List ℕ) (i j : ℕ) → none_twice ls ≡ true → i < 
 once_apart [] i j o lt h e = absurd (omega arith)
 once_apart (x ∷ ls) i zero o lt h e = absurd (omega arith)
 once_apart (x ∷ ls) zero (suc j) o lt h e = grind (arith, and_parts, both_ways, not-true, has_index)
-once_apart (x ∷ ls) (suc i) (suc j) o lt h e =
-    once_apart ls i j (and_parts (not (has ls x)) (none_twice ls) o).1 (omega arith) (omega arith) e
+once_apart (x ∷ ls) (suc i) (suc j) o lt h e = grind (arith, and_parts, (once_apart ls i j (and_parts (not (has ls x)) (none_twice ls) o).1 (omega arith) (omega arith) e))

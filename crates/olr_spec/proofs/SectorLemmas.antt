@@ -104,11 +104,7 @@ of_quarter _ lt e n = absurd (omega arith)
 
 in_quarter : (q j : ℕ) → q < 4 → j < 8 → (e n : ℤ) → Stays q j e n
 in_quarter zero j lq lj e n = of_quarter j lj e n
-in_quarter (suc q) j lq lj e n =
-    let here = side_on e n q j (omega arith) (omega arith) in
-    let next = side_on e n q (suc j) (omega arith) (omega arith) in
-    coe 1 0 (i. ((pos 0 ≤ℤ here i) × (next i <ℤ pos 0) → InQuadrant (suc q) e n)
-    × (InQuadrant (suc q) e n → here i <ℤ pos 0 → next i <ℤ pos 0)) (in_quarter q j (omega arith) lj (neg_ℤ n) e)
+in_quarter (suc q) j lq lj e n = grind (arith, side_on, (in_quarter q j (omega arith) lj (neg_ℤ n) e))
 
 by_quarter : (k : ℕ) → k < 32 → (e n : ℤ) → (At k e n → InQuadrant (k / 8) e n)
     × (InQuadrant (k / 8) e n → side e n k <ℤ pos 0 → side e n (suc k) <ℤ pos 0)
@@ -122,12 +118,7 @@ by_quarter k lt e n =
 -- the directions of a quarter are on its first boundary or clockwise of it, and before the first of the next quarter
 turns : (q : ℕ) → q < 4 → (e n : ℤ) → InQuadrant q e n → (pos 0 ≤ℤ side e n (q * 8)) × (side e n (q * 8 + 8) <ℤ pos 0)
 turns zero lq e n h = omega (arith, ints)
-turns (suc q) lq e n h =
-    let r = turns q (omega arith) (neg_ℤ n) e h in
-    let start : suc q * 8 ≡ q * 8 + 8 = omega arith in (
-      subst (λ (z : ℤ). pos 0 ≤ℤ z) (sym (ap (side e n) start ∙ side_turned (q * 8) (omega arith) e n)) r.0,
-      subst (λ (z : ℤ). z <ℤ pos 0) (sym (side_on e n q 8 (omega arith) (omega arith))) r.1,
-    )
+turns (suc q) lq e n h = grind (arith, side_turned, side_on, (turns q (omega arith) (neg_ℤ n) e h))
 
 -- ---- at most one sector
 

@@ -25,16 +25,13 @@ module _ {X : Type 0} (m : FinMap nat_cmp X) (k : ℕ) where
   ])
 
   drop_added : (v : X) → get m k ≡ None → remove (insert m k v) k ≡ m
-  drop_added v e = restored (remove (insert m k v) k) (left_same (insert m k v) k ∙ sym e)
-      (λ q ne. left_other (insert m k v) k q ne ∙ got_other m k v q ne)
+  drop_added v e = restored (remove (insert m k v) k) (grind (arith, left_same)) (λ q ne. grind (arith, left_other, got_other))
 
   put_back : (v : X) → get m k ≡ Some v → insert (remove m k) k v ≡ m
-  put_back v e = restored (insert (remove m k) k v) (got_same (remove m k) k v ∙ sym e)
-      (λ q ne. got_other (remove m k) k v q ne ∙ left_other m k q ne)
+  put_back v e = restored (insert (remove m k) k v) (grind (arith, got_same)) (λ q ne. grind (arith, left_other, got_other))
 
   set_back : (v w : X) → get m k ≡ Some v → insert (insert m k w) k v ≡ m
-  set_back v w e = restored (insert (insert m k w) k v) (got_same (insert m k w) k v ∙ sym e)
-      (λ q ne. got_other (insert m k w) k v q ne ∙ got_other m k w q ne)
+  set_back v w e = restored (insert (insert m k w) k v) (grind (arith, got_same)) (λ q ne. grind (arith, got_other))
 
 -- ---- tests
 

@@ -32,6 +32,4 @@ pub next_start : (M : Map) (s t : ℕ) (ls : List ℕ) (p : ℕ) → IsRoute M s
 next_start M s t [] p w h = absurd (omega arith)
 next_start M s t (x ∷ []) p w h = absurd (omega arith)
 next_start M s t (x ∷ y ∷ ls) zero w h = sym w.2.1
-next_start M s t (x ∷ y ∷ ls) (suc p) w h =
-    let n : suc p + 1 ≡ suc (p + 1) = omega arith in
-    next_start M (end M x) t (y ∷ ls) p w.2 (omega arith) ∙ ap (λ (k : ℕ). start M (slice_index (x ∷ y ∷ ls) k)) (sym n)
+next_start M s t (x ∷ y ∷ ls) (suc p) w h = grind (arith, (next_start M (end M x) t (y ∷ ls) p w.2 (omega arith)))
