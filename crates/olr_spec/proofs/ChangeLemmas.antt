@@ -11,7 +11,7 @@ use Rattle.olr_spec.specs.Detours.{ChangedLine, changes_of, IsChangedLine, Accou
 use Rattle.olr_spec.specs.Laws.{EditsDiffer, NoDifference, DifferencesAdd}
 use Rattle.olr_spec.specs.Coordinates.{Coord}
 use Rattle.olr_spec.proofs.AgreeLemmas.{same_known, same_start, same_end, same_dm, known_record}
-use Rattle.olr_spec.proofs.EditLemmas.{edits_are_local, edit_laws}
+use Rattle.olr_spec.proofs.EditLemmas.{edits_are_local, other_lines, edit_laws}
 use Rattle.olr_spec.proofs.ListLemmas.{Contains-here}
 
 -- ---- one edit
@@ -47,13 +47,10 @@ edit_differs M N e p =
     record {
       nodes = λ v off. (edits_are_local M N e [] (λ u. has (touched_nodes M e) u ≡ false) p
           (λ u on off. both_ways (has (touched_nodes M e) u) off on) (λ x on. refl)).nodes v off;
-      lines = λ x off. (edits_are_local M N e (x ∷ []) (λ u. ⊥) p (λ u on f. f) (λ y on. other x y off on)).lines.0;
+      lines = other_lines M N e p;
       there = accounted.0;
       here = accounted.1;
     }
-  where
-    other : (x y : ℕ) → has (touched_lines e) x ≡ false → has (touched_lines e) y ≡ true → has (x ∷ []) y ≡ false
-    other x y off on = grind (arith, both_ways, ne_eqb)
 
 -- ---- no difference
 
