@@ -18,7 +18,7 @@ use Rattle.std.proofs.lemmas.List.Edits.{length-insert, get_or-insert_at, get_or
 use Rattle.std.proofs.lemmas.List.Elements.{Contains-append_cases, Contains-append_right}
 use Rattle.std.proofs.lemmas.List.Folds.{list_any_at}
 use Rattle.olr_spec.specs.Map.{has}
-use Rattle.olr_spec.proofs.ListLemmas.{Contains-one}
+use Rattle.olr_spec.proofs.ListLemmas.{Contains-cases, Contains-later}
 
 -- ---- where a search finds a number
 
@@ -72,24 +72,7 @@ there_found xs x (Err i) h c = absurd (not_among xs x i h c)
 
 pub insert_ascends : (xs : List ℕ) (x i : ℕ) → IsStrictlyIncreasing xs → IsSearchResult xs x (Err i) →
     IsStrictlyIncreasing (insert xs i x)
-insert_ascends xs x i up h k lt =
-    let back : i < k → k - 1 + 1 ≡ k = λ l. omega arith in
-    grind (
-      arith,
-      cases_order k i,
-      cases_eq (k + 1) i,
-      length-insert xs i x h.0,
-      get_or-insert_at xs i x 0 h.0,
-      get_or-insert_below xs i x 0 k,
-      get_or-insert_below xs i x 0 (k + 1),
-      get_or-insert_above xs i x 0 k,
-      get_or-insert_above xs i x 0 (k - 1),
-      h.1 k,
-      h.2 k,
-      h.2 (k - 1),
-      up k,
-      up (k - 1),
-    )
+insert_ascends xs x i up h k lt = grind (arith, cases_order k i, cases_eq (k + 1) i, length-insert xs i x h.0, get_or-insert_at xs i x 0 h.0, get_or-insert_below xs i x 0 k, get_or-insert_below xs i x 0 (k + 1), get_or-insert_above xs i x 0 k, get_or-insert_above xs i x 0 (k - 1))
 
 -- a number above all of them, at the end
 pub ascends_push : (xs : List ℕ) (x : ℕ) → IsStrictlyIncreasing xs → ((k : ℕ) → k < length xs → get_or xs k 0 < x) →
@@ -101,16 +84,12 @@ pub has-insert : (xs : List ℕ) (i x n : ℕ) → has (insert xs i x) n ≡ ((x
 has-insert xs i x n = sym (list_any-IsPermutation (λ y. y == n) (x ∷ xs) (insert xs i x) (IsPermutation-insert xs i x))
 
 pub insert_adds : (xs : List ℕ) (x i n : ℕ) → Contains (insert xs i x) n → Contains xs n ⊎ (n ≡ x)
-insert_adds xs x i n c = ⊎_elim (λ (h : Contains (x ∷ []) n). inr (Contains-one x n h)) (λ (h : Contains xs n). inl h)
-    (Contains-append_cases (x ∷ []) xs n (Contains-permutation (insert xs i x) (x ∷ xs) n
-    (IsPermutation-sym (x ∷ xs) (insert xs i x) (IsPermutation-insert xs i x)) c))
+insert_adds xs x i n c = elim (Contains-cases x n xs (Contains-permutation (insert xs i x) (x ∷ xs) n
+    (IsPermutation-sym (x ∷ xs) (insert xs i x) (IsPermutation-insert xs i x)) c)) [ inl e ↦ inr (sym e) | inr h ↦ inl h ]
 
 pub insert_keeps : (xs : List ℕ) (x i n : ℕ) → Contains xs n ⊎ (n ≡ x) → Contains (insert xs i x) n
-insert_keeps xs x i n (inl h) =
-    Contains-permutation (x ∷ xs) (insert xs i x) n (IsPermutation-insert xs i x)
-    (Contains-append_right (x ∷ []) xs n h)
-insert_keeps xs x i n (inr e) =
-    Contains-permutation (x ∷ xs) (insert xs i x) n (IsPermutation-insert xs i x) (0, omega arith, sym e)
+insert_keeps xs x i n h = Contains-permutation (x ∷ xs) (insert xs i x) n (IsPermutation-insert xs i x)
+    (elim h [ inl c ↦ Contains-later x n xs c | inr e ↦ (0, omega arith, sym e) ])
 
 -- ---- one number less
 

@@ -4,7 +4,7 @@ use Rattle.std.proofs.Common.{inl, inr, ◌≡◌, ◌≢◌, ℕ, ◌+◌, ◌-
 use Rattle.std.proofs.Common.{◌↔◌, IsTrue, IsFalse, refl, sym, ap, ◌∙◌, subst, arith, nat_lt, ◌==◌, ◌*◌, ℤ, ◌-ℤ◌}
 use Rattle.std.proofs.Common.{nat_le, ◌/◌, cond, Some, None, eqb-true, eq-eqb, ltb-true, lt-ltb, le-ltb, leb-true}
 use Rattle.std.proofs.Common.{nat_abs}
-use Rattle.std.proofs.lemmas.Bool.{cases_Bool, cases_eq, cases_lt, both_ways, and_from, or_cases}
+use Rattle.std.proofs.lemmas.Bool.{cond_both, cases_Bool, cases_eq, cases_lt, both_ways, and_from, or_cases}
 use Rattle.std.specs.List.{list_all}
 use Rattle.std.proofs.Math.Nat.{mul-le-mul_left, mul-le-mul_right, mul-lt-mul_of_pos_left, le_of_mul-le-mul_left}
 use Rattle.std.proofs.Math.Nat.{mul-add, mul_left_comm, mul_assoc, mul_comm, mul-pos, div-mul-le_self, lt-div-mul-add}
@@ -28,11 +28,7 @@ use Rattle.olr_spec.proofs.OrderLemmas.{has_number}
 
 pub passes : (M : Map) (f : ℕ × Leg → Bool) → IsTrue (list_all f (candidates M)) → (y : ℕ) → IsTrue (has_line M y) →
     f (y, leg M y) ≡ true
-passes M f a y h =
-    let xs = lines_where M (λ _. true) in
-    let at = at_index xs y (has_number M y h) in
-    subst (λ (z : ℕ). f (z, leg M z) ≡ true) at.2 (AllPass-from_list_all (λ x. f (x, leg M x)) xs
-    (sym (list_all-map f (λ x. (x, leg M x)) xs) ∙ a) at.0 0 at.1)
+passes M f a y h = grind (arith, at_index, has_number M y h, AllPass-from_list_all, list_all-map f)
 
 -- ---- the path's own line
 
@@ -135,17 +131,9 @@ by_longitude n d scale u e D B f some unit least most h far g =
     let few : n ≤ d = le_of_mul-le-mul_left
     (let goal : scale * n ≤ scale * d = omega (arith, mul-le-mul_left d most, mul_comm n scale, mul_comm d scale) in
     goal) unit in
-    let split : n * D ≤ n * e + n * B = omega (arith, mul-le-mul_left n h, mul-add n e B) in
-    let kept : d * B + d * B ≤ n * e = omega (arith, mul-le-mul_right B few) in
-    let scaled : scale * (d * B + d * B) ≤ scale * (n * e) = mul-le-mul_left scale kept in
-    let sum = mul-add scale (d * B) (d * B) in
-    let turn = mul_left_comm scale d B in
-    let moved : scale * (n * e) ≡ n * scale * e =
-    mul_left_comm scale n e ∙ sym (mul_assoc n scale e) in
-    let cosine : n * scale * e ≤ d * u * e = mul-le-mul_right e least in
-    let last = mul_assoc d u e in
-    let both = mul-add d (scale * B) (scale * B) in
-    let all : d * (scale * B + scale * B) ≤ d * (u * e) = omega arith in
+    let kept : d * B + d * B ≤ n * e = omega (arith, mul-le-mul_left n h, mul-add n e B, mul-le-mul_right B few) in
+    let all : d * (scale * B + scale * B) ≤ d * (u * e) =
+    grind (arith, mul-le-mul_left scale kept, mul-le-mul_right e least) in
     omega (arith, le_of_mul-le-mul_left all some)
 
 -- ---- distances on an axis
@@ -180,18 +168,7 @@ nearer n d scale far w k p a b near spaced =
 -- ---- such measures exist
 
 pub some_weighted : SomeWeighted
-some_weighted n d h some = record {
-  some = some;
-  unit = some;
-  all = λ p c. record {
-    u = n;
-    least = omega (arith, mul_comm n d);
-    most = h;
-    by_lon = omega arith;
-    by_lat = omega arith;
-    by_both = omega arith;
-  };
-}
+some_weighted n d h some = grind (arith, mul_comm n d)
 
 -- the byte of what remains of an offset
 byte_close : (q s left c : ℕ) → 0 < q → 0 < s → IsCut q s (Some (256 * left / s)) c → IsClose q s left c
@@ -199,17 +176,11 @@ byte_close q s left c hq hs k =
     let b = 256 * left / s in
     let low_q : q * (b * s) ≤ q * (256 * left) = mul-le-mul_left q (div-mul-le_self (256 * left) s) in
     let high_q : q * (256 * left) < q * (b * s + s) = mul-lt-mul_of_pos_left (lt-div-mul-add hs) hq in
-    let turned = mul_left_comm q b s in
-    let turned_left = mul_left_comm q 256 left in
-    let sum = mul-add q (b * s) s in
-    record { below = omega arith; above = omega arith }
+    record { below = grind arith; above = grind arith }
 
 pub offset_close : (q s left c : ℕ) → 0 < q → 0 < s → IsCut q s (offset left s) c → IsClose q s left c
 offset_close q s left c hq hs =
-    elim (left == 0) as (λ b. (left == 0) ≡ b → IsCut q s (cond b None (Some (256 * left / s))) c → IsClose q s left c) [
-      | true ↦ λ e k.
-          let nothing : q * left ≡ 0 = ap (λ (n : ℕ). q * n) (eqb-true left 0 e) ∙ omega arith in
-          let some : 0 < q * s = mul-pos hq hs in
-          record { below = omega arith; above = omega arith }
-      | false ↦ λ e k. byte_close q s left c hq hs k
-    ] refl
+    cond_both (left == 0) None (Some (256 * left / s)) (λ o. IsCut q s o c → IsClose q s left c) (λ e k.
+    let nothing : q * left ≡ 0 = ap (λ (n : ℕ). q * n) (eqb-true left 0 e) ∙ omega arith in
+    let some : 0 < q * s = mul-pos hq hs in
+    record { below = omega arith; above = omega arith }) (λ _. byte_close q s left c hq hs)

@@ -82,12 +82,4 @@ not_either : (xs ys : List ℕ) (v : ℕ) → has (xs ++ ys) v ≡ false → (ha
 not_either xs ys v h = or_parts (has xs v) (has ys v) (sym (list_any-append (λ y. y == v) xs ys) ∙ h)
 
 pub differences_add : DifferencesAdd
-differences_add L M N T U X Y C D p q =
-    let left : (c : ChangedLine) → Contains C c → Contains (C ++ D) c = λ c. Contains-append_left C D c in
-    let right : (c : ChangedLine) → Contains D c → Contains (C ++ D) c = λ c. Contains-append_right C D c in
-    record {
-      nodes = λ v off. let o = not_either T U v off in round_on L M N v (p.nodes v o.0) (q.nodes v o.1);
-      lines = λ x off. let o = not_either X Y x off in p.lines x o.0 ∙ q.lines x o.1;
-      there = accounts_on C D (C ++ D) L M N left right p.there q.there;
-      here = accounts_on D C (C ++ D) N M L right left q.here p.here;
-    }
+differences_add L M N T U X Y C D p q = grind (arith, Contains-append_left C D, Contains-append_right C D, not_either T U, round_on L M N, not_either X Y, accounts_on C D (C ++ D) L M N, accounts_on D C (C ++ D) N M L)

@@ -3,7 +3,7 @@ use Rattle.std.proofs.Common.{◌≡◌, ℕ, zero, suc, ◌+◌, ◌*◌, ℤ, 
 use Rattle.std.proofs.Common.{◌∷◌, ◌++◌, length, take, map, ◌<◌, ◌≤◌, Some, None, is_some, IsTrue, cond, Bool, refl, ap}
 use Rattle.std.proofs.Common.{◌∙◌, subst, arith, nat_le, [], ◌-◌, nat_abs, slice_get, option_map, le-leb, leb-true}
 use Rattle.std.proofs.Common.{slice_index}
-use Rattle.std.proofs.lemmas.Bool.{cond-true}
+use Rattle.std.proofs.lemmas.Bool.{cond-true, cases_Bool}
 use Rattle.std.proofs.lemmas.Int.{ints}
 use Rattle.std.proofs.lemmas.Option.{slice_get-get_or}
 use Rattle.olr_spec.specs.Coordinates.{abs24, from_abs24, nearest, relative, from_rel16}
@@ -32,11 +32,7 @@ record Close (n : ℕ) (a b : ℤ) : Type 0 where
   above : b <ℤ (a +ℤ pos n)
 
 close_abs : (n : ℕ) (a b : ℤ) → Close n a b → nat_abs (a -ℤ b) < n
-close_abs n a b c = size (a -ℤ b) (omega (arith, ints)) (omega (arith, ints))
-  where
-    size : (z : ℤ) → z <ℤ pos n → neg_ℤ (pos n) <ℤ z → nat_abs z < n
-    size (pos m) h k = omega (arith, ints)
-    size (negsuc m) h k = omega (arith, ints)
+close_abs n a b c = grind (arith, ints)
 
 -- a coordinate and the 24-bit step that it is rounded to
 close24 : (z : ℤ) → Close 7031250 (from_abs24 (abs24 z)) z
@@ -111,12 +107,6 @@ pub record Decodes (gs : List Leg) (ks : List ℕ) (r : Reference) : Type 0 wher
   pub count : length r.middle + 2 ≡ length ks
   pub near : (k : ℕ) → k < length ks → (d : ℤ × ℤ) × (decoded r k ≡ Some d) × IsNear k d (position gs (slice_index ks k))
 
-decodes : (gs : List Leg) (p q h i : ℕ) (js : List ℕ) → Decodes gs (h ∷ i ∷ js) (reference_by_kept gs p q h i js)
-decodes gs p q h i js = record {
-  count = omega (arith, middle_count gs h i js);
-  near = λ k lt. near_of gs p q h i js k (omega arith);
-}
-
 -- at least two LRPs remain, h, i and js, and the reference is that of these
 pub record Form (M : Map) (ls ks : List ℕ) (p q : ℕ) (r : Reference) : Type 0 where
   pub h : ℕ
@@ -163,7 +153,10 @@ module _ (M : Map) (P : Path) (is : IsTrue (is_path P.lines)) (none : path_fault
 
   pub answer_decodes : Decodes (legs M E.lines) Kept r
   answer_decodes = coe 1 0 (i. Decodes (legs M E.lines) (form.kept i) (form.fields_are i))
-      (decodes (legs M E.lines) Front Back form.h form.i form.js)
+      (record {
+        count = omega (arith, middle_count (legs M E.lines) form.h form.i form.js);
+        near = λ k lt. near_of (legs M E.lines) Front Back form.h form.i form.js k (omega arith);
+      })
 
 pub got_index : (f : ℕ → ℕ) (ks : List ℕ) (k v : ℕ) → option_map f (slice_get ks k) ≡ Some v → (k < length ks)
     × (f (slice_index ks k) ≡ v)
@@ -190,12 +183,8 @@ module _ (M : Map) (m : IsMap M) (P : Path) (is : IsTrue (is_path P.lines)) (non
   point_at : (k : ℕ) → is_some (decoded r k) ≡ true → (v : ℕ) × IsPoint M P k v
   point_at k h =
       let count = (answer_decodes M P is none r e).count in
-      let within = leb-true k (length r.middle + 1) (taken (nat_le k (length r.middle + 1)) _ h) in
+      let within : k ≤ length r.middle + 1 = grind (arith, leb-true, cases_Bool (nat_le k (length r.middle + 1))) in
       (node_at M ls (slice_index ks k), path_also e (ap (option_map (node_at M ls)) (slice_get-get_or ks k 0 (omega arith))))
-    where
-      taken : (b : Bool) (d : ℤ × ℤ) → is_some (cond b (Some d) None) ≡ true → b ≡ true
-      taken true d h = refl
-      taken false d h = absurd cc
 
 pub decoded_near : DecodedNear
 decoded_near M m P is r e = let p = by_answer M P r e in near_point M m P is p.0 r p.1

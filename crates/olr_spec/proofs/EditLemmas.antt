@@ -107,13 +107,7 @@ unused M v free x k =
     ((λ e. both_ways _ at.0 (eq-eqb (end M x) v e)), (λ e. both_ways _ at.1 (eq-eqb (start M x) v e)))
 
 without_node : (M : Map) (v : ℕ) → IsMap M → in_use M v ≡ false → IsMap (record M { nodes = remove M.nodes v })
-without_node M v m h = record {
-  good = m.good;
-  starts = λ x k. grind (arith, left_other, unused, m.starts x k);
-  ends = λ x k. grind (arith, left_other, unused, m.ends x k);
-  places = λ u k. grind (arith, left_same, left_other, cases_eq u v, m.places u);
-  shapes = m.shapes;
-}
+without_node M v m h = grind (arith, left_other, unused, left_same, cases_eq)
 
 with_line : (M : Map) (x : ℕ) (l : Line) → IsMap M → IsTrue (is_good l) → IsTrue (has_node M l.from) →
     IsTrue (has_node M l.to) → IsTrue (are_coords l.shape) → IsMap (record M { lines = insert M.lines x l })

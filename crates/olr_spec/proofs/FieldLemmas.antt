@@ -3,7 +3,7 @@ use Rattle.std.proofs.Common.{inl, inr, ◌≡◌, ℕ, suc, ◌+◌, ◌-◌, �
 use Rattle.std.proofs.Common.{false, List, ◌∷◌, length, take, drop, map, ◌<◌, ◌≤◌, Some, None, IfSome, unwrap_or}
 use Rattle.std.proofs.Common.{IsTrue, refl, sym, ap, ◌∙◌, subst, arith, ◌==◌, take-add, div-lt_iff_lt-mul, [], ltb-true}
 use Rattle.std.proofs.Common.{fold, find, slice_index, slice_range}
-use Rattle.std.proofs.lemmas.Bool.{cases_lt, and_parts, and_from, cond_both}
+use Rattle.std.proofs.lemmas.Bool.{cases_Bool, cases_lt, and_parts, and_from, cond_both}
 use Rattle.std.proofs.lemmas.Bool.Decides.{nat_tests}
 use Rattle.std.proofs.lemmas.Int.{ints}
 use Rattle.std.proofs.lemmas.List.{length-map, get_or-map, get_or_past, take-map, drop-map}
@@ -54,37 +54,34 @@ has_last_where test d (x ∷ xs) = grind (arith, cond_both, has_there, has_cases
 
 at_least : (M : Map) (ls : List ℕ) (test : ℕ → Bool) (d q : ℕ) (ks : List ℕ) → Linked M ls (q ∷ ks) → d ≤ q →
     d ≤ last_where test d (q ∷ ks)
-at_least M ls test d q ks l h =
-    elim (has_cases d (q ∷ ks) (last_where test d (q ∷ ks)) (has_last_where test d (q ∷ ks))) [
-      | inl e ↦ omega arith
-      | inr j ↦ omega (arith, linked_above M ls q ks l (last_where test d (q ∷ ks)) j)
-    ]
+at_least M ls test d q ks l h = grind (arith, has_cases d (q ∷ ks) (last_where test d (q ∷ ks)) (has_last_where test d (q ∷ ks)), has_last_where test d (q ∷ ks), linked_above M ls q ks l (last_where test d (q ∷ ks)))
 
 -- after the last that passes, none passes
 pub none_after : (M : Map) (ls : List ℕ) (test : ℕ → Bool) (d p : ℕ) (ks : List ℕ) → Linked M ls (p ∷ ks) → d ≤ p →
     (k : ℕ) → has (p ∷ ks) k ≡ true → last_where test d (p ∷ ks) < k → test k ≡ false
 none_after M ls test d p [] l h k i lt = grind (arith, has_cases, cond_both)
 none_after M ls test d p (q ∷ ks) l h k i lt =
-    let step = l.0.after in
-    let After : ℕ → Type 0 = λ y. last_where test y (q ∷ ks) < k → test k ≡ false in
-    elim (has_cases p (q ∷ ks) k i) [
-      | inr j ↦ cond_both (test p) p d After (λ t g. none_after M ls test p q ks l.1 (omega arith) k j g)
-          (λ t g. none_after M ls test d q ks l.1 (omega arith) k j g) lt
-      | inl is ↦ cond_both (test p) p d After
-          (λ t g. absurd (omega (arith, at_least M ls test p q ks l.1 (omega arith)))) (λ t g. ap test (sym is) ∙ t) lt
-    ]
+    grind (
+      arith,
+      has_cases p (q ∷ ks) k i,
+      cases_Bool (test p),
+      none_after M ls test p q ks l.1,
+      none_after M ls test d q ks l.1,
+      at_least M ls test p q ks l.1,
+    )
 
 -- before the first that passes, none passes
 pub none_before : (M : Map) (ls : List ℕ) (test : ℕ → Bool) (d p : ℕ) (ks : List ℕ) → Linked M ls (p ∷ ks) → (k : ℕ) →
     has (p ∷ ks) k ≡ true → k < first_where test d (p ∷ ks) → test k ≡ false
 none_before M ls test d p [] l k i lt = grind (arith, has_cases, cond_both)
 none_before M ls test d p (q ∷ ks) l k i lt =
-    cond_both (test p) p (first_where test d (q ∷ ks)) (λ y. k < y → test k ≡ false)
-    (λ t g. absurd (omega (arith, linked_above M ls p (q ∷ ks) l k i)))
-    (λ t g. elim (has_cases p (q ∷ ks) k i) [
-      | inl is ↦ ap test (sym is) ∙ t
-      | inr j ↦ none_before M ls test d q ks l.1 k j g
-    ]) lt
+    grind (
+      arith,
+      has_cases p (q ∷ ks) k i,
+      cases_Bool (test p),
+      linked_above M ls p (q ∷ ks) l k,
+      none_before M ls test d q ks l.1 k,
+    )
 
 -- ---- parts
 
@@ -129,22 +126,14 @@ no_leg_good = record { frc = omega arith; fow = omega arith; begin = refl; finis
 
 module _ (M : Map) (m : IsMap M) (ls : List ℕ) (known : Each (Known M) ls) where
   leg_at_good : (i : ℕ) → IsLeg (leg_at (legs M ls) i)
-  leg_at_good i = elim (cases_lt i (length ls)) [
-    | inl lt ↦ subst IsLeg (sym (get_or-map (leg M) ls i 0 no_leg lt))
-        (leg_good M m (slice_index ls i) (known (slice_index ls i) (has_index ls i lt)))
-    | inr ge ↦ subst IsLeg (sym (get_or_past (legs M ls) i no_leg (omega (arith, length-map ls (leg M)))))
-        no_leg_good
-  ]
+  leg_at_good i = grind (arith, cases_lt i (length ls), get_or-map (leg M) ls i 0 no_leg, leg_good M m (slice_index ls i), has_index ls i, get_or_past (legs M ls) i no_leg, length-map ls (leg M), no_leg_good)
 
   position_good : (i : ℕ) → IsTrue (is_coord (position (legs M ls) i))
   position_good i = grind (arith, leg_at_good)
 
   pub first_fits : (i : ℕ) → IsTrue (fits24 (abs24 (position (legs M ls) i).lon))
       × IsTrue (fits24 (abs24 (position (legs M ls) i).lat))
-  first_fits i =
-      let c = position (legs M ls) i in
-      let p = and_parts (is_longitude c.lon) (is_latitude c.lat) (position_good i) in
-      (longitude_fits c.lon p.0, latitude_fits c.lat p.1)
+  first_fits i = grind (arith, and_parts, position_good i, longitude_fits, latitude_fits)
 
   -- ---- parts of the list of lines
 
@@ -157,9 +146,7 @@ module _ (M : Map) (m : IsMap M) (ls : List ℕ) (known : Each (Known M) ls) whe
   greatest_below : (a : ℕ) (xs : List ℕ) → Each (Known M) xs → a < 8 →
       fold max a (map (λ (g : Leg). g.line.frc) (legs M xs)) < 8
   greatest_below a [] h lt = lt
-  greatest_below a (x ∷ xs) h lt =
-      let g = good_frc (line_at M x) (m.good x (Each-head (Known M) x xs h)) in
-      greatest_below (max a (line_at M x).frc) xs (Each-tail (Known M) x xs h) (omega arith)
+  greatest_below a (x ∷ xs) h lt = grind (arith, good_frc (line_at M x) (m.good x (Each-head (Known M) x xs h)), Each-head (Known M) x xs h, greatest_below (max a (line_at M x).frc) xs (Each-tail (Known M) x xs h), Each-tail (Known M) x xs h)
 
   pub attrs_fit : (i j : ℕ) → Candidate M ls i j → AreAttrs (attrs (legs M ls) i j)
   attrs_fit i j c =
@@ -190,16 +177,10 @@ module _ (M : Map) (m : IsMap M) (ls : List ℕ) (known : Each (Known M) ls) whe
   pub middles_fit : (h i : ℕ) (js : List ℕ) → 0 < length ls → Linked M ls (h ∷ i ∷ js) →
       AllByRecursion IsMiddle (middle_points (legs M ls) h i js)
   middles_fit h i [] n l = tt
-  middles_fit h i (j ∷ js) n l =
-      let r = relative_fits h i n l.0 in
-      (record { dlon = r.0; dlat = r.1; attrs = attrs_fit i j l.1.0 }, middles_fit i j js n l.1)
+  middles_fit h i (j ∷ js) n l = grind (arith, relative_fits h i n l.0, attrs_fit i j l.1.0, middles_fit i j js n l.1)
 
   pub last_fits : (h i : ℕ) → 0 < length ls → Candidate M ls h i → IsLast (fields.last_point (legs M ls) h i)
-  last_fits h i n c =
-      let r = relative_fits h i n c in
-      let g = leg_at_good (i - 1) in
-      let last = leg_at (legs M ls) (i - 1) in
-      assumption (bearing_below last.finish (scaled_coord last (last.line.len - 200)))
+  last_fits h i n c = grind (arith, relative_fits h i n c, leg_at_good (i - 1), bearing_below)
 
 -- ---- offsets
 
@@ -210,7 +191,4 @@ offset_fits left stretch h =
 
 -- the length from the start to j is that to i and that from i to j
 pub from_front-add : (gs : List Leg) (i j : ℕ) → i ≤ j → from_front gs j ≡ from_front gs i + dm_between gs i j
-from_front-add gs i j h =
-    let on : j ≡ i + (j - i) = omega arith in
-    ap (λ (k : ℕ). dm_along (take k gs)) on ∙ ap dm_along (take-add i (j - i) gs)
-    ∙ dm_along-append (take i gs) (take (j - i) (drop i gs))
+from_front-add gs i j h = grind (arith, take-add i (j - i) gs, dm_along-append (take i gs) (take (j - i) (drop i gs)))

@@ -64,20 +64,7 @@ pub kept_ends : (M : Map) (ls js : List ℕ) (positive negative : ℕ) → Follo
     positive + negative < dm_of M ls
     → (has (kept_points (legs M ls) positive negative js) (first_kept (legs M ls) positive js) ≡ true)
     × (has (kept_points (legs M ls) positive negative js) (last_kept (legs M ls) negative js) ≡ true)
-kept_ends M ls js positive negative f e less =
-    let gs = legs M ls in
-    let a = first_kept gs positive js in
-    let b = last_kept gs negative js in
-    let two = two_kept M ls js positive negative f e less in
-    let on_a : has (0 ∷ js) a ≡ true =
-    elim (has_cases 0 (0 ∷ js) a (has_last_where (λ i. nat_le (from_front gs i) positive) 0 (0 ∷ js))) [
-      | inl is ↦ coe 0 1 (i. has (0 ∷ js) (is i) ≡ true) (has_here 0 js)
-      | inr j ↦ j
-    ] in
-    let on_b = (back_within gs negative js (e ∙ sym (length-map ls (leg M)))).0 in (
-      filter_has (between a b) (0 ∷ js) a on_a ((between_is a b a).1 (omega arith, omega arith)),
-      filter_has (between a b) (0 ∷ js) b on_b ((between_is a b b).1 (omega arith, omega arith)),
-    )
+kept_ends M ls js positive negative f e less = grind (arith, two_kept M ls js positive negative f e less, has_cases 0 (0 ∷ js), has_last_where, has_here 0 js, back_within, length-map ls (leg M), filter_has, between_is)
 
 pub reference_fits : (M : Map) → IsMap M → (ls : List ℕ) → Each (Known M) ls → 0 < length ls →
     (js : List ℕ) (positive negative : ℕ) → Follow M ls 0 js → last_position 0 js ≡ length ls → positive + negative < dm_of M ls

@@ -5,6 +5,7 @@ use Rattle.std.proofs.Common.{IsTrue, refl, sym, ap, ◌∙◌, arith, nat_le, l
 use Rattle.std.proofs.Common.{leb-false, le-ltb, ltb-false, get_or-append-add, int_le, All, flat_map, slice_index}
 use Rattle.std.proofs.lemmas.Bool.{cases_lt, and_from, or_parts, lt-leb, not-false, or_from, not_from_true}
 use Rattle.std.proofs.lemmas.Int.{ints}
+use Rattle.std.proofs.lemmas.List.Elements.{recursion_from_All}
 use Rattle.std.specs.List.{AllByRecursion, list_any}
 use Rattle.olr_spec.specs.Coordinates.{within, fits16}
 use Rattle.olr_spec.specs.Reference.{Attrs, First, Middle, Last, Reference}
@@ -19,10 +20,6 @@ use Rattle.olr_spec.proofs.BytesLemmas.{flag_below}
 abbrev pub AreBytes : List ℕ → Type 0
 AreBytes xs = AllByRecursion (λ x. x < 256) xs
 
-are_bytes : (xs : List ℕ) → All (λ x. x < 256) xs → AreBytes xs
-are_bytes [] h = tt
-are_bytes (x ∷ xs) h = (h 0 x (omega arith), are_bytes xs (λ k d lt. h (suc k) d (omega arith)))
-
 -- ---- decoded fields
 
 -- a number below twice suc h, as the two's complement of a whole number
@@ -36,19 +33,10 @@ in_range : (a b z : ℤ) → a ≤ℤ z → z ≤ℤ b → IsTrue (within a b z)
 in_range a b z h k = and_from (int_le a z) (int_le z b) (le_test a z h) (le_test z b k)
 
 read16 : (a b : ℕ) → a < 256 → b < 256 → (z : ℤ) × IsTrue (fits16 z) × (signed16 z ≡ a ∷ b ∷ [])
-read16 a b la lb =
-    let s = signed_of 32767 (256 * a + b) (omega arith) in
-    let p : residue 65536 s.0 / 256 % 256 ≡ a = omega arith in
-    let q : residue 65536 s.0 % 256 ≡ b = omega arith in
-    (s.0, in_range (negsuc 32767) (pos 32767) s.0 s.1 s.2, λ i. p i ∷ q i ∷ [])
+read16 a b la lb = grind (arith, signed_of 32767 (256 * a + b), in_range (negsuc 32767) (pos 32767))
 
 read24 : (a b c : ℕ) → a < 256 → b < 256 → c < 256 → (z : ℤ) × IsTrue (fits24 z) × (signed24 z ≡ a ∷ b ∷ c ∷ [])
-read24 a b c la lb lc =
-    let s = signed_of 8388607 (65536 * a + 256 * b + c) (omega arith) in
-    let p : residue 16777216 s.0 / 65536 % 256 ≡ a = omega arith in
-    let q : residue 16777216 s.0 / 256 % 256 ≡ b = omega arith in
-    let t : residue 16777216 s.0 % 256 ≡ c = omega arith in
-    (s.0, in_range (negsuc 8388607) (pos 8388607) s.0 s.1 s.2, λ i. p i ∷ q i ∷ t i ∷ [])
+read24 a b c la lb lc = grind (arith, signed_of 8388607 (65536 * a + 256 * b + c), in_range (negsuc 8388607) (pos 8388607))
 
 read_attrs : (a b c : ℕ) → a < 64 → b < 256 → c < 256 → (t : Attrs) × AreAttrs t × (attr_bytes t ≡ a ∷ b ∷ c ∷ [])
 read_attrs a b c la lb lc =
@@ -128,10 +116,7 @@ module _ (p : First) (is : IsFirst p) where
   read_last : (a b c d f g : ℕ) (rest : List ℕ) → AreBytes (a ∷ b ∷ c ∷ d ∷ f ∷ g ∷ rest) → f < 64 → g < 128 →
       bit 6 g + bit 5 g ≡ length rest → Ends p (a ∷ b ∷ c ∷ d ∷ f ∷ g ∷ rest)
   read_last a b c d f g [] w lf lg e = last_with a b c d f g None None w lf (omega arith)
-  read_last a b c d f g (h ∷ []) w lf lg e = elim (cases_lt g 64) [
-    | inl low ↦ last_with a b c d f g None (Some h) w lf (omega arith)
-    | inr high ↦ last_with a b c d f g (Some h) None w lf (omega arith)
-  ]
+  read_last a b c d f g (h ∷ []) w lf lg e = grind (arith, cases_lt g 64, last_with a b c d f g None (Some h) w lf, last_with a b c d f g (Some h) None w lf)
   read_last a b c d f g (h ∷ k ∷ []) w lf lg e = last_with a b c d f g (Some h) (Some k) w lf (omega arith)
   read_last a b c d f g (h ∷ k ∷ l ∷ rest) w lf lg e = absurd (omega arith)
 
@@ -211,11 +196,7 @@ flag_is o = grind arith
 unreserved : (ps : List Middle) (l : Last) (positive negative : Option ℕ) → AllByRecursion IsMiddle ps → IsLast l
     → reserved (attribute1_bytes (flat_map middle_bytes ps ++ last_bytes l positive negative) 4 (suc (length ps))) ≡ false
 unreserved [] l positive negative h k = ap (λ (b : Bool). b || false) (lt-leb 64 (attribute1 l.frc l.fow) (omega arith))
-unreserved (p ∷ ps) l positive negative h k =
-    let rest = flat_map middle_bytes ps ++ last_bytes l positive negative in
-    let others : reserved (attribute1_bytes (middle_bytes p ++ rest) 11 (suc (length ps))) ≡ false =
-    ap reserved (attributes_behind (middle_bytes p) rest 4 (suc (length ps))) ∙ unreserved ps l positive negative h.1 k in
-    λ i. lt-leb 64 (attribute1 p.attrs.frc p.attrs.fow) (omega arith) i || others i
+unreserved (p ∷ ps) l positive negative h k = grind (arith, attributes_behind (middle_bytes p), unreserved ps l positive negative h.1 k, lt-leb 64 (attribute1 p.attrs.frc p.attrs.fow))
 
 pub encoded_passes : (r : Reference) → IsReference r → v3_fault (reference_bytes r) ≡ None
 encoded_passes r h =
@@ -249,4 +230,4 @@ encoded_passes r h =
     })
 
 pub no_fault_where_encoded : NoFault
-no_fault_where_encoded b h = grind (arith, read_bytes, are_bytes, passes, encoded_passes)
+no_fault_where_encoded b h = grind (arith, read_bytes, recursion_from_All, passes, encoded_passes)

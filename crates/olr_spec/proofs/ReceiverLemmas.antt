@@ -146,12 +146,7 @@ module _ (M : Map) (m : IsMap M) (ls : List ℕ) (known : Each (Known M) ls) whe
 
   cuts_close : (p q h i : ℕ) (js : List ℕ) → Linked M ls (h ∷ i ∷ js) → (n : ℕ) → 0 < n →
       Cuts n (stretches ls (h ∷ i ∷ js)) (reference_by_kept (legs M ls) p q h i js) p q
-  cuts_close p q h i js l n some =
-      let two = last_two h i js in
-      let d = last_two_linked M ls h i js l in
-      let front = cut_close p h i n l.0.after (omega arith) some in
-      let back = cut_close q two.0 two.1 n d.after (omega arith) some in
-      (front, rw (last_length h i js) back)
+  cuts_close p q h i js l n some = grind (arith, last_two_linked M ls h i js l, cut_close p h i n l.0.after, cut_close q, last_length h i js)
 
 -- ---- positions
 
@@ -299,10 +294,7 @@ module _ (M : Map) (m : IsMap M) (P : Path) (is : IsTrue (is_path P.lines)) (non
       coe 0 1 (i. IsNear k (sym (ap (λ (o : Option (ℤ × ℤ)). unwrap_or o (pos 0, pos 0)) near.1) i) (place_is i)) near.2
 
   near_out : (k x : ℕ) → k < last_number r → IsLineAt M P Outgoing k x → IsNear k (decoded_coord r k) (leg M x).begin
-  near_out k x h at =
-      let b = bounds k h in
-      near_line Outgoing k x (omega arith) at
-      (λ i is_i. ap (coord_at M) (at_start M Lines i (omega (arith, is_i, b.0, b.1))))
+  near_out k x h at = grind (arith, bounds k h, near_line Outgoing k x, at_start M Lines)
 
   near_in : (x : ℕ) → IsLineAt M P Incoming (last_number r) x →
       IsNear (last_number r) (decoded_coord r (last_number r)) (leg M x).finish
@@ -320,9 +312,7 @@ recovered R M m P is r e d ws = let p = by_answer M P r e in recovered_of M m P 
 joined : (M : Map) (ls ks : List ℕ) → Linked M ls ks → concat (stretches ls ks) ≡ stretch ls (first ks) (last ks)
 joined M ls [] l = sym (empty_stretch ls 0 0 (omega arith))
 joined M ls (p ∷ []) l = sym (empty_stretch ls p p (omega arith))
-joined M ls (p ∷ q ∷ ks) l = ap (λ (xs : List ℕ). stretch ls p q ++ xs) (joined M ls (q ∷ ks) l.1)
-    ∙ sym (stretch_parts ls p q (last (q ∷ ks)) (omega arith)
-    (linked_above M ls q ks l.1 (last (q ∷ ks)) (has_last (q ∷ ks) (omega arith))))
+joined M ls (p ∷ q ∷ ks) l = grind (arith, joined M ls (q ∷ ks) l.1, stretch_parts ls p q (last (q ∷ ks)), linked_above M ls q ks l.1 (last (q ∷ ks)), has_last (q ∷ ks))
 
 pub stretches_join : StretchesJoin
 stretches_join M P ws p =

@@ -12,6 +12,8 @@ use Rattle.olr_spec.specs.Bearings.{Leg}
 use Rattle.olr_spec.specs.Reference.{legs}
 use Rattle.olr_spec.specs.Joins.{JoinsTo, JoinsLast}
 use Rattle.olr_spec.specs.Receiver.{Within, Shortest, RecoversTo, RecoversLast, One_line, More_lines}
+use Rattle.std.proofs.Common.{length-drop, length-append, drop}
+use Rattle.std.proofs.lemmas.List.{length-take-le}
 use Rattle.olr_spec.proofs.ListLemmas.{has_index}
 use Rattle.olr_spec.proofs.DecideLemmas.{dec_same}
 use Rattle.olr_spec.proofs.RunLemmas.{extended_keeps}
@@ -41,10 +43,7 @@ within_greatest M a (x ∷ xs) = grind (arith, greatest_from, (within_greatest M
 
 shortest_is : (M : Map) (c s t : ℕ) (xs : List ℕ) → LrpRoute M s t xs → Within M c xs → (ys : List ℕ) →
     Shortest M c s t ys → ys ≡ xs
-shortest_is M c s t xs r w ys h = elim (dec_same ys xs) [
-  | yes e ↦ e
-  | no n ↦ absurd (omega (arith, r.others ys h.route n, h.first xs r.route w))
-]
+shortest_is M c s t xs r w ys h = grind (arith, dec_same ys xs)
 
 route_shortest : (M : Map) (c s t : ℕ) (xs : List ℕ) → LrpRoute M s t xs → Within M c xs → Shortest M c s t xs
 route_shortest M c s t xs r w = grind (arith, dec_same)
@@ -54,10 +53,6 @@ pub recovers_to : (M : Map) (ls : List ℕ) (c p q : ℕ) → Within M c (stretc
 recovers_to M ls c p q within j w = grind (arith, shortest_is, route_shortest)
 
 -- ---- the last leg
-
-not_one : (x : ℕ) (xs : List ℕ) (y z : ℕ) → x ∷ (xs ++ y ∷ []) ≡ z ∷ [] → ⊥
-not_one x [] y z e = cc
-not_one x (v ∷ xs) y z e = cc
 
 one_line : (M : Map) (ls : List ℕ) (c p q : ℕ) → q ≡ p + 1 → stretch ls p q ≡ slice_index ls p ∷ [] → (w : List ℕ) →
     RecoversLast M c (slice_index ls p) (slice_index ls (q - 1)) w ↔ (w ≡ stretch ls p q)
@@ -69,39 +64,22 @@ more_lines M c x y all r n within is route w =
     let parts : Within M c (x ∷ (r ++ y ∷ [])) = subst (Within M c) is within in
     let front = within_left M c r (y ∷ []) parts.1 in
     let back = within_right M c r (y ∷ []) parts.1 in
-    (forth front, λ g. More_lines r n (g ∙ is) (route_shortest M c (end M x) (start M y) r route front) back.0)
-  where
-    forth : Within M c r → RecoversLast M c x y w → w ≡ all
-    forth front (One_line f g) = absurd (n f)
-    forth front (More_lines xs m g h k) =
-        g ∙ ap (λ (zs : List ℕ). x ∷ (zs ++ y ∷ [])) (shortest_is M c (end M x) (start M y) r route front xs h)
-        ∙ sym is
+    let found = route_shortest M c (end M x) (start M y) r route front in
+    let same = shortest_is M c (end M x) (start M y) r route front in
+    ((λ k. grind (arith, same)), (λ g. More_lines r n (g ∙ is) found back.0))
 
 pub recovers_last : (M : Map) (ls : List ℕ) (c p q : ℕ) → p < q → q ≤ length ls →
     (p + 1 < q → slice_index ls p ≢ slice_index ls (q - 1)) → Within M c (stretch ls p q) → JoinsLast M ls p q →
     (w : List ℕ) → RecoversLast M c (slice_index ls p) (slice_index ls (q - 1)) w ↔ (w ≡ stretch ls p q)
 recovers_last M ls c p q lt up differ within j w =
-    elim (cases_eq q (p + 1)) [
-      | inl e ↦ one_line M ls c p q e (elim j [ inl is ↦ is | inr t ↦ absurd (too_long t.0 t.1 e) ]) w
-      | inr ne ↦ elim j [
-        | inl is ↦ absurd (not_one _ _ _ _ (sym (parts (omega arith)) ∙ is))
-        | inr t ↦
-            more_lines M c (slice_index ls p) (slice_index ls (q - 1)) (stretch ls p q) t.0 (differ (omega arith))
-            within t.1 t.2 w
-      ]
+    let long = length-take-le (q - p) (drop p ls) (omega (arith, length-drop p ls)) in
+    elim j [
+      | inl is ↦ one_line M ls c p q (omega (arith, ap (λ (xs : List ℕ). length xs) is)) is w
+      | inr t ↦
+          more_lines M c (slice_index ls p) (slice_index ls (q - 1)) (stretch ls p q) t.0
+          (differ (omega (arith, ap (λ (xs : List ℕ). length xs) t.1, length-append t.0 (slice_index ls (q - 1) ∷ []))))
+          within t.1 t.2 w
     ]
-  where
-    parts : p + 1 < q → stretch ls p q ≡ slice_index ls p ∷ (stretch ls (p + 1) (q - 1) ++ slice_index ls (q - 1) ∷ [])
-    parts far =
-        let on : q - 1 + 1 ≡ q = omega arith in
-        stretch_first ls p q lt (omega arith)
-        ∙ ap (λ (zs : List ℕ). slice_index ls p ∷ zs)
-        (ap (stretch ls (p + 1)) (sym on) ∙ stretch_last ls (p + 1) (q - 1) (omega arith) (omega arith))
-
-    too_long : (r : List ℕ) → stretch ls p q ≡ slice_index ls p ∷ (r ++ slice_index ls (q - 1) ∷ []) → q ≡ p + 1 → ⊥
-    too_long r is e =
-        let none : stretch ls (p + 1) q ≡ [] = empty_stretch ls (p + 1) q (omega arith) in
-        not_one _ r _ _ (sym is ∙ (stretch_first ls p q lt (omega arith) ∙ ap (λ (zs : List ℕ). slice_index ls p ∷ zs) none))
 
 -- ---- no line twice
 

@@ -35,11 +35,7 @@ up_to_below (suc n) = Each-push (λ k. k < suc n) (up_to n) n (λ k h. omega (ar
 
 has_below : (n k : ℕ) → k < n → has (up_to n) k ≡ true
 has_below zero k lt = absurd (omega arith)
-has_below (suc n) k lt = list_any-append (λ y. y == k) (up_to n) (n ∷ []) ∙ elim (cases_order k n) [
-  | inl e ↦ or_right _ _ (or_left _ _ (eq-eqb n k (sym e)))
-  | inr (inl below) ↦ or_left _ _ (has_below n k below)
-  | inr (inr above) ↦ absurd (omega arith)
-]
+has_below (suc n) k lt = grind (arith, list_any-append, cases_order k n, or_right, or_left, eq-eqb n k, has_below n k)
 
 -- ---- quadrants
 
@@ -58,10 +54,7 @@ InQuadrant (suc q) e n = InQuadrant q (neg_ℤ n) e
 
 same_at : {X : Type 0} (f g : ℕ → X) (xs : List ℕ) → map f xs ≡ map g xs → (k : ℕ) → has xs k ≡ true → f k ≡ g k
 same_at f g [] e k i = absurd cc
-same_at f g (x ∷ xs) e k i =
-    let here : f x ≡ g x = cc in
-    let rest : map f xs ≡ map g xs = cc in
-    elim (has_cases x xs k i) [ inl is ↦ subst (λ (y : ℕ). f y ≡ g y) is here | inr j ↦ same_at f g xs rest k j ]
+same_at f g (x ∷ xs) e k i = grind (arith, has_cases x xs k i, same_at f g xs)
 
 turned : (k : ℕ) → k < 25 → boundary (k + 8) ≡ quarter_turn (boundary k)
 turned k lt = same_at (λ j. boundary (j + 8)) (λ j. quarter_turn (boundary j)) (up_to 25) refl k (has_below 25 k lt)
@@ -80,9 +73,7 @@ side_turned k lt e n = grind (arith, turned, turns_into)
 
 -- quarter q + 1 of a direction is quarter q of the direction turned back
 side_on : (e n : ℤ) (q j : ℕ) → q < 3 → j ≤ 8 → side e n (suc q * 8 + j) ≡ side (neg_ℤ n) e (q * 8 + j)
-side_on e n q j lq lj =
-    let on : suc q * 8 + j ≡ q * 8 + j + 8 = omega arith in
-    ap (side e n) on ∙ side_turned (q * 8 + j) (omega arith) e n
+side_on e n q j lq lj = grind (arith, side_turned (q * 8 + j))
 
 -- a direction between boundary j of quarter q and the next is in this quarter, where one before a boundary is before the
 -- next too
@@ -205,12 +196,7 @@ some_sector e n ne =
 find_some : (p : ℕ → Bool) (xs : List ℕ) (d : ℕ) (Q : ℕ → Type 0) → Each Q xs → (k : ℕ) → has xs k ≡ true → p k ≡ true →
     Q (unwrap_or (find p xs) d) × (p (unwrap_or (find p xs) d) ≡ true)
 find_some p [] d Q h k i e = absurd cc
-find_some p (x ∷ xs) d Q h k i e =
-    cond_both (p x) (Some x) (find p xs) (λ o. Q (unwrap_or o d) × (p (unwrap_or o d) ≡ true)) (λ t. (Each-head Q x xs h, t))
-    (λ t. find_some p xs d Q (Each-tail Q x xs h) k (elim (has_cases x xs k i) [
-      | inl is ↦ absurd (both_ways (p k) (ap p (sym is) ∙ t) e)
-      | inr j ↦ j
-    ]) e)
+find_some p (x ∷ xs) d Q h k i e = grind (arith, cond_both (p x) (Some x) (find p xs), Each-head Q x xs h, find_some p xs d Q (Each-tail Q x xs h) k, Each-tail Q x xs h, has_cases x xs k i, both_ways (p k))
 
 pub sector_is : SomeSector
 sector_is e n ne =
