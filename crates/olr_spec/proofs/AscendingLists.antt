@@ -2,7 +2,7 @@
 use Rattle.std.proofs.Common.{◌≡◌, ◌≢◌, ◌==◌, ℕ, suc, ◌+◌, ◌<◌, ◌≤◌, Bool, true, false, not, ◌&&◌, ◌||◌, ◌⊎◌, inl, inr}
 use Rattle.std.proofs.Common.{List, ◌∷◌, ◌++◌, Contains, Ok, Err, Result, is_ok, length, get_or, refl, sym, ap, ◌∙◌}
 use Rattle.std.proofs.Common.{arith, ⊎_elim, MatchResult, IsPermutation, [], insert, remove, eq-eqb, ne_eqb, eqb-true}
-use Rattle.std.proofs.lemmas.Bool.{cases_lt, cases_order, cases_eq}
+use Rattle.std.proofs.lemmas.Bool.{cases_Bool, cases_lt, cases_order, cases_eq}
 use Rattle.std.proofs.Common.{◌-◌}
 use Rattle.std.proofs.lemmas.List.Kept.{AllPairs-from_increasing}
 use Rattle.std.proofs.lemmas.List.Sorted.{searched, list_any-IsPermutation}
@@ -108,16 +108,19 @@ gone xs i x up at is = has_not (remove xs i) x (λ k lt e. grind (
   AllPairs-from_increasing xs up i (k + 1) 0,
 ))
 
-without : (b c d : Bool) → (b ≡ true → d ≡ false) → c ≡ (b || d) → d ≡ (not b && c)
-without b c d h e = grind arith
-
 pub has-remove : (xs : List ℕ) (i x n : ℕ) → IsStrictlyIncreasing xs → i < length xs → get_or xs i 0 ≡ x →
     has (remove xs i) n ≡ (not (x == n) && has xs n)
 has-remove xs i x n up at is =
     let parted : IsPermutation xs (x ∷ remove xs i) =
     IsPermutation-remove xs i x at (sym (get_or_default xs i x 0 at ∙ is)) in
-    without (x == n) (has xs n) (has (remove xs i) n) (λ e. ap (has (remove xs i)) (sym (eqb-true x n e))
-    ∙ gone xs i x up at is) (list_any-IsPermutation (λ y. y == n) xs (x ∷ remove xs i) parted)
+    grind (
+      arith,
+      cases_Bool (x == n),
+      cases_Bool (has xs n),
+      eqb-true x n,
+      gone xs i x up at is,
+      list_any-IsPermutation (λ y. y == n) xs (x ∷ remove xs i) parted,
+    )
 
 -- ---- as sets: by the result of a search
 
@@ -129,25 +132,19 @@ put_ascends xs x i up h = insert_ascends xs x i up (place_of xs x (Err i) up h)
 pub put_has : (xs : List ℕ) (x i v : ℕ) → has (insert xs i x) v ≡ (has xs v || (x == v))
 put_has xs x i v = has-insert xs i x v ∙ or_comm (x == v) (has xs v)
 
-either : (b c : Bool) → (c ≡ true → b ≡ true) → b ≡ (b || c)
-either b c h = grind arith
-
 -- a number that is in the list already
 pub stays_has : (xs : List ℕ) (x i v : ℕ) → IsStrictlyIncreasing xs →
     IsBinarySearchResult (λ y. nat_cmp y x) xs (Ok i) → has xs v ≡ (has xs v || (x == v))
 stays_has xs x i v up h =
-    either (has xs v) (x == v) (λ e. ap (has xs) (sym (eqb-true x v e)) ∙ sym (found_has xs x (Ok i) up h))
+    grind (arith, cases_Bool (x == v), cases_Bool (has xs v), eqb-true x v, found_has xs x (Ok i) up h)
 
 pub taken_has : (xs : List ℕ) (x i v : ℕ) → IsStrictlyIncreasing xs →
     IsBinarySearchResult (λ y. nat_cmp y x) xs (Ok i) → has (remove xs i) v ≡ (has xs v && not (x == v))
 taken_has xs x i v up h = let p =
     place_of xs x (Ok i) up h in has-remove xs i x v up p.0 p.1 ∙ and_comm (not (x == v)) (has xs v)
 
-both : (b c : Bool) → (c ≡ true → b ≡ false) → b ≡ (b && not c)
-both b c h = grind arith
-
 -- a number that isn't in the list
 pub lacks_has : (xs : List ℕ) (x i v : ℕ) → IsStrictlyIncreasing xs →
     IsBinarySearchResult (λ y. nat_cmp y x) xs (Err i) → has xs v ≡ (has xs v && not (x == v))
 lacks_has xs x i v up h =
-    both (has xs v) (x == v) (λ e. ap (has xs) (sym (eqb-true x v e)) ∙ sym (found_has xs x (Err i) up h))
+    grind (arith, cases_Bool (x == v), cases_Bool (has xs v), eqb-true x v, found_has xs x (Err i) up h)

@@ -45,29 +45,27 @@ same_coordinate : (M : Map) (s : Side) (x y : ℕ) → node_on s (leg M x) ≡ n
     coordinate_on s (leg M x) ≡ coordinate_on s (leg M y)
 same_coordinate M s x y e = grind arith
 
-none_apart : (d : ℕ → ℕ → ℕ) → IsDifference d → (a b : ℕ) → a ≡ b → d a b ≡ 0
-none_apart d h a b e = subst (λ (c : ℕ). d a c ≡ 0) e (h.same a)
-
 some_apart : (d : ℕ → ℕ → ℕ) → IsDifference d → (a b c : ℕ) → a ≡ b → b ≢ c → 0 < d a c
 some_apart d h a b c e n = grind (arith, cases_lt)
 
 module _ (R : Receiver) (M : Map) (t : Lrp) (x : ℕ) (o : Own R M t x) where
-  frc_is : R.frc_apart t.frc (line_at M x).frc ≡ 0
-  frc_is = none_apart R.frc_apart R.frcs t.frc (line_at M x).frc o.frc
-
-  fow_is : R.fow_apart t.fow (line_at M x).fow ≡ 0
-  fow_is = none_apart R.fow_apart R.fows t.fow (line_at M x).fow o.fow
-
-  bearing_is : R.bearing_apart t.bearing (sector_on t.side (leg M x)) ≡ 0
-  bearing_is = none_apart R.bearing_apart R.bearings t.bearing (sector_on t.side (leg M x)) o.bearing
-
   nowhere_worse : (y : ℕ) → (rating R t (leg M x)).far ≤ (rating R t (leg M y)).far →
       NowhereWorse (rating R t (leg M x)) (rating R t (leg M y))
-  nowhere_worse y le = grind (arith, frc_is, fow_is, bearing_is)
+  nowhere_worse y le = grind (arith, R.frcs.same t.frc, R.fows.same t.fow, R.bearings.same t.bearing)
 
   another_kind : (y : ℕ) → node_on t.side (leg M x) ≡ node_on t.side (leg M y) →
       are_twins t.side (leg M x) (leg M y) ≡ false → SomewhereBetter (rating R t (leg M x)) (rating R t (leg M y))
-  another_kind y e off = grind (arith, frc_is, fow_is, bearing_is, cases_eq, some_apart, both_ways, and_from, eq-eqb)
+  another_kind y e off = grind (
+    arith,
+    R.frcs.same t.frc,
+    R.fows.same t.fow,
+    R.bearings.same t.bearing,
+    cases_eq,
+    some_apart,
+    both_ways,
+    and_from,
+    eq-eqb,
+  )
 
   not_same : (y : ℕ) → y ≢ x → (y == x) || not (are_twins t.side (leg M x) (leg M y)) ≡ true →
       are_twins t.side (leg M x) (leg M y) ≡ false
@@ -94,9 +92,6 @@ apart_differs = record { same = λ a. omega arith; other = λ a b e. omega arith
 abbrev total : Rating → ℕ
 total a = a.far + a.frc + a.fow + a.bearing
 
-smaller : (a b : Rating) → NowhereWorse a b → SomewhereBetter a b → total a < total b
-smaller a b w h = omega arith
-
 -- it prefers the smaller sum of the measure and the differences
 pub some_receiver : SomeReceiver
 some_receiver far = (
@@ -109,7 +104,7 @@ some_receiver far = (
     frcs = apart_differs;
     fows = apart_differs;
     bearings = apart_differs;
-    monotone = λ a b w h. lt-ltb (total a) (total b) (smaller a b w h);
+    monotone = λ a b w h. lt-ltb (total a) (total b) (omega arith);
     strict = λ a b h. le-ltb (total b) (total a) (omega (arith, ltb-true (total a) (total b) h));
   },
   refl,
@@ -149,21 +144,17 @@ nearer n d scale far w k p a b near spaced =
     let B = decoded_bound k in
     let here = w.all p a in
     let there = w.all p b in
-    let traversed : far p a < scale * B + scale * B =
-    own_side here.u scale (lon_apart p a) (lat_apart p a) B (far p a) w.unit here.most near.lon near.lat here.by_both in
-    let other : scale * B + scale * B ≤ far p b =
-    elim (or_cases (nat_le (3 * B) (nat_abs (a.lat -ℤ b.lat)))
-    (nat_le (3 * (d * B)) (n * nat_abs (a.lon -ℤ b.lon))) spaced) [
-      | inl h ↦
-          by_latitude scale (lat_apart p b) B (far p b)
-          (omega (arith, triangle p.1 a.lat b.lat, leb-true (3 * B) (nat_abs (a.lat -ℤ b.lat)) h)) there.by_lat
-      | inr h ↦
-          by_longitude n d scale there.u (lon_apart p b) (nat_abs (a.lon -ℤ b.lon)) B (far p b) w.some w.unit
-          there.least
-          there.most (omega (arith, triangle p.0 a.lon b.lon)) (leb-true (3 * (d * B)) (n * nat_abs (a.lon -ℤ b.lon)) h)
-          there.by_lon
-    ] in
-    omega arith
+    grind (
+      arith,
+      own_side here.u scale (lon_apart p a) (lat_apart p a) B (far p a) w.unit here.most near.lon near.lat here.by_both,
+      by_latitude scale (lat_apart p b) B (far p b),
+      by_longitude n d scale there.u (lon_apart p b) (nat_abs (a.lon -ℤ b.lon)) B (far p b) w.some w.unit there.least,
+      triangle p.1 a.lat b.lat,
+      triangle p.0 a.lon b.lon,
+      leb-true (3 * B) (nat_abs (a.lat -ℤ b.lat)),
+      leb-true (3 * (d * B)) (n * nat_abs (a.lon -ℤ b.lon)),
+      or_cases (nat_le (3 * B) (nat_abs (a.lat -ℤ b.lat))) (nat_le (3 * (d * B)) (n * nat_abs (a.lon -ℤ b.lon))) spaced,
+    )
 
 -- ---- such measures exist
 
@@ -179,8 +170,4 @@ byte_close q s left c hq hs k =
     record { below = grind arith; above = grind arith }
 
 pub offset_close : (q s left c : ℕ) → 0 < q → 0 < s → IsCut q s (offset left s) c → IsClose q s left c
-offset_close q s left c hq hs =
-    cond_both (left == 0) None (Some (256 * left / s)) (λ o. IsCut q s o c → IsClose q s left c) (λ e k.
-    let nothing : q * left ≡ 0 = ap (λ (n : ℕ). q * n) (eqb-true left 0 e) ∙ omega arith in
-    let some : 0 < q * s = mul-pos hq hs in
-    record { below = omega arith; above = omega arith }) (λ _. byte_close q s left c hq hs)
+offset_close q s left c hq hs = grind (arith, cases_Bool (left == 0), eqb-true left 0, mul-pos hq hs, byte_close q s left c hq hs)

@@ -71,12 +71,9 @@ accounts_on C D E L M N left right p q x h = grind (arith, accounted_as, same_kn
 round_on : (L M N : Map) (v : ℕ) → SameRound L M v → SameRound M N v → SameRound L N v
 round_on L M N v r s = record {
   place = r.place ∙ s.place;
-  entering = λ x l. then (r.entering x l) (s.entering x l);
-  leaving = λ x l. then (r.leaving x l) (s.leaving x l);
+  entering = λ x l. grind (arith, r.entering x l, s.entering x l);
+  leaving = λ x l. grind (arith, r.leaving x l, s.leaving x l);
 }
-  where
-    then : {A B C : Type 0} → A ↔ B → B ↔ C → A ↔ C
-    then f g = ((λ a. g.0 (f.0 a)), (λ c. f.1 (g.1 c)))
 
 not_either : (xs ys : List ℕ) (v : ℕ) → has (xs ++ ys) v ≡ false → (has xs v ≡ false) × (has ys v ≡ false)
 not_either xs ys v h = or_parts (has xs v) (has ys v) (sym (list_any-append (λ y. y == v) xs ys) ∙ h)

@@ -81,10 +81,7 @@ near_of gs p q h i js k le =
     let r = reference_by_kept gs p q h i js in
     let near = λ (f : ℕ → ℤ). close_abs (decoded_bound k) _ (f (slice_index (h ∷ i ∷ js) k))
     (close_on f 7031250 h k (i ∷ js) (from_abs24 (abs24 (f h))) (close24 (f h)) le) in (
-      (
-        from_abs24 r.first.lon +ℤ steps_sum (take k (lon_steps r)),
-        from_abs24 r.first.lat +ℤ steps_sum (take k (lat_steps r)),
-      ),
+      _,
       cond-true _ _ _ (le-leb k (length r.middle + 1) (omega (arith, middle_count gs h i js))),
       record {
         lon = rw (relatives_of gs (λ n. (position gs n).lon) (λ m. m.dlon) (λ l. l.dlon) (λ _ _ _. refl) (λ _ _. refl) h i js)

@@ -102,9 +102,7 @@ with_node M v c m h = record {
 unused : (M : Map) (v : ℕ) → in_use M v ≡ false → (x : ℕ) → IsTrue (has_line M x) → (end M x ≢ v) × (start M x ≢ v)
 unused M v free x k =
     let test : Line → Bool = λ l. l.to == v || l.from == v in
-    let none = sym (has-lines_where M test x) ∙ none_has test (entries M.lines) x free in
-    let at = or_parts _ _ (ap (passes_at test) (sym (known_record M x k)) ∙ none) in
-    ((λ e. both_ways _ at.0 (eq-eqb (end M x) v e)), (λ e. both_ways _ at.1 (eq-eqb (start M x) v e)))
+    grind (arith, has-lines_where M test x, none_has test (entries M.lines) x free, known_record M x k, or_parts, eq-eqb)
 
 without_node : (M : Map) (v : ℕ) → IsMap M → in_use M v ≡ false → IsMap (record M { nodes = remove M.nodes v })
 without_node M v m h = grind (arith, left_other, unused, left_same, cases_eq)

@@ -35,8 +35,7 @@ pub linked_last : (M : Map) (ls : List ℕ) (p q : ℕ) (ks : List ℕ) → Link
 linked_last M ls p q [] l = grind (arith, Each-cons, Each-nil)
 linked_last M ls p q (r ∷ ks) l =
     let rest = linked_last M ls q r ks l.1 in
-    let h = Each-head (λ k. k ≤ (last_two q r ks).1) q (r ∷ ks) rest in
-    Each-cons (λ k. k ≤ (last_two q r ks).1) p (q ∷ r ∷ ks) (omega arith) rest
+    Each-cons (λ k. k ≤ (last_two q r ks).1) p (q ∷ r ∷ ks) (omega (arith, rest q (has_here q (r ∷ ks)))) rest
 
 pub has_last_two : (p q : ℕ) (ks : List ℕ) → (has (p ∷ q ∷ ks) (last_two p q ks).0 ≡ true)
     × (has (p ∷ q ∷ ks) (last_two p q ks).1 ≡ true)
@@ -101,11 +100,8 @@ abs24_fits : (z : ℤ) → negsuc 58982399999999 ≤ℤ z → z ≤ℤ pos 58982
     × (abs24 z ≤ℤ pos 8388607)
 abs24_fits z lo hi = grind (arith, ints)
 
-longitude_fits : (z : ℤ) → IsTrue (is_longitude z) → IsTrue (fits24 (abs24 z))
-longitude_fits z h = grind (arith, and_parts, abs24_fits, le_yes, and_from, le_test)
-
-latitude_fits : (z : ℤ) → IsTrue (is_latitude z) → IsTrue (fits24 (abs24 z))
-latitude_fits z h = grind (arith, and_parts, le_yes, abs24_fits, and_from, le_test)
+coord_fits : (c : Coord) → IsTrue (is_coord c) → IsTrue (fits24 (abs24 c.lon)) × IsTrue (fits24 (abs24 c.lat))
+coord_fits c h = grind (arith, and_parts, abs24_fits, le_yes, and_from, le_test)
 
 -- ---- lines with the coordinates of their ends
 
@@ -133,7 +129,7 @@ module _ (M : Map) (m : IsMap M) (ls : List ℕ) (known : Each (Known M) ls) whe
 
   pub first_fits : (i : ℕ) → IsTrue (fits24 (abs24 (position (legs M ls) i).lon))
       × IsTrue (fits24 (abs24 (position (legs M ls) i).lat))
-  first_fits i = grind (arith, and_parts, position_good i, longitude_fits, latitude_fits)
+  first_fits i = coord_fits (position (legs M ls) i) (position_good i)
 
   -- ---- parts of the list of lines
 
@@ -149,18 +145,7 @@ module _ (M : Map) (m : IsMap M) (ls : List ℕ) (known : Each (Known M) ls) whe
   greatest_below a (x ∷ xs) h lt = grind (arith, good_frc (line_at M x) (m.good x (Each-head (Known M) x xs h)), Each-head (Known M) x xs h, greatest_below (max a (line_at M x).frc) xs (Each-tail (Known M) x xs h), Each-tail (Known M) x xs h)
 
   pub attrs_fit : (i j : ℕ) → Candidate M ls i j → AreAttrs (attrs (legs M ls) i j)
-  attrs_fit i j c =
-      let g = leg_at_good i in
-      let long = dm_same i j in
-      record {
-        frc = g.frc;
-        fow = g.fow;
-        lfrc = coe 1 0 (k. fold max 0 (map (λ (g : Leg). g.line.frc) (range_legs i j k)) < 8)
-            (greatest_below 0 (stretch ls i j) (Each-range (Known M) ls i j known) (omega arith));
-        bearing = bearing_below (leg_at (legs M ls) i).begin
-            (scaled_coord (leg_at (legs M ls) i) (min 200 (leg_at (legs M ls) i).line.len));
-        dnp = omega arith;
-      }
+  attrs_fit i j c = grind (arith, leg_at_good i, dm_same i j, range_legs i j, greatest_below 0 (stretch ls i j) (Each-range (Known M) ls i j known), Each-range (Known M) ls i j known, bearing_below (leg_at (legs M ls) i).begin (scaled_coord (leg_at (legs M ls) i) (min 200 (leg_at (legs M ls) i).line.len)))
 
   -- ---- positions
 

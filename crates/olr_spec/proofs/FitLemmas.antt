@@ -32,31 +32,24 @@ module _ (M : Map) (m : IsMap M) (ls : List ℕ) (known : Each (Known M) ls) (n 
       → Each (λ k. a < k → positive < from_front (legs M ls) k) ks → Each (λ k. k < b → negative < to_back (legs M ls) k) ks
       → IsReference (reference_by (legs M ls) (positive - from_front (legs M ls) a) (negative - to_back (legs M ls) b) ks)
   by_kept [] l ha hb above below after before = absurd cc
-  by_kept (h ∷ []) l ha hb above below after before = absurd (only h a b ha hb two)
-    where
-      only : (h a b : ℕ) → has (h ∷ []) a ≡ true → has (h ∷ []) b ≡ true → a < b → ⊥
-      only h a b p q lt = grind (arith, nat_tests)
+  by_kept (h ∷ []) l ha hb above below after before = grind (arith, has_cases h [] a ha, has_cases h [] b hb)
   by_kept (h ∷ i ∷ ks) l ha hb above below after before =
       let gs = legs M ls in
-      let first : h ≡ a = omega (arith, linked_above M ls h (i ∷ ks) l a ha, above h (has_here h (i ∷ ks))) in
-      let first_front = ap (from_front gs) first in
-      let far = after i (has_there h (i ∷ ks) i (has_here i ks)) (omega arith) in
-      let sum = from_front-add gs h i (omega arith) in
-      let two_last = last_two h i ks in
+      let t = last_two h i ks in
       let c = last_two_linked M ls h i ks l in
       let hx = has_last_two h i ks in
-      let last : two_last.1 ≡ b = omega (arith, linked_last M ls h i ks l b hb, below two_last.1 hx.1) in
-      let last_back = ap (to_back gs) last in
-      let far_back = before two_last.0 hx.0 (omega arith) in
-      let sum_back = from_front-add gs two_last.0 two_last.1 (omega arith) in
-      let f = first_fits M m ls known h in
+      let first : h ≡ a = omega (arith, linked_above M ls h (i ∷ ks) l a ha, above h (has_here h (i ∷ ks))) in
+      let last : t.1 ≡ b = omega (arith, linked_last M ls h i ks l b hb, below t.1 hx.1) in
+      let far = after i (has_there h (i ∷ ks) i (has_here i ks)) (omega arith) in
+      let far_back = before t.0 hx.0 (omega arith) in
       record {
-        first = record { lon = f.0; lat = f.1; attrs = attrs_fit M m ls known h i l.0 };
+        first = grind (arith, first_fits M m ls known h, attrs_fit M m ls known h i l.0);
         middle = middles_fit M m ls known h i ks n l;
-        last = last_fits M m ls known two_last.0 two_last.1 n c;
-        pos = offset_fits (positive - from_front gs a) (dm_between gs h i) (omega arith);
-        neg = offset_fits (negative - to_back gs b) (dm_between gs two_last.0 two_last.1)
-            (omega (arith, whole gs two_last.0, whole gs two_last.1));
+        last = last_fits M m ls known t.0 t.1 n c;
+        pos = offset_fits (positive - from_front gs a) (dm_between gs h i)
+            (omega (arith, ap (from_front gs) first, from_front-add gs h i (omega arith)));
+        neg = offset_fits (negative - to_back gs b) (dm_between gs t.0 t.1)
+            (omega (arith, ap (to_back gs) last, from_front-add gs t.0 t.1 (omega arith), whole gs t.0, whole gs t.1));
       }
 
 -- the first and the last LRP by the offsets are among those that remain
@@ -79,11 +72,19 @@ reference_fits M m ls known n js positive negative f e less =
     let back = (back_within gs negative js (e ∙ sym (length-map ls (leg M)))).1 in
     let kept = has_filter (between a b) (0 ∷ js) in
     by_kept M m ls known n positive negative a b two (front_within gs positive js) back (kept_points gs positive negative js)
-    (kept_linked M ls a b (0 ∷ js) l) ends.0 ends.1 (λ k h. ((between_is a b k).0 (kept k h).1).0)
-    (λ k h. ((between_is a b k).0 (kept k h).1).1) (λ k h lt. leb-false (from_front gs k) positive
-    (none_after M ls (λ i. nat_le (from_front gs i) positive) 0 0 js l (omega arith) k (kept k h).0 lt))
-    (λ k h lt. leb-false (to_back gs k) negative
-    (none_before M ls (λ i. nat_le (to_back gs i) negative) 0 0 js l k (kept k h).0 lt))
+    (kept_linked M ls a b (0 ∷ js) l) ends.0 ends.1 (λ k h. grind (arith, kept k h, between_is a b k))
+    (λ k h. grind (arith, kept k h, between_is a b k)) (λ k h lt. grind (
+      arith,
+      kept k h,
+      leb-false (from_front gs k) positive,
+      none_after M ls (λ i. nat_le (from_front gs i) positive) 0 0 js l,
+    ))
+    (λ k h lt. grind (
+      arith,
+      kept k h,
+      leb-false (to_back gs k) negative,
+      none_before M ls (λ i. nat_le (to_back gs i) negative) 0 0 js l k,
+    ))
 
 -- ---- an answer
 
@@ -118,17 +119,15 @@ pub answered : (M : Map) (E : Path) (js : List ℕ) (r : Reference) → Points r
     (last_position 0 js ≡ length E.lines) × (r ≡ reference (legs M E.lines) E.pos E.neg js)
 answered M E js r h = grind (arith, cond_both, eqb-true)
 
-answer_fits : (M : Map) → IsMap M → (P : Path) → IsTrue (is_path P.lines) → path_fault M P ≡ None → (r : Reference) →
-    Encoding M P (Points r) → IsReference r
-answer_fits M m P is none r p =
-    let E = extended_path M P p.before p.after in
-    let s = extended_sound M P is none p.before p.after p.tried in
-    let a = answered M E p.points r p.holds in
-    subst IsReference (sym a.1) (reference_fits M m E.lines s.known s.size p.points E.pos E.neg p.follow a.0 s.long)
-
 -- a path whose answer is a reference has no fault, and the reference is its encoding
 pub by_answer : (M : Map) (P : Path) (r : Reference) → Encodes M P (Points r) → (path_fault M P ≡ None) × Encoding M P (Points r)
 by_answer M P r = grind (arith, by_fault)
 
 pub encoded_fits : AnswerFits
-encoded_fits M m P is r p = let e = by_answer M P r p in answer_fits M m P is e.0 r e.1
+encoded_fits M m P is r q =
+    let x = by_answer M P r q in
+    let p = x.1 in
+    let E = extended_path M P p.before p.after in
+    let s = extended_sound M P is x.0 p.before p.after p.tried in
+    let a = answered M E p.points r p.holds in
+    subst IsReference (sym a.1) (reference_fits M m E.lines s.known s.size p.points E.pos E.neg p.follow a.0 s.long)

@@ -131,9 +131,8 @@ module _ (p : First) (is : IsFirst p) where
       let q = read_middle a b c d e f g t w (leb-false 64 e parts.0) in
       let place : 7 * suc m + 5 ≡ 7 + (7 * m + 5) = omega arith in
       let same = ap (slice_index (cut ++ t)) place ∙ get_or-append-add cut t (7 * m + 5) 0 in
-      let left : suc (suc (suc (suc (suc (suc (suc (length t))))))) - (7 * suc m + 6) ≡ length t - (7 * m + 6) = omega arith in
-      let rest = read_points m t w.1.1.1.1.1.1.1 (omega arith) (ap (λ (x : ℕ). bit 6 x + bit 5 x) (sym same) ∙ flags ∙ left)
-      (coe 0 1 (i. (same i) < 128) top) (ap reserved (sym (attributes_behind cut t 4 (suc m))) ∙ parts.1) in (
+      let rest = read_points m t w.1.1.1.1.1.1.1 (omega arith) (omega arith) (omega arith)
+      (ap reserved (sym (attributes_behind cut t 4 (suc m))) ∙ parts.1) in (
         record rest.0 { middle = q.0 ∷ rest.0.middle },
         record { first = rest.1.first; middle = (q.1, rest.1.middle); last = rest.1.last; pos = rest.1.pos; neg = rest.1.neg },
         rest.2,
@@ -173,10 +172,9 @@ read_bytes (s ∷ a ∷ b ∷ c ∷ d ∷ e ∷ f ∷ g ∷ k ∷ l ∷ t) w p =
     let first = read_first a b c d e f g k l t w.1 (leb-false 64 g parts.0) in
     let place : length (cut ++ t) - 1 - extra (cut ++ t) ≡ 10 + (7 * m + 5) = omega arith in
     let same = ap (slice_index (cut ++ t)) place ∙ get_or-append-add cut t (7 * m + 5) 0 in
-    let left : extra (cut ++ t) ≡ length t - (7 * m + 6) = omega arith in
+    let long : extra (cut ++ t) ≡ length t - (7 * m + 6) = omega arith in
     let count : m + 1 ≡ suc m = omega arith in
-    let rest = read_points first.0 first.1 m t w.1.1.1.1.1.1.1.1.1.1 (omega arith) (ap (λ (x : ℕ). bit 6 x + bit 5 x) (sym same) ∙ p.flags ∙ left)
-    (coe 0 1 (i. (same i) < 128) p.top)
+    let rest = read_points first.0 first.1 m t w.1.1.1.1.1.1.1.1.1.1 (omega arith) (omega (arith, p.flags)) (omega (arith, p.top))
     (ap reserved (sym (attributes_behind cut t 4 (suc m)) ∙ ap (attribute1_bytes (cut ++ t) 14) (sym count)) ∙ parts.1) in (
       rest.0,
       (rest.1, λ i. p.status i ∷ (sym first.2 ∙ ap first_bytes (sym rest.2)) i ++ rest.3 i),

@@ -8,7 +8,7 @@ use Rattle.std.specs.List.{concat, AllZip}
 use Rattle.std.proofs.Common.{get_or}
 use Rattle.std.proofs.lemmas.List.{get_or-map}
 use Rattle.std.proofs.lemmas.List.Sums.{AllPass-from_list_all, list_all-from_AllPass}
-use Rattle.std.proofs.lemmas.Bool.{cases_lt, or_cases, or_left, or_right}
+use Rattle.std.proofs.lemmas.Bool.{cond-false, cases_lt, or_cases, or_left, or_right}
 use Rattle.olr_spec.specs.Map.{Map, IsMap, coord_at, start, end}
 use Rattle.olr_spec.specs.Extension.{Path, is_path, none_twice, extended_path, first, last, AreJoined}
 use Rattle.olr_spec.specs.Points.{stretch, OfPath, node_at}
@@ -68,9 +68,7 @@ module _ (R : Receiver) (M : Map) (m : IsMap M) (ls : List ℕ) (known : Each (K
   own_in r h i lt is s = grind (arith, has_index, leg_is)
 
   within_stretch : (i j : ℕ) → Within M (attrs (legs M ls) i j).lfrc (stretch ls i j)
-  within_stretch i j =
-      coe 1 0 (k. Within M (fold max 0 (map (λ (g : Leg). g.line.frc) (range_legs M m ls known i j k))) (stretch ls i j))
-      (within_greatest M 0 (stretch ls i j))
+  within_stretch i j = grind (arith, range_legs M m ls known i j, within_greatest M 0 (stretch ls i j))
 
   -- ---- one LRP after another
 
@@ -165,12 +163,14 @@ at_end : (M : Map) → IsMap M → (ls : List ℕ) → Each (Known M) ls → Are
 at_end M m ls known joined i some up = elim (cases_lt i (length ls)) [
   | inl lt ↦
       let on : i - 1 + 1 ≡ i = omega arith in
-      at_start M ls i lt ∙ ap (λ (k : ℕ). start M (slice_index ls k)) (sym on)
-      ∙ sym (next_start M (start M (first ls)) (end M (last ls)) ls (i - 1) joined (omega arith))
+      let next = next_start M (start M (first ls)) (end M (last ls)) ls (i - 1) joined (omega arith) in
+      cc (at_start M ls i lt)
   | inr ge ↦
       let whole : length ls ≡ i = omega arith in
-      ap (λ (b : Bool). cond b (start M (slice_index ls i)) (end M (last ls))) (le-ltb i (length ls) ge)
-      ∙ ap (end M) (last_index ls (omega arith)) ∙ ap (λ (k : ℕ). end M (slice_index ls (k - 1))) whole
+      cc (
+        cond-false (nat_lt i (length ls)) (start M (slice_index ls i)) (end M (last ls)) (le-ltb i (length ls) ge),
+        last_index ls (omega arith),
+      )
 ]
 
 spaced_nearest : (n d scale : ℕ) (far : Measure) → IsWeighted n d scale far → (k : ℕ) (p : ℤ × ℤ) (s : Side) (g : Leg) →

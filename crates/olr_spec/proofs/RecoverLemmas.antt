@@ -21,13 +21,9 @@ use Rattle.olr_spec.proofs.JoinLemmas.{stretch_first, stretch_last, empty_stretc
 
 -- ---- lists
 
-within_left : (M : Map) (c : ℕ) (xs ys : List ℕ) → Within M c (xs ++ ys) → Within M c xs
-within_left M c [] ys w = tt
-within_left M c (x ∷ xs) ys w = (w.0, within_left M c xs ys w.1)
-
-within_right : (M : Map) (c : ℕ) (xs ys : List ℕ) → Within M c (xs ++ ys) → Within M c ys
-within_right M c [] ys w = w
-within_right M c (x ∷ xs) ys w = within_right M c xs ys w.1
+within_parts : (M : Map) (c : ℕ) (xs ys : List ℕ) → Within M c (xs ++ ys) → Within M c xs × Within M c ys
+within_parts M c [] ys w = (tt, w)
+within_parts M c (x ∷ xs) ys w = let r = within_parts M c xs ys w.1 in ((w.0, r.0), r.1)
 
 -- ---- the greatest class
 
@@ -62,11 +58,10 @@ more_lines : (M : Map) (c x y : ℕ) (all r : List ℕ) → x ≢ y → Within M
     LrpRoute M (end M x) (start M y) r → (w : List ℕ) → RecoversLast M c x y w ↔ (w ≡ all)
 more_lines M c x y all r n within is route w =
     let parts : Within M c (x ∷ (r ++ y ∷ [])) = subst (Within M c) is within in
-    let front = within_left M c r (y ∷ []) parts.1 in
-    let back = within_right M c r (y ∷ []) parts.1 in
-    let found = route_shortest M c (end M x) (start M y) r route front in
-    let same = shortest_is M c (end M x) (start M y) r route front in
-    ((λ k. grind (arith, same)), (λ g. More_lines r n (g ∙ is) found back.0))
+    let ends = within_parts M c r (y ∷ []) parts.1 in
+    let found = route_shortest M c (end M x) (start M y) r route ends.0 in
+    let same = shortest_is M c (end M x) (start M y) r route ends.0 in
+    ((λ k. grind (arith, same)), (λ g. More_lines r n (g ∙ is) found ends.1.0))
 
 pub recovers_last : (M : Map) (ls : List ℕ) (c p q : ℕ) → p < q → q ≤ length ls →
     (p + 1 < q → slice_index ls p ≢ slice_index ls (q - 1)) → Within M c (stretch ls p q) → JoinsLast M ls p q →
@@ -85,12 +80,7 @@ recovers_last M ls c p q lt up differ within j w =
 
 pushed_once : (ls : List ℕ) (x : ℕ) → none_twice ls ≡ true → has ls x ≡ false → none_twice (ls ++ x ∷ []) ≡ true
 pushed_once [] x o h = refl
-pushed_once (y ∷ ls) x o h =
-    let parts = and_parts (not (has ls y)) (none_twice ls) o in
-    let off = or_parts (y == x) (has ls x) h in
-    let differ : (x == y) ≡ false = ne_eqb x y (λ e. both_ways (y == x) off.0 (eq-eqb y x (sym e))) in
-    let fresh = list_any-append (λ v. v == y) ls (x ∷ []) ∙ (λ i. not-true _ parts.0 i || (differ i || false)) in
-    and_from _ _ (not_from_false _ fresh) (pushed_once ls x parts.1 off.1)
+pushed_once (y ∷ ls) x o h = grind (arith, and_parts (not (has ls y)) (none_twice ls) o, or_parts (y == x) (has ls x) h, ne_eqb x y, both_ways (y == x), eq-eqb y x, list_any-append, not-true, and_from, not_from_false, pushed_once ls x)
 
 pub extended_once : (M : Map) (P : Path) (b a : List ℕ) → IsTrue (is_path P.lines) → Tried M P b a →
     none_twice (extended_path M P b a).lines ≡ true

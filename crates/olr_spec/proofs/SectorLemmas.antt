@@ -4,6 +4,7 @@ use Rattle.std.proofs.Common.{◌-ℤ◌, neg_ℤ, Bool, true, T, List, ◌∷�
 use Rattle.std.proofs.Common.{◌∙◌, subst, arith, [], eq-eqb, int_le, int_lt, find}
 use Rattle.std.proofs.lemmas.Bool.{and_parts, and_from, cases_order, or_left, or_right, both_ways, cond_both}
 use Rattle.std.proofs.lemmas.List.Folds.{list_any-append}
+use Rattle.std.proofs.Common.{negsuc}
 use Rattle.std.proofs.lemmas.Int.{ints, by_lt_z}
 use Rattle.olr_spec.specs.Bearings.{vector, quarter_turn, boundary, beyond, lies_between, IsSector, up_to}
 use Rattle.olr_spec.specs.Map.{has}
@@ -178,18 +179,13 @@ in_quadrant : (e n : ℤ) (q : ℕ) → q < 4 → InQuadrant q e n → (k : ℕ)
 in_quadrant e n q lt h = grind (arith, turns, crossing, of_at)
 
 pub some_sector : (e n : ℤ) → ¬ ((e ≡ pos 0) × (n ≡ pos 0)) → (k : ℕ) × IsSector e n k
-some_sector e n ne =
-    by_lt_z {P = (k : ℕ) × IsSector e n k} e (pos 0)
-    (λ west. by_lt_z {P = (k : ℕ) × IsSector e n k} n (pos 0)
-    (λ south. in_quadrant e n 2 (omega arith) (omega (arith, ints), omega (arith, ints)))
-    (λ north. in_quadrant e n 3 (omega arith) (omega (arith, ints), omega (arith, ints))))
-    (λ east. by_lt_z {P = (k : ℕ) × IsSector e n k} (pos 0) n
-    (λ north. in_quadrant e n 0 (omega arith) (east, north))
-    (λ south. by_lt_z {P = (k : ℕ) × IsSector e n k} (pos 0) e
-    (λ strict. in_quadrant e n 1 (omega arith) (omega (arith, ints), strict))
-    (λ no_east. by_lt_z {P = (k : ℕ) × IsSector e n k} n (pos 0)
-    (λ strict. in_quadrant e n 2 (omega arith) (omega (arith, ints), omega (arith, ints)))
-    (λ no_south. absurd (ne (omega (arith, ints), omega (arith, ints)))))))
+some_sector (pos zero) (pos zero) ne = absurd (ne (refl, refl))
+some_sector (pos a) (pos (suc b)) ne = in_quadrant (pos a) (pos (suc b)) 0 (omega arith) (omega (arith, ints))
+some_sector (pos (suc a)) (pos zero) ne = in_quadrant (pos (suc a)) (pos zero) 1 (omega arith) (omega (arith, ints))
+some_sector (pos (suc a)) (negsuc b) ne = in_quadrant (pos (suc a)) (negsuc b) 1 (omega arith) (omega (arith, ints))
+some_sector (pos zero) (negsuc b) ne = in_quadrant (pos zero) (negsuc b) 2 (omega arith) (omega (arith, ints))
+some_sector (negsuc a) (negsuc b) ne = in_quadrant (negsuc a) (negsuc b) 2 (omega arith) (omega (arith, ints))
+some_sector (negsuc a) (pos b) ne = in_quadrant (negsuc a) (pos b) 3 (omega arith) (omega (arith, ints))
 
 -- ---- the computed sector
 

@@ -60,13 +60,7 @@ unused_where_absent M m v absent = elim (cases_Bool (in_use M v)) [
       let test : Line → Bool = λ l. l.to == v || l.from == v in
       let x = any_has test (entries M.lines) used in
       let line = passed_line test (get M.lines x.0) (sym (has-lines_where M test x.0) ∙ x.1) in
-      let there : has_line M x.0 ≡ true = ap (λ (o : Option Line). is_some o) line.1 in
-      let is : line_at M x.0 ≡ line.0 = ap (λ (o : Option Line). unwrap_or o no_line) line.1 in
-      let at = rw (← is) at line.2 in
-      absurd (both_ways (has_node M v) absent (elim (or_cases _ _ at) [
-        | inl t ↦ rw (eqb-true (end M x.0) v t) at (m.ends x.0 there)
-        | inr f ↦ rw (eqb-true (start M x.0) v f) at (m.starts x.0 there)
-      ]))
+      grind (arith, line.1, line.2, or_cases (line.0.to == v) (line.0.from == v), eqb-true, m.ends x.0, m.starts x.0)
 ]
 
 -- ---- edits
