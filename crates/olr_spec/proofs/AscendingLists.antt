@@ -72,7 +72,14 @@ there_found xs x (Err i) h c = absurd (not_among xs x i h c)
 
 pub insert_ascends : (xs : List ℕ) (x i : ℕ) → IsStrictlyIncreasing xs → IsSearchResult xs x (Err i) →
     IsStrictlyIncreasing (insert xs i x)
-insert_ascends xs x i up h k lt = grind (arith, cases_order k i, cases_eq (k + 1) i, length-insert xs i x h.0, get_or-insert_at xs i x 0 h.0, get_or-insert_below xs i x 0 k, get_or-insert_below xs i x 0 (k + 1), get_or-insert_above xs i x 0 k, get_or-insert_above xs i x 0 (k - 1))
+insert_ascends xs x i up h k lt =
+    let there = get_or-insert_below xs i x 0 k in
+    let near = get_or-insert_below xs i x 0 (k + 1) in
+    let next = get_or-insert_above xs i x 0 k in
+    let later = get_or-insert_above xs i x 0 (k - 1) in
+    let here = length-insert xs i x h.0 in
+    let also = get_or-insert_at xs i x 0 h.0 in
+    grind (arith, cases_order k i, cases_eq (k + 1) i)
 
 -- a number above all of them, at the end
 pub ascends_push : (xs : List ℕ) (x : ℕ) → IsStrictlyIncreasing xs → ((k : ℕ) → k < length xs → get_or xs k 0 < x) →
@@ -94,33 +101,26 @@ insert_keeps xs x i n h = Contains-permutation (x ∷ xs) (insert xs i x) n (IsP
 -- ---- one number less
 
 pub ascends-remove : (xs : List ℕ) (i : ℕ) → IsStrictlyIncreasing xs → i < length xs → IsStrictlyIncreasing (remove xs i)
-ascends-remove xs i up at k lt = grind (arith, length-remove, ⊎_elim, get_or-remove_below, get_or-remove_above, cases_lt)
+ascends-remove xs i up at k lt =
+    grind (arith, length-remove, ⊎_elim, get_or-remove_below, get_or-remove_above, cases_lt)
 
 -- a number that is removed is no longer in the list
 gone : (xs : List ℕ) (i x : ℕ) → IsStrictlyIncreasing xs → i < length xs → get_or xs i 0 ≡ x → has (remove xs i) x ≡ false
-gone xs i x up at is = has_not (remove xs i) x (λ k lt e. grind (
-  arith,
-  cases_lt k i,
-  length-remove xs i at,
-  get_or-remove_below xs i 0 k,
-  get_or-remove_above xs i 0 k,
-  AllPairs-from_increasing xs up k i 0,
-  AllPairs-from_increasing xs up i (k + 1) 0,
-))
+gone xs i x up at is = has_not (remove xs i) x (λ k lt e.
+    let here = get_or-remove_below xs i 0 k in
+    let there = get_or-remove_above xs i 0 k in
+    let near = length-remove xs i at in
+    let next = AllPairs-from_increasing xs up k i 0 in
+    let later = AllPairs-from_increasing xs up i (k + 1) 0 in
+    grind (arith, cases_lt k i))
 
 pub has-remove : (xs : List ℕ) (i x n : ℕ) → IsStrictlyIncreasing xs → i < length xs → get_or xs i 0 ≡ x →
     has (remove xs i) n ≡ (not (x == n) && has xs n)
 has-remove xs i x n up at is =
     let parted : IsPermutation xs (x ∷ remove xs i) =
     IsPermutation-remove xs i x at (sym (get_or_default xs i x 0 at ∙ is)) in
-    grind (
-      arith,
-      cases_Bool (x == n),
-      cases_Bool (has xs n),
-      eqb-true x n,
-      gone xs i x up at is,
-      list_any-IsPermutation (λ y. y == n) xs (x ∷ remove xs i) parted,
-    )
+    let same = list_any-IsPermutation (λ y. y == n) xs (x ∷ remove xs i) parted in
+    grind (arith, cases_Bool (x == n), cases_Bool (has xs n), eqb-true x n, gone xs i x up at is)
 
 -- ---- as sets: by the result of a search
 

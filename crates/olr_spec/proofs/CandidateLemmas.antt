@@ -55,24 +55,17 @@ module _ (R : Receiver) (M : Map) (t : Lrp) (x : ℕ) (o : Own R M t x) where
 
   another_kind : (y : ℕ) → node_on t.side (leg M x) ≡ node_on t.side (leg M y) →
       are_twins t.side (leg M x) (leg M y) ≡ false → SomewhereBetter (rating R t (leg M x)) (rating R t (leg M y))
-  another_kind y e off = grind (
-    arith,
-    R.frcs.same t.frc,
-    R.fows.same t.fow,
-    R.bearings.same t.bearing,
-    cases_eq,
-    some_apart,
-    both_ways,
-    and_from,
-    eq-eqb,
-  )
+  another_kind y e off =
+      let here = R.bearings.same t.bearing in
+      grind (arith, cases_eq, some_apart, both_ways, eq-eqb, R.frcs.same t.frc, R.fows.same t.fow)
 
   not_same : (y : ℕ) → y ≢ x → (y == x) || not (are_twins t.side (leg M x) (leg M y)) ≡ true →
       are_twins t.side (leg M x) (leg M y) ≡ false
   not_same y n h = grind (arith, or_cases, eqb-true)
 
   preferred : (y : ℕ) → IsTrue (has_line M y) → y ≢ x → IsTrue (R.prefers (rating R t (leg M x)) (rating R t (leg M y)))
-  preferred y h n = grind (arith, passes, not_same, or_cases, eqb-true, nowhere_worse, same_coordinate, another_kind, ltb-true)
+  preferred y h n =
+      grind (arith, passes, not_same, or_cases, eqb-true, nowhere_worse, same_coordinate, another_kind, ltb-true)
 
   irreflexive : (a : Rating) → IsFalse (R.prefers a a)
   irreflexive a = elim (cases_Bool (R.prefers a a)) [ inl p ↦ R.strict a a p | inr p ↦ p ]
@@ -144,17 +137,14 @@ nearer n d scale far w k p a b near spaced =
     let B = decoded_bound k in
     let here = w.all p a in
     let there = w.all p b in
-    grind (
-      arith,
-      own_side here.u scale (lon_apart p a) (lat_apart p a) B (far p a) w.unit here.most near.lon near.lat here.by_both,
-      by_latitude scale (lat_apart p b) B (far p b),
-      by_longitude n d scale there.u (lon_apart p b) (nat_abs (a.lon -ℤ b.lon)) B (far p b) w.some w.unit there.least,
-      triangle p.1 a.lat b.lat,
-      triangle p.0 a.lon b.lon,
-      leb-true (3 * B) (nat_abs (a.lat -ℤ b.lat)),
-      leb-true (3 * (d * B)) (n * nat_abs (a.lon -ℤ b.lon)),
-      or_cases (nat_le (3 * B) (nat_abs (a.lat -ℤ b.lat))) (nat_le (3 * (d * B)) (n * nat_abs (a.lon -ℤ b.lon))) spaced,
-    )
+    let own = own_side here.u scale (lon_apart p a) (lat_apart p a) B (far p a) w.unit here.most near.lon near.lat here.by_both in
+    let north = by_latitude scale (lat_apart p b) B (far p b) in
+    let east = by_longitude n d scale there.u (lon_apart p b) (nat_abs (a.lon -ℤ b.lon)) B (far p b) w.some w.unit there.least in
+    let next = triangle p.1 a.lat b.lat in
+    let later = triangle p.0 a.lon b.lon in
+    let also = leb-true (3 * B) (nat_abs (a.lat -ℤ b.lat)) in
+    let more = leb-true (3 * (d * B)) (n * nat_abs (a.lon -ℤ b.lon)) in
+    grind (arith, or_cases (nat_le (3 * B) (nat_abs (a.lat -ℤ b.lat))) _ spaced)
 
 -- ---- such measures exist
 
@@ -170,4 +160,4 @@ byte_close q s left c hq hs k =
     record { below = grind arith; above = grind arith }
 
 pub offset_close : (q s left c : ℕ) → 0 < q → 0 < s → IsCut q s (offset left s) c → IsClose q s left c
-offset_close q s left c hq hs = grind (arith, cases_Bool (left == 0), eqb-true left 0, mul-pos hq hs, byte_close q s left c hq hs)
+offset_close q s left c hq hs = grind (arith, cases_Bool (left == 0), eqb-true left 0, byte_close q s left c hq hs)

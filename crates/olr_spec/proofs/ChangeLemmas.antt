@@ -79,4 +79,5 @@ not_either : (xs ys : List ℕ) (v : ℕ) → has (xs ++ ys) v ≡ false → (ha
 not_either xs ys v h = or_parts (has xs v) (has ys v) (sym (list_any-append (λ y. y == v) xs ys) ∙ h)
 
 pub differences_add : DifferencesAdd
-differences_add L M N T U X Y C D p q = grind (arith, Contains-append_left C D, Contains-append_right C D, not_either T U, round_on L M N, not_either X Y, accounts_on C D (C ++ D) L M N, accounts_on D C (C ++ D) N M L)
+differences_add L M N T U X Y C D p q =
+    grind (arith, Contains-append_left C D, Contains-append_right C D, not_either T U, round_on L M N, not_either X Y)

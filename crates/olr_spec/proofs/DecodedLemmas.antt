@@ -138,15 +138,7 @@ module _ (M : Map) (P : Path) (is : IsTrue (is_path P.lines)) (none : path_fault
       let ends = kept_ends M E.lines e.points E.pos E.neg e.follow ans.0 s.long in
       let t = two_of Kept a b ends.0 ends.1 (two_kept M E.lines e.points E.pos E.neg e.follow ans.0 s.long) in
       let fields_are : r ≡ reference_by_kept gs Front Back t.0 t.1 t.2 = ans.1 ∙ ap (reference_by gs Front Back) t.3 in
-      record {
-        h = t.0;
-        i = t.1;
-        js = t.2;
-        kept = t.3;
-        linked = subst (Linked M E.lines) t.3
-            (kept_linked M E.lines a b (0 ∷ e.points) (follow_linked M E.lines 0 e.points e.follow));
-        fields_are = fields_are;
-      }
+      grind (arith, kept_linked M E.lines a b (0 ∷ e.points) (follow_linked M E.lines 0 e.points e.follow))
 
   pub answer_decodes : Decodes (legs M E.lines) Kept r
   answer_decodes = coe 1 0 (i. Decodes (legs M E.lines) (form.kept i) (form.fields_are i))

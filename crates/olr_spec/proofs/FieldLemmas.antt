@@ -49,44 +49,38 @@ last_two_linked M ls p q (r ∷ ks) l = last_two_linked M ls q r ks l.1
 
 pub has_last_where : (test : ℕ → Bool) (d : ℕ) (xs : List ℕ) → has (d ∷ xs) (last_where test d xs) ≡ true
 has_last_where test d [] = has_here d []
-has_last_where test d (x ∷ xs) = grind (arith, cond_both, has_there, has_cases, has_here, (has_last_where test x xs), (has_last_where test d xs))
+has_last_where test d (x ∷ xs) =
+    grind (arith, cond_both, has_there, has_cases, has_here, (has_last_where test x xs), (has_last_where test d xs))
 
 at_least : (M : Map) (ls : List ℕ) (test : ℕ → Bool) (d q : ℕ) (ks : List ℕ) → Linked M ls (q ∷ ks) → d ≤ q →
     d ≤ last_where test d (q ∷ ks)
-at_least M ls test d q ks l h = grind (arith, has_cases d (q ∷ ks) (last_where test d (q ∷ ks)) (has_last_where test d (q ∷ ks)), has_last_where test d (q ∷ ks), linked_above M ls q ks l (last_where test d (q ∷ ks)))
+at_least M ls test d q ks l h =
+    let here = has_cases d (q ∷ ks) (last_where test d (q ∷ ks)) (has_last_where test d (q ∷ ks)) in
+    grind (arith, linked_above M ls q ks l (last_where test d (q ∷ ks)))
 
 -- after the last that passes, none passes
 pub none_after : (M : Map) (ls : List ℕ) (test : ℕ → Bool) (d p : ℕ) (ks : List ℕ) → Linked M ls (p ∷ ks) → d ≤ p →
     (k : ℕ) → has (p ∷ ks) k ≡ true → last_where test d (p ∷ ks) < k → test k ≡ false
 none_after M ls test d p [] l h k i lt = grind (arith, has_cases, cond_both)
 none_after M ls test d p (q ∷ ks) l h k i lt =
-    grind (
-      arith,
-      has_cases p (q ∷ ks) k i,
-      cases_Bool (test p),
-      none_after M ls test p q ks l.1,
-      none_after M ls test d q ks l.1,
-      at_least M ls test p q ks l.1,
-    )
+    let here = none_after M ls test p q ks l.1 in
+    let there = none_after M ls test d q ks l.1 in
+    grind (arith, cases_Bool (test p), has_cases p (q ∷ ks) k i, at_least M ls test p q ks l.1)
 
 -- before the first that passes, none passes
 pub none_before : (M : Map) (ls : List ℕ) (test : ℕ → Bool) (d p : ℕ) (ks : List ℕ) → Linked M ls (p ∷ ks) → (k : ℕ) →
     has (p ∷ ks) k ≡ true → k < first_where test d (p ∷ ks) → test k ≡ false
 none_before M ls test d p [] l k i lt = grind (arith, has_cases, cond_both)
 none_before M ls test d p (q ∷ ks) l k i lt =
-    grind (
-      arith,
-      has_cases p (q ∷ ks) k i,
-      cases_Bool (test p),
-      linked_above M ls p (q ∷ ks) l k,
-      none_before M ls test d q ks l.1 k,
-    )
+    let here = none_before M ls test d q ks l.1 k in
+    grind (arith, cases_Bool (test p), has_cases p (q ∷ ks) k i, linked_above M ls p (q ∷ ks) l k)
 
 -- ---- parts
 
 find_each : (Q : ℕ → Type 0) (p : ℕ → Bool) (xs : List ℕ) (d : ℕ) → Each Q xs → Q d → Q (unwrap_or (find p xs) d)
 find_each Q p [] d h q = q
-find_each Q p (x ∷ xs) d h q = grind (arith, cond_both, Each-head, Each-tail, (find_each Q p xs d (Each-tail Q x xs h) q))
+find_each Q p (x ∷ xs) d h q =
+    grind (arith, cond_both, Each-head, Each-tail, (find_each Q p xs d (Each-tail Q x xs h) q))
 
 pub sector_below : (e n : ℤ) → sector e n < 32
 sector_below e n = find_each (λ k. k < 32) (λ k. lies_between (boundary k) (boundary (suc k)) (vector e n)) (up_to 32) 0
@@ -122,7 +116,10 @@ no_leg_good = record { frc = omega arith; fow = omega arith; begin = refl; finis
 
 module _ (M : Map) (m : IsMap M) (ls : List ℕ) (known : Each (Known M) ls) where
   leg_at_good : (i : ℕ) → IsLeg (leg_at (legs M ls) i)
-  leg_at_good i = grind (arith, cases_lt i (length ls), get_or-map (leg M) ls i 0 no_leg, leg_good M m (slice_index ls i), has_index ls i, get_or_past (legs M ls) i no_leg, length-map ls (leg M), no_leg_good)
+  leg_at_good i =
+      let here = get_or-map (leg M) ls i 0 no_leg in
+      let there = get_or_past (legs M ls) i no_leg in
+      grind (arith, has_index ls i, length-map ls (leg M), cases_lt i (length ls), leg_good M m (slice_index ls i))
 
   position_good : (i : ℕ) → IsTrue (is_coord (position (legs M ls) i))
   position_good i = grind (arith, leg_at_good)
@@ -142,10 +139,16 @@ module _ (M : Map) (m : IsMap M) (ls : List ℕ) (known : Each (Known M) ls) whe
   greatest_below : (a : ℕ) (xs : List ℕ) → Each (Known M) xs → a < 8 →
       fold max a (map (λ (g : Leg). g.line.frc) (legs M xs)) < 8
   greatest_below a [] h lt = lt
-  greatest_below a (x ∷ xs) h lt = grind (arith, good_frc (line_at M x) (m.good x (Each-head (Known M) x xs h)), Each-head (Known M) x xs h, greatest_below (max a (line_at M x).frc) xs (Each-tail (Known M) x xs h), Each-tail (Known M) x xs h)
+  greatest_below a (x ∷ xs) h lt =
+      let here = greatest_below (max a (line_at M x).frc) xs (Each-tail (Known M) x xs h) in
+      grind (arith, Each-head (Known M) x xs h, good_frc (line_at M x) (m.good x (Each-head (Known M) x xs h)))
 
   pub attrs_fit : (i j : ℕ) → Candidate M ls i j → AreAttrs (attrs (legs M ls) i j)
-  attrs_fit i j c = grind (arith, leg_at_good i, dm_same i j, range_legs i j, greatest_below 0 (stretch ls i j) (Each-range (Known M) ls i j known), Each-range (Known M) ls i j known, bearing_below (leg_at (legs M ls) i).begin (scaled_coord (leg_at (legs M ls) i) (min 200 (leg_at (legs M ls) i).line.len)))
+  attrs_fit i j c =
+      let here = greatest_below 0 (stretch ls i j) (Each-range (Known M) ls i j known) in
+      let there = bearing_below (leg_at (legs M ls) i).begin
+      (scaled_coord (leg_at (legs M ls) i) (min 200 (leg_at (legs M ls) i).line.len)) in
+      grind (arith, dm_same i j, leg_at_good i, range_legs i j)
 
   -- ---- positions
 

@@ -57,7 +57,9 @@ pub kept_ends : (M : Map) (ls js : List ℕ) (positive negative : ℕ) → Follo
     positive + negative < dm_of M ls
     → (has (kept_points (legs M ls) positive negative js) (first_kept (legs M ls) positive js) ≡ true)
     × (has (kept_points (legs M ls) positive negative js) (last_kept (legs M ls) negative js) ≡ true)
-kept_ends M ls js positive negative f e less = grind (arith, two_kept M ls js positive negative f e less, has_cases 0 (0 ∷ js), has_last_where, has_here 0 js, back_within, length-map ls (leg M), filter_has, between_is)
+kept_ends M ls js positive negative f e less =
+    let here = two_kept M ls js positive negative f e less in
+    grind (arith, has_last_where, back_within, filter_has, has_here 0 js, has_cases 0 (0 ∷ js), length-map ls (leg M))
 
 pub reference_fits : (M : Map) → IsMap M → (ls : List ℕ) → Each (Known M) ls → 0 < length ls →
     (js : List ℕ) (positive negative : ℕ) → Follow M ls 0 js → last_position 0 js ≡ length ls → positive + negative < dm_of M ls
@@ -71,20 +73,13 @@ reference_fits M m ls known n js positive negative f e less =
     let ends = kept_ends M ls js positive negative f e less in
     let back = (back_within gs negative js (e ∙ sym (length-map ls (leg M)))).1 in
     let kept = has_filter (between a b) (0 ∷ js) in
+    let after = none_after M ls (λ i. nat_le (from_front gs i) positive) 0 0 js l in
+    let before = none_before M ls (λ i. nat_le (to_back gs i) negative) 0 0 js l in
     by_kept M m ls known n positive negative a b two (front_within gs positive js) back (kept_points gs positive negative js)
     (kept_linked M ls a b (0 ∷ js) l) ends.0 ends.1 (λ k h. grind (arith, kept k h, between_is a b k))
-    (λ k h. grind (arith, kept k h, between_is a b k)) (λ k h lt. grind (
-      arith,
-      kept k h,
-      leb-false (from_front gs k) positive,
-      none_after M ls (λ i. nat_le (from_front gs i) positive) 0 0 js l,
-    ))
-    (λ k h lt. grind (
-      arith,
-      kept k h,
-      leb-false (to_back gs k) negative,
-      none_before M ls (λ i. nat_le (to_back gs i) negative) 0 0 js l k,
-    ))
+    (λ k h. grind (arith, kept k h, between_is a b k))
+    (λ k h lt. grind (arith, kept k h, leb-false (from_front gs k) positive, after (omega arith) k))
+    (λ k h lt. grind (arith, kept k h, leb-false (to_back gs k) negative, before k))
 
 -- ---- an answer
 

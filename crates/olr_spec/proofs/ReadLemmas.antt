@@ -36,7 +36,7 @@ read16 : (a b : ℕ) → a < 256 → b < 256 → (z : ℤ) × IsTrue (fits16 z) 
 read16 a b la lb = grind (arith, signed_of 32767 (256 * a + b), in_range (negsuc 32767) (pos 32767))
 
 read24 : (a b c : ℕ) → a < 256 → b < 256 → c < 256 → (z : ℤ) × IsTrue (fits24 z) × (signed24 z ≡ a ∷ b ∷ c ∷ [])
-read24 a b c la lb lc = grind (arith, signed_of 8388607 (65536 * a + 256 * b + c), in_range (negsuc 8388607) (pos 8388607))
+read24 a b c la lb lc = grind (arith, signed_of 8388607 (65536 * a + 256 * b + c))
 
 read_attrs : (a b c : ℕ) → a < 64 → b < 256 → c < 256 → (t : Attrs) × AreAttrs t × (attr_bytes t ≡ a ∷ b ∷ c ∷ [])
 read_attrs a b c la lb lc =
@@ -51,9 +51,8 @@ read_first : (a b c d e f g h k : ℕ) (t : List ℕ) → AreBytes (a ∷ b ∷ 
     × IsFirst p × (first_bytes p ≡ a ∷ b ∷ c ∷ d ∷ e ∷ f ∷ g ∷ h ∷ k ∷ [])
 read_first a b c d e f g h k t w lt =
     let lon = read24 a b c w.0 w.1.0 w.1.1.0 in
-    let rest = w.1.1.1 in
-    let lat = read24 d e f rest.0 rest.1.0 rest.1.1.0 in
-    let attrs = read_attrs g h k lt rest.1.1.1.1.0 rest.1.1.1.1.1.0 in (
+    let lat = read24 d e f w.1.1.1.0 w.1.1.1.1.0 w.1.1.1.1.1.0 in
+    let attrs = read_attrs g h k lt w.1.1.1.1.1.1.1.0 w.1.1.1.1.1.1.1.1.0 in (
       record { lon = lon.0; lat = lat.0; attrs = attrs.0 },
       record { lon = lon.1; lat = lat.1; attrs = attrs.1 },
       λ i. lon.2 i ++ lat.2 i ++ attrs.2 i,
@@ -63,9 +62,8 @@ read_middle : (a b c d e f g : ℕ) (t : List ℕ) → AreBytes (a ∷ b ∷ c �
     × (middle_bytes p ≡ a ∷ b ∷ c ∷ d ∷ e ∷ f ∷ g ∷ [])
 read_middle a b c d e f g t w lt =
     let lon = read16 a b w.0 w.1.0 in
-    let rest = w.1.1 in
-    let lat = read16 c d rest.0 rest.1.0 in
-    let attrs = read_attrs e f g lt rest.1.1.1.0 rest.1.1.1.1.0 in (
+    let lat = read16 c d w.1.1.0 w.1.1.1.0 in
+    let attrs = read_attrs e f g lt w.1.1.1.1.1.0 w.1.1.1.1.1.1.0 in (
       record { dlon = lon.0; dlat = lat.0; attrs = attrs.0 },
       record { dlon = lon.1; dlat = lat.1; attrs = attrs.1 },
       λ i. lon.2 i ++ lat.2 i ++ attrs.2 i,
@@ -100,11 +98,10 @@ module _ (p : First) (is : IsFirst p) where
       Ends p (a ∷ b ∷ c ∷ d ∷ f ∷ g ∷ (offset_bytes positive ++ offset_bytes negative))
   last_with a b c d f g positive negative w lt e =
       let lon = read16 a b w.0 w.1.0 in
-      let rest = w.1.1 in
-      let lat = read16 c d rest.0 rest.1.0 in
+      let lat = read16 c d w.1.1.0 w.1.1.1.0 in
       let first : 8 * (f / 8) + f % 8 ≡ f = omega arith in
       let l : Last = record { dlon = lon.0; dlat = lat.0; frc = f / 8; fow = f % 8; bearing = g % 32 } in
-      let fits = offsets_fit positive negative rest.1.1.1.1 in
+      let fits = offsets_fit positive negative w.1.1.1.1.1.1 in
       let is_last : IsLast l =
       record { dlon = lon.1; dlat = lat.1; frc = omega arith; fow = omega arith; bearing = omega arith } in (
         record { first = p; middle = []; last = l; pos = positive; neg = negative },
@@ -116,7 +113,8 @@ module _ (p : First) (is : IsFirst p) where
   read_last : (a b c d f g : ℕ) (rest : List ℕ) → AreBytes (a ∷ b ∷ c ∷ d ∷ f ∷ g ∷ rest) → f < 64 → g < 128 →
       bit 6 g + bit 5 g ≡ length rest → Ends p (a ∷ b ∷ c ∷ d ∷ f ∷ g ∷ rest)
   read_last a b c d f g [] w lf lg e = last_with a b c d f g None None w lf (omega arith)
-  read_last a b c d f g (h ∷ []) w lf lg e = grind (arith, cases_lt g 64, last_with a b c d f g None (Some h) w lf, last_with a b c d f g (Some h) None w lf)
+  read_last a b c d f g (h ∷ []) w lf lg e =
+      grind (arith, cases_lt g 64, last_with a b c d f g None (Some h) w lf, last_with a b c d f g (Some h) None w lf)
   read_last a b c d f g (h ∷ k ∷ []) w lf lg e = last_with a b c d f g (Some h) (Some k) w lf (omega arith)
   read_last a b c d f g (h ∷ k ∷ l ∷ rest) w lf lg e = absurd (omega arith)
 
@@ -175,10 +173,8 @@ read_bytes (s ∷ a ∷ b ∷ c ∷ d ∷ e ∷ f ∷ g ∷ k ∷ l ∷ t) w p =
     let long : extra (cut ++ t) ≡ length t - (7 * m + 6) = omega arith in
     let count : m + 1 ≡ suc m = omega arith in
     let rest = read_points first.0 first.1 m t w.1.1.1.1.1.1.1.1.1.1 (omega arith) (omega (arith, p.flags)) (omega (arith, p.top))
-    (ap reserved (sym (attributes_behind cut t 4 (suc m)) ∙ ap (attribute1_bytes (cut ++ t) 14) (sym count)) ∙ parts.1) in (
-      rest.0,
-      (rest.1, λ i. p.status i ∷ (sym first.2 ∙ ap first_bytes (sym rest.2)) i ++ rest.3 i),
-    )
+    (ap reserved (sym (attributes_behind cut t 4 (suc m)) ∙ ap (attribute1_bytes (cut ++ t) 14) (sym count)) ∙ parts.1) in
+    grind arith
 read_bytes _ w p = absurd (omega arith)
 
 -- ---- bytes of a reference
@@ -194,7 +190,8 @@ flag_is o = grind arith
 unreserved : (ps : List Middle) (l : Last) (positive negative : Option ℕ) → AllByRecursion IsMiddle ps → IsLast l
     → reserved (attribute1_bytes (flat_map middle_bytes ps ++ last_bytes l positive negative) 4 (suc (length ps))) ≡ false
 unreserved [] l positive negative h k = ap (λ (b : Bool). b || false) (lt-leb 64 (attribute1 l.frc l.fow) (omega arith))
-unreserved (p ∷ ps) l positive negative h k = grind (arith, attributes_behind (middle_bytes p), unreserved ps l positive negative h.1 k, lt-leb 64 (attribute1 p.attrs.frc p.attrs.fow))
+unreserved (p ∷ ps) l positive negative h k =
+    grind (arith, attributes_behind (middle_bytes p), unreserved ps l positive negative h.1 k)
 
 pub encoded_passes : (r : Reference) → IsReference r → v3_fault (reference_bytes r) ≡ None
 encoded_passes r h =
@@ -218,14 +215,7 @@ encoded_passes r h =
     let clear = ap (λ (k : ℕ). reserved (attribute1_bytes b 14 k)) count
     ∙ ap reserved (attributes_behind cut (middles ++ ends) 4 (suc m))
     ∙ unreserved r.middle r.last r.pos r.neg h.middle h.last in
-    no_fault_from b (record {
-      long = omega arith;
-      few = omega arith;
-      status = refl;
-      flags = omega (arith, flag_below r.pos, flag_below r.neg);
-      free = λ i. low i || clear i;
-      top = omega (arith, flag_below r.pos, flag_below r.neg);
-    })
+    grind (arith, no_fault_from b, flag_below r.pos, flag_below r.neg)
 
 pub no_fault_where_encoded : NoFault
 no_fault_where_encoded b h = grind (arith, read_bytes, recursion_from_All, passes, encoded_passes)

@@ -144,7 +144,8 @@ module _ (M : Map) (m : IsMap M) (ls : List ℕ) (known : Each (Known M) ls) whe
 
   cuts_close : (p q h i : ℕ) (js : List ℕ) → Linked M ls (h ∷ i ∷ js) → (n : ℕ) → 0 < n →
       Cuts n (stretches ls (h ∷ i ∷ js)) (reference_by_kept (legs M ls) p q h i js) p q
-  cuts_close p q h i js l n some = grind (arith, last_two_linked M ls h i js l, cut_close p h i n l.0.after, cut_close q, last_length h i js)
+  cuts_close p q h i js l n some =
+      grind (arith, last_two_linked M ls h i js l, cut_close p h i n l.0.after, cut_close q, last_length h i js)
 
 -- ---- positions
 
@@ -180,14 +181,9 @@ spaced_nearest n d scale far w k p s g near cs a =
   where
     here : (c : ℕ × Leg) → IsTrue (node_on s c.1 == node_on s g || is_spaced n d k (coordinate_on s g) (coordinate_on s c.1)) →
         IsTrue (node_on s c.1 == node_on s g || nat_lt (far p (coordinate_on s g)) (far p (coordinate_on s c.1)))
-    here c t = grind (
-      arith,
-      or_cases,
-      or_left,
-      or_right,
-      lt-ltb,
-      nearer n d scale far w k p (coordinate_on s g) (coordinate_on s c.1) near,
-    )
+    here c t =
+        let closer = nearer n d scale far w k p (coordinate_on s g) (coordinate_on s c.1) near in
+        grind (arith, or_cases, or_left, or_right, lt-ltb)
 
 -- ---- an answer
 
@@ -275,10 +271,7 @@ module _ (M : Map) (m : IsMap M) (P : Path) (is : IsTrue (is_path P.lines)) (non
       (slice_index Points_kept k < slice_index Points_kept (k + 1)) × (slice_index Points_kept (k + 1) ≤ length Lines)
   bounds k h =
       let on : k + 1 ≡ suc k = omega arith in
-      let all = ap (λ (ks : List ℕ). length ks) formed.kept in
-      coe 1 0 (i. (slice_index (formed.kept i) k < slice_index (formed.kept i) (on i))
-      × (slice_index (formed.kept i) (on i) ≤ length Lines))
-      (linked_bounds M Lines (formed.h ∷ formed.i ∷ formed.js) formed.linked k (omega (arith, size)))
+      grind (arith, size, formed.kept, linked_bounds M Lines (formed.h ∷ formed.i ∷ formed.js) formed.linked k)
 
   -- LRP k is decoded near the node of its line x
   near_line : (s : Side) (k x : ℕ) → k ≤ last_number r → IsLineAt M P s k x →
@@ -312,7 +305,9 @@ recovered R M m P is r e d ws = let p = by_answer M P r e in recovered_of M m P 
 joined : (M : Map) (ls ks : List ℕ) → Linked M ls ks → concat (stretches ls ks) ≡ stretch ls (first ks) (last ks)
 joined M ls [] l = sym (empty_stretch ls 0 0 (omega arith))
 joined M ls (p ∷ []) l = sym (empty_stretch ls p p (omega arith))
-joined M ls (p ∷ q ∷ ks) l = grind (arith, joined M ls (q ∷ ks) l.1, stretch_parts ls p q (last (q ∷ ks)), linked_above M ls q ks l.1 (last (q ∷ ks)), has_last (q ∷ ks))
+joined M ls (p ∷ q ∷ ks) l =
+    let here = linked_above M ls q ks l.1 (last (q ∷ ks)) in
+    grind (arith, has_last (q ∷ ks), joined M ls (q ∷ ks) l.1, stretch_parts ls p q (last (q ∷ ks)))
 
 pub stretches_join : StretchesJoin
 stretches_join M P ws p =
@@ -331,10 +326,6 @@ steps_close M m P is r e ws s = let p = by_answer M P r e in all_steps M m P is 
 
 pub nearest_own : Nearest
 nearest_own M m P is r e n d scale far w = let p = by_answer M P r e in (
-  (λ k x h at a.
-      spaced_nearest n d scale far w k (decoded_coord r k) Outgoing (leg M x) (near_out M m P is p.0 r p.1 k x h at)
-      (candidates M) a),
-  (λ x at a.
-      spaced_nearest n d scale far w (last_number r) (decoded_coord r (last_number r)) Incoming (leg M x)
-      (near_in M m P is p.0 r p.1 x at) (candidates M) a),
+  (λ k x h at a. spaced_nearest n d scale far w k _ Outgoing (leg M x) (near_out M m P is p.0 r p.1 k x h at) _ a),
+  (λ x at a. spaced_nearest n d scale far w (last_number r) _ Incoming (leg M x) (near_in M m P is p.0 r p.1 x at) _ a),
 )

@@ -80,7 +80,10 @@ recovers_last M ls c p q lt up differ within j w =
 
 pushed_once : (ls : List ℕ) (x : ℕ) → none_twice ls ≡ true → has ls x ≡ false → none_twice (ls ++ x ∷ []) ≡ true
 pushed_once [] x o h = refl
-pushed_once (y ∷ ls) x o h = grind (arith, and_parts (not (has ls y)) (none_twice ls) o, or_parts (y == x) (has ls x) h, ne_eqb x y, both_ways (y == x), eq-eqb y x, list_any-append, not-true, and_from, not_from_false, pushed_once ls x)
+pushed_once (y ∷ ls) x o h =
+    let here = or_parts (y == x) (has ls x) h in
+    let there = and_parts (not (has ls y)) (none_twice ls) o in
+    grind (arith, list_any-append, not-true, and_from, ne_eqb x y, eq-eqb y x, pushed_once ls x, both_ways (y == x))
 
 pub extended_once : (M : Map) (P : Path) (b a : List ℕ) → IsTrue (is_path P.lines) → Tried M P b a →
     none_twice (extended_path M P b a).lines ≡ true
@@ -92,4 +95,5 @@ pub once_apart : (ls : List ℕ) (i j : ℕ) → none_twice ls ≡ true → i < 
 once_apart [] i j o lt h e = absurd (omega arith)
 once_apart (x ∷ ls) i zero o lt h e = absurd (omega arith)
 once_apart (x ∷ ls) zero (suc j) o lt h e = grind (arith, and_parts, both_ways, not-true, has_index)
-once_apart (x ∷ ls) (suc i) (suc j) o lt h e = grind (arith, and_parts, (once_apart ls i j (and_parts (not (has ls x)) (none_twice ls) o).1 (omega arith) (omega arith) e))
+once_apart (x ∷ ls) (suc i) (suc j) o lt h e =
+    grind (arith, (once_apart ls i j (and_parts (not (has ls x)) (none_twice ls) o).1 (omega arith) (omega arith) e))

@@ -103,9 +103,7 @@ by_quarter : (k : ℕ) → k < 32 → (e n : ℤ) → (At k e n → InQuadrant (
 by_quarter k lt e n =
     let is : k / 8 * 8 + k % 8 ≡ k = omega arith in
     let next : k / 8 * 8 + suc (k % 8) ≡ suc k = omega arith in
-    coe 0 1 (i. ((pos 0 ≤ℤ side e n (is i)) × (side e n (next i) <ℤ pos 0) → InQuadrant (k / 8) e n)
-    × (InQuadrant (k / 8) e n → side e n (is i) <ℤ pos 0 → side e n (next i) <ℤ pos 0))
-    (in_quarter (k / 8) (k % 8) (omega arith) (omega arith) e n)
+    grind (arith, in_quarter (k / 8) (k % 8))
 
 -- the directions of a quarter are on its first boundary or clockwise of it, and before the first of the next quarter
 turns : (q : ℕ) → q < 4 → (e n : ℤ) → InQuadrant q e n → (pos 0 ≤ℤ side e n (q * 8)) × (side e n (q * 8 + 8) <ℤ pos 0)
@@ -192,7 +190,9 @@ some_sector (negsuc a) (pos b) ne = in_quadrant (negsuc a) (pos b) 3 (omega arit
 find_some : (p : ℕ → Bool) (xs : List ℕ) (d : ℕ) (Q : ℕ → Type 0) → Each Q xs → (k : ℕ) → has xs k ≡ true → p k ≡ true →
     Q (unwrap_or (find p xs) d) × (p (unwrap_or (find p xs) d) ≡ true)
 find_some p [] d Q h k i e = absurd cc
-find_some p (x ∷ xs) d Q h k i e = grind (arith, cond_both (p x) (Some x) (find p xs), Each-head Q x xs h, find_some p xs d Q (Each-tail Q x xs h) k, Each-tail Q x xs h, has_cases x xs k i, both_ways (p k))
+find_some p (x ∷ xs) d Q h k i e =
+    let here = find_some p xs d Q (Each-tail Q x xs h) k in
+    grind (arith, Each-head Q x xs h, Each-tail Q x xs h, cond_both (p x) (Some x) (find p xs))
 
 pub sector_is : SomeSector
 sector_is e n ne =
