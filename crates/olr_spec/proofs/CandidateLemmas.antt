@@ -1,15 +1,15 @@
 -- The path's own line at an LRP is preferred to every other candidate: its node is the nearest if other nodes are three
 -- times the bound of decoding away. And the length that an offset byte cuts off.
 use Rattle.std.proofs.Common.{inl, inr, ◌≡◌, ◌≢◌, ℕ, ◌+◌, ◌-◌, Bool, true, false, not, ◌||◌, ◌<◌, ◌≤◌}
-use Rattle.std.proofs.Common.{◌↔◌, IsTrue, IsFalse, refl, sym, ap, ◌∙◌, subst, arith, nat_lt, ◌==◌, ◌*◌, ℤ, ◌-ℤ◌}
-use Rattle.std.proofs.Common.{nat_le, ◌/◌, cond, Some, None, eqb-true, eq-eqb, ltb-true, lt-ltb, le-ltb, leb-true}
+use Rattle.std.proofs.Common.{◌↔◌, IsTrue, IsFalse, refl, arith, nat_lt, ◌==◌, ◌*◌, ℤ, ◌-ℤ◌}
+use Rattle.std.proofs.Common.{nat_le, ◌/◌, Some, eqb-true, eq-eqb, ltb-true, lt-ltb, le-ltb, leb-true}
 use Rattle.std.proofs.Common.{nat_abs}
-use Rattle.std.proofs.lemmas.Bool.{cond_both, cases_Bool, cases_eq, cases_lt, both_ways, and_from, or_cases}
+use Rattle.std.proofs.lemmas.Bool.{cases_Bool, cases_eq, cases_lt, both_ways, or_cases}
 use Rattle.std.specs.List.{list_all}
 use Rattle.std.proofs.Math.Nat.{mul-le-mul_left, mul-le-mul_right, mul-lt-mul_of_pos_left, le_of_mul-le-mul_left}
-use Rattle.std.proofs.Math.Nat.{mul-add, mul_left_comm, mul_assoc, mul_comm, mul-pos, div-mul-le_self, lt-div-mul-add}
+use Rattle.std.proofs.Math.Nat.{mul-add, mul_comm, div-mul-le_self, lt-div-mul-add}
 use Rattle.std.proofs.lemmas.Int.{ints}
-use Rattle.olr_spec.specs.Map.{Map, has_line, line_at, lines_where}
+use Rattle.olr_spec.specs.Map.{Map, has_line, line_at}
 use Rattle.olr_spec.specs.Bearings.{Leg}
 use Rattle.olr_spec.specs.Reference.{leg, offset}
 use Rattle.olr_spec.specs.Receiver.{Side, node_on, coordinate_on, sector_on, candidates, Lrp, Rating, NowhereWorse}

@@ -1,6 +1,6 @@
 -- The coordinates that the LRPs of an answer are decoded as.
-use Rattle.std.proofs.Common.{◌≡◌, ℕ, zero, suc, ◌+◌, ◌*◌, ℤ, pos, negsuc, neg_ℤ, ◌<ℤ◌, ◌+ℤ◌, ◌-ℤ◌, true, false, List}
-use Rattle.std.proofs.Common.{◌∷◌, ◌++◌, length, take, map, ◌<◌, ◌≤◌, Some, None, is_some, IsTrue, cond, Bool, refl, ap}
+use Rattle.std.proofs.Common.{◌≡◌, ℕ, zero, suc, ◌+◌, ◌*◌, ℤ, pos, ◌<ℤ◌, ◌+ℤ◌, ◌-ℤ◌, true, List}
+use Rattle.std.proofs.Common.{◌∷◌, ◌++◌, length, take, map, ◌<◌, ◌≤◌, Some, None, is_some, IsTrue, refl, ap}
 use Rattle.std.proofs.Common.{◌∙◌, subst, arith, nat_le, [], ◌-◌, nat_abs, slice_get, option_map, le-leb, leb-true}
 use Rattle.std.proofs.Common.{slice_index}
 use Rattle.std.proofs.lemmas.Bool.{cond-true, cases_Bool}
@@ -15,7 +15,7 @@ use Rattle.olr_spec.specs.Reference.{Middle, Reference, legs, position, first_ke
 use Rattle.olr_spec.specs.Reference.{middle_points, reference_by_kept, reference_by, last_point, Last, from_front}
 use Rattle.olr_spec.specs.Reference.{middle_point, to_back}
 use Rattle.olr_spec.specs.Encoding.{Points, path_fault, Encoding, IsPoint}
-use Rattle.olr_spec.specs.Decoded.{lon_steps, lat_steps, steps_sum, decoded, decoded_bound, IsNear}
+use Rattle.olr_spec.specs.Decoded.{steps_sum, decoded, decoded_bound, IsNear}
 use Rattle.olr_spec.specs.Laws.{DecodedNear, DecodedPoints}
 use Rattle.olr_spec.proofs.ListLemmas.{has_cases}
 use Rattle.olr_spec.proofs.AnswerLemmas.{path_also, path_at}

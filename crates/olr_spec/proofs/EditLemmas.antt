@@ -1,20 +1,19 @@
 -- What an edit changes, and what it leaves unchanged.
-use Rattle.std.proofs.Common.{◌⊎◌, ◌↔◌, inl, inr, ◌≡◌, ◌≢◌, ℕ, Bool, true, false, cond, ◌||◌, List, ◌∷◌, Option, Some}
-use Rattle.std.proofs.Common.{None, is_some, Result, Ok, IsTrue, refl, sym, ap, ◌∙◌, subst, nat_cmp, ◌==◌, unwrap_or}
-use Rattle.std.proofs.Common.{[], arith, eq-eqb, ne_eqb}
+use Rattle.std.proofs.Common.{◌⊎◌, ◌↔◌, ◌≡◌, ◌≢◌, ℕ, Bool, true, false, cond, ◌||◌, List, Some}
+use Rattle.std.proofs.Common.{None, Result, Ok, IsTrue, refl, ap, ◌∙◌, nat_cmp, ◌==◌}
+use Rattle.std.proofs.Common.{arith, eq-eqb, ne_eqb}
 use Rattle.std.proofs.lemmas.Bool.{false_from_ne_true, or_left, or_right}
-use Rattle.std.proofs.lemmas.Bool.{cases_eq, both_ways, and_parts, or_parts, not-false, cond_both}
-use Rattle.std.specs.Ordering.{eq_by_cmp}
+use Rattle.std.proofs.lemmas.Bool.{cases_eq, both_ways, and_parts, or_parts, not-false}
 use Rattle.std.specs.Cmp.{nat_cmp_total, unsigned_tied}
 use Rattle.std.specs.FinMap.{FinMap, get, insert, remove, entries, get-insert, get-remove}
 use Rattle.olr_spec.specs.Coordinates.{Coord, is_coord}
-use Rattle.olr_spec.specs.Map.{Map, IsMap, Line, is_good, are_coords, has_node, has_line, no_line, no_coord, start, end}
+use Rattle.olr_spec.specs.Map.{Map, IsMap, Line, is_good, are_coords, has_node, has_line, start, end}
 use Rattle.olr_spec.specs.Map.{Edit, Add_node, Move_node, Drop_node, Add_line, Set_line, Drop_line, edited, unless}
 use Rattle.olr_spec.specs.Map.{in_use, touched_nodes, touched_lines, SameLine, Agree, has}
 use Rattle.olr_spec.specs.Laws.{EditsKeep}
-use Rattle.olr_spec.proofs.ListLemmas.{Each, Each-to, has_here, has_there}
+use Rattle.olr_spec.proofs.ListLemmas.{Each-to}
 use Rattle.olr_spec.proofs.AgreeLemmas.{known_record}
-use Rattle.olr_spec.proofs.MapLemmas.{has-lines_where, none_has, passes_at}
+use Rattle.olr_spec.proofs.MapLemmas.{has-lines_where, none_has}
 
 pub passed_test : {A F : Type 0} (b : Bool) (f : F) (r : Result A F) (x : A) → unless b f r ≡ Ok x → (b ≡ false) × (r ≡ Ok x)
 passed_test b f r x e = grind arith

@@ -1,8 +1,7 @@
 -- The fields of an answer's reference fit, so it can be encoded as bytes.
-use Rattle.std.proofs.Common.{inl, inr, ◌≡◌, ℕ, ◌+◌, ◌-◌, true, List, ◌∷◌, length, ◌<◌, ◌≤◌, None, IsTrue, sym, ap, ◌∙◌}
+use Rattle.std.proofs.Common.{◌≡◌, ℕ, ◌+◌, ◌-◌, true, List, ◌∷◌, length, ◌<◌, ◌≤◌, None, IsTrue, sym, ap, ◌∙◌}
 use Rattle.std.proofs.Common.{subst, arith, nat_le, length-append, [], eqb-true, leb-false}
 use Rattle.std.proofs.lemmas.Bool.{cases_Bool, cond_both}
-use Rattle.std.proofs.lemmas.Bool.Decides.{nat_tests}
 use Rattle.std.proofs.lemmas.List.{length-map}
 use Rattle.olr_spec.specs.Map.{Map, IsMap, has}
 use Rattle.olr_spec.specs.Routes.{dm_of}

@@ -1,7 +1,7 @@
 -- Every receiver recovers the legs between the remaining LRPs, and what the lengths and nodes of these say.
-use Rattle.std.proofs.Common.{◌≡◌, ℕ, suc, ◌+◌, ◌-◌, max, true, List, ◌∷◌, ◌++◌, length, map, ◌<◌, ℤ, ◌≤◌, ◌↔◌, Some}
+use Rattle.std.proofs.Common.{◌≡◌, ℕ, suc, ◌+◌, ◌-◌, true, List, ◌∷◌, length, map, ◌<◌, ℤ, ◌≤◌, ◌↔◌, Some}
 use Rattle.std.proofs.Common.{None, IsTrue, refl, sym, ap, ◌∙◌, subst, arith, slice_get, inl, inr, zero, Bool, pos}
-use Rattle.std.proofs.Common.{Option, unwrap_or, cond, [], nat_lt, ◌==◌, ◌||◌, option_map, slice_index, fold, lt-ltb}
+use Rattle.std.proofs.Common.{Option, unwrap_or, cond, [], nat_lt, ◌==◌, ◌||◌, option_map, slice_index, lt-ltb}
 use Rattle.std.proofs.Common.{le-ltb}
 use Rattle.std.specs.Bool.{⊤}
 use Rattle.std.specs.List.{concat, AllZip}

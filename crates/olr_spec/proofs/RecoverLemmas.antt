@@ -1,8 +1,8 @@
 -- A shortest route over lines within the LFRCNP is the leg of the extended path.
 use Rattle.std.proofs.Common.{inl, inr, ◌≡◌, ◌==◌, ◌≢◌, ℕ, zero, suc, ◌+◌, ◌-◌, max, true, false, not, List, ◌∷◌, ◌++◌}
-use Rattle.std.proofs.Common.{length, ◌<◌, ◌≤◌, ◌↔◌, IsTrue, map, refl, sym, ap, ◌∙◌, subst, arith, [], slice_index}
-use Rattle.std.proofs.Common.{fold, eq-eqb, ne_eqb, ◌||◌}
-use Rattle.std.proofs.lemmas.Bool.{cases_eq, both_ways, and_parts, and_from, not_from_false, not-true, or_parts}
+use Rattle.std.proofs.Common.{length, ◌<◌, ◌≤◌, ◌↔◌, IsTrue, map, refl, ap, ◌∙◌, subst, arith, [], slice_index}
+use Rattle.std.proofs.Common.{fold, eq-eqb, ne_eqb}
+use Rattle.std.proofs.lemmas.Bool.{both_ways, and_parts, and_from, not_from_false, not-true, or_parts}
 use Rattle.std.proofs.lemmas.List.Folds.{list_any-append}
 use Rattle.olr_spec.specs.Map.{Map, line_at, start, end, has}
 use Rattle.olr_spec.specs.Routes.{LrpRoute}
@@ -17,7 +17,6 @@ use Rattle.std.proofs.lemmas.List.{length-take-le}
 use Rattle.olr_spec.proofs.ListLemmas.{has_index}
 use Rattle.olr_spec.proofs.DecideLemmas.{dec_same}
 use Rattle.olr_spec.proofs.RunLemmas.{extended_keeps}
-use Rattle.olr_spec.proofs.JoinLemmas.{stretch_first, stretch_last, empty_stretch}
 
 -- ---- lists
 

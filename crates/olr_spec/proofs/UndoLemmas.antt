@@ -1,11 +1,11 @@
 -- One edit restores the map from before an accepted edit, and the empty map is sound.
 use Rattle.std.proofs.Common.{inl, inr, ◌≡◌, ◌≢◌, ℕ, Bool, true, false, cond, ◌||◌, List, ◌∷◌, map, Option, Some, None}
-use Rattle.std.proofs.Common.{is_some, Result, Ok, sym, ap, ◌∙◌, nat_cmp, ◌==◌, unwrap_or, [], arith, eqb-true, filter}
-use Rattle.std.proofs.lemmas.Bool.{cases_eq, cases_Bool, both_ways, and_from, or_cases}
+use Rattle.std.proofs.Common.{Result, Ok, sym, ap, ◌∙◌, nat_cmp, ◌==◌, [], arith, eqb-true, filter}
+use Rattle.std.proofs.lemmas.Bool.{cases_eq, cases_Bool, and_from, or_cases}
 use Rattle.std.specs.List.{list_any}
 use Rattle.std.specs.Cmp.{nat_cmp_total}
 use Rattle.std.specs.FinMap.{FinMap, get, insert, remove, entries, get-empty, same_map, nat_cmp-IsAntisymmetric}
-use Rattle.olr_spec.specs.Map.{Map, IsMap, Line, has_node, has_line, line_at, coord_at, no_line, start, end, Edit}
+use Rattle.olr_spec.specs.Map.{Map, IsMap, Line, has_node, line_at, coord_at, Edit}
 use Rattle.olr_spec.specs.Map.{Add_node, Move_node, Drop_node, Add_line, Set_line, Drop_line, edited, unless, in_use}
 use Rattle.olr_spec.specs.Map.{has}
 use Rattle.olr_spec.specs.Laws.{EmptyIsSound, EditsUndo}
