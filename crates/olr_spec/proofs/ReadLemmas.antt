@@ -4,6 +4,7 @@ use Rattle.std.proofs.Common.{Bool, false, cond, ◌||◌, List, ◌∷◌, ◌+
 use Rattle.std.proofs.Common.{IsTrue, refl, sym, ap, ◌∙◌, arith, nat_le, length-append, [], eqb-true, eq-eqb}
 use Rattle.std.proofs.Common.{leb-false, le-ltb, ltb-false, get_or-append-add, int_le, flat_map, slice_index}
 use Rattle.std.proofs.lemmas.Bool.{cases_lt, and_from, or_parts, lt-leb, not-false, or_from, not_from_true}
+use Rattle.std.proofs.Common.{◌↔◌}
 use Rattle.std.proofs.lemmas.Int.{ints}
 use Rattle.std.proofs.lemmas.List.Elements.{recursion_from_All}
 use Rattle.std.specs.List.{AllByRecursion, list_any}
@@ -140,8 +141,8 @@ module _ (p : First) (is : IsFirst p) where
 
 -- ---- bytes without a fault
 
-no_fault : (b : Bool) (f : V3Fault) (o : Option V3Fault) → cond b (Some f) o ≡ None → (b ≡ false) × (o ≡ None)
-no_fault b f o e = grind arith
+no_fault : (b : Bool) (f : V3Fault) (o : Option V3Fault) → (cond b (Some f) o ≡ None) ↔ ((b ≡ false) × (o ≡ None))
+no_fault b f o = grind arith
 
 -- what holds if none of the four tests reports a fault
 record Passes (b : List ℕ) : Type 0 where
@@ -155,11 +156,8 @@ record Passes (b : List ℕ) : Type 0 where
 passes : (b : List ℕ) → v3_fault b ≡ None → Passes b
 passes b e = grind (arith, no_fault, or_parts, ltb-false, eqb-true, not-false, leb-false)
 
-no_fault_where : (b : Bool) (f : V3Fault) (o : Option V3Fault) → b ≡ false → o ≡ None → cond b (Some f) o ≡ None
-no_fault_where b f o e h = grind arith
-
 no_fault_from : (b : List ℕ) → Passes b → v3_fault b ≡ None
-no_fault_from b p = grind (arith, no_fault_where, or_from, le-ltb, eq-eqb, not_from_true, lt-leb)
+no_fault_from b p = grind (arith, no_fault, or_from, le-ltb, eq-eqb, not_from_true, lt-leb)
 
 -- the first ten bytes, and the others
 read_bytes : (b : List ℕ) → AreBytes b → Passes b → (r : Reference) × HasBytes r b

@@ -230,22 +230,20 @@ module _ (M : Map) (m : IsMap M) (P : Path) (is : IsTrue (is_path P.lines)) (non
               (omega arith),
         )
 
-  recovered_by : (R : Receiver) → Distinct R.far M P r → (ws : List (List ℕ)) → Recovers R M r ws ↔ (ws ≡ stretches Lines Points_kept)
-  recovered_by R d ws =
+  recovered_of : (R : Receiver) → Distinct R.far M P r → (ws : List (List ℕ)) → Recovers R M r ws ↔ IsStretches M P ws
+  recovered_of R d ws =
       let f = formed in
       let s = extended_sound M P is none e.before e.after e.tried in
       let once = extended_once M P e.before e.after is e.tried in
       let all = owns_from R d 0 Points_kept (λ n. let z : 0 + n ≡ n = omega arith in ap (slice_get Points_kept) z)
       (omega (arith, size)) in
+      let by : Recovers R M r ws ↔ (ws ≡ stretches Lines Points_kept) =
       coe 1 0 (i. Recovers R M (f.fields_are i) ws ↔ (ws ≡ stretches Lines (f.kept i)))
       (recovers_kept R M m Lines s.known once (Front M P is none r e) (Back M P is none r e) f.h f.i f.js f.linked
-      (coe 0 1 (i. Owns R M Lines (f.fields_are i) 0 (f.kept i)) all) ws)
-
-  recovered_of : (R : Receiver) → Distinct R.far M P r → (ws : List (List ℕ)) → Recovers R M r ws ↔ IsStretches M P ws
-  recovered_of R d ws = let by = recovered_by R d ws in (
-    (λ g. path_also e (by.0 g)),
-    (λ p. by.1 (same_path (λ E js. ws ≡ stretches E.lines (kept_points (legs M E.lines) E.pos E.neg js)) p)),
-  )
+      (coe 0 1 (i. Owns R M Lines (f.fields_are i) 0 (f.kept i)) all) ws) in (
+        (λ g. path_also e (by.0 g)),
+        (λ p. by.1 (same_path (λ E js. ws ≡ stretches E.lines (kept_points (legs M E.lines) E.pos E.neg js)) p)),
+      )
 
   stretches_are : (ws : List (List ℕ)) → IsStretches M P ws → ws ≡ stretches Lines (formed.h ∷ formed.i ∷ formed.js)
   stretches_are ws s =
