@@ -83,8 +83,7 @@ insert_ascends xs x i up h k lt =
 -- a number above all of them, at the end
 pub ascends_push : (xs : List ℕ) (x : ℕ) → IsStrictlyIncreasing xs → ((k : ℕ) → k < length xs → get_or xs k 0 < x) →
     IsStrictlyIncreasing (xs ++ x ∷ [])
-ascends_push xs x up below = coe 0 1 (i. IsStrictlyIncreasing (insert_end xs x i))
-    (insert_ascends xs x (length xs) up (omega arith, below, λ k ge lt. absurd (omega arith)))
+ascends_push xs x up below = grind (arith, insert_end xs x, insert_ascends xs x (length xs) up)
 
 pub has-insert : (xs : List ℕ) (i x n : ℕ) → has (insert xs i x) n ≡ ((x == n) || has xs n)
 has-insert xs i x n = sym (list_any-IsPermutation (λ y. y == n) (x ∷ xs) (insert xs i x) (IsPermutation-insert xs i x))

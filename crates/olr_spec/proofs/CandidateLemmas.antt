@@ -55,9 +55,7 @@ module _ (R : Receiver) (M : Map) (t : Lrp) (x : ℕ) (o : Own R M t x) where
 
   another_kind : (y : ℕ) → node_on t.side (leg M x) ≡ node_on t.side (leg M y) →
       are_twins t.side (leg M x) (leg M y) ≡ false → SomewhereBetter (rating R t (leg M x)) (rating R t (leg M y))
-  another_kind y e off =
-      let here = R.bearings.same t.bearing in
-      grind (arith, cases_eq, some_apart, both_ways, eq-eqb, R.frcs.same t.frc, R.fows.same t.fow)
+  another_kind y e off = grind (arith, cases_eq, some_apart, both_ways, eq-eqb)
 
   not_same : (y : ℕ) → y ≢ x → (y == x) || not (are_twins t.side (leg M x) (leg M y)) ≡ true →
       are_twins t.side (leg M x) (leg M y) ≡ false

@@ -33,9 +33,7 @@ linked_above M ls p (q ∷ ks) l = grind (arith, Each-cons, (linked_above M ls q
 pub linked_last : (M : Map) (ls : List ℕ) (p q : ℕ) (ks : List ℕ) → Linked M ls (p ∷ q ∷ ks) →
     Each (λ k. k ≤ (last_two p q ks).1) (p ∷ q ∷ ks)
 linked_last M ls p q [] l = grind (arith, Each-cons, Each-nil)
-linked_last M ls p q (r ∷ ks) l =
-    let rest = linked_last M ls q r ks l.1 in
-    Each-cons (λ k. k ≤ (last_two q r ks).1) p (q ∷ r ∷ ks) (omega (arith, rest q (has_here q (r ∷ ks)))) rest
+linked_last M ls p q (r ∷ ks) l = grind (arith, linked_last M ls q r ks l.1, Each-cons, has_here q (r ∷ ks))
 
 pub has_last_two : (p q : ℕ) (ks : List ℕ) → (has (p ∷ q ∷ ks) (last_two p q ks).0 ≡ true)
     × (has (p ∷ q ∷ ks) (last_two p q ks).1 ≡ true)

@@ -16,7 +16,7 @@ use Rattle.olr_spec.specs.Bytes.{status_byte, reference_bytes, HasBytes, V3Fault
 use Rattle.olr_spec.specs.Bytes.{extra, bit, flags_of, attribute1_bytes, v3_fault}
 use Rattle.olr_spec.specs.Laws.{NoFault}
 use Rattle.olr_spec.proofs.SectorLemmas.{le_test}
-use Rattle.olr_spec.proofs.BytesLemmas.{flag_below}
+use Rattle.olr_spec.proofs.BytesLemmas.{flag_below, flag_is}
 
 abbrev pub AreBytes : List ℕ → Type 0
 AreBytes xs = AllByRecursion (λ x. x < 256) xs
@@ -181,9 +181,6 @@ middles_length : (ps : List Middle) → length (flat_map middle_bytes ps) ≡ 7 
 middles_length [] = refl
 middles_length (p ∷ ps) = omega (arith, length-append (middle_bytes p) (flat_map middle_bytes ps), middles_length ps)
 
-flag_is : (o : Option ℕ) → length (offset_bytes o) ≡ flag o
-flag_is o = grind arith
-
 -- none of the LRPs' attribute bytes has a reserved bit
 unreserved : (ps : List Middle) (l : Last) (positive negative : Option ℕ) → AllByRecursion IsMiddle ps → IsLast l
     → reserved (attribute1_bytes (flat_map middle_bytes ps ++ last_bytes l positive negative) 4 (suc (length ps))) ≡ false
@@ -199,11 +196,10 @@ encoded_passes r h =
     let ends = last_bytes r.last r.pos r.neg in
     let m = length r.middle in
     let n = flag r.pos + flag r.neg in
-    let few : n ≤ 2 = omega (arith, flag_below r.pos, flag_below r.neg) in
     let tail : length ends ≡ 6 + n =
     omega (arith, length-append (offset_bytes r.pos) (offset_bytes r.neg), flag_is r.pos, flag_is r.neg) in
     let size : length b ≡ 16 + (7 * m + n) = omega (arith, length-append middles ends, middles_length r.middle) in
-    let over : extra b ≡ n = omega arith in
+    let over : extra b ≡ n = omega (arith, flag_below r.pos, flag_below r.neg) in
     let count : (length b - 16) / 7 + 1 ≡ suc m = omega arith in
     let place : length b - 1 - extra b ≡ 10 + (length middles + 5) = omega (arith, middles_length r.middle) in
     let flags = ap (slice_index b) place ∙ get_or-append-add cut (middles ++ ends) (length middles + 5) 0

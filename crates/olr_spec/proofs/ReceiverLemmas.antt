@@ -242,26 +242,22 @@ module _ (M : Map) (m : IsMap M) (P : Path) (is : IsTrue (is_path P.lines)) (non
       (recovers_kept R M m Lines s.known once (Front M P is none r e) (Back M P is none r e) f.h f.i f.js f.linked
       (coe 0 1 (i. Owns R M Lines (f.fields_are i) 0 (f.kept i)) all) ws) in (
         (λ g. path_also e (by.0 g)),
-        (λ p. by.1 (same_path (λ E js. ws ≡ stretches E.lines (kept_points (legs M E.lines) E.pos E.neg js)) p)),
+        (λ p. by.1 (same_path _ p)),
       )
 
   stretches_are : (ws : List (List ℕ)) → IsStretches M P ws → ws ≡ stretches Lines (formed.h ∷ formed.i ∷ formed.js)
   stretches_are ws s =
-      same_path (λ E js. ws ≡ stretches E.lines (kept_points (legs M E.lines) E.pos E.neg js)) s
-      ∙ ap (stretches Lines) formed.kept
+      same_path _ s ∙ ap (stretches Lines) formed.kept
 
   cuts : (ws : List (List ℕ)) → IsStretches M P ws → (front back : ℕ) → IsLeft M P front back → (n : ℕ) → 0 < n →
       Cuts M m Lines known_lines n ws r front back
   cuts ws s front back l n some =
-      let left = same_path (λ E js. (front ≡ E.pos - from_front (legs M E.lines) (first_kept (legs M E.lines) E.pos js))
-      × (back ≡ E.neg - to_back (legs M E.lines) (last_kept (legs M E.lines) E.neg js))) l in
+      let left = same_path _ l in
       coe 1 0 (i. Cuts M m Lines known_lines n (stretches_are ws s i) (formed.fields_are i) (left.0 i) (left.1 i))
       (cuts_close M m Lines known_lines (Front M P is none r e) (Back M P is none r e) formed.h formed.i formed.js formed.linked n some)
 
   all_steps : (ws : List (List ℕ)) → IsStretches M P ws → AllZip (λ a w. IsStep a (dm_of M w)) (attributes r) ws
-  all_steps ws s =
-      coe 1 0 (i. AllZip (λ a w. IsStep a (dm_of M w)) (attributes (formed.fields_are i)) (stretches_are ws s i))
-      (steps_of M m Lines known_lines formed.h formed.i formed.js)
+  all_steps ws s = grind (arith, formed.fields_are, stretches_are ws s, steps_of M m Lines known_lines formed.h)
 
   -- ---- the nearest node
 
@@ -276,8 +272,7 @@ module _ (M : Map) (m : IsMap M) (P : Path) (is : IsTrue (is_path P.lines)) (non
       ((i : ℕ) → slice_index Points_kept k ≡ i → coord_at M (node_at M Lines i) ≡ coordinate_on s (leg M (line_by s Lines i))) →
       IsNear k (decoded_coord r k) (coordinate_on s (leg M x))
   near_line s k x h at on =
-      let there = same_path (λ E js. option_map (line_by s E.lines) (slice_get (kept_points (legs M E.lines) E.pos E.neg js) k)
-      ≡ Some x) at in
+      let there = same_path _ at in
       let near = (answer_decodes M P is none r e).near k (omega (arith, size)) in
       let some = (extended_sound M P is none e.before e.after e.tried).size in
       let place_is = position_is M m Lines known_lines (slice_index Points_kept k) some ∙ on (slice_index Points_kept k) refl
