@@ -1,5 +1,5 @@
 -- What one edit changes, and what consecutive edits change.
-use Rattle.std.proofs.Common.{inl, ◌≡◌, ◌≢◌, ℕ, false, List, ◌∷◌, ◌++◌, ◌≤◌, Ok, Contains, IsTrue, refl, sym, ◌∙◌}
+use Rattle.std.proofs.Common.{inl, ◌≡◌, ◌≢◌, ℕ, false, List, ◌∷◌, ◌++◌, ◌≤◌, Ok, IsTrue, refl, sym, ◌∙◌}
 use Rattle.std.proofs.Common.{arith, ◌==◌, Some, T, nat_cmp, []}
 use Rattle.std.proofs.lemmas.Bool.{cases_eq, both_ways, or_parts}
 use Rattle.std.proofs.lemmas.List.Elements.{Contains-append_left, Contains-append_right}
@@ -10,7 +10,7 @@ use Rattle.olr_spec.specs.Map.{SameLine, SameRound, has}
 use Rattle.olr_spec.specs.Detours.{ChangedLine, changes_of, IsChangedLine, AccountsFor}
 use Rattle.olr_spec.specs.Laws.{EditsDiffer, NoDifference, DifferencesAdd}
 use Rattle.olr_spec.specs.Coordinates.{Coord}
-use Rattle.olr_spec.proofs.AgreeLemmas.{same_known, same_start, same_end, same_dm, known_record}
+use Rattle.olr_spec.proofs.AgreeLemmas.{known_record}
 use Rattle.olr_spec.proofs.EditLemmas.{edits_are_local, other_lines, edit_laws}
 use Rattle.olr_spec.proofs.ListLemmas.{Contains-here}
 
@@ -58,15 +58,6 @@ pub none_differs : NoDifference
 none_differs M = search (inl)
 
 -- ---- consecutive changes
-
-accounted_as : (C D : List ChangedLine) (L M : Map) (x : ℕ) → SameLine L M x →
-    ((c : ChangedLine) → Contains C c → Contains D c) → IsChangedLine C M x → IsChangedLine D L x
-accounted_as C D L M x is more t = grind (arith, same_start, same_end, same_dm)
-
--- E has the changed lines of C and D
-accounts_on : (C D E : List ChangedLine) (L M N : Map) → ((c : ChangedLine) → Contains C c → Contains E c)
-    → ((c : ChangedLine) → Contains D c → Contains E c) → AccountsFor C L M → AccountsFor D M N → AccountsFor E L N
-accounts_on C D E L M N left right p q x h = grind (arith, accounted_as, same_known)
 
 round_on : (L M N : Map) (v : ℕ) → SameRound L M v → SameRound M N v → SameRound L N v
 round_on L M N v r s = record {

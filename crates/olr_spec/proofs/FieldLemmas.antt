@@ -1,7 +1,7 @@
 -- The fields of an answer fit their bits.
 use Rattle.std.proofs.Common.{◌≡◌, ℕ, suc, ◌+◌, ◌-◌, ◌*◌, ◌/◌, max, ℤ, pos, negsuc, ◌≤ℤ◌, min, Bool, true}
 use Rattle.std.proofs.Common.{false, List, ◌∷◌, length, take, drop, map, ◌<◌, ◌≤◌, Some, None, IfSome, unwrap_or}
-use Rattle.std.proofs.Common.{IsTrue, refl, ap, ◌∙◌, arith, ◌==◌, take-add, div-lt_iff_lt-mul, [], ltb-true}
+use Rattle.std.proofs.Common.{IsTrue, ap, ◌∙◌, arith, ◌==◌, take-add, div-lt_iff_lt-mul, [], ltb-true}
 use Rattle.std.proofs.Common.{fold, find, slice_index, slice_range}
 use Rattle.std.proofs.lemmas.Bool.{cases_Bool, cases_lt, and_parts, and_from, cond_both}
 use Rattle.std.proofs.lemmas.Bool.Decides.{nat_tests}
@@ -108,9 +108,6 @@ good_frc l h = (grind (arith, nat_tests, and_parts), grind (arith, nat_tests, an
 
 leg_good : (M : Map) → IsMap M → (x : ℕ) → IsTrue (has_line M x) → IsLeg (leg M x)
 leg_good M m x h = grind (arith, good_frc)
-
-no_leg_good : IsLeg no_leg
-no_leg_good = record { frc = omega arith; fow = omega arith; begin = refl; finish = refl }
 
 module _ (M : Map) (m : IsMap M) (ls : List ℕ) (known : Each (Known M) ls) where
   leg_at_good : (i : ℕ) → IsLeg (leg_at (legs M ls) i)
