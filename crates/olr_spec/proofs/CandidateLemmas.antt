@@ -45,9 +45,6 @@ same_coordinate : (M : Map) (s : Side) (x y : ℕ) → node_on s (leg M x) ≡ n
     coordinate_on s (leg M x) ≡ coordinate_on s (leg M y)
 same_coordinate M s x y e = grind arith
 
-some_apart : (d : ℕ → ℕ → ℕ) → IsDifference d → (a b c : ℕ) → a ≡ b → b ≢ c → 0 < d a c
-some_apart d h a b c e n = grind (arith, cases_lt)
-
 module _ (R : Receiver) (M : Map) (t : Lrp) (x : ℕ) (o : Own R M t x) where
   nowhere_worse : (y : ℕ) → (rating R t (leg M x)).far ≤ (rating R t (leg M y)).far →
       NowhereWorse (rating R t (leg M x)) (rating R t (leg M y))
@@ -55,7 +52,7 @@ module _ (R : Receiver) (M : Map) (t : Lrp) (x : ℕ) (o : Own R M t x) where
 
   another_kind : (y : ℕ) → node_on t.side (leg M x) ≡ node_on t.side (leg M y) →
       are_twins t.side (leg M x) (leg M y) ≡ false → SomewhereBetter (rating R t (leg M x)) (rating R t (leg M y))
-  another_kind y e off = grind (arith, cases_eq, some_apart, both_ways, eq-eqb)
+  another_kind y e off = grind (arith, cases_eq, both_ways, eq-eqb)
 
   not_same : (y : ℕ) → y ≢ x → (y == x) || not (are_twins t.side (leg M x) (leg M y)) ≡ true →
       are_twins t.side (leg M x) (leg M y) ≡ false

@@ -16,11 +16,6 @@ use Rattle.olr_spec.proofs.ListLemmas.{Contains-here}
 
 -- ---- one edit
 
--- maps that differ only in line y, which C lists
-accounts_one : (C : List ChangedLine) (M N : Map) (y : ℕ) → ((x : ℕ) → x ≢ y → SameLine M N x)
-    → (IsTrue (has_line M y) → IsChangedLine C M y) → AccountsFor C M N
-accounts_one C M N y same accounted x h = grind (arith, cases_eq)
-
 -- line y as the only changed line
 accounted_alone : (M : Map) (y : ℕ) (c : ChangedLine) → c.from ≡ start M y → c.to ≡ end M y → c.len ≤ dm M y
     → IsChangedLine (c ∷ []) M y
@@ -36,7 +31,7 @@ lines_accounted : (M N : Map) (y : ℕ) (lines : FinMap nat_cmp Line) (c : Chang
     ((x : ℕ) → x ≢ y → get lines x ≡ get M.lines x) → (IsTrue (has_line M y) → IsChangedLine (c ∷ []) M y) →
     ((l : Line) → get lines y ≡ Some l → (c.from ≡ l.from) × (c.to ≡ l.to) × (c.len ≤ l.len)) →
     BothAccount (c ∷ []) M N
-lines_accounted M N y lines c is other before after = grind (arith, accounts_one, known_record, accounted_alone)
+lines_accounted M N y lines c is other before after = grind (arith, known_record)
 
 edit_accounted : (M N : Map) (e : Edit) → edited M e ≡ Ok N → BothAccount (changes_of M e) M N
 edit_accounted M N e p = grind (arith, edit_laws, nodes_accounted, lines_accounted, accounted_alone, both_ways)

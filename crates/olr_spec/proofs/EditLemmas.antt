@@ -15,9 +15,6 @@ use Rattle.olr_spec.proofs.ListLemmas.{Each-to}
 use Rattle.olr_spec.proofs.AgreeLemmas.{known_record}
 use Rattle.olr_spec.proofs.MapLemmas.{has-lines_where, none_has}
 
-pub passed_test : {A F : Type 0} (b : Bool) (f : F) (r : Result A F) (x : A) → unless b f r ≡ Ok x → (b ≡ false) × (r ≡ Ok x)
-passed_test b f r x e = grind arith
-
 -- the conditions of an accepted edit, and the map that it makes
 abbrev pub Made : Map → Edit → Map → Type 0
 Made M (Add_node v c) N = (has_node M v ≡ false) × (record M { nodes = insert M.nodes v c } ≡ N)
@@ -32,7 +29,7 @@ Made M (Set_line x frc fow len shape) N =
 Made M (Drop_line x) N = (has_line M x ≡ true) × (record M { lines = remove M.lines x } ≡ N)
 
 pub made_by : (M N : Map) (e : Edit) → edited M e ≡ Ok N → Made M e N
-made_by M N e p = grind (arith, passed_test, not-false, and_parts)
+made_by M N e p = grind (arith, not-false, and_parts)
 
 module _ {X : Type 0} where
   pub got_other : (m : FinMap nat_cmp X) (k : ℕ) (v : X) (q : ℕ) → q ≢ k → get (insert m k v) q ≡ get m q

@@ -87,13 +87,8 @@ sector_below e n = find_each (λ k. k < 32) (λ k. lies_between (boundary k) (bo
 bearing_below : (o : Coord) (s : Scaled) → bearing o s < 32
 bearing_below o s = grind (arith, sector_below)
 
--- a coordinate in range, in 24-bit steps
-abs24_fits : (z : ℤ) → negsuc 58982399999999 ≤ℤ z → z ≤ℤ pos 58982367232000 → (negsuc 8388607 ≤ℤ abs24 z)
-    × (abs24 z ≤ℤ pos 8388607)
-abs24_fits z lo hi = grind (arith, ints)
-
 coord_fits : (c : Coord) → IsTrue (is_coord c) → IsTrue (fits24 (abs24 c.lon)) × IsTrue (fits24 (abs24 c.lat))
-coord_fits c h = grind (arith, and_parts, abs24_fits, le_yes, and_from, le_test)
+coord_fits c h = grind (arith, and_parts, le_yes, and_from, le_test)
 
 -- ---- lines with the coordinates of their ends
 
@@ -107,7 +102,7 @@ good_frc : (l : Line) → IsTrue (is_good l) → (l.frc < 8) × (l.fow < 8)
 good_frc l h = (grind (arith, nat_tests, and_parts), grind (arith, nat_tests, and_parts))
 
 leg_good : (M : Map) → IsMap M → (x : ℕ) → IsTrue (has_line M x) → IsLeg (leg M x)
-leg_good M m x h = grind (arith, good_frc)
+leg_good M m x h = grind arith
 
 module _ (M : Map) (m : IsMap M) (ls : List ℕ) (known : Each (Known M) ls) where
   leg_at_good : (i : ℕ) → IsLeg (leg_at (legs M ls) i)

@@ -16,17 +16,11 @@ use Rattle.olr_spec.proofs.ListLemmas.{Each, Each-nil, Each-head, Each-tail, has
 pub le_yes : (a b : ℤ) → int_le a b ≡ true → a ≤ℤ b
 le_yes a b e = record { le = subst T (sym e) tt }
 
-lt_yes : (a b : ℤ) → int_lt a b ≡ true → a <ℤ b
-lt_yes a b e = record { lt = subst T (sym e) tt }
-
 T_is : (b : Bool) → T b → b ≡ true
 T_is b h = grind arith
 
 pub le_test : (a b : ℤ) → a ≤ℤ b → int_le a b ≡ true
 le_test a b h = T_is (int_le a b) h.le
-
-lt_test : (a b : ℤ) → a <ℤ b → int_lt a b ≡ true
-lt_test a b h = T_is (int_lt a b) h.lt
 
 -- ---- the numbers below n
 
@@ -150,10 +144,7 @@ later_fails e n j k lt h a b =
     ]
 
 at_of : (e n : ℤ) (k : ℕ) → IsTrue (lies_between (boundary k) (boundary (suc k)) (vector e n)) → At k e n
-at_of e n k h = grind (arith, and_parts, side, le_yes, lt_yes)
-
-of_at : (e n : ℤ) (k : ℕ) → At k e n → IsTrue (lies_between (boundary k) (boundary (suc k)) (vector e n))
-of_at e n k a = grind (arith, and_from, side, le_test, lt_test)
+at_of e n k h = grind (arith, and_parts, side, le_yes)
 
 pub one_sector : OneSector
 one_sector e n j k p q = grind (arith, cases_order, later_fails, at_of)
@@ -174,7 +165,7 @@ crossing e n a (suc d) h g = by_lt_z {P = Crossing e n a (a + suc d)} (side e n 
     (r.0, omega arith, omega arith, r.3))
 
 in_quadrant : (e n : ℤ) (q : ℕ) → q < 4 → InQuadrant q e n → (k : ℕ) × IsSector e n k
-in_quadrant e n q lt h = grind (arith, turns, crossing, of_at)
+in_quadrant e n q lt h = grind (arith, turns, crossing)
 
 pub some_sector : (e n : ℤ) → ¬ ((e ≡ pos 0) × (n ≡ pos 0)) → (k : ℕ) × IsSector e n k
 some_sector (pos zero) (pos zero) ne = absurd (ne (refl, refl))
