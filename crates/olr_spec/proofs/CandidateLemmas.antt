@@ -4,7 +4,7 @@ use Rattle.std.proofs.Common.{inl, inr, ◌≡◌, ◌≢◌, ℕ, ◌+◌, ◌-
 use Rattle.std.proofs.Common.{◌↔◌, IsTrue, IsFalse, refl, arith, nat_lt, ◌==◌, ◌*◌, ℤ, ◌-ℤ◌}
 use Rattle.std.proofs.Common.{nat_le, ◌/◌, Some, eqb-true, eq-eqb, ltb-true, lt-ltb, le-ltb, leb-true}
 use Rattle.std.proofs.Common.{nat_abs}
-use Rattle.std.proofs.lemmas.Bool.{cases_Bool, cases_eq, cases_lt, both_ways, or_cases}
+use Rattle.std.proofs.lemmas.Bool.{cases_Bool, cases_eq, both_ways, or_cases}
 use Rattle.std.specs.List.{list_all}
 use Rattle.std.proofs.Math.Nat.{mul-le-mul_left, mul-le-mul_right, mul-lt-mul_of_pos_left, le_of_mul-le-mul_left}
 use Rattle.std.proofs.Math.Nat.{mul-add, mul_comm, div-mul-le_self, lt-div-mul-add}

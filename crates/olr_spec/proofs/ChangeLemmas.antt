@@ -1,12 +1,12 @@
 -- What one edit changes, and what consecutive edits change.
 use Rattle.std.proofs.Common.{inl, ◌≡◌, ◌≢◌, ℕ, false, List, ◌∷◌, ◌++◌, ◌≤◌, Ok, IsTrue, refl, sym, ◌∙◌}
 use Rattle.std.proofs.Common.{arith, ◌==◌, Some, T, nat_cmp, []}
-use Rattle.std.proofs.lemmas.Bool.{cases_eq, both_ways, or_parts}
+use Rattle.std.proofs.lemmas.Bool.{both_ways, or_parts}
 use Rattle.std.proofs.lemmas.List.Elements.{Contains-append_left, Contains-append_right}
 use Rattle.std.proofs.lemmas.List.Folds.{list_any-append}
 use Rattle.std.specs.FinMap.{get, FinMap}
 use Rattle.olr_spec.specs.Map.{Map, Line, has_line, start, end, dm, Edit, edited, touched_nodes}
-use Rattle.olr_spec.specs.Map.{SameLine, SameRound, has}
+use Rattle.olr_spec.specs.Map.{SameRound, has}
 use Rattle.olr_spec.specs.Detours.{ChangedLine, changes_of, IsChangedLine, AccountsFor}
 use Rattle.olr_spec.specs.Laws.{EditsDiffer, NoDifference, DifferencesAdd}
 use Rattle.olr_spec.specs.Coordinates.{Coord}

@@ -1,11 +1,10 @@
 -- The fields of an answer fit their bits.
-use Rattle.std.proofs.Common.{◌≡◌, ℕ, suc, ◌+◌, ◌-◌, ◌*◌, ◌/◌, max, ℤ, pos, negsuc, ◌≤ℤ◌, min, Bool, true}
+use Rattle.std.proofs.Common.{◌≡◌, ℕ, suc, ◌+◌, ◌-◌, ◌*◌, ◌/◌, max, ℤ, min, Bool, true}
 use Rattle.std.proofs.Common.{false, List, ◌∷◌, length, take, drop, map, ◌<◌, ◌≤◌, Some, None, IfSome, unwrap_or}
 use Rattle.std.proofs.Common.{IsTrue, ap, ◌∙◌, arith, ◌==◌, take-add, div-lt_iff_lt-mul, [], ltb-true}
 use Rattle.std.proofs.Common.{fold, find, slice_index, slice_range}
 use Rattle.std.proofs.lemmas.Bool.{cases_Bool, cases_lt, and_parts, and_from, cond_both}
 use Rattle.std.proofs.lemmas.Bool.Decides.{nat_tests}
-use Rattle.std.proofs.lemmas.Int.{ints}
 use Rattle.std.proofs.lemmas.List.{length-map, get_or-map, get_or_past, take-map, drop-map}
 use Rattle.std.specs.List.{AllByRecursion}
 use Rattle.olr_spec.specs.Coordinates.{Coord, is_coord, abs24, relative, fits16}

@@ -1,5 +1,5 @@
 -- Lists of coverage queries: each LRP of the list has one.
-use Rattle.std.proofs.Common.{inl, inr, ◌≡◌, ℕ, ◌+◌, true, List, ◌∷◌, length, ◌<◌, Contains, subst, arith, nat_lt}
+use Rattle.std.proofs.Common.{◌≡◌, ℕ, ◌+◌, true, List, ◌∷◌, length, ◌<◌, Contains, arith, nat_lt}
 use Rattle.std.proofs.Common.{IsTrue, [], lt-ltb, ltb-true}
 use Rattle.std.specs.List.{AllZip}
 use Rattle.olr_spec.specs.Map.{Map, has}

@@ -1,6 +1,6 @@
 -- From a degree-two node only one line leads on, so a run of such nodes is determined by its length.
-use Rattle.std.proofs.Common.{◌⊎◌, inr, ◌≡◌, ◌≢◌, ℕ, ◌+◌, true, ◌&&◌, ◌||◌, List, ◌∷◌, ◌++◌, map, length, ◌<◌}
-use Rattle.std.proofs.Common.{◌≤◌, IsTrue, refl, sym, ap, inl, subst, arith, ◌==◌}
+use Rattle.std.proofs.Common.{◌⊎◌, ◌≡◌, ◌≢◌, ℕ, ◌+◌, true, ◌&&◌, ◌||◌, List, ◌∷◌, ◌++◌, map, length, ◌<◌}
+use Rattle.std.proofs.Common.{◌≤◌, IsTrue, refl, sym, subst, arith, ◌==◌}
 use Rattle.std.proofs.Common.{append-nil, append_assoc, []}
 use Rattle.std.proofs.lemmas.Bool.{cases_lt, cases_order, and_parts, cond_both}
 use Rattle.std.proofs.lemmas.Bool.Decides.{nat_tests}

@@ -1,8 +1,8 @@
 -- Each direction is in one sector.
 use Rattle.std.proofs.Common.{inl, inr, ◌≡◌, ℕ, zero, suc, ◌+◌, ◌-◌, ◌*◌, ◌/◌, ◌%◌, ◌<◌, ◌≤◌, ℤ, pos, ◌≤ℤ◌, ◌<ℤ◌, ◌*ℤ◌}
 use Rattle.std.proofs.Common.{◌-ℤ◌, neg_ℤ, Bool, true, T, List, ◌∷◌, Some, unwrap_or, IsTrue, map, refl, sym}
-use Rattle.std.proofs.Common.{subst, arith, [], eq-eqb, int_le, int_lt, find}
-use Rattle.std.proofs.lemmas.Bool.{and_parts, and_from, cases_order, or_left, or_right, cond_both}
+use Rattle.std.proofs.Common.{subst, arith, [], eq-eqb, int_le, find}
+use Rattle.std.proofs.lemmas.Bool.{and_parts, cases_order, or_left, or_right, cond_both}
 use Rattle.std.proofs.lemmas.List.Folds.{list_any-append}
 use Rattle.std.proofs.Common.{negsuc}
 use Rattle.std.proofs.lemmas.Int.{ints, by_lt_z}
