@@ -17,6 +17,5 @@ pub mod LineChanges
 pub mod Capacity
 pub mod Merging
 pub mod Using
-pub mod Sizes
 pub mod Log
 pub mod SlotsStay

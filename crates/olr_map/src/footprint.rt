@@ -1,6 +1,9 @@
 //! Sets of nodes.
 ghost use Rattle.std.specs.Prelude.{◌≡◌, ◌↔◌, ◌⊎◌, ℕ, Contains, IsTrue, IfOk, OnOk, OnErr, [], ◌≤◌, length};
 ghost use Rattle.std.specs.List.Sorted.{IsStrictlyIncreasing};
+ghost use Rattle.std.specs.Prelude.{true};
+ghost use Rattle.std.specs.Ordering.{nat_cmp};
+ghost use Rattle.std.specs.Set.{sorted_merge};
 
 use crate::ids::NodeId;
 use std::alloc::{AllocError, Global};
@@ -76,11 +79,7 @@ impl Footprint {
 
 /// The numbers of both lists, in ascending order without duplicates.
 fn merge(alloc: Global, left: &[NodeId], right: &[NodeId]) -> Result<Vec<NodeId>, AllocError>
-    requires left { IsStrictlyIncreasing left.now }
-    requires right { IsStrictlyIncreasing right.now }
-    ensures ascending { IfOk result (λ v. IsStrictlyIncreasing v.items) }
-    ensures holds { IfOk result
-        (λ v. (n : ℕ) → (Contains v.items n) ↔ ((Contains left.now n) ⊎ (Contains right.now n))) }
+    ensures { IfOk result (λ v. v.items ≡ sorted_merge nat_cmp true left.now right.now) }
 {
     let mut both = Vec::with_capacity(alloc, left.len() + right.len())?;
     let mut i = 0;

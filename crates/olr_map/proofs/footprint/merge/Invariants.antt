@@ -1,6 +1,6 @@
-use Rattle.std.proofs.Common.{◌+◌, ◌-◌, ◌≤◌, length}
+use Rattle.std.proofs.Common.{◌≡◌, ◌++◌, ◌+◌, ◌-◌, ◌≤◌, length, drop}
 use Rattle.std.specs.Vec.{vec_capacity}
-use Rattle.olr_map.proofs.Merging.{Merging}
+use Rattle.olr_map.proofs.Merging.{merged}
 use Rattle.olr_map.proofs.footprint.merge.Given as goal
 
 abbrev pub invariant-loop-i : goal.invariant-loop-i
@@ -10,7 +10,7 @@ invariant-loop-i l =
       right_in : l.j ≤ length l.right;
       few : length l.both.items ≤ l.i + l.j;
       room : length l.left + length l.right ≤ vec_capacity l.both;
-      merging : Merging l.left l.right l.i l.j l.both.items;
+      rest : l.both.items ++ merged (drop l.i l.left) (drop l.j l.right) ≡ merged l.left l.right;
     }
 
 abbrev pub decreases-loop-i : goal.decreases-loop-i

@@ -1,23 +1,7 @@
 use Rattle.std.proofs.Common.{reverse, ap, ◌∙◌, arith}
 use Rattle.olr_map.specs.Changes.{tables_map, room_of, all_node_puts, all_line_puts}
-use Rattle.olr_map.proofs.Log.{last_of, first_can, rest_can, rest_made}
+use Rattle.olr_map.proofs.Log.{last_of, rest_can, rest_made}
 use Rattle.olr_map.proofs.road_map.RoadMap.undo_all.Goals as goal
-
-pub take_back-requires-clause-can : goal.take_back-requires-clause-can
-take_back-requires-clause-can c =
-    let t = c.loop-change.self in
-    let is = last_of c.loop-change.changes.items c.pop.new.self.items c.in-Some.change c.in-Some.ensures.items in
-    first_can (tables_map t) (room_of t) c.in-Some.change (reverse c.pop.new.self.items)
-    (reverse c.loop-change.changes.items) is c.loop-change.invariant.can
-
-pub take_back-requires-clause-numbers : goal.take_back-requires-clause-numbers
-take_back-requires-clause-numbers c =
-    let is = last_of c.loop-change.changes.items c.pop.new.self.items c.in-Some.change c.in-Some.ensures.items in
-    let nodes = ap (λ cs. all_node_puts cs) is in
-    let lines = ap (λ cs. all_line_puts cs) is in
-    let n = c.loop-change.invariant.nodes in
-    let l = c.loop-change.invariant.lines in
-    record { nodes = omega arith; lines = omega arith }
 
 pub loop-change-preserved : goal.loop-change-preserved
 loop-change-preserved c =

@@ -1,6 +1,4 @@
 use Rattle.std.proofs.Common.{Some, sym, ap, ◌∙◌}
-use Rattle.std.proofs.lemmas.Bool.{false_from_ne_true}
-use Rattle.olr_spec.proofs.OptionLemmas.{none_of}
 use Rattle.olr_map.proofs.Reading.{slot_is, slot_filled, entry_at, node_read}
 use Rattle.olr_map.proofs.road_map.RoadMapMapRead.node.Goals as goal
 
@@ -14,6 +12,3 @@ returns-in-Some c =
     let here = slot_is t c.args.id c.in-Some.slot c.in-Some.ensures.0 (sym c.in-Some.ensures.1) in
     let x = entry_at t c.args.id c.in-Some.slot here in
     ap (λ q. Some q) (c.place.ensures x.0 x.1) ∙ sym (node_read t c.args.id c.in-Some.slot x.0 here x.1)
-
-pub returns-in-None : goal.returns-in-None
-returns-in-None c = sym (none_of _ (false_from_ne_true _ c.in-None.ensures))

@@ -1,8 +1,8 @@
-use Rattle.std.proofs.Common.{◌≡◌, ◌<◌, Some, None, sym, set, subst, length, vec_len, arith}
+use Rattle.std.proofs.Common.{◌≡◌, ◌<◌, Some, sym, set, subst, length, vec_len, arith}
 use Rattle.std.specs.Vec.{vec_capacity}
 use Rattle.olr_map.specs.Slotted.{IsSlotted}
 use Rattle.olr_map.specs.Slabs.{room_in}
-use Rattle.olr_map.proofs.SlotLemmas.{popped, put_slotted, push_none, written, appended}
+use Rattle.olr_map.proofs.SlotLemmas.{put_slotted, push_none}
 use Rattle.olr_map.proofs.slab.Slab.put.Goals as goal
 
 pub invariant_of-self : goal.invariant_of-self
@@ -16,13 +16,6 @@ invariant_of-self g c =
           (put_slotted es s.free.items _ s.slotted c.pop.new.self.items c.in-Some.slot c.args.entry
           c.in-Some.ensures.items);
     }
-
-pub returns-in-Some-clause-inserts : goal.returns-in-Some-clause-inserts
-returns-in-Some-clause-inserts g c =
-    let s = c.args.self.now in
-    let pop =
-    popped s.entries.items s.free.items _ s.slotted c.pop.new.self.items c.in-Some.slot c.in-Some.ensures.items in
-    written s.entries.items c.in-Some.slot None (Some c.args.entry) pop.0 pop.1
 
 pub invariant_of-self-in-None : goal.invariant_of-self-in-None
 invariant_of-self-in-None g c =
@@ -42,10 +35,3 @@ invariant_of-self-in-None g c =
           c.push_reserved.new.self.items none none' c.pop.ensures.capacity (omega arith) (omega arith)
           c.push_reserved.ensures.items;
     }
-
-pub returns-in-None-clause-inserts : goal.returns-in-None-clause-inserts
-returns-in-None-clause-inserts g c =
-    let s = c.args.self.now in
-    let len = s.entries.ok.0 in
-    let is = c.len-slot.ensures in
-    rw c.push_reserved.ensures.items (appended s.entries.items c.len-slot.result (Some c.args.entry) (omega arith))

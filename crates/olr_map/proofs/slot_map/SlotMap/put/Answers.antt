@@ -1,13 +1,7 @@
 use Rattle.std.proofs.Common.{None}
 use Rattle.olr_map.specs.Slabs.{slots_of}
-use Rattle.olr_map.proofs.SlotLemmas.{inserted_fits}
-use Rattle.olr_map.proofs.SlotMapLemmas.{has_slot, written_held, written_slots}
+use Rattle.olr_map.proofs.SlotMapLemmas.{has_slot, written_slots}
 use Rattle.olr_map.proofs.slot_map.SlotMap.put.Goals as goal
-
-pub put-requires-clause-fits : goal.put-requires-clause-fits
-put-requires-clause-fits g c =
-    inserted_fits (slots_of c.args.self.now.slab) c.put-slot.result _ c.put-slot.new.self.slotted
-    c.put-slot.ensures.inserts
 
 pub invariant_of-self : goal.invariant_of-self
 invariant_of-self g c =
@@ -17,10 +11,3 @@ invariant_of-self g c =
           c.put-slot.ensures.inserts (has_slot n.index (slots_of n.slab) n.kept c.args.number None c.requires.absent).1
           c.put.ensures.put;
     }
-
-pub returns-clause-put : goal.returns-clause-put
-returns-clause-put g c =
-    let n = c.args.self.now in
-    written_held n.index (slots_of n.slab) n.kept c.put.new.self _ c.put-slot.result c.args.number None _
-    c.put-slot.ensures.inserts (has_slot n.index (slots_of n.slab) n.kept c.args.number None c.requires.absent).1
-    c.put.ensures.put
