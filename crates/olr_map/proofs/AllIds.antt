@@ -10,8 +10,7 @@ use Rattle.std.specs.Cmp.{unsigned_tied, both_ways}
 use Rattle.std.specs.FinMap.{FinMap, get, entries, entries_sorted, get-entries}
 use Rattle.std.specs.FinMap.Entries.{is_some-find}
 use Rattle.std.proofs.lemmas.Bool.{eq-eqb, ne_eqb, or_cases, or_left, or_right}
-use Rattle.std.proofs.lemmas.List.{append-nil, map-append, take_more}
-use Rattle.std.proofs.lemmas.Grind.{flat_map-append}
+use Rattle.std.proofs.lemmas.List.{map-append, take_more}
 use Rattle.std.proofs.lemmas.List.Folds.{list_any-append}
 use Rattle.std.proofs.lemmas.List.Sorted.{IsNonDecreasingBy-from_sort, list_any-IsPermutation}
 use Rattle.std.proofs.lemmas.Map.Keys.{IsDistinct-head, IsDistinct-tail, IsDistinct-cons, IsDistinct-IsPermutation}
@@ -32,6 +31,7 @@ use Rattle.olr_map.proofs.Insertions.{eqb_flip}
 use Rattle.olr_map.proofs.Numbers.{distinct_from_ascending, same_ascending}
 use Rattle.std.proofs.lemmas.Option.{same_Some}
 use Rattle.olr_map.proofs.Reading.{node_there, node_missing}
+use Rattle.std.proofs.lemmas.Grind.{common_steps}
 
 -- ---- lists of numbers
 
@@ -52,7 +52,7 @@ not_among x (y ∷ ys) a h =
     ]
 
 in_either : (xs ys : List ℕ) (y : ℕ) → has (xs ++ ys) y ≡ true → (has xs y ≡ true) ⊎ (has ys y ≡ true)
-in_either xs ys y h = or_cases _ _ (sym (list_any-append (λ z. z == y) xs ys) ∙ h)
+in_either xs ys y h = grind (arith, common_steps, list_any-append, or_cases)
 
 distinct_append : (xs ys : List ℕ) → IsDistinct ◌==◌ xs → IsDistinct ◌==◌ ys →
     ((x : ℕ) → has xs x ≡ true → has ys x ≡ true → ⊥) → IsDistinct ◌==◌ (xs ++ ys)
@@ -116,10 +116,7 @@ present_append (Some x ∷ xs) ys = ap (λ (hs : List NodeHead). x ∷ hs) (pres
 pub ids-more : (hs : List (Option NodeHead)) (k : ℕ) (d : Option NodeHead) → k < length hs
     → map (λ h. h.id) (present (take k hs)) ++ map (λ h. h.id) (present (get_or hs k d ∷ []))
     ≡ map (λ h. h.id) (present (take (k + 1) hs))
-ids-more hs k d lt =
-    sym (map-append (λ (h : NodeHead). h.id) (present (take k hs)) (present (get_or hs k d ∷ [])))
-    ∙ ap (λ (xs : List NodeHead). map (λ h. h.id) xs) (sym (present_append (take k hs) (get_or hs k d ∷ []))
-    ∙ ap (λ (xs : List (Option NodeHead)). present xs) (sym (take_more hs k d lt)))
+ids-more hs k d lt = grind (arith, common_steps, map-append, present_append, take_more)
 
 abbrev ids_in : List (Option NodeEntry) → List ℕ
 ids_in es = map (λ (e : NodeEntry). e.id) (present es)
@@ -179,11 +176,6 @@ module _ (b : Blocks) (es : List (Option NodeEntry)) (x : IsIndexed b es) where
 
 -- ---- the lines that leave the nodes
 
-pub flat-more : (f : ℕ → List ℕ) (xs : List ℕ) (k d : ℕ) → k < length xs
-    → flat_map f (take k xs) ++ f (get_or xs k d) ≡ flat_map f (take (k + 1) xs)
-flat-more f xs k d lt =
-    rw (take_more xs k d lt, flat_map-append f (take k xs) (get_or xs k d ∷ []), append-nil (f (get_or xs k d))) refl
-
 module _ (M : Map) (m : IsMap M) where
   from_node : (vs : List ℕ) (x : ℕ) → has (flat_map (lines_out M) vs) x ≡ true → (v : ℕ) × (has vs v ≡ true)
       × (has (lines_out M v) x ≡ true)
@@ -206,11 +198,7 @@ module _ (M : Map) (m : IsMap M) where
 
   -- a line leaves one node
   one_start : (v w x : ℕ) → has (lines_out M v) x ≡ true → has (lines_out M w) x ≡ true → v ≡ w
-  one_start v w x a c =
-      let p = (exactly_out M v x).0 a in
-      let q = (exactly_out M w x).0 c in
-      let same : p.0 ≡ q.0 = same_Some p.0 q.0 (sym p.1.0 ∙ q.1.0) in
-      sym p.1.1 ∙ ap (λ (l : Line). l.from) same ∙ q.1.1
+  one_start v w x a c = grind (arith, common_steps, exactly_out, same_Some)
 
   lines_once : (vs : List ℕ) → IsDistinct ◌==◌ vs → IsDistinct ◌==◌ (flat_map (lines_out M) vs)
   unfolding IsDistinct

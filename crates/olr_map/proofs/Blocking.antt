@@ -1,7 +1,7 @@
 -- Slots in blocks: after another slot is stored in a block, and as a list.
 use Rattle.std.proofs.lemmas.Grind.{common_steps}
 use Rattle.std.proofs.Common.{◌≡◌, ◌==◌, ℕ, ◌+◌, ◌-◌, ◌*◌, ◌/◌, ◌%◌, ◌<◌, zero, suc, Bool, true, false, cond, List, []}
-use Rattle.std.proofs.Common.{◌∷◌, ◌++◌, Option, Some, None, length, slice_index, nat_eq, refl, sym, ap, ◌∙◌, subst}
+use Rattle.std.proofs.Common.{◌∷◌, ◌++◌, Option, Some, None, length, slice_index, nat_eq, refl, sym, ap, ◌∙◌}
 use Rattle.std.proofs.Common.{inl, inr, arith, eqb-true, Result, Ok, Err, IsOk, OnOk}
 use Rattle.std.specs.Option.{option_or}
 use Rattle.std.specs.List.{AllByRecursion, IsDistinct}
@@ -91,26 +91,12 @@ not_blank b place slot r is blank = grind (arith, common_steps, eq-eqb)
 pub used_put : (old new : List (ℕ × Block)) (key : ℕ) (b : Block) →
     ((q : ℕ) → lookup (λ p. q == p) new ≡ cond (key == q) (Some b) (lookup (λ p. q == p) old)) → (IsBlank b → ⊥) →
     AreUsed old → AreUsed new
-used_put old new key b now not u =
-    record {
-      used = λ q d is.
-          elim (key == q) as (λ t. cond t (Some b) (lookup (λ p. q == p) old) ≡ Some d → IsBlank d → ⊥) [
-            | true ↦ λ h blank. let same : d ≡ b = cc in not (subst IsBlank same blank)
-            | false ↦ λ h. u.used q d h
-          ] (sym (now q) ∙ is);
-    }
+used_put old new key b now not u = record { used = λ q d is blank. grind (arith, common_steps, now q, u.used q d) }
 
 -- no block at a key
 pub used_removed : (old new : List (ℕ × Block)) (key : ℕ) →
     ((q : ℕ) → lookup (λ p. q == p) new ≡ cond (key == q) None (lookup (λ p. q == p) old)) → AreUsed old → AreUsed new
-used_removed old new key now u =
-    record {
-      used = λ q d is.
-          elim (key == q) as (λ t. cond t None (lookup (λ p. q == p) old) ≡ Some d → IsBlank d → ⊥) [
-            | true ↦ λ h blank. absurd cc
-            | false ↦ λ h. u.used q d h
-          ] (sym (now q) ∙ is);
-    }
+used_removed old new key now u = record { used = λ q d is blank. grind (arith, common_steps, now q, u.used q d) }
 
 -- ---- as a list
 

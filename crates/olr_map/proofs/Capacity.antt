@@ -1,5 +1,5 @@
 -- Empty tables, and tables with more capacity.
-use Rattle.std.proofs.Common.{◌≡◌, ◌==◌, ◌&&◌, ℕ, ◌<◌, ◌≤◌, Bool, true, false, cond, [], length, Option, Some, None, is_some}
+use Rattle.std.proofs.Common.{◌≡◌, ◌==◌, ◌&&◌, ℕ, ◌<◌, ◌≤◌, true, false, cond, [], length, Some, None, is_some}
 use Rattle.std.proofs.Common.{unwrap_or, refl, sym, ap, ◌∙◌, subst, arith}
 use Rattle.std.specs.Option.{option_map, option_map_or}
 use Rattle.std.specs.FinMap.{FinMap}
@@ -34,41 +34,34 @@ use Rattle.olr_map.proofs.SlotMapLemmas.{held_get}
 use Rattle.olr_map.proofs.Indexing.{id_of, place_of, one_node, same_side, Relisted}
 use Rattle.olr_map.proofs.Listing.{replaced}
 use Rattle.olr_map.proofs.Reading.{got_node, got_line, kept_from, node_missing}
+use Rattle.std.proofs.lemmas.Grind.{common_steps}
 
 -- ---- empty tables
 
 empty_map_sound : (M : Map) → ((v : ℕ) → has_node M v ≡ false) → ((x : ℕ) → has_line M x ≡ false) → IsMap M
 empty_map_sound M no_node no_line =
     record {
-      good = λ x h. never (has_line M x) (no_line x) h;
-      starts = λ x h. never (has_line M x) (no_line x) h;
-      ends = λ x h. never (has_line M x) (no_line x) h;
-      places = λ v h. never (has_node M v) (no_node v) h;
-      shapes = λ x h. never (has_line M x) (no_line x) h;
-    } where
-      never : {A : Type 0} (b : Bool) → b ≡ false → b ≡ true → A
-      never true e h = absurd cc
-      never false e h = absurd cc
+      good = λ x h. absurd (cc (no_line x));
+      starts = λ x h. absurd (cc (no_line x));
+      ends = λ x h. absurd (cc (no_line x));
+      places = λ v h. absurd (cc (no_node v));
+      shapes = λ x h. absurd (cc (no_line x));
+    }
 
 pub kept_none : (b : Blocks) (s : NodeSlots) (ls : SlotMap Line) → pairs_of b ≡ [] → node_slots s ≡ [] →
     things_of ls ≡ [] → AreTables b (node_slots s) (all_held ls)
 kept_none b s ls no_nodes no_slots no_lines =
     let none : (v : ℕ) → slot_by b v ≡ None = λ v. sym (listed_found b v) ∙ ap (lookup (λ q. v == q)) no_nodes in
-    let free : (p : ℕ) → at (node_slots s) p ≡ None = λ p. ap (λ es. at es p) no_slots in
     let indexed : IsIndexed b (node_slots s) =
     record {
-      filled = λ v p h. let x : ◌≡◌ {A = Option ℕ} None (Some p) = sym (none v) ∙ h in absurd (no_some p x);
-      named = λ v p h. let x : ◌≡◌ {A = Option ℕ} None (Some v) =
-          ap (option_map id_of) (sym (free p)) ∙ h in absurd (no_some v x);
+      filled = λ v p h. absurd (cc (none v));
+      named = λ v p h. let free = ap (λ es. option_map id_of (at es p)) no_slots in absurd cc;
     } in
     kept_from b (node_slots s) (all_held ls) indexed (few_nodes s)
     (empty_map_sound (map_from b (node_slots s) (all_held ls))
     (λ v. node_missing b (node_slots s) indexed (all_held ls) v (none v))
     (λ x. ap (λ o. is_some o) (all_get (things_of ls) x ∙ ap (lookup (λ q. x == q)) no_lines)))
-    (λ side v l h. let x : ◌≡◌ {A = Option Links} None (Some l) =
-    ap (λ o. option_map (links_at side) (in_slot (node_slots s) o)) (sym (none v)) ∙ h in absurd (no_some l x)) where
-      no_some : {A : Type 0} (x : A) → ◌≡◌ {A = Option A} None (Some x) → ⊥
-      no_some x h = cc
+    (λ side v l h. let free = ap (λ o. option_map (links_at side) (in_slot (node_slots s) o)) (none v) in absurd cc)
 
 -- ---- at least as much capacity
 
@@ -77,23 +70,18 @@ within_same R = record { nodes = omega arith; lines = λ side v. omega arith }
 
 pub within_trans : (R S T : Room) → IsRoomWithin R S → IsRoomWithin S T → IsRoomWithin R T
 within_trans R S T a b =
-    let n = a.nodes in let m = b.nodes in
     record {
-      nodes = omega arith;
-      lines = λ side v. let p = a.lines side v in let q = b.lines side v in omega arith;
+      nodes = omega (arith, a.nodes, b.nodes);
+      lines = λ side v. omega (arith, a.lines side v, b.lines side v);
     }
 
 pub reserved_trans : (s t u : RoadMap) → IsReserved s t → IsReserved t u → IsReserved s u
 reserved_trans s t u a b =
-    let nodes = a.nodes in
-    let lines = a.lines in
-    let more_nodes = b.nodes in
-    let more_lines = b.lines in
     record {
       map = b.map ∙ a.map;
       more = within_trans (room_of s) (room_of t) (room_of u) a.more b.more;
-      nodes = omega arith;
-      lines = omega arith;
+      nodes = omega (arith, a.nodes, b.nodes);
+      lines = omega (arith, a.lines, b.lines);
       slots = λ v. b.slots v ∙ a.slots v;
     }
 
@@ -122,7 +110,7 @@ module _ (t : RoadMap) (b' : Blocks) (same : (k : ℕ) → slot_by b' k ≡ slot
       }
 
   index_node : (v : ℕ) → node_in b' (node_slots t.nodes) v ≡ node_in t.index (node_slots t.nodes) v
-  index_node v = ap (in_slot (node_slots t.nodes)) (same v)
+  index_node v = grind (arith, common_steps)
 
   index_map : map_from b' (node_slots t.nodes) (all_held t.lines) ≡ tables_map t
   index_map = ap (λ (ns : FinMap nat_cmp Coord). record (tables_map t) { nodes = ns }) (same_answers _ _ (λ k.
@@ -177,14 +165,10 @@ module _ (t : RoadMap) (ls' : SlotMap Line) (same : (k : ℕ) → held ls' k ≡
 -- ---- more capacity for a node's lines
 
 side_is : (s side : Side) → same_side s side ≡ true → s ≡ side
-side_is Out Out h = refl
-side_is Out In h = absurd cc
-side_is In Out h = absurd cc
-side_is In In h = refl
+side_is s side h = grind (arith, common_steps)
 
 itself : (side : Side) → same_side side side ≡ true
-itself Out = refl
-itself In = refl
+itself side = grind (arith, common_steps)
 
 module _ (t : RoadMap) (nodes' : NodeSlots) (side : Side) (v : ℕ) (old new : Links)
     (r : Relisted t.index (node_slots t.nodes) (node_slots nodes') side v old new) (more : IsRoomier old new) where
@@ -233,22 +217,7 @@ module _ (t : RoadMap) (nodes' : NodeSlots) (side : Side) (v : ℕ) (old new : L
       } where
         stays : (s : Side) (k : ℕ) → option_map_or (λ l. links_room l) (links_in s t.index (node_slots t.nodes) k) 0
             ≤ option_map_or (λ l. links_room l) (links_in s t.index (node_slots nodes') k) 0
-        stays s k = step (links_in s t.index (node_slots nodes') k) refl where
-          step : (o : Option Links) → links_in s t.index (node_slots nodes') k ≡ o →
-              option_map_or (λ l. links_room l) (links_in s t.index (node_slots t.nodes) k) 0
-              ≤ option_map_or (λ l. links_room l) o 0
-          step (Some h) e =
-              let m = roomier_links s k h e in
-              let le = m.2.room in
-              let is = ap (λ o. option_map_or (λ l. links_room l) o 0) m.1 in
-              omega arith
-          step None e =
-              elim (same_side s side && (v == k)) as (λ c.
-              cond c (Some new) (links_in s t.index (node_slots t.nodes) k) ≡ None →
-              option_map_or (λ l. links_room l) (links_in s t.index (node_slots t.nodes) k) 0 ≤ 0) [
-                | true ↦ λ j. absurd cc
-                | false ↦ λ j. let is = ap (λ o. option_map_or (λ l. links_room l) o 0) j in omega arith
-              ] (sym (r.now s k) ∙ e)
+        stays s k = grind (arith, common_steps, r.now s k, r.was, more.room, side_is, eqb-true, and_parts)
 
   -- the node in this slot has capacity
   pub roomier_here : (p u : ℕ) → slot_by t.index v ≡ Some p → slot_by t.index u ≡ Some p →

@@ -1,7 +1,7 @@
 -- Nodes in columns: values are added to, removed from and replaced in their slots.
-use Rattle.std.proofs.Common.{◌≡◌, ◌==◌, ℕ, ◌+◌, ◌<◌, ◌≤◌, ◌^◌, zero, suc, Bool, true, false, cond, List, [], ◌∷◌, ◌++◌}
+use Rattle.std.proofs.Common.{◌≡◌, ◌==◌, ℕ, ◌+◌, ◌<◌, ◌≤◌, ◌^◌, zero, suc, true, false, cond, List, [], ◌∷◌, ◌++◌}
 use Rattle.std.proofs.Common.{Option, Some, None, is_some, length, get_or, set, nat_lt, vec_len, refl, sym, ap, ◌∙◌, subst}
-use Rattle.std.proofs.Common.{inl, inr, arith}
+use Rattle.std.proofs.Common.{arith}
 use Rattle.std.proofs.lemmas.Bool.{cases_lt, cond-true, eq-eqb, lt-ltb, le-ltb}
 use Rattle.std.proofs.lemmas.List.{length-set, length_push}
 use Rattle.std.proofs.lemmas.Option.{same_Some}
@@ -19,6 +19,7 @@ use Rattle.olr_map.specs.declared.slots.Side.{Side}
 use Rattle.olr_map.specs.declared.slots.Side.TheVariants.{Out, In}
 use Rattle.olr_map.proofs.Insertions.{unchanged_at}
 use Rattle.olr_map.proofs.SlotLemmas.{some_within, few_slots, get_or-written, get_or-pushed}
+use Rattle.std.proofs.lemmas.Grind.{common_steps}
 
 abbrev Heads : Type 0
 Heads = List (Option NodeHead)
@@ -51,14 +52,7 @@ pub record IsComposed (h : Option NodeHead) (o i : Links) (e : NodeEntry) : Type
   pub ins : i ≡ e.ins
 
 composed : (h : Option NodeHead) (o i : Links) (e : NodeEntry) → with_lines h o i ≡ Some e → IsComposed h o i e
-composed None o i e x = absurd cc
-composed (Some h) o i e x =
-    let is : record { id = h.id; place = h.place; outs = o; ins = i } ≡ e = same_Some _ _ x in
-    record {
-      head = ap (λ (f : NodeEntry). Some (record { id = f.id; place = f.place })) is;
-      outs = ap (λ (f : NodeEntry). f.outs) is;
-      ins = ap (λ (f : NodeEntry). f.ins) is;
-    }
+composed h o i e x = grind (arith, common_steps)
 
 -- the slots of nodes
 module _ (s : NodeSlots) where
@@ -209,37 +203,22 @@ module _ (s : NodeSlots) where
   column_with ls p l = cond (nat_lt p (length ls)) (set ls p l) (ls ++ l ∷ [])
 
   put_below : (ls : Column) (p : ℕ) (l : Links) → p < length ls → column_with ls p l ≡ set ls p l
-  put_below ls p l lt = ap (λ (b : Bool). cond b (set ls p l) (ls ++ l ∷ [])) (lt-ltb p (length ls) lt)
+  put_below ls p l lt = grind (arith, common_steps, lt-ltb)
 
   put_behind : (ls : Column) (p : ℕ) (l : Links) → p ≡ length ls → column_with ls p l ≡ ls ++ l ∷ []
-  put_behind ls p l at' = ap (λ (b : Bool). cond b (set ls p l) (ls ++ l ∷ [])) (le-ltb p (length ls) (omega arith))
+  put_behind ls p l at' = grind (arith, common_steps, le-ltb)
 
   column_at : (ls : Column) (p q : ℕ) (l d : Links) → p ≤ length ls →
       get_or (column_with ls p l) q d ≡ cond (p == q) l (get_or ls q d)
-  column_at ls p q l d le =
-      elim (cases_lt p (length ls)) [
-        | inl lt ↦ ap (λ (xs : Column). get_or xs q d) (put_below ls p l lt) ∙ get_or-written ls p q l d lt
-        | inr ge ↦ ap (λ (xs : Column). get_or xs q d) (put_behind ls p l (omega arith))
-            ∙ get_or-pushed ls p q l d (omega arith)
-      ]
+  column_at ls p q l d le = grind (arith, common_steps, cases_lt, put_below, put_behind, get_or-written, get_or-pushed)
 
   module _ (heads : Slab NodeHead) (p : ℕ) where
     pub stays_beside : (ls : Column) (l : Links) → length ls ≡ length hs → Fills s.heads heads p →
         length (column_with ls p l) ≡ length (slots_of heads)
-    stays_beside ls l same (inl f) =
-        let lt = f.0 in
-        let size = length-set ls p l in
-        let now = f.1 in
-        ap (λ (xs : Column). length xs) (put_below ls p l (omega arith)) ∙ omega arith
-    stays_beside ls l same (inr f) =
-        let at' = f.0 in
-        let size = length_push ls l in
-        let now = f.1 in
-        ap (λ (xs : Column). length xs) (put_behind ls p l (omega arith)) ∙ omega arith
+    stays_beside ls l same fills = grind (arith, common_steps, put_below, put_behind, length-set, length_push)
 
     within : Fills s.heads heads p → p ≤ length hs
-    within (inl f) = let lt = f.0 in omega arith
-    within (inr f) = let at' = f.0 in omega arith
+    within fills = grind (arith, common_steps)
 
     pub row_inserted : (h : NodeHead) (o i : Links) → IsInserted hs (slots_of heads) p h → Fills s.heads heads p →
         IsInserted (node_slots s) (rows (slots_of heads) (column_with os p o) (column_with is p i)) p

@@ -17,6 +17,8 @@ use Rattle.olr_map.specs.declared.slots.Side.{Side}
 use Rattle.olr_map.specs.declared.slots.Side.TheVariants.{Out, In}
 use Rattle.olr_map.proofs.Insertions.{over_cond, unchanged_at}
 use Rattle.olr_map.proofs.SlotMapLemmas.{slot_if, value_if, filled_at, held_was, stays, arrives, written_held, slot_from}
+use Rattle.std.proofs.lemmas.Grind.{common_steps}
+use Rattle.std.proofs.Common.{arith}
 
 abbrev pub id_of : NodeEntry → ℕ
 id_of e = e.id
@@ -36,18 +38,13 @@ same_side _ _ = false
 
 pub links_with : (s side : Side) (e : NodeEntry) (l : Links) →
     links_at s (with_links side e l) ≡ cond (same_side s side) l (links_at s e)
-links_with Out Out e l = refl
-links_with Out In e l = refl
-links_with In Out e l = refl
-links_with In In e l = refl
+links_with s side e l = grind (arith, common_steps)
 
 same_id : (side : Side) (e : NodeEntry) (l : Links) → (with_links side e l).id ≡ e.id
-same_id Out e l = refl
-same_id In e l = refl
+same_id side e l = grind (arith, common_steps)
 
 same_place : (side : Side) (e : NodeEntry) (l : Links) → (with_links side e l).place ≡ e.place
-same_place Out e l = refl
-same_place In e l = refl
+same_place side e l = grind (arith, common_steps)
 
 -- the lines on one side of node v are others
 pub record Relisted (b : Blocks) (es es' : Slots) (side : Side) (v : ℕ) (old new : Links) : Type 0 where
@@ -126,19 +123,7 @@ module _ (b : Blocks) (es : Slots) (indexed : IsIndexed b es) where
       let node = written_node b es' p v (Some e) (Some f) r.is here stays id in
       record {
         indexed = written_indexed b es' p v (Some e) (Some f) r.is here stays id;
-        places = λ k.
-            ap (option_map place_of) (node k) ∙ over_cond (option_map place_of) (v == k) (Some f) (node_in b es k)
-            ∙ sym (unchanged_at (λ n. option_map place_of (node_in b es n)) v (Some f.place)
-            (ap (option_map place_of) was ∙ ap (λ q. Some q) (sym (same_place side e r.links))) k);
+        places = λ k. grind (arith, common_steps, node k, over_cond, unchanged_at, same_place);
         was = ap (option_map (links_at side)) was;
-        now = λ s k.
-            ap (option_map (links_at s)) (node k)
-            ∙ over_cond (option_map (links_at s)) (v == k) (Some f) (node_in b es k)
-            ∙ elim (same_side s side) as (λ c. links_at s f ≡ cond c r.links (links_at s e) →
-            cond (v == k) (Some (links_at s f)) (links_in s b es k)
-            ≡ cond (c && (v == k)) (Some r.links) (links_in s b es k)) [
-              | true ↦ λ is. ap (λ m. cond (v == k) (Some m) (links_in s b es k)) is
-              | false ↦ λ is. sym (unchanged_at (links_in s b es) v (Some (links_at s f))
-                  (ap (option_map (links_at s)) was ∙ ap (λ m. Some m) (sym is)) k)
-            ] (links_with s side e r.links);
+        now = λ s k. grind (arith, common_steps, node k, over_cond, unchanged_at, links_with);
       }

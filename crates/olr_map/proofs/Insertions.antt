@@ -1,17 +1,14 @@
 -- Values of a function at one number, and of a map after an insert and a removal.
-use Rattle.std.proofs.Common.{◌≡◌, ◌==◌, ℕ, Bool, true, false, cond, Some, None, refl, sym, ap, ◌∙◌, inl, inr, nat_cmp}
+use Rattle.std.proofs.Common.{◌≡◌, ◌==◌, ℕ, Bool, true, false, cond, Some, None, refl, nat_cmp}
 use Rattle.std.specs.Cmp.{nat_cmp_total, unsigned_tied}
 use Rattle.std.specs.FinMap as finmap
 use Rattle.std.specs.FinMap.{FinMap, get, get-insert, get-remove, same_map, nat_cmp-IsAntisymmetric}
 use Rattle.std.proofs.lemmas.Bool.{cases_eq, eq-eqb, eqb-true, ne_eqb}
+use Rattle.std.proofs.lemmas.Grind.{common_steps}
+use Rattle.std.proofs.Common.{arith}
 
 pub eqb_flip : (a b : ℕ) → (a == b) ≡ (b == a)
-eqb_flip a b =
-    elim (cases_eq a b) [
-      | inl e ↦ eq-eqb a b e ∙ sym (eq-eqb b a (sym e))
-      | inr ne ↦ ne_eqb a b ne
-          ∙ sym (ne_eqb b a (λ e. ne (sym e)))
-    ]
+eqb_flip a b = grind (arith, common_steps, cases_eq, eq-eqb, ne_eqb)
 
 -- a function of one of two values
 pub over_cond : {A B : Type 0} (f : A → B) (b : Bool) (x y : A) → f (cond b x y) ≡ cond b (f x) (f y)
@@ -20,22 +17,16 @@ over_cond f false x y = refl
 
 -- a function that has its own value put in at one number
 pub unchanged_at : {A : Type 0} (f : ℕ → A) (v : ℕ) (x : A) → f v ≡ x → (k : ℕ) → f k ≡ cond (v == k) x (f k)
-unchanged_at f v x is k =
-    elim (v == k) as (λ c. (v == k) ≡ c → f k ≡ cond c x (f k)) [
-      | true ↦ λ i. ap f (sym (eqb-true v k i)) ∙ is
-      | false ↦ λ i. refl
-    ] refl
+unchanged_at f v x is k = grind (arith, common_steps, eqb-true)
 
 -- the value of a map at a key after an insert and a removal
 pub got_insert : {Y : Type 0} (m : FinMap nat_cmp Y) (k : ℕ) (v : Y) (q : ℕ) →
     get (finmap.insert m k v) q ≡ cond (k == q) (Some v) (get m q)
-got_insert m k v q =
-    get-insert nat_cmp_total m k v q ∙ ap (λ (b : Bool). cond b (Some v) (get m q)) (unsigned_tied q k ∙ eqb_flip q k)
+got_insert m k v q = grind (arith, common_steps, get-insert, nat_cmp_total, unsigned_tied, eqb_flip)
 
 pub got_remove : {Y : Type 0} (m : FinMap nat_cmp Y) (k q : ℕ) →
     get (finmap.remove m k) q ≡ cond (k == q) None (get m q)
-got_remove m k q =
-    get-remove nat_cmp_total m k q ∙ ap (λ (b : Bool). cond b None (get m q)) (unsigned_tied q k ∙ eqb_flip q k)
+got_remove m k q = grind (arith, common_steps, get-remove, nat_cmp_total, unsigned_tied, eqb_flip)
 
 pub same_answers : {Y : Type 0} (m n : FinMap nat_cmp Y) → ((q : ℕ) → get m q ≡ get n q) → m ≡ n
 same_answers m n h = same_map nat_cmp_total nat_cmp-IsAntisymmetric m n h

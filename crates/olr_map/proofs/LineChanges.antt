@@ -1,5 +1,5 @@
 -- A line is added, removed and set.
-use Rattle.std.proofs.Common.{◌≡◌, ◌==◌, ℕ, ◌+◌, ◌<◌, ◌≤◌, Bool, true, false, cond, Option, Some, None, refl, sym, ap, ◌∙◌}
+use Rattle.std.proofs.Common.{◌≡◌, ◌==◌, ℕ, ◌+◌, ◌<◌, ◌≤◌, true, false, cond, Option, Some, None, refl, sym, ap, ◌∙◌}
 use Rattle.std.proofs.Common.{length, subst, arith}
 use Rattle.std.specs.Option.{option_map, option_map_or}
 use Rattle.std.specs.List.Sorted.{IsStrictlyIncreasing}
@@ -10,7 +10,7 @@ use Rattle.std.proofs.lemmas.Bool.{cond-true, eqb-true, eq-eqb}
 use Rattle.std.proofs.lemmas.Option.{same_Some}
 use Rattle.olr_spec.specs.Map as maps
 use Rattle.olr_spec.specs.Map.{Map, IsMap, Line, has_line, line_at, has}
-use Rattle.olr_spec.proofs.MapLemmas.{has-lines_where, passes_at}
+use Rattle.olr_spec.proofs.MapLemmas.{has-lines_where}
 use Rattle.olr_spec.proofs.OptionLemmas.{some_of}
 use Rattle.olr_spec.proofs.UndoLemmas.{back_of}
 use Rattle.olr_map.specs.SlotIndexes.{slot_by}
@@ -43,6 +43,7 @@ use Rattle.olr_map.proofs.LineRecords.{record_of}
 use Rattle.olr_map.proofs.Listing.{ascends_at, seen, here_listed, other_listed}
 use Rattle.olr_map.proofs.Reading.{got_node, got_line, line_missing, kept_from, place_is}
 use Rattle.olr_map.proofs.Making.{made_as, sound_after, change_made, le_same}
+use Rattle.std.proofs.lemmas.Grind.{common_steps}
 
 -- ---- a node's list of lines on one side
 
@@ -52,16 +53,12 @@ module _ (t : RoadMap) (side : Side) (v : ℕ) (o : Links)
   list_is = (t.kept.listed side v o was).numbers
 
   list_room : room_at side t v ≡ links_room o
-  list_room = ap (λ p. option_map_or (λ l. links_room l) p 0) was
+  list_room = grind (arith, common_steps)
 
 -- a line of the map is in the lists of its ends
 line_listed : (side : Side) (M : Map) (x : ℕ) → has_line M x ≡ true →
     has (lines_at side M (near side (line_at M x))) x ≡ true
-line_listed side M x there =
-    let l = some_of (get M.lines x) there in
-    let test : Line → Bool = λ k. near side k == near side (line_at M x) in
-    has-lines_where M test x ∙ ap (passes_at test) l.1
-    ∙ eq-eqb (near side l.0) (near side (line_at M x)) (ap (near side) (sym (record_of M x l.0 l.1)))
+line_listed side M x there = grind (arith, common_steps, has-lines_where, eq-eqb, record_of, some_of)
 
 -- these slots, in which the lists of this side are those of the tables
 module _ (t : RoadMap) (es : Slots) (indexed : IsIndexed t.index es) (side : Side)
@@ -136,7 +133,7 @@ module _ {t : RoadMap} {nodes' : NodeSlots} {lines' : SlotMap Line} {x : ℕ} {e
   N = map_from t.index (node_slots nodes') (all_held lines')
 
   lines_now : (k : ℕ) → get N.lines k ≡ cond (x == k) w (get M.lines k)
-  lines_now k = held_get lines' k ∙ r.now k ∙ ap (cond (x == k) w) (sym (got_line t k))
+  lines_now k = grind (arith, common_steps, held_get, got_line)
 
   line_map : (F : FinMap nat_cmp Line) → ((k : ℕ) → get F k ≡ cond (x == k) w (get M.lines k)) →
       N ≡ record M { lines = F }
@@ -211,9 +208,7 @@ module _ {t : RoadMap} {nodes' : NodeSlots} {lines' : SlotMap Line} {x : ℕ} {e
 -- the far end that was stored
 end_seen : (side : Side) (b : Blocks) (l : Line) (q : ℕ) (e : LineEnd) → slot_by b (far side l) ≡ Some q →
     e ≡ record { node = far side l; slot = q; len = l.len } → Some e ≡ Some (seen side (node_slot b) l)
-end_seen side b l q e there is =
-    ap (λ (f : LineEnd). Some f) is
-    ∙ (λ i. Some (record { node = far side l; slot = sym (place_is b (far side l) q there) i; len = l.len }))
+end_seen side b l q e there is = grind (arith, common_steps, place_is)
 
 -- what an accepted change of a line says of the line
 pub number_free : (t : RoadMap) (x : ℕ) (l : Line) → CanMake (tables_map t) (room_of t) (PutLine x l) →

@@ -1,6 +1,6 @@
 -- Lines that pass a test, and the records of the lines of a map.
 use Rattle.std.proofs.Common.{◌≡◌, ◌==◌, ℕ, Bool, true, false, cond, List, [], ◌∷◌, Option, Some, None, unwrap_or}
-use Rattle.std.proofs.Common.{refl, sym, ap, ◌∙◌, subst, nat_cmp, ◌||◌}
+use Rattle.std.proofs.Common.{refl, sym, ap, ◌∙◌, nat_cmp, ◌||◌}
 use Rattle.std.specs.List.{list_any}
 use Rattle.std.specs.Ordering.{eq_by_cmp}
 use Rattle.std.specs.FinMap.{get, entries, get-entries}
@@ -10,6 +10,8 @@ use Rattle.olr_spec.specs.Map.{Map, IsMap, Line, has_node, line_at, no_line}
 use Rattle.olr_spec.proofs.MapLemmas.{has-lines_where, passes_at}
 use Rattle.olr_spec.proofs.UndoLemmas.{any_has}
 use Rattle.olr_spec.proofs.OptionLemmas.{is_some_of}
+use Rattle.std.proofs.lemmas.Grind.{common_steps}
+use Rattle.std.proofs.Common.{arith}
 
 -- ---- lines that pass a test
 
@@ -49,13 +51,11 @@ record_of M x l e = ap (λ (o : Option Line). unwrap_or o no_line) e
 
 -- both ends of a line are on the map
 pub line_starts : (M : Map) → IsMap M → (x : ℕ) (l : Line) → get M.lines x ≡ Some l → has_node M l.from ≡ true
-line_starts M sound x l e =
-    subst (λ (k : Line). has_node M k.from ≡ true) (record_of M x l e) (sound.starts x (is_some_of (get M.lines x) l e))
+line_starts M sound x l e = grind (arith, common_steps, record_of, is_some_of)
 
 pub line_ends : (M : Map) → IsMap M → (x : ℕ) (l : Line) → get M.lines x ≡ Some l → has_node M l.to ≡ true
-line_ends M sound x l e =
-    subst (λ (k : Line). has_node M k.to ≡ true) (record_of M x l e) (sound.ends x (is_some_of (get M.lines x) l e))
+line_ends M sound x l e = grind (arith, common_steps, record_of, is_some_of)
 
 -- a node of the map is not an absent node
 pub other_node : (M : Map) (u v : ℕ) → has_node M u ≡ true → has_node M v ≡ false → (u == v) ≡ false
-other_node M u v a b = ne_eqb u v (λ e. let same : has_node M u ≡ has_node M v = ap (has_node M) e in cc)
+other_node M u v a b = grind (arith, common_steps, ne_eqb)

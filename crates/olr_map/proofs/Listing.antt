@@ -1,6 +1,6 @@
 -- The lines of a node with their far ends, after a line is added, removed or set, and after nodes are added or removed.
 use Rattle.std.proofs.lemmas.Grind.{common_steps}
-use Rattle.std.proofs.Common.{◌≡◌, ◌==◌, ◌&&◌, ◌||◌, ℕ, zero, suc, ◌<◌, ◌≤◌, Bool, true, false, cond, not, List, [], ◌∷◌}
+use Rattle.std.proofs.Common.{◌≡◌, ◌==◌, ◌&&◌, ◌||◌, ℕ, zero, suc, ◌<◌, Bool, true, false, cond, not, List, [], ◌∷◌}
 use Rattle.std.proofs.Common.{map, Option, Some, None, is_some, unwrap_or, length, get_or, set, Result, Ok, Err, refl, sym, ap}
 use Rattle.std.proofs.Common.{◌∙◌, arith}
 use Rattle.std.specs.Option.{option_map}
@@ -8,7 +8,7 @@ use Rattle.std.specs.List.{insert, remove}
 use Rattle.std.specs.List.Sorted.{IsStrictlyIncreasing, IsStrictlySortedBy, IsBinarySearchResult}
 use Rattle.std.specs.FinMap.{FinMap, get}
 use Rattle.std.specs.Ordering.{nat_cmp}
-use Rattle.std.proofs.lemmas.Bool.{cond-true, cond-false, eq-eqb, ne_eqb, false_from_ne_true, or_parts}
+use Rattle.std.proofs.lemmas.Bool.{eq-eqb, ne_eqb, false_from_ne_true, or_parts}
 use Rattle.std.proofs.lemmas.Map.Keys.{sorted_from_strictly_increasing}
 use Rattle.olr_spec.specs.Coordinates.{Coord}
 use Rattle.olr_spec.specs.Map.{Map, IsMap, Line, has_node, line_at, no_line, in_use, has}
@@ -25,19 +25,16 @@ use Rattle.olr_map.specs.declared.slots.Side.TheVariants.{Out, In}
 use Rattle.olr_map.proofs.Insertions.{over_cond, unchanged_at}
 use Rattle.olr_map.proofs.Numbers.{above, same_ascending}
 use Rattle.olr_map.proofs.LineRecords.{none_passes, used_by, other_node, line_starts, line_ends}
+use Rattle.std.proofs.lemmas.List.{map-append, take-map, drop-map}
 
 -- ---- lists
 
 module _ {Y : Type 0} where
-  map-inserted : (f : ℕ → Y) (xs : List ℕ) (i x : ℕ) → i ≤ length xs → map f (insert xs i x) ≡ insert (map f xs) i (f x)
-  map-inserted f xs zero x le = refl
-  map-inserted f [] (suc i) x le = absurd (omega arith)
-  map-inserted f (y ∷ ys) (suc i) x le = ap (λ zs. f y ∷ zs) (map-inserted f ys i x (omega arith))
+  map-inserted : (f : ℕ → Y) (xs : List ℕ) (i x : ℕ) → map f (insert xs i x) ≡ insert (map f xs) i (f x)
+  map-inserted f xs i x = simp (map-append, take-map, drop-map)
 
-  map-removed : (f : ℕ → Y) (xs : List ℕ) (i : ℕ) → i < length xs → map f (remove xs i) ≡ remove (map f xs) i
-  map-removed f [] i lt = absurd (omega arith)
-  map-removed f (x ∷ xs) zero lt = refl
-  map-removed f (x ∷ xs) (suc i) lt = ap (λ zs. f x ∷ zs) (map-removed f xs i (omega arith))
+  map-removed : (f : ℕ → Y) (xs : List ℕ) (i : ℕ) → map f (remove xs i) ≡ remove (map f xs) i
+  map-removed f xs i = simp (map-append, take-map, drop-map)
 
   -- functions that differ at one number of an ascending list
   map_put : (f g : ℕ → Y) (x : ℕ) → ((n : ℕ) → (x == n) ≡ false → f n ≡ g n) → (xs : List ℕ) (i : ℕ) →
@@ -54,12 +51,10 @@ module _ {Y : Type 0} where
       λ j. first j ∷ others j
 
 or_cond : (b c : Bool) → (b || c) ≡ cond b true c
-or_cond true c = refl
-or_cond false c = refl
+or_cond b c = grind (arith, common_steps)
 
 and_cond : (b c : Bool) → (not b && c) ≡ cond b false c
-and_cond true c = refl
-and_cond false c = refl
+and_cond b c = grind (arith, common_steps)
 
 -- ---- a list in which a search for number x had this result
 
@@ -72,7 +67,7 @@ module _ (old new : Links) (x : ℕ) (up : IsStrictlyIncreasing (lines_on old)) 
 
   -- the lines other than x
   others : (y : ℕ) → has xs x ≡ false → has xs y ≡ true → (x == y) ≡ false
-  others y absent t = ne_eqb x y (λ is. let no = ap (has xs) (sym is) ∙ absent in cc)
+  others y absent t = grind (arith, common_steps, ne_eqb)
 
   pub inserted : (i : ℕ) (e : LineEnd) → Finds (Err i) → lines_on new ≡ insert xs i x →
       ends_on new ≡ insert (ends_on old) i e → links_room new ≡ links_room old → IsPut old new x (Some e)
@@ -84,7 +79,7 @@ module _ (old new : Links) (x : ℕ) (up : IsStrictlyIncreasing (lines_on old)) 
         numbers = λ n. ap (λ zs. has zs n) lines ∙ has-insert xs i x n ∙ or_cond (x == n) (has xs n);
         ends = λ f g before same last.
             ends ∙ ap (λ zs. insert zs i e) (before ∙ map_same f g xs (λ y t. same y (others y absent t)))
-            ∙ ap (insert (map g xs) i) (last e refl) ∙ sym (map-inserted g xs i x place.0) ∙ ap (map g) (sym lines);
+            ∙ ap (insert (map g xs) i) (last e refl) ∙ sym (map-inserted g xs i x) ∙ ap (map g) (sym lines);
         room = room;
         free = λ none. absurd cc;
       }
@@ -99,7 +94,7 @@ module _ (old new : Links) (x : ℕ) (up : IsStrictlyIncreasing (lines_on old)) 
         ascends = rw lines (ascends-remove xs i up place.0);
         numbers = λ n. ap (λ zs. has zs n) lines ∙ less n;
         ends = λ f g before same last.
-            ends ∙ ap (λ zs. remove zs i) before ∙ sym (map-removed f xs i place.0)
+            ends ∙ ap (λ zs. remove zs i) before ∙ sym (map-removed f xs i)
             ∙ map_same f g (remove xs i) (λ y t. same y (other (x == y) (has xs y) (sym (less y) ∙ t)))
             ∙ ap (map g) (sym lines);
         room = room;
@@ -195,21 +190,18 @@ seen side P l = record { node = far side l; slot = P (far side l); len = l.len }
 
 all_pass : {X : Type 0} (f : Line → X) (test : Line → Bool) (w : Option Line) → ((l : Line) → w ≡ Some l → test l ≡ true)
     → is_some (option_map f w) ≡ passes_at test w
-all_pass f test None h = refl
-all_pass f test (Some l) h = sym (h l refl)
+all_pass f test w h = grind (arith, common_steps)
 
 some_seen : (f : Line → LineEnd) (w : Option Line) (e : LineEnd) → option_map f w ≡ Some e → e ≡ f (unwrap_or w no_line)
-some_seen f None e h = absurd cc
-some_seen f (Some l) e h = cc
+some_seen f w e h = grind (arith, common_steps)
 
 module _ (side : Side) (P : ℕ → ℕ) (M N : Map) (x : ℕ) (o w : Option Line) (was : get M.lines x ≡ o)
     (now : (n : ℕ) → get N.lines n ≡ cond (x == n) w (get M.lines n)) where
   end_stays : (y : ℕ) → (x == y) ≡ false → end_at side M P y ≡ end_at side N P y
-  end_stays y ne =
-      ap (λ (r : Option Line). seen side P (unwrap_or r no_line)) (sym (now y ∙ cond-false (x == y) w (get M.lines y) ne))
+  end_stays y ne = grind (arith, common_steps)
 
   now_here : get N.lines x ≡ w
-  now_here = now x ∙ cond-true (x == x) w (get M.lines x) (eq-eqb x x refl)
+  now_here = grind (arith, common_steps, eq-eqb)
 
   module _ (v : ℕ) where
     abbrev at_v : Line → Bool

@@ -1,5 +1,5 @@
 -- Changes that can be made with some capacity can be made with more.
-use Rattle.std.proofs.Common.{◌≡◌, ◌==◌, ℕ, ◌≤◌, true, false, cond, List, [], ◌∷◌, ◌++◌, reverse, Ok, IsOk}
+use Rattle.std.proofs.Common.{◌≡◌, ℕ, ◌≤◌, List, [], ◌∷◌, ◌++◌, reverse, Ok, IsOk}
 use Rattle.std.proofs.Common.{sym, ap, ◌∙◌, subst, arith}
 use Rattle.std.proofs.lemmas.List.{reverse-append}
 use Rattle.olr_spec.specs.Map as map
@@ -14,6 +14,7 @@ use Rattle.olr_map.specs.declared.change.TableChange.{TableChange}
 use Rattle.olr_map.specs.declared.change.TableChange.TheVariants.{PutNode, MoveNode, TakeNode, PutLine, SetLine}
 use Rattle.olr_map.specs.declared.change.TableChange.TheVariants.{TakeLine}
 use Rattle.olr_map.proofs.Making.{made_ok}
+use Rattle.std.proofs.lemmas.Grind.{common_steps}
 
 room_fits : (M : Map) (R S : Room) (e : map.Edit) → IsRoomWithin R S → HasRoomFor M R e → HasRoomFor M S e
 room_fits M R S (map.Add_node v c) w h = let n = w.nodes in omega (arith, h)
@@ -26,11 +27,7 @@ room_fits M R S (map.Drop_line x) w h = tt
 -- the same capacity at one node
 changed_within : (R S : Room) (k : ℕ) (n : Side → ℕ) → IsRoomWithin R S → (side : Side) (v : ℕ) →
     changed_at k (n side) (R.lines side) v ≤ changed_at k (n side) (S.lines side) v
-changed_within R S k n w side v =
-    elim (k == v) as (λ b. cond b (n side) (R.lines side v) ≤ cond b (n side) (S.lines side v)) [
-      | true ↦ omega arith
-      | false ↦ w.lines side v
-    ]
+changed_within R S k n w side v = grind (arith, common_steps, w.lines side v)
 
 after_within : (R S : Room) (c : TableChange) → IsRoomWithin R S → IsRoomWithin (room_after R c) (room_after S c)
 after_within R S (PutNode v place o i) w =
@@ -70,12 +67,7 @@ all_on M N R S cs same w can = subst (λ (K : Map). CanMakeAll K S cs) (sym same
 -- the change for an edit makes it
 pub done_by : (M K N : Map) (e : map.Edit) (c : TableChange) → change_edit c ≡ e → K ≡ M → IsOk (edited M e) →
     N ≡ map_after K c → edited M e ≡ Ok N
-done_by M K N e c same mid accepted is =
-    let here : IsOk (edited K (change_edit c)) =
-    subst (λ (f : map.Edit). IsOk (edited K f)) (sym same)
-    (subst (λ (L : Map). IsOk (edited L e)) (sym mid) accepted) in
-    ap (λ (f : map.Edit). edited M f) (sym same) ∙ ap (λ (L : Map). edited L (change_edit c)) (sym mid)
-    ∙ made_ok K c here ∙ ap (λ (L : Map). Ok L) (sym is)
+done_by M K N e c same mid accepted is = grind (arith, common_steps, made_ok)
 
 -- ---- one more edit in a log
 
@@ -89,7 +81,7 @@ one_more M N R S c cs all can back within = (can, all_on M (map_after N c) R (ro
 -- ---- the last edit of a log
 
 pub last_of : (xs ys : List TableChange) (c : TableChange) → xs ≡ ys ++ c ∷ [] → reverse xs ≡ c ∷ reverse ys
-last_of xs ys c e = ap (λ (zs : List TableChange). reverse zs) e ∙ last_first ys c
+last_of xs ys c e = grind (arith, common_steps, last_first)
 
 -- once it is undone, the others can be undone
 pub rest_can : (M N : Map) (R S : Room) (c : TableChange) (cs ds : List TableChange) → ds ≡ c ∷ cs → CanMakeAll M R ds →
@@ -97,10 +89,6 @@ pub rest_can : (M N : Map) (R S : Room) (c : TableChange) (cs ds : List TableCha
 rest_can M N R S c cs ds is all same within =
     all_on (map_after M c) N (room_after R c) S cs same within
     (subst (λ (es : List TableChange). CanMakeAll M R es) is all).1
-
-pub first_can : (M : Map) (R : Room) (c : TableChange) (cs ds : List TableChange) → ds ≡ c ∷ cs → CanMakeAll M R ds →
-    CanMake M R c
-first_can M R c cs ds is all = (subst (λ (es : List TableChange). CanMakeAll M R es) is all).0
 
 pub rest_made : (M N : Map) (c : TableChange) (cs ds : List TableChange) → ds ≡ c ∷ cs → N ≡ map_after M c →
     made_all N cs ≡ made_all M ds

@@ -1,5 +1,5 @@
 -- An accepted change has a map as its result, and the change that undoes it can be made there.
-use Rattle.std.proofs.Common.{◌≡◌, ◌==◌, ℕ, ◌+◌, ◌≤◌, true, false, cond, Result, Ok, Err, IsOk, refl, sym, ap, ◌∙◌}
+use Rattle.std.proofs.Common.{◌≡◌, ℕ, ◌+◌, ◌≤◌, Result, Ok, IsOk, sym, ap, ◌∙◌}
 use Rattle.std.proofs.Common.{subst, arith}
 use Rattle.std.specs.Result.{result_unwrap_or}
 use Rattle.std.proofs.lemmas.Bool.{eqb-true}
@@ -14,11 +14,11 @@ use Rattle.olr_map.specs.Changes.{change_edit, changed_at, map_after, tables_map
 use Rattle.olr_map.specs.Changes.{HasRoomFor, IsWhole, IsRoomWithin, IsChangeMade, node_puts, line_puts}
 use Rattle.olr_map.specs.declared.change.TableChange.{TableChange}
 use Rattle.olr_map.specs.declared.road_map.RoadMap.{RoadMap}
+use Rattle.std.proofs.lemmas.Grind.{common_steps}
 
 -- an accepted edit has a map as its result
 ok_is : {A F : Type 0} (r : Result A F) (d : A) → IsOk r → r ≡ Ok (result_unwrap_or r d)
-ok_is (Ok x) d h = refl
-ok_is (Err f) d h = absurd cc
+ok_is r d h = grind (arith, common_steps)
 
 pub made_ok : (M : Map) (c : TableChange) → IsOk (edited M (change_edit c)) →
     edited M (change_edit c) ≡ Ok (map_after M c)
@@ -83,8 +83,4 @@ le_same a b e = omega arith
 -- a value that was changed, and changed back to no less
 pub changed_back : (f h : ℕ → ℕ) (k n m : ℕ) → ((v : ℕ) → h v ≡ changed_at k n f v) → f k ≤ m → (v : ℕ) →
     f v ≤ changed_at k m h v
-changed_back f h k n m is le v =
-    elim (k == v) as (λ b. (k == v) ≡ b → h v ≡ cond b n (f v) → f v ≤ cond b m (h v)) [
-      | true ↦ λ p e. let same : f k ≡ f v = ap f (eqb-true k v p) in omega arith
-      | false ↦ λ p e. omega arith
-    ] refl (is v)
+changed_back f h k n m is le v = grind (arith, common_steps, eqb-true)

@@ -5,7 +5,7 @@ use Rattle.std.specs.Option.{option_map, option_map_or}
 use Rattle.std.specs.FinMap as finmap
 use Rattle.std.specs.FinMap.{FinMap, get}
 use Rattle.std.specs.Ordering.{nat_cmp}
-use Rattle.std.proofs.lemmas.Bool.{cond-false, eqb-true}
+use Rattle.std.proofs.lemmas.Bool.{eqb-true}
 use Rattle.std.proofs.lemmas.List.{nil_from_length}
 use Rattle.std.proofs.lemmas.Option.{same_Some}
 use Rattle.olr_spec.specs.Coordinates.{Coord}
@@ -18,7 +18,7 @@ use Rattle.olr_map.specs.Slotted.{IsWritten, IsInserted, IsRemoved, IsReplaced}
 use Rattle.olr_map.specs.SlotMaps.{all_held}
 use Rattle.olr_map.specs.Columns.{node_slots, node_room}
 use Rattle.olr_map.specs.NodeLinks.{links_at}
-use Rattle.olr_map.specs.Linked.{EmptyLinks, lines_on, ends_on, links_room, lines_kept, room_kept}
+use Rattle.olr_map.specs.Linked.{IsBare, EmptyLinks, lines_on, ends_on, links_room, lines_kept, room_kept}
 use Rattle.olr_map.specs.Tables.{sides, near, far, node_in, links_in, map_from, node_slot, lines_at, end_at, IsListed}
 use Rattle.olr_map.specs.Tables.{IsIndexed, AreTables}
 use Rattle.olr_map.specs.Changes.{tables_map, room_of, room_at, changed_at, CanMake, IsRoomWithin, map_after, IsChangeMade}
@@ -38,7 +38,8 @@ use Rattle.olr_map.proofs.Indexing.{id_of, place_of, id_is, node_was, written_no
 use Rattle.olr_map.proofs.Listing.{absent_lines, unused_lines, far_there, far_unused, replaced}
 use Rattle.olr_map.proofs.LineRecords.{record_of, other_node}
 use Rattle.olr_map.proofs.Reading.{got_node, kept_from, not_found, slot_of, node_read, listed_at}
-use Rattle.olr_map.proofs.Making.{made_as, sound_after, change_made, le_same, changed_back}
+use Rattle.olr_map.proofs.Making.{made_as, sound_after, change_made, changed_back}
+use Rattle.std.proofs.lemmas.Grind.{common_steps}
 
 -- ---- a node has another entry
 
@@ -70,9 +71,7 @@ module _ {t : RoadMap} {b' : Blocks} {nodes' : NodeSlots} {v : ℕ} {o w : Optio
 
   links' : (side : Side) (k : ℕ) → links_in side b' (node_slots nodes') k
       ≡ cond (v == k) (option_map (links_at side) w) (links_in side t.index (node_slots t.nodes) k)
-  links' side k =
-      ap (option_map (links_at side)) (node' k)
-      ∙ over_cond (option_map (links_at side)) (v == k) w (node_in t.index (node_slots t.nodes) k)
+  links' side k = grind (arith, common_steps, node', over_cond)
 
   -- the map has the coordinate of w
   pub written_map : (ns : FinMap nat_cmp Coord) → ((k : ℕ) → get ns k ≡ cond (v == k) (option_map place_of w) (get M.nodes k))
@@ -103,7 +102,7 @@ module _ {t : RoadMap} {b' : Blocks} {nodes' : NodeSlots} {v : ℕ} {o w : Optio
 
   -- slots of other nodes stay
   pub other_slot : (u : ℕ) → (v == u) ≡ false → node_slot t.index u ≡ node_slot b' u
-  other_slot u ne = sym (ap (λ p. unwrap_or p 0) (r.now u ∙ cond-false (v == u) (slot_if r.slot w) (slot_by t.index u) ne))
+  other_slot u ne = grind (arith, common_steps)
 
   -- the capacity of the node's lists was that of o, and is that of w
   module _ (kept' : AreTables b' (node_slots nodes') (all_held t.lines)) where
@@ -124,7 +123,7 @@ module _ {t : RoadMap} {b' : Blocks} {nodes' : NodeSlots} {v : ℕ} {o w : Optio
     -- as much as was expected, and as much as there was once that is changed back
     pub room_forth : (side : Side) (n : ℕ) → entry_room side w ≡ n → (k : ℕ) →
         changed_at v n (room_at side t) k ≤ room_at side after k
-    room_forth side n is k = le_same _ _ (ap (λ m. changed_at v m (room_at side t) k) (sym is) ∙ sym (room_now side k))
+    room_forth side n is k = grind (arith, common_steps, room_now)
 
     pub room_back : (side : Side) (n : ℕ) → entry_room side o ≡ n → (k : ℕ) →
         room_at side t k ≤ changed_at v n (room_at side after) k
@@ -134,19 +133,13 @@ module _ {t : RoadMap} {b' : Blocks} {nodes' : NodeSlots} {v : ℕ} {o w : Optio
 
     pub room_same : (side : Side) → entry_room side o ≡ entry_room side w → (k : ℕ) →
         room_at side t k ≤ room_at side after k
-    room_same side is k =
-        le_same _ _ (unchanged_at (room_at side t) v (entry_room side w) (room_was side ∙ is) k ∙ sym (room_now side k))
+    room_same side is k = grind (arith, common_steps, room_now, room_was, unchanged_at)
 
 -- ---- a node is added
 
 beside : (l : Links) → length (ends_on l) ≡ length (lines_on l)
 beside (Inline f) = length-take-le f.count f.ends (omega arith) ∙ sym (length-take-le f.count f.lines (omega arith))
 beside (Spilled m) = m.value.beside
-
--- a list without lines, with this capacity
-pub record IsBare (l : Links) (s : EmptyLinks) : Type 0 where
-  pub lines : lines_on l ≡ lines_kept s
-  pub room : links_room l ≡ room_kept s
 
 module _ (t : RoadMap) (b' : Blocks) (nodes' : NodeSlots) (p n v : ℕ) (q : Coord) (o i : EmptyLinks) (outs ins : Links)
     (bare_outs : IsBare outs o) (bare_ins : IsBare ins i)

@@ -30,18 +30,7 @@ in_list x n xs h e = grind (arith, common_steps, eqb-true, above)
 -- the numbers after the first
 tail_has : (x n : ℕ) (xs ys : List ℕ) → AllByRecursion (λ (y : ℕ). nat_cmp x y ≡ Less) xs →
     AllByRecursion (λ (y : ℕ). nat_cmp x y ≡ Less) ys → has (x ∷ xs) n ≡ has (x ∷ ys) n → has xs n ≡ has ys n
-tail_has x n xs ys h k e =
-    elim (x == n) as (λ b. (x == n) ≡ b → (b || has xs n) ≡ (b || has ys n) → has xs n ≡ has ys n) [
-      | true ↦ λ p q. no x n xs h p ∙ sym (no x n ys k p)
-      | false ↦ λ p q. q
-    ] refl e where
-      no : (x n : ℕ) (zs : List ℕ) → AllByRecursion (λ (y : ℕ). nat_cmp x y ≡ Less) zs → (x == n) ≡ true →
-          has zs n ≡ false
-      no x n zs a p =
-          elim (has zs n) as (λ b. has zs n ≡ b → b ≡ false) [
-            | true ↦ λ q. let lt = above x n zs a q in let is = eqb-true x n p in absurd (omega arith)
-            | false ↦ λ q. refl
-          ] refl
+tail_has x n xs ys h k e = grind (arith, common_steps, above, eqb-true)
 
 same_sorted : (xs ys : List ℕ) → IsStrictlySortedBy nat_cmp xs → IsStrictlySortedBy nat_cmp ys →
     ((n : ℕ) → has xs n ≡ has ys n) → xs ≡ ys

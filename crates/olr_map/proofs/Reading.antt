@@ -1,6 +1,6 @@
 -- The map that the tables represent.
 use Rattle.std.proofs.Common.{◌≡◌, ◌==◌, ℕ, ◌<◌, ◌≤◌, ◌^◌, true, false, List, [], map, Option, Some, None}
-use Rattle.std.proofs.Common.{is_some, IsTrue, SomeIff, unwrap_or, length, refl, sym, ap, subst, ◌∙◌, arith}
+use Rattle.std.proofs.Common.{is_some, IsTrue, SomeIff, length, refl, sym, ap, subst, ◌∙◌, arith}
 use Rattle.std.specs.Option.{option_map, option_map_or}
 use Rattle.std.proofs.lemmas.Bool.{false_from_ne_true}
 use Rattle.std.proofs.lemmas.Map.Made.{lookup-map_values}
@@ -29,11 +29,11 @@ use Rattle.olr_map.proofs.Listing.{absent_lines}
 use Rattle.olr_map.specs.SlotMaps.{held, all_held}
 use Rattle.olr_map.specs.HavingSlots.{in_slot}
 use Rattle.olr_map.proofs.SlotMapLemmas.{held_get}
+use Rattle.std.proofs.lemmas.Grind.{common_steps}
 
 or_there : {X Y : Type 0} (f : X → Y) (d : Y) (o : Option X) (x : X) → o ≡ Some x →
     Some (option_map_or f o d) ≡ option_map f o
-or_there f d None x e = absurd cc
-or_there f d (Some y) x e = refl
+or_there f d o x e = grind (arith, common_steps)
 
 module _ (b : Blocks) (es : List (Option NodeEntry)) (indexed : IsIndexed b es) where
   pub got_node : (F : FinMap nat_cmp Line) (v : ℕ) →
@@ -47,8 +47,7 @@ module _ (b : Blocks) (es : List (Option NodeEntry)) (indexed : IsIndexed b es) 
         step (Some p) h = let x = entry_of b es indexed v p h in or_there place_of no_coord (at es p) x.0 x.1
 
   some_mapped : (o : Option NodeEntry) → is_some (option_map place_of o) ≡ is_some o
-  some_mapped None = refl
-  some_mapped (Some e) = refl
+  some_mapped o = grind (arith, common_steps)
 
   pub node_there : (F : FinMap nat_cmp Line) (v p : ℕ) → slot_by b v ≡ Some p → has_node (map_from b es F) v ≡ true
   node_there F v p h =
@@ -76,13 +75,10 @@ module _ (b : Blocks) (es : List (Option NodeEntry)) (indexed : IsIndexed b es) 
 
 -- the nodes' slots are in range
 within : (es : List (Option NodeEntry)) (p v : ℕ) → option_map id_of (at es p) ≡ Some v → p < length es
-within es p v h = step (at es p) refl h where
-  step : (o : Option NodeEntry) → at es p ≡ o → option_map id_of o ≡ Some v → p < length es
-  step None e g = absurd cc
-  step (Some x) e g = holds_within es p x e
+within es p v h = grind (arith, common_steps, holds_within)
 
 pub place_is : (b : Blocks) (v p : ℕ) → slot_by b v ≡ Some p → node_slot b v ≡ p
-place_is b v p h = ap (λ o. unwrap_or o 0) h
+place_is b v p h = grind (arith, common_steps)
 
 module _ (b : Blocks) (es : List (Option NodeEntry)) (F : FinMap nat_cmp Line) (indexed : IsIndexed b es)
     (few : length es ≤ 2 ^ 32) where
@@ -128,7 +124,7 @@ module _ (t : RoadMap) where
 
   -- a line of the map is found
   pub line_found : (x : ℕ) → has_line M x ≡ true → (l : Line) × (held t.lines x ≡ Some l)
-  line_found x h = some_of (held t.lines x) (ap (λ o. is_some o) (sym (got_line x)) ∙ h)
+  line_found x h = grind (arith, common_steps, got_line, some_of)
 
   pub node_read : (v p : ℕ) (e : NodeEntry) → slot_by b v ≡ Some p → at es p ≡ Some e → get M.nodes v ≡ Some e.place
   node_read v p e h is =
@@ -148,12 +144,6 @@ module _ (t : RoadMap) where
       t.kept.listed side v (links_at side e) (ap (λ o. option_map (links_at side) (in_slot es o)) h
       ∙ ap (option_map (links_at side)) is)
 
-  -- the list in the slot is that of the node
-  pub listed_as : (side : Side) (v p : ℕ) (l : Links) → slot_by b v ≡ Some p →
-      ((e : NodeEntry) → at es p ≡ Some e → l ≡ links_at side e) → IsListed side M (node_slot b) v l
-  listed_as side v p l h is = let x =
-      entry_at v p h in subst (IsListed side M (node_slot b) v) (sym (is x.0 x.1)) (listed_at side v p x.0 h x.1)
-
   -- an absent node has no lines
   pub no_lines : (side : Side) (v : ℕ) → (has_node M v ≡ true → ⊥) → [] ≡ lines_at side M v
   no_lines side v missing = absent_lines side M v t.kept.sound (false_from_ne_true (has_node M v) missing)
@@ -171,7 +161,8 @@ module _ (t : RoadMap) where
 
   pub slot_lines : (side : Side) (v p : ℕ) (l : Links) → has_node M v ≡ true → node_slot b v ≡ p →
       ((e : NodeEntry) → at es p ≡ Some e → l ≡ links_at side e) → IsListed side M (node_slot b) v l
-  slot_lines side v p l h e is = listed_as side v p l (slot_is v p h e) is
+  slot_lines side v p l h e is = let here = slot_is v p h e in let x = entry_at v p here in
+      subst (IsListed side M (node_slot b) v) (sym (is x.0 x.1)) (listed_at side v p x.0 here x.1)
 
   pub place_found : (v : ℕ) (o : Option ℕ) → o ≡ slot_by b v → SomeIff o (IsTrue (has_node M v)) (node_slot b v)
   place_found v None e = λ h. let s =

@@ -1,40 +1,26 @@
 -- Slots, after a value is added, removed or replaced.
-use Rattle.std.proofs.Common.{◌≡◌, ◌==◌, ℕ, ◌+◌, ◌<◌, ◌≤◌, ◌^◌, zero, suc, Bool, true, cond, List, [], ◌∷◌, ◌++◌}
+use Rattle.std.proofs.Common.{◌≡◌, ◌==◌, ℕ, ◌+◌, ◌<◌, ◌≤◌, ◌^◌, zero, suc, true, cond, List, [], ◌∷◌, ◌++◌}
 use Rattle.std.proofs.Common.{Option, Some, None, is_some, IsNone, length, get_or, set, slice_index, refl, sym, ap, ◌∙◌}
-use Rattle.std.proofs.Common.{subst, inl, inr, ◌⊎◌, arith}
-use Rattle.std.proofs.lemmas.Bool.{cases_eq, cases_order, eq-eqb, ne_eqb, cond-true, cond-false}
+use Rattle.std.proofs.Common.{subst, inl, inr, arith}
+use Rattle.std.proofs.lemmas.Bool.{cases_eq, cases_order, eq-eqb, ne_eqb}
 use Rattle.std.proofs.lemmas.List.{get_or-set_same, get_or-set_other, get_or_default, get_or_past, get_or_push}
 use Rattle.std.proofs.lemmas.List.{get_or_append_left, length-set, length_push}
 use Rattle.olr_spec.proofs.OptionLemmas.{none_of, some_of}
-use Rattle.olr_map.specs.Slotted.{present, at, IsSlotted, IsInserted, IsWritten}
+use Rattle.olr_map.specs.Slotted.{at, IsSlotted, IsWritten}
+use Rattle.std.proofs.lemmas.Grind.{common_steps}
+use Rattle.std.proofs.lemmas.Map.Steps.{length-le_from_distinct_below}
+use Rattle.std.proofs.lemmas.Map.Keys.{IsDistinct-from_apart}
+use Rattle.std.proofs.lemmas.Map.Views.{Contains-from_any}
+use Rattle.std.proofs.lemmas.Bool.{eqb-true}
 
 -- ---- the element at each index after one was written, and after one was appended
 
 module _ {Y : Type 0} (ys : List Y) where
   pub get_or-written : (p q : ℕ) (y d : Y) → p < length ys → get_or (set ys p y) q d ≡ cond (p == q) y (get_or ys q d)
-  get_or-written p q y d lt =
-      elim (cases_eq p q) [
-        | inl e ↦ ap (λ n. get_or (set ys p y) n d) (sym e) ∙ get_or-set_same ys p y d lt
-            ∙ sym (cond-true (p == q) y (get_or ys q d) (eq-eqb p q e))
-        | inr ne ↦ get_or-set_other ys p q y d (λ e. ne (sym e))
-            ∙ sym (cond-false (p == q) y (get_or ys q d) (ne_eqb p q ne))
-      ]
+  get_or-written p q y d lt = grind (arith, common_steps, cases_eq, eq-eqb, ne_eqb, get_or-set_same, get_or-set_other)
 
   pub get_or-pushed : (p q : ℕ) (y d : Y) → p ≡ length ys → get_or (ys ++ y ∷ []) q d ≡ cond (p == q) y (get_or ys q d)
-  get_or-pushed p q y d is =
-      elim (cases_order p q) [
-        | inl e ↦ get_or_push ys y d q (omega arith) ∙ sym (cond-true (p == q) y (get_or ys q d) (eq-eqb p q e))
-        | inr o ↦ other o ∙ sym (cond-false (p == q) y (get_or ys q d) (ne_eqb p q (λ e. apart o e)))
-      ] where
-        apart : (p < q) ⊎ (q < p) → p ≡ q → ⊥
-        apart (inl lt) e = omega arith
-        apart (inr lt) e = omega arith
-
-        other : (p < q) ⊎ (q < p) → get_or (ys ++ y ∷ []) q d ≡ get_or ys q d
-        other (inl high) =
-            let long = length_push ys y in
-            get_or_past (ys ++ y ∷ []) q d (omega arith) ∙ sym (get_or_past ys q d (omega arith))
-        other (inr low) = get_or_append_left ys (y ∷ []) d q (omega arith)
+  get_or-pushed p q y d is = grind (arith, common_steps, cases_order, eq-eqb, ne_eqb, get_or_push, get_or_past, get_or_append_left, length_push)
 
 module _ {X : Type 0} where
   pub holds_within : (es : List (Option X)) (p : ℕ) (e : X) → at es p ≡ Some e → p < length es
@@ -46,55 +32,9 @@ module _ {X : Type 0} where
       IsWritten es (set es p w) p o w
   written es p o w lt h = record { was = h; now = λ q. get_or-written es p q w None lt }
 
-  pub appended : (es : List (Option X)) (p : ℕ) (w : Option X) → p ≡ length es → IsWritten es (es ++ w ∷ []) p None w
-  appended es p w is =
-      record { was = get_or_past es p None (omega arith); now = λ q. get_or-pushed es p q w None is }
-
   -- slots are numbered by `u32`
   pub few_slots : {es : List (Option X)} {fs : List ℕ} {room : ℕ} → IsSlotted es fs room → length es ≤ 2 ^ 32
   few_slots s = let few = s.few in omega arith
-
-  pub inserted_fits : {es : List (Option X)} {fs : List ℕ} {room : ℕ} (old : List (Option X)) (p : ℕ) (e : X) →
-      IsSlotted es fs room → IsInserted old es p e → p + 1 < 2 ^ 32
-  inserted_fits {es} old p e s c =
-      let few = s.few in
-      let inside = holds_within es p e (c.now p ∙ ap (λ (b : Bool). cond b (Some e) (at old p)) (eq-eqb p p refl)) in
-      omega arith
-
-  -- ---- how many values there are
-
-  abbrev one : Option X → ℕ
-  one o = length (present (o ∷ []))
-
-  length-first : (x : Option X) (es : List (Option X)) → length (present (x ∷ es)) ≡ one x + length (present es)
-  length-first None es = omega arith
-  length-first (Some x) es = omega arith
-
-  length-written : (es : List (Option X)) (p : ℕ) (w : Option X) → p < length es →
-      length (present (set es p w)) + one (at es p) ≡ length (present es) + one w
-  length-written [] p w lt = absurd (omega arith)
-  length-written (x ∷ es) zero w lt = let a = length-first x es in let b = length-first w es in omega arith
-  length-written (x ∷ es) (suc p) w lt =
-      let a = length-first x es in
-      let b = length-first x (set es p w) in
-      let rest = length-written es p w (omega arith) in
-      omega arith
-
-  length-appended : (es : List (Option X)) (w : Option X) →
-      length (present (es ++ w ∷ [])) ≡ length (present es) + one w
-  length-appended [] w = omega arith
-  length-appended (x ∷ es) w =
-      let a = length-first x es in
-      let b = length-first x (es ++ w ∷ []) in
-      let rest = length-appended es w in
-      omega arith
-
-  -- the number of values after a slot that held o is written
-  counted_after : (es : List (Option X)) (p : ℕ) (o w : Option X) → p < length es → at es p ≡ o →
-      length (present (set es p w)) + one o ≡ length (present es) + one w
-  counted_after es p o w lt h =
-      subst (λ (x : Option X). length (present (set es p w)) + one x ≡ length (present es) + one w) h
-      (length-written es p w lt)
 
   -- ---- the free slots
 
@@ -114,19 +54,15 @@ module _ {X : Type 0} where
     free_at i lt = none_of _ (s.vacant i lt)
 
     still_free : (p q : ℕ) (w : Option X) → p < length es → (p ≡ q → ⊥) → at es q ≡ None → IsNone (at (set es p w) q)
-    still_free p q w lt ne free =
-        none_at _ (get_or-written es p q w None lt ∙ cond-false (p == q) w (at es q) (ne_eqb p q ne) ∙ free)
+    still_free p q w lt ne free = grind (arith, common_steps, get_or-written, ne_eqb)
 
     pub turned_slotted : (p : ℕ) (e f : X) → at es p ≡ Some e → IsSlotted (set es p (Some f)) fs room
     turned_slotted p e f h =
         let lt = holds_within es p e h in
         let long : length (set es p (Some f)) ≡ length es = length-set es p (Some f) in
-        let many = counted_after es p (Some e) (Some f) lt h in
-        let counted = s.counted in
         let roomy = s.roomy in
         let few = s.few in
         record {
-          counted = omega arith;
           inside = λ i at'. let a = s.inside i at' in omega arith;
           vacant = λ i at'. still_free p (slice_index fs i) (Some f) lt
               (λ same. let t = ap (at es) same in let free = free_at i at' in cc) (free_at i at');
@@ -152,12 +88,9 @@ module _ {X : Type 0} where
         let same : (i : ℕ) → i < length gs → slice_index fs i ≡ slice_index gs i =
         λ i lt. ap (λ xs. slice_index xs i) is ∙ get_or_append_left gs (p ∷ []) 0 i lt in
         let size : length (set es p (Some f)) ≡ length es = length-set es p (Some f) in
-        let many = counted_after es p None (Some f) pop.0 pop.1 in
-        let counted = s.counted in
         let roomy = s.roomy in
         let few = s.few in
         record {
-          counted = omega arith;
           inside = λ i lt. let a = s.inside i (omega arith) in let e = same i lt in omega arith;
           vacant = λ i lt. still_free p (slice_index gs i) (Some f) pop.0
               (λ e. s.apart i (length gs) lt (omega arith) (same i lt ∙ sym e ∙ sym here))
@@ -167,21 +100,11 @@ module _ {X : Type 0} where
           few = omega arith;
         }
 
-    pub free_room : (p : ℕ) (e : X) → at es p ≡ Some e → length fs < room
-    free_room p e h =
-        let many = counted_after es p (Some e) None (holds_within es p e h) h in
-        let counted = s.counted in
-        let roomy = s.roomy in
-        omega arith
-
     pub push_none : (f : X) (gs : List ℕ) (more : ℕ) (now : List (Option X)) → length fs ≡ 0 → length gs ≡ 0 →
         more ≡ room → length es + 1 ≤ room → length es + 1 < 2 ^ 32 → now ≡ es ++ Some f ∷ [] → IsSlotted now gs more
     push_none f gs more now none none' same le lt is =
         let size = length_push es (Some f) in
-        let many = length-appended es (Some f) in
-        let counted = s.counted in
         subst (λ (xs : List (Option X)). IsSlotted xs gs more) (sym is) (record {
-          counted = omega arith;
           inside = λ i h. absurd (omega arith);
           vacant = λ i h. absurd (omega arith);
           apart = λ i j h k. absurd (omega arith);
@@ -195,8 +118,6 @@ module _ {X : Type 0} where
         let inside = holds_within es p e h in
         let size : length (set es p None) ≡ length es = length-set es p None in
         let long = length_push fs p in
-        let many = counted_after es p (Some e) None inside h in
-        let counted = s.counted in
         let roomy = s.roomy in
         let few = s.few in
         let old : (i : ℕ) → i < length fs → slice_index (fs ++ p ∷ []) i ≡ slice_index fs i =
@@ -206,20 +127,30 @@ module _ {X : Type 0} where
         let others : (i : ℕ) → i < length fs → p ≡ slice_index fs i → ⊥ =
         λ i lt same. let t = ap (at es) same in let free = free_at i lt in cc in
         subst (λ (xs : List ℕ). IsSlotted (set es p None) xs more) (sym is) (record {
-          counted = omega arith;
-          inside = λ i lt. elim (cases_eq i (length fs)) [
-            | inl is ↦ let here = last i is in omega arith
-            | inr ne ↦ let here = old i (omega arith) in let a = s.inside i (omega arith) in omega arith
-          ];
+          inside = λ i lt. grind (arith, common_steps, cases_eq, old, last, s.inside i);
           vacant = λ i lt. elim (cases_eq i (length fs)) [
             | inl is ↦ none_at _ (ap (at (set es p None)) (last i is) ∙ get_or-set_same es p None None inside)
             | inr ne ↦ subst (λ (q : ℕ). IsNone (at (set es p None) q)) (sym (old i (omega arith)))
                 (still_free p (slice_index fs i) None inside (others i (omega arith)) (free_at i (omega arith)))
           ];
-          apart = λ i j lt k. elim (cases_eq j (length fs)) [
-            | inl is ↦ λ same. others i (omega arith) (sym (last j is) ∙ sym same ∙ old i (omega arith))
-            | inr ne ↦ λ same. s.apart i j lt (omega arith) (sym (old i (omega arith)) ∙ same ∙ old j (omega arith))
-          ];
+          apart = λ i j lt k. grind (arith, common_steps, cases_eq, old, last, others, s.apart i j);
           roomy = omega arith;
           few = omega arith;
         })
+
+    free_few : length fs ≤ length es
+    free_few =
+        length-le_from_distinct_below fs (length es)
+        (IsDistinct-from_apart ◌==◌ fs (λ i j d lt k. grind (arith, common_steps, ne_eqb, s.apart i j, get_or_default)))
+        (λ q on. let c = Contains-from_any (λ x y e. eqb-true x y e) q fs on in
+        let lt = s.inside c.0 c.1 in let is = get_or_default fs c.0 0 q c.1 in let here = c.2 in omega arith)
+
+  -- there is capacity for one more free slot
+  pub free_room : (es : List (Option X)) (fs : List ℕ) (room : ℕ) → IsSlotted es fs room → (p : ℕ) (e : X) →
+      at es p ≡ Some e → length fs < room
+  free_room es fs room s p e h =
+      let few = free_few (set es p None) (fs ++ p ∷ []) room (take_slotted es fs room s p e (fs ++ p ∷ []) room h refl (omega arith)) in
+      let long = length_push fs p in
+      let size = length-set es p None in
+      let roomy = s.roomy in
+      omega arith

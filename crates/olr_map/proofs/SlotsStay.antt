@@ -1,5 +1,5 @@
 -- The slots of an edit's nodes stay where no node's slot changes.
-use Rattle.std.proofs.Common.{◌≡◌, ℕ, sym, ap, ◌∙◌, subst}
+use Rattle.std.proofs.Common.{◌≡◌, ℕ, sym, ◌∙◌, subst}
 use Rattle.olr_spec.specs.Map as maps
 use Rattle.olr_spec.specs.Map.{Map, start, end}
 use Rattle.olr_map.specs.SlotIndexes.{slot_by}
@@ -15,14 +15,8 @@ slots_stay b b' M M' at (maps.Add_node v c) same is h = h
 slots_stay b b' M M' at (maps.Move_node v c) same is h = same v ∙ h
 slots_stay b b' M M' at (maps.Drop_node v) same is h = h
 slots_stay b b' M M' at (maps.Add_line x l) same is h = (same l.from ∙ h.0, same l.to ∙ h.1)
-slots_stay b b' M M' at (maps.Set_line x frc fow len shape) same is h = (
-  ap (λ N. slot_by b' (start N x)) is ∙ same (start M x) ∙ h.0,
-  ap (λ N. slot_by b' (end N x)) is ∙ same (end M x) ∙ h.1,
-)
-slots_stay b b' M M' at (maps.Drop_line x) same is h = (
-  ap (λ N. slot_by b' (start N x)) is ∙ same (start M x) ∙ h.0,
-  ap (λ N. slot_by b' (end N x)) is ∙ same (end M x) ∙ h.1,
-)
+slots_stay b b' M M' at (maps.Set_line x frc fow len shape) same is h = rw is (same (start M x) ∙ h.0, same (end M x) ∙ h.1)
+slots_stay b b' M M' at (maps.Drop_line x) same is h = rw is (same (start M x) ∙ h.0, same (end M x) ∙ h.1)
 
 -- after more capacity is reserved, for the change that makes the edit
 pub slots_reserved : (old mid : RoadMap) (at : ℕ × ℕ) (e : maps.Edit) (c : TableChange) → IsReserved old mid →

@@ -1,19 +1,15 @@
 -- When a node is in use, by its two lists.
 use Rattle.std.proofs.lemmas.Grind.{common_steps}
-use Rattle.std.proofs.Common.{◌≡◌, ◌==◌, ◌||◌, ◌<◌, ℕ, true, false, List, [], ◌∷◌, Some, Result, Ok, Err, IsOk}
+use Rattle.std.proofs.Common.{◌≡◌, ◌==◌, ◌||◌, ◌<◌, ℕ, true, false, List, [], ◌∷◌, Some, Ok, Err}
 use Rattle.std.proofs.Common.{length, map, refl, sym, ap, ◌∙◌, arith}
 use Rattle.std.specs.FinMap.{get, remove}
-use Rattle.std.specs.Result.{MatchResult}
 use Rattle.std.proofs.lemmas.Bool.{eq-eqb, or_left, or_right, or_from, false_from_ne_true, not_from_true}
 use Rattle.std.proofs.lemmas.List.{nil_from_length, length-map}
-use Rattle.olr_spec.specs.Map.{Map, Line, lines_where, lines_in, lines_out, in_use, has_node, edited, MapFault}
+use Rattle.olr_spec.specs.Map.{Map, Line, lines_where, lines_in, lines_out, in_use, has_node, edited}
 use Rattle.olr_spec.specs.Map.{Node_in_use, Drop_node, has}
 use Rattle.olr_spec.proofs.MapLemmas.{has-lines_where, passes_at}
 use Rattle.olr_spec.proofs.UndoLemmas.{passed_line, unless_false}
-use Rattle.olr_map.specs.Edits.{edit_fault_of}
 use Rattle.olr_map.specs.Ends.{end_in, end_out}
-use Rattle.olr_map.specs.declared.edit.EditFault.{EditFault}
-use Rattle.olr_map.specs.declared.judging.EditPlan.{EditPlan}
 use Rattle.olr_map.specs.declared.read.LineEnd.{LineEnd}
 use Rattle.olr_map.proofs.LineRecords.{used_by, unused_by}
 
@@ -60,13 +56,11 @@ unused_without_ends M slot v outs ins outs_are ins_are a b = grind (arith, commo
 
 pub used_by_out : (M : Map) (slot : ℕ → ℕ) (v : ℕ) (outs : List LineEnd) →
     outs ≡ map (end_out M slot) (lines_out M v) → (length outs ≡ 0 → ⊥) → in_use M v ≡ true
-used_by_out M slot v outs are ne = let e =
-    ap (λ zs. length zs) are ∙ length-map (lines_out M v) (end_out M slot) in used_out M v (omega arith)
+used_by_out M slot v outs are ne = grind (arith, common_steps, length-map, used_out)
 
 pub used_by_in : (M : Map) (slot : ℕ → ℕ) (v : ℕ) (ins : List LineEnd) → ins ≡ map (end_in M slot) (lines_in M v) →
     (length ins ≡ 0 → ⊥) → in_use M v ≡ true
-used_by_in M slot v ins are ne = let e =
-    ap (λ zs. length zs) are ∙ length-map (lines_in M v) (end_in M slot) in used_in M v (omega arith)
+used_by_in M slot v ins are ne = grind (arith, common_steps, length-map, used_in)
 
 pub drop_taken : (M : Map) (v : ℕ) → has_node M v ≡ true → in_use M v ≡ false →
     edited M (Drop_node v) ≡ Ok (record M { nodes = remove M.nodes v })
@@ -75,14 +69,3 @@ drop_taken M v there free = grind (arith, common_steps, unless_false, not_from_t
 pub drop_refused : (M : Map) (v : ℕ) → has_node M v ≡ true → in_use M v ≡ true →
     edited M (Drop_node v) ≡ Err Node_in_use
 drop_refused M v there used = grind (arith, common_steps, unless_false, not_from_true)
-
--- the result for either outcome
-pub ok_at : (r : Result Map MapFault) (N : Map) (j : EditPlan) → r ≡ Ok N →
-    MatchResult r (λ _. IsOk {E = EditFault} (Ok j))
-    (λ f. ◌≡◌ {A = Result EditPlan EditFault} (Ok j) (Err (edit_fault_of f)))
-ok_at r N j e = grind (arith, common_steps)
-
-pub err_at : (r : Result Map MapFault) (f : MapFault) → r ≡ Err f
-    → MatchResult r (λ _. IsOk {T = EditPlan} (Err (edit_fault_of f)))
-    (λ g. ◌≡◌ {A = Result EditPlan EditFault} (Err (edit_fault_of f)) (Err (edit_fault_of g)))
-err_at r f e = grind (arith, common_steps)

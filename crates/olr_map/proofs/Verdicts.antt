@@ -1,8 +1,8 @@
 -- The slots of an accepted edit's nodes, and the faults of a map as they are returned.
-use Rattle.std.proofs.Common.{◌≡◌, ◌==◌, ◌||◌, ℕ, true, false, List, [], ◌∷◌, map, Option, Some, None, Result, Ok, Err}
+use Rattle.std.proofs.Common.{◌≡◌, ◌==◌, ◌||◌, ℕ, true, List, [], ◌∷◌, map, Option, Some, None, Result, Ok, Err}
 use Rattle.std.proofs.Common.{IsOk, MatchResult, refl, sym, ap, ◌∙◌}
 use Rattle.std.specs.Option.{option_to_list}
-use Rattle.std.proofs.lemmas.Bool.{eqb-true, eq-eqb, or_left}
+use Rattle.std.proofs.lemmas.Bool.{eqb-true, eq-eqb}
 use Rattle.olr_spec.specs.Map as maps
 use Rattle.olr_spec.specs.Map.{Map, MapFault, Node_exists, No_node, Line_exists, No_line, Node_in_use, Bad_shape}
 use Rattle.olr_spec.specs.Map.{has_node, start, end, edited, touched_nodes, has}
@@ -20,6 +20,8 @@ use Rattle.olr_map.specs.declared.judging.EditPlan.{EditPlan}
 use Rattle.olr_map.specs.declared.road_map.RoadMap.{RoadMap}
 use Rattle.olr_map.proofs.Making.{made_from}
 use Rattle.olr_map.proofs.Reading.{slot_is}
+use Rattle.std.proofs.lemmas.Grind.{common_steps}
+use Rattle.std.proofs.Common.{arith}
 
 -- the ends of the one changed line
 planned_ends : (line : Option ℕ) (from to len : ℕ) (c : ChangedLine) →
@@ -32,14 +34,7 @@ planned_ends (Some x) from to len c e = let same : ◌≡◌ {A = ChangedLine} (
 
 -- the one node
 planned_node : (v a b : ℕ) → ((u : ℕ) → has (v ∷ []) u ≡ ((a == u) || (b == u))) → v ≡ a
-planned_node v a b h =
-    let here : ((a == a) || (b == a)) ≡ true = or_left (a == a) (b == a) (eq-eqb a a refl) in
-    let there : ((v == a) || false) ≡ true = h a ∙ here in
-    elim (v == a) as (λ c. (v == a) ≡ c → (c || false) ≡ true → v ≡ a) [
-      | true ↦ λ e f. eqb-true v a e
-      | false ↦
-          λ e f. absurd cc
-    ] refl there
+planned_node v a b h = grind (arith, common_steps, h a, eq-eqb, eqb-true)
 
 module _ (t : RoadMap) where
   abbrev b : Blocks
@@ -91,12 +86,7 @@ map_fault BadShape = Bad_shape
 map_fault Memory = Bad_shape
 
 fault_again : (f : MapFault) → map_fault (edit_fault_of f) ≡ f
-fault_again Node_exists = refl
-fault_again No_node = refl
-fault_again Line_exists = refl
-fault_again No_line = refl
-fault_again Node_in_use = refl
-fault_again Bad_shape = refl
+fault_again f = grind (arith, common_steps)
 
 same_fault : {A : Type 0} (x y : EditFault) → ◌≡◌ {A = Result A EditFault} (Err x) (Err y) → x ≡ y
 same_fault x y e = cc

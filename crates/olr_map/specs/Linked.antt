@@ -2,6 +2,7 @@
 --     lines_on l, ends_on l      the lines, and the far end of each
 --     vectors_room m, links_room l      the capacity of vectors and of a list, in lines
 --     lines_kept s, room_kept s      the lines in the memory of an empty list, which are none, and its capacity
+--     IsBare l s      a list with the lines and the capacity of this memory
 --     IsPut old new x o      line x has the far end o, or it is not in the list if that is none
 --     IsRoomier old new      the same lines, with at least the capacity
 use Rattle.std.specs.Prelude.{◌≡◌, ◌==◌, ℕ, ◌<◌, ◌≤◌, true, false, cond, List, [], min, length, take, map, Option, Some, None}
@@ -41,6 +42,10 @@ lines_kept (Some m) = m.value.lines.items
 abbrev pub room_kept : EmptyLinks → ℕ
 room_kept None = 4
 room_kept (Some m) = vectors_room m.value
+
+pub record IsBare (l : Links) (s : EmptyLinks) : Type 0 where
+  pub lines : lines_on l ≡ lines_kept s
+  pub room : links_room l ≡ room_kept s
 
 -- where the far ends were f of each line, they are g of each line, if f and g differ at x alone
 pub record IsPut (old new : Links) (x : ℕ) (o : Option LineEnd) : Type 0 where

@@ -17,7 +17,6 @@ module _ {X : Type 0} where
   at es p = slice_index_or es p None
 
   pub record IsSlotted (es : List (Option X)) (free : List ℕ) (room : ℕ) : Type 0 where
-    pub counted : length (present es) + length free ≡ length es
     pub inside : (i : ℕ) → i < length free → slice_index free i < length es
     pub vacant : (i : ℕ) → i < length free → IsNone (at es (slice_index free i))
     pub apart : (i j : ℕ) → i < j → j < length free → slice_index free i ≢ slice_index free j

@@ -52,6 +52,7 @@ impl Block {
     }
 
     /// Whether no position has a slot.
+    #[tactic(auto, using(crate::proofs::Blocking::blank_test))]
     pub fn is_empty(&self) -> bool
         ensures { IsTrue result ↔ IsBlank self.now }
     {

@@ -1,5 +1,5 @@
 //! Why a map rejects an edit, or what the edit touches, for every `MapRead`.
-ghost use Rattle.std.specs.Prelude.{◌≡◌, Some, Err, IsOk, IfOk, MatchResult};
+ghost use Rattle.std.specs.Prelude.{◌≡◌, Some, None, Err, IsOk, IfOk, MatchResult};
 ghost use Rattle.std.specs.FinMap.{get};
 ghost use Rattle.olr_spec.specs.Map.{edited, Add_node, Move_node, Drop_node, Add_line, Set_line, Drop_line};
 ghost use Rattle.olr_map.specs.Edits.{edit_of, edit_fault_of};
@@ -58,12 +58,7 @@ fn judge_node_added<M: MapRead>(map: &M, id: NodeId, place: Coord) -> Result<Edi
     }
     // Only for the proof: the coordinate is in range, as every `Coord` is.
     let _latitude = place.lat();
-    Ok(EditPlan {
-        nodes: (id, id),
-        slots: (0, 0),
-        line: None,
-        len: 0,
-    })
+    Ok(node_plan(id, 0))
 }
 
 /// A node can be moved only if it is on the map.
@@ -77,15 +72,11 @@ fn judge_node_moved<M: MapRead>(map: &M, id: NodeId, place: Coord) -> Result<Edi
     };
     // Only for the proof: the coordinate is in range, as every `Coord` is.
     let _latitude = place.lat();
-    Ok(EditPlan {
-        nodes: (id, id),
-        slots: (at, at),
-        line: None,
-        len: 0,
-    })
+    Ok(node_plan(id, at))
 }
 
 /// A node can be removed only if it is on the map and no line uses it.
+#[tactic(auto, using(crate::proofs::Using::unused_without_ends, crate::proofs::Using::used_by_out, crate::proofs::Using::used_by_in, crate::proofs::Using::drop_taken, crate::proofs::Using::drop_refused))]
 fn judge_node_dropped<M: MapRead>(map: &M, id: NodeId) -> Result<EditPlan, EditFault>
     ensures fault { MatchResult (edited (M.map map.now) (Drop_node id))
         (λ _. IsOk result) (λ f. result ≡ Err (edit_fault_of f)) }
@@ -97,12 +88,7 @@ fn judge_node_dropped<M: MapRead>(map: &M, id: NodeId) -> Result<EditPlan, EditF
     if !map.out_ends_at(at).is_empty() || !map.in_ends_at(at).is_empty() {
         return Err(EditFault::NodeInUse);
     }
-    Ok(EditPlan {
-        nodes: (id, id),
-        slots: (at, at),
-        line: None,
-        len: 0,
-    })
+    Ok(node_plan(id, at))
 }
 
 /// A line can be added only if it is not on the map, its ends are, and it is good.
@@ -147,12 +133,7 @@ fn judge_line_set<M: MapRead>(
     if !has_good_fields(frc, fow, len, shape) {
         return Err(EditFault::BadShape);
     }
-    Ok(EditPlan {
-        nodes: (was.from, was.to),
-        slots: slots_of_ends(map, id, was),
-        line: Some(id),
-        len: was.len.min(len),
-    })
+    Ok(line_plan(map, id, was, was.len.min(len)))
 }
 
 /// A line can be removed only if it is on the map.
@@ -164,22 +145,37 @@ fn judge_line_dropped<M: MapRead>(map: &M, id: LineId) -> Result<EditPlan, EditF
     let Some(was) = map.line(id) else {
         return Err(EditFault::NoLine);
     };
-    Ok(EditPlan {
-        nodes: (was.from, was.to),
-        slots: slots_of_ends(map, id, was),
-        line: Some(id),
-        len: was.len,
-    })
+    Ok(line_plan(map, id, was, was.len))
 }
 
-/// The slots of the nodes where a line of the map begins and ends.
-fn slots_of_ends<M: MapRead>(map: &M, id: LineId, line: &Line) -> (u32, u32)
-    requires { get (M.map map.now).lines id ≡ Some line.now }
-    ensures begin { M.node_slot map.now line.now.from ≡ result.0 }
-    ensures end { M.node_slot map.now line.now.to ≡ result.1 }
+/// What an edit touches that adds, moves or removes a node.
+fn node_plan(id: NodeId, slot: u32) -> EditPlan
+    ensures { result ≡ record { nodes = (id, id); slots = (slot, slot); line = None; len = 0 } }
 {
-    match (map.slot_of(line.from), map.slot_of(line.to)) {
-        (Some(from), Some(to)) => (from, to),
+    EditPlan {
+        nodes: (id, id),
+        slots: (slot, slot),
+        line: None,
+        len: 0,
+    }
+}
+
+/// What an edit touches that sets or removes this line of the map, with the lesser of its lengths.
+fn line_plan<M: MapRead>(map: &M, id: LineId, was: &Line, len: u32) -> EditPlan
+    requires { get (M.map map.now).lines id ≡ Some was.now }
+    ensures nodes { result.nodes ≡ (was.now.from, was.now.to) }
+    ensures begin { M.node_slot map.now was.now.from ≡ result.slots.0 }
+    ensures end { M.node_slot map.now was.now.to ≡ result.slots.1 }
+    ensures line { result.line ≡ Some id }
+    ensures len { result.len ≡ len }
+{
+    match (map.slot_of(was.from), map.slot_of(was.to)) {
+        (Some(from), Some(to)) => EditPlan {
+            nodes: (was.from, was.to),
+            slots: (from, to),
+            line: Some(id),
+            len,
+        },
         _ => unreachable!(),
     }
 }

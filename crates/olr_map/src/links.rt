@@ -29,12 +29,11 @@ pub struct Spilled {
 }
 
 impl Links {
-    ghost use Rattle.olr_map.specs.Linked.{lines_on, ends_on, links_room, lines_kept, room_kept, IsPut, IsRoomier};
+    ghost use Rattle.olr_map.specs.Linked.{lines_on, ends_on, links_room, lines_kept, room_kept, IsBare, IsPut, IsRoomier};
 
     /// The empty list in this memory.
     pub fn in_empty(spare: EmptyLinks) -> Links
-        ensures lines { lines_on result ≡ lines_kept spare }
-        ensures room { links_room result ≡ room_kept spare }
+        ensures { IsBare result spare }
     {
         match spare {
             None => Links::Inline(Inline::new()),
@@ -96,6 +95,7 @@ impl Links {
 
     /// Sets the far end of a line, which is inserted if it is not in the list, or removes the line. Capacity for a new
     /// line is reserved, and remains after a removal.
+    #[tactic(auto, using(crate::proofs::Listing::removed, crate::proofs::Listing::reset))]
     pub fn put(&mut self, id: LineId, end: Option<LineEnd>)
         requires ascending { IsStrictlyIncreasing (lines_on self.old) }
         requires room { IsFalse (has (lines_on self.old) id) → length (lines_on self.old) < links_room self.old }

@@ -35,6 +35,7 @@ impl MapRead for RoadMap {
 
     ghost count = { λ m. length (node_slots m.nodes) };
 
+    #[tactic(auto, using(crate::proofs::Reading::slot_filled, crate::proofs::Reading::slot_is, crate::proofs::Reading::entry_at, crate::proofs::Reading::node_read))]
     fn node(&self, id: NodeId) -> Option<Coord> {
         match self.slot_of(id) {
             Some(slot) => Some(self.nodes.place(slot)),
@@ -42,10 +43,12 @@ impl MapRead for RoadMap {
         }
     }
 
+    #[tactic(auto, using(crate::proofs::Reading::got_line))]
     fn line(&self, id: LineId) -> Option<&Line> {
         self.lines.get(id.number())
     }
 
+    #[tactic(auto, using(crate::proofs::Reading::slot_filled))]
     fn out_lines(&self, id: NodeId) -> &[LineId] {
         match self.slot_of(id) {
             Some(slot) => self.nodes.links(Side::Out, slot).lines(),
@@ -79,18 +82,22 @@ impl MapRead for RoadMap {
         self.nodes.heads.entries.len()
     }
 
+    #[tactic(auto, using(crate::proofs::Reading::place_found))]
     fn slot_of(&self, id: NodeId) -> Option<u32> {
         self.index.get(id.number())
     }
 
+    #[tactic(auto, using(crate::proofs::Reading::slot_filled))]
     fn in_lines_at(&self, slot: u32) -> &[LineId] {
         self.nodes.links(Side::In, slot).lines()
     }
 
+    #[tactic(auto, using(crate::proofs::Reading::slot_filled))]
     fn out_ends_at(&self, slot: u32) -> &[LineEnd] {
         self.nodes.links(Side::Out, slot).ends()
     }
 
+    #[tactic(auto, using(crate::proofs::Reading::slot_filled))]
     fn in_ends_at(&self, slot: u32) -> &[LineEnd] {
         self.nodes.links(Side::In, slot).ends()
     }

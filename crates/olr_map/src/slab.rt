@@ -58,7 +58,7 @@ impl<V: Drop> Slab<V> {
         if added > MOST_SLOTS - count {
             return Err(AllocError);
         }
-        self.free.reserve(count + added - free)?;
+        self.free.reserve((count + added).saturating_sub(free))?;
         self.entries.reserve(added)
     }
 

@@ -101,6 +101,7 @@ impl NodeSlots {
     }
 
     /// The numbers of all nodes, in the order of their slots.
+    #[tactic(auto, using(crate::proofs::AllIds::ids_of_rows))]
     pub fn ids(&self, alloc: Global) -> Result<Vec<NodeId>, AllocError>
         ensures { IfOk result (λ ids. ids.items ≡ map (λ e. e.id) (present (node_slots self.now))) }
     {
@@ -108,6 +109,7 @@ impl NodeSlots {
     }
 
     /// The number of the node in a slot. None if the slot is free, or if there is no such slot.
+    #[tactic(auto, using(crate::proofs::AllIds::id_of_row))]
     pub fn id_at(&self, slot: usize) -> Option<NodeId>
         ensures { result ≡ option_map (λ e. e.id) (at (node_slots self.now) slot) }
     {
@@ -115,6 +117,7 @@ impl NodeSlots {
     }
 
     /// The coordinate of the node in a slot.
+    #[tactic(auto, using(crate::proofs::ColumnLemmas::head_there))]
     pub fn place(&self, slot: u32) -> Coord
         requires { IsSome (at (node_slots self.now) slot) }
         ensures { (e : Entry) → at (node_slots self.now) slot ≡ Some e → result ≡ e.place }
@@ -123,6 +126,7 @@ impl NodeSlots {
     }
 
     /// The lines on one side of the node in a slot.
+    #[tactic(auto, using(crate::proofs::ColumnLemmas::inside_outs, crate::proofs::ColumnLemmas::inside_ins))]
     pub fn links(&self, side: Side, slot: u32) -> &Links
         requires { IsSome (at (node_slots self.now) slot) }
         ensures { (e : Entry) → at (node_slots self.now) slot ≡ Some e → result.now ≡ links_at side e }
@@ -181,6 +185,7 @@ impl NodeSlots {
     }
 
     /// Moves the node in a slot to another coordinate, and returns the previous one.
+    #[tactic(auto, using(crate::proofs::ColumnLemmas::head_there))]
     pub fn move_node(&mut self, slot: u32, place: Coord) -> Coord
         requires { IsSome (at (node_slots self.old) slot) }
         ensures turns { (e : Entry) × (e.place ≡ result)
@@ -193,6 +198,7 @@ impl NodeSlots {
     }
 
     /// Reserves capacity for one more line on one side of the node in a slot.
+    #[tactic(auto, using(crate::proofs::ColumnLemmas::inside_outs, crate::proofs::ColumnLemmas::inside_ins))]
     pub fn reserve_link(&mut self, side: Side, slot: u32) -> Result<(), AllocError>
         requires { IsSome (at (node_slots self.old) slot) }
         ensures turns { IsRelinked (node_slots self.old) (node_slots self.new) side slot

@@ -65,17 +65,19 @@ impl RoadMap {
     }
 
     /// The slot of a node of the map.
+    #[tactic(auto, using(crate::proofs::Reading::slot_is))]
     pub(crate) fn slot(&self, id: NodeId) -> u32
         requires { IsTrue (has_node (tables_map self.now) id) }
         ensures { slot_by self.now.index id ≡ Some result }
     {
-        match self.index.get(id.number()) {
+        match self.slot_of(id) {
             Some(slot) => slot,
             None => unreachable!(),
         }
     }
 
     /// The slots where a line of the map begins and ends.
+    #[tactic(auto, using(crate::proofs::LineRecords::line_starts, crate::proofs::LineRecords::line_ends, crate::proofs::Reading::line_read, crate::proofs::LineRecords::record_of))]
     pub(crate) fn end_slots(&self, id: LineId) -> (u32, u32)
         requires { IsTrue (has_line (tables_map self.now) id) }
         ensures from { slot_by self.now.index (start (tables_map self.now) id) ≡ Some result.0 }
@@ -118,6 +120,7 @@ impl RoadMap {
     }
 
     /// Reserves capacity for one more line on one side of the node in a slot.
+    #[tactic(auto, using(crate::proofs::Reading::filled_in))]
     pub(crate) fn reserve_link(&mut self, side: Side, slot: u32) -> Result<(), AllocError>
         requires { (v : ℕ) × (slot_by self.old.index v ≡ Some slot) }
         ensures same { IsReserved self.old self.new }
@@ -145,6 +148,7 @@ impl RoadMap {
     }
 
     /// Removes a node, and returns the change that puts it back.
+    #[tactic(auto, using(crate::proofs::Reading::filled_in))]
     pub(crate) fn take_node(&mut self, id: NodeId) -> TableChange
         requires { CanMake (tables_map self.old) (room_of self.old) (TakeNode id) }
         ensures made { IsChangeMade self.old self.new (TakeNode id) result }
@@ -170,6 +174,7 @@ impl RoadMap {
     }
 
     /// Moves the node in this slot to another coordinate, and returns the previous one.
+    #[tactic(auto, using(crate::proofs::Reading::filled_in))]
     pub(crate) fn move_node(&mut self, id: NodeId, place: Coord, slot: u32) -> Coord
         requires can { CanMake (tables_map self.old) (room_of self.old) (MoveNode id place) }
         requires here { slot_by self.old.index id ≡ Some slot }

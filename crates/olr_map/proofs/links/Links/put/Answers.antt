@@ -1,7 +1,7 @@
 use Rattle.std.proofs.Common.{Err}
 use Rattle.olr_map.specs.Linked.{lines_on}
 use Rattle.olr_spec.proofs.AscendingLists.{place_of, place_not}
-use Rattle.olr_map.proofs.Listing.{inserted, removed, reset, absent_put}
+use Rattle.olr_map.proofs.Listing.{inserted, absent_put}
 use Rattle.olr_map.proofs.links.Links.put.Goals as goal
 
 pub insert-requires-clause-room : goal.insert-requires-clause-room
@@ -10,20 +10,6 @@ insert-requires-clause-room c =
     let found = rw c.lines.ensures at c.in-Err-Some.ensures.position in
     c.requires.room (place_not xs c.args.id c.in-Err-Some.at (place_of xs c.args.id (Err c.in-Err-Some.at)
     c.requires.ascending found))
-
-pub returns-in-Ok-Some : goal.returns-in-Ok-Some
-returns-in-Ok-Some c =
-    let found = rw c.lines.ensures at c.in-Ok-Some.ensures.position in
-    let set = c.set_at.ensures in
-    rw c.in-Ok-Some.is-1 (reset c.args.self.now c.set_at.new.self c.args.id c.requires.ascending c.in-Ok-Some.at _ found
-    set.lines set.ends set.room)
-
-pub returns-in-Ok-None : goal.returns-in-Ok-None
-returns-in-Ok-None c =
-    let found = rw c.lines.ensures at c.in-Ok-None.ensures.position in
-    let taken = c.remove.ensures in
-    rw c.in-Ok-None.is-1 (removed c.args.self.now c.remove.new.self c.args.id c.requires.ascending c.in-Ok-None.at found
-    taken.lines taken.ends taken.room taken.free)
 
 pub returns-in-Err-Some : goal.returns-in-Err-Some
 returns-in-Err-Some c =

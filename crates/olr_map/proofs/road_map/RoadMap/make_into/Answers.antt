@@ -6,20 +6,8 @@ use Rattle.olr_map.specs.Undos.{CanMakeAll, log_changes}
 use Rattle.olr_map.specs.declared.change.TableChange.{TableChange}
 use Rattle.olr_map.proofs.Capacity.{within_trans}
 use Rattle.olr_map.proofs.Log.{done_by, one_more, all_on}
-use Rattle.olr_map.proofs.SlotsStay.{slots_reserved}
-use Rattle.olr_map.proofs.Verdicts.{plan_slots}
 use Rattle.olr_map.specs.SlotMaps.{spare_numbers}
 use Rattle.olr_map.proofs.road_map.RoadMap.make_into.Goals as goal
-
-pub make_room-requires-clause-slots : goal.make_room-requires-clause-slots
-make_room-requires-clause-slots c =
-    plan_slots c.args.self.now (edit_of c.args.edit) c.args.plan.now c.requires.plan
-
-pub make_change-back-requires-clause-slots : goal.make_change-back-requires-clause-slots
-make_change-back-requires-clause-slots c =
-    slots_reserved c.args.self.now c.make_room.new.self c.args.plan.now.slots (edit_of c.args.edit)
-    c.change_for-change.result c.make_room.ensures.same c.change_for-change.ensures.same
-    (plan_slots c.args.self.now (edit_of c.args.edit) c.args.plan.now c.requires.plan)
 
 pub returns-clause-done : goal.returns-clause-done
 returns-clause-done c =

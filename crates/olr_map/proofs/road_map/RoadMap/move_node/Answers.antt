@@ -1,10 +1,5 @@
 use Rattle.olr_map.proofs.NodeChanges.{move_node_kept, move_node_made}
-use Rattle.olr_map.proofs.Reading.{filled_in}
 use Rattle.olr_map.proofs.road_map.RoadMap.move_node.Goals as goal
-
-pub move_node-requires : goal.move_node-requires
-move_node-requires c =
-    filled_in c.args.self.now c.args.id c.args.slot c.requires.here
 
 pub invariant_of-self : goal.invariant_of-self
 invariant_of-self c =

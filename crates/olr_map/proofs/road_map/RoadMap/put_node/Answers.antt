@@ -13,16 +13,12 @@ invariant_of-self c =
       kept =
           put_node_kept c.args.self.now c.put.new.self c.put-slot.new.self c.put-slot.result _ c.args.id c.args.place
           c.args.outs c.args.ins c.in_empty-outs.result c.in_empty-ins.result
-          (record { lines = c.in_empty-outs.ensures.lines; room = c.in_empty-outs.ensures.room })
-          (record { lines = c.in_empty-ins.ensures.lines; room = c.in_empty-ins.ensures.room })
-          c.put-slot.ensures.inserts c.number.ensures.same c.put.ensures.put c.requires.can;
+          c.in_empty-outs.ensures c.in_empty-ins.ensures c.put-slot.ensures.inserts c.number.ensures.same c.put.ensures.put c.requires.can;
     }
 
 pub returns : goal.returns
 returns c =
     put_node_made c.args.self.now c.put.new.self c.put-slot.new.self c.put-slot.result _ c.args.id c.args.place
     c.args.outs c.args.ins c.in_empty-outs.result c.in_empty-ins.result
-    (record { lines = c.in_empty-outs.ensures.lines; room = c.in_empty-outs.ensures.room })
-    (record { lines = c.in_empty-ins.ensures.lines; room = c.in_empty-ins.ensures.room })
-    c.put-slot.ensures.inserts c.number.ensures.same c.put.ensures.put c.requires.can _ c.put-slot.ensures.room
+    c.in_empty-outs.ensures c.in_empty-ins.ensures c.put-slot.ensures.inserts c.number.ensures.same c.put.ensures.put c.requires.can _ c.put-slot.ensures.room
     c.put.ensures.spare

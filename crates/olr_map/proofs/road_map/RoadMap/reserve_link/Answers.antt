@@ -2,11 +2,7 @@ use Rattle.std.proofs.lemmas.Result.{on_ok_weaker}
 use Rattle.olr_map.specs.Columns.{node_slots}
 use Rattle.olr_map.proofs.Indexing.{relisted}
 use Rattle.olr_map.proofs.Capacity.{roomier_kept, roomier_reserved, roomier_here}
-use Rattle.olr_map.proofs.Reading.{filled_in}
 use Rattle.olr_map.proofs.road_map.RoadMap.reserve_link.Goals as goal
-
-pub reserve_link-requires : goal.reserve_link-requires
-reserve_link-requires c = filled_in c.args.self.now c.requires.0 c.args.slot c.requires.1
 
 pub invariant_of-self : goal.invariant_of-self
 invariant_of-self c =

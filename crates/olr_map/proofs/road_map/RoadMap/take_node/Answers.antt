@@ -1,7 +1,6 @@
 use Rattle.std.proofs.Common.{is_some, ap, ◌∙◌}
 use Rattle.olr_map.specs.SlotIndexes.{slot_by}
 use Rattle.olr_map.specs.declared.slots.Side.TheVariants.{Out, In}
-use Rattle.olr_map.proofs.Reading.{filled_in}
 use Rattle.olr_map.proofs.NodeChanges.{slot_taken, take_node_kept, taken_empty, take_node_made}
 use Rattle.olr_map.proofs.road_map.RoadMap.take_node.Goals as goal
 
@@ -10,9 +9,6 @@ take-slot-requires c =
     let t = c.args.self.now in
     let s = slot_taken t c.args.id c.requires in
     ap (λ o. is_some o) (ap (slot_by t.index) c.number.ensures.same ∙ s.1)
-
-pub take-entry-requires : goal.take-entry-requires
-take-entry-requires c = filled_in c.args.self.now _ c.take-slot.result c.take-slot.ensures.was
 
 pub into_empty-outs-requires : goal.into_empty-outs-requires
 into_empty-outs-requires c =

@@ -1,10 +1,7 @@
 use Rattle.std.proofs.Common.{◌∙◌}
 use Rattle.olr_map.specs.declared.slots.Side.TheVariants.{In}
-use Rattle.olr_map.proofs.Reading.{slot_filled, slot_lines}
+use Rattle.olr_map.proofs.Reading.{slot_lines}
 use Rattle.olr_map.proofs.road_map.RoadMapMapRead.in_ends_at.Goals as goal
-
-pub links-requires : goal.links-requires
-links-requires c = slot_filled c.args.self.now c.args.slot c.requires
 
 pub returns : goal.returns
 returns c = λ v h e. c.ends.ensures ∙ (slot_lines c.args.self.now In v c.args.slot _ h e c.links.ensures).ends

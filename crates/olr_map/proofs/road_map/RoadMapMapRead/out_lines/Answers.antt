@@ -1,11 +1,7 @@
 use Rattle.std.proofs.Common.{sym, ◌∙◌}
 use Rattle.olr_map.specs.declared.slots.Side.TheVariants.{Out}
-use Rattle.olr_map.proofs.Reading.{slot_filled, slot_lines, no_lines}
+use Rattle.olr_map.proofs.Reading.{slot_lines, no_lines}
 use Rattle.olr_map.proofs.road_map.RoadMapMapRead.out_lines.Goals as goal
-
-pub links-requires : goal.links-requires
-links-requires c =
-    slot_filled c.args.self.now c.in-Some.slot (c.args.id, c.in-Some.ensures.0, sym c.in-Some.ensures.1)
 
 pub returns-in-Some : goal.returns-in-Some
 returns-in-Some c =

@@ -3,11 +3,8 @@ use Rattle.std.proofs.lemmas.Option.{same_Some}
 use Rattle.olr_spec.proofs.OptionLemmas.{some_of}
 use Rattle.olr_map.specs.Slabs.{slots_of}
 use Rattle.olr_map.specs.declared.slots.NodeHead.{NodeHead}
-use Rattle.olr_map.proofs.ColumnLemmas.{head_there, head_turned, columns}
+use Rattle.olr_map.proofs.ColumnLemmas.{head_turned, columns}
 use Rattle.olr_map.proofs.slots.NodeSlots.move_node.Goals as goal
-
-pub entry-requires : goal.entry-requires
-entry-requires c = let e = some_of _ c.requires in head_there c.args.self.now c.args.slot e.0 e.1
 
 pub returns-clause-turns : goal.returns-clause-turns
 returns-clause-turns c =

@@ -1,12 +1,8 @@
 use Rattle.std.proofs.Common.{sym, ap, ◌∙◌}
 use Rattle.std.proofs.lemmas.Option.{same_Some}
-use Rattle.olr_spec.proofs.OptionLemmas.{some_of}
 use Rattle.olr_map.specs.declared.slots.NodeHead.{NodeHead}
-use Rattle.olr_map.proofs.ColumnLemmas.{head_there, columns}
+use Rattle.olr_map.proofs.ColumnLemmas.{columns}
 use Rattle.olr_map.proofs.slots.NodeSlots.place.Goals as goal
-
-pub entry-requires : goal.entry-requires
-entry-requires c = let e = some_of _ c.requires in head_there c.args.self.now c.args.slot e.0 e.1
 
 pub returns : goal.returns
 returns c = λ e h.

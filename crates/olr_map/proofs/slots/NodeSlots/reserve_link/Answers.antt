@@ -1,13 +1,7 @@
 use Rattle.olr_spec.proofs.OptionLemmas.{some_of}
 use Rattle.olr_map.specs.declared.slots.Side.TheVariants.{Out, In}
-use Rattle.olr_map.proofs.ColumnLemmas.{inside_outs, inside_ins, relinked}
+use Rattle.olr_map.proofs.ColumnLemmas.{relinked}
 use Rattle.olr_map.proofs.slots.NodeSlots.reserve_link.Goals as goal
-
-pub index_mut-requires : goal.index_mut-requires
-index_mut-requires c = inside_outs c.args.self.now c.args.slot c.requires
-
-pub index_mut-requires-in-In : goal.index_mut-requires-in-In
-index_mut-requires-in-In c = inside_ins c.args.self.now c.args.slot c.requires
 
 pub returns-in-Out-clause-turns : goal.returns-in-Out-clause-turns
 returns-in-Out-clause-turns c =
