@@ -2,7 +2,7 @@
 --     present es      the values, in the order of the slots
 --     at es p      the content of slot p
 --     IsSlotted es free room      the free slots are listed, each once, and there is capacity to list all slots
-use Rattle.std.specs.Prelude.{◌≡◌, ◌≢◌, ℕ, ◌+◌, ◌<◌, ◌≤◌, ◌^◌, List, [], ◌∷◌, Option, Some, None, length, slice_index}
+use Rattle.std.specs.Prelude.{◌≡◌, ◌≢◌, ℕ, ◌<◌, ◌≤◌, ◌^◌, List, [], ◌∷◌, Option, Some, None, length, slice_index}
 use Rattle.std.specs.Prelude.{slice_index_or, cond, ◌==◌, IsNone}
 use Rattle.std.specs.Coded.{Coded-set, coded_ℕ, le_prop}
 use Rattle.std.proofs.Props.{props}
