@@ -17,5 +17,6 @@ pub mod LineChanges
 pub mod Capacity
 pub mod Merging
 pub mod Using
+pub mod Sizes
 pub mod Log
 pub mod SlotsStay
