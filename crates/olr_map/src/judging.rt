@@ -67,9 +67,7 @@ fn judge_node_moved<M: MapRead>(map: &M, id: NodeId, place: Coord) -> Result<Edi
         (λ _. IsOk result) (λ f. result ≡ Err (edit_fault_of f)) }
     ensures plan { IfOk result (IsEditPlan (M.map map.now) (M.node_slot map.now) (Move_node id place)) }
 {
-    let Some(at) = map.slot_of(id) else {
-        return Err(EditFault::NoNode);
-    };
+    let at = map.slot_of(id).ok_or(EditFault::NoNode)?;
     // Only for the proof: the coordinate is in range, as every `Coord` is.
     let _latitude = place.lat();
     Ok(node_plan(id, at))
@@ -82,9 +80,7 @@ fn judge_node_dropped<M: MapRead>(map: &M, id: NodeId) -> Result<EditPlan, EditF
         (λ _. IsOk result) (λ f. result ≡ Err (edit_fault_of f)) }
     ensures plan { IfOk result (IsEditPlan (M.map map.now) (M.node_slot map.now) (Drop_node id)) }
 {
-    let Some(at) = map.slot_of(id) else {
-        return Err(EditFault::NoNode);
-    };
+    let at = map.slot_of(id).ok_or(EditFault::NoNode)?;
     if !map.out_ends_at(at).is_empty() || !map.in_ends_at(at).is_empty() {
         return Err(EditFault::NodeInUse);
     }
@@ -127,9 +123,7 @@ fn judge_line_set<M: MapRead>(
         (λ _. IsOk result) (λ f. result ≡ Err (edit_fault_of f)) }
     ensures plan { IfOk result (IsEditPlan (M.map map.now) (M.node_slot map.now) (Set_line id frc fow len shape.now)) }
 {
-    let Some(was) = map.line(id) else {
-        return Err(EditFault::NoLine);
-    };
+    let was = map.line(id).ok_or(EditFault::NoLine)?;
     if !has_good_fields(frc, fow, len, shape) {
         return Err(EditFault::BadShape);
     }
@@ -142,9 +136,7 @@ fn judge_line_dropped<M: MapRead>(map: &M, id: LineId) -> Result<EditPlan, EditF
         (λ _. IsOk result) (λ f. result ≡ Err (edit_fault_of f)) }
     ensures plan { IfOk result (IsEditPlan (M.map map.now) (M.node_slot map.now) (Drop_line id)) }
 {
-    let Some(was) = map.line(id) else {
-        return Err(EditFault::NoLine);
-    };
+    let was = map.line(id).ok_or(EditFault::NoLine)?;
     Ok(line_plan(map, id, was, was.len))
 }
 
