@@ -70,34 +70,25 @@ moves_under_way M f g m under is u d at = elim (m.fresh u d at) [
 
 -- ---- one bound
 
--- where the bound d is written at v
-module _ (L K : ℕ → Option ℕ) (v d : ℕ) (there : K v ≡ Some d) (others : (q : ℕ) → q ≢ v → K q ≡ L q) where
-  pub put_better : ((e : ℕ) → L v ≡ Some e → d ≤ e) → Better L K
-  put_better less q e at = elim (cases_eq q v) [
-    | inl is ↦ record { number = d; at = ap K is ∙ there; low = less e (ap L (sym is) ∙ at) }
-    | inr ne ↦ within_itself K q e (others q ne ∙ at)
-  ]
-
-  pub put_fresh : (q e : ℕ) → K q ≡ Some e → (L q ≡ Some e) ⊎ ((e ≡ d) × (q ≡ v))
-  put_fresh q e at = elim (cases_eq q v) [
-    | inl is ↦ let both : ◌≡◌ {A = Option ℕ} (Some d) (Some e) = sym there ∙ ap K (sym is) ∙ at in inr (cc, is)
-    | inr ne ↦ inl (sym (others q ne) ∙ at)
-  ]
-
 -- between f and g, after which node v is queued with that bound
 pub put_moves : (f g : DistanceBounds) (k v d : ℕ) → k ≡ v → Updates nat_eq f.bounds g.bounds k (Some d) →
     ((e : ℕ) → bound_of f k ≡ Some e → d < e)
     → IsPermutation (record { 0 = (d, v) } ∷ heap_items f.waiting) (heap_items g.waiting) → g.known ≡ f.known → Moves f g
 put_moves f g k v d is updates less p known =
-    let L = bound_of f in
     let K = bound_of g in
     let there : K v ≡ Some d = ap K (sym is) ∙ updates.1 in
-    let others : (q : ℕ) → q ≢ v → K q ≡ L q = λ q ne. updates.2 q (ne_eqb k q (λ e. ne (sym e ∙ is))) in
+    let others : (q : ℕ) → q ≢ v → K q ≡ bound_of f q = λ q ne. updates.2 q (ne_eqb k q (λ e. ne (sym e ∙ is))) in
     record {
-      better = put_better L K v d there others (λ e at. omega (arith, less e (ap L is ∙ at)));
-      fresh = λ q e at. elim (put_fresh L K v d there others q e at) [
-        | inl was ↦ inl was
-        | inr h ↦ inr (coe 1 0 (i. IsWaiting g (h.0 i) q) (coe 1 0 (i. IsWaiting g d (h.1 i)) (pushed_there _ _ _ p)))
+      better = λ q e at. elim (cases_eq q v) [
+        | inl eq ↦ record { number = d; at = ap K eq ∙ there; low = omega (arith, less e (ap (bound_of f) (is ∙ sym eq) ∙ at)) }
+        | inr ne ↦ within_itself K q e (others q ne ∙ at)
+      ];
+      fresh = λ q e at. elim (cases_eq q v) [
+        | inl eq ↦
+            let both : ◌≡◌ {A = Option ℕ} (Some d) (Some e) = sym there ∙ ap K (sym eq) ∙ at in
+            let same : d ≡ e = cc in
+            inr (coe 1 0 (i. IsWaiting g e (eq i)) (coe 0 1 (i. IsWaiting g (same i) v) (pushed_there _ _ _ p)))
+        | inr ne ↦ inl (sym (others q ne) ∙ at)
       ];
       kept = λ e q w. pushed_kept _ _ _ _ p w;
       known = known;
@@ -112,30 +103,6 @@ less_some o had d is lt e at =
 
 pub less_none : (o : Option ℕ) (d : ℕ) → None ≡ o → (e : ℕ) → o ≡ Some e → d < e
 less_none o d is e at = let never : ◌≡◌ {A = Option ℕ} None (Some e) = is ∙ at in absurd cc
-
--- it is there already, and no greater
-pub kept_lowered : (f g : DistanceBounds) (k v d e : ℕ) → k ≡ v → Updates nat_eq f.bounds g.bounds k (Some e) →
-    Some e ≡ bound_of f k → e ≤ d → IsLowered f g v d
-kept_lowered f g k v d e is updates was le =
-    let same : e ≡ min e d = omega arith in
-    record {
-      at = ap (bound_of g) (sym is) ∙ updates.1 ∙ ap (λ (n : ℕ). Some n) same
-          ∙ ap (λ (o : Option ℕ). Some (lesser o d)) (was ∙ ap (bound_of f) is);
-      others = λ q ne. updates.2 q (ne_eqb k q (λ i. ne (sym i ∙ is)));
-    }
-
-lesser_put : (o : Option ℕ) (d : ℕ) → ((e : ℕ) → o ≡ Some e → d < e) → d ≡ lesser o d
-lesser_put None d less = refl
-lesser_put (Some e) d less = omega (arith, less e refl)
-
-pub put_lowered : (f g : DistanceBounds) (k v d : ℕ) → k ≡ v → Updates nat_eq f.bounds g.bounds k (Some d) →
-    ((e : ℕ) → bound_of f k ≡ Some e → d < e) → IsLowered f g v d
-put_lowered f g k v d is updates less = record {
-  at =
-      ap (bound_of g) (sym is) ∙ updates.1 ∙ ap (λ (n : ℕ). Some n) (lesser_put (bound_of f k) d less)
-      ∙ ap (λ (q : ℕ). Some (lesser (bound_of f q) d)) is;
-  others = λ q ne. updates.2 q (ne_eqb k q (λ i. ne (sym i ∙ is)));
-}
 
 lesser_one : (o : Option ℕ) (d e : ℕ) → ◌≡◌ {A = Option ℕ} (Some (lesser o d)) (Some e) → (o ≡ Some e) ⊎ (e ≡ d)
 lesser_one None d e at = let is : d ≡ e = cc in inr (sym is)
@@ -193,6 +160,10 @@ gain_le m below unique =
 
 -- ---- the queue
 
+-- node v waits where it has a bound
+abbrev pub WaitsAt : DistanceBounds → List (Reverse (ℕ × ℕ)) → ℕ → Type 0
+WaitsAt f xs v = (d : ℕ) → bound_of f v ≡ Some d → Waits xs d v
+
 pub popped_others : (xs ys : List (Reverse (ℕ × ℕ))) (x : Reverse (ℕ × ℕ)) (d v : ℕ) → IsPermutation xs (x ∷ ys) →
     Waits xs d v → Waits ys d v ⊎ ((d ≡ x.0.0) × (v ≡ x.0.1))
 popped_others xs ys x d v p w = elim (popped_or xs ys x (record { 0 = (d, v) }) p w) [
@@ -234,9 +205,6 @@ module _ (M : Map) (f g : DistanceBounds) (d v : ℕ) (same : g.bounds ≡ f.bou
   ]
 
 -- ---- where numbers come from
-
-pub led_itself : (M : Map) (L : ℕ → Option ℕ) (v d : ℕ) → L v ≡ Some d → IsLed M L v d
-led_itself M L v d at = record { from = v; number = d; at = at; route = []; leads = refl; long = omega arith }
 
 pub led_on : (M : Map) (L : ℕ → Option ℕ) (u n v d : ℕ) → IsLed M L u n → IsFollowed M u n v d → IsLed M L v d
 led_on M L u n v d k f =

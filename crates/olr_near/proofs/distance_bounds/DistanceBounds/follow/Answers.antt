@@ -1,5 +1,5 @@
-use Rattle.std.proofs.Common.{◌≡◌, ◌≤◌, ◌+◌, ◌-◌, ℕ, get_or, inl, inr, sym, ap, ◌∙◌, subst, arith}
-use Rattle.std.proofs.lemmas.Bool.{cases_lt}
+use Rattle.std.proofs.Common.{◌≡◌, ◌≤◌, ◌+◌, ◌-◌, ℕ, Option, get_or, inl, inr, sym, ap, ◌∙◌, subst, arith}
+use borrow.Author.Count.{below_more}
 use Rattle.std.proofs.lemmas.List.{get_or_default}
 use Rattle.olr_map.specs.declared.read.LineEnd.{LineEnd}
 use Rattle.olr_near.specs.Bounds.{bound_of, Within}
@@ -9,59 +9,51 @@ use Rattle.olr_search.specs.declared.distances.Direction.TheVariants.{Along}
 use Rattle.olr_near.proofs.distance_bounds.DistanceBounds.follow.Goals.{then-end-room+in_ok-relax, else-end-room}
 use Rattle.olr_near.proofs.distance_bounds.DistanceBounds.follow.Goals as goal
 
+-- a line of at most what is left of the limit leads to a bound that is no greater than the way there
+abbrev Reaches : (ℕ → Option ℕ) → ℕ → LineEnd → Type 0
+Reaches L d e = e.len ≤ 150000 - d → Within L e.node (d + e.len)
+
 pub loop-end-preserved : goal.loop-end-preserved
 loop-end-preserved g c =
     let inv = c.loop-end.invariant in
     let items = c.out_ends-end-items.result.now in
     let n = c.loop-end.end-index in
-    let here : (j : ℕ) → j ≡ n → c.end-item.result ≡ get_or items j no_end =
-    λ j same. c.end-item.is ∙ get_or_default items n c.end-item.result no_end c.loop-end-test.true
-    ∙ ap (λ (k : ℕ). get_or items k no_end) (sym same) in
+    let d = c.args.number in
+    let end = c.end-item.result in
+    let here : end ≡ get_or items n no_end = c.end-item.is ∙ get_or_default items n end no_end c.loop-end-test.true in
     elim c.if-end-room.branch [
       | then-end-room+in_ok-relax w ↦
           let more = w.in_ok-relax.ensures in
+          let K = bound_of w.relax.new.self in
           rw w.self-is (record {
             moves = moves_then c.args.self.now c.loop-end.self w.relax.new.self inv.moves more.moves;
             paid = omega arith;
-            led = λ v d at.
-                elim (lowered_from c.loop-end.self w.relax.new.self c.end-item.result.node
-                (c.args.number + c.end-item.result.len) more.lowered v d at) [
-                  | inl was ↦ inv.led v d was
-                  | inr new ↦
-                      let e =
-                      end_is (g.M.MapRead.map c.args.map.now) (g.M.MapRead.node_slot c.args.map.now) Along c.args.node
-                      items n c.end-item.result c.out_ends-end-items.ensures c.loop-end-test.true c.end-item.is in
-                      inr (record {
-                        line = e.line;
-                        known = e.known;
-                        near = e.near;
-                        far = sym e.node ∙ sym new.1;
-                        long = omega arith;
-                      })
-                ];
-            followed = λ j lt. elim (cases_lt j n) [
-              | inl low ↦ λ short. within_better (bound_of c.loop-end.self) (bound_of w.relax.new.self)
-                  more.moves.better _ _ (inv.followed j low short)
-              | inr high ↦
-                  let same : j ≡ n = omega arith in
-                  subst (λ (e : LineEnd). e.len ≤ 150000 - c.args.number →
-                  Within (bound_of w.relax.new.self) e.node (c.args.number + e.len)) (here j same)
-                  (λ short. more.within)
+            led = λ v e at. elim (lowered_from c.loop-end.self w.relax.new.self end.node (d + end.len) more.lowered v e at) [
+              | inl was ↦ inv.led v e was
+              | inr new ↦
+                  let x =
+                  end_is (g.M.MapRead.map c.args.map.now) (g.M.MapRead.node_slot c.args.map.now) Along c.args.node items n
+                  end c.out_ends-end-items.ensures c.loop-end-test.true c.end-item.is in
+                  inr (record {
+                    line = x.line;
+                    known = x.known;
+                    near = x.near;
+                    far = sym x.node ∙ sym new.1;
+                    long = omega arith;
+                  })
             ];
+            followed = below_more (λ j. Reaches K d (get_or items j no_end)) n
+                (λ j low short. within_better (bound_of c.loop-end.self) K more.moves.better _ _ (inv.followed j low short))
+                (subst (Reaches K d) here (λ short. more.within));
           })
       | else-end-room w ↦
+          let K = bound_of c.loop-end.self in
           rw w.self-is (record {
             moves = inv.moves;
             paid = inv.paid;
             led = inv.led;
-            followed = λ j lt. elim (cases_lt j n) [
-              | inl low ↦ inv.followed j low
-              | inr high ↦
-                  let same : j ≡ n = omega arith in
-                  subst (λ (e : LineEnd). e.len ≤ 150000 - c.args.number →
-                  Within (bound_of c.loop-end.self) e.node (c.args.number + e.len)) (here j same)
-                  (λ short. absurd (omega arith))
-            ];
+            followed = below_more (λ j. Reaches K d (get_or items j no_end)) n inv.followed
+                (subst (Reaches K d) here (λ short. absurd (omega arith)));
           })
     ]
 

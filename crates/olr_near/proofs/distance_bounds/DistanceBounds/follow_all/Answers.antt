@@ -1,16 +1,8 @@
 use Rattle.std.proofs.Common.{◌≡◌, true, false, inl, inr, refl, sym, ◌∙◌, arith}
 use Rattle.olr_near.specs.Bounds.{bound_of}
-use Rattle.olr_near.proofs.BoundLemmas.{within_better, within_itself, popped_skip, popped_more, gain_le, led_itself}
+use Rattle.olr_near.proofs.BoundLemmas.{within_better, popped_skip, popped_more, gain_le}
 use Rattle.olr_near.proofs.BoundLemmas.{led_on, popped_others}
 use Rattle.olr_near.proofs.distance_bounds.DistanceBounds.follow_all.Goals as goal
-
-pub loop-top-init : goal.loop-top-init
-loop-top-init g c = record {
-  better = λ v d at. within_itself (bound_of c.args.self.now) v d at;
-  known = refl;
-  under_way = λ h. h;
-  led = λ v d at. led_itself (g.M.MapRead.map c.args.map.now) (bound_of c.args.self.now) v d at;
-}
 
 pub loop-top-smaller-then-is_at : goal.loop-top-smaller-then-is_at
 loop-top-smaller-then-is_at g c =

@@ -1,7 +1,7 @@
 use Rattle.std.proofs.Common.{ℕ, Option, Some, nat_eq, IsSome, refl, sym, ap, ◌∙◌, subst, arith}
 use Rattle.std.specs.HashMap.{PutsEntry, Updates, get}
 use Rattle.olr_near.specs.Bounds.{Numbers, bound_of}
-use Rattle.olr_near.proofs.BoundLemmas.{put_moves, put_lowered, kept_lowered, gain_put, gain_same, less_some, less_none}
+use Rattle.olr_near.proofs.BoundLemmas.{put_moves, gain_put, gain_same, less_some, less_none}
 use Rattle.olr_near.proofs.distance_bounds.DistanceBounds.relax.Goals as goal
 
 -- ---- where the node has a bound
@@ -24,21 +24,6 @@ returns-then-had-number-clause-within c =
       low = omega (arith, c.if-had-number.true);
     }
 
-pub returns-then-had-number-clause-lowered : goal.returns-then-had-number-clause-lowered
-returns-then-had-number-clause-lowered c =
-    let e = c.in-Some.had.now in
-    let there = (c.get_mut.follows.holds e).3 (subst (λ (o : Option ℕ). IsSome o) c.in-Some.ensures.value refl) in
-    kept_lowered c.args.self.now _ c.number-key.result c.args.node c.args.number e c.number-key.ensures.same there
-    c.in-Some.ensures.value (omega (arith, c.if-had-number.true))
-
-pub returns-in_ok-push-in-Some-clause-lowered : goal.returns-in_ok-push-in-Some-clause-lowered
-returns-in_ok-push-in-Some-clause-lowered c =
-    let there =
-    (c.get_mut.follows.holds c.args.number).3 (subst (λ (o : Option ℕ). IsSome o) c.in-Some.ensures.value refl) in
-    put_lowered c.args.self.now _ c.number-key.result c.args.node c.args.number c.number-key.ensures.same there
-    (less_some (bound_of c.args.self.now c.number-key.result) c.in-Some.had.now c.args.number c.in-Some.ensures.value
-    (omega (arith, c.if-had-number.false)))
-
 pub returns-in_ok-push-in-Some-clause-moves : goal.returns-in_ok-push-in-Some-clause-moves
 returns-in_ok-push-in-Some-clause-moves c =
     let there =
@@ -60,13 +45,6 @@ returns-in_ok-push-in-Some-clause-paid c =
     omega arith
 
 -- ---- where it has none
-
-pub returns-in_ok-insert-in-None-clause-lowered : goal.returns-in_ok-insert-in-None-clause-lowered
-returns-in_ok-insert-in-None-clause-lowered c =
-    put_lowered c.args.self.now _ c.number-key.result c.args.node c.args.number c.number-key.ensures.same
-    (subst (λ (m : Numbers). Updates nat_eq m c.insert.new.self c.number-key.result (Some c.args.number))
-    c.get_mut.follows.holds-at-none c.in_ok-insert-in-None.ensures.updates)
-    (less_none (bound_of c.args.self.now c.number-key.result) c.args.number c.in-None.ensures.value)
 
 pub returns-in_ok-insert-in-None-clause-moves : goal.returns-in_ok-insert-in-None-clause-moves
 returns-in_ok-insert-in-None-clause-moves c =
