@@ -14,19 +14,16 @@ use Rattle.std.proofs.lemmas.Map.Keys.{IsDistinct-from_apart, apart_from_distinc
 use Rattle.olr_spec.specs.Map.{has}
 use Rattle.olr_spec.specs.Extension.{none_twice}
 
-eqb_flips : (x y : ℕ) → eqb x y ≡ eqb y x
-eqb_flips x y = nat_eq_equiv.symm x y
-
 -- ---- two ways to state it
 
 differs_from_all : (x : ℕ) (xs : List ℕ) → has xs x ≡ false → AllByRecursion (λ y. eqb x y ≡ false) xs
 differs_from_all x [] h = tt
 differs_from_all x (y ∷ xs) h = let parts =
-    or_parts (eqb y x) (has xs x) h in (eqb_flips x y ∙ parts.0, differs_from_all x xs parts.1)
+    or_parts (eqb y x) (has xs x) h in (nat_eq_equiv.symm x y ∙ parts.0, differs_from_all x xs parts.1)
 
 is_none_of : (x : ℕ) (xs : List ℕ) → AllByRecursion (λ y. eqb x y ≡ false) xs → has xs x ≡ false
 is_none_of x [] h = refl
-is_none_of x (y ∷ xs) h = or_from (eqb y x) (has xs x) (eqb_flips y x ∙ h.0) (is_none_of x xs h.1)
+is_none_of x (y ∷ xs) h = or_from (eqb y x) (has xs x) (nat_eq_equiv.symm y x ∙ h.0) (is_none_of x xs h.1)
 
 distinct : (xs : List ℕ) → none_twice xs ≡ true → IsDistinct eqb xs
 distinct [] h = IsDistinct-from_apart eqb [] (λ i j d lt in_list. absurd (omega arith))
@@ -50,7 +47,7 @@ module _ (xs sorted : List ℕ) (moved : IsPermutation xs sorted) where
   pub ascending_once : AscendsBelow sorted (length sorted) → none_twice xs ≡ true
   ascending_once up =
       let apart = AllPairs-from_increasing sorted up in
-      named_once xs (IsDistinct-IsPermutation eqb eqb_flips sorted xs (IsPermutation-sym xs sorted moved)
+      named_once xs (IsDistinct-IsPermutation eqb nat_eq_equiv.symm sorted xs (IsPermutation-sym xs sorted moved)
       (IsDistinct-from_apart eqb sorted
       (λ i j d lt in_list. ne_eqb (get_or sorted i d) (get_or sorted j d)
       (λ is. let below = apart i j d lt in_list in absurd (omega arith)))))
@@ -62,7 +59,7 @@ module _ (xs sorted : List ℕ) (moved : IsPermutation xs sorted) where
         | inl once ↦
             let apart =
             apart_from_distinct eqb sorted i j 0
-            (IsDistinct-IsPermutation eqb eqb_flips xs sorted moved (distinct xs once)) (omega arith) h in
+            (IsDistinct-IsPermutation eqb nat_eq_equiv.symm xs sorted moved (distinct xs once)) (omega arith) h in
             absurd (both_ways (eqb (get_or sorted i 0) (get_or sorted j 0)) apart
             (eq-eqb (get_or sorted i 0) (get_or sorted j 0) is))
         | inr twice ↦ twice
