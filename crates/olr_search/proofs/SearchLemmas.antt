@@ -61,25 +61,6 @@ put_le f g v p d k q = elim (cases_eq q p) [
   | inr ne ↦ let h = k.others q ne in omega arith
 ]
 
-pub put_here : (f g : Frontier) (v p d : ℕ) → IsRelaxed f g v p d → label_of g p ≤ d
-put_here f g v p d k = let h = k.here in omega arith
-
-pub put_moves : (f g : Frontier) (v p d : ℕ) → IsRelaxed f g v p d → Moves f g
-put_moves f g v p d k = record {
-  better = put_le f g v p d k;
-  fresh = λ q. elim (cases_eq q p) [
-    | inl is ↦ subst (λ (n : ℕ). (label_of g n ≡ label_of f n) ⊎ IsQueued g (label_of g n) n) (sym is) k.waits
-    | inr ne ↦ inl (k.others q ne)
-  ];
-  kept = k.kept;
-  len = k.len;
-  less = k.less;
-}
-
-pub moves_none : (f : Frontier) → Moves f f
-moves_none f =
-    record { better = λ p. omega arith; fresh = λ p. inl refl; kept = λ e q h. h; len = refl; less = omega arith }
-
 pub moves_then : (f g h : Frontier) → Moves f g → Moves g h → Moves f h
 moves_then f g h m n = record {
   better = λ p. let a = m.better p in let b = n.better p in omega arith;

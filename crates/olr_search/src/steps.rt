@@ -1,17 +1,40 @@
 //! The steps of a search that can be continued: the nodes where it begins, the lines from a node, and all queued nodes up
 //! to a length.
 ghost use Rattle.std.specs.Prelude.{◌≡◌, ◌≤◌, ◌<◌, ℕ, List, Contains, OnOk, IsTrue};
-ghost use Rattle.olr_spec.specs.Map.{has_node};
+ghost use Rattle.olr_spec.specs.Map.{Map, has_node};
 ghost use Rattle.olr_search.specs.Distances.{Leads, ends_at};
-ghost use Rattle.olr_search.specs.Frontiers.{Moves, IsQueued, label_of};
+ghost use Rattle.olr_search.specs.Frontiers.{Moves, IsQueued, label_of, frontier_len};
 ghost use Rattle.olr_search.specs.Searches.{CoversSlots, IsLabelled, IsUnderWay};
 ghost use Rattle.olr_search.specs.Bounds.{CutAt, IsCut};
 
-use crate::bounds::Admits;
+use crate::bounds::{Admits, Anywhere};
 use crate::distances::Direction;
 use crate::frontier::{Frontier, GREATEST_LIMIT};
 use olr_map::{LineEnd, MapRead, NodeId};
 use std::alloc::AllocError;
+
+/// Lowers a node's label to a length in decimetres. No effect if the label is no greater, or the node may not have this
+/// length as its label.
+fn label_node<A: Admits>(
+    node: NodeId,
+    slot: u32,
+    length: u32,
+    admits: &A,
+    frontier: &mut Frontier,
+) -> Result<(), AllocError>
+    requires { slot < frontier_len frontier.old }
+    ensures moves { OnOk result (Moves frontier.old frontier.new) }
+    ensures labelled { OnOk result ((M : Map) (node_slot : ℕ → ℕ) (direction : _) (from : List (ℕ × ℕ))
+        → IsTrue (has_node M node) → node_slot node ≡ slot → Leads M direction from node length
+        → IsLabelled M node_slot direction from frontier.old → IsLabelled M node_slot direction from frontier.new) }
+    ensures low { OnOk result (A.lets admits.now node length → label_of frontier.new slot ≤ length) }
+{
+    if length < frontier.label(slot) && admits.admits(node, length) {
+        frontier.relax(node, slot, length)
+    } else {
+        Ok(())
+    }
+}
 
 /// Lowers a node's label to a length in decimetres. No effect if the label is no greater, or the node is not on the
 /// map.
@@ -32,7 +55,7 @@ pub fn start<M: MapRead>(
     let Some(slot) = map.slot_of(node) else {
         return Ok(());
     };
-    frontier.relax(node, slot, length)?;
+    label_node(node, slot, length, &Anywhere, frontier)?;
     Ok(())
 }
 
@@ -71,10 +94,7 @@ fn follow<M: MapRead, A: Admits>(
         → CutAt (M.map map.now) (M.node_slot map.now) direction (A.lets admits.now) frontier.new v dist) }
 {
     for end in ends_from(map, direction, slot) {
-        let length = dist + end.len;
-        if admits.admits(end.node, length) {
-            frontier.relax(end.node, end.slot, length)?;
-        }
+        label_node(end.node, end.slot, dist + end.len, admits, frontier)?;
     }
     Ok(())
 }
