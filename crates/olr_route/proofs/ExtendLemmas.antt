@@ -1,6 +1,6 @@
 -- Whether a line extends a shortest path, or a unique one, by the labels.
 use Rattle.std.proofs.Common.{◌≡◌, ℕ, ◌+◌, ◌≤◌, List, [], ◌∷◌, ◌++◌, Option, Some, None, inl, inr, sym, ap, ◌∙◌, subst}
-use Rattle.std.proofs.Common.{arith}
+use Rattle.std.proofs.Common.{arith, Bool, true, false, IsTrue, refl}
 use Rattle.std.specs.Option.{option_map}
 use Rattle.std.specs.Prelude.{option_and_then}
 use Rattle.std.proofs.lemmas.Bool.{cases_eq, cases_lt}
@@ -9,7 +9,7 @@ use Rattle.olr_spec.specs.Routes.{IsRoute, dm_of, Least}
 use Rattle.olr_spec.proofs.RouteLemmas.{positive, one_least, unique_least}
 use Rattle.olr_spec.proofs.OptionLemmas.{some_of, is_some_of}
 use Rattle.olr_route.specs.Labels.{Label, Labels, label_at, dist_at, last_at, last_of, AreLabels, LeastWithin}
-use Rattle.olr_route.specs.Labels.{UniqueWithin}
+use Rattle.olr_route.specs.Labels.{UniqueWithin, IsShortest}
 use Rattle.olr_route.specs.Ends.{OnlyPredecessor}
 use Rattle.olr_search.proofs.RouteEnds.{ends_of, dm_of-line, route_on, last_step, same_last}
 use Rattle.olr_search.proofs.RouteEnds.Ends.{empty, ended}
@@ -38,7 +38,6 @@ module _ (M : Map) (m : IsMap M) (x : Labels) (a : AreLabels M x) where
       let k = some_of (label_at x v) ((a.reached v).1 (ys, w, short)) in
       let r = a.least v k.0.0 k.0.1 k.1 in
       let le = least_le M x.source v r.lines ys r.least w in
-      let long = r.long in
       (k.0.0, ap (λ (o : Option Label). option_map (λ k. k.0) o) k.1, omega arith)
 
   -- the label at the end of a shortest path within the limit
@@ -57,12 +56,10 @@ module _ (M : Map) (m : IsMap M) (x : Labels) (a : AreLabels M x) where
       let r = a.least v d o at in
       let w = (a.reached v).0 (is_some_of (label_at x v) (d, o) at) in
       let le = least_le M x.source v r.lines w.0 r.least w.1 in
-      let long = r.long in
-      let short = w.2 in
       omega arith
 
   -- if the label has the line, the line extends the shortest path
-  pub least_if_last : (y : ℕ) (route : List ℕ) → LeastWithin M x (start M y) route → last_at x (end M y) ≡ Some y →
+  least_if_last : (y : ℕ) (route : List ℕ) → LeastWithin M x (start M y) route → last_at x (end M y) ≡ Some y →
       LeastWithin M x (end M y) (route ++ y ∷ [])
   least_if_last y route l e =
       let k = label_of_last (label_at x (end M y)) y e in
@@ -78,11 +75,11 @@ module _ (M : Map) (m : IsMap M) (x : Labels) (a : AreLabels M x) where
       record { least = subst (λ (zs : List ℕ). Least M x.source (end M y) zs) lines r.least; within = omega arith }
 
   -- and only then
-  pub last_if_least : (y : ℕ) (route : List ℕ) → LeastWithin M x (end M y) (route ++ y ∷ []) →
+  last_if_least : (y : ℕ) (route : List ℕ) → LeastWithin M x (end M y) (route ++ y ∷ []) →
       last_at x (end M y) ≡ Some y
   last_if_least y route l = grind (arith, label_of_least, last_of-append)
 
-  pub unique_if_only : (y : ℕ) (route : List ℕ) → UniqueWithin M x (start M y) route → last_at x (end M y) ≡ Some y →
+  unique_if_only : (y : ℕ) (route : List ℕ) → UniqueWithin M x (start M y) route → last_at x (end M y) ≡ Some y →
       OnlyPredecessor M x y → UniqueWithin M x (end M y) (route ++ y ∷ [])
   unique_if_only y route f e alone =
       let l =
@@ -91,7 +88,6 @@ module _ (M : Map) (m : IsMap M) (x : Labels) (a : AreLabels M x) where
       let own = last_step M x.source (end M y) y route l.least.route in
       let long = dm_of-line M route y in
       let some = positive M m y own.known in
-      let short = l.within in
       let label : dist_at x (end M y) ≡ Some (dm_of M (route ++ y ∷ [])) =
       ap (λ (o : Option Label). option_map (λ k. k.0) o) (label_of_least (end M y) (route ++ y ∷ []) l.least l.within)
       in
@@ -110,7 +106,6 @@ module _ (M : Map) (m : IsMap M) (x : Labels) (a : AreLabels M x) where
                   | inl far ↦ far
                   | inr near ↦
                       let d = dist_le (start M z) front step.front (omega arith) in
-                      let le = d.2 in
                       let same : z ≡ y =
                       alone z (dm_of M (route ++ y ∷ [])) step.known step.to label d.0 d.1 (omega arith) in
                       let each : dm M z ≡ dm M y = ap (dm M) same in
@@ -125,7 +120,7 @@ module _ (M : Map) (m : IsMap M) (x : Labels) (a : AreLabels M x) where
       }
 
   -- and only then
-  pub only_if_unique : (y : ℕ) (route : List ℕ) → UniqueWithin M x (end M y) (route ++ y ∷ []) → OnlyPredecessor M x y
+  only_if_unique : (y : ℕ) (route : List ℕ) → UniqueWithin M x (end M y) (route ++ y ∷ []) → OnlyPredecessor M x y
   only_if_unique y route f z e known to de d dz le =
       let least = unique_least M x.source (end M y) (route ++ y ∷ []) f.unique in
       let o = label_of_dist (label_at x (start M z)) d dz in
@@ -135,7 +130,6 @@ module _ (M : Map) (m : IsMap M) (x : Labels) (a : AreLabels M x) where
       let both : ◌≡◌ {A = Option ℕ} (Some (dm_of M (route ++ y ∷ []))) (Some e) = sym label ∙ de in
       let total : dm_of M (route ++ y ∷ []) ≡ e = cc in
       let parts = dm_of-line M r.lines z in
-      let long = r.long in
       elim (cases_eq z y) [
         | inl same ↦ same
         | inr ne ↦
@@ -146,6 +140,16 @@ module _ (M : Map) (m : IsMap M) (x : Labels) (a : AreLabels M x) where
             absurd (omega arith)
       ]
 
-  pub last_if_unique : (y : ℕ) (route : List ℕ) → UniqueWithin M x (end M y) (route ++ y ∷ []) →
-      last_at x (end M y) ≡ Some y
-  last_if_unique y route f = grind (arith, last_if_least, unique_least)
+  pub extends_if : (unique : Bool) (y : ℕ) (route : List ℕ) → IsShortest unique M x (start M y) route →
+      last_at x (end M y) ≡ Some y → (IsTrue unique → OnlyPredecessor M x y) →
+      IsShortest unique M x (end M y) (route ++ y ∷ [])
+  extends_if false y route l e alone = least_if_last y route l e
+  extends_if true y route l e alone = unique_if_only y route l e (alone refl)
+
+  pub extends_only_if : (unique : Bool) (y : ℕ) (route : List ℕ) → IsShortest unique M x (end M y) (route ++ y ∷ []) →
+      (last_at x (end M y) ≡ Some y) × (IsTrue unique → OnlyPredecessor M x y)
+  extends_only_if false y route l = (last_if_least y route l, λ h. absurd cc)
+  extends_only_if true y route f = (
+    last_if_least y route (record { least = unique_least M x.source (end M y) (route ++ y ∷ []) f.unique; within = f.within }),
+    λ h. only_if_unique y route f,
+  )

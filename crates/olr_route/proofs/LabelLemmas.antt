@@ -87,14 +87,12 @@ module _ (M : Map) (m : IsMap M) (s limit : ℕ) (L : ℕ → Option Label) (c :
       ¬ PrecedesInTieOrder M ys (ws ++ x ∷ [])
   least_on v x e ws at short k to l long ys w b =
       let total = dm_of-line M ws x in
-      let near : dm_of M ys ≤ e + dm M x = elim b [ inl lt ↦ omega arith | inr p ↦ let even = p.0 in omega arith ] in
+      let near : dm_of M ys ≤ e + dm M x = elim b [ inl lt ↦ omega arith | inr p ↦ omega arith ] in
       let cap = capped v ys w (omega arith) in
       let same = same_label (L v) cap.dist (e + dm M x) cap.last (Some x) cap.at at in
-      let d = same.0 in
       elim cap.low [
         | inl lt ↦ absurd (omega arith)
         | inr p ↦
-            let even = p.0 in
             let y = last_below (last_of ys) x (subst (λ (o : Option ℕ). NotGreater o (last_of ys)) same.1 p.1) in
             elim b [
               | inl lt ↦ absurd (omega arith)

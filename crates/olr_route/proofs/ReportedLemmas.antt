@@ -51,7 +51,6 @@ module _ (M : Map) (slot : ℕ → ℕ) (s : ℕ) (q : Dijkstra) (h : IsSearch M
       let n = (near v).0 (k.0, k.1, get_or_default ks k.0 v 0 k.1 ∙ k.2) in
       let known = distance_node M slot Along ((s, 0) ∷ []) q h v n.0 n.1 in
       let is = label_is M slot Along ((s, 0) ∷ []) q h v n.0 known n.1 n.2 in
-      let le = n.2 in
       let dist = here.dist in
       record { known = known; dist = here.dist; within = omega arith; last = here.last }
 
@@ -71,9 +70,7 @@ module _ (M : Map) (slot : ℕ → ℕ) (s : ℕ) (q : Dijkstra) (h : IsSearch M
       label_of q.frontier (slot u) + dm M x ≤ q.limit →
       label_of q.frontier (slot (end M x)) ≤ label_of q.frontier (slot u) + dm M x
   on_by u x known line from short =
-      let small = h.small in
       let w = label_way M slot s q h u known (omega arith) in
-      let long = w.2 in
       let more = dm_of-line M w.0 x in
       let low =
       way_le M slot s q h (end M x) (w.0 ++ x ∷ []) (h.under_way.labelled.sound.ends x line)
@@ -86,14 +83,12 @@ module _ (M : Map) (slot : ℕ → ℕ) (s : ℕ) (q : Dijkstra) (h : IsSearch M
       let none : label_of q.frontier (slot s) ≤ 0 =
       h.settled s 0 source (omega arith) (leads_first M Along ((s, 0) ∷ []) s 0 (first_one (s, 0)) source) in
       let k = labelled s source (omega arith) in
-      let dist = k.2.dist in
       let zero_is : k.0.0 ≡ 0 = omega arith in
       elim (something k.0.1) [
         | inl e ↦ k.1 ∙ ap (λ (n : ℕ). Some (n, k.0.1)) zero_is ∙ ap (λ (o : Option ℕ). Some (0, o)) e
         | inr y ↦
             let t = k.2.last.tight y.0 y.1 in
             let some = positive M m y.0 t.known in
-            let long = t.long in
             absurd (omega arith)
       ]
 
@@ -101,9 +96,6 @@ module _ (M : Map) (slot : ℕ → ℕ) (s : ℕ) (q : Dijkstra) (h : IsSearch M
   found_none : (v d : ℕ) (o : Option ℕ) → Says v d o → o ≡ None → Found M s v d o
   found_none v d o t e =
       let m = h.under_way.labelled.sound in
-      let dist = t.dist in
-      let within = t.within in
-      let small = h.small in
       let w = label_way M slot s q h v t.known (omega arith) in
       let long = w.2 in
       elim (ends_of w.0) [
@@ -131,13 +123,9 @@ module _ (M : Map) (slot : ℕ → ℕ) (s : ℕ) (q : Dijkstra) (h : IsSearch M
   found_some v d y o t e =
       let m = h.under_way.labelled.sound in
       let tight = t.last.tight y e in
-      let sum = tight.long in
-      let within = t.within in
-      let small = h.small in
       let w = label_way M slot s q h (start M y) (m.starts y tight.known) (omega arith) in
       let long = w.2 in
       let more = dm_of-line M w.0 y in
-      let dist = t.dist in
       let low = on_by (start M y) y (m.starts y tight.known) tight.known refl (omega arith) in
       let same : label_of q.frontier (slot (end M y)) ≡ label_of q.frontier (slot v) =
       ap (λ (n : ℕ). label_of q.frontier (slot n)) tight.to in
@@ -156,7 +144,6 @@ module _ (M : Map) (slot : ℕ → ℕ) (s : ℕ) (q : Dijkstra) (h : IsSearch M
       let dist = t.dist in
       let low = on_by u x t.known line from (omega arith) in
       let r = labelled (end M x) (h.under_way.labelled.sound.ends x line) (omega arith) in
-      let there = r.2.dist in
       let begin_is : label_of q.frontier (slot (start M x)) ≡ label_of q.frontier (slot u) =
       ap (λ (n : ℕ). label_of q.frontier (slot n)) from in
       record {

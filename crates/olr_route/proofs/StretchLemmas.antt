@@ -7,7 +7,7 @@ use Rattle.olr_spec.specs.Map.{Map, IsMap, has_line, start, end}
 use Rattle.olr_spec.specs.Routes.{IsRoute, dm_of, Least, UniqueShortest}
 use Rattle.olr_spec.proofs.RouteLemmas.{dm_of-append, IsRoute-split, prefix_of_least, prefix_of_unique, empty_least}
 use Rattle.olr_spec.proofs.RouteLemmas.{empty_unique}
-use Rattle.olr_route.specs.Labels.{Labels, LeastWithin, UniqueWithin}
+use Rattle.olr_route.specs.Labels.{Labels, LeastWithin, UniqueWithin, IsShortest}
 use Rattle.olr_search.proofs.RouteEnds.{route_on, last_step}
 
 -- line y is the one after the first i lines of a route from s to t
@@ -45,11 +45,15 @@ module _ (M : Map) (x : Labels) (t : ℕ) (lines : List ℕ) (i y : ℕ) (n : Is
       ap (dm_of M) n.parts ∙ dm_of-append M (take i lines ++ y ∷ []) (drop (i + 1) lines) in
       omega arith
 
-  pub least_prefix : LeastWithin M x t lines → LeastWithin M x (end M y) (take i lines ++ y ∷ [])
+  least_prefix : LeastWithin M x t lines → LeastWithin M x (end M y) (take i lines ++ y ∷ [])
   least_prefix l = grind (arith, prefix_of_least, prefix_route, prefix_short)
 
-  pub unique_prefix : UniqueWithin M x t lines → UniqueWithin M x (end M y) (take i lines ++ y ∷ [])
+  unique_prefix : UniqueWithin M x t lines → UniqueWithin M x (end M y) (take i lines ++ y ∷ [])
   unique_prefix l = grind (arith, prefix_of_unique, prefix_route, prefix_short)
+
+  pub prefix_of : (unique : Bool) → IsShortest unique M x t lines → IsShortest unique M x (end M y) (take i lines ++ y ∷ [])
+  prefix_of false l = least_prefix l
+  prefix_of true l = unique_prefix l
 
   -- what holds for the first i + 1 lines, wherever they lead
   pub held_more : (P : ℕ → List ℕ → Type 0) → P (end M y) (take i lines ++ y ∷ []) → (v : ℕ) →
@@ -66,14 +70,14 @@ module _ (M : Map) (x : Labels) (t : ℕ) (lines : List ℕ) (i y : ℕ) (n : Is
     pub held_not : b ≡ false → ¬ P (end M y) (take i lines ++ y ∷ [])
     held_not e h = both_ways b e ((extends (take i lines) (here _ n.front)).1 h)
 
-pub least_none : (M : Map) (x : Labels) (v : ℕ) → IsRoute M x.source v [] → LeastWithin M x v []
-least_none M x v w =
+pub none_of : (M : Map) → IsMap M → (x : Labels) (unique : Bool) (v : ℕ) → IsRoute M x.source v [] →
+    IsShortest unique M x v []
+none_of M m x false v w =
     record { least = subst (λ (u : ℕ). Least M x.source u []) w (empty_least M x.source); within = omega arith }
+none_of M m x true v w =
+    record { unique = subst (λ (u : ℕ). UniqueShortest M x.source u []) w (empty_unique M m x.source); within = omega arith }
 
-pub unique_none : (M : Map) → IsMap M → (x : Labels) (v : ℕ) → IsRoute M x.source v [] → UniqueWithin M x v []
-unique_none M m x v w =
-    record {
-      unique = subst (λ (u : ℕ). UniqueShortest M x.source u []) w (empty_unique M m x.source);
-      within = omega
-          arith;
-    }
+pub route_of : (M : Map) (x : Labels) (unique : Bool) (t : ℕ) (xs : List ℕ) → IsShortest unique M x t xs →
+    IsRoute M x.source t xs
+route_of M x false t xs h = h.least.route
+route_of M x true t xs h = h.unique.route

@@ -4,7 +4,8 @@
 --     count_of x      how many labels there are
 --     AreLabels M x      exactly the nodes that are reached have labels, and these are those of the shortest paths
 --     LeastWithin, UniqueWithin M x t xs      xs is the (unique) shortest path from the source to t, within the limit
-use Rattle.std.specs.Prelude.{◌≡◌, ℕ, ◌≤◌, ◌↔◌, List, [], ◌∷◌, Option, Some, None, IsSome, option_and_then}
+--     IsShortest unique M x t xs      one of these
+use Rattle.std.specs.Prelude.{◌≡◌, ℕ, ◌≤◌, ◌↔◌, Bool, true, false, List, [], ◌∷◌, Option, Some, None, IsSome, option_and_then}
 use Rattle.std.specs.Option.{option_map}
 use Rattle.std.specs.Coded.{Coded, code_by, coded_ℕ, coded_option, coded×}
 use Rattle.std.specs.Ordering.{nat_cmp}
@@ -63,3 +64,8 @@ pub record LeastWithin (M : Map) (x : Labels) (t : ℕ) (xs : List ℕ) : Type 0
 pub record UniqueWithin (M : Map) (x : Labels) (t : ℕ) (xs : List ℕ) : Type 0 where
   pub unique : UniqueShortest M x.source t xs
   pub within : dm_of M xs ≤ x.limit
+
+-- the shortest path, or the unique one
+abbrev pub IsShortest : Bool → Map → Labels → ℕ → List ℕ → Type 0
+IsShortest false M x t xs = LeastWithin M x t xs
+IsShortest true M x t xs = UniqueWithin M x t xs

@@ -3,7 +3,7 @@
 ghost use Rattle.std.specs.Prelude.{◌≡◌, ◌↔◌, ◌≤◌, ◌+◌, ℕ, List, [], ◌∷◌, ◌++◌, Some, IsTrue};
 ghost use Rattle.olr_spec.specs.Map.{has_line, start, end};
 ghost use Rattle.olr_spec.specs.Routes.{IsRoute};
-ghost use Rattle.olr_route.specs.Labels.{AreLabels, LeastWithin, UniqueWithin, last_at, dist_at};
+ghost use Rattle.olr_route.specs.Labels.{AreLabels, LeastWithin, UniqueWithin, IsShortest, last_at, dist_at};
 ghost use Rattle.olr_route.specs.Ends.{OnlyPredecessor};
 
 use crate::labels::Labels;
@@ -49,6 +49,40 @@ fn is_only_predecessor<M: MapRead>(map: &M, labels: &Labels, line: LineId) -> bo
     true
 }
 
+/// Whether, if `unique`, no other line leads to the end of this one within the length of the label there.
+fn is_alone<M: MapRead>(map: &M, labels: &Labels, line: LineId, unique: bool) -> bool
+    requires { IsTrue (has_line (M.map map.now) line) }
+    ensures { IsTrue result ↔ (IsTrue unique → OnlyPredecessor (M.map map.now) labels.now line) }
+{
+    !unique || is_only_predecessor(map, labels, line)
+}
+
+/// Whether a line extends the shortest path to its start to the shortest path to its end, or, if `unique`, the unique
+/// shortest path.
+fn extends<M: MapRead>(map: &M, labels: &Labels, line: LineId, unique: bool) -> bool
+    requires labels { AreLabels (M.map map.now) labels.now }
+    requires line { IsTrue (has_line (M.map map.now) line) }
+    ensures { (route : List ℕ) → IsShortest unique (M.map map.now) labels.now (start (M.map map.now) line) route
+        → (IsTrue result ↔ IsShortest unique (M.map map.now) labels.now (end (M.map map.now) line)
+        (route ++ line ∷ [])) }
+{
+    is_last(map, labels, line) && is_alone(map, labels, line, unique)
+}
+
+/// Whether each line of a route extends the shortest path to its start, or, if `unique`, the unique shortest path.
+fn each_extends<M: MapRead>(map: &M, labels: &Labels, lines: &[LineId], unique: bool) -> bool
+    requires labels { AreLabels (M.map map.now) labels.now }
+    requires route { (t : ℕ) × IsRoute (M.map map.now) labels.now.source t lines.now }
+    ensures { IsTrue result ↔ ((t : ℕ) × IsShortest unique (M.map map.now) labels.now t lines.now) }
+{
+    for line in lines {
+        if !extends(map, labels, *line, unique) {
+            return false;
+        }
+    }
+    true
+}
+
 /// Whether a line extends the shortest path to its start to the shortest path to its end, both within the limit of the
 /// labels. Unspecified if no route within the limit leads to its start.
 pub fn extends_least<M: MapRead>(map: &M, labels: &Labels, line: LineId) -> bool
@@ -57,7 +91,7 @@ pub fn extends_least<M: MapRead>(map: &M, labels: &Labels, line: LineId) -> bool
     ensures { (route : List ℕ) → LeastWithin (M.map map.now) labels.now (start (M.map map.now) line) route
         → (IsTrue result ↔ LeastWithin (M.map map.now) labels.now (end (M.map map.now) line) (route ++ line ∷ [])) }
 {
-    is_last(map, labels, line)
+    extends(map, labels, line, false)
 }
 
 /// Whether a line extends the unique shortest path to its start to the unique shortest path to its end, both within the
@@ -68,7 +102,7 @@ pub fn extends_unique_shortest<M: MapRead>(map: &M, labels: &Labels, line: LineI
     ensures { (route : List ℕ) → UniqueWithin (M.map map.now) labels.now (start (M.map map.now) line) route
         → (IsTrue result ↔ UniqueWithin (M.map map.now) labels.now (end (M.map map.now) line) (route ++ line ∷ [])) }
 {
-    is_last(map, labels, line) && is_only_predecessor(map, labels, line)
+    extends(map, labels, line, true)
 }
 
 /// Whether a route from the source of the labels is the shortest path to its end, and within their limit.
@@ -77,12 +111,7 @@ pub fn is_least<M: MapRead>(map: &M, labels: &Labels, lines: &[LineId]) -> bool
     requires route { (t : ℕ) × IsRoute (M.map map.now) labels.now.source t lines.now }
     ensures { IsTrue result ↔ ((t : ℕ) × LeastWithin (M.map map.now) labels.now t lines.now) }
 {
-    for line in lines {
-        if !extends_least(map, labels, *line) {
-            return false;
-        }
-    }
-    true
+    each_extends(map, labels, lines, false)
 }
 
 /// Whether a route from the source of the labels is the unique shortest path to its end, each other route being longer,
@@ -92,10 +121,5 @@ pub fn is_unique_shortest<M: MapRead>(map: &M, labels: &Labels, lines: &[LineId]
     requires route { (t : ℕ) × IsRoute (M.map map.now) labels.now.source t lines.now }
     ensures { IsTrue result ↔ ((t : ℕ) × UniqueWithin (M.map map.now) labels.now t lines.now) }
 {
-    for line in lines {
-        if !extends_unique_shortest(map, labels, *line) {
-            return false;
-        }
-    }
-    true
+    each_extends(map, labels, lines, true)
 }

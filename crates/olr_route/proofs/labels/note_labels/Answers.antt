@@ -21,5 +21,4 @@ returns-clause-few c =
     let few =
     ascending_within c.nodes-nodes.result.now c.note_all.new.self c.nodes-nodes.ensures.ascending
     (λ v h. (c.in_ok-note_all.ensures.ok v).1 (inr h)) in
-    let count = c.nodes-nodes.ensures.count in
     omega arith

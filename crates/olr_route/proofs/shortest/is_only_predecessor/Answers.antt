@@ -1,5 +1,5 @@
-use Rattle.std.proofs.Common.{◌≡◌, ◌<◌, ◌≤◌, ℕ, Some, Option, length, get_or, refl, sym, subst, ap, ◌∙◌, arith, ⊎_elim}
-use Rattle.std.proofs.lemmas.Bool.{cases_lt}
+use Rattle.std.proofs.Common.{◌≡◌, ◌<◌, ◌≤◌, ℕ, Some, Option, length, get_or, refl, sym, subst, ap, ◌∙◌, arith}
+use borrow.Author.Count.{below_more}
 use Rattle.std.proofs.lemmas.Grind.{get_or_default_zero}
 use Rattle.olr_route.specs.Labels.{dist_at}
 use Rattle.olr_route.specs.Ends.{FartherThan}
@@ -24,18 +24,12 @@ loop-other-preserved g c =
     let P : ℕ → Type 0 = λ k. FartherThan M c.args.labels.now c.args.line c.in-Some.dist k in
     let here : P x = elim c.if-ne.branch [
       | then-ne+else-is_within w ↦ λ d at le.
-          let long = w.start_of-from.ensures.length in
           let yes =
           w.is_within.ensures.1 (d, ap (dist_at c.args.labels.now) w.start_of-from.ensures.start ∙ at, omega arith) in
           let never : ⊥ = cc (yes, w.if-is_within.false) in absurd never
       | else-ne w ↦ λ d at le. agree x c.args.line w.if-ne.ensures
     ] in
-    λ j lt. ⊎_elim
-    (λ (low : j < c.loop-other.other-index). c.loop-other.invariant j low)
-    (λ (high : c.loop-other.other-index ≤ j).
-    let same : j ≡ c.loop-other.other-index = omega arith in
-    subst P (is ∙ ap (λ (n : ℕ). get_or items n 0) (sym same)) here)
-    (cases_lt j c.loop-other.other-index)
+    below_more (λ j. P (get_or items j 0)) c.loop-other.other-index c.loop-other.invariant (subst P is here)
 
 pub returns : goal.returns
 returns g c =
@@ -46,7 +40,6 @@ returns g c =
           let there =
           entering M c.end_of-to.result.0 y items c.in_lines-other-items.ensures known
           (to ∙ sym c.end_of-to.ensures.end) in
-          let lt = there.1 in
           let both : ◌≡◌ {A = Option ℕ} (Some c.in-Some.dist) (Some dist) =
           c.in-Some.ensures ∙ ap (dist_at c.args.labels.now) c.end_of-to.ensures.end ∙ at in
           let same : c.in-Some.dist ≡ dist = cc in

@@ -13,7 +13,7 @@ returns-in-Ok c =
     (rw c.deref.ensures.value at c.in-Ok.ensures.position) in
     let here : c.index.result.now ≡ get_or own.labels.items c.in-Ok.at (0, None) =
     c.index.ensures ∙ get_or_default own.labels.items c.in-Ok.at c.index.result.now (0, None)
-    (let lt = slot.0 in let long = c.self.invariant.1 in omega arith) in
+    (omega arith) in
     let label =
     label_of_node own.source own.limit own.nodes.items own.labels.items c.self.invariant.0 c.self.invariant.1
     c.args.node c.in-Ok.at slot.0 slot.1 in
