@@ -4,16 +4,12 @@ ghost use Rattle.olr_spec.specs.Degrees.{are_digits, before_point, digits_value,
 ghost use Rattle.olr_spec.specs.Degrees.{degrees, read_degrees};
 ghost use Rattle.olr_coords.specs.Faults.{coord_fault_of};
 
+use crate::text::{GREATEST, STEP, STEPS};
+
 /// The greatest number of digits of the whole degrees.
 const WHOLE_DIGITS: usize = 3;
 /// The greatest number of digits in the fraction of a degree.
 const FRACTION_DIGITS: usize = 7;
-/// The number of finest steps, of 10^-7 degree, in a degree.
-const STEPS: u64 = 10_000_000;
-/// A finest step, 10^-7 degree, in units.
-const STEP: u64 = 32_768;
-/// The greatest coordinate that is read, 180 degrees, in units; the least is its negative.
-const GREATEST: i64 = 58_982_400_000_000;
 
 /// Why a text is not read as degrees.
 #[derive(Clone, Copy, Debug, PartialEq, Eq, thiserror::Error)]

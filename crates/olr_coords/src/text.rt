@@ -9,11 +9,11 @@ use std::alloc::AllocError;
 /// The greatest number of digits in the fraction of a degree.
 const FRACTION_DIGITS: u32 = 7;
 /// The number of finest steps, of 10^-7 degree, in a degree.
-const STEPS: u64 = 10_000_000;
+pub(crate) const STEPS: u64 = 10_000_000;
 /// A finest step, 10^-7 degree, in units.
-const STEP: u64 = 32_768;
-/// The greatest coordinate that is written, 180 degrees, in units; the least is its negative.
-const GREATEST: i64 = 58_982_400_000_000;
+pub(crate) const STEP: u64 = 32_768;
+/// The greatest coordinate that is read or written, 180 degrees, in units; the least is its negative.
+pub(crate) const GREATEST: i64 = 58_982_400_000_000;
 
 /// Whether a coordinate, in units, can be written in degrees: it is a whole number of 10^-7 degrees, at most 180
 /// degrees either way.

@@ -3,18 +3,10 @@ use Rattle.olr_coords.proofs.DigitLemmas.{few-digits, digits-lt}
 use Rattle.olr_coords.proofs.degrees.number.Goals as goal
 
 pub overflow_mul-value : goal.overflow_mul-value
-overflow_mul-value c =
-    let few : length c.args.digits.now ≤ 7 = omega arith in
-    let small = few-digits c.args.digits.now c.loop-byte.byte-index c.loop-byte.invariant.digits few in
-    omega (arith, c.loop-byte.invariant.value)
+overflow_mul-value c = grind (arith, few-digits)
 
 pub overflow_add-value : goal.overflow_add-value
-overflow_add-value c =
-    let few : length c.args.digits.now ≤ 7 = omega arith in
-    let small = few-digits c.args.digits.now c.loop-byte.byte-index c.loop-byte.invariant.digits few in
-    omega (arith, c.loop-byte.invariant.value)
+overflow_add-value c = grind (arith, few-digits)
 
 pub returns-clause-bound : goal.returns-clause-bound
-returns-clause-bound c =
-    rw c.loop-byte.invariant.value
-    (digits-lt c.args.digits.now c.loop-byte.byte-index c.loop-byte.invariant.digits (omega arith))
+returns-clause-bound c = grind (arith, digits-lt)

@@ -5,14 +5,7 @@ use Rattle.olr_coords.proofs.DegreesTextLemmas.{decimals-end, point-first}
 use Rattle.olr_coords.proofs.text.push_fraction.Goals as goal
 
 pub returns-then-fraction-eq0 : goal.returns-then-fraction-eq0
-returns-then-fraction-eq0 c =
-    sym (append-nil c.args.text.now.items)
-    ∙ ap (λ (ds : List ℕ). c.args.text.now.items ++ after_point ds) (sym (decimals-end 7 c.args.fraction (omega arith)))
+returns-then-fraction-eq0 c = grind (arith, append-nil, decimals-end)
 
 pub returns : goal.returns
-returns c =
-    let old : List ℕ = c.args.text.now.items in
-    let ds : List ℕ = decimals 7 c.args.fraction in
-    let first = point-first c.args.fraction c.requires (omega arith) in
-    rw first
-    (rw (sym (append_assoc old (46 ∷ []) ds)) (rw (sym c.in_ok-push.ensures.items) c.push_decimals.ensures))
+returns c = grind (arith, append_assoc, point-first)
