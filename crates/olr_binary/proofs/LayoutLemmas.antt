@@ -1,8 +1,9 @@
 -- The indices of the parts of a reference.
 use Rattle.std.proofs.Common.{◌≡◌, ℕ, zero, suc, ◌+◌, ◌-◌, ◌*◌, ◌/◌, ◌<◌, ◌≤◌, Bool, true, false, not, ◌||◌, ◌==◌}
 use Rattle.std.proofs.Common.{nat_lt, if◌then◌else◌, List, length, Some, None, nat_le, slice_index, refl, sym, subst}
-use Rattle.std.proofs.Common.{◌∙◌, arith, add-zero}
+use Rattle.std.proofs.Common.{◌∙◌, arith, add-zero, take, drop}
 use Rattle.std.specs.List.{list_any}
+use Rattle.std.proofs.lemmas.List.{get_or-take, get_or-drop}
 use Rattle.std.proofs.lemmas.Bool.{or_parts, leb-false, eqb-true}
 use Rattle.std.proofs.lemmas.Bool.Decides.{nat_tests}
 use Rattle.olr_spec.specs.Bytes.{Length, Status, Flags, Reserved, status_byte, bit, extra, flags_of, attribute1_bytes}
@@ -76,10 +77,16 @@ no_fault b e =
 -- indices of attribute bytes
 module _ (b : List ℕ) (m o : ℕ) (w : IsLayout b m o) (e : v3_fault b ≡ None) where
   -- attribute byte 1 of LRP k, of all LRPs
-  pub low_attribute1 : (k : ℕ) → k < m + 2 → slice_index b (7 + 7 * k) < 64
+  low_attribute1 : (k : ℕ) → k < m + 2 → slice_index b (7 + 7 * k) < 64
   low_attribute1 k within =
       let none = (or_parts (some_reserved b 7 (m + 2)) _ (sym (has_reserved_is b m o w) ∙ (no_fault b e).reserved)).0 in
       some_reserved_at b 7 (m + 2) none k within
+
+  -- and read in the bytes from j on, those of an LRP
+  pub low_at : (k j n : ℕ) → k < m + 2 → 7 + 7 * k ≡ j + 4 → 4 < n → slice_index (take n (drop j b)) 4 < 64
+  low_at k j n within place short =
+      subst (λ (z : ℕ). z < 64) (sym (get_or-take n (drop j b) 4 0 short ∙ get_or-drop j b 4 0))
+      (subst (λ (i : ℕ). slice_index b i < 64) place (low_attribute1 k within))
 
   pub status-is : slice_index b 0 ≡ status_byte
   status-is = (no_fault b e).state

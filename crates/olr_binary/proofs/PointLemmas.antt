@@ -1,7 +1,7 @@
 -- LRPs decoded from their bytes.
 use Rattle.std.proofs.Common.{◌≡◌, ℕ, zero, suc, ◌+◌, ◌<◌, ◌≤◌, ◌*◌, List, [], ◌∷◌, ◌++◌, length, drop, slice_index}
 use Rattle.std.proofs.Common.{slice_range, refl, sym, ap, ◌∙◌, arith}
-use Rattle.std.specs.List.{AllByRecursion, flat_map}
+use Rattle.std.specs.List.{flat_map}
 use Rattle.std.proofs.Math.Seq.{drop-cons}
 use Rattle.std.proofs.lemmas.List.Concat.{flat_map-append}
 use Rattle.std.proofs.lemmas.List.{drop_all}
@@ -23,11 +23,6 @@ first_bytes-parts p bs nine lon lat attrs = (λ i. lon i ++ lat i ++ attrs i) �
 pub middle_bytes-parts : (p : Middle) (bs : List ℕ) → length bs ≡ 7 → signed16 p.dlon ≡ part 0 2 bs →
     signed16 p.dlat ≡ part 2 2 bs → attr_bytes p.attrs ≡ part 4 3 bs → middle_bytes p ≡ bs
 middle_bytes-parts p bs seven lon lat attrs = (λ i. lon i ++ lat i ++ attrs i) ∙ part-drop 0 7 bs seven
-
-pub AllByRecursion-push : {X : Type 0} (P : X → Type 0) (xs : List X) (x : X) → AllByRecursion P xs → P x →
-    AllByRecursion P (xs ++ x ∷ [])
-AllByRecursion-push P [] x all p = (p, tt)
-AllByRecursion-push P (y ∷ ys) x all p = (all.0, AllByRecursion-push P ys x all.1 p)
 
 -- one more LRP between the first and the last
 pub flat_map-push : (b : List ℕ) (i : ℕ) (ps : List Middle) (p : Middle) →
