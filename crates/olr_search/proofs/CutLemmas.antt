@@ -5,10 +5,9 @@ use Rattle.std.specs.Prelude.{⊤, max}
 use Rattle.std.proofs.lemmas.Bool.{cases_lt}
 use Rattle.olr_spec.specs.Map.{Map, has_node, has_line, dm}
 use Rattle.olr_spec.specs.Routes.{dm_of}
-use Rattle.olr_search.specs.Bounds.{CutAt, IsCut}
 use Rattle.olr_search.specs.Distances.{Way, Leads, near_end, far_end}
 use Rattle.olr_search.specs.Frontiers.{label_of, frontier_len, IsQueued, Moves}
-use Rattle.olr_search.specs.Searches.{IsLabelled, IsUnderWay, IsSearch}
+use Rattle.olr_search.specs.Searches.{IsLabelled, IsUnderWay, IsSearch, CutAt, IsCut}
 use Rattle.olr_search.specs.declared.frontier.TheConstants.{GREATEST_LIMIT}
 use Rattle.olr_search.specs.declared.frontier.Frontier.{Frontier}
 use Rattle.olr_search.specs.declared.distances.Direction.{Direction}
@@ -30,8 +29,28 @@ module _ (M : Map) (slot : ℕ → ℕ) (direction : Direction) (from : List (�
     labelled = u.labelled;
     begun = u.begun;
     front = λ v known small. elim (u.front v known small) [
-      | inl closed ↦ inl (λ x line near lets. closed x line near)
+      | inl cut ↦ inl (λ x line near lets. cut x line near tt)
       | inr q ↦ inr q
+    ];
+  }
+
+  -- each label is that of before, and if its slot was queued it still is, or the lines from there are followed; or it is
+  -- new and queued
+  cut_next : (f g : Frontier) → IsLabelled M slot direction from g → ((p : ℕ) → label_of g p ≤ label_of f p)
+      → ((p : ℕ) → (label_of g p ≡ label_of f p) ⊎ IsQueued g (label_of g p) p)
+      → ((v : ℕ) → IsTrue (has_node M v) → IsQueued f (label_of f (slot v)) (slot v) →
+      CutAt M slot direction P g v (label_of f (slot v)) ⊎ IsQueued g (label_of f (slot v)) (slot v))
+      → IsCut M slot direction from P f → IsCut M slot direction from P g
+  cut_next f g labelled better fresh kept u = record {
+    labelled = labelled;
+    begun = λ s b listed there. let was = u.begun s b listed there in let le = better (slot s) in omega arith;
+    front = λ v known low. elim (fresh (slot v)) [
+      | inr q ↦ inr q
+      | inl is ↦ subst (λ (e : ℕ). CutAt M slot direction P g v e ⊎ IsQueued g e (slot v)) (sym is)
+          (elim (u.front v known (omega arith)) [
+            | inl cut ↦ inl (cut_better f g v (label_of f (slot v)) better cut)
+            | inr q ↦ kept v known q
+          ])
     ];
   }
 
@@ -39,17 +58,9 @@ module _ (M : Map) (slot : ℕ → ℕ) (direction : Direction) (from : List (�
   pub cut_same : (f g : Frontier) → ((p : ℕ) → label_of g p ≡ label_of f p) → frontier_len g ≡ frontier_len f →
       g.reached.items ≡ f.reached.items → ((q : ℕ) → IsQueued f (label_of f q) q → IsQueued g (label_of f q) q) →
       IsCut M slot direction from P f → IsCut M slot direction from P g
-  cut_same f g same len reached kept u = record {
-    labelled = labelled_same M slot direction from f g same len reached u.labelled;
-    begun = λ s b listed there. let was = u.begun s b listed there in let is = same (slot s) in omega arith;
-    front = λ v known small.
-        let is = same (slot v) in
-        subst (λ (e : ℕ). CutAt M slot direction P g v e ⊎ IsQueued g e (slot v)) (sym is)
-        (elim (u.front v known (omega arith)) [
-          | inl cut ↦ inl (cut_better f g v (label_of f (slot v)) (λ q. let s = same q in omega arith) cut)
-          | inr q ↦ inr (kept (slot v) q)
-        ]);
-  }
+  cut_same f g same len reached kept u =
+      cut_next f g (labelled_same M slot direction from f g same len reached u.labelled)
+      (λ p. let is = same p in omega arith) (λ p. inl (same p)) (λ v known q. inr (kept (slot v) q)) u
 
   -- the slot p is removed from the queue at its label d, and the lines from there are followed, up to h
   pub cut_more : (f g h : Frontier) (d p : ℕ) → Popped M slot direction from f g d p → label_of f p ≡ d
@@ -62,31 +73,15 @@ module _ (M : Map) (slot : ℕ → ℕ) (direction : Direction) (from : List (�
       let own = u.labelled.nodes p (omega arith) in
       let is : label_of f (slot own.0) ≡ d = ap (label_of f) own.2 ∙ at in
       let way = subst (λ (e : ℕ). Leads M direction from own.0 e) is (u.labelled.leads own.0 own.1 (omega arith)) in
-      record {
-        labelled =
-            labelled own.0 from own.1 own.2 way
-            (labelled_same M slot direction from f g k.same k.len k.reached u.labelled);
-        begun = λ s b listed there.
-            let was = u.begun s b listed there in
-            let same = k.same (slot s) in
-            let le = moves.better (slot s) in
-            omega arith;
-        front = λ v known low. elim (moves.fresh (slot v)) [
-          | inr q ↦ inr q
-          | inl kept ↦
-              let same = k.same (slot v) in
-              let is : label_of h (slot v) ≡ label_of f (slot v) = omega arith in
-              subst (λ (e : ℕ). CutAt M slot direction P h v e ⊎ IsQueued h e (slot v)) (sym is)
-              (elim (u.front v known (omega arith)) [
-                | inl c ↦ inl (cut_better f h v (label_of f (slot v))
-                    (λ q. let s = k.same q in let b = moves.better q in omega arith) c)
-                | inr q ↦ elim (k.others (label_of f (slot v)) (slot v) q) [
-                  | inl still ↦ inr (moves.kept (label_of f (slot v)) (slot v) still)
-                  | inr e ↦ inl (subst (CutAt M slot direction P h v) (sym e.0) (closed v known e.1))
-                ]
-              ])
-        ];
-      }
+      cut_next f h
+      (labelled own.0 from own.1 own.2 way
+      (labelled_same M slot direction from f g k.same k.len k.reached u.labelled))
+      (λ q. let same = k.same q in let le = moves.better q in omega arith)
+      (λ q. elim (moves.fresh q) [ inl kept ↦ inl (kept ∙ k.same q) | inr new ↦ inr new ])
+      (λ v known q. elim (k.others (label_of f (slot v)) (slot v) q) [
+        | inl still ↦ inr (moves.kept (label_of f (slot v)) (slot v) still)
+        | inr e ↦ inl (subst (CutAt M slot direction P h v) (sym e.0) (closed v known e.1))
+      ]) u
 
   -- nothing is left in the queue at a length that Q allows
   module _ (f : Frontier) (u : IsCut M slot direction from P f) (Q : ℕ → ℕ → Type 0)
@@ -115,14 +110,12 @@ module _ (M : Map) (slot : ℕ → ℕ) (direction : Direction) (from : List (�
       cut_by zero s b v lines size listed there way short = elim (way_ends M direction s v lines way) [
         | stays e none ↦ let le =
             u.begun s b listed there in subst (λ (w : ℕ). label_of f (slot w) ≤ b + dm_of M lines) e (omega arith)
-        | continues k ↦ let more = k.size in absurd (omega arith)
+        | continues k ↦ absurd (omega arith)
       ]
       cut_by (suc n) s b v lines size listed there way short = elim (way_ends M direction s v lines way) [
         | stays e none ↦ let le =
             u.begun s b listed there in subst (λ (w : ℕ). label_of f (slot w) ≤ b + dm_of M lines) e (omega arith)
         | continues k ↦
-            let more = k.size in
-            let long = k.long in
             let parts : b + dm_of M lines ≡ b + dm_of M k.front + dm M k.line = omega arith in
             let last : Q v (b + dm_of M k.front + dm M k.line) = subst (Q v) parts short in
             let low =
@@ -138,7 +131,6 @@ module _ (M : Map) (slot : ℕ → ℕ) (direction : Direction) (from : List (�
           let low =
           cut_by (length l.lines) l.source l.begun v l.lines (omega arith) l.listed l.there l.way
           (subst (Q v) (sym l.long) short) in
-          let long = l.long in
           omega arith
 
 -- the search s, in which every node may be labelled, is continued to a limit, up to the search t
@@ -148,17 +140,9 @@ pub settled_on_to : (M : Map) (slot : ℕ → ℕ) (direction : Direction) (from
     → ((p : ℕ) → label_of t.frontier p ≤ label_of s.frontier p) → t.limit ≡ max s.limit limit →
     IsSearch M slot direction from t
 settled_on_to M slot direction from s t limit h way u small far better is =
-    let was = h.small in
     record {
       way = way ∙ h.way;
-      under_way = record {
-        labelled = u.labelled;
-        begun = u.begun;
-        front = λ v known low. elim (u.front v known low) [
-          | inl cut ↦ inl (λ x line near. cut x line near tt)
-          | inr q ↦ inr q
-        ];
-      };
+      under_way = u;
       small = omega arith;
       settled = λ v d known le l. elim (cases_lt limit d) [
         | inl lt ↦ let low = h.settled v d known (omega arith) l in let less = better (slot v) in omega arith

@@ -54,7 +54,7 @@ pub popped_least : (xs ys : List Entry) (x : Entry) (d p : ℕ) → p < 2 ^ 32 �
     IsUpperBound entry_cmp x ys → Contains xs (record { 0 = queue_key d p }) → x.0 / 2 ^ 32 ≤ d
 popped_least xs ys x d p small perm top w = elim (popped_others xs ys x d p small perm w) [
   | inl h ↦ let le = low_from_greatest x ys top (record { 0 = queue_key d p }) h in omega arith
-  | inr is ↦ let same = is.0 in omega arith
+  | inr is ↦ omega arith
 ]
 
 pub pushed_kept : {X : Type 0} → (xs ys : List X) (x y : X) → IsPermutation (x ∷ xs) ys → Contains xs y → Contains ys y

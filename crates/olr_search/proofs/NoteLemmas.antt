@@ -28,7 +28,7 @@ noted_more table old new label r (inr h) noted p none =
 
 not_there : (table : List ℕ) (old new : List Reached) (r : Reached) (label p : ℕ) → NotesOnce old new label r →
     ((x : Reached) → Contains new x → x.slot ≢ p) → p ≡ r.slot → label ≡ UNREACHED → ⊥
-not_there table old new r label p (inl h) none is no_label = let small = h.1 in absurd (omega arith)
+not_there table old new r label p (inl h) none is no_label = absurd (omega arith)
 not_there table old new r label p (inr h) none is no_label =
     none r (subst (λ (xs : List Reached). Contains xs r) (sym h.0) (Contains-append_right old (r ∷ []) r (first_one r)))
     (sym is)

@@ -1,9 +1,10 @@
 -- Routes, split at their last line.
 use Rattle.std.proofs.Common.{◌≡◌, ℕ, ◌+◌, List, [], ◌∷◌, ◌++◌, IsTrue, length, get_or, refl, sym, ap, ◌∙◌, subst, arith}
-use Rattle.std.proofs.Common.{length-append}
+use Rattle.std.proofs.Common.{length-append, ◌≢◌, ◌≤◌, inl, inr}
+use Rattle.std.proofs.lemmas.Bool.{cases_eq, cases_lt}
 use Rattle.std.proofs.lemmas.List.{get_or_push}
 use Rattle.olr_spec.specs.Map.{Map, has_line, start, end, dm}
-use Rattle.olr_spec.specs.Routes.{IsRoute, dm_of}
+use Rattle.olr_spec.specs.Routes.{IsRoute, dm_of, UniqueShortest}
 use Rattle.olr_spec.proofs.RouteLemmas.{dm_of-append, IsRoute-append, IsRoute-split}
 
 pub same_last : (xs ys : List ℕ) (x y : ℕ) → xs ++ x ∷ [] ≡ ys ++ y ∷ [] → x ≡ y
@@ -43,3 +44,47 @@ pub last_step : (M : Map) (s t x : ℕ) (xs : List ℕ) → IsRoute M s t (xs ++
 last_step M s t x xs w =
     let r = IsRoute-split M s t xs (x ∷ []) w in
     record { front = subst (λ (v : ℕ). IsRoute M s v xs) (sym r.2.1) r.1; known = r.2.0; to = r.2.2 }
+
+-- ---- a line x after the unique shortest route to its start
+
+module _ (M : Map) (s x : ℕ) (route : List ℕ) where
+  -- by no other line is there a route to the end of x that is as short
+  abbrev pub IsAlone : Type 0
+  IsAlone =
+      (y : ℕ) (front : List ℕ) → IsTrue (has_line M y) → end M y ≡ end M x → IsRoute M s (start M y) front →
+      dm_of M front + dm M y ≤ dm_of M route + dm M x → y ≡ x
+
+  pub unique_on : IsTrue (has_line M x) → UniqueShortest M s (start M x) route → s ≢ end M x → IsAlone →
+      UniqueShortest M s (end M x) (route ++ x ∷ [])
+  unique_on line unique apart alone = record {
+    route = route_on M s x route unique.route line;
+    others = λ ys w ne. elim (ends_of ys) [
+      | empty none ↦ absurd (apart (subst (λ (zs : List ℕ). IsRoute M s (end M x) zs) none w))
+      | ended front z is ↦
+          let step = last_step M s (end M x) z front (subst (λ (zs : List ℕ). IsRoute M s (end M x) zs) is w) in
+          let total = dm_of-line M route x in
+          let parts : dm_of M ys ≡ dm_of M front + dm M z = ap (dm_of M) is ∙ dm_of-line M front z in
+          elim (cases_lt (dm_of M route + dm M x) (dm_of M ys)) [
+            | inl far ↦ omega arith
+            | inr near ↦
+                let same : z ≡ x = alone z front step.known step.to step.front (omega arith) in
+                let each : dm M z ≡ dm M x = ap (dm M) same in
+                let less =
+                unique.others front (subst (λ (n : ℕ). IsRoute M s (start M n) front) same step.front)
+                (λ e. ne (is ∙ ap (λ (zs : List ℕ). zs ++ z ∷ []) e ∙ ap (λ (n : ℕ). route ++ n ∷ []) same)) in
+                absurd (omega arith)
+          ]
+    ];
+  }
+
+  -- and only then
+  pub unique_alone : UniqueShortest M s (end M x) (route ++ x ∷ []) → IsAlone
+  unique_alone whole y front known to w le = elim (cases_eq y x) [
+    | inl same ↦ same
+    | inr ne ↦
+        let far =
+        whole.others (front ++ y ∷ [])
+        (subst (λ (v : ℕ). IsRoute M s v (front ++ y ∷ [])) to (route_on M s y front w known))
+        (λ e. ne (same_last front route y x e)) in
+        absurd (omega (arith, dm_of-line M route x, dm_of-line M front y))
+  ]

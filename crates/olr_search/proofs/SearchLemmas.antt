@@ -1,18 +1,18 @@
 -- The invariants of a search that can be continued.
-use Rattle.std.proofs.Common.{◌≡◌, ◌==◌, ℕ, ◌+◌, ◌<◌, ◌≤◌, ◌⊎◌, List, [], ◌∷◌, Contains, IsTrue, length}
-use Rattle.std.proofs.Common.{get_or, map, refl, sym, ap, ◌∙◌, subst, inl, inr, arith}
+use Rattle.std.proofs.Common.{◌≡◌, ◌≢◌, ℕ, ◌+◌, ◌<◌, ◌≤◌, ◌⊎◌, List, [], ◌∷◌, Contains, IsTrue, length}
+use Rattle.std.proofs.Common.{get_or, refl, sym, ap, ◌∙◌, subst, inl, inr, arith}
 use Rattle.std.specs.Prelude.{sum}
 use Rattle.std.proofs.Math.ListN.{set}
-use Rattle.std.specs.List.{IsDistinct}
+use Rattle.std.proofs.lemmas.List.Quantifiers.{all_pairs_push}
 use Rattle.std.proofs.lemmas.Bool.{cases_eq, cases_lt}
 use Rattle.std.proofs.lemmas.List.{get_or-set_same, get_or-set_other}
-use Rattle.std.proofs.lemmas.List.Elements.{Contains-append_cases}
+use Rattle.std.proofs.lemmas.List.Elements.{Contains-append_cases, Contains-get_or}
 use Rattle.std.proofs.lemmas.List.Sums.{sum_by-set}
 use Rattle.olr_spec.specs.Map.{Map, IsMap, has_node}
 use Rattle.olr_spec.proofs.RouteLemmas.{positive}
 use Rattle.olr_spec.proofs.ListLemmas.{Contains-one}
 use Rattle.olr_search.specs.Distances.{Leads, IsDistance}
-use Rattle.olr_search.specs.Notes.{label_in, NotesOnce}
+use Rattle.olr_search.specs.Notes.{label_in, NotesOnce, AreApart}
 use Rattle.olr_search.specs.Frontiers.{label_of, frontier_len, queued_len, IsQueued, IsEmpty, IsRelaxed, NotedOnce}
 use Rattle.olr_search.specs.Frontiers.{Moves}
 use Rattle.olr_search.specs.Searches.{CoversSlots, IsLabelledAt, IsLabelled, IsUnderWay, IsSearch, LiesWithin}
@@ -23,7 +23,7 @@ use Rattle.olr_search.specs.declared.frontier.Reached.{Reached}
 use Rattle.olr_search.specs.declared.frontier.Frontier.{Frontier}
 use Rattle.olr_search.specs.declared.distances.Direction.{Direction}
 use Rattle.olr_search.specs.declared.distances.Dijkstra.{Dijkstra}
-use Rattle.olr_search.proofs.DistinctLemmas.{distinct_more, distinct_none, found_slot}
+use Rattle.olr_search.proofs.DistinctLemmas.{found_slot}
 use Rattle.olr_search.proofs.WayLemmas.{way_ends, leads_node}
 use Rattle.olr_search.proofs.WayLemmas.WayEnds.{stays, continues}
 
@@ -43,8 +43,8 @@ put_by f g v p d label table within was lt once there kept len more =
       waits = inr (subst (λ (n : ℕ). IsQueued g n p) (sym here) there);
       kept = kept;
       noted = elim once [
-        | inl h ↦ let small = h.1 in inl (h.0, λ _. omega arith)
-        | inr h ↦ let none = h.1 in inr (h.0, omega arith, omega arith)
+        | inl h ↦ inl (h.0, λ _. omega arith)
+        | inr h ↦ inr (h.0, omega arith, omega arith)
       ];
       len = len;
       less =
@@ -73,39 +73,36 @@ moves_then f g h m n = record {
   ];
   kept = λ e q w. n.kept e q (m.kept e q w);
   len = n.len ∙ m.len;
-  less = let a = m.less in let b = n.less in omega arith;
+  less = omega arith;
 }
 
 module _ (M : Map) (slot : ℕ → ℕ) (direction : Direction) (from : List (ℕ × ℕ)) where
   -- the length of a route is written as a label at its node
   module _ (f g : Frontier) (v p d : ℕ) (k : IsRelaxed f g v p d) (there : IsTrue (has_node M v)) (at : slot v ≡ p)
       (way : Leads M direction from v d) (l : IsLabelled M slot direction from f) where
+    -- each label is that of before, or the new one
+    put_cases : (q : ℕ) → (label_of g q ≡ label_of f q) ⊎ ((label_of g q ≡ d) × (q ≡ p))
+    put_cases q = elim (cases_eq q p) [
+      | inr ne ↦ inl (k.others q ne)
+      | inl is ↦
+          let same : label_of g q ≡ label_of g p = ap (label_of g) is in
+          let was : label_of f q ≡ label_of f p = ap (label_of f) is in
+          elim (cases_lt d (label_of f p)) [ inl lt ↦ inr (omega (arith, k.here), is) | inr ge ↦ inl (omega (arith, k.here)) ]
+    ]
+
     put_leads : (w : ℕ) → IsTrue (has_node M w) → label_of g (slot w) ≤ GREATEST_LIMIT →
         Leads M direction from w (label_of g (slot w))
-    put_leads w known small = elim (cases_eq (slot w) p) [
-      | inr ne ↦
-          let same = k.others (slot w) ne in
-          subst (λ (e : ℕ). Leads M direction from w e) (sym same) (l.leads w known (omega arith))
-      | inl is ↦
-          let own : w ≡ v = l.own w v known there (is ∙ sym at) in
-          let here : label_of g (slot w) ≡ label_of g p = ap (label_of g) is in
-          let was : label_of f (slot w) ≡ label_of f p = ap (label_of f) is in
-          let least = k.here in
-          elim (cases_lt d (label_of f p)) [
-            | inl lt ↦
-                let new : d ≡ label_of g (slot w) = omega arith in
-                subst (λ (e : ℕ). Leads M direction from w e) new
-                (subst (λ (u : ℕ). Leads M direction from u d) (sym own) way)
-            | inr ge ↦
-                let old : label_of f (slot w) ≡ label_of g (slot w) = omega arith in
-                subst (λ (e : ℕ). Leads M direction from w e) old (l.leads w known (omega arith))
-          ]
+    put_leads w known small = elim (put_cases (slot w)) [
+      | inl same ↦ subst (λ (e : ℕ). Leads M direction from w e) (sym same) (l.leads w known (omega arith))
+      | inr new ↦
+          let own : w ≡ v = l.own w v known there (new.1 ∙ sym at) in
+          coe 1 0 (i. Leads M direction from (own i) (new.0 i)) way
     ]
 
     put_nodes : (q : ℕ) → label_of g q ≤ GREATEST_LIMIT → (w : ℕ) × IsTrue (has_node M w) × (slot w ≡ q)
-    put_nodes q small = elim (cases_eq q p) [
-      | inl is ↦ (v, there, at ∙ sym is)
-      | inr ne ↦ let same = k.others q ne in l.nodes q (omega arith)
+    put_nodes q small = elim (put_cases q) [
+      | inl same ↦ l.nodes q (omega arith)
+      | inr new ↦ (v, there, at ∙ sym new.1)
     ]
 
     kept_listed : (r : Reached) → IsLabelledAt M slot f r → IsLabelledAt M slot g r
@@ -121,28 +118,23 @@ module _ (M : Map) (slot : ℕ → ℕ) (direction : Direction) (from : List (�
           | inr new ↦
               let is : r ≡ record { node = v; slot = p } = Contains-one (record { node = v; slot = p }) r new in
               let low = l.low p in
-              let less = h.2 in
               subst (IsLabelledAt M slot g) (sym is) (record { there = there; at = at; label = omega arith })
         ]
 
-    put_apart : NotedOnce f g v p → IsDistinct ◌==◌ (map (λ (r : Reached). r.node) g.reached.items)
-    put_apart (inl h) =
-        subst (λ (xs : List Reached). IsDistinct ◌==◌ (map (λ (r : Reached). r.node) xs)) (sym h.0) l.apart
-    put_apart (inr h) =
-        subst (λ (xs : List Reached). IsDistinct ◌==◌ (map (λ (r : Reached). r.node) xs)) (sym h.0)
-        (distinct_more f.reached.items (record { node = v; slot = p }) l.apart (λ r c same.
-        let x = l.listed r c in
-        let here : r.slot ≡ p = sym x.at ∙ ap slot same ∙ at in
-        let small = x.label in
-        let eq : label_of f r.slot ≡ label_of f p = ap (label_of f) here in
-        let none = h.1 in
-        absurd (omega arith)))
+    put_apart : NotedOnce f g v p → AreApart g.reached.items
+    put_apart (inl h) = subst AreApart (sym h.0) l.apart
+    put_apart (inr h) = subst AreApart (sym h.0) (all_pairs_push (λ (q r : Reached). q.node ≢ r.node) f.reached.items
+        (record { node = v; slot = p }) l.apart (λ k d lt same.
+        let r = get_or f.reached.items k d in
+        let x = l.listed r (Contains-get_or f.reached.items k d lt) in
+        let eq : label_of f r.slot ≡ label_of f p = ap (label_of f) (sym x.at ∙ ap slot same ∙ at) in
+        absurd (omega (arith, x.label, h.1))))
 
     pub put_labelled : IsLabelled M slot direction from g
     put_labelled = record {
       sound = l.sound;
       own = l.own;
-      room = λ w known. let was = l.room w known in let same = k.len in omega arith;
+      room = λ w known. let was = l.room w known in omega arith;
       low = λ q. let was = l.low q in let le = put_le f g v p d k q in omega arith;
       leads = put_leads;
       nodes = put_nodes;
@@ -162,8 +154,7 @@ module _ (M : Map) (slot : ℕ → ℕ) (direction : Direction) (from : List (�
     leads = λ v known small. let h = e.labels (slot v) in absurd (omega arith);
     nodes = λ p small. let h = e.labels p in absurd (omega arith);
     listed = λ r c. let lt = (subst (λ (xs : List Reached). Contains xs r) e.reached c).1 in absurd (omega arith);
-    apart =
-        subst (λ (xs : List Reached). IsDistinct ◌==◌ (map (λ (r : Reached). r.node) xs)) (sym e.reached) distinct_none;
+    apart = subst AreApart (sym e.reached) (λ i j d lt past. absurd (omega arith));
   }
 
   -- ---- the frontier
@@ -181,7 +172,7 @@ module _ (M : Map) (slot : ℕ → ℕ) (direction : Direction) (from : List (�
     nodes = λ p small. let is = same p in l.nodes p (omega arith);
     listed = λ r c. let was = l.listed r (subst (λ (xs : List Reached). Contains xs r) reached c) in let is =
         same r.slot in let label = was.label in record { there = was.there; at = was.at; label = omega arith };
-    apart = subst (λ (xs : List Reached). IsDistinct ◌==◌ (map (λ (r : Reached). r.node) xs)) (sym reached) l.apart;
+    apart = subst AreApart (sym reached) l.apart;
   }
 
   -- the lines of a removed entry are followed, or the label there is another one by now
@@ -191,21 +182,15 @@ module _ (M : Map) (slot : ℕ → ℕ) (direction : Direction) (from : List (�
     pub reached : g.reached.items ≡ f.reached.items
     pub others : (e q : ℕ) → IsQueued f e q → IsQueued g e q ⊎ ((e ≡ d) × (q ≡ p))
 
-  pub popped_by : (f g : Frontier) (d p : ℕ) → g.table.items ≡ f.table.items → frontier_len g ≡ frontier_len f →
-      g.reached.items ≡ f.reached.items → ((e q : ℕ) → IsQueued f e q → IsQueued g e q ⊎ ((e ≡ d) × (q ≡ p))) →
-      Popped f g d p
-  popped_by f g d p table len reached others =
-      record { same = λ q. ap (λ (t : List ℕ). label_in t q) table; len = len; reached = reached; others = others }
-
   -- ---- what is settled
 
   -- at first each route of length 0 stays where it begins
   pub settled_none : (f : Frontier) → IsUnderWay M slot direction from f → (v d : ℕ) → IsTrue (has_node M v) → d ≤ 0 →
       Leads M direction from v d → label_of f (slot v) ≤ d
-  settled_none f u v d known le l = let long = l.long in elim (way_ends M direction l.source v l.lines l.way) [
+  settled_none f u v d known le l = elim (way_ends M direction l.source v l.lines l.way) [
     | stays e none ↦ let low =
         u.begun l.source l.begun l.listed l.there in subst (λ (w : ℕ). label_of f (slot w) ≤ d) e (omega arith)
-    | continues k ↦ let some = positive M u.labelled.sound k.line k.known in let more = k.long in absurd (omega arith)
+    | continues k ↦ let some = positive M u.labelled.sound k.line k.known in absurd (omega arith)
   ]
 
   -- ---- what the labels say
@@ -230,7 +215,6 @@ module _ (M : Map) (slot : ℕ → ℕ) (direction : Direction) (from : List (�
     pub is_distance : (v : ℕ) → IsTrue (has_node M v) → label_of s.frontier (slot v) ≤ s.limit →
         IsDistance M direction from v (label_of s.frontier (slot v))
     is_distance v known le =
-        let small = h.small in
         record {
           leads = h.under_way.labelled.leads v known (omega arith);
           least = λ e l. elim (cases_lt s.limit e) [
@@ -249,7 +233,6 @@ module _ (M : Map) (slot : ℕ → ℕ) (direction : Direction) (from : List (�
     pub label_is : (v d : ℕ) → IsTrue (has_node M v) → IsDistance M direction from v d → d ≤ s.limit →
         label_of s.frontier (slot v) ≡ d
     label_is v d known x le =
-        let small = h.small in
         let low = h.settled v d known le x.leads in
         let high = x.least (label_of s.frontier (slot v)) (h.under_way.labelled.leads v known (omega arith)) in
         omega arith
@@ -263,16 +246,13 @@ module _ (M : Map) (slot : ℕ → ℕ) (direction : Direction) (from : List (�
     near_listed v near =
         let known = distance_node v near.0 near.1 in
         let is = label_is v near.0 known near.1 near.2 in
-        let le = near.2 in
-        let small = h.small in
         labelled_listed s.frontier h.under_way.labelled v known (omega arith)
 
     pub listed_reached : (r : Reached) → Contains s.frontier.reached.items r → IsReached M direction from r.node
         × (slot r.node ≡ r.slot)
     listed_reached r c =
         let x = h.under_way.labelled.listed r c in
-        let is : label_of s.frontier (slot r.node) ≡ label_of s.frontier r.slot = ap (label_of s.frontier) x.at in
-        let label = x.label in (
+        let is : label_of s.frontier (slot r.node) ≡ label_of s.frontier r.slot = ap (label_of s.frontier) x.at in (
           (label_of s.frontier (slot r.node), h.under_way.labelled.leads r.node x.there (omega arith), omega arith),
           x.at,
         )

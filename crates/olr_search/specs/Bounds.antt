@@ -3,21 +3,17 @@
 --     IsUnder B v d      v has a bound that is with d at most the greatest limit
 --     AreBounds M direction B      a line that leads under the greatest limit to a bound begins at one that is no
 --         greater than the length there
---     CutAt M slot direction P f v d      no line from v, where d, leads to a greater label, if P lets it
---     IsCut M slot direction from P f      each label is the length of a route, and closed where P lets it, or queued;
---         those where the search begins are included
 --     AreLengths M slot direction from s      each label is the length of a way
 --     label_at s p      the label at place p
-use Rattle.std.specs.Prelude.{◌≡◌, ℕ, ◌+◌, ◌≤◌, ◌⊎◌, List, Contains, Option, Some, IsTrue, nat_eq}
+use Rattle.std.specs.Prelude.{◌≡◌, ℕ, ◌+◌, ◌≤◌, List, Option, Some, IsTrue, nat_eq}
 use Rattle.std.specs.declared.hash.BuildHasherDefault.{BuildHasherDefault}
 use Rattle.std.specs.HashMap.{HashMap, get}
-use Rattle.olr_spec.specs.Map.{Map, has_node, has_line, dm}
+use Rattle.olr_spec.specs.Map.{Map, has_line, dm}
 use Rattle.olr_map.specs.declared.number_hash.NumberHasher.{NumberHasher}
 use Rattle.olr_search.specs.Distances.{near_end, far_end}
-use Rattle.olr_search.specs.Frontiers.{label_of, IsQueued}
+use Rattle.olr_search.specs.Frontiers.{label_of}
 use Rattle.olr_search.specs.Searches.{IsLabelled}
 use Rattle.olr_search.specs.declared.frontier.TheConstants.{GREATEST_LIMIT}
-use Rattle.olr_search.specs.declared.frontier.Frontier.{Frontier}
 use Rattle.olr_search.specs.declared.distances.Direction.{Direction}
 use Rattle.olr_search.specs.declared.distances.Dijkstra.{Dijkstra}
 
@@ -33,19 +29,6 @@ abbrev pub AreBounds : Map → Direction → (ℕ → Option ℕ) → Type 0
 AreBounds M direction B =
     (x b : ℕ) → IsTrue (has_line M x) → B (far_end M direction x) ≡ Some b → b + dm M x ≤ GREATEST_LIMIT →
     (c : ℕ) × (B (near_end M direction x) ≡ Some c) × (c ≤ b + dm M x)
-
-abbrev pub CutAt : Map → (ℕ → ℕ) → Direction → (ℕ → ℕ → Type 0) → Frontier → ℕ → ℕ → Type 0
-CutAt M slot direction P f v d =
-    (x : ℕ) → IsTrue (has_line M x) → near_end M direction x ≡ v → P (far_end M direction x) (d + dm M x) →
-    label_of f (slot (far_end M direction x)) ≤ d + dm M x
-
-pub record IsCut (M : Map) (slot : ℕ → ℕ) (direction : Direction) (from : List (ℕ × ℕ)) (P : ℕ → ℕ → Type 0)
-    (f : Frontier) : Type 0
-  where
-    pub labelled : IsLabelled M slot direction from f
-    pub begun : (s b : ℕ) → Contains from (s, b) → IsTrue (has_node M s) → label_of f (slot s) ≤ b
-    pub front : (v : ℕ) → IsTrue (has_node M v) → label_of f (slot v) ≤ GREATEST_LIMIT →
-        CutAt M slot direction P f v (label_of f (slot v)) ⊎ IsQueued f (label_of f (slot v)) (slot v)
 
 abbrev pub AreLengths : Map → (ℕ → ℕ) → Direction → List (ℕ × ℕ) → Dijkstra → Type 0
 AreLengths M slot direction from s = IsLabelled M slot direction from s.frontier

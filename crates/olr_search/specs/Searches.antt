@@ -6,16 +6,18 @@
 --     IsReached M direction from v      a route of at most the greatest limit leads to v
 --     Counts M direction from limit n      n nodes have a distance of at most the limit
 --     IsOnlyPredecessor M slot f x v length      no line but x leads to v within the length
---     ClosedAt M slot direction f v d      each line from v, at the distance d, leads to a label of at most d plus its
---         length
+--     CutAt M slot direction P f v d      each line from v, at the distance d, leads to a label of at most d plus its
+--         length, if P lets its end be labelled with that
 --     IsLabelled M slot direction from f      each label is the length of a route, and the list has the labelled
 --         nodes
---     IsUnderWay M slot direction from f      and each label is closed or queued, those where the search begins
---         included
-use Rattle.std.specs.Prelude.{◌≡◌, ◌==◌, ℕ, ◌+◌, ◌<◌, ◌≤◌, ◌⊎◌, ◌↔◌, List, Contains, IsTrue, length, map}
+--     IsCut M slot direction from P f      and the lines from each label are followed as far as P lets them, or it is
+--         queued; those where the search begins have labels
+--     IsUnderWay M slot direction from f      so where P lets all
+use Rattle.std.specs.Prelude.{◌≡◌, ◌==◌, ℕ, ◌+◌, ◌<◌, ◌≤◌, ◌⊎◌, ◌↔◌, List, Contains, IsTrue, length, ⊤}
 use Rattle.std.specs.List.{IsDistinct}
 use Rattle.olr_spec.specs.Map.{Map, IsMap, has_node, has_line, start, end, dm}
 use Rattle.olr_search.specs.Distances.{Leads, IsDistance, near_end, far_end}
+use Rattle.olr_search.specs.Notes.{AreApart}
 use Rattle.olr_search.specs.Frontiers.{label_of, frontier_len, IsQueued}
 use Rattle.olr_search.specs.declared.frontier.TheConstants.{GREATEST_LIMIT}
 use Rattle.olr_search.specs.declared.frontier.TheConstants.{UNREACHED}
@@ -27,9 +29,9 @@ use Rattle.olr_search.specs.declared.distances.Dijkstra.{Dijkstra}
 abbrev pub limit_of : Dijkstra → ℕ
 limit_of s = s.limit
 
-abbrev pub ClosedAt : Map → (ℕ → ℕ) → Direction → Frontier → ℕ → ℕ → Type 0
-ClosedAt M slot direction f v d =
-    (x : ℕ) → IsTrue (has_line M x) → near_end M direction x ≡ v →
+abbrev pub CutAt : Map → (ℕ → ℕ) → Direction → (ℕ → ℕ → Type 0) → Frontier → ℕ → ℕ → Type 0
+CutAt M slot direction P f v d =
+    (x : ℕ) → IsTrue (has_line M x) → near_end M direction x ≡ v → P (far_end M direction x) (d + dm M x) →
     label_of f (slot (far_end M direction x)) ≤ d + dm M x
 
 -- the table has the slot of each node
@@ -52,14 +54,18 @@ pub record IsLabelled (M : Map) (slot : ℕ → ℕ) (direction : Direction) (fr
         Leads M direction from v (label_of f (slot v))
     pub nodes : (p : ℕ) → label_of f p ≤ GREATEST_LIMIT → (v : ℕ) × IsTrue (has_node M v) × (slot v ≡ p)
     pub listed : (r : Reached) → Contains f.reached.items r → IsLabelledAt M slot f r
-    pub apart : IsDistinct ◌==◌ (map (λ (r : Reached). r.node) f.reached.items)
+    pub apart : AreApart f.reached.items
 
-pub record IsUnderWay (M : Map) (slot : ℕ → ℕ) (direction : Direction) (from : List (ℕ × ℕ)) (f : Frontier) : Type 0
+pub record IsCut (M : Map) (slot : ℕ → ℕ) (direction : Direction) (from : List (ℕ × ℕ)) (P : ℕ → ℕ → Type 0)
+    (f : Frontier) : Type 0
   where
     pub labelled : IsLabelled M slot direction from f
     pub begun : (s b : ℕ) → Contains from (s, b) → IsTrue (has_node M s) → label_of f (slot s) ≤ b
     pub front : (v : ℕ) → IsTrue (has_node M v) → label_of f (slot v) ≤ GREATEST_LIMIT →
-        ClosedAt M slot direction f v (label_of f (slot v)) ⊎ IsQueued f (label_of f (slot v)) (slot v)
+        CutAt M slot direction P f v (label_of f (slot v)) ⊎ IsQueued f (label_of f (slot v)) (slot v)
+
+abbrev pub IsUnderWay : Map → (ℕ → ℕ) → Direction → List (ℕ × ℕ) → Frontier → Type 0
+IsUnderWay M slot direction from f = IsCut M slot direction from (λ _ _. ⊤) f
 
 pub record IsSearch (M : Map) (slot : ℕ → ℕ) (direction : Direction) (from : List (ℕ × ℕ)) (s : Dijkstra) : Type 0 where
   pub way : s.direction ≡ direction

@@ -162,6 +162,7 @@ impl Dijkstra {
 
     /// The nodes that the search has labelled, each once, with their slots: those within the limit to which it is
     /// settled, and some beyond it, up to `GREATEST_LIMIT`. In no particular order.
+    #[tactic(auto, using(crate::proofs::DistinctLemmas::numbers_distinct))]
     pub fn labelled_nodes(&self) -> &[Reached]
         ensures near { (M : Map) (node_slot : ℕ → ℕ) (direction : _) (from : List (ℕ × ℕ)) (v : ℕ)
             → IsSearch M node_slot direction from self.now → LiesWithin M direction from (limit_of self.now) v

@@ -4,8 +4,7 @@ ghost use Rattle.std.specs.Prelude.{◌≡◌, ◌≤◌, ◌<◌, ℕ, List, Co
 ghost use Rattle.olr_spec.specs.Map.{Map, has_node};
 ghost use Rattle.olr_search.specs.Distances.{Leads, ends_at};
 ghost use Rattle.olr_search.specs.Frontiers.{Moves, IsQueued, label_of, frontier_len};
-ghost use Rattle.olr_search.specs.Searches.{CoversSlots, IsLabelled, IsUnderWay};
-ghost use Rattle.olr_search.specs.Bounds.{CutAt, IsCut};
+ghost use Rattle.olr_search.specs.Searches.{CoversSlots, IsLabelled, IsUnderWay, CutAt, IsCut};
 
 use crate::bounds::{Admits, Anywhere};
 use crate::distances::Direction;

@@ -24,7 +24,6 @@ pub overflow_add-dist : goal.overflow_add-dist
 overflow_add-dist g c =
     let e = line g (goal.at.overflow_add-dist g c).After-end-item in
     let short = line_short (g.M.MapRead.map c.args.map.now) (g.met.M.MapRead.sound c.args.map.now) e.line e.known in
-    let len = e.len in
     omega arith
 
 pub label_node-requires : goal.label_node-requires
@@ -33,8 +32,6 @@ label_node-requires g c =
     let e = line g (goal.at.label_node-requires g c).After-end-item in
     let m = g.met.M.MapRead.sound c.args.map.now in
     let room = c.requires.room (far_end M c.args.direction e.line) (far_node M m c.args.direction e.line e.known) in
-    let same = c.loop-end.invariant.moves.len in
-    let at = e.there in
     omega arith
 
 pub loop-end-preserved : goal.loop-end-preserved
@@ -77,7 +74,6 @@ returns-clause-closed g c = λ v known at x line near under.
     let k =
     has_end M (g.M.MapRead.node_slot c.args.map.now) d v x c.ends_from-end-items.result.now
     (c.ends_from-end-items.ensures v known at) line near in
-    let len = k.len in
     let low =
     c.loop-end.invariant.followed k.index (omega arith)
     (coe 1 0 (i. g.A.Admits.lets c.args.admits.now (k.node i) (c.args.dist + k.len i)) under) in

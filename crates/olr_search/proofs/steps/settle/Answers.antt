@@ -1,7 +1,6 @@
 use Rattle.std.proofs.Common.{◌≡◌, ℕ, List, sym, ap, ◌∙◌, inl, inr, arith}
 use Rattle.olr_search.specs.Notes.{label_in}
 use Rattle.olr_search.specs.Frontiers.{label_of}
-use Rattle.olr_search.proofs.SearchLemmas.{popped_by}
 use Rattle.olr_search.proofs.CutLemmas.{cut_begun, cut_same, cut_more}
 use Rattle.olr_search.proofs.steps.settle.Goals as goal
 
@@ -18,18 +17,13 @@ follow-requires-clause-node g c =
     let u = c.loop-next.invariant.cut c.requires.begun.0 c.requires.begun.1 in
     let is : label_of c.pop_within.new.self p ≡ label_of c.loop-next.frontier p =
     ap (λ (t : List ℕ). label_in t p) c.in-Some.ensures.table in
-    let at = c.if-label-dist.true in
-    let label = c.label.ensures in
-    let within = c.in-Some.ensures.within in
-    let small = c.requires.small in
-    u.labelled.nodes p (omega arith)
+    u.labelled.nodes p (omega (arith, c.in-Some.ensures.within))
 
 pub follow-requires-clause-room : goal.follow-requires-clause-room
 follow-requires-clause-room g c = λ v known.
     let u = c.loop-next.invariant.cut c.requires.begun.0 c.requires.begun.1 in
     let was = u.labelled.room v known in
-    let same = c.in-Some.ensures.room in
-    omega arith
+    omega (arith, c.in-Some.ensures.room)
 
 pub loop-next-preserved-in-Continue-1 : goal.loop-next-preserved-in-Continue-1
 loop-next-preserved-in-Continue-1 g c =
@@ -40,18 +34,18 @@ loop-next-preserved-in-Continue-1 g c =
     let same : (q : ℕ) → label_of c.pop_within.new.self q ≡ label_of f q =
     λ q. ap (λ (t : List ℕ). label_in t q) c.in-Some.ensures.table in
     let is = same p in
-    let at = c.if-label-dist.true in
-    let label = c.label.ensures in
-    let within = c.in-Some.ensures.within in
-    let small = c.requires.small in
     let e = c.in_ok-follow.ensures in
     record {
       cut = λ from u.
           cut_more M slot c.args.direction from (g.A.Admits.lets c.args.admits.now) f c.pop_within.new.self
           c.follow.new.frontier c.in-Some.next.0 p
-          (popped_by M slot c.args.direction from f c.pop_within.new.self c.in-Some.next.0 p
-          c.in-Some.ensures.table c.in-Some.ensures.room c.in-Some.ensures.reached c.in-Some.ensures.others)
-          (omega arith) (omega arith) e.moves e.labelled e.closed (c.loop-next.invariant.cut from u);
+          (record {
+            same = same;
+            len = c.in-Some.ensures.room;
+            reached = c.in-Some.ensures.reached;
+            others = c.in-Some.ensures.others;
+          })
+          (omega arith) (omega (arith, c.in-Some.ensures.within)) e.moves e.labelled e.closed (c.loop-next.invariant.cut from u);
       better = λ q.
           let k = same q in
           let a = e.moves.better q in
@@ -75,7 +69,6 @@ loop-next-preserved g c =
             | inr h ↦
                 let was : label_of f p ≡ c.in-Some.next.0 = ap (label_of f) (sym h.1) ∙ h.0 in
                 let is = same p in
-                let label = c.label.ensures in
                 absurd (c.if-label-dist.false (omega arith))
           ]) (c.loop-next.invariant.cut from u);
       better = λ q. let k = same q in let b = c.loop-next.invariant.better q in omega arith;

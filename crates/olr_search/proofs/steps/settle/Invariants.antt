@@ -1,7 +1,6 @@
 use Rattle.std.proofs.Common.{◌≤◌, ℕ, List}
-use Rattle.olr_search.specs.Bounds.{IsCut}
 use Rattle.olr_search.specs.Frontiers.{to_do, label_of}
-use Rattle.olr_search.specs.Searches.{IsUnderWay}
+use Rattle.olr_search.specs.Searches.{IsUnderWay, IsCut}
 use Rattle.olr_search.proofs.steps.settle.Given as goal
 
 abbrev pub invariant-loop-next : goal.invariant-loop-next

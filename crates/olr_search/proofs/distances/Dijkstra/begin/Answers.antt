@@ -1,5 +1,5 @@
 use Rattle.std.proofs.Common.{◌≡◌, ◌≤◌, ℕ, IsTrue, get_or, sym, ap, subst, ◌∙◌, refl, inl, inr, arith}
-use Rattle.std.proofs.lemmas.Bool.{cases_lt}
+use borrow.Author.Count.{below_more}
 use Rattle.std.proofs.lemmas.List.{get_or_default}
 use Rattle.olr_spec.specs.Map.{has_node}
 use Rattle.olr_search.specs.Frontiers.{label_of, IsQueued}
@@ -16,7 +16,7 @@ loop-begin-init g c =
       labelled =
           empty_labelled (g.M.MapRead.map c.args.map.now) (g.M.MapRead.node_slot c.args.map.now) c.args.direction
           c.args.from.now c.make_room.new.self (g.met.M.MapRead.sound c.args.map.now) placed.apart
-          (λ v known. let below = placed.below v known in let count = c.slot_count.ensures in let room =
+          (λ v known. let below = placed.below v known in let room =
           c.in_ok-make_room.ensures.room in omega arith) empty;
       begun = λ j lt. absurd (omega arith);
       front = λ p small. let none = empty.labels p in absurd (omega arith);
@@ -32,21 +32,16 @@ loop-begin-preserved g c =
     let e = c.in_ok-start.ensures in
     let items = c.args.from.now in
     let item = c.begin-item.result in
+    let n = c.loop-begin.begin-index in
+    let Begun : ℕ × ℕ → Type 0 = λ x. IsTrue (has_node M x.0) → label_of c.start.new.frontier (slot x.0) ≤ x.1 in
     record {
       labelled =
           e.labelled c.args.direction items (c.loop-begin.begin-index, c.loop-begin-test.true, sym c.begin-item.is)
           inv.labelled;
-      begun = λ j lt known. elim (cases_lt j c.loop-begin.begin-index) [
-        | inl low ↦ let was = inv.begun j low known in let le =
-            e.moves.better (slot (get_or items j (0, 0)).0) in omega arith
-        | inr high ↦
-            let same : j ≡ c.loop-begin.begin-index = omega arith in
-            let here : item ≡ get_or items j (0, 0) =
-            c.begin-item.is ∙ get_or_default items c.loop-begin.begin-index item (0, 0) c.loop-begin-test.true
-            ∙ ap (λ (n : ℕ). get_or items n (0, 0)) (sym same) in
-            subst (λ (x : ℕ × ℕ). IsTrue (has_node M x.0) → label_of c.start.new.frontier (slot x.0) ≤ x.1) here e.begun
-            known
-      ];
+      begun = below_more (λ j. Begun (get_or items j (0, 0))) n
+          (λ j low known. let was = inv.begun j low known in let le = e.moves.better (slot (get_or items j (0, 0)).0) in
+          omega arith)
+          (subst Begun (c.begin-item.is ∙ get_or_default items n item (0, 0) c.loop-begin-test.true) e.begun);
       front = λ p small. elim (e.moves.fresh p) [
         | inl same ↦ subst (λ (n : ℕ). IsQueued c.start.new.frontier n p) (sym same)
             (e.moves.kept (label_of c.loop-begin.self.frontier p) p (inv.front p (omega arith)))
@@ -65,11 +60,9 @@ under_way g c =
     let slot = g.M.MapRead.node_slot c.args.map.now in
     let inv = c.loop-begin.invariant in
     let items = c.args.from.now in
-    let past = c.loop-begin-test.false in
     record {
       labelled = inv.labelled;
       begun = λ s b listed known.
-          let lt = listed.1 in
           let is : get_or items listed.0 (0, 0) ≡ (s, b) =
           get_or_default items listed.0 (0, 0) (s, b) listed.1 ∙ listed.2 in
           subst (λ (x : ℕ × ℕ). IsTrue (has_node M x.0) → label_of c.loop-begin.self.frontier (slot x.0) ≤ x.1) is
@@ -80,7 +73,6 @@ under_way g c =
 pub returns-clause-search : goal.returns-clause-search
 returns-clause-search g c =
     let inv = c.loop-begin.invariant in
-    let none = inv.limit in
     record {
       way = inv.way;
       under_way = under_way g c;

@@ -22,6 +22,5 @@ returns-else-label-self c = λ M node_slot direction from v d h known at. (
       let is : label_of c.args.self.now.frontier (node_slot v) ≡ c.label-label.result =
       ap (label_of c.args.self.now.frontier) at ∙ sym c.label-label.ensures in
       let same = label_is M node_slot direction from c.args.self.now h v d known y.0 y.1 in
-      let near = y.1 in
       absurd (omega arith),
 )

@@ -1,6 +1,6 @@
 use Rattle.std.proofs.Common.{ℕ, List, sym, subst, arith}
-use Rattle.olr_search.specs.Bounds.{IsCut, IsUnder, bound_in}
-use Rattle.olr_search.specs.Searches.{IsSearch, IsUnderWay}
+use Rattle.olr_search.specs.Bounds.{IsUnder, bound_in}
+use Rattle.olr_search.specs.Searches.{IsSearch, IsUnderWay, IsCut}
 use Rattle.olr_search.specs.declared.distances.Direction.{Direction}
 use Rattle.olr_search.proofs.CutLemmas.{cut_settled}
 use Rattle.olr_search.proofs.distances.Dijkstra.settle_under.Goals as goal

@@ -33,5 +33,5 @@ returns-in_ok-push c =
     read_label table.items c.args.slot _ c.index-label.result.now c.index-label.ensures c.requires table.ok.0 in
     let push = c.in_ok-push.ensures in
     put_by c.args.self.now _ c.args.node c.args.slot c.args.dist c.index-label.result.now refl
-    (let lt = c.requires in let long = table.ok.0 in omega arith) label c.if-dist-label.true c.in_ok-note.ensures.noted
+    (omega arith) label c.if-dist-label.true c.in_ok-note.ensures.noted
     push.there push.kept refl push.len

@@ -6,8 +6,6 @@ use Rattle.olr_search.proofs.queue.Queue.push.Goals as goal
 
 pub returns-clause-there : goal.returns-clause-there
 returns-clause-there c =
-    let dist = c.from.ensures in
-    let slot = c.from-2.ensures in
     let small = c.ranges.slot.fits in
     let is : c.from.result * 4294967296 + c.from-2.result ≡ queue_key c.args.dist c.args.slot = omega arith in
     let pushed : Entry = record { 0 = c.from.result * 4294967296 + c.from-2.result } in
