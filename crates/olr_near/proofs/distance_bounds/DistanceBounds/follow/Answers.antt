@@ -62,8 +62,6 @@ returns-clause-closed g c = λ x known from short.
     let M = g.M.MapRead.map c.args.map.now in
     let k = has_end M (g.M.MapRead.node_slot c.args.map.now) Along c.args.node x c.out_ends-end-items.result.now
     c.out_ends-end-items.ensures known from in
-    let long = k.len in
-    let within = k.within in
     let w = c.loop-end.invariant.followed k.index (omega arith) (omega arith) in
     let L = bound_of c.loop-end.self in
     coe 0 1 (i. Within L (k.node i) (c.args.number + k.len i)) w

@@ -6,10 +6,8 @@ use Rattle.olr_near.proofs.distance_bounds.DistanceBounds.follow_all.Goals as go
 
 pub loop-top-smaller-then-is_at : goal.loop-top-smaller-then-is_at
 loop-top-smaller-then-is_at g c =
-    let less = c.in-Some.ensures.len in
-    let paid = c.in_ok-follow.ensures.paid in
     let most = gain_le c.follow.new.self.bounds c.follow.new.self.small c.len.ensures.unique in
-    omega arith
+    omega (arith, c.in-Some.ensures.len, c.in_ok-follow.ensures.paid)
 
 pub loop-top-preserved-then-is_at : goal.loop-top-preserved-then-is_at
 loop-top-preserved-then-is_at g c =

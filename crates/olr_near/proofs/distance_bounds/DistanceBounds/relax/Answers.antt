@@ -35,14 +35,13 @@ returns-in_ok-push-in-Some-clause-moves c =
 
 pub returns-in_ok-push-in-Some-clause-paid : goal.returns-in_ok-push-in-Some-clause-paid
 returns-in_ok-push-in-Some-clause-paid c =
-    let more = c.in_ok-push-in-Some.ensures.len in
     let risen =
     gain_put c.args.self.now.bounds (c.get_mut.follows.lender c.args.number) c.number-key.result c.args.number
     (Some c.in-Some.had.now) c.in-Some.ensures.value
     (c.get_mut.follows.holds c.args.number).0 c.requires
     (less_some (bound_of c.args.self.now c.number-key.result) c.in-Some.had.now c.args.number c.in-Some.ensures.value
     (omega (arith, c.if-had-number.false))) in
-    omega arith
+    omega (arith, c.in_ok-push-in-Some.ensures.len)
 
 -- ---- where it has none
 
@@ -56,7 +55,6 @@ returns-in_ok-insert-in-None-clause-moves c =
 
 pub returns-in_ok-insert-in-None-clause-paid : goal.returns-in_ok-insert-in-None-clause-paid
 returns-in_ok-insert-in-None-clause-paid c =
-    let more = c.in_ok-push-in-None.ensures.len in
     let same = c.get_mut.follows.holds-at-none in
     let risen =
     gain_put c.args.self.now.bounds c.insert.new.self c.number-key.result c.args.number c.in_ok-insert-in-None.field-0
@@ -64,4 +62,4 @@ returns-in_ok-insert-in-None-clause-paid c =
     (subst (λ (m : Numbers). PutsEntry nat_eq m c.insert.new.self c.number-key.result c.args.number
     c.in_ok-insert-in-None.field-0) same c.in_ok-insert-in-None.ensures.entries)
     c.requires (less_none (bound_of c.args.self.now c.number-key.result) c.args.number c.in-None.ensures.value) in
-    omega arith
+    omega (arith, c.in_ok-push-in-None.ensures.len)
