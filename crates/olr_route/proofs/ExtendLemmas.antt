@@ -11,8 +11,7 @@ use Rattle.olr_spec.proofs.OptionLemmas.{some_of, is_some_of}
 use Rattle.olr_route.specs.Labels.{Label, Labels, label_at, dist_at, last_at, last_of, AreLabels, LeastWithin}
 use Rattle.olr_route.specs.Labels.{UniqueWithin, IsShortest}
 use Rattle.olr_route.specs.Ends.{OnlyPredecessor}
-use Rattle.olr_search.proofs.RouteEnds.{ends_of, dm_of-line, route_on, last_step, same_last}
-use Rattle.olr_search.proofs.RouteEnds.Ends.{empty, ended}
+use Rattle.olr_search.proofs.RouteEnds.{dm_of-line, last_step, unique_on, unique_alone}
 use Rattle.olr_route.proofs.LastLemmas.{last_of-append, ended_by, least_front}
 
 -- a label by its last line
@@ -88,57 +87,31 @@ module _ (M : Map) (m : IsMap M) (x : Labels) (a : AreLabels M x) where
       let own = last_step M x.source (end M y) y route l.least.route in
       let long = dm_of-line M route y in
       let some = positive M m y own.known in
+      let short = l.within in
       let label : dist_at x (end M y) ≡ Some (dm_of M (route ++ y ∷ [])) =
       ap (λ (o : Option Label). option_map (λ k. k.0) o) (label_of_least (end M y) (route ++ y ∷ []) l.least l.within)
       in
       record {
-        unique = record {
-          route = l.least.route;
-          others = λ ys w ne. elim (ends_of ys) [
-            | empty none ↦ let nothing : dm_of M ys ≡ 0 =
-                ap (dm_of M) none in absurd (l.least.first ys w (inl (omega arith)))
-            | ended front z is ↦
-                let step =
-                last_step M x.source (end M y) z front (subst (λ (zs : List ℕ). IsRoute M x.source (end M y) zs) is w)
-                in
-                let parts : dm_of M ys ≡ dm_of M front + dm M z = ap (dm_of M) is ∙ dm_of-line M front z in
-                elim (cases_lt (dm_of M (route ++ y ∷ [])) (dm_of M ys)) [
-                  | inl far ↦ far
-                  | inr near ↦
-                      let d = dist_le (start M z) front step.front (omega arith) in
-                      let same : z ≡ y =
-                      alone z (dm_of M (route ++ y ∷ [])) step.known step.to label d.0 d.1 (omega arith) in
-                      let each : dm M z ≡ dm M y = ap (dm M) same in
-                      let less =
-                      f.unique.others front (subst (λ (n : ℕ). IsRoute M x.source (start M n) front) same step.front)
-                      (λ q. ne (is ∙ ap (λ (zs : List ℕ). zs ++ z ∷ []) q ∙ ap (λ (n : ℕ). route ++ n ∷ []) same)) in
-                      omega arith
-                ]
-          ];
-        };
+        unique = unique_on M x.source y route own.known f.unique (λ is. l.least.first [] is (inl (omega arith)))
+            (λ z front known to w le.
+            let d = dist_le (start M z) front w (omega arith) in
+            let near = d.2 in
+            alone z (dm_of M (route ++ y ∷ [])) known to label d.0 d.1 (omega arith));
         within = l.within;
       }
 
   -- and only then
   only_if_unique : (y : ℕ) (route : List ℕ) → UniqueWithin M x (end M y) (route ++ y ∷ []) → OnlyPredecessor M x y
   only_if_unique y route f z e known to de d dz le =
-      let least = unique_least M x.source (end M y) (route ++ y ∷ []) f.unique in
       let o = label_of_dist (label_at x (start M z)) d dz in
       let r = a.least (start M z) d o.0 o.1 in
-      let label : dist_at x (end M y) ≡ Some (dm_of M (route ++ y ∷ [])) =
-      ap (λ (k : Option Label). option_map (λ k. k.0) k) (label_of_least (end M y) (route ++ y ∷ []) least f.within) in
-      let both : ◌≡◌ {A = Option ℕ} (Some (dm_of M (route ++ y ∷ []))) (Some e) = sym label ∙ de in
+      let both : ◌≡◌ {A = Option ℕ} (Some (dm_of M (route ++ y ∷ []))) (Some e) =
+      sym (ap (λ (k : Option Label). option_map (λ k. k.0) k) (label_of_least (end M y) (route ++ y ∷ [])
+      (unique_least M x.source (end M y) (route ++ y ∷ []) f.unique) f.within)) ∙ de in
       let total : dm_of M (route ++ y ∷ []) ≡ e = cc in
-      let parts = dm_of-line M r.lines z in
-      elim (cases_eq z y) [
-        | inl same ↦ same
-        | inr ne ↦
-            let far =
-            f.unique.others (r.lines ++ z ∷ [])
-            (subst (λ (v : ℕ). IsRoute M x.source v (r.lines ++ z ∷ [])) to
-            (route_on M x.source z r.lines r.least.route known)) (λ q. ne (same_last r.lines route z y q)) in
-            absurd (omega arith)
-      ]
+      let parts = dm_of-line M route y in
+      let long = r.long in
+      unique_alone M x.source y route f.unique z r.lines known to r.least.route (omega arith)
 
   pub extends_if : (unique : Bool) (y : ℕ) (route : List ℕ) → IsShortest unique M x (start M y) route →
       last_at x (end M y) ≡ Some y → (IsTrue unique → OnlyPredecessor M x y) →
