@@ -1,5 +1,3 @@
-use Rattle.std.proofs.Common.{arith}
-use Rattle.std.proofs.lemmas.List.{take_all}
 use Rattle.olr_route.specs.Labels.{IsShortest}
 use Rattle.olr_route.proofs.StretchLemmas.{next_of, prefix_of, route_of, held_on, held_not, none_of}
 use Rattle.olr_route.proofs.shortest.each_extends.Goals as goal
@@ -35,6 +33,3 @@ returns-then-not-extends g c = (
       absurd (held_not M x h.0 c.args.lines.now _ _ n (IsShortest c.args.unique M x) _ c.extends.ensures
       c.loop-line.invariant c.if-not-extends.true (prefix_of M x h.0 c.args.lines.now _ _ n c.args.unique h.1)),
 )
-
-pub returns : goal.returns
-returns g c = grind (arith, take_all)

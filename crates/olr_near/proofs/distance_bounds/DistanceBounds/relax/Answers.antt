@@ -1,6 +1,6 @@
 use Rattle.std.proofs.Common.{ℕ, Option, Some, nat_eq, IsSome, refl, sym, ap, ◌∙◌, subst, arith}
 use Rattle.std.specs.HashMap.{PutsEntry, Updates, get}
-use Rattle.olr_near.specs.Bounds.{Numbers, bound_of}
+use Rattle.olr_near.specs.Bounds.{Numbers}
 use Rattle.olr_near.proofs.BoundLemmas.{put_moves, gain_put, gain_same, less_some, less_none}
 use Rattle.olr_near.proofs.distance_bounds.DistanceBounds.relax.Goals as goal
 
@@ -29,18 +29,15 @@ returns-in_ok-push-in-Some-clause-moves c =
     let there =
     (c.get_mut.follows.holds c.args.number).3 (subst (λ (o : Option ℕ). IsSome o) c.in-Some.ensures.value refl) in
     put_moves c.args.self.now _ c.number-key.result c.args.node c.args.number c.number-key.ensures.same there
-    (less_some (bound_of c.args.self.now c.number-key.result) c.in-Some.had.now c.args.number c.in-Some.ensures.value
-    (omega (arith, c.if-had-number.false)))
-    c.in_ok-push-in-Some.ensures.permutation refl
+    (less_some _ _ _ c.in-Some.ensures.value (omega (arith, c.if-had-number.false))) c.in_ok-push-in-Some.ensures.permutation
+    refl
 
 pub returns-in_ok-push-in-Some-clause-paid : goal.returns-in_ok-push-in-Some-clause-paid
 returns-in_ok-push-in-Some-clause-paid c =
     let risen =
     gain_put c.args.self.now.bounds (c.get_mut.follows.lender c.args.number) c.number-key.result c.args.number
-    (Some c.in-Some.had.now) c.in-Some.ensures.value
-    (c.get_mut.follows.holds c.args.number).0 c.requires
-    (less_some (bound_of c.args.self.now c.number-key.result) c.in-Some.had.now c.args.number c.in-Some.ensures.value
-    (omega (arith, c.if-had-number.false))) in
+    (Some c.in-Some.had.now) c.in-Some.ensures.value (c.get_mut.follows.holds c.args.number).0 c.requires
+    (less_some _ _ _ c.in-Some.ensures.value (omega (arith, c.if-had-number.false))) in
     omega (arith, c.in_ok-push-in-Some.ensures.len)
 
 -- ---- where it has none
@@ -50,8 +47,7 @@ returns-in_ok-insert-in-None-clause-moves c =
     put_moves c.args.self.now _ c.number-key.result c.args.node c.args.number c.number-key.ensures.same
     (subst (λ (m : Numbers). Updates nat_eq m c.insert.new.self c.number-key.result (Some c.args.number))
     c.get_mut.follows.holds-at-none c.in_ok-insert-in-None.ensures.updates)
-    (less_none (bound_of c.args.self.now c.number-key.result) c.args.number c.in-None.ensures.value)
-    c.in_ok-push-in-None.ensures.permutation refl
+    (less_none _ _ c.in-None.ensures.value) c.in_ok-push-in-None.ensures.permutation refl
 
 pub returns-in_ok-insert-in-None-clause-paid : goal.returns-in_ok-insert-in-None-clause-paid
 returns-in_ok-insert-in-None-clause-paid c =
@@ -61,5 +57,5 @@ returns-in_ok-insert-in-None-clause-paid c =
     (c.in_ok-insert-in-None.ensures.old ∙ ap (λ (m : Numbers). get nat_eq m c.number-key.result) same)
     (subst (λ (m : Numbers). PutsEntry nat_eq m c.insert.new.self c.number-key.result c.args.number
     c.in_ok-insert-in-None.field-0) same c.in_ok-insert-in-None.ensures.entries)
-    c.requires (less_none (bound_of c.args.self.now c.number-key.result) c.args.number c.in-None.ensures.value) in
+    c.requires (less_none _ _ c.in-None.ensures.value) in
     omega (arith, c.in_ok-push-in-None.ensures.len)
