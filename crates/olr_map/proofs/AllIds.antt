@@ -1,37 +1,28 @@
 -- The numbers of all nodes and of all lines, collected slot by slot and node by node, and then sorted.
-use Rattle.std.proofs.Common.{inl, inr, ◌⊎◌, ◌≡◌, ◌≢◌, ◌==◌, ℕ, ◌+◌, ◌<◌, zero, suc, true, false, List, []}
-use Rattle.std.proofs.Common.{◌∷◌, ◌++◌, map, length, get_or, take, Option, Some, None, is_some, nat_cmp, unwrap_or}
-use Rattle.std.proofs.Common.{refl, sym, ap, ◌∙◌, subst, arith}
-use Rattle.std.specs.Option.{option_map}
-use Rattle.std.specs.List.{list_any, flat_map, AllByRecursion, IsDistinct}
+use Rattle.olr_map.proofs.Common.{inl, inr, ◌⊎◌, ◌≡◌, ◌==◌, ℕ, ◌+◌, ◌<◌, zero, suc, true, false, List, [], ◌∷◌, ◌++◌}
+use Rattle.olr_map.proofs.Common.{map, length, get_or, take, Option, Some, None, is_some, nat_cmp, unwrap_or, refl, sym}
+use Rattle.olr_map.proofs.Common.{ap, ◌∙◌, subst, arith, option_map, list_any, flat_map, AllByRecursion, eq_by_cmp}
+use Rattle.olr_map.proofs.Common.{unsigned_tied, FinMap, get, entries, get-entries, eq-eqb, ne_eqb, or_cases, or_left}
+use Rattle.olr_map.proofs.Common.{or_right, map-append, IsDistinct-head, IsDistinct-tail}
+use Rattle.olr_map.proofs.Common.{IsStrictlyIncreasing-from_sorted, Map, IsMap, Line, has, has_node, has_line, no_line}
+use Rattle.olr_map.proofs.Common.{lines_out, has_here, ascend_out, at, present, slot_by, rows, map_from, IsIndexed}
+use Rattle.olr_map.proofs.Common.{Blocks, Links, NodeEntry, NodeHead, same_Some, common_steps}
+use Rattle.std.proofs.Common.{◌≢◌}
+use Rattle.std.specs.List.{IsDistinct}
 use Rattle.std.specs.List.Sorted.{IsPermutation, IsSortedByKey}
-use Rattle.std.specs.Ordering.{eq_by_cmp}
-use Rattle.std.specs.Cmp.{unsigned_tied, both_ways}
-use Rattle.std.specs.FinMap.{FinMap, get, entries, entries_sorted, get-entries}
+use Rattle.std.specs.Cmp.{both_ways}
+use Rattle.std.specs.FinMap.{entries_sorted}
 use Rattle.std.specs.FinMap.Entries.{is_some-find}
-use Rattle.std.proofs.lemmas.Bool.{eq-eqb, ne_eqb, or_cases, or_left, or_right}
-use Rattle.std.proofs.lemmas.List.{map-append, take_more}
+use Rattle.std.proofs.lemmas.List.{take_more}
 use Rattle.std.proofs.lemmas.List.Folds.{list_any-append}
 use Rattle.std.proofs.lemmas.List.Sorted.{IsNonDecreasingBy-from_sort, list_any-IsPermutation}
-use Rattle.std.proofs.lemmas.Map.Keys.{IsDistinct-head, IsDistinct-tail, IsDistinct-cons, IsDistinct-IsPermutation}
-use Rattle.std.proofs.lemmas.Map.Keys.{IsStrictlyIncreasing-from_distinct, IsStrictlyIncreasing-from_sorted}
-use Rattle.olr_spec.specs.Map.{Map, IsMap, Line, has, has_node, has_line, no_line, lines_out}
-use Rattle.olr_spec.proofs.ListLemmas.{has_here, has_there, has_cases}
+use Rattle.std.proofs.lemmas.Map.Keys.{IsDistinct-cons, IsDistinct-IsPermutation, IsStrictlyIncreasing-from_distinct}
+use Rattle.olr_spec.proofs.ListLemmas.{has_there, has_cases}
 use Rattle.olr_spec.proofs.MapLemmas.{keys_sorted}
-use Rattle.olr_spec.proofs.OrderLemmas.{ascend_out, exactly_out}
-use Rattle.olr_map.specs.Slotted.{at, present}
-use Rattle.olr_map.specs.SlotIndexes.{slot_by}
-use Rattle.olr_map.specs.Columns.{rows}
-use Rattle.olr_map.specs.Tables.{map_from, IsIndexed}
-use Rattle.olr_map.specs.declared.blocks.Blocks.{Blocks}
-use Rattle.olr_map.specs.declared.links.Links.{Links}
-use Rattle.olr_map.specs.declared.slots.NodeEntry.{NodeEntry}
-use Rattle.olr_map.specs.declared.slots.NodeHead.{NodeHead}
+use Rattle.olr_spec.proofs.OrderLemmas.{exactly_out}
 use Rattle.olr_map.proofs.Insertions.{eqb_flip}
 use Rattle.olr_map.proofs.Numbers.{distinct_from_ascending, same_ascending}
-use Rattle.std.proofs.lemmas.Option.{same_Some}
 use Rattle.olr_map.proofs.Reading.{node_there, node_missing}
-use Rattle.std.proofs.lemmas.Grind.{common_steps}
 
 -- ---- lists of numbers
 

@@ -1,21 +1,16 @@
 -- Slots in blocks: after another slot is stored in a block, and as a list.
-use Rattle.std.proofs.lemmas.Grind.{common_steps}
-use Rattle.std.proofs.Common.{◌≡◌, ◌==◌, ℕ, ◌+◌, ◌-◌, ◌*◌, ◌/◌, ◌%◌, ◌<◌, zero, suc, Bool, true, false, cond, List, []}
-use Rattle.std.proofs.Common.{◌∷◌, ◌++◌, Option, Some, None, length, slice_index, nat_eq, refl, sym, ap, ◌∙◌}
-use Rattle.std.proofs.Common.{inl, inr, arith, eqb-true, Result, Ok, Err, IsOk, OnOk}
-use Rattle.std.specs.Option.{option_or}
-use Rattle.std.specs.List.{AllByRecursion, IsDistinct}
-use Rattle.std.specs.Map.{lookup, keys_of}
+use Rattle.olr_map.proofs.Common.{common_steps, ◌≡◌, ◌==◌, ℕ, ◌+◌, ◌-◌, ◌/◌, ◌%◌, ◌<◌, zero, suc, Bool, true, false}
+use Rattle.olr_map.proofs.Common.{cond, List, [], ◌∷◌, ◌++◌, Option, Some, None, length, slice_index, refl, sym, ap}
+use Rattle.olr_map.proofs.Common.{◌∙◌, inl, inr, arith, Result, Ok, Err, IsOk, option_or, AllByRecursion, lookup}
+use Rattle.olr_map.proofs.Common.{keys_of, cases_eq, cases_order, eq-eqb, ne_eqb, IsDistinct-head, IsDistinct-tail}
+use Rattle.olr_map.proofs.Common.{get_or_past, slot_in, all_in, pairs_of, slot_by, Blocks}
+use Rattle.std.proofs.Common.{◌*◌, nat_eq, eqb-true, OnOk}
+use Rattle.std.specs.List.{IsDistinct}
 use Rattle.std.specs.Cmp.Lexicographic.{pointwise, same_text, other_text}
-use Rattle.std.proofs.lemmas.Bool.{cases_eq, cases_order, eq-eqb, ne_eqb}
-use Rattle.std.proofs.lemmas.Map.Keys.{IsDistinct-head, IsDistinct-tail}
-use Rattle.std.proofs.lemmas.List.{get_or_past}
 use Rattle.std.proofs.lemmas.Nat.{div-add-mod'}
 use Rattle.std.proofs.Math.Nat.{mod-lt}
-use Rattle.olr_map.specs.Blocked.{number_before, slot_at, slot_in, found_in, IsBlank, AreUsed, from, all_in}
-use Rattle.olr_map.specs.SlotIndexes.{pairs_of, slot_by}
+use Rattle.olr_map.specs.Blocked.{number_before, slot_at, found_in, IsBlank, AreUsed, from}
 use Rattle.olr_map.specs.declared.block.Block.{Block}
-use Rattle.olr_map.specs.declared.blocks.Blocks.{Blocks}
 
 -- ---- a number is its block and its position there
 

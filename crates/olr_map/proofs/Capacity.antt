@@ -1,31 +1,15 @@
 -- Empty tables, and tables with more capacity.
-use Rattle.std.proofs.Common.{◌≡◌, ◌==◌, ◌&&◌, ℕ, ◌<◌, ◌≤◌, true, false, cond, [], length, Some, None, is_some}
-use Rattle.std.proofs.Common.{unwrap_or, refl, sym, ap, ◌∙◌, subst, arith}
-use Rattle.std.specs.Option.{option_map, option_map_or}
-use Rattle.std.specs.FinMap.{FinMap}
-use Rattle.std.specs.Map.{lookup}
+use Rattle.olr_map.proofs.Common.{◌≡◌, ◌==◌, ◌&&◌, ℕ, ◌<◌, ◌≤◌, true, false, cond, [], length, Some, None, is_some}
+use Rattle.olr_map.proofs.Common.{unwrap_or, refl, sym, ap, ◌∙◌, subst, arith, option_map, option_map_or, FinMap}
+use Rattle.olr_map.proofs.Common.{lookup, cond-true, eqb-true, eq-eqb, same_Some, Coord, Map, IsMap, Line, has_node}
+use Rattle.olr_map.proofs.Common.{has_line, line_at, pairs_of, slot_by, spare_of, at, held, things_of, all_held}
+use Rattle.olr_map.proofs.Common.{spare_numbers, in_slot, node_slots, node_room, links_at, lines_on, links_room, far}
+use Rattle.olr_map.proofs.Common.{lines_at, node_in, links_in, map_from, node_slot, IsListed, IsIndexed, AreTables}
+use Rattle.olr_map.proofs.Common.{Room, HasRoomFor, tables_map, room_of, room_at, IsRoomWithin, IsReserved, Blocks}
+use Rattle.olr_map.proofs.Common.{Links, NodeSlots, Side, Out, In, SlotMap, RoadMap, common_steps}
 use Rattle.std.specs.Ordering.{nat_cmp}
-use Rattle.std.proofs.lemmas.Bool.{and_from, and_parts, cond-true, eqb-true, eq-eqb}
-use Rattle.std.proofs.lemmas.Option.{same_Some}
-use Rattle.olr_spec.specs.Coordinates.{Coord}
-use Rattle.olr_spec.specs.Map as maps
-use Rattle.olr_spec.specs.Map.{Map, IsMap, Line, has_node, has_line, line_at}
-use Rattle.olr_map.specs.SlotIndexes.{pairs_of, slot_by, spare_of}
-use Rattle.olr_map.specs.Slotted.{at}
-use Rattle.olr_map.specs.SlotMaps.{held, things_of, all_held, spare_numbers}
-use Rattle.olr_map.specs.HavingSlots.{in_slot}
-use Rattle.olr_map.specs.Columns.{node_slots, node_room}
-use Rattle.olr_map.specs.NodeLinks.{links_at}
-use Rattle.olr_map.specs.Linked.{lines_on, links_room, IsRoomier}
-use Rattle.olr_map.specs.Tables.{far, lines_at, node_in, links_in, map_from, node_slot, IsListed, IsIndexed, AreTables}
-use Rattle.olr_map.specs.Changes.{Room, HasRoomFor, tables_map, room_of, room_at, IsRoomWithin, IsReserved}
-use Rattle.olr_map.specs.declared.blocks.Blocks.{Blocks}
-use Rattle.olr_map.specs.declared.links.Links.{Links}
-use Rattle.olr_map.specs.declared.slots.NodeSlots.{NodeSlots}
-use Rattle.olr_map.specs.declared.slots.Side.{Side}
-use Rattle.olr_map.specs.declared.slots.Side.TheVariants.{Out, In}
-use Rattle.olr_map.specs.declared.slot_map.SlotMap.{SlotMap}
-use Rattle.olr_map.specs.declared.road_map.RoadMap.{RoadMap}
+use Rattle.std.proofs.lemmas.Bool.{and_from, and_parts}
+use Rattle.olr_map.specs.Linked.{IsRoomier}
 use Rattle.olr_map.proofs.ColumnLemmas.{few_nodes}
 use Rattle.olr_map.proofs.Insertions.{same_answers}
 use Rattle.olr_map.proofs.Lookups.{all_get}
@@ -34,7 +18,7 @@ use Rattle.olr_map.proofs.SlotMapLemmas.{held_get}
 use Rattle.olr_map.proofs.Indexing.{id_of, place_of, one_node, same_side, Relisted}
 use Rattle.olr_map.proofs.Listing.{replaced}
 use Rattle.olr_map.proofs.Reading.{got_node, got_line, kept_from, node_missing}
-use Rattle.std.proofs.lemmas.Grind.{common_steps}
+use Rattle.olr_spec.specs.Map as maps
 
 -- ---- empty tables
 

@@ -1,25 +1,16 @@
 -- Nodes in columns: values are added to, removed from and replaced in their slots.
-use Rattle.std.proofs.Common.{◌≡◌, ◌==◌, ℕ, ◌+◌, ◌<◌, ◌≤◌, ◌^◌, zero, suc, true, false, cond, List, [], ◌∷◌, ◌++◌}
-use Rattle.std.proofs.Common.{Option, Some, None, is_some, length, get_or, set, nat_lt, vec_len, refl, sym, ap, ◌∙◌, subst}
-use Rattle.std.proofs.Common.{arith}
-use Rattle.std.proofs.lemmas.Bool.{cases_lt, cond-true, eq-eqb, lt-ltb, le-ltb}
-use Rattle.std.proofs.lemmas.List.{length-set, length_push}
-use Rattle.std.proofs.lemmas.Option.{same_Some}
-use Rattle.olr_map.specs.Slotted.{at, IsWritten, IsInserted, IsRemoved, IsReplaced}
-use Rattle.olr_map.specs.Slabs.{slots_of, Fills}
-use Rattle.olr_map.specs.Columns.{with_lines, rows, node_slots}
-use Rattle.olr_map.specs.NodeLinks.{links_at, with_links, IsRelinked}
-use Rattle.olr_map.specs.Tables.{sides}
-use Rattle.olr_map.specs.declared.links.Links.{Links}
+use Rattle.olr_map.proofs.Common.{◌≡◌, ◌==◌, ℕ, ◌+◌, ◌<◌, ◌≤◌, ◌^◌, zero, suc, true, false, cond, List, [], ◌∷◌, ◌++◌}
+use Rattle.olr_map.proofs.Common.{Option, Some, None, is_some, length, get_or, set, vec_len, refl, sym, ap, ◌∙◌, subst}
+use Rattle.olr_map.proofs.Common.{arith, cond-true, eq-eqb, length-set, length_push, same_Some, at, IsWritten}
+use Rattle.olr_map.proofs.Common.{IsInserted, IsRemoved, IsReplaced, slots_of, rows, node_slots, links_at, with_links}
+use Rattle.olr_map.proofs.Common.{IsRelinked, sides, Links, NodeEntry, NodeHead, NodeSlots, Side, Out, In, common_steps}
+use Rattle.std.proofs.Common.{nat_lt}
+use Rattle.std.proofs.lemmas.Bool.{cases_lt, lt-ltb, le-ltb}
+use Rattle.olr_map.specs.Slabs.{Fills}
+use Rattle.olr_map.specs.Columns.{with_lines}
 use Rattle.olr_map.specs.declared.slab.Slab.{Slab}
-use Rattle.olr_map.specs.declared.slots.NodeEntry.{NodeEntry}
-use Rattle.olr_map.specs.declared.slots.NodeHead.{NodeHead}
-use Rattle.olr_map.specs.declared.slots.NodeSlots.{NodeSlots}
-use Rattle.olr_map.specs.declared.slots.Side.{Side}
-use Rattle.olr_map.specs.declared.slots.Side.TheVariants.{Out, In}
 use Rattle.olr_map.proofs.Insertions.{unchanged_at}
 use Rattle.olr_map.proofs.SlotLemmas.{some_within, few_slots, get_or-written, get_or-pushed}
-use Rattle.std.proofs.lemmas.Grind.{common_steps}
 
 abbrev Heads : Type 0
 Heads = List (Option NodeHead)

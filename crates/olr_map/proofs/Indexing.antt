@@ -1,24 +1,12 @@
 -- Numbers and slots that refer to each other, after the entry of one node is added, removed or replaced.
-use Rattle.std.proofs.Common.{◌≡◌, ◌==◌, ◌&&◌, ℕ, Bool, true, false, cond, List, Option, Some, None, refl, sym, ap, ◌∙◌}
-use Rattle.std.proofs.Common.{is_some, inl, inr, eqb-true}
-use Rattle.std.specs.Option.{option_map}
-use Rattle.std.proofs.lemmas.Bool.{eq-eqb, ne_eqb, cond-true, cond-false}
-use Rattle.std.proofs.lemmas.Option.{same_Some}
-use Rattle.olr_spec.specs.Coordinates.{Coord}
-use Rattle.olr_map.specs.SlotIndexes.{slot_by}
-use Rattle.olr_map.specs.Slotted.{at, IsWritten}
-use Rattle.olr_map.specs.HavingSlots.{HaveSlots}
-use Rattle.olr_map.specs.NodeLinks.{links_at, with_links, IsRelinked}
-use Rattle.olr_map.specs.Tables.{node_in, links_in, IsIndexed}
-use Rattle.olr_map.specs.declared.blocks.Blocks.{Blocks}
-use Rattle.olr_map.specs.declared.links.Links.{Links}
-use Rattle.olr_map.specs.declared.slots.NodeEntry.{NodeEntry}
-use Rattle.olr_map.specs.declared.slots.Side.{Side}
-use Rattle.olr_map.specs.declared.slots.Side.TheVariants.{Out, In}
+use Rattle.olr_map.proofs.Common.{◌≡◌, ◌==◌, ◌&&◌, ℕ, Bool, true, false, cond, List, Option, Some, None, refl, sym, ap}
+use Rattle.olr_map.proofs.Common.{◌∙◌, is_some, inl, inr, option_map, eq-eqb, ne_eqb, cond-true, cond-false, same_Some}
+use Rattle.olr_map.proofs.Common.{Coord, slot_by, at, IsWritten, HaveSlots, links_at, with_links, IsRelinked, node_in}
+use Rattle.olr_map.proofs.Common.{links_in, IsIndexed, Blocks, Links, NodeEntry, Side, Out, In, common_steps, arith}
+use Rattle.std.proofs.Common.{eqb-true}
 use Rattle.olr_map.proofs.Insertions.{over_cond, unchanged_at}
-use Rattle.olr_map.proofs.SlotMapLemmas.{slot_if, value_if, filled_at, held_was, stays, arrives, written_held, slot_from}
-use Rattle.std.proofs.lemmas.Grind.{common_steps}
-use Rattle.std.proofs.Common.{arith}
+use Rattle.olr_map.proofs.SlotMapLemmas.{slot_if, value_if, filled_at, held_was, stays, arrives, written_held}
+use Rattle.olr_map.proofs.SlotMapLemmas.{slot_from}
 
 abbrev pub id_of : NodeEntry → ℕ
 id_of e = e.id

@@ -1,11 +1,9 @@
 -- Values of a function at one number, and of a map after an insert and a removal.
-use Rattle.std.proofs.Common.{◌≡◌, ◌==◌, ℕ, Bool, true, false, cond, Some, None, refl, nat_cmp}
-use Rattle.std.specs.Cmp.{nat_cmp_total, unsigned_tied}
+use Rattle.olr_map.proofs.Common.{◌≡◌, ◌==◌, ℕ, Bool, true, false, cond, Some, None, refl, nat_cmp, nat_cmp_total}
+use Rattle.olr_map.proofs.Common.{unsigned_tied, FinMap, get, nat_cmp-IsAntisymmetric, cases_eq, eq-eqb, eqb-true}
+use Rattle.olr_map.proofs.Common.{ne_eqb, common_steps, arith}
+use Rattle.std.specs.FinMap.{get-insert, get-remove, same_map}
 use Rattle.std.specs.FinMap as finmap
-use Rattle.std.specs.FinMap.{FinMap, get, get-insert, get-remove, same_map, nat_cmp-IsAntisymmetric}
-use Rattle.std.proofs.lemmas.Bool.{cases_eq, eq-eqb, eqb-true, ne_eqb}
-use Rattle.std.proofs.lemmas.Grind.{common_steps}
-use Rattle.std.proofs.Common.{arith}
 
 pub eqb_flip : (a b : ℕ) → (a == b) ≡ (b == a)
 eqb_flip a b = grind (arith, common_steps, cases_eq, eq-eqb, ne_eqb)

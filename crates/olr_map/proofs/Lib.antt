@@ -1,3 +1,4 @@
+pub mod Common
 pub mod Insertions
 pub mod Lookups
 pub mod Numbers

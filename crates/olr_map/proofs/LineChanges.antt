@@ -1,40 +1,15 @@
 -- A line is added, removed and set.
-use Rattle.std.proofs.Common.{◌≡◌, ◌==◌, ℕ, ◌+◌, ◌<◌, ◌≤◌, true, false, cond, Option, Some, None, refl, sym, ap, ◌∙◌}
-use Rattle.std.proofs.Common.{length, subst, arith}
-use Rattle.std.specs.Option.{option_map, option_map_or}
-use Rattle.std.specs.List.Sorted.{IsStrictlyIncreasing}
-use Rattle.std.specs.FinMap as finmap
-use Rattle.std.specs.FinMap.{FinMap, get}
+use Rattle.olr_map.proofs.Common.{◌≡◌, ◌==◌, ℕ, ◌+◌, ◌<◌, ◌≤◌, true, false, cond, Option, Some, None, refl, sym, ap}
+use Rattle.olr_map.proofs.Common.{◌∙◌, length, subst, arith, option_map, option_map_or, IsStrictlyIncreasing, FinMap}
+use Rattle.olr_map.proofs.Common.{get, cond-true, eqb-true, eq-eqb, same_Some, Map, IsMap, Line, has_line, line_at, has}
+use Rattle.olr_map.proofs.Common.{has-lines_where, some_of, back_of, slot_by, at, held, all_held, spare_numbers}
+use Rattle.olr_map.proofs.Common.{in_slot, node_slots, node_room, links_at, IsRelinked, lines_on, links_room, IsPut}
+use Rattle.olr_map.proofs.Common.{sides, near, far, lines_at, node_in, links_in, map_from, node_slot, IsListed}
+use Rattle.olr_map.proofs.Common.{IsIndexed, AreTables, Room, tables_map, room_of, room_at, change_edit, CanMake}
+use Rattle.olr_map.proofs.Common.{HasRoomFor, IsWhole, map_after, room_after, IsRoomWithin, IsChangeMade, line_puts}
+use Rattle.olr_map.proofs.Common.{Blocks, Links, LineEnd, NodeEntry, NodeSlots, Side, Out, In, SlotMap, RoadMap}
+use Rattle.olr_map.proofs.Common.{TableChange, PutLine, SetLine, TakeLine, common_steps}
 use Rattle.std.specs.Ordering.{nat_cmp}
-use Rattle.std.proofs.lemmas.Bool.{cond-true, eqb-true, eq-eqb}
-use Rattle.std.proofs.lemmas.Option.{same_Some}
-use Rattle.olr_spec.specs.Map as maps
-use Rattle.olr_spec.specs.Map.{Map, IsMap, Line, has_line, line_at, has}
-use Rattle.olr_spec.proofs.MapLemmas.{has-lines_where}
-use Rattle.olr_spec.proofs.OptionLemmas.{some_of}
-use Rattle.olr_spec.proofs.UndoLemmas.{back_of}
-use Rattle.olr_map.specs.SlotIndexes.{slot_by}
-use Rattle.olr_map.specs.Slotted.{at}
-use Rattle.olr_map.specs.SlotMaps.{held, all_held, spare_numbers}
-use Rattle.olr_map.specs.HavingSlots.{in_slot}
-use Rattle.olr_map.specs.Columns.{node_slots, node_room}
-use Rattle.olr_map.specs.NodeLinks.{links_at, IsRelinked}
-use Rattle.olr_map.specs.Linked.{lines_on, links_room, IsPut}
-use Rattle.olr_map.specs.Tables.{sides, near, far, lines_at, node_in, links_in, map_from, node_slot, IsListed, IsIndexed}
-use Rattle.olr_map.specs.Tables.{AreTables}
-use Rattle.olr_map.specs.Changes.{Room, tables_map, room_of, room_at, change_edit, CanMake, HasRoomFor, IsWhole, map_after}
-use Rattle.olr_map.specs.Changes.{room_after, IsRoomWithin, IsChangeMade, line_puts}
-use Rattle.olr_map.specs.declared.blocks.Blocks.{Blocks}
-use Rattle.olr_map.specs.declared.links.Links.{Links}
-use Rattle.olr_map.specs.declared.read.LineEnd.{LineEnd}
-use Rattle.olr_map.specs.declared.slots.NodeEntry.{NodeEntry}
-use Rattle.olr_map.specs.declared.slots.NodeSlots.{NodeSlots}
-use Rattle.olr_map.specs.declared.slots.Side.{Side}
-use Rattle.olr_map.specs.declared.slots.Side.TheVariants.{Out, In}
-use Rattle.olr_map.specs.declared.slot_map.SlotMap.{SlotMap}
-use Rattle.olr_map.specs.declared.road_map.RoadMap.{RoadMap}
-use Rattle.olr_map.specs.declared.change.TableChange.{TableChange}
-use Rattle.olr_map.specs.declared.change.TableChange.TheVariants.{PutLine, SetLine, TakeLine}
 use Rattle.olr_map.proofs.ColumnLemmas.{few_nodes}
 use Rattle.olr_map.proofs.Insertions.{over_cond, unchanged_at, got_insert, got_remove, same_answers}
 use Rattle.olr_map.proofs.SlotMapLemmas.{held_get}
@@ -43,7 +18,8 @@ use Rattle.olr_map.proofs.LineRecords.{record_of}
 use Rattle.olr_map.proofs.Listing.{ascends_at, seen, here_listed, other_listed}
 use Rattle.olr_map.proofs.Reading.{got_node, got_line, line_missing, kept_from, place_is}
 use Rattle.olr_map.proofs.Making.{made_as, sound_after, change_made, le_same}
-use Rattle.std.proofs.lemmas.Grind.{common_steps}
+use Rattle.std.specs.FinMap as finmap
+use Rattle.olr_spec.specs.Map as maps
 
 -- ---- a node's list of lines on one side
 

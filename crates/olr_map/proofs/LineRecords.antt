@@ -1,17 +1,10 @@
 -- Lines that pass a test, and the records of the lines of a map.
-use Rattle.std.proofs.Common.{◌≡◌, ◌==◌, ℕ, Bool, true, false, cond, List, [], ◌∷◌, Option, Some, None, unwrap_or}
-use Rattle.std.proofs.Common.{refl, sym, ap, ◌∙◌, nat_cmp, ◌||◌}
-use Rattle.std.specs.List.{list_any}
-use Rattle.std.specs.Ordering.{eq_by_cmp}
-use Rattle.std.specs.FinMap.{get, entries, get-entries}
+use Rattle.olr_map.proofs.Common.{◌≡◌, ◌==◌, ℕ, Bool, true, false, cond, List, [], ◌∷◌, Option, Some, None, unwrap_or}
+use Rattle.olr_map.proofs.Common.{refl, sym, ap, ◌∙◌, nat_cmp, ◌||◌, list_any, eq_by_cmp, get, entries, get-entries}
+use Rattle.olr_map.proofs.Common.{ne_eqb, or_left, or_right, false_from_ne_true, Map, IsMap, Line, has_node, line_at}
+use Rattle.olr_map.proofs.Common.{no_line, has-lines_where, passes_at, is_some_of, common_steps, arith}
 use Rattle.std.specs.FinMap.Entries.{find}
-use Rattle.std.proofs.lemmas.Bool.{ne_eqb, or_left, or_right, false_from_ne_true}
-use Rattle.olr_spec.specs.Map.{Map, IsMap, Line, has_node, line_at, no_line}
-use Rattle.olr_spec.proofs.MapLemmas.{has-lines_where, passes_at}
 use Rattle.olr_spec.proofs.UndoLemmas.{any_has}
-use Rattle.olr_spec.proofs.OptionLemmas.{is_some_of}
-use Rattle.std.proofs.lemmas.Grind.{common_steps}
-use Rattle.std.proofs.Common.{arith}
 
 -- ---- lines that pass a test
 

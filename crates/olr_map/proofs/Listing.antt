@@ -1,31 +1,24 @@
 -- The lines of a node with their far ends, after a line is added, removed or set, and after nodes are added or removed.
-use Rattle.std.proofs.lemmas.Grind.{common_steps}
-use Rattle.std.proofs.Common.{◌≡◌, ◌==◌, ◌&&◌, ◌||◌, ℕ, zero, suc, ◌<◌, Bool, true, false, cond, not, List, [], ◌∷◌}
-use Rattle.std.proofs.Common.{map, Option, Some, None, is_some, unwrap_or, length, get_or, set, Result, Ok, Err, refl, sym, ap}
-use Rattle.std.proofs.Common.{◌∙◌, arith}
-use Rattle.std.specs.Option.{option_map}
-use Rattle.std.specs.List.{insert, remove}
-use Rattle.std.specs.List.Sorted.{IsStrictlyIncreasing, IsStrictlySortedBy, IsBinarySearchResult}
-use Rattle.std.specs.FinMap.{FinMap, get}
+use Rattle.olr_map.proofs.Common.{common_steps, ◌≡◌, ◌==◌, ◌&&◌, ◌||◌, ℕ, zero, suc, ◌<◌, Bool, true, false, cond, List}
+use Rattle.olr_map.proofs.Common.{[], ◌∷◌, map, Option, Some, None, is_some, unwrap_or, length, get_or, set, Result, Ok}
+use Rattle.olr_map.proofs.Common.{Err, refl, sym, ap, ◌∙◌, arith, option_map, remove, IsStrictlyIncreasing, FinMap, get}
+use Rattle.olr_map.proofs.Common.{eq-eqb, ne_eqb, false_from_ne_true, sorted_from_strictly_increasing, Coord, Map}
+use Rattle.olr_map.proofs.Common.{IsMap, Line, has_node, line_at, no_line, in_use, has, place_of, place_not}
+use Rattle.olr_map.proofs.Common.{put_ascends, has-lines_where, passes_at, ascend_out, near, far, lines_at, end_at}
+use Rattle.olr_map.proofs.Common.{IsListed, lines_on, ends_on, links_room, IsPut, Links, LineEnd, Side, Out, In}
+use Rattle.olr_map.proofs.Common.{map-append}
+use Rattle.std.proofs.Common.{not}
+use Rattle.std.specs.List.{insert}
+use Rattle.std.specs.List.Sorted.{IsStrictlySortedBy, IsBinarySearchResult}
 use Rattle.std.specs.Ordering.{nat_cmp}
-use Rattle.std.proofs.lemmas.Bool.{eq-eqb, ne_eqb, false_from_ne_true, or_parts}
-use Rattle.std.proofs.lemmas.Map.Keys.{sorted_from_strictly_increasing}
-use Rattle.olr_spec.specs.Coordinates.{Coord}
-use Rattle.olr_spec.specs.Map.{Map, IsMap, Line, has_node, line_at, no_line, in_use, has}
-use Rattle.olr_spec.proofs.AscendingLists.{has-insert, has-remove, has_at, place_of, place_not, put_ascends, ascends-remove}
+use Rattle.std.proofs.lemmas.Bool.{or_parts}
+use Rattle.olr_spec.proofs.AscendingLists.{has-insert, has-remove, has_at, ascends-remove}
 use Rattle.olr_spec.proofs.ListLemmas.{map_same}
-use Rattle.olr_spec.proofs.MapLemmas.{has-lines_where, passes_at}
-use Rattle.olr_spec.proofs.OrderLemmas.{ascend_in, ascend_out}
-use Rattle.olr_map.specs.Tables.{near, far, lines_at, end_at, IsListed}
-use Rattle.olr_map.specs.Linked.{lines_on, ends_on, links_room, IsPut}
-use Rattle.olr_map.specs.declared.links.Links.{Links}
-use Rattle.olr_map.specs.declared.read.LineEnd.{LineEnd}
-use Rattle.olr_map.specs.declared.slots.Side.{Side}
-use Rattle.olr_map.specs.declared.slots.Side.TheVariants.{Out, In}
+use Rattle.olr_spec.proofs.OrderLemmas.{ascend_in}
 use Rattle.olr_map.proofs.Insertions.{over_cond, unchanged_at}
 use Rattle.olr_map.proofs.Numbers.{above, same_ascending}
 use Rattle.olr_map.proofs.LineRecords.{none_passes, used_by, other_node, line_starts, line_ends}
-use Rattle.std.proofs.lemmas.List.{map-append, take-map, drop-map}
+use Rattle.std.proofs.lemmas.List.{take-map, drop-map}
 
 -- ---- lists
 

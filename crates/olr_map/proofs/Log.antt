@@ -1,20 +1,11 @@
 -- Changes that can be made with some capacity can be made with more.
-use Rattle.std.proofs.Common.{◌≡◌, ℕ, ◌≤◌, List, [], ◌∷◌, ◌++◌, reverse, Ok, IsOk}
-use Rattle.std.proofs.Common.{sym, ap, ◌∙◌, subst, arith}
+use Rattle.olr_map.proofs.Common.{◌≡◌, ℕ, ◌≤◌, List, [], ◌∷◌, ◌++◌, reverse, Ok, IsOk, sym, ap, ◌∙◌, subst, arith, Map}
+use Rattle.olr_map.proofs.Common.{edited, Room, IsRoomWithin, HasRoomFor, changed_at, room_after, change_edit, CanMake}
+use Rattle.olr_map.proofs.Common.{map_after, CanMakeAll, made_all, room_kept, near, sides, Side, TableChange, PutNode}
+use Rattle.olr_map.proofs.Common.{MoveNode, TakeNode, PutLine, SetLine, TakeLine, common_steps}
 use Rattle.std.proofs.lemmas.List.{reverse-append}
-use Rattle.olr_spec.specs.Map as map
-use Rattle.olr_spec.specs.Map.{Map, edited}
-use Rattle.olr_map.specs.Changes.{Room, IsRoomWithin, HasRoomFor, changed_at, room_after, change_edit, CanMake}
-use Rattle.olr_map.specs.Changes.{map_after}
-use Rattle.olr_map.specs.Undos.{CanMakeAll, made_all}
-use Rattle.olr_map.specs.Linked.{room_kept}
-use Rattle.olr_map.specs.Tables.{near, sides}
-use Rattle.olr_map.specs.declared.slots.Side.{Side}
-use Rattle.olr_map.specs.declared.change.TableChange.{TableChange}
-use Rattle.olr_map.specs.declared.change.TableChange.TheVariants.{PutNode, MoveNode, TakeNode, PutLine, SetLine}
-use Rattle.olr_map.specs.declared.change.TableChange.TheVariants.{TakeLine}
 use Rattle.olr_map.proofs.Making.{made_ok}
-use Rattle.std.proofs.lemmas.Grind.{common_steps}
+use Rattle.olr_spec.specs.Map as map
 
 room_fits : (M : Map) (R S : Room) (e : map.Edit) → IsRoomWithin R S → HasRoomFor M R e → HasRoomFor M S e
 room_fits M R S (map.Add_node v c) w h = let n = w.nodes in omega (arith, h)

@@ -1,14 +1,11 @@
 -- Values by number, in a list without duplicate numbers.
-use Rattle.std.proofs.Common.{◌≡◌, ◌==◌, ℕ, zero, suc, ◌<◌, Bool, false, cond, List, [], ◌∷◌, Some, length, get_or}
-use Rattle.std.proofs.Common.{refl, sym, ap, ◌∙◌, arith, nat_cmp}
-use Rattle.std.specs.List.{AllByRecursion, IsDistinct}
-use Rattle.std.specs.Map.{lookup, keys_of}
-use Rattle.std.specs.Cmp.{nat_cmp_total, unsigned_tied}
-use Rattle.std.specs.FinMap as finmap
-use Rattle.std.specs.FinMap.{from_entries, get, get-from_entries}
-use Rattle.std.proofs.lemmas.Bool.{eq-eqb}
-use Rattle.std.proofs.lemmas.Map.Keys.{IsDistinct-head, IsDistinct-tail}
+use Rattle.olr_map.proofs.Common.{◌≡◌, ◌==◌, ℕ, zero, suc, ◌<◌, Bool, false, cond, List, [], ◌∷◌, Some, length, get_or}
+use Rattle.olr_map.proofs.Common.{refl, sym, ap, ◌∙◌, arith, nat_cmp, AllByRecursion, lookup, keys_of, nat_cmp_total}
+use Rattle.olr_map.proofs.Common.{unsigned_tied, get, eq-eqb, IsDistinct-head, IsDistinct-tail}
+use Rattle.std.specs.List.{IsDistinct}
+use Rattle.std.specs.FinMap.{from_entries, get-from_entries}
 use Rattle.olr_map.proofs.Insertions.{eqb_flip}
+use Rattle.std.specs.FinMap as finmap
 
 module _ {V : Type 0} where
   differs_at : (k : ℕ) (es : List (ℕ × V)) (i : ℕ) (d : ℕ × V) →

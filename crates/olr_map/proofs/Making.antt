@@ -1,20 +1,14 @@
 -- An accepted change has a map as its result, and the change that undoes it can be made there.
-use Rattle.std.proofs.Common.{◌≡◌, ℕ, ◌+◌, ◌≤◌, Result, Ok, IsOk, sym, ap, ◌∙◌}
-use Rattle.std.proofs.Common.{subst, arith}
+use Rattle.olr_map.proofs.Common.{◌≡◌, ℕ, ◌+◌, ◌≤◌, Result, Ok, IsOk, sym, ap, ◌∙◌, subst, arith, eqb-true, Map, IsMap}
+use Rattle.olr_map.proofs.Common.{edited, back_of, spare_of, spare_numbers, change_edit, changed_at, map_after}
+use Rattle.olr_map.proofs.Common.{tables_map, room_of, room_after, CanMake, HasRoomFor, IsWhole, IsRoomWithin}
+use Rattle.olr_map.proofs.Common.{IsChangeMade, node_puts, line_puts, TableChange, RoadMap, common_steps}
 use Rattle.std.specs.Result.{result_unwrap_or}
-use Rattle.std.proofs.lemmas.Bool.{eqb-true}
-use Rattle.olr_spec.specs.Map as map
-use Rattle.olr_spec.specs.Map.{Map, IsMap, edited, HasCoord}
+use Rattle.olr_spec.specs.Map.{HasCoord}
 use Rattle.olr_spec.proofs.EditLemmas.{Made, made_by, edits_keep}
-use Rattle.olr_spec.proofs.UndoLemmas.{back_of, takes_back}
+use Rattle.olr_spec.proofs.UndoLemmas.{takes_back}
 use Rattle.olr_spec.proofs.OptionLemmas.{is_ok_of}
-use Rattle.olr_map.specs.SlotIndexes.{spare_of}
-use Rattle.olr_map.specs.SlotMaps.{spare_numbers}
-use Rattle.olr_map.specs.Changes.{change_edit, changed_at, map_after, tables_map, room_of, room_after, CanMake}
-use Rattle.olr_map.specs.Changes.{HasRoomFor, IsWhole, IsRoomWithin, IsChangeMade, node_puts, line_puts}
-use Rattle.olr_map.specs.declared.change.TableChange.{TableChange}
-use Rattle.olr_map.specs.declared.road_map.RoadMap.{RoadMap}
-use Rattle.std.proofs.lemmas.Grind.{common_steps}
+use Rattle.olr_spec.specs.Map as map
 
 -- an accepted edit has a map as its result
 ok_is : {A F : Type 0} (r : Result A F) (d : A) → IsOk r → r ≡ Ok (result_unwrap_or r d)

@@ -1,36 +1,19 @@
 -- A node is added, removed and moved.
-use Rattle.std.proofs.Common.{◌≡◌, ◌==◌, ℕ, ◌+◌, ◌<◌, ◌≤◌, true, false, cond, [], map, Option, Some, None, unwrap_or, length}
-use Rattle.std.proofs.Common.{refl, sym, ap, ◌∙◌, subst, arith, length-take-le}
-use Rattle.std.specs.Option.{option_map, option_map_or}
-use Rattle.std.specs.FinMap as finmap
-use Rattle.std.specs.FinMap.{FinMap, get}
+use Rattle.olr_map.proofs.Common.{◌≡◌, ◌==◌, ℕ, ◌+◌, ◌<◌, ◌≤◌, true, false, cond, [], map, Option, Some, None}
+use Rattle.olr_map.proofs.Common.{unwrap_or, length, refl, sym, ap, ◌∙◌, subst, arith, option_map, option_map_or}
+use Rattle.olr_map.proofs.Common.{FinMap, get, eqb-true, nil_from_length, same_Some, Coord, Map, IsMap, Line, has_node}
+use Rattle.olr_map.proofs.Common.{line_at, no_coord, has-lines_where, passed_line, slot_by, spare_of, IsWritten}
+use Rattle.olr_map.proofs.Common.{IsInserted, IsRemoved, IsReplaced, all_held, node_slots, node_room, links_at}
+use Rattle.olr_map.proofs.Common.{lines_on, ends_on, links_room, room_kept, sides, near, far, node_in, links_in}
+use Rattle.olr_map.proofs.Common.{map_from, node_slot, lines_at, end_at, IsListed, IsIndexed, AreTables, tables_map}
+use Rattle.olr_map.proofs.Common.{room_of, room_at, changed_at, CanMake, IsRoomWithin, map_after, IsChangeMade, Blocks}
+use Rattle.olr_map.proofs.Common.{Links, NodeEntry, NodeSlots, Side, Out, In, RoadMap, PutNode, MoveNode, TakeNode}
+use Rattle.olr_map.proofs.Common.{common_steps}
+use Rattle.std.proofs.Common.{length-take-le}
 use Rattle.std.specs.Ordering.{nat_cmp}
-use Rattle.std.proofs.lemmas.Bool.{eqb-true}
-use Rattle.std.proofs.lemmas.List.{nil_from_length}
-use Rattle.std.proofs.lemmas.Option.{same_Some}
-use Rattle.olr_spec.specs.Coordinates.{Coord}
-use Rattle.olr_spec.specs.Map as maps
-use Rattle.olr_spec.specs.Map.{Map, IsMap, Line, has_node, line_at, coord_at, no_coord}
-use Rattle.olr_spec.proofs.MapLemmas.{has-lines_where}
-use Rattle.olr_spec.proofs.UndoLemmas.{passed_line}
-use Rattle.olr_map.specs.SlotIndexes.{slot_by, spare_of}
-use Rattle.olr_map.specs.Slotted.{IsWritten, IsInserted, IsRemoved, IsReplaced}
-use Rattle.olr_map.specs.SlotMaps.{all_held}
-use Rattle.olr_map.specs.Columns.{node_slots, node_room}
-use Rattle.olr_map.specs.NodeLinks.{links_at}
-use Rattle.olr_map.specs.Linked.{IsBare, EmptyLinks, lines_on, ends_on, links_room, lines_kept, room_kept}
-use Rattle.olr_map.specs.Tables.{sides, near, far, node_in, links_in, map_from, node_slot, lines_at, end_at, IsListed}
-use Rattle.olr_map.specs.Tables.{IsIndexed, AreTables}
-use Rattle.olr_map.specs.Changes.{tables_map, room_of, room_at, changed_at, CanMake, IsRoomWithin, map_after, IsChangeMade}
-use Rattle.olr_map.specs.declared.blocks.Blocks.{Blocks}
-use Rattle.olr_map.specs.declared.links.Links.{Links}
+use Rattle.olr_spec.specs.Map.{coord_at}
+use Rattle.olr_map.specs.Linked.{IsBare, EmptyLinks, lines_kept}
 use Rattle.olr_map.specs.declared.links.Links.TheVariants.{Inline, Spilled}
-use Rattle.olr_map.specs.declared.slots.NodeEntry.{NodeEntry}
-use Rattle.olr_map.specs.declared.slots.NodeSlots.{NodeSlots}
-use Rattle.olr_map.specs.declared.slots.Side.{Side}
-use Rattle.olr_map.specs.declared.slots.Side.TheVariants.{Out, In}
-use Rattle.olr_map.specs.declared.road_map.RoadMap.{RoadMap}
-use Rattle.olr_map.specs.declared.change.TableChange.TheVariants.{PutNode, MoveNode, TakeNode}
 use Rattle.olr_map.proofs.ColumnLemmas.{few_nodes}
 use Rattle.olr_map.proofs.Insertions.{eqb_flip, over_cond, unchanged_at, got_insert, got_remove, same_answers}
 use Rattle.olr_map.proofs.SlotMapLemmas.{slot_if}
@@ -39,7 +22,8 @@ use Rattle.olr_map.proofs.Listing.{absent_lines, unused_lines, far_there, far_un
 use Rattle.olr_map.proofs.LineRecords.{record_of, other_node}
 use Rattle.olr_map.proofs.Reading.{got_node, kept_from, not_found, slot_of, node_read, listed_at}
 use Rattle.olr_map.proofs.Making.{made_as, sound_after, change_made, changed_back}
-use Rattle.std.proofs.lemmas.Grind.{common_steps}
+use Rattle.std.specs.FinMap as finmap
+use Rattle.olr_spec.specs.Map as maps
 
 -- ---- a node has another entry
 

@@ -1,14 +1,11 @@
 -- Ascending lists of numbers, by the numbers that they contain.
-use Rattle.std.proofs.lemmas.Grind.{common_steps}
-use Rattle.std.proofs.Common.{◌≡◌, ◌==◌, ℕ, ◌<◌, ◌≤◌, true, false, ◌||◌, List, [], ◌∷◌, refl, sym, ap, ◌∙◌, subst}
-use Rattle.std.proofs.Common.{arith, nat_cmp, Less}
-use Rattle.std.specs.List.{AllByRecursion, IsDistinct}
-use Rattle.std.specs.List.Sorted.{IsStrictlyIncreasing, IsStrictlySortedBy}
-use Rattle.std.proofs.lemmas.Bool.{ne_eqb, eqb-true}
-use Rattle.std.proofs.lemmas.Cmp.{ranked}
-use Rattle.std.proofs.lemmas.Map.Keys.{IsDistinct-from_apart, below_from_sorted, sorted_from_strictly_increasing}
-use Rattle.olr_spec.specs.Map.{has}
-use Rattle.olr_spec.proofs.ListLemmas.{has_here}
+use Rattle.olr_map.proofs.Common.{common_steps, ◌≡◌, ◌==◌, ℕ, ◌<◌, ◌≤◌, true, false, ◌||◌, List, [], ◌∷◌, refl, sym, ap}
+use Rattle.olr_map.proofs.Common.{◌∙◌, subst, arith, nat_cmp, Less, AllByRecursion, IsStrictlyIncreasing, ne_eqb}
+use Rattle.olr_map.proofs.Common.{eqb-true, ranked, IsDistinct-from_apart, sorted_from_strictly_increasing, has}
+use Rattle.olr_map.proofs.Common.{has_here}
+use Rattle.std.specs.List.{IsDistinct}
+use Rattle.std.specs.List.Sorted.{IsStrictlySortedBy}
+use Rattle.std.proofs.lemmas.Map.Keys.{below_from_sorted}
 
 pub distinct_from_ascending : (xs : List ℕ) → IsStrictlyIncreasing xs → IsDistinct ◌==◌ xs
 distinct_from_ascending xs up = grind (arith, common_steps, IsDistinct-from_apart, ne_eqb, below_from_sorted, sorted_from_strictly_increasing)

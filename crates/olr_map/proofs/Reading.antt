@@ -1,35 +1,21 @@
 -- The map that the tables represent.
-use Rattle.std.proofs.Common.{◌≡◌, ◌==◌, ℕ, ◌<◌, ◌≤◌, ◌^◌, true, false, List, [], map, Option, Some, None}
-use Rattle.std.proofs.Common.{is_some, IsTrue, SomeIff, length, refl, sym, ap, subst, ◌∙◌, arith}
-use Rattle.std.specs.Option.{option_map, option_map_or}
-use Rattle.std.proofs.lemmas.Bool.{false_from_ne_true}
+use Rattle.olr_map.proofs.Common.{◌≡◌, ◌==◌, ℕ, ◌<◌, ◌≤◌, ◌^◌, true, false, List, [], map, Option, Some, None, is_some}
+use Rattle.olr_map.proofs.Common.{length, refl, sym, ap, subst, ◌∙◌, arith, option_map, option_map_or}
+use Rattle.olr_map.proofs.Common.{false_from_ne_true, FinMap, get, Map, Line, IsMap, has_node, has_line, no_coord}
+use Rattle.olr_map.proofs.Common.{none_of, some_of, pairs_of, slot_by, at, node_slots, links_at, node_in, links_in}
+use Rattle.olr_map.proofs.Common.{lines_at, end_at, map_from, node_slot, IsListed, IsIndexed, AreTables, tables_map}
+use Rattle.olr_map.proofs.Common.{Blocks, Links, NodeEntry, Side, RoadMap, held, all_held, in_slot, common_steps}
+use Rattle.std.proofs.Common.{IsTrue, SomeIff}
 use Rattle.std.proofs.lemmas.Map.Made.{lookup-map_values}
-use Rattle.std.specs.FinMap.{FinMap, get}
 use Rattle.std.specs.Ordering.{nat_cmp}
-use Rattle.olr_spec.specs.Map.{Map, Line, IsMap, has_node, has_line, no_coord}
-use Rattle.olr_spec.proofs.OptionLemmas.{none_of, some_of}
-use Rattle.olr_map.specs.SlotIndexes.{pairs_of, slot_by}
-use Rattle.olr_map.specs.Slotted.{at}
-use Rattle.olr_map.specs.Columns.{node_slots}
-use Rattle.olr_map.specs.NodeLinks.{links_at}
-use Rattle.olr_map.specs.Tables.{node_in, links_in, lines_at, end_at, coord_in, map_from, node_slot, IsListed, IsIndexed}
-use Rattle.olr_map.specs.Tables.{AreTables}
-use Rattle.olr_map.specs.Changes.{tables_map}
+use Rattle.olr_map.specs.Tables.{coord_in}
 use Rattle.olr_map.specs.Ends.{HaveSlotsApart}
-use Rattle.olr_map.specs.declared.blocks.Blocks.{Blocks}
-use Rattle.olr_map.specs.declared.links.Links.{Links}
-use Rattle.olr_map.specs.declared.slots.NodeEntry.{NodeEntry}
-use Rattle.olr_map.specs.declared.slots.Side.{Side}
-use Rattle.olr_map.specs.declared.road_map.RoadMap.{RoadMap}
 use Rattle.olr_map.proofs.Lookups.{all_get}
 use Rattle.olr_map.proofs.Blocking.{listed_found}
 use Rattle.olr_map.proofs.SlotLemmas.{holds_within}
 use Rattle.olr_map.proofs.Indexing.{id_of, place_of, entry_of, one_node}
 use Rattle.olr_map.proofs.Listing.{absent_lines}
-use Rattle.olr_map.specs.SlotMaps.{held, all_held}
-use Rattle.olr_map.specs.HavingSlots.{in_slot}
 use Rattle.olr_map.proofs.SlotMapLemmas.{held_get}
-use Rattle.std.proofs.lemmas.Grind.{common_steps}
 
 or_there : {X Y : Type 0} (f : X → Y) (d : Y) (o : Option X) (x : X) → o ≡ Some x →
     Some (option_map_or f o d) ≡ option_map f o

@@ -1,9 +1,7 @@
 -- An ascending list is no longer than a list that has all its numbers.
-use Rattle.std.proofs.Common.{◌≤◌, ℕ, List, length, Contains}
-use Rattle.std.specs.List.Sorted.{IsStrictlyIncreasing}
-use Rattle.std.proofs.lemmas.Bool.{eqb-true}
+use Rattle.olr_map.proofs.Common.{◌≤◌, ℕ, List, length, Contains, IsStrictlyIncreasing, eqb-true, Contains-from_any}
+use Rattle.olr_map.proofs.Common.{list_any-from_Contains}
 use Rattle.std.proofs.lemmas.Map.Made.{length-le_from_is_member}
-use Rattle.std.proofs.lemmas.Map.Views.{Contains-from_any, list_any-from_Contains}
 use Rattle.std.specs.Cmp.{nat_eq_equiv}
 use Rattle.olr_map.proofs.Numbers.{distinct_from_ascending}
 

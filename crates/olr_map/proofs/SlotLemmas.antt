@@ -1,17 +1,12 @@
 -- Slots, after a value is added, removed or replaced.
-use Rattle.std.proofs.Common.{◌≡◌, ◌==◌, ℕ, ◌+◌, ◌<◌, ◌≤◌, ◌^◌, zero, suc, true, cond, List, [], ◌∷◌, ◌++◌}
-use Rattle.std.proofs.Common.{Option, Some, None, is_some, IsNone, length, get_or, set, slice_index, refl, sym, ap, ◌∙◌}
-use Rattle.std.proofs.Common.{subst, inl, inr, arith}
-use Rattle.std.proofs.lemmas.Bool.{cases_eq, cases_order, eq-eqb, ne_eqb}
-use Rattle.std.proofs.lemmas.List.{get_or-set_same, get_or-set_other, get_or_default, get_or_past, get_or_push}
-use Rattle.std.proofs.lemmas.List.{get_or_append_left, length-set, length_push}
-use Rattle.olr_spec.proofs.OptionLemmas.{none_of, some_of}
-use Rattle.olr_map.specs.Slotted.{at, IsSlotted, IsWritten}
-use Rattle.std.proofs.lemmas.Grind.{common_steps}
+use Rattle.olr_map.proofs.Common.{◌≡◌, ◌==◌, ℕ, ◌+◌, ◌<◌, ◌≤◌, ◌^◌, zero, suc, true, cond, List, [], ◌∷◌, ◌++◌, Option}
+use Rattle.olr_map.proofs.Common.{Some, None, is_some, length, get_or, set, slice_index, refl, sym, ap, ◌∙◌, subst, inl}
+use Rattle.olr_map.proofs.Common.{inr, arith, cases_eq, cases_order, eq-eqb, ne_eqb, get_or_past, length-set}
+use Rattle.olr_map.proofs.Common.{length_push, none_of, some_of, at, IsSlotted, IsWritten, common_steps}
+use Rattle.olr_map.proofs.Common.{IsDistinct-from_apart, Contains-from_any, eqb-true}
+use Rattle.std.proofs.Common.{IsNone}
+use Rattle.std.proofs.lemmas.List.{get_or-set_same, get_or-set_other, get_or_default, get_or_push, get_or_append_left}
 use Rattle.std.proofs.lemmas.Map.Steps.{length-le_from_distinct_below}
-use Rattle.std.proofs.lemmas.Map.Keys.{IsDistinct-from_apart}
-use Rattle.std.proofs.lemmas.Map.Views.{Contains-from_any}
-use Rattle.std.proofs.lemmas.Bool.{eqb-true}
 
 -- ---- the element at each index after one was written, and after one was appended
 

@@ -1,23 +1,12 @@
 -- Numbers with slots, after the value of one number is added, removed or replaced, and the values as a list.
-use Rattle.std.proofs.Common.{◌≡◌, ◌==◌, ◌⊎◌, inl, inr, ℕ, true, false, cond, List, [], ◌∷◌, Option, Some}
-use Rattle.std.proofs.Common.{None, IsSome, refl, sym, ap, ◌∙◌, eqb-true}
-use Rattle.std.specs.Option.{option_or}
-use Rattle.std.specs.Map.{lookup}
-use Rattle.std.specs.FinMap.{get}
-use Rattle.std.proofs.lemmas.Bool.{eq-eqb, ne_eqb, cond-true, cond-false}
-use Rattle.std.proofs.lemmas.Option.{same_Some}
-use Rattle.olr_spec.proofs.OptionLemmas.{some_of}
-use Rattle.olr_map.specs.SlotIndexes.{pairs_of, slot_by}
-use Rattle.olr_map.specs.Slotted.{at, IsWritten}
-use Rattle.olr_map.specs.Slabs.{slots_of}
-use Rattle.olr_map.specs.HavingSlots.{in_slot, HaveSlots}
-use Rattle.olr_map.specs.SlotMaps.{thing, things_in, held, things_of, all_held}
-use Rattle.olr_map.specs.declared.blocks.Blocks.{Blocks}
-use Rattle.olr_map.specs.declared.slot_map.SlotMap.{SlotMap}
+use Rattle.olr_map.proofs.Common.{◌≡◌, ◌==◌, ◌⊎◌, inl, inr, ℕ, true, false, cond, List, [], ◌∷◌, Option, Some, None}
+use Rattle.olr_map.proofs.Common.{refl, sym, ap, ◌∙◌, option_or, lookup, get, eq-eqb, ne_eqb, cond-true, cond-false}
+use Rattle.olr_map.proofs.Common.{same_Some, some_of, pairs_of, slot_by, at, IsWritten, slots_of, in_slot, HaveSlots}
+use Rattle.olr_map.proofs.Common.{held, things_of, all_held, Blocks, SlotMap, common_steps, arith}
+use Rattle.std.proofs.Common.{IsSome, eqb-true}
+use Rattle.olr_map.specs.SlotMaps.{thing, things_in}
 use Rattle.olr_map.proofs.Lookups.{all_get}
 use Rattle.olr_map.proofs.Blocking.{lookup-append, listed_found}
-use Rattle.std.proofs.lemmas.Grind.{common_steps}
-use Rattle.std.proofs.Common.{arith}
 
 -- the slot p of a number, if the number has a value
 abbrev pub slot_if : {X : Type 0} → ℕ → Option X → Option ℕ

@@ -1,13 +1,7 @@
 -- The slots of an edit's nodes stay where no node's slot changes.
-use Rattle.std.proofs.Common.{◌≡◌, ℕ, sym, ◌∙◌, subst}
+use Rattle.olr_map.proofs.Common.{◌≡◌, ℕ, sym, ◌∙◌, subst, Map, start, end, slot_by, AreSlots, tables_map, change_edit}
+use Rattle.olr_map.proofs.Common.{IsReserved, Blocks, TableChange, RoadMap}
 use Rattle.olr_spec.specs.Map as maps
-use Rattle.olr_spec.specs.Map.{Map, start, end}
-use Rattle.olr_map.specs.SlotIndexes.{slot_by}
-use Rattle.olr_map.specs.EditPlans.{AreSlots}
-use Rattle.olr_map.specs.Changes.{tables_map, change_edit, IsReserved}
-use Rattle.olr_map.specs.declared.blocks.Blocks.{Blocks}
-use Rattle.olr_map.specs.declared.change.TableChange.{TableChange}
-use Rattle.olr_map.specs.declared.road_map.RoadMap.{RoadMap}
 
 slots_stay : (b b' : Blocks) (M M' : Map) (at : ℕ × ℕ) (e : maps.Edit) →
     ((v : ℕ) → slot_by b' v ≡ slot_by b v) → M' ≡ M → AreSlots b M at e → AreSlots b' M' at e

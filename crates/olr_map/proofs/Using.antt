@@ -1,16 +1,14 @@
 -- When a node is in use, by its two lists.
-use Rattle.std.proofs.lemmas.Grind.{common_steps}
-use Rattle.std.proofs.Common.{◌≡◌, ◌==◌, ◌||◌, ◌<◌, ℕ, true, false, List, [], ◌∷◌, Some, Ok, Err}
-use Rattle.std.proofs.Common.{length, map, refl, sym, ap, ◌∙◌, arith}
-use Rattle.std.specs.FinMap.{get, remove}
-use Rattle.std.proofs.lemmas.Bool.{eq-eqb, or_left, or_right, or_from, false_from_ne_true, not_from_true}
-use Rattle.std.proofs.lemmas.List.{nil_from_length, length-map}
-use Rattle.olr_spec.specs.Map.{Map, Line, lines_where, lines_in, lines_out, in_use, has_node, edited}
-use Rattle.olr_spec.specs.Map.{Node_in_use, Drop_node, has}
-use Rattle.olr_spec.proofs.MapLemmas.{has-lines_where, passes_at}
-use Rattle.olr_spec.proofs.UndoLemmas.{passed_line, unless_false}
+use Rattle.olr_map.proofs.Common.{common_steps, ◌≡◌, ◌==◌, ◌||◌, ◌<◌, ℕ, true, false, List, [], ◌∷◌, Some, Ok, Err}
+use Rattle.olr_map.proofs.Common.{length, map, refl, sym, ap, ◌∙◌, arith, get, eq-eqb, or_left, or_right}
+use Rattle.olr_map.proofs.Common.{false_from_ne_true, nil_from_length, Map, Line, lines_out, in_use, has_node, edited}
+use Rattle.olr_map.proofs.Common.{Node_in_use, has, has-lines_where, passes_at, passed_line, LineEnd}
+use Rattle.std.specs.FinMap.{remove}
+use Rattle.std.proofs.lemmas.Bool.{or_from, not_from_true}
+use Rattle.std.proofs.lemmas.List.{length-map}
+use Rattle.olr_spec.specs.Map.{lines_where, lines_in, Drop_node}
+use Rattle.olr_spec.proofs.UndoLemmas.{unless_false}
 use Rattle.olr_map.specs.Ends.{end_in, end_out}
-use Rattle.olr_map.specs.declared.read.LineEnd.{LineEnd}
 use Rattle.olr_map.proofs.LineRecords.{used_by, unused_by}
 
 -- a line in the list uses the node

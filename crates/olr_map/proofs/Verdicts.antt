@@ -1,27 +1,21 @@
 -- The slots of an accepted edit's nodes, and the faults of a map as they are returned.
-use Rattle.std.proofs.Common.{◌≡◌, ◌==◌, ◌||◌, ℕ, true, List, [], ◌∷◌, map, Option, Some, None, Result, Ok, Err}
-use Rattle.std.proofs.Common.{IsOk, MatchResult, refl, sym, ap, ◌∙◌}
+use Rattle.olr_map.proofs.Common.{◌≡◌, ◌==◌, ◌||◌, ℕ, true, List, [], ◌∷◌, map, Option, Some, None, Result, Ok, Err}
+use Rattle.olr_map.proofs.Common.{IsOk, refl, sym, ap, ◌∙◌, eqb-true, eq-eqb, Map, Node_in_use, has_node, start, end}
+use Rattle.olr_map.proofs.Common.{edited, has, slot_by, node_slot, tables_map, AreSlots, Blocks, RoadMap, common_steps}
+use Rattle.olr_map.proofs.Common.{arith}
+use Rattle.std.proofs.Common.{MatchResult}
 use Rattle.std.specs.Option.{option_to_list}
-use Rattle.std.proofs.lemmas.Bool.{eqb-true, eq-eqb}
-use Rattle.olr_spec.specs.Map as maps
-use Rattle.olr_spec.specs.Map.{Map, MapFault, Node_exists, No_node, Line_exists, No_line, Node_in_use, Bad_shape}
-use Rattle.olr_spec.specs.Map.{has_node, start, end, edited, touched_nodes, has}
+use Rattle.olr_spec.specs.Map.{MapFault, Node_exists, No_node, Line_exists, No_line, Bad_shape, touched_nodes}
 use Rattle.olr_spec.specs.Detours.{ChangedLine, changes_of}
-use Rattle.olr_map.specs.SlotIndexes.{slot_by}
-use Rattle.olr_map.specs.Tables.{node_slot}
-use Rattle.olr_map.specs.Changes.{tables_map}
 use Rattle.olr_map.specs.Edits.{edit_fault_of}
-use Rattle.olr_map.specs.EditPlans.{IsEditPlan, AreSlots}
-use Rattle.olr_map.specs.declared.blocks.Blocks.{Blocks}
+use Rattle.olr_map.specs.EditPlans.{IsEditPlan}
 use Rattle.olr_map.specs.declared.edit.EditFault.{EditFault}
 use Rattle.olr_map.specs.declared.edit.EditFault.TheVariants.{NodeExists, NoNode, LineExists, NoLine, NodeInUse}
 use Rattle.olr_map.specs.declared.edit.EditFault.TheVariants.{BadShape, Memory}
 use Rattle.olr_map.specs.declared.judging.EditPlan.{EditPlan}
-use Rattle.olr_map.specs.declared.road_map.RoadMap.{RoadMap}
 use Rattle.olr_map.proofs.Making.{made_from}
 use Rattle.olr_map.proofs.Reading.{slot_is}
-use Rattle.std.proofs.lemmas.Grind.{common_steps}
-use Rattle.std.proofs.Common.{arith}
+use Rattle.olr_spec.specs.Map as maps
 
 -- the ends of the one changed line
 planned_ends : (line : Option ℕ) (from to len : ℕ) (c : ChangedLine) →

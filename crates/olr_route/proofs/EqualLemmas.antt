@@ -1,6 +1,7 @@
 -- What comparisons of two numbers say.
-use Rattle.std.proofs.Common.{◌≡◌, ℕ, Bool, true, false, not, refl, eqb}
-use Rattle.std.proofs.lemmas.Bool.{eq-eqb, eqb-true}
+use Rattle.olr_route.proofs.Common.{◌≡◌, ℕ, Bool, true, false, refl, eqb, eqb-true}
+use Rattle.std.proofs.Common.{not}
+use Rattle.std.proofs.lemmas.Bool.{eq-eqb}
 
 pub differ : (a b : ℕ) → true ≡ not (eqb a b) → ¬ (a ≡ b)
 differ a b e h = let t : eqb a b ≡ true = eq-eqb a b h in cc

@@ -1,15 +1,15 @@
 -- Labels that no line improves are those of the shortest paths.
-use Rattle.std.proofs.Common.{◌≡◌, ℕ, zero, suc, ◌+◌, ◌<◌, ◌≤◌, List, [], ◌∷◌, ◌++◌, reverse, length, Option, Some}
-use Rattle.std.proofs.Common.{None, IsTrue, inl, inr, refl, sym, ap, ◌∙◌, subst, arith, length-append}
-use Rattle.olr_spec.specs.Map.{Map, IsMap, has_line, start, end, dm}
-use Rattle.olr_spec.specs.Routes.{IsRoute, dm_of, FirstSmaller, PrecedesInTieOrder, Least}
-use Rattle.olr_spec.proofs.RouteLemmas.{positive, empty_least}
+use Rattle.olr_route.proofs.Common.{◌≡◌, ℕ, suc, ◌+◌, ◌<◌, ◌≤◌, List, [], ◌∷◌, ◌++◌, length, Option, Some, None, IsTrue}
+use Rattle.olr_route.proofs.Common.{inl, inr, refl, sym, ap, ◌∙◌, subst, arith, length-append, Map, IsMap, has_line}
+use Rattle.olr_route.proofs.Common.{start, end, dm, IsRoute, dm_of, Least, positive, empty_least, some_of, is_some_of}
+use Rattle.olr_route.proofs.Common.{Label, Labels, label_at, last_of, AreLabels, NotGreater, Capped, Found, ends_of}
+use Rattle.olr_route.proofs.Common.{dm_of-line, route_on, last_step, empty, ended}
+use Rattle.std.proofs.Common.{zero, reverse}
+use Rattle.olr_spec.specs.Routes.{FirstSmaller, PrecedesInTieOrder}
 use Rattle.olr_spec.proofs.LabelLemmas.{last_first}
-use Rattle.olr_spec.proofs.OptionLemmas.{some_of, is_some_of}
-use Rattle.olr_route.specs.Labels.{Label, Labels, label_at, last_of, IsLabel, AreLabels}
-use Rattle.olr_route.specs.Relaxed.{NotGreater, NotAfter, Capped, IsClosed, Found}
-use Rattle.olr_search.proofs.RouteEnds.{ends_of, dm_of-line, route_on, LastStep, last_step}
-use Rattle.olr_search.proofs.RouteEnds.Ends.{empty, ended}
+use Rattle.olr_route.specs.Labels.{IsLabel}
+use Rattle.olr_route.specs.Relaxed.{NotAfter, IsClosed}
+use Rattle.olr_search.proofs.RouteEnds.{LastStep}
 use Rattle.olr_route.proofs.LastLemmas.{last_of-append}
 
 pub not_after_le : (d e : ℕ) (o p : Option ℕ) → NotAfter d o e p → d ≤ e

@@ -1,11 +1,6 @@
 -- Lists and routes by their last line.
-use Rattle.std.proofs.Common.{arith, ◌≡◌, ℕ, List, [], ◌∷◌, ◌++◌, Option, Some, None, refl, sym, ap, ◌∙◌}
-use Rattle.olr_spec.specs.Map.{Map, start}
-use Rattle.olr_spec.specs.Routes.{Least}
-use Rattle.olr_spec.proofs.RouteLemmas.{prefix_of_least}
-use Rattle.olr_search.proofs.RouteEnds.{ends_of, last_step}
-use Rattle.olr_search.proofs.RouteEnds.Ends.{empty, ended}
-use Rattle.olr_route.specs.Labels.{last_of}
+use Rattle.olr_route.proofs.Common.{arith, ◌≡◌, ℕ, List, [], ◌∷◌, ◌++◌, Option, Some, None, refl, sym, ap, ◌∙◌, Map}
+use Rattle.olr_route.proofs.Common.{start, Least, prefix_of_least, ends_of, last_step, empty, ended, last_of}
 
 pub last_of-append : (xs : List ℕ) (x : ℕ) → last_of (xs ++ x ∷ []) ≡ Some x
 last_of-append [] x = refl

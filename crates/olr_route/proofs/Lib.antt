@@ -1,3 +1,4 @@
+pub mod Common
 mod LastLemmas
 mod LabelLemmas
 mod ExtendLemmas

@@ -1,27 +1,21 @@
 -- Distances with their last lines are the labels of the shortest paths.
-use Rattle.std.proofs.Common.{◌≡◌, ℕ, ◌+◌, ◌<◌, ◌≤◌, ◌⊎◌, ◌↔◌, List, [], ◌∷◌, ◌++◌, length, get_or, Contains, Option}
-use Rattle.std.proofs.Common.{Some, None, IsTrue, refl, sym, ap, ◌∙◌, subst, inl, inr, arith}
-use Rattle.std.specs.List.Sorted.{IsStrictlyIncreasing}
-use Rattle.std.proofs.lemmas.Bool.{cases_lt}
-use Rattle.std.proofs.lemmas.List.{get_or_default}
-use Rattle.olr_spec.specs.Map.{Map, has_node, has_line, start, end, dm}
-use Rattle.olr_spec.specs.Routes.{IsRoute, dm_of}
-use Rattle.olr_spec.proofs.RouteLemmas.{positive}
-use Rattle.olr_route.specs.Labels.{Label, AreLabels, label_at}
-use Rattle.olr_route.specs.Listed.{listed_labels, IsTight, IsLastLine, IsReturned}
+use Rattle.olr_route.proofs.Common.{◌≡◌, ℕ, ◌+◌, ◌<◌, ◌≤◌, ◌⊎◌, ◌↔◌, List, [], ◌∷◌, ◌++◌, length, get_or, Contains}
+use Rattle.olr_route.proofs.Common.{Option, Some, None, IsTrue, refl, sym, ap, ◌∙◌, subst, inl, inr, arith}
+use Rattle.olr_route.proofs.Common.{IsStrictlyIncreasing, cases_lt, get_or_default, Map, has_line, start, end, dm}
+use Rattle.olr_route.proofs.Common.{IsRoute, dm_of, positive, Label, AreLabels, label_at, listed_labels, IsTight}
+use Rattle.olr_route.proofs.Common.{IsReturned, NotGreater, Capped, Found, Along, label_is, distance_node, ends_of}
+use Rattle.olr_route.proofs.Common.{dm_of-line, route_on, last_step, empty, ended}
+use Rattle.olr_spec.specs.Map.{has_node}
+use Rattle.olr_route.specs.Listed.{IsLastLine}
 use Rattle.olr_search.specs.Frontiers.{label_of}
-use Rattle.olr_route.specs.Relaxed.{NotGreater, Capped, Found}
 use Rattle.olr_search.specs.Searches.{IsSearch, LiesWithin}
-use Rattle.olr_search.specs.declared.distances.Direction.TheVariants.{Along}
 use Rattle.olr_search.specs.declared.distances.Dijkstra.{Dijkstra}
 use Rattle.olr_search.proofs.NoteLemmas.{first_one}
 use Rattle.olr_route.proofs.LabelLemmas.{Certified, labels_of_certified}
-use Rattle.olr_search.proofs.SearchLemmas.{is_distance, label_is, distance_node}
+use Rattle.olr_search.proofs.SearchLemmas.{is_distance}
 use Rattle.olr_search.proofs.UniqueLemmas.{way_le, label_way}
 use Rattle.olr_route.proofs.LastLemmas.{last_of-append}
 use Rattle.olr_route.proofs.ViewLemmas.{label_of_node, node_of_label}
-use Rattle.olr_search.proofs.RouteEnds.{ends_of, dm_of-line, route_on, last_step}
-use Rattle.olr_search.proofs.RouteEnds.Ends.{empty, ended}
 use Rattle.olr_search.proofs.WayLemmas.{leads_first}
 
 -- an option has a value, or none

@@ -1,14 +1,13 @@
 -- The first lines of a route, one more at a time.
-use Rattle.std.proofs.Common.{◌≡◌, ℕ, ◌+◌, ◌<◌, ◌≤◌, List, [], ◌∷◌, ◌++◌, take, drop, length, get_or, IsTrue, sym, ap}
-use Rattle.std.proofs.Common.{◌∙◌, subst, arith, append_assoc, add-one, drop-cons, suc, Bool, true, false, ◌↔◌}
+use Rattle.olr_route.proofs.Common.{◌≡◌, ℕ, ◌+◌, ◌<◌, ◌≤◌, List, [], ◌∷◌, ◌++◌, take, length, get_or, IsTrue, sym, ap}
+use Rattle.olr_route.proofs.Common.{◌∙◌, subst, arith, suc, Bool, true, false, ◌↔◌, Map, IsMap, has_line, start, end}
+use Rattle.olr_route.proofs.Common.{IsRoute, dm_of, Least, prefix_of_least, empty_least, Labels, LeastWithin}
+use Rattle.olr_route.proofs.Common.{UniqueWithin, IsShortest, route_on, last_step}
+use Rattle.std.proofs.Common.{drop, append_assoc, add-one, drop-cons}
 use Rattle.std.proofs.lemmas.Bool.{both_ways}
 use Rattle.std.proofs.lemmas.List.{take_more, take-append-drop}
-use Rattle.olr_spec.specs.Map.{Map, IsMap, has_line, start, end}
-use Rattle.olr_spec.specs.Routes.{IsRoute, dm_of, Least, UniqueShortest}
-use Rattle.olr_spec.proofs.RouteLemmas.{dm_of-append, IsRoute-split, prefix_of_least, prefix_of_unique, empty_least}
-use Rattle.olr_spec.proofs.RouteLemmas.{empty_unique}
-use Rattle.olr_route.specs.Labels.{Labels, LeastWithin, UniqueWithin, IsShortest}
-use Rattle.olr_search.proofs.RouteEnds.{route_on, last_step}
+use Rattle.olr_spec.specs.Routes.{UniqueShortest}
+use Rattle.olr_spec.proofs.RouteLemmas.{dm_of-append, IsRoute-split, prefix_of_unique, empty_unique}
 
 -- line y is the one after the first i lines of a route from s to t
 pub record IsNext (M : Map) (s t : ℕ) (lines : List ℕ) (i y : ℕ) : Type 0 where

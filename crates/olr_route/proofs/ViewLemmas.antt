@@ -1,23 +1,20 @@
 -- Labels are a finite map, and are stored in two lists: both have the same values.
-use Rattle.std.proofs.Common.{◌≡◌, ℕ, suc, ◌+◌, ◌<◌, ◌↔◌, Contains, List, [], ◌∷◌, length, get_or, Option, Some, None}
-use Rattle.std.proofs.Common.{Bool, false, cond, is_some, IsSome, refl, sym, ap, ◌∙◌, subst, arith, nat_cmp, eqb}
+use Rattle.olr_route.proofs.Common.{◌≡◌, ℕ, suc, ◌+◌, ◌<◌, ◌↔◌, Contains, List, [], ◌∷◌, length, get_or, Option, Some}
+use Rattle.olr_route.proofs.Common.{None, Bool, false, IsSome, refl, sym, ap, ◌∙◌, subst, arith, eqb}
+use Rattle.olr_route.proofs.Common.{IsStrictlyIncreasing, eqb-true, get_or_default, is_some_of, Label, label_at}
+use Rattle.olr_route.proofs.Common.{count_of, listed_labels}
+use Rattle.std.proofs.Common.{cond, is_some, nat_cmp}
 use Rattle.std.specs.Cmp.{nat_cmp_total}
 use Rattle.std.specs.FinMap.{get, len, from_entries, get-from_entries, len-insert, len-empty, contains_key}
 use Rattle.std.specs.FinMap.Entries.{find}
 use Rattle.std.specs.List.{AllByRecursion, IsDistinct, zip}
-use Rattle.std.specs.List.Sorted.{IsStrictlyIncreasing}
 use Rattle.std.specs.Map.{lookup, keys_of}
-use Rattle.std.proofs.lemmas.Bool.{eqb-true}
-use Rattle.std.proofs.lemmas.List.{get_or_default}
 use Rattle.std.proofs.lemmas.Map.Keys.{IsDistinct-tail, IsDistinct-head}
 use Rattle.std.proofs.lemmas.Map.Made.{keys_of-zip}
 use Rattle.std.proofs.lemmas.Map.Views.{Contains-keys_from_lookup}
 use Rattle.std.proofs.lemmas.Slice.Zip.{get_or-zip, length-zip}
-use Rattle.olr_spec.proofs.OptionLemmas.{is_some_of}
 use Rattle.olr_map.proofs.Lookups.{lookup_at}
 use Rattle.olr_map.proofs.Numbers.{distinct_from_ascending}
-use Rattle.olr_route.specs.Labels.{Label, label_at, count_of}
-use Rattle.olr_route.specs.Listed.{listed_labels}
 
 find-lookup : (q : ℕ) (es : List (ℕ × Label)) → find nat_cmp q es ≡ lookup (eqb q) es
 find-lookup q [] = refl

@@ -1,21 +1,16 @@
 -- The number of nodes that a search has settled.
-use Rattle.std.proofs.Common.{◌≡◌, ◌==◌, ℕ, Bool, true, false, List, [], ◌∷◌, ◌↔◌, Contains, refl, sym, ap, ◌∙◌, subst}
-use Rattle.std.proofs.Common.{inl, inr, arith, ◌≢◌, ◌<◌, length, get_or}
-use Rattle.std.specs.Prelude.{cond, nat_le, count_by}
-use Rattle.std.specs.List.{filter, IsDistinct}
+use Rattle.olr_search.proofs.Common.{◌≡◌, ◌==◌, ℕ, true, List, [], ◌∷◌, Contains, refl, sym, ap, ◌∙◌, subst, inl, inr}
+use Rattle.olr_search.proofs.Common.{arith, ◌≢◌, ◌<◌, length, get_or, nat_le, filter, IsDistinct, length-map}
+use Rattle.olr_search.proofs.Common.{get_or-map, Map, Contains-later, label_of, numbers_of, IsSearch, LiesWithin}
+use Rattle.olr_search.proofs.Common.{Reached, Direction, Dijkstra}
+use Rattle.std.proofs.Common.{Bool, false, ◌↔◌}
+use Rattle.std.specs.Prelude.{cond, count_by}
 use Rattle.std.proofs.lemmas.Bool.Decides.{nat_tests}
-use Rattle.std.proofs.lemmas.List.{length-map, get_or-map}
 use Rattle.std.proofs.lemmas.List.Kept.{AllPairs-filter}
 use Rattle.std.proofs.lemmas.List.Sums.{length-filter}
 use Rattle.std.proofs.lemmas.List.Elements.{All-filter, All-contains_itself, filter_passes}
-use Rattle.olr_spec.specs.Map.{Map}
-use Rattle.olr_spec.proofs.ListLemmas.{Contains-cases, Contains-later}
-use Rattle.olr_search.specs.Frontiers.{label_of}
-use Rattle.olr_search.specs.Notes.{numbers_of}
-use Rattle.olr_search.specs.Searches.{IsSearch, LiesWithin, Counts}
-use Rattle.olr_search.specs.declared.frontier.Reached.{Reached}
-use Rattle.olr_search.specs.declared.distances.Direction.{Direction}
-use Rattle.olr_search.specs.declared.distances.Dijkstra.{Dijkstra}
+use Rattle.olr_spec.proofs.ListLemmas.{Contains-cases}
+use Rattle.olr_search.specs.Searches.{Counts}
 use Rattle.olr_search.proofs.DistinctLemmas.{numbers_distinct}
 use Rattle.olr_search.proofs.SearchLemmas.{near_listed, listed_near, label_is, distance_node}
 

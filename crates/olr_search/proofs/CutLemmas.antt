@@ -1,17 +1,11 @@
 -- How a search goes on where it may label only some nodes, and what it says in the end.
-use Rattle.std.proofs.Common.{◌≡◌, ℕ, zero, suc, ◌+◌, ◌≤◌, ◌<◌, ◌⊎◌, List, Contains, IsTrue, length, ap, subst, inl, inr}
-use Rattle.std.proofs.Common.{arith, ◌∙◌, refl, sym}
-use Rattle.std.specs.Prelude.{⊤, max}
-use Rattle.std.proofs.lemmas.Bool.{cases_lt}
-use Rattle.olr_spec.specs.Map.{Map, has_node, has_line, dm}
-use Rattle.olr_spec.specs.Routes.{dm_of}
-use Rattle.olr_search.specs.Distances.{Way, Leads, near_end, far_end}
-use Rattle.olr_search.specs.Frontiers.{label_of, frontier_len, IsQueued, Moves}
-use Rattle.olr_search.specs.Searches.{IsLabelled, IsUnderWay, IsSearch, CutAt, IsCut}
-use Rattle.olr_search.specs.declared.frontier.TheConstants.{GREATEST_LIMIT}
-use Rattle.olr_search.specs.declared.frontier.Frontier.{Frontier}
-use Rattle.olr_search.specs.declared.distances.Direction.{Direction}
-use Rattle.olr_search.specs.declared.distances.Dijkstra.{Dijkstra}
+use Rattle.olr_search.proofs.Common.{◌≡◌, ℕ, ◌+◌, ◌≤◌, ◌<◌, ◌⊎◌, List, Contains, IsTrue, length, ap, subst, inl, inr}
+use Rattle.olr_search.proofs.Common.{arith, ◌∙◌, refl, sym, ⊤, cases_lt, Map, has_node, has_line, dm, dm_of, Way, Leads}
+use Rattle.olr_search.proofs.Common.{near_end, far_end, label_of, frontier_len, IsQueued, Moves, IsLabelled, IsUnderWay}
+use Rattle.olr_search.proofs.Common.{IsSearch, IsCut, GREATEST_LIMIT, Frontier, Direction, Dijkstra}
+use Rattle.std.proofs.Common.{zero, suc}
+use Rattle.std.specs.Prelude.{max}
+use Rattle.olr_search.specs.Searches.{CutAt}
 use Rattle.olr_search.proofs.SearchLemmas.{Popped, labelled_same}
 use Rattle.olr_search.proofs.WayLemmas.{way_ends, near_node}
 use Rattle.olr_search.proofs.WayLemmas.WayEnds.{stays, continues}

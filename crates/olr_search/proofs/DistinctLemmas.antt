@@ -1,14 +1,10 @@
 -- Lists of labelled nodes without duplicates, and what is found in them.
-use Rattle.std.proofs.Common.{◌≡◌, ◌≢◌, ◌==◌, ℕ, ◌⊎◌, ◌<◌, List, [], ◌∷◌, ◌++◌, Contains, sym, ap, ◌∙◌}
-use Rattle.std.proofs.Common.{inl, inr, arith}
-use Rattle.std.specs.List.{IsDistinct}
-use Rattle.std.proofs.lemmas.List.{get_or-map, length-map}
+use Rattle.olr_search.proofs.Common.{◌≡◌, ◌≢◌, ◌==◌, ℕ, ◌⊎◌, ◌<◌, List, [], ◌∷◌, ◌++◌, Contains, sym, ap, ◌∙◌, inl, inr}
+use Rattle.olr_search.proofs.Common.{arith, IsDistinct, get_or-map, length-map, cases_eq, Contains-append_cases}
+use Rattle.olr_search.proofs.Common.{Contains-one, Contains-later, numbers_of, AreApart, Reached}
 use Rattle.std.proofs.lemmas.Map.Keys.{IsDistinct-from_apart}
-use Rattle.std.proofs.lemmas.Bool.{cases_eq, ne_eqb}
-use Rattle.std.proofs.lemmas.List.Elements.{Contains-append_cases}
-use Rattle.olr_spec.proofs.ListLemmas.{Contains-one, Contains-here, Contains-later}
-use Rattle.olr_search.specs.Notes.{numbers_of, AreApart}
-use Rattle.olr_search.specs.declared.frontier.Reached.{Reached}
+use Rattle.std.proofs.lemmas.Bool.{ne_eqb}
+use Rattle.olr_spec.proofs.ListLemmas.{Contains-here}
 
 pub numbers_distinct : (xs : List Reached) → AreApart xs → IsDistinct ◌==◌ (numbers_of xs)
 numbers_distinct xs apart = IsDistinct-from_apart ◌==◌ (numbers_of xs) (λ i j d lt past.

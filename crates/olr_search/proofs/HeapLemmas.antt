@@ -1,16 +1,13 @@
 -- The entries of the queue before and after a push and a pop.
-use Rattle.std.proofs.Common.{◌≡◌, ℕ, ◌/◌, ◌%◌, ◌<◌, ◌≤◌, ◌^◌, ◌⊎◌, List, [], ◌∷◌, Contains, sym, ap, ◌∙◌, subst, inl}
-use Rattle.std.proofs.Common.{inr, arith, refl}
+use Rattle.olr_search.proofs.Common.{◌≡◌, ℕ, ◌<◌, ◌≤◌, ◌⊎◌, List, [], ◌∷◌, Contains, sym, ap, ◌∙◌, subst, inl, inr}
+use Rattle.olr_search.proofs.Common.{arith, refl, IsPermutation, Contains-permutation, Contains-append_cases}
+use Rattle.olr_search.proofs.Common.{Contains-append_right, Contains-one, queue_key}
+use Rattle.std.proofs.Common.{◌/◌, ◌%◌, ◌^◌}
 use Rattle.std.specs.declared.cmp.Reverse.{Reverse}
-use Rattle.std.specs.List.Sorted.{IsPermutation}
-use Rattle.std.proofs.lemmas.List.Sorted.{Contains-permutation}
-use Rattle.std.proofs.lemmas.List.Elements.{Contains-append_cases, Contains-append_right}
 use Rattle.std.specs.BinaryHeap.{IsUpperBound}
 use Rattle.std.proofs.lemmas.Map.Keys.{ge_from_not_lt}
 use Rattle.std.proofs.lemmas.Nat.{div-mul-add, mod-mul-add}
-use Rattle.olr_spec.proofs.ListLemmas.{Contains-one}
 use Rattle.olr_search.specs.Entries.{entry_cmp}
-use Rattle.olr_search.specs.Queues.{queue_key}
 
 abbrev pub Entry : Type 0
 Entry = Reverse ℕ

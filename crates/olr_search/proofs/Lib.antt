@@ -1,3 +1,4 @@
+pub mod Common
 pub mod RouteEnds
 pub mod ReadLemmas
 pub mod HeapLemmas

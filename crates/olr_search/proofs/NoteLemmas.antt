@@ -1,14 +1,10 @@
 -- The table of labels and the list of the labelled nodes, as either changes.
-use Rattle.std.proofs.Common.{◌≡◌, ◌≢◌, ℕ, ◌<◌, ◌≤◌, List, [], ◌∷◌, ◌++◌, Contains, length, get_or, refl, sym, ap, ◌∙◌}
-use Rattle.std.proofs.Common.{subst, inl, inr, arith}
-use Rattle.std.proofs.lemmas.Bool.{cases_eq}
-use Rattle.std.proofs.lemmas.List.{get_or-set_same, get_or-set_other, get_or_past, get_or_read_under}
-use Rattle.std.proofs.lemmas.List.Elements.{Contains-append_cases, Contains-append_left, Contains-append_right}
-use Rattle.std.proofs.Math.ListN.{set}
-use Rattle.olr_spec.proofs.ListLemmas.{Contains-one}
-use Rattle.olr_search.specs.declared.frontier.TheConstants.{UNREACHED}
-use Rattle.olr_search.specs.declared.frontier.Reached.{Reached}
-use Rattle.olr_search.specs.Notes.{label_in, AreAllReached, NotesOnce}
+use Rattle.olr_search.proofs.Common.{◌≡◌, ◌≢◌, ℕ, ◌<◌, ◌≤◌, List, [], ◌∷◌, ◌++◌, Contains, length, get_or, refl, sym}
+use Rattle.olr_search.proofs.Common.{ap, ◌∙◌, subst, inl, inr, arith, cases_eq, get_or-set_same, get_or-set_other}
+use Rattle.olr_search.proofs.Common.{Contains-append_cases, Contains-append_right, set, Contains-one, UNREACHED}
+use Rattle.olr_search.proofs.Common.{Reached, label_in, AreAllReached, NotesOnce}
+use Rattle.std.proofs.lemmas.List.{get_or_past, get_or_read_under}
+use Rattle.std.proofs.lemmas.List.Elements.{Contains-append_left}
 
 pub first_one : {X : Type 0} → (x : X) → Contains (x ∷ []) x
 first_one x = (0, omega arith, refl)

@@ -1,14 +1,13 @@
 -- The lists of the lines that are entered at a node.
-use Rattle.std.proofs.Common.{◌≡◌, ℕ, ◌<◌, List, Option, true, is_some, IsTrue, length, get_or, sym, ap, ◌∙◌, subst}
+use Rattle.olr_search.proofs.Common.{◌≡◌, ℕ, ◌<◌, List, true, IsTrue, length, get_or, sym, ap, ◌∙◌, subst, Map}
+use Rattle.olr_search.proofs.Common.{has_line, end, lines_in, near_end, lines_at, Direction, Along, Against}
+use Rattle.std.proofs.Common.{Option, is_some}
 use Rattle.std.specs.Prelude.{unwrap_or}
 use Rattle.std.specs.FinMap.{get}
-use Rattle.olr_spec.specs.Map.{Map, Line, no_line, has_line, end, lines_in, has}
+use Rattle.olr_spec.specs.Map.{Line, no_line, has}
 use Rattle.olr_spec.proofs.ListLemmas.{at_index, has_read}
 use Rattle.olr_spec.proofs.OrderLemmas.{exactly_in, exactly_out}
 use Rattle.olr_spec.proofs.OptionLemmas.{some_of}
-use Rattle.olr_search.specs.Distances.{near_end, lines_at}
-use Rattle.olr_search.specs.declared.distances.Direction.{Direction}
-use Rattle.olr_search.specs.declared.distances.Direction.TheVariants.{Along, Against}
 
 listed : (M : Map) (d : Direction) (v x : ℕ) → has (lines_at M d v) x ≡ true → IsTrue (has_line M x) × (near_end M d x ≡ v)
 listed M Along v x h =

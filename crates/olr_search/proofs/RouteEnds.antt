@@ -1,10 +1,8 @@
 -- Routes, split at their last line.
-use Rattle.std.proofs.Common.{◌≡◌, ℕ, ◌+◌, List, [], ◌∷◌, ◌++◌, IsTrue, length, get_or, refl, sym, ap, ◌∙◌, subst, arith}
-use Rattle.std.proofs.Common.{length-append, ◌≢◌, ◌≤◌, inl, inr}
-use Rattle.std.proofs.lemmas.Bool.{cases_eq, cases_lt}
+use Rattle.olr_search.proofs.Common.{◌≡◌, ℕ, ◌+◌, List, [], ◌∷◌, ◌++◌, IsTrue, length, get_or, refl, sym, ap, ◌∙◌}
+use Rattle.olr_search.proofs.Common.{subst, arith, length-append, ◌≢◌, ◌≤◌, inl, inr, cases_eq, cases_lt, Map, has_line}
+use Rattle.olr_search.proofs.Common.{start, end, dm, IsRoute, dm_of, UniqueShortest}
 use Rattle.std.proofs.lemmas.List.{get_or_push}
-use Rattle.olr_spec.specs.Map.{Map, has_line, start, end, dm}
-use Rattle.olr_spec.specs.Routes.{IsRoute, dm_of, UniqueShortest}
 use Rattle.olr_spec.proofs.RouteLemmas.{dm_of-append, IsRoute-append, IsRoute-split}
 
 pub same_last : (xs ys : List ℕ) (x y : ℕ) → xs ++ x ∷ [] ≡ ys ++ y ∷ [] → x ≡ y

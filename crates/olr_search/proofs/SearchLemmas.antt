@@ -1,28 +1,16 @@
 -- The invariants of a search that can be continued.
-use Rattle.std.proofs.Common.{◌≡◌, ◌≢◌, ℕ, ◌+◌, ◌<◌, ◌≤◌, ◌⊎◌, List, [], ◌∷◌, Contains, IsTrue, length}
-use Rattle.std.proofs.Common.{get_or, refl, sym, ap, ◌∙◌, subst, inl, inr, arith}
+use Rattle.olr_search.proofs.Common.{◌≡◌, ◌≢◌, ℕ, ◌+◌, ◌<◌, ◌≤◌, ◌⊎◌, List, [], ◌∷◌, Contains, IsTrue, length, get_or}
+use Rattle.olr_search.proofs.Common.{refl, sym, ap, ◌∙◌, subst, inl, inr, arith, set, cases_eq, cases_lt}
+use Rattle.olr_search.proofs.Common.{get_or-set_same, get_or-set_other, Contains-append_cases, Map, IsMap, has_node}
+use Rattle.olr_search.proofs.Common.{positive, Contains-one, Leads, IsDistance, label_in, NotesOnce, AreApart, label_of}
+use Rattle.olr_search.proofs.Common.{frontier_len, IsQueued, IsRelaxed, Moves, IsLabelled, IsUnderWay, IsSearch}
+use Rattle.olr_search.proofs.Common.{LiesWithin, GREATEST_LIMIT, UNREACHED, Reached, Frontier, Direction, Dijkstra}
 use Rattle.std.specs.Prelude.{sum}
-use Rattle.std.proofs.Math.ListN.{set}
 use Rattle.std.proofs.lemmas.List.Quantifiers.{all_pairs_push}
-use Rattle.std.proofs.lemmas.Bool.{cases_eq, cases_lt}
-use Rattle.std.proofs.lemmas.List.{get_or-set_same, get_or-set_other}
-use Rattle.std.proofs.lemmas.List.Elements.{Contains-append_cases, Contains-get_or}
+use Rattle.std.proofs.lemmas.List.Elements.{Contains-get_or}
 use Rattle.std.proofs.lemmas.List.Sums.{sum_by-set}
-use Rattle.olr_spec.specs.Map.{Map, IsMap, has_node}
-use Rattle.olr_spec.proofs.RouteLemmas.{positive}
-use Rattle.olr_spec.proofs.ListLemmas.{Contains-one}
-use Rattle.olr_search.specs.Distances.{Leads, IsDistance}
-use Rattle.olr_search.specs.Notes.{label_in, NotesOnce, AreApart}
-use Rattle.olr_search.specs.Frontiers.{label_of, frontier_len, queued_len, IsQueued, IsEmpty, IsRelaxed, NotedOnce}
-use Rattle.olr_search.specs.Frontiers.{Moves}
-use Rattle.olr_search.specs.Searches.{CoversSlots, IsLabelledAt, IsLabelled, IsUnderWay, IsSearch, LiesWithin}
-use Rattle.olr_search.specs.Searches.{IsReached}
-use Rattle.olr_search.specs.declared.frontier.TheConstants.{GREATEST_LIMIT}
-use Rattle.olr_search.specs.declared.frontier.TheConstants.{UNREACHED}
-use Rattle.olr_search.specs.declared.frontier.Reached.{Reached}
-use Rattle.olr_search.specs.declared.frontier.Frontier.{Frontier}
-use Rattle.olr_search.specs.declared.distances.Direction.{Direction}
-use Rattle.olr_search.specs.declared.distances.Dijkstra.{Dijkstra}
+use Rattle.olr_search.specs.Frontiers.{queued_len, IsEmpty, NotedOnce}
+use Rattle.olr_search.specs.Searches.{CoversSlots, IsLabelledAt, IsReached}
 use Rattle.olr_search.proofs.DistinctLemmas.{found_slot}
 use Rattle.olr_search.proofs.WayLemmas.{way_ends, leads_node}
 use Rattle.olr_search.proofs.WayLemmas.WayEnds.{stays, continues}

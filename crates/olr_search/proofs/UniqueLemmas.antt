@@ -1,16 +1,10 @@
 -- Whether a line extends a unique shortest path, by distances only.
-use Rattle.std.proofs.Common.{◌≡◌, ◌≢◌, ℕ, ◌+◌, ◌<◌, ◌≤◌, List, [], ◌∷◌, ◌++◌, IsTrue, sym, ap, ◌∙◌, subst, inl, inr}
-use Rattle.std.proofs.Common.{arith}
-use Rattle.std.proofs.lemmas.Bool.{cases_eq, cases_lt}
-use Rattle.olr_spec.specs.Map.{Map, has_node, has_line, start, end, dm}
-use Rattle.olr_spec.specs.Routes.{IsRoute, dm_of, UniqueShortest}
-use Rattle.olr_spec.proofs.RouteLemmas.{positive, route_start}
-use Rattle.olr_spec.proofs.ListLemmas.{Contains-one}
-use Rattle.olr_search.specs.Frontiers.{label_of}
-use Rattle.olr_search.specs.Searches.{IsSearch, IsOnlyPredecessor}
-use Rattle.olr_search.specs.declared.frontier.TheConstants.{GREATEST_LIMIT}
-use Rattle.olr_search.specs.declared.distances.Direction.TheVariants.{Along}
-use Rattle.olr_search.specs.declared.distances.Dijkstra.{Dijkstra}
+use Rattle.olr_search.proofs.Common.{◌≡◌, ◌≢◌, ℕ, ◌+◌, ◌<◌, ◌≤◌, List, [], ◌∷◌, ◌++◌, IsTrue, sym, ap, ◌∙◌, subst, inl}
+use Rattle.olr_search.proofs.Common.{inr, arith, cases_eq, cases_lt, Map, has_node, has_line, start, end, dm, IsRoute}
+use Rattle.olr_search.proofs.Common.{dm_of, UniqueShortest, positive, Contains-one, label_of, IsSearch, GREATEST_LIMIT}
+use Rattle.olr_search.proofs.Common.{Along, Dijkstra}
+use Rattle.olr_spec.proofs.RouteLemmas.{route_start}
+use Rattle.olr_search.specs.Searches.{IsOnlyPredecessor}
 use Rattle.olr_search.proofs.NoteLemmas.{first_one}
 use Rattle.olr_search.proofs.RouteEnds.{dm_of-line, unique_on, unique_alone}
 

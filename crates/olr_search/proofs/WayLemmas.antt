@@ -1,15 +1,11 @@
 -- Routes in one direction or the other, and the far ends of the lines at a node.
-use Rattle.std.proofs.Common.{◌≡◌, ℕ, ◌+◌, ◌<◌, List, [], ◌∷◌, ◌++◌, Contains, IsTrue, length, get_or, map, refl, sym}
-use Rattle.std.proofs.Common.{ap, ◌∙◌, subst, arith, length-append}
-use Rattle.std.proofs.lemmas.List.{get_or-map, length-map}
-use Rattle.std.proofs.lemmas.Grind.{get_or_default_zero}
-use Rattle.olr_spec.specs.Map.{Map, IsMap, has_node, has_line, start, end, dm, lines_in}
-use Rattle.olr_spec.specs.Routes.{IsRoute, dm_of}
+use Rattle.olr_search.proofs.Common.{◌≡◌, ℕ, ◌+◌, ◌<◌, List, [], ◌∷◌, ◌++◌, Contains, IsTrue, length, get_or, refl, sym}
+use Rattle.olr_search.proofs.Common.{ap, ◌∙◌, subst, arith, length-append, get_or-map, length-map, get_or_default_zero}
+use Rattle.olr_search.proofs.Common.{Map, IsMap, has_node, has_line, start, end, dm, lines_in, IsRoute, dm_of, LineEnd}
+use Rattle.olr_search.proofs.Common.{Way, Leads, near_end, far_end, lines_at, Direction, Along, Against}
+use Rattle.std.proofs.Common.{map}
 use Rattle.olr_map.specs.Ends.{end_out, end_in, ends_in}
-use Rattle.olr_map.specs.declared.read.LineEnd.{LineEnd}
-use Rattle.olr_search.specs.Distances.{Way, Leads, near_end, far_end, lines_at, ends_at}
-use Rattle.olr_search.specs.declared.distances.Direction.{Direction}
-use Rattle.olr_search.specs.declared.distances.Direction.TheVariants.{Along, Against}
+use Rattle.olr_search.specs.Distances.{ends_at}
 use Rattle.olr_search.proofs.ReadLemmas.{read_at, found_at}
 use Rattle.olr_search.proofs.RouteEnds.{ends_of, dm_of-line, route_on, last_step}
 use Rattle.olr_search.proofs.RouteEnds.Ends.{empty, ended}

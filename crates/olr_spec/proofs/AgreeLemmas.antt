@@ -1,13 +1,9 @@
 -- What is the same on two maps that agree around a node.
-use Rattle.std.proofs.Common.{◌≡◌, ℕ, ◌+◌, true, List, ◌∷◌, map, Option, Some, is_some, IsTrue, refl, sym, ap, ◌∙◌}
-use Rattle.std.proofs.Common.{◌==◌, unwrap_or, ◌↔◌, arith, [], eqb-true}
-use Rattle.std.specs.FinMap.{get}
-use Rattle.std.proofs.lemmas.Bool.Decides.{nat_tests}
-use Rattle.std.proofs.lemmas.Map.Entries.{option_filter}
-use Rattle.olr_spec.specs.Map.{Map, Line, has_line, line_at, no_line, start, end, dm, coord_at, no_coord, SameLine}
-use Rattle.olr_spec.specs.Map.{SameRound, lines_where}
-use Rattle.olr_spec.specs.Routes.{dm_of}
-use Rattle.olr_spec.specs.Extension.{passing, passes_between}
+use Rattle.olr_spec.proofs.Common.{◌≡◌, ℕ, ◌+◌, true, List, ◌∷◌, map, Option, Some, is_some, IsTrue, refl, sym, ap, ◌∙◌}
+use Rattle.olr_spec.proofs.Common.{◌==◌, unwrap_or, ◌↔◌, arith, [], eqb-true, get, nat_tests, option_filter, Map, Line}
+use Rattle.olr_spec.proofs.Common.{has_line, line_at, start, end, dm, coord_at, SameLine, SameRound, lines_where, dm_of}
+use Rattle.olr_spec.proofs.Common.{passing, passes_between}
+use Rattle.olr_spec.specs.Map.{no_line, no_coord}
 use Rattle.olr_spec.proofs.MapLemmas.{has-lines_where, passes_at, same_selected}
 use Rattle.olr_spec.proofs.ListLemmas.{Each, Each-head, Each-tail, map_same}
 

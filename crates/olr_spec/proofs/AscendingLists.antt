@@ -1,22 +1,19 @@
 -- Lists of numbers in strictly ascending order: searching for a number, inserting one and removing one.
-use Rattle.std.proofs.Common.{◌≡◌, ◌≢◌, ◌==◌, ℕ, suc, ◌+◌, ◌<◌, ◌≤◌, Bool, true, false, not, ◌&&◌, ◌||◌, ◌⊎◌, inl, inr}
-use Rattle.std.proofs.Common.{List, ◌∷◌, ◌++◌, Contains, Ok, Err, Result, is_ok, length, get_or, refl, sym, ap, ◌∙◌}
-use Rattle.std.proofs.Common.{arith, ⊎_elim, MatchResult, IsPermutation, [], insert, remove, eq-eqb, ne_eqb, eqb-true}
-use Rattle.std.proofs.lemmas.Bool.{cases_Bool, cases_lt, cases_order, cases_eq}
-use Rattle.std.proofs.Common.{◌-◌}
+use Rattle.olr_spec.proofs.Common.{◌≡◌, ◌≢◌, ◌==◌, ℕ, suc, ◌+◌, ◌<◌, ◌≤◌, Bool, true, false, not, ◌&&◌, ◌||◌, ◌⊎◌, inl}
+use Rattle.olr_spec.proofs.Common.{inr, List, ◌∷◌, ◌++◌, Contains, Ok, Result, length, get_or, refl, sym, ap, ◌∙◌}
+use Rattle.olr_spec.proofs.Common.{arith, [], eq-eqb, ne_eqb, eqb-true, cases_Bool, cases_lt, cases_order, cases_eq}
+use Rattle.olr_spec.proofs.Common.{◌-◌, IsStrictlyIncreasing, list_any_at, has}
+use Rattle.std.proofs.Common.{Err, is_ok, ⊎_elim, MatchResult, IsPermutation, insert, remove}
 use Rattle.std.proofs.lemmas.List.Kept.{AllPairs-from_increasing}
-use Rattle.std.proofs.lemmas.List.Sorted.{searched, list_any-IsPermutation}
-use Rattle.std.proofs.lemmas.List.Sorted.{IsPermutation-insert, IsPermutation-remove, IsPermutation-sym}
-use Rattle.std.proofs.lemmas.List.Sorted.{Contains-permutation}
-use Rattle.std.proofs.lemmas.Map.Keys.{non_decreasing_from_sorted}
-use Rattle.std.proofs.lemmas.Map.Keys.{sorted_from_strictly_increasing}
-use Rattle.std.specs.List.Sorted.{IsStrictlyIncreasing, IsBinarySearchResult}
+use Rattle.std.proofs.lemmas.List.Sorted.{searched, list_any-IsPermutation, IsPermutation-insert, IsPermutation-remove}
+use Rattle.std.proofs.lemmas.List.Sorted.{IsPermutation-sym, Contains-permutation}
+use Rattle.std.proofs.lemmas.Map.Keys.{non_decreasing_from_sorted, sorted_from_strictly_increasing}
+use Rattle.std.specs.List.Sorted.{IsBinarySearchResult}
 use Rattle.std.specs.Ordering.{nat_cmp}
 use Rattle.std.proofs.Math.Bool.{or_comm, and_comm}
 use Rattle.std.proofs.lemmas.List.{get_or_default}
-use Rattle.std.proofs.lemmas.List.Edits.{length-insert, get_or-insert_at, get_or-insert_below, get_or-insert_above, insert_end, length-remove, get_or-remove_below, get_or-remove_above}
-use Rattle.std.proofs.lemmas.List.Folds.{list_any_at}
-use Rattle.olr_spec.specs.Map.{has}
+use Rattle.std.proofs.lemmas.List.Edits.{length-insert, get_or-insert_at, get_or-insert_below, get_or-insert_above}
+use Rattle.std.proofs.lemmas.List.Edits.{insert_end, length-remove, get_or-remove_below, get_or-remove_above}
 use Rattle.olr_spec.proofs.ListLemmas.{Contains-cases, Contains-later}
 
 -- ---- where a search finds a number

@@ -1,25 +1,19 @@
 -- The path's own line at an LRP is preferred to every other candidate: its node is the nearest if other nodes are three
 -- times the bound of decoding away. And the length that an offset byte cuts off.
-use Rattle.std.proofs.Common.{inl, inr, ◌≡◌, ◌≢◌, ℕ, ◌+◌, ◌-◌, Bool, true, false, not, ◌||◌, ◌<◌, ◌≤◌}
-use Rattle.std.proofs.Common.{◌↔◌, IsTrue, IsFalse, refl, arith, nat_lt, ◌==◌, ◌*◌, ℤ, ◌-ℤ◌}
-use Rattle.std.proofs.Common.{nat_le, ◌/◌, Some, eqb-true, eq-eqb, ltb-true, lt-ltb, le-ltb, leb-true}
-use Rattle.std.proofs.Common.{nat_abs}
-use Rattle.std.proofs.lemmas.Bool.{cases_Bool, cases_eq, both_ways, or_cases}
+use Rattle.olr_spec.proofs.Common.{inl, inr, ◌≡◌, ◌≢◌, ℕ, ◌+◌, ◌-◌, Bool, true, false, not, ◌||◌, ◌<◌, ◌≤◌, ◌↔◌, IsTrue}
+use Rattle.olr_spec.proofs.Common.{refl, arith, nat_lt, ◌==◌, ◌*◌, ℤ, ◌-ℤ◌, nat_le, ◌/◌, Some, eqb-true, eq-eqb}
+use Rattle.olr_spec.proofs.Common.{ltb-true, lt-ltb, le-ltb, leb-true, nat_abs, cases_Bool, cases_eq, both_ways}
+use Rattle.olr_spec.proofs.Common.{or_cases, ints, Map, has_line, line_at, Leg, leg, offset, Side, node_on}
+use Rattle.olr_spec.proofs.Common.{coordinate_on, candidates, Receiver, is_nearest, has_no_twin, Measure, Coord}
+use Rattle.olr_spec.proofs.Common.{decoded_bound, IsNear, IsWeighted, is_spaced, IsCut, IsClose, AllPass-from_list_all}
+use Rattle.std.proofs.Common.{IsFalse}
 use Rattle.std.specs.List.{list_all}
 use Rattle.std.proofs.Math.Nat.{mul-le-mul_left, mul-le-mul_right, mul-lt-mul_of_pos_left, le_of_mul-le-mul_left}
 use Rattle.std.proofs.Math.Nat.{mul-add, mul_comm, div-mul-le_self, lt-div-mul-add}
-use Rattle.std.proofs.lemmas.Int.{ints}
-use Rattle.olr_spec.specs.Map.{Map, has_line, line_at}
-use Rattle.olr_spec.specs.Bearings.{Leg}
-use Rattle.olr_spec.specs.Reference.{leg, offset}
-use Rattle.olr_spec.specs.Receiver.{Side, node_on, coordinate_on, sector_on, candidates, Lrp, Rating, NowhereWorse}
-use Rattle.olr_spec.specs.Receiver.{SomewhereBetter, IsDifference, Receiver, rating, Takes, is_nearest, are_twins}
-use Rattle.olr_spec.specs.Receiver.{has_no_twin, Measure}
+use Rattle.olr_spec.specs.Receiver.{sector_on, Lrp, Rating, NowhereWorse, SomewhereBetter, IsDifference, rating, Takes}
+use Rattle.olr_spec.specs.Receiver.{are_twins}
 use Rattle.olr_spec.specs.Laws.{SomeReceiver, SomeWeighted}
-use Rattle.olr_spec.specs.Coordinates.{Coord}
-use Rattle.olr_spec.specs.Decoded.{decoded_bound, IsNear}
-use Rattle.olr_spec.specs.Recovery.{lon_apart, lat_apart, IsWeighted, is_spaced, IsCut, IsClose}
-use Rattle.std.proofs.lemmas.List.Sums.{AllPass-from_list_all}
+use Rattle.olr_spec.specs.Recovery.{lon_apart, lat_apart}
 use Rattle.std.proofs.lemmas.List.Folds.{list_all-map}
 use Rattle.olr_spec.proofs.ListLemmas.{at_index}
 use Rattle.olr_spec.proofs.OrderLemmas.{has_number}

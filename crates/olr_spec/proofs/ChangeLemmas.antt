@@ -1,15 +1,11 @@
 -- What one edit changes, and what consecutive edits change.
-use Rattle.std.proofs.Common.{inl, ◌≡◌, ◌≢◌, ℕ, false, List, ◌∷◌, ◌++◌, ◌≤◌, Ok, IsTrue, refl, sym, ◌∙◌}
-use Rattle.std.proofs.Common.{arith, ◌==◌, Some, T, nat_cmp, []}
-use Rattle.std.proofs.lemmas.Bool.{both_ways, or_parts}
+use Rattle.olr_spec.proofs.Common.{inl, ◌≡◌, ◌≢◌, ℕ, false, List, ◌∷◌, ◌++◌, ◌≤◌, Ok, IsTrue, refl, sym, ◌∙◌, arith}
+use Rattle.olr_spec.proofs.Common.{◌==◌, Some, T, nat_cmp, [], both_ways, or_parts, list_any-append, get, FinMap, Map}
+use Rattle.olr_spec.proofs.Common.{Line, has_line, start, end, dm, Edit, edited, touched_nodes, SameRound, has}
+use Rattle.olr_spec.proofs.Common.{ChangedLine, AccountsFor, Coord}
 use Rattle.std.proofs.lemmas.List.Elements.{Contains-append_left, Contains-append_right}
-use Rattle.std.proofs.lemmas.List.Folds.{list_any-append}
-use Rattle.std.specs.FinMap.{get, FinMap}
-use Rattle.olr_spec.specs.Map.{Map, Line, has_line, start, end, dm, Edit, edited, touched_nodes}
-use Rattle.olr_spec.specs.Map.{SameRound, has}
-use Rattle.olr_spec.specs.Detours.{ChangedLine, changes_of, IsChangedLine, AccountsFor}
+use Rattle.olr_spec.specs.Detours.{changes_of, IsChangedLine}
 use Rattle.olr_spec.specs.Laws.{EditsDiffer, NoDifference, DifferencesAdd}
-use Rattle.olr_spec.specs.Coordinates.{Coord}
 use Rattle.olr_spec.proofs.AgreeLemmas.{known_record}
 use Rattle.olr_spec.proofs.EditLemmas.{edits_are_local, other_lines, edit_laws}
 use Rattle.olr_spec.proofs.ListLemmas.{Contains-here}

@@ -1,18 +1,17 @@
 -- Each definition is decidable, so each path has an answer.
-use Rattle.std.proofs.Common.{◌⊎◌, inl, inr, ◌≡◌, ℕ, zero, suc, ◌+◌, true, false, List, ◌∷◌, ◌++◌, length, ◌<◌, ◌≤◌}
-use Rattle.std.proofs.Common.{None, IsTrue, refl, ap, subst, arith, MatchOption}
-use Rattle.std.proofs.Common.{[], nat_eq, ◌≢◌}
-use Rattle.std.proofs.lemmas.Bool.{cases_lt, cases_eq}
-use Rattle.std.proofs.Math.Decide.{dec_le, dec_lt, map_dec, ℕ_discrete}
+use Rattle.olr_spec.proofs.Common.{◌⊎◌, inl, inr, ◌≡◌, ℕ, zero, suc, ◌+◌, true, false, List, ◌∷◌, ◌++◌, length, ◌<◌}
+use Rattle.olr_spec.proofs.Common.{◌≤◌, None, IsTrue, refl, ap, subst, arith, MatchOption, [], ◌≢◌, cases_lt, cases_eq}
+use Rattle.olr_spec.proofs.Common.{dec_le, Map, IsMap, has_line, end, dm, coord_at, lines_where, has, IsRoute, dm_of}
+use Rattle.olr_spec.proofs.Common.{UniqueShortest, Path, is_path, first, last, passing, MayPrecede, MayFollow}
+use Rattle.olr_spec.proofs.Common.{LongestStart, LongestEnd, Tried, from_start, taken_start, extended_path, limit}
+use Rattle.olr_spec.proofs.Common.{node_at, stretch, Covered, fit16, Candidate, ValidCandidate, Greatest, Next, To_end}
+use Rattle.olr_spec.proofs.Common.{To_valid, To_passing, Follow, Answer, Refused, path_fault, answer_by_points}
+use Rattle.olr_spec.proofs.Common.{Encoding}
+use Rattle.std.proofs.Common.{nat_eq}
+use Rattle.std.proofs.Math.Decide.{dec_lt, map_dec, ℕ_discrete}
 use Rattle.std.proofs.Math.Bool.{Bool-discrete}
 use lib.Pointwise.{pointwise, bytes_decides}
-use Rattle.olr_spec.specs.Map.{Map, IsMap, has_line, end, dm, coord_at, lines_where, has}
-use Rattle.olr_spec.specs.Routes.{IsRoute, dm_of, UniqueShortest}
-use Rattle.olr_spec.specs.Extension.{Path, is_path, first, last, passing, MayPrecede, MayFollow}
-use Rattle.olr_spec.specs.Extension.{LongestStart, LongestEnd, Tried, from_start, taken_start, extended_path, limit}
-use Rattle.olr_spec.specs.Points.{node_at, stretch, Covered, fit16, Candidate, ValidCandidate, Greatest, Next, To_end}
-use Rattle.olr_spec.specs.Points.{To_valid, To_passing, NoNext, Follow}
-use Rattle.olr_spec.specs.Encoding.{Answer, Refused, path_fault, answer_by_points, Encoding}
+use Rattle.olr_spec.specs.Points.{NoNext}
 use Rattle.olr_spec.specs.Laws.{OneUnique, SomeAnswer}
 use Rattle.olr_spec.proofs.RouteLemmas.{positive, dm_of-append}
 use Rattle.olr_spec.proofs.ListLemmas.{Each, Each-nil, Each-cons, Each-head, Each-tail, Known}

@@ -1,21 +1,18 @@
 -- The coordinates that the LRPs of an answer are decoded as.
-use Rattle.std.proofs.Common.{◌≡◌, ℕ, zero, suc, ◌+◌, ◌*◌, ℤ, pos, ◌<ℤ◌, ◌+ℤ◌, ◌-ℤ◌, true, List}
-use Rattle.std.proofs.Common.{◌∷◌, ◌++◌, length, take, map, ◌<◌, ◌≤◌, Some, None, is_some, IsTrue, refl, ap}
-use Rattle.std.proofs.Common.{◌∙◌, subst, arith, nat_le, [], ◌-◌, nat_abs, slice_get, option_map, le-leb, leb-true}
-use Rattle.std.proofs.Common.{slice_index}
-use Rattle.std.proofs.lemmas.Bool.{cond-true, cases_Bool}
-use Rattle.std.proofs.lemmas.Int.{ints}
+use Rattle.olr_spec.proofs.Common.{◌≡◌, ℕ, zero, suc, ◌+◌, ◌*◌, ℤ, pos, ◌<ℤ◌, ◌-ℤ◌, true, List, ◌∷◌, ◌++◌, length, take}
+use Rattle.olr_spec.proofs.Common.{map, ◌<◌, ◌≤◌, Some, None, is_some, IsTrue, refl, ap, ◌∙◌, subst, arith, nat_le, []}
+use Rattle.olr_spec.proofs.Common.{◌-◌, nat_abs, slice_get, option_map, le-leb, leb-true, slice_index, cases_Bool, ints}
+use Rattle.olr_spec.proofs.Common.{abs24, relative, Map, IsMap, coord_at, has, Path, is_path, extended_path, node_at}
+use Rattle.olr_spec.proofs.Common.{Leg, Middle, Reference, legs, position, first_kept, last_kept, kept_points, last_two}
+use Rattle.olr_spec.proofs.Common.{middle_points, reference_by_kept, reference_by, last_point, Last, from_front}
+use Rattle.olr_spec.proofs.Common.{to_back, Points, path_fault, Encoding, decoded_bound, IsNear}
+use Rattle.std.proofs.Common.{◌+ℤ◌}
+use Rattle.std.proofs.lemmas.Bool.{cond-true}
 use Rattle.std.proofs.lemmas.Option.{slice_get-get_or}
-use Rattle.olr_spec.specs.Coordinates.{abs24, from_abs24, nearest, relative, from_rel16}
-use Rattle.olr_spec.specs.Map.{Map, IsMap, coord_at, has}
-use Rattle.olr_spec.specs.Extension.{Path, is_path, extended_path}
-use Rattle.olr_spec.specs.Points.{node_at}
-use Rattle.olr_spec.specs.Bearings.{Leg}
-use Rattle.olr_spec.specs.Reference.{Middle, Reference, legs, position, first_kept, last_kept, kept_points, last_two}
-use Rattle.olr_spec.specs.Reference.{middle_points, reference_by_kept, reference_by, last_point, Last, from_front}
-use Rattle.olr_spec.specs.Reference.{middle_point, to_back}
-use Rattle.olr_spec.specs.Encoding.{Points, path_fault, Encoding, IsPoint}
-use Rattle.olr_spec.specs.Decoded.{steps_sum, decoded, decoded_bound, IsNear}
+use Rattle.olr_spec.specs.Coordinates.{from_abs24, nearest, from_rel16}
+use Rattle.olr_spec.specs.Reference.{middle_point}
+use Rattle.olr_spec.specs.Encoding.{IsPoint}
+use Rattle.olr_spec.specs.Decoded.{steps_sum, decoded}
 use Rattle.olr_spec.specs.Laws.{DecodedNear, DecodedPoints}
 use Rattle.olr_spec.proofs.ListLemmas.{has_cases}
 use Rattle.olr_spec.proofs.AnswerLemmas.{path_also, path_at}

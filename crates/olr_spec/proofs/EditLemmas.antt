@@ -1,15 +1,14 @@
 -- What an edit changes, and what it leaves unchanged.
-use Rattle.std.proofs.Common.{◌⊎◌, ◌↔◌, ◌≡◌, ◌≢◌, ℕ, Bool, true, false, cond, ◌||◌, List, Some}
-use Rattle.std.proofs.Common.{None, Ok, IsTrue, refl, ap, ◌∙◌, nat_cmp, ◌==◌}
-use Rattle.std.proofs.Common.{arith, eq-eqb, ne_eqb}
-use Rattle.std.proofs.lemmas.Bool.{false_from_ne_true, or_left, or_right}
-use Rattle.std.proofs.lemmas.Bool.{cases_eq, both_ways, and_parts, or_parts, not-false}
-use Rattle.std.specs.Cmp.{nat_cmp_total, unsigned_tied}
-use Rattle.std.specs.FinMap.{FinMap, get, insert, remove, entries, get-insert, get-remove}
-use Rattle.olr_spec.specs.Coordinates.{Coord, is_coord}
-use Rattle.olr_spec.specs.Map.{Map, IsMap, Line, is_good, are_coords, has_node, has_line, start, end}
-use Rattle.olr_spec.specs.Map.{Edit, Add_node, Move_node, Drop_node, Add_line, Set_line, Drop_line, edited}
-use Rattle.olr_spec.specs.Map.{in_use, touched_nodes, touched_lines, SameLine, Agree, has}
+use Rattle.olr_spec.proofs.Common.{◌⊎◌, ◌↔◌, ◌≡◌, ◌≢◌, ℕ, Bool, true, false, cond, ◌||◌, List, Some, None, Ok, IsTrue}
+use Rattle.olr_spec.proofs.Common.{refl, ap, ◌∙◌, nat_cmp, ◌==◌, arith, eq-eqb, ne_eqb, or_left, or_right, cases_eq}
+use Rattle.olr_spec.proofs.Common.{both_ways, and_parts, or_parts, not-false, nat_cmp_total, FinMap, get, insert}
+use Rattle.olr_spec.proofs.Common.{remove, entries, Coord, is_coord, Map, IsMap, Line, is_good, has_node, has_line}
+use Rattle.olr_spec.proofs.Common.{start, end, Edit, Add_node, Move_node, Drop_node, Add_line, Set_line, Drop_line}
+use Rattle.olr_spec.proofs.Common.{edited, in_use, touched_nodes, SameLine, Agree, has}
+use Rattle.std.proofs.lemmas.Bool.{false_from_ne_true}
+use Rattle.std.specs.Cmp.{unsigned_tied}
+use Rattle.std.specs.FinMap.{get-insert, get-remove}
+use Rattle.olr_spec.specs.Map.{are_coords, touched_lines}
 use Rattle.olr_spec.specs.Laws.{EditsKeep}
 use Rattle.olr_spec.proofs.ListLemmas.{Each-to}
 use Rattle.olr_spec.proofs.AgreeLemmas.{known_record}

@@ -1,26 +1,22 @@
 -- The fields of an answer fit their bits.
-use Rattle.std.proofs.Common.{◌≡◌, ℕ, suc, ◌+◌, ◌-◌, ◌*◌, ◌/◌, max, ℤ, min, Bool, true}
-use Rattle.std.proofs.Common.{false, List, ◌∷◌, length, take, drop, map, ◌<◌, ◌≤◌, Some, None, IfSome, unwrap_or}
-use Rattle.std.proofs.Common.{IsTrue, ap, ◌∙◌, arith, ◌==◌, take-add, div-lt_iff_lt-mul, [], ltb-true}
-use Rattle.std.proofs.Common.{fold, find, slice_index, slice_range}
-use Rattle.std.proofs.lemmas.Bool.{cases_Bool, cases_lt, and_parts, and_from, cond_both}
-use Rattle.std.proofs.lemmas.Bool.Decides.{nat_tests}
-use Rattle.std.proofs.lemmas.List.{length-map, get_or-map, get_or_past, take-map, drop-map}
-use Rattle.std.specs.List.{AllByRecursion}
-use Rattle.olr_spec.specs.Coordinates.{Coord, is_coord, abs24, relative, fits16}
-use Rattle.olr_spec.specs.Map.{Map, IsMap, Line, is_good, has_line, line_at, coord_at, has}
-use Rattle.olr_spec.specs.Routes.{dm_of}
-use Rattle.olr_spec.specs.Points.{node_at, stretch, Candidate}
-use Rattle.olr_spec.specs.Bearings.{Leg, Scaled, scaled_coord, bearing, sector, up_to, vector, boundary, lies_between}
-use Rattle.olr_spec.specs.Reference.{leg, legs, no_leg, leg_at, position, dm_along, dm_between, from_front, last_where}
-use Rattle.olr_spec.specs.Reference.{first_where, attrs, last_two, middle_points, offset, last_point}
-use Rattle.olr_spec.specs.Bytes.{AreAttrs, IsMiddle, IsLast, fits24}
-use Rattle.olr_spec.specs.Reference as fields
+use Rattle.olr_spec.proofs.Common.{◌≡◌, ℕ, suc, ◌+◌, ◌-◌, ◌*◌, ◌/◌, max, ℤ, min, Bool, true, false, List, ◌∷◌, length}
+use Rattle.olr_spec.proofs.Common.{take, drop, map, ◌<◌, ◌≤◌, Some, None, IfSome, unwrap_or, IsTrue, ap, ◌∙◌, arith}
+use Rattle.olr_spec.proofs.Common.{◌==◌, take-add, [], ltb-true, fold, find, slice_index, slice_range, cases_Bool}
+use Rattle.olr_spec.proofs.Common.{cases_lt, and_parts, and_from, cond_both, nat_tests, length-map, get_or-map}
+use Rattle.olr_spec.proofs.Common.{AllByRecursion, Coord, is_coord, abs24, relative, fits16, Map, IsMap, Line, is_good}
+use Rattle.olr_spec.proofs.Common.{has_line, line_at, coord_at, has, dm_of, node_at, stretch, Candidate, Leg, up_to}
+use Rattle.olr_spec.proofs.Common.{vector, boundary, lies_between, leg, legs, no_leg, leg_at, position, dm_along}
+use Rattle.olr_spec.proofs.Common.{dm_between, from_front, last_where, first_where, attrs, last_two, middle_points}
+use Rattle.olr_spec.proofs.Common.{offset, last_point, AreAttrs, IsMiddle, IsLast, fits24}
+use Rattle.std.proofs.Common.{div-lt_iff_lt-mul}
+use Rattle.std.proofs.lemmas.List.{get_or_past, take-map, drop-map}
+use Rattle.olr_spec.specs.Bearings.{Scaled, scaled_coord, bearing, sector}
 use Rattle.olr_spec.proofs.ListLemmas.{Each, Each-nil, Each-cons, Each-head, Each-tail, Each-range, has_index, has_here}
 use Rattle.olr_spec.proofs.ListLemmas.{last_index, has_there, has_cases, Known}
 use Rattle.olr_spec.proofs.JoinLemmas.{Linked}
 use Rattle.olr_spec.proofs.KeptLemmas.{dm_along-legs, dm_along-append}
 use Rattle.olr_spec.proofs.SectorLemmas.{up_to_below, le_yes, le_test}
+use Rattle.olr_spec.specs.Reference as fields
 
 -- ---- which LRPs remain
 

@@ -1,16 +1,10 @@
 -- The fields of an answer's reference fit, so it can be encoded as bytes.
-use Rattle.std.proofs.Common.{◌≡◌, ℕ, ◌+◌, ◌-◌, true, List, ◌∷◌, length, ◌<◌, ◌≤◌, None, IsTrue, sym, ap, ◌∙◌}
-use Rattle.std.proofs.Common.{subst, arith, nat_le, length-append, [], eqb-true, leb-false}
-use Rattle.std.proofs.lemmas.Bool.{cases_Bool, cond_both}
-use Rattle.std.proofs.lemmas.List.{length-map}
-use Rattle.olr_spec.specs.Map.{Map, IsMap, has}
-use Rattle.olr_spec.specs.Routes.{dm_of}
-use Rattle.olr_spec.specs.Extension.{Path, Tried, is_path, extended_path, from_start, taken_start, taken_end}
-use Rattle.olr_spec.specs.Points.{Follow, last_position}
-use Rattle.olr_spec.specs.Reference.{Reference, leg, legs, dm_between, from_front, to_back, first_kept, last_kept}
-use Rattle.olr_spec.specs.Reference.{kept_points, last_two, reference_by, reference}
-use Rattle.olr_spec.specs.Encoding.{Points, path_fault, answer_by_points, Encoding, Encodes}
-use Rattle.olr_spec.specs.Bytes.{IsReference}
+use Rattle.olr_spec.proofs.Common.{◌≡◌, ℕ, ◌+◌, ◌-◌, true, List, ◌∷◌, length, ◌<◌, ◌≤◌, None, IsTrue, sym, ap, ◌∙◌}
+use Rattle.olr_spec.proofs.Common.{subst, arith, nat_le, length-append, [], eqb-true, leb-false, cases_Bool, cond_both}
+use Rattle.olr_spec.proofs.Common.{length-map, Map, IsMap, has, dm_of, Path, Tried, is_path, extended_path, from_start}
+use Rattle.olr_spec.proofs.Common.{taken_start, taken_end, Follow, last_position, Reference, leg, legs, dm_between}
+use Rattle.olr_spec.proofs.Common.{from_front, to_back, first_kept, last_kept, kept_points, last_two, reference_by}
+use Rattle.olr_spec.proofs.Common.{reference, Points, path_fault, answer_by_points, Encoding, Encodes, IsReference}
 use Rattle.olr_spec.specs.Laws.{AnswerFits}
 use Rattle.olr_spec.proofs.RouteLemmas.{dm_of-append}
 use Rattle.olr_spec.proofs.ListLemmas.{Each, Each-append, Each-from, has_here, has_there, has_cases, has_filter}

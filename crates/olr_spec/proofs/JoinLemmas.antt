@@ -1,15 +1,11 @@
 -- The routes between the remaining LRPs join to the extended path.
-use Rattle.std.proofs.Common.{inl, inr, ◌≡◌, ℕ, ◌+◌, ◌-◌, min, Bool, true, false, ◌&&◌, List, ◌∷◌, ◌++◌}
-use Rattle.std.proofs.Common.{length, take, drop, ◌<◌, ◌≤◌, refl, ap, ◌∙◌, subst, arith, nat_le, length-drop, ◌↔◌, []}
-use Rattle.std.proofs.Common.{leb-true, le-leb, get_or-drop, slice_index, filter}
-use Rattle.std.proofs.lemmas.Bool.{cases_eq, and_parts, and_from, cond_both}
-use Rattle.std.proofs.lemmas.Bool.Decides.{nat_tests}
-use Rattle.std.proofs.lemmas.List.{drop_more, take_more}
-use Rattle.std.specs.Bool.{⊤}
-use Rattle.olr_spec.specs.Map.{Map, start, end}
-use Rattle.olr_spec.specs.Routes.{LrpRoute}
-use Rattle.olr_spec.specs.Points.{stretch, Covered, Candidate, Follow}
-use Rattle.olr_spec.specs.Joins.{JoinsTo, JoinsLast, Joins}
+use Rattle.olr_spec.proofs.Common.{inl, inr, ◌≡◌, ℕ, ◌+◌, ◌-◌, min, Bool, true, false, ◌&&◌, List, ◌∷◌, ◌++◌, length}
+use Rattle.olr_spec.proofs.Common.{take, drop, ◌<◌, ◌≤◌, refl, ap, ◌∙◌, subst, arith, nat_le, length-drop, ◌↔◌, []}
+use Rattle.olr_spec.proofs.Common.{leb-true, le-leb, get_or-drop, slice_index, filter, cases_eq, and_parts, and_from}
+use Rattle.olr_spec.proofs.Common.{cond_both, nat_tests, take_more, ⊤, Map, start, end, LrpRoute, stretch, Covered}
+use Rattle.olr_spec.proofs.Common.{Candidate, Follow, JoinsTo, JoinsLast}
+use Rattle.std.proofs.lemmas.List.{drop_more}
+use Rattle.olr_spec.specs.Joins.{Joins}
 use Rattle.olr_spec.specs.Laws.{RoutesJoin}
 use Rattle.olr_spec.proofs.RouteLemmas.{IsRoute-split, prefix_of_unique}
 use Rattle.olr_spec.proofs.AnswerLemmas.{Next-candidate}

@@ -1,10 +1,6 @@
 -- The routes between the LRPs of an answer join to the extended path.
-use Rattle.std.proofs.Common.{◌≡◌, ◌<◌, ◌+◌, ℕ, List, length, None, ap, arith}
-use Rattle.olr_spec.specs.Map.{Map}
-use Rattle.olr_spec.specs.Routes.{dm_of}
-use Rattle.olr_spec.specs.Extension.{Path, extended_path}
-use Rattle.olr_spec.specs.Reference.{Reference, legs, first_kept, last_kept, kept_points}
-use Rattle.olr_spec.specs.Encoding.{Points, path_fault, Encoding}
+use Rattle.olr_spec.proofs.Common.{◌≡◌, ◌<◌, ◌+◌, ℕ, List, length, None, ap, arith, Map, dm_of, Path, extended_path}
+use Rattle.olr_spec.proofs.Common.{Reference, legs, first_kept, last_kept, kept_points, Points, path_fault, Encoding}
 use Rattle.olr_spec.specs.Joins.{Joined}
 use Rattle.olr_spec.proofs.AnswerLemmas.{path_also}
 use Rattle.olr_spec.proofs.DecodedLemmas.{two_of}

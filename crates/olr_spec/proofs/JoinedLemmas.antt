@@ -1,11 +1,8 @@
 -- The lines of a path without fault join, and so do those of the extended path.
-use Rattle.std.proofs.Common.{◌≡◌, ◌<◌, ℕ, suc, List, ◌∷◌, ◌++◌, length, None, refl, arith, length-append, ◌==◌, []}
-use Rattle.std.proofs.Common.{eqb-true, IsTrue, Some}
-use Rattle.std.proofs.lemmas.Bool.{cond_both}
-use Rattle.olr_spec.specs.Map.{Map, start, end}
-use Rattle.olr_spec.specs.Routes.{IsRoute}
-use Rattle.olr_spec.specs.Extension.{Path, is_path, Tried, first, last, MayPrecede, MayFollow, extended_path, AreJoined}
-use Rattle.olr_spec.specs.Encoding.{first_break, path_fault}
+use Rattle.olr_spec.proofs.Common.{◌≡◌, ◌<◌, ℕ, suc, List, ◌∷◌, ◌++◌, length, None, refl, arith, length-append, ◌==◌}
+use Rattle.olr_spec.proofs.Common.{[], eqb-true, IsTrue, Some, cond_both, Map, start, end, IsRoute, Path, is_path}
+use Rattle.olr_spec.proofs.Common.{Tried, first, last, MayPrecede, MayFollow, extended_path, AreJoined, first_break}
+use Rattle.olr_spec.proofs.Common.{path_fault}
 use Rattle.olr_spec.proofs.RouteLemmas.{IsRoute-append}
 use Rattle.olr_spec.proofs.ListLemmas.{Each, Each-head, Each-tail, Each-from, Known}
 use Rattle.olr_spec.proofs.AnswerLemmas.{or_None, map_None, sound_lines, path_nonempty}

@@ -1,21 +1,15 @@
 -- Coverage queries along a path's own lines: what they say without the extension, and that they are the same on another
 -- map where they are clear.
-use Rattle.std.proofs.Common.{◌≡◌, ℕ, ◌+◌, List, ◌∷◌, ◌++◌, length, ◌<◌, ◌≤◌, sym, ap, ◌∙◌, subst, arith}
-use Rattle.std.proofs.Common.{refl, ◌↔◌, Bool, true, IsTrue, MatchOption, nat_lt, length-append, [], append_assoc}
-use Rattle.std.proofs.Common.{get_or-append-add, length-drop, slice_index}
+use Rattle.olr_spec.proofs.Common.{◌≡◌, ℕ, ◌+◌, List, ◌∷◌, ◌++◌, length, ◌<◌, ◌≤◌, sym, ap, ◌∙◌, subst, arith, refl}
+use Rattle.olr_spec.proofs.Common.{◌↔◌, Bool, true, IsTrue, MatchOption, nat_lt, length-append, [], append_assoc}
+use Rattle.olr_spec.proofs.Common.{get_or-append-add, length-drop, slice_index, AllZip, All-nil, Map, start, end}
+use Rattle.olr_spec.proofs.Common.{SameLine, IsRoute, dm_of, UniqueShortest, LrpRoute, Path, extended_path, from_start}
+use Rattle.olr_spec.proofs.Common.{taken_start, taken_end, AreJoined, stretch, Covered, path_fault, ChangedLine}
+use Rattle.olr_spec.proofs.Common.{AccountsFor, Detour, IsLastTested, CoverageQuery, query_to, IsQuery, IsClear}
+use Rattle.olr_spec.proofs.Common.{KnownQuery, IsKnownAt, FoundFor, KnownOfExtended, QueriesOf, querying}
 use Rattle.std.proofs.lemmas.List.{drop-append-le, take-append-le, get_or_append_left}
 use Rattle.std.proofs.Math.Seq.{drop-append-add}
-use Rattle.std.specs.List.{AllZip}
-use Rattle.std.proofs.lemmas.List.Elements.{All-nil}
-use Rattle.olr_spec.specs.Map.{Map, start, end, SameLine}
-use Rattle.olr_spec.specs.Routes.{IsRoute, dm_of, UniqueShortest, LrpRoute}
-use Rattle.olr_spec.specs.Extension.{Path, extended_path, from_start, taken_start, taken_end, AreJoined}
-use Rattle.olr_spec.specs.Points.{stretch, Covered}
-use Rattle.olr_spec.specs.Encoding.{path_fault}
-use Rattle.olr_spec.specs.Detours.{ChangedLine, AccountsFor, Detour}
-use Rattle.olr_spec.specs.Queries.{IsLastTested, CoverageQuery, query_to, IsQuery, IsClear, KnownQuery, IsKnown}
-use Rattle.olr_spec.specs.Queries.{AreKnown, IsKnownAt, FoundFor, KnownOfExtended, IsSearched}
-use Rattle.olr_spec.specs.Queries.{SearchedOfExtended, SearchedOf, QueriesOf, querying}
+use Rattle.olr_spec.specs.Queries.{IsKnown, AreKnown, IsSearched, SearchedOfExtended, SearchedOf}
 use Rattle.olr_spec.specs.Laws.{OneKnown, OneSearched, KnownHolds, AllSearched}
 use Rattle.olr_spec.proofs.ListLemmas.{Each, Each-head, Each-right}
 use Rattle.olr_spec.proofs.RouteLemmas.{IsRoute-split}

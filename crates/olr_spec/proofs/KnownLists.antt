@@ -1,12 +1,9 @@
 -- Lists of what some positions have: for each position there is one element or none.
-use Rattle.std.proofs.Common.{inl, inr, ◌≡◌, ℕ, ◌+◌, ◌-◌, List, ◌∷◌, ◌++◌, map, ◌<◌, ◌≤◌, All, refl, sym, ◌∙◌}
-use Rattle.std.proofs.Common.{arith, filter, true, Bool, [], ◌↔◌}
-use Rattle.std.proofs.lemmas.Bool.{cond_both}
-use Rattle.std.proofs.lemmas.List.Elements.{All-nil, All-cons}
+use Rattle.olr_spec.proofs.Common.{inl, inr, ◌≡◌, ℕ, ◌+◌, ◌-◌, List, ◌∷◌, ◌++◌, map, ◌<◌, ◌≤◌, All, refl, sym, ◌∙◌}
+use Rattle.olr_spec.proofs.Common.{arith, filter, true, Bool, [], ◌↔◌, cond_both, All-nil, IsStrictlyIncreasing, has}
+use Rattle.olr_spec.proofs.Common.{FoundFor}
+use Rattle.std.proofs.lemmas.List.Elements.{All-cons}
 use Rattle.std.specs.Prelude.{⊤}
-use Rattle.std.specs.List.Sorted.{IsStrictlyIncreasing}
-use Rattle.olr_spec.specs.Map.{has}
-use Rattle.olr_spec.specs.Queries.{FoundFor}
 use Rattle.olr_spec.proofs.ListLemmas.{has_here, has_there}
 
 module _ {X : Type 0} (R : ℕ → X → Type 0) where

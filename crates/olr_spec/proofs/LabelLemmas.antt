@@ -1,10 +1,9 @@
 -- Labels that no line improves are those of shortest paths.
-use Rattle.std.proofs.Common.{refl, ◌⊎◌, inl, inr, ◌≡◌, ℕ, ◌+◌, List, ◌∷◌, ◌++◌, reverse, ◌<◌, ◌≤◌}
-use Rattle.std.proofs.Common.{Option, Some, IsTrue, sym, subst, arith, append-nil, append_assoc, []}
-use Rattle.std.proofs.lemmas.Bool.{cases_lt, cases_eq}
-use Rattle.std.proofs.lemmas.List.{reverse-append}
-use Rattle.olr_spec.specs.Map.{Map, IsMap, has_line, start, end, dm}
-use Rattle.olr_spec.specs.Routes.{IsRoute, dm_of, FirstSmaller, PrecedesInTieOrder, Least}
+use Rattle.olr_spec.proofs.Common.{refl, ◌⊎◌, inl, inr, ◌≡◌, ℕ, ◌+◌, List, ◌∷◌, ◌++◌, reverse, ◌<◌, ◌≤◌, Option, Some}
+use Rattle.olr_spec.proofs.Common.{IsTrue, sym, subst, arith, append-nil, append_assoc, [], cases_lt, cases_eq}
+use Rattle.olr_spec.proofs.Common.{reverse-append, Map, IsMap, has_line, start, end, dm, IsRoute, dm_of, FirstSmaller}
+use Rattle.olr_spec.proofs.Common.{PrecedesInTieOrder}
+use Rattle.olr_spec.specs.Routes.{Least}
 use Rattle.olr_spec.specs.Labels.{Settled}
 use Rattle.olr_spec.proofs.RouteLemmas.{dm_of-append, nothing_below_nil, not_before_itself}
 

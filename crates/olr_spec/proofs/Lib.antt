@@ -1,3 +1,4 @@
+pub mod Common
 pub mod OptionLemmas
 pub mod ListLemmas
 pub mod AscendingLists

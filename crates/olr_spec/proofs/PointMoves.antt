@@ -1,15 +1,11 @@
 -- LRPs, answers and faults are the same on two maps that agree around a path's traversed nodes and on the positions that
 -- are covered from its LRPs.
-use Rattle.std.proofs.Common.{◌≡◌, ℕ, ◌+◌, ◌-◌, min, Bool, true, cond, List, ◌∷◌, length, ◌<◌, ◌≤◌, refl, sym, ◌∙◌}
-use Rattle.std.proofs.Common.{arith, ◌==◌, ◌↔◌, suc, Some, [], ltb-true, slice_index}
-use Rattle.olr_spec.specs.Map.{Map, IsMap, start, end, coord_at, SameLine, SameRound, has}
-use Rattle.olr_spec.specs.Routes.{IsRoute, dm_of, LrpRoute}
-use Rattle.olr_spec.specs.Extension.{Path, passing, limit}
-use Rattle.olr_spec.specs.Points.{node_at, stretch, Covered, fit16, Candidate, ValidCandidate, Greatest, Next, To_end}
-use Rattle.olr_spec.specs.Points.{To_valid, To_passing, Follow}
-use Rattle.olr_spec.specs.Reference.{legs}
-use Rattle.olr_spec.specs.Encoding.{first_unknown, first_break, path_fault}
-use Rattle.olr_spec.specs.Queries.{NodeOf, Traversed}
+use Rattle.olr_spec.proofs.Common.{◌≡◌, ℕ, ◌+◌, ◌-◌, min, Bool, true, cond, List, ◌∷◌, length, ◌<◌, ◌≤◌, refl, sym, ◌∙◌}
+use Rattle.olr_spec.proofs.Common.{arith, ◌==◌, ◌↔◌, suc, Some, [], ltb-true, slice_index, Map, IsMap, start, end}
+use Rattle.olr_spec.proofs.Common.{coord_at, SameLine, SameRound, has, IsRoute, dm_of, LrpRoute, Path, passing, limit}
+use Rattle.olr_spec.proofs.Common.{node_at, stretch, Covered, fit16, Candidate, ValidCandidate, Greatest, Next, To_end}
+use Rattle.olr_spec.proofs.Common.{To_valid, To_passing, Follow, legs, first_unknown, first_break, path_fault, NodeOf}
+use Rattle.olr_spec.proofs.Common.{Traversed}
 use Rattle.olr_spec.proofs.RouteLemmas.{empty_unique}
 use Rattle.olr_spec.proofs.JoinLemmas.{empty_stretch}
 use Rattle.olr_spec.proofs.ListLemmas.{Each, Each-nil, Each-head, Each-tail, Each-range, has_last, has_index, map_same}

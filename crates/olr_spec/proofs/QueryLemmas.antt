@@ -1,15 +1,10 @@
 -- If the routes that an LRP's coverage query tests are the same, since it is clear of changes or two maps agree on the
 -- nodes that it reaches, then the same positions after the LRP are covered on both maps.
-use Rattle.std.proofs.Common.{inl, inr, ◌≡◌, ℕ, ◌+◌, ◌-◌, min, List, ◌++◌, length, ◌<◌, ◌≤◌, sym, ap}
-use Rattle.std.proofs.Common.{subst, arith, drop-drop, ◌↔◌, slice_index}
-use Rattle.std.proofs.lemmas.Bool.{cases_lt}
+use Rattle.olr_spec.proofs.Common.{inl, inr, ◌≡◌, ℕ, ◌+◌, ◌-◌, min, List, ◌++◌, length, ◌<◌, ◌≤◌, sym, ap, subst, arith}
+use Rattle.olr_spec.proofs.Common.{drop-drop, ◌↔◌, slice_index, cases_lt, Map, start, end, SameLine, SameRound, IsRoute}
+use Rattle.olr_spec.proofs.Common.{dm_of, Reaches, UniqueShortest, limit, stretch, Covered, ChangedLine, AccountsFor}
+use Rattle.olr_spec.proofs.Common.{Detour, Needed, IsLastTested, query_to, IsClear}
 use Rattle.std.proofs.Math.Seq.{take-add}
-use Rattle.olr_spec.specs.Map.{Map, start, end, SameLine, SameRound}
-use Rattle.olr_spec.specs.Routes.{IsRoute, dm_of, Reaches, UniqueShortest}
-use Rattle.olr_spec.specs.Extension.{limit}
-use Rattle.olr_spec.specs.Points.{stretch, Covered}
-use Rattle.olr_spec.specs.Detours.{ChangedLine, AccountsFor, Detour}
-use Rattle.olr_spec.specs.Queries.{Needed, IsLastTested, query_to, IsClear}
 use Rattle.olr_spec.proofs.RouteLemmas.{dm_of-append, prefix_of_unique}
 use Rattle.olr_spec.proofs.ListLemmas.{Each, Each-range, has_index}
 use Rattle.olr_spec.proofs.AgreeLemmas.{same_start, same_end, same_dm_of}

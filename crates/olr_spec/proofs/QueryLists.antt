@@ -1,9 +1,6 @@
 -- Lists of coverage queries: each LRP of the list has one.
-use Rattle.std.proofs.Common.{◌≡◌, ℕ, ◌+◌, true, List, ◌∷◌, length, ◌<◌, Contains, arith, nat_lt}
-use Rattle.std.proofs.Common.{IsTrue, [], lt-ltb, ltb-true}
-use Rattle.std.specs.List.{AllZip}
-use Rattle.olr_spec.specs.Map.{Map, has}
-use Rattle.olr_spec.specs.Queries.{CoverageQuery, IsQuery, querying}
+use Rattle.olr_spec.proofs.Common.{◌≡◌, ℕ, ◌+◌, true, List, ◌∷◌, length, ◌<◌, Contains, arith, nat_lt, IsTrue, []}
+use Rattle.olr_spec.proofs.Common.{lt-ltb, ltb-true, AllZip, Map, has, CoverageQuery, IsQuery, querying}
 use Rattle.olr_spec.proofs.ListLemmas.{has_filter, filter_has, has_here, has_there, has_cases, Contains-here}
 use Rattle.olr_spec.proofs.ListLemmas.{Contains-later, Contains-cases}
 

@@ -1,19 +1,17 @@
 -- Bytes have no fault exactly if some reference encodes as them.
-use Rattle.std.proofs.Common.{inl, inr, ◌≡◌, ℕ, zero, suc, ◌+◌, ◌-◌, ◌*◌, ◌/◌, ◌%◌, ◌<◌, ◌≤◌, ℤ, pos, negsuc, ◌≤ℤ◌}
-use Rattle.std.proofs.Common.{Bool, false, cond, ◌||◌, List, ◌∷◌, ◌++◌, length, Option, Some, None, IfSome}
-use Rattle.std.proofs.Common.{IsTrue, refl, sym, ap, ◌∙◌, arith, nat_le, length-append, [], eqb-true, eq-eqb}
-use Rattle.std.proofs.Common.{leb-false, le-ltb, ltb-false, get_or-append-add, int_le, flat_map, slice_index}
-use Rattle.std.proofs.lemmas.Bool.{cases_lt, and_from, or_parts, lt-leb, not-false, or_from, not_from_true}
-use Rattle.std.proofs.Common.{◌↔◌}
-use Rattle.std.proofs.lemmas.Int.{ints}
+use Rattle.olr_spec.proofs.Common.{inl, inr, ◌≡◌, ℕ, zero, suc, ◌+◌, ◌-◌, ◌*◌, ◌/◌, ◌%◌, ◌<◌, ◌≤◌, ℤ, pos, negsuc, ◌≤ℤ◌}
+use Rattle.olr_spec.proofs.Common.{Bool, false, cond, ◌||◌, List, ◌∷◌, ◌++◌, length, Option, Some, None, IfSome, IsTrue}
+use Rattle.olr_spec.proofs.Common.{refl, sym, ap, ◌∙◌, arith, nat_le, length-append, [], eqb-true, eq-eqb, leb-false}
+use Rattle.olr_spec.proofs.Common.{le-ltb, get_or-append-add, int_le, flat_map, slice_index, cases_lt, and_from}
+use Rattle.olr_spec.proofs.Common.{or_parts, not-false, ◌↔◌, ints, AllByRecursion, list_any, within, fits16, First}
+use Rattle.olr_spec.proofs.Common.{Middle, Last, Reference, AreAttrs, IsFirst, IsMiddle, IsLast, IsReference, fits24}
+use Rattle.olr_spec.proofs.Common.{signed16, first_bytes, middle_bytes, last_bytes, flag, offset_bytes, reference_bytes}
+use Rattle.std.proofs.Common.{ltb-false}
+use Rattle.std.proofs.lemmas.Bool.{lt-leb, or_from, not_from_true}
 use Rattle.std.proofs.lemmas.List.Elements.{recursion_from_All}
-use Rattle.std.specs.List.{AllByRecursion, list_any}
-use Rattle.olr_spec.specs.Coordinates.{within, fits16}
-use Rattle.olr_spec.specs.Reference.{Attrs, First, Middle, Last, Reference}
-use Rattle.olr_spec.specs.Bytes.{AreAttrs, IsFirst, IsMiddle, IsLast, IsReference, fits24, residue, signed16, signed24}
-use Rattle.olr_spec.specs.Bytes.{attribute1, attr_bytes, first_bytes, middle_bytes, last_bytes, flag, offset_bytes}
-use Rattle.olr_spec.specs.Bytes.{status_byte, reference_bytes, HasBytes, V3Fault}
-use Rattle.olr_spec.specs.Bytes.{extra, bit, flags_of, attribute1_bytes, v3_fault}
+use Rattle.olr_spec.specs.Reference.{Attrs}
+use Rattle.olr_spec.specs.Bytes.{residue, signed24, attribute1, attr_bytes, status_byte, HasBytes, V3Fault, extra, bit}
+use Rattle.olr_spec.specs.Bytes.{flags_of, attribute1_bytes, v3_fault}
 use Rattle.olr_spec.specs.Laws.{NoFault}
 use Rattle.olr_spec.proofs.SectorLemmas.{le_test}
 use Rattle.olr_spec.proofs.BytesLemmas.{flag_below, flag_is}

@@ -1,31 +1,22 @@
 -- Every receiver recovers the legs between the remaining LRPs, and what the lengths and nodes of these say.
-use Rattle.std.proofs.Common.{◌≡◌, ℕ, suc, ◌+◌, ◌-◌, true, List, ◌∷◌, length, map, ◌<◌, ℤ, ◌≤◌, ◌↔◌, Some}
-use Rattle.std.proofs.Common.{None, IsTrue, refl, sym, ap, ◌∙◌, subst, arith, slice_get, inl, inr, zero, Bool, pos}
-use Rattle.std.proofs.Common.{Option, unwrap_or, cond, [], nat_lt, ◌==◌, ◌||◌, option_map, slice_index, lt-ltb}
-use Rattle.std.proofs.Common.{le-ltb}
-use Rattle.std.specs.Bool.{⊤}
-use Rattle.std.specs.List.{concat, AllZip}
-use Rattle.std.proofs.Common.{get_or}
-use Rattle.std.proofs.lemmas.List.{get_or-map}
-use Rattle.std.proofs.lemmas.List.Sums.{AllPass-from_list_all, list_all-from_AllPass}
-use Rattle.std.proofs.lemmas.Bool.{cond-false, cases_lt, or_cases, or_left, or_right}
-use Rattle.olr_spec.specs.Map.{Map, IsMap, coord_at, start, end}
-use Rattle.olr_spec.specs.Extension.{Path, is_path, none_twice, extended_path, first, last, AreJoined}
-use Rattle.olr_spec.specs.Points.{stretch, OfPath, node_at}
-use Rattle.olr_spec.specs.Bearings.{Leg}
-use Rattle.olr_spec.specs.Reference.{Reference, leg, legs, leg_at, no_leg, attrs, first_kept, last_kept, kept_points}
-use Rattle.olr_spec.specs.Reference.{from_front, to_back, Middle, middle_points, last_two, reference_by_kept}
-use Rattle.olr_spec.specs.Reference.{last_point, dm_between, offset}
-use Rattle.olr_spec.specs.Encoding.{Points, path_fault, Encoding}
-use Rattle.olr_spec.specs.Receiver.{Side, Outgoing, Incoming, lrp_at, last_number, last_lrp, decoded_coord, attributes}
-use Rattle.olr_spec.specs.Receiver.{Receiver, Within, RecoversTo, RecoversLast, RecoversFrom, Recovers, candidates}
-use Rattle.olr_spec.specs.Receiver.{is_nearest, has_no_twin, coordinate_on, Measure, node_on}
-use Rattle.olr_spec.specs.Recovery.{line_by, IsLineAt, Distinct, stretches, IsStretches, IsLeft, IsCut, IsClose, IsStep}
-use Rattle.olr_spec.specs.Recovery.{IsWeighted, are_spaced, is_spaced}
-use Rattle.olr_spec.specs.Routes.{dm_of}
-use Rattle.olr_spec.specs.Decoded.{IsNear}
+use Rattle.olr_spec.proofs.Common.{◌≡◌, ℕ, suc, ◌+◌, ◌-◌, true, List, ◌∷◌, length, map, ◌<◌, ℤ, ◌≤◌, ◌↔◌, Some, None}
+use Rattle.olr_spec.proofs.Common.{IsTrue, refl, sym, ap, ◌∙◌, subst, arith, slice_get, inl, inr, zero, Bool, pos}
+use Rattle.olr_spec.proofs.Common.{Option, unwrap_or, cond, [], nat_lt, ◌==◌, ◌||◌, option_map, slice_index, lt-ltb}
+use Rattle.olr_spec.proofs.Common.{le-ltb, ⊤, AllZip, get_or, get_or-map, AllPass-from_list_all, cases_lt, or_cases}
+use Rattle.olr_spec.proofs.Common.{or_left, or_right, Map, IsMap, coord_at, start, end, Path, is_path, none_twice}
+use Rattle.olr_spec.proofs.Common.{extended_path, first, last, AreJoined, stretch, OfPath, node_at, Leg, Reference, leg}
+use Rattle.olr_spec.proofs.Common.{legs, leg_at, no_leg, attrs, first_kept, last_kept, kept_points, from_front, to_back}
+use Rattle.olr_spec.proofs.Common.{Middle, middle_points, last_two, reference_by_kept, last_point, dm_between, offset}
+use Rattle.olr_spec.proofs.Common.{Points, path_fault, Encoding, Side, Receiver, Within, RecoversTo, RecoversLast}
+use Rattle.olr_spec.proofs.Common.{candidates, is_nearest, has_no_twin, coordinate_on, Measure, node_on, IsCut, IsClose}
+use Rattle.olr_spec.proofs.Common.{IsWeighted, is_spaced, dm_of, IsNear}
+use Rattle.std.specs.List.{concat}
+use Rattle.std.proofs.lemmas.List.Sums.{list_all-from_AllPass}
+use Rattle.std.proofs.lemmas.Bool.{cond-false}
+use Rattle.olr_spec.specs.Receiver.{Outgoing, Incoming, lrp_at, last_number, last_lrp, decoded_coord, attributes}
+use Rattle.olr_spec.specs.Receiver.{RecoversFrom, Recovers}
+use Rattle.olr_spec.specs.Recovery.{line_by, IsLineAt, Distinct, stretches, IsStretches, IsLeft, IsStep, are_spaced}
 use Rattle.olr_spec.specs.Laws.{Recovered, StretchesJoin, Offsets, Distances, Nearest}
-use Rattle.olr_spec.specs.Reference as fields
 use Rattle.olr_spec.proofs.ListLemmas.{Each, has_index, has_last, last_index, Known}
 use Rattle.olr_spec.proofs.AnswerLemmas.{path_also, path_at}
 use Rattle.olr_spec.proofs.JoinLemmas.{Linked, follow_linked, kept_linked, joins_to, joins_last, empty_stretch}
@@ -39,6 +30,7 @@ use Rattle.olr_spec.proofs.RouteLemmas.{positive}
 use Rattle.olr_spec.proofs.WayLemmas.{next_start}
 use Rattle.olr_spec.proofs.JoinedLemmas.{extended_joined}
 use Rattle.olr_spec.proofs.QueryLemmas.{stretch_parts}
+use Rattle.olr_spec.specs.Reference as fields
 
 -- ---- one LRP
 

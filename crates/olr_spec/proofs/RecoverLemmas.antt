@@ -1,18 +1,12 @@
 -- A shortest route over lines within the LFRCNP is the leg of the extended path.
-use Rattle.std.proofs.Common.{inl, inr, ◌≡◌, ◌==◌, ◌≢◌, ℕ, zero, suc, ◌+◌, ◌-◌, max, true, false, not, List, ◌∷◌, ◌++◌}
-use Rattle.std.proofs.Common.{length, ◌<◌, ◌≤◌, ◌↔◌, IsTrue, map, refl, ap, ◌∙◌, subst, arith, [], slice_index}
-use Rattle.std.proofs.Common.{fold, eq-eqb, ne_eqb}
-use Rattle.std.proofs.lemmas.Bool.{both_ways, and_parts, and_from, not_from_false, not-true, or_parts}
-use Rattle.std.proofs.lemmas.List.Folds.{list_any-append}
-use Rattle.olr_spec.specs.Map.{Map, line_at, start, end, has}
-use Rattle.olr_spec.specs.Routes.{LrpRoute}
-use Rattle.olr_spec.specs.Extension.{Path, is_path, none_twice, Tried, extended_path}
-use Rattle.olr_spec.specs.Points.{stretch}
-use Rattle.olr_spec.specs.Bearings.{Leg}
-use Rattle.olr_spec.specs.Reference.{legs}
-use Rattle.olr_spec.specs.Joins.{JoinsTo, JoinsLast}
-use Rattle.olr_spec.specs.Receiver.{Within, Shortest, RecoversTo, RecoversLast, One_line, More_lines}
-use Rattle.std.proofs.Common.{length-drop, length-append, drop}
+use Rattle.olr_spec.proofs.Common.{inl, inr, ◌≡◌, ◌==◌, ◌≢◌, ℕ, zero, suc, ◌+◌, ◌-◌, max, true, false, not, List, ◌∷◌}
+use Rattle.olr_spec.proofs.Common.{◌++◌, length, ◌<◌, ◌≤◌, ◌↔◌, IsTrue, map, refl, ap, ◌∙◌, subst, arith, []}
+use Rattle.olr_spec.proofs.Common.{slice_index, fold, eq-eqb, ne_eqb, both_ways, and_parts, and_from, or_parts}
+use Rattle.olr_spec.proofs.Common.{list_any-append, Map, line_at, start, end, has, LrpRoute, Path, is_path, none_twice}
+use Rattle.olr_spec.proofs.Common.{Tried, extended_path, stretch, Leg, legs, JoinsTo, JoinsLast, Within, RecoversTo}
+use Rattle.olr_spec.proofs.Common.{RecoversLast, length-drop, length-append, drop}
+use Rattle.std.proofs.lemmas.Bool.{not_from_false, not-true}
+use Rattle.olr_spec.specs.Receiver.{Shortest, One_line, More_lines}
 use Rattle.std.proofs.lemmas.List.{length-take-le}
 use Rattle.olr_spec.proofs.ListLemmas.{has_index}
 use Rattle.olr_spec.proofs.DecideLemmas.{dec_same}

@@ -1,11 +1,8 @@
 -- Routes, and the shortest path.
-use Rattle.std.proofs.Common.{◌≡◌, ◌≢◌, ℕ, ◌+◌, ◌<◌, ◌≤◌, List, ◌∷◌, ◌++◌, reverse, inl, inr, refl, sym, ap, ◌∙◌, subst}
-use Rattle.std.proofs.Common.{arith, IsTrue, []}
-use Rattle.std.proofs.lemmas.Bool.{cases_order, and_parts}
-use Rattle.std.proofs.lemmas.Bool.Decides.{nat_tests}
-use Rattle.std.proofs.lemmas.List.{reverse-append, reverse-reverse, append_cancel_right}
-use Rattle.olr_spec.specs.Map.{Map, IsMap, has_node, has_line, end, dm}
-use Rattle.olr_spec.specs.Routes.{IsRoute, dm_of, FirstSmaller, PrecedesInTieOrder}
+use Rattle.olr_spec.proofs.Common.{◌≡◌, ◌≢◌, ℕ, ◌+◌, ◌<◌, ◌≤◌, List, ◌∷◌, ◌++◌, reverse, inl, inr, refl, sym, ap, ◌∙◌}
+use Rattle.olr_spec.proofs.Common.{subst, arith, IsTrue, [], cases_order, and_parts, nat_tests, reverse-append, Map}
+use Rattle.olr_spec.proofs.Common.{IsMap, has_node, has_line, end, dm, IsRoute, dm_of, FirstSmaller, PrecedesInTieOrder}
+use Rattle.std.proofs.lemmas.List.{reverse-reverse, append_cancel_right}
 use Rattle.olr_spec.specs.Laws.{NoLongerSuffix, OneLeast, PrefixOfLeast, EmptyIsLeast, EmptyIsUnique, UniqueIsLeast}
 use Rattle.olr_spec.specs.Laws.{PrefixOfUnique}
 

@@ -1,11 +1,9 @@
 -- Unique shortest paths within a length are the same on two maps that agree around each node that a route within this
 -- length reaches, or where no changed line offers a detour.
-use Rattle.std.proofs.Common.{inl, inr, ◌≡◌, ℕ, ◌+◌, List, ◌∷◌, ◌++◌, ◌≤◌, ◌↔◌, IsTrue, refl, sym, ◌∙◌, arith, ◌⊎◌}
-use Rattle.std.proofs.Common.{Contains, true, false, ◌-◌, []}
-use Rattle.std.proofs.lemmas.Bool.{cases_lt, cases_Bool}
-use Rattle.olr_spec.specs.Map.{Map, has_line, start, end, SameLine, SameRound, dm, has}
-use Rattle.olr_spec.specs.Routes.{IsRoute, dm_of, Reaches, UniqueShortest}
-use Rattle.olr_spec.specs.Detours.{ChangedLine, AccountsFor, Detour, Near}
+use Rattle.olr_spec.proofs.Common.{inl, inr, ◌≡◌, ℕ, ◌+◌, List, ◌∷◌, ◌++◌, ◌≤◌, ◌↔◌, IsTrue, refl, sym, ◌∙◌, arith, ◌⊎◌}
+use Rattle.olr_spec.proofs.Common.{Contains, true, false, ◌-◌, [], cases_lt, cases_Bool, Map, has_line, start, end}
+use Rattle.olr_spec.proofs.Common.{SameLine, SameRound, dm, has, IsRoute, dm_of, Reaches, UniqueShortest, ChangedLine}
+use Rattle.olr_spec.proofs.Common.{AccountsFor, Detour, Near}
 use Rattle.olr_spec.specs.Laws.{NearStays}
 use Rattle.olr_spec.proofs.RouteLemmas.{IsRoute-append, dm_of-append}
 use Rattle.olr_spec.proofs.ListLemmas.{Each, Each-nil, Each-cons, Each-head, Each-tail, Each-left, Each-right}

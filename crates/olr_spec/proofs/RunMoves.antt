@@ -1,13 +1,11 @@
 -- The tried runs are the same on two maps that agree around their nodes.
-use Rattle.std.proofs.Common.{IsTrue, ap, ◌≡◌, ℕ, List, ◌∷◌, ◌++◌, length, ◌<◌, ◌∙◌, arith}
-use Rattle.std.proofs.Common.{append_assoc, append-nil, length-append, []}
-use Rattle.std.proofs.lemmas.Bool.{cases_lt}
-use Rattle.olr_spec.specs.Map.{Map, IsMap, start, end, dm, SameLine, has_line}
-use Rattle.olr_spec.specs.Extension.{passing, first, last, MayPrecede, MayFollow, StartRun, EndRun, LongestStart}
-use Rattle.olr_spec.specs.Extension.{LongestEnd}
+use Rattle.olr_spec.proofs.Common.{IsTrue, ap, ◌≡◌, ℕ, List, ◌∷◌, ◌++◌, length, ◌<◌, ◌∙◌, arith, append_assoc}
+use Rattle.olr_spec.proofs.Common.{append-nil, length-append, [], cases_lt, Map, IsMap, start, end, dm, SameLine}
+use Rattle.olr_spec.proofs.Common.{has_line, passing, first, last, MayPrecede, MayFollow, StartRun, EndRun}
+use Rattle.olr_spec.proofs.Common.{LongestStart, LongestEnd}
 use Rattle.olr_spec.proofs.RouteLemmas.{dm_of-append, positive}
-use Rattle.olr_spec.proofs.ListLemmas.{Each, Each-nil, Each-cons, Each-tail, Each-left, Each-right}
-use Rattle.olr_spec.proofs.ListLemmas.{has_first, has_last, Known, EndsSame}
+use Rattle.olr_spec.proofs.ListLemmas.{Each, Each-nil, Each-cons, Each-tail, Each-left, Each-right, has_first, has_last}
+use Rattle.olr_spec.proofs.ListLemmas.{Known, EndsSame}
 use Rattle.olr_spec.proofs.RunLemmas.{no_longer, start_runs, end_runs}
 use Rattle.olr_spec.proofs.AgreeLemmas.{turned_round, by_entering, by_leaving, same_known, same_start, same_end}
 use Rattle.olr_spec.proofs.AgreeLemmas.{same_dm, same_dm_of, same_passing}

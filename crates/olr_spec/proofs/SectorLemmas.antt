@@ -1,13 +1,11 @@
 -- Each direction is in one sector.
-use Rattle.std.proofs.Common.{inl, inr, ◌≡◌, ℕ, zero, suc, ◌+◌, ◌-◌, ◌*◌, ◌/◌, ◌%◌, ◌<◌, ◌≤◌, ℤ, pos, ◌≤ℤ◌, ◌<ℤ◌, ◌*ℤ◌}
-use Rattle.std.proofs.Common.{◌-ℤ◌, neg_ℤ, Bool, true, T, List, ◌∷◌, Some, unwrap_or, IsTrue, map, refl, sym}
-use Rattle.std.proofs.Common.{subst, arith, [], eq-eqb, int_le, find}
-use Rattle.std.proofs.lemmas.Bool.{and_parts, cases_order, or_left, or_right, cond_both}
-use Rattle.std.proofs.lemmas.List.Folds.{list_any-append}
-use Rattle.std.proofs.Common.{negsuc}
-use Rattle.std.proofs.lemmas.Int.{ints, by_lt_z}
-use Rattle.olr_spec.specs.Bearings.{vector, quarter_turn, boundary, beyond, lies_between, IsSector, up_to}
-use Rattle.olr_spec.specs.Map.{has}
+use Rattle.olr_spec.proofs.Common.{inl, inr, ◌≡◌, ℕ, zero, suc, ◌+◌, ◌-◌, ◌*◌, ◌/◌, ◌%◌, ◌<◌, ◌≤◌, ℤ, pos, ◌≤ℤ◌, ◌<ℤ◌}
+use Rattle.olr_spec.proofs.Common.{◌-ℤ◌, Bool, true, T, List, ◌∷◌, Some, unwrap_or, IsTrue, map, refl, sym, subst}
+use Rattle.olr_spec.proofs.Common.{arith, [], eq-eqb, int_le, find, and_parts, cases_order, or_left, or_right}
+use Rattle.olr_spec.proofs.Common.{cond_both, list_any-append, negsuc, ints, vector, boundary, lies_between, up_to, has}
+use Rattle.std.proofs.Common.{◌*ℤ◌, neg_ℤ}
+use Rattle.std.proofs.lemmas.Int.{by_lt_z}
+use Rattle.olr_spec.specs.Bearings.{quarter_turn, beyond, IsSector}
 use Rattle.olr_spec.specs.Laws.{OneSector, SomeSector}
 use Rattle.olr_spec.proofs.ListLemmas.{Each, Each-nil, Each-head, Each-tail, has_cases, Each-push}
 

@@ -1,25 +1,21 @@
 -- If nothing that a path depends on has changed, its answer, traversed nodes, coverage queries and footprint are the
 -- same.
-use Rattle.std.proofs.Common.{◌⊎◌, inl, inr, ◌≡◌, ℕ, ◌+◌, List, ◌∷◌, length, true, ◌<◌, ◌≤◌, Option, None, IsTrue, All}
-use Rattle.std.proofs.Common.{Contains, sym, ◌∙◌, subst, arith, MatchOption, ◌↔◌, ◌++◌, length-append, cond, T, [], ap}
-use Rattle.std.proofs.Common.{◌==◌}
-use Rattle.std.proofs.lemmas.Bool.{cases_lt, cases_Bool, both_ways}
+use Rattle.olr_spec.proofs.Common.{◌⊎◌, inl, inr, ◌≡◌, ℕ, ◌+◌, List, ◌∷◌, length, true, ◌<◌, ◌≤◌, Option, None, IsTrue}
+use Rattle.olr_spec.proofs.Common.{All, Contains, sym, ◌∙◌, subst, arith, MatchOption, ◌↔◌, ◌++◌, length-append, cond}
+use Rattle.olr_spec.proofs.Common.{T, [], ap, ◌==◌, cases_lt, cases_Bool, both_ways, Map, IsMap, start, end, SameLine}
+use Rattle.olr_spec.proofs.Common.{SameRound, has, IsRoute, dm_of, Path, is_path, first, last, Tried, extended_path}
+use Rattle.olr_spec.proofs.Common.{taken_start, limit, from_start, taken_end, AreJoined, LongestEnd, stretch, Covered}
+use Rattle.olr_spec.proofs.Common.{Follow, OfPath, last_position, Answer, Refused, Refusal, path_fault}
+use Rattle.olr_spec.proofs.Common.{answer_by_points, Encoding, Points, ChangedLine, AccountsFor, NodeOf, Traversed}
+use Rattle.olr_spec.proofs.Common.{TraversedOfExtended, TraversedOf, IsLastTested, CoverageQuery, query_to, IsQuery}
+use Rattle.olr_spec.proofs.Common.{IsClear, querying, QueriesOfExtended, QueriesOf, KnownQuery, IsKnownAt}
+use Rattle.olr_spec.proofs.Common.{KnownOfExtended, reference}
 use Rattle.std.proofs.lemmas.List.Elements.{All-contains}
-use Rattle.olr_spec.specs.Map.{Map, IsMap, start, end, SameLine, SameRound, has}
-use Rattle.olr_spec.specs.Routes.{IsRoute, dm_of}
-use Rattle.olr_spec.specs.Extension.{Path, is_path, first, last, Tried, extended_path, taken_start, limit, from_start}
-use Rattle.olr_spec.specs.Extension.{taken_end, AreJoined, LongestEnd}
-use Rattle.olr_spec.specs.Points.{stretch, Covered, Follow, OfPath, last_position}
-use Rattle.olr_spec.specs.Encoding.{Answer, Refused, Refusal, path_fault, answer_by_points, Encoding}
-use Rattle.olr_spec.specs.Encoding.{No_next_point, Points}
-use Rattle.olr_spec.specs.Detours.{ChangedLine, AccountsFor}
-use Rattle.olr_spec.specs.Queries.{NodeOf, Traversed, TraversedOfExtended, TraversedOf, IsLastTested, CoverageQuery, query_to}
-use Rattle.olr_spec.specs.Queries.{IsQuery, IsClear, querying, QueriesOfExtended, QueriesOf, KnownQuery, IsKnownAt}
-use Rattle.olr_spec.specs.Queries.{KnownOfExtended, KnownOf, QueriesFrom}
+use Rattle.olr_spec.specs.Encoding.{No_next_point}
+use Rattle.olr_spec.specs.Queries.{KnownOf, QueriesFrom}
 use Rattle.olr_spec.specs.Laws.{UntouchedRetained, AnswersRetained}
-use Rattle.olr_spec.specs.Reference.{reference}
-use Rattle.olr_spec.proofs.ListLemmas.{Each, Each-from, has_first, has_last, Known, Each-append, Each-left}
-use Rattle.olr_spec.proofs.ListLemmas.{Each-right, Each-to, Each-cons, Each-push}
+use Rattle.olr_spec.proofs.ListLemmas.{Each, Each-from, has_first, has_last, Known, Each-append, Each-left, Each-right}
+use Rattle.olr_spec.proofs.ListLemmas.{Each-to, Each-cons, Each-push}
 use Rattle.olr_spec.proofs.AnswerLemmas.{sound_lines, path_nonempty, path_at, by_fault}
 use Rattle.olr_spec.proofs.RunLemmas.{one_tried, extended_keeps}
 use Rattle.olr_spec.proofs.PointMoves.{fault_same, close_stays, Traversed-same, follow_moves, legs_same}

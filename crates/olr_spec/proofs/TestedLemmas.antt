@@ -1,19 +1,12 @@
 -- A path has exactly one list of coverage queries, and they determine its footprint.
-use Rattle.std.proofs.Common.{inl, inr, ◌≡◌, ℕ, zero, suc, ◌+◌, ◌-◌, min, true, List, ◌∷◌, length, ◌<◌, ◌≤◌, None}
-use Rattle.std.proofs.Common.{IsTrue, Contains, refl, sym, ap, ◌∙◌, subst, arith, MatchOption, ◌⊎◌, T, []}
-use Rattle.std.proofs.lemmas.Bool.{cases_lt, cases_eq, cases_order}
-use Rattle.std.proofs.Math.Decide.{dec_le}
-use Rattle.std.specs.List.{AllZip}
-use Rattle.olr_spec.specs.Map.{Map, IsMap, has}
-use Rattle.olr_spec.specs.Routes.{dm_of}
-use Rattle.olr_spec.specs.Extension.{Path, is_path, extended_path, limit}
-use Rattle.olr_spec.specs.Points.{stretch, Covered, Greatest}
-use Rattle.olr_spec.specs.Encoding.{path_fault}
-use Rattle.olr_spec.specs.Footprint.{Sees, Touched, On_path, On_start_run, On_end_run, Within_reach, FootOf}
-use Rattle.olr_spec.specs.Queries.{Traversed, TraversedOfExtended, Needed, IsLastTested, CoverageQuery, query_to}
-use Rattle.olr_spec.specs.Queries.{IsQuery, querying, QueriesOfExtended}
+use Rattle.olr_spec.proofs.Common.{inl, inr, ◌≡◌, ℕ, zero, suc, ◌+◌, ◌-◌, min, true, List, ◌∷◌, length, ◌<◌, ◌≤◌, None}
+use Rattle.olr_spec.proofs.Common.{IsTrue, Contains, refl, sym, ap, ◌∙◌, subst, arith, MatchOption, ◌⊎◌, T, []}
+use Rattle.olr_spec.proofs.Common.{cases_lt, cases_eq, cases_order, dec_le, AllZip, Map, IsMap, has, dm_of, Path}
+use Rattle.olr_spec.proofs.Common.{is_path, extended_path, limit, stretch, Covered, Greatest, path_fault, Sees}
+use Rattle.olr_spec.proofs.Common.{Traversed, TraversedOfExtended, Needed, IsLastTested, CoverageQuery, query_to}
+use Rattle.olr_spec.proofs.Common.{IsQuery, querying, QueriesOfExtended, Near}
+use Rattle.olr_spec.specs.Footprint.{Touched, On_path, On_start_run, On_end_run, Within_reach, FootOf}
 use Rattle.olr_spec.specs.Laws.{OneLastTested, SomeLastTested, OneQueries, SomeQueries, FootIsQueried, FootAffected}
-use Rattle.olr_spec.specs.Detours.{Near}
 use Rattle.olr_spec.proofs.AnswerLemmas.{path_also, path_at, same_by, by_fault}
 use Rattle.olr_spec.proofs.DecideLemmas.{dec_and, dec_Covered, greatest_or_none, some_follow, some_encoding}
 use Rattle.olr_spec.proofs.ListLemmas.{has_here, has_there}

@@ -1,13 +1,12 @@
 -- One edit restores the map from before an accepted edit, and the empty map is sound.
-use Rattle.std.proofs.Common.{inl, inr, ◌≡◌, ◌≢◌, ℕ, Bool, true, false, cond, ◌||◌, List, ◌∷◌, map, Option, Some, None}
-use Rattle.std.proofs.Common.{Result, Ok, sym, ap, ◌∙◌, nat_cmp, ◌==◌, [], arith, eqb-true, filter}
-use Rattle.std.proofs.lemmas.Bool.{cases_eq, cases_Bool, and_from, or_cases}
-use Rattle.std.specs.List.{list_any}
-use Rattle.std.specs.Cmp.{nat_cmp_total}
-use Rattle.std.specs.FinMap.{FinMap, get, insert, remove, entries, get-empty, same_map, nat_cmp-IsAntisymmetric}
-use Rattle.olr_spec.specs.Map.{Map, IsMap, Line, has_node, line_at, coord_at, Edit}
-use Rattle.olr_spec.specs.Map.{Add_node, Move_node, Drop_node, Add_line, Set_line, Drop_line, edited, unless, in_use}
-use Rattle.olr_spec.specs.Map.{has}
+use Rattle.olr_spec.proofs.Common.{inl, inr, ◌≡◌, ◌≢◌, ℕ, Bool, true, false, cond, ◌||◌, List, ◌∷◌, map, Option, Some}
+use Rattle.olr_spec.proofs.Common.{None, Result, Ok, sym, ap, ◌∙◌, nat_cmp, ◌==◌, [], arith, eqb-true, filter, cases_eq}
+use Rattle.olr_spec.proofs.Common.{cases_Bool, and_from, or_cases, list_any, nat_cmp_total, FinMap, get, insert, remove}
+use Rattle.olr_spec.proofs.Common.{entries, nat_cmp-IsAntisymmetric, Map, IsMap, Line, has_node, line_at, coord_at}
+use Rattle.olr_spec.proofs.Common.{Edit, Add_node, Move_node, Drop_node, Add_line, Set_line, Drop_line, edited, in_use}
+use Rattle.olr_spec.proofs.Common.{has}
+use Rattle.std.specs.FinMap.{get-empty, same_map}
+use Rattle.olr_spec.specs.Map.{unless}
 use Rattle.olr_spec.specs.Laws.{EmptyIsSound, EditsUndo}
 use Rattle.olr_spec.proofs.MapLemmas.{has-lines_where, passes_at}
 use Rattle.olr_spec.proofs.ListLemmas.{has_here}

@@ -1,9 +1,6 @@
 -- Lines that join are routes between the positions along them, and an extended path's lines join.
-use Rattle.std.proofs.Common.{◌≡◌, ◌<◌, ◌≤◌, ◌-◌, ◌+◌, ℕ, zero, suc, List, ◌∷◌, length, take, drop, refl, sym}
-use Rattle.std.proofs.Common.{arith, length-drop, [], get_or-drop, slice_index}
-use Rattle.olr_spec.specs.Map.{Map, start, end}
-use Rattle.olr_spec.specs.Routes.{IsRoute}
-use Rattle.olr_spec.specs.Points.{stretch}
+use Rattle.olr_spec.proofs.Common.{◌≡◌, ◌<◌, ◌≤◌, ◌-◌, ◌+◌, ℕ, zero, suc, List, ◌∷◌, length, take, drop, refl, sym}
+use Rattle.olr_spec.proofs.Common.{arith, length-drop, [], get_or-drop, slice_index, Map, start, end, IsRoute, stretch}
 
 -- from line p on
 pub way_from : (M : Map) (s t : ℕ) (ls : List ℕ) (p : ℕ) → IsRoute M s t ls → p < length ls

@@ -1,4 +1,4 @@
-use Rattle.std.proofs.Common.{sym, ◌∙◌}
+use Rattle.olr_spec.proofs.Common.{sym, ◌∙◌}
 use Rattle.olr_spec.proofs.BytesLemmas.{one_decoding}
 use Rattle.olr_spec.proofs.ReadLemmas.{no_fault_where_encoded}
 use Rattle.olr_spec.proofs.laws_of_bytes.Goals as goal

@@ -1,4 +1,4 @@
-use Rattle.olr_spec.specs.Map.{SameLine}
+use Rattle.olr_spec.proofs.Common.{SameLine}
 use Rattle.olr_spec.proofs.ListLemmas.{Each-from}
 use Rattle.olr_spec.proofs.QueryLemmas.{to_same, clear_routes, query_stays, covered_stays}
 use Rattle.olr_spec.proofs.StayLemmas.{kept, known_kept, untouched_retained}

@@ -1,5 +1,4 @@
-use Rattle.std.proofs.Common.{◌≡◌, ◌++◌, ◌+◌, ◌-◌, ◌≤◌, length, drop}
-use Rattle.std.specs.Vec.{vec_capacity}
+use Rattle.olr_map.proofs.Common.{◌≡◌, ◌++◌, ◌+◌, ◌-◌, ◌≤◌, length, drop, vec_capacity}
 use Rattle.olr_map.proofs.Merging.{merged}
 use Rattle.olr_map.proofs.footprint.merge.Given as goal
 

@@ -1,4 +1,4 @@
-use Rattle.std.proofs.Common.{◌≡◌, drop, take, true}
+use Rattle.olr_map.proofs.Common.{◌≡◌, drop, take, true}
 use Rattle.olr_spec.specs.Map.{ascends_between, are_coords}
 use Rattle.olr_map.proofs.line.is_ascending.Given as goal
 

@@ -1,6 +1,4 @@
-use Rattle.std.proofs.Common.{ℕ, List, Option, [], ◌∷◌, ◌++◌, map, take, ap, ◌∙◌}
-use Rattle.olr_map.specs.Slotted.{present}
-use Rattle.olr_map.specs.declared.slots.NodeHead.{NodeHead}
+use Rattle.olr_map.proofs.Common.{ℕ, List, Option, [], ◌∷◌, ◌++◌, map, take, ap, ◌∙◌, present, NodeHead}
 use Rattle.olr_map.proofs.AllIds.{ids-more}
 use Rattle.olr_map.proofs.slots.ids_of.Goals as goal
 

@@ -1,5 +1,4 @@
-use Rattle.std.proofs.Common.{◌≡◌, map, take}
-use Rattle.olr_map.specs.Slotted.{present}
+use Rattle.olr_map.proofs.Common.{◌≡◌, map, take, present}
 use Rattle.olr_map.proofs.slots.ids_of.Given as goal
 
 abbrev pub invariant-loop-head : goal.invariant-loop-head

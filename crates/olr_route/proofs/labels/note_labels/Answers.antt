@@ -1,4 +1,4 @@
-use Rattle.std.proofs.Common.{◌⊎◌, Contains, inl, inr, arith}
+use Rattle.olr_route.proofs.Common.{◌⊎◌, Contains, inl, inr, arith}
 use Rattle.olr_map.proofs.Sizes.{ascending_within}
 use Rattle.olr_route.proofs.labels.note_labels.Goals as goal
 

@@ -1,6 +1,4 @@
-use Rattle.std.proofs.Common.{sym}
-use Rattle.olr_search.specs.declared.distances.Direction.TheVariants.{Along}
-use Rattle.olr_search.proofs.SearchLemmas.{distance_node, label_is}
+use Rattle.olr_route.proofs.Common.{sym, Along, distance_node, label_is}
 use Rattle.olr_route.proofs.last_lines.label_at.Goals as goal
 
 pub unreachable-requires : goal.unreachable-requires

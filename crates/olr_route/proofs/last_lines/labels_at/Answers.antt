@@ -1,10 +1,6 @@
-use Rattle.std.proofs.Common.{◌≡◌, ◌∷◌, [], ◌++◌, ℕ, List, None, length, get_or, length-append, sym, ap, ◌∙◌, subst}
-use Rattle.std.proofs.Common.{inl, inr, arith}
-use borrow.Author.Count.{below_more}
-use Rattle.std.proofs.lemmas.Grind.{get_or_default_zero}
+use Rattle.olr_route.proofs.Common.{◌≡◌, ◌∷◌, [], ◌++◌, ℕ, List, None, length, get_or, length-append, sym, ap, ◌∙◌}
+use Rattle.olr_route.proofs.Common.{subst, inl, inr, arith, below_more, get_or_default_zero, Label, IsReturned}
 use Rattle.std.proofs.lemmas.List.{get_or_push, get_or_append_left}
-use Rattle.olr_route.specs.Labels.{Label}
-use Rattle.olr_route.specs.Listed.{IsReturned}
 use Rattle.olr_route.proofs.last_lines.labels_at.Goals as goal
 
 pub loop-node-preserved : goal.loop-node-preserved

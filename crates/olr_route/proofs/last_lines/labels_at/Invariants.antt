@@ -1,5 +1,4 @@
-use Rattle.std.proofs.Common.{◌≡◌, ◌<◌, ℕ, None, length, get_or}
-use Rattle.olr_route.specs.Listed.{IsReturned}
+use Rattle.olr_route.proofs.Common.{◌≡◌, ◌<◌, ℕ, None, length, get_or, IsReturned}
 use Rattle.olr_route.proofs.last_lines.labels_at.Given as goal
 
 abbrev pub invariant-loop-node : goal.invariant-loop-node

@@ -1,18 +1,12 @@
-use Rattle.std.proofs.Common.{◌≡◌, ℕ, List, get_or, sym, ap, ◌∙◌, subst, inl, inr, arith}
-use Rattle.std.specs.List.Sorted.{IsStrictlyIncreasing}
-use Rattle.std.proofs.lemmas.Bool.{cases_lt}
-use Rattle.std.proofs.lemmas.Grind.{get_or_default_zero}
-use Rattle.olr_spec.specs.Map.{start, dm}
+use Rattle.olr_route.proofs.Common.{◌≡◌, ℕ, List, get_or, sym, ap, ◌∙◌, subst, inl, inr, arith, IsStrictlyIncreasing}
+use Rattle.olr_route.proofs.Common.{cases_lt, get_or_default_zero, start, dm, IsTight, entering, below_more}
 use Rattle.olr_spec.proofs.OrderLemmas.{ascend_in}
 use Rattle.olr_spec.proofs.AscendingLists.{ascends}
 use Rattle.olr_search.specs.Bounds.{label_at}
-use Rattle.olr_route.specs.Listed.{IsTight}
-use Rattle.olr_search.proofs.ReadLemmas.{entering}
 use Rattle.olr_search.proofs.WayLemmas.{IsEntry, entry_is, as_many}
 use Rattle.olr_route.proofs.last_lines.last_line.Given.{Over}
-use Rattle.olr_route.proofs.last_lines.last_line.Goals as goal
 use Rattle.olr_route.proofs.last_lines.last_line.Goals.{After-leads_within}
-use borrow.Author.Count.{below_more}
+use Rattle.olr_route.proofs.last_lines.last_line.Goals as goal
 
 -- the line that is tested
 entry : (g : Over) (c : After-leads_within g) →

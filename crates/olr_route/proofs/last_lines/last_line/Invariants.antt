@@ -1,5 +1,4 @@
-use Rattle.std.proofs.Common.{◌<◌, ℕ, get_or}
-use Rattle.olr_route.specs.Listed.{IsTight}
+use Rattle.olr_route.proofs.Common.{◌<◌, ℕ, get_or, IsTight}
 use Rattle.olr_route.proofs.last_lines.last_line.Given as goal
 
 abbrev pub invariant-loop-index : goal.invariant-loop-index

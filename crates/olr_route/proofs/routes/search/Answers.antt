@@ -1,7 +1,5 @@
-use Rattle.std.proofs.Common.{◌≡◌, ◌<◌, ◌∷◌, [], ℕ, List, None, Contains, length, get_or, sym, subst, ap, ◌∙◌}
-use Rattle.olr_search.specs.declared.distances.Direction.TheVariants.{Along}
-use Rattle.olr_route.specs.Labels.{Labels, AreLabels}
-use Rattle.olr_route.specs.Listed.{IsReturned, listed_labels}
+use Rattle.olr_route.proofs.Common.{◌≡◌, ◌<◌, ◌∷◌, [], ℕ, List, None, Contains, length, get_or, sym, subst, ap, ◌∙◌}
+use Rattle.olr_route.proofs.Common.{Along, Labels, AreLabels, IsReturned, listed_labels}
 use Rattle.olr_route.proofs.ReportedLemmas.{reported_labels}
 use Rattle.olr_route.proofs.routes.search.Goals as goal
 

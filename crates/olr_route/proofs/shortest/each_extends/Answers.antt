@@ -1,4 +1,4 @@
-use Rattle.olr_route.specs.Labels.{IsShortest}
+use Rattle.olr_route.proofs.Common.{IsShortest}
 use Rattle.olr_route.proofs.StretchLemmas.{next_of, prefix_of, route_of, held_on, held_not, none_of}
 use Rattle.olr_route.proofs.shortest.each_extends.Goals as goal
 

@@ -1,6 +1,4 @@
-use Rattle.std.proofs.Common.{ℕ, take}
-use Rattle.olr_spec.specs.Routes.{IsRoute}
-use Rattle.olr_route.specs.Labels.{IsShortest}
+use Rattle.olr_route.proofs.Common.{ℕ, take, IsRoute, IsShortest}
 use Rattle.olr_route.proofs.shortest.each_extends.Given as goal
 
 abbrev pub invariant-loop-line : goal.invariant-loop-line

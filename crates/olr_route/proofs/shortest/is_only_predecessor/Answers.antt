@@ -1,12 +1,9 @@
-use Rattle.std.proofs.Common.{◌≡◌, ◌<◌, ◌≤◌, ℕ, Some, Option, length, get_or, refl, sym, subst, ap, ◌∙◌, arith}
-use borrow.Author.Count.{below_more}
-use Rattle.std.proofs.lemmas.Grind.{get_or_default_zero}
-use Rattle.olr_route.specs.Labels.{dist_at}
-use Rattle.olr_route.specs.Ends.{FartherThan}
+use Rattle.olr_route.proofs.Common.{◌≡◌, ◌<◌, ◌≤◌, ℕ, Some, Option, length, get_or, refl, sym, subst, ap, ◌∙◌, arith}
+use Rattle.olr_route.proofs.Common.{below_more, get_or_default_zero, dist_at, FartherThan, entering}
 use Rattle.olr_route.proofs.EqualLemmas.{differ, agree}
-use Rattle.olr_search.proofs.ReadLemmas.{enters, entering}
-use Rattle.olr_route.proofs.shortest.is_only_predecessor.Goals as goal
+use Rattle.olr_search.proofs.ReadLemmas.{enters}
 use Rattle.olr_route.proofs.shortest.is_only_predecessor.Goals.{then-ne+else-is_within, else-ne}
+use Rattle.olr_route.proofs.shortest.is_only_predecessor.Goals as goal
 
 pub start_of-from-requires : goal.start_of-from-requires
 start_of-from-requires g c = grind (arith, enters)

@@ -1,5 +1,4 @@
-use Rattle.std.proofs.Common.{◌<◌, ℕ, get_or}
-use Rattle.olr_route.specs.Ends.{FartherThan}
+use Rattle.olr_route.proofs.Common.{◌<◌, ℕ, get_or, FartherThan}
 use Rattle.olr_route.proofs.shortest.is_only_predecessor.Given as goal
 
 abbrev pub invariant-loop-other : goal.invariant-loop-other

@@ -1,16 +1,11 @@
-use Rattle.std.proofs.Common.{◌≡◌, ◌≤◌, ◌+◌, ℕ, IsTrue, get_or, sym, ap, subst, ◌∙◌, arith}
-use Rattle.std.proofs.lemmas.List.{get_or_default}
-use Rattle.olr_spec.specs.Map.{has_node, dm}
+use Rattle.olr_search.proofs.Common.{◌≡◌, ◌≤◌, ◌+◌, ℕ, IsTrue, get_or, sym, ap, subst, ◌∙◌, arith, get_or_default}
+use Rattle.olr_search.proofs.Common.{has_node, dm, LineEnd, Leads, near_end, far_end, label_of, Moves, below_more}
 use Rattle.olr_spec.proofs.RouteLemmas.{line_short}
-use Rattle.olr_map.specs.declared.read.LineEnd.{LineEnd}
-use Rattle.olr_search.specs.Distances.{Leads, near_end, far_end}
-use Rattle.olr_search.specs.Frontiers.{label_of, Moves}
 use Rattle.olr_search.proofs.WayLemmas.{IsEnd, end_is, has_end, no_end, far_node, leads_on}
 use Rattle.olr_search.proofs.SearchLemmas.{moves_then}
 use Rattle.olr_search.proofs.steps.follow.Given.{Over}
-use Rattle.olr_search.proofs.steps.follow.Goals as goal
 use Rattle.olr_search.proofs.steps.follow.Goals.{After-end-item}
-use borrow.Author.Count.{below_more}
+use Rattle.olr_search.proofs.steps.follow.Goals as goal
 
 -- the line that is followed
 line : (g : Over) (c : After-end-item g) →

@@ -1,8 +1,5 @@
-use Rattle.std.proofs.Common.{◌≡◌, ◌≤◌, ◌<◌, ◌+◌, ℕ, List, IsTrue, get_or}
-use Rattle.olr_spec.specs.Map.{has_node}
-use Rattle.olr_search.specs.Distances.{Leads}
-use Rattle.olr_search.specs.Frontiers.{Moves, label_of}
-use Rattle.olr_search.specs.Searches.{IsLabelled}
+use Rattle.olr_search.proofs.Common.{◌≡◌, ◌≤◌, ◌<◌, ◌+◌, ℕ, List, IsTrue, get_or, has_node, Leads, Moves, label_of}
+use Rattle.olr_search.proofs.Common.{IsLabelled}
 use Rattle.olr_search.proofs.WayLemmas.{no_end}
 use Rattle.olr_search.proofs.steps.follow.Given as goal
 

@@ -1,5 +1,5 @@
+use Rattle.olr_search.proofs.Common.{IsRelaxed}
 use Rattle.std.proofs.lemmas.Result.{on_ok_weaker}
-use Rattle.olr_search.specs.Frontiers.{IsRelaxed}
 use Rattle.olr_search.proofs.SearchLemmas.{put_labelled}
 use Rattle.olr_search.proofs.steps.label_node.Goals as goal
 

@@ -1,6 +1,4 @@
-use Rattle.std.proofs.Common.{◌≡◌, ℕ, List, sym, ap, ◌∙◌, inl, inr, arith}
-use Rattle.olr_search.specs.Notes.{label_in}
-use Rattle.olr_search.specs.Frontiers.{label_of}
+use Rattle.olr_search.proofs.Common.{◌≡◌, ℕ, List, sym, ap, ◌∙◌, inl, inr, arith, label_in, label_of}
 use Rattle.olr_search.proofs.CutLemmas.{cut_begun, cut_same, cut_more}
 use Rattle.olr_search.proofs.steps.settle.Goals as goal
 

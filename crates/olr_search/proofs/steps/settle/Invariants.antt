@@ -1,6 +1,5 @@
-use Rattle.std.proofs.Common.{◌≤◌, ℕ, List}
-use Rattle.olr_search.specs.Frontiers.{to_do, label_of}
-use Rattle.olr_search.specs.Searches.{IsUnderWay, IsCut}
+use Rattle.olr_search.proofs.Common.{◌≤◌, ℕ, List, label_of, IsUnderWay, IsCut}
+use Rattle.olr_search.specs.Frontiers.{to_do}
 use Rattle.olr_search.proofs.steps.settle.Given as goal
 
 abbrev pub invariant-loop-next : goal.invariant-loop-next

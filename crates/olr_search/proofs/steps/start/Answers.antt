@@ -1,4 +1,4 @@
-use Rattle.std.proofs.Common.{sym}
+use Rattle.olr_search.proofs.Common.{sym}
 use Rattle.olr_search.proofs.WayLemmas.{leads_first}
 use Rattle.olr_search.proofs.steps.start.Goals as goal
 

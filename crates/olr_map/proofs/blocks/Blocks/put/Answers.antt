@@ -1,7 +1,5 @@
-use Rattle.std.proofs.Common.{◌<◌, subst, sym, ap, ◌∙◌, ◌==◌, ◌/◌, ◌%◌, Some, cond, is_some}
+use Rattle.olr_map.proofs.Common.{◌<◌, subst, sym, ap, ◌∙◌, ◌==◌, ◌/◌, ◌%◌, Some, cond, is_some, lookup, slot_in}
 use Rattle.std.specs.HashMap.{spare}
-use Rattle.std.specs.Map.{lookup}
-use Rattle.olr_map.specs.Blocked.{slot_in}
 use Rattle.olr_map.proofs.Blocking.{on_ok, block_changed, not_blank, used_put}
 use Rattle.olr_map.proofs.blocks.Blocks.put.Goals as goal
 

@@ -1,5 +1,4 @@
-use Rattle.std.proofs.Common.{sym, ap, ◌∙◌, ◌/◌, ◌%◌}
-use Rattle.olr_map.specs.Blocked.{slot_in}
+use Rattle.olr_map.proofs.Common.{sym, ap, ◌∙◌, ◌/◌, ◌%◌, slot_in}
 use Rattle.olr_map.proofs.blocks.Blocks.reserve.Goals as goal
 
 pub invariant_of-self : goal.invariant_of-self

@@ -1,6 +1,4 @@
-use Rattle.std.proofs.Common.{◌≡◌, ◌==◌, ◌/◌, ◌%◌, true, Some, None, cond, is_some, sym, ap, ◌∙◌}
-use Rattle.std.specs.Map.{lookup}
-use Rattle.olr_map.specs.Blocked.{slot_in}
+use Rattle.olr_map.proofs.Common.{◌≡◌, ◌==◌, ◌/◌, ◌%◌, true, Some, None, cond, is_some, sym, ap, ◌∙◌, lookup, slot_in}
 use Rattle.olr_map.proofs.Blocking.{block_changed, removed_again, used_put, used_removed}
 use Rattle.olr_map.proofs.blocks.Blocks.take.Goals as goal
 

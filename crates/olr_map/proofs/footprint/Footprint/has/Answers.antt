@@ -1,5 +1,5 @@
-use Rattle.std.proofs.Common.{◌≡◌, sym, ◌∙◌}
-use Rattle.olr_spec.proofs.AscendingLists.{IsSearchResult, place_of, found_there, there_found}
+use Rattle.olr_map.proofs.Common.{◌≡◌, sym, ◌∙◌, place_of}
+use Rattle.olr_spec.proofs.AscendingLists.{IsSearchResult, found_there, there_found}
 use Rattle.olr_map.proofs.footprint.Footprint.has.Goals as goal
 
 pub returns : goal.returns

@@ -1,6 +1,4 @@
-use Rattle.std.proofs.Common.{Err}
-use Rattle.olr_map.specs.Linked.{lines_on}
-use Rattle.olr_spec.proofs.AscendingLists.{place_of, place_not}
+use Rattle.olr_map.proofs.Common.{Err, lines_on, place_of, place_not}
 use Rattle.olr_map.proofs.Listing.{inserted, absent_put}
 use Rattle.olr_map.proofs.links.Links.put.Goals as goal
 

@@ -1,4 +1,5 @@
-use Rattle.std.proofs.Common.{◌≡◌, take, fold}
+use Rattle.olr_map.proofs.Common.{◌≡◌, take}
+use Rattle.std.proofs.Common.{fold}
 use Rattle.olr_map.specs.Hashing.{number_step}
 use Rattle.olr_map.proofs.number_hash.NumberHasherHasher.write.Given as goal
 

@@ -1,6 +1,4 @@
-use Rattle.olr_spec.specs.Map.{edited}
-use Rattle.olr_map.specs.Changes.{tables_map}
-use Rattle.olr_map.specs.Edits.{edit_of}
+use Rattle.olr_map.proofs.Common.{edited, tables_map, edit_of}
 use Rattle.olr_map.proofs.Verdicts.{refused_as}
 use Rattle.olr_map.proofs.road_map.RoadMap.apply.Goals as goal
 

@@ -1,6 +1,4 @@
-use Rattle.std.proofs.Common.{ℕ, Some, ap, sym, ◌∙◌}
-use Rattle.olr_map.specs.Columns.{node_slots}
-use Rattle.olr_map.specs.SlotMaps.{all_held}
+use Rattle.olr_map.proofs.Common.{ℕ, Some, ap, sym, ◌∙◌, node_slots, all_held}
 use Rattle.olr_map.proofs.Reading.{node_there, place_is, slot_of}
 use Rattle.olr_map.proofs.road_map.RoadMap.id_at.Goals as goal
 

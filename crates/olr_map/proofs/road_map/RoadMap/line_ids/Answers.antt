@@ -1,11 +1,5 @@
-use Rattle.std.proofs.Common.{List, ℕ, map, ap, ◌∙◌}
-use Rattle.std.specs.List.{flat_map}
-use Rattle.olr_spec.specs.Map.{Map, lines_out}
-use Rattle.olr_map.specs.Slotted.{present}
-use Rattle.olr_map.specs.Columns.{node_slots}
-use Rattle.olr_map.specs.Changes.{tables_map}
-use Rattle.olr_map.specs.SlotMaps.{all_held}
-use Rattle.olr_map.specs.declared.slots.NodeEntry.{NodeEntry}
+use Rattle.olr_map.proofs.Common.{List, ℕ, map, ap, ◌∙◌, flat_map, Map, lines_out, present, node_slots, tables_map}
+use Rattle.olr_map.proofs.Common.{all_held, NodeEntry}
 use Rattle.olr_map.proofs.AllIds.{nodes_once, has_nodes, sorted_lines}
 use Rattle.olr_map.proofs.road_map.RoadMap.line_ids.Goals as goal
 

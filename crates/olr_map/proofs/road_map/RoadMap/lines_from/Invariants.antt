@@ -1,7 +1,4 @@
-use Rattle.std.proofs.Common.{◌≡◌, take}
-use Rattle.std.specs.List.{flat_map}
-use Rattle.olr_spec.specs.Map.{lines_out}
-use Rattle.olr_map.specs.Changes.{tables_map}
+use Rattle.olr_map.proofs.Common.{◌≡◌, take, flat_map, lines_out, tables_map}
 use Rattle.olr_map.proofs.road_map.RoadMap.lines_from.Given as goal
 
 abbrev pub invariant-loop-node : goal.invariant-loop-node

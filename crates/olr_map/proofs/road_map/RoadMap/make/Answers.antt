@@ -1,5 +1,4 @@
-use Rattle.olr_map.specs.Edits.{edit_of}
-use Rattle.olr_map.specs.Changes.{tables_map}
+use Rattle.olr_map.proofs.Common.{edit_of, tables_map}
 use Rattle.olr_map.proofs.Log.{done_by}
 use Rattle.olr_map.proofs.road_map.RoadMap.make.Goals as goal
 

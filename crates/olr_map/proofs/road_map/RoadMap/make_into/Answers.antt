@@ -1,12 +1,9 @@
-use Rattle.std.proofs.Common.{◌≡◌, ◌+◌, ◌≤◌, ◌∷◌, List, ◌∙◌, ap, sym, subst, arith}
-use Rattle.olr_map.specs.SlotIndexes.{spare_of}
-use Rattle.olr_map.specs.Edits.{edit_of}
-use Rattle.olr_map.specs.Changes.{tables_map, room_of, node_numbers, line_numbers, node_puts, line_puts}
-use Rattle.olr_map.specs.Undos.{CanMakeAll, log_changes}
-use Rattle.olr_map.specs.declared.change.TableChange.{TableChange}
+use Rattle.olr_map.proofs.Common.{◌≡◌, ◌+◌, ◌≤◌, ◌∷◌, List, ◌∙◌, ap, sym, subst, arith, spare_of, edit_of, tables_map}
+use Rattle.olr_map.proofs.Common.{room_of, node_puts, line_puts, CanMakeAll, TableChange, spare_numbers}
+use Rattle.olr_map.specs.Changes.{node_numbers, line_numbers}
+use Rattle.olr_map.specs.Undos.{log_changes}
 use Rattle.olr_map.proofs.Capacity.{within_trans}
 use Rattle.olr_map.proofs.Log.{done_by, one_more, all_on}
-use Rattle.olr_map.specs.SlotMaps.{spare_numbers}
 use Rattle.olr_map.proofs.road_map.RoadMap.make_into.Goals as goal
 
 pub returns-clause-done : goal.returns-clause-done

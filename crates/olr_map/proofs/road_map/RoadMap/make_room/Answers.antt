@@ -1,6 +1,5 @@
 -- Where several calls reserve capacity: what each leaves, in turn.
-use Rattle.std.proofs.Common.{◌∙◌}
-use Rattle.std.proofs.lemmas.Result.{on_ok_weaker}
+use Rattle.olr_map.proofs.Common.{◌∙◌, on_ok_weaker}
 use Rattle.olr_map.proofs.Capacity.{both_fit}
 use Rattle.olr_map.proofs.road_map.RoadMap.make_room.Goals as goal
 

@@ -1,5 +1,4 @@
-use Rattle.std.proofs.Common.{ap}
-use Rattle.olr_map.specs.Blocked.{all_in}
+use Rattle.olr_map.proofs.Common.{ap, all_in}
 use Rattle.olr_map.proofs.Capacity.{kept_none}
 use Rattle.olr_map.proofs.road_map.RoadMap.new.Goals as goal
 

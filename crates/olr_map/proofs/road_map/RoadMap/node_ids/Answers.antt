@@ -1,5 +1,4 @@
-use Rattle.olr_map.specs.Columns.{node_slots}
-use Rattle.olr_map.specs.SlotMaps.{all_held}
+use Rattle.olr_map.proofs.Common.{node_slots, all_held}
 use Rattle.olr_map.proofs.AllIds.{sorted_nodes}
 use Rattle.olr_map.proofs.road_map.RoadMap.node_ids.Goals as goal
 

@@ -1,8 +1,4 @@
-use Rattle.std.proofs.Common.{refl, ap, ◌∙◌}
-use Rattle.olr_map.specs.Columns.{node_slots}
-use Rattle.olr_map.specs.SlotMaps.{held}
-use Rattle.olr_map.specs.declared.change.TableChange.TheVariants.{PutLine, TakeLine}
-use Rattle.olr_map.specs.declared.slots.Side.TheVariants.{Out, In}
+use Rattle.olr_map.proofs.Common.{refl, ap, ◌∙◌, node_slots, held, PutLine, TakeLine, Out, In}
 use Rattle.olr_map.proofs.Indexing.{relisted}
 use Rattle.olr_map.proofs.LineChanges.{LineMade, can_put, line_put, number_free}
 use Rattle.olr_map.proofs.Reading.{line_missing}

@@ -1,4 +1,4 @@
-use Rattle.olr_map.specs.Columns.{node_slots}
+use Rattle.olr_map.proofs.Common.{node_slots}
 use Rattle.olr_map.proofs.ColumnLemmas.{node_fits}
 use Rattle.olr_map.proofs.NodeChanges.{put_node_kept, put_node_made}
 use Rattle.olr_map.proofs.road_map.RoadMap.put_node.Goals as goal

@@ -1,8 +1,4 @@
-use Rattle.std.proofs.Common.{is_some, refl, ap, ◌∙◌, arith}
-use Rattle.olr_map.specs.Columns.{node_slots}
-use Rattle.olr_map.specs.SlotMaps.{held}
-use Rattle.olr_map.specs.declared.change.TableChange.TheVariants.{SetLine}
-use Rattle.olr_map.specs.declared.slots.Side.TheVariants.{Out, In}
+use Rattle.olr_map.proofs.Common.{is_some, refl, ap, ◌∙◌, arith, node_slots, held, SetLine, Out, In}
 use Rattle.olr_map.proofs.Indexing.{relisted}
 use Rattle.olr_map.proofs.LineChanges.{LineMade, can_put_again, line_reset, line_set}
 use Rattle.olr_map.proofs.Reading.{line_found}

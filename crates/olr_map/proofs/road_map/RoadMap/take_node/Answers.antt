@@ -1,6 +1,4 @@
-use Rattle.std.proofs.Common.{is_some, ap, ◌∙◌}
-use Rattle.olr_map.specs.SlotIndexes.{slot_by}
-use Rattle.olr_map.specs.declared.slots.Side.TheVariants.{Out, In}
+use Rattle.olr_map.proofs.Common.{is_some, ap, ◌∙◌, slot_by, Out, In}
 use Rattle.olr_map.proofs.NodeChanges.{slot_taken, take_node_kept, taken_empty, take_node_made}
 use Rattle.olr_map.proofs.road_map.RoadMap.take_node.Goals as goal
 

@@ -1,8 +1,6 @@
-use Rattle.std.proofs.Common.{◌≡◌, ◌≤◌, reverse, vec_len}
-use Rattle.olr_map.specs.SlotIndexes.{spare_of}
-use Rattle.olr_map.specs.Changes.{tables_map, room_of, all_node_puts, all_line_puts}
-use Rattle.olr_map.specs.Undos.{CanMakeAll, made_all}
-use Rattle.olr_map.specs.SlotMaps.{spare_numbers}
+use Rattle.olr_map.proofs.Common.{◌≡◌, ◌≤◌, reverse, vec_len, spare_of, tables_map, room_of, CanMakeAll, made_all}
+use Rattle.olr_map.proofs.Common.{spare_numbers}
+use Rattle.olr_map.specs.Changes.{all_node_puts, all_line_puts}
 use Rattle.olr_map.proofs.road_map.RoadMap.undo_all.Given as goal
 
 -- the rest of the log can be undone, and leads to the same map

@@ -1,4 +1,4 @@
-use Rattle.olr_map.specs.declared.slots.Side.TheVariants.{In}
+use Rattle.olr_map.proofs.Common.{In}
 use Rattle.olr_map.proofs.Reading.{no_ends}
 use Rattle.olr_map.proofs.road_map.RoadMapMapRead.in_ends.Goals as goal
 

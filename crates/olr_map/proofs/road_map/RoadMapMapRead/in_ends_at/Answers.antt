@@ -1,5 +1,4 @@
-use Rattle.std.proofs.Common.{◌∙◌}
-use Rattle.olr_map.specs.declared.slots.Side.TheVariants.{In}
+use Rattle.olr_map.proofs.Common.{◌∙◌, In}
 use Rattle.olr_map.proofs.Reading.{slot_lines}
 use Rattle.olr_map.proofs.road_map.RoadMapMapRead.in_ends_at.Goals as goal
 

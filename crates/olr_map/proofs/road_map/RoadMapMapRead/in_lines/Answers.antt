@@ -1,4 +1,4 @@
-use Rattle.olr_map.specs.declared.slots.Side.TheVariants.{In}
+use Rattle.olr_map.proofs.Common.{In}
 use Rattle.olr_map.proofs.Reading.{no_lines}
 use Rattle.olr_map.proofs.road_map.RoadMapMapRead.in_lines.Goals as goal
 

@@ -1,4 +1,4 @@
-use Rattle.olr_map.specs.declared.slots.Side.TheVariants.{Out}
+use Rattle.olr_map.proofs.Common.{Out}
 use Rattle.olr_map.proofs.Reading.{no_ends}
 use Rattle.olr_map.proofs.road_map.RoadMapMapRead.out_ends.Goals as goal
 

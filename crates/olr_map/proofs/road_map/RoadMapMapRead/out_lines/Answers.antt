@@ -1,5 +1,4 @@
-use Rattle.std.proofs.Common.{sym, ◌∙◌}
-use Rattle.olr_map.specs.declared.slots.Side.TheVariants.{Out}
+use Rattle.olr_map.proofs.Common.{sym, ◌∙◌, Out}
 use Rattle.olr_map.proofs.Reading.{slot_lines, no_lines}
 use Rattle.olr_map.proofs.road_map.RoadMapMapRead.out_lines.Goals as goal
 

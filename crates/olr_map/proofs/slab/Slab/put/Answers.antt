@@ -1,6 +1,4 @@
-use Rattle.std.proofs.Common.{◌≡◌, ◌<◌, Some, sym, set, subst, length, vec_len, arith}
-use Rattle.std.specs.Vec.{vec_capacity}
-use Rattle.olr_map.specs.Slotted.{IsSlotted}
+use Rattle.olr_map.proofs.Common.{◌≡◌, ◌<◌, Some, sym, set, subst, length, vec_len, arith, vec_capacity, IsSlotted}
 use Rattle.olr_map.specs.Slabs.{room_in}
 use Rattle.olr_map.proofs.SlotLemmas.{put_slotted, push_none}
 use Rattle.olr_map.proofs.slab.Slab.put.Goals as goal

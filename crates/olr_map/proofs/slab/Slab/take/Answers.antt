@@ -1,4 +1,4 @@
-use Rattle.std.proofs.Common.{sym, ◌∙◌, arith}
+use Rattle.olr_map.proofs.Common.{sym, ◌∙◌, arith}
 use Rattle.olr_map.proofs.SlotLemmas.{stood, take_slotted, free_room}
 use Rattle.olr_map.proofs.slab.Slab.take.Goals as goal
 

@@ -1,5 +1,4 @@
-use Rattle.std.proofs.Common.{None}
-use Rattle.olr_map.specs.Slabs.{slots_of}
+use Rattle.olr_map.proofs.Common.{None, slots_of}
 use Rattle.olr_map.proofs.SlotMapLemmas.{has_slot, written_slots}
 use Rattle.olr_map.proofs.slot_map.SlotMap.put.Goals as goal
 

@@ -1,4 +1,4 @@
-use Rattle.olr_map.specs.declared.slots.Side.TheVariants.{Out, In}
+use Rattle.olr_map.proofs.Common.{Out, In}
 use Rattle.olr_map.proofs.ColumnLemmas.{links_read}
 use Rattle.olr_map.proofs.slots.NodeSlots.links.Goals as goal
 

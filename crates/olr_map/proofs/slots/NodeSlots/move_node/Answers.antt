@@ -1,8 +1,4 @@
-use Rattle.std.proofs.Common.{sym, ap, ◌∙◌}
-use Rattle.std.proofs.lemmas.Option.{same_Some}
-use Rattle.olr_spec.proofs.OptionLemmas.{some_of}
-use Rattle.olr_map.specs.Slabs.{slots_of}
-use Rattle.olr_map.specs.declared.slots.NodeHead.{NodeHead}
+use Rattle.olr_map.proofs.Common.{sym, ap, ◌∙◌, same_Some, some_of, slots_of, NodeHead}
 use Rattle.olr_map.proofs.ColumnLemmas.{head_turned, columns}
 use Rattle.olr_map.proofs.slots.NodeSlots.move_node.Goals as goal
 

@@ -1,6 +1,4 @@
-use Rattle.std.proofs.Common.{sym, ap, ◌∙◌}
-use Rattle.std.proofs.lemmas.Option.{same_Some}
-use Rattle.olr_map.specs.declared.slots.NodeHead.{NodeHead}
+use Rattle.olr_map.proofs.Common.{sym, ap, ◌∙◌, same_Some, NodeHead}
 use Rattle.olr_map.proofs.ColumnLemmas.{columns}
 use Rattle.olr_map.proofs.slots.NodeSlots.place.Goals as goal
 

@@ -1,4 +1,4 @@
-use Rattle.std.proofs.Common.{length, ap, ◌∙◌}
+use Rattle.olr_map.proofs.Common.{length, ap, ◌∙◌}
 use Rattle.olr_map.proofs.ColumnLemmas.{Column, stays_beside, row_inserted}
 use Rattle.olr_map.proofs.slots.NodeSlots.put.Goals as goal
 

@@ -1,5 +1,4 @@
-use Rattle.olr_spec.proofs.OptionLemmas.{is_some_of}
-use Rattle.olr_map.specs.declared.slots.Side.TheVariants.{Out, In}
+use Rattle.olr_map.proofs.Common.{is_some_of, Out, In}
 use Rattle.olr_map.proofs.ColumnLemmas.{inside_outs, inside_ins, links_read, relinked}
 use Rattle.olr_map.proofs.slots.NodeSlots.put_end.Goals as goal
 

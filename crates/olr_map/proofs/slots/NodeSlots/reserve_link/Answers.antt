@@ -1,5 +1,4 @@
-use Rattle.olr_spec.proofs.OptionLemmas.{some_of}
-use Rattle.olr_map.specs.declared.slots.Side.TheVariants.{Out, In}
+use Rattle.olr_map.proofs.Common.{some_of, Out, In}
 use Rattle.olr_map.proofs.ColumnLemmas.{relinked}
 use Rattle.olr_map.proofs.slots.NodeSlots.reserve_link.Goals as goal
 

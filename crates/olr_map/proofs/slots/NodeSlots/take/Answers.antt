@@ -1,7 +1,4 @@
-use Rattle.std.proofs.Common.{◌≡◌, get_or, sym, subst}
-use Rattle.olr_spec.proofs.OptionLemmas.{some_of}
-use Rattle.olr_map.specs.Slabs.{slots_of}
-use Rattle.olr_map.specs.declared.links.Links.{Links}
+use Rattle.olr_map.proofs.Common.{◌≡◌, get_or, sym, subst, some_of, slots_of, Links}
 use Rattle.olr_map.proofs.ColumnLemmas.{head_there, entry_is, row_removed}
 use Rattle.olr_map.proofs.slots.NodeSlots.take.Goals as goal
 

@@ -1,7 +1,7 @@
-use Rattle.std.proofs.Common.{◌≡◌, Some, None, Ok, Err, get_or, sym, ap, ◌∙◌, arith}
-use Rattle.std.proofs.lemmas.List.{get_or_default}
+use Rattle.olr_route.proofs.Common.{◌≡◌, Some, None, get_or, sym, ap, ◌∙◌, arith, get_or_default, Label, Labels}
+use Rattle.olr_route.proofs.Common.{label_at}
+use Rattle.std.proofs.Common.{Ok, Err}
 use Rattle.olr_spec.proofs.AscendingLists.{place_of, there_found}
-use Rattle.olr_route.specs.Labels.{Label, Labels, label_at}
 use Rattle.olr_route.proofs.ViewLemmas.{label_of_node, none_there}
 use Rattle.olr_route.proofs.labels.Labels.label.Goals as goal
 

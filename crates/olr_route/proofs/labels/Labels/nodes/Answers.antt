@@ -1,5 +1,4 @@
-use Rattle.std.proofs.Common.{ℕ, List, Contains, IsSome, length, sym, ap, subst, ◌∙◌}
-use Rattle.olr_route.specs.Labels.{Labels, label_at, count_of}
+use Rattle.olr_route.proofs.Common.{ℕ, List, Contains, IsSome, length, sym, ap, subst, ◌∙◌, Labels, label_at, count_of}
 use Rattle.olr_route.proofs.ViewLemmas.{has_label, count_of-listed}
 use Rattle.olr_route.proofs.labels.Labels.nodes.Goals as goal
 

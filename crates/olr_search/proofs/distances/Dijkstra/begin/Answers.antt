@@ -1,12 +1,8 @@
-use Rattle.std.proofs.Common.{◌≡◌, ◌≤◌, ℕ, IsTrue, get_or, sym, ap, subst, ◌∙◌, refl, inl, inr, arith}
-use borrow.Author.Count.{below_more}
-use Rattle.std.proofs.lemmas.List.{get_or_default}
-use Rattle.olr_spec.specs.Map.{has_node}
-use Rattle.olr_search.specs.Frontiers.{label_of, IsQueued}
-use Rattle.olr_search.specs.Searches.{IsUnderWay}
+use Rattle.olr_search.proofs.Common.{◌≡◌, ◌≤◌, ℕ, IsTrue, get_or, sym, ap, subst, ◌∙◌, refl, inl, inr, arith}
+use Rattle.olr_search.proofs.Common.{below_more, get_or_default, has_node, label_of, IsQueued, IsUnderWay}
 use Rattle.olr_search.proofs.SearchLemmas.{empty_labelled, settled_none}
-use Rattle.olr_search.proofs.distances.Dijkstra.begin.Goals as goal
 use Rattle.olr_search.proofs.distances.Dijkstra.begin.Given.{Over}
+use Rattle.olr_search.proofs.distances.Dijkstra.begin.Goals as goal
 
 pub loop-begin-init : goal.loop-begin-init
 loop-begin-init g c =

@@ -1,8 +1,5 @@
-use Rattle.std.proofs.Common.{◌≡◌, ◌≤◌, ◌<◌, ℕ, IsTrue, get_or}
-use Rattle.olr_spec.specs.Map.{has_node}
-use Rattle.olr_search.specs.Frontiers.{label_of, IsQueued}
-use Rattle.olr_search.specs.Searches.{IsLabelled}
-use Rattle.olr_search.specs.declared.frontier.TheConstants.{GREATEST_LIMIT}
+use Rattle.olr_search.proofs.Common.{◌≡◌, ◌≤◌, ◌<◌, ℕ, IsTrue, get_or, has_node, label_of, IsQueued, IsLabelled}
+use Rattle.olr_search.proofs.Common.{GREATEST_LIMIT}
 use Rattle.olr_search.proofs.distances.Dijkstra.begin.Given as goal
 
 abbrev pub invariant-loop-begin : goal.invariant-loop-begin

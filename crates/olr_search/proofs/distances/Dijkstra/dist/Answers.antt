@@ -1,4 +1,4 @@
-use Rattle.std.proofs.Common.{sym}
+use Rattle.olr_search.proofs.Common.{sym}
 use Rattle.olr_search.proofs.SearchLemmas.{distance_node}
 use Rattle.olr_search.proofs.distances.Dijkstra.dist.Goals as goal
 

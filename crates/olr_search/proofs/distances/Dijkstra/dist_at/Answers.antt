@@ -1,6 +1,5 @@
-use Rattle.std.proofs.Common.{◌≡◌, ℕ, Some, sym, ap, subst, ◌∙◌, arith}
-use Rattle.olr_search.specs.Distances.{IsDistance}
-use Rattle.olr_search.specs.Frontiers.{label_of}
+use Rattle.olr_search.proofs.Common.{◌≡◌, ℕ, sym, ap, subst, ◌∙◌, arith, IsDistance, label_of}
+use Rattle.std.proofs.Common.{Some}
 use Rattle.olr_search.proofs.SearchLemmas.{is_distance, label_is}
 use Rattle.olr_search.proofs.distances.Dijkstra.dist_at.Goals as goal
 

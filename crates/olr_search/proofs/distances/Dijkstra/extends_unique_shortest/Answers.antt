@@ -1,4 +1,4 @@
-use Rattle.std.proofs.Common.{refl}
+use Rattle.olr_search.proofs.Common.{refl}
 use Rattle.olr_search.proofs.UniqueLemmas.{reported}
 use Rattle.olr_search.proofs.distances.Dijkstra.extends_unique_shortest.Goals as goal
 

@@ -1,14 +1,10 @@
-use Rattle.std.proofs.Common.{◌≡◌, ◌≤◌, ◌+◌, ℕ, get_or, refl, sym, ap, ◌∙◌, subst, inl, inr, arith}
-use borrow.Author.Count.{below_more}
-use Rattle.std.proofs.lemmas.Bool.{cases_eq}
-use Rattle.std.proofs.lemmas.Grind.{get_or_default_zero}
-use Rattle.olr_spec.specs.Map.{start, dm}
-use Rattle.olr_search.specs.Frontiers.{label_of}
+use Rattle.olr_search.proofs.Common.{◌≡◌, ◌≤◌, ◌+◌, ℕ, get_or, refl, sym, ap, ◌∙◌, subst, inl, inr, arith, below_more}
+use Rattle.olr_search.proofs.Common.{cases_eq, get_or_default_zero, start, dm, label_of}
 use Rattle.olr_search.proofs.ReadLemmas.{entering}
 use Rattle.olr_search.proofs.WayLemmas.{IsEntry, entry_is, as_many}
 use Rattle.olr_search.proofs.distances.Dijkstra.is_only_predecessor.Given.{Over}
-use Rattle.olr_search.proofs.distances.Dijkstra.is_only_predecessor.Goals as goal
 use Rattle.olr_search.proofs.distances.Dijkstra.is_only_predecessor.Goals.{After-is_other}
+use Rattle.olr_search.proofs.distances.Dijkstra.is_only_predecessor.Goals as goal
 
 -- the line that is compared
 entry : (g : Over) (c : After-is_other g) →

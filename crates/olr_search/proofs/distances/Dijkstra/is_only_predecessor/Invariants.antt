@@ -1,6 +1,4 @@
-use Rattle.std.proofs.Common.{◌≡◌, ◌<◌, ◌≤◌, ◌+◌, ℕ, get_or}
-use Rattle.olr_spec.specs.Map.{start, dm}
-use Rattle.olr_search.specs.Frontiers.{label_of}
+use Rattle.olr_search.proofs.Common.{◌≡◌, ◌<◌, ◌≤◌, ◌+◌, ℕ, get_or, start, dm, label_of}
 use Rattle.olr_search.proofs.distances.Dijkstra.is_only_predecessor.Given as goal
 
 abbrev pub invariant-loop-index : goal.invariant-loop-index

@@ -1,6 +1,4 @@
-use Rattle.std.proofs.Common.{ℕ, List, Contains, sym, subst, arith}
-use Rattle.olr_search.specs.declared.frontier.Reached.{Reached}
-use Rattle.olr_search.specs.Searches.{LiesWithin}
+use Rattle.olr_search.proofs.Common.{ℕ, List, Contains, sym, subst, arith, Reached, LiesWithin}
 use Rattle.olr_search.proofs.SearchLemmas.{labelled_listed, near_listed, listed_reached, listed_near}
 use Rattle.olr_search.proofs.distances.Dijkstra.labelled_nodes.Goals as goal
 

@@ -1,7 +1,4 @@
-use Rattle.std.proofs.Common.{refl, sym, subst}
-use Rattle.std.specs.Prelude.{⊤}
-use Rattle.olr_search.specs.Searches.{IsUnderWay, IsCut}
-use Rattle.olr_search.specs.declared.distances.Direction.{Direction}
+use Rattle.olr_search.proofs.Common.{refl, sym, subst, ⊤, IsUnderWay, IsCut, Direction}
 use Rattle.olr_search.proofs.CutLemmas.{settled_on_to}
 use Rattle.olr_search.proofs.distances.Dijkstra.settle_to.Goals as goal
 

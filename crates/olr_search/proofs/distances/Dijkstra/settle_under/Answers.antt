@@ -1,10 +1,8 @@
-use Rattle.std.proofs.Common.{ℕ, List, sym, subst, arith}
+use Rattle.olr_search.proofs.Common.{ℕ, List, sym, subst, arith, IsSearch, IsUnderWay, IsCut, Direction}
 use Rattle.olr_search.specs.Bounds.{IsUnder, bound_in}
-use Rattle.olr_search.specs.Searches.{IsSearch, IsUnderWay, IsCut}
-use Rattle.olr_search.specs.declared.distances.Direction.{Direction}
 use Rattle.olr_search.proofs.CutLemmas.{cut_settled}
-use Rattle.olr_search.proofs.distances.Dijkstra.settle_under.Goals as goal
 use Rattle.olr_search.proofs.distances.Dijkstra.settle_under.Given.{Over}
+use Rattle.olr_search.proofs.distances.Dijkstra.settle_under.Goals as goal
 
 -- what the search is cut to
 cut : (g : Over) (c : goal.In_ok-settle g) (direction : Direction) (from : List (ℕ × ℕ)) →

@@ -1,5 +1,4 @@
-use Rattle.std.proofs.Common.{subst, arith}
-use Rattle.olr_search.specs.Notes.{AreAllReached}
+use Rattle.olr_search.proofs.Common.{subst, arith, AreAllReached}
 use Rattle.olr_search.proofs.NoteLemmas.{noted_less, noted_past}
 use Rattle.olr_search.proofs.frontier.Frontier.clear.Goals as goal
 

@@ -1,8 +1,5 @@
-use Rattle.std.proofs.Common.{◌≡◌, take}
-use Rattle.std.specs.Prelude.{nat_le}
-use Rattle.std.specs.List.{filter}
-use Rattle.olr_search.specs.Frontiers.{label_of}
-use Rattle.olr_search.specs.Notes.{numbers_of}
+use Rattle.olr_search.proofs.Common.{◌≡◌, nat_le, filter, label_of, numbers_of}
+use Rattle.std.proofs.Common.{take}
 use Rattle.olr_search.proofs.frontier.Frontier.nodes_within.Given as goal
 
 abbrev pub invariant-loop-reached : goal.invariant-loop-reached

@@ -1,5 +1,4 @@
-use Rattle.std.proofs.Common.{refl, subst, sym, arith}
-use Rattle.olr_search.specs.Notes.{AreAllReached}
+use Rattle.olr_search.proofs.Common.{refl, subst, sym, arith, AreAllReached}
 use Rattle.olr_search.proofs.NoteLemmas.{noted_more, noted_put, read_label}
 use Rattle.olr_search.proofs.SearchLemmas.{put_by}
 use Rattle.olr_search.proofs.frontier.Frontier.relax.Goals as goal

@@ -1,4 +1,4 @@
-use Rattle.std.proofs.Common.{inl, inr}
+use Rattle.olr_search.proofs.Common.{inl, inr}
 use Rattle.olr_search.proofs.HeapLemmas.{popped_others, popped_least}
 use Rattle.olr_search.proofs.queue.Queue.pop_within.Goals as goal
 

@@ -1,6 +1,6 @@
-use Rattle.std.proofs.Common.{◌≡◌, ◌+◌, ◌*◌, ℕ, Contains, subst, arith}
+use Rattle.olr_search.proofs.Common.{◌≡◌, ◌+◌, ℕ, Contains, subst, arith, queue_key}
+use Rattle.std.proofs.Common.{◌*◌}
 use Rattle.std.specs.BinaryHeap.{heap_items}
-use Rattle.olr_search.specs.Queues.{queue_key}
 use Rattle.olr_search.proofs.HeapLemmas.{Entry, pushed_kept, pushed_there}
 use Rattle.olr_search.proofs.queue.Queue.push.Goals as goal
 
