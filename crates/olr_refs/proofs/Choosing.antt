@@ -1,12 +1,12 @@
 -- The choice of the next LRP, from the last position that is covered and within the limit back to the first.
-use Rattle.std.proofs.Common.{◌≡◌, ◌<◌, ◌≤◌, ◌-◌, ℕ, Bool, true, false, List, length, sym, subst, arith, inl, inr}
-use Rattle.std.proofs.Common.{Option, Some, None, MatchOption}
+use Rattle.std.proofs.Common.{◌≡◌, ◌<◌, ◌≤◌, ◌-◌, ℕ, Bool, true, false, List, length, sym, subst, arith}
+use Rattle.std.proofs.Common.{Option, Some, MatchOption}
 use Rattle.std.proofs.lemmas.Bool.{cases_lt, cases_order}
 use Rattle.std.specs.Option.{option_or}
 use Rattle.olr_spec.specs.Coordinates.{Coord}
 use Rattle.olr_spec.specs.Map.{Map, coord_at}
 use Rattle.olr_spec.specs.Extension.{passing}
-use Rattle.olr_spec.specs.Points.{node_at, fit16, Candidate, ValidCandidate, Greatest, Next, To_valid}
+use Rattle.olr_spec.specs.Points.{node_at, fit16, Candidate, ValidCandidate, Greatest, Next}
 use Rattle.olr_refs.specs.Along.{IsReach}
 
 abbrev pub fit : Map → List ℕ → ℕ → ℕ → Bool
@@ -19,15 +19,7 @@ fit_read M ls i j p q b hp hq hb = simp (hp, hq) at (sym hb)
 
 candidate_of : (M : Map) (ls : List ℕ) (i r j : ℕ) → IsReach M ls i r → i < j → j ≤ r → fit M ls i j ≡ true →
     Candidate M ls i j
-candidate_of M ls i r j a h k f = let u =
-    a.upto in record {
-      after = h;
-      upto = omega arith;
-      covered = (a.within j h k).0;
-      near = (a.within j h k).1;
-      fits =
-          f;
-    }
+candidate_of M ls i r j a h k f = grind arith
 
 -- no candidate from k on, or the greatest of all
 abbrev Last : Map → List ℕ → ℕ → ℕ → Option ℕ → Type 0
@@ -45,24 +37,14 @@ not_fit M ls i k j f e c = let t : fit M ls i (k - 1) ≡ true = subst (λ (n : 
 
 from_one_less : (Q : ℕ → Type 0) (k : ℕ) → 0 < k → ((j : ℕ) → k ≤ j → ¬ Q j) → ((j : ℕ) → j ≡ k - 1 → ¬ Q j) → (j : ℕ) →
     k - 1 ≤ j → ¬ Q j
-from_one_less Q k p above here j h q =
-    elim (cases_order j (k - 1)) [
-      | inl e ↦ here j e q
-      | inr (inl lt) ↦ absurd (omega arith)
-      | inr (inr gt) ↦ above j (omega arith) q
-    ]
+from_one_less Q k p above here j h q = grind (arith, cases_order)
 
 greatest_here : (Q : ℕ → Type 0) (k : ℕ) → 0 < k → Q (k - 1) → ((j : ℕ) → k ≤ j → ¬ Q j) → Greatest Q (k - 1)
-greatest_here Q k p here above =
-    record {
-      holds = here;
-      others = λ j q. elim (cases_lt j k) [ inl lt ↦ omega arith | inr ge ↦ absurd (above j ge q) ];
-    }
+greatest_here Q k p here above = grind (arith, cases_lt)
 
 last_less : (M : Map) (ls : List ℕ) (i k : ℕ) (last : Option ℕ) → 0 < k → ((j : ℕ) → j ≡ k - 1 → ¬ Candidate M ls i j) →
     Last M ls i k last → Last M ls i (k - 1) last
-last_less M ls i k None p here l = from_one_less (Candidate M ls i) k p l here
-last_less M ls i k (Some m) p here l = l
+last_less M ls i k v4 p here l = grind (arith, from_one_less)
 
 pub scan_unfit : (M : Map) (ls : List ℕ) (i r k : ℕ) (last : Option ℕ) → 0 < k → Scanned M ls i r k last →
     fit M ls i (k - 1) ≡ false → Scanned M ls i r (k - 1) last
@@ -76,26 +58,15 @@ scan_unfit M ls i r k last p s f =
 -- one that fits, at a degree-two node
 last_more : (M : Map) (ls : List ℕ) (i k : ℕ) (last : Option ℕ) → 0 < k → Candidate M ls i (k - 1) →
     Last M ls i k last → Last M ls i (k - 1) (option_or last (Some (k - 1)))
-last_more M ls i k None p c l = greatest_here (Candidate M ls i) k p c l
-last_more M ls i k (Some m) p c l = l
+last_more M ls i k v4 p c l = grind (arith, greatest_here)
 
 pub scan_passing : (M : Map) (ls : List ℕ) (i r k : ℕ) (last : Option ℕ) → 0 < k → i < k - 1 → k - 1 ≤ r →
     IsReach M ls i r → Scanned M ls i r k last → fit M ls i (k - 1) ≡ true → passing M (node_at M ls (k - 1)) ≡ true
     → Scanned M ls i r (k - 1) (option_or last (Some (k - 1)))
-scan_passing M ls i r k last p after upto a s f through =
-    record {
-      not_end = s.not_end;
-      no_valid = from_one_less (ValidCandidate M ls i) k p s.no_valid (λ j e v.
-          let valid : passing M (node_at M ls j) ≡ false = v.1 in
-          let here : passing M (node_at M ls j) ≡ true =
-          subst (λ (n : ℕ). passing M (node_at M ls n) ≡ true) (sym e) through in cc);
-      greatest = last_more M ls i k last p (candidate_of M ls i r (k - 1) a after upto f) s.greatest;
-    }
+scan_passing M ls i r k last p after upto a s f through = grind (arith, from_one_less, last_more, candidate_of)
 
 -- the result
 pub next_valid : (M : Map) (ls : List ℕ) (i r k : ℕ) (last : Option ℕ) → 0 < k → i < k - 1 → k - 1 ≤ r →
     IsReach M ls i r → Scanned M ls i r k last → fit M ls i (k - 1) ≡ true → passing M (node_at M ls (k - 1)) ≡ false
     → Next M ls i (k - 1)
-next_valid M ls i r k last p after upto a s f valid =
-    To_valid s.not_end (greatest_here (ValidCandidate M ls i) k p (candidate_of M ls i r (k - 1) a after upto f, valid)
-    s.no_valid)
+next_valid M ls i r k last p after upto a s f valid = grind (arith, greatest_here, candidate_of)

@@ -1,6 +1,6 @@
 -- The ends of the lines of a list, appended to other nodes.
 use Rattle.std.proofs.Common.{◌⊎◌, inl, inr, ◌↔◌, ◌≡◌, ◌==◌, ℕ, ◌+◌, ◌<◌, ◌≤◌, ◌||◌, List, [], ◌∷◌, ◌++◌, length, take}
-use Rattle.std.proofs.Common.{get_or, eqb, Contains, IsPermutation, sym, ◌∙◌, subst, arith}
+use Rattle.std.proofs.Common.{get_or, eqb, Contains, IsPermutation, sym, subst, arith}
 use Rattle.std.specs.List.{dedup}
 use Rattle.std.proofs.lemmas.Bool.{or_cases, or_left, or_right, eq-eqb, eqb-true}
 use Rattle.std.proofs.lemmas.List.{take_all}
@@ -39,18 +39,7 @@ module _ (M : Map) (ls : List ℕ) (i x : ℕ) (inside : i < length ls) (is : x 
   more y = list_any_more (λ z. z == y) ls i 0 inside
 
   nodes_more : (v : ℕ) → NodeOf M (take (i + 1) ls) v ↔ (NodeOf M (take i ls) v ⊎ EndOf M x v)
-  nodes_more v = (cases, back)
-    where
-      cases : NodeOf M (take (i + 1) ls) v → NodeOf M (take i ls) v ⊎ EndOf M x v
-      cases n =
-          elim (or_cases (has (take i ls) n.0) (get_or ls i 0 == n.0) (sym (more n.0) ∙ n.1)) [
-            | inl low ↦ inl (n.0, low, n.2)
-            | inr e ↦ inr (subst (λ (y : ℕ). EndOf M y v) (sym (is ∙ eqb-true (get_or ls i 0) n.0 e)) n.2)
-          ]
-
-      back : NodeOf M (take i ls) v ⊎ EndOf M x v → NodeOf M (take (i + 1) ls) v
-      back (inl n) = (n.0, more n.0 ∙ or_left _ _ n.1, n.2)
-      back (inr e) = (x, more x ∙ or_right _ _ (eq-eqb (get_or ls i 0) x (sym is)), e)
+  nodes_more v = grind (arith, or_cases, more, eqb-true, or_left, or_right, eq-eqb)
 
   pub ends_more : (F ns : List ℕ) → HasEnds M F (take i ls) ns →
       HasEnds M F (take (i + 1) ls) ((ns ++ start M x ∷ []) ++ end M x ∷ [])

@@ -1,5 +1,5 @@
 -- The extended path, composed of the path and the parts of the tried runs.
-use Rattle.std.proofs.Common.{◌⊎◌, ◌↔◌, ◌≡◌, ℕ, ◌+◌, ◌<◌, Bool, true, false, not, cond, List, [], ◌∷◌, ◌++◌, length}
+use Rattle.std.proofs.Common.{◌⊎◌, ◌↔◌, ◌≡◌, ℕ, ◌+◌, ◌<◌, Bool, not, cond, List, [], ◌∷◌, ◌++◌, length}
 use Rattle.std.proofs.Common.{Contains, None, IsTrue, refl, sym, ap, ◌∙◌, subst, arith, length-append}
 use Rattle.std.proofs.lemmas.List.{length-map, map-append}
 use Rattle.olr_spec.specs.Map.{Map, has_line}
@@ -25,17 +25,14 @@ last_behind (x ∷ y ∷ xs) ys h = last_behind (y ∷ xs) ys h
 
 taken_is : (valid through : Bool) (rs : List ResolvedLine) → valid ≡ not through →
     ids (cond valid rs []) ≡ cond through [] (ids rs)
-taken_is valid true rs e = ap (λ (b : Bool). ids (cond b rs [])) e
-taken_is valid false rs e = ap (λ (b : Bool). ids (cond b rs [])) e
+taken_is valid v1 rs e = grind arith
 
 taken_records : (M : Map) (valid : Bool) (rs : List ResolvedLine) → AreRecords M rs → AreRecords M (cond valid rs [])
-taken_records M true rs are = are
-taken_records M false rs are = refl
+taken_records M v1 rs are = grind arith
 
 len_taken : (M : Map) (valid : Bool) (rs : List ResolvedLine) (len : ℕ) → len ≡ dm_of M (ids rs) →
     cond valid len 0 ≡ dm_of M (ids (cond valid rs []))
-len_taken M true rs len e = e
-len_taken M false rs len e = refl
+len_taken M v1 rs len e = grind arith
 
 module _ (M : Map) (P : Path) (good : IsTrue (is_path P.lines)) (unknown : first_unknown M P.lines ≡ None)
     (own : List ResolvedLine) (own_is : own ≡ records_of M P.lines) where
@@ -49,9 +46,7 @@ module _ (M : Map) (P : Path) (good : IsTrue (is_path P.lines)) (unknown : first
   own_some = let n = some in let l = records_length M P.lines own own_is in omega arith
 
   pub own_first : IsTrue (has_line M (first (ids own)))
-  own_first =
-      subst (λ (ls : List ℕ). IsTrue (has_line M (first ls))) (sym own_ids)
-      (all_first (λ x. IsTrue (has_line M x)) P.lines some (no_unknown M P.lines unknown))
+  own_first = grind (arith, own_ids, all_first, some, no_unknown)
 
   module _ (before : List ResolvedLine) (before_len : ℕ) (before_valid : Bool)
       (b : IsRun M Against (ids own) before before_len before_valid)
@@ -62,24 +57,13 @@ module _ (M : Map) (P : Path) (good : IsTrue (is_path P.lines)) (unknown : first
 
     -- the path, extended at its start
     from_is : ids front ≡ from_start M P (ids before)
-    from_is =
-        ap ids front_is ∙ map-append (λ (r : ResolvedLine). r.id) (cond before_valid before []) own
-        ∙ (λ i. start_is i ++ own_ids i)
+    from_is = grind (arith, map-append, start_is, own_ids)
 
     pub front_records : AreRecords M front
-    front_records =
-        subst (AreRecords M) (sym front_is)
-        (records_append M (cond before_valid before []) own (taken_records M before_valid before b.are)
-        (are_records M P.lines own own_is))
+    front_records = grind (arith, records_append, taken_records, are_records)
 
     pub front_some : 0 < length front
-    front_some =
-        let n = own_some in
-        omega (
-          arith,
-          ap (λ (rs : List ResolvedLine). length rs) front_is,
-          length-append (cond before_valid before []) own,
-        )
+    front_some = grind (arith, own_some, length-append)
 
     pub front_last : IsTrue (has_line M (last (ids front)))
     front_last =
@@ -94,10 +78,7 @@ module _ (M : Map) (P : Path) (good : IsTrue (is_path P.lines)) (unknown : first
       back_is = taken_is after_valid _ after a.leads ∙ ap (λ (zs : List ℕ). taken_end M zs (ids after)) from_is
 
       pub whole_records : AreRecords M whole
-      whole_records =
-          subst (AreRecords M) (sym whole_is)
-          (records_append M front (cond after_valid after []) front_records
-          (taken_records M after_valid after a.are))
+      whole_records = grind (arith, records_append, front_records, taken_records)
 
       -- what the code composes is the extended path
       pub extends : (E : Path) (lead : ℕ) (F G : List ℕ) → lead ≡ length (cond before_valid before []) →

@@ -1,6 +1,6 @@
 -- What is known of joined lines.
 use Rattle.std.proofs.Common.{◌≡◌, ◌<◌, ◌+◌, ℕ, List, [], ◌∷◌, ◌++◌, length, take}
-use Rattle.std.proofs.Common.{get_or, sym, ap, ◌∙◌, subst, arith, inl, inr, length-append}
+use Rattle.std.proofs.Common.{get_or, sym, ap, ◌∙◌, subst, arith, length-append}
 use Rattle.std.proofs.lemmas.Bool.{cases_order}
 use Rattle.std.proofs.lemmas.List.{get_or_default, get_or_append_left, take_more}
 use Rattle.std.proofs.Math.Seq.{get_or-append_seam}
@@ -8,7 +8,7 @@ use Rattle.std.specs.List.{slice_index}
 use Rattle.std.specs.Prelude.{IsTrue}
 use Rattle.olr_spec.specs.Map.{Map, IsMap, has_line, has_node, start, end, dm}
 use Rattle.olr_spec.specs.Routes.{IsRoute, dm_of}
-use Rattle.olr_spec.specs.Extension.{last, AreJoined}
+use Rattle.olr_spec.specs.Extension.{AreJoined}
 use Rattle.olr_spec.proofs.RouteLemmas.{dm_of-append}
 use Rattle.olr_spec.proofs.ListLemmas.{Each, Each-cons, Each-nil, has_index}
 use Rattle.olr_refs.specs.Along.{DistancesTo}
@@ -49,15 +49,4 @@ longer_by M ls k h =
 
 pub one_more : (M : Map) (ls ds es : List ℕ) (k a : ℕ) → DistancesTo M ls k ds → es ≡ ds ++ a ∷ [] →
     a ≡ dm_of M (take (k + 1) ls) → DistancesTo M ls (k + 1) es
-one_more M ls ds es k a d e h =
-    record {
-      long = let l = d.long in omega (arith, ap length e, length-append ds (a ∷ []));
-      each = λ j i. elim (cases_order j (k + 1)) [
-        | inl last ↦ ap (slice_index es) (last ∙ sym d.long) ∙ ap (λ (xs : List ℕ). slice_index xs (length ds)) e
-            ∙ get_or-append_seam ds a [] 0 ∙ h ∙ ap (λ (n : ℕ). dm_of M (take n ls)) (sym last)
-        | inr (inl lt) ↦ let l =
-            d.long in ap (λ (xs : List ℕ). slice_index xs j) e ∙ get_or_append_left ds (a ∷ []) 0 j (omega arith)
-            ∙ d.each j (omega arith)
-        | inr (inr gt) ↦ absurd (omega arith)
-      ];
-    }
+one_more M ls ds es k a d e h = grind (arith, length-append, cases_order, get_or-append_seam, get_or_append_left)

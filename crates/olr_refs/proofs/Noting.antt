@@ -1,6 +1,7 @@
 -- The coverage queries of a choice of LRPs, and the counts that its searches raise.
+use Rattle.std.proofs.Common.{append_assoc, append-nil}
 use Rattle.std.proofs.Common.{◌≡◌, ◌≤◌, ◌+◌, ◌*◌, ℕ, zero, suc, List, [], ◌∷◌, ◌++◌, length, Contains, refl, sym, ap}
-use Rattle.std.proofs.Common.{◌∙◌, subst, arith, inl, inr, length-append, ◌<◌, None, Some, Option, ◌⊎◌}
+use Rattle.std.proofs.Common.{◌∙◌, subst, arith, inl, inr, length-append, None, Some, Option, ◌⊎◌}
 use Rattle.std.specs.Prelude.{IsTrue, ◌↔◌, MatchOption}
 use Rattle.std.specs.Cmp.{nat_eq_equiv}
 use Rattle.std.specs.List.{AllZip}
@@ -9,7 +10,7 @@ use Rattle.std.proofs.lemmas.List.Elements.{Contains-append_right, Contains-appe
 use Rattle.std.proofs.lemmas.Map.Made.{length-le_from_is_member}
 use Rattle.std.proofs.lemmas.Map.Views.{Contains-from_any, list_any-from_Contains}
 use Rattle.olr_spec.specs.Map.{Map, has_node, IsMap}
-use Rattle.olr_spec.specs.Routes.{IsRoute, dm_of}
+use Rattle.olr_spec.specs.Routes.{dm_of}
 use Rattle.olr_spec.specs.Extension.{limit, Path, is_path}
 use Rattle.olr_spec.specs.Points.{Next, Follow, NoNext, last_position, stretch}
 use Rattle.olr_spec.specs.Footprint.{Sees, Foot}
@@ -32,45 +33,26 @@ use Rattle.olr_spec.proofs.TestedLemmas.{foot_queried}
 pub search_sees : (M : Map) (place : ℕ → ℕ) (l : CoverageQuery) (q : Dijkstra) →
     IsSearch M place Along ((l.from, 0) ∷ []) q → IsTrue (has_node M l.from) → limit_of q ≡ l.within → (v : ℕ) →
     LiesWithin M Along ((l.from, 0) ∷ []) (limit_of q) v ↔ Sees M l v
-search_sees M place l q h there far v = (forth, back)
-  where
-    forth : LiesWithin M Along ((l.from, 0) ∷ []) (limit_of q) v → Sees M l v
-    forth n =
-        let k = n.1.leads in
-        let is = Contains-one (l.from, 0) (k.source, k.begun) k.listed in
-        let long = k.long in
-        let within = n.2 in
-        (k.lines, subst (λ (u : ℕ). IsRoute M u v k.lines) (ap (λ (p : ℕ × ℕ). p.0) is) k.way, omega arith)
-
-    back : Sees M l v → LiesWithin M Along ((l.from, 0) ∷ []) (limit_of q) v
-    back r =
-        let short = r.2 in
-        near_leads M place Along ((l.from, 0) ∷ []) q h v (dm_of M r.0) (omega arith) record {
-          source = l.from;
-          begun = 0;
-          lines = r.0;
-          listed = Contains-here (l.from, 0) [];
-          there = there;
-          way = r.1;
-          long = omega arith;
-        }
+search_sees M place l q h there far v = (
+  λ n. grind (arith, Contains-one),
+  λ r. near_leads M place Along ((l.from, 0) ∷ []) q h v (dm_of M r.0) (grind arith) record {
+    source = l.from;
+    begun = 0;
+    lines = r.0;
+    listed = Contains-here (l.from, 0) [];
+    there = there;
+    way = r.1;
+    long = omega arith;
+  },
+)
 
 -- a coverage query reaches no farther than two LRPs may be apart
 pub query_short : (M : Map) (ls : List ℕ) (i k : ℕ) → IsLastTested M ls i k → dm_of M (stretch ls (i + 1) k) ≤ limit
 query_short M ls i k t =
     elim t.needed [
-      | inl e ↦ subst (λ (n : ℕ). dm_of M (stretch ls (i + 1) n) ≤ limit) (sym e) (none_short (i + 1))
-      | inr n ↦
-          let after = t.after in
-          let within = n.2 in
-          let before = n.3 in
-          let later = stretch_sum M ls i (i + 1) k (omega arith) (omega arith) in
-          let longer = stretch_sum M ls i k n.0 (omega arith) (omega arith) in
-          omega arith
+      | inl e ↦ rw (e, ← empty_stretch ls (i + 1)) (omega arith)
+      | inr n ↦ let after = t.after in grind (arith, stretch_sum M ls i (i + 1) k, stretch_sum M ls i k n.0)
     ]
-  where
-    none_short : (p : ℕ) → dm_of M (stretch ls p p) ≤ limit
-    none_short p = let e = ap (dm_of M) (empty_stretch ls p) in omega arith
 
 -- ---- counts
 
@@ -88,12 +70,13 @@ settled_append M (k ∷ ks) ls a b c p q = (p.0, p.1, settled_append M ks ls (sa
 settled_few : (near : ℕ → Type 0) (n : ℕ) (all : List ℕ) → CountOf near n → ((v : ℕ) → near v → Contains all v) →
     n ≤ length all
 settled_few near n all c each =
-    let few =
-    length-le_from_is_member nat_eq_equiv c.nodes all c.apart
-    (λ q is. list_any-from_Contains nat_eq_equiv q all
-    (each q ((c.exactly q).0 (Contains-from_any (λ x y e. eqb-true x y e) q c.nodes is)))) in
-    let many = c.many in
-    omega arith
+    omega (
+      arith,
+      c.many,
+      length-le_from_is_member nat_eq_equiv c.nodes all c.apart
+          (λ q is. list_any-from_Contains nat_eq_equiv q all
+          (each q ((c.exactly q).0 (Contains-from_any (λ x y e. eqb-true x y e) q c.nodes is)))),
+    )
 
 most_more : (a b c n m t : ℕ) → b ≤ a + n → n ≤ t → c ≤ b + m * t → c ≤ a + suc m * t
 most_more a b c n m t f h g = let parts : suc m * t ≡ m * t + t = omega arith in omega arith
@@ -116,14 +99,7 @@ queried_none M w = record { encodings = refl; searches = refl; ascends = omega a
 
 pub queried_more : (M : Map) (ks ls : List CoverageQuery) (a b c : Work) → Queried M ks a b → Queried M ls b c →
     Queried M (ks ++ ls) a c
-queried_more M ks ls a b c f g =
-    record {
-      encodings = g.encodings ∙ f.encodings;
-      searches = g.searches ∙ ap (λ (k : ℕ). raised_count k (length ls)) f.searches
-          ∙ raised_more a.searches (length ks) (length ls) ∙ ap (raised_count a.searches) (sym (length-append ks ls));
-      ascends = let x = f.ascends in let y = g.ascends in omega arith;
-      settled = settled_append M ks ls a.settled b.settled c.settled f.settled g.settled;
-    }
+queried_more M ks ls a b c f g = grind (arith, raised_more, length-append, settled_append)
 
 -- one search for a query
 pub one_query : (M : Map) (place : ℕ → ℕ) (l : CoverageQuery) (n : ℕ) (q : Dijkstra) (before after : Work) →
@@ -160,67 +136,45 @@ zip_append R (a ∷ ws) xs (b ∷ bs) ys z w = (z.0, zip_append R ws xs bs ys z.
 
 -- ---- from LRP to LRP
 
--- each of js is the next after the one before it, from i on, and k is the last
-abbrev pub Led : Map → List ℕ → ℕ → List ℕ → ℕ → Type 0
-Led M ls i [] k = i ≡ k
-Led M ls i (j ∷ js) k = Next M ls i j × Led M ls j js k
+-- the LRPs so far, up to the last, go on with any that follow it
+abbrev pub Led : Map → List ℕ → List ℕ → ℕ → Type 0
+Led M ls points last =
+    (js : List ℕ) → Follow M ls last js →
+    Follow M ls 0 (points ++ js) × (last_position 0 (points ++ js) ≡ last_position last js)
 
-pub led_more : (M : Map) (ls : List ℕ) (i k m : ℕ) (js : List ℕ) → Led M ls i js k → Next M ls k m →
-    Led M ls i (js ++ m ∷ []) m
-led_more M ls i k m [] l n = (subst (λ (v : ℕ). Next M ls v m) (sym l) n, refl)
-led_more M ls i k m (j ∷ js) l n = (l.0, led_more M ls j k m js l.1 n)
+pub led_more : (M : Map) (ls points : List ℕ) (k m : ℕ) → Led M ls points k → Next M ls k m →
+    Led M ls (points ++ m ∷ []) m
+led_more M ls points k m l n = λ js f. rw append_assoc (l (m ∷ js) (n, f))
 
-led_follow : (M : Map) (ls : List ℕ) (i k : ℕ) (js : List ℕ) → Led M ls i js k → NoNext M ls k → Follow M ls i js
-led_follow M ls i k [] l n = subst (NoNext M ls) (sym l) n
-led_follow M ls i k (j ∷ js) l n = (l.0, led_follow M ls j k js l.1 n)
-
-led_last : (M : Map) (ls : List ℕ) (i k : ℕ) (js : List ℕ) → Led M ls i js k → last_position i js ≡ k
-led_last M ls i k [] l = l
-led_last M ls i k (j ∷ js) l = led_last M ls j k js l.1
+pub led_end : (M : Map) (ls points : List ℕ) (last : ℕ) → Led M ls points last → NoNext M ls last →
+    Follow M ls 0 points × (last_position 0 points ≡ last)
+led_end M ls points last l n = rw append-nil at (l [] n)
 
 -- no position follows the end
-no_next_end : (M : Map) (ls : List ℕ) (k : ℕ) → length ls ≤ k → NoNext M ls k
-no_next_end M ls k h j c = let a = c.after in let b = c.upto in absurd (omega arith)
-
-pub follows : (M : Map) (ls points : List ℕ) (last : ℕ) → Led M ls 0 points last → NoNext M ls last →
-    Follow M ls 0 points
-follows M ls points last l n = led_follow M ls 0 last points l n
-
-pub follows_end : (M : Map) (ls points : List ℕ) (last : ℕ) → Led M ls 0 points last → length ls ≤ last →
-    Follow M ls 0 points
-follows_end M ls points last l h = led_follow M ls 0 last points l (no_next_end M ls last h)
-
-pub last_is : (M : Map) (ls points : List ℕ) (last : ℕ) → Led M ls 0 points last → last_position 0 points ≡ last
-last_is M ls points last l = led_last M ls 0 last points l
+pub no_next_end : (M : Map) (ls : List ℕ) (k : ℕ) → length ls ≤ k → NoNext M ls k
+no_next_end M ls k h = grind arith
 
 -- ---- what is noted
 
 pub notes_same : (P Q : ℕ → Type 0) (a b : Option (List ℕ)) → ((v : ℕ) → P v ↔ Q v) → Notes P a b → Notes Q a b
 notes_same P Q None None e n = tt
-notes_same P Q None (Some g) e n = absurd n
-notes_same P Q (Some f) None e n = absurd n
 notes_same P Q (Some f) (Some g) e n = λ v. let p = e v in let q = n v in grind arith
+notes_same P Q _ _ e n = absurd n
 
 pub notes_none : (P : ℕ → Type 0) (a : Option (List ℕ)) → ((v : ℕ) → P v → ⊥) → Notes P a a
-notes_none P None e = tt
-notes_none P (Some f) e = λ v. let p = e v in grind arith
+notes_none P v1 e = grind arith
 
 pub notes_more : (P Q R : ℕ → Type 0) (a b c : Option (List ℕ)) → ((v : ℕ) → R v ↔ (P v ⊎ Q v)) → Notes P a b →
     Notes Q b c → Notes R a c
 notes_more P Q R None None None e n m = tt
-notes_more P Q R None None (Some h) e n m = absurd m
-notes_more P Q R None (Some g) c e n m = absurd n
-notes_more P Q R (Some f) None c e n m = absurd n
-notes_more P Q R (Some f) (Some g) None e n m = absurd m
 notes_more P Q R (Some f) (Some g) (Some h) e n m = λ v. let p = e v in let q = n v in let r = m v in grind arith
+notes_more P Q R _ _ _ e n m = absurd (grind arith)
 
 -- the nodes of a search are noted
 pub nodes_noted : (P : ℕ → Type 0) (a : Option (List ℕ)) (f g nodes : List ℕ) → a ≡ Some f
     → ((v : ℕ) → Contains g v ↔ (Contains f v ⊎ Contains nodes v)) → ((v : ℕ) → Contains nodes v ↔ P v) →
     Notes P a (Some g)
-nodes_noted P a f g nodes e n p =
-    subst (λ (b : Option (List ℕ)). Notes P b (Some g)) (sym e)
-    (notes_same (Contains nodes) P (Some f) (Some g) p n)
+nodes_noted P a f g nodes e n p = rw e (notes_same (Contains nodes) P (Some f) (Some g) p n)
 
 -- what the search for a query notes
 pub query_noted : (M : Map) (place : ℕ → ℕ) (l : CoverageQuery) (q : Dijkstra) (a b : Option (List ℕ)) →
@@ -231,34 +185,20 @@ query_noted M place l q a b h there far n = notes_same _ _ a b (search_sees M pl
 -- ---- what the queries reach
 
 pub seen_none : (M : Map) (v : ℕ) → SeenBy M [] v → ⊥
-seen_none M v s = let h = s.1.1 in absurd (omega arith)
+seen_none M v s = grind arith
 
 pub seen_one : (M : Map) (l : CoverageQuery) (v : ℕ) → Sees M l v ↔ SeenBy M (l ∷ []) v
-seen_one M l v = (λ s. (l, Contains-here l [], s), forth)
-  where
-    forth : SeenBy M (l ∷ []) v → Sees M l v
-    forth w = elim (Contains-cases l w.0 [] w.1) [
-      | inl e ↦ subst (λ (k : CoverageQuery). Sees M k v) (sym e) w.2
-      | inr none ↦ let never : none.0 < 0 = none.1 in absurd (omega arith)
-    ]
+seen_one M l v = grind (arith, Contains-here, Contains-cases)
 
 pub seen_append : (M : Map) (ks ls : List CoverageQuery) (v : ℕ) → SeenBy M (ks ++ ls) v ↔ (SeenBy M ks v ⊎ SeenBy M ls v)
-seen_append M ks ls v = (forth, back)
-  where
-    forth : SeenBy M (ks ++ ls) v → SeenBy M ks v ⊎ SeenBy M ls v
-    forth w = elim (Contains-append_cases ks ls w.0 w.1) [
-      | inl there ↦ inl (w.0, there, w.2)
-      | inr there ↦ inr (w.0, there, w.2)
-    ]
-
-    back : SeenBy M ks v ⊎ SeenBy M ls v → SeenBy M (ks ++ ls) v
-    back (inl w) = (w.0, Contains-append_left ks ls w.0 w.1, w.2)
-    back (inr w) = (w.0, Contains-append_right ks ls w.0 w.1, w.2)
+seen_append M ks ls v = (
+  λ w. elim (Contains-append_cases ks ls w.0 w.1) [ inl there ↦ inl (w.0, there, w.2) | inr there ↦ inr (w.0, there, w.2) ],
+  λ s. grind (arith, Contains-append_left, Contains-append_right),
+)
 
 pub noted_none : (M : Map) (queries : List CoverageQuery) (a : Option (List ℕ)) → queries ≡ [] →
     Notes (SeenBy M queries) a a
-noted_none M queries a e =
-    subst (λ (ks : List CoverageQuery). Notes (SeenBy M ks) a a) (sym e) (notes_none (SeenBy M []) a (seen_none M))
+noted_none M queries a e = grind (arith, notes_none, seen_none)
 
 -- ---- the footprint
 
@@ -266,10 +206,7 @@ noted_none M queries a e =
 pub seen_added : (traversed new : List ℕ) (seen : Option (List ℕ)) (nodes : List ℕ) → seen ≡ Some nodes
     → ((v : ℕ) → Contains new v ↔ (Contains traversed v ⊎ Contains nodes v)) → (v : ℕ) →
     Contains new v ↔ (Contains traversed v ⊎ MatchOption seen ⊥ (λ s. Contains s v))
-seen_added traversed new seen nodes e f v =
-    subst (λ (o : Option (List ℕ)). Contains new v ↔ (Contains traversed v ⊎ MatchOption o ⊥ (λ s. Contains s v)))
-    (sym e)
-    (f v)
+seen_added traversed new seen nodes e f v = rw e (f v)
 
 -- of a path's traversed nodes and what its queries reach
 pub noted_foot : (M : Map) → IsMap M → (P : Path) → IsTrue (is_path P.lines) → (queries : List CoverageQuery) →

@@ -1,41 +1,28 @@
 -- Coordinates and the steps between them.
-use Rattle.std.proofs.Common.{◌≡◌, ◌∙◌, ap, ◌≤ℤ◌, ℤ, pos, negsuc, sym, subst, arith}
+use Rattle.std.proofs.Common.{◌≡◌, ◌∙◌, ap, ℤ, arith}
 use Rattle.std.proofs.lemmas.Bool.{and_parts, and_from}
 use Rattle.std.proofs.lemmas.Int.{ints, to_z-of_z}
 use Rattle.std.specs.Prelude.{IsTrue}
-use Rattle.std.specs.Int.RustNames.{int_le}
 use mir.Val.{SFits, of_z, to_z}
 use mir.Syntax.{Width, w64}
-use Rattle.olr_spec.specs.Coordinates.{Coord, is_coord, is_longitude, is_latitude, fits16, relative}
+use Rattle.olr_spec.specs.Coordinates.{Coord, is_coord, is_latitude, fits16, relative}
 use Rattle.olr_spec.specs.Points.{fit16}
 use Rattle.olr_spec.proofs.SectorLemmas.{le_yes, le_test}
 use Rattle.olr_coords.specs.Bounds.{is_degrees}
 
 -- a latitude in range is well within 180 degrees
 latitude_degrees : (z : ℤ) → IsTrue (is_latitude z) → IsTrue (is_degrees z)
-latitude_degrees z h =
-    let p = and_parts (int_le (negsuc 29491167231999) z) (int_le z (pos 29491167232000)) h in
-    let lo : negsuc 29491167231999 ≤ℤ z = le_yes (negsuc 29491167231999) z p.0 in
-    let hi : z ≤ℤ pos 29491167232000 = le_yes z (pos 29491167232000) p.1 in
-    and_from (int_le (negsuc 58982399999999) z) (int_le z (pos 58982400000000))
-    (le_test (negsuc 58982399999999) z (omega (arith, ints))) (le_test z (pos 58982400000000) (omega (arith, ints)))
+latitude_degrees z h = grind (arith, and_parts, le_yes, and_from, le_test, ints)
 
 -- the latitude of a coordinate, as it is passed, is within 180 degrees
 pub latitude_passed : (p : Coord) (z : ℤ) → SFits w64 z → z ≡ p.lat → IsTrue (is_coord p) →
     IsTrue (is_degrees (to_z w64 (of_z w64 z)))
-latitude_passed p z f e h =
-    subst (λ (y : ℤ). IsTrue (is_degrees y)) (sym (to_z-of_z w64 z f ∙ e))
-    (latitude_degrees p.lat (and_parts (is_longitude p.lon) (is_latitude p.lat) h).1)
+latitude_passed p z f e h = grind (arith, to_z-of_z, latitude_degrees, and_parts)
 
 -- the latitudes fit, which is the second part of the test
 pub latitudes_fit : (p q : Coord) (y z : ℤ) → SFits w64 y → SFits w64 z → y ≡ p.lat → z ≡ q.lat → IsTrue (fit16 p q) →
     IsTrue (fits16 (relative (to_z w64 (of_z w64 y)) (to_z w64 (of_z w64 z))))
-latitudes_fit p q y z f g e d h =
-    let first = to_z-of_z w64 y f ∙ e in
-    let second = to_z-of_z w64 z g ∙ d in
-    let here = (and_parts (fits16 (relative p.lon q.lon)) (fits16 (relative p.lat q.lat)) h).1 in
-    subst (λ (x : ℤ). IsTrue (fits16 (relative x (to_z w64 (of_z w64 z))))) (sym first)
-    (subst (λ (x : ℤ). IsTrue (fits16 (relative p.lat x))) (sym second) here)
+latitudes_fit p q y z f g e d h = grind (arith, to_z-of_z, and_parts)
 
 -- what a call computes from a number that is passed, as it is stored
 pub stored : (w : Width) (f : ℤ → ℤ) (z x r : ℤ) → SFits w64 z → z ≡ x → SFits w r → r ≡ f (to_z w64 (of_z w64 z)) →

@@ -20,11 +20,7 @@ pub last_read : (gs : List Leg) (h i frc fow bearing : ℕ) (dlon dlat : ℤ) (g
     dlat ≡ relative (position gs h).lat (position gs i).lat → frc ≡ g.line.frc → fow ≡ g.line.fow →
     bearing ≡ bearing_back g
     → ◌≡◌ {A = Last} (record { dlon = dlon; dlat = dlat; frc = frc; fow = fow; bearing = bearing }) (last_point gs h i)
-last_read gs h i frc fow bearing dlon dlat g is hx hy hr hf hb =
-    let frc_is : frc ≡ (leg_at gs (i - 1)).line.frc = hr ∙ ap (λ (g : Leg). g.line.frc) is in
-    let fow_is : fow ≡ (leg_at gs (i - 1)).line.fow = hf ∙ ap (λ (g : Leg). g.line.fow) is in
-    let bearing_is : bearing ≡ bearing_back (leg_at gs (i - 1)) = hb ∙ ap bearing_back is in
-    λ k. record { dlon = hx k; dlat = hy k; frc = frc_is k; fow = fow_is k; bearing = bearing_is k }
+last_read gs h i frc fow bearing dlon dlat g is hx hy hr hf hb = grind arith
 
 -- ---- one more LRP
 
@@ -33,8 +29,7 @@ one_more : (gs : List Leg) (h i : ℕ) (js : List ℕ) (n : ℕ) → n < length 
     ++ middle_point gs (slice_index (h ∷ i ∷ js) n) (slice_index (i ∷ js) n) (slice_index js n) ∷ []
 one_more gs h i [] n lt = absurd (omega arith)
 one_more gs h i (j ∷ js) zero lt = refl
-one_more gs h i (j ∷ js) (suc n) lt =
-    ap (λ (ps : List Middle). middle_point gs h i j ∷ ps) (one_more gs i j js n (omega arith))
+one_more gs h i (j ∷ js) (suc n) lt = grind (arith, one_more gs i j js n (omega arith))
 
 pub middle_more : (gs : List Leg) (ps : List ℕ) (k : ℕ) → 0 < k → k + 1 < length ps
     → middle_points_of gs (take (k + 2) ps) ≡ middle_points_of gs (take (k + 1) ps)

@@ -37,8 +37,7 @@ unique_start M m ls i w h =
 on_is : (M : Map) (ls : List ℕ) (i k : ℕ) → AreJoined M ls → i < k → k + 1 < length ls →
     UniqueShortest M (end M (slice_index ls i)) (end M (slice_index ls k)) (stretch ls (i + 1) k ++ slice_index ls k ∷ [])
     ≡ UniqueTo M ls i (k + 1)
-on_is M ls i k w h g = λ j. UniqueShortest M (end M (slice_index ls i)) (next_start M _ _ ls k w g j)
-    (sym (stretch_last ls (i + 1) k (omega arith) (omega arith)) j)
+on_is M ls i k w h g = grind (arith, next_start, stretch_last)
 
 -- a shorter route along the same lines is a unique shortest path too
 unique_shorter : (M : Map) (ls : List ℕ) (i j k : ℕ) → AreJoined M ls → i < j → j ≤ k → k < length ls →
@@ -108,11 +107,7 @@ reach_to M ls i far k w f h g r no_more =
         (unique_shorter M ls i j k w a b (omega arith) r)
 
     not_near : (j : ℕ) → k < j → j ≤ length ls → Covered M ls i j → j ≤ far → ⊥
-    not_near j a b c n =
-        let u = f.upto in
-        let m : UniqueTo M ls i (min j (length ls - 1)) = unique_of M ls i j (min j (length ls - 1)) refl (omega arith)
-        c in
-        no_more (unique_shorter M ls i (k + 1) (min j (length ls - 1)) w (omega arith) (omega arith) (omega arith) m)
+    not_near j a b c n = grind (arith, unique_of, unique_shorter)
 
     beyond : (j : ℕ) → k < j → j ≤ length ls → Covered M ls i j → limit < dm_of M (stretch ls i j)
     beyond j a b c = elim (cases_order far j) [
@@ -131,12 +126,7 @@ tested_before M ls i k w h g r m a b = covered_by M ls i m m (omega arith) (uniq
 -- no position is needed after those that are within the limit
 pub needed_most : (M : Map) (ls : List ℕ) (i far : ℕ) → IsFar M ls i far → (m : ℕ) → Needed M ls i m →
     m ≤ min far (length ls - 1)
-needed_most M ls i far f m n =
-    elim (cases_order far n.0) [
-      | inl e ↦ let le = n.3 in omega arith
-      | inr (inl lt) ↦ let beyond = f.beyond n.0 lt n.1 in let near = n.2 in absurd (omega arith)
-      | inr (inr gt) ↦ let le = n.3 in omega arith
-    ]
+needed_most M ls i far f m n = grind (arith, cases_order)
 
 pub needed_far : (M : Map) (ls : List ℕ) (i far k : ℕ) → IsFar M ls i far → i < far → k ≤ min far (length ls - 1) →
     Needed M ls i k
@@ -192,8 +182,7 @@ tests_start M m slot ls i s w h search at_source =
 
 pub stretch_longer : (M : Map) (ls : List ℕ) (p k : ℕ) → p ≤ k → k < length ls →
     dm_of M (stretch ls p (k + 1)) ≡ dm_of M (stretch ls p k) + dm M (slice_index ls k)
-stretch_longer M ls p k h g = let e =
-    ap (dm_of M) (stretch_last ls p k h g) ∙ dm_of-append M (stretch ls p k) (slice_index ls k ∷ []) in omega arith
+stretch_longer M ls p k h g = grind (arith, stretch_last, dm_of-append)
 
 -- how far it is settled to test line k
 pub settled_on : (M : Map) (ls : List ℕ) (i k old to new : ℕ) → i < k → k < length ls →
@@ -212,11 +201,7 @@ pub unique_if : (M : Map) (slot : ℕ → ℕ) (ls : List ℕ) (i k line : ℕ) 
     i < k → k + 1 < length ls → line ≡ slice_index ls k → Extends M slot s line b
     → IsSearch M slot Along ((end M (slice_index ls i), 0) ∷ []) s →
     limit_of s ≡ dm_of M (stretch ls (i + 1) (k + 1)) → UniqueTo M ls i k → (IsTrue b ↔ UniqueTo M ls i (k + 1))
-unique_if M slot ls i k line b s w h g e f search settled r =
-    let f' : Extends M slot s (slice_index ls k) b = subst (λ (y : ℕ). Extends M slot s y b) e f in
-    let longer = stretch_longer M ls (i + 1) k (omega arith) (omega arith) in
-    coe 0 1 (j. IsTrue b ↔ on_is M ls i k w h g j)
-    (f' (end M (slice_index ls i)) (stretch ls (i + 1) k) search r (omega arith))
+unique_if M slot ls i k line b s w h g e f search settled r = grind (arith, stretch_longer, on_is)
 
 -- if at most one line follows line i, there is nothing between
 pub reach_near_end : (M : Map) → IsMap M → (ls : List ℕ) (i far : ℕ) → AreJoined M ls → i < length ls →

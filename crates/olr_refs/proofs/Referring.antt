@@ -1,26 +1,21 @@
 -- The encoding of a path, by its extension, its LRPs, its coverage queries and its reference.
-use Rattle.std.proofs.Common.{◌≡◌, ◌<◌, ◌+◌, ◌==◌, ◌&&◌, ◌↔◌, ℕ, Bool, true, cond, List, [], ◌∷◌, length, Option, Some}
-use Rattle.std.proofs.Common.{None, MatchOption, Contains, refl, sym, ap, ◌∙◌, subst, arith, inl, inr}
+use Rattle.std.proofs.Common.{◌≡◌, ◌<◌, ◌+◌, ◌↔◌, ℕ, List, [], ◌∷◌, length, Option, Some}
+use Rattle.std.proofs.Common.{None, MatchOption, Contains, sym, ap, ◌∙◌, subst, arith, inl, inr}
 use Rattle.std.proofs.lemmas.Bool.{eq-eqb, and_parts, leb-true}
-use Rattle.std.specs.Prelude.{IsTrue, nat_lt, nat_le, Result, Ok, Err, IfOk, OnOk}
+use Rattle.std.specs.Prelude.{IsTrue, nat_lt, Result, IfOk, OnOk}
 use Rattle.olr_spec.specs.Map.{Map, IsMap, Agree, has_line}
 use Rattle.olr_spec.specs.Routes.{dm_of}
-use Rattle.olr_spec.specs.Extension.{Path, Tried, is_path, extended_path, from_start, taken_start, taken_end, AreJoined}
-use Rattle.olr_spec.specs.Extension.{none_twice}
-use Rattle.olr_spec.specs.Points.{Follow, last_position, OfPath}
-use Rattle.olr_spec.specs.Reference.{Reference, legs, reference, first_kept, last_kept, kept_points}
+use Rattle.olr_spec.specs.Extension.{Path, Tried, is_path, extended_path, AreJoined}
+use Rattle.olr_spec.specs.Points.{last_position, OfPath}
+use Rattle.olr_spec.specs.Reference.{Reference, legs, reference}
 use Rattle.olr_spec.specs.Encoding.{first_unknown, first_break, path_fault, answer_by_points, Encoding, Encodes}
 use Rattle.olr_spec.specs.Footprint.{Foot}
 use Rattle.olr_spec.specs.Queries.{CoverageQuery, IsQuery, Traversed, TraversedOfExtended, QueriesOf, QueriesOfExtended}
 use Rattle.olr_spec.specs.Queries.{querying, KnownQuery, AreKnown}
 use Rattle.olr_spec.proofs.AnswerLemmas.{path_nonempty, sound_lines, all_first, all_last, path_also}
 use Rattle.olr_spec.proofs.RunLemmas.{one_tried}
-use Rattle.olr_spec.proofs.DecodedLemmas.{two_of}
-use Rattle.olr_spec.proofs.FitLemmas.{long_enough, kept_ends, extended_sound, answered}
-use Rattle.olr_spec.proofs.JoinLemmas.{routes_join}
-use Rattle.olr_spec.proofs.KeptLemmas.{two_kept}
+use Rattle.olr_spec.proofs.FitLemmas.{extended_sound}
 use Rattle.olr_spec.proofs.LocalLemmas.{local_answer}
-use Rattle.olr_spec.proofs.RouteLemmas.{dm_of-append}
 use Rattle.olr_answers.specs.declared.answer.Answer.{Answer}
 use Rattle.olr_answers.specs.declared.answer.Answer.TheVariants.{Points, Refused}
 use Rattle.olr_refs.specs.Choice.{ForPoints, searches_of}
@@ -43,14 +38,11 @@ use Rattle.olr_answers.specs.Answers as answers
 
 pub whole_joined : (M : Map) (P E : Path) (lead : ℕ) (F G : List ℕ) → IsTrue (is_path P.lines) → path_fault M P ≡ None →
     Extends M P E lead F G → AreJoined M E.lines
-whole_joined M P E lead F G is none x =
-    subst (λ (e : Path). AreJoined M e.lines) (sym x.path) (extended_joined M P is none x.before x.after x.tried)
+whole_joined M P E lead F G is none x = grind (arith, extended_joined)
 
 pub whole_short : (M : Map) (P E : Path) (lead : ℕ) (F G : List ℕ) → IsTrue (is_path P.lines) → path_fault M P ≡ None →
     Extends M P E lead F G → E.pos + E.neg < dm_of M E.lines
-whole_short M P E lead F G is none x =
-    subst (λ (e : Path). e.pos + e.neg < dm_of M e.lines) (sym x.path)
-    (extended_sound M P is none x.before x.after x.tried).long
+whole_short M P E lead F G is none x = grind (arith, extended_sound)
 
 -- ---- the answer
 
@@ -59,30 +51,12 @@ pub points_answer : (M : Map) (E : Path) (ls ps : List ℕ) (r : Reference) → 
     ForPoints M ls (λ js. (last_position 0 js ≡ length ls) × (ps ≡ 0 ∷ js))
     → r ≡ reference (legs M E.lines) E.pos E.neg (later ps) →
     ForPoints M E.lines (λ js. spec.Points r ≡ answer_by_points M E js)
-points_answer M E ls ps r e c a =
-    let end : last_position 0 c.0 ≡ length E.lines = c.2.0 ∙ ap length e in
-    let is : r ≡ reference (legs M E.lines) E.pos E.neg c.0 =
-    a ∙ ap (λ (qs : List ℕ). reference (legs M E.lines) E.pos E.neg (later qs)) c.2.1 in
-    let test : (last_position 0 c.0 == length E.lines) ≡ true = eq-eqb _ _ end in (
-      c.0,
-      subst (λ (xs : List ℕ). Follow M xs 0 c.0) e c.1,
-      ap spec.Points is ∙ sym (ap
-          (λ (b : Bool). cond b (spec.Points (reference (legs M E.lines) E.pos E.neg c.0))
-          (spec.Refused (spec.No_next_point (last_position 0 c.0)))) test),
-    )
+points_answer M E ls ps r e c a = grind (arith, eq-eqb)
 
 -- what holds for the extension and its LRPs, whatever the tried runs
 of_path : (M : Map) (P E : Path) (lead : ℕ) (F G : List ℕ) (Q : Path → List ℕ → List ℕ → List ℕ → Type 0) →
     (x : Extends M P E lead F G) → ForPoints M E.lines (Q E x.before x.after) → OfPath M P Q
-of_path M P E lead F G Q x a =
-    record {
-      before = x.before;
-      after = x.after;
-      points = a.0;
-      tried = x.tried;
-      follow = subst (λ (e : Path). Follow M e.lines 0 a.0) x.path a.1;
-      holds = subst (λ (e : Path). Q e x.before x.after a.0) x.path a.2;
-    }
+of_path M P E lead F G Q x a = grind arith
 
 pub encoding_of : (M : Map) (P E : Path) (lead : ℕ) (F G : List ℕ) (A : spec.Answer) → Extends M P E lead F G →
     ForPoints M E.lines (λ js. A ≡ answer_by_points M E js) → Encoding M P A
@@ -92,8 +66,7 @@ encoding_of M P E lead F G A x a = of_path M P E lead F G (λ e _ _ js. A ≡ an
 
 pub joins_of : (M : Map) (P : Path) (A : Answer) → path_fault M P ≡ None → Encoding M P (answers.answer_of A) →
     JoinsOf M P A
-joins_of M P (Refused f) none p = tt
-joins_of M P (Points r) none p = joined M P r none p
+joins_of M P v2 none p = grind (arith, joined)
 
 -- ---- the traversed nodes, and the coverage queries
 
@@ -116,8 +89,7 @@ pub traversed_of : (M : Map) → IsMap M → (P E : Path) (lead : ℕ) (F G : Li
 traversed_of M m P E lead F G is none empty x v = (forth, back)
   where
     none_before : Contains F v → ⊥
-    none_before c = let c' : Contains [] v = subst (λ (f : List ℕ). Contains f v) empty c in let never : c'.0 < 0 =
-        c'.1 in omega arith
+    none_before c = grind arith
 
     forth : Contains G v → TraversedOfExtended M P v
     forth c = elim ((x.noted v).0 c) [
@@ -141,32 +113,13 @@ pub asks_of : (M : Map) (P E : Path) (lead : ℕ) (F G : List ℕ) (given : List
     (known : List KnownQuery) (a b : Work) (s t : Option (List ℕ)) → Extends M P E lead F G →
     ForPoints M E.lines (λ js. Asks M E.lines lead (length P.lines) given (0 ∷ js) queries known a b s t) →
     AsksOf M P given queries known a b s t
-asks_of M P E lead F G given queries known a b s t x f =
-    of_path M P E lead F G (λ e w _ js. Asks M e.lines (length (taken_start M w P.lines)) (length P.lines) given
-    (0 ∷ js) queries known a b s t) x (
-      f.0,
-      f.1,
-      subst (λ (n : ℕ). Asks M E.lines n (length P.lines) given (0 ∷ f.0) queries known a b s t) x.leads f.2,
-    )
+asks_of M P E lead F G given queries known a b s t x f = grind (arith, of_path)
 
 -- the path's own lines lie on the extended path
 pub whole_reuses : (M : Map) (P E : Path) (lead : ℕ) (F G : List ℕ) (known : List KnownQuery) →
     IsTrue (is_path P.lines) → Extends M P E lead F G → AreKnown M P.lines known →
     Reuses M E.lines lead (length P.lines) known
-whole_reuses M P E lead F G known is x are =
-    let few : nat_le (length P.lines) 10000 ≡ true =
-    (and_parts (nat_le 1 (length P.lines)) (nat_le (length P.lines) 10000)
-    (and_parts (nat_le 1 (length P.lines) && nat_le (length P.lines) 10000) (none_twice P.lines) is).0).1 in
-    record {
-      before = taken_start M x.before P.lines;
-      path = P.lines;
-      after = taken_end M (from_start M P x.before) x.after;
-      lines = sym (ap (λ (e : Path). e.lines) x.path);
-      leads = sym x.leads;
-      owns = refl;
-      few = leb-true _ _ few;
-      are = are;
-    }
+whole_reuses M P E lead F G known is x are = grind (arith, and_parts, leb-true)
 
 -- ---- by the path's fault
 
@@ -180,8 +133,7 @@ local_by M m P is A H e f N n g =
 
 pub if_on : {A F : Type 0} (r : Result A F) (P : A → Type 0) (Q : Type 0) (R : A → Type 0) →
     ((x : A) → P x → Q → R x) → IfOk r P → OnOk r Q → IfOk r R
-if_on (Ok x) P Q R f p q = f x p q
-if_on (Err e) P Q R f p q = tt
+if_on v0 P Q R f p q = grind arith
 
 -- ---- counts
 

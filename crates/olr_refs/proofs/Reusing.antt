@@ -1,6 +1,7 @@
 -- Known coverage queries on an extended path: how one is found, and what it says there.
+use Rattle.std.proofs.lemmas.Bool.{cases_lt}
 use Rattle.std.proofs.Common.{◌≡◌, ◌<◌, ◌≤◌, ◌-◌, ◌+◌, ℕ, min, Bool, true, false, List, length, map, get_or, Ok, Err, Result}
-use Rattle.std.proofs.Common.{Option, Some, None, unwrap_or}
+use Rattle.std.proofs.Common.{Some, None}
 use Rattle.std.specs.Result.{result_ok}
 use Rattle.std.proofs.Common.{Contains, refl, sym, ap, ◌∙◌, subst, arith, inl, inr}
 use Rattle.std.proofs.lemmas.Bool.{cases_order}
@@ -30,86 +31,48 @@ module _ (es : List KnownQuery) (up : IsStrictlyIncreasing (map (λ e. e.first) 
   read_first k d h = get_or-map (λ e. e.first) es k d 0 h
 
   rises : (j k : ℕ) (d : KnownQuery) → j < k → k < length es → (get_or es j d).first < (get_or es k d).first
-  rises j k d h g =
-      let n = length-map es (λ e. e.first) in
-      let low =
-      below_from_sorted (map (λ e. e.first) es) j k 0 (sorted_from_strictly_increasing (map (λ e. e.first) es) up) h
-      (omega arith) in
-      omega (arith, low, read_first j d (omega arith), read_first k d g)
+  rises j k d h g = grind (arith, length-map, below_from_sorted, sorted_from_strictly_increasing, read_first)
 
   higher : (a b : ℕ) → a ≤ b → ordering_index (nat_cmp a x) ≤ ordering_index (nat_cmp b x)
   higher a b le = grind (arith, nat_tests)
 
   non_decreasing : IsNonDecreasingBy (λ e. ordering_index (nat_cmp e.first x)) es
-  non_decreasing i j d le h = elim (cases_order i j) [
-    | inl e ↦ higher (get_or es i d).first (get_or es j d).first (omega (arith, ap (λ (k : ℕ). (get_or es k d).first) e))
-    | inr (inl lt) ↦ let low = rises i j d lt h in higher (get_or es i d).first (get_or es j d).first (omega arith)
-    | inr (inr gt) ↦ absurd (omega arith)
-  ]
+  non_decreasing i j d le h = grind (arith, cases_order, higher, rises)
 
   -- the one that begins there
   found_one : (k : ℕ) → IsBinarySearchResult (λ e. nat_cmp e.first x) es (Ok k) → k < length es →
       (d : KnownQuery) → (get_or es k d).first ≡ x
   found_one k found h d = ranked (get_or es k d).first x _ (sym (found d))
 
-  same_one : (k : ℕ) → IsBinarySearchResult (λ e. nat_cmp e.first x) es (Ok k) → k < length es →
-      (d e : KnownQuery) → Contains es e → e.first ≡ x → get_or es k d ≡ e
-  same_one k found h d e c at =
-      let here = found_one k found h e in
-      let there : (get_or es c.0 e).first ≡ x = ap (λ (q : KnownQuery). q.first) c.2 ∙ at in
-      let same : k ≡ c.0 = elim (cases_order k c.0) [
-        | inl e ↦ e
-        | inr (inl lt) ↦ let low = rises k c.0 e lt c.1 in absurd (omega arith)
-        | inr (inr gt) ↦ let low = rises c.0 k e gt h in absurd (omega arith)
-      ] in
-      get_or_default es k d e h ∙ ap (λ (j : ℕ). get_or es j e) same ∙ c.2
-
-  -- or none does
-  found_none : (k : ℕ) → IsBinarySearchResult (λ e. nat_cmp e.first x) es (Err k) → (e : KnownQuery) →
-      Contains es e → e.first ≡ x → ⊥
-  found_none k parted e c at =
-      let there : (get_or es c.0 e).first ≡ x = ap (λ (q : KnownQuery). q.first) c.2 ∙ at in
-      let lies = c.1 in
-      elim (cases_order c.0 k) [
-        | inl is ↦
-            let above = ranked (get_or es c.0 e).first x _ (sym ((parted non_decreasing).1 c.0 e (omega arith) c.1)) in
-            omega arith
-        | inr (inl lt) ↦
-            let below = ranked (get_or es c.0 e).first x _ (sym ((parted non_decreasing).0 c.0 e (omega arith) lt)) in
-            omega arith
-        | inr (inr gt) ↦
-            let above = ranked (get_or es c.0 e).first x _ (sym ((parted non_decreasing).1 c.0 e (omega arith) c.1)) in
-            omega arith
+  -- only one does
+  pub one_first : (d e : KnownQuery) → Contains es d → Contains es e → d.first ≡ e.first → d ≡ e
+  one_first d e c k same =
+      let at : get_or es c.0 e ≡ d = sym (get_or_default es c.0 d e c.1) ∙ c.2 in
+      elim (cases_order c.0 k.0) [
+        | inl is ↦ sym at ∙ ap (λ (j : ℕ). get_or es j e) is ∙ k.2
+        | inr o ↦ absurd (grind (arith, rises c.0 k.0 e, rises k.0 c.0 e, c.1, k.1))
       ]
 
-  -- the same by the result of the search
+  -- or none does
   pub none_at : (r : Result ℕ ℕ) → IsBinarySearchResult (λ e. nat_cmp e.first x) es r → None ≡ result_ok r →
       (e : KnownQuery) → Contains es e → e.first ≡ x → ⊥
   none_at (Ok k) found none e c at = cc
-  none_at (Err k) found none e c at = found_none k found e c at
+  none_at (Err k) parted none e c at =
+      let there : (get_or es c.0 e).first ≡ x = ap (λ (q : KnownQuery). q.first) c.2 ∙ at in
+      let lies = c.1 in
+      elim (cases_lt c.0 k) [
+        | inl lt ↦ let low = ranked _ x _ (sym ((parted non_decreasing).0 c.0 e (omega arith) lt)) in omega arith
+        | inr ge ↦ let high = ranked _ x _ (sym ((parted non_decreasing).1 c.0 e ge c.1)) in omega arith
+      ]
 
-  pub listed_at : (r : Result ℕ ℕ) → IsSearchInRange r (length es) → (k : ℕ) → Some k ≡ result_ok r →
-      (d : KnownQuery) → Contains es (get_or es k d)
-  listed_at (Ok j) inside k is d =
-      let same : k ≡ j = ap (λ (o : Option ℕ). unwrap_or o 0) is in
+  pub found_at : (r : Result ℕ ℕ) → IsBinarySearchResult (λ e. nat_cmp e.first x) es r →
+      IsSearchInRange r (length es) → (k : ℕ) → Some k ≡ result_ok r → (d : KnownQuery) →
+      Contains es (get_or es k d) × ((get_or es k d).first ≡ x)
+  found_at (Ok j) found inside k is d =
+      let same : k ≡ j = cc in
       let h : k < length es = omega (arith, inside) in
-      (k, h, get_or_default es k (get_or es k d) d h)
-  listed_at (Err j) inside k is d = cc
-
-  pub begins_at : (r : Result ℕ ℕ) → IsBinarySearchResult (λ e. nat_cmp e.first x) es r →
-      IsSearchInRange r (length es) → (k : ℕ) → Some k ≡ result_ok r → (d : KnownQuery) → (get_or es k d).first ≡ x
-  begins_at (Ok j) found inside k is d =
-      let same : k ≡ j = ap (λ (o : Option ℕ). unwrap_or o 0) is in
-      ap (λ (n : ℕ). (get_or es n d).first) same ∙ found_one j found inside d
-  begins_at (Err j) found inside k is d = cc
-
-  pub same_at : (r : Result ℕ ℕ) → IsBinarySearchResult (λ e. nat_cmp e.first x) es r →
-      IsSearchInRange r (length es) → (k : ℕ) → Some k ≡ result_ok r → (d e : KnownQuery) → Contains es e → e.first ≡ x
-      → get_or es k d ≡ e
-  same_at (Ok j) found inside k is d e c at =
-      let same : k ≡ j = ap (λ (o : Option ℕ). unwrap_or o 0) is in
-      ap (λ (n : ℕ). get_or es n d) same ∙ same_one j found inside d e c at
-  same_at (Err j) found inside k is d e c at = cc
+      ((k, h, get_or_default es k (get_or es k d) d h), grind (arith, found_one))
+  found_at (Err j) found inside k is d = cc
 
 -- ---- on the extended path
 
@@ -155,77 +118,46 @@ module _ (M : Map) (ls : List ℕ) (lead own : ℕ) (known : List KnownQuery) (r
         there_any M ls lead own known reuse joined i e (All-contains (IsKnown M reuse.path) known e reuse.are.right listed)
         begins (omega arith)
 
-    -- with its last line it is the unique shortest path
-    covered_there : e.covered ≡ true → UniqueTo M ls i (min far (length ls - 1))
-    covered_there t = subst (UniqueTo M ls i) (ends.1 t) (there.covered.0 t)
-
-    -- or without its last line only
-    before_there : UniqueTo M ls i (lead + e.last - 1)
-    before_there =
-        let order = there.order in
-        let same : lead + (e.last - 1) ≡ lead + e.last - 1 = omega arith in
-        subst (UniqueTo M ls i) same (there.before (e.last - 1) (omega arith) (omega arith))
-
-    no_more : e.covered ≡ false → ¬ UniqueTo M ls i (lead + e.last - 1 + 1)
-    no_more f u =
-        let order = there.order in
-        let same : lead + e.last - 1 + 1 ≡ lead + e.last = omega arith in
-        let t : e.covered ≡ true = there.covered.1 (subst (UniqueTo M ls i) same u) in
-        cc
-
     found : (b : Bool) → e.covered ≡ b → IsReach M ls i (if b then far else lead + e.last - 1)
         × IsLastTested M ls i (lead + e.last)
     found true t =
         let order = there.order in
-        let all = ends.1 t in (
-          reach_far M ls i far joined is_far (λ h. covered_there t),
-          subst (IsLastTested M ls i) (sym all)
-              (last_far M ls i far (min far (length ls - 1)) joined is_far some (omega arith) (covered_there t)),
+        let unique : UniqueTo M ls i (min far (length ls - 1)) = rw (← ends.1 t) (there.covered.0 t) in (
+          reach_far M ls i far joined is_far (λ h. unique),
+          rw (ends.1 t) (last_far M ls i far (min far (length ls - 1)) joined is_far some (omega arith) unique),
         )
     found false f =
         let order = there.order in
         let short = ends.0 in
-        let same : lead + e.last - 1 + 1 ≡ lead + e.last = omega arith in
-        let k = lead + e.last - 1 in (
-          reach_to M ls i far k joined is_far (omega arith) (omega arith) before_there (no_more f),
-          subst (IsLastTested M ls i) same
-              (last_to M ls i far k joined is_far (omega arith) (omega arith) before_there (no_more f)),
+        let k = lead + (e.last - 1) in
+        let last : lead + e.last ≡ k + 1 = omega arith in
+        let reach : lead + e.last - 1 ≡ k = omega arith in
+        let unique = there.before (e.last - 1) (omega arith) (omega arith) in
+        let no_more : ¬ UniqueTo M ls i (k + 1) = λ u. let t : e.covered ≡ true = there.covered.1 (rw last u) in cc in (
+          rw reach (reach_to M ls i far k joined is_far (omega arith) (omega arith) unique no_more),
+          rw last (last_to M ls i far k joined is_far (omega arith) (omega arith) unique no_more),
         )
 
     pub reach_known : IsReach M ls i (known_reach lead far e)
     reach_known = (found e.covered refl).0
 
     pub known_at : IsKnownAt M ls lead own i e
-    known_at =
-        let order = there.order in
-        let short = ends.0 in
-        let c = covered_unique M ls i (lead + e.last) (omega arith) (omega arith) in
-        let t = there.covered in
-        record {
-          begins = begins;
-          order = there.order;
-          upto = there.upto;
-          tested = (found e.covered refl).1;
-          query = there.query;
-          covered = ((λ x. c.1 (t.0 x)), (λ x. t.1 (c.0 x)));
-        }
+    known_at = grind (arith, there, found e.covered refl, covered_unique M ls i (lead + e.last))
 
   -- the query of the extended path ends there
   pub ends_at : (e : KnownQuery) → IsKnownAt M ls lead own i e → EndsHere e
   ends_at e k =
+      let end = min far (length ls - 1) in
       let order = k.order in
       let begins = k.begins in
-      let most : lead + e.last ≤ min far (length ls - 1) = elim k.tested.needed [
+      let most : lead + e.last ≤ end = elim k.tested.needed [
         | inl is ↦ absurd (omega arith)
         | inr n ↦ needed_most M ls i far is_far (lead + e.last) n
       ] in (
         most,
         λ t. elim k.tested.last [
           | inl bare ↦ absurd (bare (k.covered.0 t))
-          | inr all ↦
-              let least = all (min far (length ls - 1))
-              (needed_far M ls i far (min far (length ls - 1)) is_far (omega arith) (omega arith)) in
-              omega arith
+          | inr all ↦ omega (arith, all end (needed_far M ls i far end is_far (omega arith) (omega arith)))
         ],
       )
 
@@ -237,20 +169,8 @@ covered_if : (M : Map) (ls : List ℕ) (i reach last : ℕ) → IsReach M ls i r
 covered_if M ls i reach last r t order b f g = ((λ h. (r.within last (omega arith) (f h)).0), back)
   where
     back : Covered M ls i last → b ≡ true
-    back c = elim t.needed [
-      | inl is ↦ absurd (omega arith)
-      | inr n ↦ elim (cases_order reach last) [
-        | inl is ↦ g (omega arith)
-        | inr (inl lt) ↦
-            let inside = t.inside in
-            let far = r.beyond last lt (omega arith) c in
-            let near = n.2 in
-            let upto = n.3 in
-            let longer = stretch_sum M ls i last n.0 (omega arith) (omega arith) in
-            absurd (omega arith)
-        | inr (inr gt) ↦ g (omega arith)
-      ]
-    ]
+    back c = let n = t.needed in
+        let inside = t.inside in grind (arith, cases_lt reach last, r.beyond last, stretch_sum M ls i last)
 
 pub own_at : (M : Map) (ls : List ℕ) (lead own i reach last : ℕ) (e : KnownQuery) → IsReach M ls i reach →
     IsLastTested M ls i last → lead ≤ i + 1 → i + 1 < last → last ≤ lead + own → e.query ≡ query_to M ls i last →
@@ -270,9 +190,4 @@ own_at M ls lead own i reach last e r t leads order upto query first ends f g =
 
 pub not_own : (M : Map) (ls : List ℕ) (lead own i last : ℕ) → IsLastTested M ls i last →
     ¬ ((lead ≤ i + 1) × (i + 1 < last) × (last ≤ lead + own)) → (e : KnownQuery) → ¬ IsKnownAt M ls lead own i e
-not_own M ls lead own i last t none e k =
-    let same = one_last_tested M ls i (lead + e.last) last k.tested t in
-    let begins = k.begins in
-    let order = k.order in
-    let upto = k.upto in
-    none (omega arith, omega arith, omega arith)
+not_own M ls lead own i last t none e k = grind (arith, one_last_tested)

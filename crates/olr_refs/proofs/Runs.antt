@@ -1,10 +1,13 @@
 -- A run of degree-two nodes that leads out from some lines, extended by one line at a time. Each line leads on from the
 -- one before it, which determines it, and is in the run already only if it is one of the lines.
+use Rattle.olr_spec.proofs.RunLemmas.{EndRun-at, EndRun-front}
+use Rattle.std.proofs.lemmas.List.{reverse-reverse}
+use Rattle.std.proofs.lemmas.Bool.Decides.{nat_tests}
 use Rattle.std.proofs.Common.{◌⊎◌, inl, inr, ◌≡◌, ◌≢◌, ℕ, ◌+◌, ◌<◌, ◌≤◌, ◌==◌, Bool, not, true, false, List, [], ◌∷◌, ◌++◌}
 use Rattle.std.proofs.Common.{length, map, reverse, Option, Some, None, MatchOption, is_some, IsTrue, refl, sym, ap, ◌∙◌, subst}
 use Rattle.std.proofs.Common.{arith, append_assoc, append-nil}
 use Rattle.std.specs.Prelude.{⊤}
-use Rattle.std.proofs.lemmas.Bool.{both_ways, cases_Bool, ne_eqb, or_from, or_parts}
+use Rattle.std.proofs.lemmas.Bool.{both_ways, ne_eqb, or_from, or_parts}
 use Rattle.std.proofs.lemmas.List.{map-append, reverse-append}
 use Rattle.std.proofs.lemmas.List.Folds.{list_any-append}
 use Rattle.std.proofs.lemmas.List.Sorted.{IsPermutation-reverse, list_any-IsPermutation}
@@ -14,7 +17,7 @@ use Rattle.olr_spec.specs.Extension.{first, last, passing, limit, MayPrecede, Ma
 use Rattle.olr_spec.proofs.RunLemmas.{same_start_run, same_end_run, last_push}
 use Rattle.olr_spec.proofs.RunMoves.{EndRun-push}
 use Rattle.olr_spec.proofs.DecideLemmas.{last_of_list}
-use Rattle.olr_spec.proofs.ListLemmas.{has_here, has_there, has_cases, has_first, has_last}
+use Rattle.olr_spec.proofs.ListLemmas.{has_here, has_first, has_last}
 use Rattle.olr_spec.proofs.RouteLemmas.{dm_of-append}
 use Rattle.olr_search.specs.Distances.{near_end, far_end}
 use Rattle.olr_search.specs.declared.distances.Direction.{Direction}
@@ -57,24 +60,8 @@ module _ (M : Map) where
   -- and seen from that line
   one_from : (d : Direction) (y z x : ℕ) → IsTrue (has_line M y) → IsTrue (has_line M z) → LeadsOn M d y x →
       LeadsOn M d z x → y ≡ z
-  one_from Along y z x j k p q = one_on Against x y z p.known (turned y j p) (turned z k q)
-    where
-      turned : (w : ℕ) → IsTrue (has_line M w) → LeadsOn M Along w x → LeadsOn M Against x w
-      turned w h r = record {
-        known = h;
-        joins = sym r.joins;
-        through = subst (λ (v : ℕ). IsTrue (passing M v)) r.joins r.through;
-        onward = λ is. r.onward (sym is);
-      }
-  one_from Against y z x j k p q = one_on Along x y z p.known (turned y j p) (turned z k q)
-    where
-      turned : (w : ℕ) → IsTrue (has_line M w) → LeadsOn M Against w x → LeadsOn M Along x w
-      turned w h r = record {
-        known = h;
-        joins = sym r.joins;
-        through = subst (λ (v : ℕ). IsTrue (passing M v)) r.joins r.through;
-        onward = λ is. r.onward (sym is);
-      }
+  one_from Along y z x j k p q = grind (arith, one_on Against x y z p.known (record { known = j; joins = sym p.joins; through = rw (← p.joins) p.through; onward = λ is. p.onward (sym is) }))
+  one_from Against y z x j k p q = grind (arith, one_on Along x y z p.known)
 
 -- ---- runs, from the outermost line inwards
 
@@ -88,52 +75,30 @@ Chain M d ls [] = ⊤
 Chain M d ls (x ∷ c) = LeadsOn M d (tip d ls c) x × (has ls x ≡ false) × (has c x ≡ false) × Chain M d ls c
 
 has_outermost : (d : Direction) (ls : List ℕ) → 0 < length ls → has ls (outermost d ls) ≡ true
-has_outermost Along ls h = has_last ls h
-has_outermost Against ls h = has_first ls h
+has_outermost v0 ls h = grind (arith, has_last, has_first)
 
 module _ (M : Map) (d : Direction) (ls : List ℕ) (some : 0 < length ls) (known : IsTrue (has_line M (outermost d ls))) where
   pub tip_known : (c : List ℕ) → Chain M d ls c → IsTrue (has_line M (tip d ls c))
-  tip_known [] p = known
-  tip_known (x ∷ c) p = p.0.known
+  tip_known v0 p = grind arith
 
   tip_in : (c : List ℕ) → (has ls (tip d ls c) ≡ true) ⊎ (has c (tip d ls c) ≡ true)
-  tip_in [] = inl (has_outermost d ls some)
-  tip_in (x ∷ c) = inr (has_here x c)
+  tip_in v0 = grind (arith, has_outermost, has_here)
 
   back : (front c : List ℕ) → Chain M d ls (front ++ c) → Chain M d ls c
   back [] c p = p
   back (x ∷ front) c p = back front c p.3
 
-  -- a line of a run leads on from one of the run or of the lines
-  inwards : (c : List ℕ) (x : ℕ) → Chain M d ls c → has c x ≡ true → (z : ℕ) × IsTrue (has_line M z) × LeadsOn M d z x
-      × ((has ls z ≡ true) ⊎ (has c z ≡ true))
-  inwards [] x p h = absurd cc
-  inwards (y ∷ c) x p h = elim (has_cases y c x h) [
-    | inl is ↦ (
-      tip d ls c,
-      tip_known c p.3,
-      subst (LeadsOn M d (tip d ls c)) is p.0,
-      elim (tip_in c) [ inl i ↦ inl i | inr i ↦ inr (has_there y c (tip d ls c) i) ],
-    )
-    | inr i ↦
-        let r = inwards c x p.3 i in
-        (r.0, r.1, r.2, elim r.3 [ inl j ↦ inl j | inr j ↦ inr (has_there y c r.0 j) ])
-  ]
+  -- what leads on from a line that is not of the run or the lines is not of the run
+  beside : (c : List ℕ) (y x : ℕ) → Chain M d ls c → IsTrue (has_line M y) → LeadsOn M d y x → has ls y ≡ false →
+      has c y ≡ false → has c x ≡ false
+  beside [] y x p k q a b = refl
+  beside (w ∷ c) y x p k q a b =
+      grind (arith, nat_tests, one_from, tip_known c p.3, tip_in c, beside c y x p.3 k q a)
 
   -- what leads on from a run is not among its lines
   pub fresh : (c : List ℕ) (x : ℕ) → Chain M d ls c → LeadsOn M d (tip d ls c) x → has c x ≡ false
   fresh [] x p q = refl
-  fresh (y ∷ c) x p q =
-      or_from _ _ (ne_eqb y x (another M d y x q)) (elim (cases_Bool (has c x)) [
-        | inr none ↦ none
-        | inl h ↦
-            let r = inwards c x p.3 h in
-            let is : y ≡ r.0 = one_from M d y r.0 x p.0.known r.1 q r.2 in
-            absurd (elim r.3 [
-              | inl i ↦ both_ways (has ls y) p.1 (subst (λ (n : ℕ). has ls n ≡ true) (sym is) i)
-              | inr i ↦ both_ways (has c y) p.2 (subst (λ (n : ℕ). has c n ≡ true) (sym is) i)
-            ])
-      ])
+  fresh (y ∷ c) x p q = or_from _ _ (ne_eqb y x (another M d y x q)) (beside c y x p.3 p.0.known q p.1 p.2)
 
   -- a run from which no line leads on, or none within the limit, is the longest
   pub no_longer : (c : List ℕ) → Chain M d ls c →
@@ -143,11 +108,7 @@ module _ (M : Map) (d : Direction) (ls : List ℕ) (some : 0 < length ls) (known
     where
       one_more : (x : ℕ) (e front : List ℕ) → Chain M d ls (x ∷ e) → dm_of M (x ∷ e) ≤ limit → c ≡ front ++ e →
           (front : List ℕ) × (c ≡ front ++ x ∷ e)
-      one_more x e [] q w is =
-          absurd (elim (stops x (subst (λ (zs : List ℕ). LeadsOn M d (tip d ls zs) x) (sym is) q.0)) [
-            | inl h ↦ both_ways (has ls x) q.1 h
-            | inr far ↦ let same = ap (dm_of M) is in omega arith
-          ])
+      one_more x e [] q w is = grind (arith, stops, both_ways)
       one_more x e (y ∷ ys) q w is =
           let s = last_of_list y ys in
           let parts : c ≡ s.0 ++ (s.1 ∷ e) = is ∙ ap (λ (zs : List ℕ). zs ++ e) s.2 ∙ append_assoc s.0 (s.1 ∷ []) e in
@@ -169,18 +130,14 @@ has-reverse c x = sym (list_any-IsPermutation (λ y. y == x) c (reverse c) (IsPe
 
 dm_of-reverse : (M : Map) (c : List ℕ) → dm_of M (reverse c) ≡ dm_of M c
 dm_of-reverse M [] = refl
-dm_of-reverse M (x ∷ c) =
-    omega (arith, ap (dm_of M) (pushed x c), dm_of-append M (reverse c) (x ∷ []), dm_of-reverse M c)
+dm_of-reverse M (x ∷ c) = grind (arith, pushed, dm_of-append, dm_of-reverse M c)
 
 map-reverse : {X Y : Type 0} (f : X → Y) (xs : List X) → map f (reverse xs) ≡ reverse (map f xs)
 map-reverse f [] = refl
-map-reverse {X} {Y} f (x ∷ xs) =
-    ap (map f) (pushed x xs) ∙ map-append f (reverse xs) (x ∷ [])
-    ∙ ap (λ (ys : List Y). ys ++ f x ∷ []) (map-reverse f xs) ∙ sym (pushed (f x) (map f xs))
+map-reverse {X} {Y} f (x ∷ xs) = grind (arith, pushed, map-append, map-reverse f xs)
 
 ids-in_order : (d : Direction) (rs : List ResolvedLine) → ids (in_order d rs) ≡ in_order d (ids rs)
-ids-in_order Along rs = map-reverse (λ (r : ResolvedLine). r.id) rs
-ids-in_order Against rs = refl
+ids-in_order v0 rs = grind (arith, map-reverse)
 
 records-in_order : (M : Map) (d : Direction) (rs : List ResolvedLine) → AreRecords M rs → AreRecords M (in_order d rs)
 records-in_order M Along rs are =
@@ -189,12 +146,10 @@ records-in_order M Along rs are =
 records-in_order M Against rs are = are
 
 order_none : (d : Direction) → ◌≡◌ {A = List ResolvedLine} (in_order d []) []
-order_none Along = refl
-order_none Against = refl
+order_none v0 = grind arith
 
 dm_of-in_order : (M : Map) (d : Direction) (c : List ℕ) → dm_of M (in_order d c) ≡ dm_of M c
-dm_of-in_order M Along c = dm_of-reverse M c
-dm_of-in_order M Against c = refl
+dm_of-in_order M v1 c = grind (arith, dm_of-reverse)
 
 tip_is : (d : Direction) (ls c : List ℕ) → outermost d (joined d ls (in_order d c)) ≡ tip d ls c
 tip_is Along ls [] = ap last (append-nil ls)
@@ -207,11 +162,7 @@ tip_is Against ls (x ∷ c) = refl
 module _ (M : Map) (ls : List ℕ) where
   start_run : (c : List ℕ) → Chain M Against ls c → StartRun M c ls
   start_run [] p = tt
-  start_run (x ∷ c) p = (
-    may_precede M (c ++ ls) x (subst (λ (z : ℕ). LeadsOn M Against z x) (sym (tip_is Against ls c)) p.0)
-        (list_any-append (λ y. y == x) c ls ∙ or_from _ _ p.2 p.1),
-    start_run c p.3,
-  )
+  start_run (x ∷ c) p = grind (arith, may_precede, tip_is, list_any-append, or_from, start_run c p.3)
 
   end_run : (c : List ℕ) → Chain M Along ls c → EndRun M ls (reverse c)
   end_run [] p = tt
@@ -222,46 +173,26 @@ module _ (M : Map) (ls : List ℕ) where
 
   of_start : (c : List ℕ) → StartRun M c ls → Chain M Against ls c
   of_start [] p = tt
-  of_start (x ∷ c) p =
-      let off = or_parts _ _ (sym (list_any-append (λ y. y == x) c ls) ∙ p.0.fresh) in (
-        subst (λ (z : ℕ). LeadsOn M Against z x) (tip_is Against ls c) (precedes M (c ++ ls) x p.0),
-        off.1,
-        off.0,
-        of_start c p.1,
-      )
+  of_start (x ∷ c) p = grind (arith, or_parts, list_any-append, fresh, tip_is, precedes, of_start c p.1)
 
-  of_end : (done c : List ℕ) → Chain M Along ls done → EndRun M (ls ++ reverse done) c →
-      Chain M Along ls (reverse c ++ done)
-  of_end done [] a p = a
-  of_end done (x ∷ c) a p =
-      let off = or_parts _ _ (sym (list_any-append (λ y. y == x) ls (reverse done)) ∙ p.0.fresh) in
-      let on : (ls ++ reverse done) ++ x ∷ [] ≡ ls ++ reverse (x ∷ done) =
-      append_assoc ls (reverse done) (x ∷ []) ∙ ap (λ (zs : List ℕ). ls ++ zs) (sym (pushed x done)) in
-      let parts : reverse c ++ (x ∷ done) ≡ reverse (x ∷ c) ++ done =
-      sym (ap (λ (zs : List ℕ). zs ++ done) (pushed x c) ∙ append_assoc (reverse c) (x ∷ []) done) in
-      subst (Chain M Along ls) parts (of_end (x ∷ done) c (
-        subst (λ (z : ℕ). LeadsOn M Along z x) (tip_is Along ls done) (follows M (ls ++ reverse done) x p.0),
-        off.0,
-        sym (has-reverse done x) ∙ off.1,
-        a,
-      ) (subst (λ (zs : List ℕ). EndRun M zs c) on p.1))
+  of_end : (c : List ℕ) → EndRun M ls (reverse c) → Chain M Along ls c
+  of_end [] p = tt
+  of_end (x ∷ c) p =
+      let run : EndRun M ls (reverse c ++ x ∷ []) = subst (EndRun M ls) (pushed x c) p in
+      let on : MayFollow M (ls ++ reverse c) x = EndRun-at M ls (reverse c) x [] run in
+      let rest = of_end c (EndRun-front M ls (reverse c) (x ∷ []) run) in
+      grind (arith, or_parts, list_any-append, has-reverse, tip_is Along ls c)
 
 longest : (M : Map) (d : Direction) (ls c : List ℕ) → Chain M d ls c → dm_of M c ≤ limit →
     ((e : List ℕ) → Chain M d ls e → dm_of M e ≤ limit → dm_of M e ≤ dm_of M c) → IsLongest M d ls (in_order d c)
-longest M Against ls c p w most =
-    record { run = start_run M ls c p; within = w; longest = λ e q v. most e (of_start M ls e q) v }
+longest M Against ls c p w most = grind (arith, start_run, of_start)
 longest M Along ls c p w most =
-    let same = dm_of-reverse M c in
     record {
       run = end_run M ls c p;
-      within = omega arith;
+      within = omega (arith, dm_of-reverse M c);
       longest = λ e q v.
-          let there = dm_of-reverse M e in
-          let chain : Chain M Along ls (reverse e) =
-          subst (Chain M Along ls) (append-nil (reverse e))
-          (of_end M ls [] e tt (subst (λ (zs : List ℕ). EndRun M zs e) (sym (append-nil ls)) q)) in
-          let le = most (reverse e) chain (omega arith) in
-          omega arith;
+          let le = most (reverse e) (of_end M ls (reverse e) (subst (EndRun M ls) (sym (reverse-reverse e)) q)) in
+          omega (arith, dm_of-reverse M c, dm_of-reverse M e);
     }
 
 -- ---- a run as it is built
@@ -286,19 +217,7 @@ module _ (M : Map) (d : Direction) (ls : List ℕ) (some : 0 < length ls) (known
     pub grows_more : (n : ℕ) (r : ResolvedLine) (passes : Bool) (next : Option ℕ) → n ≡ r.len → line ≡ Some r.id →
         r ≡ record_of M r.id → has ls r.id ≡ false → len + r.len ≤ limit → LiesBeyond M d r.id passes next →
         Grows M d ls (r ∷ rs) (len + n) passes next
-    grows_more n r passes next added is record_is off near b =
-        let e = grows.long in
-        let l = ap (λ (s : ResolvedLine). s.len) record_is in
-        let on : LeadsOn M d (tip d ls (ids rs)) r.id =
-        subst (λ (o : Option ℕ). MatchOption o ((x : ℕ) → ¬ LeadsOn M d (tip d ls (ids rs)) x)
-        (LeadsOn M d (tip d ls (ids rs)))) is grows.beyond.next in
-        record {
-          chain = (on, off, fresh M d ls some known (ids rs) r.id grows.chain on, grows.chain);
-          are = λ i. record_is i ∷ grows.are i;
-          long = omega arith;
-          within = omega arith;
-          beyond = b;
-        }
+    grows_more n r passes next added is record_is off near b = grind (arith, fresh)
 
     pub finished : (used : List ℕ) → ((x : ℕ) → has used x ≡ has ls x) →
         MatchOption line ⊤ (λ x. (has used x ≡ true) ⊎ (limit < len + dm M x)) →

@@ -1,7 +1,8 @@
 -- Which LRPs remain, by the distances of all positions.
+use Rattle.std.proofs.lemmas.Grind.{common_steps}
 use Rattle.std.proofs.Common.{inl, inr, ◌≡◌, ◌<◌, ◌≤◌, ◌-◌, ◌+◌, ℕ, zero, suc, Bool, true, false, cond, List, [], ◌∷◌}
 use Rattle.std.proofs.Common.{length, take, drop, refl, sym, ap, ◌∙◌, subst, arith, nat_le, length-take, length-drop}
-use Rattle.std.proofs.lemmas.Bool.{cases_lt, cases_eq, le-leb, lt-leb, and_from}
+use Rattle.std.proofs.lemmas.Bool.{cases_lt, cases_eq, le-leb, lt-leb}
 use Rattle.std.proofs.lemmas.Bool.Decides.{nat_tests}
 use Rattle.std.proofs.lemmas.List.{take-map, take_all, get_or-take, get_or-drop}
 use Rattle.std.proofs.lemmas.List.Kept.{AllPairs-from_increasing}
@@ -25,10 +26,7 @@ linked_at : (M : Map) (ls ps : List ℕ) → Linked M ls ps → AreLinked M ls p
 linked_at M ls [] l k h = absurd (omega arith)
 linked_at M ls (p ∷ []) l k h = absurd (omega arith)
 linked_at M ls (p ∷ q ∷ ps) l zero h = l.0
-linked_at M ls (p ∷ q ∷ ps) l (suc k) h =
-    let on : suc k + 1 ≡ suc (k + 1) = omega arith in
-    subst (λ (n : ℕ). Candidate M ls (slice_index (q ∷ ps) k) (slice_index (p ∷ q ∷ ps) n)) (sym on)
-    (linked_at M ls (q ∷ ps) l.1 k (omega arith))
+linked_at M ls (p ∷ q ∷ ps) l (suc k) h = grind (arith, linked_at M ls (q ∷ ps) l.1 k (omega arith))
 
 pub points_linked : (M : Map) (ls ps : List ℕ) → ArePoints M ls ps → AreLinked M ls ps
 points_linked M ls ps a =
@@ -37,10 +35,7 @@ points_linked M ls ps a =
 -- the last two
 pub linked_end : (M : Map) (ls ps : List ℕ) → AreLinked M ls ps → 2 ≤ length ps →
     Candidate M ls (slice_index ps (length ps - 1 - 1)) (slice_index ps (length ps - 1))
-linked_end M ls ps l h =
-    let on : length ps - 1 - 1 + 1 ≡ length ps - 1 = omega arith in
-    subst (λ (n : ℕ). Candidate M ls (slice_index ps (length ps - 1 - 1)) (slice_index ps n)) on
-    (l (length ps - 1 - 1) (omega arith))
+linked_end M ls ps l h = grind arith
 
 -- neighbours ascend, so all do
 linked_less : (M : Map) (ls ps : List ℕ) → AreLinked M ls ps → (j k : ℕ) → j < k → k < length ps →
@@ -53,15 +48,10 @@ last_index i (j ∷ js) = last_index j js
 
 -- the last of them is the end
 pub points_end : (M : Map) (ls ps : List ℕ) → ArePoints M ls ps → slice_index ps (length ps - 1) ≡ length ls
-points_end M ls ps a =
-    let long : length ps ≡ length (later ps) + 1 = ap length a.from_start ∙ omega arith in
-    let less : length ps - 1 ≡ length (later ps) = omega arith in
-    ap (slice_index ps) less ∙ ap (λ (qs : List ℕ). slice_index qs (length (later ps))) a.from_start
-    ∙ last_index 0 (later ps) ∙ a.to_end
+points_end M ls ps a = grind (arith, common_steps, nat_tests, last_index)
 
 pub points_some : (M : Map) (ls ps : List ℕ) → ArePoints M ls ps → 0 < length ps
-points_some M ls ps a = let long : length ps ≡ length (later ps) + 1 =
-    ap length a.from_start ∙ omega arith in omega arith
+points_some M ls ps a = grind arith
 
 -- lines with a length are some
 pub some_lines : (M : Map) (ls : List ℕ) (n : ℕ) → n < dm_of M ls → 0 < length ls
@@ -72,62 +62,41 @@ some_lines M (x ∷ ls) n h = omega arith
 
 none_pass : (p : ℕ → Bool) (xs : List ℕ) → ((k : ℕ) → k < length xs → p (slice_index xs k) ≡ false) → filter p xs ≡ []
 none_pass p [] h = refl
-none_pass p (x ∷ xs) h =
-    ap (λ (b : Bool). cond b (x ∷ filter p xs) (filter p xs)) (h 0 (omega arith))
-    ∙ none_pass p xs (λ k lt. h (suc k) (omega arith))
+none_pass p (x ∷ xs) h = rw (h 0 (omega arith)) (none_pass p xs (λ k lt. h (suc k) (omega arith)))
 
 range_passes : (p : ℕ → Bool) (xs : List ℕ) (a n : ℕ) → a + n ≤ length xs →
     ((k : ℕ) → k < a → p (slice_index xs k) ≡ false)
     → ((k : ℕ) → a ≤ k → k < a + n → p (slice_index xs k) ≡ true) →
     ((k : ℕ) → a + n ≤ k → k < length xs → p (slice_index xs k) ≡ false) → filter p xs ≡ take n (drop a xs)
 range_passes p xs zero zero h front mid back = none_pass p xs (λ k lt. back k (omega arith) lt)
-range_passes p [] zero (suc n) h front mid back = absurd (omega arith)
+range_passes p [] a n h front mid back = grind arith
 range_passes p (x ∷ xs) zero (suc n) h front mid back =
-    ap (λ (b : Bool). cond b (x ∷ filter p xs) (filter p xs)) (mid 0 (omega arith) (omega arith))
-    ∙ ap (λ (ys : List ℕ). x ∷ ys)
-    (range_passes p xs zero n (omega arith) (λ k lt. absurd (omega arith))
-    (λ k ge lt. mid (suc k) (omega arith) (omega arith)) (λ k ge lt. back (suc k) (omega arith) (omega arith)))
-range_passes p [] (suc a) n h front mid back = absurd (omega arith)
+    rw (mid 0 (omega arith) (omega arith)) (ap (λ (ys : List ℕ). x ∷ ys) (range_passes p xs zero n (omega arith)
+    (λ k lt. absurd (omega arith)) (λ k ge lt. mid (suc k) (omega arith) (omega arith))
+    (λ k ge lt. back (suc k) (omega arith) (omega arith))))
 range_passes p (x ∷ xs) (suc a) n h front mid back =
-    ap (λ (b : Bool). cond b (x ∷ filter p xs) (filter p xs)) (front 0 (omega arith))
-    ∙ range_passes p xs a n (omega arith) (λ k lt. front (suc k) (omega arith))
-    (λ k ge lt. mid (suc k) (omega arith) (omega arith)) (λ k ge lt. back (suc k) (omega arith) (omega arith))
+    rw (front 0 (omega arith)) (range_passes p xs a n (omega arith) (λ k lt. front (suc k) (omega arith))
+    (λ k ge lt. mid (suc k) (omega arith) (omega arith)) (λ k ge lt. back (suc k) (omega arith) (omega arith)))
 
 -- the last that passes, and the first
 none_last : (p : ℕ → Bool) (d : ℕ) (xs : List ℕ) → ((k : ℕ) → k < length xs → p (slice_index xs k) ≡ false) →
     last_where p d xs ≡ d
 none_last p d [] h = refl
-none_last p d (x ∷ xs) h =
-    ap (λ (b : Bool). last_where p (cond b x d) xs) (h 0 (omega arith))
-    ∙ none_last p d xs (λ k lt. h (suc k) (omega arith))
+none_last p d (x ∷ xs) h = rw (h 0 (omega arith)) (none_last p d xs (λ k lt. h (suc k) (omega arith)))
 
 last_where_at : (p : ℕ → Bool) (d : ℕ) (xs : List ℕ) (a : ℕ) → a < length xs → p (slice_index xs a) ≡ true →
-    ((k : ℕ) → a < k → k < length xs → p (slice_index xs k) ≡ false)
-    → last_where p d xs ≡ slice_index xs a
+    ((k : ℕ) → a < k → k < length xs → p (slice_index xs k) ≡ false) → last_where p d xs ≡ slice_index xs a
 last_where_at p d [] a h t f = absurd (omega arith)
-last_where_at p d (x ∷ xs) zero h t f =
-    ap (λ (b : Bool). last_where p (cond b x d) xs) t ∙ none_last p x xs (λ k lt. f (suc k) (omega arith) (omega arith))
+last_where_at p d (x ∷ xs) zero h t f = rw t (none_last p x xs (λ k lt. f (suc k) (omega arith) (omega arith)))
 last_where_at p d (x ∷ xs) (suc a) h t f =
     last_where_at p (cond (p x) x d) xs a (omega arith) t (λ k gt lt. f (suc k) (omega arith) (omega arith))
 
 first_where_at : (p : ℕ → Bool) (d : ℕ) (xs : List ℕ) (a : ℕ) → a < length xs → p (slice_index xs a) ≡ true →
-    ((k : ℕ) → k < a → p (slice_index xs k) ≡ false)
-    → first_where p d xs ≡ slice_index xs a
+    ((k : ℕ) → k < a → p (slice_index xs k) ≡ false) → first_where p d xs ≡ slice_index xs a
 first_where_at p d [] a h t f = absurd (omega arith)
-first_where_at p d (x ∷ xs) zero h t f = ap (λ (b : Bool). cond b x (first_where p d xs)) t
+first_where_at p d (x ∷ xs) zero h t f = rw t refl
 first_where_at p d (x ∷ xs) (suc a) h t f =
-    ap (λ (b : Bool). cond b x (first_where p d xs)) (f 0 (omega arith))
-    ∙ first_where_at p d xs a (omega arith) t (λ k lt. f (suc k) (omega arith))
-
--- LRPs before a, from a to b, and after b
-outside_low : (a b k : ℕ) → k < a → between a b k ≡ false
-outside_low a b k h = grind (arith, nat_tests)
-
-inside_both : (a b k : ℕ) → a ≤ k → k ≤ b → between a b k ≡ true
-inside_both a b k h g = and_from (nat_le a k) (nat_le k b) (le-leb a k h) (le-leb k b g)
-
-outside_high : (a b k : ℕ) → b < k → between a b k ≡ false
-outside_high a b k h = grind (arith, nat_tests)
+    rw (f 0 (omega arith)) (first_where_at p d xs a (omega arith) t (λ k lt. f (suc k) (omega arith)))
 
 -- ---- the remaining LRPs
 
@@ -143,10 +112,7 @@ module _ (M : Map) (ls ds ps : List ℕ) (d : AreDistances M ls ds) (p : ArePoin
       ]
 
   upto : (k : ℕ) → k < length ps → slice_index ps k ≤ length ls
-  upto k h =
-      let end = points_end M ls ps p in
-      let le = not_above k (length ps - 1) (omega arith) (omega arith) in
-      omega arith
+  upto k h = grind (arith, points_end, not_above)
 
   ascend : (j k : ℕ) → j ≤ k → k < length ps → distance_at ds ps j ≤ distance_at ds ps k
   ascend j k h g =
@@ -174,51 +140,39 @@ module _ (M : Map) (ls ds ps : List ℕ) (d : AreDistances M ls ds) (p : ArePoin
   front k h = ap dm_along (take-map (leg M) k ls) ∙ dm_along-legs M (take k ls) ∙ sym (d.each k h)
 
   back : (k : ℕ) → k ≤ length ls → to_back (legs M ls) k + slice_index ds k ≡ whole_distance ds
-  back k h = let sum = whole (legs M ls) k in let here = front k h in let total = dm_along-legs M ls in let all =
-      whole_is in omega arith
+  back k h = omega (arith, whole (legs M ls) k, front k h, dm_along-legs M ls, whole_is)
 
   first_is : (positive a : ℕ) → IsFirstKept ds ps positive a →
       slice_index ps a ≡ first_kept (legs M ls) positive (later ps)
   first_is positive a f =
       let test : ℕ → Bool = λ i. nat_le (from_front (legs M ls) i) positive in
-      let here = front (slice_index ps a) (upto a f.within) in
-      let near = f.near in
       let passes : test (slice_index ps a) ≡ true =
-      le-leb (from_front (legs M ls) (slice_index ps a)) positive (omega arith) in
+      rw (front _ (upto a f.within)) (le-leb _ positive f.near) in
       let after : (k : ℕ) → a < k → k < length ps → test (slice_index ps k) ≡ false = λ k gt lt.
       let next = f.next (omega arith) in
-      let there = front (slice_index ps k) (upto k lt) in
       let order = ascend (a + 1) k (omega arith) lt in
-      lt-leb (from_front (legs M ls) (slice_index ps k)) positive (omega arith) in
+      rw (front _ (upto k lt)) (lt-leb _ positive (omega arith)) in
       sym (ap (last_where test 0) (sym p.from_start) ∙ last_where_at test 0 ps a f.within passes after)
 
   last_is : (negative b : ℕ) → IsLastKept ds ps negative b →
       slice_index ps b ≡ last_kept (legs M ls) negative (later ps)
   last_is negative b l =
       let test : ℕ → Bool = λ i. nat_le (to_back (legs M ls) i) negative in
-      let here = back (slice_index ps b) (upto b l.within) in
       let near = l.near in
-      let passes : test (slice_index ps b) ≡ true =
-      le-leb (to_back (legs M ls) (slice_index ps b)) negative (omega arith) in
-      let before : (k : ℕ) → k < b → test (slice_index ps k) ≡ false = λ k lt.
       let within = l.within in
-      let next = l.before (omega arith) in
-      let there = back (slice_index ps k) (upto k (omega arith)) in
+      let passes : test (slice_index ps b) ≡ true = le-leb _ negative (omega (arith, back _ (upto b within))) in
+      let before : (k : ℕ) → k < b → test (slice_index ps k) ≡ false = λ k lt.
       let order = ascend k (b - 1) (omega arith) (omega arith) in
-      lt-leb (to_back (legs M ls) (slice_index ps k)) negative (omega arith) in
-      sym (ap (first_where test 0) (sym p.from_start) ∙ first_where_at test 0 ps b l.within passes before)
+      lt-leb _ negative (omega (arith, l.before, back _ (upto k (omega arith)))) in
+      sym (ap (first_where test 0) (sym p.from_start) ∙ first_where_at test 0 ps b within passes before)
 
   range_is : (a b : ℕ) → a ≤ b → b < length ps → filter (between (slice_index ps a) (slice_index ps b)) ps
       ≡ slice_range ps a (b + 1)
   range_is a b h g =
-      let A = slice_index ps a in
-      let B = slice_index ps b in
-      range_passes (between A B) ps a (b + 1 - a) (omega arith)
-      (λ k lt. let ascend = linked_less M ls ps linked k a lt (omega arith) in outside_low A B (slice_index ps k)
-      ascend)
-      (λ k ge lt. inside_both A B (slice_index ps k) (not_above a k ge (omega arith)) (not_above k b (omega arith) g))
-      (λ k ge lt. let ascend = linked_less M ls ps linked b k (omega arith) lt in
-      outside_high A B (slice_index ps k) ascend)
+      range_passes (between (slice_index ps a) (slice_index ps b)) ps a (b + 1 - a) (omega arith)
+      (λ k lt. grind (arith, nat_tests, linked_less M ls ps linked k a))
+      (λ k ge lt. grind (arith, nat_tests, not_above a k, not_above k b))
+      (λ k ge lt. grind (arith, nat_tests, linked_less M ls ps linked b k))
 
 -- the remaining LRPs, and the remainders of the offsets, give the reference
 pub record IsCut (M : Map) (ls ds ps : List ℕ) (positive negative : ℕ) (ks : List ℕ) (pos_left neg_left : ℕ) : Type

@@ -1,11 +1,10 @@
 -- What is known of an encoding beside its answer: the routes that join, and the searches that it makes.
 --     JoinsOf M P A      if the answer has LRPs, this holds for its reference
 --     SearchesOf M P n      the path is encoded by n searches
-use Rattle.std.specs.Prelude.{◌≡◌, ◌≤◌, ℕ, ◌∷◌, length, MatchOption, ⊤}
+use Rattle.std.specs.Prelude.{◌≡◌, ℕ, ◌∷◌, MatchOption, ⊤}
 use Rattle.olr_spec.specs.Map.{Map}
 use Rattle.olr_spec.specs.Extension.{Path}
-use Rattle.olr_spec.specs.Points.{last_position, OfPath}
-use Rattle.olr_spec.specs.Reference.{Reference, legs, kept_points, reference}
+use Rattle.olr_spec.specs.Points.{OfPath}
 use Rattle.olr_spec.specs.Encoding.{path_fault}
 use Rattle.olr_spec.specs.Joins.{Joined}
 use Rattle.olr_answers.specs.declared.answer.Answer.{Answer}

@@ -1,6 +1,6 @@
 use Rattle.std.proofs.Common.{◌≡◌, ◌∙◌, sym, arith, length}
 use Rattle.olr_refs.proofs.Asking.{gone_more, ended, ended_there}
-use Rattle.olr_refs.proofs.Noting.{follows, follows_end, last_is}
+use Rattle.olr_refs.proofs.Noting.{led_end, no_next_end}
 use Rattle.olr_refs.proofs.chosen.points.Goals as goal
 
 pub loop-last-preserved : goal.loop-last-preserved
@@ -15,13 +15,12 @@ returns-in-None g c =
     let M = g.M.MapRead.map c.args.resolved.now.map.now in
     let ls = c.args.resolved.now.lines.now in
     let s = c.loop-last.invariant in
-    let is = last_is M ls s.points c.loop-last.last s.led in
-    let follow = follows M ls s.points c.loop-last.last s.led c.in-None.ensures in
+    let led = led_end M ls s.points c.loop-last.last s.led c.in-None.ensures in
     record {
-      choice = (s.points, follow, ((λ e. omega arith), sym is));
+      choice = (s.points, led.0, ((λ e. omega arith), sym led.1));
       asks = (
         s.points,
-        follow,
+        led.0,
         ended M ls c.args.reuse.now.lead c.args.reuse.now.own c.args.reuse.now.known.now
             c.loop-last.positions.items c.loop-last.last _ _ _ _ _ _ _ _ _ _ s c.in_ok-reach.ensures.asks,
       );
@@ -32,14 +31,13 @@ returns g c =
     let M = g.M.MapRead.map c.args.resolved.now.map.now in
     let ls = c.args.resolved.now.lines.now in
     let s = c.loop-last.invariant in
-    let is = last_is M ls s.points c.loop-last.last s.led in
+    let led = led_end M ls s.points c.loop-last.last s.led (no_next_end M ls c.loop-last.last (omega arith)) in
     let end : c.loop-last.last ≡ length ls = let w = s.within in omega arith in
-    let follow = follows_end M ls s.points c.loop-last.last s.led (omega arith) in
     record {
-      choice = (s.points, follow, (is ∙ end, s.positions ∙ s.first));
+      choice = (s.points, led.0, (led.1 ∙ end, s.positions ∙ s.first));
       asks = (
         s.points,
-        follow,
+        led.0,
         ended_there M ls c.args.reuse.now.lead c.args.reuse.now.own
             c.args.reuse.now.known.now c.loop-last.positions.items c.loop-last.last _ _ _ _ _ _ s (omega arith),
       );

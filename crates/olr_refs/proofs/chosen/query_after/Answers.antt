@@ -1,12 +1,10 @@
 use Rattle.std.proofs.Common.{refl}
+use Rattle.std.proofs.Common.{arith}
 use Rattle.olr_refs.proofs.Asking.{asks_known, asks_searched}
 use Rattle.olr_refs.proofs.chosen.query_after.Goals as goal
 
 pub returns-in-Some-clause-asks : goal.returns-in-Some-clause-asks
-returns-in-Some-clause-asks g c =
-    rw c.query_of.ensures (asks_known (g.M.MapRead.map c.args.resolved.now.map.now) c.args.resolved.now.lines.now
-    c.args.reuse.now.lead c.args.reuse.now.own c.args.reuse.now.known.now c.args.i c.in-Some.known _ _
-    c.requires.some c.in-Some.ensures.known c.in-Some.ensures.given)
+returns-in-Some-clause-asks g c = grind (arith, asks_known)
 
 pub returns-in_ok-tested-in-None-clause-asks : goal.returns-in_ok-tested-in-None-clause-asks
 returns-in_ok-tested-in-None-clause-asks g c =

@@ -1,4 +1,4 @@
-use Rattle.std.proofs.Common.{ℕ, [], ◌∷◌, refl, sym, ◌∙◌, subst, arith}
+use Rattle.std.proofs.Common.{[], ◌∷◌, refl, sym, ◌∙◌, arith}
 use Rattle.olr_spec.specs.Queries.{CoverageQuery}
 use Rattle.olr_refs.proofs.Noting.{query_short, one_query, query_noted}
 use Rattle.olr_search.specs.declared.distances.Direction.TheVariants.{Along}
@@ -7,12 +7,7 @@ use Rattle.olr_refs.proofs.chosen.search_after.Goals as goal
 use Rattle.olr_refs.proofs.chosen.search_after.Given.{Over}
 
 pub overflow_cast-query : goal.overflow_cast-query
-overflow_cast-query g c =
-    let short =
-    query_short (g.M.MapRead.map c.args.resolved.now.map.now) c.args.resolved.now.lines.now c.args.i _
-    c.in_ok-tested.ensures.last in
-    let is = c.between.ensures.value in
-    record { fits = omega arith }
+overflow_cast-query g c = grind (arith, query_short)
 
 pub note_settled-requires : goal.note_settled-requires
 note_settled-requires g c = (_, _, _, _, c.in_ok-tested.ensures.search)
@@ -21,10 +16,7 @@ note_settled-requires g c = (_, _, _, _, c.in_ok-tested.ensures.search)
 search : (g : Over) (c : goal.After-between g) →
     IsSearch (g.M.MapRead.map c.args.resolved.now.map.now) (g.M.MapRead.node_slot c.args.resolved.now.map.now) Along
     ((c.end-from.result, 0) ∷ []) c.covered_to.new.search
-search g c =
-    subst (λ (v : ℕ). IsSearch (g.M.MapRead.map c.args.resolved.now.map.now)
-    (g.M.MapRead.node_slot c.args.resolved.now.map.now) Along ((v, 0) ∷ []) c.covered_to.new.search)
-    (sym c.end-from.ensures.value) c.in_ok-tested.ensures.search
+search g c = grind arith
 
 pub returns-clause-seen : goal.returns-clause-seen
 returns-clause-seen g c =

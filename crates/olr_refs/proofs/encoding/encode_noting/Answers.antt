@@ -1,17 +1,14 @@
 use Rattle.std.proofs.Common.{refl}
+use Rattle.std.proofs.Common.{arith}
 use Rattle.std.proofs.lemmas.Result.{IfOk-weaker}
 use Rattle.olr_refs.proofs.Asking.{queries_whole, known_whole, searched_whole, searched_of, searched_few}
 use Rattle.olr_refs.proofs.encoding.encode_noting.Goals as goal
 
 pub returns-in-Ok-clause-queries : goal.returns-in-Ok-clause-queries
-returns-in-Ok-clause-queries g c =
-    IfOk-weaker c.encode_whole.result _ _ (λ e a. queries_whole (g.M.MapRead.map c.args.map.now) c.args.path.now _ _ _ _ _
-    _ _ (rw c.in-Ok.is at c.in_ok-refusal.ensures.own).0 a) c.encode_whole.ensures.asks
+returns-in-Ok-clause-queries g c = grind (arith, IfOk-weaker, queries_whole)
 
 pub returns-in-Ok-clause-known : goal.returns-in-Ok-clause-known
-returns-in-Ok-clause-known g c =
-    IfOk-weaker c.encode_whole.result _ _ (λ e a. known_whole (g.M.MapRead.map c.args.map.now) c.args.path.now _ _ _ _ _
-    _ _ (rw c.in-Ok.is at c.in_ok-refusal.ensures.own).0 a) c.encode_whole.ensures.asks
+returns-in-Ok-clause-known g c = grind (arith, IfOk-weaker, known_whole)
 
 pub returns-in-Ok-clause-searched : goal.returns-in-Ok-clause-searched
 returns-in-Ok-clause-searched g c =

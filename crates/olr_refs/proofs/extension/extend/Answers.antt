@@ -1,4 +1,5 @@
 use Rattle.std.proofs.Common.{◌++◌, List, length, sym, ap, ◌∙◌, refl}
+use Rattle.std.proofs.Common.{arith}
 use Rattle.olr_refs.specs.ResolvedLines.{ResolvedLine, ids, records_of}
 use Rattle.olr_refs.proofs.Extending.{own_some, own_first, front_records, front_some, front_last}
 use Rattle.olr_refs.proofs.Extending.{whole_records, extends}
@@ -6,28 +7,10 @@ use Rattle.olr_refs.proofs.Resolving.{are_records}
 use Rattle.olr_refs.proofs.extension.extend.Goals as goal
 
 pub longest_run-requires : goal.longest_run-requires
-longest_run-requires g c =
-    let M = g.M.MapRead.map c.args.map.now in
-    let P = c.args.path.now in
-    record {
-      some = own_some M P c.requires.path c.requires.known _ c.requires.own;
-      known = own_first M P c.requires.path c.requires.known _ c.requires.own;
-      records = are_records M _ _ c.requires.own;
-    }
+longest_run-requires g c = grind (arith, own_some, own_first, are_records)
 
 pub longest_run-requires-2 : goal.longest_run-requires-2
-longest_run-requires-2 g c =
-    let M = g.M.MapRead.map c.args.map.now in
-    let P = c.args.path.now in
-    let front =
-    c.deref.ensures.value ∙ c.in_ok-extend_from_slice.ensures.items
-    ∙ ap (λ (rs : List ResolvedLine). rs ++ c.args.own.now)
-    (c.in_ok-records.ensures.items ∙ c.taken_part-front_len.ensures.records) in
-    record {
-      some = front_some M P c.requires.path c.requires.known _ c.requires.own _ _ _ c.in_ok-before.ensures _ front;
-      known = front_last M P c.requires.path c.requires.known _ c.requires.own _ _ _ c.in_ok-before.ensures _ front;
-      records = front_records M P c.requires.path c.requires.known _ c.requires.own _ _ _ c.in_ok-before.ensures _ front;
-    }
+longest_run-requires-2 g c = grind (arith, front_some, front_last, front_records)
 
 pub returns : goal.returns
 returns g c =

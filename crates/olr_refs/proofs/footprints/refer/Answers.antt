@@ -1,4 +1,5 @@
 use Rattle.std.proofs.Common.{List, Some, length, refl, sym, ap, ◌∙◌, subst}
+use Rattle.std.proofs.Common.{arith}
 use Rattle.olr_spec.specs.Queries.{CoverageQuery}
 use Rattle.olr_spec.proofs.KnownLemmas.{all_searched}
 use Rattle.olr_refs.specs.Choice.{Notes, SeenBy, SettledBy, raised_count}
@@ -9,9 +10,7 @@ use Rattle.olr_refs.proofs.Noting.{noted_foot}
 use Rattle.olr_refs.proofs.footprints.refer.Goals as goal
 
 pub returns-clause-recovered : goal.returns-clause-recovered
-returns-clause-recovered g c =
-    recovered_of (g.M.MapRead.map c.args.map.now) (g.met.M.MapRead.sound c.args.map.now) c.args.path.now
-    c.encode_noting.ensures.path c.in_ok-encoding.encoding.answer c.in_ok-encoding.ensures.answer
+returns-clause-recovered g c = grind (arith, recovered_of, g.met.M.MapRead.sound c.args.map.now)
 
 pub returns-clause-footprint : goal.returns-clause-footprint
 returns-clause-footprint g c =

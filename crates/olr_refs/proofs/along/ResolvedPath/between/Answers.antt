@@ -1,7 +1,4 @@
-use Rattle.std.proofs.Common.{◌≡◌, ◌-◌, ◌∙◌, sym, arith}
-use Rattle.std.specs.List.{slice_index}
-use Rattle.olr_spec.specs.Routes.{dm_of}
-use Rattle.olr_spec.specs.Points.{stretch}
+use Rattle.std.proofs.Common.{arith}
 use Rattle.olr_spec.proofs.FieldLemmas.{dm_same}
 use Rattle.olr_refs.proofs.LegLemmas.{joined_known}
 use Rattle.olr_refs.proofs.Stretches.{dm_stretch}
@@ -14,16 +11,4 @@ overflow_sub-result g c =
     c.args.i c.args.j c.args.self.now.measured c.requires.order c.requires.within in omega arith
 
 pub returns : goal.returns
-returns g c =
-    let M = g.M.MapRead.map c.args.self.now.map.now in
-    let ls = c.args.self.now.lines.now in
-    let ds = c.args.self.now.distances.now in
-    let sum =
-    dm_stretch M ls ds c.args.i c.args.j c.args.self.now.measured c.requires.order c.requires.within in
-    let value : slice_index ds c.args.j - slice_index ds c.args.i ≡ dm_of M (stretch ls c.args.i c.args.j) =
-    omega arith in
-    record {
-      value = value;
-      legs = value ∙ sym (dm_same M (g.met.M.MapRead.sound c.args.self.now.map.now) ls
-          (joined_known M ls c.args.self.now.joined) c.args.i c.args.j);
-    }
+returns g c = grind (arith, dm_stretch, dm_same, joined_known, g.met.M.MapRead.sound c.args.self.now.map.now)

@@ -1,7 +1,6 @@
-use Rattle.std.proofs.Common.{◌≡◌, ◌-◌, ℕ, length, sym, ap, ◌∙◌, arith}
+use Rattle.std.proofs.Common.{◌≡◌, sym, ap, ◌∙◌, arith}
 use Rattle.std.specs.List.{slice_index}
-use Rattle.olr_spec.specs.Map.{start, end}
-use Rattle.olr_spec.specs.Extension.{last}
+use Rattle.olr_spec.specs.Map.{start}
 use Rattle.olr_spec.specs.Points.{node_at}
 use Rattle.std.proofs.lemmas.Bool.Decides.{nat_tests}
 use Rattle.olr_refs.specs.ResolvedLines.{ResolvedLine}
@@ -26,10 +25,4 @@ returns-then-k-self g c =
     }
 
 pub returns-else-k-self-clause-value : goal.returns-else-k-self-clause-value
-returns-else-k-self-clause-value g c =
-    let M = g.M.MapRead.map c.args.self.now.map.now in
-    let ls = c.args.self.now.lines.now in
-    let long = records_length M ls _ c.args.self.now.resolved in
-    let n : length c.args.self.now.records.now - 1 ≡ length ls - 1 = omega arith in
-    let is : node_at M ls c.args.k ≡ end M (last ls) = grind (arith, nat_tests) in
-    c.end.ensures.value ∙ ap (end M) (ap (λ (k : ℕ). slice_index ls k) n ∙ sym (last_index ls c.requires.some)) ∙ sym is
+returns-else-k-self-clause-value g c = grind (arith, records_length, nat_tests, last_index)

@@ -1,5 +1,5 @@
 use Rattle.std.proofs.lemmas.List.Sorted.{IsNonDecreasingBy-from_sort}
-use Rattle.olr_refs.specs.ResolvedLines.{ids}
+use Rattle.std.proofs.Common.{arith}
 use Rattle.olr_refs.proofs.Sets.{same_members}
 use Rattle.olr_refs.proofs.line_set.LineSet.of.Goals as goal
 
@@ -8,6 +8,4 @@ invariant_of-result c =
     IsNonDecreasingBy-from_sort (λ x. x) c.sort_unstable.new.self.items c.sort_unstable.ensures.sorted
 
 pub returns : goal.returns
-returns c =
-    same_members (ids c.args.records.now) c.sort_unstable.new.self.items
-    (rw c.in_ok-sorted.ensures at c.sort_unstable.ensures.permutation)
+returns c = grind (arith, same_members)
