@@ -1,6 +1,6 @@
 -- The ends of the lines of a list, appended to other nodes.
 use Rattle.std.proofs.Common.{◌⊎◌, inl, inr, ◌↔◌, ◌≡◌, ◌==◌, ℕ, ◌+◌, ◌<◌, ◌≤◌, ◌||◌, List, [], ◌∷◌, ◌++◌, length, take}
-use Rattle.std.proofs.Common.{get_or, eqb, Contains, IsPermutation, sym, subst, arith}
+use Rattle.std.proofs.Common.{get_or, eqb, Contains, IsPermutation, subst, arith}
 use Rattle.std.specs.List.{dedup}
 use Rattle.std.proofs.lemmas.Bool.{or_cases, or_left, or_right, eq-eqb, eqb-true}
 use Rattle.std.proofs.lemmas.List.{take_all}
@@ -54,11 +54,9 @@ all_ends M F ls ns i h ends = subst (λ (zs : List ℕ). HasEnds M F zs ns) (tak
 
 pub same_once : (ns sorted once : List ℕ) → IsPermutation ns sorted → once ≡ dedup eqb sorted → (v : ℕ) →
     Contains once v ↔ Contains ns v
-same_once ns sorted once moved is v = (
-  λ h. Contains-permutation sorted ns v (IsPermutation-sym ns sorted moved)
-      (Contains-from_dedup eqb sorted v (subst (λ (zs : List ℕ). Contains zs v) is h)),
-  λ h. subst (λ (zs : List ℕ). Contains zs v) (sym is)
-      (Contains-dedup_nat sorted v (Contains-permutation ns sorted v moved h)),
+same_once ns sorted once moved is v = rw is (
+  (λ h. Contains-permutation sorted ns v (IsPermutation-sym ns sorted moved) (Contains-from_dedup eqb sorted v h)),
+  (λ h. Contains-dedup_nat sorted v (Contains-permutation ns sorted v moved h)),
 )
 
 -- what three lists append, one after the other

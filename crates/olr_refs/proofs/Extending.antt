@@ -67,9 +67,8 @@ module _ (M : Map) (P : Path) (good : IsTrue (is_path P.lines)) (unknown : first
 
     pub front_last : IsTrue (has_line M (last (ids front)))
     front_last =
-        subst (λ (x : ℕ). IsTrue (has_line M x))
-        (sym (ap last from_is ∙ last_behind (taken_start M (ids before) P.lines) P.lines some))
-        (all_last (λ x. IsTrue (has_line M x)) P.lines some (no_unknown M P.lines unknown))
+        rw (from_is, last_behind (taken_start M (ids before) P.lines) P.lines some)
+        (all_last _ P.lines some (no_unknown M P.lines unknown))
 
     module _ (after : List ResolvedLine) (after_len : ℕ) (after_valid : Bool)
         (a : IsRun M Along (ids front) after after_len after_valid)

@@ -22,15 +22,9 @@ route_known M s t (x ∷ xs) w = Each-cons (λ x. IsTrue (has_line M x)) x xs w.
 pub known_at : (M : Map) (ls : List ℕ) (k : ℕ) → AreJoined M ls → k < length ls → IsTrue (has_line M (slice_index ls k))
 known_at M ls k w h = route_known M _ _ ls w (slice_index ls k) (has_index ls k h)
 
--- and so is the line that was read there
-pub known_read : (M : Map) (ls : List ℕ) (k x : ℕ) → AreJoined M ls → k < length ls → x ≡ get_or ls k x →
-    IsTrue (has_line M x)
-known_read M ls k x w h e =
-    subst (λ y. IsTrue (has_line M y)) (sym (e ∙ get_or_default ls k x 0 h)) (known_at M ls k w h)
-
--- and the one that is read there with another default
+-- and so is the one that is read there with another default
 pub known_get : (M : Map) (ls : List ℕ) (k d : ℕ) → AreJoined M ls → k < length ls → IsTrue (has_line M (get_or ls k d))
-known_get M ls k d w h = known_read M ls k (get_or ls k d) w h (get_or_default ls k d (get_or ls k d) h)
+known_get M ls k d w h = rw (get_or_default ls k d 0 h) (known_at M ls k w h)
 
 -- both ends of a line of the map are on the map
 pub start_known : (M : Map) → IsMap M → (x n : ℕ) → IsTrue (has_line M x) → n ≡ start M x → IsTrue (has_node M n)

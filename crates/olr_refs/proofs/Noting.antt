@@ -1,6 +1,6 @@
 -- The coverage queries of a choice of LRPs, and the counts that its searches raise.
 use Rattle.std.proofs.Common.{append_assoc, append-nil}
-use Rattle.std.proofs.Common.{◌≡◌, ◌≤◌, ◌+◌, ◌*◌, ℕ, zero, suc, List, [], ◌∷◌, ◌++◌, length, Contains, refl, sym, ap}
+use Rattle.std.proofs.Common.{◌≡◌, ◌≤◌, ◌+◌, ◌*◌, ℕ, zero, suc, List, [], ◌∷◌, ◌++◌, length, Contains, refl, ap}
 use Rattle.std.proofs.Common.{◌∙◌, subst, arith, inl, inr, length-append, None, Some, Option, ◌⊎◌}
 use Rattle.std.specs.Prelude.{IsTrue, ◌↔◌, MatchOption}
 use Rattle.std.specs.Cmp.{nat_eq_equiv}
@@ -91,9 +91,6 @@ settled_most M (l ∷ ls) a c s all h =
     (settled_most M ls (saturated_count (a + s.0)) c s.2 all
     (λ v r. h v (r.0, Contains-append_right (l ∷ []) ls r.0 r.1, r.2)))
 
-pub settled_none : (M : Map) (queries : List CoverageQuery) (a : ℕ) → queries ≡ [] → SettledBy M queries a a
-settled_none M queries a e = subst (λ (ls : List CoverageQuery). SettledBy M ls a a) (sym e) refl
-
 pub queried_none : (M : Map) (w : Work) → Queried M [] w w
 queried_none M w = record { encodings = refl; searches = refl; ascends = omega arith; settled = refl }
 
@@ -108,21 +105,14 @@ pub one_query : (M : Map) (place : ℕ → ℕ) (l : CoverageQuery) (n : ℕ) (q
     → after.encodings ≡ before.encodings → after.searches ≡ saturated_count (before.searches + 1) →
     after.settled ≡ saturated_count (before.settled + n) → Queried M (l ∷ []) before after
 one_query M place l n q before after h there far c encodings searches settled =
+    let exactly : (v : ℕ) → Contains c.nodes v ↔ Sees M l v = λ v.
+    let s = search_sees M place l q h there far v in
+    let e = c.exactly v in ((λ m. s.0 (e.0 m)), (λ r. e.1 (s.1 r))) in
     record {
       encodings = encodings;
       searches = searches;
       ascends = omega arith;
-      settled = (
-        n,
-        record {
-          nodes = c.nodes;
-          apart = c.apart;
-          exactly = λ v. let sees = search_sees M place l q h there far v in
-              ((λ m. sees.0 ((c.exactly v).0 m)), (λ r. (c.exactly v).1 (sees.1 r)));
-          many = c.many;
-        },
-        settled,
-      );
+      settled = (n, record { nodes = c.nodes; apart = c.apart; exactly = exactly; many = c.many }, settled);
     }
 
 -- ---- coverage queries

@@ -1,8 +1,8 @@
 -- The LRPs of a reference, as they are read.
 use Rattle.std.proofs.Common.{◌≡◌, ◌<◌, ◌≤◌, ◌-◌, ◌+◌, ℕ, zero, suc, ℤ, Option, List, [], ◌∷◌, ◌++◌, length, take, refl}
-use Rattle.std.proofs.Common.{sym, ap, ◌∙◌, arith}
+use Rattle.std.proofs.Common.{arith}
 use Rattle.std.specs.List.{slice_index}
-use Rattle.olr_spec.specs.Coordinates.{abs24, relative}
+use Rattle.olr_spec.specs.Coordinates.{Coord, abs24, relative}
 use Rattle.olr_spec.specs.Map.{Map}
 use Rattle.olr_spec.specs.Bearings.{Leg, bearing_back}
 use Rattle.olr_spec.specs.Reference.{Attrs, First, Last, Middle, Reference, attrs, dm_between, offset, last_two}
@@ -15,12 +15,11 @@ pub first_read : (gs : List Leg) (i j : ℕ) (lon lat : ℤ) (a : Attrs) → lon
     → ◌≡◌ {A = First} (record { lon = lon; lat = lat; attrs = a }) (first_point gs i j)
 first_read gs i j lon lat a hx hy ha = λ k. record { lon = hx k; lat = hy k; attrs = ha k }
 
-pub last_read : (gs : List Leg) (h i frc fow bearing : ℕ) (dlon dlat : ℤ) (g : Leg) → g ≡ leg_at gs (i - 1)
-    → dlon ≡ relative (position gs h).lon (position gs i).lon →
-    dlat ≡ relative (position gs h).lat (position gs i).lat → frc ≡ g.line.frc → fow ≡ g.line.fow →
-    bearing ≡ bearing_back g
+pub last_read : (gs : List Leg) (h i frc fow bearing : ℕ) (dlon dlat : ℤ) (g : Leg) (p q : Coord) → g ≡ leg_at gs (i - 1)
+    → p ≡ position gs h → q ≡ position gs i → dlon ≡ relative p.lon q.lon → dlat ≡ relative p.lat q.lat →
+    frc ≡ g.line.frc → fow ≡ g.line.fow → bearing ≡ bearing_back g
     → ◌≡◌ {A = Last} (record { dlon = dlon; dlat = dlat; frc = frc; fow = fow; bearing = bearing }) (last_point gs h i)
-last_read gs h i frc fow bearing dlon dlat g is hx hy hr hf hb = grind arith
+last_read gs h i frc fow bearing dlon dlat g p q is hp hq hx hy hr hf hb = grind arith
 
 -- ---- one more LRP
 
@@ -34,14 +33,12 @@ one_more gs h i (j ∷ js) (suc n) lt = grind (arith, one_more gs i j js n (omeg
 pub middle_more : (gs : List Leg) (ps : List ℕ) (k : ℕ) → 0 < k → k + 1 < length ps
     → middle_points_of gs (take (k + 2) ps) ≡ middle_points_of gs (take (k + 1) ps)
     ++ middle_point gs (slice_index ps (k - 1)) (slice_index ps k) (slice_index ps (k + 1)) ∷ []
-middle_more gs [] k h lt = absurd (omega arith)
-middle_more gs (p ∷ []) k h lt = absurd (omega arith)
-middle_more gs (p ∷ q ∷ ps) zero h lt = absurd (omega arith)
 middle_more gs (p ∷ q ∷ ps) (suc n) h lt =
     let two : suc n + 2 ≡ suc (suc (suc n)) = omega arith in
     let one : suc n + 1 ≡ suc (suc n) = omega arith in
     let less : suc n - 1 ≡ n = omega arith in
     simp (two, one, less) (one_more gs p q ps n (omega arith))
+middle_more gs _ k h lt = absurd (omega arith)
 
 -- ---- the whole
 
@@ -62,18 +59,12 @@ pub reference_read : (M : Map) (ls ks : List ℕ) (pos_left neg_left : ℕ) (fir
     neg ≡ offset neg_left (dm_between (legs M ls) (slice_index ks (length ks - 1 - 1)) (slice_index ks (length ks - 1)))
     → ◌≡◌ {A = Reference} (record { first = first; middle = middle; last = last; pos = pos; neg = neg })
     (reference_by (legs M ls) pos_left neg_left ks)
-reference_read M ls [] pos_left neg_left first middle last pos neg two hf hm hl hp hn = absurd (omega arith)
-reference_read M ls (p ∷ []) pos_left neg_left first middle last pos neg two hf hm hl hp hn = absurd (omega arith)
 reference_read M ls (p ∷ q ∷ ks) pos_left neg_left first middle last pos neg two hf hm hl hp hn =
-    let gs = legs M ls in
+    let before = last_two_at p q ks in
+    let end = last_at p q ks in
     let less : length (p ∷ q ∷ ks) - 1 - 1 ≡ length ks = omega arith in
     let one : length (p ∷ q ∷ ks) - 1 ≡ suc (length ks) = omega arith in
-    let before : slice_index (p ∷ q ∷ ks) (length (p ∷ q ∷ ks) - 1 - 1) ≡ (last_two p q ks).0 =
-    ap (slice_index (p ∷ q ∷ ks)) less ∙ sym (last_two_at p q ks) in
-    let end : slice_index (p ∷ q ∷ ks) (length (p ∷ q ∷ ks) - 1) ≡ (last_two p q ks).1 =
-    ap (slice_index (p ∷ q ∷ ks)) one ∙ sym (last_at p q ks) in
-    let last_is : last ≡ last_point gs (last_two p q ks).0 (last_two p q ks).1 =
-    hl ∙ (λ k. last_point gs (before k) (end k)) in
-    let neg_is : neg ≡ offset neg_left (dm_between gs (last_two p q ks).0 (last_two p q ks).1) =
-    hn ∙ (λ k. offset neg_left (dm_between gs (before k) (end k))) in
+    let last_is = rw (less, one, ← before, ← end) at hl in
+    let neg_is = rw (less, one, ← before, ← end) at hn in
     λ k. record { first = hf k; middle = hm k; last = last_is k; pos = hp k; neg = neg_is k }
+reference_read M ls _ pos_left neg_left first middle last pos neg two hf hm hl hp hn = absurd (omega arith)

@@ -1,6 +1,8 @@
 -- The positions that are covered, by one route along the lines after a position.
+use Rattle.olr_refs.proofs.Stretches.{stretch_sum}
+use Rattle.std.proofs.lemmas.Bool.{cases_lt}
 use Rattle.std.proofs.Common.{◌≡◌, ◌<◌, ◌≤◌, ◌-◌, ◌+◌, ℕ, min, max, Bool, List, [], ◌∷◌, ◌++◌, length}
-use Rattle.std.proofs.Common.{take, drop, refl, sym, ap, ◌∙◌, subst, arith, inl, inr}
+use Rattle.std.proofs.Common.{take, drop, ap, ◌∙◌, subst, arith, inl, inr}
 use Rattle.std.proofs.lemmas.Bool.{cases_order}
 use Rattle.std.specs.Prelude.{IsTrue, ◌↔◌}
 use Rattle.std.specs.List.{slice_index}
@@ -46,120 +48,87 @@ unique_shorter : (M : Map) (ls : List ℕ) (i j k : ℕ) → AreJoined M ls → 
 unique_shorter M ls i j k w h g f r =
     let s = end M (slice_index ls i) in
     let whole : UniqueShortest M s (start M (slice_index ls k)) (stretch ls (i + 1) j ++ stretch ls j k) =
-    subst (UniqueShortest M s (start M (slice_index ls k))) (stretch_parts ls (i + 1) j k (omega arith) g) r in
-    let first =
-    subst (λ (v : ℕ). IsRoute M v (start M (slice_index ls j)) (stretch ls (i + 1) j))
-    (sym (next_start M _ _ ls i w (omega arith))) (way_between M _ _ ls (i + 1) j w (omega arith) (omega arith)) in
-    prefix_of_unique M s (start M (slice_index ls j)) (start M (slice_index ls k)) (stretch ls (i + 1) j)
-    (stretch ls j k)
-    whole first (way_between M _ _ ls j k w g f)
+    rw (stretch_parts ls (i + 1) j k (omega arith) g) at r in
+    let first : IsRoute M s (start M (slice_index ls j)) (stretch ls (i + 1) j) =
+    rw (next_start M _ _ ls i w (omega arith)) (way_between M _ _ ls (i + 1) j w (omega arith) (omega arith)) in
+    prefix_of_unique M s _ _ (stretch ls (i + 1) j) (stretch ls j k) whole first (way_between M _ _ ls j k w g f)
 
 -- ---- what is covered
 
--- a position is covered if the lines up to it, without the last line, are the unique shortest path
-covered_by : (M : Map) (ls : List ℕ) (i j m : ℕ) → min j (length ls - 1) ≡ m → UniqueTo M ls i m → Covered M ls i j
-covered_by M ls i j m e r = λ h. subst (UniqueTo M ls i) (sym e) r
+module _ (M : Map) (ls : List ℕ) (i far : ℕ) (w : AreJoined M ls) (f : IsFar M ls i far) where
+  -- no position is needed after those that are within the limit
+  pub needed_most : (m : ℕ) → Needed M ls i m → m ≤ min far (length ls - 1)
+  needed_most m n = grind (arith, cases_order)
 
-unique_of : (M : Map) (ls : List ℕ) (i j m : ℕ) → min j (length ls - 1) ≡ m → i < m → Covered M ls i j →
-    UniqueTo M ls i m
-unique_of M ls i j m e h c = let lt : i < min j (length ls - 1) = omega arith in subst (UniqueTo M ls i) e (c lt)
+  pub needed_far : (k : ℕ) → i < far → k ≤ min far (length ls - 1) → Needed M ls i k
+  needed_far k h g = let from = f.from in (far, f.upto, f.near far h (omega arith), g)
 
--- there is nothing between a position and the last line
-covered_last : (M : Map) (ls : List ℕ) (i j : ℕ) → length ls ≤ i + 1 → Covered M ls i j
-covered_last M ls i j h = λ lt. absurd (omega arith)
+  pub near_after : (k : ℕ) → i < k → k ≤ far → dm_of M (stretch ls (i + 1) k) ≤ limit
+  near_after k h g = omega (arith, f.near k h g, stretch_sum M ls i (i + 1) k (omega arith) (omega arith))
 
--- the lines after i are the unique shortest path as far as the limit allows
-pub reach_far : (M : Map) (ls : List ℕ) (i far : ℕ) → AreJoined M ls → IsFar M ls i far →
-    (i + 1 ≤ min far (length ls - 1) → UniqueTo M ls i (min far (length ls - 1))) → IsReach M ls i far
-reach_far M ls i far w f r =
-    record {
-      from = f.from;
-      upto = f.upto;
-      within = λ j a b. (covered j a b, f.near j a b);
-      beyond = λ j a b c. f.beyond j a b;
-    }
-  where
-    covered : (j : ℕ) → i < j → j ≤ far → Covered M ls i j
-    covered j a b = elim (cases_order (length ls) (i + 1)) [
-      | inl e ↦ covered_last M ls i j (omega arith)
-      | inr (inl lt) ↦ covered_last M ls i j (omega arith)
-      | inr (inr gt) ↦
-          let u = f.upto in
-          covered_by M ls i j (min j (length ls - 1)) refl
-          (unique_shorter M ls i (min j (length ls - 1)) (min far (length ls - 1)) w (omega arith) (omega arith)
-          (omega arith) (r (omega arith)))
-    ]
+  -- a position is covered if the lines up to it, without the last line, are the unique shortest path
+  before : (k j : ℕ) → k < length ls → UniqueTo M ls i k → min j (length ls - 1) ≤ k → Covered M ls i j
+  before k j h r le = λ lt. unique_shorter M ls i (min j (length ls - 1)) k w lt le h r
 
--- the lines after i are the unique shortest path up to line k, but not with line k
-pub reach_to : (M : Map) (ls : List ℕ) (i far k : ℕ) → AreJoined M ls → IsFar M ls i far
-    → i < k → k < min far (length ls - 1) → UniqueTo M ls i k → ¬ UniqueTo M ls i (k + 1) → IsReach M ls i k
-reach_to M ls i far k w f h g r no_more =
-    let u = f.upto in
-    record {
-      from = omega arith;
-      upto = omega arith;
-      within = λ j a b. (within j a b, f.near j a (omega arith));
-      beyond = λ j a b c. beyond j a b c;
-    }
-  where
-    within : (j : ℕ) → i < j → j ≤ k → Covered M ls i j
-    within j a b = let u = f.upto in covered_by M ls i j j (omega arith)
-        (unique_shorter M ls i j k w a b (omega arith) r)
+  -- the lines after i are the unique shortest path as far as the limit allows
+  reach_far : (i + 1 ≤ min far (length ls - 1) → UniqueTo M ls i (min far (length ls - 1))) → IsReach M ls i far
+  reach_far r =
+      let u = f.upto in
+      record {
+        from = f.from;
+        upto = f.upto;
+        within = λ j a b.
+            ((λ lt. before (min far (length ls - 1)) j (omega arith) (r (omega arith)) (omega arith) lt), f.near j a b);
+        beyond = λ j a b c. f.beyond j a b;
+      }
 
-    not_near : (j : ℕ) → k < j → j ≤ length ls → Covered M ls i j → j ≤ far → ⊥
-    not_near j a b c n = grind (arith, unique_of, unique_shorter)
+  -- if at most one line follows line i, there is nothing between
+  pub reach_near_end : IsMap M → i < length ls → length ls ≤ i + 2 → IsReach M ls i far
+  reach_near_end m h g = reach_far (λ le. let e : min far (length ls - 1) ≡ i + 1 = omega arith in
+      rw e (unique_start M m ls i w (omega arith)))
 
-    beyond : (j : ℕ) → k < j → j ≤ length ls → Covered M ls i j → limit < dm_of M (stretch ls i j)
-    beyond j a b c = elim (cases_order far j) [
-      | inl e ↦ absurd (not_near j a b c (omega arith))
-      | inr (inl lt) ↦ f.beyond j lt b
-      | inr (inr gt) ↦ absurd (not_near j a b c (omega arith))
-    ]
-
--- ---- the last position that is tested
-
-tested_before : (M : Map) (ls : List ℕ) (i k : ℕ) → AreJoined M ls → i < k → k < length ls → UniqueTo M ls i k →
-    (m : ℕ) →
-    i < m → m ≤ k → Covered M ls i m
-tested_before M ls i k w h g r m a b = covered_by M ls i m m (omega arith) (unique_shorter M ls i m k w a b g r)
-
--- no position is needed after those that are within the limit
-pub needed_most : (M : Map) (ls : List ℕ) (i far : ℕ) → IsFar M ls i far → (m : ℕ) → Needed M ls i m →
-    m ≤ min far (length ls - 1)
-needed_most M ls i far f m n = grind (arith, cases_order)
-
-pub needed_far : (M : Map) (ls : List ℕ) (i far k : ℕ) → IsFar M ls i far → i < far → k ≤ min far (length ls - 1) →
-    Needed M ls i k
-needed_far M ls i far k f h g = let from = f.from in (far, f.upto, f.near far h (omega arith), g)
-
--- every position is covered
-pub last_far : (M : Map) (ls : List ℕ) (i far k : ℕ) → AreJoined M ls → IsFar M ls i far → i + 1 < length ls →
-    k ≡ max (min far (length ls - 1)) (i + 1) → UniqueTo M ls i k → IsLastTested M ls i k
-last_far M ls i far k w f h e r =
+  -- every position is covered
+  pub all_covered : (k : ℕ) → i + 1 < length ls → k ≡ max (min far (length ls - 1)) (i + 1) → UniqueTo M ls i k →
+      IsReach M ls i far × IsLastTested M ls i k
+  all_covered k h e r = (
+    reach_far (λ le. let same : min far (length ls - 1) ≡ k = omega arith in rw same r),
     record {
       after = omega arith;
       inside = omega arith;
-      before = λ m a b. tested_before M ls i k w (omega arith) (omega arith) r m a (omega arith);
-      needed = elim (cases_order far (i + 1)) [
-        | inl same ↦ inl (omega arith)
-        | inr (inl lt) ↦ inl (omega arith)
-        | inr (inr gt) ↦ inr (needed_far M ls i far k f (omega arith) (omega arith))
+      before = λ m a b. before k m (omega arith) r (omega arith);
+      needed = elim (cases_lt (i + 1) far) [
+        | inl lt ↦ inr (needed_far k (omega arith) (omega arith))
+        | inr ge ↦ inl (omega arith)
       ];
-      last = inr (λ m n. let most = needed_most M ls i far f m n in omega arith);
-    }
+      last = inr (λ m n. omega (arith, needed_most m n));
+    },
+  )
 
--- line k does not extend the unique shortest path
-pub last_to : (M : Map) (ls : List ℕ) (i far k : ℕ) → AreJoined M ls → IsFar M ls i far
-    → i < k → k < min far (length ls - 1) → UniqueTo M ls i k → ¬ UniqueTo M ls i (k + 1) → IsLastTested M ls i (k + 1)
-last_to M ls i far k w f h g r no_more =
-    let u = f.upto in
-    record {
-      after = omega arith;
-      inside = omega arith;
-      before = λ m a b. tested_before M ls i k w h (omega arith) r m a (omega arith);
-      needed = inr (needed_far M ls i far (k + 1) f (omega arith) (omega arith));
-      last = inl (λ c. no_more (unique_of M ls i (k + 1) (k + 1) (omega arith) (omega arith) c));
-    }
+  -- line k does not extend the unique shortest path
+  pub covered_so_far : (k : ℕ) → i < k → k < min far (length ls - 1) → UniqueTo M ls i k → ¬ UniqueTo M ls i (k + 1) →
+      IsReach M ls i k × IsLastTested M ls i (k + 1)
+  covered_so_far k h g r no_more =
+      let u = f.upto in
+      let next : min (k + 1) (length ls - 1) ≡ k + 1 = omega arith in (
+        record {
+          from = omega arith;
+          upto = omega arith;
+          within = λ j a b. (before k j (omega arith) r (omega arith), f.near j a (omega arith));
+          beyond = λ j a b c. elim (cases_lt far j) [
+            | inl lt ↦ f.beyond j lt b
+            | inr ge ↦
+                absurd (no_more (unique_shorter M ls i (k + 1) (min j (length ls - 1)) w (omega arith) (omega arith)
+                (omega arith) (c (omega arith))))
+          ];
+        },
+        record {
+          after = omega arith;
+          inside = omega arith;
+          before = λ m a b. before k m (omega arith) r (omega arith);
+          needed = inr (needed_far (k + 1) (omega arith) (omega arith));
+          last = inl (λ c. no_more (rw next at (c (omega arith))));
+        },
+      )
 
 -- ---- the search
 
@@ -176,19 +145,12 @@ tests_start M m slot ls i s w h search at_source =
     record {
       search = search;
       settled = at_source ∙ ap (dm_of M) (empty_stretch ls (i + 1));
-      unique =
-          unique_start M m ls i w h;
+      unique = unique_start M m ls i w h;
     }
 
 pub stretch_longer : (M : Map) (ls : List ℕ) (p k : ℕ) → p ≤ k → k < length ls →
     dm_of M (stretch ls p (k + 1)) ≡ dm_of M (stretch ls p k) + dm M (slice_index ls k)
 stretch_longer M ls p k h g = grind (arith, stretch_last, dm_of-append)
-
--- how far it is settled to test line k
-pub settled_on : (M : Map) (ls : List ℕ) (i k old to new : ℕ) → i < k → k < length ls →
-    old ≡ dm_of M (stretch ls (i + 1) k) → to ≡ dm_of M (stretch ls (i + 1) (k + 1)) → new ≡ max old to
-    → new ≡ dm_of M (stretch ls (i + 1) (k + 1))
-settled_on M ls i k old to new h g e f n = let longer = stretch_longer M ls (i + 1) k (omega arith) g in omega arith
 
 -- the result of the test of line k, as it is read
 abbrev pub Extends : Map → (ℕ → ℕ) → Dijkstra → ℕ → Bool → Type 0
@@ -197,25 +159,15 @@ Extends M slot search line b =
     dm_of M route + dm M line ≤ limit_of search
     → (IsTrue b ↔ UniqueShortest M s (end M line) (route ++ line ∷ []))
 
-pub unique_if : (M : Map) (slot : ℕ → ℕ) (ls : List ℕ) (i k line : ℕ) (b : Bool) (s : Dijkstra) → AreJoined M ls →
-    i < k → k + 1 < length ls → line ≡ slice_index ls k → Extends M slot s line b
-    → IsSearch M slot Along ((end M (slice_index ls i), 0) ∷ []) s →
-    limit_of s ≡ dm_of M (stretch ls (i + 1) (k + 1)) → UniqueTo M ls i k → (IsTrue b ↔ UniqueTo M ls i (k + 1))
-unique_if M slot ls i k line b s w h g e f search settled r = grind (arith, stretch_longer, on_is)
-
--- if at most one line follows line i, there is nothing between
-pub reach_near_end : (M : Map) → IsMap M → (ls : List ℕ) (i far : ℕ) → AreJoined M ls → i < length ls →
-    length ls ≤ i + 2 → IsFar M ls i far → IsReach M ls i far
-reach_near_end M m ls i far w h g f =
-    record {
-      from = f.from;
-      upto = f.upto;
-      within = λ j a b. (covered j a b, f.near j a b);
-      beyond =
-          λ j a b c. f.beyond j a b;
-    }
-  where
-    covered : (j : ℕ) → i < j → j ≤ far → Covered M ls i j
-    covered j a b = λ lt.
-        let u = f.upto in
-        covered_by M ls i j (i + 1) (omega arith) (unique_start M m ls i w (omega arith)) lt
+-- the state after that test
+pub tests_on : (M : Map) (slot : ℕ → ℕ) (ls : List ℕ) (i k line to : ℕ) (b : Bool) (old new : Dijkstra) → AreJoined M ls →
+    i < k → k + 1 < length ls → line ≡ slice_index ls k → Tests M slot ls i k old
+    → IsSearch M slot Along ((end M (slice_index ls i), 0) ∷ []) new
+    → to ≡ dm_of M (stretch ls (i + 1) (k + 1)) → limit_of new ≡ max (limit_of old) to → Extends M slot new line b
+    → (limit_of new ≡ dm_of M (stretch ls (i + 1) (k + 1))) × (IsTrue b ↔ UniqueTo M ls i (k + 1))
+tests_on M slot ls i k line to b old new w h g e t search to_is limit f =
+    let before = t.settled in
+    let unique = t.unique in
+    let longer = stretch_longer M ls (i + 1) k (omega arith) (omega arith) in
+    let settled : limit_of new ≡ dm_of M (stretch ls (i + 1) (k + 1)) = omega arith in
+    (settled, grind (arith, on_is))

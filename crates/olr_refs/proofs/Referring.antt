@@ -1,17 +1,17 @@
 -- The encoding of a path, by its extension, its LRPs, its coverage queries and its reference.
 use Rattle.std.proofs.Common.{◌≡◌, ◌<◌, ◌+◌, ◌↔◌, ℕ, List, [], ◌∷◌, length, Option, Some}
-use Rattle.std.proofs.Common.{None, MatchOption, Contains, sym, ap, ◌∙◌, subst, arith, inl, inr}
+use Rattle.std.proofs.Common.{None, MatchOption, Contains, ap, ◌∙◌, arith, inl, inr}
 use Rattle.std.proofs.lemmas.Bool.{eq-eqb, and_parts, leb-true}
-use Rattle.std.specs.Prelude.{IsTrue, nat_lt, Result, IfOk, OnOk}
-use Rattle.olr_spec.specs.Map.{Map, IsMap, Agree, has_line}
+use Rattle.std.specs.Prelude.{IsTrue, Result, IfOk, OnOk}
+use Rattle.olr_spec.specs.Map.{Map, IsMap, Agree}
 use Rattle.olr_spec.specs.Routes.{dm_of}
 use Rattle.olr_spec.specs.Extension.{Path, Tried, is_path, extended_path, AreJoined}
 use Rattle.olr_spec.specs.Points.{last_position, OfPath}
 use Rattle.olr_spec.specs.Reference.{Reference, legs, reference}
 use Rattle.olr_spec.specs.Encoding.{first_unknown, first_break, path_fault, answer_by_points, Encoding, Encodes}
 use Rattle.olr_spec.specs.Footprint.{Foot}
-use Rattle.olr_spec.specs.Queries.{CoverageQuery, IsQuery, Traversed, TraversedOfExtended, QueriesOf, QueriesOfExtended}
-use Rattle.olr_spec.specs.Queries.{querying, KnownQuery, AreKnown}
+use Rattle.olr_spec.specs.Queries.{CoverageQuery, Traversed, TraversedOfExtended, QueriesOf, QueriesOfExtended}
+use Rattle.olr_spec.specs.Queries.{KnownQuery, AreKnown}
 use Rattle.olr_spec.proofs.AnswerLemmas.{path_nonempty, sound_lines, all_first, all_last, path_also}
 use Rattle.olr_spec.proofs.RunLemmas.{one_tried}
 use Rattle.olr_spec.proofs.FitLemmas.{extended_sound}
@@ -75,38 +75,23 @@ one_traversed : (M : Map) → IsMap M → (P : Path) → IsTrue (is_path P.lines
     Tried M P b a → (v : ℕ) → TraversedOfExtended M P v → Traversed M (extended_path M P b a).lines b a v
 one_traversed M m P is none b a t v traversed =
     let n = path_nonempty P.lines is in
-    let Known : ℕ → Type 0 = λ x. IsTrue (has_line M x) in
     let known = sound_lines M P none in
     let runs =
-    one_tried M m P n (all_first Known P.lines n known) (all_last Known P.lines n known) traversed.before
-    traversed.after b a
+    one_tried M m P n (all_first _ P.lines n known) (all_last _ P.lines n known) traversed.before traversed.after b a
     traversed.tried t in
-    coe 0 1 (i. Traversed M (extended_path M P (runs.0 i) (runs.1 i)).lines (runs.0 i) (runs.1 i) v) traversed.traversed
+    rw (← runs.0, ← runs.1) traversed.traversed
 
 pub traversed_of : (M : Map) → IsMap M → (P E : Path) (lead : ℕ) (F G : List ℕ) → IsTrue (is_path P.lines) → path_fault M P ≡ None
     →
     F ≡ [] → Extends M P E lead F G → (v : ℕ) → Contains G v ↔ TraversedOfExtended M P v
-traversed_of M m P E lead F G is none empty x v = (forth, back)
-  where
-    none_before : Contains F v → ⊥
-    none_before c = grind arith
-
-    forth : Contains G v → TraversedOfExtended M P v
-    forth c = elim ((x.noted v).0 c) [
-      | inl f ↦ absurd (none_before f)
-      | inr n ↦ record {
-        before = x.before;
-        after = x.after;
-        tried = x.tried;
-        traversed =
-            subst (λ (e : Path). Traversed M e.lines x.before x.after v) x.path n;
-      }
-    ]
-
-    back : TraversedOfExtended M P v → Contains G v
-    back traversed =
-        (x.noted v).1 (inr (subst (λ (e : Path). Traversed M e.lines x.before x.after v) (sym x.path)
-        (one_traversed M m P is none x.before x.after x.tried v traversed)))
+traversed_of M m P E lead F G is none empty x v =
+    let none_before : Contains F v → ⊥ = λ c. grind arith in (
+      λ c. elim ((x.noted v).0 c) [
+        | inl f ↦ absurd (none_before f)
+        | inr n ↦ record { before = x.before; after = x.after; tried = x.tried; traversed = rw x.path at n }
+      ],
+      λ t. (x.noted v).1 (inr (rw x.path (one_traversed M m P is none x.before x.after x.tried v t))),
+    )
 
 -- the coverage queries, by the extension
 pub asks_of : (M : Map) (P E : Path) (lead : ℕ) (F G : List ℕ) (given : List KnownQuery) (queries : List CoverageQuery)
@@ -144,10 +129,7 @@ searches_queried M P queries o = by (path_fault M P) o
   where
     by : (f : Option spec.Refusal) → MatchOption f (QueriesOfExtended M P queries) (λ _. queries ≡ []) →
         MatchOption f (OfPath M P (λ E _ _ js. length queries ≡ searches_of E.lines (0 ∷ js))) (λ _. length queries ≡ 0)
-    by None l =
-        let ls = (extended_path M P l.before l.after).lines in
-        path_also l (AllZip-long (IsQuery M ls) (querying ls (0 ∷ l.points)) queries l.holds
-        ∙ length-filter (λ i. nat_lt (i + 2) (length ls)) (0 ∷ l.points))
+    by None l = path_also l (AllZip-long _ _ queries l.holds ∙ length-filter _ (0 ∷ l.points))
     by (Some f) e = ap length e
 
 pub recovered_of : (M : Map) → IsMap M → (P : Path) → IsTrue (is_path P.lines) → (A : Answer) →

@@ -21,7 +21,7 @@ use Rattle.olr_spec.proofs.KnownLemmas.{lines_with, covered_unique, query_known,
 use Rattle.olr_spec.proofs.TestedLemmas.{one_last_tested}
 use Rattle.olr_refs.specs.Along.{IsFar, IsReach}
 use Rattle.olr_refs.specs.Reuse.{Reuses, known_reach}
-use Rattle.olr_refs.proofs.Reaching.{UniqueTo, reach_far, reach_to, last_far, last_to, needed_most, needed_far}
+use Rattle.olr_refs.proofs.Reaching.{UniqueTo, all_covered, covered_so_far, needed_most, needed_far}
 use Rattle.olr_refs.proofs.Stretches.{stretch_sum}
 
 -- ---- by the line where it begins
@@ -122,21 +122,17 @@ module _ (M : Map) (ls : List ℕ) (lead own : ℕ) (known : List KnownQuery) (r
         × IsLastTested M ls i (lead + e.last)
     found true t =
         let order = there.order in
-        let unique : UniqueTo M ls i (min far (length ls - 1)) = rw (← ends.1 t) (there.covered.0 t) in (
-          reach_far M ls i far joined is_far (λ h. unique),
-          rw (ends.1 t) (last_far M ls i far (min far (length ls - 1)) joined is_far some (omega arith) unique),
-        )
+        let all = ends.1 t in
+        all_covered M ls i far joined is_far (lead + e.last) some (omega arith) (there.covered.0 t)
     found false f =
         let order = there.order in
         let short = ends.0 in
         let k = lead + (e.last - 1) in
         let last : lead + e.last ≡ k + 1 = omega arith in
         let reach : lead + e.last - 1 ≡ k = omega arith in
-        let unique = there.before (e.last - 1) (omega arith) (omega arith) in
-        let no_more : ¬ UniqueTo M ls i (k + 1) = λ u. let t : e.covered ≡ true = there.covered.1 (rw last u) in cc in (
-          rw reach (reach_to M ls i far k joined is_far (omega arith) (omega arith) unique no_more),
-          rw last (last_to M ls i far k joined is_far (omega arith) (omega arith) unique no_more),
-        )
+        let no_more : ¬ UniqueTo M ls i (k + 1) = λ u. let t : e.covered ≡ true = there.covered.1 (rw last u) in cc in
+        rw (reach, last) (covered_so_far M ls i far joined is_far k (omega arith) (omega arith)
+        (there.before (e.last - 1) (omega arith) (omega arith)) no_more)
 
     pub reach_known : IsReach M ls i (known_reach lead far e)
     reach_known = (found e.covered refl).0
@@ -152,12 +148,12 @@ module _ (M : Map) (ls : List ℕ) (lead own : ℕ) (known : List KnownQuery) (r
       let begins = k.begins in
       let most : lead + e.last ≤ end = elim k.tested.needed [
         | inl is ↦ absurd (omega arith)
-        | inr n ↦ needed_most M ls i far is_far (lead + e.last) n
+        | inr n ↦ needed_most M ls i far joined is_far (lead + e.last) n
       ] in (
         most,
         λ t. elim k.tested.last [
           | inl bare ↦ absurd (bare (k.covered.0 t))
-          | inr all ↦ omega (arith, all end (needed_far M ls i far end is_far (omega arith) (omega arith)))
+          | inr all ↦ omega (arith, all end (needed_far M ls i far joined is_far end (omega arith) (omega arith)))
         ],
       )
 

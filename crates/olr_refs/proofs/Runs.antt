@@ -3,7 +3,7 @@
 use Rattle.olr_spec.proofs.RunLemmas.{EndRun-at, EndRun-front}
 use Rattle.std.proofs.lemmas.List.{reverse-reverse}
 use Rattle.std.proofs.lemmas.Bool.Decides.{nat_tests}
-use Rattle.std.proofs.Common.{◌⊎◌, inl, inr, ◌≡◌, ◌≢◌, ℕ, ◌+◌, ◌<◌, ◌≤◌, ◌==◌, Bool, not, true, false, List, [], ◌∷◌, ◌++◌}
+use Rattle.std.proofs.Common.{◌⊎◌, ◌≡◌, ◌≢◌, ℕ, ◌+◌, ◌<◌, ◌≤◌, ◌==◌, Bool, not, true, false, List, [], ◌∷◌, ◌++◌}
 use Rattle.std.proofs.Common.{length, map, reverse, Option, Some, None, MatchOption, is_some, IsTrue, refl, sym, ap, ◌∙◌, subst}
 use Rattle.std.proofs.Common.{arith, append_assoc, append-nil}
 use Rattle.std.specs.Prelude.{⊤}
@@ -13,7 +13,7 @@ use Rattle.std.proofs.lemmas.List.Folds.{list_any-append}
 use Rattle.std.proofs.lemmas.List.Sorted.{IsPermutation-reverse, list_any-IsPermutation}
 use Rattle.olr_spec.specs.Map.{Map, has_line, dm, has}
 use Rattle.olr_spec.specs.Routes.{dm_of}
-use Rattle.olr_spec.specs.Extension.{first, last, passing, limit, MayPrecede, MayFollow, StartRun, EndRun}
+use Rattle.olr_spec.specs.Extension.{last, limit, MayPrecede, MayFollow, StartRun, EndRun}
 use Rattle.olr_spec.proofs.RunLemmas.{same_start_run, same_end_run, last_push}
 use Rattle.olr_spec.proofs.RunMoves.{EndRun-push}
 use Rattle.olr_spec.proofs.DecideLemmas.{last_of_list}
@@ -32,30 +32,16 @@ module _ (M : Map) where
   another : (d : Direction) (z x : ℕ) → LeadsOn M d z x → z ≢ x
   another d z x p is = p.onward (ap (far_end M d) (sym is) ∙ sym p.joins ∙ ap (near_end M d) (sym is))
 
-  may_follow : (ls : List ℕ) (x : ℕ) → LeadsOn M Along (last ls) x → has ls x ≡ false → MayFollow M ls x
-  may_follow ls x p h = record { known = p.known; joins = p.joins; through = p.through; onward = p.onward; fresh = h }
-
-  may_precede : (ls : List ℕ) (x : ℕ) → LeadsOn M Against (first ls) x → has ls x ≡ false → MayPrecede M x ls
-  may_precede ls x p h = record { known = p.known; joins = p.joins; through = p.through; onward = p.onward; fresh = h }
-
-  follows : (ls : List ℕ) (x : ℕ) → MayFollow M ls x → LeadsOn M Along (last ls) x
-  follows ls x p = record { known = p.known; joins = p.joins; through = p.through; onward = p.onward }
-
-  precedes : (ls : List ℕ) (x : ℕ) → MayPrecede M x ls → LeadsOn M Against (first ls) x
-  precedes ls x p = record { known = p.known; joins = p.joins; through = p.through; onward = p.onward }
-
   not_it : (d : Direction) (z x : ℕ) → LeadsOn M d z x → has (z ∷ []) x ≡ false
   not_it d z x p = or_from _ _ (ne_eqb z x (another d z x p)) refl
 
   pub one_on : (d : Direction) (z x y : ℕ) → IsTrue (has_line M z) → LeadsOn M d z x → LeadsOn M d z y → x ≡ y
   one_on Along z x y k p q =
-      let same : x ∷ [] ≡ y ∷ [] =
-      same_end_run M (z ∷ []) (x ∷ []) (y ∷ []) k (may_follow (z ∷ []) x p (not_it Along z x p), tt)
-      (may_follow (z ∷ []) y q (not_it Along z y q), tt) refl in cc
+      let run : (v : ℕ) → LeadsOn M Along z v → MayFollow M (z ∷ []) v = λ v r. grind (arith, not_it) in
+      let same : x ∷ [] ≡ y ∷ [] = same_end_run M (z ∷ []) _ _ k (run x p, tt) (run y q, tt) refl in cc
   one_on Against z x y k p q =
-      let same : x ∷ [] ≡ y ∷ [] =
-      same_start_run M (z ∷ []) (x ∷ []) (y ∷ []) k (may_precede (z ∷ []) x p (not_it Against z x p), tt)
-      (may_precede (z ∷ []) y q (not_it Against z y q), tt) refl in cc
+      let run : (v : ℕ) → LeadsOn M Against z v → MayPrecede M v (z ∷ []) = λ v r. grind (arith, not_it) in
+      let same : x ∷ [] ≡ y ∷ [] = same_start_run M (z ∷ []) _ _ k (run x p, tt) (run y q, tt) refl in cc
 
   -- and seen from that line
   one_from : (d : Direction) (y z x : ℕ) → IsTrue (has_line M y) → IsTrue (has_line M z) → LeadsOn M d y x →
@@ -154,26 +140,22 @@ dm_of-in_order M v1 c = grind (arith, dm_of-reverse)
 tip_is : (d : Direction) (ls c : List ℕ) → outermost d (joined d ls (in_order d c)) ≡ tip d ls c
 tip_is Along ls [] = ap last (append-nil ls)
 tip_is Along ls (x ∷ c) =
-    ap (λ (zs : List ℕ). last (ls ++ zs)) (pushed x c) ∙ ap last (sym (append_assoc ls (reverse c) (x ∷ [])))
-    ∙ last_push (ls ++ reverse c) x
-tip_is Against ls [] = refl
-tip_is Against ls (x ∷ c) = refl
+    rw (pushed x c, ← append_assoc ls (reverse c) (x ∷ [])) (last_push (ls ++ reverse c) x)
+tip_is Against ls c = grind arith
 
 module _ (M : Map) (ls : List ℕ) where
   start_run : (c : List ℕ) → Chain M Against ls c → StartRun M c ls
   start_run [] p = tt
-  start_run (x ∷ c) p = grind (arith, may_precede, tip_is, list_any-append, or_from, start_run c p.3)
+  start_run (x ∷ c) p = grind (arith, tip_is, list_any-append, or_from, start_run c p.3)
 
   end_run : (c : List ℕ) → Chain M Along ls c → EndRun M ls (reverse c)
   end_run [] p = tt
-  end_run (x ∷ c) p =
-      subst (EndRun M ls) (sym (pushed x c)) (EndRun-push M ls (reverse c) x (end_run c p.3)
-      (may_follow M (ls ++ reverse c) x (subst (λ (z : ℕ). LeadsOn M Along z x) (sym (tip_is Along ls c)) p.0)
-      (list_any-append (λ y. y == x) ls (reverse c) ∙ or_from _ _ p.1 (has-reverse c x ∙ p.2))))
+  end_run (x ∷ c) p = rw (pushed x c) (EndRun-push M ls (reverse c) x (end_run c p.3)
+      (grind (arith, tip_is Along ls c, list_any-append, or_from, has-reverse)))
 
   of_start : (c : List ℕ) → StartRun M c ls → Chain M Against ls c
   of_start [] p = tt
-  of_start (x ∷ c) p = grind (arith, or_parts, list_any-append, fresh, tip_is, precedes, of_start c p.1)
+  of_start (x ∷ c) p = grind (arith, or_parts, list_any-append, tip_is, of_start c p.1)
 
   of_end : (c : List ℕ) → EndRun M ls (reverse c) → Chain M Along ls c
   of_end [] p = tt
@@ -229,9 +211,8 @@ module _ (M : Map) (d : Direction) (ls : List ℕ) (some : 0 < length ls) (known
           longest = subst (IsLongest M d ls) (sym (ids-in_order d rs)) (longest M d ls (ids rs) grows.chain (omega arith)
               (no_longer M d ls some known (ids rs) grows.chain (stops line grows.beyond.next none)));
           are = records-in_order M d rs grows.are;
-          long = grows.long ∙ sym (ap (dm_of M) (ids-in_order d rs) ∙ dm_of-in_order M d (ids rs));
-          leads = ap not (grows.beyond.node ∙ ap (λ (z : ℕ). passing M (far_end M d z))
-              (sym (ap (λ (c : List ℕ). outermost d (joined d ls c)) (ids-in_order d rs) ∙ tip_is d ls (ids rs))));
+          long = rw (ids-in_order d rs, dm_of-in_order M d (ids rs)) grows.long;
+          leads = rw (ids-in_order d rs, tip_is d ls (ids rs)) (ap not grows.beyond.node);
         }
       where
         stops : (line : Option ℕ) → MatchOption line ((x : ℕ) → ¬ LeadsOn M d (tip d ls (ids rs)) x)
@@ -239,13 +220,8 @@ module _ (M : Map) (d : Direction) (ls : List ℕ) (some : 0 < length ls) (known
             (x : ℕ) → LeadsOn M d (tip d ls (ids rs)) x → (has ls x ≡ true) ⊎ (limit < dm_of M (ids rs) + dm M x)
         stops None next off x p = absurd (next x p)
         stops (Some y) next off x p =
-            let is : y ≡ x =
-            one_on M d (tip d ls (ids rs)) y x (tip_known M d ls some known (ids rs) grows.chain) next p in
-            let e = grows.long in
-            subst (λ (n : ℕ). (has ls n ≡ true) ⊎ (limit < dm_of M (ids rs) + dm M n)) is (elim off [
-              | inl h ↦ inl (sym (same y) ∙ h)
-              | inr far ↦ inr (omega arith)
-            ])
+            let is = one_on M d (tip d ls (ids rs)) y x (tip_known M d ls some known (ids rs) grows.chain) next p in
+            grind (arith, grows.long, same y)
 
 -- if no line leads on, no run does
 pub none_beyond : (M : Map) (d : Direction) (ls : List ℕ) → 0 < length ls → IsTrue (has_line M (outermost d ls)) →

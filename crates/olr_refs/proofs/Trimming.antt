@@ -28,10 +28,6 @@ linked_at M ls (p ∷ []) l k h = absurd (omega arith)
 linked_at M ls (p ∷ q ∷ ps) l zero h = l.0
 linked_at M ls (p ∷ q ∷ ps) l (suc k) h = grind (arith, linked_at M ls (q ∷ ps) l.1 k (omega arith))
 
-pub points_linked : (M : Map) (ls ps : List ℕ) → ArePoints M ls ps → AreLinked M ls ps
-points_linked M ls ps a =
-    subst (AreLinked M ls) (sym a.from_start) (linked_at M ls (0 ∷ later ps) (follow_linked M ls 0 (later ps) a.follow))
-
 -- the last two
 pub linked_end : (M : Map) (ls ps : List ℕ) → AreLinked M ls ps → 2 ≤ length ps →
     Candidate M ls (slice_index ps (length ps - 1 - 1)) (slice_index ps (length ps - 1))
@@ -49,9 +45,6 @@ last_index i (j ∷ js) = last_index j js
 -- the last of them is the end
 pub points_end : (M : Map) (ls ps : List ℕ) → ArePoints M ls ps → slice_index ps (length ps - 1) ≡ length ls
 points_end M ls ps a = grind (arith, common_steps, nat_tests, last_index)
-
-pub points_some : (M : Map) (ls ps : List ℕ) → ArePoints M ls ps → 0 < length ps
-points_some M ls ps a = grind arith
 
 -- lines with a length are some
 pub some_lines : (M : Map) (ls : List ℕ) (n : ℕ) → n < dm_of M ls → 0 < length ls
@@ -102,14 +95,11 @@ first_where_at p d (x ∷ xs) (suc a) h t f =
 
 module _ (M : Map) (ls ds ps : List ℕ) (d : AreDistances M ls ds) (p : ArePoints M ls ps) where
   linked : AreLinked M ls ps
-  linked = points_linked M ls ps p
+  linked =
+      subst (AreLinked M ls) (sym p.from_start) (linked_at M ls (0 ∷ later ps) (follow_linked M ls 0 (later ps) p.follow))
 
   not_above : (j k : ℕ) → j ≤ k → k < length ps → slice_index ps j ≤ slice_index ps k
-  not_above j k h g =
-      elim (cases_eq j k) [
-        | inl e ↦ let same = ap (slice_index ps) e in omega arith
-        | inr ne ↦ let less = linked_less M ls ps linked j k (omega arith) g in omega arith
-      ]
+  not_above j k h g = grind (arith, cases_eq j k, linked_less M ls ps linked j k)
 
   upto : (k : ℕ) → k < length ps → slice_index ps k ≤ length ls
   upto k h = grind (arith, points_end, not_above)
@@ -126,7 +116,7 @@ module _ (M : Map) (ls ds ps : List ℕ) (d : AreDistances M ls ds) (p : ArePoin
   pub points_along : AreAlong ds ps
   points_along =
       record {
-        some = points_some M ls ps p;
+        some = let e = p.from_start in grind arith;
         start = ap (λ (qs : List ℕ). distance_at ds qs 0) p.from_start ∙ d.each 0 (omega arith);
         end = ap (slice_index ds) (points_end M ls ps p) ∙ sym last_distance;
         within = λ k h. let u = upto k h in let long = d.long in omega arith;
@@ -192,46 +182,29 @@ trimmed M ls ds ps positive negative ks pos_left neg_left d p r less =
     let b = r.last in
     let f = r.is_first in
     let l = r.is_last in
-    let within = l.within in
-    let near = f.near in
-    let near_end = l.near in
-    let pos_cut = r.pos_cut in
-    let neg_cut = r.neg_cut in
     let total = whole_is M ls ds ps d p in
     let two : a < b =
     elim (cases_lt a b) [
       | inl lt ↦ lt
-      | inr ge ↦ let order = ascend M ls ds ps d p b a ge f.within in
-          absurd (omega arith)
+      | inr ge ↦ absurd (omega (arith, ascend M ls ds ps d p b a ge f.within, f.near, l.near))
     ] in
     let first = first_is M ls ds ps d p positive a f in
     let last = last_is M ls ds ps d p negative b l in
+    let within = l.within in
     let long : length ks ≡ b + 1 - a =
     ap length r.range ∙ omega (arith, length-take (b + 1 - a) (drop a ps), length-drop a ps) in
-    let at : (k n : ℕ) → a + k ≡ n → n ≤ b → slice_index ks k ≡ slice_index ps n = λ k n e h.
-    ap (λ (qs : List ℕ). slice_index qs k) r.range ∙ get_or-take (b + 1 - a) (drop a ps) k 0 (omega arith)
-    ∙ get_or-drop a ps k 0 ∙ ap (slice_index ps) e in
-    let start : distance_at ds ks 0 ≡ distance_at ds ps a = ap (slice_index ds) (at 0 a (omega arith) (omega arith)) in
-    let next : distance_at ds ks 1 ≡ distance_at ds ps (a + 1) =
-    ap (slice_index ds) (at 1 (a + 1) refl (omega arith)) in
-    let end : distance_at ds ks (length ks - 1) ≡ distance_at ds ps b =
-    ap (slice_index ds) (at (length ks - 1) b (omega arith) (omega arith)) in
-    let before : distance_at ds ks (length ks - 1 - 1) ≡ distance_at ds ps (b - 1) =
-    ap (slice_index ds) (at (length ks - 1 - 1) (b - 1) (omega arith) (omega arith)) in
-    let next_left = f.next (omega arith) in
-    let before_left = l.before (omega arith) in
+    let at : (k n : ℕ) → a + k ≡ n → n ≤ b → distance_at ds ks k ≡ distance_at ds ps n = λ k n e h.
+    ap (slice_index ds) (ap (λ (qs : List ℕ). slice_index qs k) r.range
+    ∙ get_or-take (b + 1 - a) (drop a ps) k 0 (omega arith) ∙ get_or-drop a ps k 0 ∙ ap (slice_index ps) e) in
     let kept_is : ks ≡ kept_points (legs M ls) positive negative (later ps) =
     r.range ∙ sym (range_is M ls ds ps d p a b (omega arith) within)
     ∙ (λ i. filter (between (first i) (last i)) (p.from_start i)) in
-    let front_cut = ap (from_front (legs M ls)) first in
-    let front_at = front M ls ds ps d p (slice_index ps a) (upto M ls ds ps d p a f.within) in
-    let back_cut = ap (to_back (legs M ls)) last in
-    let back_at = back M ls ds ps d p (slice_index ps b) (upto M ls ds ps d p b within) in
     let pos_is : pos_left ≡ positive - from_front (legs M ls) (first_kept (legs M ls) positive (later ps)) =
-    omega arith in
-    let neg_is : neg_left ≡ negative - to_back (legs M ls) (last_kept (legs M ls) negative (later ps)) = omega arith in
+    rw (← first, front M ls ds ps d p _ (upto M ls ds ps d p a f.within)) (omega (arith, r.pos_cut)) in
+    let neg_is : neg_left ≡ negative - to_back (legs M ls) (last_kept (legs M ls) negative (later ps)) =
+    rw (← last) (omega (arith, r.neg_cut, back M ls ds ps d p _ (upto M ls ds ps d p b within))) in
     let linked : AreLinked M ls ks =
-    subst (AreLinked M ls) (sym kept_is) (linked_at M ls _
+    rw kept_is (linked_at M ls _
     (kept_linked M ls (first_kept (legs M ls) positive (later ps)) (last_kept (legs M ls) negative (later ps))
     (0 ∷ later ps) (follow_linked M ls 0 (later ps) p.follow))) in
     -- the length of a leg, by the distances of its ends
@@ -239,16 +212,30 @@ trimmed M ls ds ps positive negative ks pos_left neg_left d p r less =
     λ i j c.
     let after = c.after in
     let upto = c.upto in
-    let here = front M ls ds ps d p i (omega arith) in
-    let there = front M ls ds ps d p j upto in
-    let sum = from_front-add (legs M ls) i j (omega arith) in
-    omega arith in
-    let first_leg = leg_is _ _ (linked 0 (omega arith)) in
-    let last_leg = leg_is _ _ (linked_end M ls ks linked (omega arith)) in
+    omega (
+      arith,
+      front M ls ds ps d p i (omega arith),
+      front M ls ds ps d p j upto,
+      from_front-add (legs M ls) i j (omega arith),
+    ) in
     record {
       two = omega arith;
       linked = linked;
-      pos_within = omega arith;
-      neg_within = omega arith;
+      pos_within = omega (
+        arith,
+        f.next (omega arith),
+        r.pos_cut,
+        leg_is _ _ (linked 0 (omega arith)),
+        at 0 a (omega arith) (omega arith),
+        at 1 (a + 1) refl (omega arith),
+      );
+      neg_within = omega (
+        arith,
+        l.before (omega arith),
+        r.neg_cut,
+        leg_is _ _ (linked_end M ls ks linked (omega arith)),
+        at (length ks - 1) b (omega arith) (omega arith),
+        at (length ks - 1 - 1) (b - 1) (omega arith) (omega arith),
+      );
       value = λ i. reference_by (legs M ls) (pos_is i) (neg_is i) (kept_is i);
     }

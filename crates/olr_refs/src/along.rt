@@ -108,6 +108,7 @@ pub fn coord_of<M: MapRead>(map: &M, node: NodeId) -> Coord
 }
 
 /// The distance of each position from the start, in decimetres. 128 bits suffice for any list of lines.
+#[tactic(auto, using(crate::proofs::Resolving::records_length, crate::proofs::Resolving::record_at, crate::proofs::Joined::longer_by, crate::proofs::Joined::one_more))]
 pub fn distances(alloc: Global, records: &[ResolvedLine]) -> Result<Vec<u128>, AllocError>
     ensures { IfOk result (λ distances. (M : Map) (ls : List ℕ) → records.now ≡ records_of M ls
         → AreDistances M ls distances.items) }

@@ -181,6 +181,7 @@ fn encode_whole<M: MapRead>(
 }
 
 /// The answer of an extended path, by its LRPs, and the coverage queries.
+#[tactic(auto, using(crate::proofs::Referring::points_answer))]
 fn encode_along<M: MapRead>(
     alloc: Global,
     map: &M,
@@ -215,6 +216,7 @@ fn encode_along<M: MapRead>(
 }
 
 /// The answer by the chosen LRPs. The two offsets, in decimetres, are together less than the length of the lines.
+#[tactic(auto, using(crate::proofs::Referring::points_answer))]
 fn answer_by<M: MapRead>(
     alloc: Global,
     resolved: &ResolvedPath<M>,

@@ -39,6 +39,7 @@ pub fn own_lines<M: MapRead>(
 }
 
 /// The index of the first line that does not end where the next one begins.
+#[tactic(auto, using(crate::proofs::Resolving::records_length, crate::proofs::Resolving::record_at, crate::proofs::Faulting::no_break_at, crate::proofs::Faulting::break_at, crate::proofs::Faulting::no_break_left))]
 fn first_break(records: &[ResolvedLine]) -> Option<usize>
     ensures { (M : Map) (ls : List ℕ) → records.now ≡ records_of M ls → result ≡ first_break M 0 ls }
 {

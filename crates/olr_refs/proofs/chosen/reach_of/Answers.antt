@@ -6,9 +6,9 @@ use Rattle.olr_refs.proofs.chosen.reach_of.Goals as goal
 
 pub returns-then-resolved-i-le2-clause-reach : goal.returns-then-resolved-i-le2-clause-reach
 returns-then-resolved-i-le2-clause-reach g c =
-    let M = g.M.MapRead.map c.args.resolved.now.map.now in
-    reach_near_end M (g.met.M.MapRead.sound c.args.resolved.now.map.now) c.args.resolved.now.lines.now c.args.i
-    c.last_within_limit.result c.args.resolved.now.joined c.requires.some (omega arith) c.last_within_limit.ensures
+    reach_near_end (g.M.MapRead.map c.args.resolved.now.map.now) c.args.resolved.now.lines.now c.args.i
+    c.last_within_limit.result c.args.resolved.now.joined c.last_within_limit.ensures
+    (g.met.M.MapRead.sound c.args.resolved.now.map.now) c.requires.some (omega arith)
 
 pub returns-then-resolved-i-le2-clause-asks : goal.returns-then-resolved-i-le2-clause-asks
 returns-then-resolved-i-le2-clause-asks g c = record {

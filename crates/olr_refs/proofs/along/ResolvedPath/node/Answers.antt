@@ -1,7 +1,4 @@
-use Rattle.std.proofs.Common.{◌≡◌, sym, ap, ◌∙◌, arith}
-use Rattle.std.specs.List.{slice_index}
-use Rattle.olr_spec.specs.Map.{start}
-use Rattle.olr_spec.specs.Points.{node_at}
+use Rattle.std.proofs.Common.{ap, ◌∙◌, arith}
 use Rattle.std.proofs.lemmas.Bool.Decides.{nat_tests}
 use Rattle.olr_refs.specs.ResolvedLines.{ResolvedLine}
 use Rattle.olr_spec.proofs.ListLemmas.{last_index}
@@ -9,20 +6,15 @@ use Rattle.olr_refs.proofs.Joined.{known_at, start_known}
 use Rattle.olr_refs.proofs.Resolving.{record_at, records_length}
 use Rattle.olr_refs.proofs.along.ResolvedPath.node.Goals as goal
 
-pub returns-then-k-self : goal.returns-then-k-self
-returns-then-k-self g c =
+pub returns-then-k-self-clause-known : goal.returns-then-k-self-clause-known
+returns-then-k-self-clause-known g c =
     let M = g.M.MapRead.map c.args.self.now.map.now in
     let ls = c.args.self.now.lines.now in
     let long = records_length M ls _ c.args.self.now.resolved in
-    let at =
-    ap (λ (r : ResolvedLine). r.from)
-    (c.record.view_is ∙ record_at M ls _ c.args.k _ c.args.self.now.resolved (omega arith)) in
-    let is : node_at M ls c.args.k ≡ start M (slice_index ls c.args.k) = grind (arith, nat_tests) in
-    record {
-      value = at ∙ sym is;
-      known = start_known M (g.met.M.MapRead.sound c.args.self.now.map.now) _ _
-          (known_at M ls c.args.k c.args.self.now.joined (omega arith)) at;
-    }
+    start_known M (g.met.M.MapRead.sound c.args.self.now.map.now) _ _
+    (known_at M ls c.args.k c.args.self.now.joined (omega arith))
+    (ap (λ (r : ResolvedLine). r.from)
+    (c.record.view_is ∙ record_at M ls _ c.args.k _ c.args.self.now.resolved (omega arith)))
 
 pub returns-else-k-self-clause-value : goal.returns-else-k-self-clause-value
 returns-else-k-self-clause-value g c = grind (arith, records_length, nat_tests, last_index)
