@@ -104,6 +104,5 @@ module _ (M : Map) (P : Path) (good : IsTrue (is_path P.lines)) (unknown : first
             path = λ i. record { lines = lines_are i; pos = pos_is i; neg = neg_is i };
             leads = leads ∙ sym (length-map (cond before_valid before []) (λ (r : ResolvedLine). r.id))
                 ∙ ap (λ (ls : List ℕ). length ls) start_is;
-            noted = subst (λ (ls : List ℕ). (v : ℕ) → Contains G v ↔ (Contains F v ⊎ (NodeOf M ls v
-                ⊎ (NodeOf M (ids before) v ⊎ NodeOf M (ids after) v)))) (sym lines) noted;
+            noted = rw lines noted;
           }

@@ -2,7 +2,7 @@
 use Rattle.olr_refs.proofs.Stretches.{stretch_sum}
 use Rattle.std.proofs.lemmas.Bool.{cases_lt}
 use Rattle.std.proofs.Common.{◌≡◌, ◌<◌, ◌≤◌, ◌-◌, ◌+◌, ℕ, min, max, Bool, List, [], ◌∷◌, ◌++◌, length}
-use Rattle.std.proofs.Common.{take, drop, ap, ◌∙◌, subst, arith, inl, inr}
+use Rattle.std.proofs.Common.{take, drop, ap, ◌∙◌, arith, inl, inr}
 use Rattle.std.proofs.lemmas.Bool.{cases_order}
 use Rattle.std.specs.Prelude.{IsTrue, ◌↔◌}
 use Rattle.std.specs.List.{slice_index}
@@ -30,10 +30,7 @@ empty_stretch ls p = let e : 0 ≡ p - p = omega arith in ap (λ (n : ℕ). take
 pub unique_start : (M : Map) → IsMap M → (ls : List ℕ) (i : ℕ) → AreJoined M ls → i + 1 < length ls →
     UniqueTo M ls i (i + 1)
 unique_start M m ls i w h =
-    let s = end M (slice_index ls i) in
-    let there : UniqueShortest M s (start M (slice_index ls (i + 1))) [] =
-    subst (λ (t : ℕ). UniqueShortest M s t []) (next_start M _ _ ls i w h) (empty_unique M m s) in
-    subst (UniqueShortest M s (start M (slice_index ls (i + 1)))) (empty_stretch ls (i + 1)) there
+    rw (← empty_stretch ls (i + 1), ← next_start M _ _ ls i w h) (empty_unique M m (end M (slice_index ls i)))
 
 -- with line k, as far as the start of the line after it
 on_is : (M : Map) (ls : List ℕ) (i k : ℕ) → AreJoined M ls → i < k → k + 1 < length ls →

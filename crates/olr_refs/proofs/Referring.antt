@@ -3,19 +3,17 @@ use Rattle.std.proofs.Common.{◌≡◌, ◌<◌, ◌+◌, ◌↔◌, ℕ, List,
 use Rattle.std.proofs.Common.{None, MatchOption, Contains, ap, ◌∙◌, arith, inl, inr}
 use Rattle.std.proofs.lemmas.Bool.{eq-eqb, and_parts, leb-true}
 use Rattle.std.specs.Prelude.{IsTrue, Result, IfOk, OnOk}
-use Rattle.olr_spec.specs.Map.{Map, IsMap, Agree}
+use Rattle.olr_spec.specs.Map.{Map, IsMap}
 use Rattle.olr_spec.specs.Routes.{dm_of}
 use Rattle.olr_spec.specs.Extension.{Path, Tried, is_path, extended_path, AreJoined}
 use Rattle.olr_spec.specs.Points.{last_position, OfPath}
 use Rattle.olr_spec.specs.Reference.{Reference, legs, reference}
 use Rattle.olr_spec.specs.Encoding.{first_unknown, first_break, path_fault, answer_by_points, Encoding, Encodes}
-use Rattle.olr_spec.specs.Footprint.{Foot}
 use Rattle.olr_spec.specs.Queries.{CoverageQuery, Traversed, TraversedOfExtended, QueriesOf, QueriesOfExtended}
 use Rattle.olr_spec.specs.Queries.{KnownQuery, AreKnown}
 use Rattle.olr_spec.proofs.AnswerLemmas.{path_nonempty, sound_lines, all_first, all_last, path_also}
 use Rattle.olr_spec.proofs.RunLemmas.{one_tried}
 use Rattle.olr_spec.proofs.FitLemmas.{extended_sound}
-use Rattle.olr_spec.proofs.LocalLemmas.{local_answer}
 use Rattle.olr_answers.specs.declared.answer.Answer.{Answer}
 use Rattle.olr_answers.specs.declared.answer.Answer.TheVariants.{Points, Refused}
 use Rattle.olr_refs.specs.Choice.{ForPoints, searches_of}
@@ -105,14 +103,6 @@ pub whole_reuses : (M : Map) (P E : Path) (lead : ℕ) (F G : List ℕ) (known :
     IsTrue (is_path P.lines) → Extends M P E lead F G → AreKnown M P.lines known →
     Reuses M E.lines lead (length P.lines) known
 whole_reuses M P E lead F G known is x are = grind (arith, and_parts, leb-true)
-
--- ---- by the path's fault
-
-pub local_by : (M : Map) → IsMap M → (P : Path) → IsTrue (is_path P.lines) → (A : spec.Answer) (H : List ℕ) →
-    Encodes M P A → ((v : ℕ) → (Contains H v) ↔ Foot M P v)
-    → (N : Map) → IsMap N → Agree M N P.lines (Contains H) → Encodes N P A
-local_by M m P is A H e f N n g =
-    local_answer M N m n P is record { nodes = λ v h. g.nodes v ((f v).1 h); lines = g.lines } A e
 
 -- ---- where a result is a success
 

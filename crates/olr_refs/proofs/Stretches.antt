@@ -31,14 +31,17 @@ distances_rise M ls ds d j k h g = let l = d.long in let e = dm_stretch M ls ds 
 
 pub far_of : (M : Map) (ls ds : List ℕ) (i k : ℕ) → AreDistances M ls ds → IsLastWithinLimit ds i k → IsFar M ls i k
 far_of M ls ds i k d f =
-    let l = d.long in
+    let long = d.long in
+    let from = f.from in
+    let upto = f.upto in
     record {
-      from = f.from;
-      upto = let u = f.upto in omega arith;
-      near = λ j a b.
-          let u = f.upto in let near = f.near in
-          let whole = dm_stretch M ls ds i k d f.from (omega arith) in
-          let part = stretch_sum M ls i j k (omega arith) b in omega arith;
-      beyond = λ j a b. let far = f.beyond j a (omega arith) in let from = f.from in let e =
-          dm_stretch M ls ds i j d (omega arith) b in omega arith;
+      from = from;
+      upto = omega arith;
+      near = λ j a b. omega (
+        arith,
+        f.near,
+        dm_stretch M ls ds i k d from (omega arith),
+        stretch_sum M ls i j k (omega arith) b,
+      );
+      beyond = λ j a b. omega (arith, f.beyond j a (omega arith), dm_stretch M ls ds i j d (omega arith) b);
     }

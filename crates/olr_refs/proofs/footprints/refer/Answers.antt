@@ -5,7 +5,8 @@ use Rattle.olr_spec.proofs.KnownLemmas.{all_searched}
 use Rattle.olr_refs.specs.Choice.{Notes, SeenBy, SettledBy, raised_count}
 use Rattle.olr_refs.proofs.Asking.{searched_all}
 use Rattle.olr_answers.specs.Answers.{answer_of}
-use Rattle.olr_refs.proofs.Referring.{recovered_of, local_by, searches_queried}
+use Rattle.olr_refs.proofs.Referring.{recovered_of, searches_queried}
+use Rattle.olr_spec.proofs.LocalLemmas.{local_answer}
 use Rattle.olr_refs.proofs.Noting.{noted_foot}
 use Rattle.olr_refs.proofs.footprints.refer.Goals as goal
 
@@ -26,10 +27,11 @@ returns-clause-footprint g c =
     c.in_ok-footprint.ensures
 
 pub returns-clause-local : goal.returns-clause-local
-returns-clause-local g c =
-    local_by (g.M.MapRead.map c.args.map.now) (g.met.M.MapRead.sound c.args.map.now) c.args.path.now
-    c.encode_noting.ensures.path (answer_of c.in_ok-encoding.encoding.answer) c.in_ok-footprint.footprint
-    c.in_ok-encoding.ensures.answer (returns-clause-footprint g c)
+returns-clause-local g c = λ N n a.
+    local_answer (g.M.MapRead.map c.args.map.now) N (g.met.M.MapRead.sound c.args.map.now) n c.args.path.now
+    c.encode_noting.ensures.path
+    (record { nodes = λ v h. a.nodes v ((returns-clause-footprint g c v).1 h); lines = a.lines })
+    (answer_of c.in_ok-encoding.encoding.answer) c.in_ok-encoding.ensures.answer
 
 pub returns-clause-searches : goal.returns-clause-searches
 returns-clause-searches g c = (
