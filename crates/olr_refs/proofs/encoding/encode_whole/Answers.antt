@@ -1,16 +1,6 @@
 use Rattle.std.proofs.Common.{arith}
-use Rattle.olr_refs.proofs.Referring.{whole_joined, whole_short, encoding_of, joins_of, traversed_of, asks_of}
-use Rattle.olr_refs.proofs.Referring.{whole_reuses}
+use Rattle.olr_refs.proofs.Referring.{encoding_of, joins_of, traversed_of}
 use Rattle.olr_refs.proofs.encoding.encode_whole.Goals as goal
-
-pub encode_along-requires-clause-joined : goal.encode_along-requires-clause-joined
-encode_along-requires-clause-joined g c = grind (arith, whole_joined)
-
-pub encode_along-requires-clause-short : goal.encode_along-requires-clause-short
-encode_along-requires-clause-short g c = grind (arith, whole_short)
-
-pub encode_along-requires-clause-reuse : goal.encode_along-requires-clause-reuse
-encode_along-requires-clause-reuse g c = grind (arith, whole_reuses)
 
 pub returns-clause-answer : goal.returns-clause-answer
 returns-clause-answer g c = grind (arith, encoding_of)
@@ -23,6 +13,3 @@ returns-clause-traversed g c =
     traversed_of (g.M.MapRead.map c.args.map.now) (g.met.M.MapRead.sound c.args.map.now) c.args.path.now
     c.in_ok-extended.extended.path _ _ _ c.requires.path c.requires.sound c.new-traversed.ensures
     c.in_ok-extended.ensures.ok
-
-pub returns-clause-asks : goal.returns-clause-asks
-returns-clause-asks g c = grind (arith, asks_of)
