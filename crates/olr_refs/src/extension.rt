@@ -52,6 +52,7 @@ impl Model for Extended {
 /// both tried runs to the footprint, and no others. If an allocation fails, the footprint is unchanged.
 ///
 /// `own` are the path's own lines as the map has them.
+#[tactic(auto, using(crate::proofs::Extending::own_some, crate::proofs::Extending::own_first, crate::proofs::Resolving::are_records, crate::proofs::Extending::front_some, crate::proofs::Extending::front_last, crate::proofs::Extending::front_records))]
 pub fn extend<M: MapRead>(
     alloc: Global,
     map: &M,
