@@ -19,7 +19,7 @@ use Rattle.olr_commands.specs.State.{Named, Content, path_named, same_name, AreP
 use Rattle.olr_commands.specs.State.{Fault, No_path, Batch_full, Count_differs, Change, with_change, next}
 use Rattle.olr_commands.specs.State.{after, Command, Make, Show, Report, Explain, Begin, Commit, Abort, State}
 use Rattle.olr_commands.specs.State.{start_state, full, at_once, into_batch, text_fault, step}
-use Rattle.olr_commands.specs.State.{changes_made, HasCoords, IsState, is_recordable, Not_a_record, Dump}
+use Rattle.olr_commands.specs.State.{changes_made, changes_made_in, HasCoords, IsState, is_recordable, Not_a_record, Dump}
 use Rattle.olr_commands.specs.Dump.{dump_lines}
 use Rattle.olr_commands.specs.Reply.{Entry, entry, Paths, HasAnswer, Published, ChangedOf, Differences, IsReply}
 use Rattle.olr_commands.specs.Reply.{Outcome, IsOutcome, Dumped}
@@ -27,49 +27,20 @@ use Rattle.olr_commands.specs.History.{Run, History, AllHaveCoords, next_state, 
 use Rattle.olr_commands.specs.History.{IsPublished, names, NamesChanged, reports, IsNamed, IsRefused, Headline}
 use Rattle.olr_commands.specs.History.{IsDump, IsDumped}
 use Rattle.olr_commands.proofs.NameLemmas.{same_is}
-use Rattle.olr_commands.proofs.StateLemmas.{when_ok, accepted, passed, explain, next_ok, after_append, steps_keep}
+use Rattle.olr_commands.proofs.StateLemmas.{Ends, ends, when_ok, accepted, next_ok, after_append, steps_keep}
 use Rattle.olr_commands.proofs.ReplyLemmas.{named_path}
 use Rattle.olr_commands.proofs.DumpLemmas.{dumps_run}
 
 -- ---- the content
 
-abbrev Still : Content → State → Type 0
-Still c t = t.content ≡ c
-
 -- the changes that an accepted command applies make the new content
 brings : (s t : State) (c : Command) → step s c ≡ Ok t → t.content ≡ after s.content (changes_made s c)
-brings s t c is = by_batch s.content s.batch t c is where
-  made_is : (c : Content) (x : Change) (r : Result Content Fault) (t : State) → with_change c x ≡ r → at_once r ≡ Ok t →
-      t.content ≡ next c x
-  made_is c x (Ok d) t e is = accepted (Still (next c x)) _ t is (sym (next_ok c d x e))
-  made_is c x (Err f) t e is = absurd cc
-
-  held_is : (c : Content) (xs : List Change) (r : Result Content Fault) (t : State) → into_batch c xs r ≡ Ok t →
-      t.content ≡ c
-  held_is c xs (Ok d) t is = accepted (Still c) _ t is refl
-  held_is c xs (Err f) t is = absurd cc
-
-  by_batch : (c : Content) (b : Option (List Change)) (t : State) (x : Command) →
-      step (record { content = c; batch = b }) x ≡ Ok t →
-      t.content ≡ after c (changes_made (record { content = c; batch = b }) x)
-  by_batch c None t (Make x) is = made_is c x (with_change c x) t refl is
-  by_batch c (Some xs) t (Make x) is =
-      held_is c (xs ++ x ∷ []) (with_change (after c xs) x) t
-      (when_ok (nat_le full (length xs)) Batch_full (into_batch c (xs ++ x ∷ []) (with_change (after c xs) x)) t is).1
-  by_batch c None t (Show name) is = passed (Still c) _ No_path (record { content = c; batch = None }) t is refl
-  by_batch c (Some xs) t (Show name) is = passed (Still c) _ No_path (record { content = c; batch = Some xs }) t is refl
-  by_batch c None t Report is = accepted (Still c) _ t is refl
-  by_batch c (Some xs) t Report is = accepted (Still c) _ t is refl
-  by_batch c None t Dump is = passed (Still c) _ Not_a_record (record { content = c; batch = None }) t is refl
-  by_batch c None t (Explain text) is =
-      explain (Still c) (record { content = c; batch = None }) t (text_fault text) refl is
-  by_batch c (Some xs) t (Explain text) is =
-      explain (Still c) (record { content = c; batch = Some xs }) t (text_fault text) refl is
-  by_batch c None t Begin is = accepted (Still c) _ t is refl
-  by_batch c (Some xs) t (Commit count) is =
-      passed (Still (after c xs)) _ Count_differs (record { content = after c xs; batch = None }) t is refl
-  by_batch c (Some xs) t Abort is = accepted (Still c) _ t is refl
-  by_batch c b t x is = absurd cc
+brings s t c is = ends (λ u. u.content ≡ after s.content (changes_made s c)) s t c is (by s.content s.batch c) where
+  by : (c : Content) (b : Option (List Change)) (x : Command) →
+      Ends (λ u. u.content ≡ after c (changes_made_in b x)) c b x
+  by c None (Make x) = λ d is. sym (next_ok c d x is)
+  by c (Some xs) (Make x) = λ d is room. refl
+  by c b x = refl
 
 next_state_ok : (s t : State) (c : Command) → step s c ≡ Ok t → next_state s (Some c) ≡ t
 next_state_ok s t c e = ap (λ (r : Result State Fault). result_unwrap_or r s) e

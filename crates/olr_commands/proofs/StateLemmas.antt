@@ -1,14 +1,14 @@
 -- What changes and commands preserve of the register.
 use Rattle.std.proofs.Common.{◌≡◌, ℕ, ◌+◌, ◌≤◌, arith, Bool, true, false, List, [], ◌∷◌, ◌++◌, length}
 use Rattle.std.proofs.Common.{Option, Some, None, Result, Ok, Err, refl, ap, subst}
-use Rattle.std.specs.Prelude.{nat_le, IfSome}
+use Rattle.std.specs.Prelude.{nat_le, not, ◌==◌, IfSome, IfOk}
 use Rattle.std.specs.Result.{result_unwrap_or}
 use Rattle.std.proofs.lemmas.Bool.{not-false, leb-false}
 use Rattle.olr_spec.specs.Map.{Map, IsMap, MapFault, edited}
 use Rattle.olr_commands.specs.State.{Content, TextFault, Fault, No_path, Batch_full, Count_differs, when, Change}
 use Rattle.olr_commands.specs.State.{On_map, Add_path, Set_path, Drop_path, with_map, with_change, next, after, Command}
 use Rattle.olr_commands.specs.State.{Make, Show, Report, Explain, Begin, Commit, Abort, State, full, at_once}
-use Rattle.olr_commands.specs.State.{into_batch, text_fault, unless_fault, step, IsContent, AllAccepted, IsBatch}
+use Rattle.olr_commands.specs.State.{into_batch, text_fault, unless_fault, step, step_in, has_path, is_recordable, IsContent, AllAccepted, IsBatch}
 use Rattle.olr_commands.specs.State.{IsState, HasCoords, Not_a_record, Dump}
 use Rattle.olr_spec.proofs.EditLemmas.{edits_keep}
 use Rattle.olr_commands.proofs.NameLemmas.{differ_push, differ_set, differ_filter, paths_push, paths_set, paths_filter}
@@ -63,52 +63,73 @@ accepted_push c (y ∷ xs) x a e = (a.0, accepted_push (next c y) xs x a.1 e)
 few_more : (n : ℕ) → nat_le full n ≡ false → n + 1 ≤ full
 few_more n h = let below = leb-false full n h in omega arith
 
-hold : (c : Content) (xs : List Change) (x : Change) (r : Result Content Fault) (t : State) →
-    with_change (after c xs) x ≡ r → nat_le full (length xs) ≡ false
-    → IsContent c → HasCoords (Make x) → IsBatch c xs → into_batch c (xs ++ x ∷ []) r ≡ Ok t → IsState t
-hold c xs x (Ok d) t is room i h b e =
-    grind (arith, next_ok, accepted, accepted_push, after_push, changes_keep, length_push, few_more)
-hold c xs x (Err f) t is room i h b e = absurd cc
+hold : (c d : Content) (xs : List Change) (x : Change) → with_change (after c xs) x ≡ Ok d →
+    nat_le full (length xs) ≡ false → IsContent c → HasCoords (Make x) → IsBatch c xs →
+    IsState (record { content = c; batch = Some (xs ++ x ∷ []) })
+hold c d xs x is room i h b = grind (arith, next_ok, accepted_push, after_push, changes_keep, length_push, few_more)
 
 -- ---- commands
 
-make : (c : Content) (x : Change) (r : Result Content Fault) (t : State) → with_change c x ≡ r → IsContent c →
-    HasCoords (Make x) → at_once r ≡ Ok t → IsState t
-make c x (Ok e) t is i h m =
-    accepted IsState (record { content = e; batch = None }) t m (record { content = changes_keep c e x i h is; batch = tt })
-make c x (Err f) t is i h m = absurd cc
+pub of_ok : {A : Type 0} (P : A → Type 0) (r : Result A Fault) (a : A) → r ≡ Ok a → IfOk r P → P a
+of_ok {A} P r a is h = subst (λ (q : Result A Fault). IfOk q P) is h
 
-pub explain : (P : State → Type 0) (s t : State) (o : Option TextFault) → P s → unless_fault s o ≡ Ok t → P t
-explain P s t None h e = accepted P s t e h
-explain P s t (Some f) h e = absurd cc
+-- what has to be shown for P to hold after an accepted command
+abbrev pub Ends : (State → Type 0) → Content → Option (List Change) → Command → Type 0
+Ends P c None (Make x) = (d : Content) → with_change c x ≡ Ok d → P (record { content = d; batch = None })
+Ends P c (Some xs) (Make x) = (d : Content) → with_change (after c xs) x ≡ Ok d → nat_le full (length xs) ≡ false →
+    P (record { content = c; batch = Some (xs ++ x ∷ []) })
+Ends P c b Begin = P (record { content = c; batch = Some [] })
+Ends P c (Some xs) (Commit count) = P (record { content = after c xs; batch = None })
+Ends P c b Abort = P (record { content = c; batch = None })
+Ends P c b x = P (record { content = c; batch = b })
+
+module _ (P : State → Type 0) where
+  if_passed : (b : Bool) (f : Fault) (r : Result State Fault) → (b ≡ false → IfOk r P) → IfOk (when b f r) P
+  if_passed true f r h = tt
+  if_passed false f r h = h refl
+
+  if_kept : (b : Bool) (f : Fault) (s : State) → P s → IfOk (when b f (Ok s)) P
+  if_kept b f s h = if_passed b f (Ok s) (λ _. h)
+
+  if_made : (r : Result Content Fault) → ((d : Content) → r ≡ Ok d → P (record { content = d; batch = None })) →
+      IfOk (at_once r) P
+  if_made (Ok d) h = h d refl
+  if_made (Err f) h = tt
+
+  if_held : (c : Content) (xs : List Change) (r : Result Content Fault) →
+      ((d : Content) → r ≡ Ok d → P (record { content = c; batch = Some xs })) → IfOk (into_batch c xs r) P
+  if_held c xs (Ok d) h = h d refl
+  if_held c xs (Err f) h = tt
+
+  if_explained : (s : State) (o : Option TextFault) → P s → IfOk (unless_fault s o) P
+  if_explained s None h = h
+  if_explained s (Some f) h = tt
+
+  ends_in : (c : Content) (b : Option (List Change)) (x : Command) → Ends P c b x → IfOk (step_in c b x) P
+  ends_in c None (Make x) h = if_made (with_change c x) h
+  ends_in c (Some xs) (Make x) h =
+      let r = with_change (after c xs) x in
+      if_passed (nat_le full (length xs)) Batch_full (into_batch c (xs ++ x ∷ []) r) (λ room.
+      if_held c (xs ++ x ∷ []) r (λ d is. h d is room))
+  ends_in c b (Show name) h = if_kept (not (has_path c name)) No_path _ h
+  ends_in c None Dump h = if_kept (not (is_recordable c)) Not_a_record _ h
+  ends_in c b (Explain text) h = if_explained _ (text_fault text) h
+  ends_in c (Some xs) (Commit count) h = if_kept (not (length xs == count)) Count_differs _ h
+  ends_in c (Some xs) Abort h = h
+  ends_in c b Report h = h
+  ends_in c None Begin h = h
+  ends_in c b x h = tt
+
+  pub ends : (s t : State) (x : Command) → step s x ≡ Ok t → Ends P s.content s.batch x → P t
+  ends s t x is h = of_ok P (step s x) t is (ends_in s.content s.batch x h)
 
 pub steps_keep : (s t : State) (c : Command) → IsState s → HasCoords c → step s c ≡ Ok t → IsState t
-steps_keep s t c i h is = steps s.content s.batch t c i.content i.batch h is where
-  steps : (c : Content) (b : Option (List Change)) (t : State) (x : Command) → IsContent c → IfSome b (IsBatch c) →
-      HasCoords x → step (record { content = c; batch = b }) x ≡ Ok t → IsState t
-  steps c None t (Make x) i b h is = make c x (with_change c x) t refl i h is
-  steps c (Some xs) t (Make x) i b h is =
-      let p =
-      when_ok (nat_le full (length xs)) Batch_full (into_batch c (xs ++ x ∷ []) (with_change (after c xs) x)) t is in
-      hold c xs x (with_change (after c xs) x) t refl p.0 i h b p.1
-  steps c b t (Show name) i k h is =
-      passed IsState _ No_path (record { content = c; batch = b }) t is (record { content = i; batch = k })
-  steps c b t Report i k h is =
-      accepted IsState (record { content = c; batch = b }) t is (record { content = i; batch = k })
-  steps c None t Dump i k h is =
-      passed IsState _ Not_a_record (record { content = c; batch = None }) t is (record { content = i; batch = k })
-  steps c b t (Explain text) i k h is =
-      explain IsState (record { content = c; batch = b }) t (text_fault text) (record { content = i; batch = k }) is
-  steps c None t Begin i k h is =
-      accepted IsState (record { content = c; batch = Some [] }) t is (record {
-        content = i;
-        batch = record { accepted = tt; sound = i; few = omega arith };
-      })
-  steps c (Some xs) t (Commit count) i k h is =
-      passed IsState _ Count_differs (record { content = after c xs; batch = None }) t is (record {
-        content = k.sound;
-        batch = tt;
-      })
-  steps c (Some xs) t Abort i k h is =
-      accepted IsState (record { content = c; batch = None }) t is (record { content = i; batch = tt })
-  steps c b t x i k h is = absurd cc
+steps_keep s t c i h is = ends IsState s t c is (by s.content s.batch c i.content i.batch h) where
+  by : (c : Content) (b : Option (List Change)) (x : Command) → IsContent c → IfSome b (IsBatch c) → HasCoords x →
+      Ends IsState c b x
+  by c None (Make x) i k h = λ d is. record { content = changes_keep c d x i h is; batch = tt }
+  by c (Some xs) (Make x) i k h = λ d is room. hold c d xs x is room i h k
+  by c b Begin i k h = record { content = i; batch = record { accepted = tt; sound = i; few = omega arith } }
+  by c (Some xs) (Commit count) i k h = record { content = k.sound; batch = tt }
+  by c b Abort i k h = record { content = i; batch = tt }
+  by c b x i k h = record { content = i; batch = k }

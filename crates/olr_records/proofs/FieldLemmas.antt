@@ -1,7 +1,12 @@
 -- Fields: the bytes of a field by its position, and as text.
-use Rattle.std.proofs.Common.{◌≡◌, ℕ, zero, suc, ◌<◌, Bool, true, List, [], ◌∷◌, None, nat_le, refl, arith, rules}
+use Rattle.std.proofs.Common.{◌≡◌, ℕ, zero, suc, ◌<◌, ◌≤◌, ◌^◌, Bool, true, List, [], ◌∷◌, length, take, unwrap_or, nat_le, refl, arith, rules}
 use Rattle.std.specs.Prelude.{IsAscii, IsUtf8, slice_index_or}
 use Rattle.std.specs.List.{list_all}
+use Rattle.std.specs.Char.{is_ascii_digit}
+use Rattle.std.proofs.lemmas.List.{length-take}
+use Rattle.std.proofs.lemmas.Str.Parse.{digits_value_short}
+use Rattle.olr_spec.specs.Degrees.{digits_value}
+use Rattle.olr_coords.proofs.DigitLemmas.{own}
 use Rattle.std.proofs.lemmas.Bool.{and_parts}
 use Rattle.std.proofs.lemmas.Bool.Decides.{nat_tests}
 use Rattle.std.proofs.lemmas.Str.{IsUtf8-from_ascii}
@@ -10,11 +15,16 @@ use Rattle.olr_commands.specs.Recordable.{is_name, is_name_byte}
 use Rattle.olr_records.specs.Records.{Field}
 
 -- past the last field there are no bytes
-pub field-past : (fs : List Field) (k : ℕ) → None ≡ field_at fs k → slice_index_or fs k [] ≡ []
+pub field_is : (fs : List Field) (k : ℕ) → unwrap_or (field_at fs k) [] ≡ slice_index_or fs k []
 unfolding field_at
-field-past [] k e = refl
-field-past (f ∷ fs) zero e = absurd cc
-field-past (f ∷ fs) (suc k) e = field-past fs k e
+field_is [] k = refl
+field_is (f ∷ fs) zero = refl
+field_is (f ∷ fs) (suc k) = field_is fs k
+
+-- the digits before another one, of 19 at most
+pub front_small : (f : Field) (k : ℕ) → list_all is_ascii_digit (take k f) ≡ true → k < length f → length f ≤ 19 →
+    digits_value (take k f) < 10 ^ 18
+front_small f k h low few = digits_value_short own (take k f) 18 h (omega (arith, length-take k f))
 
 -- ---- text
 
@@ -30,5 +40,5 @@ module _ (p : ℕ → Bool) (low : (c : ℕ) → p c ≡ true → c < 128) where
 name_low : (c : ℕ) → is_name_byte c ≡ true → c < 128
 name_low c h = grind (arith, nat_tests)
 
-pub name-text : (f : Field) → is_name f ≡ true → IsUtf8 f
-name-text f h = grind (arith, text_of_bytes, name_low, and_parts, nat_le)
+pub name_text : (f : Field) → is_name f ≡ true → IsUtf8 f
+name_text f h = grind (arith, text_of_bytes, name_low, and_parts, nat_le)

@@ -23,7 +23,7 @@ pub path-fields : (fs : List Field) → 4 ≤ length fs
 path-fields (a ∷ b ∷ c ∷ d ∷ fs) h = refl
 path-fields fs h = absurd (omega arith)
 
-pub node-fields : (fs : List Field) → length fs ≡ 4 →
+pub node_at : (fs : List Field) → length fs ≡ 4 →
     node_fields (drop 1 fs) ≡ Ok (λ x p. (x, p)) ⊛ number (at fs 1) ⊛ place (at fs 2) (at fs 3)
-node-fields (a ∷ b ∷ c ∷ d ∷ []) h = refl
-node-fields fs h = absurd (omega arith)
+node_at (a ∷ b ∷ c ∷ d ∷ []) h = refl
+node_at fs h = absurd (omega arith)

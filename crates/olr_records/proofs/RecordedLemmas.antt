@@ -19,7 +19,7 @@ use Rattle.olr_commands.specs.State.{text_fault, step}
 use Rattle.olr_commands.specs.Recordable.{is_name, is_recordable_coord, is_recordable_shape}
 use Rattle.olr_commands.specs.Dump.{node_change, line_change, path_change}
 use Rattle.olr_commands.proofs.DumpLemmas.{of_entries}
-use Rattle.olr_commands.proofs.StateLemmas.{when_ok, accepted, passed, explain, next_ok, after_push}
+use Rattle.olr_commands.proofs.StateLemmas.{Ends, ends, when_ok, accepted, passed, next_ok, after_push}
 use Rattle.olr_records.specs.Recorded.{is_number, is_amount, is_place, are_attributes, has_record, Recorded}
 use Rattle.olr_records.specs.Recorded.{IsRecorded, StaysRecorded}
 use Rattle.olr_records.proofs.TestLemmas.{and_four, and_five, all_weaker}
@@ -154,40 +154,20 @@ change_stays c d (Drop_path name) i h is = grind (arith, parts_of, passed, of_pa
 
 -- ---- commands
 
-make_stays : (c : Content) (x : Change) (r : Result Content Fault) (t : State) → with_change c x ≡ r → IsRecorded c →
-    Has x → at_once r ≡ Ok t → StaysRecorded t
-make_stays c x (Ok d) t is i h to = grind (arith, accepted, change_stays)
-make_stays c x (Err f) t is i h to = absurd cc
-
-hold_stays : (c : Content) (xs : List Change) (x : Change) (r : Result Content Fault) (t : State) →
-    with_change (after c xs) x ≡ r → IsRecorded c → IsRecorded (after c xs) → Has x →
-    into_batch c (xs ++ x ∷ []) r ≡ Ok t → StaysRecorded t
-hold_stays c xs x (Ok d) t is i k h to = grind (arith, after_push, next_ok, accepted, change_stays)
-hold_stays c xs x (Err f) t is i k h to = absurd cc
+hold_stays : (c d : Content) (xs : List Change) (x : Change) → with_change (after c xs) x ≡ Ok d → IsRecorded (after c xs) →
+    Has x → IsRecorded (after c (xs ++ x ∷ []))
+hold_stays c d xs x is k h = grind (arith, after_push, next_ok, change_stays)
 
 pub step_stays : (s t : State) (c : Command) → StaysRecorded s → Recorded c → step s c ≡ Ok t → StaysRecorded t
-step_stays s t c i h is = by_batch s.content s.batch t c i.0 i.1 h is where
-  by_batch : (c : Content) (b : Option (List Change)) (t : State) (x : Command) → IsRecorded c →
-      IfSome b (λ xs. IsRecorded (after c xs)) → Recorded x → step (record { content = c; batch = b }) x ≡ Ok t →
-      StaysRecorded t
-  by_batch c None t (Make x) i k h is = make_stays c x (with_change c x) t refl i h is
-  by_batch c (Some xs) t (Make x) i k h is =
-      let p =
-      when_ok (nat_le full (length xs)) Batch_full (into_batch c (xs ++ x ∷ []) (with_change (after c xs) x)) t is in
-      hold_stays c xs x (with_change (after c xs) x) t refl i k h p.1
-  by_batch c b t (Show name) i k h is =
-      passed StaysRecorded (not (has_path c name)) No_path (record { content = c; batch = b }) t is (i, k)
-  by_batch c b t Report i k h is = accepted StaysRecorded (record { content = c; batch = b }) t is (i, k)
-  by_batch c None t Dump i k h is =
-      passed StaysRecorded (not (is_recordable c)) Not_a_record (record { content = c; batch = None }) t is (i, k)
-  by_batch c b t (Explain text) i k h is =
-      explain StaysRecorded (record { content = c; batch = b }) t (text_fault text) (i, k) is
-  by_batch c None t Begin i k h is = accepted StaysRecorded (record { content = c; batch = Some [] }) t is (i, i)
-  by_batch c (Some xs) t (Commit count) i k h is =
-      passed StaysRecorded (not (length xs == count)) Count_differs (record { content = after c xs; batch = None }) t is
-      (k, tt)
-  by_batch c (Some xs) t Abort i k h is = accepted StaysRecorded (record { content = c; batch = None }) t is (i, tt)
-  by_batch c b t x i k h is = absurd cc
+step_stays s t c i h is = ends StaysRecorded s t c is (by s.content s.batch c i.0 i.1 h) where
+  by : (c : Content) (b : Option (List Change)) (x : Command) → IsRecorded c →
+      IfSome b (λ xs. IsRecorded (after c xs)) → Recorded x → Ends StaysRecorded c b x
+  by c None (Make x) i k h = λ d is. (change_stays c d x i h is, tt)
+  by c (Some xs) (Make x) i k h = λ d is room. (i, hold_stays c d xs x is k h)
+  by c b Begin i k h = (i, i)
+  by c (Some xs) (Commit count) i k h = (k, tt)
+  by c b Abort i k h = (i, tt)
+  by c b x i k h = (i, k)
 
 -- ---- the empty register
 

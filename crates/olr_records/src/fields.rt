@@ -41,6 +41,7 @@ pub(crate) fn field(fields: &ByteRecord, k: usize) -> &[u8]
 }
 
 /// The value of digits, which fits 64 bits. None if there is another byte among them.
+#[tactic(auto, using(crate::proofs::FieldLemmas::front_small))]
 fn few_digits(field: &[u8]) -> Option<u64>
     requires { length field.now ≤ 19 }
     ensures form { is_some result ≡ list_all is_ascii_digit field.now }
@@ -188,6 +189,7 @@ pub(crate) fn shape_point(at: &[u8], lon: &[u8], lat: &[u8]) -> Result<Shape, Re
 }
 
 /// The name of a path: 1 to 64 ASCII letters, digits, `-`, `_` and `.`.
+#[tactic(auto, using(crate::proofs::FieldLemmas::name_text))]
 pub(crate) fn name(alloc: Global, field: &[u8]) -> Result<String, ReadFault>
     ensures { Gathers (λ _. ⊤) string_bytes (records.name field.now) result }
 {

@@ -1,11 +1,12 @@
+use Rattle.std.proofs.Common.{List, ℕ, [], unwrap_or, ap, ◌∙◌, Option}
 use Rattle.csv.specs.Records.{fields_of}
-use Rattle.csv.proofs.RecordFacts.{field-get}
-use Rattle.std.proofs.Common.{sym}
-use Rattle.olr_records.proofs.FieldLemmas.{field-past}
+use Rattle.olr_records.proofs.FieldLemmas.{field_is}
 use Rattle.olr_records.proofs.fields.field.Goals as goal
 
 pub returns-in-Some : goal.returns-in-Some
-returns-in-Some c = sym (field-get (fields_of c.args.fields.now) c.args.k _ (sym c.in-Some.ensures.value))
+returns-in-Some c =
+    ap (λ (o : Option (List ℕ)). unwrap_or o []) c.in-Some.ensures.value ∙ field_is (fields_of c.args.fields.now) c.args.k
 
 pub returns-in-None : goal.returns-in-None
-returns-in-None c = sym (field-past (fields_of c.args.fields.now) c.args.k c.in-None.ensures.value)
+returns-in-None c =
+    ap (λ (o : Option (List ℕ)). unwrap_or o []) c.in-None.ensures.value ∙ field_is (fields_of c.args.fields.now) c.args.k
