@@ -55,15 +55,6 @@ run_each P Q f s xs [] t h = h
 run_each P Q f s [] (o ∷ os) t h = absurd h
 run_each P Q f s (x ∷ xs) (o ∷ os) t h = (h.0, f s x o h.0 h.1, run_each P Q f h.0 xs os t h.2)
 
--- a run with one step more
-pub run_more : {A : Type 0} (P : State → A → Outcome → State → Type 0) (s t u : State) (xs : List A) (x : A)
-    (os : List Outcome) (o : Outcome) → length os ≡ length xs
-    → Run P s xs os t → P t x o u → Run P s (xs ++ x ∷ []) (os ++ o ∷ []) u
-run_more P s t u [] x [] o l h p = (u, subst (λ (a : State). P a x o u) (sym h) p, refl)
-run_more P s t u [] x (k ∷ os) o l h p = absurd h
-run_more P s t u (y ∷ xs) x [] o l h p = absurd (omega arith)
-run_more P s t u (y ∷ xs) x (k ∷ os) o l h p = (h.0, h.1, run_more P h.0 t u xs x os o (omega arith) h.2 p)
-
 -- a run of more inputs, of which only the first are used
 pub run_longer : {A : Type 0} (P : State → A → Outcome → State → Type 0) (s t : State) (xs rest : List A)
     (os : List Outcome) → Run P s xs os t → Run P s (xs ++ rest) os t
@@ -79,6 +70,12 @@ run_join P s t u [] ys [] qs l h p = subst (λ (a : State). Run P a ys qs u) (sy
 run_join P s t u [] ys (k ∷ os) qs l h p = absurd h
 run_join P s t u (x ∷ xs) ys [] qs l h p = absurd (omega arith)
 run_join P s t u (x ∷ xs) ys (k ∷ os) qs l h p = (h.0, h.1, run_join P h.0 t u xs ys os qs (omega arith) h.2 p)
+
+-- a run with one step more
+pub run_more : {A : Type 0} (P : State → A → Outcome → State → Type 0) (s t u : State) (xs : List A) (x : A)
+    (os : List Outcome) (o : Outcome) → length os ≡ length xs
+    → Run P s xs os t → P t x o u → Run P s (xs ++ x ∷ []) (os ++ o ∷ []) u
+run_more P s t u xs x os o l h p = run_join P s t u xs (x ∷ []) os (o ∷ []) l h (u, p, refl)
 
 -- the state after each: by its command if accepted, unchanged if rejected
 abbrev pub Leads : State → Option Command → Outcome → State → Type 0
@@ -260,34 +257,27 @@ pub is_named : (s t : State) (c : Command) (o : Outcome) → IsContent t.content
 is_named s t c o sound h report_all es is = grind (arith, names_changed, sound, reported_of, report_all)
 
 -- the reply with the records of a content is to a dump
-dumped_of : (s t : State) (c : Command) (count : ℕ) (text : List ℕ) → IsContent s.content → step s c ≡ Ok t →
-    IsReply s c t (Dumped count text) → IsDump s count text × (t ≡ s)
-dumped_of s t c count text i = by s.batch c where
-  by : (b : Option (List Change)) (c : Command) → step (record { content = s.content; batch = b }) c ≡ Ok t →
-      IsReply (record { content = s.content; batch = b }) c t (Dumped count text)
-      → IsDump (record { content = s.content; batch = b }) count text × (t ≡ record { content = s.content; batch = b })
-  by None Dump is h =
-      let here : State = record { content = s.content; batch = None } in
-      let p = when_ok (not (is_recordable s.content)) Not_a_record (Ok here) t is in
-      let lines : count ≡ length (dump_lines s.content) = cc in
-      let bytes : text ≡ concat (dump_lines s.content) = cc in (
-        record {
-          recordable = not-false (is_recordable s.content) p.0;
-          lines = lines;
-          bytes = bytes;
-          builds = dumps_run s.content i;
-        },
-        accepted (λ u. u ≡ here) here t p.1 refl,
-      )
-  by (Some xs) (Make x) is h = absurd cc
-  by b Begin is h = absurd cc
-  by b Abort is h = absurd cc
-  by (Some xs) Dump is h = absurd cc
-  by b c is h = absurd h
+dump_is : (c : Content) (t : State) (count : ℕ) (text : List ℕ) → IsContent c →
+    step (record { content = c; batch = None }) Dump ≡ Ok t
+    → Dumped count text ≡ Dumped (length (dump_lines c)) (concat (dump_lines c))
+    → IsDump (record { content = c; batch = None }) count text × (t ≡ record { content = c; batch = None })
+dump_is c t count text i is h = grind (arith, when_ok, not-false, dumps_run)
+
+dumped_of : (c : Content) (b : Option (List Change)) (t : State) (x : Command) (count : ℕ) (text : List ℕ) →
+    IsContent c → step (record { content = c; batch = b }) x ≡ Ok t →
+    IsReply (record { content = c; batch = b }) x t (Dumped count text)
+    → IsDump (record { content = c; batch = b }) count text × (t ≡ record { content = c; batch = b })
+dumped_of c None t Dump count text i is h = dump_is c t count text i is h
+dumped_of c (Some xs) t (Make x) count text i is h = absurd cc
+dumped_of c b t Begin count text i is h = absurd cc
+dumped_of c b t Abort count text i is h = absurd cc
+dumped_of c (Some xs) t Dump count text i is h = absurd cc
+dumped_of c b t x count text i is h = absurd h
 
 pub is_dumped : (s t : State) (c : Command) (o : Outcome) → IsContent s.content → IsOutcome s c o t → IsDumped s o t
 is_dumped s t c o i h count text is =
-    let p = subst (λ (p : Outcome). IsOutcome s c p t) is h in dumped_of s t c count text i p.0 p.1
+    let p = subst (λ (p : Outcome). IsOutcome s c p t) is h in
+    dumped_of s.content s.batch t c count text i p.0 p.1
 
 pub is_refused : (s t : State) (c : Command) (o : Outcome) → IsOutcome s c o t → IsRefused s o t
 is_refused s t c o h fault is = (subst (λ (p : Outcome). IsOutcome s c p t) is h).1

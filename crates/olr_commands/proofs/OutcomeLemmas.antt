@@ -13,9 +13,6 @@ reported_by s c fault n (ByState e) = e
 reported_by s c fault n (Lacks is may) =
     absurd (both_ways (lacks_memory (Err fault)) n (ap (λ (f : Fault). lacks_memory (Err f)) is))
 
-ok_or_err : (r : Result State Fault) (t : State) (f : Fault) → r ≡ Ok t → r ≡ Err f → ⊥
-ok_or_err r t f p q = absurd (let no : ◌≡◌ {A = Result State Fault} (Ok t) (Err f) = sym p ∙ q in cc)
-
 pub one_outcome : (s t u : State) (c : Command) (o q : Outcome) → IsState s → HasCoords c → IsFalse (lacks_memory o) →
     IsFalse (lacks_memory q)
     → IsOutcome s c o t → IsOutcome s c q u → (o ≡ q) × (t ≡ u)
@@ -25,6 +22,6 @@ one_outcome s t u c (Ok r) (Ok w) i h n m p g =
     let one =
     one_reply s t c r w i (steps_keep s t c i h p.0) p.1 (subst (λ (x : State). IsReply s c x w) (sym same) g.1) in
     (ap (λ (x : Reply). Ok x) one, same)
-one_outcome s t u c (Ok r) (Err f) i h n m p g = absurd (ok_or_err (step s c) t f p.0 (reported_by s c f m g.0))
-one_outcome s t u c (Err f) (Ok w) i h n m p g = absurd (ok_or_err (step s c) u f g.0 (reported_by s c f n p.0))
+one_outcome s t u c (Ok r) (Err f) i h n m p g = grind (arith, reported_by)
+one_outcome s t u c (Err f) (Ok w) i h n m p g = grind (arith, reported_by)
 one_outcome s t u c (Err f) (Err k) i h n m p g = grind (arith, reported_by)

@@ -1,6 +1,6 @@
 -- A path that is added or set outside of batches: it is encoded, no answer is retained, and nothing else is searched.
 use Rattle.std.proofs.Common.{rules, arith, inr, ◌⊎◌, ◌≡◌, ℕ, Bool, true, false, cond, not, List, [], ◌∷◌, ◌++◌, map}
-use Rattle.std.proofs.Common.{Option, Some, None, is_some, Result, Ok, Err, refl, sym, ap, ◌∙◌, subst, append-nil}
+use Rattle.std.proofs.Common.{Option, Some, None, is_some, Ok, refl, sym, ap, ◌∙◌, subst, append-nil}
 use Rattle.std.proofs.Math.Bool.{or-false}
 use Rattle.olr_spec.specs.Map.{has}
 use Rattle.std.specs.List.{list_any}
@@ -10,11 +10,11 @@ use Rattle.olr_spec.specs.Extension.{Path, is_path}
 use Rattle.olr_spec.specs.Queries.{CoverageQuery}
 use Rattle.olr_commands.specs.State.{Named, Content, same_name, path_named, with_path, NamesDiffer}
 use Rattle.olr_commands.specs.State.{Path_exists, Bad_path, when, Change, Add_path, Set_path, with_change}
-use Rattle.olr_commands.specs.State.{State, Make, step, changes_made, IsState, Fault, at_once}
+use Rattle.olr_commands.specs.State.{State, Make, step, changes_made, IsState}
 use Rattle.olr_commands.specs.Counts.{Affects, By_name, By_node, By_line, CountIs, all_nodes, all_lines, all_names, Retains, EncodesAgain, Spares}
 use Rattle.olr_commands.specs.Counts.{SearchedFor, SearchesFor, Collects, Searches}
 use Rattle.olr_commands.proofs.NameLemmas.{same_is, not_named, set_name}
-use Rattle.olr_commands.proofs.StateLemmas.{when_ok, accepted, passed}
+use Rattle.olr_commands.proofs.StateLemmas.{Ends, ends, when_ok, passed}
 
 -- ---- one path of a list without repeats
 
@@ -116,14 +116,8 @@ module _ (s t : State) (x : Change) (name : List ℕ) (path : Path) (i : IsState
 -- the change that is made
 made : (s t : State) (x : Change) → s.batch ≡ None → step s (Make x) ≡ Ok t → with_change s.content x ≡ Ok t.content
 made s t x b is =
-    by (with_change s.content x)
-    (ap (λ (o : Option (List Change)). step (record { content = s.content; batch = o }) (Make x)) (sym b) ∙ is)
-  where
-    by : (r : Result Content Fault) → at_once r ≡ Ok t → r ≡ Ok t.content
-    by (Ok d) e =
-        accepted (λ (u : State). ◌≡◌ {A = Result Content Fault} (Ok d) (Ok u.content))
-        (record { content = d; batch = None }) t e refl
-    by (Err f) e = absurd cc
+    let P : State → Type 0 = λ u. with_change s.content x ≡ Ok u.content in
+    ends P s t (Make x) is (subst (λ (o : Option (List Change)). Ends P s.content o (Make x)) (sym b) (λ d e. e))
 
 pub added_path : (s t : State) (name : List ℕ) (path : Path) → s.batch ≡ None →
     step s (Make (Add_path name path)) ≡ Ok t → path_named t.content.paths name ≡ Some path

@@ -1,9 +1,8 @@
 -- An accepted command has a reply.
 use Rattle.std.proofs.Common.{inl, inr, ◌⊎◌, ◌≡◌, ◌≢◌, ℕ, suc, true, false, not, List, [], ◌∷◌, length, Option, Some}
 use Rattle.std.proofs.Common.{None, is_some, Ok, IsTrue, refl, sym, ap, ◌∙◌, subst}
-use Rattle.std.specs.Prelude.{◌==◌}
 use Rattle.std.specs.List.{concat}
-use Rattle.std.proofs.lemmas.Bool.{cases_Bool, both_ways, eqb-true, eqb-false}
+use Rattle.std.proofs.lemmas.Bool.{cases_Bool, cases_eq, both_ways}
 use lib.Pointwise.{bytes_decides}
 use Rattle.olr_spec.specs.Map.{Map, IsMap}
 use Rattle.olr_spec.specs.Extension.{Path, is_path}
@@ -28,10 +27,6 @@ use Rattle.olr_commands.proofs.ReplyLemmas.{named_path, one_has}
 Is_or_not : {A : Type 0} → A → A → Type 0
 Is_or_not a b = (a ≡ b) ⊎ (a ≢ b)
 
-numbers_decide : (n m : ℕ) → Is_or_not n m
-unfolding Is_or_not
-numbers_decide n m = elim (cases_Bool (n == m)) [ inl t ↦ inl (eqb-true n m t) | inr f ↦ inr (eqb-false n m f) ]
-
 lists_decide : (xs ys : List ℕ) → Is_or_not xs ys
 unfolding Is_or_not
 lists_decide xs ys =
@@ -44,11 +39,11 @@ lists_decide xs ys =
 refusals_decide : (x y : Refusal) → Is_or_not x y
 unfolding Is_or_not
 refusals_decide (Unknown_line n) (Unknown_line m) =
-    elim (numbers_decide n m) [ inl e ↦ inl (ap (λ (k : ℕ). Unknown_line k) e) | inr ne ↦ inr (λ e. ne cc) ]
+    elim (cases_eq n m) [ inl e ↦ inl (ap (λ (k : ℕ). Unknown_line k) e) | inr ne ↦ inr (λ e. ne cc) ]
 refusals_decide (Broken n) (Broken m) =
-    elim (numbers_decide n m) [ inl e ↦ inl (ap (λ (k : ℕ). Broken k) e) | inr ne ↦ inr (λ e. ne cc) ]
+    elim (cases_eq n m) [ inl e ↦ inl (ap (λ (k : ℕ). Broken k) e) | inr ne ↦ inr (λ e. ne cc) ]
 refusals_decide (No_next_point n) (No_next_point m) =
-    elim (numbers_decide n m) [ inl e ↦ inl (ap (λ (k : ℕ). No_next_point k) e) | inr ne ↦ inr (λ e. ne cc) ]
+    elim (cases_eq n m) [ inl e ↦ inl (ap (λ (k : ℕ). No_next_point k) e) | inr ne ↦ inr (λ e. ne cc) ]
 refusals_decide Offset_too_long Offset_too_long = inl refl
 refusals_decide x y = inr (λ e. absurd cc)
 

@@ -13,6 +13,7 @@ use Rattle.olr_commands.specs.State.{IsState, HasCoords, Not_a_record, Dump}
 use Rattle.olr_spec.proofs.EditLemmas.{edits_keep}
 use Rattle.olr_commands.proofs.NameLemmas.{differ_push, differ_set, differ_filter, paths_push, paths_set, paths_filter}
 use Rattle.std.proofs.lemmas.List.{length_push}
+use Rattle.std.proofs.lemmas.Result.{IfOk-at_ok}
 
 pub when_ok : {A : Type 0} (b : Bool) (f : Fault) (r : Result A Fault) (x : A) → when b f r ≡ Ok x → (b ≡ false)
     × (r ≡ Ok x)
@@ -70,9 +71,6 @@ hold c d xs x is room i h b = grind (arith, next_ok, accepted_push, after_push, 
 
 -- ---- commands
 
-pub of_ok : {A : Type 0} (P : A → Type 0) (r : Result A Fault) (a : A) → r ≡ Ok a → IfOk r P → P a
-of_ok {A} P r a is h = subst (λ (q : Result A Fault). IfOk q P) is h
-
 -- what has to be shown for P to hold after an accepted command
 abbrev pub Ends : (State → Type 0) → Content → Option (List Change) → Command → Type 0
 Ends P c None (Make x) = (d : Content) → with_change c x ≡ Ok d → P (record { content = d; batch = None })
@@ -121,7 +119,7 @@ module _ (P : State → Type 0) where
   ends_in c b x h = tt
 
   pub ends : (s t : State) (x : Command) → step s x ≡ Ok t → Ends P s.content s.batch x → P t
-  ends s t x is h = of_ok P (step s x) t is (ends_in s.content s.batch x h)
+  ends s t x is h = IfOk-at_ok P is (ends_in s.content s.batch x h)
 
 pub steps_keep : (s t : State) (c : Command) → IsState s → HasCoords c → step s c ≡ Ok t → IsState t
 steps_keep s t c i h is = ends IsState s t c is (by s.content s.batch c i.content i.batch h) where
