@@ -7,12 +7,12 @@ ghost use Rattle.olr_records.specs.Words.{IsRead, Reads};
 
 use crate::faults::ReadFault;
 use crate::fields::{coord, field, line_id, node_id};
-use crate::lines::{attributes_at, line};
+use crate::lines::attributes_at;
 use crate::parts::both;
 use csv::ByteRecord;
 use olr_commands::Command;
 use olr_coords::Coord;
-use olr_map::{Edit, NodeId};
+use olr_map::{Edit, Line, NodeId};
 use std::alloc::Global;
 
 /// A node and its coordinate: all fields after the first.
@@ -66,7 +66,17 @@ pub(crate) fn add_line(alloc: Global, fields: &ByteRecord) -> Result<Command, Re
     if fields.len() < 7 {
         return Err(ReadFault::Syntax);
     }
-    let (id, line) = both(line_id(field(fields, 1)), line(alloc, fields))?;
+    let ends = both(node_id(field(fields, 2)), node_id(field(fields, 3)));
+    let line = both(ends, attributes_at(alloc, fields, 4));
+    let (id, ((from, to), attributes)) = both(line_id(field(fields, 1)), line)?;
+    let line = Line {
+        from,
+        to,
+        frc: attributes.frc,
+        fow: attributes.fow,
+        len: attributes.len,
+        shape: attributes.shape,
+    };
     Ok(Command::Edit(Edit::AddLine(id, line)))
 }
 

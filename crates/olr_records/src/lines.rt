@@ -6,10 +6,10 @@ ghost use Rattle.olr_records.specs.Records.{Field};
 ghost use Rattle.olr_records.specs.Words.{Gathers};
 
 use crate::faults::ReadFault;
-use crate::fields::{class, field, length, node_id, shape_point};
+use crate::fields::{class, field, length, shape_point};
 use crate::parts::{both, room, with_item};
 use csv::ByteRecord;
-use olr_map::{Line, Shape};
+use olr_map::Shape;
 use std::alloc::Global;
 
 /// The attributes of a line in a record: all but its number and its ends.
@@ -23,27 +23,6 @@ pub(crate) struct LineAttributes {
     pub len: u32,
     /// The shape points between the two ends, in order.
     pub shape: Vec<Shape>,
-}
-
-/// A line: its ends from the field at index 2 on, and its attributes after them.
-pub(crate) fn line(alloc: Global, fields: &ByteRecord) -> Result<Line, ReadFault>
-    requires { 7 ≤ length (fields_of fields.now) }
-    ensures { let f : ℕ → Field = λ k. slice_index_or (fields_of fields.now) k [] in
-        Gathers (λ l. 0 < length l.shape) (λ l. l)
-        (records.whole_line (f 2) (f 3)
-        (records.attributes (f 4) (f 5) (f 6) (drop 7 (fields_of fields.now))))
-        result }
-{
-    let ends = both(node_id(field(fields, 2)), node_id(field(fields, 3)));
-    let ((from, to), attributes) = both(ends, attributes_at(alloc, fields, 4))?;
-    Ok(Line {
-        from,
-        to,
-        frc: attributes.frc,
-        fow: attributes.fow,
-        len: attributes.len,
-        shape: attributes.shape,
-    })
 }
 
 /// The attributes of a line, from the field at index `k` on.

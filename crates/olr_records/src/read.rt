@@ -47,22 +47,22 @@ fn read_by(alloc: Global, word: &[u8], fields: &ByteRecord) -> Result<Command, R
         drop_line(fields)
     } else if is(b"drop-node") {
         drop_node(fields)
+    } else if is(b"begin") {
+        single_word(fields, Command::Begin)
+    } else if is(b"abort") {
+        single_word(fields, Command::Abort)
     } else if is(b"repath") {
         set_path(alloc, fields)
+    } else if is(b"report") {
+        single_word(fields, Command::Report)
+    } else if is(b"commit") {
+        commit(fields)
+    } else if is(b"dump") {
+        single_word(fields, Command::Dump)
     } else if is(b"drop-path") {
         drop_path(alloc, fields)
     } else if is(b"show") {
         show(alloc, fields)
-    } else if is(b"begin") {
-        single_word(fields, Command::Begin)
-    } else if is(b"commit") {
-        commit(fields)
-    } else if is(b"abort") {
-        single_word(fields, Command::Abort)
-    } else if is(b"report") {
-        single_word(fields, Command::Report)
-    } else if is(b"dump") {
-        single_word(fields, Command::Dump)
     } else {
         Err(ReadFault::Syntax)
     }

@@ -1,4 +1,4 @@
-use Rattle.std.proofs.Common.{rules, arith, ◌≡◌, ℕ, ◌<◌, List, drop, length, Ok, Err, subst}
+use Rattle.std.proofs.Common.{rules, arith, ℕ, ◌<◌, List, drop, length, Ok, subst}
 use Rattle.csv.specs.Records.{fields_of}
 use Rattle.olr_spec.specs.Map.{ShapePoint, Edit, Set_line}
 use Rattle.olr_commands.specs.State.{Make, On_map}
@@ -16,7 +16,6 @@ returns-in_err-id c =
     let front : Read (ℕ × ℕ × ℕ × List ShapePoint → Edit) = Ok (λ x c. Set_line x c.0 c.1 c.2 c.3) ⊛ number (at fs 1) in
     let rest = attributes (at fs 2) (at fs 3) (at fs 4) (drop 5 fs) in
     let id = subst (λ (f : Field). Reads (λ n. n) (number f) c.line_id.result) c.field.ensures c.line_id.ensures in
-    let reported : c.from_residual.result ≡ Err c.in_err-id.field-0.0 = search rules in
     let both =
     both-parts (λ _. ⊥) (λ p. 0 < length p.3) (λ e. HoldsList (Make (On_map e))) _
     (λ (k : LineAttributes). (k.frc, k.fow, k.len, k.shape.items)) front rest c.line_id.result c.attributes_at.result
@@ -27,6 +26,6 @@ returns-in_err-id c =
     c.attributes_at.ensures in
     rw (set-line-record fs (omega arith))
     (handed-on HoldsList _ _ (Ok (λ e. Make (On_map e)) ⊛ (front ⊛ rest)) c.both.result c.from_residual.result
-    c.in_err-id.field-0.0 c.in_err-id.was reported
+    c.in_err-id.field-0.0 c.in_err-id.was (search rules)
     (made-part (λ e. HoldsList (Make (On_map e))) HoldsList (λ e. Make (On_map e)) _ (front ⊛ rest) c.both.result
     (λ e h. h) both))

@@ -1,4 +1,4 @@
-use Rattle.std.proofs.Common.{rules, ◌≡◌, ℕ, ◌+◌, ◌<◌, List, drop, length, Ok, Err, subst}
+use Rattle.std.proofs.Common.{rules, ℕ, ◌+◌, ◌<◌, List, drop, length, Ok, subst}
 use Rattle.csv.specs.Records.{fields_of}
 use Rattle.olr_spec.specs.Map.{ShapePoint}
 use Rattle.olr_records.specs.Records.{Field, Read, ◌⊛◌, class, digits, shape}
@@ -23,9 +23,8 @@ returns-in_err-frc c =
     let measured =
     parts _ _ _ (digits 1 1000000 (at fs (k + 2))) c.both-classes.result c.length.result c.both-measured.result
     c.both-measured.ensures classes len in
-    let reported : c.from_residual.result ≡ Err c.in_err-frc.field-0.0 = search rules in
     handed-on (λ p. 0 < length p.3) _ _ (front ⊛ shape (drop (k + 3) fs)) c.both.result c.from_residual.result
-    c.in_err-frc.field-0.0 c.in_err-frc.was reported
+    c.in_err-frc.field-0.0 c.in_err-frc.was (search rules)
     (both-parts (λ _. ⊥) (λ ps. 0 < length ps) (λ p. 0 < length p.3) _ (λ v. v.items) front (shape (drop (k + 3) fs))
     c.both-measured.result c.shape.result c.both.result c.both.ensures
     (λ g b never. absurd never) (λ a b some. some) (no-memory (λ _. ⊥) _ front c.both-measured.result measured)

@@ -1,4 +1,4 @@
-use Rattle.std.proofs.Common.{rules, arith, ◌≡◌, ℕ, List, drop, Ok, Err, subst}
+use Rattle.std.proofs.Common.{rules, arith, ℕ, List, drop, Ok, subst}
 use Rattle.std.specs.Prelude.{string_bytes, ⊤}
 use Rattle.csv.specs.Records.{fields_of}
 use Rattle.olr_spec.specs.Extension.{Path}
@@ -18,7 +18,6 @@ returns-in_err-name c =
     subst (λ (f : Field). Gathers (λ _. ⊤) string_bytes (name f) c.name.result) c.field.ensures c.name.ensures in
     let pos = subst (λ (f : Field). Reads (λ n. n) (amount f) c.amount.result) c.field-2.ensures c.amount.ensures in
     let neg = subst (λ (f : Field). Reads (λ n. n) (amount f) c.amount-2.result) c.field-3.ensures c.amount-2.ensures in
-    let reported : c.from_residual.result ≡ Err c.in_err-name.field-0.0 = search rules in
     let started =
     both-parts (λ _. ⊤) (λ _. ⊤) (λ _. ⊤) _ (λ n. n) front (amount (at fs 2)) c.name.result c.amount.result
     c.both-started.result c.both-started.ensures
@@ -31,7 +30,7 @@ returns-in_err-name c =
     (λ g b h. tt) (λ a b h. tt) started (no-memory (λ _. ⊤) (λ n. n) (amount (at fs 3)) c.amount-2.result neg) in
     rw (path-fields fs (omega arith))
     (handed-on (λ _. ⊤) _ _ (front ⊛ amount (at fs 2) ⊛ amount (at fs 3) ⊛ numbers (drop 4 fs)) c.both.result
-    c.from_residual.result c.in_err-name.field-0.0 c.in_err-name.was reported
+    c.from_residual.result c.in_err-name.field-0.0 c.in_err-name.was (search rules)
     (both-parts (λ _. ⊤) (λ _. ⊤) (λ _. ⊤) _ (λ v. v.items) (front ⊛ amount (at fs 2) ⊛ amount (at fs 3))
     (numbers (drop 4 fs)) c.both-offset.result c.line_ids.result c.both.result c.both.ensures
     (λ g b h. tt) (λ a b h. tt) offset c.line_ids.ensures))
