@@ -21,11 +21,7 @@ no_count P none (x ∷ xs) n p = elim p [ inl h ↦ absurd (none x h.0) | inr h 
 pub count_within : {A : Type 0} (P Q : A → Type 0) → ((x : A) → P x → Q x) → (xs : List A) (n m : ℕ) → CountIs P xs n →
     CountIs Q xs m → n ≤ m
 count_within P Q implies [] n m p q = omega (arith, p, q)
-count_within P Q implies (x ∷ xs) n m (inl h) (inl g) =
-    grind (arith, count_within P Q implies xs h.1.0 g.1.0 h.1.1 g.1.1)
-count_within P Q implies (x ∷ xs) n m (inl h) (inr g) = absurd (g.0 (implies x h.0))
-count_within P Q implies (x ∷ xs) n m (inr h) (inl g) = grind (arith, count_within P Q implies xs n g.1.0 h.1 g.1.1)
-count_within P Q implies (x ∷ xs) n m (inr h) (inr g) = count_within P Q implies xs n m h.1 g.1
+count_within P Q implies (x ∷ xs) n m p q = grind (arith, implies x, count_within P Q implies xs)
 
 pub one_spare : (s t : State) (c : Command) (n m : ℕ) → Spares s c t n → Spares s c t m → n ≡ m
 one_spare s t c n m = one_count (Retains s.content t.content (changes_made s c)) t.content.paths n m

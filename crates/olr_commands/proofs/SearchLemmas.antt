@@ -68,12 +68,9 @@ path_set name path (p ∷ ps) h = grind (arith, set_name, cases_Bool, path_set n
 -- a change of one name affects only the path of that name
 pub only_name : (c : Content) (x : Change) (name : List ℕ) → all_nodes c (x ∷ []) ≡ [] → all_lines (x ∷ []) ≡ [] →
     all_names (x ∷ []) ≡ name ∷ [] → (p : Named) → Affects c (x ∷ []) p → same_name p.name name ≡ true
-only_name c x name a b d p (By_name h) =
-    sym (or-false (same_name p.name name)) ∙ (subst (λ (ns : List (List ℕ)). list_any (same_name p.name) ns ≡ true) d h)
-only_name c x name a b d p (By_node v h f) =
-    absurd (let no : has [] v ≡ true = subst (λ (vs : List ℕ). has vs v ≡ true) a h in cc)
-only_name c x name a b d p (By_line y h f) =
-    absurd (let no : has [] y ≡ true = subst (λ (ys : List ℕ). has ys y ≡ true) b h in cc)
+only_name c x name a b d p (By_name h) = grind (arith, or-false)
+only_name c x name a b d p (By_node v h f) = grind arith
+only_name c x name a b d p (By_line y h f) = grind arith
 
 pub by_name : (c : Content) (x : Change) (name : List ℕ) → all_names (x ∷ []) ≡ name ∷ [] → (p : Named) →
     same_name p.name name ≡ true → Affects c (x ∷ []) p
