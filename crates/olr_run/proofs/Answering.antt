@@ -1,7 +1,7 @@
 -- The outcome of a record, from what was read of it.
 use Rattle.std.proofs.Common.{◌≡◌, ℕ, List, Result, Ok, Err, inl, inr, refl, sym, ap, ◌∙◌, subst}
 use Rattle.olr_commands.specs.State as state
-use Rattle.olr_commands.specs.State.{State}
+use Rattle.olr_commands.specs.State.{State, IsContent}
 use Rattle.olr_commands.specs.Reply.{Outcome, IsOutcome}
 use Rattle.olr_commands.specs.Words.{command_of}
 use Rattle.olr_commands.specs.declared.command.Command.{Command}
@@ -10,25 +10,44 @@ use Rattle.olr_records.specs.Words.{IsRead, read_fault_of}
 use Rattle.olr_records.specs.declared.faults.ReadFault.{ReadFault}
 use Rattle.olr_records.specs.declared.faults.ReadFault.TheVariants.{Syntax, Range, Memory}
 use Rattle.olr_commands.specs.declared.reply.Reply.{Reply}
-use Rattle.olr_records.specs.ReplyText.{outcome_text}
+use Rattle.olr_records.specs.ReplyText.{outcome_text, fault_text}
 use Rattle.olr_run.specs.Output.{CommandOutcome, RecordOutcome}
-use Rattle.olr_run.specs.Runs.{IsAnswer, answer_text}
+use Rattle.olr_run.specs.Runs.{CarriedOut, IsAnswer, answer_text}
+use Rattle.olr_register.specs.RegisterState.{Represents}
+use Rattle.olr_register.specs.Registered.{Registered}
 use Rattle.std.specs.Prelude.{is_ok}
 use Rattle.std.specs.Borrow.{Bor}
 
--- of a record that decodes to a command
-pub commanded : (s t : State) (fields : List Field) (c : Command) (o : Outcome) → IsRead (read fields) (Ok c) →
-    IsOutcome s (command_of c) o t → RecordOutcome s fields o t
-commanded s t fields c o e h = inl (subst (λ (r : Read state.Command). CommandOutcome s r o t) (sym e) h)
+-- a record that decodes to a command
+pub carried : (old : Registered) (fields : List Field) (new : Registered) (r : Result Reply (Bor (List ℕ))) (c : Command)
+    (o : Outcome) → IsRead (read fields) (Ok c)
+    → ((s : State) → Represents old.kept s → (t : State) × Represents new.kept t × IsOutcome s (command_of c) o t)
+    → IsContent new.kept.content → IsAnswer r o → CarriedOut old fields new r
+carried old fields new r c o e outcome sound is s represents _ =
+    let h = outcome s represents in (
+      h.0,
+      o,
+      h.1,
+      (
+        inl (subst (λ (r : Read state.Command). CommandOutcome s r o h.0) (sym e) h.2),
+        subst IsContent h.1.0 sound,
+      ),
+      is,
+    )
 
--- and of a record with a fault of its own
-pub unread : (s : State) (fields : List Field) (f : ReadFault) → IsRead (read fields) (Err f) →
+-- a record with a fault of its own
+unread : (s : State) (fields : List Field) (f : ReadFault) → IsRead (read fields) (Err f) →
     RecordOutcome s fields (Err (read_fault_of f)) s
 unread s fields Syntax e =
     inl (subst (λ (r : Read state.Command). CommandOutcome s r (Err state.Syntax) s) (sym e) (refl, refl))
 unread s fields Range e =
     inl (subst (λ (r : Read state.Command). CommandOutcome s r (Err state.Range) s) (sym e) (refl, refl))
 unread s fields Memory e = inr (e, (refl, refl))
+
+pub not_read : (old : Registered) (fields : List Field) (f : ReadFault) (line : Bor (List ℕ)) →
+    IsRead (read fields) (Err f) → line.now ≡ fault_text (read_fault_of f) → CarriedOut old fields old (Err line)
+not_read old fields f line e is s represents sound =
+    (s, Err (read_fault_of f), represents, (unread s fields f e, sound), (read_fault_of f, refl, is))
 
 -- an outcome has the text of its answer, and accepts if the answer does
 pub text_of_answer : (r : Result Reply (Bor (List ℕ))) (o : Outcome) → IsAnswer r o →

@@ -60,10 +60,7 @@ command_dumps s t (Ok c) fields (Ok reply) is sound h p = grind (arith, of_reply
 command_dumps s t (Ok c) fields (Err fault) is sound h p =
     (not_refused s c fault (recorded_dumps s.content h.0) p.0, subst StaysRecorded (sym p.1) h)
 command_dumps s t (Err f) fields (Ok reply) is sound h p = absurd (let no = p.0 in cc)
-command_dumps s t (Err Bad_form) fields (Err fault) is sound h p =
-    ((λ e. let no = p.0 in cc), subst StaysRecorded (sym p.1) h)
-command_dumps s t (Err Out_of_range) fields (Err fault) is sound h p =
-    ((λ e. let no = p.0 in cc), subst StaysRecorded (sym p.1) h)
+command_dumps s t (Err f) fields (Err fault) is sound h p = grind arith
 
 lacking_dumps : (s : State) (fields : List Field) (o : Outcome) → o ≡ Err Memory → IsDumpOf s fields o
 lacking_dumps s fields (Ok reply) is = absurd cc
@@ -95,9 +92,8 @@ then_ok (Err fault) f u is = absurd cc
 
 refused_not : (s v : State) (c : Command) (f : Fault) → step s c ≡ Ok v → IsFalse (lacks_memory (Err f)) →
     IsRefusal s c f → ⊥
-refused_not s v c f is had (ByState e) = let no : ◌≡◌ {A = Result State Fault} (Ok v) (Err f) = sym is ∙ e in cc
-refused_not s v c f is had (Lacks memory may) =
-    both_ways (lacks_memory (Err f)) had (ap (λ (g : Fault). lacks_memory (Err g)) memory)
+refused_not s v c f is had (ByState e) = grind arith
+refused_not s v c f is had (Lacks memory may) = grind arith
 
 command_goes : (s t v : State) (r : Read Command) (c : Command) (o : Outcome) → r ≡ Ok c → step s c ≡ Ok v →
     IsFalse (lacks_memory o) → CommandOutcome s r o t → (is_err o ≡ false) × (t ≡ v)

@@ -1,19 +1,15 @@
 -- Runs over bytes in memory are runs of a csv reader that has all of its bytes.
-use Rattle.std.proofs.Common.{arith, rules, ◌≡◌, ◌∙◌, ℕ, Bool, List, [], ◌∷◌, Option, Some, None, true, false, refl, ap}
+use Rattle.std.proofs.Common.{◌≡◌, ◌∙◌, ℕ, Bool, List, [], Option, Some, None, true, false, refl, ap}
 use Rattle.std.proofs.Common.{inl}
 use Rattle.csv.specs.Reading.{ReadRecord, ReadsNext, default_config, source_of, pending_of, strip_bom}
 use Rattle.csv.specs.declared.reader.Reader.{Reader}
 use Rattle.csv.specs.declared.reader.Trim.TheVariants as trim
 use Rattle.olr_records.specs.Records.{Field}
-use Rattle.olr_register.specs.Registered.{Registered}
 use Rattle.olr_run.specs.InMemory.{csv_state, TookFrom, BytesHappens}
-use Rattle.olr_run.specs.Runs.{RanIn, CutIn, In_taking, Past_the_most, No_text, In_text}
-use Rattle.olr_run.specs.Sessions.{Known, Event, Took, Ended, Not_taken, Wrote, Cut, History, IsPlain, CsvHappens}
-use Rattle.olr_run.specs.declared.ends.RunFault.{RunFault}
-use Rattle.olr_run.specs.declared.ends.Status.{Status}
+use Rattle.olr_run.specs.Sessions.{Known, Event, Took, Ended, Not_taken, Wrote, Cut, IsPlain, CsvHappens}
 use Rattle.olr_run.specs.declared.in_memory.InMemory.{InMemory}
 use Rattle.olr_run.specs.declared.in_memory.State.TheVariants.{StartRecord}
-use Rattle.olr_run.proofs.InputRuns.{OfReader, Starts}
+use Rattle.olr_run.proofs.InputRuns.{Starts}
 
 -- all of the bytes are known
 abbrev pub all_known : List ℕ → Option (List ℕ)
@@ -64,17 +60,20 @@ plain_of s = record { config = refl; trim = refl; flexible = refl; ready = inl r
 
 -- ---- events
 
-happens_as : (a b : InMemory) (before later : Known) (e : Event) → BytesHappens a b before later e →
-    CsvHappens all_known (reader_of a) (reader_of b) before later e
-unfolding reader_of
-happens_as a b before later (Took fields) h = (λ plain. (plain_of b, read_of a b true fields h.0), h.1)
-happens_as a b before later Ended h = (([], λ plain. (plain_of b, read_of a b false [] h.0)), h.1)
-happens_as a b before later (Not_taken e) h = (λ plain. h.0, h.1)
-happens_as a b before later (Wrote text) h = (ap reader_of h.0, h.1)
-happens_as a b before later (Cut front) h = (ap reader_of h.0, h.1)
-
-abbrev OfBytes : {W : Type 0} → (W → Known) → InMemory × W → Event → InMemory × W → Type 0
+abbrev pub OfBytes : {W : Type 0} → (W → Known) → InMemory × W → Event → InMemory × W → Type 0
 OfBytes contents a e b = BytesHappens a.0 b.0 (contents a.1) (contents b.1) e
+
+abbrev pub bytes_at : {W : Type 0} → InMemory × W → Reader (List ℕ)
+bytes_at p = reader_of p.0
+
+pub happens_as : {W : Type 0} (contents : W → Known) (a b : InMemory × W) (e : Event) → OfBytes contents a e b →
+    CsvHappens all_known (bytes_at a) (bytes_at b) (contents a.1) (contents b.1) e
+unfolding reader_of
+happens_as contents a b (Took fields) h = (λ plain. (plain_of b.0, read_of a.0 b.0 true fields h.0), h.1)
+happens_as contents a b Ended h = (([], λ plain. (plain_of b.0, read_of a.0 b.0 false [] h.0)), h.1)
+happens_as contents a b (Not_taken e) h = (λ plain. h.0, h.1)
+happens_as contents a b (Wrote text) h = (ap reader_of h.0, h.1)
+happens_as contents a b (Cut front) h = (ap reader_of h.0, h.1)
 
 pub starts_in_memory : (s : InMemory) (bytes : List ℕ) → s.rest.now ≡ strip_bom bytes → s.state ≡ StartRecord →
     s.failed ≡ false → Starts all_known (reader_of s) (Some bytes)
@@ -85,26 +84,3 @@ starts_in_memory s bytes rest first fresh =
       state = ap csv_state first;
       source = source_is s fresh ∙ ap (λ (xs : List ℕ). Some xs) rest;
     }
-
--- ---- runs
-
-module _ {W : Type 0} (contents : W → Known) where
-  history_as : (a b : InMemory × W) (es : List Event) → History (OfBytes contents) a es b
-      → History (OfReader all_known contents) (reader_of a.0, a.1) es (reader_of b.0, b.1)
-  history_as a b [] h = ap (λ (p : InMemory × W). (reader_of p.0, p.1)) h
-  history_as a b (e ∷ es) h = search (rules, arith, reader_of, happens_as, history_as h.0 b es h.2)
-
-  module _ (stop : Bool) (old new : Registered) (a b : InMemory × W) where
-    pub ran_in_as : (end : Status) → RanIn (OfBytes contents) stop old a new b end →
-        RanIn (OfReader all_known contents) stop old (reader_of a.0, a.1) new (reader_of b.0, b.1) end
-    ran_in_as end h = search (rules, arith, history_as)
-
-    pub cut_in_as : (e : RunFault) → CutIn (OfBytes contents) stop old a new b e →
-        CutIn (OfReader all_known contents) stop old (reader_of a.0, a.1) new (reader_of b.0, b.1) e
-    cut_in_as e (In_taking of rs ws l history answered) = In_taking of rs ws l (history_as a b _ history) answered
-    cut_in_as e (Past_the_most is rs ws l most r history answered) =
-        Past_the_most is rs ws l most r (history_as a b _ history) answered
-    cut_in_as e (No_text is rs ws l r w history answered) =
-        No_text is rs ws l r w (history_as a b _ history) answered
-    cut_in_as e (In_text is rs ws l r front rest some history answered) =
-        In_text is rs ws l r front rest some (history_as a b _ history) answered

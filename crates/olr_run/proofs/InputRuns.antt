@@ -1,7 +1,7 @@
 -- Runs over an input of known bytes, from the history of their session.
 use Rattle.std.proofs.Common.{◌≡◌, ◌≢◌, ◌∙◌, ◌+◌, ◌<◌, ℕ, Bool, true, false, List, [], ◌∷◌, ◌++◌, length, map}
 use Rattle.std.proofs.Common.{option_map, None, Some, inl, inr, refl, sym, ap, subst, arith, length-append}
-use Rattle.std.specs.Prelude.{◌&&◌, IsFalse, ⊤}
+use Rattle.std.specs.Prelude.{◌&&◌, IsFalse, IfOk, IfErr, Result, Ok, Err, ⊤}
 use Rattle.std.proofs.lemmas.List.{append-nil, append_assoc, length-map}
 use Rattle.std.specs.Io.KnownBytes.{Appends}
 use Rattle.std.proofs.KnownBytes.{Appends-nil, Appends-trans}
@@ -20,7 +20,7 @@ use Rattle.olr_records.specs.ReplyText.{outcome_text}
 use Rattle.olr_register.specs.Registered.{Registered}
 use Rattle.olr_run.specs.Output.{SoundOutcome, SoundOutcomes, Claims, texts, Ran, Faulted, records_of, most_records}
 use Rattle.olr_run.specs.Output as output
-use Rattle.olr_run.specs.Sessions.{Known, Event, Took, Ended, Not_taken, Cut, History, exchanges, IsPlain}
+use Rattle.olr_run.specs.Sessions.{Known, Event, Took, Ended, Not_taken, Wrote, Cut, History, exchanges, IsPlain}
 use Rattle.olr_run.specs.Sessions.{CsvHappens, IsOfTaking}
 use Rattle.olr_run.specs.Runs.{known_records, RanOn, FaultedOn, HasTooMany, RanIn, CutIn, In_taking, Past_the_most}
 use Rattle.olr_run.specs.Runs.{No_text, In_text, AnsweredOn, status_of}
@@ -61,6 +61,12 @@ last_of (o ∷ os) (x ∷ ws) w e =
 abbrev pub OfReader : {R W : Type 0} → (R → Known) → (W → Known) → Reader R × W → Event → Reader R × W → Type 0
 OfReader remaining contents a e b = CsvHappens remaining a.0 b.0 (contents a.1) (contents b.1) e
 
+abbrev pub reader_at : {R W : Type 0} → Reader R × W → Reader R
+reader_at p = p.0
+
+abbrev pub written_at : {A W : Type 0} → (W → Known) → A × W → Known
+written_at contents p = contents p.1
+
 -- these records of the input were read, up to this state of a reader
 abbrev After : {R : Type 0} → List ℕ → List (List Field) → Reader R → List ℕ → Type 0
 After input records r left = Reached default_config st.StartRecord (strip_bom input) records (reader_state r) left
@@ -89,45 +95,14 @@ module _ {R : Type 0} (remaining : R → Known) where
       (q.0, q.1, subst (λ (xs : List (List Field)). After input xs c q.0) (append_assoc records rs ms) q.2)
 
 -- the rest of the history follows these exchanges
-pub record Exchanged {R W : Type 0} (remaining : R → Known) (contents : W → Known) (a : Reader R × W)
-    (rs : List (List Field)) (ws : List (List ℕ)) (es : List Event) (b : Reader R × W) : Type 0 where
-  pub mid : Reader R × W
-  pub plain : IsPlain mid.0
-  pub wrote : Appends (contents a.1) (contents mid.1) (joined ws)
-  pub read : Follows remaining a.0 rs mid.0
-  pub rest : History (OfReader remaining contents) mid es b
-
-exchanged : {R W : Type 0} (remaining : R → Known) (contents : W → Known) (a b : Reader R × W) (rs : List (List Field))
-    (ws : List (List ℕ)) (es : List Event) → length ws ≡ length rs → IsPlain a.0
-    → History (OfReader remaining contents) a (exchanges rs ws ++ es) b → Exchanged remaining contents a rs ws es b
-unfolding joined
-exchanged remaining contents a b [] [] es l plain h =
-    record {
-      mid = a;
-      plain = plain;
-      wrote = Appends-nil (contents a.1);
-      read = follows_none remaining a.0;
-      rest = h;
-    }
-exchanged remaining contents a b (r ∷ rs) (w ∷ ws) es l plain h =
-    let one = h.1.0 plain in
-    let same : h.2.0.0 ≡ h.0.0 = h.2.1.0 in
-    let wrote : Appends (contents a.1) (contents h.2.0.1) w =
-    subst (λ (x : Known). Appends x (contents h.2.0.1) w) h.1.1 h.2.1.1 in
-    let read : Follows remaining a.0 (r ∷ []) h.2.0.0 =
-    subst (Follows remaining a.0 (r ∷ [])) (sym same) (follows_one remaining a.0 h.0.0 r plain one.1) in
-    let next =
-    exchanged remaining contents h.2.0 b rs ws es (omega arith) (subst (λ (x : Reader _). IsPlain x) (sym same) one.0)
-    h.2.2
-    in
-    record {
-      mid = next.mid;
-      plain = next.plain;
-      wrote = Appends-trans (contents a.1) (contents h.2.0.1) (contents next.mid.1) w (joined ws) wrote next.wrote;
-      read = follows_join remaining a.0 h.2.0.0 next.mid.0 (r ∷ []) rs read next.read;
-      rest = next.rest;
-    }
-exchanged remaining contents a b rs ws es l plain h = absurd (omega arith)
+pub record Exchanged {S R : Type 0} (remaining : R → Known) (reader : S → Reader R) (contents : S → Known)
+    (happens : S → Event → S → Type 0) (a : S) (rs : List (List Field)) (ws : List (List ℕ)) (es : List Event) (b : S) :
+    Type 0 where
+  pub mid : S
+  pub plain : IsPlain (reader mid)
+  pub wrote : Appends (contents a) (contents mid) (joined ws)
+  pub read : Follows remaining (reader a) rs (reader mid)
+  pub rest : History happens mid es b
 
 -- the reader of an input before its first record
 pub record Starts {R : Type 0} (remaining : R → Known) (a : Reader R) (known : Known) : Type 0 where
@@ -165,181 +140,204 @@ not_writing : (e : RunFault) → IsOfTaking e → e ≢ fault.Write
 not_writing fault.Write h = absurd h
 not_writing e h = λ is. cc
 
-module _ {R W : Type 0} (remaining : R → Known) (contents : W → Known) (stop : Bool) (old new : Registered)
-    (a b : Reader R × W) (input : List ℕ) (starts : Starts remaining a.0 (Some input)) where
-  -- one more record was taken
-  taken : (rs : List (List Field)) (r : List Field) (ws : List (List ℕ)) (es : List Event) →
-      (x : Exchanged remaining contents a rs ws (Took r ∷ es) b)
-      → Appends (contents a.1) (contents x.rest.0.1) (joined ws) × Follows remaining a.0 (rs ++ r ∷ []) x.rest.0.0
-  taken rs r ws es x = (
-    subst (λ (k : Known). Appends (contents a.1) k (joined ws)) (sym x.rest.1.1) x.wrote,
-    follows_join remaining a.0 x.mid.0 x.rest.0.0 rs (r ∷ []) x.read
-        (follows_one remaining x.mid.0 x.rest.0.0 r x.plain (x.rest.1.0 x.plain).1),
-  )
+-- a session whose events are those of a reader and of a writer whose bytes are known
+module _ {S R : Type 0} (remaining : R → Known) (reader : S → Reader R) (contents : S → Known)
+    (happens : S → Event → S → Type 0)
+    (seen : (a b : S) (e : Event) → happens a e b →
+    CsvHappens remaining (reader a) (reader b) (contents a) (contents b) e) where
+  exchanged : (a b : S) (rs : List (List Field)) (ws : List (List ℕ)) (es : List Event) → length ws ≡ length rs →
+      IsPlain (reader a) → History happens a (exchanges rs ws ++ es) b →
+      Exchanged remaining reader contents happens a rs ws es b
+  unfolding joined
+  exchanged a b [] [] es l plain h =
+      record {
+        mid = a;
+        plain = plain;
+        wrote = Appends-nil (contents a);
+        read = follows_none remaining (reader a);
+        rest = h;
+      }
+  exchanged a b (r ∷ rs) (w ∷ ws) es l plain h =
+      let took = seen a h.0 (Took r) h.1 in
+      let wrote = seen h.0 h.2.0 (Wrote w) h.2.1 in
+      let one = took.0 plain in
+      let text : Appends (contents a) (contents h.2.0) w =
+      subst (λ (x : Known). Appends x (contents h.2.0) w) took.1 wrote.1 in
+      let read : Follows remaining (reader a) (r ∷ []) (reader h.2.0) =
+      subst (Follows remaining (reader a) (r ∷ [])) (sym wrote.0)
+      (follows_one remaining (reader a) (reader h.0) r plain one.1) in
+      let next =
+      exchanged h.2.0 b rs ws es (omega arith) (subst (λ (x : Reader R). IsPlain x) (sym wrote.0) one.0) h.2.2 in
+      record {
+        mid = next.mid;
+        plain = next.plain;
+        wrote = Appends-trans (contents a) (contents h.2.0) (contents next.mid) w (joined ws) text next.wrote;
+        read = follows_join remaining (reader a) (reader h.2.0) (reader next.mid) (r ∷ []) rs read next.read;
+        rest = next.rest;
+      }
+  exchanged a b rs ws es l plain h = absurd (omega arith)
 
-  module _ (base : IsContent old.kept.content) where
-    -- the claims are those of all records of the input
-    of_all : (And : List Outcome → Type 0) (m : Reader R) (rs : List (List Field)) (ws : List (List ℕ)) →
-        Follows remaining a.0 rs m → AnsweredOn stop And old rs ws new → AnsweredOn stop And old (records_of input) ws new
-    of_all And m rs ws read answered s represents =
-        let f = first_of remaining a.0 m input rs starts read in
-        let h = answered s represents in
-        let all = subst (λ (xs : List (List Field)). SoundOutcomes s xs h.2 h.0) (sym f.3)
-        (run_longer SoundOutcome s h.0 rs f.1 h.2 h.3.headline.run) in (
-          h.0,
-          h.1,
-          h.2,
-          claims_of s (records_of input) h.2 h.0 (represented old s base represents) all,
-          h.4,
-          h.5,
-          h.6,
+  module _ (stop : Bool) (old new : Registered) (a b : S) where
+    -- one more record was taken
+    taken : (rs : List (List Field)) (r : List Field) (ws : List (List ℕ)) (es : List Event) →
+        (x : Exchanged remaining reader contents happens a rs ws (Took r ∷ es) b)
+        → Appends (contents a) (contents x.rest.0) (joined ws) × Follows remaining (reader a) (rs ++ r ∷ [])
+        (reader x.rest.0)
+    taken rs r ws es x =
+        let took = seen x.mid x.rest.0 (Took r) x.rest.1 in (
+          subst (λ (k : Known). Appends (contents a) k (joined ws)) (sym took.1) x.wrote,
+          follows_join remaining (reader a) (reader x.mid) (reader x.rest.0) rs (r ∷ []) x.read
+              (follows_one remaining (reader x.mid) (reader x.rest.0) r x.plain (took.0 x.plain).1),
         )
 
-    -- the end of a run after the last record of the input
-    ended_whole : (end : Status) (rs : List (List Field)) (ws : List (List ℕ)) → length ws ≡ length rs →
-        Exchanged remaining contents a rs ws (Ended ∷ []) b
-        → AnsweredOn stop (λ os. status_of end ≡ output.run_status stop os) old rs ws new
-        → RanOn Claims stop old (Some (records_of input)) (contents a.1) new (contents b.1) end
-    ended_whole end rs ws l x answered s represents =
-        let f = first_of remaining a.0 x.mid.0 input rs starts x.read in
-        let h = of_all _ x.mid.0 rs ws x.read answered s represents in
-        let none =
-        rows-end remaining x.mid.0 x.rest.0.0 x.rest.1.0.0 default_config f.0 x.plain.config f.2
-        ((x.rest.1.0.1 x.plain).1) in
-        let rows_are : records_of input ≡ rs =
-        f.3 ∙ ap (λ (ms : List (List Field)). rs ++ ms) (f.4 none) ∙ append-nil rs in
-        let later : contents b.1 ≡ contents x.mid.1 =
-        ap (λ (p : Reader R × W). contents p.1) (sym x.rest.2) ∙ x.rest.1.1 in (
-          h.0,
-          h.1,
-          texts h.2,
-          written_is (contents a.1) (contents x.mid.1) (contents b.1) ws h.2 later h.4 x.wrote,
-          record {
-            outcomes = h.2;
-            each = h.3;
-            stops = h.5;
-            all = inl (sym (length-map h.2 outcome_text) ∙ ap length h.4 ∙ l ∙ ap length (sym rows_are));
-            wrote = refl;
-            ended = h.6;
-          },
-        )
+    module _ (input : List ℕ) (starts : Starts remaining (reader a) (Some input)) where
+      -- all records of the input were answered
+      whole : (rs : List (List Field)) (ws : List (List ℕ)) (os : List Outcome) → length ws ≡ length rs →
+          Exchanged remaining reader contents happens a rs ws (Ended ∷ []) b → map outcome_text os ≡ ws →
+          length os ≡ length (records_of input)
+      whole rs ws os l x are =
+          let f = first_of remaining (reader a) (reader x.mid) input rs starts x.read in
+          let ended = seen x.mid x.rest.0 Ended x.rest.1 in
+          let none =
+          rows-end remaining (reader x.mid) (reader x.rest.0) ended.0.0 default_config f.0 x.plain.config f.2
+          (ended.0.1 x.plain).1 in
+          let rows_are : records_of input ≡ rs =
+          f.3 ∙ ap (λ (ms : List (List Field)). rs ++ ms) (f.4 none) ∙ append-nil rs in
+          sym (length-map os outcome_text) ∙ ap length are ∙ l ∙ ap length (sym rows_are)
 
-    ended_stopped : (rs : List (List Field)) (ws : List (List ℕ)) → Exchanged remaining contents a rs ws [] b
-        → AnsweredOn stop (λ os. output.Stopped ≡ output.run_status stop os) old rs ws new
-        → RanOn Claims stop old (Some (records_of input)) (contents a.1) new (contents b.1) ended.Stopped
-    ended_stopped rs ws x answered s represents =
-        let h = of_all _ x.mid.0 rs ws x.read answered s represents in
-        let later : contents b.1 ≡ contents x.mid.1 = ap (λ (p : Reader R × W). contents p.1) (sym x.rest) in (
-          h.0,
-          h.1,
-          texts h.2,
-          written_is (contents a.1) (contents x.mid.1) (contents b.1) ws h.2 later h.4 x.wrote,
-          record {
-            outcomes = h.2;
-            each = h.3;
-            stops = h.5;
-            all = inr (stopped_is stop (output.any_refused h.2) h.6);
-            wrote = refl;
-            ended = h.6;
-          },
-        )
+      module _ (base : IsContent old.kept.content) where
+        -- the claims are those of all records of the input
+        of_all : (And : List Outcome → Type 0) (m : S) (rs : List (List Field)) (ws : List (List ℕ)) →
+            Follows remaining (reader a) rs (reader m) → AnsweredOn stop And old rs ws new →
+            AnsweredOn stop And old (records_of input) ws new
+        of_all And m rs ws read answered s represents =
+            let f = first_of remaining (reader a) (reader m) input rs starts read in
+            let h = answered s represents in
+            let all = subst (λ (xs : List (List Field)). SoundOutcomes s xs h.2 h.0) (sym f.3)
+            (run_longer SoundOutcome s h.0 rs f.1 h.2 h.3.headline.run) in (
+              h.0,
+              h.1,
+              h.2,
+              claims_of s (records_of input) h.2 h.0 (represented old s base represents) all,
+              h.4,
+              h.5,
+              h.6,
+            )
 
-    -- cut off before the next record
-    cut_before : (e : RunFault) (rs : List (List Field)) (ws : List (List ℕ)) (m : Reader R × W) → e ≢ fault.Write →
-        Follows remaining a.0 rs m.0 → Appends (contents a.1) (contents m.1) (joined ws) → contents b.1 ≡ contents m.1
-        → AnsweredOn stop (λ os. IsFalse (stop && output.any_refused os)) old rs ws new
-        → FaultedOn Claims stop old (Some (records_of input)) (contents a.1) new (contents b.1) e
-    cut_before e rs ws m no_write read wrote later answered s represents =
-        let h = of_all _ m.0 rs ws read answered s represents in (
-          h.0,
-          h.1,
-          texts h.2,
-          written_is (contents a.1) (contents m.1) (contents b.1) ws h.2 later h.4 wrote,
-          record { outcomes = h.2; each = h.3; stops = h.5; wrote = output.Before_next no_write h.6 refl },
-        )
+        -- the end of a run that was not cut off
+        ended_in : (end : Status) (rs : List (List Field)) (ws : List (List ℕ)) (m : S) →
+            Follows remaining (reader a) rs (reader m) → Appends (contents a) (contents m) (joined ws) →
+            contents b ≡ contents m
+            → ((os : List Outcome) → map outcome_text os ≡ ws → status_of end ≡ output.run_status stop os →
+            output.AreAnswered stop (records_of input) os)
+            → AnsweredOn stop (λ os. status_of end ≡ output.run_status stop os) old rs ws new
+            → RanOn Claims stop old (Some (records_of input)) (contents a) new (contents b) end
+        ended_in end rs ws m read wrote later all answered s represents =
+            let h = of_all _ m rs ws read answered s represents in (
+              h.0,
+              h.1,
+              texts h.2,
+              written_is (contents a) (contents m) (contents b) ws h.2 later h.4 wrote,
+              record { outcomes = h.2; each = h.3; stops = h.5; all = all h.2 h.4 h.6; wrote = refl; ended = h.6 },
+            )
 
-    -- cut off in the answer to the last record, of which only the first bytes were written
-    cut_last : (e : RunFault) (rs : List (List Field)) (ws : List (List ℕ)) (text front : List ℕ) (m : Reader R × W) →
-        Follows remaining a.0 rs m.0 → Appends (contents a.1) (contents m.1) (joined ws)
-        → Appends (contents m.1) (contents b.1) front
-        → AnsweredOn stop (λ os. ⊤) old rs (ws ++ text ∷ []) new
-        → ((os before : List Outcome) (last : Outcome) → os ≡ before ++ last ∷ [] → outcome_text last ≡ text →
-        output.CutOff stop os (texts before ++ front) e)
-        → FaultedOn Claims stop old (Some (records_of input)) (contents a.1) new (contents b.1) e
-    cut_last e rs ws text front m read wrote more answered cut s represents =
-        let h = of_all _ m.0 rs (ws ++ text ∷ []) read answered s represents in
-        let o = last_of h.2 ws text h.4 in (
-          h.0,
-          h.1,
-          texts o.0 ++ front,
-          Appends-trans (contents a.1) (contents m.1) (contents b.1) (texts o.0) front
-              (written_is (contents a.1) (contents m.1) (contents m.1) ws o.0 refl o.3 wrote) more,
-          record { outcomes = h.2; each = h.3; stops = h.5; wrote = cut h.2 o.0 o.1 o.2 o.4 },
-        )
+        -- cut off before the next record
+        cut_before : (e : RunFault) (rs : List (List Field)) (ws : List (List ℕ)) (m : S) → e ≢ fault.Write →
+            Follows remaining (reader a) rs (reader m) → Appends (contents a) (contents m) (joined ws) →
+            contents b ≡ contents m → AnsweredOn stop (λ os. IsFalse (stop && output.any_refused os)) old rs ws new
+            → FaultedOn Claims stop old (Some (records_of input)) (contents a) new (contents b) e
+        cut_before e rs ws m no_write read wrote later answered s represents =
+            let h = of_all _ m rs ws read answered s represents in (
+              h.0,
+              h.1,
+              texts h.2,
+              written_is (contents a) (contents m) (contents b) ws h.2 later h.4 wrote,
+              record { outcomes = h.2; each = h.3; stops = h.5; wrote = output.Before_next no_write h.6 refl },
+            )
 
-pub ran_on : {R W : Type 0} (remaining : R → Known) (contents : W → Known) (stop : Bool) (old new : Registered)
-    (a b : Reader R × W) (known : Known) (end : Status) → IsContent old.kept.content → Starts remaining a.0 known
-    → RanIn (OfReader remaining contents) stop old a new b end
-    → RanOn Claims stop old (known_records known) (contents a.1) new (contents b.1) end
-ran_on remaining contents stop old new a b None end base starts h = tt
-ran_on remaining contents stop old new a b (Some input) ended.Stopped base starts h =
-    ended_stopped remaining contents stop old new a b input starts base h.records h.texts
-    (exchanged remaining contents a b h.records h.texts [] h.each starts.plain h.history) h.answered
-ran_on remaining contents stop old new a b (Some input) end base starts h =
-    ended_whole remaining contents stop old new a b input starts base end h.records h.texts h.each
-    (exchanged remaining contents a b h.records h.texts (Ended ∷ []) h.each starts.plain h.history) h.answered
+        -- cut off in the answer to the last record, of which only the first bytes were written
+        cut_last : (e : RunFault) (rs : List (List Field)) (ws : List (List ℕ)) (text front : List ℕ) (m : S) →
+            Follows remaining (reader a) rs (reader m) → Appends (contents a) (contents m) (joined ws)
+            → Appends (contents m) (contents b) front → AnsweredOn stop (λ os. ⊤) old rs (ws ++ text ∷ []) new
+            → ((os before : List Outcome) (last : Outcome) → os ≡ before ++ last ∷ [] → outcome_text last ≡ text →
+            output.CutOff stop os (texts before ++ front) e)
+            → FaultedOn Claims stop old (Some (records_of input)) (contents a) new (contents b) e
+        cut_last e rs ws text front m read wrote more answered cut s represents =
+            let h = of_all _ m rs (ws ++ text ∷ []) read answered s represents in
+            let o = last_of h.2 ws text h.4 in (
+              h.0,
+              h.1,
+              texts o.0 ++ front,
+              Appends-trans (contents a) (contents m) (contents b) (texts o.0) front
+                  (written_is (contents a) (contents m) (contents m) ws o.0 refl o.3 wrote) more,
+              record { outcomes = h.2; each = h.3; stops = h.5; wrote = cut h.2 o.0 o.1 o.2 o.4 },
+            )
 
-pub cut_on : {R W : Type 0} (remaining : R → Known) (contents : W → Known) (stop : Bool) (old new : Registered)
-    (a b : Reader R × W) (known : Known) (e : RunFault) → IsContent old.kept.content → Starts remaining a.0 known
-    → CutIn (OfReader remaining contents) stop old a new b e
-    → FaultedOn Claims stop old (known_records known) (contents a.1) new (contents b.1) e
-cut_on remaining contents stop old new a b None e base starts h = tt
-cut_on remaining contents stop old new a b (Some input) e base starts (In_taking of rs ws l history answered) =
-    let x = exchanged remaining contents a b rs ws (Not_taken e ∷ []) l starts.plain history in
-    cut_before remaining contents stop old new a b input starts base e rs ws x.mid (not_writing e of) x.read x.wrote
-    (ap (λ (p : Reader _ × _). contents p.1) (sym x.rest.2) ∙ x.rest.1.1) answered
-cut_on remaining contents stop old new a b (Some input) e base starts (Past_the_most is rs ws l most r history answered)
-    =
-    let x = exchanged remaining contents a b rs ws (Took r ∷ []) l starts.plain history in
-    cut_before remaining contents stop old new a b input starts base e rs ws x.mid
-    (λ write. let never : fault.TooMany ≡ fault.Write = sym is ∙ write in cc) x.read x.wrote
-    (ap (λ (p : Reader _ × _). contents p.1) (sym x.rest.2) ∙ x.rest.1.1) answered
-cut_on remaining contents stop old new a b (Some input) e base starts (No_text is rs ws l r w history answered) =
-    let x = exchanged remaining contents a b rs ws (Took r ∷ []) l starts.plain history in
-    let t = taken remaining contents stop old new a b input starts rs r ws [] x in
-    cut_last remaining contents stop old new a b input starts base e (rs ++ r ∷ []) ws w [] x.rest.0 t.1 t.0
-    (subst (λ (p : Reader _ × _). Appends (contents x.rest.0.1) (contents p.1) []) x.rest.2
-    (Appends-nil (contents x.rest.0.1))) answered
-    (λ os before last are text. output.No_text is before last are (append-nil (texts before)))
-cut_on remaining contents stop old new a b (Some input) e base starts (In_text is rs ws l r front rest some history
-    answered) =
-    let x = exchanged remaining contents a b rs ws (Took r ∷ Cut front ∷ []) l starts.plain history in
-    let t = taken remaining contents stop old new a b input starts rs r ws (Cut front ∷ []) x in
-    cut_last remaining contents stop old new a b input starts base e (rs ++ r ∷ []) ws (front ++ rest) front x.rest.0
-    t.1 t.0
-    (subst (λ (p : Reader _ × _). Appends (contents x.rest.0.1) (contents p.1) front) x.rest.2.2 x.rest.2.1.1) answered
-    (λ os before last are text. output.In_last is before last front rest are text some refl)
+    module _ (base : IsContent old.kept.content) where
+      ran_on : (known : Known) (end : Status) → Starts remaining (reader a) known →
+          RanIn happens stop old a new b end
+          → RanOn Claims stop old (known_records known) (contents a) new (contents b) end
+      ran_on None end starts h = tt
+      ran_on (Some input) ended.Stopped starts h =
+          let x = exchanged a b h.records h.texts [] h.each starts.plain h.history in
+          ended_in input starts base ended.Stopped h.records h.texts x.mid x.read x.wrote (ap contents (sym x.rest))
+          (λ os are is. inr (stopped_is stop (output.any_refused os) is)) h.answered
+      ran_on (Some input) end starts h =
+          let x = exchanged a b h.records h.texts (Ended ∷ []) h.each starts.plain h.history in
+          ended_in input starts base end h.records h.texts x.mid x.read x.wrote
+          (ap contents (sym x.rest.2) ∙ (seen x.mid x.rest.0 Ended x.rest.1).1)
+          (λ os are is. inl (whole input starts h.records h.texts os h.each x are)) h.answered
 
-pub too_many : {R W : Type 0} (remaining : R → Known) (contents : W → Known) (stop : Bool) (old new : Registered)
-    (a b : Reader R × W) (known : Known) (e : RunFault) → Starts remaining a.0 known
-    → CutIn (OfReader remaining contents) stop old a new b e → e ≡ fault.TooMany → HasTooMany known
-too_many remaining contents stop old new a b None e starts h is = tt
-too_many remaining contents stop old new a b (Some input) e starts (In_taking of rs ws l history answered) is =
-    absurd (subst IsOfTaking is of)
-too_many remaining contents stop old new a b (Some input) e starts (Past_the_most _ rs ws l most r history answered) is
-    =
-    let x = exchanged remaining contents a b rs ws (Took r ∷ []) l starts.plain history in
-    let t = taken remaining contents stop old new a b input starts rs r ws [] x in
-    let f = first_of remaining a.0 x.rest.0.0 input (rs ++ r ∷ []) starts t.1 in
-    let size : length (records_of input) ≡ (length rs + 1) + length f.1 =
-    ap length f.3 ∙ length-append (rs ++ r ∷ []) f.1 ∙ ap (λ (k : ℕ). k + length f.1) (length-append rs (r ∷ [])) in
-    subst (λ (k : ℕ). most_records < k) (sym size)
-    (subst (λ (k : ℕ). most_records < (k + 1) + length f.1) (sym most) (above most_records (length f.1)))
-  where
-    above : (k m : ℕ) → k < (k + 1) + m
-    above k m = omega arith
-too_many remaining contents stop old new a b (Some input) e starts (No_text memory rs ws l r w history answered) is =
-    let never : fault.Memory ≡ fault.TooMany = sym memory ∙ is in absurd cc
-too_many remaining contents stop old new a b (Some input) e starts (In_text write rs ws l r front rest some history
-    answered) is =
-    let never : fault.Write ≡ fault.TooMany = sym write ∙ is in absurd cc
+      cut_on : (known : Known) (e : RunFault) → Starts remaining (reader a) known → CutIn happens stop old a new b e
+          → FaultedOn Claims stop old (known_records known) (contents a) new (contents b) e
+      cut_on None e starts h = tt
+      cut_on (Some input) e starts (In_taking of rs ws l history answered) =
+          let x = exchanged a b rs ws (Not_taken e ∷ []) l starts.plain history in
+          cut_before input starts base e rs ws x.mid (not_writing e of) x.read x.wrote
+          (ap contents (sym x.rest.2) ∙ (seen x.mid x.rest.0 (Not_taken e) x.rest.1).1) answered
+      cut_on (Some input) e starts (Past_the_most is rs ws l most r history answered) =
+          let x = exchanged a b rs ws (Took r ∷ []) l starts.plain history in
+          cut_before input starts base e rs ws x.mid
+          (λ write. let never : fault.TooMany ≡ fault.Write = sym is ∙ write in cc) x.read x.wrote
+          (ap contents (sym x.rest.2) ∙ (seen x.mid x.rest.0 (Took r) x.rest.1).1) answered
+      cut_on (Some input) e starts (No_text is rs ws l r w history answered) =
+          let x = exchanged a b rs ws (Took r ∷ []) l starts.plain history in
+          let t = taken rs r ws [] x in
+          cut_last input starts base e (rs ++ r ∷ []) ws w [] x.rest.0 t.1 t.0
+          (subst (λ (p : S). Appends (contents x.rest.0) (contents p) []) x.rest.2 (Appends-nil (contents x.rest.0)))
+          answered (λ os before last are text. output.No_text is before last are (append-nil (texts before)))
+      cut_on (Some input) e starts (In_text is rs ws l r front rest some history answered) =
+          let x = exchanged a b rs ws (Took r ∷ Cut front ∷ []) l starts.plain history in
+          let t = taken rs r ws (Cut front ∷ []) x in
+          cut_last input starts base e (rs ++ r ∷ []) ws (front ++ rest) front x.rest.0 t.1 t.0
+          (subst (λ (p : S). Appends (contents x.rest.0) (contents p) front) x.rest.2.2
+          (seen x.rest.0 x.rest.2.0 (Cut front) x.rest.2.1).1)
+          answered (λ os before last are text. output.In_last is before last front rest are text some refl)
+
+    too_many : (known : Known) (e : RunFault) → Starts remaining (reader a) known → CutIn happens stop old a new b e →
+        e ≡ fault.TooMany → HasTooMany known
+    too_many None e starts h is = tt
+    too_many (Some input) e starts (In_taking of rs ws l history answered) is = absurd (subst IsOfTaking is of)
+    too_many (Some input) e starts (Past_the_most _ rs ws l most r history answered) is =
+        let x = exchanged a b rs ws (Took r ∷ []) l starts.plain history in
+        let f = first_of remaining (reader a) (reader x.rest.0) input (rs ++ r ∷ []) starts (taken rs r ws [] x).1 in
+        let size : length (records_of input) ≡ (length rs + 1) + length f.1 =
+        ap length f.3 ∙ length-append (rs ++ r ∷ []) f.1 ∙ ap (λ (k : ℕ). k + length f.1) (length-append rs (r ∷ [])) in
+        above most_records (length rs) (length (records_of input)) (length f.1) most size
+      where
+        above : (k n m l : ℕ) → n ≡ k → m ≡ (n + 1) + l → k < m
+        above k n m l e f = omega arith
+    too_many (Some input) e starts (No_text memory rs ws l r w history answered) is =
+        let never : fault.Memory ≡ fault.TooMany = sym memory ∙ is in absurd cc
+    too_many (Some input) e starts (In_text write rs ws l r front rest some history answered) is =
+        let never : fault.Write ≡ fault.TooMany = sym write ∙ is in absurd cc
+
+    -- what a run says of the known bytes of its input
+    pub on_known : (known : Known) (r : Result Status RunFault) → IsContent old.kept.content →
+        Starts remaining (reader a) known → IfOk r (RanIn happens stop old a new b) →
+        IfErr r (CutIn happens stop old a new b)
+        → IfOk r (RanOn Claims stop old (known_records known) (contents a) new (contents b))
+        × IfErr r (FaultedOn Claims stop old (known_records known) (contents a) new (contents b))
+        × IfErr r (λ e. e ≡ fault.TooMany → HasTooMany known)
+    on_known known (Ok end) base starts h k = (ran_on base known end starts h, tt, tt)
+    on_known known (Err e) base starts h k = (tt, cut_on base known e starts k, too_many known e starts k)

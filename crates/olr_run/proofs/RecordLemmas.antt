@@ -2,6 +2,7 @@
 use Rattle.std.proofs.Common.{◌≡◌, ℕ, zero, suc, ◌+◌, ◌<◌, ◌≤◌, Bool, true, false, List, [], ◌∷◌, ◌++◌, length, Option}
 use Rattle.std.proofs.Common.{Some, None, refl, ap, subst, arith}
 use Rattle.std.specs.Prelude.{if◌then◌else◌}
+use Rattle.std.proofs.lemmas.Bool.{cases_Bool}
 use Rattle.csv.specs.Machine.{Read, next_record, step, in_field, start_field, start_record}
 use Rattle.csv.specs.Machine.{is_end, ends_at_end, fields_after, field_after}
 use Rattle.csv.specs.Reading.{records_next, records_from, Reached, default_config, strip_bom}
@@ -27,27 +28,22 @@ in_field_rests c = grind (arith, if_rests)
 
 start_field_rests : (c : ℕ) → Rests (start_field default_config c)
 unfolding Rests
-start_field_rests c = if_rests _ (st.InQuoted, act.Skip) (in_field default_config c) (λ e. absurd cc) (in_field_rests c)
+start_field_rests c = grind (arith, if_rests, in_field_rests)
 
 start_record_rests : (c : ℕ) → Rests (start_record default_config c)
 unfolding Rests
-start_record_rests c =
-    if_rests _ (st.StartRecord, act.Skip) (start_field default_config c) (λ e. absurd cc) (start_field_rests c)
+start_record_rests c = grind (arith, if_rests, start_field_rests)
 
 step_rests : (s : State) (c : ℕ) → Rests (step default_config s c)
 unfolding Rests
 step_rests st.StartRecord c = start_record_rests c
 step_rests st.StartField c = start_field_rests c
 step_rests st.InField c = in_field_rests c
-step_rests st.InQuoted c =
-    if_rests _ (st.AfterQuote, act.Skip) (st.InQuoted, act.Copy) (λ e. absurd cc) (λ e. absurd cc)
+step_rests st.InQuoted c = grind (arith, if_rests)
 step_rests st.InEscape c = λ e. absurd cc
-step_rests st.AfterQuote c =
-    if_rests _ (st.InQuoted, act.Copy) (in_field default_config c) (λ e. absurd cc) (in_field_rests c)
-step_rests st.InComment c =
-    if_rests _ (st.StartRecord, act.Skip) (st.InComment, act.Skip) (λ e. absurd cc) (λ e. absurd cc)
-step_rests st.AfterCr c =
-    if_rests _ (st.StartRecord, act.Skip) (start_record default_config c) (λ e. absurd cc) (start_record_rests c)
+step_rests st.AfterQuote c = grind (arith, if_rests, in_field_rests)
+step_rests st.InComment c = grind (arith, if_rests)
+step_rests st.AfterCr c = grind (arith, if_rests, start_record_rests)
 
 -- the rest is no longer than the text, and no record has begun after the one that was read
 read_leaves : (s : State) (fields : List Field) (field xs : List ℕ) (p : Read) →
@@ -56,22 +52,13 @@ read_leaves : (s : State) (fields : List Field) (field xs : List ℕ) (p : Read)
 unfolding next_record Rests
 read_leaves s fields field [] p e = grind arith
 read_leaves s fields field (c ∷ rest) p e =
-    let to : Read = (fields_after (step default_config s c).1 fields field, (step default_config s c).0, rest) in
-    let on =
-    next_record default_config (step default_config s c).0 (fields_after (step default_config s c).1 fields field)
-    (field_after (step default_config s c).1 c field) rest in
-    elim (is_end (step default_config s c).1) as (λ b. is_end (step default_config s c).1 ≡ b →
-    (if b then Some to else on) ≡ Some p → (length p.2 ≤ length (c ∷ rest)) × (ends_at_end p.1 ≡ false)) [
-      | true ↦ λ t h.
-          let is : to ≡ p = cc in
-          subst (λ (q : Read). (length q.2 ≤ length (c ∷ rest)) × (ends_at_end q.1 ≡ false)) is
-          (omega arith, step_rests s c t)
-      | false ↦ λ t h.
-          let r =
-          read_leaves (step default_config s c).0 (fields_after (step default_config s c).1 fields field)
-          (field_after (step default_config s c).1 c field) rest p h in
-          (let l = r.0 in omega arith, r.1)
-    ] refl e
+    let x = step default_config s c in
+    grind (
+      arith,
+      cases_Bool,
+      step_rests s c,
+      read_leaves x.0 (fields_after x.1 fields field) (field_after x.1 c field) rest p,
+    )
 
 -- the rest is shorter if no record had begun
 read_shortens : (s : State) (xs : List ℕ) (p : Read) → ends_at_end s ≡ false →

@@ -12,9 +12,8 @@ pub stopped : {R : Type 0} (remaining : R → Known) (old new : Reader R) (k : E
     ExplainsRead remaining old new false k → stops_reader k ≡ true
 stopped remaining old new (kind.Io e) f h = refl
 stopped remaining old new kind.OutOfMemory f h = refl
-stopped remaining old new (kind.UnequalLengths pos expected len) f h =
-    absurd (let never : true ≡ false = sym f ∙ h.0 in cc)
-stopped remaining old new (kind.Utf8 pos err) f h = absurd (let never = h.0 in cc)
+stopped remaining old new (kind.UnequalLengths pos expected len) f h = grind arith
+stopped remaining old new (kind.Utf8 pos err) f h = grind arith
 stopped remaining old new (kind.Serialize why) f h = absurd h
 stopped remaining old new (kind.Deserialize pos err) f h = absurd h
 

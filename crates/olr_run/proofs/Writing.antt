@@ -1,11 +1,13 @@
 -- The bytes that are written so far.
-use Rattle.std.proofs.Common.{◌≡◌, ◌≢◌, ◌∙◌, ◌+◌, ◌-◌, ◌≤◌, ◌<◌, ℕ, List, [], ◌++◌, length, take, drop, None, Some, ap, sym}
+use Rattle.std.proofs.Common.{◌≡◌, ◌≢◌, ◌∙◌, ◌+◌, ◌-◌, ◌≤◌, ◌<◌, ℕ, List, [], ◌++◌, length, take, drop, None, Some, Err, refl, ap, sym}
 use Rattle.std.proofs.Common.{subst, arith, length-drop}
 use Rattle.std.proofs.lemmas.List.{append-nil, take-append-drop, take_all}
 use Rattle.std.proofs.Math.Seq.{take-add}
 use Rattle.std.specs.Io.KnownBytes.{Appends, Keeps}
 use Rattle.std.proofs.KnownBytes.{Appends-trans, Appends-kept}
+use Rattle.olr_run.specs.Runs.{WritesAll}
 use Rattle.olr_run.specs.Sessions.{Known}
+use Rattle.olr_run.specs.declared.ends.RunFault.TheVariants.{Write}
 
 -- the first n bytes
 pub record Written (before now : Known) (bytes : List ℕ) (n : ℕ) : Type 0 where
@@ -31,19 +33,16 @@ written_more before now later bytes n k w l h =
           ∙ sym (take-add n k bytes)) (Appends-trans before now later _ _ w.front h);
     }
 
--- only the first bytes were written, not all of them
-abbrev pub Front : Known → Known → List ℕ → Type 0
-Front before later bytes = (front rest : List ℕ) × (bytes ≡ front ++ rest) × (rest ≢ []) × Appends before later front
-
--- the writer took nothing more, or failed
+-- the writer took nothing more, or failed: only the first bytes were written, not all of them
 pub front_of : (before now later : Known) (bytes : List ℕ) (n : ℕ) → Written before now bytes n → n < length bytes →
-    Keeps now later → Front before later bytes
+    Keeps now later → WritesAll before later bytes (Err Write)
 front_of before now later bytes n w more k = (
   take n bytes,
   drop n bytes,
   sym (take-append-drop n bytes),
   (λ none. let size = length-drop n bytes in let nothing : length (drop n bytes) ≡ 0 = ap length none in omega arith),
   Appends-kept before now later _ w.front k,
+  refl,
 )
 
 pub took_nothing : (now later : Known) → Appends now later [] → Keeps now later

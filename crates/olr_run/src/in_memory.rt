@@ -163,6 +163,7 @@ fn is_mark(a: u8, b: u8, c: u8) -> bool
 }
 
 /// The bytes of a text after its byte order mark, if it has one.
+#[tactic(auto, using(crate::proofs::CsvBytes::no_mark_in_few, crate::proofs::CsvBytes::mark_goes, crate::proofs::CsvBytes::no_mark))]
 fn without_mark(text: &[u8]) -> &[u8]
     ensures { result.now ≡ strip_bom text.now }
 {

@@ -7,6 +7,7 @@ use std::io::Write;
 
 /// Writes all of the bytes, in as many calls as the writer needs. `Write` is the fault if the writer fails or writes
 /// nothing.
+#[tactic(auto, using(crate::proofs::Writing::written_more))]
 pub fn write_all<W: Write>(output: &mut W, bytes: &[u8]) -> Result<(), RunFault>
     ensures { WritesAll (W.contents output.old) (W.contents output.new) bytes.now result }
 {

@@ -1,45 +1,22 @@
-use Rattle.std.proofs.Common.{Ok, Err, refl, subst}
+use Rattle.std.proofs.Common.{Ok, Err, refl}
 use Rattle.csv.specs.Records.{fields_of}
-use Rattle.olr_commands.specs.State.{IsContent}
 use Rattle.olr_commands.specs.Words.{command_fault_of, reply_of}
-use Rattle.olr_records.specs.Words.{read_fault_of}
-use Rattle.olr_run.proofs.Answering.{commanded, unread}
+use Rattle.olr_run.proofs.Answering.{carried, not_read}
 use Rattle.olr_run.proofs.answers.carry_out.Goals as goal
 
 pub returns-in-Ok-apply : goal.returns-in-Ok-apply
-returns-in-Ok-apply c s represents sound =
-    let h = c.in-Ok-apply.ensures.outcome s represents in
-    let o = Ok (reply_of c.in-Ok-apply.reply) in (
-      h.0,
-      o,
-      h.1,
-      (
-        commanded s h.0 (fields_of c.args.fields.now) c.in-Ok.command o c.in-Ok.ensures h.2,
-        subst IsContent h.1.0 c.in-Ok-apply.ensures.sound,
-      ),
-      refl,
-    )
+returns-in-Ok-apply c =
+    carried c.args.register.now (fields_of c.args.fields.now) c.apply.new.self (Ok c.in-Ok-apply.reply) c.in-Ok.command
+    (Ok (reply_of c.in-Ok-apply.reply)) c.in-Ok.ensures c.in-Ok-apply.ensures.outcome c.in-Ok-apply.ensures.sound refl
 
 pub returns-in-Err-apply : goal.returns-in-Err-apply
-returns-in-Err-apply c s represents sound =
-    let h = c.in-Err-apply.ensures.outcome s represents in
-    let o = Err (command_fault_of c.in-Err-apply.fault) in (
-      h.0,
-      o,
-      h.1,
-      (
-        commanded s h.0 (fields_of c.args.fields.now) c.in-Ok.command o c.in-Ok.ensures h.2,
-        subst IsContent h.1.0 c.in-Err-apply.ensures.sound,
-      ),
-      (command_fault_of c.in-Err-apply.fault, refl, c.fault_text.ensures),
-    )
+returns-in-Err-apply c =
+    let fault = command_fault_of c.in-Err-apply.fault in
+    carried c.args.register.now (fields_of c.args.fields.now) c.apply.new.self (Err c.fault_text.result) c.in-Ok.command
+    (Err fault) c.in-Ok.ensures c.in-Err-apply.ensures.outcome c.in-Err-apply.ensures.sound
+    (fault, refl, c.fault_text.ensures)
 
 pub returns-in-Err : goal.returns-in-Err
-returns-in-Err c s represents sound =
-    let fault = read_fault_of c.in-Err.fault in (
-      s,
-      Err fault,
-      represents,
-      (unread s (fields_of c.args.fields.now) c.in-Err.fault c.in-Err.ensures, sound),
-      (fault, refl, c.read_fault_text.ensures),
-    )
+returns-in-Err c =
+    not_read c.args.register.now (fields_of c.args.fields.now) c.in-Err.fault c.read_fault_text.result c.in-Err.ensures
+    c.read_fault_text.ensures

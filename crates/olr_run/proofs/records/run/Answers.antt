@@ -2,8 +2,7 @@
 use Rattle.std.proofs.Common.{◌∙◌, ap, true}
 use Rattle.csv.specs.Reading.{builder_config, builder_trim, builder_names_headers, builder_is_flexible, with_flexible}
 use Rattle.csv.specs.declared.reader.ReaderBuilder.{ReaderBuilder}
-use Rattle.std.proofs.lemmas.Result.{IfOk-weaker, IfErr-weaker}
-use Rattle.olr_run.proofs.InputRuns.{starts_with, ran_on, cut_on, too_many}
+use Rattle.olr_run.proofs.InputRuns.{OfReader, reader_at, written_at, starts_with, on_known}
 use Rattle.olr_run.proofs.records.run.Goals as goal
 
 pub returns : goal.returns
@@ -16,20 +15,10 @@ returns g c =
     (fr.config ∙ (ap builder_config builder ∙ c.new.ensures.config))
     (fr.trim ∙ (ap builder_trim builder ∙ c.new.ensures.trim)) (fr.flexible ∙ ap builder_is_flexible builder)
     (fr.has_headers ∙ ap builder_names_headers builder) fr.headers fr.state fr.source in
-    let new = c.run_session.new.register in
-    let stop = c.args.stop in
-    let old = c.args.register.now in
-    record {
-      ran = IfOk-weaker c.run_session.result _ _
-          (λ end h. ran_on g.R.Read.remaining g.W.Write.contents stop old new
-          (c.from_reader-reader.result, c.args.output.now) (c.run_session.new.session, c.run_session.new.output) input end
-          c.is_sound.ensures starts h) c.run_session.ensures.ran;
-      faulted = IfErr-weaker c.run_session.result _ _
-          (λ e h. cut_on g.R.Read.remaining g.W.Write.contents stop old new
-          (c.from_reader-reader.result, c.args.output.now) (c.run_session.new.session, c.run_session.new.output) input e
-          c.is_sound.ensures starts h) c.run_session.ensures.cut;
-      too_many = IfErr-weaker c.run_session.result _ _
-          (λ e h is. too_many g.R.Read.remaining g.W.Write.contents stop old new
-          (c.from_reader-reader.result, c.args.output.now) (c.run_session.new.session, c.run_session.new.output) input e
-          starts h is) c.run_session.ensures.cut;
-    }
+    let k =
+    on_known g.R.Read.remaining reader_at (written_at g.W.Write.contents)
+    (OfReader g.R.Read.remaining g.W.Write.contents) (λ a b e h. h) c.args.stop c.args.register.now
+    c.run_session.new.register (c.from_reader-reader.result, c.args.output.now)
+    (c.run_session.new.session, c.run_session.new.output) input c.run_session.result c.is_sound.ensures starts
+    c.run_session.ensures.ran c.run_session.ensures.cut in
+    record { ran = k.0; faulted = k.1; too_many = k.2 }

@@ -18,20 +18,10 @@ add_first : step start_state (Make (On_map (Add_node 1 zero))) ≡ Ok state20
 add_first = grind (arith, insert, empty, get-empty)
 
 add_again : step state20 (Make (On_map (Add_node 1 zero))) ≡ Err (Map_fault Node_exists)
-add_again =
-    ap (λ (o : Option Coord).
-    at_once (with_map state20.content
-    (unless (is_some o) Node_exists (Ok (record empty_map { nodes = insert (insert empty 1 zero) 1 zero })))))
-    (get-insert nat_cmp_total empty 1 zero 1)
+add_again = grind (arith, insert, empty, nat_cmp_total, get-insert)
 
 drop_none : step state20 (Make (On_map (Drop_node 2))) ≡ Err (Map_fault No_node)
-drop_none =
-    ap (λ (o : Option Coord).
-    at_once (with_map state20.content
-    (unless (not (is_some o)) No_node
-    (unless (in_use state20.content.map 2) Node_in_use
-    (Ok (record empty_map { nodes = remove (insert empty 1 zero) 2 }))))))
-    (get-insert nat_cmp_total empty 1 zero 2 ∙ get-empty nat_cmp 2)
+drop_none = grind (arith, insert, empty, nat_cmp_total, get-insert, get-empty)
 
 pub returns-clause-all : goal.returns-clause-all
 unfolding csv_on_literals digits

@@ -1,5 +1,5 @@
 -- Each end of the program, from the contracts of its parts.
-use Rattle.std.proofs.Common.{refl, map, ap, ◌∙◌}
+use Rattle.std.proofs.Common.{refl, ap, ◌∙◌}
 use Rattle.olr_run.specs.Ends.{Explained}
 use Rattle.olr_run.specs.Options.{options_of}
 use Rattle.olr_run.specs.Runs.{exit_code}
@@ -11,25 +11,17 @@ returns-in-Err-clause-ends g c = Explained (c.explain.ensures.explains _ c.in-Er
 
 pub returns-in_default-clause-ends : goal.returns-in_default-clause-ends
 returns-in_default-clause-ends g c =
-    not_opened g.O.FnOnce g.F.Read.remaining c.args.opener (map g.S.AsStr.text c.args.arguments.now)
-    (options_of c.in-Ok.options) (g.R.Read.remaining c.args.input) c.args.register.now
-    (g.W.Write.contents c.args.output.now) c.in-Ok.ensures.kinds c.in-Ok.ensures.ok c.in_default.field-0
-    c.in_default.ensures
+    not_opened g.O.FnOnce g.F.Read.remaining c.args.opener _ (options_of c.in-Ok.options) _ _ _ c.in-Ok.ensures.kinds
+    c.in-Ok.ensures.ok c.in_default.field-0 c.in_default.ensures
 
 pub returns-in-Ok-ended-clause-ends : goal.returns-in-Ok-ended-clause-ends
 returns-in-Ok-ended-clause-ends g c =
-    ran_to_its_end g.O.FnOnce g.F.Read.remaining c.args.opener (map g.S.AsStr.text c.args.arguments.now)
-    (options_of c.in-Ok.options) (g.R.Read.remaining c.args.input) c.args.register.now
-    (g.W.Write.contents c.args.output.now) c.in-Ok.ensures.kinds c.in-Ok.ensures.ok c.in-Ok-open_file.file
-    c.run_both-ended.new.register (g.W.Write.contents c.run_both-ended.new.output) c.in-Ok-ended.field-0
-    c.exit_code.result c.in-Ok-open_file.ensures c.in-Ok-ended.ensures.ran
-    (c.exit_code.ensures ∙ ap exit_code c.in-Ok-ended.is)
+    ran_to_its_end g.O.FnOnce g.F.Read.remaining c.args.opener _ (options_of c.in-Ok.options) _ _ _
+    c.in-Ok.ensures.kinds c.in-Ok.ensures.ok c.in-Ok-open_file.file _ _ c.in-Ok-ended.field-0 _
+    c.in-Ok-open_file.ensures c.in-Ok-ended.ensures.ran (c.exit_code.ensures ∙ ap exit_code c.in-Ok-ended.is)
 
 pub returns-in-Err-ended-clause-ends : goal.returns-in-Err-ended-clause-ends
 returns-in-Err-ended-clause-ends g c =
-    was_cut_off g.O.FnOnce g.F.Read.remaining c.args.opener (map g.S.AsStr.text c.args.arguments.now)
-    (options_of c.in-Ok.options) (g.R.Read.remaining c.args.input) c.args.register.now
-    (g.W.Write.contents c.args.output.now) c.in-Ok.ensures.kinds c.in-Ok.ensures.ok c.in-Ok-open_file.file
-    c.run_both-ended.new.register (g.W.Write.contents c.run_both-ended.new.output) c.in-Err-ended.fault
-    c.report_fault.result c.in-Ok-open_file.ensures c.in-Err-ended.ensures.faulted c.in-Err-ended.ensures.too_many
-    c.report_fault.ensures
+    was_cut_off g.O.FnOnce g.F.Read.remaining c.args.opener _ (options_of c.in-Ok.options) _ _ _ c.in-Ok.ensures.kinds
+    c.in-Ok.ensures.ok c.in-Ok-open_file.file _ _ c.in-Err-ended.fault _ c.in-Ok-open_file.ensures
+    c.in-Err-ended.ensures.faulted c.in-Err-ended.ensures.too_many c.report_fault.ensures
