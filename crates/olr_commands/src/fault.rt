@@ -2,6 +2,7 @@
 
 use olr_binary::{TextFault, V3Fault};
 use olr_map::EditFault;
+use std::alloc::AllocError;
 use thiserror::Error;
 
 /// Why a command is rejected. The register, its answers, its counts and an open batch are unchanged then.
@@ -41,4 +42,15 @@ pub enum CommandFault {
     /// a name that is not 1 to 64 letters, digits, `-`, `_` and `.`. A register that only records filled has none.
     #[error("NotARecord")]
     NotARecord,
+}
+
+impl From<AllocError> for CommandFault {
+    ghost use Rattle.std.specs.Prelude.{◌≡◌};
+    ghost use Rattle.olr_commands.specs.declared.fault.CommandFault.TheVariants.{Memory};
+
+    ghost from_gives = { λ _ fault. fault ≡ Memory };
+
+    fn from(_error: AllocError) -> CommandFault {
+        CommandFault::Memory
+    }
 }
