@@ -1,5 +1,8 @@
 //! Why a command is rejected.
 
+ghost use Rattle.std.specs.Prelude.{◌≡◌};
+ghost use Rattle.olr_commands.specs.declared.fault.CommandFault.TheVariants.{Memory};
+
 use olr_binary::{TextFault, V3Fault};
 use olr_map::EditFault;
 use std::alloc::AllocError;
@@ -45,9 +48,6 @@ pub enum CommandFault {
 }
 
 impl From<AllocError> for CommandFault {
-    ghost use Rattle.std.specs.Prelude.{◌≡◌};
-    ghost use Rattle.olr_commands.specs.declared.fault.CommandFault.TheVariants.{Memory};
-
     ghost from_gives = { λ _ fault. fault ≡ Memory };
 
     fn from(_error: AllocError) -> CommandFault {

@@ -5,31 +5,33 @@ use Rattle.std.proofs.lemmas.Bool.{eq-eqb, ne_eqb}
 use Rattle.olr_map.specs.RoadMaps.{map_of, map_before}
 use Rattle.olr_map.specs.declared.road_map.RoadMap.{RoadMap}
 use Rattle.olr_search.specs.declared.work.Work.{Work}
-use Rattle.olr_commands.specs.State.{Named, Content, Memory, Count_differs, Change, State, Commit, after, step}
-use Rattle.olr_commands.specs.State.{changes_made, IsContent}
+use Rattle.olr_commands.specs.State.{Named, Content, Change, Commit, after, step, IsContent}
 use Rattle.olr_commands.specs.Reply as replies
-use Rattle.olr_commands.specs.Reply.{IsRefusal, ByState, Lacks, IsOutcome, may_want}
+use Rattle.olr_commands.specs.Reply.{ByState, Lacks, may_want}
 use Rattle.olr_commands.specs.Words.{entry_of, reply_of}
 use Rattle.olr_commands.specs.declared.reply.Entry.{Entry}
 use Rattle.olr_commands.specs.declared.reply.Reply.{Reply}
+use Rattle.olr_commands.specs.declared.fault.CommandFault.{CommandFault}
 use Rattle.olr_commands.specs.declared.fault.CommandFault.TheVariants as rust
+use Rattle.std.specs.Prelude.{Result, IsErrAnd}
 use Rattle.olr_near.specs.declared.distance_bounds.DistanceBounds.{DistanceBounds}
 use Rattle.olr_paths.specs.Items.{Item, all_named}
 use Rattle.olr_paths.specs.Laying.{under_overlay}
 use Rattle.olr_paths.specs.Changes.{Rises}
 use Rattle.olr_paths.specs.Renewing.{IsRenewal}
 use Rattle.olr_paths.specs.Touching.{nodes_of, lines_of, changed_of}
-use Rattle.olr_register.specs.RegisterState.{IsBatchOf, Represents}
+use Rattle.olr_register.specs.RegisterState.{IsBatchOf}
+use Rattle.olr_register.specs.Registered.{Registered}
 use Rattle.olr_register.specs.Holding.{content_on, batch_of, HasBounds, IsKeptRight, CanRenew}
 use Rattle.olr_register.specs.Answering.{Answered}
 use Rattle.olr_register.specs.declared.batch.Batch.{Batch}
 use Rattle.olr_register.proofs.BatchSteps.{held_content}
-use Rattle.olr_register.proofs.Counting.{AreRises, counted_changes}
+use Rattle.olr_register.proofs.Counting.{counted_changes}
 use Rattle.olr_register.proofs.Noted.{is_before}
-use Rattle.olr_register.proofs.Outcomes.{answered_counted, answered_refused}
+use Rattle.olr_register.proofs.Outcomes.{answered_counted, answered_refused, Accepts}
 use Rattle.olr_register.proofs.Renewed.{remade_made}
 use Rattle.olr_register.proofs.Replies.{planned_changes}
-use Rattle.olr_register.proofs.States.{state, of_parts, in_batch}
+use Rattle.olr_register.proofs.States.{state, of_parts, in_states}
 
 module _ (roads : RoadMap) (is : List Item) (b : Batch) where
   abbrev c : Content
@@ -43,22 +45,22 @@ module _ (roads : RoadMap) (is : List Item) (b : Batch) where
   pub count_refused : (n : ℕ) → (b.count ≡ n → ⊥) → (w : Work) (k : ℕ) →
       Answered (of_parts roads is (Some b) w k) (Commit n) (Err rust.CountDiffers) (of_parts roads is (Some b) w k)
   count_refused n other w k =
-      answered_refused (of_parts roads is (Some b) w k) (of_parts roads is (Some b) w k) (Commit n) rust.CountDiffers
-      refl
-      (in_batch c (batch_of roads is b) (λ s. IsRefusal s (Commit n) Count_differs)
-      (λ xs i. ByState (rw (ne_eqb (length xs) n (λ h. other (i.count ∙ h))))))
+      answered_refused (of_parts roads is (Some b) w k) (of_parts roads is (Some b) w k) (Commit n)
+      (Err rust.CountDiffers) rust.CountDiffers refl refl
+      (λ xs i. ByState (rw (ne_eqb (length xs) n (λ h. other (i.count ∙ h)))))
 
   -- the step with the right count
   right_count : (n : ℕ) → b.count ≡ n → (xs : List Change) → IsBatchOf c (batch_of roads is b) xs →
       step (state c (Some xs)) (Commit n) ≡ Ok (state (after c xs) None)
   right_count n right xs i = rw (eq-eqb (length xs) n (sym i.count ∙ right))
 
-  pub commit_lacks : (n : ℕ) → b.count ≡ n → (w : Work) (k : ℕ) →
-      Answered (of_parts roads is (Some b) w k) (Commit n) (Err rust.Memory) (of_parts roads is (Some b) w k)
-  commit_lacks n right w k =
-      answered_refused (of_parts roads is (Some b) w k) (of_parts roads is (Some b) w k) (Commit n) rust.Memory refl
-      (in_batch c (batch_of roads is b) (λ s. IsRefusal s (Commit n) Memory)
-      (λ xs i. Lacks refl (ap may_want (right_count n right xs i))))
+  pub commit_lacks : (n : ℕ) → b.count ≡ n → (w v : Work) (k m : ℕ) (js : List Item) (r : Result Reply CommandFault) →
+      IsErrAnd r (λ f. f ≡ rust.Memory) → js ≡ is → v ≡ w → m ≡ k →
+      Answered (of_parts roads is (Some b) w k) (Commit n) r (of_parts roads js (Some b) v m)
+  commit_lacks n right w v k m js r failed list work spared =
+      rw (list, work, spared)
+      (answered_refused (of_parts roads is (Some b) w k) (of_parts roads is (Some b) w k) (Commit n) r rust.Memory refl
+      failed (λ xs i. Lacks refl (ap may_want (right_count n right xs i))))
 
   -- ---- accepted
 
@@ -93,22 +95,24 @@ module _ (roads : RoadMap) (is : List Item) (b : Batch) where
       commit_done n r right returned rises kept =
           let d : Content = content_on (map_of roads) js in
           let count = renewal.counted (map_before roads b.log) can_commit.before in
-          answered_counted (of_parts roads is (Some b) w k) (of_parts roads js None v m) (Commit n) r count.0
-          (in_batch c (batch_of roads is b) (λ s. (t : State) × Represents (record { content = d; batch = None }) t
-          × IsOutcome s (Commit n) (Ok (reply_of r)) t) (λ xs i. (
-            state d None,
-            (refl, tt),
+          let later : Registered = of_parts roads js None v m in
+          answered_counted (of_parts roads is (Some b) w k) later (Commit n) r count.0
+          (in_states (record { content = c; batch = Some (batch_of roads is b) }) (Accepts later (Commit n) r count.0)
+          (λ xs i. (
             (
-              right_count n right xs i
-                  ∙ ap (λ (e : Content). Ok (state e None)) (held_content c roads is b xs i
-                  ∙ ap (λ (ps : List Named). record { map = map_of roads; paths = ps }) (sym renewal.named)),
-              subst (λ (q : replies.Reply). replies.IsReply (state c (Some xs)) (Commit n) (state d None) q)
-                  (sym returned)
-                  (planned_changes (map_before roads b.log) (map_of roads) is js (map entry_of es) h.register.content
-                  h.register.made (remade_made (map_of roads) ls js renewal.remade) renewal.reported),
+              state d None,
+              (refl, tt),
+              (
+                right_count n right xs i
+                    ∙ ap (λ (e : Content). Ok (state e None)) (held_content c roads is b xs i
+                    ∙ ap (λ (ps : List Named). record { map = map_of roads; paths = ps }) (sym renewal.named)),
+                subst (λ (q : replies.Reply). replies.IsReply (state c (Some xs)) (Commit n) (state d None) q)
+                    (sym returned)
+                    (planned_changes (map_before roads b.log) (map_of roads) is js (map entry_of es) h.register.content
+                    h.register.made (remade_made (map_of roads) ls js renewal.remade) renewal.reported),
+              ),
             ),
+            counted_changes c d xs (nodes_of b.touched) (lines_of b.touched) (changed_of b.touched) i.nodes i.lines
+                i.changed ls count.0 count.1 i.given (all_named js) renewal.named,
           )))
-          (in_batch c (batch_of roads is b) (λ s. AreRises s.content d (changes_made s (Commit n)) d.paths count.0)
-          (λ xs i. counted_changes c d xs (nodes_of b.touched) (lines_of b.touched) (changed_of b.touched) i.nodes
-          i.lines i.changed ls count.0 count.1 i.given (all_named js) renewal.named))
           count.2 (record { work = rises; spared = kept }) (λ off. let no : true ≡ false = off in absurd cc)

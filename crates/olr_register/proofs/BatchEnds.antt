@@ -7,9 +7,9 @@ use Rattle.olr_map.specs.Undos.{CanMakeAll, made_all, log_changes}
 use Rattle.olr_map.specs.RoadMaps.{map_of, map_before}
 use Rattle.olr_map.specs.declared.road_map.RoadMap.{RoadMap}
 use Rattle.olr_search.specs.declared.work.Work.{Work}
-use Rattle.olr_commands.specs.State.{Content, Named, Change, State, Command, Begin, Abort, changes_made, step, IsContent}
+use Rattle.olr_commands.specs.State.{Content, Named, Change, Command, Begin, Abort, step, IsContent}
 use Rattle.olr_commands.specs.Reply as replies
-use Rattle.olr_commands.specs.Reply.{IsRefusal, ByState, IsOutcome}
+use Rattle.olr_commands.specs.Reply.{ByState}
 use Rattle.olr_commands.specs.Words.{command_fault_of, reply_of}
 use Rattle.olr_commands.specs.declared.reply.Reply.{Reply}
 use Rattle.olr_commands.specs.declared.fault.CommandFault.{CommandFault}
@@ -20,7 +20,7 @@ use Rattle.olr_paths.specs.Laying.{under_overlay}
 use Rattle.olr_paths.specs.Changes.{Follows}
 use Rattle.olr_paths.specs.Touching.{nodes_of, lines_of, changed_of}
 use Rattle.olr_paths.proofs.Following.{follows_self}
-use Rattle.olr_register.specs.RegisterState.{named_held, IsBatchOf, Represents}
+use Rattle.olr_register.specs.RegisterState.{RegisterState, named_held, IsBatchOf}
 use Rattle.olr_register.specs.Holding.{content_on, AreEditsNoted, held_of, batch_of, IsKeptRight}
 use Rattle.olr_register.specs.Answering.{Answered}
 use Rattle.olr_register.specs.HoldsChange.{AreGiven}
@@ -28,17 +28,8 @@ use Rattle.olr_register.specs.declared.batch.Batch.{Batch}
 use Rattle.olr_register.proofs.Noted.{noted_none}
 use Rattle.olr_register.proofs.Renewed.{made_if_any}
 use Rattle.olr_register.proofs.Listed.{named_twice, given_at_first}
-use Rattle.olr_register.proofs.Outcomes.{answered_uncounted, answered_refused}
-use Rattle.olr_register.proofs.States.{state, register_of, of_parts, kept_moved, in_batch, no_batch}
-
--- ---- rejected, where no batch is open or one is
-
-pub none_refused : (c : Content) (w : Work) (n : ℕ) (x : Command) (f : CommandFault) →
-    step (state c None) x ≡ Err (command_fault_of f) →
-    Answered (register_of c None w n) x (Err f) (register_of c None w n)
-none_refused c w n x f returned =
-    answered_refused (register_of c None w n) (register_of c None w n) x f refl
-    (no_batch c (λ s. IsRefusal s x (command_fault_of f)) (ByState returned))
+use Rattle.olr_register.proofs.Outcomes.{answered_uncounted, answered_refused, Keeps}
+use Rattle.olr_register.proofs.States.{state, register_of, of_parts, kept_moved, in_states}
 
 pub open_refused : (roads : RoadMap) (is : List Item) (o : Option Batch) (w : Work) (n : ℕ) (x : Command)
     (f : CommandFault) → is_some o ≡ true →
@@ -46,9 +37,8 @@ pub open_refused : (roads : RoadMap) (is : List Item) (o : Option Batch) (w : Wo
     Answered (of_parts roads is o w n) x (Err f) (of_parts roads is o w n)
 open_refused roads is None w n x f some returned = absurd cc
 open_refused roads is (Some b) w n x f some returned =
-    answered_refused (of_parts roads is (Some b) w n) (of_parts roads is (Some b) w n) x f refl
-    (in_batch (content_on (map_before roads b.log) is) (batch_of roads is b)
-    (λ s. IsRefusal s x (command_fault_of f)) (λ xs i. ByState (returned _ xs)))
+    answered_refused (of_parts roads is (Some b) w n) (of_parts roads is (Some b) w n) x (Err f) f refl refl
+    (λ xs i. ByState (returned _ xs))
 
 -- ---- abort
 
@@ -56,10 +46,10 @@ pub abort_done : (c : Content) (roads : RoadMap) (is : List Item) (b : Batch) (w
     reply_of r ≡ replies.Paths [] →
     Answered (register_of c (Some (batch_of roads is b)) w n) Abort (Ok r) (register_of c None w n)
 abort_done c roads is b w n r empty =
-    answered_uncounted (register_of c (Some (batch_of roads is b)) w n) (record { content = c; batch = None }) Abort r
-    (in_batch c (batch_of roads is b) (λ s. changes_made s Abort ≡ []) (λ xs i. refl))
-    (in_batch c (batch_of roads is b) (λ s. (t : State) × Represents (record { content = c; batch = None }) t
-    × IsOutcome s Abort (Ok (reply_of r)) t) (λ xs i. (state c None, (refl, tt), (refl, empty))))
+    let later : RegisterState = record { content = c; batch = None } in
+    answered_uncounted (register_of c (Some (batch_of roads is b)) w n) later Abort r
+    (in_states (record { content = c; batch = Some (batch_of roads is b) }) (Keeps later Abort r)
+    (λ xs i. (refl, (state c None, (refl, tt), (refl, empty)))))
 
 -- ---- begin
 
@@ -118,8 +108,8 @@ module _ (roads : RoadMap) (is : List Item) (b : Batch) (near : DistanceBounds) 
       Answered (of_parts roads is None w n) Begin (Ok r) (of_parts roads is (Some b) w n)
   begin_done w n r empty =
       let c : Content = content_on (map_of roads) is in
+      let later : RegisterState = record { content = c; batch = Some (batch_of roads is b) } in
       rw same_before
-      (answered_uncounted (register_of c None w n) (record { content = c; batch = Some (batch_of roads is b) }) Begin r
-      (no_batch c (λ s. changes_made s Begin ≡ []) refl)
-      (no_batch c (λ s. (t : State) × Represents (record { content = c; batch = Some (batch_of roads is b) }) t
-      × IsOutcome s Begin (Ok (reply_of r)) t) (state c (Some []), (refl, empty_batch), (refl, empty))))
+      (answered_uncounted (register_of c None w n) later Begin r
+      (in_states (record { content = c; batch = None }) (Keeps later Begin r)
+      (refl, (state c (Some []), (refl, empty_batch), (refl, empty)))))

@@ -11,9 +11,9 @@ use Rattle.olr_map.specs.RoadMaps.{map_of, map_before}
 use Rattle.olr_map.specs.declared.road_map.RoadMap.{RoadMap}
 use Rattle.olr_search.specs.declared.work.Work.{Work}
 use Rattle.olr_commands.specs.State.{Named, Content, Fault, Batch_full, full, when, Change, On_map, Add_path, Set_path}
-use Rattle.olr_commands.specs.State.{Drop_path, with_change, next, after, State, Make, into_batch, step, changes_made}
+use Rattle.olr_commands.specs.State.{Drop_path, with_change, next, after, Make, into_batch, step}
 use Rattle.olr_commands.specs.Reply as replies
-use Rattle.olr_commands.specs.Reply.{IsRefusal, IsOutcome, takes_memory, may_want, is_reported_first}
+use Rattle.olr_commands.specs.Reply.{IsRefusal, takes_memory, may_want, is_reported_first}
 use Rattle.olr_commands.specs.Counts.{nodes_of_change, lines_of_change, changed_by, names_of_change, all_nodes, all_lines}
 use Rattle.olr_commands.specs.Counts.{all_changed, all_names}
 use Rattle.olr_commands.specs.Words.{command_fault_of, reply_of}
@@ -22,14 +22,14 @@ use Rattle.olr_commands.specs.declared.fault.CommandFault.{CommandFault}
 use Rattle.olr_commands.proofs.StateLemmas.{next_ok, after_push}
 use Rattle.olr_paths.specs.Items.{Item}
 use Rattle.olr_paths.specs.Laying.{under_overlay}
-use Rattle.olr_register.specs.RegisterState.{IsBatchOf, Represents}
+use Rattle.olr_register.specs.RegisterState.{RegisterState, IsBatchOf}
 use Rattle.olr_register.specs.Holding.{content_on, content_under, batch_of, held_of}
 use Rattle.olr_register.specs.Answering.{Answered}
 use Rattle.olr_register.specs.HoldsChange.{content_with, AreGiven, MayReport, ByContent, Lacks, HoldsChange}
 use Rattle.olr_register.specs.declared.batch.Batch.{Batch}
 use Rattle.olr_register.proofs.Listed.{named_twice}
-use Rattle.olr_register.proofs.Outcomes.{answered_uncounted, answered_refused}
-use Rattle.olr_register.proofs.States.{state, register_of, of_parts, in_batch}
+use Rattle.olr_register.proofs.Outcomes.{answered_uncounted, answered_refused, Keeps}
+use Rattle.olr_register.proofs.States.{state, register_of, of_parts, in_states}
 
 -- ---- the held changes, with one more
 
@@ -134,24 +134,23 @@ module _ (c : Content) (old new : RoadMap) (is : List Item) (b d : Batch) (x : C
       Answered (register_of c (Some (batch_of old is b)) w n) (Make x) r (register_of c (Some (batch_of new is d)) w n)
   answered_held w n (Ok r) h =
       let taken : content_with old is b x ≡ Ok (content_under new is d) = rw h.room h.made.content in
-      answered_uncounted (register_of c (Some (batch_of old is b)) w n)
-      (record { content = c; batch = Some (batch_of new is d) }) (Make x) r
-      (in_batch c (batch_of old is b) (λ s. changes_made s (Make x) ≡ []) (λ xs i. refl))
-      (in_batch c (batch_of old is b) (λ s. (t : State)
-      × Represents (record { content = c; batch = Some (batch_of new is d) }) t
-      × IsOutcome s (Make x) (Ok (reply_of r)) t) (λ xs i. (
-        state c (Some (xs ++ x ∷ [])),
-        (refl, one_more r xs i h),
+      let later : RegisterState = record { content = c; batch = Some (batch_of new is d) } in
+      answered_uncounted (register_of c (Some (batch_of old is b)) w n) later (Make x) r
+      (in_states (record { content = c; batch = Some (batch_of old is b) }) (Keeps later (Make x) r) (λ xs i. (
+        refl,
         (
-          step_given c old is b xs x i ∙ ap (into_batch c (xs ++ x ∷ [])) taken,
-          h.reply ∙ ap (λ (k : ℕ). replies.Held k) (h.count ∙ ap suc i.count),
+          state c (Some (xs ++ x ∷ [])),
+          (refl, one_more r xs i h),
+          (
+            step_given c old is b xs x i ∙ ap (into_batch c (xs ++ x ∷ [])) taken,
+            h.reply ∙ ap (λ (k : ℕ). replies.Held k) (h.count ∙ ap suc i.count),
+          ),
         ),
       )))
   answered_held w n (Err f) h =
       answered_refused (register_of c (Some (batch_of old is b)) w n) (register_of c (Some (batch_of new is d)) w n)
-      (Make x) f (ap (λ e. register_of c (Some e) w n) h.unchanged)
-      (in_batch c (batch_of old is b) (λ s. IsRefusal s (Make x) (command_fault_of f))
-      (is_refusal (command_fault_of f) h.refused))
+      (Make x) (Err f) f (ap (λ e. register_of c (Some e) w n) h.unchanged) refl
+      (is_refusal (command_fault_of f) h.refused)
 
 -- the content of the register is that on the map before the batch
 pub answered_given : (old new : RoadMap) (is : List Item) (b d : Batch) (w : Work) (n : ℕ) (x : Change)

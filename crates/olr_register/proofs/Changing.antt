@@ -26,38 +26,29 @@ content_from M ps = Ok (record { map = M; paths = ps })
 
 -- ---- the fault of the name takes precedence, then that of the lines
 
-pub add_taken : (c : Content) (name : List ℕ) (path : Path) → has_path c name ≡ true →
-    with_change c (Add_path name path) ≡ Err Path_exists
-add_taken c name path e = rw e
-
-pub set_missing : (c : Content) (name : List ℕ) (path : Path) → has_path c name ≡ false →
-    with_change c (Set_path name path) ≡ Err No_path
-set_missing c name path e = rw e
-
 pub drop_missing : (c : Content) (name : List ℕ) → has_path c name ≡ false →
     with_change c (Drop_path name) ≡ Err No_path
 drop_missing c name e = rw e
 
--- out of memory, or lines that are no path
-abbrev pub IsPathFault : List ℕ → CommandFault → Type 0
-IsPathFault lines f = (f ≡ rust.Memory) ⊎ ((f ≡ rust.BadPath) × (is_path lines ≡ false))
-
-bad_path_last : (b : Bool) (c : Content) (g : Fault) → when b Bad_path (Ok c) ≡ Err g → is_reported_first g ≡ false
+pub bad_path_last : (b : Bool) (c : Content) (g : Fault) → when b Bad_path (Ok c) ≡ Err g → is_reported_first g ≡ false
 bad_path_last true c g e = let same : Bad_path ≡ g = cc in ap is_reported_first (sym same)
 bad_path_last false c g e = absurd cc
 
-lines_refused : (lines : List ℕ) (d : Content) (f : CommandFault) → IsPathFault lines f →
-    MayReport (when (not (is_path lines)) Bad_path (Ok d)) (command_fault_of f)
-lines_refused lines d f (inl e) = Lacks (ap command_fault_of e) (bad_path_last (not (is_path lines)) d)
-lines_refused lines d f (inr h) = ByContent (rw (h.0, h.1))
+pub not_missing : (b : Bool) → not b ≡ false → b ≡ true
+not_missing true e = refl
+not_missing false e = absurd cc
 
-pub add_refused : (c : Content) (name : List ℕ) (path : Path) (f : CommandFault) → has_path c name ≡ false →
-    IsPathFault path.lines f → MayReport (with_change c (Add_path name path)) (command_fault_of f)
-add_refused c name path f free h = rw free (lines_refused path.lines _ f h)
+-- the fault of a path that is made after its name was tested
+abbrev pub PathFails : Bool → Fault → Path → Fault → Type 0
+PathFails wrong g path f = (d : Content) → MayReport (when wrong g (when (not (is_path path.lines)) Bad_path (Ok d))) f
 
-pub set_refused : (c : Content) (name : List ℕ) (path : Path) (f : CommandFault) → has_path c name ≡ true →
-    IsPathFault path.lines f → MayReport (with_change c (Set_path name path)) (command_fault_of f)
-set_refused c name path f there h = rw there (lines_refused path.lines _ f h)
+pub add_refused : (c : Content) (name : List ℕ) (path : Path) (wrong : Bool) (f : Fault) → wrong ≡ has_path c name →
+    PathFails wrong Path_exists path f → MayReport (with_change c (Add_path name path)) f
+add_refused c name path wrong f is fails = rw (← is) (fails _)
+
+pub set_refused : (c : Content) (name : List ℕ) (path : Path) (wrong : Bool) (f : Fault) → wrong ≡ not (has_path c name) →
+    PathFails wrong No_path path f → MayReport (with_change c (Set_path name path)) f
+set_refused c name path wrong f is fails = rw (← is) (fails _)
 
 pub drop_lacks : (c : Content) (name : List ℕ) → has_path c name ≡ true →
     MayReport (with_change c (Drop_path name)) Memory

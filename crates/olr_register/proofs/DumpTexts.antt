@@ -7,7 +7,7 @@ use Rattle.std.specs.Ordering.{eq_by_cmp}
 use Rattle.std.specs.FinMap.{FinMap, get, entries, entries_sorted, get-entries}
 use Rattle.std.specs.FinMap.Entries.{find}
 use Rattle.std.proofs.lemmas.Bool.{cases_Bool, both_ways, and_parts, and_from}
-use Rattle.std.proofs.lemmas.List.{append-nil, length-map, map-append, take_more, get_or-map}
+use Rattle.std.proofs.lemmas.List.{append-nil, map-append}
 use Rattle.std.proofs.lemmas.List.Folds.{concat-append, list_all_at, list_all_more}
 use Rattle.std.proofs.lemmas.Option.{slice_get-get_or}
 use Rattle.std.proofs.lemmas.Grind.{flat_map-append}
@@ -79,32 +79,28 @@ one_more q xs k d lt h before =
 
 -- ---- a map, node by node
 
+-- the value at a number, or one that passes
+default_passes : {X : Type 0} (q : X → Bool) (m : FinMap nat_cmp X) (k : ℕ) (d : X) → q d ≡ true → Tested q (entries m) →
+    q (unwrap_or (get m k) d) ≡ true
+default_passes {X} q m k d e a = by (get m k) refl where
+  by : (o : Option X) → get m k ≡ o → q (unwrap_or o d) ≡ true
+  by None i = e
+  by (Some x) i = value_passes q m k x a i
+
 module _ (M : Map) where
+  tested : is_recordable_map M ≡ true → Tested is_recordable_coord (entries M.nodes)
+      × Tested (λ (l : Line). is_recordable_shape l.shape) (entries M.lines)
+  tested a =
+      and_parts (list_all (λ e. is_recordable_coord e.1) (entries M.nodes))
+      (list_all (λ e. is_recordable_shape e.1.shape) (entries M.lines)) a
+
   pub shapes_pass : is_recordable_map M ≡ true → (x : ℕ) (l : Line) → get M.lines x ≡ Some l →
       is_recordable_shape l.shape ≡ true
-  shapes_pass a x l e =
-      value_passes (λ (k : Line). is_recordable_shape k.shape) M.lines x l
-      (and_parts (list_all (λ e. is_recordable_coord e.1) (entries M.nodes))
-      (list_all (λ e. is_recordable_shape e.1.shape) (entries M.lines)) a).1 e
+  shapes_pass a x l e = value_passes (λ (k : Line). is_recordable_shape k.shape) M.lines x l (tested a).1 e
 
   pub coords_pass : is_recordable_map M ≡ true → (v : ℕ) (c : Coord) → get M.nodes v ≡ Some c →
       is_recordable_coord c ≡ true
-  coords_pass a v c e =
-      value_passes is_recordable_coord M.nodes v c
-      (and_parts (list_all (λ e. is_recordable_coord e.1) (entries M.nodes))
-      (list_all (λ e. is_recordable_shape e.1.shape) (entries M.lines)) a).0 e
-
-  line_by_map : is_recordable_map M ≡ true → (x : ℕ) → is_recordable_line_at M x ≡ true
-  line_by_map a x = by (get M.lines x) refl where
-    by : (o : Option Line) → get M.lines x ≡ o → is_recordable_shape (unwrap_or o no_line).shape ≡ true
-    by None e = refl
-    by (Some l) e = shapes_pass a x l e
-
-  coord_by_map : is_recordable_map M ≡ true → (v : ℕ) → is_recordable_coord (coord_at M v) ≡ true
-  coord_by_map a v = by (get M.nodes v) refl where
-    by : (o : Option Coord) → get M.nodes v ≡ o → is_recordable_coord (unwrap_or o no_coord) ≡ true
-    by None e = refl
-    by (Some c) e = coords_pass a v c e
+  coords_pass a v c e = value_passes is_recordable_coord M.nodes v c (tested a).0 e
 
   -- a node that records can't encode, or a line that leaves it
   pub not_by_node : (v : ℕ) → is_recordable_node_at M v ≡ false → is_recordable_map M ≡ false
@@ -113,7 +109,9 @@ module _ (M : Map) where
         | inl all ↦
             absurd (both_ways (is_recordable_node_at M v) other
             (and_from (is_recordable_coord (coord_at M v)) (list_all (is_recordable_line_at M) (lines_out M v))
-            (coord_by_map all v) (all_true (is_recordable_line_at M) (lines_out M v) (line_by_map all))))
+            (default_passes is_recordable_coord M.nodes v no_coord refl (tested all).0)
+            (all_true (is_recordable_line_at M) (lines_out M v) (λ x.
+            default_passes (λ (l : Line). is_recordable_shape l.shape) M.lines x no_line refl (tested all).1))))
         | inr none ↦ none
       ]
 
@@ -142,56 +140,38 @@ module _ (M : Map) where
 -- ---- records
 
 -- the text with the record of one more
-records-more : {A : Type 0} (f : A → List ℕ) (t : List ℕ) (xs : List A) (k : ℕ) (d : A) → k < length xs
-    → (t ++ flat_map f (take k xs)) ++ f (get_or xs k d) ≡ t ++ flat_map f (take (k + 1) xs)
-records-more f t xs k d lt =
-    rw (take_more xs k d lt, flat_map-append f (take k xs) (get_or xs k d ∷ []), append-nil (f (get_or xs k d)))
-    (append_assoc t (flat_map f (take k xs)) (f (get_or xs k d)))
-
--- the same by the element at the index
 pub records-at : {A : Type 0} (f : A → List ℕ) (t : List ℕ) (xs : List A) (k : ℕ) (x : A) → slice_get xs k ≡ Some x
     → (t ++ flat_map f (take k xs)) ++ f x ≡ t ++ flat_map f (take (k + 1) xs)
 records-at f t xs k x is =
     rw (take_more_at xs k x is, flat_map-append f (take k xs) (x ∷ []), append-nil (f x))
     (append_assoc t (flat_map f (take k xs)) (f x))
 
-each_at : {A : Type 0} (P : A → Type 0) (xs : List A) (k : ℕ) (d : A) → AllByRecursion P xs → k < length xs →
-    P (get_or xs k d)
-each_at P [] k d a lt = absurd (omega arith)
-each_at P (x ∷ xs) zero d a lt = a.0
-each_at P (x ∷ xs) (suc k) d a lt = each_at P xs k d a.1 (omega arith)
-
 -- the entry of the number at an index
-key_at : {X : Type 0} (m : FinMap nat_cmp X) (d : ℕ × X) (ids : List ℕ) (k i : ℕ) → ids ≡ map (λ e. e.0) (entries m) →
-    k < length ids → i ≡ get_or ids k i
-    → (k < length (entries m)) × (i ≡ (get_or (entries m) k d).0) × (get m i ≡ Some (get_or (entries m) k d).1)
-key_at m d ids k i is lt at =
-    let size : length ids ≡ length (entries m) = ap (λ (ns : List ℕ). length ns) is ∙ length-map (entries m) (λ e. e.0) in
-    let few : k < length (entries m) = omega arith in
-    let key : i ≡ (get_or (entries m) k d).0 =
-    at ∙ ap (λ (ns : List ℕ). get_or ns k i) is ∙ get_or-map (λ e. e.0) (entries m) k d i few in
-    let value : get m (get_or (entries m) k d).0 ≡ Some (get_or (entries m) k d).1 =
-    each_at (λ e. get m e.0 ≡ Some e.1) (entries m) k d
-    (of_entries (λ e. get m e.0 ≡ Some e.1) (entries m) (entries_sorted m) (λ e there. get-entries m e.0 ∙ there)) few in
-    (few, key, ap (get m) key ∙ value)
+key_at : {X : Type 0} (m : FinMap nat_cmp X) (es : List (ℕ × X)) (k i : ℕ) →
+    AllByRecursion (λ e. get m e.0 ≡ Some e.1) es → k < length (map {B = ℕ} (λ e. e.0) es) →
+    i ≡ get_or (map (λ e. e.0) es) k i → (x : X) × (slice_get es k ≡ Some (i, x)) × (get m i ≡ Some x)
+key_at m [] k i a lt at = absurd (omega arith)
+key_at {X} m (e ∷ es) zero i a lt at = (e.1, ap (λ (n : ℕ). Some (n, e.1)) (sym at), ap (get m) at ∙ a.0)
+key_at m (e ∷ es) (suc k) i a lt at = key_at m es k i a.1 (omega arith) at
 
 -- the same, for the value o that is read at the key
-module _ {X : Type 0} (m : FinMap nat_cmp X) (d : ℕ × X) (ids : List ℕ) (k id : ℕ) (o : Option X)
+module _ {X : Type 0} (m : FinMap nat_cmp X) (ids : List ℕ) (k id : ℕ) (o : Option X)
     (is : ids ≡ map (λ e. e.0) (entries m)) (lt : k < length ids) (at : id ≡ get_or ids k id) (read : o ≡ get m id) where
+  entry : (x : X) × (slice_get (entries m) k ≡ Some (id, x)) × (get m id ≡ Some x)
+  entry =
+      key_at m (entries m) k id
+      (of_entries (λ e. get m e.0 ≡ Some e.1) (entries m) (entries_sorted m) (λ e there. get-entries m e.0 ∙ there))
+      (rw is at lt) (rw is at at)
+
   pub entry_there : o ≡ None → ⊥
-  entry_there none =
-      let never : None ≡ Some (get_or (entries m) k d).1 = sym none ∙ read ∙ (key_at m d ids k id is lt at).2 in
-      absurd cc
+  entry_there none = let never : None ≡ Some entry.0 = sym none ∙ read ∙ entry.2 in absurd cc
 
   pub entry_record : (text : ℕ × X → List ℕ) (t : List ℕ) (x : X) → o ≡ Some x
       → (t ++ flat_map text (take k (entries m))) ++ text (id, x) ≡ t ++ flat_map text (take (k + 1) (entries m))
   entry_record text t x there =
-      let key = key_at m d ids k id is lt at in
-      let same : Some x ≡ Some (get_or (entries m) k d).1 = sym there ∙ read ∙ key.2 in
-      let value : x ≡ (get_or (entries m) k d).1 = cc in
-      let entry : (id, x) ≡ get_or (entries m) k d = λ i. (key.1 i, value i) in
-      ap (λ (e : ℕ × X). (t ++ flat_map text (take k (entries m))) ++ text e) entry
-      ∙ records-more text t (entries m) k d key.0
+      let same : Some x ≡ Some entry.0 = sym there ∙ read ∙ entry.2 in
+      let value : x ≡ entry.0 = cc in
+      rw value (records-at text t (entries m) k (id, entry.0) entry.1)
 
 texts_of : {A : Type 0} (g : A → Change) (xs : List A) → concat (map record_line (map g xs)) ≡ flat_map (λ x. record_line (g x)) xs
 texts_of g [] = refl

@@ -7,7 +7,7 @@ use Rattle.olr_search.specs.declared.work.Work.{Work}
 use Rattle.olr_commands.specs.State.{Content, IsContent, Change, State}
 use Rattle.olr_near.specs.declared.distance_bounds.DistanceBounds.{DistanceBounds}
 use Rattle.olr_paths.specs.Items.{Item, AreEncodings}
-use Rattle.olr_register.specs.RegisterState.{Batch, IsBatchOf, RepresentsBatch, Represents}
+use Rattle.olr_register.specs.RegisterState.{RegisterState, Batch, IsBatchOf, RepresentsBatch, Represents}
 use Rattle.olr_register.specs.Registered.{Registered}
 use Rattle.olr_register.specs.Holding.{content_on, map_kept, option_batch, kept_of, IsHeld, IsRegister, HasBounds}
 use Rattle.olr_register.specs.Holding.{IsKeptRight}
@@ -49,17 +49,17 @@ kept_moved old new is o p near same held h = record {
   bounded = subst (λ (M : Map). HasBounds M is near) (sym same) h.bounded;
 }
 
-pub in_batch : (c : Content) (b : Batch) (P : State → Type 0) →
-    ((xs : List Change) → IsBatchOf c b xs → P (state c (Some xs)))
-    → (s : State) → Represents (record { content = c; batch = Some b }) s → P s
-in_batch c b P f s h = subst (λ (d : Content). P (state d s.batch)) h.0 (by_batch s.batch h.1) where
-  by_batch : (o : Option (List Change)) → RepresentsBatch c (Some b) o → P (state c o)
-  by_batch (Some xs) i = f xs i
-  by_batch None i = absurd i
+-- P holds of each state that they represent
+abbrev pub InStates : Content → Option Batch → (State → Type 0) → Type 0
+InStates c None P = P (state c None)
+InStates c (Some b) P = (xs : List Change) → IsBatchOf c b xs → P (state c (Some xs))
 
-pub no_batch : (c : Content) (P : State → Type 0) → P (state c None) → (s : State) →
-    Represents (record { content = c; batch = None }) s → P s
-no_batch c P p s h = subst (λ (d : Content). P (state d s.batch)) h.0 (by_batch s.batch h.1) where
-  by_batch : (o : Option (List Change)) → RepresentsBatch c None o → P (state c o)
-  by_batch (Some xs) i = absurd i
-  by_batch None i = p
+pub in_states : (k : RegisterState) (P : State → Type 0) → InStates k.content k.batch P → (s : State) → Represents k s →
+    P s
+in_states k P p s h = subst (λ (d : Content). P (state d s.batch)) h.0 (by k.batch s.batch h.1 p) where
+  by : (b : Option Batch) (o : Option (List Change)) → RepresentsBatch k.content b o → InStates k.content b P →
+      P (state k.content o)
+  by None None i p = p
+  by None (Some xs) i p = absurd i
+  by (Some b) None i p = absurd i
+  by (Some b) (Some xs) i p = p xs i

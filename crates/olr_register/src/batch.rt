@@ -1,6 +1,6 @@
 //! An open batch, and the changes that it holds.
 
-use crate::change::{Change, PathParts, path_of};
+use crate::change::{Change, PathParts, path_unless};
 use crate::edits::line_changed;
 use olr_commands::{CommandFault, Reply};
 use olr_map::{Edit, RoadMap, UndoLog, judge};
@@ -50,17 +50,11 @@ impl Batch {
             Ok(plan) => plan,
             Err(fault) => return Err(CommandFault::Map(fault)),
         };
-        if self.touched.reserve().is_err() {
-            return Err(CommandFault::Memory);
-        }
-        match roads.make_into(edit, &plan, &mut self.log) {
-            Ok(()) => {
-                self.touched
-                    .note(plan.nodes, plan.line, line_changed(&plan));
-                Ok(())
-            }
-            Err(_) => Err(CommandFault::Memory),
-        }
+        self.touched.reserve()?;
+        roads.make_into(edit, &plan, &mut self.log)?;
+        self.touched
+            .note(plan.nodes, plan.line, line_changed(&plan));
+        Ok(())
     }
 
     /// Adds a path. After a fault the batch is unchanged.
@@ -74,14 +68,10 @@ impl Batch {
         ensures { (roads : Roads) → Makes roads roads (items list.now) self.old self.new
             (Add_path (string_bytes name) (path_by parts)) result }
     {
-        if self.overlay.has(list, &name) {
-            return Err(CommandFault::PathExists);
-        }
-        let path = path_of(alloc, parts)?;
-        match self.overlay.hold(alloc, name, path) {
-            Ok(()) => Ok(()),
-            Err(_) => Err(CommandFault::Memory),
-        }
+        let taken = self.overlay.has(list, &name);
+        let path = path_unless(alloc, taken, CommandFault::PathExists, parts)?;
+        self.overlay.hold(alloc, name, path)?;
+        Ok(())
     }
 
     /// Replaces the path of a name. After a fault the batch is unchanged.
@@ -96,14 +86,10 @@ impl Batch {
         ensures { (roads : Roads) → Makes roads roads (items list.now) self.old self.new
             (Set_path name.now (path_by parts)) result }
     {
-        if !self.overlay.has(list, name) {
-            return Err(CommandFault::NoPath);
-        }
-        let path = path_of(alloc, parts)?;
-        match self.overlay.hold_other(alloc, name, path) {
-            Ok(()) => Ok(()),
-            Err(_) => Err(CommandFault::Memory),
-        }
+        let missing = !self.overlay.has(list, name);
+        let path = path_unless(alloc, missing, CommandFault::NoPath, parts)?;
+        self.overlay.hold_other(alloc, name, path)?;
+        Ok(())
     }
 
     /// Removes a path. After a fault the batch is unchanged.
@@ -114,10 +100,8 @@ impl Batch {
         if !self.overlay.has(list, name) {
             return Err(CommandFault::NoPath);
         }
-        match self.overlay.drop_path(alloc, name) {
-            Ok(()) => Ok(()),
-            Err(_) => Err(CommandFault::Memory),
-        }
+        self.overlay.drop_path(alloc, name)?;
+        Ok(())
     }
 
     /// Makes a change. After a fault, map and batch are unchanged.

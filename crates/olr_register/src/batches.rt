@@ -54,7 +54,7 @@ impl Register {
         if batch.count != count {
             return Err(CommandFault::CountDiffers);
         }
-        match renew(
+        let entries = renew(
             self.alloc,
             &self.roads,
             &mut self.paths,
@@ -64,14 +64,10 @@ impl Register {
             &mut self.searches,
             &mut self.work,
             &mut self.spared,
-        ) {
-            Ok(entries) => {
-                // The log is dropped with the batch: its edits are permanent.
-                self.batch = None;
-                Ok(Reply::Paths(entries))
-            }
-            Err(_) => Err(CommandFault::Memory),
-        }
+        )?;
+        // The log is dropped with the batch: its edits are permanent.
+        self.batch = None;
+        Ok(Reply::Paths(entries))
     }
 
     /// Drops all held changes: the map is the one before the batch. Takes no memory.

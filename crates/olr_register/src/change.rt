@@ -1,8 +1,10 @@
 //! Changes of the map and of the paths, as commands give them.
-ghost use Rattle.std.specs.Prelude.{◌≡◌, ◌⊎◌, IsTrue, IsFalse, OnOk};
+ghost use Rattle.std.specs.Prelude.{◌≡◌, IsTrue, IsFalse, OnOk, not, Ok};
 ghost use Rattle.std.specs.Result.{IfOk, IfErr};
 ghost use Rattle.olr_spec.specs.Extension.{is_path};
-ghost use Rattle.olr_register.specs.HoldsChange.{path_by};
+ghost use Rattle.olr_commands.specs.State.{Content, Bad_path, Memory, when};
+ghost use Rattle.olr_commands.specs.Words.{command_fault_of};
+ghost use Rattle.olr_register.specs.HoldsChange.{path_by, MayReport};
 
 use olr_commands::CommandFault;
 use olr_map::{Edit, LineId};
@@ -30,13 +32,24 @@ pub(crate) enum Change {
     DropPath(String),
 }
 
-/// The path of these parts.
-pub(crate) fn path_of(alloc: Global, parts: PathParts) -> Result<Path, CommandFault>
+/// The path of these parts, unless its name is wrong: then that fault takes precedence.
+pub(crate) fn path_unless(
+    alloc: Global,
+    wrong: bool,
+    fault: CommandFault,
+    parts: PathParts,
+) -> Result<Path, CommandFault>
     ensures ok { IfOk result (λ p. p ≡ path_by parts) }
     ensures good { OnOk result (IsTrue (is_path parts.lines.items)) }
-    ensures fault { IfErr result (λ f. (f ≡ CommandFault.Memory)
-        ⊎ ((f ≡ CommandFault.BadPath) × IsFalse (is_path parts.lines.items))) }
+    ensures right { OnOk result (IsFalse wrong) }
+    ensures fault { IfErr result (λ f. (d : Content) → MayReport (when wrong (command_fault_of fault)
+        (when (not (is_path parts.lines.items)) Bad_path (Ok d))) (command_fault_of f)) }
+    ensures lacks { OnOk result ((d : Content) → MayReport (when wrong (command_fault_of fault)
+        (when (not (is_path parts.lines.items)) Bad_path (Ok d))) Memory) }
 {
+    if wrong {
+        return Err(fault);
+    }
     match Path::new(alloc, parts.lines, parts.pos, parts.neg) {
         Ok(path) => Ok(path),
         Err(PathFault::BadPath) => Err(CommandFault::BadPath),

@@ -188,9 +188,6 @@ impl Register {
         if !is_recordable(&self.roads, &self.paths) {
             return Err(CommandFault::NotARecord);
         }
-        match dump_of(self.alloc, &self.roads, &self.paths) {
-            Ok(dump) => Ok(Reply::Dump(dump)),
-            Err(_) => Err(CommandFault::Memory),
-        }
+        Ok(Reply::Dump(dump_of(self.alloc, &self.roads, &self.paths)?))
     }
 }

@@ -18,14 +18,12 @@ use std::alloc::AllocError;
 pub(crate) fn line_changed(plan: &EditPlan) -> Option<ChangedLine>
     ensures { list_map change_of (option_to_list result) ≡ planned_changes plan.now }
 {
-    match plan.line {
-        Some(_) => Some(ChangedLine {
-            from: plan.nodes.0,
-            to: plan.nodes.1,
-            len: plan.len,
-        }),
-        None => None,
-    }
+    plan.line?;
+    Some(ChangedLine {
+        from: plan.nodes.0,
+        to: plan.nodes.1,
+        len: plan.len,
+    })
 }
 
 /// Records what a judged edit touches, and nothing else.
@@ -56,19 +54,13 @@ impl Register {
             Err(fault) => return Err(CommandFault::Map(fault)),
         };
         if self.paths.len() == 0 {
-            let Ok(undo) = self.roads.make(edit, &plan) else {
-                return Err(CommandFault::Memory);
-            };
+            let undo = self.roads.make(edit, &plan)?;
             self.roads.keep(undo);
             self.near.clear();
             return Ok(Reply::Paths(Vec::new(self.alloc)));
         }
-        let Ok(()) = note_alone(&mut self.touched, &plan) else {
-            return Err(CommandFault::Memory);
-        };
-        let Ok(undo) = self.roads.make(edit, &plan) else {
-            return Err(CommandFault::Memory);
-        };
+        note_alone(&mut self.touched, &plan)?;
+        let undo = self.roads.make(edit, &plan)?;
         let none = Overlay::new(self.alloc);
         match renew(
             self.alloc,

@@ -45,9 +45,7 @@ impl Register {
             searches: 0,
             settled: 0,
         };
-        match refer(self.alloc, &self.roads, path, &mut work) {
-            Ok((_, footprint)) => Ok(Some(footprint)),
-            Err(_) => Err(CommandFault::Memory),
-        }
+        let (_, footprint) = refer(self.alloc, &self.roads, path, &mut work)?;
+        Ok(Some(footprint))
     }
 }

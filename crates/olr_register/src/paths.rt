@@ -1,7 +1,7 @@
 //! Paths that are added, replaced or dropped at once, outside a batch.
 ghost use Rattle.olr_register.specs.HoldsChange.{path_by};
 
-use crate::change::{PathParts, path_of};
+use crate::change::{PathParts, path_unless};
 use crate::nearing::rebuild_bounds;
 use crate::register::Register;
 use olr_commands::{CommandFault, Reply};
@@ -18,28 +18,11 @@ impl Register {
         ensures { Answered self.old (Make (Add_path (string_bytes name) (path_by parts))) result
             self.new }
     {
-        if self.paths.has(&name) {
-            return Err(CommandFault::PathExists);
-        }
-        let path = path_of(self.alloc, parts)?;
-        let Ok(entries) = self.paths.add(
-            self.alloc,
-            &self.roads,
-            name,
-            path,
-            &mut self.searches,
-            &mut self.work,
-        )
-        else {
-            return Err(CommandFault::Memory);
-        };
-        rebuild_bounds(
-            self.alloc,
-            &mut self.near,
-            &self.roads,
-            &self.paths,
-            &mut self.searches,
-        );
+        let taken = self.paths.has(&name);
+        let path = path_unless(self.alloc, taken, CommandFault::PathExists, parts)?;
+        let (heap, roads) = (self.alloc, &self.roads);
+        let entries = self.paths.add(heap, roads, name, path, &mut self.searches, &mut self.work)?;
+        rebuild_bounds(heap, &mut self.near, roads, &self.paths, &mut self.searches);
         Ok(Reply::Paths(entries))
     }
 
@@ -48,28 +31,11 @@ impl Register {
         requires { self.old.kept.batch ≡ None }
         ensures { Answered self.old (Make (Set_path name.now (path_by parts))) result self.new }
     {
-        if !self.paths.has(name) {
-            return Err(CommandFault::NoPath);
-        }
-        let path = path_of(self.alloc, parts)?;
-        let Ok(entries) = self.paths.set(
-            self.alloc,
-            &self.roads,
-            name,
-            path,
-            &mut self.searches,
-            &mut self.work,
-        )
-        else {
-            return Err(CommandFault::Memory);
-        };
-        rebuild_bounds(
-            self.alloc,
-            &mut self.near,
-            &self.roads,
-            &self.paths,
-            &mut self.searches,
-        );
+        let missing = !self.paths.has(name);
+        let path = path_unless(self.alloc, missing, CommandFault::NoPath, parts)?;
+        let (heap, roads) = (self.alloc, &self.roads);
+        let entries = self.paths.set(heap, roads, name, path, &mut self.searches, &mut self.work)?;
+        rebuild_bounds(heap, &mut self.near, roads, &self.paths, &mut self.searches);
         Ok(Reply::Paths(entries))
     }
 

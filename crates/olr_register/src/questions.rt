@@ -35,23 +35,15 @@ impl Register {
         if !self.paths.has(name) {
             return Err(CommandFault::NoPath);
         }
-        let Ok(entry) = self.paths.entry(self.alloc, name) else {
-            return Err(CommandFault::Memory);
-        };
-        match one_entry(self.alloc, entry) {
-            Ok(entries) => Ok(Reply::Paths(entries)),
-            Err(_) => Err(CommandFault::Memory),
-        }
+        let entry = self.paths.entry(self.alloc, name)?;
+        Ok(Reply::Paths(one_entry(self.alloc, entry)?))
     }
 
     /// What is published of every path, in order.
     pub fn report(&self) -> Result<Reply, CommandFault>
         ensures { Answered self.now Report result self.now }
     {
-        match self.paths.entries(self.alloc) {
-            Ok(entries) => Ok(Reply::Paths(entries)),
-            Err(_) => Err(CommandFault::Memory),
-        }
+        Ok(Reply::Paths(self.paths.entries(self.alloc)?))
     }
 
     /// The fields of the reference that this text encodes. If it encodes none, the fault says why; `Memory` if an

@@ -1,6 +1,6 @@
 use Rattle.std.proofs.Common.{List, ℕ, ◌++◌, sym, ap, ◌∙◌}
 use Rattle.std.specs.Option.{option_copied}
-use Rattle.olr_spec.specs.Map.{Map, no_line}
+use Rattle.olr_spec.specs.Map.{Map}
 use Rattle.olr_map.specs.RoadMaps.{map_of}
 use Rattle.olr_commands.specs.RecordText.{record_line}
 use Rattle.olr_commands.specs.Dump.{line_change}
@@ -10,7 +10,7 @@ use Rattle.olr_register.proofs.dumps.push_lines.Goals as goal
 pub unreachable-requires : goal.unreachable-requires
 unreachable-requires c =
     let M : Map = map_of c.args.roads.now in
-    entry_there M.lines (0, no_line) c.args.ids.now c.loop-id.id-index c.id-item.result _ c.requires.ids
+    entry_there M.lines c.args.ids.now c.loop-id.id-index c.id-item.result _ c.requires.ids
     c.loop-id-test.true c.id-item.is c.line.ensures (ap option_copied c.in_default.is)
 
 pub push_line_record-requires : goal.push_line_record-requires
@@ -24,5 +24,5 @@ loop-id-preserved c =
     let id : ℕ = c.id-item.result in
     c.in_ok-push_line_record.ensures
     ∙ ap (λ (t : List ℕ). t ++ record_line (line_change (id, c.in-Some.line.now))) c.loop-id.invariant
-    ∙ entry_record M.lines (0, no_line) c.args.ids.now c.loop-id.id-index id _ c.requires.ids c.loop-id-test.true
+    ∙ entry_record M.lines c.args.ids.now c.loop-id.id-index id _ c.requires.ids c.loop-id-test.true
     c.id-item.is c.line.ensures (λ e. record_line (line_change e)) c.args.text.now.items _ (ap option_copied c.in-Some.is)

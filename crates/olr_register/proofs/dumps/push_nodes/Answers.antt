@@ -1,5 +1,5 @@
 use Rattle.std.proofs.Common.{List, ℕ, ◌++◌, sym, ap, ◌∙◌}
-use Rattle.olr_spec.specs.Map.{Map, no_coord}
+use Rattle.olr_spec.specs.Map.{Map}
 use Rattle.olr_map.specs.RoadMaps.{map_of}
 use Rattle.olr_commands.specs.RecordText.{record_line}
 use Rattle.olr_commands.specs.Dump.{node_change}
@@ -9,7 +9,7 @@ use Rattle.olr_register.proofs.dumps.push_nodes.Goals as goal
 pub unreachable-requires : goal.unreachable-requires
 unreachable-requires c =
     let M : Map = map_of c.args.roads.now in
-    entry_there M.nodes (0, no_coord) c.args.ids.now c.loop-id.id-index c.id-item.result _ c.requires.ids
+    entry_there M.nodes c.args.ids.now c.loop-id.id-index c.id-item.result _ c.requires.ids
     c.loop-id-test.true c.id-item.is c.node.ensures c.in_default.is
 
 pub push_node_record-requires : goal.push_node_record-requires
@@ -23,5 +23,5 @@ loop-id-preserved c =
     let id : ℕ = c.id-item.result in
     c.in_ok-push_node_record.ensures
     ∙ ap (λ (t : List ℕ). t ++ record_line (node_change (id, c.in-Some.coord))) c.loop-id.invariant
-    ∙ entry_record M.nodes (0, no_coord) c.args.ids.now c.loop-id.id-index id _ c.requires.ids c.loop-id-test.true
+    ∙ entry_record M.nodes c.args.ids.now c.loop-id.id-index id _ c.requires.ids c.loop-id-test.true
     c.id-item.is c.node.ensures (λ e. record_line (node_change e)) c.args.text.now.items _ c.in-Some.is

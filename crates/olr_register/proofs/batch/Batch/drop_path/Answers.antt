@@ -10,6 +10,7 @@ use Rattle.olr_register.specs.HoldsChange.{ByContent}
 use Rattle.olr_register.proofs.Changing.{drop_missing, drop_lacks, drop_ok}
 use Rattle.olr_register.proofs.Listed.{each_left, each_given, each_if_any, each_follows}
 use Rattle.olr_register.proofs.Making.{path_unmade, path_made}
+use Rattle.std.proofs.lemmas.Result.{err_from_is_err_and}
 use Rattle.olr_register.proofs.batch.Batch.drop_path.Goals as goal
 
 pub returns-then-not-has : goal.returns-then-not-has
@@ -19,21 +20,22 @@ returns-then-not-has c = λ roads.
     path_unmade roads is b b.overlay _ _ refl
     (ByContent (drop_missing (content_under roads is b) c.args.name.now (sym c.if-not-has.ensures)))
 
-pub returns-in-Ok : goal.returns-in-Ok
-returns-in-Ok c = λ roads.
+pub returns : goal.returns
+returns c = λ roads.
     let b = c.args.self.now in
     let is = items c.args.list.now in
     let name = c.args.name.now in
     let ks = under_overlay is b.overlay in
     let keep = λ (i : Item). not (same_name i.name name) in
     path_made roads is b c.drop_path.new.self (Drop_path name) _
-    (c.in-Ok.ensures.ok is c.requires) (drop_ok (map_of roads) ks name (sym c.if-not-has.ensures)) tt refl refl refl
+    (c.in_ok-drop_path.ensures.ok is c.requires) (drop_ok (map_of roads) ks name (sym c.if-not-has.ensures)) tt refl refl refl
     (λ names g. rw (append-nil names) (each_left (each_given names) keep ks g))
     (λ M. each_left (each_if_any M) keep ks) (each_left (each_follows is) keep ks) (begins_drop keep ks)
 
-pub returns-in-Err : goal.returns-in-Err
-returns-in-Err c = λ roads.
+pub returns-in_err-drop_path : goal.returns-in_err-drop_path
+returns-in_err-drop_path c = λ roads.
     let b = c.args.self.now in
     let is = items c.args.list.now in
-    path_unmade roads is b c.drop_path.new.self _ _ (c.in-Err.ensures.err is)
-    (drop_lacks (content_under roads is b) c.args.name.now (sym c.if-not-has.ensures))
+    let p = err_from_is_err_and c.from_residual.result c.from_residual.ensures.1 in
+    rw (p.1, p.2) (path_unmade roads is b c.drop_path.new.self _ _ (c.in_err-drop_path.ensures.err is)
+    (drop_lacks (content_under roads is b) c.args.name.now (sym c.if-not-has.ensures)))

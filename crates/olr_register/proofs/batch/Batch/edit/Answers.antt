@@ -4,6 +4,7 @@ use Rattle.olr_register.specs.Holding.{content_under}
 use Rattle.olr_register.specs.HoldsChange.{ByContent}
 use Rattle.olr_register.proofs.Changing.{edit_refused, edit_lacks}
 use Rattle.olr_register.proofs.Making.{edit_unmade, edit_made}
+use Rattle.std.proofs.lemmas.Result.{err_from_is_err_and}
 use Rattle.olr_register.proofs.batch.Batch.edit.Goals as goal
 
 pub returns-in-Err : goal.returns-in-Err
@@ -13,28 +14,31 @@ returns-in-Err c = λ is.
     edit_unmade roads roads is b b.log b.touched (edit_of c.args.edit) c.requires refl _ refl refl refl refl
     (ByContent (edit_refused (content_under roads is b) _ c.in-Err.fault c.in-Err.ensures.fault))
 
-pub returns-then-is_err : goal.returns-then-is_err
-returns-then-is_err c = λ is.
+pub returns-in_err-reserve : goal.returns-in_err-reserve
+returns-in_err-reserve c = λ is.
     let b = c.args.self.now in
     let roads = c.args.roads.now in
     let t = c.reserve.ensures in
-    edit_unmade roads roads is b b.log c.reserve.new.self (edit_of c.args.edit) c.requires refl _ refl t.nodes t.lines
-    t.changed (edit_lacks (content_under roads is b) _ c.in-Ok.ensures.plan.accepted)
+    let p = err_from_is_err_and c.from_residual.result c.from_residual.ensures.1 in
+    rw (p.1, p.2) (edit_unmade roads roads is b b.log c.reserve.new.self (edit_of c.args.edit) c.requires refl _ refl
+    t.nodes t.lines t.changed (edit_lacks (content_under roads is b) _ c.in-Ok.ensures.plan.accepted))
 
-pub returns-in-Ok-make_into : goal.returns-in-Ok-make_into
-returns-in-Ok-make_into c = λ is.
+pub returns : goal.returns
+returns c = λ is.
     let j = c.in-Ok.ensures.plan in
     let s = c.reserve.ensures in
     let t = c.note.ensures in
     edit_made c.args.roads.now c.make_into.new.self is c.args.self.now c.make_into.new.log c.note.new.self
-    (edit_of c.args.edit) c.make_into.ensures.can_undo c.make_into.ensures.before c.in-Ok-make_into.ensures.done j.placed
+    (edit_of c.args.edit) c.make_into.ensures.can_undo c.make_into.ensures.before c.in_ok-make_into.ensures.done j.placed
     (λ v. rw (j.nodes v, ← s.nodes) (t.nodes v)) (λ y. rw (← j.lines, ← s.lines) (t.lines y))
     (rw (← j.changes, ← c.line_changed.ensures, ← s.changed) t.changed)
 
-pub returns-in-Err-make_into : goal.returns-in-Err-make_into
-returns-in-Err-make_into c = λ is.
+pub returns-in_err-make_into : goal.returns-in_err-make_into
+returns-in_err-make_into c = λ is.
     let b = c.args.self.now in
     let t = c.reserve.ensures in
-    edit_unmade c.args.roads.now c.make_into.new.self is b c.make_into.new.log c.reserve.new.self (edit_of c.args.edit)
-    c.make_into.ensures.can_undo c.make_into.ensures.before _ c.in-Err-make_into.ensures.same t.nodes t.lines t.changed
-    (edit_lacks (content_under c.args.roads.now is b) _ c.in-Ok.ensures.plan.accepted)
+    let p = err_from_is_err_and c.from_residual-in_err-make_into.result c.from_residual-in_err-make_into.ensures.1 in
+    rw (p.1, p.2) (edit_unmade c.args.roads.now c.make_into.new.self is b c.make_into.new.log c.reserve.new.self
+    (edit_of c.args.edit) c.make_into.ensures.can_undo c.make_into.ensures.before _ c.in_err-make_into.ensures.same
+    t.nodes t.lines t.changed
+    (edit_lacks (content_under c.args.roads.now is b) _ c.in-Ok.ensures.plan.accepted))

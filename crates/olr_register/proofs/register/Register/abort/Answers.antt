@@ -4,8 +4,10 @@ use Rattle.olr_commands.specs.Reply as replies
 use Rattle.olr_commands.specs.Words.{entry_of}
 use Rattle.olr_paths.specs.Items.{items}
 use Rattle.olr_register.specs.Holding.{IsKeptRight}
-use Rattle.olr_register.proofs.BatchEnds.{abort_done, none_refused}
+use Rattle.olr_register.proofs.BatchEnds.{abort_done}
 use Rattle.olr_register.proofs.States.{kept_moved}
+use Rattle.olr_commands.specs.Reply.{ByState}
+use Rattle.olr_register.proofs.Outcomes.{answered_refused}
 use Rattle.olr_register.proofs.register.Register.abort.Goals as goal
 
 pub undo_all-requires : goal.undo_all-requires
@@ -31,4 +33,4 @@ returns-in-Some c =
 
 pub returns : goal.returns
 returns c =
-    rw (← c.self.view_is, ← c.in-None.ensures.value, c.take.ensures.after) (none_refused _ _ _ Abort _ refl)
+    rw (← c.self.view_is, ← c.in-None.ensures.value, c.take.ensures.after) (answered_refused _ _ Abort _ _ refl refl (ByState refl))

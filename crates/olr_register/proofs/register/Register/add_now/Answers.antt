@@ -1,68 +1,59 @@
-use Rattle.std.proofs.Common.{inl, Some, refl, sym, ap, ◌∙◌}
+use Rattle.std.proofs.Common.{refl, sym, ap, ◌∙◌, not}
 use Rattle.std.specs.Prelude.{string_bytes}
-use Rattle.std.proofs.lemmas.Result.{err_from_is_err_and}
 use Rattle.olr_map.specs.RoadMaps.{map_of}
 use Rattle.olr_commands.specs.State.{Add_path}
+use Rattle.olr_commands.specs.declared.fault.CommandFault.TheVariants as rust
 use Rattle.olr_paths.specs.Items.{items}
 use Rattle.olr_paths.proofs.Overlaying.{has_name}
 use Rattle.olr_register.specs.Holding.{content_on}
 use Rattle.olr_register.specs.HoldsChange.{path_by}
-use Rattle.olr_register.proofs.Changing.{add_taken, add_refused, add_ok}
-use Rattle.olr_register.proofs.Listed.{each_add, each_encoded}
-use Rattle.olr_register.proofs.Singles.{reported_now, refused_now, add_done, still_right}
-use Rattle.olr_register.proofs.States.{closed}
+use Rattle.olr_register.proofs.Changing.{add_refused}
+use Rattle.olr_register.proofs.Singles.{refused_first, refused_now, may_refuse, kept_bounds, add_right, add_done}
 use Rattle.olr_register.proofs.register.Register.add_now.Goals as goal
 
-pub returns-then-has : goal.returns-then-has
-returns-then-has c =
-    let r = c.self.inside in
-    let none = closed r.roads (items r.paths) r.batch _ _ _ c.self.view_is c.requires in
-    rw (← c.self.view_is, none) (reported_now _ _ _ (Add_path (string_bytes c.args.name) (path_by c.args.parts)) _ _ refl
-    (add_taken (content_on (map_of r.roads) (items r.paths)) (string_bytes c.args.name) (path_by c.args.parts)
-    (ap (has_name (items r.paths)) (sym c.deref.ensures) ∙ sym c.if-has.ensures)))
+pub add-requires : goal.add-requires
+add-requires c =
+    ap (has_name (items c.self.inside.paths)) (sym c.deref.ensures) ∙ sym c.has-taken.ensures ∙ c.in_ok-path.ensures.right
 
 pub returns-in_err-path : goal.returns-in_err-path
 returns-in_err-path c =
     let r = c.self.inside in
-    let none = closed r.roads (items r.paths) r.batch _ _ _ c.self.view_is c.requires in
-    let p = err_from_is_err_and c.from_residual.result c.from_residual.ensures.1 in
-    rw (p.1, p.2, ← c.self.view_is, none)
-    (refused_now _ _ _ (Add_path (string_bytes c.args.name) (path_by c.args.parts)) _ _ refl refl
-    (add_refused (content_on (map_of r.roads) (items r.paths)) (string_bytes c.args.name) (path_by c.args.parts) _
-    (ap (has_name (items r.paths)) (sym c.deref.ensures) ∙ sym c.if-has.ensures) c.in_err-path.ensures.fault))
+    let name = string_bytes c.args.name in
+    refused_first r.roads (items r.paths) r.batch _ _ _ c.self.view_is c.requires (Add_path name (path_by c.args.parts))
+    c.from_residual.result c.in_err-path.field-0.0 c.from_residual.ensures.1
+    (may_refuse (content_on (map_of r.roads) (items r.paths)) (Add_path name (path_by c.args.parts)) _ refl
+    (add_refused (content_on (map_of r.roads) (items r.paths)) name (path_by c.args.parts) c.has-taken.result _
+    (c.has-taken.ensures ∙ ap (has_name (items r.paths)) c.deref.ensures) c.in_err-path.ensures.fault))
 
-pub returns-in_default : goal.returns-in_default
-returns-in_default c =
+pub returns-in_err-entries : goal.returns-in_err-entries
+returns-in_err-entries c =
     let r = c.self.inside in
-    let none = closed r.roads (items r.paths) r.batch _ _ _ c.self.view_is c.requires in
-    rw (← c.self.view_is, none, c.in_default.ensures.err, c.in_default.ensures.err_work)
-    (refused_now _ _ _ (Add_path (string_bytes c.args.name) (path_by c.args.parts)) _ _ refl refl
-    (add_refused (content_on (map_of r.roads) (items r.paths)) (string_bytes c.args.name) (path_by c.args.parts) _
-    (ap (has_name (items r.paths)) (sym c.deref.ensures) ∙ sym c.if-has.ensures) (inl refl)))
+    let name = string_bytes c.args.name in
+    refused_now r.roads (items r.paths) r.batch _ _ _ c.self.view_is c.requires (Add_path name (path_by c.args.parts))
+    r.roads _ _ _ c.from_residual-in_err-entries.result rust.Memory c.from_residual-in_err-entries.ensures.1 refl
+    c.in_err-entries.ensures.err c.in_err-entries.ensures.err_work refl
+    (may_refuse (content_on (map_of r.roads) (items r.paths)) (Add_path name (path_by c.args.parts)) _ refl
+    (add_refused (content_on (map_of r.roads) (items r.paths)) name (path_by c.args.parts) c.has-taken.result _
+    (c.has-taken.ensures ∙ ap (has_name (items r.paths)) c.deref.ensures) c.in_ok-path.ensures.lacks))
 
 pub invariant_of-self-2 : goal.invariant_of-self-2
 invariant_of-self-2 c =
     let r = c.self.inside in
-    let none = closed r.roads (items r.paths) r.batch _ _ _ c.self.view_is c.requires in
-    let h = rw none at c.self.invariant in
-    let M = map_of r.roads in
-    let new = c.in-Ok.ensures.added in
-    let free = ap (has_name (items r.paths)) (sym c.deref.ensures) ∙ sym c.if-has.ensures in
-    let name = string_bytes c.args.name in
-    let bounded = c.rebuild_bounds.ensures (items r.paths) h.bounded c.in-Ok.ensures.new_origins in
-    rw none
-    (still_right r.roads r.roads (items r.paths) _ M _ (Add_path name c.in_ok-path.path) h.register.content tt refl
-    (rw new.2 (add_ok M (items r.paths) name _ (Some new.0) free (rw c.in_ok-path.ensures.ok c.in_ok-path.ensures.good)))
-    (rw new.2 (each_add (each_encoded M) (items r.paths) _ (new.0, refl, new.1) h.register.made)) bounded)
+    let e = c.in_ok-entries.ensures in
+    add_right r.roads (items r.paths) r.batch _ _ _ c.self.view_is c.requires r.near c.self.invariant
+    (string_bytes c.args.name) (items c.add.new.self) c.in_ok-path.path e.added.0
+    (rw c.in_ok-path.ensures.ok c.in_ok-path.ensures.good) e.added.1 _
+    (ap (has_name (items r.paths)) (sym c.deref.ensures) ∙ sym c.has-taken.ensures ∙ c.in_ok-path.ensures.right) e.added.2
+    (c.rebuild_bounds.ensures (items r.paths) (kept_bounds r.roads (items r.paths) r.batch _ _ _ c.self.view_is c.requires
+    r.near c.self.invariant) e.new_origins)
 
 pub returns : goal.returns
 returns c =
     let r = c.self.inside in
-    let none = closed r.roads (items r.paths) r.batch _ _ _ c.self.view_is c.requires in
-    let h = rw none at c.self.invariant in
-    let e = c.in-Ok.ensures in
-    let new = e.added in
-    rw (← c.self.view_is, none, ← c.in_ok-path.ensures.ok, new.2)
-    (add_done (map_of r.roads) (items r.paths) _ _ h.register.content h.register.made (string_bytes c.args.name)
-    c.in_ok-path.path new.0 _ _ _ (rw c.in_ok-path.ensures.ok c.in_ok-path.ensures.good) new.1 refl e.counted e.rises
-    e.searched (ap (has_name (items r.paths)) (sym c.deref.ensures) ∙ sym c.if-has.ensures) new.3)
+    let e = c.in_ok-entries.ensures in
+    rw (← c.in_ok-path.ensures.ok)
+    (add_done r.roads (items r.paths) r.batch _ _ _ c.self.view_is c.requires r.near c.self.invariant
+    (string_bytes c.args.name) (items c.add.new.self) c.in_ok-path.path e.added.0
+    (rw c.in_ok-path.ensures.ok c.in_ok-path.ensures.good) e.added.1 _ _ _ refl e.counted e.rises e.searched
+    (ap (has_name (items r.paths)) (sym c.deref.ensures) ∙ sym c.has-taken.ensures ∙ c.in_ok-path.ensures.right) e.added.2
+    e.added.3)

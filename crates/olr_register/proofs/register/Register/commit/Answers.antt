@@ -2,12 +2,14 @@ use Rattle.std.proofs.Common.{refl}
 use Rattle.olr_map.specs.RoadMaps.{map_before}
 use Rattle.olr_commands.specs.State.{Commit}
 use Rattle.olr_paths.specs.Items.{items}
-use Rattle.olr_register.proofs.BatchEnds.{none_refused}
+use Rattle.olr_commands.specs.Reply.{ByState}
+use Rattle.olr_register.proofs.Outcomes.{answered_refused}
 use Rattle.olr_register.proofs.BatchCommit.{count_refused, commit_lacks, can_commit, commit_held, commit_done}
 use Rattle.olr_register.proofs.register.Register.commit.Goals as goal
 
 pub returns-in_default : goal.returns-in_default
-returns-in_default c = rw (← c.self.view_is, c.in_default.is) (none_refused _ _ _ (Commit c.args.count) _ refl)
+returns-in_default c =
+    rw (← c.self.view_is, c.in_default.is) (answered_refused _ _ (Commit c.args.count) _ _ refl refl (ByState refl))
 
 pub returns-then-batch-count : goal.returns-then-batch-count
 returns-then-batch-count c =
@@ -23,24 +25,25 @@ renew-requires c =
           (rw (← c.in-Some.is) c.self.invariant),
     )
 
-pub invariant_of-self : goal.invariant_of-self
-invariant_of-self c =
+pub invariant_of-self-2 : goal.invariant_of-self-2
+invariant_of-self-2 c =
     let s = c.self.inside in
     commit_held s.roads (items s.paths) c.in-Some.batch s.near (rw (← c.in-Some.is) c.self.invariant)
-    (items c.renew.new.paths) c.in-Ok.entries.items _ _ _ _ c.in-Ok.ensures.renewed c.renew.new.near
-    c.in-Ok.ensures.bounded
+    (items c.renew.new.paths) c.in_ok-entries.entries.items _ _ _ _ c.in_ok-entries.ensures.renewed c.renew.new.near
+    c.in_ok-entries.ensures.bounded
 
-pub returns-in-Ok : goal.returns-in-Ok
-returns-in-Ok c =
+pub returns : goal.returns
+returns c =
     let s = c.self.inside in
     rw (← c.self.view_is, c.in-Some.is)
     (commit_done s.roads (items s.paths) c.in-Some.batch s.near (rw (← c.in-Some.is) c.self.invariant)
-    (items c.renew.new.paths) c.in-Ok.entries.items _ _ _ _ c.in-Ok.ensures.renewed c.args.count _
-    c.if-batch-count.false refl c.in-Ok.ensures.rises c.in-Ok.ensures.kept)
+    (items c.renew.new.paths) c.in_ok-entries.entries.items _ _ _ _ c.in_ok-entries.ensures.renewed c.args.count _
+    c.if-batch-count.false refl c.in_ok-entries.ensures.rises c.in_ok-entries.ensures.kept)
 
-pub returns-in-Err : goal.returns-in-Err
-returns-in-Err c =
+pub returns-in_err-entries : goal.returns-in_err-entries
+returns-in_err-entries c =
     let s = c.self.inside in
-    let e = c.in-Err.ensures in
-    rw (← c.self.view_is, c.in-Some.is, e.err, e.err_work, e.err_kept)
-    (commit_lacks s.roads (items s.paths) c.in-Some.batch c.args.count c.if-batch-count.false _ _)
+    let e = c.in_err-entries.ensures in
+    rw (← c.self.view_is, c.in-Some.is)
+    (commit_lacks s.roads (items s.paths) c.in-Some.batch c.args.count c.if-batch-count.false _ _ _ _ _
+    c.from_residual.result c.from_residual.ensures.1 e.err e.err_work e.err_kept)

@@ -7,8 +7,11 @@ use Rattle.olr_commands.specs.Recordable.{is_name, is_recordable_map}
 use Rattle.olr_commands.specs.Reply.{Dumped}
 use Rattle.olr_commands.specs.State.{Dump}
 use Rattle.olr_paths.specs.Items.{items, all_named}
-use Rattle.olr_register.proofs.BatchEnds.{open_refused, none_refused}
-use Rattle.olr_register.proofs.DumpOutcomes.{dump_lacks, dump_done}
+use Rattle.olr_register.proofs.BatchEnds.{open_refused}
+use Rattle.olr_register.proofs.DumpOutcomes.{dump_done}
+use Rattle.olr_commands.specs.Reply.{ByState, Lacks}
+use Rattle.olr_commands.specs.declared.fault.CommandFault.TheVariants.{Memory}
+use Rattle.olr_register.proofs.Outcomes.{answered_refused}
 use Rattle.olr_register.proofs.register.Register.dump.Goals as goal
 
 pub returns-then-is_some : goal.returns-then-is_some
@@ -20,7 +23,7 @@ returns-then-is_some c =
 pub returns-then-not-is_recordable : goal.returns-then-not-is_recordable
 returns-then-not-is_recordable c =
     rw (← c.self.view_is, none_of c.self.inside.batch (sym c.if-is_some.ensures))
-    (none_refused _ _ _ Dump _ (rw (← c.if-not-is_recordable.ensures)))
+    (answered_refused _ _ Dump _ _ refl refl (ByState (rw (← c.if-not-is_recordable.ensures))))
 
 pub dump_of-requires : goal.dump_of-requires
 dump_of-requires c =
@@ -30,13 +33,14 @@ dump_of-requires c =
           (list_all (λ p. is_name p.name) (all_named (items r.paths))) (sym c.if-not-is_recordable.ensures)).0;
     }
 
-pub returns-in-Ok : goal.returns-in-Ok
-returns-in-Ok c =
+pub returns : goal.returns
+returns c =
     rw (← c.self.view_is, none_of c.self.inside.batch (sym c.if-is_some.ensures))
-    (dump_done _ _ _ (sym c.if-not-is_recordable.ensures) _
-    (λ i. Dumped (c.in-Ok.ensures.count i) (c.in-Ok.ensures.text i)))
+    (dump_done _ _ _ _ (sym c.if-not-is_recordable.ensures)
+    (λ i. Dumped (c.in_ok-dump_of.ensures.count i) (c.in_ok-dump_of.ensures.text i)))
 
-pub returns-in-Err : goal.returns-in-Err
-returns-in-Err c =
+pub returns-in_err-dump_of : goal.returns-in_err-dump_of
+returns-in_err-dump_of c =
     rw (← c.self.view_is, none_of c.self.inside.batch (sym c.if-is_some.ensures))
-    (dump_lacks _ _ _ (sym c.if-not-is_recordable.ensures))
+    (answered_refused _ _ Dump c.from_residual.result Memory refl c.from_residual.ensures.1
+    (Lacks refl (rw (← c.if-not-is_recordable.ensures))))

@@ -11,13 +11,14 @@ entries-requires c =
     let r = c.self.inside in
     record { encoded = all_encoded (map_kept r.roads r.batch) (items r.paths) c.self.invariant.register.made }
 
-pub returns-in-Ok : goal.returns-in-Ok
-returns-in-Ok c =
+pub returns : goal.returns
+returns c =
     let r = c.self.inside in
     rw (← c.self.view_is)
     (report_answered _ _ (reported_all (map_kept r.roads r.batch) (items r.paths) _ c.self.invariant.register.made
-    c.in-Ok.ensures.reported))
+    c.in_ok-entries.ensures.reported))
 
-pub returns-in-Err : goal.returns-in-Err
-returns-in-Err c =
-    rw (← c.self.view_is) (report_lacks _ _ (some_named (items c.self.inside.paths) c.in-Err.ensures.lacks) refl)
+pub returns-in_err-entries : goal.returns-in_err-entries
+returns-in_err-entries c =
+    rw (← c.self.view_is)
+    (report_lacks _ _ (some_named (items c.self.inside.paths) c.in_err-entries.ensures.lacks) c.from_residual.ensures.1)

@@ -21,22 +21,23 @@ entry-requires c =
           c.self.invariant.register.made (sym c.if-not-has.ensures);
     }
 
-pub returns-in_default : goal.returns-in_default
-returns-in_default c =
-    rw (← c.self.view_is) (show_lacks _ c.args.name.now _ refl (sym c.if-not-has.ensures))
+pub returns-in_err-entry : goal.returns-in_err-entry
+returns-in_err-entry c =
+    rw (← c.self.view_is) (show_lacks _ c.args.name.now _ c.from_residual.ensures.1 (sym c.if-not-has.ensures))
 
-pub returns-in-Ok-one_entry : goal.returns-in-Ok-one_entry
-returns-in-Ok-one_entry c =
+pub returns : goal.returns
+returns c =
     let r = c.self.inside in
     let h = c.self.invariant.register in
-    let returned = c.in-Ok.ensures in
+    let returned = c.in_ok-entry.ensures in
     rw (← c.self.view_is)
     (show_answered _ c.args.name.now _ (sym c.if-not-has.ensures) (
       returned.0,
       (answer_held (map_kept r.roads r.batch) (items r.paths) h.content h.made c.args.name.now returned.0).1 returned.1,
-      ap (λ (es : List Entry). map entry_of es) c.in-Ok-one_entry.ensures ∙ ap (λ e. e ∷ []) returned.2,
+      ap (λ (es : List Entry). map entry_of es) c.in_ok-one_entry.ensures ∙ ap (λ e. e ∷ []) returned.2,
     ))
 
-pub returns-in-Err : goal.returns-in-Err
-returns-in-Err c =
-    rw (← c.self.view_is) (show_lacks _ c.args.name.now _ refl (sym c.if-not-has.ensures))
+pub returns-in_err-one_entry : goal.returns-in_err-one_entry
+returns-in_err-one_entry c =
+    rw (← c.self.view_is)
+    (show_lacks _ c.args.name.now _ c.from_residual-in_err-one_entry.ensures.1 (sym c.if-not-has.ensures))
