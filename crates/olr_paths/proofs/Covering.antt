@@ -2,7 +2,6 @@
 use Rattle.std.proofs.Common.{inl, inr, ◌≡◌, ◌≢◌, ℕ, zero, suc, ◌+◌, ◌-◌, ◌<◌, ◌≤◌, ◌==◌, ◌||◌, ◌⊎◌, false}
 use Rattle.std.proofs.Common.{All, List, [], ◌∷◌, ◌++◌, take, length, get_or, slice_get, Option, Some, None, IsTrue}
 use Rattle.std.proofs.Common.{refl, sym, ap, ◌∙◌, subst, append_assoc, arith, min}
-use Rattle.std.specs.List.Sorted.{IsNonDecreasing}
 use Rattle.std.proofs.lemmas.Bool.{cases_Bool, or_left}
 use Rattle.std.proofs.lemmas.Bool.Decides.{nat_tests}
 use Rattle.std.proofs.Math.Bool.{or-false}
@@ -11,7 +10,7 @@ use Rattle.std.proofs.lemmas.Option.{slice_get_within}
 use Rattle.olr_spec.specs.Map.{Map, IsMap, has}
 use Rattle.olr_spec.proofs.ListLemmas.{at_index}
 use Rattle.olr_spec.specs.Detours.{ChangedLine}
-use Rattle.olr_index.specs.PathIds.{holds, path_ids_of}
+use Rattle.olr_index.specs.PathIds.{holds}
 use Rattle.olr_index.specs.declared.Index.{Index}
 use Rattle.olr_paths.specs.Items.{Item}
 use Rattle.olr_paths.specs.Changes.{Follows}
@@ -31,7 +30,7 @@ use Rattle.olr_spec.specs.Extension.{limit}
 use Rattle.olr_search.specs.Bounds.{AreLengths, label_at}
 use Rattle.olr_search.specs.declared.distances.Direction.TheVariants.{Against}
 use Rattle.olr_paths.specs.Items.{made_of, items}
-use Rattle.olr_paths.specs.Changes.{TraversedTouched, LineTouched, QueryTouched}
+use Rattle.olr_paths.specs.Changes.{QueryTouched}
 use Rattle.olr_paths.specs.Touching.{nodes_of, lines_of}
 use Rattle.olr_paths.specs.Searching.{sources, IsAsked, AreAsked, LackQueries}
 use Rattle.olr_paths.specs.Origins.{BeginsIn, Begins}
@@ -45,9 +44,7 @@ use Rattle.olr_paths.specs.declared.path_list.PathList.{PathList}
 use Rattle.olr_paths.proofs.NamedEntries.{Entries, First, item_of, items_of}
 use Rattle.olr_paths.proofs.Sets.{in_from}
 use Rattle.olr_paths.proofs.Distances.{near_absent, leads_from}
-use Rattle.olr_paths.proofs.AskedLemmas.{listed_at}
 use Rattle.olr_paths.proofs.NotedPositions.{back}
-use Rattle.olr_paths.proofs.Alls.{all_more}
 use Rattle.olr_paths.proofs.RenewedPrefix.{SoFar, so_far_step}
 use Rattle.olr_spec.specs.Extension.{Path}
 use Rattle.olr_paths.specs.Laying.{Changes, TakesNone, change_at, under_change, under_changes}
@@ -88,27 +85,6 @@ pub record PutAll {A : Type 0} (number : A → ℕ) (path_ids : List ℕ) (index
   pub kept : Includes old now
   pub put : All (λ x. Finds path_ids index (number x) now) xs
 
-module _ {A : Type 0} (number : A → ℕ) (path_ids : List ℕ) (index : Index) (old : List ℕ) where
-  pub put_all_more : (xs : List A) (k : ℕ) (d : A) (v : ℕ) (of now new : List ℕ) → k < length xs →
-      v ≡ number (get_or xs k d) → of ≡ path_ids_of index v → PutAll number path_ids index (take k xs) old now
-      → Includes now new → ((j : ℕ) → j < length path_ids → IsTrue (has of (get_or path_ids j 0)) → IsTrue (has new j))
-      →
-      PutAll number path_ids index (take (k + 1) xs) old new
-  put_all_more xs k d v of now new lt is path_id_put h kept put =
-      let P : A → Type 0 = λ x. Finds path_ids index (number x) new in
-      let one : Finds path_ids index v new =
-      λ j low on. put j low (ap (λ (ms : List ℕ). has ms (get_or path_ids j 0)) path_id_put ∙ on) in
-      record {
-        kept = λ j on. kept j (h.kept j on);
-        put = all_more P xs k d lt (λ i e low j below on. kept j (h.put i e low j below on))
-            (subst (λ (u : ℕ). Finds path_ids index u new) is one);
-      }
-
-pub found_grown : {A : Type 0} (number : A → ℕ) (path_ids : List ℕ) (index : Index) (xs : List A) (old now : List ℕ) →
-    Includes old now → All (λ x. Finds path_ids index (number x) old) xs →
-    All (λ x. Finds path_ids index (number x) now) xs
-found_grown number path_ids index xs old now kept h = λ i d lt k low on. kept k (h i d lt k low on)
-
 -- ---- from one candidate to the next
 
 -- the positions below next are done, as far as the candidates before index k
@@ -116,22 +92,15 @@ pub record Passed (found : List ℕ) (long k next : ℕ) : Type 0 where
   pub below : (j : ℕ) → j < k → (get_or found j 0 < next) ⊎ (long ≤ get_or found j 0)
   pub within : next ≤ long
 
--- there is no candidate between
-none_between : (found : List ℕ) (long k next position j : ℕ) → IsNonDecreasing found → Passed found long k next →
-    position ≡ get_or found k 0 → k < length found → position ≤ long → next ≤ j → j < position → has found j ≡ false
-none_between found long k next position j up h is lt within above low =
-    elim (cases_Bool (has found j)) [
-      | inr e ↦ e
-      | inl on ↦ let r = at_index found j on in absurd (grind (arith, r.1, r.2, h.below r.0, up k r.0 0))
-    ]
+-- one candidate more, whose position is done or past the last path
+pub passed_more : {found : List ℕ} {long k next : ℕ} (position later : ℕ) → Passed found long k next →
+    position ≡ get_or found k 0 → (position < later) ⊎ (long ≤ position) → next ≤ later → later ≤ long →
+    Passed found long (k + 1) later
+passed_more position later h at out le most = record { below = λ j lt. grind (arith, h.below j); within = most }
 
-none_after : (found : List ℕ) (long k next j : ℕ) → length found ≤ k → Passed found long k next → next ≤ j → j < long →
-    has found j ≡ false
-none_after found long k next j end h above low =
-    elim (cases_Bool (has found j)) [
-      | inr e ↦ e
-      | inl on ↦ let r = at_index found j on in absurd (grind (arith, r.1, r.2, h.below r.0))
-    ]
+pub nothing_at : (js : List Item) → slice_get js 0 ≡ None → js ≡ []
+nothing_at [] at = refl
+nothing_at (j ∷ js) at = absurd cc
 
 -- after the last path
 pub past_end : (js : List Item) (q : ℕ) → slice_get js q ≡ None → length js ≤ q
@@ -139,57 +108,28 @@ past_end [] q at = omega arith
 past_end (j ∷ js) zero at = let never : ⊥ = cc (at) in absurd never
 past_end (j ∷ js) (suc q) at = let le = past_end js q at in omega arith
 
-module _ (N : Map) (n : IsMap N) (T X : List ℕ) (C : List ChangedLine) (before is : List Item) (found : List ℕ)
-    (follows : Follows before is) (covers : Covers N T X is found) (old : Counted) (r : Renewal) (now : Counted) where
+module _ {N : Map} (n : IsMap N) {T X : List ℕ} {C : List ChangedLine} {before is : List Item} (found : List ℕ)
+    (follows : Follows before is) (covers : Covers N T X is found) {old : Counted} {r : Renewal} {now : Counted} where
   -- paths that are no candidates are unchanged
-  gap : (d p : ℕ) → p + d ≤ length is → ((j : ℕ) → p ≤ j → j < p + d → has found j ≡ false) →
-      SoFar N T X C before is p r old now → SoFar N T X C before is (p + d) r old now
-  gap zero p le free h = subst (λ (q : ℕ). SoFar N T X C before is q r old now) (let e : p ≡ p + 0 = omega arith in e) h
-  gap (suc d) p le free h =
-      elim (slice_get is p) as (λ o. slice_get is p ≡ o → SoFar N T X C before is (p + suc d) r old now) [
+  gap : (d p q : ℕ) → p + d ≡ q → q ≤ length is → ((j : ℕ) → p ≤ j → j < q → has found j ≡ false) →
+      SoFar N T X C before is old (take p is) r now → SoFar N T X C before is old (take q is) r now
+  gap zero p q e le free h = let same : p ≡ q = omega arith in rw (← same) h
+  gap (suc d) p q e le free h =
+      elim (slice_get is p) as (λ o. slice_get is p ≡ o → SoFar N T X C before is old (take q is) r now) [
         | None ↦ λ at. absurd (omega (arith, past_end is p at))
-        | Some i ↦ λ at.
-            let one : SoFar N T X C before is (p + 1) r old now =
-            so_far_step N n T X C before is p i follows at old r r now now h
-            (Left (covers p i at (free p (omega arith) (omega arith))) refl refl) in
-            let rest = gap d (p + 1) (omega arith) (λ j a b. free j (omega arith) (omega arith)) one in
-            subst (λ (q : ℕ). SoFar N T X C before is q r old now) (let e : p + 1 + d ≡ p + suc d = omega arith in e)
-            rest
+        | Some i ↦ λ at. gap d (p + 1) q (omega arith) le (λ j a b. free j (omega arith) b)
+            (so_far_step n follows p i at h (Left (covers p i at (free p (omega arith) (omega arith))) refl refl))
       ] refl
 
-  pub to_candidate : (k next position : ℕ) → IsNonDecreasing found → Passed found (length is) k next →
-      position ≡ get_or found k 0 → k < length found → position < length is → next ≤ position →
-      SoFar N T X C before is next r old now → SoFar N T X C before is position r old now
-  to_candidate k next position up h at lt within le so_far =
-      subst (λ (q : ℕ). SoFar N T X C before is q r old now)
-      (let e : next + (position - next) ≡ position = omega arith in e)
-      (gap (position - next) next (omega arith)
-      (λ j a b. none_between found (length is) k next position j up h at lt (omega arith) a (omega arith)) so_far)
-
-  pub to_end : (k next : ℕ) → length found ≤ k → Passed found (length is) k next →
-      SoFar N T X C before is next r old now → SoFar N T X C before is (length is) r old now
-  to_end k next end h so_far =
-      let w = h.within in
-      subst (λ (q : ℕ). SoFar N T X C before is q r old now)
-      (let e : next + (length is - next) ≡ length is = omega arith in e)
-      (gap (length is - next) next (omega arith) (λ j a b. none_after found (length is) k next j end h a (omega arith))
-      so_far)
-
--- with one candidate more
-pub passed_none : (found : List ℕ) (long : ℕ) → Passed found long 0 0
-passed_none found long = record { below = λ j lt. absurd (omega arith); within = omega arith }
-
--- its position is done already, or past the last path
-pub passed_over : (found : List ℕ) (long k next position : ℕ) → Passed found long k next → position ≡ get_or found k 0 →
-    (position < next) ⊎ (long ≤ position) → Passed found long (k + 1) next
-passed_over found long k next position h at out =
-    record { below = λ j lt. grind (arith, h.below j); within = h.within }
-
--- its position is the next
-pub passed_to : (found : List ℕ) (long k next position : ℕ) → Passed found long k next → position ≡ get_or found k 0 →
-    next ≤ position → position < long → Passed found long (k + 1) (position + 1)
-passed_to found long k next position h at le within =
-    record { below = λ j lt. grind (arith, h.below j); within = omega arith }
+  -- up to a position that no candidate left is before
+  pub to_position : (k next q : ℕ) → ((m : ℕ) → k ≤ m → m < length found → q ≤ get_or found m 0) →
+      Passed found (length is) k next → next ≤ q → q ≤ length is →
+      SoFar N T X C before is old (take next is) r now → SoFar N T X C before is old (take q is) r now
+  to_position k next q rest h le most =
+      gap (q - next) next q (omega arith) most (λ j a b. elim (cases_Bool (has found j)) [
+        | inr e ↦ e
+        | inl on ↦ let p = at_index found j on in absurd (grind (arith, p.1, p.2, h.below p.0, rest p.0))
+      ])
 
 -- ---- the positions that are found have all paths that edits affect
 
@@ -197,7 +137,7 @@ is_there : (o : Option (Rc Published Global)) → o ≢ None → (p : Rc Publish
 is_there None h = absurd (h refl)
 is_there (Some p) h = (p, refl)
 
-module _ (N : Map) (n : IsMap N) (slot : ℕ → ℕ) (t : ChangeSet) (s : Searches) (l : PathList) (off_held : l.held ≡ false)
+module _ {N : Map} (n : IsMap N) (slot : ℕ → ℕ) (t : ChangeSet) (s : Searches) (l : PathList) (off_held : l.held ≡ false)
     (known : IsTrue l.finder.known)
     (found : List ℕ) (traversed : AreFound l.path_ids.items l.finder.traversed (nodes_of t) found)
     (from : AreFound l.path_ids.items l.finder.by_query_origin (nodes_of t) found)
@@ -215,26 +155,10 @@ module _ (N : Map) (n : IsMap N) (slot : ℕ → ℕ) (t : ChangeSet) (s : Searc
     lower : k < length ms
     lower = omega (arith, slice_get_within l.paths.entries k e at, l.long)
 
-    never_traversed : TraversedTouched (nodes_of t) (made_of p.value) → ⊥
-    never_traversed h =
-        let held =
-        All-contains (λ (v : ℕ). IsTrue (holds f.traversed v (get_or ms k 0))) p.value.traversed h.0
-        ((l.noted k e at p some known).0)
-        h.2 in
-        let on =
-        All-contains (λ (v : ℕ). Finds ms f.traversed v found) (nodes_of t) h.0 traversed
-        (in_from (nodes_of t) h.0 h.1) k lower
-        held in
-        cc (on, off)
-
-    never_line : LineTouched (lines_of t) e.1.path.value → ⊥
-    never_line h =
-        let held =
-        All-contains (λ (v : ℕ). IsTrue (holds f.lines v (get_or ms k 0))) e.1.path.value.lines h.0
-        ((l.noted k e at p some known).2) (in_from e.1.path.value.lines h.0 h.2) in
-        let on =
-        All-contains (λ (v : ℕ). Finds ms f.lines v found) (lines_of t) h.0 lines (in_from (lines_of t) h.0 h.1) k lower
-        held in
+    missed : (i : Index) (vs : List ℕ) → AreFound ms i vs found → (v : ℕ) → IsTrue (has vs v) →
+        IsTrue (holds i v (get_or ms k 0)) → ⊥
+    missed i vs are v touched held =
+        let on = All-contains (λ (u : ℕ). Finds ms i u found) vs v are (in_from vs v touched) k lower held in
         cc (on, off)
 
     never_query : IsAsked N slot t s (made_of p.value) → QueryTouched N (nodes_of t) (made_of p.value) → ⊥
@@ -259,11 +183,7 @@ module _ (N : Map) (n : IsMap N) (slot : ℕ → ℕ) (t : ChangeSet) (s : Searc
                 let touched : IsTrue (has (nodes_of t) v) =
                 (near_absent N n (nodes_of t) v (min h.0.within limit)
                 (λ there. let never : ⊥ = cc (there, lacks) in never)).1 near in
-                let on =
-                All-contains (λ (u : ℕ). Finds ms f.by_query_origin u found) (nodes_of t) v from
-                (in_from (nodes_of t) v touched) k
-                lower held in
-                let never : ⊥ = cc (on, off) in never
+                missed f.by_query_origin (nodes_of t) from v touched held
           ]
         ]
 
@@ -272,10 +192,15 @@ module _ (N : Map) (n : IsMap N) (slot : ℕ → ℕ) (t : ChangeSet) (s : Searc
     stays_there a = (
       made_of p.value,
       ap (option_map (λ (q : Rc Published Global). made_of q.value)) some,
-      (λ h. elim h [
-        | inl o ↦ never_traversed o
-        | inr rest ↦ elim rest
-            [ inl x ↦ never_line x | inr l ↦ never_query a l ]
+      (λ h. let noted = l.noted k e at p some known in elim h [
+        | inl o ↦ missed f.traversed (nodes_of t) traversed o.0 o.1
+            (All-contains (λ (v : ℕ). IsTrue (holds f.traversed v (get_or ms k 0))) p.value.traversed o.0 noted.0 o.2)
+        | inr rest ↦ elim rest [
+          | inl x ↦ missed f.lines (lines_of t) lines x.0 x.1
+              (All-contains (λ (v : ℕ). IsTrue (holds f.lines v (get_or ms k 0))) e.1.path.value.lines x.0 noted.2
+              (in_from e.1.path.value.lines x.0 x.2))
+          | inr q ↦ never_query a q
+        ]
       ]),
     )
 
@@ -308,7 +233,7 @@ module _ (cs : Changes) (is ys : List Item) (keeps : TakesNone cs) where
             let same : j ≡ a.0 = a.2 ∙ ap (λ (c : Option (Option Path)). changed c a.0) (given k a.0 a.1 off) in
             subst (λ (i : Item). ToStay N (nodes_of t) (lines_of t) i.made i.path) (sym same)
             (covers k a.0 a.1 off
-            (λ m some. asked j m (listed_at (under_changes cs is ++ ys) k j at) (ap (λ (i : Item). i.made) same ∙ some)))
+            (λ m some. asked k j m at (ap (λ (i : Item). i.made) same ∙ some)))
         | inr b ↦
             let low = slice_get_within ys b.0 j b.2 in
             let on = behind k (let e = b.1 in omega arith) (let e = b.1 in omega arith) in

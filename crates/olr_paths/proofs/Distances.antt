@@ -34,12 +34,19 @@ no_way M direction from v most none (suc n) e lt le leads =
 abbrev pub ReturnsDistance : Map → Direction → List (ℕ × ℕ) → ℕ → ℕ → Option ℕ → Type 0
 ReturnsDistance M direction from v most r = (d : ℕ) → (r ≡ Some d) ↔ (IsDistance M direction from v d × (d ≤ most))
 
-pub reported_none : (M : Map) (direction : Direction) (from : List (ℕ × ℕ)) (v most : ℕ) (r : Option ℕ) →
-    ReturnsDistance M direction from v most r → r ≡ None → (e : ℕ) → e ≤ most → Leads M direction from v e → ⊥
-reported_none M direction from v most r reports is e le leads =
-    no_way M direction from v most (λ d h near. let some = (reports d).1 (h, near) in let never : ⊥ = cc in never)
-    (suc e)
-    e (omega arith) le leads
+-- no route is shorter than the number, or, if there is none, as short as was searched
+abbrev Lower : Option ℕ → ℕ → ℕ → Type 0
+Lower None most e = most < e
+Lower (Some d) most e = d ≤ e
+
+at_least : (M : Map) (direction : Direction) (from : List (ℕ × ℕ)) (v most : ℕ) (r : Option ℕ) →
+    ReturnsDistance M direction from v most r → (e : ℕ) → Leads M direction from v e → Lower r most e
+at_least M direction from v most None reports e leads = elim (cases_lt most e) [
+  | inl lt ↦ lt
+  | inr le ↦ absurd (no_way M direction from v most
+      (λ d h near. let some = (reports d).1 (h, near) in let never : ⊥ = cc in never) (suc e) e (omega arith) le leads)
+]
+at_least M direction from v most (Some d) reports e leads = ((reports d).0 refl).0.least e leads
 
 -- ---- near nodes
 
@@ -135,27 +142,6 @@ module _ (N : Map) (n : IsMap N) (C : List ChangedLine) (s t d most far : ℕ) (
         long = omega arith;
       }
 
-  pub no_start : (r : Option ℕ) → ReturnsDistance N Against (all_starts C) s most r → r ≡ None → ¬ Detour N C s t d
-  no_start r reports is h =
-      reported_none N Against (all_starts C) s most r reports is (h.first.len + dm_of N h.before)
-      (let w = h.within in omega arith) (leads_to h)
-
-  -- what is left after the distance to the start was searched
-  pub no_end : (a : ℕ) (q r : Option ℕ) → ReturnsDistance N Against (all_starts C) s most q → q ≡ Some a → d ≤ a + far →
-      ReturnsDistance N Along (all_ends C) t far r → r ≡ None → ¬ Detour N C s t d
-  no_end a q r before is_a rest after is h =
-      let first = ((before a).0 is_a).0.least (h.first.len + dm_of N h.before) (leads_to h) in
-      let w = h.within in
-      reported_none N Along (all_ends C) t far r after is (dm_of N h.after) (omega arith) (leads_back h)
-
-  pub too_far : (a b : ℕ) (q r : Option ℕ) → ReturnsDistance N Against (all_starts C) s most q → q ≡ Some a →
-      ReturnsDistance N Along (all_ends C) t far r → r ≡ Some b → d < a + b → ¬ Detour N C s t d
-  too_far a b q r before is_a after is_b far_off h =
-      let first = ((before a).0 is_a).0.least (h.first.len + dm_of N h.before) (leads_to h) in
-      let second = ((after b).0 is_b).0.least (dm_of N h.after) (leads_back h) in
-      let w = h.within in
-      omega arith
-
   -- two distances that are short enough make a detour
   detour_by : (a b : ℕ) → Leads N Against (all_starts C) s a → Leads N Along (all_ends C) t b → a + b ≤ d →
       Detour N C s t d
@@ -189,12 +175,19 @@ module _ (N : Map) (n : IsMap N) (C : List ChangedLine) (s t d most far : ℕ) (
         | inr le ↦ absurd (none (detour_by a b ((before a).0 refl).0.leads ((after b).0 refl).0.leads le))
       ]
 
+  far_apart : (q r : Option ℕ) (x y : ℕ) → Lower q most x → Lower r far y → x + y ≤ d →
+      IfSome q (λ a. d ≤ a + far) → AreFarther q r d → ⊥
+  far_apart None r x y one two short rest h = omega arith
+  far_apart (Some a) None x y one two short rest h = omega arith
+  far_apart (Some a) (Some b) x y one two short rest h = omega arith
+
   pub clear_by : (q r : Option ℕ) → ReturnsDistance N Against (all_starts C) s most q →
       ReturnsDistance N Along (all_ends C) t far r → IfSome q (λ a. d ≤ a + far) →
       AreFarther q r d → ¬ Detour N C s t d
-  clear_by None r before after rest h = no_start None before refl
-  clear_by (Some a) None before after rest h = no_end a (Some a) None before refl rest after refl
-  clear_by (Some a) (Some b) before after rest h = too_far a b (Some a) (Some b) before refl after refl h
+  clear_by q r before after rest farther h =
+      far_apart q r (h.first.len + dm_of N h.before) (dm_of N h.after)
+      (at_least N Against (all_starts C) s most q before _ (leads_to h))
+      (at_least N Along (all_ends C) t far r after _ (leads_back h)) (let w = h.within in omega arith) rest farther
 
 -- as far as what is left, or farther
 pub rest_more : (d within rest far : ℕ) (q : Option ℕ) → within ≡ d → rest ≤ far → IfSome q (λ b. within ≤ b + rest) →

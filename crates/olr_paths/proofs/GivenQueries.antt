@@ -1,8 +1,7 @@
 -- The coverage queries that an encoding is given, which are not searched again: they are right on the map.
-use Rattle.std.proofs.Common.{◌≡◌, ℕ, zero, suc, List, [], ◌∷◌, Contains, Option, None, Some}
-use Rattle.std.proofs.Common.{MatchOption, IsTrue, IfSome, slice_get, refl, sym, ap, ◌∙◌, subst}
+use Rattle.std.proofs.Common.{◌≡◌, ℕ, zero, suc, List, [], ◌∷◌, Option, None, Some}
+use Rattle.std.proofs.Common.{MatchOption, IsTrue, IfSome, slice_get, refl, sym, subst}
 use Rattle.std.specs.List.{AllByRecursion}
-use Rattle.std.proofs.lemmas.Option.{slice_get-get_or}
 use Rattle.olr_spec.specs.Map.{Map, IsMap}
 use Rattle.olr_spec.specs.Detours.{ChangedLine}
 use Rattle.olr_spec.specs.Extension.{Path, is_path}
@@ -30,9 +29,6 @@ gives_picked N C made m ks given e same picks =
     subst (λ (o : Option Made). Gives N C o given) (sym e)
     (subst (λ (es : List KnownQuery). Picks (λ e. IsAgainClear N C e.query) es given) same picks)
 
-pub listed_there : (is : List Item) (i : Item) (on : Contains is i) → slice_get is on.0 ≡ Some i
-listed_there is i on = slice_get-get_or is on.0 i on.1 ∙ ap (λ (j : Item). Some j) on.2
-
 made_at_position : (M : Map) (is : List Item) (k : ℕ) (i : Item) → AreEncodingsIfAny M is → slice_get is k ≡ Some i →
     IfSome i.made (IsEncodingOf M i.path)
 made_at_position M [] k i h at = let never : ⊥ = cc in absurd never
@@ -46,8 +42,8 @@ path_at_position [] k i h at = let never : ⊥ = cc in absurd never
 path_at_position (x ∷ is) zero i h at = let e : x ≡ i = cc in subst (λ (j : Item). IsTrue (is_path j.path.lines)) e h.0
 path_at_position (x ∷ is) (suc k) i h at = path_at_position is k i h.1 at
 
-module _ (L N : Map) (n : IsMap N) (T X : List ℕ) (C : List ChangedLine) (is : List Item) (before : IsBefore L N T X C is)
-    (k : ℕ) (i : Item) (at : slice_get is k ≡ Some i) where
+module _ {L N : Map} (n : IsMap N) {T X : List ℕ} {C : List ChangedLine} {is : List Item}
+    (before : IsBefore L N T X C is) (k : ℕ) (i : Item) (at : slice_get is k ≡ Some i) where
   pub made_before : (m : Made) → i.made ≡ Some m → IsEncodingOf L i.path m
   made_before m e =
       subst (λ (o : Option Made). IfSome o (IsEncodingOf L i.path)) e (made_at_position L is k i before.made at)

@@ -1,7 +1,7 @@
 -- Results to be stored at positions, with index entries for their path ids.
 use Rattle.std.proofs.Common.{inl, inr, ◌≡◌, ℕ, zero, suc, ◌+◌, ◌<◌, List, [], ◌∷◌, take, length, get_or}
-use Rattle.std.proofs.Common.{slice_get, Option, Some, None, Result, Ok, Err, IsTrue, refl, sym, ap, ◌∙◌}
-use Rattle.std.specs.Prelude.{String, option_map, OnErr}
+use Rattle.std.proofs.Common.{slice_get, Option, Some, None, IsTrue, refl, sym, ap, ◌∙◌}
+use Rattle.std.specs.Prelude.{String, option_map}
 use Rattle.std.specs.declared.alloc.Global.{Global}
 use Rattle.std.specs.declared.rc.Rc.{Rc}
 use Rattle.std.proofs.lemmas.List.Elements.{All-contains}
@@ -11,7 +11,7 @@ use Rattle.olr_index.specs.PathIds.{holds, path_ids_of}
 use Rattle.olr_paths.specs.Searching.{LackQueries}
 use Rattle.olr_paths.specs.Origins.{BeginsIn, Begins}
 use Rattle.olr_paths.specs.declared.path_list.PathList.{PathList}
-use Rattle.olr_paths.specs.Finding.{NamedNoted, AreNoted, AreNotedAt, ArePublished, Grows}
+use Rattle.olr_paths.specs.Finding.{NamedNoted, AreNotedAt, ArePublished, Grows}
 use Rattle.olr_paths.specs.declared.finder.Finder.{Finder}
 use Rattle.olr_paths.specs.declared.published.Published.{Published}
 use Rattle.olr_paths.specs.declared.path_list.NamedPath.{NamedPath}
@@ -33,9 +33,6 @@ pub at_grown : (ms : List ℕ) (f g : Finder) (fresh : List One) → Grows f g �
     AreNotedAt ms g fresh
 at_grown ms f g fresh more h k d lt low = let r : One =
     get_or fresh k d in named_grown f g (get_or ms r.0 0) r.1 more (h k d lt low)
-
-pub noted_grown : (es : Entries) (ms : List ℕ) (f g : Finder) → Grows f g → AreNoted es ms f → AreNoted es ms g
-noted_grown es ms f g more h k e at = named_grown f g (get_or ms k 0) e.1 more (h k e at)
 
 -- of the first k, and of one more
 pub at_more : (ms : List ℕ) (f g : Finder) (fresh : List One) (k : ℕ) (d : One) → k < length fresh → Grows f g →
@@ -96,9 +93,3 @@ all_same es fs same h k e at = λ none.
     none_published : (o : Option (Rc Published Global)) → option_map (λ p. made_of p.value) o ≡ None → o ≡ None
     none_published None h = refl
     none_published (Some p) h = let never : ⊥ = cc (h) in absurd never
-
--- ---- results
-
-pub where_err : {A E P : Type 0} (r : Result A E) → P → OnErr r P
-where_err (Ok a) p = tt
-where_err (Err e) p = p

@@ -1,11 +1,10 @@
 -- The coverage queries of a list in which an item was replaced, or a path was added, set or dropped.
 use Rattle.std.proofs.Common.{inl, inr, ◌≡◌, ℕ, zero, suc, ◌+◌, ◌⊎◌, Bool, List, []}
-use Rattle.std.proofs.Common.{◌∷◌, ◌++◌, map, take, slice_get, Contains, Option, Some, sym, subst, arith}
+use Rattle.std.proofs.Common.{◌∷◌, ◌++◌, map, take, slice_get, Option, Some, subst, arith}
 use Rattle.std.specs.List.{filter}
 use Rattle.std.specs.Prelude.{option_map}
 use Rattle.olr_spec.specs.Extension.{Path}
 use Rattle.olr_spec.specs.Queries.{CoverageQuery}
-use Rattle.olr_spec.proofs.ListLemmas.{Contains-cases}
 use Rattle.olr_paths.specs.Items.{Made, Item, made_of}
 use Rattle.olr_paths.specs.Changes.{set_item}
 use Rattle.olr_paths.specs.Origins.{BeginsIn, Begins, BeginsPut}
@@ -14,12 +13,11 @@ use Rattle.olr_paths.specs.declared.path_list.NamedPath.{NamedPath}
 use Rattle.olr_spec.proofs.ListLemmas.{take_more_at}
 
 -- of one of the list's items
-pub begins_there : (is : List Item) (i : Item) (v : CoverageQuery) → Contains is i → BeginsIn i.made v → Begins is v
-begins_there [] i v on h = let lt = on.1 in absurd (omega arith)
-begins_there (x ∷ is) i v on h = elim (Contains-cases x i is on) [
-  | inl e ↦ inl (subst (λ (j : Item). BeginsIn j.made v) (sym e) h)
-  | inr t ↦ inr (begins_there is i v t h)
-]
+pub begins_there : (is : List Item) (k : ℕ) (i : Item) (v : CoverageQuery) → slice_get is k ≡ Some i →
+    BeginsIn i.made v → Begins is v
+begins_there [] k i v at h = absurd cc
+begins_there (x ∷ is) zero i v at h = let e : x ≡ i = cc in inl (rw e h)
+begins_there (x ∷ is) (suc k) i v at h = inr (begins_there is k i v at h)
 
 -- ---- after results are stored
 

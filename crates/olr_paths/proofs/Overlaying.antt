@@ -57,13 +57,6 @@ found_at es name x y at same = rw (change_found es name, ← at, same) refl
 pub not_found : (es : Entered) (name : List ℕ) → None ≡ lookup (asks name) es → change_at (changes_in es) name ≡ None
 not_found es name at = rw (change_found es name, ← at) refl
 
-pub taken_from : (es : Entered) (name : List ℕ) (x : Option (Rc Path Global)) (r : Bool) →
-    Some x ≡ lookup (asks name) es → is_some x ≡ not r → r ≡ drops (change_at (changes_in es) name)
-taken_from es name x r at h = rw (found_at es name x x at refl) (by x r h) where
-  by : (y : Option (Rc Path Global)) (b : Bool) → is_some y ≡ not b → b ≡ drops (Some (path_in y))
-  by None b e = grind arith
-  by (Some p) b e = grind arith
-
 -- ---- names
 
 -- with one path in front, under its change
@@ -89,12 +82,6 @@ pub both_have : (xs ys : List Item) (name : List ℕ) →
     has_name (xs ++ ys) name ≡ cond (has_name ys name) true (has_name xs name)
 both_have [] ys name = grind arith
 both_have (x ∷ xs) ys name = grind (arith, both_have xs ys name)
-
-pub has_by : (cs : Changes) (is ys : List Item) (name : List ℕ) (a d b : Bool) → a ≡ has_name ys name →
-    d ≡ drops (change_at cs name) → b ≡ has_name is name →
-    cond a true (cond d false b) ≡ has_name (under_changes cs is ++ ys) name
-has_by cs is ys name a d b is_a is_d is_b =
-    rw (is_a, is_d, is_b, both_have (under_changes cs is) ys name, overlaid_has cs is name) refl
 
 pub second_absent : (xs ys : List Item) (name : List ℕ) → absent (xs ++ ys) name → absent ys name
 second_absent xs ys name h = grind (arith, both_have xs ys name)

@@ -1,7 +1,7 @@
 -- A list of entries with the ids of its paths, as paths are added, removed and replaced.
 --     Each P es ms      P holds of the id and the path at each position
 use Rattle.std.proofs.Common.{inl, inr, ◌≡◌, ◌≢◌, ℕ, zero, suc, ◌<◌, Bool, false, not, ◌&&◌, List}
-use Rattle.std.proofs.Common.{[], ◌∷◌, ◌++◌, take, length, get_or, slice_get, Some, Result, Ok, Err, ◌-◌, ◌+◌}
+use Rattle.std.proofs.Common.{[], ◌∷◌, ◌++◌, length, get_or, slice_get, Some, Result, Ok, Err, ◌-◌, ◌+◌}
 use Rattle.std.proofs.Common.{refl, sym, ap, ◌∙◌, subst, arith}
 use Rattle.std.specs.Prelude.{String, string_bytes}
 use Rattle.std.specs.List.{remove}
@@ -13,7 +13,7 @@ use Rattle.indexmap.specs.Layout.{set_value_at}
 use Rattle.indexmap.specs.IndexMap.{insert_entry}
 use Rattle.std.specs.declared.alloc.Global.{Global}
 use Rattle.std.proofs.lemmas.Bool.{cases_lt, cases_order, eq-eqb}
-use Rattle.std.proofs.lemmas.List.{length-take-le, get_or-take, take_all, get_or_read}
+use Rattle.std.proofs.lemmas.List.{get_or_read}
 use Rattle.std.proofs.lemmas.List.Edits.{length-remove}
 use Rattle.std.proofs.lemmas.List.Kept.{AllPairs-from_increasing}
 use Rattle.std.proofs.lemmas.Option.{get_or_from_slice_get, slice_get_within}
@@ -130,15 +130,6 @@ module _ (P : ℕ → NamedPath → Type 0) where
   each_set (x ∷ es) (y ∷ ms) (suc q) n h one (suc k) e at =
       each_set es ms q n (λ j f ne. h (suc j) f (λ s. ne (omega arith))) one k e at
 
-  -- without the last ones
-  pub each_cut : (es : Entries) (ms : List ℕ) (q : ℕ) → length ms ≡ length es → Each P es ms →
-      Each P (take q es) (take q ms)
-  each_cut es ms zero long h k e at = let never : ⊥ = cc (at) in absurd never
-  each_cut [] ms (suc q) long h k e at = let never : ⊥ = cc (at) in absurd never
-  each_cut (x ∷ es) [] (suc q) long h k e at = absurd (omega arith)
-  each_cut (x ∷ es) (y ∷ ms) (suc q) long h zero e at = h zero e at
-  each_cut (x ∷ es) (y ∷ ms) (suc q) long h (suc k) e at = each_cut es ms q (omega arith) (λ j. h (suc j)) k e at
-
 pub kept_long : (es : Entries) (q : ℕ) (n : NamedPath) → length (set_value_at es q n) ≡ length es
 kept_long [] q n = refl
 kept_long (e ∷ es) zero n = refl
@@ -212,16 +203,3 @@ insert_last [] key n h = refl
 insert_last (e ∷ es) key n h =
     let r = not_here (item_of e) (items_of es) (string_bytes key) h in
     rw (flipped (string_bytes e.0) (string_bytes key) r.0) (ap (λ (ys : Entries). e ∷ ys) (insert_last es key n r.1))
-
--- ---- a list without its last paths
-
-pub ascend_cut : (ms : List ℕ) (q : ℕ) → IsStrictlyIncreasing ms → IsStrictlyIncreasing (take q ms)
-ascend_cut ms q up = elim (cases_lt q (length ms)) [
-  | inl low ↦ λ i lt.
-      let long : length (take q ms) ≡ q = length-take-le q ms (omega arith) in
-      let a = get_or-take q ms i 0 (omega arith) in
-      let b = get_or-take q ms (i + 1) 0 (omega arith) in
-      let step = up i (omega arith) in
-      omega arith
-  | inr high ↦ subst IsStrictlyIncreasing (sym (take_all q ms high)) up
-]

@@ -1,6 +1,6 @@
 -- Storing results at their positions.
 use Rattle.std.proofs.Common.{◌≡◌, ℕ, zero, suc, List, [], ◌∷◌, ◌++◌, length, slice_get, Option, Some, None, refl, sym}
-use Rattle.std.proofs.Common.{ap, ◌∙◌}
+use Rattle.std.proofs.Common.{ap, ◌∙◌, ◌≤◌, take, arith}
 use Rattle.std.proofs.lemmas.List.{map-append}
 use Rattle.std.specs.Option.{option_to_list}
 use Rattle.std.specs.Map.{values_of}
@@ -11,11 +11,13 @@ use Rattle.olr_paths.specs.Renewing.{Put, put, all_put, puts_of}
 use Rattle.olr_paths.specs.declared.path_list.NamedPath.{NamedPath}
 use Rattle.olr_paths.proofs.NamedEntries.{Entries, made_of_named, item_of, items_of}
 
--- after a prefix
-pub put_behind : (xs : List Item) (i : Item) (ys : List Item) (path : Path) (made : Option Made) →
-    put (xs ++ i ∷ ys) (length xs) path made ≡ xs ++ record { name = i.name; path = path; made = made } ∷ ys
-put_behind [] i ys path made = refl
-put_behind (x ∷ xs) i ys path made = ap (λ zs. x ∷ zs) (put_behind xs i ys path made)
+-- after the first ones
+pub put_behind : (xs : List Item) (k : ℕ) (i : Item) (ys : List Item) (path : Path) (made : Option Made) →
+    k ≤ length xs →
+    put (take k xs ++ i ∷ ys) k path made ≡ take k xs ++ record { name = i.name; path = path; made = made } ∷ ys
+put_behind xs zero i ys path made le = refl
+put_behind [] (suc k) i ys path made le = absurd (omega arith)
+put_behind (x ∷ xs) (suc k) i ys path made le = ap (λ zs. x ∷ zs) (put_behind xs k i ys path made (omega arith))
 
 -- the last of a list is stored first
 pub all_put-push : (is : List Item) (ps : List Put) (p : Put) →

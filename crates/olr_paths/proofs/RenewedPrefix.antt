@@ -1,417 +1,245 @@
--- A list, as far as it was renewed. SoFar is the same with the work, along a list; follows_self gives the start if
--- the list is the same as before.
---     Through Q N T X C before is ps es t      the paths is are renewed when ps are stored, es reports them, and t are
---         their totals, from each map that satisfies Q
+-- A list, as far as it was renewed: SoFar says it of the first paths, with the work. A list follows itself.
 use Rattle.std.proofs.Common.{◌≡◌, ℕ, map, zero, suc, take, ◌+◌, List}
 use Rattle.std.proofs.Common.{[], ◌∷◌, ◌++◌, length, slice_get, Option, None, Some, option_map, ◌⊎◌, inl, inr}
-use Rattle.std.proofs.Common.{refl, sym, ap, subst, ◌∙◌, append-nil, append_assoc, arith, add-one, IsTrue}
-use Rattle.std.proofs.lemmas.List.{length-append, length-take-le, map-append, take_all}
+use Rattle.std.proofs.Common.{refl, sym, ap, subst, ◌∙◌, append-nil, append_assoc, arith}
+use Rattle.std.proofs.lemmas.List.{length-append, map-append}
 use Rattle.std.proofs.lemmas.Option.{slice_get_within}
 use Rattle.olr_spec.specs.Map.{Map, IsMap}
-use Rattle.olr_spec.specs.Extension.{is_path}
 use Rattle.olr_spec.specs.Encoding.{Answer}
 use Rattle.olr_spec.specs.Detours.{ChangedLine}
-use Rattle.olr_commands.specs.State.{Named}
-use Rattle.olr_spec.specs.Queries.{CoverageQuery, KnownQuery, SearchedOf}
+use Rattle.olr_spec.specs.Queries.{CoverageQuery}
 use Rattle.olr_search.specs.declared.work.Work.{Work}
-use Rattle.olr_refs.specs.Choice.{SettledBy, raised_count}
+use Rattle.olr_refs.specs.Choice.{raised_count}
+use Rattle.olr_commands.specs.Counts.{CountIs, Collects}
+use Rattle.olr_commands.specs.State.{Named}
 use Rattle.olr_commands.specs.Words.{entry_of}
 use Rattle.olr_commands.specs.Reply.{Entry, entry}
 use Rattle.olr_paths.specs.Items.{Made, Item, IsEncodingOf, named_of, all_named, answer_in}
-use Rattle.olr_paths.specs.Changes.{with_made, IsBefore, IsAffected, By_name, Touches, IsRemade, AreRemade, Reported}
-use Rattle.olr_paths.specs.Changes.{SearchesItem, Follows, IsSpared, IsEncodedAgain, Totals, AreTotals, AreSearched, AreCounted}
-use Rattle.olr_paths.specs.Renewing.{Put, all_put, made_at, puts_of, entries_of, ReportsIfOther, ToStay, ToKeep}
-use Rattle.olr_paths.specs.Renewing.{ToEncode, Gives}
-use Rattle.olr_paths.specs.Renewing.{IsStep, Left, Retained, EncodedAgain, OneSpared, OneEncoded}
-use Rattle.olr_paths.specs.Renewing.{after_renewal, WasBefore, IsRenewal}
+use Rattle.olr_paths.specs.Changes.{with_made, IsBefore, IsRemade, AreRemade, Reported, Follows, IsAffected}
+use Rattle.olr_paths.specs.Changes.{Totals, AreTotals, AreCounted, IsSpared, IsEncodedAgain, SearchesItem}
+use Rattle.olr_paths.specs.Renewing.{all_put, made_at, puts_of, entries_of, ReportsIfOther, spared_one, encoded_one}
+use Rattle.olr_paths.specs.Renewing.{IsStep, Left, Retained, EncodedAgain, after_renewal, WasBefore, IsRenewal}
 use Rattle.olr_paths.specs.Touching.{nodes_of, lines_of, changed_of}
 use Rattle.olr_paths.specs.declared.change_set.ChangeSet.{ChangeSet}
+use Rattle.olr_paths.specs.declared.path_list.NamedPath.{NamedPath}
 use Rattle.olr_paths.specs.declared.renewal.Renewal.{Renewal}
 use Rattle.olr_paths.specs.declared.renewal.Counted.{Counted}
 use Rattle.olr_spec.proofs.ListLemmas.{take_more_at}
 use Rattle.olr_refs.proofs.Noting.{raised_more, settled_append}
 use Rattle.olr_paths.proofs.Placing.{put_behind, all_put-push}
-use Rattle.olr_paths.proofs.GivenQueries.{made_before, path_before, searches_item}
-use Rattle.olr_paths.proofs.KeptLemmas.{stays_unless, stays_retained, unchanged_by, stays_by, affected_by, touched_by}
+use Rattle.olr_paths.proofs.GivenQueries.{searches_item}
+use Rattle.olr_paths.proofs.KeptLemmas.{stays_unless, stays_retained, spared_by, touched_by, encoded_again}
 
 AreRemade-push : (N : Map) (is js : List Item) (i j : Item) → AreRemade N is js → IsRemade N i j →
     AreRemade N (is ++ i ∷ []) (js ++ j ∷ [])
-AreRemade-push N [] [] i j h one = (one, refl)
-AreRemade-push N [] (k ∷ js) i j h one = let never : ⊥ = cc in absurd never
+AreRemade-push N [] js i j h one = rw h (one, refl)
 AreRemade-push N (x ∷ is) [] i j h one = absurd h
 AreRemade-push N (x ∷ is) (k ∷ js) i j h one = (h.0, AreRemade-push N is js i j h.1 one)
 
--- ---- totals, with one path more
+-- ---- totals and counts of one part after another
+
+module _ {A : Type 0} (P : A → Type 0) where
+  count_both : (xs ys : List A) (n m : ℕ) → CountIs P xs n → CountIs P ys m → CountIs P (xs ++ ys) (n + m)
+  count_both [] ys n m h k = let e : n + m ≡ m = omega arith in rw e k
+  count_both (x ∷ xs) ys n m (inl h) k =
+      let e = h.1.2 in inl (h.0, (h.1.0 + m, count_both xs ys h.1.0 m h.1.1 k, omega arith))
+  count_both (x ∷ xs) ys n m (inr h) k = inr (h.0, count_both xs ys n m h.1 k)
+
+  collect_both : (Q : A → List CoverageQuery → Type 0) (xs ys : List A) (us vs : List CoverageQuery) →
+      Collects P Q xs us → Collects P Q ys vs → Collects P Q (xs ++ ys) (us ++ vs)
+  collect_both Q [] ys us vs h k = rw h k
+  collect_both Q (x ∷ xs) ys us vs (inl h) k =
+      let r = h.1 in
+      inl (h.0, (r.0, r.1 ++ vs, r.2, collect_both Q xs ys r.1 vs r.3 k, rw r.4 (append_assoc r.0 r.1 vs)))
+  collect_both Q (x ∷ xs) ys us vs (inr h) k = inr (h.0, collect_both Q xs ys us vs h.1 k)
 
 abbrev no_totals : Totals
 no_totals = record { affected = 0; spared = 0; queries = [] }
-
-abbrev with_spared : Totals → Totals
-with_spared t = record { affected = t.affected + 1; spared = t.spared + 1; queries = t.queries }
-
-abbrev with_encoded : Totals → List CoverageQuery → Totals
-with_encoded t own = record { affected = t.affected + 1; spared = t.spared; queries = t.queries ++ own }
 
 abbrev both : Totals → Totals → Totals
 both t u =
     record { affected = t.affected + u.affected; spared = t.spared + u.spared; queries = t.queries ++ u.queries }
 
--- with those of the rest, they are the totals of the whole
-abbrev pub TotalsSoFar : Map → Map → List ℕ → List ℕ → List ChangedLine → List Item → Totals → Type 0
-TotalsSoFar L N T X C is t =
-    (rest : List Item) (u : Totals) → AreTotals L N T X C rest u → AreTotals L N T X C (is ++ rest) (both t u)
-
-module _ (L N : Map) (T X : List ℕ) (C : List ChangedLine) (is : List Item) (t : Totals)
-    (h : TotalsSoFar L N T X C is t) where
-  totals_end : AreTotals L N T X C is t
-  totals_end =
-      let k = h [] no_totals (record { affected = refl; spared = refl; queries = refl }) in
-      let a : t.affected + 0 ≡ t.affected = omega arith in
-      let b : t.spared + 0 ≡ t.spared = omega arith in
+module _ (L N : Map) (T X : List ℕ) (C : List ChangedLine) (is js : List Item) (t u : Totals) where
+  totals_both : AreTotals L N T X C is t → AreTotals L N T X C js u → AreTotals L N T X C (is ++ js) (both t u)
+  totals_both g h =
       record {
-        affected = rw (append-nil is, a) at k.affected;
-        spared = rw (append-nil is, b) at k.spared;
-        queries = rw (append-nil is, append-nil t.queries) at k.queries;
+        affected = count_both (IsAffected L T X) is js t.affected u.affected g.affected h.affected;
+        spared = count_both (IsSpared L N T X C) is js t.spared u.spared g.spared h.spared;
+        queries =
+            collect_both (IsEncodedAgain L N T X C) (SearchesItem L N C) is js t.queries u.queries g.queries h.queries;
       }
 
-  module _ (i : Item) where
-    totals_same : ¬ IsAffected L T X i → TotalsSoFar L N T X C (is ++ i ∷ []) t
-    totals_same free rest u k =
-        rw append_assoc (h (i ∷ rest) u (record {
-          affected = inr (free, k.affected);
-          spared = inr ((λ o. free o.affected), k.spared);
-          queries = inr ((λ o. free o.0), k.queries);
-        }))
+raised_twice : (a b c n m : ℕ) → b ≡ raised_count a n → c ≡ raised_count b m → c ≡ raised_count a (n + m)
+raised_twice a b c n m h k = k ∙ ap (λ (x : ℕ). raised_count x m) h ∙ raised_more a n m
 
-    totals_spared : IsSpared L N T X C i → TotalsSoFar L N T X C (is ++ i ∷ []) (with_spared t)
-    totals_spared on rest u k =
-        let more =
-        h (i ∷ rest) (with_spared u) (record {
-          affected = inl (on.affected, (u.affected, k.affected, add-one u.affected));
-          spared = inl (on, (u.spared, k.spared, add-one u.spared));
-          queries = inr ((λ o. o.1 on), k.queries);
-        }) in
-        let a : t.affected + 1 + u.affected ≡ t.affected + (u.affected + 1) = omega arith in
-        let b : t.spared + 1 + u.spared ≡ t.spared + (u.spared + 1) = omega arith in
-        rw append_assoc (record { affected = rw a more.affected; spared = rw b more.spared; queries = more.queries })
+counted_none : (N : Map) (c : Counted) → AreCounted N no_totals c.work c.work c.kept c.kept
+counted_none N c = record { encodings = refl; spared = refl; searched = record { searches = refl; settled = refl } }
 
-    totals_encoded : (own : List CoverageQuery) → IsEncodedAgain L N T X C i → SearchesItem L N C i own →
-        TotalsSoFar L N T X C (is ++ i ∷ []) (with_encoded t own)
-    totals_encoded own on made rest u k =
-        let more =
-        h (i ∷ rest) (record { affected = u.affected + 1; spared = u.spared; queries = own ++ u.queries }) (record {
-          affected = inl (on.0, (u.affected, k.affected, add-one u.affected));
-          spared = inr (on.1, k.spared);
-          queries = inl (on, (own, u.queries, made, k.queries, refl));
-        }) in
-        let a : t.affected + 1 + u.affected ≡ t.affected + (u.affected + 1) = omega arith in
-        rw append_assoc (record {
-          affected = rw a more.affected;
-          spared = more.spared;
-          queries = rw (append_assoc t.queries own u.queries) more.queries;
-        })
-
--- ---- counts, with one path more
-
-searched_both : (N : Map) (xs ys : List CoverageQuery) (a b c : Work) → AreSearched N xs a b → AreSearched N ys b c →
-    AreSearched N (xs ++ ys) a c
-searched_both N xs ys a b c h k =
-    record {
-      searches =
-          k.searches ∙ ap (λ (n : ℕ). raised_count n (length ys)) h.searches
-          ∙ raised_more a.searches (length xs) (length ys)
-          ∙ ap (raised_count a.searches) (sym (length-append xs ys));
-      settled = settled_append N xs ys a.settled b.settled c.settled h.settled k.settled;
-    }
-
-raised_once : (a n b c : ℕ) → b ≡ raised_count a n → c ≡ raised_count b 1 → c ≡ raised_count a (n + 1)
-raised_once a n b c h k = k ∙ ap (λ (m : ℕ). raised_count m 1) h ∙ raised_more a n 1
-
-module _ (N : Map) (t : Totals) (old now later : Counted)
-    (h : AreCounted N t old.work now.work old.kept now.kept) where
-  counted_spared : OneSpared now later → AreCounted N (with_spared t) old.work later.work old.kept later.kept
-  counted_spared one =
+module _ (N : Map) (t u : Totals) (a b c : Work) (j k l : ℕ) where
+  counted_both : AreCounted N t a b j k → AreCounted N u b c k l → AreCounted N (both t u) a c j l
+  counted_both g h =
       record {
-        encodings = raised_once old.work.encodings t.affected now.work.encodings later.work.encodings h.encodings
-            one.encodings;
-        spared = raised_once old.kept t.spared now.kept later.kept h.spared one.spared;
+        encodings = raised_twice a.encodings b.encodings c.encodings t.affected u.affected g.encodings h.encodings;
+        spared = raised_twice j k l t.spared u.spared g.spared h.spared;
         searched =
             record {
-              searches = one.searches ∙ h.searched.searches;
+              searches =
+                  raised_twice a.searches b.searches c.searches (length t.queries) (length u.queries)
+                  g.searched.searches h.searched.searches
+                  ∙ ap (raised_count a.searches) (sym (length-append t.queries u.queries));
               settled =
-                  subst (λ (n : ℕ). SettledBy N t.queries old.work.settled n) (sym one.settled) h.searched.settled;
+                  settled_append N t.queries u.queries a.settled b.settled c.settled g.searched.settled
+                  h.searched.settled;
             };
       }
 
-  counted_encoded : (own : List CoverageQuery) → OneEncoded N own now later →
-      AreCounted N (with_encoded t own) old.work later.work old.kept later.kept
-  counted_encoded own one =
-      record {
-        encodings = raised_once old.work.encodings t.affected now.work.encodings later.work.encodings h.encodings
-            one.encodings;
-        spared = one.spared ∙ h.spared;
-        searched = searched_both N t.queries own old.work now.work later.work h.searched one.searched;
-      }
+-- ---- the paths before a position, with the work
 
 -- the answer of an item
 abbrev pub answer : Item → Option Answer
 answer i = option_map (λ m. m.answer) i.made
 
-pub record Through (Q : Map → Type 0) (N : Map) (T X : List ℕ) (C : List ChangedLine) (before is : List Item)
-    (ps : List Put) (es : List Entry) (t : Totals) : Type 0 where
-  pub local : (ys : List Item) → all_put (is ++ ys) ps ≡ all_put is ps ++ ys
-  pub names : all_named (all_put is ps) ≡ all_named is
-  pub remade : (L : Map) → Q L → AreRemade N is (all_put is ps)
-  pub reported : (js : List Item) (fs : List Entry) → Reported before js fs →
-      Reported before (all_put is ps ++ js) (es ++ fs)
-  pub totals : (L : Map) → Q L → TotalsSoFar L N T X C is t
+-- of the paths of a list the first are renewed: r has their results and reports them
+pub record SoFar (N : Map) (T X : List ℕ) (C : List ChangedLine) (before is : List Item) (old : Counted)
+    (first : List Item) (r : Renewal) (now : Counted) : Type 0 where
+  pub js : List Item
+  pub many : Totals
+  pub put : (ys : List Item) → all_put (first ++ ys) (made_at r) ≡ js ++ ys
+  pub named : all_named js ≡ all_named first
+  pub reported : (ks : List Item) (fs : List Entry) → Reported before ks fs →
+      Reported before (js ++ ks) (entries_of r ++ fs)
+  pub remade : (L : Map) → IsBefore L N T X C is → AreRemade N first js × AreTotals L N T X C first many
+  pub counted : AreCounted N many old.work now.work old.kept now.kept
 
-module _ (Q : Map → Type 0) (N : Map) (T X : List ℕ) (C : List ChangedLine) (before : List Item) where
-  pub through_none : Through Q N T X C before [] [] [] no_totals
-  through_none =
-      record {
-        local = λ ys. refl;
-        names = refl;
-        remade = λ L q. refl;
-        reported = λ js fs k. k;
-        totals = λ L q rest u k.
-            let none : (m : ℕ) → 0 + m ≡ m = λ m. omega arith in
-            record {
-              affected = rw (none u.affected) k.affected;
-              spared = rw (none u.spared) k.spared;
-              queries = k.queries;
-            };
-      }
+pub so_far_none : {N : Map} {T X : List ℕ} {C : List ChangedLine} {before is : List Item} (r : Renewal)
+    (work : Counted) → r.fresh.items ≡ [] → r.entries.items ≡ [] → SoFar N T X C before is work [] r work
+so_far_none {N} r work fresh entries =
+    record {
+      js = [];
+      many = no_totals;
+      put = λ ys. ap (λ (es : List (ℕ × NamedPath)). all_put ys (puts_of es)) fresh;
+      named = refl;
+      reported = λ ks fs k. rw (ap (map entry_of) entries) k;
+      remade = λ L q. (refl, record { affected = refl; spared = refl; queries = refl });
+      counted = counted_none N work;
+    }
 
-  -- j is after what was stored, and the rest is unchanged
-  pub grown : (is : List Item) (ps qs : List Put) (es fs : List Entry) (t u : Totals) (i j : Item) (A : Answer) →
-      Through Q N T X C before is ps es t
-      → ((ys : List Item) → all_put (is ++ i ∷ ys) qs ≡ all_put is ps ++ j ∷ ys) → named_of j ≡ named_of i →
-      ((L : Map) → Q L → IsRemade N i j) → answer j ≡ Some A → ReportsIfOther before j.name A es fs
-      → ((L : Map) → Q L → TotalsSoFar L N T X C (is ++ i ∷ []) u)
-      → Through Q N T X C before (is ++ i ∷ []) qs fs u
-  grown is ps qs es fs t u i j A h puts same one is_A returned totals =
-      let end = puts [] in
-      record {
-        local =
-            λ ys. ap (λ (zs : List Item). all_put zs qs) (append_assoc is (i ∷ []) ys) ∙ puts ys
-            ∙ sym (append_assoc (all_put is ps) (j ∷ []) ys) ∙ ap (λ (zs : List Item). zs ++ ys) (sym end);
-        names =
-            ap all_named end ∙ map-append named_of (all_put is ps) (j ∷ [])
-            ∙ ap (λ (xs : List Named). xs ++ named_of j ∷ []) h.names ∙ ap (λ (x : Named). all_named is ++ x ∷ []) same
-            ∙ sym (map-append named_of is (i ∷ []));
-        remade =
-            λ L q. subst (λ (js : List Item). AreRemade N (is ++ i ∷ []) js) (sym end)
-            (AreRemade-push N is (all_put is ps) i j (h.remade L q) (one L q));
-        reported = λ js gs k. rw (end, append_assoc (all_put is ps) (j ∷ []) js) (elim returned [
-          | inl e ↦ rw e.1 (h.reported (j ∷ js) gs (A, gs, is_A, k, inl (e.0, refl)))
-          | inr e ↦ rw (e.1, append_assoc es (entry j.name A ∷ []) gs)
-              (h.reported (j ∷ js) (entry j.name A ∷ gs) (A, gs, is_A, k, inr (e.0, refl)))
-        ]);
-        totals = totals;
-      }
+-- for the whole list
+pub whole : {N : Map} {t : ChangeSet} {before is : List Item} {old : Counted} {now : Counted} (r : Renewal) →
+    ((L : Map) × WasBefore L N t is) → SoFar N (nodes_of t) (lines_of t) (changed_of t) before is old is r now →
+    IsRenewal N t before is (after_renewal r is) (entries_of r) old.work now.work old.kept now.kept
+whole {N} {t} {before} {is} r b h =
+    let put = rw (append-nil is, append-nil h.js) at (h.put []) in
+    rw put (record {
+      remade = (h.remade b.0 b.1).0;
+      named = h.named;
+      reported = rw (append-nil h.js, append-nil (entries_of r)) at (h.reported [] [] refl);
+      counted = λ L q. (h.many, (h.remade L q).1, h.counted);
+    })
 
-pub follows_at : (before is : List Item) (k : ℕ) (i : Item) → Follows before is → slice_get is k ≡ Some i →
+follows_at : (before is : List Item) (k : ℕ) (i : Item) → Follows before is → slice_get is k ≡ Some i →
     (i.made ≡ None) ⊎ (answer_in before i.name ≡ answer i)
 follows_at before [] k i h at = let never : ⊥ = cc in absurd never
 follows_at before (x ∷ is) zero i h at = let e : x ≡ i =
     cc in subst (λ (j : Item). (j.made ≡ None) ⊎ (answer_in before j.name ≡ answer j)) e h.0
 follows_at before (x ∷ is) (suc k) i h at = follows_at before is k i h.1 at
 
--- ---- one path of the earlier list
+module _ {N : Map} (n : IsMap N) {T X : List ℕ} {C : List ChangedLine} {before is : List Item} {old : Counted}
+    (follows : Follows before is) (position : ℕ) (i : Item) (at : slice_get is position ≡ Some i) where
+  -- with the item j, and its totals, after what was stored
+  grown : (r s : Renewal) (now later : Counted) (j : Item) (A : Answer) (u : Totals)
+      (h : SoFar N T X C before is old (take position is) r now) →
+      ((ys : List Item) → all_put (take position is ++ i ∷ ys) (made_at s) ≡ h.js ++ j ∷ ys) →
+      named_of j ≡ named_of i → answer j ≡ Some A → ReportsIfOther before j.name A (entries_of r) (entries_of s) →
+      ((L : Map) → IsBefore L N T X C is → IsRemade N i j × AreTotals L N T X C (i ∷ []) u) →
+      AreCounted N u now.work later.work now.kept later.kept →
+      SoFar N T X C before is old (take (position + 1) is) s later
+  grown r s now later j A u h puts same is_A returned one counted =
+      rw (take_more_at is position i at) (record {
+        js = h.js ++ j ∷ [];
+        many = both h.many u;
+        put = λ ys. rw (append_assoc (take position is) (i ∷ []) ys, append_assoc h.js (j ∷ []) ys) (puts ys);
+        named =
+            map-append named_of h.js (j ∷ []) ∙ ap (λ (xs : List Named). xs ++ named_of j ∷ []) h.named
+            ∙ ap (λ (x : Named). all_named (take position is) ++ x ∷ []) same
+            ∙ sym (map-append named_of (take position is) (i ∷ []));
+        reported = λ ks fs k. rw (append_assoc h.js (j ∷ []) ks) (elim returned [
+          | inl e ↦ rw e.1 (h.reported (j ∷ ks) fs (A, fs, is_A, k, inl (e.0, refl)))
+          | inr e ↦ rw (e.1, append_assoc (entries_of r) (entry j.name A ∷ []) fs)
+              (h.reported (j ∷ ks) (entry j.name A ∷ fs) (A, fs, is_A, k, inr (e.0, refl)))
+        ]);
+        remade = λ L q. (
+          AreRemade-push N (take position is) h.js i j (h.remade L q).0 (one L q).0,
+          totals_both L N T X C (take position is) (i ∷ []) h.many u (h.remade L q).1 (one L q).1,
+        );
+        counted =
+            counted_both N h.many u old.work now.work later.work old.kept now.kept later.kept h.counted counted;
+      })
 
--- the same item, built again
-again : (i : Item) (m : Made) → i.made ≡ Some m → i ≡ with_made i m
-again i m e = λ j. record { name = i.name; path = i.path; made = e j }
-
-module _ (N : Map) (n : IsMap N) (T X : List ℕ) (C : List ChangedLine) (before is : List Item) (position : ℕ) (i : Item)
-    (follows : Follows before is) (at : slice_get is position ≡ Some i) where
-  abbrev Q : Map → Type 0
-  Q L = IsBefore L N T X C is
-
-  more : take (position + 1) is ≡ take position is ++ i ∷ []
-  more = take_more_at is position i at
-
-  long : length (take position is) ≡ position
-  long = length-take-le position is (omega (arith, slice_get_within is position i at))
-
-  is_made : (L : Map) → Q L → (m : Made) → i.made ≡ Some m → IsEncodingOf L i.path m
-  is_made L q m e = made_before L N n T X C is q position i at m e
-
-  is_a_path : (L : Map) → Q L → IsTrue (is_path i.path.lines)
-  is_a_path L q = path_before L N n T X C is q position i at
-
-  answered : (m : Made) → i.made ≡ Some m → answer_in before i.name ≡ Some m.answer
-  answered m e =
-      let is_A : answer i ≡ Some m.answer = ap (option_map (λ (k : Made). k.answer)) e in
+  -- with the same item, built again
+  retained : (r : Renewal) (now later : Counted) (m : Made) (u : Totals) → i.made ≡ Some m →
+      SoFar N T X C before is old (take position is) r now →
+      ((L : Map) → IsBefore L N T X C is → IsEncodingOf N i.path m × AreTotals L N T X C (i ∷ []) u) →
+      AreCounted N u now.work later.work now.kept later.kept →
+      SoFar N T X C before is old (take (position + 1) is) r later
+  retained r now later m u some h one counted =
+      let is_A : answer i ≡ Some m.answer = ap (option_map (λ (k : Made). k.answer)) some in
+      let answered : answer_in before i.name ≡ Some m.answer =
       elim (follows_at before is position i follows at) [
         | inl none ↦ let never : ⊥ = cc in absurd never
-        | inr same ↦ same
-            ∙ is_A
-      ]
+        | inr same ↦ same ∙ is_A
+      ] in
+      grown r r now later i m.answer u h (λ ys. h.put (i ∷ ys)) refl is_A (inl (answered, refl))
+      (λ L q. ((m, (one L q).0, (λ k. record { name = i.name; path = i.path; made = some k })), (one L q).1)) counted
 
-  through_left : (ps : List Put) (es : List Entry) (t : Totals) → Through Q N T X C before (take position is) ps es t →
-      ToStay N T X i.made i.path → Through Q N T X C before (take position is ++ i ∷ []) ps es t
-  through_left ps es t h f =
-      let m = f.0 in
-      grown Q N T X C before (take position is) ps ps es es t t i i m.answer h (λ ys. h.local (i ∷ ys)) refl
-      (λ L q. (
-        m,
-        stays_unless L N n T X C i.path (is_a_path L q) m q.sound q.difference q.starts (is_made L q m f.1)
-            f.2,
-        again i m f.1,
-      ))
-      (ap (option_map (λ (k : Made). k.answer)) f.1) (inl (answered m f.1, refl))
-      (λ L q. totals_same L N T X C (take position is) t (h.totals L q) i
-      (λ on. f.2 (touched_by L N n T X C i.path (is_a_path L q) m q.sound q.difference (is_made L q m f.1) i refl f.1
-      on)))
-
-  -- an item from its parts
-  affected : (L : Map) → Q L → (m : Made) → i.made ≡ Some m → Touches N T X m i.path → IsAffected L T X i
-  affected L q m e t =
-      subst (λ (j : Item). IsAffected L T X j) (sym (again i m e))
-      (affected_by L N n T X C i.path (is_a_path L q) m q.sound q.difference (is_made L q m e) i.name t)
-
-  spared : (L : Map) → Q L → ToKeep N T X C i.made i.path → IsSpared L N T X C i
-  spared L q f =
-      let m = f.0 in
-      record {
-        made = λ none. let never : ⊥ = cc (none, f.1) in never;
-        affected = affected L q m f.1 f.2;
-        unchanged = unchanged_by L N n T X C i.path (is_a_path L q) m q.sound (is_made L q m f.1) f.3;
-      }
-
-  through_retained : (ps : List Put) (es : List Entry) (t : Totals) →
-      Through Q N T X C before (take position is) ps es t → ToKeep N T X C i.made i.path →
-      Through Q N T X C before (take position is ++ i ∷ []) ps es (with_spared t)
-  through_retained ps es t h f =
-      let m = f.0 in
-      grown Q N T X C before (take position is) ps ps es es t (with_spared t) i i m.answer h
-      (λ ys. h.local (i ∷ ys)) refl
-      (λ L q. (
-        m,
-        stays_retained L N n T X C i.path (is_a_path L q) m q.sound q.difference (is_made L q m f.1) f.3,
-        again i m f.1,
-      ))
-      (ap (option_map (λ (k : Made). k.answer)) f.1) (inl (answered m f.1, refl))
-      (λ L q. totals_spared L N T X C (take position is) t (h.totals L q) i (spared L q f))
-
-  to_encode : (L : Map) → Q L → ToEncode N T X C i.made i.path → IsEncodedAgain L N T X C i
-  to_encode L q (inl none) = (By_name none, λ o. o.made none)
-  to_encode L q (inr f) = (
-    affected L q f.0 f.1 f.2,
-    (λ o. f.3 (stays_by L N n T X C i.path (is_a_path L q) f.0 q.sound q.difference (is_made L q f.0 f.1)
-        o.unchanged)),
-  )
-
-  through_encoded : (ps : List Put) (es fs : List Entry) (t : Totals) (m : Made) (given : List KnownQuery)
-      (queries : List CoverageQuery) → Through Q N T X C before (take position is) ps es t →
-      ToEncode N T X C i.made i.path → IsEncodingOf N i.path m → ReportsIfOther before i.name m.answer es fs →
-      Gives N C i.made given → SearchedOf N i.path given queries
-      → Through Q N T X C before (take position is ++ i ∷ [])
-      (ps ++ record { position = position; path = i.path; made = Some m } ∷ []) fs (with_encoded t queries)
-  through_encoded ps es fs t m given queries h f made returned gives those =
-      subst (λ (k : ℕ). Through Q N T X C before (take position is ++ i ∷ [])
-      (ps ++ record { position = k; path = i.path; made = Some m } ∷ []) fs (with_encoded t queries)) long
-      (grown Q N T X C before (take position is) ps
-      (ps ++ record { position = length (take position is); path = i.path; made = Some m } ∷ []) es fs t
-      (with_encoded t queries) i (with_made i m) m.answer h
-      (λ ys. all_put-push (take position is ++ i ∷ ys) ps
-      (record { position = length (take position is); path = i.path; made = Some m })
-      ∙ ap (λ (zs : List Item). all_put zs ps) (put_behind (take position is) i ys i.path (Some m))
-      ∙ h.local (with_made i m ∷ ys))
-      refl (λ L q. (m, made, refl)) refl returned
-      (λ L q. totals_encoded L N T X C (take position is) t (h.totals L q) i queries (to_encode L q f)
-      (searches_item L N n T X C is q position i at given queries m made gives those)))
-
--- ---- the paths before a position, with the work
-
-pub record SoFar (N : Map) (T X : List ℕ) (C : List ChangedLine) (before is : List Item) (position : ℕ) (r : Renewal)
-    (old now : Counted) : Type 0 where
-  pub many : Totals
-  pub through : Through (λ L. IsBefore L N T X C is) N T X C before (take position is) (made_at r) (entries_of r) many
-  pub raised : AreCounted N many old.work now.work old.kept now.kept
-
-pub so_far_none : (N : Map) (T X : List ℕ) (C : List ChangedLine) (before is : List Item) (r : Renewal)
-    (work : Counted) → r.fresh.items ≡ [] → r.entries.items ≡ [] → SoFar N T X C before is 0 r work work
-so_far_none N T X C before is r work fresh entries =
-    let Q : Map → Type 0 = λ L. IsBefore L N T X C is in
-    let made : [] ≡ made_at r = sym (ap puts_of fresh) in
-    let returned : [] ≡ entries_of r = sym (ap (map entry_of) entries) in
-    record {
-      many = no_totals;
-      through =
-          subst (λ (es : List Entry). Through Q N T X C before [] (made_at r) es no_totals) returned
-          (subst (λ (ps : List Put). Through Q N T X C before [] ps [] no_totals) made (through_none Q N T X C before));
-      raised =
-          record {
-            encodings = refl;
-            spared = refl;
-            searched = record { searches = refl; settled = refl };
-          };
-    }
-
--- for a list without paths
-pub so_far_all : (N : Map) (T X : List ℕ) (C : List ChangedLine) (before is : List Item) (r : Renewal)
-    (work : Counted) → length is ≡ 0 → r.fresh.items ≡ [] → r.entries.items ≡ [] →
-    SoFar N T X C before is (length is) r work work
-so_far_all N T X C before is r work none fresh entries =
-    subst (λ (k : ℕ). SoFar N T X C before is k r work work) (sym none)
-    (so_far_none N T X C before is r work fresh entries)
-
--- for the whole list
-pub whole : (N : Map) (t : ChangeSet) (before is : List Item) (r : Renewal) (old now : Counted) →
-    ((L : Map) × WasBefore L N t is) →
-    SoFar N (nodes_of t) (lines_of t) (changed_of t) before is (length is) r old now →
-    IsRenewal N t before is (after_renewal r is) (entries_of r) old.work now.work old.kept now.kept
-whole N t before is r old now b h =
-    let Q : Map → Type 0 = λ L. WasBefore L N t is in
-    let all : take (length is) is ≡ is = take_all (length is) is (omega arith) in
-    let w : Through Q N (nodes_of t) (lines_of t) (changed_of t) before is (made_at r) (entries_of r) h.many =
-    subst (λ (js : List Item). Through Q N (nodes_of t) (lines_of t) (changed_of t) before js (made_at r) (entries_of r)
-    h.many) all h.through in
-    record {
-      remade = w.remade b.0 b.1;
-      named = w.names;
-      reported =
-          rw (append-nil (after_renewal r is), append-nil (entries_of r)) at (w.reported [] [] refl);
-      counted = λ L q. (h.many, totals_end L N (nodes_of t) (lines_of t) (changed_of t) is h.many (w.totals L q), h.raised);
-    }
-
-module _ (N : Map) (n : IsMap N) (T X : List ℕ) (C : List ChangedLine) (before is : List Item) (position : ℕ) (i : Item)
-    (follows : Follows before is) (at : slice_get is position ≡ Some i) (old : Counted) where
-  pub so_far_step : (r s : Renewal) (now later : Counted) → SoFar N T X C before is position r old now →
-      IsStep N T X C before i position r s now later → SoFar N T X C before is (position + 1) s old later
-  so_far_step r s now later h (Left f same still) =
-      subst (λ (q : Renewal). SoFar N T X C before is (position + 1) q old later) (sym same)
-      (subst (λ (d : Counted). SoFar N T X C before is (position + 1) r old d) (sym still)
-      (record {
-        many = h.many;
-        through =
-            subst (λ (js : List Item). Through (λ L. IsBefore L N T X C is) N T X C before js (made_at r) (entries_of r)
-            h.many) (sym (take_more_at is position i at))
-            (through_left N n T X C before is position i follows at (made_at r) (entries_of r) h.many h.through f);
-        raised = h.raised;
-      }))
-  so_far_step r s now later h (Retained f same one) =
-      subst (λ (q : Renewal). SoFar N T X C before is (position + 1) q old later) (sym same)
-      (record {
-        many = with_spared h.many;
-        through =
-            subst (λ (js : List Item). Through (λ L. IsBefore L N T X C is) N T X C before js (made_at r) (entries_of r)
-            (with_spared h.many)) (sym (take_more_at is position i at))
-            (through_retained N n T X C before is position i follows at (made_at r) (entries_of r) h.many h.through f);
-        raised = counted_spared N h.many old now later h.raised one;
-      })
-  so_far_step r s now later h (EncodedAgain f m made puts returned given queries gives those one) =
-      record {
-        many = with_encoded h.many queries;
-        through =
-            subst (λ (js : List Item). Through (λ L. IsBefore L N T X C is) N T X C before js (made_at s) (entries_of s)
-            (with_encoded h.many queries)) (sym (take_more_at is position i at))
-            (subst (λ (ps : List Put). Through (λ L. IsBefore L N T X C is) N T X C before (take position is ++ i ∷ [])
-            ps (entries_of s) (with_encoded h.many queries)) (sym puts)
-            (through_encoded N n T X C before is position i follows at (made_at r) (entries_of r) (entries_of s) h.many
-            m given queries h.through f made returned gives those));
-        raised = counted_encoded N h.many old now later h.raised queries one;
-      }
+  pub so_far_step : {r s : Renewal} {now later : Counted} →
+      SoFar N T X C before is old (take position is) r now →
+      IsStep N T X C before i position r s now later → SoFar N T X C before is old (take (position + 1) is) s later
+  so_far_step {r} {s} {now} {later} h (Left f same still) =
+      rw (same, still) (retained r now now f.0 no_totals f.1 h (λ L q.
+      let free = λ (o : IsAffected L T X i). f.2 (touched_by n q position i at f.1 o) in (
+        stays_unless n q position i at f.1 f.2,
+        record {
+          affected = inr (free, refl);
+          spared = inr ((λ o. free o.affected), refl);
+          queries = inr ((λ o. free o.0), refl);
+        },
+      )) (counted_none N now))
+  so_far_step {r} {s} {now} {later} h (Retained f same one) =
+      rw same (retained r now later f.0 spared_one f.1 h (λ L q.
+      let s = spared_by n q position i at f.1 f.2 f.3 in (
+        stays_retained n q position i at f.1 f.3,
+        record {
+          affected = inl (s.affected, (0, refl, refl));
+          spared = inl (s, (0, refl, refl));
+          queries = inr ((λ o. o.1 s), refl);
+        },
+      )) one)
+  so_far_step {r} {s} {now} {later} h (EncodedAgain f m made puts returned given queries gives those one) =
+      grown r s now later (with_made i m) m.answer (encoded_one queries) h
+      (λ ys. rw (
+        puts,
+        all_put-push,
+        put_behind is position i ys i.path (Some m) (omega (arith, slice_get_within is position i at)),
+      )
+      (h.put (with_made i m ∷ ys)))
+      refl refl returned
+      (λ L q. let e = encoded_again n q position i at f in (
+        (m, made, refl),
+        record {
+          affected = inl (e.0, (0, refl, refl));
+          spared = inr (e.1, refl);
+          queries =
+              inl (
+                e,
+                (
+                  queries,
+                  [],
+                  searches_item n q position i at given queries m made gives those,
+                  refl,
+                  sym (append-nil queries),
+                ),
+              );
+        },
+      )) one

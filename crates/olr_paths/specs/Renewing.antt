@@ -13,7 +13,7 @@
 --     IsRenewal N t before is js es old new spared spares      the list js is the list is, renewed on N, after changes t
 --         that led from a map where its results were right;  es reports the answers that are not those of the list
 --         before, and the counts rise by what was encoded and retained
---     OneSpared old new, OneEncoded N queries old new      the counts after an answer is retained;  after an encoding
+--     spared_one, encoded_one queries      the totals of one path whose answer is retained;  which is encoded
 --     ReportsIfOther before name A es fs      an entry is appended if the answer is not the earlier one of the
 --         name
 use Rattle.std.specs.Prelude.{◌≡◌, ◌≢◌, ℕ, zero, suc, List, [], ◌∷◌, ◌++◌, map, All, ◌≤◌, Option, Some}
@@ -24,13 +24,12 @@ use Rattle.olr_spec.specs.Detours.{ChangedLine}
 use Rattle.olr_spec.specs.Extension.{Path}
 use Rattle.olr_spec.specs.Queries.{CoverageQuery, KnownQuery, SearchedOf}
 use Rattle.olr_search.specs.declared.work.Work.{Work}
-use Rattle.olr_refs.specs.Choice.{raised_count}
 use Rattle.olr_commands.specs.Counts.{most_changed, Picks, IsAgainClear}
 use Rattle.olr_commands.specs.Words.{entry_of}
 use Rattle.olr_spec.specs.Encoding.{Answer}
 use Rattle.olr_commands.specs.Reply.{Entry, entry}
 use Rattle.olr_paths.specs.Items.{Made, Item, IsEncodingOf, made_of, items, answer_in, all_named}
-use Rattle.olr_paths.specs.Changes.{TraversedTouched, LineTouched, Touches, IsKnownClear, AreSearched, IsBefore}
+use Rattle.olr_paths.specs.Changes.{TraversedTouched, LineTouched, Touches, IsKnownClear, IsBefore}
 use Rattle.olr_paths.specs.Changes.{Totals, AreTotals, AreCounted, AreRemade, Reported}
 use Rattle.olr_paths.specs.Touching.{nodes_of, lines_of, changed_of}
 use Rattle.olr_paths.specs.declared.change_set.ChangeSet.{ChangeSet}
@@ -115,28 +114,24 @@ abbrev pub Gives : Map → List ChangedLine → Option Made → List KnownQuery 
 Gives N C None given = given ≡ []
 Gives N C (Some m) given = Picks (λ e. IsAgainClear N C e.query) m.known given
 
--- an affected path is counted, whose answer is retained
-pub record OneSpared (old new : Counted) : Type 0 where
-  pub encodings : new.work.encodings ≡ raised_count old.work.encodings 1
-  pub spared : new.kept ≡ raised_count old.kept 1
-  pub searches : new.work.searches ≡ old.work.searches
-  pub settled : new.work.settled ≡ old.work.settled
+-- the totals of one affected path: whose answer is retained, and which is encoded
+abbrev pub spared_one : Totals
+spared_one = record { affected = 1; spared = 1; queries = [] }
 
--- a path is counted, which is encoded
-pub record OneEncoded (N : Map) (queries : List CoverageQuery) (old new : Counted) : Type 0 where
-  pub encodings : new.work.encodings ≡ raised_count old.work.encodings 1
-  pub spared : new.kept ≡ old.kept
-  pub searched : AreSearched N queries old.work new.work
+abbrev pub encoded_one : List CoverageQuery → Totals
+encoded_one queries = record { affected = 1; spared = 0; queries = queries }
 
 pub data IsStep (N : Map) (T X : List ℕ) (C : List ChangedLine) (before : List Item) (i : Item) (k : ℕ) (r s : Renewal)
     (c d : Counted) : Type 0 where
   Left : ToStay N T X i.made i.path → s ≡ r → d ≡ c → IsStep N T X C before i k r s c d
-  Retained : ToKeep N T X C i.made i.path → s ≡ r → OneSpared c d → IsStep N T X C before i k r s c d
+  Retained : ToKeep N T X C i.made i.path → s ≡ r →
+      AreCounted N spared_one c.work d.work c.kept d.kept → IsStep N T X C before i k r s c d
   EncodedAgain : ToEncode N T X C i.made i.path → (m : Made) → IsEncodingOf N i.path m →
       made_at s ≡ made_at r ++ record { position = k; path = i.path; made = Some m } ∷ [] →
       ReportsIfOther before i.name m.answer (entries_of r) (entries_of s)
       → (given : List KnownQuery) (queries : List CoverageQuery) → Gives N C i.made given
-      → SearchedOf N i.path given queries → OneEncoded N queries c d → IsStep N T X C before i k r s c d
+      → SearchedOf N i.path given queries → AreCounted N (encoded_one queries) c.work d.work c.kept d.kept
+      → IsStep N T X C before i k r s c d
 
 -- ---- the whole list
 

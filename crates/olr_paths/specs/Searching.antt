@@ -7,7 +7,7 @@
 --     AreDetours N slot t d      the searches for the distances to where changed lines begin, and from where they end
 --     AreFarther p q d      two distances together are more than d, or one is none
 use Rattle.std.specs.Prelude.{◌≡◌, ℕ, ◌+◌, ◌<◌, ◌≤◌, min, List, map, Contains, Bool, Option, Some, None}
-use Rattle.std.specs.Prelude.{IsTrue, IsFalse, ⊤}
+use Rattle.std.specs.Prelude.{IsTrue, IsFalse, ⊤, slice_get}
 use Rattle.olr_spec.specs.Map.{Map, has_node}
 use Rattle.olr_spec.specs.Queries.{CoverageQuery}
 use Rattle.olr_search.specs.Bounds.{AreLengths, label_at}
@@ -41,7 +41,8 @@ abbrev pub IsAsked : Map → (ℕ → ℕ) → ChangeSet → Searches → Made �
 IsAsked N slot t s m = Asked N slot t s.near s.far m
 
 abbrev pub AreAsked : Map → (ℕ → ℕ) → ChangeSet → Searches → List Item → Type 0
-AreAsked N slot t s is = (i : Item) (m : Made) → Contains is i → i.made ≡ Some m → IsAsked N slot t s m
+AreAsked N slot t s is =
+    (k : ℕ) (i : Item) (m : Made) → slice_get is k ≡ Some i → i.made ≡ Some m → IsAsked N slot t s m
 
 abbrev pub LackQueries : List Item → Type 0
 LackQueries is = (l : CoverageQuery) → ¬ Begins is l

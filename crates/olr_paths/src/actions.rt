@@ -1,6 +1,6 @@
 //! Which action a renewal takes for a path.
-ghost use Rattle.std.specs.Prelude.{◌↔◌, ◌≤◌, length, IsTrue, IfOk, IfSome, OnOk};
-ghost use Rattle.olr_paths.specs.Items.{made_of};
+ghost use Rattle.std.specs.Prelude.{◌≡◌, ◌↔◌, ◌≤◌, length, Some, IsTrue, IfOk, OnOk};
+ghost use Rattle.olr_paths.specs.Items.{Made, made_of};
 ghost use Rattle.olr_paths.specs.Showing.{shown_item};
 ghost use Rattle.olr_paths.specs.Touching.{nodes_of, lines_of, changed_of};
 ghost use Rattle.olr_paths.specs.Searching.{AreDetours, IsAsked};
@@ -63,8 +63,8 @@ pub(crate) fn decide<M: MapRead>(
     detours: &mut Detours,
     shown: PathView<'_>,
 ) -> Result<Action, AllocError>
-    requires asked { IfSome shown.published
-        (λ p. IsAsked (M.map map.now) (M.node_slot map.now) touched.now searches.now (made_of p.now)) }
+    requires asked { (m : Made) → (shown_item shown).made ≡ Some m
+        → IsAsked (M.map map.now) (M.node_slot map.now) touched.now searches.now m }
     requires detours { length (changed_of touched.now) ≤ most_changed
         → AreDetours (M.map map.now) (M.node_slot map.now) touched.now detours.old }
     ensures action { IfOk result (λ action. IsActionFor (M.map map.now) (nodes_of touched.now) (lines_of touched.now)

@@ -129,7 +129,7 @@ fn put_listed<M: MapRead>(
         found.new.items) }
 {
     if overlaid.list.held || !overlaid.list.finder.known {
-        put_range(0, overlaid.list.paths.len(), found)?;
+        put_range(0, overlaid.list.len(), found)?;
         return Ok(());
     }
     put_touched(map, overlaid.list, touched, searches, found)?;

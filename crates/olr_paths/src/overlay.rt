@@ -26,6 +26,7 @@ pub struct Overlay {
 }
 
 /// A path of a list under changes, by its name. None if it is removed.
+#[tactic(auto, using(crate::proofs::Overlaying::change_found))]
 fn becomes(
     changes: &IndexMap<String, Option<Rc<Path>>>,
     name: &str,
@@ -125,6 +126,7 @@ impl Overlay {
     }
 
     /// Whether the path of that name is removed.
+    #[tactic(auto, using(crate::proofs::Overlaying::change_found))]
     fn takes_away(&self, name: &str) -> bool
         ensures { result ≡ drops (change_at (overlay_changes self.now) name.now) }
     {
@@ -135,16 +137,11 @@ impl Overlay {
     }
 
     /// Whether a path of the list under these changes has the name.
+    #[tactic(auto, using(crate::proofs::Overlaying::both_have, crate::proofs::Overlaying::overlaid_has))]
     pub fn has(&self, list: &PathList, name: &str) -> bool
         ensures { result ≡ is_some (path_named (all_named (under_overlay (items list.now) self.now)) name.now) }
     {
-        if self.added.has(name) {
-            return true;
-        }
-        if self.takes_away(name) {
-            return false;
-        }
-        list.has(name)
+        self.added.has(name) || (!self.takes_away(name) && list.has(name))
     }
 
     /// Appends a new path. If an allocation fails, nothing changes.

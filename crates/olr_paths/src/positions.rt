@@ -97,6 +97,7 @@ fn note_all(list: &mut PathList, fresh: &[(usize, NamedPath)]) -> Result<(), All
 
 /// Appends the new paths of changes, not encoded yet, and adds the index entries of results under the ids of their
 /// positions. If an allocation fails, only some paths are appended.
+#[tactic(auto, using(crate::proofs::Overlaying::behind_none))]
 fn make_room(
     alloc: Global,
     list: &mut PathList,
@@ -131,7 +132,7 @@ pub(crate) fn put_in(
     ensures err { OnErr result (items list.new ≡ items list.old) }
 {
     let mut before = Vec::with_capacity(alloc, fresh.len())?;
-    let count = list.paths.len();
+    let count = list.len();
     let held = list.held;
     let room = make_room(alloc, list, overlay, &fresh);
     if room.is_err() {

@@ -1,5 +1,5 @@
 //! Encoding again the paths whose answer a change of the map may have changed.
-ghost use Rattle.std.specs.Prelude.{◌≡◌, ◌≤◌, ◌↔◌, ℕ, Contains, Some, map as list_map, IsTrue, IfOk};
+ghost use Rattle.std.specs.Prelude.{◌≡◌, ◌≤◌, ◌↔◌, ℕ, Contains, Some, slice_get, map as list_map, IsTrue, IfOk};
 ghost use Rattle.std.specs.Prelude.{◌<◌, length, OnOk, OnErr};
 ghost use Rattle.olr_spec.specs.Map.{Map};
 ghost use Rattle.olr_commands.specs.Words.{entry_of};
@@ -7,7 +7,7 @@ ghost use Rattle.std.specs.Prelude.{List};
 ghost use Rattle.olr_spec.specs.Detours.{ChangedLine};
 ghost use Rattle.olr_spec.specs.Queries.{CoverageQuery as QueryRecord, AreKnown};
 ghost use Rattle.olr_paths.specs.Items.{Item, made_of, items, answer_in, all_named};
-ghost use Rattle.olr_paths.specs.Changes.{Rises, Follows};
+ghost use Rattle.olr_paths.specs.Changes.{AreCounted, Rises, Follows};
 ghost use Rattle.olr_paths.specs.Showing.{shown_items, shown_item};
 ghost use Rattle.olr_paths.specs.Touching.{nodes_of, lines_of, changed_of};
 ghost use Rattle.olr_paths.specs.Searching.{AreDetours, AreAsked};
@@ -16,7 +16,7 @@ ghost use Rattle.olr_paths.specs.Candidates.{Covers};
 ghost use Rattle.std.specs.List.Sorted.{IsNonDecreasing};
 ghost use Rattle.olr_paths.specs.Origins.{BeginsPut, AreBoundsOf, new_origins_in};
 ghost use Rattle.olr_paths.specs.Renewing.{made_at, after_renewal, ReportsIfOther, IsActionFor, IsEncode, Gives, IsStep};
-ghost use Rattle.olr_paths.specs.Renewing.{OneSpared, WasBefore, IsRenewal};
+ghost use Rattle.olr_paths.specs.Renewing.{spared_one, WasBefore, IsRenewal};
 
 use crate::actions::{Action, decide};
 use crate::asking::ask;
@@ -48,7 +48,7 @@ pub(crate) struct Counted {
 impl Counted {
     /// Counts an encoding whose answer is retained.
     fn keep(&mut self)
-        ensures { OneSpared self.old self.new }
+        ensures { (N : Map) → AreCounted N spared_one self.old.work self.new.work self.old.kept self.new.kept }
     {
         self.work.encodings = self.work.encodings.saturating_add(1);
         self.kept = self.kept.saturating_add(1);
@@ -144,7 +144,7 @@ fn known_for<M: MapRead>(
 ) -> Result<Vec<KnownQuery>, AllocError>
     requires detours { length (changed_of touched.now) ≤ most_changed
         → AreDetours (M.map map.now) (M.node_slot map.now) touched.now detours.old }
-    requires before { (L : Map) × (items : List Item) × Contains items (shown_item shown)
+    requires before { (L : Map) × (items : List Item) × (k : ℕ) × (slice_get items k ≡ Some (shown_item shown))
         × WasBefore L (M.map map.now) touched.now items }
     ensures known { IfOk result (λ ks. AreKnown (M.map map.now) (shown_item shown.entry).path.lines ks.items) }
     ensures given { IfOk result

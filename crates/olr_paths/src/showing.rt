@@ -34,6 +34,7 @@ pub(crate) fn show<'a>(name: &'a str, named: &'a NamedPath) -> PathView<'a>
 }
 
 /// A path of a list under changes that don't remove it.
+#[tactic(auto, using(crate::proofs::Overlaying::change_found))]
 pub(crate) fn show_under<'a>(
     changes: &'a IndexMap<String, Option<Rc<Path>>>,
     name: &'a str,

@@ -3,6 +3,9 @@ use Rattle.std.specs.Prelude.{option_map}
 use Rattle.olr_paths.specs.Items.{made_of}
 use Rattle.olr_paths.proofs.actions.decide.Goals as goal
 
+pub is_touched-requires : goal.is_touched-requires
+is_touched-requires g c = c.requires.asked _ (ap (option_map (λ p. made_of p.now)) c.in-Some.is)
+
 pub returns-then-not-is_touched-clause-action : goal.returns-then-not-is_touched-clause-action
 returns-then-not-is_touched-clause-action g c =
     let off : c.is_touched.result ≡ false = cc in

@@ -1,19 +1,9 @@
-use Rattle.std.proofs.Common.{◌≡◌, ℕ, List, All, Contains, true, false, refl, sym, subst, arith}
+use Rattle.std.proofs.Common.{◌≡◌, ℕ, List, All, Contains, true, false, subst, arith}
 use Rattle.std.proofs.lemmas.List.{take_all}
 use Rattle.std.proofs.lemmas.List.Elements.{All-contains}
 use Rattle.olr_paths.proofs.Alls.{all_more}
-use Rattle.olr_paths.proofs.Sets.{has_from, in_from}
+use Rattle.olr_paths.proofs.Sets.{in_from}
 use Rattle.olr_paths.proofs.asking.is_any_in.Goals as goal
-
-pub returns-then-has : goal.returns-then-has
-returns-then-has c =
-    let nodes = c.args.nodes.now in
-    let item : ℕ = c.node-item.result in
-    let on : Contains nodes item = (c.loop-node.node-index, c.loop-node-test.true, sym c.node-item.is) in
-    let yes : c.has.result ≡ true = cc in (
-      (λ t. (item, has_from nodes item on, c.has.ensures.0 yes)),
-      (λ h. refl),
-    )
 
 pub loop-node-preserved : goal.loop-node-preserved
 loop-node-preserved c =

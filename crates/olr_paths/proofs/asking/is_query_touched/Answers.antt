@@ -1,4 +1,4 @@
-use Rattle.std.proofs.Common.{◌≡◌, List, All, Contains, true, false, refl, sym, subst, ◌∙◌}
+use Rattle.std.proofs.Common.{◌≡◌, List, All, Contains, true, false, sym, subst, ◌∙◌}
 use Rattle.std.proofs.Common.{arith, min}
 use Rattle.std.proofs.lemmas.List.{take_all}
 use Rattle.std.proofs.lemmas.List.Elements.{All-contains}
@@ -21,24 +21,6 @@ is_near-requires-clause-returned g c =
     let on : Contains c.args.published.now.queries.items item = rw (← c.as_slice-queries.ensures.value) at in
     subst (λ (l : CoverageQuery). IsExactAt N slot t c.args.near.now l.from (min l.within limit)) (sym c.query.view_is)
     (c.requires.returned item on)
-
-pub returns-then-is_near : goal.returns-then-is_near
-returns-then-is_near g c =
-    let N = g.M.MapRead.map c.args.map.now in
-    let T = nodes_of c.args.touched.now in
-    let item : CoverageQuery = c.query-item.result in
-    let yes : c.is_near.result ≡ true = cc in
-    let at : Contains c.as_slice-queries.result.now item =
-    (c.loop-query.query-index, c.loop-query-test.true, sym c.query-item.is) in
-    let on : Contains c.args.published.now.queries.items item = rw (← c.as_slice-queries.ensures.value) at in (
-      (λ t. (
-        item,
-        on,
-        subst (λ (l : CoverageQuery). Near N T l.from (min l.within limit)) c.query.view_is
-            (c.is_near.ensures.0 yes),
-      )),
-      (λ h. refl),
-    )
 
 pub loop-query-preserved : goal.loop-query-preserved
 loop-query-preserved g c =

@@ -1,5 +1,5 @@
-use Rattle.std.proofs.Common.{◌≡◌, ℕ, List, [], ◌∷◌, ◌++◌, ◌+◌, inl, inr, take, sym, ap, ◌∙◌, subst, arith}
-use Rattle.std.proofs.lemmas.List.{take_all, take_more}
+use Rattle.std.proofs.Common.{◌≡◌, ℕ, List, [], ◌∷◌, ◌++◌, ◌+◌, inl, inr, take, sym, ap, ◌∙◌, subst}
+use Rattle.std.proofs.lemmas.List.{take_more}
 use Rattle.olr_paths.specs.Origins.{BeginsPut}
 use Rattle.olr_paths.specs.Renewing.{puts_of}
 use Rattle.olr_paths.specs.declared.path_list.NamedPath.{NamedPath}
@@ -21,10 +21,3 @@ loop-named-preserved c = λ v h.
       | inl a ↦ c.in_ok-note_named.ensures.before v (c.loop-named.invariant v a)
       | inr b ↦ c.in_ok-note_named.ensures.named v b
     ]
-
-pub returns : goal.returns
-returns c = λ v h.
-    let es : Fresh = c.args.fresh.now in
-    c.loop-named.invariant v
-    (subst (λ (xs : Fresh). BeginsPut (puts_of xs) v)
-    (sym (take_all c.loop-named.named-index es (omega (arith, c.loop-named-test.false)))) h)

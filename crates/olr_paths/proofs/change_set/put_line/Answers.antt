@@ -1,4 +1,4 @@
-use Rattle.olr_spec.proofs.AscendingLists.{put_ascends, put_has, stays_has}
+use Rattle.olr_spec.proofs.AscendingLists.{put_ascends, stays_has}
 use Rattle.olr_paths.proofs.change_set.put_line.Goals as goal
 
 pub returns-in-Ok-clause-ascend : goal.returns-in-Ok-clause-ascend
@@ -6,9 +6,6 @@ returns-in-Ok-clause-ascend c =
     rw c.in-Ok.ensures.items
     (put_ascends c.args.lines.now.items c.args.line c.in-Err.place c.requires.ascend
     (rw c.deref.ensures.value at c.in-Err.ensures.position))
-
-pub returns-in-Ok-clause-holds : goal.returns-in-Ok-clause-holds
-returns-in-Ok-clause-holds c v = rw c.in-Ok.ensures.items (put_has c.args.lines.now.items c.args.line c.in-Err.place v)
 
 pub returns-in_default-clause-holds : goal.returns-in_default-clause-holds
 returns-in_default-clause-holds c v =

@@ -1,19 +1,8 @@
 use Rattle.std.proofs.Common.{◌≡◌, ◌∙◌, get_or, subst, arith}
 use Rattle.std.proofs.lemmas.List.{get_or_default}
 use Rattle.olr_paths.specs.Finding.{NamedNoted, Grows}
-use Rattle.olr_paths.proofs.NotedPositions.{One, NotedAt, noted_grown, at_more}
+use Rattle.olr_paths.proofs.NotedPositions.{One, NotedAt, at_more}
 use Rattle.olr_paths.proofs.positions.note_all.Goals as goal
-
-pub invariant_of-list : goal.invariant_of-list
-invariant_of-list c =
-    let l = c.loop-position.list in
-    record {
-      long = l.long;
-      ascend = l.ascend;
-      noted =
-          noted_grown l.paths.entries l.path_ids.items l.finder c.note_one.new.finder c.note_one.ensures.grows l.noted;
-      encoded = l.encoded;
-    }
 
 pub loop-position-preserved-then-position-len : goal.loop-position-preserved-then-position-len
 loop-position-preserved-then-position-len c =

@@ -1,8 +1,7 @@
-use Rattle.std.proofs.Common.{sym, arith, ◌≡◌, ℕ, List, length, ◌∙◌, ap, true, subst}
+use Rattle.std.proofs.Common.{sym, arith, ℕ, List, ◌∙◌, ap, subst}
 use Rattle.std.specs.Prelude.{option_map}
-use Rattle.olr_paths.specs.Items.{Item, items}
 use Rattle.olr_paths.specs.Showing.{shown_items, shown_item}
-use Rattle.olr_paths.specs.Touching.{nodes_of, lines_of, changed_of}
+use Rattle.olr_paths.specs.Touching.{nodes_of, lines_of}
 use Rattle.olr_paths.specs.Origins.{BeginsPut}
 use Rattle.olr_paths.specs.Candidates.{Covers}
 use Rattle.olr_paths.specs.Renewing.{puts_of}
@@ -10,8 +9,8 @@ use Rattle.olr_paths.specs.declared.path_list.NamedPath.{NamedPath}
 use Rattle.olr_paths.specs.declared.renewal.Renewal.{Renewal}
 use Rattle.olr_paths.specs.declared.renewal.Counted.{Counted}
 use Rattle.olr_spec.proofs.OptionLemmas.{none_of}
-use Rattle.olr_paths.proofs.Covering.{past_end}
-use Rattle.olr_paths.proofs.RenewedPrefix.{whole, so_far_all}
+use Rattle.olr_paths.proofs.Covering.{nothing_at}
+use Rattle.olr_paths.proofs.RenewedPrefix.{whole, so_far_none}
 use Rattle.olr_paths.proofs.Raising.{kept_up, work_up}
 use Rattle.olr_paths.proofs.renewal.renewal_of.Goals as goal
 
@@ -22,22 +21,15 @@ renewal_by-requires-clause-covers g c =
 
 pub returns-then-is_none : goal.returns-then-is_none
 returns-then-is_none g c =
-    let N = g.M.MapRead.map c.args.map.now in
-    let T = nodes_of c.args.touched.now in
-    let X = lines_of c.args.touched.now in
-    let C = changed_of c.args.touched.now in
-    let before = items c.args.before.now in
-    let is : List Item = shown_items c.args.overlaid in
-    let yes : c.is_none.result ≡ true = cc in
-    let none : length is ≡ 0 = let le =
-    past_end is 0 (c.at.ensures.shown
-    ∙ ap (option_map shown_item) (none_of c.at.result c.if-is_none.ensures)) in omega arith in
+    let none =
+    nothing_at (shown_items c.args.overlaid) (c.at.ensures.shown
+    ∙ ap (option_map shown_item) (none_of c.at.result c.if-is_none.ensures)) in
     let r : Renewal = record { fresh = c.new.result; entries = c.new-then-is_none.result } in
     let counted : Counted = record { work = c.args.work.now; kept = c.args.kept.now } in
     record {
       renewed =
-          whole N c.args.touched.now before is r counted counted c.requires.before
-          (so_far_all N T X C before is r counted none c.new.ensures.items c.new-then-is_none.ensures.items);
+          whole {old = counted} {now = counted} r c.requires.before
+          (rw none (so_far_none r counted c.new.ensures.items c.new-then-is_none.ensures.items));
       rises = record { encodings = omega arith; searches = omega arith; settled = omega arith };
       kept = omega arith;
       new_origins = λ v b. absurd (subst (λ (es : List (ℕ × NamedPath)). BeginsPut (puts_of es) v) c.new.ensures.items

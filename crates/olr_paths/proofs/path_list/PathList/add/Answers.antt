@@ -1,25 +1,10 @@
 use Rattle.std.proofs.Common.{◌≡◌, inl, inr, List, [], ◌∷◌, ◌++◌, Some}
-use Rattle.std.proofs.Common.{ap, ◌∙◌, subst}
+use Rattle.std.proofs.Common.{subst}
 use Rattle.std.specs.Prelude.{string_bytes}
-use Rattle.olr_commands.specs.Reply.{Entry, entry}
-use Rattle.olr_commands.specs.Words.{entry_of}
 use Rattle.olr_paths.specs.Items.{Made, Item, items, made_of}
 use Rattle.olr_paths.specs.Origins.{Begins}
 use Rattle.olr_paths.proofs.OriginLemmas.{begins_add}
 use Rattle.olr_paths.proofs.path_list.PathList.add.Goals as goal
-
-pub returns-clause-added : goal.returns-clause-added
-returns-clause-added g c =
-    let m : Made = made_of c.in_ok-published.published in
-    let one = c.in_ok-entry.field-0 in
-    let name = string_bytes c.args.name in
-    let returned : entry_of one ≡ entry name m.answer =
-    c.in_ok-entry.ensures ∙ ap (λ n. entry n m.answer) c.as_str.ensures.value in (
-      m,
-      c.in_ok-published.ensures.made,
-      rw (← c.in_ok-named.ensures.path, ← c.in_ok-named.ensures.made) c.in_ok-put_last.ensures.ok,
-      rw (c.in_ok-push.ensures.items, c.in_ok-entries.ensures.items) (ap (λ (e : Entry). e ∷ []) returned),
-    )
 
 pub returns-clause-new_origins : goal.returns-clause-new_origins
 returns-clause-new_origins g c = λ v h.

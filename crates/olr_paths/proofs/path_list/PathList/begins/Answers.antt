@@ -1,7 +1,5 @@
-use Rattle.std.proofs.Common.{inl, inr, ◌≡◌, List, length, slice_get, Some, sym, subst, arith}
-use Rattle.std.proofs.lemmas.List.{take_all, length-map}
+use Rattle.std.proofs.Common.{inl, inr, ◌≡◌, slice_get, Some, sym}
 use Rattle.olr_paths.specs.Items.{Item, items}
-use Rattle.olr_paths.specs.Origins.{Begins}
 use Rattle.olr_paths.proofs.OriginLemmas.{begins_more}
 use Rattle.olr_paths.proofs.NamedEntries.{item_of, item_at}
 use Rattle.olr_paths.proofs.path_list.PathList.begins.Goals as goal
@@ -17,12 +15,3 @@ loop-position-preserved c = λ v h.
       | inl a ↦ c.in_ok-note_named.ensures.before v (c.loop-position.invariant v a)
       | inr b ↦ c.in_ok-note_named.ensures.named v b
     ]
-
-pub returns : goal.returns
-returns c = λ v h.
-    let is = items c.args.self.now in
-    let many : length is ≡ length c.args.self.now.paths.entries = length-map c.args.self.now.paths.entries item_of in
-    let past = c.loop-position-test.false in
-    let end = c.len-position-end.ensures.len in
-    c.loop-position.invariant v
-    (subst (λ (js : List Item). Begins js v) (sym (take_all c.loop-position.position is (omega arith))) h)

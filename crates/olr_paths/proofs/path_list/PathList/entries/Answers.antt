@@ -16,9 +16,6 @@ unreachable-requires-in_default-published c =
     (item_at c.args.self.now.paths.entries c.loop-k.k e (sym c.in-Some.ensures.entry))
     (ap (option_map (λ p. made_of p.value)) c.in_default-published.is)
 
-pub loop-k-init : goal.loop-k-init
-loop-k-init c = λ es h. rw c.in_ok-entries.ensures.items h
-
 pub loop-k-preserved : goal.loop-k-preserved
 loop-k-preserved c = λ fs rest.
     let e : String Global × NamedPath = (c.in-Some.name.now, c.in-Some.named.now) in
