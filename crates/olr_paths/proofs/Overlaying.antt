@@ -49,14 +49,6 @@ change_put (e ∷ es) k o name =
       same_is (string_bytes e.0) name,
     )
 
--- for an entry that was looked up
-pub found_at : (es : Entered) (name : List ℕ) (x y : Option (Rc Path Global)) → Some x ≡ lookup (asks name) es → x ≡ y →
-    change_at (changes_in es) name ≡ Some (path_in y)
-found_at es name x y at same = rw (change_found es name, ← at, same) refl
-
-pub not_found : (es : Entered) (name : List ℕ) → None ≡ lookup (asks name) es → change_at (changes_in es) name ≡ None
-not_found es name at = rw (change_found es name, ← at) refl
-
 -- ---- names
 
 -- with one path in front, under its change

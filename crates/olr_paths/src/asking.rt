@@ -85,9 +85,9 @@ fn is_without_queries(overlaid: OverlaidList<'_>) -> bool
 fn search_touched<M: MapRead>(
     alloc: Global,
     map: &M,
-    overlaid: OverlaidList<'_>,
     touched: &ChangeSet,
     bounds: &DistanceBounds,
+    overlaid: OverlaidList<'_>,
     searches: &mut Searches,
 ) -> Result<(), AllocError>
     requires { AreBoundsOf (M.map map.now) bounds.now (shown_items overlaid) }
@@ -123,7 +123,7 @@ pub(crate) fn ask<M: MapRead>(
         (λ found. 0 < length found.items → length (changed_of touched.now) ≤ most_changed
         → AreDetours (M.map map.now) (M.node_slot map.now) touched.now searches.new.detours) }
 {
-    search_touched(alloc, map, overlaid, touched, bounds, searches)?;
+    search_touched(alloc, map, touched, bounds, overlaid, searches)?;
     let found = candidates(alloc, map, overlaid, touched, searches)?;
     if !found.is_empty() {
         begin_detours(alloc, map, touched, &mut searches.detours)?;

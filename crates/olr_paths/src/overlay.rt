@@ -101,6 +101,7 @@ impl Overlay {
     ghost use Rattle.olr_paths.specs.Changes.{set_item};
 
     /// No changes. Takes no memory.
+    #[tactic(auto, using(crate::proofs::Overlaying::no_changes))]
     pub fn new(alloc: Global) -> Overlay
         ensures { (is : List Item) → under_overlay is result ≡ is }
     {
@@ -186,6 +187,7 @@ impl Overlay {
     }
 
     /// The list under these changes, without index entries. It shares paths and answers with the list.
+    #[tactic(auto, using(crate::proofs::Overlaying::behind_none, crate::proofs::Overlaying::first_differ))]
     pub fn overlaid_copy(&self, alloc: Global, list: &PathList) -> Result<PathList, AllocError>
         requires { NamesDiffer (all_named (under_overlay (items list.now) self.now)) }
         ensures { IfOk result (λ l. items l ≡ under_overlay (items list.now) self.now) }
