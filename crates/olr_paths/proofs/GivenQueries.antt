@@ -25,9 +25,7 @@ searched_from_none N n P is m queries made searched =
 
 pub gives_picked : (N : Map) (C : List ChangedLine) (made : Option Made) (m : Made) (ks given : List KnownQuery) →
     made ≡ Some m → ks ≡ m.known → Picks (λ e. IsAgainClear N C e.query) ks given → Gives N C made given
-gives_picked N C made m ks given e same picks =
-    subst (λ (o : Option Made). Gives N C o given) (sym e)
-    (subst (λ (es : List KnownQuery). Picks (λ e. IsAgainClear N C e.query) es given) same picks)
+gives_picked N C made m ks given e same picks = rw e (rw same at picks)
 
 made_at_position : (M : Map) (is : List Item) (k : ℕ) (i : Item) → AreEncodingsIfAny M is → slice_get is k ≡ Some i →
     IfSome i.made (IsEncodingOf M i.path)

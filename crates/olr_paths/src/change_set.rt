@@ -145,8 +145,8 @@ fn put_node(nodes: &mut Vec<NodeId>, node: NodeId)
 /// Inserts a line in ascending order, unless it is there. Takes no memory.
 #[tactic(auto, using(olr_spec::proofs::AscendingLists::put_has))]
 fn put_line(lines: &mut Vec<LineId>, line: LineId)
-    requires ascend { IsStrictlyIncreasing lines.old.items }
     requires room { vec_len lines.old + 1 ≤ vec_capacity lines.old }
+    requires ascend { IsStrictlyIncreasing lines.old.items }
     ensures ascend { IsStrictlyIncreasing lines.new.items }
     ensures holds { (x : ℕ) → has lines.new.items x ≡ (has lines.old.items x || (line == x)) }
 {

@@ -1,6 +1,5 @@
 use Rattle.std.proofs.Common.{List, ℕ, IsTrue, sym, subst, ◌∙◌, arith}
-use Rattle.olr_search.specs.Bounds.{AreLengths, AreBounds, IsUnder, bound_in}
-use Rattle.olr_search.specs.Searches.{IsSearch}
+use Rattle.olr_search.specs.Bounds.{AreBounds, IsUnder, bound_in}
 use Rattle.olr_search.specs.declared.distances.Direction.TheVariants.{Against}
 use Rattle.olr_search.specs.Distances.{Leads}
 use Rattle.olr_near.specs.Bounds.{Numbers}
@@ -10,10 +9,8 @@ use Rattle.olr_paths.proofs.asking.search_near.Goals as goal
 -- as far as the numbers let it
 pub returns-then-is_known-clause-lengths : goal.returns-then-is_known-clause-lengths
 returns-then-is_known-clause-lengths g c =
-    let from = c.deref.result.now in
-    subst (λ (xs : List (ℕ × ℕ)). AreLengths (g.M.MapRead.map c.args.map.now) (g.M.MapRead.node_slot c.args.map.now)
-    Against xs c.settle_under.new.self) (c.deref.ensures.value ∙ c.in_ok-sources.ensures)
-    (c.in_ok-settle_under.ensures.labelled Against from c.in_ok-begin.ensures.search)
+    rw (c.deref.ensures.value, c.in_ok-sources.ensures) at (c.in_ok-settle_under.ensures.labelled Against
+    c.deref.result.now c.in_ok-begin.ensures.search)
 
 pub returns-then-is_known-clause-returned : goal.returns-then-is_known-clause-returned
 returns-then-is_known-clause-returned g c = λ right v w source d le there way.
@@ -33,19 +30,15 @@ returns-then-is_known-clause-returned g c = λ right v w source d le there way.
 -- as far as a query can reach
 pub returns-clause-lengths : goal.returns-clause-lengths
 returns-clause-lengths g c =
-    let from = c.deref.result.now in
     let h =
-    subst (λ (xs : List (ℕ × ℕ)). IsSearch (g.M.MapRead.map c.args.map.now) (g.M.MapRead.node_slot c.args.map.now)
-    Against xs c.settle_to.new.self) (c.deref.ensures.value ∙ c.in_ok-sources.ensures)
-    (c.in_ok-settle_to.ensures.search Against from c.in_ok-begin.ensures.search) in
+    rw (c.deref.ensures.value, c.in_ok-sources.ensures) at (c.in_ok-settle_to.ensures.search Against c.deref.result.now
+    c.in_ok-begin.ensures.search) in
     h.under_way.labelled
 
 pub returns-clause-returned : goal.returns-clause-returned
 returns-clause-returned g c = λ right v w source d le there way.
-    let from = c.deref.result.now in
     let h =
-    subst (λ (xs : List (ℕ × ℕ)). IsSearch (g.M.MapRead.map c.args.map.now) (g.M.MapRead.node_slot c.args.map.now)
-    Against xs c.settle_to.new.self) (c.deref.ensures.value ∙ c.in_ok-sources.ensures)
-    (c.in_ok-settle_to.ensures.search Against from c.in_ok-begin.ensures.search) in
+    rw (c.deref.ensures.value, c.in_ok-sources.ensures) at (c.in_ok-settle_to.ensures.search Against c.deref.result.now
+    c.in_ok-begin.ensures.search) in
     let far = c.in_ok-settle_to.ensures.limit in
     h.settled v d there (omega arith) way

@@ -7,7 +7,7 @@ use Rattle.olr_paths.specs.Items.{Item, items}
 use Rattle.olr_paths.specs.Origins.{Begins}
 use Rattle.olr_paths.specs.Changes.{Reported}
 use Rattle.olr_paths.specs.Laying.{TakesNone, overlay_changes, under_overlay}
-use Rattle.olr_paths.specs.Renewing.{all_put, puts_of, after_renewal, IsRenewal}
+use Rattle.olr_paths.specs.Renewing.{all_put, puts_of, after_renewal}
 use Rattle.olr_paths.specs.declared.path_list.PathList.{PathList}
 use Rattle.olr_paths.specs.declared.overlay.Overlay.{Overlay}
 use Rattle.olr_paths.specs.declared.renewal.Renewal.{Renewal}
@@ -48,15 +48,8 @@ returns-clause-renewed g c =
     let same =
     renewed (items c.unwrap_or.result.now) (items c.args.self.now) c.args.overlay.now c.in_ok-fresh.field-0
     (items c.put_in.new.list) c.requires.keeps c.in_ok-fresh.ensures.renewed.reported c.in_ok-put_in.ensures.ok in
-    let N = g.M.MapRead.map c.args.map.now in
-    let es : List Entry = map entry_of c.in_ok-fresh.field-0.entries.items in
-    let overlaid = under_overlay (items c.args.self.now) c.args.overlay.now in
-    subst (λ (before : List Item). IsRenewal N c.args.touched.now before overlaid (items c.put_in.new.list) es
-    c.args.work.now c.renewal_of.new.work c.args.kept.now c.renewal_of.new.kept)
-    (ap (λ (b : Bor PathList). items b.now) c.unwrap_or.ensures ∙ before_is c.args.before _)
-    (subst (λ (js : List Item). IsRenewal N c.args.touched.now (items c.unwrap_or.result.now) overlaid js es
-    c.args.work.now c.renewal_of.new.work c.args.kept.now c.renewal_of.new.kept) (sym same)
-    c.in_ok-fresh.ensures.renewed)
+    let was = ap (λ (b : Bor PathList). items b.now) c.unwrap_or.ensures ∙ before_is c.args.before _ in
+    rw (same, ← was) c.in_ok-fresh.ensures.renewed
 
 pub put_in-requires : goal.put_in-requires
 put_in-requires g c =
