@@ -1,7 +1,7 @@
 -- What a call does to the register of a handle, from what it does to the register.
-use Rattle.std.proofs.Common.{◌≡◌, ℕ, List, Option, Some, sym, subst}
+use Rattle.olr_c.proofs.Common.{◌≡◌, ℕ, List, Option, sym, subst, Keep}
+use Rattle.std.proofs.Common.{Some}
 use Rattle.olr_c.specs.Asked.{Asked, AskedOf}
-use Rattle.olr_c.specs.declared.keep.Keep.{Keep}
 
 pub asked_of :
     (h h' : Option Keep) (k k' : Keep) (records : List ℕ) (code : ℕ) → Some k ≡ h → h' ≡ Some k' →

@@ -1,15 +1,13 @@
 -- What the proofs of handles share.
 --     al      the allocator of C's heap
 --     pair, and_tt      the machine value of a pointer and a handle of the allocator, and that it has its type
-use Rattle.std.proofs.Common.{[]}
-use mathlib.Core.Bool.{Bool, true, false, ◌&&◌}
-use lib.Dec.{T}
-use mir.Syntax.{impl, tnil, dnil}
-use mir.Val.{Val, vstruct, vcons, vnil}
+use Rattle.olr_c.proofs.Common.{[], true, false, ◌&&◌, T, dnil, Val, vstruct, ghosts}
+use mathlib.Core.Bool.{Bool}
+use mir.Syntax.{impl, tnil}
+use mir.Val.{vcons, vnil}
+use Rattle.std.proofs.alloc.Calls.{Al}
 use Rattle.std.specs.contracts.alloc.Global as heap
 use Rattle.std.proofs.alloc.Global.TheLaws as heap_laws
-use Rattle.std.specs.contracts.impls.GlobalAllocator.TheImpl.{ghosts}
-use Rattle.std.proofs.alloc.Calls.{Al}
 
 abbrev pub al : Al
 al =

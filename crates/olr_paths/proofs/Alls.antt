@@ -1,8 +1,6 @@
 -- What is true of each element, as far as a loop has run.
-use Rattle.std.proofs.Common.{◌≡◌, ℕ, ◌+◌, ◌<◌, List, ◌∷◌, take, drop, length, get_or, slice_get, Some, All, sym, ap, ◌∙◌}
-use Rattle.std.proofs.Common.{subst}
-use Rattle.std.proofs.lemmas.List.{take_more, drop_more}
-use Rattle.std.proofs.lemmas.Option.{slice_get_within, get_or_from_slice_get}
+use Rattle.olr_paths.proofs.Common.{◌≡◌, ℕ, ◌+◌, ◌<◌, List, ◌∷◌, take, drop, length, get_or, slice_get, Some, All, sym}
+use Rattle.olr_paths.proofs.Common.{ap, ◌∙◌, subst, take_more, drop_more, slice_get_within, get_or_from_slice_get}
 use Rattle.std.proofs.lemmas.List.Elements.{All-push}
 
 -- of the first k, and of one more

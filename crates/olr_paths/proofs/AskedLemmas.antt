@@ -1,16 +1,8 @@
 -- What is searched for each path of a list is searched for the path at a position.
-use Rattle.std.proofs.Common.{◌≡◌, ℕ, List, slice_get, Contains, Some, true, false, min}
-use Rattle.olr_spec.specs.Queries.{CoverageQuery}
-use Rattle.olr_spec.specs.Map.{Map}
-use Rattle.olr_spec.specs.Extension.{limit}
-use Rattle.olr_search.specs.Bounds.{AreLengths}
-use Rattle.olr_search.specs.declared.distances.Direction.TheVariants.{Against}
-use Rattle.olr_paths.specs.Items.{Made, Item}
-use Rattle.olr_paths.specs.Touching.{nodes_of}
-use Rattle.olr_paths.specs.Searching.{sources, IsExactAt, AreAsked}
-use Rattle.olr_paths.specs.Origins.{Begins, AreFar}
-use Rattle.olr_paths.specs.declared.change_set.ChangeSet.{ChangeSet}
-use Rattle.olr_paths.specs.declared.searches.Searches.{Searches}
+use Rattle.olr_paths.proofs.Common.{◌≡◌, ℕ, List, slice_get, Contains, Some, true, false, min, CoverageQuery, Map}
+use Rattle.olr_paths.proofs.Common.{limit, AreLengths, Against, Made, Item, nodes_of, sources, IsExactAt, AreAsked}
+use Rattle.olr_paths.proofs.Common.{Begins, ChangeSet, Searches}
+use Rattle.olr_paths.specs.Origins.{AreFar}
 use Rattle.olr_paths.proofs.OriginLemmas.{begins_there}
 
 module _ (N : Map) (slot : ℕ → ℕ) (t : ChangeSet) (s : Searches) (is : List Item) where

@@ -1,9 +1,5 @@
 -- How far the numbers of nodes let a search go.
-use Rattle.std.proofs.Common.{ℕ, ◌≤◌, min, IsTrue, refl, arith}
-use Rattle.olr_spec.specs.Map.{Map}
-use Rattle.olr_spec.specs.Extension.{limit}
-use Rattle.olr_search.specs.Bounds.{AreBounds, IsUnder}
-use Rattle.olr_search.specs.declared.distances.Direction.TheVariants.{Against}
+use Rattle.olr_paths.proofs.Common.{ℕ, ◌≤◌, min, IsTrue, refl, arith, Map, limit, AreBounds, IsUnder, Against}
 use Rattle.olr_near.specs.Bounds.{IsRight, IsSource, bound_of}
 use Rattle.olr_near.specs.declared.distance_bounds.DistanceBounds.{DistanceBounds}
 

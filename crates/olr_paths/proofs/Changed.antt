@@ -1,24 +1,14 @@
 -- A list under changes that remove no path: position by position, and with new results stored.
 --     changed_by cs i      one path under the changes.
 --     Lies us vs      vs is us, with some paths replaced by paths that are not encoded yet
-use Rattle.std.proofs.Common.{inl, inr, ◌≡◌, ◌⊎◌, ℕ, zero, suc, ◌+◌, Bool, true, false, cond, List, [], ◌∷◌, ◌++◌, map}
-use Rattle.std.proofs.Common.{take, length, slice_get, Option, Some, None, is_some, refl, sym, ap}
-use Rattle.std.proofs.Common.{◌∙◌, subst, arith}
-use Rattle.std.specs.Prelude.{⊤, option_map}
-use Rattle.olr_spec.specs.Extension.{Path}
-use Rattle.olr_commands.specs.State.{same_name, path_named, NamesDiffer}
-use Rattle.olr_commands.specs.Reply.{Entry}
-use Rattle.olr_paths.specs.Items.{Made, Item, all_named}
-use Rattle.olr_paths.specs.Changes.{Reported}
-use Rattle.olr_paths.specs.Laying.{Changes, TakesNone, change_at, drops, under_change, under_changes}
-use Rattle.olr_paths.specs.Renewing.{Put, put, all_put}
-use Rattle.std.proofs.lemmas.List.{map-append}
-use Rattle.olr_spec.proofs.ListLemmas.{take_more_at}
-use Rattle.std.specs.Prelude.{String, string_bytes}
+use Rattle.olr_paths.proofs.Common.{inl, inr, ◌≡◌, ◌⊎◌, ℕ, zero, suc, ◌+◌, Bool, true, false, cond, List, [], ◌∷◌, ◌++◌}
+use Rattle.olr_paths.proofs.Common.{map, take, length, slice_get, Option, Some, None, is_some, refl, sym, ap, ◌∙◌}
+use Rattle.olr_paths.proofs.Common.{subst, arith, option_map, Path, same_name, path_named, NamesDiffer, Entry, Made}
+use Rattle.olr_paths.proofs.Common.{Item, all_named, Reported, Changes, TakesNone, change_at, drops, under_change}
+use Rattle.olr_paths.proofs.Common.{under_changes, Put, put, all_put, map-append, take_more_at, string_bytes, Rc}
+use Rattle.olr_paths.proofs.Common.{same_is, changes_in, path_in}
+use Rattle.std.specs.Prelude.{⊤, String}
 use Rattle.std.specs.declared.alloc.Global.{Global}
-use Rattle.std.specs.declared.rc.Rc.{Rc}
-use Rattle.olr_commands.proofs.NameLemmas.{same_is}
-use Rattle.olr_paths.specs.Laying.{changes_in, path_in}
 use Rattle.olr_paths.proofs.NamedEntries.{Entries, First, item_of, items_of, same_flip}
 use Rattle.olr_paths.proofs.Overlaying.{Entered, has_name}
 

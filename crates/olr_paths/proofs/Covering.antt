@@ -1,57 +1,30 @@
 -- The positions that are found have all affected paths, and the paths between them are unchanged.
-use Rattle.std.proofs.Common.{inl, inr, ◌≡◌, ◌≢◌, ℕ, zero, suc, ◌+◌, ◌-◌, ◌<◌, ◌≤◌, ◌==◌, ◌||◌, ◌⊎◌, false}
-use Rattle.std.proofs.Common.{All, List, [], ◌∷◌, ◌++◌, take, length, get_or, slice_get, Option, Some, None, IsTrue}
-use Rattle.std.proofs.Common.{refl, sym, ap, ◌∙◌, subst, append_assoc, arith, min}
-use Rattle.std.proofs.lemmas.Bool.{cases_Bool, or_left}
-use Rattle.std.proofs.lemmas.Bool.Decides.{nat_tests}
+use Rattle.olr_paths.proofs.Common.{inl, inr, ◌≡◌, ◌≢◌, ℕ, zero, suc, ◌+◌, ◌-◌, ◌<◌, ◌≤◌, ◌==◌, ◌||◌, ◌⊎◌, false, All}
+use Rattle.olr_paths.proofs.Common.{List, [], ◌∷◌, ◌++◌, take, length, get_or, slice_get, Option, Some, None, IsTrue}
+use Rattle.olr_paths.proofs.Common.{refl, sym, ap, ◌∙◌, subst, append_assoc, arith, min, cases_Bool, nat_tests}
+use Rattle.olr_paths.proofs.Common.{All-contains, slice_get_within, Map, IsMap, has, ChangedLine, holds, Index, Item}
+use Rattle.olr_paths.proofs.Common.{Follows, Left, Includes, Finds, Covers, FindsChanged, Renewal, Counted, option_map}
+use Rattle.olr_paths.proofs.Common.{Rc, has_node, dm_of, CoverageQuery, limit, AreLengths, label_at, Against, made_of}
+use Rattle.olr_paths.proofs.Common.{items, QueryTouched, nodes_of, lines_of, sources, AreAsked, LackQueries, BeginsIn}
+use Rattle.olr_paths.proofs.Common.{Begins, ChangeSet, Searches, Finder, Published, NamedPath, PathList, Path, Changes}
+use Rattle.olr_paths.proofs.Common.{TakesNone, change_at, under_change, under_changes, NamesDiffer, same_name}
+use Rattle.olr_paths.proofs.Common.{all_named}
+use Rattle.std.proofs.lemmas.Bool.{or_left}
 use Rattle.std.proofs.Math.Bool.{or-false}
-use Rattle.std.proofs.lemmas.List.Elements.{All-contains}
-use Rattle.std.proofs.lemmas.Option.{slice_get_within}
-use Rattle.olr_spec.specs.Map.{Map, IsMap, has}
 use Rattle.olr_spec.proofs.ListLemmas.{at_index}
-use Rattle.olr_spec.specs.Detours.{ChangedLine}
-use Rattle.olr_index.specs.PathIds.{holds}
-use Rattle.olr_index.specs.declared.Index.{Index}
-use Rattle.olr_paths.specs.Items.{Item}
-use Rattle.olr_paths.specs.Changes.{Follows}
-use Rattle.olr_paths.specs.Renewing.{ToStay, Left}
-use Rattle.olr_paths.specs.Candidates.{Includes, Finds, Covers, CoversAsked, FindsChanged}
-use Rattle.olr_paths.specs.declared.renewal.Renewal.{Renewal}
-use Rattle.olr_paths.specs.declared.renewal.Counted.{Counted}
-use Rattle.std.specs.Prelude.{String, option_map}
+use Rattle.olr_paths.specs.Renewing.{ToStay}
+use Rattle.olr_paths.specs.Candidates.{CoversAsked, AreFound}
+use Rattle.std.specs.Prelude.{String}
 use Rattle.std.specs.List.Sorted.{IsPermutation}
 use Rattle.std.specs.declared.alloc.Global.{Global}
-use Rattle.std.specs.declared.rc.Rc.{Rc}
 use Rattle.std.proofs.lemmas.List.Sorted.{list_any-IsPermutation}
-use Rattle.olr_spec.specs.Map.{has_node}
-use Rattle.olr_spec.specs.Routes.{dm_of}
-use Rattle.olr_spec.specs.Queries.{CoverageQuery}
-use Rattle.olr_spec.specs.Extension.{limit}
-use Rattle.olr_search.specs.Bounds.{AreLengths, label_at}
-use Rattle.olr_search.specs.declared.distances.Direction.TheVariants.{Against}
-use Rattle.olr_paths.specs.Items.{made_of, items}
-use Rattle.olr_paths.specs.Changes.{QueryTouched}
-use Rattle.olr_paths.specs.Touching.{nodes_of, lines_of}
-use Rattle.olr_paths.specs.Searching.{sources, IsAsked, AreAsked, LackQueries}
-use Rattle.olr_paths.specs.Origins.{BeginsIn, Begins}
-use Rattle.olr_paths.specs.Candidates.{AreFound}
-use Rattle.olr_paths.specs.declared.change_set.ChangeSet.{ChangeSet}
-use Rattle.olr_paths.specs.declared.searches.Searches.{Searches}
-use Rattle.olr_paths.specs.declared.finder.Finder.{Finder}
-use Rattle.olr_paths.specs.declared.published.Published.{Published}
-use Rattle.olr_paths.specs.declared.path_list.NamedPath.{NamedPath}
-use Rattle.olr_paths.specs.declared.path_list.PathList.{PathList}
-use Rattle.olr_paths.proofs.NamedEntries.{Entries, First, item_of, items_of}
+use Rattle.olr_paths.specs.Searching.{IsAsked}
+use Rattle.olr_paths.proofs.NamedEntries.{Entries, First, item_of, items_of, same_flip}
 use Rattle.olr_paths.proofs.Sets.{in_from}
 use Rattle.olr_paths.proofs.Distances.{near_absent, leads_from}
 use Rattle.olr_paths.proofs.NotedPositions.{back}
 use Rattle.olr_paths.proofs.RenewedPrefix.{SoFar, so_far_step}
-use Rattle.olr_spec.specs.Extension.{Path}
-use Rattle.olr_paths.specs.Laying.{Changes, TakesNone, change_at, under_change, under_changes}
 use Rattle.olr_paths.proofs.Changed.{changed, overlaid_from, change_push, first_only}
-use Rattle.olr_commands.specs.State.{NamesDiffer, same_name}
-use Rattle.olr_paths.specs.Items.{all_named}
-use Rattle.olr_paths.proofs.NamedEntries.{same_flip}
 
 -- ---- lists of numbers
 

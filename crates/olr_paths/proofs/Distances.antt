@@ -1,17 +1,14 @@
 -- What distances say about touched nodes that are near, and about detours.
-use Rattle.std.proofs.Common.{inl, inr, ◌≡◌, ℕ, zero, suc, ◌+◌, ◌<◌, ◌≤◌, true, List, [], ◌∷◌, map, IsTrue, ◌↔◌, Option}
-use Rattle.std.proofs.Common.{Some, None, IfSome, refl, sym, ap, subst, arith, ⊎_elim}
-use Rattle.std.proofs.lemmas.Bool.{cases_lt}
-use Rattle.olr_spec.specs.Map.{Map, IsMap, has_node, end, has}
-use Rattle.olr_spec.specs.Routes.{IsRoute, dm_of}
-use Rattle.olr_spec.specs.Detours.{ChangedLine, Detour, Near}
+use Rattle.olr_paths.proofs.Common.{inl, inr, ◌≡◌, ℕ, zero, suc, ◌+◌, ◌<◌, ◌≤◌, true, List, [], ◌∷◌, map, IsTrue, ◌↔◌}
+use Rattle.olr_paths.proofs.Common.{Option, Some, None, IfSome, refl, sym, ap, subst, arith, cases_lt, Map, IsMap}
+use Rattle.olr_paths.proofs.Common.{has_node, end, has, IsRoute, dm_of, ChangedLine, Near, Leads, Along, Against}
+use Rattle.olr_paths.proofs.Common.{changed_of, starts, ends, AreFarther, ChangeSet}
+use Rattle.std.proofs.Common.{⊎_elim}
+use Rattle.olr_spec.specs.Detours.{Detour}
 use Rattle.olr_spec.proofs.RouteLemmas.{route_start}
-use Rattle.olr_search.specs.Distances.{Leads, IsDistance}
+use Rattle.olr_search.specs.Distances.{IsDistance}
 use Rattle.olr_search.specs.declared.distances.Direction.{Direction}
-use Rattle.olr_search.specs.declared.distances.Direction.TheVariants.{Along, Against}
-use Rattle.olr_paths.specs.Touching.{change_of, changed_of}
-use Rattle.olr_paths.specs.Searching.{starts, ends, AreFarther}
-use Rattle.olr_paths.specs.declared.change_set.ChangeSet.{ChangeSet}
+use Rattle.olr_paths.specs.Touching.{change_of}
 use Rattle.olr_paths.proofs.Sets.{has_from, in_from, Contains-map, Contains-unmap}
 
 -- ---- a shortest distance

@@ -1,13 +1,9 @@
 -- The entries of a list whose paths were encoded.
-use Rattle.std.proofs.Common.{Bor, true, is_some, inr, ◌≡◌, ◌≢◌, ℕ, zero, suc, ◌+◌, drop, List, [], ◌∷◌, ◌++◌}
-use Rattle.std.proofs.Common.{slice_get, Option, Some, None, refl, sym, ap, ◌∙◌, append_assoc}
+use Rattle.olr_paths.proofs.Common.{Bor, true, is_some, inr, ◌≡◌, ◌≢◌, ℕ, zero, suc, ◌+◌, drop, List, [], ◌∷◌, ◌++◌}
+use Rattle.olr_paths.proofs.Common.{slice_get, Option, Some, None, refl, sym, ap, ◌∙◌, append_assoc, option_map, Entry}
+use Rattle.olr_paths.proofs.Common.{entry, Answer, Made, Item, made_of, made_in, answer_in, AreEncoded, Reported}
 use Rattle.olr_paths.proofs.Alls.{drop_at}
-use Rattle.std.specs.Prelude.{option_map}
-use Rattle.olr_commands.specs.Reply.{Entry, entry}
-use Rattle.olr_spec.specs.Encoding.{Answer}
-use Rattle.olr_paths.specs.Items.{Made, Item, made_of, made_in, answer_in}
 use Rattle.olr_paths.specs.declared.published.Published.{Published as Encoded}
-use Rattle.olr_paths.specs.Changes.{AreEncoded, Reported}
 
 pub encoded_at : (is : List Item) (k : ℕ) (i : Item) → AreEncoded is → slice_get is k ≡ Some i → i.made ≢ None
 encoded_at [] k i a at = cc

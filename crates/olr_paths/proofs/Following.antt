@@ -1,12 +1,9 @@
 -- A list follows itself, since no name occurs twice.
-use Rattle.std.proofs.Common.{inl, inr, ◌≡◌, Bool, false, List, [], ◌∷◌, Option, is_some, refl, ap, ◌∙◌}
-use Rattle.std.specs.Prelude.{option_map, if◌then◌else◌}
-use lib.Pointwise.{bytes_decides}
-use Rattle.olr_spec.specs.Encoding.{Answer}
-use Rattle.olr_commands.specs.State.{path_named, NamesDiffer}
-use Rattle.olr_commands.proofs.NameLemmas.{not_named, flipped}
-use Rattle.olr_paths.specs.Items.{Made, Item, named_of, all_named, made_in, answer_in}
-use Rattle.olr_paths.specs.Changes.{Follows}
+use Rattle.olr_paths.proofs.Common.{inl, inr, ◌≡◌, Bool, false, List, [], ◌∷◌, Option, is_some, refl, ap, ◌∙◌}
+use Rattle.olr_paths.proofs.Common.{option_map, bytes_decides, Answer, path_named, NamesDiffer, flipped, Made, Item}
+use Rattle.olr_paths.proofs.Common.{named_of, all_named, made_in, answer_in, Follows}
+use Rattle.std.specs.Prelude.{if◌then◌else◌}
+use Rattle.olr_commands.proofs.NameLemmas.{not_named}
 
 abbrev pub answer_made : Option Made → Option Answer
 answer_made o = option_map (λ m. m.answer) o

@@ -1,16 +1,12 @@
 -- The coverage queries that an encoding is given, which are not searched again: they are right on the map.
-use Rattle.std.proofs.Common.{◌≡◌, ℕ, zero, suc, List, [], ◌∷◌, Option, None, Some}
-use Rattle.std.proofs.Common.{MatchOption, IsTrue, IfSome, slice_get, refl, sym, subst}
-use Rattle.std.specs.List.{AllByRecursion}
-use Rattle.olr_spec.specs.Map.{Map, IsMap}
-use Rattle.olr_spec.specs.Detours.{ChangedLine}
-use Rattle.olr_spec.specs.Extension.{Path, is_path}
-use Rattle.olr_spec.specs.Queries.{CoverageQuery, KnownQuery, AreKnown, QueriesOf, SearchedOf}
+use Rattle.olr_paths.proofs.Common.{◌≡◌, ℕ, zero, suc, List, [], ◌∷◌, Option, None, Some, MatchOption, IsTrue, IfSome}
+use Rattle.olr_paths.proofs.Common.{slice_get, refl, sym, subst, AllByRecursion, Map, IsMap, ChangedLine, Path, is_path}
+use Rattle.olr_paths.proofs.Common.{CoverageQuery, KnownQuery, AreKnown, QueriesOf, Picks, IsAgainClear, Made, Item}
+use Rattle.olr_paths.proofs.Common.{IsEncodingOf, IsBefore, SearchesItem, Gives}
+use Rattle.olr_spec.specs.Queries.{SearchedOf}
 use Rattle.olr_spec.proofs.KnownLemmas.{all_searched, known_holds, none_known}
-use Rattle.olr_commands.specs.Counts.{SearchedFor, SearchedAgain, Picks, IsAgainClear}
-use Rattle.olr_paths.specs.Items.{Made, Item, IsEncodingOf, AreEncodingsIfAny}
-use Rattle.olr_paths.specs.Changes.{IsBefore, SearchesItem}
-use Rattle.olr_paths.specs.Renewing.{Gives}
+use Rattle.olr_commands.specs.Counts.{SearchedFor, SearchedAgain}
+use Rattle.olr_paths.specs.Items.{AreEncodingsIfAny}
 use Rattle.olr_paths.proofs.Picking.{picked_known}
 
 -- ---- where none are given

@@ -1,19 +1,18 @@
 -- Results that are right on a map are right on the next one, if no change can affect them.
-use Rattle.std.proofs.Common.{inl, inr, ◌≡◌, ℕ, ◌≤◌, List, All, Contains, Some, IsTrue, true, false, subst, arith}
-use Rattle.std.proofs.Common.{get_or, min, slice_get}
-use Rattle.std.proofs.lemmas.Bool.{cases_Bool, both_ways}
+use Rattle.olr_paths.proofs.Common.{inl, inr, ◌≡◌, ℕ, ◌≤◌, List, All, Contains, Some, IsTrue, true, false, subst, arith}
+use Rattle.olr_paths.proofs.Common.{get_or, min, slice_get, cases_Bool, Map, IsMap, has, SameRound, Path, is_path}
+use Rattle.olr_paths.proofs.Common.{limit, ChangedLine, Near, CoverageQuery, TraversedOf, Made, Item, IsEncodingOf}
+use Rattle.olr_paths.proofs.Common.{IsAffected, TraversedTouched, LineTouched, QueryTouched, IsKnownClear, IsBefore}
+use Rattle.olr_paths.proofs.Common.{IsSpared, IsEncodedAgain}
+use Rattle.std.proofs.lemmas.Bool.{both_ways}
 use Rattle.std.proofs.lemmas.List.Elements.{Contains-get_or}
-use Rattle.olr_spec.specs.Map.{Map, IsMap, has, SameLine, SameRound}
-use Rattle.olr_spec.specs.Extension.{Path, is_path, limit}
-use Rattle.olr_spec.specs.Detours.{ChangedLine, Near}
-use Rattle.olr_spec.specs.Queries.{CoverageQuery, IsClear, TraversedOf}
+use Rattle.olr_spec.specs.Map.{SameLine}
+use Rattle.olr_spec.specs.Queries.{IsClear}
 use Rattle.olr_spec.proofs.ListLemmas.{Each}
 use Rattle.olr_spec.proofs.StayLemmas.{known_kept, untouched_retained}
 use Rattle.olr_spec.proofs.TestedLemmas.{foot_affected, one_queries}
 use Rattle.olr_commands.specs.Counts.{IsUnchanged}
-use Rattle.olr_paths.specs.Items.{Made, Item, IsEncodingOf}
-use Rattle.olr_paths.specs.Changes.{IsAffected, By_name, By_node, By_line, TraversedTouched, LineTouched, Touches}
-use Rattle.olr_paths.specs.Changes.{QueryTouched, IsKnownClear, IsBefore, IsSpared, IsEncodedAgain}
+use Rattle.olr_paths.specs.Changes.{By_name, By_node, By_line, Touches}
 use Rattle.olr_paths.specs.Renewing.{Stays, ToEncode}
 use Rattle.olr_paths.proofs.QueryLengths.{within_limit}
 use Rattle.olr_paths.proofs.QueryEnds.{on_map}

@@ -1,3 +1,4 @@
+pub mod Common
 pub mod Raising
 pub mod Spellings
 pub mod Sets

@@ -1,26 +1,16 @@
 -- A map's entries as a list of named paths: lookups, edits, and that no name occurs twice.
-use Rattle.std.proofs.Common.{inl, inr, ◌≡◌, ℕ, zero, suc, ◌<◌, length, get_or, subst, arith, Bool, true, false, not, List, [], ◌∷◌}
-use Rattle.std.proofs.Common.{map, slice_get, Option, Some, None, is_some, refl, sym, ap}
-use Rattle.std.proofs.Common.{◌∙◌}
-use Rattle.std.proofs.lemmas.Option.{slice_get-map}
-use Rattle.std.specs.Prelude.{String, option_map, string_bytes}
+use Rattle.olr_paths.proofs.Common.{inl, inr, ◌≡◌, ℕ, zero, suc, ◌<◌, length, get_or, subst, arith, Bool, true, false}
+use Rattle.olr_paths.proofs.Common.{not, List, [], ◌∷◌, map, slice_get, Option, Some, None, is_some, refl, sym, ap, ◌∙◌}
+use Rattle.olr_paths.proofs.Common.{slice_get-map, option_map, string_bytes, filter, AllByRecursion, lookup}
+use Rattle.olr_paths.proofs.Common.{set_value_at, remove, bytes_eq, string_eq, cases_Bool, Path, same_name, path_named}
+use Rattle.olr_paths.proofs.Common.{NamesDiffer, same_is, flipped, Made, Item, made_of, named_of, all_named, made_in}
+use Rattle.olr_paths.proofs.Common.{set_item, NamedPath, bytes_decides}
+use Rattle.std.specs.Prelude.{String}
 use Rattle.std.specs.Option.{option_and_then}
-use Rattle.std.specs.List.{filter, IsDistinct, AllByRecursion}
-use Rattle.std.specs.Map.{keys_of, lookup}
-use Rattle.indexmap.specs.Layout.{set_value_at}
-use Rattle.std.specs.List.{remove, position}
+use Rattle.std.specs.List.{IsDistinct, position}
+use Rattle.std.specs.Map.{keys_of}
 use Rattle.std.proofs.lemmas.List.Quantifiers.{position-Some}
-use Rattle.std.specs.Str.{bytes_eq}
-use Rattle.std.specs.String.{string_eq}
 use Rattle.std.specs.declared.alloc.Global.{Global}
-use Rattle.std.proofs.lemmas.Bool.{cases_Bool}
-use Rattle.olr_spec.specs.Extension.{Path}
-use Rattle.olr_commands.specs.State.{same_name, path_named, NamesDiffer}
-use Rattle.olr_commands.proofs.NameLemmas.{same_is, flipped}
-use Rattle.olr_paths.specs.Items.{Made, Item, made_of, named_of, all_named, made_in}
-use Rattle.olr_paths.specs.Changes.{set_item}
-use Rattle.olr_paths.specs.declared.path_list.NamedPath.{NamedPath}
-use lib.Pointwise.{bytes_decides}
 
 abbrev pub Entries : Type 0
 Entries = List (String Global × NamedPath)

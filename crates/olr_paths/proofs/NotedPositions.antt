@@ -1,23 +1,13 @@
 -- Results to be stored at positions, with index entries for their path ids.
-use Rattle.std.proofs.Common.{inl, inr, ◌≡◌, ℕ, zero, suc, ◌+◌, ◌<◌, List, [], ◌∷◌, take, length, get_or}
-use Rattle.std.proofs.Common.{slice_get, Option, Some, None, IsTrue, refl, sym, ap, ◌∙◌}
-use Rattle.std.specs.Prelude.{String, option_map}
+use Rattle.olr_paths.proofs.Common.{inl, inr, ◌≡◌, ℕ, zero, suc, ◌+◌, ◌<◌, List, [], ◌∷◌, take, length, get_or}
+use Rattle.olr_paths.proofs.Common.{slice_get, Option, Some, None, IsTrue, refl, sym, ap, ◌∙◌, option_map, Rc}
+use Rattle.olr_paths.proofs.Common.{All-contains, has, CoverageQuery, holds, LackQueries, BeginsIn, Begins, PathList}
+use Rattle.olr_paths.proofs.Common.{NamedNoted, AreNotedAt, Grows, Finder, Published, NamedPath, Entry, Made, Item}
+use Rattle.olr_paths.proofs.Common.{made_of, items, Reported}
+use Rattle.std.specs.Prelude.{String}
 use Rattle.std.specs.declared.alloc.Global.{Global}
-use Rattle.std.specs.declared.rc.Rc.{Rc}
-use Rattle.std.proofs.lemmas.List.Elements.{All-contains}
-use Rattle.olr_spec.specs.Map.{has}
-use Rattle.olr_spec.specs.Queries.{CoverageQuery}
-use Rattle.olr_index.specs.PathIds.{holds, path_ids_of}
-use Rattle.olr_paths.specs.Searching.{LackQueries}
-use Rattle.olr_paths.specs.Origins.{BeginsIn, Begins}
-use Rattle.olr_paths.specs.declared.path_list.PathList.{PathList}
-use Rattle.olr_paths.specs.Finding.{NamedNoted, AreNotedAt, ArePublished, Grows}
-use Rattle.olr_paths.specs.declared.finder.Finder.{Finder}
-use Rattle.olr_paths.specs.declared.published.Published.{Published}
-use Rattle.olr_paths.specs.declared.path_list.NamedPath.{NamedPath}
-use Rattle.olr_commands.specs.Reply.{Entry}
-use Rattle.olr_paths.specs.Items.{Made, Item, made_of, items}
-use Rattle.olr_paths.specs.Changes.{Reported}
+use Rattle.olr_index.specs.PathIds.{path_ids_of}
+use Rattle.olr_paths.specs.Finding.{ArePublished}
 use Rattle.olr_paths.proofs.NamedEntries.{Entries, item_of, items_of, item_at, made_of_named}
 use Rattle.olr_paths.proofs.PathIdLemmas.{named_grown}
 use Rattle.olr_paths.proofs.Alls.{all_more}

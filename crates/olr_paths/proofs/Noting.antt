@@ -1,9 +1,6 @@
 -- Index entries that are added and removed one by one.
-use Rattle.std.proofs.Common.{◌≡◌, ◌≢◌, ◌==◌, ℕ, ◌+◌, ◌<◌, List, not, ◌||◌, ◌&&◌, All, Contains}
-use Rattle.std.proofs.Common.{take, length, get_or, IsTrue, subst, arith}
-use Rattle.std.proofs.lemmas.Bool.Decides.{nat_tests}
-use Rattle.olr_index.specs.PathIds.{holds}
-use Rattle.olr_index.specs.declared.Index.{Index}
+use Rattle.olr_paths.proofs.Common.{◌≡◌, ◌≢◌, ◌==◌, ℕ, ◌+◌, ◌<◌, List, not, ◌||◌, ◌&&◌, All, Contains, take, length}
+use Rattle.olr_paths.proofs.Common.{get_or, IsTrue, subst, arith, nat_tests, holds, Index}
 use Rattle.olr_paths.specs.Finding.{KeepsAll, KeepsBut}
 use Rattle.olr_paths.proofs.Alls.{all_more}
 

@@ -1,16 +1,8 @@
 -- The coverage queries of a list in which an item was replaced, or a path was added, set or dropped.
-use Rattle.std.proofs.Common.{inl, inr, ◌≡◌, ℕ, zero, suc, ◌+◌, ◌⊎◌, Bool, List, []}
-use Rattle.std.proofs.Common.{◌∷◌, ◌++◌, map, take, slice_get, Option, Some, subst, arith}
-use Rattle.std.specs.List.{filter}
-use Rattle.std.specs.Prelude.{option_map}
-use Rattle.olr_spec.specs.Extension.{Path}
-use Rattle.olr_spec.specs.Queries.{CoverageQuery}
-use Rattle.olr_paths.specs.Items.{Made, Item, made_of}
-use Rattle.olr_paths.specs.Changes.{set_item}
-use Rattle.olr_paths.specs.Origins.{BeginsIn, Begins, BeginsPut}
-use Rattle.olr_paths.specs.Renewing.{Put, put, all_put, puts_of}
-use Rattle.olr_paths.specs.declared.path_list.NamedPath.{NamedPath}
-use Rattle.olr_spec.proofs.ListLemmas.{take_more_at}
+use Rattle.olr_paths.proofs.Common.{inl, inr, ◌≡◌, ℕ, zero, suc, ◌+◌, ◌⊎◌, Bool, List, [], ◌∷◌, ◌++◌, map, take}
+use Rattle.olr_paths.proofs.Common.{slice_get, Option, Some, subst, arith, filter, option_map, Path, CoverageQuery}
+use Rattle.olr_paths.proofs.Common.{Made, Item, made_of, set_item, BeginsIn, Begins, BeginsPut, Put, put, all_put}
+use Rattle.olr_paths.proofs.Common.{puts_of, NamedPath, take_more_at}
 
 -- of one of the list's items
 pub begins_there : (is : List Item) (k : ℕ) (i : Item) (v : CoverageQuery) → slice_get is k ≡ Some i →

@@ -1,27 +1,17 @@
 -- Lists of named paths under changes: which names they have, and the effect of one more change.
-use Rattle.std.proofs.Common.{◌≡◌, ℕ, ◌+◌, Bool, true, false, not, ◌&&◌, cond, List, []}
-use Rattle.std.proofs.Common.{◌∷◌, ◌++◌, map, drop, slice_get, Option, Some, None, is_some, refl, sym, ap, ◌∙◌}
-use Rattle.std.proofs.Common.{subst, append_assoc, arith, Result, Ok, Err}
-use Rattle.std.specs.Prelude.{String, option_map, string_bytes, OnOk}
-use Rattle.std.specs.List.{filter}
-use Rattle.std.specs.Map.{lookup}
-use Rattle.std.specs.String.{string_eq}
+use Rattle.olr_paths.proofs.Common.{◌≡◌, ℕ, ◌+◌, Bool, true, false, not, ◌&&◌, cond, List, [], ◌∷◌, ◌++◌, map, drop}
+use Rattle.olr_paths.proofs.Common.{slice_get, Option, Some, None, is_some, refl, sym, ap, ◌∙◌, subst, append_assoc}
+use Rattle.olr_paths.proofs.Common.{arith, Result, Ok, Err, option_map, string_bytes, filter, lookup, string_eq, Rc}
+use Rattle.olr_paths.proofs.Common.{map-append, insert_entry, Path, same_name, path_named, NamesDiffer, same_is, Item}
+use Rattle.olr_paths.proofs.Common.{all_named, set_item, NamedPath, Changes, change_at, drops, under_change}
+use Rattle.olr_paths.proofs.Common.{under_changes, path_in, changes_in, bytes_decides}
+use Rattle.std.specs.Prelude.{String, OnOk}
 use Rattle.std.specs.declared.alloc.Global.{Global}
-use Rattle.std.specs.declared.rc.Rc.{Rc}
-use Rattle.std.proofs.lemmas.List.{map-append, append-nil}
+use Rattle.std.proofs.lemmas.List.{append-nil}
 use Rattle.std.proofs.lemmas.List.Elements.{filter-append}
-use Rattle.indexmap.specs.IndexMap.{insert_entry}
-use Rattle.olr_spec.specs.Extension.{Path}
-use Rattle.olr_commands.specs.State.{same_name, path_named, NamesDiffer}
-use Rattle.olr_commands.proofs.NameLemmas.{same_is}
-use Rattle.olr_paths.specs.Items.{Item, all_named}
-use Rattle.olr_paths.specs.Changes.{set_item}
 use Rattle.olr_paths.specs.Renewing.{item_of}
-use Rattle.olr_paths.specs.declared.path_list.NamedPath.{NamedPath}
-use Rattle.olr_paths.specs.Laying.{Changes, change_at, drops, under_change, under_changes, path_in, changes_in}
 use Rattle.olr_paths.proofs.Alls.{drop_at}
 use Rattle.olr_paths.proofs.NamedEntries.{asks, same_flip, absent, keeps_all, sets_none}
-use lib.Pointwise.{bytes_decides}
 
 abbrev pub Entered : Type 0
 Entered = List (String Global × Option (Rc Path Global))

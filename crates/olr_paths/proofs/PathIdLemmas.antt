@@ -1,30 +1,20 @@
 -- A list of entries with the ids of its paths, as paths are added, removed and replaced.
 --     Each P es ms      P holds of the id and the path at each position
-use Rattle.std.proofs.Common.{inl, inr, ◌≡◌, ◌≢◌, ℕ, zero, suc, ◌<◌, Bool, false, not, ◌&&◌, List}
-use Rattle.std.proofs.Common.{[], ◌∷◌, ◌++◌, length, get_or, slice_get, Some, Result, Ok, Err, ◌-◌, ◌+◌}
-use Rattle.std.proofs.Common.{refl, sym, ap, ◌∙◌, subst, arith}
-use Rattle.std.specs.Prelude.{String, string_bytes}
-use Rattle.std.specs.List.{remove}
-use Rattle.std.specs.List.Sorted.{IsStrictlyIncreasing, IsBinarySearchResult}
+use Rattle.olr_paths.proofs.Common.{inl, inr, ◌≡◌, ◌≢◌, ℕ, zero, suc, ◌<◌, Bool, false, not, ◌&&◌, List, [], ◌∷◌, ◌++◌}
+use Rattle.olr_paths.proofs.Common.{length, get_or, slice_get, Some, Result, Ok, Err, ◌-◌, ◌+◌, refl, sym, ap, ◌∙◌}
+use Rattle.olr_paths.proofs.Common.{subst, arith, string_bytes, remove, IsStrictlyIncreasing, result_ok, string_eq}
+use Rattle.olr_paths.proofs.Common.{set_value_at, insert_entry, cases_lt, eq-eqb, length-remove}
+use Rattle.olr_paths.proofs.Common.{AllPairs-from_increasing, get_or_from_slice_get, slice_get_within, has, place_of}
+use Rattle.olr_paths.proofs.Common.{NamedNoted, Grows, Finder, NamedPath, PathList, flipped}
+use Rattle.std.specs.Prelude.{String}
+use Rattle.std.specs.List.Sorted.{IsBinarySearchResult}
 use Rattle.std.specs.Ordering.{nat_cmp}
-use Rattle.std.specs.Result.{result_ok}
-use Rattle.std.specs.String.{string_eq}
-use Rattle.indexmap.specs.Layout.{set_value_at}
-use Rattle.indexmap.specs.IndexMap.{insert_entry}
 use Rattle.std.specs.declared.alloc.Global.{Global}
-use Rattle.std.proofs.lemmas.Bool.{cases_lt, cases_order, eq-eqb}
+use Rattle.std.proofs.lemmas.Bool.{cases_order}
 use Rattle.std.proofs.lemmas.List.{get_or_read}
-use Rattle.std.proofs.lemmas.List.Edits.{length-remove}
-use Rattle.std.proofs.lemmas.List.Kept.{AllPairs-from_increasing}
-use Rattle.std.proofs.lemmas.Option.{get_or_from_slice_get, slice_get_within}
-use Rattle.olr_spec.specs.Map.{has}
-use Rattle.olr_spec.proofs.AscendingLists.{ascends, place_of, has_at, place_not, has-remove}
-use Rattle.olr_paths.specs.Finding.{NamedNoted, AreNoted, Grows, Spares}
-use Rattle.olr_paths.specs.declared.finder.Finder.{Finder}
-use Rattle.olr_paths.specs.declared.path_list.NamedPath.{NamedPath}
-use Rattle.olr_paths.specs.declared.path_list.PathList.{PathList}
+use Rattle.olr_spec.proofs.AscendingLists.{ascends, has_at, place_not, has-remove}
+use Rattle.olr_paths.specs.Finding.{AreNoted, Spares}
 use Rattle.olr_paths.proofs.NamedEntries.{Entries, item_of, items_of, absent, not_here}
-use Rattle.olr_commands.proofs.NameLemmas.{flipped}
 
 -- ---- the index entries of a path, as others are added and removed
 

@@ -1,16 +1,14 @@
 -- The coverage queries along a path's own lines: each is one of the path's coverage queries, and those of them that are
 -- clear are right on the next map.
-use Rattle.std.proofs.Common.{inl, inr, ℕ, suc, ◌+◌, ◌<◌, List, [], ◌∷◌, map, All}
-use Rattle.std.proofs.Common.{refl, sym, subst, arith}
+use Rattle.olr_paths.proofs.Common.{inl, inr, ℕ, suc, ◌+◌, ◌<◌, List, [], ◌∷◌, map, All, refl, sym, subst, arith}
+use Rattle.olr_paths.proofs.Common.{AllPairs-from_increasing, IsStrictlyIncreasing, Map, ChangedLine, KnownQuery}
+use Rattle.olr_paths.proofs.Common.{AreKnown, Picks, IsAgainClear}
 use Rattle.std.proofs.lemmas.List.Elements.{All-nil, All-cons, All-head, All-tail}
-use Rattle.std.proofs.lemmas.List.Kept.{AllPairs-cons, AllPairs-from_increasing}
+use Rattle.std.proofs.lemmas.List.Kept.{AllPairs-cons}
 use Rattle.std.specs.List.{AllPairs}
-use Rattle.std.specs.List.Sorted.{IsStrictlyIncreasing}
-use Rattle.olr_spec.specs.Map.{Map}
-use Rattle.olr_spec.specs.Detours.{ChangedLine, AccountsFor}
-use Rattle.olr_spec.specs.Queries.{KnownQuery, IsKnown, AreKnown}
+use Rattle.olr_spec.specs.Detours.{AccountsFor}
+use Rattle.olr_spec.specs.Queries.{IsKnown}
 use Rattle.olr_spec.proofs.KnownLemmas.{known_stays}
-use Rattle.olr_commands.specs.Counts.{Picks, IsAgainClear}
 
 -- ---- elements that are picked from a list
 

@@ -1,14 +1,9 @@
 -- Storing results at their positions.
-use Rattle.std.proofs.Common.{◌≡◌, ℕ, zero, suc, List, [], ◌∷◌, ◌++◌, length, slice_get, Option, Some, None, refl, sym}
-use Rattle.std.proofs.Common.{ap, ◌∙◌, ◌≤◌, take, arith}
-use Rattle.std.proofs.lemmas.List.{map-append}
+use Rattle.olr_paths.proofs.Common.{◌≡◌, ℕ, zero, suc, List, [], ◌∷◌, ◌++◌, length, slice_get, Option, Some, None, refl}
+use Rattle.olr_paths.proofs.Common.{sym, ap, ◌∙◌, ◌≤◌, take, arith, map-append, set_value_at, Path, Made, Item, Put}
+use Rattle.olr_paths.proofs.Common.{put, all_put, puts_of, NamedPath}
 use Rattle.std.specs.Option.{option_to_list}
 use Rattle.std.specs.Map.{values_of}
-use Rattle.indexmap.specs.Layout.{set_value_at}
-use Rattle.olr_spec.specs.Extension.{Path}
-use Rattle.olr_paths.specs.Items.{Made, Item}
-use Rattle.olr_paths.specs.Renewing.{Put, put, all_put, puts_of}
-use Rattle.olr_paths.specs.declared.path_list.NamedPath.{NamedPath}
 use Rattle.olr_paths.proofs.NamedEntries.{Entries, made_of_named, item_of, items_of}
 
 -- after the first ones

@@ -1,17 +1,16 @@
 -- The ends of a coverage query are traversed nodes: if none of these is touched, they are on the next map too.
-use Rattle.std.proofs.Common.{inl, inr, ◌≡◌, ◌+◌, ◌<◌, ℕ, true, false, List, [], ◌∷◌, length, Contains, Option, Some, None}
-use Rattle.std.proofs.Common.{MatchOption, IsTrue, refl, sym, ap, ◌∙◌, subst, is_some, arith}
+use Rattle.olr_paths.proofs.Common.{inl, inr, ◌≡◌, ◌+◌, ◌<◌, ℕ, true, false, List, [], ◌∷◌, length, Contains, Option}
+use Rattle.olr_paths.proofs.Common.{Some, None, MatchOption, IsTrue, refl, sym, ap, ◌∙◌, subst, is_some, arith}
+use Rattle.olr_paths.proofs.Common.{cases_Bool, Map, IsMap, has_node, end, has, SameRound, IsRoute, Path, is_path}
+use Rattle.olr_paths.proofs.Common.{extended_path, Refusal, path_fault, TraversedOf, CoverageQuery, QueriesOfExtended}
+use Rattle.olr_paths.proofs.Common.{QueriesOf, query_from}
 use Rattle.std.specs.List.{slice_index}
-use Rattle.std.proofs.lemmas.Bool.{cases_Bool}
-use Rattle.olr_spec.specs.Map.{Map, IsMap, has_node, has_line, start, end, has, SameRound}
+use Rattle.olr_spec.specs.Map.{has_line, start}
 use Rattle.olr_spec.specs.Coordinates.{Coord}
-use Rattle.olr_spec.specs.Routes.{IsRoute}
-use Rattle.olr_spec.specs.Extension.{Path, is_path, first, last, extended_path}
-use Rattle.olr_spec.specs.Encoding.{Refusal, path_fault}
-use Rattle.olr_spec.specs.Queries.{TraversedOfExtended, TraversedOf, CoverageQuery, QueriesOfExtended, QueriesOf}
+use Rattle.olr_spec.specs.Extension.{first, last}
+use Rattle.olr_spec.specs.Queries.{TraversedOfExtended}
 use Rattle.olr_spec.proofs.ListLemmas.{Each-cons, has_index}
 use Rattle.olr_spec.proofs.JoinedLemmas.{extended_joined}
-use Rattle.olr_spec.proofs.QueryLists.{query_from}
 use Rattle.olr_commands.specs.Counts.{IsOnMap}
 use Rattle.olr_paths.proofs.QueryLengths.{within_limit}
 

@@ -1,16 +1,12 @@
 -- A coverage query is at most as long as the greatest limit.
-use Rattle.std.proofs.Common.{inl, inr, ◌≡◌, ℕ, ◌+◌, ◌<◌, ◌≤◌, List, [], ◌∷◌, ◌++◌, ◌⊎◌, length, Contains, Option, Some}
-use Rattle.std.proofs.Common.{None, MatchOption, ap, ◌∙◌, arith}
-use Rattle.olr_spec.specs.Map.{Map}
-use Rattle.olr_spec.specs.Routes.{dm_of}
-use Rattle.olr_spec.specs.Extension.{Path, extended_path, limit}
-use Rattle.olr_spec.specs.Encoding.{Refusal, path_fault}
+use Rattle.olr_paths.proofs.Common.{inl, inr, ◌≡◌, ℕ, ◌+◌, ◌<◌, ◌≤◌, List, [], ◌∷◌, ◌++◌, ◌⊎◌, length, Contains, Option}
+use Rattle.olr_paths.proofs.Common.{Some, None, MatchOption, ap, ◌∙◌, arith, Map, dm_of, Path, extended_path, limit}
+use Rattle.olr_paths.proofs.Common.{Refusal, path_fault, CoverageQuery, QueriesOf, QueriesOfExtended, query_from}
 use Rattle.olr_spec.specs.Points.{stretch}
-use Rattle.olr_spec.specs.Queries.{CoverageQuery, IsQuery, Needed, query_to, QueriesOf, QueriesOfExtended}
+use Rattle.olr_spec.specs.Queries.{IsQuery, Needed, query_to}
 use Rattle.olr_spec.proofs.JoinLemmas.{empty_stretch}
 use Rattle.olr_spec.proofs.QueryLemmas.{stretch_parts}
 use Rattle.olr_spec.proofs.RouteLemmas.{dm_of-append}
-use Rattle.olr_spec.proofs.QueryLists.{query_from}
 
 module _ (M : Map) (ls : List ℕ) (i : ℕ) (l : CoverageQuery) where
   by_need : (k : ℕ) → i < k → l ≡ query_to M ls i k → (k ≡ i + 1) ⊎ Needed M ls i k → l.within ≤ limit

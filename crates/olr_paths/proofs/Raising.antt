@@ -1,10 +1,9 @@
 -- Counts that were raised are not less than before.
-use Rattle.std.proofs.Common.{ℕ, zero, suc, List, [], ◌∷◌, length, ◌≡◌, ◌+◌, ◌-◌, ◌<◌, ◌≤◌, ◌^◌, min, arith, sym, subst}
-use Rattle.olr_spec.specs.Map.{Map}
-use Rattle.olr_spec.specs.Queries.{CoverageQuery}
+use Rattle.olr_paths.proofs.Common.{ℕ, zero, suc, List, [], ◌∷◌, length, ◌≡◌, ◌+◌, ◌-◌, ◌<◌, ◌≤◌, min, arith, sym}
+use Rattle.olr_paths.proofs.Common.{subst, Map, CoverageQuery, Work, raised_count}
+use Rattle.std.proofs.Common.{◌^◌}
 use Rattle.olr_search.specs.Counts.{saturated_count}
-use Rattle.olr_search.specs.declared.work.Work.{Work}
-use Rattle.olr_refs.specs.Choice.{raised_count, SettledBy}
+use Rattle.olr_refs.specs.Choice.{SettledBy}
 use Rattle.olr_paths.specs.Changes.{AreCounts, Rises, AreSearched}
 
 raised_up : (c n : ℕ) → c < 2 ^ 64 → c ≤ raised_count c n

@@ -1,30 +1,19 @@
 -- A list, as far as it was renewed: SoFar says it of the first paths, with the work. A list follows itself.
-use Rattle.std.proofs.Common.{◌≡◌, ℕ, map, zero, suc, take, ◌+◌, List}
-use Rattle.std.proofs.Common.{[], ◌∷◌, ◌++◌, length, slice_get, Option, None, Some, option_map, ◌⊎◌, inl, inr}
-use Rattle.std.proofs.Common.{refl, sym, ap, subst, ◌∙◌, append-nil, append_assoc, arith}
-use Rattle.std.proofs.lemmas.List.{length-append, map-append}
-use Rattle.std.proofs.lemmas.Option.{slice_get_within}
-use Rattle.olr_spec.specs.Map.{Map, IsMap}
-use Rattle.olr_spec.specs.Encoding.{Answer}
-use Rattle.olr_spec.specs.Detours.{ChangedLine}
-use Rattle.olr_spec.specs.Queries.{CoverageQuery}
-use Rattle.olr_search.specs.declared.work.Work.{Work}
-use Rattle.olr_refs.specs.Choice.{raised_count}
+use Rattle.olr_paths.proofs.Common.{◌≡◌, ℕ, map, zero, suc, take, ◌+◌, List, [], ◌∷◌, ◌++◌, length, slice_get, Option}
+use Rattle.olr_paths.proofs.Common.{None, Some, ◌⊎◌, inl, inr, refl, sym, ap, subst, ◌∙◌, append-nil, append_assoc}
+use Rattle.olr_paths.proofs.Common.{arith, map-append, slice_get_within, Map, IsMap, Answer, ChangedLine, CoverageQuery}
+use Rattle.olr_paths.proofs.Common.{Work, raised_count, entry_of, Entry, entry, Made, Item, IsEncodingOf, named_of}
+use Rattle.olr_paths.proofs.Common.{all_named, answer_in, IsBefore, Reported, Follows, IsAffected, IsSpared}
+use Rattle.olr_paths.proofs.Common.{IsEncodedAgain, SearchesItem, all_put, puts_of, Left, Retained, EncodedAgain}
+use Rattle.olr_paths.proofs.Common.{after_renewal, nodes_of, lines_of, changed_of, ChangeSet, NamedPath, Renewal}
+use Rattle.olr_paths.proofs.Common.{Counted, take_more_at}
+use Rattle.std.proofs.Common.{option_map}
+use Rattle.std.proofs.lemmas.List.{length-append}
 use Rattle.olr_commands.specs.Counts.{CountIs, Collects}
 use Rattle.olr_commands.specs.State.{Named}
-use Rattle.olr_commands.specs.Words.{entry_of}
-use Rattle.olr_commands.specs.Reply.{Entry, entry}
-use Rattle.olr_paths.specs.Items.{Made, Item, IsEncodingOf, named_of, all_named, answer_in}
-use Rattle.olr_paths.specs.Changes.{with_made, IsBefore, IsRemade, AreRemade, Reported, Follows, IsAffected}
-use Rattle.olr_paths.specs.Changes.{Totals, AreTotals, AreCounted, IsSpared, IsEncodedAgain, SearchesItem}
-use Rattle.olr_paths.specs.Renewing.{all_put, made_at, puts_of, entries_of, ReportsIfOther, spared_one, encoded_one}
-use Rattle.olr_paths.specs.Renewing.{IsStep, Left, Retained, EncodedAgain, after_renewal, WasBefore, IsRenewal}
-use Rattle.olr_paths.specs.Touching.{nodes_of, lines_of, changed_of}
-use Rattle.olr_paths.specs.declared.change_set.ChangeSet.{ChangeSet}
-use Rattle.olr_paths.specs.declared.path_list.NamedPath.{NamedPath}
-use Rattle.olr_paths.specs.declared.renewal.Renewal.{Renewal}
-use Rattle.olr_paths.specs.declared.renewal.Counted.{Counted}
-use Rattle.olr_spec.proofs.ListLemmas.{take_more_at}
+use Rattle.olr_paths.specs.Changes.{with_made, IsRemade, AreRemade, Totals, AreTotals, AreCounted}
+use Rattle.olr_paths.specs.Renewing.{made_at, entries_of, ReportsIfOther, spared_one, encoded_one, IsStep, WasBefore}
+use Rattle.olr_paths.specs.Renewing.{IsRenewal}
 use Rattle.olr_refs.proofs.Noting.{raised_more, settled_append}
 use Rattle.olr_paths.proofs.Placing.{put_behind, all_put-push}
 use Rattle.olr_paths.proofs.GivenQueries.{searches_item}

@@ -1,11 +1,10 @@
 -- Membership in lists: by a test, and by a position.
-use Rattle.std.proofs.Common.{◌≡◌, ℕ, true, List, [], ◌∷◌, map, eqb, get_or, Contains, IsTrue, ◌↔◌, sym, ◌∙◌, subst}
-use Rattle.std.proofs.Common.{arith, inl, inr}
+use Rattle.olr_paths.proofs.Common.{◌≡◌, ℕ, true, List, [], ◌∷◌, map, get_or, Contains, IsTrue, ◌↔◌, sym, ◌∙◌, subst}
+use Rattle.olr_paths.proofs.Common.{arith, inl, inr, eq-eqb, get_or_default, has}
+use Rattle.std.proofs.Common.{eqb}
 use Rattle.std.specs.List.{list_any}
-use Rattle.std.proofs.lemmas.Bool.{eq-eqb, eqb-true}
-use Rattle.std.proofs.lemmas.List.{get_or_default}
+use Rattle.std.proofs.lemmas.Bool.{eqb-true}
 use Rattle.std.proofs.lemmas.List.Folds.{Any-from_list_any, list_any_at}
-use Rattle.olr_spec.specs.Map.{has}
 use Rattle.olr_spec.proofs.ListLemmas.{Contains-here, Contains-later, Contains-cases}
 
 pub has_from : (xs : List ℕ) (x : ℕ) → Contains xs x → has xs x ≡ true

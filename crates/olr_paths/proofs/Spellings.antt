@@ -1,16 +1,11 @@
 -- The text that is stored with an answer is the one that is published.
-use Rattle.std.proofs.Common.{◌≡◌, ℕ, Bool, List, Bor, IsTrue, Option, Some, None, sym, ap, ◌∙◌, subst}
-use Rattle.std.specs.Prelude.{option_map}
+use Rattle.olr_paths.proofs.Common.{◌≡◌, ℕ, Bool, List, Bor, IsTrue, Option, Some, None, sym, ap, ◌∙◌, subst}
+use Rattle.olr_paths.proofs.Common.{option_map, bytes_eq, IsReference, bytes_decides, result_ok, published_text}
 use Rattle.std.specs.Option.{option_eq}
-use Rattle.std.specs.Str.{bytes_eq}
-use Rattle.olr_spec.specs.Bytes.{IsReference}
-use Rattle.olr_spec.specs.Encoding as spec
 use Rattle.olr_binary.proofs.TextLemmas.{one_reference}
-use lib.Pointwise.{bytes_decides}
-use Rattle.std.specs.Result.{result_ok}
 use Rattle.olr_spec.specs.Reference.{Reference}
 use Rattle.olr_binary.specs.Text.{IsTextOf, text_of}
-use Rattle.olr_commands.specs.Reply.{published_text}
+use Rattle.olr_spec.specs.Encoding as spec
 
 -- ---- two texts
 

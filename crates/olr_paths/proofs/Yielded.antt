@@ -1,12 +1,8 @@
 -- A list whose paths were encoded, as what its iterator has left.
-use Rattle.std.proofs.Common.{◌≡◌, ◌≢◌, ◌&&◌, ◌∷◌, [], ℕ, true, List, map, Option, Some, None, is_some, refl, ap, ◌∙◌}
-use Rattle.std.specs.Prelude.{option_map, string_bytes}
+use Rattle.olr_paths.proofs.Common.{◌≡◌, ◌≢◌, ◌&&◌, ◌∷◌, [], ℕ, true, List, map, Option, Some, None, is_some, refl, ap}
+use Rattle.olr_paths.proofs.Common.{◌∙◌, option_map, string_bytes, Rc, Made, Item, made_of, AreEncoded, Published}
 use Rattle.std.specs.List.{list_all}
 use Rattle.std.specs.declared.alloc.Global.{Global}
-use Rattle.std.specs.declared.rc.Rc.{Rc}
-use Rattle.olr_paths.specs.Items.{Made, Item, made_of}
-use Rattle.olr_paths.specs.Changes.{AreEncoded}
-use Rattle.olr_paths.specs.declared.published.Published.{Published}
 use Rattle.olr_paths.proofs.NamedEntries.{Entries, items_of, made_of_named}
 
 some_made : (o : Option (Rc Published Global)) → option_map (λ p. made_of p.value) o ≢ None → is_some o ≡ true

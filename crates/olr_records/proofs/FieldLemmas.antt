@@ -1,18 +1,12 @@
 -- Fields: the bytes of a field by its position, and as text.
-use Rattle.std.proofs.Common.{◌≡◌, ℕ, zero, suc, ◌<◌, ◌≤◌, ◌^◌, Bool, true, List, [], ◌∷◌, length, take, unwrap_or, nat_le, refl, arith, rules}
-use Rattle.std.specs.Prelude.{IsAscii, IsUtf8, slice_index_or}
-use Rattle.std.specs.List.{list_all}
-use Rattle.std.specs.Char.{is_ascii_digit}
+use Rattle.olr_records.proofs.Common.{◌≡◌, ℕ, zero, suc, ◌<◌, ◌≤◌, ◌^◌, Bool, true, List, [], ◌∷◌, length, take}
+use Rattle.olr_records.proofs.Common.{unwrap_or, nat_le, refl, arith, rules, slice_index_or, list_all, is_ascii_digit}
+use Rattle.olr_records.proofs.Common.{digits_value, own, and_parts, nat_tests, is_name, is_name_byte, Field}
+use Rattle.std.specs.Prelude.{IsAscii, IsUtf8}
 use Rattle.std.proofs.lemmas.List.{length-take}
 use Rattle.std.proofs.lemmas.Str.Parse.{digits_value_short}
-use Rattle.olr_spec.specs.Degrees.{digits_value}
-use Rattle.olr_coords.proofs.DigitLemmas.{own}
-use Rattle.std.proofs.lemmas.Bool.{and_parts}
-use Rattle.std.proofs.lemmas.Bool.Decides.{nat_tests}
 use Rattle.std.proofs.lemmas.Str.{IsUtf8-from_ascii}
 use Rattle.csv.specs.Records.{field_at}
-use Rattle.olr_commands.specs.Recordable.{is_name, is_name_byte}
-use Rattle.olr_records.specs.Records.{Field}
 
 -- past the last field there are no bytes
 pub field_is : (fs : List Field) (k : ℕ) → unwrap_or (field_at fs k) [] ≡ slice_index_or fs k []

@@ -1,3 +1,4 @@
+pub mod Common
 pub mod OnLiterals
 mod TestLemmas
 pub mod FieldLemmas

@@ -1,14 +1,13 @@
 -- Items of a record, read one after another.
 --     onto x y      the items of x, followed by those of y
-use Rattle.std.proofs.Common.{◌≡◌, ℕ, ◌+◌, ◌<◌, ◌≤◌, List, [], ◌∷◌, ◌++◌, length, drop, Ok, Err, refl, sym, ap}
-use Rattle.std.proofs.Common.{◌∙◌, append_assoc, drop-cons, arith}
-use Rattle.std.specs.Prelude.{Result, IfOk, IsOkAnd, slice_index_or}
-use Rattle.std.proofs.lemmas.List.{append-nil, drop_all, length-drop}
-use Rattle.olr_spec.specs.Map.{ShapePoint}
-use Rattle.olr_records.specs.Records.{Field, Read, Bad_form, Out_of_range, ◌⊛◌, number, numbers, point, shape}
-use Rattle.olr_records.specs.Words.{Gathers}
-use Rattle.olr_records.specs.declared.faults.ReadFault.{ReadFault}
-use Rattle.olr_records.specs.declared.faults.ReadFault.TheVariants.{Memory}
+use Rattle.olr_records.proofs.Common.{◌≡◌, ℕ, ◌+◌, ◌<◌, ◌≤◌, List, [], ◌∷◌, ◌++◌, length, drop, Ok, Err, refl, sym, ap}
+use Rattle.olr_records.proofs.Common.{◌∙◌, append_assoc, arith, IfOk, IsOkAnd, slice_index_or, append-nil, length-drop}
+use Rattle.olr_records.proofs.Common.{ShapePoint, Field, Read, Bad_form, ◌⊛◌, number, numbers, point, shape, Gathers}
+use Rattle.olr_records.proofs.Common.{ReadFault, Memory}
+use Rattle.std.proofs.Common.{drop-cons}
+use Rattle.std.specs.Prelude.{Result}
+use Rattle.std.proofs.lemmas.List.{drop_all}
+use Rattle.olr_records.specs.Records.{Out_of_range}
 
 abbrev pub onto : {A : Type 0} → Read (List A) → Read (List A) → Read (List A)
 onto x y = Ok (λ xs ys. xs ++ ys) ⊛ x ⊛ y

@@ -1,10 +1,7 @@
 -- Two parts of one record, where reading one of them or both may take memory.
-use Rattle.std.proofs.Common.{arith, ◌≡◌, Ok, Err, Result, sym, ap, subst}
-use Rattle.std.specs.Prelude.{IsOkAnd}
-use Rattle.olr_records.specs.Records.{Read, ◌⊛◌}
-use Rattle.olr_records.specs.Words.{Reads, Gathers, both}
-use Rattle.olr_records.specs.declared.faults.ReadFault.{ReadFault}
-use Rattle.olr_records.specs.declared.faults.ReadFault.TheVariants.{Memory}
+use Rattle.olr_records.proofs.Common.{arith, ◌≡◌, Ok, Err, Result, sym, ap, subst, IsOkAnd, Read, ◌⊛◌, Reads, Gathers}
+use Rattle.olr_records.proofs.Common.{ReadFault, Memory}
+use Rattle.olr_records.specs.Words.{both}
 
 -- a part that takes no memory
 pub no-memory : {A B : Type 0} (P : B → Type 0) (view : A → B) (x : Read B) (r : Result A ReadFault) → Reads view x r →

@@ -1,27 +1,23 @@
 -- A change that is read has a record, and its coordinates are in range.
-use Rattle.std.proofs.Common.{◌≡◌, ℕ, ℤ, Bool, true, false, List, [], ◌∷◌, Option, Some, None, Ok, Err, IsTrue, refl, subst}
-use Rattle.std.proofs.Common.{nat_le, ◌&&◌, ◌%◌, pos, negsuc, arith}
-use Rattle.std.specs.Prelude.{IfOk, IfSome, if◌then◌else◌, nat_abs, ⊤}
-use Rattle.std.specs.List.{AllByRecursion, list_all}
-use Rattle.std.proofs.lemmas.Bool.{and_parts, eq-eqb}
-use Rattle.std.proofs.lemmas.Bool.Decides.{nat_tests}
-use Rattle.olr_spec.specs.Coordinates.{Coord, is_coord, is_longitude, is_latitude}
-use Rattle.olr_spec.specs.Degrees.{degrees, unit7}
-use Rattle.olr_spec.specs.Map.{ShapePoint, Line, are_coords, Edit, Add_node, Move_node, Drop_node, Add_line, Set_line}
-use Rattle.olr_spec.specs.Map.{Drop_line, HasCoord}
-use Rattle.olr_spec.specs.Extension.{Path}
+use Rattle.olr_records.proofs.Common.{◌≡◌, ℕ, ℤ, Bool, true, false, List, [], ◌∷◌, Option, Some, None, Ok, Err, IsTrue}
+use Rattle.olr_records.proofs.Common.{refl, subst, nat_le, ◌&&◌, pos, negsuc, arith, IfOk, IfSome, if◌then◌else◌, ⊤}
+use Rattle.olr_records.proofs.Common.{AllByRecursion, list_all, and_parts, eq-eqb, nat_tests, Coord, is_coord, degrees}
+use Rattle.olr_records.proofs.Common.{ShapePoint, Line, Edit, Add_node, Move_node, Drop_node, Add_line, Set_line}
+use Rattle.olr_records.proofs.Common.{Drop_line, Path, has_degrees_text, Change, On_map, Add_path, Set_path, Drop_path}
+use Rattle.olr_records.proofs.Common.{Command, Make, Show, Report, Dump, Explain, Begin, Commit, Abort, is_name, Field}
+use Rattle.olr_records.proofs.Common.{Read, ◌⊛◌, value_or_fault, max32, number, amount, coordinate, place, name}
+use Rattle.olr_records.proofs.Common.{numbers, point, shape, node_fields, edit, node_record, line_between, attributes}
+use Rattle.olr_records.proofs.Common.{whole_line, line_record, set_line_record, path_fields, read, is_number, is_amount}
+use Rattle.olr_records.proofs.Common.{is_place, is_point, are_attributes, is_named_path, has_record, Recorded}
+use Rattle.std.proofs.Common.{◌%◌}
+use Rattle.std.specs.Prelude.{nat_abs}
+use Rattle.olr_spec.specs.Coordinates.{is_longitude, is_latitude}
+use Rattle.olr_spec.specs.Degrees.{unit7}
+use Rattle.olr_spec.specs.Map.{are_coords, HasCoord}
 use Rattle.olr_coords.specs.Bounds.{is_degrees}
-use Rattle.olr_coords.specs.DegreesText.{has_degrees_text}
 use Rattle.olr_coords.proofs.DegreesTextLemmas.{degrees-whole}
-use Rattle.olr_commands.specs.State.{Change, On_map, Add_path, Set_path, Drop_path, Command, Make, Show, Report}
-use Rattle.olr_commands.specs.State.{Dump, Explain, Begin, Commit, Abort, HasCoords}
-use Rattle.olr_commands.specs.Recordable.{is_name}
-use Rattle.olr_records.specs.Records.{Field, Read, ◌⊛◌, value_or_fault, digits, max32, number, amount, coordinate}
-use Rattle.olr_records.specs.Records.{longitude, latitude, place, name, numbers, point, shape, node_fields, edit, one}
-use Rattle.olr_records.specs.Records.{none, node_record, line_between, attributes, whole_line, line_record, set_line_record}
-use Rattle.olr_records.specs.Records.{path_fields, path_record, forms, read_by, read}
-use Rattle.olr_records.specs.Recorded.{is_number, is_amount, is_place, is_point, are_attributes, is_named_path, has_record}
-use Rattle.olr_records.specs.Recorded.{Recorded}
+use Rattle.olr_commands.specs.State.{HasCoords}
+use Rattle.olr_records.specs.Records.{digits, longitude, latitude, one, none, path_record, forms, read_by}
 use Rattle.olr_records.proofs.TestLemmas.{all_weaker, ◌also◌}
 
 if_read : {A : Type 0} (P : A → Type 0) (b : Bool) (r q : Read A) → IfOk r P → IfOk q P → IfOk (if b then r else q) P

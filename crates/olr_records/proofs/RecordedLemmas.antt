@@ -1,26 +1,25 @@
 -- Commands whose changes have records lead to contents that have records.
-use Rattle.std.proofs.Common.{rules, arith, ◌≡◌, ℕ, Bool, true, not, List, [], ◌∷◌, ◌++◌, map, filter, length, Option}
-use Rattle.std.proofs.Common.{Some, None, is_some, unwrap_or, Result, Ok, Err, IsTrue, refl, sym, ◌∙◌, subst, nat_cmp}
-use Rattle.std.specs.Prelude.{nat_le, ◌==◌, ◌&&◌, IfSome}
-use Rattle.std.specs.List.{list_all, AllByRecursion}
+use Rattle.olr_records.proofs.Common.{rules, arith, ◌≡◌, ℕ, Bool, true, List, [], ◌∷◌, ◌++◌, map, length, Option, Some}
+use Rattle.olr_records.proofs.Common.{None, unwrap_or, Result, Ok, Err, IsTrue, refl, sym, ◌∙◌, subst, IfSome, list_all}
+use Rattle.olr_records.proofs.Common.{AllByRecursion, and_parts, eq-eqb, Coord, is_coord, Line, Edit, Add_node}
+use Rattle.olr_records.proofs.Common.{Move_node, Drop_node, Add_line, Set_line, Drop_line, Path, Change, On_map}
+use Rattle.olr_records.proofs.Common.{Add_path, Set_path, Drop_path, Command, Make, Show, Report, Dump, Explain, Begin}
+use Rattle.olr_records.proofs.Common.{Commit, Abort, is_name, is_number, is_amount, is_place, are_attributes}
+use Rattle.olr_records.proofs.Common.{has_record, Recorded}
+use Rattle.std.proofs.Common.{not, filter, is_some, nat_cmp}
+use Rattle.std.specs.Prelude.{nat_le, ◌==◌, ◌&&◌}
 use Rattle.std.specs.FinMap.{FinMap, get, insert, remove, empty, entries, entries_sorted, get-entries, get-empty}
 use Rattle.std.specs.FinMap.Entries.{find}
-use Rattle.std.proofs.lemmas.Bool.{and_parts, cases_eq, eq-eqb, ne_eqb}
-use Rattle.olr_spec.specs.Coordinates.{Coord, is_coord}
-use Rattle.olr_spec.specs.Map.{Map, MapFault, Line, no_line, start, end, Edit, edited, Add_node, Move_node, Drop_node, Add_line}
-use Rattle.olr_spec.specs.Map.{Set_line, Drop_line}
-use Rattle.olr_spec.specs.Extension.{Path}
+use Rattle.std.proofs.lemmas.Bool.{cases_eq, ne_eqb}
+use Rattle.olr_spec.specs.Map.{Map, MapFault, no_line, start, end, edited}
 use Rattle.olr_spec.proofs.EditLemmas.{Made, made_by, got_same, got_other, left_same, left_other}
-use Rattle.olr_commands.specs.State.{Named, Content, has_path, with_path, Fault, No_path}
-use Rattle.olr_commands.specs.State.{Batch_full, Count_differs, Change, On_map, Add_path, Set_path, Drop_path}
-use Rattle.olr_commands.specs.State.{with_map, with_change, after, Command, Make, Show, Not_a_record, no_content, is_recordable}
-use Rattle.olr_commands.specs.State.{start_state, Report, Dump, Explain, Begin, Commit, Abort, State, full, at_once, into_batch}
-use Rattle.olr_commands.specs.State.{text_fault, step}
-use Rattle.olr_commands.specs.Recordable.{is_name, is_recordable_coord, is_recordable_shape}
+use Rattle.olr_commands.specs.State.{Named, Content, has_path, with_path, Fault, No_path, Batch_full, Count_differs}
+use Rattle.olr_commands.specs.State.{with_map, with_change, after, Not_a_record, no_content, is_recordable, start_state}
+use Rattle.olr_commands.specs.State.{State, full, at_once, into_batch, text_fault, step}
+use Rattle.olr_commands.specs.Recordable.{is_recordable_coord, is_recordable_shape}
 use Rattle.olr_commands.specs.Dump.{node_change, line_change, path_change}
 use Rattle.olr_commands.proofs.DumpLemmas.{of_entries}
 use Rattle.olr_commands.proofs.StateLemmas.{Ends, ends, when_ok, accepted, passed, next_ok, after_push}
-use Rattle.olr_records.specs.Recorded.{is_number, is_amount, is_place, are_attributes, has_record, Recorded}
 use Rattle.olr_records.specs.Recorded.{IsRecorded, StaysRecorded}
 use Rattle.olr_records.proofs.TestLemmas.{and_four, and_five, all_weaker}
 

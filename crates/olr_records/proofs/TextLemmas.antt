@@ -1,18 +1,15 @@
 -- Lines, and texts of several lines.
-use Rattle.std.proofs.Common.{◌≡◌, ℕ, ◌+◌, ◌<◌, List, [], ◌∷◌, ◌++◌, length, take, get_or, map, refl, ap}
-use Rattle.std.proofs.Common.{append_assoc, arith, ◌≤◌, ◌^◌}
-use Rattle.std.specs.Prelude.{codes, decimal}
-use Rattle.std.specs.List.{concat}
+use Rattle.olr_records.proofs.Common.{◌≡◌, ℕ, ◌+◌, ◌<◌, List, [], ◌∷◌, ◌++◌, length, take, map, refl, ap, append_assoc}
+use Rattle.olr_records.proofs.Common.{arith, ◌≤◌, ◌^◌, decimal, concat, append-nil, length-append, entry_of}
+use Rattle.olr_records.proofs.Common.{after_commas, joined, entry_line, middle_line}
+use Rattle.std.proofs.Common.{get_or}
+use Rattle.std.specs.Prelude.{codes}
 use Rattle.std.proofs.lemmas.Fmt.{length-decimal-le}
-use Rattle.std.proofs.lemmas.List.{append-nil, length-append, length-map, map-append, take_more}
+use Rattle.std.proofs.lemmas.List.{length-map, map-append, take_more}
 use Rattle.std.proofs.lemmas.List.Folds.{concat-append}
 use Rattle.olr_spec.specs.Reference.{Middle, Reference}
-use Rattle.olr_commands.specs.Words.{entry_of}
 use Rattle.olr_commands.specs.declared.reply.Entry.{Entry}
-use Rattle.olr_commands.specs.RecordText.{after_commas}
-use Rattle.olr_commands.proofs.RecordLemmas.{joined}
-use Rattle.olr_records.specs.ReplyText.{reply_line, entry_line, accepted_text, first_line, middle_line, last_line, offset_lines}
-use Rattle.olr_records.specs.ReplyText.{reference_lines}
+use Rattle.olr_records.specs.ReplyText.{reply_line, accepted_text, first_line, last_line, offset_lines, reference_lines}
 
 -- a line of a word, two fields and more
 pub fields_line_of : (t w a b : List ℕ) (fs : List (List ℕ))

@@ -1,31 +1,22 @@
 -- The coverage queries of LRPs, which of them are searched, and what that counts and notes.
+use Rattle.olr_refs.proofs.Common.{◌≡◌, ◌<◌, ◌≤◌, ◌+◌, ◌*◌, ℕ, List, [], ◌∷◌, ◌++◌, length, Contains, Option, None}
+use Rattle.olr_refs.proofs.Common.{MatchOption, refl, sym, subst, arith, inl, inr, IsTrue, AllZip, nat_tests, Map}
+use Rattle.olr_refs.proofs.Common.{IsMap, Path, is_path, extended_path, Next, path_fault, Sees, Foot, CoverageQuery}
+use Rattle.olr_refs.proofs.Common.{QueriesOf, KnownQuery, IsKnownAt, Contains-here, Contains-cases, path_also}
+use Rattle.olr_refs.proofs.Common.{all_searched, Work, Queried, Notes, Asks, AsksOf, foot_queried, append-nil}
 use Rattle.std.proofs.Math.Nat.{mul-le-mul_right}
-use Rattle.std.proofs.Common.{◌≡◌, ◌<◌, ◌≤◌, ◌+◌, ◌*◌, ℕ, List, [], ◌∷◌, ◌++◌, length, Contains, Option}
-use Rattle.std.proofs.Common.{None, MatchOption, refl, sym, subst, arith, inl, inr}
-use Rattle.std.specs.Prelude.{IsTrue, nat_lt}
+use Rattle.std.specs.Prelude.{nat_lt}
 use Rattle.std.specs.Option.{option_to_list}
-use Rattle.std.specs.List.{AllZip}
-use Rattle.std.proofs.lemmas.Bool.Decides.{nat_tests}
 use Rattle.std.proofs.lemmas.List.Elements.{filter-append}
-use Rattle.olr_spec.specs.Map.{Map, IsMap}
-use Rattle.olr_spec.specs.Extension.{Path, is_path, extended_path}
-use Rattle.olr_spec.specs.Points.{Next}
-use Rattle.olr_spec.specs.Encoding.{path_fault}
-use Rattle.olr_spec.specs.Encoding as spec
-use Rattle.olr_spec.specs.Footprint.{Sees, Foot}
-use Rattle.olr_spec.specs.Queries.{CoverageQuery, IsQuery, QueriesOf, querying, KnownQuery, IsKnownAt}
-use Rattle.olr_spec.specs.Queries.{IsReused, IsSearched, FoundFor, KnownOf, SearchedOf}
-use Rattle.olr_spec.proofs.ListLemmas.{Contains-here, Contains-cases, Contains-later}
-use Rattle.olr_spec.proofs.AnswerLemmas.{Next-candidate, path_also}
+use Rattle.olr_spec.specs.Queries.{IsQuery, querying, IsReused, IsSearched, FoundFor, KnownOf, SearchedOf}
+use Rattle.olr_spec.proofs.ListLemmas.{Contains-later}
+use Rattle.olr_spec.proofs.AnswerLemmas.{Next-candidate}
 use Rattle.olr_spec.proofs.KnownLists.{found_append, found_here}
-use Rattle.olr_spec.proofs.KnownLemmas.{all_searched}
-use Rattle.olr_search.specs.declared.work.Work.{Work}
-use Rattle.olr_refs.specs.Choice.{Queried, Notes}
-use Rattle.olr_refs.specs.Reuse.{Asks, AsksAfter, AsksOf, Searched}
-use Rattle.olr_refs.proofs.Noting.{queried_none, queried_more, zip_append, Led, led_more, settled_most}
-use Rattle.olr_refs.proofs.Noting.{notes_same, notes_more, seen_one, seen_append, noted_none}
-use Rattle.olr_spec.proofs.TestedLemmas.{foot_queried, one_query}
-use Rattle.std.proofs.lemmas.List.{append-nil}
+use Rattle.olr_refs.specs.Reuse.{AsksAfter, Searched}
+use Rattle.olr_refs.proofs.Noting.{queried_none, queried_more, zip_append, Led, led_more, settled_most, notes_same}
+use Rattle.olr_refs.proofs.Noting.{notes_more, seen_one, seen_append, noted_none}
+use Rattle.olr_spec.proofs.TestedLemmas.{one_query}
+use Rattle.olr_spec.specs.Encoding as spec
 
 -- ---- the LRPs of a list
 

@@ -1,13 +1,9 @@
 -- The choice of the next LRP, from the last position that is covered and within the limit back to the first.
-use Rattle.std.proofs.Common.{◌≡◌, ◌<◌, ◌≤◌, ◌-◌, ℕ, Bool, true, false, List, length, sym, subst, arith}
-use Rattle.std.proofs.Common.{Option, Some, MatchOption}
-use Rattle.std.proofs.lemmas.Bool.{cases_lt, cases_order}
+use Rattle.olr_refs.proofs.Common.{◌≡◌, ◌<◌, ◌≤◌, ◌-◌, ℕ, Bool, true, false, List, length, sym, subst, arith, Option}
+use Rattle.olr_refs.proofs.Common.{Some, MatchOption, cases_lt, cases_order, Coord, Map, coord_at, passing, node_at}
+use Rattle.olr_refs.proofs.Common.{fit16, Candidate, Next, IsReach}
 use Rattle.std.specs.Option.{option_or}
-use Rattle.olr_spec.specs.Coordinates.{Coord}
-use Rattle.olr_spec.specs.Map.{Map, coord_at}
-use Rattle.olr_spec.specs.Extension.{passing}
-use Rattle.olr_spec.specs.Points.{node_at, fit16, Candidate, ValidCandidate, Greatest, Next}
-use Rattle.olr_refs.specs.Along.{IsReach}
+use Rattle.olr_spec.specs.Points.{ValidCandidate, Greatest}
 
 abbrev pub fit : Map → List ℕ → ℕ → ℕ → Bool
 fit M ls i j = fit16 (coord_at M (node_at M ls i)) (coord_at M (node_at M ls j))

@@ -1,18 +1,11 @@
 -- The extended path, composed of the path and the parts of the tried runs.
-use Rattle.std.proofs.Common.{◌⊎◌, ◌↔◌, ◌≡◌, ℕ, ◌+◌, ◌<◌, Bool, not, cond, List, [], ◌∷◌, ◌++◌, length}
-use Rattle.std.proofs.Common.{Contains, None, IsTrue, refl, sym, ap, ◌∙◌, subst, arith, length-append}
-use Rattle.std.proofs.lemmas.List.{length-map, map-append}
-use Rattle.olr_spec.specs.Map.{Map, has_line}
-use Rattle.olr_spec.specs.Routes.{dm_of}
-use Rattle.olr_spec.specs.Encoding.{first_unknown}
-use Rattle.olr_spec.specs.Extension.{Path, is_path, first, last, LongestStart, LongestEnd, taken_start}
-use Rattle.olr_spec.specs.Extension.{taken_end, from_start}
-use Rattle.olr_spec.specs.Queries.{NodeOf}
-use Rattle.olr_search.specs.declared.distances.Direction.TheVariants.{Along, Against}
-use Rattle.olr_refs.specs.Extends.{Extends}
-use Rattle.olr_refs.specs.ResolvedLines.{ResolvedLine, records_of, ids, AreRecords}
-use Rattle.olr_refs.specs.Runs.{IsRun}
-use Rattle.olr_spec.proofs.AnswerLemmas.{no_unknown, path_nonempty, all_first, all_last}
+use Rattle.olr_refs.proofs.Common.{◌⊎◌, ◌≡◌, ℕ, ◌+◌, ◌<◌, Bool, not, cond, List, [], ◌∷◌, ◌++◌, length, Contains, None}
+use Rattle.olr_refs.proofs.Common.{refl, sym, ap, ◌∙◌, subst, arith, length-append, length-map, map-append, Map}
+use Rattle.olr_refs.proofs.Common.{has_line, dm_of, first_unknown, Path, is_path, last, NodeOf, Along, Against, Extends}
+use Rattle.olr_refs.proofs.Common.{ResolvedLine, records_of, ids, AreRecords, IsRun, no_unknown, path_nonempty}
+use Rattle.olr_refs.proofs.Common.{all_first, all_last}
+use Rattle.std.proofs.Common.{◌↔◌, IsTrue}
+use Rattle.olr_spec.specs.Extension.{first, LongestStart, LongestEnd, taken_start, taken_end, from_start}
 use Rattle.olr_refs.proofs.Resolving.{ids_are, are_records, records_append, records_length}
 
 last_behind : (xs ys : List ℕ) → 0 < length ys → last (xs ++ ys) ≡ last ys

@@ -1,18 +1,11 @@
 -- What is known of a path for which none of reasons 1 to 3 holds.
+use Rattle.olr_refs.proofs.Common.{common_steps, ◌≡◌, ◌<◌, ◌≤◌, ◌-◌, ◌+◌, ◌==◌, ℕ, Bool, true, false, not, List, ◌∷◌}
+use Rattle.olr_refs.proofs.Common.{length, drop, get_or, Some, None, ap, ◌∙◌, arith, inl, inr, eq-eqb, cases_eq}
+use Rattle.olr_refs.proofs.Common.{nat_tests, get_or_default, IsTrue, slice_index, Map, has_line, start, end, AreJoined}
+use Rattle.olr_refs.proofs.Common.{first_unknown, first_break, no_unknown, Each, has_index}
+use Rattle.std.proofs.lemmas.List.{drop_more, drop_all}
+use Rattle.olr_spec.proofs.ListLemmas.{Each-from}
 use Rattle.olr_spec.proofs.JoinedLemmas as spec
-use Rattle.std.proofs.lemmas.Grind.{common_steps}
-use Rattle.std.proofs.Common.{◌≡◌, ◌<◌, ◌≤◌, ◌-◌, ◌+◌, ◌==◌, ℕ, Bool, true, false, not, List, ◌∷◌, length}
-use Rattle.std.proofs.Common.{drop, get_or, Some, None, ap, ◌∙◌, arith, inl, inr}
-use Rattle.std.proofs.lemmas.Bool.{eq-eqb, cases_eq}
-use Rattle.std.proofs.lemmas.Bool.Decides.{nat_tests}
-use Rattle.std.proofs.lemmas.List.{get_or_default, drop_more, drop_all}
-use Rattle.std.specs.Prelude.{IsTrue}
-use Rattle.std.specs.List.{slice_index}
-use Rattle.olr_spec.specs.Map.{Map, has_line, start, end}
-use Rattle.olr_spec.specs.Extension.{AreJoined}
-use Rattle.olr_spec.specs.Encoding.{first_unknown, first_break}
-use Rattle.olr_spec.proofs.AnswerLemmas.{no_unknown}
-use Rattle.olr_spec.proofs.ListLemmas.{Each, Each-from, has_index}
 
 abbrev Known : Map → ℕ → Type 0
 Known M x = IsTrue (has_line M x)

@@ -1,17 +1,11 @@
 -- What is known of joined lines.
-use Rattle.std.proofs.Common.{◌≡◌, ◌<◌, ◌+◌, ℕ, List, [], ◌∷◌, ◌++◌, length, take}
-use Rattle.std.proofs.Common.{get_or, sym, ap, ◌∙◌, subst, arith, length-append}
-use Rattle.std.proofs.lemmas.Bool.{cases_order}
-use Rattle.std.proofs.lemmas.List.{get_or_default, get_or_append_left, take_more}
+use Rattle.olr_refs.proofs.Common.{◌≡◌, ◌<◌, ◌+◌, ℕ, List, [], ◌∷◌, ◌++◌, length, take, get_or, sym, ap, ◌∙◌, subst}
+use Rattle.olr_refs.proofs.Common.{arith, length-append, cases_order, get_or_default, slice_index, IsTrue, Map, IsMap}
+use Rattle.olr_refs.proofs.Common.{has_line, has_node, start, end, dm, IsRoute, dm_of, AreJoined, dm_of-append, Each}
+use Rattle.olr_refs.proofs.Common.{has_index, DistancesTo}
+use Rattle.std.proofs.lemmas.List.{get_or_append_left, take_more}
 use Rattle.std.proofs.Math.Seq.{get_or-append_seam}
-use Rattle.std.specs.List.{slice_index}
-use Rattle.std.specs.Prelude.{IsTrue}
-use Rattle.olr_spec.specs.Map.{Map, IsMap, has_line, has_node, start, end, dm}
-use Rattle.olr_spec.specs.Routes.{IsRoute, dm_of}
-use Rattle.olr_spec.specs.Extension.{AreJoined}
-use Rattle.olr_spec.proofs.RouteLemmas.{dm_of-append}
-use Rattle.olr_spec.proofs.ListLemmas.{Each, Each-cons, Each-nil, has_index}
-use Rattle.olr_refs.specs.Along.{DistancesTo}
+use Rattle.olr_spec.proofs.ListLemmas.{Each-cons, Each-nil}
 
 -- each line of a route is on the map
 pub route_known : (M : Map) (s t : ℕ) (xs : List ℕ) → IsRoute M s t xs → Each (λ x. IsTrue (has_line M x)) xs

@@ -1,23 +1,19 @@
 -- The legs of joined lines, by the lines and their distances.
-use Rattle.std.proofs.Common.{arith}
-use Rattle.std.proofs.Common.{◌≡◌, ◌<◌, ◌-◌, ◌/◌, ℕ, List, length, take, drop, map, max, sym, ap, ◌∙◌}
-use Rattle.std.proofs.Common.{subst}
-use Rattle.std.proofs.lemmas.List.{get_or-map, drop-map, take-map}
+use Rattle.olr_refs.proofs.Common.{arith, ◌≡◌, ◌<◌, ◌-◌, ℕ, List, length, take, drop, map, max, sym, ap, ◌∙◌, subst}
+use Rattle.olr_refs.proofs.Common.{get_or-map, take-map, slice_index, slice_range, IsTrue, Map, IsMap, has_line}
+use Rattle.olr_refs.proofs.Common.{has_node, coord_at, node_at, stretch, Attrs, attrs, leg, legs, leg_at, position}
+use Rattle.olr_refs.proofs.Common.{dm_between, Each, AreJoined, lowest_class, ResolvedLine, records_of}
+use Rattle.std.proofs.Common.{◌/◌}
+use Rattle.std.proofs.lemmas.List.{drop-map}
 use Rattle.std.proofs.lemmas.Simd.{map-map}
-use Rattle.std.specs.List.{slice_index, slice_range, fold}
-use Rattle.std.specs.Prelude.{IsTrue}
-use Rattle.olr_spec.specs.Map.{Map, IsMap, Line, is_good, has_line, has_node, line_at, coord_at}
-use Rattle.olr_spec.specs.Points.{node_at, stretch}
+use Rattle.std.specs.List.{fold}
+use Rattle.olr_spec.specs.Map.{Line, is_good, line_at}
 use Rattle.olr_spec.specs.Bearings.{bearing_out}
-use Rattle.olr_spec.specs.Reference.{Attrs, attrs, leg, legs, leg_at, no_leg, position, dm_between}
-use Rattle.olr_spec.proofs.ListLemmas.{Each}
+use Rattle.olr_spec.specs.Reference.{no_leg}
 use Rattle.olr_spec.proofs.FieldLemmas.{position_is}
-use Rattle.olr_spec.specs.Extension.{AreJoined}
-use Rattle.olr_bearing.specs.Legs as ends
 use Rattle.olr_bearing.specs.declared.places.Ends.{Ends}
-use Rattle.olr_refs.specs.Fields.{lowest_class}
-use Rattle.olr_refs.specs.ResolvedLines.{ResolvedLine, records_of}
 use Rattle.olr_refs.proofs.Joined.{route_known}
+use Rattle.olr_bearing.specs.Legs as ends
 
 -- each of them is on the map
 pub joined_known : (M : Map) (ls : List ℕ) → AreJoined M ls → Each (λ x. IsTrue (has_line M x)) ls

@@ -1,31 +1,26 @@
 -- The coverage queries of a choice of LRPs, and the counts that its searches raise.
-use Rattle.std.proofs.Common.{append_assoc, append-nil}
-use Rattle.std.proofs.Common.{◌≡◌, ◌≤◌, ◌+◌, ◌*◌, ℕ, zero, suc, List, [], ◌∷◌, ◌++◌, length, Contains, refl, ap}
-use Rattle.std.proofs.Common.{◌∙◌, subst, arith, inl, inr, length-append, None, Some, Option, ◌⊎◌}
-use Rattle.std.specs.Prelude.{IsTrue, ◌↔◌, MatchOption}
+use Rattle.olr_refs.proofs.Common.{append_assoc, ◌≡◌, ◌≤◌, ◌+◌, ◌*◌, ℕ, zero, suc, List, [], ◌∷◌, ◌++◌, length}
+use Rattle.olr_refs.proofs.Common.{Contains, refl, ap, ◌∙◌, subst, arith, inl, inr, length-append, None, Some, Option}
+use Rattle.olr_refs.proofs.Common.{◌⊎◌, IsTrue, ◌↔◌, AllZip, eqb-true, Contains-append_left, Map, has_node, IsMap}
+use Rattle.olr_refs.proofs.Common.{dm_of, limit, Path, is_path, Next, last_position, stretch, Sees, Foot, CoverageQuery}
+use Rattle.olr_refs.proofs.Common.{IsLastTested, QueriesOf, Contains-here, Contains-cases, Work, Along, Dijkstra}
+use Rattle.olr_refs.proofs.Common.{IsSearch, LiesWithin, limit_of, Queried, SeenBy, SettledBy, raised_count, Notes}
+use Rattle.olr_refs.proofs.Common.{foot_queried}
+use Rattle.std.proofs.Common.{append-nil}
+use Rattle.std.specs.Prelude.{MatchOption}
 use Rattle.std.specs.Cmp.{nat_eq_equiv}
-use Rattle.std.specs.List.{AllZip}
-use Rattle.std.proofs.lemmas.Bool.{eqb-true}
-use Rattle.std.proofs.lemmas.List.Elements.{Contains-append_right, Contains-append_left, Contains-append_cases}
+use Rattle.std.proofs.lemmas.List.Elements.{Contains-append_right, Contains-append_cases}
 use Rattle.std.proofs.lemmas.Map.Made.{length-le_from_is_member}
 use Rattle.std.proofs.lemmas.Map.Views.{Contains-from_any, list_any-from_Contains}
-use Rattle.olr_spec.specs.Map.{Map, has_node, IsMap}
-use Rattle.olr_spec.specs.Routes.{dm_of}
-use Rattle.olr_spec.specs.Extension.{limit, Path, is_path}
-use Rattle.olr_spec.specs.Points.{Next, Follow, NoNext, last_position, stretch}
-use Rattle.olr_spec.specs.Footprint.{Sees, Foot}
-use Rattle.olr_spec.specs.Queries.{CoverageQuery, IsLastTested, TraversedOf, QueriesOf}
-use Rattle.olr_spec.proofs.ListLemmas.{Contains-here, Contains-one, Contains-cases}
-use Rattle.olr_search.specs.declared.work.Work.{Work}
-use Rattle.olr_search.specs.declared.distances.Direction.TheVariants.{Along}
+use Rattle.olr_spec.specs.Points.{Follow, NoNext}
+use Rattle.olr_spec.specs.Queries.{TraversedOf}
+use Rattle.olr_spec.proofs.ListLemmas.{Contains-one}
 use Rattle.olr_search.specs.Counts.{saturated_count}
-use Rattle.olr_search.specs.declared.distances.Dijkstra.{Dijkstra}
-use Rattle.olr_search.specs.Searches.{IsSearch, LiesWithin, Counts, limit_of}
+use Rattle.olr_search.specs.Searches.{Counts}
 use Rattle.olr_search.proofs.SearchLemmas.{near_leads}
-use Rattle.olr_refs.specs.Choice.{CountOf, Queried, SeenBy, SettledBy, raised_count, Notes}
+use Rattle.olr_refs.specs.Choice.{CountOf}
 use Rattle.olr_refs.proofs.Stretches.{stretch_sum}
 use Rattle.olr_refs.proofs.Reaching.{empty_stretch}
-use Rattle.olr_spec.proofs.TestedLemmas.{foot_queried}
 
 -- ---- what a search settles
 

@@ -1,12 +1,10 @@
 -- Coordinates and the steps between them.
-use Rattle.std.proofs.Common.{◌≡◌, ◌∙◌, ap, ℤ, arith}
-use Rattle.std.proofs.lemmas.Bool.{and_parts, and_from}
-use Rattle.std.proofs.lemmas.Int.{ints, to_z-of_z}
-use Rattle.std.specs.Prelude.{IsTrue}
+use Rattle.olr_refs.proofs.Common.{◌≡◌, ◌∙◌, ap, ℤ, arith, and_parts, to_z-of_z, IsTrue, Coord, relative, fit16}
+use Rattle.std.proofs.lemmas.Bool.{and_from}
+use Rattle.std.proofs.lemmas.Int.{ints}
 use mir.Val.{SFits, of_z, to_z}
 use mir.Syntax.{Width, w64}
-use Rattle.olr_spec.specs.Coordinates.{Coord, is_coord, is_latitude, fits16, relative}
-use Rattle.olr_spec.specs.Points.{fit16}
+use Rattle.olr_spec.specs.Coordinates.{is_coord, is_latitude, fits16}
 use Rattle.olr_spec.proofs.SectorLemmas.{le_yes, le_test}
 use Rattle.olr_coords.specs.Bounds.{is_degrees}
 

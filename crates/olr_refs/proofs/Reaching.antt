@@ -1,24 +1,15 @@
 -- The positions that are covered, by one route along the lines after a position.
+use Rattle.olr_refs.proofs.Common.{cases_lt, ◌≡◌, ◌<◌, ◌≤◌, ◌-◌, ◌+◌, ℕ, min, max, Bool, List, [], ◌∷◌, ◌++◌, length}
+use Rattle.olr_refs.proofs.Common.{take, drop, ap, ◌∙◌, arith, inl, inr, cases_order, IsTrue, ◌↔◌, slice_index, Map}
+use Rattle.olr_refs.proofs.Common.{IsMap, start, end, dm, IsRoute, dm_of, limit, AreJoined, stretch, Covered}
+use Rattle.olr_refs.proofs.Common.{IsLastTested, dm_of-append, stretch_parts, Along, Dijkstra, IsSearch, limit_of}
+use Rattle.olr_refs.proofs.Common.{IsFar, IsReach}
 use Rattle.olr_refs.proofs.Stretches.{stretch_sum}
-use Rattle.std.proofs.lemmas.Bool.{cases_lt}
-use Rattle.std.proofs.Common.{◌≡◌, ◌<◌, ◌≤◌, ◌-◌, ◌+◌, ℕ, min, max, Bool, List, [], ◌∷◌, ◌++◌, length}
-use Rattle.std.proofs.Common.{take, drop, ap, ◌∙◌, arith, inl, inr}
-use Rattle.std.proofs.lemmas.Bool.{cases_order}
-use Rattle.std.specs.Prelude.{IsTrue, ◌↔◌}
-use Rattle.std.specs.List.{slice_index}
-use Rattle.olr_spec.specs.Map.{Map, IsMap, start, end, dm}
-use Rattle.olr_spec.specs.Routes.{IsRoute, UniqueShortest, dm_of}
-use Rattle.olr_spec.specs.Extension.{limit, AreJoined}
-use Rattle.olr_spec.specs.Points.{stretch, Covered}
-use Rattle.olr_spec.specs.Queries.{Needed, IsLastTested}
-use Rattle.olr_spec.proofs.RouteLemmas.{empty_unique, prefix_of_unique, dm_of-append}
+use Rattle.olr_spec.specs.Routes.{UniqueShortest}
+use Rattle.olr_spec.specs.Queries.{Needed}
+use Rattle.olr_spec.proofs.RouteLemmas.{empty_unique, prefix_of_unique}
 use Rattle.olr_spec.proofs.JoinLemmas.{stretch_last}
-use Rattle.olr_spec.proofs.QueryLemmas.{stretch_parts}
 use Rattle.olr_spec.proofs.WayLemmas.{next_start, way_between}
-use Rattle.olr_search.specs.declared.distances.Direction.TheVariants.{Along}
-use Rattle.olr_search.specs.declared.distances.Dijkstra.{Dijkstra}
-use Rattle.olr_search.specs.Searches.{IsSearch, limit_of}
-use Rattle.olr_refs.specs.Along.{IsFar, IsReach}
 
 -- the lines after line i, up to line k, are the unique shortest path
 abbrev pub UniqueTo : Map → List ℕ → ℕ → ℕ → Type 0

@@ -1,33 +1,27 @@
 -- The encoding of a path, by its extension, its LRPs, its coverage queries and its reference.
-use Rattle.std.proofs.Common.{◌≡◌, ◌<◌, ◌+◌, ◌↔◌, ℕ, List, [], ◌∷◌, length, Option, Some}
-use Rattle.std.proofs.Common.{None, MatchOption, Contains, ap, ◌∙◌, arith, inl, inr}
-use Rattle.std.proofs.lemmas.Bool.{eq-eqb, and_parts, leb-true}
-use Rattle.std.specs.Prelude.{IsTrue, Result, IfOk, OnOk}
-use Rattle.olr_spec.specs.Map.{Map, IsMap}
-use Rattle.olr_spec.specs.Routes.{dm_of}
-use Rattle.olr_spec.specs.Extension.{Path, Tried, is_path, extended_path, AreJoined}
-use Rattle.olr_spec.specs.Points.{last_position, OfPath}
-use Rattle.olr_spec.specs.Reference.{Reference, legs, reference}
-use Rattle.olr_spec.specs.Encoding.{first_unknown, first_break, path_fault, answer_by_points, Encoding, Encodes}
-use Rattle.olr_spec.specs.Queries.{CoverageQuery, Traversed, TraversedOfExtended, QueriesOf, QueriesOfExtended}
-use Rattle.olr_spec.specs.Queries.{KnownQuery, AreKnown}
-use Rattle.olr_spec.proofs.AnswerLemmas.{path_nonempty, sound_lines, all_first, all_last, path_also}
+use Rattle.olr_refs.proofs.Common.{◌≡◌, ◌<◌, ◌+◌, ℕ, List, [], ◌∷◌, length, Option, Some, None, MatchOption, Contains}
+use Rattle.olr_refs.proofs.Common.{ap, ◌∙◌, arith, inl, inr, eq-eqb, and_parts, leb-true, IsTrue, IfOk, Map, IsMap}
+use Rattle.olr_refs.proofs.Common.{dm_of, Path, is_path, extended_path, AreJoined, last_position, Reference, legs}
+use Rattle.olr_refs.proofs.Common.{reference, first_unknown, first_break, path_fault, CoverageQuery, QueriesOf}
+use Rattle.olr_refs.proofs.Common.{KnownQuery, path_nonempty, all_first, all_last, path_also, Reuses, Asks, AsksOf}
+use Rattle.olr_refs.proofs.Common.{Work, Extends, later, joined, answer_of}
+use Rattle.std.proofs.Common.{◌↔◌}
+use Rattle.std.specs.Prelude.{Result, OnOk}
+use Rattle.olr_spec.specs.Extension.{Tried}
+use Rattle.olr_spec.specs.Points.{OfPath}
+use Rattle.olr_spec.specs.Encoding.{answer_by_points, Encoding, Encodes}
+use Rattle.olr_spec.specs.Queries.{Traversed, TraversedOfExtended, QueriesOfExtended, AreKnown}
+use Rattle.olr_spec.proofs.AnswerLemmas.{sound_lines}
 use Rattle.olr_spec.proofs.RunLemmas.{one_tried}
 use Rattle.olr_spec.proofs.FitLemmas.{extended_sound}
 use Rattle.olr_answers.specs.declared.answer.Answer.{Answer}
 use Rattle.olr_answers.specs.declared.answer.Answer.TheVariants.{Points, Refused}
 use Rattle.olr_refs.specs.Choice.{ForPoints, searches_of}
-use Rattle.olr_refs.specs.Reuse.{Reuses, Asks, AsksOf}
-use Rattle.olr_search.specs.declared.work.Work.{Work}
 use Rattle.std.proofs.lemmas.Slice.Zip.{AllZip-long}
 use Rattle.std.proofs.lemmas.List.Sums.{length-filter}
-use Rattle.olr_refs.specs.Extends.{Extends}
-use Rattle.olr_refs.specs.KeptPoints.{later}
-use Rattle.olr_spec.proofs.JoinedAnswers.{joined}
 use Rattle.olr_refs.specs.Referring.{JoinsOf, SearchesOf}
 use Rattle.olr_spec.proofs.JoinedLemmas.{extended_joined}
 use Rattle.olr_spec.proofs.ReceiverLemmas.{recovered}
-use Rattle.olr_answers.specs.Answers.{answer_of}
 use Rattle.olr_refs.specs.Recovered.{RecoveredOf}
 use Rattle.olr_spec.specs.Encoding as spec
 use Rattle.olr_answers.specs.Answers as answers

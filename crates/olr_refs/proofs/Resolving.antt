@@ -1,9 +1,7 @@
 -- Lines of a path as a map has them.
-use Rattle.std.proofs.Common.{◌≡◌, ◌<◌, ℕ, List, [], ◌∷◌, ◌++◌, length, get_or, refl, sym, ap, ◌∙◌, subst}
-use Rattle.std.proofs.lemmas.List.{get_or-map, length-map, map-append}
-use Rattle.std.specs.List.{slice_index}
-use Rattle.olr_spec.specs.Map.{Map}
-use Rattle.olr_refs.specs.ResolvedLines.{ResolvedLine, record_of, records_of, ids, AreRecords}
+use Rattle.olr_refs.proofs.Common.{◌≡◌, ◌<◌, ℕ, List, [], ◌∷◌, ◌++◌, length, get_or, refl, sym, ap, ◌∙◌, subst}
+use Rattle.olr_refs.proofs.Common.{get_or-map, length-map, map-append, slice_index, Map, ResolvedLine, record_of}
+use Rattle.olr_refs.proofs.Common.{records_of, ids, AreRecords}
 
 -- the record of line k
 pub record_at : (M : Map) (ls : List ℕ) (rs : List ResolvedLine) (k : ℕ) (d : ResolvedLine) → rs ≡ records_of M ls →

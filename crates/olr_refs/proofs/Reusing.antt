@@ -1,26 +1,21 @@
 -- Known coverage queries on an extended path: how one is found, and what it says there.
-use Rattle.std.proofs.lemmas.Bool.{cases_lt}
-use Rattle.std.proofs.Common.{◌≡◌, ◌<◌, ◌≤◌, ◌-◌, ◌+◌, ℕ, min, Bool, true, false, List, length, map, get_or, Ok, Err, Result}
-use Rattle.std.proofs.Common.{Some, None}
+use Rattle.olr_refs.proofs.Common.{cases_lt, ◌≡◌, ◌<◌, ◌≤◌, ◌-◌, ◌+◌, ℕ, min, Bool, true, false, List, length, map}
+use Rattle.olr_refs.proofs.Common.{get_or, Result, Some, None, Contains, refl, sym, ap, ◌∙◌, subst, arith, inl, inr}
+use Rattle.olr_refs.proofs.Common.{cases_order, nat_tests, get_or-map, get_or_default, length-map, IsTrue, ◌↔◌}
+use Rattle.olr_refs.proofs.Common.{IsStrictlyIncreasing, IsBinarySearchResult, nat_cmp, Map, AreJoined, Covered}
+use Rattle.olr_refs.proofs.Common.{KnownQuery, IsKnownAt, IsLastTested, IsFar, IsReach, Reuses}
+use Rattle.std.proofs.Common.{Ok, Err}
 use Rattle.std.specs.Result.{result_ok}
-use Rattle.std.proofs.Common.{Contains, refl, sym, ap, ◌∙◌, subst, arith, inl, inr}
-use Rattle.std.proofs.lemmas.Bool.{cases_order}
-use Rattle.std.proofs.lemmas.Bool.Decides.{nat_tests}
 use Rattle.std.proofs.lemmas.Cmp.{ranked}
-use Rattle.std.proofs.lemmas.List.{get_or-map, get_or_default, length-map}
 use Rattle.std.proofs.lemmas.List.Elements.{All-contains}
 use Rattle.std.proofs.lemmas.Map.Keys.{below_from_sorted, sorted_from_strictly_increasing}
-use Rattle.std.specs.Prelude.{IsTrue, ◌↔◌, if◌then◌else◌}
-use Rattle.std.specs.List.Sorted.{IsStrictlyIncreasing, IsNonDecreasingBy, IsBinarySearchResult, IsSearchInRange}
-use Rattle.std.specs.Ordering.{nat_cmp, ordering_index}
-use Rattle.olr_spec.specs.Map.{Map}
-use Rattle.olr_spec.specs.Extension.{AreJoined}
-use Rattle.olr_spec.specs.Points.{Covered}
-use Rattle.olr_spec.specs.Queries.{KnownQuery, IsKnown, IsKnownAt, IsLastTested, query_to}
+use Rattle.std.specs.Prelude.{if◌then◌else◌}
+use Rattle.std.specs.List.Sorted.{IsNonDecreasingBy, IsSearchInRange}
+use Rattle.std.specs.Ordering.{ordering_index}
+use Rattle.olr_spec.specs.Queries.{IsKnown, query_to}
 use Rattle.olr_spec.proofs.KnownLemmas.{lines_with, covered_unique, query_known, before_known, covered_known}
 use Rattle.olr_spec.proofs.TestedLemmas.{one_last_tested}
-use Rattle.olr_refs.specs.Along.{IsFar, IsReach}
-use Rattle.olr_refs.specs.Reuse.{Reuses, known_reach}
+use Rattle.olr_refs.specs.Reuse.{known_reach}
 use Rattle.olr_refs.proofs.Reaching.{UniqueTo, all_covered, covered_so_far, needed_most, needed_far}
 use Rattle.olr_refs.proofs.Stretches.{stretch_sum}
 

@@ -1,29 +1,25 @@
 -- A run of degree-two nodes that leads out from some lines, extended by one line at a time. Each line leads on from the
 -- one before it, which determines it, and is in the run already only if it is one of the lines.
-use Rattle.olr_spec.proofs.RunLemmas.{EndRun-at, EndRun-front}
+use Rattle.olr_refs.proofs.Common.{nat_tests, ◌⊎◌, ◌≡◌, ℕ, ◌+◌, ◌<◌, ◌≤◌, ◌==◌, Bool, not, true, false, List, [], ◌∷◌}
+use Rattle.olr_refs.proofs.Common.{◌++◌, length, map, reverse, Option, Some, None, MatchOption, refl, sym, ap, ◌∙◌}
+use Rattle.olr_refs.proofs.Common.{subst, arith, append_assoc, both_ways, map-append, reverse-append}
+use Rattle.olr_refs.proofs.Common.{list_any-IsPermutation, Map, has_line, dm, has, dm_of, last, limit, dm_of-append}
+use Rattle.olr_refs.proofs.Common.{far_end, Along, Against, ResolvedLine, record_of, records_of, ids, AreRecords}
+use Rattle.olr_refs.proofs.Common.{LiesBeyond, IsRun}
+use Rattle.olr_spec.proofs.RunLemmas.{EndRun-at, EndRun-front, same_start_run, same_end_run, last_push}
 use Rattle.std.proofs.lemmas.List.{reverse-reverse}
-use Rattle.std.proofs.lemmas.Bool.Decides.{nat_tests}
-use Rattle.std.proofs.Common.{◌⊎◌, ◌≡◌, ◌≢◌, ℕ, ◌+◌, ◌<◌, ◌≤◌, ◌==◌, Bool, not, true, false, List, [], ◌∷◌, ◌++◌}
-use Rattle.std.proofs.Common.{length, map, reverse, Option, Some, None, MatchOption, is_some, IsTrue, refl, sym, ap, ◌∙◌, subst}
-use Rattle.std.proofs.Common.{arith, append_assoc, append-nil}
+use Rattle.std.proofs.Common.{◌≢◌, is_some, IsTrue, append-nil}
 use Rattle.std.specs.Prelude.{⊤}
-use Rattle.std.proofs.lemmas.Bool.{both_ways, ne_eqb, or_from, or_parts}
-use Rattle.std.proofs.lemmas.List.{map-append, reverse-append}
+use Rattle.std.proofs.lemmas.Bool.{ne_eqb, or_from, or_parts}
 use Rattle.std.proofs.lemmas.List.Folds.{list_any-append}
-use Rattle.std.proofs.lemmas.List.Sorted.{IsPermutation-reverse, list_any-IsPermutation}
-use Rattle.olr_spec.specs.Map.{Map, has_line, dm, has}
-use Rattle.olr_spec.specs.Routes.{dm_of}
-use Rattle.olr_spec.specs.Extension.{last, limit, MayPrecede, MayFollow, StartRun, EndRun}
-use Rattle.olr_spec.proofs.RunLemmas.{same_start_run, same_end_run, last_push}
+use Rattle.std.proofs.lemmas.List.Sorted.{IsPermutation-reverse}
+use Rattle.olr_spec.specs.Extension.{MayPrecede, MayFollow, StartRun, EndRun}
 use Rattle.olr_spec.proofs.RunMoves.{EndRun-push}
 use Rattle.olr_spec.proofs.DecideLemmas.{last_of_list}
 use Rattle.olr_spec.proofs.ListLemmas.{has_here, has_first, has_last}
-use Rattle.olr_spec.proofs.RouteLemmas.{dm_of-append}
-use Rattle.olr_search.specs.Distances.{near_end, far_end}
+use Rattle.olr_search.specs.Distances.{near_end}
 use Rattle.olr_search.specs.declared.distances.Direction.{Direction}
-use Rattle.olr_search.specs.declared.distances.Direction.TheVariants.{Along, Against}
-use Rattle.olr_refs.specs.ResolvedLines.{ResolvedLine, record_of, records_of, ids, AreRecords}
-use Rattle.olr_refs.specs.Runs.{outermost, joined, in_order, LeadsOn, LiesBeyond, IsLongest, IsRun}
+use Rattle.olr_refs.specs.Runs.{outermost, joined, in_order, LeadsOn, IsLongest}
 
 -- ---- the line beyond a line
 

@@ -1,12 +1,7 @@
 -- Legs of joined lines: they are routes, and one leg begins where another ends.
-use Rattle.std.proofs.Common.{◌≡◌, ◌<◌, ◌≤◌, ◌-◌, ◌+◌, ℕ, List, ◌++◌, length, take, sym, ap, ◌∙◌, arith}
-use Rattle.std.specs.List.{slice_index}
-use Rattle.olr_spec.specs.Map.{Map}
-use Rattle.olr_spec.specs.Routes.{dm_of}
-use Rattle.olr_spec.specs.Points.{stretch}
-use Rattle.olr_spec.proofs.RouteLemmas.{dm_of-append}
-use Rattle.olr_spec.proofs.QueryLemmas.{stretch_parts}
-use Rattle.olr_refs.specs.Along.{AreDistances, IsLastWithinLimit, IsFar}
+use Rattle.olr_refs.proofs.Common.{◌≡◌, ◌<◌, ◌≤◌, ◌-◌, ◌+◌, ℕ, List, ◌++◌, length, take, sym, ap, ◌∙◌, arith}
+use Rattle.olr_refs.proofs.Common.{slice_index, Map, dm_of, stretch, dm_of-append, stretch_parts, AreDistances, IsFar}
+use Rattle.olr_refs.specs.Along.{IsLastWithinLimit}
 use Rattle.std.proofs.Math.Seq.{take-add}
 
 -- ---- lengths

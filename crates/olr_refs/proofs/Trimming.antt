@@ -1,23 +1,20 @@
 -- Which LRPs remain, by the distances of all positions.
-use Rattle.std.proofs.lemmas.Grind.{common_steps}
-use Rattle.std.proofs.Common.{inl, inr, ◌≡◌, ◌<◌, ◌≤◌, ◌-◌, ◌+◌, ℕ, zero, suc, Bool, true, false, cond, List, [], ◌∷◌}
-use Rattle.std.proofs.Common.{length, take, drop, refl, sym, ap, ◌∙◌, subst, arith, nat_le, length-take, length-drop}
-use Rattle.std.proofs.lemmas.Bool.{cases_lt, cases_eq, le-leb, lt-leb}
-use Rattle.std.proofs.lemmas.Bool.Decides.{nat_tests}
-use Rattle.std.proofs.lemmas.List.{take-map, take_all, get_or-take, get_or-drop}
+use Rattle.olr_refs.proofs.Common.{common_steps, inl, inr, ◌≡◌, ◌<◌, ◌≤◌, ◌-◌, ◌+◌, ℕ, zero, suc, Bool, true, false}
+use Rattle.olr_refs.proofs.Common.{cond, List, [], ◌∷◌, length, take, drop, refl, sym, ap, ◌∙◌, subst, arith, cases_lt}
+use Rattle.olr_refs.proofs.Common.{cases_eq, le-leb, nat_tests, take-map, take_all, slice_index, slice_range, Map}
+use Rattle.olr_refs.proofs.Common.{dm_of, Candidate, last_position, leg, legs, dm_between, reference, reference_by}
+use Rattle.olr_refs.proofs.Common.{AreDistances, later, distance_at, whole_distance}
+use Rattle.std.proofs.Common.{nat_le, length-take, length-drop}
+use Rattle.std.proofs.lemmas.Bool.{lt-leb}
+use Rattle.std.proofs.lemmas.List.{get_or-take, get_or-drop}
 use Rattle.std.proofs.lemmas.List.Kept.{AllPairs-from_increasing}
-use Rattle.std.specs.List.{slice_index, slice_range, filter}
-use Rattle.olr_spec.specs.Map.{Map}
-use Rattle.olr_spec.specs.Routes.{dm_of}
-use Rattle.olr_spec.specs.Points.{Candidate, last_position}
-use Rattle.olr_spec.specs.Reference.{leg, legs, dm_along, dm_between, from_front, to_back, last_where, first_where, first_kept}
-use Rattle.olr_spec.specs.Reference.{last_kept, kept_points, reference, reference_by}
+use Rattle.std.specs.List.{filter}
+use Rattle.olr_spec.specs.Reference.{dm_along, from_front, to_back, last_where, first_where, first_kept, last_kept}
+use Rattle.olr_spec.specs.Reference.{kept_points}
 use Rattle.olr_spec.proofs.JoinLemmas.{Linked, follow_linked, between, kept_linked}
 use Rattle.olr_spec.proofs.FieldLemmas.{from_front-add}
 use Rattle.olr_spec.proofs.KeptLemmas.{dm_along-legs, whole}
-use Rattle.olr_refs.specs.Along.{AreDistances}
-use Rattle.olr_refs.specs.KeptPoints.{later, AreAlong, ArePoints, AreLinked, AreTrimmed, distance_at, whole_distance}
-use Rattle.olr_refs.specs.KeptPoints.{IsFirstKept, IsLastKept}
+use Rattle.olr_refs.specs.KeptPoints.{AreAlong, ArePoints, AreLinked, AreTrimmed, IsFirstKept, IsLastKept}
 use Rattle.olr_refs.proofs.Stretches.{distances_rise}
 
 -- ---- the LRPs

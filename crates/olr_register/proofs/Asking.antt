@@ -1,21 +1,14 @@
 -- What the register shows of its paths.
-use Rattle.std.proofs.Common.{◌≡◌, ◌≢◌, ℕ, true, false, List, [], ◌∷◌, map, length, Option, Some, None, refl, sym}
-use Rattle.std.proofs.Common.{ap, ◌∙◌, subst}
-use Rattle.std.specs.Prelude.{◌==◌, ◌↔◌, Contains, is_some, option_map, option_and_then, MatchOption}
-use Rattle.std.specs.Prelude.{IsSomeAnd}
-use Rattle.std.specs.Result.{result_ok}
-use Rattle.std.proofs.lemmas.Bool.{ne_eqb}
-use Rattle.std.proofs.lemmas.List.{length-map}
-use Rattle.olr_spec.specs.Map.{Map}
-use Rattle.olr_spec.specs.Encoding.{Answer, Encodes}
-use Rattle.olr_spec.specs.Extension.{Path}
+use Rattle.olr_register.proofs.Common.{◌≡◌, ◌≢◌, ℕ, true, false, List, [], ◌∷◌, map, length, Option, Some, None, refl}
+use Rattle.olr_register.proofs.Common.{sym, ap, ◌∙◌, subst, ◌==◌, ◌↔◌, Contains, option_map, option_and_then}
+use Rattle.olr_register.proofs.Common.{MatchOption, IsSomeAnd, result_ok, ne_eqb, length-map, Map, Answer, Encodes}
+use Rattle.olr_register.proofs.Common.{Path, Named, Content, path_named, published_text, Made, Item, IsEncodingOf}
+use Rattle.olr_register.proofs.Common.{AreEncodings, named_of, all_named, made_in, answer_in, content_on}
+use Rattle.std.specs.Prelude.{is_some}
 use Rattle.olr_spec.specs.Footprint.{Foot}
-use Rattle.olr_commands.specs.State.{Named, Content, path_named}
-use Rattle.olr_commands.specs.Reply.{Published, PublishedText, published_text}
-use Rattle.olr_paths.specs.Items.{Made, Item, IsEncodingOf, AreEncodings, named_of, all_named, made_in, answer_in}
+use Rattle.olr_commands.specs.Reply.{Published, PublishedText}
 use Rattle.olr_paths.specs.Changes.{AreEncoded}
 use Rattle.olr_register.specs.Registered.{PublishedWhole, HaveEncodings}
-use Rattle.olr_register.specs.Holding.{content_on}
 use Rattle.olr_register.proofs.Replies.{made_found}
 
 answer_found : (M : Map) (p : Option Path) (o : Option Made) →

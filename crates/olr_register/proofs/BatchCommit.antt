@@ -1,30 +1,13 @@
 -- Committing a batch, in terms of the register's parts.
-use Rattle.std.proofs.Common.{◌≡◌, ℕ, ◌≤◌, true, false, List, map, length, Some, None, Ok, Err, refl, sym, ap, ◌∙◌}
-use Rattle.std.proofs.Common.{subst}
-use Rattle.std.proofs.lemmas.Bool.{eq-eqb, ne_eqb}
-use Rattle.olr_map.specs.RoadMaps.{map_of, map_before}
-use Rattle.olr_map.specs.declared.road_map.RoadMap.{RoadMap}
-use Rattle.olr_search.specs.declared.work.Work.{Work}
-use Rattle.olr_commands.specs.State.{Named, Content, Change, Commit, after, step, IsContent}
-use Rattle.olr_commands.specs.Reply as replies
-use Rattle.olr_commands.specs.Reply.{ByState, Lacks, may_want}
-use Rattle.olr_commands.specs.Words.{entry_of, reply_of}
-use Rattle.olr_commands.specs.declared.reply.Entry.{Entry}
-use Rattle.olr_commands.specs.declared.reply.Reply.{Reply}
-use Rattle.olr_commands.specs.declared.fault.CommandFault.{CommandFault}
-use Rattle.olr_commands.specs.declared.fault.CommandFault.TheVariants as rust
-use Rattle.std.specs.Prelude.{Result, IsErrAnd}
-use Rattle.olr_near.specs.declared.distance_bounds.DistanceBounds.{DistanceBounds}
-use Rattle.olr_paths.specs.Items.{Item, all_named}
-use Rattle.olr_paths.specs.Laying.{under_overlay}
-use Rattle.olr_paths.specs.Changes.{Rises}
-use Rattle.olr_paths.specs.Renewing.{IsRenewal}
-use Rattle.olr_paths.specs.Touching.{nodes_of, lines_of, changed_of}
-use Rattle.olr_register.specs.RegisterState.{IsBatchOf}
-use Rattle.olr_register.specs.Registered.{Registered}
-use Rattle.olr_register.specs.Holding.{content_on, batch_of, HasBounds, IsKeptRight, CanRenew}
-use Rattle.olr_register.specs.Answering.{Answered}
-use Rattle.olr_register.specs.declared.batch.Batch.{Batch}
+use Rattle.olr_register.proofs.Common.{◌≡◌, ℕ, ◌≤◌, true, false, List, map, length, Some, None, Ok, Err, refl, sym, ap}
+use Rattle.olr_register.proofs.Common.{◌∙◌, subst, ne_eqb, map_of, map_before, RoadMap, Work, Named, Content, Change}
+use Rattle.olr_register.proofs.Common.{Commit, after, step, IsContent, ByState, may_want, entry_of, reply_of, Entry}
+use Rattle.olr_register.proofs.Common.{Reply, CommandFault, IsErrAnd, DistanceBounds, Item, all_named, under_overlay}
+use Rattle.olr_register.proofs.Common.{Rises, IsRenewal, nodes_of, lines_of, changed_of, IsBatchOf, Registered}
+use Rattle.olr_register.proofs.Common.{content_on, batch_of, HasBounds, IsKeptRight, CanRenew, Answered, Batch}
+use Rattle.std.proofs.lemmas.Bool.{eq-eqb}
+use Rattle.olr_commands.specs.Reply.{Lacks}
+use Rattle.std.specs.Prelude.{Result}
 use Rattle.olr_register.proofs.BatchSteps.{held_content}
 use Rattle.olr_register.proofs.Counting.{counted_changes}
 use Rattle.olr_register.proofs.Noted.{is_before}
@@ -32,6 +15,8 @@ use Rattle.olr_register.proofs.Outcomes.{answered_counted, answered_refused, Acc
 use Rattle.olr_register.proofs.Renewed.{remade_made}
 use Rattle.olr_register.proofs.Replies.{planned_changes}
 use Rattle.olr_register.proofs.States.{state, of_parts, in_states}
+use Rattle.olr_commands.specs.Reply as replies
+use Rattle.olr_commands.specs.declared.fault.CommandFault.TheVariants as rust
 
 module _ (roads : RoadMap) (is : List Item) (b : Batch) where
   abbrev c : Content

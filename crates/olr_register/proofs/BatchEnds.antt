@@ -1,35 +1,19 @@
 -- Opening a batch and dropping it, in terms of the register's parts.
-use Rattle.std.proofs.Common.{◌≡◌, ℕ, arith, true, List, [], map, Option, Some, None, is_some, Ok, Err, refl, sym, ap, ◌∙◌}
-use Rattle.std.proofs.Common.{subst}
-use Rattle.olr_spec.specs.Map.{has}
+use Rattle.olr_register.proofs.Common.{◌≡◌, ℕ, arith, true, List, [], map, Option, Some, None, is_some, Ok, Err, refl}
+use Rattle.olr_register.proofs.Common.{sym, ap, ◌∙◌, subst, has, map_of, map_before, RoadMap, Work, Content, Named}
+use Rattle.olr_register.proofs.Common.{Change, Command, Begin, Abort, step, IsContent, ByState, command_fault_of}
+use Rattle.olr_register.proofs.Common.{reply_of, Reply, CommandFault, DistanceBounds, Item, AreEncodingsIfAny, Begins}
+use Rattle.olr_register.proofs.Common.{under_overlay, Follows, nodes_of, lines_of, changed_of, follows_self}
+use Rattle.olr_register.proofs.Common.{RegisterState, named_held, IsBatchOf, content_on, AreEditsNoted, held_of}
+use Rattle.olr_register.proofs.Common.{batch_of, IsKeptRight, Answered, AreGiven, Batch}
 use Rattle.olr_map.specs.Changes.{room_of, all_node_puts, all_line_puts}
 use Rattle.olr_map.specs.Undos.{CanMakeAll, made_all, log_changes}
-use Rattle.olr_map.specs.RoadMaps.{map_of, map_before}
-use Rattle.olr_map.specs.declared.road_map.RoadMap.{RoadMap}
-use Rattle.olr_search.specs.declared.work.Work.{Work}
-use Rattle.olr_commands.specs.State.{Content, Named, Change, Command, Begin, Abort, step, IsContent}
-use Rattle.olr_commands.specs.Reply as replies
-use Rattle.olr_commands.specs.Reply.{ByState}
-use Rattle.olr_commands.specs.Words.{command_fault_of, reply_of}
-use Rattle.olr_commands.specs.declared.reply.Reply.{Reply}
-use Rattle.olr_commands.specs.declared.fault.CommandFault.{CommandFault}
-use Rattle.olr_near.specs.declared.distance_bounds.DistanceBounds.{DistanceBounds}
-use Rattle.olr_paths.specs.Items.{Item, AreEncodingsIfAny}
-use Rattle.olr_paths.specs.Origins.{Begins}
-use Rattle.olr_paths.specs.Laying.{under_overlay}
-use Rattle.olr_paths.specs.Changes.{Follows}
-use Rattle.olr_paths.specs.Touching.{nodes_of, lines_of, changed_of}
-use Rattle.olr_paths.proofs.Following.{follows_self}
-use Rattle.olr_register.specs.RegisterState.{RegisterState, named_held, IsBatchOf}
-use Rattle.olr_register.specs.Holding.{content_on, AreEditsNoted, held_of, batch_of, IsKeptRight}
-use Rattle.olr_register.specs.Answering.{Answered}
-use Rattle.olr_register.specs.HoldsChange.{AreGiven}
-use Rattle.olr_register.specs.declared.batch.Batch.{Batch}
 use Rattle.olr_register.proofs.Noted.{noted_none}
 use Rattle.olr_register.proofs.Renewed.{made_if_any}
 use Rattle.olr_register.proofs.Listed.{named_twice, given_at_first}
 use Rattle.olr_register.proofs.Outcomes.{answered_uncounted, answered_refused, Keeps}
 use Rattle.olr_register.proofs.States.{state, register_of, of_parts, kept_moved, in_states}
+use Rattle.olr_commands.specs.Reply as replies
 
 pub open_refused : (roads : RoadMap) (is : List Item) (o : Option Batch) (w : Work) (n : ℕ) (x : Command)
     (f : CommandFault) → is_some o ≡ true →

@@ -1,35 +1,23 @@
 -- One more change in an open batch, in terms of the definitions of commands.
-use Rattle.std.proofs.Common.{◌≡◌, ℕ, suc, arith, Bool, true, false, not, List, [], ◌∷◌, ◌++◌, length, map, Some, Result}
-use Rattle.std.proofs.Common.{Ok, Err, refl, sym, ap, ◌∙◌, subst, append_assoc}
-use Rattle.std.specs.Prelude.{◌==◌, ◌&&◌, ◌||◌, nat_le, flat_map}
-use Rattle.std.proofs.lemmas.List.{append-nil, length_push}
-use Rattle.std.proofs.lemmas.List.Folds.{list_any-append}
-use Rattle.std.proofs.lemmas.Grind.{flat_map-append}
-use Rattle.olr_spec.specs.Map.{has}
-use Rattle.olr_spec.specs.Detours.{ChangedLine}
-use Rattle.olr_map.specs.RoadMaps.{map_of, map_before}
-use Rattle.olr_map.specs.declared.road_map.RoadMap.{RoadMap}
-use Rattle.olr_search.specs.declared.work.Work.{Work}
-use Rattle.olr_commands.specs.State.{Named, Content, Fault, Batch_full, full, when, Change, On_map, Add_path, Set_path}
-use Rattle.olr_commands.specs.State.{Drop_path, with_change, next, after, Make, into_batch, step}
-use Rattle.olr_commands.specs.Reply as replies
-use Rattle.olr_commands.specs.Reply.{IsRefusal, takes_memory, may_want, is_reported_first}
-use Rattle.olr_commands.specs.Counts.{nodes_of_change, lines_of_change, changed_by, names_of_change, all_nodes, all_lines}
-use Rattle.olr_commands.specs.Counts.{all_changed, all_names}
-use Rattle.olr_commands.specs.Words.{command_fault_of, reply_of}
-use Rattle.olr_commands.specs.declared.reply.Reply.{Reply}
-use Rattle.olr_commands.specs.declared.fault.CommandFault.{CommandFault}
+use Rattle.olr_register.proofs.Common.{◌≡◌, ℕ, suc, arith, Bool, true, false, not, List, [], ◌∷◌, ◌++◌, length, map}
+use Rattle.olr_register.proofs.Common.{Some, Result, Ok, Err, refl, sym, ap, ◌∙◌, subst, append_assoc, ◌==◌, ◌&&◌, ◌||◌}
+use Rattle.olr_register.proofs.Common.{nat_le, append-nil, list_any-append, flat_map-append, has, ChangedLine, map_of}
+use Rattle.olr_register.proofs.Common.{map_before, RoadMap, Work, Named, Content, Fault, full, when, Change, On_map}
+use Rattle.olr_register.proofs.Common.{Add_path, Set_path, Drop_path, with_change, after, Make, step, IsRefusal}
+use Rattle.olr_register.proofs.Common.{takes_memory, may_want, is_reported_first, nodes_of_change, lines_of_change}
+use Rattle.olr_register.proofs.Common.{changed_by, names_of_change, all_nodes, all_lines, all_changed, all_names}
+use Rattle.olr_register.proofs.Common.{command_fault_of, reply_of, Reply, CommandFault, Item, under_overlay}
+use Rattle.olr_register.proofs.Common.{RegisterState, IsBatchOf, content_on, content_under, batch_of, held_of, Answered}
+use Rattle.olr_register.proofs.Common.{AreGiven, MayReport, ByContent, Lacks, HoldsChange, Batch}
+use Rattle.std.specs.Prelude.{flat_map}
+use Rattle.std.proofs.lemmas.List.{length_push}
+use Rattle.olr_commands.specs.State.{Batch_full, next, into_batch}
 use Rattle.olr_commands.proofs.StateLemmas.{next_ok, after_push}
-use Rattle.olr_paths.specs.Items.{Item}
-use Rattle.olr_paths.specs.Laying.{under_overlay}
-use Rattle.olr_register.specs.RegisterState.{RegisterState, IsBatchOf}
-use Rattle.olr_register.specs.Holding.{content_on, content_under, batch_of, held_of}
-use Rattle.olr_register.specs.Answering.{Answered}
-use Rattle.olr_register.specs.HoldsChange.{content_with, AreGiven, MayReport, ByContent, Lacks, HoldsChange}
-use Rattle.olr_register.specs.declared.batch.Batch.{Batch}
+use Rattle.olr_register.specs.HoldsChange.{content_with}
 use Rattle.olr_register.proofs.Listed.{named_twice}
 use Rattle.olr_register.proofs.Outcomes.{answered_uncounted, answered_refused, Keeps}
 use Rattle.olr_register.proofs.States.{state, register_of, of_parts, in_states}
+use Rattle.olr_commands.specs.Reply as replies
 
 -- ---- the held changes, with one more
 

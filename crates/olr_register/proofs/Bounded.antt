@@ -1,12 +1,8 @@
 -- The distance bounds that a register stores: right on its map, with a source where each coverage query of its list
 -- begins.
-use Rattle.std.proofs.Common.{◌≡◌, ℕ, List, Option, Some, None, IsFalse}
-use Rattle.std.proofs.Common.{sym, ◌∙◌}
-use Rattle.olr_spec.specs.Map.{Map}
+use Rattle.olr_register.proofs.Common.{◌≡◌, ℕ, List, Option, Some, None, sym, ◌∙◌, Map, DistanceBounds, Item, HasBounds}
+use Rattle.std.proofs.Common.{IsFalse}
 use Rattle.olr_near.specs.Bounds.{bound_of, IsRight}
-use Rattle.olr_near.specs.declared.distance_bounds.DistanceBounds.{DistanceBounds}
-use Rattle.olr_paths.specs.Items.{Item}
-use Rattle.olr_register.specs.Holding.{HasBounds}
 
 -- unknown bounds say nothing
 pub bounded_unknown : (M : Map) (is : List Item) (near : DistanceBounds) → IsFalse near.known → HasBounds M is near

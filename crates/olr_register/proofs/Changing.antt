@@ -1,25 +1,19 @@
 -- What a change makes of the content of a map and a list.
-use Rattle.std.proofs.Common.{inl, inr, ◌⊎◌, ◌≡◌, ℕ, Bool, true, false, not, List, [], ◌∷◌, ◌++◌, map, Option}
-use Rattle.std.proofs.Common.{filter, Result, Ok, Err, IsOk, refl, sym, ap, ◌∙◌}
+use Rattle.olr_register.proofs.Common.{inl, inr, ◌⊎◌, ◌≡◌, ℕ, Bool, true, false, not, List, [], ◌∷◌, ◌++◌, map, Option}
+use Rattle.olr_register.proofs.Common.{filter, Result, Ok, Err, IsOk, refl, sym, ap, ◌∙◌, Map, Path, is_path, EditPlan}
+use Rattle.olr_register.proofs.Common.{Named, Content, same_name, has_path, Fault, Memory, No_path, when, Add_path}
+use Rattle.olr_register.proofs.Common.{Set_path, Drop_path, with_map, with_change, is_reported_first, command_fault_of}
+use Rattle.olr_register.proofs.Common.{CommandFault, Made, Item, set_item, has_name, content_on, MayReport, ByContent}
+use Rattle.olr_register.proofs.Common.{Lacks}
 use Rattle.std.specs.Prelude.{MatchResult}
-use Rattle.olr_spec.specs.Map.{Map, MapFault}
-use Rattle.olr_spec.specs.Map as map_faults
-use Rattle.olr_spec.specs.Extension.{Path, is_path}
+use Rattle.olr_spec.specs.Map.{MapFault}
 use Rattle.olr_map.specs.Edits.{edit_fault_of}
 use Rattle.olr_map.specs.declared.edit.EditFault.{EditFault}
-use Rattle.olr_map.specs.declared.judging.EditPlan.{EditPlan}
-use Rattle.olr_commands.specs.State.{Named, Content, same_name, has_path, Fault, Map_fault, Memory, Path_exists, No_path}
-use Rattle.olr_commands.specs.State.{Bad_path, when, Add_path, Set_path, Drop_path, with_map, with_change}
-use Rattle.olr_commands.specs.Reply.{is_reported_first}
-use Rattle.olr_commands.specs.Words.{command_fault_of, map_fault_of}
-use Rattle.olr_commands.specs.declared.fault.CommandFault.{CommandFault}
-use Rattle.olr_commands.specs.declared.fault.CommandFault.TheVariants as rust
-use Rattle.olr_paths.specs.Items.{Made, Item}
-use Rattle.olr_paths.specs.Changes.{set_item}
-use Rattle.olr_paths.proofs.Overlaying.{has_name}
-use Rattle.olr_register.specs.Holding.{content_on}
-use Rattle.olr_register.specs.HoldsChange.{MayReport, ByContent, Lacks}
+use Rattle.olr_commands.specs.State.{Map_fault, Path_exists, Bad_path}
+use Rattle.olr_commands.specs.Words.{map_fault_of}
 use Rattle.olr_register.proofs.Listed.{names_add, names_set, names_drop}
+use Rattle.olr_spec.specs.Map as map_faults
+use Rattle.olr_commands.specs.declared.fault.CommandFault.TheVariants as rust
 
 abbrev content_from : Map → List Named → Result Content Fault
 content_from M ps = Ok (record { map = M; paths = ps })

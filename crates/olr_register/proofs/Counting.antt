@@ -1,22 +1,15 @@
 -- How many paths the changes affect, counted by the stored results; none if there are no changes.
-use Rattle.std.proofs.Common.{inl, inr, ◌≡◌, ℕ, ◌≤◌, true, false, List, [], ◌∷◌, map, length, All, Option, Some, None}
-use Rattle.std.proofs.Common.{refl, sym, ap, ◌∙◌, subst}
-use Rattle.std.specs.Prelude.{Bool, is_none, MatchOption}
-use Rattle.std.specs.List.{list_any}
-use Rattle.std.proofs.lemmas.Bool.{both_ways}
-use Rattle.olr_spec.specs.Map.{Map, has}
-use Rattle.olr_spec.specs.Extension.{Path}
-use Rattle.olr_spec.specs.Detours.{ChangedLine}
-use Rattle.olr_spec.specs.Queries.{CoverageQuery, IsClear}
-use Rattle.olr_commands.specs.State.{Named, Content, same_name, Change}
-use Rattle.olr_commands.specs.Counts.{Affects, By_name, By_node, By_line, CountIs, all_nodes, all_lines}
-use Rattle.olr_commands.specs.Counts.{all_changed, all_names, most_changed, IsUnchanged, Retains, EncodesAgain}
-use Rattle.olr_commands.specs.Counts.{SearchedFor, SearchedAgain, Either, SearchesFor, Collects}
-use Rattle.olr_paths.specs.Items.{Made, Item, named_of, all_named}
-use Rattle.olr_paths.specs.Changes.{IsAffected, IsSpared, IsEncodedAgain, SearchesItem, Totals, AreTotals}
+use Rattle.olr_register.proofs.Common.{inl, inr, ◌≡◌, ℕ, ◌≤◌, true, false, List, [], ◌∷◌, map, length, All, Option}
+use Rattle.olr_register.proofs.Common.{Some, None, refl, sym, ap, ◌∙◌, subst, is_none, MatchOption, list_any, both_ways}
+use Rattle.olr_register.proofs.Common.{Map, has, Path, ChangedLine, CoverageQuery, Named, Content, same_name, Change}
+use Rattle.olr_register.proofs.Common.{Affects, By_name, By_node, By_line, all_nodes, all_lines, all_changed, all_names}
+use Rattle.olr_register.proofs.Common.{SearchedFor, Made, Item, named_of, all_named, Totals, held_of, AreGiven}
+use Rattle.std.specs.Prelude.{Bool}
+use Rattle.olr_spec.specs.Queries.{IsClear}
+use Rattle.olr_commands.specs.Counts.{CountIs, most_changed, IsUnchanged, Retains, EncodesAgain, SearchedAgain, Either}
+use Rattle.olr_commands.specs.Counts.{SearchesFor, Collects}
+use Rattle.olr_paths.specs.Changes.{IsAffected, IsSpared, IsEncodedAgain, SearchesItem, AreTotals}
 use Rattle.olr_paths.specs.Changes as made
-use Rattle.olr_register.specs.Holding.{held_of}
-use Rattle.olr_register.specs.HoldsChange.{AreGiven}
 
 -- by how much changes from c to d, whose paths are ps, raise the counts
 pub record AreRises (c d : Content) (xs : List Change) (ps : List Named) (t : Totals) : Type 0 where

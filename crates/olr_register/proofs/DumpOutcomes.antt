@@ -1,15 +1,10 @@
 -- What a dump answers with no batch open.
-use Rattle.std.proofs.Common.{◌≡◌, ℕ, true, [], None, Ok, Err, length, refl}
-use Rattle.std.specs.List.{concat}
-use Rattle.olr_search.specs.declared.work.Work.{Work}
-use Rattle.olr_commands.specs.State.{Content, is_recordable, Dump}
-use Rattle.olr_commands.specs.Reply as replies
-use Rattle.olr_commands.specs.Dump.{dump_lines}
-use Rattle.olr_commands.specs.Words.{reply_of}
-use Rattle.olr_commands.specs.declared.reply.Reply.{Reply}
-use Rattle.olr_register.specs.Answering.{Answered}
+use Rattle.olr_register.proofs.Common.{◌≡◌, ℕ, true, [], None, Ok, Err, length, refl, concat, Work, Content, Dump}
+use Rattle.olr_register.proofs.Common.{dump_lines, reply_of, Reply, Answered}
+use Rattle.olr_commands.specs.State.{is_recordable}
 use Rattle.olr_register.proofs.Outcomes.{answered_uncounted, Keeps}
 use Rattle.olr_register.proofs.States.{state, register_of, in_states}
+use Rattle.olr_commands.specs.Reply as replies
 
 pub dump_done : (c : Content) (w : Work) (n : ℕ) (r : Reply) → is_recordable c ≡ true →
     reply_of r ≡ replies.Dumped (length (dump_lines c)) (concat (dump_lines c)) →

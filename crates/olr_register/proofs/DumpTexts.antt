@@ -1,27 +1,25 @@
 -- Dumps: which maps records can encode, and the records of nodes, lines and paths.
-use Rattle.std.proofs.Common.{inl, inr, ◌≡◌, ℕ, zero, suc, ◌+◌, ◌<◌, Bool, true, false, cond, List, [], ◌∷◌}
-use Rattle.std.proofs.Common.{◌++◌, map, length, take, get_or, slice_get, Option, Some, None, is_some, unwrap_or}
-use Rattle.std.proofs.Common.{nat_cmp, refl, sym, ap, ◌∙◌, subst, append_assoc, arith}
-use Rattle.std.specs.List.{list_all, concat, flat_map, AllByRecursion}
+use Rattle.olr_register.proofs.Common.{inl, inr, ◌≡◌, ℕ, suc, ◌+◌, ◌<◌, Bool, true, false, cond, List, [], ◌∷◌, ◌++◌}
+use Rattle.olr_register.proofs.Common.{map, length, take, slice_get, Option, Some, None, is_some, refl, sym, ap, ◌∙◌}
+use Rattle.olr_register.proofs.Common.{subst, append_assoc, arith, list_all, concat, flat_map, AllByRecursion, entries}
+use Rattle.olr_register.proofs.Common.{cases_Bool, both_ways, and_parts, append-nil, flat_map-append, Map, IsMap, has}
+use Rattle.olr_register.proofs.Common.{has_node, start, is_recordable_map, record_line, Content, Change, node_change}
+use Rattle.olr_register.proofs.Common.{line_change, path_change, dump_lines, is_recordable_line_at}
+use Rattle.olr_register.proofs.Common.{is_recordable_node_at}
+use Rattle.std.proofs.Common.{zero, get_or, unwrap_or, nat_cmp}
 use Rattle.std.specs.Ordering.{eq_by_cmp}
-use Rattle.std.specs.FinMap.{FinMap, get, entries, entries_sorted, get-entries}
+use Rattle.std.specs.FinMap.{FinMap, get, entries_sorted, get-entries}
 use Rattle.std.specs.FinMap.Entries.{find}
-use Rattle.std.proofs.lemmas.Bool.{cases_Bool, both_ways, and_parts, and_from}
-use Rattle.std.proofs.lemmas.List.{append-nil, map-append}
+use Rattle.std.proofs.lemmas.Bool.{and_from}
+use Rattle.std.proofs.lemmas.List.{map-append}
 use Rattle.std.proofs.lemmas.List.Folds.{concat-append, list_all_at, list_all_more}
 use Rattle.std.proofs.lemmas.Option.{slice_get-get_or}
-use Rattle.std.proofs.lemmas.Grind.{flat_map-append}
 use Rattle.olr_spec.specs.Coordinates.{Coord}
-use Rattle.olr_spec.specs.Map.{Map, IsMap, Line, has, has_node, has_line, coord_at, no_line, no_coord, lines_out}
-use Rattle.olr_spec.specs.Map.{start}
+use Rattle.olr_spec.specs.Map.{Line, has_line, coord_at, no_line, no_coord, lines_out}
 use Rattle.olr_spec.proofs.ListLemmas.{has_cases, take_more_at}
 use Rattle.olr_spec.proofs.OrderLemmas.{exactly_out}
-use Rattle.olr_commands.specs.Recordable.{is_recordable_coord, is_recordable_shape, is_recordable_map}
-use Rattle.olr_commands.specs.RecordText.{record_line}
-use Rattle.olr_commands.specs.State.{Content, Change}
-use Rattle.olr_commands.specs.Dump.{node_change, line_change, path_change, dump_lines}
+use Rattle.olr_commands.specs.Recordable.{is_recordable_coord, is_recordable_shape}
 use Rattle.olr_commands.proofs.DumpLemmas.{of_entries}
-use Rattle.olr_register.specs.Dumping.{is_recordable_line_at, is_recordable_node_at}
 
 -- ---- a test of all values of a finite map
 

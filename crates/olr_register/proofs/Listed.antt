@@ -1,23 +1,13 @@
 -- Lists of paths after one is added, replaced or dropped: their names, and what is true of each item.
-use Rattle.std.proofs.Common.{inl, inr, ◌⊎◌, ◌≡◌, ℕ, Bool, true, false, cond, not, List, [], ◌∷◌, ◌++◌, map, filter}
-use Rattle.std.proofs.Common.{Option, Some, None, is_some, length, arith, refl, sym, ap, ◌∙◌}
-use Rattle.std.specs.Prelude.{◌||◌, is_none, IfSome}
-use Rattle.std.specs.List.{list_any}
-use Rattle.std.proofs.Math.Bool.{or-false}
-use Rattle.std.proofs.lemmas.Bool.{or_right}
-use Rattle.std.proofs.lemmas.List.Folds.{list_any-append}
+use Rattle.olr_register.proofs.Common.{inl, inr, ◌⊎◌, ◌≡◌, ℕ, Bool, true, false, cond, not, List, [], ◌∷◌, ◌++◌, map}
+use Rattle.olr_register.proofs.Common.{filter, Option, Some, None, is_some, length, arith, refl, sym, ap, ◌∙◌, ◌||◌}
+use Rattle.olr_register.proofs.Common.{is_none, IfSome, list_any, or-false, or_right, list_any-append, Map, Path, Named}
+use Rattle.olr_register.proofs.Common.{same_name, path_named, not_named, Made, Item, IsEncodingOf, AreEncodings}
+use Rattle.olr_register.proofs.Common.{AreEncodingsIfAny, named_of, all_named, answer_in, Reported, Follows, set_item}
+use Rattle.olr_register.proofs.Common.{named_held, held_of, AreGiven}
 use lib.Pointwise.{bytes_decides}
-use Rattle.olr_spec.specs.Map.{Map}
-use Rattle.olr_spec.specs.Extension.{Path}
-use Rattle.olr_commands.specs.State.{Named, same_name, with_path, path_named}
-use Rattle.olr_commands.proofs.NameLemmas.{not_named}
-use Rattle.olr_paths.specs.Items.{Made, Item, IsEncodingOf, AreEncodings, AreEncodingsIfAny, named_of, all_named}
-use Rattle.olr_paths.specs.Items.{answer_in}
-use Rattle.olr_paths.specs.Changes.{Reported, Follows, set_item}
+use Rattle.olr_commands.specs.State.{with_path}
 use Rattle.olr_paths.proofs.Following.{answer_made}
-use Rattle.olr_register.specs.RegisterState.{named_held}
-use Rattle.olr_register.specs.Holding.{held_of}
-use Rattle.olr_register.specs.HoldsChange.{AreGiven}
 
 -- ---- names and paths
 

@@ -1,31 +1,21 @@
 -- What a change makes of an open batch, by the changed part.
-use Rattle.std.proofs.Common.{◌≡◌, ℕ, ◌+◌, arith, false, List, [], ◌++◌, append-nil, map, Ok, Err, refl, sym, ap}
-use Rattle.std.proofs.Common.{◌∙◌, subst}
-use Rattle.std.specs.Prelude.{◌||◌, nat_le}
-use Rattle.std.proofs.Math.Bool.{or-false}
+use Rattle.olr_register.proofs.Common.{◌≡◌, ℕ, ◌+◌, arith, false, List, [], ◌++◌, map, Ok, Err, refl, sym, ap, ◌∙◌}
+use Rattle.olr_register.proofs.Common.{subst, ◌||◌, nat_le, or-false, Map, Edit, edited, touched_nodes, touched_lines}
+use Rattle.olr_register.proofs.Common.{has, HasCoord, ChangedLine, changes_of, CoverageQuery, map_of, map_before}
+use Rattle.olr_register.proofs.Common.{RoadMap, IsContent, full, Change, On_map, Make, HasCoords, with_map, with_change}
+use Rattle.olr_register.proofs.Common.{nodes_of_change, lines_of_change, changed_by, names_of_change, command_fault_of}
+use Rattle.olr_register.proofs.Common.{CommandFault, changes_keep, Item, AreEncodingsIfAny, Follows, Begins}
+use Rattle.olr_register.proofs.Common.{under_overlay, nodes_of, lines_of, changed_of, ChangeSet, content_on}
+use Rattle.olr_register.proofs.Common.{content_under, AreEditsNoted, held_of, IsHeld, AreGiven, MayReport, HoldsChange}
+use Rattle.olr_register.proofs.Common.{Batch}
+use Rattle.std.proofs.Common.{append-nil}
 use Rattle.std.proofs.lemmas.Bool.{leb-false}
-use Rattle.olr_spec.specs.Map.{Map, Edit, edited, touched_nodes, touched_lines, has, HasCoord}
-use Rattle.olr_spec.specs.Detours.{ChangedLine, changes_of}
-use Rattle.olr_spec.specs.Queries.{CoverageQuery}
-use Rattle.olr_map.specs.RoadMaps.{map_of, map_before, CanUndoAll}
-use Rattle.olr_map.specs.declared.road_map.RoadMap.{RoadMap}
+use Rattle.olr_map.specs.RoadMaps.{CanUndoAll}
 use Rattle.olr_map.specs.declared.undo.UndoLog.{UndoLog}
-use Rattle.olr_commands.specs.State.{IsContent, full, Change, On_map, Make, HasCoords, with_map, with_change}
-use Rattle.olr_commands.specs.Counts.{nodes_of_change, lines_of_change, changed_by, names_of_change}
-use Rattle.olr_commands.specs.Words.{command_fault_of}
-use Rattle.olr_commands.specs.declared.fault.CommandFault.{CommandFault}
 use Rattle.olr_commands.specs.declared.reply.Reply.TheVariants.{Held}
-use Rattle.olr_commands.proofs.StateLemmas.{changes_keep}
-use Rattle.olr_paths.specs.Items.{Item, AreEncodingsIfAny}
-use Rattle.olr_paths.specs.Changes.{Follows}
-use Rattle.olr_paths.specs.Origins.{Begins}
-use Rattle.olr_paths.specs.Laying.{under_overlay}
-use Rattle.olr_paths.specs.Touching.{nodes_of, lines_of, changed_of}
-use Rattle.olr_paths.specs.declared.change_set.ChangeSet.{ChangeSet}
 use Rattle.olr_paths.specs.declared.overlay.Overlay.{Overlay}
-use Rattle.olr_register.specs.Holding.{content_on, content_under, batch_as, AreEditsNoted, held_of, IsHeldAs, IsHeld}
-use Rattle.olr_register.specs.HoldsChange.{AreGiven, MayReport, IsMade, Makes, HoldsChange}
-use Rattle.olr_register.specs.declared.batch.Batch.{Batch}
+use Rattle.olr_register.specs.Holding.{batch_as, IsHeldAs}
+use Rattle.olr_register.specs.HoldsChange.{IsMade, Makes}
 use Rattle.olr_register.proofs.Noted.{noted_more}
 
 -- ---- a change of a path, which makes another overlay

@@ -1,27 +1,19 @@
 -- What is recorded of edits: the maps before and after them have no other difference.
-use Rattle.std.proofs.Common.{inl, inr, ◌≡◌, ◌==◌, ℕ, false, true, List, [], ◌∷◌, ◌++◌, Ok, Contains, sym, ◌∙◌, subst}
-use Rattle.std.proofs.Common.{arith}
-use Rattle.std.specs.Prelude.{◌||◌}
-use Rattle.std.specs.List.{AllByRecursion}
+use Rattle.olr_register.proofs.Common.{inl, inr, ◌≡◌, ℕ, false, true, List, [], ◌∷◌, ◌++◌, Ok, sym, ◌∙◌, subst, arith}
+use Rattle.olr_register.proofs.Common.{◌||◌, AllByRecursion, or_right, list_any-append, Map, IsMap, Edit, edited, start}
+use Rattle.olr_register.proofs.Common.{touched_nodes, touched_lines, has, is_path, ChangedLine, changes_of, EditPlan}
+use Rattle.olr_register.proofs.Common.{Item, AreEncodingsIfAny, all_named, nodes_of, lines_of, changed_of, ChangeSet}
+use Rattle.olr_register.proofs.Common.{IsNotedOf, AreEditsNoted}
+use Rattle.std.proofs.Common.{◌==◌, Contains}
 use Rattle.std.specs.Option.{option_to_list}
-use Rattle.std.proofs.lemmas.Bool.{or_left, or_right}
+use Rattle.std.proofs.lemmas.Bool.{or_left}
 use Rattle.std.proofs.lemmas.List.Elements.{Contains-append_cases}
-use Rattle.std.proofs.lemmas.List.Folds.{list_any-append}
-use Rattle.olr_spec.specs.Map.{Map, IsMap, Edit, Add_node, Move_node, Drop_node, Add_line, Set_line, Drop_line, edited}
-use Rattle.olr_spec.specs.Map.{start, end, touched_nodes, touched_lines, has}
-use Rattle.olr_spec.specs.Extension.{is_path}
-use Rattle.olr_spec.specs.Detours.{ChangedLine, changes_of}
+use Rattle.olr_spec.specs.Map.{Add_node, Move_node, Drop_node, Add_line, Set_line, Drop_line, end}
 use Rattle.olr_spec.proofs.ListLemmas.{has_here, Contains-cases}
 use Rattle.olr_spec.proofs.ChangeLemmas.{edit_differs, none_differs, differences_add}
 use Rattle.olr_commands.specs.State.{ArePaths}
 use Rattle.olr_map.specs.EditPlans.{IsEditPlan, planned_changes}
-use Rattle.olr_map.specs.declared.judging.EditPlan.{EditPlan}
-use Rattle.olr_paths.specs.Items.{Item, AreEncodingsIfAny, all_named}
-use Rattle.olr_paths.specs.Touching.{nodes_of, lines_of, changed_of}
-use Rattle.olr_paths.specs.declared.change_set.ChangeSet.{ChangeSet}
-use Rattle.olr_register.specs.Noting.{IsNotedOf}
 use Rattle.olr_paths.specs.Changes.{IsBefore}
-use Rattle.olr_register.specs.Holding.{AreEditsNoted}
 
 -- ---- where changed lines begin
 

@@ -1,25 +1,21 @@
 -- What it takes to answer a command: one that is accepted, one that raises no count, and one that is rejected.
-use Rattle.std.proofs.Common.{arith, ◌≡◌, ℕ, true, false, List, [], Option, Some, None, is_some, Ok, Err}
-use Rattle.std.proofs.Common.{length, refl, sym, subst}
-use Rattle.std.specs.Prelude.{◌==◌, IsFalse, Result, IsErrAnd}
-use Rattle.olr_commands.specs.State as state
-use Rattle.olr_commands.specs.State.{Content, has_path, when, Change, Command, State, step, step_in, changes_made}
-use Rattle.olr_commands.specs.State.{changes_made_in, TextFault, text_fault, unless_fault, No_path, Memory}
-use Rattle.olr_commands.specs.State.{Not_a_reference}
-use Rattle.olr_commands.specs.Reply as returned
-use Rattle.olr_commands.specs.Reply.{IsReply, IsOutcome, IsRefusal, ByState, Lacks, AllOf, Shown, Explained, may_want}
-use Rattle.olr_commands.specs.Words.{reply_of, command_fault_of}
-use Rattle.olr_commands.specs.declared.reply.Reply.{Reply}
-use Rattle.olr_commands.specs.declared.fault.CommandFault.{CommandFault}
+use Rattle.olr_register.proofs.Common.{arith, ◌≡◌, ℕ, true, false, List, [], Option, Some, None, is_some, Ok, Err}
+use Rattle.olr_register.proofs.Common.{length, refl, sym, subst, ◌==◌, IsFalse, IsErrAnd, Content, has_path, when}
+use Rattle.olr_register.proofs.Common.{Change, Command, State, step, changes_made, TextFault, text_fault, No_path}
+use Rattle.olr_register.proofs.Common.{Memory, IsOutcome, IsRefusal, ByState, AllOf, Explained, may_want, reply_of}
+use Rattle.olr_register.proofs.Common.{command_fault_of, Reply, CommandFault, Totals, AreSearched, AreCounted}
+use Rattle.olr_register.proofs.Common.{RegisterState, Represents, Registered, Answered, encodes}
+use Rattle.std.specs.Prelude.{Result}
+use Rattle.olr_commands.specs.State.{step_in, changes_made_in, unless_fault, Not_a_reference}
+use Rattle.olr_commands.specs.Reply.{IsReply, Lacks, Shown}
 use Rattle.olr_commands.proofs.CountLemmas.{unconcerned}
-use Rattle.olr_commands.specs.declared.fault.CommandFault.TheVariants as rust
-use Rattle.olr_paths.specs.Changes.{Totals, AreSearched, AreCounted}
-use Rattle.olr_register.specs.RegisterState.{RegisterState, Represents, Batch}
-use Rattle.olr_register.specs.Registered.{Registered}
-use Rattle.olr_register.specs.Answering.{Answered}
-use Rattle.olr_register.specs.Sparing.{encodes, NoneFalls, SameCounts}
+use Rattle.olr_register.specs.RegisterState.{Batch}
+use Rattle.olr_register.specs.Sparing.{NoneFalls, SameCounts}
 use Rattle.olr_register.proofs.States.{state, InStates, in_states}
 use Rattle.olr_register.proofs.Counting.{AreRises, no_totals, none_affected}
+use Rattle.olr_commands.specs.State as state
+use Rattle.olr_commands.specs.Reply as returned
+use Rattle.olr_commands.specs.declared.fault.CommandFault.TheVariants as rust
 
 -- an accepted command, which raises the counts by these totals
 abbrev pub Accepts : Registered → Command → Reply → Totals → State → Type 0

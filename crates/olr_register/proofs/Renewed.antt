@@ -1,8 +1,6 @@
 -- After a renewal, the results of a list are right on the new map.
-use Rattle.std.proofs.Common.{◌≡◌, List, [], ◌∷◌, Option, Some, refl, sym, subst}
-use Rattle.std.specs.Prelude.{IfSome}
-use Rattle.olr_spec.specs.Map.{Map}
-use Rattle.olr_paths.specs.Items.{Made, Item, IsEncodingOf, AreEncodings, AreEncodingsIfAny}
+use Rattle.olr_register.proofs.Common.{◌≡◌, List, [], ◌∷◌, Option, Some, refl, sym, subst, IfSome, Map, Made, Item}
+use Rattle.olr_register.proofs.Common.{IsEncodingOf, AreEncodings, AreEncodingsIfAny}
 use Rattle.olr_paths.specs.Changes.{IsRemade, AreRemade}
 
 abbrev MadeOn : Map → Item → Type 0

@@ -1,16 +1,12 @@
 -- What is reported of a list, compared with the answers of the paths on their maps.
-use Rattle.std.proofs.Common.{inl, inr, ◌≡◌, ℕ, true, false, cond, List, [], ◌∷◌, Option, Some, None, refl, sym}
-use Rattle.std.proofs.Common.{ap, ◌∙◌, subst, ◌↔◌}
-use Rattle.std.specs.Prelude.{option_map, MatchOption, IsSomeAnd}
-use Rattle.olr_spec.specs.Map.{Map}
-use Rattle.olr_spec.specs.Extension.{Path}
-use Rattle.olr_spec.specs.Encoding.{Answer, Encodes}
+use Rattle.olr_register.proofs.Common.{inl, inr, ◌≡◌, ℕ, true, false, cond, List, [], ◌∷◌, Option, Some, None, refl}
+use Rattle.olr_register.proofs.Common.{sym, ap, ◌∙◌, subst, option_map, MatchOption, IsSomeAnd, Map, Path, Answer}
+use Rattle.olr_register.proofs.Common.{Encodes, same_name, path_named, IsContent, AllOf, Differences, Made, Item}
+use Rattle.olr_register.proofs.Common.{IsEncodingOf, AreEncodings, all_named, made_in, answer_in, Reported}
+use Rattle.std.proofs.Common.{◌↔◌}
 use Rattle.olr_spec.proofs.AnswerLemmas.{one_answer}
-use Rattle.olr_commands.specs.State.{same_name, path_named, IsContent}
-use Rattle.olr_commands.specs.Reply.{Entry, HasAnswer, AllOf, Differences}
+use Rattle.olr_commands.specs.Reply.{Entry, HasAnswer}
 use Rattle.olr_commands.proofs.ReplyLemmas.{named_path}
-use Rattle.olr_paths.specs.Items.{Made, Item, IsEncodingOf, AreEncodings, all_named, made_in, answer_in}
-use Rattle.olr_paths.specs.Changes.{Reported}
 
 -- the path of a name and its results, or neither
 abbrev Found : Map → Option Path → Option Made → Type 0

@@ -1,20 +1,15 @@
 -- What is reported of one path that is added, replaced or dropped.
-use Rattle.std.proofs.Common.{inl, inr, ◌⊎◌, ◌≡◌, ◌≢◌, ℕ, Bool, true, false, cond, not, List, [], ◌∷◌, ◌++◌, map}
-use Rattle.std.proofs.Common.{filter, Option, Some, None, is_some, refl, sym, ap, ◌∙◌, subst}
-use Rattle.std.specs.Prelude.{option_map, if◌then◌else◌}
-use Rattle.std.proofs.lemmas.Bool.{cases_Bool}
-use Rattle.olr_spec.specs.Map.{Map}
-use Rattle.olr_spec.specs.Extension.{Path}
-use Rattle.olr_spec.specs.Encoding.{Answer}
-use Rattle.olr_spec.proofs.OptionLemmas.{none_of}
-use Rattle.olr_commands.specs.State.{same_name, path_named, NamesDiffer, IsContent}
-use Rattle.olr_commands.specs.Reply.{Entry, entry, Differences}
-use Rattle.olr_commands.proofs.NameLemmas.{not_named, same_is}
-use Rattle.olr_paths.specs.Items.{Made, Item, IsEncodingOf, AreEncodings, named_of, all_named, made_in, answer_in}
-use Rattle.olr_paths.specs.Changes.{Reported, Follows, set_item}
+use Rattle.olr_register.proofs.Common.{inl, inr, ◌⊎◌, ◌≡◌, ◌≢◌, ℕ, Bool, true, false, cond, not, List, [], ◌∷◌, ◌++◌}
+use Rattle.olr_register.proofs.Common.{map, filter, Option, Some, None, is_some, refl, sym, ap, ◌∙◌, subst, option_map}
+use Rattle.olr_register.proofs.Common.{cases_Bool, Map, Path, Answer, none_of, same_name, path_named, IsContent, entry}
+use Rattle.olr_register.proofs.Common.{Differences, not_named, Made, Item, IsEncodingOf, AreEncodings, named_of}
+use Rattle.olr_register.proofs.Common.{all_named, made_in, answer_in, Reported, Follows, set_item, follows_self}
+use Rattle.std.specs.Prelude.{if◌then◌else◌}
+use Rattle.olr_commands.specs.State.{NamesDiffer}
+use Rattle.olr_commands.specs.Reply.{Entry}
+use Rattle.olr_commands.proofs.NameLemmas.{same_is}
 use Rattle.olr_register.proofs.Replies.{made_found, planned_changes}
 use Rattle.olr_register.proofs.Listed.{each_add, each_set, each_left, each_encoded, each_follows, follows_untold}
-use Rattle.olr_paths.proofs.Following.{follows_self}
 
 -- ---- added
 

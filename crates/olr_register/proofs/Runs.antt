@@ -1,15 +1,15 @@
 -- Whole runs.
-use Rattle.std.proofs.Common.{◌≡◌, ◌∙◌, ◌+◌, ℕ, List, [], ◌∷◌, ◌++◌, map, length-append, Result, refl, sym, ap, subst}
+use Rattle.olr_register.proofs.Common.{◌≡◌, ◌∙◌, ◌+◌, ℕ, List, [], ◌∷◌, ◌++◌, map, Result, refl, sym, ap, subst}
+use Rattle.olr_register.proofs.Common.{IsContent, State, start_state, SoundOutcome, CommandFault, Represents}
+use Rattle.olr_register.proofs.Common.{Registered}
+use Rattle.std.proofs.Common.{length-append}
 use Rattle.std.proofs.lemmas.List.{map_push}
-use Rattle.olr_commands.specs.State.{IsContent, State, start_state}
 use Rattle.olr_commands.specs.History.{Whole}
-use Rattle.olr_commands.proofs.HistoryLemmas.{SoundOutcome, run_more}
+use Rattle.olr_commands.proofs.HistoryLemmas.{run_more}
 use Rattle.olr_commands.specs.Words.{command_of, outcome_of}
+use Rattle.olr_register.specs.Registered.{Applied, nothing_registered}
 use Rattle.olr_commands.specs.declared.command.Command.{Command as Asked}
 use Rattle.olr_commands.specs.declared.reply.Reply.{Reply as Answered}
-use Rattle.olr_commands.specs.declared.fault.CommandFault.{CommandFault}
-use Rattle.olr_register.specs.RegisterState.{Represents}
-use Rattle.olr_register.specs.Registered.{Registered, Applied, nothing_registered}
 
 -- a register in the state to which the commands lead with these answers
 abbrev pub HasRun : Registered → List Asked → List (Result Answered CommandFault) → Type 0

@@ -1,54 +1,36 @@
 -- Changes that are made at once, with no batch open.
-use Rattle.std.proofs.Common.{arith, ◌⊎◌, ◌≡◌, ◌≢◌, ℕ, ◌≤◌, true, false, not, List, [], ◌∷◌, ◌++◌, map}
-use Rattle.std.proofs.Common.{filter, length, Some, None, Result, Ok, Err, append-nil, refl, sym, ap, ◌∙◌, subst}
-use Rattle.std.specs.Prelude.{◌==◌, ◌&&◌, IsFalse, Option, IsErrAnd}
-use Rattle.olr_spec.specs.Map.{Map, Edit, edited, touched_nodes, touched_lines, has, HasCoord}
-use Rattle.olr_spec.specs.Detours.{changes_of}
-use Rattle.olr_spec.specs.Extension.{Path, is_path}
-use Rattle.olr_spec.specs.Queries.{CoverageQuery}
-use Rattle.olr_map.specs.RoadMaps.{map_of}
-use Rattle.olr_map.specs.declared.road_map.RoadMap.{RoadMap}
-use Rattle.olr_search.specs.declared.work.Work.{Work}
+use Rattle.olr_register.proofs.Common.{arith, ◌⊎◌, ◌≡◌, ◌≢◌, ℕ, ◌≤◌, true, false, not, List, [], ◌∷◌, ◌++◌, map, filter}
+use Rattle.olr_register.proofs.Common.{length, Some, None, Result, Ok, Err, refl, sym, ap, ◌∙◌, subst, ◌==◌, ◌&&◌}
+use Rattle.olr_register.proofs.Common.{IsFalse, IsErrAnd, Map, Edit, edited, touched_nodes, touched_lines, has}
+use Rattle.olr_register.proofs.Common.{HasCoord, changes_of, Path, is_path, CoverageQuery, map_of, RoadMap, Work, Named}
+use Rattle.olr_register.proofs.Common.{Content, IsContent, same_name, path_named, Fault, Change, On_map, Add_path}
+use Rattle.olr_register.proofs.Common.{Set_path, Drop_path, with_map, with_change, at_once, Make, changes_made, State}
+use Rattle.olr_register.proofs.Common.{HasCoords, entry, Differences, IsRefusal, IsOutcome, takes_memory, may_want}
+use Rattle.olr_register.proofs.Common.{Affects, By_name, By_node, By_line, SearchedFor, all_nodes, all_lines, all_names}
+use Rattle.olr_register.proofs.Common.{entry_of, reply_of, command_fault_of, Entry, Reply, CommandFault, changes_keep}
+use Rattle.olr_register.proofs.Common.{DistanceBounds, Made, Item, IsEncodingOf, AreEncodings, all_named, answer_in}
+use Rattle.olr_register.proofs.Common.{Totals, AreSearched, AreCounted, Rises, set_item, IsRenewal, nodes_of, lines_of}
+use Rattle.olr_register.proofs.Common.{changed_of, ChangeSet, follows_self, has_name, Represents, Registered}
+use Rattle.olr_register.proofs.Common.{content_on, kept_of, HasBounds, IsKeptRight, CanRenew, MayReport, ByContent}
+use Rattle.olr_register.proofs.Common.{Lacks, Answered, IsNotedOf, encodes, begins_drop}
+use Rattle.std.proofs.Common.{append-nil}
+use Rattle.std.specs.Prelude.{Option}
 use Rattle.olr_refs.specs.Choice.{raised_count}
-use Rattle.olr_commands.specs.State.{Named, Content, IsContent, same_name, path_named, Fault, Change, On_map, Add_path}
-use Rattle.olr_commands.specs.State.{Set_path, Drop_path, with_map, with_change, at_once, Make, changes_made, State, HasCoords, IsState}
-use Rattle.olr_commands.specs.Reply as replies
-use Rattle.olr_commands.specs.Reply.{entry, Differences, IsRefusal, IsOutcome, takes_memory, may_want, IsPaths}
-use Rattle.olr_commands.specs.Counts.{Affects, By_name, By_node, By_line, Raises, SearchedFor, all_nodes, all_lines}
-use Rattle.olr_commands.specs.Counts.{all_names}
-use Rattle.olr_commands.specs.Words.{entry_of, reply_of, command_fault_of}
-use Rattle.olr_commands.specs.declared.reply.Entry.{Entry}
-use Rattle.olr_commands.specs.declared.reply.Reply.{Reply}
-use Rattle.olr_commands.specs.declared.fault.CommandFault.{CommandFault}
-use Rattle.olr_commands.proofs.StateLemmas.{changes_keep}
+use Rattle.olr_commands.specs.State.{IsState}
+use Rattle.olr_commands.specs.Reply.{IsPaths}
+use Rattle.olr_commands.specs.Counts.{Raises}
 use Rattle.olr_commands.proofs.CountLemmas.{paths_raise}
 use Rattle.olr_commands.proofs.SearchLemmas.{spares_none, searches_one, added_path, replaced_path}
-use Rattle.olr_near.specs.declared.distance_bounds.DistanceBounds.{DistanceBounds}
-use Rattle.olr_paths.specs.Items.{Made, Item, IsEncodingOf, AreEncodings, all_named, answer_in}
-use Rattle.olr_paths.specs.Changes.{Totals, AreSearched, AreCounted, Rises, set_item}
-use Rattle.olr_paths.specs.Renewing.{IsRenewal}
-use Rattle.olr_paths.specs.Touching.{nodes_of, lines_of, changed_of}
-use Rattle.olr_paths.specs.declared.change_set.ChangeSet.{ChangeSet}
-use Rattle.olr_paths.proofs.Following.{follows_self}
-use Rattle.olr_paths.proofs.Overlaying.{has_name}
-use Rattle.olr_register.specs.RegisterState.{Represents}
-use Rattle.olr_register.specs.Registered.{Registered}
-use Rattle.olr_register.specs.Holding.{content_on, kept_of, HasBounds, IsKeptRight, CanRenew}
-use Rattle.olr_register.specs.HoldsChange.{MayReport, ByContent, Lacks}
-use Rattle.olr_register.specs.Answering.{Answered}
-use Rattle.olr_register.specs.Noting.{IsNotedOf}
-use Rattle.olr_register.specs.Sparing.{encodes}
 use Rattle.olr_register.proofs.Changing.{add_ok, set_ok, drop_ok}
 use Rattle.olr_register.proofs.Counting.{AreRises, counted_changes, no_totals, none_affected}
-use Rattle.olr_register.proofs.Listed.{given_at_first}
+use Rattle.olr_register.proofs.Listed.{given_at_first, each_left, each_add, each_set, each_encoded}
 use Rattle.olr_register.proofs.Noted.{noted_edit, is_before}
 use Rattle.olr_register.proofs.Outcomes.{answered_counted, answered_refused, Accepts}
 use Rattle.olr_register.proofs.Renewed.{remade_made, made_if_any}
 use Rattle.olr_register.proofs.Replies.{planned_changes}
 use Rattle.olr_register.proofs.Reported.{reported_add, reported_set, reported_drop}
 use Rattle.olr_register.proofs.States.{state, of_parts, closed, register_moved, in_states}
-use Rattle.olr_register.proofs.Listed.{each_left, each_add, each_set, each_encoded}
-use Rattle.olr_paths.proofs.OriginLemmas.{begins_drop}
+use Rattle.olr_commands.specs.Reply as replies
 use Rattle.olr_register.specs.declared.batch.Batch.{Batch as Open}
 
 -- ---- the outcomes of a change

@@ -1,16 +1,10 @@
 -- The states that a register represents, with a batch open or not.
-use Rattle.std.proofs.Common.{◌≡◌, ℕ, List, Option, Some, None, refl, sym, ap, ◌∙◌, subst}
-use Rattle.std.specs.Prelude.{IfSome}
-use Rattle.olr_spec.specs.Map.{Map}
-use Rattle.olr_map.specs.declared.road_map.RoadMap.{RoadMap}
-use Rattle.olr_search.specs.declared.work.Work.{Work}
-use Rattle.olr_commands.specs.State.{Content, IsContent, Change, State}
-use Rattle.olr_near.specs.declared.distance_bounds.DistanceBounds.{DistanceBounds}
-use Rattle.olr_paths.specs.Items.{Item, AreEncodings}
-use Rattle.olr_register.specs.RegisterState.{RegisterState, Batch, IsBatchOf, RepresentsBatch, Represents}
-use Rattle.olr_register.specs.Registered.{Registered}
-use Rattle.olr_register.specs.Holding.{content_on, map_kept, option_batch, kept_of, IsHeld, IsRegister, HasBounds}
-use Rattle.olr_register.specs.Holding.{IsKeptRight}
+use Rattle.olr_register.proofs.Common.{◌≡◌, ℕ, List, Option, Some, None, refl, sym, ap, ◌∙◌, subst, IfSome, Map}
+use Rattle.olr_register.proofs.Common.{RoadMap, Work, Content, IsContent, Change, State, DistanceBounds, Item}
+use Rattle.olr_register.proofs.Common.{AreEncodings, RegisterState, IsBatchOf, Represents, Registered, content_on}
+use Rattle.olr_register.proofs.Common.{map_kept, kept_of, IsHeld, HasBounds, IsKeptRight}
+use Rattle.olr_register.specs.RegisterState.{Batch, RepresentsBatch}
+use Rattle.olr_register.specs.Holding.{option_batch, IsRegister}
 use Rattle.olr_register.specs.declared.batch.Batch.{Batch as Open}
 
 abbrev pub state : Content → Option (List Change) → State

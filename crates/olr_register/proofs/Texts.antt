@@ -1,13 +1,12 @@
 -- Which reference a text encodes, or why it encodes none.
-use Rattle.std.proofs.Common.{◌≡◌, ℕ, List, Some, None, Ok, Err, refl, ap, ◌∙◌}
-use Rattle.std.specs.Prelude.{option_map}
-use Rattle.std.specs.Result.{result_ok}
+use Rattle.olr_register.proofs.Common.{◌≡◌, ℕ, List, Some, None, Ok, Err, refl, ap, ◌∙◌, option_map, result_ok}
+use Rattle.olr_register.proofs.Common.{text_fault, Explained, reply_of, command_fault_of, Reply, CommandFault}
+use Rattle.olr_register.proofs.Common.{Registered, Answered}
 use Rattle.base64.specs.Engines.{standard}
 use Rattle.base64.specs.GeneralPurpose.{decode_of, decoded_of}
 use Rattle.base64.specs.declared.decode.DecodeError.{DecodeError}
 use Rattle.base64.proofs.EngineFacts.{decode_of-encode_of}
 use Rattle.olr_spec.specs.Reference.{Reference}
-use Rattle.olr_spec.specs.Bytes as spec
 use Rattle.olr_spec.specs.Bytes.{reference_bytes, v3_fault}
 use Rattle.olr_spec.proofs.ReadLemmas.{encoded_passes}
 use Rattle.olr_binary.specs.declared.faults.V3Fault.TheVariants.{Length, Status, Flags, Reserved, Memory}
@@ -16,16 +15,12 @@ use Rattle.olr_binary.specs.declared.faults.TextFault.TheVariants.{Bytes, NotBas
 use Rattle.olr_binary.specs.Faults.{IsFaultOf}
 use Rattle.olr_binary.specs.Text.{IsTextOf, text_of}
 use Rattle.olr_binary.proofs.EncodedLemmas.{reference_bytes-bytes}
-use Rattle.olr_commands.specs.State as state
-use Rattle.olr_commands.specs.State.{text_fault, bytes_fault}
-use Rattle.olr_commands.specs.Reply as returned
-use Rattle.olr_commands.specs.Reply.{Explained}
-use Rattle.olr_commands.specs.Words.{reply_of, command_fault_of, text_fault_of}
-use Rattle.olr_commands.specs.declared.reply.Reply.{Reply}
-use Rattle.olr_commands.specs.declared.fault.CommandFault.{CommandFault}
-use Rattle.olr_register.specs.Registered.{Registered}
-use Rattle.olr_register.specs.Answering.{Answered}
+use Rattle.olr_commands.specs.State.{bytes_fault}
+use Rattle.olr_commands.specs.Words.{text_fault_of}
 use Rattle.olr_register.proofs.Outcomes.{explain_answered, explain_refused, explain_lacks}
+use Rattle.olr_spec.specs.Bytes as spec
+use Rattle.olr_commands.specs.State as state
+use Rattle.olr_commands.specs.Reply as returned
 
 decoded_ok : (text b : List ℕ) → decode_of standard text ≡ Ok b → decoded_of standard text ≡ Some b
 unfolding decoded_of

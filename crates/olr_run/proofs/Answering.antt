@@ -1,22 +1,16 @@
 -- The outcome of a record, from what was read of it.
-use Rattle.std.proofs.Common.{◌≡◌, ℕ, List, Result, Ok, Err, inl, inr, refl, sym, ap, ◌∙◌, subst}
-use Rattle.olr_commands.specs.State as state
-use Rattle.olr_commands.specs.State.{State, IsContent}
-use Rattle.olr_commands.specs.Reply.{Outcome, IsOutcome}
+use Rattle.olr_run.proofs.Common.{◌≡◌, ℕ, List, Result, Ok, Err, inl, inr, refl, sym, ap, ◌∙◌, subst, State, IsContent}
+use Rattle.olr_run.proofs.Common.{Outcome, Field, Read, read, Syntax, Range, Reply, outcome_text, CommandOutcome}
+use Rattle.olr_run.proofs.Common.{RecordOutcome, answer_text, Represents, Registered, is_ok, Bor}
+use Rattle.olr_commands.specs.Reply.{IsOutcome}
 use Rattle.olr_commands.specs.Words.{command_of}
 use Rattle.olr_commands.specs.declared.command.Command.{Command}
-use Rattle.olr_records.specs.Records.{Field, Read, read}
 use Rattle.olr_records.specs.Words.{IsRead, read_fault_of}
 use Rattle.olr_records.specs.declared.faults.ReadFault.{ReadFault}
-use Rattle.olr_records.specs.declared.faults.ReadFault.TheVariants.{Syntax, Range, Memory}
-use Rattle.olr_commands.specs.declared.reply.Reply.{Reply}
-use Rattle.olr_records.specs.ReplyText.{outcome_text, fault_text}
-use Rattle.olr_run.specs.Output.{CommandOutcome, RecordOutcome}
-use Rattle.olr_run.specs.Runs.{CarriedOut, IsAnswer, answer_text}
-use Rattle.olr_register.specs.RegisterState.{Represents}
-use Rattle.olr_register.specs.Registered.{Registered}
-use Rattle.std.specs.Prelude.{is_ok}
-use Rattle.std.specs.Borrow.{Bor}
+use Rattle.olr_records.specs.declared.faults.ReadFault.TheVariants.{Memory}
+use Rattle.olr_records.specs.ReplyText.{fault_text}
+use Rattle.olr_run.specs.Runs.{CarriedOut, IsAnswer}
+use Rattle.olr_commands.specs.State as state
 
 -- a record that decodes to a command
 pub carried : (old : Registered) (fields : List Field) (new : Registered) (r : Result Reply (Bor (List ℕ))) (c : Command)

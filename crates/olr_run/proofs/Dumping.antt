@@ -1,25 +1,24 @@
 -- Dumps in runs of records.
-use Rattle.std.proofs.Common.{inl, inr, ◌≡◌, ◌≢◌, ℕ, Bool, true, false, List, [], ◌∷◌, ◌++◌, map, length, None, Result, Ok, Err}
-use Rattle.std.proofs.Common.{IsTrue, refl, sym, ap, ◌∙◌, subst, arith}
-use Rattle.std.specs.Prelude.{◌||◌, IsFalse, is_err}
+use Rattle.olr_run.proofs.Common.{inl, inr, ◌≡◌, ◌≢◌, ℕ, Bool, true, false, List, [], ◌∷◌, ◌++◌, map, length, None}
+use Rattle.olr_run.proofs.Common.{Result, Ok, Err, IsTrue, refl, sym, ap, ◌∙◌, subst, arith, ◌||◌, IsFalse, is_err}
+use Rattle.olr_run.proofs.Common.{both_ways, or_parts, length-map, Content, IsContent, Fault, Memory, Not_a_record}
+use Rattle.olr_run.proofs.Common.{Change, Command, Make, Dump, State, is_recordable, start_state, Outcome, IsRefusal}
+use Rattle.olr_run.proofs.Common.{ByState, Lacks, lacks_memory, Field, Bad_form, Out_of_range, Read, read, records_of}
+use Rattle.olr_run.proofs.Common.{CommandOutcome, RecordOutcome, SoundOutcomes, Outcomes, AllHadMemory, any_refused}
+use Rattle.olr_run.proofs.Common.{AreAnswered, Ran}
 use Rattle.std.specs.List.{list_any, concat}
-use Rattle.std.proofs.lemmas.Bool.{both_ways, or_parts}
-use Rattle.std.proofs.lemmas.List.{length-map}
-use Rattle.olr_commands.specs.State.{Content, IsContent, Fault, Memory, Not_a_record, Change, Command, Make, Dump, State}
-use Rattle.olr_commands.specs.State.{is_recordable, start_state, step}
+use Rattle.olr_commands.specs.State.{step}
 use Rattle.olr_commands.specs.RecordText.{fields_line, fields_of_change, record_line}
 use Rattle.olr_commands.specs.Dump.{dump_lines, steps_then, steps}
-use Rattle.olr_commands.specs.Reply.{Reply, IsReply, Outcome, IsRefusal, ByState, Lacks, lacks_memory}
+use Rattle.olr_commands.specs.Reply.{Reply, IsReply}
 use Rattle.olr_commands.proofs.DumpLemmas.{dumps_run}
-use Rattle.olr_records.specs.Records.{Field, Bad_form, Out_of_range, Read, read}
 use Rattle.olr_records.specs.Recorded.{HaveRecords, IsRecorded, StaysRecorded}
 use Rattle.olr_records.specs.ReplyText.{count_line, reply_text}
 use Rattle.olr_records.proofs.ReadLemmas.{read_recorded}
 use Rattle.olr_records.proofs.RecordLines.{records_split}
 use Rattle.olr_records.proofs.RecordedLemmas.{step_stays, recorded_dumps}
 use Rattle.olr_records.proofs.WrittenLemmas.{record_back}
-use Rattle.olr_run.specs.Output.{records_of, CommandOutcome, RecordOutcome, SoundOutcomes, Builds, IsDumpOf}
-use Rattle.olr_run.specs.Output.{Dumps, Outcomes, AllHadMemory, any_refused, AreAnswered, Ran, Status, All_accepted}
+use Rattle.olr_run.specs.Output.{Builds, IsDumpOf, Dumps, Status, All_accepted}
 use Rattle.olr_run.proofs.Lacking.{IsOwn, step_own}
 
 -- ---- the text

@@ -1,18 +1,12 @@
 -- The ends of the program.
-use Rattle.std.proofs.Common.{arith}
-use Rattle.std.proofs.Common.{◌≡◌, ℕ, List, [], Option, Some, None, Result, Ok, Err, refl, sym, ap, ◌∙◌, subst, ◌⊎◌}
-use Rattle.std.specs.Borrow.{Bor}
+use Rattle.olr_run.proofs.Common.{arith, ◌≡◌, ℕ, List, [], Option, Some, None, Result, Ok, Err, refl, sym, ap, ◌∙◌}
+use Rattle.olr_run.proofs.Common.{subst, ◌⊎◌, Bor, fault_of, Registered, Opens, Ends, Claims, Known, known_records}
+use Rattle.olr_run.proofs.Common.{known_both, RanOn, FaultedOn, HasTooMany, exit_code, RunFault, Status}
 use Rattle.std.specs.Fn.{Once}
-use Rattle.clap.specs.Faults.{fault_of}
-use Rattle.olr_register.specs.Registered.{Registered}
 use Rattle.olr_run.specs.Options.{Options, keep_app, options}
-use Rattle.olr_run.specs.Ends.{Opens, IsFile, OpensFile, Ends, Not_opened, Ran, Cut_off}
-use Rattle.olr_run.specs.Output.{Claims}
-use Rattle.olr_run.specs.Sessions.{Known}
-use Rattle.olr_run.specs.Runs.{known_file, known_records, known_both, RanOn, FaultedOn, HasTooMany, exit_code}
-use Rattle.olr_run.specs.declared.ends.RunFault.{RunFault}
+use Rattle.olr_run.specs.Ends.{IsFile, OpensFile, Not_opened, Ran, Cut_off}
+use Rattle.olr_run.specs.Runs.{known_file}
 use Rattle.olr_run.specs.declared.ends.RunFault.TheVariants as fault
-use Rattle.olr_run.specs.declared.ends.Status.{Status}
 
 -- the bytes of the file that was opened
 module _ {O F E : Type 0} (call : Once O (Bor (List ℕ) × Unit {0}) (Result F E)) (remaining : F → Known)

@@ -1,15 +1,13 @@
 -- Runs over bytes in memory are runs of a csv reader that has all of its bytes.
-use Rattle.std.proofs.Common.{◌≡◌, ◌∙◌, ℕ, Bool, List, [], Option, Some, None, true, false, refl, ap}
-use Rattle.std.proofs.Common.{inl}
-use Rattle.csv.specs.Reading.{ReadRecord, ReadsNext, default_config, source_of, pending_of, strip_bom}
-use Rattle.csv.specs.declared.reader.Reader.{Reader}
-use Rattle.csv.specs.declared.reader.Trim.TheVariants as trim
-use Rattle.olr_records.specs.Records.{Field}
-use Rattle.olr_run.specs.InMemory.{csv_state, TookFrom, BytesHappens}
-use Rattle.olr_run.specs.Sessions.{Known, Event, Took, Ended, Not_taken, Wrote, Cut, IsPlain, CsvHappens}
+use Rattle.olr_run.proofs.Common.{◌≡◌, ◌∙◌, ℕ, Bool, List, [], Option, Some, None, true, false, refl, ap, inl}
+use Rattle.olr_run.proofs.Common.{ReadRecord, default_config, source_of, Reader, Field, csv_state, Known, Event, Took}
+use Rattle.olr_run.proofs.Common.{Ended, Not_taken, Wrote, Cut, IsPlain, CsvHappens}
+use Rattle.csv.specs.Reading.{ReadsNext, pending_of, strip_bom}
+use Rattle.olr_run.specs.InMemory.{TookFrom, BytesHappens}
 use Rattle.olr_run.specs.declared.in_memory.InMemory.{InMemory}
 use Rattle.olr_run.specs.declared.in_memory.State.TheVariants.{StartRecord}
 use Rattle.olr_run.proofs.InputRuns.{Starts}
+use Rattle.csv.specs.declared.reader.Trim.TheVariants as trim
 
 -- all of the bytes are known
 abbrev pub all_known : List ℕ → Option (List ℕ)

@@ -1,37 +1,28 @@
 -- Runs over an input of known bytes, from the history of their session.
-use Rattle.std.proofs.Common.{◌≡◌, ◌≢◌, ◌∙◌, ◌+◌, ◌<◌, ℕ, Bool, true, false, List, [], ◌∷◌, ◌++◌, length, map}
-use Rattle.std.proofs.Common.{option_map, None, Some, inl, inr, refl, sym, ap, subst, arith, length-append}
-use Rattle.std.specs.Prelude.{◌&&◌, IsFalse, IfOk, IfErr, Result, Ok, Err, ⊤}
-use Rattle.std.proofs.lemmas.List.{append-nil, append_assoc, length-map}
-use Rattle.std.specs.Io.KnownBytes.{Appends}
-use Rattle.std.proofs.KnownBytes.{Appends-nil, Appends-trans}
+use Rattle.olr_run.proofs.Common.{◌≡◌, ◌≢◌, ◌∙◌, ◌+◌, ◌<◌, ℕ, Bool, true, false, List, [], ◌∷◌, ◌++◌, length, map, None}
+use Rattle.olr_run.proofs.Common.{Some, inl, inr, refl, sym, ap, subst, arith, length-append, ◌&&◌, IsFalse, IfErr, ⊤}
+use Rattle.olr_run.proofs.Common.{append-nil, append_assoc, length-map, Appends, Appends-nil, Appends-trans, ReadRecord}
+use Rattle.olr_run.proofs.Common.{default_config, is_flexible, source_of, Reader, Outcome, IsContent, run_longer, Field}
+use Rattle.olr_run.proofs.Common.{outcome_text, Registered, SoundOutcome, SoundOutcomes, Claims, texts, Ran, Faulted}
+use Rattle.olr_run.proofs.Common.{records_of, most_records, Known, Event, Took, Ended, Not_taken, Wrote, Cut, History}
+use Rattle.olr_run.proofs.Common.{exchanges, IsPlain, CsvHappens, IsOfTaking, known_records, RanOn, FaultedOn}
+use Rattle.olr_run.proofs.Common.{HasTooMany, RanIn, CutIn, In_taking, Past_the_most, No_text, In_text, AnsweredOn}
+use Rattle.olr_run.proofs.Common.{status_of, Status, RunFault}
+use Rattle.std.proofs.Common.{option_map}
+use Rattle.std.specs.Prelude.{IfOk, Result, Ok, Err}
 use Rattle.csv.specs.Machine.{next_record}
-use Rattle.csv.specs.Reading.{Reached, ReadRecord, default_config, reader_config, reader_trim, reader_state}
-use Rattle.csv.specs.Reading.{is_flexible, names_headers, reader_headers, source_of, strip_bom}
-use Rattle.csv.specs.declared.reader.Trim.TheVariants as trim
-use Rattle.csv.specs.declared.reader.Reader.{Reader}
+use Rattle.csv.specs.Reading.{Reached, reader_config, reader_trim, reader_state, names_headers, reader_headers}
+use Rattle.csv.specs.Reading.{strip_bom}
 use Rattle.csv.proofs.ReadFacts.{rows-more, rows-end}
-use Rattle.csv.specs.declared.parser.State.TheVariants as st
-use Rattle.olr_commands.specs.Reply.{Outcome}
-use Rattle.olr_commands.specs.State.{IsContent}
-use Rattle.olr_commands.proofs.HistoryLemmas.{run_longer}
-use Rattle.olr_records.specs.Records.{Field}
-use Rattle.olr_records.specs.ReplyText.{outcome_text}
-use Rattle.olr_register.specs.Registered.{Registered}
-use Rattle.olr_run.specs.Output.{SoundOutcome, SoundOutcomes, Claims, texts, Ran, Faulted, records_of, most_records}
-use Rattle.olr_run.specs.Output as output
-use Rattle.olr_run.specs.Sessions.{Known, Event, Took, Ended, Not_taken, Wrote, Cut, History, exchanges, IsPlain}
-use Rattle.olr_run.specs.Sessions.{CsvHappens, IsOfTaking}
-use Rattle.olr_run.specs.Runs.{known_records, RanOn, FaultedOn, HasTooMany, RanIn, CutIn, In_taking, Past_the_most}
-use Rattle.olr_run.specs.Runs.{No_text, In_text, AnsweredOn, status_of}
-use Rattle.olr_run.specs.declared.ends.Status.{Status}
-use Rattle.olr_run.specs.declared.ends.Status.TheVariants as ended
-use Rattle.olr_run.specs.declared.ends.RunFault.{RunFault}
-use Rattle.olr_run.specs.declared.ends.RunFault.TheVariants as fault
 use Rattle.olr_run.proofs.RecordLemmas.{first_records}
 use Rattle.olr_run.proofs.RunLemmas.{claims_of}
 use Rattle.olr_run.proofs.Running.{represented}
 use Rattle.olr_run.proofs.Joining.{stopped_is}
+use Rattle.csv.specs.declared.reader.Trim.TheVariants as trim
+use Rattle.csv.specs.declared.parser.State.TheVariants as st
+use Rattle.olr_run.specs.Output as output
+use Rattle.olr_run.specs.declared.ends.Status.TheVariants as ended
+use Rattle.olr_run.specs.declared.ends.RunFault.TheVariants as fault
 
 -- ---- texts
 

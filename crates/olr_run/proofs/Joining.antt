@@ -1,29 +1,21 @@
 -- Two runs on one register are one run over the records of both.
-use Rattle.std.proofs.Common.{arith, ◌≡◌, ◌∙◌, ◌≢◌, ◌+◌, ℕ, Bool, true, false, List, [], ◌∷◌, ◌++◌, length}
-use Rattle.std.proofs.Common.{length-append, Some, inl, inr, refl, sym, ap, subst}
-use Rattle.std.specs.Prelude.{◌&&◌, ◌||◌, is_err, if◌then◌else◌}
-use Rattle.std.proofs.lemmas.Bool.{both_ways, or_from, or_right}
-use Rattle.std.proofs.lemmas.List.{append_assoc}
+use Rattle.olr_run.proofs.Common.{arith, ◌≡◌, ◌∙◌, ◌≢◌, ◌+◌, ℕ, Bool, true, false, List, [], ◌∷◌, ◌++◌, length}
+use Rattle.olr_run.proofs.Common.{length-append, Some, inl, inr, refl, sym, ap, subst, ◌&&◌, ◌||◌, is_err}
+use Rattle.olr_run.proofs.Common.{if◌then◌else◌, both_ways, append_assoc, list_any-append, Appends-nil, Appends-trans}
+use Rattle.olr_run.proofs.Common.{Outcome, IsContent, run_longer, Field, outcome_text, Registered, SoundOutcome}
+use Rattle.olr_run.proofs.Common.{SoundOutcomes, Claims, StopsAtFault, any_refused, AreAnswered, texts, Ran, In_last}
+use Rattle.olr_run.proofs.Common.{Faulted, Known, known_records, known_both, status_of, RanOn, FaultedOn, RunFault}
+use Rattle.olr_run.proofs.Common.{Status}
+use Rattle.std.proofs.lemmas.Bool.{or_from, or_right}
 use Rattle.std.proofs.lemmas.List.Concat.{flat_map-append}
-use Rattle.std.proofs.lemmas.List.Folds.{list_any-append}
-use Rattle.std.proofs.KnownBytes.{Appends-nil, Appends-trans}
 use Rattle.csv.proofs.OnLiterals.{csv_on_literals}
-use Rattle.olr_commands.specs.Reply.{Outcome}
-use Rattle.olr_commands.specs.State.{IsContent}
-use Rattle.olr_commands.proofs.HistoryLemmas.{run_join, run_longer}
-use Rattle.olr_records.specs.Records.{Field}
-use Rattle.olr_records.specs.ReplyText.{outcome_text}
-use Rattle.olr_register.specs.Registered.{Registered}
-use Rattle.olr_run.specs.Output as output
-use Rattle.olr_run.specs.Output.{SoundOutcome, SoundOutcomes, Claims, StopsAtFault, any_refused, AreAnswered, texts, Ran}
-use Rattle.olr_run.specs.Output.{CutOff, Before_next, No_text, In_last, Faulted, greater}
-use Rattle.olr_run.specs.Sessions.{Known}
-use Rattle.olr_run.specs.Runs.{Records, known_records, known_both, status_of, RanOn, FaultedOn}
-use Rattle.olr_run.specs.declared.ends.RunFault.{RunFault}
-use Rattle.olr_run.specs.declared.ends.Status.{Status}
-use Rattle.olr_run.specs.declared.ends.Status.TheVariants as status
+use Rattle.olr_commands.proofs.HistoryLemmas.{run_join}
+use Rattle.olr_run.specs.Output.{CutOff, Before_next, No_text, greater}
+use Rattle.olr_run.specs.Runs.{Records}
 use Rattle.olr_run.proofs.RunLemmas.{claims_of}
 use Rattle.olr_run.proofs.Running.{represented, status_by, stopped_by, stops_join}
+use Rattle.olr_run.specs.Output as output
+use Rattle.olr_run.specs.declared.ends.Status.TheVariants as status
 
 -- no bytes have no records
 pub no_file : (stop : Bool) (old : Registered) (before : Known) → IsContent old.kept.content →

@@ -1,11 +1,12 @@
 -- The faults that a command has by its state, and where out of memory may be reported.
-use Rattle.std.proofs.Common.{arith, Bool, false, List, Option, Some, None, Result, Ok, Err, inl, inr, ◌⊎◌, IsTrue}
-use Rattle.std.specs.Prelude.{◌≡◌, IfErr, IsOkAnd, ⊤}
-use Rattle.olr_commands.specs.State.{Fault, Memory, Content, State, Change, On_map, Command, Make, Show, Explain}
-use Rattle.olr_commands.specs.State.{Commit, after, with_change, step_in, Dump, Not_a_record, is_recordable}
-use Rattle.olr_commands.specs.Reply.{may_lack, IsRefusal, ByState, Lacks}
-use Rattle.olr_records.specs.Records.{Field, Bad_form, Out_of_range, Read, read, HoldsList}
-use Rattle.olr_run.specs.Output.{CommandOutcome, RecordOutcome}
+use Rattle.olr_run.proofs.Common.{arith, Bool, false, List, Option, Some, None, Result, Ok, Err, inl, inr, ◌⊎◌, IsTrue}
+use Rattle.olr_run.proofs.Common.{IfErr, ⊤, Fault, Memory, Content, State, Change, On_map, Command, Make, Dump}
+use Rattle.olr_run.proofs.Common.{Not_a_record, is_recordable, IsRefusal, ByState, Lacks, Field, Bad_form, Out_of_range}
+use Rattle.olr_run.proofs.Common.{Read, read, CommandOutcome, RecordOutcome}
+use Rattle.std.specs.Prelude.{◌≡◌, IsOkAnd}
+use Rattle.olr_commands.specs.State.{Show, Explain, Commit, after, with_change, step_in}
+use Rattle.olr_commands.specs.Reply.{may_lack}
+use Rattle.olr_records.specs.Records.{HoldsList}
 
 -- ---- the faults that a command has by its state
 

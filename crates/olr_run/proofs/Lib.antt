@@ -1,3 +1,4 @@
+pub mod Common
 pub mod RecordLemmas
 pub mod RunLemmas
 pub mod Answering

@@ -1,17 +1,14 @@
 -- The records of a text, one after another.
-use Rattle.std.proofs.Common.{◌≡◌, ℕ, zero, suc, ◌+◌, ◌<◌, ◌≤◌, Bool, true, false, List, [], ◌∷◌, ◌++◌, length, Option}
-use Rattle.std.proofs.Common.{Some, None, refl, ap, subst, arith}
-use Rattle.std.specs.Prelude.{if◌then◌else◌}
-use Rattle.std.proofs.lemmas.Bool.{cases_Bool}
-use Rattle.csv.specs.Machine.{Read, next_record, step, in_field, start_field, start_record}
-use Rattle.csv.specs.Machine.{is_end, ends_at_end, fields_after, field_after}
-use Rattle.csv.specs.Reading.{records_next, records_from, Reached, default_config, strip_bom}
+use Rattle.olr_run.proofs.Common.{◌≡◌, ℕ, zero, ◌+◌, ◌<◌, ◌≤◌, Bool, true, false, List, [], ◌∷◌, ◌++◌, length, Option}
+use Rattle.olr_run.proofs.Common.{Some, None, refl, ap, subst, arith, if◌then◌else◌, cases_Bool, step, is_end}
+use Rattle.olr_run.proofs.Common.{ends_at_end, fields_after, field_after, default_config, Field, records_of}
+use Rattle.std.proofs.Common.{suc}
+use Rattle.csv.specs.Machine.{Read, next_record, in_field, start_field, start_record}
+use Rattle.csv.specs.Reading.{records_next, records_from, Reached, strip_bom}
 use Rattle.csv.specs.declared.parser.State.{State}
-use Rattle.csv.specs.declared.parser.State.TheVariants as st
 use Rattle.csv.specs.declared.parser.Action.{Action}
+use Rattle.csv.specs.declared.parser.State.TheVariants as st
 use Rattle.csv.specs.declared.parser.Action.TheVariants as act
-use Rattle.olr_records.specs.Records.{Field}
-use Rattle.olr_run.specs.Output.{records_of}
 
 -- after a record, the next has not begun
 Rests : State × Action → Type 0

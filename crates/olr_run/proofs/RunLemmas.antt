@@ -1,19 +1,18 @@
 -- Runs.
-use Rattle.std.proofs.Common.{rules, inl, inr, ◌≡◌, ℕ, Bool, true, false, List, [], ◌∷◌, Option, None, Some, Ok, Err}
-use Rattle.std.proofs.Common.{IsFalse, refl, sym, ap, ◌∙◌, subst, arith}
-use Rattle.std.specs.Prelude.{◌&&◌, ◌||◌, is_err, IfSome}
+use Rattle.olr_run.proofs.Common.{rules, inl, inr, ◌≡◌, ℕ, Bool, true, false, List, [], ◌∷◌, Option, None, Some, Ok}
+use Rattle.olr_run.proofs.Common.{Err, refl, sym, ap, ◌∙◌, subst, arith, ◌&&◌, ◌||◌, is_err, cases_Bool, both_ways}
+use Rattle.olr_run.proofs.Common.{or_parts, IsContent, Fault, Memory, State, Command, Outcome, lacks_memory, Field}
+use Rattle.olr_run.proofs.Common.{Read, read, CommandOutcome, OutOfMemory, RecordOutcome, Outcomes, SoundOutcome}
+use Rattle.olr_run.proofs.Common.{SoundOutcomes, Claims, StopsAtFault, any_refused, AreAnswered, Ran, AllHadMemory}
+use Rattle.std.proofs.Common.{IsFalse}
+use Rattle.std.specs.Prelude.{IfSome}
 use Rattle.std.specs.Result.{result_ok}
-use Rattle.std.proofs.lemmas.Bool.{cases_Bool, both_ways, or_parts}
-use Rattle.olr_commands.specs.State.{IsContent, Fault, Memory, State, Command, HasCoords, IsState}
-use Rattle.olr_commands.specs.Reply.{Outcome, lacks_memory}
+use Rattle.olr_commands.specs.State.{HasCoords, IsState}
 use Rattle.olr_commands.specs.History.{IsNamed}
-use Rattle.olr_commands.proofs.HistoryLemmas.{Leads, outcome_leads, outcome_keeps, is_named, is_refused, is_dumped, Claimed}
-use Rattle.olr_commands.proofs.HistoryLemmas.{headline_of}
+use Rattle.olr_commands.proofs.HistoryLemmas.{Leads, outcome_leads, outcome_keeps, is_named, is_refused, is_dumped}
+use Rattle.olr_commands.proofs.HistoryLemmas.{Claimed, headline_of}
 use Rattle.olr_commands.proofs.OutcomeLemmas.{one_outcome}
-use Rattle.olr_records.specs.Records.{Field, Read, read}
-use Rattle.olr_run.specs.Output.{CommandOutcome, OutOfMemory, RecordOutcome, Outcomes, SoundOutcome, SoundOutcomes}
-use Rattle.olr_run.specs.Output.{decoded_command, Claims, StopsAtFault, any_refused, AreAnswered, Status}
-use Rattle.olr_run.specs.Output.{Ran, AllHadMemory}
+use Rattle.olr_run.specs.Output.{decoded_command, Status}
 use Rattle.olr_records.proofs.ReadLemmas.{coords_read}
 use Rattle.olr_run.proofs.Dumping.{dumps_of}
 

@@ -1,29 +1,21 @@
 -- The records that a run has answered so far.
-use Rattle.std.proofs.Common.{arith, ◌≡◌, ◌∙◌, ◌+◌, ℕ, Bool, true, false, not, List, [], ◌∷◌, ◌++◌, length, map, Ok}
-use Rattle.std.proofs.Common.{Err, Result, inl, inr, refl, sym, ap, subst, length-append}
-use Rattle.std.specs.Prelude.{◌&&◌, ◌||◌, is_err, is_ok, if◌then◌else◌, ⊤, IfErr, IsErrAnd}
-use Rattle.std.proofs.lemmas.Bool.{both_ways, or_parts}
-use Rattle.std.proofs.lemmas.List.{append-nil}
-use Rattle.std.proofs.lemmas.List.Folds.{list_any-append}
-use Rattle.olr_commands.specs.Reply.{Outcome}
-use Rattle.olr_commands.specs.State.{IsContent, State}
+use Rattle.olr_run.proofs.Common.{arith, ◌≡◌, ◌∙◌, ◌+◌, ℕ, Bool, true, false, not, List, [], ◌∷◌, ◌++◌, length, map, Ok}
+use Rattle.olr_run.proofs.Common.{Err, Result, inl, inr, refl, sym, ap, subst, length-append, ◌&&◌, ◌||◌, is_err, is_ok}
+use Rattle.olr_run.proofs.Common.{if◌then◌else◌, ⊤, IfErr, both_ways, or_parts, append-nil, list_any-append, Outcome}
+use Rattle.olr_run.proofs.Common.{IsContent, State, Field, outcome_text, Represents, Registered, SoundOutcome}
+use Rattle.olr_run.proofs.Common.{SoundOutcomes, StopsAtFault, any_refused, most_records, Event, Took, Ended, Not_taken}
+use Rattle.olr_run.proofs.Common.{Wrote, Cut, History, exchanges, IsOfTaking, status_of, AnsweredOn, RanIn, CutIn}
+use Rattle.olr_run.proofs.Common.{In_taking, Past_the_most, No_text, In_text, Status, RunFault}
+use Rattle.std.specs.Prelude.{IsErrAnd}
 use Rattle.olr_commands.proofs.HistoryLemmas.{run_more}
-use Rattle.olr_records.specs.Records.{Field}
-use Rattle.olr_records.specs.ReplyText.{outcome_text}
-use Rattle.olr_register.specs.RegisterState.{Represents}
-use Rattle.olr_register.specs.Registered.{Registered}
-use Rattle.olr_run.specs.Output.{SoundOutcome, SoundOutcomes, StopsAtFault, any_refused, run_status, most_records}
-use Rattle.olr_run.specs.Output as output
-use Rattle.olr_run.specs.Sessions.{Event, Took, Ended, Not_taken, Wrote, Cut, History, exchanges, IsOfTaking}
-use Rattle.olr_run.specs.Runs.{status_of, AnswersRecord, AnsweredOn, last_events, RanIn, CutIn, In_taking, Past_the_most}
-use Rattle.olr_run.specs.Runs.{No_text, In_text}
-use Rattle.olr_run.specs.declared.ends.Status.{Status}
-use Rattle.olr_run.specs.declared.ends.Status.TheVariants as ended
-use Rattle.olr_run.specs.declared.ends.RunFault.{RunFault}
-use Rattle.olr_run.specs.declared.ends.RunFault.TheVariants as fault
+use Rattle.olr_run.specs.Output.{run_status}
+use Rattle.olr_run.specs.Runs.{AnswersRecord, last_events}
 use Rattle.olr_run.proofs.RunLemmas.{sound_after, claims_of}
 use Rattle.olr_run.proofs.SessionLemmas.{history_join, exchanges_more}
 use Rattle.std.proofs.Math.Bool.{or-true, or-false, and-false}
+use Rattle.olr_run.specs.Output as output
+use Rattle.olr_run.specs.declared.ends.Status.TheVariants as ended
+use Rattle.olr_run.specs.declared.ends.RunFault.TheVariants as fault
 
 -- ---- outcomes
 

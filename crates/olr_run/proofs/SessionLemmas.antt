@@ -1,11 +1,9 @@
 -- Histories of sessions.
-use Rattle.std.proofs.Common.{◌≡◌, ◌∙◌, ℕ, true, false, List, [], ◌∷◌, ◌++◌, length, refl, sym, ap, subst, arith}
-use Rattle.csv.specs.Reading.{ExplainsRead, is_flexible, stops_reader}
-use Rattle.csv.specs.declared.reader.Reader.{Reader}
+use Rattle.olr_run.proofs.Common.{◌≡◌, ◌∙◌, ℕ, true, false, List, [], ◌∷◌, ◌++◌, length, refl, sym, ap, subst, arith}
+use Rattle.olr_run.proofs.Common.{is_flexible, Reader, Field, Known, Event, Took, Wrote, History, exchanges}
+use Rattle.csv.specs.Reading.{ExplainsRead, stops_reader}
 use Rattle.csv.specs.declared.error.ErrorKind.{ErrorKind}
 use Rattle.csv.specs.declared.error.ErrorKind.TheVariants as kind
-use Rattle.olr_records.specs.Records.{Field}
-use Rattle.olr_run.specs.Sessions.{Known, Event, Took, Wrote, History, exchanges}
 
 -- a reader that accepts any number of fields is stopped by each fault
 pub stopped : {R : Type 0} (remaining : R → Known) (old new : Reader R) (k : ErrorKind) → is_flexible old ≡ true →

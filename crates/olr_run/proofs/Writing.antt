@@ -1,12 +1,12 @@
 -- The bytes that are written so far.
-use Rattle.std.proofs.Common.{◌≡◌, ◌≢◌, ◌∙◌, ◌+◌, ◌-◌, ◌≤◌, ◌<◌, ℕ, List, [], ◌++◌, length, take, drop, None, Some, Err, refl, ap, sym}
-use Rattle.std.proofs.Common.{subst, arith, length-drop}
-use Rattle.std.proofs.lemmas.List.{append-nil, take-append-drop, take_all}
+use Rattle.olr_run.proofs.Common.{◌≡◌, ◌≢◌, ◌∙◌, ◌+◌, ◌-◌, ◌≤◌, ◌<◌, ℕ, List, [], ◌++◌, length, take, drop, None, Some}
+use Rattle.olr_run.proofs.Common.{Err, refl, ap, sym, subst, arith, length-drop, append-nil, Appends, Appends-trans}
+use Rattle.olr_run.proofs.Common.{Known}
+use Rattle.std.proofs.lemmas.List.{take-append-drop, take_all}
 use Rattle.std.proofs.Math.Seq.{take-add}
-use Rattle.std.specs.Io.KnownBytes.{Appends, Keeps}
-use Rattle.std.proofs.KnownBytes.{Appends-trans, Appends-kept}
+use Rattle.std.specs.Io.KnownBytes.{Keeps}
+use Rattle.std.proofs.KnownBytes.{Appends-kept}
 use Rattle.olr_run.specs.Runs.{WritesAll}
-use Rattle.olr_run.specs.Sessions.{Known}
 use Rattle.olr_run.specs.declared.ends.RunFault.TheVariants.{Write}
 
 -- the first n bytes

@@ -1,6 +1,6 @@
 -- The call uses the register of the handle, and the handle has the register again afterwards.
-use Rattle.std.proofs.Common.{ap, Some, ◌∙◌}
-use Rattle.olr_c.specs.declared.keep.Keep.{Keep}
+use Rattle.olr_c.proofs.Common.{ap, Keep}
+use Rattle.std.proofs.Common.{Some, ◌∙◌}
 use Rattle.olr_c.proofs.Asking.{asked_of}
 use Rattle.olr_c.proofs.olr_c_ask.Goals as goal
 

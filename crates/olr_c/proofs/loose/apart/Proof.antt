@@ -1,46 +1,25 @@
 -- A box is taken apart: its pointer, its allocator, and what it owns.
-use Rattle.std.proofs.Common.{◌≡◌, List, [], ◌∷◌, ◌++◌, refl, ap}
-use mathlib.Core.Path.{◌∙◌}
-use mathlib.Core.Bool.{true, ◌&&◌}
-use lib.Dec.{T}
-use mir.Syntax.{a_type, dcons, dnil}
-use mir.Raw.{raw as bare}
-use mir.MapTy.{inst_fn}
-use mir.Val.{Val, vptr, vstruct, of_list, has_ty, WT}
-use base.Logic.{SProp, emp, never, id⊢, fst∗}
-use base.Fml.{ftrue, fsep, flft}
-use contract.Monad.{fact, fact_i}
-use contract.Running.{tables}
-use prog.Wp.{WpFn}
-use types.Logic.{sem}
-use types.Kit.{‵, raw, ◌⊛◌, some, later, ◌$◌, ◌∵◌, !, qed, by, move, keep, drop, split, split3, join, use0, use1, fsplit, fjoin, fpick, fpack, pick, await, feq_i, feq_l, prop, regoal, rewrite}
-use types.Run.{stop, fld, of_opd, no_more, and_then, returns, enter}
-use types.ByLocal.{alloc_all, pass_all, free_all, look_at, get, get_in, sets, lands_as}
-use types.Part.{agg, sub, whole}
-use denote.RattleType.{RattleType, Valss, owns}
-use denote.Param.{layout, bounded}
-use denote.Signature.{types_at, plain}
-use denote.RawPtr.{Ptr, RawPtr, block_ptr, null_ptr, ptr_val, in_a_block}
-use denote.Steps.{nothing, only, heard}
-use denote.Struct.Struct.{within}
+use Rattle.olr_c.proofs.Common.{◌≡◌, List, [], ◌∷◌, ◌++◌, refl, ap, ◌∙◌, true, ◌&&◌, T, a_type, dcons, dnil, inst_fn}
+use Rattle.olr_c.proofs.Common.{Val, vptr, vstruct, of_list, has_ty, WT, SProp, emp, never, id⊢, fst∗, ftrue, flft}
+use Rattle.olr_c.proofs.Common.{fact, fact_i, tables, WpFn, sem, ‵, raw, ◌⊛◌, some, later, ◌$◌, ◌∵◌, !, qed, by, move}
+use Rattle.olr_c.proofs.Common.{keep, drop, split, split3, join, use0, use1, fsplit, fjoin, fpick, fpack, pick, await}
+use Rattle.olr_c.proofs.Common.{feq_i, feq_l, prop, regoal, rewrite, stop, fld, of_opd, no_more, and_then, returns}
+use Rattle.olr_c.proofs.Common.{enter, alloc_all, pass_all, free_all, look_at, get, get_in, sets, agg, sub, whole}
+use Rattle.olr_c.proofs.Common.{RattleType, Valss, owns, layout, bounded, types_at, plain, Ptr, RawPtr, block_ptr}
+use Rattle.olr_c.proofs.Common.{null_ptr, ptr_val, in_a_block, nothing, only, heard, within, shape, triple_of, framed}
+use Rattle.olr_c.proofs.Common.{Stays, stay_dropped, walk_of, no, Goes-blank, handle_tells, proved_at, leaves, box_out}
+use Rattle.olr_c.proofs.Common.{box_in, box_owns, met}
+use base.Fml.{fsep}
+use types.ByLocal.{lands_as}
 use denote.Struct.Tuple.{Tuple}
-use denote.Struct.Owning.{shape}
 use denote.Triple.Call.{calls_at}
-use denote.Triple.Spec.{triple_of}
-use denote.Triple.Table.{framed}
-use denote.Triple.Walked.{Stays, stay_dropped, walk_of}
-use denote.Exit.{no}
-use Rattle.std.proofs.alloc.Calls.{Goes-blank, handle_tells}
-use Rattle.std.proofs.raw_atomic.Walks.{proved_at, leaves}
-use Rattle.std.proofs.BoxSteps.Form as box
-use Rattle.std.proofs.BoxSteps.Steps.{box_out, box_in}
-use Rattle.std.specs.Box.Ownership.{box_owns}
-use Rattle.std.specs.contracts.boxed.Box.into_raw_with_allocator as g
-use Rattle.std.proofs.boxed.Box.into_raw_with_allocator.Met.{met}
 use Rattle.olr_c.proofs.Handles.{pair, and_tt}
+use Rattle.olr_c.proofs.loose.apart.Statement.{statement}
+use mir.Raw.{raw as bare}
+use Rattle.std.proofs.BoxSteps.Form as box
+use Rattle.std.specs.contracts.boxed.Box.into_raw_with_allocator as g
 use Rattle.olr_c.specs.contracts.loose.Loose as loose
 use Rattle.olr_c.specs.contracts.loose.apart as f
-use Rattle.olr_c.proofs.loose.apart.Statement.{statement}
 use Rattle.olr_c.proofs.loose.apart.Code as code
 
 pub apart_spec : {M : Type 1} → statement M

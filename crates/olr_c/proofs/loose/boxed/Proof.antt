@@ -1,46 +1,28 @@
 -- A box that was taken apart is a box again.
-use Rattle.std.proofs.Common.{◌≡◌, List, [], ◌∷◌, ◌++◌, refl, sym, ap, subst}
-use mathlib.Core.Path.{◌∙◌}
-use mathlib.Core.Bool.{true, ◌&&◌}
-use lib.Dec.{T}
-use mir.Syntax.{a_type, dcons, dnil}
-use mir.Raw.{raw as bare}
-use mir.MapTy.{inst_fn}
-use mir.Val.{Val, vptr, vstruct, of_list, has_ty, WT}
-use base.Logic.{SProp, never, id⊢, fst∗}
-use base.Fml.{ftrue, flft}
-use contract.Monad.{fact}
-use contract.Running.{tables}
-use prog.Wp.{WpFn}
-use types.Logic.{sem}
-use types.Kit.{‵, raw, ◌⊛◌, some, later, at_ret, ◌$◌, ◌∵◌, !, qed, by, move, keep, drop, split, split3, join, use1, fsplit, fjoin, fpick, pick, await, feq_i, feq_l, prop, regoal, rewrite}
-use types.Run.{stop, fld, of_opd, no_more, and_then, first, blocks, exec, returns, enter}
-use types.ByLocal.{alloc_all, pass_all, free_all, look_at, get, get_in, sets, lands_last, env}
-use types.Part.{sub, whole}
-use denote.RattleType.{RattleType, owns}
-use denote.Param.{layout, bounded}
-use denote.Signature.{types_at, plain}
-use denote.RawPtr.{Ptr, block_ptr, null_ptr, ptr_val, in_a_block}
-use denote.Steps.{nothing, only}
+use Rattle.olr_c.proofs.Common.{◌≡◌, List, [], ◌∷◌, ◌++◌, refl, sym, ap, subst, ◌∙◌, true, ◌&&◌, T, a_type, dcons, dnil}
+use Rattle.olr_c.proofs.Common.{inst_fn, Val, vptr, vstruct, of_list, has_ty, WT, SProp, never, id⊢, fst∗, ftrue, flft}
+use Rattle.olr_c.proofs.Common.{fact, tables, WpFn, sem, ‵, raw, ◌⊛◌, some, later, ◌$◌, ◌∵◌, !, qed, by, move, keep}
+use Rattle.olr_c.proofs.Common.{drop, split, split3, join, use1, fsplit, fjoin, fpick, pick, await, feq_i, feq_l, prop}
+use Rattle.olr_c.proofs.Common.{regoal, rewrite, stop, fld, of_opd, no_more, and_then, returns, enter, alloc_all}
+use Rattle.olr_c.proofs.Common.{pass_all, free_all, look_at, get, get_in, sets, sub, whole, RattleType, owns, layout}
+use Rattle.olr_c.proofs.Common.{bounded, types_at, plain, Ptr, block_ptr, null_ptr, ptr_val, in_a_block, nothing, only}
+use Rattle.olr_c.proofs.Common.{triple_of, framed, Stays, stay_dropped, walk_of, no, Goes-blank, handle_tells}
+use Rattle.olr_c.proofs.Common.{proved_at, leaves, box_out, box_in, box_owns}
+use types.Kit.{at_ret}
+use types.Run.{first, blocks, exec}
+use types.ByLocal.{lands_last, env}
 use denote.Triple.Call.{calls_at_last}
 use denote.Triple.Clauses.{Lasts, lasts}
-use denote.Triple.Spec.{triple_of}
-use denote.Triple.Table.{framed}
-use denote.Triple.Walked.{Stays, stay_dropped, walk_of}
-use denote.Exit.{no}
 use contract.BorrowLft.{◌⊑◌}
 use Rattle.std.proofs.VecSteps.Shapes.{after}
-use Rattle.std.proofs.alloc.Calls.{Goes-blank, handle_tells}
-use Rattle.std.proofs.raw_atomic.Walks.{proved_at, leaves}
-use Rattle.std.proofs.BoxSteps.Form as box
-use Rattle.std.proofs.BoxSteps.Steps.{box_out, box_in}
-use Rattle.std.specs.Box.Ownership.{box_owns}
-use Rattle.std.specs.contracts.boxed.Box.from_raw as g
 use Rattle.std.proofs.boxed.Box.from_raw.Met.{met}
 use Rattle.olr_c.proofs.Handles.{pair, and_tt}
+use Rattle.olr_c.proofs.loose.boxed.Statement.{statement}
+use mir.Raw.{raw as bare}
+use Rattle.std.proofs.BoxSteps.Form as box
+use Rattle.std.specs.contracts.boxed.Box.from_raw as g
 use Rattle.olr_c.specs.contracts.loose.Loose as loose
 use Rattle.olr_c.specs.contracts.loose.boxed as f
-use Rattle.olr_c.proofs.loose.boxed.Statement.{statement}
 use Rattle.olr_c.proofs.loose.boxed.Code as code
 
 pub boxed_spec : {M : Type 1} → statement M

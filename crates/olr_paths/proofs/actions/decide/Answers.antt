@@ -1,6 +1,4 @@
-use Rattle.std.proofs.Common.{◌≡◌, true, false, inr, ap}
-use Rattle.std.specs.Prelude.{option_map}
-use Rattle.olr_paths.specs.Items.{made_of}
+use Rattle.olr_paths.proofs.Common.{◌≡◌, true, false, inr, ap, option_map, made_of}
 use Rattle.olr_paths.proofs.actions.decide.Goals as goal
 
 pub is_touched-requires : goal.is_touched-requires

@@ -1,10 +1,7 @@
-use Rattle.std.proofs.Common.{◌≤◌, List, All, length, rules, sym, subst}
-use Rattle.std.proofs.lemmas.Result.{IfOk-weaker}
-use Rattle.olr_spec.specs.Queries.{CoverageQuery}
-use Rattle.olr_commands.specs.Counts.{most_changed}
-use Rattle.olr_paths.specs.Touching.{nodes_of, lines_of, changed_of}
-use Rattle.olr_paths.specs.Items.{made_of}
-use Rattle.olr_paths.specs.Changes.{TraversedTouched, LineTouched, IsKnownClear}
+use Rattle.olr_paths.proofs.Common.{◌≤◌, List, All, length, sym, subst, IfOk-weaker, CoverageQuery, most_changed}
+use Rattle.olr_paths.proofs.Common.{nodes_of, lines_of, changed_of, made_of, TraversedTouched, LineTouched}
+use Rattle.olr_paths.proofs.Common.{IsKnownClear}
+use Rattle.std.proofs.Common.{rules}
 use Rattle.olr_paths.proofs.actions.is_unchanged.Goals as goal
 
 pub returns-clause-stays : goal.returns-clause-stays

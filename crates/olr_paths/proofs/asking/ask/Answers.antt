@@ -1,9 +1,6 @@
-use Rattle.olr_paths.specs.Showing.{shown_items}
-use Rattle.olr_paths.specs.Searching.{AreAsked}
-use Rattle.olr_paths.specs.declared.searches.Searches.{Searches}
-use Rattle.std.proofs.Common.{subst, sym}
-use Rattle.olr_paths.proofs.asking.ask.Goals as goal
+use Rattle.olr_paths.proofs.Common.{shown_items, AreAsked, Searches, subst, sym}
 use Rattle.olr_paths.proofs.asking.ask.Goals.{then-not-is_empty+in_ok-begin_detours, else-not-is_empty}
+use Rattle.olr_paths.proofs.asking.ask.Goals as goal
 
 pub returns-clause-asked : goal.returns-clause-asked
 returns-clause-asked g c =

@@ -1,6 +1,4 @@
-use Rattle.std.proofs.Common.{◌≡◌, ℕ, List, All, Contains, true, false, subst, arith}
-use Rattle.std.proofs.lemmas.List.{take_all}
-use Rattle.std.proofs.lemmas.List.Elements.{All-contains}
+use Rattle.olr_paths.proofs.Common.{◌≡◌, ℕ, List, All, Contains, true, false, subst, arith, take_all, All-contains}
 use Rattle.olr_paths.proofs.Alls.{all_more}
 use Rattle.olr_paths.proofs.Sets.{in_from}
 use Rattle.olr_paths.proofs.asking.is_any_in.Goals as goal

@@ -1,4 +1,4 @@
-use Rattle.std.proofs.Common.{ℕ, All, Contains, take}
+use Rattle.olr_paths.proofs.Common.{ℕ, All, Contains, take}
 use Rattle.olr_paths.proofs.asking.is_any_in.Given as goal
 
 -- none of the nodes so far is in the footprint

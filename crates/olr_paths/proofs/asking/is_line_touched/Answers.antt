@@ -1,7 +1,5 @@
-use Rattle.std.proofs.Common.{IsTrue, subst, sym, Bool, ◌↔◌, ℕ}
-use Rattle.olr_spec.specs.Map.{has}
+use Rattle.olr_paths.proofs.Common.{IsTrue, subst, sym, Bool, ◌↔◌, ℕ, has, lines_of}
 use Rattle.olr_paths.proofs.Sets.{shared}
-use Rattle.olr_paths.specs.Touching.{lines_of}
 use Rattle.olr_paths.proofs.asking.is_line_touched.Goals as goal
 
 pub returns : goal.returns

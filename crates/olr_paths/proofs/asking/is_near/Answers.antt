@@ -1,8 +1,4 @@
-use Rattle.std.proofs.Common.{Bool, IsTrue, ◌↔◌, min, sym, ap, subst, arith}
-use Rattle.olr_spec.specs.Extension.{limit}
-use Rattle.olr_spec.specs.Detours.{Near}
-use Rattle.olr_search.specs.Bounds.{label_at}
-use Rattle.olr_paths.specs.Touching.{nodes_of}
+use Rattle.olr_paths.proofs.Common.{Bool, IsTrue, ◌↔◌, min, sym, ap, subst, arith, limit, Near, label_at, nodes_of}
 use Rattle.olr_paths.proofs.Distances.{near_by, near_absent}
 use Rattle.olr_paths.proofs.asking.is_near.Goals as goal
 

@@ -1,12 +1,5 @@
-use Rattle.std.proofs.Common.{◌≡◌, List, All, Contains, true, false, sym, subst, ◌∙◌}
-use Rattle.std.proofs.Common.{arith, min}
-use Rattle.std.proofs.lemmas.List.{take_all}
-use Rattle.std.proofs.lemmas.List.Elements.{All-contains}
-use Rattle.olr_spec.specs.Extension.{limit}
-use Rattle.olr_spec.specs.Detours.{Near}
-use Rattle.olr_spec.specs.Queries.{CoverageQuery}
-use Rattle.olr_paths.specs.Searching.{IsExactAt}
-use Rattle.olr_paths.specs.Touching.{nodes_of}
+use Rattle.olr_paths.proofs.Common.{◌≡◌, List, All, Contains, true, false, sym, subst, ◌∙◌, arith, min, take_all}
+use Rattle.olr_paths.proofs.Common.{All-contains, limit, Near, CoverageQuery, IsExactAt, nodes_of}
 use Rattle.olr_paths.proofs.Alls.{all_more}
 use Rattle.olr_paths.proofs.asking.is_query_touched.Goals as goal
 

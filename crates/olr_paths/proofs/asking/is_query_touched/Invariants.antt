@@ -1,7 +1,4 @@
-use Rattle.std.proofs.Common.{All, take, min}
-use Rattle.olr_spec.specs.Extension.{limit}
-use Rattle.olr_spec.specs.Detours.{Near}
-use Rattle.olr_paths.specs.Touching.{nodes_of}
+use Rattle.olr_paths.proofs.Common.{All, take, min, limit, Near, nodes_of}
 use Rattle.olr_paths.proofs.asking.is_query_touched.Given as goal
 
 -- none of the coverage queries so far is near a touched node

@@ -1,4 +1,4 @@
-use Rattle.std.proofs.Common.{◌≡◌, false}
+use Rattle.olr_paths.proofs.Common.{◌≡◌, false}
 use Rattle.olr_paths.proofs.asking.is_touched.Goals as goal
 
 pub is_query_touched-requires-clause-returned : goal.is_query_touched-requires-clause-returned

@@ -1,5 +1,4 @@
-use Rattle.olr_paths.specs.Items.{items}
-use Rattle.olr_paths.specs.Laying.{overlay_changes}
+use Rattle.olr_paths.proofs.Common.{items, overlay_changes}
 use Rattle.olr_paths.proofs.Covering.{lack_overlaid}
 use Rattle.olr_paths.proofs.asking.is_without_queries.Goals as goal
 

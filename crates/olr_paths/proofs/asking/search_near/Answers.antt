@@ -1,7 +1,5 @@
-use Rattle.std.proofs.Common.{List, ℕ, IsTrue, sym, subst, ◌∙◌, arith}
-use Rattle.olr_search.specs.Bounds.{AreBounds, IsUnder, bound_in}
-use Rattle.olr_search.specs.declared.distances.Direction.TheVariants.{Against}
-use Rattle.olr_search.specs.Distances.{Leads}
+use Rattle.olr_paths.proofs.Common.{List, ℕ, IsTrue, sym, subst, ◌∙◌, arith, AreBounds, IsUnder, Against, Leads}
+use Rattle.olr_search.specs.Bounds.{bound_in}
 use Rattle.olr_near.specs.Bounds.{Numbers}
 use Rattle.olr_paths.proofs.Bounding.{are_bounds, source_under}
 use Rattle.olr_paths.proofs.asking.search_near.Goals as goal

@@ -1,11 +1,7 @@
-use Rattle.std.proofs.Common.{ℕ, List, min, sym, ◌∙◌, subst}
-use Rattle.olr_spec.specs.Detours.{Near}
-use Rattle.olr_spec.specs.Extension.{limit}
-use Rattle.olr_paths.specs.Showing.{shown_items}
-use Rattle.olr_paths.specs.declared.searches.Searches.{Searches}
+use Rattle.olr_paths.proofs.Common.{ℕ, List, min, sym, ◌∙◌, subst, Near, limit, shown_items, Searches}
 use Rattle.olr_paths.proofs.AskedLemmas.{asked_far, asked_searched}
-use Rattle.olr_paths.proofs.asking.search_touched.Goals as goal
 use Rattle.olr_paths.proofs.asking.search_touched.Goals.{then-is_far, else-is_far}
+use Rattle.olr_paths.proofs.asking.search_touched.Goals as goal
 
 pub returns-then-searches : goal.returns-then-searches
 returns-then-searches g c =

@@ -1,4 +1,4 @@
-use Rattle.std.proofs.Common.{◌≡◌, ℕ, take, map}
+use Rattle.olr_paths.proofs.Common.{◌≡◌, ℕ, take, map}
 use Rattle.olr_paths.proofs.asking.sources_of.Given as goal
 
 abbrev pub invariant-loop-node : goal.invariant-loop-node

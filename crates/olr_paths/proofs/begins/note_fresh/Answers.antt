@@ -1,8 +1,5 @@
-use Rattle.std.proofs.Common.{◌≡◌, ℕ, List, [], ◌∷◌, ◌++◌, ◌+◌, inl, inr, take, sym, ap, ◌∙◌, subst}
-use Rattle.std.proofs.lemmas.List.{take_more}
-use Rattle.olr_paths.specs.Origins.{BeginsPut}
-use Rattle.olr_paths.specs.Renewing.{puts_of}
-use Rattle.olr_paths.specs.declared.path_list.NamedPath.{NamedPath}
+use Rattle.olr_paths.proofs.Common.{◌≡◌, ℕ, List, [], ◌∷◌, ◌++◌, ◌+◌, inl, inr, take, sym, ap, ◌∙◌, subst, take_more}
+use Rattle.olr_paths.proofs.Common.{BeginsPut, puts_of, NamedPath}
 use Rattle.olr_paths.proofs.OriginLemmas.{begins_push}
 use Rattle.olr_paths.proofs.begins.note_fresh.Goals as goal
 

@@ -1,7 +1,4 @@
-use Rattle.std.proofs.Common.{Contains, take}
-use Rattle.olr_spec.specs.Queries.{CoverageQuery}
-use Rattle.olr_paths.specs.Origins.{BeginsPut}
-use Rattle.olr_paths.specs.Renewing.{puts_of}
+use Rattle.olr_paths.proofs.Common.{Contains, take, CoverageQuery, BeginsPut, puts_of}
 use Rattle.olr_paths.proofs.begins.note_fresh.Given as goal
 
 -- the nodes where the coverage queries of the results so far begin are in the list

@@ -1,10 +1,6 @@
-use Rattle.std.proofs.Common.{◌≡◌, ◌∙◌, sym, ℕ, length, arith}
-use Rattle.std.proofs.lemmas.List.{length-map}
+use Rattle.olr_paths.proofs.Common.{◌≡◌, ◌∙◌, sym, ℕ, length, arith, length-map, items, overlay_changes, shown_items}
+use Rattle.olr_paths.proofs.Common.{nodes_of, lines_of}
 use Rattle.std.proofs.lemmas.List.Sorted.{IsNonDecreasingBy-from_sort}
-use Rattle.olr_paths.specs.Items.{items}
-use Rattle.olr_paths.specs.Laying.{overlay_changes}
-use Rattle.olr_paths.specs.Showing.{shown_items}
-use Rattle.olr_paths.specs.Touching.{nodes_of, lines_of}
 use Rattle.olr_paths.proofs.NamedEntries.{item_of}
 use Rattle.olr_paths.proofs.Covering.{covers_order, covers_overlaid, covers_grown, changed_grown}
 use Rattle.olr_paths.proofs.candidates.candidates.Goals as goal

@@ -1,4 +1,4 @@
-use Rattle.std.proofs.Common.{◌∙◌}
+use Rattle.olr_paths.proofs.Common.{◌∙◌}
 use Rattle.olr_paths.proofs.PathIdLemmas.{position_by}
 use Rattle.olr_paths.proofs.candidates.position_of.Goals as goal
 

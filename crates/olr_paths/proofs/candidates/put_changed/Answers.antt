@@ -1,12 +1,6 @@
-use Rattle.std.proofs.Common.{◌≡◌, ◌++◌, ◌∷◌, [], ◌∙◌, ℕ, List, Option, String, Global, take, false, sym, subst}
-use Rattle.std.specs.Prelude.{string_bytes}
-use Rattle.olr_spec.specs.Map.{has}
-use Rattle.olr_commands.specs.State.{same_name}
-use Rattle.std.specs.declared.rc.Rc.{Rc}
-use Rattle.olr_spec.specs.Extension.{Path}
-use Rattle.olr_paths.specs.Items.{items}
-use Rattle.olr_paths.specs.Laying.{Changes, changes_in, path_in}
-use Rattle.olr_paths.specs.Candidates.{Includes, FindsChanged}
+use Rattle.olr_paths.proofs.Common.{◌≡◌, ◌++◌, ◌∷◌, [], ◌∙◌, ℕ, List, Option, String, Global, take, false, sym, subst}
+use Rattle.olr_paths.proofs.Common.{string_bytes, has, same_name, Rc, Path, items, Changes, changes_in, path_in}
+use Rattle.olr_paths.proofs.Common.{Includes, FindsChanged}
 use Rattle.olr_paths.proofs.NamedEntries.{first_at, named_there, same_flip}
 use Rattle.olr_paths.proofs.Overlaying.{Entered}
 use Rattle.olr_paths.proofs.Changed.{take_more_changes, not_there}

@@ -1,7 +1,4 @@
-use Rattle.std.proofs.Common.{take}
-use Rattle.olr_paths.specs.Items.{items}
-use Rattle.olr_paths.specs.Laying.{changes_in}
-use Rattle.olr_paths.specs.Candidates.{Includes, FindsChanged}
+use Rattle.olr_paths.proofs.Common.{take, items, changes_in, Includes, FindsChanged}
 use Rattle.olr_paths.proofs.candidates.put_changed.Given as goal
 
 -- the positions of the changes so far are added

@@ -1,4 +1,4 @@
-use Rattle.std.proofs.Common.{take}
+use Rattle.olr_paths.proofs.Common.{take}
 use Rattle.olr_paths.proofs.Covering.{PutAll}
 use Rattle.olr_paths.proofs.candidates.put_found.Given as goal
 

@@ -1,4 +1,4 @@
-use Rattle.std.proofs.Common.{take}
+use Rattle.olr_paths.proofs.Common.{take}
 use Rattle.olr_paths.proofs.Covering.{Put}
 use Rattle.olr_paths.proofs.candidates.put_positions.Given as goal
 

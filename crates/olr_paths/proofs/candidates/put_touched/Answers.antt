@@ -1,8 +1,5 @@
-use Rattle.std.proofs.lemmas.List.Elements.{All-contains}
+use Rattle.olr_paths.proofs.Common.{All-contains, Against, sources, Finds}
 use Rattle.olr_search.specs.declared.frontier.Reached.{Reached}
-use Rattle.olr_search.specs.declared.distances.Direction.TheVariants.{Against}
-use Rattle.olr_paths.specs.Searching.{sources}
-use Rattle.olr_paths.specs.Candidates.{Finds}
 use Rattle.olr_paths.proofs.Covering.{covers_by}
 use Rattle.olr_paths.proofs.candidates.put_touched.Goals as goal
 

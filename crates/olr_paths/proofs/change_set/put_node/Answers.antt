@@ -1,4 +1,4 @@
-use Rattle.olr_spec.proofs.AscendingLists.{put_ascends, stays_has}
+use Rattle.olr_paths.proofs.Common.{put_ascends, stays_has}
 use Rattle.olr_paths.proofs.change_set.put_node.Goals as goal
 
 pub returns-in-Ok-clause-ascend : goal.returns-in-Ok-clause-ascend

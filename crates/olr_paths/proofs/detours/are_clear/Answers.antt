@@ -1,8 +1,5 @@
-use Rattle.std.proofs.Common.{◌≡◌, List, All, true, refl, subst, arith}
-use Rattle.std.proofs.lemmas.List.{take_all}
-use Rattle.olr_spec.specs.Queries.{CoverageQuery}
-use Rattle.olr_paths.specs.Touching.{changed_of}
-use Rattle.olr_paths.specs.Changes.{IsKnownClear}
+use Rattle.olr_paths.proofs.Common.{◌≡◌, List, All, true, refl, subst, arith, take_all, CoverageQuery, changed_of}
+use Rattle.olr_paths.proofs.Common.{IsKnownClear}
 use Rattle.olr_paths.proofs.Alls.{all_more}
 use Rattle.olr_paths.proofs.detours.are_clear.Goals as goal
 

@@ -1,7 +1,4 @@
-use Rattle.std.proofs.Common.{All, take}
-use Rattle.olr_paths.specs.Changes.{IsKnownClear}
-use Rattle.olr_paths.specs.Searching.{AreDetours}
-use Rattle.olr_paths.specs.Touching.{changed_of}
+use Rattle.olr_paths.proofs.Common.{All, take, IsKnownClear, AreDetours, changed_of}
 use Rattle.olr_paths.proofs.detours.are_clear.Given as goal
 
 -- the coverage queries so far are clear

@@ -1,13 +1,11 @@
-use Rattle.std.proofs.Common.{◌≡◌, ◌≤◌, ℕ, ◌+◌, List, ◌∷◌, [], ◌++◌, drop, length, inl, inr, refl, append-nil, append_assoc, IsTrue, ◌↔◌, true, false, sym, ap}
-use Rattle.std.proofs.Common.{subst, ◌∙◌, Vec, Global}
-use Rattle.std.proofs.lemmas.List.{drop_all, drop_more}
-use Rattle.olr_spec.specs.Queries.{CoverageQuery, KnownQuery}
-use Rattle.olr_commands.specs.Counts.{IsAgainClear, Picks, most_changed}
-use Rattle.olr_paths.specs.Touching.{changed_of}
-use Rattle.olr_paths.specs.Changes.{IsKnownClear}
+use Rattle.olr_paths.proofs.Common.{◌≡◌, ◌≤◌, ℕ, ◌+◌, List, ◌∷◌, [], ◌++◌, drop, length, inl, inr, refl, append-nil}
+use Rattle.olr_paths.proofs.Common.{append_assoc, IsTrue, ◌↔◌, true, false, sym, ap, subst, ◌∙◌, Global, drop_all}
+use Rattle.olr_paths.proofs.Common.{drop_more, CoverageQuery, KnownQuery, IsAgainClear, Picks, most_changed, changed_of}
+use Rattle.olr_paths.proofs.Common.{IsKnownClear}
+use Rattle.std.proofs.Common.{Vec}
 use Rattle.olr_paths.proofs.Picking.{picks_none}
-use Rattle.olr_paths.proofs.detours.clear_known.Goals as goal
 use Rattle.olr_paths.proofs.detours.clear_known.Goals.{then-branch+in_ok-push, else-branch}
+use Rattle.olr_paths.proofs.detours.clear_known.Goals as goal
 
 pub loop-one-preserved : goal.loop-one-preserved
 loop-one-preserved g c =

@@ -1,8 +1,4 @@
-use Rattle.std.proofs.Common.{List, ◌++◌, drop}
-use Rattle.olr_spec.specs.Queries.{KnownQuery}
-use Rattle.olr_commands.specs.Counts.{IsAgainClear, Picks}
-use Rattle.olr_paths.specs.Searching.{AreDetours}
-use Rattle.olr_paths.specs.Touching.{changed_of}
+use Rattle.olr_paths.proofs.Common.{List, ◌++◌, drop, KnownQuery, IsAgainClear, Picks, AreDetours, changed_of}
 use Rattle.olr_paths.proofs.detours.clear_known.Given as goal
 
 -- the clear ones so far, with those of the rest

@@ -1,10 +1,6 @@
-use Rattle.std.proofs.Common.{◌≡◌, ℕ, ◌+◌, ◌≤◌, List, IfSome, sym, ap, subst, arith, IsTrue}
-use Rattle.olr_search.specs.declared.distances.Direction.TheVariants.{Along, Against}
+use Rattle.olr_paths.proofs.Common.{◌≡◌, ℕ, ◌+◌, ◌≤◌, List, IfSome, sym, ap, subst, arith, IsTrue, Along, Against}
+use Rattle.olr_paths.proofs.Common.{changed_of, has_node, CoverageQuery, starts, ends, AreFarther}
 use Rattle.olr_search.specs.Searches.{limit_of}
-use Rattle.olr_paths.specs.Touching.{changed_of}
-use Rattle.olr_spec.specs.Map.{has_node}
-use Rattle.olr_spec.specs.Queries.{CoverageQuery}
-use Rattle.olr_paths.specs.Searching.{starts, ends, AreFarther}
 use Rattle.olr_paths.proofs.Distances.{ReturnsDistance, all_starts, all_ends, clear_by, clear_only, starts_are}
 use Rattle.olr_paths.proofs.Distances.{ends_are, rest_more}
 use Rattle.olr_paths.proofs.detours.is_clear.Goals as goal

@@ -1,4 +1,4 @@
-use Rattle.std.proofs.Common.{◌≡◌, ℕ, take, map}
+use Rattle.olr_paths.proofs.Common.{◌≡◌, ℕ, take, map}
 use Rattle.olr_paths.specs.declared.change_set.ChangedLine.{ChangedLine}
 use Rattle.olr_paths.proofs.detours.starts_of.Given as goal
 

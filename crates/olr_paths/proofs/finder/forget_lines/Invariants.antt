@@ -1,4 +1,4 @@
-use Rattle.std.proofs.Common.{ℕ}
+use Rattle.olr_paths.proofs.Common.{ℕ}
 use Rattle.olr_paths.proofs.Noting.{Forgot, KeptIn}
 use Rattle.olr_paths.proofs.finder.forget_lines.Given as goal
 

@@ -1,6 +1,6 @@
-use Rattle.std.proofs.Common.{◌≡◌, ℕ, false, Contains, ◌∙◌, subst}
+use Rattle.olr_paths.proofs.Common.{◌≡◌, ℕ, false, Contains, ◌∙◌, subst, place_of}
 use Rattle.olr_paths.proofs.Noting.{KeptIn, forgot_more}
-use Rattle.olr_spec.proofs.AscendingLists.{place_of, there_found}
+use Rattle.olr_spec.proofs.AscendingLists.{there_found}
 use Rattle.olr_paths.proofs.finder.forget_nodes.Goals as goal
 
 pub loop-node-preserved : goal.loop-node-preserved

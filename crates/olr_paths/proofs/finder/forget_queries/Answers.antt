@@ -1,5 +1,4 @@
-use Rattle.std.proofs.Common.{◌≡◌, true, false, ◌∙◌}
-use Rattle.olr_spec.specs.Queries.{CoverageQuery}
+use Rattle.olr_paths.proofs.Common.{◌≡◌, true, false, ◌∙◌, CoverageQuery}
 use Rattle.olr_paths.proofs.Noting.{KeptIn, forgot_more}
 use Rattle.olr_paths.proofs.finder.forget_queries.Goals as goal
 

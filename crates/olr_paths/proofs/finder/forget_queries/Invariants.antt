@@ -1,4 +1,4 @@
-use Rattle.olr_spec.specs.Queries.{CoverageQuery}
+use Rattle.olr_paths.proofs.Common.{CoverageQuery}
 use Rattle.olr_paths.proofs.Noting.{Forgot, KeptIn}
 use Rattle.olr_paths.proofs.finder.forget_queries.Given as goal
 

@@ -1,4 +1,4 @@
-use Rattle.std.proofs.Common.{◌∙◌, ap}
+use Rattle.olr_paths.proofs.Common.{◌∙◌, ap}
 use Rattle.olr_paths.proofs.Noting.{noted_more}
 use Rattle.olr_paths.proofs.finder.note_each.Goals as goal
 

@@ -1,4 +1,4 @@
-use Rattle.std.proofs.Common.{take}
+use Rattle.olr_paths.proofs.Common.{take}
 use Rattle.olr_paths.proofs.Noting.{Noted}
 use Rattle.olr_paths.proofs.finder.note_each.Given as goal
 

@@ -1,4 +1,4 @@
-use Rattle.olr_paths.specs.Items.{made_of}
+use Rattle.olr_paths.proofs.Common.{made_of}
 use Rattle.olr_paths.proofs.GivenQueries.{searched_from_none}
 use Rattle.olr_paths.proofs.Raising.{work_up}
 use Rattle.olr_paths.proofs.giving.encode_alone.Goals as goal

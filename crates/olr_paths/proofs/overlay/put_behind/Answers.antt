@@ -1,8 +1,6 @@
-use Rattle.std.proofs.Common.{[], ◌++◌, ◌≤◌, ◌∙◌, List, length, refl, ap, sym, arith}
-use Rattle.std.proofs.Common.{append-nil}
-use Rattle.std.proofs.lemmas.List.{length-map, drop_all, take_at}
-use Rattle.olr_paths.specs.Items.{Item, items}
-use Rattle.olr_paths.specs.Laying.{under_changes, changes_in}
+use Rattle.olr_paths.proofs.Common.{[], ◌++◌, ◌≤◌, ◌∙◌, List, length, refl, ap, sym, arith, append-nil, length-map}
+use Rattle.olr_paths.proofs.Common.{drop_all, Item, items, under_changes, changes_in}
+use Rattle.std.proofs.lemmas.List.{take_at}
 use Rattle.olr_paths.proofs.NamedEntries.{item_of, item_at}
 use Rattle.olr_paths.proofs.Overlaying.{put_free, copied_more}
 use Rattle.olr_paths.proofs.overlay.put_behind.Goals as goal

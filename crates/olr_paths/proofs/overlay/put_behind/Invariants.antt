@@ -1,5 +1,4 @@
-use Rattle.olr_paths.specs.Items.{items}
-use Rattle.olr_paths.specs.Laying.{changes_in}
+use Rattle.olr_paths.proofs.Common.{items, changes_in}
 use Rattle.olr_paths.proofs.Overlaying.{Copied}
 use Rattle.olr_paths.proofs.overlay.put_behind.Given as goal
 

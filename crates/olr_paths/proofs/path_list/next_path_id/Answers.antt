@@ -1,4 +1,4 @@
-use Rattle.std.proofs.Common.{sym}
+use Rattle.olr_paths.proofs.Common.{sym}
 use Rattle.olr_paths.proofs.PathIdLemmas.{below_next}
 use Rattle.olr_paths.proofs.path_list.next_path_id.Goals as goal
 

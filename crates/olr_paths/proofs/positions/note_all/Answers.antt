@@ -1,6 +1,4 @@
-use Rattle.std.proofs.Common.{◌≡◌, ◌∙◌, get_or, subst, arith}
-use Rattle.std.proofs.lemmas.List.{get_or_default}
-use Rattle.olr_paths.specs.Finding.{NamedNoted, Grows}
+use Rattle.olr_paths.proofs.Common.{◌≡◌, ◌∙◌, get_or, subst, arith, get_or_default, NamedNoted, Grows}
 use Rattle.olr_paths.proofs.NotedPositions.{One, NotedAt, at_more}
 use Rattle.olr_paths.proofs.positions.note_all.Goals as goal
 

@@ -1,6 +1,4 @@
-use Rattle.std.proofs.Common.{◌≡◌, take}
-use Rattle.olr_paths.specs.Items.{items}
-use Rattle.olr_paths.specs.Finding.{AreNotedAt}
+use Rattle.olr_paths.proofs.Common.{◌≡◌, take, items, AreNotedAt}
 use Rattle.olr_paths.proofs.positions.note_all.Given as goal
 
 -- the results so far have index entries, and the list is unchanged

@@ -1,10 +1,6 @@
-use Rattle.std.proofs.Common.{◌≡◌, refl, ◌∙◌, true, false, List, Option, sym, subst, arith, IfSome}
+use Rattle.olr_paths.proofs.Common.{◌≡◌, refl, ◌∙◌, true, false, List, Option, sym, subst, arith, IfSome, items}
+use Rattle.olr_paths.proofs.Common.{NamedNoted, all_put, puts_of, NamedPath, set_value_at}
 use Rattle.std.proofs.lemmas.List.Elements.{All-pop}
-use Rattle.olr_paths.specs.Items.{items}
-use Rattle.olr_paths.specs.Finding.{NamedNoted}
-use Rattle.olr_paths.specs.Renewing.{all_put, puts_of}
-use Rattle.olr_paths.specs.declared.path_list.NamedPath.{NamedPath}
-use Rattle.indexmap.specs.Layout.{set_value_at}
 use Rattle.olr_paths.proofs.NamedEntries.{items_of}
 use Rattle.olr_paths.proofs.PathIdLemmas.{kept_long, each_set}
 use Rattle.olr_paths.proofs.NotedPositions.{One, NotedAt}

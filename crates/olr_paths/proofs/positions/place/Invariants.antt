@@ -1,7 +1,5 @@
-use Rattle.std.proofs.Common.{◌≡◌, true, ◌+◌, ◌≤◌, vec_len, vec_capacity}
-use Rattle.olr_paths.specs.Items.{items}
-use Rattle.olr_paths.specs.Renewing.{all_put, puts_of}
-use Rattle.olr_paths.specs.Finding.{AreNotedAt}
+use Rattle.olr_paths.proofs.Common.{◌≡◌, true, ◌+◌, ◌≤◌, items, all_put, puts_of, AreNotedAt}
+use Rattle.std.proofs.Common.{vec_len, vec_capacity}
 use Rattle.olr_paths.proofs.positions.place.Given as goal
 
 -- storing the remaining results has the outcome of storing all of them; they have index entries, there is capacity, and

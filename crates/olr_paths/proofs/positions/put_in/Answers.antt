@@ -1,4 +1,4 @@
-use Rattle.std.proofs.Common.{◌∙◌}
+use Rattle.olr_paths.proofs.Common.{◌∙◌}
 use Rattle.olr_paths.proofs.NotedPositions.{all_same}
 use Rattle.olr_paths.proofs.positions.put_in.Goals as goal
 

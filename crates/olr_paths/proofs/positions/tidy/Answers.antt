@@ -1,6 +1,4 @@
-use Rattle.std.proofs.Common.{◌≡◌, Some, String, Global, slice_get, sym, arith}
-use Rattle.std.proofs.lemmas.Option.{slice_get_within}
-use Rattle.olr_paths.specs.declared.path_list.NamedPath.{NamedPath}
+use Rattle.olr_paths.proofs.Common.{◌≡◌, Some, String, Global, slice_get, sym, arith, slice_get_within, NamedPath}
 use Rattle.olr_paths.proofs.PathIdLemmas.{noted_but}
 use Rattle.olr_paths.proofs.NotedPositions.{One}
 use Rattle.olr_paths.proofs.positions.tidy.Goals as goal

@@ -1,5 +1,4 @@
-use Rattle.std.proofs.Common.{◌≡◌}
-use Rattle.olr_paths.specs.Items.{items}
+use Rattle.olr_paths.proofs.Common.{◌≡◌, items}
 use Rattle.olr_paths.proofs.positions.tidy.Given as goal
 
 -- the paths are unchanged

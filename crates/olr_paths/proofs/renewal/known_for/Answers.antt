@@ -1,10 +1,4 @@
-use Rattle.std.proofs.Common.{Bor, ap}
-use Rattle.std.specs.Prelude.{option_map}
-use Rattle.std.proofs.lemmas.Result.{IfOk-weaker}
-use Rattle.olr_paths.specs.Items.{made_of}
-use Rattle.olr_paths.specs.Touching.{changed_of}
-use Rattle.olr_paths.specs.Showing.{shown_item}
-use Rattle.olr_paths.specs.declared.published.Published.{Published}
+use Rattle.olr_paths.proofs.Common.{Bor, ap, option_map, IfOk-weaker, made_of, changed_of, shown_item, Published}
 use Rattle.olr_paths.proofs.GivenQueries.{given_known, gives_picked}
 use Rattle.olr_paths.proofs.renewal.known_for.Goals as goal
 

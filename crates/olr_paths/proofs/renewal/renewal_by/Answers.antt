@@ -1,11 +1,6 @@
-use Rattle.std.proofs.Common.{refl, inl, inr, ◌≡◌, ◌≤◌, ℕ, Some, length, get_or, slice_get, sym, subst, arith, ◌+◌}
-use Rattle.std.proofs.lemmas.List.{take_all}
-use Rattle.std.proofs.lemmas.Option.{slice_get_within}
-use Rattle.olr_spec.specs.Queries.{AreKnown}
-use Rattle.olr_paths.specs.Items.{Item}
-use Rattle.olr_paths.specs.Touching.{nodes_of, lines_of, changed_of}
-use Rattle.olr_paths.specs.Renewing.{Gives}
-use Rattle.olr_paths.specs.Showing.{shown_items, shown_item}
+use Rattle.olr_paths.proofs.Common.{refl, inl, inr, ◌≡◌, ◌≤◌, ℕ, Some, length, get_or, slice_get, sym, subst, arith}
+use Rattle.olr_paths.proofs.Common.{◌+◌, take_all, slice_get_within, AreKnown, Item, nodes_of, lines_of, changed_of}
+use Rattle.olr_paths.proofs.Common.{Gives, shown_items, shown_item}
 use Rattle.olr_paths.proofs.RenewedPrefix.{so_far_none, so_far_step, whole}
 use Rattle.olr_paths.proofs.Covering.{passed_more, to_position, past_end}
 use Rattle.olr_paths.proofs.renewal.renewal_by.Goals as goal

@@ -1,9 +1,5 @@
-use Rattle.std.proofs.Common.{◌<◌, ◌≤◌, length, take}
-use Rattle.olr_commands.specs.Counts.{most_changed}
-use Rattle.olr_paths.specs.Searching.{AreDetours}
-use Rattle.olr_paths.specs.Items.{items}
-use Rattle.olr_paths.specs.Showing.{shown_items}
-use Rattle.olr_paths.specs.Touching.{nodes_of, lines_of, changed_of}
+use Rattle.olr_paths.proofs.Common.{◌<◌, ◌≤◌, length, take, most_changed, AreDetours, items, shown_items, nodes_of}
+use Rattle.olr_paths.proofs.Common.{lines_of, changed_of}
 use Rattle.olr_paths.proofs.RenewedPrefix.{SoFar}
 use Rattle.olr_paths.proofs.Covering.{Passed}
 use Rattle.olr_paths.proofs.renewal.renewal_by.Given as goal

@@ -1,14 +1,5 @@
-use Rattle.std.proofs.Common.{sym, arith, ℕ, List, ◌∙◌, ap, subst}
-use Rattle.std.specs.Prelude.{option_map}
-use Rattle.olr_paths.specs.Showing.{shown_items, shown_item}
-use Rattle.olr_paths.specs.Touching.{nodes_of, lines_of}
-use Rattle.olr_paths.specs.Origins.{BeginsPut}
-use Rattle.olr_paths.specs.Candidates.{Covers}
-use Rattle.olr_paths.specs.Renewing.{puts_of}
-use Rattle.olr_paths.specs.declared.path_list.NamedPath.{NamedPath}
-use Rattle.olr_paths.specs.declared.renewal.Renewal.{Renewal}
-use Rattle.olr_paths.specs.declared.renewal.Counted.{Counted}
-use Rattle.olr_spec.proofs.OptionLemmas.{none_of}
+use Rattle.olr_paths.proofs.Common.{sym, arith, ℕ, List, ◌∙◌, ap, subst, option_map, shown_items, shown_item, nodes_of}
+use Rattle.olr_paths.proofs.Common.{lines_of, BeginsPut, Covers, puts_of, NamedPath, Renewal, Counted, none_of}
 use Rattle.olr_paths.proofs.Covering.{nothing_at}
 use Rattle.olr_paths.proofs.RenewedPrefix.{whole, so_far_none}
 use Rattle.olr_paths.proofs.Raising.{kept_up, work_up}

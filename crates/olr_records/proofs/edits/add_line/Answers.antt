@@ -1,10 +1,6 @@
-use Rattle.std.proofs.Common.{rules, arith, ◌≡◌, ℕ, ◌<◌, List, drop, length, Ok, Err, subst}
-use Rattle.csv.specs.Records.{fields_of}
-use Rattle.olr_spec.specs.Map.{ShapePoint, Line, Edit, Add_line}
-use Rattle.olr_commands.specs.State.{Make, On_map}
-use Rattle.olr_records.specs.Records.{Field, Read, ◌⊛◌, number, attributes, line_between, HoldsList}
-use Rattle.olr_records.specs.Words.{Reads}
-use Rattle.olr_records.specs.declared.lines.LineAttributes.{LineAttributes}
+use Rattle.olr_records.proofs.Common.{rules, arith, ◌≡◌, ℕ, ◌<◌, List, drop, length, Ok, Err, subst, fields_of}
+use Rattle.olr_records.proofs.Common.{ShapePoint, Line, Edit, Add_line, Make, On_map, Field, Read, ◌⊛◌, number}
+use Rattle.olr_records.proofs.Common.{attributes, line_between, HoldsList, Reads, LineAttributes}
 use Rattle.olr_records.proofs.LoopLemmas.{at}
 use Rattle.olr_records.proofs.PartLemmas.{no-memory, first-part, parts, made-part, both-parts, handed-on}
 use Rattle.olr_records.proofs.FormLemmas.{line-record}

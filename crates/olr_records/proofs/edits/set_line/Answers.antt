@@ -1,10 +1,6 @@
-use Rattle.std.proofs.Common.{rules, arith, ℕ, ◌<◌, List, drop, length, Ok, subst}
-use Rattle.csv.specs.Records.{fields_of}
-use Rattle.olr_spec.specs.Map.{ShapePoint, Edit, Set_line}
-use Rattle.olr_commands.specs.State.{Make, On_map}
-use Rattle.olr_records.specs.Records.{Field, Read, ◌⊛◌, number, attributes, HoldsList}
-use Rattle.olr_records.specs.Words.{Reads}
-use Rattle.olr_records.specs.declared.lines.LineAttributes.{LineAttributes}
+use Rattle.olr_records.proofs.Common.{rules, arith, ℕ, ◌<◌, List, drop, length, Ok, subst, fields_of, ShapePoint, Edit}
+use Rattle.olr_records.proofs.Common.{Set_line, Make, On_map, Field, Read, ◌⊛◌, number, attributes, HoldsList, Reads}
+use Rattle.olr_records.proofs.Common.{LineAttributes}
 use Rattle.olr_records.proofs.LoopLemmas.{at}
 use Rattle.olr_records.proofs.PartLemmas.{no-memory, first-part, made-part, both-parts, handed-on}
 use Rattle.olr_records.proofs.FormLemmas.{set-line-record}

@@ -1,5 +1,4 @@
-use Rattle.std.proofs.Common.{List, ℕ, [], unwrap_or, ap, ◌∙◌, Option}
-use Rattle.csv.specs.Records.{fields_of}
+use Rattle.olr_records.proofs.Common.{List, ℕ, [], unwrap_or, ap, ◌∙◌, Option, fields_of}
 use Rattle.olr_records.proofs.FieldLemmas.{field_is}
 use Rattle.olr_records.proofs.fields.field.Goals as goal
 

@@ -1,8 +1,6 @@
-use Rattle.std.proofs.Common.{rules, ℕ, ◌+◌, ◌<◌, List, drop, length, Ok, subst}
-use Rattle.csv.specs.Records.{fields_of}
-use Rattle.olr_spec.specs.Map.{ShapePoint}
-use Rattle.olr_records.specs.Records.{Field, Read, ◌⊛◌, class, digits, shape}
-use Rattle.olr_records.specs.Words.{Reads}
+use Rattle.olr_records.proofs.Common.{rules, ℕ, ◌+◌, ◌<◌, List, drop, length, Ok, subst, fields_of, ShapePoint, Field}
+use Rattle.olr_records.proofs.Common.{Read, ◌⊛◌, class, shape, Reads}
+use Rattle.olr_records.specs.Records.{digits}
 use Rattle.olr_records.proofs.LoopLemmas.{at}
 use Rattle.olr_records.proofs.PartLemmas.{no-memory, first-part, parts, both-parts, handed-on}
 use Rattle.olr_records.proofs.lines.attributes_at.Goals as goal

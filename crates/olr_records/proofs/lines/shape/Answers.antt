@@ -1,11 +1,7 @@
-use Rattle.std.proofs.Common.{rules, List, ℕ, ◌+◌, ◌<◌, ◌≤◌, drop, length, subst, arith}
-use Rattle.std.specs.Prelude.{⊤}
-use Rattle.std.proofs.lemmas.List.{length-drop}
-use Rattle.csv.specs.Records.{fields_of}
-use Rattle.olr_spec.specs.Map.{ShapePoint}
-use Rattle.olr_records.specs.Records.{Read, point, shape}
-use Rattle.olr_records.specs.Words.{Gathers, Reads}
-use Rattle.olr_records.proofs.LoopLemmas.{at, with, nothing-onto, shape-end, shape-more, shape-over, gathers-only, some-points}
+use Rattle.olr_records.proofs.Common.{rules, List, ℕ, ◌+◌, ◌<◌, ◌≤◌, drop, length, subst, arith, ⊤, length-drop}
+use Rattle.olr_records.proofs.Common.{fields_of, ShapePoint, Read, point, shape, Gathers, Reads}
+use Rattle.olr_records.proofs.LoopLemmas.{at, with, nothing-onto, shape-end, shape-more, shape-over, gathers-only}
+use Rattle.olr_records.proofs.LoopLemmas.{some-points}
 use Rattle.olr_records.proofs.lines.shape.Goals as goal
 
 pub loop-k-init : goal.loop-k-init

@@ -1,9 +1,5 @@
-use Rattle.std.proofs.Common.{◌≡◌, List, drop, length, ◌≤◌, ◌-◌}
-use Rattle.std.specs.Prelude.{⊤}
-use Rattle.csv.specs.Records.{fields_of}
-use Rattle.olr_spec.specs.Map.{ShapePoint}
-use Rattle.olr_records.specs.Records.{Read, shape}
-use Rattle.olr_records.specs.Words.{Gathers}
+use Rattle.olr_records.proofs.Common.{◌≡◌, List, drop, length, ◌≤◌, ⊤, fields_of, ShapePoint, Read, shape, Gathers}
+use Rattle.std.proofs.Common.{◌-◌}
 use Rattle.olr_records.proofs.LoopLemmas.{onto}
 use Rattle.olr_records.proofs.lines.shape.Given as goal
 

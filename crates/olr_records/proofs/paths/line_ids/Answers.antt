@@ -1,8 +1,5 @@
-use Rattle.std.proofs.Common.{ℕ, List, [], drop, Ok, subst, arith}
-use Rattle.std.specs.Prelude.{⊤}
-use Rattle.csv.specs.Records.{fields_of}
-use Rattle.olr_records.specs.Records.{Field, Read, number, numbers}
-use Rattle.olr_records.specs.Words.{Gathers, Reads}
+use Rattle.olr_records.proofs.Common.{ℕ, List, [], drop, Ok, subst, arith, ⊤, fields_of, Field, Read, number, numbers}
+use Rattle.olr_records.proofs.Common.{Gathers, Reads}
 use Rattle.olr_records.proofs.LoopLemmas.{at, with, nothing-onto, numbers-more, numbers-end}
 use Rattle.olr_records.proofs.paths.line_ids.Goals as goal
 

@@ -1,8 +1,4 @@
-use Rattle.std.proofs.Common.{◌≡◌, ℕ, List, drop}
-use Rattle.std.specs.Prelude.{⊤}
-use Rattle.csv.specs.Records.{fields_of}
-use Rattle.olr_records.specs.Records.{Read, numbers}
-use Rattle.olr_records.specs.Words.{Gathers}
+use Rattle.olr_records.proofs.Common.{◌≡◌, ℕ, List, drop, ⊤, fields_of, Read, numbers, Gathers}
 use Rattle.olr_records.proofs.LoopLemmas.{onto}
 use Rattle.olr_records.proofs.paths.line_ids.Given as goal
 

@@ -1,9 +1,6 @@
-use Rattle.std.proofs.Common.{rules, arith, ℕ, List, drop, Ok, subst}
-use Rattle.std.specs.Prelude.{string_bytes, ⊤}
-use Rattle.csv.specs.Records.{fields_of}
-use Rattle.olr_spec.specs.Extension.{Path}
-use Rattle.olr_records.specs.Records.{Field, ◌⊛◌, amount, name, numbers}
-use Rattle.olr_records.specs.Words.{Reads, Gathers}
+use Rattle.olr_records.proofs.Common.{rules, arith, ℕ, List, drop, Ok, subst, ⊤, fields_of, Path, Field, ◌⊛◌, amount}
+use Rattle.olr_records.proofs.Common.{name, numbers, Reads, Gathers}
+use Rattle.std.specs.Prelude.{string_bytes}
 use Rattle.olr_records.proofs.LoopLemmas.{at}
 use Rattle.olr_records.proofs.PartLemmas.{no-memory, made-part, both-parts, handed-on}
 use Rattle.olr_records.proofs.FormLemmas.{path-fields}

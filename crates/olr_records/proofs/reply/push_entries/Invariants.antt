@@ -1,7 +1,4 @@
-use Rattle.std.proofs.Common.{◌≡◌, ◌++◌, map, take}
-use Rattle.std.specs.List.{concat}
-use Rattle.olr_commands.specs.Words.{entry_of}
-use Rattle.olr_records.specs.ReplyText.{entry_line}
+use Rattle.olr_records.proofs.Common.{◌≡◌, ◌++◌, map, take, concat, entry_of, entry_line}
 use Rattle.olr_records.proofs.reply.push_entries.Given as goal
 
 abbrev pub invariant-loop-entry : goal.invariant-loop-entry

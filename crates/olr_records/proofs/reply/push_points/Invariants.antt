@@ -1,6 +1,4 @@
-use Rattle.std.proofs.Common.{◌≡◌, ◌++◌, map, take}
-use Rattle.std.specs.List.{concat}
-use Rattle.olr_records.specs.ReplyText.{middle_line}
+use Rattle.olr_records.proofs.Common.{◌≡◌, ◌++◌, map, take, concat, middle_line}
 use Rattle.olr_records.proofs.reply.push_points.Given as goal
 
 abbrev pub invariant-loop-point : goal.invariant-loop-point

@@ -1,8 +1,4 @@
-use Rattle.std.proofs.Common.{◌≡◌, ◌≤◌, ◌*◌, ℕ, List, take}
-use Rattle.olr_spec.specs.Map.{Map}
-use Rattle.olr_spec.specs.Routes.{dm_of}
-use Rattle.olr_refs.specs.Along.{DistancesTo}
-use Rattle.olr_refs.specs.ResolvedLines.{records_of}
+use Rattle.olr_refs.proofs.Common.{◌≡◌, ◌≤◌, ◌*◌, ℕ, List, take, Map, dm_of, DistancesTo, records_of}
 use Rattle.olr_refs.proofs.along.distances.Given as goal
 
 -- the distances so far, the last of which is `along`

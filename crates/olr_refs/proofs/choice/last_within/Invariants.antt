@@ -1,5 +1,4 @@
-use Rattle.std.proofs.Common.{◌≤◌, ◌+◌, ◌-◌}
-use Rattle.std.specs.List.{slice_index}
+use Rattle.olr_refs.proofs.Common.{◌≤◌, ◌+◌, ◌-◌, slice_index}
 use Rattle.olr_refs.proofs.choice.last_within.Given as goal
 
 -- the position before k is within the limit

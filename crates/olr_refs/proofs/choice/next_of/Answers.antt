@@ -1,6 +1,4 @@
-use Rattle.std.proofs.Common.{◌≡◌, ◌-◌, true, false, ap, sym, ◌∙◌, subst, arith}
-use Rattle.olr_spec.specs.Extension.{passing}
-use Rattle.olr_spec.specs.Points.{node_at}
+use Rattle.olr_refs.proofs.Common.{◌≡◌, ◌-◌, true, false, ap, sym, ◌∙◌, subst, arith, passing, node_at}
 use Rattle.olr_refs.proofs.Choosing.{fit, fit_read, Scanned, scan_unfit, scan_passing, next_valid}
 use Rattle.olr_refs.proofs.choice.next_of.Goals as goal
 

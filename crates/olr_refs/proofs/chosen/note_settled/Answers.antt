@@ -1,7 +1,4 @@
-use Rattle.std.proofs.Common.{ℕ, List, Contains, sym, subst}
-use Rattle.std.specs.Prelude.{◌↔◌}
-use Rattle.std.specs.List.Sorted.{IsStrictlyIncreasing}
-use Rattle.olr_search.specs.Searches.{LiesWithin, limit_of}
+use Rattle.olr_refs.proofs.Common.{ℕ, List, Contains, sym, subst, ◌↔◌, IsStrictlyIncreasing, LiesWithin, limit_of}
 use Rattle.olr_refs.proofs.Noting.{nodes_noted}
 use Rattle.olr_refs.proofs.chosen.note_settled.Goals as goal
 

@@ -1,4 +1,4 @@
-use Rattle.std.proofs.Common.{◌≡◌, ◌∙◌, sym, arith, length}
+use Rattle.olr_refs.proofs.Common.{◌≡◌, ◌∙◌, sym, arith, length}
 use Rattle.olr_refs.proofs.Asking.{gone_more, ended, ended_there}
 use Rattle.olr_refs.proofs.Noting.{led_end, no_next_end}
 use Rattle.olr_refs.proofs.chosen.points.Goals as goal

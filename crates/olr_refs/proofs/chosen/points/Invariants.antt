@@ -1,4 +1,4 @@
-use Rattle.std.proofs.Common.{◌-◌, length}
+use Rattle.olr_refs.proofs.Common.{◌-◌, length}
 use Rattle.olr_refs.proofs.Asking.{Gone}
 use Rattle.olr_refs.proofs.chosen.points.Given as goal
 

@@ -1,5 +1,4 @@
-use Rattle.std.proofs.Common.{refl}
-use Rattle.std.proofs.Common.{arith}
+use Rattle.olr_refs.proofs.Common.{refl, arith}
 use Rattle.olr_refs.proofs.Asking.{asks_known, asks_searched}
 use Rattle.olr_refs.proofs.chosen.query_after.Goals as goal
 

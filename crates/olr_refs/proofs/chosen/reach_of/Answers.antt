@@ -1,5 +1,4 @@
-use Rattle.std.proofs.Common.{[], sym, arith}
-use Rattle.std.proofs.lemmas.List.{append-nil}
+use Rattle.olr_refs.proofs.Common.{[], sym, arith, append-nil}
 use Rattle.olr_refs.proofs.Asking.{asks_nowhere}
 use Rattle.olr_refs.proofs.Reaching.{reach_near_end}
 use Rattle.olr_refs.proofs.chosen.reach_of.Goals as goal

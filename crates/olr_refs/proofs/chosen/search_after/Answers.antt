@@ -1,10 +1,7 @@
-use Rattle.std.proofs.Common.{[], ◌∷◌, refl, sym, ◌∙◌, arith}
-use Rattle.olr_spec.specs.Queries.{CoverageQuery}
+use Rattle.olr_refs.proofs.Common.{[], ◌∷◌, refl, sym, ◌∙◌, arith, CoverageQuery, Along, IsSearch}
 use Rattle.olr_refs.proofs.Noting.{query_short, one_query, query_noted}
-use Rattle.olr_search.specs.declared.distances.Direction.TheVariants.{Along}
-use Rattle.olr_search.specs.Searches.{IsSearch}
-use Rattle.olr_refs.proofs.chosen.search_after.Goals as goal
 use Rattle.olr_refs.proofs.chosen.search_after.Given.{Over}
+use Rattle.olr_refs.proofs.chosen.search_after.Goals as goal
 
 pub overflow_cast-query : goal.overflow_cast-query
 overflow_cast-query g c = grind (arith, query_short)

@@ -1,6 +1,4 @@
-use Rattle.std.proofs.Common.{◌≡◌, ◌∷◌, [], List, reverse, refl, sym, ap, ◌∙◌}
-use Rattle.std.proofs.lemmas.List.{reverse-append}
-use Rattle.olr_refs.specs.ResolvedLines.{ResolvedLine, ids}
+use Rattle.olr_refs.proofs.Common.{◌≡◌, ◌∷◌, [], List, reverse, refl, sym, ap, ◌∙◌, reverse-append, ResolvedLine, ids}
 use Rattle.olr_refs.proofs.Resolving.{some_ids}
 use Rattle.olr_refs.proofs.Runs.{grows_more, finished}
 use Rattle.olr_refs.proofs.degree_two_runs.grown_run.Goals as goal

@@ -1,6 +1,4 @@
-use Rattle.std.proofs.Common.{◌-◌, reverse}
-use Rattle.olr_spec.specs.Extension.{limit}
-use Rattle.olr_refs.specs.ResolvedLines.{ids}
+use Rattle.olr_refs.proofs.Common.{◌-◌, reverse, limit, ids}
 use Rattle.olr_refs.proofs.Runs.{Grows}
 use Rattle.olr_refs.proofs.degree_two_runs.grown_run.Given as goal
 

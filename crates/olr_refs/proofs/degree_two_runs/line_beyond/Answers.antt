@@ -1,10 +1,10 @@
-use Rattle.std.proofs.Common.{◌≡◌, ℕ, true, false, eqb, IsTrue, ap, sym, ◌∙◌, subst, arith}
-use Rattle.std.proofs.lemmas.Bool.{both_ways, eq-eqb, not-true}
-use Rattle.olr_spec.specs.Extension.{passing}
-use Rattle.olr_search.specs.Distances.{far_end}
-use Rattle.olr_search.proofs.ReadLemmas.{read_at, found_at}
-use Rattle.olr_refs.proofs.degree_two_runs.line_beyond.Goals as goal
+use Rattle.olr_refs.proofs.Common.{◌≡◌, ℕ, true, false, eqb, ap, sym, ◌∙◌, subst, arith, both_ways, eq-eqb, passing}
+use Rattle.olr_refs.proofs.Common.{far_end, read_at}
+use Rattle.std.proofs.Common.{IsTrue}
+use Rattle.std.proofs.lemmas.Bool.{not-true}
+use Rattle.olr_search.proofs.ReadLemmas.{found_at}
 use Rattle.olr_refs.proofs.degree_two_runs.line_beyond.Goals.{then-through+else-loop-next-test, else-through}
+use Rattle.olr_refs.proofs.degree_two_runs.line_beyond.Goals as goal
 
 pub far_end_of-requires : goal.far_end_of-requires
 far_end_of-requires g c =

@@ -1,5 +1,4 @@
-use Rattle.std.proofs.Common.{◌≡◌, ◌<◌, ℕ, get_or}
-use Rattle.olr_search.specs.Distances.{far_end}
+use Rattle.olr_refs.proofs.Common.{◌≡◌, ◌<◌, ℕ, get_or, far_end}
 use Rattle.olr_refs.proofs.degree_two_runs.line_beyond.Given as goal
 
 -- the lines so far lead back

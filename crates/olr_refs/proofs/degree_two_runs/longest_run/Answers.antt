@@ -1,6 +1,4 @@
-use Rattle.std.proofs.Common.{ap, subst}
-use Rattle.olr_refs.specs.ResolvedLines.{ResolvedLine, ids}
-use Rattle.olr_refs.specs.Runs.{LiesBeyond}
+use Rattle.olr_refs.proofs.Common.{ap, subst, ResolvedLine, ids, LiesBeyond}
 use Rattle.olr_refs.proofs.Resolving.{some_ids}
 use Rattle.olr_refs.proofs.Runs.{none_beyond}
 use Rattle.olr_refs.proofs.degree_two_runs.longest_run.Goals as goal

@@ -1,6 +1,4 @@
-use Rattle.std.proofs.Common.{arith}
-use Rattle.std.proofs.lemmas.List.{length-map}
-use Rattle.olr_spec.proofs.ListLemmas.{last_index}
+use Rattle.olr_refs.proofs.Common.{arith, length-map, last_index}
 use Rattle.olr_refs.proofs.Resolving.{record_at}
 use Rattle.olr_refs.proofs.degree_two_runs.outermost_of.Goals as goal
 

@@ -1,6 +1,4 @@
-use Rattle.std.proofs.Common.{ap, sym, ◌∙◌, subst, refl, length, List}
-use Rattle.olr_spec.specs.Queries.{CoverageQuery}
-use Rattle.olr_refs.specs.Choice.{SettledBy, raised_count}
+use Rattle.olr_refs.proofs.Common.{ap, sym, ◌∙◌, subst, refl, length, List, CoverageQuery, SettledBy, raised_count}
 use Rattle.olr_refs.proofs.Referring.{if_on}
 use Rattle.olr_refs.proofs.Asking.{searched_all}
 use Rattle.olr_refs.proofs.encoding.encode.Goals as goal

@@ -1,4 +1,4 @@
-use Rattle.std.proofs.Common.{arith}
+use Rattle.olr_refs.proofs.Common.{arith}
 use Rattle.olr_refs.proofs.Referring.{encoding_of, joins_of, traversed_of}
 use Rattle.olr_refs.proofs.encoding.encode_whole.Goals as goal
 

@@ -1,5 +1,4 @@
-use Rattle.std.proofs.Common.{◌++◌, List, length, sym, ap, ◌∙◌, refl}
-use Rattle.olr_refs.specs.ResolvedLines.{ResolvedLine, ids, records_of}
+use Rattle.olr_refs.proofs.Common.{◌++◌, List, length, sym, ap, ◌∙◌, refl, ResolvedLine, ids, records_of}
 use Rattle.olr_refs.proofs.Extending.{whole_records, extends}
 use Rattle.olr_refs.proofs.extension.extend.Goals as goal
 

@@ -1,8 +1,7 @@
-use Rattle.std.proofs.Common.{◌⊎◌, ℕ, List}
+use Rattle.olr_refs.proofs.Common.{◌⊎◌, ℕ, List, NodeOf}
 use Rattle.std.proofs.lemmas.List.Filters.{dedup_is}
 use Rattle.std.proofs.lemmas.Map.Keys.{IsStrictlyIncreasing-dedup}
 use Rattle.std.proofs.lemmas.Result.{on_ok_weaker}
-use Rattle.olr_spec.specs.Queries.{NodeOf}
 use Rattle.olr_refs.proofs.Ends.{same_once, three_lists, grown_by}
 use Rattle.olr_refs.proofs.extension.note_ends.Goals as goal
 

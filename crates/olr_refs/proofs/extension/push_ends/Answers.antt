@@ -1,6 +1,5 @@
-use Rattle.std.proofs.Common.{◌+◌, take, ◌∷◌, ◌++◌, [], ℕ, List, refl, sym, ap, ◌∙◌, subst, arith}
-use Rattle.std.specs.List.{slice_index}
-use Rattle.olr_refs.specs.ResolvedLines.{ResolvedLine}
+use Rattle.olr_refs.proofs.Common.{◌+◌, take, ◌∷◌, ◌++◌, [], ℕ, List, refl, sym, ap, ◌∙◌, subst, arith, slice_index}
+use Rattle.olr_refs.proofs.Common.{ResolvedLine}
 use Rattle.olr_refs.proofs.Ends.{HasEnds, ends_more, all_ends}
 use Rattle.olr_refs.proofs.Resolving.{record_at, records_length}
 use Rattle.olr_refs.proofs.extension.push_ends.Goals as goal

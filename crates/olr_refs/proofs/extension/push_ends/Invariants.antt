@@ -1,6 +1,4 @@
-use Rattle.std.proofs.Common.{◌≡◌, ℕ, List, take}
-use Rattle.olr_spec.specs.Map.{Map}
-use Rattle.olr_refs.specs.ResolvedLines.{records_of}
+use Rattle.olr_refs.proofs.Common.{◌≡◌, ℕ, List, take, Map, records_of}
 use Rattle.olr_refs.proofs.Ends.{HasEnds}
 use Rattle.olr_refs.proofs.extension.push_ends.Given as goal
 

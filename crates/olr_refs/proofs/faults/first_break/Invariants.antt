@@ -1,7 +1,4 @@
-use Rattle.std.proofs.Common.{◌≡◌, ◌-◌, ℕ, List, drop}
-use Rattle.olr_spec.specs.Map.{Map}
-use Rattle.olr_spec.specs.Encoding.{first_break}
-use Rattle.olr_refs.specs.ResolvedLines.{records_of}
+use Rattle.olr_refs.proofs.Common.{◌≡◌, ◌-◌, ℕ, List, drop, Map, first_break, records_of}
 use Rattle.olr_refs.proofs.faults.first_break.Given as goal
 
 -- the first break of the remaining lines is the first of all

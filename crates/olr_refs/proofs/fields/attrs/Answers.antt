@@ -1,4 +1,4 @@
-use Rattle.std.proofs.Common.{rules, arith}
+use Rattle.olr_refs.proofs.Common.{rules, arith}
 use Rattle.olr_refs.proofs.LegLemmas.{leg_read, attrs_read}
 use Rattle.olr_refs.proofs.fields.attrs.Goals as goal
 

@@ -1,7 +1,5 @@
-use Rattle.std.proofs.Common.{rules, ap, ◌∙◌}
+use Rattle.olr_refs.proofs.Common.{rules, ap, ◌∙◌, Coord, abs24, legs}
 use mir.Syntax.{w32}
-use Rattle.olr_spec.specs.Coordinates.{Coord, abs24}
-use Rattle.olr_spec.specs.Reference.{legs}
 use Rattle.olr_refs.proofs.PlaceLemmas.{stored}
 use Rattle.olr_refs.proofs.PointLemmas.{first_read}
 use Rattle.olr_refs.proofs.fields.first_point.Goals as goal

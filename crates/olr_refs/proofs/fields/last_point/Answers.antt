@@ -1,7 +1,5 @@
-use Rattle.std.proofs.Common.{rules, ◌-◌, ◌∙◌, arith}
-use Rattle.std.proofs.lemmas.Int.{to_z-of_z}
+use Rattle.olr_refs.proofs.Common.{rules, ◌-◌, ◌∙◌, arith, to_z-of_z, legs}
 use mir.Syntax.{w16}
-use Rattle.olr_spec.specs.Reference.{legs}
 use Rattle.olr_refs.proofs.LegLemmas.{leg_read}
 use Rattle.olr_refs.proofs.PointLemmas.{last_read}
 use Rattle.olr_refs.proofs.fields.last_point.Goals as goal

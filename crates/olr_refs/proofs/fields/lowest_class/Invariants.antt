@@ -1,5 +1,4 @@
-use Rattle.std.proofs.Common.{◌≡◌, take}
-use Rattle.olr_refs.specs.Fields.{lowest_class}
+use Rattle.olr_refs.proofs.Common.{◌≡◌, take, lowest_class}
 use Rattle.olr_refs.proofs.fields.lowest_class.Given as goal
 
 -- the lowest class so far

@@ -1,6 +1,5 @@
-use Rattle.std.proofs.Common.{◌≡◌, ◌+◌, ℕ, List, [], ◌∷◌, ◌++◌, take, sym, ap, ◌∙◌, arith}
-use Rattle.olr_spec.specs.Reference.{Middle, legs}
-use Rattle.olr_refs.specs.Fields.{middle_points_of}
+use Rattle.olr_refs.proofs.Common.{◌≡◌, ◌+◌, ℕ, List, [], ◌∷◌, ◌++◌, take, sym, ap, ◌∙◌, arith, Middle, legs}
+use Rattle.olr_refs.proofs.Common.{middle_points_of}
 use Rattle.olr_refs.proofs.PointLemmas.{middle_more}
 use Rattle.olr_refs.proofs.fields.middle_points.Goals as goal
 

@@ -1,6 +1,4 @@
-use Rattle.std.proofs.Common.{◌≡◌, ◌+◌, take}
-use Rattle.olr_spec.specs.Reference.{legs}
-use Rattle.olr_refs.specs.Fields.{middle_points_of}
+use Rattle.olr_refs.proofs.Common.{◌≡◌, ◌+◌, take, legs, middle_points_of}
 use Rattle.olr_refs.proofs.fields.middle_points.Given as goal
 
 -- the LRPs between the first and the one at index k

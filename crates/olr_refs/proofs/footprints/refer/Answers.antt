@@ -1,10 +1,6 @@
-use Rattle.std.proofs.Common.{List, Some, length, refl, sym, ap, ◌∙◌, subst}
-use Rattle.std.proofs.Common.{arith}
-use Rattle.olr_spec.specs.Queries.{CoverageQuery}
-use Rattle.olr_spec.proofs.KnownLemmas.{all_searched}
-use Rattle.olr_refs.specs.Choice.{Notes, SeenBy, SettledBy, raised_count}
+use Rattle.olr_refs.proofs.Common.{List, Some, length, refl, sym, ap, ◌∙◌, subst, arith, CoverageQuery, all_searched}
+use Rattle.olr_refs.proofs.Common.{Notes, SeenBy, SettledBy, raised_count, answer_of}
 use Rattle.olr_refs.proofs.Asking.{searched_all}
-use Rattle.olr_answers.specs.Answers.{answer_of}
 use Rattle.olr_refs.proofs.Referring.{recovered_of, searches_queried}
 use Rattle.olr_spec.proofs.LocalLemmas.{local_answer}
 use Rattle.olr_refs.proofs.Noting.{noted_foot}

@@ -1,4 +1,4 @@
-use Rattle.std.proofs.Common.{◌≡◌, Some}
+use Rattle.olr_refs.proofs.Common.{◌≡◌, Some}
 use Rattle.olr_refs.proofs.Noting.{seen_added}
 use Rattle.olr_refs.proofs.footprints.with_seen.Goals as goal
 

@@ -1,6 +1,4 @@
-use Rattle.std.proofs.Common.{arith}
-use Rattle.olr_search.specs.declared.distances.Direction.TheVariants.{Along, Against}
-use Rattle.olr_search.proofs.ReadLemmas.{read_at}
+use Rattle.olr_refs.proofs.Common.{arith, Along, Against, read_at}
 use Rattle.olr_refs.proofs.nodes.passing.Goals as goal
 
 pub far_end_of-one-requires : goal.far_end_of-one-requires

@@ -1,8 +1,4 @@
-use Rattle.std.proofs.Common.{◌≡◌, ◌+◌, ℕ, true, false, subst, arith}
-use Rattle.std.proofs.lemmas.List.{get_or_default}
-use Rattle.olr_spec.specs.Routes.{dm_of}
-use Rattle.olr_spec.specs.Points.{stretch}
-use Rattle.olr_search.specs.Searches.{limit_of}
+use Rattle.olr_refs.proofs.Common.{◌≡◌, ◌+◌, ℕ, true, false, subst, arith, get_or_default, dm_of, stretch, limit_of}
 use Rattle.olr_refs.proofs.Reaching.{UniqueTo, tests_start, tests_on, all_covered, covered_so_far, near_after}
 use Rattle.olr_refs.proofs.reach.covered_to.Goals as goal
 

@@ -1,6 +1,4 @@
-use Rattle.std.proofs.Common.{sym, subst}
-use Rattle.std.proofs.Common.{arith}
-use Rattle.olr_spec.specs.Bytes.{IsReference}
+use Rattle.olr_refs.proofs.Common.{sym, subst, arith, IsReference}
 use Rattle.olr_refs.proofs.PointLemmas.{reference_read}
 use Rattle.olr_refs.proofs.reference.reference_by.Goals as goal
 

@@ -1,8 +1,6 @@
-use Rattle.std.proofs.Common.{◌≡◌, IfOk, sym, subst}
-use Rattle.olr_spec.specs.Bytes.{IsReference}
-use Rattle.olr_spec.specs.Reference.{Reference}
+use Rattle.olr_refs.proofs.Common.{◌≡◌, sym, subst, IsReference, Reference, later}
+use Rattle.std.proofs.Common.{IfOk}
 use Rattle.olr_spec.proofs.FitLemmas.{reference_fits}
-use Rattle.olr_refs.specs.KeptPoints.{later}
 use Rattle.olr_refs.proofs.LegLemmas.{joined_known}
 use Rattle.olr_refs.proofs.Trimming.{some_lines, points_along, trimmed}
 use Rattle.olr_refs.proofs.reference.reference_of.Goals as goal

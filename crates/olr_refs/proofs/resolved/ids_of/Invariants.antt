@@ -1,5 +1,4 @@
-use Rattle.std.proofs.Common.{◌≡◌, take}
-use Rattle.olr_refs.specs.ResolvedLines.{ids}
+use Rattle.olr_refs.proofs.Common.{◌≡◌, take, ids}
 use Rattle.olr_refs.proofs.resolved.ids_of.Given as goal
 
 abbrev pub invariant-loop-record : goal.invariant-loop-record

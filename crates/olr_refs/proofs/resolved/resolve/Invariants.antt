@@ -1,6 +1,4 @@
-use Rattle.std.proofs.Common.{◌≡◌, take, drop}
-use Rattle.olr_spec.specs.Encoding.{first_unknown}
-use Rattle.olr_refs.specs.ResolvedLines.{records_of}
+use Rattle.olr_refs.proofs.Common.{◌≡◌, take, drop, first_unknown, records_of}
 use Rattle.olr_refs.proofs.resolved.resolve.Given as goal
 
 -- the lines so far are on the map, and these are their records

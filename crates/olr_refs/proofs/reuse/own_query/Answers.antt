@@ -1,5 +1,4 @@
-use Rattle.std.proofs.Common.{◌≡◌, true, false, refl}
-use Rattle.std.proofs.lemmas.Bool.{leb-true, le-leb}
+use Rattle.olr_refs.proofs.Common.{◌≡◌, true, false, refl, leb-true, le-leb}
 use Rattle.olr_refs.proofs.Reusing.{own_at, not_own}
 use Rattle.olr_refs.proofs.reuse.own_query.Goals as goal
 

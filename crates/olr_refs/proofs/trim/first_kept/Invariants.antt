@@ -1,5 +1,4 @@
-use Rattle.std.proofs.Common.{◌<◌, ◌≤◌, ◌-◌, length}
-use Rattle.olr_refs.specs.KeptPoints.{distance_at}
+use Rattle.olr_refs.proofs.Common.{◌<◌, ◌≤◌, ◌-◌, length, distance_at}
 use Rattle.olr_refs.proofs.trim.first_kept.Given as goal
 
 abbrev pub invariant-loop-first : goal.invariant-loop-first

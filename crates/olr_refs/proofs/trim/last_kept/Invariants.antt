@@ -1,5 +1,4 @@
-use Rattle.std.proofs.Common.{◌≡◌, ◌<◌, ◌≤◌, ◌+◌, length}
-use Rattle.olr_refs.specs.KeptPoints.{distance_at, whole_distance}
+use Rattle.olr_refs.proofs.Common.{◌≡◌, ◌<◌, ◌≤◌, ◌+◌, length, distance_at, whole_distance}
 use Rattle.olr_refs.proofs.trim.last_kept.Given as goal
 
 abbrev pub invariant-loop-last : goal.invariant-loop-last

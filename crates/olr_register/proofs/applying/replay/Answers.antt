@@ -1,10 +1,8 @@
-use Rattle.std.proofs.Common.{arith, sym, ◌∙◌, subst}
+use Rattle.olr_register.proofs.Common.{arith, sym, ◌∙◌, subst, start_state, IsOutcome, SoundOutcome}
 use Rattle.std.proofs.lemmas.List.{map-id}
 use Rattle.std.proofs.lemmas.Iterator.Adapters.{YieldsList-from_vec}
 use Rattle.std.proofs.lemmas.Iterator.Consumers.{YieldsList-end}
-use Rattle.olr_commands.specs.State.{start_state}
-use Rattle.olr_commands.specs.Reply.{IsOutcome}
-use Rattle.olr_commands.proofs.HistoryLemmas.{SoundOutcome, run_each, headline_of_outcomes, start_sound}
+use Rattle.olr_commands.proofs.HistoryLemmas.{run_each, headline_of_outcomes, start_sound}
 use Rattle.olr_register.proofs.Runs.{HasRun, run_starts, run_continues}
 use Rattle.olr_register.proofs.applying.replay.Goals as goal
 

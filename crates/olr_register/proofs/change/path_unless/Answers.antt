@@ -1,5 +1,4 @@
-use Rattle.std.proofs.Common.{refl}
-use Rattle.olr_register.specs.HoldsChange.{ByContent, Lacks}
+use Rattle.olr_register.proofs.Common.{refl, ByContent, Lacks}
 use Rattle.olr_register.proofs.Changing.{bad_path_last}
 use Rattle.olr_register.proofs.change.path_unless.Goals as goal
 

@@ -1,7 +1,4 @@
-use Rattle.std.proofs.Common.{◌≡◌, true, take}
-use Rattle.std.specs.List.{list_all}
-use Rattle.olr_map.specs.RoadMaps.{map_of}
-use Rattle.olr_register.specs.Dumping.{is_recordable_line_at}
+use Rattle.olr_register.proofs.Common.{◌≡◌, true, take, list_all, map_of, is_recordable_line_at}
 use Rattle.olr_register.proofs.dumps.are_recordable_lines.Given as goal
 
 abbrev pub invariant-loop-id : goal.invariant-loop-id

@@ -1,8 +1,5 @@
-use Rattle.std.proofs.Common.{◌<◌, List, [], length, sym, arith}
-use Rattle.std.proofs.lemmas.List.{length-map}
-use Rattle.olr_commands.specs.Recordable.{is_name}
-use Rattle.olr_commands.specs.State.{Named}
-use Rattle.olr_paths.specs.Items.{items, named_of, all_named}
+use Rattle.olr_register.proofs.Common.{◌<◌, List, [], length, sym, arith, length-map, is_name, Named, items, named_of}
+use Rattle.olr_register.proofs.Common.{all_named}
 use Rattle.olr_register.proofs.DumpTexts.{one_fails, one_more}
 use Rattle.olr_register.proofs.dumps.are_recordable_names.Goals as goal
 

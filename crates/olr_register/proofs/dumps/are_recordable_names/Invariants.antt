@@ -1,7 +1,4 @@
-use Rattle.std.proofs.Common.{◌≡◌, true, take}
-use Rattle.std.specs.List.{list_all}
-use Rattle.olr_commands.specs.Recordable.{is_name}
-use Rattle.olr_paths.specs.Items.{items, all_named}
+use Rattle.olr_register.proofs.Common.{◌≡◌, true, take, list_all, is_name, items, all_named}
 use Rattle.olr_register.proofs.dumps.are_recordable_names.Given as goal
 
 abbrev pub invariant-loop-k : goal.invariant-loop-k

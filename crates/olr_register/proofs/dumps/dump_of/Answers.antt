@@ -1,11 +1,5 @@
-use Rattle.std.proofs.Common.{List, ℕ, [], ◌++◌, ap, ◌∙◌}
-use Rattle.std.specs.List.{flat_map}
-use Rattle.std.specs.FinMap.{entries}
-use Rattle.olr_map.specs.RoadMaps.{map_of}
-use Rattle.olr_commands.specs.State.{Content}
-use Rattle.olr_commands.specs.RecordText.{record_line}
-use Rattle.olr_commands.specs.Dump.{node_change, line_change, path_change}
-use Rattle.olr_paths.specs.Items.{items, all_named}
+use Rattle.olr_register.proofs.Common.{List, ℕ, [], ◌++◌, ap, ◌∙◌, flat_map, entries, map_of, Content, record_line}
+use Rattle.olr_register.proofs.Common.{node_change, line_change, path_change, items, all_named}
 use Rattle.olr_register.proofs.DumpTexts.{dump_text}
 use Rattle.olr_register.proofs.dumps.dump_of.Goals as goal
 

@@ -1,5 +1,4 @@
-use Rattle.std.proofs.Common.{refl, sym, arith}
-use Rattle.olr_map.specs.RoadMaps.{map_of}
+use Rattle.olr_register.proofs.Common.{refl, sym, arith, map_of}
 use Rattle.olr_register.proofs.DumpTexts.{not_by_node, by_nodes}
 use Rattle.olr_register.proofs.dumps.is_recordable_map.Goals as goal
 

@@ -1,7 +1,5 @@
-use Rattle.std.proofs.Common.{◌≡◌, ◌<◌, ℕ, true}
-use Rattle.olr_spec.specs.Map.{has_node}
-use Rattle.olr_map.specs.RoadMaps.{map_of, slot_of}
-use Rattle.olr_register.specs.Dumping.{is_recordable_node_at}
+use Rattle.olr_register.proofs.Common.{◌≡◌, ◌<◌, ℕ, true, has_node, map_of, is_recordable_node_at}
+use Rattle.olr_map.specs.RoadMaps.{slot_of}
 use Rattle.olr_register.proofs.dumps.is_recordable_map.Given as goal
 
 abbrev pub invariant-loop-slot : goal.invariant-loop-slot

@@ -1,9 +1,5 @@
-use Rattle.std.proofs.Common.{List, ℕ, ◌++◌, sym, ap, ◌∙◌}
+use Rattle.olr_register.proofs.Common.{List, ℕ, ◌++◌, sym, ap, ◌∙◌, Map, map_of, record_line, line_change}
 use Rattle.std.specs.Option.{option_copied}
-use Rattle.olr_spec.specs.Map.{Map}
-use Rattle.olr_map.specs.RoadMaps.{map_of}
-use Rattle.olr_commands.specs.RecordText.{record_line}
-use Rattle.olr_commands.specs.Dump.{line_change}
 use Rattle.olr_register.proofs.DumpTexts.{shapes_pass, entry_there, entry_record}
 use Rattle.olr_register.proofs.dumps.push_lines.Goals as goal
 

@@ -1,9 +1,4 @@
-use Rattle.std.proofs.Common.{◌≡◌, ◌++◌, take}
-use Rattle.std.specs.List.{flat_map}
-use Rattle.std.specs.FinMap.{entries}
-use Rattle.olr_map.specs.RoadMaps.{map_of}
-use Rattle.olr_commands.specs.RecordText.{record_line}
-use Rattle.olr_commands.specs.Dump.{line_change}
+use Rattle.olr_register.proofs.Common.{◌≡◌, ◌++◌, take, flat_map, entries, map_of, record_line, line_change}
 use Rattle.olr_register.proofs.dumps.push_lines.Given as goal
 
 abbrev pub invariant-loop-id : goal.invariant-loop-id

@@ -1,8 +1,4 @@
-use Rattle.std.proofs.Common.{List, ℕ, ◌++◌, sym, ap, ◌∙◌}
-use Rattle.olr_spec.specs.Map.{Map}
-use Rattle.olr_map.specs.RoadMaps.{map_of}
-use Rattle.olr_commands.specs.RecordText.{record_line}
-use Rattle.olr_commands.specs.Dump.{node_change}
+use Rattle.olr_register.proofs.Common.{List, ℕ, ◌++◌, sym, ap, ◌∙◌, Map, map_of, record_line, node_change}
 use Rattle.olr_register.proofs.DumpTexts.{coords_pass, entry_there, entry_record}
 use Rattle.olr_register.proofs.dumps.push_nodes.Goals as goal
 

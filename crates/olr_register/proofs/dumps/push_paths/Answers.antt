@@ -1,8 +1,5 @@
-use Rattle.std.proofs.Common.{◌≡◌, ℕ, List, Some, ◌++◌, slice_get, sym, ap, ◌∙◌}
-use Rattle.olr_commands.specs.RecordText.{record_line}
-use Rattle.olr_commands.specs.State.{Named, Add_path}
-use Rattle.olr_commands.specs.Dump.{path_change}
-use Rattle.olr_paths.specs.Items.{items, all_named}
+use Rattle.olr_register.proofs.Common.{◌≡◌, ℕ, List, Some, ◌++◌, slice_get, sym, ap, ◌∙◌, record_line, Named, Add_path}
+use Rattle.olr_register.proofs.Common.{path_change, items, all_named}
 use Rattle.olr_register.proofs.DumpTexts.{records-at}
 use Rattle.olr_register.proofs.dumps.push_paths.Goals as goal
 

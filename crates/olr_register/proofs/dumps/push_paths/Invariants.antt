@@ -1,8 +1,4 @@
-use Rattle.std.proofs.Common.{◌≡◌, ◌++◌, take}
-use Rattle.std.specs.List.{flat_map}
-use Rattle.olr_commands.specs.RecordText.{record_line}
-use Rattle.olr_commands.specs.Dump.{path_change}
-use Rattle.olr_paths.specs.Items.{items, all_named}
+use Rattle.olr_register.proofs.Common.{◌≡◌, ◌++◌, take, flat_map, record_line, path_change, items, all_named}
 use Rattle.olr_register.proofs.dumps.push_paths.Given as goal
 
 abbrev pub invariant-loop-k : goal.invariant-loop-k

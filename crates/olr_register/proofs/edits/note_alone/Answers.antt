@@ -1,4 +1,4 @@
-use Rattle.std.proofs.Common.{◌∙◌}
+use Rattle.olr_register.proofs.Common.{◌∙◌}
 use Rattle.olr_register.proofs.Noted.{noted_plan}
 use Rattle.olr_register.proofs.edits.note_alone.Goals as goal
 

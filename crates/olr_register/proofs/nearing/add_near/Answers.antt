@@ -1,9 +1,6 @@
-use Rattle.std.proofs.Common.{◌≡◌, false, All, List, inl, take, subst, arith}
+use Rattle.olr_register.proofs.Common.{◌≡◌, false, All, List, inl, take, subst, arith, CoverageQuery, map_of, IsSource}
 use Rattle.std.proofs.lemmas.List.{take_all}
 use Rattle.std.proofs.lemmas.List.Elements.{All-contains, All-weaker}
-use Rattle.olr_spec.specs.Queries.{CoverageQuery}
-use Rattle.olr_map.specs.RoadMaps.{map_of}
-use Rattle.olr_near.specs.Bounds.{IsSource}
 use Rattle.olr_paths.proofs.Alls.{all_more}
 use Rattle.olr_register.proofs.nearing.add_near.Goals as goal
 

@@ -1,6 +1,5 @@
-use Rattle.std.proofs.Common.{ℕ, All, take}
-use Rattle.olr_map.specs.RoadMaps.{map_of}
-use Rattle.olr_near.specs.Bounds.{IsUnderWay, IsSource}
+use Rattle.olr_register.proofs.Common.{ℕ, All, take, map_of, IsSource}
+use Rattle.olr_near.specs.Bounds.{IsUnderWay}
 use Rattle.olr_register.proofs.nearing.add_near.Given as goal
 
 -- no source is lost, and those so far are among them

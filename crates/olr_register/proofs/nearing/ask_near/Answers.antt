@@ -1,5 +1,4 @@
-use Rattle.std.proofs.Common.{inl}
-use Rattle.olr_map.specs.RoadMaps.{map_of}
+use Rattle.olr_register.proofs.Common.{inl, map_of}
 use Rattle.olr_register.proofs.nearing.ask_near.Goals as goal
 
 pub returns : goal.returns

@@ -1,4 +1,4 @@
-use Rattle.olr_map.specs.RoadMaps.{map_of}
+use Rattle.olr_register.proofs.Common.{map_of}
 use Rattle.olr_register.proofs.Bounded.{right_without}
 use Rattle.olr_register.proofs.nearing.bounds_from_scratch.Goals as goal
 

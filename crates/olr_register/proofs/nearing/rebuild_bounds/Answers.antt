@@ -1,4 +1,4 @@
-use Rattle.std.proofs.Common.{inl, inr}
+use Rattle.olr_register.proofs.Common.{inl, inr}
 use Rattle.olr_register.proofs.nearing.rebuild_bounds.Goals as goal
 
 pub returns-then-not-is_worn : goal.returns-then-not-is_worn

@@ -1,5 +1,4 @@
-use Rattle.olr_paths.specs.Items.{items}
-use Rattle.olr_paths.specs.Laying.{under_overlay}
+use Rattle.olr_register.proofs.Common.{items, under_overlay}
 use Rattle.olr_register.proofs.nearing.renew.Goals as goal
 
 pub renew_over-requires : goal.renew_over-requires

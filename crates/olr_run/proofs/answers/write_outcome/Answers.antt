@@ -1,5 +1,4 @@
-use Rattle.std.specs.Prelude.{is_ok}
-use Rattle.olr_run.specs.Runs.{answer_text}
+use Rattle.olr_run.proofs.Common.{is_ok, answer_text}
 use Rattle.olr_run.proofs.Answering.{text_of_answer}
 use Rattle.olr_run.proofs.answers.write_outcome.Goals as goal
 

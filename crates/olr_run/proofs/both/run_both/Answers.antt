@@ -1,5 +1,4 @@
-use Rattle.std.proofs.Common.{arith}
-use Rattle.std.proofs.lemmas.Bool.{false≢true}
+use Rattle.olr_run.proofs.Common.{arith, false≢true}
 use Rattle.olr_run.proofs.Running.{passed_on}
 use Rattle.olr_run.proofs.Joining.{both_stopped, both_ran, both_faulted_first, both_faulted_second}
 use Rattle.olr_run.proofs.both.run_both.Goals as goal

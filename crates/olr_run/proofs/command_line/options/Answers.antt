@@ -1,8 +1,6 @@
 -- By clap's rules for the arguments, which are those of the definition.
-use Rattle.std.proofs.Common.{arith, ◌≡◌, ◌∙◌, map, sym, ap, false, true}
-use Rattle.std.proofs.lemmas.Bool.{false≢true}
-use Rattle.clap.specs.Faults.{fault_of, is_simple_and_free}
-use Rattle.clap.specs.Simple.{App}
+use Rattle.olr_run.proofs.Common.{arith, ◌≡◌, ◌∙◌, map, sym, ap, false, true, false≢true, fault_of, App}
+use Rattle.clap.specs.Faults.{is_simple_and_free}
 use Rattle.clap.specs.Takes.{takes}
 use Rattle.clap.specs.declared.error.kind.ErrorKind.TheVariants.{OutOfMemory}
 use Rattle.clap.proofs.WalkLemmas.{first_value-rows}

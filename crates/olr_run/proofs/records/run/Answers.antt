@@ -1,5 +1,5 @@
 -- A run over an input, from its session.
-use Rattle.std.proofs.Common.{◌∙◌, ap, true}
+use Rattle.olr_run.proofs.Common.{◌∙◌, ap, true}
 use Rattle.csv.specs.Reading.{builder_config, builder_trim, builder_names_headers, builder_is_flexible, with_flexible}
 use Rattle.csv.specs.declared.reader.ReaderBuilder.{ReaderBuilder}
 use Rattle.olr_run.proofs.InputRuns.{OfReader, reader_at, written_at, starts_with, on_known}

@@ -1,5 +1,4 @@
-use Rattle.std.proofs.Common.{◌≤◌, ◌-◌}
-use Rattle.olr_run.specs.Output.{most_records}
+use Rattle.olr_run.proofs.Common.{◌≤◌, ◌-◌, most_records}
 use Rattle.olr_run.proofs.Running.{SoFar}
 use Rattle.olr_run.proofs.records.run_within.Given as goal
 

@@ -1,4 +1,6 @@
-use Rattle.std.proofs.Common.{arith, inl, inr, ◌≡◌, [], ◌∷◌, ◌++◌, Option, is_some, not, Ok, Err, refl, ap, ◌∙◌}
+use Rattle.olr_run.proofs.Common.{arith, inl, inr, ◌≡◌, [], ◌∷◌, ◌++◌, Option, not, Ok, Err, refl, ap, ◌∙◌, start_state}
+use Rattle.olr_run.proofs.Common.{On_map, Make, ByState, In_last}
+use Rattle.std.proofs.Common.{is_some}
 use Rattle.std.specs.Ordering.{nat_cmp}
 use Rattle.std.specs.Cmp.{nat_cmp_total}
 use Rattle.std.specs.FinMap.{insert, remove, empty, get-empty, get-insert}
@@ -7,9 +9,8 @@ use Rattle.std.specs.Fmt.{digits}
 use Rattle.csv.proofs.OnLiterals.{csv_on_literals}
 use Rattle.olr_spec.specs.Coordinates.{Coord}
 use Rattle.olr_spec.specs.Map.{empty_map, unless, Node_exists, No_node, Node_in_use, Add_node, Drop_node, in_use}
-use Rattle.olr_commands.specs.State.{start_state, Syntax, Range, Map_fault, On_map, Make, with_map, at_once, step}
-use Rattle.olr_commands.specs.Reply.{Paths, ByState}
-use Rattle.olr_run.specs.Output.{In_last}
+use Rattle.olr_commands.specs.State.{Syntax, Range, Map_fault, with_map, at_once, step}
+use Rattle.olr_commands.specs.Reply.{Paths}
 use Rattle.olr_records.specs.Rows.{zero}
 use Rattle.olr_run.specs.Rows.{state20}
 use Rattle.olr_run.proofs.rows.rows_runs.Goals as goal

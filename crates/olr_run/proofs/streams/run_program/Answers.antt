@@ -1,7 +1,5 @@
 -- The state at the end is that of the program's register.
-use Rattle.std.proofs.Common.{map, subst}
-use Rattle.olr_register.specs.Registered.{Registered}
-use Rattle.olr_run.specs.Ends.{Ends, Opens}
+use Rattle.olr_run.proofs.Common.{map, subst, Registered, Ends, Opens}
 use Rattle.olr_run.proofs.streams.run_program.Goals as goal
 
 pub returns-clause-ends : goal.returns-clause-ends

@@ -1,6 +1,6 @@
 -- The reply begins empty, so what was written is the reply.
-use Rattle.std.proofs.Common.{ℕ, List, subst}
-use Rattle.std.specs.Prelude.{false, Some, IfOk, IfErr}
+use Rattle.olr_c.proofs.Common.{ℕ, List, subst, Some}
+use Rattle.std.specs.Prelude.{false, IfOk, IfErr}
 use Rattle.olr_run.specs.Output.{Claims, records_of}
 use Rattle.olr_run.specs.Runs.{RanOn, FaultedOn}
 use Rattle.olr_c.proofs.keep.Keep.ask.Goals as goal

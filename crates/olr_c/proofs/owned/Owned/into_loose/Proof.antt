@@ -1,43 +1,23 @@
 -- A full handle, as a box that was taken apart.
-use Rattle.std.proofs.Common.{◌≡◌, List, [], ◌∷◌, ◌++◌, refl, ap}
-use mathlib.Core.Path.{◌∙◌}
-use mir.Raw.{raw as bare}
-use mir.Val.{Val, vptr, vstruct, of_list, has_ty, WT}
-use lib.Dec.{T}
-use denote.Param.{layout}
-use base.Logic.{SProp, emp, never, fst∗}
-use base.Fml.{ftrue}
-use contract.Monad.{fact, fact_i}
-use contract.Running.{tables}
-use prog.Wp.{WpFn}
-use types.Logic.{sem}
-use types.Kit.{‵, raw, ◌⊛◌, ◌$◌, ◌∵◌, !, qed, by, move, keep, split, use0, fsplit, fjoin, fpick, fpack, feq_i, feq_l, prop, regoal, rewrite}
-use types.Run.{stop, fld, of_opd, no_more, and_then, returns, enter}
-use types.ByLocal.{alloc_all, pass_all, free_all, look_at, get, get_in, sets}
-use types.Part.{agg, sub, whole}
-use denote.RattleType.{Valss, owns}
-use denote.Memory.{lone}
-use denote.Signature.{types_at, plain}
-use denote.RawPtr.{Ptr, RawPtr, block_ptr, null_ptr, ptr_val, in_a_block}
-use denote.Steps.{nothing, heard}
-use denote.Struct.Struct.{within}
-use denote.Struct.Owning.{shape}
-use denote.Triple.Walked.{Stays, stay_dropped, walk_of}
-use Rattle.std.proofs.alloc.Calls.{Goes-blank, handle_tells}
-use Rattle.std.specs.Prelude.{Option, Some, IsSome}
-use Rattle.std.specs.Box.Ownership.{box_owns}
-use Rattle.std.specs.contracts.alloc.Global as heap
-use Rattle.std.specs.contracts.impls.GlobalAllocator.TheImpl.{ghosts}
-use Rattle.std.proofs.raw_atomic.Walks.{proved_at, leaves}
+use Rattle.olr_c.proofs.Common.{◌≡◌, List, [], ◌∷◌, ◌++◌, refl, ap, ◌∙◌, Val, vptr, vstruct, of_list, has_ty, WT, T}
+use Rattle.olr_c.proofs.Common.{layout, SProp, emp, never, fst∗, ftrue, fact, fact_i, tables, WpFn, sem, ‵, raw, ◌⊛◌}
+use Rattle.olr_c.proofs.Common.{◌$◌, ◌∵◌, !, qed, by, move, keep, split, use0, fsplit, fjoin, fpick, fpack, feq_i}
+use Rattle.olr_c.proofs.Common.{feq_l, prop, regoal, rewrite, stop, fld, of_opd, no_more, and_then, returns, enter}
+use Rattle.olr_c.proofs.Common.{alloc_all, pass_all, free_all, look_at, get, get_in, sets, agg, sub, whole, Valss, owns}
+use Rattle.olr_c.proofs.Common.{lone, types_at, plain, Ptr, RawPtr, block_ptr, null_ptr, ptr_val, in_a_block, nothing}
+use Rattle.olr_c.proofs.Common.{heard, within, shape, Stays, stay_dropped, walk_of, Goes-blank, handle_tells, Some}
+use Rattle.olr_c.proofs.Common.{box_owns, ghosts, proved_at, leaves, Keep}
+use Rattle.std.specs.Prelude.{Option, IsSome}
 use Rattle.olr_c.specs.Held.{owns_keep}
-use Rattle.olr_c.specs.declared.keep.Keep.{Keep}
+use Rattle.olr_spec.proofs.OptionLemmas.{some_of}
+use Rattle.olr_c.proofs.Handles.{al, pair, and_tt}
+use Rattle.olr_c.proofs.owned.Owned.into_loose.Statement.{statement}
+use mir.Raw.{raw as bare}
+use Rattle.std.specs.contracts.alloc.Global as heap
 use Rattle.olr_c.specs.contracts.keep.Keep as kept
 use Rattle.olr_c.specs.contracts.loose.Loose as loose
 use Rattle.olr_c.specs.contracts.owned.Owned as owned
-use Rattle.olr_spec.proofs.OptionLemmas.{some_of}
-use Rattle.olr_c.proofs.Handles.{al, pair, and_tt}
 use Rattle.olr_c.specs.contracts.owned.Owned.into_loose as f
-use Rattle.olr_c.proofs.owned.Owned.into_loose.Statement.{statement}
 use Rattle.olr_c.proofs.owned.Owned.into_loose.Code as code
 
 pub into_loose_spec : {M : Type 1} → statement M

@@ -1,33 +1,20 @@
 -- A handle that owns nothing.
-use Rattle.std.proofs.Common.{◌≡◌, List, [], ◌∷◌, ◌++◌, refl, lit<}
-use mir.Val.{Val, vint, has_ty, WT}
-use lib.Dec.{T}
-use denote.Param.{layout}
+use Rattle.olr_c.proofs.Common.{◌≡◌, List, [], ◌∷◌, ◌++◌, refl, Val, has_ty, WT, T, layout, SProp, emp, ftrue, fact}
+use Rattle.olr_c.proofs.Common.{fact_i, tables, WpFn, ‵, raw, ◌⊛◌, ◌$◌, ◌∵◌, !, qed, by, move, keep, split, use0}
+use Rattle.olr_c.proofs.Common.{fsplit, fjoin, fpack, feq_i, prop, regoal, no_more, and_then, returns, enter, alloc_all}
+use Rattle.olr_c.proofs.Common.{pass_all, free_all, look_at, get, sets, agg, Valss, owns, types_at, plain, null_ptr}
+use Rattle.olr_c.proofs.Common.{ptr_val, nothing, within, shape, to, Stays, stay_dropped, walk_of, Goes-blank}
+use Rattle.olr_c.proofs.Common.{handle_tells, proved_at, leaves}
+use Rattle.std.proofs.Common.{lit<}
+use mir.Val.{vint}
 use mir.Syntax.{w64}
-use base.Logic.{SProp, emp}
-use base.Fml.{ftrue}
-use contract.Monad.{fact, fact_i}
-use contract.Running.{tables}
-use prog.Wp.{WpFn}
-use types.Kit.{‵, raw, ◌⊛◌, ◌$◌, ◌∵◌, !, qed, by, move, keep, split, use0, fsplit, fjoin, fpack, feq_i, prop, regoal}
-use types.Run.{lit, no_more, and_then, returns, enter}
-use types.ByLocal.{alloc_all, pass_all, free_all, look_at, get, sets}
-use types.Part.{agg}
-use denote.RattleType.{Valss, owns}
-use denote.Signature.{types_at, plain}
-use denote.RawPtr.{null_ptr, ptr_val}
-use denote.Steps.{nothing}
-use denote.Struct.Struct.{within}
-use denote.Struct.Owning.{shape, to}
-use denote.Triple.Walked.{Stays, stay_dropped, walk_of}
-use Rattle.std.proofs.alloc.Calls.{Goes-blank, handle_tells}
+use types.Run.{lit}
 use Rattle.std.specs.Prelude.{None}
-use Rattle.std.specs.contracts.alloc.Global as heap
-use Rattle.std.proofs.raw_atomic.Walks.{proved_at, leaves}
-use Rattle.olr_c.specs.contracts.owned.Owned as owned
 use Rattle.olr_c.proofs.Handles.{al, pair, and_tt}
-use Rattle.olr_c.specs.contracts.owned.Owned.none as f
 use Rattle.olr_c.proofs.owned.Owned.none.Statement.{statement}
+use Rattle.std.specs.contracts.alloc.Global as heap
+use Rattle.olr_c.specs.contracts.owned.Owned as owned
+use Rattle.olr_c.specs.contracts.owned.Owned.none as f
 use Rattle.olr_c.proofs.owned.Owned.none.Code as code
 
 pub none_spec : {M : Type 1} → statement M

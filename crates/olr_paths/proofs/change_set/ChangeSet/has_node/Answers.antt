@@ -1,5 +1,4 @@
-use Rattle.std.proofs.Common.{◌∙◌}
-use Rattle.olr_spec.proofs.AscendingLists.{found_has}
+use Rattle.olr_paths.proofs.Common.{◌∙◌, found_has}
 use Rattle.olr_paths.proofs.change_set.ChangeSet.has_node.Goals as goal
 
 pub returns : goal.returns

@@ -1,16 +1,10 @@
-use Rattle.std.proofs.Common.{◌≡◌, ◌-◌, ◌≤◌, ◌∷◌, [], ◌∙◌, ℕ, List, Some, refl, String, Global, length, slice_get, ap}
-use Rattle.std.proofs.Common.{sym, subst, arith}
-use Rattle.std.proofs.lemmas.List.{length-map}
-use Rattle.std.proofs.lemmas.Option.{slice_get-map}
-use Rattle.std.specs.Prelude.{option_map}
-use Rattle.olr_paths.specs.Items.{Item, items}
-use Rattle.olr_paths.specs.Renewing.{item_of as under}
-use Rattle.olr_paths.specs.Laying.{overlay_changes, change_at, under_change}
-use Rattle.olr_paths.specs.Showing.{shown_items, shown_item}
+use Rattle.olr_paths.proofs.Common.{◌≡◌, ◌-◌, ◌≤◌, ◌∷◌, [], ◌∙◌, ℕ, List, Some, refl, String, Global, length, slice_get}
+use Rattle.olr_paths.proofs.Common.{ap, sym, subst, arith, length-map, slice_get-map, option_map, Item, items}
+use Rattle.olr_paths.proofs.Common.{overlay_changes, change_at, under_change, shown_items, shown_item, NamedPath}
 use Rattle.olr_paths.specs.declared.overlaid_list.OverlaidList.{OverlaidList}
-use Rattle.olr_paths.specs.declared.path_list.NamedPath.{NamedPath}
 use Rattle.olr_paths.proofs.NamedEntries.{item_of, item_at}
 use Rattle.olr_paths.proofs.Changed.{changed_by, one_changed, overlaid_at, overlaid_behind}
+use Rattle.olr_paths.specs.Renewing.{item_of as under}
 use Rattle.olr_paths.proofs.overlaid_list.OverlaidList.at.Goals as goal
 
 pub returns-then-position-count-clause-shown : goal.returns-then-position-count-clause-shown

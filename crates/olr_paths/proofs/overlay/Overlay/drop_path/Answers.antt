@@ -1,6 +1,5 @@
-use Rattle.std.proofs.Common.{◌++◌, ◌∙◌, List, None, refl, ap, sym}
-use Rattle.olr_paths.specs.Items.{Item, items}
-use Rattle.olr_paths.specs.Laying.{changes_in, overlay_changes, under_changes}
+use Rattle.olr_paths.proofs.Common.{◌++◌, ◌∙◌, List, None, refl, ap, sym, Item, items, changes_in, overlay_changes}
+use Rattle.olr_paths.proofs.Common.{under_changes}
 use Rattle.olr_paths.proofs.Overlaying.{drop_behind, drop_before, overlaid_drop, puts_one}
 use Rattle.olr_paths.proofs.overlay.Overlay.drop_path.Goals as goal
 

@@ -1,6 +1,4 @@
-use Rattle.std.specs.Prelude.{string_bytes}
-use Rattle.olr_paths.specs.Items.{items}
-use Rattle.olr_paths.specs.Laying.{overlay_changes, under_changes}
+use Rattle.olr_paths.proofs.Common.{string_bytes, items, overlay_changes, under_changes}
 use Rattle.olr_paths.proofs.Overlaying.{second_absent}
 use Rattle.olr_paths.proofs.overlay.Overlay.hold.Goals as goal
 

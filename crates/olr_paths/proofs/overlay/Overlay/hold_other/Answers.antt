@@ -1,6 +1,4 @@
-use Rattle.std.proofs.Common.{◌≡◌, Some, false, ap, sym}
-use Rattle.olr_paths.specs.Items.{items}
-use Rattle.olr_paths.specs.Laying.{changes_in, overlay_changes, under_changes}
+use Rattle.olr_paths.proofs.Common.{◌≡◌, Some, false, ap, sym, items, changes_in, overlay_changes, under_changes}
 use Rattle.olr_paths.proofs.Overlaying.{has_name, set_if_ok, set_before, overlaid_set, not_dropped, puts_one}
 use Rattle.olr_paths.proofs.overlay.Overlay.hold_other.Goals as goal
 

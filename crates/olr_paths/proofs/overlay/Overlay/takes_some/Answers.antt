@@ -1,11 +1,7 @@
-use Rattle.std.proofs.Common.{◌≡◌, ◌∷◌, ◌++◌, [], ◌+◌, ◌∙◌, true, Option, String, Global, take}
-use Rattle.std.proofs.Common.{is_some, not, ap, sym, subst, arith}
-use Rattle.std.proofs.lemmas.List.{take_all}
-use Rattle.std.specs.declared.rc.Rc.{Rc}
-use Rattle.olr_spec.specs.Extension.{Path}
+use Rattle.olr_paths.proofs.Common.{◌≡◌, ◌∷◌, ◌++◌, [], ◌+◌, ◌∙◌, true, Option, String, Global, take, is_some, not, ap}
+use Rattle.olr_paths.proofs.Common.{sym, subst, arith, take_all, Rc, Path, take_more_at}
 use Rattle.olr_paths.proofs.Overlaying.{Entered}
 use Rattle.olr_paths.proofs.Changed.{AreOthers, others_push, others_keep}
-use Rattle.olr_spec.proofs.ListLemmas.{take_more_at}
 use Rattle.olr_paths.proofs.overlay.Overlay.takes_some.Goals as goal
 
 pub loop-k-preserved : goal.loop-k-preserved

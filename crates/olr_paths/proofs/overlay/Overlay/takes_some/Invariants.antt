@@ -1,4 +1,4 @@
-use Rattle.std.proofs.Common.{take}
+use Rattle.olr_paths.proofs.Common.{take}
 use Rattle.olr_paths.proofs.Changed.{AreOthers}
 use Rattle.olr_paths.proofs.overlay.Overlay.takes_some.Given as goal
 

@@ -1,8 +1,5 @@
-use Rattle.std.proofs.Common.{◌≡◌, inl, inr, List, [], ◌∷◌, ◌++◌, Some}
-use Rattle.std.proofs.Common.{subst}
-use Rattle.std.specs.Prelude.{string_bytes}
-use Rattle.olr_paths.specs.Items.{Made, Item, items, made_of}
-use Rattle.olr_paths.specs.Origins.{Begins}
+use Rattle.olr_paths.proofs.Common.{◌≡◌, inl, inr, List, [], ◌∷◌, ◌++◌, Some, subst, string_bytes, Made, Item, items}
+use Rattle.olr_paths.proofs.Common.{made_of, Begins}
 use Rattle.olr_paths.proofs.OriginLemmas.{begins_add}
 use Rattle.olr_paths.proofs.path_list.PathList.add.Goals as goal
 

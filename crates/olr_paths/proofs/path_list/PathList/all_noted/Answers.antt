@@ -1,9 +1,5 @@
-use Rattle.std.proofs.Common.{◌≡◌, ◌∙◌, ℕ, inl, inr, get_or, slice_get, Some, String, Global, sym, ap, subst, arith}
-use Rattle.std.proofs.lemmas.List.{get_or_default}
-use Rattle.std.proofs.lemmas.Option.{slice_get_within}
-use Rattle.std.proofs.lemmas.Bool.{cases_lt}
-use Rattle.olr_paths.specs.Finding.{NamedNoted}
-use Rattle.olr_paths.specs.declared.path_list.NamedPath.{NamedPath}
+use Rattle.olr_paths.proofs.Common.{◌≡◌, ◌∙◌, ℕ, inl, inr, get_or, slice_get, Some, String, Global, sym, ap, subst}
+use Rattle.olr_paths.proofs.Common.{arith, get_or_default, slice_get_within, cases_lt, NamedNoted, NamedPath}
 use Rattle.olr_paths.proofs.PathIdLemmas.{named_grown}
 use Rattle.olr_paths.proofs.path_list.PathList.all_noted.Goals as goal
 

@@ -1,6 +1,4 @@
-use Rattle.std.proofs.Common.{◌≡◌, ◌<◌, ℕ, String, Global, Some, slice_get, get_or}
-use Rattle.olr_paths.specs.Finding.{NamedNoted}
-use Rattle.olr_paths.specs.declared.path_list.NamedPath.{NamedPath}
+use Rattle.olr_paths.proofs.Common.{◌≡◌, ◌<◌, ℕ, String, Global, Some, slice_get, get_or, NamedNoted, NamedPath}
 use Rattle.olr_paths.proofs.path_list.PathList.all_noted.Given as goal
 
 -- the paths so far have their index entries

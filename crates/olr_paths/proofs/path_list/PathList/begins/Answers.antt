@@ -1,5 +1,4 @@
-use Rattle.std.proofs.Common.{inl, inr, ◌≡◌, slice_get, Some, sym}
-use Rattle.olr_paths.specs.Items.{Item, items}
+use Rattle.olr_paths.proofs.Common.{inl, inr, ◌≡◌, slice_get, Some, sym, Item, items}
 use Rattle.olr_paths.proofs.OriginLemmas.{begins_more}
 use Rattle.olr_paths.proofs.NamedEntries.{item_of, item_at}
 use Rattle.olr_paths.proofs.path_list.PathList.begins.Goals as goal

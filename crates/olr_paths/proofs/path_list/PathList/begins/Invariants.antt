@@ -1,7 +1,4 @@
-use Rattle.std.proofs.Common.{Contains, take}
-use Rattle.olr_spec.specs.Queries.{CoverageQuery}
-use Rattle.olr_paths.specs.Items.{items}
-use Rattle.olr_paths.specs.Origins.{Begins}
+use Rattle.olr_paths.proofs.Common.{Contains, take, CoverageQuery, items, Begins}
 use Rattle.olr_paths.proofs.path_list.PathList.begins.Given as goal
 
 -- the nodes where the coverage queries of the paths so far begin are in the list

@@ -1,4 +1,4 @@
-use Rattle.std.proofs.Common.{ap, sym, ◌∙◌}
+use Rattle.olr_paths.proofs.Common.{ap, sym, ◌∙◌}
 use Rattle.std.proofs.lemmas.List.{take-map}
 use Rattle.olr_paths.proofs.NamedEntries.{item_of, items_of}
 use Rattle.olr_paths.proofs.path_list.PathList.cut.Goals as goal

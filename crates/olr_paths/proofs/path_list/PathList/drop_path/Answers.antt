@@ -1,7 +1,5 @@
-use Rattle.std.proofs.Common.{◌≢◌, ◌<◌, None, sym, ap, length, ◌∙◌, arith}
-use Rattle.std.proofs.lemmas.List.Edits.{length-remove}
+use Rattle.olr_paths.proofs.Common.{◌≢◌, ◌<◌, None, sym, ap, length, ◌∙◌, arith, length-remove, items}
 use Rattle.olr_spec.proofs.AscendingLists.{ascends-remove}
-use Rattle.olr_paths.specs.Items.{items}
 use Rattle.olr_paths.proofs.NamedEntries.{first_at, items_of, keeps_all, named_there, removed_items}
 use Rattle.olr_paths.proofs.PathIdLemmas.{each_removed, noted_removed}
 use Rattle.olr_paths.proofs.path_list.PathList.drop_path.Goals as goal

@@ -1,10 +1,6 @@
-use Rattle.std.proofs.Common.{◌≤◌, ◌∷◌, [], String, Global, map, ◌≡◌, length, refl, append-nil, ap, sym, ◌∙◌, arith}
-use Rattle.std.specs.Prelude.{option_map}
-use Rattle.std.proofs.lemmas.List.{drop_all, map-append, length-map}
-use Rattle.olr_commands.specs.Reply.{entry}
-use Rattle.olr_commands.specs.Words.{entry_of}
-use Rattle.olr_paths.specs.Items.{items, made_of}
-use Rattle.olr_paths.specs.declared.path_list.NamedPath.{NamedPath}
+use Rattle.olr_paths.proofs.Common.{◌≤◌, ◌∷◌, [], String, Global, map, ◌≡◌, length, refl, append-nil, ap, sym, ◌∙◌}
+use Rattle.olr_paths.proofs.Common.{arith, option_map, drop_all, map-append, length-map, entry, entry_of, items}
+use Rattle.olr_paths.proofs.Common.{made_of, NamedPath}
 use Rattle.olr_paths.proofs.NamedEntries.{item_at, item_of}
 use Rattle.olr_paths.proofs.EntryLists.{reported_more, encoded_at}
 use Rattle.olr_paths.proofs.path_list.PathList.entries.Goals as goal

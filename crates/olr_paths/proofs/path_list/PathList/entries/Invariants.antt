@@ -1,8 +1,4 @@
-use Rattle.std.proofs.Common.{List, [], ◌++◌, drop, map}
-use Rattle.olr_commands.specs.Reply.{Entry}
-use Rattle.olr_commands.specs.Words.{entry_of}
-use Rattle.olr_paths.specs.Items.{items}
-use Rattle.olr_paths.specs.Changes.{Reported}
+use Rattle.olr_paths.proofs.Common.{List, [], ◌++◌, drop, map, Entry, entry_of, items, Reported}
 use Rattle.olr_paths.proofs.path_list.PathList.entries.Given as goal
 
 -- the paths so far are reported, if the rest is

@@ -1,4 +1,4 @@
-use Rattle.std.proofs.Common.{◌∙◌}
+use Rattle.olr_paths.proofs.Common.{◌∙◌}
 use Rattle.olr_paths.proofs.NamedEntries.{named_there}
 use Rattle.olr_paths.proofs.path_list.PathList.has.Goals as goal
 

@@ -1,4 +1,4 @@
-use Rattle.std.proofs.Common.{◌∙◌, ap, sym, Some}
+use Rattle.olr_paths.proofs.Common.{◌∙◌, ap, sym, Some}
 use Rattle.olr_paths.proofs.NamedEntries.{named_at}
 use Rattle.olr_paths.proofs.path_list.PathList.name_at.Goals as goal
 

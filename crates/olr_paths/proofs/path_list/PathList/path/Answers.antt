@@ -1,6 +1,5 @@
-use Rattle.std.proofs.Common.{◌∙◌, ap, sym, Some}
+use Rattle.olr_paths.proofs.Common.{◌∙◌, ap, sym, Some, option_map}
 use Rattle.olr_paths.proofs.NamedEntries.{paths_named}
-use Rattle.std.specs.Prelude.{option_map}
 use Rattle.olr_paths.proofs.path_list.PathList.path.Goals as goal
 
 pub returns-in_err-named : goal.returns-in_err-named

@@ -1,4 +1,4 @@
-use Rattle.std.proofs.Common.{◌∙◌, sym, Some}
+use Rattle.olr_paths.proofs.Common.{◌∙◌, sym, Some}
 use Rattle.olr_paths.proofs.NamedEntries.{path_at}
 use Rattle.olr_paths.proofs.path_list.PathList.path_at.Goals as goal
 

@@ -1,7 +1,5 @@
-use Rattle.std.proofs.Common.{◌∙◌, ap, sym, Some}
+use Rattle.olr_paths.proofs.Common.{◌∙◌, ap, sym, Some, made_of, option_map}
 use Rattle.olr_paths.proofs.NamedEntries.{published_absent, published_of}
-use Rattle.olr_paths.specs.Items.{made_of}
-use Rattle.std.specs.Prelude.{option_map}
 use Rattle.olr_paths.proofs.path_list.PathList.published_of.Goals as goal
 
 pub returns-in_err-get : goal.returns-in_err-get

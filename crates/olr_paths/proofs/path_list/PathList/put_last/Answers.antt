@@ -1,9 +1,7 @@
-use Rattle.std.proofs.Common.{◌≢◌, ◌<◌, ℕ, None, List, length, get_or, ◌∙◌, ◌++◌, ◌∷◌, [], subst, arith, ap}
-use Rattle.std.proofs.lemmas.List.{length_push, map-append}
+use Rattle.olr_paths.proofs.Common.{◌≢◌, ◌<◌, ℕ, None, List, length, get_or, ◌∙◌, ◌++◌, ◌∷◌, [], subst, arith, ap}
+use Rattle.olr_paths.proofs.Common.{map-append, string_eq, insert_entry, NamedNoted}
+use Rattle.std.proofs.lemmas.List.{length_push}
 use Rattle.olr_spec.proofs.AscendingLists.{ascends_push}
-use Rattle.std.specs.String.{string_eq}
-use Rattle.indexmap.specs.IndexMap.{insert_entry}
-use Rattle.olr_paths.specs.Finding.{NamedNoted}
 use Rattle.olr_paths.proofs.NamedEntries.{Entries, item_of}
 use Rattle.olr_paths.proofs.PathIdLemmas.{insert_last, noted_below, each_push}
 use Rattle.olr_paths.proofs.path_list.PathList.put_last.Goals as goal

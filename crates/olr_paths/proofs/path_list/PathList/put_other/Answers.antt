@@ -1,6 +1,4 @@
-use Rattle.std.proofs.Common.{◌≢◌, ◌<◌, None, length, sym, ◌∙◌, arith}
-use Rattle.std.specs.Map.{lookup}
-use Rattle.olr_spec.proofs.OptionLemmas.{none_of}
+use Rattle.olr_paths.proofs.Common.{◌≢◌, ◌<◌, None, length, sym, ◌∙◌, arith, lookup, none_of}
 use Rattle.olr_paths.proofs.NamedEntries.{asks, first_at, set_absent, set_items}
 use Rattle.olr_paths.proofs.PathIdLemmas.{kept_long, each_set, noted_but, noted_set}
 use Rattle.olr_paths.proofs.path_list.PathList.put_other.Goals as goal

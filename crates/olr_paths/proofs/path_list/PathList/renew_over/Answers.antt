@@ -1,6 +1,4 @@
-use Rattle.std.proofs.Common.{◌∙◌}
-use Rattle.olr_paths.specs.Items.{items}
-use Rattle.olr_paths.specs.Laying.{overlay_changes}
+use Rattle.olr_paths.proofs.Common.{◌∙◌, items, overlay_changes}
 use Rattle.olr_paths.proofs.Changed.{none_keeps}
 use Rattle.olr_paths.proofs.path_list.PathList.renew_over.Goals as goal
 

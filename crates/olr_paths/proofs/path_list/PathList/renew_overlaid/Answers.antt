@@ -1,16 +1,9 @@
-use Rattle.std.proofs.Common.{Bor, ◌≡◌, ◌++◌, ◌∙◌, List, Option, Some, None, map, inl, inr, refl, ap, sym, subst}
+use Rattle.olr_paths.proofs.Common.{Bor, ◌≡◌, ◌++◌, ◌∙◌, List, Option, Some, None, map, inl, inr, refl, ap, sym, subst}
+use Rattle.olr_paths.proofs.Common.{option_map, Entry, entry_of, Item, items, Begins, Reported, TakesNone}
+use Rattle.olr_paths.proofs.Common.{overlay_changes, all_put, puts_of, after_renewal, PathList, Renewal}
 use Rattle.std.proofs.Common.{unwrap_or}
-use Rattle.std.specs.Prelude.{option_map}
-use Rattle.olr_commands.specs.Reply.{Entry}
-use Rattle.olr_commands.specs.Words.{entry_of}
-use Rattle.olr_paths.specs.Items.{Item, items}
-use Rattle.olr_paths.specs.Origins.{Begins}
-use Rattle.olr_paths.specs.Changes.{Reported}
-use Rattle.olr_paths.specs.Laying.{TakesNone, overlay_changes, under_overlay}
-use Rattle.olr_paths.specs.Renewing.{all_put, puts_of, after_renewal}
-use Rattle.olr_paths.specs.declared.path_list.PathList.{PathList}
+use Rattle.olr_paths.specs.Laying.{under_overlay}
 use Rattle.olr_paths.specs.declared.overlay.Overlay.{Overlay}
-use Rattle.olr_paths.specs.declared.renewal.Renewal.{Renewal}
 use Rattle.olr_paths.proofs.OriginLemmas.{begins_all_put}
 use Rattle.olr_paths.proofs.Changed.{grown_differ, put_on_overlaid}
 use Rattle.olr_paths.proofs.NotedPositions.{all_encoded}

@@ -1,10 +1,6 @@
-use Rattle.std.proofs.Common.{◌≡◌, inl, inr, List, [], ◌∷◌, ◌++◌, Some, ap, ◌∙◌, subst}
+use Rattle.olr_paths.proofs.Common.{◌≡◌, inl, inr, List, [], ◌∷◌, ◌++◌, Some, ap, ◌∙◌, subst, Entry, entry, entry_of}
+use Rattle.olr_paths.proofs.Common.{Made, Item, items, made_of, set_item, Begins}
 use Rattle.std.specs.Prelude.{map}
-use Rattle.olr_commands.specs.Reply.{Entry, entry}
-use Rattle.olr_commands.specs.Words.{entry_of}
-use Rattle.olr_paths.specs.Items.{Made, Item, items, made_of}
-use Rattle.olr_paths.specs.Changes.{set_item}
-use Rattle.olr_paths.specs.Origins.{Begins}
 use Rattle.olr_paths.proofs.OriginLemmas.{begins_set}
 use Rattle.olr_paths.proofs.path_list.PathList.set.Goals as goal
 

@@ -1,7 +1,4 @@
-use Rattle.std.proofs.Common.{ap, sym, ◌∙◌, subst}
-use Rattle.std.specs.Result.{result_ok}
-use Rattle.olr_spec.specs.Bytes.{IsReference}
-use Rattle.olr_commands.specs.Reply.{published_text}
+use Rattle.olr_paths.proofs.Common.{ap, sym, ◌∙◌, subst, result_ok, IsReference, published_text}
 use Rattle.olr_answers.specs.Answers.{answer_of}
 use Rattle.olr_paths.proofs.Spellings.{decided}
 use Rattle.olr_paths.proofs.published.Published.has_answer_of.Goals as goal

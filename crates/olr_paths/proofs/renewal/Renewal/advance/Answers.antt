@@ -1,7 +1,4 @@
-use Rattle.std.proofs.Common.{refl}
-use Rattle.std.proofs.lemmas.List.{map-append}
-use Rattle.olr_paths.specs.Items.{made_of}
-use Rattle.olr_paths.specs.Renewing.{Retained, EncodedAgain}
+use Rattle.olr_paths.proofs.Common.{refl, map-append, made_of, Retained, EncodedAgain}
 use Rattle.olr_paths.proofs.renewal.Renewal.advance.Goals as goal
 
 pub returns-in-Keep : goal.returns-in-Keep

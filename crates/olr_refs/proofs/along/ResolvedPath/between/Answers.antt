@@ -1,4 +1,4 @@
-use Rattle.std.proofs.Common.{arith}
+use Rattle.olr_refs.proofs.Common.{arith}
 use Rattle.olr_spec.proofs.FieldLemmas.{dm_same}
 use Rattle.olr_refs.proofs.LegLemmas.{joined_known}
 use Rattle.olr_refs.proofs.Stretches.{dm_stretch}

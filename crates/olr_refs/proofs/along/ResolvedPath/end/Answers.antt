@@ -1,5 +1,4 @@
-use Rattle.std.proofs.Common.{◌∙◌, ap}
-use Rattle.olr_refs.specs.ResolvedLines.{ResolvedLine}
+use Rattle.olr_refs.proofs.Common.{◌∙◌, ap, ResolvedLine}
 use Rattle.olr_refs.proofs.Joined.{known_at, end_known}
 use Rattle.olr_refs.proofs.Resolving.{record_at}
 use Rattle.olr_refs.proofs.along.ResolvedPath.end.Goals as goal

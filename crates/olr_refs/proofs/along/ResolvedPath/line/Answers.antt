@@ -1,5 +1,4 @@
-use Rattle.std.proofs.Common.{arith}
-use Rattle.std.proofs.lemmas.List.{get_or_default}
+use Rattle.olr_refs.proofs.Common.{arith, get_or_default}
 use Rattle.olr_refs.proofs.Joined.{known_get}
 use Rattle.olr_refs.proofs.LegLemmas.{record_sound}
 use Rattle.olr_refs.proofs.along.ResolvedPath.line.Goals as goal

@@ -1,7 +1,4 @@
-use Rattle.std.proofs.Common.{ap, ◌∙◌, arith}
-use Rattle.std.proofs.lemmas.Bool.Decides.{nat_tests}
-use Rattle.olr_refs.specs.ResolvedLines.{ResolvedLine}
-use Rattle.olr_spec.proofs.ListLemmas.{last_index}
+use Rattle.olr_refs.proofs.Common.{ap, ◌∙◌, arith, nat_tests, ResolvedLine, last_index}
 use Rattle.olr_refs.proofs.Joined.{known_at, start_known}
 use Rattle.olr_refs.proofs.Resolving.{record_at, records_length}
 use Rattle.olr_refs.proofs.along.ResolvedPath.node.Goals as goal

@@ -1,4 +1,4 @@
-use Rattle.std.proofs.Common.{arith}
+use Rattle.olr_refs.proofs.Common.{arith}
 use Rattle.olr_refs.proofs.LegLemmas.{position_at}
 use Rattle.olr_refs.proofs.along.ResolvedPath.place.Goals as goal
 

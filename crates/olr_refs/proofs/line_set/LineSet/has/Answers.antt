@@ -1,5 +1,4 @@
-use Rattle.std.proofs.Common.{◌≡◌, List, ℕ, ◌∙◌, ap}
-use Rattle.olr_spec.specs.Map.{has}
+use Rattle.olr_refs.proofs.Common.{◌≡◌, List, ℕ, ◌∙◌, ap, has}
 use Rattle.olr_refs.proofs.Sets.{found}
 use Rattle.olr_refs.proofs.line_set.LineSet.has.Goals as goal
 

@@ -1,5 +1,5 @@
+use Rattle.olr_refs.proofs.Common.{arith}
 use Rattle.std.proofs.lemmas.List.Sorted.{IsNonDecreasingBy-from_sort}
-use Rattle.std.proofs.Common.{arith}
 use Rattle.olr_refs.proofs.Sets.{same_members}
 use Rattle.olr_refs.proofs.line_set.LineSet.of.Goals as goal
 

@@ -1,13 +1,6 @@
-use Rattle.std.proofs.Common.{◌≡◌, inl, inr, string_bytes, false, refl, sym, ap, ◌∙◌}
-use Rattle.std.proofs.lemmas.Result.{err_from_is_err_and}
-use Rattle.olr_map.specs.RoadMaps.{map_of}
-use Rattle.olr_commands.specs.State.{Add_path}
-use Rattle.olr_paths.specs.Items.{items}
-use Rattle.olr_paths.specs.Laying.{under_overlay}
+use Rattle.olr_register.proofs.Common.{◌≡◌, inl, inr, string_bytes, false, refl, sym, ap, ◌∙◌, err_from_is_err_and}
+use Rattle.olr_register.proofs.Common.{map_of, Add_path, items, under_overlay, has_name, content_under, path_by}
 use Rattle.olr_paths.proofs.OriginLemmas.{begins_add}
-use Rattle.olr_paths.proofs.Overlaying.{has_name}
-use Rattle.olr_register.specs.Holding.{content_under}
-use Rattle.olr_register.specs.HoldsChange.{path_by}
 use Rattle.olr_register.proofs.Changing.{add_refused, add_ok}
 use Rattle.olr_register.proofs.Listed.{each_add, each_if_any, each_follows, given_add}
 use Rattle.olr_register.proofs.Making.{path_unmade, path_made}

@@ -1,16 +1,8 @@
-use Rattle.std.proofs.Common.{not, refl, sym}
-use Rattle.std.proofs.lemmas.List.{append-nil}
-use Rattle.olr_map.specs.RoadMaps.{map_of}
-use Rattle.olr_commands.specs.State.{same_name, Drop_path}
-use Rattle.olr_paths.specs.Items.{Item, items}
-use Rattle.olr_paths.specs.Laying.{under_overlay}
-use Rattle.olr_paths.proofs.OriginLemmas.{begins_drop}
-use Rattle.olr_register.specs.Holding.{content_under}
-use Rattle.olr_register.specs.HoldsChange.{ByContent}
+use Rattle.olr_register.proofs.Common.{not, refl, sym, append-nil, map_of, same_name, Drop_path, Item, items}
+use Rattle.olr_register.proofs.Common.{under_overlay, begins_drop, content_under, ByContent, err_from_is_err_and}
 use Rattle.olr_register.proofs.Changing.{drop_missing, drop_lacks, drop_ok}
 use Rattle.olr_register.proofs.Listed.{each_left, each_given, each_if_any, each_follows}
 use Rattle.olr_register.proofs.Making.{path_unmade, path_made}
-use Rattle.std.proofs.lemmas.Result.{err_from_is_err_and}
 use Rattle.olr_register.proofs.batch.Batch.drop_path.Goals as goal
 
 pub returns-then-not-has : goal.returns-then-not-has

@@ -1,10 +1,6 @@
-use Rattle.std.proofs.Common.{refl}
-use Rattle.olr_map.specs.Edits.{edit_of}
-use Rattle.olr_register.specs.Holding.{content_under}
-use Rattle.olr_register.specs.HoldsChange.{ByContent}
+use Rattle.olr_register.proofs.Common.{refl, edit_of, content_under, ByContent, err_from_is_err_and}
 use Rattle.olr_register.proofs.Changing.{edit_refused, edit_lacks}
 use Rattle.olr_register.proofs.Making.{edit_unmade, edit_made}
-use Rattle.std.proofs.lemmas.Result.{err_from_is_err_and}
 use Rattle.olr_register.proofs.batch.Batch.edit.Goals as goal
 
 pub returns-in-Err : goal.returns-in-Err

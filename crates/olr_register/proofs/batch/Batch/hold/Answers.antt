@@ -1,7 +1,4 @@
-use Rattle.std.proofs.Common.{refl, sym}
-use Rattle.std.proofs.lemmas.Result.{err_from_is_err_and}
-use Rattle.olr_paths.specs.Items.{items}
-use Rattle.olr_register.specs.HoldsChange.{ByContent, change_of}
+use Rattle.olr_register.proofs.Common.{refl, sym, err_from_is_err_and, items, ByContent, change_of}
 use Rattle.olr_register.proofs.Making.{holds_made}
 use Rattle.olr_register.proofs.batch.Batch.hold.Goals as goal
 

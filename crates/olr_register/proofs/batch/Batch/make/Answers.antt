@@ -1,4 +1,4 @@
-use Rattle.olr_paths.specs.Items.{items}
+use Rattle.olr_register.proofs.Common.{items}
 use Rattle.olr_register.proofs.batch.Batch.make.Goals as goal
 
 pub returns-in-Edit : goal.returns-in-Edit

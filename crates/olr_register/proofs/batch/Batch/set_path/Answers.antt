@@ -1,12 +1,6 @@
-use Rattle.std.proofs.Common.{inl, inr, not, refl, sym, ap, ◌∙◌}
-use Rattle.std.proofs.lemmas.Result.{err_from_is_err_and}
-use Rattle.olr_map.specs.RoadMaps.{map_of}
-use Rattle.olr_commands.specs.State.{Set_path}
-use Rattle.olr_paths.specs.Items.{items}
-use Rattle.olr_paths.specs.Laying.{under_overlay}
+use Rattle.olr_register.proofs.Common.{inl, inr, not, refl, sym, ap, ◌∙◌, err_from_is_err_and, map_of, Set_path, items}
+use Rattle.olr_register.proofs.Common.{under_overlay, content_under, path_by}
 use Rattle.olr_paths.proofs.OriginLemmas.{begins_set}
-use Rattle.olr_register.specs.Holding.{content_under}
-use Rattle.olr_register.specs.HoldsChange.{path_by}
 use Rattle.olr_register.proofs.Changing.{set_refused, set_ok, not_missing}
 use Rattle.olr_register.proofs.Listed.{each_set, each_if_any, each_follows, given_set}
 use Rattle.olr_register.proofs.Making.{path_unmade, path_made}

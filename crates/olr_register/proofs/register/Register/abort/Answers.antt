@@ -1,13 +1,8 @@
-use Rattle.std.proofs.Common.{Some, None, map, refl, ap}
-use Rattle.olr_commands.specs.State.{Abort}
-use Rattle.olr_commands.specs.Reply as replies
-use Rattle.olr_commands.specs.Words.{entry_of}
-use Rattle.olr_paths.specs.Items.{items}
-use Rattle.olr_register.specs.Holding.{IsKeptRight}
+use Rattle.olr_register.proofs.Common.{Some, None, map, refl, ap, Abort, entry_of, items, IsKeptRight, ByState}
 use Rattle.olr_register.proofs.BatchEnds.{abort_done}
 use Rattle.olr_register.proofs.States.{kept_moved}
-use Rattle.olr_commands.specs.Reply.{ByState}
 use Rattle.olr_register.proofs.Outcomes.{answered_refused}
+use Rattle.olr_commands.specs.Reply as replies
 use Rattle.olr_register.proofs.register.Register.abort.Goals as goal
 
 pub undo_all-requires : goal.undo_all-requires

@@ -1,14 +1,8 @@
-use Rattle.std.proofs.Common.{refl, sym, ap, ◌∙◌, not}
+use Rattle.olr_register.proofs.Common.{refl, sym, ap, ◌∙◌, not, map_of, Add_path, items, has_name, content_on, path_by}
 use Rattle.std.specs.Prelude.{string_bytes}
-use Rattle.olr_map.specs.RoadMaps.{map_of}
-use Rattle.olr_commands.specs.State.{Add_path}
-use Rattle.olr_commands.specs.declared.fault.CommandFault.TheVariants as rust
-use Rattle.olr_paths.specs.Items.{items}
-use Rattle.olr_paths.proofs.Overlaying.{has_name}
-use Rattle.olr_register.specs.Holding.{content_on}
-use Rattle.olr_register.specs.HoldsChange.{path_by}
 use Rattle.olr_register.proofs.Changing.{add_refused}
 use Rattle.olr_register.proofs.Singles.{refused_first, refused_now, may_refuse, kept_bounds, add_right, add_done}
+use Rattle.olr_commands.specs.declared.fault.CommandFault.TheVariants as rust
 use Rattle.olr_register.proofs.register.Register.add_now.Goals as goal
 
 pub add-requires : goal.add-requires

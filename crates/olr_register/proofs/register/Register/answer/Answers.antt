@@ -1,9 +1,4 @@
-use Rattle.std.proofs.Common.{Some, ap, ◌∙◌}
-use Rattle.std.specs.Prelude.{option_map}
-use Rattle.olr_spec.specs.Encoding.{Answer}
-use Rattle.olr_paths.specs.Items.{Made, items}
-use Rattle.olr_register.specs.Registered.{Registered}
-use Rattle.olr_register.specs.Holding.{map_kept}
+use Rattle.olr_register.proofs.Common.{Some, ap, ◌∙◌, option_map, Answer, Made, items, Registered, map_kept}
 use Rattle.olr_register.proofs.Asking.{answer_published}
 use Rattle.olr_register.proofs.register.Register.answer.Goals as goal
 

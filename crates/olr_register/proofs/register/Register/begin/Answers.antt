@@ -1,10 +1,6 @@
-use Rattle.std.proofs.Common.{map, refl, ap, sym}
-use Rattle.olr_spec.proofs.OptionLemmas.{none_of}
-use Rattle.olr_commands.specs.Reply as replies
-use Rattle.olr_commands.specs.State.{Begin}
-use Rattle.olr_commands.specs.Words.{entry_of}
-use Rattle.olr_paths.specs.Items.{items}
+use Rattle.olr_register.proofs.Common.{map, refl, ap, sym, none_of, Begin, entry_of, items}
 use Rattle.olr_register.proofs.BatchEnds.{open_refused, IsEmpty, begun_held, begin_done}
+use Rattle.olr_commands.specs.Reply as replies
 use Rattle.olr_register.proofs.register.Register.begin.Goals as goal
 
 pub returns-then-is_some : goal.returns-then-is_some

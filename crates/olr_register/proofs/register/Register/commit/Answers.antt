@@ -1,8 +1,4 @@
-use Rattle.std.proofs.Common.{refl}
-use Rattle.olr_map.specs.RoadMaps.{map_before}
-use Rattle.olr_commands.specs.State.{Commit}
-use Rattle.olr_paths.specs.Items.{items}
-use Rattle.olr_commands.specs.Reply.{ByState}
+use Rattle.olr_register.proofs.Common.{refl, map_before, Commit, items, ByState}
 use Rattle.olr_register.proofs.Outcomes.{answered_refused}
 use Rattle.olr_register.proofs.BatchCommit.{count_refused, commit_lacks, can_commit, commit_held, commit_done}
 use Rattle.olr_register.proofs.register.Register.commit.Goals as goal

@@ -1,15 +1,9 @@
-use Rattle.std.proofs.Common.{List, map, refl, sym, ap}
-use Rattle.olr_map.specs.RoadMaps.{map_of}
-use Rattle.olr_commands.specs.State.{Drop_path, at_once}
-use Rattle.olr_commands.specs.Reply as returned
-use Rattle.olr_commands.specs.Reply.{ByState}
-use Rattle.olr_commands.specs.Words.{entry_of}
-use Rattle.olr_commands.specs.declared.reply.Entry.{Entry}
-use Rattle.olr_commands.specs.declared.fault.CommandFault.TheVariants as rust
-use Rattle.olr_paths.specs.Items.{items}
-use Rattle.olr_register.specs.Holding.{content_on}
+use Rattle.olr_register.proofs.Common.{List, map, refl, sym, ap, map_of, Drop_path, at_once, ByState, entry_of, Entry}
+use Rattle.olr_register.proofs.Common.{items, content_on}
 use Rattle.olr_register.proofs.Changing.{drop_missing}
 use Rattle.olr_register.proofs.Singles.{refused_first, drop_right, drop_done}
+use Rattle.olr_commands.specs.Reply as returned
+use Rattle.olr_commands.specs.declared.fault.CommandFault.TheVariants as rust
 use Rattle.olr_register.proofs.register.Register.drop_now.Goals as goal
 
 pub returns-then-not-has : goal.returns-then-not-has

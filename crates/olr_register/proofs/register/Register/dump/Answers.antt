@@ -1,15 +1,8 @@
-use Rattle.std.proofs.Common.{refl, sym}
-use Rattle.std.specs.List.{list_all}
-use Rattle.std.proofs.lemmas.Bool.{and_parts}
-use Rattle.olr_spec.proofs.OptionLemmas.{none_of}
-use Rattle.olr_map.specs.RoadMaps.{map_of}
-use Rattle.olr_commands.specs.Recordable.{is_name, is_recordable_map}
-use Rattle.olr_commands.specs.Reply.{Dumped}
-use Rattle.olr_commands.specs.State.{Dump}
-use Rattle.olr_paths.specs.Items.{items, all_named}
+use Rattle.olr_register.proofs.Common.{refl, sym, list_all, and_parts, none_of, map_of, is_name, is_recordable_map}
+use Rattle.olr_register.proofs.Common.{Dump, items, all_named, ByState}
+use Rattle.olr_commands.specs.Reply.{Dumped, Lacks}
 use Rattle.olr_register.proofs.BatchEnds.{open_refused}
 use Rattle.olr_register.proofs.DumpOutcomes.{dump_done}
-use Rattle.olr_commands.specs.Reply.{ByState, Lacks}
 use Rattle.olr_commands.specs.declared.fault.CommandFault.TheVariants.{Memory}
 use Rattle.olr_register.proofs.Outcomes.{answered_refused}
 use Rattle.olr_register.proofs.register.Register.dump.Goals as goal

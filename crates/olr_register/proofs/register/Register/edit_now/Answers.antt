@@ -1,23 +1,16 @@
-use Rattle.std.proofs.Common.{◌≡◌, ℕ, List, map, length, None, IsOk, refl, ap, ◌∙◌}
-use Rattle.olr_spec.specs.Map.{Map, Edit, edited}
-use Rattle.olr_map.specs.Edits.{edit_of}
-use Rattle.olr_map.specs.RoadMaps.{map_of}
-use Rattle.olr_commands.specs.State.{On_map, Make, at_once}
-use Rattle.olr_commands.specs.State as faults
-use Rattle.olr_commands.specs.Reply as returned
-use Rattle.olr_commands.specs.Reply.{IsRefusal, ByState}
-use Rattle.olr_commands.specs.Words.{entry_of}
-use Rattle.olr_commands.specs.declared.reply.Entry.{Entry}
+use Rattle.olr_register.proofs.Common.{◌≡◌, ℕ, List, map, length, None, IsOk, refl, ap, ◌∙◌, Map, Edit, edited, edit_of}
+use Rattle.olr_register.proofs.Common.{map_of, On_map, Make, at_once, IsRefusal, ByState, entry_of, Entry, Item, items}
+use Rattle.olr_register.proofs.Common.{content_on}
 use Rattle.olr_commands.specs.declared.fault.CommandFault.TheVariants.{Memory}
-use Rattle.olr_paths.specs.Items.{Item, items}
-use Rattle.olr_register.specs.Holding.{content_on}
 use Rattle.olr_register.proofs.Asking.{some_named}
 use Rattle.olr_register.proofs.Bounded.{bounded_unknown, right_without}
 use Rattle.olr_register.proofs.Changing.{edit_refused, edit_lacks}
 use Rattle.olr_register.proofs.Listed.{no_items}
-use Rattle.olr_register.proofs.Singles.{refused_first, refused_now, may_refuse, same_right, kept_bounds, bare_right, bare_done, can_edit}
-use Rattle.olr_register.proofs.Singles.{edit_right, edit_done}
+use Rattle.olr_register.proofs.Singles.{refused_first, refused_now, may_refuse, same_right, kept_bounds, bare_right}
+use Rattle.olr_register.proofs.Singles.{bare_done, can_edit, edit_right, edit_done}
 use Rattle.olr_register.proofs.States.{state}
+use Rattle.olr_commands.specs.State as faults
+use Rattle.olr_commands.specs.Reply as returned
 use Rattle.olr_register.proofs.register.Register.edit_now.Goals as goal
 
 pub returns-in-Err : goal.returns-in-Err

@@ -1,4 +1,4 @@
-use Rattle.std.proofs.Common.{refl}
+use Rattle.olr_register.proofs.Common.{refl}
 use Rattle.olr_register.proofs.Texts.{explain_text, explain_fault}
 use Rattle.olr_register.proofs.register.Register.explain.Goals as goal
 

@@ -1,7 +1,4 @@
-use Rattle.std.proofs.Common.{sym}
-use Rattle.olr_spec.proofs.OptionLemmas.{none_of}
-use Rattle.olr_map.specs.RoadMaps.{map_of}
-use Rattle.olr_paths.specs.Items.{items}
+use Rattle.olr_register.proofs.Common.{sym, none_of, map_of, items}
 use Rattle.olr_register.proofs.Asking.{footprint_is}
 use Rattle.olr_register.proofs.register.Register.footprint.Goals as goal
 

@@ -1,7 +1,4 @@
-use Rattle.std.proofs.Common.{Some}
-use Rattle.olr_paths.specs.Items.{items}
-use Rattle.olr_register.specs.HoldsChange.{change_of}
-use Rattle.olr_register.specs.Holding.{IsKeptRight}
+use Rattle.olr_register.proofs.Common.{Some, items, change_of, IsKeptRight}
 use Rattle.olr_register.proofs.BatchSteps.{answered_given}
 use Rattle.olr_register.proofs.States.{kept_moved}
 use Rattle.olr_register.proofs.register.Register.hold.Goals as goal

@@ -1,5 +1,4 @@
-use Rattle.olr_paths.specs.Items.{items}
-use Rattle.olr_register.specs.Holding.{map_kept}
+use Rattle.olr_register.proofs.Common.{items, map_kept}
 use Rattle.olr_register.proofs.Asking.{all_encoded, all_published}
 use Rattle.olr_register.proofs.register.Register.iter.Goals as goal
 

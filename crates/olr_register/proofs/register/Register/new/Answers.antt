@@ -1,5 +1,4 @@
-use Rattle.std.proofs.Common.{None}
-use Rattle.olr_register.specs.Holding.{content_on}
+use Rattle.olr_register.proofs.Common.{None, content_on}
 use Rattle.olr_register.proofs.States.{register_of}
 use Rattle.olr_register.proofs.register.Register.new.Goals as goal
 

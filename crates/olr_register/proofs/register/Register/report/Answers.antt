@@ -1,6 +1,4 @@
-use Rattle.std.proofs.Common.{refl}
-use Rattle.olr_paths.specs.Items.{items}
-use Rattle.olr_register.specs.Holding.{map_kept}
+use Rattle.olr_register.proofs.Common.{refl, items, map_kept}
 use Rattle.olr_register.proofs.Asking.{all_encoded, some_named}
 use Rattle.olr_register.proofs.Outcomes.{report_answered, report_lacks}
 use Rattle.olr_register.proofs.Replies.{reported_all}

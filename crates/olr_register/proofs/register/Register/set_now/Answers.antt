@@ -1,13 +1,8 @@
-use Rattle.std.proofs.Common.{refl, sym, ap, ◌∙◌, not}
-use Rattle.olr_map.specs.RoadMaps.{map_of}
-use Rattle.olr_commands.specs.State.{Set_path}
-use Rattle.olr_commands.specs.declared.fault.CommandFault.TheVariants as rust
-use Rattle.olr_paths.specs.Items.{items}
-use Rattle.olr_register.specs.Holding.{content_on, map_kept}
-use Rattle.olr_register.specs.HoldsChange.{path_by}
+use Rattle.olr_register.proofs.Common.{refl, sym, ap, ◌∙◌, not, map_of, Set_path, items, content_on, map_kept, path_by}
 use Rattle.olr_register.proofs.Asking.{some_answer_in}
 use Rattle.olr_register.proofs.Changing.{set_refused, not_missing}
 use Rattle.olr_register.proofs.Singles.{refused_first, refused_now, may_refuse, kept_bounds, set_right, set_done}
+use Rattle.olr_commands.specs.declared.fault.CommandFault.TheVariants as rust
 use Rattle.olr_register.proofs.register.Register.set_now.Goals as goal
 
 pub set-requires : goal.set-requires

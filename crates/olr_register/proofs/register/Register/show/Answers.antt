@@ -1,9 +1,5 @@
-use Rattle.std.proofs.Common.{◌∷◌, [], List, refl, sym, ap, ◌∙◌}
+use Rattle.olr_register.proofs.Common.{◌∷◌, [], List, refl, sym, ap, ◌∙◌, entry_of, Entry, items, map_kept}
 use Rattle.std.specs.Prelude.{map}
-use Rattle.olr_commands.specs.Words.{entry_of}
-use Rattle.olr_commands.specs.declared.reply.Entry.{Entry}
-use Rattle.olr_paths.specs.Items.{items}
-use Rattle.olr_register.specs.Holding.{map_kept}
 use Rattle.olr_register.proofs.Asking.{some_answer_in}
 use Rattle.olr_register.proofs.Outcomes.{show_answered, show_unknown, show_lacks}
 use Rattle.olr_register.proofs.Replies.{answer_held}

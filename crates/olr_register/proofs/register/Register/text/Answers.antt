@@ -1,11 +1,5 @@
-use Rattle.std.proofs.Common.{ap, ◌∙◌}
-use Rattle.std.specs.Prelude.{option_map, option_and_then}
-use Rattle.std.specs.Result.{result_ok}
-use Rattle.olr_spec.specs.Encoding.{Answer}
-use Rattle.olr_commands.specs.Reply.{published_text}
-use Rattle.olr_paths.specs.Items.{Made, items}
-use Rattle.olr_register.specs.Registered.{Registered}
-use Rattle.olr_register.specs.Holding.{map_kept}
+use Rattle.olr_register.proofs.Common.{ap, ◌∙◌, option_map, option_and_then, result_ok, Answer, published_text, Made}
+use Rattle.olr_register.proofs.Common.{items, Registered, map_kept}
 use Rattle.olr_register.proofs.Asking.{text_published}
 use Rattle.olr_register.proofs.register.Register.text.Goals as goal
 
