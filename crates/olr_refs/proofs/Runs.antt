@@ -6,7 +6,7 @@ use Rattle.olr_refs.proofs.Common.{subst, arith, append_assoc, both_ways, map-ap
 use Rattle.olr_refs.proofs.Common.{list_any-IsPermutation, Map, has_line, dm, has, dm_of, last, limit, dm_of-append}
 use Rattle.olr_refs.proofs.Common.{far_end, Along, Against, ResolvedLine, record_of, records_of, ids, AreRecords}
 use Rattle.olr_refs.proofs.Common.{LiesBeyond, IsRun}
-use Rattle.olr_spec.proofs.RunLemmas.{EndRun-at, EndRun-front, same_start_run, same_end_run, last_push}
+use Rattle.olr_spec.proofs.RunLemmas.{same_start_run, same_end_run, last_push}
 use Rattle.std.proofs.lemmas.List.{reverse-reverse}
 use Rattle.std.proofs.Common.{◌≢◌, is_some, IsTrue, append-nil}
 use Rattle.std.specs.Prelude.{⊤}
@@ -139,6 +139,12 @@ tip_is Along ls (x ∷ c) =
     rw (pushed x c, ← append_assoc ls (reverse c) (x ∷ [])) (last_push (ls ++ reverse c) x)
 tip_is Against ls c = grind arith
 
+end_parts : (M : Map) (ls c : List ℕ) (x : ℕ) → EndRun M ls (c ++ x ∷ []) → EndRun M ls c × MayFollow M (ls ++ c) x
+end_parts M ls [] x p = (tt, coe 1 0 (i. MayFollow M (append-nil ls i) x) p.0)
+end_parts M ls (y ∷ c) x p =
+    let rest = end_parts M (ls ++ y ∷ []) c x p.1 in
+    ((p.0, rest.0), coe 0 1 (i. MayFollow M (append_assoc ls (y ∷ []) c i) x) rest.1)
+
 module _ (M : Map) (ls : List ℕ) where
   start_run : (c : List ℕ) → Chain M Against ls c → StartRun M c ls
   start_run [] p = tt
@@ -156,9 +162,9 @@ module _ (M : Map) (ls : List ℕ) where
   of_end : (c : List ℕ) → EndRun M ls (reverse c) → Chain M Along ls c
   of_end [] p = tt
   of_end (x ∷ c) p =
-      let run : EndRun M ls (reverse c ++ x ∷ []) = subst (EndRun M ls) (pushed x c) p in
-      let on : MayFollow M (ls ++ reverse c) x = EndRun-at M ls (reverse c) x [] run in
-      let rest = of_end c (EndRun-front M ls (reverse c) (x ∷ []) run) in
+      let run = end_parts M ls (reverse c) x (subst (EndRun M ls) (pushed x c) p) in
+      let on = run.1 in
+      let rest = of_end c run.0 in
       grind (arith, or_parts, list_any-append, has-reverse, tip_is Along ls c)
 
 longest : (M : Map) (d : Direction) (ls c : List ℕ) → Chain M d ls c → dm_of M c ≤ limit →
