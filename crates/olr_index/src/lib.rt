@@ -6,13 +6,17 @@ ghost use Rattle.std.specs.List.Sorted.{IsStrictlyIncreasing};
 ghost use Rattle.olr_spec.specs.Map.{has};
 ghost use Rattle.olr_index.specs.Listed.{path_ids_in};
 
+use smallvec::SmallVec;
 use std::alloc::{AllocError, Global};
 use std::collections::HashMap;
+
+/// The path ids of a number: most numbers have one, which is stored without an allocation.
+type PathIds = SmallVec<u64, 1>;
 
 /// Numbers and their path ids. Each number has each path id at most once, and a number without path ids has no entry.
 #[derive(Drop, Debug)]
 pub struct Index {
-    path_ids: HashMap<u64, Vec<u64>>,
+    path_ids: HashMap<u64, PathIds>,
     alloc: Global,
     ghost ascend: { (number : ℕ) → IsStrictlyIncreasing (path_ids_in path_ids number) },
 }
@@ -61,7 +65,7 @@ impl Index {
         if let Some(path_ids) = self.path_ids.get_mut(&number) {
             return put(path_ids, path_id);
         }
-        let mut path_ids = Vec::with_capacity(self.alloc, 1)?;
+        let mut path_ids = SmallVec::new(self.alloc);
         path_ids.push(path_id)?;
         self.path_ids.insert(number, path_ids)?;
         Ok(())
@@ -84,7 +88,7 @@ impl Index {
 
 /// Inserts a path id into a list in ascending order, unless the list has it. If an allocation fails, the list is
 /// unchanged.
-fn put(path_ids: &mut Vec<u64>, path_id: u64) -> Result<(), AllocError>
+fn put(path_ids: &mut PathIds, path_id: u64) -> Result<(), AllocError>
     requires { IsStrictlyIncreasing path_ids.old.items }
     ensures ascend { IsStrictlyIncreasing path_ids.new.items }
     ensures ok { OnOk result ((m : ℕ) → has path_ids.new.items m ≡ (has path_ids.old.items m || (path_id == m))) }
@@ -97,7 +101,7 @@ fn put(path_ids: &mut Vec<u64>, path_id: u64) -> Result<(), AllocError>
 }
 
 /// Removes a path id from a list in ascending order, if the list has it. Allocates nothing.
-fn take_out(path_ids: &mut Vec<u64>, path_id: u64)
+fn take_out(path_ids: &mut PathIds, path_id: u64)
     requires { IsStrictlyIncreasing path_ids.old.items }
     ensures ascend { IsStrictlyIncreasing path_ids.new.items }
     ensures holds { (m : ℕ) → has path_ids.new.items m ≡ (has path_ids.old.items m && not (path_id == m)) }
