@@ -15,10 +15,24 @@ def declarations(crates):
     return [line for name, line in rows().items() if name in crates]
 
 
+def uses():
+    """The crates that each crate uses, those of the toolchain among them."""
+    return {name: line.split("#")[0].partition(":")[2].split() for name, line in rows().items()}
+
+
 def dependencies():
     """The crates of this repository on which each of them depends."""
-    named = {name: line.split("#")[0].partition(":")[2].split() for name, line in rows().items()}
-    return {name: [it for it in below if it in named] for name, below in named.items()}
+    return {name: [it for it in used if it in uses()] for name, used in uses().items()}
+
+
+def libraries(crate):
+    """The crates of the toolchain that a crate uses, but for std."""
+    return [it for it in uses()[crate] if it not in uses()]
+
+
+def is_static(crate):
+    """Whether a crate is a static library for C."""
+    return "staticlib" in rows()[crate].partition(":")[0].split()
 
 
 def crates_below(crate):
