@@ -1,14 +1,13 @@
 -- What the register shows of its paths.
 use Rattle.olr_register.proofs.Common.{◌≡◌, ◌≢◌, ℕ, true, false, List, [], ◌∷◌, map, length, Option, Some, None, refl}
-use Rattle.olr_register.proofs.Common.{sym, ap, ◌∙◌, subst, ◌==◌, ◌↔◌, Contains, option_map, option_and_then}
-use Rattle.olr_register.proofs.Common.{MatchOption, IsSomeAnd, result_ok, ne_eqb, length-map, Map, Answer, Encodes}
-use Rattle.olr_register.proofs.Common.{Path, Named, Content, path_named, published_text, Made, Item, IsEncodingOf}
-use Rattle.olr_register.proofs.Common.{AreEncodings, named_of, all_named, made_in, answer_in, content_on}
+use Rattle.olr_register.proofs.Common.{sym, ap, ◌∙◌, subst, ◌==◌, option_map, option_and_then, MatchOption, IsSomeAnd}
+use Rattle.olr_register.proofs.Common.{result_ok, ne_eqb, length-map, Map, Answer, Encodes, Path, Named, Content}
+use Rattle.olr_register.proofs.Common.{path_named, published_text, Made, Item, IsEncodingOf, AreEncodings, named_of}
+use Rattle.olr_register.proofs.Common.{all_named, made_in, answer_in, content_on}
 use Rattle.std.specs.Prelude.{is_some}
-use Rattle.olr_spec.specs.Footprint.{Foot}
 use Rattle.olr_commands.specs.Reply.{Published, PublishedText}
 use Rattle.olr_paths.specs.Changes.{AreEncoded}
-use Rattle.olr_register.specs.Registered.{PublishedWhole, HaveEncodings}
+use Rattle.olr_register.specs.Registered.{HaveEncodings}
 use Rattle.olr_register.proofs.Replies.{made_found}
 
 answer_found : (M : Map) (p : Option Path) (o : Option Made) →
@@ -26,11 +25,6 @@ answer_published M is c name o e made there =
     subst (λ (d : Content). Published d name o) e
     (subst (Published (content_on M is) name) (sym there) (answer_found M (path_named (all_named is) name) _
     (made_found M is name made)))
-
-pub whole_published : (M : Map) (is : List Item) (name : List ℕ) (o : Option Made) → AreEncodings M is →
-    o ≡ made_in is name → PublishedWhole (content_on M is) name o
-whole_published M is name o made there =
-    subst (PublishedWhole (content_on M is) name) (sym there) (made_found M is name made)
 
 -- the stored text is that of the answer
 pub text_published : (M : Map) (is : List Item) (c : Content) (name : List ℕ) (text : Option (List ℕ)) →
@@ -74,16 +68,3 @@ all_published M (i ∷ is) made =
     let rest : List (List ℕ × Option Made) = map (λ (j : Item). (j.name, j.made)) is in
     let with_made : Option Made → List (List ℕ × Option Made) = λ o. (i.name, o) ∷ rest in
     (made.0.0, rest, made.0.2, all_published M is made.1, ap with_made made.0.1)
-
--- ---- the footprint of a path, with no batch open
-
-abbrev pub FootprintIn : Content → List ℕ → Option (List ℕ) → Type 0
-FootprintIn c name o =
-    MatchOption (path_named c.paths name) (o ≡ None) (λ P. IsSomeAnd o (λ f. (v : ℕ) → Contains f v ↔ Foot c.map P v))
-
-pub footprint_is : (M : Map) (is : List Item) (name : List ℕ) (P : Path) (f : List ℕ) →
-    path_named (all_named is) name ≡ Some P → ((v : ℕ) → Contains f v ↔ Foot M P v) →
-    FootprintIn (content_on M is) name (Some f)
-footprint_is M is name P f there holds =
-    subst (λ (o : Option Path). MatchOption o (◌≡◌ {A = Option (List ℕ)} (Some f) None)
-    (λ P. IsSomeAnd (Some f) (λ g. (v : ℕ) → Contains g v ↔ Foot M P v))) (sym there) holds

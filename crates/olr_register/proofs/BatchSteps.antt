@@ -1,4 +1,4 @@
--- One more change in an open batch, in terms of the definitions of commands.
+-- Opening a batch, and one more change in an open batch, in terms of the definitions of commands.
 use Rattle.olr_register.proofs.Common.{◌≡◌, ℕ, suc, arith, Bool, true, false, not, List, [], ◌∷◌, ◌++◌, length, map}
 use Rattle.olr_register.proofs.Common.{Some, Result, Ok, Err, refl, sym, ap, ◌∙◌, subst, append_assoc, ◌==◌, ◌&&◌, ◌||◌}
 use Rattle.olr_register.proofs.Common.{nat_le, append-nil, list_any-append, flat_map-append, has, ChangedLine, map_of}
@@ -8,15 +8,24 @@ use Rattle.olr_register.proofs.Common.{takes_memory, may_want, is_reported_first
 use Rattle.olr_register.proofs.Common.{changed_by, names_of_change, all_nodes, all_lines, all_changed, all_names}
 use Rattle.olr_register.proofs.Common.{command_fault_of, reply_of, Reply, CommandFault, Item, under_overlay}
 use Rattle.olr_register.proofs.Common.{RegisterState, IsBatchOf, content_on, content_under, batch_of, held_of, Answered}
-use Rattle.olr_register.proofs.Common.{AreGiven, MayReport, ByContent, Lacks, HoldsChange, Batch}
+use Rattle.olr_register.proofs.Common.{AreGiven, MayReport, ByContent, Lacks, HoldsChange, Batch, Option, None, is_some}
+use Rattle.olr_register.proofs.Common.{Command, Begin, IsContent, ByState, DistanceBounds, AreEncodingsIfAny, Begins}
+use Rattle.olr_register.proofs.Common.{Follows, nodes_of, lines_of, changed_of, follows_self, named_held, AreEditsNoted}
+use Rattle.olr_register.proofs.Common.{IsKeptRight}
 use Rattle.std.specs.Prelude.{flat_map}
+use Rattle.std.proofs.lemmas.Bool.{eq-eqb}
+use Rattle.olr_commands.specs.State.{Commit, Batch_full, next, into_batch}
+use Rattle.olr_register.specs.RegisterState.{Batch as Outcome}
 use Rattle.std.proofs.lemmas.List.{length_push}
-use Rattle.olr_commands.specs.State.{Batch_full, next, into_batch}
 use Rattle.olr_commands.proofs.StateLemmas.{next_ok, after_push}
 use Rattle.olr_register.specs.HoldsChange.{content_with}
-use Rattle.olr_register.proofs.Listed.{named_twice}
+use Rattle.olr_register.proofs.Listed.{named_twice, given_at_first}
 use Rattle.olr_register.proofs.Outcomes.{answered_uncounted, answered_refused, Keeps}
-use Rattle.olr_register.proofs.States.{state, register_of, of_parts, in_states}
+use Rattle.olr_register.proofs.States.{state, register_of, of_parts, in_states, kept_moved}
+use Rattle.olr_map.specs.Changes.{room_of, all_node_puts, all_line_puts}
+use Rattle.olr_map.specs.Undos.{CanMakeAll, made_all, log_changes}
+use Rattle.olr_register.proofs.Noted.{noted_none}
+use Rattle.olr_register.proofs.Renewed.{made_if_any}
 use Rattle.olr_commands.specs.Reply as replies
 
 -- ---- the held changes, with one more
@@ -47,6 +56,11 @@ pub held_content : (c : Content) (roads : RoadMap) (is : List Item) (b : Batch) 
 held_content c roads is b xs i =
     sym i.content ∙ ap (λ (ps : List Named). record { map = map_of roads; paths = ps })
     (named_twice (under_overlay is b.overlay))
+
+-- a commit of the right count
+pub right_count : (c : Content) (b : Outcome) (xs : List Change) {n : ℕ} → IsBatchOf c b xs → b.count ≡ n →
+    step (state c (Some xs)) (Commit n) ≡ Ok (state (after c xs) None)
+right_count c b xs {n} i right = rw (eq-eqb (length xs) n (sym i.count ∙ right))
 
 held_when : (c : Content) (ys : List Change) (b : Bool) (f : Fault) (r : Result Content Fault) →
     when b f (into_batch c ys r) ≡ into_batch c ys (when b f r)
@@ -118,7 +132,7 @@ module _ (c : Content) (old new : RoadMap) (is : List Item) (b d : Batch) (x : C
       let may = ap may_want (step_given c old is b xs x i) ∙ may_by c (xs ++ x ∷ []) (content_with old is b x) first in
       replies.Lacks e (λ j. held_takes x xs (length c.paths == 0) j && may j)
 
-  answered_held : (w : Work) (n : ℕ) (r : Result Reply CommandFault) → HoldsChange old new is b d x r →
+  pub answered_held : (w : Work) (n : ℕ) (r : Result Reply CommandFault) → HoldsChange old new is b d x r →
       Answered (register_of c (Some (batch_of old is b)) w n) (Make x) r (register_of c (Some (batch_of new is d)) w n)
   answered_held w n (Ok r) h =
       let taken : content_with old is b x ≡ Ok (content_under new is d) = rw h.room h.made.content in
@@ -140,9 +154,74 @@ module _ (c : Content) (old new : RoadMap) (is : List Item) (b d : Batch) (x : C
       (Make x) (Err f) f (ap (λ e. register_of c (Some e) w n) h.unchanged) refl
       (is_refusal (command_fault_of f) h.refused)
 
--- the content of the register is that on the map before the batch
-pub answered_given : (old new : RoadMap) (is : List Item) (b d : Batch) (w : Work) (n : ℕ) (x : Change)
-    (r : Result Reply CommandFault) → HoldsChange old new is b d x r →
-    Answered (of_parts old is (Some b) w n) (Make x) r (of_parts new is (Some d) w n)
-answered_given old new is b d w n x r h =
-    rw h.before (answered_held (content_on (map_before old b.log) is) old new is b d x w n r h)
+pub open_refused : (roads : RoadMap) (is : List Item) (o : Option Batch) (w : Work) (n : ℕ) (x : Command)
+    (f : CommandFault) → is_some o ≡ true →
+    ((c : Content) (xs : List Change) → step (state c (Some xs)) x ≡ Err (command_fault_of f)) →
+    Answered (of_parts roads is o w n) x (Err f) (of_parts roads is o w n)
+open_refused roads is None w n x f some returned = absurd cc
+open_refused roads is (Some b) w n x f some returned =
+    answered_refused (of_parts roads is (Some b) w n) (of_parts roads is (Some b) w n) x (Err f) f refl refl
+    (λ xs i. ByState (returned _ xs))
+
+-- ---- begin
+
+-- a batch without changes
+pub record IsEmpty (b : Batch) : Type 0 where
+  pub log : log_changes b.log ≡ []
+  pub paths : (js : List Item) → under_overlay js b.overlay ≡ js
+  pub count : b.count ≡ 0
+  pub nodes : nodes_of b.touched ≡ []
+  pub lines : lines_of b.touched ≡ []
+  pub changed : changed_of b.touched ≡ []
+
+module _ (roads : RoadMap) (is : List Item) (b : Batch) (near : DistanceBounds) (h : IsKeptRight roads is None near)
+    (e : IsEmpty b) where
+  same_before : map_before roads b.log ≡ map_of roads
+  same_before = ap (made_all (map_of roads)) e.log
+
+  pub begun_held : IsKeptRight roads is (Some b) near
+  begun_held =
+      kept_moved roads roads is None (Some b) near same_before
+      (record {
+        undo = (
+          subst (CanMakeAll (map_of roads) (room_of roads)) (sym e.log) tt,
+          let nodes : b.log.nodes ≡ 0 = b.log.nodes_counted ∙ ap all_node_puts e.log in
+              let lines : b.log.lines ≡ 0 = b.log.lines_counted ∙ ap all_line_puts e.log in
+              record { nodes = omega arith; lines = omega arith },
+        );
+        sound = subst (λ (ks : List Item). IsContent (content_on (map_of roads) ks)) (sym (e.paths is))
+            h.register.content;
+        few = let none_yet = e.count in omega arith;
+        noted =
+            coe 0 1 (i. AreEditsNoted (sym same_before i) (map_of roads) (sym e.nodes i) (sym e.lines i)
+            (sym e.changed i)) (noted_none (map_of roads));
+        made =
+            coe 0 1 (i. AreEncodingsIfAny (sym same_before i) (sym (e.paths is) i))
+            (made_if_any (map_of roads) is h.register.made);
+        follows = subst (Follows is) (sym (e.paths is)) (follows_self is h.register.content.names);
+        begins = λ v on. subst (λ (ks : List Item). Begins ks v) (e.paths is) on;
+      }) h
+
+  empty_batch : IsBatchOf (content_on (map_of roads) is) (batch_of roads is b) []
+  empty_batch = record {
+    content =
+        ap (λ (ks : List Item). record { map = map_of roads; paths = map named_held (map held_of ks) }) (e.paths is)
+        ∙ ap (λ (ps : List Named). record { map = map_of roads; paths = ps }) (named_twice is);
+    count = e.count;
+    nodes = λ v. ap (λ (vs : List ℕ). has vs v) e.nodes;
+    lines = λ y. ap (λ (ys : List ℕ). has ys y) e.lines;
+    changed = e.changed;
+    given =
+        subst (λ (ks : List Item). AreGiven [] (map held_of ks)) (sym (e.paths is))
+        (given_at_first (map_of roads) is h.register.made);
+  }
+
+  pub begin_done : (w : Work) (n : ℕ) (r : Reply) → reply_of r ≡ replies.Paths [] →
+      Answered (of_parts roads is None w n) Begin (Ok r) (of_parts roads is (Some b) w n)
+  begin_done w n r empty =
+      let c : Content = content_on (map_of roads) is in
+      let later : RegisterState = record { content = c; batch = Some (batch_of roads is b) } in
+      rw same_before
+      (answered_uncounted (register_of c None w n) later Begin r
+      (in_states (record { content = c; batch = None }) (Keeps later Begin r)
+      (refl, (state c (Some []), (refl, empty_batch), (refl, empty)))))

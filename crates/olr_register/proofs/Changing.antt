@@ -1,10 +1,9 @@
 -- What a change makes of the content of a map and a list.
-use Rattle.olr_register.proofs.Common.{inl, inr, ◌⊎◌, ◌≡◌, ℕ, Bool, true, false, not, List, [], ◌∷◌, ◌++◌, map, Option}
-use Rattle.olr_register.proofs.Common.{filter, Result, Ok, Err, IsOk, refl, sym, ap, ◌∙◌, Map, Path, is_path, EditPlan}
-use Rattle.olr_register.proofs.Common.{Named, Content, same_name, has_path, Fault, Memory, No_path, when, Add_path}
-use Rattle.olr_register.proofs.Common.{Set_path, Drop_path, with_map, with_change, is_reported_first, command_fault_of}
-use Rattle.olr_register.proofs.Common.{CommandFault, Made, Item, set_item, has_name, content_on, MayReport, ByContent}
-use Rattle.olr_register.proofs.Common.{Lacks}
+use Rattle.olr_register.proofs.Common.{◌≡◌, ℕ, Bool, true, false, not, List, [], ◌∷◌, ◌++◌, map, Option, filter, Result}
+use Rattle.olr_register.proofs.Common.{Ok, Err, IsOk, refl, sym, ap, ◌∙◌, Map, Path, is_path, EditPlan, Named, Content}
+use Rattle.olr_register.proofs.Common.{same_name, has_path, Fault, Memory, No_path, when, Add_path, Set_path, Drop_path}
+use Rattle.olr_register.proofs.Common.{with_map, with_change, is_reported_first, Made, Item, set_item, has_name}
+use Rattle.olr_register.proofs.Common.{content_on, MayReport, Lacks}
 use Rattle.std.specs.Prelude.{MatchResult}
 use Rattle.olr_spec.specs.Map.{MapFault}
 use Rattle.olr_map.specs.Edits.{edit_fault_of}

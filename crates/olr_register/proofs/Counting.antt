@@ -3,7 +3,8 @@ use Rattle.olr_register.proofs.Common.{inl, inr, ◌≡◌, ℕ, ◌≤◌, true
 use Rattle.olr_register.proofs.Common.{Some, None, refl, sym, ap, ◌∙◌, subst, is_none, MatchOption, list_any, both_ways}
 use Rattle.olr_register.proofs.Common.{Map, has, Path, ChangedLine, CoverageQuery, Named, Content, same_name, Change}
 use Rattle.olr_register.proofs.Common.{Affects, By_name, By_node, By_line, all_nodes, all_lines, all_changed, all_names}
-use Rattle.olr_register.proofs.Common.{SearchedFor, Made, Item, named_of, all_named, Totals, held_of, AreGiven}
+use Rattle.olr_register.proofs.Common.{SearchedFor, Made, Item, named_of, all_named, Totals, held_of, AreGiven, arith}
+use Rattle.olr_register.proofs.Common.{Work, AreCounted, Rises}
 use Rattle.std.specs.Prelude.{Bool}
 use Rattle.olr_spec.specs.Queries.{IsClear}
 use Rattle.olr_commands.specs.Counts.{CountIs, most_changed, IsUnchanged, Retains, EncodesAgain, SearchedAgain, Either}
@@ -64,16 +65,15 @@ either_by : (o : Option Made) (A B : Type 0) → MatchOption o A (λ _. B) → E
 either_by None A B h = h
 either_by (Some m) A B h = h
 
-module _ (M N : Map) (T X U Y : List ℕ) (C D : List ChangedLine) (P : Path) where
-  unchanged_moves : ((v : ℕ) → has T v ≡ has U v) → ((x : ℕ) → has X x ≡ has Y x) → C ≡ D →
-      IsUnchanged M N T X C P → IsUnchanged M N U Y D P
-  unchanged_moves nodes lines same u = record {
-    few = subst (λ (cs : List ChangedLine). length cs ≤ most_changed) same u.few;
-    traversed = λ v on. u.traversed v (nodes v ∙ on);
-    lines = λ x on. u.lines x (lines x ∙ on);
-    clear =
-        λ queries q. subst (λ (cs : List ChangedLine). All (IsClear N cs) queries) same (u.clear queries q);
-  }
+unchanged_moves : {M N : Map} {T X U Y : List ℕ} {C D : List ChangedLine} {P : Path} →
+    ((v : ℕ) → has T v ≡ has U v) → ((x : ℕ) → has X x ≡ has Y x) → C ≡ D → IsUnchanged M N T X C P →
+    IsUnchanged M N U Y D P
+unchanged_moves {N = N} nodes lines same u = record {
+  few = subst (λ (cs : List ChangedLine). length cs ≤ most_changed) same u.few;
+  traversed = λ v on. u.traversed v (nodes v ∙ on);
+  lines = λ x on. u.lines x (lines x ∙ on);
+  clear = λ queries q. subst (λ (cs : List ChangedLine). All (IsClear N cs) queries) same (u.clear queries q);
+}
 
 module _ (c d : Content) (changes : List Change) (ns xs : List ℕ) (cs : List ChangedLine)
     (same_nodes : (v : ℕ) → has ns v ≡ has (all_nodes c changes) v)
@@ -93,9 +93,7 @@ module _ (c d : Content) (changes : List Change) (ns xs : List ℕ) (cs : List C
   retains_to i given h = record {
     affected = affects_to i given h.affected;
     unnamed = sym given ∙ some_made i.made h.made;
-    unchanged =
-        unchanged_moves c.map d.map ns xs (all_nodes c changes) (all_lines changes) cs (all_changed c changes) i.path
-        same_nodes same_lines same_changed h.unchanged;
+    unchanged = unchanged_moves same_nodes same_lines same_changed h.unchanged;
   }
 
   retains_back : (i : Item) → Given (all_names changes) i → Retains c d changes (named_of i) →
@@ -105,8 +103,7 @@ module _ (c d : Content) (changes : List Change) (ns xs : List ℕ) (cs : List C
         both_ways (is_none i.made) (given ∙ h.unnamed) on;
     affected = affects_back i given h.affected;
     unchanged =
-        unchanged_moves c.map d.map (all_nodes c changes) (all_lines changes) ns xs (all_changed c changes) cs i.path
-        (λ v. sym (same_nodes v)) (λ x. sym (same_lines x)) (sym same_changed) h.unchanged;
+        unchanged_moves (λ v. sym (same_nodes v)) (λ x. sym (same_lines x)) (sym same_changed) h.unchanged;
   }
 
   encodes_to : (i : Item) → Given (all_names changes) i → IsEncodedAgain c.map d.map ns xs cs i →
@@ -131,22 +128,23 @@ module _ (c d : Content) (changes : List Change) (ns xs : List ℕ) (cs : List C
       (given : AreGiven (all_names changes) (map held_of is)) where
     pub counted_changes : (ps : List Named) → ps ≡ all_named is → AreRises c d changes ps t
     counted_changes ps same = subst (λ (qs : List Named). AreRises c d changes qs t) (sym same) (record {
-      affected =
-          count_named (all_names changes) (IsAffected c.map ns xs) (Affects c changes) affects_to affects_back is
-          t.affected given totals.affected;
-      spared =
-          count_named (all_names changes) (IsSpared c.map d.map ns xs cs) (Retains c d changes) retains_to retains_back
-          is t.spared given totals.spared;
+      affected = count_named (all_names changes) _ _ affects_to affects_back is t.affected given totals.affected;
+      spared = count_named (all_names changes) _ _ retains_to retains_back is t.spared given totals.spared;
       queries =
-          collect_named (all_names changes) (IsEncodedAgain c.map d.map ns xs cs) (EncodesAgain c d changes) encodes_to
-          encodes_back (SearchesItem c.map d.map cs) (SearchesFor c d changes) searches_to is t.queries given
-          totals.queries;
+          collect_named (all_names changes) _ _ encodes_to encodes_back (SearchesItem c.map d.map cs)
+          (SearchesFor c d changes) searches_to is t.queries given totals.queries;
     })
 
 -- ---- a count of 0
 
 abbrev pub no_totals : Totals
 no_totals = record { affected = 0; spared = 0; queries = [] }
+
+pub none_spent : (M : Map) (w : Work) (n : ℕ) → AreCounted M no_totals w w n n
+none_spent M w n = record { encodings = refl; spared = refl; searched = record { searches = refl; settled = refl } }
+
+pub same_work : (w : Work) → Rises w w
+same_work w = record { encodings = omega arith; searches = omega arith; settled = omega arith }
 
 -- changes that affect no path
 pub none_affected : (c d : Content) (xs : List Change) → ((p : Named) → ¬ Affects c xs p) → (ps : List Named) →

@@ -1,9 +1,6 @@
 pub mod Common
 pub mod Asking
 pub mod DumpTexts
-pub mod DumpOutcomes
-pub mod BatchCommit
-pub mod BatchEnds
 pub mod BatchSteps
 pub mod Noted
 pub mod Bounded
@@ -16,6 +13,4 @@ pub mod Renewed
 pub mod Replies
 pub mod Runs
 pub mod Singles
-pub mod Texts
 pub mod States
-pub mod Reported

@@ -1,37 +1,62 @@
 -- What a change makes of an open batch, by the changed part.
-use Rattle.olr_register.proofs.Common.{◌≡◌, ℕ, ◌+◌, arith, false, List, [], ◌++◌, map, Ok, Err, refl, sym, ap, ◌∙◌}
-use Rattle.olr_register.proofs.Common.{subst, ◌||◌, nat_le, or-false, Map, Edit, edited, touched_nodes, touched_lines}
-use Rattle.olr_register.proofs.Common.{has, HasCoord, ChangedLine, changes_of, CoverageQuery, map_of, map_before}
-use Rattle.olr_register.proofs.Common.{RoadMap, IsContent, full, Change, On_map, Make, HasCoords, with_map, with_change}
-use Rattle.olr_register.proofs.Common.{nodes_of_change, lines_of_change, changed_by, names_of_change, command_fault_of}
-use Rattle.olr_register.proofs.Common.{CommandFault, changes_keep, Item, AreEncodingsIfAny, Follows, Begins}
-use Rattle.olr_register.proofs.Common.{under_overlay, nodes_of, lines_of, changed_of, ChangeSet, content_on}
-use Rattle.olr_register.proofs.Common.{content_under, AreEditsNoted, held_of, IsHeld, AreGiven, MayReport, HoldsChange}
-use Rattle.olr_register.proofs.Common.{Batch}
+use Rattle.olr_register.proofs.Common.{◌≡◌, ℕ, ◌+◌, List, [], ◌++◌, map, Ok, Err, refl, sym, ap, ◌∙◌, subst, ◌||◌}
+use Rattle.olr_register.proofs.Common.{or-false, Map, Edit, edited, touched_nodes, touched_lines, has, HasCoord}
+use Rattle.olr_register.proofs.Common.{ChangedLine, changes_of, CoverageQuery, map_of, map_before, RoadMap, IsContent}
+use Rattle.olr_register.proofs.Common.{Change, On_map, Make, HasCoords, with_map, with_change, nodes_of_change}
+use Rattle.olr_register.proofs.Common.{lines_of_change, changed_by, names_of_change, command_fault_of, CommandFault}
+use Rattle.olr_register.proofs.Common.{changes_keep, Item, AreEncodingsIfAny, Follows, Begins, under_overlay, nodes_of}
+use Rattle.olr_register.proofs.Common.{lines_of, changed_of, ChangeSet, content_on, content_under, AreEditsNoted}
+use Rattle.olr_register.proofs.Common.{held_of, IsHeld, AreGiven, MayReport, Batch, Result, IsErrAnd}
 use Rattle.std.proofs.Common.{append-nil}
-use Rattle.std.proofs.lemmas.Bool.{leb-false}
 use Rattle.olr_map.specs.RoadMaps.{CanUndoAll}
 use Rattle.olr_map.specs.declared.undo.UndoLog.{UndoLog}
-use Rattle.olr_commands.specs.declared.reply.Reply.TheVariants.{Held}
 use Rattle.olr_paths.specs.declared.overlay.Overlay.{Overlay}
-use Rattle.olr_register.specs.Holding.{batch_as, IsHeldAs}
+use Rattle.olr_register.specs.Holding.{IsHeldAs}
 use Rattle.olr_register.specs.HoldsChange.{IsMade, Makes}
 use Rattle.olr_register.proofs.Noted.{noted_more}
+
+-- a change that is not made leaves the batch as it was
+pub unmade : (old new : RoadMap) (is : List Item) (b : Batch) (log : UndoLog) (l : Overlay) (t : ChangeSet) (x : Change)
+    (r : Result (Unit {0}) CommandFault) (f : CommandFault) → IsErrAnd r (λ g. g ≡ f) →
+    (IsHeld old is b → CanUndoAll new log) → map_before new log ≡ map_before old b.log → map_of new ≡ map_of old →
+    under_overlay is l ≡ under_overlay is b.overlay → nodes_of t ≡ nodes_of b.touched →
+    lines_of t ≡ lines_of b.touched → changed_of t ≡ changed_of b.touched →
+    MayReport (with_change (content_under old is b) x) (command_fault_of f) →
+    Makes old new is b (record { log = log; overlay = l; count = b.count; touched = t }) x r
+unmade old new is b log l t x (Ok u) f failed undo before same list nodes lines changed may = absurd failed
+unmade old new is b log l t x (Err g) f failed undo before same list nodes lines changed may = record {
+  count = refl;
+  before = before;
+  made = tt;
+  refused = rw failed may;
+  unchanged = λ i. record {
+    map = same i;
+    paths = map held_of (list i);
+    count = b.count;
+    nodes = nodes i;
+    lines = lines i;
+    changed = changed i;
+  };
+  held = λ h. record {
+    undo = undo h;
+    sound = coe 0 1 (i. IsContent (content_on (sym same i) (sym list i))) h.sound;
+    few = h.few;
+    noted = coe 0 1 (i. AreEditsNoted (sym before i) (sym same i) (sym nodes i) (sym lines i) (sym changed i)) h.noted;
+    made = coe 0 1 (i. AreEncodingsIfAny (sym before i) (sym list i)) h.made;
+    follows = subst (Follows is) (sym list) h.follows;
+    begins = λ v on. h.begins v (subst (λ (ks : List Item). Begins ks v) list on);
+  };
+}
 
 -- ---- a change of a path, which makes another overlay
 
 module _ (roads : RoadMap) (is : List Item) (b : Batch) (l : Overlay) (x : Change) where
-  pub path_unmade : (f : CommandFault) → under_overlay is l ≡ under_overlay is b.overlay →
+  pub path_unmade : (r : Result (Unit {0}) CommandFault) (f : CommandFault) → IsErrAnd r (λ g. g ≡ f) →
+      under_overlay is l ≡ under_overlay is b.overlay →
       MayReport (with_change (content_under roads is b) x) (command_fault_of f) →
-      Makes roads roads is b (record b { overlay = l }) x (Err f)
-  path_unmade f same may = record {
-    count = refl;
-    before = refl;
-    made = tt;
-    refused = may;
-    unchanged = ap (λ (ls : List Item). batch_as roads ls b.count b.touched) same;
-    held = subst (λ (ls : List Item). IsHeldAs roads is ls b.log b.count b.touched) (sym same);
-  }
+      Makes roads roads is b (record b { overlay = l }) x r
+  path_unmade r f failed same may =
+      unmade roads roads is b b.log l b.touched x r f failed (λ h. h.undo) refl refl same refl refl refl may
 
   pub path_made : (ls : List Item) → under_overlay is l ≡ ls →
       with_change (content_under roads is b) x ≡ Ok (content_on (map_of roads) ls) → HasCoords (Make x) →
@@ -74,35 +99,6 @@ module _ (old new : RoadMap) (is : List Item) (b : Batch) (log : UndoLog) (t : C
   abbrev edited_batch : Batch
   edited_batch = record { log = log; overlay = b.overlay; count = b.count; touched = t }
 
-  pub edit_unmade : (f : CommandFault) → map_of new ≡ map_of old → nodes_of t ≡ nodes_of b.touched →
-      lines_of t ≡ lines_of b.touched → changed_of t ≡ changed_of b.touched →
-      MayReport (with_change (content_under old is b) (On_map e)) (command_fault_of f) →
-      Makes old new is b edited_batch (On_map e) (Err f)
-  edit_unmade f same nodes lines changed may = record {
-    count = refl;
-    before = same_before;
-    made = tt;
-    refused = may;
-    unchanged = λ i. record {
-      map = same i;
-      paths = map held_of (under_overlay is b.overlay);
-      count = b.count;
-      nodes = nodes i;
-      lines = lines i;
-      changed = changed i;
-    };
-    held = λ h. record {
-      undo = undo;
-      sound = subst (λ (M : Map). IsContent (content_on M (under_overlay is b.overlay))) (sym same) h.sound;
-      few = h.few;
-      noted = coe 0 1 (i. AreEditsNoted (sym same_before i) (sym same i) (sym nodes i) (sym lines i) (sym changed i))
-          h.noted;
-      made = subst (λ (M : Map). AreEncodingsIfAny M (under_overlay is b.overlay)) (sym same_before) h.made;
-      follows = h.follows;
-      begins = h.begins;
-    };
-  }
-
   pub edit_made : edited (map_of old) e ≡ Ok (map_of new) → HasCoord e →
       ((v : ℕ) → has (nodes_of t) v ≡ (has (nodes_of b.touched) v || has (touched_nodes (map_of old) e) v)) →
       ((y : ℕ) → has (lines_of t) y ≡ (has (lines_of b.touched) y || has (touched_lines e) y)) →
@@ -140,31 +136,3 @@ module _ (old new : RoadMap) (is : List Item) (b : Batch) (log : UndoLog) (t : C
           begins = h.begins;
         };
       }
-
--- ---- held
-
-pub holds_made : (old new : RoadMap) (is : List Item) (b d : Batch) (x : Change) → nat_le full b.count ≡ false →
-    IsHeld old is b → Makes old new is b d x (Ok tt) →
-    HoldsChange old new is b (record d { count = d.count + 1 }) x (Ok (Held (d.count + 1)))
-holds_made old new is b d x room held m =
-    let few = leb-false full b.count room in
-    let same = m.count in
-    let h = m.held held in
-    record {
-      before = m.before;
-      made = m.made;
-      room = room;
-      count = omega arith;
-      reply = refl;
-      refused = tt;
-      unchanged = tt;
-      held = record {
-        undo = h.undo;
-        sound = h.sound;
-        few = omega arith;
-        noted = h.noted;
-        made = h.made;
-        follows = h.follows;
-        begins = h.begins;
-      };
-    }

@@ -3,7 +3,8 @@ use Rattle.olr_register.proofs.Common.{inl, inr, ◌≡◌, ℕ, false, true, Li
 use Rattle.olr_register.proofs.Common.{◌||◌, AllByRecursion, or_right, list_any-append, Map, IsMap, Edit, edited, start}
 use Rattle.olr_register.proofs.Common.{touched_nodes, touched_lines, has, is_path, ChangedLine, changes_of, EditPlan}
 use Rattle.olr_register.proofs.Common.{Item, AreEncodingsIfAny, all_named, nodes_of, lines_of, changed_of, ChangeSet}
-use Rattle.olr_register.proofs.Common.{IsNotedOf, AreEditsNoted}
+use Rattle.olr_register.proofs.Common.{IsNotedOf, AreEditsNoted, Some, RoadMap, map_of, map_before, DistanceBounds}
+use Rattle.olr_register.proofs.Common.{under_overlay, IsKeptRight, CanRenew, Batch}
 use Rattle.std.proofs.Common.{◌==◌, Contains}
 use Rattle.std.specs.Option.{option_to_list}
 use Rattle.std.proofs.lemmas.Bool.{or_left}
@@ -104,4 +105,19 @@ is_before M N T X C is noted sound paths made =
       paths = are_paths is paths;
       made =
           made;
+    }
+
+-- what a commit renews
+pub can_commit : (roads : RoadMap) (is : List Item) (b : Batch) (near : DistanceBounds) →
+    IsKeptRight roads is (Some b) near →
+    CanRenew (map_before roads b.log) (map_of roads) is (under_overlay is b.overlay) b.touched near
+can_commit roads is b near h =
+    let held = h.register.held in
+    record {
+      names = held.sound.names;
+      follows = held.follows;
+      bounds = record { right = h.bounded.right; sources = λ l on. h.bounded.sources l (held.begins l on) };
+      before =
+          is_before (map_before roads b.log) (map_of roads) (nodes_of b.touched) (lines_of b.touched)
+          (changed_of b.touched) (under_overlay is b.overlay) held.noted h.register.content.map held.sound.paths held.made;
     }

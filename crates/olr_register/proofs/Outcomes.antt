@@ -1,21 +1,35 @@
--- What it takes to answer a command: one that is accepted, one that raises no count, and one that is rejected.
-use Rattle.olr_register.proofs.Common.{arith, ◌≡◌, ℕ, true, false, List, [], Option, Some, None, is_some, Ok, Err}
-use Rattle.olr_register.proofs.Common.{length, refl, sym, subst, ◌==◌, IsFalse, IsErrAnd, Content, has_path, when}
-use Rattle.olr_register.proofs.Common.{Change, Command, State, step, changes_made, TextFault, text_fault, No_path}
-use Rattle.olr_register.proofs.Common.{Memory, IsOutcome, IsRefusal, ByState, AllOf, Explained, may_want, reply_of}
-use Rattle.olr_register.proofs.Common.{command_fault_of, Reply, CommandFault, Totals, AreSearched, AreCounted}
-use Rattle.olr_register.proofs.Common.{RegisterState, Represents, Registered, Answered, encodes}
+-- What it takes to answer a command: one that is accepted, one that raises no count, and one that is rejected; and which
+-- reference a text encodes, or why it encodes none.
+use Rattle.olr_register.proofs.Common.{arith, ◌≡◌, ℕ, true, List, [], Option, Some, None, is_some, Ok, Err, refl, sym}
+use Rattle.olr_register.proofs.Common.{subst, IsFalse, IsErrAnd, Content, Change, Command, State, changes_made}
+use Rattle.olr_register.proofs.Common.{text_fault, IsOutcome, IsRefusal, ByState, may_want, reply_of, command_fault_of}
+use Rattle.olr_register.proofs.Common.{Reply, CommandFault, Totals, AreSearched, AreCounted, RegisterState, Represents}
+use Rattle.olr_register.proofs.Common.{Registered, Answered, encodes, ap, ◌∙◌, option_map, result_ok}
 use Rattle.std.specs.Prelude.{Result}
-use Rattle.olr_commands.specs.State.{step_in, changes_made_in, unless_fault, Not_a_reference}
-use Rattle.olr_commands.specs.Reply.{IsReply, Lacks, Shown}
+use Rattle.olr_commands.specs.State.{changes_made_in, unless_fault, Not_a_reference, bytes_fault}
+use Rattle.olr_commands.specs.Reply.{Lacks}
 use Rattle.olr_commands.proofs.CountLemmas.{unconcerned}
-use Rattle.olr_register.specs.RegisterState.{Batch}
 use Rattle.olr_register.specs.Sparing.{NoneFalls, SameCounts}
 use Rattle.olr_register.proofs.States.{state, InStates, in_states}
-use Rattle.olr_register.proofs.Counting.{AreRises, no_totals, none_affected}
+use Rattle.olr_register.proofs.Counting.{AreRises, no_totals, none_affected, none_spent, same_work}
+use Rattle.base64.specs.Engines.{standard}
+use Rattle.base64.specs.GeneralPurpose.{decode_of, decoded_of}
+use Rattle.base64.specs.declared.decode.DecodeError.{DecodeError}
+use Rattle.base64.proofs.EngineFacts.{decode_of-encode_of}
+use Rattle.olr_spec.specs.Reference.{Reference}
+use Rattle.olr_spec.specs.Bytes.{reference_bytes, v3_fault}
+use Rattle.olr_spec.proofs.ReadLemmas.{encoded_passes}
+use Rattle.olr_binary.specs.declared.faults.V3Fault.TheVariants.{Length, Status, Flags, Reserved, Memory}
+use Rattle.olr_binary.specs.declared.faults.TextFault.{TextFault}
+use Rattle.olr_binary.specs.declared.faults.TextFault.TheVariants.{Bytes, NotBase64}
+use Rattle.olr_binary.specs.Faults.{IsFaultOf}
+use Rattle.olr_binary.specs.Text.{IsTextOf, text_of}
+use Rattle.olr_binary.proofs.EncodedLemmas.{reference_bytes-bytes}
+use Rattle.olr_commands.specs.Words.{text_fault_of}
 use Rattle.olr_commands.specs.State as state
 use Rattle.olr_commands.specs.Reply as returned
 use Rattle.olr_commands.specs.declared.fault.CommandFault.TheVariants as rust
+use Rattle.olr_spec.specs.Bytes as spec
 
 -- an accepted command, which raises the counts by these totals
 abbrev pub Accepts : Registered → Command → Reply → Totals → State → Type 0
@@ -58,11 +72,7 @@ answered_uncounted old k c r keeps =
       subst (λ (xs : List Change). AreRises s.content k.content xs k.content.paths no_totals) (sym (keeps s h).0)
           (none_affected s.content k.content [] (unconcerned s.content) k.content.paths),
     ))
-    (record { encodings = refl; spared = refl; searched = record { searches = refl; settled = refl } })
-    (record {
-      work = record { encodings = omega arith; searches = omega arith; settled = omega arith };
-      spared = omega arith;
-    })
+    (none_spent k.content.map old.work old.spared) (record { work = same_work old.work; spared = omega arith })
     (λ off. (refl, refl))
 
 -- the register is unchanged
@@ -88,69 +98,77 @@ answered_refused old new c (Err g) f same is h =
 
 -- ---- questions: with a batch open or not, they change nothing
 
-abbrev Answers : Command → Reply → State → Type 0
-Answers c r s = (changes_made s c ≡ []) × (step s c ≡ Ok s) × IsReply s c s (reply_of r)
+pub answered_same : (x : Registered) (c : Command) (r : Reply) → changes_made_in None c ≡ [] →
+    ((xs : List Change) → changes_made_in (Some xs) c ≡ []) →
+    ((o : Option (List Change)) → IsOutcome (state x.kept.content o) c (Ok (reply_of r)) (state x.kept.content o)) →
+    Answered x c (Ok r) x
+answered_same x c r none some all = answered_uncounted x x.kept c r (λ s h. (
+  elim s.batch as (λ o. changes_made_in o c ≡ []) [ None ↦ none | Some xs ↦ some xs ],
+  (
+    s,
+    h,
+    subst (λ (d : Content). IsOutcome (state d s.batch) c (Ok (reply_of r)) (state d s.batch)) h.0 (all s.batch),
+  ),
+))
 
--- whether a batch is open or not
-either_state : (c : Content) (o : Option Batch) (P : State → Type 0) → P (state c None) →
-    ((xs : List Change) → P (state c (Some xs))) → InStates c o P
-either_state c None P none some = none
-either_state c (Some b) P none some = λ xs i. some xs
-
-answered_same : (x : Registered) (c : Command) (r : Reply) → Answers c r (state x.kept.content None) →
-    ((xs : List Change) → Answers c r (state x.kept.content (Some xs))) → Answered x c (Ok r) x
-answered_same x c r none some =
-    let all = in_states x.kept (Answers c r) (either_state x.kept.content x.kept.batch (Answers c r) none some) in
-    answered_uncounted x x.kept c r (λ s h. ((all s h).0, (s, h, ((all s h).1, (all s h).2))))
-
-refused_same : (x : Registered) (c : Command) (r : Result Reply CommandFault) (f : CommandFault) →
-    IsErrAnd r (λ g. g ≡ f) → IsRefusal (state x.kept.content None) c (command_fault_of f) →
-    ((xs : List Change) → IsRefusal (state x.kept.content (Some xs)) c (command_fault_of f)) → Answered x c r x
-refused_same x c r f failed none some =
+pub refused_same : (x : Registered) (c : Command) (r : Result Reply CommandFault) (f : CommandFault) →
+    IsErrAnd r (λ g. g ≡ f) →
+    ((o : Option (List Change)) → IsRefusal (state x.kept.content o) c (command_fault_of f)) → Answered x c r x
+refused_same x c r f failed all =
     answered_refused x x c r f refl failed
-    (either_state x.kept.content x.kept.batch (λ s. IsRefusal s c (command_fault_of f)) none some)
+    (elim x.kept.batch as (λ b. InStates x.kept.content b (λ s. IsRefusal s c (command_fault_of f))) [
+      | None ↦ all None
+      | Some b ↦ λ xs i. all (Some xs)
+    ])
 
-pub show_answered : (x : Registered) (name : List ℕ) (r : Reply) → has_path x.kept.content name ≡ true →
-    returned.IsPaths (reply_of r) (Shown x.kept.content name) → Answered x (state.Show name) (Ok r) x
-show_answered x name r there shown =
-    answered_same x (state.Show name) r (refl, rw there, shown) (λ xs. (refl, rw there, shown))
-
-pub show_unknown : (x : Registered) (name : List ℕ) (f : CommandFault) → command_fault_of f ≡ No_path →
-    has_path x.kept.content name ≡ false → Answered x (state.Show name) (Err f) x
-show_unknown x name f is none =
-    refused_same x (state.Show name) (Err f) f refl (ByState (rw (none, is))) (λ xs. ByState (rw (none, is)))
-
-pub show_lacks : (x : Registered) (name : List ℕ) (r : Result Reply CommandFault) → IsErrAnd r (λ g. g ≡ rust.Memory) →
-    has_path x.kept.content name ≡ true → Answered x (state.Show name) r x
-show_lacks x name r failed some =
-    refused_same x (state.Show name) r rust.Memory failed (Lacks refl (rw some)) (λ xs. Lacks refl (rw some))
-
-pub report_answered : (x : Registered) (r : Reply) →
-    returned.IsPaths (reply_of r) (AllOf x.kept.content.map x.kept.content.paths) → Answered x state.Report (Ok r) x
-report_answered x r all = answered_same x state.Report r (refl, refl, all) (λ xs. (refl, refl, all))
-
-pub report_lacks : (x : Registered) (r : Result Reply CommandFault) → (length x.kept.content.paths == 0) ≡ false →
-    IsErrAnd r (λ g. g ≡ rust.Memory) → Answered x state.Report r x
-report_lacks x r some failed =
-    refused_same x state.Report r rust.Memory failed (Lacks refl (rw some)) (λ xs. Lacks refl (rw some))
-
-pub explain_answered : (x : Registered) (text : List ℕ) (r : Reply) → text_fault text ≡ None →
-    returned.IsFields (reply_of r) (Explained text) → Answered x (state.Explain text) (Ok r) x
-explain_answered x text r none explained =
-    answered_same x (state.Explain text) r (refl, rw none, explained) (λ xs. (refl, rw none, explained))
-
-pub explain_refused : (x : Registered) (text : List ℕ) (f : CommandFault) (g : TextFault) →
+pub explain_refused : (x : Registered) (text : List ℕ) (f : CommandFault) (g : state.TextFault) →
     command_fault_of f ≡ Not_a_reference g → text_fault text ≡ Some g → Answered x (state.Explain text) (Err f) x
 explain_refused x text f g is fault =
-    refused_same x (state.Explain text) (Err f) f refl (ByState (rw (fault, is))) (λ xs. ByState (rw (fault, is)))
+    refused_same x (state.Explain text) (Err f) f refl (λ o. ByState (rw (fault, is)))
 
 -- out of memory may be reported instead of a fault of the text
-pub explain_lacks : (x : Registered) (text : List ℕ) (f : CommandFault) → command_fault_of f ≡ Memory →
+pub explain_lacks : (x : Registered) (text : List ℕ) (f : CommandFault) → command_fault_of f ≡ state.Memory →
     Answered x (state.Explain text) (Err f) x
 explain_lacks x text f is =
-    refused_same x (state.Explain text) (Err f) f refl (Lacks is (may (state x.kept.content None) (text_fault text)))
-    (λ xs. Lacks is (may (state x.kept.content (Some xs)) (text_fault text)))
+    refused_same x (state.Explain text) (Err f) f refl (λ o. Lacks is (may (state x.kept.content o) (text_fault text)))
   where
-    may : (s : State) (o : Option TextFault) → may_want (unless_fault s o) ≡ true
+    may : (s : State) (o : Option state.TextFault) → may_want (unless_fault s o) ≡ true
     may s None = refl
     may s (Some g) = refl
+
+decoded : (text : List ℕ) {r : Result (List ℕ) DecodeError} → decode_of standard text ≡ r →
+    decoded_of standard text ≡ result_ok r
+unfolding decoded_of
+decoded text e = ap result_ok e
+
+decoded_text : (r : Reference) (text : List ℕ) → IsTextOf r text → decoded_of standard text ≡ Some (reference_bytes r)
+unfolding text_of
+decoded_text r text is =
+    decoded text (ap (decode_of standard) is.1
+    ∙ decode_of-encode_of standard (reference_bytes r) refl (reference_bytes-bytes r is.0))
+
+pub explain_text : (x : Registered) (text : List ℕ) (r : Reply) (q : Reference) → reply_of r ≡ returned.Fields q →
+    IsTextOf q text → Answered x (state.Explain text) (Ok r) x
+explain_text x text r q is of =
+    let bytes = decoded_text q text of in
+    let sound : text_fault text ≡ None =
+    ap bytes_fault bytes ∙ ap (option_map (λ (f : spec.V3Fault). state.Not_v3 f)) (encoded_passes q of.0) in
+    answered_same x (state.Explain text) r refl (λ xs. refl)
+    (λ o. (rw sound, rw is (reference_bytes q, bytes, (of.0, refl))))
+
+bytes_refused : (x : Registered) (text b : List ℕ) (g : spec.V3Fault) (f : CommandFault) →
+    decode_of standard text ≡ Ok b → v3_fault b ≡ Some g → command_fault_of f ≡ state.Not_a_reference (state.Not_v3 g)
+    → Answered x (state.Explain text) (Err f) x
+bytes_refused x text b g f read fault is =
+    explain_refused x text f (state.Not_v3 g) is (ap bytes_fault (decoded text read)
+    ∙ ap (option_map (λ (h : spec.V3Fault). state.Not_v3 h)) fault)
+
+pub explain_fault : (x : Registered) (text : List ℕ) (fault : TextFault) (f : CommandFault) → IsFaultOf text fault →
+    command_fault_of f ≡ text_fault_of fault → Answered x (state.Explain text) (Err f) x
+explain_fault x text (Bytes Memory) f is e = explain_lacks x text f e
+explain_fault x text (Bytes Length) f is e = bytes_refused x text is.0 spec.Length f is.1 is.2 e
+explain_fault x text (Bytes Status) f is e = bytes_refused x text is.0 spec.Status f is.1 is.2 e
+explain_fault x text (Bytes Flags) f is e = bytes_refused x text is.0 spec.Flags f is.1 is.2 e
+explain_fault x text (Bytes Reserved) f is e = bytes_refused x text is.0 spec.Reserved f is.1 is.2 e
+explain_fault x text NotBase64 f is e =
+    explain_refused x text f state.Not_base64 e (ap bytes_fault (decoded text is.1))

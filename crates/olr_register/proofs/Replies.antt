@@ -1,12 +1,19 @@
--- What is reported of a list, compared with the answers of the paths on their maps.
+-- What is reported of a list, and of one path that is added, replaced or dropped, compared with the answers of the paths
+-- on their maps.
 use Rattle.olr_register.proofs.Common.{inl, inr, ◌≡◌, ℕ, true, false, cond, List, [], ◌∷◌, Option, Some, None, refl}
 use Rattle.olr_register.proofs.Common.{sym, ap, ◌∙◌, subst, option_map, MatchOption, IsSomeAnd, Map, Path, Answer}
 use Rattle.olr_register.proofs.Common.{Encodes, same_name, path_named, IsContent, AllOf, Differences, Made, Item}
-use Rattle.olr_register.proofs.Common.{IsEncodingOf, AreEncodings, all_named, made_in, answer_in, Reported}
+use Rattle.olr_register.proofs.Common.{IsEncodingOf, AreEncodings, all_named, made_in, answer_in, Reported, ◌⊎◌, ◌≢◌}
+use Rattle.olr_register.proofs.Common.{Bool, not, ◌++◌, map, filter, is_some, cases_Bool, none_of, entry, not_named}
+use Rattle.olr_register.proofs.Common.{named_of, Follows, set_item, follows_self}
 use Rattle.std.proofs.Common.{◌↔◌}
 use Rattle.olr_spec.proofs.AnswerLemmas.{one_answer}
 use Rattle.olr_commands.specs.Reply.{Entry, HasAnswer}
 use Rattle.olr_commands.proofs.ReplyLemmas.{named_path}
+use Rattle.std.specs.Prelude.{if◌then◌else◌}
+use Rattle.olr_commands.specs.State.{NamesDiffer}
+use Rattle.olr_commands.proofs.NameLemmas.{same_is}
+use Rattle.olr_register.proofs.Listed.{each_add, each_set, each_left, each_encoded, each_follows, follows_untold}
 
 -- the path of a name and its results, or neither
 abbrev Found : Map → Option Path → Option Made → Type 0
@@ -81,3 +88,130 @@ reported_all M (j ∷ js) es a r = (
   reported_all M js r.1 a.1 r.3,
   elim r.4 [ inl h ↦ absurd (let no : ◌≡◌ {A = Option Answer} None (Some r.0) = h.0 in cc) | inr h ↦ h.1 ],
 )
+
+-- ---- added
+
+reported_last : (before js : List Item) (j : Item) (A : Answer) (es : List Entry) →
+    option_map (λ m. m.answer) j.made ≡ Some A → answer_in before j.name ≢ Some A → Reported before js es →
+    Reported before (js ++ j ∷ []) (es ++ entry j.name A ∷ [])
+reported_last before [] j A es made new r =
+    (A, [], made, refl, inr (new, ap (λ (fs : List Entry). fs ++ entry j.name A ∷ []) r))
+reported_last before (k ∷ js) j A es made new r = (
+  r.0,
+  r.1 ++ entry j.name A ∷ [],
+  r.2,
+  reported_last before js j A r.1 made new r.3,
+  elim r.4 [
+    | inl h ↦ inl (h.0, ap (λ (fs : List Entry). fs ++ entry j.name A ∷ []) h.1)
+    | inr h ↦ inr (h.0, ap (λ (fs : List Entry). fs ++ entry j.name A ∷ []) h.1)
+  ],
+)
+
+pub reported_add : (M : Map) (is : List Item) (name : List ℕ) (path : Path) (m : Made) (es : List Entry) →
+    IsContent (record { map = M; paths = all_named is }) → AreEncodings M is
+    → is_some (path_named (all_named is) name) ≡ false → IsEncodingOf M path m → es ≡ entry name m.answer ∷ []
+    → Differences (record { map = M; paths = all_named is })
+    (record { map = M; paths = all_named (is ++ record { name = name; path = path; made = Some m } ∷ []) }) es
+reported_add M is name path m es content a free right returned =
+    let j : Item = record { name = name; path = path; made = Some m } in
+    let made : made_in is name ≡ None = rw (none_of (path_named (all_named is) name) free) at (made_found M is name a) in
+    let was : answer_in is name ≡ None = ap (option_map (λ (n : Made). n.answer)) made in
+    let new : answer_in is name ≢ Some m.answer = λ e. let no : ◌≡◌ {A = Option Answer} None (Some m.answer) =
+    sym was ∙ e in absurd cc in
+    planned_changes M M is (is ++ j ∷ []) es content a (each_add (each_encoded M) is j (m, refl, right) a)
+    (subst (Reported is (is ++ j ∷ [])) (sym returned)
+    (reported_last is is j m.answer [] refl new (follows_untold M is is a (follows_self is content.names))))
+
+-- ---- replaced
+
+-- no path has the name, or one has it
+set_absent : (name : List ℕ) (path : Path) (made : Option Made) (is : List Item) →
+    is_some (path_named (all_named is) name) ≡ false → map (set_item name path made) is ≡ is
+set_absent name path made [] h = refl
+set_absent name path made (i ∷ is) h =
+    let p = not_named (named_of i) (all_named is) name h in
+    let one : set_item name path made i ≡ i =
+    ap (λ (b : Bool). if b then record { name = i.name; path = path; made = made } else i) p.0 in
+    let rest = set_absent name path made is p.1 in
+    λ k. one k ∷ rest k
+
+reported_if_set : (M : Map) (before : List Item) (name : List ℕ) (path : Path) (m : Made) →
+    answer_in before name ≢ Some m.answer
+    → (js : List Item) → NamesDiffer (all_named js) → is_some (path_named (all_named js) name) ≡ true →
+    AreEncodings M js → Follows before js →
+    Reported before (map (set_item name path (Some m)) js) (entry name m.answer ∷ [])
+reported_if_set M before name path m new [] d h a f = absurd cc
+reported_if_set M before name path m new (j ∷ js) d h a f =
+    elim (cases_Bool (same_name j.name name)) [
+      | inl e ↦
+          let is : j.name ≡ name = same_is j.name name e in
+          let here : record { name = j.name; path = path; made = Some m } ≡ set_item name path (Some m) j =
+          ap (λ (b : Bool). if b then record { name = j.name; path = path; made = Some m } else j) (sym e) in
+          let free : is_some (path_named (all_named js) name) ≡ false =
+          ap (λ (n : List ℕ). is_some (path_named (all_named js) n)) (sym is) ∙ d.0 in
+          let rest : Reported before (map (set_item name path (Some m)) js) [] =
+          subst (λ (ks : List Item). Reported before ks []) (sym (set_absent name path (Some m) js free))
+          (follows_untold M before js a.1 f.1) in
+          subst (λ (k : Item). Reported before (k ∷ map (set_item name path (Some m)) js) (entry name m.answer ∷ []))
+          here (
+            m.answer,
+            [],
+            refl,
+            rest,
+            inr (
+              (λ had. new (ap (answer_in before) (sym is) ∙ had)),
+              ap (λ (n : List ℕ). entry n m.answer ∷ []) (sym is),
+            ),
+          )
+      | inr e ↦
+          let here : j ≡ set_item name path (Some m) j =
+          ap (λ (b : Bool). if b then record { name = j.name; path = path; made = Some m } else j) (sym e) in
+          let there : is_some (path_named (all_named js) name) ≡ true =
+          ap (λ (b : Bool). is_some (cond b (Some j.path) (path_named (all_named js) name))) (sym e) ∙ h in
+          let rest = reported_if_set M before name path m new js d.1 there a.1 f.1 in
+          let untold = follows_untold M before (j ∷ []) (a.0, tt) (f.0, tt) in
+          subst (λ (k : Item). Reported before (k ∷ map (set_item name path (Some m)) js) (entry name m.answer ∷ []))
+          here (
+            untold.0,
+            entry name m.answer ∷ [],
+            untold.2,
+            rest,
+            elim untold.4 [
+              | inl u ↦ inl (u.0, refl)
+              | inr u ↦
+                  absurd (let no : ◌≡◌ {A = List Entry} [] (entry j.name untold.0 ∷ untold.1) = u.1 in cc)
+            ],
+          )
+    ]
+
+pub reported_set : (M : Map) (is : List Item) (name : List ℕ) (path : Path) (m : Made) (es : List Entry) →
+    IsContent (record { map = M; paths = all_named is }) → AreEncodings M is
+    → is_some (path_named (all_named is) name) ≡ true → IsEncodingOf M path m
+    → ((answer_in is name ≡ Some m.answer) × (es ≡ []))
+    ⊎ ((answer_in is name ≢ Some m.answer) × (es ≡ entry name m.answer ∷ []))
+    → Differences (record { map = M; paths = all_named is })
+    (record { map = M; paths = all_named (map (set_item name path (Some m)) is) }) es
+reported_set M is name path m es content a taken right returned =
+    let made =
+    each_set (each_encoded M) (each_encoded M) name path (Some m) (λ i e. (m, refl, right)) (λ i e p. p) is a in
+    let self = follows_self is content.names in
+    planned_changes M M is (map (set_item name path (Some m)) is) es content a made
+    (elim returned [
+      | inl h ↦ subst (Reported is (map (set_item name path (Some m)) is)) (sym h.1)
+          (follows_untold M is (map (set_item name path (Some m)) is) made (each_set (each_follows is) (each_follows is)
+          name path (Some m) (λ i e. inr (ap (answer_in is) (same_is i.name name e) ∙ h.0)) (λ i e p. p) is self))
+      | inr h ↦ subst (Reported is (map (set_item name path (Some m)) is)) (sym h.1)
+          (reported_if_set M is name path m h.0 is content.names taken a self)
+    ])
+
+-- ---- dropped
+
+pub reported_drop : (M : Map) (is : List Item) (name : List ℕ) → IsContent (record { map = M; paths = all_named is }) →
+    AreEncodings M is
+    → Differences (record { map = M; paths = all_named is })
+    (record { map = M; paths = all_named (filter (λ i. not (same_name i.name name)) is) }) []
+reported_drop M is name content a =
+    let keep = λ (i : Item). not (same_name i.name name) in
+    let left = each_left (each_encoded M) keep is a in
+    planned_changes M M is (filter keep is) [] content a left
+    (follows_untold M is (filter keep is) left (each_left (each_follows is) keep is (follows_self is content.names)))

@@ -1,10 +1,9 @@
 -- The states that a register represents, with a batch open or not.
-use Rattle.olr_register.proofs.Common.{◌≡◌, ℕ, List, Option, Some, None, refl, sym, ap, ◌∙◌, subst, IfSome, Map}
-use Rattle.olr_register.proofs.Common.{RoadMap, Work, Content, IsContent, Change, State, DistanceBounds, Item}
-use Rattle.olr_register.proofs.Common.{AreEncodings, RegisterState, IsBatchOf, Represents, Registered, content_on}
-use Rattle.olr_register.proofs.Common.{map_kept, kept_of, IsHeld, HasBounds, IsKeptRight}
+use Rattle.olr_register.proofs.Common.{◌≡◌, ℕ, List, Option, Some, None, sym, subst, IfSome, Map, RoadMap, Work}
+use Rattle.olr_register.proofs.Common.{Content, IsContent, Change, State, DistanceBounds, Item, AreEncodings}
+use Rattle.olr_register.proofs.Common.{RegisterState, IsBatchOf, Represents, Registered, content_on, map_kept, kept_of}
+use Rattle.olr_register.proofs.Common.{IsHeld, HasBounds, IsKeptRight}
 use Rattle.olr_register.specs.RegisterState.{Batch, RepresentsBatch}
-use Rattle.olr_register.specs.Holding.{option_batch, IsRegister}
 use Rattle.olr_register.specs.declared.batch.Batch.{Batch as Open}
 
 abbrev pub state : Content → Option (List Change) → State
@@ -17,29 +16,15 @@ register_of c o w n = record { kept = record { content = c; batch = o }; work = 
 abbrev pub of_parts : RoadMap → List Item → Option Open → Work → ℕ → Registered
 of_parts roads is b w n = record { kept = kept_of roads is b; work = w; spared = n }
 
-no_batch_open : (roads : RoadMap) (is : List Item) (b : Option Open) → option_batch roads is b ≡ None → b ≡ None
-no_batch_open roads is None h = refl
-no_batch_open roads is (Some b) h = absurd cc
-
--- from the value to the field
-pub closed : (roads : RoadMap) (is : List Item) (b : Option Open) (w : Work) (n : ℕ) (x : Registered) →
-    of_parts roads is b w n ≡ x → x.kept.batch ≡ None → b ≡ None
-closed roads is b w n x view none =
-    no_batch_open roads is b (ap (λ (y : Registered). y.kept.batch) view ∙ none)
-
 -- what is true of a register, on the same map and list with another batch
-pub register_moved : (old new : RoadMap) (is : List Item) (o p : Option Open) → map_kept new p ≡ map_kept old o →
-    IfSome p (IsHeld new is) → IsRegister old is o → IsRegister new is p
-register_moved old new is o p same held h = record {
-  content = subst (λ (M : Map). IsContent (content_on M is)) (sym same) h.content;
-  made = subst (λ (M : Map). AreEncodings M is) (sym same) h.made;
-  held = held;
-}
-
 pub kept_moved : (old new : RoadMap) (is : List Item) (o p : Option Open) (near : DistanceBounds) →
     map_kept new p ≡ map_kept old o → IfSome p (IsHeld new is) → IsKeptRight old is o near → IsKeptRight new is p near
 kept_moved old new is o p near same held h = record {
-  register = register_moved old new is o p same held h.register;
+  register = record {
+    content = subst (λ (M : Map). IsContent (content_on M is)) (sym same) h.register.content;
+    made = subst (λ (M : Map). AreEncodings M is) (sym same) h.register.made;
+    held = held;
+  };
   bounded = subst (λ (M : Map). HasBounds M is near) (sym same) h.bounded;
 }
 

@@ -1,6 +1,7 @@
-use Rattle.olr_register.proofs.Common.{◌≡◌, inl, inr, string_bytes, false, refl, sym, ap, ◌∙◌, err_from_is_err_and}
-use Rattle.olr_register.proofs.Common.{map_of, Add_path, items, under_overlay, has_name, content_under, path_by}
+use Rattle.olr_register.proofs.Common.{◌≡◌, inl, inr, string_bytes, false, refl, sym, ap, ◌∙◌, map_of, Add_path, items}
+use Rattle.olr_register.proofs.Common.{under_overlay, has_name, path_by}
 use Rattle.olr_paths.proofs.OriginLemmas.{begins_add}
+use Rattle.olr_commands.specs.declared.fault.CommandFault.TheVariants.{Memory}
 use Rattle.olr_register.proofs.Changing.{add_refused, add_ok}
 use Rattle.olr_register.proofs.Listed.{each_add, each_if_any, each_follows, given_add}
 use Rattle.olr_register.proofs.Making.{path_unmade, path_made}
@@ -15,21 +16,20 @@ hold-requires c = (
 
 pub returns-in_err-path : goal.returns-in_err-path
 returns-in_err-path c = λ roads.
-    let b = c.args.self.now in
-    let is = items c.args.list.now in
-    let p = err_from_is_err_and c.from_residual.result c.from_residual.ensures.1 in
-    rw (p.1, p.2) (path_unmade roads is b b.overlay _ _ refl
-    (add_refused (content_under roads is b) (string_bytes c.args.name) (path_by c.args.parts) c.has-taken.result _
-    (c.has-taken.ensures ∙ ap (has_name (under_overlay is b.overlay)) c.deref.ensures) c.in_err-path.ensures.fault))
+    let ks = under_overlay (items c.args.list.now) c.args.self.now.overlay in
+    path_unmade roads (items c.args.list.now) c.args.self.now c.args.self.now.overlay _ c.from_residual.result
+    c.in_err-path.field-0.0 c.from_residual.ensures.1 refl
+    (add_refused _ (string_bytes c.args.name) (path_by c.args.parts) c.has-taken.result _
+    (c.has-taken.ensures ∙ ap (has_name ks) c.deref.ensures) c.in_err-path.ensures.fault)
 
 pub returns-in_err-hold : goal.returns-in_err-hold
 returns-in_err-hold c = λ roads.
-    let b = c.args.self.now in
     let is = items c.args.list.now in
-    let p = err_from_is_err_and c.from_residual-in_err-hold.result c.from_residual-in_err-hold.ensures.1 in
-    rw (p.1, p.2) (path_unmade roads is b c.hold.new.self _ _ (c.in_err-hold.ensures.err is)
-    (add_refused (content_under roads is b) (string_bytes c.args.name) (path_by c.args.parts) c.has-taken.result _
-    (c.has-taken.ensures ∙ ap (has_name (under_overlay is b.overlay)) c.deref.ensures) c.in_ok-path.ensures.lacks))
+    path_unmade roads is c.args.self.now c.hold.new.self _ c.from_residual-in_err-hold.result Memory
+    c.from_residual-in_err-hold.ensures.1 (c.in_err-hold.ensures.err is)
+    (add_refused _ (string_bytes c.args.name) (path_by c.args.parts) c.has-taken.result _
+    (c.has-taken.ensures ∙ ap (has_name (under_overlay is c.args.self.now.overlay)) c.deref.ensures)
+    c.in_ok-path.ensures.lacks)
 
 pub returns : goal.returns
 returns c = λ roads.

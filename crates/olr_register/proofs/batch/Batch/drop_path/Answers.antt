@@ -1,5 +1,6 @@
 use Rattle.olr_register.proofs.Common.{not, refl, sym, append-nil, map_of, same_name, Drop_path, Item, items}
-use Rattle.olr_register.proofs.Common.{under_overlay, begins_drop, content_under, ByContent, err_from_is_err_and}
+use Rattle.olr_register.proofs.Common.{under_overlay, begins_drop, ByContent}
+use Rattle.olr_commands.specs.declared.fault.CommandFault.TheVariants.{Memory}
 use Rattle.olr_register.proofs.Changing.{drop_missing, drop_lacks, drop_ok}
 use Rattle.olr_register.proofs.Listed.{each_left, each_given, each_if_any, each_follows}
 use Rattle.olr_register.proofs.Making.{path_unmade, path_made}
@@ -7,10 +8,8 @@ use Rattle.olr_register.proofs.batch.Batch.drop_path.Goals as goal
 
 pub returns-then-not-has : goal.returns-then-not-has
 returns-then-not-has c = λ roads.
-    let b = c.args.self.now in
-    let is = items c.args.list.now in
-    path_unmade roads is b b.overlay _ _ refl
-    (ByContent (drop_missing (content_under roads is b) c.args.name.now (sym c.if-not-has.ensures)))
+    path_unmade roads (items c.args.list.now) c.args.self.now c.args.self.now.overlay _ _ _ refl refl
+    (ByContent (drop_missing _ c.args.name.now (sym c.if-not-has.ensures)))
 
 pub returns : goal.returns
 returns c = λ roads.
@@ -26,8 +25,6 @@ returns c = λ roads.
 
 pub returns-in_err-drop_path : goal.returns-in_err-drop_path
 returns-in_err-drop_path c = λ roads.
-    let b = c.args.self.now in
     let is = items c.args.list.now in
-    let p = err_from_is_err_and c.from_residual.result c.from_residual.ensures.1 in
-    rw (p.1, p.2) (path_unmade roads is b c.drop_path.new.self _ _ (c.in_err-drop_path.ensures.err is)
-    (drop_lacks (content_under roads is b) c.args.name.now (sym c.if-not-has.ensures)))
+    path_unmade roads is c.args.self.now c.drop_path.new.self _ c.from_residual.result Memory c.from_residual.ensures.1
+    (c.in_err-drop_path.ensures.err is) (drop_lacks _ c.args.name.now (sym c.if-not-has.ensures))

@@ -1,23 +1,23 @@
-use Rattle.olr_register.proofs.Common.{refl, edit_of, content_under, ByContent, err_from_is_err_and}
+use Rattle.olr_register.proofs.Common.{refl, On_map, edit_of, content_under, ByContent}
+use Rattle.olr_commands.specs.declared.fault.CommandFault.TheVariants.{Memory}
 use Rattle.olr_register.proofs.Changing.{edit_refused, edit_lacks}
-use Rattle.olr_register.proofs.Making.{edit_unmade, edit_made}
+use Rattle.olr_register.proofs.Making.{unmade, edit_made}
 use Rattle.olr_register.proofs.batch.Batch.edit.Goals as goal
 
 pub returns-in-Err : goal.returns-in-Err
 returns-in-Err c = λ is.
     let b = c.args.self.now in
-    let roads = c.args.roads.now in
-    edit_unmade roads roads is b b.log b.touched (edit_of c.args.edit) c.requires refl _ refl refl refl refl
-    (ByContent (edit_refused (content_under roads is b) _ c.in-Err.fault c.in-Err.ensures.fault))
+    unmade _ c.args.roads.now is b b.log b.overlay b.touched (On_map (edit_of c.args.edit)) _ _ refl (λ h. c.requires)
+    refl refl refl refl refl refl (ByContent (edit_refused (content_under c.args.roads.now is b) _
+    c.in-Err.fault c.in-Err.ensures.fault))
 
 pub returns-in_err-reserve : goal.returns-in_err-reserve
 returns-in_err-reserve c = λ is.
     let b = c.args.self.now in
-    let roads = c.args.roads.now in
     let t = c.reserve.ensures in
-    let p = err_from_is_err_and c.from_residual.result c.from_residual.ensures.1 in
-    rw (p.1, p.2) (edit_unmade roads roads is b b.log c.reserve.new.self (edit_of c.args.edit) c.requires refl _ refl
-    t.nodes t.lines t.changed (edit_lacks (content_under roads is b) _ c.in-Ok.ensures.plan.accepted))
+    unmade _ c.args.roads.now is b b.log b.overlay c.reserve.new.self (On_map (edit_of c.args.edit))
+    c.from_residual.result Memory c.from_residual.ensures.1 (λ h. c.requires) refl refl refl t.nodes t.lines t.changed
+    (edit_lacks (content_under c.args.roads.now is b) _ c.in-Ok.ensures.plan.accepted)
 
 pub returns : goal.returns
 returns c = λ is.
@@ -33,8 +33,8 @@ pub returns-in_err-make_into : goal.returns-in_err-make_into
 returns-in_err-make_into c = λ is.
     let b = c.args.self.now in
     let t = c.reserve.ensures in
-    let p = err_from_is_err_and c.from_residual-in_err-make_into.result c.from_residual-in_err-make_into.ensures.1 in
-    rw (p.1, p.2) (edit_unmade c.args.roads.now c.make_into.new.self is b c.make_into.new.log c.reserve.new.self
-    (edit_of c.args.edit) c.make_into.ensures.can_undo c.make_into.ensures.before _ c.in_err-make_into.ensures.same
-    t.nodes t.lines t.changed
-    (edit_lacks (content_under c.args.roads.now is b) _ c.in-Ok.ensures.plan.accepted))
+    let m = c.make_into.ensures in
+    unmade c.args.roads.now c.make_into.new.self is b c.make_into.new.log b.overlay c.reserve.new.self
+    (On_map (edit_of c.args.edit)) c.from_residual-in_err-make_into.result Memory
+    c.from_residual-in_err-make_into.ensures.1 (λ h. m.can_undo) m.before c.in_err-make_into.ensures.same refl t.nodes t.lines t.changed
+    (edit_lacks (content_under c.args.roads.now is b) _ c.in-Ok.ensures.plan.accepted)

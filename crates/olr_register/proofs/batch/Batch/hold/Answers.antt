@@ -1,5 +1,5 @@
-use Rattle.olr_register.proofs.Common.{refl, sym, err_from_is_err_and, items, ByContent, change_of}
-use Rattle.olr_register.proofs.Making.{holds_made}
+use Rattle.olr_register.proofs.Common.{refl, sym, arith, err_from_is_err_and, full, ByContent}
+use Rattle.std.proofs.lemmas.Bool.{leb-false}
 use Rattle.olr_register.proofs.batch.Batch.hold.Goals as goal
 
 pub returns-then-is_full : goal.returns-then-is_full
@@ -31,5 +31,25 @@ returns-in_err-make c =
 
 pub returns : goal.returns
 returns c =
-    holds_made c.args.roads.now c.make.new.roads (items c.args.list.now) c.args.self.now c.make.new.self
-    (change_of c.args.change) (sym c.if-is_full.ensures) c.requires c.in_ok-make.ensures
+    let few = leb-false full c.args.self.now.count (sym c.if-is_full.ensures) in
+    let m = c.in_ok-make.ensures in
+    let same = m.count in
+    let h = m.held c.requires in
+    record {
+      before = m.before;
+      made = m.made;
+      room = sym c.if-is_full.ensures;
+      count = omega arith;
+      reply = refl;
+      refused = tt;
+      unchanged = tt;
+      held = record {
+        undo = h.undo;
+        sound = h.sound;
+        few = omega arith;
+        noted = h.noted;
+        made = h.made;
+        follows = h.follows;
+        begins = h.begins;
+      };
+    }

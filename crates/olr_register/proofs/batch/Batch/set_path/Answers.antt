@@ -1,6 +1,7 @@
-use Rattle.olr_register.proofs.Common.{inl, inr, not, refl, sym, ap, ◌∙◌, err_from_is_err_and, map_of, Set_path, items}
-use Rattle.olr_register.proofs.Common.{under_overlay, content_under, path_by}
+use Rattle.olr_register.proofs.Common.{inl, inr, not, refl, sym, ap, ◌∙◌, map_of, Set_path, items, under_overlay}
+use Rattle.olr_register.proofs.Common.{path_by}
 use Rattle.olr_paths.proofs.OriginLemmas.{begins_set}
+use Rattle.olr_commands.specs.declared.fault.CommandFault.TheVariants.{Memory}
 use Rattle.olr_register.proofs.Changing.{set_refused, set_ok, not_missing}
 use Rattle.olr_register.proofs.Listed.{each_set, each_if_any, each_follows, given_set}
 use Rattle.olr_register.proofs.Making.{path_unmade, path_made}
@@ -8,22 +9,18 @@ use Rattle.olr_register.proofs.batch.Batch.set_path.Goals as goal
 
 pub returns-in_err-path : goal.returns-in_err-path
 returns-in_err-path c = λ roads.
-    let b = c.args.self.now in
-    let is = items c.args.list.now in
-    let p = err_from_is_err_and c.from_residual.result c.from_residual.ensures.1 in
-    rw (p.1, p.2) (path_unmade roads is b b.overlay _ _ refl
-    (set_refused (content_under roads is b) c.args.name.now (path_by c.args.parts) (not c.has-missing.result) _
-    (ap not c.has-missing.ensures) c.in_err-path.ensures.fault))
+    path_unmade roads (items c.args.list.now) c.args.self.now c.args.self.now.overlay _ c.from_residual.result
+    c.in_err-path.field-0.0 c.from_residual.ensures.1 refl
+    (set_refused _ c.args.name.now (path_by c.args.parts) (not c.has-missing.result) _ (ap not c.has-missing.ensures)
+    c.in_err-path.ensures.fault)
 
 pub returns-in_err-hold_other : goal.returns-in_err-hold_other
 returns-in_err-hold_other c = λ roads.
-    let b = c.args.self.now in
     let is = items c.args.list.now in
-    let p = err_from_is_err_and c.from_residual-in_err-hold_other.result
-    c.from_residual-in_err-hold_other.ensures.1 in
-    rw (p.1, p.2) (path_unmade roads is b c.hold_other.new.self _ _ (c.in_err-hold_other.ensures.err is)
-    (set_refused (content_under roads is b) c.args.name.now (path_by c.args.parts) (not c.has-missing.result) _
-    (ap not c.has-missing.ensures) c.in_ok-path.ensures.lacks))
+    path_unmade roads is c.args.self.now c.hold_other.new.self _ c.from_residual-in_err-hold_other.result Memory
+    c.from_residual-in_err-hold_other.ensures.1 (c.in_err-hold_other.ensures.err is)
+    (set_refused _ c.args.name.now (path_by c.args.parts) (not c.has-missing.result) _ (ap not c.has-missing.ensures)
+    c.in_ok-path.ensures.lacks)
 
 pub returns : goal.returns
 returns c = λ roads.

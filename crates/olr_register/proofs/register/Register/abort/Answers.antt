@@ -1,8 +1,9 @@
 use Rattle.olr_register.proofs.Common.{Some, None, map, refl, ap, Abort, entry_of, items, IsKeptRight, ByState}
-use Rattle.olr_register.proofs.BatchEnds.{abort_done}
-use Rattle.olr_register.proofs.States.{kept_moved}
-use Rattle.olr_register.proofs.Outcomes.{answered_refused}
+use Rattle.olr_register.proofs.Common.{RegisterState, content_on, batch_of, map_before}
+use Rattle.olr_register.proofs.States.{state, kept_moved, in_states}
+use Rattle.olr_register.proofs.Outcomes.{answered_refused, answered_uncounted, Keeps}
 use Rattle.olr_commands.specs.Reply as replies
+use Rattle.olr_commands.specs.declared.reply.Reply.TheVariants as reply
 use Rattle.olr_register.proofs.register.Register.abort.Goals as goal
 
 pub undo_all-requires : goal.undo_all-requires
@@ -22,9 +23,17 @@ invariant_of-self c =
 pub returns-in-Some : goal.returns-in-Some
 returns-in-Some c =
     let s = c.self.inside in
+    let k : RegisterState = record { content = content_on (map_before s.roads c.in-Some.field-0.log) (items s.paths); batch = None } in
     rw (← c.self.view_is, ← c.in-Some.ensures.value, c.take.ensures.after, c.undo_all.ensures)
-    (abort_done _ s.roads (items s.paths) c.in-Some.field-0 _ _ _
-    (ap (λ es. replies.Paths (map entry_of es)) c.new.ensures.items))
+    (answered_uncounted _ k Abort (reply.Paths c.new.result) (in_states (record k { batch = Some (batch_of s.roads (items s.paths) c.in-Some.field-0) })
+    (Keeps k Abort (reply.Paths c.new.result)) (λ xs i. (
+      refl,
+      (
+        state k.content None,
+        (refl, tt),
+        (refl, ap (λ es. replies.Paths (map entry_of es)) c.new.ensures.items),
+      ),
+    ))))
 
 pub returns : goal.returns
 returns c =

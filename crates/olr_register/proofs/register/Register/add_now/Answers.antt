@@ -1,7 +1,7 @@
-use Rattle.olr_register.proofs.Common.{refl, sym, ap, ◌∙◌, not, map_of, Add_path, items, has_name, content_on, path_by}
+use Rattle.olr_register.proofs.Common.{refl, sym, ap, ◌∙◌, Add_path, items, has_name, path_by}
 use Rattle.std.specs.Prelude.{string_bytes}
 use Rattle.olr_register.proofs.Changing.{add_refused}
-use Rattle.olr_register.proofs.Singles.{refused_first, refused_now, may_refuse, kept_bounds, add_right, add_done}
+use Rattle.olr_register.proofs.Singles.{refused_now, may_refuse, kept_bounds, add_right, add_done}
 use Rattle.olr_commands.specs.declared.fault.CommandFault.TheVariants as rust
 use Rattle.olr_register.proofs.register.Register.add_now.Goals as goal
 
@@ -11,43 +11,38 @@ add-requires c =
 
 pub returns-in_err-path : goal.returns-in_err-path
 returns-in_err-path c =
-    let r = c.self.inside in
     let name = string_bytes c.args.name in
-    refused_first r.roads (items r.paths) r.batch _ _ _ c.self.view_is c.requires (Add_path name (path_by c.args.parts))
-    c.from_residual.result c.in_err-path.field-0.0 c.from_residual.ensures.1
-    (may_refuse (content_on (map_of r.roads) (items r.paths)) (Add_path name (path_by c.args.parts)) _ refl
-    (add_refused (content_on (map_of r.roads) (items r.paths)) name (path_by c.args.parts) c.has-taken.result _
-    (c.has-taken.ensures ∙ ap (has_name (items r.paths)) c.deref.ensures) c.in_err-path.ensures.fault))
+    refused_now c.self.inside c.self.view_is c.requires (Add_path name (path_by c.args.parts)) _ c.from_residual.result
+    c.in_err-path.field-0.0 refl c.from_residual.ensures.1
+    (may_refuse _ _ _ refl (add_refused _ name (path_by c.args.parts) c.has-taken.result _
+    (c.has-taken.ensures ∙ ap (has_name (items c.self.inside.paths)) c.deref.ensures) c.in_err-path.ensures.fault))
 
 pub returns-in_err-entries : goal.returns-in_err-entries
 returns-in_err-entries c =
-    let r = c.self.inside in
     let name = string_bytes c.args.name in
-    refused_now r.roads (items r.paths) r.batch _ _ _ c.self.view_is c.requires (Add_path name (path_by c.args.parts))
-    r.roads _ _ _ c.from_residual-in_err-entries.result rust.Memory c.from_residual-in_err-entries.ensures.1 refl
-    c.in_err-entries.ensures.err c.in_err-entries.ensures.err_work refl
-    (may_refuse (content_on (map_of r.roads) (items r.paths)) (Add_path name (path_by c.args.parts)) _ refl
-    (add_refused (content_on (map_of r.roads) (items r.paths)) name (path_by c.args.parts) c.has-taken.result _
-    (c.has-taken.ensures ∙ ap (has_name (items r.paths)) c.deref.ensures) c.in_ok-path.ensures.lacks))
+    refused_now c.self.inside c.self.view_is c.requires (Add_path name (path_by c.args.parts)) _
+    c.from_residual-in_err-entries.result rust.Memory
+    (rw (c.in_err-entries.ensures.err, c.in_err-entries.ensures.err_work) c.self.view_is)
+    c.from_residual-in_err-entries.ensures.1
+    (may_refuse _ _ _ refl (add_refused _ name (path_by c.args.parts) c.has-taken.result _
+    (c.has-taken.ensures ∙ ap (has_name (items c.self.inside.paths)) c.deref.ensures) c.in_ok-path.ensures.lacks))
 
 pub invariant_of-self-2 : goal.invariant_of-self-2
 invariant_of-self-2 c =
     let r = c.self.inside in
     let e = c.in_ok-entries.ensures in
-    add_right r.roads (items r.paths) r.batch _ _ _ c.self.view_is c.requires r.near c.self.invariant
-    (string_bytes c.args.name) (items c.add.new.self) c.in_ok-path.path e.added.0
-    (rw c.in_ok-path.ensures.ok c.in_ok-path.ensures.good) e.added.1 _
+    add_right r c.self.view_is c.requires c.self.invariant (string_bytes c.args.name) (items c.add.new.self)
+    c.in_ok-path.path e.added.0 (rw c.in_ok-path.ensures.ok c.in_ok-path.ensures.good) e.added.1 _
     (ap (has_name (items r.paths)) (sym c.deref.ensures) ∙ sym c.has-taken.ensures ∙ c.in_ok-path.ensures.right) e.added.2
-    (c.rebuild_bounds.ensures (items r.paths) (kept_bounds r.roads (items r.paths) r.batch _ _ _ c.self.view_is c.requires
-    r.near c.self.invariant) e.new_origins)
+    (c.rebuild_bounds.ensures (items r.paths) (kept_bounds r c.self.view_is c.requires c.self.invariant) e.new_origins)
 
 pub returns : goal.returns
 returns c =
     let r = c.self.inside in
     let e = c.in_ok-entries.ensures in
     rw (← c.in_ok-path.ensures.ok)
-    (add_done r.roads (items r.paths) r.batch _ _ _ c.self.view_is c.requires r.near c.self.invariant
-    (string_bytes c.args.name) (items c.add.new.self) c.in_ok-path.path e.added.0
-    (rw c.in_ok-path.ensures.ok c.in_ok-path.ensures.good) e.added.1 _ _ _ refl e.counted e.rises e.searched
+    (add_done r c.self.view_is c.requires c.self.invariant (string_bytes c.args.name) (items c.add.new.self)
+    c.in_ok-path.path e.added.0 (rw c.in_ok-path.ensures.ok c.in_ok-path.ensures.good) e.added.1 _ _ _ refl
+    e.counted e.rises e.searched
     (ap (has_name (items r.paths)) (sym c.deref.ensures) ∙ sym c.has-taken.ensures ∙ c.in_ok-path.ensures.right) e.added.2
     e.added.3)

@@ -1,5 +1,5 @@
 use Rattle.olr_register.proofs.Common.{map, refl, ap, sym, none_of, Begin, entry_of, items}
-use Rattle.olr_register.proofs.BatchEnds.{open_refused, IsEmpty, begun_held, begin_done}
+use Rattle.olr_register.proofs.BatchSteps.{open_refused, IsEmpty, begun_held, begin_done}
 use Rattle.olr_commands.specs.Reply as replies
 use Rattle.olr_register.proofs.register.Register.begin.Goals as goal
 

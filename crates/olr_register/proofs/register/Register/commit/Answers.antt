@@ -1,6 +1,17 @@
-use Rattle.olr_register.proofs.Common.{refl, map_before, Commit, items, ByState}
-use Rattle.olr_register.proofs.Outcomes.{answered_refused}
-use Rattle.olr_register.proofs.BatchCommit.{count_refused, commit_lacks, can_commit, commit_held, commit_done}
+use Rattle.olr_register.proofs.Common.{◌≡◌, true, false, Some, None, Ok, List, map, length, refl, sym, ap, ◌∙◌, subst}
+use Rattle.olr_register.proofs.Common.{ne_eqb, map_of, map_before, Named, Content, Commit, IsContent, ByState, may_want}
+use Rattle.olr_register.proofs.Common.{entry_of, items, all_named, under_overlay, nodes_of, lines_of, changed_of}
+use Rattle.olr_register.proofs.Common.{Registered, content_on, batch_of, IsKeptRight}
+use Rattle.olr_commands.specs.Reply.{Lacks}
+use Rattle.olr_register.proofs.BatchSteps.{held_content, right_count}
+use Rattle.olr_register.proofs.Counting.{counted_changes}
+use Rattle.olr_register.proofs.Noted.{can_commit}
+use Rattle.olr_register.proofs.Outcomes.{answered_counted, answered_refused, Accepts}
+use Rattle.olr_register.proofs.Renewed.{remade_made}
+use Rattle.olr_register.proofs.Replies.{planned_changes}
+use Rattle.olr_register.proofs.States.{state, of_parts, in_states}
+use Rattle.olr_commands.specs.declared.fault.CommandFault.TheVariants as rust
+use Rattle.olr_commands.specs.declared.reply.Reply.TheVariants as reply
 use Rattle.olr_register.proofs.register.Register.commit.Goals as goal
 
 pub returns-in_default : goal.returns-in_default
@@ -9,37 +20,70 @@ returns-in_default c =
 
 pub returns-then-batch-count : goal.returns-then-batch-count
 returns-then-batch-count c =
-    let s = c.self.inside in
     rw (← c.self.view_is, c.in-Some.is)
-    (count_refused s.roads (items s.paths) c.in-Some.batch c.args.count c.if-batch-count.true _ _)
+    (answered_refused _ _ (Commit c.args.count) _ rust.CountDiffers refl refl
+    (λ xs i. ByState (rw (ne_eqb (length xs) c.args.count (λ h. c.if-batch-count.true (i.count ∙ h))))))
 
 pub renew-requires : goal.renew-requires
 renew-requires c =
     let s = c.self.inside in (
       map_before s.roads c.in-Some.batch.log,
-      can_commit s.roads (items s.paths) c.in-Some.batch s.near
-          (rw (← c.in-Some.is) c.self.invariant),
+      can_commit s.roads (items s.paths) c.in-Some.batch s.near (rw (← c.in-Some.is) c.self.invariant),
     )
 
 pub invariant_of-self-2 : goal.invariant_of-self-2
 invariant_of-self-2 c =
     let s = c.self.inside in
-    commit_held s.roads (items s.paths) c.in-Some.batch s.near (rw (← c.in-Some.is) c.self.invariant)
-    (items c.renew.new.paths) c.in_ok-entries.entries.items _ _ _ _ c.in_ok-entries.ensures.renewed c.renew.new.near
-    c.in_ok-entries.ensures.bounded
+    let right : IsKeptRight s.roads (items s.paths) (Some c.in-Some.batch) s.near = rw (← c.in-Some.is) c.self.invariant in
+    let e = c.in_ok-entries.ensures in
+    record {
+      register = record {
+        content = subst (λ (ps : List Named). IsContent (record { map = map_of s.roads; paths = ps }))
+            (sym e.renewed.named) right.register.held.sound;
+        made = remade_made (map_of s.roads) _ _ e.renewed.remade;
+        held = tt;
+      };
+      bounded = e.bounded;
+    }
 
 pub returns : goal.returns
 returns c =
     let s = c.self.inside in
+    let is = items s.paths in
+    let js = items c.renew.new.paths in
+    let b = c.in-Some.batch in
+    let M = map_of s.roads in
+    let e = c.in_ok-entries.ensures in
+    let right : IsKeptRight s.roads is (Some b) s.near = rw (← c.in-Some.is) c.self.invariant in
+    let old : Content = content_on (map_before s.roads b.log) is in
+    let new : Content = content_on M js in
+    let count = e.renewed.counted old.map (can_commit s.roads is b s.near right).before in
+    let r = reply.Paths c.in_ok-entries.entries in
+    let later : Registered = of_parts s.roads js None c.renew.new.work c.renew.new.spared in
     rw (← c.self.view_is, c.in-Some.is)
-    (commit_done s.roads (items s.paths) c.in-Some.batch s.near (rw (← c.in-Some.is) c.self.invariant)
-    (items c.renew.new.paths) c.in_ok-entries.entries.items _ _ _ _ c.in_ok-entries.ensures.renewed c.args.count _
-    c.if-batch-count.false refl c.in_ok-entries.ensures.rises c.in_ok-entries.ensures.kept)
+    (answered_counted _ later (Commit c.args.count) r count.0
+    (in_states (record { content = old; batch = Some (batch_of s.roads is b) })
+    (Accepts later (Commit c.args.count) r count.0)
+    (λ xs i. (
+      (
+        state new None,
+        (refl, tt),
+        (
+          right_count old (batch_of s.roads is b) xs i c.if-batch-count.false
+              ∙ ap (λ (d : Content). Ok (state d None)) (held_content old s.roads is b xs i
+              ∙ ap (λ (ps : List Named). record { map = M; paths = ps }) (sym e.renewed.named)),
+          planned_changes old.map M is js (map entry_of c.in_ok-entries.entries.items) right.register.content
+              right.register.made (remade_made M _ js e.renewed.remade) e.renewed.reported,
+        ),
+      ),
+      counted_changes old new xs (nodes_of b.touched) (lines_of b.touched) (changed_of b.touched) i.nodes i.lines
+          i.changed (under_overlay is b.overlay) count.0 count.1 i.given (all_named js) e.renewed.named,
+    )))
+    count.2 (record { work = e.rises; spared = e.kept }) (λ off. let no : true ≡ false = off in absurd cc))
 
 pub returns-in_err-entries : goal.returns-in_err-entries
 returns-in_err-entries c =
-    let s = c.self.inside in
     let e = c.in_err-entries.ensures in
-    rw (← c.self.view_is, c.in-Some.is)
-    (commit_lacks s.roads (items s.paths) c.in-Some.batch c.args.count c.if-batch-count.false _ _ _ _ _
-    c.from_residual.result c.from_residual.ensures.1 e.err e.err_work e.err_kept)
+    rw (← c.self.view_is, c.in-Some.is, e.err, e.err_work, e.err_kept)
+    (answered_refused _ _ (Commit c.args.count) c.from_residual.result rust.Memory refl c.from_residual.ensures.1
+    (λ xs i. Lacks refl (ap may_want (right_count _ _ xs i c.if-batch-count.false))))

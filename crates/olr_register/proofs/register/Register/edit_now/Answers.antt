@@ -6,7 +6,7 @@ use Rattle.olr_register.proofs.Asking.{some_named}
 use Rattle.olr_register.proofs.Bounded.{bounded_unknown, right_without}
 use Rattle.olr_register.proofs.Changing.{edit_refused, edit_lacks}
 use Rattle.olr_register.proofs.Listed.{no_items}
-use Rattle.olr_register.proofs.Singles.{refused_first, refused_now, may_refuse, same_right, kept_bounds, bare_right}
+use Rattle.olr_register.proofs.Singles.{refused_now, same_map, may_refuse, same_right, kept_bounds, bare_right}
 use Rattle.olr_register.proofs.Singles.{bare_done, can_edit, edit_right, edit_done}
 use Rattle.olr_register.proofs.States.{state}
 use Rattle.olr_commands.specs.State as faults
@@ -15,42 +15,40 @@ use Rattle.olr_register.proofs.register.Register.edit_now.Goals as goal
 
 pub returns-in-Err : goal.returns-in-Err
 returns-in-Err c =
-    let r = c.self.inside in
-    refused_first r.roads (items r.paths) r.batch _ _ _ c.self.view_is c.requires (On_map (edit_of c.args.edit)) _ _ refl
-    (ByState (ap at_once (edit_refused (content_on (map_of r.roads) (items r.paths)) _ c.in-Err.fault
-    c.in-Err.ensures.fault)))
+    refused_now c.self.inside c.self.view_is c.requires (On_map (edit_of c.args.edit)) _ _ _ refl refl
+    (ByState (ap at_once (edit_refused (content_on (map_of c.self.inside.roads) (items c.self.inside.paths)) _
+    c.in-Err.fault c.in-Err.ensures.fault)))
 
 -- ---- where there are no paths
 
 pub invariant_of-self : goal.invariant_of-self
 invariant_of-self c =
-    let r = c.self.inside in
-    same_right r.roads (items r.paths) r.batch _ _ _ c.self.view_is c.requires r.near c.self.invariant c.make.new.self _ _ c.in_err-undo.ensures.same refl
-    (rw c.in_err-undo.ensures.same (kept_bounds r.roads (items r.paths) r.batch _ _ _ c.self.view_is c.requires r.near c.self.invariant))
+    same_right c.self.inside c.self.view_is c.requires c.self.invariant c.make.new.self _ _ c.in_err-undo.ensures.same refl
+    (rw c.in_err-undo.ensures.same (kept_bounds c.self.inside c.self.view_is c.requires c.self.invariant))
 
 pub returns-in_err-undo : goal.returns-in_err-undo
 returns-in_err-undo c =
     let r = c.self.inside in
-    let bare = no_items (items r.paths) c.len.ensures.len c.if-len-eq0.true in
-    refused_now r.roads (items r.paths) r.batch _ _ _ c.self.view_is c.requires (On_map (edit_of c.args.edit)) c.make.new.self _ _ _ c.from_residual.result Memory
-    c.from_residual.ensures.1 c.in_err-undo.ensures.same refl refl refl
-    (may_refuse (content_on (map_of r.roads) (items r.paths)) (On_map (edit_of c.args.edit)) _
-    (rw bare c.in_err-undo.ensures.lacks)
+    refused_now r c.self.view_is c.requires (On_map (edit_of c.args.edit)) _ c.from_residual.result Memory
+    (same_map r c.self.view_is c.requires c.make.new.self c.in_err-undo.ensures.same) c.from_residual.ensures.1
+    (may_refuse _ _ _ (rw (no_items (items r.paths) c.len.ensures.len c.if-len-eq0.true) c.in_err-undo.ensures.lacks)
     (edit_lacks (content_on (map_of r.roads) (items r.paths)) _ c.in-Ok.ensures.plan.accepted))
 
 pub invariant_of-self-then-len-eq0 : goal.invariant_of-self-then-len-eq0
 invariant_of-self-then-len-eq0 c =
     let r = c.self.inside in
-    let N = map_of c.make.new.self in
-    bare_right r.roads (items r.paths) r.batch _ _ _ c.self.view_is c.requires r.near c.self.invariant (edit_of c.args.edit) c.keep.new.self (rw c.keep.ensures c.in_ok-undo.ensures.done) c.clear.new.self
-    c.in-Ok.ensures.plan.placed (no_items (items r.paths) c.len.ensures.len c.if-len-eq0.true)
-    (record { right = right_without (map_of c.keep.new.self) c.clear.new.self c.clear.ensures.bounds; sources = λ v on. absurd on })
+    bare_right r c.self.view_is c.requires c.self.invariant (edit_of c.args.edit) c.keep.new.self
+    (rw c.keep.ensures c.in_ok-undo.ensures.done) c.clear.new.self c.in-Ok.ensures.plan.placed
+    (no_items (items r.paths) c.len.ensures.len c.if-len-eq0.true) (record {
+      right = right_without (map_of c.keep.new.self) c.clear.new.self c.clear.ensures.bounds;
+      sources = λ v on. absurd on;
+    })
 
 pub returns-then-len-eq0 : goal.returns-then-len-eq0
 returns-then-len-eq0 c =
     let r = c.self.inside in
-    bare_done r.roads (items r.paths) r.batch _ _ _ c.self.view_is c.requires r.near c.self.invariant (edit_of c.args.edit) c.keep.new.self (rw c.keep.ensures c.in_ok-undo.ensures.done) _
-    (no_items (items r.paths) c.len.ensures.len c.if-len-eq0.true)
+    bare_done r c.self.view_is c.requires c.self.invariant (edit_of c.args.edit) c.keep.new.self
+    (rw c.keep.ensures c.in_ok-undo.ensures.done) _ (no_items (items r.paths) c.len.ensures.len c.if-len-eq0.true)
     (ap (λ (es : List Entry). returned.Paths (map entry_of es)) c.new.ensures.items)
 
 -- ---- out of memory
@@ -64,59 +62,56 @@ lacks_now M is k e len some ok =
 
 pub returns-in_err-note_alone : goal.returns-in_err-note_alone
 returns-in_err-note_alone c =
-    let r = c.self.inside in
-    refused_now r.roads (items r.paths) r.batch _ _ _ c.self.view_is c.requires (On_map (edit_of c.args.edit)) r.roads _ _ _ c.from_residual-in_err-note_alone.result Memory
-    c.from_residual-in_err-note_alone.ensures.1 refl refl refl refl
-    (lacks_now (map_of r.roads) (items r.paths) _ (edit_of c.args.edit) c.len.ensures.len c.if-len-eq0.false
-    c.in-Ok.ensures.plan.accepted)
+    refused_now c.self.inside c.self.view_is c.requires (On_map (edit_of c.args.edit)) _
+    c.from_residual-in_err-note_alone.result Memory c.self.view_is c.from_residual-in_err-note_alone.ensures.1
+    (lacks_now _ _ _ (edit_of c.args.edit) c.len.ensures.len c.if-len-eq0.false c.in-Ok.ensures.plan.accepted)
 
 pub invariant_of-self-in_err-undo-2 : goal.invariant_of-self-in_err-undo-2
 invariant_of-self-in_err-undo-2 c =
-    let r = c.self.inside in
-    same_right r.roads (items r.paths) r.batch _ _ _ c.self.view_is c.requires r.near c.self.invariant c.make-2.new.self _ _ c.in_err-undo-2.ensures.same refl
-    (rw c.in_err-undo-2.ensures.same (kept_bounds r.roads (items r.paths) r.batch _ _ _ c.self.view_is c.requires r.near c.self.invariant))
+    let same = c.in_err-undo-2.ensures.same in
+    same_right c.self.inside c.self.view_is c.requires c.self.invariant c.make-2.new.self _ _ same refl
+    (rw same (kept_bounds c.self.inside c.self.view_is c.requires c.self.invariant))
 
 pub returns-in_err-undo-2 : goal.returns-in_err-undo-2
 returns-in_err-undo-2 c =
-    let r = c.self.inside in
-    refused_now r.roads (items r.paths) r.batch _ _ _ c.self.view_is c.requires (On_map (edit_of c.args.edit)) c.make-2.new.self _ _ _ c.from_residual-in_err-undo-2.result Memory
-    c.from_residual-in_err-undo-2.ensures.1 c.in_err-undo-2.ensures.same refl refl refl
-    (lacks_now (map_of r.roads) (items r.paths) _ (edit_of c.args.edit) c.len.ensures.len c.if-len-eq0.false
-    c.in-Ok.ensures.plan.accepted)
+    refused_now c.self.inside c.self.view_is c.requires (On_map (edit_of c.args.edit)) _
+    c.from_residual-in_err-undo-2.result Memory
+    (same_map c.self.inside c.self.view_is c.requires c.make-2.new.self c.in_err-undo-2.ensures.same)
+    c.from_residual-in_err-undo-2.ensures.1
+    (lacks_now _ _ _ (edit_of c.args.edit) c.len.ensures.len c.if-len-eq0.false c.in-Ok.ensures.plan.accepted)
 
 pub invariant_of-self-in-Err-renew : goal.invariant_of-self-in-Err-renew
 invariant_of-self-in-Err-renew c =
-    let r = c.self.inside in
-    same_right r.roads (items r.paths) r.batch _ _ _ c.self.view_is c.requires r.near c.self.invariant c.undo.new.self _ _ (c.undo.ensures ∙ c.in_ok-undo-2.ensures.before) c.in-Err-renew.ensures.err
+    same_right c.self.inside c.self.view_is c.requires c.self.invariant c.undo.new.self _ _
+    (c.undo.ensures ∙ c.in_ok-undo-2.ensures.before) c.in-Err-renew.ensures.err
     (bounded_unknown _ _ _ c.in-Err-renew.ensures.unknown)
 
 pub returns : goal.returns
 returns c =
-    let r = c.self.inside in
     let e = c.in-Err-renew.ensures in
-    refused_now r.roads (items r.paths) r.batch _ _ _ c.self.view_is c.requires (On_map (edit_of c.args.edit)) c.undo.new.self _ _ _ _ Memory refl
-    (c.undo.ensures ∙ c.in_ok-undo-2.ensures.before) e.err e.err_work e.err_kept
-    (lacks_now (map_of r.roads) (items r.paths) _ (edit_of c.args.edit) c.len.ensures.len c.if-len-eq0.false
-    c.in-Ok.ensures.plan.accepted)
+    refused_now c.self.inside c.self.view_is c.requires (On_map (edit_of c.args.edit)) _ _ Memory
+    (rw (e.err, e.err_work, e.err_kept) (same_map c.self.inside c.self.view_is c.requires c.undo.new.self
+    (c.undo.ensures ∙ c.in_ok-undo-2.ensures.before))) refl
+    (lacks_now _ _ _ (edit_of c.args.edit) c.len.ensures.len c.if-len-eq0.false c.in-Ok.ensures.plan.accepted)
 
 -- ---- accepted
 
 pub renew-requires : goal.renew-requires
-renew-requires c =
-    let r = c.self.inside in
-    let e = edit_of c.args.edit in (
-      map_of r.roads,
-      rw (c.new-none.ensures (items r.paths))
-          (can_edit r.roads (items r.paths) r.batch _ _ _ c.self.view_is c.requires r.near c.self.invariant e c.make-2.new.self c.in_ok-undo-2.ensures.done c.note_alone.new.touched
-          (c.in_ok-note_alone.ensures (map_of r.roads) _ e c.in-Ok.ensures.plan)),
-    )
+renew-requires c = (
+  map_of c.self.inside.roads,
+  rw (c.new-none.ensures (items c.self.inside.paths))
+      (can_edit c.self.inside c.self.view_is c.requires c.self.invariant (edit_of c.args.edit) c.make-2.new.self
+      c.in_ok-undo-2.ensures.done c.note_alone.new.touched
+      (c.in_ok-note_alone.ensures (map_of c.self.inside.roads) _ (edit_of c.args.edit) c.in-Ok.ensures.plan)),
+)
 
 pub invariant_of-self-in-Ok-renew : goal.invariant_of-self-in-Ok-renew
 invariant_of-self-in-Ok-renew c =
     let r = c.self.inside in
     let e = edit_of c.args.edit in
     let k = c.in-Ok-renew.ensures in
-    edit_right r.roads (items r.paths) r.batch _ _ _ c.self.view_is c.requires r.near c.self.invariant e c.keep-in-Ok-renew.new.self (rw c.keep-in-Ok-renew.ensures c.in_ok-undo-2.ensures.done)
+    edit_right r c.self.view_is c.requires c.self.invariant e c.keep-in-Ok-renew.new.self
+    (rw c.keep-in-Ok-renew.ensures c.in_ok-undo-2.ensures.done)
     c.note_alone.new.touched (c.in_ok-note_alone.ensures (map_of r.roads) _ e c.in-Ok.ensures.plan)
     (items c.renew.new.paths) c.in-Ok-renew.entries.items c.renew.new.work c.renew.new.spared
     (rw c.keep-in-Ok-renew.ensures (rw (c.new-none.ensures (items r.paths)) at k.renewed)) _ c.in-Ok.ensures.plan.placed
@@ -127,7 +122,8 @@ returns-in-Ok-renew c =
     let r = c.self.inside in
     let e = edit_of c.args.edit in
     let k = c.in-Ok-renew.ensures in
-    edit_done r.roads (items r.paths) r.batch _ _ _ c.self.view_is c.requires r.near c.self.invariant e c.keep-in-Ok-renew.new.self (rw c.keep-in-Ok-renew.ensures c.in_ok-undo-2.ensures.done)
+    edit_done r c.self.view_is c.requires c.self.invariant e c.keep-in-Ok-renew.new.self
+    (rw c.keep-in-Ok-renew.ensures c.in_ok-undo-2.ensures.done)
     c.note_alone.new.touched (c.in_ok-note_alone.ensures (map_of r.roads) _ e c.in-Ok.ensures.plan)
     (items c.renew.new.paths) c.in-Ok-renew.entries.items c.renew.new.work c.renew.new.spared
     (rw c.keep-in-Ok-renew.ensures (rw (c.new-none.ensures (items r.paths)) at k.renewed)) _ refl k.rises k.kept

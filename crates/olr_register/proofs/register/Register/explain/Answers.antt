@@ -1,5 +1,5 @@
 use Rattle.olr_register.proofs.Common.{refl}
-use Rattle.olr_register.proofs.Texts.{explain_text, explain_fault}
+use Rattle.olr_register.proofs.Outcomes.{explain_text, explain_fault}
 use Rattle.olr_register.proofs.register.Register.explain.Goals as goal
 
 pub returns-in-Ok : goal.returns-in-Ok

@@ -1,5 +1,5 @@
-use Rattle.olr_register.proofs.Common.{Some, items, change_of, IsKeptRight}
-use Rattle.olr_register.proofs.BatchSteps.{answered_given}
+use Rattle.olr_register.proofs.Common.{Some, items, map_before, content_on, change_of, IsKeptRight}
+use Rattle.olr_register.proofs.BatchSteps.{answered_held}
 use Rattle.olr_register.proofs.States.{kept_moved}
 use Rattle.olr_register.proofs.register.Register.hold.Goals as goal
 
@@ -19,6 +19,7 @@ invariant_of-self c =
 pub returns : goal.returns
 returns c =
     let s = c.self.inside in
-    rw (← c.self.view_is, ← c.in-Some.ensures.value)
-    (answered_given s.roads c.hold-result.new.roads (items s.paths) c.in-Some.batch c.hold-result.new.self s.work
-    s.spared (change_of c.args.change) c.hold-result.result c.hold-result.ensures)
+    let b = c.in-Some.batch in
+    rw (← c.self.view_is, ← c.in-Some.ensures.value, c.hold-result.ensures.before)
+    (answered_held (content_on (map_before s.roads b.log) (items s.paths)) s.roads c.hold-result.new.roads (items s.paths)
+    b c.hold-result.new.self (change_of c.args.change) s.work s.spared c.hold-result.result c.hold-result.ensures)

@@ -1,10 +1,11 @@
-use Rattle.olr_register.proofs.Common.{items, map_kept}
-use Rattle.olr_register.proofs.Asking.{whole_published}
+use Rattle.olr_register.proofs.Common.{sym, subst, items, content_on, map_kept}
+use Rattle.olr_register.specs.Registered.{PublishedWhole}
+use Rattle.olr_register.proofs.Replies.{made_found}
 use Rattle.olr_register.proofs.register.Register.published_of.Goals as goal
 
 pub returns : goal.returns
 returns c =
-    let r = c.self.inside in
-    rw (← c.self.view_is)
-    (whole_published (map_kept r.roads r.batch) (items r.paths) c.args.name.now _ c.self.invariant.register.made
-    c.published_of.ensures)
+    let M = map_kept c.self.inside.roads c.self.inside.batch in
+    let is = items c.self.inside.paths in
+    rw (← c.self.view_is) (subst (PublishedWhole (content_on M is) c.args.name.now) (sym c.published_of.ensures)
+    (made_found M is c.args.name.now c.self.invariant.register.made))

@@ -1,7 +1,7 @@
-use Rattle.olr_register.proofs.Common.{refl, sym, ap, ◌∙◌, not, map_of, Set_path, items, content_on, map_kept, path_by}
+use Rattle.olr_register.proofs.Common.{refl, sym, ap, ◌∙◌, not, Set_path, items, map_kept, path_by}
 use Rattle.olr_register.proofs.Asking.{some_answer_in}
 use Rattle.olr_register.proofs.Changing.{set_refused, not_missing}
-use Rattle.olr_register.proofs.Singles.{refused_first, refused_now, may_refuse, kept_bounds, set_right, set_done}
+use Rattle.olr_register.proofs.Singles.{refused_now, may_refuse, kept_bounds, set_right, set_done}
 use Rattle.olr_commands.specs.declared.fault.CommandFault.TheVariants as rust
 use Rattle.olr_register.proofs.register.Register.set_now.Goals as goal
 
@@ -12,41 +12,35 @@ set-requires c =
 
 pub returns-in_err-path : goal.returns-in_err-path
 returns-in_err-path c =
-    let r = c.self.inside in
     let y = Set_path c.args.name.now (path_by c.args.parts) in
-    refused_first r.roads (items r.paths) r.batch _ _ _ c.self.view_is c.requires y c.from_residual.result
-    c.in_err-path.field-0.0 c.from_residual.ensures.1
-    (may_refuse (content_on (map_of r.roads) (items r.paths)) y _ refl
-    (set_refused (content_on (map_of r.roads) (items r.paths)) c.args.name.now (path_by c.args.parts) (not c.has-missing.result) _
+    refused_now c.self.inside c.self.view_is c.requires y _ c.from_residual.result c.in_err-path.field-0.0 refl
+    c.from_residual.ensures.1
+    (may_refuse _ y _ refl (set_refused _ c.args.name.now (path_by c.args.parts) (not c.has-missing.result) _
     (ap not c.has-missing.ensures) c.in_err-path.ensures.fault))
 
 pub returns-in_err-entries : goal.returns-in_err-entries
 returns-in_err-entries c =
-    let r = c.self.inside in
     let y = Set_path c.args.name.now (path_by c.args.parts) in
-    refused_now r.roads (items r.paths) r.batch _ _ _ c.self.view_is c.requires y r.roads _ _ _
-    c.from_residual-in_err-entries.result rust.Memory c.from_residual-in_err-entries.ensures.1 refl
-    c.in_err-entries.ensures.err c.in_err-entries.ensures.err_work refl
-    (may_refuse (content_on (map_of r.roads) (items r.paths)) y _ refl
-    (set_refused (content_on (map_of r.roads) (items r.paths)) c.args.name.now (path_by c.args.parts) (not c.has-missing.result) _
+    refused_now c.self.inside c.self.view_is c.requires y _ c.from_residual-in_err-entries.result rust.Memory
+    (rw (c.in_err-entries.ensures.err, c.in_err-entries.ensures.err_work) c.self.view_is)
+    c.from_residual-in_err-entries.ensures.1
+    (may_refuse _ y _ refl (set_refused _ c.args.name.now (path_by c.args.parts) (not c.has-missing.result) _
     (ap not c.has-missing.ensures) c.in_ok-path.ensures.lacks))
 
 pub invariant_of-self-2 : goal.invariant_of-self-2
 invariant_of-self-2 c =
     let r = c.self.inside in
     let e = c.in_ok-entries.ensures in
-    set_right r.roads (items r.paths) r.batch _ _ _ c.self.view_is c.requires r.near c.self.invariant c.args.name.now
-    (items c.set.new.self) c.in_ok-path.path e.set.0 (rw c.in_ok-path.ensures.ok c.in_ok-path.ensures.good) e.set.1 _
+    set_right r c.self.view_is c.requires c.self.invariant c.args.name.now (items c.set.new.self) c.in_ok-path.path
+    e.set.0 (rw c.in_ok-path.ensures.ok c.in_ok-path.ensures.good) e.set.1 _
     (sym c.has-missing.ensures ∙ not_missing c.has-missing.result c.in_ok-path.ensures.right) e.set.2
-    (c.rebuild_bounds.ensures (items r.paths) (kept_bounds r.roads (items r.paths) r.batch _ _ _ c.self.view_is c.requires
-    r.near c.self.invariant) e.new_origins)
+    (c.rebuild_bounds.ensures (items r.paths) (kept_bounds r c.self.view_is c.requires c.self.invariant) e.new_origins)
 
 pub returns : goal.returns
 returns c =
-    let r = c.self.inside in
     let e = c.in_ok-entries.ensures in
     rw (← c.in_ok-path.ensures.ok)
-    (set_done r.roads (items r.paths) r.batch _ _ _ c.self.view_is c.requires r.near c.self.invariant c.args.name.now
-    (items c.set.new.self) c.in_ok-path.path e.set.0 (rw c.in_ok-path.ensures.ok c.in_ok-path.ensures.good) e.set.1
-    _ _ _ refl e.counted e.rises e.searched (sym c.has-missing.ensures ∙ not_missing c.has-missing.result c.in_ok-path.ensures.right)
+    (set_done c.self.inside c.self.view_is c.requires c.self.invariant c.args.name.now (items c.set.new.self)
+    c.in_ok-path.path e.set.0 (rw c.in_ok-path.ensures.ok c.in_ok-path.ensures.good) e.set.1 _ _ _ refl e.counted
+    e.rises e.searched (sym c.has-missing.ensures ∙ not_missing c.has-missing.result c.in_ok-path.ensures.right)
     e.set.2 e.set.3)

@@ -1,13 +1,15 @@
 use Rattle.olr_register.proofs.Common.{◌∷◌, [], List, refl, sym, ap, ◌∙◌, entry_of, Entry, items, map_kept}
 use Rattle.std.specs.Prelude.{map}
+use Rattle.olr_commands.specs.Reply.{ByState, Lacks}
+use Rattle.olr_commands.specs.declared.fault.CommandFault.TheVariants.{Memory}
 use Rattle.olr_register.proofs.Asking.{some_answer_in}
-use Rattle.olr_register.proofs.Outcomes.{show_answered, show_unknown, show_lacks}
+use Rattle.olr_register.proofs.Outcomes.{answered_same, refused_same}
 use Rattle.olr_register.proofs.Replies.{answer_held}
 use Rattle.olr_register.proofs.register.Register.show.Goals as goal
 
 pub returns-then-not-has : goal.returns-then-not-has
 returns-then-not-has c =
-    rw (← c.self.view_is) (show_unknown _ c.args.name.now _ refl (sym c.if-not-has.ensures))
+    rw (← c.self.view_is) (refused_same _ _ _ _ refl (λ o. ByState (rw (← c.if-not-has.ensures))))
 
 pub entry-requires : goal.entry-requires
 entry-requires c =
@@ -19,7 +21,8 @@ entry-requires c =
 
 pub returns-in_err-entry : goal.returns-in_err-entry
 returns-in_err-entry c =
-    rw (← c.self.view_is) (show_lacks _ c.args.name.now _ c.from_residual.ensures.1 (sym c.if-not-has.ensures))
+    rw (← c.self.view_is)
+    (refused_same _ _ _ Memory c.from_residual.ensures.1 (λ o. Lacks refl (rw (← c.if-not-has.ensures))))
 
 pub returns : goal.returns
 returns c =
@@ -27,13 +30,17 @@ returns c =
     let h = c.self.invariant.register in
     let returned = c.in_ok-entry.ensures in
     rw (← c.self.view_is)
-    (show_answered _ c.args.name.now _ (sym c.if-not-has.ensures) (
-      returned.0,
-      (answer_held (map_kept r.roads r.batch) (items r.paths) h.content h.made c.args.name.now returned.0).1 returned.1,
-      ap (λ (es : List Entry). map entry_of es) c.in_ok-one_entry.ensures ∙ ap (λ e. e ∷ []) returned.2,
-    ))
+    (answered_same _ _ _ refl (λ xs. refl) (λ o. (
+      rw (← c.if-not-has.ensures),
+      (
+        returned.0,
+        (answer_held (map_kept r.roads r.batch) (items r.paths) h.content h.made c.args.name.now returned.0).1 returned.1,
+        ap (λ (es : List Entry). map entry_of es) c.in_ok-one_entry.ensures ∙ ap (λ e. e ∷ []) returned.2,
+      ),
+    )))
 
 pub returns-in_err-one_entry : goal.returns-in_err-one_entry
 returns-in_err-one_entry c =
     rw (← c.self.view_is)
-    (show_lacks _ c.args.name.now _ c.from_residual-in_err-one_entry.ensures.1 (sym c.if-not-has.ensures))
+    (refused_same _ _ _ Memory c.from_residual-in_err-one_entry.ensures.1
+    (λ o. Lacks refl (rw (← c.if-not-has.ensures))))
