@@ -1,11 +1,10 @@
 -- Two runs on one register are one run over the records of both.
 use Rattle.olr_run.proofs.Common.{arith, ◌≡◌, ◌∙◌, ◌≢◌, ◌+◌, ℕ, Bool, true, false, List, [], ◌∷◌, ◌++◌, length}
-use Rattle.olr_run.proofs.Common.{length-append, Some, inl, inr, refl, sym, ap, subst, ◌&&◌, ◌||◌, is_err}
-use Rattle.olr_run.proofs.Common.{if◌then◌else◌, both_ways, append_assoc, list_any-append, Appends-nil, Appends-trans}
-use Rattle.olr_run.proofs.Common.{Outcome, IsContent, run_longer, Field, outcome_text, Registered, SoundOutcome}
-use Rattle.olr_run.proofs.Common.{SoundOutcomes, Claims, StopsAtFault, any_refused, AreAnswered, texts, Ran, In_last}
-use Rattle.olr_run.proofs.Common.{Faulted, Known, known_records, known_both, status_of, RanOn, FaultedOn, RunFault}
-use Rattle.olr_run.proofs.Common.{Status}
+use Rattle.olr_run.proofs.Common.{length-append, Some, inl, inr, refl, sym, ap, ◌&&◌, ◌||◌, is_err, both_ways}
+use Rattle.olr_run.proofs.Common.{append_assoc, list_any-append, Appends-nil, Appends-trans, Outcome, IsContent}
+use Rattle.olr_run.proofs.Common.{run_longer, Field, outcome_text, Registered, SoundOutcome, Claims, StopsAtFault}
+use Rattle.olr_run.proofs.Common.{any_refused, AreAnswered, texts, Ran, In_last, Known, known_records, known_both}
+use Rattle.olr_run.proofs.Common.{status_of, RanOn, FaultedOn, RunFault, Status, cases_Bool, State}
 use Rattle.std.proofs.lemmas.Bool.{or_from, or_right}
 use Rattle.std.proofs.lemmas.List.Concat.{flat_map-append}
 use Rattle.csv.proofs.OnLiterals.{csv_on_literals}
@@ -42,12 +41,8 @@ no_file stop old before base s represents = (
 continues : (stop : Bool) (p : Status) (os : List Outcome) → p ≢ status.Stopped →
     status_of p ≡ output.run_status stop os → (stop && any_refused os) ≡ false
 continues false p os n e = refl
-continues true p os n e = by p (any_refused os) n e where
-  by : (p : Status) (b : Bool) → p ≢ status.Stopped →
-      status_of p ≡ (if b then output.Stopped else output.All_accepted) → b ≡ false
-  by status.Stopped true n e = absurd (n refl)
-  by p false n e = refl
-  by p true n e = absurd cc
+continues true status.Stopped os n e = absurd (n refl)
+continues true p os n e = grind (arith, cases_Bool)
 
 all_whole : (stop : Bool) (rs : List (List Field)) (os : List Outcome) → (stop && any_refused os) ≡ false →
     AreAnswered stop rs os → length os ≡ length rs
@@ -62,8 +57,7 @@ all_join stop rs ms os qs l (inr h) =
 
 pub stopped_is : (stop b : Bool) → output.Stopped ≡ status_by stop b → (stop && b) ≡ true
 stopped_is true true e = refl
-stopped_is stop true e = absurd cc
-stopped_is stop false e = absurd cc
+stopped_is stop b e = grind (arith, cases_Bool)
 
 status_join : (stop : Bool) (os qs : List Outcome) → (stop && any_refused os) ≡ false →
     greater (output.run_status stop os) (output.run_status stop qs) ≡ output.run_status stop (os ++ qs)
@@ -93,6 +87,11 @@ cut_join stop os qs second e n (In_last is before last front rest are text some 
 
 -- ---- both runs
 
+-- the claims hold with more records, of which only the first were read
+longer : (s t : State) (rs ms : List (List Field)) (os : List Outcome) → IsContent s.content → Claims s rs os t →
+    Claims s (rs ++ ms) os t
+longer s t rs ms os i h = claims_of s (rs ++ ms) os t i (run_longer SoundOutcome s t rs ms os h.headline.run)
+
 pub both_stopped : (stop : Bool) (old mid : Registered) (first second : Records) (before later : Known) (p : Status) →
     IsContent old.kept.content → RanOn Claims stop old first before mid later p → p ≡ status.Stopped
     → RanOn Claims stop old (known_both first second) before mid later p
@@ -100,23 +99,44 @@ both_stopped stop old mid (Some rs) (Some ms) before later p base h e =
     λ s represents.
     let r = h s represents in
     let ran = r.4 in
-    let stopped : output.Stopped ≡ output.run_status stop ran.outcomes = ap status_of (sym e) ∙ ran.ended in (
-      r.0,
-      r.1,
-      r.2,
-      r.3,
-      record {
-        outcomes = ran.outcomes;
-        each =
-            claims_of s (rs ++ ms) ran.outcomes r.0 (represented old s base represents)
-            (run_longer SoundOutcome s r.0 rs ms ran.outcomes ran.each.headline.run);
-        stops = ran.stops;
-        all = inr (stopped_is stop (any_refused ran.outcomes) stopped);
-        wrote = ran.wrote;
-        ended = ran.ended;
-      },
-    )
+    let each = longer s r.0 rs ms ran.outcomes (represented old s base represents) ran.each in
+    let all = stopped_is stop (any_refused ran.outcomes) (ap status_of (sym e) ∙ ran.ended) in
+    let both : Ran Claims stop s (rs ++ ms) r.0 r.2 (status_of p) =
+    record { outcomes = ran.outcomes; each = each; stops = ran.stops; all = inr all; wrote = ran.wrote; ended = ran.ended } in
+    (r.0, r.1, r.2, r.3, both)
 both_stopped stop old mid first second before later p base h e = tt
+
+pub both_faulted_first : (stop : Bool) (old mid : Registered) (first second : Records) (before later : Known)
+    (e : RunFault) → IsContent old.kept.content → FaultedOn Claims stop old first before mid later e
+    → FaultedOn Claims stop old (known_both first second) before mid later e
+both_faulted_first stop old mid (Some rs) (Some ms) before later e base h =
+    λ s represents.
+    let r = h s represents in
+    let cut = r.4 in
+    let each = longer s r.0 rs ms cut.outcomes (represented old s base represents) cut.each in
+    (r.0, r.1, r.2, r.3, record { outcomes = cut.outcomes; each = each; stops = cut.stops; wrote = cut.wrote })
+both_faulted_first stop old mid first second before later e base h = tt
+
+-- a second run after one that was not stopped
+record Continued (stop : Bool) (s : State) (rs ms : List (List Field)) (os qs : List Outcome) (u : State) : Type 0 where
+  going : (stop && any_refused os) ≡ false
+  size : length os ≡ length rs
+  each : Claims s (rs ++ ms) (os ++ qs) u
+  stops : StopsAtFault stop (os ++ qs)
+
+continued : (stop : Bool) (s t u : State) (rs ms : List (List Field)) (w : List ℕ) (p : Status) (qs : List Outcome) →
+    IsContent s.content → p ≢ status.Stopped → (one : Ran Claims stop s rs t w (status_of p)) → Claims t ms qs u →
+    StopsAtFault stop qs → Continued stop s rs ms one.outcomes qs u
+continued stop s t u rs ms w p qs i n one two stops =
+    let on = continues stop p one.outcomes n one.ended in
+    let size = all_whole stop rs one.outcomes on one.all in
+    let run = run_join SoundOutcome s t u rs ms one.outcomes qs size one.each.headline.run two.headline.run in
+    record {
+      going = on;
+      size = size;
+      each = claims_of s (rs ++ ms) (one.outcomes ++ qs) u i run;
+      stops = stops_join stop one.outcomes qs on one.stops stops;
+    }
 
 pub both_ran : (stop : Bool) (old mid new : Registered) (first second : Records) (before now later : Known)
     (p q end : Status) → IsContent old.kept.content → RanOn Claims stop old first before mid now p →
@@ -129,48 +149,22 @@ both_ran stop old mid new (Some rs) (Some ms) before now later p q end base h n 
     let b = k a.0 a.1 in
     let one = a.4 in
     let two = b.4 in
-    let on = continues stop p one.outcomes n one.ended in
-    let size = all_whole stop rs one.outcomes on one.all in
-    let ended : status_of end ≡ output.run_status stop (one.outcomes ++ two.outcomes) =
-    e ∙ ap (λ (x : output.Status). greater x (status_of q)) one.ended
-    ∙ ap (greater (output.run_status stop one.outcomes)) two.ended ∙ status_join stop one.outcomes two.outcomes on in (
+    let on = continued stop s a.0 b.0 rs ms a.2 p two.outcomes (represented old s base represents) n one two.each two.stops in
+    let status = status_join stop one.outcomes two.outcomes on.going in (
       b.0,
       b.1,
       a.2 ++ b.2,
-      Appends-trans before now later _ _ a.3 b.3,
+      Appends-trans before now later a.2 b.2 a.3 b.3,
       record {
         outcomes = one.outcomes ++ two.outcomes;
-        each = claims_of s (rs ++ ms) (one.outcomes ++ two.outcomes) b.0 (represented old s base represents)
-            (run_join SoundOutcome s a.0 b.0 rs ms one.outcomes two.outcomes size one.each.headline.run two.each.headline.run);
-        stops = stops_join stop one.outcomes two.outcomes on one.stops two.stops;
-        all = all_join stop rs ms one.outcomes two.outcomes size two.all;
+        each = on.each;
+        stops = on.stops;
+        all = all_join stop rs ms one.outcomes two.outcomes on.size two.all;
         wrote = (λ i. one.wrote i ++ two.wrote i) ∙ sym (texts_join one.outcomes two.outcomes);
-        ended = ended;
+        ended = e ∙ (λ i. greater (one.ended i) (two.ended i)) ∙ status;
       },
     )
 both_ran stop old mid new first second before now later p q end base h n k e = tt
-
-pub both_faulted_first : (stop : Bool) (old mid : Registered) (first second : Records) (before later : Known)
-    (e : RunFault) → IsContent old.kept.content → FaultedOn Claims stop old first before mid later e
-    → FaultedOn Claims stop old (known_both first second) before mid later e
-both_faulted_first stop old mid (Some rs) (Some ms) before later e base h =
-    λ s represents.
-    let r = h s represents in
-    let cut = r.4 in (
-      r.0,
-      r.1,
-      r.2,
-      r.3,
-      record {
-        outcomes = cut.outcomes;
-        each =
-            claims_of s (rs ++ ms) cut.outcomes r.0 (represented old s base represents)
-            (run_longer SoundOutcome s r.0 rs ms cut.outcomes cut.each.headline.run);
-        stops = cut.stops;
-        wrote = cut.wrote;
-      },
-    )
-both_faulted_first stop old mid first second before later e base h = tt
 
 pub both_faulted_second : (stop : Bool) (old mid new : Registered) (first second : Records) (before now later : Known)
     (p : Status) (e : RunFault) → IsContent old.kept.content → RanOn Claims stop old first before mid now p
@@ -182,20 +176,13 @@ both_faulted_second stop old mid new (Some rs) (Some ms) before now later p e ba
     let b = k a.0 a.1 in
     let one = a.4 in
     let cut = b.4 in
-    let on = continues stop p one.outcomes n one.ended in
-    let size = all_whole stop rs one.outcomes on one.all in (
+    let on = continued stop s a.0 b.0 rs ms a.2 p cut.outcomes (represented old s base represents) n one cut.each cut.stops in
+    let wrote : CutOff stop (one.outcomes ++ cut.outcomes) (a.2 ++ b.2) e =
+    rw one.wrote (cut_join stop one.outcomes cut.outcomes b.2 e on.going cut.wrote) in (
       b.0,
       b.1,
       a.2 ++ b.2,
-      Appends-trans before now later _ _ a.3 b.3,
-      record {
-        outcomes = one.outcomes ++ cut.outcomes;
-        each = claims_of s (rs ++ ms) (one.outcomes ++ cut.outcomes) b.0 (represented old s base represents)
-            (run_join SoundOutcome s a.0 b.0 rs ms one.outcomes cut.outcomes size one.each.headline.run cut.each.headline.run);
-        stops = stops_join stop one.outcomes cut.outcomes on one.stops cut.stops;
-        wrote =
-            subst (λ (x : List ℕ). CutOff stop (one.outcomes ++ cut.outcomes) (x ++ b.2) e) (sym one.wrote)
-            (cut_join stop one.outcomes cut.outcomes b.2 e on cut.wrote);
-      },
+      Appends-trans before now later a.2 b.2 a.3 b.3,
+      record { outcomes = one.outcomes ++ cut.outcomes; each = on.each; stops = on.stops; wrote = wrote },
     )
 both_faulted_second stop old mid new first second before now later p e base h n k = tt

@@ -13,6 +13,7 @@ use Rattle.olr_run.specs.Runs.{AnswersRecord, last_events}
 use Rattle.olr_run.proofs.RunLemmas.{sound_after, claims_of}
 use Rattle.olr_run.proofs.SessionLemmas.{history_join, exchanges_more}
 use Rattle.std.proofs.Math.Bool.{or-true, or-false, and-false}
+use Rattle.std.proofs.lemmas.List.{map-append}
 use Rattle.olr_run.specs.Output as output
 use Rattle.olr_run.specs.declared.ends.Status.TheVariants as ended
 use Rattle.olr_run.specs.declared.ends.RunFault.TheVariants as fault
@@ -39,35 +40,39 @@ pub stops_join : (stop : Bool) (os qs : List Outcome) → (stop && any_refused o
 stops_join stop [] qs n h k = k
 stops_join stop (o ∷ os) qs n h k = grind (arith, or_parts, either, both_ways, stops_join stop os qs)
 
-stops_more : (stop : Bool) (os : List Outcome) (o : Outcome) → (stop && any_refused os) ≡ false → StopsAtFault stop os →
-    StopsAtFault stop (os ++ o ∷ [])
-stops_more stop os o n h = stops_join stop os (o ∷ []) n h (λ _. refl, tt)
-
-is_other : (o : Outcome) (b : Bool) → is_ok o ≡ b → is_err o ≡ not b
-is_other (Ok r) b e = ap not e
-is_other (Err f) b e = ap not e
-
 refused_more : (os : List Outcome) (o : Outcome) (b : Bool) → is_ok o ≡ b →
     any_refused (os ++ o ∷ []) ≡ (any_refused os || not b)
-refused_more os o b e = grind (arith, list_any-append, or-false, is_other)
+refused_more os (Ok r) b e = list_any-append is_err os (Ok r ∷ []) ∙ ap (λ (x : Bool). any_refused os || not x) e
+refused_more os (Err f) b e = list_any-append is_err os (Err f ∷ []) ∙ ap (λ (x : Bool). any_refused os || not x) e
+
+-- the run goes on after these outcomes, and would end with this status
+abbrev pub Going : Bool → Status → List Outcome → Type 0
+Going stop end os = ((stop && any_refused os) ≡ false) × (status_of end ≡ run_status stop os)
+
+accepted_goes : (stop : Bool) (end : Status) (os : List Outcome) (o : Outcome) → is_ok o ≡ true → Going stop end os →
+    Going stop end (os ++ o ∷ [])
+accepted_goes stop end os o is g = rw (refused_more os o true is, or-false (any_refused os)) g
+
+refused_goes : (os : List Outcome) (o : Outcome) → is_ok o ≡ false → Going false ended.SomeRefused (os ++ o ∷ [])
+refused_goes os o is = rw (refused_more os o false is, or-true (any_refused os)) (refl, refl)
 
 -- ---- the records so far
 
-pub record Answered (stop : Bool) (s : State) (records : List (List Field)) (texts : List (List ℕ)) (t : State)
-    (end : Status) : Type 0 where
+pub record Answered (stop : Bool) (And : List Outcome → Type 0) (s : State) (records : List (List Field))
+    (texts : List (List ℕ)) (t : State) : Type 0 where
   pub outcomes : List Outcome
   pub each : SoundOutcomes s records outcomes t
   pub stops : StopsAtFault stop outcomes
   pub all : length outcomes ≡ length records
   pub texts_are : map outcome_text outcomes ≡ texts
-  pub continues : (stop && any_refused outcomes) ≡ false
-  pub ended : status_of end ≡ run_status stop outcomes
+  pub also : And outcomes
 
 -- from each state that the register represented
-abbrev pub AnswersSoFar : Bool → Registered → List (List Field) → List (List ℕ) → Registered → Status → Type 0
-AnswersSoFar stop old records texts now end =
+abbrev pub Answers : Bool → (List Outcome → Type 0) → Registered → List (List Field) → List (List ℕ) → Registered →
+    Type 0
+Answers stop And old records texts now =
     (s : State) → Represents old.kept s → IsContent s.content → (t : State) × Represents now.kept t
-    × Answered stop s records texts t end
+    × Answered stop And s records texts t
 
 pub record SoFar {S : Type 0} (happens : S → Event → S → Type 0) (stop : Bool) (old : Registered) (before : S)
     (now : Registered) (later : S) (end : Status) (n : ℕ) : Type 0 where
@@ -77,28 +82,21 @@ pub record SoFar {S : Type 0} (happens : S → Event → S → Type 0) (stop : B
   pub each : length texts ≡ length records
   pub history : History happens before (exchanges records texts) later
   pub last : last_events end ≡ Ended ∷ []
-  pub answered : AnswersSoFar stop old records texts now end
-
--- ---- one record more
-
-length_more : {A B : Type 0} (xs : List A) (x : A) (ys : List B) (y : B) → length xs ≡ length ys →
-    length (xs ++ x ∷ []) ≡ length (ys ++ y ∷ [])
-length_more xs x ys y l =
-    length-append xs (x ∷ []) ∙ ap (λ (n : ℕ). n + 1) l ∙ sym (length-append ys (y ∷ []))
-
-pub map_more : (os : List Outcome) (o : Outcome) → map outcome_text (os ++ o ∷ []) ≡ map outcome_text os ++ outcome_text
-    o ∷ []
-map_more [] o = refl
-map_more (p ∷ os) o = ap (λ (xs : List (List ℕ)). outcome_text p ∷ xs) (map_more os o)
-
-more_texts : (texts : List (List ℕ)) (text : List ℕ) (os : List Outcome) (o : Outcome) → map outcome_text os ≡ texts →
-    outcome_text o ≡ text → map outcome_text (os ++ o ∷ []) ≡ texts ++ text ∷ []
-more_texts texts text os o e f = map_more os o ∙ (λ i. e i ++ f i ∷ [])
+  pub answered : Answers stop (Going stop end) old records texts now
 
 -- the states that a register represents have its content
 pub represented : (old : Registered) (s : State) → IsContent old.kept.content → Represents old.kept s →
     IsContent s.content
 represented old s sound represents = subst IsContent represents.0 sound
+
+answered_on : (stop : Bool) (And Then : List Outcome → Type 0) (old now : Registered) (records : List (List Field))
+    (texts : List (List ℕ)) → IsContent old.kept.content → Answers stop And old records texts now →
+    ((os : List Outcome) → And os → Then os) → AnsweredOn stop Then old records texts now
+answered_on stop And Then old now records texts base h give s represents =
+    let sound = represented old s base represents in
+    let so = h s represents sound in
+    let claims = claims_of s records so.2.outcomes so.0 sound so.2.each in
+    (so.0, so.1, so.2.outcomes, claims, so.2.texts_are, so.2.stops, give so.2.outcomes so.2.also)
 
 module _ {S : Type 0} (happens : S → Event → S → Type 0) (stop : Bool) (old : Registered) (before : S) where
   -- before the first record
@@ -115,200 +113,136 @@ module _ {S : Type 0} (happens : S → Event → S → Type 0) (stop : Bool) (ol
             λ s represents sound. (
               s,
               represents,
-              record {
-                outcomes = [];
-                each = refl;
-                stops = tt;
-                all = refl;
-                texts_are = refl;
-                continues = and-false stop;
-                ended = refl;
-              },
+              record { outcomes = []; each = refl; stops = tt; all = refl; texts_are = refl; also = (and-false stop, refl) },
             );
       }
 
-  -- the history with the events of one more record
-  history_more : (mid taken later : S) (rs : List (List Field)) (texts : List (List ℕ)) (r : List Field)
-      (text : List ℕ) → length texts ≡ length rs
-      → History happens before (exchanges rs texts) mid → happens mid (Took r) taken → happens taken (Wrote text) later →
-      History happens before (exchanges (rs ++ r ∷ []) (texts ++ text ∷ [])) later
-  history_more mid taken later rs texts r text l h took wrote = grind (arith, exchanges_more, texts, history_join)
-
-  -- one that does not end the run
-  one_more : (now new : Registered) (mid taken later : S) (end next : Status) (fields : List Field) (n : ℕ) (b : Bool) →
-      SoFar happens stop old before now mid end n → happens mid (Took fields) taken
-      → AnswersRecord happens now fields new taken later (Ok b) → last_events next ≡ Ended ∷ []
-      → ((os qs : List Outcome) → any_refused qs ≡ (any_refused os || not b) → (stop && any_refused os) ≡ false →
-      status_of end ≡ run_status stop os → ((stop && any_refused qs) ≡ false) × (status_of next ≡ run_status stop qs))
-      → SoFar happens stop old before new later next (n + 1)
-  one_more now new mid taken later end next fields n b a took reported last goes =
-      record {
-        records = a.records ++ fields ∷ [];
-        texts = a.texts ++ reported.text ∷ [];
-        count = length-append a.records (fields ∷ []) ∙ ap (λ (k : ℕ). k + 1) a.count;
-        each = length_more a.texts reported.text a.records fields a.each;
-        history = history_more mid taken later a.records a.texts fields reported.text a.each a.history took
-            reported.writes.0;
-        last = last;
-        answered = λ s represents sound.
-            let so = a.answered s represents sound in
-            let t = reported.outcome so.0 so.1 (sound_after s so.0 a.records so.2.outcomes sound so.2.each) in
-            let os = so.2.outcomes ++ t.1 ∷ [] in
-            let on =
-            goes so.2.outcomes os (refused_more so.2.outcomes t.1 b (t.5 ∙ sym reported.writes.1)) so.2.continues
-            so.2.ended in (
-              t.0,
-              t.2,
-              record {
-                outcomes = os;
-                each = run_more SoundOutcome s so.0 t.0 a.records fields so.2.outcomes t.1 so.2.all so.2.each t.3;
-                stops = stops_more stop so.2.outcomes t.1 so.2.continues so.2.stops;
-                all = length_more so.2.outcomes t.1 a.records fields so.2.all;
-                texts_are = more_texts a.texts reported.text so.2.outcomes t.1 so.2.texts_are t.4;
-                continues = on.0;
-                ended = on.1;
-              },
-            );
-      }
-
-  pub accepted_so_far : (now new : Registered) (mid taken later : S) (end : Status) (fields : List Field) (n : ℕ)
-      (b : Bool) → b ≡ true → SoFar happens stop old before now mid end n → happens mid (Took fields) taken →
-      AnswersRecord happens now fields new taken later (Ok b) → SoFar happens stop old before new later end (n + 1)
-  accepted_so_far now new mid taken later end fields n b e a took reported =
-      one_more now new mid taken later end end fields n b a took reported a.last
-      (λ os qs more going is.
-      let same : any_refused os ≡ any_refused qs =
-      sym (more ∙ ap (λ (x : Bool). any_refused os || not x) e ∙ or-false (any_refused os)) in
-      (ap (λ (x : Bool). stop && x) (sym same) ∙ going, is ∙ ap (status_by stop) same))
-
-  pub refused_so_far : (now new : Registered) (mid taken later : S) (end : Status) (fields : List Field) (n : ℕ)
-      (b : Bool) → b ≡ false → stop ≡ false → SoFar happens stop old before now mid end n →
-      happens mid (Took fields) taken → AnswersRecord happens now fields new taken later (Ok b)
-      → SoFar happens stop old before new later ended.SomeRefused (n + 1)
-  refused_so_far now new mid taken later end fields n b e going a took reported =
-      one_more now new mid taken later end ended.SomeRefused fields n b a took reported refl
-      (λ os qs more _ _.
-      let some : any_refused qs ≡ true =
-      more ∙ ap (λ (x : Bool). any_refused os || not x) e ∙ or-true (any_refused os) in
-      (ap (λ (x : Bool). x && any_refused qs) going, λ i. status_by (sym going i) (sym some i)))
-
-  -- ---- ends
-
-  module _ (base : IsContent old.kept.content) where
-    answered_on : (And : List Outcome → Type 0) (now : Registered) (records : List (List Field))
-        (texts : List (List ℕ)) (end : Status) → AnswersSoFar stop old records texts now end
-        → ((os : List Outcome) → (stop && any_refused os) ≡ false → status_of end ≡ run_status stop os → And os)
-        → AnsweredOn stop And old records texts now
-    answered_on And now records texts end h give s represents =
-        let sound = represented old s base represents in
-        let so = h s represents sound in (
-          so.0,
-          so.1,
-          so.2.outcomes,
-          claims_of s records so.2.outcomes so.0 sound so.2.each,
-          so.2.texts_are,
-          so.2.stops,
-          give so.2.outcomes so.2.continues so.2.ended,
-        )
-
-    -- with one record more, whose answer may not be written completely
-    one_more_on : (And : List Outcome → Type 0) (now new : Registered) (records : List (List Field))
-        (texts : List (List ℕ)) (end : Status) (fields : List Field) (taken later : S) (r : Result Bool RunFault)
-        → AnswersSoFar stop old records texts now end → (reported : AnswersRecord happens now fields new taken later r)
-        → ((os : List Outcome) (o : Outcome) → is_ok o ≡ reported.accepts → And (os ++ o ∷ []))
-        → AnsweredOn stop And old (records ++ fields ∷ []) (texts ++ reported.text ∷ []) new
-    one_more_on And now new records texts end fields taken later r h reported give s represents =
-        let sound = represented old s base represents in
-        let so = h s represents sound in
-        let t = reported.outcome so.0 so.1 (sound_after s so.0 records so.2.outcomes sound so.2.each) in
-        let os = so.2.outcomes ++ t.1 ∷ [] in (
-          t.0,
-          t.2,
-          os,
-          claims_of s (records ++ fields ∷ []) os t.0 sound
-              (run_more SoundOutcome s so.0 t.0 records fields so.2.outcomes t.1 so.2.all so.2.each t.3),
-          more_texts texts reported.text so.2.outcomes t.1 so.2.texts_are t.4,
-          stops_more stop so.2.outcomes t.1 so.2.continues so.2.stops,
-          give so.2.outcomes t.1 t.5,
-        )
+  module _ (now : Registered) (mid : S) (end : Status) (n : ℕ) (a : SoFar happens stop old before now mid end n) where
+    -- the history up to here, and these events
+    and_then : (later : S) (es : List Event) → History happens mid es later →
+        History happens before (exchanges a.records a.texts ++ es) later
+    and_then later es h = history_join happens before mid later (exchanges a.records a.texts) es a.history h
 
     -- there is no further record
-    pub ran_whole : (now : Registered) (mid later : S) (end : Status) (n : ℕ) →
-        SoFar happens stop old before now mid end n → happens mid Ended later → RanIn happens stop old before now later end
-    ran_whole now mid later end n a none =
+    pub ran_whole : (later : S) → IsContent old.kept.content → happens mid Ended later →
+        RanIn happens stop old before now later end
+    ran_whole later base none =
         record {
           records = a.records;
           texts = a.texts;
           each = a.each;
-          history =
-              subst (λ (es : List Event). History happens before (exchanges a.records a.texts ++ es) later) (sym a.last)
-              (history_join happens before mid later (exchanges a.records a.texts) (Ended ∷ []) a.history
-              (later, none, refl));
-          answered = answered_on _ now a.records a.texts end a.answered (λ os going ends. ends);
-        }
-
-    -- the first rejected record stops the run
-    pub ran_stopped : (now new : Registered) (mid taken later : S) (end : Status) (fields : List Field) (n : ℕ)
-        (b : Bool) → b ≡ false → stop ≡ true → SoFar happens stop old before now mid end n →
-        happens mid (Took fields) taken → AnswersRecord happens now fields new taken later (Ok b)
-        → RanIn happens stop old before new later ended.Stopped
-    ran_stopped now new mid taken later end fields n b e stops a took reported =
-        record {
-          records = a.records ++ fields ∷ [];
-          texts = a.texts ++ reported.text ∷ [];
-          each = length_more a.texts reported.text a.records fields a.each;
-          history =
-              subst (λ (es : List Event). History happens before es later)
-              (sym (append-nil (exchanges (a.records ++ fields ∷ []) (a.texts ++ reported.text ∷ []))))
-              (history_more mid taken later a.records a.texts fields reported.text a.each a.history took
-              reported.writes.0);
-          answered =
-              one_more_on _ now new a.records a.texts end fields taken later (Ok b) a.answered reported
-              (λ os o is.
-              let some : any_refused (os ++ o ∷ []) ≡ true =
-              refused_more os o false (is ∙ sym reported.writes.1 ∙ e) ∙ or-true (any_refused os) in
-              λ i. status_by (sym stops i) (sym some i));
+          history = rw a.last (and_then later (Ended ∷ []) (later, none, refl));
+          answered = answered_on stop _ _ old now a.records a.texts base a.answered (λ os g. g.1);
         }
 
     -- no further record can be taken
-    pub cut_in_taking : (now : Registered) (mid later : S) (end : Status) (n : ℕ) (e : RunFault) →
-        SoFar happens stop old before now mid end n → happens mid (Not_taken e) later × IsOfTaking e
+    pub cut_in_taking : (later : S) (e : RunFault) → IsContent old.kept.content →
+        happens mid (Not_taken e) later × IsOfTaking e
         → CutIn happens stop old before now later e
-    cut_in_taking now mid later end n e a none =
-        In_taking none.1 a.records a.texts a.each
-        (history_join happens before mid later (exchanges a.records a.texts) (Not_taken e ∷ []) a.history
-        (later, none.0, refl))
-        (answered_on _ now a.records a.texts end a.answered (λ os going ends. going))
+    cut_in_taking later e base none =
+        In_taking none.1 a.records a.texts a.each (and_then later (Not_taken e ∷ []) (later, none.0, refl))
+        (answered_on stop _ _ old now a.records a.texts base a.answered (λ os g. g.0))
 
     -- one record more than the greatest number
-    pub cut_past : (now : Registered) (mid later : S) (end : Status) (n : ℕ) (fields : List Field) →
-        SoFar happens stop old before now mid end n → n ≡ most_records → happens mid (Took fields) later
+    pub cut_past : (later : S) (fields : List Field) → IsContent old.kept.content → n ≡ most_records →
+        happens mid (Took fields) later
         → CutIn happens stop old before now later fault.TooMany
-    cut_past now mid later end n fields a most took =
+    cut_past later fields base most took =
         Past_the_most refl a.records a.texts a.each (a.count ∙ most) fields
-        (history_join happens before mid later (exchanges a.records a.texts) (Took fields ∷ []) a.history
-        (later, took, refl))
-        (answered_on _ now a.records a.texts end a.answered (λ os going ends. going))
+        (and_then later (Took fields ∷ []) (later, took, refl))
+        (answered_on stop _ _ old now a.records a.texts base a.answered (λ os g. g.0))
 
-    -- the text of an answer was not made, or not written completely
-    pub cut_in_answer : (now new : Registered) (mid taken later : S) (end : Status) (n : ℕ) (fields : List Field)
-        (e : RunFault) → SoFar happens stop old before now mid end n → happens mid (Took fields) taken
-        → AnswersRecord happens now fields new taken later (Err e) → CutIn happens stop old before new later e
-    cut_in_answer now new mid taken later end n fields e a took reported =
-        let more =
-        one_more_on (λ os. ⊤) now new a.records a.texts end fields taken later (Err e) a.answered reported (λ os o is. tt) in
-        elim reported.writes [
-          | inl none ↦
-              No_text none.0 a.records a.texts a.each fields reported.text
-              (history_join happens before mid later (exchanges a.records a.texts) (Took fields ∷ []) a.history
-              (taken, took, sym none.1)) more
-          | inr cut ↦
-              In_text cut.5 a.records a.texts a.each fields cut.0 cut.1 cut.3
-              (history_join happens before mid later (exchanges a.records a.texts) (Took fields ∷ Cut cut.0 ∷ []) a.history
-              (taken, took, (later, cut.4, refl)))
-              (subst (λ (text : List ℕ). AnsweredOn stop (λ os. ⊤) old (a.records ++ fields ∷ []) (a.texts ++ text ∷ []) new)
-              cut.2 more)
-        ]
+    -- ---- one record more
+
+    module _ (new : Registered) (taken later : S) (fields : List Field) (took : happens mid (Took fields) taken) where
+      answers_more : (And : List Outcome → Type 0) (r : Result Bool RunFault)
+          (reported : AnswersRecord happens now fields new taken later r)
+          → ((os : List Outcome) (o : Outcome) → is_ok o ≡ reported.accepts → Going stop end os → And (os ++ o ∷ []))
+          → Answers stop And old (a.records ++ fields ∷ []) (a.texts ++ reported.text ∷ []) new
+      answers_more And r reported give s represents sound =
+          let so = a.answered s represents sound in
+          let one = so.2 in
+          let t = reported.outcome so.0 so.1 (sound_after s so.0 a.records one.outcomes sound one.each) in (
+            t.0,
+            t.2,
+            record {
+              outcomes = one.outcomes ++ t.1 ∷ [];
+              each = run_more SoundOutcome s so.0 t.0 a.records fields one.outcomes t.1 one.all one.each t.3;
+              stops = stops_join stop one.outcomes (t.1 ∷ []) one.also.0 one.stops (λ _. refl, tt);
+              all = grind (arith, length-append);
+              texts_are = map-append outcome_text one.outcomes (t.1 ∷ []) ∙ (λ i. one.texts_are i ++ t.4 i ∷ []);
+              also = give one.outcomes t.1 t.5 one.also;
+            },
+          )
+
+      -- the history with its events
+      history_more : (text : List ℕ) → happens taken (Wrote text) later →
+          History happens before (exchanges (a.records ++ fields ∷ []) (a.texts ++ text ∷ [])) later
+      history_more text wrote =
+          rw (exchanges_more a.records a.texts fields text a.each)
+          (and_then later (Took fields ∷ Wrote text ∷ []) (taken, took, (later, wrote, refl)))
+
+      -- one that does not end the run
+      one_more : (next : Status) (b : Bool) → AnswersRecord happens now fields new taken later (Ok b) →
+          last_events next ≡ Ended ∷ []
+          → ((os : List Outcome) (o : Outcome) → is_ok o ≡ b → Going stop end os → Going stop next (os ++ o ∷ []))
+          → SoFar happens stop old before new later next (n + 1)
+      one_more next b reported last goes =
+          record {
+            records = a.records ++ fields ∷ [];
+            texts = a.texts ++ reported.text ∷ [];
+            count = grind (arith, length-append);
+            each = grind (arith, length-append);
+            history = history_more reported.text reported.writes.0;
+            last = last;
+            answered = answers_more _ (Ok b) reported (λ os o is. goes os o (is ∙ sym reported.writes.1));
+          }
+
+      pub accepted_so_far : (b : Bool) → b ≡ true → AnswersRecord happens now fields new taken later (Ok b) →
+          SoFar happens stop old before new later end (n + 1)
+      accepted_so_far b e reported =
+          one_more end b reported a.last (λ os o is. accepted_goes stop end os o (is ∙ e))
+
+      pub refused_so_far : (b : Bool) → b ≡ false → stop ≡ false → AnswersRecord happens now fields new taken later (Ok b)
+          → SoFar happens stop old before new later ended.SomeRefused (n + 1)
+      refused_so_far b e going reported =
+          one_more ended.SomeRefused b reported refl (λ os o is g. rw going (refused_goes os o (is ∙ e)))
+
+      -- the first rejected record stops the run
+      pub ran_stopped : (b : Bool) → IsContent old.kept.content → b ≡ false → stop ≡ true →
+          AnswersRecord happens now fields new taken later (Ok b)
+          → RanIn happens stop old before new later ended.Stopped
+      ran_stopped b base e stops reported =
+          record {
+            records = a.records ++ fields ∷ [];
+            texts = a.texts ++ reported.text ∷ [];
+            each = grind (arith, length-append);
+            history =
+                rw (append-nil (exchanges (a.records ++ fields ∷ []) (a.texts ++ reported.text ∷ [])))
+                (history_more reported.text reported.writes.0);
+            answered = answered_on stop _ _ old new _ _ base
+                (answers_more (λ os. any_refused os ≡ true) (Ok b) reported (λ os o is g.
+                refused_more os o false (is ∙ sym reported.writes.1 ∙ e) ∙ or-true (any_refused os)))
+                (λ os some. rw (some, stops) refl);
+          }
+
+      -- the text of an answer was not made, or not written completely
+      pub cut_in_answer : (e : RunFault) → IsContent old.kept.content →
+          AnswersRecord happens now fields new taken later (Err e) → CutIn happens stop old before new later e
+      cut_in_answer e base reported =
+          let more =
+          answered_on stop (λ os. ⊤) (λ os. ⊤) old new _ _ base
+          (answers_more (λ os. ⊤) (Err e) reported (λ os o is g. tt)) (λ os h. h) in
+          elim reported.writes [
+            | inl none ↦
+                No_text none.0 a.records a.texts a.each fields reported.text
+                (and_then later (Took fields ∷ []) (taken, took, sym none.1)) more
+            | inr cut ↦
+                In_text cut.5 a.records a.texts a.each fields cut.0 cut.1 cut.3
+                (and_then later (Took fields ∷ Cut cut.0 ∷ []) (taken, took, (later, cut.4, refl)))
+                (subst (λ (text : List ℕ).
+                AnsweredOn stop (λ os. ⊤) old (a.records ++ fields ∷ []) (a.texts ++ text ∷ []) new) cut.2 more)
+          ]
 
 -- a fault that `?` passes on
 pub passed_on : {T : Type 0} (r : Result T RunFault) (e : RunFault) (P : RunFault → Type 0) → IsErrAnd r (λ x. x ≡ e) →

@@ -9,32 +9,32 @@ records-init g c = (omega arith, so_far_none g.S.Session.happens _ _ _)
 
 pub returns-clause-ran : goal.returns-clause-ran
 returns-clause-ran g c =
-    ran_whole g.S.Session.happens _ _ _ c.is_sound.ensures _ _ _ _ _ c.records.invariant.1
+    ran_whole g.S.Session.happens _ _ _ _ _ _ _ c.records.invariant.1 _ c.is_sound.ensures
     (rw c.if-branch.false at c.in_ok-take.ensures)
 
 pub returns-in_err-take-clause-cut : goal.returns-in_err-take-clause-cut
 returns-in_err-take-clause-cut g c =
     passed_on c.from_residual.result c.in_err-take.field-0.0 _ c.from_residual.ensures.1
-    (cut_in_taking g.S.Session.happens _ _ _ c.is_sound.ensures _ _ _ _ _ _ c.records.invariant.1
+    (cut_in_taking g.S.Session.happens _ _ _ _ _ _ _ c.records.invariant.1 _ _ c.is_sound.ensures
     c.in_err-take.ensures)
 
 pub returns-then-answered-eq-MOST_RECORDS-clause-cut : goal.returns-then-answered-eq-MOST_RECORDS-clause-cut
 returns-then-answered-eq-MOST_RECORDS-clause-cut g c =
-    cut_past g.S.Session.happens _ _ _ c.is_sound.ensures _ _ _ _ _ (fields_of c.take.new.fields)
-    c.records.invariant.1 c.if-answered-eq-MOST_RECORDS.true (rw c.if-branch.true at c.in_ok-take.ensures)
+    cut_past g.S.Session.happens _ _ _ _ _ _ _ c.records.invariant.1 _ (fields_of c.take.new.fields)
+    c.is_sound.ensures c.if-answered-eq-MOST_RECORDS.true (rw c.if-branch.true at c.in_ok-take.ensures)
 
 pub returns-in_err-write_outcome-clause-cut : goal.returns-in_err-write_outcome-clause-cut
 returns-in_err-write_outcome-clause-cut g c =
     passed_on c.from_residual-in_err-write_outcome.result c.in_err-write_outcome.field-0.0 _
     c.from_residual-in_err-write_outcome.ensures.1
-    (cut_in_answer g.S.Session.happens _ _ _ c.is_sound.ensures _ _ _ _ _ _ _ (fields_of c.take.new.fields) _
-    c.records.invariant.1 (rw c.if-branch.true at c.in_ok-take.ensures) c.in_err-write_outcome.ensures)
+    (cut_in_answer g.S.Session.happens _ _ _ _ _ _ _ c.records.invariant.1 _ _ _ (fields_of c.take.new.fields)
+    (rw c.if-branch.true at c.in_ok-take.ensures) _ c.is_sound.ensures c.in_err-write_outcome.ensures)
 
 pub returns-then-stop-clause-ran : goal.returns-then-stop-clause-ran
 returns-then-stop-clause-ran g c =
-    ran_stopped g.S.Session.happens _ _ _ c.is_sound.ensures _ _ _ _ _ _ (fields_of c.take.new.fields) _
-    c.in_ok-write_outcome.field-0 c.if-not-branch.true c.if-stop.true c.records.invariant.1
-    (rw c.if-branch.true at c.in_ok-take.ensures) c.in_ok-write_outcome.ensures
+    ran_stopped g.S.Session.happens _ _ _ _ _ _ _ c.records.invariant.1 _ _ _ (fields_of c.take.new.fields)
+    (rw c.if-branch.true at c.in_ok-take.ensures) c.in_ok-write_outcome.field-0 c.is_sound.ensures
+    c.if-not-branch.true c.if-stop.true c.in_ok-write_outcome.ensures
 
 pub records-preserved-then-not-branch : goal.records-preserved-then-not-branch
 records-preserved-then-not-branch g c = grind (arith, refused_so_far)
