@@ -1,7 +1,7 @@
 -- The outcome of a record, from what was read of it.
-use Rattle.olr_run.proofs.Common.{◌≡◌, ℕ, List, Result, Ok, Err, inl, inr, refl, sym, ap, ◌∙◌, subst, State, IsContent}
-use Rattle.olr_run.proofs.Common.{Outcome, Field, Read, read, Syntax, Range, Reply, outcome_text, CommandOutcome}
-use Rattle.olr_run.proofs.Common.{RecordOutcome, answer_text, Represents, Registered, is_ok, Bor}
+use Rattle.olr_run.proofs.Common.{◌≡◌, ℕ, List, Result, Ok, Err, inl, inr, refl, sym, ap, ◌∙◌, State, IsContent}
+use Rattle.olr_run.proofs.Common.{Outcome, Field, read, Syntax, Range, Reply, outcome_text, RecordOutcome, answer_text}
+use Rattle.olr_run.proofs.Common.{Represents, Registered, is_ok, Bor, arith}
 use Rattle.olr_commands.specs.Reply.{IsOutcome}
 use Rattle.olr_commands.specs.Words.{command_of}
 use Rattle.olr_commands.specs.declared.command.Command.{Command}
@@ -10,7 +10,6 @@ use Rattle.olr_records.specs.declared.faults.ReadFault.{ReadFault}
 use Rattle.olr_records.specs.declared.faults.ReadFault.TheVariants.{Memory}
 use Rattle.olr_records.specs.ReplyText.{fault_text}
 use Rattle.olr_run.specs.Runs.{CarriedOut, IsAnswer}
-use Rattle.olr_commands.specs.State as state
 
 -- a record that decodes to a command
 pub carried : (old : Registered) (fields : List Field) (new : Registered) (r : Result Reply (Bor (List ℕ))) (c : Command)
@@ -18,24 +17,13 @@ pub carried : (old : Registered) (fields : List Field) (new : Registered) (r : R
     → ((s : State) → Represents old.kept s → (t : State) × Represents new.kept t × IsOutcome s (command_of c) o t)
     → IsContent new.kept.content → IsAnswer r o → CarriedOut old fields new r
 carried old fields new r c o e outcome sound is s represents _ =
-    let h = outcome s represents in (
-      h.0,
-      o,
-      h.1,
-      (
-        inl (subst (λ (r : Read state.Command). CommandOutcome s r o h.0) (sym e) h.2),
-        subst IsContent h.1.0 sound,
-      ),
-      is,
-    )
+    let h = outcome s represents in (h.0, o, h.1, (inl (rw e h.2), rw (← h.1.0) sound), is)
 
 -- a record with a fault of its own
 unread : (s : State) (fields : List Field) (f : ReadFault) → IsRead (read fields) (Err f) →
     RecordOutcome s fields (Err (read_fault_of f)) s
-unread s fields Syntax e =
-    inl (subst (λ (r : Read state.Command). CommandOutcome s r (Err state.Syntax) s) (sym e) (refl, refl))
-unread s fields Range e =
-    inl (subst (λ (r : Read state.Command). CommandOutcome s r (Err state.Range) s) (sym e) (refl, refl))
+unread s fields Syntax e = grind arith
+unread s fields Range e = grind arith
 unread s fields Memory e = inr (e, (refl, refl))
 
 pub not_read : (old : Registered) (fields : List Field) (f : ReadFault) (line : Bor (List ℕ)) →

@@ -2,8 +2,8 @@
 use Rattle.olr_run.proofs.Common.{◌≡◌, ◌≤◌, ◌<◌, ◌+◌, ◌-◌, ◌++◌, ℕ, List, [], ◌∷◌, Some, None, true, false, refl}
 use Rattle.olr_run.proofs.Common.{length, take, drop, sym, ap, ◌∙◌, arith, length-drop, if◌then◌else◌, step}
 use Rattle.olr_run.proofs.Common.{ends_at_end, is_end, fields_after, field_after, default_config, StartRecord}
-use Rattle.olr_run.proofs.Common.{csv_state, Action}
-use Rattle.std.proofs.Common.{get_or, append_assoc, append-nil, get_or-drop, drop-cons, add-one}
+use Rattle.olr_run.proofs.Common.{csv_state, Action, append_assoc, append-nil}
+use Rattle.std.proofs.Common.{get_or, get_or-drop, drop-cons, add-one}
 use Rattle.std.proofs.lemmas.List.{take_more}
 use Rattle.std.proofs.Math.Seq.{drop-length, take-length}
 use Rattle.std.proofs.Math.ListN.{drop_of_length-le}
@@ -12,8 +12,8 @@ use Rattle.csv.specs.Reading.{is_bom, strip_bom}
 use Rattle.csv.specs.declared.parser.State.{State}
 use Rattle.olr_run.specs.InMemory.{csv_action, csv_step}
 use Rattle.csv.specs.declared.parser.Action.{Action as CsvAction}
-use Rattle.csv.specs.declared.parser.Action.TheVariants as act
 use Rattle.olr_run.specs.declared.in_memory.State.{State as Here}
+use Rattle.csv.specs.declared.parser.Action.TheVariants as act
 
 -- the effect of a byte, by the state and the action after it
 pub did : (r : Here × Action) (a : Action) (x : State × CsvAction) → csv_step r ≡ x → r.1 ≡ a →
@@ -35,16 +35,10 @@ at text i low = drop-cons text i 0 low ∙ ap (λ (k : ℕ). get_or text i 0 ∷
 longer : (text : List ℕ) (start i : ℕ) → start ≤ i → i < length text →
     take (i + 1 - start) (drop start text) ≡ take (i - start) (drop start text) ++ get_or text i 0 ∷ []
 longer text start i from low =
-    let one : i + 1 - start ≡ (i - start) + 1 = omega arith in
-    let there : start + (i - start) ≡ i = omega arith in
-    let within : i - start < length (drop start text) = omega (arith, length-drop start text) in
-    ap (λ (n : ℕ). take n (drop start text)) one ∙ take_more (drop start text) (i - start) 0 within
-    ∙ ap (λ (b : ℕ). take (i - start) (drop start text) ++ b ∷ [])
-    (get_or-drop start text (i - start) 0 ∙ ap (λ (k : ℕ). get_or text k 0) there)
+    grind (arith, length-drop, take_more (drop start text) (i - start) 0, get_or-drop start text (i - start) 0)
 
 empty : (text : List ℕ) (i : ℕ) → take (i + 1 - (i + 1)) (drop (i + 1) text) ≡ []
-empty text i =
-    let zero : i + 1 - (i + 1) ≡ 0 = omega arith in ap (λ (n : ℕ). take n (drop (i + 1) text)) zero
+empty text i = grind arith
 
 -- the loop over bytes at an index, after which the field has its earlier bytes and those from `start` on
 pub copied : (s t : State) (f : List (List ℕ)) (field text : List ℕ) (start i : ℕ) → start ≤ i → i < length text →
@@ -53,41 +47,33 @@ pub copied : (s t : State) (f : List (List ℕ)) (field text : List ℕ) (start 
     ≡ next_record default_config t f (field ++ take (i + 1 - start) (drop start text)) (drop (i + 1) text)
 copied s t f field text start i from low e =
     let part = take (i - start) (drop start text) in
-    let bytes : (field ++ part) ++ get_or text i 0 ∷ [] ≡ field ++ take (i + 1 - start) (drop start text) =
-    append_assoc field part (get_or text i 0 ∷ [])
-    ∙ ap (λ (xs : List ℕ). field ++ xs) (sym (longer text start i from low)) in
-    ap (λ (xs : List ℕ). next_record default_config s f (field ++ part) xs) (at text i low)
-    ∙ of_byte s t act.Copy f (field ++ part) (drop (i + 1) text) (get_or text i 0) e
-    ∙ ap (λ (xs : List ℕ). next_record default_config t f xs (drop (i + 1) text)) bytes
+    rw (
+      at text i low,
+      of_byte s t act.Copy f (field ++ part) (drop (i + 1) text) (get_or text i 0) e,
+      longer text start i from low,
+    ) (simp append_assoc refl)
 
 pub skipped : (s t : State) (f : List (List ℕ)) (field p text : List ℕ) (i : ℕ) → i < length text → field ≡ p →
     step default_config s (get_or text i 0) ≡ (t, act.Skip) →
     next_record default_config s f p (drop i text)
     ≡ next_record default_config t f (field ++ take (i + 1 - (i + 1)) (drop (i + 1) text)) (drop (i + 1) text)
 skipped s t f field p text i low same e =
-    ap (λ (xs : List ℕ). next_record default_config s f p xs) (at text i low)
-    ∙ of_byte s t act.Skip f p (drop (i + 1) text) (get_or text i 0) e
-    ∙ ap (λ (xs : List ℕ). next_record default_config t f xs (drop (i + 1) text))
-    (sym same ∙ sym (append-nil field) ∙ ap (λ (xs : List ℕ). field ++ xs) (sym (empty text i)))
+    let byte = of_byte s t act.Skip f p (drop (i + 1) text) (get_or text i 0) e in
+    rw (at text i low, byte, empty text i, append-nil field, same) refl
 
 pub field_ended : (s t : State) (f g : List (List ℕ)) (field p text : List ℕ) (i : ℕ) → i < length text → field ≡ [] →
     g ≡ f ++ p ∷ [] → step default_config s (get_or text i 0) ≡ (t, act.EndField) →
     next_record default_config s f p (drop i text)
     ≡ next_record default_config t g (field ++ take (i + 1 - (i + 1)) (drop (i + 1) text)) (drop (i + 1) text)
 field_ended s t f g field p text i low none more e =
-    ap (λ (xs : List ℕ). next_record default_config s f p xs) (at text i low)
-    ∙ of_byte s t act.EndField f p (drop (i + 1) text) (get_or text i 0) e
-    ∙ ap (λ (fs : List (List ℕ)). next_record default_config t fs [] (drop (i + 1) text)) (sym more)
-    ∙ ap (λ (xs : List ℕ). next_record default_config t g xs (drop (i + 1) text))
-    (sym (ap (λ (xs : List ℕ). field ++ xs) (empty text i) ∙ append-nil field ∙ none))
+    let byte = of_byte s t act.EndField f p (drop (i + 1) text) (get_or text i 0) e in
+    rw (at text i low, byte, empty text i, append-nil field, none, more) refl
 
 pub record_ended : (s t : State) (f g : List (List ℕ)) (p text : List ℕ) (i : ℕ) → i < length text →
     g ≡ f ++ p ∷ [] → step default_config s (get_or text i 0) ≡ (t, act.EndRecord) →
     next_record default_config s f p (drop i text) ≡ Some (g, t, drop (i + 1) text)
 record_ended s t f g p text i low more e =
-    ap (λ (xs : List ℕ). next_record default_config s f p xs) (at text i low)
-    ∙ of_byte s t act.EndRecord f p (drop (i + 1) text) (get_or text i 0) e
-    ∙ ap (λ (fs : List (List ℕ)). Some (fs, t, drop (i + 1) text)) (sym more)
+    rw (at text i low, of_byte s t act.EndRecord f p (drop (i + 1) text) (get_or text i 0) e, more) refl
 
 -- the end of the text
 pub text_ended : (s : State) (f g : List (List ℕ)) (p text : List ℕ) (i : ℕ) → length text ≤ i → g ≡ f ++ p ∷ [] →

@@ -1,12 +1,11 @@
 -- Dumps in runs of records.
 use Rattle.olr_run.proofs.Common.{inl, inr, ◌≡◌, ◌≢◌, ℕ, Bool, true, false, List, [], ◌∷◌, ◌++◌, map, length, None}
-use Rattle.olr_run.proofs.Common.{Result, Ok, Err, IsTrue, refl, sym, ap, ◌∙◌, subst, arith, ◌||◌, IsFalse, is_err}
-use Rattle.olr_run.proofs.Common.{both_ways, or_parts, length-map, Content, IsContent, Fault, Memory, Not_a_record}
-use Rattle.olr_run.proofs.Common.{Change, Command, Make, Dump, State, is_recordable, start_state, Outcome, IsRefusal}
-use Rattle.olr_run.proofs.Common.{ByState, Lacks, lacks_memory, Field, Bad_form, Out_of_range, Read, read, records_of}
-use Rattle.olr_run.proofs.Common.{CommandOutcome, RecordOutcome, SoundOutcomes, Outcomes, AllHadMemory, any_refused}
-use Rattle.olr_run.proofs.Common.{AreAnswered, Ran}
-use Rattle.std.specs.List.{list_any, concat}
+use Rattle.olr_run.proofs.Common.{Result, Ok, Err, IsTrue, refl, sym, ap, ◌∙◌, subst, arith, IsFalse, is_err, both_ways}
+use Rattle.olr_run.proofs.Common.{or_parts, length-map, Content, IsContent, Fault, Memory, Not_a_record, Change}
+use Rattle.olr_run.proofs.Common.{Command, Make, Dump, State, is_recordable, start_state, Outcome, IsRefusal, ByState}
+use Rattle.olr_run.proofs.Common.{Lacks, lacks_memory, Field, Read, read, records_of, CommandOutcome, RecordOutcome}
+use Rattle.olr_run.proofs.Common.{SoundOutcomes, Outcomes, AllHadMemory, any_refused, AreAnswered, Ran}
+use Rattle.std.specs.List.{concat}
 use Rattle.olr_commands.specs.State.{step}
 use Rattle.olr_commands.specs.RecordText.{fields_line, fields_of_change, record_line}
 use Rattle.olr_commands.specs.Dump.{dump_lines, steps_then, steps}
@@ -26,8 +25,7 @@ use Rattle.olr_run.proofs.Lacking.{IsOwn, step_own}
 all_back : (xs : List Change) → HaveRecords xs →
     map read (map fields_of_change xs) ≡ map (λ c. Ok c) (map (λ x. Make x) xs)
 all_back [] h = refl
-all_back (x ∷ xs) h =
-    let first = record_back x h.0 in let rest = all_back xs h.1 in λ i. first i ∷ rest i
+all_back (x ∷ xs) h = grind (arith, record_back, all_back xs)
 
 all_lines : (xs : List Change) → map record_line xs ≡ map fields_line (map fields_of_change xs)
 all_lines [] = refl
@@ -109,20 +107,14 @@ record_goes s t v fields c o e is had (inr p) =
 all_go : (s u t : State) (cs : List Command) (rs : List (List Field)) (os : List Outcome) →
     map read rs ≡ map (λ c. Ok c) cs → steps s cs ≡ Ok u → AllHadMemory os → Outcomes s rs os t →
     IsFalse (any_refused os) × (length os ≡ length rs → t ≡ u)
-all_go s u t [] [] [] e is had run = (refl, λ l. (let same : s ≡ u = cc in sym run ∙ same))
+all_go s u t [] [] [] e is had run = grind arith
 all_go s u t (c ∷ cs) [] [] e is had run = absurd cc
-all_go s u t cs (r ∷ rs) [] e is had run = (refl, λ l. absurd (omega arith))
+all_go s u t cs (r ∷ rs) [] e is had run = grind arith
 all_go s u t cs [] (o ∷ os) e is had run = absurd run
 all_go s u t [] (r ∷ rs) (o ∷ os) e is had run = absurd cc
 all_go s u t (c ∷ cs) (r ∷ rs) (o ∷ os) e is had run =
-    let first : read r ≡ Ok c = cc in
-    let others : map read rs ≡ map (λ c. Ok c) cs = cc in
     let p = then_ok (step s c) (λ v. steps v cs) u is in
-    let memory = or_parts (lacks_memory o) (list_any lacks_memory os) had in
-    let one = record_goes s run.0 p.0 r c o first p.1 memory.0 run.1 in
-    let rest =
-    all_go p.0 u t cs rs os others p.2 memory.1 (subst (λ (a : State). Outcomes a rs os t) one.1 run.2) in
-    ((λ i. one.0 i || rest.0 i), λ l. rest.1 (omega arith))
+    grind (arith, or_parts, record_goes s run.0 p.0 r c o, all_go run.0 u t cs rs os)
 
 -- a run over all records ends with the state that they lead to
 ended : (stop : Bool) (rs : List (List Field)) (os : List Outcome) → IsFalse (any_refused os) →

@@ -1,17 +1,16 @@
 -- Runs over an input of known bytes, from the history of their session.
-use Rattle.olr_run.proofs.Common.{◌≡◌, ◌≢◌, ◌∙◌, ◌+◌, ℕ, Bool, true, false, List, [], ◌∷◌, ◌++◌, length, map, None}
-use Rattle.olr_run.proofs.Common.{Some, inl, inr, refl, sym, ap, subst, arith, length-append, ◌&&◌, IsFalse, IfErr}
-use Rattle.olr_run.proofs.Common.{append-nil, append_assoc, length-map, Appends, Appends-nil, Appends-trans}
-use Rattle.olr_run.proofs.Common.{default_config, is_flexible, source_of, Reader, Outcome, IsContent, run_longer, Field}
-use Rattle.olr_run.proofs.Common.{outcome_text, Registered, SoundOutcome, Claims, texts, records_of, Known, Event, Took}
-use Rattle.olr_run.proofs.Common.{Ended, Not_taken, Wrote, Cut, History, exchanges, IsPlain, CsvHappens, IsOfTaking}
-use Rattle.olr_run.proofs.Common.{known_records, RanOn, FaultedOn, HasTooMany, RanIn, CutIn, In_taking, Past_the_most}
-use Rattle.olr_run.proofs.Common.{No_text, In_text, AnsweredOn, status_of, Status, RunFault}
+use Rattle.olr_run.proofs.Common.{◌≡◌, ◌≢◌, ◌∙◌, ◌+◌, ℕ, Bool, List, [], ◌∷◌, ◌++◌, length, map, None, Some, inl, inr}
+use Rattle.olr_run.proofs.Common.{refl, sym, ap, subst, arith, length-append, ◌&&◌, IsFalse, IfErr, append-nil}
+use Rattle.olr_run.proofs.Common.{append_assoc, length-map, Appends, Appends-nil, Appends-trans, default_config}
+use Rattle.olr_run.proofs.Common.{source_of, Reader, Outcome, IsContent, run_longer, Field, outcome_text, Registered}
+use Rattle.olr_run.proofs.Common.{SoundOutcome, Claims, texts, records_of, Known, Event, Took, Ended, Not_taken, Wrote}
+use Rattle.olr_run.proofs.Common.{Cut, History, exchanges, IsPlain, CsvHappens, IsOfTaking, known_records, RanOn}
+use Rattle.olr_run.proofs.Common.{FaultedOn, HasTooMany, RanIn, CutIn, In_taking, Past_the_most, No_text, In_text}
+use Rattle.olr_run.proofs.Common.{AnsweredOn, status_of, Status, RunFault}
 use Rattle.std.proofs.Common.{option_map}
 use Rattle.std.specs.Prelude.{IfOk, Result, Ok, Err}
 use Rattle.csv.specs.Machine.{next_record}
-use Rattle.csv.specs.Reading.{Reached, reader_config, reader_trim, reader_state, names_headers, reader_headers}
-use Rattle.csv.specs.Reading.{strip_bom}
+use Rattle.csv.specs.Reading.{Reached, reader_state, strip_bom}
 use Rattle.csv.proofs.ReadFacts.{rows-more, rows-end}
 use Rattle.olr_run.proofs.RecordLemmas.{first_records}
 use Rattle.olr_run.proofs.RunLemmas.{claims_of}
@@ -19,7 +18,6 @@ use Rattle.olr_run.proofs.Running.{represented}
 use Rattle.olr_run.proofs.Joining.{stopped_is}
 use Rattle.std.specs.List.{flat_map}
 use Rattle.std.proofs.lemmas.List.Folds.{flat_map-map}
-use Rattle.csv.specs.declared.reader.Trim.TheVariants as trim
 use Rattle.csv.specs.declared.parser.State.TheVariants as st
 use Rattle.olr_run.specs.Output as output
 use Rattle.olr_run.specs.declared.ends.Status.TheVariants as ended
@@ -61,16 +59,6 @@ pub record Starts {R : Type 0} (remaining : R → Known) (a : Reader R) (known :
   pub plain : IsPlain a
   pub state : reader_state a ≡ st.StartRecord
   pub source : source_of remaining a ≡ option_map strip_bom known
-
-pub starts_with : {R : Type 0} (remaining : R → Known) (r : Reader R) (known : Known) → reader_config r ≡ default_config
-    → reader_trim r ≡ trim.None → is_flexible r ≡ true → names_headers r ≡ false → reader_headers r ≡ None
-    → reader_state r ≡ st.StartRecord → source_of remaining r ≡ option_map strip_bom known → Starts remaining r known
-starts_with remaining r known config trim flexible names headers state source =
-    record {
-      plain = record { config = config; trim = trim; flexible = flexible; ready = inr (inr (names, headers)) };
-      state = state;
-      source = source;
-    }
 
 -- these records of the input were read, and these bytes written
 record Through {R : Type 0} (remaining : R → Known) (before : Known) (input : List ℕ) (rs : List (List Field))

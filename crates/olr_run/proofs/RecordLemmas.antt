@@ -8,7 +8,6 @@ use Rattle.csv.specs.Reading.{records_next, records_from, Reached, strip_bom}
 use Rattle.csv.specs.declared.parser.State.{State}
 use Rattle.csv.specs.declared.parser.Action.{Action}
 use Rattle.csv.specs.declared.parser.State.TheVariants as st
-use Rattle.csv.specs.declared.parser.Action.TheVariants as act
 
 -- after a record, the next has not begun
 Rests : State × Action → Type 0

@@ -4,7 +4,7 @@ use Rattle.olr_run.proofs.Common.{Err, refl, sym, ap, ◌∙◌, subst, arith, �
 use Rattle.olr_run.proofs.Common.{or_parts, IsContent, Fault, Memory, State, Command, Outcome, lacks_memory, Field}
 use Rattle.olr_run.proofs.Common.{Read, read, CommandOutcome, OutOfMemory, RecordOutcome, Outcomes, SoundOutcome}
 use Rattle.olr_run.proofs.Common.{SoundOutcomes, Claims, StopsAtFault, any_refused, AreAnswered, Ran, AllHadMemory}
-use Rattle.std.proofs.Common.{IsFalse}
+use Rattle.olr_run.proofs.Common.{IsFalse}
 use Rattle.std.specs.Prelude.{IfSome}
 use Rattle.std.specs.Result.{result_ok}
 use Rattle.olr_commands.specs.State.{HasCoords, IsState}

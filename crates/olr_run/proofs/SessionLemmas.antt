@@ -1,5 +1,5 @@
 -- Histories of sessions.
-use Rattle.olr_run.proofs.Common.{◌≡◌, ◌∙◌, ℕ, true, false, List, [], ◌∷◌, ◌++◌, length, refl, sym, ap, subst, arith}
+use Rattle.olr_run.proofs.Common.{◌≡◌, ℕ, true, false, List, [], ◌∷◌, ◌++◌, length, refl, sym, ap, subst, arith}
 use Rattle.olr_run.proofs.Common.{is_flexible, Reader, Field, Known, Event, Took, Wrote, History, exchanges}
 use Rattle.csv.specs.Reading.{ExplainsRead, stops_reader}
 use Rattle.csv.specs.declared.error.ErrorKind.{ErrorKind}

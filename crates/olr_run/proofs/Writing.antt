@@ -1,7 +1,6 @@
 -- The bytes that are written so far.
-use Rattle.olr_run.proofs.Common.{◌≡◌, ◌≢◌, ◌∙◌, ◌+◌, ◌-◌, ◌≤◌, ◌<◌, ℕ, List, [], ◌++◌, length, take, drop, None, Some}
-use Rattle.olr_run.proofs.Common.{Err, refl, ap, sym, subst, arith, length-drop, append-nil, Appends, Appends-trans}
-use Rattle.olr_run.proofs.Common.{Known}
+use Rattle.olr_run.proofs.Common.{◌≡◌, ◌∙◌, ◌+◌, ◌-◌, ◌≤◌, ◌<◌, ℕ, List, [], length, take, drop, None, Some, Err, refl}
+use Rattle.olr_run.proofs.Common.{ap, sym, arith, length-drop, append-nil, Appends, Appends-trans, Known}
 use Rattle.std.proofs.lemmas.List.{take-append-drop, take_all}
 use Rattle.std.proofs.Math.Seq.{take-add}
 use Rattle.std.specs.Io.KnownBytes.{Keeps}
@@ -19,19 +18,12 @@ abbrev pub rest_from : List ℕ → ℕ → List ℕ
 rest_from bytes n = take (length bytes - n) (drop n bytes)
 
 rest_is : (bytes : List ℕ) (n : ℕ) → rest_from bytes n ≡ drop n bytes
-rest_is bytes n = take_all (length bytes - n) (drop n bytes) (let size = length-drop n bytes in omega arith)
+rest_is bytes n = grind (arith, take_all, length-drop)
 
 pub written_more : (before now later : Known) (bytes : List ℕ) (n k : ℕ) → Written before now bytes n →
     k ≤ length (rest_from bytes n)
     → Appends now later (take k (rest_from bytes n)) → Written before later bytes (n + k)
-written_more before now later bytes n k w l h =
-    record {
-      within = let size : length (rest_from bytes n) ≡ length bytes - n =
-          ap length (rest_is bytes n) ∙ length-drop n bytes in let within = w.within in omega arith;
-      front =
-          subst (Appends before later) (ap (λ (xs : List ℕ). take n bytes ++ take k xs) (rest_is bytes n)
-          ∙ sym (take-add n k bytes)) (Appends-trans before now later _ _ w.front h);
-    }
+written_more before now later bytes n k w l h = grind (arith, rest_is, length-drop, take-add, Appends-trans)
 
 -- the writer took nothing more, or failed: only the first bytes were written, not all of them
 pub front_of : (before now later : Known) (bytes : List ℕ) (n : ℕ) → Written before now bytes n → n < length bytes →

@@ -1,15 +1,12 @@
-use Rattle.olr_run.proofs.Common.{arith, inl, inr, ◌≡◌, [], ◌∷◌, ◌++◌, Option, not, Ok, Err, refl, ap, ◌∙◌, start_state}
-use Rattle.olr_run.proofs.Common.{On_map, Make, ByState, In_last}
-use Rattle.std.proofs.Common.{is_some}
-use Rattle.std.specs.Ordering.{nat_cmp}
+use Rattle.olr_run.proofs.Common.{arith, inl, inr, ◌≡◌, [], ◌∷◌, ◌++◌, Ok, Err, refl, start_state, On_map, Make}
+use Rattle.olr_run.proofs.Common.{ByState, In_last}
 use Rattle.std.specs.Cmp.{nat_cmp_total}
-use Rattle.std.specs.FinMap.{insert, remove, empty, get-empty, get-insert}
+use Rattle.std.specs.FinMap.{insert, empty, get-empty, get-insert}
 use Rattle.std.specs.Prelude.{codes}
 use Rattle.std.specs.Fmt.{digits}
 use Rattle.csv.proofs.OnLiterals.{csv_on_literals}
-use Rattle.olr_spec.specs.Coordinates.{Coord}
-use Rattle.olr_spec.specs.Map.{empty_map, unless, Node_exists, No_node, Node_in_use, Add_node, Drop_node, in_use}
-use Rattle.olr_commands.specs.State.{Syntax, Range, Map_fault, with_map, at_once, step}
+use Rattle.olr_spec.specs.Map.{Node_exists, No_node, Add_node, Drop_node}
+use Rattle.olr_commands.specs.State.{Syntax, Range, Map_fault, step}
 use Rattle.olr_commands.specs.Reply.{Paths}
 use Rattle.olr_records.specs.Rows.{zero}
 use Rattle.olr_run.specs.Rows.{state20}
