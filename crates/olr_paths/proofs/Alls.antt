@@ -1,7 +1,7 @@
 -- What is true of each element, as far as a loop has run.
 use Rattle.olr_paths.proofs.Common.{◌≡◌, ℕ, ◌+◌, ◌<◌, List, ◌∷◌, take, drop, length, get_or, slice_get, Some, All, sym}
 use Rattle.olr_paths.proofs.Common.{ap, ◌∙◌, subst, take_more, drop_more, slice_get_within, get_or_from_slice_get}
-use Rattle.std.proofs.lemmas.List.Elements.{All-push}
+use Rattle.olr_paths.proofs.Common.{All-push}
 
 -- of the first k, and of one more
 pub all_more : {X : Type 0} (P : X → Type 0) (xs : List X) (k : ℕ) (d : X) → k < length xs → All P (take k xs) →

@@ -1,8 +1,7 @@
 -- What is searched for each path of a list is searched for the path at a position.
 use Rattle.olr_paths.proofs.Common.{◌≡◌, ℕ, List, slice_get, Contains, Some, true, false, min, CoverageQuery, Map}
 use Rattle.olr_paths.proofs.Common.{limit, AreLengths, Against, Made, Item, nodes_of, sources, IsExactAt, AreAsked}
-use Rattle.olr_paths.proofs.Common.{Begins, ChangeSet, Searches}
-use Rattle.olr_paths.specs.Origins.{AreFar}
+use Rattle.olr_paths.proofs.Common.{Begins, ChangeSet, Searches, AreFar}
 use Rattle.olr_paths.proofs.OriginLemmas.{begins_there}
 
 module _ (N : Map) (slot : ℕ → ℕ) (t : ChangeSet) (s : Searches) (is : List Item) where

@@ -1,6 +1,6 @@
 -- How far the numbers of nodes let a search go.
-use Rattle.olr_paths.proofs.Common.{ℕ, ◌≤◌, min, IsTrue, refl, arith, Map, limit, AreBounds, IsUnder, Against}
-use Rattle.olr_near.specs.Bounds.{IsRight, IsSource, bound_of}
+use Rattle.olr_paths.proofs.Common.{ℕ, ◌≤◌, min, IsTrue, refl, arith, Map, limit, AreBounds, IsUnder, Against, IsRight}
+use Rattle.olr_paths.proofs.Common.{IsSource, bound_of}
 use Rattle.olr_near.specs.declared.distance_bounds.DistanceBounds.{DistanceBounds}
 
 -- right numbers are bounds

@@ -1,14 +1,12 @@
 -- A list under changes that remove no path: position by position, and with new results stored.
 --     changed_by cs i      one path under the changes.
 --     Lies us vs      vs is us, with some paths replaced by paths that are not encoded yet
-use Rattle.olr_paths.proofs.Common.{inl, inr, ◌≡◌, ◌⊎◌, ℕ, zero, suc, ◌+◌, Bool, true, false, cond, List, [], ◌∷◌, ◌++◌}
-use Rattle.olr_paths.proofs.Common.{map, take, length, slice_get, Option, Some, None, is_some, refl, sym, ap, ◌∙◌}
-use Rattle.olr_paths.proofs.Common.{subst, arith, option_map, Path, same_name, path_named, NamesDiffer, Entry, Made}
-use Rattle.olr_paths.proofs.Common.{Item, all_named, Reported, Changes, TakesNone, change_at, drops, under_change}
-use Rattle.olr_paths.proofs.Common.{under_changes, Put, put, all_put, map-append, take_more_at, string_bytes, Rc}
-use Rattle.olr_paths.proofs.Common.{same_is, changes_in, path_in}
-use Rattle.std.specs.Prelude.{⊤, String}
-use Rattle.std.specs.declared.alloc.Global.{Global}
+use Rattle.olr_paths.proofs.Common.{All, All-head, All-tail, inl, inr, ◌≡◌, ◌⊎◌, ℕ, zero, suc, ◌+◌, Bool, true, false}
+use Rattle.olr_paths.proofs.Common.{cond, List, [], ◌∷◌, ◌++◌, map, take, length, slice_get, Option, Some, None}
+use Rattle.olr_paths.proofs.Common.{is_some, refl, sym, ap, ◌∙◌, subst, arith, Path, same_name, path_named}
+use Rattle.olr_paths.proofs.Common.{NamesDiffer, Entry, Made, Item, all_named, Reported, Changes, TakesNone, change_at}
+use Rattle.olr_paths.proofs.Common.{drops, under_change, under_changes, Put, put, all_put, map-append, take_more_at}
+use Rattle.olr_paths.proofs.Common.{string_bytes, Rc, same_is, changes_in, path_in, String, Global}
 use Rattle.olr_paths.proofs.NamedEntries.{Entries, First, item_of, items_of, same_flip}
 use Rattle.olr_paths.proofs.Overlaying.{Entered, has_name}
 
@@ -126,9 +124,8 @@ lies_same before [] vs es h returned = sym h
 lies_same before (a ∷ us) [] es h returned = absurd h
 lies_same before (a ∷ us) (b ∷ vs) es h returned = elim h.1 [
   | inl none ↦
-      let replaced : option_map (λ (m : Made). m.answer) b.made
-      ≡ None = ap (option_map (λ (m : Made). m.answer)) none in
-      let never : ⊥ = cc (replaced, returned.2) in absurd never
+      let lost = rw none at returned.2 in
+      let never : ⊥ = cc (lost) in absurd never
   | inr same ↦ (λ i. same i ∷ lies_same before us vs returned.1 h.2 returned.3 i)
 ]
 
@@ -170,27 +167,21 @@ change_push (d ∷ cs) c name none other = grind (arith, change_push cs c name)
 
 pub take_more_changes : (es : Entered) (k : ℕ) (e : String Global × Option (Rc Path Global)) → slice_get es k ≡ Some e →
     changes_in (take (k + 1) es) ≡ changes_in (take k es) ++ (string_bytes e.0, path_in e.1) ∷ []
-take_more_changes es k e at =
-    ap changes_in (take_more_at es k e at)
+take_more_changes es k e at = ap changes_in (take_more_at es k e at)
     ∙ map-append (λ (x : String Global × Option (Rc Path Global)). (string_bytes x.0, path_in x.1)) (take k es) (e ∷ [])
 
 -- if each change is a replacement, no path is removed
-abbrev pub AreOthers : Entered → Type 0
-AreOthers [] = ⊤
-AreOthers (e ∷ es) = (is_some e.1 ≡ true) × AreOthers es
-
-pub others_push : (es : Entered) (e : String Global × Option (Rc Path Global)) → AreOthers es → is_some e.1 ≡ true →
-    AreOthers (es ++ e ∷ [])
-others_push [] e h one = (one, tt)
-others_push (x ∷ es) e h one = (h.0, others_push es e h.1 one)
+abbrev pub IsOther : String Global × Option (Rc Path Global) → Type 0
+IsOther e = is_some e.1 ≡ true
 
 stays_so : (o : Option (Rc Path Global)) → is_some o ≡ true → drops (Some (path_in o)) ≡ false
 stays_so None h = absurd cc
 stays_so (Some p) h = refl
 
-pub others_keep : (es : Entered) → AreOthers es → TakesNone (changes_in es)
+pub others_keep : (es : Entered) → All IsOther es → TakesNone (changes_in es)
 others_keep [] h name = refl
-others_keep (e ∷ es) h name = grind (arith, stays_so e.1 h.0, others_keep es h.1 name)
+others_keep (e ∷ es) h name =
+    grind (arith, stays_so e.1 (All-head IsOther e es h), others_keep es (All-tail IsOther e es h) name)
 
 -- ---- the position of a name
 

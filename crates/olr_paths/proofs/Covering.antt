@@ -1,5 +1,5 @@
 -- The positions that are found have all affected paths, and the paths between them are unchanged.
-use Rattle.olr_paths.proofs.Common.{inl, inr, ◌≡◌, ◌≢◌, ℕ, zero, suc, ◌+◌, ◌-◌, ◌<◌, ◌≤◌, ◌==◌, ◌||◌, ◌⊎◌, false, All}
+use Rattle.olr_paths.proofs.Common.{All, inl, inr, ◌≡◌, ◌≢◌, ℕ, zero, suc, ◌+◌, ◌-◌, ◌<◌, ◌≤◌, ◌==◌, ◌||◌, ◌⊎◌, false}
 use Rattle.olr_paths.proofs.Common.{List, [], ◌∷◌, ◌++◌, take, length, get_or, slice_get, Option, Some, None, IsTrue}
 use Rattle.olr_paths.proofs.Common.{refl, sym, ap, ◌∙◌, subst, append_assoc, arith, min, cases_Bool, nat_tests}
 use Rattle.olr_paths.proofs.Common.{All-contains, slice_get_within, Map, IsMap, has, ChangedLine, holds, Index, Item}
@@ -8,17 +8,9 @@ use Rattle.olr_paths.proofs.Common.{Rc, has_node, dm_of, CoverageQuery, limit, A
 use Rattle.olr_paths.proofs.Common.{items, QueryTouched, nodes_of, lines_of, sources, AreAsked, LackQueries, BeginsIn}
 use Rattle.olr_paths.proofs.Common.{Begins, ChangeSet, Searches, Finder, Published, NamedPath, PathList, Path, Changes}
 use Rattle.olr_paths.proofs.Common.{TakesNone, change_at, under_change, under_changes, NamesDiffer, same_name}
-use Rattle.olr_paths.proofs.Common.{all_named}
-use Rattle.std.proofs.lemmas.Bool.{or_left}
+use Rattle.olr_paths.proofs.Common.{all_named, or_left, at_index, ToStay, CoversAsked, AreFound, String, IsPermutation}
+use Rattle.olr_paths.proofs.Common.{Global, list_any-IsPermutation, IsAsked}
 use Rattle.std.proofs.Math.Bool.{or-false}
-use Rattle.olr_spec.proofs.ListLemmas.{at_index}
-use Rattle.olr_paths.specs.Renewing.{ToStay}
-use Rattle.olr_paths.specs.Candidates.{CoversAsked, AreFound}
-use Rattle.std.specs.Prelude.{String}
-use Rattle.std.specs.List.Sorted.{IsPermutation}
-use Rattle.std.specs.declared.alloc.Global.{Global}
-use Rattle.std.proofs.lemmas.List.Sorted.{list_any-IsPermutation}
-use Rattle.olr_paths.specs.Searching.{IsAsked}
 use Rattle.olr_paths.proofs.NamedEntries.{Entries, First, item_of, items_of, same_flip}
 use Rattle.olr_paths.proofs.Sets.{in_from}
 use Rattle.olr_paths.proofs.Distances.{near_absent, leads_from}
@@ -38,23 +30,10 @@ pushed_kept xs x v on = has_push xs x v ∙ or_left (has xs v) (x == v) on
 pub pushed_there : (xs : List ℕ) (x v : ℕ) → x ≡ v → IsTrue (has (xs ++ x ∷ []) v)
 pushed_there xs x v is = grind (arith, nat_tests, has_push xs x v)
 
--- ---- positions of path ids
-
-pub record Put (path_ids of old now : List ℕ) : Type 0 where
-  pub kept : Includes old now
-  pub put : (k : ℕ) → k < length path_ids → IsTrue (has of (get_or path_ids k 0)) → IsTrue (has now k)
-
--- ---- positions of a range
-
-pub record Ranged (from to : ℕ) (old now : List ℕ) : Type 0 where
-  pub kept : Includes old now
-  pub put : (k : ℕ) → from ≤ k → k < to → IsTrue (has now k)
-
 -- ---- positions by numbers of nodes or lines
 
-pub record PutAll {A : Type 0} (number : A → ℕ) (path_ids : List ℕ) (index : Index) (xs : List A) (old now : List ℕ) :
-    Type
-    0 where
+pub record PutAll {A : Type 0} (number : A → ℕ) (path_ids : List ℕ) (index : Index) (xs : List A)
+    (old now : List ℕ) : Type 0 where
   pub kept : Includes old now
   pub put : All (λ x. Finds path_ids index (number x) now) xs
 
@@ -138,25 +117,20 @@ module _ {N : Map} (n : IsMap N) (slot : ℕ → ℕ) (t : ChangeSet) (s : Searc
     never_query a h =
         let v : ℕ = h.0.from in
         let near = h.2 in
-        let held : IsTrue (holds f.by_query_origin v (get_or ms k 0)) =
-        All-contains (λ (l : CoverageQuery). IsTrue (holds f.by_query_origin l.from (get_or ms k 0)))
-        p.value.queries.items h.0
-        ((l.noted k e at p some known).1) h.1 in
+        let held = All-contains (λ (l : CoverageQuery). IsTrue (holds f.by_query_origin l.from (get_or ms k 0))) _ h.0
+        (l.noted k e at p some known).1 h.1 in
         elim (cases_Bool s.far) [
           | inl far ↦ a.far far h
           | inr close ↦ elim (cases_Bool (has_node N v)) [
             | inl there ↦
                 let short = near.within in
-                let way =
-                leads_from N n (nodes_of t) v near.node near.route near.touched near.leads there in
+                let way = leads_from N n (nodes_of t) v near.node near.route near.touched near.leads there in
                 let low = a.returned close h.0 h.1 (dm_of N near.route) short there way in
                 let on = reached close (a.lengths close) v there (omega arith) k lower held in
                 let never : ⊥ = cc (on, off) in never
             | inr lacks ↦
-                let touched : IsTrue (has (nodes_of t) v) =
-                (near_absent N n (nodes_of t) v (min h.0.within limit)
-                (λ there. let never : ⊥ = cc (there, lacks) in never)).1 near in
-                missed f.by_query_origin (nodes_of t) from v touched held
+                missed f.by_query_origin (nodes_of t) from v ((near_absent N n (nodes_of t) v (min h.0.within limit)
+                (λ there. let never : ⊥ = cc (there, lacks) in never)).1 near) held
           ]
         ]
 
@@ -181,10 +155,9 @@ module _ {N : Map} (n : IsMap N) (slot : ℕ → ℕ) (t : ChangeSet) (s : Searc
   covers_by k i at off one =
       let b = back l.paths.entries k i at in
       let p = is_there b.0.1.published (l.encoded off_held k b.0 b.1) in
-      let made : i.made ≡ Some (made_of p.0.value) =
-      ap (λ (x : Item). x.made) (sym b.2) ∙ ap (option_map (λ (q : Rc Published Global). made_of q.value)) p.1 in
       subst (λ (x : Item). ToStay N (nodes_of t) (lines_of t) x.made x.path) b.2 (stays_there k b.0 b.1 p.0 p.1 off
-      (one (made_of p.0.value) made))
+      (one (made_of p.0.value)
+      (ap (λ (x : Item). x.made) (sym b.2) ∙ ap (option_map (λ (q : Rc Published Global). made_of q.value)) p.1)))
 
 -- the positions may be put in another order
 pub covers_order : (N : Map) (T X : List ℕ) (is : List Item) (xs ys : List ℕ) → IsPermutation xs ys →
@@ -200,18 +173,17 @@ module _ (cs : Changes) (is ys : List Item) (keeps : TakesNone cs) where
       ((k : ℕ) → length is ≤ k → k < length is + length ys → IsTrue (has found k))
       → AreAsked N slot t s (under_changes cs is ++ ys) →
       Covers N (nodes_of t) (lines_of t) (under_changes cs is ++ ys) found
-  covers_overlaid N slot t s found covers given behind asked k j at off =
-      elim (overlaid_from cs is ys keeps k j at) [
-        | inl a ↦
-            let same : j ≡ a.0 = a.2 ∙ ap (λ (c : Option (Option Path)). changed c a.0) (given k a.0 a.1 off) in
-            subst (λ (i : Item). ToStay N (nodes_of t) (lines_of t) i.made i.path) (sym same)
-            (covers k a.0 a.1 off
-            (λ m some. asked k j m at (ap (λ (i : Item). i.made) same ∙ some)))
-        | inr b ↦
-            let low = slice_get_within ys b.0 j b.2 in
-            let on = behind k (let e = b.1 in omega arith) (let e = b.1 in omega arith) in
-            let never : ⊥ = cc (on, off) in absurd never
-      ]
+  covers_overlaid N slot t s found covers given behind asked k j at off = elim (overlaid_from cs is ys keeps k j at) [
+    | inl a ↦
+        let same : j ≡ a.0 = a.2 ∙ ap (λ (c : Option (Option Path)). changed c a.0) (given k a.0 a.1 off) in
+        subst (λ (i : Item). ToStay N (nodes_of t) (lines_of t) i.made i.path) (sym same)
+        (covers k a.0 a.1 off
+        (λ m some. asked k j m at (ap (λ (i : Item). i.made) same ∙ some)))
+    | inr b ↦
+        let low = slice_get_within ys b.0 j b.2 in
+        let on = behind k (let e = b.1 in omega arith) (let e = b.1 in omega arith) in
+        let never : ⊥ = cc (on, off) in absurd never
+  ]
 
 begins_changed : (c : Option (Option Path)) (i : Item) (js : List Item) (l : CoverageQuery) →
     Begins (under_change c i ++ js) l → BeginsIn i.made l ⊎ Begins js l

@@ -2,13 +2,8 @@
 use Rattle.olr_paths.proofs.Common.{inl, inr, ◌≡◌, ℕ, zero, suc, ◌+◌, ◌<◌, ◌≤◌, true, List, [], ◌∷◌, map, IsTrue, ◌↔◌}
 use Rattle.olr_paths.proofs.Common.{Option, Some, None, IfSome, refl, sym, ap, subst, arith, cases_lt, Map, IsMap}
 use Rattle.olr_paths.proofs.Common.{has_node, end, has, IsRoute, dm_of, ChangedLine, Near, Leads, Along, Against}
-use Rattle.olr_paths.proofs.Common.{changed_of, starts, ends, AreFarther, ChangeSet}
-use Rattle.std.proofs.Common.{⊎_elim}
-use Rattle.olr_spec.specs.Detours.{Detour}
-use Rattle.olr_spec.proofs.RouteLemmas.{route_start}
-use Rattle.olr_search.specs.Distances.{IsDistance}
+use Rattle.olr_paths.proofs.Common.{AreFarther, ⊎_elim, Detour, route_start, IsDistance}
 use Rattle.olr_search.specs.declared.distances.Direction.{Direction}
-use Rattle.olr_paths.specs.Touching.{change_of}
 use Rattle.olr_paths.proofs.Sets.{has_from, in_from, Contains-map, Contains-unmap}
 
 -- ---- a shortest distance
@@ -18,14 +13,13 @@ pub no_way : (M : Map) (direction : Direction) (from : List (ℕ × ℕ)) (v mos
     ((d : ℕ) → IsDistance M direction from v d → d ≤ most → ⊥) → (n e : ℕ) → e < n → e ≤ most →
     Leads M direction from v e → ⊥
 no_way M direction from v most none zero e lt le leads = absurd (omega arith)
-no_way M direction from v most none (suc n) e lt le leads =
-    none e (record {
-      leads = leads;
-      least =
-          λ k other. ⊎_elim (λ (low : k < e).
-          absurd (no_way M direction from v most none n k (omega arith) (omega arith) other)) (λ (high : e ≤ k). high)
-          (cases_lt k e);
-    }) le
+no_way M direction from v most none (suc n) e lt le leads = none e (record {
+  leads = leads;
+  least =
+      λ k other. ⊎_elim (λ (low : k < e).
+      absurd (no_way M direction from v most none n k (omega arith) (omega arith) other)) (λ (high : e ≤ k). high)
+      (cases_lt k e);
+}) le
 
 -- the meaning of a search's result
 abbrev pub ReturnsDistance : Map → Direction → List (ℕ × ℕ) → ℕ → ℕ → Option ℕ → Type 0
@@ -116,28 +110,26 @@ all_ends C = map {A = ChangedLine} {B = ℕ × ℕ} (λ c. (c.to, 0)) C
 module _ (N : Map) (n : IsMap N) (C : List ChangedLine) (s t d most far : ℕ) (from_there : IsTrue (has_node N s))
     (to_there : IsTrue (has_node N t)) (le : d ≤ most) where
   leads_to : (h : Detour N C s t d) → Leads N Against (all_starts C) s (h.first.len + dm_of N h.before)
-  leads_to h =
-      record {
-        source = h.first.from;
-        begun = h.first.len;
-        lines = h.before;
-        listed = Contains-map (λ c. (c.from, c.len)) C h.first h.first_listed;
-        there = route_end N n s h.first.from h.before h.leads from_there;
-        way = h.leads;
-        long = refl;
-      }
+  leads_to h = record {
+    source = h.first.from;
+    begun = h.first.len;
+    lines = h.before;
+    listed = Contains-map (λ c. (c.from, c.len)) C h.first h.first_listed;
+    there = route_end N n s h.first.from h.before h.leads from_there;
+    way = h.leads;
+    long = refl;
+  }
 
   leads_back : (h : Detour N C s t d) → Leads N Along (all_ends C) t (dm_of N h.after)
-  leads_back h =
-      record {
-        source = h.last.to;
-        begun = 0;
-        lines = h.after;
-        listed = Contains-map (λ c. (c.to, 0)) C h.last h.last_listed;
-        there = route_start N n h.last.to t h.after h.returns to_there;
-        way = h.returns;
-        long = omega arith;
-      }
+  leads_back h = record {
+    source = h.last.to;
+    begun = 0;
+    lines = h.after;
+    listed = Contains-map (λ c. (c.to, 0)) C h.last h.last_listed;
+    there = route_start N n h.last.to t h.after h.returns to_there;
+    way = h.returns;
+    long = omega arith;
+  }
 
   -- two distances that are short enough make a detour
   detour_by : (a b : ℕ) → Leads N Against (all_starts C) s a → Leads N Along (all_ends C) t b → a + b ≤ d →
@@ -166,11 +158,10 @@ module _ (N : Map) (n : IsMap N) (C : List ChangedLine) (s t d most far : ℕ) (
       ReturnsDistance N Along (all_ends C) t far r → ¬ Detour N C s t d → AreFarther q r d
   clear_only None r before after none = tt
   clear_only (Some a) None before after none = tt
-  clear_only (Some a) (Some b) before after none =
-      elim (cases_lt d (a + b)) [
-        | inl lt ↦ lt
-        | inr le ↦ absurd (none (detour_by a b ((before a).0 refl).0.leads ((after b).0 refl).0.leads le))
-      ]
+  clear_only (Some a) (Some b) before after none = elim (cases_lt d (a + b)) [
+    | inl lt ↦ lt
+    | inr le ↦ absurd (none (detour_by a b ((before a).0 refl).0.leads ((after b).0 refl).0.leads le))
+  ]
 
   far_apart : (q r : Option ℕ) (x y : ℕ) → Lower q most x → Lower r far y → x + y ≤ d →
       IfSome q (λ a. d ≤ a + far) → AreFarther q r d → ⊥
@@ -181,8 +172,7 @@ module _ (N : Map) (n : IsMap N) (C : List ChangedLine) (s t d most far : ℕ) (
   pub clear_by : (q r : Option ℕ) → ReturnsDistance N Against (all_starts C) s most q →
       ReturnsDistance N Along (all_ends C) t far r → IfSome q (λ a. d ≤ a + far) →
       AreFarther q r d → ¬ Detour N C s t d
-  clear_by q r before after rest farther h =
-      far_apart q r (h.first.len + dm_of N h.before) (dm_of N h.after)
+  clear_by q r before after rest farther h = far_apart q r (h.first.len + dm_of N h.before) (dm_of N h.after)
       (at_least N Against (all_starts C) s most q before _ (leads_to h))
       (at_least N Along (all_ends C) t far r after _ (leads_back h)) (let w = h.within in omega arith) rest farther
 
@@ -191,16 +181,3 @@ pub rest_more : (d within rest far : ℕ) (q : Option ℕ) → within ≡ d → 
     IfSome q (λ b. d ≤ b + far)
 rest_more d within rest far None is le h = tt
 rest_more d within rest far (Some b) is le h = omega arith
-
--- ---- in the form in which they are recorded
-
-map_two : {A B C : Type 0} (f : A → B) (g : B → C) (h : A → C) (xs : List A) → ((x : A) → h x ≡ g (f x)) →
-    map h xs ≡ map g (map f xs)
-map_two f g h [] same = refl
-map_two f g h (x ∷ xs) same = λ i. same x i ∷ map_two f g h xs same i
-
-pub starts_are : (t : ChangeSet) → starts t ≡ all_starts (changed_of t)
-starts_are t = map_two change_of (λ c. (c.from, c.len)) (λ c. (c.from, c.len)) t.changed.items (λ c. refl)
-
-pub ends_are : (t : ChangeSet) → ends t ≡ all_ends (changed_of t)
-ends_are t = map_two change_of (λ c. (c.to, 0)) (λ c. (c.to, 0)) t.changed.items (λ c. refl)

@@ -1,14 +1,9 @@
 -- The entries of a list whose paths were encoded.
-use Rattle.olr_paths.proofs.Common.{Bor, true, is_some, inr, ◌≡◌, ◌≢◌, ℕ, zero, suc, ◌+◌, drop, List, [], ◌∷◌, ◌++◌}
-use Rattle.olr_paths.proofs.Common.{slice_get, Option, Some, None, refl, sym, ap, ◌∙◌, append_assoc, option_map, Entry}
-use Rattle.olr_paths.proofs.Common.{entry, Answer, Made, Item, made_of, made_in, answer_in, AreEncoded, Reported}
+use Rattle.olr_paths.proofs.Common.{Bor, true, is_some, inr, ◌≡◌, ℕ, ◌+◌, drop, List, [], ◌∷◌, ◌++◌, slice_get, Option}
+use Rattle.olr_paths.proofs.Common.{Some, None, refl, sym, ap, append_assoc, option_map, Entry, entry, Answer, Made}
+use Rattle.olr_paths.proofs.Common.{Item, made_of, made_in, answer_in, Reported}
 use Rattle.olr_paths.proofs.Alls.{drop_at}
 use Rattle.olr_paths.specs.declared.published.Published.{Published as Encoded}
-
-pub encoded_at : (is : List Item) (k : ℕ) (i : Item) → AreEncoded is → slice_get is k ≡ Some i → i.made ≢ None
-encoded_at [] k i a at = cc
-encoded_at (j ∷ is) zero i a at = λ none. let same : j ≡ i = cc in a.0 (ap (λ (x : Item). x.made) same ∙ none)
-encoded_at (j ∷ is) (suc k) i a at = encoded_at is k i a.1 at
 
 -- with no earlier list, all are reported: one more entry, if the rest follows
 pub reported_more : (is : List Item) (k : ℕ) (i : Item) (m : Made) (es : List Entry) → slice_get is k ≡ Some i →

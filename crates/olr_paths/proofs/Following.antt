@@ -1,9 +1,7 @@
 -- A list follows itself, since no name occurs twice.
 use Rattle.olr_paths.proofs.Common.{inl, inr, ◌≡◌, Bool, false, List, [], ◌∷◌, Option, is_some, refl, ap, ◌∙◌}
 use Rattle.olr_paths.proofs.Common.{option_map, bytes_decides, Answer, path_named, NamesDiffer, flipped, Made, Item}
-use Rattle.olr_paths.proofs.Common.{named_of, all_named, made_in, answer_in, Follows}
-use Rattle.std.specs.Prelude.{if◌then◌else◌}
-use Rattle.olr_commands.proofs.NameLemmas.{not_named}
+use Rattle.olr_paths.proofs.Common.{named_of, all_named, made_in, answer_in, Follows, if◌then◌else◌, not_named}
 
 abbrev pub answer_made : Option Made → Option Answer
 answer_made o = option_map (λ m. m.answer) o

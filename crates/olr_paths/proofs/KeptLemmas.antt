@@ -1,19 +1,14 @@
 -- Results that are right on a map are right on the next one, if no change can affect them.
-use Rattle.olr_paths.proofs.Common.{inl, inr, ◌≡◌, ℕ, ◌≤◌, List, All, Contains, Some, IsTrue, true, false, subst, arith}
-use Rattle.olr_paths.proofs.Common.{get_or, min, slice_get, cases_Bool, Map, IsMap, has, SameRound, Path, is_path}
-use Rattle.olr_paths.proofs.Common.{limit, ChangedLine, Near, CoverageQuery, TraversedOf, Made, Item, IsEncodingOf}
-use Rattle.olr_paths.proofs.Common.{IsAffected, TraversedTouched, LineTouched, QueryTouched, IsKnownClear, IsBefore}
-use Rattle.olr_paths.proofs.Common.{IsSpared, IsEncodedAgain}
-use Rattle.std.proofs.lemmas.Bool.{both_ways}
-use Rattle.std.proofs.lemmas.List.Elements.{Contains-get_or}
-use Rattle.olr_spec.specs.Map.{SameLine}
-use Rattle.olr_spec.specs.Queries.{IsClear}
+use Rattle.olr_paths.proofs.Common.{inl, inr, ◌≡◌, ℕ, ◌≤◌, List, All, Contains, Some, IsTrue, true, false, subst}
+use Rattle.olr_paths.proofs.Common.{arith, get_or, min, slice_get, cases_Bool, Map, IsMap, has, SameRound, Path}
+use Rattle.olr_paths.proofs.Common.{is_path, limit, ChangedLine, Near, CoverageQuery, TraversedOf, Made, Item}
+use Rattle.olr_paths.proofs.Common.{IsEncodingOf, IsAffected, TraversedTouched, LineTouched, QueryTouched}
+use Rattle.olr_paths.proofs.Common.{IsKnownClear, IsBefore, IsSpared, IsEncodedAgain, both_ways, Contains-get_or}
+use Rattle.olr_paths.proofs.Common.{SameLine, IsClear, IsUnchanged, By_name, By_node, By_line, Touches, Stays}
+use Rattle.olr_paths.proofs.Common.{ToEncode}
 use Rattle.olr_spec.proofs.ListLemmas.{Each}
 use Rattle.olr_spec.proofs.StayLemmas.{known_kept, untouched_retained}
 use Rattle.olr_spec.proofs.TestedLemmas.{foot_affected, one_queries}
-use Rattle.olr_commands.specs.Counts.{IsUnchanged}
-use Rattle.olr_paths.specs.Changes.{By_name, By_node, By_line, Touches}
-use Rattle.olr_paths.specs.Renewing.{Stays, ToEncode}
 use Rattle.olr_paths.proofs.QueryLengths.{within_limit}
 use Rattle.olr_paths.proofs.QueryEnds.{on_map}
 use Rattle.olr_paths.proofs.GivenQueries.{made_before, path_before}
@@ -59,8 +54,7 @@ module _ {M N : Map} (n : IsMap N) {T X : List ℕ} {C : List ChangedLine} {is :
           answer = k.0 m.answer made.answer;
           traversed = λ v. ((λ o. (k.1 v).0 ((made.traversed v).0 o)), (λ o. (made.traversed v).1 ((k.1 v).1 o)));
           queries = k.2;
-          known =
-              known_kept M N q.sound n C d.there d.here P path same m.queries clear round made.queries m.known
+          known = known_kept M N q.sound n C d.there d.here P path same m.queries clear round made.queries m.known
               made.known;
         }
 
@@ -84,8 +78,7 @@ module _ {M N : Map} (n : IsMap N) {T X : List ℕ} {C : List ChangedLine} {is :
         )
 
     pub stays_unless : ¬ Touches N T X m P → IsEncodingOf N P m
-    stays_unless free =
-        stays_clear (λ o. free (inl o)) (λ x. free (inr (inl x))) (clear_far (λ l. free (inr (inr l))))
+    stays_unless free = stays_clear (λ o. free (inl o)) (λ x. free (inr (inl x))) (clear_far (λ l. free (inr (inr l))))
 
     -- ---- which answers are retained
 
@@ -100,31 +93,22 @@ module _ {M N : Map} (n : IsMap N) {T X : List ℕ} {C : List ChangedLine} {is :
       few = u.few;
       traversed = λ o. u.traversed o.0 o.1 ((made.traversed o.0).0 o.2);
       lines = λ x. both_ways (has P.lines x.0) (u.lines x.0 x.1) x.2;
-      clear =
-          λ j d lt. (
-            on_map M N q.sound T q.difference.nodes P path m.queries made.queries u.traversed (get_or m.queries j d)
-                (Contains-get_or m.queries j d lt),
-            u.clear m.queries made.queries j d lt,
-          );
+      clear = λ j d lt. (
+        on_map M N q.sound T q.difference.nodes P path m.queries made.queries u.traversed _ (Contains-get_or _ j d lt),
+        u.clear m.queries made.queries j d lt,
+      );
     }
 
     -- ---- which paths are affected
 
     affected_by : Touches N T X m P → IsAffected M T X i
-    affected_by t =
-        let foot = foot_affected M N q.sound T q.difference.nodes P path m.queries made.queries in
-        elim t [
-          | inl traversed ↦
-              let f = foot.1 (inl (traversed.0, traversed.1, (made.traversed traversed.0).0 traversed.2)) in
-              By_node f.0 f.1 f.2
-          | inr rest ↦ elim rest [
-            | inl line ↦ By_line line.0 line.1 line.2
-            | inr query ↦
-                let l : CoverageQuery = query.0 in
-                let f = foot.1 (inr (l, query.1, near_wider (min l.within limit) l.within (omega arith) query.2)) in
-                By_node f.0 f.1 f.2
-          ]
-        ]
+    affected_by (inl t) =
+        let f = (foot_affected M N q.sound T q.difference.nodes P path m.queries made.queries).1
+        (inl (t.0, t.1, (made.traversed t.0).0 t.2)) in By_node f.0 f.1 f.2
+    affected_by (inr (inl t)) = By_line t.0 t.1 t.2
+    affected_by (inr (inr t)) =
+        let f = (foot_affected M N q.sound T q.difference.nodes P path m.queries made.queries).1
+        (inr (t.0, t.1, near_wider (min t.0.within limit) t.0.within (omega arith) t.2)) in By_node f.0 f.1 f.2
 
     pub touched_by : IsAffected M T X i → Touches N T X m P
     touched_by (By_name none) = absurd cc
@@ -146,8 +130,7 @@ module _ {M N : Map} (n : IsMap N) {T X : List ℕ} {C : List ChangedLine} {is :
         few = stays.few;
         traversed = nodes_off stays.traversed;
         lines = lines_off stays.lines;
-        clear =
-            λ queries those. subst (λ (ls : List CoverageQuery). All (IsClear N C) ls)
+        clear = λ queries those. subst (λ (ls : List CoverageQuery). All (IsClear N C) ls)
             (one_queries M q.sound P path m.queries queries made.queries those) (clear_of stays.clear);
       };
     }

@@ -1,16 +1,13 @@
 -- A map's entries as a list of named paths: lookups, edits, and that no name occurs twice.
 use Rattle.olr_paths.proofs.Common.{inl, inr, ◌≡◌, ℕ, zero, suc, ◌<◌, length, get_or, subst, arith, Bool, true, false}
-use Rattle.olr_paths.proofs.Common.{not, List, [], ◌∷◌, map, slice_get, Option, Some, None, is_some, refl, sym, ap, ◌∙◌}
-use Rattle.olr_paths.proofs.Common.{slice_get-map, option_map, string_bytes, filter, AllByRecursion, lookup}
+use Rattle.olr_paths.proofs.Common.{not, List, [], ◌∷◌, map, slice_get, Option, Some, None, is_some, refl, sym, ap}
+use Rattle.olr_paths.proofs.Common.{◌∙◌, slice_get-map, option_map, string_bytes, filter, AllByRecursion, lookup}
 use Rattle.olr_paths.proofs.Common.{set_value_at, remove, bytes_eq, string_eq, cases_Bool, Path, same_name, path_named}
 use Rattle.olr_paths.proofs.Common.{NamesDiffer, same_is, flipped, Made, Item, made_of, named_of, all_named, made_in}
-use Rattle.olr_paths.proofs.Common.{set_item, NamedPath, bytes_decides}
-use Rattle.std.specs.Prelude.{String}
-use Rattle.std.specs.Option.{option_and_then}
-use Rattle.std.specs.List.{IsDistinct, position}
-use Rattle.std.specs.Map.{keys_of}
+use Rattle.olr_paths.proofs.Common.{set_item, NamedPath, bytes_decides, String, option_and_then, position, keys_of}
+use Rattle.olr_paths.proofs.Common.{Global}
+use Rattle.std.specs.List.{IsDistinct}
 use Rattle.std.proofs.lemmas.List.Quantifiers.{position-Some}
-use Rattle.std.specs.declared.alloc.Global.{Global}
 
 abbrev pub Entries : Type 0
 Entries = List (String Global × NamedPath)
@@ -101,8 +98,7 @@ first_at (e ∷ es) name p at =
     let h = position-Some (asks name) (keys_of (e ∷ es)) p e.0 at in first_of (e ∷ es) name e.0 p h.0 h.1 h.2
 
 -- the first entry of a name is removed
-pub removed_items : (es : Entries) (name : List ℕ) (q : ℕ) → First name es q →
-    NamesDiffer (all_named (items_of es)) →
+pub removed_items : (es : Entries) (name : List ℕ) (q : ℕ) → First name es q → NamesDiffer (all_named (items_of es)) →
     items_of (remove es q) ≡ filter (λ i. not (same_name i.name name)) (items_of es)
 removed_items [] name q h d = absurd h
 removed_items (e ∷ es) name zero h d =
@@ -141,12 +137,9 @@ pub path_at : (es : Entries) (k : ℕ) (e : String Global × NamedPath) → slic
     slice_get (all_named (items_of es)) k ≡ Some (record { name = string_bytes e.0; path = e.1.path.value })
 path_at es k e h = rw (slice_get-map named_of (items_of es) k, slice_get-map item_of es k, h) refl
 
-pub published_absent : (es : Entries) (name : List ℕ) → lookup (asks name) es ≡ None → made_in (items_of es) name ≡ None
-published_absent es name h = looked_up es name ∙ ap (option_and_then made_of_named) h
-
-pub published_of : (es : Entries) (name : List ℕ) (n : NamedPath) → lookup (asks name) es ≡ Some n →
-    made_in (items_of es) name ≡ made_of_named n
-published_of es name n h = looked_up es name ∙ ap (option_and_then made_of_named) h
+pub published_of : (es : Entries) (name : List ℕ) (o : Option NamedPath) → lookup (asks name) es ≡ o →
+    made_in (items_of es) name ≡ option_and_then made_of_named o
+published_of es name o h = looked_up es name ∙ ap (option_and_then made_of_named) h
 
 abbrev pub path_of_entry : NamedPath → Path
 path_of_entry n = n.path.value

@@ -2,12 +2,8 @@
 use Rattle.olr_paths.proofs.Common.{inl, inr, ◌≡◌, ℕ, zero, suc, ◌+◌, ◌<◌, List, [], ◌∷◌, take, length, get_or}
 use Rattle.olr_paths.proofs.Common.{slice_get, Option, Some, None, IsTrue, refl, sym, ap, ◌∙◌, option_map, Rc}
 use Rattle.olr_paths.proofs.Common.{All-contains, has, CoverageQuery, holds, LackQueries, BeginsIn, Begins, PathList}
-use Rattle.olr_paths.proofs.Common.{NamedNoted, AreNotedAt, Grows, Finder, Published, NamedPath, Entry, Made, Item}
-use Rattle.olr_paths.proofs.Common.{made_of, items, Reported}
-use Rattle.std.specs.Prelude.{String}
-use Rattle.std.specs.declared.alloc.Global.{Global}
-use Rattle.olr_index.specs.PathIds.{path_ids_of}
-use Rattle.olr_paths.specs.Finding.{ArePublished}
+use Rattle.olr_paths.proofs.Common.{NamedNoted, AreNotedAt, Grows, Finder, Published, NamedPath, Entry, Item, made_of}
+use Rattle.olr_paths.proofs.Common.{items, Reported, String, Global, path_ids_of, ArePublished}
 use Rattle.olr_paths.proofs.NamedEntries.{Entries, item_of, items_of, item_at, made_of_named}
 use Rattle.olr_paths.proofs.PathIdLemmas.{named_grown}
 use Rattle.olr_paths.proofs.Alls.{all_more}
@@ -21,8 +17,7 @@ NotedAt ms f r = r.0 < length ms → NamedNoted f (get_or ms r.0 0) r.1
 
 pub at_grown : (ms : List ℕ) (f g : Finder) (fresh : List One) → Grows f g → AreNotedAt ms f fresh →
     AreNotedAt ms g fresh
-at_grown ms f g fresh more h k d lt low = let r : One =
-    get_or fresh k d in named_grown f g (get_or ms r.0 0) r.1 more (h k d lt low)
+at_grown ms f g fresh more h k d lt low = named_grown f g _ (get_or fresh k d).1 more (h k d lt low)
 
 -- of the first k, and of one more
 pub at_more : (ms : List ℕ) (f g : Finder) (fresh : List One) (k : ℕ) (d : One) → k < length fresh → Grows f g →
@@ -36,11 +31,8 @@ pub all_encoded : (before : List Item) (es : Entries) (rs : List Entry) → Repo
 all_encoded before [] rs h k e at = let never : ⊥ = cc (at) in absurd never
 all_encoded before (x ∷ es) rs h zero e at = λ none.
     let same : x ≡ e = cc (at) in
-    let replaced : x.1.published ≡ None = ap (λ (y : String Global × NamedPath). y.1.published) same ∙ none in
-    let lost : option_map (λ (m : Made). m.answer) (made_of_named x.1) ≡ None =
-    ap (λ (o : Option (Rc Published Global)). option_map (λ (m : Made). m.answer) (option_map (λ p. made_of p.value) o))
-    replaced in
-    let never : ⊥ = cc (lost, h.2) in absurd never
+    let lost = rw (same, none) at h.2 in
+    let never : ⊥ = cc (lost) in absurd never
 all_encoded before (x ∷ es) rs h (suc k) e at = all_encoded before es h.1 h.3 k e at
 
 -- ---- no path has a coverage query, if none begins at a node

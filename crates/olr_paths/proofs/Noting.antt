@@ -1,7 +1,6 @@
 -- Index entries that are added and removed one by one.
 use Rattle.olr_paths.proofs.Common.{◌≡◌, ◌≢◌, ◌==◌, ℕ, ◌+◌, ◌<◌, List, not, ◌||◌, ◌&&◌, All, Contains, take, length}
-use Rattle.olr_paths.proofs.Common.{get_or, IsTrue, subst, arith, nat_tests, holds, Index}
-use Rattle.olr_paths.specs.Finding.{KeepsAll, KeepsBut}
+use Rattle.olr_paths.proofs.Common.{get_or, IsTrue, subst, arith, nat_tests, holds, Index, KeepsAll, KeepsBut}
 use Rattle.olr_paths.proofs.Alls.{all_more}
 
 -- after this many of the numbers
@@ -19,8 +18,7 @@ module _ {A : Type 0} (number : A → ℕ) (path_id : ℕ) (old : Index) where
       let P : A → Type 0 = λ x. IsTrue (holds new (number x) path_id) in
       let grown : KeepsAll now new = λ n m t. grind (arith, added n m) in
       record {
-        noted =
-            all_more P xs k d lt (λ i e low. grown (number (get_or (take k xs) i e)) path_id (h.noted i e low))
+        noted = all_more P xs k d lt (λ i e low. grown (number (get_or (take k xs) i e)) path_id (h.noted i e low))
             (grind (arith, nat_tests, added v path_id));
         grows = λ n m t. grown n m (h.grows n m t);
         spares = λ n m ne. grind (arith, nat_tests, added n m, h.spares n m ne);
@@ -34,12 +32,11 @@ pub record Forgot (Kept : ℕ → Type 0) (path_id : ℕ) (old now : Index) : Ty
 module _ (Kept : ℕ → Type 0) (path_id : ℕ) (old : Index) where
   pub forgot_more : (now new : Index) (v : ℕ) → Forgot Kept path_id old now → ¬ Kept v →
       ((n m : ℕ) → holds new n m ≡ (holds now n m && not ((v == n) && (path_id == m)))) → Forgot Kept path_id old new
-  forgot_more now new v h free taken =
-      record {
-        keeps = λ n k t. let apart : n ≢ v = λ e. free (subst Kept e k) in
-            grind (arith, nat_tests, taken n path_id, h.keeps n k t);
-        spares = λ n m ne. grind (arith, nat_tests, taken n m, h.spares n m ne);
-      }
+  forgot_more now new v h free taken = record {
+    keeps = λ n k t. let apart : n ≢ v = λ e. free (subst Kept e k) in
+        grind (arith, nat_tests, taken n path_id, h.keeps n k t);
+    spares = λ n m ne. grind (arith, nat_tests, taken n m, h.spares n m ne);
+  }
 
 -- what is retained
 module _ {A : Type 0} (number : A → ℕ) (kept : List A) where

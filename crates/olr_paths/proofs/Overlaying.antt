@@ -1,14 +1,10 @@
 -- Lists of named paths under changes: which names they have, and the effect of one more change.
 use Rattle.olr_paths.proofs.Common.{◌≡◌, ℕ, ◌+◌, Bool, true, false, not, ◌&&◌, cond, List, [], ◌∷◌, ◌++◌, map, drop}
 use Rattle.olr_paths.proofs.Common.{slice_get, Option, Some, None, is_some, refl, sym, ap, ◌∙◌, subst, append_assoc}
-use Rattle.olr_paths.proofs.Common.{arith, Result, Ok, Err, option_map, string_bytes, filter, lookup, string_eq, Rc}
-use Rattle.olr_paths.proofs.Common.{map-append, insert_entry, Path, same_name, path_named, NamesDiffer, same_is, Item}
-use Rattle.olr_paths.proofs.Common.{all_named, set_item, NamedPath, Changes, change_at, drops, under_change}
-use Rattle.olr_paths.proofs.Common.{under_changes, path_in, changes_in, bytes_decides}
-use Rattle.std.specs.Prelude.{String, OnOk}
-use Rattle.std.specs.declared.alloc.Global.{Global}
-use Rattle.std.proofs.lemmas.List.{append-nil}
-use Rattle.std.proofs.lemmas.List.Elements.{filter-append}
+use Rattle.olr_paths.proofs.Common.{arith, option_map, string_bytes, filter, lookup, string_eq, Rc, map-append}
+use Rattle.olr_paths.proofs.Common.{insert_entry, Path, same_name, path_named, NamesDiffer, same_is, Item, all_named}
+use Rattle.olr_paths.proofs.Common.{set_item, NamedPath, Changes, change_at, drops, under_change, under_changes}
+use Rattle.olr_paths.proofs.Common.{path_in, changes_in, bytes_decides, String, Global, append-nil, filter-append}
 use Rattle.olr_paths.specs.Renewing.{item_of}
 use Rattle.olr_paths.proofs.Alls.{drop_at}
 use Rattle.olr_paths.proofs.NamedEntries.{asks, same_flip, absent, keeps_all, sets_none}
@@ -32,12 +28,7 @@ pub change_put : (es : Entered) (k : String Global) (o : Option (Rc Path Global)
     ≡ cond (same_name (string_bytes k) name) (Some (path_in o)) (change_at (changes_in es) name)
 change_put [] k o name = refl
 change_put (e ∷ es) k o name =
-    grind (
-      arith,
-      change_put es k o name,
-      same_is (string_bytes k) (string_bytes e.0),
-      same_is (string_bytes e.0) name,
-    )
+    grind (arith, change_put es k o name, same_is (string_bytes k) (string_bytes e.0), same_is (string_bytes e.0) name)
 
 -- ---- names
 
@@ -51,22 +42,18 @@ one_has (Some (Some p)) i L name = grind arith
 pub overlaid_has : (cs : Changes) (is : List Item) (name : List ℕ) →
     has_name (under_changes cs is) name ≡ cond (drops (change_at cs name)) false (has_name is name)
 overlaid_has cs [] name = grind arith
-overlaid_has cs (i ∷ is) name =
-    grind (
-      arith,
-      one_has (change_at cs i.name) i (under_changes cs is) name,
-      overlaid_has cs is name,
-      same_is i.name name,
-    )
+overlaid_has cs (i ∷ is) name = grind (
+  arith,
+  one_has (change_at cs i.name) i (under_changes cs is) name,
+  overlaid_has cs is name,
+  same_is i.name name,
+)
 
 -- in two lists
 pub both_have : (xs ys : List Item) (name : List ℕ) →
     has_name (xs ++ ys) name ≡ cond (has_name ys name) true (has_name xs name)
 both_have [] ys name = grind arith
 both_have (x ∷ xs) ys name = grind (arith, both_have xs ys name)
-
-pub second_absent : (xs ys : List Item) (name : List ℕ) → absent (xs ++ ys) name → absent ys name
-second_absent xs ys name h = grind (arith, both_have xs ys name)
 
 pub first_differ : (xs ys : List Item) → NamesDiffer (all_named (xs ++ ys)) → NamesDiffer (all_named xs)
 first_differ [] ys d = tt
@@ -130,47 +117,35 @@ overlaid_drop cs ds name (i ∷ is) puts =
 
 -- ---- a list under changes, with new paths at the end
 
--- what changes only one part
-module _ (f : List Item → List Item) (split : (us vs : List Item) → f (us ++ vs) ≡ f us ++ f vs) (xs ys : List Item)
-  where
-    behind : f xs ≡ xs → xs ++ f ys ≡ f (xs ++ ys)
-    behind same = rw (split xs ys, same) refl
+-- what changes only the path of that name
+pub record ActsOn (name : List ℕ) (f : List Item → List Item) : Type 0 where
+  pub split : (us vs : List Item) → f (us ++ vs) ≡ f us ++ f vs
+  pub free : (us : List Item) → absent us name → f us ≡ us
 
-    before : (zs : List Item) → zs ≡ f xs → f ys ≡ ys → zs ++ ys ≡ f (xs ++ ys)
-    before zs e same = rw (split xs ys, e, same) refl
+pub sets : (name : List ℕ) (path : Path) → ActsOn name (map (set_item name path None))
+sets name path = record {
+  split = map-append (set_item name path None);
+  free = λ us off. sets_none us name path None off;
+}
 
-module _ (name : List ℕ) (xs ys : List Item) where
-  pub set_before : (path : Path) (zs : List Item) → zs ≡ map (set_item name path None) xs → absent ys name →
-      zs ++ ys ≡ map (set_item name path None) (xs ++ ys)
-  set_before path zs e free =
-      before (map (set_item name path None)) (map-append (set_item name path None)) xs ys zs e
-      (sets_none ys name path None free)
+pub removes : (name : List ℕ) → ActsOn name (others name)
+removes name = record {
+  split = filter-append (λ i. not (same_name i.name name));
+  free = λ us off. keeps_all us name off;
+}
 
-  pub drop_behind : NamesDiffer (all_named (xs ++ ys)) → has_name ys name ≡ true →
-      xs ++ others name ys ≡ others name (xs ++ ys)
-  drop_behind d there =
-      behind (others name) (filter-append (λ i. not (same_name i.name name))) xs ys
-      (keeps_all xs name (first_absent xs ys name d there))
+-- in the list, or among the new paths
+module _ {name : List ℕ} {f : List Item → List Item} (acts : ActsOn name f) (xs ys zs : List Item) where
+  pub acts_before : zs ≡ f xs → absent ys name → zs ++ ys ≡ f (xs ++ ys)
+  acts_before e off = rw (acts.split xs ys, e, acts.free ys off) refl
 
-  pub drop_before : (zs : List Item) → zs ≡ others name xs → absent ys name → zs ++ ys ≡ others name (xs ++ ys)
-  drop_before zs e free =
-      before (others name) (filter-append (λ i. not (same_name i.name name))) xs ys zs e (keeps_all ys name free)
-
-pub set_if_ok : {A E : Type 0} (cs : Changes) (ys zs : List Item) (name : List ℕ) (path : Path) (r : Result A E) →
-    OnOk r (zs ≡ map (set_item name path None) ys) → has_name ys name ≡ true
-    → OnOk r ((is : List Item) → NamesDiffer (all_named (under_changes cs is ++ ys)) →
-    has_name (under_changes cs is ++ ys) name ≡ true →
-    under_changes cs is ++ zs ≡ map (set_item name path None) (under_changes cs is ++ ys))
-set_if_ok cs ys zs name path (Ok a) same there =
-    λ is d on. rw same (behind (map (set_item name path None)) (map-append (set_item name path None))
-    (under_changes cs is) ys (sets_none (under_changes cs is) name path None (first_absent (under_changes cs is) ys name d there)))
-set_if_ok cs ys zs name path (Err e) same there = tt
+  pub acts_behind : zs ≡ f ys → NamesDiffer (all_named (xs ++ ys)) → has_name ys name ≡ true → xs ++ zs ≡ f (xs ++ ys)
+  acts_behind e d there = rw (acts.split xs ys, e, acts.free xs (first_absent xs ys name d there)) refl
 
 -- a path of the list that is not among the new ones is not removed
 pub not_dropped : (cs : Changes) (is ys : List Item) (name : List ℕ) →
     has_name (under_changes cs is ++ ys) name ≡ true → has_name ys name ≡ false → drops (change_at cs name) ≡ false
-not_dropped cs is ys name there free =
-    grind (arith, both_have (under_changes cs is) ys name, overlaid_has cs is name)
+not_dropped cs is ys name there free = grind (arith, both_have (under_changes cs is) ys name, overlaid_has cs is name)
 
 -- ---- copying the changed list, path by path
 
@@ -195,14 +170,12 @@ module _ (cs : Changes) (is to now : List Item) (k : ℕ) (h : Copied cs is to n
   one = under_change (change_at cs i.name) i
 
   pub copied_more : (new : List Item) → new ≡ now ++ under_change (change_at cs i.name) i → Copied cs is to new (k + 1)
-  copied_more new e =
-      record {
-        done = h.done ++ under_change (change_at cs i.name) i;
-        put = rw (e, h.put, append_assoc to h.done (under_change (change_at cs i.name) i)) refl;
-        rest =
-            append_assoc h.done (under_change (change_at cs i.name) i) (under_changes cs (drop (k + 1) is))
-            ∙ ap (λ (js : List Item). h.done ++ under_changes cs js) (sym (drop_at is k i at)) ∙ h.rest;
-      }
+  copied_more new e = record {
+    done = h.done ++ under_change (change_at cs i.name) i;
+    put = rw (e, h.put, append_assoc to h.done (under_change (change_at cs i.name) i)) refl;
+    rest = append_assoc h.done (under_change (change_at cs i.name) i) (under_changes cs (drop (k + 1) is))
+        ∙ ap (λ (js : List Item). h.done ++ under_changes cs js) (sym (drop_at is k i at)) ∙ h.rest;
+  }
 
   -- one more is added if none has its name
   pub put_free : (n : NamedPath) (j : Item) → under_change (change_at cs i.name) (item_of i.name n) ≡ j ∷ [] →

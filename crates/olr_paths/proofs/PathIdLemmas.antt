@@ -5,15 +5,10 @@ use Rattle.olr_paths.proofs.Common.{length, get_or, slice_get, Some, Result, Ok,
 use Rattle.olr_paths.proofs.Common.{subst, arith, string_bytes, remove, IsStrictlyIncreasing, result_ok, string_eq}
 use Rattle.olr_paths.proofs.Common.{set_value_at, insert_entry, cases_lt, eq-eqb, length-remove}
 use Rattle.olr_paths.proofs.Common.{AllPairs-from_increasing, get_or_from_slice_get, slice_get_within, has, place_of}
-use Rattle.olr_paths.proofs.Common.{NamedNoted, Grows, Finder, NamedPath, PathList, flipped}
-use Rattle.std.specs.Prelude.{String}
-use Rattle.std.specs.List.Sorted.{IsBinarySearchResult}
+use Rattle.olr_paths.proofs.Common.{NamedNoted, Grows, Finder, NamedPath, PathList, flipped, String}
+use Rattle.olr_paths.proofs.Common.{IsBinarySearchResult, Global, cases_order, get_or_read, ascends, has_at, place_not}
+use Rattle.olr_paths.proofs.Common.{has-remove, AreNoted, Spares}
 use Rattle.std.specs.Ordering.{nat_cmp}
-use Rattle.std.specs.declared.alloc.Global.{Global}
-use Rattle.std.proofs.lemmas.Bool.{cases_order}
-use Rattle.std.proofs.lemmas.List.{get_or_read}
-use Rattle.olr_spec.proofs.AscendingLists.{ascends, has_at, place_not, has-remove}
-use Rattle.olr_paths.specs.Finding.{AreNoted, Spares}
 use Rattle.olr_paths.proofs.NamedEntries.{Entries, item_of, items_of, absent, not_here}
 
 -- ---- the index entries of a path, as others are added and removed
@@ -40,11 +35,10 @@ named_spared f g path_id m n ne spare h p some known =
 -- the ids at different positions
 apart : (xs : List ℕ) → IsStrictlyIncreasing xs → (i j : ℕ) → i < length xs → j < length xs → i ≢ j →
     get_or xs i 0 ≢ get_or xs j 0
-apart xs up i j a b ne same =
-    elim (cases_lt i j) [
-      | inl low ↦ let lt = AllPairs-from_increasing xs up i j 0 low b in absurd (omega arith)
-      | inr high ↦ let lt = AllPairs-from_increasing xs up j i 0 (omega (arith, ne)) a in absurd (omega arith)
-    ]
+apart xs up i j a b ne same = elim (cases_lt i j) [
+  | inl low ↦ let lt = AllPairs-from_increasing xs up i j 0 low b in absurd (omega arith)
+  | inr high ↦ let lt = AllPairs-from_increasing xs up j i 0 (omega (arith, ne)) a in absurd (omega arith)
+]
 
 -- an id that was removed is not among the rest
 not_left : (xs : List ℕ) (p k : ℕ) → IsStrictlyIncreasing xs → p < length xs → k < length (remove xs p) →
@@ -137,8 +131,7 @@ noted_spared es ms f g path_id other spare h k e at =
 pub noted_below : (l : PathList) (g : Finder) (path_id : ℕ) →
     ((k : ℕ) → k < length l.path_ids.items → get_or l.path_ids.items k 0 < path_id) → Spares path_id l.finder g →
     AreNoted l.paths.entries l.path_ids.items g
-noted_below l g path_id below spare =
-    noted_spared l.paths.entries l.path_ids.items l.finder g path_id
+noted_below l g path_id below spare = noted_spared l.paths.entries l.path_ids.items l.finder g path_id
     (λ k lt same. let low = below k (omega (arith, l.long)) in absurd (omega arith)) spare l.noted
 
 -- the id at a position
@@ -154,36 +147,32 @@ module _ (l : PathList) (g : Finder) (q path_id : ℕ) (within : q < length l.pa
   here = sym (get_or_read ms q path_id within is 0)
 
   beside : (k : ℕ) (e : String Global × NamedPath) → k ≢ q → slice_get es k ≡ Some e → NamedNoted g (get_or ms k 0) e.1
-  beside k e ne at =
-      named_spared l.finder g path_id (get_or ms k 0) e.1
+  beside k e ne at = named_spared l.finder g path_id (get_or ms k 0) e.1
       (λ same. apart ms l.ascend k q (omega (arith, slice_get_within l.paths.entries k e at, l.long)) within ne (same ∙ sym here))
       spare (l.noted k e at)
 
   -- its path is removed
   pub noted_removed : AreNoted (remove es q) (remove ms q) g
-  noted_removed =
-      noted_spared (remove es q) (remove ms q) l.finder g path_id
+  noted_removed = noted_spared (remove es q) (remove ms q) l.finder g path_id
       (λ k lt same. not_left ms q k l.ascend within
       (omega (arith, length-remove ms q within, length-remove es q (omega (arith, l.long)), l.long)) (same ∙ sym here))
       spare (each_removed (NamedNoted l.finder) es ms q l.long l.noted)
 
   -- its path is replaced
   pub noted_set : (n : NamedPath) → NamedNoted g path_id n → AreNoted (set_value_at es q n) ms g
-  noted_set n one =
-      each_set (NamedNoted g) es ms q n beside (subst (λ (m : ℕ). NamedNoted g m n) (sym here) one)
+  noted_set n one = each_set (NamedNoted g) es ms q n beside (subst (λ (m : ℕ). NamedNoted g m n) (sym here) one)
 
   -- its path still has its index entries
   pub noted_but : (x : String Global × NamedPath) → slice_get es q ≡ Some x →
       (NamedNoted l.finder path_id x.1 → NamedNoted g path_id x.1) → AreNoted es ms g
-  noted_but x at keeps k e there =
-      elim (cases_order k q) [
-        | inl same ↦
-            let one : x ≡ e = cc (at, there, same) in
-            let id : path_id ≡ get_or ms k 0 = sym here ∙ ap (λ (j : ℕ). get_or ms j 0) (sym same) in
-            let old : NamedNoted l.finder path_id x.1 = rw (one, id) (l.noted k e there) in
-            rw (← id, ← one) (keeps old)
-        | inr differ ↦ beside k e (λ s. elim differ [ inl low ↦ omega arith | inr high ↦ omega arith ]) there
-      ]
+  noted_but x at keeps k e there = elim (cases_order k q) [
+    | inl same ↦
+        let one : x ≡ e = cc (at, there, same) in
+        let id : path_id ≡ get_or ms k 0 = sym here ∙ ap (λ (j : ℕ). get_or ms j 0) (sym same) in
+        let old : NamedNoted l.finder path_id x.1 = rw (one, id) (l.noted k e there) in
+        rw (← id, ← one) (keeps old)
+    | inr differ ↦ beside k e (λ s. elim differ [ inl low ↦ omega arith | inr high ↦ omega arith ]) there
+  ]
 
 -- ---- a list with one path more
 

@@ -2,13 +2,8 @@
 -- clear are right on the next map.
 use Rattle.olr_paths.proofs.Common.{inl, inr, ℕ, suc, ◌+◌, ◌<◌, List, [], ◌∷◌, map, All, refl, sym, subst, arith}
 use Rattle.olr_paths.proofs.Common.{AllPairs-from_increasing, IsStrictlyIncreasing, Map, ChangedLine, KnownQuery}
-use Rattle.olr_paths.proofs.Common.{AreKnown, Picks, IsAgainClear}
-use Rattle.std.proofs.lemmas.List.Elements.{All-nil, All-cons, All-head, All-tail}
-use Rattle.std.proofs.lemmas.List.Kept.{AllPairs-cons}
-use Rattle.std.specs.List.{AllPairs}
-use Rattle.olr_spec.specs.Detours.{AccountsFor}
-use Rattle.olr_spec.specs.Queries.{IsKnown}
-use Rattle.olr_spec.proofs.KnownLemmas.{known_stays}
+use Rattle.olr_paths.proofs.Common.{AreKnown, Picks, IsAgainClear, All-nil, All-cons, All-head, All-tail}
+use Rattle.olr_paths.proofs.Common.{AllPairs-cons, AllPairs, AccountsFor, IsKnown, known_stays}
 
 -- ---- elements that are picked from a list
 
@@ -68,8 +63,7 @@ pub picked_known : (M N : Map) (C : List ChangedLine) → AccountsFor C M N → 
 picked_known M N C there here ls known given are picks =
     let Clear : KnownQuery → Type 0 = λ e. IsAgainClear N C e.query in
     record {
-      right =
-          picked_each Clear (IsKnown M ls) (IsKnown N ls)
+      right = picked_each Clear (IsKnown M ls) (IsKnown N ls)
           (λ e clear right. known_stays M N C there here ls e right clear.clear) known given picks are.right;
       ascend = picked_increasing Clear (λ e. e.first) known given picks are.ascend;
     }

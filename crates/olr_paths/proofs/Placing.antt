@@ -1,9 +1,7 @@
 -- Storing results at their positions.
-use Rattle.olr_paths.proofs.Common.{◌≡◌, ℕ, zero, suc, List, [], ◌∷◌, ◌++◌, length, slice_get, Option, Some, None, refl}
-use Rattle.olr_paths.proofs.Common.{sym, ap, ◌∙◌, ◌≤◌, take, arith, map-append, set_value_at, Path, Made, Item, Put}
-use Rattle.olr_paths.proofs.Common.{put, all_put, puts_of, NamedPath}
-use Rattle.std.specs.Option.{option_to_list}
-use Rattle.std.specs.Map.{values_of}
+use Rattle.olr_paths.proofs.Common.{◌≡◌, ℕ, zero, suc, List, [], ◌∷◌, ◌++◌, length, slice_get, Option, Some, None}
+use Rattle.olr_paths.proofs.Common.{refl, ap, ◌∙◌, ◌≤◌, take, arith, map-append, set_value_at, Path, Made, Item, Put}
+use Rattle.olr_paths.proofs.Common.{put, all_put, puts_of, NamedPath, option_to_list, values_of}
 use Rattle.olr_paths.proofs.NamedEntries.{Entries, made_of_named, item_of, items_of}
 
 -- after the first ones
@@ -44,20 +42,10 @@ module _ (es : Entries) (k : ℕ) (n : NamedPath) (all rest : List One) (o : Opt
     (whole : List Item) (h : all_put (items_of es) (puts_of all) ≡ whole) where
   -- the last of the remaining ones, stored first
   taken : all_put (put (items_of es) k n.path.value (made_of_named n)) (puts_of rest) ≡ whole
-  taken =
-      let parts : puts_of all ≡ puts_of rest ++ record { position = k; path = n.path.value; made = made_of_named n } ∷
-      [] =
-      ap puts_of last ∙ ap (λ (q : Option One). puts_of (rest ++ option_to_list q)) is
-      ∙ map-append (λ (e : One). record { position = e.0; path = e.1.path.value; made = made_of_named e.1 }) rest
-      ((k, n) ∷ []) in
-      sym (all_put-push (items_of es) (puts_of rest)
-      (record { position = k; path = n.path.value; made = made_of_named n })) ∙ ap (all_put (items_of es)) (sym parts)
-      ∙ h
+  taken = rw (last, is, map-append, all_put-push) at h
 
   pub placed : all_put (items_of (set_value_at es k n)) (puts_of rest) ≡ whole
   placed = ap (λ (js : List Item). all_put js (puts_of rest)) (put_at es k n) ∙ taken
 
   pub passed_by : None ≡ slice_get (values_of es) k → all_put (items_of es) (puts_of rest) ≡ whole
-  passed_by at =
-      ap (λ (js : List Item). all_put js (puts_of rest)) (sym (put_nowhere es k n.path.value (made_of_named n) at))
-      ∙ taken
+  passed_by at = rw (put_nowhere es k n.path.value (made_of_named n) at) at taken

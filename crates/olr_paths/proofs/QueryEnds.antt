@@ -1,23 +1,16 @@
 -- The ends of a coverage query are traversed nodes: if none of these is touched, they are on the next map too.
 use Rattle.olr_paths.proofs.Common.{inl, inr, ◌≡◌, ◌+◌, ◌<◌, ℕ, true, false, List, [], ◌∷◌, length, Contains, Option}
-use Rattle.olr_paths.proofs.Common.{Some, None, MatchOption, IsTrue, refl, sym, ap, ◌∙◌, subst, is_some, arith}
-use Rattle.olr_paths.proofs.Common.{cases_Bool, Map, IsMap, has_node, end, has, SameRound, IsRoute, Path, is_path}
-use Rattle.olr_paths.proofs.Common.{extended_path, Refusal, path_fault, TraversedOf, CoverageQuery, QueriesOfExtended}
-use Rattle.olr_paths.proofs.Common.{QueriesOf, query_from}
-use Rattle.std.specs.List.{slice_index}
-use Rattle.olr_spec.specs.Map.{has_line, start}
+use Rattle.olr_paths.proofs.Common.{None, IsTrue, refl, sym, ap, ◌∙◌, subst, is_some, arith, cases_Bool, Map, IsMap}
+use Rattle.olr_paths.proofs.Common.{has_node, end, has, SameRound, IsRoute, Path, is_path, extended_path, path_fault}
+use Rattle.olr_paths.proofs.Common.{TraversedOf, CoverageQuery, QueriesOfExtended, QueriesOf, query_from, slice_index}
+use Rattle.olr_paths.proofs.Common.{has_line, start, first, last, TraversedOfExtended, Each-cons, has_index, IsOnMap}
 use Rattle.olr_spec.specs.Coordinates.{Coord}
-use Rattle.olr_spec.specs.Extension.{first, last}
-use Rattle.olr_spec.specs.Queries.{TraversedOfExtended}
-use Rattle.olr_spec.proofs.ListLemmas.{Each-cons, has_index}
 use Rattle.olr_spec.proofs.JoinedLemmas.{extended_joined}
-use Rattle.olr_commands.specs.Counts.{IsOnMap}
-use Rattle.olr_paths.proofs.QueryLengths.{within_limit}
+use Rattle.olr_paths.proofs.QueryLengths.{extended_queries, within_limit}
 
 route_lines : (M : Map) (s v : ℕ) (xs : List ℕ) → IsRoute M s v xs → (x : ℕ) → has xs x ≡ true → IsTrue (has_line M x)
 route_lines M s v [] w = λ x on. let never : ⊥ = cc (on) in absurd never
-route_lines M s v (y ∷ ys) w =
-    Each-cons (λ x. IsTrue (has_line M x)) y ys w.0 (route_lines M (end M y) v ys w.2)
+route_lines M s v (y ∷ ys) w = Each-cons (λ x. IsTrue (has_line M x)) y ys w.0 (route_lines M (end M y) v ys w.2)
 
 module _ (M N : Map) (m : IsMap M) (T : List ℕ) (rounds : (v : ℕ) → has T v ≡ false → SameRound M N v) (P : Path)
     (is : IsTrue (is_path P.lines)) where
@@ -51,21 +44,14 @@ module _ (M N : Map) (m : IsMap M) (T : List ℕ) (rounds : (v : ℕ) → has T 
       )
     where
       stays : (v : ℕ) → TraversedOfExtended M P v → IsTrue (has_node M v) → IsTrue (has_node N v)
-      stays v t there =
-          elim (cases_Bool (has T v)) [
-            | inl touched ↦ absurd (free v touched t)
-            | inr off ↦ sym (ap (λ (c : Option Coord). is_some c) (rounds v off).place) ∙ there
-          ]
+      stays v t there = elim (cases_Bool (has T v)) [
+        | inl touched ↦ absurd (free v touched t)
+        | inr off ↦ sym (ap (λ (c : Option Coord). is_some c) (rounds v off).place) ∙ there
+      ]
 
   pub on_map : (queries : List CoverageQuery) → QueriesOf M P queries → ((v : ℕ) → has T v ≡ true →
       ¬ TraversedOf M P v) → (l : CoverageQuery) → Contains queries l → IsOnMap N l
   on_map queries o free l on =
-      let both = by (path_fault M P) refl o free in
+      let q = extended_queries M P queries o l on in
+      let both = ends_on_map queries q.0 q.1 (λ v t h. free v t (rw q.0 h)) l on in
       record { from = both.0; to = both.1; within = within_limit M P queries o l on }
-    where
-      by : (f : Option Refusal) → path_fault M P ≡ f → MatchOption f (QueriesOfExtended M P queries) (λ _. queries ≡ [])
-          → ((v : ℕ) → has T v ≡ true → ¬ MatchOption f (TraversedOfExtended M P v) (λ _. ⊥))
-          → IsTrue (has_node N l.from) × IsTrue (has_node N l.to)
-      by None e h none = ends_on_map queries e h none l on
-      by (Some r) e h none = absurd (let long : length queries ≡ 0 = ap (λ (ks : List CoverageQuery). length ks) h in
-          let lt = on.1 in omega arith)

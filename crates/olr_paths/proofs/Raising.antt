@@ -1,10 +1,8 @@
 -- Counts that were raised are not less than before.
 use Rattle.olr_paths.proofs.Common.{ℕ, zero, suc, List, [], ◌∷◌, length, ◌≡◌, ◌+◌, ◌-◌, ◌<◌, ◌≤◌, min, arith, sym}
-use Rattle.olr_paths.proofs.Common.{subst, Map, CoverageQuery, Work, raised_count}
-use Rattle.std.proofs.Common.{◌^◌}
+use Rattle.olr_paths.proofs.Common.{subst, Map, CoverageQuery, Work, raised_count, ◌^◌, SettledBy, AreCounts, Rises}
+use Rattle.olr_paths.proofs.Common.{AreSearched}
 use Rattle.olr_search.specs.Counts.{saturated_count}
-use Rattle.olr_refs.specs.Choice.{SettledBy}
-use Rattle.olr_paths.specs.Changes.{AreCounts, Rises, AreSearched}
 
 raised_up : (c n : ℕ) → c < 2 ^ 64 → c ≤ raised_count c n
 raised_up c zero h = omega arith
@@ -27,9 +25,8 @@ kept_up a b n h e = subst (λ (c : ℕ). a ≤ c) (sym e) (raised_up a n h)
 pub work_up : (M : Map) (queries : List CoverageQuery) (n : ℕ) (old new : Work) → AreCounts old →
     new.encodings ≡ raised_count old.encodings n →
     AreSearched M queries old new → Rises old new
-work_up M queries n old new h encodings searched =
-    record {
-      encodings = kept_up old.encodings new.encodings n h.encodings encodings;
-      searches = kept_up old.searches new.searches (length queries) h.searches searched.searches;
-      settled = settled_up M queries old.settled new.settled h.settled searched.settled;
-    }
+work_up M queries n old new h encodings searched = record {
+  encodings = kept_up old.encodings new.encodings n h.encodings encodings;
+  searches = kept_up old.searches new.searches (length queries) h.searches searched.searches;
+  settled = settled_up M queries old.settled new.settled h.settled searched.settled;
+}

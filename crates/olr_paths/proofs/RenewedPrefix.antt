@@ -1,22 +1,17 @@
 -- A list, as far as it was renewed: SoFar says it of the first paths, with the work. A list follows itself.
-use Rattle.olr_paths.proofs.Common.{◌≡◌, ℕ, map, zero, suc, take, ◌+◌, List, [], ◌∷◌, ◌++◌, length, slice_get, Option}
-use Rattle.olr_paths.proofs.Common.{None, Some, ◌⊎◌, inl, inr, refl, sym, ap, subst, ◌∙◌, append-nil, append_assoc}
-use Rattle.olr_paths.proofs.Common.{arith, map-append, slice_get_within, Map, IsMap, Answer, ChangedLine, CoverageQuery}
-use Rattle.olr_paths.proofs.Common.{Work, raised_count, entry_of, Entry, entry, Made, Item, IsEncodingOf, named_of}
+use Rattle.olr_paths.proofs.Common.{◌≡◌, ℕ, map, take, ◌+◌, List, [], ◌∷◌, ◌++◌, length, slice_get, Option, None, Some}
+use Rattle.olr_paths.proofs.Common.{◌⊎◌, inl, inr, refl, sym, ap, ◌∙◌, append-nil, append_assoc, arith, map-append}
+use Rattle.olr_paths.proofs.Common.{slice_get_within, Map, IsMap, Answer, ChangedLine, CoverageQuery, Work}
+use Rattle.olr_paths.proofs.Common.{raised_count, entry_of, Entry, entry, Made, Item, IsEncodingOf, named_of}
 use Rattle.olr_paths.proofs.Common.{all_named, answer_in, IsBefore, Reported, Follows, IsAffected, IsSpared}
 use Rattle.olr_paths.proofs.Common.{IsEncodedAgain, SearchesItem, all_put, puts_of, Left, Retained, EncodedAgain}
 use Rattle.olr_paths.proofs.Common.{after_renewal, nodes_of, lines_of, changed_of, ChangeSet, NamedPath, Renewal}
-use Rattle.olr_paths.proofs.Common.{Counted, take_more_at}
-use Rattle.std.proofs.Common.{option_map}
-use Rattle.std.proofs.lemmas.List.{length-append}
-use Rattle.olr_commands.specs.Counts.{CountIs, Collects}
-use Rattle.olr_commands.specs.State.{Named}
-use Rattle.olr_paths.specs.Changes.{with_made, IsRemade, AreRemade, Totals, AreTotals, AreCounted}
-use Rattle.olr_paths.specs.Renewing.{made_at, entries_of, ReportsIfOther, spared_one, encoded_one, IsStep, WasBefore}
-use Rattle.olr_paths.specs.Renewing.{IsRenewal}
+use Rattle.olr_paths.proofs.Common.{Counted, take_more_at, option_map, length-append, CountIs, Collects, Named}
+use Rattle.olr_paths.proofs.Common.{with_made, IsRemade, AreRemade, Totals, AreTotals, AreCounted, made_at, entries_of}
+use Rattle.olr_paths.proofs.Common.{ReportsIfOther, spared_one, encoded_one, IsStep, WasBefore, IsRenewal}
 use Rattle.olr_refs.proofs.Noting.{raised_more, settled_append}
 use Rattle.olr_paths.proofs.Placing.{put_behind, all_put-push}
-use Rattle.olr_paths.proofs.GivenQueries.{searches_item}
+use Rattle.olr_paths.proofs.GivenQueries.{at_position, searches_item}
 use Rattle.olr_paths.proofs.KeptLemmas.{stays_unless, stays_retained, spared_by, touched_by, encoded_again}
 
 AreRemade-push : (N : Map) (is js : List Item) (i j : Item) → AreRemade N is js → IsRemade N i j →
@@ -51,13 +46,12 @@ both t u =
 
 module _ (L N : Map) (T X : List ℕ) (C : List ChangedLine) (is js : List Item) (t u : Totals) where
   totals_both : AreTotals L N T X C is t → AreTotals L N T X C js u → AreTotals L N T X C (is ++ js) (both t u)
-  totals_both g h =
-      record {
-        affected = count_both (IsAffected L T X) is js t.affected u.affected g.affected h.affected;
-        spared = count_both (IsSpared L N T X C) is js t.spared u.spared g.spared h.spared;
-        queries =
-            collect_both (IsEncodedAgain L N T X C) (SearchesItem L N C) is js t.queries u.queries g.queries h.queries;
-      }
+  totals_both g h = record {
+    affected = count_both (IsAffected L T X) is js t.affected u.affected g.affected h.affected;
+    spared = count_both (IsSpared L N T X C) is js t.spared u.spared g.spared h.spared;
+    queries =
+        collect_both (IsEncodedAgain L N T X C) (SearchesItem L N C) is js t.queries u.queries g.queries h.queries;
+  }
 
 raised_twice : (a b c n m : ℕ) → b ≡ raised_count a n → c ≡ raised_count b m → c ≡ raised_count a (n + m)
 raised_twice a b c n m h k = k ∙ ap (λ (x : ℕ). raised_count x m) h ∙ raised_more a n m
@@ -67,21 +61,17 @@ counted_none N c = record { encodings = refl; spared = refl; searched = record {
 
 module _ (N : Map) (t u : Totals) (a b c : Work) (j k l : ℕ) where
   counted_both : AreCounted N t a b j k → AreCounted N u b c k l → AreCounted N (both t u) a c j l
-  counted_both g h =
-      record {
-        encodings = raised_twice a.encodings b.encodings c.encodings t.affected u.affected g.encodings h.encodings;
-        spared = raised_twice j k l t.spared u.spared g.spared h.spared;
-        searched =
-            record {
-              searches =
-                  raised_twice a.searches b.searches c.searches (length t.queries) (length u.queries)
-                  g.searched.searches h.searched.searches
-                  ∙ ap (raised_count a.searches) (sym (length-append t.queries u.queries));
-              settled =
-                  settled_append N t.queries u.queries a.settled b.settled c.settled g.searched.settled
-                  h.searched.settled;
-            };
-      }
+  counted_both g h = record {
+    encodings = raised_twice a.encodings b.encodings c.encodings t.affected u.affected g.encodings h.encodings;
+    spared = raised_twice j k l t.spared u.spared g.spared h.spared;
+    searched = record {
+      searches = raised_twice a.searches b.searches c.searches (length t.queries) (length u.queries)
+          g.searched.searches h.searched.searches
+          ∙ ap (raised_count a.searches) (sym (length-append t.queries u.queries));
+      settled = settled_append N t.queries u.queries a.settled b.settled c.settled g.searched.settled
+          h.searched.settled;
+    };
+  }
 
 -- ---- the paths before a position, with the work
 
@@ -103,16 +93,15 @@ pub record SoFar (N : Map) (T X : List ℕ) (C : List ChangedLine) (before is : 
 
 pub so_far_none : {N : Map} {T X : List ℕ} {C : List ChangedLine} {before is : List Item} (r : Renewal)
     (work : Counted) → r.fresh.items ≡ [] → r.entries.items ≡ [] → SoFar N T X C before is work [] r work
-so_far_none {N} r work fresh entries =
-    record {
-      js = [];
-      many = no_totals;
-      put = λ ys. ap (λ (es : List (ℕ × NamedPath)). all_put ys (puts_of es)) fresh;
-      named = refl;
-      reported = λ ks fs k. rw (ap (map entry_of) entries) k;
-      remade = λ L q. (refl, record { affected = refl; spared = refl; queries = refl });
-      counted = counted_none N work;
-    }
+so_far_none {N} r work fresh entries = record {
+  js = [];
+  many = no_totals;
+  put = λ ys. ap (λ (es : List (ℕ × NamedPath)). all_put ys (puts_of es)) fresh;
+  named = refl;
+  reported = λ ks fs k. rw (ap (map entry_of) entries) k;
+  remade = λ L q. (refl, record { affected = refl; spared = refl; queries = refl });
+  counted = counted_none N work;
+}
 
 -- for the whole list
 pub whole : {N : Map} {t : ChangeSet} {before is : List Item} {old : Counted} {now : Counted} (r : Renewal) →
@@ -127,13 +116,6 @@ whole {N} {t} {before} {is} r b h =
       counted = λ L q. (h.many, (h.remade L q).1, h.counted);
     })
 
-follows_at : (before is : List Item) (k : ℕ) (i : Item) → Follows before is → slice_get is k ≡ Some i →
-    (i.made ≡ None) ⊎ (answer_in before i.name ≡ answer i)
-follows_at before [] k i h at = let never : ⊥ = cc in absurd never
-follows_at before (x ∷ is) zero i h at = let e : x ≡ i =
-    cc in subst (λ (j : Item). (j.made ≡ None) ⊎ (answer_in before j.name ≡ answer j)) e h.0
-follows_at before (x ∷ is) (suc k) i h at = follows_at before is k i h.1 at
-
 module _ {N : Map} (n : IsMap N) {T X : List ℕ} {C : List ChangedLine} {before is : List Item} {old : Counted}
     (follows : Follows before is) (position : ℕ) (i : Item) (at : slice_get is position ≡ Some i) where
   -- with the item j, and its totals, after what was stored
@@ -144,27 +126,24 @@ module _ {N : Map} (n : IsMap N) {T X : List ℕ} {C : List ChangedLine} {before
       ((L : Map) → IsBefore L N T X C is → IsRemade N i j × AreTotals L N T X C (i ∷ []) u) →
       AreCounted N u now.work later.work now.kept later.kept →
       SoFar N T X C before is old (take (position + 1) is) s later
-  grown r s now later j A u h puts same is_A returned one counted =
-      rw (take_more_at is position i at) (record {
-        js = h.js ++ j ∷ [];
-        many = both h.many u;
-        put = λ ys. rw (append_assoc (take position is) (i ∷ []) ys, append_assoc h.js (j ∷ []) ys) (puts ys);
-        named =
-            map-append named_of h.js (j ∷ []) ∙ ap (λ (xs : List Named). xs ++ named_of j ∷ []) h.named
-            ∙ ap (λ (x : Named). all_named (take position is) ++ x ∷ []) same
-            ∙ sym (map-append named_of (take position is) (i ∷ []));
-        reported = λ ks fs k. rw (append_assoc h.js (j ∷ []) ks) (elim returned [
-          | inl e ↦ rw e.1 (h.reported (j ∷ ks) fs (A, fs, is_A, k, inl (e.0, refl)))
-          | inr e ↦ rw (e.1, append_assoc (entries_of r) (entry j.name A ∷ []) fs)
-              (h.reported (j ∷ ks) (entry j.name A ∷ fs) (A, fs, is_A, k, inr (e.0, refl)))
-        ]);
-        remade = λ L q. (
-          AreRemade-push N (take position is) h.js i j (h.remade L q).0 (one L q).0,
-          totals_both L N T X C (take position is) (i ∷ []) h.many u (h.remade L q).1 (one L q).1,
-        );
-        counted =
-            counted_both N h.many u old.work now.work later.work old.kept now.kept later.kept h.counted counted;
-      })
+  grown r s now later j A u h puts same is_A returned one counted = rw (take_more_at is position i at) (record {
+    js = h.js ++ j ∷ [];
+    many = both h.many u;
+    put = λ ys. rw (append_assoc (take position is) (i ∷ []) ys, append_assoc h.js (j ∷ []) ys) (puts ys);
+    named = map-append named_of h.js (j ∷ []) ∙ ap (λ (xs : List Named). xs ++ named_of j ∷ []) h.named
+        ∙ ap (λ (x : Named). all_named (take position is) ++ x ∷ []) same
+        ∙ sym (map-append named_of (take position is) (i ∷ []));
+    reported = λ ks fs k. rw (append_assoc h.js (j ∷ []) ks) (elim returned [
+      | inl e ↦ rw e.1 (h.reported (j ∷ ks) fs (A, fs, is_A, k, inl (e.0, refl)))
+      | inr e ↦ rw (e.1, append_assoc (entries_of r) (entry j.name A ∷ []) fs)
+          (h.reported (j ∷ ks) (entry j.name A ∷ fs) (A, fs, is_A, k, inr (e.0, refl)))
+    ]);
+    remade = λ L q. (
+      AreRemade-push N (take position is) h.js i j (h.remade L q).0 (one L q).0,
+      totals_both L N T X C (take position is) (i ∷ []) h.many u (h.remade L q).1 (one L q).1,
+    );
+    counted = counted_both N h.many u old.work now.work later.work old.kept now.kept later.kept h.counted counted;
+  })
 
   -- with the same item, built again
   retained : (r : Renewal) (now later : Counted) (m : Made) (u : Totals) → i.made ≡ Some m →
@@ -175,15 +154,15 @@ module _ {N : Map} (n : IsMap N) {T X : List ℕ} {C : List ChangedLine} {before
   retained r now later m u some h one counted =
       let is_A : answer i ≡ Some m.answer = ap (option_map (λ (k : Made). k.answer)) some in
       let answered : answer_in before i.name ≡ Some m.answer =
-      elim (follows_at before is position i follows at) [
+      elim (at_position (Follows before) (λ j. (j.made ≡ None) ⊎ (answer_in before j.name ≡ answer j)) (λ x xs f. f) is
+      position i follows at) [
         | inl none ↦ let never : ⊥ = cc in absurd never
         | inr same ↦ same ∙ is_A
       ] in
       grown r r now later i m.answer u h (λ ys. h.put (i ∷ ys)) refl is_A (inl (answered, refl))
       (λ L q. ((m, (one L q).0, (λ k. record { name = i.name; path = i.path; made = some k })), (one L q).1)) counted
 
-  pub so_far_step : {r s : Renewal} {now later : Counted} →
-      SoFar N T X C before is old (take position is) r now →
+  pub so_far_step : {r s : Renewal} {now later : Counted} → SoFar N T X C before is old (take position is) r now →
       IsStep N T X C before i position r s now later → SoFar N T X C before is old (take (position + 1) is) s later
   so_far_step {r} {s} {now} {later} h (Left f same still) =
       rw (same, still) (retained r now now f.0 no_totals f.1 h (λ L q.
@@ -219,16 +198,15 @@ module _ {N : Map} (n : IsMap N) {T X : List ℕ} {C : List ChangedLine} {before
         record {
           affected = inl (e.0, (0, refl, refl));
           spared = inr (e.1, refl);
-          queries =
-              inl (
-                e,
-                (
-                  queries,
-                  [],
-                  searches_item n q position i at given queries m made gives those,
-                  refl,
-                  sym (append-nil queries),
-                ),
-              );
+          queries = inl (
+            e,
+            (
+              queries,
+              [],
+              searches_item n q position i at given queries m made gives those,
+              refl,
+              sym (append-nil queries),
+            ),
+          );
         },
       )) one

@@ -1,11 +1,8 @@
 -- Membership in lists: by a test, and by a position.
 use Rattle.olr_paths.proofs.Common.{◌≡◌, ℕ, true, List, [], ◌∷◌, map, get_or, Contains, IsTrue, ◌↔◌, sym, ◌∙◌, subst}
-use Rattle.olr_paths.proofs.Common.{arith, inl, inr, eq-eqb, get_or_default, has}
-use Rattle.std.proofs.Common.{eqb}
-use Rattle.std.specs.List.{list_any}
-use Rattle.std.proofs.lemmas.Bool.{eqb-true}
+use Rattle.olr_paths.proofs.Common.{arith, inl, inr, eq-eqb, get_or_default, has, eqb, list_any, eqb-true}
+use Rattle.olr_paths.proofs.Common.{Contains-here, Contains-later, Contains-cases}
 use Rattle.std.proofs.lemmas.List.Folds.{Any-from_list_any, list_any_at}
-use Rattle.olr_spec.proofs.ListLemmas.{Contains-here, Contains-later, Contains-cases}
 
 pub has_from : (xs : List ℕ) (x : ℕ) → Contains xs x → has xs x ≡ true
 has_from xs x h = list_any_at (λ y. eqb y x) xs h.0 x h.1 (eq-eqb _ x h.2)

@@ -1,7 +1,7 @@
 -- The text that is stored with an answer is the one that is published.
 use Rattle.olr_paths.proofs.Common.{◌≡◌, ℕ, Bool, List, Bor, IsTrue, Option, Some, None, sym, ap, ◌∙◌, subst}
 use Rattle.olr_paths.proofs.Common.{option_map, bytes_eq, IsReference, bytes_decides, result_ok, published_text}
-use Rattle.std.specs.Option.{option_eq}
+use Rattle.olr_paths.proofs.Common.{option_eq}
 use Rattle.olr_binary.proofs.TextLemmas.{one_reference}
 use Rattle.olr_spec.specs.Reference.{Reference}
 use Rattle.olr_binary.specs.Text.{IsTextOf, text_of}

@@ -1,8 +1,7 @@
 -- A list whose paths were encoded, as what its iterator has left.
 use Rattle.olr_paths.proofs.Common.{◌≡◌, ◌≢◌, ◌&&◌, ◌∷◌, [], ℕ, true, List, map, Option, Some, None, is_some, refl, ap}
 use Rattle.olr_paths.proofs.Common.{◌∙◌, option_map, string_bytes, Rc, Made, Item, made_of, AreEncoded, Published}
-use Rattle.std.specs.List.{list_all}
-use Rattle.std.specs.declared.alloc.Global.{Global}
+use Rattle.olr_paths.proofs.Common.{list_all, Global}
 use Rattle.olr_paths.proofs.NamedEntries.{Entries, items_of, made_of_named}
 
 some_made : (o : Option (Rc Published Global)) → option_map (λ p. made_of p.value) o ≢ None → is_some o ≡ true

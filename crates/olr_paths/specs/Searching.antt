@@ -18,7 +18,7 @@ use Rattle.olr_search.specs.declared.distances.Direction.TheVariants.{Along, Aga
 use Rattle.olr_spec.specs.Extension.{limit}
 use Rattle.olr_paths.specs.Items.{Made, Item}
 use Rattle.olr_paths.specs.Changes.{QueryTouched}
-use Rattle.olr_paths.specs.Touching.{nodes_of}
+use Rattle.olr_paths.specs.Touching.{nodes_of, changed_of}
 use Rattle.olr_paths.specs.Origins.{Begins}
 use Rattle.olr_paths.specs.declared.change_set.ChangeSet.{ChangeSet}
 use Rattle.olr_paths.specs.declared.searches.Searches.{Searches}
@@ -48,10 +48,10 @@ abbrev pub LackQueries : List Item → Type 0
 LackQueries is = (l : CoverageQuery) → ¬ Begins is l
 
 abbrev pub starts : ChangeSet → List (ℕ × ℕ)
-starts t = map (λ c. (c.from, c.len)) t.changed.items
+starts t = map (λ c. (c.from, c.len)) (changed_of t)
 
 abbrev pub ends : ChangeSet → List (ℕ × ℕ)
-ends t = map (λ c. (c.to, 0)) t.changed.items
+ends t = map (λ c. (c.to, 0)) (changed_of t)
 
 pub record AreDetours (N : Map) (slot : ℕ → ℕ) (t : ChangeSet) (d : Detours) : Type 0 where
   pub before : IsSearch N slot Against (starts t) d.before

@@ -48,6 +48,7 @@ fn encode_alone<M: MapRead>(
 
 impl PathList {
     /// Encodes a path and appends it. The reply names it. If an allocation fails, list and work are unchanged.
+    #[tactic(auto, using(crate::proofs::OriginLemmas::begins_add))]
     pub fn add<M: MapRead>(
         &mut self,
         alloc: Global,
@@ -83,6 +84,7 @@ impl PathList {
     /// Encodes another path for a name. It keeps its position, and the reply names it if its answer is another than
     /// before. If
     /// an allocation fails, list and work are unchanged.
+    #[tactic(auto, using(crate::proofs::OriginLemmas::begins_set))]
     pub fn set<M: MapRead>(
         &mut self,
         alloc: Global,

@@ -146,6 +146,7 @@ impl Overlay {
     }
 
     /// Appends a new path. If an allocation fails, nothing changes.
+    #[tactic(auto, using(crate::proofs::Overlaying::both_have))]
     pub fn hold(&mut self, alloc: Global, name: String, path: Path) -> Result<(), AllocError>
         requires { (is : List Item)
             × (is_some (path_named (all_named (under_overlay is self.old)) (string_bytes name)) ≡ false) }
@@ -164,7 +165,8 @@ impl Overlay {
         ensures err { OnErr result ((is : List Item) → under_overlay is self.new ≡ under_overlay is self.old) }
     {
         if self.added.has(name) {
-            return self.added.hold_other(alloc, name, path);
+            self.added.hold_other(alloc, name, path)?;
+            return Ok(());
         }
         let other = Rc::new(alloc, path)?;
         self.changes

@@ -104,6 +104,7 @@ impl PathList {
     }
 
     /// The number of paths. No name occurs twice.
+    #[tactic(auto, using(crate::proofs::NamedEntries::names_differ))]
     pub fn len(&self) -> usize
         ensures len { result ≡ length (items self.now) }
         ensures names { NamesDiffer (all_named (items self.now)) }

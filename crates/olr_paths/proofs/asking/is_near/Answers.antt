@@ -1,4 +1,4 @@
-use Rattle.olr_paths.proofs.Common.{Bool, IsTrue, ◌↔◌, min, sym, ap, subst, arith, limit, Near, label_at, nodes_of}
+use Rattle.olr_paths.proofs.Common.{min, ap, arith, limit, label_at, nodes_of}
 use Rattle.olr_paths.proofs.Distances.{near_by, near_absent}
 use Rattle.olr_paths.proofs.asking.is_near.Goals as goal
 
@@ -20,7 +20,5 @@ returns-in-Some g c =
 
 pub returns-in-None : goal.returns-in-None
 returns-in-None g c =
-    let N = g.M.MapRead.map c.args.map.now in
-    let T = nodes_of c.args.touched.now in
-    subst (λ (b : Bool). IsTrue b ↔ Near N T c.args.node (min c.args.within limit)) (sym c.has_node.ensures)
-    (near_absent N (g.met.M.MapRead.sound c.args.map.now) T c.args.node (min c.args.within limit) c.in-None.ensures)
+    rw c.has_node.ensures (near_absent (g.M.MapRead.map c.args.map.now) (g.met.M.MapRead.sound c.args.map.now)
+    (nodes_of c.args.touched.now) c.args.node _ c.in-None.ensures)

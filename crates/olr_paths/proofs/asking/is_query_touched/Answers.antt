@@ -1,7 +1,10 @@
-use Rattle.olr_paths.proofs.Common.{◌≡◌, List, All, Contains, true, false, sym, subst, ◌∙◌, arith, min, take_all}
-use Rattle.olr_paths.proofs.Common.{All-contains, limit, Near, CoverageQuery, IsExactAt, nodes_of}
+use Rattle.olr_paths.proofs.Common.{Map, ChangeSet, ◌≡◌, All, Contains, true, false, sym, subst, ◌∙◌, arith, min}
+use Rattle.olr_paths.proofs.Common.{take_all, All-contains, limit, Near, CoverageQuery, IsExactAt, nodes_of}
 use Rattle.olr_paths.proofs.Alls.{all_more}
 use Rattle.olr_paths.proofs.asking.is_query_touched.Goals as goal
+
+abbrev Far : Map → ChangeSet → CoverageQuery → Type 0
+Far N t k = ¬ Near N (nodes_of t) k.from (min k.within limit)
 
 pub is_near-requires-clause-returned : goal.is_near-requires-clause-returned
 is_near-requires-clause-returned g c =
@@ -17,24 +20,20 @@ is_near-requires-clause-returned g c =
 
 pub loop-query-preserved : goal.loop-query-preserved
 loop-query-preserved g c =
-    let P : CoverageQuery → Type 0 =
-    λ k. ¬ Near (g.M.MapRead.map c.args.map.now) (nodes_of c.args.touched.now) k.from (min k.within limit) in
+    let P = Far (g.M.MapRead.map c.args.map.now) c.args.touched.now in
     let off : c.is_near.result ≡ false = cc in
-    let item : CoverageQuery = c.query-item.result in
-    let no : P item = λ near.
+    let no : P c.query-item.result = λ near.
     let on : c.is_near.result ≡ true =
     c.is_near.ensures.1
     (subst (λ (l : CoverageQuery). Near (g.M.MapRead.map c.args.map.now) (nodes_of c.args.touched.now) l.from
     (min l.within limit)) (sym c.query.view_is) near) in cc in
-    all_more P c.as_slice-queries.result.now c.loop-query.query-index item c.loop-query-test.true c.loop-query.invariant
-    (subst (λ (l : CoverageQuery). P l) c.query-item.is no)
+    all_more P _ _ c.query-item.result c.loop-query-test.true c.loop-query.invariant (subst P c.query-item.is no)
 
 pub returns : goal.returns
 returns g c =
-    let P : CoverageQuery → Type 0 =
-    λ k. ¬ Near (g.M.MapRead.map c.args.map.now) (nodes_of c.args.touched.now) k.from (min k.within limit) in
+    let P = Far (g.M.MapRead.map c.args.map.now) c.args.touched.now in
     let all : All P c.args.published.now.queries.items =
-    subst (λ (ls : List CoverageQuery). All P ls)
+    subst (All P)
     (take_all c.loop-query.query-index c.as_slice-queries.result.now (omega (arith, c.loop-query-test.false))
     ∙ c.as_slice-queries.ensures.value) c.loop-query.invariant in (
       (λ no. absurd cc),

@@ -1,6 +1,4 @@
-use Rattle.olr_paths.proofs.Common.{List, ℕ, IsTrue, sym, subst, ◌∙◌, arith, AreBounds, IsUnder, Against, Leads}
-use Rattle.olr_search.specs.Bounds.{bound_in}
-use Rattle.olr_near.specs.Bounds.{Numbers}
+use Rattle.olr_paths.proofs.Common.{List, ℕ, IsTrue, sym, subst, ◌∙◌, arith, Against, Leads}
 use Rattle.olr_paths.proofs.Bounding.{are_bounds, source_under}
 use Rattle.olr_paths.proofs.asking.search_near.Goals as goal
 
@@ -16,13 +14,8 @@ returns-then-is_known-clause-returned g c = λ right v w source d le there way.
     let f = c.args.bounds.now in
     let from = c.deref.result.now in
     let known : IsTrue f.known = sym c.is_known.ensures ∙ c.if-is_known.true in
-    let bounds : AreBounds N Against (bound_in c.bounds.result.now) =
-    subst (λ (ns : Numbers). AreBounds N Against (bound_in ns)) (sym c.bounds.ensures) (are_bounds N f known right)
-    in
-    let under : IsUnder (bound_in c.bounds.result.now) v d =
-    subst (λ (ns : Numbers). IsUnder (bound_in ns) v d) (sym c.bounds.ensures)
-    (source_under f v w d known source le) in
-    c.in_ok-settle_under.ensures.settled Against from c.in_ok-begin.ensures.search bounds v d under there
+    c.in_ok-settle_under.ensures.settled Against from c.in_ok-begin.ensures.search
+    (rw c.bounds.ensures (are_bounds N f known right)) v d (rw c.bounds.ensures (source_under f v w d known source le)) there
     (subst (λ (xs : List (ℕ × ℕ)). Leads N Against xs v d) (sym (c.deref.ensures.value ∙ c.in_ok-sources.ensures)) way)
 
 -- as far as a query can reach

@@ -1,6 +1,5 @@
 use Rattle.olr_paths.proofs.Common.{◌≡◌, ◌∙◌, sym, ℕ, length, arith, length-map, items, overlay_changes, shown_items}
-use Rattle.olr_paths.proofs.Common.{nodes_of, lines_of}
-use Rattle.std.proofs.lemmas.List.Sorted.{IsNonDecreasingBy-from_sort}
+use Rattle.olr_paths.proofs.Common.{nodes_of, lines_of, IsNonDecreasingBy-from_sort}
 use Rattle.olr_paths.proofs.NamedEntries.{item_of}
 use Rattle.olr_paths.proofs.Covering.{covers_order, covers_overlaid, covers_grown, changed_grown}
 use Rattle.olr_paths.proofs.candidates.candidates.Goals as goal

@@ -1,6 +1,6 @@
-use Rattle.olr_paths.proofs.Common.{◌≡◌, ◌++◌, ◌∷◌, [], ◌∙◌, ℕ, List, Option, String, Global, take, false, sym, subst}
-use Rattle.olr_paths.proofs.Common.{string_bytes, has, same_name, Rc, Path, items, Changes, changes_in, path_in}
-use Rattle.olr_paths.proofs.Common.{Includes, FindsChanged}
+use Rattle.olr_paths.proofs.Common.{◌≡◌, ◌++◌, ◌∷◌, [], ◌∙◌, ℕ, List, Option, String, Global, false, sym, subst}
+use Rattle.olr_paths.proofs.Common.{string_bytes, has, same_name, Rc, Path, items, Changes, path_in, Includes}
+use Rattle.olr_paths.proofs.Common.{FindsChanged}
 use Rattle.olr_paths.proofs.NamedEntries.{first_at, named_there, same_flip}
 use Rattle.olr_paths.proofs.Overlaying.{Entered}
 use Rattle.olr_paths.proofs.Changed.{take_more_changes, not_there}
@@ -18,12 +18,10 @@ loop-k-preserved-in_default-get_index_of c =
     let more = take_more_changes cs at e (sym c.in-Some.ensures.entry) in (
       c.loop-k.invariant.0,
       subst (λ (ds : Changes). FindsChanged ds (items c.args.overlaid.list.now) now) (sym more)
-          (changed_more (changes_in (take at cs)) (string_bytes e.0, path_in e.1) (items c.args.overlaid.list.now) now
-          now
-          (λ k on. on) c.loop-k.invariant.1
+          (changed_more _ (string_bytes e.0, path_in e.1) _ now now (λ k on. on) c.loop-k.invariant.1
           (λ k i there off. same_flip (string_bytes e.0) i.name
-          ∙ subst (λ (n : List ℕ). same_name i.name n ≡ false) c.as_str.ensures.value
-          (not_there es name k i (sym (named_there es name) ∙ sym c.in_default-get_index_of.ensures.found) there))),
+          ∙ (rw c.as_str.ensures.value at (not_there es name k i
+          (sym (named_there es name) ∙ sym c.in_default-get_index_of.ensures.found) there)))),
     )
 
 pub loop-k-preserved : goal.loop-k-preserved
@@ -42,9 +40,7 @@ loop-k-preserved c =
     let more = take_more_changes cs at e (sym c.in-Some.ensures.entry) in (
       (λ k on. kept k (c.loop-k.invariant.0 k on)),
       subst (λ (ds : Changes). FindsChanged ds (items c.args.overlaid.list.now) now) (sym more)
-          (changed_more (changes_in (take at cs)) (string_bytes e.0, path_in e.1) (items c.args.overlaid.list.now) old
-          now
-          kept c.loop-k.invariant.1
+          (changed_more _ (string_bytes e.0, path_in e.1) _ old now kept c.loop-k.invariant.1
           (λ k i there off. subst (λ (n : List ℕ). same_name n i.name ≡ false) c.as_str.ensures.value
           (others_apart es name q old first c.len-names.ensures.names k i there
           (subst (λ (xs : List ℕ). has xs k ≡ false) put off)))),

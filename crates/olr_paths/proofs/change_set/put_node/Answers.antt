@@ -2,8 +2,7 @@ use Rattle.olr_paths.proofs.Common.{put_ascends, stays_has}
 use Rattle.olr_paths.proofs.change_set.put_node.Goals as goal
 
 pub returns-in-Ok-clause-ascend : goal.returns-in-Ok-clause-ascend
-returns-in-Ok-clause-ascend c =
-    rw c.in-Ok.ensures.items
+returns-in-Ok-clause-ascend c = rw c.in-Ok.ensures.items
     (put_ascends c.args.nodes.now.items c.args.node c.in-Err.place c.requires.ascend
     (rw c.deref.ensures.value at c.in-Err.ensures.position))
 

@@ -1,8 +1,7 @@
 use Rattle.olr_paths.proofs.Common.{◌≡◌, ◌≤◌, ℕ, ◌+◌, List, ◌∷◌, [], ◌++◌, drop, length, inl, inr, refl, append-nil}
 use Rattle.olr_paths.proofs.Common.{append_assoc, IsTrue, ◌↔◌, true, false, sym, ap, subst, ◌∙◌, Global, drop_all}
-use Rattle.olr_paths.proofs.Common.{drop_more, CoverageQuery, KnownQuery, IsAgainClear, Picks, most_changed, changed_of}
-use Rattle.olr_paths.proofs.Common.{IsKnownClear}
-use Rattle.std.proofs.Common.{Vec}
+use Rattle.olr_paths.proofs.Common.{drop_more, CoverageQuery, KnownQuery, IsAgainClear, Picks, most_changed}
+use Rattle.olr_paths.proofs.Common.{changed_of, IsKnownClear, Vec}
 use Rattle.olr_paths.proofs.Picking.{picks_none}
 use Rattle.olr_paths.proofs.detours.clear_known.Goals.{then-branch+in_ok-push, else-branch}
 use Rattle.olr_paths.proofs.detours.clear_known.Goals as goal
@@ -17,8 +16,7 @@ loop-one-preserved g c =
     let item : KnownQuery = c.one-item.result in
     let old : List KnownQuery = c.loop-one.clear.items in
     let few : length C ≤ most_changed = c.are_few.ensures.0 cc in
-    let clear : IsTrue c.in_ok-is_clear.field-0 ↔ IsKnownClear N C item.query =
-    subst (λ (l : CoverageQuery). IsTrue c.in_ok-is_clear.field-0 ↔ IsKnownClear N C l)
+    let clear = subst (λ (l : CoverageQuery). IsTrue c.in_ok-is_clear.field-0 ↔ IsKnownClear N C l)
     (ap (λ (e : KnownQuery). e.query) c.one.view_is) c.in_ok-is_clear.ensures.clear in
     let rest : drop k known ≡ item ∷ drop (k + 1) known =
     drop_more known k item c.loop-one-test.true ∙ ap (λ (e : KnownQuery). e ∷ drop (k + 1) known) (sym c.one-item.is) in (
@@ -33,8 +31,7 @@ loop-one-preserved g c =
             rw (grown, append_assoc old (item ∷ []) ks) (c.loop-one.invariant.0 (item ∷ ks) (rw rest here))
         | else-branch w ↦
             let same : c.if-branch.clear.items ≡ old = ap (λ (v : Vec KnownQuery Global). v.items) w.clear-is in
-            let here : Picks P (item ∷ drop (k + 1) known) ks =
-            inr (
+            let here : Picks P (item ∷ drop (k + 1) known) ks = inr (
               (λ e. let on : c.in_ok-is_clear.field-0 ≡ true = clear.1 (e.on_map, e.clear) in
                   let off : c.in_ok-is_clear.field-0 ≡ false = w.if-branch.false in cc),
               h,
@@ -54,10 +51,7 @@ returns-clause-clear g c =
 
 pub returns-then-not-are_few-clause-clear : goal.returns-then-not-are_few-clause-clear
 returns-then-not-are_few-clause-clear g c =
-    let C = changed_of c.args.touched.now in
-    let known : List KnownQuery = c.args.known.now in
-    let P : KnownQuery → Type 0 = λ e. IsAgainClear (g.M.MapRead.map c.args.map.now) C e.query in
-    subst (Picks P known) (sym c.new-clear.ensures.items)
-    (picks_none P
+    rw c.new-clear.ensures.items
+    (picks_none (λ e. IsAgainClear (g.M.MapRead.map c.args.map.now) (changed_of c.args.touched.now) e.query)
     (λ e clear. let on : c.are_few.result ≡ true = c.are_few.ensures.1 clear.few in
-    let never : ⊥ = cc (on, c.if-not-are_few.true) in never) known)
+    let never : ⊥ = cc (on, c.if-not-are_few.true) in never) _)

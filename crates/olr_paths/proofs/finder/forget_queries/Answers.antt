@@ -5,10 +5,7 @@ use Rattle.olr_paths.proofs.finder.forget_queries.Goals as goal
 pub loop-query-preserved : goal.loop-query-preserved
 loop-query-preserved c =
     let off : c.is_queried_from.result ≡ false = c.if-is_queried_from.false in
-    forgot_more (KeptIn (λ (l : CoverageQuery). l.from) c.args.kept.now) c.args.path_id c.args.index.now
-    c.loop-query.index
-    c.remove.new.self c.from.result c.loop-query.invariant
+    forgot_more (KeptIn (λ (l : CoverageQuery). l.from) c.args.kept.now) _ _ _ _ _ c.loop-query.invariant
     (λ k. let on : c.is_queried_from.result ≡ true =
     c.is_queried_from.ensures k.0 k.1 (k.2 ∙ c.from.ensures ∙ c.number.ensures.same) in let never : ⊥ =
-    cc (on, off) in never)
-    c.remove.ensures
+    cc (on, off) in never) c.remove.ensures

@@ -1,19 +1,17 @@
 use Rattle.olr_paths.proofs.Common.{[], ◌++◌, ◌≤◌, ◌∙◌, List, length, refl, ap, sym, arith, append-nil, length-map}
-use Rattle.olr_paths.proofs.Common.{drop_all, Item, items, under_changes, changes_in}
-use Rattle.std.proofs.lemmas.List.{take_at}
+use Rattle.olr_paths.proofs.Common.{drop_all, Item, items, under_changes, changes_in, take_at}
 use Rattle.olr_paths.proofs.NamedEntries.{item_of, item_at}
 use Rattle.olr_paths.proofs.Overlaying.{put_free, copied_more}
 use Rattle.olr_paths.proofs.overlay.put_behind.Goals as goal
 
 pub put_one-requires : goal.put_one-requires
-put_one-requires c =
-    λ j one.
+put_one-requires c = λ j one.
     let cs = changes_in c.args.changes.now.entries in
     let named = c.in-Some.named.now in
     let i : Item = item_of (c.in-Some.name.now, named) in
     let at = item_at c.args.list.now.paths.entries c.loop-k.k (c.in-Some.name.now, named) (sym c.in-Some.ensures.entry) in
-    rw c.as_str.ensures.value (put_free cs (items c.args.list.now) (items c.args.to.now) (items c.loop-k.to) c.loop-k.k
-    c.loop-k.invariant i at named j (rw c.as_str.ensures.value at one) refl c.requires)
+    rw c.as_str.ensures.value
+    (put_free cs _ _ _ _ c.loop-k.invariant i at named j (rw c.as_str.ensures.value at one) refl c.requires)
 
 pub loop-k-init : goal.loop-k-init
 loop-k-init c = record { done = []; put = sym (append-nil (items c.args.to.now)); rest = refl }
@@ -24,8 +22,7 @@ loop-k-preserved c =
     let named = c.in-Some.named.now in
     let i : Item = item_of (c.in-Some.name.now, named) in
     let at = item_at c.args.list.now.paths.entries c.loop-k.k (c.in-Some.name.now, named) (sym c.in-Some.ensures.entry) in
-    copied_more cs (items c.args.list.now) (items c.args.to.now) (items c.loop-k.to) c.loop-k.k c.loop-k.invariant i at
-    (items c.put_one.new.to) (rw c.as_str.ensures.value at c.in_ok-put_one.ensures.ok)
+    copied_more cs _ _ _ _ c.loop-k.invariant i at _ (rw c.as_str.ensures.value at c.in_ok-put_one.ensures.ok)
 
 pub returns-clause-put : goal.returns-clause-put
 returns-clause-put c =

@@ -1,6 +1,5 @@
 use Rattle.olr_paths.proofs.Common.{◌≡◌, refl, ◌∙◌, true, false, List, Option, sym, subst, arith, IfSome, items}
-use Rattle.olr_paths.proofs.Common.{NamedNoted, all_put, puts_of, NamedPath, set_value_at}
-use Rattle.std.proofs.lemmas.List.Elements.{All-pop}
+use Rattle.olr_paths.proofs.Common.{NamedNoted, all_put, puts_of, NamedPath, set_value_at, All-pop}
 use Rattle.olr_paths.proofs.NamedEntries.{items_of}
 use Rattle.olr_paths.proofs.PathIdLemmas.{kept_long, each_set}
 use Rattle.olr_paths.proofs.NotedPositions.{One, NotedAt}
@@ -14,9 +13,7 @@ invariant_of-list-in-Some-get_index_mut c =
     let ms = l.path_ids.items in
     let q = c.in-Some.position in
     let n : NamedPath = c.in-Some.named in
-    let popped =
-    All-pop (NotedAt ms l.finder) c.loop-position.fresh.items c.pop.new.self.items c.pop.result c.pop.ensures.items
-    c.loop-position.invariant.1 in
+    let popped = All-pop (NotedAt ms l.finder) _ _ _ c.pop.ensures.items c.loop-position.invariant.1 in
     let one : NotedAt ms l.finder (q, n) =
     subst (λ (o : Option One). IfSome o (NotedAt ms l.finder)) c.in-Some.is popped.1 in
     let within = c.in-Some-get_index_mut.ensures.found.0 refl in
@@ -40,8 +37,7 @@ loop-position-preserved-in-Some-get_index_mut c =
           ≡ all_put (items c.args.list.now) (puts_of c.args.fresh.items)) (sym c.replace-earlier.ensures.after)
           (placed es q n c.loop-position.fresh.items rest c.pop.result c.pop.ensures.items c.in-Some.is _
           c.loop-position.invariant.0),
-      (All-pop (NotedAt l.path_ids.items l.finder) c.loop-position.fresh.items rest c.pop.result c.pop.ensures.items
-          c.loop-position.invariant.1).0,
+      (All-pop (NotedAt l.path_ids.items l.finder) _ _ _ c.pop.ensures.items c.loop-position.invariant.1).0,
       omega (
         arith,
         c.loop-position.invariant.2,
@@ -54,24 +50,20 @@ loop-position-preserved-in-Some-get_index_mut c =
 
 pub loop-position-preserved : goal.loop-position-preserved
 loop-position-preserved c =
-    let l = c.loop-position.list in
-    let rest : List One = c.pop.new.self.items in (
-      passed_by l.paths.entries c.in-Some.position c.in-Some.named c.loop-position.fresh.items rest c.pop.result
-          c.pop.ensures.items c.in-Some.is _ c.loop-position.invariant.0 c.in_default-get_index_mut.ensures.value,
-      (All-pop (NotedAt l.path_ids.items l.finder) c.loop-position.fresh.items rest c.pop.result c.pop.ensures.items
-          c.loop-position.invariant.1).0,
+    let l = c.loop-position.list in (
+      passed_by _ _ _ _ _ _ c.pop.ensures.items c.in-Some.is _ c.loop-position.invariant.0
+          c.in_default-get_index_mut.ensures.value,
+      (All-pop (NotedAt l.path_ids.items l.finder) _ _ _ c.pop.ensures.items c.loop-position.invariant.1).0,
       omega (arith, c.loop-position.invariant.2, c.in-Some.ensures.len),
       c.loop-position.invariant.3,
     )
 
 pub loop-position-preserved-in_default-get_index_mut : goal.loop-position-preserved-in_default-get_index_mut
 loop-position-preserved-in_default-get_index_mut c =
-    let l = c.loop-position.list in
-    let rest : List One = c.pop.new.self.items in (
-      passed_by l.paths.entries c.in-Some.position c.in-Some.named c.loop-position.fresh.items rest c.pop.result
-          c.pop.ensures.items c.in-Some.is _ c.loop-position.invariant.0 c.in_default-get_index_mut.ensures.value,
-      (All-pop (NotedAt l.path_ids.items l.finder) c.loop-position.fresh.items rest c.pop.result c.pop.ensures.items
-          c.loop-position.invariant.1).0,
+    let l = c.loop-position.list in (
+      passed_by _ _ _ _ _ _ c.pop.ensures.items c.in-Some.is _ c.loop-position.invariant.0
+          c.in_default-get_index_mut.ensures.value,
+      (All-pop (NotedAt l.path_ids.items l.finder) _ _ _ c.pop.ensures.items c.loop-position.invariant.1).0,
       omega (arith, c.loop-position.invariant.2, c.in-Some.ensures.len),
       c.loop-position.invariant.3,
     )

@@ -9,8 +9,7 @@ invariant_of-list c =
       long = l.long;
       ascend = l.ascend;
       noted = l.noted;
-      encoded =
-          λ off. all_same c.args.list.now.paths.entries l.paths.entries
+      encoded = λ off. all_same c.args.list.now.paths.entries l.paths.entries
           ((rw c.len-count.ensures.len at c.cut.ensures) ∙ c.make_room-room.ensures.before)
           (c.args.list.now.encoded off);
     }

@@ -12,9 +12,7 @@ invariant_of-list-in-loop-position c =
     record {
       long = l.long;
       ascend = l.ascend;
-      noted =
-          noted_but l c.forget_named.new.finder r.0 c.index-path_id.result.now
-          (omega (arith, slice_get_within l.paths.entries r.0 x at, l.long)) c.index-path_id.ensures
-          c.forget_named.ensures.spares x at c.forget_named.ensures.keeps;
+      noted = noted_but l c.forget_named.new.finder r.0 _ (omega (arith, slice_get_within l.paths.entries r.0 x at, l.long))
+          c.index-path_id.ensures c.forget_named.ensures.spares x at c.forget_named.ensures.keeps;
       encoded = l.encoded;
     }

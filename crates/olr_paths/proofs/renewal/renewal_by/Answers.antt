@@ -1,6 +1,5 @@
-use Rattle.olr_paths.proofs.Common.{refl, inl, inr, ◌≡◌, ◌≤◌, ℕ, Some, length, get_or, slice_get, sym, subst, arith}
-use Rattle.olr_paths.proofs.Common.{◌+◌, take_all, slice_get_within, AreKnown, Item, nodes_of, lines_of, changed_of}
-use Rattle.olr_paths.proofs.Common.{Gives, shown_items, shown_item}
+use Rattle.olr_paths.proofs.Common.{refl, inl, inr, ◌≡◌, ◌≤◌, ℕ, Some, length, get_or, slice_get, arith, ◌+◌, take_all}
+use Rattle.olr_paths.proofs.Common.{slice_get_within, Item, nodes_of, lines_of, changed_of, shown_items, shown_item}
 use Rattle.olr_paths.proofs.RenewedPrefix.{so_far_none, so_far_step, whole}
 use Rattle.olr_paths.proofs.Covering.{passed_more, to_position, past_end}
 use Rattle.olr_paths.proofs.renewal.renewal_by.Goals as goal
@@ -13,12 +12,7 @@ known_for-requires-clause-before g c =
     let b = c.requires.before in (b.0, shown_items c.args.overlaid, _, c.in-Some.ensures.shown, b.1)
 
 pub advance-requires : goal.advance-requires
-advance-requires g c =
-    record {
-      known =
-          subst (AreKnown (g.M.MapRead.map c.args.map.now) (shown_item c.in-Some.shown).path.lines)
-          (sym c.deref.ensures.value) c.in_ok-known.ensures.known;
-    }
+advance-requires g c = record { known = rw c.deref.ensures.value c.in_ok-known.ensures.known }
 
 pub loop-candidate-init : goal.loop-candidate-init
 loop-candidate-init g c = (
@@ -56,8 +50,7 @@ loop-candidate-preserved g c =
           (λ m a b. c.requires.ascending k m 0 a b) h.1 le (omega arith) h.0)
           (c.in_ok-advance.ensures (nodes_of c.args.touched.now) (lines_of c.args.touched.now)
           (changed_of c.args.touched.now)
-          (λ e. subst (Gives (g.M.MapRead.map c.args.map.now) (changed_of c.args.touched.now) i.made)
-          (sym c.deref.ensures.value) (c.in_ok-known.ensures.given e)) c.in_ok-action.ensures.action),
+          (λ e. rw c.deref.ensures.value (c.in_ok-known.ensures.given e)) c.in_ok-action.ensures.action),
       passed_more position (position + 1) h.1 refl (inl (omega arith)) (omega arith) (omega arith),
       (λ some. c.in_ok-known.ensures.detours),
     )

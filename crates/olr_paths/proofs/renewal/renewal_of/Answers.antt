@@ -1,14 +1,11 @@
-use Rattle.olr_paths.proofs.Common.{sym, arith, ℕ, List, ◌∙◌, ap, subst, option_map, shown_items, shown_item, nodes_of}
-use Rattle.olr_paths.proofs.Common.{lines_of, BeginsPut, Covers, puts_of, NamedPath, Renewal, Counted, none_of}
+use Rattle.olr_paths.proofs.Common.{arith, ◌∙◌, ap, option_map, shown_items, shown_item, Renewal, Counted, none_of}
 use Rattle.olr_paths.proofs.Covering.{nothing_at}
 use Rattle.olr_paths.proofs.RenewedPrefix.{whole, so_far_none}
 use Rattle.olr_paths.proofs.Raising.{kept_up, work_up}
 use Rattle.olr_paths.proofs.renewal.renewal_of.Goals as goal
 
 pub renewal_by-requires-clause-covers : goal.renewal_by-requires-clause-covers
-renewal_by-requires-clause-covers g c =
-    subst (Covers (g.M.MapRead.map c.args.map.now) (nodes_of c.args.touched.now) (lines_of c.args.touched.now)
-    (shown_items c.args.overlaid)) (sym c.deref.ensures.value) c.in_ok-found.ensures.covers
+renewal_by-requires-clause-covers g c = rw c.deref.ensures.value c.in_ok-found.ensures.covers
 
 pub returns-then-is_none : goal.returns-then-is_none
 returns-then-is_none g c =
@@ -18,13 +15,11 @@ returns-then-is_none g c =
     let r : Renewal = record { fresh = c.new.result; entries = c.new-then-is_none.result } in
     let counted : Counted = record { work = c.args.work.now; kept = c.args.kept.now } in
     record {
-      renewed =
-          whole {old = counted} {now = counted} r c.requires.before
+      renewed = whole {old = counted} {now = counted} r c.requires.before
           (rw none (so_far_none r counted c.new.ensures.items c.new-then-is_none.ensures.items));
       rises = record { encodings = omega arith; searches = omega arith; settled = omega arith };
       kept = omega arith;
-      new_origins = λ v b. absurd (subst (λ (es : List (ℕ × NamedPath)). BeginsPut (puts_of es) v) c.new.ensures.items
-          b);
+      new_origins = λ v b. absurd (rw c.new.ensures.items at b);
       err_work = tt;
       err_kept = tt;
     }

@@ -1,6 +1,6 @@
-use Rattle.olr_paths.proofs.Common.{◌≡◌, ◌-◌, ◌≤◌, ◌∷◌, [], ◌∙◌, ℕ, List, Some, refl, String, Global, length, slice_get}
-use Rattle.olr_paths.proofs.Common.{ap, sym, subst, arith, length-map, slice_get-map, option_map, Item, items}
-use Rattle.olr_paths.proofs.Common.{overlay_changes, change_at, under_change, shown_items, shown_item, NamedPath}
+use Rattle.olr_paths.proofs.Common.{◌∷◌, [], under_change, ◌≡◌, ◌-◌, ◌≤◌, ◌∙◌, ℕ, List, Some, refl, String, Global}
+use Rattle.olr_paths.proofs.Common.{length, slice_get, ap, sym, arith, length-map, slice_get-map, option_map, Item}
+use Rattle.olr_paths.proofs.Common.{items, overlay_changes, change_at, shown_items, shown_item, NamedPath}
 use Rattle.olr_paths.specs.declared.overlaid_list.OverlaidList.{OverlaidList}
 use Rattle.olr_paths.proofs.NamedEntries.{item_of, item_at}
 use Rattle.olr_paths.proofs.Changed.{changed_by, one_changed, overlaid_at, overlaid_behind}
@@ -15,13 +15,11 @@ returns-then-position-count-clause-shown c =
     let i : Item = item_of e in
     let at = item_at l.list.now.paths.entries c.args.position e (sym c.in_ok-name.ensures.entry) in
     let shown : under_change (change_at cs i.name) i ≡ shown_item c.show_under.result ∷ [] =
-    subst (λ (n : List ℕ). under_change (change_at cs n) (under n c.in_ok-name.named.now)
-    ≡ shown_item c.show_under.result ∷ []) c.as_str.ensures.value c.show_under.ensures in
+    rw c.as_str.ensures.value at c.show_under.ensures in
     let one = one_changed (change_at cs i.name) i (l.keeps i.name) in
     let same : changed_by cs i ≡ shown_item c.show_under.result = cc (one, shown) in
     overlaid_at cs (items l.list.now) (items l.overlay.now.added) l.keeps c.args.position i at
-    ∙ ap (λ (j : Item). Some j)
-    same
+    ∙ ap (λ (j : Item). Some j) same
 
 behind : (l : OverlaidList) (k n : ℕ) → n ≡ length l.list.now.paths.entries → n ≤ k →
     slice_get (shown_items l) k ≡ slice_get (items l.overlay.now.added) (k - n)
@@ -43,8 +41,7 @@ pub returns-clause-shown : goal.returns-clause-shown
 returns-clause-shown c =
     let l = c.args.self in
     let e : String Global × NamedPath = (c.in_ok-name-2.name.now, c.in_ok-name-2.named.now) in
-    let at =
-    item_at l.overlay.now.added.paths.entries (c.args.position - c.len-count.result) e
+    let at = item_at l.overlay.now.added.paths.entries (c.args.position - c.len-count.result) e
     (sym c.in_ok-name-2.ensures.entry) in
     behind l c.args.position c.len-count.result c.len-count.ensures.len c.if-position-count.false
     ∙ at ∙ ap (λ (n : List ℕ). Some (under n c.in_ok-name-2.named.now)) (sym c.as_str-2.ensures.value)
@@ -53,11 +50,5 @@ returns-clause-shown c =
 pub returns-clause-small : goal.returns-clause-small
 returns-clause-small c = λ some.
     let within = c.in_ok-name-2.ensures.found.0 refl in
-    omega (
-      arith,
-      within,
-      c.len-few.ensures.len,
-      c.len-few.ensures.small,
-      c.len-count.ensures.small,
-      c.if-position-count.false,
-    )
+    let few = c.len-few.ensures in
+    omega (arith, within, few.len, few.small, c.len-count.ensures.small, c.if-position-count.false)

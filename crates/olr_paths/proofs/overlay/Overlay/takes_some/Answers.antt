@@ -1,7 +1,7 @@
-use Rattle.olr_paths.proofs.Common.{◌≡◌, ◌∷◌, ◌++◌, [], ◌+◌, ◌∙◌, true, Option, String, Global, take, is_some, not, ap}
-use Rattle.olr_paths.proofs.Common.{sym, subst, arith, take_all, Rc, Path, take_more_at}
+use Rattle.olr_paths.proofs.Common.{All, All-push, ◌≡◌, ◌∷◌, ◌++◌, [], ◌+◌, ◌∙◌, true, Option, String, Global, take}
+use Rattle.olr_paths.proofs.Common.{is_some, not, ap, sym, subst, arith, take_all, Rc, Path, take_more_at}
 use Rattle.olr_paths.proofs.Overlaying.{Entered}
-use Rattle.olr_paths.proofs.Changed.{AreOthers, others_push, others_keep}
+use Rattle.olr_paths.proofs.Changed.{IsOther, others_keep}
 use Rattle.olr_paths.proofs.overlay.Overlay.takes_some.Goals as goal
 
 pub loop-k-preserved : goal.loop-k-preserved
@@ -11,10 +11,10 @@ loop-k-preserved c =
     let e : String Global × Option (Rc Path Global) = (c.in-Some.field-0-0.now, c.in-Some.change.now) in
     let more : take (k + 1) es ≡ take k es ++ e ∷ [] = take_more_at es k e (sym c.in-Some.ensures.entry) in
     let one : is_some e.1 ≡ true = c.is_none.ensures ∙ ap not c.if-is_none.false in
-    subst AreOthers (sym more) (others_push (take k es) e c.loop-k.invariant one)
+    subst (All IsOther) (sym more) (All-push IsOther (take k es) e c.loop-k.invariant one)
 
 pub returns : goal.returns
 returns c = λ off.
     let es : Entered = c.args.self.now.changes.entries in
-    others_keep es (subst AreOthers
+    others_keep es (subst (All IsOther)
     (take_all c.loop-k.k es (omega (arith, c.loop-k-test.false, c.len-k-end.ensures.len))) c.loop-k.invariant)

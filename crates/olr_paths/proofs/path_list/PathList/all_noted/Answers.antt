@@ -1,5 +1,5 @@
-use Rattle.olr_paths.proofs.Common.{◌≡◌, ◌∙◌, ℕ, inl, inr, get_or, slice_get, Some, String, Global, sym, ap, subst}
-use Rattle.olr_paths.proofs.Common.{arith, get_or_default, slice_get_within, cases_lt, NamedNoted, NamedPath}
+use Rattle.olr_paths.proofs.Common.{◌≡◌, ◌∙◌, ℕ, inl, inr, get_or, slice_get, Some, sym, ap, arith, get_or_default}
+use Rattle.olr_paths.proofs.Common.{slice_get_within, cases_lt}
 use Rattle.olr_paths.proofs.PathIdLemmas.{named_grown}
 use Rattle.olr_paths.proofs.path_list.PathList.all_noted.Goals as goal
 
@@ -20,12 +20,9 @@ loop-k-preserved c j e lt at =
           (omega (arith, slice_get_within l.paths.entries j e at, l.long)) in
           let here : (c.in-Some.field-0-0.now, c.in-Some.named.now) ≡ e =
           some_same (c.in-Some.ensures.entry ∙ ap (λ (i : ℕ). slice_get l.paths.entries i) (sym same) ∙ at) in
-          subst (λ (x : String Global × NamedPath). NamedNoted g (get_or ms j 0) x.1) here
-          (subst (λ (i : ℕ). NamedNoted g (get_or ms i 0) c.in-Some.named.now) (sym same)
-          (subst (λ (m : ℕ). NamedNoted g m c.in-Some.named.now) is c.in_ok-note_one.ensures.noted))
+          rw (← here, same, ← is) c.in_ok-note_one.ensures.noted
     ]
 
 pub returns : goal.returns
-returns c k e at =
-    c.loop-k.invariant k e
+returns c k e at = c.loop-k.invariant k e
     (omega (arith, slice_get_within c.args.self.now.paths.entries k e at, c.loop-k-test.false, c.len-k-end.ensures.len)) at

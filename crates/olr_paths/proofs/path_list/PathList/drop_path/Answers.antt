@@ -1,5 +1,4 @@
-use Rattle.olr_paths.proofs.Common.{◌≢◌, ◌<◌, None, sym, ap, length, ◌∙◌, arith, length-remove, items}
-use Rattle.olr_spec.proofs.AscendingLists.{ascends-remove}
+use Rattle.olr_paths.proofs.Common.{◌≢◌, ◌<◌, None, sym, ap, length, ◌∙◌, arith, length-remove, items, ascends-remove}
 use Rattle.olr_paths.proofs.NamedEntries.{first_at, items_of, keeps_all, named_there, removed_items}
 use Rattle.olr_paths.proofs.PathIdLemmas.{each_removed, noted_removed}
 use Rattle.olr_paths.proofs.path_list.PathList.drop_path.Goals as goal
@@ -10,8 +9,7 @@ returns c =
     let name = c.args.name.now in
     let q = c.in-Some.position in
     ap items_of c.shift_remove_index.ensures.entries
-    ∙ removed_items es name q (first_at es name q (sym c.in-Some.ensures.index))
-    c.len-names.ensures.names
+    ∙ removed_items es name q (first_at es name q (sym c.in-Some.ensures.index)) c.len-names.ensures.names
 
 pub returns-in_default : goal.returns-in_default
 returns-in_default c =
@@ -31,8 +29,7 @@ invariant_of-self c =
     record {
       long = rw (entries, ids) (omega (arith, length-remove ms q within, length-remove es q (omega (arith, l.long)), l.long));
       ascend = rw ids (ascends-remove ms q l.ascend within);
-      noted =
-          rw (entries, ids) (noted_removed l c.forget_named.new.finder q c.remove-path_id.result within
-          c.remove-path_id.ensures.value c.forget_named.ensures.spares);
+      noted = rw (entries, ids) (noted_removed l c.forget_named.new.finder q _ within c.remove-path_id.ensures.value
+          c.forget_named.ensures.spares);
       encoded = λ off. rw entries (each_removed (λ _ n. n.published ≢ None) es ms q l.long (l.encoded off));
     }

@@ -1,14 +1,16 @@
-use Rattle.olr_paths.proofs.Common.{◌≤◌, ◌∷◌, [], String, Global, map, ◌≡◌, length, refl, append-nil, ap, sym, ◌∙◌}
-use Rattle.olr_paths.proofs.Common.{arith, option_map, drop_all, map-append, length-map, entry, entry_of, items}
-use Rattle.olr_paths.proofs.Common.{made_of, NamedPath}
+use Rattle.olr_paths.proofs.Common.{AreEncoded, ◌≢◌, None, ◌≤◌, ◌∷◌, [], String, Global, map, ◌≡◌, length, refl}
+use Rattle.olr_paths.proofs.Common.{append-nil, ap, sym, ◌∙◌, arith, option_map, drop_all, map-append, length-map}
+use Rattle.olr_paths.proofs.Common.{entry, entry_of, items, made_of, NamedPath}
 use Rattle.olr_paths.proofs.NamedEntries.{item_at, item_of}
-use Rattle.olr_paths.proofs.EntryLists.{reported_more, encoded_at}
+use Rattle.olr_paths.proofs.EntryLists.{reported_more}
+use Rattle.olr_paths.proofs.GivenQueries.{at_position}
 use Rattle.olr_paths.proofs.path_list.PathList.entries.Goals as goal
 
 pub unreachable-requires-in_default-published : goal.unreachable-requires-in_default-published
 unreachable-requires-in_default-published c =
     let e : String Global × NamedPath = (c.in-Some.name.now, c.in-Some.named.now) in
-    encoded_at (items c.args.self.now) c.loop-k.k (item_of e) c.requires.encoded
+    at_position AreEncoded (λ i. i.made ≢ None) (λ x xs h. h) (items c.args.self.now) c.loop-k.k
+    (item_of e) c.requires.encoded
     (item_at c.args.self.now.paths.entries c.loop-k.k e (sym c.in-Some.ensures.entry))
     (ap (option_map (λ p. made_of p.value)) c.in_default-published.is)
 

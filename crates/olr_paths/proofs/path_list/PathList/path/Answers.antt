@@ -8,6 +8,5 @@ returns-in_err-named c =
     ∙ sym (paths_named c.args.self.now.paths.entries c.args.name.now))
 
 pub returns : goal.returns
-returns c =
-    ap (λ p. Some p) c.deref.ensures ∙ ap (option_map (λ n. n.path.value)) c.in_ok-named.ensures.value
+returns c = ap (λ p. Some p) c.deref.ensures ∙ ap (option_map (λ n. n.path.value)) c.in_ok-named.ensures.value
     ∙ sym (paths_named c.args.self.now.paths.entries c.args.name.now)

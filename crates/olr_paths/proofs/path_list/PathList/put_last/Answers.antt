@@ -1,7 +1,5 @@
-use Rattle.olr_paths.proofs.Common.{◌≢◌, ◌<◌, ℕ, None, List, length, get_or, ◌∙◌, ◌++◌, ◌∷◌, [], subst, arith, ap}
-use Rattle.olr_paths.proofs.Common.{map-append, string_eq, insert_entry, NamedNoted}
-use Rattle.std.proofs.lemmas.List.{length_push}
-use Rattle.olr_spec.proofs.AscendingLists.{ascends_push}
+use Rattle.olr_paths.proofs.Common.{◌≢◌, ℕ, None, List, ◌∙◌, ◌++◌, ◌∷◌, [], arith, ap, map-append, string_eq}
+use Rattle.olr_paths.proofs.Common.{insert_entry, NamedNoted, length_push, ascends_push}
 use Rattle.olr_paths.proofs.NamedEntries.{Entries, item_of}
 use Rattle.olr_paths.proofs.PathIdLemmas.{insert_last, noted_below, each_push}
 use Rattle.olr_paths.proofs.path_list.PathList.put_last.Goals as goal
@@ -16,9 +14,7 @@ pub invariant_of-self-in-Break-branch-4 : goal.invariant_of-self-in-Break-branch
 invariant_of-self-in-Break-branch-4 c =
     let l = c.args.self.now in
     let path_id = c.in_ok-path_id.path_id in
-    let below : (k : ℕ) → k < length l.path_ids.items → get_or l.path_ids.items k 0 < path_id =
-    subst (λ (xs : List ℕ). (k : ℕ) → k < length xs → get_or xs k 0 < path_id) c.deref.ensures.value
-    c.in_ok-path_id.ensures in
+    let below = rw c.deref.ensures.value at c.in_ok-path_id.ensures in
     let entries = c.in_ok-reserve.ensures.entries in
     let ids = c.in_ok-reserve-2.ensures.items in
     record {
@@ -37,9 +33,7 @@ invariant_of-self-2 c =
     let n = c.args.named in
     let path_id = c.in_ok-path_id.path_id in
     let g = c.note_named.new.finder in
-    let below : (k : ℕ) → k < length ms → get_or ms k 0 < path_id =
-    subst (λ (xs : List ℕ). (k : ℕ) → k < length xs → get_or xs k 0 < path_id) c.deref.ensures.value
-    c.in_ok-path_id.ensures in
+    let below = rw c.deref.ensures.value at c.in_ok-path_id.ensures in
     let entries =
     c.in-Ok.ensures.entries ∙ ap (λ (ys : Entries). insert_entry string_eq ys name n) c.in_ok-reserve.ensures.entries
     ∙ insert_last es name n c.requires in

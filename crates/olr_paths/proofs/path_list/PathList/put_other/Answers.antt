@@ -17,9 +17,7 @@ invariant_of-self-in-Break-1 c =
     record {
       long = l.long;
       ascend = l.ascend;
-      noted =
-          noted_but l c.renote.new.finder q c.index-path_id.result.now within c.index-path_id.ensures
-          c.renote.ensures.spares (c.in-Some-get_index.field-0-0.now, c.in-Some-get_index.current.now)
+      noted = noted_but l c.renote.new.finder q _ within c.index-path_id.ensures c.renote.ensures.spares _
           (sym c.in-Some-get_index.ensures.entry) c.in_err-renote.ensures.err;
       encoded = l.encoded;
     }
@@ -35,9 +33,8 @@ invariant_of-self-in-Some-get_index_mut c =
     record {
       long = l.long ∙ sym (kept_long es q n);
       ascend = l.ascend;
-      noted =
-          noted_set l c.renote.new.finder q c.index-path_id.result.now within c.index-path_id.ensures
-          c.renote.ensures.spares n c.in_ok-renote.ensures.noted;
+      noted = noted_set l c.renote.new.finder q _ within c.index-path_id.ensures c.renote.ensures.spares n
+          c.in_ok-renote.ensures.noted;
       encoded = λ off. let was = c.is_held-self.ensures off in
           each_set (λ _ m. m.published ≢ None) es ms q n (λ k e ne. l.encoded was.0 k e) was.1;
     }
@@ -47,5 +44,4 @@ returns-in-Some-get_index_mut-clause-ok c =
     let es = c.args.self.now.paths.entries in
     let name = c.args.name.now in
     let q = c.in-Some.position in
-    set_items es name q c.args.named (first_at es name q (sym c.in-Some.ensures.index))
-    c.len-names.ensures.names
+    set_items es name q c.args.named (first_at es name q (sym c.in-Some.ensures.index)) c.len-names.ensures.names

@@ -15,11 +15,9 @@ renew_overlaid-requires-2 g c =
     }
 
 pub returns-clause-renewed : goal.returns-clause-renewed
-returns-clause-renewed g c =
-    rw c.index-2.ensures
+returns-clause-renewed g c = rw c.index-2.ensures
     (rw (c.new-none.ensures (items c.in_ok-list.list), c.in_ok-list.ensures) at c.in_ok-entries-2.ensures.renewed)
 
 pub returns-clause-new_origins : goal.returns-clause-new_origins
-returns-clause-new_origins g c =
-    rw c.index-2.ensures
+returns-clause-new_origins g c = rw c.index-2.ensures
     (rw (c.new-none.ensures (items c.in_ok-list.list), c.in_ok-list.ensures) at c.in_ok-entries-2.ensures.new_origins)

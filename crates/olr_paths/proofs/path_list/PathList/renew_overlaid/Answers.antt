@@ -1,8 +1,7 @@
 use Rattle.olr_paths.proofs.Common.{Bor, ◌≡◌, ◌++◌, ◌∙◌, List, Option, Some, None, map, inl, inr, refl, ap, sym, subst}
 use Rattle.olr_paths.proofs.Common.{option_map, Entry, entry_of, Item, items, Begins, Reported, TakesNone}
-use Rattle.olr_paths.proofs.Common.{overlay_changes, all_put, puts_of, after_renewal, PathList, Renewal}
-use Rattle.std.proofs.Common.{unwrap_or}
-use Rattle.olr_paths.specs.Laying.{under_overlay}
+use Rattle.olr_paths.proofs.Common.{overlay_changes, all_put, puts_of, after_renewal, PathList, Renewal, unwrap_or}
+use Rattle.olr_paths.proofs.Common.{under_overlay}
 use Rattle.olr_paths.specs.declared.overlay.Overlay.{Overlay}
 use Rattle.olr_paths.proofs.OriginLemmas.{begins_all_put}
 use Rattle.olr_paths.proofs.Changed.{grown_differ, put_on_overlaid}
@@ -15,10 +14,8 @@ module _ (before : List Item) (is : List Item) (o : Overlay) (r : Renewal) (new 
     (returned : Reported before (after_renewal r (under_overlay is o)) (map entry_of r.entries.items))
     (put : new ≡ all_put (is ++ items o.added) (puts_of r.fresh.items)) where
   renewed : new ≡ after_renewal r (under_overlay is o)
-  renewed =
-      put ∙ put_on_overlaid (overlay_changes o) before is (items o.added) (puts_of r.fresh.items)
-      (map entry_of r.entries.items)
-      keeps returned
+  renewed = put ∙ put_on_overlaid (overlay_changes o) before is (items o.added) (puts_of r.fresh.items)
+      (map entry_of r.entries.items) keeps returned
 
 before_is : (o : Option (Bor PathList)) (b : Bor PathList) →
     items (unwrap_or o b).now ≡ unwrap_or (option_map (λ (x : Bor PathList). items x.now) o) (items b.now)
@@ -27,8 +24,7 @@ before_is (Some x) b = refl
 
 pub returns-clause-new_origins : goal.returns-clause-new_origins
 returns-clause-new_origins g c = λ v h.
-    let same =
-    renewed (items c.unwrap_or.result.now) (items c.args.self.now) c.args.overlay.now c.in_ok-fresh.field-0
+    let same = renewed (items c.unwrap_or.result.now) (items c.args.self.now) c.args.overlay.now c.in_ok-fresh.field-0
     (items c.put_in.new.list) c.requires.keeps c.in_ok-fresh.ensures.renewed.reported c.in_ok-put_in.ensures.ok in
     elim (begins_all_put (under_overlay (items c.args.self.now) c.args.overlay.now)
     (puts_of c.in_ok-fresh.field-0.fresh.items) v (subst (λ (is : List Item). Begins is v) same h)) [
@@ -38,8 +34,7 @@ returns-clause-new_origins g c = λ v h.
 
 pub returns-clause-renewed : goal.returns-clause-renewed
 returns-clause-renewed g c =
-    let same =
-    renewed (items c.unwrap_or.result.now) (items c.args.self.now) c.args.overlay.now c.in_ok-fresh.field-0
+    let same = renewed (items c.unwrap_or.result.now) (items c.args.self.now) c.args.overlay.now c.in_ok-fresh.field-0
     (items c.put_in.new.list) c.requires.keeps c.in_ok-fresh.ensures.renewed.reported c.in_ok-put_in.ensures.ok in
     let was = ap (λ (b : Bor PathList). items b.now) c.unwrap_or.ensures ∙ before_is c.args.before _ in
     rw (same, ← was) c.in_ok-fresh.ensures.renewed
@@ -54,14 +49,12 @@ invariant_of-self g c =
     let l = c.put_in.new.list in
     let before = items c.unwrap_or.result.now in
     let es : List Entry = map entry_of c.in_ok-fresh.field-0.entries.items in
-    let same =
-    renewed before (items c.args.self.now) c.args.overlay.now c.in_ok-fresh.field-0 (items l) c.requires.keeps
-    c.in_ok-fresh.ensures.renewed.reported c.in_ok-put_in.ensures.ok in
+    let same = renewed before (items c.args.self.now) c.args.overlay.now c.in_ok-fresh.field-0 (items l)
+    c.requires.keeps c.in_ok-fresh.ensures.renewed.reported c.in_ok-put_in.ensures.ok in
     record {
       long = l.long;
       ascend = l.ascend;
       noted = l.noted;
-      encoded =
-          λ _. all_encoded before l.paths.entries es
+      encoded = λ _. all_encoded before l.paths.entries es
           (subst (λ (is : List Item). Reported before is es) (sym same) c.in_ok-fresh.ensures.renewed.reported);
     }

@@ -1,7 +1,5 @@
-use Rattle.olr_paths.proofs.Common.{◌≡◌, inl, inr, List, [], ◌∷◌, ◌++◌, Some, ap, ◌∙◌, subst, Entry, entry, entry_of}
-use Rattle.olr_paths.proofs.Common.{Made, Item, items, made_of, set_item, Begins}
-use Rattle.std.specs.Prelude.{map}
-use Rattle.olr_paths.proofs.OriginLemmas.{begins_set}
+use Rattle.olr_paths.proofs.Common.{◌≡◌, inl, inr, List, [], ◌∷◌, ◌++◌, ap, ◌∙◌, Entry, entry, entry_of, Made}
+use Rattle.olr_paths.proofs.Common.{made_of, map}
 use Rattle.olr_paths.proofs.path_list.PathList.set.Goals as goal
 
 pub returns-clause-set : goal.returns-clause-set
@@ -17,15 +15,3 @@ returns-clause-set g c =
         | inr t ↦ inr (t.0, t.1 ∙ ap (λ (es : List Entry). es ++ entry name m.answer ∷ []) none)
       ],
     )
-
-pub returns-clause-new_origins : goal.returns-clause-new_origins
-returns-clause-new_origins g c = λ v h.
-    let m : Made = made_of c.in_ok-published.published in
-    let name = c.args.name.now in
-    let is = items c.args.self.now in
-    let now : items c.put_other.new.self ≡ map (set_item name c.args.path (Some m)) is =
-    rw (← c.in_ok-named.ensures.path, ← c.in_ok-named.ensures.made) c.in_ok-put_other.ensures.ok in
-    elim (begins_set name c.args.path (Some m) is v (subst (λ (js : List Item). Begins js v) now h)) [
-      | inl a ↦ inl a
-      | inr b ↦ inr (rw c.in_ok-published.ensures.new_origins b)
-    ]
