@@ -1,8 +1,8 @@
 -- Products of whole numbers, and how large they are.
-use Rattle.std.proofs.Common.{◌≡◌, ℕ, zero, suc, ◌+◌, ◌*◌, ◌≤◌, ℤ, pos, negsuc, ◌+ℤ◌, ◌*ℤ◌, neg_ℤ, ◌≤ℤ◌, ap, ◌∙◌, arith}
+use Rattle.olr_spec.proofs.Common.{◌≡◌, ℕ, zero, suc, ◌+◌, ◌*◌, ◌≤◌, ℤ, pos, negsuc, ◌+ℤ◌, ◌*ℤ◌, ◌≤ℤ◌, ap, ◌∙◌, arith}
+use Rattle.olr_spec.proofs.Common.{mul-le, ints}
+use Rattle.std.proofs.Common.{neg_ℤ}
 use Rattle.std.proofs.Math.IntN.{pos-*ℤ-pos, pos-*ℤ-negsuc, negsuc-*ℤ-negsuc, suc_ℤ-*ℤ, zero-*ℤ}
-use Rattle.std.proofs.lemmas.Nat.{mul-le}
-use Rattle.std.proofs.lemmas.Int.{ints}
 use Rattle.olr_spec.proofs.SectorLemmas.{neg_left}
 use Rattle.olr_bearing.specs.Ranges.{IsWithin}
 

@@ -1,11 +1,8 @@
 -- The ranges of coordinates, and of coordinates between two others.
-use Rattle.std.proofs.Common.{◌≡◌, ℕ, ◌+◌, ◌-◌, ◌*◌, ◌≤◌, ℤ, pos, negsuc, ◌+ℤ◌, ◌-ℤ◌, ◌*ℤ◌, neg_ℤ, IsTrue, to_z, of_z}
-use Rattle.std.proofs.Common.{ap, arith}
-use Rattle.std.specs.Int.{Width}
-use Rattle.std.proofs.lemmas.Int.{ints}
-use Rattle.std.proofs.lemmas.Bool.{and_parts}
-use Rattle.olr_spec.specs.Coordinates.{Coord, is_coord, is_longitude, is_latitude}
-use Rattle.olr_spec.specs.Bearings.{thousandths}
+use Rattle.olr_spec.proofs.Common.{◌≡◌, ℕ, ◌+◌, ◌-◌, ◌*◌, ◌≤◌, ℤ, pos, negsuc, ◌+ℤ◌, ◌-ℤ◌, ◌*ℤ◌, IsTrue, to_z, of_z, ap}
+use Rattle.olr_spec.proofs.Common.{arith, Width, ints, and_parts, Coord, is_coord, is_longitude, is_latitude}
+use Rattle.olr_spec.proofs.Common.{thousandths}
+use Rattle.std.proofs.Common.{neg_ℤ}
 use Rattle.olr_spec.proofs.BytesLemmas.{bounds}
 use Rattle.olr_bearing.specs.Ranges.{IsWithin, degree_units}
 use Rattle.olr_bearing.proofs.Products.{natural_product_within, times_sum, sum_times}

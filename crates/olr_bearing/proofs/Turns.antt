@@ -1,10 +1,10 @@
 -- A quarter turn of a direction turns its sector, so the sectors of one quarter determine those of the others.
-use Rattle.std.proofs.Common.{◌≡◌, ℕ, suc, ◌+◌, ◌<◌, ℤ, pos, ◌-ℤ◌, ◌*ℤ◌, neg_ℤ, ◌<ℤ◌, ◌&&◌, map, take, drop, get_or, IsTrue}
-use Rattle.std.proofs.Common.{refl, sym, ap, ◌∙◌, subst, arith}
-use Rattle.std.proofs.lemmas.Int.{ints}
-use Rattle.std.proofs.lemmas.List.{get_or-drop, get_or-take, get_or-map}
-use Rattle.std.specs.Int.RustNames.{int_le, int_lt}
-use Rattle.olr_spec.specs.Bearings.{Vector, vector, boundary, boundaries, quarter_turn, beyond, lies_between, IsSector, sector}
+use Rattle.olr_spec.proofs.Common.{◌≡◌, ℕ, suc, ◌+◌, ◌<◌, ℤ, pos, ◌-ℤ◌, ◌*ℤ◌, ◌<ℤ◌, ◌&&◌, map, take, drop, get_or}
+use Rattle.olr_spec.proofs.Common.{IsTrue, refl, sym, ap, ◌∙◌, subst, arith, ints, get_or-drop, get_or-take, get_or-map}
+use Rattle.olr_spec.proofs.Common.{int_le, Vector, vector, boundary, boundaries, quarter_turn, beyond, lies_between}
+use Rattle.olr_spec.proofs.Common.{IsSector, sector}
+use Rattle.std.proofs.Common.{neg_ℤ}
+use Rattle.std.specs.Int.RustNames.{int_lt}
 use Rattle.olr_spec.proofs.SectorLemmas.{one_sector, sector_is, neg_right, neg_left}
 
 -- ---- one quarter turn

@@ -1,11 +1,9 @@
 -- The bytes that a reference encodes as have no fault.
-use Rattle.std.proofs.Common.{rules, ◌≡◌, ℕ, zero, suc, ◌%◌, ◌<◌, List, [], ◌∷◌, ◌++◌, Option, Some, None, IsSome}
-use Rattle.std.proofs.Common.{IfSome, IfErr, Result, Ok, Err, slice_index, arith}
-use Rattle.std.specs.List.{AllByRecursion, flat_map}
+use Rattle.olr_spec.proofs.Common.{rules, ◌≡◌, ℕ, zero, suc, ◌%◌, ◌<◌, List, [], ◌∷◌, ◌++◌, Option, Some, None, IsSome}
+use Rattle.olr_spec.proofs.Common.{IfSome, IfErr, Result, Ok, Err, slice_index, arith, AllByRecursion, flat_map, First}
+use Rattle.olr_spec.proofs.Common.{Middle, Last, Reference, IsFirst, IsMiddle, IsLast, IsReference, HasBytes}
+use Rattle.olr_spec.proofs.Common.{first_bytes, last_bytes, middle_bytes, offset_bytes, reference_bytes, v3_fault}
 use Rattle.base64.specs.GeneralPurpose.{IsBytes}
-use Rattle.olr_spec.specs.Reference.{First, Middle, Last, Reference}
-use Rattle.olr_spec.specs.Bytes.{IsFirst, IsMiddle, IsLast, IsReference, HasBytes, first_bytes, last_bytes}
-use Rattle.olr_spec.specs.Bytes.{middle_bytes, offset_bytes, reference_bytes, v3_fault}
 use Rattle.olr_spec.proofs.ReadLemmas.{AreBytes, encoded_passes}
 use Rattle.olr_spec.proofs.BytesLemmas.{flag_below}
 use Rattle.olr_binary.specs.declared.faults.V3Fault.{V3Fault as Fault}

@@ -1,13 +1,11 @@
 -- The indices of the parts of a reference.
-use Rattle.std.proofs.Common.{◌≡◌, ℕ, zero, suc, ◌+◌, ◌-◌, ◌*◌, ◌/◌, ◌<◌, ◌≤◌, Bool, true, false, not, ◌||◌, ◌==◌}
-use Rattle.std.proofs.Common.{nat_lt, if◌then◌else◌, List, length, Some, None, nat_le, slice_index, refl, sym, subst}
-use Rattle.std.proofs.Common.{◌∙◌, arith, add-zero, take, drop}
-use Rattle.std.specs.List.{list_any}
-use Rattle.std.proofs.lemmas.List.{get_or-take, get_or-drop}
-use Rattle.std.proofs.lemmas.Bool.{or_parts, leb-false, eqb-true}
-use Rattle.std.proofs.lemmas.Bool.Decides.{nat_tests}
-use Rattle.olr_spec.specs.Bytes.{Length, Status, Flags, Reserved, status_byte, bit, extra, flags_of, attribute1_bytes}
-use Rattle.olr_spec.specs.Bytes.{has_reserved, v3_fault}
+use Rattle.olr_spec.proofs.Common.{◌≡◌, ℕ, zero, suc, ◌+◌, ◌-◌, ◌*◌, ◌/◌, ◌<◌, ◌≤◌, Bool, true, false, not, ◌||◌, ◌==◌}
+use Rattle.olr_spec.proofs.Common.{nat_lt, List, length, Some, None, nat_le, slice_index, refl, sym, subst, ◌∙◌, arith}
+use Rattle.olr_spec.proofs.Common.{add-zero, take, drop, list_any, get_or-take, get_or-drop, or_parts, leb-false}
+use Rattle.olr_spec.proofs.Common.{eqb-true, nat_tests, status_byte, bit, extra, flags_of, attribute1_bytes}
+use Rattle.olr_spec.proofs.Common.{has_reserved, v3_fault}
+use Rattle.std.proofs.Common.{if◌then◌else◌}
+use Rattle.olr_spec.specs.Bytes.{Length, Status, Flags, Reserved}
 use Rattle.olr_binary.specs.Layout.{IsLayout}
 
 -- of n LRPs, the first of which has its attribute byte 1 at index i, some attribute byte 1 has a reserved bit

@@ -1,13 +1,9 @@
 -- Coordinates after relative steps.
-use Rattle.std.proofs.Common.{◌≡◌, ℕ, ◌+◌, ◌<◌, ◌≤◌, ℤ, pos, ◌+ℤ◌, List, [], ◌∷◌, ◌++◌, length, map, take, get_or}
-use Rattle.std.proofs.Common.{nat_le, Some, sym, ap, ◌∙◌, arith, length-append}
-use Rattle.std.proofs.lemmas.Int.{ints}
+use Rattle.olr_spec.proofs.Common.{◌≡◌, ℕ, ◌+◌, ◌<◌, ◌≤◌, ℤ, pos, ◌+ℤ◌, List, [], ◌∷◌, ◌++◌, length, map, take, get_or}
+use Rattle.olr_spec.proofs.Common.{nat_le, Some, sym, ap, ◌∙◌, arith, length-append, ints, nat_tests, map-append}
+use Rattle.olr_spec.proofs.Common.{take-map, length-map, take_more, take_all, take-append-le, from_abs24, from_rel16}
+use Rattle.olr_spec.proofs.Common.{Middle, Reference, decoded, steps_sum}
 use lib.IntN.{+ℤ_assoc}
-use Rattle.std.proofs.lemmas.Bool.Decides.{nat_tests}
-use Rattle.std.proofs.lemmas.List.{map-append, take-map, length-map, take_more, take_all, take-append-le}
-use Rattle.olr_spec.specs.Coordinates.{from_abs24, from_rel16}
-use Rattle.olr_spec.specs.Reference.{Middle, Reference}
-use Rattle.olr_spec.specs.Decoded.{decoded, steps_sum}
 
 pub add_none : (z : ℤ) → z +ℤ pos 0 ≡ z
 add_none z = omega (arith, ints)

@@ -1,14 +1,10 @@
 -- LRPs decoded from their bytes.
-use Rattle.std.proofs.Common.{◌≡◌, ℕ, zero, suc, ◌+◌, ◌<◌, ◌≤◌, ◌*◌, List, [], ◌∷◌, ◌++◌, length, drop, slice_index}
-use Rattle.std.proofs.Common.{slice_range, refl, sym, ap, ◌∙◌, arith}
-use Rattle.std.specs.List.{flat_map}
-use Rattle.std.proofs.Math.Seq.{drop-cons}
+use Rattle.olr_spec.proofs.Common.{◌≡◌, ℕ, zero, suc, ◌+◌, ◌<◌, ◌≤◌, ◌*◌, List, [], ◌∷◌, ◌++◌, length, drop}
+use Rattle.olr_spec.proofs.Common.{slice_index, slice_range, refl, sym, ap, ◌∙◌, arith, flat_map, drop-cons, drop_all}
+use Rattle.olr_spec.proofs.Common.{First, Middle, Reference, signed16, signed24, attr_bytes, first_bytes, middle_bytes}
+use Rattle.olr_spec.proofs.Common.{last_bytes, reference_bytes, status_byte}
 use Rattle.std.proofs.lemmas.List.Concat.{flat_map-append}
-use Rattle.std.proofs.lemmas.List.{drop_all}
 use Rattle.std.proofs.lemmas.Slice.{between_to_end}
-use Rattle.olr_spec.specs.Reference.{First, Middle, Reference}
-use Rattle.olr_spec.specs.Bytes.{signed16, signed24, attr_bytes, first_bytes, middle_bytes, last_bytes, reference_bytes}
-use Rattle.olr_spec.specs.Bytes.{status_byte}
 use Rattle.olr_spec.proofs.BytesLemmas.{part}
 use Rattle.olr_spec.proofs.QueryLemmas.{stretch_parts}
 

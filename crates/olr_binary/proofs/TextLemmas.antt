@@ -1,10 +1,10 @@
 -- The text of a reference decodes to this reference.
-use Rattle.std.proofs.Common.{◌≡◌, ℕ, List, Some, None, IfErr, Result, Ok, Err, refl, sym, ap, ◌∙◌}
+use Rattle.olr_spec.proofs.Common.{◌≡◌, ℕ, List, Some, None, IfErr, Result, Ok, Err, refl, sym, ap, ◌∙◌, Reference}
+use Rattle.olr_spec.proofs.Common.{reference_bytes, v3_fault}
 use Rattle.base64.specs.Engines.{standard}
 use Rattle.base64.specs.GeneralPurpose.{decode_of}
 use Rattle.base64.proofs.EngineFacts.{decode_of-encode_of}
-use Rattle.olr_spec.specs.Reference.{Reference}
-use Rattle.olr_spec.specs.Bytes.{V3Fault as Fault, reference_bytes, v3_fault}
+use Rattle.olr_spec.specs.Bytes.{V3Fault as Fault}
 use Rattle.olr_spec.proofs.BytesLemmas.{one_decoding}
 use Rattle.olr_spec.proofs.ReadLemmas.{encoded_passes}
 use Rattle.olr_binary.specs.declared.faults.V3Fault.TheVariants.{Length, Status, Flags, Reserved, Memory}

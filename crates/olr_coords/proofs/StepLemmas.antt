@@ -1,10 +1,8 @@
 -- Whole numbers in 16 and in 64 bits.
-use Rattle.std.proofs.Common.{◌≡◌, ℤ, pos, negsuc, ◌-ℤ◌, true, false, IsTrue, Some, None, Result, Ok, Err, FitsSigned}
-use Rattle.std.proofs.Common.{w16, w64, refl, arith, if◌then◌else◌}
+use Rattle.olr_spec.proofs.Common.{◌≡◌, ℤ, pos, negsuc, ◌-ℤ◌, true, false, IsTrue, Some, None, Result, Ok, Err}
+use Rattle.olr_spec.proofs.Common.{FitsSigned, w16, w64, refl, arith, nat_tests, ints, fits16}
+use Rattle.std.proofs.Common.{if◌then◌else◌}
 use Rattle.std.specs.Result.{OkIff, result_ok}
-use Rattle.std.proofs.lemmas.Bool.Decides.{nat_tests}
-use Rattle.std.proofs.lemmas.Int.{ints}
-use Rattle.olr_spec.specs.Coordinates.{fits16}
 use Rattle.olr_coords.specs.Bounds.{is_degrees}
 
 fits_16 : (z : ℤ) → fits16 z ≡ true → FitsSigned w16 z

@@ -2,8 +2,7 @@
 use Rattle.olr_spec.proofs.Common.{◌≡◌, ℕ, ◌+◌, true, List, ◌∷◌, map, Option, Some, is_some, IsTrue, refl, sym, ap, ◌∙◌}
 use Rattle.olr_spec.proofs.Common.{◌==◌, unwrap_or, ◌↔◌, arith, [], eqb-true, get, nat_tests, option_filter, Map, Line}
 use Rattle.olr_spec.proofs.Common.{has_line, line_at, start, end, dm, coord_at, SameLine, SameRound, lines_where, dm_of}
-use Rattle.olr_spec.proofs.Common.{passing, passes_between}
-use Rattle.olr_spec.specs.Map.{no_line, no_coord}
+use Rattle.olr_spec.proofs.Common.{passing, passes_between, no_line, no_coord}
 use Rattle.olr_spec.proofs.MapLemmas.{has-lines_where, passes_at, same_selected}
 use Rattle.olr_spec.proofs.ListLemmas.{Each, Each-head, Each-tail, map_same}
 

@@ -2,16 +2,14 @@
 use Rattle.olr_spec.proofs.Common.{◌≡◌, ◌≢◌, ◌==◌, ℕ, suc, ◌+◌, ◌<◌, ◌≤◌, Bool, true, false, not, ◌&&◌, ◌||◌, ◌⊎◌, inl}
 use Rattle.olr_spec.proofs.Common.{inr, List, ◌∷◌, ◌++◌, Contains, Ok, Result, length, get_or, refl, sym, ap, ◌∙◌}
 use Rattle.olr_spec.proofs.Common.{arith, [], eq-eqb, ne_eqb, eqb-true, cases_Bool, cases_lt, cases_order, cases_eq}
-use Rattle.olr_spec.proofs.Common.{◌-◌, IsStrictlyIncreasing, list_any_at, has}
-use Rattle.std.proofs.Common.{Err, is_ok, ⊎_elim, MatchResult, IsPermutation, insert, remove}
+use Rattle.olr_spec.proofs.Common.{◌-◌, IsStrictlyIncreasing, list_any_at, has, Err, is_ok, ⊎_elim, MatchResult}
+use Rattle.olr_spec.proofs.Common.{IsPermutation, IsBinarySearchResult, or_comm, and_comm, get_or_default}
+use Rattle.std.proofs.Common.{insert, remove}
 use Rattle.std.proofs.lemmas.List.Kept.{AllPairs-from_increasing}
 use Rattle.std.proofs.lemmas.List.Sorted.{searched, list_any-IsPermutation, IsPermutation-insert, IsPermutation-remove}
 use Rattle.std.proofs.lemmas.List.Sorted.{IsPermutation-sym, Contains-permutation}
 use Rattle.std.proofs.lemmas.Map.Keys.{non_decreasing_from_sorted, sorted_from_strictly_increasing}
-use Rattle.std.specs.List.Sorted.{IsBinarySearchResult}
 use Rattle.std.specs.Ordering.{nat_cmp}
-use Rattle.std.proofs.Math.Bool.{or_comm, and_comm}
-use Rattle.std.proofs.lemmas.List.{get_or_default}
 use Rattle.std.proofs.lemmas.List.Edits.{length-insert, get_or-insert_at, get_or-insert_below, get_or-insert_above}
 use Rattle.std.proofs.lemmas.List.Edits.{insert_end, length-remove, get_or-remove_below, get_or-remove_above}
 use Rattle.olr_spec.proofs.ListLemmas.{Contains-cases, Contains-later}

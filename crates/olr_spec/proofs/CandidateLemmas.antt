@@ -6,17 +6,13 @@ use Rattle.olr_spec.proofs.Common.{ltb-true, lt-ltb, le-ltb, leb-true, nat_abs, 
 use Rattle.olr_spec.proofs.Common.{or_cases, ints, Map, has_line, line_at, Leg, leg, offset, Side, node_on}
 use Rattle.olr_spec.proofs.Common.{coordinate_on, candidates, Receiver, is_nearest, has_no_twin, Measure, Coord}
 use Rattle.olr_spec.proofs.Common.{decoded_bound, IsNear, IsWeighted, is_spaced, IsCut, IsClose, AllPass-from_list_all}
-use Rattle.std.proofs.Common.{IsFalse}
-use Rattle.std.specs.List.{list_all}
+use Rattle.olr_spec.proofs.Common.{IsFalse, list_all, SomeReceiver, SomeWeighted, list_all-map}
+use Rattle.olr_spec.proofs.Facts.{at_index, has_number}
 use Rattle.std.proofs.Math.Nat.{mul-le-mul_left, mul-le-mul_right, mul-lt-mul_of_pos_left, le_of_mul-le-mul_left}
 use Rattle.std.proofs.Math.Nat.{mul-add, mul_comm, div-mul-le_self, lt-div-mul-add}
 use Rattle.olr_spec.specs.Receiver.{sector_on, Lrp, Rating, NowhereWorse, SomewhereBetter, IsDifference, rating, Takes}
 use Rattle.olr_spec.specs.Receiver.{are_twins}
-use Rattle.olr_spec.specs.Laws.{SomeReceiver, SomeWeighted}
 use Rattle.olr_spec.specs.Recovery.{lon_apart, lat_apart}
-use Rattle.std.proofs.lemmas.List.Folds.{list_all-map}
-use Rattle.olr_spec.proofs.ListLemmas.{at_index}
-use Rattle.olr_spec.proofs.OrderLemmas.{has_number}
 
 -- ---- a test that all candidates pass
 

@@ -2,13 +2,10 @@
 use Rattle.olr_spec.proofs.Common.{inl, ◌≡◌, ◌≢◌, ℕ, false, List, ◌∷◌, ◌++◌, ◌≤◌, Ok, IsTrue, refl, sym, ◌∙◌, arith}
 use Rattle.olr_spec.proofs.Common.{◌==◌, Some, T, nat_cmp, [], both_ways, or_parts, list_any-append, get, FinMap, Map}
 use Rattle.olr_spec.proofs.Common.{Line, has_line, start, end, dm, Edit, edited, touched_nodes, SameRound, has}
-use Rattle.olr_spec.proofs.Common.{ChangedLine, AccountsFor, Coord}
-use Rattle.std.proofs.lemmas.List.Elements.{Contains-append_left, Contains-append_right}
-use Rattle.olr_spec.specs.Detours.{changes_of, IsChangedLine}
-use Rattle.olr_spec.specs.Laws.{EditsDiffer, NoDifference, DifferencesAdd}
-use Rattle.olr_spec.proofs.AgreeLemmas.{known_record}
+use Rattle.olr_spec.proofs.Common.{ChangedLine, AccountsFor, Coord, Contains-append_left, Contains-append_right}
+use Rattle.olr_spec.proofs.Common.{changes_of, IsChangedLine, EditsDiffer, NoDifference, DifferencesAdd}
+use Rattle.olr_spec.proofs.Facts.{known_record, Contains-here}
 use Rattle.olr_spec.proofs.EditLemmas.{edits_are_local, other_lines, edit_laws}
-use Rattle.olr_spec.proofs.ListLemmas.{Contains-here}
 
 -- ---- one edit
 

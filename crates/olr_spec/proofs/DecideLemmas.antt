@@ -6,19 +6,12 @@ use Rattle.olr_spec.proofs.Common.{UniqueShortest, Path, is_path, first, last, p
 use Rattle.olr_spec.proofs.Common.{LongestStart, LongestEnd, Tried, from_start, taken_start, extended_path, limit}
 use Rattle.olr_spec.proofs.Common.{node_at, stretch, Covered, fit16, Candidate, ValidCandidate, Greatest, Next, To_end}
 use Rattle.olr_spec.proofs.Common.{To_valid, To_passing, Follow, Answer, Refused, path_fault, answer_by_points}
-use Rattle.olr_spec.proofs.Common.{Encoding}
-use Rattle.std.proofs.Common.{nat_eq}
+use Rattle.olr_spec.proofs.Common.{Encoding, nat_eq, Bool-discrete, NoNext, OneUnique, SomeAnswer}
+use Rattle.olr_spec.proofs.Facts.{positive, dm_of-append, Each, Each-nil, Each-cons, Each-head, Each-tail, Known}
+use Rattle.olr_spec.proofs.Facts.{AreRuns, no_longer, start_runs, end_runs, last_known, sound_lines, all_first}
+use Rattle.olr_spec.proofs.Facts.{all_last, path_nonempty, by_fault, EndRun-push, has_number}
 use Rattle.std.proofs.Math.Decide.{dec_lt, map_dec, ℕ_discrete}
-use Rattle.std.proofs.Math.Bool.{Bool-discrete}
 use lib.Pointwise.{pointwise, bytes_decides}
-use Rattle.olr_spec.specs.Points.{NoNext}
-use Rattle.olr_spec.specs.Laws.{OneUnique, SomeAnswer}
-use Rattle.olr_spec.proofs.RouteLemmas.{positive, dm_of-append}
-use Rattle.olr_spec.proofs.ListLemmas.{Each, Each-nil, Each-cons, Each-head, Each-tail, Known}
-use Rattle.olr_spec.proofs.RunLemmas.{AreRuns, no_longer, start_runs, end_runs, last_known}
-use Rattle.olr_spec.proofs.AnswerLemmas.{sound_lines, all_first, all_last, path_nonempty, by_fault}
-use Rattle.olr_spec.proofs.RunMoves.{EndRun-push}
-use Rattle.olr_spec.proofs.OrderLemmas.{has_number}
 
 -- ---- decidable propositions
 

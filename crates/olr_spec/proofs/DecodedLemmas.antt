@@ -5,21 +5,12 @@ use Rattle.olr_spec.proofs.Common.{◌-◌, nat_abs, slice_get, option_map, le-l
 use Rattle.olr_spec.proofs.Common.{abs24, relative, Map, IsMap, coord_at, has, Path, is_path, extended_path, node_at}
 use Rattle.olr_spec.proofs.Common.{Leg, Middle, Reference, legs, position, first_kept, last_kept, kept_points, last_two}
 use Rattle.olr_spec.proofs.Common.{middle_points, reference_by_kept, reference_by, last_point, Last, from_front}
-use Rattle.olr_spec.proofs.Common.{to_back, Points, path_fault, Encoding, decoded_bound, IsNear}
-use Rattle.std.proofs.Common.{◌+ℤ◌}
-use Rattle.std.proofs.lemmas.Bool.{cond-true}
-use Rattle.std.proofs.lemmas.Option.{slice_get-get_or}
-use Rattle.olr_spec.specs.Coordinates.{from_abs24, nearest, from_rel16}
-use Rattle.olr_spec.specs.Reference.{middle_point}
-use Rattle.olr_spec.specs.Encoding.{IsPoint}
-use Rattle.olr_spec.specs.Decoded.{steps_sum, decoded}
-use Rattle.olr_spec.specs.Laws.{DecodedNear, DecodedPoints}
-use Rattle.olr_spec.proofs.ListLemmas.{has_cases}
-use Rattle.olr_spec.proofs.AnswerLemmas.{path_also, path_at}
-use Rattle.olr_spec.proofs.KeptLemmas.{two_kept}
+use Rattle.olr_spec.proofs.Common.{to_back, Points, path_fault, Encoding, decoded_bound, IsNear, ◌+ℤ◌, cond-true}
+use Rattle.olr_spec.proofs.Common.{slice_get-get_or, from_abs24, nearest, from_rel16, middle_point, IsPoint, steps_sum}
+use Rattle.olr_spec.proofs.Common.{decoded, DecodedNear, DecodedPoints}
+use Rattle.olr_spec.proofs.Facts.{has_cases, path_also, path_at, two_kept, Linked, follow_linked, kept_linked}
 use Rattle.olr_spec.proofs.FieldLemmas.{position_is}
 use Rattle.olr_spec.proofs.FitLemmas.{kept_ends, extended_sound, answered, by_answer}
-use Rattle.olr_spec.proofs.JoinLemmas.{Linked, follow_linked, kept_linked}
 
 -- ---- one rounding
 

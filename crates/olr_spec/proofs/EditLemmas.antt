@@ -4,15 +4,9 @@ use Rattle.olr_spec.proofs.Common.{refl, ap, ◌∙◌, nat_cmp, ◌==◌, arith
 use Rattle.olr_spec.proofs.Common.{both_ways, and_parts, or_parts, not-false, nat_cmp_total, FinMap, get, insert}
 use Rattle.olr_spec.proofs.Common.{remove, entries, Coord, is_coord, Map, IsMap, Line, is_good, has_node, has_line}
 use Rattle.olr_spec.proofs.Common.{start, end, Edit, Add_node, Move_node, Drop_node, Add_line, Set_line, Drop_line}
-use Rattle.olr_spec.proofs.Common.{edited, in_use, touched_nodes, SameLine, Agree, has}
-use Rattle.std.proofs.lemmas.Bool.{false_from_ne_true}
-use Rattle.std.specs.Cmp.{unsigned_tied}
-use Rattle.std.specs.FinMap.{get-insert, get-remove}
-use Rattle.olr_spec.specs.Map.{are_coords, touched_lines}
-use Rattle.olr_spec.specs.Laws.{EditsKeep}
-use Rattle.olr_spec.proofs.ListLemmas.{Each-to}
-use Rattle.olr_spec.proofs.AgreeLemmas.{known_record}
-use Rattle.olr_spec.proofs.MapLemmas.{has-lines_where, none_has}
+use Rattle.olr_spec.proofs.Common.{edited, in_use, touched_nodes, SameLine, Agree, has, false_from_ne_true}
+use Rattle.olr_spec.proofs.Common.{unsigned_tied, get-insert, get-remove, are_coords, touched_lines, EditsKeep}
+use Rattle.olr_spec.proofs.Facts.{Each-to, known_record, has-lines_where, none_has}
 
 -- the conditions of an accepted edit, and the map that it makes
 abbrev pub Made : Map → Edit → Map → Type 0

@@ -7,14 +7,11 @@ use Rattle.olr_spec.proofs.Common.{AllByRecursion, Coord, is_coord, abs24, relat
 use Rattle.olr_spec.proofs.Common.{has_line, line_at, coord_at, has, dm_of, node_at, stretch, Candidate, Leg, up_to}
 use Rattle.olr_spec.proofs.Common.{vector, boundary, lies_between, leg, legs, no_leg, leg_at, position, dm_along}
 use Rattle.olr_spec.proofs.Common.{dm_between, from_front, last_where, first_where, attrs, last_two, middle_points}
-use Rattle.olr_spec.proofs.Common.{offset, last_point, AreAttrs, IsMiddle, IsLast, fits24}
+use Rattle.olr_spec.proofs.Common.{offset, last_point, AreAttrs, IsMiddle, IsLast, fits24, get_or_past, take-map}
+use Rattle.olr_spec.proofs.Common.{drop-map, Scaled, scaled_coord, bearing, sector}
+use Rattle.olr_spec.proofs.Facts.{Each, Each-nil, Each-cons, Each-head, Each-tail, Each-range, has_index, has_here}
+use Rattle.olr_spec.proofs.Facts.{last_index, has_there, has_cases, Known, Linked, dm_along-legs, dm_along-append}
 use Rattle.std.proofs.Common.{div-lt_iff_lt-mul}
-use Rattle.std.proofs.lemmas.List.{get_or_past, take-map, drop-map}
-use Rattle.olr_spec.specs.Bearings.{Scaled, scaled_coord, bearing, sector}
-use Rattle.olr_spec.proofs.ListLemmas.{Each, Each-nil, Each-cons, Each-head, Each-tail, Each-range, has_index, has_here}
-use Rattle.olr_spec.proofs.ListLemmas.{last_index, has_there, has_cases, Known}
-use Rattle.olr_spec.proofs.JoinLemmas.{Linked}
-use Rattle.olr_spec.proofs.KeptLemmas.{dm_along-legs, dm_along-append}
 use Rattle.olr_spec.proofs.SectorLemmas.{up_to_below, le_yes, le_test}
 use Rattle.olr_spec.specs.Reference as fields
 

@@ -5,15 +5,12 @@ use Rattle.olr_spec.proofs.Common.{length-map, Map, IsMap, has, dm_of, Path, Tri
 use Rattle.olr_spec.proofs.Common.{taken_start, taken_end, Follow, last_position, Reference, leg, legs, dm_between}
 use Rattle.olr_spec.proofs.Common.{from_front, to_back, first_kept, last_kept, kept_points, last_two, reference_by}
 use Rattle.olr_spec.proofs.Common.{reference, Points, path_fault, answer_by_points, Encoding, Encodes, IsReference}
-use Rattle.olr_spec.specs.Laws.{AnswerFits}
-use Rattle.olr_spec.proofs.RouteLemmas.{dm_of-append}
-use Rattle.olr_spec.proofs.ListLemmas.{Each, Each-append, Each-from, has_here, has_there, has_cases, has_filter}
-use Rattle.olr_spec.proofs.ListLemmas.{filter_has, Known}
-use Rattle.olr_spec.proofs.AnswerLemmas.{sound_lines, path_nonempty, or_None, by_fault}
-use Rattle.olr_spec.proofs.RunMoves.{StartRun-known, EndRun-known}
+use Rattle.olr_spec.proofs.Common.{AnswerFits}
+use Rattle.olr_spec.proofs.Facts.{dm_of-append, Each, Each-append, Each-from, has_here, has_there, has_cases}
+use Rattle.olr_spec.proofs.Facts.{has_filter, filter_has, Known, sound_lines, path_nonempty, or_None, by_fault}
+use Rattle.olr_spec.proofs.Facts.{StartRun-known, EndRun-known, Linked, follow_linked, kept_linked, between, between_is}
+use Rattle.olr_spec.proofs.Facts.{whole, front_within, back_within, two_kept}
 use Rattle.olr_spec.proofs.PointMoves.{Each-cond}
-use Rattle.olr_spec.proofs.JoinLemmas.{Linked, follow_linked, kept_linked, between, between_is}
-use Rattle.olr_spec.proofs.KeptLemmas.{whole, front_within, back_within, two_kept}
 use Rattle.olr_spec.proofs.FieldLemmas.{linked_above, linked_last, has_last_two, last_two_linked, has_last_where}
 use Rattle.olr_spec.proofs.FieldLemmas.{none_after, none_before, attrs_fit, first_fits, middles_fit, last_fits}
 use Rattle.olr_spec.proofs.FieldLemmas.{offset_fits, from_front-add}

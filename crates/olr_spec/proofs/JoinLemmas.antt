@@ -3,10 +3,7 @@ use Rattle.olr_spec.proofs.Common.{inl, inr, ◌≡◌, ℕ, ◌+◌, ◌-◌, m
 use Rattle.olr_spec.proofs.Common.{take, drop, ◌<◌, ◌≤◌, refl, ap, ◌∙◌, subst, arith, nat_le, length-drop, ◌↔◌, []}
 use Rattle.olr_spec.proofs.Common.{leb-true, le-leb, get_or-drop, slice_index, filter, cases_eq, and_parts, and_from}
 use Rattle.olr_spec.proofs.Common.{cond_both, nat_tests, take_more, ⊤, Map, start, end, LrpRoute, stretch, Covered}
-use Rattle.olr_spec.proofs.Common.{Candidate, Follow, JoinsTo, JoinsLast}
-use Rattle.std.proofs.lemmas.List.{drop_more}
-use Rattle.olr_spec.specs.Joins.{Joins}
-use Rattle.olr_spec.specs.Laws.{RoutesJoin}
+use Rattle.olr_spec.proofs.Common.{Candidate, Follow, JoinsTo, JoinsLast, drop_more, Joins, RoutesJoin}
 use Rattle.olr_spec.proofs.RouteLemmas.{IsRoute-split, prefix_of_unique}
 use Rattle.olr_spec.proofs.AnswerLemmas.{Next-candidate}
 

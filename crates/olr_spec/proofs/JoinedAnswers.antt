@@ -1,13 +1,10 @@
 -- The routes between the LRPs of an answer join to the extended path.
 use Rattle.olr_spec.proofs.Common.{◌≡◌, ◌<◌, ◌+◌, ℕ, List, length, None, ap, arith, Map, dm_of, Path, extended_path}
 use Rattle.olr_spec.proofs.Common.{Reference, legs, first_kept, last_kept, kept_points, Points, path_fault, Encoding}
-use Rattle.olr_spec.specs.Joins.{Joined}
-use Rattle.olr_spec.proofs.AnswerLemmas.{path_also}
+use Rattle.olr_spec.proofs.Common.{Joined}
+use Rattle.olr_spec.proofs.Facts.{path_also, routes_join, two_kept, dm_of-append}
 use Rattle.olr_spec.proofs.DecodedLemmas.{two_of}
 use Rattle.olr_spec.proofs.FitLemmas.{long_enough, kept_ends, answered}
-use Rattle.olr_spec.proofs.JoinLemmas.{routes_join}
-use Rattle.olr_spec.proofs.KeptLemmas.{two_kept}
-use Rattle.olr_spec.proofs.RouteLemmas.{dm_of-append}
 
 -- the offsets are shorter than the extended path
 some_left : (M : Map) (P : Path) → path_fault M P ≡ None → (before after : List ℕ) →

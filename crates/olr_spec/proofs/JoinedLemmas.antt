@@ -3,10 +3,8 @@ use Rattle.olr_spec.proofs.Common.{◌≡◌, ◌<◌, ℕ, suc, List, ◌∷◌
 use Rattle.olr_spec.proofs.Common.{[], eqb-true, IsTrue, Some, cond_both, Map, start, end, IsRoute, Path, is_path}
 use Rattle.olr_spec.proofs.Common.{Tried, first, last, MayPrecede, MayFollow, extended_path, AreJoined, first_break}
 use Rattle.olr_spec.proofs.Common.{path_fault}
-use Rattle.olr_spec.proofs.RouteLemmas.{IsRoute-append}
-use Rattle.olr_spec.proofs.ListLemmas.{Each, Each-head, Each-tail, Each-from, Known}
-use Rattle.olr_spec.proofs.AnswerLemmas.{or_None, map_None, sound_lines, path_nonempty}
-use Rattle.olr_spec.proofs.RunLemmas.{last_push, extended_keeps}
+use Rattle.olr_spec.proofs.Facts.{IsRoute-append, Each, Each-head, Each-tail, Each-from, Known, or_None, map_None}
+use Rattle.olr_spec.proofs.Facts.{sound_lines, path_nonempty, last_push, extended_keeps}
 
 -- ---- a path without fault
 

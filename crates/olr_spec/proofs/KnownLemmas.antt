@@ -7,18 +7,13 @@ use Rattle.olr_spec.proofs.Common.{SameLine, IsRoute, dm_of, UniqueShortest, Lrp
 use Rattle.olr_spec.proofs.Common.{taken_start, taken_end, AreJoined, stretch, Covered, path_fault, ChangedLine}
 use Rattle.olr_spec.proofs.Common.{AccountsFor, Detour, IsLastTested, CoverageQuery, query_to, IsQuery, IsClear}
 use Rattle.olr_spec.proofs.Common.{KnownQuery, IsKnownAt, FoundFor, KnownOfExtended, QueriesOf, querying}
-use Rattle.std.proofs.lemmas.List.{drop-append-le, take-append-le, get_or_append_left}
-use Rattle.std.proofs.Math.Seq.{drop-append-add}
+use Rattle.olr_spec.proofs.Common.{drop-append-le, take-append-le, get_or_append_left, drop-append-add, OneKnown}
+use Rattle.olr_spec.proofs.Common.{OneSearched, KnownHolds, AllSearched}
+use Rattle.olr_spec.proofs.Facts.{Each, Each-head, Each-right, IsRoute-split, same_start, same_dm_of, IsRoute-moves}
+use Rattle.olr_spec.proofs.Facts.{same_there, clear_unique, part_stays, stretch_first, follow_linked, Linked, path_also}
+use Rattle.olr_spec.proofs.Facts.{path_at, same_by, by_fault, next_start}
 use Rattle.olr_spec.specs.Queries.{IsKnown, AreKnown, IsSearched, SearchedOfExtended, SearchedOf}
-use Rattle.olr_spec.specs.Laws.{OneKnown, OneSearched, KnownHolds, AllSearched}
-use Rattle.olr_spec.proofs.ListLemmas.{Each, Each-head, Each-right}
-use Rattle.olr_spec.proofs.RouteLemmas.{IsRoute-split}
-use Rattle.olr_spec.proofs.AgreeLemmas.{same_start, same_dm_of}
-use Rattle.olr_spec.proofs.RouteMoves.{IsRoute-moves, same_there, clear_unique, part_stays}
-use Rattle.olr_spec.proofs.JoinLemmas.{stretch_first, follow_linked, Linked}
 use Rattle.olr_spec.proofs.JoinedLemmas.{extended_joined}
-use Rattle.olr_spec.proofs.AnswerLemmas.{path_also, path_at, same_by, by_fault}
-use Rattle.olr_spec.proofs.WayLemmas.{next_start}
 use Rattle.olr_spec.proofs.QueryLemmas.{stretch_parts, way_on}
 use Rattle.olr_spec.proofs.TestedLemmas.{one_last_tested, one_query}
 use Rattle.olr_spec.proofs.KnownLists.{one_found, found_each, found_increasing, Ascend, ascend_filter}
@@ -117,10 +112,7 @@ module _ (M : Map) (b own a : List ℕ) (joined : AreJoined M ((b ++ own) ++ a))
   -- what is right of the path is right of the extended path
   module _ (k : IsKnown M own e) where
     pub from_known : e.query.from ≡ from
-    from_known =
-        let first = (coe 0 1 (j. IsRoute M e.query.from e.query.to (stretch_first own e.first e.last order (omega arith) j))
-        k.route).1 in
-        sym first ∙ sym from_start_of
+    from_known = grind (arith, stretch_first, from_start_of)
 
     pub to_known : e.query.to ≡ to
     to_known = grind (arith, one_end, from_known, way)

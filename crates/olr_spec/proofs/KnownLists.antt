@@ -1,10 +1,8 @@
 -- Lists of what some positions have: for each position there is one element or none.
 use Rattle.olr_spec.proofs.Common.{inl, inr, ◌≡◌, ℕ, ◌+◌, ◌-◌, List, ◌∷◌, ◌++◌, map, ◌<◌, ◌≤◌, All, refl, sym, ◌∙◌}
 use Rattle.olr_spec.proofs.Common.{arith, filter, true, Bool, [], ◌↔◌, cond_both, All-nil, IsStrictlyIncreasing, has}
-use Rattle.olr_spec.proofs.Common.{FoundFor}
-use Rattle.std.proofs.lemmas.List.Elements.{All-cons}
-use Rattle.std.specs.Prelude.{⊤}
-use Rattle.olr_spec.proofs.ListLemmas.{has_here, has_there}
+use Rattle.olr_spec.proofs.Common.{FoundFor, All-cons, ⊤}
+use Rattle.olr_spec.proofs.Facts.{has_here, has_there}
 
 module _ {X : Type 0} (R : ℕ → X → Type 0) where
   pub found_here : (i : ℕ) (is : List ℕ) (x : X) (xs : List X) → R i x → FoundFor R is xs → FoundFor R (i ∷ is) (x ∷ xs)

@@ -2,10 +2,9 @@
 use Rattle.olr_spec.proofs.Common.{refl, ◌⊎◌, inl, inr, ◌≡◌, ℕ, ◌+◌, List, ◌∷◌, ◌++◌, reverse, ◌<◌, ◌≤◌, Option, Some}
 use Rattle.olr_spec.proofs.Common.{IsTrue, sym, subst, arith, append-nil, append_assoc, [], cases_lt, cases_eq}
 use Rattle.olr_spec.proofs.Common.{reverse-append, Map, IsMap, has_line, start, end, dm, IsRoute, dm_of, FirstSmaller}
-use Rattle.olr_spec.proofs.Common.{PrecedesInTieOrder}
-use Rattle.olr_spec.specs.Routes.{Least}
+use Rattle.olr_spec.proofs.Common.{PrecedesInTieOrder, Least}
+use Rattle.olr_spec.proofs.Facts.{dm_of-append, nothing_below_nil, not_before_itself}
 use Rattle.olr_spec.specs.Labels.{Settled}
-use Rattle.olr_spec.proofs.RouteLemmas.{dm_of-append, nothing_below_nil, not_before_itself}
 
 -- the last lines are compared first
 pub last_first : (xs ys : List ℕ) (x y : ℕ) → FirstSmaller (reverse (xs ++ x ∷ [])) (reverse (ys ++ y ∷ [])) → (x < y)
@@ -64,9 +63,4 @@ module _ (M : Map) (m : IsMap M) (s limit : ℕ) (dist : ℕ → Option ℕ) (tr
   labelled v ys w h = let f = fine v ys w h in (f.0, f.1)
 
   pub traced_least : (v d : ℕ) → dist v ≡ Some d → Least M s v (trace v)
-  traced_least v d e =
-      let traversed = l.routes v d e in
-      record {
-        route = traversed.0;
-        first = λ ys w b. let near = fine v ys w in grind (arith, near, cases_lt);
-      }
+  traced_least v d e = grind (arith, fine, cases_lt)

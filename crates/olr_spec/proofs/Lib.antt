@@ -31,6 +31,7 @@ pub mod ChangeLemmas
 pub mod JoinedAnswers
 pub mod JoinedLemmas
 pub mod WayLemmas
+pub mod Facts
 pub mod QueryLemmas
 pub mod StayLemmas
 pub mod TestedLemmas

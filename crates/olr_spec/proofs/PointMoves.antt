@@ -6,12 +6,9 @@ use Rattle.olr_spec.proofs.Common.{coord_at, SameLine, SameRound, has, IsRoute, 
 use Rattle.olr_spec.proofs.Common.{node_at, stretch, Covered, fit16, Candidate, ValidCandidate, Greatest, Next, To_end}
 use Rattle.olr_spec.proofs.Common.{To_valid, To_passing, Follow, legs, first_unknown, first_break, path_fault, NodeOf}
 use Rattle.olr_spec.proofs.Common.{Traversed}
-use Rattle.olr_spec.proofs.RouteLemmas.{empty_unique}
-use Rattle.olr_spec.proofs.JoinLemmas.{empty_stretch}
-use Rattle.olr_spec.proofs.ListLemmas.{Each, Each-nil, Each-head, Each-tail, Each-range, has_last, has_index, map_same}
-use Rattle.olr_spec.proofs.RunMoves.{Alike}
-use Rattle.olr_spec.proofs.AgreeLemmas.{same_record, same_start, same_end, same_dm_of, same_coord, same_passing}
-use Rattle.olr_spec.proofs.AgreeLemmas.{same_known}
+use Rattle.olr_spec.proofs.Facts.{empty_unique, empty_stretch, Each, Each-nil, Each-head, Each-tail, Each-range}
+use Rattle.olr_spec.proofs.Facts.{has_last, has_index, map_same, Alike, same_record, same_start, same_end, same_dm_of}
+use Rattle.olr_spec.proofs.Facts.{same_coord, same_passing, same_known}
 
 -- the empty route, on any map
 pub empty_route : (M N : Map) → IsMap N → (s t s' t' : ℕ) (xs : List ℕ) → xs ≡ [] → s ≡ s' → t ≡ t' → LrpRoute M s t xs

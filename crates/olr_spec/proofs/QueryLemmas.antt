@@ -4,13 +4,10 @@ use Rattle.olr_spec.proofs.Common.{inl, inr, ◌≡◌, ℕ, ◌+◌, ◌-◌, m
 use Rattle.olr_spec.proofs.Common.{drop-drop, ◌↔◌, slice_index, cases_lt, Map, start, end, SameLine, SameRound, IsRoute}
 use Rattle.olr_spec.proofs.Common.{dm_of, Reaches, UniqueShortest, limit, stretch, Covered, ChangedLine, AccountsFor}
 use Rattle.olr_spec.proofs.Common.{Detour, Needed, IsLastTested, query_to, IsClear}
+use Rattle.olr_spec.proofs.Facts.{dm_of-append, prefix_of_unique, Each, Each-range, has_index, same_start, same_end}
+use Rattle.olr_spec.proofs.Facts.{same_dm_of, IsRoute-moves, unique_same, within, within_other, part_stays, RouteTo}
+use Rattle.olr_spec.proofs.Facts.{way_between, next_start}
 use Rattle.std.proofs.Math.Seq.{take-add}
-use Rattle.olr_spec.proofs.RouteLemmas.{dm_of-append, prefix_of_unique}
-use Rattle.olr_spec.proofs.ListLemmas.{Each, Each-range, has_index}
-use Rattle.olr_spec.proofs.AgreeLemmas.{same_start, same_end, same_dm_of}
-use Rattle.olr_spec.proofs.RouteMoves.{IsRoute-moves, unique_same, within, within_other, part_stays}
-use Rattle.olr_spec.proofs.JoinLemmas.{RouteTo}
-use Rattle.olr_spec.proofs.WayLemmas.{way_between, next_start}
 
 pub stretch_parts : {A : Type 0} (ls : List A) (p m k : ℕ) → p ≤ m → m ≤ k → stretch ls p k ≡ stretch ls p m ++ stretch ls m k
 stretch_parts ls p m k h g =

@@ -1,8 +1,8 @@
 -- Lists of coverage queries: each LRP of the list has one.
 use Rattle.olr_spec.proofs.Common.{◌≡◌, ℕ, ◌+◌, true, List, ◌∷◌, length, ◌<◌, Contains, arith, nat_lt, IsTrue, []}
 use Rattle.olr_spec.proofs.Common.{lt-ltb, ltb-true, AllZip, Map, has, CoverageQuery, IsQuery, querying}
-use Rattle.olr_spec.proofs.ListLemmas.{has_filter, filter_has, has_here, has_there, has_cases, Contains-here}
-use Rattle.olr_spec.proofs.ListLemmas.{Contains-later, Contains-cases}
+use Rattle.olr_spec.proofs.Facts.{has_filter, filter_has, has_here, has_there, has_cases, Contains-here, Contains-later}
+use Rattle.olr_spec.proofs.Facts.{Contains-cases}
 
 module _ {X : Type 0} (R S : ℕ → X → Type 0) where
   pub zip_moves : (is : List ℕ) (xs : List X) → ((i : ℕ) (x : X) → Contains xs x → R i x → S i x) → AllZip R is xs

@@ -6,13 +6,9 @@ use Rattle.olr_spec.proofs.Common.{le-ltb, get_or-append-add, int_le, flat_map, 
 use Rattle.olr_spec.proofs.Common.{or_parts, not-false, ◌↔◌, ints, AllByRecursion, list_any, within, fits16, First}
 use Rattle.olr_spec.proofs.Common.{Middle, Last, Reference, AreAttrs, IsFirst, IsMiddle, IsLast, IsReference, fits24}
 use Rattle.olr_spec.proofs.Common.{signed16, first_bytes, middle_bytes, last_bytes, flag, offset_bytes, reference_bytes}
-use Rattle.std.proofs.Common.{ltb-false}
-use Rattle.std.proofs.lemmas.Bool.{lt-leb, or_from, not_from_true}
-use Rattle.std.proofs.lemmas.List.Elements.{recursion_from_All}
-use Rattle.olr_spec.specs.Reference.{Attrs}
-use Rattle.olr_spec.specs.Bytes.{residue, signed24, attribute1, attr_bytes, status_byte, HasBytes, V3Fault, extra, bit}
-use Rattle.olr_spec.specs.Bytes.{flags_of, attribute1_bytes, v3_fault}
-use Rattle.olr_spec.specs.Laws.{NoFault}
+use Rattle.olr_spec.proofs.Common.{ltb-false, lt-leb, or_from, not_from_true, recursion_from_All, Attrs, residue}
+use Rattle.olr_spec.proofs.Common.{signed24, attribute1, attr_bytes, status_byte, HasBytes, V3Fault, extra, bit}
+use Rattle.olr_spec.proofs.Common.{flags_of, attribute1_bytes, v3_fault, NoFault}
 use Rattle.olr_spec.proofs.SectorLemmas.{le_test}
 use Rattle.olr_spec.proofs.BytesLemmas.{flag_below, flag_is}
 

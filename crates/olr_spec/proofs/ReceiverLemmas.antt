@@ -9,25 +9,19 @@ use Rattle.olr_spec.proofs.Common.{legs, leg_at, no_leg, attrs, first_kept, last
 use Rattle.olr_spec.proofs.Common.{Middle, middle_points, last_two, reference_by_kept, last_point, dm_between, offset}
 use Rattle.olr_spec.proofs.Common.{Points, path_fault, Encoding, Side, Receiver, Within, RecoversTo, RecoversLast}
 use Rattle.olr_spec.proofs.Common.{candidates, is_nearest, has_no_twin, coordinate_on, Measure, node_on, IsCut, IsClose}
-use Rattle.olr_spec.proofs.Common.{IsWeighted, is_spaced, dm_of, IsNear}
-use Rattle.std.specs.List.{concat}
-use Rattle.std.proofs.lemmas.List.Sums.{list_all-from_AllPass}
-use Rattle.std.proofs.lemmas.Bool.{cond-false}
+use Rattle.olr_spec.proofs.Common.{IsWeighted, is_spaced, dm_of, IsNear, concat, list_all-from_AllPass, cond-false}
+use Rattle.olr_spec.proofs.Common.{Recovered, StretchesJoin, Offsets, Distances, Nearest}
+use Rattle.olr_spec.proofs.Facts.{Each, has_index, has_last, last_index, Known, path_also, path_at, Linked}
+use Rattle.olr_spec.proofs.Facts.{follow_linked, kept_linked, joins_to, joins_last, empty_stretch, stretch_first}
+use Rattle.olr_spec.proofs.Facts.{positive, next_start}
 use Rattle.olr_spec.specs.Receiver.{Outgoing, Incoming, lrp_at, last_number, last_lrp, decoded_coord, attributes}
 use Rattle.olr_spec.specs.Receiver.{RecoversFrom, Recovers}
 use Rattle.olr_spec.specs.Recovery.{line_by, IsLineAt, Distinct, stretches, IsStretches, IsLeft, IsStep, are_spaced}
-use Rattle.olr_spec.specs.Laws.{Recovered, StretchesJoin, Offsets, Distances, Nearest}
-use Rattle.olr_spec.proofs.ListLemmas.{Each, has_index, has_last, last_index, Known}
-use Rattle.olr_spec.proofs.AnswerLemmas.{path_also, path_at}
-use Rattle.olr_spec.proofs.JoinLemmas.{Linked, follow_linked, kept_linked, joins_to, joins_last, empty_stretch}
-use Rattle.olr_spec.proofs.JoinLemmas.{stretch_first}
 use Rattle.olr_spec.proofs.FieldLemmas.{range_legs, linked_above, dm_same, position_is, last_two_linked}
 use Rattle.olr_spec.proofs.FitLemmas.{extended_sound, by_answer}
 use Rattle.olr_spec.proofs.DecodedLemmas.{answer_decodes, got_index, Back, Form, Front, Kept, form}
 use Rattle.olr_spec.proofs.CandidateLemmas.{Own, takes_own, offset_close, nearer}
 use Rattle.olr_spec.proofs.RecoverLemmas.{within_greatest, recovers_to, recovers_last, extended_once, once_apart}
-use Rattle.olr_spec.proofs.RouteLemmas.{positive}
-use Rattle.olr_spec.proofs.WayLemmas.{next_start}
 use Rattle.olr_spec.proofs.JoinedLemmas.{extended_joined}
 use Rattle.olr_spec.proofs.QueryLemmas.{stretch_parts}
 use Rattle.olr_spec.specs.Reference as fields

@@ -4,13 +4,11 @@ use Rattle.olr_spec.proofs.Common.{◌++◌, length, ◌<◌, ◌≤◌, ◌↔�
 use Rattle.olr_spec.proofs.Common.{slice_index, fold, eq-eqb, ne_eqb, both_ways, and_parts, and_from, or_parts}
 use Rattle.olr_spec.proofs.Common.{list_any-append, Map, line_at, start, end, has, LrpRoute, Path, is_path, none_twice}
 use Rattle.olr_spec.proofs.Common.{Tried, extended_path, stretch, Leg, legs, JoinsTo, JoinsLast, Within, RecoversTo}
-use Rattle.olr_spec.proofs.Common.{RecoversLast, length-drop, length-append, drop}
-use Rattle.std.proofs.lemmas.Bool.{not_from_false, not-true}
+use Rattle.olr_spec.proofs.Common.{RecoversLast, length-drop, length-append, drop, not_from_false, not-true}
+use Rattle.olr_spec.proofs.Common.{length-take-le}
+use Rattle.olr_spec.proofs.Facts.{has_index, extended_keeps}
 use Rattle.olr_spec.specs.Receiver.{Shortest, One_line, More_lines}
-use Rattle.std.proofs.lemmas.List.{length-take-le}
-use Rattle.olr_spec.proofs.ListLemmas.{has_index}
 use Rattle.olr_spec.proofs.DecideLemmas.{dec_same}
-use Rattle.olr_spec.proofs.RunLemmas.{extended_keeps}
 
 -- ---- lists
 
@@ -74,9 +72,7 @@ recovers_last M ls c p q lt up differ within j w =
 pushed_once : (ls : List ℕ) (x : ℕ) → none_twice ls ≡ true → has ls x ≡ false → none_twice (ls ++ x ∷ []) ≡ true
 pushed_once [] x o h = refl
 pushed_once (y ∷ ls) x o h =
-    let here = or_parts (y == x) (has ls x) h in
-    let there = and_parts (not (has ls y)) (none_twice ls) o in
-    grind (arith, list_any-append, not-true, and_from, ne_eqb x y, eq-eqb y x, pushed_once ls x, both_ways (y == x))
+    grind (arith, or_parts, and_parts, list_any-append, not-true, and_from, ne_eqb, eq-eqb, both_ways, (pushed_once ls x))
 
 pub extended_once : (M : Map) (P : Path) (b a : List ℕ) → IsTrue (is_path P.lines) → Tried M P b a →
     none_twice (extended_path M P b a).lines ≡ true

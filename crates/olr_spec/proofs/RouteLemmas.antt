@@ -2,9 +2,8 @@
 use Rattle.olr_spec.proofs.Common.{◌≡◌, ◌≢◌, ℕ, ◌+◌, ◌<◌, ◌≤◌, List, ◌∷◌, ◌++◌, reverse, inl, inr, refl, sym, ap, ◌∙◌}
 use Rattle.olr_spec.proofs.Common.{subst, arith, IsTrue, [], cases_order, and_parts, nat_tests, reverse-append, Map}
 use Rattle.olr_spec.proofs.Common.{IsMap, has_node, has_line, end, dm, IsRoute, dm_of, FirstSmaller, PrecedesInTieOrder}
-use Rattle.std.proofs.lemmas.List.{reverse-reverse, append_cancel_right}
-use Rattle.olr_spec.specs.Laws.{NoLongerSuffix, OneLeast, PrefixOfLeast, EmptyIsLeast, EmptyIsUnique, UniqueIsLeast}
-use Rattle.olr_spec.specs.Laws.{PrefixOfUnique}
+use Rattle.olr_spec.proofs.Common.{reverse-reverse, append_cancel_right, NoLongerSuffix, OneLeast, PrefixOfLeast}
+use Rattle.olr_spec.proofs.Common.{EmptyIsLeast, EmptyIsUnique, UniqueIsLeast, PrefixOfUnique}
 
 pub positive : (M : Map) → IsMap M → (x : ℕ) → IsTrue (has_line M x) → 0 < dm M x
 positive M m x h = let good = m.good x h in grind (arith, nat_tests, and_parts)

@@ -3,8 +3,7 @@
 use Rattle.olr_spec.proofs.Common.{inl, inr, ◌≡◌, ℕ, ◌+◌, List, ◌∷◌, ◌++◌, ◌≤◌, ◌↔◌, IsTrue, refl, sym, ◌∙◌, arith, ◌⊎◌}
 use Rattle.olr_spec.proofs.Common.{Contains, true, false, ◌-◌, [], cases_lt, cases_Bool, Map, has_line, start, end}
 use Rattle.olr_spec.proofs.Common.{SameLine, SameRound, dm, has, IsRoute, dm_of, Reaches, UniqueShortest, ChangedLine}
-use Rattle.olr_spec.proofs.Common.{AccountsFor, Detour, Near}
-use Rattle.olr_spec.specs.Laws.{NearStays}
+use Rattle.olr_spec.proofs.Common.{AccountsFor, Detour, Near, NearStays}
 use Rattle.olr_spec.proofs.RouteLemmas.{IsRoute-append, dm_of-append}
 use Rattle.olr_spec.proofs.ListLemmas.{Each, Each-nil, Each-cons, Each-head, Each-tail, Each-left, Each-right}
 use Rattle.olr_spec.proofs.AgreeLemmas.{turned_round, by_leaving, same_known, same_start, same_end, same_dm, same_dm_of}
@@ -48,12 +47,7 @@ module _ (M N : Map) (s limit : ℕ) (round : (v : ℕ) → Reaches M s limit v 
       Each (SameLine M N) xs
   onward K same v t front [] p w h = Each-nil (SameLine M N)
   onward K same v t front (x ∷ xs) p w h =
-      let is = same v x (round v (front, p, omega arith)) w.0 w.1 in
-      let one : IsRoute M v (end M x) (x ∷ []) = (sym (same_known K M x is.1) ∙ w.0, sym (same_start K M x is.1) ∙ w.1, refl) in
-      Each-cons (SameLine M N) x xs is.0
-      (onward K same (end M x) t (front ++ x ∷ []) xs (IsRoute-append M s v (end M x) front (x ∷ []) p one)
-      (coe 0 1 (i. IsRoute K (same_end K M x is.1 i) t xs) w.2)
-      (omega (arith, same_dm K M x is.1, dm_of-append M front (x ∷ []))))
+      grind (arith, same_known, same_start, Each-cons, IsRoute-append, same_end, same_dm, dm_of-append, (onward K same (end M x) t (front ++ x ∷ []) xs))
 
   pub within : (t : ℕ) → SameRoutes M N s t limit
   within t xs w h = onward M (λ v x r k e. (by_leaving M N v x r k e, refl)) s t [] xs refl w (omega arith)

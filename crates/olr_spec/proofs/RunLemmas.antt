@@ -4,8 +4,7 @@ use Rattle.olr_spec.proofs.Common.{IsTrue, refl, sym, subst, arith, ◌==◌, ap
 use Rattle.olr_spec.proofs.Common.{cases_order, and_parts, cond_both, nat_tests, Map, IsMap, dm, has_line, lines_in}
 use Rattle.olr_spec.proofs.Common.{lines_out, start, end, has, line_at, dm_of, passing, passes_between, first, last}
 use Rattle.olr_spec.proofs.Common.{MayPrecede, MayFollow, StartRun, EndRun, LongestEnd, Tried, Path, from_start}
-use Rattle.olr_spec.proofs.Common.{taken_start, limit, extended_path}
-use Rattle.olr_spec.specs.Laws.{OneStartRun, OneEndRun}
+use Rattle.olr_spec.proofs.Common.{taken_start, limit, extended_path, OneStartRun, OneEndRun}
 use Rattle.olr_spec.proofs.RouteLemmas.{positive}
 use Rattle.olr_spec.proofs.OrderLemmas.{exactly_in, exactly_out}
 use Rattle.olr_spec.proofs.AgreeLemmas.{known_record}

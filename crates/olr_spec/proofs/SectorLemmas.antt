@@ -3,11 +3,9 @@ use Rattle.olr_spec.proofs.Common.{inl, inr, ◌≡◌, ℕ, zero, suc, ◌+◌,
 use Rattle.olr_spec.proofs.Common.{◌-ℤ◌, Bool, true, T, List, ◌∷◌, Some, unwrap_or, IsTrue, map, refl, sym, subst}
 use Rattle.olr_spec.proofs.Common.{arith, [], eq-eqb, int_le, find, and_parts, cases_order, or_left, or_right}
 use Rattle.olr_spec.proofs.Common.{cond_both, list_any-append, negsuc, ints, vector, boundary, lies_between, up_to, has}
-use Rattle.std.proofs.Common.{◌*ℤ◌, neg_ℤ}
-use Rattle.std.proofs.lemmas.Int.{by_lt_z}
-use Rattle.olr_spec.specs.Bearings.{quarter_turn, beyond, IsSector}
-use Rattle.olr_spec.specs.Laws.{OneSector, SomeSector}
-use Rattle.olr_spec.proofs.ListLemmas.{Each, Each-nil, Each-head, Each-tail, has_cases, Each-push}
+use Rattle.olr_spec.proofs.Common.{◌*ℤ◌, by_lt_z, quarter_turn, beyond, IsSector, OneSector, SomeSector}
+use Rattle.olr_spec.proofs.Facts.{Each, Each-nil, Each-head, Each-tail, has_cases, Each-push}
+use Rattle.std.proofs.Common.{neg_ℤ}
 
 -- ---- tests on whole numbers
 
@@ -180,8 +178,7 @@ find_some : (p : ℕ → Bool) (xs : List ℕ) (d : ℕ) (Q : ℕ → Type 0) �
     Q (unwrap_or (find p xs) d) × (p (unwrap_or (find p xs) d) ≡ true)
 find_some p [] d Q h k i e = absurd cc
 find_some p (x ∷ xs) d Q h k i e =
-    let here = find_some p xs d Q (Each-tail Q x xs h) k in
-    grind (arith, Each-head Q x xs h, Each-tail Q x xs h, cond_both (p x) (Some x) (find p xs))
+    grind (arith, Each-tail, Each-head, cond_both, (find_some p xs d Q (Each-tail Q x xs h) k))
 
 pub sector_is : SomeSector
 sector_is e n ne =

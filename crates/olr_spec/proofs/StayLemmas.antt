@@ -9,24 +9,19 @@ use Rattle.olr_spec.proofs.Common.{Follow, OfPath, last_position, Answer, Refuse
 use Rattle.olr_spec.proofs.Common.{answer_by_points, Encoding, Points, ChangedLine, AccountsFor, NodeOf, Traversed}
 use Rattle.olr_spec.proofs.Common.{TraversedOfExtended, TraversedOf, IsLastTested, CoverageQuery, query_to, IsQuery}
 use Rattle.olr_spec.proofs.Common.{IsClear, querying, QueriesOfExtended, QueriesOf, KnownQuery, IsKnownAt}
-use Rattle.olr_spec.proofs.Common.{KnownOfExtended, reference}
-use Rattle.std.proofs.lemmas.List.Elements.{All-contains}
-use Rattle.olr_spec.specs.Encoding.{No_next_point}
+use Rattle.olr_spec.proofs.Common.{KnownOfExtended, reference, All-contains, No_next_point, UntouchedRetained}
+use Rattle.olr_spec.proofs.Common.{AnswersRetained}
+use Rattle.olr_spec.proofs.Facts.{Each, Each-from, has_first, has_last, Known, Each-append, Each-left, Each-right}
+use Rattle.olr_spec.proofs.Facts.{Each-to, Each-cons, Each-push, sound_lines, path_nonempty, path_at, by_fault}
+use Rattle.olr_spec.proofs.Facts.{one_tried, extended_keeps, Alike, same_begin, same_finish, longest_start_moves}
+use Rattle.olr_spec.proofs.Facts.{StartRun-known, EndRun-known, longest_end_moves, same_dm_of, same_known, by_entering}
 use Rattle.olr_spec.specs.Queries.{KnownOf, QueriesFrom}
-use Rattle.olr_spec.specs.Laws.{UntouchedRetained, AnswersRetained}
-use Rattle.olr_spec.proofs.ListLemmas.{Each, Each-from, has_first, has_last, Known, Each-append, Each-left, Each-right}
-use Rattle.olr_spec.proofs.ListLemmas.{Each-to, Each-cons, Each-push}
-use Rattle.olr_spec.proofs.AnswerLemmas.{sound_lines, path_nonempty, path_at, by_fault}
-use Rattle.olr_spec.proofs.RunLemmas.{one_tried, extended_keeps}
 use Rattle.olr_spec.proofs.PointMoves.{fault_same, close_stays, Traversed-same, follow_moves, legs_same}
 use Rattle.olr_spec.proofs.JoinedLemmas.{extended_joined}
 use Rattle.olr_spec.proofs.QueryLemmas.{RoutesStay, to_same, clear_routes, query_stays, covered_stays, covered_same}
 use Rattle.olr_spec.proofs.QueryLists.{query_for, queries_here, zip_moves}
 use Rattle.olr_spec.proofs.TestedLemmas.{one_last_tested}
 use Rattle.olr_spec.proofs.KnownLists.{found_moves}
-use Rattle.olr_spec.proofs.RunMoves.{Alike, same_begin, same_finish, longest_start_moves, StartRun-known, EndRun-known}
-use Rattle.olr_spec.proofs.RunMoves.{longest_end_moves}
-use Rattle.olr_spec.proofs.AgreeLemmas.{same_dm_of, same_known, by_entering}
 
 -- along any lines of both maps, each of these coverage queries has the same routes
 abbrev pub RoutesOf : Map → Map → List CoverageQuery → Type 0

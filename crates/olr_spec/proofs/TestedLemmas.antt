@@ -4,14 +4,11 @@ use Rattle.olr_spec.proofs.Common.{IsTrue, Contains, refl, sym, ap, ◌∙◌, s
 use Rattle.olr_spec.proofs.Common.{cases_lt, cases_eq, cases_order, dec_le, AllZip, Map, IsMap, has, dm_of, Path}
 use Rattle.olr_spec.proofs.Common.{is_path, extended_path, limit, stretch, Covered, Greatest, path_fault, Sees}
 use Rattle.olr_spec.proofs.Common.{Traversed, TraversedOfExtended, Needed, IsLastTested, CoverageQuery, query_to}
-use Rattle.olr_spec.proofs.Common.{IsQuery, querying, QueriesOfExtended, Near}
+use Rattle.olr_spec.proofs.Common.{IsQuery, querying, QueriesOfExtended, Near, OneLastTested, SomeLastTested}
+use Rattle.olr_spec.proofs.Common.{OneQueries, SomeQueries, FootIsQueried, FootAffected}
+use Rattle.olr_spec.proofs.Facts.{path_also, path_at, same_by, by_fault, has_here, has_there, near_same, empty_stretch}
 use Rattle.olr_spec.specs.Footprint.{Touched, On_path, On_start_run, On_end_run, Within_reach, FootOf}
-use Rattle.olr_spec.specs.Laws.{OneLastTested, SomeLastTested, OneQueries, SomeQueries, FootIsQueried, FootAffected}
-use Rattle.olr_spec.proofs.AnswerLemmas.{path_also, path_at, same_by, by_fault}
 use Rattle.olr_spec.proofs.DecideLemmas.{dec_and, dec_Covered, greatest_or_none, some_follow, some_encoding}
-use Rattle.olr_spec.proofs.ListLemmas.{has_here, has_there}
-use Rattle.olr_spec.proofs.RouteMoves.{near_same}
-use Rattle.olr_spec.proofs.JoinLemmas.{empty_stretch}
 use Rattle.olr_spec.proofs.QueryLists.{query_for, query_from, queries_here}
 
 -- ---- the last position that is tested

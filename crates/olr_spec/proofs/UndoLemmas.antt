@@ -4,15 +4,9 @@ use Rattle.olr_spec.proofs.Common.{None, Result, Ok, sym, ap, ◌∙◌, nat_cmp
 use Rattle.olr_spec.proofs.Common.{cases_Bool, and_from, or_cases, list_any, nat_cmp_total, FinMap, get, insert, remove}
 use Rattle.olr_spec.proofs.Common.{entries, nat_cmp-IsAntisymmetric, Map, IsMap, Line, has_node, line_at, coord_at}
 use Rattle.olr_spec.proofs.Common.{Edit, Add_node, Move_node, Drop_node, Add_line, Set_line, Drop_line, edited, in_use}
-use Rattle.olr_spec.proofs.Common.{has}
-use Rattle.std.specs.FinMap.{get-empty, same_map}
-use Rattle.olr_spec.specs.Map.{unless}
-use Rattle.olr_spec.specs.Laws.{EmptyIsSound, EditsUndo}
-use Rattle.olr_spec.proofs.MapLemmas.{has-lines_where, passes_at}
-use Rattle.olr_spec.proofs.ListLemmas.{has_here}
-use Rattle.olr_spec.proofs.AgreeLemmas.{some_is}
+use Rattle.olr_spec.proofs.Common.{has, get-empty, same_map, unless, EmptyIsSound, EditsUndo}
+use Rattle.olr_spec.proofs.Facts.{has-lines_where, passes_at, has_here, some_is, none_of, there_not}
 use Rattle.olr_spec.proofs.EditLemmas.{got_other, got_same, left_other, left_same, edit_laws}
-use Rattle.olr_spec.proofs.OptionLemmas.{none_of, there_not}
 
 -- ---- finite maps
 

@@ -1,4 +1,4 @@
-use Rattle.olr_spec.proofs.OrderLemmas.{lines_ascend, exactly_in, exactly_out}
+use Rattle.olr_spec.proofs.Facts.{lines_ascend, exactly_in, exactly_out}
 use Rattle.olr_spec.proofs.EditLemmas.{edits_keep}
 use Rattle.olr_spec.proofs.UndoLemmas.{edits_undo, empty_sound}
 use Rattle.olr_spec.proofs.laws_of_maps.Goals as goal

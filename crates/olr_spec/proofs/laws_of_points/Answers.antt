@@ -1,5 +1,4 @@
-use Rattle.olr_spec.proofs.KeptLemmas.{two_kept}
-use Rattle.olr_spec.proofs.JoinLemmas.{routes_join}
+use Rattle.olr_spec.proofs.Facts.{two_kept, routes_join}
 use Rattle.olr_spec.proofs.DecodedLemmas.{decoded_near, decoded_points}
 use Rattle.olr_spec.proofs.laws_of_points.Goals as goal
 

@@ -1,5 +1,5 @@
 use Rattle.olr_spec.proofs.Common.{SameLine}
-use Rattle.olr_spec.proofs.ListLemmas.{Each-from}
+use Rattle.olr_spec.proofs.Facts.{Each-from}
 use Rattle.olr_spec.proofs.QueryLemmas.{to_same, clear_routes, query_stays, covered_stays}
 use Rattle.olr_spec.proofs.StayLemmas.{kept, known_kept, untouched_retained}
 use Rattle.olr_spec.proofs.TestedLemmas.{one_last_tested, some_last_tested, one_queries, some_queries, foot_queried}

@@ -1,7 +1,5 @@
-use Rattle.std.proofs.Common.{◌≡◌, ℕ, ◌^◌, ℤ, pos, ◌+ℤ◌, ◌-ℤ◌, ◌*ℤ◌, ap, w64, arith}
-use Rattle.std.specs.Int.{w128}
-use Rattle.std.proofs.lemmas.Int.{ints}
-use Rattle.olr_spec.specs.Bearings.{Scaled, sector, thousandths}
+use Rattle.olr_spec.proofs.Common.{◌≡◌, ℕ, ◌^◌, ℤ, pos, ◌+ℤ◌, ◌-ℤ◌, ◌*ℤ◌, ap, w64, arith, w128, ints, Scaled, sector}
+use Rattle.olr_spec.proofs.Common.{thousandths}
 use Rattle.olr_bearing.specs.Ranges.{IsWithin}
 use Rattle.olr_bearing.proofs.Scaling.{held, coord_within}
 use Rattle.olr_bearing.proofs.bearings.bearing.Goals as goal

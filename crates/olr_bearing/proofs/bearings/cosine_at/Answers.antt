@@ -1,7 +1,4 @@
-use Rattle.std.proofs.Common.{◌≡◌, ℤ, pos, ◌*ℤ◌, ◌≤ℤ◌, w64, ap, arith}
-use Rattle.std.specs.Int.{w128}
-use Rattle.std.proofs.lemmas.Int.{ints}
-use Rattle.olr_spec.specs.Bearings.{thousandths}
+use Rattle.olr_spec.proofs.Common.{◌≡◌, ℤ, pos, ◌*ℤ◌, ◌≤ℤ◌, w64, ap, arith, w128, ints, thousandths}
 use Rattle.olr_bearing.specs.Ranges.{IsWithin}
 use Rattle.olr_bearing.proofs.Products.{same_product, square_within}
 use Rattle.olr_bearing.proofs.Scaling.{held, coord_within, thousandths_within}

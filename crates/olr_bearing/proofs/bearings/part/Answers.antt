@@ -1,11 +1,9 @@
-use Rattle.std.proofs.Common.{◌≡◌, ℕ, ◌*◌, ◌^◌, ◌≤◌, ℤ, pos, ◌-ℤ◌, ◌*ℤ◌, FitsSigned, arith}
-use Rattle.std.specs.Int.{w128}
-use Rattle.std.proofs.lemmas.Int.{ints}
+use Rattle.olr_spec.proofs.Common.{◌≡◌, ℕ, ◌*◌, ◌^◌, ◌≤◌, ℤ, pos, ◌-ℤ◌, ◌*ℤ◌, FitsSigned, arith, w128, ints}
 use Rattle.olr_bearing.specs.Ranges.{IsFactor, IsWithin, degree_units}
 use Rattle.olr_bearing.proofs.Products.{same_product, natural_product_within, product_within}
 use Rattle.olr_bearing.proofs.Scaling.{held}
-use Rattle.olr_bearing.proofs.bearings.part.Goals as goal
 use Rattle.olr_bearing.proofs.bearings.part.Goals.{After-from-2}
+use Rattle.olr_bearing.proofs.bearings.part.Goals as goal
 
 -- the code's number a is b, and fits 128 bits
 record Settled (a b : ℤ) : Type 0 where

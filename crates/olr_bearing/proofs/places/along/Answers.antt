@@ -1,10 +1,8 @@
-use Rattle.std.proofs.Common.{◌≡◌, ◌^◌, ℤ, pos, ◌+ℤ◌, ◌-ℤ◌, ◌*ℤ◌, ◌∙◌, FitsSigned, w64, arith}
-use Rattle.std.specs.Int.{w128}
-use Rattle.std.proofs.lemmas.Int.{ints}
+use Rattle.olr_spec.proofs.Common.{◌≡◌, ◌^◌, ℤ, pos, ◌+ℤ◌, ◌-ℤ◌, ◌*ℤ◌, ◌∙◌, FitsSigned, w64, arith, w128, ints}
 use Rattle.olr_bearing.specs.Ranges.{IsWithin}
-use Rattle.olr_bearing.proofs.places.along.Goals as goal
 use Rattle.olr_bearing.proofs.Products.{same_product, product_within}
 use Rattle.olr_bearing.proofs.Scaling.{held}
+use Rattle.olr_bearing.proofs.places.along.Goals as goal
 
 -- both products are far from the limits of 128 bits
 record Products (w f d t : ℤ) : Type 0 where

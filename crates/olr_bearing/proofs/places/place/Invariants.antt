@@ -1,6 +1,5 @@
-use Rattle.std.proofs.Common.{◌≡◌, ℕ, ◌<◌, ◌≤◌, List, [], ◌∷◌, ◌++◌, IsTrue, drop}
-use Rattle.olr_spec.specs.Map.{ShapePoint, ascends_between}
-use Rattle.olr_spec.specs.Bearings.{Leg, scaled_on, scaled_coord}
+use Rattle.olr_spec.proofs.Common.{◌≡◌, ℕ, ◌<◌, ◌≤◌, List, [], ◌∷◌, ◌++◌, IsTrue, drop, ShapePoint, ascends_between}
+use Rattle.olr_spec.proofs.Common.{Leg, scaled_on, scaled_coord}
 use Rattle.olr_bearing.specs.Legs.{leg_between}
 use Rattle.olr_bearing.proofs.places.place.Given as goal
 

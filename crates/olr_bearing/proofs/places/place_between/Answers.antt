@@ -1,6 +1,5 @@
-use Rattle.std.proofs.Common.{◌≡◌, ℕ, ◌-◌, ◌*◌, ◌≤◌, ℤ, pos, ◌+ℤ◌, ◌-ℤ◌, ◌*ℤ◌, subst, sym, ap, w64, arith}
-use Rattle.std.proofs.lemmas.Int.{ints}
-use Rattle.olr_spec.specs.Map.{ShapePoint}
+use Rattle.olr_spec.proofs.Common.{◌≡◌, ℕ, ◌-◌, ◌*◌, ◌≤◌, ℤ, pos, ◌+ℤ◌, ◌-ℤ◌, ◌*ℤ◌, subst, sym, ap, w64, arith, ints}
+use Rattle.olr_spec.proofs.Common.{ShapePoint}
 use Rattle.olr_bearing.specs.Ranges.{IsWithin, degree_units}
 use Rattle.olr_bearing.proofs.Scaling.{held, along_within, coord_within}
 use Rattle.olr_bearing.proofs.places.place_between.Goals as goal

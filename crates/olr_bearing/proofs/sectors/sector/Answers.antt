@@ -1,6 +1,4 @@
-use Rattle.std.proofs.Common.{◌≡◌, ◌+◌, arith}
-use Rattle.std.proofs.lemmas.Int.{ints}
-use Rattle.olr_spec.specs.Bearings.{sector}
+use Rattle.olr_spec.proofs.Common.{◌≡◌, ◌+◌, arith, ints, sector}
 use Rattle.olr_bearing.proofs.Turns.{in_sector, nowhere_sector, first_quarter_is, second_quarter_is, third_quarter_is}
 use Rattle.olr_bearing.proofs.Turns.{fourth_quarter_is}
 use Rattle.olr_bearing.proofs.sectors.sector.Goals as goal

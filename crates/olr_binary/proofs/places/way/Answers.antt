@@ -1,8 +1,5 @@
-use Rattle.std.proofs.Common.{◌≡◌, ◌+ℤ◌, ap, ◌∙◌, rules, arith, List, w16, w32, w64, FitsSigned}
-use Rattle.std.specs.Int.{w128}
-use Rattle.std.proofs.lemmas.Int.{ints, to_z-of_z}
-use Rattle.olr_spec.specs.Coordinates.{from_abs24, from_rel16}
-use Rattle.olr_spec.specs.Reference.{Middle}
+use Rattle.olr_spec.proofs.Common.{◌≡◌, ◌+ℤ◌, ap, ◌∙◌, rules, arith, List, w16, w32, w64, FitsSigned, w128, ints}
+use Rattle.olr_spec.proofs.Common.{to_z-of_z, from_abs24, from_rel16, Middle}
 use Rattle.olr_binary.proofs.PlaceLemmas.{add_none, place-more}
 use Rattle.olr_binary.proofs.places.way.Goals as goal
 

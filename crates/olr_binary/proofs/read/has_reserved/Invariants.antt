@@ -1,6 +1,4 @@
-use Rattle.std.proofs.Common.{◌≡◌, ◌+◌, ◌-◌, ◌*◌, nat_le}
-use Rattle.std.specs.List.{list_any}
-use Rattle.olr_spec.specs.Bytes.{attribute1_bytes}
+use Rattle.olr_spec.proofs.Common.{◌≡◌, ◌+◌, ◌-◌, ◌*◌, nat_le, list_any, attribute1_bytes}
 use Rattle.olr_binary.proofs.read.has_reserved.Given as goal
 
 -- the bytes that are left decide the result

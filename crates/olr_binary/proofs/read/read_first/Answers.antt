@@ -1,5 +1,4 @@
-use Rattle.std.proofs.Common.{arith, rules, w32}
-use Rattle.std.proofs.lemmas.Int.{to_z-of_z}
+use Rattle.olr_spec.proofs.Common.{arith, rules, w32, to_z-of_z}
 use Rattle.olr_binary.proofs.PointLemmas.{first_bytes-parts}
 use Rattle.olr_binary.proofs.read.read_first.Goals as goal
 

@@ -1,6 +1,4 @@
-use Rattle.std.proofs.Common.{◌≡◌, ◌+◌, ◌*◌, slice_range}
-use Rattle.std.specs.List.{AllByRecursion, flat_map}
-use Rattle.olr_spec.specs.Bytes.{IsMiddle, middle_bytes}
+use Rattle.olr_spec.proofs.Common.{◌≡◌, ◌+◌, ◌*◌, slice_range, AllByRecursion, flat_map, IsMiddle, middle_bytes}
 use Rattle.olr_binary.proofs.read.read_points.Given as goal
 
 abbrev pub invariant-loop-i : goal.invariant-loop-i

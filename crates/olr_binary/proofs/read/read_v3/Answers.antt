@@ -1,7 +1,5 @@
-use Rattle.std.proofs.Common.{◌≡◌, ℕ, ◌+◌, ◌-◌, ◌*◌, List, length, slice_index, slice_range, arith, rules}
-use Rattle.std.specs.List.{flat_map}
-use Rattle.olr_spec.specs.Reference.{Reference}
-use Rattle.olr_spec.specs.Bytes.{IsReference, middle_bytes, status_byte}
+use Rattle.olr_spec.proofs.Common.{◌≡◌, ℕ, ◌+◌, ◌-◌, ◌*◌, List, length, slice_index, slice_range, arith, rules}
+use Rattle.olr_spec.proofs.Common.{flat_map, Reference, IsReference, middle_bytes, status_byte}
 use Rattle.olr_binary.specs.Codes.{reference_from}
 use Rattle.olr_binary.proofs.LayoutLemmas.{low_at, status-is}
 use Rattle.olr_binary.proofs.PointLemmas.{reference_bytes-parts}

@@ -1,4 +1,4 @@
-use Rattle.std.proofs.Common.{List, ℕ, IfErr, rules}
+use Rattle.olr_spec.proofs.Common.{List, ℕ, IfErr, rules}
 use Rattle.olr_binary.specs.declared.faults.TextFault.TheVariants.{NotBase64}
 use Rattle.olr_binary.specs.Faults.{IsFaultOf}
 use Rattle.olr_binary.proofs.TextLemmas.{fault-no_text, no_text}

@@ -1,6 +1,4 @@
-use Rattle.std.proofs.Common.{◌≡◌, ◌++◌, take}
-use Rattle.std.specs.List.{flat_map}
-use Rattle.olr_spec.specs.Bytes.{middle_bytes}
+use Rattle.olr_spec.proofs.Common.{◌≡◌, ◌++◌, take, flat_map, middle_bytes}
 use Rattle.olr_binary.proofs.write.write_v3.Given as goal
 
 -- the LRPs so far are written

@@ -1,4 +1,4 @@
-use Rattle.std.proofs.Common.{length, ◌≤◌, rules}
+use Rattle.olr_spec.proofs.Common.{length, ◌≤◌, rules}
 use Rattle.olr_coords.proofs.DigitLemmas.{scaled-lt}
 use Rattle.olr_coords.proofs.degrees.fraction.Goals as goal
 

@@ -1,7 +1,4 @@
-use Rattle.std.proofs.Common.{◌≡◌, true, take}
-use Rattle.std.specs.List.{list_all}
-use Rattle.std.specs.Char.{is_ascii_digit}
-use Rattle.olr_spec.specs.Degrees.{digits_value}
+use Rattle.olr_spec.proofs.Common.{◌≡◌, true, take, list_all, is_ascii_digit, digits_value}
 use Rattle.olr_coords.proofs.degrees.number.Given as goal
 
 -- the bytes so far are digits, of this value

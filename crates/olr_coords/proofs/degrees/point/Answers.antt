@@ -1,4 +1,4 @@
-use Rattle.std.proofs.Common.{arith}
+use Rattle.olr_spec.proofs.Common.{arith}
 use Rattle.olr_coords.proofs.DigitLemmas.{point-at, no-point}
 use Rattle.olr_coords.proofs.degrees.point.Goals as goal
 

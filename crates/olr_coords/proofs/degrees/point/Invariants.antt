@@ -1,6 +1,5 @@
-use Rattle.std.proofs.Common.{◌≡◌, true, take}
+use Rattle.olr_spec.proofs.Common.{◌≡◌, true, take, list_all}
 use Rattle.std.specs.Prelude.{not, ◌==◌}
-use Rattle.std.specs.List.{list_all}
 use Rattle.olr_coords.proofs.degrees.point.Given as goal
 
 -- no decimal point so far

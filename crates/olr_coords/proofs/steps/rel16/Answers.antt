@@ -1,6 +1,5 @@
-use Rattle.std.proofs.Common.{◌∙◌, ◌≡◌, ap, w64, FitsSigned, ℤ, Some, None, if◌then◌else◌, ◌-ℤ◌}
-use Rattle.std.proofs.lemmas.Int.{to_z-of_z}
-use Rattle.olr_spec.specs.Coordinates.{fits16, relative}
+use Rattle.olr_spec.proofs.Common.{◌∙◌, ◌≡◌, ap, w64, FitsSigned, ℤ, Some, None, ◌-ℤ◌, to_z-of_z, fits16, relative}
+use Rattle.std.proofs.Common.{if◌then◌else◌}
 use Rattle.olr_coords.proofs.StepLemmas.{in_16_bits, difference_fits}
 use Rattle.olr_coords.proofs.steps.rel16.Goals as goal
 

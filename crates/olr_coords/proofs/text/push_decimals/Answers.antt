@@ -1,9 +1,9 @@
-use Rattle.std.proofs.Common.{List, ℕ, [], ◌∷◌, ◌++◌, ◌+◌, ◌-◌, ◌/◌, ◌%◌, ◌^◌, ap, ◌∙◌, sym, arith, append_assoc}
-use Rattle.std.proofs.lemmas.List.{append-nil}
+use Rattle.olr_spec.proofs.Common.{List, ℕ, [], ◌∷◌, ◌++◌, ◌+◌, ◌-◌, ◌/◌, ◌%◌, ◌^◌, ap, ◌∙◌, sym, arith, append_assoc}
+use Rattle.olr_spec.proofs.Common.{append-nil}
 use Rattle.olr_coords.specs.DegreesText.{decimals}
 use Rattle.olr_coords.proofs.DegreesTextLemmas.{IsStep, step, decimals-end}
-use Rattle.olr_coords.proofs.text.push_decimals.Goals as goal
 use Rattle.olr_coords.proofs.text.push_decimals.Goals.{In-loop-rest}
+use Rattle.olr_coords.proofs.text.push_decimals.Goals as goal
 
 -- the next digit
 next : (c : In-loop-rest) → IsStep c.loop-rest.places c.loop-rest.rest

@@ -1,4 +1,4 @@
-use Rattle.std.proofs.Common.{◌≡◌, ◌<◌, ◌≤◌, ◌^◌, ◌++◌}
+use Rattle.olr_spec.proofs.Common.{◌≡◌, ◌<◌, ◌≤◌, ◌^◌, ◌++◌}
 use Rattle.olr_coords.specs.DegreesText.{decimals}
 use Rattle.olr_coords.proofs.text.push_decimals.Given as goal
 
