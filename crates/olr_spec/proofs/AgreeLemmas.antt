@@ -1,6 +1,6 @@
 -- What is the same on two maps that agree around a node.
 use Rattle.olr_spec.proofs.Common.{◌≡◌, ℕ, ◌+◌, true, List, ◌∷◌, map, Option, Some, is_some, IsTrue, refl, sym, ap, ◌∙◌}
-use Rattle.olr_spec.proofs.Common.{◌==◌, unwrap_or, ◌↔◌, arith, [], eqb-true, get, nat_tests, option_filter, Map, Line}
+use Rattle.olr_spec.proofs.Common.{◌==◌, unwrap_or, ◌↔◌, arith, [], eqb-true, get, nat_tests, Map, Line}
 use Rattle.olr_spec.proofs.Common.{has_line, line_at, start, end, dm, coord_at, SameLine, SameRound, lines_where, dm_of}
 use Rattle.olr_spec.proofs.Common.{passing, passes_between, no_line, no_coord}
 use Rattle.olr_spec.proofs.MapLemmas.{has-lines_where, passes_at, same_selected}
@@ -46,12 +46,6 @@ same_coord M N v r = λ i. unwrap_or (r.place i) no_coord
 
 -- ---- the lines of a node
 
--- two options that have the same values for which f is v
-same_kept : (f : Line → ℕ) (v : ℕ) (o p : Option Line) →
-    ((l : Line) → ((o ≡ Some l) × (f l ≡ v)) ↔ ((p ≡ Some l) × (f l ≡ v))) →
-    option_filter (λ l. f l == v) o ≡ option_filter (λ l. f l == v) p
-same_kept f v o p h = grind (arith, nat_tests)
-
 pub passed : (f : Line → ℕ) (v : ℕ) (o : Option Line) → passes_at (λ l. f l == v) o ≡ true → (l : Line) × (o ≡ Some l)
     × (f l ≡ v)
 passed f v o h = grind (arith, eqb-true)
@@ -65,7 +59,7 @@ module _ (M N : Map) (f : Line → ℕ) (v : ℕ)
   -- their other ends
   ends_same : (g : Line → ℕ) → map (λ x. g (line_at M x)) (lines_where M (λ l. f l == v)) ≡
       map (λ x. g (line_at N x)) (lines_where N (λ l. f l == v))
-  ends_same g = grind (arith, map_same, passed, has-lines_where, same_record, same_selected, same_kept)
+  ends_same g = grind (arith, map_same, passed, has-lines_where, same_record, same_selected, nat_tests)
 
 -- a line of the first map that enters or leaves the node
 pub by_entering : (M N : Map) (v x : ℕ) → SameRound M N v → IsTrue (has_line M x) → end M x ≡ v → SameLine M N x

@@ -67,13 +67,17 @@ there_found xs x (Err i) h c = absurd (not_among xs x i h c)
 pub insert_ascends : (xs : List ℕ) (x i : ℕ) → IsStrictlyIncreasing xs → IsSearchResult xs x (Err i) →
     IsStrictlyIncreasing (insert xs i x)
 insert_ascends xs x i up h k lt =
-    let there = get_or-insert_below xs i x 0 k in
-    let near = get_or-insert_below xs i x 0 (k + 1) in
-    let next = get_or-insert_above xs i x 0 k in
-    let later = get_or-insert_above xs i x 0 (k - 1) in
-    let here = length-insert xs i x h.0 in
-    let also = get_or-insert_at xs i x 0 h.0 in
-    grind (arith, cases_order k i, cases_eq (k + 1) i)
+    grind (
+      arith,
+      (get_or-insert_below xs i x 0 k),
+      (get_or-insert_below xs i x 0 (k + 1)),
+      (get_or-insert_above xs i x 0 k),
+      (get_or-insert_above xs i x 0 (k - 1)),
+      (length-insert xs i x h.0),
+      (get_or-insert_at xs i x 0 h.0),
+      cases_order,
+      cases_eq,
+    )
 
 -- a number above all of them, at the end
 pub ascends_push : (xs : List ℕ) (x : ℕ) → IsStrictlyIncreasing xs → ((k : ℕ) → k < length xs → get_or xs k 0 < x) →

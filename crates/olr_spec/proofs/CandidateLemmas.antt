@@ -1,17 +1,16 @@
 -- The path's own line at an LRP is preferred to every other candidate: its node is the nearest if other nodes are three
 -- times the bound of decoding away. And the length that an offset byte cuts off.
-use Rattle.olr_spec.proofs.Common.{inl, inr, ◌≡◌, ◌≢◌, ℕ, ◌+◌, ◌-◌, Bool, true, false, not, ◌||◌, ◌<◌, ◌≤◌, ◌↔◌, IsTrue}
+use Rattle.olr_spec.proofs.Common.{◌≡◌, ◌≢◌, ℕ, ◌+◌, ◌-◌, Bool, true, ◌<◌, ◌≤◌, ◌↔◌, IsTrue}
 use Rattle.olr_spec.proofs.Common.{refl, arith, nat_lt, ◌==◌, ◌*◌, ℤ, ◌-ℤ◌, nat_le, ◌/◌, Some, eqb-true, eq-eqb}
 use Rattle.olr_spec.proofs.Common.{ltb-true, lt-ltb, le-ltb, leb-true, nat_abs, cases_Bool, cases_eq, both_ways}
-use Rattle.olr_spec.proofs.Common.{or_cases, ints, Map, has_line, line_at, Leg, leg, offset, Side, node_on}
-use Rattle.olr_spec.proofs.Common.{coordinate_on, candidates, Receiver, is_nearest, has_no_twin, Measure, Coord}
+use Rattle.olr_spec.proofs.Common.{or_cases, ints, Map, has_line, line_at, Leg, leg, offset}
+use Rattle.olr_spec.proofs.Common.{candidates, Receiver, is_nearest, has_no_twin, Measure, Coord}
 use Rattle.olr_spec.proofs.Common.{decoded_bound, IsNear, IsWeighted, is_spaced, IsCut, IsClose, AllPass-from_list_all}
-use Rattle.olr_spec.proofs.Common.{IsFalse, list_all, SomeReceiver, SomeWeighted, list_all-map}
+use Rattle.olr_spec.proofs.Common.{list_all, SomeReceiver, SomeWeighted, list_all-map}
 use Rattle.olr_spec.proofs.Facts.{at_index, has_number}
 use Rattle.std.proofs.Math.Nat.{mul-le-mul_left, mul-le-mul_right, mul-lt-mul_of_pos_left, le_of_mul-le-mul_left}
 use Rattle.std.proofs.Math.Nat.{mul-add, mul_comm, div-mul-le_self, lt-div-mul-add}
-use Rattle.olr_spec.specs.Receiver.{sector_on, Lrp, Rating, NowhereWorse, SomewhereBetter, IsDifference, rating, Takes}
-use Rattle.olr_spec.specs.Receiver.{are_twins}
+use Rattle.olr_spec.specs.Receiver.{sector_on, Lrp, Rating, IsDifference, rating, Takes}
 use Rattle.olr_spec.specs.Recovery.{lon_apart, lat_apart}
 
 -- ---- a test that all candidates pass
@@ -31,33 +30,14 @@ pub record Own (R : Receiver) (M : Map) (t : Lrp) (x : ℕ) : Type 0 where
   pub nearest : IsTrue (is_nearest R.far t.side t.place (leg M x) (candidates M))
   pub alone : IsTrue (has_no_twin t.side x (leg M x) (candidates M))
 
-same_coordinate : (M : Map) (s : Side) (x y : ℕ) → node_on s (leg M x) ≡ node_on s (leg M y) →
-    coordinate_on s (leg M x) ≡ coordinate_on s (leg M y)
-same_coordinate M s x y e = grind arith
-
 module _ (R : Receiver) (M : Map) (t : Lrp) (x : ℕ) (o : Own R M t x) where
-  nowhere_worse : (y : ℕ) → (rating R t (leg M x)).far ≤ (rating R t (leg M y)).far →
-      NowhereWorse (rating R t (leg M x)) (rating R t (leg M y))
-  nowhere_worse y le = grind (arith, R.frcs.same t.frc, R.fows.same t.fow, R.bearings.same t.bearing)
-
-  another_kind : (y : ℕ) → node_on t.side (leg M x) ≡ node_on t.side (leg M y) →
-      are_twins t.side (leg M x) (leg M y) ≡ false → SomewhereBetter (rating R t (leg M x)) (rating R t (leg M y))
-  another_kind y e off = grind (arith, cases_eq, both_ways, eq-eqb)
-
-  not_same : (y : ℕ) → y ≢ x → (y == x) || not (are_twins t.side (leg M x) (leg M y)) ≡ true →
-      are_twins t.side (leg M x) (leg M y) ≡ false
-  not_same y n h = grind (arith, or_cases, eqb-true)
-
   preferred : (y : ℕ) → IsTrue (has_line M y) → y ≢ x → IsTrue (R.prefers (rating R t (leg M x)) (rating R t (leg M y)))
   preferred y h n =
-      grind (arith, passes, not_same, or_cases, eqb-true, nowhere_worse, same_coordinate, another_kind, ltb-true)
-
-  irreflexive : (a : Rating) → IsFalse (R.prefers a a)
-  irreflexive a = elim (cases_Bool (R.prefers a a)) [ inl p ↦ R.strict a a p | inr p ↦ p ]
+      grind (arith, passes, or_cases, eqb-true, cases_eq, both_ways, eq-eqb, ltb-true)
 
   -- so a receiver chooses it, and no other
   pub takes_own : (y : ℕ) → Takes R M t y ↔ (y ≡ x)
-  takes_own y = grind (arith, cases_eq, both_ways, preferred, irreflexive)
+  takes_own y = grind (arith, cases_eq, both_ways, preferred, cases_Bool)
 
 -- ---- receivers exist
 

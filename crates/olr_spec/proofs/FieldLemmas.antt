@@ -1,10 +1,10 @@
 -- The fields of an answer fit their bits.
 use Rattle.olr_spec.proofs.Common.{◌≡◌, ℕ, suc, ◌+◌, ◌-◌, ◌*◌, ◌/◌, max, ℤ, min, Bool, true, false, List, ◌∷◌, length}
 use Rattle.olr_spec.proofs.Common.{take, drop, map, ◌<◌, ◌≤◌, Some, None, IfSome, unwrap_or, IsTrue, ap, ◌∙◌, arith}
-use Rattle.olr_spec.proofs.Common.{◌==◌, take-add, [], ltb-true, fold, find, slice_index, slice_range, cases_Bool}
+use Rattle.olr_spec.proofs.Common.{◌==◌, take-add, [], ltb-true, fold, find, slice_range, cases_Bool}
 use Rattle.olr_spec.proofs.Common.{cases_lt, and_parts, and_from, cond_both, nat_tests, length-map, get_or-map}
-use Rattle.olr_spec.proofs.Common.{AllByRecursion, Coord, is_coord, abs24, relative, fits16, Map, IsMap, Line, is_good}
-use Rattle.olr_spec.proofs.Common.{has_line, line_at, coord_at, has, dm_of, node_at, stretch, Candidate, Leg, up_to}
+use Rattle.olr_spec.proofs.Common.{AllByRecursion, Coord, is_coord, abs24, relative, fits16, Map, IsMap}
+use Rattle.olr_spec.proofs.Common.{line_at, coord_at, has, dm_of, node_at, stretch, Candidate, Leg, up_to}
 use Rattle.olr_spec.proofs.Common.{vector, boundary, lies_between, leg, legs, no_leg, leg_at, position, dm_along}
 use Rattle.olr_spec.proofs.Common.{dm_between, from_front, last_where, first_where, attrs, last_two, middle_points}
 use Rattle.olr_spec.proofs.Common.{offset, last_point, AreAttrs, IsMiddle, IsLast, fits24, get_or_past, take-map}
@@ -45,8 +45,7 @@ has_last_where test d (x ∷ xs) =
 at_least : (M : Map) (ls : List ℕ) (test : ℕ → Bool) (d q : ℕ) (ks : List ℕ) → Linked M ls (q ∷ ks) → d ≤ q →
     d ≤ last_where test d (q ∷ ks)
 at_least M ls test d q ks l h =
-    let here = has_cases d (q ∷ ks) (last_where test d (q ∷ ks)) (has_last_where test d (q ∷ ks)) in
-    grind (arith, linked_above M ls q ks l (last_where test d (q ∷ ks)))
+    grind (arith, (has_cases d (q ∷ ks) (last_where test d (q ∷ ks)) (has_last_where test d (q ∷ ks))), linked_above)
 
 -- after the last that passes, none passes
 pub none_after : (M : Map) (ls : List ℕ) (test : ℕ → Bool) (d p : ℕ) (ks : List ℕ) → Linked M ls (p ∷ ks) → d ≤ p →
@@ -90,18 +89,12 @@ record IsLeg (g : Leg) : Type 0 where
   begin : IsTrue (is_coord g.begin)
   finish : IsTrue (is_coord g.finish)
 
-good_frc : (l : Line) → IsTrue (is_good l) → (l.frc < 8) × (l.fow < 8)
-good_frc l h = (grind (arith, nat_tests, and_parts), grind (arith, nat_tests, and_parts))
-
-leg_good : (M : Map) → IsMap M → (x : ℕ) → IsTrue (has_line M x) → IsLeg (leg M x)
-leg_good M m x h = grind arith
-
 module _ (M : Map) (m : IsMap M) (ls : List ℕ) (known : Each (Known M) ls) where
   leg_at_good : (i : ℕ) → IsLeg (leg_at (legs M ls) i)
   leg_at_good i =
       let here = get_or-map (leg M) ls i 0 no_leg in
       let there = get_or_past (legs M ls) i no_leg in
-      grind (arith, has_index ls i, length-map ls (leg M), cases_lt i (length ls), leg_good M m (slice_index ls i))
+      grind (arith, has_index ls i, length-map ls (leg M), cases_lt i (length ls))
 
   position_good : (i : ℕ) → IsTrue (is_coord (position (legs M ls) i))
   position_good i = grind (arith, leg_at_good)
@@ -123,7 +116,7 @@ module _ (M : Map) (m : IsMap M) (ls : List ℕ) (known : Each (Known M) ls) whe
   greatest_below a [] h lt = lt
   greatest_below a (x ∷ xs) h lt =
       let here = greatest_below (max a (line_at M x).frc) xs (Each-tail (Known M) x xs h) in
-      grind (arith, Each-head (Known M) x xs h, good_frc (line_at M x) (m.good x (Each-head (Known M) x xs h)))
+      grind (arith, Each-head (Known M) x xs h, nat_tests, and_parts)
 
   pub attrs_fit : (i j : ℕ) → Candidate M ls i j → AreAttrs (attrs (legs M ls) i j)
   attrs_fit i j c =

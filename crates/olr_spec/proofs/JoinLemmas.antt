@@ -9,11 +9,8 @@ use Rattle.olr_spec.proofs.AnswerLemmas.{Next-candidate}
 
 -- ---- parts of a list
 
-take_one : (n : ℕ) (x : ℕ) (xs : List ℕ) → 0 < n → take n (x ∷ xs) ≡ x ∷ take (n - 1) xs
-take_one n x xs h = grind arith
-
 pub stretch_first : (ls : List ℕ) (p q : ℕ) → p < q → p < length ls → stretch ls p q ≡ slice_index ls p ∷ stretch ls (p + 1) q
-stretch_first ls p q h k = grind (arith, drop_more, take_one)
+stretch_first ls p q h k = grind (arith, drop_more)
 
 pub stretch_last : (ls : List ℕ) (p q : ℕ) → p ≤ q → q < length ls →
     stretch ls p (q + 1) ≡ stretch ls p q ++ slice_index ls q ∷ []
@@ -48,10 +45,6 @@ joins_before M ls p k h g r =
 alone : (M : Map) (ls : List ℕ) (p q : ℕ) → q ≡ p + 1 → p < length ls → JoinsLast M ls p q
 alone M ls p q e h = grind (arith, stretch_first, empty_stretch)
 
--- without its last line, a unique shortest path is the one to the start of this line
-without_last : (M : Map) (s t : ℕ) (xs : List ℕ) (x : ℕ) → LrpRoute M s t (xs ++ x ∷ []) → LrpRoute M s (start M x) xs
-without_last M s t xs x r = grind (arith, IsRoute-split, prefix_of_unique)
-
 pub joins_last : (M : Map) (ls : List ℕ) (p q : ℕ) → Candidate M ls p q → JoinsLast M ls p q
 joins_last M ls p q c = elim (cases_eq q (p + 1)) [
   | inl e ↦ alone M ls p q e (omega arith)
@@ -60,7 +53,7 @@ joins_last M ls p q c = elim (cases_eq q (p + 1)) [
       let on : k + 1 ≡ q = omega arith in
       subst (JoinsLast M ls p) on (joins_before M ls p k (omega arith) (omega arith) (elim (cases_eq q (length ls)) [
         | inl whole ↦ covered_to M ls p q k (omega arith) (omega arith) c.covered
-        | inr within ↦ grind (arith, without_last, stretch_last, covered_to)
+        | inr within ↦ grind (arith, IsRoute-split, prefix_of_unique, stretch_last, covered_to)
       ]))
 ]
 

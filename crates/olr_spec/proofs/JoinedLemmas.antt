@@ -1,7 +1,7 @@
 -- The lines of a path without fault join, and so do those of the extended path.
 use Rattle.olr_spec.proofs.Common.{◌≡◌, ◌<◌, ℕ, suc, List, ◌∷◌, ◌++◌, length, None, refl, arith, length-append, ◌==◌}
 use Rattle.olr_spec.proofs.Common.{[], eqb-true, IsTrue, Some, cond_both, Map, start, end, IsRoute, Path, is_path}
-use Rattle.olr_spec.proofs.Common.{Tried, first, last, MayPrecede, MayFollow, extended_path, AreJoined, first_break}
+use Rattle.olr_spec.proofs.Common.{Tried, last, MayPrecede, MayFollow, extended_path, AreJoined, first_break}
 use Rattle.olr_spec.proofs.Common.{path_fault}
 use Rattle.olr_spec.proofs.Facts.{IsRoute-append, Each, Each-head, Each-tail, Each-from, Known, or_None, map_None}
 use Rattle.olr_spec.proofs.Facts.{sound_lines, path_nonempty, last_push, extended_keeps}
@@ -33,17 +33,11 @@ record IsJoinedPath (M : Map) (ls : List ℕ) : Type 0 where
   some : 0 < length ls
   joined : AreJoined M ls
 
-last_later : (x : ℕ) (ls : List ℕ) → 0 < length ls → last (x ∷ ls) ≡ last ls
-last_later x ls h = grind arith
-
-first_pushed : (ls : List ℕ) (x : ℕ) → 0 < length ls → first (ls ++ x ∷ []) ≡ first ls
-first_pushed ls x h = grind arith
-
 preceded : (M : Map) (x : ℕ) (ls : List ℕ) → MayPrecede M x ls → IsJoinedPath M ls → IsJoinedPath M (x ∷ ls)
-preceded M x ls p j = grind (arith, last_later)
+preceded M x ls p j = grind (arith)
 
 pushed : (M : Map) (ls : List ℕ) (x : ℕ) → MayFollow M ls x → IsJoinedPath M ls → IsJoinedPath M (ls ++ x ∷ [])
-pushed M ls x p j = grind (arith, IsRoute-append, length-append, first_pushed, last_push)
+pushed M ls x p j = grind (arith, IsRoute-append, length-append, last_push)
 
 pub extended_joined : (M : Map) (P : Path) → IsTrue (is_path P.lines) → path_fault M P ≡ None → (b a : List ℕ)
     → Tried M P b a → AreJoined M (extended_path M P b a).lines

@@ -1,7 +1,7 @@
 -- Coverage queries along a path's own lines: what they say without the extension, and that they are the same on another
 -- map where they are clear.
 use Rattle.olr_spec.proofs.Common.{◌≡◌, ℕ, ◌+◌, List, ◌∷◌, ◌++◌, length, ◌<◌, ◌≤◌, sym, ap, ◌∙◌, subst, arith, refl}
-use Rattle.olr_spec.proofs.Common.{◌↔◌, Bool, true, IsTrue, MatchOption, nat_lt, length-append, [], append_assoc}
+use Rattle.olr_spec.proofs.Common.{◌↔◌, IsTrue, MatchOption, nat_lt, length-append, [], append_assoc}
 use Rattle.olr_spec.proofs.Common.{get_or-append-add, length-drop, slice_index, AllZip, All-nil, Map, start, end}
 use Rattle.olr_spec.proofs.Common.{SameLine, IsRoute, dm_of, UniqueShortest, LrpRoute, Path, extended_path, from_start}
 use Rattle.olr_spec.proofs.Common.{taken_start, taken_end, AreJoined, stretch, Covered, path_fault, ChangedLine}
@@ -102,9 +102,6 @@ module _ (M : Map) (b own a : List ℕ) (joined : AreJoined M ((b ++ own) ++ a))
   part_is : (m : ℕ) → e.first ≤ m → m ≤ e.last → stretch ls (i + 1) (length b + m) ≡ stretch own e.first m
   part_is m h g = ap (λ (n : ℕ). stretch ls n (length b + m)) begins ∙ own_stretch b own a e.first m h (omega arith)
 
-  from_start_of : from ≡ start M (slice_index own e.first)
-  from_start_of = grind (arith, next_start, ls, own_line)
-
   way : IsRoute M from to (stretch own e.first e.last)
   way = subst (IsRoute M from to) (part_is e.last (omega arith) (omega arith))
       (way_on M ls _ _ joined i (length b + e.last) (omega arith) inside)
@@ -112,20 +109,17 @@ module _ (M : Map) (b own a : List ℕ) (joined : AreJoined M ((b ++ own) ++ a))
   -- what is right of the path is right of the extended path
   module _ (k : IsKnown M own e) where
     pub from_known : e.query.from ≡ from
-    from_known = grind (arith, stretch_first, from_start_of)
-
-    pub to_known : e.query.to ≡ to
-    to_known = grind (arith, one_end, from_known, way)
+    from_known = grind (arith, stretch_first, next_start, own_line)
 
     pub query_known : e.query ≡ query_to M ls i (length b + e.last)
-    query_known = grind (arith, from_known, to_known, part_is)
+    query_known = grind (arith, from_known, one_end, way, part_is)
 
     pub before_known : (m : ℕ) → e.first ≤ m → m < e.last →
         UniqueShortest M from (start M (slice_index ls (length b + m))) (stretch ls (i + 1) (length b + m))
     before_known m h g = grind (arith, own_line, from_known, part_is)
 
     pub covered_known : IsTrue e.covered ↔ UniqueShortest M from to (stretch ls (i + 1) (length b + e.last))
-    covered_known = grind (arith, part_is, from_known, to_known)
+    covered_known = grind (arith, part_is, from_known, one_end, way)
 
   -- and the other way round
   module _ (tested : IsLastTested M ls i (length b + e.last)) (query : e.query ≡ query_to M ls i (length b + e.last))
@@ -154,12 +148,9 @@ linked_ascend : (M : Map) (ls : List ℕ) (k : ℕ) (js : List ℕ) → Linked M
 linked_ascend M ls k [] l = (omega arith, tt)
 linked_ascend M ls k (j ∷ js) l = (omega arith, (omega arith, (linked_ascend M ls j js l.1).1))
 
-same_bool : (x y : Bool) → (x ≡ true → y ≡ true) → (y ≡ true → x ≡ true) → x ≡ y
-same_bool x y f g = grind arith
-
 one_known_at : (M : Map) (ls : List ℕ) (lead own i : ℕ) (d e : KnownQuery) → IsKnownAt M ls lead own i d →
     IsKnownAt M ls lead own i e → d ≡ e
-one_known_at M ls lead own i d e p q = grind (arith, one_last_tested, same_bool)
+one_known_at M ls lead own i d e p q = grind (arith, one_last_tested)
 
 -- ---- whether or not the path has a fault
 

@@ -4,7 +4,7 @@ use Rattle.olr_spec.proofs.Common.{◌≡◌, ℕ, ◌+◌, ◌-◌, min, Bool, 
 use Rattle.olr_spec.proofs.Common.{arith, ◌==◌, ◌↔◌, suc, Some, [], ltb-true, slice_index, Map, IsMap, start, end}
 use Rattle.olr_spec.proofs.Common.{coord_at, SameLine, SameRound, has, IsRoute, dm_of, LrpRoute, Path, passing, limit}
 use Rattle.olr_spec.proofs.Common.{node_at, stretch, Covered, fit16, Candidate, ValidCandidate, Greatest, Next, To_end}
-use Rattle.olr_spec.proofs.Common.{To_valid, To_passing, Follow, legs, first_unknown, first_break, path_fault, NodeOf}
+use Rattle.olr_spec.proofs.Common.{To_valid, To_passing, Follow, legs, first_unknown, first_break, path_fault}
 use Rattle.olr_spec.proofs.Common.{Traversed}
 use Rattle.olr_spec.proofs.Facts.{empty_unique, empty_stretch, Each, Each-nil, Each-head, Each-tail, Each-range}
 use Rattle.olr_spec.proofs.Facts.{has_last, has_index, map_same, Alike, same_record, same_start, same_end, same_dm_of}
@@ -57,10 +57,7 @@ module _ (M N : Map) (ls : List ℕ) (nonempty : 0 < length ls) (alike : Each (A
   candidate_same i j on = let place = node_same coord_at (same_coord M N) in grind (arith, stretch_same, place, candidate_by)
 
   both_valid : (i j : ℕ) → has js i ≡ true → ValidCandidate M ls i j ↔ ValidCandidate N ls i j
-  both_valid i j on =
-      let c = candidate_same i j on in
-      let valid_same = node_same passing (same_passing M N) in
-      ((λ v. (c.0 v.0, sym (valid_same j) ∙ v.1)), (λ v. (c.1 v.0, valid_same j ∙ v.1)))
+  both_valid i j on = grind (arith, (candidate_same i j on), (node_same passing (same_passing M N)))
 
   next_moves : (i j : ℕ) → has js i ≡ true → Next M ls i j → Next N ls i j
   next_moves i j on (To_end e c) = To_end e ((candidate_same i (length ls) on).0 c)
@@ -83,12 +80,9 @@ legs_same M N ls alike = grind (arith, map_same, same_coord, same_start, same_en
 
 -- ---- traversed nodes
 
-NodeOf-same : (M N : Map) (xs : List ℕ) (v : ℕ) → Each (Alike M N) xs → NodeOf M xs v ↔ NodeOf N xs v
-NodeOf-same M N xs v h = grind (arith, same_start, same_end)
-
 pub Traversed-same : (M N : Map) (ls b a : List ℕ) (v : ℕ) → Each (Alike M N) ls → Each (Alike M N) b
     → Each (Alike M N) a → Traversed M ls b a v ↔ Traversed N ls b a v
-Traversed-same M N ls b a v h i j = grind (arith, NodeOf-same)
+Traversed-same M N ls b a v h i j = grind (arith, same_start, same_end)
 
 unknown_same : (M N : Map) (ls : List ℕ) → Each (SameLine M N) ls → first_unknown M ls ≡ first_unknown N ls
 unknown_same M N [] h = refl

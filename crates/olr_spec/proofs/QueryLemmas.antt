@@ -121,6 +121,13 @@ module _ (M N : Map) (ls : List ℕ) (same : Each (SameLine M N) ls) (s t : ℕ)
   -- positions that are near enough
   pub covered_stays : (j : ℕ) → i < j → j ≤ length ls → dm_of M (stretch ls i j) ≤ limit → Covered M ls i j ↔ Covered N ls i j
   covered_stays j h g near =
-      let e = alike i j in
-      let joined_there = IsRoute-moves M N s t ls same joined in
-      grind (arith, cases_lt, covered_known, query_stays, within, covered_same)
+      grind (
+        arith,
+        (alike i j),
+        (IsRoute-moves M N s t ls same joined),
+        cases_lt,
+        covered_known,
+        query_stays,
+        within,
+        covered_same,
+      )

@@ -150,9 +150,6 @@ record Passes (b : List ℕ) : Type 0 where
 passes : (b : List ℕ) → v3_fault b ≡ None → Passes b
 passes b e = grind (arith, no_fault, or_parts, ltb-false, eqb-true, not-false, leb-false)
 
-no_fault_from : (b : List ℕ) → Passes b → v3_fault b ≡ None
-no_fault_from b p = grind (arith, no_fault, or_from, le-ltb, eq-eqb, not_from_true, lt-leb)
-
 -- the first ten bytes, and the others
 read_bytes : (b : List ℕ) → AreBytes b → Passes b → (r : Reference) × HasBytes r b
 read_bytes (s ∷ a ∷ b ∷ c ∷ d ∷ e ∷ f ∷ g ∷ k ∷ l ∷ t) w p =
@@ -203,7 +200,7 @@ encoded_passes r h =
     let clear = ap (λ (k : ℕ). reserved (attribute1_bytes b 14 k)) count
     ∙ ap reserved (attributes_behind cut (middles ++ ends) 4 (suc m))
     ∙ unreserved r.middle r.last r.pos r.neg h.middle h.last in
-    grind (arith, no_fault_from b, flag_below r.pos, flag_below r.neg)
+    grind (arith, no_fault, or_from, le-ltb, eq-eqb, not_from_true, lt-leb, flag_below r.pos, flag_below r.neg)
 
 pub no_fault_where_encoded : NoFault
 no_fault_where_encoded b h = grind (arith, read_bytes, recursion_from_All, passes, encoded_passes)

@@ -1,12 +1,12 @@
 -- Every receiver recovers the legs between the remaining LRPs, and what the lengths and nodes of these say.
 use Rattle.olr_spec.proofs.Common.{◌≡◌, ℕ, suc, ◌+◌, ◌-◌, true, List, ◌∷◌, length, map, ◌<◌, ℤ, ◌≤◌, ◌↔◌, Some, None}
-use Rattle.olr_spec.proofs.Common.{IsTrue, refl, sym, ap, ◌∙◌, subst, arith, slice_get, inl, inr, zero, Bool, pos}
+use Rattle.olr_spec.proofs.Common.{IsTrue, refl, sym, ap, ◌∙◌, arith, slice_get, inl, inr, zero, Bool, pos}
 use Rattle.olr_spec.proofs.Common.{Option, unwrap_or, cond, [], nat_lt, ◌==◌, ◌||◌, option_map, slice_index, lt-ltb}
 use Rattle.olr_spec.proofs.Common.{le-ltb, ⊤, AllZip, get_or, get_or-map, AllPass-from_list_all, cases_lt, or_cases}
 use Rattle.olr_spec.proofs.Common.{or_left, or_right, Map, IsMap, coord_at, start, end, Path, is_path, none_twice}
 use Rattle.olr_spec.proofs.Common.{extended_path, first, last, AreJoined, stretch, OfPath, node_at, Leg, Reference, leg}
-use Rattle.olr_spec.proofs.Common.{legs, leg_at, no_leg, attrs, first_kept, last_kept, kept_points, from_front, to_back}
-use Rattle.olr_spec.proofs.Common.{Middle, middle_points, last_two, reference_by_kept, last_point, dm_between, offset}
+use Rattle.olr_spec.proofs.Common.{legs, leg_at, no_leg, attrs, first_kept, last_kept, kept_points}
+use Rattle.olr_spec.proofs.Common.{Middle, middle_points, last_two, reference_by_kept, last_point}
 use Rattle.olr_spec.proofs.Common.{Points, path_fault, Encoding, Side, Receiver, Within, RecoversTo, RecoversLast}
 use Rattle.olr_spec.proofs.Common.{candidates, is_nearest, has_no_twin, coordinate_on, Measure, node_on, IsCut, IsClose}
 use Rattle.olr_spec.proofs.Common.{IsWeighted, is_spaced, dm_of, IsNear, concat, list_all-from_AllPass, cond-false}
@@ -96,17 +96,12 @@ module _ (R : Receiver) (M : Map) (m : IsMap M) (ls : List ℕ) (known : Each (K
       let r = reference_by_kept (legs M ls) p q h i js in
       let x = slice_index ls h in
       let takes = takes_own R M (lrp_at r 0 (attrs (legs M ls) h i)) x (own_out r 0 h i (omega arith) o.0) in
-      let rest = from_point r 0 h i js l refl o.1 ws in (
-        (λ g. rest.0 (subst (λ (z : ℕ). RecoversFrom R M r 0 z (attributes r) ws) ((takes g.0).0 g.1) g.2)),
-        (λ e. (x, (takes x).1 refl, rest.1 e)),
-      )
+      let rest = from_point r 0 h i js l refl o.1 ws in
+      grind (arith)
 
 -- ---- legs
 
 module _ (M : Map) (m : IsMap M) (ls : List ℕ) (known : Each (Known M) ls) where
-  some_length : (p q : ℕ) → p < q → p < length ls → 0 < dm_of M (stretch ls p q)
-  some_length p q lt h = grind (arith, stretch_first, h, positive, has_index)
-
   last_length : (h i : ℕ) (js : List ℕ) →
       last (map (dm_of M) (stretches ls (h ∷ i ∷ js))) ≡ dm_of M (stretch ls (last_two h i js).0 (last_two h i js).1)
   last_length h i [] = refl
@@ -123,15 +118,19 @@ module _ (M : Map) (m : IsMap M) (ls : List ℕ) (known : Each (Known M) ls) whe
       ((c : ℕ) → IsCut n (first (map (dm_of M) ws)) r.pos c → IsClose n (first (map (dm_of M) ws)) front c)
       × ((c : ℕ) → IsCut n (last (map (dm_of M) ws)) r.neg c → IsClose n (last (map (dm_of M) ws)) back c)
 
-  cut_close : (left a b n : ℕ) → a < b → a < length ls → 0 < n → (c : ℕ) →
-      IsCut n (dm_of M (stretch ls a b)) (offset left (dm_between (legs M ls) a b)) c →
-      IsClose n (dm_of M (stretch ls a b)) left c
-  cut_close left a b n lt h some c = grind (arith, dm_same, offset_close, some_length)
-
   cuts_close : (p q h i : ℕ) (js : List ℕ) → Linked M ls (h ∷ i ∷ js) → (n : ℕ) → 0 < n →
       Cuts n (stretches ls (h ∷ i ∷ js)) (reference_by_kept (legs M ls) p q h i js) p q
   cuts_close p q h i js l n some =
-      grind (arith, last_two_linked M ls h i js l, cut_close p h i n l.0.after, cut_close q, last_length h i js)
+      grind (
+        arith,
+        last_two_linked M ls h i js l,
+        dm_same,
+        offset_close,
+        stretch_first,
+        positive,
+        has_index,
+        last_length h i js,
+      )
 
 -- ---- positions
 

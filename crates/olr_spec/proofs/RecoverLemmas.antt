@@ -1,5 +1,5 @@
 -- A shortest route over lines within the LFRCNP is the leg of the extended path.
-use Rattle.olr_spec.proofs.Common.{inl, inr, ◌≡◌, ◌==◌, ◌≢◌, ℕ, zero, suc, ◌+◌, ◌-◌, max, true, false, not, List, ◌∷◌}
+use Rattle.olr_spec.proofs.Common.{inl, inr, ◌≡◌, ◌≢◌, ℕ, zero, suc, ◌+◌, ◌-◌, max, true, false, not, List, ◌∷◌}
 use Rattle.olr_spec.proofs.Common.{◌++◌, length, ◌<◌, ◌≤◌, ◌↔◌, IsTrue, map, refl, ap, ◌∙◌, subst, arith, []}
 use Rattle.olr_spec.proofs.Common.{slice_index, fold, eq-eqb, ne_eqb, both_ways, and_parts, and_from, or_parts}
 use Rattle.olr_spec.proofs.Common.{list_any-append, Map, line_at, start, end, has, LrpRoute, Path, is_path, none_twice}

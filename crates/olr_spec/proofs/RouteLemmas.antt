@@ -100,12 +100,8 @@ one_least M m s t xs ys l k = elim (cases_order (dm_of M xs) (dm_of M ys)) [
   | inr o ↦ elim o [ inl h ↦ absurd (k.first xs l.route (inl h)) | inr h ↦ absurd (l.first ys k.route (inl h)) ]
 ]
 
-PrecedesInTieOrder-append : (M : Map) (xs ys zs : List ℕ) → PrecedesInTieOrder M xs ys →
-    PrecedesInTieOrder M (xs ++ zs) (ys ++ zs)
-PrecedesInTieOrder-append M xs ys zs p = grind (arith, dm_of-append, reverse-append, with_front)
-
 pub prefix_of_least : PrefixOfLeast
-prefix_of_least M s v t xs ys l w u = grind (arith, IsRoute-append, PrecedesInTieOrder-append)
+prefix_of_least M s v t xs ys l w u = grind (arith, IsRoute-append, dm_of-append, reverse-append, with_front)
 
 pub empty_least : EmptyIsLeast
 empty_least M s = grind (arith, nothing_below_nil)

@@ -114,15 +114,12 @@ module _ (M N : Map) (C : List ChangedLine) (accounts : AccountsFor C M N) (t : 
         ]
       ]
 
-detour_there : (M N : Map) (C : List ChangedLine) (s t d : ℕ) → Parts M N C s t d → Detour N C s t d
-detour_there M N C s t d p = grind (arith, IsRoute-moves, same_dm_of)
-
 -- if N has no detour within d
 module _ (M N : Map) (C : List ChangedLine) (s t d : ℕ) (there : AccountsFor C M N) (here : AccountsFor C N M)
     (clear : ¬ Detour N C s t d) where
   pub same_there : SameRoutes M N s t d
   same_there xs w h =
-      let parts = parts_of M N C there t s d xs w h in grind (arith, parts, detour_there M N C s t d)
+      let parts = parts_of M N C there t s d xs w h in grind (arith, parts, IsRoute-moves, same_dm_of)
 
   same_here : SameRoutes N M s t d
   same_here xs w h = elim (parts_of N M C here t s d xs w h) [ inl each ↦ each | inr p ↦ absurd (clear p.0) ]

@@ -1,6 +1,6 @@
 -- From a degree-two node only one line leads on, so a run of such nodes is determined by its length.
-use Rattle.olr_spec.proofs.Common.{◌⊎◌, ◌≡◌, ◌≢◌, ℕ, ◌+◌, true, ◌&&◌, ◌||◌, List, ◌∷◌, ◌++◌, map, length, ◌<◌, ◌≤◌}
-use Rattle.olr_spec.proofs.Common.{IsTrue, refl, sym, subst, arith, ◌==◌, append-nil, append_assoc, [], cases_lt}
+use Rattle.olr_spec.proofs.Common.{◌≡◌, ◌≢◌, ℕ, ◌+◌, true, List, ◌∷◌, ◌++◌, map, length, ◌<◌, ◌≤◌}
+use Rattle.olr_spec.proofs.Common.{IsTrue, refl, sym, subst, arith, append-nil, append_assoc, [], cases_lt}
 use Rattle.olr_spec.proofs.Common.{cases_order, and_parts, cond_both, nat_tests, Map, IsMap, dm, has_line, lines_in}
 use Rattle.olr_spec.proofs.Common.{lines_out, start, end, has, line_at, dm_of, passing, passes_between, first, last}
 use Rattle.olr_spec.proofs.Common.{MayPrecede, MayFollow, StartRun, EndRun, LongestEnd, Tried, Path, from_start}
@@ -11,23 +11,17 @@ use Rattle.olr_spec.proofs.AgreeLemmas.{known_record}
 
 -- ---- degree-two nodes
 
-one_of_two : (a b x : ℕ) → has (a ∷ b ∷ []) x ≡ true → (x ≡ a) ⊎ (x ≡ b)
-one_of_two a b x h = grind (arith, nat_tests)
-
-same_pair : (u w p q : ℕ) → ((p == u && q == w) || (p == w && q == u)) ≡ true → ((p ≡ u) × (q ≡ w)) ⊎ ((p ≡ w) × (q ≡ u))
-same_pair u w p q h = grind (arith, nat_tests)
-
 -- of the lines that enter, only one doesn't come from the far end of a given line that leaves
 one_way_in : (v : ℕ) (f g : ℕ → ℕ) (ins outs : List ℕ) (x y z : ℕ) → passes_between v (map f ins) (map g outs) ≡ true →
     has ins x ≡ true → has ins y ≡ true → has outs z ≡ true → f x ≢ g z → f y ≢ g z → x ≡ y
 one_way_in v f g (a ∷ []) (p ∷ []) x y z h hx hy hz nx ny = grind (arith, nat_tests)
-one_way_in v f g (a ∷ b ∷ []) (p ∷ q ∷ []) x y z h hx hy hz nx ny = grind (arith, same_pair, and_parts, one_of_two)
+one_way_in v f g (a ∷ b ∷ []) (p ∷ q ∷ []) x y z h hx hy hz nx ny = grind (arith, nat_tests, and_parts)
 one_way_in v f g _ _ x y z h hx hy hz nx ny = absurd cc
 
 one_way_out : (v : ℕ) (f g : ℕ → ℕ) (ins outs : List ℕ) (x y z : ℕ) → passes_between v (map f ins) (map g outs) ≡ true →
     has outs x ≡ true → has outs y ≡ true → has ins z ≡ true → g x ≢ f z → g y ≢ f z → x ≡ y
 one_way_out v f g (a ∷ []) (p ∷ []) x y z h hx hy hz nx ny = grind (arith, nat_tests)
-one_way_out v f g (a ∷ b ∷ []) (p ∷ q ∷ []) x y z h hx hy hz nx ny = grind (arith, same_pair, and_parts, one_of_two)
+one_way_out v f g (a ∷ b ∷ []) (p ∷ q ∷ []) x y z h hx hy hz nx ny = grind (arith, nat_tests, and_parts)
 one_way_out v f g _ _ x y z h hx hy hz nx ny = absurd cc
 
 pub entering : (M : Map) (v x : ℕ) → IsTrue (has_line M x) → end M x ≡ v → has (lines_in M v) x ≡ true

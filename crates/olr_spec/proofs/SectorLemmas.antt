@@ -1,6 +1,6 @@
 -- Each direction is in one sector.
 use Rattle.olr_spec.proofs.Common.{inl, inr, ◌≡◌, ℕ, zero, suc, ◌+◌, ◌-◌, ◌*◌, ◌/◌, ◌%◌, ◌<◌, ◌≤◌, ℤ, pos, ◌≤ℤ◌, ◌<ℤ◌}
-use Rattle.olr_spec.proofs.Common.{◌-ℤ◌, Bool, true, T, List, ◌∷◌, Some, unwrap_or, IsTrue, map, refl, sym, subst}
+use Rattle.olr_spec.proofs.Common.{◌-ℤ◌, Bool, true, T, List, ◌∷◌, unwrap_or, IsTrue, map, refl, sym, subst}
 use Rattle.olr_spec.proofs.Common.{arith, [], eq-eqb, int_le, find, and_parts, cases_order, or_left, or_right}
 use Rattle.olr_spec.proofs.Common.{cond_both, list_any-append, negsuc, ints, vector, boundary, lies_between, up_to, has}
 use Rattle.olr_spec.proofs.Common.{◌*ℤ◌, by_lt_z, quarter_turn, beyond, IsSector, OneSector, SomeSector}

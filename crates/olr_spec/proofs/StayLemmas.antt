@@ -37,9 +37,12 @@ module _ (M N : Map) (ls : List ℕ) (same : Each (SameLine M N) ls) (s t : ℕ)
 
   known_at : k ≡ lead + e.last → IsKnownAt M ls lead own i e ↔ IsKnownAt N ls lead own i e
   known_at is =
-      let to = to_same M N ls same s t joined i k query in
-      let covered = covered_same M N ls same s t joined i k query routes k (omega arith) in
-      grind (arith, query, tested, to, covered)
+      grind (
+        arith,
+        (to_same M N ls same s t joined i k query),
+        (covered_same M N ls same s t joined i k query routes k (omega arith)),
+        tested,
+      )
 
   known_as : IsKnownAt M ls lead own i e ↔ IsKnownAt N ls lead own i e
   known_as = (

@@ -19,8 +19,7 @@ way_to M s t (x ∷ ls) (suc n) w h = (w.0, w.1, way_to M (end M x) t ls n w.2 (
 pub way_between : (M : Map) (s t : ℕ) (ls : List ℕ) (p q : ℕ) → IsRoute M s t ls → p ≤ q → q < length ls
     → IsRoute M (start M (slice_index ls p)) (start M (slice_index ls q)) (stretch ls p q)
 way_between M s t ls p q w h g =
-    let here = way_to M (start M (slice_index ls p)) t (drop p ls) (q - p) in
-    grind (arith, length-drop p ls, way_from M s t ls p w, get_or-drop p ls (q - p) 0)
+    grind (arith, (way_to M (start M (slice_index ls p)) t (drop p ls) (q - p)), length-drop, way_from, get_or-drop)
 
 pub next_start : (M : Map) (s t : ℕ) (ls : List ℕ) (p : ℕ) → IsRoute M s t ls → p + 1 < length ls
     → end M (slice_index ls p) ≡ start M (slice_index ls (p + 1))
