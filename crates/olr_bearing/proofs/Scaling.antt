@@ -1,8 +1,7 @@
 -- The ranges of coordinates, and of coordinates between two others.
 use Rattle.olr_spec.proofs.Common.{◌≡◌, ℕ, ◌+◌, ◌-◌, ◌*◌, ◌≤◌, ℤ, pos, negsuc, ◌+ℤ◌, ◌-ℤ◌, ◌*ℤ◌, IsTrue, to_z, of_z, ap}
-use Rattle.olr_spec.proofs.Common.{arith, Width, ints, and_parts, Coord, is_coord, is_longitude, is_latitude}
+use Rattle.olr_spec.proofs.Common.{arith, Width, ints, and_parts, Coord, is_coord}
 use Rattle.olr_spec.proofs.Common.{thousandths}
-use Rattle.std.proofs.Common.{neg_ℤ}
 use Rattle.olr_spec.proofs.BytesLemmas.{bounds}
 use Rattle.olr_bearing.specs.Ranges.{IsWithin, degree_units}
 use Rattle.olr_bearing.proofs.Products.{natural_product_within, times_sum, sum_times}
@@ -15,11 +14,7 @@ held w z = to_z w (of_z w z)
 
 pub coord_within : (c : Coord) → IsTrue (is_coord c) →
     IsWithin (degree_units 180) c.lon × IsWithin (degree_units 90) c.lat
-coord_within c h =
-    let both = and_parts (is_longitude c.lon) (is_latitude c.lat) h in
-    let lon = bounds (neg_ℤ (pos 58982400000000)) (pos 58982367232000) c.lon both.0 in
-    let lat = bounds (neg_ℤ (pos 29491167232000)) (pos 29491167232000) c.lat both.1 in
-    ((omega (arith, ints, lon.0), omega (arith, ints, lon.1)), (omega (arith, ints, lat.0), omega (arith, ints, lat.1)))
+coord_within c h = grind (arith, and_parts, bounds, ints)
 
 pub thousandths_within : (z : ℤ) → IsWithin (degree_units 90) z → IsWithin 90000 (thousandths z)
 thousandths_within (pos n) h = (omega (arith, ints, h.0, h.1), omega (arith, ints, h.0, h.1))

@@ -1,10 +1,9 @@
 -- A quarter turn of a direction turns its sector, so the sectors of one quarter determine those of the others.
-use Rattle.olr_spec.proofs.Common.{◌≡◌, ℕ, suc, ◌+◌, ◌<◌, ℤ, pos, ◌-ℤ◌, ◌*ℤ◌, ◌<ℤ◌, ◌&&◌, map, take, drop, get_or}
+use Rattle.olr_spec.proofs.Common.{◌≡◌, ℕ, suc, ◌+◌, ◌<◌, ℤ, pos, ◌-ℤ◌, ◌*ℤ◌, ◌<ℤ◌, map, take, drop, get_or}
 use Rattle.olr_spec.proofs.Common.{IsTrue, refl, sym, ap, ◌∙◌, subst, arith, ints, get_or-drop, get_or-take, get_or-map}
-use Rattle.olr_spec.proofs.Common.{int_le, Vector, vector, boundary, boundaries, quarter_turn, beyond, lies_between}
+use Rattle.olr_spec.proofs.Common.{Vector, vector, boundary, boundaries, quarter_turn, beyond, lies_between}
 use Rattle.olr_spec.proofs.Common.{IsSector, sector}
 use Rattle.std.proofs.Common.{neg_ℤ}
-use Rattle.std.specs.Int.RustNames.{int_lt}
 use Rattle.olr_spec.proofs.SectorLemmas.{one_sector, sector_is, neg_right, neg_left}
 
 -- ---- one quarter turn
@@ -30,17 +29,12 @@ beyond_turned : (b v : Vector) → beyond (quarter_turn b) (quarter_turn v) ≡ 
 beyond_turned b v = cross_turned b.east b.north v.east v.north
 
 between_turned : (b c v : Vector) → lies_between (quarter_turn b) (quarter_turn c) (quarter_turn v) ≡ lies_between b c v
-between_turned b c v =
-    ap (λ z. int_le (pos 0) z && int_lt (beyond (quarter_turn c) (quarter_turn v)) (pos 0)) (beyond_turned b v)
-    ∙ ap (λ z. int_le (pos 0) (beyond b v) && int_lt z (pos 0)) (beyond_turned c v)
+between_turned b c v = grind (arith, beyond_turned)
 
 -- between the turned boundaries
 between_these : (b c v b' c' : Vector) → b' ≡ quarter_turn b → c' ≡ quarter_turn c → IsTrue (lies_between b c v) →
     IsTrue (lies_between b' c' (quarter_turn v))
-between_these b c v b' c' p q h =
-    subst (λ x. IsTrue (lies_between x c' (quarter_turn v))) (sym p)
-    (subst (λ y. IsTrue (lies_between (quarter_turn b) y (quarter_turn v))) (sym q)
-    (subst IsTrue (sym (between_turned b c v)) h))
+between_these b c v b' c' p q h = grind (arith, between_turned)
 
 -- (e, n) is (a, b) turned by a quarter
 sector_turned : (a b e n : ℤ) (j k : ℕ) → IsSector a b k → e ≡ b → n ≡ neg_ℤ a → k < 24 → j ≡ 8 + k → IsSector e n j

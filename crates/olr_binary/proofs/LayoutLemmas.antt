@@ -82,9 +82,7 @@ module _ (b : List ℕ) (m o : ℕ) (w : IsLayout b m o) (e : v3_fault b ≡ Non
 
   -- and read in the bytes from j on, those of an LRP
   pub low_at : (k j n : ℕ) → k < m + 2 → 7 + 7 * k ≡ j + 4 → 4 < n → slice_index (take n (drop j b)) 4 < 64
-  low_at k j n within place short =
-      subst (λ (z : ℕ). z < 64) (sym (get_or-take n (drop j b) 4 0 short ∙ get_or-drop j b 4 0))
-      (subst (λ (i : ℕ). slice_index b i < 64) place (low_attribute1 k within))
+  low_at k j n within place short = grind (arith, get_or-take, get_or-drop, low_attribute1)
 
   pub status-is : slice_index b 0 ≡ status_byte
   status-is = (no_fault b e).state

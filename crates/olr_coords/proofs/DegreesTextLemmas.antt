@@ -1,7 +1,7 @@
 -- The text of degrees is read as the same number of units.
 use Rattle.olr_spec.proofs.Common.{◌≡◌, ℕ, ◌+◌, ◌*◌, ◌-◌, ◌/◌, ◌%◌, ◌<◌, ◌≤◌, ◌^◌, true, false, Bool, ◌==◌, not, ℤ, pos}
 use Rattle.olr_spec.proofs.Common.{negsuc, List, [], ◌∷◌, ◌++◌, length, fold, refl, ap, IsTrue, Some, None, Ok, Err}
-use Rattle.olr_spec.proofs.Common.{sym, subst, ◌∙◌, arith, zero, suc, Option, option_map, list_all, is_ascii_digit}
+use Rattle.olr_spec.proofs.Common.{sym, ◌∙◌, arith, zero, suc, Option, option_map, list_all, is_ascii_digit}
 use Rattle.olr_spec.proofs.Common.{cond_both, and_parts, and_from, eqb-true, le-leb, eq-eqb, ne_eqb, nat_tests}
 use Rattle.olr_spec.proofs.Common.{drop-append_seam, before_point, digits_value}
 use Rattle.std.specs.Prelude.{decimal, if◌then◌else◌, option_and_then, nat_abs, neg_ℤ, IfSome}
@@ -16,10 +16,7 @@ use Rattle.olr_coords.proofs.DigitLemmas.{own, before-more, before-none}
 
 -- one more digit
 one-more : (a q p r n : ℕ) → p * q + r ≡ n → (10 * a + ((48 + q) - 48)) * p + r ≡ a * (10 * p) + n
-one-more a q p r n e =
-    let same : (48 + q) - 48 ≡ q = omega arith in
-    let far : a * (10 * p) ≡ 10 * (a * p) = sym (mul_assoc a 10 p) ∙ ap (λ (m : ℕ). m * p) (mul_comm a 10) ∙ mul_assoc 10 a p in
-    rw same (omega (arith, add-mul (10 * a) q p ∙ ap (λ (m : ℕ). m + q * p) (mul_assoc 10 a p), far, mul_comm q p))
+one-more a q p r n e = grind (arith, mul_assoc, mul_comm, add-mul)
 
 ten-positive : (k : ℕ) → 0 < 10 ^ k
 ten-positive k = one-le-pow k 10 (omega arith)
@@ -53,9 +50,7 @@ decimals-fold (suc k) n a h =
 pub decimals-short : (k n : ℕ) → length (decimals k n) ≤ k
 unfolding decimals
 decimals-short zero n = omega arith
-decimals-short (suc k) n =
-    cond_both (n == 0) [] ((48 + n / 10 ^ k) ∷ decimals k (n % 10 ^ k)) (λ ds. length ds ≤ suc k) (λ _. omega arith)
-    (λ _. omega (arith, decimals-short k (n % 10 ^ k)))
+decimals-short (suc k) n = grind (arith, cond_both, (decimals-short k (n % 10 ^ k)))
 
 -- a digit of a number below ten times a scale
 digit-small : (k n : ℕ) → n < 10 ^ suc k → n / 10 ^ k < 10
@@ -68,9 +63,7 @@ pub decimals-digits : (k n : ℕ) → n < 10 ^ k → list_all is_ascii_digit (de
 unfolding decimals
 decimals-digits zero n h = refl
 decimals-digits (suc k) n h =
-    cond_both (n == 0) [] ((48 + n / 10 ^ k) ∷ decimals k (n % 10 ^ k)) (λ ds. list_all is_ascii_digit ds ≡ true) (λ _. refl)
-    (λ _. and_from (is_ascii_digit (48 + n / 10 ^ k)) (list_all is_ascii_digit (decimals k (n % 10 ^ k)))
-    (is-digit (n / 10 ^ k) (digit-small k n h)) (decimals-digits k (n % 10 ^ k) (mod-lt n (ten-positive k))))
+    grind (arith, cond_both, and_from, is-digit, digit-small, mod-lt, ten-positive, (decimals-digits k (n % 10 ^ k)))
 
 no-point-byte : (d : ℕ) → is_ascii_digit d ≡ true → not (d == 46) ≡ true
 no-point-byte d h = grind (arith, nat_tests)
@@ -93,17 +86,14 @@ before-fraction (d ∷ ds) = before-none 46 (d ∷ ds) refl
 fraction-digits : (ds : List ℕ) (n : ℕ) → list_all is_ascii_digit ds ≡ true → length ds ≤ 7 →
     digits_value ds * 10 ^ (7 - length ds) ≡ n → fraction (after_point ds) ≡ Some n
 fraction-digits [] n all few e = ap (λ (m : ℕ). Some m) e
-fraction-digits (d ∷ ds) n all few e =
-    rw (le-leb 1 (length (d ∷ ds)) (omega arith), all, le-leb (length (d ∷ ds)) 7 few) (ap (λ (m : ℕ). Some m) e)
+fraction-digits (d ∷ ds) n all few e = grind (arith, le-leb)
 
 fraction-text : (n : ℕ) → n < 10 ^ 7 → fraction (after_point (decimals 7 n)) ≡ Some n
-fraction-text n h =
-    fraction-digits (decimals 7 n) n (decimals-digits 7 n h) (decimals-short 7 n) (decimals-fold 7 n 0 h ∙ omega arith)
+fraction-text n h = grind (arith, fraction-digits, decimals-digits, decimals-short, decimals-fold)
 
 whole-digits : (ds : List ℕ) (n : ℕ) → list_all is_ascii_digit ds ≡ true → 0 < length ds → length ds ≤ 3 →
     digits_value ds ≡ n → whole ds ≡ Some (n * 10 ^ 7)
-whole-digits ds n all some few e =
-    rw (le-leb 1 (length ds) some, all, le-leb (length ds) 3 few) (ap (λ (m : ℕ). Some (m * 10 ^ 7)) e)
+whole-digits ds n all some few e = grind (arith, le-leb)
 
 whole-text : (n : ℕ) → n < 1000 → whole (decimal n) ≡ Some (n * 10 ^ 7)
 whole-text n h =
@@ -131,29 +121,15 @@ steps-read n h =
 no-sign : (ds tail : List ℕ) → list_all is_ascii_digit ds ≡ true → 0 < length ds →
     degrees (ds ++ tail) ≡ option_map pos (unsigned_degrees (ds ++ tail))
 no-sign [] tail all some = absurd (omega arith)
-no-sign (d ∷ ds) tail all some = ap (λ (b : Bool). if b then option_map (λ n. neg_ℤ (pos n)) (unsigned_degrees (ds ++ tail))
-    else option_map pos (unsigned_degrees (d ∷ (ds ++ tail))))
-    (no-minus-byte d (and_parts (is_ascii_digit d) (list_all is_ascii_digit ds) all).0)
+no-sign (d ∷ ds) tail all some = grind (arith, no-minus-byte, and_parts)
 
 plain-read : (n : ℕ) → n < 10 ^ 10 → degrees (steps_text n) ≡ Some (pos (n * unit7))
-plain-read n h =
-    let small : n / 10 ^ 7 < 2 ^ 64 = omega arith in
-    no-sign (decimal (n / 10 ^ 7)) (after_point (decimals 7 (n % 10 ^ 7))) (digits_decimal own (n / 10 ^ 7) small)
-    (decimal_nonempty (n / 10 ^ 7) small)
-    ∙ ap (λ (o : Option ℕ). option_map pos o) (steps-read n h)
+plain-read n h = grind (arith, no-sign, digits_decimal, own, decimal_nonempty, steps-read)
 
 -- a coordinate that is written is read as the same
 pub degrees-read : (z : ℤ) → IsTrue (has_degrees_text z) → degrees (degrees_text z) ≡ Some z
-degrees-read (pos n) h =
-    let even : n % unit7 ≡ 0 = eqb-true (n % unit7) 0 (and_parts (is_degrees (pos n)) (n % unit7 == 0) h).1 in
-    let most : n ≤ 58982400000000 = grind (arith, nat_tests) in
-    plain-read (n / unit7) (omega arith) ∙ ap (λ (m : ℕ). Some (pos m)) (omega arith)
-degrees-read (negsuc n) h =
-    let even : suc n % unit7 ≡ 0 = eqb-true (suc n % unit7) 0 (and_parts (is_degrees (negsuc n)) (suc n % unit7 == 0) h).1 in
-    let most : suc n ≤ 58982400000000 = grind (arith, nat_tests) in
-    let same : suc n / unit7 * unit7 ≡ suc n = omega arith in
-    ap (λ (o : Option ℕ). option_map (λ n. neg_ℤ (pos n)) o) (steps-read (suc n / unit7) (omega arith))
-    ∙ ap (λ (m : ℕ). Some (neg_ℤ (pos m))) same
+degrees-read (pos n) h = grind (arith, eqb-true, and_parts, nat_tests, plain-read)
+degrees-read (negsuc n) h = grind (arith, eqb-true, and_parts, nat_tests, steps-read)
 
 pub texts-read : TextsRead
 texts-read z h = ap degrees_or_fault (degrees-read z h) ∙ rw (and_parts (is_degrees z) (nat_abs z % unit7 == 0) h).0 refl
@@ -178,11 +154,7 @@ minus-whole (Some (suc n)) h = h
 
 pub degrees-whole : (text : List ℕ) → IfSome (degrees text) (λ z. nat_abs z % unit7 ≡ 0)
 degrees-whole [] = tt
-degrees-whole (c ∷ text) =
-    cond_both (c == 45) (option_map (λ n. neg_ℤ (pos n)) (unsigned_degrees text))
-    (option_map pos (unsigned_degrees (c ∷ text))) (λ o. IfSome o (λ z. nat_abs z % unit7 ≡ 0))
-    (λ _. minus-whole (unsigned_degrees text) (units-whole (whole (before_point text)) _))
-    (λ _. plain-whole (unsigned_degrees (c ∷ text)) (units-whole (whole (before_point (c ∷ text))) _))
+degrees-whole (c ∷ text) = grind (arith, cond_both, minus-whole, units-whole, plain-whole)
 
 -- a value that passes a test
 passed : (b : Bool) (y z : ℤ) → (if b then Ok y else Err Range) ≡ Ok z → (b ≡ true) × (y ≡ z)
@@ -192,10 +164,7 @@ passed false y z e = absurd (cc)
 found-whole : (o : Option ℤ) (z : ℤ) → IfSome o (λ z. nat_abs z % unit7 ≡ 0) → degrees_or_fault o ≡ Ok z →
     IsTrue (has_degrees_text z)
 found-whole None z h e = absurd (cc)
-found-whole (Some y) z h e =
-    let p = passed (is_degrees y) y z e in
-    subst (λ (x : ℤ). IsTrue (has_degrees_text x)) p.1
-    (and_from (is_degrees y) (nat_abs y % unit7 == 0) p.0 (eq-eqb (nat_abs y % unit7) 0 h))
+found-whole (Some y) z h e = grind (arith, passed, and_from, eq-eqb)
 
 pub read-have-text : ReadHaveText
 read-have-text text z e = found-whole (degrees text) z (degrees-whole text) e
@@ -225,15 +194,7 @@ pub record IsStep (k n : ℕ) : Type 0 where
   pub next : decimals k n ≡ (48 + n / 10 ^ (k - 1)) ∷ decimals (k - 1) (n % 10 ^ (k - 1))
 
 step-at : (k j n : ℕ) → k ≤ 7 → n < 10 ^ k → 0 < n → k ≡ suc j → k - 1 ≡ j → IsStep k n
-step-at k j n few h more e f =
-    record {
-      places = omega arith;
-      positive = ten-positive (k - 1);
-      small = pow-le-pow_right {n = 10} (omega arith) {i = k - 1} {j = 7} (omega arith);
-      digit = rw f (digit-small j n (subst (λ (m : ℕ). n < 10 ^ m) e h));
-      rest = mod-lt n (ten-positive (k - 1));
-      next = rw f (ap (λ (m : ℕ). decimals m n) e ∙ next-digit j n more);
-    }
+step-at k j n few h more e f = grind (arith, ten-positive, pow-le-pow_right, digit-small, mod-lt, next-digit)
 
 pub step : (k n : ℕ) → k ≤ 7 → n < 10 ^ k → 0 < n → IsStep k n
 step k n few h more =

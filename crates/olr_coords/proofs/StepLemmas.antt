@@ -1,5 +1,5 @@
 -- Whole numbers in 16 and in 64 bits.
-use Rattle.olr_spec.proofs.Common.{◌≡◌, ℤ, pos, negsuc, ◌-ℤ◌, true, false, IsTrue, Some, None, Result, Ok, Err}
+use Rattle.olr_spec.proofs.Common.{◌≡◌, ℤ, pos, negsuc, ◌-ℤ◌, true, IsTrue, Some, None, Result, Ok, Err}
 use Rattle.olr_spec.proofs.Common.{FitsSigned, w16, w64, refl, arith, nat_tests, ints, fits16}
 use Rattle.std.proofs.Common.{if◌then◌else◌}
 use Rattle.std.specs.Result.{OkIff, result_ok}
@@ -17,12 +17,7 @@ fits16_true (negsuc n) f = grind (arith, nat_tests)
 pub in_16_bits : {E : Type 0} (r : Result ℤ E) (z : ℤ) → OkIff r (FitsSigned w16 z) z →
     result_ok r ≡ (if fits16 z then Some z else None)
 in_16_bits (Ok x) z h = rw (fits16_true z h.0, h.1) refl
-in_16_bits (Err e) z h =
-    elim (fits16 z) as (λ b. fits16 z ≡ b → None ≡ (if b then Some z else None)) [
-      | true ↦
-          λ t. absurd (h (fits_16 z t))
-      | false ↦ λ _. refl
-    ] refl
+in_16_bits (Err e) z h = grind (arith, fits_16)
 
 -- the difference of two coordinates fits 64 bits
 pub difference_fits : (a b : ℤ) → IsTrue (is_degrees a) → IsTrue (is_degrees b) → FitsSigned w64 (b -ℤ a)

@@ -12,11 +12,7 @@ record Settled (a b : ℤ) : Type 0 where
   in_range : IsWithin (10 ^ 31) (held w128 a)
 
 settled : (a b : ℤ) → a ≡ b → IsWithin (40500000000 * (2000000 * degree_units 180)) b → Settled a b
-settled a b is h = record {
-  fits = omega (arith, ints, h.0, h.1);
-  value = omega (arith, ints, h.0, h.1);
-  in_range = (omega (arith, ints, h.0, h.1), omega (arith, ints, h.0, h.1));
-}
+settled a b is h = grind (arith, ints)
 
 -- the code's product of the width and the origin, which are x and y
 record Shift (width : ℕ) (origin x y : ℤ) : Type 0 where
@@ -69,9 +65,7 @@ here c =
     c.requires.short c.requires.place (shift_here c)
 
 pub overflow_sub-result : goal.overflow_sub-result
-overflow_sub-result c =
-    offset_fits c.args.width c.args.scaled c.args.origin c.from.result c.from-2.result c.requires.short c.requires.place
-    (shift_here c)
+overflow_sub-result c = grind (arith, offset_fits, shift_here)
 
 pub overflow_mul-result-2 : goal.overflow_mul-result-2
 overflow_mul-result-2 c = (here c).fits

@@ -4,10 +4,7 @@ use Rattle.olr_bearing.proofs.Turns.{fourth_quarter_is}
 use Rattle.olr_bearing.proofs.sectors.sector.Goals as goal
 
 pub returns-then-north-eq0 : goal.returns-then-north-eq0
-returns-then-north-eq0 c =
-    let is : 0 ≡ sector c.args.east c.args.north =
-    nowhere_sector c.args.east c.args.north (omega (arith, ints)) (omega (arith, ints)) in
-    record { value = is; between = in_sector c.args.east c.args.north 0 is; below = omega arith }
+returns-then-north-eq0 c = grind (arith, nowhere_sector, ints, in_sector)
 
 pub returns-then-north-gt0 : goal.returns-then-north-gt0
 returns-then-north-gt0 c =

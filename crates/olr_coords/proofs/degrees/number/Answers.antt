@@ -1,4 +1,4 @@
-use Rattle.olr_spec.proofs.Common.{length, ◌≤◌, arith}
+use Rattle.olr_spec.proofs.Common.{arith}
 use Rattle.olr_coords.proofs.DigitLemmas.{few-digits, digits-lt}
 use Rattle.olr_coords.proofs.degrees.number.Goals as goal
 

@@ -1,6 +1,5 @@
-use Rattle.olr_spec.proofs.Common.{List, ℕ, [], ◌∷◌, ◌++◌, ◌+◌, ◌-◌, ◌/◌, ◌%◌, ◌^◌, ap, ◌∙◌, sym, arith, append_assoc}
+use Rattle.olr_spec.proofs.Common.{arith, append_assoc}
 use Rattle.olr_spec.proofs.Common.{append-nil}
-use Rattle.olr_coords.specs.DegreesText.{decimals}
 use Rattle.olr_coords.proofs.DegreesTextLemmas.{IsStep, step, decimals-end}
 use Rattle.olr_coords.proofs.text.push_decimals.Goals.{In-loop-rest}
 use Rattle.olr_coords.proofs.text.push_decimals.Goals as goal
@@ -32,22 +31,7 @@ pub loop-rest-smaller : goal.loop-rest-smaller
 loop-rest-smaller c = omega (arith, (next (goal.at.loop-rest-smaller c).In-loop-rest).places)
 
 pub loop-rest-preserved : goal.loop-rest-preserved
-loop-rest-preserved c =
-    let k = c.loop-rest.places in
-    let n = c.loop-rest.rest in
-    let old : List ℕ = c.loop-rest.text.items in
-    let s = next (goal.at.loop-rest-preserved c).In-loop-rest in
-    let left : List ℕ = decimals (k - 1) (n % 10 ^ (k - 1)) in
-    rw c.pow-scale.ensures
-    (record {
-      few = omega arith;
-      left = s.rest;
-      written = rw c.in_ok-push.ensures.items
-          (rw c.pow-scale.ensures
-          (append_assoc old ((48 + n / 10 ^ (k - 1)) ∷ []) left
-          ∙ ap (λ (ds : List ℕ). old ++ ds) (sym s.next)
-          ∙ c.loop-rest.invariant.written));
-    })
+loop-rest-preserved c = grind (arith, next, append_assoc)
 
 pub returns : goal.returns
 returns c = grind (arith, append-nil, decimals-end)

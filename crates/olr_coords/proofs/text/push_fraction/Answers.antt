@@ -1,5 +1,4 @@
-use Rattle.olr_spec.proofs.Common.{List, ℕ, [], ◌∷◌, ◌++◌, ap, ◌∙◌, sym, arith, append_assoc, append-nil}
-use Rattle.olr_coords.specs.DegreesText.{decimals, after_point}
+use Rattle.olr_spec.proofs.Common.{arith, append_assoc, append-nil}
 use Rattle.olr_coords.proofs.DegreesTextLemmas.{decimals-end, point-first}
 use Rattle.olr_coords.proofs.text.push_fraction.Goals as goal
 
