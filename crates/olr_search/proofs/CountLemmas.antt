@@ -1,16 +1,11 @@
 -- The number of nodes that a search has settled.
-use Rattle.olr_search.proofs.Common.{◌≡◌, ◌==◌, ℕ, true, List, [], ◌∷◌, Contains, refl, sym, ap, ◌∙◌, subst, inl, inr}
-use Rattle.olr_search.proofs.Common.{arith, ◌≢◌, ◌<◌, length, get_or, nat_le, filter, IsDistinct, length-map}
-use Rattle.olr_search.proofs.Common.{get_or-map, Map, Contains-later, label_of, numbers_of, IsSearch, LiesWithin}
-use Rattle.olr_search.proofs.Common.{Reached, Direction, Dijkstra}
-use Rattle.std.proofs.Common.{Bool, false, ◌↔◌}
-use Rattle.std.specs.Prelude.{cond, count_by}
+use Rattle.olr_search.proofs.Common.{◌≡◌, ◌==◌, ℕ, true, List, [], ◌∷◌, Contains, sym, ap, ◌∙◌, subst, inl, inr, arith}
+use Rattle.olr_search.proofs.Common.{◌≢◌, ◌<◌, length, get_or, nat_le, filter, IsDistinct, length-map, get_or-map, Map}
+use Rattle.olr_search.proofs.Common.{Contains-later, label_of, numbers_of, IsSearch, LiesWithin, Reached, Direction}
+use Rattle.olr_search.proofs.Common.{Dijkstra, Bool, false, ◌↔◌, cond, count_by, length-filter, All-filter}
+use Rattle.olr_search.proofs.Common.{All-contains_itself, filter_passes, Contains-cases, Counts}
 use Rattle.std.proofs.lemmas.Bool.Decides.{nat_tests}
 use Rattle.std.proofs.lemmas.List.Kept.{AllPairs-filter}
-use Rattle.std.proofs.lemmas.List.Sums.{length-filter}
-use Rattle.std.proofs.lemmas.List.Elements.{All-filter, All-contains_itself, filter_passes}
-use Rattle.olr_spec.proofs.ListLemmas.{Contains-cases}
-use Rattle.olr_search.specs.Searches.{Counts}
 use Rattle.olr_search.proofs.DistinctLemmas.{numbers_distinct}
 use Rattle.olr_search.proofs.SearchLemmas.{near_listed, listed_near, label_is, distance_node}
 

@@ -1,22 +1,17 @@
 -- How a search goes on where it may label only some nodes, and what it says in the end.
 use Rattle.olr_search.proofs.Common.{◌≡◌, ℕ, ◌+◌, ◌≤◌, ◌<◌, ◌⊎◌, List, Contains, IsTrue, length, ap, subst, inl, inr}
 use Rattle.olr_search.proofs.Common.{arith, ◌∙◌, refl, sym, ⊤, cases_lt, Map, has_node, has_line, dm, dm_of, Way, Leads}
-use Rattle.olr_search.proofs.Common.{near_end, far_end, label_of, frontier_len, IsQueued, Moves, IsLabelled, IsUnderWay}
-use Rattle.olr_search.proofs.Common.{IsSearch, IsCut, GREATEST_LIMIT, Frontier, Direction, Dijkstra}
-use Rattle.std.proofs.Common.{zero, suc}
-use Rattle.std.specs.Prelude.{max}
-use Rattle.olr_search.specs.Searches.{CutAt}
-use Rattle.olr_search.proofs.SearchLemmas.{Popped, labelled_same}
+use Rattle.olr_search.proofs.Common.{near_end, far_end, label_of, IsQueued, Moves, IsLabelled, IsUnderWay, IsSearch}
+use Rattle.olr_search.proofs.Common.{IsCut, GREATEST_LIMIT, Frontier, Direction, Dijkstra, zero, suc, max, CutAt}
+use Rattle.olr_search.proofs.Common.{IsAlike}
+use Rattle.olr_search.proofs.SearchLemmas.{alike_labels, labelled_same}
 use Rattle.olr_search.proofs.WayLemmas.{way_ends, near_node}
 use Rattle.olr_search.proofs.WayLemmas.WayEnds.{stays, continues}
 
 module _ (M : Map) (slot : ℕ → ℕ) (direction : Direction) (from : List (ℕ × ℕ)) (P : ℕ → ℕ → Type 0) where
   cut_better : (f g : Frontier) (v d : ℕ) → ((p : ℕ) → label_of g p ≤ label_of f p) → CutAt M slot direction P f v d →
       CutAt M slot direction P g v d
-  cut_better f g v d better cut x known near lets =
-      let was = cut x known near lets in
-      let le = better (slot (far_end M direction x)) in
-      omega arith
+  cut_better f g v d better cut x known near lets = grind (arith, far_end)
 
   pub cut_begun : (f : Frontier) → IsUnderWay M slot direction from f → IsCut M slot direction from P f
   cut_begun f u = record {
@@ -49,30 +44,28 @@ module _ (M : Map) (slot : ℕ → ℕ) (direction : Direction) (from : List (�
   }
 
   -- where the labels are the same, and each is still queued if it was
-  pub cut_same : (f g : Frontier) → ((p : ℕ) → label_of g p ≡ label_of f p) → frontier_len g ≡ frontier_len f →
-      g.reached.items ≡ f.reached.items → ((q : ℕ) → IsQueued f (label_of f q) q → IsQueued g (label_of f q) q) →
+  pub cut_same : (f g : Frontier) → IsAlike f g → ((q : ℕ) → IsQueued f (label_of f q) q → IsQueued g (label_of f q) q) →
       IsCut M slot direction from P f → IsCut M slot direction from P g
-  cut_same f g same len reached kept u =
-      cut_next f g (labelled_same M slot direction from f g same len reached u.labelled)
-      (λ p. let is = same p in omega arith) (λ p. inl (same p)) (λ v known q. inr (kept (slot v) q)) u
+  cut_same f g k kept u =
+      cut_next f g (labelled_same M slot direction from f g k u.labelled) (λ p. omega (arith, alike_labels f g k p))
+      (λ p. inl (alike_labels f g k p)) (λ v known q. inr (kept (slot v) q)) u
 
   -- the slot p is removed from the queue at its label d, and the lines from there are followed, up to h
-  pub cut_more : (f g h : Frontier) (d p : ℕ) → Popped M slot direction from f g d p → label_of f p ≡ d
+  pub cut_more : (f g h : Frontier) (d p : ℕ) → IsAlike f g
+      → ((e q : ℕ) → IsQueued f e q → IsQueued g e q ⊎ ((e ≡ d) × (q ≡ p))) → label_of f p ≡ d
       → d ≤ GREATEST_LIMIT → Moves g h
       → ((v : ℕ) (ways : List (ℕ × ℕ)) → IsTrue (has_node M v) → slot v ≡ p → Leads M direction ways v d →
       IsLabelled M slot direction ways g → IsLabelled M slot direction ways h)
       → ((v : ℕ) → IsTrue (has_node M v) → slot v ≡ p → CutAt M slot direction P h v d) →
       IsCut M slot direction from P f → IsCut M slot direction from P h
-  cut_more f g h d p k at small moves labelled closed u =
+  cut_more f g h d p k others at small moves labelled closed u =
       let own = u.labelled.nodes p (omega arith) in
       let is : label_of f (slot own.0) ≡ d = ap (label_of f) own.2 ∙ at in
       let way = subst (λ (e : ℕ). Leads M direction from own.0 e) is (u.labelled.leads own.0 own.1 (omega arith)) in
-      cut_next f h
-      (labelled own.0 from own.1 own.2 way
-      (labelled_same M slot direction from f g k.same k.len k.reached u.labelled))
-      (λ q. let same = k.same q in let le = moves.better q in omega arith)
-      (λ q. elim (moves.fresh q) [ inl kept ↦ inl (kept ∙ k.same q) | inr new ↦ inr new ])
-      (λ v known q. elim (k.others (label_of f (slot v)) (slot v) q) [
+      cut_next f h (labelled own.0 from own.1 own.2 way (labelled_same M slot direction from f g k u.labelled))
+      (λ q. let le = moves.better q in omega (arith, alike_labels f g k q))
+      (λ q. elim (moves.fresh q) [ inl kept ↦ inl (kept ∙ alike_labels f g k q) | inr new ↦ inr new ])
+      (λ v known q. elim (others (label_of f (slot v)) (slot v) q) [
         | inl still ↦ inr (moves.kept (label_of f (slot v)) (slot v) still)
         | inr e ↦ inl (subst (CutAt M slot direction P h v) (sym e.0) (closed v known e.1))
       ]) u

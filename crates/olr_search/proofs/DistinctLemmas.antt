@@ -1,10 +1,8 @@
 -- Lists of labelled nodes without duplicates, and what is found in them.
-use Rattle.olr_search.proofs.Common.{◌≡◌, ◌≢◌, ◌==◌, ℕ, ◌⊎◌, ◌<◌, List, [], ◌∷◌, ◌++◌, Contains, sym, ap, ◌∙◌, inl, inr}
-use Rattle.olr_search.proofs.Common.{arith, IsDistinct, get_or-map, length-map, cases_eq, Contains-append_cases}
-use Rattle.olr_search.proofs.Common.{Contains-one, Contains-later, numbers_of, AreApart, Reached}
-use Rattle.std.proofs.lemmas.Map.Keys.{IsDistinct-from_apart}
-use Rattle.std.proofs.lemmas.Bool.{ne_eqb}
-use Rattle.olr_spec.proofs.ListLemmas.{Contains-here}
+use Rattle.olr_search.proofs.Common.{◌≡◌, ◌≢◌, ◌==◌, ℕ, ◌⊎◌, List, [], ◌∷◌, Contains, sym, ap, ◌∙◌, inl, inr, arith}
+use Rattle.olr_search.proofs.Common.{IsDistinct, get_or-map, length-map, cases_eq, Contains-append_cases, Contains-one}
+use Rattle.olr_search.proofs.Common.{Contains-later, numbers_of, AreApart, Reached, IsDistinct-from_apart, ne_eqb}
+use Rattle.olr_search.proofs.Common.{Contains-here}
 
 pub numbers_distinct : (xs : List Reached) → AreApart xs → IsDistinct ◌==◌ (numbers_of xs)
 numbers_distinct xs apart = IsDistinct-from_apart ◌==◌ (numbers_of xs) (λ i j d lt past.

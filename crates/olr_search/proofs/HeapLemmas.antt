@@ -1,11 +1,9 @@
 -- The entries of the queue before and after a push and a pop.
 use Rattle.olr_search.proofs.Common.{◌≡◌, ℕ, ◌<◌, ◌≤◌, ◌⊎◌, List, [], ◌∷◌, Contains, sym, ap, ◌∙◌, subst, inl, inr}
 use Rattle.olr_search.proofs.Common.{arith, refl, IsPermutation, Contains-permutation, Contains-append_cases}
-use Rattle.olr_search.proofs.Common.{Contains-append_right, Contains-one, queue_key}
-use Rattle.std.proofs.Common.{◌/◌, ◌%◌, ◌^◌}
+use Rattle.olr_search.proofs.Common.{Contains-append_right, Contains-one, queue_key, ◌/◌, ◌%◌, ◌^◌, IsUpperBound}
+use Rattle.olr_search.proofs.Common.{ge_from_not_lt}
 use Rattle.std.specs.declared.cmp.Reverse.{Reverse}
-use Rattle.std.specs.BinaryHeap.{IsUpperBound}
-use Rattle.std.proofs.lemmas.Map.Keys.{ge_from_not_lt}
 use Rattle.std.proofs.lemmas.Nat.{div-mul-add, mod-mul-add}
 use Rattle.olr_search.specs.Entries.{entry_cmp}
 

@@ -2,9 +2,8 @@
 use Rattle.olr_search.proofs.Common.{◌≡◌, ◌≢◌, ℕ, ◌<◌, ◌≤◌, List, [], ◌∷◌, ◌++◌, Contains, length, get_or, refl, sym}
 use Rattle.olr_search.proofs.Common.{ap, ◌∙◌, subst, inl, inr, arith, cases_eq, get_or-set_same, get_or-set_other}
 use Rattle.olr_search.proofs.Common.{Contains-append_cases, Contains-append_right, set, Contains-one, UNREACHED}
-use Rattle.olr_search.proofs.Common.{Reached, label_in, AreAllReached, NotesOnce}
-use Rattle.std.proofs.lemmas.List.{get_or_past, get_or_read_under}
-use Rattle.std.proofs.lemmas.List.Elements.{Contains-append_left}
+use Rattle.olr_search.proofs.Common.{Reached, label_in, AreAllReached, NotesOnce, get_or_past, get_or_read_under}
+use Rattle.olr_search.proofs.Common.{Contains-append_left}
 
 pub first_one : {X : Type 0} → (x : X) → Contains (x ∷ []) x
 first_one x = (0, omega arith, refl)

@@ -1,29 +1,18 @@
 -- The lists of the lines that are entered at a node.
-use Rattle.olr_search.proofs.Common.{◌≡◌, ℕ, ◌<◌, List, true, IsTrue, length, get_or, sym, ap, ◌∙◌, subst, Map}
-use Rattle.olr_search.proofs.Common.{has_line, end, lines_in, near_end, lines_at, Direction, Along, Against}
-use Rattle.std.proofs.Common.{Option, is_some}
-use Rattle.std.specs.Prelude.{unwrap_or}
+use Rattle.olr_search.proofs.Common.{arith, ◌≡◌, ℕ, ◌<◌, List, true, IsTrue, length, get_or, sym, subst, Map, has_line}
+use Rattle.olr_search.proofs.Common.{end, lines_in, near_end, lines_at, Direction, Along, Against, is_some, unwrap_or}
+use Rattle.olr_search.proofs.Common.{no_line, has, at_index, has_read}
 use Rattle.std.specs.FinMap.{get}
-use Rattle.olr_spec.specs.Map.{Line, no_line, has}
-use Rattle.olr_spec.proofs.ListLemmas.{at_index, has_read}
 use Rattle.olr_spec.proofs.OrderLemmas.{exactly_in, exactly_out}
 use Rattle.olr_spec.proofs.OptionLemmas.{some_of}
 
 listed : (M : Map) (d : Direction) (v x : ℕ) → has (lines_at M d v) x ≡ true → IsTrue (has_line M x) × (near_end M d x ≡ v)
-listed M Along v x h =
-    let r = (exactly_out M v x).0 h in
-    (ap (λ (o : Option Line). is_some o) r.1.0, ap (λ (o : Option Line). (unwrap_or o no_line).from) r.1.0 ∙ r.1.1)
-listed M Against v x h =
-    let r = (exactly_in M v x).0 h in
-    (ap (λ (o : Option Line). is_some o) r.1.0, ap (λ (o : Option Line). (unwrap_or o no_line).to) r.1.0 ∙ r.1.1)
+listed M Along v x h = grind (arith, exactly_out, is_some, unwrap_or, no_line)
+listed M Against v x h = grind (arith, exactly_in, is_some, unwrap_or, no_line)
 
 lists : (M : Map) (d : Direction) (v x : ℕ) → IsTrue (has_line M x) → near_end M d x ≡ v → has (lines_at M d v) x ≡ true
-lists M Along v x h near =
-    let l = some_of (get M.lines x) h in
-    (exactly_out M v x).1 (l.0, (l.1, sym (ap (λ (o : Option Line). (unwrap_or o no_line).from) l.1) ∙ near))
-lists M Against v x h near =
-    let l = some_of (get M.lines x) h in
-    (exactly_in M v x).1 (l.0, (l.1, sym (ap (λ (o : Option Line). (unwrap_or o no_line).to) l.1) ∙ near))
+lists M Along v x h near = grind (arith, some_of, get, exactly_out, unwrap_or, no_line)
+lists M Against v x h near = grind (arith, some_of, get, exactly_in, unwrap_or, no_line)
 
 -- a line that is read in the list is entered at the node
 pub read_at : (M : Map) (d : Direction) (v : ℕ) (xs : List ℕ) (i x : ℕ) → xs ≡ lines_at M d v → i < length xs →

@@ -1,9 +1,8 @@
 -- Routes, split at their last line.
 use Rattle.olr_search.proofs.Common.{◌≡◌, ℕ, ◌+◌, List, [], ◌∷◌, ◌++◌, IsTrue, length, get_or, refl, sym, ap, ◌∙◌}
 use Rattle.olr_search.proofs.Common.{subst, arith, length-append, ◌≢◌, ◌≤◌, inl, inr, cases_eq, cases_lt, Map, has_line}
-use Rattle.olr_search.proofs.Common.{start, end, dm, IsRoute, dm_of, UniqueShortest}
-use Rattle.std.proofs.lemmas.List.{get_or_push}
-use Rattle.olr_spec.proofs.RouteLemmas.{dm_of-append, IsRoute-append, IsRoute-split}
+use Rattle.olr_search.proofs.Common.{start, end, dm, IsRoute, dm_of, UniqueShortest, get_or_push, dm_of-append}
+use Rattle.olr_search.proofs.Common.{IsRoute-append, IsRoute-split}
 
 pub same_last : (xs ys : List ℕ) (x y : ℕ) → xs ++ x ∷ [] ≡ ys ++ y ∷ [] → x ≡ y
 same_last xs ys x y e =
@@ -39,9 +38,7 @@ pub record LastStep (M : Map) (s t x : ℕ) (xs : List ℕ) : Type 0 where
   pub to : end M x ≡ t
 
 pub last_step : (M : Map) (s t x : ℕ) (xs : List ℕ) → IsRoute M s t (xs ++ x ∷ []) → LastStep M s t x xs
-last_step M s t x xs w =
-    let r = IsRoute-split M s t xs (x ∷ []) w in
-    record { front = subst (λ (v : ℕ). IsRoute M s v xs) (sym r.2.1) r.1; known = r.2.0; to = r.2.2 }
+last_step M s t x xs w = grind (arith, IsRoute-split)
 
 -- ---- a line x after the unique shortest route to its start
 
@@ -77,12 +74,4 @@ module _ (M : Map) (s x : ℕ) (route : List ℕ) where
 
   -- and only then
   pub unique_alone : UniqueShortest M s (end M x) (route ++ x ∷ []) → IsAlone
-  unique_alone whole y front known to w le = elim (cases_eq y x) [
-    | inl same ↦ same
-    | inr ne ↦
-        let far =
-        whole.others (front ++ y ∷ [])
-        (subst (λ (v : ℕ). IsRoute M s v (front ++ y ∷ [])) to (route_on M s y front w known))
-        (λ e. ne (same_last front route y x e)) in
-        absurd (omega (arith, dm_of-line M route x, dm_of-line M front y))
-  ]
+  unique_alone whole y front known to w le = grind (arith, cases_eq, front, to, route_on, known, same_last, dm_of-line)

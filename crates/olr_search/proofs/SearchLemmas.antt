@@ -1,16 +1,13 @@
 -- The invariants of a search that can be continued.
 use Rattle.olr_search.proofs.Common.{◌≡◌, ◌≢◌, ℕ, ◌+◌, ◌<◌, ◌≤◌, ◌⊎◌, List, [], ◌∷◌, Contains, IsTrue, length, get_or}
-use Rattle.olr_search.proofs.Common.{refl, sym, ap, ◌∙◌, subst, inl, inr, arith, set, cases_eq, cases_lt}
-use Rattle.olr_search.proofs.Common.{get_or-set_same, get_or-set_other, Contains-append_cases, Map, IsMap, has_node}
-use Rattle.olr_search.proofs.Common.{positive, Contains-one, Leads, IsDistance, label_in, NotesOnce, AreApart, label_of}
+use Rattle.olr_search.proofs.Common.{sym, ap, ◌∙◌, subst, inl, inr, arith, set, cases_eq, cases_lt, get_or-set_same}
+use Rattle.olr_search.proofs.Common.{get_or-set_other, Contains-append_cases, Map, IsMap, has_node, positive}
+use Rattle.olr_search.proofs.Common.{Contains-one, Leads, IsDistance, label_in, NotesOnce, AreApart, label_of}
 use Rattle.olr_search.proofs.Common.{frontier_len, IsQueued, IsRelaxed, Moves, IsLabelled, IsUnderWay, IsSearch}
-use Rattle.olr_search.proofs.Common.{LiesWithin, GREATEST_LIMIT, UNREACHED, Reached, Frontier, Direction, Dijkstra}
-use Rattle.std.specs.Prelude.{sum}
+use Rattle.olr_search.proofs.Common.{LiesWithin, GREATEST_LIMIT, Reached, Frontier, Direction, Dijkstra}
+use Rattle.olr_search.proofs.Common.{Contains-get_or, sum_by-set, queued_len, IsEmpty, IsAlike, NotedOnce, CoversSlots}
+use Rattle.olr_search.proofs.Common.{IsLabelledAt, IsReached}
 use Rattle.std.proofs.lemmas.List.Quantifiers.{all_pairs_push}
-use Rattle.std.proofs.lemmas.List.Elements.{Contains-get_or}
-use Rattle.std.proofs.lemmas.List.Sums.{sum_by-set}
-use Rattle.olr_search.specs.Frontiers.{queued_len, IsEmpty, NotedOnce}
-use Rattle.olr_search.specs.Searches.{CoversSlots, IsLabelledAt, IsReached}
 use Rattle.olr_search.proofs.DistinctLemmas.{found_slot}
 use Rattle.olr_search.proofs.WayLemmas.{way_ends, leads_node}
 use Rattle.olr_search.proofs.WayLemmas.WayEnds.{stays, continues}
@@ -22,32 +19,10 @@ pub put_by : (f g : Frontier) (v p d label : ℕ) → g.table.items ≡ set f.ta
     label ≡ label_of f p → d < label → NotesOnce f.reached.items g.reached.items label (record { node = v; slot = p })
     → IsQueued g d p → ((e q : ℕ) → IsQueued f e q → IsQueued g e q) → frontier_len g ≡ frontier_len f →
     queued_len g ≡ queued_len f + 1 → IsRelaxed f g v p d
-put_by f g v p d label table within was lt once there kept len more =
-    let here : label_of g p ≡ d =
-    ap (λ (t : List ℕ). label_in t p) table ∙ get_or-set_same f.table.items p d UNREACHED within in
-    record {
-      here = omega arith;
-      others = λ q ne. ap (λ (t : List ℕ). label_in t q) table ∙ get_or-set_other f.table.items p q d UNREACHED ne;
-      waits = inr (subst (λ (n : ℕ). IsQueued g n p) (sym here) there);
-      kept = kept;
-      noted = elim once [
-        | inl h ↦ inl (h.0, λ _. omega arith)
-        | inr h ↦ inr (h.0, omega arith, omega arith)
-      ];
-      len = len;
-      less =
-          let sums : sum (set f.table.items p d) + get_or f.table.items p UNREACHED ≡ sum f.table.items + d =
-          sum_by-set (λ (n : ℕ). n) f.table.items p d UNREACHED within in
-          let total : sum g.table.items ≡ sum (set f.table.items p d) = ap sum table in
-          let old : label_of f p ≡ get_or f.table.items p UNREACHED = refl in
-          omega arith;
-    }
+put_by f g v p d label table within was lt once there kept len more = grind (arith, label_of, label_in, get_or-set_same, get_or-set_other, sum_by-set)
 
 put_le : (f g : Frontier) (v p d : ℕ) → IsRelaxed f g v p d → (q : ℕ) → label_of g q ≤ label_of f q
-put_le f g v p d k q = elim (cases_eq q p) [
-  | inl is ↦ let h = k.here in subst (λ (n : ℕ). label_of g n ≤ label_of f n) (sym is) (omega arith)
-  | inr ne ↦ let h = k.others q ne in omega arith
-]
+put_le f g v p d k q = grind (arith, cases_eq, label_of)
 
 pub moves_then : (f g h : Frontier) → Moves f g → Moves g h → Moves f h
 moves_then f g h m n = record {
@@ -64,19 +39,16 @@ moves_then f g h m n = record {
   less = omega arith;
 }
 
+pub alike_labels : (f g : Frontier) → IsAlike f g → (p : ℕ) → label_of g p ≡ label_of f p
+alike_labels f g k p = ap (λ (t : List ℕ). label_in t p) k.table
+
 module _ (M : Map) (slot : ℕ → ℕ) (direction : Direction) (from : List (ℕ × ℕ)) where
   -- the length of a route is written as a label at its node
   module _ (f g : Frontier) (v p d : ℕ) (k : IsRelaxed f g v p d) (there : IsTrue (has_node M v)) (at : slot v ≡ p)
       (way : Leads M direction from v d) (l : IsLabelled M slot direction from f) where
     -- each label is that of before, or the new one
     put_cases : (q : ℕ) → (label_of g q ≡ label_of f q) ⊎ ((label_of g q ≡ d) × (q ≡ p))
-    put_cases q = elim (cases_eq q p) [
-      | inr ne ↦ inl (k.others q ne)
-      | inl is ↦
-          let same : label_of g q ≡ label_of g p = ap (label_of g) is in
-          let was : label_of f q ≡ label_of f p = ap (label_of f) is in
-          elim (cases_lt d (label_of f p)) [ inl lt ↦ inr (omega (arith, k.here), is) | inr ge ↦ inl (omega (arith, k.here)) ]
-    ]
+    put_cases q = grind (arith, cases_eq, label_of, cases_lt)
 
     put_leads : (w : ℕ) → IsTrue (has_node M w) → label_of g (slot w) ≤ GREATEST_LIMIT →
         Leads M direction from w (label_of g (slot w))
@@ -134,41 +106,26 @@ module _ (M : Map) (slot : ℕ → ℕ) (direction : Direction) (from : List (�
   pub empty_labelled : (f : Frontier) → IsMap M →
       ((v w : ℕ) → IsTrue (has_node M v) → IsTrue (has_node M w) → slot v ≡ slot w → v ≡ w) → CoversSlots M slot f →
       IsEmpty f → IsLabelled M slot direction from f
-  empty_labelled f m own room e = record {
-    sound = m;
-    own = own;
-    room = room;
-    low = λ p. let h = e.labels p in omega arith;
-    leads = λ v known small. let h = e.labels (slot v) in absurd (omega arith);
-    nodes = λ p small. let h = e.labels p in absurd (omega arith);
-    listed = λ r c. let lt = (subst (λ (xs : List Reached). Contains xs r) e.reached c).1 in absurd (omega arith);
-    apart = subst AreApart (sym e.reached) (λ i j d lt past. absurd (omega arith));
-  }
+  empty_labelled f m own room e = grind arith
 
   -- ---- the frontier
 
   -- what does not depend on the queue
-  pub labelled_same : (f g : Frontier) → ((p : ℕ) → label_of g p ≡ label_of f p) → frontier_len g ≡ frontier_len f →
-      g.reached.items ≡ f.reached.items → IsLabelled M slot direction from f → IsLabelled M slot direction from g
-  labelled_same f g same len reached l = record {
+  pub labelled_same : (f g : Frontier) → IsAlike f g → IsLabelled M slot direction from f → IsLabelled M slot direction from g
+  labelled_same f g k l = record {
     sound = l.sound;
     own = l.own;
-    room = λ v known. let was = l.room v known in omega arith;
-    low = λ p. let was = l.low p in let is = same p in omega arith;
-    leads = λ v known small. let is =
-        same (slot v) in subst (λ (e : ℕ). Leads M direction from v e) (sym is) (l.leads v known (omega arith));
-    nodes = λ p small. let is = same p in l.nodes p (omega arith);
-    listed = λ r c. let was = l.listed r (subst (λ (xs : List Reached). Contains xs r) reached c) in let is =
-        same r.slot in let label = was.label in record { there = was.there; at = was.at; label = omega arith };
-    apart = subst AreApart (sym reached) l.apart;
+    room = λ v known. let was = l.room v known in omega (arith, k.len);
+    low = λ p. let was = l.low p in omega (arith, alike_labels f g k p);
+    leads = λ v known small. subst (λ (e : ℕ). Leads M direction from v e) (sym (alike_labels f g k (slot v)))
+        (l.leads v known (omega (arith, alike_labels f g k (slot v))));
+    nodes = λ p small. l.nodes p (omega (arith, alike_labels f g k p));
+    listed = λ r c.
+        let was = l.listed r (subst (λ (xs : List Reached). Contains xs r) k.reached c) in
+        let label = was.label in
+        record { there = was.there; at = was.at; label = omega (arith, alike_labels f g k r.slot) };
+    apart = subst AreApart (sym k.reached) l.apart;
   }
-
-  -- the lines of a removed entry are followed, or the label there is another one by now
-  pub record Popped (f g : Frontier) (d p : ℕ) : Type 0 where
-    pub same : (q : ℕ) → label_of g q ≡ label_of f q
-    pub len : frontier_len g ≡ frontier_len f
-    pub reached : g.reached.items ≡ f.reached.items
-    pub others : (e q : ℕ) → IsQueued f e q → IsQueued g e q ⊎ ((e ≡ d) × (q ≡ p))
 
   -- ---- what is settled
 
@@ -247,8 +204,4 @@ module _ (M : Map) (slot : ℕ → ℕ) (direction : Direction) (from : List (�
 
     pub listed_near : (r : Reached) → Contains s.frontier.reached.items r → label_of s.frontier r.slot ≤ s.limit →
         LiesWithin M direction from s.limit r.node
-    listed_near r c le =
-        let x = h.under_way.labelled.listed r c in
-        let is : label_of s.frontier (slot r.node) ≡ label_of s.frontier r.slot = ap (label_of s.frontier) x.at in
-        let near : label_of s.frontier (slot r.node) ≤ s.limit = omega arith in
-        (label_of s.frontier (slot r.node), is_distance r.node x.there near, near)
+    listed_near r c le = grind (arith, label_of, is_distance)

@@ -1,10 +1,8 @@
 -- Whether a line extends a unique shortest path, by distances only.
-use Rattle.olr_search.proofs.Common.{◌≡◌, ◌≢◌, ℕ, ◌+◌, ◌<◌, ◌≤◌, List, [], ◌∷◌, ◌++◌, IsTrue, sym, ap, ◌∙◌, subst, inl}
-use Rattle.olr_search.proofs.Common.{inr, arith, cases_eq, cases_lt, Map, has_node, has_line, start, end, dm, IsRoute}
-use Rattle.olr_search.proofs.Common.{dm_of, UniqueShortest, positive, Contains-one, label_of, IsSearch, GREATEST_LIMIT}
-use Rattle.olr_search.proofs.Common.{Along, Dijkstra}
-use Rattle.olr_spec.proofs.RouteLemmas.{route_start}
-use Rattle.olr_search.specs.Searches.{IsOnlyPredecessor}
+use Rattle.olr_search.proofs.Common.{◌≡◌, ℕ, ◌+◌, ◌≤◌, List, [], ◌∷◌, ◌++◌, IsTrue, arith, cases_lt, Map, has_node}
+use Rattle.olr_search.proofs.Common.{has_line, start, end, dm, IsRoute, dm_of, UniqueShortest, positive, Contains-one}
+use Rattle.olr_search.proofs.Common.{label_of, IsSearch, GREATEST_LIMIT, Along, Dijkstra, route_start}
+use Rattle.olr_search.proofs.Common.{IsOnlyPredecessor}
 use Rattle.olr_search.proofs.NoteLemmas.{first_one}
 use Rattle.olr_search.proofs.RouteEnds.{dm_of-line, unique_on, unique_alone}
 
@@ -27,25 +25,11 @@ module _ (M : Map) (slot : ℕ → ℕ) (s : ℕ) (q : Dijkstra) (h : IsSearch M
 
   pub label_way : (v : ℕ) → IsTrue (has_node M v) → label_of q.frontier (slot v) ≤ GREATEST_LIMIT → (xs : List ℕ)
       × IsRoute M s v xs × (dm_of M xs ≡ label_of q.frontier (slot v))
-  label_way v known le =
-      let l = h.under_way.labelled.leads v known le in
-      let is = Contains-one (s, 0) (l.source, l.begun) l.listed in
-      let from : l.source ≡ s = ap (λ (p : ℕ × ℕ). p.0) is in
-      let none : l.begun ≡ 0 = ap (λ (p : ℕ × ℕ). p.1) is in
-      (l.lines, subst (λ (u : ℕ). IsRoute M u v l.lines) from l.way, omega arith)
+  label_way v known le = grind (arith, Contains-one)
 
   unique_label : (v : ℕ) (xs : List ℕ) → IsTrue (has_node M v) → UniqueShortest M s v xs → dm_of M xs ≤ q.limit →
       label_of q.frontier (slot v) ≡ dm_of M xs
-  unique_label v xs known unique le =
-      let low = way_le v xs known unique.route le in
-      let k = label_way v known (omega arith) in
-      elim (cases_lt (label_of q.frontier (slot v)) (dm_of M xs)) [
-        | inr ge ↦ omega arith
-        | inl lt ↦
-            let far =
-            unique.others k.0 k.1 (λ e. let same : dm_of M k.0 ≡ dm_of M xs = ap (dm_of M) e in absurd (omega arith)) in
-            absurd (omega arith)
-      ]
+  unique_label v xs known unique le = grind (arith, way_le, label_way, cases_lt, label_of, dm_of)
 
   module _ (route : List ℕ) (x : ℕ) (line : IsTrue (has_line M x)) (unique : UniqueShortest M s (start M x) route)
       (short : dm_of M route + dm M x ≤ q.limit) where
@@ -62,21 +46,11 @@ module _ (M : Map) (slot : ℕ → ℕ) (s : ℕ) (q : Dijkstra) (h : IsSearch M
 
     sum_if : UniqueShortest M s (end M x) (route ++ x ∷ []) →
         label_of q.frontier (slot (start M x)) + dm M x ≡ label_of q.frontier (slot (end M x))
-    sum_if whole =
-        let m = h.under_way.labelled.sound in
-        let parts = dm_of-line M route x in
-        let from = unique_label (start M x) route (m.starts x line) unique (omega arith) in
-        let to = unique_label (end M x) (route ++ x ∷ []) (m.ends x line) whole (omega arith) in
-        omega arith
+    sum_if whole = grind (arith, dm_of-line, unique_label, start, end)
 
     only_if : UniqueShortest M s (end M x) (route ++ x ∷ []) →
         IsOnlyPredecessor M slot q.frontier x (end M x) (label_of q.frontier (slot (end M x)))
-    only_if whole y known to le =
-        let m = h.under_way.labelled.sound in
-        let parts = dm_of-line M route x in
-        let is = unique_label (end M x) (route ++ x ∷ []) (m.ends x line) whole (omega arith) in
-        let k = label_way (start M y) (m.starts y known) (omega arith) in
-        unique_alone M s x route whole y k.0 known to k.1 (omega arith)
+    only_if whole y known to le = grind (arith, dm_of-line, unique_label, end, label_way, start, unique_alone)
 
     -- the result, by what the code reads of the line
     module _ (from to len near length : ℕ) (is_from : from ≡ start M x) (is_to : to ≡ end M x) (is_len : len ≡ dm M x)
@@ -85,12 +59,4 @@ module _ (M : Map) (slot : ℕ → ℕ) (s : ℕ) (q : Dijkstra) (h : IsSearch M
           UniqueShortest M s (end M x) (route ++ x ∷ []))
           × (UniqueShortest M s (end M x) (route ++ x ∷ []) →
           (near + len ≡ length) × IsOnlyPredecessor M slot q.frontier x to length)
-      reported =
-          let a = is_near ∙ ap (λ (v : ℕ). label_of q.frontier (slot v)) is_from in
-          let b = is_length ∙ ap (λ (v : ℕ). label_of q.frontier (slot v)) is_to in (
-            λ sum alone. extends_if (omega arith) (coe 0 1 (i. IsOnlyPredecessor M slot q.frontier x (is_to i) (b i)) alone),
-            λ whole. (
-              let sum = sum_if whole in omega arith,
-              coe 1 0 (i. IsOnlyPredecessor M slot q.frontier x (is_to i) (b i)) (only_if whole),
-            ),
-          )
+      reported = grind (arith, label_of, extends_if, sum_if, only_if)

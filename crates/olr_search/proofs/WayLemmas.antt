@@ -1,11 +1,9 @@
 -- Routes in one direction or the other, and the far ends of the lines at a node.
 use Rattle.olr_search.proofs.Common.{◌≡◌, ℕ, ◌+◌, ◌<◌, List, [], ◌∷◌, ◌++◌, Contains, IsTrue, length, get_or, refl, sym}
 use Rattle.olr_search.proofs.Common.{ap, ◌∙◌, subst, arith, length-append, get_or-map, length-map, get_or_default_zero}
-use Rattle.olr_search.proofs.Common.{Map, IsMap, has_node, has_line, start, end, dm, lines_in, IsRoute, dm_of, LineEnd}
-use Rattle.olr_search.proofs.Common.{Way, Leads, near_end, far_end, lines_at, Direction, Along, Against}
-use Rattle.std.proofs.Common.{map}
+use Rattle.olr_search.proofs.Common.{Map, IsMap, has_node, has_line, dm, lines_in, IsRoute, dm_of, LineEnd, Way, Leads}
+use Rattle.olr_search.proofs.Common.{start, end, near_end, far_end, lines_at, Direction, Along, Against, map, ends_at}
 use Rattle.olr_map.specs.Ends.{end_out, end_in, ends_in}
-use Rattle.olr_search.specs.Distances.{ends_at}
 use Rattle.olr_search.proofs.ReadLemmas.{read_at, found_at}
 use Rattle.olr_search.proofs.RouteEnds.{ends_of, dm_of-line, route_on, last_step}
 use Rattle.olr_search.proofs.RouteEnds.Ends.{empty, ended}
@@ -73,30 +71,18 @@ leads_first M Against from s b listed there =
     record { source = s; begun = b; lines = []; listed = listed; there = there; way = refl; long = omega arith }
 
 -- and a line extends a route
+way_on : (M : Map) (direction : Direction) (s x : ℕ) (xs : List ℕ) → IsTrue (has_line M x) →
+    Way M direction s (near_end M direction x) xs → (ys : List ℕ) × Way M direction s (far_end M direction x) ys
+    × (dm_of M ys ≡ dm_of M xs + dm M x)
+way_on M Along s x xs known w = (xs ++ x ∷ [], route_on M s x xs w known, dm_of-line M xs x)
+way_on M Against s x xs known w = (x ∷ xs, (known, refl, w), omega arith)
+
 pub leads_on : (M : Map) (direction : Direction) (from : List (ℕ × ℕ)) (x d : ℕ) → IsTrue (has_line M x) →
     Leads M direction from (near_end M direction x) d → Leads M direction from (far_end M direction x) (d + dm M x)
-leads_on M Along from x d known l =
-    let long = l.long in
-    record {
-      source = l.source;
-      begun = l.begun;
-      lines = l.lines ++ x ∷ [];
-      listed = l.listed;
-      there = l.there;
-      way = route_on M l.source x l.lines l.way known;
-      long = omega (arith, dm_of-line M l.lines x);
-    }
-leads_on M Against from x d known l =
-    let long = l.long in
-    record {
-      source = l.source;
-      begun = l.begun;
-      lines = x ∷ l.lines;
-      listed = l.listed;
-      there = l.there;
-      way = (known, refl, l.way);
-      long = omega arith;
-    }
+leads_on M direction from x d known l =
+    let on = way_on M direction l.source x l.lines known l.way in
+    let long : l.begun + dm_of M on.0 ≡ d + dm M x = omega (arith, l.long, on.2) in
+    record { source = _; begun = _; lines = on.0; listed = l.listed; there = l.there; way = on.1; long = long }
 
 pub leads_node : (M : Map) → IsMap M → (direction : Direction) (from : List (ℕ × ℕ)) (v d : ℕ) →
     Leads M direction from v d → IsTrue (has_node M v)
@@ -106,14 +92,6 @@ leads_node M m direction from v d l = elim (way_ends M direction l.source v l.li
 ]
 
 -- ---- the far ends at a node
-
-pub record IsEnd (M : Map) (slot : ℕ → ℕ) (direction : Direction) (v : ℕ) (e : LineEnd) : Type 0 where
-  pub line : ℕ
-  pub known : IsTrue (has_line M line)
-  pub near : near_end M direction line ≡ v
-  pub node : e.node ≡ far_end M direction line
-  pub there : e.slot ≡ slot (far_end M direction line)
-  pub len : e.len ≡ dm M line
 
 -- the element of a list that is made by a function
 made_at : (f : ℕ → LineEnd) (xs : List ℕ) (items : List LineEnd) (i : ℕ) (e : LineEnd) → items ≡ map f xs →
@@ -140,6 +118,14 @@ ends_are : (M : Map) (slot : ℕ → ℕ) (direction : Direction) (v : ℕ) →
     ends_at M slot direction v ≡ map (far_of M slot direction) (lines_at M direction v)
 ends_are M slot Along v = refl
 ends_are M slot Against v = refl
+
+pub record IsEnd (M : Map) (slot : ℕ → ℕ) (direction : Direction) (v : ℕ) (e : LineEnd) : Type 0 where
+  pub line : ℕ
+  pub known : IsTrue (has_line M line)
+  pub near : near_end M direction line ≡ v
+  pub node : e.node ≡ far_end M direction line
+  pub there : e.slot ≡ slot (far_end M direction line)
+  pub len : e.len ≡ dm M line
 
 pub end_is : (M : Map) (slot : ℕ → ℕ) (direction : Direction) (v : ℕ) (items : List LineEnd) (i : ℕ) (e : LineEnd) →
     items ≡ ends_at M slot direction v → i < length items → e ≡ get_or items i e → IsEnd M slot direction v e
@@ -205,6 +191,4 @@ entry_is M slot to lines items same is i e lt at =
 
 pub as_many : (M : Map) (slot : ℕ → ℕ) (to : ℕ) (lines : List ℕ) (items : List LineEnd) → lines ≡ lines_in M to →
     items ≡ ends_in M slot to → length items ≡ length lines
-as_many M slot to lines items same is =
-    ap (λ (zs : List LineEnd). length zs) is ∙ length-map (lines_in M to) (end_in M slot)
-    ∙ ap (λ (zs : List ℕ). length zs) (sym same)
+as_many M slot to lines items same is = grind (arith, length-map, lines_in, to, end_in)

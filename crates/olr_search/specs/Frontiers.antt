@@ -4,6 +4,7 @@
 --     IsQueued f d p      slot p is queued, at length d
 --     queued_len f      how many entries the queue has
 --     IsEmpty f      no labels, and nothing is queued
+--     IsAlike f g      the tables and the labelled nodes are the same
 --     IsRelaxed f g v p d      the label of node v in slot p was lowered to d, unless it was no greater
 --     Moves f g      no label increased, and where one is new its slot is queued
 --     to_do f      what is left to do: it decreases with each label that is lowered and each entry that is removed
@@ -33,6 +34,11 @@ pub record IsEmpty (f : Frontier) : Type 0 where
   pub labels : (p : ℕ) → label_of f p ≡ UNREACHED
   pub reached : f.reached.items ≡ []
   pub queue : queued_len f ≡ 0
+
+pub record IsAlike (f g : Frontier) : Type 0 where
+  pub table : g.table.items ≡ f.table.items
+  pub reached : g.reached.items ≡ f.reached.items
+  pub len : frontier_len g ≡ frontier_len f
 
 -- the node is recorded if it had no label
 abbrev pub NotedOnce : Frontier → Frontier → ℕ → ℕ → Type 0

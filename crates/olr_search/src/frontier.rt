@@ -46,7 +46,7 @@ impl Frontier {
     ghost use Rattle.std.specs.Prelude.{◌≤◌, ◌+◌, ◌⊎◌, ℕ, [], IfOk, IfSome, IfNone, count_by, nat_le};
     ghost use Rattle.std.specs.List.{filter};
     ghost use Rattle.olr_search.specs.Notes.{numbers_of};
-    ghost use Rattle.olr_search.specs.Frontiers.{label_of, frontier_len, queued_len, IsRelaxed, IsEmpty, IsQueued};
+    ghost use Rattle.olr_search.specs.Frontiers.{label_of, frontier_len, queued_len, IsAlike, IsRelaxed, IsEmpty, IsQueued};
 
     /// No labels. Does not allocate.
     pub fn new(alloc: Global) -> Frontier
@@ -140,9 +140,7 @@ impl Frontier {
 
     /// Removes the least queued length, and returns it with its slot. None if no queued length is at most `limit`.
     pub fn pop_within(&mut self, limit: u32) -> Option<(u32, u32)>
-        ensures table { self.new.table.items ≡ self.old.table.items }
-        ensures room { frontier_len self.new ≡ frontier_len self.old }
-        ensures reached { self.new.reached.items ≡ self.old.reached.items }
+        ensures alike { IsAlike self.old self.new }
         ensures within { IfSome result (λ x. x.0 ≤ limit) }
         ensures least { IfSome result (λ x. (d p : ℕ) → IsQueued self.old d p → x.0 ≤ d) }
         ensures others { IfSome result (λ x. (d p : ℕ) → IsQueued self.old d p → IsQueued self.new d p

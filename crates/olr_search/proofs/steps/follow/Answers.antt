@@ -1,6 +1,5 @@
 use Rattle.olr_search.proofs.Common.{◌≡◌, ◌≤◌, ◌+◌, ℕ, IsTrue, get_or, sym, ap, subst, ◌∙◌, arith, get_or_default}
-use Rattle.olr_search.proofs.Common.{has_node, dm, LineEnd, Leads, near_end, far_end, label_of, Moves, below_more}
-use Rattle.olr_spec.proofs.RouteLemmas.{line_short}
+use Rattle.olr_search.proofs.Common.{has_node, LineEnd, Leads, near_end, far_end, label_of, below_more, line_short}
 use Rattle.olr_search.proofs.WayLemmas.{IsEnd, end_is, has_end, no_end, far_node, leads_on}
 use Rattle.olr_search.proofs.SearchLemmas.{moves_then}
 use Rattle.olr_search.proofs.steps.follow.Given.{Over}
@@ -11,9 +10,7 @@ use Rattle.olr_search.proofs.steps.follow.Goals as goal
 line : (g : Over) (c : After-end-item g) →
     IsEnd (g.M.MapRead.map c.args.map.now) (g.M.MapRead.node_slot c.args.map.now) c.args.direction c.requires.node.0
     c.end-item.result
-line g c =
-    let own = c.requires.node in
-    end_is _ _ c.args.direction own.0 _ _ _ (c.ends_from-end-items.ensures own.0 own.1 own.2) c.loop-end-test.true c.end-item.is
+line g c = grind (arith, end_is)
 
 pub overflow_add-dist : goal.overflow_add-dist
 overflow_add-dist g c =

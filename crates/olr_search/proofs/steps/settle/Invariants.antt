@@ -1,5 +1,4 @@
-use Rattle.olr_search.proofs.Common.{◌≤◌, ℕ, List, label_of, IsUnderWay, IsCut}
-use Rattle.olr_search.specs.Frontiers.{to_do}
+use Rattle.olr_search.proofs.Common.{◌≤◌, ℕ, List, label_of, IsUnderWay, IsCut, to_do}
 use Rattle.olr_search.proofs.steps.settle.Given as goal
 
 abbrev pub invariant-loop-next : goal.invariant-loop-next

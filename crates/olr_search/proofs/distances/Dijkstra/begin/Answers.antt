@@ -1,24 +1,11 @@
-use Rattle.olr_search.proofs.Common.{◌≡◌, ◌≤◌, ℕ, IsTrue, get_or, sym, ap, subst, ◌∙◌, refl, inl, inr, arith}
-use Rattle.olr_search.proofs.Common.{below_more, get_or_default, has_node, label_of, IsQueued, IsUnderWay}
+use Rattle.olr_search.proofs.Common.{◌≡◌, ◌≤◌, ℕ, IsTrue, get_or, sym, subst, ◌∙◌, inl, inr, arith, below_more}
+use Rattle.olr_search.proofs.Common.{get_or_default, has_node, label_of, IsQueued, IsUnderWay}
 use Rattle.olr_search.proofs.SearchLemmas.{empty_labelled, settled_none}
 use Rattle.olr_search.proofs.distances.Dijkstra.begin.Given.{Over}
 use Rattle.olr_search.proofs.distances.Dijkstra.begin.Goals as goal
 
 pub loop-begin-init : goal.loop-begin-init
-loop-begin-init g c =
-    let placed = g.met.M.MapRead.placed c.args.map.now in
-    let empty = c.in_ok-make_room.ensures.empty c.clear.ensures in
-    record {
-      labelled =
-          empty_labelled (g.M.MapRead.map c.args.map.now) (g.M.MapRead.node_slot c.args.map.now) c.args.direction
-          c.args.from.now c.make_room.new.self (g.met.M.MapRead.sound c.args.map.now) placed.apart
-          (λ v known. let below = placed.below v known in let room =
-          c.in_ok-make_room.ensures.room in omega arith) empty;
-      begun = λ j lt. absurd (omega arith);
-      front = λ p small. let none = empty.labels p in absurd (omega arith);
-      way = refl;
-      limit = refl;
-    }
+loop-begin-init g c = grind (arith, empty_labelled)
 
 pub loop-begin-preserved : goal.loop-begin-preserved
 loop-begin-preserved g c =

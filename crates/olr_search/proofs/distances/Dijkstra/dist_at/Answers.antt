@@ -1,5 +1,4 @@
-use Rattle.olr_search.proofs.Common.{◌≡◌, ℕ, sym, ap, subst, ◌∙◌, arith, IsDistance, label_of}
-use Rattle.std.proofs.Common.{Some}
+use Rattle.olr_search.proofs.Common.{◌≡◌, ℕ, sym, ap, subst, ◌∙◌, arith, IsDistance, label_of, Some}
 use Rattle.olr_search.proofs.SearchLemmas.{is_distance, label_is}
 use Rattle.olr_search.proofs.distances.Dijkstra.dist_at.Goals as goal
 

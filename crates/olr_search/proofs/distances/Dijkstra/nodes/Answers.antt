@@ -1,9 +1,7 @@
 use Rattle.olr_search.proofs.Common.{ℕ, List, subst, IsPermutation, nat_le, filter, Contains-permutation, numbers_of}
-use Rattle.olr_search.proofs.Common.{label_of}
-use Rattle.std.proofs.Common.{eqb}
+use Rattle.olr_search.proofs.Common.{label_of, eqb, IsPermutation-sym, IsNonDecreasingBy-from_sort}
+use Rattle.olr_search.proofs.Common.{IsDistinct-IsPermutation, IsStrictlyIncreasing-from_distinct}
 use Rattle.std.specs.Cmp.{nat_eq_equiv}
-use Rattle.std.proofs.lemmas.List.Sorted.{IsPermutation-sym, IsNonDecreasingBy-from_sort}
-use Rattle.std.proofs.lemmas.Map.Keys.{IsDistinct-IsPermutation, IsStrictlyIncreasing-from_distinct}
 use Rattle.olr_search.proofs.CountLemmas.{near_apart, near_exactly}
 use Rattle.olr_search.proofs.distances.Dijkstra.nodes.Goals as goal
 

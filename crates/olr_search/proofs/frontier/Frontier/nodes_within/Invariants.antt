@@ -1,5 +1,4 @@
-use Rattle.olr_search.proofs.Common.{◌≡◌, nat_le, filter, label_of, numbers_of}
-use Rattle.std.proofs.Common.{take}
+use Rattle.olr_search.proofs.Common.{◌≡◌, nat_le, filter, label_of, numbers_of, take}
 use Rattle.olr_search.proofs.frontier.Frontier.nodes_within.Given as goal
 
 abbrev pub invariant-loop-reached : goal.invariant-loop-reached
