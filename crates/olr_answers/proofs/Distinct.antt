@@ -1,5 +1,5 @@
 -- A list has no duplicates exactly if its numbers, sorted, are strictly increasing.
-use Rattle.std.proofs.Common.{◌≡◌, ◌≢◌, ℕ, ◌+◌, ◌<◌, true, false, not, List, [], ◌∷◌, length, get_or, eqb}
+use Rattle.std.proofs.Common.{◌≡◌, ℕ, ◌+◌, ◌<◌, true, false, not, List, [], ◌∷◌, length, get_or, eqb}
 use Rattle.std.proofs.Common.{IsPermutation, refl, ◌∙◌, inl, inr, arith}
 use Rattle.std.specs.List.{IsDistinct, AllByRecursion}
 use Rattle.std.specs.List.Sorted.{IsSorted}
@@ -68,13 +68,4 @@ module _ (xs sorted : List ℕ) (moved : IsPermutation xs sorted) where
 -- one more neighbour in a sorted list, which is another number
 pub ascends_more : (sorted : List ℕ) → IsSorted nat_cmp sorted → (i j : ℕ) → i + 1 ≡ j → j < length sorted →
     eqb (get_or sorted i 0) (get_or sorted j 0) ≡ false → AscendsBelow sorted j → AscendsBelow sorted (j + 1)
-ascends_more sorted up i j next h ne below k lt =
-    elim (cases_order k i) [
-      | inl is ↦
-          let le = IsNonDecreasingBy-from_sort (λ x. x) sorted up i j 0 (omega arith) h in
-          let differ : get_or sorted i 0 ≢ get_or sorted j 0 =
-          λ same. both_ways (eqb (get_or sorted i 0) (get_or sorted j 0)) ne
-          (eq-eqb (get_or sorted i 0) (get_or sorted j 0) same) in
-          rw (is, next) (omega arith)
-      | inr o ↦ below k (omega arith)
-    ]
+ascends_more sorted up i j next h ne below k lt = grind (arith, cases_order, IsNonDecreasingBy-from_sort, both_ways, eqb, eq-eqb)
