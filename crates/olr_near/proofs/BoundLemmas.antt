@@ -59,70 +59,56 @@ moves_then f g h m n = record {
   known = n.known ∙ m.known;
 }
 
-pub moves_under_way : (M : Map) (f g : DistanceBounds) → Moves f g → IsUnderWay M f → IsUnderWay M g
-moves_under_way M f g m under is u d at = elim (m.fresh u d at) [
-  | inl was ↦ elim (under (subst (λ (b : Bool). IsTrue b) m.known is) u d was) [
-    | inl closed ↦ inl (closed_better M (bound_of f) (bound_of g) m.better u d closed)
-    | inr w ↦ inr (m.kept d u w)
-  ]
+-- each number is that of before, and if its node waited it still does, or its lines are followed; or its node waits
+under_next : (M : Map) (f g : DistanceBounds) → g.known ≡ f.known → Better (bound_of f) (bound_of g) →
+    ((v d : ℕ) → bound_of g v ≡ Some d → (bound_of f v ≡ Some d) ⊎ IsWaiting g d v) →
+    ((v d : ℕ) → bound_of f v ≡ Some d → IsWaiting f d v → ClosedAt M (bound_of g) v d ⊎ IsWaiting g d v) →
+    IsUnderWay M f → IsUnderWay M g
+under_next M f g known better fresh kept under is u d at = elim (fresh u d at) [
   | inr w ↦ inr w
+  | inl was ↦ elim (under (subst (λ (b : Bool). IsTrue b) known is) u d was) [
+    | inl closed ↦ inl (closed_better M (bound_of f) (bound_of g) better u d closed)
+    | inr w ↦ kept u d was w
+  ]
 ]
+
+pub moves_under_way : (M : Map) (f g : DistanceBounds) → Moves f g → IsUnderWay M f → IsUnderWay M g
+moves_under_way M f g m = under_next M f g m.known m.better m.fresh (λ v d _ w. inr (m.kept d v w))
 
 -- ---- one bound
 
 -- between f and g, after which node v is queued with that bound
-pub put_moves : (f g : DistanceBounds) (k v d : ℕ) → k ≡ v → Updates nat_eq f.bounds g.bounds k (Some d) →
-    ((e : ℕ) → bound_of f k ≡ Some e → d < e)
-    → IsPermutation (record { 0 = (d, v) } ∷ heap_items f.waiting) (heap_items g.waiting) → g.known ≡ f.known → Moves f g
-put_moves f g k v d is updates less p known =
-    let K = bound_of g in
-    let there : K v ≡ Some d = ap K (sym is) ∙ updates.1 in
-    let others : (q : ℕ) → q ≢ v → K q ≡ bound_of f q = λ q ne. updates.2 q (ne_eqb k q (λ e. ne (sym e ∙ is))) in
+pub put_moves : (f g : DistanceBounds) (v d : ℕ) → Updates nat_eq f.bounds g.bounds v (Some d) →
+    ((e : ℕ) → bound_of f v ≡ Some e → d < e) → IsPermutation (record { 0 = (d, v) } ∷ heap_items f.waiting) (heap_items g.waiting) →
+    g.known ≡ f.known → Moves f g
+put_moves f g v d updates less p known =
+    let others : (q : ℕ) → q ≢ v → bound_of g q ≡ bound_of f q = λ q ne. updates.2 q (ne_eqb v q (λ e. ne (sym e))) in
     record {
       better = λ q e at. elim (cases_eq q v) [
-        | inl eq ↦ record { number = d; at = ap K eq ∙ there; low = omega (arith, less e (ap (bound_of f) (is ∙ sym eq) ∙ at)) }
-        | inr ne ↦ within_itself K q e (others q ne ∙ at)
+        | inl eq ↦
+            let lt = less e (ap (bound_of f) (sym eq) ∙ at) in
+            record { number = d; at = ap (bound_of g) eq ∙ updates.1; low = omega arith }
+        | inr ne ↦ within_itself (bound_of g) q e (others q ne ∙ at)
       ];
       fresh = λ q e at. elim (cases_eq q v) [
         | inl eq ↦
-            let both : ◌≡◌ {A = Option ℕ} (Some d) (Some e) = sym there ∙ ap K (sym eq) ∙ at in
+            let both : ◌≡◌ {A = Option ℕ} (Some d) (Some e) = sym updates.1 ∙ ap (bound_of g) (sym eq) ∙ at in
             let same : d ≡ e = cc in
-            inr (coe 1 0 (i. IsWaiting g e (eq i)) (coe 0 1 (i. IsWaiting g (same i) v) (pushed_there _ _ _ p)))
+            inr (coe 0 1 (i. IsWaiting g (same i) (sym eq i)) (pushed_there _ _ _ p))
         | inr ne ↦ inl (sym (others q ne) ∙ at)
       ];
       kept = λ e q w. pushed_kept _ _ _ _ p w;
       known = known;
     }
 
--- the bound there is greater, if there is one
-pub less_some : (o : Option ℕ) (had d : ℕ) → Some had ≡ o → d < had → (e : ℕ) → o ≡ Some e → d < e
-less_some o had d is lt e at =
-    let both : ◌≡◌ {A = Option ℕ} (Some had) (Some e) = is ∙ at in
-    let same : had ≡ e = cc in
-    omega arith
-
-pub less_none : (o : Option ℕ) (d : ℕ) → None ≡ o → (e : ℕ) → o ≡ Some e → d < e
-less_none o d is e at = let never : ◌≡◌ {A = Option ℕ} None (Some e) = is ∙ at in absurd cc
-
 lesser_one : (o : Option ℕ) (d e : ℕ) → ◌≡◌ {A = Option ℕ} (Some (lesser o d)) (Some e) → (o ≡ Some e) ⊎ (e ≡ d)
 lesser_one None d e at = let is : d ≡ e = cc in inr (sym is)
-lesser_one (Some k) d e at =
-    let is : min k d ≡ e = cc in
-    elim (cases_lt k d) [
-      | inl lt ↦ let same : k ≡ e = omega arith in inl (ap (λ (n : ℕ). Some n) same)
-      | inr le ↦ inr (omega arith)
-    ]
+lesser_one (Some k) d e at = grind (arith, cases_lt)
 
 -- each number is one of before, or the new one
 pub lowered_from : (f g : DistanceBounds) (v d : ℕ) → IsLowered f g v d → (q e : ℕ) → bound_of g q ≡ Some e →
     (bound_of f q ≡ Some e) ⊎ ((e ≡ d) × (q ≡ v))
-lowered_from f g v d l q e at = elim (cases_eq q v) [
-  | inr ne ↦ inl (sym (l.others q ne) ∙ at)
-  | inl is ↦ elim (lesser_one (bound_of f v) d e (sym l.at ∙ ap (bound_of g) (sym is) ∙ at)) [
-    | inl was ↦ inl (ap (bound_of f) is ∙ was)
-    | inr new ↦ inr (new, is)
-  ]
-]
+lowered_from f g v d l q e at = grind (arith, cases_eq, lesser_one, bound_of)
 
 -- what it counts
 abbrev pub weight : ℕ → ℕ
@@ -135,16 +121,10 @@ gain_by a b d None sum short less = omega arith
 gain_by a b d (Some e) sum short less = omega (arith, less e refl)
 
 pub gain_put : (m n : Numbers) (v d : ℕ) (old : Option ℕ) → old ≡ get nat_eq m v → PutsEntry nat_eq m n v d old →
-    d ≤ limit → ((e : ℕ) → get nat_eq m v ≡ Some e → d < e)
-    → sum_by weight (values m) + 1 ≤ sum_by weight (values n)
+    d ≤ limit → ((e : ℕ) → get nat_eq m v ≡ Some e → d < e) → sum_by weight (values m) + 1 ≤ sum_by weight (values n)
 gain_put m n v d old was puts short less =
     gain_by (sum_by weight (values m)) (sum_by weight (values n)) d old
     (sum_by_puts_entry weight nat_eq m n v d old was puts) short (λ e is. less e (sym was ∙ is))
-
--- if it was there already
-pub gain_same : (m n : Numbers) (v d : ℕ) → Some d ≡ get nat_eq m v → PutsEntry nat_eq m n v d (Some d) →
-    sum_by weight (values n) ≡ sum_by weight (values m)
-gain_same m n v d was puts = omega (arith, sum_by_puts_entry weight nat_eq m n v d (Some d) was puts)
 
 -- there are no more bounds than nodes, and each counts at most the limit plus one
 pub gain_le : (m : Numbers) → ((v : ℕ) → IsSome (get nat_eq m v) → v < 2 ^ 32) → IsUnique nat_eq m →
@@ -174,35 +154,23 @@ popped_others xs ys x d v p w = elim (popped_or xs ys x (record { 0 = (d, v) }) 
 -- an entry is removed, between f and g, and its lines are followed, up to h; or the bound is another one by now
 module _ (M : Map) (f g : DistanceBounds) (d v : ℕ) (same : g.bounds ≡ f.bounds) (known : g.known ≡ f.known)
     (others : (e q : ℕ) → IsWaiting f e q → IsWaiting g e q ⊎ ((e ≡ d) × (q ≡ v))) where
-  bounds_same : bound_of g ≡ bound_of f
-  bounds_same = ap (λ (m : Numbers). λ (q : ℕ). get nat_eq m q) same
+  is_same : (q : ℕ) → bound_of g q ≡ bound_of f q
+  is_same q = ap (λ (m : Numbers). get nat_eq m q) same
 
   pub popped_skip : ¬ (bound_of f v ≡ Some d) → IsUnderWay M f → IsUnderWay M g
-  popped_skip other under is u e at =
-      let was : bound_of f u ≡ Some e = ap (λ (L : ℕ → Option ℕ). L u) (sym bounds_same) ∙ at in
-      elim (under (coe 0 1 (i. IsTrue (known i)) is) u e was) [
-        | inl closed ↦ inl (coe 1 0 (i. ClosedAt M (bounds_same i) u e) closed)
-        | inr w ↦ elim (others e u w) [
-          | inl still ↦ inr still
-          | inr k ↦ absurd (other (coe 0 1 (i. bound_of f v ≡ Some (k.0 i)) (coe 0 1 (i. bound_of f (k.1 i) ≡ Some e) was)))
-        ]
-      ]
+  popped_skip other = under_next M f g known (λ u e at. within_itself (bound_of g) u e (is_same u ∙ at))
+      (λ u e at. inl (sym (is_same u) ∙ at)) (λ u e was w. elim (others e u w) [
+        | inl still ↦ inr still
+        | inr k ↦ absurd (other (coe 0 1 (i. bound_of f (k.1 i) ≡ Some (k.0 i)) was))
+      ])
 
   pub popped_more : (h : DistanceBounds) → Moves g h → ClosedAt M (bound_of h) v d → IsUnderWay M f → IsUnderWay M h
-  popped_more h m closed_here under is u e at = elim (m.fresh u e at) [
-    | inr w ↦ inr w
-    | inl kept ↦
-        let was : bound_of f u ≡ Some e = ap (λ (L : ℕ → Option ℕ). L u) (sym bounds_same) ∙ kept in
-        elim (under (subst (λ (b : Bool). IsTrue b) (m.known ∙ known) is) u e was) [
-          | inl closed ↦ inl (closed_better M (bound_of g) (bound_of h) m.better u e
-              (subst (λ (L : ℕ → Option ℕ). ClosedAt M L u e) (sym bounds_same) closed))
-          | inr w ↦ elim (others e u w) [
-            | inl still ↦ inr (m.kept e u still)
-            | inr k ↦ inl (subst (λ (q : ℕ). ClosedAt M (bound_of h) q e) (sym k.1)
-                (subst (ClosedAt M (bound_of h) v) (sym k.0) closed_here))
-          ]
-        ]
-  ]
+  popped_more h m closed = under_next M f h (m.known ∙ known) (λ u e at. m.better u e (is_same u ∙ at))
+      (λ u e at. elim (m.fresh u e at) [ inl kept ↦ inl (sym (is_same u) ∙ kept) | inr w ↦ inr w ])
+      (λ u e was w. elim (others e u w) [
+        | inl still ↦ inr (m.kept e u still)
+        | inr k ↦ inl (coe 1 0 (i. ClosedAt M (bound_of h) (k.1 i) (k.0 i)) closed)
+      ])
 
 -- ---- where numbers come from
 
@@ -228,22 +196,11 @@ closed_same M N L u d same closed x known from short =
     (closed x (sym (same_known N M x is) ∙ known) (sym (same_start N M x is) ∙ from) (omega arith))
 
 pub reopened_sources : (T : List ℕ) (f g : DistanceBounds) → IsReopened T f g → (s w : ℕ) → IsSource f s w → IsSource g s w
-reopened_sources T f g r s w source is =
-    let k = source (coe 0 1 (i. IsTrue (r.known i)) is) in
-    record { number = k.number; at = ap (λ (m : Numbers). get nat_eq m s) r.same ∙ k.at; low = k.low }
+reopened_sources T f g r s w source is = grind (arith, get, nat_eq)
 
 pub reopened_under_way : (M N : Map) (T : List ℕ) (f g : DistanceBounds) → IsReopened T f g → SameBut T M N → IsUnderWay M f →
     IsUnderWay N g
-reopened_under_way M N T f g r same under is u d at =
-    let bounds : bound_of g ≡ bound_of f = ap (λ (m : Numbers). λ (v : ℕ). get nat_eq m v) r.same in
-    let was : bound_of f u ≡ Some d = ap (λ (L : ℕ → Option ℕ). L u) (sym bounds) ∙ at in
-    elim (cases_Bool (has T u)) [
-      | inl on ↦ inr (r.waits u d on was)
-      | inr off ↦ elim (under (coe 0 1 (i. IsTrue (r.known i)) is) u d was) [
-        | inl closed ↦ inl (coe 1 0 (i. ClosedAt N (bounds i) u d) (closed_same M N (bound_of f) u d (same u off) closed))
-        | inr w ↦ inr (r.kept d u w)
-      ]
-    ]
+reopened_under_way M N T f g r same under is u d at = grind (arith, bound_of, get, nat_eq, cases_Bool, has, closed_same)
 
 -- ---- the law
 
@@ -258,7 +215,4 @@ number_along M f right known u v d (x ∷ xs) at w short =
 pub near_bounded : (M : Map) (f : DistanceBounds) (s w : ℕ) (T : List ℕ) → IsTrue f.known → IsRight M f →
     IsSource f s w →
     (near : Near M T s (min w limit)) → IsSome (bound_of f near.node)
-near_bounded M f s w T known right source near =
-    let k = source known in
-    number_along M f right known s near.node k.number near.route k.at near.leads
-    (omega arith)
+near_bounded M f s w T known right source near = grind (arith, number_along)

@@ -171,20 +171,11 @@ impl DistanceBounds {
         ensures within { OnOk result (Within (bound_of self.new) node number) }
         ensures lowered { OnOk result (IsLowered self.old self.new node number) }
     {
-        let key = node.number();
-        match self.bounds.get_mut(&key) {
-            Some(had) => {
-                if *had <= number {
-                    return Ok(());
-                }
-                self.waiting.push(Reverse((number, node)))?;
-                *had = number;
-            }
-            None => {
-                self.waiting.push(Reverse((number, node)))?;
-                self.bounds.insert(key, number)?;
-            }
+        if self.is_within(node, number) {
+            return Ok(());
         }
+        self.waiting.push(Reverse((number, node)))?;
+        self.bounds.insert(node.number(), number)?;
         Ok(())
     }
 
@@ -198,6 +189,17 @@ impl DistanceBounds {
             }
         }
         Ok(())
+    }
+
+    /// Whether the node has a bound of at most this.
+    fn is_within(&self, node: NodeId, number: u32) -> bool
+        ensures low { IsTrue result → Within (bound_of self.now) node number }
+        ensures high { IsFalse result → (d : ℕ) → bound_of self.now node ≡ Some d → number < d }
+    {
+        match self.bounds.get(&node.number()) {
+            None => false,
+            Some(had) => *had <= number,
+        }
     }
 
     /// Whether the node has this bound.

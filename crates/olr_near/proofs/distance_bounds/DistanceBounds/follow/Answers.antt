@@ -1,4 +1,4 @@
-use Rattle.std.proofs.Common.{◌≡◌, ◌≤◌, ◌+◌, ◌-◌, ℕ, Option, get_or, inl, inr, sym, ap, ◌∙◌, subst, arith}
+use Rattle.std.proofs.Common.{◌≡◌, ◌≤◌, ◌+◌, ◌-◌, ℕ, Option, get_or, inl, inr, sym, ◌∙◌, subst, arith}
 use borrow.Author.Count.{below_more}
 use Rattle.std.proofs.lemmas.List.{get_or_default}
 use Rattle.olr_map.specs.declared.read.LineEnd.{LineEnd}

@@ -5,9 +5,7 @@ use Rattle.olr_near.proofs.BoundLemmas.{led_on, popped_others}
 use Rattle.olr_near.proofs.distance_bounds.DistanceBounds.follow_all.Goals as goal
 
 pub loop-top-smaller-then-is_at : goal.loop-top-smaller-then-is_at
-loop-top-smaller-then-is_at g c =
-    let most = gain_le c.follow.new.self.bounds c.follow.new.self.small c.len.ensures.unique in
-    omega (arith, c.in-Some.ensures.len, c.in_ok-follow.ensures.paid)
+loop-top-smaller-then-is_at g c = grind (arith, gain_le)
 
 pub loop-top-preserved-then-is_at : goal.loop-top-preserved-then-is_at
 loop-top-preserved-then-is_at g c =

@@ -1,4 +1,4 @@
-use Rattle.std.proofs.Common.{◌≡◌, refl, sym, ap, ◌∙◌, arith, true}
+use Rattle.std.proofs.Common.{◌≡◌, sym, ap, ◌∙◌, arith, true}
 use Rattle.olr_spec.proofs.ListLemmas.{at_index}
 use Rattle.olr_spec.proofs.OptionLemmas.{there_not}
 use Rattle.olr_near.specs.Bounds.{bound_of}
@@ -14,12 +14,4 @@ returns-clause-far c = λ yes M s w right source near.
 
 -- each of the nodes was tested
 pub returns-clause-exact : goal.returns-clause-exact
-returns-clause-exact c = (
-  λ yes. (
-    cc,
-    λ v on.
-        let k = at_index c.args.nodes.now v on in
-        ap (bound_of c.args.self.now) (sym k.2) ∙ c.loop-node.invariant k.0 (omega arith),
-  ),
-  λ h. refl,
-)
+returns-clause-exact c = grind (arith, at_index, bound_of)

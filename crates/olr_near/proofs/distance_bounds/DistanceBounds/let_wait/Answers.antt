@@ -4,24 +4,14 @@ use Rattle.std.proofs.lemmas.Grind.{get_or_default_zero}
 use Rattle.std.specs.HashMap.{get}
 use Rattle.std.specs.BinaryHeap.{heap_items}
 use Rattle.olr_spec.proofs.ListLemmas.{at_index}
-use Rattle.olr_near.specs.Bounds.{Waits, Numbers, bound_of, IsWaiting}
+use Rattle.olr_near.specs.Bounds.{Waits, Numbers, bound_of}
 use Rattle.olr_near.proofs.BoundLemmas.{WaitsAt}
 use Rattle.olr_search.proofs.HeapLemmas.{pushed_kept, pushed_there}
 use Rattle.olr_near.proofs.distance_bounds.DistanceBounds.let_wait.Goals.{in-Some+in_ok-push, in_default}
 use Rattle.olr_near.proofs.distance_bounds.DistanceBounds.let_wait.Goals as goal
 
 pub returns : goal.returns
-returns c =
-    let inv = c.loop-node.invariant in
-    record {
-      same = inv.same;
-      kept = inv.kept;
-      waits = λ v d on at.
-          let k = at_index c.args.nodes.now v on in
-          subst (λ (u : ℕ). IsWaiting c.loop-node.self d u) k.2
-          (inv.waits k.0 (omega arith) d (ap (bound_of c.args.self.now) k.2 ∙ at));
-      known = inv.known;
-    }
+returns c = grind (arith, at_index, bound_of)
 
 pub loop-node-preserved : goal.loop-node-preserved
 loop-node-preserved c =
