@@ -3,16 +3,12 @@ use Rattle.olr_refs.proofs.Common.{◌≡◌, ◌<◌, ◌≤◌, ◌+◌, ◌*�
 use Rattle.olr_refs.proofs.Common.{MatchOption, refl, sym, subst, arith, inl, inr, IsTrue, AllZip, nat_tests, Map}
 use Rattle.olr_refs.proofs.Common.{IsMap, Path, is_path, extended_path, Next, path_fault, Sees, Foot, CoverageQuery}
 use Rattle.olr_refs.proofs.Common.{QueriesOf, KnownQuery, IsKnownAt, Contains-here, Contains-cases, path_also}
-use Rattle.olr_refs.proofs.Common.{all_searched, Work, Queried, Notes, Asks, AsksOf, foot_queried, append-nil}
+use Rattle.olr_refs.proofs.Common.{all_searched, raised_count, SettledBy, Work, Queried, Notes, Asks, AsksOf}
+use Rattle.olr_refs.proofs.Common.{foot_queried, append-nil, nat_lt, option_to_list, filter-append, IsQuery, querying}
+use Rattle.olr_refs.proofs.Common.{IsReused, IsSearched, FoundFor, KnownOf, SearchedOf, Contains-later, Next-candidate}
+use Rattle.olr_refs.proofs.Common.{AsksAfter, Searched}
 use Rattle.std.proofs.Math.Nat.{mul-le-mul_right}
-use Rattle.std.specs.Prelude.{nat_lt}
-use Rattle.std.specs.Option.{option_to_list}
-use Rattle.std.proofs.lemmas.List.Elements.{filter-append}
-use Rattle.olr_spec.specs.Queries.{IsQuery, querying, IsReused, IsSearched, FoundFor, KnownOf, SearchedOf}
-use Rattle.olr_spec.proofs.ListLemmas.{Contains-later}
-use Rattle.olr_spec.proofs.AnswerLemmas.{Next-candidate}
 use Rattle.olr_spec.proofs.KnownLists.{found_append, found_here}
-use Rattle.olr_refs.specs.Reuse.{AsksAfter, Searched}
 use Rattle.olr_refs.proofs.Noting.{queried_none, queried_more, zip_append, Led, led_more, settled_most, notes_same}
 use Rattle.olr_refs.proofs.Noting.{notes_more, seen_one, seen_append, noted_none}
 use Rattle.olr_spec.proofs.TestedLemmas.{one_query}
@@ -54,7 +50,7 @@ module _ (M : Map) (ls : List ℕ) (lead own : ℕ) (given : List KnownQuery) wh
         own_queries = rw is (found_here (IsKnownAt M ls lead own) i [] e [] k refl);
         others = rw is (inl ((λ q x. x.1 (e, c, k)), refl));
         counts = queried_none M w;
-        notes = noted_none M [] s refl;
+        notes = noted_none M s;
       }
 
   own_here : (i : ℕ) (o : Option KnownQuery) →
@@ -187,6 +183,6 @@ searched_few M m P is sound given queries known a b s t asks all h =
 
 -- where nothing is given, all coverage queries are searched
 pub searched_all : (M : Map) → IsMap M → (P : Path) → IsTrue (is_path P.lines) → (given : List KnownQuery)
-    (queries : List CoverageQuery) (a b : Work) → given ≡ [] → QueriesOf M P queries → (r : Searched M P given a b) →
-    queries ≡ r.queries
+    (queries : List CoverageQuery) (a b : Work) → given ≡ [] → QueriesOf M P queries → Searched M P given a b →
+    (b.searches ≡ raised_count a.searches (length queries)) × SettledBy M queries a.settled b.settled
 searched_all M m P is given queries a b none o r = grind (arith, all_searched)

@@ -1,9 +1,7 @@
 -- The choice of the next LRP, from the last position that is covered and within the limit back to the first.
 use Rattle.olr_refs.proofs.Common.{◌≡◌, ◌<◌, ◌≤◌, ◌-◌, ℕ, Bool, true, false, List, length, sym, subst, arith, Option}
 use Rattle.olr_refs.proofs.Common.{Some, MatchOption, cases_lt, cases_order, Coord, Map, coord_at, passing, node_at}
-use Rattle.olr_refs.proofs.Common.{fit16, Candidate, Next, IsReach}
-use Rattle.std.specs.Option.{option_or}
-use Rattle.olr_spec.specs.Points.{ValidCandidate, Greatest}
+use Rattle.olr_refs.proofs.Common.{fit16, Candidate, Next, IsReach, option_or, ValidCandidate, Greatest}
 
 abbrev pub fit : Map → List ℕ → ℕ → ℕ → Bool
 fit M ls i j = fit16 (coord_at M (node_at M ls i)) (coord_at M (node_at M ls j))

@@ -1,14 +1,10 @@
 -- The ends of the lines of a list, appended to other nodes.
 use Rattle.olr_refs.proofs.Common.{◌⊎◌, inl, inr, ◌≡◌, ◌==◌, ℕ, ◌+◌, ◌<◌, ◌≤◌, List, [], ◌∷◌, ◌++◌, length, take}
 use Rattle.olr_refs.proofs.Common.{get_or, eqb, Contains, IsPermutation, subst, arith, eq-eqb, eqb-true, take_all}
-use Rattle.olr_refs.proofs.Common.{Contains-append_left, Map, start, end, has, NodeOf}
-use Rattle.std.proofs.Common.{◌↔◌, ◌||◌}
-use Rattle.std.specs.List.{dedup}
-use Rattle.std.proofs.lemmas.Bool.{or_cases, or_left, or_right}
-use Rattle.std.proofs.lemmas.List.Elements.{Contains-push, Contains-push_cases}
-use Rattle.std.proofs.lemmas.List.Folds.{list_any_more}
-use Rattle.std.proofs.lemmas.List.Kept.{Contains-dedup_nat, Contains-from_dedup}
-use Rattle.std.proofs.lemmas.List.Sorted.{IsPermutation-sym, Contains-permutation}
+use Rattle.olr_refs.proofs.Common.{Contains-append_left, Map, start, end, has, NodeOf, ◌||◌, dedup, or_cases, or_left}
+use Rattle.olr_refs.proofs.Common.{or_right, Contains-push, Contains-push_cases, list_any_more, Contains-dedup_nat}
+use Rattle.olr_refs.proofs.Common.{Contains-from_dedup, IsPermutation-sym, Contains-permutation}
+use Rattle.std.proofs.Common.{◌↔◌}
 
 -- one of the ends of line x
 abbrev pub EndOf : Map → ℕ → ℕ → Type 0

@@ -1,16 +1,10 @@
 -- The legs of joined lines, by the lines and their distances.
-use Rattle.olr_refs.proofs.Common.{arith, ◌≡◌, ◌<◌, ◌-◌, ℕ, List, length, take, drop, map, max, sym, ap, ◌∙◌, subst}
-use Rattle.olr_refs.proofs.Common.{get_or-map, take-map, slice_index, slice_range, IsTrue, Map, IsMap, has_line}
-use Rattle.olr_refs.proofs.Common.{has_node, coord_at, node_at, stretch, Attrs, attrs, leg, legs, leg_at, position}
-use Rattle.olr_refs.proofs.Common.{dm_between, Each, AreJoined, lowest_class, ResolvedLine, records_of}
-use Rattle.std.proofs.Common.{◌/◌}
-use Rattle.std.proofs.lemmas.List.{drop-map}
+use Rattle.olr_refs.proofs.Common.{arith, ◌≡◌, ◌<◌, ◌-◌, ℕ, List, length, take, drop, map, max, ap, ◌∙◌, get_or-map}
+use Rattle.olr_refs.proofs.Common.{take-map, slice_index, slice_range, IsTrue, Map, IsMap, has_line, has_node, coord_at}
+use Rattle.olr_refs.proofs.Common.{node_at, stretch, Attrs, attrs, leg, legs, leg_at, position, dm_between, Each}
+use Rattle.olr_refs.proofs.Common.{AreJoined, lowest_class, ResolvedLine, records_of, ◌/◌, drop-map, fold, Line}
+use Rattle.olr_refs.proofs.Common.{is_good, line_at, bearing_out, no_leg, position_is}
 use Rattle.std.proofs.lemmas.Simd.{map-map}
-use Rattle.std.specs.List.{fold}
-use Rattle.olr_spec.specs.Map.{Line, is_good, line_at}
-use Rattle.olr_spec.specs.Bearings.{bearing_out}
-use Rattle.olr_spec.specs.Reference.{no_leg}
-use Rattle.olr_spec.proofs.FieldLemmas.{position_is}
 use Rattle.olr_bearing.specs.declared.places.Ends.{Ends}
 use Rattle.olr_refs.proofs.Joined.{route_known}
 use Rattle.olr_bearing.specs.Legs as ends
@@ -38,9 +32,7 @@ leg_read M ls i l e h is from to = grind (arith, leg_at-legs)
 -- what is known of the record of a line of the map
 pub record_sound : (M : Map) → IsMap M → (x : ℕ) (l : Line) → IsTrue (has_line M x) → l ≡ line_at M x →
     IsTrue (is_good l) × IsTrue (has_node M l.from) × IsTrue (has_node M l.to)
-record_sound M m x l h e =
-    subst (λ (r : Line). IsTrue (is_good r) × IsTrue (has_node M r.from) × IsTrue (has_node M r.to)) (sym e)
-    (m.good x h, m.starts x h, m.ends x h)
+record_sound M m x l h e = grind (arith, is_good, has_node)
 
 -- ---- attributes
 

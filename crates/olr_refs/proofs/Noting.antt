@@ -5,20 +5,15 @@ use Rattle.olr_refs.proofs.Common.{◌⊎◌, IsTrue, ◌↔◌, AllZip, eqb-tru
 use Rattle.olr_refs.proofs.Common.{dm_of, limit, Path, is_path, Next, last_position, stretch, Sees, Foot, CoverageQuery}
 use Rattle.olr_refs.proofs.Common.{IsLastTested, QueriesOf, Contains-here, Contains-cases, Work, Along, Dijkstra}
 use Rattle.olr_refs.proofs.Common.{IsSearch, LiesWithin, limit_of, Queried, SeenBy, SettledBy, raised_count, Notes}
-use Rattle.olr_refs.proofs.Common.{foot_queried}
+use Rattle.olr_refs.proofs.Common.{foot_queried, all_searched, Contains-append_right, Contains-append_cases, Follow}
+use Rattle.olr_refs.proofs.Common.{NoNext, TraversedOf, SearchedOf, Contains-one, Counts, CountOf}
 use Rattle.std.proofs.Common.{append-nil}
 use Rattle.std.specs.Prelude.{MatchOption}
 use Rattle.std.specs.Cmp.{nat_eq_equiv}
-use Rattle.std.proofs.lemmas.List.Elements.{Contains-append_right, Contains-append_cases}
 use Rattle.std.proofs.lemmas.Map.Made.{length-le_from_is_member}
 use Rattle.std.proofs.lemmas.Map.Views.{Contains-from_any, list_any-from_Contains}
-use Rattle.olr_spec.specs.Points.{Follow, NoNext}
-use Rattle.olr_spec.specs.Queries.{TraversedOf}
-use Rattle.olr_spec.proofs.ListLemmas.{Contains-one}
 use Rattle.olr_search.specs.Counts.{saturated_count}
-use Rattle.olr_search.specs.Searches.{Counts}
 use Rattle.olr_search.proofs.SearchLemmas.{near_leads}
-use Rattle.olr_refs.specs.Choice.{CountOf}
 use Rattle.olr_refs.proofs.Stretches.{stretch_sum}
 use Rattle.olr_refs.proofs.Reaching.{empty_stretch}
 
@@ -146,9 +141,6 @@ notes_same P Q None None e n = tt
 notes_same P Q (Some f) (Some g) e n = λ v. let p = e v in let q = n v in grind arith
 notes_same P Q _ _ e n = absurd n
 
-pub notes_none : (P : ℕ → Type 0) (a : Option (List ℕ)) → ((v : ℕ) → P v → ⊥) → Notes P a a
-notes_none P v1 e = grind arith
-
 pub notes_more : (P Q R : ℕ → Type 0) (a b c : Option (List ℕ)) → ((v : ℕ) → R v ↔ (P v ⊎ Q v)) → Notes P a b →
     Notes Q b c → Notes R a c
 notes_more P Q R None None None e n m = tt
@@ -169,9 +161,6 @@ query_noted M place l q a b h there far n = notes_same _ _ a b (search_sees M pl
 
 -- ---- what the queries reach
 
-pub seen_none : (M : Map) (v : ℕ) → SeenBy M [] v → ⊥
-seen_none M v s = grind arith
-
 pub seen_one : (M : Map) (l : CoverageQuery) (v : ℕ) → Sees M l v ↔ SeenBy M (l ∷ []) v
 seen_one M l v = grind (arith, Contains-here, Contains-cases)
 
@@ -181,9 +170,8 @@ seen_append M ks ls v = (
   λ s. grind (arith, Contains-append_left, Contains-append_right),
 )
 
-pub noted_none : (M : Map) (queries : List CoverageQuery) (a : Option (List ℕ)) → queries ≡ [] →
-    Notes (SeenBy M queries) a a
-noted_none M queries a e = grind (arith, notes_none, seen_none)
+pub noted_none : (M : Map) (a : Option (List ℕ)) → Notes (SeenBy M []) a a
+noted_none M v1 = grind arith
 
 -- ---- the footprint
 
@@ -194,19 +182,17 @@ pub seen_added : (traversed new : List ℕ) (seen : Option (List ℕ)) (nodes : 
 seen_added traversed new seen nodes e f v = rw e (f v)
 
 -- of a path's traversed nodes and what its queries reach
-pub noted_foot : (M : Map) → IsMap M → (P : Path) → IsTrue (is_path P.lines) → (queries : List CoverageQuery) →
-    QueriesOf M P queries →
-    (traversed begun : List ℕ) (seen : Option (List ℕ)) (foot : List ℕ) →
-    ((v : ℕ) → Contains traversed v ↔ TraversedOf M P v)
-    → begun ≡ [] → Notes (SeenBy M queries) (Some begun) seen
-    → ((v : ℕ) → Contains foot v ↔ (Contains traversed v ⊎ MatchOption seen ⊥ (λ s. Contains s v))) → (v : ℕ) →
+pub noted_foot : (M : Map) → IsMap M → (P : Path) → IsTrue (is_path P.lines) → (queries searched : List CoverageQuery) →
+    QueriesOf M P queries → SearchedOf M P [] searched → (traversed begun : List ℕ) (seen : Option (List ℕ))
+    (foot : List ℕ) → ((v : ℕ) → Contains traversed v ↔ TraversedOf M P v) → begun ≡ [] →
+    Notes (SeenBy M searched) (Some begun) seen →
+    ((v : ℕ) → Contains foot v ↔ (Contains traversed v ⊎ MatchOption seen ⊥ (λ s. Contains s v))) → (v : ℕ) →
     Contains foot v ↔ Foot M P v
-noted_foot M m P is queries l traversed begun None foot o e n f v = absurd n
-noted_foot M m P is queries l traversed begun (Some seen) foot o e n f v =
-    let law = foot_queried M m P is queries l v in
+noted_foot M m P is queries searched l k traversed begun None foot o e n f v = absurd n
+noted_foot M m P is queries searched l k traversed begun (Some seen) foot o e n f v =
+    let law = rw (all_searched M m P is queries searched l k) at (foot_queried M m P is queries l v) in
     let x = o v in
     let y = n v in
     let z = f v in
-    let none : Contains begun v → ⊥ = λ c.
-    let never = c.1 in omega (arith, ap (λ (vs : List ℕ). length vs) e) in
+    let none : Contains begun v → ⊥ = λ c. grind arith in
     grind arith

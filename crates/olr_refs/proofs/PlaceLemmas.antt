@@ -1,10 +1,7 @@
 -- Coordinates and the steps between them.
 use Rattle.olr_refs.proofs.Common.{◌≡◌, ◌∙◌, ap, ℤ, arith, and_parts, to_z-of_z, IsTrue, Coord, relative, fit16}
-use Rattle.std.proofs.lemmas.Bool.{and_from}
-use Rattle.std.proofs.lemmas.Int.{ints}
+use Rattle.olr_refs.proofs.Common.{and_from, ints, Width, w64, is_coord, is_latitude, fits16}
 use mir.Val.{SFits, of_z, to_z}
-use mir.Syntax.{Width, w64}
-use Rattle.olr_spec.specs.Coordinates.{is_coord, is_latitude, fits16}
 use Rattle.olr_spec.proofs.SectorLemmas.{le_yes, le_test}
 use Rattle.olr_coords.specs.Bounds.{is_degrees}
 

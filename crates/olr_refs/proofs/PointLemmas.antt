@@ -1,10 +1,9 @@
 -- The LRPs of a reference, as they are read.
 use Rattle.olr_refs.proofs.Common.{◌≡◌, ◌<◌, ◌≤◌, ◌-◌, ◌+◌, ℕ, zero, suc, ℤ, Option, List, [], ◌∷◌, ◌++◌, length, take}
 use Rattle.olr_refs.proofs.Common.{refl, arith, slice_index, Coord, abs24, relative, Map, Attrs, Middle, Reference}
-use Rattle.olr_refs.proofs.Common.{attrs, dm_between, reference_by, legs, leg_at, position, middle_points_of}
-use Rattle.olr_spec.specs.Bearings.{Leg, bearing_back}
-use Rattle.olr_spec.specs.Reference.{First, Last, offset, last_two, first_point, middle_point, middle_points}
-use Rattle.olr_spec.specs.Reference.{last_point}
+use Rattle.olr_refs.proofs.Common.{attrs, dm_between, reference_by, legs, leg_at, position, middle_points_of, Leg}
+use Rattle.olr_refs.proofs.Common.{bearing_back, First, Last, offset, last_two, first_point, middle_point}
+use Rattle.olr_refs.proofs.Common.{middle_points, last_point}
 
 pub first_read : (gs : List Leg) (i j : ℕ) (lon lat : ℤ) (a : Attrs) → lon ≡ abs24 (position gs i).lon →
     lat ≡ abs24 (position gs i).lat → a ≡ attrs gs i j

@@ -3,12 +3,8 @@ use Rattle.olr_refs.proofs.Common.{cases_lt, ◌≡◌, ◌<◌, ◌≤◌, ◌-
 use Rattle.olr_refs.proofs.Common.{take, drop, ap, ◌∙◌, arith, inl, inr, cases_order, IsTrue, ◌↔◌, slice_index, Map}
 use Rattle.olr_refs.proofs.Common.{IsMap, start, end, dm, IsRoute, dm_of, limit, AreJoined, stretch, Covered}
 use Rattle.olr_refs.proofs.Common.{IsLastTested, dm_of-append, stretch_parts, Along, Dijkstra, IsSearch, limit_of}
-use Rattle.olr_refs.proofs.Common.{IsFar, IsReach}
+use Rattle.olr_refs.proofs.Common.{IsFar, IsReach, UniqueShortest, Needed, empty_unique, prefix_of_unique, stretch_last}
 use Rattle.olr_refs.proofs.Stretches.{stretch_sum}
-use Rattle.olr_spec.specs.Routes.{UniqueShortest}
-use Rattle.olr_spec.specs.Queries.{Needed}
-use Rattle.olr_spec.proofs.RouteLemmas.{empty_unique, prefix_of_unique}
-use Rattle.olr_spec.proofs.JoinLemmas.{stretch_last}
 use Rattle.olr_spec.proofs.WayLemmas.{next_start, way_between}
 
 -- the lines after line i, up to line k, are the unique shortest path

@@ -2,21 +2,15 @@
 use Rattle.olr_refs.proofs.Common.{◌≡◌, ◌<◌, ◌+◌, ℕ, List, [], ◌∷◌, length, Option, Some, None, MatchOption, Contains}
 use Rattle.olr_refs.proofs.Common.{ap, ◌∙◌, arith, inl, inr, eq-eqb, and_parts, leb-true, IsTrue, IfOk, Map, IsMap}
 use Rattle.olr_refs.proofs.Common.{dm_of, Path, is_path, extended_path, AreJoined, last_position, Reference, legs}
-use Rattle.olr_refs.proofs.Common.{reference, first_unknown, first_break, path_fault, CoverageQuery, QueriesOf}
-use Rattle.olr_refs.proofs.Common.{KnownQuery, path_nonempty, all_first, all_last, path_also, Reuses, Asks, AsksOf}
-use Rattle.olr_refs.proofs.Common.{Work, Extends, later, joined, answer_of}
+use Rattle.olr_refs.proofs.Common.{reference, path_fault, CoverageQuery, QueriesOf, KnownQuery, path_nonempty}
+use Rattle.olr_refs.proofs.Common.{all_first, all_last, path_also, Reuses, Asks, AsksOf, Work, Extends, later, joined}
+use Rattle.olr_refs.proofs.Common.{answer_of, OnOk, Tried, OfPath, answer_by_points, Encoding, Encodes, Traversed}
+use Rattle.olr_refs.proofs.Common.{TraversedOfExtended, QueriesOfExtended, AreKnown, sound_lines, one_tried}
+use Rattle.olr_refs.proofs.Common.{extended_sound, ForPoints, searches_of}
 use Rattle.std.proofs.Common.{◌↔◌}
-use Rattle.std.specs.Prelude.{Result, OnOk}
-use Rattle.olr_spec.specs.Extension.{Tried}
-use Rattle.olr_spec.specs.Points.{OfPath}
-use Rattle.olr_spec.specs.Encoding.{answer_by_points, Encoding, Encodes}
-use Rattle.olr_spec.specs.Queries.{Traversed, TraversedOfExtended, QueriesOfExtended, AreKnown}
-use Rattle.olr_spec.proofs.AnswerLemmas.{sound_lines}
-use Rattle.olr_spec.proofs.RunLemmas.{one_tried}
-use Rattle.olr_spec.proofs.FitLemmas.{extended_sound}
+use Rattle.std.specs.Prelude.{Result}
 use Rattle.olr_answers.specs.declared.answer.Answer.{Answer}
 use Rattle.olr_answers.specs.declared.answer.Answer.TheVariants.{Points, Refused}
-use Rattle.olr_refs.specs.Choice.{ForPoints, searches_of}
 use Rattle.std.proofs.lemmas.Slice.Zip.{AllZip-long}
 use Rattle.std.proofs.lemmas.List.Sums.{length-filter}
 use Rattle.olr_refs.specs.Referring.{JoinsOf, SearchesOf}

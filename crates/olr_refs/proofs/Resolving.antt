@@ -1,5 +1,5 @@
 -- Lines of a path as a map has them.
-use Rattle.olr_refs.proofs.Common.{◌≡◌, ◌<◌, ℕ, List, [], ◌∷◌, ◌++◌, length, get_or, refl, sym, ap, ◌∙◌, subst}
+use Rattle.olr_refs.proofs.Common.{arith, ◌≡◌, ◌<◌, ℕ, List, [], ◌∷◌, ◌++◌, length, get_or, refl, sym, ap, ◌∙◌, subst}
 use Rattle.olr_refs.proofs.Common.{get_or-map, length-map, map-append, slice_index, Map, ResolvedLine, record_of}
 use Rattle.olr_refs.proofs.Common.{records_of, ids, AreRecords}
 
@@ -28,6 +28,4 @@ pub are_records : (M : Map) (ls : List ℕ) (rs : List ResolvedLine) → rs ≡ 
 are_records M ls rs e = e ∙ ap (records_of M) (sym (ids_are M ls rs e))
 
 pub records_append : (M : Map) (rs ss : List ResolvedLine) → AreRecords M rs → AreRecords M ss → AreRecords M (rs ++ ss)
-records_append M rs ss r s =
-    (λ i. r i ++ s i) ∙ sym (map-append (record_of M) (ids rs) (ids ss))
-    ∙ ap (records_of M) (sym (map-append (λ (t : ResolvedLine). t.id) rs ss))
+records_append M rs ss r s = grind (arith, map-append, record_of, ids, records_of)

@@ -3,19 +3,12 @@ use Rattle.olr_refs.proofs.Common.{cases_lt, ◌≡◌, ◌<◌, ◌≤◌, ◌-
 use Rattle.olr_refs.proofs.Common.{get_or, Result, Some, None, Contains, refl, sym, ap, ◌∙◌, subst, arith, inl, inr}
 use Rattle.olr_refs.proofs.Common.{cases_order, nat_tests, get_or-map, get_or_default, length-map, IsTrue, ◌↔◌}
 use Rattle.olr_refs.proofs.Common.{IsStrictlyIncreasing, IsBinarySearchResult, nat_cmp, Map, AreJoined, Covered}
-use Rattle.olr_refs.proofs.Common.{KnownQuery, IsKnownAt, IsLastTested, IsFar, IsReach, Reuses}
-use Rattle.std.proofs.Common.{Ok, Err}
+use Rattle.olr_refs.proofs.Common.{KnownQuery, IsKnownAt, IsLastTested, IsFar, IsReach, Reuses, Ok, Err, All-contains}
+use Rattle.olr_refs.proofs.Common.{below_from_sorted, sorted_from_strictly_increasing, if◌then◌else◌, IsNonDecreasingBy}
+use Rattle.olr_refs.proofs.Common.{IsSearchInRange, ordering_index, IsKnown, query_to, lines_with, covered_unique}
+use Rattle.olr_refs.proofs.Common.{query_known, before_known, covered_known, one_last_tested, known_reach}
 use Rattle.std.specs.Result.{result_ok}
 use Rattle.std.proofs.lemmas.Cmp.{ranked}
-use Rattle.std.proofs.lemmas.List.Elements.{All-contains}
-use Rattle.std.proofs.lemmas.Map.Keys.{below_from_sorted, sorted_from_strictly_increasing}
-use Rattle.std.specs.Prelude.{if◌then◌else◌}
-use Rattle.std.specs.List.Sorted.{IsNonDecreasingBy, IsSearchInRange}
-use Rattle.std.specs.Ordering.{ordering_index}
-use Rattle.olr_spec.specs.Queries.{IsKnown, query_to}
-use Rattle.olr_spec.proofs.KnownLemmas.{lines_with, covered_unique, query_known, before_known, covered_known}
-use Rattle.olr_spec.proofs.TestedLemmas.{one_last_tested}
-use Rattle.olr_refs.specs.Reuse.{known_reach}
 use Rattle.olr_refs.proofs.Reaching.{UniqueTo, all_covered, covered_so_far, needed_most, needed_far}
 use Rattle.olr_refs.proofs.Stretches.{stretch_sum}
 

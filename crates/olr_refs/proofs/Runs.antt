@@ -5,21 +5,15 @@ use Rattle.olr_refs.proofs.Common.{◌++◌, length, map, reverse, Option, Some,
 use Rattle.olr_refs.proofs.Common.{subst, arith, append_assoc, both_ways, map-append, reverse-append}
 use Rattle.olr_refs.proofs.Common.{list_any-IsPermutation, Map, has_line, dm, has, dm_of, last, limit, dm_of-append}
 use Rattle.olr_refs.proofs.Common.{far_end, Along, Against, ResolvedLine, record_of, records_of, ids, AreRecords}
-use Rattle.olr_refs.proofs.Common.{LiesBeyond, IsRun}
-use Rattle.olr_spec.proofs.RunLemmas.{same_start_run, same_end_run, last_push}
-use Rattle.std.proofs.lemmas.List.{reverse-reverse}
-use Rattle.std.proofs.Common.{◌≢◌, is_some, IsTrue, append-nil}
-use Rattle.std.specs.Prelude.{⊤}
-use Rattle.std.proofs.lemmas.Bool.{ne_eqb, or_from, or_parts}
-use Rattle.std.proofs.lemmas.List.Folds.{list_any-append}
-use Rattle.std.proofs.lemmas.List.Sorted.{IsPermutation-reverse}
-use Rattle.olr_spec.specs.Extension.{MayPrecede, MayFollow, StartRun, EndRun}
+use Rattle.olr_refs.proofs.Common.{LiesBeyond, IsRun, same_start_run, same_end_run, last_push, reverse-reverse, ◌≢◌}
+use Rattle.olr_refs.proofs.Common.{is_some, ⊤, ne_eqb, or_from, or_parts, list_any-append, IsPermutation-reverse}
+use Rattle.olr_refs.proofs.Common.{MayPrecede, MayFollow, StartRun, EndRun, has_here, has_first, has_last, near_end}
+use Rattle.olr_refs.proofs.Common.{outermost, in_order, LeadsOn, IsLongest}
+use Rattle.std.proofs.Common.{IsTrue, append-nil}
 use Rattle.olr_spec.proofs.RunMoves.{EndRun-push}
 use Rattle.olr_spec.proofs.DecideLemmas.{last_of_list}
-use Rattle.olr_spec.proofs.ListLemmas.{has_here, has_first, has_last}
-use Rattle.olr_search.specs.Distances.{near_end}
 use Rattle.olr_search.specs.declared.distances.Direction.{Direction}
-use Rattle.olr_refs.specs.Runs.{outermost, joined, in_order, LeadsOn, IsLongest}
+use Rattle.olr_refs.specs.Runs.{joined}
 
 -- ---- the line beyond a line
 
@@ -122,9 +116,7 @@ ids-in_order : (d : Direction) (rs : List ResolvedLine) → ids (in_order d rs) 
 ids-in_order v0 rs = grind (arith, map-reverse)
 
 records-in_order : (M : Map) (d : Direction) (rs : List ResolvedLine) → AreRecords M rs → AreRecords M (in_order d rs)
-records-in_order M Along rs are =
-    ap (λ (ss : List ResolvedLine). reverse ss) are ∙ sym (map-reverse (record_of M) (ids rs))
-    ∙ ap (records_of M) (sym (ids-in_order Along rs))
+records-in_order M Along rs are = grind (arith, are, map-reverse, record_of, ids, records_of, ids-in_order)
 records-in_order M Against rs are = are
 
 order_none : (d : Direction) → ◌≡◌ {A = List ResolvedLine} (in_order d []) []

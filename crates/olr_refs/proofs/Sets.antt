@@ -1,9 +1,6 @@
 -- A sorted list as a set.
 use Rattle.olr_refs.proofs.Common.{◌≡◌, ℕ, ◌==◌, List, Result, IsPermutation, sym, IsBinarySearchResult, nat_cmp}
-use Rattle.olr_refs.proofs.Common.{list_any-IsPermutation, has}
-use Rattle.std.proofs.Common.{is_ok}
-use Rattle.std.specs.List.Sorted.{IsNonDecreasing}
-use Rattle.std.proofs.lemmas.List.Sorted.{searched}
+use Rattle.olr_refs.proofs.Common.{list_any-IsPermutation, has, is_ok, IsNonDecreasing, searched}
 use Rattle.olr_spec.proofs.AscendingLists.{place_has}
 
 pub found : (xs : List ℕ) (x : ℕ) (r : Result ℕ ℕ) → IsNonDecreasing xs → IsBinarySearchResult (λ y. nat_cmp y x) xs r →

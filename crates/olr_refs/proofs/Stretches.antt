@@ -1,8 +1,7 @@
 -- Legs of joined lines: they are routes, and one leg begins where another ends.
 use Rattle.olr_refs.proofs.Common.{◌≡◌, ◌<◌, ◌≤◌, ◌-◌, ◌+◌, ℕ, List, ◌++◌, length, take, sym, ap, ◌∙◌, arith}
 use Rattle.olr_refs.proofs.Common.{slice_index, Map, dm_of, stretch, dm_of-append, stretch_parts, AreDistances, IsFar}
-use Rattle.olr_refs.specs.Along.{IsLastWithinLimit}
-use Rattle.std.proofs.Math.Seq.{take-add}
+use Rattle.olr_refs.proofs.Common.{IsLastWithinLimit, take-add}
 
 -- ---- lengths
 

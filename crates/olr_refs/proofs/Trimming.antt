@@ -3,18 +3,12 @@ use Rattle.olr_refs.proofs.Common.{common_steps, inl, inr, ◌≡◌, ◌<◌, �
 use Rattle.olr_refs.proofs.Common.{cond, List, [], ◌∷◌, length, take, drop, refl, sym, ap, ◌∙◌, subst, arith, cases_lt}
 use Rattle.olr_refs.proofs.Common.{cases_eq, le-leb, nat_tests, take-map, take_all, slice_index, slice_range, Map}
 use Rattle.olr_refs.proofs.Common.{dm_of, Candidate, last_position, leg, legs, dm_between, reference, reference_by}
-use Rattle.olr_refs.proofs.Common.{AreDistances, later, distance_at, whole_distance}
-use Rattle.std.proofs.Common.{nat_le, length-take, length-drop}
-use Rattle.std.proofs.lemmas.Bool.{lt-leb}
-use Rattle.std.proofs.lemmas.List.{get_or-take, get_or-drop}
-use Rattle.std.proofs.lemmas.List.Kept.{AllPairs-from_increasing}
-use Rattle.std.specs.List.{filter}
-use Rattle.olr_spec.specs.Reference.{dm_along, from_front, to_back, last_where, first_where, first_kept, last_kept}
-use Rattle.olr_spec.specs.Reference.{kept_points}
-use Rattle.olr_spec.proofs.JoinLemmas.{Linked, follow_linked, between, kept_linked}
-use Rattle.olr_spec.proofs.FieldLemmas.{from_front-add}
+use Rattle.olr_refs.proofs.Common.{AreDistances, later, distance_at, whole_distance, nat_le, length-take, length-drop}
+use Rattle.olr_refs.proofs.Common.{lt-leb, get_or-take, get_or-drop, AllPairs-from_increasing, filter, dm_along}
+use Rattle.olr_refs.proofs.Common.{from_front, to_back, last_where, first_where, first_kept, last_kept, kept_points}
+use Rattle.olr_refs.proofs.Common.{Linked, follow_linked, between, kept_linked, from_front-add, AreAlong, ArePoints}
+use Rattle.olr_refs.proofs.Common.{AreLinked, AreTrimmed, IsFirstKept, IsLastKept}
 use Rattle.olr_spec.proofs.KeptLemmas.{dm_along-legs, whole}
-use Rattle.olr_refs.specs.KeptPoints.{AreAlong, ArePoints, AreLinked, AreTrimmed, IsFirstKept, IsLastKept}
 use Rattle.olr_refs.proofs.Stretches.{distances_rise}
 
 -- ---- the LRPs
@@ -90,6 +84,15 @@ first_where_at p d (x ∷ xs) (suc a) h t f =
 
 -- ---- the remaining LRPs
 
+-- the remaining LRPs, and the remainders of the offsets, give the reference
+pub record IsCut (M : Map) (ls ds ps : List ℕ) (positive negative : ℕ) (ks : List ℕ) (pos_left neg_left : ℕ) : Type
+    0 where
+  pub two : 2 ≤ length ks
+  pub linked : AreLinked M ls ks
+  pub pos_within : pos_left < dm_between (legs M ls) (slice_index ks 0) (slice_index ks 1)
+  pub neg_within : neg_left < dm_between (legs M ls) (slice_index ks (length ks - 1 - 1)) (slice_index ks (length ks - 1))
+  pub value : reference_by (legs M ls) pos_left neg_left ks ≡ reference (legs M ls) positive negative (later ps)
+
 module _ (M : Map) (ls ds ps : List ℕ) (d : AreDistances M ls ds) (p : ArePoints M ls ps) where
   linked : AreLinked M ls ps
   linked =
@@ -160,78 +163,45 @@ module _ (M : Map) (ls ds ps : List ℕ) (d : AreDistances M ls ds) (p : ArePoin
       (λ k ge lt. grind (arith, nat_tests, not_above a k, not_above k b))
       (λ k ge lt. grind (arith, nat_tests, linked_less M ls ps linked b k))
 
--- the remaining LRPs, and the remainders of the offsets, give the reference
-pub record IsCut (M : Map) (ls ds ps : List ℕ) (positive negative : ℕ) (ks : List ℕ) (pos_left neg_left : ℕ) : Type
-    0 where
-  pub two : 2 ≤ length ks
-  pub linked : AreLinked M ls ks
-  pub pos_within : pos_left < dm_between (legs M ls) (slice_index ks 0) (slice_index ks 1)
-  pub neg_within : neg_left < dm_between (legs M ls) (slice_index ks (length ks - 1 - 1)) (slice_index ks (length ks - 1))
-  pub value : reference_by (legs M ls) pos_left neg_left ks ≡ reference (legs M ls) positive negative (later ps)
+  -- the length of a leg, by the distances of its ends
+  leg_is : (i j : ℕ) → Candidate M ls i j → slice_index ds j ≡ slice_index ds i + dm_between (legs M ls) i j
+  leg_is i j c = grind (arith, upto, front, from_front-add, legs)
 
-pub trimmed : (M : Map) (ls ds ps : List ℕ) (positive negative : ℕ) (ks : List ℕ) (pos_left neg_left : ℕ) →
-    AreDistances M ls ds → ArePoints M ls ps → AreTrimmed ds ps positive negative ks pos_left neg_left →
-    positive + negative < dm_of M ls
-    → IsCut M ls ds ps positive negative ks pos_left neg_left
-trimmed M ls ds ps positive negative ks pos_left neg_left d p r less =
-    let a = r.first in
-    let b = r.last in
-    let f = r.is_first in
-    let l = r.is_last in
-    let total = whole_is M ls ds ps d p in
-    let two : a < b =
-    elim (cases_lt a b) [
-      | inl lt ↦ lt
-      | inr ge ↦ absurd (omega (arith, ascend M ls ds ps d p b a ge f.within, f.near, l.near))
-    ] in
-    let first = first_is M ls ds ps d p positive a f in
-    let last = last_is M ls ds ps d p negative b l in
-    let within = l.within in
-    let long : length ks ≡ b + 1 - a =
-    ap length r.range ∙ omega (arith, length-take (b + 1 - a) (drop a ps), length-drop a ps) in
-    let at : (k n : ℕ) → a + k ≡ n → n ≤ b → distance_at ds ks k ≡ distance_at ds ps n = λ k n e h.
-    ap (slice_index ds) (ap (λ (qs : List ℕ). slice_index qs k) r.range
-    ∙ get_or-take (b + 1 - a) (drop a ps) k 0 (omega arith) ∙ get_or-drop a ps k 0 ∙ ap (slice_index ps) e) in
-    let kept_is : ks ≡ kept_points (legs M ls) positive negative (later ps) =
-    r.range ∙ sym (range_is M ls ds ps d p a b (omega arith) within)
-    ∙ (λ i. filter (between (first i) (last i)) (p.from_start i)) in
-    let pos_is : pos_left ≡ positive - from_front (legs M ls) (first_kept (legs M ls) positive (later ps)) =
-    rw (← first, front M ls ds ps d p _ (upto M ls ds ps d p a f.within)) (omega (arith, r.pos_cut)) in
-    let neg_is : neg_left ≡ negative - to_back (legs M ls) (last_kept (legs M ls) negative (later ps)) =
-    rw (← last) (omega (arith, r.neg_cut, back M ls ds ps d p _ (upto M ls ds ps d p b within))) in
-    let linked : AreLinked M ls ks =
-    rw kept_is (linked_at M ls _
-    (kept_linked M ls (first_kept (legs M ls) positive (later ps)) (last_kept (legs M ls) negative (later ps))
-    (0 ∷ later ps) (follow_linked M ls 0 (later ps) p.follow))) in
-    -- the length of a leg, by the distances of its ends
-    let leg_is : (i j : ℕ) → Candidate M ls i j → slice_index ds j ≡ slice_index ds i + dm_between (legs M ls) i j =
-    λ i j c.
-    let after = c.after in
-    let upto = c.upto in
-    omega (
-      arith,
-      front M ls ds ps d p i (omega arith),
-      front M ls ds ps d p j upto,
-      from_front-add (legs M ls) i j (omega arith),
-    ) in
-    record {
-      two = omega arith;
-      linked = linked;
-      pos_within = omega (
-        arith,
-        f.next (omega arith),
-        r.pos_cut,
-        leg_is _ _ (linked 0 (omega arith)),
-        at 0 a (omega arith) (omega arith),
-        at 1 (a + 1) refl (omega arith),
-      );
-      neg_within = omega (
-        arith,
-        l.before (omega arith),
-        r.neg_cut,
-        leg_is _ _ (linked_end M ls ks linked (omega arith)),
-        at (length ks - 1) b (omega arith) (omega arith),
-        at (length ks - 1 - 1) (b - 1) (omega arith) (omega arith),
-      );
-      value = λ i. reference_by (legs M ls) (pos_is i) (neg_is i) (kept_is i);
-    }
+  pub trimmed : (positive negative : ℕ) (ks : List ℕ) (pos_left neg_left : ℕ) →
+      AreTrimmed ds ps positive negative ks pos_left neg_left → positive + negative < dm_of M ls →
+      IsCut M ls ds ps positive negative ks pos_left neg_left
+  trimmed positive negative ks pos_left neg_left r less =
+      let a = r.first in
+      let b = r.last in
+      let f = r.is_first in
+      let l = r.is_last in
+      let total = whole_is in
+      let within = l.within in
+      let two : a < b = elim (cases_lt a b) [ inl lt ↦ lt | inr ge ↦ absurd (omega (arith, ascend b a ge f.within)) ] in
+      let first = first_is positive a f in
+      let last = last_is negative b l in
+      let long : length ks ≡ b + 1 - a =
+      ap length r.range ∙ omega (arith, length-take (b + 1 - a) (drop a ps), length-drop a ps) in
+      let at : (k n : ℕ) → a + k ≡ n → n ≤ b → distance_at ds ks k ≡ distance_at ds ps n = λ k n e h.
+      ap (slice_index ds) (ap (λ (qs : List ℕ). slice_index qs k) r.range
+      ∙ get_or-take (b + 1 - a) (drop a ps) k 0 (omega arith) ∙ get_or-drop a ps k 0 ∙ ap (slice_index ps) e) in
+      let kept_is : ks ≡ kept_points (legs M ls) positive negative (later ps) =
+      r.range ∙ sym (range_is a b (omega arith) within) ∙ (λ i. filter (between (first i) (last i)) (p.from_start i)) in
+      let pos_is : pos_left ≡ positive - from_front (legs M ls) (first_kept (legs M ls) positive (later ps)) =
+      rw (← first, front _ (upto a f.within)) (omega (arith, r.pos_cut)) in
+      let neg_is : neg_left ≡ negative - to_back (legs M ls) (last_kept (legs M ls) negative (later ps)) =
+      rw (← last) (omega (arith, r.neg_cut, back _ (upto b within))) in
+      let linked : AreLinked M ls ks = rw kept_is (linked_at M ls _ (kept_linked M ls (first_kept (legs M ls) positive (later ps))
+      (last_kept (legs M ls) negative (later ps)) (0 ∷ later ps) (follow_linked M ls 0 (later ps) p.follow))) in
+      let next = f.next (omega arith) in
+      let before = l.before (omega arith) in
+      let first_leg = leg_is _ _ (linked 0 (omega arith)) in
+      let last_leg = leg_is _ _ (linked_end M ls ks linked (omega arith)) in
+      let last_at = at (length ks - 1) b (omega arith) (omega arith) in
+      record {
+        two = omega arith;
+        linked = linked;
+        pos_within = omega (arith, r.pos_cut, at 0 a (omega arith) (omega arith), at 1 (a + 1) refl (omega arith));
+        neg_within = omega (arith, r.neg_cut, at (length ks - 1 - 1) (b - 1) (omega arith) (omega arith));
+        value = λ i. reference_by (legs M ls) (pos_is i) (neg_is i) (kept_is i);
+      }

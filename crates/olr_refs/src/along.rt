@@ -34,6 +34,7 @@ pub struct ResolvedPath<'a, M: MapRead> {
 
 impl<M: MapRead> ResolvedPath<'_, M> {
     /// The record of line `k`.
+    #[tactic(auto, using(crate::proofs::Joined::known_get))]
     pub(crate) fn line(&self, k: usize) -> &Line
         requires { k < length self.now.lines.now }
         ensures value { result.now ≡ line_at (M.map self.now.map.now) (slice_index self.now.lines.now k) }
@@ -45,6 +46,7 @@ impl<M: MapRead> ResolvedPath<'_, M> {
     }
 
     /// The node at position `k`.
+    #[tactic(auto, using(crate::proofs::Resolving::records_length, olr_spec::proofs::ListLemmas::last_index))]
     pub(crate) fn node(&self, k: usize) -> NodeId
         requires some { 0 < length self.now.lines.now }
         requires within { k ≤ length self.now.lines.now }

@@ -67,6 +67,7 @@ fn note_settled(
 /// How far the positions after `i` are covered and near enough, where two lines or more follow line `i`, and how far
 /// that was tested; and the query for that, by one search, which settles the nodes that the query reaches. These are
 /// noted where any are. Positions up to `far` are near enough.
+#[tactic(auto, using(crate::proofs::Noting::query_short))]
 fn search_after<M: MapRead>(
     alloc: Global,
     resolved: &ResolvedPath<M>,
@@ -102,6 +103,7 @@ fn search_after<M: MapRead>(
 /// How far the positions after `i` are covered and near enough, where two lines or more follow line `i`; the query for
 /// that; and this as a query along the path's own lines, where it is one. It is searched where it isn't known, and then
 /// what it sees is noted where anything is.
+#[tactic(auto, using(crate::proofs::Asking::asks_known))]
 fn query_after<M: MapRead>(
     alloc: Global,
     resolved: &ResolvedPath<M>,

@@ -143,7 +143,7 @@ pub fn encode_noting<M: MapRead>(
 }
 
 /// The encoding of a path for which none of reasons 1 to 3 holds.
-#[tactic(auto, using(crate::proofs::Referring::whole_joined, crate::proofs::Referring::whole_short, crate::proofs::Referring::whole_reuses, crate::proofs::Referring::asks_of))]
+#[tactic(auto, using(crate::proofs::Referring::whole_joined, crate::proofs::Referring::whole_short, crate::proofs::Referring::whole_reuses, crate::proofs::Referring::asks_of, crate::proofs::Referring::encoding_of))]
 fn encode_whole<M: MapRead>(
     alloc: Global,
     map: &M,

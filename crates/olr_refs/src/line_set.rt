@@ -27,6 +27,7 @@ impl Model for LineSet {
 
 impl LineSet {
     /// The lines of this list.
+    #[tactic(auto, using(crate::proofs::Sets::same_members))]
     pub(crate) fn of(alloc: Global, records: &[ResolvedLine]) -> Result<LineSet, AllocError>
         ensures { IfOk result (λ set. (x : ℕ) → has set x ≡ has (ids records.now) x) }
     {

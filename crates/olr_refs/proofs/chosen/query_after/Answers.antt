@@ -1,9 +1,6 @@
-use Rattle.olr_refs.proofs.Common.{refl, arith}
-use Rattle.olr_refs.proofs.Asking.{asks_known, asks_searched}
+use Rattle.olr_refs.proofs.Common.{refl}
+use Rattle.olr_refs.proofs.Asking.{asks_searched}
 use Rattle.olr_refs.proofs.chosen.query_after.Goals as goal
-
-pub returns-in-Some-clause-asks : goal.returns-in-Some-clause-asks
-returns-in-Some-clause-asks g c = grind (arith, asks_known)
 
 pub returns-in_ok-tested-in-None-clause-asks : goal.returns-in_ok-tested-in-None-clause-asks
 returns-in_ok-tested-in-None-clause-asks g c =

@@ -1,10 +1,7 @@
 use Rattle.olr_refs.proofs.Common.{[], ◌∷◌, refl, sym, ◌∙◌, arith, CoverageQuery, Along, IsSearch}
-use Rattle.olr_refs.proofs.Noting.{query_short, one_query, query_noted}
+use Rattle.olr_refs.proofs.Noting.{one_query, query_noted}
 use Rattle.olr_refs.proofs.chosen.search_after.Given.{Over}
 use Rattle.olr_refs.proofs.chosen.search_after.Goals as goal
-
-pub overflow_cast-query : goal.overflow_cast-query
-overflow_cast-query g c = grind (arith, query_short)
 
 pub note_settled-requires : goal.note_settled-requires
 note_settled-requires g c = (_, _, _, _, c.in_ok-tested.ensures.search)

@@ -2,11 +2,8 @@ use Rattle.olr_refs.proofs.Common.{arith}
 use Rattle.olr_refs.proofs.Referring.{encoding_of, joins_of, traversed_of}
 use Rattle.olr_refs.proofs.encoding.encode_whole.Goals as goal
 
-pub returns-clause-answer : goal.returns-clause-answer
-returns-clause-answer g c = grind (arith, encoding_of)
-
 pub returns-clause-joins : goal.returns-clause-joins
-returns-clause-joins g c = grind (arith, joins_of, returns-clause-answer)
+returns-clause-joins g c = grind (arith, encoding_of, joins_of)
 
 pub returns-clause-traversed : goal.returns-clause-traversed
 returns-clause-traversed g c =

@@ -1,7 +1,5 @@
-use Rattle.olr_refs.proofs.Common.{◌⊎◌, ℕ, List, NodeOf}
+use Rattle.olr_refs.proofs.Common.{◌⊎◌, ℕ, List, NodeOf, IsStrictlyIncreasing-dedup, on_ok_weaker}
 use Rattle.std.proofs.lemmas.List.Filters.{dedup_is}
-use Rattle.std.proofs.lemmas.Map.Keys.{IsStrictlyIncreasing-dedup}
-use Rattle.std.proofs.lemmas.Result.{on_ok_weaker}
 use Rattle.olr_refs.proofs.Ends.{same_once, three_lists, grown_by}
 use Rattle.olr_refs.proofs.extension.note_ends.Goals as goal
 

@@ -1,5 +1,4 @@
-use Rattle.olr_refs.proofs.Common.{rules, ap, ◌∙◌, Coord, abs24, legs}
-use mir.Syntax.{w32}
+use Rattle.olr_refs.proofs.Common.{rules, ap, ◌∙◌, Coord, abs24, legs, w32}
 use Rattle.olr_refs.proofs.PlaceLemmas.{stored}
 use Rattle.olr_refs.proofs.PointLemmas.{first_read}
 use Rattle.olr_refs.proofs.fields.first_point.Goals as goal

@@ -1,6 +1,5 @@
-use Rattle.olr_refs.proofs.Common.{◌≡◌, sym, subst, IsReference, Reference, later}
+use Rattle.olr_refs.proofs.Common.{◌≡◌, sym, subst, IsReference, Reference, later, reference_fits}
 use Rattle.std.proofs.Common.{IfOk}
-use Rattle.olr_spec.proofs.FitLemmas.{reference_fits}
 use Rattle.olr_refs.proofs.LegLemmas.{joined_known}
 use Rattle.olr_refs.proofs.Trimming.{some_lines, points_along, trimmed}
 use Rattle.olr_refs.proofs.reference.reference_of.Goals as goal
@@ -17,8 +16,8 @@ reference_by-requires g c =
     let ls = c.args.resolved.now.lines.now in
     let p = c.requires.points in
     let cut =
-    trimmed M ls c.args.resolved.now.distances.now c.args.points.now c.args.pos c.args.neg _ _ _
-    c.args.resolved.now.measured p c.trim-trimmed.ensures c.requires.long in
+    trimmed M ls c.args.resolved.now.distances.now c.args.points.now c.args.resolved.now.measured p c.args.pos c.args.neg
+    _ _ _ c.trim-trimmed.ensures c.requires.long in
     record {
       linked = cut.linked;
       two = cut.two;
@@ -33,7 +32,6 @@ pub returns : goal.returns
 returns g c =
     let cut =
     trimmed (g.M.MapRead.map c.args.resolved.now.map.now) c.args.resolved.now.lines.now
-    c.args.resolved.now.distances.now
-    c.args.points.now c.args.pos c.args.neg _ _ _ c.args.resolved.now.measured c.requires.points c.trim-trimmed.ensures
-    c.requires.long in
+    c.args.resolved.now.distances.now c.args.points.now c.args.resolved.now.measured c.requires.points c.args.pos
+    c.args.neg _ _ _ c.trim-trimmed.ensures c.requires.long in
     subst (λ (s : Reference). IfOk c.reference_by.result (λ r. r ≡ s)) cut.value c.reference_by.ensures

@@ -1,5 +1,4 @@
-use Rattle.olr_refs.proofs.Common.{◌≡◌, true, false, arith, rules}
-use Rattle.std.proofs.lemmas.List.Sorted.{answers_always}
+use Rattle.olr_refs.proofs.Common.{◌≡◌, true, false, arith, rules, answers_always}
 use Rattle.olr_refs.proofs.Reusing.{none_at, found_at, one_first, known_at, reach_known, ends_at}
 use Rattle.olr_refs.proofs.reuse.known_after.Goals as goal
 

@@ -1,5 +1,4 @@
-use Rattle.olr_refs.proofs.Common.{arith}
-use Rattle.olr_spec.proofs.FieldLemmas.{dm_same}
+use Rattle.olr_refs.proofs.Common.{arith, dm_same}
 use Rattle.olr_refs.proofs.LegLemmas.{joined_known}
 use Rattle.olr_refs.proofs.Stretches.{dm_stretch}
 use Rattle.olr_refs.proofs.along.ResolvedPath.between.Goals as goal

@@ -1,4 +1,4 @@
-use Rattle.olr_refs.proofs.Common.{ap, ◌∙◌, arith, nat_tests, ResolvedLine, last_index}
+use Rattle.olr_refs.proofs.Common.{ap, ◌∙◌, arith, ResolvedLine}
 use Rattle.olr_refs.proofs.Joined.{known_at, start_known}
 use Rattle.olr_refs.proofs.Resolving.{record_at, records_length}
 use Rattle.olr_refs.proofs.along.ResolvedPath.node.Goals as goal
@@ -12,6 +12,3 @@ returns-then-k-self-clause-known g c =
     (known_at M ls c.args.k c.args.self.now.joined (omega arith))
     (ap (λ (r : ResolvedLine). r.from)
     (c.record.view_is ∙ record_at M ls _ c.args.k _ c.args.self.now.resolved (omega arith)))
-
-pub returns-else-k-self-clause-value : goal.returns-else-k-self-clause-value
-returns-else-k-self-clause-value g c = grind (arith, records_length, nat_tests, last_index)
