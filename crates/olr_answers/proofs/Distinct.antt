@@ -68,4 +68,5 @@ module _ (xs sorted : List ℕ) (moved : IsPermutation xs sorted) where
 -- one more neighbour in a sorted list, which is another number
 pub ascends_more : (sorted : List ℕ) → IsSorted nat_cmp sorted → (i j : ℕ) → i + 1 ≡ j → j < length sorted →
     eqb (get_or sorted i 0) (get_or sorted j 0) ≡ false → AscendsBelow sorted j → AscendsBelow sorted (j + 1)
-ascends_more sorted up i j next h ne below k lt = grind (arith, cases_order, IsNonDecreasingBy-from_sort, both_ways, eqb, eq-eqb)
+ascends_more sorted up i j next h ne below k lt =
+    grind (arith, cases_order, IsNonDecreasingBy-from_sort, both_ways, eqb, eq-eqb)

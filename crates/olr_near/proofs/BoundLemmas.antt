@@ -79,7 +79,8 @@ moves_under_way M f g m = under_next M f g m.known m.better m.fresh (λ v d _ w.
 
 -- between f and g, after which node v is queued with that bound
 pub put_moves : (f g : DistanceBounds) (v d : ℕ) → Updates nat_eq f.bounds g.bounds v (Some d) →
-    ((e : ℕ) → bound_of f v ≡ Some e → d < e) → IsPermutation (record { 0 = (d, v) } ∷ heap_items f.waiting) (heap_items g.waiting) →
+    ((e : ℕ) → bound_of f v ≡ Some e → d < e)
+    → IsPermutation (record { 0 = (d, v) } ∷ heap_items f.waiting) (heap_items g.waiting) →
     g.known ≡ f.known → Moves f g
 put_moves f g v d updates less p known =
     let others : (q : ℕ) → q ≢ v → bound_of g q ≡ bound_of f q = λ q ne. updates.2 q (ne_eqb v q (λ e. ne (sym e))) in

@@ -191,7 +191,8 @@ module _ (M : Map) (ls ds ps : List ℕ) (d : AreDistances M ls ds) (p : ArePoin
       rw (← first, front _ (upto a f.within)) (omega (arith, r.pos_cut)) in
       let neg_is : neg_left ≡ negative - to_back (legs M ls) (last_kept (legs M ls) negative (later ps)) =
       rw (← last) (omega (arith, r.neg_cut, back _ (upto b within))) in
-      let linked : AreLinked M ls ks = rw kept_is (linked_at M ls _ (kept_linked M ls (first_kept (legs M ls) positive (later ps))
+      let linked : AreLinked M ls ks =
+      rw kept_is (linked_at M ls _ (kept_linked M ls (first_kept (legs M ls) positive (later ps))
       (last_kept (legs M ls) negative (later ps)) (0 ∷ later ps) (follow_linked M ls 0 (later ps) p.follow))) in
       let next = f.next (omega arith) in
       let before = l.before (omega arith) in

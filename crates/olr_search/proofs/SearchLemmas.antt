@@ -19,7 +19,8 @@ pub put_by : (f g : Frontier) (v p d label : ℕ) → g.table.items ≡ set f.ta
     label ≡ label_of f p → d < label → NotesOnce f.reached.items g.reached.items label (record { node = v; slot = p })
     → IsQueued g d p → ((e q : ℕ) → IsQueued f e q → IsQueued g e q) → frontier_len g ≡ frontier_len f →
     queued_len g ≡ queued_len f + 1 → IsRelaxed f g v p d
-put_by f g v p d label table within was lt once there kept len more = grind (arith, label_of, label_in, get_or-set_same, get_or-set_other, sum_by-set)
+put_by f g v p d label table within was lt once there kept len more =
+    grind (arith, label_of, label_in, get_or-set_same, get_or-set_other, sum_by-set)
 
 put_le : (f g : Frontier) (v p d : ℕ) → IsRelaxed f g v p d → (q : ℕ) → label_of g q ≤ label_of f q
 put_le f g v p d k q = grind (arith, cases_eq, label_of)
@@ -111,7 +112,8 @@ module _ (M : Map) (slot : ℕ → ℕ) (direction : Direction) (from : List (�
   -- ---- the frontier
 
   -- what does not depend on the queue
-  pub labelled_same : (f g : Frontier) → IsAlike f g → IsLabelled M slot direction from f → IsLabelled M slot direction from g
+  pub labelled_same : (f g : Frontier) → IsAlike f g → IsLabelled M slot direction from f →
+      IsLabelled M slot direction from g
   labelled_same f g k l = record {
     sound = l.sound;
     own = l.own;

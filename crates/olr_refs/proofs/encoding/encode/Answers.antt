@@ -6,9 +6,11 @@ use Rattle.olr_refs.proofs.encoding.encode.Goals as goal
 pub returns-clause-searches : goal.returns-clause-searches
 returns-clause-searches g c =
     if_on c.encode_again.result _ _ _ (λ e o r. (searched_all _ (g.met.M.MapRead.sound c.args.map.now) c.args.path.now
-    c.encode_again.ensures.path _ e.queries.items _ _ refl o r).0) c.encode_again.ensures.queries c.encode_again.ensures.searched
+    c.encode_again.ensures.path _ e.queries.items _ _ refl o r).0) c.encode_again.ensures.queries
+    c.encode_again.ensures.searched
 
 pub returns-clause-settled_exactly : goal.returns-clause-settled_exactly
 returns-clause-settled_exactly g c =
     if_on c.encode_again.result _ _ _ (λ e o r. (searched_all _ (g.met.M.MapRead.sound c.args.map.now) c.args.path.now
-    c.encode_again.ensures.path _ e.queries.items _ _ refl o r).1) c.encode_again.ensures.queries c.encode_again.ensures.searched
+    c.encode_again.ensures.path _ e.queries.items _ _ refl o r).1) c.encode_again.ensures.queries
+    c.encode_again.ensures.searched

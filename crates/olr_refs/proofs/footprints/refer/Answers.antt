@@ -27,7 +27,8 @@ returns-clause-searches g c =
     let e = c.in_ok-encoding.ensures in (
       _,
       searches_queried (g.M.MapRead.map c.args.map.now) c.args.path.now _ e.queries,
-      (searched_all _ (g.met.M.MapRead.sound c.args.map.now) c.args.path.now c.encode_noting.ensures.path _ _ _ _ refl e.queries e.searched).0,
+      (searched_all _ (g.met.M.MapRead.sound c.args.map.now) c.args.path.now
+          c.encode_noting.ensures.path _ _ _ _ refl e.queries e.searched).0,
     )
 
 pub returns-clause-settled : goal.returns-clause-settled
@@ -39,5 +40,9 @@ returns-clause-settled g c = (
 
 pub returns-clause-settled_exactly : goal.returns-clause-settled_exactly
 returns-clause-settled_exactly g c =
-    let e = c.in_ok-encoding.ensures in
-    (_, e.queries, (searched_all _ (g.met.M.MapRead.sound c.args.map.now) c.args.path.now c.encode_noting.ensures.path _ _ _ _ refl e.queries e.searched).1)
+    let e = c.in_ok-encoding.ensures in (
+      _,
+      e.queries,
+      (searched_all _ (g.met.M.MapRead.sound c.args.map.now) c.args.path.now
+          c.encode_noting.ensures.path _ _ _ _ refl e.queries e.searched).1,
+    )

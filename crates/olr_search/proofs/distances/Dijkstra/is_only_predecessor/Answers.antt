@@ -16,7 +16,8 @@ pub returns-then-is_other : goal.returns-then-is_other
 returns-then-is_other g c = grind (arith, entry, After-is_other, get_or_default_zero, label_of)
 
 pub loop-index-preserved : goal.loop-index-preserved
-loop-index-preserved g c = grind (arith, entry, After-is_other, get_or_default_zero, label_of, below_more, start, dm, cases_eq)
+loop-index-preserved g c =
+    grind (arith, entry, After-is_other, get_or_default_zero, label_of, below_more, start, dm, cases_eq)
 
 pub returns : goal.returns
 returns g c =
