@@ -70,6 +70,21 @@ fn sector_of(rt: &impl Abort, east: i128, north: i128) -> u8 {
     sector(east, north)
 }
 
+/// Asserts the sector of a direction, and the sectors of this direction turned right by one, two and three quarters.
+fn expect_turned(rt: &impl Abort, direction: (i32, i32), want: u8) {
+    let (east, north) = (i128::from(direction.0), i128::from(direction.1));
+    let mut want = want;
+    for (x, y) in [
+        (east, north),
+        (north, -east),
+        (-east, -north),
+        (-north, east),
+    ] {
+        assert_eq!(rt; sector_of(rt, x, y), want % 32, "at {x}, {y}");
+        want = want.wrapping_add(8);
+    }
+}
+
 #[test]
 fn sector_boundaries(rt: HostRuntime) {
     for (east, north, want) in [(0, 1, 0), (1, 1, 4), (1, 0, 8), (-1, 1000, 31), (0, 0, 0)] {
@@ -77,70 +92,31 @@ fn sector_boundaries(rt: HostRuntime) {
     }
 }
 
-/// A boundary belongs to the sector after it.
+/// A boundary belongs to the sector after it. In each row are the number of a sector, the boundary where it begins, and
+/// a direction just before it.
 #[test]
-fn sectors_on_boundaries(rt: HostRuntime) {
-    for (east, north, want) in [
-        (0, 1_000_000, 0),
-        (198_912, 1_000_000, 1),
-        (414_214, 1_000_000, 2),
-        (668_179, 1_000_000, 3),
-        (1_000_000, 1_000_000, 4),
-        (1_000_000, 668_179, 5),
-        (1_000_000, 414_214, 6),
-        (1_000_000, 198_912, 7),
-        (1_000_000, 0, 8),
-        (1_000_000, -198_912, 9),
-        (1_000_000, -414_214, 10),
-        (1_000_000, -668_179, 11),
-        (1_000_000, -1_000_000, 12),
-        (668_179, -1_000_000, 13),
-        (414_214, -1_000_000, 14),
-        (198_912, -1_000_000, 15),
-        (0, -1_000_000, 16),
-        (-198_912, -1_000_000, 17),
-        (-414_214, -1_000_000, 18),
-        (-668_179, -1_000_000, 19),
-        (-1_000_000, -1_000_000, 20),
-        (-1_000_000, -668_179, 21),
-        (-1_000_000, -414_214, 22),
-        (-1_000_000, -198_912, 23),
-        (-1_000_000, 0, 24),
-        (-1_000_000, 198_912, 25),
-        (-1_000_000, 414_214, 26),
-        (-1_000_000, 668_179, 27),
-        (-1_000_000, 1_000_000, 28),
-        (-668_179, 1_000_000, 29),
-        (-414_214, 1_000_000, 30),
-        (-198_912, 1_000_000, 31),
+fn sectors_on_and_before_boundaries(rt: HostRuntime) {
+    for (number, boundary, before) in [
+        (0, (0, 1_000_000), (-1, 1_000_000)),
+        (1, (198_912, 1_000_000), (198_911, 1_000_000)),
+        (2, (414_214, 1_000_000), (414_213, 1_000_000)),
+        (3, (668_179, 1_000_000), (668_178, 1_000_000)),
+        (4, (1_000_000, 1_000_000), (999_999, 1_000_000)),
+        (5, (1_000_000, 668_179), (999_999, 668_179)),
+        (6, (1_000_000, 414_214), (999_999, 414_214)),
+        (7, (1_000_000, 198_912), (999_999, 198_912)),
     ] {
-        assert_eq!(rt; sector_of(&rt, east, north), want, "at {east}, {north}");
+        expect_turned(&rt, boundary, number);
+        expect_turned(&rt, before, number + 31);
     }
 }
 
+/// Just before a boundary, by a greater part to the north.
 #[test]
 fn sectors_before_boundaries(rt: HostRuntime) {
-    for (east, north, want) in [
-        (-1, 1_000_000, 31),
-        (198_911, 1_000_000, 0),
-        (414_213, 1_000_000, 1),
-        (668_178, 1_000_000, 2),
-        (999_999, 1_000_000, 3),
-        (999_999, 668_179, 4),
-        (999_999, 414_214, 5),
-        (999_999, 198_912, 6),
-        (1_000_000, 1, 7),
-        (1_000_001, -1_000_000, 11),
-        (668_180, -1_000_000, 12),
-        (1, -1_000_000, 15),
-        (-999_999, -1_000_000, 19),
-        (-999_999, -198_912, 22),
-        (-1_000_000, -1, 23),
-        (-1_000_001, 1_000_000, 27),
-        (-198_913, 1_000_000, 30),
-    ] {
-        assert_eq!(rt; sector_of(&rt, east, north), want, "at {east}, {north}");
-    }
+    expect_turned(&rt, (1_000_000, 1_000_001), 3);
+    expect_turned(&rt, (1_000_000, 668_180), 4);
+    expect_turned(&rt, (1_000_000, 198_913), 6);
 }
 
 #[test]
@@ -151,6 +127,12 @@ fn sectors_of_the_greatest_directions(rt: HostRuntime) {
     same!(&rt; sector_of(&rt, -1, GREATEST_PART), 31);
 }
 
+/// Asserts the bearing out of a line and the bearing back.
+fn expect_bearings(rt: &impl Abort, line: &Line, ends: &Ends, wanted: (u8, u8)) {
+    let found = (out_of(rt, line, ends), back_of(rt, line, ends));
+    assert_eq!(rt; found, wanted, "out and back");
+}
+
 /// A line of 1000 dm to the east, on the equator.
 #[test]
 fn places_and_bearings(rt: HostRuntime) -> Result<(), Fail> {
@@ -159,8 +141,7 @@ fn places_and_bearings(rt: HostRuntime) -> Result<(), Fail> {
     same!(&rt; coord_at(&rt, &line, &ends, 200), (65_536_000_000, 0, 1000));
     same!(&rt; coord_at(&rt, &line, &ends, 0).0, 0);
     same!(&rt; coord_at(&rt, &line, &ends, 1000).0, 327_680_000_000);
-    same!(&rt; out_of(&rt, &line, &ends), 8);
-    same!(&rt; back_of(&rt, &line, &ends), 24);
+    expect_bearings(&rt, &line, &ends, (8, 24));
     Ok(())
 }
 
@@ -170,35 +151,25 @@ fn bearings_at_latitude_60(rt: HostRuntime) -> Result<(), Fail> {
     let line = line(&rt, rt.alloc(), 700, &[])?;
     let from = at_degrees(&rt, 0, 6_000_000);
     let half_way = ends_of(from, at_degrees(&rt, 100, 6_000_050));
-    same!(&rt; out_of(&rt, &line, &half_way), 4);
-    same!(&rt; back_of(&rt, &line, &half_way), 20);
+    expect_bearings(&rt, &line, &half_way, (4, 20));
     let steeper = ends_of(from, at_degrees(&rt, 100, 6_000_051));
     same!(&rt; out_of(&rt, &line, &steeper), 3);
     Ok(())
 }
 
 /// The bearing is measured to the coordinate at 200 dm, past a shape point at 100 dm, or to the line's end if that is
-/// nearer. The line leads north and then east: of 201 dm, the coordinate is before the end, a little north of
-/// north-east.
+/// nearer. A line leads north and then east: of 201 dm, the coordinate is before the end, a little north of north-east.
+/// The bearing back is that on a line that leads east and then north.
 #[test]
-fn bearing_out_of_200_dm(rt: HostRuntime) -> Result<(), Fail> {
+fn bearings_of_200_dm(rt: HostRuntime) -> Result<(), Fail> {
     let ends = ends_of(at_degrees(&rt, 0, 0), at_degrees(&rt, 50, 50));
-    let corner = shape(&rt, 100, 0, 50);
-    for (len, want) in [(199, 4), (200, 4), (201, 3)] {
-        let line = line(&rt, rt.alloc(), len, &[corner])?;
-        assert_eq!(rt; out_of(&rt, &line, &ends), want, "of {len} dm");
-    }
-    Ok(())
-}
-
-/// The bearing back, on a line that leads east and then north.
-#[test]
-fn bearing_back_of_200_dm(rt: HostRuntime) -> Result<(), Fail> {
-    let ends = ends_of(at_degrees(&rt, 0, 0), at_degrees(&rt, 50, 50));
-    let corner = shape(&rt, 100, 50, 0);
-    for (len, want) in [(199, 20), (200, 20), (201, 19)] {
-        let line = line(&rt, rt.alloc(), len, &[corner])?;
-        assert_eq!(rt; back_of(&rt, &line, &ends), want, "of {len} dm");
+    let north_first = shape(&rt, 100, 0, 50);
+    let east_first = shape(&rt, 100, 50, 0);
+    for (len, out, back) in [(199, 4, 20), (200, 4, 20), (201, 3, 19)] {
+        let leaving = line(&rt, rt.alloc(), len, &[north_first])?;
+        assert_eq!(rt; out_of(&rt, &leaving, &ends), out, "of {len} dm");
+        let arriving = line(&rt, rt.alloc(), len, &[east_first])?;
+        assert_eq!(rt; back_of(&rt, &arriving, &ends), back, "of {len} dm");
     }
     Ok(())
 }
@@ -245,10 +216,8 @@ fn bearings_of_the_widest_lines(rt: HostRuntime) -> Result<(), Fail> {
         at_units(&rt, 0, GREATEST_LAT),
     );
     let east = ends_of(at_units(&rt, least_lon, 0), at_units(&rt, greatest_lon, 0));
-    same!(&rt; out_of(&rt, &line, &north), 0);
-    same!(&rt; back_of(&rt, &line, &north), 16);
-    same!(&rt; out_of(&rt, &line, &east), 8);
-    same!(&rt; back_of(&rt, &line, &east), 24);
+    expect_bearings(&rt, &line, &north, (0, 16));
+    expect_bearings(&rt, &line, &east, (8, 24));
     Ok(())
 }
 
@@ -260,8 +229,7 @@ fn bearing_of_no_direction(rt: HostRuntime) -> Result<(), Fail> {
         at_degrees(&rt, 612_683, 4_960_852),
         at_degrees(&rt, 612_683, 4_960_852),
     );
-    same!(&rt; out_of(&rt, &line, &ends), 0);
-    same!(&rt; back_of(&rt, &line, &ends), 0);
+    expect_bearings(&rt, &line, &ends, (0, 0));
     Ok(())
 }
 
