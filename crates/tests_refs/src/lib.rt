@@ -3,12 +3,4 @@
 #![tactic(auto)]
 
 #[cfg(test)]
-mod again;
-#[cfg(test)]
-mod choices;
-#[cfg(test)]
-mod extension;
-#[cfg(test)]
-mod maps;
-#[cfg(test)]
-mod queries;
+mod tests;

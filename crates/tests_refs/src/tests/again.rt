@@ -1,8 +1,8 @@
 //! Paths that are encoded again with their known coverage queries, which are not searched again; these are worked out by
 //! hand.
 
-use crate::maps::{BARE, LONG, PlainPath, path_of};
-use crate::queries::{DETOUR, EQUAL, ROAD, ROUND, TOO_LONG_FIRST, WHOLE, grid_map};
+use super::maps::{BARE, LONG, PlainPath, path_of};
+use super::queries::{DETOUR, EQUAL, ROAD, ROUND, TOO_LONG_FIRST, WHOLE, grid_map};
 use made_maps::{Plan, WORKED, map_of};
 use olr_map::RoadMap;
 use olr_refs::{Encoding, KnownQuery, Path, encode, encode_again};

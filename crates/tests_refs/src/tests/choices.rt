@@ -4,7 +4,7 @@ ghost use Rattle.std.specs.Bool.{OnTrue};
 ghost use Rattle.olr_spec.specs.Encoding.{first_unknown};
 ghost use Rattle.olr_spec.specs.Extension.{AreJoined};
 
-use crate::maps::{BARE, LONG, LONG_BARE, PASSING, PlainPath, path_of};
+use super::maps::{BARE, LONG, LONG_BARE, PASSING, PlainPath, path_of};
 use made_maps::{Place, Plan, STRAIGHT, WORKED, end_of, map_of, start_of};
 use olr_map::{Footprint, LineId, MapRead, RoadMap};
 use olr_refs::{Choice, Reuse, distances, extend, points, resolve};
@@ -88,37 +88,26 @@ fn expect_chosen(
     Ok(())
 }
 
-/// Asserts the extended path of a path on a map, and its LRPs.
+/// Asserts the extended path of a path on the map of a plan, and its LRPs.
 fn expect_points(
-    rt: &impl Abort,
-    alloc: Global,
-    map: &RoadMap,
-    plain: PlainPath,
-    expected: Expected,
-) -> Result<(), Fail> {
-    let (wanted, offsets, positions, searches) = expected;
-    let path = path_of(rt, alloc, plain);
-    let Ok(own) = resolve(alloc, map, path.lines())? else {
-        panic!(rt; "a line of {plain:?} is not on the map")
-    };
-    let mut footprint = Footprint::new(alloc);
-    let extended = extend(alloc, map, &path, &own, &mut footprint)?;
-    let lines = numbers_of(alloc, &extended.lines).expect(rt, "memory");
-    let found = (lines.as_slice(), (extended.pos, extended.neg));
-    assert_eq!(rt; found, (wanted, offsets), "of {plain:?}");
-    expect_chosen(rt, alloc, map, &extended.lines, positions, searches)
-}
-
-/// `expect_points` on the map of a plan.
-fn expect_points_on(
     rt: &impl Abort,
     alloc: Global,
     plan: Plan,
     plain: PlainPath,
     expected: Expected,
 ) -> Result<(), Fail> {
+    let (wanted, offsets, positions, searches) = expected;
     let map = map_of(alloc, plan)?;
-    expect_points(rt, alloc, &map, plain, expected)
+    let path = path_of(rt, alloc, plain);
+    let Ok(own) = resolve(alloc, &map, path.lines())? else {
+        panic!(rt; "a line of {plain:?} is not on the map")
+    };
+    let mut footprint = Footprint::new(alloc);
+    let extended = extend(alloc, &map, &path, &own, &mut footprint)?;
+    let lines = numbers_of(alloc, &extended.lines).expect(rt, "memory");
+    let found = (lines.as_slice(), (extended.pos, extended.neg));
+    assert_eq!(rt; found, (wanted, offsets), "of {plain:?}");
+    expect_chosen(rt, alloc, &map, &extended.lines, positions, searches)
 }
 
 /// The nodes of a long line that leads to a degree-two node, and of a short line after it.
@@ -168,7 +157,7 @@ const CASES: &[(Plan, PlainPath, Expected)] = &[
 #[test]
 fn points_by_position(rt: HostRuntime) -> Result<(), Fail> {
     for (plan, plain, expected) in CASES {
-        expect_points_on(&rt, rt.alloc(), *plan, *plain, *expected)?;
+        expect_points(&rt, rt.alloc(), *plan, *plain, *expected)?;
     }
     Ok(())
 }

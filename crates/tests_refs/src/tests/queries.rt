@@ -1,6 +1,6 @@
 //! Traversed nodes and coverage queries of encodings, worked out by hand, and the footprints that they make up.
 
-use crate::maps::{BARE, LONG, LONG_BARE, PASSING, PlainPath, path_of};
+use super::maps::{BARE, LONG, LONG_BARE, PASSING, PlainPath, path_of};
 use made_maps::{
     FIRST, PLACES, Place, Plan, SECOND, SIDE, STRAIGHT, THIRD, WORKED, make, map_of, new_node,
     plain_line,
@@ -104,18 +104,6 @@ fn expect_queries(
     let counted = (work.encodings, work.searches);
     assert_eq!(rt; counted, (1, searches), "of {plain:?}");
     expect_footprint(rt, alloc, map, &path, &encoding, work)
-}
-
-/// `expect_queries` on the map of a plan.
-fn expect_queries_on(
-    rt: &impl Abort,
-    alloc: Global,
-    plan: Plan,
-    plain: PlainPath,
-    wanted: Wanted,
-) -> Result<(), Fail> {
-    let map = map_of(alloc, plan)?;
-    expect_queries(rt, alloc, &map, plain, wanted)
 }
 
 /// The worked map with a side road as long as the line beside it.
@@ -222,7 +210,8 @@ const CASES: &[(Plan, PlainPath, Wanted)] = &[
 #[test]
 fn traversed_nodes_and_queries(rt: HostRuntime) -> Result<(), Fail> {
     for (plan, plain, wanted) in CASES {
-        expect_queries_on(&rt, rt.alloc(), *plan, *plain, *wanted)?;
+        let map = map_of(rt.alloc(), *plan)?;
+        expect_queries(&rt, rt.alloc(), &map, *plain, *wanted)?;
     }
     Ok(())
 }
@@ -290,21 +279,11 @@ const ON_GRID: &[(PlainPath, Wanted)] = &[
     ),
 ];
 
-/// Asserts the traversed nodes and coverage queries of paths on a map.
-fn expect_all(
-    rt: &impl Abort,
-    alloc: Global,
-    map: &RoadMap,
-    cases: &[(PlainPath, Wanted)],
-) -> Result<(), Fail> {
-    for (plain, wanted) in cases {
-        expect_queries(rt, alloc, map, *plain, *wanted)?;
-    }
-    Ok(())
-}
-
 #[test]
 fn queries_on_a_grid(rt: HostRuntime) -> Result<(), Fail> {
     let map = grid_map(&rt, rt.alloc());
-    expect_all(&rt, rt.alloc(), &map, ON_GRID)
+    for (plain, wanted) in ON_GRID {
+        expect_queries(&rt, rt.alloc(), &map, *plain, *wanted)?;
+    }
+    Ok(())
 }

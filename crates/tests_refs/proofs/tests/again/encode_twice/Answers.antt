@@ -1,7 +1,7 @@
 use Rattle.std.proofs.Common.{sym, subst}
 use Rattle.olr_spec.specs.Queries.{AreKnown}
 use Rattle.olr_spec.proofs.KnownLemmas.{known_holds}
-use Rattle.tests_refs.proofs.again.encode_twice.Goals as goal
+use Rattle.tests_refs.proofs.tests.again.encode_twice.Goals as goal
 
 pub encode_again-requires : goal.encode_again-requires
 encode_again-requires c =

@@ -4,7 +4,7 @@ use Rattle.std.specs.List.{slice_index}
 use Rattle.olr_spec.specs.Map.{start, end}
 use Rattle.olr_spec.specs.Encoding.{first_unknown, first_break}
 use Rattle.olr_refs.proofs.Faulting.{each_read, no_break_at, no_break_left, joined_of}
-use Rattle.tests_refs.proofs.choices.are_joined.Goals as goal
+use Rattle.tests_refs.proofs.tests.choices.are_joined.Goals as goal
 
 pub end_of-requires : goal.end_of-requires
 end_of-requires g c =

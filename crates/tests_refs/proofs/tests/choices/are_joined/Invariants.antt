@@ -1,6 +1,6 @@
 use Rattle.std.proofs.Common.{◌≡◌, ◌-◌, drop}
 use Rattle.olr_spec.specs.Encoding.{first_break}
-use Rattle.tests_refs.proofs.choices.are_joined.Given as goal
+use Rattle.tests_refs.proofs.tests.choices.are_joined.Given as goal
 
 -- the first break of the remaining lines is the first of all
 abbrev pub invariant-loop-k : goal.invariant-loop-k

@@ -1,0 +1,5 @@
+mod again;
+mod choices;
+mod extension;
+mod maps;
+mod queries;
