@@ -1,12 +1,9 @@
 //! What edits touched, and what a list of paths stores of earlier paths.
 ghost use Rattle.std.specs.Prelude.{◌≡◌, string_bytes, map as list_map};
 ghost use Rattle.std.specs.Option.{option_to_list};
-ghost use Rattle.olr_spec.specs.Map.{Map};
 ghost use Rattle.olr_map.specs.EditPlans.{planned_changes};
-ghost use Rattle.olr_map.specs.RoadMaps.{map_of};
-ghost use Rattle.olr_paths.specs.Items.{items};
 ghost use Rattle.olr_paths.specs.Touching.{change_of};
-ghost use Rattle.tests_register.specs.Lists.{IsRight};
+ghost use Rattle.tests_register.specs.Lists.{IsRightAnywhere, IsRightOn};
 
 use made_maps::{Plain, STRAIGHT, line, lines, new_node, node, other_line, plain_map};
 use olr_map::{Edit, EditPlan, RoadMap, judge};
@@ -46,8 +43,8 @@ const APART: &[Plain] = &[(10, 1, 2, 1000), (30, 4, 5, 1000)];
 
 /// Appends a path of one line, not encoded yet.
 fn hold(rt: &impl Abort, alloc: Global, list: &mut PathList, name: &str, number: u32)
-    requires { (M : Map) → IsRight M (items list.old) }
-    ensures { (M : Map) → IsRight M (items list.new) }
+    requires { IsRightAnywhere list.old }
+    ensures { IsRightAnywhere list.new }
 {
     let lines = lines(alloc, &[number]).expect(rt, "memory");
     let path = Path::new(alloc, lines, 0, 0).expect(rt, "a path");
@@ -59,7 +56,7 @@ fn hold(rt: &impl Abort, alloc: Global, list: &mut PathList, name: &str, number:
 
 /// The list of the paths b and a on two roads, neither of them encoded yet.
 fn two_paths(rt: &impl Abort, alloc: Global) -> PathList
-    ensures { (M : Map) → IsRight M (items result) }
+    ensures { IsRightAnywhere result }
 {
     let mut list = PathList::new(alloc);
     hold(rt, alloc, &mut list, "b", 30);
@@ -83,8 +80,8 @@ fn line_changed(plan: &EditPlan) -> Option<ChangedLine>
 
 /// Makes an edit of a map, and encodes the new paths of a list and those that the edit may affect.
 fn renew(rt: &impl Abort, alloc: Global, list: &mut PathList, map: &mut RoadMap, edit: Edit)
-    requires { IsRight (map_of map.old) (items list.old) }
-    ensures { IsRight (map_of map.new) (items list.new) }
+    requires { IsRightOn map.old list.old }
+    ensures { IsRightOn map.new list.new }
 {
     let plan = judge(&*map, &edit).expect(rt, "an edit");
     let mut touched = ChangeSet::new(alloc);
@@ -116,7 +113,7 @@ fn renew(rt: &impl Abort, alloc: Global, list: &mut PathList, map: &mut RoadMap,
 
 /// Renews a list on two roads: with one more node, with a longer line 30, and without line 10.
 fn renew_thrice(rt: &impl Abort, alloc: Global, list: &mut PathList)
-    requires { (M : Map) → IsRight M (items list.old) }
+    requires { IsRightAnywhere list.old }
 {
     let mut map = plain_map(alloc, 5, APART).expect(rt, "a map");
     renew(rt, alloc, list, &mut map, new_node((6, 0, 0)));

@@ -35,13 +35,18 @@ fn unknown(number: u32) -> Result<&'static str, Refusal> {
     Err(Refusal::UnknownLine(line(number)))
 }
 
+/// Adds a path, which is encoded at once: the reply has no other.
+fn give(rt: &impl Abort, alloc: Global, register: &mut Register, name: &str, numbers: &[u32]) {
+    let added = add(rt, alloc, name, numbers, 0);
+    names(rt, register, added, &[name]);
+}
+
 #[test]
 fn paths_are_encoded_as_they_are_given(rt: HostRuntime) {
     let mut register = roads(&rt, rt.alloc(), ROAD);
     let gone = add(&rt, rt.alloc(), "gone", &[30], 0);
     expect_reported(&rt, &mut register, gone, &[("gone", unknown(30))]);
-    let way = add(&rt, rt.alloc(), "way", &[10, 20], 0);
-    names(&rt, &mut register, way, &["way"]);
+    give(&rt, rt.alloc(), &mut register, "way", &[10, 20]);
     // replaced by a path of the same answer, and by one of another
     let same = change_path(&rt, rt.alloc(), "gone", &[10, 30]);
     expect_reported(&rt, &mut register, same, &[]);
@@ -54,10 +59,8 @@ fn paths_are_encoded_as_they_are_given(rt: HostRuntime) {
 #[test]
 fn all_paths_are_reported_in_order(rt: HostRuntime) {
     let mut register = roads(&rt, rt.alloc(), ROAD);
-    let first = add(&rt, rt.alloc(), "b", &[30], 0);
-    names(&rt, &mut register, first, &["b"]);
-    let second = add(&rt, rt.alloc(), "a", &[40], 0);
-    names(&rt, &mut register, second, &["a"]);
+    give(&rt, rt.alloc(), &mut register, "b", &[30]);
+    give(&rt, rt.alloc(), &mut register, "a", &[40]);
     let expected = [("b", unknown(30)), ("a", unknown(40))];
     expect_reported(&rt, &mut register, Command::Report, &expected);
     ends(&rt, register, 2, 0);
@@ -101,8 +104,7 @@ fn expect_published(rt: &impl Abort, register: &Register, name: &str, text: &str
 #[test]
 fn one_path_is_shown(rt: HostRuntime) {
     let mut register = roads(&rt, rt.alloc(), ROAD);
-    let way = add(&rt, rt.alloc(), "way", &[20], 0);
-    names(&rt, &mut register, way, &["way"]);
+    give(&rt, rt.alloc(), &mut register, "way", &[20]);
     let text = shown_text(&rt, rt.alloc(), &mut register, "way");
     expect_plain(&rt, rt.alloc(), &mut register, &text);
     expect_published(&rt, &register, "way", &text);
@@ -160,8 +162,7 @@ fn expect_dropped(
 fn changes_of_a_batch_over_paths(rt: HostRuntime) {
     let mut register = roads(&rt, rt.alloc(), ROAD);
     for name in ["a", "b"] {
-        let added = add(&rt, rt.alloc(), name, &[10], 0);
-        names(&rt, &mut register, added, &[name]);
+        give(&rt, rt.alloc(), &mut register, name, &[10]);
     }
     expect_reported(&rt, &mut register, Command::Begin, &[]);
     expect_there(&rt, rt.alloc(), &mut register, "a");
@@ -211,8 +212,7 @@ fn paths_are_renewed(rt: HostRuntime) {
 #[test]
 fn one_more_path_by_a_batch(rt: HostRuntime) {
     let mut register = roads(&rt, rt.alloc(), APART);
-    let first = add(&rt, rt.alloc(), "a", &[10], 0);
-    names(&rt, &mut register, first, &["a"]);
+    give(&rt, rt.alloc(), &mut register, "a", &[10]);
     expect_reported(&rt, &mut register, Command::Begin, &[]);
     let second = add(&rt, rt.alloc(), "b", &[30], 0);
     holds(&rt, &mut register, second, 1);
