@@ -1,15 +1,15 @@
 //! Worked edits, with expected values by hand, and edits made in one call compared with edits judged first.
 
-ghost use Rattle.std.specs.Prelude.{IsTrue};
-ghost use Rattle.olr_map.specs.RoadMaps.{CanUndoAll};
+ghost use Rattle.std.specs.Prelude.{IsTrue, IfOk};
+ghost use Rattle.olr_map.specs.RoadMaps.{CanUndo, CanUndoAll};
 
 use made_maps::{
-    Bend, FIRST, Road, STRAIGHT, WORKED, difference, line, make, map_of, new_node, node, place,
-    shape,
+    Bend, FIRST, Road, STRAIGHT, WORKED, difference, line, make, map_of, new_node, next, node,
+    place, shape,
 };
 use olr_map::{
-    Edit, EditFault, EditPlan, Footprint, Line, LineEnd, LineId, MapRead, NodeId, RoadMap, UndoLog,
-    judge,
+    Edit, EditFault, EditPlan, Footprint, Line, LineEnd, LineId, MapRead, NodeId, RoadMap, Undo,
+    UndoLog, judge,
 };
 use std::alloc::{AllocError, Global};
 use std::fmt::Debug;
@@ -139,82 +139,47 @@ fn reads_the_base_map(rt: HostRuntime) {
 fn refuses_in_order(rt: HostRuntime) -> Result<(), Fail> {
     let alloc = rt.alloc();
     let here = place(0, 0);
-    assert_refused(
-        &rt,
-        alloc,
-        Edit::AddNode(node(1), here),
-        EditFault::NodeExists,
-    );
-    assert_refused(&rt, alloc, Edit::MoveNode(node(9), here), EditFault::NoNode);
-    assert_refused(&rt, alloc, Edit::DropNode(node(9)), EditFault::NoNode);
-    assert_refused(&rt, alloc, Edit::DropNode(node(1)), EditFault::NodeInUse);
-    assert_refused(&rt, alloc, Edit::DropNode(node(4)), EditFault::NodeInUse);
-    assert_refused(
-        &rt,
-        alloc,
-        new_line(&rt, alloc, (99, 2, 3, 3, 2, 1500, STRAIGHT)),
-        EditFault::LineExists,
-    );
-    assert_refused(
-        &rt,
-        alloc,
-        new_line(&rt, alloc, (99, 9, 3, 3, 2, 0, STRAIGHT)),
-        EditFault::LineExists,
-    );
-    assert_refused(
-        &rt,
-        alloc,
-        new_line(&rt, alloc, (98, 9, 3, 3, 2, 0, STRAIGHT)),
-        EditFault::NoNode,
-    );
-    assert_refused(
-        &rt,
-        alloc,
-        new_line(&rt, alloc, (98, 3, 9, 3, 2, 1500, STRAIGHT)),
-        EditFault::NoNode,
-    );
-    assert_refused(
-        &rt,
-        alloc,
-        new_line(
-            &rt,
-            alloc,
-            (98, 2, 3, 3, 2, 1500, &[(1500, 612_000, 4_960_000)]),
-        ),
-        EditFault::BadShape,
-    );
-    assert_refused(
-        &rt,
-        alloc,
-        other_line(&rt, alloc, 98, 0, STRAIGHT),
-        EditFault::NoLine,
-    );
-    assert_refused(
-        &rt,
-        alloc,
-        other_line(&rt, alloc, 99, 0, STRAIGHT),
-        EditFault::BadShape,
-    );
-    assert_refused(
-        &rt,
-        alloc,
-        other_line(
-            &rt,
-            alloc,
-            99,
-            9,
-            &[(3, 612_000, 4_960_000), (3, 612_000, 4_960_000)],
-        ),
-        EditFault::BadShape,
-    );
-    assert_refused(
-        &rt,
-        alloc,
-        other_line(&rt, alloc, 99, 9, &[(0, 612_000, 4_960_000)]),
-        EditFault::BadShape,
-    );
-    assert_refused(&rt, alloc, Edit::DropLine(line(98)), EditFault::NoLine);
+    for (edit, fault) in vec![in alloc;
+        (Edit::AddNode(node(1), here), EditFault::NodeExists),
+        (Edit::MoveNode(node(9), here), EditFault::NoNode),
+        (Edit::DropNode(node(9)), EditFault::NoNode),
+        (Edit::DropNode(node(1)), EditFault::NodeInUse),
+        (Edit::DropNode(node(4)), EditFault::NodeInUse),
+        (Edit::DropLine(line(98)), EditFault::NoLine),
+    ]? {
+        assert_refused(&rt, alloc, edit, fault);
+    }
     Ok(())
+}
+
+#[test]
+fn refuses_new_lines_in_order(rt: HostRuntime) {
+    let bent: &[Bend] = &[(1500, 612_000, 4_960_000)];
+    for (road, fault) in [
+        ((99, 2, 3, 3, 2, 1500, STRAIGHT), EditFault::LineExists),
+        ((99, 9, 3, 3, 2, 0, STRAIGHT), EditFault::LineExists),
+        ((98, 9, 3, 3, 2, 0, STRAIGHT), EditFault::NoNode),
+        ((98, 3, 9, 3, 2, 1500, STRAIGHT), EditFault::NoNode),
+        ((98, 2, 3, 3, 2, 1500, bent), EditFault::BadShape),
+    ] {
+        let edit = new_line(&rt, rt.alloc(), road);
+        assert_refused(&rt, rt.alloc(), edit, fault);
+    }
+}
+
+#[test]
+fn refuses_other_lines_in_order(rt: HostRuntime) {
+    let twice: &[Bend] = &[(3, 612_000, 4_960_000), (3, 612_000, 4_960_000)];
+    let at_start: &[Bend] = &[(0, 612_000, 4_960_000)];
+    for (number, len, bends, fault) in [
+        (98, 0, STRAIGHT, EditFault::NoLine),
+        (99, 0, STRAIGHT, EditFault::BadShape),
+        (99, 9, twice, EditFault::BadShape),
+        (99, 9, at_start, EditFault::BadShape),
+    ] {
+        let edit = other_line(&rt, rt.alloc(), number, len, bends);
+        assert_refused(&rt, rt.alloc(), edit, fault);
+    }
 }
 
 #[test]
@@ -503,9 +468,11 @@ fn edit_by(rt: &impl Abort, alloc: Global, seed: u64) -> Edit {
     }
 }
 
-/// The fault of an edit, if it has one. Otherwise the edit is made, and undone unless it `stands`.
-fn fault_of(map: &mut RoadMap, edit: Edit, stands: bool) -> Option<EditFault> {
-    match map.apply(edit) {
+/// The fault of an edit, if it has one. Otherwise the edit is undone unless it `stands`.
+fn end_edit(map: &mut RoadMap, made: Result<Undo, EditFault>, stands: bool) -> Option<EditFault>
+    requires { IfOk made (CanUndo map.old) }
+{
+    match made {
         Ok(undo) => {
             if stands {
                 map.keep(undo);
@@ -518,23 +485,22 @@ fn fault_of(map: &mut RoadMap, edit: Edit, stands: bool) -> Option<EditFault> {
     }
 }
 
+/// Makes an edit, which is undone unless it `stands`. Returns its fault, if it has one.
+fn fault_of(map: &mut RoadMap, edit: Edit, stands: bool) -> Option<EditFault> {
+    let made = map.apply(edit);
+    end_edit(map, made, stands)
+}
+
 /// `fault_of`, where the edit is judged first and then made.
 fn fault_of_plan(map: &mut RoadMap, edit: Edit, stands: bool) -> Option<EditFault> {
     let plan = match judge(map, &edit) {
         Ok(plan) => plan,
         Err(fault) => return Some(fault),
     };
-    match map.make(edit, &plan) {
-        Ok(undo) => {
-            if stands {
-                map.keep(undo);
-            } else {
-                map.undo(undo);
-            }
-            None
-        }
-        Err(_) => Some(EditFault::Memory),
-    }
+    let made = map
+        .make(edit, &plan)
+        .map_err(|_: AllocError| EditFault::Memory);
+    end_edit(map, made, stands)
 }
 
 /// Four thousand pseudorandom edits, of which every second one is undone.
@@ -545,9 +511,7 @@ fn judging_first_changes_nothing(rt: HostRuntime) {
     let mut other = RoadMap::new(alloc);
     let mut seed: u64 = 1;
     for step in 0..4000u32 {
-        seed = seed
-            .wrapping_mul(6_364_136_223_846_793_005)
-            .wrapping_add(1_442_695_040_888_963_407);
+        seed = next(seed);
         let stands = step % 2 == 1;
         let first = fault_of(&mut map, edit_by(&rt, alloc, seed), stands);
         let second = fault_of_plan(&mut other, edit_by(&rt, alloc, seed), stands);
