@@ -5,7 +5,8 @@ ghost use Rattle.olr_spec.specs.Routes.{IsRoute};
 ghost use Rattle.olr_route.specs.Labels.{AreLabels};
 
 use made_maps::{
-    Plain, STRAIGHT, WORKED, end_of, line, make, map_of, node, other_line, plain_map, start_of,
+    Plain, STRAIGHT, WORKED, end_of, line, make, map_of, node, other_line, plain_line, plain_map,
+    start_of,
 };
 use olr_map::{Footprint, LineId, MapRead, NodeId, RoadMap};
 use olr_route::{
@@ -53,6 +54,12 @@ fn diamond(rt: &impl Abort, alloc: Global) -> RoadMap {
             (9, 4, 5, 100),
         ],
     )
+}
+
+/// A line from node 1 to itself, and two equally long ones to node 2. Node 3 has no lines.
+fn parallel(rt: &impl Abort, alloc: Global) -> RoadMap {
+    let lines = [(1, 1, 1, 50), (3, 1, 2, 100), (2, 1, 2, 100)];
+    map_with(rt, alloc, 3, &lines)
 }
 
 /// The labels of a search from a node of the map.
@@ -250,12 +257,7 @@ fn lines_that_prolong_routes(rt: HostRuntime) {
 
 #[test]
 fn loops_and_parallel_lines(rt: HostRuntime) {
-    let map = map_with(
-        &rt,
-        rt.alloc(),
-        2,
-        &[(1, 1, 1, 50), (3, 1, 2, 100), (2, 1, 2, 100)],
-    );
+    let map = parallel(&rt, rt.alloc());
     let start = (Some(0), None);
     let second = (Some(100), Some(2));
     same!(&rt; labels_within(&rt, rt.alloc(), &map, 1, GREATEST_LIMIT), [start, second, NONE, NONE]);
@@ -456,18 +458,9 @@ fn unique_routes_by_distances(rt: HostRuntime) -> Result<(), Fail> {
     let lines = [(5, true), (6, true), (7, false), (8, false), (10, false)];
     assert_unique(&rt, rt.alloc(), &map, &lines)?;
 
-    let map = map_with(
-        &rt,
-        rt.alloc(),
-        3,
-        &[
-            (1, 1, 1, 50),
-            (3, 1, 2, 100),
-            (2, 1, 2, 100),
-            (4, 2, 3, 10),
-            (5, 2, 3, 11),
-        ],
-    );
+    let mut map = parallel(&rt, rt.alloc());
+    make(&mut map, plain_line(rt.alloc(), (4, 2, 3, 10)))?;
+    make(&mut map, plain_line(rt.alloc(), (5, 2, 3, 11)))?;
     let lines = [(1, false), (2, false), (3, false), (4, true), (5, false)];
     assert_unique(&rt, rt.alloc(), &map, &lines)
 }
