@@ -175,35 +175,31 @@ fn dumped_records(rt: HostRuntime) {
     );
 }
 
+/// The end of a run of one record that is accepted, and of one that is malformed.
+const ACCEPTED: (&str, Status) = ("ok,0\n", Status::AllAccepted);
+
+const MALFORMED: (&str, Status) = ("fault,1,Syntax\n", Status::SomeRefused);
+
 #[test]
 fn forms_of_records(rt: HostRuntime) {
-    let accepted: [&[u8]; 6] = [
-        b"\"node\",1,0,0\n",
-        b"node,1,\"0\",0\r\n",
-        b"node,1,0,0",
-        b"\n\r\n\nnode,1,0,0\n\n",
-        b"\xef\xbb\xbfnode,1,0,0\n",
-        b"\"node\",\"1\",\"0\",\"0\"",
+    let rows = [
+        (b"\"node\",1,0,0\n".as_slice(), ACCEPTED),
+        (b"node,1,\"0\",0\r\n", ACCEPTED),
+        (b"node,1,0,0", ACCEPTED),
+        (b"\n\r\n\nnode,1,0,0\n\n", ACCEPTED),
+        (b"\xef\xbb\xbfnode,1,0,0\n", ACCEPTED),
+        (b"\"node\",\"1\",\"0\",\"0\"", ACCEPTED),
+        (b"node,\xff,0,0\n", MALFORMED),
+        (b"\xfe\xff\n", MALFORMED),
+        (b"node,1,0,0,\n", MALFORMED),
+        (b"\"\"\n", MALFORMED),
+        (b"node\n", MALFORMED),
     ];
-    for records in accepted {
-        expect(&rt, records, false, "ok,0\n", Status::AllAccepted);
+    for (records, (replies, status)) in rows {
+        expect(&rt, records, false, replies, status);
     }
     let two = "node,1,0,0\r\nnode,2,0,0\r\n";
     expect_replies(&rt, two, "ok,0\nok,0\n", Status::AllAccepted);
-}
-
-#[test]
-fn malformed_records(rt: HostRuntime) {
-    let malformed: [&[u8]; 5] = [
-        b"node,\xff,0,0\n",
-        b"\xfe\xff\n",
-        b"node,1,0,0,\n",
-        b"\"\"\n",
-        b"node\n",
-    ];
-    for records in malformed {
-        expect(&rt, records, false, "fault,1,Syntax\n", Status::SomeRefused);
-    }
 }
 
 /// How many bytes a reader has returned before a call. The first byte is read alone, since a byte order mark may begin
