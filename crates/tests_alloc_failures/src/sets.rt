@@ -34,38 +34,45 @@ fn thirds(rt: &impl Abort, alloc: Global, first: u32) -> Footprint {
     set
 }
 
+/// Adds a node to a set and to its twin. If an allocation fails, the set is still like its twin.
+fn note_both(rt: &impl Abort, set: &mut Footprint, twin: &mut Footprint, node: NodeId) {
+    if set.note(node).is_err() {
+        assert_same(rt, set, twin);
+        let again = set.note(node);
+        assert!(rt; again.is_ok());
+    }
+    note(rt, twin, node);
+    assert_same(rt, set, twin);
+    assert!(rt; set.has(node));
+}
+
+/// `note_both` for the nodes of another set.
+fn note_all_of_both(rt: &impl Abort, set: &mut Footprint, twin: &mut Footprint, other: &Footprint) {
+    if set.note_all(other.as_slice()).is_err() {
+        assert_same(rt, set, twin);
+        let again = set.note_all(other.as_slice());
+        assert!(rt; again.is_ok());
+    }
+    note_all(rt, twin, other);
+    assert_same(rt, set, twin);
+}
+
 #[test]
 fn a_set_survives(rt: HostRuntime) {
-    let alloc = rt.alloc();
-    let mut set = Footprint::new(alloc);
-    let mut twin = Footprint::new(alloc);
+    let mut set = Footprint::new(rt.alloc());
+    let mut twin = Footprint::new(rt.alloc());
     for step in 0..40 {
         // in no order, and each node twice
-        let next = node(step * 7 % 20 + 1);
-        if set.note(next).is_err() {
-            assert_same(&rt, &set, &twin);
-            let again = set.note(next);
-            assert!(rt; again.is_ok());
-        }
-        note(&rt, &mut twin, next);
-        assert_same(&rt, &set, &twin);
-        assert!(rt; set.has(next));
+        note_both(&rt, &mut set, &mut twin, node(step * 7 % 20 + 1));
     }
 }
 
 #[test]
 fn a_merged_set_survives(rt: HostRuntime) {
-    let alloc = rt.alloc();
-    let mut set = Footprint::new(alloc);
-    let mut twin = Footprint::new(alloc);
+    let mut set = Footprint::new(rt.alloc());
+    let mut twin = Footprint::new(rt.alloc());
     for first in [2, 1, 2, 20] {
-        let other = thirds(&rt, alloc, first);
-        if set.note_all(other.as_slice()).is_err() {
-            assert_same(&rt, &set, &twin);
-            let again = set.note_all(other.as_slice());
-            assert!(rt; again.is_ok());
-        }
-        note_all(&rt, &mut twin, &other);
-        assert_same(&rt, &set, &twin);
+        let other = thirds(&rt, rt.alloc(), first);
+        note_all_of_both(&rt, &mut set, &mut twin, &other);
     }
 }

@@ -93,18 +93,22 @@ fn took_into(
     true
 }
 
-#[test]
-fn a_map_survives(rt: HostRuntime) {
-    let alloc = rt.alloc();
-    let mut map = RoadMap::new(alloc);
-    let mut twin = RoadMap::new(alloc);
+/// Makes sixty edits of both maps, each of which is tried out first.
+fn take_sixty(rt: &impl Abort, alloc: Global, map: &mut RoadMap, twin: &mut RoadMap) {
     let mut seed: u64 = 1;
     for _ in 0..60 {
         seed = next(seed);
-        try_out(&rt, alloc, &mut map, &twin, seed);
-        take_both(&rt, alloc, &mut map, &mut twin, seed);
-        assert_alike(&rt, &map, &twin);
+        try_out(rt, alloc, map, twin, seed);
+        take_both(rt, alloc, map, twin, seed);
+        assert_alike(rt, map, twin);
     }
+}
+
+#[test]
+fn a_map_survives(rt: HostRuntime) {
+    let mut map = RoadMap::new(rt.alloc());
+    let mut twin = RoadMap::new(rt.alloc());
+    take_sixty(&rt, rt.alloc(), &mut map, &mut twin);
 }
 
 #[test]
