@@ -2,7 +2,7 @@
 ghost use Rattle.std.specs.Prelude.{◌<◌, ◌≤◌};
 
 use crate::twin::{Named, Rise, Twin};
-use csv::{ByteRecord, ReaderBuilder};
+use csv::ByteRecord;
 use made_maps::{line, next, node};
 use olr_binary::to_text;
 use olr_commands::Command;
@@ -36,14 +36,12 @@ pub struct Pair {
     count: u32,
 }
 
-/// The command of a record.
+/// The command of a record, whose fields are without quotes.
 fn command(alloc: Global, record: &str) -> Result<Command, Fail> {
-    let mut reader = ReaderBuilder::new()
-        .has_headers(false)
-        .flexible(true)
-        .from_reader(alloc, record.as_bytes());
     let mut row = ByteRecord::new(alloc);
-    let _ = reader.read_byte_record(&mut row)?;
+    for field in record.split(',') {
+        row.push_field(field.as_bytes())?;
+    }
     Ok(read_command(alloc, &row)?)
 }
 
