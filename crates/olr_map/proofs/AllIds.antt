@@ -1,12 +1,12 @@
 -- The numbers of all nodes and of all lines, collected slot by slot and node by node, and then sorted.
 use Rattle.olr_map.proofs.Common.{inl, inr, ◌⊎◌, ◌≡◌, ◌==◌, ℕ, ◌+◌, ◌<◌, zero, suc, true, false, List, [], ◌∷◌, ◌++◌}
 use Rattle.olr_map.proofs.Common.{map, length, get_or, take, Option, Some, None, is_some, nat_cmp, unwrap_or, refl, sym}
-use Rattle.olr_map.proofs.Common.{ap, ◌∙◌, subst, arith, option_map, list_any, flat_map, AllByRecursion, eq_by_cmp}
-use Rattle.olr_map.proofs.Common.{unsigned_tied, FinMap, get, entries, get-entries, eq-eqb, ne_eqb, or_cases, or_left}
+use Rattle.olr_map.proofs.Common.{ap, ◌∙◌, subst, arith, option_map, flat_map, AllByRecursion, some_of}
+use Rattle.olr_map.proofs.Common.{FinMap, get, entries, get-entries, eq-eqb, ne_eqb, or_cases, or_left}
 use Rattle.olr_map.proofs.Common.{or_right, map-append, IsDistinct-head, IsDistinct-tail}
 use Rattle.olr_map.proofs.Common.{IsStrictlyIncreasing-from_sorted, Map, IsMap, Line, has, has_node, has_line, no_line}
-use Rattle.olr_map.proofs.Common.{lines_out, has_here, ascend_out, at, present, slot_by, rows, map_from, IsIndexed}
-use Rattle.olr_map.proofs.Common.{Blocks, Links, NodeEntry, NodeHead, same_Some, common_steps}
+use Rattle.olr_map.proofs.Common.{lines_out, has_here, ascend_out, at, present, slot_by, rows, slots_of, RoadMap}
+use Rattle.olr_map.proofs.Common.{tables_map, node_slots, all_held, Links, NodeEntry, NodeHead, same_Some, common_steps}
 use Rattle.std.proofs.Common.{◌≢◌}
 use Rattle.std.specs.List.{IsDistinct}
 use Rattle.std.specs.List.Sorted.{IsPermutation, IsSortedByKey}
@@ -20,9 +20,10 @@ use Rattle.std.proofs.lemmas.Map.Keys.{IsDistinct-cons, IsDistinct-IsPermutation
 use Rattle.olr_spec.proofs.ListLemmas.{has_there, has_cases}
 use Rattle.olr_spec.proofs.MapLemmas.{keys_sorted}
 use Rattle.olr_spec.proofs.OrderLemmas.{exactly_out}
+use Rattle.std.proofs.lemmas.Cmp.{eq_by_cmp_equiv}
 use Rattle.olr_map.proofs.Insertions.{eqb_flip}
 use Rattle.olr_map.proofs.Numbers.{distinct_from_ascending, same_ascending}
-use Rattle.olr_map.proofs.Reading.{node_there, node_missing}
+use Rattle.olr_map.proofs.Reading.{slot_of, id_has}
 
 -- ---- lists of numbers
 
@@ -61,10 +62,7 @@ distinct_append (x ∷ xs) ys a b apart =
 
 module _ {X : Type 0} where
   has_key : (m : FinMap nat_cmp X) (k : ℕ) → has (map (λ e. e.0) (entries m)) k ≡ is_some (get m k)
-  has_key m k =
-      let same : (y : ℕ) → (y == k) ≡ eq_by_cmp nat_cmp k y = λ y. eqb_flip y k ∙ sym (unsigned_tied k y) in
-      (λ i. list_any (λ y. same y i) (map (λ e. e.0) (entries m)))
-      ∙ sym (is_some-find nat_cmp k (entries m)) ∙ ap (λ (o : Option X). is_some o) (sym (get-entries m k))
+  has_key m k = grind (arith, common_steps, nat_cmp, eq_by_cmp_equiv, is_some-find, get-entries)
 
   -- numbers that were collected once each, and then sorted
   sorted_keys : (m : FinMap nat_cmp X) (xs ys : List ℕ) → IsPermutation xs ys → IsSortedByKey (λ n. n) nat_cmp ys →
@@ -77,16 +75,6 @@ module _ {X : Type 0} where
       (λ k. sym (list_any-IsPermutation (λ y. y == k) xs ys moved) ∙ members k ∙ sym (has_key m k))
 
 -- ---- the numbers of the nodes in slots
-
--- the entries of slots have the numbers of their heads
-pub ids_of_rows : (hs : List (Option NodeHead)) (os is : List Links) → length os ≡ length hs → length is ≡ length hs →
-    map (λ e. e.id) (present hs) ≡ map (λ (e : NodeEntry). e.id) (present (rows hs os is))
-ids_of_rows [] os is a b = refl
-ids_of_rows (h ∷ hs) [] is a b = absurd (omega arith)
-ids_of_rows (h ∷ hs) (o ∷ os) [] a b = absurd (omega arith)
-ids_of_rows (None ∷ hs) (o ∷ os) (i ∷ is) a b = ids_of_rows hs os is (omega arith) (omega arith)
-ids_of_rows (Some h ∷ hs) (o ∷ os) (i ∷ is) a b =
-    ap (λ (ns : List ℕ). h.id ∷ ns) (ids_of_rows hs os is (omega arith) (omega arith))
 
 -- an entry has the number of its head
 pub id_of_row : (hs : List (Option NodeHead)) (os is : List Links) → length os ≡ length hs → length is ≡ length hs →
@@ -104,18 +92,18 @@ present_append (None ∷ xs) ys = present_append xs ys
 present_append (Some x ∷ xs) ys = ap (λ (hs : List NodeHead). x ∷ hs) (present_append xs ys)
 
 -- the numbers with that of one slot more
-pub ids-more : (hs : List (Option NodeHead)) (k : ℕ) (d : Option NodeHead) → k < length hs
-    → map (λ h. h.id) (present (take k hs)) ++ map (λ h. h.id) (present (get_or hs k d ∷ []))
+pub ids_more : (hs : List (Option NodeHead)) (k : ℕ) (h : Option NodeHead) → k < length hs → h ≡ get_or hs k h
+    → map (λ h. h.id) (present (take k hs)) ++ map (λ h. h.id) (present (h ∷ []))
     ≡ map (λ h. h.id) (present (take (k + 1) hs))
-ids-more hs k d lt = grind (arith, common_steps, map-append, present_append, take_more)
+ids_more hs k h lt is = grind (arith, common_steps, map-append, present_append, take_more)
 
-abbrev ids_in : List (Option NodeEntry) → List ℕ
-ids_in es = map (λ (e : NodeEntry). e.id) (present es)
+abbrev ids_in : List (Option NodeHead) → List ℕ
+ids_in hs = map (λ h. h.id) (present hs)
 
-abbrev id_at : List (Option NodeEntry) → ℕ → Option ℕ
-id_at es p = option_map (λ (e : NodeEntry). e.id) (at es p)
+abbrev id_at : List (Option NodeHead) → ℕ → Option ℕ
+id_at hs p = option_map (λ h. h.id) (at hs p)
 
-slot_of_id : (es : List (Option NodeEntry)) (v : ℕ) → has (ids_in es) v ≡ true → (p : ℕ) × (id_at es p ≡ Some v)
+slot_of_id : (es : List (Option NodeHead)) (v : ℕ) → has (ids_in es) v ≡ true → (p : ℕ) × (id_at es p ≡ Some v)
 slot_of_id [] v h = absurd cc
 slot_of_id (None ∷ es) v h = let r = slot_of_id es v h in (suc r.0, r.1)
 slot_of_id (Some e ∷ es) v h =
@@ -124,7 +112,7 @@ slot_of_id (Some e ∷ es) v h =
       | inr later ↦ let r = slot_of_id es v later in (suc r.0, r.1)
     ]
 
-id_in_slot : (es : List (Option NodeEntry)) (p v : ℕ) → id_at es p ≡ Some v → has (ids_in es) v ≡ true
+id_in_slot : (es : List (Option NodeHead)) (p v : ℕ) → id_at es p ≡ Some v → has (ids_in es) v ≡ true
 id_in_slot [] p v h = absurd cc
 id_in_slot (None ∷ es) zero v h = absurd cc
 id_in_slot (None ∷ es) (suc p) v h = id_in_slot es p v h
@@ -132,7 +120,7 @@ id_in_slot (Some e ∷ es) zero v h =
     subst (λ (n : ℕ). has (e.id ∷ ids_in es) n ≡ true) (same_Some e.id v h) (has_here e.id (ids_in es))
 id_in_slot (Some e ∷ es) (suc p) v h = has_there e.id (ids_in es) v (id_in_slot es p v h)
 
-ids_once : (es : List (Option NodeEntry)) → ((p q v : ℕ) → id_at es p ≡ Some v → id_at es q ≡ Some v → p ≡ q) →
+ids_once : (es : List (Option NodeHead)) → ((p q v : ℕ) → id_at es p ≡ Some v → id_at es q ≡ Some v → p ≡ q) →
     IsDistinct ◌==◌ (ids_in es)
 unfolding IsDistinct
 ids_once [] h = tt
@@ -143,27 +131,6 @@ ids_once (Some e ∷ es) h = (
       let never : 0 ≡ suc r.0 = h 0 (suc r.0) v (ap (λ (n : ℕ). Some n) is) r.1 in omega arith),
   ids_once es (λ p q v a b. let e = h (suc p) (suc q) v a b in omega arith),
 )
-
-module _ (b : Blocks) (es : List (Option NodeEntry)) (x : IsIndexed b es) where
-  pub nodes_once : IsDistinct ◌==◌ (ids_in es)
-  nodes_once =
-      ids_once es (λ p q v i j. same_Some p q (sym (x.named v p i) ∙ x.named v q j))
-
-  pub has_nodes : (F : FinMap nat_cmp Line) (v : ℕ) → has (ids_in es) v ≡ has_node (map_from b es F) v
-  has_nodes F v = by (slot_by b v) refl where
-    by : (o : Option ℕ) → slot_by b v ≡ o → has (ids_in es) v ≡ has_node (map_from b es F) v
-    by (Some p) e = id_in_slot es p v (x.filled v p e) ∙ sym (node_there b es x F v p e)
-    by None e =
-        both_ways (has (ids_in es) v) (has_node (map_from b es F) v)
-        (λ h. let r = slot_of_id es v h in
-        let never : ◌≡◌ {A = Option ℕ} None (Some r.0) = sym e ∙ x.named v r.0 r.1 in absurd cc)
-        (λ h. let none = node_missing b es x F v e in absurd cc)
-
-  -- the numbers of the nodes, sorted
-  pub sorted_nodes : (F : FinMap nat_cmp Line) (ys : List ℕ) → IsPermutation (ids_in es) ys →
-      IsSortedByKey (λ n. n) nat_cmp ys → ys ≡ map (λ e. e.0) (entries (map_from b es F).nodes)
-  sorted_nodes F ys moved up =
-      sorted_keys (map_from b es F).nodes (ids_in es) ys moved up nodes_once (λ v. has_nodes F v)
 
 -- ---- the lines that leave the nodes
 
@@ -206,16 +173,43 @@ module _ (M : Map) (m : IsMap M) where
         both_ways (has (flat_map (lines_out M) vs) x) (has_line M x)
         (λ h. let r = from_node vs x h in
         ap (λ (o : Option Line). is_some o) ((exactly_out M r.0 x).0 r.2).1.0)
-        (λ h. let l = line_there (get M.lines x) h refl in
+        (λ h. let l = some_of (get M.lines x) h in
         let start : has vs l.0.from ≡ true =
         all l.0.from ∙ ap (λ (o : Option Line). has_node M (unwrap_or o no_line).from) (sym l.1) ∙ m.starts x h in
-        of_node vs l.0.from x start ((exactly_out M l.0.from x).1 (l.0, (l.1, refl)))) where
-          line_there : (o : Option Line) → is_some o ≡ true → get M.lines x ≡ o → (l : Line) × (get M.lines x ≡ Some l)
-          line_there None h e = absurd cc
-          line_there (Some l) h e = (l, e)
+        of_node vs l.0.from x start ((exactly_out M l.0.from x).1 (l.0, (l.1, refl))))
 
-    -- the numbers of the lines, sorted
-    pub sorted_lines : IsDistinct ◌==◌ vs → (ys : List ℕ) → IsPermutation (flat_map (lines_out M) vs) ys →
-        IsSortedByKey (λ n. n) nat_cmp ys → ys ≡ map (λ e. e.0) (entries M.lines)
-    sorted_lines once ys moved up =
-        sorted_keys M.lines (flat_map (lines_out M) vs) ys moved up (lines_once vs once) has_lines
+-- ---- the numbers, sorted
+
+module _ (t : RoadMap) where
+  abbrev hs : List (Option NodeHead)
+  hs = slots_of t.nodes.heads
+
+  same_id : (p : ℕ) → id_at hs p ≡ option_map (λ (e : NodeEntry). e.id) (at (node_slots t.nodes) p)
+  same_id p = id_of_row hs t.nodes.outs.items t.nodes.ins.items t.nodes.outs_beside t.nodes.ins_beside p
+
+  named : (v p : ℕ) → id_at hs p ≡ Some v → slot_by t.index v ≡ Some p
+  named v p h = t.kept.indexed.named v p (sym (same_id p) ∙ h)
+
+  nodes_once : IsDistinct ◌==◌ (ids_in hs)
+  nodes_once = ids_once hs (λ p q v i j. same_Some p q (sym (named v p i) ∙ named v q j))
+
+  has_nodes : (v : ℕ) → has (ids_in hs) v ≡ has_node (tables_map t) v
+  has_nodes v =
+      both_ways (has (ids_in hs) v) (has_node (tables_map t) v)
+      (λ h. let r = slot_of_id hs v h in (id_has t r.0 v (sym (same_id r.0) ∙ r.1)).0)
+      (λ h. let s = slot_of t.index (node_slots t.nodes) t.kept.indexed (all_held t.lines) v h in
+      id_in_slot hs s.0 v (same_id s.0 ∙ t.kept.indexed.filled v s.0 s.1))
+
+  pub sorted_nodes : (xs ys : List ℕ) → xs ≡ ids_in hs → IsPermutation xs ys → IsSortedByKey (λ n. n) nat_cmp ys →
+      ys ≡ map (λ e. e.0) (entries (tables_map t).nodes)
+  sorted_nodes xs ys is moved up =
+      sorted_keys (tables_map t).nodes (ids_in hs) ys (subst (λ (zs : List ℕ). IsPermutation zs ys) is moved) up
+      nodes_once has_nodes
+
+  pub sorted_lines : (vs xs ys : List ℕ) → vs ≡ ids_in hs → xs ≡ flat_map (lines_out (tables_map t)) vs →
+      IsPermutation xs ys → IsSortedByKey (λ n. n) nat_cmp ys → ys ≡ map (λ e. e.0) (entries (tables_map t).lines)
+  sorted_lines vs xs ys nodes is moved up =
+      let M : Map = tables_map t in
+      let lines : xs ≡ flat_map (lines_out M) (ids_in hs) = is ∙ ap (flat_map (lines_out M)) nodes in
+      sorted_keys M.lines _ ys (subst (λ (zs : List ℕ). IsPermutation zs ys) lines moved) up
+      (lines_once M t.kept.sound (ids_in hs) nodes_once) (has_lines M t.kept.sound (ids_in hs) has_nodes)

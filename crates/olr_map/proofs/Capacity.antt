@@ -1,56 +1,46 @@
 -- Empty tables, and tables with more capacity.
-use Rattle.olr_map.proofs.Common.{◌≡◌, ◌==◌, ◌&&◌, ℕ, ◌<◌, ◌≤◌, true, false, cond, [], length, Some, None, is_some}
-use Rattle.olr_map.proofs.Common.{unwrap_or, refl, sym, ap, ◌∙◌, subst, arith, option_map, option_map_or, FinMap}
-use Rattle.olr_map.proofs.Common.{lookup, cond-true, eqb-true, eq-eqb, same_Some, Coord, Map, IsMap, Line, has_node}
-use Rattle.olr_map.proofs.Common.{has_line, line_at, pairs_of, slot_by, spare_of, at, held, things_of, all_held}
-use Rattle.olr_map.proofs.Common.{spare_numbers, in_slot, node_slots, node_room, links_at, lines_on, links_room, far}
-use Rattle.olr_map.proofs.Common.{lines_at, node_in, links_in, map_from, node_slot, IsListed, IsIndexed, AreTables}
+use Rattle.olr_map.proofs.Common.{map, ◌≡◌, ◌==◌, ◌&&◌, ℕ, ◌<◌, ◌≤◌, true, false, cond, [], length, Some, None}
+use Rattle.olr_map.proofs.Common.{unwrap_or, refl, sym, ap, ◌∙◌, subst, arith, option_map, option_map_or, FinMap, IsRelinked}
+use Rattle.olr_map.proofs.Common.{lookup, cond-true, eqb-true, eq-eqb, same_Some, Coord, Map, IsMap, Line}
+use Rattle.olr_map.proofs.Common.{pairs_of, slot_by, spare_of, at, held, things_of, all_held}
+use Rattle.olr_map.proofs.Common.{spare_numbers, in_slot, node_slots, node_room, links_at, lines_on, links_room}
+use Rattle.olr_map.proofs.Common.{lines_at, links_in, map_from, node_slot, IsListed, IsIndexed, AreTables}
 use Rattle.olr_map.proofs.Common.{Room, HasRoomFor, tables_map, room_of, room_at, IsRoomWithin, IsReserved, Blocks}
 use Rattle.olr_map.proofs.Common.{Links, NodeSlots, Side, Out, In, SlotMap, RoadMap, common_steps}
 use Rattle.std.specs.Ordering.{nat_cmp}
+use Rattle.std.specs.FinMap.{from_entries}
+use Rattle.olr_spec.specs.Map.{empty_map}
+use Rattle.olr_spec.proofs.UndoLemmas.{empty_sound}
+use Rattle.olr_map.specs.Tables.{coord_in}
 use Rattle.std.proofs.lemmas.Bool.{and_from, and_parts}
 use Rattle.olr_map.specs.Linked.{IsRoomier}
 use Rattle.olr_map.proofs.ColumnLemmas.{few_nodes}
 use Rattle.olr_map.proofs.Insertions.{same_answers}
-use Rattle.olr_map.proofs.Lookups.{all_get}
 use Rattle.olr_map.proofs.Blocking.{listed_found}
 use Rattle.olr_map.proofs.SlotMapLemmas.{held_get}
-use Rattle.olr_map.proofs.Indexing.{id_of, place_of, one_node, same_side, Relisted}
-use Rattle.olr_map.proofs.Listing.{replaced}
-use Rattle.olr_map.proofs.Reading.{got_node, got_line, kept_from, node_missing}
+use Rattle.olr_map.proofs.Indexing.{id_of, place_of, one_node, same_side, Relisted, relisted}
+use Rattle.olr_map.proofs.Making.{le_same}
+use Rattle.olr_map.proofs.Reading.{got_node, got_line, kept_from}
 use Rattle.olr_spec.specs.Map as maps
 
 -- ---- empty tables
-
-empty_map_sound : (M : Map) → ((v : ℕ) → has_node M v ≡ false) → ((x : ℕ) → has_line M x ≡ false) → IsMap M
-empty_map_sound M no_node no_line =
-    record {
-      good = λ x h. absurd (cc (no_line x));
-      starts = λ x h. absurd (cc (no_line x));
-      ends = λ x h. absurd (cc (no_line x));
-      places = λ v h. absurd (cc (no_node v));
-      shapes = λ x h. absurd (cc (no_line x));
-    }
 
 pub kept_none : (b : Blocks) (s : NodeSlots) (ls : SlotMap Line) → pairs_of b ≡ [] → node_slots s ≡ [] →
     things_of ls ≡ [] → AreTables b (node_slots s) (all_held ls)
 kept_none b s ls no_nodes no_slots no_lines =
     let none : (v : ℕ) → slot_by b v ≡ None = λ v. sym (listed_found b v) ∙ ap (lookup (λ q. v == q)) no_nodes in
-    let indexed : IsIndexed b (node_slots s) =
-    record {
+    let empty : map_from b (node_slots s) (all_held ls) ≡ empty_map =
+    λ i. record {
+      nodes = from_entries (map (λ (e : ℕ × ℕ). (e.0, coord_in (node_slots s) e.1)) (no_nodes i));
+      lines = from_entries (no_lines i);
+    } in
+    kept_from b (node_slots s) (all_held ls) (record {
       filled = λ v p h. absurd (cc (none v));
       named = λ v p h. let free = ap (λ es. option_map id_of (at es p)) no_slots in absurd cc;
-    } in
-    kept_from b (node_slots s) (all_held ls) indexed (few_nodes s)
-    (empty_map_sound (map_from b (node_slots s) (all_held ls))
-    (λ v. node_missing b (node_slots s) indexed (all_held ls) v (none v))
-    (λ x. ap (λ o. is_some o) (all_get (things_of ls) x ∙ ap (lookup (λ q. x == q)) no_lines)))
+    }) (few_nodes s) (subst IsMap (sym empty) empty_sound)
     (λ side v l h. let free = ap (λ o. option_map (links_at side) (in_slot (node_slots s) o)) (none v) in absurd cc)
 
 -- ---- at least as much capacity
-
-pub within_same : (R : Room) → IsRoomWithin R R
-within_same R = record { nodes = omega arith; lines = λ side v. omega arith }
 
 pub within_trans : (R S T : Room) → IsRoomWithin R S → IsRoomWithin S T → IsRoomWithin R T
 within_trans R S T a b =
@@ -84,66 +74,48 @@ both_fit s mid new x l p q slots first second out into In = into l.to (first.slo
 
 -- ---- more capacity for numbers
 
-module _ (t : RoadMap) (b' : Blocks) (same : (k : ℕ) → slot_by b' k ≡ slot_by t.index k) where
-  index_indexed : IsIndexed b' (node_slots t.nodes)
-  index_indexed =
+module _ (t : RoadMap) (b' : Blocks) (ls' : SlotMap Line) (slots : (k : ℕ) → slot_by b' k ≡ slot_by t.index k)
+    (same : (k : ℕ) → held ls' k ≡ held t.lines k) where
+  same_indexed : IsIndexed b' (node_slots t.nodes)
+  same_indexed =
       record {
-        filled = λ v p h. t.kept.indexed.filled v p (sym (same v) ∙ h);
-        named = λ v p h. same v
-            ∙ t.kept.indexed.named v p h;
+        filled = λ v p h. t.kept.indexed.filled v p (sym (slots v) ∙ h);
+        named = λ v p h. slots v ∙ t.kept.indexed.named v p h;
       }
 
-  index_node : (v : ℕ) → node_in b' (node_slots t.nodes) v ≡ node_in t.index (node_slots t.nodes) v
-  index_node v = grind (arith, common_steps)
+  same_map : map_from b' (node_slots t.nodes) (all_held ls') ≡ tables_map t
+  same_map =
+      let nodes : (map_from b' (node_slots t.nodes) (all_held ls')).nodes ≡ (tables_map t).nodes =
+      same_answers _ _ (λ k. got_node b' (node_slots t.nodes) same_indexed (all_held ls') k
+      ∙ ap (λ o. option_map place_of (in_slot (node_slots t.nodes) o)) (slots k)
+      ∙ sym (got_node t.index (node_slots t.nodes) t.kept.indexed (all_held t.lines) k)) in
+      let lines : all_held ls' ≡ all_held t.lines =
+      same_answers _ _ (λ k. held_get ls' k ∙ same k ∙ sym (got_line t k)) in
+      λ j. record { nodes = nodes j; lines = lines j }
 
-  index_map : map_from b' (node_slots t.nodes) (all_held t.lines) ≡ tables_map t
-  index_map = ap (λ (ns : FinMap nat_cmp Coord). record (tables_map t) { nodes = ns }) (same_answers _ _ (λ k.
-      got_node b' (node_slots t.nodes) index_indexed (all_held t.lines) k ∙ ap (option_map place_of) (index_node k)
-      ∙ sym (got_node t.index (node_slots t.nodes) t.kept.indexed (all_held t.lines) k)))
+  pub same_kept : AreTables b' (node_slots t.nodes) (all_held ls')
+  same_kept =
+      kept_from b' (node_slots t.nodes) (all_held ls') same_indexed (few_nodes t.nodes)
+      (subst IsMap (sym same_map) t.kept.sound)
+      (λ side v l h. subst (λ (K : Map). IsListed side K (node_slot b') v l) (sym same_map)
+      (subst (λ (P : ℕ → ℕ). IsListed side (tables_map t) P v l) (λ i u. unwrap_or (sym (slots u) i) 0)
+      (t.kept.listed side v l (ap (λ o. option_map (links_at side) (in_slot (node_slots t.nodes) o)) (sym (slots v)) ∙ h))))
 
-  pub index_kept : AreTables b' (node_slots t.nodes) (all_held t.lines)
-  index_kept =
-      kept_from b' (node_slots t.nodes) (all_held t.lines) index_indexed (few_nodes t.nodes)
-      (subst IsMap (sym index_map) t.kept.sound)
-      (λ side v l h.
-      replaced side (tables_map t) (map_from b' (node_slots t.nodes) (all_held t.lines)).nodes (node_slot t.index)
-      (node_slot b') v l
-      (λ y there. ap (λ o. unwrap_or o 0) (sym (same (far side (line_at (tables_map t) y)))))
-      (t.kept.listed side v l (ap (option_map (links_at side)) (sym (index_node v)) ∙ h)))
-
-  pub index_reserved : (kept' : AreTables b' (node_slots t.nodes) (all_held t.lines)) → spare_of t.index ≤ spare_of b' →
-      IsReserved t (record { index = b'; nodes = t.nodes; lines = t.lines; kept = kept' })
-  index_reserved kept' le =
-      let stays : (side : Side) (v : ℕ) → room_at side t v
-      ≤ option_map_or (λ l. links_room l) (links_in side b' (node_slots t.nodes) v) 0 =
-      λ side v.
-      let is = ap (λ o. option_map_or (λ l. links_room l) (option_map (links_at side) o) 0) (index_node v) in
-      omega arith in
-      record {
-        map = index_map;
-        more = record { nodes = omega arith; lines = stays };
-        nodes = le;
-        lines = omega arith;
-        slots = same;
-      }
-
-module _ (t : RoadMap) (ls' : SlotMap Line) (same : (k : ℕ) → held ls' k ≡ held t.lines k) where
-  same_lines : all_held ls' ≡ all_held t.lines
-  same_lines = same_answers _ _ (λ k. held_get ls' k ∙ same k ∙ sym (got_line t k))
-
-  pub lines_kept : AreTables t.index (node_slots t.nodes) (all_held ls')
-  lines_kept = subst (λ (F : FinMap nat_cmp Line). AreTables t.index (node_slots t.nodes) F) (sym same_lines) t.kept
-
-  pub lines_reserved : (kept' : AreTables t.index (node_slots t.nodes) (all_held ls')) →
+  pub same_reserved : (kept' : AreTables b' (node_slots t.nodes) (all_held ls')) → spare_of t.index ≤ spare_of b' →
       spare_numbers t.lines ≤ spare_numbers ls' →
-      IsReserved t (record { index = t.index; nodes = t.nodes; lines = ls'; kept = kept' })
-  lines_reserved kept' le =
+      IsReserved t (record { index = b'; nodes = t.nodes; lines = ls'; kept = kept' })
+  same_reserved kept' numbers lines =
       record {
-        map = ap (λ (F : FinMap nat_cmp Line). record (tables_map t) { lines = F }) same_lines;
-        more = within_same (room_of t);
-        nodes = omega arith;
-        lines = le;
-        slots = λ v. refl;
+        map = same_map;
+        more = record {
+          nodes = omega arith;
+          lines = λ side v. le_same _ _
+              (ap (λ o. option_map_or (λ l. links_room l) (option_map (links_at side) (in_slot (node_slots t.nodes) o)) 0)
+              (sym (slots v)));
+        };
+        nodes = numbers;
+        lines = lines;
+        slots = slots;
       }
 
 -- ---- more capacity for a node's lines
@@ -154,8 +126,12 @@ side_is s side h = grind (arith, common_steps)
 itself : (side : Side) → same_side side side ≡ true
 itself side = grind (arith, common_steps)
 
-module _ (t : RoadMap) (nodes' : NodeSlots) (side : Side) (v : ℕ) (old new : Links)
-    (r : Relisted t.index (node_slots t.nodes) (node_slots nodes') side v old new) (more : IsRoomier old new) where
+module _ (t : RoadMap) (nodes' : NodeSlots) (side : Side) (p v : ℕ) {R : Links → Links → Type 0}
+    (w : IsRelinked (node_slots t.nodes) (node_slots nodes') side p R) (here : slot_by t.index v ≡ Some p)
+    (more : IsRoomier (links_at side w.entry) w.links) where
+  r : Relisted t.index (node_slots t.nodes) (node_slots nodes') side v (links_at side w.entry) w.links
+  r = relisted t.index (node_slots t.nodes) t.kept.indexed (node_slots nodes') side p v w here
+
   roomier_map : map_from t.index (node_slots nodes') (all_held t.lines) ≡ tables_map t
   roomier_map = ap (λ (ns : FinMap nat_cmp Coord). record (tables_map t) { nodes = ns }) (same_answers _ _ (λ k.
       got_node t.index (node_slots nodes') r.indexed (all_held t.lines) k ∙ r.places k
@@ -166,14 +142,14 @@ module _ (t : RoadMap) (nodes' : NodeSlots) (side : Side) (v : ℕ) (old new : L
       × (links_in s t.index (node_slots t.nodes) k ≡ Some m) × IsRoomier m h
   roomier_links s k h is =
       elim (same_side s side && (v == k)) as (λ c. (same_side s side && (v == k)) ≡ c →
-      cond c (Some new) (links_in s t.index (node_slots t.nodes) k) ≡ Some h → (m : Links)
+      cond c (Some w.links) (links_in s t.index (node_slots t.nodes) k) ≡ Some h → (m : Links)
       × (links_in s t.index (node_slots t.nodes) k ≡ Some m) × IsRoomier m h) [
         | true ↦ λ i j.
             let both = and_parts (same_side s side) (v == k) i in (
-              old,
+              links_at side w.entry,
               ap (λ n. links_in s t.index (node_slots t.nodes) n) (sym (eqb-true v k both.1))
                   ∙ ap (λ z. links_in z t.index (node_slots t.nodes) v) (side_is s side both.0) ∙ r.was,
-              subst (IsRoomier old) (same_Some _ _ j) more,
+              subst (IsRoomier (links_at side w.entry)) (same_Some _ _ j) more,
             )
         | false ↦ λ i j. (h, j, record { lines = refl; ends = refl; room = omega arith })
       ] refl (sym (r.now s k) ∙ is)
@@ -204,14 +180,13 @@ module _ (t : RoadMap) (nodes' : NodeSlots) (side : Side) (v : ℕ) (old new : L
         stays s k = grind (arith, common_steps, r.now s k, r.was, more.room, side_is, eqb-true, and_parts)
 
   -- the node in this slot has capacity
-  pub roomier_here : (p u : ℕ) → slot_by t.index v ≡ Some p → slot_by t.index u ≡ Some p →
-      length (lines_on new) < links_room new
+  pub roomier_here : length (lines_on w.links) < links_room w.links → (u : ℕ) → slot_by t.index u ≡ Some p
       → length (lines_at side (map_from t.index (node_slots nodes') (all_held t.lines)) u)
       < option_map_or (λ l. links_room l) (links_in side t.index (node_slots nodes') u) 0
-  roomier_here p u here there lt =
+  roomier_here lt u there =
       let one = one_node t.index (node_slots t.nodes) t.kept.indexed v u p here there in
-      let is = r.now side u ∙ cond-true (same_side side side && (v == u)) (Some new) _
+      let is = r.now side u ∙ cond-true (same_side side side && (v == u)) (Some w.links) _
       (and_from (same_side side side) (v == u) (itself side) (eq-eqb v u one)) in
-      let long = ap (λ zs. length zs) (roomier_kept.listed side u new is).numbers in
+      let long = ap (λ zs. length zs) (roomier_kept.listed side u w.links is).numbers in
       let room = ap (λ o. option_map_or (λ l. links_room l) o 0) is in
       omega arith

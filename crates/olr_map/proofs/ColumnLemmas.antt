@@ -89,6 +89,15 @@ module _ (s : NodeSlots) where
   abbrev pub column : Side → Column
   column side = sides os is side
 
+  pub outs_at : (p : ℕ) (e : NodeEntry) (d : Links) → at (node_slots s) p ≡ Some e → get_or os p d ≡ e.outs
+  outs_at p e d here = (columns p e d here).outs
+
+  pub ins_at : (p : ℕ) (e : NodeEntry) (d : Links) → at (node_slots s) p ≡ Some e → get_or is p d ≡ e.ins
+  ins_at p e d here = (columns p e d here).ins
+
+  pub head_at : (p : ℕ) (e : NodeEntry) → at (node_slots s) p ≡ Some e → at hs p ≡ Some (record { id = e.id; place = e.place })
+  head_at p e here = (columns p e e.outs here).head
+
   pub links_read : (side : Side) (p : ℕ) (e : NodeEntry) (w : Links) → at (node_slots s) p ≡ Some e →
       w ≡ get_or (column side) p w → w ≡ links_at side e
   links_read Out p e w here r = r ∙ (columns p e w here).outs

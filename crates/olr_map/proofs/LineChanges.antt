@@ -186,19 +186,6 @@ end_seen : (side : Side) (b : Blocks) (l : Line) (q : ℕ) (e : LineEnd) → slo
     e ≡ record { node = far side l; slot = q; len = l.len } → Some e ≡ Some (seen side (node_slot b) l)
 end_seen side b l q e there is = grind (arith, common_steps, place_is)
 
--- what an accepted change of a line says of the line
-pub number_free : (t : RoadMap) (x : ℕ) (l : Line) → CanMake (tables_map t) (room_of t) (PutLine x l) →
-    has_line (tables_map t) x ≡ false
-number_free t x l can = (made_as (tables_map t) (PutLine x l) can.accepted).0
-
-pub line_taken : (t : RoadMap) (x : ℕ) → CanMake (tables_map t) (room_of t) (TakeLine x) →
-    has_line (tables_map t) x ≡ true
-line_taken t x can = (made_as (tables_map t) (TakeLine x) can.accepted).0
-
-pub line_set : (t : RoadMap) (x : ℕ) (k : Line) → CanMake (tables_map t) (room_of t) (SetLine x k) →
-    has_line (tables_map t) x ≡ true
-line_set t x k can = (made_as (tables_map t) (SetLine x k) can.accepted).0
-
 -- both lists were changed, first that of the node where the line begins
 module _ (t : RoadMap) (mid nodes' : NodeSlots) (lines' : SlotMap Line) (n x p q : ℕ) (number : n ≡ x) (ends : Line)
     (here : slot_by t.index ends.from ≡ Some p) (there : slot_by t.index ends.to ≡ Some q) (e d : Option LineEnd)
@@ -248,7 +235,7 @@ line_put t mid nodes' lines' n x p q number l here there e d e_is d_is out into 
     let r : LineWritten t nodes' lines' x l None (Some l) =
     line_written t mid nodes' lines' n x p q number l here there (Some e) (Some d) out into None (Some l)
     (end_seen Out t.index l q e there e_is) (end_seen In t.index l p d here d_is)
-    (ap (held t.lines) number ∙ line_missing t x (number_free t x l can)) put
+    (ap (held t.lines) number ∙ line_missing t x (made_as M (PutLine x l) can.accepted).0) put
     (λ side k none. absurd cc) (λ side k is. ap (near side) (sym (same_Some _ _ is))) in
     line_made r (PutLine x l) (TakeLine x) can
     (line_map r (finmap.insert M.lines x l) (got_insert M.lines x l) ∙ (made_as M (PutLine x l) can.accepted).4) refl
@@ -272,7 +259,7 @@ module _ (t : RoadMap) (mid nodes' : NodeSlots) (lines' : SlotMap Line) (n x p q
       CanMake (tables_map t) (room_of t) (TakeLine x) → LineMade t nodes' lines' (TakeLine x) (PutLine x l)
   line_take out into taken can =
       let M : Map = tables_map t in
-      let there' = line_taken t x can in
+      let there' = (made_as M (TakeLine x) can.accepted).0 in
       let r : LineWritten t nodes' lines' x (line_at M x) (Some l) None =
       line_written t mid nodes' lines' n x p q number (line_at M x) here there None None out into (Some l) None refl refl
       was taken end_was (λ side k none. absurd cc) in

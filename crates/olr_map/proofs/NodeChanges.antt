@@ -2,7 +2,7 @@
 use Rattle.olr_map.proofs.Common.{◌≡◌, ◌==◌, ℕ, ◌+◌, ◌<◌, ◌≤◌, true, false, cond, [], map, Option, Some, None}
 use Rattle.olr_map.proofs.Common.{unwrap_or, length, refl, sym, ap, ◌∙◌, subst, arith, option_map, option_map_or}
 use Rattle.olr_map.proofs.Common.{FinMap, get, eqb-true, nil_from_length, same_Some, Coord, Map, IsMap, Line, has_node}
-use Rattle.olr_map.proofs.Common.{line_at, no_coord, has-lines_where, passed_line, slot_by, spare_of, IsWritten}
+use Rattle.olr_map.proofs.Common.{no_coord, has-lines_where, passed_line, slot_by, spare_of, IsWritten}
 use Rattle.olr_map.proofs.Common.{IsInserted, IsRemoved, IsReplaced, all_held, node_slots, node_room, links_at}
 use Rattle.olr_map.proofs.Common.{lines_on, ends_on, links_room, room_kept, sides, near, far, node_in, links_in}
 use Rattle.olr_map.proofs.Common.{map_from, node_slot, lines_at, end_at, IsListed, IsIndexed, AreTables, tables_map}
@@ -34,6 +34,14 @@ pub record NodeWritten (t : RoadMap) (b' : Blocks) (nodes' : NodeSlots) (v : ℕ
   pub was : slot_by t.index v ≡ slot_if slot o
   pub now : (k : ℕ) → slot_by b' k ≡ cond (v == k) (slot_if slot w) (slot_by t.index k)
   pub id : option_map id_of w ≡ slot_if v w
+
+node_written : {t : RoadMap} {b' : Blocks} {nodes' : NodeSlots} {v : ℕ} {o w : Option NodeEntry} (p n : ℕ) →
+    IsWritten (node_slots t.nodes) (node_slots nodes') p o w → n ≡ v → slot_by t.index v ≡ slot_if p o →
+    ((k : ℕ) → slot_by b' k ≡ cond (n == k) (slot_if p w) (slot_by t.index k)) → option_map id_of w ≡ slot_if v w →
+    NodeWritten t b' nodes' v o w
+node_written {t} {b'} {nodes'} {v} {o} {w} p n is number was now id =
+    let here = subst (λ (m : ℕ). (k : ℕ) → slot_by b' k ≡ cond (m == k) (slot_if p w) (slot_by t.index k)) number now in
+    record { slot = p; is = is; was = was; now = here; id = id }
 
 abbrev entry_room : Side → Option NodeEntry → ℕ
 entry_room side e = option_map_or (λ l. links_room l) (option_map (links_at side) e) 0
@@ -140,13 +148,8 @@ module _ (t : RoadMap) (b' : Blocks) (nodes' : NodeSlots) (p n v : ℕ) (q : Coo
 
   put_written : NodeWritten t b' nodes' v None (Some entry)
   put_written =
-      record {
-        slot = p;
-        is = is;
-        was = not_found t.index (node_slots t.nodes) t.kept.indexed (all_held t.lines) v put_says.0;
-        now = subst (λ (m : ℕ). (k : ℕ) → slot_by b' k ≡ cond (m == k) (Some p) (slot_by t.index k)) number put;
-        id = refl;
-      }
+      node_written p n is number
+      (not_found t.index (node_slots t.nodes) t.kept.indexed (all_held t.lines) v put_says.0) put refl
 
   put_map : map_from b' (node_slots nodes') (all_held t.lines) ≡ map_after (tables_map t) (PutNode v q o i)
   put_map =
@@ -200,14 +203,7 @@ module _ (t : RoadMap) (b' : Blocks) (nodes' : NodeSlots) (p n v : ℕ) (e : Nod
     (taken : (k : ℕ) → slot_by b' k ≡ cond (n == k) None (slot_by t.index k))
     (can : CanMake (tables_map t) (room_of t) (TakeNode v)) where
   take_written : NodeWritten t b' nodes' v (Some e) None
-  take_written =
-      record {
-        slot = p;
-        is = is;
-        was = ap (slot_by t.index) (sym number) ∙ here;
-        now = subst (λ (m : ℕ). (k : ℕ) → slot_by b' k ≡ cond (m == k) None (slot_by t.index k)) number taken;
-        id = refl;
-      }
+  take_written = node_written p n is number (ap (slot_by t.index) (sym number) ∙ here) taken refl
 
   take_map : map_from b' (node_slots nodes') (all_held t.lines) ≡ map_after (tables_map t) (TakeNode v)
   take_map =
@@ -223,9 +219,8 @@ module _ (t : RoadMap) (b' : Blocks) (nodes' : NodeSlots) (p n v : ℕ) (e : Nod
       (made_as (tables_map t) (TakeNode v) can.accepted).1 there))
 
   pub taken_empty : (side : Side) → lines_on (links_at side e) ≡ []
-  unfolding take_written
   taken_empty side =
-      (listed_at t side v p e take_written.was is.was).numbers
+      (listed_at t side v p e (ap (slot_by t.index) (sym number) ∙ here) is.was).numbers
       ∙ sym (unused_lines side (tables_map t) v (made_as (tables_map t) (TakeNode v) can.accepted).1)
 
   pub take_node_made : (kept' : AreTables b' (node_slots nodes') (all_held t.lines)) →
@@ -233,11 +228,10 @@ module _ (t : RoadMap) (b' : Blocks) (nodes' : NodeSlots) (p n v : ℕ) (e : Nod
       lines_kept i ≡ [] → room_kept o ≡ links_room e.outs → room_kept i ≡ links_room e.ins
       → IsChangeMade t (record { index = b'; nodes = nodes'; lines = t.lines; kept = kept' }) (TakeNode v)
       (PutNode v e.place o i)
-  unfolding take_written
   take_node_made kept' room spare o i no_outs no_ins same_outs same_ins =
       let new : RoadMap = record { index = b'; nodes = nodes'; lines = t.lines; kept = kept' } in
       let place : e.place ≡ coord_at (tables_map t) v =
-      sym (ap (λ c. unwrap_or c no_coord) (node_read t v p e take_written.was is.was)) in
+      sym (ap (λ c. unwrap_or c no_coord) (node_read t v p e (ap (slot_by t.index) (sym number) ∙ here) is.was)) in
       change_made t (TakeNode v) can new (PutNode v e.place o i) take_map (ap (maps.Add_node v) place) (omega arith)
       (no_outs, no_ins)
       (record { nodes = omega arith; lines = λ side. room_forth take_written kept' side 0 refl })
@@ -258,13 +252,8 @@ module _ (t : RoadMap) (nodes' : NodeSlots) (p v : ℕ) (e : NodeEntry) (q : Coo
 
   move_written : NodeWritten t t.index nodes' v (Some e) (Some moved)
   move_written =
-      record {
-        slot = p;
-        is = is;
-        was = here;
-        now = unchanged_at (slot_by t.index) v (Some p) here;
-        id = id_is t.index (node_slots t.nodes) t.kept.indexed v p e here is.was;
-      }
+      node_written p v is refl here (unchanged_at (slot_by t.index) v (Some p) here)
+      (id_is t.index (node_slots t.nodes) t.kept.indexed v p e here is.was)
 
   move_map : map_from t.index (node_slots nodes') (all_held t.lines) ≡ map_after (tables_map t) (MoveNode v q)
   move_map =

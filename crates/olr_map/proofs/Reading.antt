@@ -142,6 +142,14 @@ module _ (t : RoadMap) where
   slot_is v p h e = let s =
       slot_of b es t.kept.indexed (all_held t.lines) v h in s.1 ∙ ap (λ n. Some n) (sym (place_is b v s.0 s.1) ∙ e)
 
+  pub id_has : (p v : ℕ) → option_map id_of (at es p) ≡ Some v → (has_node M v ≡ true) × (node_slot b v ≡ p)
+  id_has p v h =
+      let here = t.kept.indexed.named v p h in
+      (node_there b es t.kept.indexed (all_held t.lines) v p here, place_is b v p here)
+
+  pub has_id : (p v : ℕ) → has_node M v ≡ true → node_slot b v ≡ p → option_map id_of (at es p) ≡ Some v
+  has_id p v h e = t.kept.indexed.filled v p (slot_is v p h e)
+
   pub slot_filled : (p : ℕ) → (v : ℕ) × IsTrue (has_node M v) × (node_slot b v ≡ p) → is_some (at es p) ≡ true
   slot_filled p h = filled_in h.0 p (slot_is h.0 p h.1 h.2)
 

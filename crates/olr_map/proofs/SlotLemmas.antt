@@ -66,28 +66,20 @@ module _ {X : Type 0} where
           few = omega arith;
         }
 
-    pub popped : (gs : List ℕ) (p : ℕ) → fs ≡ gs ++ p ∷ [] → (p < length es) × (at es p ≡ None)
-    popped gs p is =
-        let long : length fs ≡ length gs + 1 = ap (λ xs. length xs) is ∙ length_push gs p in
-        let here : slice_index fs (length gs) ≡ p =
-        ap (λ xs. slice_index xs (length gs)) is ∙ get_or_push gs p 0 (length gs) refl in
-        let lt = s.inside (length gs) (omega arith) in
-        (omega arith, ap (at es) (sym here) ∙ free_at (length gs) (omega arith))
-
     pub put_slotted : (gs : List ℕ) (p : ℕ) (f : X) → fs ≡ gs ++ p ∷ [] → IsSlotted (set es p (Some f)) gs room
     put_slotted gs p f is =
-        let pop = popped gs p is in
         let long : length fs ≡ length gs + 1 = ap (λ xs. length xs) is ∙ length_push gs p in
         let here : slice_index fs (length gs) ≡ p =
         ap (λ xs. slice_index xs (length gs)) is ∙ get_or_push gs p 0 (length gs) refl in
         let same : (i : ℕ) → i < length gs → slice_index fs i ≡ slice_index gs i =
         λ i lt. ap (λ xs. slice_index xs i) is ∙ get_or_append_left gs (p ∷ []) 0 i lt in
+        let inside = s.inside (length gs) (omega arith) in
         let size : length (set es p (Some f)) ≡ length es = length-set es p (Some f) in
         let roomy = s.roomy in
         let few = s.few in
         record {
           inside = λ i lt. let a = s.inside i (omega arith) in let e = same i lt in omega arith;
-          vacant = λ i lt. still_free p (slice_index gs i) (Some f) pop.0
+          vacant = λ i lt. still_free p (slice_index gs i) (Some f) (omega arith)
               (λ e. s.apart i (length gs) lt (omega arith) (same i lt ∙ sym e ∙ sym here))
               (ap (at es) (sym (same i lt)) ∙ free_at i (omega arith));
           apart = λ i j lt h e. s.apart i j lt (omega arith) (same i (omega arith) ∙ e ∙ sym (same j h));
@@ -107,10 +99,10 @@ module _ {X : Type 0} where
           few = omega arith;
         })
 
-    pub take_slotted : (p : ℕ) (e : X) (now : List ℕ) (more : ℕ) → at es p ≡ Some e → now ≡ fs ++ p ∷ [] → room ≤ more →
+    pub take_slotted : (p : ℕ) (now : List ℕ) (more : ℕ) → is_some (at es p) ≡ true → now ≡ fs ++ p ∷ [] → room ≤ more →
         IsSlotted (set es p None) now more
-    take_slotted p e now more h is le =
-        let inside = holds_within es p e h in
+    take_slotted p now more there is le =
+        let inside = some_within es p there in
         let size : length (set es p None) ≡ length es = length-set es p None in
         let long = length_push fs p in
         let roomy = s.roomy in
@@ -120,7 +112,7 @@ module _ {X : Type 0} where
         let last : (i : ℕ) → i ≡ length fs → slice_index (fs ++ p ∷ []) i ≡ p =
         λ i at'. get_or_push fs p 0 i (sym at') in
         let others : (i : ℕ) → i < length fs → p ≡ slice_index fs i → ⊥ =
-        λ i lt same. let t = ap (at es) same in let free = free_at i lt in cc in
+        λ i lt same. let t = ap (λ q. is_some (at es q)) same in let free = s.vacant i lt in cc in
         subst (λ (xs : List ℕ). IsSlotted (set es p None) xs more) (sym is) (record {
           inside = λ i lt. grind (arith, common_steps, cases_eq, old, last, s.inside i);
           vacant = λ i lt. elim (cases_eq i (length fs)) [
@@ -141,10 +133,10 @@ module _ {X : Type 0} where
         let lt = s.inside c.0 c.1 in let is = get_or_default fs c.0 0 q c.1 in let here = c.2 in omega arith)
 
   -- there is capacity for one more free slot
-  pub free_room : (es : List (Option X)) (fs : List ℕ) (room : ℕ) → IsSlotted es fs room → (p : ℕ) (e : X) →
-      at es p ≡ Some e → length fs < room
-  free_room es fs room s p e h =
-      let few = free_few (set es p None) (fs ++ p ∷ []) room (take_slotted es fs room s p e (fs ++ p ∷ []) room h refl (omega arith)) in
+  pub free_room : (es : List (Option X)) (fs : List ℕ) (room : ℕ) → IsSlotted es fs room → (p : ℕ) →
+      is_some (at es p) ≡ true → length fs < room
+  free_room es fs room s p there =
+      let few = free_few (set es p None) (fs ++ p ∷ []) room (take_slotted es fs room s p (fs ++ p ∷ []) room there refl (omega arith)) in
       let long = length_push fs p in
       let size = length-set es p None in
       let roomy = s.roomy in

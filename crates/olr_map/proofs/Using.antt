@@ -1,48 +1,43 @@
 -- When a node is in use, by its two lists.
 use Rattle.olr_map.proofs.Common.{common_steps, ◌≡◌, ◌==◌, ◌||◌, ◌<◌, ℕ, true, false, List, [], ◌∷◌, Some, Ok, Err}
-use Rattle.olr_map.proofs.Common.{length, map, refl, sym, ap, ◌∙◌, arith, get, eq-eqb, or_left, or_right}
+use Rattle.olr_map.proofs.Common.{length, map, refl, sym, ap, ◌∙◌, arith, get, or_left, or_right}
 use Rattle.olr_map.proofs.Common.{false_from_ne_true, nil_from_length, Map, Line, lines_out, in_use, has_node, edited}
-use Rattle.olr_map.proofs.Common.{Node_in_use, has, has-lines_where, passes_at, passed_line, LineEnd}
+use Rattle.olr_map.proofs.Common.{Node_in_use, has, has_here, has-lines_where, passes_at, passed_line, LineEnd}
+use Rattle.olr_map.proofs.Common.{near, lines_at, Side, Out, In}
 use Rattle.std.specs.FinMap.{remove}
 use Rattle.std.proofs.lemmas.Bool.{or_from, not_from_true}
 use Rattle.std.proofs.lemmas.List.{length-map}
-use Rattle.olr_spec.specs.Map.{lines_where, lines_in, Drop_node}
+use Rattle.olr_spec.specs.Map.{lines_in, Drop_node}
 use Rattle.olr_spec.proofs.UndoLemmas.{unless_false}
 use Rattle.olr_map.specs.Ends.{end_in, end_out}
 use Rattle.olr_map.proofs.LineRecords.{used_by, unused_by}
 
--- a line in the list uses the node
-module _ (M : Map) (v : ℕ) (f : Line → ℕ) (uses : (l : Line) → (f l == v) ≡ true →
-    (l.to == v || l.from == v) ≡ true) where
-  first_uses : (zs : List ℕ) → zs ≡ lines_where M (λ l. f l == v) → 0 < length zs → in_use M v ≡ true
+-- a line with an end at the node uses it
+end_uses : (side : Side) (v : ℕ) (l : Line) → (near side l == v) ≡ true → (l.to == v || l.from == v) ≡ true
+end_uses Out v l h = or_right (l.to == v) (l.from == v) h
+end_uses In v l h = or_left (l.to == v) (l.from == v) h
+
+module _ (side : Side) (M : Map) (v : ℕ) where
+  first_uses : (zs : List ℕ) → zs ≡ lines_at side M v → 0 < length zs → in_use M v ≡ true
   first_uses [] is long = absurd (omega arith)
   first_uses (x ∷ xs) is long =
-      let here : has (lines_where M (λ l. f l == v)) x ≡ true =
-      ap (λ zs. has zs x) (sym is) ∙ or_left (x == x) (has xs x) (eq-eqb x x refl) in
-      let p = passed_line (λ l. f l == v) (get M.lines x) (sym (has-lines_where M (λ l. f l == v) x) ∙ here) in
-      used_by M (λ l. l.to == v || l.from == v) x p.0 p.1 (uses p.0 p.2)
+      let here : has (lines_at side M v) x ≡ true = ap (λ zs. has zs x) (sym is) ∙ has_here x xs in
+      let p =
+      passed_line (λ l. near side l == v) (get M.lines x) (sym (has-lines_where M (λ l. near side l == v) x) ∙ here) in
+      used_by M (λ l. l.to == v || l.from == v) x p.0 p.1 (end_uses side v p.0 p.2)
 
-  none_uses : lines_where M (λ l. f l == v) ≡ [] → (x : ℕ) (l : Line) → get M.lines x ≡ Some l → (f l == v) ≡ false
+  none_uses : length (lines_at side M v) ≡ 0 → (x : ℕ) (l : Line) → get M.lines x ≡ Some l → (near side l == v) ≡ false
   none_uses none x l e =
-      false_from_ne_true (f l == v) (λ t.
-      let yes : has (lines_where M (λ k. f k == v)) x ≡ true =
-      has-lines_where M (λ k. f k == v) x ∙ ap (passes_at (λ k. f k == v)) e ∙ t in
-      let no : has (lines_where M (λ k. f k == v)) x ≡ false = ap (λ zs. has zs x) none in
+      false_from_ne_true (near side l == v) (λ t.
+      let yes : has (lines_at side M v) x ≡ true =
+      has-lines_where M (λ k. near side k == v) x ∙ ap (passes_at (λ k. near side k == v)) e ∙ t in
+      let no : has (lines_at side M v) x ≡ false = ap (λ zs. has zs x) (nil_from_length (lines_at side M v) none) in
       cc)
 
-pub used_out : (M : Map) (v : ℕ) → 0 < length (lines_out M v) → in_use M v ≡ true
-used_out M v long = first_uses M v (λ l. l.from) (λ l h. or_right (l.to == v) (l.from == v) h) (lines_out M v) refl long
-
-pub used_in : (M : Map) (v : ℕ) → 0 < length (lines_in M v) → in_use M v ≡ true
-used_in M v long = first_uses M v (λ l. l.to) (λ l h. or_left (l.to == v) (l.from == v) h) (lines_in M v) refl long
-
-pub unused_if_empty : (M : Map) (v : ℕ) → length (lines_out M v) ≡ 0 → length (lines_in M v) ≡ 0 → in_use M v ≡ false
-unused_if_empty M v out in' =
+unused_if_empty : (M : Map) (v : ℕ) → length (lines_out M v) ≡ 0 → length (lines_in M v) ≡ 0 → in_use M v ≡ false
+unused_if_empty M v out into =
     unused_by M (λ l. l.to == v || l.from == v)
-    (λ x l e. or_from (l.to == v) (l.from == v)
-    (none_uses M v (λ k. k.to) (λ k h. or_left (k.to == v) (k.from == v) h) (nil_from_length (lines_in M v) in') x l e)
-    (none_uses M v (λ k. k.from) (λ k h. or_right (k.to == v) (k.from == v) h) (nil_from_length (lines_out M v) out) x l
-    e))
+    (λ x l e. or_from (l.to == v) (l.from == v) (none_uses In M v into x l e) (none_uses Out M v out x l e))
 
 -- ---- the outcome of removing a node
 
@@ -54,11 +49,13 @@ unused_without_ends M slot v outs ins outs_are ins_are a b = grind (arith, commo
 
 pub used_by_out : (M : Map) (slot : ℕ → ℕ) (v : ℕ) (outs : List LineEnd) →
     outs ≡ map (end_out M slot) (lines_out M v) → (length outs ≡ 0 → ⊥) → in_use M v ≡ true
-used_by_out M slot v outs are ne = grind (arith, common_steps, length-map, used_out)
+used_by_out M slot v outs are ne =
+    let uses = first_uses Out M v (lines_out M v) refl in grind (arith, common_steps, length-map, uses)
 
 pub used_by_in : (M : Map) (slot : ℕ → ℕ) (v : ℕ) (ins : List LineEnd) → ins ≡ map (end_in M slot) (lines_in M v) →
     (length ins ≡ 0 → ⊥) → in_use M v ≡ true
-used_by_in M slot v ins are ne = grind (arith, common_steps, length-map, used_in)
+used_by_in M slot v ins are ne =
+    let uses = first_uses In M v (lines_in M v) refl in grind (arith, common_steps, length-map, uses)
 
 pub drop_taken : (M : Map) (v : ℕ) → has_node M v ≡ true → in_use M v ≡ false →
     edited M (Drop_node v) ≡ Ok (record M { nodes = remove M.nodes v })

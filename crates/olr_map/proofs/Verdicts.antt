@@ -1,7 +1,7 @@
 -- The slots of an accepted edit's nodes, and the faults of a map as they are returned.
 use Rattle.olr_map.proofs.Common.{◌≡◌, ◌==◌, ◌||◌, ℕ, true, List, [], ◌∷◌, map, Option, Some, None, Result, Ok, Err}
 use Rattle.olr_map.proofs.Common.{IsOk, refl, sym, ap, ◌∙◌, eqb-true, eq-eqb, Map, Node_in_use, has_node, start, end}
-use Rattle.olr_map.proofs.Common.{edited, has, slot_by, node_slot, tables_map, AreSlots, Blocks, RoadMap, common_steps}
+use Rattle.olr_map.proofs.Common.{has, slot_by, node_slot, tables_map, AreSlots, Blocks, RoadMap, common_steps}
 use Rattle.olr_map.proofs.Common.{arith}
 use Rattle.std.proofs.Common.{MatchResult}
 use Rattle.std.specs.Option.{option_to_list}
@@ -97,7 +97,5 @@ refused_as A B (Err g) x h f =
     let is : x ≡ edit_fault_of g = same_fault x (edit_fault_of g) h in (
       λ e. ap (λ y. Err y) (sym (fault_again g) ∙ ap map_fault (sym is ∙ same_fault x (edit_fault_of f) e)
           ∙ fault_again f),
-      λ e. ap (λ y. Err y) (is ∙ ap edit_fault_of (same_map_fault g f e)),
-    ) where
-      same_map_fault : (g f : MapFault) → ◌≡◌ {A = Result Map MapFault} (Err g) (Err f) → g ≡ f
-      same_map_fault g f e = cc
+      λ e. let same : g ≡ f = cc in ap (λ y. Err y) (is ∙ ap edit_fault_of same),
+    )

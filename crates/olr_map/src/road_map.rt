@@ -7,6 +7,7 @@ ghost use Rattle.olr_map.specs.Tables.{AreTables, AreTables-prop};
 use crate::blocks::Blocks;
 use crate::ids::{LineId, NodeId};
 use crate::line::Line;
+use crate::links::Links;
 use crate::read::{LineEnd, MapRead};
 use crate::slot_map::SlotMap;
 use crate::slots::{NodeSlots, Side};
@@ -48,33 +49,20 @@ impl MapRead for RoadMap {
         self.lines.get(id.number())
     }
 
-    #[tactic(auto, using(crate::proofs::Reading::slot_filled))]
     fn out_lines(&self, id: NodeId) -> &[LineId] {
-        match self.slot_of(id) {
-            Some(slot) => self.nodes.links(Side::Out, slot).lines(),
-            None => &[],
-        }
+        self.side_lines(Side::Out, id)
     }
 
     fn in_lines(&self, id: NodeId) -> &[LineId] {
-        match self.slot_of(id) {
-            Some(slot) => self.in_lines_at(slot),
-            None => &[],
-        }
+        self.side_lines(Side::In, id)
     }
 
     fn out_ends(&self, id: NodeId) -> &[LineEnd] {
-        match self.slot_of(id) {
-            Some(slot) => self.out_ends_at(slot),
-            None => &[],
-        }
+        self.side_ends(Side::Out, id)
     }
 
     fn in_ends(&self, id: NodeId) -> &[LineEnd] {
-        match self.slot_of(id) {
-            Some(slot) => self.in_ends_at(slot),
-            None => &[],
-        }
+        self.side_ends(Side::In, id)
     }
 
     #[tactic(auto, using(crate::proofs::ColumnLemmas::slot_count))]
@@ -87,19 +75,16 @@ impl MapRead for RoadMap {
         self.index.get(id.number())
     }
 
-    #[tactic(auto, using(crate::proofs::Reading::slot_filled))]
     fn in_lines_at(&self, slot: u32) -> &[LineId] {
-        self.nodes.links(Side::In, slot).lines()
+        self.links_at(Side::In, slot).lines()
     }
 
-    #[tactic(auto, using(crate::proofs::Reading::slot_filled))]
     fn out_ends_at(&self, slot: u32) -> &[LineEnd] {
-        self.nodes.links(Side::Out, slot).ends()
+        self.links_at(Side::Out, slot).ends()
     }
 
-    #[tactic(auto, using(crate::proofs::Reading::slot_filled))]
     fn in_ends_at(&self, slot: u32) -> &[LineEnd] {
-        self.nodes.links(Side::In, slot).ends()
+        self.links_at(Side::In, slot).ends()
     }
 
     ghost sound = { λ m. m.kept.sound };
@@ -108,8 +93,11 @@ impl MapRead for RoadMap {
 }
 
 impl RoadMap {
-    ghost use Rattle.olr_spec.specs.Map.{empty_map};
-    ghost use Rattle.olr_map.specs.RoadMaps.{map_of};
+    ghost use Rattle.std.specs.Prelude.{ℕ, map, IsTrue};
+    ghost use Rattle.olr_spec.specs.Map.{empty_map, has_node};
+    ghost use Rattle.olr_map.specs.RoadMaps.{map_of, slot_of};
+    ghost use Rattle.olr_map.specs.Linked.{lines_on, ends_on};
+    ghost use Rattle.olr_map.specs.Tables.{lines_at, end_at};
 
     /// A map without nodes and lines. Does not allocate.
     pub fn new(alloc: Global) -> RoadMap
@@ -119,6 +107,41 @@ impl RoadMap {
             index: Blocks::new(alloc),
             nodes: NodeSlots::new(alloc),
             lines: SlotMap::new(alloc),
+        }
+    }
+
+    /// The lines on one side of the node in a slot.
+    #[tactic(auto, using(crate::proofs::Reading::slot_filled))]
+    fn links_at(&self, side: Side, slot: u32) -> &Links
+        requires { (v : ℕ) × IsTrue (has_node (map_of self.now) v) × (slot_of self.now v ≡ slot) }
+        ensures lines { (v : ℕ) → IsTrue (has_node (map_of self.now) v) → slot_of self.now v ≡ slot
+            → lines_on result.now ≡ lines_at side (map_of self.now) v }
+        ensures ends { (v : ℕ) → IsTrue (has_node (map_of self.now) v) → slot_of self.now v ≡ slot
+            → ends_on result.now
+            ≡ map (end_at side (map_of self.now) (slot_of self.now)) (lines_at side (map_of self.now) v) }
+    {
+        self.nodes.links(side, slot)
+    }
+
+    /// The numbers of the lines on one side of a node. Empty for an absent node.
+    #[tactic(auto, using(crate::proofs::Reading::no_lines))]
+    fn side_lines(&self, side: Side, id: NodeId) -> &[LineId]
+        ensures { result.now ≡ lines_at side (map_of self.now) id }
+    {
+        match self.slot_of(id) {
+            Some(slot) => self.links_at(side, slot).lines(),
+            None => &[],
+        }
+    }
+
+    /// The far ends of the lines on one side of a node. Empty for an absent node.
+    #[tactic(auto, using(crate::proofs::Reading::no_ends))]
+    fn side_ends(&self, side: Side, id: NodeId) -> &[LineEnd]
+        ensures { result.now ≡ map (end_at side (map_of self.now) (slot_of self.now)) (lines_at side (map_of self.now) id) }
+    {
+        match self.slot_of(id) {
+            Some(slot) => self.links_at(side, slot).ends(),
+            None => &[],
         }
     }
 

@@ -63,6 +63,7 @@ impl<V: Drop> Slab<V> {
     }
 
     /// Stores a value in a free slot, and returns the slot.
+    #[tactic(auto, using(crate::proofs::SlotLemmas::put_slotted, crate::proofs::SlotLemmas::push_none))]
     pub fn put(&mut self, entry: V) -> u32
         requires { 0 < room_in self.old }
         ensures inserts { IsInserted (slots_of self.old) (slots_of self.new) result entry }
@@ -83,6 +84,7 @@ impl<V: Drop> Slab<V> {
     }
 
     /// Replaces the value in a slot, and returns the previous one.
+    #[tactic(auto, using(crate::proofs::SlotLemmas::stood, crate::proofs::SlotLemmas::turned_slotted))]
     pub fn replace(&mut self, slot: u32, entry: V) -> V
         requires { IsSome (at (slots_of self.old) slot) }
         ensures turns { IsReplaced (slots_of self.old) (slots_of self.new) slot result entry }

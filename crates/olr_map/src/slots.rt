@@ -30,6 +30,7 @@ pub struct NodeHead {
 }
 
 /// The numbers of the nodes in these slots, in the order of the slots.
+#[tactic(auto, using(crate::proofs::AllIds::ids_more))]
 fn ids_of(alloc: Global, heads: &[Option<NodeHead>]) -> Result<Vec<NodeId>, AllocError>
     ensures { IfOk result (λ ids. ids.items ≡ map (λ h. h.id) (present heads.now)) }
 {
@@ -84,6 +85,7 @@ pub struct NodeSlots {
 impl NodeSlots {
     ghost use Rattle.olr_map.specs.Slotted.{IsInserted, IsRemoved, IsReplaced};
     ghost use Rattle.olr_map.specs.Columns.{node_slots, node_room};
+    ghost use Rattle.olr_map.specs.Slabs.{slots_of};
     ghost use Rattle.olr_map.specs.NodeLinks.{links_at, IsRelinked};
     ghost use Rattle.olr_map.specs.Linked.{lines_on, links_room, IsPut, IsRoomier};
     ghost use Rattle.olr_spec.specs.Map.{has};
@@ -101,9 +103,8 @@ impl NodeSlots {
     }
 
     /// The numbers of all nodes, in the order of their slots.
-    #[tactic(auto, using(crate::proofs::AllIds::ids_of_rows))]
     pub fn ids(&self, alloc: Global) -> Result<Vec<NodeId>, AllocError>
-        ensures { IfOk result (λ ids. ids.items ≡ map (λ e. e.id) (present (node_slots self.now))) }
+        ensures { IfOk result (λ ids. ids.items ≡ map (λ h. h.id) (present (slots_of self.now.heads))) }
     {
         ids_of(alloc, &self.heads.entries)
     }
@@ -117,7 +118,7 @@ impl NodeSlots {
     }
 
     /// The coordinate of the node in a slot.
-    #[tactic(auto, using(crate::proofs::ColumnLemmas::head_there))]
+    #[tactic(auto, using(crate::proofs::ColumnLemmas::head_there, crate::proofs::ColumnLemmas::head_at))]
     pub fn place(&self, slot: u32) -> Coord
         requires { IsSome (at (node_slots self.now) slot) }
         ensures { (e : Entry) → at (node_slots self.now) slot ≡ Some e → result ≡ e.place }
@@ -126,7 +127,7 @@ impl NodeSlots {
     }
 
     /// The lines on one side of the node in a slot.
-    #[tactic(auto, using(crate::proofs::ColumnLemmas::inside_outs, crate::proofs::ColumnLemmas::inside_ins))]
+    #[tactic(auto, using(crate::proofs::ColumnLemmas::inside_outs, crate::proofs::ColumnLemmas::inside_ins, crate::proofs::ColumnLemmas::outs_at, crate::proofs::ColumnLemmas::ins_at))]
     pub fn links(&self, side: Side, slot: u32) -> &Links
         requires { IsSome (at (node_slots self.now) slot) }
         ensures { (e : Entry) → at (node_slots self.now) slot ≡ Some e → result.now ≡ links_at side e }
@@ -150,6 +151,7 @@ impl NodeSlots {
     }
 
     /// Stores a node in a free slot, and returns the slot.
+    #[tactic(auto, using(crate::proofs::ColumnLemmas::stays_beside))]
     pub fn put(&mut self, entry: NodeEntry) -> u32
         requires { 0 < node_room self.old }
         ensures inserts { IsInserted (node_slots self.old) (node_slots self.new) result entry }
@@ -168,6 +170,7 @@ impl NodeSlots {
     }
 
     /// Removes the node in a slot, with its lines. The slot is then free.
+    #[tactic(auto, using(crate::proofs::ColumnLemmas::head_there))]
     pub fn take(&mut self, slot: u32) -> NodeEntry
         requires { IsSome (at (node_slots self.old) slot) }
         ensures removes { IsRemoved (node_slots self.old) (node_slots self.new) slot result }
@@ -213,6 +216,7 @@ impl NodeSlots {
     }
 
     /// Sets the far end of a line on one side of the node in a slot, or removes the line, see `Links::put`.
+    #[tactic(auto, using(crate::proofs::ColumnLemmas::outs_at, crate::proofs::ColumnLemmas::ins_at))]
     pub fn put_end(&mut self, side: Side, slot: u32, id: LineId, end: Option<LineEnd>)
         requires { (e : Entry) × (at (node_slots self.old) slot ≡ Some e)
             × IsStrictlyIncreasing (lines_on (links_at side e))

@@ -27,6 +27,7 @@ impl RoadMap {
     ghost use Rattle.olr_map.specs.declared.change.TableChange.TheVariants.{TakeLine};
 
     /// The number of the node in a slot, see `MapRead::slot_of`. None if the slot is free, or if there is no such slot.
+    #[tactic(auto, using(crate::proofs::Reading::id_has, crate::proofs::Reading::has_id))]
     pub fn id_at(&self, slot: usize) -> Option<NodeId>
         ensures { (v : ℕ) → (result ≡ Some v)
             ↔ (IsTrue (has_node (map_of self.now) v) × (slot_of self.now v ≡ slot)) }

@@ -16,20 +16,17 @@ invariant_of-self c =
           (not_blank c.put.new.self (n % 4) c.args.slot _ (c.put.ensures (n % 4))) bs.used;
     }
 
-pub invariant_of-self-2 : goal.invariant_of-self-2
-invariant_of-self-2 c =
+pub invariant_of-self-2-clause-used : goal.invariant_of-self-2-clause-used
+invariant_of-self-2-clause-used c =
     let bs = c.args.self.now in
     let n = c.args.number in
     let block = c.put-2.new.self in
     let room : 0 < spare c.get_mut.follows.lender-at-none =
     subst (λ m. 0 < spare m) (sym c.get_mut.follows.holds-at-none) c.requires.room in
-    record {
-      apart = c.insert.ensures.unique;
-      used = used_put bs.blocks.entries _ (n / 4) block
-          (λ q. (on_ok c.insert.result (c.insert.ensures.succeeds room) c.insert.ensures.updates).0 q
-          ∙ ap (λ m. cond (n / 4 == q) (Some block) (lookup (λ p. q == p) m.entries)) c.get_mut.follows.holds-at-none)
-          (not_blank block (n % 4) c.args.slot _ (c.put-2.ensures (n % 4))) bs.used;
-    }
+    used_put bs.blocks.entries _ (n / 4) block
+    (λ q. (on_ok c.insert.result (c.insert.ensures.succeeds room) c.insert.ensures.updates).0 q
+    ∙ ap (λ m. cond (n / 4 == q) (Some block) (lookup (λ p. q == p) m.entries)) c.get_mut.follows.holds-at-none)
+    (not_blank block (n % 4) c.args.slot _ (c.put-2.ensures (n % 4))) bs.used
 
 pub returns-in-Some-clause-put : goal.returns-in-Some-clause-put
 returns-in-Some-clause-put c =

@@ -2,19 +2,15 @@ use Rattle.olr_map.proofs.Common.{◌≡◌, ◌==◌, ◌/◌, ◌%◌, true, S
 use Rattle.olr_map.proofs.Blocking.{block_changed, removed_again, used_put, used_removed}
 use Rattle.olr_map.proofs.blocks.Blocks.take.Goals as goal
 
-pub invariant_of-self : goal.invariant_of-self
-invariant_of-self c =
+pub invariant_of-self-clause-used : goal.invariant_of-self-clause-used
+invariant_of-self-clause-used c =
     let bs = c.args.self.now in
     let n = c.args.number in
     let w = c.get_mut.follows.holds c.take-slot.new.self in
-    record {
-      apart = c.remove.ensures.unique;
-      used = used_removed bs.blocks.entries _ (n / 4)
-          (λ q.
-          c.remove.ensures.updates.0 q
-          ∙ ap (cond (n / 4 == q) None) ((w.3 (ap (λ o. is_some o) (sym c.in-Some.ensures.value))).0 q)
-          ∙ removed_again (n / 4 == q) (Some c.take-slot.new.self) (lookup (λ p. q == p) bs.blocks.entries)) bs.used;
-    }
+    used_removed bs.blocks.entries _ (n / 4)
+    (λ q. c.remove.ensures.updates.0 q
+    ∙ ap (cond (n / 4 == q) None) ((w.3 (ap (λ o. is_some o) (sym c.in-Some.ensures.value))).0 q)
+    ∙ removed_again (n / 4 == q) (Some c.take-slot.new.self) (lookup (λ p. q == p) bs.blocks.entries)) bs.used
 
 pub invariant_of-self-else-is_empty : goal.invariant_of-self-else-is_empty
 invariant_of-self-else-is_empty c =

@@ -1,5 +1,5 @@
-use Rattle.olr_map.proofs.Common.{◌≡◌, ◌+◌, ◌≤◌, ◌∷◌, List, ◌∙◌, ap, sym, subst, arith, spare_of, edit_of, tables_map}
-use Rattle.olr_map.proofs.Common.{room_of, node_puts, line_puts, CanMakeAll, TableChange, spare_numbers}
+use Rattle.olr_map.proofs.Common.{◌∷◌, List, ◌∙◌, ap, sym, subst, arith, edit_of, tables_map}
+use Rattle.olr_map.proofs.Common.{room_of, CanMakeAll, TableChange}
 use Rattle.olr_map.specs.Changes.{node_numbers, line_numbers}
 use Rattle.olr_map.specs.Undos.{log_changes}
 use Rattle.olr_map.proofs.Capacity.{within_trans}
@@ -26,32 +26,19 @@ returns-clause-can_undo c =
     c.requires.log.0 made.can_back
     (made.before ∙ c.make_room.ensures.same.map)
     (within_trans (room_of old) (room_of mid) _ c.make_room.ensures.same.more made.room_before)) in
-    let nodes : c.reserve.new.self.nodes + node_numbers (edit_of c.args.edit) ≤ spare_of mid.index =
-    c.in_ok-make_room.ensures.numbers.nodes in
-    let lines : c.reserve.new.self.lines + line_numbers (edit_of c.args.edit) ≤ spare_numbers mid.lines =
-    c.in_ok-make_room.ensures.numbers.lines in
-    let nodes_put : node_puts c.change_for-change.result + node_puts back ≡ node_numbers (edit_of c.args.edit) =
-    c.make_change-back.ensures.nodes ∙ ap (λ e. node_numbers e) c.change_for-change.ensures.same in
-    let lines_put : line_puts c.change_for-change.result + line_puts back ≡ line_numbers (edit_of c.args.edit) =
-    c.make_change-back.ensures.lines ∙ ap (λ e. line_numbers e) c.change_for-change.ensures.same in
-    let nodes_left : spare_of mid.index ≤ spare_of new.index + node_puts c.change_for-change.result =
-    made.node_numbers in
-    let lines_left : spare_numbers mid.lines ≤ spare_numbers new.lines + line_puts c.change_for-change.result =
-    made.line_numbers in
-    let nodes_new = c.push.ensures.nodes in
-    let lines_new = c.push.ensures.lines in
+    let numbers = c.in_ok-make_room.ensures.numbers in
+    let nodes_put = c.make_change-back.ensures.nodes ∙ ap (λ e. node_numbers e) c.change_for-change.ensures.same in
+    let lines_put = c.make_change-back.ensures.lines ∙ ap (λ e. line_numbers e) c.change_for-change.ensures.same in
+    let pushed = c.push.ensures in
     (all, record { nodes = omega arith; lines = omega arith })
 
 pub returns-in_err-make_room-clause-can_undo : goal.returns-in_err-make_room-clause-can_undo
 returns-in_err-make_room-clause-can_undo c =
     let old = c.args.self.now in
     let mid = c.make_room.new.self in
-    let nodes = c.make_room.ensures.same.nodes in
-    let lines = c.make_room.ensures.same.lines in
-    let old_nodes = c.requires.log.1.nodes in
-    let old_lines = c.requires.log.1.lines in
-    let log_nodes = c.reserve.ensures.nodes in
-    let log_lines = c.reserve.ensures.lines in (
+    let same = c.make_room.ensures.same in
+    let before = c.requires.log.1 in
+    let log = c.reserve.ensures in (
       subst (λ (cs : List TableChange). CanMakeAll (tables_map mid) (room_of mid) cs) (sym c.reserve.ensures.same)
           (all_on (tables_map old) (tables_map mid) (room_of old) (room_of mid) (log_changes c.args.log.now)
           c.make_room.ensures.same.map c.make_room.ensures.same.more c.requires.log.0),

@@ -1,6 +1,7 @@
-use Rattle.olr_map.proofs.Common.{refl, ap, ◌∙◌, node_slots, held, PutLine, TakeLine, Out, In}
+use Rattle.olr_map.proofs.Common.{tables_map, refl, ap, ◌∙◌, node_slots, held, PutLine, TakeLine, Out, In}
 use Rattle.olr_map.proofs.Indexing.{relisted}
-use Rattle.olr_map.proofs.LineChanges.{LineMade, can_put, line_put, number_free}
+use Rattle.olr_map.proofs.LineChanges.{LineMade, can_put, line_put}
+use Rattle.olr_map.proofs.Making.{made_as}
 use Rattle.olr_map.proofs.Reading.{line_missing}
 use Rattle.olr_map.proofs.road_map.RoadMap.put_line.Goals as goal
 
@@ -21,7 +22,8 @@ put_end-requires-2 c =
 pub put-requires-clause-absent : goal.put-requires-clause-absent
 put-requires-clause-absent c =
     ap (held c.args.self.now.lines) c.number.ensures.same
-    ∙ line_missing c.args.self.now c.args.id (number_free c.args.self.now c.args.id c.args.line c.requires.can)
+    ∙ line_missing c.args.self.now c.args.id (made_as (tables_map c.args.self.now)
+    (PutLine c.args.id c.args.line) c.requires.can.accepted).0
 
 all : (c : goal.After-put) → LineMade c.args.self.now c.put_end-2.new.self c.put.new.self (PutLine c.args.id c.args.line)
     (TakeLine c.args.id)

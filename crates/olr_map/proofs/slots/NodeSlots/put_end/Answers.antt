@@ -1,5 +1,5 @@
 use Rattle.olr_map.proofs.Common.{is_some_of, Out, In}
-use Rattle.olr_map.proofs.ColumnLemmas.{inside_outs, inside_ins, links_read, relinked}
+use Rattle.olr_map.proofs.ColumnLemmas.{inside_outs, inside_ins, relinked}
 use Rattle.olr_map.proofs.slots.NodeSlots.put_end.Goals as goal
 
 pub index_mut-requires : goal.index_mut-requires
@@ -7,22 +7,6 @@ index_mut-requires c = inside_outs c.args.self.now c.args.slot (is_some_of _ _ c
 
 pub index_mut-requires-in-In : goal.index_mut-requires-in-In
 index_mut-requires-in-In c = inside_ins c.args.self.now c.args.slot (is_some_of _ _ c.requires.1)
-
-pub put-requires : goal.put-requires
-put-requires c =
-    let r = c.requires in
-    let is = links_read c.args.self.now Out c.args.slot r.0 _ r.1 c.index_mut.ensures.value in
-    let up = rw c.in-Out.is at r.2 in
-    let fits = rw c.in-Out.is at r.3 in
-    record { ascending = rw is up; room = rw is fits }
-
-pub put-requires-in-In : goal.put-requires-in-In
-put-requires-in-In c =
-    let r = c.requires in
-    let is = links_read c.args.self.now In c.args.slot r.0 _ r.1 c.index_mut-in-In.ensures.value in
-    let up = rw c.in-In.is at r.2 in
-    let fits = rw c.in-In.is at r.3 in
-    record { ascending = rw is up; room = rw is fits }
 
 pub returns-in-Out-clause-turns : goal.returns-in-Out-clause-turns
 returns-in-Out-clause-turns c =

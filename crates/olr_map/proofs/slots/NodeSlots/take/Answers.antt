@@ -1,9 +1,6 @@
 use Rattle.olr_map.proofs.Common.{◌≡◌, get_or, sym, subst, some_of, slots_of, Links}
-use Rattle.olr_map.proofs.ColumnLemmas.{head_there, entry_is, row_removed}
+use Rattle.olr_map.proofs.ColumnLemmas.{entry_is, row_removed}
 use Rattle.olr_map.proofs.slots.NodeSlots.take.Goals as goal
-
-pub take-id-requires : goal.take-id-requires
-take-id-requires c = let e = some_of _ c.requires in head_there c.args.self.now c.args.slot e.0 e.1
 
 pub returns-clause-removes : goal.returns-clause-removes
 returns-clause-removes c =
