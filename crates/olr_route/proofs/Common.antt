@@ -4,7 +4,7 @@ pub use Rattle.olr_route.specs.Labels.{AreLabels, IsShortest, Label, Labels, Lea
 pub use Rattle.olr_route.specs.Labels.{dist_at, label_at, last_of}
 pub use Rattle.olr_route.specs.Listed.{IsReturned, IsTight, listed_labels}
 pub use Rattle.olr_route.specs.Relaxed.{Capped, Found, NotGreater}
-pub use Rattle.olr_search.proofs.ReadLemmas.{entering}
+pub use Rattle.olr_search.proofs.ReadLemmas.{entering, enters}
 pub use Rattle.olr_search.proofs.RouteEnds.{dm_of-line, ends_of, last_step, route_on}
 pub use Rattle.olr_search.proofs.RouteEnds.Ends.{empty, ended}
 pub use Rattle.olr_search.proofs.SearchLemmas.{distance_node, label_is}

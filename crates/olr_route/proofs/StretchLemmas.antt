@@ -54,17 +54,14 @@ module _ (M : Map) (x : Labels) (t : ℕ) (lines : List ℕ) (i y : ℕ) (n : Is
   prefix_of false l = least_prefix l
   prefix_of true l = unique_prefix l
 
-  -- what holds for the first i + 1 lines, wherever they lead
-  pub held_more : (P : ℕ → List ℕ → Type 0) → P (end M y) (take i lines ++ y ∷ []) → (v : ℕ) →
-      IsRoute M x.source v (take (i + 1) lines) → P v (take (i + 1) lines)
-  held_more P here v w = grind (arith, last_step)
-
   module _ (P : ℕ → List ℕ → Type 0) (b : Bool)
       (extends : (route : List ℕ) → P (start M y) route → IsTrue b ↔ P (end M y) (route ++ y ∷ []))
       (here : (v : ℕ) → IsRoute M x.source v (take i lines) → P v (take i lines)) where
     -- it holds for one line more if the line extends it, and only then
     pub held_on : b ≡ true → (v : ℕ) → IsRoute M x.source v (take (i + 1) lines) → P v (take (i + 1) lines)
-    held_on e v w = held_more P ((extends (take i lines) (here _ n.front)).0 e) v w
+    held_on e v w =
+        let more : P (end M y) (take i lines ++ y ∷ []) = (extends (take i lines) (here _ n.front)).0 e in
+        grind (arith, last_step)
 
     pub held_not : b ≡ false → ¬ P (end M y) (take i lines ++ y ∷ [])
     held_not e h = both_ways b e ((extends (take i lines) (here _ n.front)).1 h)

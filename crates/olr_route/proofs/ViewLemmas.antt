@@ -1,28 +1,23 @@
 -- Labels are a finite map, and are stored in two lists: both have the same values.
 use Rattle.olr_route.proofs.Common.{◌≡◌, ℕ, suc, ◌+◌, ◌<◌, ◌↔◌, Contains, List, [], ◌∷◌, length, get_or, Option, Some}
-use Rattle.olr_route.proofs.Common.{None, Bool, false, IsSome, refl, sym, ap, ◌∙◌, subst, arith, eqb}
+use Rattle.olr_route.proofs.Common.{None, Bool, false, IsSome, sym, refl, ap, ◌∙◌, subst, arith, eqb}
 use Rattle.olr_route.proofs.Common.{IsStrictlyIncreasing, eqb-true, get_or_default, is_some_of, Label, label_at}
 use Rattle.olr_route.proofs.Common.{count_of, listed_labels}
 use Rattle.std.proofs.Common.{cond, is_some, nat_cmp}
-use Rattle.std.specs.Cmp.{nat_cmp_total}
-use Rattle.std.specs.FinMap.{get, len, from_entries, get-from_entries, len-insert, len-empty, contains_key}
-use Rattle.std.specs.FinMap.Entries.{find}
+use Rattle.std.specs.Cmp.{nat_cmp_total, nat_eq_equiv}
+use Rattle.std.specs.FinMap.{len, from_entries, len-insert, len-empty, contains_key}
+use Rattle.olr_spec.proofs.OptionLemmas.{none_of}
+use Rattle.std.proofs.lemmas.Bool.{false_from_ne_true}
+use Rattle.std.proofs.lemmas.Option.{slice_get-get_or}
 use Rattle.std.specs.List.{AllByRecursion, IsDistinct, zip}
 use Rattle.std.specs.Map.{lookup, keys_of}
 use Rattle.std.proofs.lemmas.Map.Keys.{IsDistinct-tail, IsDistinct-head}
 use Rattle.std.proofs.lemmas.Map.Made.{keys_of-zip}
 use Rattle.std.proofs.lemmas.Map.Views.{Contains-keys_from_lookup}
+use Rattle.std.proofs.lemmas.Map.Entries.{lookup_from_place}
 use Rattle.std.proofs.lemmas.Slice.Zip.{get_or-zip, length-zip}
-use Rattle.olr_map.proofs.Lookups.{lookup_at}
+use Rattle.olr_map.proofs.Lookups.{all_get}
 use Rattle.olr_map.proofs.Numbers.{distinct_from_ascending}
-
-find-lookup : (q : ℕ) (es : List (ℕ × Label)) → find nat_cmp q es ≡ lookup (eqb q) es
-find-lookup q [] = refl
-find-lookup q (e ∷ es) = grind (arith, find, nat_cmp, eqb, find-lookup q es)
-
--- the value at a node
-pub get-view : (es : List (ℕ × Label)) (q : ℕ) → get (from_entries {R = nat_cmp} es) q ≡ lookup (eqb q) es
-get-view es q = get-from_entries nat_cmp_total es q ∙ find-lookup q es
 
 not_found : (k : ℕ) (es : List (ℕ × Label)) → AllByRecursion (λ y. eqb k y ≡ false) (keys_of es) →
     lookup (eqb k) es ≡ None
@@ -33,19 +28,13 @@ not_found k (e ∷ es) h = ap (λ (b : Bool). cond b (Some e.1) (lookup (eqb k) 
 len-view : (es : List (ℕ × Label)) → IsDistinct eqb (keys_of es) → len (from_entries {R = nat_cmp} es) ≡ length es
 len-view [] h = len-empty nat_cmp Label
 len-view (e ∷ es) h =
+    let more : length es + 1 ≡ suc (length es) = omega arith in
     let new : contains_key (from_entries {R = nat_cmp} es) e.0 ≡ false =
-    ap (λ (o : Option Label). is_some o) (get-view es e.0
+    ap (λ (o : Option Label). is_some o) (all_get es e.0
     ∙ not_found e.0 es (IsDistinct-head eqb e.0 (keys_of es) h)) in
     len-insert nat_cmp_total (from_entries es) e.0 e.1
     ∙ ap (λ (b : Bool). cond b (len (from_entries {R = nat_cmp} es)) (len (from_entries {R = nat_cmp} es) + 1)) new
-    ∙ ap (λ (n : ℕ). n + 1) (len-view es (IsDistinct-tail eqb e.0 (keys_of es) h)) ∙ one_more (length es)
-  where
-    one_more : (n : ℕ) → n + 1 ≡ suc n
-    one_more n = omega arith
-
-none_of : {A : Type 0} (o : Option A) → ¬ IsSome o → o ≡ None
-none_of None h = refl
-none_of (Some x) h = absurd (h refl)
+    ∙ ap (λ (n : ℕ). n + 1) (len-view es (IsDistinct-tail eqb e.0 (keys_of es) h)) ∙ more
 
 module _ (s limit : ℕ) (ks : List ℕ) (ls : List Label) (up : IsStrictlyIncreasing ks)
     (beside : length ls ≡ length ks) where
@@ -56,14 +45,13 @@ module _ (s limit : ℕ) (ks : List ℕ) (ls : List Label) (up : IsStrictlyIncre
   pub label_of_node : (v i : ℕ) → i < length ks → get_or ks i 0 ≡ v →
       label_at (listed_labels s limit ks ls) v ≡ Some (get_or ls i (0, None))
   label_of_node v i lt is =
-      let pair : get_or (zip ks ls) i (0, (0, None)) ≡ (get_or ks i 0, get_or ls i (0, None)) =
-      get_or-zip ks ls i (0, (0, None)) lt (omega arith) in
       let long = length-zip ks ls in
-      get-view (zip ks ls) v
-      ∙ lookup_at (zip ks ls) v i (0, (0, None))
-      (subst (λ (xs : List ℕ). IsDistinct eqb xs) (sym keys) (distinct_from_ascending ks up)) (omega arith)
-      (ap (λ (p : ℕ × Label). p.0) pair ∙ is)
-      ∙ ap (λ (p : ℕ × Label). Some p.1) pair
+      all_get (zip ks ls) v
+      ∙ lookup_from_place nat_eq_equiv (zip ks ls) i v (get_or ls i (0, None))
+      (subst (λ (xs : List ℕ). IsDistinct eqb xs) (sym keys) (distinct_from_ascending ks up))
+      (slice_get-get_or (zip ks ls) i (0, (0, None)) (omega arith)
+      ∙ ap (λ (p : ℕ × Label). Some p) (get_or-zip ks ls i (0, (0, None)) lt (omega arith)
+      ∙ ap (λ (n : ℕ). (n, get_or ls i (0, None))) is))
 
   -- exactly the nodes of the list have one
   pub has_label : (v : ℕ) → Contains ks v ↔ IsSome (label_at (listed_labels s limit ks ls) v)
@@ -73,11 +61,12 @@ module _ (s limit : ℕ) (ks : List ℕ) (ls : List Label) (up : IsStrictlyIncre
         (label_of_node v c.0 c.1 (get_or_default ks c.0 0 v c.1 ∙ c.2)),
     λ h. subst (λ (xs : List ℕ). Contains xs v) keys
         (Contains-keys_from_lookup (λ x y e. eqb-true x y e) v (zip ks ls)
-        (subst (λ (o : Option Label). IsSome o) (get-view (zip ks ls) v) h)),
+        (subst (λ (o : Option Label). IsSome o) (all_get (zip ks ls) v) h)),
   )
 
   pub none_there : (v : ℕ) → ¬ Contains ks v → label_at (listed_labels s limit ks ls) v ≡ None
-  none_there v absent = none_of (label_at (listed_labels s limit ks ls) v) (λ h. absent ((has_label v).1 h))
+  none_there v absent =
+      none_of (label_at (listed_labels s limit ks ls) v) (false_from_ne_true _ (λ h. absent ((has_label v).1 h)))
 
   -- a label is at the position of its node
   pub node_of_label : (v : ℕ) (k : Label) → label_at (listed_labels s limit ks ls) v ≡ Some k →

@@ -30,6 +30,7 @@ fn is_within(labels: &Labels, from: NodeId, len: u32, dist: u32) -> bool
 }
 
 /// Whether no other line leads to the end of this one within the length of the label there.
+#[tactic(auto, using(crate::proofs::Common::enters, crate::proofs::EqualLemmas::differ))]
 fn is_only_predecessor<M: MapRead>(map: &M, labels: &Labels, line: LineId) -> bool
     requires { IsTrue (has_line (M.map map.now) line) }
     ensures { IsTrue result ↔ OnlyPredecessor (M.map map.now) labels.now line }
@@ -59,6 +60,7 @@ fn is_alone<M: MapRead>(map: &M, labels: &Labels, line: LineId, unique: bool) ->
 
 /// Whether a line extends the shortest path to its start to the shortest path to its end, or, if `unique`, the unique
 /// shortest path.
+#[tactic(auto, using(crate::proofs::ExtendLemmas::extends_only_if))]
 fn extends<M: MapRead>(map: &M, labels: &Labels, line: LineId, unique: bool) -> bool
     requires labels { AreLabels (M.map map.now) labels.now }
     requires line { IsTrue (has_line (M.map map.now) line) }

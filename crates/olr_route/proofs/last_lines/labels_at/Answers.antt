@@ -1,5 +1,5 @@
-use Rattle.olr_route.proofs.Common.{◌≡◌, ◌∷◌, [], ◌++◌, ℕ, List, None, length, get_or, length-append, sym, ap, ◌∙◌}
-use Rattle.olr_route.proofs.Common.{subst, inl, inr, arith, below_more, get_or_default_zero, Label, IsReturned}
+use Rattle.olr_route.proofs.Common.{◌∷◌, [], ◌++◌, ℕ, None, get_or, length-append, sym, ◌∙◌}
+use Rattle.olr_route.proofs.Common.{subst, arith, below_more, get_or_default_zero, Label, IsReturned}
 use Rattle.std.proofs.lemmas.List.{get_or_push, get_or_append_left}
 use Rattle.olr_route.proofs.last_lines.labels_at.Goals as goal
 

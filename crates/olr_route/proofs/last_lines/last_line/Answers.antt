@@ -1,5 +1,5 @@
 use Rattle.olr_route.proofs.Common.{◌≡◌, ℕ, List, get_or, sym, ap, ◌∙◌, subst, inl, inr, arith, IsStrictlyIncreasing}
-use Rattle.olr_route.proofs.Common.{cases_lt, get_or_default_zero, start, dm, IsTight, entering, below_more}
+use Rattle.olr_route.proofs.Common.{cases_lt, get_or_default_zero, IsTight, entering, below_more}
 use Rattle.olr_spec.proofs.OrderLemmas.{ascend_in}
 use Rattle.olr_spec.proofs.AscendingLists.{ascends}
 use Rattle.olr_search.specs.Bounds.{label_at}

@@ -1,15 +1,8 @@
-use Rattle.olr_route.proofs.Common.{◌≡◌, ◌<◌, ◌≤◌, ℕ, Some, Option, length, get_or, refl, sym, subst, ap, ◌∙◌, arith}
+use Rattle.olr_route.proofs.Common.{◌≡◌, ◌≤◌, ℕ, Some, Option, length, get_or, refl, sym, subst, ap, ◌∙◌, arith}
 use Rattle.olr_route.proofs.Common.{below_more, get_or_default_zero, dist_at, FartherThan, entering}
-use Rattle.olr_route.proofs.EqualLemmas.{differ, agree}
-use Rattle.olr_search.proofs.ReadLemmas.{enters}
+use Rattle.olr_route.proofs.EqualLemmas.{agree}
 use Rattle.olr_route.proofs.shortest.is_only_predecessor.Goals.{then-ne+else-is_within, else-ne}
 use Rattle.olr_route.proofs.shortest.is_only_predecessor.Goals as goal
-
-pub start_of-from-requires : goal.start_of-from-requires
-start_of-from-requires g c = grind (arith, enters)
-
-pub returns-then-is_within : goal.returns-then-is_within
-returns-then-is_within g c = grind (arith, enters, differ)
 
 pub loop-other-preserved : goal.loop-other-preserved
 loop-other-preserved g c =
