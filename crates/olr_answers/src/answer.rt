@@ -13,8 +13,7 @@ pub enum Refusal {
     /// Reason 3: the two offsets together are at least as long as the path.
     OffsetTooLong,
     /// Reason 4: there is no valid next location reference point (LRP) after the one at this position of the extended
-    /// path,
-    /// counted from 0.
+    /// path, counted from 0.
     NoNextPoint(usize),
 }
 

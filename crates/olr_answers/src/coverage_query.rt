@@ -11,8 +11,7 @@ pub struct CoverageQuery {
     /// The node of the last position that it tested.
     pub to: NodeId,
     /// The distance between these along the path, in decimetres: at most 150,000. If the position is not covered,
-    /// another
-    /// route may be shorter.
+    /// another route may be shorter.
     pub within: u32,
 }
 

@@ -212,8 +212,7 @@ impl RoadMap {
     }
 
     /// Makes an edit, and appends its undo record to a log. The faults are those of `apply`; after a fault, map and log
-    /// are
-    /// unchanged.
+    /// are unchanged.
     pub fn apply_into(&mut self, edit: Edit, log: &mut UndoLog) -> Result<(), EditFault>
         requires { CanUndoAll self.old log.old }
         ensures refused { (f : MapFault) → (result ≡ Err (edit_fault_of f))
@@ -234,8 +233,7 @@ impl RoadMap {
     }
 
     /// Makes an edit that `judge` accepted on this map, and appends its undo record to a log. If an allocation fails,
-    /// map
-    /// and log are unchanged.
+    /// map and log are unchanged.
     #[tactic(auto, using(crate::proofs::Verdicts::plan_slots, crate::proofs::SlotsStay::slots_reserved))]
     pub fn make_into(
         &mut self,

@@ -62,8 +62,7 @@ pub trait MapRead {
         ensures { result ≡ count self.now };
 
     /// The node's slot in the map, from 0, by which a table beside the map can be indexed. An edit may change it. None
-    /// if
-    /// the node is not on the map.
+    /// if the node is not on the map.
     fn slot_of(&self, id: NodeId) -> Option<u32>
         ensures { SomeIff result (IsTrue (has_node (map self.now) id)) (node_slot self.now id) };
 

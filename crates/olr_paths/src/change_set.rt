@@ -7,8 +7,7 @@ use olr_map::{LineId, NodeId};
 use std::alloc::{AllocError, Global};
 
 /// Where a changed line begins and ends, and its length in decimetres: the lesser of the lengths before and after, or
-/// the
-/// only one if the line was added or dropped.
+/// the only one if the line was added or dropped.
 #[derive(Clone, Copy)]
 pub struct ChangedLine {
     /// Where it begins.

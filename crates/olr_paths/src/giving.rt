@@ -82,8 +82,7 @@ impl PathList {
     }
 
     /// Encodes another path for a name. It keeps its position, and the reply names it if its answer is another than
-    /// before. If
-    /// an allocation fails, list and work are unchanged.
+    /// before. If an allocation fails, list and work are unchanged.
     #[tactic(auto, using(crate::proofs::OriginLemmas::begins_set))]
     pub fn set<M: MapRead>(
         &mut self,

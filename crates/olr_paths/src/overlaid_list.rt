@@ -6,8 +6,7 @@ use crate::path_list::PathList;
 use crate::showing::{PathView, show, show_under};
 
 /// A list, and changes over it that remove none of its paths. A path has the same position as in the list; the new
-/// paths
-/// follow.
+/// paths follow.
 #[derive(Clone, Copy)]
 pub(crate) struct OverlaidList<'a> {
     pub(crate) list: &'a PathList,

@@ -15,8 +15,7 @@ use std::alloc::{AllocError, Global};
 use std::rc::Rc;
 
 /// Changes over a list of named paths: replaced paths, removed paths, and new paths at the end. A name that is removed
-/// and
-/// added again is both in `changes` and in `added`.
+/// and added again is both in `changes` and in `added`.
 #[derive(Drop)]
 pub struct Overlay {
     /// The changes of the list's paths: a replacement, or None if the path is removed.
@@ -70,8 +69,7 @@ fn put_one(
 }
 
 /// Appends a list, under changes, to another. The lists share paths and answers. If an allocation fails, only some
-/// paths
-/// are appended.
+/// paths are appended.
 pub(crate) fn put_behind(
     alloc: Global,
     changes: &IndexMap<String, Option<Rc<Path>>>,

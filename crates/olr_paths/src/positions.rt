@@ -33,8 +33,7 @@ fn place(
 }
 
 /// Removes the index entries of replaced or abandoned paths at these positions, except for those of the paths that are
-/// there
-/// now. Takes no memory.
+/// there now. Takes no memory.
 fn tidy(list: &mut PathList, replaced: &[(usize, NamedPath)])
     ensures { items list.new ≡ items list.old }
 {

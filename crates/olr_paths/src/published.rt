@@ -44,8 +44,7 @@ impl Published {
     }
 
     /// The path's traversed nodes, in ascending order: those of its extended path and of the runs of degree-two nodes
-    /// that were
-    /// tried.
+    /// that were tried.
     pub fn traversed(&self) -> &Footprint
         ensures { result.now ≡ (made_of self.now).traversed }
     {

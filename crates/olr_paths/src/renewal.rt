@@ -84,8 +84,7 @@ pub(crate) fn push_if_changed(
 }
 
 /// The paths that were encoded again, each with its position in the list, and the entries of those with another answer
-/// than
-/// before.
+/// than before.
 #[derive(Drop)]
 pub(crate) struct Renewal {
     pub(crate) fresh: Vec<(usize, NamedPath)>,
@@ -94,8 +93,7 @@ pub(crate) struct Renewal {
 
 impl Renewal {
     /// Takes the action for the path at that position: it is left as it is; or it is counted; or it is encoded again,
-    /// and
-    /// reported if its answer is not the earlier one of its name.
+    /// and reported if its answer is not the earlier one of its name.
     fn advance<M: MapRead>(
         &mut self,
         alloc: Global,

@@ -8,8 +8,7 @@ use itoa::write_digits;
 use std::alloc::AllocError;
 
 /// The size of the buffer for the end of a line: an LRP has two coordinates of at most 11 bytes, five numbers of at
-/// most 3,
-/// their commas, and a line feed.
+/// most 3, their commas, and a line feed.
 const ROOM: usize = 64;
 
 /// Writes a byte before index `end`, and returns its index.

@@ -33,8 +33,7 @@ pub struct Encoding {
     /// The answer.
     pub answer: Answer,
     /// The traversed nodes: those of the extended path and of the tried runs of degree-two nodes. Empty if one of
-    /// reasons 1
-    /// to 3 holds.
+    /// reasons 1 to 3 holds.
     pub traversed: Footprint,
     /// The coverage queries, in the order of the LRPs where they begin.
     pub queries: Vec<CoverageQuery>,

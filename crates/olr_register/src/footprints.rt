@@ -17,8 +17,7 @@ impl Register {
     ghost use Rattle.olr_register.specs.Registered.{PublishedWhole};
 
     /// What is published of the path of that name, with the traversed nodes and the coverage queries of its encoding on
-    /// the
-    /// map. None if no path has the name. An open batch is ignored.
+    /// the map. None if no path has the name. An open batch is ignored.
     pub fn published_of(&self, name: &str) -> Option<&Published>
         ensures { PublishedWhole self.now.kept.content name.now (option_map (λ p. made_of p.now) result) }
     {

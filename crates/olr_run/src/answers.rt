@@ -79,8 +79,7 @@ fn write_answer<W, S: Session<W>>(
 }
 
 /// Carries out the command of a record and writes the answer, whose text is made in `text`. Returns whether the command
-/// was
-/// accepted.
+/// was accepted.
 pub fn write_outcome<W, S: Session<W>>(
     alloc: Global,
     register: &mut Register,

@@ -54,8 +54,7 @@ fn is_given(flag: Option<&str>) -> bool
 }
 
 /// Reads the command-line arguments, the first of which is the program's own name. Arguments that the definition
-/// accepts are
-/// rejected only if an allocation fails.
+/// accepts are rejected only if an allocation fails.
 pub fn options<'a, S: AsStr>(alloc: Global, arguments: &'a [S]) -> Result<Options<'a>, OptionsFault>
     ensures ok { IfOk result (λ o. options_of o ≡ options (map S.text arguments.entry.now)) }
     ensures taken { takes keep_app (map S.text arguments.entry.now) ≡ true →

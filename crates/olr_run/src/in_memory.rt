@@ -115,8 +115,7 @@ fn end_field(row: &mut ByteRecord, field: &mut Vec<u8>, bytes: &[u8]) -> Result<
 }
 
 /// Takes the first record of a text, read from a state. Returns the index and the state after it, or None if there is
-/// no
-/// record.
+/// no record.
 fn first_record(
     text: &[u8],
     state: State,

@@ -10,8 +10,7 @@ use csv::{ByteRecord, ErrorKind, Reader};
 use std::io::{Read, Write};
 
 /// The source of the records of a run, with the output of their answers. What happens at the two ends, and in which
-/// order,
-/// is known to a caller only from the contracts of these calls.
+/// order, is known to a caller only from the contracts of these calls.
 pub trait Session<W> {
     /// The relation of an event with the values of both ends before and after it.
     ghost happens: { Self × W → Event → Self × W → Type 0 };

@@ -131,8 +131,7 @@ fn show<D: Display, W: Write>(alloc: Global, shown: &D, output: &mut W) -> Resul
 }
 
 /// Writes why the arguments gave no options, and returns the exit status: help and the version are no fault. The status
-/// is 4
-/// only if an allocation failed, in `clap` or for the text.
+/// is 4 only if an allocation failed, in `clap` or for the text.
 fn explain<W: Write, E: Write>(
     alloc: Global,
     fault: &OptionsFault,

@@ -78,8 +78,7 @@ impl Dijkstra {
     }
 
     /// Continues the search to a limit in decimetres. Its labels are then those of a search within this limit, or
-    /// within a
-    /// greater one to which it was settled before.
+    /// within a greater one to which it was settled before.
     pub fn settle_to<M: MapRead>(&mut self, map: &M, limit: u32) -> Result<(), AllocError>
         requires small { limit ≤ GREATEST_LIMIT }
         requires begun { (direction : _) × (from : List (ℕ × ℕ))

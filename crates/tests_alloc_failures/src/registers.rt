@@ -152,8 +152,7 @@ fn again(rt: &impl Abort, alloc: Global, register: &mut Register, record: &str) 
 }
 
 /// The answer of a register to a record. If an allocation failed, the register is like its twin, and the record is
-/// applied
-/// again.
+/// applied again.
 fn answer_at_last(
     rt: &impl Abort,
     alloc: Global,

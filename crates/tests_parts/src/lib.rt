@@ -1,6 +1,5 @@
 //! Tests of small parts: coordinates and degrees, numbers with path ids, coordinates along a line, sectors and
-//! bearings,
-//! and references as bytes and as text.
+//! bearings, and references as bytes and as text.
 #![tactic(auto)]
 
 #[cfg(test)]

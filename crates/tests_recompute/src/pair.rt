@@ -21,8 +21,7 @@ const NODES: u32 = 12;
 const LINES: u32 = 26;
 
 /// A register, its twin, and a spare twin, which is like the first one. While a batch is open, the held commands change
-/// the
-/// spare one.
+/// the spare one.
 #[derive(Drop)]
 pub struct Pair {
     register: Register,
@@ -357,8 +356,7 @@ fn len(seed: u64) -> u64 {
 }
 
 /// A record that drops, adds or sets a line. Of the added lines, three in four join two nodes of the ring as `ends`
-/// says,
-/// the others any two nodes.
+/// says, the others any two nodes.
 fn line_record(alloc: Global, seed: u64) -> Result<String, Fail> {
     let line = number_in(seed >> 24, LINES);
     let len = len(seed);

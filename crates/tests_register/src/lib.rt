@@ -1,6 +1,5 @@
 //! Tests of the register: commands, batches, faults and counts, on the worked map and on small ones; and of what a list
-//! of
-//! paths stores.
+//! of paths stores.
 #![tactic(auto)]
 
 #[cfg(test)]

@@ -14,8 +14,7 @@ use std::process::Abort;
 use std::test::Fail;
 
 /// What is expected of an extended path: its lines, its offsets in decimetres, the positions of the LRPs that are
-/// chosen
-/// on it, and how many searches that takes.
+/// chosen on it, and how many searches that takes.
 type Expected = (&'static [u32], (u64, u64), &'static [usize], u64);
 
 /// The first of these lines that is not on the map. None if all are.

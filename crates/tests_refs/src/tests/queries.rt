@@ -269,10 +269,8 @@ const ON_GRID: &[(PlainPath, Wanted)] = &[
         ),
     ),
     // Nodes 1 and 5 are degree-two nodes, so line 406 from node 6 is added at the start, and line 305 to node 10 at the
-    // end.
-    // From node 1 three lines are within the limit for a coverage query as far as node 3, which is the next LRP; from
-    // node 4
-    // only line 104 is tested.
+    // end. From node 1 three lines are within the limit for a coverage query as far as node 3, which is the next LRP;
+    // from node 4 only line 104 is tested.
     (
         (&[101, 102, 103, 104], 0, 0),
         (&[1, 2, 3, 4, 5, 6, 10], &[(1, 3, 80_000), (4, 5, 40_000)]),
