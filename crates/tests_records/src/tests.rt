@@ -209,21 +209,25 @@ fn replies_of_paths(rt: HostRuntime) -> Result<(), Fail> {
     )
 }
 
+/// References, and the replies with their fields.
+const REFERENCES: &[(&[u8], &str)] = &[
+    (
+        b"CwRbWyNG9RpsCQCb/jsbtAT/6/+jK1lE",
+        "ok,4\nfirst,285531,2311925,3,2,3,12,9\nmiddle,155,-453,3,3,5,20,4\nlast,-21,-93,5,3,25\npositive,68\n",
+    ),
+    (
+        b"CwRbWyNG9RqsDgCG/d4rOVQ=",
+        "ok,3\nfirst,285531,2311925,3,2,5,12,14\nlast,134,-546,5,3,25\nnegative,84\n",
+    ),
+];
+
 #[test]
 fn replies_of_references(rt: HostRuntime) -> Result<(), Fail> {
-    let alloc = rt.alloc();
-    let three_points = from_text(alloc, b"CwRbWyNG9RpsCQCb/jsbtAT/6/+jK1lE")?;
-    expect_reply(
-        &rt,
-        &Reply::Fields(three_points),
-        "ok,4\nfirst,285531,2311925,3,2,3,12,9\nmiddle,155,-453,3,3,5,20,4\nlast,-21,-93,5,3,25\npositive,68\n",
-    )?;
-    let negative = from_text(alloc, b"CwRbWyNG9RqsDgCG/d4rOVQ=")?;
-    expect_reply(
-        &rt,
-        &Reply::Fields(negative),
-        "ok,3\nfirst,285531,2311925,3,2,5,12,14\nlast,134,-546,5,3,25\nnegative,84\n",
-    )
+    for (text, want) in REFERENCES {
+        let reference = from_text(rt.alloc(), text)?;
+        expect_reply(&rt, &Reply::Fields(reference), want)?;
+    }
+    Ok(())
 }
 
 #[test]
