@@ -1,6 +1,6 @@
 -- Counts.
+use Rattle.olr_commands.proofs.Common.{Path}
 use Rattle.std.proofs.Common.{inl, inr, ◌≡◌, ℕ, ◌≤◌, List, [], ◌∷◌, Some, None, Ok, refl, sym, ◌∙◌, subst, arith}
-use Rattle.olr_spec.specs.Extension.{Path}
 use Rattle.olr_commands.specs.State.{Named, Content, path_named, Change, Add_path, Set_path, State, Command, Make, step}
 use Rattle.olr_commands.specs.State.{changes_made, IsState}
 use Rattle.olr_commands.specs.Counts.{Affects, By_name, By_node, By_line, CountIs, Raises, all_nodes, all_lines}

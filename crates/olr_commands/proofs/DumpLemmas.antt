@@ -1,36 +1,29 @@
 -- The changes that a content is written as build it from an empty one.
+use Rattle.olr_commands.proofs.Common.{cases_eq, AllByRecursion, Map, IsMap, Line, is_good, got_other, got_same}
 use Rattle.std.proofs.Common.{arith, ◌≡◌, ◌≢◌, ℕ, true, false, T, List, [], ◌∷◌, ◌++◌, map, Option, Some, None, is_some}
-use Rattle.std.proofs.Common.{Ok, refl, sym, ap, ◌∙◌, subst, append_assoc, nat_cmp, Ordering, Less, Equal, Greater}
-use Rattle.std.proofs.Common.{is_lt, is_eq}
-use Rattle.std.proofs.lemmas.Bool.{eq-eqb, ne_eqb, cases_eq, both_ways}
+use Rattle.std.proofs.Common.{Ok, refl, sym, ap, ◌∙◌, append_assoc, nat_cmp, Ordering, is_lt, is_eq}
+use Rattle.std.proofs.lemmas.Bool.{eq-eqb, ne_eqb}
 use Rattle.std.proofs.lemmas.List.{append-nil}
-use Rattle.std.specs.List.{AllByRecursion}
-use Rattle.std.specs.Ordering.{eq_by_cmp}
-use Rattle.std.specs.Cmp.{nat_cmp_total, unsigned_tied}
+use Rattle.std.specs.Cmp.{nat_cmp_total}
 use Rattle.std.specs.FinMap.{FinMap, get, insert, entries, empty, entries_sorted, get-entries, get-empty, same_map}
 use Rattle.std.specs.FinMap.{nat_cmp-IsAntisymmetric}
 use Rattle.std.specs.FinMap.Entries.{below_all, find, is_sorted}
 use Rattle.olr_spec.specs.Coordinates.{Coord}
-use Rattle.olr_spec.specs.Map.{Map, IsMap, Line, is_good}
-use Rattle.olr_spec.proofs.EditLemmas.{got_other, got_same}
 use Rattle.olr_commands.specs.State.{Named, Content, no_content, path_named, Change, with_change, next, Make, ArePaths}
 use Rattle.olr_commands.specs.State.{NamesDiffer}
-use Rattle.olr_commands.specs.Dump.{node_change, line_change, path_change, dump_changes, Leads, steps}
-use Rattle.olr_commands.specs.Dump.{DumpsLead, DumpsRun, DumpsAgain}
+use Rattle.olr_commands.specs.Dump.{node_change, line_change, path_change, dump_changes, Leads, steps, DumpsLead}
+use Rattle.olr_commands.specs.Dump.{DumpsRun, DumpsAgain}
 use Rattle.olr_commands.proofs.StateLemmas.{next_ok}
 use Rattle.olr_commands.proofs.NameLemmas.{named_push, not_named, flipped}
 
 -- ---- entries in order
 
 lt_not_eq : (o : Ordering) → T (is_lt o) → is_eq o ≡ false
-lt_not_eq Less h = refl
-lt_not_eq Equal h = absurd h
-lt_not_eq Greater h = absurd h
+lt_not_eq o h = grind arith
 
 -- a number below another differs from it
 apart : (k j : ℕ) → T (is_lt (nat_cmp k j)) → j ≢ k
-apart k j h is =
-    both_ways (eq_by_cmp nat_cmp k j) (lt_not_eq (nat_cmp k j) h) (unsigned_tied k j ∙ eq-eqb k j (sym is))
+apart k j h is = grind (arith, nat_cmp)
 
 -- the first of two, or else the second
 abbrev over : {X : Type 0} → Option X → Option X → Option X
@@ -40,10 +33,6 @@ over None o = o
 over_none : {X : Type 0} (o : Option X) → over o None ≡ o
 over_none (Some x) = refl
 over_none None = refl
-
-some_not_none : {X : Type 0} (o : Option X) (x : X) → o ≡ Some x → o ≡ None → ⊥
-some_not_none o x is none =
-    both_ways (is_some o) (ap (λ (p : Option _). is_some p) none) (ap (λ (p : Option _). is_some p) is)
 
 module _ {X : Type 0} where
   -- a number below all of them equals none of them
@@ -79,9 +68,7 @@ module _ {X : Type 0} where
   filled_all : (m : FinMap nat_cmp X) → filled empty (entries m) ≡ m
   filled_all m =
       same_map nat_cmp_total nat_cmp-IsAntisymmetric (filled empty (entries m)) m (λ q.
-      get_filled empty (entries m) q (entries_sorted m)
-      ∙ ap (over (find nat_cmp q (entries m))) (get-empty nat_cmp q)
-      ∙ over_none (find nat_cmp q (entries m)) ∙ sym (get-entries m q))
+      grind (arith, get_filled, entries_sorted, get-empty, over_none, get-entries))
 
   abbrev Absent : FinMap nat_cmp X → List (ℕ × X) → Type 0
   Absent m es = AllByRecursion (λ e. get m e.0 ≡ None) es
@@ -99,7 +86,7 @@ module _ {X : Type 0} where
   pub of_entries : (P : ℕ × X → Type 0) (es : List (ℕ × X)) → T (is_sorted nat_cmp es) →
       ((e : ℕ × X) → find nat_cmp e.0 es ≡ Some e.1 → P e) → AllByRecursion P es
   of_entries P [] s h = tt
-  of_entries P (e ∷ es) s h = grind (arith, find, nat_cmp, eq-eqb, some_not_none, missed, ne_eqb, of_entries P es)
+  of_entries P (e ∷ es) s h = grind (arith, find, nat_cmp, eq-eqb, missed, ne_eqb, of_entries P es)
 
 -- ---- changes, one after another
 
@@ -108,8 +95,8 @@ leads_one : (c d e : Content) (x : Change) (xs : List Change) → with_change c 
 leads_one c d e x xs is l = grind (arith, next_ok)
 
 leads_append : (c d e : Content) (xs ys : List Change) → Leads c xs d → Leads d ys e → Leads c (xs ++ ys) e
-leads_append c d e [] ys p q = subst (λ (y : Content). Leads y ys e) (sym p.1) q
-leads_append c d e (x ∷ xs) ys p q = grind (arith, leads_append (next c x) d e xs ys (p.0.1, p.1) q)
+leads_append c d e [] ys p q = rw p.1 q
+leads_append c d e (x ∷ xs) ys p q = grind (arith, leads_append (next c x) d e xs ys)
 
 abbrev content_of : FinMap nat_cmp Coord → FinMap nat_cmp Line → List Named → Content
 content_of nodes lines ps = record { map = record { nodes = nodes; lines = lines }; paths = ps }
@@ -167,22 +154,16 @@ pub dumps_lead : DumpsLead
 dumps_lead c i =
     let N = entries c.map.nodes in
     let L = entries c.map.lines in
-    let a : Content = content_of c.map.nodes empty [] in
-    let b : Content = record { map = c.map; paths = [] } in
-    let nodes : Leads no_content (map node_change N) a =
-    subst (λ (m : FinMap nat_cmp Coord). Leads no_content (map node_change N) (content_of m empty []))
-    (filled_all c.map.nodes) (lead_nodes empty empty [] N (entries_sorted c.map.nodes) (absent_of_empty N)) in
-    let fits : AllByRecursion (Fits c.map.nodes) L =
+    let nodes =
+    rw (filled_all c.map.nodes) at (lead_nodes empty empty [] N (entries_sorted c.map.nodes) (absent_of_empty N)) in
+    let fits =
     of_entries (Fits c.map.nodes) L (entries_sorted c.map.lines)
     (λ e is. line_fits c.map i.map e (get-entries c.map.lines e.0 ∙ is)) in
-    let lines : Leads a (map line_change L) b =
-    subst (λ (m : FinMap nat_cmp Line). Leads a (map line_change L) (content_of c.map.nodes m []))
-    (filled_all c.map.lines)
+    let lines =
+    rw (filled_all c.map.lines) at
     (lead_lines c.map.nodes empty [] L (entries_sorted c.map.lines) (absent_of_empty L) fits) in
-    let paths : Leads b (map path_change c.paths) c =
-    lead_paths c.map [] c.paths i.paths i.names (all_new c.paths) in
-    leads_append no_content a c (map node_change N) (map line_change L ++ map path_change c.paths) nodes
-    (leads_append a b c (map line_change L) (map path_change c.paths) lines paths)
+    let paths = lead_paths c.map [] c.paths i.paths i.names (all_new c.paths) in
+    leads_append no_content _ c (map node_change N) _ nodes (leads_append _ _ c (map line_change L) _ lines paths)
 
 -- changes that are accepted one after another are accepted as commands too
 run_leads : (c d : Content) (xs : List Change) → Leads c xs d →

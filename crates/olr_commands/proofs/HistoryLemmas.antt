@@ -1,33 +1,22 @@
 -- Whole runs.
-use Rattle.std.proofs.Common.{rules, inl, inr, ◌≡◌, ℕ, Bool, true, false, cond, not, List, [], ◌∷◌, ◌++◌, length}
-use Rattle.std.proofs.Common.{Option, Some, None, Result, Ok, Err, refl, sym, ap, ◌∙◌, subst, arith}
-use Rattle.std.specs.Prelude.{nat_le, ◌||◌, MatchOption, IsSomeAnd, IfSome}
-use Rattle.std.specs.List.{list_any, AllByRecursion, concat}
-use Rattle.std.specs.Result.{result_unwrap_or}
-use Rattle.std.proofs.lemmas.Bool.{cases_Bool, both_ways, not-false}
-use lib.Pointwise.{bytes_decides}
-use Rattle.olr_spec.specs.Map.{Map, IsMap}
-use Rattle.olr_spec.specs.Extension.{Path}
-use Rattle.olr_spec.specs.Reference.{Reference}
-use Rattle.olr_spec.specs.Encoding.{Answer, Points, Refused, Refusal, path_fault, Encoding, Encodes}
-use Rattle.olr_spec.proofs.AnswerLemmas.{one_answer}
-use Rattle.olr_spec.proofs.DecideLemmas.{some_answer}
+use Rattle.olr_commands.proofs.Common.{MatchOption, IfSome, AllByRecursion, result_unwrap_or, cases_Bool, both_ways}
+use Rattle.olr_commands.proofs.Common.{not-false, bytes_decides, Map, IsMap, Path, Reference, Answer, Refused, Refusal}
+use Rattle.olr_commands.proofs.Common.{Encodes, one_answer, some_answer}
+use Rattle.std.proofs.Common.{rules, inl, inr, ◌≡◌, ℕ, Bool, true, false, cond, List, [], ◌∷◌, ◌++◌, length, Option}
+use Rattle.std.proofs.Common.{Some, None, Result, Ok, Err, refl, sym, ap, ◌∙◌, subst, arith}
+use Rattle.olr_spec.specs.Encoding.{Points, path_fault, Encoding}
 use Rattle.olr_spec.proofs.UndoLemmas.{empty_sound}
 use Rattle.olr_spec.specs.Joins.{Joined}
 use Rattle.olr_spec.proofs.JoinedAnswers.{joined}
-use Rattle.olr_commands.specs.State.{Named, Content, path_named, same_name, ArePaths, NamesDiffer, IsContent}
-use Rattle.olr_commands.specs.State.{Fault, No_path, Batch_full, Count_differs, Change, with_change, next}
-use Rattle.olr_commands.specs.State.{after, Command, Make, Show, Report, Explain, Begin, Commit, Abort, State}
-use Rattle.olr_commands.specs.State.{start_state, full, at_once, into_batch, text_fault, step}
-use Rattle.olr_commands.specs.State.{changes_made, changes_made_in, HasCoords, IsState, is_recordable, Not_a_record, Dump}
-use Rattle.olr_commands.specs.Dump.{dump_lines}
+use Rattle.olr_commands.specs.State.{Named, Content, path_named, same_name, ArePaths, NamesDiffer, IsContent, Fault}
+use Rattle.olr_commands.specs.State.{Change, after, Command, Make, Begin, Commit, Abort, State, start_state, step}
+use Rattle.olr_commands.specs.State.{changes_made, changes_made_in, HasCoords, IsState, Dump}
 use Rattle.olr_commands.specs.Reply.{Entry, entry, Paths, HasAnswer, Published, ChangedOf, Differences, IsReply}
 use Rattle.olr_commands.specs.Reply.{Outcome, IsOutcome, Dumped}
-use Rattle.olr_commands.specs.History.{Run, History, AllHaveCoords, next_state, brought_by, all_changes_made, OneOf}
-use Rattle.olr_commands.specs.History.{IsPublished, names, NamesChanged, reports, IsNamed, IsRefused, Headline}
-use Rattle.olr_commands.specs.History.{IsDump, IsDumped}
+use Rattle.olr_commands.specs.History.{Run, History, AllHaveCoords, next_state, all_changes_made, OneOf, IsPublished}
+use Rattle.olr_commands.specs.History.{names, NamesChanged, reports, IsNamed, IsRefused, Headline, IsDump, IsDumped}
 use Rattle.olr_commands.proofs.NameLemmas.{same_is}
-use Rattle.olr_commands.proofs.StateLemmas.{Ends, ends, when_ok, accepted, next_ok, after_append, steps_keep}
+use Rattle.olr_commands.proofs.StateLemmas.{Ends, ends, when_ok, next_ok, after_append, steps_keep}
 use Rattle.olr_commands.proofs.ReplyLemmas.{named_path}
 use Rattle.olr_commands.proofs.DumpLemmas.{dumps_run}
 
@@ -38,9 +27,7 @@ brings : (s t : State) (c : Command) → step s c ≡ Ok t → t.content ≡ aft
 brings s t c is = ends (λ u. u.content ≡ after s.content (changes_made s c)) s t c is (by s.content s.batch c) where
   by : (c : Content) (b : Option (List Change)) (x : Command) →
       Ends (λ u. u.content ≡ after c (changes_made_in b x)) c b x
-  by c None (Make x) = λ d is. sym (next_ok c d x is)
-  by c (Some xs) (Make x) = λ d is room. refl
-  by c b x = refl
+  by c b x = grind (arith, next_ok)
 
 next_state_ok : (s t : State) (c : Command) → step s c ≡ Ok t → next_state s (Some c) ≡ t
 next_state_ok s t c e = ap (λ (r : Result State Fault). result_unwrap_or r s) e
@@ -90,19 +77,11 @@ outcome_leads s c (Err fault) t h = h.1
 pub content_after : {A : Type 0} (asked : A → Option Command) (s t : State) (xs : List A) (os : List Outcome) →
     Run (λ a x o b. Leads a (asked x) o b) s xs os t
     → t.content ≡ after s.content (all_changes_made asked s xs os)
-content_after asked s t [] [] h = ap (λ (u : State). u.content) (sym h)
+content_after asked s t [] [] h = grind arith
 content_after asked s t [] (o ∷ os) h = absurd h
-content_after asked s t (x ∷ xs) [] h = ap (λ (u : State). u.content) (sym h)
-content_after asked s t (x ∷ xs) (Ok reply ∷ os) h = accepted (asked x) h.1 (content_after asked h.0 t xs os h.2) where
-  accepted : (m : Option Command) → Leads s m (Ok reply) h.0 →
-      t.content ≡ after h.0.content (all_changes_made asked h.0 xs os) →
-      t.content ≡ after s.content (brought_by s m ++ all_changes_made asked (next_state s m) xs os)
-  accepted None p rest = absurd p
-  accepted (Some c) go rest =
-      rest ∙ ap (λ (d : Content). after d (all_changes_made asked h.0 xs os)) (brings s h.0 c go)
-      ∙ ap (λ (u : State). after (after s.content (changes_made s c)) (all_changes_made asked u xs os))
-      (sym (next_state_ok s h.0 c go))
-      ∙ sym (after_append s.content (changes_made s c) (all_changes_made asked (next_state s (Some c)) xs os))
+content_after asked s t (x ∷ xs) [] h = grind arith
+content_after asked s t (x ∷ xs) (Ok reply ∷ os) h =
+    grind (arith, brings, next_state_ok, after_append, content_after asked h.0 t xs os)
 content_after asked s t (x ∷ xs) (Err fault ∷ os) h = grind (arith, content_after asked s t xs os)
 
 -- ---- answers
@@ -116,12 +95,8 @@ one_of c i name P e =
 -- the only answer of a path is the published one
 only_published : (c : Content) (name : List ℕ) (P : Path) (one : OneOf c.map P) (answer : Option Answer) →
     path_named c.paths name ≡ Some P → Published c name answer → answer ≡ Some one.answer
-only_published c name P one answer e h =
-    some answer (subst (λ (o : Option Path). MatchOption o (answer ≡ None)
-    (λ Q. IsSomeAnd answer (λ A. Encodes c.map Q A))) e h) where
-      some : (o : Option Answer) → IsSomeAnd o (λ A. Encodes c.map P A) → o ≡ Some one.answer
-      some None k = absurd k
-      some (Some A) k = ap (λ (B : Answer). Some B) (one.only A k)
+only_published c name P one None e h = grind arith
+only_published c name P one (Some A) e h = grind (arith, one.only A)
 
 pub is_published : (before later : Content) (changes : List Change) → IsContent later → later ≡ after before changes →
     IsPublished before changes later
@@ -155,7 +130,7 @@ not_first p ps name P d e = grind (arith, cases_Bool, same_is, both_ways, p.name
 
 named_first : (p : Named) (ps : List Named) (name : List ℕ) → same_name p.name name ≡ true →
     path_named (p ∷ ps) name ≡ Some p.path
-named_first p ps name h = ap (λ (b : Bool). cond b (Some p.path) (path_named ps name)) h
+named_first p ps name h = rw h refl
 
 named_later : (p : Named) (ps : List Named) (name : List ℕ) → same_name p.name name ≡ false →
     path_named (p ∷ ps) name ≡ path_named ps name
@@ -179,14 +154,11 @@ report_later before M p ps d (e ∷ es) (r, h) = (
 report_all : (before : Content) (M : Map) (ps : List Named) (es : List Entry) → NamesDiffer ps →
     ChangedOf before M ps es → AllByRecursion (Reports before M ps) es
 unfolding Reports
-report_all before M [] es d c = subst (AllByRecursion (Reports before M [])) (sym c) tt
+report_all before M [] es d c = rw c tt
 report_all before M (p ∷ ps) es d c =
     let rest = report_later before M p ps d c.1 (report_all before M ps c.1 d.1 c.3) in
-    elim c.4 [
-      | inl g ↦ subst (AllByRecursion (Reports before M (p ∷ ps))) (sym g.1) rest
-      | inr g ↦ subst (AllByRecursion (Reports before M (p ∷ ps))) (sym g.1)
-          ((c.0, p.path, named_first p ps p.name ((bytes_decides p.name p.name).1 refl), c.2, refl, g.0), rest)
-    ]
+    let here = named_first p ps p.name ((bytes_decides p.name p.name).1 refl) in
+    elim c.4 [ inl g ↦ rw g.1 rest | inr g ↦ rw g.1 ((c.0, p.path, here, c.2, refl, g.0), rest) ]
 
 -- the entry of a name
 entry_of : (P : Entry → Type 0) (es : List Entry) (name : List ℕ) → AllByRecursion P es → names es name →
@@ -198,7 +170,7 @@ reported : (before later : Content) (es : List Entry) → AllByRecursion (Report
     AllByRecursion (λ e. (A : Answer) × HasAnswer later e.name A × (e ≡ entry e.name A)) es
 unfolding Reports
 reported before later [] h = tt
-reported before later (e ∷ es) (r, h) = ((r.0, (r.1, r.2, r.3), r.4), reported before later es h)
+reported before later (e ∷ es) h = grind (arith, reported before later es)
 
 -- a path with an answer that it did not have before has an entry
 named_by : (before : Content) (M : Map) → IsMap M → (ps : List Named) (es : List Entry) → ArePaths ps →
@@ -223,10 +195,7 @@ unfolding Reports
 names_changed before later es i c =
     let all = report_all before later.map later.paths es i.names c in (
       λ name. (
-        λ h. let e = entry_of (Reports before later.map later.paths) es name all h in
-            let r = e.2 in
-            subst (λ (n : List ℕ). (A : Answer) × HasAnswer later n A × ¬ HasAnswer before n A) e.1
-            (r.0, (r.1, r.2, r.3), r.5),
+        λ h. grind (arith, entry_of (Reports before later.map later.paths) es name all h),
         λ h. named_by before later.map i.map later.paths es i.paths c name h.0 h.1.0 h.1.1 h.1.2 h.2,
       ),
       reported before later es all,
@@ -235,9 +204,7 @@ names_changed before later es i c =
 pub no_differences : (c : Content) (es : List Entry) → IsContent c → Differences c c es → es ≡ []
 no_differences c [] i d = refl
 no_differences c (e ∷ es) i d =
-    let here : names (e ∷ es) e.name =
-    ap (λ (b : Bool). b || list_any (λ (x : Entry). same_name x.name e.name) es)
-    ((bytes_decides e.name e.name).1 refl) in
+    let here : names (e ∷ es) e.name = rw ((bytes_decides e.name e.name).1 refl) refl in
     let h = ((names_changed c c (e ∷ es) i d).0 e.name).0 here in
     absurd (h.2 h.1)
 
@@ -246,41 +213,28 @@ no_differences c (e ∷ es) i d =
 -- what the reply to a command reports, if it names paths
 reported_of : (s t : State) (c : Command) (es : List Entry) → reports s.batch c ≡ true → IsReply s c t (Paths es) →
     Differences s.content t.content es
-reported_of s t c es = by s.batch c where
-  by : (b : Option (List Change)) (c : Command) → reports b c ≡ true →
-      IsReply (record { content = s.content; batch = b }) c t (Paths es) → Differences s.content t.content es
-  by None (Make x) e h = h
-  by (Some xs) (Commit count) e h = h
-  by b c e h = absurd cc
+reported_of s t (Make x) es e h = grind arith
+reported_of s t (Commit count) es e h = grind arith
+reported_of s t c es e h = grind arith
 
 pub is_named : (s t : State) (c : Command) (o : Outcome) → IsContent t.content → IsOutcome s c o t → IsNamed s c o t
 is_named s t c o sound h report_all es is = grind (arith, names_changed, sound, reported_of, report_all)
-
--- the reply with the records of a content is to a dump
-dump_is : (c : Content) (t : State) (count : ℕ) (text : List ℕ) → IsContent c →
-    step (record { content = c; batch = None }) Dump ≡ Ok t
-    → Dumped count text ≡ Dumped (length (dump_lines c)) (concat (dump_lines c))
-    → IsDump (record { content = c; batch = None }) count text × (t ≡ record { content = c; batch = None })
-dump_is c t count text i is h = grind (arith, when_ok, not-false, dumps_run)
 
 dumped_of : (c : Content) (b : Option (List Change)) (t : State) (x : Command) (count : ℕ) (text : List ℕ) →
     IsContent c → step (record { content = c; batch = b }) x ≡ Ok t →
     IsReply (record { content = c; batch = b }) x t (Dumped count text)
     → IsDump (record { content = c; batch = b }) count text × (t ≡ record { content = c; batch = b })
-dumped_of c None t Dump count text i is h = dump_is c t count text i is h
+dumped_of c b t Dump count text i is h = grind (arith, when_ok, not-false, dumps_run)
 dumped_of c (Some xs) t (Make x) count text i is h = absurd cc
 dumped_of c b t Begin count text i is h = absurd cc
 dumped_of c b t Abort count text i is h = absurd cc
-dumped_of c (Some xs) t Dump count text i is h = absurd cc
 dumped_of c b t x count text i is h = absurd h
 
 pub is_dumped : (s t : State) (c : Command) (o : Outcome) → IsContent s.content → IsOutcome s c o t → IsDumped s o t
-is_dumped s t c o i h count text is =
-    let p = subst (λ (p : Outcome). IsOutcome s c p t) is h in
-    dumped_of s.content s.batch t c count text i p.0 p.1
+is_dumped s t c o i h count text is = let p = rw is at h in dumped_of s.content s.batch t c count text i p.0 p.1
 
 pub is_refused : (s t : State) (c : Command) (o : Outcome) → IsOutcome s c o t → IsRefused s o t
-is_refused s t c o h fault is = (subst (λ (p : Outcome). IsOutcome s c p t) is h).1
+is_refused s t c o h fault is = (rw is at h).1
 
 -- what each step of a run gives for the claims
 pub record Claimed (s : State) (asked : Option Command) (o : Outcome) (t : State) : Type 0 where
@@ -306,21 +260,16 @@ headline_by : {A : Type 0} (P Q : State → A → Outcome → State → Type 0) 
     Headline Q asked s xs os t
 headline_by P Q asked f s xs os t sound h =
     let all = run_sound P (λ a x o b p. (f a x o b p).1.sound) s xs os t sound h in
+    let each = run_each _ (λ a x o b. Q a x o b × Claimed a (asked x) o b × IsContent a.content)
+    (λ a x o b p. let k = f a x o b p.0 in (k.0, k.1, p.1)) s xs os t all.0 in
+    let leads = run_each _ (λ a x o b. Leads a (asked x) o b) (λ a x o b k. k.1.leads) s xs os t each in
     record {
-      run = run_each P Q (λ a x o b p. (f a x o b p).0) s xs os t h;
-      published =
-          is_published s.content t.content _ all.1 (content_after asked s t xs os
-          (run_each P (λ a x o b. Leads a (asked x) o b) (λ a x o b p. (f a x o b p).1.leads) s xs os t h));
+      run = run_each _ Q (λ a x o b k. k.0) s xs os t each;
+      published = is_published s.content t.content _ all.1 (content_after asked s t xs os leads);
       joined = routes_of t.content;
-      named =
-          run_each P (λ a x o b. Q a x o b × IfSome (asked x) (λ c. IsNamed a c o b))
-          (λ a x o b p. let k = f a x o b p in (k.0, k.1.named)) s xs os t h;
-      refused =
-          run_each P (λ a x o b. Q a x o b × IsRefused a o b) (λ a x o b p. let k = f a x o b p in (k.0, k.1.refused)) s
-          xs os t h;
-      dumped =
-          run_each (λ a x o b. P a x o b × IsContent a.content) (λ a x o b. Q a x o b × IsDumped a o b)
-          (λ a x o b p. let k = f a x o b p.0 in (k.0, k.1.dumped p.1)) s xs os t all.0;
+      named = run_each _ _ (λ a x o b k. (k.0, k.1.named)) s xs os t each;
+      refused = run_each _ _ (λ a x o b k. (k.0, k.1.refused)) s xs os t each;
+      dumped = run_each _ _ (λ a x o b k. (k.0, k.1.dumped k.2)) s xs os t each;
     }
 
 pub headline_of : {A : Type 0} (P : State → A → Outcome → State → Type 0) (asked : A → Option Command)
@@ -350,7 +299,7 @@ history_keeps s t (c ∷ cs) (o ∷ os) i h p =
 
 pub headline_of_outcomes : (s : State) (cs : List Command) (os : List Outcome) (t : State) → IsContent s.content →
     Run SoundOutcome s cs os t → Headline IsOutcome (λ c. Some c) s cs os t
-headline_of_outcomes s cs os t sound h =
+headline_of_outcomes =
     headline_by SoundOutcome IsOutcome (λ c. Some c)
     (λ a c o b p. (
       p.0,
@@ -361,7 +310,7 @@ headline_of_outcomes s cs os t sound h =
         sound = p.1;
         dumped = λ i. is_dumped a b c o i p.0;
       },
-    )) s cs os t sound h
+    ))
 
 pub headline_of_histories : (cs : List Command) (os : List Outcome) (t : State) → AllHaveCoords cs →
     History start_state cs os t → IsState t × Headline IsOutcome (λ c. Some c) start_state cs os t

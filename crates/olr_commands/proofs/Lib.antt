@@ -1,3 +1,4 @@
+pub mod Common
 pub mod RecordLemmas
 pub mod NameLemmas
 pub mod StateLemmas

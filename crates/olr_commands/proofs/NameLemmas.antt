@@ -1,8 +1,6 @@
 -- Lists of named paths: what is preserved when a path is appended, set or dropped.
+use Rattle.olr_commands.proofs.Common.{filter, bytes_decides, Path, is_path}
 use Rattle.std.proofs.Common.{◌≡◌, ℕ, Bool, true, false, List, [], ◌∷◌, ◌++◌, map, is_some, IsTrue, refl, arith}
-use Rattle.std.specs.List.{filter}
-use lib.Pointwise.{bytes_decides}
-use Rattle.olr_spec.specs.Extension.{Path, is_path}
 use Rattle.olr_commands.specs.State.{Named, NamesDiffer, ArePaths, same_name, path_named, with_path}
 
 -- ---- names

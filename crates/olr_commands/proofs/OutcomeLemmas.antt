@@ -1,6 +1,6 @@
 -- Apart from out of memory, a command has one outcome.
+use Rattle.olr_commands.proofs.Common.{both_ways}
 use Rattle.std.proofs.Common.{arith, ◌≡◌, Result, Ok, Err, IsFalse, sym, ap, ◌∙◌, subst}
-use Rattle.std.proofs.lemmas.Bool.{both_ways}
 use Rattle.olr_commands.specs.State.{Fault, State, Command, HasCoords, step, IsState}
 use Rattle.olr_commands.specs.Reply.{Reply, IsReply, IsRefusal, ByState, Lacks, Outcome, IsOutcome, lacks_memory}
 use Rattle.olr_commands.proofs.StateLemmas.{steps_keep}

@@ -1,15 +1,10 @@
 -- A reply is determined.
+use Rattle.olr_commands.proofs.Common.{Map, IsMap, Path, is_path, Reference, Answer, Encodes, one_answer, one_decoding}
 use Rattle.std.proofs.Common.{arith, ◌≡◌, ℕ, List, [], ◌∷◌, Option, Some, None, IsTrue, sym, ap, ◌∙◌, subst}
-use Rattle.olr_spec.specs.Map.{Map, IsMap}
-use Rattle.olr_spec.specs.Extension.{Path, is_path}
-use Rattle.olr_spec.specs.Reference.{Reference}
-use Rattle.olr_spec.specs.Encoding.{Answer, Encodes}
-use Rattle.olr_spec.proofs.AnswerLemmas.{one_answer}
-use Rattle.olr_spec.proofs.BytesLemmas.{one_decoding}
 use Rattle.olr_commands.specs.State.{Named, Content, path_named, ArePaths, IsContent, Change, State, Command, Make}
 use Rattle.olr_commands.specs.State.{Show, Report, Explain, Begin, Commit, Abort, IsState, Dump}
-use Rattle.olr_commands.specs.Reply.{Entry, entry, Reply, Paths, Fields, HasAnswer, AllOf, ChangedOf, Differences}
-use Rattle.olr_commands.specs.Reply.{Shown, Explained, IsPaths, IsFields, IsChangeReply, IsReply}
+use Rattle.olr_commands.specs.Reply.{Entry, entry, Reply, Fields, HasAnswer, AllOf, ChangedOf, Differences, Shown}
+use Rattle.olr_commands.specs.Reply.{Explained, IsPaths, IsFields, IsChangeReply, IsReply}
 
 -- each path has one answer, so a list of paths has one list of entries
 one_all : (M : Map) → IsMap M → (ps : List Named) (es fs : List Entry) → ArePaths ps → AllOf M ps es → AllOf M ps fs →
@@ -29,9 +24,7 @@ named_path (p ∷ ps) name P a e = grind (arith, named_path ps name P a.1)
 
 one_paths : (T : List Entry → Type 0) → ((es fs : List Entry) → T es → T fs → es ≡ fs) → (r q : Reply) → IsPaths r T →
     IsPaths q T → r ≡ q
-one_paths T one (Paths es) (Paths fs) p g = ap (λ (xs : List Entry). Paths xs) (one es fs p g)
-one_paths T one (Paths es) q p g = absurd g
-one_paths T one r q p g = absurd p
+one_paths T one r q p g = grind (arith, one)
 
 one_fields : (T : Reference → Type 0) → ((x y : Reference) → T x → T y → x ≡ y) → (r q : Reply) → IsFields r T →
     IsFields q T → r ≡ q

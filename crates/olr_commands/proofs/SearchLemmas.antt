@@ -1,20 +1,16 @@
 -- A path that is added or set outside of batches: it is encoded, no answer is retained, and nothing else is searched.
-use Rattle.std.proofs.Common.{rules, arith, inr, ◌⊎◌, ◌≡◌, ℕ, Bool, true, false, cond, not, List, [], ◌∷◌, ◌++◌, map}
-use Rattle.std.proofs.Common.{Option, Some, None, is_some, Ok, refl, sym, ap, ◌∙◌, subst, append-nil}
+use Rattle.olr_commands.proofs.Common.{list_any, cases_Bool, both_ways, not-false, bytes_decides, Path, is_path}
+use Rattle.std.proofs.Common.{rules, arith, inr, ◌⊎◌, ◌≡◌, ℕ, true, false, not, List, [], ◌∷◌, ◌++◌, map, Option, Some}
+use Rattle.std.proofs.Common.{None, is_some, Ok, refl, ap, append-nil}
 use Rattle.std.proofs.Math.Bool.{or-false}
-use Rattle.olr_spec.specs.Map.{has}
-use Rattle.std.specs.List.{list_any}
-use Rattle.std.proofs.lemmas.Bool.{cases_Bool, both_ways, not-false}
-use lib.Pointwise.{bytes_decides}
-use Rattle.olr_spec.specs.Extension.{Path, is_path}
 use Rattle.olr_spec.specs.Queries.{CoverageQuery}
-use Rattle.olr_commands.specs.State.{Named, Content, same_name, path_named, with_path, NamesDiffer}
-use Rattle.olr_commands.specs.State.{Path_exists, Bad_path, when, Change, Add_path, Set_path, with_change}
-use Rattle.olr_commands.specs.State.{State, Make, step, changes_made, IsState}
-use Rattle.olr_commands.specs.Counts.{Affects, By_name, By_node, By_line, CountIs, all_nodes, all_lines, all_names, Retains, EncodesAgain, Spares}
-use Rattle.olr_commands.specs.Counts.{SearchedFor, SearchesFor, Collects, Searches}
+use Rattle.olr_commands.specs.State.{Named, Content, same_name, path_named, with_path, NamesDiffer, Path_exists}
+use Rattle.olr_commands.specs.State.{Bad_path, when, Change, Add_path, Set_path, with_change, State, Make, step}
+use Rattle.olr_commands.specs.State.{changes_made, IsState}
+use Rattle.olr_commands.specs.Counts.{Affects, By_name, By_node, By_line, CountIs, all_nodes, all_lines, all_names}
+use Rattle.olr_commands.specs.Counts.{Retains, EncodesAgain, Spares, SearchedFor, SearchesFor, Collects, Searches}
 use Rattle.olr_commands.proofs.NameLemmas.{same_is, not_named, set_name}
-use Rattle.olr_commands.proofs.StateLemmas.{Ends, ends, when_ok, passed}
+use Rattle.olr_commands.proofs.StateLemmas.{ends, when_ok, passed}
 
 -- ---- one path of a list without repeats
 
@@ -55,7 +51,7 @@ module _ (E : Named → Type 0) (name : List ℕ) (only : (p : Named) → E p �
 
 path_at_end : (ps : List Named) (n : Named) → is_some (path_named ps n.name) ≡ false →
     path_named (ps ++ n ∷ []) n.name ≡ Some n.path
-path_at_end [] n free = ap (λ (b : Bool). cond b (Some n.path) None) ((bytes_decides n.name n.name).1 refl)
+path_at_end [] n free = grind (arith, bytes_decides)
 path_at_end (p ∷ ps) n free = grind (arith, not_named, path_at_end ps n)
 
 path_set : (name : List ℕ) (path : Path) (ps : List Named) → is_some (path_named ps name) ≡ true →
@@ -113,8 +109,7 @@ module _ (s t : State) (x : Change) (name : List ℕ) (path : Path) (i : IsState
 -- the change that is made
 made : (s t : State) (x : Change) → s.batch ≡ None → step s (Make x) ≡ Ok t → with_change s.content x ≡ Ok t.content
 made s t x b is =
-    let P : State → Type 0 = λ u. with_change s.content x ≡ Ok u.content in
-    ends P s t (Make x) is (subst (λ (o : Option (List Change)). Ends P s.content o (Make x)) (sym b) (λ d e. e))
+    ends (λ u. with_change s.content x ≡ Ok u.content) s t (Make x) is (rw b (λ d e. e))
 
 pub added_path : (s t : State) (name : List ℕ) (path : Path) → s.batch ≡ None →
     step s (Make (Add_path name path)) ≡ Ok t → path_named t.content.paths name ≡ Some path

@@ -1,18 +1,11 @@
 -- An accepted command has a reply.
+use Rattle.olr_commands.proofs.Common.{concat, cases_Bool, cases_eq, both_ways, bytes_decides, Map, IsMap, Path}
+use Rattle.olr_commands.proofs.Common.{is_path, Reference, Answer, Refused, Refusal, Encodes, some_answer, one_decoding}
 use Rattle.std.proofs.Common.{inl, inr, ◌⊎◌, ◌≡◌, ◌≢◌, ℕ, suc, true, false, not, List, [], ◌∷◌, length, Option, Some}
 use Rattle.std.proofs.Common.{None, is_some, Ok, IsTrue, refl, sym, ap, ◌∙◌, subst}
-use Rattle.std.specs.List.{concat}
-use Rattle.std.proofs.lemmas.Bool.{cases_Bool, cases_eq, both_ways}
-use lib.Pointwise.{bytes_decides}
-use Rattle.olr_spec.specs.Map.{Map, IsMap}
-use Rattle.olr_spec.specs.Extension.{Path, is_path}
-use Rattle.olr_spec.specs.Reference.{Reference}
-use Rattle.olr_spec.specs.Encoding.{Answer, Points, Refused, Refusal, Unknown_line, Broken, Offset_too_long}
-use Rattle.olr_spec.specs.Encoding.{No_next_point, Encodes}
+use Rattle.olr_spec.specs.Encoding.{Points, Unknown_line, Broken, Offset_too_long, No_next_point}
 use Rattle.olr_spec.specs.Bytes.{IsReference, reference_bytes}
-use Rattle.olr_spec.proofs.DecideLemmas.{some_answer}
 use Rattle.olr_spec.proofs.FitLemmas.{encoded_fits}
-use Rattle.olr_spec.proofs.BytesLemmas.{one_decoding}
 use Rattle.olr_commands.specs.State.{Named, Content, path_named, same_name, ArePaths, IsContent, has_path, No_path}
 use Rattle.olr_commands.specs.State.{Change, Command, Make, Show, Report, Explain, Begin, Commit, Abort, HasCoords}
 use Rattle.olr_commands.specs.State.{State, step, IsState, Dump}

@@ -1,16 +1,12 @@
 -- What changes and commands preserve of the register.
-use Rattle.std.proofs.Common.{◌≡◌, ℕ, ◌+◌, ◌≤◌, arith, Bool, true, false, List, [], ◌∷◌, ◌++◌, length}
-use Rattle.std.proofs.Common.{Option, Some, None, Result, Ok, Err, refl, ap, subst}
-use Rattle.std.specs.Prelude.{nat_le, not, ◌==◌, IfSome, IfOk}
-use Rattle.std.specs.Result.{result_unwrap_or}
-use Rattle.std.proofs.lemmas.Bool.{not-false, leb-false}
-use Rattle.olr_spec.specs.Map.{Map, IsMap, MapFault, edited}
-use Rattle.olr_commands.specs.State.{Content, TextFault, Fault, No_path, Batch_full, Count_differs, when, Change}
-use Rattle.olr_commands.specs.State.{On_map, Add_path, Set_path, Drop_path, with_map, with_change, next, after, Command}
-use Rattle.olr_commands.specs.State.{Make, Show, Report, Explain, Begin, Commit, Abort, State, full, at_once}
-use Rattle.olr_commands.specs.State.{into_batch, text_fault, unless_fault, step, step_in, has_path, is_recordable, IsContent, AllAccepted, IsBatch}
-use Rattle.olr_commands.specs.State.{IsState, HasCoords, Not_a_record, Dump}
-use Rattle.olr_spec.proofs.EditLemmas.{edits_keep}
+use Rattle.olr_commands.proofs.Common.{nat_le, IfSome, IfOk, result_unwrap_or, not-false, leb-false, Map, IsMap}
+use Rattle.olr_commands.proofs.Common.{MapFault, edited, edits_keep}
+use Rattle.std.proofs.Common.{◌≡◌, ℕ, ◌+◌, ◌≤◌, arith, Bool, true, false, List, [], ◌∷◌, ◌++◌, length, Option, Some}
+use Rattle.std.proofs.Common.{None, Result, Ok, Err, refl, ap, subst}
+use Rattle.olr_commands.specs.State.{Content, Fault, when, Change, On_map, Add_path, Set_path, Drop_path, with_map}
+use Rattle.olr_commands.specs.State.{with_change, next, after, Command, Make, Show, Report, Explain, Begin, Commit}
+use Rattle.olr_commands.specs.State.{Abort, State, full, step, step_in, IsContent, AllAccepted, IsBatch, IsState}
+use Rattle.olr_commands.specs.State.{HasCoords, Dump}
 use Rattle.olr_commands.proofs.NameLemmas.{differ_push, differ_set, differ_filter, paths_push, paths_set, paths_filter}
 use Rattle.std.proofs.lemmas.List.{length_push}
 use Rattle.std.proofs.lemmas.Result.{IfOk-at_ok}
@@ -31,8 +27,7 @@ passed P t f a b e h = accepted P a b (when_ok t f (Ok a) b e).1 h
 
 map_keeps : (c d : Content) (r : Result Map MapFault) → ((m : Map) → r ≡ Ok m → IsMap m) → IsContent c →
     with_map c r ≡ Ok d → IsContent d
-map_keeps c d (Ok m) sound i e =
-    accepted IsContent (record c { map = m }) d e (record { map = sound m refl; paths = i.paths; names = i.names })
+map_keeps c d (Ok m) sound i e = grind (arith, sound m)
 map_keeps c d (Err f) sound i e = absurd cc
 
 pub changes_keep : (c d : Content) (x : Change) → IsContent c → HasCoords (Make x) → with_change c x ≡ Ok d →
@@ -47,13 +42,12 @@ changes_keep c d (Drop_path name) i h is = grind (arith, passed, paths_filter, d
 pub next_ok : (c d : Content) (x : Change) → with_change c x ≡ Ok d → next c x ≡ d
 next_ok c d x e = ap (λ (r : Result Content Fault). result_unwrap_or r c) e
 
-pub after_push : (c : Content) (xs : List Change) (x : Change) → after c (xs ++ x ∷ []) ≡ next (after c xs) x
-after_push c [] x = refl
-after_push c (y ∷ xs) x = after_push (next c y) xs x
-
 pub after_append : (c : Content) (xs ys : List Change) → after c (xs ++ ys) ≡ after (after c xs) ys
 after_append c [] ys = refl
 after_append c (x ∷ xs) ys = after_append (next c x) xs ys
+
+pub after_push : (c : Content) (xs : List Change) (x : Change) → after c (xs ++ x ∷ []) ≡ next (after c xs) x
+after_push c xs x = after_append c xs (x ∷ [])
 
 accepted_push : (c : Content) (xs : List Change) (x : Change) → AllAccepted c xs →
     with_change (after c xs) x ≡ Ok (next (after c xs) x) → AllAccepted c (xs ++ x ∷ [])
@@ -62,7 +56,7 @@ accepted_push c (y ∷ xs) x a e = (a.0, accepted_push (next c y) xs x a.1 e)
 
 -- a batch that is not full has capacity for one change more
 few_more : (n : ℕ) → nat_le full n ≡ false → n + 1 ≤ full
-few_more n h = let below = leb-false full n h in omega arith
+few_more n h = grind (arith, leb-false)
 
 hold : (c d : Content) (xs : List Change) (x : Change) → with_change (after c xs) x ≡ Ok d →
     nat_le full (length xs) ≡ false → IsContent c → HasCoords (Make x) → IsBatch c xs →
@@ -82,37 +76,13 @@ Ends P c b Abort = P (record { content = c; batch = None })
 Ends P c b x = P (record { content = c; batch = b })
 
 module _ (P : State → Type 0) where
-  if_passed : (b : Bool) (f : Fault) (r : Result State Fault) → (b ≡ false → IfOk r P) → IfOk (when b f r) P
-  if_passed true f r h = tt
-  if_passed false f r h = h refl
-
-  if_kept : (b : Bool) (f : Fault) (s : State) → P s → IfOk (when b f (Ok s)) P
-  if_kept b f s h = if_passed b f (Ok s) (λ _. h)
-
-  if_made : (r : Result Content Fault) → ((d : Content) → r ≡ Ok d → P (record { content = d; batch = None })) →
-      IfOk (at_once r) P
-  if_made (Ok d) h = h d refl
-  if_made (Err f) h = tt
-
-  if_held : (c : Content) (xs : List Change) (r : Result Content Fault) →
-      ((d : Content) → r ≡ Ok d → P (record { content = c; batch = Some xs })) → IfOk (into_batch c xs r) P
-  if_held c xs (Ok d) h = h d refl
-  if_held c xs (Err f) h = tt
-
-  if_explained : (s : State) (o : Option TextFault) → P s → IfOk (unless_fault s o) P
-  if_explained s None h = h
-  if_explained s (Some f) h = tt
-
   ends_in : (c : Content) (b : Option (List Change)) (x : Command) → Ends P c b x → IfOk (step_in c b x) P
-  ends_in c None (Make x) h = if_made (with_change c x) h
-  ends_in c (Some xs) (Make x) h =
-      let r = with_change (after c xs) x in
-      if_passed (nat_le full (length xs)) Batch_full (into_batch c (xs ++ x ∷ []) r) (λ room.
-      if_held c (xs ++ x ∷ []) r (λ d is. h d is room))
-  ends_in c b (Show name) h = if_kept (not (has_path c name)) No_path _ h
-  ends_in c None Dump h = if_kept (not (is_recordable c)) Not_a_record _ h
-  ends_in c b (Explain text) h = if_explained _ (text_fault text) h
-  ends_in c (Some xs) (Commit count) h = if_kept (not (length xs == count)) Count_differs _ h
+  ends_in c None (Make x) h = grind arith
+  ends_in c (Some xs) (Make x) h = grind arith
+  ends_in c b (Show name) h = grind arith
+  ends_in c None Dump h = grind arith
+  ends_in c b (Explain text) h = grind arith
+  ends_in c (Some xs) (Commit count) h = grind arith
   ends_in c (Some xs) Abort h = h
   ends_in c b Report h = h
   ends_in c None Begin h = h
@@ -125,9 +95,6 @@ pub steps_keep : (s t : State) (c : Command) → IsState s → HasCoords c → s
 steps_keep s t c i h is = ends IsState s t c is (by s.content s.batch c i.content i.batch h) where
   by : (c : Content) (b : Option (List Change)) (x : Command) → IsContent c → IfSome b (IsBatch c) → HasCoords x →
       Ends IsState c b x
-  by c None (Make x) i k h = λ d is. record { content = changes_keep c d x i h is; batch = tt }
+  by c None (Make x) i k h = grind (arith, changes_keep)
   by c (Some xs) (Make x) i k h = λ d is room. hold c d xs x is room i h k
-  by c b Begin i k h = record { content = i; batch = record { accepted = tt; sound = i; few = omega arith } }
-  by c (Some xs) (Commit count) i k h = record { content = k.sound; batch = tt }
-  by c b Abort i k h = record { content = i; batch = tt }
-  by c b x i k h = record { content = i; batch = k }
+  by c b x i k h = grind arith

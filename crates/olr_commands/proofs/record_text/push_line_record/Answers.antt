@@ -1,6 +1,5 @@
+use Rattle.olr_commands.proofs.Common.{Line, fields_of_attributes}
 use Rattle.std.proofs.Common.{◌∙◌, ap}
-use Rattle.olr_spec.specs.Map.{Line}
-use Rattle.olr_commands.specs.RecordText.{fields_of_attributes}
 use Rattle.olr_commands.proofs.RecordLemmas.{line_of_three}
 use Rattle.olr_commands.proofs.record_text.push_line_record.Goals as goal
 

@@ -1,6 +1,5 @@
+use Rattle.olr_commands.proofs.Common.{decimal, after_commas}
 use Rattle.std.proofs.Common.{◌≡◌, ◌++◌, map, take}
-use Rattle.std.specs.Prelude.{decimal}
-use Rattle.olr_commands.specs.RecordText.{after_commas}
 use Rattle.olr_commands.proofs.record_text.push_lines.Given as goal
 
 abbrev pub invariant-loop-line : goal.invariant-loop-line

@@ -1,5 +1,5 @@
+use Rattle.olr_commands.proofs.Common.{after_commas, fields_of_shape}
 use Rattle.std.proofs.Common.{◌≡◌, ◌++◌, take}
-use Rattle.olr_commands.specs.RecordText.{after_commas, fields_of_shape}
 use Rattle.olr_commands.proofs.record_text.push_shape.Given as goal
 
 abbrev pub invariant-loop-point : goal.invariant-loop-point
