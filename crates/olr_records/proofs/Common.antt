@@ -2,36 +2,34 @@
 pub use Rattle.csv.specs.Records.{fields_of}
 pub use Rattle.olr_commands.proofs.RecordLemmas.{joined}
 pub use Rattle.olr_commands.specs.RecordText.{after_commas, fields_of_change, fields_of_coord, fields_of_path}
-pub use Rattle.olr_commands.specs.RecordText.{fields_of_shape}
-pub use Rattle.olr_commands.specs.Recordable.{is_name, is_name_byte}
-pub use Rattle.olr_commands.specs.State.{Abort, Add_path, Begin, Change, Command, Commit, Drop_path, Dump, Explain}
-pub use Rattle.olr_commands.specs.State.{Make, On_map, Report, Set_path, Show}
+pub use Rattle.olr_commands.specs.RecordText.{fields_of_shape, record_line}
+pub use Rattle.olr_commands.specs.Recordable.{is_name, is_name_byte, is_recordable_coord, is_recordable_shape}
+pub use Rattle.olr_commands.specs.State.{Add_path, Change, Drop_path, Make, On_map, Set_path}
 pub use Rattle.olr_commands.specs.Words.{entry_of}
+pub use Rattle.olr_coords.proofs.DegreesTextLemmas.{decimals-digits, degrees-read, degrees-whole}
 pub use Rattle.olr_coords.proofs.DigitLemmas.{own}
-pub use Rattle.olr_coords.specs.DegreesText.{degrees_text, has_degrees_text}
-pub use Rattle.olr_records.specs.Recorded.{Recorded, are_attributes, has_record, is_amount, is_named_path, is_number}
-pub use Rattle.olr_records.specs.Recorded.{is_place, is_point}
-pub use Rattle.olr_records.specs.Records.{Bad_form, Field, HoldsList, Read, amount, attributes, class, coordinate, edit}
-pub use Rattle.olr_records.specs.Records.{line_between, line_record, max32, name, node_fields, node_record, number}
-pub use Rattle.olr_records.specs.Records.{numbers, path_fields, place, point, read, set_line_record, shape}
-pub use Rattle.olr_records.specs.Records.{value_or_fault, whole_line, ◌⊛◌}
+pub use Rattle.olr_coords.specs.DegreesText.{after_point, degrees_text, has_degrees_text, steps_text}
+pub use Rattle.olr_records.specs.Recorded.{HaveRecords, IsRecorded, Recorded, StaysRecorded, are_attributes, has_record}
+pub use Rattle.olr_records.specs.Recorded.{is_amount, is_named_path, is_number, is_place, is_point}
+pub use Rattle.olr_records.specs.Records.{Bad_form, Field, HoldsList, Out_of_range, Read, amount, attributes, class}
+pub use Rattle.olr_records.specs.Records.{coordinate, edit, line_between, line_record, max32, name, node_fields}
+pub use Rattle.olr_records.specs.Records.{node_record, number, numbers, path_fields, place, point, read}
+pub use Rattle.olr_records.specs.Records.{set_line_record, shape, value_or_fault, whole_line, ◌⊛◌}
 pub use Rattle.olr_records.specs.ReplyText.{entry_line, middle_line}
-pub use Rattle.olr_records.specs.Words.{Gathers, Reads}
+pub use Rattle.olr_records.specs.Words.{Gathers, Reads, both}
 pub use Rattle.olr_records.specs.declared.faults.ReadFault.{ReadFault}
 pub use Rattle.olr_records.specs.declared.faults.ReadFault.TheVariants.{Memory}
 pub use Rattle.olr_records.specs.declared.lines.LineAttributes.{LineAttributes}
-pub use Rattle.olr_spec.specs.Coordinates.{Coord, is_coord}
-pub use Rattle.olr_spec.specs.Degrees.{degrees, digits_value}
+pub use Rattle.olr_spec.specs.Coordinates.{Coord, is_coord, is_latitude, is_longitude}
+pub use Rattle.olr_spec.specs.Degrees.{degrees, digits_value, unit7}
 pub use Rattle.olr_spec.specs.Extension.{Path}
-pub use Rattle.olr_spec.specs.Map.{Add_line, Add_node, Drop_line, Drop_node, Edit, Line, Move_node, Set_line}
-pub use Rattle.olr_spec.specs.Map.{ShapePoint}
-pub use Rattle.std.proofs.Common.{Bool, Err, IsTrue, List, None, Ok, Option, Result, Some, [], ap, append_assoc, arith}
-pub use Rattle.std.proofs.Common.{drop, false, length, map, nat_le, negsuc, pos, refl, rules, subst, suc, sym, take}
-pub use Rattle.std.proofs.Common.{true, unwrap_or, zero, ℕ, ℤ, ◌&&◌, ◌++◌, ◌+◌, ◌<◌, ◌^◌, ◌∙◌, ◌∷◌, ◌≡◌, ◌≤◌}
-pub use Rattle.std.proofs.lemmas.Bool.{and_parts, eq-eqb, leb-true}
+pub use Rattle.olr_spec.specs.Map.{Add_line, Add_node, Drop_line, Drop_node, Edit, HasCoord, Line, Map, MapFault}
+pub use Rattle.olr_spec.specs.Map.{Move_node, Set_line, ShapePoint, are_coords, edited, end, no_line, start}
+pub use Rattle.std.proofs.lemmas.Bool.{and_parts, cases_eq, eq-eqb, le-leb, leb-true, ne_eqb}
 pub use Rattle.std.proofs.lemmas.Bool.Decides.{nat_tests}
-pub use Rattle.std.proofs.lemmas.Fmt.{digits_decimal}
-pub use Rattle.std.proofs.lemmas.List.{append-nil, length-append, length-drop}
+pub use Rattle.std.proofs.lemmas.Fmt.{decimal_nonempty, digits_decimal, digits_value-decimal, length-decimal-le}
+pub use Rattle.std.proofs.lemmas.List.{append-nil, drop_all, length-append, length-drop, length-map, length-take}
+pub use Rattle.std.proofs.lemmas.List.{map-append, take_all, take_more}
 pub use Rattle.std.specs.Char.{is_ascii_digit}
-pub use Rattle.std.specs.List.{AllByRecursion, concat, list_all}
-pub use Rattle.std.specs.Prelude.{IfOk, IfSome, IsOkAnd, decimal, if◌then◌else◌, slice_index_or, ⊤}
+pub use Rattle.std.specs.List.{AllByRecursion, concat, join_with_byte, list_all, list_any}
+pub use Rattle.std.specs.Prelude.{IfOk, IfSome, IsOkAnd, decimal, if◌then◌else◌, nat_abs, ⊤}

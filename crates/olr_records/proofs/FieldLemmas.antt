@@ -1,9 +1,9 @@
 -- Fields: the bytes of a field by its position, and as text.
-use Rattle.olr_records.proofs.Common.{◌≡◌, ℕ, zero, suc, ◌<◌, ◌≤◌, ◌^◌, Bool, true, List, [], ◌∷◌, length, take}
-use Rattle.olr_records.proofs.Common.{unwrap_or, nat_le, refl, arith, rules, slice_index_or, list_all, is_ascii_digit}
-use Rattle.olr_records.proofs.Common.{digits_value, own, and_parts, nat_tests, is_name, is_name_byte, Field}
-use Rattle.std.specs.Prelude.{IsAscii, IsUtf8}
-use Rattle.std.proofs.lemmas.List.{length-take}
+use Rattle.olr_records.proofs.Common.{list_all, is_ascii_digit, digits_value, own, and_parts, nat_tests, is_name}
+use Rattle.olr_records.proofs.Common.{is_name_byte, Field, length-take}
+use Rattle.std.proofs.Common.{◌≡◌, ℕ, zero, suc, ◌<◌, ◌≤◌, ◌^◌, Bool, true, List, [], ◌∷◌, length, take, unwrap_or}
+use Rattle.std.proofs.Common.{nat_le, refl, arith, rules}
+use Rattle.std.specs.Prelude.{slice_index_or, IsAscii, IsUtf8}
 use Rattle.std.proofs.lemmas.Str.Parse.{digits_value_short}
 use Rattle.std.proofs.lemmas.Str.{IsUtf8-from_ascii}
 use Rattle.csv.specs.Records.{field_at}

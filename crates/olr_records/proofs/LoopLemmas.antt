@@ -1,13 +1,10 @@
 -- Items of a record, read one after another.
 --     onto x y      the items of x, followed by those of y
-use Rattle.olr_records.proofs.Common.{◌≡◌, ℕ, ◌+◌, ◌<◌, ◌≤◌, List, [], ◌∷◌, ◌++◌, length, drop, Ok, Err, refl, sym, ap}
-use Rattle.olr_records.proofs.Common.{◌∙◌, append_assoc, arith, IfOk, IsOkAnd, slice_index_or, append-nil, length-drop}
-use Rattle.olr_records.proofs.Common.{ShapePoint, Field, Read, Bad_form, ◌⊛◌, number, numbers, point, shape, Gathers}
-use Rattle.olr_records.proofs.Common.{ReadFault, Memory}
-use Rattle.std.proofs.Common.{drop-cons}
-use Rattle.std.specs.Prelude.{Result}
-use Rattle.std.proofs.lemmas.List.{drop_all}
-use Rattle.olr_records.specs.Records.{Out_of_range}
+use Rattle.olr_records.proofs.Common.{IfOk, IsOkAnd, append-nil, length-drop, ShapePoint, Field, Read, Bad_form, ◌⊛◌}
+use Rattle.olr_records.proofs.Common.{number, numbers, point, shape, Gathers, ReadFault, Memory, drop_all, Out_of_range}
+use Rattle.std.proofs.Common.{◌≡◌, ℕ, ◌+◌, ◌<◌, ◌≤◌, List, [], ◌∷◌, ◌++◌, length, drop, Ok, Err, refl, sym, ap, ◌∙◌}
+use Rattle.std.proofs.Common.{append_assoc, arith, drop-cons}
+use Rattle.std.specs.Prelude.{slice_index_or, Result}
 
 abbrev pub onto : {A : Type 0} → Read (List A) → Read (List A) → Read (List A)
 onto x y = Ok (λ xs ys. xs ++ ys) ⊛ x ⊛ y

@@ -1,7 +1,6 @@
 -- Two parts of one record, where reading one of them or both may take memory.
-use Rattle.olr_records.proofs.Common.{arith, ◌≡◌, Ok, Err, Result, sym, ap, subst, IsOkAnd, Read, ◌⊛◌, Reads, Gathers}
-use Rattle.olr_records.proofs.Common.{ReadFault, Memory}
-use Rattle.olr_records.specs.Words.{both}
+use Rattle.olr_records.proofs.Common.{IsOkAnd, Read, ◌⊛◌, Reads, Gathers, ReadFault, Memory, both}
+use Rattle.std.proofs.Common.{arith, ◌≡◌, Ok, Err, Result, sym, ap, subst}
 
 -- a part that takes no memory
 pub no-memory : {A B : Type 0} (P : B → Type 0) (view : A → B) (x : Read B) (r : Result A ReadFault) → Reads view x r →

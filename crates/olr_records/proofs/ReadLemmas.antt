@@ -1,22 +1,17 @@
 -- A change that is read has a record, and its coordinates are in range.
-use Rattle.olr_records.proofs.Common.{◌≡◌, ℕ, ℤ, Bool, true, false, List, [], ◌∷◌, Option, Some, None, Ok, Err, IsTrue}
-use Rattle.olr_records.proofs.Common.{refl, subst, nat_le, ◌&&◌, pos, negsuc, arith, IfOk, IfSome, if◌then◌else◌, ⊤}
-use Rattle.olr_records.proofs.Common.{AllByRecursion, list_all, and_parts, eq-eqb, nat_tests, Coord, is_coord, degrees}
-use Rattle.olr_records.proofs.Common.{ShapePoint, Line, Edit, Add_node, Move_node, Drop_node, Add_line, Set_line}
-use Rattle.olr_records.proofs.Common.{Drop_line, Path, has_degrees_text, Change, On_map, Add_path, Set_path, Drop_path}
-use Rattle.olr_records.proofs.Common.{Command, Make, Show, Report, Dump, Explain, Begin, Commit, Abort, is_name, Field}
-use Rattle.olr_records.proofs.Common.{Read, ◌⊛◌, value_or_fault, max32, number, amount, coordinate, place, name}
-use Rattle.olr_records.proofs.Common.{numbers, point, shape, node_fields, edit, node_record, line_between, attributes}
-use Rattle.olr_records.proofs.Common.{whole_line, line_record, set_line_record, path_fields, read, is_number, is_amount}
-use Rattle.olr_records.proofs.Common.{is_place, is_point, are_attributes, is_named_path, has_record, Recorded}
-use Rattle.std.proofs.Common.{◌%◌}
-use Rattle.std.specs.Prelude.{nat_abs}
-use Rattle.olr_spec.specs.Coordinates.{is_longitude, is_latitude}
-use Rattle.olr_spec.specs.Degrees.{unit7}
-use Rattle.olr_spec.specs.Map.{are_coords, HasCoord}
+use Rattle.olr_records.proofs.Common.{IfOk, IfSome, if◌then◌else◌, ⊤, AllByRecursion, list_all, and_parts, eq-eqb}
+use Rattle.olr_records.proofs.Common.{nat_tests, Coord, is_coord, degrees, ShapePoint, Line, Edit, Add_node, Move_node}
+use Rattle.olr_records.proofs.Common.{Drop_node, Add_line, Set_line, Drop_line, Path, has_degrees_text, Change, On_map}
+use Rattle.olr_records.proofs.Common.{Add_path, Set_path, Drop_path, Make, is_name, Field, Read, ◌⊛◌, value_or_fault}
+use Rattle.olr_records.proofs.Common.{max32, number, amount, coordinate, place, name, numbers, point, shape}
+use Rattle.olr_records.proofs.Common.{node_fields, edit, node_record, line_between, attributes, whole_line, line_record}
+use Rattle.olr_records.proofs.Common.{set_line_record, path_fields, read, is_number, is_amount, is_place, is_point}
+use Rattle.olr_records.proofs.Common.{are_attributes, is_named_path, has_record, Recorded, nat_abs, is_longitude}
+use Rattle.olr_records.proofs.Common.{is_latitude, unit7, are_coords, HasCoord, degrees-whole}
+use Rattle.std.proofs.Common.{◌≡◌, ℕ, ℤ, Bool, true, false, List, [], ◌∷◌, Option, Some, None, Ok, Err, IsTrue, refl}
+use Rattle.std.proofs.Common.{subst, nat_le, ◌&&◌, pos, negsuc, arith, ◌%◌}
+use Rattle.olr_commands.specs.State.{Command, Show, Report, Dump, Explain, Begin, Commit, Abort, HasCoords}
 use Rattle.olr_coords.specs.Bounds.{is_degrees}
-use Rattle.olr_coords.proofs.DegreesTextLemmas.{degrees-whole}
-use Rattle.olr_commands.specs.State.{HasCoords}
 use Rattle.olr_records.specs.Records.{digits, longitude, latitude, one, none, path_record, forms, read_by}
 use Rattle.olr_records.proofs.TestLemmas.{all_weaker, ◌also◌}
 

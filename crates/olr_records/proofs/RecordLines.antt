@@ -1,14 +1,14 @@
 -- The text of records is split into their fields.
-use Rattle.olr_records.proofs.Common.{◌≡◌, ℕ, zero, suc, ◌^◌, ◌<◌, ◌≤◌, ℤ, pos, negsuc, true, false, ◌&&◌, List, []}
-use Rattle.olr_records.proofs.Common.{◌∷◌, ◌++◌, length, map, Some, nat_le, IsTrue, refl, ◌∙◌, arith, decimal}
-use Rattle.olr_records.proofs.Common.{if◌then◌else◌, list_all, concat, AllByRecursion, is_ascii_digit, and_parts}
-use Rattle.olr_records.proofs.Common.{leb-true, nat_tests, digits_decimal, length-append, Coord, ShapePoint, Add_node}
-use Rattle.olr_records.proofs.Common.{Move_node, Drop_node, Add_line, Set_line, Drop_line, Path, degrees_text}
+use Rattle.olr_records.proofs.Common.{decimal, if◌then◌else◌, list_all, concat, AllByRecursion, is_ascii_digit}
+use Rattle.olr_records.proofs.Common.{and_parts, leb-true, nat_tests, digits_decimal, length-append, Coord, ShapePoint}
+use Rattle.olr_records.proofs.Common.{Add_node, Move_node, Drop_node, Add_line, Set_line, Drop_line, Path, degrees_text}
 use Rattle.olr_records.proofs.Common.{has_degrees_text, own, Change, On_map, Add_path, Set_path, Drop_path}
 use Rattle.olr_records.proofs.Common.{is_name_byte, is_name, after_commas, fields_of_coord, fields_of_shape}
 use Rattle.olr_records.proofs.Common.{fields_of_path, fields_of_change, Field, max32, is_number, is_place, is_point}
-use Rattle.olr_records.proofs.Common.{are_attributes, is_named_path, has_record, joined}
-use Rattle.std.specs.List.{list_any, join_with_byte}
+use Rattle.olr_records.proofs.Common.{are_attributes, is_named_path, has_record, joined, list_any, join_with_byte}
+use Rattle.olr_records.proofs.Common.{after_point, steps_text, decimals-digits, record_line, HaveRecords}
+use Rattle.std.proofs.Common.{◌≡◌, ℕ, zero, suc, ◌^◌, ◌<◌, ◌≤◌, ℤ, pos, negsuc, true, false, ◌&&◌, List, [], ◌∷◌, ◌++◌}
+use Rattle.std.proofs.Common.{length, map, Some, nat_le, IsTrue, refl, ◌∙◌, arith}
 use Rattle.std.proofs.lemmas.List.Folds.{list_all-append}
 use Rattle.std.proofs.Math.Nat.{mod-lt}
 use Rattle.csv.specs.Machine.{next_record}
@@ -16,10 +16,6 @@ use Rattle.csv.specs.Quoting.{needs_byte}
 use Rattle.csv.specs.Reading.{records, records_from, default_config, strip_bom}
 use Rattle.csv.specs.Writing.{read_back, default_writer, field_text, fields_text, row_text, quoted, is_blank}
 use Rattle.csv.proofs.RoundTrip.{read-write}
-use Rattle.olr_coords.specs.DegreesText.{after_point, steps_text}
-use Rattle.olr_coords.proofs.DegreesTextLemmas.{decimals-digits}
-use Rattle.olr_commands.specs.RecordText.{record_line}
-use Rattle.olr_records.specs.Recorded.{HaveRecords}
 use Rattle.olr_records.proofs.TestLemmas.{and_three, and_four, and_five, all_weaker, ◌also◌}
 use Rattle.csv.specs.declared.parser.State.TheVariants as st
 

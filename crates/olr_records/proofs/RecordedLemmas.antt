@@ -1,26 +1,23 @@
 -- Commands whose changes have records lead to contents that have records.
-use Rattle.olr_records.proofs.Common.{rules, arith, ◌≡◌, ℕ, Bool, true, List, [], ◌∷◌, ◌++◌, map, length, Option, Some}
-use Rattle.olr_records.proofs.Common.{None, unwrap_or, Result, Ok, Err, IsTrue, refl, sym, ◌∙◌, subst, IfSome, list_all}
-use Rattle.olr_records.proofs.Common.{AllByRecursion, and_parts, eq-eqb, Coord, is_coord, Line, Edit, Add_node}
-use Rattle.olr_records.proofs.Common.{Move_node, Drop_node, Add_line, Set_line, Drop_line, Path, Change, On_map}
-use Rattle.olr_records.proofs.Common.{Add_path, Set_path, Drop_path, Command, Make, Show, Report, Dump, Explain, Begin}
-use Rattle.olr_records.proofs.Common.{Commit, Abort, is_name, is_number, is_amount, is_place, are_attributes}
-use Rattle.olr_records.proofs.Common.{has_record, Recorded}
-use Rattle.std.proofs.Common.{not, filter, is_some, nat_cmp}
-use Rattle.std.specs.Prelude.{nat_le, ◌==◌, ◌&&◌}
+use Rattle.olr_records.proofs.Common.{IfSome, list_all, AllByRecursion, and_parts, eq-eqb, Coord, is_coord, Line, Edit}
+use Rattle.olr_records.proofs.Common.{Add_node, Move_node, Drop_node, Add_line, Set_line, Drop_line, Path, Change}
+use Rattle.olr_records.proofs.Common.{On_map, Add_path, Set_path, Drop_path, Make, is_name, is_number, is_amount}
+use Rattle.olr_records.proofs.Common.{is_place, are_attributes, has_record, Recorded, cases_eq, ne_eqb, Map, MapFault}
+use Rattle.olr_records.proofs.Common.{no_line, start, end, edited, is_recordable_coord, is_recordable_shape, IsRecorded}
+use Rattle.olr_records.proofs.Common.{StaysRecorded}
+use Rattle.std.proofs.Common.{rules, arith, ◌≡◌, ℕ, Bool, true, List, [], ◌∷◌, ◌++◌, map, Option, Some, None}
+use Rattle.std.proofs.Common.{unwrap_or, Result, Ok, Err, IsTrue, refl, sym, ◌∙◌, subst, filter, is_some, nat_cmp}
+use Rattle.olr_commands.specs.State.{Command, Begin, Commit, Abort, Named, Content}
+use Rattle.olr_commands.specs.State.{with_path, with_map}
+use Rattle.olr_commands.specs.State.{with_change, after, no_content, is_recordable, start_state, State}
+use Rattle.olr_commands.specs.State.{step}
+use Rattle.std.specs.Prelude.{◌&&◌}
 use Rattle.std.specs.FinMap.{FinMap, get, insert, remove, empty, entries, entries_sorted, get-entries, get-empty}
 use Rattle.std.specs.FinMap.Entries.{find}
-use Rattle.std.proofs.lemmas.Bool.{cases_eq, ne_eqb}
-use Rattle.olr_spec.specs.Map.{Map, MapFault, no_line, start, end, edited}
 use Rattle.olr_spec.proofs.EditLemmas.{Made, made_by, got_same, got_other, left_same, left_other}
-use Rattle.olr_commands.specs.State.{Named, Content, has_path, with_path, Fault, No_path, Batch_full, Count_differs}
-use Rattle.olr_commands.specs.State.{with_map, with_change, after, Not_a_record, no_content, is_recordable, start_state}
-use Rattle.olr_commands.specs.State.{State, full, at_once, into_batch, text_fault, step}
-use Rattle.olr_commands.specs.Recordable.{is_recordable_coord, is_recordable_shape}
 use Rattle.olr_commands.specs.Dump.{node_change, line_change, path_change}
 use Rattle.olr_commands.proofs.DumpLemmas.{of_entries}
 use Rattle.olr_commands.proofs.StateLemmas.{Ends, ends, when_ok, accepted, passed, next_ok, after_push}
-use Rattle.olr_records.specs.Recorded.{IsRecorded, StaysRecorded}
 use Rattle.olr_records.proofs.TestLemmas.{and_four, and_five, all_weaker}
 
 -- ---- lists

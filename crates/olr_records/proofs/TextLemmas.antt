@@ -1,11 +1,9 @@
 -- Lines, and texts of several lines.
-use Rattle.olr_records.proofs.Common.{◌≡◌, ℕ, ◌+◌, ◌<◌, List, [], ◌∷◌, ◌++◌, length, take, map, refl, ap, append_assoc}
-use Rattle.olr_records.proofs.Common.{arith, ◌≤◌, ◌^◌, decimal, concat, append-nil, length-append, entry_of}
-use Rattle.olr_records.proofs.Common.{after_commas, joined, entry_line, middle_line}
-use Rattle.std.proofs.Common.{get_or}
+use Rattle.olr_records.proofs.Common.{decimal, concat, append-nil, length-append, entry_of, after_commas, joined}
+use Rattle.olr_records.proofs.Common.{entry_line, middle_line, length-decimal-le, length-map, map-append, take_more}
+use Rattle.std.proofs.Common.{◌≡◌, ℕ, ◌+◌, ◌<◌, List, [], ◌∷◌, ◌++◌, length, take, map, refl, ap, append_assoc, arith}
+use Rattle.std.proofs.Common.{◌≤◌, ◌^◌, get_or}
 use Rattle.std.specs.Prelude.{codes}
-use Rattle.std.proofs.lemmas.Fmt.{length-decimal-le}
-use Rattle.std.proofs.lemmas.List.{length-map, map-append, take_more}
 use Rattle.std.proofs.lemmas.List.Folds.{concat-append}
 use Rattle.olr_spec.specs.Reference.{Middle, Reference}
 use Rattle.olr_commands.specs.declared.reply.Entry.{Entry}

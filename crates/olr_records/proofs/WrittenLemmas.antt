@@ -1,17 +1,16 @@
 -- The record of a change is read as this change.
-use Rattle.olr_records.proofs.Common.{◌≡◌, ℕ, ◌<◌, ◌^◌, ℤ, Bool, true, ◌&&◌, List, [], ◌∷◌, map, Ok, nat_le, IsTrue}
-use Rattle.olr_records.proofs.Common.{refl, ◌∙◌, arith, decimal, if◌then◌else◌, list_all, and_parts, leb-true}
-use Rattle.olr_records.proofs.Common.{digits_decimal, Coord, degrees, ShapePoint, Edit, Add_node, Move_node, Drop_node}
-use Rattle.olr_records.proofs.Common.{Add_line, Set_line, Drop_line, Path, degrees_text, has_degrees_text, own, Change}
-use Rattle.olr_records.proofs.Common.{On_map, Add_path, Set_path, Drop_path, Make, is_name, fields_of_coord}
-use Rattle.olr_records.proofs.Common.{fields_of_shape, fields_of_path, fields_of_change, Field, Bad_form}
-use Rattle.olr_records.proofs.Common.{value_or_fault, max32, number, amount, class, coordinate, place, name, numbers}
-use Rattle.olr_records.proofs.Common.{point, shape, ◌⊛◌, edit, node_record, attributes, read, path_fields, is_number}
-use Rattle.olr_records.proofs.Common.{is_amount, is_place, is_point, are_attributes, is_named_path, has_record}
+use Rattle.olr_records.proofs.Common.{decimal, if◌then◌else◌, list_all, and_parts, leb-true, digits_decimal, Coord}
+use Rattle.olr_records.proofs.Common.{degrees, ShapePoint, Edit, Add_node, Move_node, Drop_node, Add_line, Set_line}
+use Rattle.olr_records.proofs.Common.{Drop_line, Path, degrees_text, has_degrees_text, own, Change, On_map, Add_path}
+use Rattle.olr_records.proofs.Common.{Set_path, Drop_path, Make, is_name, fields_of_coord, fields_of_shape}
+use Rattle.olr_records.proofs.Common.{fields_of_path, fields_of_change, Field, Bad_form, value_or_fault, max32, number}
+use Rattle.olr_records.proofs.Common.{amount, class, coordinate, place, name, numbers, point, shape, ◌⊛◌, edit}
+use Rattle.olr_records.proofs.Common.{node_record, attributes, read, path_fields, is_number, is_amount, is_place}
+use Rattle.olr_records.proofs.Common.{is_point, are_attributes, is_named_path, has_record, le-leb, digits_value-decimal}
+use Rattle.olr_records.proofs.Common.{decimal_nonempty, degrees-read}
+use Rattle.std.proofs.Common.{◌≡◌, ℕ, ◌<◌, ◌^◌, ℤ, Bool, true, ◌&&◌, List, [], ◌∷◌, map, Ok, nat_le, IsTrue, refl, ◌∙◌}
+use Rattle.std.proofs.Common.{arith}
 use Rattle.std.specs.Prelude.{Err}
-use Rattle.std.proofs.lemmas.Bool.{le-leb}
-use Rattle.std.proofs.lemmas.Fmt.{digits_value-decimal, decimal_nonempty}
-use Rattle.olr_coords.proofs.DegreesTextLemmas.{degrees-read}
 use Rattle.olr_records.specs.Records.{digits}
 use Rattle.olr_records.proofs.TestLemmas.{and_three, and_four, and_five}
 

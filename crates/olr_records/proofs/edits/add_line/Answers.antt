@@ -1,6 +1,6 @@
-use Rattle.olr_records.proofs.Common.{rules, arith, ◌≡◌, ℕ, ◌<◌, List, drop, length, Ok, Err, subst, fields_of}
-use Rattle.olr_records.proofs.Common.{ShapePoint, Line, Edit, Add_line, Make, On_map, Field, Read, ◌⊛◌, number}
-use Rattle.olr_records.proofs.Common.{attributes, line_between, HoldsList, Reads, LineAttributes}
+use Rattle.olr_records.proofs.Common.{fields_of, ShapePoint, Line, Edit, Add_line, Make, On_map, Field, Read, ◌⊛◌}
+use Rattle.olr_records.proofs.Common.{number, attributes, line_between, HoldsList, Reads, LineAttributes}
+use Rattle.std.proofs.Common.{rules, arith, ℕ, ◌<◌, List, drop, length, Ok, subst}
 use Rattle.olr_records.proofs.LoopLemmas.{at}
 use Rattle.olr_records.proofs.PartLemmas.{no-memory, first-part, parts, made-part, both-parts, handed-on}
 use Rattle.olr_records.proofs.FormLemmas.{line-record}

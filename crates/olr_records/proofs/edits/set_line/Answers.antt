@@ -1,6 +1,6 @@
-use Rattle.olr_records.proofs.Common.{rules, arith, ℕ, ◌<◌, List, drop, length, Ok, subst, fields_of, ShapePoint, Edit}
-use Rattle.olr_records.proofs.Common.{Set_line, Make, On_map, Field, Read, ◌⊛◌, number, attributes, HoldsList, Reads}
-use Rattle.olr_records.proofs.Common.{LineAttributes}
+use Rattle.olr_records.proofs.Common.{fields_of, ShapePoint, Edit, Set_line, Make, On_map, Field, Read, ◌⊛◌, number}
+use Rattle.olr_records.proofs.Common.{attributes, HoldsList, Reads, LineAttributes}
+use Rattle.std.proofs.Common.{rules, arith, ℕ, ◌<◌, List, drop, length, Ok, subst}
 use Rattle.olr_records.proofs.LoopLemmas.{at}
 use Rattle.olr_records.proofs.PartLemmas.{no-memory, first-part, made-part, both-parts, handed-on}
 use Rattle.olr_records.proofs.FormLemmas.{set-line-record}

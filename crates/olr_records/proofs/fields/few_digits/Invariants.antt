@@ -1,4 +1,5 @@
-use Rattle.olr_records.proofs.Common.{◌≡◌, true, take, list_all, is_ascii_digit, digits_value}
+use Rattle.olr_records.proofs.Common.{list_all, is_ascii_digit, digits_value}
+use Rattle.std.proofs.Common.{◌≡◌, true, take}
 use Rattle.olr_records.proofs.fields.few_digits.Given as goal
 
 -- the bytes so far are digits, of this value

@@ -1,4 +1,5 @@
-use Rattle.olr_records.proofs.Common.{List, ℕ, [], unwrap_or, ap, ◌∙◌, Option, fields_of}
+use Rattle.olr_records.proofs.Common.{fields_of}
+use Rattle.std.proofs.Common.{List, ℕ, [], unwrap_or, ap, ◌∙◌, Option}
 use Rattle.olr_records.proofs.FieldLemmas.{field_is}
 use Rattle.olr_records.proofs.fields.field.Goals as goal
 

@@ -1,5 +1,5 @@
-use Rattle.olr_records.proofs.Common.{rules, ℕ, ◌+◌, ◌<◌, List, drop, length, Ok, subst, fields_of, ShapePoint, Field}
-use Rattle.olr_records.proofs.Common.{Read, ◌⊛◌, class, shape, Reads}
+use Rattle.olr_records.proofs.Common.{fields_of, ShapePoint, Field, Read, ◌⊛◌, class, shape, Reads}
+use Rattle.std.proofs.Common.{rules, ℕ, ◌+◌, ◌<◌, List, drop, length, Ok, subst}
 use Rattle.olr_records.specs.Records.{digits}
 use Rattle.olr_records.proofs.LoopLemmas.{at}
 use Rattle.olr_records.proofs.PartLemmas.{no-memory, first-part, parts, both-parts, handed-on}

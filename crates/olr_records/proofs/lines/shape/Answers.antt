@@ -1,5 +1,5 @@
-use Rattle.olr_records.proofs.Common.{rules, List, ℕ, ◌+◌, ◌<◌, ◌≤◌, drop, length, subst, arith, ⊤, length-drop}
-use Rattle.olr_records.proofs.Common.{fields_of, ShapePoint, Read, point, shape, Gathers, Reads}
+use Rattle.olr_records.proofs.Common.{⊤, length-drop, fields_of, ShapePoint, Read, point, shape, Gathers, Reads}
+use Rattle.std.proofs.Common.{rules, List, ℕ, ◌+◌, ◌<◌, ◌≤◌, drop, length, subst, arith}
 use Rattle.olr_records.proofs.LoopLemmas.{at, with, nothing-onto, shape-end, shape-more, shape-over, gathers-only}
 use Rattle.olr_records.proofs.LoopLemmas.{some-points}
 use Rattle.olr_records.proofs.lines.shape.Goals as goal

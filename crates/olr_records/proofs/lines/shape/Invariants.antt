@@ -1,5 +1,5 @@
-use Rattle.olr_records.proofs.Common.{◌≡◌, List, drop, length, ◌≤◌, ⊤, fields_of, ShapePoint, Read, shape, Gathers}
-use Rattle.std.proofs.Common.{◌-◌}
+use Rattle.olr_records.proofs.Common.{⊤, fields_of, ShapePoint, Read, shape, Gathers}
+use Rattle.std.proofs.Common.{◌≡◌, List, drop, length, ◌≤◌, ◌-◌}
 use Rattle.olr_records.proofs.LoopLemmas.{onto}
 use Rattle.olr_records.proofs.lines.shape.Given as goal
 

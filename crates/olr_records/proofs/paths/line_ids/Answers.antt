@@ -1,5 +1,5 @@
-use Rattle.olr_records.proofs.Common.{ℕ, List, [], drop, Ok, subst, arith, ⊤, fields_of, Field, Read, number, numbers}
-use Rattle.olr_records.proofs.Common.{Gathers, Reads}
+use Rattle.olr_records.proofs.Common.{⊤, fields_of, Field, Read, number, numbers, Gathers, Reads}
+use Rattle.std.proofs.Common.{ℕ, List, [], drop, Ok, subst, arith}
 use Rattle.olr_records.proofs.LoopLemmas.{at, with, nothing-onto, numbers-more, numbers-end}
 use Rattle.olr_records.proofs.paths.line_ids.Goals as goal
 

@@ -1,4 +1,5 @@
-use Rattle.olr_records.proofs.Common.{◌≡◌, ℕ, List, drop, ⊤, fields_of, Read, numbers, Gathers}
+use Rattle.olr_records.proofs.Common.{⊤, fields_of, Read, numbers, Gathers}
+use Rattle.std.proofs.Common.{◌≡◌, ℕ, List, drop}
 use Rattle.olr_records.proofs.LoopLemmas.{onto}
 use Rattle.olr_records.proofs.paths.line_ids.Given as goal
 

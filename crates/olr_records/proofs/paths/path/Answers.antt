@@ -1,5 +1,5 @@
-use Rattle.olr_records.proofs.Common.{rules, arith, ℕ, List, drop, Ok, subst, ⊤, fields_of, Path, Field, ◌⊛◌, amount}
-use Rattle.olr_records.proofs.Common.{name, numbers, Reads, Gathers}
+use Rattle.olr_records.proofs.Common.{⊤, fields_of, Path, Field, ◌⊛◌, amount, name, numbers, Reads, Gathers}
+use Rattle.std.proofs.Common.{rules, arith, ℕ, List, drop, Ok, subst}
 use Rattle.std.specs.Prelude.{string_bytes}
 use Rattle.olr_records.proofs.LoopLemmas.{at}
 use Rattle.olr_records.proofs.PartLemmas.{no-memory, made-part, both-parts, handed-on}

@@ -1,4 +1,5 @@
-use Rattle.olr_records.proofs.Common.{◌≡◌, ◌++◌, map, take, concat, entry_of, entry_line}
+use Rattle.olr_records.proofs.Common.{concat, entry_of, entry_line}
+use Rattle.std.proofs.Common.{◌≡◌, ◌++◌, map, take}
 use Rattle.olr_records.proofs.reply.push_entries.Given as goal
 
 abbrev pub invariant-loop-entry : goal.invariant-loop-entry

@@ -1,6 +1,5 @@
-use Rattle.olr_records.proofs.Common.{arith, ℤ, length-drop}
-use Rattle.std.proofs.Common.{to_z, of_z, w32}
-use Rattle.std.proofs.lemmas.List.{take_all}
+use Rattle.olr_records.proofs.Common.{length-drop, take_all}
+use Rattle.std.proofs.Common.{arith, ℤ, to_z, of_z, w32}
 use Rattle.olr_records.proofs.TextLemmas.{fields_line_of}
 use Rattle.olr_records.proofs.texts.push_point.Goals as goal
 
