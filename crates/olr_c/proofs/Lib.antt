@@ -1,3 +1,1 @@
 pub mod Common
-mod Asking
-mod Handles
