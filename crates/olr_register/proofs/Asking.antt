@@ -3,8 +3,7 @@ use Rattle.olr_register.proofs.Common.{◌≡◌, ◌≢◌, ℕ, true, false, L
 use Rattle.olr_register.proofs.Common.{sym, ap, ◌∙◌, subst, ◌==◌, option_map, option_and_then, MatchOption, IsSomeAnd}
 use Rattle.olr_register.proofs.Common.{result_ok, ne_eqb, length-map, Map, Answer, Encodes, Path, Named, Content}
 use Rattle.olr_register.proofs.Common.{path_named, published_text, Made, Item, IsEncodingOf, AreEncodings, named_of}
-use Rattle.olr_register.proofs.Common.{all_named, made_in, answer_in, content_on}
-use Rattle.std.specs.Prelude.{is_some}
+use Rattle.olr_register.proofs.Common.{all_named, made_in, answer_in, content_on, is_some}
 use Rattle.olr_commands.specs.Reply.{Published, PublishedText}
 use Rattle.olr_paths.specs.Changes.{AreEncoded}
 use Rattle.olr_register.specs.Registered.{HaveEncodings}
@@ -27,12 +26,12 @@ answer_published M is c name o e made there =
     (made_found M is name made)))
 
 -- the stored text is that of the answer
-pub text_published : (M : Map) (is : List Item) (c : Content) (name : List ℕ) (text : Option (List ℕ)) →
-    content_on M is ≡ c → AreEncodings M is
-    → text ≡ option_and_then (λ (A : Answer). result_ok (published_text A)) (answer_in is name) →
+pub text_published : (M : Map) (is : List Item) (c : Content) (name : List ℕ) (text : Option (List ℕ))
+    (o : Option Made) → content_on M is ≡ c → AreEncodings M is → o ≡ made_in is name
+    → text ≡ option_and_then (λ (A : Answer). result_ok (published_text A)) (option_map (λ (m : Made). m.answer) o) →
     PublishedText c name text
-text_published M is c name text e made there =
-    (answer_in is name, answer_published M is c name _ e made refl, there)
+text_published M is c name text o e made of there =
+    (_, answer_published M is c name _ e made (ap (option_map (λ (m : Made). m.answer)) of), there)
 
 pub names_of_all : (is : List Item) → map (λ (p : Named). p.name) (all_named is) ≡ map (λ (i : Item). i.name) is
 names_of_all [] = refl

@@ -11,8 +11,7 @@ use Rattle.olr_register.proofs.Common.{RegisterState, IsBatchOf, content_on, con
 use Rattle.olr_register.proofs.Common.{AreGiven, MayReport, ByContent, Lacks, HoldsChange, Batch, Option, None, is_some}
 use Rattle.olr_register.proofs.Common.{Command, Begin, IsContent, ByState, DistanceBounds, AreEncodingsIfAny, Begins}
 use Rattle.olr_register.proofs.Common.{Follows, nodes_of, lines_of, changed_of, follows_self, named_held, AreEditsNoted}
-use Rattle.olr_register.proofs.Common.{IsKeptRight}
-use Rattle.std.specs.Prelude.{flat_map}
+use Rattle.olr_register.proofs.Common.{IsKeptRight, flat_map}
 use Rattle.std.proofs.lemmas.Bool.{eq-eqb}
 use Rattle.olr_commands.specs.State.{Commit, Batch_full, next, into_batch}
 use Rattle.olr_register.specs.RegisterState.{Batch as Outcome}

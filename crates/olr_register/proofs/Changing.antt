@@ -27,10 +27,6 @@ pub bad_path_last : (b : Bool) (c : Content) (g : Fault) → when b Bad_path (Ok
 bad_path_last true c g e = let same : Bad_path ≡ g = cc in ap is_reported_first (sym same)
 bad_path_last false c g e = absurd cc
 
-pub not_missing : (b : Bool) → not b ≡ false → b ≡ true
-not_missing true e = refl
-not_missing false e = absurd cc
-
 -- the fault of a path that is made after its name was tested
 abbrev pub PathFails : Bool → Fault → Path → Fault → Type 0
 PathFails wrong g path f = (d : Content) → MayReport (when wrong g (when (not (is_path path.lines)) Bad_path (Ok d))) f

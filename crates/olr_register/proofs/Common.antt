@@ -9,13 +9,14 @@ pub use Rattle.olr_commands.specs.Dump.{dump_lines, line_change, node_change, pa
 pub use Rattle.olr_commands.specs.RecordText.{record_line}
 pub use Rattle.olr_commands.specs.Recordable.{is_name, is_recordable_map}
 pub use Rattle.olr_commands.specs.Reply.{AllOf, ByState, Differences, Explained, IsOutcome, IsRefusal, entry}
-pub use Rattle.olr_commands.specs.Reply.{is_reported_first, may_want, published_text, takes_memory}
+pub use Rattle.olr_commands.specs.Reply.{Lacks as Lacks_memory, is_reported_first, may_want, published_text, takes_memory}
 pub use Rattle.olr_commands.specs.State.{Abort, Add_path, Begin, Change, Command, Commit, Content, Drop_path, Dump}
 pub use Rattle.olr_commands.specs.State.{Fault, HasCoords, IsContent, Make, Memory, Named, No_path, On_map, Set_path}
 pub use Rattle.olr_commands.specs.State.{State, TextFault, after, at_once, changes_made, full, has_path, path_named}
 pub use Rattle.olr_commands.specs.State.{same_name, start_state, step, text_fault, when, with_change, with_map}
 pub use Rattle.olr_commands.specs.Words.{command_fault_of, entry_of, reply_of}
 pub use Rattle.olr_commands.specs.declared.fault.CommandFault.{CommandFault}
+pub use Rattle.olr_commands.specs.declared.fault.CommandFault.TheVariants.{Memory as No_memory}
 pub use Rattle.olr_commands.specs.declared.reply.Entry.{Entry}
 pub use Rattle.olr_commands.specs.declared.reply.Reply.{Reply}
 pub use Rattle.olr_map.specs.Edits.{edit_of}
@@ -58,7 +59,7 @@ pub use Rattle.std.proofs.Common.{arith, cond, false, filter, inl, inr, is_some,
 pub use Rattle.std.proofs.Common.{string_bytes, subst, suc, sym, take, true, ℕ, ◌++◌, ◌+◌, ◌<◌, ◌∙◌, ◌∷◌, ◌≡◌, ◌≢◌, ◌≤◌}
 pub use Rattle.std.proofs.Common.{◌⊎◌}
 pub use Rattle.std.proofs.Math.Bool.{or-false}
-pub use Rattle.std.proofs.lemmas.Bool.{and_parts, both_ways, cases_Bool, ne_eqb, or_right}
+pub use Rattle.std.proofs.lemmas.Bool.{and_parts, both_ways, cases_Bool, ne_eqb, not-false, or_right}
 pub use Rattle.std.proofs.lemmas.Grind.{flat_map-append}
 pub use Rattle.std.proofs.lemmas.List.{append-nil, length-map}
 pub use Rattle.std.proofs.lemmas.List.Folds.{list_any-append}

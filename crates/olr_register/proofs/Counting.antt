@@ -4,8 +4,7 @@ use Rattle.olr_register.proofs.Common.{Some, None, refl, sym, ap, ◌∙◌, sub
 use Rattle.olr_register.proofs.Common.{Map, has, Path, ChangedLine, CoverageQuery, Named, Content, same_name, Change}
 use Rattle.olr_register.proofs.Common.{Affects, By_name, By_node, By_line, all_nodes, all_lines, all_changed, all_names}
 use Rattle.olr_register.proofs.Common.{SearchedFor, Made, Item, named_of, all_named, Totals, held_of, AreGiven, arith}
-use Rattle.olr_register.proofs.Common.{Work, AreCounted, Rises}
-use Rattle.std.specs.Prelude.{Bool}
+use Rattle.olr_register.proofs.Common.{Work, AreCounted, Rises, Bool}
 use Rattle.olr_spec.specs.Queries.{IsClear}
 use Rattle.olr_commands.specs.Counts.{CountIs, most_changed, IsUnchanged, Retains, EncodesAgain, SearchedAgain, Either}
 use Rattle.olr_commands.specs.Counts.{SearchesFor, Collects}

@@ -6,8 +6,7 @@ use Rattle.olr_register.proofs.Common.{Change, On_map, Make, HasCoords, with_map
 use Rattle.olr_register.proofs.Common.{lines_of_change, changed_by, names_of_change, command_fault_of, CommandFault}
 use Rattle.olr_register.proofs.Common.{changes_keep, Item, AreEncodingsIfAny, Follows, Begins, under_overlay, nodes_of}
 use Rattle.olr_register.proofs.Common.{lines_of, changed_of, ChangeSet, content_on, content_under, AreEditsNoted}
-use Rattle.olr_register.proofs.Common.{held_of, IsHeld, AreGiven, MayReport, Batch, Result, IsErrAnd}
-use Rattle.std.proofs.Common.{append-nil}
+use Rattle.olr_register.proofs.Common.{held_of, IsHeld, AreGiven, MayReport, Batch, Result, IsErrAnd, append-nil}
 use Rattle.olr_map.specs.RoadMaps.{CanUndoAll}
 use Rattle.olr_map.specs.declared.undo.UndoLog.{UndoLog}
 use Rattle.olr_paths.specs.declared.overlay.Overlay.{Overlay}

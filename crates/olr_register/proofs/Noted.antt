@@ -4,8 +4,7 @@ use Rattle.olr_register.proofs.Common.{◌||◌, AllByRecursion, or_right, list_
 use Rattle.olr_register.proofs.Common.{touched_nodes, touched_lines, has, is_path, ChangedLine, changes_of, EditPlan}
 use Rattle.olr_register.proofs.Common.{Item, AreEncodingsIfAny, all_named, nodes_of, lines_of, changed_of, ChangeSet}
 use Rattle.olr_register.proofs.Common.{IsNotedOf, AreEditsNoted, Some, RoadMap, map_of, map_before, DistanceBounds}
-use Rattle.olr_register.proofs.Common.{under_overlay, IsKeptRight, CanRenew, Batch}
-use Rattle.std.proofs.Common.{◌==◌, Contains}
+use Rattle.olr_register.proofs.Common.{under_overlay, IsKeptRight, CanRenew, Batch, ◌==◌, Contains}
 use Rattle.std.specs.Option.{option_to_list}
 use Rattle.std.proofs.lemmas.Bool.{or_left}
 use Rattle.std.proofs.lemmas.List.Elements.{Contains-append_cases}

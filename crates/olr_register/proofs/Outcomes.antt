@@ -4,8 +4,7 @@ use Rattle.olr_register.proofs.Common.{arith, ◌≡◌, ℕ, true, List, [], Op
 use Rattle.olr_register.proofs.Common.{subst, IsFalse, IsErrAnd, Content, Change, Command, State, changes_made}
 use Rattle.olr_register.proofs.Common.{text_fault, IsOutcome, IsRefusal, ByState, may_want, reply_of, command_fault_of}
 use Rattle.olr_register.proofs.Common.{Reply, CommandFault, Totals, AreSearched, AreCounted, RegisterState, Represents}
-use Rattle.olr_register.proofs.Common.{Registered, Answered, encodes, ap, ◌∙◌, option_map, result_ok}
-use Rattle.std.specs.Prelude.{Result}
+use Rattle.olr_register.proofs.Common.{Registered, Answered, encodes, ap, ◌∙◌, option_map, result_ok, Result}
 use Rattle.olr_commands.specs.State.{changes_made_in, unless_fault, Not_a_reference, bytes_fault}
 use Rattle.olr_commands.specs.Reply.{Lacks}
 use Rattle.olr_commands.proofs.CountLemmas.{unconcerned}

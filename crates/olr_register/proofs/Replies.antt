@@ -5,8 +5,7 @@ use Rattle.olr_register.proofs.Common.{sym, ap, ◌∙◌, subst, option_map, Ma
 use Rattle.olr_register.proofs.Common.{Encodes, same_name, path_named, IsContent, AllOf, Differences, Made, Item}
 use Rattle.olr_register.proofs.Common.{IsEncodingOf, AreEncodings, all_named, made_in, answer_in, Reported, ◌⊎◌, ◌≢◌}
 use Rattle.olr_register.proofs.Common.{Bool, not, ◌++◌, map, filter, is_some, cases_Bool, none_of, entry, not_named}
-use Rattle.olr_register.proofs.Common.{named_of, Follows, set_item, follows_self}
-use Rattle.std.proofs.Common.{◌↔◌}
+use Rattle.olr_register.proofs.Common.{named_of, Follows, set_item, follows_self, ◌↔◌}
 use Rattle.olr_spec.proofs.AnswerLemmas.{one_answer}
 use Rattle.olr_commands.specs.Reply.{Entry, HasAnswer}
 use Rattle.olr_commands.proofs.ReplyLemmas.{named_path}

@@ -12,9 +12,7 @@ use Rattle.olr_register.proofs.Common.{Item, IsEncodingOf, AreEncodings, all_nam
 use Rattle.olr_register.proofs.Common.{AreCounted, Rises, set_item, IsRenewal, nodes_of, lines_of, changed_of}
 use Rattle.olr_register.proofs.Common.{ChangeSet, follows_self, has_name, Registered, content_on, items, kept_of}
 use Rattle.olr_register.proofs.Common.{HasBounds, IsKeptRight, CanRenew, MayReport, ByContent, Lacks, Answered}
-use Rattle.olr_register.proofs.Common.{IsNotedOf, encodes, begins_drop}
-use Rattle.std.proofs.Common.{append-nil}
-use Rattle.std.specs.Prelude.{Option}
+use Rattle.olr_register.proofs.Common.{IsNotedOf, encodes, begins_drop, append-nil, Option}
 use Rattle.olr_register.specs.Holding.{option_batch}
 use Rattle.olr_refs.specs.Choice.{raised_count}
 use Rattle.olr_commands.specs.State.{IsState}

@@ -1,7 +1,6 @@
 use Rattle.olr_register.proofs.Common.{◌≡◌, inl, inr, string_bytes, false, refl, sym, ap, ◌∙◌, map_of, Add_path, items}
-use Rattle.olr_register.proofs.Common.{under_overlay, has_name, path_by}
+use Rattle.olr_register.proofs.Common.{under_overlay, has_name, path_by, No_memory}
 use Rattle.olr_paths.proofs.OriginLemmas.{begins_add}
-use Rattle.olr_commands.specs.declared.fault.CommandFault.TheVariants.{Memory}
 use Rattle.olr_register.proofs.Changing.{add_refused, add_ok}
 use Rattle.olr_register.proofs.Listed.{each_add, each_if_any, each_follows, given_add}
 use Rattle.olr_register.proofs.Making.{path_unmade, path_made}
@@ -25,7 +24,7 @@ returns-in_err-path c = λ roads.
 pub returns-in_err-hold : goal.returns-in_err-hold
 returns-in_err-hold c = λ roads.
     let is = items c.args.list.now in
-    path_unmade roads is c.args.self.now c.hold.new.self _ c.from_residual-in_err-hold.result Memory
+    path_unmade roads is c.args.self.now c.hold.new.self _ c.from_residual-in_err-hold.result No_memory
     c.from_residual-in_err-hold.ensures.1 (c.in_err-hold.ensures.err is)
     (add_refused _ (string_bytes c.args.name) (path_by c.args.parts) c.has-taken.result _
     (c.has-taken.ensures ∙ ap (has_name (under_overlay is c.args.self.now.overlay)) c.deref.ensures)

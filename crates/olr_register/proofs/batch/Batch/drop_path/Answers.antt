@@ -1,6 +1,5 @@
 use Rattle.olr_register.proofs.Common.{not, refl, sym, append-nil, map_of, same_name, Drop_path, Item, items}
-use Rattle.olr_register.proofs.Common.{under_overlay, begins_drop, ByContent}
-use Rattle.olr_commands.specs.declared.fault.CommandFault.TheVariants.{Memory}
+use Rattle.olr_register.proofs.Common.{under_overlay, begins_drop, ByContent, No_memory}
 use Rattle.olr_register.proofs.Changing.{drop_missing, drop_lacks, drop_ok}
 use Rattle.olr_register.proofs.Listed.{each_left, each_given, each_if_any, each_follows}
 use Rattle.olr_register.proofs.Making.{path_unmade, path_made}
@@ -26,5 +25,5 @@ returns c = λ roads.
 pub returns-in_err-drop_path : goal.returns-in_err-drop_path
 returns-in_err-drop_path c = λ roads.
     let is = items c.args.list.now in
-    path_unmade roads is c.args.self.now c.drop_path.new.self _ c.from_residual.result Memory c.from_residual.ensures.1
+    path_unmade roads is c.args.self.now c.drop_path.new.self _ c.from_residual.result No_memory c.from_residual.ensures.1
     (c.in_err-drop_path.ensures.err is) (drop_lacks _ c.args.name.now (sym c.if-not-has.ensures))

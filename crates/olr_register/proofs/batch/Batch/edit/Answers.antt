@@ -1,5 +1,4 @@
-use Rattle.olr_register.proofs.Common.{refl, On_map, edit_of, content_under, ByContent}
-use Rattle.olr_commands.specs.declared.fault.CommandFault.TheVariants.{Memory}
+use Rattle.olr_register.proofs.Common.{refl, On_map, edit_of, content_under, ByContent, No_memory}
 use Rattle.olr_register.proofs.Changing.{edit_refused, edit_lacks}
 use Rattle.olr_register.proofs.Making.{unmade, edit_made}
 use Rattle.olr_register.proofs.batch.Batch.edit.Goals as goal
@@ -16,7 +15,7 @@ returns-in_err-reserve c = λ is.
     let b = c.args.self.now in
     let t = c.reserve.ensures in
     unmade _ c.args.roads.now is b b.log b.overlay c.reserve.new.self (On_map (edit_of c.args.edit))
-    c.from_residual.result Memory c.from_residual.ensures.1 (λ h. c.requires) refl refl refl t.nodes t.lines t.changed
+    c.from_residual.result No_memory c.from_residual.ensures.1 (λ h. c.requires) refl refl refl t.nodes t.lines t.changed
     (edit_lacks (content_under c.args.roads.now is b) _ c.in-Ok.ensures.plan.accepted)
 
 pub returns : goal.returns
@@ -35,6 +34,6 @@ returns-in_err-make_into c = λ is.
     let t = c.reserve.ensures in
     let m = c.make_into.ensures in
     unmade c.args.roads.now c.make_into.new.self is b c.make_into.new.log b.overlay c.reserve.new.self
-    (On_map (edit_of c.args.edit)) c.from_residual-in_err-make_into.result Memory
+    (On_map (edit_of c.args.edit)) c.from_residual-in_err-make_into.result No_memory
     c.from_residual-in_err-make_into.ensures.1 (λ h. m.can_undo) m.before c.in_err-make_into.ensures.same refl t.nodes t.lines t.changed
     (edit_lacks (content_under c.args.roads.now is b) _ c.in-Ok.ensures.plan.accepted)

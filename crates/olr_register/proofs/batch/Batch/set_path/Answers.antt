@@ -1,8 +1,7 @@
 use Rattle.olr_register.proofs.Common.{inl, inr, not, refl, sym, ap, ◌∙◌, map_of, Set_path, items, under_overlay}
-use Rattle.olr_register.proofs.Common.{path_by}
+use Rattle.olr_register.proofs.Common.{path_by, not-false, No_memory}
 use Rattle.olr_paths.proofs.OriginLemmas.{begins_set}
-use Rattle.olr_commands.specs.declared.fault.CommandFault.TheVariants.{Memory}
-use Rattle.olr_register.proofs.Changing.{set_refused, set_ok, not_missing}
+use Rattle.olr_register.proofs.Changing.{set_refused, set_ok}
 use Rattle.olr_register.proofs.Listed.{each_set, each_if_any, each_follows, given_set}
 use Rattle.olr_register.proofs.Making.{path_unmade, path_made}
 use Rattle.olr_register.proofs.batch.Batch.set_path.Goals as goal
@@ -17,7 +16,7 @@ returns-in_err-path c = λ roads.
 pub returns-in_err-hold_other : goal.returns-in_err-hold_other
 returns-in_err-hold_other c = λ roads.
     let is = items c.args.list.now in
-    path_unmade roads is c.args.self.now c.hold_other.new.self _ c.from_residual-in_err-hold_other.result Memory
+    path_unmade roads is c.args.self.now c.hold_other.new.self _ c.from_residual-in_err-hold_other.result No_memory
     c.from_residual-in_err-hold_other.ensures.1 (c.in_err-hold_other.ensures.err is)
     (set_refused _ c.args.name.now (path_by c.args.parts) (not c.has-missing.result) _ (ap not c.has-missing.ensures)
     c.in_ok-path.ensures.lacks)
@@ -29,7 +28,7 @@ returns c = λ roads.
     let name = c.args.name.now in
     let path = path_by c.args.parts in
     let ks = under_overlay is b.overlay in
-    let there = sym c.has-missing.ensures ∙ not_missing c.has-missing.result c.in_ok-path.ensures.right in
+    let there = sym c.has-missing.ensures ∙ not-false c.has-missing.result c.in_ok-path.ensures.right in
     path_made roads is b c.hold_other.new.self (Set_path name path) _
     (rw (← c.in_ok-path.ensures.ok) (c.in_ok-hold_other.ensures.ok is c.requires there))
     (set_ok (map_of roads) ks name path _ there c.in_ok-path.ensures.good) tt refl refl refl

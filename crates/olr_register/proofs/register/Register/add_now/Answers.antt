@@ -1,5 +1,4 @@
-use Rattle.olr_register.proofs.Common.{refl, sym, ap, ◌∙◌, Add_path, items, has_name, path_by}
-use Rattle.std.specs.Prelude.{string_bytes}
+use Rattle.olr_register.proofs.Common.{refl, sym, ap, ◌∙◌, Add_path, items, has_name, path_by, string_bytes}
 use Rattle.olr_register.proofs.Changing.{add_refused}
 use Rattle.olr_register.proofs.Singles.{refused_now, may_refuse, kept_bounds, add_right, add_done}
 use Rattle.olr_commands.specs.declared.fault.CommandFault.TheVariants as rust

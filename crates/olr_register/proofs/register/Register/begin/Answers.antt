@@ -9,34 +9,27 @@ returns-then-is_some c =
     rw (← c.self.view_is)
     (open_refused s.roads (items s.paths) s.batch _ _ Begin _ (sym c.if-is_some.ensures) (λ d xs. refl))
 
+empty : (c : goal.After-new-4) →
+    IsEmpty (record { log = c.new.result; overlay = c.new-2.result; count = 0; touched = c.new-3.result })
+empty c = record {
+  log = c.new.ensures;
+  paths = c.new-2.ensures;
+  count = refl;
+  nodes = c.new-3.ensures.nodes;
+  lines = c.new-3.ensures.lines;
+  changed = c.new-3.ensures.changed;
+}
+
 pub invariant_of-self : goal.invariant_of-self
 invariant_of-self c =
     let s = c.self.inside in
     let none = none_of s.batch (sym c.if-is_some.ensures) in
-    let empty : IsEmpty (record { log = c.new.result; overlay = c.new-2.result; count = 0; touched = c.new-3.result }) =
-    record {
-      log = c.new.ensures;
-      paths = c.new-2.ensures;
-      count = refl;
-      nodes = c.new-3.ensures.nodes;
-      lines = c.new-3.ensures.lines;
-      changed = c.new-3.ensures.changed;
-    } in
-    begun_held s.roads (items s.paths) _ s.near (rw none at c.self.invariant) empty
+    begun_held s.roads (items s.paths) _ s.near (rw none at c.self.invariant) (empty c)
 
 pub returns : goal.returns
 returns c =
     let s = c.self.inside in
     let none = none_of s.batch (sym c.if-is_some.ensures) in
-    let empty : IsEmpty (record { log = c.new.result; overlay = c.new-2.result; count = 0; touched = c.new-3.result }) =
-    record {
-      log = c.new.ensures;
-      paths = c.new-2.ensures;
-      count = refl;
-      nodes = c.new-3.ensures.nodes;
-      lines = c.new-3.ensures.lines;
-      changed = c.new-3.ensures.changed;
-    } in
     rw (← c.self.view_is, none)
-    (begin_done s.roads (items s.paths) _ s.near (rw none at c.self.invariant) empty _ _ _
+    (begin_done s.roads (items s.paths) _ s.near (rw none at c.self.invariant) (empty c) _ _ _
     (ap (λ es. replies.Paths (map entry_of es)) c.new-4.ensures.items))

@@ -1,8 +1,7 @@
 use Rattle.olr_register.proofs.Common.{◌≡◌, true, false, Some, None, Ok, List, map, length, refl, sym, ap, ◌∙◌, subst}
 use Rattle.olr_register.proofs.Common.{ne_eqb, map_of, map_before, Named, Content, Commit, IsContent, ByState, may_want}
 use Rattle.olr_register.proofs.Common.{entry_of, items, all_named, under_overlay, nodes_of, lines_of, changed_of}
-use Rattle.olr_register.proofs.Common.{Registered, content_on, batch_of, IsKeptRight}
-use Rattle.olr_commands.specs.Reply.{Lacks}
+use Rattle.olr_register.proofs.Common.{Registered, content_on, batch_of, IsKeptRight, Lacks_memory}
 use Rattle.olr_register.proofs.BatchSteps.{held_content, right_count}
 use Rattle.olr_register.proofs.Counting.{counted_changes}
 use Rattle.olr_register.proofs.Noted.{can_commit}
@@ -86,4 +85,4 @@ returns-in_err-entries c =
     let e = c.in_err-entries.ensures in
     rw (← c.self.view_is, c.in-Some.is, e.err, e.err_work, e.err_kept)
     (answered_refused _ _ (Commit c.args.count) c.from_residual.result rust.Memory refl c.from_residual.ensures.1
-    (λ xs i. Lacks refl (ap may_want (right_count _ _ xs i c.if-batch-count.false))))
+    (λ xs i. Lacks_memory refl (ap may_want (right_count _ _ xs i c.if-batch-count.false))))

@@ -1,8 +1,7 @@
 use Rattle.olr_register.proofs.Common.{refl, sym, list_all, and_parts, none_of, map_of, is_name, is_recordable_map}
-use Rattle.olr_register.proofs.Common.{Dump, None, kept_of, items, all_named, ByState}
+use Rattle.olr_register.proofs.Common.{Dump, None, kept_of, items, all_named, ByState, No_memory}
 use Rattle.olr_commands.specs.Reply.{Dumped, Lacks}
 use Rattle.olr_register.proofs.BatchSteps.{open_refused}
-use Rattle.olr_commands.specs.declared.fault.CommandFault.TheVariants.{Memory}
 use Rattle.olr_register.proofs.Outcomes.{answered_refused, answered_uncounted, Keeps}
 use Rattle.olr_register.proofs.States.{state, in_states}
 use Rattle.olr_commands.specs.declared.reply.Reply.TheVariants as reply
@@ -44,5 +43,5 @@ returns c =
 pub returns-in_err-dump_of : goal.returns-in_err-dump_of
 returns-in_err-dump_of c =
     rw (← c.self.view_is, none_of c.self.inside.batch (sym c.if-is_some.ensures))
-    (answered_refused _ _ Dump c.from_residual.result Memory refl c.from_residual.ensures.1
+    (answered_refused _ _ Dump c.from_residual.result No_memory refl c.from_residual.ensures.1
     (Lacks refl (rw (← c.if-not-is_recordable.ensures))))

@@ -1,7 +1,6 @@
 use Rattle.olr_register.proofs.Common.{◌≡◌, ℕ, List, map, length, None, IsOk, refl, ap, ◌∙◌, Map, Edit, edited, edit_of}
 use Rattle.olr_register.proofs.Common.{map_of, On_map, Make, at_once, IsRefusal, ByState, entry_of, Entry, Item, items}
-use Rattle.olr_register.proofs.Common.{content_on}
-use Rattle.olr_commands.specs.declared.fault.CommandFault.TheVariants.{Memory}
+use Rattle.olr_register.proofs.Common.{content_on, No_memory}
 use Rattle.olr_register.proofs.Asking.{some_named}
 use Rattle.olr_register.proofs.Bounded.{bounded_unknown, right_without}
 use Rattle.olr_register.proofs.Changing.{edit_refused, edit_lacks}
@@ -29,7 +28,7 @@ invariant_of-self c =
 pub returns-in_err-undo : goal.returns-in_err-undo
 returns-in_err-undo c =
     let r = c.self.inside in
-    refused_now r c.self.view_is c.requires (On_map (edit_of c.args.edit)) _ c.from_residual.result Memory
+    refused_now r c.self.view_is c.requires (On_map (edit_of c.args.edit)) _ c.from_residual.result No_memory
     (same_map r c.self.view_is c.requires c.make.new.self c.in_err-undo.ensures.same) c.from_residual.ensures.1
     (may_refuse _ _ _ (rw (no_items (items r.paths) c.len.ensures.len c.if-len-eq0.true) c.in_err-undo.ensures.lacks)
     (edit_lacks (content_on (map_of r.roads) (items r.paths)) _ c.in-Ok.ensures.plan.accepted))
@@ -63,7 +62,7 @@ lacks_now M is k e len some ok =
 pub returns-in_err-note_alone : goal.returns-in_err-note_alone
 returns-in_err-note_alone c =
     refused_now c.self.inside c.self.view_is c.requires (On_map (edit_of c.args.edit)) _
-    c.from_residual-in_err-note_alone.result Memory c.self.view_is c.from_residual-in_err-note_alone.ensures.1
+    c.from_residual-in_err-note_alone.result No_memory c.self.view_is c.from_residual-in_err-note_alone.ensures.1
     (lacks_now _ _ _ (edit_of c.args.edit) c.len.ensures.len c.if-len-eq0.false c.in-Ok.ensures.plan.accepted)
 
 pub invariant_of-self-in_err-undo-2 : goal.invariant_of-self-in_err-undo-2
@@ -75,7 +74,7 @@ invariant_of-self-in_err-undo-2 c =
 pub returns-in_err-undo-2 : goal.returns-in_err-undo-2
 returns-in_err-undo-2 c =
     refused_now c.self.inside c.self.view_is c.requires (On_map (edit_of c.args.edit)) _
-    c.from_residual-in_err-undo-2.result Memory
+    c.from_residual-in_err-undo-2.result No_memory
     (same_map c.self.inside c.self.view_is c.requires c.make-2.new.self c.in_err-undo-2.ensures.same)
     c.from_residual-in_err-undo-2.ensures.1
     (lacks_now _ _ _ (edit_of c.args.edit) c.len.ensures.len c.if-len-eq0.false c.in-Ok.ensures.plan.accepted)
@@ -89,7 +88,7 @@ invariant_of-self-in-Err-renew c =
 pub returns : goal.returns
 returns c =
     let e = c.in-Err-renew.ensures in
-    refused_now c.self.inside c.self.view_is c.requires (On_map (edit_of c.args.edit)) _ _ Memory
+    refused_now c.self.inside c.self.view_is c.requires (On_map (edit_of c.args.edit)) _ _ No_memory
     (rw (e.err, e.err_work, e.err_kept) (same_map c.self.inside c.self.view_is c.requires c.undo.new.self
     (c.undo.ensures ∙ c.in_ok-undo-2.ensures.before))) refl
     (lacks_now _ _ _ (edit_of c.args.edit) c.len.ensures.len c.if-len-eq0.false c.in-Ok.ensures.plan.accepted)

@@ -1,6 +1,4 @@
-use Rattle.olr_register.proofs.Common.{refl, items, map_kept}
-use Rattle.olr_commands.specs.Reply.{Lacks}
-use Rattle.olr_commands.specs.declared.fault.CommandFault.TheVariants.{Memory}
+use Rattle.olr_register.proofs.Common.{refl, items, map_kept, No_memory, Lacks_memory}
 use Rattle.olr_register.proofs.Asking.{all_encoded, some_named}
 use Rattle.olr_register.proofs.Outcomes.{answered_same, refused_same}
 use Rattle.olr_register.proofs.Replies.{reported_all}
@@ -24,5 +22,5 @@ returns c =
 pub returns-in_err-entries : goal.returns-in_err-entries
 returns-in_err-entries c =
     rw (← c.self.view_is)
-    (refused_same _ _ _ Memory c.from_residual.ensures.1
-    (λ o. Lacks refl (rw (some_named (items c.self.inside.paths) c.in_err-entries.ensures.lacks))))
+    (refused_same _ _ _ No_memory c.from_residual.ensures.1
+    (λ o. Lacks_memory refl (rw (some_named (items c.self.inside.paths) c.in_err-entries.ensures.lacks))))

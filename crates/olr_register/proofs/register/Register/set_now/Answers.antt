@@ -1,6 +1,6 @@
-use Rattle.olr_register.proofs.Common.{refl, sym, ap, ◌∙◌, not, Set_path, items, map_kept, path_by}
+use Rattle.olr_register.proofs.Common.{refl, sym, ap, ◌∙◌, not, not-false, Set_path, items, map_kept, path_by}
 use Rattle.olr_register.proofs.Asking.{some_answer_in}
-use Rattle.olr_register.proofs.Changing.{set_refused, not_missing}
+use Rattle.olr_register.proofs.Changing.{set_refused}
 use Rattle.olr_register.proofs.Singles.{refused_now, may_refuse, kept_bounds, set_right, set_done}
 use Rattle.olr_commands.specs.declared.fault.CommandFault.TheVariants as rust
 use Rattle.olr_register.proofs.register.Register.set_now.Goals as goal
@@ -8,7 +8,7 @@ use Rattle.olr_register.proofs.register.Register.set_now.Goals as goal
 pub set-requires : goal.set-requires
 set-requires c =
     some_answer_in (map_kept c.self.inside.roads c.self.inside.batch) (items c.self.inside.paths) c.args.name.now
-    c.self.invariant.register.made (sym c.has-missing.ensures ∙ not_missing c.has-missing.result c.in_ok-path.ensures.right)
+    c.self.invariant.register.made (sym c.has-missing.ensures ∙ not-false c.has-missing.result c.in_ok-path.ensures.right)
 
 pub returns-in_err-path : goal.returns-in_err-path
 returns-in_err-path c =
@@ -33,7 +33,7 @@ invariant_of-self-2 c =
     let e = c.in_ok-entries.ensures in
     set_right r c.self.view_is c.requires c.self.invariant c.args.name.now (items c.set.new.self) c.in_ok-path.path
     e.set.0 (rw c.in_ok-path.ensures.ok c.in_ok-path.ensures.good) e.set.1 _
-    (sym c.has-missing.ensures ∙ not_missing c.has-missing.result c.in_ok-path.ensures.right) e.set.2
+    (sym c.has-missing.ensures ∙ not-false c.has-missing.result c.in_ok-path.ensures.right) e.set.2
     (c.rebuild_bounds.ensures (items r.paths) (kept_bounds r c.self.view_is c.requires c.self.invariant) e.new_origins)
 
 pub returns : goal.returns
@@ -42,5 +42,5 @@ returns c =
     rw (← c.in_ok-path.ensures.ok)
     (set_done c.self.inside c.self.view_is c.requires c.self.invariant c.args.name.now (items c.set.new.self)
     c.in_ok-path.path e.set.0 (rw c.in_ok-path.ensures.ok c.in_ok-path.ensures.good) e.set.1 _ _ _ refl e.counted
-    e.rises e.searched (sym c.has-missing.ensures ∙ not_missing c.has-missing.result c.in_ok-path.ensures.right)
+    e.rises e.searched (sym c.has-missing.ensures ∙ not-false c.has-missing.result c.in_ok-path.ensures.right)
     e.set.2 e.set.3)

@@ -1,5 +1,4 @@
-use Rattle.olr_register.proofs.Common.{◌∷◌, [], List, refl, sym, ap, ◌∙◌, entry_of, Entry, items, map_kept}
-use Rattle.std.specs.Prelude.{map}
+use Rattle.olr_register.proofs.Common.{◌∷◌, [], List, refl, sym, ap, ◌∙◌, entry_of, Entry, items, map_kept, map}
 use Rattle.olr_commands.specs.Reply.{ByState, Lacks}
 use Rattle.olr_commands.specs.declared.fault.CommandFault.TheVariants.{Memory}
 use Rattle.olr_register.proofs.Asking.{some_answer_in}

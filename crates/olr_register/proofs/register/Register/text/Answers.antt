@@ -1,21 +1,17 @@
-use Rattle.olr_register.proofs.Common.{ap, ◌∙◌, option_map, option_and_then, result_ok, Answer, published_text, Made}
-use Rattle.olr_register.proofs.Common.{items, Registered, map_kept}
+use Rattle.olr_register.proofs.Common.{ap, option_map, items, Registered, map_kept}
 use Rattle.olr_register.proofs.Asking.{text_published}
 use Rattle.olr_register.proofs.register.Register.text.Goals as goal
 
 pub returns-in_err-shown : goal.returns-in_err-shown
 returns-in_err-shown c =
     let r = c.self.inside in
-    text_published (map_kept r.roads r.batch) (items r.paths) _ c.args.name.now _
+    text_published (map_kept r.roads r.batch) (items r.paths) _ c.args.name.now _ _
     (ap (λ (x : Registered). x.kept.content) c.self.view_is) c.self.invariant.register.made
-    (ap (option_map (λ t. _)) c.from_residual.ensures
-    ∙ ap (λ o. option_and_then (λ (A : Answer). result_ok (published_text A)) (option_map (λ (m : Made). m.answer) o))
-    c.in_err-shown.ensures)
+    c.in_err-shown.ensures (ap (option_map (λ t. _)) c.from_residual.ensures)
 
 pub returns : goal.returns
 returns c =
     let r = c.self.inside in
-    text_published (map_kept r.roads r.batch) (items r.paths) _ c.args.name.now _
+    text_published (map_kept r.roads r.batch) (items r.paths) _ c.args.name.now _ _
     (ap (λ (x : Registered). x.kept.content) c.self.view_is) c.self.invariant.register.made
-    (c.text.ensures ∙ ap (λ o. option_and_then (λ (A : Answer). result_ok (published_text A))
-    (option_map (λ (m : Made). m.answer) o)) c.in_ok-shown.ensures)
+    c.in_ok-shown.ensures c.text.ensures
