@@ -1,15 +1,13 @@
 -- The outcome of a record, from what was read of it.
-use Rattle.olr_run.proofs.Common.{◌≡◌, ℕ, List, Result, Ok, Err, inl, inr, refl, sym, ap, ◌∙◌, State, IsContent}
-use Rattle.olr_run.proofs.Common.{Outcome, Field, read, Syntax, Range, Reply, outcome_text, RecordOutcome, answer_text}
-use Rattle.olr_run.proofs.Common.{Represents, Registered, is_ok, Bor, arith}
-use Rattle.olr_commands.specs.Reply.{IsOutcome}
-use Rattle.olr_commands.specs.Words.{command_of}
+use Rattle.olr_run.proofs.Common.{Outcome, Field, read, outcome_text, RecordOutcome, answer_text, Represents}
+use Rattle.olr_run.proofs.Common.{Registered, is_ok, Bor, IsOutcome, command_of, fault_text, CarriedOut, IsAnswer}
+use Rattle.std.proofs.Common.{◌≡◌, ℕ, List, Result, Ok, Err, inl, inr, refl, sym, ap, ◌∙◌, arith}
+use Rattle.olr_commands.specs.State.{State, IsContent}
+use Rattle.olr_records.specs.declared.faults.ReadFault.TheVariants.{Syntax, Range, Memory}
+use Rattle.olr_commands.specs.declared.reply.Reply.{Reply}
 use Rattle.olr_commands.specs.declared.command.Command.{Command}
 use Rattle.olr_records.specs.Words.{IsRead, read_fault_of}
 use Rattle.olr_records.specs.declared.faults.ReadFault.{ReadFault}
-use Rattle.olr_records.specs.declared.faults.ReadFault.TheVariants.{Memory}
-use Rattle.olr_records.specs.ReplyText.{fault_text}
-use Rattle.olr_run.specs.Runs.{CarriedOut, IsAnswer}
 
 -- a record that decodes to a command
 pub carried : (old : Registered) (fields : List Field) (new : Registered) (r : Result Reply (Bor (List ℕ))) (c : Command)

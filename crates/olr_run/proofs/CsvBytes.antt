@@ -1,16 +1,15 @@
 -- The effect of one byte on a record, and that a byte order mark is skipped.
-use Rattle.olr_run.proofs.Common.{◌≡◌, ◌≤◌, ◌<◌, ◌+◌, ◌-◌, ◌++◌, ℕ, List, [], ◌∷◌, Some, None, true, false, refl}
-use Rattle.olr_run.proofs.Common.{length, take, drop, sym, ap, ◌∙◌, arith, length-drop, if◌then◌else◌, step}
-use Rattle.olr_run.proofs.Common.{ends_at_end, is_end, fields_after, field_after, default_config, StartRecord}
-use Rattle.olr_run.proofs.Common.{csv_state, Action, append_assoc, append-nil}
-use Rattle.std.proofs.Common.{get_or, get_or-drop, drop-cons, add-one}
-use Rattle.std.proofs.lemmas.List.{take_more}
-use Rattle.std.proofs.Math.Seq.{drop-length, take-length}
+use Rattle.olr_run.proofs.Common.{if◌then◌else◌, ends_at_end, is_end, fields_after, field_after, append_assoc}
+use Rattle.olr_run.proofs.Common.{append-nil, take_more, drop-length, take-length, next_record}
+use Rattle.std.proofs.Common.{◌≡◌, ◌≤◌, ◌<◌, ◌+◌, ◌-◌, ◌++◌, ℕ, List, [], ◌∷◌, Some, None, true, false, refl, length}
+use Rattle.std.proofs.Common.{take, drop, sym, ap, ◌∙◌, arith, length-drop, get_or, get_or-drop, drop-cons, add-one}
+use Rattle.csv.specs.Machine.{step}
+use Rattle.csv.specs.Reading.{default_config, is_bom, strip_bom}
+use Rattle.csv.specs.declared.parser.State.TheVariants.{StartRecord}
+use Rattle.olr_run.specs.InMemory.{csv_state, csv_action, csv_step}
+use Rattle.olr_run.specs.declared.in_memory.Action.{Action}
 use Rattle.std.proofs.Math.ListN.{drop_of_length-le}
-use Rattle.csv.specs.Machine.{next_record}
-use Rattle.csv.specs.Reading.{is_bom, strip_bom}
 use Rattle.csv.specs.declared.parser.State.{State}
-use Rattle.olr_run.specs.InMemory.{csv_action, csv_step}
 use Rattle.csv.specs.declared.parser.Action.{Action as CsvAction}
 use Rattle.olr_run.specs.declared.in_memory.State.{State as Here}
 use Rattle.csv.specs.declared.parser.Action.TheVariants as act

@@ -1,24 +1,23 @@
 -- Dumps in runs of records.
-use Rattle.olr_run.proofs.Common.{inl, inr, ◌≡◌, ◌≢◌, ℕ, Bool, true, false, List, [], ◌∷◌, ◌++◌, map, length, None}
-use Rattle.olr_run.proofs.Common.{Result, Ok, Err, IsTrue, refl, sym, ap, ◌∙◌, subst, arith, IsFalse, is_err, both_ways}
-use Rattle.olr_run.proofs.Common.{or_parts, length-map, Content, IsContent, Fault, Memory, Not_a_record, Change}
-use Rattle.olr_run.proofs.Common.{Command, Make, Dump, State, is_recordable, start_state, Outcome, IsRefusal, ByState}
-use Rattle.olr_run.proofs.Common.{Lacks, lacks_memory, Field, Read, read, records_of, CommandOutcome, RecordOutcome}
-use Rattle.olr_run.proofs.Common.{SoundOutcomes, Outcomes, AllHadMemory, any_refused, AreAnswered, Ran}
+use Rattle.olr_run.proofs.Common.{IsFalse, is_err, both_ways, or_parts, length-map, Outcome, IsRefusal, ByState}
+use Rattle.olr_run.proofs.Common.{lacks_memory, Field, read, records_of, CommandOutcome, RecordOutcome, SoundOutcomes}
+use Rattle.olr_run.proofs.Common.{Outcomes, AllHadMemory, AreAnswered, IsReply, count_line, reply_text, read_recorded}
+use Rattle.std.proofs.Common.{inl, inr, ◌≡◌, ◌≢◌, ℕ, Bool, false, List, [], ◌∷◌, ◌++◌, map, length, None, Result}
+use Rattle.std.proofs.Common.{Ok, Err, IsTrue, refl, sym, ap, subst, arith}
+use Rattle.olr_commands.specs.State.{Content, IsContent, Fault, Memory, Not_a_record, Change, Command, Make, Dump}
+use Rattle.olr_commands.specs.State.{State, is_recordable, start_state, step}
+use Rattle.olr_commands.specs.Reply.{Lacks, Reply}
+use Rattle.olr_records.specs.Records.{Read}
+use Rattle.olr_run.specs.Output.{any_refused, Ran, Builds, IsDumpOf, Dumps, Status, All_accepted}
 use Rattle.std.specs.List.{concat}
-use Rattle.olr_commands.specs.State.{step}
 use Rattle.olr_commands.specs.RecordText.{fields_line, fields_of_change, record_line}
 use Rattle.olr_commands.specs.Dump.{dump_lines, steps_then, steps}
-use Rattle.olr_commands.specs.Reply.{Reply, IsReply}
 use Rattle.olr_commands.proofs.DumpLemmas.{dumps_run}
 use Rattle.olr_records.specs.Recorded.{HaveRecords, IsRecorded, StaysRecorded}
-use Rattle.olr_records.specs.ReplyText.{count_line, reply_text}
-use Rattle.olr_records.proofs.ReadLemmas.{read_recorded}
 use Rattle.olr_records.proofs.RecordLines.{records_split}
 use Rattle.olr_records.proofs.RecordedLemmas.{step_stays, recorded_dumps}
 use Rattle.olr_records.proofs.WrittenLemmas.{record_back}
-use Rattle.olr_run.specs.Output.{Builds, IsDumpOf, Dumps, Status, All_accepted}
-use Rattle.olr_run.proofs.Lacking.{IsOwn, step_own}
+use Rattle.olr_run.proofs.Lacking.{step_own}
 
 -- ---- the text
 
@@ -42,32 +41,25 @@ of_reply : (s t : State) (c : Command) (reply : Reply) → IsContent s.content �
     (n : ℕ) × (text : List ℕ) × (reply_text reply ≡ count_line n ++ text) × Builds text n s.content
 of_reply s t c reply sound h is same = grind (arith, builds)
 
-not_by_state : (b : Bool) (f : Fault) → b ≡ true → IsOwn b f → f ≢ Not_a_record
-not_by_state b f is h e =
-    both_ways b (subst (IsOwn b) e h) is
-
 not_refused : (s : State) (c : Command) (f : Fault) → IsTrue (is_recordable s.content) → IsRefusal s c f →
     f ≢ Not_a_record
-not_refused s c f can (ByState e) = grind (arith, not_by_state, step_own)
-not_refused s c f can (Lacks is may) = λ e. let no : Memory ≡ Not_a_record = sym is ∙ e in cc
+not_refused s c f can (ByState e) = grind (arith, step_own)
+not_refused s c f can (Lacks is may) = λ e. cc
 
 command_dumps : (s t : State) (r : Read Command) (fields : List Field) (o : Outcome) → read fields ≡ r →
     IsContent s.content → StaysRecorded s → CommandOutcome s r o t → IsDumpOf s fields o × StaysRecorded t
 command_dumps s t (Ok c) fields (Ok reply) is sound h p = grind (arith, of_reply, step_stays, read_recorded)
 command_dumps s t (Ok c) fields (Err fault) is sound h p =
     (not_refused s c fault (recorded_dumps s.content h.0) p.0, subst StaysRecorded (sym p.1) h)
-command_dumps s t (Err f) fields (Ok reply) is sound h p = absurd (let no = p.0 in cc)
-command_dumps s t (Err f) fields (Err fault) is sound h p = grind arith
+command_dumps s t (Err f) fields o is sound h p = grind arith
 
 lacking_dumps : (s : State) (fields : List Field) (o : Outcome) → o ≡ Err Memory → IsDumpOf s fields o
-lacking_dumps s fields (Ok reply) is = absurd cc
-lacking_dumps s fields (Err fault) is = λ e. cc
+lacking_dumps s fields o is = grind arith
 
 record_dumps : (s : State) (fields : List Field) (o : Outcome) (t : State) → IsContent s.content → StaysRecorded s →
     RecordOutcome s fields o t → IsDumpOf s fields o × StaysRecorded t
 record_dumps s fields o t sound h (inl p) = command_dumps s t (read fields) fields o refl sound h p
-record_dumps s fields o t sound h (inr p) =
-    (lacking_dumps s fields o p.1.0, subst StaysRecorded (sym p.1.1) h)
+record_dumps s fields o t sound h (inr p) = grind (arith, lacking_dumps s fields o)
 
 -- ---- runs
 
@@ -94,15 +86,12 @@ refused_not s v c f is had (Lacks memory may) = grind arith
 
 command_goes : (s t v : State) (r : Read Command) (c : Command) (o : Outcome) → r ≡ Ok c → step s c ≡ Ok v →
     IsFalse (lacks_memory o) → CommandOutcome s r o t → (is_err o ≡ false) × (t ≡ v)
-command_goes s t v (Ok d) c (Ok reply) e is had p = grind arith
-command_goes s t v (Ok d) c (Err f) e is had p = grind (arith, refused_not)
-command_goes s t v (Err g) c o e is had p = absurd cc
+command_goes s t v r c (Ok reply) e is had p = grind arith
+command_goes s t v r c (Err f) e is had p = grind (arith, refused_not)
 
 record_goes : (s t v : State) (fields : List Field) (c : Command) (o : Outcome) → read fields ≡ Ok c →
     step s c ≡ Ok v → IsFalse (lacks_memory o) → RecordOutcome s fields o t → (is_err o ≡ false) × (t ≡ v)
-record_goes s t v fields c o e is had (inl p) = command_goes s t v (read fields) c o e is had p
-record_goes s t v fields c o e is had (inr p) =
-    absurd (both_ways (lacks_memory o) had (ap lacks_memory p.1.0))
+record_goes s t v fields c o e is had h = grind (arith, command_goes, both_ways)
 
 all_go : (s u t : State) (cs : List Command) (rs : List (List Field)) (os : List Outcome) →
     map read rs ≡ map (λ c. Ok c) cs → steps s cs ≡ Ok u → AllHadMemory os → Outcomes s rs os t →
@@ -119,9 +108,7 @@ all_go s u t (c ∷ cs) (r ∷ rs) (o ∷ os) e is had run =
 -- a run over all records ends with the state that they lead to
 ended : (stop : Bool) (rs : List (List Field)) (os : List Outcome) → IsFalse (any_refused os) →
     AreAnswered stop rs os → length os ≡ length rs
-ended stop rs os none (inl l) = l
-ended true rs os none (inr h) = absurd (both_ways (any_refused os) none h)
-ended false rs os none (inr h) = absurd cc
+ended stop rs os none h = grind arith
 
 pub dumps_reload : (text : List ℕ) (n : ℕ) (c : Content) (stop : Bool) (t : State) (w : List ℕ) (end : Status) →
     Builds text n c → (p : Ran Outcomes stop start_state (records_of text) t w end) → AllHadMemory p.outcomes →

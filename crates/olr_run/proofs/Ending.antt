@@ -1,11 +1,12 @@
 -- The ends of the program.
-use Rattle.olr_run.proofs.Common.{arith, ◌≡◌, ℕ, List, [], Option, Some, None, Result, Ok, Err, refl, sym, ap, ◌∙◌}
-use Rattle.olr_run.proofs.Common.{subst, ◌⊎◌, Bor, fault_of, Registered, Opens, Ends, Claims, Known, known_records}
-use Rattle.olr_run.proofs.Common.{known_both, RanOn, FaultedOn, HasTooMany, exit_code, RunFault, Status}
+use Rattle.olr_run.proofs.Common.{Bor, fault_of, Registered, Opens, Ends, Claims, Known, known_records, known_both}
+use Rattle.olr_run.proofs.Common.{RanOn, FaultedOn, HasTooMany, exit_code, RunFault, Options, keep_app, options, IsFile}
+use Rattle.olr_run.proofs.Common.{OpensFile, Not_opened, Cut_off, known_file}
+use Rattle.std.proofs.Common.{arith, ◌≡◌, ℕ, List, [], Option, Some, None, Result, Ok, Err, refl, sym, ap, ◌∙◌}
+use Rattle.std.proofs.Common.{◌⊎◌}
+use Rattle.olr_run.specs.declared.ends.Status.{Status}
 use Rattle.std.specs.Fn.{Once}
-use Rattle.olr_run.specs.Options.{Options, keep_app, options}
-use Rattle.olr_run.specs.Ends.{IsFile, OpensFile, Not_opened, Ran, Cut_off}
-use Rattle.olr_run.specs.Runs.{known_file}
+use Rattle.olr_run.specs.Ends.{Ran}
 use Rattle.olr_run.specs.declared.ends.RunFault.TheVariants as fault
 
 -- the bytes of the file that was opened
@@ -41,10 +42,7 @@ module _ {O F E : Type 0} (call : Once O (Bor (List ℕ) × Unit {0}) (Result F 
         new later end → code ≡ exit_code (Ok end)
         → Ends arguments (Opens call remaining opener) input old before new later code
     ran_to_its_end file new later end code h run status =
-        Ran none (known_file remaining file) (opened file h) end
-        (subst (λ (p : Options). RanOn Claims p.stop old
-        (known_both (known_records (known_file remaining file)) (known_records input)) before new later end) is run)
-        status
+        Ran none (known_file remaining file) (opened file h) end (rw is at run) status
 
     pub was_cut_off : (file : Option F) (new : Registered) (later : Known) (e : RunFault) (code : ℕ) →
         OpensFile call opener o.file (Ok file)
@@ -53,7 +51,4 @@ module _ {O F E : Type 0} (call : Once O (Bor (List ℕ) × Unit {0}) (Result F 
         → (e ≡ fault.TooMany → HasTooMany (known_file remaining file) ⊎ HasTooMany input) → code ≡ exit_code (Err e)
         → Ends arguments (Opens call remaining opener) input old before new later code
     was_cut_off file new later e code h run many status =
-        Cut_off none (known_file remaining file) (opened file h) e
-        (subst (λ (p : Options). FaultedOn Claims p.stop old
-        (known_both (known_records (known_file remaining file)) (known_records input)) before new later e) is run) many
-        status
+        Cut_off none (known_file remaining file) (opened file h) e (rw is at run) many status

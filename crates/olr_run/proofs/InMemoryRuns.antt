@@ -1,9 +1,8 @@
 -- Runs over bytes in memory are runs of a csv reader that has all of its bytes.
-use Rattle.olr_run.proofs.Common.{◌≡◌, ◌∙◌, ℕ, Bool, List, [], Option, Some, None, true, false, refl, ap, inl}
-use Rattle.olr_run.proofs.Common.{ReadRecord, default_config, source_of, Reader, Field, csv_state, Known, Event, Took}
-use Rattle.olr_run.proofs.Common.{Ended, Not_taken, Wrote, Cut, IsPlain, CsvHappens}
-use Rattle.csv.specs.Reading.{ReadsNext, pending_of, strip_bom}
-use Rattle.olr_run.specs.InMemory.{TookFrom, BytesHappens}
+use Rattle.olr_run.proofs.Common.{Reader, Field, Known, Event, Took, Ended, Not_taken, Wrote, Cut, IsPlain, CsvHappens}
+use Rattle.std.proofs.Common.{◌≡◌, ◌∙◌, ℕ, Bool, List, [], Option, Some, None, true, false, refl, ap, inl}
+use Rattle.csv.specs.Reading.{ReadRecord, default_config, source_of, ReadsNext, pending_of, strip_bom}
+use Rattle.olr_run.specs.InMemory.{csv_state, TookFrom, BytesHappens}
 use Rattle.olr_run.specs.declared.in_memory.InMemory.{InMemory}
 use Rattle.olr_run.specs.declared.in_memory.State.TheVariants.{StartRecord}
 use Rattle.olr_run.proofs.InputRuns.{Starts}
@@ -34,10 +33,6 @@ reader_of s =
       failed = s.failed;
       cause = None;
     }
-
-source_is : (s : InMemory) → s.failed ≡ false → source_of all_known (reader_of s) ≡ Some s.rest.now
-unfolding reader_of
-source_is s e = rw e refl
 
 read_of : (a b : InMemory) (found : Bool) (fields : List Field) → TookFrom a b found fields →
     ReadRecord all_known (reader_of a) (reader_of b) found fields
@@ -77,8 +72,4 @@ pub starts_in_memory : (s : InMemory) (bytes : List ℕ) → s.rest.now ≡ stri
     s.failed ≡ false → Starts all_known (reader_of s) (Some bytes)
 unfolding reader_of
 starts_in_memory s bytes rest first fresh =
-    record {
-      plain = plain_of s;
-      state = ap csv_state first;
-      source = source_is s fresh ∙ ap (λ (xs : List ℕ). Some xs) rest;
-    }
+    record { plain = plain_of s; state = rw first refl; source = rw (fresh, rest) refl }

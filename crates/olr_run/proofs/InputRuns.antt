@@ -1,23 +1,23 @@
 -- Runs over an input of known bytes, from the history of their session.
-use Rattle.olr_run.proofs.Common.{◌≡◌, ◌≢◌, ◌∙◌, ◌+◌, ℕ, Bool, List, [], ◌∷◌, ◌++◌, length, map, None, Some, inl, inr}
-use Rattle.olr_run.proofs.Common.{refl, sym, ap, subst, arith, length-append, ◌&&◌, IsFalse, IfErr, append-nil}
-use Rattle.olr_run.proofs.Common.{append_assoc, length-map, Appends, Appends-nil, Appends-trans, default_config}
-use Rattle.olr_run.proofs.Common.{source_of, Reader, Outcome, IsContent, run_longer, Field, outcome_text, Registered}
-use Rattle.olr_run.proofs.Common.{SoundOutcome, Claims, texts, records_of, Known, Event, Took, Ended, Not_taken, Wrote}
-use Rattle.olr_run.proofs.Common.{Cut, History, exchanges, IsPlain, CsvHappens, IsOfTaking, known_records, RanOn}
-use Rattle.olr_run.proofs.Common.{FaultedOn, HasTooMany, RanIn, CutIn, In_taking, Past_the_most, No_text, In_text}
-use Rattle.olr_run.proofs.Common.{AnsweredOn, status_of, Status, RunFault}
-use Rattle.std.proofs.Common.{option_map}
+use Rattle.olr_run.proofs.Common.{◌&&◌, IsFalse, IfErr, append-nil, append_assoc, length-map, Appends, Reader, Outcome}
+use Rattle.olr_run.proofs.Common.{run_longer, Field, outcome_text, Registered, SoundOutcome, Claims, texts, records_of}
+use Rattle.olr_run.proofs.Common.{Known, Event, Took, Ended, Not_taken, Wrote, Cut, History, exchanges, IsPlain}
+use Rattle.olr_run.proofs.Common.{CsvHappens, IsOfTaking, known_records, RanOn, FaultedOn, HasTooMany, RanIn, CutIn}
+use Rattle.olr_run.proofs.Common.{Past_the_most, In_text, AnsweredOn, status_of, RunFault, next_record, flat_map-map}
+use Rattle.std.proofs.Common.{◌≡◌, ◌≢◌, ◌∙◌, ℕ, Bool, List, [], ◌∷◌, ◌++◌, length, map, None, Some, inl, inr, refl}
+use Rattle.std.proofs.Common.{sym, ap, subst, arith, length-append, option_map}
+use Rattle.std.proofs.KnownBytes.{Appends-nil, Appends-trans}
+use Rattle.csv.specs.Reading.{default_config, source_of, Reached, reader_state, strip_bom}
+use Rattle.olr_commands.specs.State.{IsContent}
+use Rattle.olr_run.specs.Runs.{In_taking, No_text}
+use Rattle.olr_run.specs.declared.ends.Status.{Status}
 use Rattle.std.specs.Prelude.{IfOk, Result, Ok, Err}
-use Rattle.csv.specs.Machine.{next_record}
-use Rattle.csv.specs.Reading.{Reached, reader_state, strip_bom}
 use Rattle.csv.proofs.ReadFacts.{rows-more, rows-end}
 use Rattle.olr_run.proofs.RecordLemmas.{first_records}
 use Rattle.olr_run.proofs.RunLemmas.{claims_of}
 use Rattle.olr_run.proofs.Running.{represented}
 use Rattle.olr_run.proofs.Joining.{stopped_is}
 use Rattle.std.specs.List.{flat_map}
-use Rattle.std.proofs.lemmas.List.Folds.{flat_map-map}
 use Rattle.csv.specs.declared.parser.State.TheVariants as st
 use Rattle.olr_run.specs.Output as output
 use Rattle.olr_run.specs.declared.ends.Status.TheVariants as ended
@@ -70,8 +70,7 @@ record Through {R : Type 0} (remaining : R → Known) (before : Known) (input : 
   wrote : Appends before later w
 
 not_writing : (e : RunFault) → IsOfTaking e → e ≢ fault.Write
-not_writing fault.Write h = absurd h
-not_writing e h = λ is. cc
+not_writing e h is = grind arith
 
 -- a session whose events are those of a reader and of a writer whose bytes are known
 module _ {S R : Type 0} (remaining : R → Known) (reader : S → Reader R) (contents : S → Known)

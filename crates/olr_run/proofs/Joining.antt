@@ -1,16 +1,15 @@
 -- Two runs on one register are one run over the records of both.
-use Rattle.olr_run.proofs.Common.{arith, ◌≡◌, ◌∙◌, ◌≢◌, ◌+◌, ℕ, Bool, true, false, List, [], ◌∷◌, ◌++◌, length}
-use Rattle.olr_run.proofs.Common.{length-append, Some, inl, inr, refl, sym, ap, ◌&&◌, ◌||◌, is_err, both_ways}
-use Rattle.olr_run.proofs.Common.{append_assoc, list_any-append, Appends-nil, Appends-trans, Outcome, IsContent}
-use Rattle.olr_run.proofs.Common.{run_longer, Field, outcome_text, Registered, SoundOutcome, Claims, StopsAtFault}
-use Rattle.olr_run.proofs.Common.{any_refused, AreAnswered, texts, Ran, In_last, Known, known_records, known_both}
-use Rattle.olr_run.proofs.Common.{status_of, RanOn, FaultedOn, RunFault, Status, cases_Bool, State}
-use Rattle.std.proofs.lemmas.Bool.{or_from, or_right}
+use Rattle.olr_run.proofs.Common.{◌&&◌, append_assoc, list_any-append, Outcome, run_longer}
+use Rattle.olr_run.proofs.Common.{Field, outcome_text, Registered, SoundOutcome, Claims, AreAnswered, texts, In_last}
+use Rattle.olr_run.proofs.Common.{Known, known_records, known_both, status_of, RanOn, FaultedOn, RunFault, cases_Bool}
+use Rattle.olr_run.proofs.Common.{or_from, or_right, csv_on_literals, run_join, Records}
+use Rattle.std.proofs.Common.{arith, ◌≡◌, ◌∙◌, ◌≢◌, ℕ, Bool, true, false, List, [], ◌++◌, length}
+use Rattle.std.proofs.Common.{length-append, Some, inl, inr, refl, sym, ap}
+use Rattle.std.proofs.KnownBytes.{Appends-nil, Appends-trans}
+use Rattle.olr_commands.specs.State.{IsContent, State}
+use Rattle.olr_run.specs.Output.{StopsAtFault, any_refused, Ran, CutOff, Before_next, No_text, greater}
+use Rattle.olr_run.specs.declared.ends.Status.{Status}
 use Rattle.std.proofs.lemmas.List.Concat.{flat_map-append}
-use Rattle.csv.proofs.OnLiterals.{csv_on_literals}
-use Rattle.olr_commands.proofs.HistoryLemmas.{run_join}
-use Rattle.olr_run.specs.Output.{CutOff, Before_next, No_text, greater}
-use Rattle.olr_run.specs.Runs.{Records}
 use Rattle.olr_run.proofs.RunLemmas.{claims_of}
 use Rattle.olr_run.proofs.Running.{represented, status_by, stopped_by, stops_join}
 use Rattle.olr_run.specs.Output as output
@@ -46,29 +45,18 @@ continues true p os n e = grind (arith, cases_Bool)
 
 all_whole : (stop : Bool) (rs : List (List Field)) (os : List Outcome) → (stop && any_refused os) ≡ false →
     AreAnswered stop rs os → length os ≡ length rs
-all_whole stop rs os n (inl h) = h
-all_whole stop rs os n (inr h) = absurd (both_ways (stop && any_refused os) n h)
+all_whole stop rs os n h = grind arith
 
 all_join : (stop : Bool) (rs ms : List (List Field)) (os qs : List Outcome) → length os ≡ length rs →
     AreAnswered stop ms qs → AreAnswered stop (rs ++ ms) (os ++ qs)
-all_join stop rs ms os qs l (inl h) = inl (length-append os qs ∙ (λ i. l i + h i) ∙ sym (length-append rs ms))
-all_join stop rs ms os qs l (inr h) =
-    inr (stopped_by stop os qs ∙ or_right (stop && any_refused os) (stop && any_refused qs) h)
+all_join stop rs ms os qs l h = grind (arith, length-append, stopped_by, or_right)
 
 pub stopped_is : (stop b : Bool) → output.Stopped ≡ status_by stop b → (stop && b) ≡ true
-stopped_is true true e = refl
 stopped_is stop b e = grind (arith, cases_Bool)
 
 status_join : (stop : Bool) (os qs : List Outcome) → (stop && any_refused os) ≡ false →
     greater (output.run_status stop os) (output.run_status stop qs) ≡ output.run_status stop (os ++ qs)
-status_join stop os qs n =
-    by stop (any_refused os) (any_refused qs) n ∙ ap (status_by stop) (sym (list_any-append is_err os qs))
-  where
-    by : (stop a b : Bool) → (stop && a) ≡ false → greater (status_by stop a) (status_by stop b) ≡ status_by stop (a || b)
-    by true true b n = absurd cc
-    by false true true n = refl
-    by false true false n = refl
-    by stop a b n = refl
+status_join stop os qs n = grind (arith, list_any-append, cases_Bool)
 
 texts_join : (os qs : List Outcome) → texts (os ++ qs) ≡ texts os ++ texts qs
 texts_join os qs = flat_map-append outcome_text os qs
@@ -77,13 +65,10 @@ cut_join : (stop : Bool) (os qs : List Outcome) (second : List ℕ) (e : RunFaul
     CutOff stop qs second e → CutOff stop (os ++ qs) (texts os ++ second) e
 cut_join stop os qs second e n (Before_next no_write none wrote) = grind (arith, stopped_by, or_from, texts_join)
 cut_join stop os qs second e n (No_text is before last are wrote) =
-    No_text is (os ++ before) last (ap (λ (x : List Outcome). os ++ x) are ∙ sym (append_assoc os before (last ∷ [])))
-    (ap (λ (x : List ℕ). texts os ++ x) wrote ∙ sym (texts_join os before))
+    No_text is (os ++ before) last (rw (are, append_assoc) refl) (rw (wrote, texts_join) refl)
 cut_join stop os qs second e n (In_last is before last front rest are text some wrote) =
-    In_last is (os ++ before) last front rest (ap (λ (x : List Outcome). os ++ x) are
-    ∙ sym (append_assoc os before (last ∷ []))) text some
-    (ap (λ (x : List ℕ). texts os ++ x) wrote ∙ sym (append_assoc (texts os) (texts before) front)
-    ∙ ap (λ (x : List ℕ). x ++ front) (sym (texts_join os before)))
+    In_last is (os ++ before) last front rest (rw (are, append_assoc) refl) text some
+    (rw (wrote, texts_join, append_assoc) refl)
 
 -- ---- both runs
 
@@ -98,12 +83,12 @@ pub both_stopped : (stop : Bool) (old mid : Registered) (first second : Records)
 both_stopped stop old mid (Some rs) (Some ms) before later p base h e =
     λ s represents.
     let r = h s represents in
-    let ran = r.4 in
-    let each = longer s r.0 rs ms ran.outcomes (represented old s base represents) ran.each in
-    let all = stopped_is stop (any_refused ran.outcomes) (ap status_of (sym e) ∙ ran.ended) in
-    let both : Ran Claims stop s (rs ++ ms) r.0 r.2 (status_of p) =
-    record { outcomes = ran.outcomes; each = each; stops = ran.stops; all = inr all; wrote = ran.wrote; ended = ran.ended } in
-    (r.0, r.1, r.2, r.3, both)
+    let x = r.4 in
+    let each = longer s r.0 rs ms x.outcomes (represented old s base represents) x.each in
+    let all = stopped_is stop (any_refused x.outcomes) (ap status_of (sym e) ∙ x.ended) in
+    let ran : Ran Claims stop s (rs ++ ms) r.0 r.2 (status_of p) =
+    record { outcomes = x.outcomes; each = each; stops = x.stops; all = inr all; wrote = x.wrote; ended = x.ended } in
+    (r.0, r.1, r.2, r.3, ran)
 both_stopped stop old mid first second before later p base h e = tt
 
 pub both_faulted_first : (stop : Bool) (old mid : Registered) (first second : Records) (before later : Known)
@@ -149,7 +134,8 @@ both_ran stop old mid new (Some rs) (Some ms) before now later p q end base h n 
     let b = k a.0 a.1 in
     let one = a.4 in
     let two = b.4 in
-    let on = continued stop s a.0 b.0 rs ms a.2 p two.outcomes (represented old s base represents) n one two.each two.stops in
+    let on =
+    continued stop s a.0 b.0 rs ms a.2 p two.outcomes (represented old s base represents) n one two.each two.stops in
     let status = status_join stop one.outcomes two.outcomes on.going in (
       b.0,
       b.1,
@@ -176,7 +162,8 @@ both_faulted_second stop old mid new (Some rs) (Some ms) before now later p e ba
     let b = k a.0 a.1 in
     let one = a.4 in
     let cut = b.4 in
-    let on = continued stop s a.0 b.0 rs ms a.2 p cut.outcomes (represented old s base represents) n one cut.each cut.stops in
+    let on =
+    continued stop s a.0 b.0 rs ms a.2 p cut.outcomes (represented old s base represents) n one cut.each cut.stops in
     let wrote : CutOff stop (one.outcomes ++ cut.outcomes) (a.2 ++ b.2) e =
     rw one.wrote (cut_join stop one.outcomes cut.outcomes b.2 e on.going cut.wrote) in (
       b.0,

@@ -1,12 +1,11 @@
 -- The faults that a command has by its state, and where out of memory may be reported.
-use Rattle.olr_run.proofs.Common.{arith, Bool, false, List, Option, Some, None, Result, Ok, Err, inl, inr, ◌⊎◌, IsTrue}
-use Rattle.olr_run.proofs.Common.{IfErr, ⊤, Fault, Memory, Content, State, Change, On_map, Command, Make, Dump}
-use Rattle.olr_run.proofs.Common.{Not_a_record, is_recordable, IsRefusal, ByState, Lacks, Field, Bad_form, Out_of_range}
-use Rattle.olr_run.proofs.Common.{Read, read, CommandOutcome, RecordOutcome}
+use Rattle.olr_run.proofs.Common.{IfErr, ⊤, IsRefusal, ByState, Field, read, CommandOutcome, RecordOutcome, may_lack}
+use Rattle.std.proofs.Common.{arith, Bool, false, List, Option, Some, None, Result, Ok, Err, inl, inr, ◌⊎◌, IsTrue}
+use Rattle.olr_commands.specs.State.{Fault, Memory, Content, State, Change, Command, Make, Not_a_record}
+use Rattle.olr_commands.specs.State.{is_recordable, after, with_change, step_in}
+use Rattle.olr_commands.specs.Reply.{Lacks}
+use Rattle.olr_records.specs.Records.{Read, HoldsList}
 use Rattle.std.specs.Prelude.{◌≡◌, IsOkAnd}
-use Rattle.olr_commands.specs.State.{Show, Explain, Commit, after, with_change, step_in}
-use Rattle.olr_commands.specs.Reply.{may_lack}
-use Rattle.olr_records.specs.Records.{HoldsList}
 
 -- ---- the faults that a command has by its state
 
@@ -20,18 +19,13 @@ abbrev OwnFault : {A : Type 0} → Bool → Result A Fault → Type 0
 OwnFault b r = IfErr r (IsOwn b)
 
 change_own : (k : Bool) (c : Content) (x : Change) → OwnFault k (with_change c x)
-change_own k c (On_map e) = grind arith
 change_own k c x = grind arith
 
 pub step_own : (c : Content) (batch : Option (List Change)) (x : Command) →
     IfErr (step_in c batch x) (IsOwn (is_recordable c))
 step_own c None (Make x) = grind (arith, change_own (is_recordable c) c x)
 step_own c (Some xs) (Make x) = grind (arith, change_own (is_recordable c) (after c xs) x)
-step_own c b (Show name) = grind arith
-step_own c None Dump = grind arith
-step_own c b (Explain text) = grind arith
-step_own c (Some xs) (Commit count) = grind arith
-step_own c b x = tt
+step_own c b x = grind arith
 
 -- ---- of a record
 
@@ -42,8 +36,7 @@ refused s c (Lacks is may) = may
 of_command : (s t : State) (r : Read Command) → CommandOutcome s r (Err Memory) t →
     IsOkAnd r (λ c. HoldsList c ⊎ IsTrue (may_lack s c))
 of_command s t (Ok c) h = inr (refused s c h.0)
-of_command s t (Err Bad_form) h = absurd (let no = h.0 in cc)
-of_command s t (Err Out_of_range) h = absurd (let no = h.0 in cc)
+of_command s t (Err f) h = grind arith
 
 of_reading : (s : State) (r : Read Command) → IsOkAnd r HoldsList → IsOkAnd r (λ c. HoldsList c ⊎ IsTrue (may_lack s c))
 of_reading s (Ok c) h = inl h
@@ -51,5 +44,4 @@ of_reading s (Err f) h = h
 
 pub memory_lacks : (s t : State) (fields : List Field) → RecordOutcome s fields (Err Memory) t →
     IsOkAnd (read fields) (λ c. HoldsList c ⊎ IsTrue (may_lack s c))
-memory_lacks s t fields (inl h) = of_command s t (read fields) h
-memory_lacks s t fields (inr h) = of_reading s (read fields) h.0
+memory_lacks s t fields h = grind (arith, of_command, of_reading)

@@ -1,10 +1,10 @@
 -- The records of a text, one after another.
-use Rattle.olr_run.proofs.Common.{◌≡◌, ℕ, zero, ◌+◌, ◌<◌, ◌≤◌, Bool, true, false, List, [], ◌∷◌, ◌++◌, length, Option}
-use Rattle.olr_run.proofs.Common.{Some, None, refl, ap, subst, arith, if◌then◌else◌, cases_Bool, step, is_end}
-use Rattle.olr_run.proofs.Common.{ends_at_end, fields_after, field_after, default_config, Field, records_of}
-use Rattle.std.proofs.Common.{suc}
-use Rattle.csv.specs.Machine.{Read, next_record, in_field, start_field, start_record}
-use Rattle.csv.specs.Reading.{records_next, records_from, Reached, strip_bom}
+use Rattle.olr_run.proofs.Common.{if◌then◌else◌, cases_Bool, is_end, ends_at_end, fields_after, field_after, Field}
+use Rattle.olr_run.proofs.Common.{records_of, next_record}
+use Rattle.std.proofs.Common.{◌≡◌, ℕ, zero, ◌+◌, ◌<◌, ◌≤◌, Bool, true, false, List, [], ◌∷◌, ◌++◌, length, Option, Some}
+use Rattle.std.proofs.Common.{None, refl, ap, subst, arith, suc}
+use Rattle.csv.specs.Machine.{step, Read, in_field, start_field, start_record}
+use Rattle.csv.specs.Reading.{default_config, records_next, records_from, Reached, strip_bom}
 use Rattle.csv.specs.declared.parser.State.{State}
 use Rattle.csv.specs.declared.parser.Action.{Action}
 use Rattle.csv.specs.declared.parser.State.TheVariants as st

@@ -1,19 +1,15 @@
 -- Runs.
-use Rattle.olr_run.proofs.Common.{rules, inl, inr, ◌≡◌, ℕ, Bool, true, false, List, [], ◌∷◌, Option, None, Some, Ok}
-use Rattle.olr_run.proofs.Common.{Err, refl, sym, ap, ◌∙◌, subst, arith, ◌&&◌, ◌||◌, is_err, cases_Bool, both_ways}
-use Rattle.olr_run.proofs.Common.{or_parts, IsContent, Fault, Memory, State, Command, Outcome, lacks_memory, Field}
-use Rattle.olr_run.proofs.Common.{Read, read, CommandOutcome, OutOfMemory, RecordOutcome, Outcomes, SoundOutcome}
-use Rattle.olr_run.proofs.Common.{SoundOutcomes, Claims, StopsAtFault, any_refused, AreAnswered, Ran, AllHadMemory}
-use Rattle.olr_run.proofs.Common.{IsFalse}
-use Rattle.std.specs.Prelude.{IfSome}
+use Rattle.olr_run.proofs.Common.{◌&&◌, is_err, cases_Bool, both_ways, or_parts, Outcome, lacks_memory, Field}
+use Rattle.olr_run.proofs.Common.{read, CommandOutcome, RecordOutcome, Outcomes, SoundOutcome, SoundOutcomes, Claims}
+use Rattle.olr_run.proofs.Common.{AreAnswered, AllHadMemory, IsFalse, outcome_leads, outcome_keeps}
+use Rattle.olr_run.proofs.Common.{is_named, is_refused, is_dumped, Claimed, headline_of, coords_read}
+use Rattle.std.proofs.Common.{rules, ◌≡◌, ℕ, Bool, true, false, List, [], ◌∷◌, Option, None, Some, Ok, Err}
+use Rattle.std.proofs.Common.{refl, sym, ◌∙◌, subst, arith}
+use Rattle.olr_commands.specs.State.{IsContent, State, Command, HasCoords, IsState}
+use Rattle.olr_records.specs.Records.{Read}
+use Rattle.olr_run.specs.Output.{OutOfMemory, StopsAtFault, Ran, decoded_command, Status}
 use Rattle.std.specs.Result.{result_ok}
-use Rattle.olr_commands.specs.State.{HasCoords, IsState}
-use Rattle.olr_commands.specs.History.{IsNamed}
-use Rattle.olr_commands.proofs.HistoryLemmas.{Leads, outcome_leads, outcome_keeps, is_named, is_refused, is_dumped}
-use Rattle.olr_commands.proofs.HistoryLemmas.{Claimed, headline_of}
 use Rattle.olr_commands.proofs.OutcomeLemmas.{one_outcome}
-use Rattle.olr_run.specs.Output.{decoded_command, Status}
-use Rattle.olr_records.proofs.ReadLemmas.{coords_read}
 use Rattle.olr_run.proofs.Dumping.{dumps_of}
 
 command_keeps : (s t : State) (r : Read Command) (o : Outcome) → ((c : Command) → r ≡ Ok c → HasCoords c) → IsState s →
@@ -22,8 +18,7 @@ command_keeps s t (Ok c) o h i p = outcome_keeps s t c o i (h c refl) p
 command_keeps s t (Err f) o h i p = subst IsState (sym p.1) i
 
 record_keeps : (s t : State) (fields : List Field) (o : Outcome) → IsState s → RecordOutcome s fields o t → IsState t
-record_keeps s t fields o i (inl p) = command_keeps s t (read fields) o (coords_read fields) i p
-record_keeps s t fields o i (inr p) = subst IsState (sym p.1.1) i
+record_keeps s t fields o i h = grind (arith, command_keeps, coords_read)
 
 pub outcomes_keep : (s t : State) (rs : List (List Field)) (os : List Outcome) → IsState s → Outcomes s rs os t →
     IsState t
@@ -40,25 +35,15 @@ command_claims s t (Ok c) o sound h = search (rules, arith, outcome_leads, is_na
 command_claims s t (Err f) (Ok reply) sound h = absurd (let no = h.0 in cc)
 command_claims s t (Err f) (Err g) sound h = grind arith
 
-leads_nowhere : (s t : State) (asked : Option Command) (f : Fault) → t ≡ s → Leads s asked (Err f) t
-leads_nowhere s t None f e = e
-leads_nowhere s t (Some c) f e = e
-
-names_nothing : (s t : State) (asked : Option Command) (f : Fault) → IfSome asked (λ c. IsNamed s c (Err f) t)
-names_nothing s t None f = tt
-names_nothing s t (Some c) f = λ reports es is. absurd cc
-
 lacking_claims : (s t : State) (asked : Option Command) (o : Outcome) → IsContent t.content → OutOfMemory s o t →
     Claimed s asked o t
-lacking_claims s t asked o sound h = grind (arith, leads_nowhere, names_nothing)
+lacking_claims s t None o sound h = grind arith
+lacking_claims s t (Some c) o sound h = grind arith
 
 record_claims : (s : State) (fields : List Field) (o : Outcome) (t : State) → SoundOutcome s fields o t →
     Claimed s (decoded_command fields) o t
 record_claims s fields o t h =
-    elim h.0 [
-      | inl p ↦ command_claims s t (read fields) o h.1 p
-      | inr p ↦ lacking_claims s t (decoded_command fields) o h.1 p.1
-    ]
+    grind (arith, command_claims s t (read fields) o, lacking_claims s t (decoded_command fields) o)
 
 pub sound_after : (s t : State) (rs : List (List Field)) (os : List Outcome) → IsContent s.content →
     SoundOutcomes s rs os t → IsContent t.content
@@ -78,27 +63,19 @@ one_command : (s t u : State) (r : Read Command) (o q : Outcome) → ((c : Comma
 one_command s t u (Ok c) o q h i n m p g = one_outcome s t u c o q i (h c refl) n m p g
 one_command s t u (Err f) o q h i n m p g = (p.0 ∙ sym g.0, p.1 ∙ sym g.1)
 
-not_memory : (o : Outcome) → IsFalse (lacks_memory o) → o ≡ Err Memory → ⊥
-not_memory o n e = both_ways (lacks_memory o) n (ap lacks_memory e)
-
 one_record : (s t u : State) (fields : List Field) (o q : Outcome) → IsState s → IsFalse (lacks_memory o) →
     IsFalse (lacks_memory q)
     → RecordOutcome s fields o t → RecordOutcome s fields q u → (o ≡ q) × (t ≡ u)
-one_record s t u fields o q i n m (inl p) (inl g) = one_command s t u (read fields) o q (coords_read fields) i n m p g
-one_record s t u fields o q i n m (inl p) (inr g) = absurd (not_memory q m g.1.0)
-one_record s t u fields o q i n m (inr p) g = absurd (not_memory o n p.1.0)
+one_record s t u fields o q i n m h k = grind (arith, one_command, coords_read, both_ways)
 
 -- the remaining records after an outcome that does not end the run
 all_rest : (stop : Bool) (r : List Field) (rs : List (List Field)) (o : Outcome) (os : List Outcome) →
     (stop && is_err o) ≡ false → AreAnswered stop (r ∷ rs) (o ∷ os) → AreAnswered stop rs os
-all_rest stop r rs o os e (inl h) = inl (omega arith)
-all_rest true r rs o os e (inr h) = inr (ap (λ (b : Bool). b || any_refused os) (sym e) ∙ h)
-all_rest false r rs o os e (inr h) = absurd cc
+all_rest true r rs o os e h = grind arith
+all_rest false r rs o os e h = grind arith
 
 none_left : (stop : Bool) (r : List Field) (rs : List (List Field)) → AreAnswered stop (r ∷ rs) [] → ⊥
-none_left stop r rs (inl h) = omega arith
-none_left true r rs (inr h) = absurd cc
-none_left false r rs (inr h) = absurd cc
+none_left stop r rs h = grind (arith, cases_Bool)
 
 one_list : (stop : Bool) (s t u : State) (rs : List (List Field)) (os qs : List Outcome) → IsState s → AllHadMemory os →
     AllHadMemory qs → AreAnswered stop rs os → AreAnswered stop rs qs

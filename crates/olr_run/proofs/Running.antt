@@ -1,19 +1,18 @@
 -- The records that a run has answered so far.
-use Rattle.olr_run.proofs.Common.{arith, ◌≡◌, ◌∙◌, ◌+◌, ℕ, Bool, true, false, not, List, [], ◌∷◌, ◌++◌, length, map, Ok}
-use Rattle.olr_run.proofs.Common.{Err, Result, inl, inr, refl, sym, ap, subst, length-append, ◌&&◌, ◌||◌, is_err, is_ok}
-use Rattle.olr_run.proofs.Common.{if◌then◌else◌, ⊤, IfErr, both_ways, or_parts, append-nil, list_any-append, Outcome}
-use Rattle.olr_run.proofs.Common.{IsContent, State, Field, outcome_text, Represents, Registered, SoundOutcome}
-use Rattle.olr_run.proofs.Common.{SoundOutcomes, StopsAtFault, any_refused, most_records, Event, Took, Ended, Not_taken}
-use Rattle.olr_run.proofs.Common.{Wrote, Cut, History, exchanges, IsOfTaking, status_of, AnsweredOn, RanIn, CutIn}
-use Rattle.olr_run.proofs.Common.{In_taking, Past_the_most, No_text, In_text, Status, RunFault}
-use Rattle.std.specs.Prelude.{IsErrAnd}
-use Rattle.olr_commands.proofs.HistoryLemmas.{run_more}
-use Rattle.olr_run.specs.Output.{run_status}
-use Rattle.olr_run.specs.Runs.{AnswersRecord, last_events}
+use Rattle.olr_run.proofs.Common.{◌&&◌, ◌||◌, is_err, is_ok, if◌then◌else◌, ⊤, IfErr, or_parts, append-nil}
+use Rattle.olr_run.proofs.Common.{list_any-append, Outcome, Field, outcome_text, Represents, Registered, SoundOutcome}
+use Rattle.olr_run.proofs.Common.{SoundOutcomes, most_records, Event, Took, Ended, Not_taken, Wrote, Cut, History}
+use Rattle.olr_run.proofs.Common.{exchanges, IsOfTaking, status_of, AnsweredOn, RanIn, CutIn, Past_the_most, In_text}
+use Rattle.olr_run.proofs.Common.{RunFault, IsErrAnd, run_more, AnswersRecord, last_events, map-append}
+use Rattle.std.proofs.Common.{arith, ◌≡◌, ◌∙◌, ◌+◌, ℕ, Bool, true, false, not, List, [], ◌∷◌, ◌++◌, length, map, Ok}
+use Rattle.std.proofs.Common.{Err, Result, inl, inr, refl, sym, ap, subst, length-append}
+use Rattle.olr_commands.specs.State.{IsContent, State}
+use Rattle.olr_run.specs.Output.{StopsAtFault, any_refused, run_status}
+use Rattle.olr_run.specs.Runs.{In_taking, No_text}
+use Rattle.olr_run.specs.declared.ends.Status.{Status}
 use Rattle.olr_run.proofs.RunLemmas.{sound_after, claims_of}
 use Rattle.olr_run.proofs.SessionLemmas.{history_join, exchanges_more}
 use Rattle.std.proofs.Math.Bool.{or-true, or-false, and-false}
-use Rattle.std.proofs.lemmas.List.{map-append}
 use Rattle.olr_run.specs.Output as output
 use Rattle.olr_run.specs.declared.ends.Status.TheVariants as ended
 use Rattle.olr_run.specs.declared.ends.RunFault.TheVariants as fault
@@ -24,21 +23,18 @@ use Rattle.olr_run.specs.declared.ends.RunFault.TheVariants as fault
 abbrev pub status_by : Bool → Bool → output.Status
 status_by stop b = if b then (if stop then output.Stopped else output.Some_refused) else output.All_accepted
 
-either : (stop a b : Bool) → (stop && (a || b)) ≡ ((stop && a) || (stop && b))
-either true a b = refl
-either false a b = refl
-
 -- a run is stopped by an outcome of its first or of its second part
 pub stopped_by : (stop : Bool) (os qs : List Outcome) →
     (stop && any_refused (os ++ qs)) ≡ ((stop && any_refused os) || (stop && any_refused qs))
-stopped_by stop os qs =
-    ap (λ (x : Bool). stop && x) (list_any-append is_err os qs) ∙ either stop (any_refused os) (any_refused qs)
+stopped_by true os qs = list_any-append is_err os qs
+stopped_by false os qs = refl
 
 -- if none of the first ends the run
 pub stops_join : (stop : Bool) (os qs : List Outcome) → (stop && any_refused os) ≡ false → StopsAtFault stop os →
     StopsAtFault stop qs → StopsAtFault stop (os ++ qs)
 stops_join stop [] qs n h k = k
-stops_join stop (o ∷ os) qs n h k = grind (arith, or_parts, either, both_ways, stops_join stop os qs)
+stops_join true (o ∷ os) qs n h k = grind (arith, or_parts, stops_join true os qs)
+stops_join false (o ∷ os) qs n h k = grind (arith, stops_join false os qs)
 
 refused_more : (os : List Outcome) (o : Outcome) (b : Bool) → is_ok o ≡ b →
     any_refused (os ++ o ∷ []) ≡ (any_refused os || not b)
@@ -247,5 +243,4 @@ module _ {S : Type 0} (happens : S → Event → S → Type 0) (stop : Bool) (ol
 -- a fault that `?` passes on
 pub passed_on : {T : Type 0} (r : Result T RunFault) (e : RunFault) (P : RunFault → Type 0) → IsErrAnd r (λ x. x ≡ e) →
     P e → IfErr r P
-passed_on (Ok x) e P is h = tt
-passed_on (Err x) e P is h = subst P (sym is) h
+passed_on r e P is h = grind arith

@@ -1,7 +1,7 @@
 -- Histories of sessions.
-use Rattle.olr_run.proofs.Common.{◌≡◌, ℕ, true, false, List, [], ◌∷◌, ◌++◌, length, refl, sym, ap, subst, arith}
-use Rattle.olr_run.proofs.Common.{is_flexible, Reader, Field, Known, Event, Took, Wrote, History, exchanges}
-use Rattle.csv.specs.Reading.{ExplainsRead, stops_reader}
+use Rattle.olr_run.proofs.Common.{Reader, Field, Known, Event, Took, Wrote, History, exchanges}
+use Rattle.std.proofs.Common.{◌≡◌, ℕ, true, false, List, [], ◌∷◌, ◌++◌, length, refl, sym, ap, subst, arith}
+use Rattle.csv.specs.Reading.{is_flexible, ExplainsRead, stops_reader}
 use Rattle.csv.specs.declared.error.ErrorKind.{ErrorKind}
 use Rattle.csv.specs.declared.error.ErrorKind.TheVariants as kind
 

@@ -1,11 +1,8 @@
 -- The bytes that are written so far.
-use Rattle.olr_run.proofs.Common.{◌≡◌, ◌∙◌, ◌+◌, ◌-◌, ◌≤◌, ◌<◌, ℕ, List, [], length, take, drop, None, Some, Err, refl}
-use Rattle.olr_run.proofs.Common.{ap, sym, arith, length-drop, append-nil, Appends, Appends-trans, Known}
-use Rattle.std.proofs.lemmas.List.{take-append-drop, take_all}
-use Rattle.std.proofs.Math.Seq.{take-add}
-use Rattle.std.specs.Io.KnownBytes.{Keeps}
-use Rattle.std.proofs.KnownBytes.{Appends-kept}
-use Rattle.olr_run.specs.Runs.{WritesAll}
+use Rattle.olr_run.proofs.Common.{append-nil, Appends, Known, take-append-drop, take_all, take-add, Keeps, WritesAll}
+use Rattle.std.proofs.Common.{◌≡◌, ◌∙◌, ◌+◌, ◌-◌, ◌≤◌, ◌<◌, ℕ, List, [], length, take, drop, None, Some, Err, refl, ap}
+use Rattle.std.proofs.Common.{sym, arith, length-drop}
+use Rattle.std.proofs.KnownBytes.{Appends-trans, Appends-kept}
 use Rattle.olr_run.specs.declared.ends.RunFault.TheVariants.{Write}
 
 -- the first n bytes

@@ -1,5 +1,5 @@
-use Rattle.olr_run.proofs.Common.{Ok, Err, refl, fields_of}
-use Rattle.olr_commands.specs.Words.{command_fault_of, reply_of}
+use Rattle.olr_run.proofs.Common.{fields_of, command_fault_of, reply_of}
+use Rattle.std.proofs.Common.{Ok, Err, refl}
 use Rattle.olr_run.proofs.Answering.{carried, not_read}
 use Rattle.olr_run.proofs.answers.carry_out.Goals as goal
 

@@ -1,4 +1,5 @@
-use Rattle.olr_run.proofs.Common.{arith, false≢true}
+use Rattle.olr_run.proofs.Common.{false≢true}
+use Rattle.std.proofs.Common.{arith}
 use Rattle.olr_run.proofs.Running.{passed_on}
 use Rattle.olr_run.proofs.Joining.{both_stopped, both_ran, both_faulted_first, both_faulted_second}
 use Rattle.olr_run.proofs.both.run_both.Goals as goal

@@ -1,8 +1,7 @@
 -- The builder's calls make the arguments of the definition.
-use Rattle.olr_run.proofs.Common.{rules, ◌≡◌, ◌∙◌, true, codes, ap, Some, App}
-use Rattle.std.proofs.Common.{ap₂}
+use Rattle.std.proofs.Common.{rules, ◌≡◌, ◌∙◌, true, codes, ap, Some, ap₂}
+use Rattle.clap.specs.Simple.{App, app_of, app_of_fields, new_app, new_rule, on_top, with_rule}
 use Rattle.std.proofs.lemmas.Result.{IfOk-weaker}
-use Rattle.clap.specs.Simple.{app_of, app_of_fields, new_app, new_rule, on_top, with_rule}
 use Rattle.clap.specs.Walk.{Rule, rule_of}
 use Rattle.clap.specs.declared.builder.action.ArgAction.TheVariants.{Set, SetTrue}
 use Rattle.olr_run.proofs.command_line.command.Goals as goal

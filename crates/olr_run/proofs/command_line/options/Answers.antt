@@ -1,6 +1,7 @@
 -- By clap's rules for the arguments, which are those of the definition.
-use Rattle.olr_run.proofs.Common.{arith, ◌≡◌, ◌∙◌, map, sym, ap, false, true, false≢true, fault_of, App}
-use Rattle.clap.specs.Faults.{is_simple_and_free}
+use Rattle.olr_run.proofs.Common.{false≢true, fault_of, is_simple_and_free}
+use Rattle.std.proofs.Common.{arith, ◌≡◌, ◌∙◌, map, sym, ap, false, true}
+use Rattle.clap.specs.Simple.{App}
 use Rattle.clap.specs.Takes.{takes}
 use Rattle.clap.specs.declared.error.kind.ErrorKind.TheVariants.{OutOfMemory}
 use Rattle.clap.proofs.WalkLemmas.{first_value-rows}

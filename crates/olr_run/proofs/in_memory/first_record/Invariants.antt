@@ -1,6 +1,7 @@
-use Rattle.olr_run.proofs.Common.{◌≡◌, ◌≤◌, ◌-◌, ◌++◌, [], take, drop, default_config, fields_of, csv_state}
-use Rattle.csv.specs.Machine.{next_record}
-use Rattle.csv.specs.Records.{partial_of}
+use Rattle.olr_run.proofs.Common.{fields_of, next_record, partial_of}
+use Rattle.std.proofs.Common.{◌≡◌, ◌≤◌, ◌-◌, ◌++◌, [], take, drop}
+use Rattle.csv.specs.Reading.{default_config}
+use Rattle.olr_run.specs.InMemory.{csv_state}
 use Rattle.olr_run.proofs.in_memory.first_record.Given as goal
 
 -- the first record is the one that the fields so far, the bytes of the next field so far, and the remaining bytes make

@@ -1,4 +1,4 @@
-use Rattle.olr_run.proofs.Common.{length, ◌-◌}
+use Rattle.std.proofs.Common.{length, ◌-◌}
 use Rattle.olr_run.proofs.Writing.{Written}
 use Rattle.olr_run.proofs.output.write_all.Given as goal
 

@@ -1,5 +1,5 @@
 -- A run over an input, from its session.
-use Rattle.olr_run.proofs.Common.{◌∙◌, ap, true, inr}
+use Rattle.std.proofs.Common.{◌∙◌, ap, true, inr}
 use Rattle.csv.specs.Reading.{builder_config, builder_trim, builder_names_headers, builder_is_flexible, with_flexible}
 use Rattle.csv.specs.declared.reader.ReaderBuilder.{ReaderBuilder}
 use Rattle.olr_run.proofs.InputRuns.{OfReader, Starts, reader_at, written_at, on_known}

@@ -1,5 +1,6 @@
 -- Each end of a run, from the records so far.
-use Rattle.olr_run.proofs.Common.{arith, fields_of}
+use Rattle.olr_run.proofs.Common.{fields_of}
+use Rattle.std.proofs.Common.{arith}
 use Rattle.olr_run.proofs.Running.{so_far_none, accepted_so_far, refused_so_far, ran_whole, ran_stopped, cut_in_taking}
 use Rattle.olr_run.proofs.Running.{cut_past, cut_in_answer, passed_on}
 use Rattle.olr_run.proofs.records.run_within.Goals as goal

@@ -1,13 +1,11 @@
-use Rattle.olr_run.proofs.Common.{arith, inl, inr, ◌≡◌, [], ◌∷◌, ◌++◌, Ok, Err, refl, start_state, On_map, Make}
-use Rattle.olr_run.proofs.Common.{ByState, In_last}
+use Rattle.olr_run.proofs.Common.{ByState, In_last, csv_on_literals, Paths}
+use Rattle.std.proofs.Common.{arith, inl, inr, ◌≡◌, [], ◌∷◌, ◌++◌, Ok, Err, refl}
+use Rattle.olr_commands.specs.State.{start_state, On_map, Make, Syntax, Range, Map_fault, step}
 use Rattle.std.specs.Cmp.{nat_cmp_total}
 use Rattle.std.specs.FinMap.{insert, empty, get-empty, get-insert}
 use Rattle.std.specs.Prelude.{codes}
 use Rattle.std.specs.Fmt.{digits}
-use Rattle.csv.proofs.OnLiterals.{csv_on_literals}
 use Rattle.olr_spec.specs.Map.{Node_exists, No_node, Add_node, Drop_node}
-use Rattle.olr_commands.specs.State.{Syntax, Range, Map_fault, step}
-use Rattle.olr_commands.specs.Reply.{Paths}
 use Rattle.olr_records.specs.Rows.{zero}
 use Rattle.olr_run.specs.Rows.{state20}
 use Rattle.olr_run.proofs.rows.rows_runs.Goals as goal

@@ -1,7 +1,6 @@
 -- Each end of the program, from the contracts of its parts.
-use Rattle.olr_run.proofs.Common.{refl, ap, ◌∙◌, exit_code}
-use Rattle.olr_run.specs.Ends.{Explained}
-use Rattle.olr_run.specs.Options.{options_of}
+use Rattle.olr_run.proofs.Common.{exit_code, Explained, options_of}
+use Rattle.std.proofs.Common.{refl, ap, ◌∙◌}
 use Rattle.olr_run.proofs.Ending.{not_opened, ran_to_its_end, was_cut_off}
 use Rattle.olr_run.proofs.streams.program.Goals as goal
 

@@ -1,5 +1,6 @@
 -- The state at the end is that of the program's register.
-use Rattle.olr_run.proofs.Common.{map, subst, Registered, Ends, Opens}
+use Rattle.olr_run.proofs.Common.{Registered, Ends, Opens}
+use Rattle.std.proofs.Common.{map, subst}
 use Rattle.olr_run.proofs.streams.run_program.Goals as goal
 
 pub returns-clause-ends : goal.returns-clause-ends
