@@ -12,7 +12,6 @@ use Rattle.olr_commands.specs.State.{Map_fault, Path_exists, Bad_path}
 use Rattle.olr_commands.specs.Words.{map_fault_of}
 use Rattle.olr_register.proofs.Listed.{names_add, names_set, names_drop}
 use Rattle.olr_spec.specs.Map as map_faults
-use Rattle.olr_commands.specs.declared.fault.CommandFault.TheVariants as rust
 
 abbrev content_from : Map → List Named → Result Content Fault
 content_from M ps = Ok (record { map = M; paths = ps })

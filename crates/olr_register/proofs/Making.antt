@@ -1,5 +1,5 @@
 -- What a change makes of an open batch, by the changed part.
-use Rattle.olr_register.proofs.Common.{◌≡◌, ℕ, ◌+◌, List, [], ◌++◌, map, Ok, Err, refl, sym, ap, ◌∙◌, subst, ◌||◌}
+use Rattle.olr_register.proofs.Common.{◌≡◌, ℕ, List, [], ◌++◌, map, Ok, Err, refl, sym, ap, ◌∙◌, subst, ◌||◌}
 use Rattle.olr_register.proofs.Common.{or-false, Map, Edit, edited, touched_nodes, touched_lines, has, HasCoord}
 use Rattle.olr_register.proofs.Common.{ChangedLine, changes_of, CoverageQuery, map_of, map_before, RoadMap, IsContent}
 use Rattle.olr_register.proofs.Common.{Change, On_map, Make, HasCoords, with_map, with_change, nodes_of_change}

@@ -27,7 +27,6 @@ use Rattle.olr_binary.proofs.EncodedLemmas.{reference_bytes-bytes}
 use Rattle.olr_commands.specs.Words.{text_fault_of}
 use Rattle.olr_commands.specs.State as state
 use Rattle.olr_commands.specs.Reply as returned
-use Rattle.olr_commands.specs.declared.fault.CommandFault.TheVariants as rust
 use Rattle.olr_spec.specs.Bytes as spec
 
 -- an accepted command, which raises the counts by these totals
