@@ -2,11 +2,11 @@
 use Rattle.olr_map.proofs.Common.{map, ◌≡◌, ◌==◌, ◌&&◌, ℕ, ◌<◌, ◌≤◌, true, false, cond, [], length, Some, None}
 use Rattle.olr_map.proofs.Common.{unwrap_or, refl, sym, ap, ◌∙◌, subst, arith, option_map, option_map_or, FinMap, IsRelinked}
 use Rattle.olr_map.proofs.Common.{lookup, cond-true, eqb-true, eq-eqb, same_Some, Coord, Map, IsMap, Line}
-use Rattle.olr_map.proofs.Common.{pairs_of, slot_by, spare_of, at, held, things_of, all_held}
+use Rattle.olr_map.proofs.Common.{pairs_of, slot_by, spare_of, at, held, all_held}
 use Rattle.olr_map.proofs.Common.{spare_numbers, in_slot, node_slots, node_room, links_at, lines_on, links_room}
 use Rattle.olr_map.proofs.Common.{lines_at, links_in, map_from, node_slot, IsListed, IsIndexed, AreTables}
 use Rattle.olr_map.proofs.Common.{Room, HasRoomFor, tables_map, room_of, room_at, IsRoomWithin, IsReserved, Blocks}
-use Rattle.olr_map.proofs.Common.{Links, NodeSlots, Side, Out, In, SlotMap, RoadMap, common_steps}
+use Rattle.olr_map.proofs.Common.{Links, NodeSlots, Side, Out, In, LineTable, RoadMap, common_steps}
 use Rattle.std.specs.Ordering.{nat_cmp}
 use Rattle.std.specs.FinMap.{from_entries}
 use Rattle.olr_spec.specs.Map.{empty_map}
@@ -17,7 +17,7 @@ use Rattle.olr_map.specs.Linked.{IsRoomier}
 use Rattle.olr_map.proofs.ColumnLemmas.{few_nodes}
 use Rattle.olr_map.proofs.Insertions.{same_answers}
 use Rattle.olr_map.proofs.Blocking.{listed_found}
-use Rattle.olr_map.proofs.SlotMapLemmas.{held_get}
+use Rattle.olr_map.proofs.Lookups.{all_get}
 use Rattle.olr_map.proofs.Indexing.{id_of, place_of, one_node, same_side, Relisted, relisted}
 use Rattle.olr_map.proofs.Making.{le_same}
 use Rattle.olr_map.proofs.Reading.{got_node, got_line, kept_from}
@@ -25,8 +25,8 @@ use Rattle.olr_spec.specs.Map as maps
 
 -- ---- empty tables
 
-pub kept_none : (b : Blocks) (s : NodeSlots) (ls : SlotMap Line) → pairs_of b ≡ [] → node_slots s ≡ [] →
-    things_of ls ≡ [] → AreTables b (node_slots s) (all_held ls)
+pub kept_none : (b : Blocks) (s : NodeSlots) (ls : LineTable) → pairs_of b ≡ [] → node_slots s ≡ [] →
+    ls.by_number.entries ≡ [] → AreTables b (node_slots s) (all_held ls)
 kept_none b s ls no_nodes no_slots no_lines =
     let none : (v : ℕ) → slot_by b v ≡ None = λ v. sym (listed_found b v) ∙ ap (lookup (λ q. v == q)) no_nodes in
     let empty : map_from b (node_slots s) (all_held ls) ≡ empty_map =
@@ -74,7 +74,7 @@ both_fit s mid new x l p q slots first second out into In = into l.to (first.slo
 
 -- ---- more capacity for numbers
 
-module _ (t : RoadMap) (b' : Blocks) (ls' : SlotMap Line) (slots : (k : ℕ) → slot_by b' k ≡ slot_by t.index k)
+module _ (t : RoadMap) (b' : Blocks) (ls' : LineTable) (slots : (k : ℕ) → slot_by b' k ≡ slot_by t.index k)
     (same : (k : ℕ) → held ls' k ≡ held t.lines k) where
   same_indexed : IsIndexed b' (node_slots t.nodes)
   same_indexed =
@@ -90,7 +90,7 @@ module _ (t : RoadMap) (b' : Blocks) (ls' : SlotMap Line) (slots : (k : ℕ) →
       ∙ ap (λ o. option_map place_of (in_slot (node_slots t.nodes) o)) (slots k)
       ∙ sym (got_node t.index (node_slots t.nodes) t.kept.indexed (all_held t.lines) k)) in
       let lines : all_held ls' ≡ all_held t.lines =
-      same_answers _ _ (λ k. held_get ls' k ∙ same k ∙ sym (got_line t k)) in
+      same_answers _ _ (λ k. all_get ls'.by_number.entries k ∙ same k ∙ sym (got_line t k)) in
       λ j. record { nodes = nodes j; lines = lines j }
 
   pub same_kept : AreTables b' (node_slots t.nodes) (all_held ls')

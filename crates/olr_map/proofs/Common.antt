@@ -6,13 +6,12 @@ pub use Rattle.olr_map.specs.Changes.{room_of, tables_map}
 pub use Rattle.olr_map.specs.Columns.{node_room, node_slots, rows}
 pub use Rattle.olr_map.specs.EditPlans.{AreSlots}
 pub use Rattle.olr_map.specs.Edits.{edit_of}
-pub use Rattle.olr_map.specs.HavingSlots.{HaveSlots, in_slot}
+pub use Rattle.olr_map.specs.LineTables.{all_held, held, spare_numbers}
 pub use Rattle.olr_map.specs.Linked.{IsPut, ends_on, lines_on, links_room, room_kept}
 pub use Rattle.olr_map.specs.NodeLinks.{IsRelinked, links_at, with_links}
 pub use Rattle.olr_map.specs.Slabs.{slots_of}
 pub use Rattle.olr_map.specs.SlotIndexes.{pairs_of, slot_by, spare_of}
-pub use Rattle.olr_map.specs.SlotMaps.{all_held, held, spare_numbers, things_of}
-pub use Rattle.olr_map.specs.Slotted.{IsInserted, IsRemoved, IsReplaced, IsSlotted, IsWritten, at, present}
+pub use Rattle.olr_map.specs.Slotted.{IsInserted, IsRemoved, IsReplaced, IsSlotted, IsWritten, at, in_slot, present}
 pub use Rattle.olr_map.specs.Tables.{AreTables, IsIndexed, IsListed, end_at, far, lines_at, links_in, map_from, near}
 pub use Rattle.olr_map.specs.Tables.{node_in, node_slot, sides}
 pub use Rattle.olr_map.specs.Undos.{CanMakeAll, made_all}
@@ -20,10 +19,10 @@ pub use Rattle.olr_map.specs.declared.blocks.Blocks.{Blocks}
 pub use Rattle.olr_map.specs.declared.change.TableChange.{TableChange}
 pub use Rattle.olr_map.specs.declared.change.TableChange.TheVariants.{MoveNode, PutLine, PutNode, SetLine, TakeLine}
 pub use Rattle.olr_map.specs.declared.change.TableChange.TheVariants.{TakeNode}
+pub use Rattle.olr_map.specs.declared.line_table.LineTable.{LineTable}
 pub use Rattle.olr_map.specs.declared.links.Links.{Links}
 pub use Rattle.olr_map.specs.declared.read.LineEnd.{LineEnd}
 pub use Rattle.olr_map.specs.declared.road_map.RoadMap.{RoadMap}
-pub use Rattle.olr_map.specs.declared.slot_map.SlotMap.{SlotMap}
 pub use Rattle.olr_map.specs.declared.slots.NodeEntry.{NodeEntry}
 pub use Rattle.olr_map.specs.declared.slots.NodeHead.{NodeHead}
 pub use Rattle.olr_map.specs.declared.slots.NodeSlots.{NodeSlots}

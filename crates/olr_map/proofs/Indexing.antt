@@ -1,12 +1,10 @@
 -- Numbers and slots that refer to each other, after the entry of one node is added, removed or replaced.
-use Rattle.olr_map.proofs.Common.{◌≡◌, ◌==◌, ◌&&◌, ℕ, Bool, true, false, cond, List, Option, Some, None, refl, sym, ap}
+use Rattle.olr_map.proofs.Common.{◌≡◌, ◌==◌, ◌&&◌, ◌⊎◌, ℕ, Bool, true, false, cond, List, Option, Some, None, refl, sym, ap}
 use Rattle.olr_map.proofs.Common.{◌∙◌, is_some, inl, inr, option_map, eq-eqb, ne_eqb, cond-true, cond-false, same_Some}
-use Rattle.olr_map.proofs.Common.{Coord, slot_by, at, IsWritten, HaveSlots, links_at, with_links, IsRelinked, node_in}
+use Rattle.olr_map.proofs.Common.{Coord, slot_by, at, IsWritten, in_slot, links_at, with_links, IsRelinked, node_in}
 use Rattle.olr_map.proofs.Common.{links_in, IsIndexed, Blocks, Links, NodeEntry, Side, Out, In, common_steps, arith}
 use Rattle.std.proofs.Common.{eqb-true}
 use Rattle.olr_map.proofs.Insertions.{over_cond, unchanged_at}
-use Rattle.olr_map.proofs.SlotMapLemmas.{slot_if, value_if, filled_at, held_was, stays, arrives, written_held}
-use Rattle.olr_map.proofs.SlotMapLemmas.{slot_from}
 
 abbrev pub id_of : NodeEntry → ℕ
 id_of e = e.id
@@ -16,6 +14,15 @@ place_of e = e.place
 
 abbrev pub Slots : Type 0
 Slots = List (Option NodeEntry)
+
+-- the slot p of a number, if the number has a value
+abbrev pub slot_if : {X : Type 0} → ℕ → Option X → Option ℕ
+slot_if p None = None
+slot_if p (Some e) = Some p
+
+value_if : {X : Type 0} (p q : ℕ) (o : Option X) → slot_if p o ≡ Some q → (e : X) × (o ≡ Some e) × (p ≡ q)
+value_if p q None h = absurd cc
+value_if p q (Some e) h = (e, refl, same_Some p q h)
 
 -- ---- lines on one side of a node
 
@@ -34,6 +41,39 @@ same_id side e l = grind (arith, common_steps)
 same_place : (side : Side) (e : NodeEntry) (l : Links) → (with_links side e l).place ≡ e.place
 same_place side e l = grind (arith, common_steps)
 
+-- ---- number v has the value w in place of o, in slot p
+
+module _ (b : Blocks) (es : Slots) (filled : (v p : ℕ) → slot_by b v ≡ Some p → (e : NodeEntry) × (at es p ≡ Some e))
+    (apart : (v w p : ℕ) → slot_by b v ≡ Some p → slot_by b w ≡ Some p → v ≡ w) (b' : Blocks) (es' : Slots)
+    (p v : ℕ) (o w : Option NodeEntry) (t : IsWritten es es' p o w) (was : slot_by b v ≡ slot_if p o)
+    (now : (k : ℕ) → slot_by b' k ≡ cond (v == k) (slot_if p w) (slot_by b k)) where
+  held_was : in_slot es (slot_by b v) ≡ o
+  held_was = grind (arith, common_steps)
+
+  -- the slot of another number is a different one
+  other_slot : (k q : ℕ) → (v == k) ≡ false → slot_by b k ≡ Some q → (p == q) ≡ false
+  other_slot k q ne h = grind (arith, common_steps, filled, ne_eqb, eq-eqb)
+
+  stays : (k q : ℕ) → (v == k) ≡ false → slot_by b k ≡ Some q → at es' q ≡ at es q
+  stays k q ne h = grind (arith, common_steps, other_slot)
+
+  arrives : at es' p ≡ w
+  arrives = grind (arith, common_steps, eq-eqb)
+
+  written_held : (k : ℕ) → in_slot es' (slot_by b' k) ≡ cond (v == k) w (in_slot es (slot_by b k))
+  written_held k = grind (arith, common_steps, stays, arrives, eqb-true)
+
+  -- a number that has a slot is v, in slot p, or had that slot before
+  slot_from : (k q : ℕ) → slot_by b' k ≡ Some q →
+      ((v ≡ k) × (p ≡ q) × ((e : NodeEntry) × (w ≡ Some e))) ⊎ (((v == k) ≡ false) × (slot_by b k ≡ Some q))
+  slot_from k q h = step (v == k) refl where
+    step : (c : Bool) → (v == k) ≡ c →
+        ((v ≡ k) × (p ≡ q) × ((e : NodeEntry) × (w ≡ Some e))) ⊎ (((v == k) ≡ false) × (slot_by b k ≡ Some q))
+    step true e =
+        let x = value_if p q w (sym (now k ∙ cond-true (v == k) (slot_if p w) (slot_by b k) e) ∙ h) in
+        inl (eqb-true v k e, x.2, (x.0, x.1))
+    step false e = inr (e, sym (now k ∙ cond-false (v == k) (slot_if p w) (slot_by b k) e) ∙ h)
+
 -- the lines on one side of node v are others
 pub record Relisted (b : Blocks) (es es' : Slots) (side : Side) (v : ℕ) (old new : Links) : Type 0 where
   pub indexed : IsIndexed b es'
@@ -47,16 +87,13 @@ module _ (b : Blocks) (es : Slots) (indexed : IsIndexed b es) where
   pub one_node : (v w p : ℕ) → slot_by b v ≡ Some p → slot_by b w ≡ Some p → v ≡ w
   one_node v w p h k = same_Some _ _ (sym (indexed.filled v p h) ∙ indexed.filled w p k)
 
-  mapped_some : (o : Option NodeEntry) (v : ℕ) → option_map id_of o ≡ Some v → is_some o ≡ true
-  mapped_some None v h = absurd cc
-  mapped_some (Some e) v h = refl
-
-  nodes_filled : HaveSlots b es
-  nodes_filled = record { filled = λ v p h. mapped_some (at es p) v (indexed.filled v p h); apart = one_node }
+  entry_with : (o : Option NodeEntry) (v : ℕ) → option_map id_of o ≡ Some v → (e : NodeEntry) × (o ≡ Some e)
+  entry_with None v h = absurd cc
+  entry_with (Some e) v h = (e, refl)
 
   -- the entry of a node that is found
   pub entry_of : (v p : ℕ) → slot_by b v ≡ Some p → (e : NodeEntry) × (at es p ≡ Some e)
-  entry_of = filled_at b es nodes_filled
+  entry_of v p h = entry_with (at es p) v (indexed.filled v p h)
 
   -- the entry has the number of its node
   pub id_is : (v p : ℕ) (e : NodeEntry) → slot_by b v ≡ Some p → at es p ≡ Some e → Some e.id ≡ Some v
@@ -68,18 +105,18 @@ module _ (b : Blocks) (es : Slots) (indexed : IsIndexed b es) where
       (was : slot_by b v ≡ slot_if p o) (now : (k : ℕ) → slot_by b' k ≡ cond (v == k) (slot_if p w) (slot_by b k))
       (id : option_map id_of w ≡ slot_if v w) where
     pub node_was : node_in b es v ≡ o
-    node_was = held_was b es nodes_filled b' es' p v o w t was now
+    node_was = held_was b es entry_of one_node b' es' p v o w t was now
 
     pub written_node : (k : ℕ) → node_in b' es' k ≡ cond (v == k) w (node_in b es k)
-    written_node = written_held b es nodes_filled b' es' p v o w t was now
+    written_node = written_held b es entry_of one_node b' es' p v o w t was now
 
     pub written_indexed : IsIndexed b' es'
     written_indexed =
         record {
-          filled = λ k q h. elim (slot_from b es nodes_filled b' es' p v o w t was now k q h) [
-            | inl n ↦ ap (option_map id_of) (ap (at es') (sym n.1) ∙ arrives b es nodes_filled b' es' p v o w t was now)
+          filled = λ k q h. elim (slot_from b es entry_of one_node b' es' p v o w t was now k q h) [
+            | inl n ↦ ap (option_map id_of) (ap (at es') (sym n.1) ∙ arrives b es entry_of one_node b' es' p v o w t was now)
                 ∙ id ∙ ap (slot_if v) n.2.1 ∙ ap (λ m. Some m) n.0
-            | inr l ↦ ap (option_map id_of) (stays b es nodes_filled b' es' p v o w t was now k q l.0 l.1)
+            | inr l ↦ ap (option_map id_of) (stays b es entry_of one_node b' es' p v o w t was now k q l.0 l.1)
                 ∙ indexed.filled k q l.1
           ];
           named = λ k q h.

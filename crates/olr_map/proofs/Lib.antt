@@ -4,7 +4,6 @@ pub mod Lookups
 pub mod Numbers
 pub mod SlotLemmas
 pub mod Blocking
-pub mod SlotMapLemmas
 pub mod ColumnLemmas
 pub mod Indexing
 pub mod LineRecords

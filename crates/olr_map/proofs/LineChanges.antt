@@ -7,12 +7,12 @@ use Rattle.olr_map.proofs.Common.{in_slot, node_slots, node_room, links_at, IsRe
 use Rattle.olr_map.proofs.Common.{sides, near, far, lines_at, node_in, links_in, map_from, node_slot, IsListed}
 use Rattle.olr_map.proofs.Common.{IsIndexed, AreTables, Room, tables_map, room_of, room_at, change_edit, CanMake}
 use Rattle.olr_map.proofs.Common.{HasRoomFor, IsWhole, map_after, room_after, IsRoomWithin, IsChangeMade, line_puts}
-use Rattle.olr_map.proofs.Common.{Blocks, Links, LineEnd, NodeEntry, NodeSlots, Side, Out, In, SlotMap, RoadMap}
+use Rattle.olr_map.proofs.Common.{Blocks, Links, LineEnd, NodeEntry, NodeSlots, Side, Out, In, LineTable, RoadMap}
 use Rattle.olr_map.proofs.Common.{TableChange, PutLine, SetLine, TakeLine, common_steps}
 use Rattle.std.specs.Ordering.{nat_cmp}
 use Rattle.olr_map.proofs.ColumnLemmas.{few_nodes}
 use Rattle.olr_map.proofs.Insertions.{over_cond, unchanged_at, got_insert, got_remove, same_answers}
-use Rattle.olr_map.proofs.SlotMapLemmas.{held_get}
+use Rattle.olr_map.proofs.Lookups.{all_get}
 use Rattle.olr_map.proofs.Indexing.{Slots, place_of, entry_of, relisted}
 use Rattle.olr_map.proofs.LineRecords.{record_of}
 use Rattle.olr_map.proofs.Listing.{ascends_at, seen, here_listed, other_listed}
@@ -77,7 +77,7 @@ each : (P : Side → Type 0) → P Out → P In → (side : Side) → P side
 each P a b Out = a
 each P a b In = b
 
-pub record LineWritten (t : RoadMap) (nodes' : NodeSlots) (lines' : SlotMap Line) (x : ℕ) (ends : Line)
+pub record LineWritten (t : RoadMap) (nodes' : NodeSlots) (lines' : LineTable) (x : ℕ) (ends : Line)
     (o w : Option Line) : Type 0 where
   pub indexed : IsIndexed t.index (node_slots nodes')
   pub places : (k : ℕ) → option_map place_of (node_in t.index (node_slots nodes') k)
@@ -94,13 +94,13 @@ pub record LineWritten (t : RoadMap) (nodes' : NodeSlots) (lines' : SlotMap Line
   pub put : (side : Side) → IsPut (old side) (new side) x (option_map (seen side (node_slot t.index)) w)
 
 -- the tables after a change of a line are tables, and the change was made
-pub record LineMade (t : RoadMap) (nodes' : NodeSlots) (lines' : SlotMap Line) (c back : TableChange) : Type 0 where
+pub record LineMade (t : RoadMap) (nodes' : NodeSlots) (lines' : LineTable) (c back : TableChange) : Type 0 where
   pub kept : AreTables t.index (node_slots nodes') (all_held lines')
   pub made : (kept' : AreTables t.index (node_slots nodes') (all_held lines')) → node_room nodes' ≡ node_room t.nodes →
       spare_numbers t.lines ≤ spare_numbers lines' + line_puts c
       → IsChangeMade t (record { index = t.index; nodes = nodes'; lines = lines'; kept = kept' }) c back
 
-module _ {t : RoadMap} {nodes' : NodeSlots} {lines' : SlotMap Line} {x : ℕ} {ends : Line} {o w : Option Line}
+module _ {t : RoadMap} {nodes' : NodeSlots} {lines' : LineTable} {x : ℕ} {ends : Line} {o w : Option Line}
     (r : LineWritten t nodes' lines' x ends o w) where
   abbrev M : Map
   M = tables_map t
@@ -109,7 +109,7 @@ module _ {t : RoadMap} {nodes' : NodeSlots} {lines' : SlotMap Line} {x : ℕ} {e
   N = map_from t.index (node_slots nodes') (all_held lines')
 
   lines_now : (k : ℕ) → get N.lines k ≡ cond (x == k) w (get M.lines k)
-  lines_now k = grind (arith, common_steps, held_get, got_line)
+  lines_now k = grind (arith, common_steps, all_get, got_line)
 
   line_map : (F : FinMap nat_cmp Line) → ((k : ℕ) → get F k ≡ cond (x == k) w (get M.lines k)) →
       N ≡ record M { lines = F }
@@ -187,7 +187,7 @@ end_seen : (side : Side) (b : Blocks) (l : Line) (q : ℕ) (e : LineEnd) → slo
 end_seen side b l q e there is = grind (arith, common_steps, place_is)
 
 -- both lists were changed, first that of the node where the line begins
-module _ (t : RoadMap) (mid nodes' : NodeSlots) (lines' : SlotMap Line) (n x p q : ℕ) (number : n ≡ x) (ends : Line)
+module _ (t : RoadMap) (mid nodes' : NodeSlots) (lines' : LineTable) (n x p q : ℕ) (number : n ≡ x) (ends : Line)
     (here : slot_by t.index ends.from ≡ Some p) (there : slot_by t.index ends.to ≡ Some q) (e d : Option LineEnd)
     (out : IsRelinked (node_slots t.nodes) (node_slots mid) Out p (λ a b. IsPut a b x e))
     (into : IsRelinked (node_slots mid) (node_slots nodes') In q (λ a b. IsPut a b x d)) where
@@ -223,7 +223,7 @@ module _ (t : RoadMap) (mid nodes' : NodeSlots) (lines' : SlotMap Line) (n x p q
 
 -- ---- a line is added
 
-pub line_put : (t : RoadMap) (mid nodes' : NodeSlots) (lines' : SlotMap Line) (n x p q : ℕ) (number : n ≡ x) (l : Line)
+pub line_put : (t : RoadMap) (mid nodes' : NodeSlots) (lines' : LineTable) (n x p q : ℕ) (number : n ≡ x) (l : Line)
     (here : slot_by t.index l.from ≡ Some p) (there : slot_by t.index l.to ≡ Some q) (e d : LineEnd) →
     e ≡ record { node = l.to; slot = q; len = l.len } → d ≡ record { node = l.from; slot = p; len = l.len } →
     IsRelinked (node_slots t.nodes) (node_slots mid) Out p (λ a b. IsPut a b x (Some e)) →
@@ -243,7 +243,7 @@ line_put t mid nodes' lines' n x p q number l here there e d e_is d_is out into 
 
 -- ---- a line is removed, or set
 
-module _ (t : RoadMap) (mid nodes' : NodeSlots) (lines' : SlotMap Line) (n x p q : ℕ) (number : n ≡ x) (l : Line)
+module _ (t : RoadMap) (mid nodes' : NodeSlots) (lines' : LineTable) (n x p q : ℕ) (number : n ≡ x) (l : Line)
     (here : slot_by t.index (line_at (tables_map t) x).from ≡ Some p)
     (there : slot_by t.index (line_at (tables_map t) x).to ≡ Some q) (was : held t.lines n ≡ Some l) where
   -- the line with its ends, which it keeps
@@ -287,7 +287,7 @@ module _ (t : RoadMap) (mid nodes' : NodeSlots) (lines' : SlotMap Line) (n x p q
       (end_seen In t.index k p d (ap (slot_by t.index) can.whole.0 ∙ here) d_is) was put end_was
       (λ side m is. ap (near side) (sym (same_Some _ _ is)) ∙ same_ends side) in
       let now : line_at N x ≡ k =
-      record_of N x k (held_get lines' x ∙ r.now x ∙ cond-true (x == x) (Some k) (held t.lines x) (eq-eqb x x refl)) in
+      record_of N x k (all_get lines'.by_number.entries x ∙ r.now x ∙ cond-true (x == x) (Some k) (held t.lines x) (eq-eqb x x refl)) in
       let back : (side : Side) → near side l ≡ near side (line_at N x) =
       λ side. ap (near side) (sym end) ∙ sym (same_ends side) ∙ ap (near side) (sym now) in
       line_made r (SetLine x k) (SetLine x l) can

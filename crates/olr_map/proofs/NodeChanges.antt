@@ -16,8 +16,7 @@ use Rattle.olr_map.specs.Linked.{IsBare, EmptyLinks, lines_kept}
 use Rattle.olr_map.specs.declared.links.Links.TheVariants.{Inline, Spilled}
 use Rattle.olr_map.proofs.ColumnLemmas.{few_nodes}
 use Rattle.olr_map.proofs.Insertions.{eqb_flip, over_cond, unchanged_at, got_insert, got_remove, same_answers}
-use Rattle.olr_map.proofs.SlotMapLemmas.{slot_if}
-use Rattle.olr_map.proofs.Indexing.{id_of, place_of, id_is, node_was, written_node, written_indexed}
+use Rattle.olr_map.proofs.Indexing.{id_of, place_of, slot_if, id_is, node_was, written_node, written_indexed}
 use Rattle.olr_map.proofs.Listing.{absent_lines, unused_lines, far_there, far_unused, replaced}
 use Rattle.olr_map.proofs.LineRecords.{record_of, other_node}
 use Rattle.olr_map.proofs.Reading.{got_node, kept_from, not_found, slot_of, node_read, listed_at}

@@ -15,7 +15,6 @@ use Rattle.olr_map.proofs.Blocking.{listed_found}
 use Rattle.olr_map.proofs.SlotLemmas.{holds_within}
 use Rattle.olr_map.proofs.Indexing.{id_of, place_of, entry_of, one_node}
 use Rattle.olr_map.proofs.Listing.{absent_lines}
-use Rattle.olr_map.proofs.SlotMapLemmas.{held_get}
 
 or_there : {X Y : Type 0} (f : X → Y) (d : Y) (o : Option X) (x : X) → o ≡ Some x →
     Some (option_map_or f o d) ≡ option_map f o
@@ -99,7 +98,7 @@ module _ (t : RoadMap) where
   M = tables_map t
 
   pub got_line : (x : ℕ) → get M.lines x ≡ held t.lines x
-  got_line x = held_get t.lines x
+  got_line x = all_get t.lines.by_number.entries x
 
   pub line_missing : (x : ℕ) → has_line M x ≡ false → held t.lines x ≡ None
   line_missing x h = sym (got_line x) ∙ none_of (get M.lines x) h

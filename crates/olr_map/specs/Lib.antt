@@ -1,7 +1,6 @@
 pub mod Hashing
 pub mod Blocked
 pub mod SlotIndexes
-pub mod HavingSlots
 pub mod Edits
 pub mod Ends
 pub mod Linked
@@ -9,7 +8,7 @@ pub mod Slotted
 pub mod NodeLinks
 pub mod Slabs
 pub mod Columns
-pub mod SlotMaps
+pub mod LineTables
 pub mod Tables
 pub mod EditPlans
 pub mod Changes

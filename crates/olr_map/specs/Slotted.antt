@@ -1,6 +1,6 @@
 -- Values in slots, some of which are free.
 --     present es      the values, in the order of the slots
---     at es p      the content of slot p
+--     at es p, in_slot es o      the content of slot p;  of the slot, if there is one
 --     IsSlotted es free room      the free slots are listed, each once, and there is capacity to list all slots
 use Rattle.std.specs.Prelude.{◌≡◌, ◌≢◌, ℕ, ◌<◌, ◌≤◌, ◌^◌, List, [], ◌∷◌, Option, Some, None, length, slice_index}
 use Rattle.std.specs.Prelude.{slice_index_or, cond, ◌==◌, IsNone}
@@ -15,6 +15,10 @@ module _ {X : Type 0} where
 
   abbrev pub at : List (Option X) → ℕ → Option X
   at es p = slice_index_or es p None
+
+  abbrev pub in_slot : List (Option X) → Option ℕ → Option X
+  in_slot es None = None
+  in_slot es (Some p) = at es p
 
   pub record IsSlotted (es : List (Option X)) (free : List ℕ) (room : ℕ) : Type 0 where
     pub inside : (i : ℕ) → i < length free → slice_index free i < length es

@@ -15,8 +15,7 @@ use Rattle.olr_spec.specs.Map.{Map, Line, IsMap, lines_where, line_at, dm, no_co
 use Rattle.olr_map.specs.Linked.{lines_on, ends_on}
 use Rattle.olr_map.specs.SlotIndexes.{pairs_of, slot_by}
 use Rattle.olr_map.specs.Ends.{HaveSlotsApart}
-use Rattle.olr_map.specs.Slotted.{at}
-use Rattle.olr_map.specs.HavingSlots.{in_slot}
+use Rattle.olr_map.specs.Slotted.{at, in_slot}
 use Rattle.olr_map.specs.NodeLinks.{links_at}
 use Rattle.olr_map.specs.declared.blocks.Blocks.{Blocks}
 use Rattle.olr_map.specs.declared.links.Links.{Links}

@@ -14,7 +14,7 @@ impl RoadMap {
     ghost use Rattle.std.specs.Prelude.{◌≡◌, ◌↔◌, ◌+◌, ◌≤◌, IsOk, IfOk, OnOk, OnErr, Ok, Err, IsTrue};
     ghost use Rattle.olr_spec.specs.Map.{MapFault, edited};
     ghost use Rattle.olr_map.specs.SlotIndexes.{spare_of};
-    ghost use Rattle.olr_map.specs.SlotMaps.{spare_numbers};
+    ghost use Rattle.olr_map.specs.LineTables.{spare_numbers};
     ghost use Rattle.olr_map.specs.RoadMaps.{map_of, slot_of, CanUndo, map_undone, CanUndoAll, map_before};
     ghost use Rattle.olr_map.specs.EditPlans.{IsEditPlan, AreEnds, AreSlots};
     ghost use Rattle.olr_map.specs.Edits.{edit_of, edit_fault_of, allocates};

@@ -1,15 +1,15 @@
 //! The road map: nodes and lines are found by hash.
 ghost use Rattle.std.specs.Prelude.{◌≡◌};
-ghost use Rattle.olr_map.specs.SlotMaps.{all_held};
+ghost use Rattle.olr_map.specs.LineTables.{all_held};
 ghost use Rattle.olr_map.specs.Columns.{node_slots};
 ghost use Rattle.olr_map.specs.Tables.{AreTables, AreTables-prop};
 
 use crate::blocks::Blocks;
 use crate::ids::{LineId, NodeId};
 use crate::line::Line;
+use crate::line_table::LineTable;
 use crate::links::Links;
 use crate::read::{LineEnd, MapRead};
-use crate::slot_map::SlotMap;
 use crate::slots::{NodeSlots, Side};
 use crate::undo::{Undo, UndoLog};
 use olr_coords::Coord;
@@ -21,7 +21,7 @@ use std::alloc::Global;
 pub struct RoadMap {
     pub(crate) index: Blocks,
     pub(crate) nodes: NodeSlots,
-    pub(crate) lines: SlotMap<Line>,
+    pub(crate) lines: LineTable,
     pub ghost kept: { AreTables index (node_slots nodes) (all_held lines) } by { AreTables-prop index (node_slots nodes) (all_held lines) },
 }
 
@@ -106,7 +106,7 @@ impl RoadMap {
         RoadMap {
             index: Blocks::new(alloc),
             nodes: NodeSlots::new(alloc),
-            lines: SlotMap::new(alloc),
+            lines: LineTable::new(alloc),
         }
     }
 

@@ -1,0 +1,84 @@
+//! The lines by number.
+ghost use Rattle.std.specs.Prelude.{◌≡◌, ◌==◌, ◌+◌, ◌≤◌, ◌<◌, ℕ, [], cond, Some, None, IsSome, OnOk};
+ghost use Rattle.std.specs.Option.{option_copied};
+
+use crate::line::Line;
+use crate::number_hash::NumberHasher;
+use std::alloc::{AllocError, Global};
+use std::collections::HashMap;
+use std::hash::BuildHasherDefault;
+use std::mem;
+
+/// Lines by number, at most one for each.
+#[derive(Drop)]
+pub struct LineTable {
+    pub by_number: HashMap<u32, Line, BuildHasherDefault<NumberHasher>>,
+}
+
+impl LineTable {
+    ghost use Rattle.olr_map.specs.LineTables.{held, spare_numbers};
+
+    /// No lines. Does not allocate.
+    pub fn new(alloc: Global) -> LineTable
+        ensures { result.by_number.entries ≡ [] }
+    {
+        LineTable {
+            by_number: HashMap::with_hasher(alloc, BuildHasherDefault::new()),
+        }
+    }
+
+    /// The line with this number.
+    pub fn get(&self, number: u32) -> Option<&Line>
+        ensures { option_copied result ≡ held self.now number }
+    {
+        self.by_number.get(&number)
+    }
+
+    /// Reserves capacity for `additional` more lines.
+    pub fn reserve(&mut self, additional: usize) -> Result<(), AllocError>
+        ensures same { (k : ℕ) → held self.new k ≡ held self.old k }
+        ensures more { spare_numbers self.old ≤ spare_numbers self.new }
+        ensures room { OnOk result (additional ≤ spare_numbers self.new) }
+    {
+        self.by_number.reserve(additional)
+    }
+
+    /// Inserts a line under a number that has none. Capacity for it is reserved.
+    pub fn put(&mut self, number: u32, line: Line)
+        requires absent { held self.old number ≡ None }
+        requires room { 0 < spare_numbers self.old }
+        ensures put { (k : ℕ) → held self.new k ≡ cond (number == k) (Some line) (held self.old k) }
+        ensures spare { spare_numbers self.old ≤ spare_numbers self.new + 1 }
+    {
+        match self.by_number.insert(number, line) {
+            Ok(_) => {}
+            Err(_) => unreachable!(),
+        }
+    }
+
+    /// Replaces the line with this number, and returns the previous one.
+    pub fn replace(&mut self, number: u32, line: Line) -> Line
+        requires { IsSome (held self.old number) }
+        ensures was { held self.old number ≡ Some result }
+        ensures put { (k : ℕ) → held self.new k ≡ cond (number == k) (Some line) (held self.old k) }
+        ensures spare { spare_numbers self.old ≤ spare_numbers self.new }
+    {
+        match self.by_number.get_mut(&number) {
+            Some(place) => mem::replace(place, line),
+            None => unreachable!(),
+        }
+    }
+
+    /// Removes the line with this number, and returns it.
+    pub fn take(&mut self, number: u32) -> Line
+        requires { IsSome (held self.old number) }
+        ensures was { held self.old number ≡ Some result }
+        ensures taken { (k : ℕ) → held self.new k ≡ cond (number == k) None (held self.old k) }
+        ensures spare { spare_numbers self.old ≤ spare_numbers self.new }
+    {
+        match self.by_number.remove(&number) {
+            Some(line) => line,
+            None => unreachable!(),
+        }
+    }
+}
