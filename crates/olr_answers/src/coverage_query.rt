@@ -1,6 +1,6 @@
 //! Coverage queries.
 
-use olr_map::NodeId;
+use olr_roads::NodeId;
 use std::marker::Model;
 
 /// A coverage query: a search of an encoding, which finds how far the lines after an LRP are the unique shortest path.

@@ -8,7 +8,7 @@ ghost use Rattle.olr_bearing.specs.Ranges.{IsFactor, IsInRange, IsPart, IsWithin
 use crate::places::{Ends, Scaled, place};
 use crate::sectors::sector;
 use olr_coords::Coord;
-use olr_map::Line;
+use olr_roads::Line;
 
 /// BEARDIST, the length of a line over which its bearing is taken, in decimetres.
 const BEARING_DISTANCE: u32 = 200;

@@ -14,7 +14,7 @@ use Rattle.olr_spec.specs.Extension.{Path}
 use Rattle.olr_spec.specs.Reference.{Reference}
 use Rattle.olr_spec.specs.Encoding.{Answer, Points, Refused, Refusal, Encodes}
 use Rattle.olr_spec.specs.Bytes.{HasBytes}
-use Rattle.olr_map.specs.Edits.{allocates}
+use Rattle.olr_roads.specs.Edits.{allocates}
 use Rattle.olr_binary.specs.Text.{text_of}
 use Rattle.olr_commands.specs.State.{Named, Content, path_named, Fault, Syntax, Range, Map_fault, Path_exists, No_path}
 use Rattle.olr_commands.specs.State.{Bad_path, Not_a_reference, Memory, Batch_open, No_batch, Count_differs, Batch_full}

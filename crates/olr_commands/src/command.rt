@@ -1,6 +1,6 @@
 //! Commands to a register of named paths.
 
-use olr_map::{Edit, LineId};
+use olr_roads::{Edit, LineId};
 
 /// A command. In records a name has 1 to 64 bytes; here it may be any text.
 #[derive(Drop, Debug)]

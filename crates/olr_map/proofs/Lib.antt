@@ -15,7 +15,6 @@ pub mod Verdicts
 pub mod NodeChanges
 pub mod LineChanges
 pub mod Capacity
-pub mod Merging
 pub mod Using
 pub mod Sizes
 pub mod Log

@@ -9,7 +9,7 @@ use Rattle.std.proofs.lemmas.Bool.{or_from, not_from_true}
 use Rattle.std.proofs.lemmas.List.{length-map}
 use Rattle.olr_spec.specs.Map.{lines_in, Drop_node}
 use Rattle.olr_spec.proofs.UndoLemmas.{unless_false}
-use Rattle.olr_map.specs.Ends.{end_in, end_out}
+use Rattle.olr_roads.specs.Ends.{end_in, end_out}
 use Rattle.olr_map.proofs.LineRecords.{used_by, unused_by}
 
 -- a line with an end at the node uses it

@@ -7,11 +7,11 @@ use Rattle.std.proofs.Common.{MatchResult}
 use Rattle.std.specs.Option.{option_to_list}
 use Rattle.olr_spec.specs.Map.{MapFault, Node_exists, No_node, Line_exists, No_line, Bad_shape, touched_nodes}
 use Rattle.olr_spec.specs.Detours.{ChangedLine, changes_of}
-use Rattle.olr_map.specs.Edits.{edit_fault_of}
+use Rattle.olr_roads.specs.Edits.{edit_fault_of}
 use Rattle.olr_map.specs.EditPlans.{IsEditPlan}
-use Rattle.olr_map.specs.declared.edit.EditFault.{EditFault}
-use Rattle.olr_map.specs.declared.edit.EditFault.TheVariants.{NodeExists, NoNode, LineExists, NoLine, NodeInUse}
-use Rattle.olr_map.specs.declared.edit.EditFault.TheVariants.{BadShape, Memory}
+use Rattle.olr_roads.specs.declared.edit.EditFault.{EditFault}
+use Rattle.olr_roads.specs.declared.edit.EditFault.TheVariants.{NodeExists, NoNode, LineExists, NoLine, NodeInUse}
+use Rattle.olr_roads.specs.declared.edit.EditFault.TheVariants.{BadShape, Memory}
 use Rattle.olr_map.specs.declared.judging.EditPlan.{EditPlan}
 use Rattle.olr_map.proofs.Making.{made_from}
 use Rattle.olr_map.proofs.Reading.{slot_is}

@@ -1,8 +1,5 @@
-pub mod Hashing
 pub mod Blocked
 pub mod SlotIndexes
-pub mod Edits
-pub mod Ends
 pub mod Linked
 pub mod Slotted
 pub mod NodeLinks

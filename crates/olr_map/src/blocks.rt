@@ -5,7 +5,7 @@ ghost use Rattle.std.specs.Map.{keys_of};
 ghost use Rattle.olr_map.specs.Blocked.{AreUsed, AreUsed-prop};
 
 use crate::block::{BLOCK_LEN, Block};
-use crate::number_hash::NumberHasher;
+use olr_roads::NumberHasher;
 use std::alloc::{AllocError, Global};
 use std::collections::HashMap;
 use std::hash::BuildHasherDefault;

@@ -1,9 +1,8 @@
 //! Changes of the tables of a map. Each is undone by another change, so that the undo of an edit is a change as well.
 
-use crate::ids::{LineId, NodeId};
-use crate::line::Line;
 use crate::links::EmptyLinks;
 use olr_coords::Coord;
+use olr_roads::{Line, LineId, NodeId};
 
 /// A change of the tables.
 #[derive(Drop)]

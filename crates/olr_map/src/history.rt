@@ -1,13 +1,11 @@
 //! Edits of a road map, and their undo records.
 
 use crate::change::TableChange;
-use crate::edit::{Edit, EditFault};
-use crate::ids::NodeId;
 use crate::judging::{EditPlan, judge};
-use crate::line::Line;
 use crate::road_map::RoadMap;
 use crate::slots::Side;
 use crate::undo::{Undo, UndoLog};
+use olr_roads::{Edit, EditFault, Line, NodeId};
 use std::alloc::AllocError;
 
 impl RoadMap {
@@ -17,7 +15,7 @@ impl RoadMap {
     ghost use Rattle.olr_map.specs.LineTables.{spare_numbers};
     ghost use Rattle.olr_map.specs.RoadMaps.{map_of, slot_of, CanUndo, map_undone, CanUndoAll, map_before};
     ghost use Rattle.olr_map.specs.EditPlans.{IsEditPlan, AreEnds, AreSlots};
-    ghost use Rattle.olr_map.specs.Edits.{edit_of, edit_fault_of, allocates};
+    ghost use Rattle.olr_roads.specs.Edits.{edit_of, edit_fault_of, allocates};
     ghost use Rattle.olr_map.specs.Changes.{tables_map, room_of, change_edit, node_puts, line_puts, node_numbers};
     ghost use Rattle.olr_map.specs.Changes.{line_numbers, HasRoomFor, HasNumbers, IsWhole, IsRoomWithin, CanMake, IsReserved};
     ghost use Rattle.olr_map.specs.Changes.{IsChangeMade, map_after, room_after};

@@ -3,8 +3,7 @@ ghost use Rattle.std.specs.Prelude.{◌≡◌, ◌+◌, ◌-◌, ◌<◌, ◌≤
 ghost use Rattle.std.specs.Prelude.{slice_range};
 ghost use Rattle.std.specs.List.{remove_range};
 
-use crate::ids::LineId;
-use crate::read::LineEnd;
+use olr_roads::{LineEnd, LineId};
 
 /// How many lines fit in the value.
 pub const INLINE: usize = 4;

@@ -2,8 +2,7 @@
 ghost use Rattle.std.specs.Prelude.{◌≡◌, ◌==◌, ◌+◌, ◌≤◌, ◌<◌, ℕ, [], cond, Some, None, IsSome, OnOk};
 ghost use Rattle.std.specs.Option.{option_copied};
 
-use crate::line::Line;
-use crate::number_hash::NumberHasher;
+use olr_roads::{Line, NumberHasher};
 use std::alloc::{AllocError, Global};
 use std::collections::HashMap;
 use std::hash::BuildHasherDefault;

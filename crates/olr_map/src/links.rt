@@ -3,9 +3,8 @@ ghost use Rattle.std.specs.Prelude.{◌≡◌, ◌+◌, ◌<◌, ◌≤◌, [], 
 ghost use Rattle.std.specs.List.Sorted.{IsStrictlyIncreasing};
 ghost use Rattle.olr_spec.specs.Map.{has};
 
-use crate::ids::LineId;
 use crate::inline::{INLINE, Inline};
-use crate::read::LineEnd;
+use olr_roads::{LineEnd, LineId};
 use std::alloc::{AllocError, Global};
 
 /// The numbers of lines in ascending order, and the far end of each.

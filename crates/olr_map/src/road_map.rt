@@ -5,14 +5,12 @@ ghost use Rattle.olr_map.specs.Columns.{node_slots};
 ghost use Rattle.olr_map.specs.Tables.{AreTables, AreTables-prop};
 
 use crate::blocks::Blocks;
-use crate::ids::{LineId, NodeId};
-use crate::line::Line;
 use crate::line_table::LineTable;
 use crate::links::Links;
-use crate::read::{LineEnd, MapRead};
 use crate::slots::{NodeSlots, Side};
 use crate::undo::{Undo, UndoLog};
 use olr_coords::Coord;
+use olr_roads::{Line, LineEnd, LineId, MapRead, NodeId};
 use std::alloc::Global;
 
 /// A road map. The time of a read or an edit depends neither on the order of node and line numbers nor on gaps in them.

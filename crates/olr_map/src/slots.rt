@@ -5,11 +5,10 @@ ghost use Rattle.olr_map.specs.Slotted.{present, at};
 ghost use Rattle.std.specs.List.Sorted.{IsStrictlyIncreasing};
 ghost use Rattle.std.specs.Vec.{vec_capacity};
 
-use crate::ids::{LineId, NodeId};
 use crate::links::Links;
-use crate::read::LineEnd;
 use crate::slab::Slab;
 use olr_coords::Coord;
+use olr_roads::{LineEnd, LineId, NodeId};
 use std::alloc::{AllocError, Global};
 use std::mem;
 

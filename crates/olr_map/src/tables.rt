@@ -2,13 +2,11 @@
 ghost use Rattle.std.specs.Prelude.{◌≡◌};
 
 use crate::change::TableChange;
-use crate::ids::{LineId, NodeId};
-use crate::line::Line;
 use crate::links::{EmptyLinks, Links};
-use crate::read::{LineEnd, MapRead};
 use crate::road_map::RoadMap;
 use crate::slots::{NodeEntry, Side};
 use olr_coords::Coord;
+use olr_roads::{Line, LineEnd, LineId, MapRead, NodeId};
 use std::alloc::{AllocError, Global};
 
 impl RoadMap {

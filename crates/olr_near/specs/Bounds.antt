@@ -25,7 +25,7 @@ use Rattle.std.specs.BinaryHeap.{heap_items, heap_len}
 use Rattle.olr_spec.specs.Map.{Map, has_line, start, end, dm, SameRound, has}
 use Rattle.olr_spec.specs.Routes.{IsRoute, dm_of}
 use Rattle.olr_spec.specs.Extension.{limit}
-use Rattle.olr_map.specs.declared.number_hash.NumberHasher.{NumberHasher}
+use Rattle.olr_roads.specs.declared.number_hash.NumberHasher.{NumberHasher}
 use Rattle.olr_near.specs.declared.distance_bounds.DistanceBounds.{DistanceBounds}
 
 abbrev pub Numbers : Type 0

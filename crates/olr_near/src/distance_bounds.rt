@@ -2,7 +2,7 @@
 ghost use Rattle.std.specs.Prelude.{◌<◌, ◌^◌, ℕ, IsSome, nat_eq};
 ghost use Rattle.std.specs.HashMap.{get};
 
-use olr_map::{MapRead, NodeId, NumberHasher};
+use olr_roads::{MapRead, NodeId, NumberHasher};
 use olr_search::{Bounds, GREATEST_LIMIT};
 use std::alloc::{AllocError, Global};
 use std::cmp::Reverse;

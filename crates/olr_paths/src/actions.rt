@@ -13,8 +13,8 @@ use crate::detours::{Detours, are_clear, are_few};
 use crate::published::Published;
 use crate::searches::Searches;
 use crate::showing::PathView;
-use olr_map::MapRead;
 use olr_refs::Path;
+use olr_roads::MapRead;
 use std::alloc::AllocError;
 
 /// The action for a path.

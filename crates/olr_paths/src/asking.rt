@@ -25,9 +25,9 @@ use crate::overlaid_list::OverlaidList;
 use crate::path_list::PathList;
 use crate::published::Published;
 use crate::searches::Searches;
-use olr_map::{Footprint, LineId, MapRead, NodeId};
 use olr_near::DistanceBounds;
 use olr_refs::Path;
+use olr_roads::{Footprint, LineId, MapRead, NodeId};
 use olr_search::{Dijkstra, Direction, GREATEST_LIMIT};
 use std::alloc::{AllocError, Global};
 

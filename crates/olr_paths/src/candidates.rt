@@ -15,7 +15,7 @@ use crate::overlaid_list::OverlaidList;
 use crate::path_list::PathList;
 use crate::searches::Searches;
 use olr_index::Index;
-use olr_map::MapRead;
+use olr_roads::MapRead;
 use std::alloc::{AllocError, Global};
 
 /// The position of the path with this id, by binary search.

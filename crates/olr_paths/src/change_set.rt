@@ -3,7 +3,7 @@ ghost use Rattle.std.specs.Prelude.{◌≡◌, ◌==◌, ◌||◌, ◌+◌, ◌�
 ghost use Rattle.std.specs.List.Sorted.{IsStrictlyIncreasing};
 ghost use Rattle.olr_spec.specs.Map.{has};
 
-use olr_map::{LineId, NodeId};
+use olr_roads::{LineId, NodeId};
 use std::alloc::{AllocError, Global};
 
 /// Where a changed line begins and ends, and its length in decimetres: the lesser of the lengths before and after, or

@@ -7,8 +7,8 @@ ghost use Rattle.olr_paths.specs.Changes.{IsKnownClear};
 ghost use Rattle.std.specs.Prelude.{All};
 
 use crate::change_set::ChangeSet;
-use olr_map::{MapRead, NodeId};
 use olr_refs::{CoverageQuery, KnownQuery};
+use olr_roads::{MapRead, NodeId};
 use olr_search::{Dijkstra, Direction, GREATEST_LIMIT};
 use std::alloc::{AllocError, Global};
 

@@ -12,8 +12,8 @@ ghost use Rattle.olr_paths.specs.Changes.{AreCounts, AreSearched};
 
 use crate::published::Published;
 use olr_binary::text::to_text;
-use olr_map::MapRead;
 use olr_refs::{Answer, Encoding, KnownQuery, Path, encode_again};
+use olr_roads::MapRead;
 use olr_search::{Dijkstra, Work};
 use std::alloc::{AllocError, Global};
 

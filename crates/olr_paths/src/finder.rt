@@ -8,8 +8,8 @@ ghost use Rattle.olr_paths.specs.Finding.{TraversedNoted, FromNoted, KeepsAll, K
 use crate::numbered::Numbered;
 use crate::published::Published;
 use olr_index::Index;
-use olr_map::{LineId, NodeId};
 use olr_refs::CoverageQuery;
+use olr_roads::{LineId, NodeId};
 use std::alloc::{AllocError, Global};
 
 /// The path ids by the numbers of traversed nodes, of nodes where coverage queries begin, and of lines. It may have

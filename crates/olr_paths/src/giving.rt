@@ -18,8 +18,8 @@ use crate::published::Published;
 use crate::renewal::push_if_changed;
 use crate::searches::Searches;
 use olr_commands::Entry;
-use olr_map::MapRead;
 use olr_refs::Path;
+use olr_roads::MapRead;
 use olr_search::Work;
 use std::alloc::{AllocError, Global};
 

@@ -1,8 +1,8 @@
 //! What an index finds paths by.
 ghost use Rattle.std.specs.Prelude.{◌≡◌, ℕ};
 
-use olr_map::{LineId, NodeId};
 use olr_refs::CoverageQuery;
+use olr_roads::{LineId, NodeId};
 use olr_search::Reached;
 
 /// What has a number in an index.

@@ -8,8 +8,8 @@ ghost use Rattle.olr_paths.specs.Finding.{Spares};
 use crate::finder::Finder;
 use crate::published::Published;
 use indexmap::IndexMap;
-use olr_map::LineId;
 use olr_refs::Path;
+use olr_roads::LineId;
 use std::alloc::{AllocError, Global};
 use std::rc::Rc;
 

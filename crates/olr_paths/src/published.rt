@@ -5,8 +5,8 @@ ghost use Rattle.olr_answers.specs.Answers.{answer_of};
 ghost use Rattle.olr_commands.specs.Reply.{published_text};
 
 use olr_commands::Entry;
-use olr_map::Footprint;
 use olr_refs::{Answer, CoverageQuery, KnownQuery};
+use olr_roads::Footprint;
 use std::alloc::{AllocError, Global};
 
 /// A path's answer, its text, its traversed nodes, its coverage queries, and those along its own lines.

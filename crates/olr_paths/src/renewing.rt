@@ -19,8 +19,8 @@ use crate::positions::put_in;
 use crate::renewal::{Renewal, renewal_of};
 use crate::searches::Searches;
 use olr_commands::Entry;
-use olr_map::MapRead;
 use olr_near::DistanceBounds;
+use olr_roads::MapRead;
 use olr_search::Work;
 use std::alloc::{AllocError, Global};
 

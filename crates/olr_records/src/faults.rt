@@ -6,7 +6,7 @@ ghost use Rattle.olr_records.specs.Words.{read_fault_of};
 
 use olr_binary::{TextFault, V3Fault};
 use olr_commands::CommandFault;
-use olr_map::EditFault;
+use olr_roads::EditFault;
 use std::alloc::{AllocError, AllocFailed};
 use thiserror::Error;
 

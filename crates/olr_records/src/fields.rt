@@ -16,7 +16,7 @@ use crate::parts::both;
 use csv::ByteRecord;
 use olr_commands::is_name;
 use olr_coords::{Coord, CoordFault, read_degrees};
-use olr_map::{LineId, NodeId, Shape};
+use olr_roads::{LineId, NodeId, Shape};
 use std::alloc::Global;
 
 /// The greatest functional road class (FRC), and the greatest form of way (FOW).

@@ -11,7 +11,7 @@ use crate::fields::{amount, field, line_id, name};
 use crate::parts::{both, room, with_item};
 use csv::ByteRecord;
 use olr_commands::Command;
-use olr_map::LineId;
+use olr_roads::LineId;
 use std::alloc::Global;
 
 /// A path: all fields after the first. Returns its name, its lines, and its positive and negative offset in decimetres.

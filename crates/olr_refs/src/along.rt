@@ -12,7 +12,7 @@ ghost use Rattle.olr_refs.specs.ResolvedPaths.{AreJoined-prop, AreRecords-prop, 
 
 use crate::resolved::ResolvedLine;
 use olr_coords::Coord;
-use olr_map::{Line, LineId, MapRead, NodeId};
+use olr_roads::{Line, LineId, MapRead, NodeId};
 use std::alloc::{AllocError, Global};
 
 /// Joined lines of a map, each of which ends where the next begins, as the map has them, with the distances of their

@@ -10,7 +10,7 @@ ghost use Rattle.olr_refs.specs.Along.{IsFar, IsLastWithinLimit, IsReach};
 use crate::along::ResolvedPath;
 use crate::nodes::passing;
 use olr_coords::{Coord, rel16};
-use olr_map::MapRead;
+use olr_roads::MapRead;
 use olr_search::GREATEST_LIMIT;
 
 /// The last position, from `i` on, that is at most 150,000 dm from position `i`.

@@ -14,7 +14,7 @@ use crate::choice::{last_within_limit, next_of};
 use crate::reach::{Tested, covered_to};
 use crate::reuse::{Reuse, known_after, own_query, query_of, reach_by};
 use olr_answers::{CoverageQuery, KnownQuery};
-use olr_map::{Footprint, MapRead};
+use olr_roads::{Footprint, MapRead};
 use olr_search::{Dijkstra, Direction, Work};
 use std::alloc::{AllocError, Global};
 

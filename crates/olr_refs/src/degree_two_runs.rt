@@ -12,7 +12,7 @@ use crate::line_set::LineSet;
 use crate::lines::far_end_of;
 use crate::nodes::passing;
 use crate::resolved::{ResolvedLine, record_of};
-use olr_map::{LineId, MapRead, NodeId};
+use olr_roads::{LineId, MapRead, NodeId};
 use olr_search::{Direction, GREATEST_LIMIT};
 use std::alloc::{AllocError, Global};
 

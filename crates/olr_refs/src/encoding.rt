@@ -22,7 +22,7 @@ use crate::reference::reference_of;
 use crate::resolved::ResolvedLine;
 use crate::reuse::Reuse;
 use olr_answers::{Answer, CoverageQuery, KnownQuery, Path, Refusal};
-use olr_map::{Footprint, MapRead};
+use olr_roads::{Footprint, MapRead};
 use olr_search::{Dijkstra, Work};
 use std::alloc::{AllocError, Global};
 

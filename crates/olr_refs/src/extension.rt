@@ -10,7 +10,7 @@ ghost use Rattle.olr_refs.specs.ResolvedLines.{records_of};
 use crate::degree_two_runs::longest_run;
 use crate::resolved::{ResolvedLine, ids_of};
 use olr_answers::Path;
-use olr_map::{Footprint, LineId, MapRead, NodeId};
+use olr_roads::{Footprint, LineId, MapRead, NodeId};
 use olr_search::Direction;
 use std::alloc::{AllocError, Global};
 use std::marker::Model;

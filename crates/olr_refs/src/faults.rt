@@ -9,7 +9,7 @@ ghost use Rattle.olr_refs.specs.ResolvedLines.{records_of};
 use crate::along::distances;
 use crate::resolved::{ResolvedLine, resolve};
 use olr_answers::{Path, Refusal};
-use olr_map::MapRead;
+use olr_roads::MapRead;
 use std::alloc::{AllocError, Global};
 
 /// A path's own lines as the map has them, or the first of reasons 1 to 3 that holds for the path.

@@ -16,7 +16,7 @@ use crate::resolved::ResolvedLine;
 use olr_bearing::{Ends, bearing_back, bearing_out};
 use olr_binary::{Attrs, First, Last, Middle};
 use olr_coords::{Coord, abs24, rel16};
-use olr_map::{Line, MapRead};
+use olr_roads::{Line, MapRead};
 use std::alloc::{AllocError, Global};
 
 /// One step of the distance to the next point (DNP), in decimetres: 58.6 m.

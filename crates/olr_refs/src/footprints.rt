@@ -12,7 +12,7 @@ ghost use Rattle.olr_refs.specs.Referring.{JoinsOf, SearchesOf};
 
 use crate::encoding::encode_noting;
 use olr_answers::{Answer, Path};
-use olr_map::{Footprint, MapRead};
+use olr_roads::{Footprint, MapRead};
 use olr_search::{Dijkstra, Work};
 use std::alloc::{AllocError, Global};
 

@@ -4,7 +4,7 @@ ghost use Rattle.olr_spec.specs.Map.{has};
 ghost use Rattle.olr_refs.specs.ResolvedLines.{ids};
 
 use crate::resolved::{ResolvedLine, ids_of};
-use olr_map::LineId;
+use olr_roads::LineId;
 use std::alloc::{AllocError, Global};
 use std::marker::Model;
 

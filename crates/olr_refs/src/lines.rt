@@ -3,7 +3,7 @@ ghost use Rattle.std.specs.Prelude.{◌≡◌, IsTrue};
 ghost use Rattle.olr_spec.specs.Map.{has_line};
 ghost use Rattle.olr_search.specs.Distances.{far_end};
 
-use olr_map::{LineId, MapRead, NodeId};
+use olr_roads::{LineId, MapRead, NodeId};
 use olr_search::Direction;
 
 /// The node to which a line of the map leads in this direction: along it, where it ends, and against it, where it begins.

@@ -3,7 +3,7 @@ ghost use Rattle.std.specs.Prelude.{◌≡◌};
 ghost use Rattle.olr_spec.specs.Extension.{passing, apart};
 
 use crate::lines::far_end_of;
-use olr_map::{MapRead, NodeId};
+use olr_roads::{MapRead, NodeId};
 use olr_search::Direction;
 
 /// Whether a node is a degree-two node: its lines have exactly two other ends, which differ from each other and from

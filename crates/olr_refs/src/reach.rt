@@ -9,7 +9,7 @@ ghost use Rattle.olr_search.specs.Searches.{IsSearch, limit_of};
 ghost use Rattle.olr_refs.specs.Along.{IsFar, IsReach};
 
 use crate::along::ResolvedPath;
-use olr_map::MapRead;
+use olr_roads::MapRead;
 use olr_search::Dijkstra;
 use std::alloc::AllocError;
 

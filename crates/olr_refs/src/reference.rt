@@ -11,7 +11,7 @@ use crate::along::ResolvedPath;
 use crate::fields::{first_point, last_point, middle_points, offset};
 use crate::trim::trim;
 use olr_binary::Reference;
-use olr_map::MapRead;
+use olr_roads::MapRead;
 use std::alloc::{AllocError, Global};
 
 /// The reference of the remaining LRPs, at least two, with the remainders of the offsets, in decimetres: less than the

@@ -4,7 +4,7 @@ ghost use Rattle.olr_spec.specs.Map.{has_line};
 ghost use Rattle.olr_spec.specs.Encoding.{first_unknown};
 ghost use Rattle.olr_refs.specs.ResolvedLines.{record_of, records_of, ids};
 
-use olr_map::{LineId, MapRead, NodeId};
+use olr_roads::{LineId, MapRead, NodeId};
 use std::alloc::{AllocError, Global};
 use std::marker::Model;
 

@@ -8,7 +8,7 @@ ghost use Rattle.olr_refs.specs.Reuse.{Reuses, known_reach};
 use crate::along::ResolvedPath;
 use crate::reach::Tested;
 use olr_answers::{CoverageQuery, KnownQuery};
-use olr_map::MapRead;
+use olr_roads::MapRead;
 
 /// What is known of a path's coverage queries, and where its own lines lie on the extended path.
 #[derive(Clone, Copy)]

@@ -19,7 +19,7 @@ pub use Rattle.olr_commands.specs.declared.fault.CommandFault.{CommandFault}
 pub use Rattle.olr_commands.specs.declared.fault.CommandFault.TheVariants.{Memory as No_memory}
 pub use Rattle.olr_commands.specs.declared.reply.Entry.{Entry}
 pub use Rattle.olr_commands.specs.declared.reply.Reply.{Reply}
-pub use Rattle.olr_map.specs.Edits.{edit_of}
+pub use Rattle.olr_roads.specs.Edits.{edit_of}
 pub use Rattle.olr_map.specs.RoadMaps.{map_before, map_of}
 pub use Rattle.olr_map.specs.declared.judging.EditPlan.{EditPlan}
 pub use Rattle.olr_map.specs.declared.road_map.RoadMap.{RoadMap}

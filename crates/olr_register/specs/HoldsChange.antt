@@ -10,7 +10,7 @@ use Rattle.std.specs.Result.{IfOk, IfErr}
 use Rattle.std.specs.List.{list_any, AllByRecursion}
 use Rattle.olr_spec.specs.Map.{has}
 use Rattle.olr_spec.specs.Extension.{Path}
-use Rattle.olr_map.specs.Edits.{edit_of}
+use Rattle.olr_roads.specs.Edits.{edit_of}
 use Rattle.olr_map.specs.RoadMaps.{map_of, map_before}
 use Rattle.olr_map.specs.declared.road_map.RoadMap.{RoadMap}
 use Rattle.olr_commands.specs.State as state

@@ -25,7 +25,7 @@ pub struct Batch {
 
 impl Batch {
     ghost use Rattle.std.specs.Prelude.{◌≡◌, List, nat_le, string_bytes};
-    ghost use Rattle.olr_map.specs.Edits.{edit_of};
+    ghost use Rattle.olr_roads.specs.Edits.{edit_of};
     ghost use Rattle.olr_map.specs.RoadMaps.{CanUndoAll};
     ghost use Rattle.olr_map.specs.declared.road_map.RoadMap.{RoadMap as Roads};
     ghost use Rattle.olr_commands.specs.State.{On_map, Add_path, Set_path, Drop_path, full, NamesDiffer};

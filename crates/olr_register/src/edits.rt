@@ -39,7 +39,7 @@ fn note_alone(touched: &mut ChangeSet, plan: &EditPlan) -> Result<(), AllocError
 
 impl Register {
     ghost use Rattle.std.specs.Prelude.{◌≡◌, None};
-    ghost use Rattle.olr_map.specs.Edits.{edit_of};
+    ghost use Rattle.olr_roads.specs.Edits.{edit_of};
     ghost use Rattle.olr_commands.specs.State.{Make, On_map};
     ghost use Rattle.olr_register.specs.Answering.{Answered};
 

@@ -1,5 +1,5 @@
 -- The names that most proofs of olr_search cite, passed on from one place. Declares nothing.
-pub use Rattle.olr_map.specs.declared.read.LineEnd.{LineEnd}
+pub use Rattle.olr_roads.specs.declared.read.LineEnd.{LineEnd}
 pub use Rattle.olr_search.specs.Distances.{IsDistance, Leads, Way, ends_at, far_end, lines_at, near_end}
 pub use Rattle.olr_search.specs.Frontiers.{IsAlike, IsEmpty, IsQueued, IsRelaxed, Moves, NotedOnce, frontier_len}
 pub use Rattle.olr_search.specs.Frontiers.{label_of, queued_len, to_do}

@@ -3,7 +3,7 @@ use Rattle.olr_search.proofs.Common.{◌≡◌, ℕ, ◌+◌, ◌<◌, List, [],
 use Rattle.olr_search.proofs.Common.{ap, ◌∙◌, subst, arith, length-append, get_or-map, length-map, get_or_default_zero}
 use Rattle.olr_search.proofs.Common.{Map, IsMap, has_node, has_line, dm, lines_in, IsRoute, dm_of, LineEnd, Way, Leads}
 use Rattle.olr_search.proofs.Common.{start, end, near_end, far_end, lines_at, Direction, Along, Against, map, ends_at}
-use Rattle.olr_map.specs.Ends.{end_out, end_in, ends_in}
+use Rattle.olr_roads.specs.Ends.{end_out, end_in, ends_in}
 use Rattle.olr_search.proofs.ReadLemmas.{read_at, found_at}
 use Rattle.olr_search.proofs.RouteEnds.{ends_of, dm_of-line, route_on, last_step}
 use Rattle.olr_search.proofs.RouteEnds.Ends.{empty, ended}

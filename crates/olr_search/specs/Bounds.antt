@@ -9,7 +9,7 @@ use Rattle.std.specs.Prelude.{◌≡◌, ℕ, ◌+◌, ◌≤◌, List, Option, 
 use Rattle.std.specs.declared.hash.BuildHasherDefault.{BuildHasherDefault}
 use Rattle.std.specs.HashMap.{HashMap, get}
 use Rattle.olr_spec.specs.Map.{Map, has_line, dm}
-use Rattle.olr_map.specs.declared.number_hash.NumberHasher.{NumberHasher}
+use Rattle.olr_roads.specs.declared.number_hash.NumberHasher.{NumberHasher}
 use Rattle.olr_search.specs.Distances.{near_end, far_end}
 use Rattle.olr_search.specs.Frontiers.{label_of}
 use Rattle.olr_search.specs.Searches.{IsLabelled}

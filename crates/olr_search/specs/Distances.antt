@@ -9,8 +9,8 @@
 use Rattle.std.specs.Prelude.{◌≡◌, ℕ, ◌+◌, ◌≤◌, List, Contains, IsTrue}
 use Rattle.olr_spec.specs.Map.{Map, has_node, start, end, lines_in, lines_out}
 use Rattle.olr_spec.specs.Routes.{IsRoute, dm_of}
-use Rattle.olr_map.specs.Ends.{ends_out, ends_in}
-use Rattle.olr_map.specs.declared.read.LineEnd.{LineEnd}
+use Rattle.olr_roads.specs.Ends.{ends_out, ends_in}
+use Rattle.olr_roads.specs.declared.read.LineEnd.{LineEnd}
 use Rattle.olr_search.specs.declared.distances.Direction.{Direction}
 use Rattle.olr_search.specs.declared.distances.Direction.TheVariants.{Along, Against}
 

@@ -3,7 +3,7 @@ ghost use Rattle.std.specs.Prelude.{ℕ, IsTrue, ⊤, ◌↔◌};
 ghost use Rattle.olr_search.specs.Bounds.{bound_in, IsUnder};
 
 use crate::frontier::GREATEST_LIMIT;
-use olr_map::{NodeId, NumberHasher};
+use olr_roads::{NodeId, NumberHasher};
 use std::collections::HashMap;
 use std::hash::BuildHasherDefault;
 

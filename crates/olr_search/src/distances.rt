@@ -18,7 +18,7 @@ use crate::bounds::{Anywhere, Bounds};
 use crate::frontier::{Frontier, GREATEST_LIMIT, Reached};
 use crate::lines::both_ends;
 use crate::steps::{settle, start};
-use olr_map::{LineEnd, LineId, MapRead, NodeId};
+use olr_roads::{LineEnd, LineId, MapRead, NodeId};
 use std::alloc::{AllocError, Global};
 
 /// Along the lines, or against them.

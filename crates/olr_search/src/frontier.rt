@@ -3,7 +3,7 @@ ghost use Rattle.std.specs.Prelude.{◌≡◌, ◌<◌, OnErr, OnOk};
 ghost use Rattle.olr_search.specs.Notes.{AreAllReached, AreAllReached-prop, NotesOnce};
 
 use crate::queue::Queue;
-use olr_map::NodeId;
+use olr_roads::NodeId;
 use std::alloc::{AllocError, Global};
 
 /// The greatest limit of a search, in decimetres: the greatest distance of two location reference points.

@@ -2,7 +2,7 @@
 ghost use Rattle.std.specs.Prelude.{◌≡◌, ◌↔◌, IsSome, IfSome, IsTrue};
 ghost use Rattle.olr_spec.specs.Map.{has_line, start, end, dm};
 
-use olr_map::{LineId, MapRead, NodeId};
+use olr_roads::{LineId, MapRead, NodeId};
 
 /// Where a line begins and where it ends, and its length in decimetres. None if the line is not on the map.
 pub fn both_ends<M: MapRead>(map: &M, id: LineId) -> Option<(NodeId, NodeId, u32)>

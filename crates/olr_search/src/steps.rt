@@ -9,7 +9,7 @@ ghost use Rattle.olr_search.specs.Searches.{CoversSlots, IsLabelled, IsUnderWay,
 use crate::bounds::{Admits, Anywhere};
 use crate::distances::Direction;
 use crate::frontier::{Frontier, GREATEST_LIMIT};
-use olr_map::{LineEnd, MapRead, NodeId};
+use olr_roads::{LineEnd, MapRead, NodeId};
 use std::alloc::AllocError;
 
 /// Lowers a node's label to a length in decimetres. No effect if the label is no greater, or the node may not have this

@@ -1,6 +1,6 @@
 use Rattle.std.proofs.Common.{Ok, ap, ◌∙◌, sym}
 use Rattle.olr_spec.specs.Map.{Map}
-use Rattle.olr_map.specs.Edits.{edit_of}
+use Rattle.olr_roads.specs.Edits.{edit_of}
 use Rattle.olr_map.specs.RoadMaps.{map_of}
 use Rattle.olr_paths.specs.Items.{items}
 use Rattle.olr_paths.proofs.Following.{follows_self}

@@ -1,7 +1,7 @@
 use Rattle.std.proofs.Common.{◌≡◌, ◌≤◌, ◌+◌, ◌-◌, ℕ, Option, get_or, inl, inr, sym, ◌∙◌, subst, arith}
 use borrow.Author.Count.{below_more}
 use Rattle.std.proofs.lemmas.List.{get_or_default}
-use Rattle.olr_map.specs.declared.read.LineEnd.{LineEnd}
+use Rattle.olr_roads.specs.declared.read.LineEnd.{LineEnd}
 use Rattle.olr_near.specs.Bounds.{bound_of, Within}
 use Rattle.olr_near.proofs.BoundLemmas.{within_better, moves_then, lowered_from}
 use Rattle.olr_search.proofs.WayLemmas.{no_end, end_is, has_end}

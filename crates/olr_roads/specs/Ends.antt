@@ -4,7 +4,7 @@
 --     HaveSlotsApart M slot count      the nodes have distinct slots, each below the count
 use Rattle.std.specs.Prelude.{◌≡◌, ℕ, ◌<◌, ◌≤◌, ◌^◌, List, map, IsTrue}
 use Rattle.olr_spec.specs.Map.{Map, has_node, start, end, dm, lines_in, lines_out}
-use Rattle.olr_map.specs.declared.read.LineEnd.{LineEnd}
+use Rattle.olr_roads.specs.declared.read.LineEnd.{LineEnd}
 
 abbrev pub end_out : Map → (ℕ → ℕ) → ℕ → LineEnd
 end_out M slot x = record { node = end M x; slot = slot (end M x); len = dm M x }

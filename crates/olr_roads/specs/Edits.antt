@@ -4,11 +4,11 @@
 --     allocates e      the edit adds or removes a node or a line, for which the map allocates
 use Rattle.std.specs.Prelude.{Bool, true, false}
 use Rattle.olr_spec.specs.Map as map
-use Rattle.olr_map.specs.declared.edit.Edit.{Edit}
-use Rattle.olr_map.specs.declared.edit.Edit.TheVariants.{AddNode, MoveNode, DropNode, AddLine, SetLine, DropLine}
-use Rattle.olr_map.specs.declared.edit.EditFault.{EditFault}
-use Rattle.olr_map.specs.declared.edit.EditFault.TheVariants.{NodeExists, NoNode, LineExists, NoLine, NodeInUse}
-use Rattle.olr_map.specs.declared.edit.EditFault.TheVariants.{BadShape}
+use Rattle.olr_roads.specs.declared.edit.Edit.{Edit}
+use Rattle.olr_roads.specs.declared.edit.Edit.TheVariants.{AddNode, MoveNode, DropNode, AddLine, SetLine, DropLine}
+use Rattle.olr_roads.specs.declared.edit.EditFault.{EditFault}
+use Rattle.olr_roads.specs.declared.edit.EditFault.TheVariants.{NodeExists, NoNode, LineExists, NoLine, NodeInUse}
+use Rattle.olr_roads.specs.declared.edit.EditFault.TheVariants.{BadShape}
 
 abbrev pub edit_of : Edit → map.Edit
 edit_of (AddNode id place) = map.Add_node id place

@@ -1,6 +1,5 @@
-use Rattle.olr_map.proofs.Common.{put_ascends}
-use Rattle.olr_spec.proofs.AscendingLists.{insert_adds, insert_keeps}
-use Rattle.olr_map.proofs.footprint.Footprint.note.Goals as goal
+use Rattle.olr_spec.proofs.AscendingLists.{put_ascends, insert_adds, insert_keeps}
+use Rattle.olr_roads.proofs.footprint.Footprint.note.Goals as goal
 
 pub invariant_of-self : goal.invariant_of-self
 invariant_of-self c =

@@ -1,5 +1,5 @@
-use Rattle.olr_map.proofs.Merging.{merged_ascends, merged_has, merged_more}
-use Rattle.olr_map.proofs.footprint.Footprint.note_all.Goals as goal
+use Rattle.olr_roads.proofs.Merging.{merged_ascends, merged_has, merged_more}
+use Rattle.olr_roads.proofs.footprint.Footprint.note_all.Goals as goal
 
 pub invariant_of-self : goal.invariant_of-self
 invariant_of-self c = rw (c.in_ok-self-inside.ensures, c.deref.ensures.value) (merged_ascends _ _ c.self.invariant c.requires.ascending)

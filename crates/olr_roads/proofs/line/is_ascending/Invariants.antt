@@ -1,6 +1,6 @@
-use Rattle.olr_map.proofs.Common.{◌≡◌, drop, take, true}
+use Rattle.std.proofs.Common.{◌≡◌, drop, take, true}
 use Rattle.olr_spec.specs.Map.{ascends_between, are_coords}
-use Rattle.olr_map.proofs.line.is_ascending.Given as goal
+use Rattle.olr_roads.proofs.line.is_ascending.Given as goal
 
 -- the rest is ascending from the last distance on exactly if the whole is, and the coordinates so far are in range
 abbrev pub invariant-loop-point : goal.invariant-loop-point

@@ -1,6 +1,6 @@
 //! The hash of node and line numbers. Neighbouring numbers share a position of the hash table, so that a map with
 //! consecutive numbers is read with few cache misses; other patterns of numbers are spread.
-ghost use Rattle.olr_map.specs.Hashing.{number_write, number_hash};
+ghost use Rattle.olr_roads.specs.Hashing.{number_write, number_hash};
 
 use std::hash::Hasher;
 

@@ -3,7 +3,7 @@ ghost use Rattle.std.specs.Prelude.{◌≡◌, ◌+◌, ◌*◌, ◌<◌, ◌^�
 ghost use Rattle.std.specs.Option.{option_copied};
 ghost use Rattle.std.specs.FinMap.{get};
 ghost use Rattle.olr_spec.specs.Map.{Map, IsMap, has_node, lines_in, lines_out};
-ghost use Rattle.olr_map.specs.Ends.{ends_in, ends_out, HaveSlotsApart};
+ghost use Rattle.olr_roads.specs.Ends.{ends_in, ends_out, HaveSlotsApart};
 
 use crate::ids::{LineId, NodeId};
 use crate::line::Line;

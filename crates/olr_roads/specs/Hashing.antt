@@ -2,7 +2,7 @@
 --     number_step n b      the last four bytes as a number, the lowest first, after one more byte
 --     number_write h bytes, number_hash h      the state after these bytes, and its hash
 use Rattle.std.specs.Prelude.{ℕ, ◌+◌, ◌*◌, ◌/◌, ◌%◌, ◌^◌, List, fold, bit_xor}
-use Rattle.olr_map.specs.declared.number_hash.NumberHasher.{NumberHasher}
+use Rattle.olr_roads.specs.declared.number_hash.NumberHasher.{NumberHasher}
 
 abbrev pub number_step : ℕ → ℕ → ℕ
 number_step n b = n / 256 + b * 2 ^ 24

@@ -1,6 +1,7 @@
-use Rattle.olr_map.proofs.Common.{◌≡◌, ◌++◌, ◌+◌, ◌-◌, ◌≤◌, length, drop, vec_capacity}
-use Rattle.olr_map.proofs.Merging.{merged}
-use Rattle.olr_map.proofs.footprint.merge.Given as goal
+use Rattle.std.proofs.Common.{◌≡◌, ◌++◌, ◌+◌, ◌-◌, ◌≤◌, length, drop}
+use Rattle.std.specs.Vec.{vec_capacity}
+use Rattle.olr_roads.proofs.Merging.{merged}
+use Rattle.olr_roads.proofs.footprint.merge.Given as goal
 
 abbrev pub invariant-loop-i : goal.invariant-loop-i
 invariant-loop-i l =

@@ -1,14 +1,15 @@
 -- Two ascending lists are merged from the front.
-use Rattle.olr_map.proofs.Common.{◌≡◌, ℕ, ◌+◌, ◌<◌, ◌≤◌, ◌⊎◌, List, [], ◌∷◌, ◌++◌, Contains, length, get_or, drop, true}
-use Rattle.olr_map.proofs.Common.{refl, ap, ◌∙◌, inl, inr, arith, Less, sym, nat_cmp, list_any, IsStrictlyIncreasing}
-use Rattle.olr_map.proofs.Common.{eq_by_cmp, nat_cmp_total, nat_cmp-IsAntisymmetric, or_cases, or_left, or_right}
-use Rattle.olr_map.proofs.Common.{ranked, IsStrictlyIncreasing-from_sorted, sorted_from_strictly_increasing}
-use Rattle.olr_map.proofs.Common.{Contains-from_any, list_any-from_Contains}
-use Rattle.std.proofs.Common.{◌↔◌, ⊎_elim, Equal, Greater, Ordering}
+use Rattle.std.specs.List.{list_any}
+use Rattle.std.specs.List.Sorted.{IsStrictlyIncreasing}
+use Rattle.std.specs.FinMap.{nat_cmp-IsAntisymmetric}
+use Rattle.std.proofs.lemmas.Bool.{or_cases, or_left, or_right}
+use Rattle.std.proofs.lemmas.Map.Keys.{IsStrictlyIncreasing-from_sorted, sorted_from_strictly_increasing}
+use Rattle.std.proofs.lemmas.Map.Views.{Contains-from_any, list_any-from_Contains}
+use Rattle.std.proofs.Common.{◌≡◌, ℕ, ◌+◌, ◌<◌, ◌≤◌, ◌⊎◌, List, [], ◌∷◌, ◌++◌, Contains, length, get_or, drop, true, refl, ap, ◌∙◌, inl, inr, arith, Less, sym, nat_cmp, ◌↔◌, ⊎_elim, Equal, Greater, Ordering}
 use Rattle.std.specs.Set.{sorted_merge}
-use Rattle.std.specs.Ordering.{match_ordering}
-use Rattle.std.specs.Cmp.{Equal-is}
-use Rattle.std.proofs.lemmas.Cmp.{eq_by_cmp_equiv}
+use Rattle.std.specs.Ordering.{eq_by_cmp, match_ordering}
+use Rattle.std.specs.Cmp.{nat_cmp_total, Equal-is}
+use Rattle.std.proofs.lemmas.Cmp.{ranked, eq_by_cmp_equiv}
 use Rattle.std.proofs.lemmas.List.{append_assoc, append-nil, drop_all, drop_more}
 use Rattle.std_collections.proofs.SortedSets.{sorted_merged, merge_is_union, length_union}
 

@@ -1,6 +1,6 @@
-use Rattle.olr_map.proofs.Common.{◌≡◌, sym, ◌∙◌, place_of}
-use Rattle.olr_spec.proofs.AscendingLists.{IsSearchResult, found_there, there_found}
-use Rattle.olr_map.proofs.footprint.Footprint.has.Goals as goal
+use Rattle.std.proofs.Common.{◌≡◌, sym, ◌∙◌}
+use Rattle.olr_spec.proofs.AscendingLists.{place_of, IsSearchResult, found_there, there_found}
+use Rattle.olr_roads.proofs.footprint.Footprint.has.Goals as goal
 
 pub returns : goal.returns
 returns c =

@@ -1,9 +1,9 @@
-use Rattle.olr_map.proofs.Common.{◌+◌, ◌≤◌, ◌⊎◌, inl, inr, length, arith, ap, sym, ◌∙◌, length_push}
+use Rattle.std.proofs.Common.{◌+◌, ◌≤◌, ◌⊎◌, inl, inr, length, arith, ap, sym, ◌∙◌}
 use Rattle.std.proofs.lemmas.Bool.Decides.{nat_tests}
-use Rattle.std.proofs.lemmas.List.{get_or_read, take_rest}
-use Rattle.olr_map.proofs.Merging.{next_merged, ended}
-use Rattle.olr_map.proofs.footprint.merge.Goals.{then-loop-i-test+else-j-right, else-loop-i-test}
-use Rattle.olr_map.proofs.footprint.merge.Goals as goal
+use Rattle.std.proofs.lemmas.List.{length_push, get_or_read, take_rest}
+use Rattle.olr_roads.proofs.Merging.{next_merged, ended}
+use Rattle.olr_roads.proofs.footprint.merge.Goals.{then-loop-i-test+else-j-right, else-loop-i-test}
+use Rattle.olr_roads.proofs.footprint.merge.Goals as goal
 
 pub push_reserved-requires : goal.push_reserved-requires
 push_reserved-requires c = let len = c.loop-i.both.ok.0 in let few = c.loop-i.invariant.few in omega arith

@@ -1,7 +1,0 @@
-use Rattle.olr_map.proofs.Common.{◌≡◌, take}
-use Rattle.std.proofs.Common.{fold}
-use Rattle.olr_map.specs.Hashing.{number_step}
-use Rattle.olr_map.proofs.number_hash.NumberHasherHasher.write.Given as goal
-
-abbrev pub invariant-loop-byte : goal.invariant-loop-byte
-invariant-loop-byte l = l.number ≡ fold number_step l.fn.self.number (take l.byte-index l.bytes)
