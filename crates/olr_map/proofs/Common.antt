@@ -38,7 +38,7 @@ pub use Rattle.olr_spec.specs.Coordinates.{Coord}
 pub use Rattle.olr_spec.specs.Map.{IsMap, Line, Map, Node_in_use, edited, end, has, has_line, has_node, in_use, line_at}
 pub use Rattle.olr_spec.specs.Map.{lines_out, no_coord, no_line, start}
 pub use Rattle.std.proofs.Common.{Bool, Contains, Err, IsOk, Less, List, None, Ok, Option, Result, Some, [], ap, arith}
-pub use Rattle.std.proofs.Common.{cond, drop, false, get_or, inl, inr, is_some, length, map, nat_cmp, refl, reverse}
+pub use Rattle.std.proofs.Common.{cond, false, get_or, inl, inr, is_some, length, map, nat_cmp, refl, reverse}
 pub use Rattle.std.proofs.Common.{set, slice_index, subst, suc, sym, take, true, unwrap_or, vec_len, zero, ℕ, ◌%◌, ◌&&◌}
 pub use Rattle.std.proofs.Common.{◌++◌, ◌+◌, ◌-◌, ◌/◌, ◌<◌, ◌==◌, ◌^◌, ◌||◌, ◌∙◌, ◌∷◌, ◌≡◌, ◌≤◌, ◌⊎◌}
 pub use Rattle.std.proofs.lemmas.Bool.{cases_eq, cases_order, cond-false, cond-true, eq-eqb, eqb-true}
@@ -58,4 +58,3 @@ pub use Rattle.std.specs.List.Sorted.{IsStrictlyIncreasing}
 pub use Rattle.std.specs.Map.{keys_of, lookup}
 pub use Rattle.std.specs.Option.{option_map, option_map_or, option_or}
 pub use Rattle.std.specs.Ordering.{eq_by_cmp}
-pub use Rattle.std.specs.Vec.{vec_capacity}

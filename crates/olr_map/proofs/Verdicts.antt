@@ -5,7 +5,7 @@ use Rattle.olr_map.proofs.Common.{has, slot_by, node_slot, tables_map, AreSlots,
 use Rattle.olr_map.proofs.Common.{arith}
 use Rattle.std.proofs.Common.{MatchResult}
 use Rattle.std.specs.Option.{option_to_list}
-use Rattle.olr_spec.specs.Map.{MapFault, Node_exists, No_node, Line_exists, No_line, Bad_shape, touched_nodes}
+use Rattle.olr_spec.specs.Map.{MapFault, Node_exists, No_node, Line_exists, No_line, Bad_shape}
 use Rattle.olr_spec.specs.Detours.{ChangedLine, changes_of}
 use Rattle.olr_roads.specs.Edits.{edit_fault_of}
 use Rattle.olr_map.specs.EditPlans.{IsEditPlan}
