@@ -1,6 +1,7 @@
 //! The lines by number.
 ghost use Rattle.std.specs.Prelude.{◌≡◌, ◌==◌, ◌+◌, ◌≤◌, ◌<◌, ℕ, [], cond, Some, None, IsSome, OnOk};
 ghost use Rattle.std.specs.Option.{option_copied};
+ghost use Rattle.olr_map.specs.LineTables.{held, spare_numbers};
 
 use olr_roads::{Line, NumberHasher};
 use std::alloc::{AllocError, Global};
@@ -15,15 +16,12 @@ pub struct LineTable {
 }
 
 impl LineTable {
-    ghost use Rattle.olr_map.specs.LineTables.{held, spare_numbers};
-
     /// No lines. Does not allocate.
     pub fn new(alloc: Global) -> LineTable
         ensures { result.by_number.entries ≡ [] }
     {
-        LineTable {
-            by_number: HashMap::with_hasher(alloc, BuildHasherDefault::new()),
-        }
+        let by_number = HashMap::with_hasher(alloc, BuildHasherDefault::new());
+        LineTable { by_number }
     }
 
     /// The line with this number.
@@ -35,9 +33,9 @@ impl LineTable {
 
     /// Reserves capacity for `additional` more lines.
     pub fn reserve(&mut self, additional: usize) -> Result<(), AllocError>
-        ensures same { (k : ℕ) → held self.new k ≡ held self.old k }
-        ensures more { spare_numbers self.old ≤ spare_numbers self.new }
         ensures room { OnOk result (additional ≤ spare_numbers self.new) }
+        ensures more { spare_numbers self.old ≤ spare_numbers self.new }
+        ensures same { (k : ℕ) → held self.new k ≡ held self.old k }
     {
         self.by_number.reserve(additional)
     }
