@@ -1,6 +1,7 @@
 //! Coordinates on the earth.
 ghost use Rattle.std.specs.Prelude.{◌≡◌, ◌↔◌, IsTrue, IsSome, IfSome};
 ghost use Rattle.olr_spec.specs.Coordinates.{is_coord, coord};
+ghost use Rattle.olr_coords.specs.Bounds.{is_degrees};
 
 use std::marker::Model;
 
@@ -54,6 +55,7 @@ impl Coord {
     pub fn lon(self) -> i64
         ensures value { result ≡ self.lon }
         ensures range { IsTrue (is_coord self) }
+        ensures degrees { IsTrue (is_degrees result) }
     {
         self.lon
     }
@@ -62,6 +64,7 @@ impl Coord {
     pub fn lat(self) -> i64
         ensures value { result ≡ self.lat }
         ensures range { IsTrue (is_coord self) }
+        ensures degrees { IsTrue (is_degrees result) }
     {
         self.lat
     }

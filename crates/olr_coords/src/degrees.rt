@@ -49,7 +49,7 @@ fn whole(digits: &[u8]) -> Option<u64>
     ensures value { result ≡ whole digits.now }
     ensures bound { IfSome result (λ n. n < 10 ^ 10) }
 {
-    Some(number(digits, WHOLE_DIGITS)? * STEPS)
+    number(digits, WHOLE_DIGITS).map(|degrees| degrees * STEPS)
 }
 
 /// What follows the whole degrees, in the finest steps: nothing, or a decimal point and digits.
@@ -86,17 +86,18 @@ fn without_sign(text: &[u8]) -> Option<u64>
     ensures bound { IfSome result (λ n. n < 2 ^ 60) }
 {
     let (before, rest) = text.split_at(point(text));
-    let steps = whole(before)? + fraction(rest)?;
-    Some(steps * STEP)
+    let whole = whole(before)?;
+    fraction(rest).map(|fraction| (whole + fraction) * STEP)
 }
 
 /// Degrees with an optional sign, in units.
 fn degrees(text: &[u8]) -> Option<i64>
     ensures { result ≡ degrees text.now }
 {
-    match text {
-        [b'-', rest @ ..] => Some(-(without_sign(rest)? as i64)),
-        _ => Some(without_sign(text)? as i64),
+    if let [b'-', rest @ ..] = text {
+        without_sign(rest).map(|units| -(units as i64))
+    } else {
+        without_sign(text).map(|units| units as i64)
     }
 }
 
@@ -106,7 +107,9 @@ pub fn read_degrees(text: &[u8]) -> Result<i64, CoordFault>
     ensures ok { IfOk result (λ units. read_degrees text.now ≡ Ok units) }
     ensures fault { IfErr result (λ fault. read_degrees text.now ≡ Err (coord_fault_of fault)) }
 {
-    let units = degrees(text).ok_or(CoordFault::Text)?;
+    let Some(units) = degrees(text) else {
+        return Err(CoordFault::Text);
+    };
     if (-GREATEST..=GREATEST).contains(&units) {
         Ok(units)
     } else {

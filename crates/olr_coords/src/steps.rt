@@ -5,13 +5,13 @@ ghost use Rattle.olr_spec.specs.Bytes.{fits24};
 ghost use Rattle.olr_coords.specs.Bounds.{is_degrees};
 
 /// Half of a 24-bit step, in units. A 24-bit step is 360 degrees / 2^24.
-const HALF_STEP_24: i64 = 3_515_625;
+const HALF_STEP_24: u64 = 3_515_625;
 /// A 24-bit step, in units.
-const STEP_24: i64 = 2 * HALF_STEP_24;
+const STEP_24: u64 = 2 * HALF_STEP_24;
 /// Half of a relative step, in units. A relative step is 10^-5 degree.
-const HALF_STEP_16: i64 = 1_638_400;
+const HALF_STEP_16: u64 = 1_638_400;
 /// A relative step, in units.
-const STEP_16: i64 = 2 * HALF_STEP_16;
+const STEP_16: u64 = 2 * HALF_STEP_16;
 
 /// A coordinate as a number of 24-bit steps, rounded to the nearest, halves away from zero (White Paper, absolute
 /// coordinates of the physical format). Latitudes are in the same steps as longitudes.
@@ -19,12 +19,8 @@ pub fn abs24(coordinate: i64) -> i32
     requires { IsTrue (is_longitude coordinate) }
     ensures { result ≡ abs24 coordinate }
 {
-    let away = if coordinate < 0 {
-        -HALF_STEP_24
-    } else {
-        HALF_STEP_24
-    };
-    ((coordinate + away) / STEP_24) as i32
+    let steps = ((coordinate.unsigned_abs() + HALF_STEP_24) / STEP_24) as i32;
+    if coordinate < 0 { -steps } else { steps }
 }
 
 /// The coordinate, in units, of a number of 24-bit steps: half a step nearer to zero than that number of steps, and 0
@@ -34,7 +30,7 @@ pub fn from_abs24(steps: i32) -> i64
     ensures { result ≡ from_abs24 steps }
 {
     let steps = i64::from(steps);
-    steps * STEP_24 - steps.signum() * HALF_STEP_24
+    steps * STEP_24 as i64 - steps.signum() * HALF_STEP_24 as i64
 }
 
 /// A difference, in units, as a number of relative steps, rounded to the nearest, halves away from zero.
@@ -42,12 +38,8 @@ fn relative_steps(difference: i64) -> i64
     requires { nat_abs difference ≤ 2 ^ 62 }
     ensures { result ≡ nearest 1638400 3276800 difference }
 {
-    let away = if difference < 0 {
-        -HALF_STEP_16
-    } else {
-        HALF_STEP_16
-    };
-    (difference + away) / STEP_16
+    let steps = ((difference.unsigned_abs() + HALF_STEP_16) / STEP_16) as i64;
+    if difference < 0 { -steps } else { steps }
 }
 
 /// The difference between two coordinates as a number of relative steps, rounded to the nearest (White Paper, relative
@@ -64,5 +56,5 @@ pub fn rel16(from: i64, to: i64) -> Option<i16>
 pub fn from_rel16(steps: i16) -> i64
     ensures { result ≡ from_rel16 steps }
 {
-    i64::from(steps) * STEP_16
+    i64::from(steps) * STEP_16 as i64
 }
