@@ -20,13 +20,13 @@ times_sum (suc n) x y = omega (arith, ints, one_more n (x +ℤ y), one_more n x,
 
 pub sum_times : (n m : ℕ) (z : ℤ) → pos (n + m) *ℤ z ≡ pos n *ℤ z +ℤ pos m *ℤ z
 sum_times zero m z = let is : zero + m ≡ m = omega arith in ap (λ k. pos k *ℤ z) is ∙ omega (arith, ints, zero-*ℤ z)
-sum_times (suc n) m z = grind (arith, ints, one_more, (sum_times n m z))
+sum_times (suc n) m z = omega (arith, ints, one_more (n + m) z, one_more n z, sum_times n m z)
 
 -- ---- sizes: a product stays within the product of the bounds
 
 pub natural_product_within : (n m b : ℕ) (z : ℤ) → n ≤ m → IsWithin b z → IsWithin (m * b) (pos n *ℤ z)
-natural_product_within n m b (pos a) h g = grind (arith, ints, mul-le, pos-*ℤ-pos)
-natural_product_within n m b (negsuc a) h g = grind (arith, ints, mul-le, pos-*ℤ-negsuc)
+natural_product_within n m b (pos a) h g = let most = mul-le n a m b h (omega (arith, ints, g.1)) in omega (arith, ints, pos-*ℤ-pos n a)
+natural_product_within n m b (negsuc a) h g = let most = mul-le n (suc a) m b h (omega (arith, ints, g.0)) in omega (arith, ints, pos-*ℤ-negsuc n a)
 
 pub product_within : (m b : ℕ) (x z : ℤ) → IsWithin m x → IsWithin b z → IsWithin (m * b) (x *ℤ z)
 product_within m b (pos n) z h g = natural_product_within n m b z (omega (arith, ints, h.1)) g

@@ -1,16 +1,16 @@
 //! The 32 sectors of the compass, of 11.25 degrees each, clockwise from north.
-ghost use Rattle.std.specs.Prelude.{◌≡◌, ◌<◌, pos, ◌≤ℤ◌, ◌<ℤ◌};
+ghost use Rattle.std.specs.Prelude.{◌≡◌, ◌<◌, ◌≤◌, ◌^◌, pos};
 ghost use Rattle.olr_spec.specs.Bearings.{sector, IsSector};
 ghost use Rattle.olr_bearing.specs.Ranges.{IsPart};
 
 /// One, in millionths.
-const ONE: i128 = 1_000_000;
+const ONE: u128 = 1_000_000;
 /// The tangent of 11.25 degrees, in millionths.
-const TANGENT_11: i128 = 198_912;
+const TANGENT_11: u128 = 198_912;
 /// The tangent of 22.5 degrees, in millionths.
-const TANGENT_22: i128 = 414_214;
+const TANGENT_22: u128 = 414_214;
 /// The tangent of 33.75 degrees, in millionths.
-const TANGENT_33: i128 = 668_179;
+const TANGENT_33: u128 = 668_179;
 
 /// The sector of a direction, from its parts to the east and to the north: 0 to 31, clockwise from north. Both parts
 /// are at most 10^31 either way.
@@ -23,27 +23,28 @@ pub fn sector(east: i128, north: i128) -> u8
     ensures between { ¬ ((east ≡ pos 0) × (north ≡ pos 0)) → IsSector east north result }
     ensures below { result < 32 }
 {
+    let east_west = east.unsigned_abs();
+    let north_south = north.unsigned_abs();
     if east == 0 && north == 0 {
         0
     } else if east >= 0 && north > 0 {
-        quarter_sector(east, north)
+        quarter_sector(east_west, north_south)
     } else if east > 0 {
-        8 + quarter_sector(-north, east)
+        8 + quarter_sector(north_south, east_west)
     } else if north < 0 {
-        16 + quarter_sector(-east, -north)
+        16 + quarter_sector(east_west, north_south)
     } else {
-        24 + quarter_sector(north, -east)
+        24 + quarter_sector(north_south, east_west)
     }
 }
 
 /// The sector of a direction in the first quarter, from north to before east.
-fn quarter_sector(east: i128, north: i128) -> u8
-    requires east { IsPart east }
-    requires north { IsPart north }
-    requires eastward { pos 0 ≤ℤ east }
-    requires northward { pos 0 <ℤ north }
+fn quarter_sector(east: u128, north: u128) -> u8
+    requires east { east ≤ 10 ^ 31 }
+    requires north { north ≤ 10 ^ 31 }
+    requires northward { 0 < north }
     ensures below { result < 8 }
-    ensures between { IsSector east north result }
+    ensures between { IsSector (pos east) (pos north) result }
 {
     if east < north {
         if east * ONE < north * TANGENT_22 {

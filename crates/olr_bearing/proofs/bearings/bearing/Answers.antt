@@ -1,6 +1,5 @@
-use Rattle.olr_spec.proofs.Common.{◌≡◌, ℕ, ◌^◌, ℤ, pos, ◌+ℤ◌, ◌-ℤ◌, ◌*ℤ◌, ap, w64, arith, w128, ints, Scaled, sector}
+use Rattle.olr_spec.proofs.Common.{◌≡◌, ℕ, ℤ, pos, ◌+ℤ◌, ◌-ℤ◌, ◌*ℤ◌, ap, ◌∙◌, FitsSigned, to_z-of_z, w64, arith, w128, ints, Scaled, sector}
 use Rattle.olr_spec.proofs.Common.{thousandths}
-use Rattle.olr_bearing.specs.Ranges.{IsWithin}
 use Rattle.olr_bearing.proofs.Scaling.{held, coord_within}
 use Rattle.olr_bearing.proofs.bearings.bearing.Goals as goal
 
@@ -23,9 +22,9 @@ part_is r f s o f' s' o' w w' is p q h g = cc
 sector_is : (k : ℕ) (a b x y : ℤ) → k ≡ sector a b → a ≡ x → b ≡ y → k ≡ sector x y
 sector_is k a b x y is p q = cc
 
--- a number that is far from the limits of 128 bits
-held_is : (z b : ℤ) → IsWithin (10 ^ 31) z → z ≡ b → held w128 z ≡ b
-held_is z b h p = omega (arith, ints, h.0, h.1)
+-- a number of 128 bits
+held_is : (z b : ℤ) → FitsSigned w128 z → z ≡ b → held w128 z ≡ b
+held_is z b h p = to_z-of_z w128 z h ∙ p
 
 pub returns-clause-value : goal.returns-clause-value
 returns-clause-value c =
@@ -44,29 +43,17 @@ returns-clause-value c =
     let east : c.part-east.result ≡ above *ℤ (to.lon -ℤ pos to.width *ℤ from.lon) =
     part_is c.part-east.result (held w128 cosine.numerator) (held w128 passed.lon) (held w64 c.lon.result) above to.lon
     from.lon passed.width to.width c.part-east.ensures.value
-    (held_is cosine.numerator above (
-      omega (arith, ints, factors.in_range.0.0),
-      omega (arith, ints, factors.in_range.0.1),
-    ) factors.numerator)
-    (held_is passed.lon to.lon (
-      omega (arith, ints, lon, range.0.0, range.0.1),
-      omega (arith, ints, lon, range.0.0, range.0.1),
-    ) lon)
+    (held_is cosine.numerator above (omega (arith, ints, factors.in_range.0.0, factors.in_range.0.1)) factors.numerator)
+    (held_is passed.lon to.lon (omega (arith, ints, lon, range.0.0, range.0.1, range.0.1)) lon)
     width (omega (arith, ints)) in
     let north : c.part-north.result ≡ below *ℤ (to.lat -ℤ pos to.width *ℤ from.lat) =
     part_is c.part-north.result (held w128 cosine.denominator) (held w128 passed.lat) (held w64 c.lat.result) below
     to.lat from.lat passed.width to.width c.part-north.ensures.value
-    (held_is cosine.denominator below (
-      omega (arith, ints, factors.in_range.1.0),
-      omega (arith, ints, factors.in_range.1.1),
-    ) factors.denominator)
-    (held_is passed.lat to.lat (
-      omega (arith, ints, lat, range.1.0, range.1.1),
-      omega (arith, ints, lat, range.1.0, range.1.1),
-    ) lat)
+    (held_is cosine.denominator below (omega (arith, ints, factors.in_range.1.0, factors.in_range.1.1)) factors.denominator)
+    (held_is passed.lat to.lat (omega (arith, ints, lat, range.1.0, range.1.1, range.1.1)) lat)
     width (omega (arith, ints)) in
     sector_is c.sector.result (held w128 c.part-east.result) (held w128 c.part-north.result)
     (above *ℤ (to.lon -ℤ pos to.width *ℤ from.lon)) (below *ℤ (to.lat -ℤ pos to.width *ℤ from.lat))
     c.sector.ensures.value
-    (held_is c.part-east.result (above *ℤ (to.lon -ℤ pos to.width *ℤ from.lon)) c.part-east.ensures.in_range east)
-    (held_is c.part-north.result (below *ℤ (to.lat -ℤ pos to.width *ℤ from.lat)) c.part-north.ensures.in_range north)
+    (held_is c.part-east.result (above *ℤ (to.lon -ℤ pos to.width *ℤ from.lon)) (record { sfits = c.part-east.type_inv }) east)
+    (held_is c.part-north.result (below *ℤ (to.lat -ℤ pos to.width *ℤ from.lat)) (record { sfits = c.part-north.type_inv }) north)

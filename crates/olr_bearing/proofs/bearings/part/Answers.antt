@@ -28,11 +28,6 @@ shift width origin x y h o p q = record {
   in_range = natural_product_within width width (degree_units 180) origin (omega arith) o;
 }
 
-offset_fits : (width : ℕ) (scaled origin x y : ℤ) → width ≤ 1000000 → IsWithin (width * degree_units 180) scaled →
-    Shift width origin x y
-    → FitsSigned w128 (held w128 scaled -ℤ held w128 (held w128 x *ℤ held w128 y))
-offset_fits width scaled origin x y h s g = omega (arith, ints, g.value, g.in_range.0, g.in_range.1, s.0, s.1)
-
 the_part : (factor scaled origin x y : ℤ) (width : ℕ) → IsFactor factor → width ≤ 1000000 →
     IsWithin (width * degree_units 180) scaled → Shift width origin x y
     → Settled (held w128 factor *ℤ held w128 (held w128 scaled -ℤ held w128 (held w128 x *ℤ held w128 y)))
@@ -65,7 +60,7 @@ here c =
     c.requires.short c.requires.place (shift_here c)
 
 pub overflow_sub-result : goal.overflow_sub-result
-overflow_sub-result c = grind (arith, offset_fits, shift_here)
+overflow_sub-result c = let g = shift_here c in omega (arith, ints, g.value, g.in_range.0, g.in_range.1)
 
 pub overflow_mul-result-2 : goal.overflow_mul-result-2
 overflow_mul-result-2 c = (here c).fits

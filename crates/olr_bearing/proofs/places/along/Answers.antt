@@ -1,4 +1,4 @@
-use Rattle.olr_spec.proofs.Common.{◌≡◌, ◌^◌, ℤ, pos, ◌+ℤ◌, ◌-ℤ◌, ◌*ℤ◌, ◌∙◌, FitsSigned, w64, arith, w128, ints}
+use Rattle.olr_spec.proofs.Common.{◌≡◌, ◌^◌, ℤ, pos, ◌+ℤ◌, ◌-ℤ◌, ◌*ℤ◌, FitsSigned, w64, arith, w128, ints}
 use Rattle.olr_bearing.specs.Ranges.{IsWithin}
 use Rattle.olr_bearing.proofs.Products.{same_product, product_within}
 use Rattle.olr_bearing.proofs.Scaling.{held}
@@ -20,17 +20,6 @@ products w f d t a b p q = record {
       (omega (arith, ints, b.0), omega (arith, ints, b.1)) (omega (arith, ints), omega (arith, ints));
 }
 
-fits : (w f d t : ℤ) → Products w f d t →
-    FitsSigned w128 (held w128 (held w128 w *ℤ held w128 f) +ℤ held w128
-    (held w128 d *ℤ held w128 (held w128 t -ℤ held w128 f)))
-fits w f d t h = omega (arith, ints, h.first.0, h.first.1, h.second.0, h.second.1)
-
-sum_is : (w f d t : ℤ) → Products w f d t →
-    held w128 (held w128 (held w128 w *ℤ held w128 f) +ℤ held w128
-    (held w128 d *ℤ held w128 (held w128 t -ℤ held w128 f))) ≡ held w128 w *ℤ held w128 f +ℤ held w128 d *ℤ held w128
-    (held w128 t -ℤ held w128 f)
-sum_is w f d t h = omega (arith, ints, h.first.0, h.first.1, h.second.0, h.second.1)
-
 here : (c : goal.After-from) → Products c.from.result c.from-from.result c.from-done.result c.from-to.result
 here c =
     products c.from.result c.from-from.result c.from-done.result c.from-to.result
@@ -41,7 +30,7 @@ pub overflow_mul-result-2 : goal.overflow_mul-result-2
 overflow_mul-result-2 c = let second = (here c).second in omega (arith, ints, second.0, second.1)
 
 pub overflow_add-result : goal.overflow_add-result
-overflow_add-result c = fits c.from.result c.from-from.result c.from-done.result c.from-to.result (here c)
+overflow_add-result c = let h = here c in omega (arith, ints, h.first.0, h.first.1, h.second.0, h.second.1)
 
 pub returns : goal.returns
 returns c =
@@ -55,4 +44,4 @@ returns c =
     let second : held w128 d *ℤ held w128 (held w128 t -ℤ held w128 f) ≡ pos c.args.done *ℤ (c.args.to -ℤ c.args.from) =
     same_product (held w128 d) (pos c.args.done) (held w128 (held w128 t -ℤ held w128 f)) (c.args.to -ℤ c.args.from)
     (omega (arith, ints)) (omega (arith, ints)) in
-    sum_is w f d t (here c) ∙ cc (first, second)
+    let h = here c in omega (arith, ints, h.first.0, h.first.1, h.second.0, h.second.1, first, second)

@@ -1,4 +1,4 @@
-use Rattle.olr_spec.proofs.Common.{◌≡◌, ◌+◌, arith, ints, sector}
+use Rattle.olr_spec.proofs.Common.{◌≡◌, ◌+◌, pos, arith, ints, sector}
 use Rattle.olr_bearing.proofs.Turns.{in_sector, nowhere_sector, first_quarter_is, second_quarter_is, third_quarter_is}
 use Rattle.olr_bearing.proofs.Turns.{fourth_quarter_is}
 use Rattle.olr_bearing.proofs.sectors.sector.Goals as goal
@@ -10,7 +10,7 @@ pub returns-then-north-gt0 : goal.returns-then-north-gt0
 returns-then-north-gt0 c =
     let q = c.quarter_sector in
     let is : q.result ≡ sector c.args.east c.args.north =
-    first_quarter_is c.args.east c.args.north _ _ q.result q.ensures.between (omega (arith, ints)) (omega (arith, ints))
+    first_quarter_is c.args.east c.args.north (pos c.unsigned_abs-east_west.result) (pos c.unsigned_abs-north_south.result) q.result q.ensures.between (omega (arith, ints)) (omega (arith, ints))
     (omega (arith, ints)) in
     record { value = is; between = in_sector c.args.east c.args.north _ is; below = omega (arith, q.ensures.below) }
 
@@ -18,7 +18,7 @@ pub returns-then-east-gt0 : goal.returns-then-east-gt0
 returns-then-east-gt0 c =
     let q = c.quarter_sector-then-east-gt0 in
     let is : 8 + q.result ≡ sector c.args.east c.args.north =
-    second_quarter_is c.args.east c.args.north _ _ q.result q.ensures.between (omega (arith, ints))
+    second_quarter_is c.args.east c.args.north (pos c.unsigned_abs-north_south.result) (pos c.unsigned_abs-east_west.result) q.result q.ensures.between (omega (arith, ints))
     (omega (arith, ints)) q.ensures.below (omega (arith, ints)) in
     record { value = is; between = in_sector c.args.east c.args.north _ is; below = omega (arith, q.ensures.below) }
 
@@ -26,7 +26,7 @@ pub returns-then-north-lt0 : goal.returns-then-north-lt0
 returns-then-north-lt0 c =
     let q = c.quarter_sector-then-north-lt0 in
     let is : 16 + q.result ≡ sector c.args.east c.args.north =
-    third_quarter_is c.args.east c.args.north _ _ q.result q.ensures.between (omega (arith, ints)) (omega (arith, ints))
+    third_quarter_is c.args.east c.args.north (pos c.unsigned_abs-east_west.result) (pos c.unsigned_abs-north_south.result) q.result q.ensures.between (omega (arith, ints)) (omega (arith, ints))
     q.ensures.below (omega (arith, ints)) in
     record { value = is; between = in_sector c.args.east c.args.north _ is; below = omega (arith, q.ensures.below) }
 
@@ -34,6 +34,6 @@ pub returns-else-north-lt0 : goal.returns-else-north-lt0
 returns-else-north-lt0 c =
     let q = c.quarter_sector-else-north-lt0 in
     let is : 24 + q.result ≡ sector c.args.east c.args.north =
-    fourth_quarter_is c.args.east c.args.north _ _ q.result q.ensures.between (omega (arith, ints))
+    fourth_quarter_is c.args.east c.args.north (pos c.unsigned_abs-north_south.result) (pos c.unsigned_abs-east_west.result) q.result q.ensures.between (omega (arith, ints))
     (omega (arith, ints)) q.ensures.below (omega (arith, ints)) in
     record { value = is; between = in_sector c.args.east c.args.north _ is; below = omega (arith, q.ensures.below) }
