@@ -25,6 +25,15 @@ put_by f g v p d label table within was lt once there kept len more =
 put_le : (f g : Frontier) (v p d : ℕ) → IsRelaxed f g v p d → (q : ℕ) → label_of g q ≤ label_of f q
 put_le f g v p d k q = grind (arith, cases_eq, label_of)
 
+pub put_moves : (f g : Frontier) (v p d : ℕ) → IsRelaxed f g v p d → Moves f g
+put_moves f g v p d k = record {
+  better = put_le f g v p d k;
+  fresh = λ q. grind (arith, cases_eq, label_of);
+  kept = k.kept;
+  len = k.len;
+  less = k.less;
+}
+
 pub moves_then : (f g h : Frontier) → Moves f g → Moves g h → Moves f h
 moves_then f g h m n = record {
   better = λ p. let a = m.better p in let b = n.better p in omega arith;

@@ -72,7 +72,7 @@ impl Dijkstra {
         self.frontier.make_room(map.slot_count())?;
         for begin in from {
             let (node, length) = *begin;
-            start(map, node, length, &mut self.frontier)?;
+            start(map, direction, node, length, &mut self.frontier)?;
         }
         Ok(())
     }

@@ -27,6 +27,9 @@ pub struct Frontier {
     table: Vec<u32>,
     reached: Vec<Reached>,
     queue: Queue,
+    /// A running total of the lines at queued slots, modulo 2^64. Its only use is that these lines are read, and so are in
+    /// the processor's cache, some time before the search follows them.
+    lines_ahead: u64,
     ghost noted: { AreAllReached table.items reached.items } by { AreAllReached-prop table.items reached.items },
 }
 
@@ -56,6 +59,7 @@ impl Frontier {
             table: Vec::new(alloc),
             reached: Vec::new(alloc),
             queue: Queue::new(alloc),
+            lines_ahead: 0,
         }
     }
 
@@ -124,8 +128,15 @@ impl Frontier {
         Ok(())
     }
 
-    /// Lowers a node's label to a length in decimetres and queues its slot. No effect if the label is no greater.
-    pub fn relax(&mut self, node: NodeId, slot: u32, dist: u32) -> Result<(), AllocError>
+    /// Lowers a node's label to a length in decimetres and queues its slot, from where the search will follow this many
+    /// lines. No effect if the label is no greater.
+    pub fn relax(
+        &mut self,
+        node: NodeId,
+        slot: u32,
+        dist: u32,
+        lines: usize,
+    ) -> Result<(), AllocError>
         requires { slot < frontier_len self.old }
         ensures { OnOk result (IsRelaxed self.old self.new node slot dist) }
     {
@@ -134,6 +145,7 @@ impl Frontier {
             note(&mut self.reached, label, node, slot)?;
             self.queue.push(dist, slot)?;
             self.table[slot as usize] = dist;
+            self.lines_ahead = self.lines_ahead.wrapping_add(lines as u64);
         }
         Ok(())
     }

@@ -14,22 +14,26 @@ use std::alloc::AllocError;
 
 /// Lowers a node's label to a length in decimetres. No effect if the label is no greater, or the node may not have this
 /// length as its label.
-fn label_node<A: Admits>(
+fn label_node<M: MapRead, A: Admits>(
+    map: &M,
+    direction: Direction,
+    admits: &A,
     node: NodeId,
     slot: u32,
     length: u32,
-    admits: &A,
     frontier: &mut Frontier,
 ) -> Result<(), AllocError>
-    requires { slot < frontier_len frontier.old }
+    requires there { (v : ℕ) × IsTrue (has_node (M.map map.now) v) × (M.node_slot map.now v ≡ slot) }
+    requires room { slot < frontier_len frontier.old }
     ensures moves { OnOk result (Moves frontier.old frontier.new) }
-    ensures labelled { OnOk result ((M : Map) (node_slot : ℕ → ℕ) (direction : _) (from : List (ℕ × ℕ))
-        → IsTrue (has_node M node) → node_slot node ≡ slot → Leads M direction from node length
-        → IsLabelled M node_slot direction from frontier.old → IsLabelled M node_slot direction from frontier.new) }
+    ensures labelled { OnOk result ((N : Map) (node_slot : ℕ → ℕ) (way : _) (from : List (ℕ × ℕ))
+        → IsTrue (has_node N node) → node_slot node ≡ slot → Leads N way from node length
+        → IsLabelled N node_slot way from frontier.old → IsLabelled N node_slot way from frontier.new) }
     ensures low { OnOk result (A.lets admits.now node length → label_of frontier.new slot ≤ length) }
 {
     if length < frontier.label(slot) && admits.admits(node, length) {
-        frontier.relax(node, slot, length)
+        let ahead = ends_from(map, direction, slot).len();
+        frontier.relax(node, slot, length, ahead)
     } else {
         Ok(())
     }
@@ -39,22 +43,23 @@ fn label_node<A: Admits>(
 /// map.
 pub fn start<M: MapRead>(
     map: &M,
+    direction: Direction,
     node: NodeId,
     length: u32,
     frontier: &mut Frontier,
 ) -> Result<(), AllocError>
     requires { CoversSlots (M.map map.now) (M.node_slot map.now) frontier.old }
     ensures moves { OnOk result (Moves frontier.old frontier.new) }
-    ensures labelled { OnOk result ((direction : _) (from : List (ℕ × ℕ)) → Contains from (node, length)
-        → IsLabelled (M.map map.now) (M.node_slot map.now) direction from frontier.old
-        → IsLabelled (M.map map.now) (M.node_slot map.now) direction from frontier.new) }
+    ensures labelled { OnOk result ((way : _) (from : List (ℕ × ℕ)) → Contains from (node, length)
+        → IsLabelled (M.map map.now) (M.node_slot map.now) way from frontier.old
+        → IsLabelled (M.map map.now) (M.node_slot map.now) way from frontier.new) }
     ensures begun { OnOk result (IsTrue (has_node (M.map map.now) node) →
         label_of frontier.new (M.node_slot map.now node) ≤ length) }
 {
     let Some(slot) = map.slot_of(node) else {
         return Ok(());
     };
-    label_node(node, slot, length, &Anywhere, frontier)?;
+    label_node(map, direction, &Anywhere, node, slot, length, frontier)?;
     Ok(())
 }
 
@@ -93,7 +98,15 @@ fn follow<M: MapRead, A: Admits>(
         → CutAt (M.map map.now) (M.node_slot map.now) direction (A.lets admits.now) frontier.new v dist) }
 {
     for end in ends_from(map, direction, slot) {
-        label_node(end.node, end.slot, dist + end.len, admits, frontier)?;
+        label_node(
+            map,
+            direction,
+            admits,
+            end.node,
+            end.slot,
+            dist + end.len,
+            frontier,
+        )?;
     }
     Ok(())
 }

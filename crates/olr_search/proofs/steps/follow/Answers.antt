@@ -18,10 +18,17 @@ overflow_add-dist g c =
     let short = line_short (g.M.MapRead.map c.args.map.now) (g.met.M.MapRead.sound c.args.map.now) e.line e.known in
     omega arith
 
-pub label_node-requires : goal.label_node-requires
-label_node-requires g c =
+pub label_node-requires-clause-there : goal.label_node-requires-clause-there
+label_node-requires-clause-there g c =
     let M = g.M.MapRead.map c.args.map.now in
-    let e = line g (goal.at.label_node-requires g c).After-end-item in
+    let m = g.met.M.MapRead.sound c.args.map.now in
+    let e = line g (goal.at.label_node-requires-clause-there g c).After-end-item in
+    (far_end M c.args.direction e.line, far_node M m c.args.direction e.line e.known, sym e.there)
+
+pub label_node-requires-clause-room : goal.label_node-requires-clause-room
+label_node-requires-clause-room g c =
+    let M = g.M.MapRead.map c.args.map.now in
+    let e = line g (goal.at.label_node-requires-clause-room g c).After-end-item in
     let m = g.met.M.MapRead.sound c.args.map.now in
     let room = c.requires.room (far_end M c.args.direction e.line) (far_node M m c.args.direction e.line e.known) in
     omega arith

@@ -1,11 +1,16 @@
 use Rattle.olr_search.proofs.Common.{IsRelaxed}
 use Rattle.std.proofs.lemmas.Result.{on_ok_weaker}
-use Rattle.olr_search.proofs.SearchLemmas.{put_labelled}
+use Rattle.olr_search.proofs.SearchLemmas.{put_labelled, put_moves}
 use Rattle.olr_search.proofs.steps.label_node.Goals as goal
+
+pub returns-then-admits-clause-moves : goal.returns-then-admits-clause-moves
+returns-then-admits-clause-moves g c =
+    on_ok_weaker c.relax.result
+    (λ k. put_moves c.args.frontier.now c.relax.new.self c.args.node c.args.slot c.args.length k) c.relax.ensures
 
 pub returns-then-admits-clause-labelled : goal.returns-then-admits-clause-labelled
 returns-then-admits-clause-labelled g c =
     on_ok_weaker c.relax.result
-    (λ (k : IsRelaxed c.args.frontier.now c.relax.new.self c.args.node c.args.slot c.args.length) M slot direction from.
-    put_labelled M slot direction from c.args.frontier.now c.relax.new.self c.args.node c.args.slot c.args.length k)
+    (λ (k : IsRelaxed c.args.frontier.now c.relax.new.self c.args.node c.args.slot c.args.length) N node_slot way from.
+    put_labelled N node_slot way from c.args.frontier.now c.relax.new.self c.args.node c.args.slot c.args.length k)
     c.relax.ensures
