@@ -84,5 +84,16 @@ module _ (b : List ℕ) (m o : ℕ) (w : IsLayout b m o) (e : v3_fault b ≡ Non
   pub low_at : (k j n : ℕ) → k < m + 2 → 7 + 7 * k ≡ j + 4 → 4 < n → slice_index (take n (drop j b)) 4 < 64
   low_at k j n within place short = grind (arith, get_or-take, get_or-drop, low_attribute1)
 
+  -- attribute bytes 1 and 4, read in the bytes of the last LRP
+  pub last_bytes : (slice_index (take (length b - (10 + 7 * m)) (drop (10 + 7 * m) b)) 5 ≡ flags_of b)
+      × (bit 6 (flags_of b) + bit 5 (flags_of b) ≡ o) × (flags_of b < 128)
+      × (slice_index (take (length b - (10 + 7 * m)) (drop (10 + 7 * m) b)) 4 < 64)
+  last_bytes = (
+    grind (arith, get_or-take, get_or-drop, extra-is),
+    (no_fault b e).flags ∙ extra-is b m o w,
+    leb-false 128 (flags_of b) (or_parts _ _ (no_fault b e).reserved).1,
+    low_at (m + 1) (10 + 7 * m) (length b - (10 + 7 * m)) (omega arith) (omega arith) (omega (arith, w.size)),
+  )
+
   pub status-is : slice_index b 0 ≡ status_byte
   status-is = (no_fault b e).state

@@ -1,5 +1,6 @@
 //! Encoding in version 3.
 ghost use Rattle.std.specs.Prelude.{◌≡◌, ◌++◌, IfOk, OnOk};
+ghost use Rattle.std.specs.List.{AllByRecursion, flat_map};
 ghost use Rattle.olr_spec.specs.Bytes.{IsFirst, IsMiddle, IsLast, AreAttrs, HasBytes, attr_bytes, first_bytes};
 ghost use Rattle.olr_spec.specs.Bytes.{middle_bytes, last_bytes, offset_bytes};
 
@@ -72,6 +73,32 @@ fn push_offset(bytes: &mut Vec<u8>, offset: Option<u8>) -> Result<(), AllocError
     Ok(())
 }
 
+/// Appends the LRPs between the first and the last.
+fn push_middle(bytes: &mut Vec<u8>, points: &[Middle]) -> Result<(), AllocError>
+    requires { AllByRecursion IsMiddle points.now }
+    ensures { OnOk result (bytes.new.items ≡ bytes.old.items ++ flat_map middle_bytes points.now) }
+{
+    for point in points {
+        bytes.extend_from_slice(&middle_bytes(*point))?;
+    }
+    Ok(())
+}
+
+/// Appends the last LRP and the offset bytes.
+fn push_last(
+    bytes: &mut Vec<u8>,
+    last: Last,
+    pos: Option<u8>,
+    neg: Option<u8>,
+) -> Result<(), AllocError>
+    requires { IsLast last }
+    ensures { OnOk result (bytes.new.items ≡ bytes.old.items ++ last_bytes last pos neg) }
+{
+    bytes.extend_from_slice(&last_bytes(last, pos, neg))?;
+    push_offset(bytes, pos)?;
+    push_offset(bytes, neg)
+}
+
 /// The bytes that a reference encodes as in version 3, for any number of LRPs. Each reference has exactly one encoding.
 /// Fails if an allocation fails.
 pub fn write_v3(alloc: Global, reference: &Reference) -> Result<Vec<u8>, AllocError>
@@ -81,11 +108,7 @@ pub fn write_v3(alloc: Global, reference: &Reference) -> Result<Vec<u8>, AllocEr
     let mut bytes = Vec::with_capacity(alloc, TWO_POINTS + POINT * points.len())?;
     bytes.push(STATUS)?;
     bytes.extend_from_slice(&first_bytes(reference.first))?;
-    for point in points {
-        bytes.extend_from_slice(&middle_bytes(*point))?;
-    }
-    bytes.extend_from_slice(&last_bytes(reference.last, reference.pos, reference.neg))?;
-    push_offset(&mut bytes, reference.pos)?;
-    push_offset(&mut bytes, reference.neg)?;
+    push_middle(&mut bytes, points)?;
+    push_last(&mut bytes, reference.last, reference.pos, reference.neg)?;
     Ok(bytes)
 }

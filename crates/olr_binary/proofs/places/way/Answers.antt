@@ -1,3 +1,4 @@
+use Rattle.std.proofs.lemmas.Grind.{common_steps}
 use Rattle.olr_spec.proofs.Common.{◌≡◌, ◌+ℤ◌, ap, ◌∙◌, rules, arith, List, w16, w32, w64, FitsSigned, w128, ints}
 use Rattle.olr_spec.proofs.Common.{to_z-of_z, from_abs24, from_rel16, Middle}
 use Rattle.olr_binary.proofs.PlaceLemmas.{add_none, place-more}
@@ -33,3 +34,9 @@ loop-point-preserved c =
       lon_bound = omega (arith, ints, c.after_steps-lon.ensures.bound);
       lat_bound = omega (arith, ints, c.after_steps-lat.ensures.bound);
     }
+
+pub returns-clause-lon : goal.returns-clause-lon
+returns-clause-lon c = grind (arith, common_steps)
+
+pub returns-clause-lat : goal.returns-clause-lat
+returns-clause-lat c = grind (arith, common_steps)

@@ -1,7 +1,7 @@
-use Rattle.olr_spec.proofs.Common.{◌≡◌, ℕ, ◌+◌, ◌-◌, ◌*◌, List, length, slice_index, slice_range, arith, rules}
+use Rattle.olr_spec.proofs.Common.{◌≡◌, ℕ, ◌+◌, ◌*◌, List, length, slice_index, slice_range, arith, rules, length-drop, length-take}
 use Rattle.olr_spec.proofs.Common.{flat_map, Reference, IsReference, middle_bytes, status_byte}
 use Rattle.olr_binary.specs.Codes.{reference_from}
-use Rattle.olr_binary.proofs.LayoutLemmas.{low_at, status-is}
+use Rattle.olr_binary.proofs.LayoutLemmas.{last_bytes, status-is}
 use Rattle.olr_binary.proofs.PointLemmas.{reference_bytes-parts}
 use Rattle.olr_binary.proofs.EncodedLemmas.{unspelled}
 use Rattle.olr_binary.proofs.read.read_v3.Goals as goal
@@ -9,14 +9,15 @@ use Rattle.olr_binary.proofs.read.read_v3.Goals as goal
 pub returns-in_err-layout-clause-unspelled : goal.returns-in_err-layout-clause-unspelled
 returns-in_err-layout-clause-unspelled c = grind (arith, unspelled)
 
-pub read_last-last-requires-clause-reserved_1 : goal.read_last-last-requires-clause-reserved_1
-read_last-last-requires-clause-reserved_1 c =
-    let b : List ℕ = c.args.bytes.now in
-    let m = c.in_ok-layout.layout.middle in
-    let w = c.in_ok-layout.ensures.ok in
-    let size = w.size in
-    low_at b m c.in_ok-layout.layout.offsets w c.in_ok-layout.ensures.sound (m + 1) (10 + 7 * m)
-    (length b - (10 + 7 * m)) (omega arith) (omega arith) (omega arith)
+pub read_last-last-requires : goal.read_last-last-requires
+read_last-last-requires c =
+    let size = c.in_ok-layout.ensures.ok.size in
+    let last = last_bytes c.args.bytes.now _ _ c.in_ok-layout.ensures.ok c.in_ok-layout.ensures.sound in
+    record {
+      size = omega (arith, length-drop {A = ℕ}, length-take {A = ℕ}, last.0, last.1);
+      reserved_1 = last.3;
+      reserved_4 = omega (arith, last.0, last.2);
+    }
 
 pub returns-clause-ok : goal.returns-clause-ok
 returns-clause-ok c =

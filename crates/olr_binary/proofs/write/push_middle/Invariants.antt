@@ -1,5 +1,5 @@
 use Rattle.olr_spec.proofs.Common.{◌≡◌, ◌++◌, take, flat_map, middle_bytes}
-use Rattle.olr_binary.proofs.write.write_v3.Given as goal
+use Rattle.olr_binary.proofs.write.push_middle.Given as goal
 
 -- the LRPs so far are written
 abbrev pub invariant-loop-point : goal.invariant-loop-point
