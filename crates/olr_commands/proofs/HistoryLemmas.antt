@@ -12,8 +12,8 @@ use Rattle.olr_commands.specs.State.{Named, Content, path_named, same_name, AreP
 use Rattle.olr_commands.specs.State.{Change, after, Command, Make, Begin, Commit, Abort, State, start_state, step}
 use Rattle.olr_commands.specs.State.{changes_made, changes_made_in, HasCoords, IsState, Dump}
 use Rattle.olr_commands.specs.Reply.{Entry, entry, Paths, HasAnswer, Published, ChangedOf, Differences, IsReply}
-use Rattle.olr_commands.specs.Reply.{Outcome, IsOutcome, Dumped}
-use Rattle.olr_commands.specs.History.{Run, History, AllHaveCoords, next_state, all_changes_made, OneOf, IsPublished}
+use Rattle.olr_commands.specs.Reply.{Outcome, IsOutcome, Dumped, Reply}
+use Rattle.olr_commands.specs.History.{Run, History, AllHaveCoords, brought_by, next_state, all_changes_made, OneOf, IsPublished}
 use Rattle.olr_commands.specs.History.{names, NamesChanged, reports, IsNamed, IsRefused, Headline, IsDump, IsDumped}
 use Rattle.olr_commands.proofs.NameLemmas.{same_is}
 use Rattle.olr_commands.proofs.StateLemmas.{Ends, ends, when_ok, next_ok, after_append, steps_keep}
@@ -74,6 +74,14 @@ pub outcome_leads : (s : State) (c : Command) (o : Outcome) (t : State) → IsOu
 outcome_leads s c (Ok reply) t h = h.0
 outcome_leads s c (Err fault) t h = h.1
 
+-- one command more before the changes of the rest
+content_more : (s u t : State) (a : Option Command) (reply : Reply) (rest : State → List Change) →
+    Leads s a (Ok reply) u → t.content ≡ after u.content (rest u) →
+    t.content ≡ after s.content (brought_by s a ++ rest (next_state s a))
+content_more s u t None reply rest h e = absurd h
+content_more s u t (Some c) reply rest h e =
+    rw (next_state_ok s u c h, after_append s.content (changes_made s c) (rest u), ← brings s u c h) e
+
 pub content_after : {A : Type 0} (asked : A → Option Command) (s t : State) (xs : List A) (os : List Outcome) →
     Run (λ a x o b. Leads a (asked x) o b) s xs os t
     → t.content ≡ after s.content (all_changes_made asked s xs os)
@@ -81,7 +89,7 @@ content_after asked s t [] [] h = grind arith
 content_after asked s t [] (o ∷ os) h = absurd h
 content_after asked s t (x ∷ xs) [] h = grind arith
 content_after asked s t (x ∷ xs) (Ok reply ∷ os) h =
-    grind (arith, brings, next_state_ok, after_append, content_after asked h.0 t xs os)
+    content_more s h.0 t (asked x) reply (λ u. all_changes_made asked u xs os) h.1 (content_after asked h.0 t xs os h.2)
 content_after asked s t (x ∷ xs) (Err fault ∷ os) h = grind (arith, content_after asked s t xs os)
 
 -- ---- answers

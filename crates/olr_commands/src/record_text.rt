@@ -36,8 +36,7 @@ pub fn push_node_record(text: &mut Vec<u8>, id: NodeId, coord: Coord) -> Result<
     text.extend_from_slice(b"node")?;
     push_number(text, id.number())?;
     push_coord(text, coord)?;
-    text.push(b'\n')?;
-    Ok(())
+    text.extend_from_slice(b"\n")
 }
 
 /// Appends the record that adds a line.
@@ -50,8 +49,7 @@ pub fn push_line_record(text: &mut Vec<u8>, id: LineId, line: &Line) -> Result<(
     push_number(text, line.from.number())?;
     push_number(text, line.to.number())?;
     push_attributes(text, line)?;
-    text.push(b'\n')?;
-    Ok(())
+    text.extend_from_slice(b"\n")
 }
 
 /// Appends the attributes of a line and its shape points.
@@ -64,8 +62,7 @@ fn push_attributes(text: &mut Vec<u8>, line: &Line) -> Result<(), AllocError>
     push_number(text, line.frc)?;
     push_number(text, line.fow)?;
     push_number(text, line.len)?;
-    push_shape(text, &line.shape)?;
-    Ok(())
+    push_shape(text, &line.shape)
 }
 
 /// Appends the record that adds a path.
@@ -78,8 +75,7 @@ pub fn push_path_record(text: &mut Vec<u8>, name: &[u8], path: &Path) -> Result<
     push_number(text, path.pos())?;
     push_number(text, path.neg())?;
     push_lines(text, path.lines())?;
-    text.push(b'\n')?;
-    Ok(())
+    text.extend_from_slice(b"\n")
 }
 
 /// Appends a comma and a longitude or a latitude in degrees.
@@ -88,8 +84,7 @@ fn push_units(text: &mut Vec<u8>, units: i64) -> Result<(), AllocError>
     ensures { OnOk result (text.new.items ≡ text.old.items ++ 44 ∷ degrees_text units) }
 {
     text.push(b',')?;
-    push_degrees(text, units)?;
-    Ok(())
+    push_degrees(text, units)
 }
 
 /// Appends the longitude and the latitude of a coordinate.
@@ -98,8 +93,7 @@ fn push_coord(text: &mut Vec<u8>, coord: Coord) -> Result<(), AllocError>
     ensures { OnOk result (text.new.items ≡ text.old.items ++ after_commas (fields_of_coord coord)) }
 {
     push_units(text, coord.lon())?;
-    push_units(text, coord.lat())?;
-    Ok(())
+    push_units(text, coord.lat())
 }
 
 /// Appends the distance and the coordinate of each shape point.
@@ -115,7 +109,6 @@ fn push_shape(text: &mut Vec<u8>, shape: &[Shape]) -> Result<(), AllocError>
 }
 
 /// Appends the number of each line.
-#[tactic(auto, using(crate::proofs::RecordLemmas::numbers_more))]
 fn push_lines(text: &mut Vec<u8>, lines: &[LineId]) -> Result<(), AllocError>
     ensures { OnOk result (text.new.items ≡ text.old.items ++ after_commas (map decimal lines.now)) }
 {
