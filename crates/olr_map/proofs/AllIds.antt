@@ -21,7 +21,7 @@ use Rattle.olr_spec.proofs.ListLemmas.{has_there, has_cases}
 use Rattle.olr_spec.proofs.MapLemmas.{keys_sorted}
 use Rattle.olr_spec.proofs.OrderLemmas.{exactly_out}
 use Rattle.std.proofs.lemmas.Cmp.{eq_by_cmp_equiv}
-use Rattle.olr_map.proofs.Insertions.{eqb_flip}
+use Rattle.olr_map.proofs.Lookups.{eqb_flip}
 use Rattle.olr_map.proofs.Numbers.{distinct_from_ascending, same_ascending}
 use Rattle.olr_map.proofs.Reading.{slot_of, id_has}
 
@@ -37,11 +37,7 @@ none_equal x (y ∷ ys) h = (
 
 not_among : (x : ℕ) (ys : List ℕ) → AllByRecursion (λ (y : ℕ). (x == y) ≡ false) ys → has ys x ≡ true → ⊥
 not_among x [] a h = absurd cc
-not_among x (y ∷ ys) a h =
-    elim (has_cases y ys x h) [
-      | inl is ↦ let e = eq-eqb x y (sym is) in let ne = a.0 in absurd cc
-      | inr later ↦ not_among x ys a.1 later
-    ]
+not_among x (y ∷ ys) a h = let later = not_among x ys a.1 in grind (arith, common_steps, has_cases, eq-eqb, later)
 
 in_either : (xs ys : List ℕ) (y : ℕ) → has (xs ++ ys) y ≡ true → (has xs y ≡ true) ⊎ (has ys y ≡ true)
 in_either xs ys y h = grind (arith, common_steps, list_any-append, or_cases)
@@ -148,11 +144,8 @@ module _ (M : Map) (m : IsMap M) where
       has (flat_map (lines_out M) vs) x ≡ true
   of_node [] v x i h = absurd cc
   of_node (w ∷ vs) v x i h =
-      list_any-append (λ y. y == x) (lines_out M w) (flat_map (lines_out M) vs)
-      ∙ elim (has_cases w vs v i) [
-        | inl is ↦ or_left _ _ (ap (λ (n : ℕ). has (lines_out M n) x) is ∙ h)
-        | inr later ↦ or_right _ _ (of_node vs v x later h)
-      ]
+      let rest = of_node vs v x in
+      grind (arith, common_steps, list_any-append, has_cases, rest, or_left, or_right)
 
   -- a line leaves one node
   one_start : (v w x : ℕ) → has (lines_out M v) x ≡ true → has (lines_out M w) x ≡ true → v ≡ w

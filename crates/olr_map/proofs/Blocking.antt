@@ -1,9 +1,9 @@
 -- Slots in blocks: after another slot is stored in a block, and as a list.
-use Rattle.olr_map.proofs.Common.{common_steps, ◌≡◌, ◌==◌, ℕ, ◌+◌, ◌-◌, ◌/◌, ◌%◌, ◌<◌, zero, suc, Bool, true, false}
-use Rattle.olr_map.proofs.Common.{cond, List, [], ◌∷◌, ◌++◌, Option, Some, None, length, slice_index, refl, sym, ap}
-use Rattle.olr_map.proofs.Common.{◌∙◌, inl, inr, arith, Result, Ok, Err, IsOk, option_or, AllByRecursion, lookup}
-use Rattle.olr_map.proofs.Common.{keys_of, cases_eq, cases_order, eq-eqb, ne_eqb, IsDistinct-head, IsDistinct-tail}
-use Rattle.olr_map.proofs.Common.{get_or_past, slot_in, all_in, pairs_of, slot_by, Blocks}
+use Rattle.olr_map.proofs.Common.{IsDistinct-head, IsDistinct-tail, AllByRecursion, common_steps, cases_eq}
+use Rattle.olr_map.proofs.Common.{get_or_past, slice_index, option_or, pairs_of, keys_of, slot_by, slot_in, Blocks, Err}
+use Rattle.olr_map.proofs.Common.{Option, Result, all_in, eq-eqb, length, lookup, ne_eqb, arith, false, Bool, IsOk}
+use Rattle.olr_map.proofs.Common.{List, None, Some, cond, refl, true, zero, ◌++◌, ◌==◌, suc, ◌%◌, ◌+◌, ◌-◌, ◌/◌, ℕ}
+use Rattle.olr_map.proofs.Common.{◌<◌, ◌∙◌, ◌∷◌, ◌≡◌, Ok, [], ap}
 use Rattle.std.proofs.Common.{◌*◌, nat_eq, eqb-true, OnOk}
 use Rattle.std.specs.List.{IsDistinct}
 use Rattle.std.specs.Cmp.Lexicographic.{pointwise, same_text, other_text}
@@ -26,20 +26,7 @@ module _ (old new : List (ℕ × Block)) (n : ℕ) (o : Option Block) (w : Optio
     (now : (q : ℕ) → lookup (λ p. q == p) new ≡ cond (n / 4 == q) o (lookup (λ p. q == p) old))
     (here : (i : ℕ) → slot_in o i ≡ cond (n % 4 == i) w (slot_in (lookup (λ p. n / 4 == p) old) i)) where
   pub block_changed : (k : ℕ) → found_in new k ≡ cond (n == k) w (found_in old k)
-  block_changed k =
-      ap (λ b. slot_in b (k % 4)) (now (k / 4))
-      ∙ elim (n / 4 == k / 4) as (λ t. (n / 4 == k / 4) ≡ t →
-      slot_in (cond t o (lookup (λ p. k / 4 == p) old)) (k % 4) ≡ cond (n == k) w (found_in old k)) [
-        | true ↦ λ e.
-            let is : n / 4 ≡ k / 4 = eqb-true (n / 4) (k / 4) e in
-            here (k % 4) ∙ ap (λ (t : Bool). cond t w (slot_in (lookup (λ p. n / 4 == p) old) (k % 4)))
-            (same_coord n k is)
-            ∙ ap (λ q. cond (n == k) w (slot_in (lookup (λ p. q == p) old) (k % 4))) is
-        | false ↦ λ e.
-            let ne : (n == k) ≡ false =
-            ne_eqb n k (λ is. let same = eq-eqb (n / 4) (k / 4) (ap (λ m. m / 4) is) in cc) in
-            ap (λ (t : Bool). cond t w (found_in old k)) (sym ne)
-      ] refl
+  block_changed k = grind (arith, common_steps, now (k / 4), here (k % 4), same_coord n k, eqb-true, ne_eqb)
 
 -- a block that is written and then removed
 pub removed_again : {A : Type 0} (t : Bool) (o p : Option A) → cond t None (cond t o p) ≡ cond t None p
@@ -98,12 +85,7 @@ used_removed old new key now u = record { used = λ q d is blank. grind (arith, 
 pub lookup-append : {X : Type 0} (test : ℕ → Bool) (xs ys : List (ℕ × X)) →
     lookup test (xs ++ ys) ≡ option_or (lookup test xs) (lookup test ys)
 lookup-append test [] ys = refl
-lookup-append test (e ∷ xs) ys =
-    elim (test e.0) as (λ t. cond t (Some e.1) (lookup test (xs ++ ys))
-    ≡ option_or (cond t (Some e.1) (lookup test xs)) (lookup test ys)) [
-      | true ↦ refl
-      | false ↦ lookup-append test xs ys
-    ]
+lookup-append test (e ∷ xs) ys = let rest = lookup-append test xs ys in grind (arith, common_steps, rest)
 
 pub or_none : {X : Type 0} (o p : Option X) → p ≡ None → option_or o p ≡ o
 or_none None p e = e
@@ -134,14 +116,8 @@ outside b k ne =
     let whole = div-add-mod' k 4 in
     let rest : k % 4 < 4 = mod-lt k (omega arith) in
     let long = b.1.four in
-    elim (cases_order (k / 4) b.0) [
-      | inl is ↦ let e = eq-eqb (k / 4) b.0 is in absurd cc
-      | inr o ↦ elim o [
-        | inl low ↦ below (b.0 * 4) b.1.slots k (omega arith)
-        | inr high ↦ within (b.0 * 4) b.1.slots (k - b.0 * 4) k (omega arith)
-            ∙ ap number_before (get_or_past b.1.slots (k - b.0 * 4) 0 (omega arith))
-      ]
-    ]
+    let at = k - b.0 * 4 in
+    grind (arith, common_steps, eq-eqb, below (b.0 * 4) b.1.slots k, within (b.0 * 4) b.1.slots at k, get_or_past b.1.slots at 0)
 
 no_key : (bs : List (ℕ × Block)) (q : ℕ) → AllByRecursion (λ (y : ℕ). (q == y) ≡ false) (keys_of bs) →
     lookup (λ p. q == p) bs ≡ None
@@ -153,19 +129,10 @@ pub all_listed : (bs : List (ℕ × Block)) (k : ℕ) → IsDistinct ◌==◌ (k
 all_listed [] k apart = refl
 all_listed (b ∷ bs) k apart =
     let later = all_listed bs k (IsDistinct-tail ◌==◌ b.0 (keys_of bs) apart) in
-    lookup-append (λ q. k == q) (from (b.0 * 4) b.1.slots) (all_in bs)
-    ∙ elim (k / 4 == b.0) as (λ t. (k / 4 == b.0) ≡ t →
-    option_or (lookup (λ q. k == q) (from (b.0 * 4) b.1.slots)) (lookup (λ q. k == q) (all_in bs))
-    ≡ slot_in (cond t (Some b.1) (lookup (λ q. k / 4 == q) bs)) (k % 4)) [
-      | true ↦ λ e.
-          let is : k / 4 ≡ b.0 = eqb-true (k / 4) b.0 e in
-          let whole = div-add-mod' k 4 in
-          let none : lookup (λ q. k / 4 == q) bs ≡ None =
-          ap (λ n. lookup (λ q. n == q) bs) is ∙ no_key bs b.0 (IsDistinct-head ◌==◌ b.0 (keys_of bs) apart) in
-          or_none _ _ (later ∙ ap (λ o. slot_in o (k % 4)) none)
-          ∙ within (b.0 * 4) b.1.slots (k % 4) k (omega arith)
-      | false ↦ λ e. ap (λ o. option_or o (lookup (λ q. k == q) (all_in bs))) (outside b k e) ∙ later
-    ] refl
+    let none = no_key bs b.0 (IsDistinct-head ◌==◌ b.0 (keys_of bs) apart) in
+    let here = within (b.0 * 4) b.1.slots (k % 4) k in
+    let whole = div-add-mod' k 4 in
+    grind (arith, common_steps, lookup-append, later, none, here, whole, outside b k, or_none, eqb-true)
 
 pub listed_found : (b : Blocks) (k : ℕ) → lookup (λ q. k == q) (pairs_of b) ≡ slot_by b k
 listed_found b k = all_listed b.blocks.entries k b.apart

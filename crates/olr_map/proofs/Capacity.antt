@@ -1,12 +1,11 @@
 -- Empty tables, and tables with more capacity.
-use Rattle.olr_map.proofs.Common.{map, ◌≡◌, ◌==◌, ◌&&◌, ℕ, ◌<◌, ◌≤◌, true, false, cond, [], length, Some, None}
-use Rattle.olr_map.proofs.Common.{unwrap_or, refl, sym, ap, ◌∙◌, subst, arith, option_map, option_map_or, FinMap, IsRelinked}
-use Rattle.olr_map.proofs.Common.{lookup, cond-true, eqb-true, eq-eqb, same_Some, Coord, Map, IsMap, Line}
-use Rattle.olr_map.proofs.Common.{pairs_of, slot_by, spare_of, at, held, all_held}
-use Rattle.olr_map.proofs.Common.{spare_numbers, in_slot, node_slots, node_room, links_at, lines_on, links_room}
-use Rattle.olr_map.proofs.Common.{lines_at, links_in, map_from, node_slot, IsListed, IsIndexed, AreTables}
-use Rattle.olr_map.proofs.Common.{Room, HasRoomFor, tables_map, room_of, room_at, IsRoomWithin, IsReserved, Blocks}
-use Rattle.olr_map.proofs.Common.{Links, NodeSlots, Side, Out, In, LineTable, RoadMap, common_steps}
+use Rattle.olr_map.proofs.Common.{map, option_map, option_map_or, IsRelinked, spare_numbers, IsRoomWithin, common_steps}
+use Rattle.olr_map.proofs.Common.{◌≡◌, unwrap_or, cond-true, node_slots, links_room, HasRoomFor, tables_map, IsReserved}
+use Rattle.olr_map.proofs.Common.{◌==◌, ◌&&◌, true, cond, Some, None, refl, subst, arith, Coord, IsMap, Blocks, Links}
+use Rattle.olr_map.proofs.Common.{ℕ, ◌<◌, ◌≤◌, [], sym, ap, ◌∙◌, Map, Line, at, held, Room, Side, Out, In}
+use Rattle.olr_map.proofs.Common.{false, pairs_of, spare_of, all_held, links_at, lines_on, lines_at, links_in, map_from}
+use Rattle.olr_map.proofs.Common.{length, FinMap, lookup, eq-eqb, slot_by, in_slot, IsListed, room_of, room_at, RoadMap}
+use Rattle.olr_map.proofs.Common.{eqb-true, same_Some, node_room, node_slot, IsIndexed, AreTables, NodeSlots, LineTable}
 use Rattle.std.specs.Ordering.{nat_cmp}
 use Rattle.std.specs.FinMap.{from_entries}
 use Rattle.olr_spec.specs.Map.{empty_map}
@@ -15,9 +14,8 @@ use Rattle.olr_map.specs.Tables.{coord_in}
 use Rattle.std.proofs.lemmas.Bool.{and_from, and_parts}
 use Rattle.olr_map.specs.Linked.{IsRoomier}
 use Rattle.olr_map.proofs.ColumnLemmas.{few_nodes}
-use Rattle.olr_map.proofs.Insertions.{same_answers}
+use Rattle.olr_map.proofs.Lookups.{all_get, same_answers}
 use Rattle.olr_map.proofs.Blocking.{listed_found}
-use Rattle.olr_map.proofs.Lookups.{all_get}
 use Rattle.olr_map.proofs.Indexing.{id_of, place_of, one_node, same_side, Relisted, relisted}
 use Rattle.olr_map.proofs.Making.{le_same}
 use Rattle.olr_map.proofs.Reading.{got_node, got_line, kept_from}
@@ -43,11 +41,7 @@ kept_none b s ls no_nodes no_slots no_lines =
 -- ---- at least as much capacity
 
 pub within_trans : (R S T : Room) → IsRoomWithin R S → IsRoomWithin S T → IsRoomWithin R T
-within_trans R S T a b =
-    record {
-      nodes = omega (arith, a.nodes, b.nodes);
-      lines = λ side v. omega (arith, a.lines side v, b.lines side v);
-    }
+within_trans R S T a b = grind (arith, a.lines, b.lines)
 
 pub reserved_trans : (s t u : RoadMap) → IsReserved s t → IsReserved t u → IsReserved s u
 reserved_trans s t u a b =

@@ -1,5 +1,5 @@
 -- Nodes in columns: values are added to, removed from and replaced in their slots.
-use Rattle.olr_map.proofs.Common.{◌≡◌, ◌==◌, ℕ, ◌+◌, ◌<◌, ◌≤◌, ◌^◌, zero, suc, true, false, cond, List, [], ◌∷◌, ◌++◌}
+use Rattle.olr_map.proofs.Common.{◌≡◌, ◌==◌, ℕ, ◌+◌, ◌<◌, ◌≤◌, ◌^◌, zero, suc, true, cond, List, [], ◌∷◌, ◌++◌}
 use Rattle.olr_map.proofs.Common.{Option, Some, None, is_some, length, get_or, set, vec_len, refl, sym, ap, ◌∙◌, subst}
 use Rattle.olr_map.proofs.Common.{arith, cond-true, eq-eqb, length-set, length_push, same_Some, at, IsWritten}
 use Rattle.olr_map.proofs.Common.{IsInserted, IsRemoved, IsReplaced, slots_of, rows, node_slots, links_at, with_links}
@@ -9,7 +9,7 @@ use Rattle.std.proofs.lemmas.Bool.{cases_lt, lt-ltb, le-ltb}
 use Rattle.olr_map.specs.Slabs.{Fills}
 use Rattle.olr_map.specs.Columns.{with_lines}
 use Rattle.olr_map.specs.declared.slab.Slab.{Slab}
-use Rattle.olr_map.proofs.Insertions.{unchanged_at}
+use Rattle.olr_map.proofs.Lookups.{unchanged_at}
 use Rattle.olr_map.proofs.SlotLemmas.{some_within, few_slots, get_or-written, get_or-pushed}
 
 abbrev Heads : Type 0
@@ -116,12 +116,9 @@ module _ (s : NodeSlots) where
       record {
         was = was;
         now = λ q.
-            row_at hs' os' is' q d a b ∙ (λ j. with_lines (heads q j) (outs q j) (ins q j))
-            ∙ elim (p == q) as (λ c. with_lines (cond c h (at hs q)) (cond c o (get_or os q d)) (cond c i (get_or is q d))
-            ≡ cond c w (at (node_slots s) q)) [
-              | true ↦ now
-              | false ↦ sym (row_at hs os is q d s.outs_beside s.ins_beside)
-            ];
+            let new = row_at hs' os' is' q d a b in
+            let old = row_at hs os is q d s.outs_beside s.ins_beside in
+            grind (arith, common_steps, new, old, heads q, outs q, ins q);
       }
 
   module _ (p : ℕ) (e : NodeEntry) (here : at (node_slots s) p ≡ Some e) where

@@ -4,7 +4,7 @@ use Rattle.olr_map.proofs.Common.{◌∙◌, inl, inr, option_map, eq-eqb, ne_eq
 use Rattle.olr_map.proofs.Common.{Coord, slot_by, at, IsWritten, in_slot, links_at, with_links, IsRelinked, node_in}
 use Rattle.olr_map.proofs.Common.{links_in, IsIndexed, Blocks, Links, NodeEntry, Side, Out, In, common_steps, arith}
 use Rattle.std.proofs.Common.{eqb-true}
-use Rattle.olr_map.proofs.Insertions.{over_cond, unchanged_at}
+use Rattle.olr_map.proofs.Lookups.{over_cond, unchanged_at}
 
 abbrev pub id_of : NodeEntry → ℕ
 id_of e = e.id
@@ -113,26 +113,11 @@ module _ (b : Blocks) (es : Slots) (indexed : IsIndexed b es) where
     pub written_indexed : IsIndexed b' es'
     written_indexed =
         record {
-          filled = λ k q h. elim (slot_from b es entry_of one_node b' es' p v o w t was now k q h) [
-            | inl n ↦ ap (option_map id_of) (ap (at es') (sym n.1) ∙ arrives b es entry_of one_node b' es' p v o w t was now)
-                ∙ id ∙ ap (slot_if v) n.2.1 ∙ ap (λ m. Some m) n.0
-            | inr l ↦ ap (option_map id_of) (stays b es entry_of one_node b' es' p v o w t was now k q l.0 l.1)
-                ∙ indexed.filled k q l.1
-          ];
-          named = λ k q h.
-              elim (p == q) as (λ c. (p == q) ≡ c → option_map id_of (cond c w (at es q)) ≡ Some k →
-              slot_by b' k ≡ Some q) [
-                | true ↦ λ i g.
-                    let x = value_if v k w (sym id ∙ g) in
-                    now k ∙ cond-true (v == k) (slot_if p w) (slot_by b k) (eq-eqb v k x.2) ∙ ap (slot_if p) x.1
-                    ∙ ap (λ n. Some n) (eqb-true p q i)
-                | false ↦ λ i g.
-                    let old = indexed.named k q g in
-                    let ne : (v == k) ≡ false =
-                    ne_eqb v k (λ m. let x = value_if p q o (sym was ∙ ap (slot_by b) m ∙ old) in
-                    let is = eq-eqb p q x.2 in cc) in
-                    now k ∙ cond-false (v == k) (slot_if p w) (slot_by b k) ne ∙ old
-              ] refl (ap (option_map id_of) (sym (t.now q)) ∙ h);
+          filled = λ k q h.
+              let from = slot_from b es entry_of one_node b' es' p v o w t was now k q h in
+              let other = stays b es entry_of one_node b' es' p v o w t was now k q in
+              grind (arith, common_steps, from, t.now q, indexed.filled k q, other);
+          named = λ k q h. grind (arith, common_steps, now k, t.now q, indexed.named k q, value_if, eq-eqb, eqb-true, ne_eqb);
         }
 
   -- ---- node v has other lines on one side

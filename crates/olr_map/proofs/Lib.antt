@@ -1,5 +1,4 @@
 pub mod Common
-pub mod Insertions
 pub mod Lookups
 pub mod Numbers
 pub mod SlotLemmas
@@ -18,4 +17,3 @@ pub mod Capacity
 pub mod Using
 pub mod Sizes
 pub mod Log
-pub mod SlotsStay

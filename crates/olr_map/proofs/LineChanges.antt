@@ -11,8 +11,7 @@ use Rattle.olr_map.proofs.Common.{Blocks, Links, LineEnd, NodeEntry, NodeSlots, 
 use Rattle.olr_map.proofs.Common.{TableChange, PutLine, SetLine, TakeLine, common_steps}
 use Rattle.std.specs.Ordering.{nat_cmp}
 use Rattle.olr_map.proofs.ColumnLemmas.{few_nodes}
-use Rattle.olr_map.proofs.Insertions.{over_cond, unchanged_at, got_insert, got_remove, same_answers}
-use Rattle.olr_map.proofs.Lookups.{all_get}
+use Rattle.olr_map.proofs.Lookups.{all_get, over_cond, unchanged_at, got_insert, got_remove, same_answers}
 use Rattle.olr_map.proofs.Indexing.{Slots, place_of, entry_of, relisted}
 use Rattle.olr_map.proofs.LineRecords.{record_of}
 use Rattle.olr_map.proofs.Listing.{ascends_at, seen, here_listed, other_listed}
@@ -290,8 +289,7 @@ module _ (t : RoadMap) (mid nodes' : NodeSlots) (lines' : LineTable) (n x p q : 
       record_of N x k (all_get lines'.by_number.entries x ∙ r.now x ∙ cond-true (x == x) (Some k) (held t.lines x) (eq-eqb x x refl)) in
       let back : (side : Side) → near side l ≡ near side (line_at N x) =
       λ side. ap (near side) (sym end) ∙ sym (same_ends side) ∙ ap (near side) (sym now) in
-      line_made r (SetLine x k) (SetLine x l) can
-      (line_map r (finmap.insert M.lines x k) (got_insert M.lines x k)
+      line_made r (SetLine x k) (SetLine x l) can (line_map r (finmap.insert M.lines x k) (got_insert M.lines x k)
       ∙ ap (λ (j : Line). record M { lines = finmap.insert M.lines x j })
       (λ i. record k { from = can.whole.0 i; to = can.whole.1 i }) ∙ (made_as M (SetLine x k) can.accepted).2)
       (ap (λ (j : Line). maps.Set_line x j.frc j.fow j.len j.shape) (sym end)) (λ _. tt) (back Out, back In) (λ R. refl)

@@ -1,8 +1,8 @@
 -- Lines that pass a test, and the records of the lines of a map.
-use Rattle.olr_map.proofs.Common.{◌≡◌, ◌==◌, ℕ, Bool, true, false, cond, List, [], ◌∷◌, Option, Some, None, unwrap_or}
-use Rattle.olr_map.proofs.Common.{refl, sym, ap, ◌∙◌, nat_cmp, ◌||◌, list_any, eq_by_cmp, get, entries, get-entries}
-use Rattle.olr_map.proofs.Common.{ne_eqb, or_left, or_right, false_from_ne_true, Map, IsMap, Line, has_node, line_at}
-use Rattle.olr_map.proofs.Common.{no_line, has-lines_where, passes_at, is_some_of, common_steps, arith}
+use Rattle.olr_map.proofs.Common.{false_from_ne_true, has-lines_where, common_steps, get-entries, is_some_of, passes_at}
+use Rattle.olr_map.proofs.Common.{unwrap_or, has_node, list_any, or_right, entries, line_at, nat_cmp, no_line, or_left}
+use Rattle.olr_map.proofs.Common.{Option, ne_eqb, IsMap, arith, false, Bool, Line, List, None, Some, refl, true, ◌==◌}
+use Rattle.olr_map.proofs.Common.{Map, get, sym, ◌∙◌, ◌∷◌, ◌≡◌, [], ap, ℕ}
 use Rattle.std.specs.FinMap.Entries.{find}
 use Rattle.olr_spec.proofs.UndoLemmas.{any_has}
 
@@ -11,12 +11,7 @@ use Rattle.olr_spec.proofs.UndoLemmas.{any_has}
 any_found : (test : Line → Bool) (x : ℕ) (l : Line) (es : List (ℕ × Line)) → find nat_cmp x es ≡ Some l →
     test l ≡ true → list_any (λ e. test e.1) es ≡ true
 any_found test x l [] e h = absurd cc
-any_found test x l (f ∷ es) e h =
-    elim (eq_by_cmp nat_cmp x f.0) as (λ b. cond b (Some f.1) (find nat_cmp x es) ≡ Some l →
-    (test f.1 || list_any (λ e. test e.1) es) ≡ true) [
-      | true ↦ λ g. let is : f.1 ≡ l = cc in or_left _ _ (ap test is ∙ h)
-      | false ↦ λ g. or_right _ _ (any_found test x l es g h)
-    ] e
+any_found test x l (f ∷ es) e h = let rest = any_found test x l es in grind (arith, common_steps, rest, or_left, or_right)
 
 pub used_by : (M : Map) (test : Line → Bool) (x : ℕ) (l : Line) → get M.lines x ≡ Some l → test l ≡ true →
     list_any (λ e. test e.1) (entries M.lines) ≡ true
@@ -30,11 +25,8 @@ none_passes test (Some l) h = h l refl
 pub unused_by : (M : Map) (test : Line → Bool) → ((x : ℕ) (l : Line) → get M.lines x ≡ Some l → test l ≡ false) →
     list_any (λ e. test e.1) (entries M.lines) ≡ false
 unused_by M test h =
-    false_from_ne_true _ (λ t.
-    let p = any_has test (entries M.lines) t in
-    let yes : passes_at test (get M.lines p.0) ≡ true = sym (has-lines_where M test p.0) ∙ p.1 in
-    let no : passes_at test (get M.lines p.0) ≡ false = none_passes test (get M.lines p.0) (h p.0) in
-    cc)
+    let found = any_has test (entries M.lines) in
+    grind (arith, common_steps, false_from_ne_true, found, has-lines_where M test, none_passes)
 
 -- ---- lines of a sound map
 

@@ -1,21 +1,19 @@
 -- The lines of a node with their far ends, after a line is added, removed or set, and after nodes are added or removed.
-use Rattle.olr_map.proofs.Common.{common_steps, ◌≡◌, ◌==◌, ◌&&◌, ◌||◌, ℕ, zero, suc, ◌<◌, Bool, true, false, cond, List}
-use Rattle.olr_map.proofs.Common.{[], ◌∷◌, map, Option, Some, None, is_some, unwrap_or, length, get_or, set, Result, Ok}
-use Rattle.olr_map.proofs.Common.{Err, refl, sym, ap, ◌∙◌, arith, option_map, remove, IsStrictlyIncreasing, FinMap, get}
-use Rattle.olr_map.proofs.Common.{eq-eqb, ne_eqb, false_from_ne_true, sorted_from_strictly_increasing, Coord, Map}
-use Rattle.olr_map.proofs.Common.{IsMap, Line, has_node, line_at, no_line, in_use, has, place_of, place_not}
-use Rattle.olr_map.proofs.Common.{put_ascends, has-lines_where, passes_at, ascend_out, near, far, lines_at, end_at}
-use Rattle.olr_map.proofs.Common.{IsListed, lines_on, ends_on, links_room, IsPut, Links, LineEnd, Side, Out, In}
-use Rattle.olr_map.proofs.Common.{map-append}
+use Rattle.olr_map.proofs.Common.{common_steps, false, put_ascends, has-lines_where, ascend_out, links_room, map-append}
+use Rattle.olr_map.proofs.Common.{◌≡◌, ◌||◌, zero, suc, ◌<◌, Bool, true, cond, List, Some, None, refl, Line, near, Side}
+use Rattle.olr_map.proofs.Common.{◌==◌, ◌&&◌, arith, FinMap, eq-eqb, ne_eqb, Coord, IsMap, in_use, end_at, IsPut, Links}
+use Rattle.olr_map.proofs.Common.{ℕ, ◌∷◌, map, set, Ok, Err, sym, ap, ◌∙◌, get, Map, has, far, Out, In}
+use Rattle.olr_map.proofs.Common.{[], unwrap_or, has_node, place_of, place_not, passes_at, lines_at, IsListed, lines_on}
+use Rattle.olr_map.proofs.Common.{Option, is_some, length, get_or, Result, remove, line_at, no_line, ends_on, LineEnd}
+use Rattle.olr_map.proofs.Common.{option_map, IsStrictlyIncreasing, sorted_from_strictly_increasing}
 use Rattle.std.proofs.Common.{not}
 use Rattle.std.specs.List.{insert}
 use Rattle.std.specs.List.Sorted.{IsStrictlySortedBy, IsBinarySearchResult}
 use Rattle.std.specs.Ordering.{nat_cmp}
-use Rattle.std.proofs.lemmas.Bool.{or_parts}
 use Rattle.olr_spec.proofs.AscendingLists.{has-insert, has-remove, has_at, ascends-remove}
 use Rattle.olr_spec.proofs.ListLemmas.{map_same}
 use Rattle.olr_spec.proofs.OrderLemmas.{ascend_in}
-use Rattle.olr_map.proofs.Insertions.{over_cond, unchanged_at}
+use Rattle.olr_map.proofs.Lookups.{over_cond, unchanged_at}
 use Rattle.olr_map.proofs.Numbers.{above, same_ascending}
 use Rattle.olr_map.proofs.LineRecords.{none_passes, used_by, other_node, line_starts, line_ends}
 use Rattle.std.proofs.lemmas.List.{take-map, drop-map}
@@ -144,9 +142,7 @@ far_there In M x l sound e = line_starts M sound x l e
 unused_fails : (M : Map) (v x : ℕ) (l : Line) → in_use M v ≡ false → get M.lines x ≡ Some l → ((l.to == v) ≡ false)
     × ((l.from == v) ≡ false)
 unused_fails M v x l free e =
-    or_parts (l.to == v) (l.from == v)
-    (false_from_ne_true (l.to == v || l.from == v) (λ t. let used = used_by M (λ k. k.to == v || k.from == v) x l e t in
-    cc))
+    let used = used_by M (λ k. k.to == v || k.from == v) x l e in grind (arith, common_steps, used)
 
 pub near_unused : (side : Side) (M : Map) (v x : ℕ) (l : Line) → in_use M v ≡ false → get M.lines x ≡ Some l →
     (near side l == v) ≡ false

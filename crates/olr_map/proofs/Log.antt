@@ -1,19 +1,13 @@
 -- Changes that can be made with some capacity can be made with more.
-use Rattle.olr_map.proofs.Common.{◌≡◌, ℕ, ◌≤◌, List, [], ◌∷◌, ◌++◌, reverse, Ok, IsOk, sym, ap, ◌∙◌, subst, arith, Map}
-use Rattle.olr_map.proofs.Common.{edited, Room, IsRoomWithin, HasRoomFor, changed_at, room_after, change_edit, CanMake}
-use Rattle.olr_map.proofs.Common.{map_after, CanMakeAll, made_all, room_kept, near, sides, Side, TableChange, PutNode}
-use Rattle.olr_map.proofs.Common.{MoveNode, TakeNode, PutLine, SetLine, TakeLine, common_steps}
+use Rattle.olr_map.proofs.Common.{IsRoomWithin, common_steps, TableChange, change_edit, CanMakeAll, HasRoomFor, CanMake}
+use Rattle.olr_map.proofs.Common.{changed_at, room_after, map_after, made_all, reverse, edited, arith, subst, IsOk, Map}
+use Rattle.olr_map.proofs.Common.{List, Room, Side, ◌++◌, sym, ◌∙◌, ◌∷◌, ◌≡◌, ◌≤◌, Ok, [], ap, ℕ}
 use Rattle.std.proofs.lemmas.List.{reverse-append}
 use Rattle.olr_map.proofs.Making.{made_ok}
 use Rattle.olr_spec.specs.Map as map
 
 room_fits : (M : Map) (R S : Room) (e : map.Edit) → IsRoomWithin R S → HasRoomFor M R e → HasRoomFor M S e
-room_fits M R S (map.Add_node v c) w h = let n = w.nodes in omega (arith, h)
-room_fits M R S (map.Move_node v c) w h = tt
-room_fits M R S (map.Drop_node v) w h = tt
-room_fits M R S (map.Add_line x l) w h = λ side. let fits = h side in let le = w.lines side (near side l) in omega arith
-room_fits M R S (map.Set_line x frc fow len shape) w h = tt
-room_fits M R S (map.Drop_line x) w h = tt
+room_fits M R S e w h = grind (arith, common_steps, w.lines)
 
 -- the same capacity at one node
 changed_within : (R S : Room) (k : ℕ) (n : Side → ℕ) → IsRoomWithin R S → (side : Side) (v : ℕ) →
@@ -21,24 +15,10 @@ changed_within : (R S : Room) (k : ℕ) (n : Side → ℕ) → IsRoomWithin R S 
 changed_within R S k n w side v = grind (arith, common_steps, w.lines side v)
 
 after_within : (R S : Room) (c : TableChange) → IsRoomWithin R S → IsRoomWithin (room_after R c) (room_after S c)
-after_within R S (PutNode v place o i) w =
-    let n = w.nodes in
-    record { nodes = omega arith; lines = changed_within R S v (λ side. room_kept (sides o i side)) w }
-after_within R S (MoveNode v c) w = w
-after_within R S (TakeNode v) w =
-    let n = w.nodes in record { nodes = omega arith; lines = changed_within R S v (λ _. 0) w }
-after_within R S (PutLine x l) w = w
-after_within R S (SetLine x l) w = w
-after_within R S (TakeLine x) w = w
+after_within R S c w = grind (arith, common_steps, changed_within)
 
 pub can_with_more : (M : Map) (R S : Room) (c : TableChange) → IsRoomWithin R S → CanMake M R c → CanMake M S c
-can_with_more M R S c w can =
-    record {
-      accepted = can.accepted;
-      placed = can.placed;
-      fits = room_fits M R S (change_edit c) w can.fits;
-      whole = can.whole;
-    }
+can_with_more M R S c w can = grind (arith, room_fits)
 
 pub all_with_more : (M : Map) (R S : Room) (cs : List TableChange) → IsRoomWithin R S → CanMakeAll M R cs →
     CanMakeAll M S cs
@@ -77,9 +57,7 @@ last_of xs ys c e = grind (arith, common_steps, last_first)
 -- once it is undone, the others can be undone
 pub rest_can : (M N : Map) (R S : Room) (c : TableChange) (cs ds : List TableChange) → ds ≡ c ∷ cs → CanMakeAll M R ds →
     N ≡ map_after M c → IsRoomWithin (room_after R c) S → CanMakeAll N S cs
-rest_can M N R S c cs ds is all same within =
-    all_on (map_after M c) N (room_after R c) S cs same within
-    (subst (λ (es : List TableChange). CanMakeAll M R es) is all).1
+rest_can M N R S c cs ds is all same within = grind (arith, common_steps, all_on)
 
 pub rest_made : (M N : Map) (c : TableChange) (cs ds : List TableChange) → ds ≡ c ∷ cs → N ≡ map_after M c →
     made_all N cs ≡ made_all M ds

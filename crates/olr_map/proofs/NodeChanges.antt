@@ -2,20 +2,19 @@
 use Rattle.olr_map.proofs.Common.{◌≡◌, ◌==◌, ℕ, ◌+◌, ◌<◌, ◌≤◌, true, false, cond, [], map, Option, Some, None}
 use Rattle.olr_map.proofs.Common.{unwrap_or, length, refl, sym, ap, ◌∙◌, subst, arith, option_map, option_map_or}
 use Rattle.olr_map.proofs.Common.{FinMap, get, eqb-true, nil_from_length, same_Some, Coord, Map, IsMap, Line, has_node}
-use Rattle.olr_map.proofs.Common.{no_coord, has-lines_where, passed_line, slot_by, spare_of, IsWritten}
-use Rattle.olr_map.proofs.Common.{IsInserted, IsRemoved, IsReplaced, all_held, node_slots, node_room, links_at}
-use Rattle.olr_map.proofs.Common.{lines_on, ends_on, links_room, room_kept, sides, near, far, node_in, links_in}
-use Rattle.olr_map.proofs.Common.{map_from, node_slot, lines_at, end_at, IsListed, IsIndexed, AreTables, tables_map}
-use Rattle.olr_map.proofs.Common.{room_of, room_at, changed_at, CanMake, IsRoomWithin, map_after, IsChangeMade, Blocks}
-use Rattle.olr_map.proofs.Common.{Links, NodeEntry, NodeSlots, Side, Out, In, RoadMap, PutNode, MoveNode, TakeNode}
-use Rattle.olr_map.proofs.Common.{common_steps}
+use Rattle.olr_map.proofs.Common.{no_coord, has-lines_where, passed_line, slot_by, spare_of, IsWritten, IsInserted}
+use Rattle.olr_map.proofs.Common.{IsRemoved, IsReplaced, all_held, node_slots, node_room, links_at, lines_on, ends_on}
+use Rattle.olr_map.proofs.Common.{links_room, room_kept, sides, near, far, node_in, links_in, map_from, node_slot}
+use Rattle.olr_map.proofs.Common.{lines_at, end_at, IsListed, IsIndexed, AreTables, tables_map, room_of, room_at}
+use Rattle.olr_map.proofs.Common.{changed_at, CanMake, IsRoomWithin, map_after, IsChangeMade, Blocks, Links, NodeEntry}
+use Rattle.olr_map.proofs.Common.{NodeSlots, Side, Out, In, RoadMap, PutNode, MoveNode, TakeNode, common_steps}
 use Rattle.std.proofs.Common.{length-take-le}
 use Rattle.std.specs.Ordering.{nat_cmp}
 use Rattle.olr_spec.specs.Map.{coord_at}
 use Rattle.olr_map.specs.Linked.{IsBare, EmptyLinks, lines_kept}
 use Rattle.olr_map.specs.declared.links.Links.TheVariants.{Inline, Spilled}
 use Rattle.olr_map.proofs.ColumnLemmas.{few_nodes}
-use Rattle.olr_map.proofs.Insertions.{eqb_flip, over_cond, unchanged_at, got_insert, got_remove, same_answers}
+use Rattle.olr_map.proofs.Lookups.{eqb_flip, over_cond, unchanged_at, got_insert, got_remove, same_answers}
 use Rattle.olr_map.proofs.Indexing.{id_of, place_of, slot_if, id_is, node_was, written_node, written_indexed}
 use Rattle.olr_map.proofs.Listing.{absent_lines, unused_lines, far_there, far_unused, replaced}
 use Rattle.olr_map.proofs.LineRecords.{record_of, other_node}
@@ -106,10 +105,7 @@ module _ {t : RoadMap} {b' : Blocks} {nodes' : NodeSlots} {v : ℕ} {o w : Optio
         (node_was t.index (node_slots t.nodes) t.kept.indexed b' (node_slots nodes') r.slot v o w r.is r.was r.now r.id)
 
     room_now : (side : Side) (k : ℕ) → room_at side after k ≡ changed_at v (entry_room side w) (room_at side t) k
-    room_now side k =
-        ap (λ q. option_map_or (λ l. links_room l) q 0) (links' side k)
-        ∙ over_cond (λ q. option_map_or (λ l. links_room l) q 0) (v == k) (option_map (links_at side) w)
-        (links_in side t.index (node_slots t.nodes) k)
+    room_now side k = grind (arith, common_steps, links', over_cond)
 
     -- as much as was expected, and as much as there was once that is changed back
     pub room_forth : (side : Side) (n : ℕ) → entry_room side w ≡ n → (k : ℕ) →
@@ -118,9 +114,7 @@ module _ {t : RoadMap} {b' : Blocks} {nodes' : NodeSlots} {v : ℕ} {o w : Optio
 
     pub room_back : (side : Side) (n : ℕ) → entry_room side o ≡ n → (k : ℕ) →
         room_at side t k ≤ changed_at v n (room_at side after) k
-    room_back side n is =
-        let was = room_was side in
-        changed_back (room_at side t) (room_at side after) v (entry_room side w) n (room_now side) (omega arith)
+    room_back side n is = grind (arith, changed_back, room_now, room_was)
 
     pub room_same : (side : Side) → entry_room side o ≡ entry_room side w → (k : ℕ) →
         room_at side t k ≤ room_at side after k

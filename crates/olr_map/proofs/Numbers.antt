@@ -1,8 +1,7 @@
 -- Ascending lists of numbers, by the numbers that they contain.
-use Rattle.olr_map.proofs.Common.{common_steps, ◌≡◌, ◌==◌, ℕ, ◌<◌, ◌≤◌, true, false, ◌||◌, List, [], ◌∷◌, refl, sym, ap}
-use Rattle.olr_map.proofs.Common.{◌∙◌, subst, arith, nat_cmp, Less, AllByRecursion, IsStrictlyIncreasing, ne_eqb}
-use Rattle.olr_map.proofs.Common.{eqb-true, ranked, IsDistinct-from_apart, sorted_from_strictly_increasing, has}
-use Rattle.olr_map.proofs.Common.{has_here}
+use Rattle.olr_map.proofs.Common.{sorted_from_strictly_increasing, IsDistinct-from_apart, IsStrictlyIncreasing, nat_cmp}
+use Rattle.olr_map.proofs.Common.{AllByRecursion, common_steps, eqb-true, has_here, ne_eqb, ranked, arith, subst, Less}
+use Rattle.olr_map.proofs.Common.{List, refl, true, ◌==◌, has, sym, ◌<◌, ◌∙◌, ◌∷◌, ◌≡◌, ◌≤◌, [], ap, ℕ}
 use Rattle.std.specs.List.{IsDistinct}
 use Rattle.std.specs.List.Sorted.{IsStrictlySortedBy}
 use Rattle.std.proofs.lemmas.Map.Keys.{below_from_sorted}
@@ -14,11 +13,7 @@ distinct_from_ascending xs up = grind (arith, common_steps, IsDistinct-from_apar
 
 pub above : (x n : ℕ) (xs : List ℕ) → AllByRecursion (λ (y : ℕ). nat_cmp x y ≡ Less) xs → has xs n ≡ true → x < n
 above x n [] h e = absurd cc
-above x n (y ∷ ys) h e =
-    elim (y == n) as (λ b. (y == n) ≡ b → (b || has ys n) ≡ true → x < n) [
-      | true ↦ λ p q. let lt : x < y = ranked x y Less (sym h.0) in let is = eqb-true y n p in omega arith
-      | false ↦ λ p q. above x n ys h.1 q
-    ] refl e
+above x n (y ∷ ys) h e = let rest = above x n ys in grind (arith, common_steps, ranked, eqb-true, rest)
 
 -- a number in a list is its first, or is greater
 in_list : (x n : ℕ) (xs : List ℕ) → AllByRecursion (λ (y : ℕ). nat_cmp x y ≡ Less) xs → has (x ∷ xs) n ≡ true → x ≤ n

@@ -1,7 +1,7 @@
 -- The map that the tables represent.
 use Rattle.olr_map.proofs.Common.{◌≡◌, ◌==◌, ℕ, ◌<◌, ◌≤◌, ◌^◌, true, false, List, [], map, Option, Some, None, is_some}
-use Rattle.olr_map.proofs.Common.{length, refl, sym, ap, subst, ◌∙◌, arith, option_map, option_map_or}
-use Rattle.olr_map.proofs.Common.{false_from_ne_true, FinMap, get, Map, Line, IsMap, has_node, has_line, no_coord}
+use Rattle.olr_map.proofs.Common.{length, refl, sym, ap, subst, ◌∙◌, arith, option_map}
+use Rattle.olr_map.proofs.Common.{false_from_ne_true, FinMap, get, Map, Line, IsMap, has_node, has_line}
 use Rattle.olr_map.proofs.Common.{none_of, some_of, pairs_of, slot_by, at, node_slots, links_at, node_in, links_in}
 use Rattle.olr_map.proofs.Common.{lines_at, end_at, map_from, node_slot, IsListed, IsIndexed, AreTables, tables_map}
 use Rattle.olr_map.proofs.Common.{Blocks, Links, NodeEntry, Side, RoadMap, held, all_held, in_slot, common_steps}
@@ -16,33 +16,19 @@ use Rattle.olr_map.proofs.SlotLemmas.{holds_within}
 use Rattle.olr_map.proofs.Indexing.{id_of, place_of, entry_of, one_node}
 use Rattle.olr_map.proofs.Listing.{absent_lines}
 
-or_there : {X Y : Type 0} (f : X → Y) (d : Y) (o : Option X) (x : X) → o ≡ Some x →
-    Some (option_map_or f o d) ≡ option_map f o
-or_there f d o x e = grind (arith, common_steps)
-
 module _ (b : Blocks) (es : List (Option NodeEntry)) (indexed : IsIndexed b es) where
   pub got_node : (F : FinMap nat_cmp Line) (v : ℕ) →
       get (map_from b es F).nodes v ≡ option_map place_of (node_in b es v)
   got_node F v =
-      all_get (map (λ (e : ℕ × ℕ). (e.0, coord_in es e.1)) (pairs_of b)) v
-      ∙ lookup-map_values (coord_in es) (λ q. v == q) (pairs_of b) ∙ ap (option_map (coord_in es)) (listed_found b v)
-      ∙ step (slot_by b v) refl where
-        step : (o : Option ℕ) → slot_by b v ≡ o → option_map (coord_in es) o ≡ option_map place_of (in_slot es o)
-        step None h = refl
-        step (Some p) h = let x = entry_of b es indexed v p h in or_there place_of no_coord (at es p) x.0 x.1
-
-  some_mapped : (o : Option NodeEntry) → is_some (option_map place_of o) ≡ is_some o
-  some_mapped o = grind (arith, common_steps)
+      let mapped = lookup-map_values (coord_in es) (λ q. v == q) (pairs_of b) in
+      let made = all_get (map (λ (e : ℕ × ℕ). (e.0, coord_in es e.1)) (pairs_of b)) v in
+      grind (arith, common_steps, made, mapped, listed_found b v, entry_of b es indexed v)
 
   pub node_there : (F : FinMap nat_cmp Line) (v p : ℕ) → slot_by b v ≡ Some p → has_node (map_from b es F) v ≡ true
-  node_there F v p h =
-      let x = entry_of b es indexed v p h in
-      ap (λ o. is_some o) (got_node F v) ∙ some_mapped (node_in b es v) ∙ ap (λ o. is_some (in_slot es o)) h
-      ∙ ap (λ o. is_some o) x.1
+  node_there F v p h = grind (arith, common_steps, got_node F v, entry_of b es indexed v p)
 
   pub node_missing : (F : FinMap nat_cmp Line) (v : ℕ) → slot_by b v ≡ None → has_node (map_from b es F) v ≡ false
-  node_missing F v h =
-      ap (λ o. is_some o) (got_node F v) ∙ some_mapped (node_in b es v) ∙ ap (λ o. is_some (in_slot es o)) h
+  node_missing F v h = grind (arith, common_steps, got_node F v)
 
   -- a node of the map has its slot
   pub slot_of : (F : FinMap nat_cmp Line) (v : ℕ) → has_node (map_from b es F) v ≡ true →
@@ -125,9 +111,7 @@ module _ (t : RoadMap) where
 
   pub listed_at : (side : Side) (v p : ℕ) (e : NodeEntry) → slot_by b v ≡ Some p → at es p ≡ Some e →
       IsListed side M (node_slot b) v (links_at side e)
-  listed_at side v p e h is =
-      t.kept.listed side v (links_at side e) (ap (λ o. option_map (links_at side) (in_slot es o)) h
-      ∙ ap (option_map (links_at side)) is)
+  listed_at side v p e h is = let all = t.kept.listed side v (links_at side e) in grind (arith, common_steps, all)
 
   -- an absent node has no lines
   pub no_lines : (side : Side) (v : ℕ) → (has_node M v ≡ true → ⊥) → [] ≡ lines_at side M v
@@ -158,10 +142,6 @@ module _ (t : RoadMap) where
       subst (IsListed side M (node_slot b) v) (sym (is x.0 x.1)) (listed_at side v p x.0 here x.1)
 
   pub place_found : (v : ℕ) (o : Option ℕ) → o ≡ slot_by b v → SomeIff o (IsTrue (has_node M v)) (node_slot b v)
-  place_found v None e = λ h. let s =
-      slot_of b es t.kept.indexed (all_held t.lines) v h in let never : None ≡ Some s.0 =
-      e ∙ s.1 in absurd (ne never) where
-        ne : {A : Type 0} {x : A} → ◌≡◌ {A = Option A} None (Some x) → ⊥
-        ne h = cc
+  place_found v None e = λ h. let s = slot_of b es t.kept.indexed (all_held t.lines) v h in absurd cc
   place_found v (Some p) e =
       (node_there b es t.kept.indexed (all_held t.lines) v p (sym e), sym (place_is b v p (sym e)))

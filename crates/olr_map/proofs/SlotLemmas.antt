@@ -1,7 +1,7 @@
 -- Slots, after a value is added, removed or replaced.
 use Rattle.olr_map.proofs.Common.{◌≡◌, ◌==◌, ℕ, ◌+◌, ◌<◌, ◌≤◌, ◌^◌, zero, suc, true, cond, List, [], ◌∷◌, ◌++◌, Option}
-use Rattle.olr_map.proofs.Common.{Some, None, is_some, length, get_or, set, slice_index, refl, sym, ap, ◌∙◌, subst, inl}
-use Rattle.olr_map.proofs.Common.{inr, arith, cases_eq, cases_order, eq-eqb, ne_eqb, get_or_past, length-set}
+use Rattle.olr_map.proofs.Common.{Some, None, is_some, length, get_or, set, slice_index, refl, sym, ap, ◌∙◌, subst}
+use Rattle.olr_map.proofs.Common.{arith, cases_eq, cases_order, eq-eqb, ne_eqb, get_or_past, length-set}
 use Rattle.olr_map.proofs.Common.{length_push, none_of, some_of, at, IsSlotted, IsWritten, common_steps}
 use Rattle.olr_map.proofs.Common.{IsDistinct-from_apart, Contains-from_any, eqb-true}
 use Rattle.std.proofs.Common.{IsNone}
@@ -115,11 +115,7 @@ module _ {X : Type 0} where
         λ i lt same. let t = ap (λ q. is_some (at es q)) same in let free = s.vacant i lt in cc in
         subst (λ (xs : List ℕ). IsSlotted (set es p None) xs more) (sym is) (record {
           inside = λ i lt. grind (arith, common_steps, cases_eq, old, last, s.inside i);
-          vacant = λ i lt. elim (cases_eq i (length fs)) [
-            | inl is ↦ none_at _ (ap (at (set es p None)) (last i is) ∙ get_or-set_same es p None None inside)
-            | inr ne ↦ subst (λ (q : ℕ). IsNone (at (set es p None) q)) (sym (old i (omega arith)))
-                (still_free p (slice_index fs i) None inside (others i (omega arith)) (free_at i (omega arith)))
-          ];
+          vacant = λ i lt. grind (arith, common_steps, cases_eq, old, last, others, free_at, still_free, get_or-set_same);
           apart = λ i j lt k. grind (arith, common_steps, cases_eq, old, last, others, s.apart i j);
           roomy = omega arith;
           few = omega arith;

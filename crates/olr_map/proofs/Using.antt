@@ -1,9 +1,8 @@
 -- When a node is in use, by its two lists.
-use Rattle.olr_map.proofs.Common.{common_steps, ◌≡◌, ◌==◌, ◌||◌, ◌<◌, ℕ, true, false, List, [], ◌∷◌, Some, Ok, Err}
-use Rattle.olr_map.proofs.Common.{length, map, refl, sym, ap, ◌∙◌, arith, get, or_left, or_right}
-use Rattle.olr_map.proofs.Common.{false_from_ne_true, nil_from_length, Map, Line, lines_out, in_use, has_node, edited}
-use Rattle.olr_map.proofs.Common.{Node_in_use, has, has_here, has-lines_where, passes_at, passed_line, LineEnd}
-use Rattle.olr_map.proofs.Common.{near, lines_at, Side, Out, In}
+use Rattle.olr_map.proofs.Common.{common_steps, ◌==◌, nil_from_length, Node_in_use, has-lines_where}
+use Rattle.olr_map.proofs.Common.{◌≡◌, ◌<◌, ◌∷◌, Ok, Err, map, sym, ap, ◌∙◌, get, Map, has, near, Side, Out, In}
+use Rattle.olr_map.proofs.Common.{◌||◌, true, false, List, [], Some, length, refl, arith, Line, in_use, edited, LineEnd}
+use Rattle.olr_map.proofs.Common.{ℕ, or_left, or_right, lines_out, has_node, has_here, passed_line, lines_at}
 use Rattle.std.specs.FinMap.{remove}
 use Rattle.std.proofs.lemmas.Bool.{or_from, not_from_true}
 use Rattle.std.proofs.lemmas.List.{length-map}
@@ -28,11 +27,8 @@ module _ (side : Side) (M : Map) (v : ℕ) where
 
   none_uses : length (lines_at side M v) ≡ 0 → (x : ℕ) (l : Line) → get M.lines x ≡ Some l → (near side l == v) ≡ false
   none_uses none x l e =
-      false_from_ne_true (near side l == v) (λ t.
-      let yes : has (lines_at side M v) x ≡ true =
-      has-lines_where M (λ k. near side k == v) x ∙ ap (passes_at (λ k. near side k == v)) e ∙ t in
-      let no : has (lines_at side M v) x ≡ false = ap (λ zs. has zs x) (nil_from_length (lines_at side M v) none) in
-      cc)
+      let listed = has-lines_where M (λ k. near side k == v) x in
+      grind (arith, common_steps, listed, nil_from_length (lines_at side M v))
 
 unused_if_empty : (M : Map) (v : ℕ) → length (lines_out M v) ≡ 0 → length (lines_in M v) ≡ 0 → in_use M v ≡ false
 unused_if_empty M v out into =

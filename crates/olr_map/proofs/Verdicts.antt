@@ -1,8 +1,8 @@
--- The slots of an accepted edit's nodes, and the faults of a map as they are returned.
-use Rattle.olr_map.proofs.Common.{◌≡◌, ◌==◌, ◌||◌, ℕ, true, List, [], ◌∷◌, map, Option, Some, None, Result, Ok, Err}
-use Rattle.olr_map.proofs.Common.{IsOk, refl, sym, ap, ◌∙◌, eqb-true, eq-eqb, Map, Node_in_use, has_node, start, end}
-use Rattle.olr_map.proofs.Common.{has, slot_by, node_slot, tables_map, AreSlots, Blocks, RoadMap, common_steps}
-use Rattle.olr_map.proofs.Common.{arith}
+-- The slots of an edit's nodes: of an accepted edit, and where no node's slot changes. The faults of a map as returned.
+use Rattle.olr_map.proofs.Common.{common_steps, Node_in_use, TableChange, change_edit, IsReserved, tables_map, AreSlots}
+use Rattle.olr_map.proofs.Common.{node_slot, eqb-true, has_node, RoadMap, slot_by, Blocks, Option, Result, eq-eqb, IsOk}
+use Rattle.olr_map.proofs.Common.{arith, start, subst, List, Some, refl, true, ◌==◌, ◌||◌, Err, Map, end, has, map, sym}
+use Rattle.olr_map.proofs.Common.{◌∙◌, ◌∷◌, ◌≡◌, Ok, [], ap, ℕ}
 use Rattle.std.proofs.Common.{MatchResult}
 use Rattle.std.specs.Option.{option_to_list}
 use Rattle.olr_spec.specs.Map.{MapFault, Node_exists, No_node, Line_exists, No_line, Bad_shape}
@@ -17,14 +17,27 @@ use Rattle.olr_map.proofs.Making.{made_from}
 use Rattle.olr_map.proofs.Reading.{slot_is}
 use Rattle.olr_spec.specs.Map as maps
 
+slots_stay : (b b' : Blocks) (M M' : Map) (at : ℕ × ℕ) (e : maps.Edit) →
+    ((v : ℕ) → slot_by b' v ≡ slot_by b v) → M' ≡ M → AreSlots b M at e → AreSlots b' M' at e
+slots_stay b b' M M' at (maps.Add_node v c) same is h = h
+slots_stay b b' M M' at (maps.Move_node v c) same is h = same v ∙ h
+slots_stay b b' M M' at (maps.Drop_node v) same is h = h
+slots_stay b b' M M' at (maps.Add_line x l) same is h = (same l.from ∙ h.0, same l.to ∙ h.1)
+slots_stay b b' M M' at (maps.Set_line x frc fow len shape) same is h = rw is (same (start M x) ∙ h.0, same (end M x) ∙ h.1)
+slots_stay b b' M M' at (maps.Drop_line x) same is h = rw is (same (start M x) ∙ h.0, same (end M x) ∙ h.1)
+
+-- after more capacity is reserved, for the change that makes the edit
+pub slots_reserved : (old mid : RoadMap) (at : ℕ × ℕ) (e : maps.Edit) (c : TableChange) → IsReserved old mid →
+    change_edit c ≡ e → AreSlots old.index (tables_map old) at e → AreSlots mid.index (tables_map mid) at (change_edit c)
+slots_reserved old mid at e c r same h =
+    subst (AreSlots mid.index (tables_map mid) at) (sym same)
+    (slots_stay old.index mid.index (tables_map old) (tables_map mid) at e r.slots r.map h)
+
 -- the ends of the one changed line
 planned_ends : (line : Option ℕ) (from to len : ℕ) (c : ChangedLine) →
     ◌≡◌ {A = List ChangedLine} (map (λ (_ : ℕ). record { from = from; to = to; len = len }) (option_to_list line))
     (c ∷ []) → (from ≡ c.from) × (to ≡ c.to)
-planned_ends None from to len c e = absurd cc
-planned_ends (Some x) from to len c e = let same : ◌≡◌ {A = ChangedLine} (record { from = from; to = to; len = len }) c
-    =
-    cc in (ap (λ (d : ChangedLine). d.from) same, ap (λ (d : ChangedLine). d.to) same)
+planned_ends line from to len c e = grind (arith, common_steps)
 
 -- the one node
 planned_node : (v a b : ℕ) → ((u : ℕ) → has (v ∷ []) u ≡ ((a == u) || (b == u))) → v ≡ a
@@ -82,9 +95,6 @@ map_fault Memory = Bad_shape
 fault_again : (f : MapFault) → map_fault (edit_fault_of f) ≡ f
 fault_again f = grind (arith, common_steps)
 
-same_fault : {A : Type 0} (x y : EditFault) → ◌≡◌ {A = Result A EditFault} (Err x) (Err y) → x ≡ y
-same_fault x y e = cc
-
 abbrev answer : (A : Type 0) → EditFault → Result A EditFault
 answer A x = Err x
 
@@ -93,9 +103,4 @@ pub refused_as : (A B : Type 0) (r : Result Map MapFault) (x : EditFault) →
     → (f : MapFault) → (◌≡◌ {A = Result B EditFault} (Err x) (Err (edit_fault_of f)) → r ≡ Err f)
     × (r ≡ Err f → ◌≡◌ {A = Result B EditFault} (Err x) (Err (edit_fault_of f)))
 refused_as A B (Ok m) x h f = absurd cc
-refused_as A B (Err g) x h f =
-    let is : x ≡ edit_fault_of g = same_fault x (edit_fault_of g) h in (
-      λ e. ap (λ y. Err y) (sym (fault_again g) ∙ ap map_fault (sym is ∙ same_fault x (edit_fault_of f) e)
-          ∙ fault_again f),
-      λ e. let same : g ≡ f = cc in ap (λ y. Err y) (is ∙ ap edit_fault_of same),
-    )
+refused_as A B (Err g) x h f = grind (arith, common_steps, fault_again)

@@ -84,12 +84,11 @@ impl RoadMap {
         ensures lines { spare_numbers self.old.lines ≤ spare_numbers self.new.lines + line_puts change }
     {
         let slots = self.slots_for(&change);
-        let _ = self.make_change(change, slots);
+        drop(self.make_change(change, slots));
     }
 
     /// Reserves capacity for what an edit adds at these slots and for its undo, in addition to the numbers of nodes and
     /// of lines that other undo records may put back.
-    #[tactic(auto, using(crate::proofs::Capacity::reserved_trans))]
     fn make_room(
         &mut self,
         edit: &Edit,
@@ -184,7 +183,7 @@ impl RoadMap {
 
     /// Makes an edit that was judged on this map. An error leaves the map as it was, and is returned only for an edit
     /// that adds or removes a node or a line. What it returns must be spent by `undo` or by `keep`.
-    #[tactic(auto, using(crate::proofs::Verdicts::plan_slots, crate::proofs::SlotsStay::slots_reserved))]
+    #[tactic(auto, using(crate::proofs::Verdicts::plan_slots, crate::proofs::Verdicts::slots_reserved))]
     pub fn make(&mut self, edit: Edit, plan: &EditPlan) -> Result<Undo, AllocError>
         requires { IsEditPlan (map_of self.old) (slot_of self.old) (edit_of edit) plan.now }
         ensures done { OnOk result (edited (map_of self.old) (edit_of edit) ≡ Ok (map_of self.new)) }
@@ -232,7 +231,7 @@ impl RoadMap {
 
     /// Makes an edit that `judge` accepted on this map, and appends its undo record to a log. If an allocation fails,
     /// map and log are unchanged.
-    #[tactic(auto, using(crate::proofs::Verdicts::plan_slots, crate::proofs::SlotsStay::slots_reserved))]
+    #[tactic(auto, using(crate::proofs::Verdicts::plan_slots, crate::proofs::Verdicts::slots_reserved))]
     pub fn make_into(
         &mut self,
         edit: Edit,
@@ -256,7 +255,6 @@ impl RoadMap {
     }
 
     /// Undoes all edits of a log, the last one first: the map is as it was before the first. Does not allocate.
-    #[tactic(auto, using(crate::proofs::Log::rest_can, crate::proofs::Log::rest_made, crate::proofs::Log::last_of))]
     pub fn undo_all(&mut self, log: UndoLog)
         requires { CanUndoAll self.old log }
         ensures { map_of self.new ≡ map_before self.old log }

@@ -64,20 +64,23 @@ fn judge_node_moved<M: MapRead>(map: &M, id: NodeId, place: Coord) -> Result<Edi
         (λ _. IsOk result) (λ f. result ≡ Err (edit_fault_of f)) }
     ensures plan { IfOk result (IsEditPlan (M.map map.now) (M.node_slot map.now) (Move_node id place)) }
 {
-    let at = map.slot_of(id).ok_or(EditFault::NoNode)?;
+    let Some(at) = map.slot_of(id) else {
+        return Err(EditFault::NoNode);
+    };
     // Only for the proof: the coordinate is in range, as every `Coord` is.
     let _latitude = place.lat();
     Ok(node_plan(id, at))
 }
 
 /// A node can be removed only if it is on the map and no line uses it.
-#[tactic(auto, using(crate::proofs::Using::unused_without_ends, crate::proofs::Using::used_by_out, crate::proofs::Using::used_by_in, crate::proofs::Using::drop_taken, crate::proofs::Using::drop_refused))]
 fn judge_node_dropped<M: MapRead>(map: &M, id: NodeId) -> Result<EditPlan, EditFault>
     ensures fault { MatchResult (edited (M.map map.now) (Drop_node id))
         (λ _. IsOk result) (λ f. result ≡ Err (edit_fault_of f)) }
     ensures plan { IfOk result (IsEditPlan (M.map map.now) (M.node_slot map.now) (Drop_node id)) }
 {
-    let at = map.slot_of(id).ok_or(EditFault::NoNode)?;
+    let Some(at) = map.slot_of(id) else {
+        return Err(EditFault::NoNode);
+    };
     if !map.out_ends_at(at).is_empty() || !map.in_ends_at(at).is_empty() {
         return Err(EditFault::NodeInUse);
     }
@@ -120,7 +123,9 @@ fn judge_line_set<M: MapRead>(
         (λ _. IsOk result) (λ f. result ≡ Err (edit_fault_of f)) }
     ensures plan { IfOk result (IsEditPlan (M.map map.now) (M.node_slot map.now) (Set_line id frc fow len shape.now)) }
 {
-    let was = map.line(id).ok_or(EditFault::NoLine)?;
+    let Some(was) = map.line(id) else {
+        return Err(EditFault::NoLine);
+    };
     if !has_good_fields(frc, fow, len, shape) {
         return Err(EditFault::BadShape);
     }
@@ -133,8 +138,10 @@ fn judge_line_dropped<M: MapRead>(map: &M, id: LineId) -> Result<EditPlan, EditF
         (λ _. IsOk result) (λ f. result ≡ Err (edit_fault_of f)) }
     ensures plan { IfOk result (IsEditPlan (M.map map.now) (M.node_slot map.now) (Drop_line id)) }
 {
-    let was = map.line(id).ok_or(EditFault::NoLine)?;
-    Ok(line_plan(map, id, was, was.len))
+    match map.line(id) {
+        Some(was) => Ok(line_plan(map, id, was, was.len)),
+        None => Err(EditFault::NoLine),
+    }
 }
 
 /// What an edit touches that adds, moves or removes a node.

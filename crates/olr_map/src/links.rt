@@ -1,6 +1,7 @@
 //! The lines that leave a node, or those that enter it, each with its far end.
 ghost use Rattle.std.specs.Prelude.{◌≡◌, ◌+◌, ◌<◌, ◌≤◌, [], None, length, insert, remove, set, take, IfOk, OnOk, IsFalse};
 ghost use Rattle.std.specs.List.Sorted.{IsStrictlyIncreasing};
+ghost use Rattle.std.specs.Vec.{vec_capacity};
 ghost use Rattle.olr_spec.specs.Map.{has};
 
 use crate::inline::{INLINE, Inline};
@@ -72,6 +73,17 @@ impl Links {
         }
     }
 
+    /// These lines, with capacity for as many again.
+    fn in_vectors(alloc: Global, inline: &Inline) -> Result<Links, AllocError>
+        ensures lines { IfOk result (λ l. lines_on l ≡ take inline.now.count inline.now.lines) }
+        ensures ends { IfOk result (λ l. ends_on l ≡ take inline.now.count inline.now.ends) }
+        ensures room { IfOk result (λ l. 8 ≤ links_room l) }
+    {
+        let lines = copied(alloc, inline.lines())?;
+        let ends = copied(alloc, inline.ends())?;
+        Ok(Links::Spilled(Box::new(alloc, Spilled { lines, ends })?))
+    }
+
     /// Reserves capacity for one more line.
     pub fn reserve(&mut self, alloc: Global) -> Result<(), AllocError>
         ensures same { IsRoomier self.old self.new }
@@ -80,21 +92,16 @@ impl Links {
         match self {
             Links::Inline(inline) => {
                 if inline.count as usize == INLINE {
-                    let spilled = Spilled::with_room(alloc, inline)?;
-                    *self = Links::Spilled(Box::new(alloc, spilled)?);
+                    *self = Links::in_vectors(alloc, inline)?;
                 }
                 Ok(())
             }
-            Links::Spilled(spilled) => {
-                spilled.lines.reserve(1)?;
-                spilled.ends.reserve(1)
-            }
+            Links::Spilled(spilled) => spilled.reserve(),
         }
     }
 
     /// Sets the far end of a line, which is inserted if it is not in the list, or removes the line. Capacity for a new
     /// line is reserved, and remains after a removal.
-    #[tactic(auto, using(crate::proofs::Listing::removed, crate::proofs::Listing::reset))]
     pub fn put(&mut self, id: LineId, end: Option<LineEnd>)
         requires ascending { IsStrictlyIncreasing (lines_on self.old) }
         requires room { IsFalse (has (lines_on self.old) id) → length (lines_on self.old) < links_room self.old }
@@ -155,17 +162,15 @@ impl Links {
 impl Spilled {
     ghost use Rattle.olr_map.specs.Linked.{vectors_room};
 
-    /// These lines, with capacity for as many again.
-    fn with_room(alloc: Global, inline: &Inline) -> Result<Spilled, AllocError>
-        ensures lines { IfOk result (λ m. m.lines.items ≡ take inline.now.count inline.now.lines) }
-        ensures ends { IfOk result (λ m. m.ends.items ≡ take inline.now.count inline.now.ends) }
-        ensures room { IfOk result (λ m. 8 ≤ vectors_room m) }
+    /// Reserves capacity for one more line.
+    fn reserve(&mut self) -> Result<(), AllocError>
+        ensures lines { self.new.lines.items ≡ self.old.lines.items }
+        ensures ends { self.new.ends.items ≡ self.old.ends.items }
+        ensures more { vectors_room self.old ≤ vectors_room self.new }
+        ensures room { OnOk result (length self.new.lines.items < vectors_room self.new) }
     {
-        let mut lines = Vec::with_capacity(alloc, 2 * INLINE)?;
-        let mut ends = Vec::with_capacity(alloc, 2 * INLINE)?;
-        lines.extend_from_slice(inline.lines())?;
-        ends.extend_from_slice(inline.ends())?;
-        Ok(Spilled { lines, ends })
+        self.lines.reserve(1)?;
+        self.ends.reserve(1)
     }
 
     /// Inserts a line at this position. Capacity for it is reserved.
@@ -194,4 +199,14 @@ impl Spilled {
         let _ = self.lines.remove(at);
         let _ = self.ends.remove(at);
     }
+}
+
+/// These values, with capacity for as many as a list in vectors has at first.
+fn copied<T: Copy>(alloc: Global, values: &[T]) -> Result<Vec<T>, AllocError>
+    ensures items { IfOk result (λ m. m.items ≡ values.now) }
+    ensures room { IfOk result (λ m. 8 ≤ vec_capacity m) }
+{
+    let mut copies = Vec::with_capacity(alloc, 2 * INLINE)?;
+    copies.extend_from_slice(values)?;
+    Ok(copies)
 }

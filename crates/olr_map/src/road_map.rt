@@ -147,6 +147,7 @@ impl RoadMap {
     pub fn keep(&mut self, undo: Undo)
         ensures { map_of self.new ≡ map_of self.old }
     {
-        let Undo { change: _ } = undo;
+        let Undo { change } = undo;
+        drop(change);
     }
 }

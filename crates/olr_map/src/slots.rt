@@ -29,7 +29,6 @@ pub struct NodeHead {
 }
 
 /// The numbers of the nodes in these slots, in the order of the slots.
-#[tactic(auto, using(crate::proofs::AllIds::ids_more))]
 fn ids_of(alloc: Global, heads: &[Option<NodeHead>]) -> Result<Vec<NodeId>, AllocError>
     ensures { IfOk result (λ ids. ids.items ≡ map (λ h. h.id) (present heads.now)) }
 {
@@ -150,7 +149,6 @@ impl NodeSlots {
     }
 
     /// Stores a node in a free slot, and returns the slot.
-    #[tactic(auto, using(crate::proofs::ColumnLemmas::stays_beside))]
     pub fn put(&mut self, entry: NodeEntry) -> u32
         requires { 0 < node_room self.old }
         ensures inserts { IsInserted (node_slots self.old) (node_slots self.new) result entry }
@@ -215,7 +213,6 @@ impl NodeSlots {
     }
 
     /// Sets the far end of a line on one side of the node in a slot, or removes the line, see `Links::put`.
-    #[tactic(auto, using(crate::proofs::ColumnLemmas::outs_at, crate::proofs::ColumnLemmas::ins_at))]
     pub fn put_end(&mut self, side: Side, slot: u32, id: LineId, end: Option<LineEnd>)
         requires { (e : Entry) × (at (node_slots self.old) slot ≡ Some e)
             × IsStrictlyIncreasing (lines_on (links_at side e))

@@ -1,4 +1,5 @@
-use Rattle.olr_map.proofs.Common.{◌≡◌, ◌==◌, ◌/◌, ◌%◌, true, Some, None, cond, is_some, sym, ap, ◌∙◌, lookup, slot_in}
+use Rattle.std.proofs.Common.{true≢false}
+use Rattle.olr_map.proofs.Common.{◌==◌, ◌/◌, ◌%◌, Some, None, cond, is_some, sym, ap, ◌∙◌, lookup, slot_in}
 use Rattle.olr_map.proofs.Blocking.{block_changed, removed_again, used_put, used_removed}
 use Rattle.olr_map.proofs.blocks.Blocks.take.Goals as goal
 
@@ -21,7 +22,7 @@ invariant_of-self-else-is_empty c =
       used =
           used_put bs.blocks.entries _ (c.args.number / 4) c.take-slot.new.self
           (w.3 (ap (λ o. is_some o) (sym c.in-Some.ensures.value))).0
-          (λ blank. let is : c.is_empty.result ≡ true = c.is_empty.ensures.1 blank in cc) bs.used;
+          (λ blank. true≢false (sym (c.is_empty.ensures.1 blank) ∙ c.if-is_empty.false)) bs.used;
     }
 
 pub returns-then-is_empty-clause-taken : goal.returns-then-is_empty-clause-taken

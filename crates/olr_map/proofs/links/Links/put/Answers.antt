@@ -1,13 +1,12 @@
-use Rattle.olr_map.proofs.Common.{Err, lines_on, place_of, place_not}
-use Rattle.olr_map.proofs.Listing.{inserted, absent_put}
+use Rattle.olr_map.proofs.Common.{arith, Err, lines_on, place_of, place_not}
+use Rattle.olr_map.proofs.Listing.{inserted, removed, reset, absent_put}
 use Rattle.olr_map.proofs.links.Links.put.Goals as goal
 
 pub insert-requires-clause-room : goal.insert-requires-clause-room
 insert-requires-clause-room c =
     let xs = lines_on c.args.self.now in
     let found = rw c.lines.ensures at c.in-Err-Some.ensures.position in
-    c.requires.room (place_not xs c.args.id c.in-Err-Some.at (place_of xs c.args.id (Err c.in-Err-Some.at)
-    c.requires.ascending found))
+    c.requires.room (place_not xs c.args.id _ (place_of xs c.args.id (Err c.in-Err-Some.at) c.requires.ascending found))
 
 pub returns-in-Err-Some : goal.returns-in-Err-Some
 returns-in-Err-Some c =
@@ -20,3 +19,9 @@ pub returns-in-Err-None : goal.returns-in-Err-None
 returns-in-Err-None c =
     rw c.in-Err-None.is-1 (absent_put c.args.self.now c.args.id _ c.requires.ascending
     (rw c.lines.ensures at c.in-Err-None.ensures.position))
+
+pub returns-in-Ok-Some : goal.returns-in-Ok-Some
+returns-in-Ok-Some c = grind (arith, reset)
+
+pub returns-in-Ok-None : goal.returns-in-Ok-None
+returns-in-Ok-None c = grind (arith, removed)

@@ -1,9 +1,10 @@
-use Rattle.olr_map.proofs.Common.{◌∷◌, List, ◌∙◌, ap, sym, subst, arith, edit_of, tables_map}
+use Rattle.olr_map.proofs.Common.{common_steps, ◌∷◌, List, ◌∙◌, ap, sym, subst, arith, edit_of, tables_map}
 use Rattle.olr_map.proofs.Common.{room_of, CanMakeAll, TableChange}
 use Rattle.olr_map.specs.Changes.{node_numbers, line_numbers}
 use Rattle.olr_map.specs.Undos.{log_changes}
 use Rattle.olr_map.proofs.Capacity.{within_trans}
 use Rattle.olr_map.proofs.Log.{done_by, one_more, all_on}
+use Rattle.olr_map.proofs.Verdicts.{plan_slots, slots_reserved}
 use Rattle.olr_map.proofs.road_map.RoadMap.make_into.Goals as goal
 
 pub returns-clause-done : goal.returns-clause-done
@@ -23,8 +24,7 @@ returns-clause-can_undo c =
     let all =
     subst (λ (cs : List TableChange). CanMakeAll (tables_map new) (room_of new) cs) (sym order)
     (one_more (tables_map old) (tables_map new) (room_of old) (room_of new) back (log_changes c.args.log.now)
-    c.requires.log.0 made.can_back
-    (made.before ∙ c.make_room.ensures.same.map)
+    c.requires.log.0 made.can_back (made.before ∙ c.make_room.ensures.same.map)
     (within_trans (room_of old) (room_of mid) _ c.make_room.ensures.same.more made.room_before)) in
     let numbers = c.in_ok-make_room.ensures.numbers in
     let nodes_put = c.make_change-back.ensures.nodes ∙ ap (λ e. node_numbers e) c.change_for-change.ensures.same in
@@ -44,3 +44,9 @@ returns-in_err-make_room-clause-can_undo c =
           c.make_room.ensures.same.map c.make_room.ensures.same.more c.requires.log.0),
       record { nodes = omega arith; lines = omega arith },
     )
+
+pub make_change-back-requires : goal.make_change-back-requires
+make_change-back-requires c = grind (arith, plan_slots, slots_reserved)
+
+pub returns-clause-before : goal.returns-clause-before
+returns-clause-before c = grind (arith, common_steps)

@@ -1,0 +1,14 @@
+use Rattle.olr_map.proofs.Common.{arith, common_steps}
+use Rattle.olr_map.proofs.judging.judge_line_added.Goals as goal
+
+pub returns : goal.returns
+returns g c = grind (arith, common_steps)
+
+pub returns-then-is_some : goal.returns-then-is_some
+returns-then-is_some g c = grind (arith, common_steps)
+
+pub returns-in_default : goal.returns-in_default
+returns-in_default g c = grind (arith, common_steps)
+
+pub returns-then-not-is_good : goal.returns-then-not-is_good
+returns-then-not-is_good g c = grind (arith, common_steps)
