@@ -2,6 +2,7 @@
 use Rattle.olr_refs.proofs.Common.{◌≡◌, ◌<◌, ◌≤◌, ◌-◌, ℕ, Bool, true, false, List, length, sym, subst, arith, Option}
 use Rattle.olr_refs.proofs.Common.{Some, MatchOption, cases_lt, cases_order, Coord, Map, coord_at, passing, node_at}
 use Rattle.olr_refs.proofs.Common.{fit16, Candidate, Next, IsReach, option_or, ValidCandidate, Greatest}
+use Rattle.olr_spec.specs.Points.{To_valid}
 
 abbrev pub fit : Map → List ℕ → ℕ → ℕ → Bool
 fit M ls i j = fit16 (coord_at M (node_at M ls i)) (coord_at M (node_at M ls j))
@@ -63,4 +64,6 @@ scan_passing M ls i r k last p after upto a s f through = grind (arith, from_one
 pub next_valid : (M : Map) (ls : List ℕ) (i r k : ℕ) (last : Option ℕ) → 0 < k → i < k - 1 → k - 1 ≤ r →
     IsReach M ls i r → Scanned M ls i r k last → fit M ls i (k - 1) ≡ true → passing M (node_at M ls (k - 1)) ≡ false
     → Next M ls i (k - 1)
-next_valid M ls i r k last p after upto a s f valid = grind (arith, greatest_here, candidate_of)
+next_valid M ls i r k last p after upto a s f valid =
+    let here : ValidCandidate M ls i (k - 1) = (candidate_of M ls i r (k - 1) a after upto f, valid) in
+    To_valid s.not_end (greatest_here (ValidCandidate M ls i) k p here s.no_valid)

@@ -31,7 +31,7 @@ pub use Rattle.olr_spec.proofs.RunLemmas.{last_push, one_tried, same_end_run, sa
 pub use Rattle.olr_spec.proofs.TestedLemmas.{foot_queried, one_last_tested}
 pub use Rattle.olr_spec.specs.Bearings.{Leg, bearing_back, bearing_out}
 pub use Rattle.olr_spec.specs.Bytes.{IsReference}
-pub use Rattle.olr_spec.specs.Coordinates.{Coord, abs24, fits16, is_coord, is_latitude, relative}
+pub use Rattle.olr_spec.specs.Coordinates.{Coord, abs24, relative}
 pub use Rattle.olr_spec.specs.Encoding.{Encodes, Encoding, answer_by_points, first_break, first_unknown, path_fault}
 pub use Rattle.olr_spec.specs.Extension.{AreJoined, EndRun, LongestEnd, LongestStart, MayFollow, MayPrecede, Path}
 pub use Rattle.olr_spec.specs.Extension.{StartRun, Tried, extended_path, first, from_start, is_path, last, limit}
@@ -41,10 +41,9 @@ pub use Rattle.olr_spec.specs.Map.{IsMap, Line, Map, coord_at, dm, end, has, has
 pub use Rattle.olr_spec.specs.Map.{start}
 pub use Rattle.olr_spec.specs.Points.{Candidate, Covered, Follow, Greatest, Next, NoNext, OfPath, ValidCandidate, fit16}
 pub use Rattle.olr_spec.specs.Points.{last_position, node_at, stretch}
-pub use Rattle.olr_spec.specs.Queries.{AreKnown, CoverageQuery, FoundFor, IsKnown, IsKnownAt, IsLastTested, IsQuery}
-pub use Rattle.olr_spec.specs.Queries.{IsReused, IsSearched, KnownOf, KnownQuery, Needed, NodeOf, QueriesOf}
-pub use Rattle.olr_spec.specs.Queries.{QueriesOfExtended, SearchedOf, Traversed, TraversedOf, TraversedOfExtended}
-pub use Rattle.olr_spec.specs.Queries.{query_to, querying}
+pub use Rattle.olr_spec.specs.Queries.{CoverageQuery, FoundFor, IsKnown, IsKnownAt, IsLastTested, IsQuery, IsReused}
+pub use Rattle.olr_spec.specs.Queries.{IsSearched, KnownOf, KnownQuery, Needed, NodeOf, QueriesOf, QueriesOfExtended}
+pub use Rattle.olr_spec.specs.Queries.{SearchedOf, Traversed, TraversedOf, TraversedOfExtended, query_to, querying}
 pub use Rattle.olr_spec.specs.Reference.{Attrs, First, Last, Middle, Reference, attrs, dm_along, dm_between, first_kept}
 pub use Rattle.olr_spec.specs.Reference.{first_point, first_where, from_front, kept_points, last_kept, last_point}
 pub use Rattle.olr_spec.specs.Reference.{last_two, last_where, leg, leg_at, legs, middle_point, middle_points, no_leg}
@@ -56,12 +55,12 @@ pub use Rattle.std.proofs.Common.{length, length-append, length-drop, length-tak
 pub use Rattle.std.proofs.Common.{reverse, rules, subst, suc, sym, take, true, zero, ℕ, ℤ, ◌*◌, ◌++◌, ◌+◌, ◌-◌, ◌/◌}
 pub use Rattle.std.proofs.Common.{◌<◌, ◌==◌, ◌||◌, ◌∙◌, ◌∷◌, ◌≡◌, ◌≢◌, ◌≤◌, ◌⊎◌}
 pub use Rattle.std.proofs.Math.Seq.{get_or-append_seam, take-add}
-pub use Rattle.std.proofs.lemmas.Bool.{and_from, and_parts, both_ways, cases_eq, cases_lt, cases_order, eq-eqb}
-pub use Rattle.std.proofs.lemmas.Bool.{eqb-true, le-leb, leb-true, lt-leb, ne_eqb, not-true, or_cases, or_from, or_left}
-pub use Rattle.std.proofs.lemmas.Bool.{or_parts, or_right}
+pub use Rattle.std.proofs.lemmas.Bool.{and_parts, both_ways, cases_eq, cases_lt, cases_order, eq-eqb, eqb-true, le-leb}
+pub use Rattle.std.proofs.lemmas.Bool.{leb-true, lt-leb, ne_eqb, not-true, or_cases, or_from, or_left, or_parts}
+pub use Rattle.std.proofs.lemmas.Bool.{or_right}
 pub use Rattle.std.proofs.lemmas.Bool.Decides.{nat_tests}
 pub use Rattle.std.proofs.lemmas.Grind.{common_steps}
-pub use Rattle.std.proofs.lemmas.Int.{ints, to_z-of_z}
+pub use Rattle.std.proofs.lemmas.Int.{to_z-of_z}
 pub use Rattle.std.proofs.lemmas.List.{append-nil, drop-map, drop_all, drop_more, get_or-drop, get_or-map, get_or-take}
 pub use Rattle.std.proofs.lemmas.List.{get_or_append_left, get_or_default, length-map, map-append, reverse-append}
 pub use Rattle.std.proofs.lemmas.List.{reverse-reverse, take-map, take_all, take_more}

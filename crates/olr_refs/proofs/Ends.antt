@@ -3,8 +3,7 @@ use Rattle.olr_refs.proofs.Common.{◌⊎◌, inl, inr, ◌≡◌, ◌==◌, ℕ
 use Rattle.olr_refs.proofs.Common.{get_or, eqb, Contains, IsPermutation, subst, arith, eq-eqb, eqb-true, take_all}
 use Rattle.olr_refs.proofs.Common.{Contains-append_left, Map, start, end, has, NodeOf, ◌||◌, dedup, or_cases, or_left}
 use Rattle.olr_refs.proofs.Common.{or_right, Contains-push, Contains-push_cases, list_any_more, Contains-dedup_nat}
-use Rattle.olr_refs.proofs.Common.{Contains-from_dedup, IsPermutation-sym, Contains-permutation}
-use Rattle.std.proofs.Common.{◌↔◌}
+use Rattle.olr_refs.proofs.Common.{Contains-from_dedup, IsPermutation-sym, Contains-permutation, ◌↔◌}
 
 -- one of the ends of line x
 abbrev pub EndOf : Map → ℕ → ℕ → Type 0
@@ -13,9 +12,6 @@ EndOf M x v = (start M x ≡ v) ⊎ (end M x ≡ v)
 -- ns has the nodes of F and the ends of the lines ls
 abbrev pub HasEnds : Map → List ℕ → List ℕ → List ℕ → Type 0
 HasEnds M F ls ns = (v : ℕ) → Contains ns v ↔ (Contains F v ⊎ NodeOf M ls v)
-
-pub no_ends : (M : Map) (F : List ℕ) → HasEnds M F [] F
-no_ends M F v = (λ h. inl h, λ h. elim h [ inl k ↦ k | inr n ↦ absurd cc ])
 
 pushed : (xs : List ℕ) (y v : ℕ) → Contains (xs ++ y ∷ []) v ↔ (Contains xs v ⊎ (y ≡ v))
 pushed xs y v = (
@@ -58,11 +54,7 @@ same_once ns sorted once moved is v = rw is (
 pub three_lists : (M : Map) (ls b a xs ys zs : List ℕ) → HasEnds M [] ls xs → HasEnds M xs b ys → HasEnds M ys a zs →
     (v : ℕ) → Contains zs v ↔ (NodeOf M ls v ⊎ (NodeOf M b v ⊎ NodeOf M a v))
 three_lists M ls b a xs ys zs f g h v =
-    let x = f v in
-    let y = g v in
-    let z = h v in
-    let none : Contains [] v → ⊥ = λ c. let never = c.1 in omega arith in
-    grind arith
+    let none : Contains [] v → ⊥ = λ c. let never = c.1 in omega arith in grind (arith, f v, g v, h v)
 
 -- the members of a set to which numbers were added, by what these are
 pub grown_by : (F G once : List ℕ) (Is : ℕ → Type 0) → ((v : ℕ) → Contains once v ↔ Is v) →

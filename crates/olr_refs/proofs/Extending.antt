@@ -4,8 +4,7 @@ use Rattle.olr_refs.proofs.Common.{refl, sym, ap, ◌∙◌, subst, arith, lengt
 use Rattle.olr_refs.proofs.Common.{has_line, dm_of, first_unknown, Path, is_path, last, NodeOf, Along, Against, Extends}
 use Rattle.olr_refs.proofs.Common.{ResolvedLine, records_of, ids, AreRecords, IsRun, no_unknown, path_nonempty}
 use Rattle.olr_refs.proofs.Common.{all_first, all_last, first, LongestStart, LongestEnd, taken_start, taken_end}
-use Rattle.olr_refs.proofs.Common.{from_start}
-use Rattle.std.proofs.Common.{◌↔◌, IsTrue}
+use Rattle.olr_refs.proofs.Common.{from_start, ◌↔◌, IsTrue}
 use Rattle.olr_refs.proofs.Resolving.{ids_are, are_records, records_append, records_length}
 
 last_behind : (xs ys : List ℕ) → 0 < length ys → last (xs ++ ys) ≡ last ys

@@ -23,15 +23,6 @@ two_more : (ls : List ℕ) (j : ℕ) → j + 1 < length ls →
     drop j ls ≡ slice_index ls j ∷ slice_index ls (j + 1) ∷ drop (j + 1 + 1) ls
 two_more ls j h = grind (arith, drop_more)
 
-pub no_break_here : (M : Map) (ls : List ℕ) (j : ℕ) → j + 1 < length ls →
-    end M (slice_index ls j) ≡ start M (slice_index ls (j + 1)) →
-    first_break M j (drop j ls) ≡ first_break M (j + 1) (drop (j + 1) ls)
-no_break_here M ls j h e = grind (arith, two_more, drop_more, eq-eqb)
-
-pub break_here : (M : Map) (ls : List ℕ) (j : ℕ) → j + 1 < length ls →
-    (end M (slice_index ls j) == start M (slice_index ls (j + 1))) ≡ false → first_break M j (drop j ls) ≡ Some j
-break_here M ls j h e = grind (arith, two_more)
-
 pub no_break_left : (M : Map) (ls : List ℕ) (j : ℕ) → length ls ≤ j + 1 → first_break M j (drop j ls) ≡ None
 no_break_left M ls j h = elim (cases_eq (length ls) (j + 1)) [
   | inl e ↦ ap (first_break M j) (drop_more ls j 0 (omega arith)
@@ -43,12 +34,12 @@ no_break_left M ls j h = elim (cases_eq (length ls) (j + 1)) [
 pub no_break_at : (M : Map) (ls : List ℕ) (k a b : ℕ) (r : Bool) → 0 < k → k < length ls →
     a ≡ end M (slice_index ls (k - 1)) → b ≡ start M (slice_index ls k) → r ≡ not (a == b) → r ≡ false
     → first_break M (k - 1) (drop (k - 1) ls) ≡ first_break M k (drop k ls)
-no_break_at M ls k a b r p h ea eb er f = grind (arith, nat_tests, no_break_here)
+no_break_at M ls k a b r p h ea eb er f = grind (arith, nat_tests, two_more, drop_more, eq-eqb)
 
 pub break_at : (M : Map) (ls : List ℕ) (k a b : ℕ) (r : Bool) → 0 < k → k < length ls →
     a ≡ end M (slice_index ls (k - 1)) → b ≡ start M (slice_index ls k) → r ≡ not (a == b) → r ≡ true
     → first_break M (k - 1) (drop (k - 1) ls) ≡ Some (k - 1)
-break_at M ls k a b r p h ea eb er t = grind (arith, nat_tests, break_here)
+break_at M ls k a b r p h ea eb er t = grind (arith, nat_tests, two_more)
 
 -- ---- joined lines
 

@@ -7,7 +7,6 @@ pub mod Faulting
 pub mod Joined
 pub mod LegLemmas
 pub mod Noting
-pub mod PlaceLemmas
 pub mod PointLemmas
 pub mod Reaching
 pub mod Resolving

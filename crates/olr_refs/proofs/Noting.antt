@@ -6,9 +6,8 @@ use Rattle.olr_refs.proofs.Common.{dm_of, limit, Path, is_path, Next, last_posit
 use Rattle.olr_refs.proofs.Common.{IsLastTested, QueriesOf, Contains-here, Contains-cases, Work, Along, Dijkstra}
 use Rattle.olr_refs.proofs.Common.{IsSearch, LiesWithin, limit_of, Queried, SeenBy, SettledBy, raised_count, Notes}
 use Rattle.olr_refs.proofs.Common.{foot_queried, all_searched, Contains-append_right, Contains-append_cases, Follow}
-use Rattle.olr_refs.proofs.Common.{NoNext, TraversedOf, SearchedOf, Contains-one, Counts, CountOf}
-use Rattle.std.proofs.Common.{append-nil}
-use Rattle.std.specs.Prelude.{MatchOption}
+use Rattle.olr_refs.proofs.Common.{NoNext, TraversedOf, SearchedOf, Contains-one, Counts, CountOf, append-nil}
+use Rattle.olr_refs.proofs.Common.{MatchOption}
 use Rattle.std.specs.Cmp.{nat_eq_equiv}
 use Rattle.std.proofs.lemmas.Map.Made.{length-le_from_is_member}
 use Rattle.std.proofs.lemmas.Map.Views.{Contains-from_any, list_any-from_Contains}
@@ -181,6 +180,10 @@ pub seen_added : (traversed new : List ℕ) (seen : Option (List ℕ)) (nodes : 
     Contains new v ↔ (Contains traversed v ⊎ MatchOption seen ⊥ (λ s. Contains s v))
 seen_added traversed new seen nodes e f v = rw e (f v)
 
+foot_of : (F G T S B N Q : Type 0) → (F ↔ (T ⊎ S)) → (T ↔ N) → (S ↔ (B ⊎ Q)) → (B → ⊥) → (G ↔ (N ⊎ Q)) →
+    F ↔ G
+foot_of F G T S B N Q f o n none law = grind arith
+
 -- of a path's traversed nodes and what its queries reach
 pub noted_foot : (M : Map) → IsMap M → (P : Path) → IsTrue (is_path P.lines) → (queries searched : List CoverageQuery) →
     QueriesOf M P queries → SearchedOf M P [] searched → (traversed begun : List ℕ) (seen : Option (List ℕ))
@@ -191,8 +194,4 @@ pub noted_foot : (M : Map) → IsMap M → (P : Path) → IsTrue (is_path P.line
 noted_foot M m P is queries searched l k traversed begun None foot o e n f v = absurd n
 noted_foot M m P is queries searched l k traversed begun (Some seen) foot o e n f v =
     let law = rw (all_searched M m P is queries searched l k) at (foot_queried M m P is queries l v) in
-    let x = o v in
-    let y = n v in
-    let z = f v in
-    let none : Contains begun v → ⊥ = λ c. grind arith in
-    grind arith
+    foot_of _ _ _ _ _ _ _ (f v) (o v) (n v) (λ c. grind arith) law

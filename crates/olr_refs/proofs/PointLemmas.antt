@@ -3,7 +3,13 @@ use Rattle.olr_refs.proofs.Common.{◌≡◌, ◌<◌, ◌≤◌, ◌-◌, ◌+�
 use Rattle.olr_refs.proofs.Common.{refl, arith, slice_index, Coord, abs24, relative, Map, Attrs, Middle, Reference}
 use Rattle.olr_refs.proofs.Common.{attrs, dm_between, reference_by, legs, leg_at, position, middle_points_of, Leg}
 use Rattle.olr_refs.proofs.Common.{bearing_back, First, Last, offset, last_two, first_point, middle_point}
-use Rattle.olr_refs.proofs.Common.{middle_points, last_point}
+use Rattle.olr_refs.proofs.Common.{middle_points, last_point, ◌∙◌, ap, to_z-of_z, Width, w64}
+use mir.Val.{SFits, of_z, to_z}
+
+-- what a call computes from a number that is passed, as it is stored
+pub stored : (w : Width) (f : ℤ → ℤ) (z x r : ℤ) → SFits w64 z → z ≡ x → SFits w r → r ≡ f (to_z w64 (of_z w64 z)) →
+    to_z w (of_z w r) ≡ f x
+stored w f z x r h e g d = to_z-of_z w r g ∙ d ∙ ap f (to_z-of_z w64 z h ∙ e)
 
 pub first_read : (gs : List Leg) (i j : ℕ) (lon lat : ℤ) (a : Attrs) → lon ≡ abs24 (position gs i).lon →
     lat ≡ abs24 (position gs i).lat → a ≡ attrs gs i j

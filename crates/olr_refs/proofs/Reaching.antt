@@ -57,7 +57,6 @@ module _ (M : Map) (ls : List ℕ) (i far : ℕ) (w : AreJoined M ls) (f : IsFar
   -- the lines after i are the unique shortest path as far as the limit allows
   reach_far : (i + 1 ≤ min far (length ls - 1) → UniqueTo M ls i (min far (length ls - 1))) → IsReach M ls i far
   reach_far r =
-      let u = f.upto in
       record {
         from = f.from;
         upto = f.upto;
@@ -92,7 +91,6 @@ module _ (M : Map) (ls : List ℕ) (i far : ℕ) (w : AreJoined M ls) (f : IsFar
   pub covered_so_far : (k : ℕ) → i < k → k < min far (length ls - 1) → UniqueTo M ls i k → ¬ UniqueTo M ls i (k + 1) →
       IsReach M ls i k × IsLastTested M ls i (k + 1)
   covered_so_far k h g r no_more =
-      let u = f.upto in
       let next : min (k + 1) (length ls - 1) ≡ k + 1 = omega arith in (
         record {
           from = omega arith;
@@ -150,8 +148,6 @@ pub tests_on : (M : Map) (slot : ℕ → ℕ) (ls : List ℕ) (i k line to : ℕ
     → to ≡ dm_of M (stretch ls (i + 1) (k + 1)) → limit_of new ≡ max (limit_of old) to → Extends M slot new line b
     → (limit_of new ≡ dm_of M (stretch ls (i + 1) (k + 1))) × (IsTrue b ↔ UniqueTo M ls i (k + 1))
 tests_on M slot ls i k line to b old new w h g e t search to_is limit f =
-    let before = t.settled in
-    let unique = t.unique in
     let longer = stretch_longer M ls (i + 1) k (omega arith) (omega arith) in
     let settled : limit_of new ≡ dm_of M (stretch ls (i + 1) (k + 1)) = omega arith in
     (settled, grind (arith, on_is))

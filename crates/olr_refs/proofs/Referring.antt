@@ -1,14 +1,12 @@
 -- The encoding of a path, by its extension, its LRPs, its coverage queries and its reference.
 use Rattle.olr_refs.proofs.Common.{◌≡◌, ◌<◌, ◌+◌, ℕ, List, [], ◌∷◌, length, Option, Some, None, MatchOption, Contains}
-use Rattle.olr_refs.proofs.Common.{ap, ◌∙◌, arith, inl, inr, eq-eqb, and_parts, leb-true, IsTrue, IfOk, Map, IsMap}
-use Rattle.olr_refs.proofs.Common.{dm_of, Path, is_path, extended_path, AreJoined, last_position, Reference, legs}
-use Rattle.olr_refs.proofs.Common.{reference, path_fault, CoverageQuery, QueriesOf, KnownQuery, path_nonempty}
-use Rattle.olr_refs.proofs.Common.{all_first, all_last, path_also, Reuses, Asks, AsksOf, Work, Extends, later, joined}
-use Rattle.olr_refs.proofs.Common.{answer_of, OnOk, Tried, OfPath, answer_by_points, Encoding, Encodes, Traversed}
-use Rattle.olr_refs.proofs.Common.{TraversedOfExtended, QueriesOfExtended, AreKnown, sound_lines, one_tried}
-use Rattle.olr_refs.proofs.Common.{extended_sound, ForPoints, searches_of}
-use Rattle.std.proofs.Common.{◌↔◌}
-use Rattle.std.specs.Prelude.{Result}
+use Rattle.olr_refs.proofs.Common.{ap, ◌∙◌, arith, inl, inr, eq-eqb, IsTrue, IfOk, Map, IsMap, dm_of, Path, is_path}
+use Rattle.olr_refs.proofs.Common.{extended_path, AreJoined, last_position, Reference, legs, reference, path_fault}
+use Rattle.olr_refs.proofs.Common.{CoverageQuery, QueriesOf, KnownQuery, path_nonempty, all_first, all_last, path_also}
+use Rattle.olr_refs.proofs.Common.{Asks, AsksOf, Work, Extends, later, joined, answer_of, OnOk, Tried, OfPath}
+use Rattle.olr_refs.proofs.Common.{answer_by_points, Encoding, Encodes, Traversed, TraversedOfExtended}
+use Rattle.olr_refs.proofs.Common.{QueriesOfExtended, sound_lines, one_tried, extended_sound, ForPoints, searches_of}
+use Rattle.olr_refs.proofs.Common.{◌↔◌, Result}
 use Rattle.olr_answers.specs.declared.answer.Answer.{Answer}
 use Rattle.olr_answers.specs.declared.answer.Answer.TheVariants.{Points, Refused}
 use Rattle.std.proofs.lemmas.Slice.Zip.{AllZip-long}
@@ -85,12 +83,6 @@ pub asks_of : (M : Map) (P E : Path) (lead : ℕ) (F G : List ℕ) (given : List
     ForPoints M E.lines (λ js. Asks M E.lines lead (length P.lines) given (0 ∷ js) queries known a b s t) →
     AsksOf M P given queries known a b s t
 asks_of M P E lead F G given queries known a b s t x f = grind (arith, of_path)
-
--- the path's own lines lie on the extended path
-pub whole_reuses : (M : Map) (P E : Path) (lead : ℕ) (F G : List ℕ) (known : List KnownQuery) →
-    IsTrue (is_path P.lines) → Extends M P E lead F G → AreKnown M P.lines known →
-    Reuses M E.lines lead (length P.lines) known
-whole_reuses M P E lead F G known is x are = grind (arith, and_parts, leb-true)
 
 -- ---- where a result is a success
 

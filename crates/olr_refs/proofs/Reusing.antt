@@ -132,8 +132,6 @@ module _ (M : Map) (ls : List ℕ) (lead own : ℕ) (known : List KnownQuery) (r
   pub ends_at : (e : KnownQuery) → IsKnownAt M ls lead own i e → EndsHere e
   ends_at e k =
       let end = min far (length ls - 1) in
-      let order = k.order in
-      let begins = k.begins in
       let most : lead + e.last ≤ end = elim k.tested.needed [
         | inl is ↦ absurd (omega arith)
         | inr n ↦ needed_most M ls i far joined is_far (lead + e.last) n

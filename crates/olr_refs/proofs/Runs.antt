@@ -8,8 +8,7 @@ use Rattle.olr_refs.proofs.Common.{far_end, Along, Against, ResolvedLine, record
 use Rattle.olr_refs.proofs.Common.{LiesBeyond, IsRun, same_start_run, same_end_run, last_push, reverse-reverse, ◌≢◌}
 use Rattle.olr_refs.proofs.Common.{is_some, ⊤, ne_eqb, or_from, or_parts, list_any-append, IsPermutation-reverse}
 use Rattle.olr_refs.proofs.Common.{MayPrecede, MayFollow, StartRun, EndRun, has_here, has_first, has_last, near_end}
-use Rattle.olr_refs.proofs.Common.{outermost, in_order, LeadsOn, IsLongest}
-use Rattle.std.proofs.Common.{IsTrue, append-nil}
+use Rattle.olr_refs.proofs.Common.{outermost, in_order, LeadsOn, IsLongest, IsTrue, append-nil}
 use Rattle.olr_spec.proofs.RunMoves.{EndRun-push}
 use Rattle.olr_spec.proofs.DecideLemmas.{last_of_list}
 use Rattle.olr_search.specs.declared.distances.Direction.{Direction}
@@ -199,8 +198,6 @@ module _ (M : Map) (d : Direction) (ls : List ℕ) (some : 0 < length ls) (known
         MatchOption line ⊤ (λ x. (has used x ≡ true) ⊎ (limit < len + dm M x)) →
         IsRun M d ls (in_order d rs) len (not through)
     finished used same none =
-        let e = grows.long in
-        let w = grows.within in
         record {
           longest = subst (IsLongest M d ls) (sym (ids-in_order d rs)) (longest M d ls (ids rs) grows.chain (omega arith)
               (no_longer M d ls some known (ids rs) grows.chain (stops line grows.beyond.next none)));

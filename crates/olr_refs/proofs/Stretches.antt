@@ -25,9 +25,7 @@ distances_rise M ls ds d j k h g = let l = d.long in let e = dm_stretch M ls ds 
 
 pub far_of : (M : Map) (ls ds : List ℕ) (i k : ℕ) → AreDistances M ls ds → IsLastWithinLimit ds i k → IsFar M ls i k
 far_of M ls ds i k d f =
-    let long = d.long in
     let from = f.from in
-    let upto = f.upto in
     record {
       from = from;
       upto = omega arith;

@@ -106,7 +106,6 @@ module _ (M : Map) (ls ds ps : List ℕ) (d : AreDistances M ls ds) (p : ArePoin
 
   ascend : (j k : ℕ) → j ≤ k → k < length ps → distance_at ds ps j ≤ distance_at ds ps k
   ascend j k h g =
-      let long = d.long in
       distances_rise M ls ds d _ _ (not_above j k h g) (omega (arith, upto k g))
 
   last_distance : whole_distance ds ≡ slice_index ds (length ls)
@@ -147,7 +146,6 @@ module _ (M : Map) (ls ds ps : List ℕ) (d : AreDistances M ls ds) (p : ArePoin
       slice_index ps b ≡ last_kept (legs M ls) negative (later ps)
   last_is negative b l =
       let test : ℕ → Bool = λ i. nat_le (to_back (legs M ls) i) negative in
-      let near = l.near in
       let within = l.within in
       let passes : test (slice_index ps b) ≡ true = le-leb _ negative (omega (arith, back _ (upto b within))) in
       let before : (k : ℕ) → k < b → test (slice_index ps k) ≡ false = λ k lt.

@@ -9,15 +9,24 @@
 --     Queried M queries old new      one search more for each of the queries, which settles the nodes that it reaches
 --     SeenBy M queries v      one of the queries reaches node v
 --     Notes near old new      where nodes are noted, those that are `near` are noted besides
+--     TestedTo M slot ls i far to q      the positions after i are covered and within the limit up to far, and tested up
+--         to the position `to`, by the search q
+--     FoundFrom M ls i far to asked old new before noted      by one search for the query asked, the positions after i
+--         are covered and within the limit up to far, and tested up to the position `to`
 use Rattle.std.specs.Prelude.{◌≡◌, ◌≢◌, ◌==◌, ℕ, zero, suc, ◌+◌, ◌≤◌, List, [], ◌∷◌, length, count_by, nat_lt}
-use Rattle.std.specs.Prelude.{Contains, Option, Some, None, ◌↔◌, ◌⊎◌, ⊤}
+use Rattle.std.specs.Prelude.{Contains, Option, Some, None, ◌↔◌, ◌⊎◌, ⊤, slice_index}
 use Rattle.std.specs.List.{IsDistinct}
-use Rattle.olr_spec.specs.Map.{Map}
-use Rattle.olr_spec.specs.Points.{Follow, last_position}
+use Rattle.olr_spec.specs.Map.{Map, end}
+use Rattle.olr_spec.specs.Routes.{dm_of}
+use Rattle.olr_spec.specs.Points.{Follow, last_position, stretch}
 use Rattle.olr_spec.specs.Footprint.{Sees}
-use Rattle.olr_spec.specs.Queries.{CoverageQuery}
+use Rattle.olr_spec.specs.Queries.{CoverageQuery, IsLastTested, query_to}
+use Rattle.olr_search.specs.declared.distances.Dijkstra.{Dijkstra}
+use Rattle.olr_search.specs.declared.distances.Direction.TheVariants.{Along}
+use Rattle.olr_search.specs.Searches.{IsSearch, limit_of}
 use Rattle.olr_search.specs.declared.work.Work.{Work}
 use Rattle.olr_search.specs.Counts.{saturated_count}
+use Rattle.olr_refs.specs.Along.{IsReach}
 use Rattle.olr_refs.specs.declared.chosen.Choice.{Choice}
 use Rattle.olr_refs.specs.declared.chosen.Choice.TheVariants.{Positions, NoNext}
 
@@ -61,3 +70,19 @@ Notes near None None = ⊤
 Notes near None (Some new) = ⊥
 Notes near (Some old) None = ⊥
 Notes near (Some old) (Some new) = (v : ℕ) → Contains new v ↔ (Contains old v ⊎ near v)
+
+-- the search begins at the end of line i, and is settled as far as position `to`
+pub record TestedTo (M : Map) (slot : ℕ → ℕ) (ls : List ℕ) (i far to : ℕ) (q : Dijkstra) : Type 0 where
+  pub reach : IsReach M ls i far
+  pub last : IsLastTested M ls i to
+  pub search : IsSearch M slot Along ((end M (slice_index ls i), 0) ∷ []) q
+  pub no_farther : limit_of q ≡ dm_of M (stretch ls (i + 1) to)
+
+pub record FoundFrom (M : Map) (ls : List ℕ) (i far to : ℕ) (asked : CoverageQuery) (old new : Work)
+    (before noted : Option (List ℕ)) : Type 0
+  where
+    pub reach : IsReach M ls i far
+    pub last : IsLastTested M ls i to
+    pub query : asked ≡ query_to M ls i to
+    pub seen : Notes (Sees M asked) before noted
+    pub work : Queried M (asked ∷ []) old new

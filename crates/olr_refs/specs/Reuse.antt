@@ -7,15 +7,18 @@
 --         are searched, counted and noted
 --     AsksAfter M ls lead own given i old new known after before now seen noted      what the queries of LRP i add
 --     AsksOf M P given queries known before after seen noted      the same for all LRPs of a path
+--     Serves M ls lead own given i far e      e is one of the given queries, and right after i, where positions up to far
+--         are near enough
 --     Searched M P given before after      the coverage queries of a path that are not among the given ones are searched,
 --         each by one search, which settles the nodes that it reaches
-use Rattle.std.specs.Prelude.{◌≡◌, ℕ, ◌+◌, ◌-◌, ◌≤◌, if◌then◌else◌, List, [], ◌∷◌, ◌++◌, length, Option}
+use Rattle.std.specs.Prelude.{◌≡◌, ℕ, ◌+◌, ◌-◌, ◌≤◌, if◌then◌else◌, List, [], ◌∷◌, ◌++◌, length, Option, Contains}
 use Rattle.olr_spec.specs.Map.{Map}
 use Rattle.olr_spec.specs.Extension.{Path, taken_start}
 use Rattle.olr_spec.specs.Points.{OfPath}
 use Rattle.olr_spec.specs.Queries.{CoverageQuery, QueriesFrom, querying, KnownQuery, AreKnown, IsKnownAt, FoundFor}
 use Rattle.olr_spec.specs.Queries.{IsSearched, SearchedOf}
 use Rattle.olr_search.specs.declared.work.Work.{Work}
+use Rattle.olr_refs.specs.Along.{IsReach}
 use Rattle.olr_refs.specs.Choice.{Queried, SeenBy, SettledBy, Notes, raised_count}
 
 pub record Reuses (M : Map) (ls : List ℕ) (lead own : ℕ) (known : List KnownQuery) : Type 0 where
@@ -64,3 +67,9 @@ pub record Searched (M : Map) (P : Path) (given : List KnownQuery) (before after
   pub those : SearchedOf M P given queries
   pub searches : after.searches ≡ raised_count before.searches (length queries)
   pub settled : SettledBy M queries before.settled after.settled
+
+pub record Serves (M : Map) (ls : List ℕ) (lead own : ℕ) (all : List KnownQuery) (i far : ℕ) (e : KnownQuery) : Type 0
+  where
+    pub known : IsKnownAt M ls lead own i e
+    pub reach : IsReach M ls i (known_reach lead far e)
+    pub given : Contains all e

@@ -5,16 +5,17 @@
 --     LeadsOn M d z x      line x leads on from line z through a degree-two node, and not back to where z is entered
 --     LiesBeyond M d z through line      whether the node beyond line z is a degree-two node, and the line that leads on
 --         through it, or that there is none
+--     GrowsBy M next len used r      a run of length len grows by line r, the next one, as the map has it
 --     IsLongest M d ls c      c is the longest run within the limit
 --     IsRun M d ls rs len valid      rs is that run as the map has it; its length, and whether it leads to a valid node
-use Rattle.std.specs.Prelude.{◌≡◌, ◌≢◌, ℕ, Bool, not, List, ◌++◌, reverse, Option, MatchOption, IsTrue}
-use Rattle.olr_spec.specs.Map.{Map, has_line}
+use Rattle.std.specs.Prelude.{◌≡◌, ◌≢◌, ℕ, ◌+◌, ◌≤◌, Bool, not, List, ◌++◌, reverse, Option, Some, MatchOption, IsTrue, IsFalse}
+use Rattle.olr_spec.specs.Map.{Map, has, has_line}
 use Rattle.olr_spec.specs.Routes.{dm_of}
-use Rattle.olr_spec.specs.Extension.{passing, first, last, LongestStart, LongestEnd}
+use Rattle.olr_spec.specs.Extension.{limit, passing, first, last, LongestStart, LongestEnd}
 use Rattle.olr_search.specs.Distances.{near_end, far_end}
 use Rattle.olr_search.specs.declared.distances.Direction.{Direction}
 use Rattle.olr_search.specs.declared.distances.Direction.TheVariants.{Along, Against}
-use Rattle.olr_refs.specs.ResolvedLines.{ResolvedLine, ids, AreRecords}
+use Rattle.olr_refs.specs.ResolvedLines.{ResolvedLine, record_of, ids, AreRecords}
 
 abbrev pub outermost : Direction → List ℕ → ℕ
 outermost Along ls = last ls
@@ -37,6 +38,12 @@ pub record LeadsOn (M : Map) (d : Direction) (z x : ℕ) : Type 0 where
 pub record LiesBeyond (M : Map) (d : Direction) (z : ℕ) (through : Bool) (line : Option ℕ) : Type 0 where
   pub node : through ≡ passing M (far_end M d z)
   pub next : MatchOption line ((x : ℕ) → ¬ LeadsOn M d z x) (LeadsOn M d z)
+
+pub record GrowsBy (M : Map) (next : Option ℕ) (len : ℕ) (used : List ℕ) (r : ResolvedLine) : Type 0 where
+  pub line : next ≡ Some r.id
+  pub known : r ≡ record_of M r.id
+  pub fresh : IsFalse (has used r.id)
+  pub near : len + r.len ≤ limit
 
 abbrev pub IsLongest : Map → Direction → List ℕ → List ℕ → Type 0
 IsLongest M Along ls c = LongestEnd M ls c

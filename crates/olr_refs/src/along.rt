@@ -7,7 +7,7 @@ ghost use Rattle.olr_spec.specs.Points.{node_at, stretch};
 ghost use Rattle.olr_spec.specs.Reference.{legs, dm_between, position};
 ghost use Rattle.olr_refs.specs.Along.{AreDistances};
 ghost use Rattle.olr_spec.specs.Extension.{AreJoined};
-ghost use Rattle.olr_refs.specs.ResolvedLines.{records_of};
+ghost use Rattle.olr_refs.specs.ResolvedLines.{record_of, records_of};
 ghost use Rattle.olr_refs.specs.ResolvedPaths.{AreJoined-prop, AreRecords-prop, AreDistances-prop};
 
 use crate::resolved::ResolvedLine;
@@ -45,19 +45,28 @@ impl<M: MapRead> ResolvedPath<'_, M> {
         line_of(self.map, self.lines[k])
     }
 
+    /// What the path has of line `k`.
+    #[tactic(auto, using(crate::proofs::Resolving::records_length))]
+    fn resolved_line(&self, k: usize) -> ResolvedLine
+        requires { k < length self.now.lines.now }
+        ensures value { result ≡ record_of (M.map self.now.map.now) (slice_index self.now.lines.now k) }
+        ensures from { IsTrue (has_node (M.map self.now.map.now) result.from) }
+        ensures to { IsTrue (has_node (M.map self.now.map.now) result.to) }
+    {
+        self.records[k]
+    }
+
     /// The node at position `k`.
-    #[tactic(auto, using(crate::proofs::Resolving::records_length, olr_spec::proofs::ListLemmas::last_index))]
     pub(crate) fn node(&self, k: usize) -> NodeId
         requires some { 0 < length self.now.lines.now }
         requires within { k ≤ length self.now.lines.now }
         ensures value { result ≡ node_at (M.map self.now.map.now) self.now.lines.now k }
         ensures known { IsTrue (has_node (M.map self.now.map.now) result) }
     {
-        if k < self.records.len() {
-            let record = self.records[k];
-            record.from
+        if k < self.lines.len() {
+            self.resolved_line(k).from
         } else {
-            self.end(self.records.len() - 1)
+            self.end(self.lines.len() - 1)
         }
     }
 
@@ -67,8 +76,7 @@ impl<M: MapRead> ResolvedPath<'_, M> {
         ensures value { result ≡ end (M.map self.now.map.now) (slice_index self.now.lines.now k) }
         ensures known { IsTrue (has_node (M.map self.now.map.now) result) }
     {
-        let record = self.records[k];
-        record.to
+        self.resolved_line(k).to
     }
 
     /// The coordinate of position `k`.
@@ -110,7 +118,6 @@ pub fn coord_of<M: MapRead>(map: &M, node: NodeId) -> Coord
 }
 
 /// The distance of each position from the start, in decimetres. 128 bits suffice for any list of lines.
-#[tactic(auto, using(crate::proofs::Resolving::records_length, crate::proofs::Resolving::record_at, crate::proofs::Joined::longer_by, crate::proofs::Joined::one_more))]
 pub fn distances(alloc: Global, records: &[ResolvedLine]) -> Result<Vec<u128>, AllocError>
     ensures { IfOk result (λ distances. (M : Map) (ls : List ℕ) → records.now ≡ records_of M ls
         → AreDistances M ls distances.items) }

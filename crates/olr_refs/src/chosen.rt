@@ -1,11 +1,9 @@
 //! The location reference points of an extended path.
 ghost use Rattle.std.specs.Prelude.{◌≡◌, ℕ, List, ◌+◌, ◌<◌, ◌≤◌, [], ◌∷◌, ◌++◌, IfOk, OnOk, length};
 ghost use Rattle.olr_spec.specs.Map.{Map};
-ghost use Rattle.olr_spec.specs.Footprint.{Sees};
-ghost use Rattle.olr_spec.specs.Queries.{IsLastTested, query_to};
 ghost use Rattle.olr_search.specs.Searches.{IsSearch, LiesWithin, limit_of};
 ghost use Rattle.olr_refs.specs.Along.{IsFar, IsReach};
-ghost use Rattle.olr_refs.specs.Choice.{ForPoints, IsChoice, Queried, Notes};
+ghost use Rattle.olr_refs.specs.Choice.{ForPoints, FoundFrom, IsChoice, Notes};
 ghost use Rattle.std.specs.Option.{option_to_list};
 ghost use Rattle.olr_refs.specs.Reuse.{Reuses, Asks, AsksAfter};
 
@@ -57,11 +55,11 @@ fn note_settled(
         → IsSearch M node_slot direction from search.now
         → Notes (LiesWithin M direction from (limit_of search.now)) seen.old seen.new) }
 {
-    if let Some(seen) = seen {
-        let nodes = search.nodes(alloc)?;
-        seen.note_all(&nodes)?;
-    }
-    Ok(())
+    let Some(seen) = seen else {
+        return Ok(());
+    };
+    let nodes = search.nodes(alloc)?;
+    seen.note_all(&nodes)
 }
 
 /// How far the positions after `i` are covered and near enough, where two lines or more follow line `i`, and how far
@@ -79,12 +77,8 @@ fn search_after<M: MapRead>(
 ) -> Result<(Tested, CoverageQuery), AllocError>
     requires some { i + 2 < length resolved.now.lines.now }
     requires far { IsFar (M.map resolved.now.map.now) resolved.now.lines.now i far }
-    ensures reach { IfOk result (λ r. IsReach (M.map resolved.now.map.now) resolved.now.lines.now i r.0.reach) }
-    ensures last { IfOk result (λ r. IsLastTested (M.map resolved.now.map.now) resolved.now.lines.now i r.0.last) }
-    ensures query { IfOk result
-        (λ r. r.1 ≡ query_to (M.map resolved.now.map.now) resolved.now.lines.now i r.0.last) }
-    ensures seen { IfOk result (λ r. Notes (Sees (M.map resolved.now.map.now) r.1) seen.old seen.new) }
-    ensures work { IfOk result (λ r. Queried (M.map resolved.now.map.now) (r.1 ∷ []) work.old work.new) }
+    ensures { IfOk result (λ r. FoundFrom (M.map resolved.now.map.now) resolved.now.lines.now i r.0.reach r.0.last r.1
+        work.old work.new seen.old seen.new) }
 {
     let from = resolved.end(i);
     search.begin(resolved.map, Direction::Along, &[(from, 0)])?;
@@ -103,7 +97,6 @@ fn search_after<M: MapRead>(
 /// How far the positions after `i` are covered and near enough, where two lines or more follow line `i`; the query for
 /// that; and this as a query along the path's own lines, where it is one. It is searched where it isn't known, and then
 /// what it sees is noted where anything is.
-#[tactic(auto, using(crate::proofs::Asking::asks_known))]
 fn query_after<M: MapRead>(
     alloc: Global,
     resolved: &ResolvedPath<M>,
@@ -116,9 +109,9 @@ fn query_after<M: MapRead>(
     requires some { i + 2 < length resolved.now.lines.now }
     requires reuse { Reuses (M.map resolved.now.map.now) resolved.now.lines.now reuse.now.lead reuse.now.own
         reuse.now.known.now }
-    ensures reach { IfOk result (λ r. IsReach (M.map resolved.now.map.now) resolved.now.lines.now i r.0) }
-    ensures asks { IfOk result (λ r. Asks (M.map resolved.now.map.now) resolved.now.lines.now reuse.now.lead
-        reuse.now.own reuse.now.known.now (i ∷ []) (r.1 ∷ []) (option_to_list r.2) work.old work.new seen.old seen.new) }
+    ensures { IfOk result (λ r. IsReach (M.map resolved.now.map.now) resolved.now.lines.now i r.0
+        × Asks (M.map resolved.now.map.now) resolved.now.lines.now reuse.now.lead reuse.now.own reuse.now.known.now
+        (i ∷ []) (r.1 ∷ []) (option_to_list r.2) work.old work.new seen.old seen.new) }
 {
     let far = last_within_limit(resolved, i);
     match known_after(resolved, reuse, i, far) {
@@ -149,9 +142,9 @@ fn reach_of<M: MapRead>(
     requires some { i < length resolved.now.lines.now }
     requires reuse { Reuses (M.map resolved.now.map.now) resolved.now.lines.now reuse.now.lead reuse.now.own
         reuse.now.known.now }
-    ensures reach { IfOk result (IsReach (M.map resolved.now.map.now) resolved.now.lines.now i) }
-    ensures asks { IfOk result (λ _. AsksAfter (M.map resolved.now.map.now) resolved.now.lines.now reuse.now.lead
-        reuse.now.own reuse.now.known.now i queries.old.all.items queries.new.all.items queries.old.own.items
+    ensures { IfOk result (λ reach. IsReach (M.map resolved.now.map.now) resolved.now.lines.now i reach
+        × AsksAfter (M.map resolved.now.map.now) resolved.now.lines.now reuse.now.lead reuse.now.own
+        reuse.now.known.now i queries.old.all.items queries.new.all.items queries.old.own.items
         queries.new.own.items work.old work.new seen.old seen.new) }
 {
     if resolved.lines.len() - i <= 2 {

@@ -1,11 +1,11 @@
 //! Runs of degree-two nodes, by which the ends of a path are extended to valid nodes: along its lines from the last one,
 //! and against them from the first.
-ghost use Rattle.std.specs.Prelude.{◌≡◌, ◌<◌, ◌≤◌, ◌+◌, ◌⊎◌, IsTrue, IsFalse, if◌then◌else◌, IfOk, IfSome, IfNone};
-ghost use Rattle.std.specs.Prelude.{MatchOption, Some, length, reverse, [], ⊤};
+ghost use Rattle.std.specs.Prelude.{◌≡◌, ◌<◌, ◌≤◌, ◌+◌, ◌⊎◌, IsTrue, if◌then◌else◌, IfOk, IfSome, IfNone};
+ghost use Rattle.std.specs.Prelude.{MatchOption, length, reverse, [], ⊤};
 ghost use Rattle.olr_spec.specs.Map.{Map, has_line, has};
 ghost use Rattle.olr_spec.specs.Extension.{limit};
 ghost use Rattle.olr_search.specs.Distances.{near_end, far_end, lines_at};
-ghost use Rattle.olr_refs.specs.Runs.{outermost, in_order, LiesBeyond, IsRun};
+ghost use Rattle.olr_refs.specs.Runs.{outermost, in_order, GrowsBy, LiesBeyond, IsRun};
 ghost use Rattle.olr_refs.specs.ResolvedLines.{record_of, ids, AreRecords};
 
 use crate::line_set::LineSet;
@@ -28,16 +28,16 @@ pub(crate) struct DegreeTwoRun {
 }
 
 impl DegreeTwoRun {
-    /// The part by which a path is extended, and its length: the whole run if it leads to a valid node, otherwise
-    /// nothing.
-    pub(crate) fn taken_part(&self) -> (&[ResolvedLine], u32)
+    /// The part by which a path is extended, and the path's offset raised by its length: the whole run if it leads to a
+    /// valid node, otherwise nothing.
+    pub(crate) fn taken_part(&self, offset: u32) -> (&[ResolvedLine], u64)
         ensures records { result.0.now ≡ (if self.now.valid then self.now.records.items else []) }
-        ensures len { result.1 ≡ (if self.now.valid then self.now.len else 0) }
+        ensures raised { result.1 ≡ offset + (if self.now.valid then self.now.len else 0) }
     {
         if self.valid {
-            (&self.records, self.len)
+            (&self.records, u64::from(offset) + u64::from(self.len))
         } else {
-            (&[], 0)
+            (&[], u64::from(offset))
         }
     }
 }
@@ -132,10 +132,7 @@ fn next_within<M: MapRead>(
 ) -> Option<ResolvedLine>
     requires known { MatchOption line ⊤ (λ x. IsTrue (has_line (M.map map.now) x)) }
     requires within { len ≤ limit }
-    ensures line { IfSome result (λ r. line ≡ Some r.id) }
-    ensures record { IfSome result (λ r. r ≡ record_of (M.map map.now) r.id) }
-    ensures fresh { IfSome result (λ r. IsFalse (has used.now r.id)) }
-    ensures near { IfSome result (λ r. len + r.len ≤ limit) }
+    ensures some { IfSome result (GrowsBy (M.map map.now) line len used.now) }
     ensures none { IfNone result (MatchOption line ⊤
         (λ x. IsTrue (has used.now x) ⊎ (limit < len + (record_of (M.map map.now) x).len))) }
 {

@@ -15,7 +15,7 @@ ghost use Rattle.olr_refs.specs.ResolvedLines.{records_of};
 ghost use Rattle.olr_refs.specs.Reuse.{Reuses, Asks, AsksOf, Searched};
 
 use crate::along::{ResolvedPath, distances};
-use crate::chosen::{Choice, Queries, points};
+use crate::chosen::{Choice, Chosen, Queries, points};
 use crate::extension::{Extended, extend};
 use crate::faults::own_lines;
 use crate::reference::reference_of;
@@ -142,7 +142,6 @@ pub fn encode_noting<M: MapRead>(
 }
 
 /// The encoding of a path for which none of reasons 1 to 3 holds.
-#[tactic(auto, using(crate::proofs::Referring::whole_joined, crate::proofs::Referring::whole_short, crate::proofs::Referring::whole_reuses, crate::proofs::Referring::asks_of, crate::proofs::Referring::encoding_of))]
 fn encode_whole<M: MapRead>(
     alloc: Global,
     map: &M,
@@ -195,9 +194,9 @@ fn encode_along<M: MapRead>(
     requires records { extended.now.records ≡ records_of (M.map map.now) extended.now.path.lines }
     requires short { extended.now.path.pos + extended.now.path.neg < dm_of (M.map map.now) extended.now.path.lines }
     requires reuse { Reuses (M.map map.now) extended.now.path.lines reuse.now.lead reuse.now.own reuse.now.known.now }
-    ensures answer { IfOk result (λ r. ForPoints (M.map map.now) extended.now.path.lines
-        (λ js. answer_of r.0 ≡ answer_along (M.map map.now) extended.now.path js)) }
-    ensures asks { IfOk result (λ r. ForPoints (M.map map.now) extended.now.path.lines
+    ensures { IfOk result (λ r. ForPoints (M.map map.now) extended.now.path.lines
+        (λ js. answer_of r.0 ≡ answer_along (M.map map.now) extended.now.path js)
+        × ForPoints (M.map map.now) extended.now.path.lines
         (λ js. Asks (M.map map.now) extended.now.path.lines reuse.now.lead reuse.now.own reuse.now.known.now (0 ∷ js)
         r.1.all.items r.1.own.items work.old work.new seen.old seen.new)) }
 {
@@ -210,9 +209,9 @@ fn encode_along<M: MapRead>(
         records,
         distances: &distances,
     };
-    let chosen = points(alloc, &resolved, reuse, search, seen, work)?;
-    let answer = answer_by(alloc, &resolved, chosen.choice, extended.pos, extended.neg)?;
-    Ok((answer, chosen.queries))
+    let Chosen { choice, queries } = points(alloc, &resolved, reuse, search, seen, work)?;
+    let answer = answer_by(alloc, &resolved, choice, extended.pos, extended.neg)?;
+    Ok((answer, queries))
 }
 
 /// The answer by the chosen LRPs. The two offsets, in decimetres, are together less than the length of the lines.

@@ -52,7 +52,6 @@ impl Model for Extended {
 /// both tried runs to the footprint, and no others. If an allocation fails, the footprint is unchanged.
 ///
 /// `own` are the path's own lines as the map has them.
-#[tactic(auto, using(crate::proofs::Extending::own_some, crate::proofs::Extending::own_first, crate::proofs::Resolving::are_records, crate::proofs::Extending::front_some, crate::proofs::Extending::front_last, crate::proofs::Extending::front_records))]
 pub fn extend<M: MapRead>(
     alloc: Global,
     map: &M,
@@ -69,19 +68,19 @@ pub fn extend<M: MapRead>(
     ensures err { OnErr result (footprint.new ≡ footprint.old) }
 {
     let before = longest_run(alloc, map, Direction::Against, own)?;
-    let (front, front_len) = before.taken_part();
+    let (front, pos) = before.taken_part(path.pos());
     let mut records = Vec::from_slice(alloc, front)?;
     records.extend_from_slice(own)?;
     let after = longest_run(alloc, map, Direction::Along, &records)?;
-    let (back, back_len) = after.taken_part();
+    let (back, neg) = after.taken_part(path.neg());
     records.extend_from_slice(back)?;
     let lines = ids_of(alloc, &records)?;
     note_ends(alloc, &records, &before.records, &after.records, footprint)?;
     Ok(Extended {
         lines,
         records,
-        pos: u64::from(path.pos()) + u64::from(front_len),
-        neg: u64::from(path.neg()) + u64::from(back_len),
+        pos,
+        neg,
         lead: front.len(),
     })
 }

@@ -1,12 +1,12 @@
 //! Reasons 1 to 3 why a path is not encodable, which its own lines and offsets decide.
 ghost use Rattle.std.specs.Prelude.{◌≡◌, ℕ, List, IsTrue, IfOk, MatchResult, None, Some};
 ghost use Rattle.olr_spec.specs.Map.{Map};
+ghost use Rattle.olr_spec.specs.Routes.{dm_of};
 ghost use Rattle.olr_spec.specs.Extension.{is_path};
 ghost use Rattle.olr_spec.specs.Encoding.{first_break, path_fault};
 ghost use Rattle.olr_answers.specs.Answers.{refusal_of};
 ghost use Rattle.olr_refs.specs.ResolvedLines.{records_of};
 
-use crate::along::distances;
 use crate::resolved::{ResolvedLine, resolve};
 use olr_answers::{Path, Refusal};
 use olr_roads::MapRead;
@@ -31,8 +31,7 @@ pub fn own_lines<M: MapRead>(
     if let Some(k) = first_break(&records) {
         return Ok(Err(Refusal::Broken(k)));
     }
-    let distances = distances(alloc, &records)?;
-    if distances[records.len()] <= u128::from(path.pos()) + u128::from(path.neg()) {
+    if length_of(&records) <= u128::from(path.pos()) + u128::from(path.neg()) {
         return Ok(Err(Refusal::OffsetTooLong));
     }
     Ok(Ok(records))
@@ -50,4 +49,16 @@ fn first_break(records: &[ResolvedLine]) -> Option<usize>
         }
     }
     None
+}
+
+/// The length of some lines, in decimetres. 128 bits suffice for any list of lines.
+#[tactic(auto, using(crate::proofs::Resolving::records_length, crate::proofs::Resolving::record_at, crate::proofs::Joined::longer_by))]
+fn length_of(records: &[ResolvedLine]) -> u128
+    ensures { (M : Map) (ls : List ℕ) → records.now ≡ records_of M ls → result ≡ dm_of M ls }
+{
+    let mut len: u128 = 0;
+    for record in records {
+        len += u128::from(record.len);
+    }
+    len
 }

@@ -51,7 +51,6 @@ fn difference(from: i64, to: i64) -> i16
 }
 
 /// The differences of longitude and latitude from one coordinate to another, in relative steps.
-#[tactic(auto, using(crate::proofs::PlaceLemmas::latitude_passed, crate::proofs::PlaceLemmas::latitudes_fit))]
 fn differences(from: Coord, to: Coord) -> (i16, i16)
     requires { IsTrue (fit16 from to) }
     ensures lon { result.0 ≡ relative from.lon to.lon }

@@ -10,7 +10,7 @@ ghost use Rattle.olr_refs.specs.Choice.{SettledBy, raised_count};
 ghost use Rattle.olr_refs.specs.Recovered.{RecoveredOf};
 ghost use Rattle.olr_refs.specs.Referring.{JoinsOf, SearchesOf};
 
-use crate::encoding::encode_noting;
+use crate::encoding::{Encoding, encode_noting};
 use olr_answers::{Answer, Path};
 use olr_roads::{Footprint, MapRead};
 use olr_search::{Dijkstra, Work};
@@ -59,9 +59,16 @@ pub fn refer<M: MapRead>(
         × QueriesOf (M.map map.now) path.now queries
         × SettledBy (M.map map.now) queries work.old.settled work.new.settled) }
 {
-    let mut search = Dijkstra::new(alloc);
     let mut seen = Some(Footprint::new(alloc));
-    let encoding = encode_noting(alloc, map, path, &[], &mut search, &mut seen, work)?;
-    let footprint = with_seen(encoding.traversed, seen)?;
-    Ok((encoding.answer, footprint))
+    let encoding = {
+        let mut search = Dijkstra::new(alloc);
+        encode_noting(alloc, map, path, &[], &mut search, &mut seen, work)?
+    };
+    let Encoding {
+        answer,
+        traversed,
+        ..
+    } = encoding;
+    let footprint = with_seen(traversed, seen)?;
+    Ok((answer, footprint))
 }

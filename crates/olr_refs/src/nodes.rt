@@ -1,10 +1,8 @@
 //! Degree-two nodes, at which nothing turns off.
-ghost use Rattle.std.specs.Prelude.{◌≡◌};
-ghost use Rattle.olr_spec.specs.Extension.{passing, apart};
+ghost use Rattle.std.specs.Prelude.{◌≡◌, map, [], ◌∷◌};
+ghost use Rattle.olr_spec.specs.Extension.{passing, passes_between, apart};
 
-use crate::lines::far_end_of;
-use olr_roads::{MapRead, NodeId};
-use olr_search::Direction;
+use olr_roads::{LineEnd, MapRead, NodeId};
 
 /// Whether a node is a degree-two node: its lines have exactly two other ends, which differ from each other and from
 /// the node, and lead either from one of them to the other, or once from each and once to each. Every other node is
@@ -12,22 +10,37 @@ use olr_search::Direction;
 pub fn passing<M: MapRead>(map: &M, node: NodeId) -> bool
     ensures { result ≡ passing (M.map map.now) node }
 {
-    match (map.in_lines(node), map.out_lines(node)) {
-        ([entering], [leaving]) => {
-            let one = far_end_of(map, Direction::Against, *entering);
-            let other = far_end_of(map, Direction::Along, *leaving);
-            are_apart(node, one, other)
-        }
-        ([from_one, from_other], [to_one, to_other]) => {
-            let one = far_end_of(map, Direction::Against, *from_one);
-            let other = far_end_of(map, Direction::Against, *from_other);
-            let first = far_end_of(map, Direction::Along, *to_one);
-            let second = far_end_of(map, Direction::Along, *to_other);
-            are_apart(node, one, other)
-                && ((first == one && second == other) || (first == other && second == one))
-        }
+    passes_between(node, map.in_ends(node), map.out_ends(node))
+}
+
+/// Whether a node with these lines is a degree-two node, by the other ends of the lines that enter it, and of those that
+/// leave it.
+fn passes_between(node: NodeId, entering: &[LineEnd], leaving: &[LineEnd]) -> bool
+    ensures { result ≡ passes_between node (map (λ e. e.node) entering.now) (map (λ e. e.node) leaving.now) }
+{
+    if entering.len() != leaving.len() {
+        return false;
+    }
+    match entering.len() {
+        1 => are_apart(node, entering[0].node, leaving[0].node),
+        2 => connects(
+            node,
+            entering[0].node,
+            entering[1].node,
+            leaving[0].node,
+            leaving[1].node,
+        ),
         _ => false,
     }
+}
+
+/// Whether lines that enter a node from `one` and `other`, and leave it for `first` and `second`, connect two nodes that
+/// differ from each other and from the node, once each way.
+fn connects(node: NodeId, one: NodeId, other: NodeId, first: NodeId, second: NodeId) -> bool
+    ensures { result ≡ passes_between node (one ∷ other ∷ []) (first ∷ second ∷ []) }
+{
+    are_apart(node, one, other)
+        && ((first == one && second == other) || (first == other && second == one))
 }
 
 /// Whether two nodes are different, and neither of them is `node`.

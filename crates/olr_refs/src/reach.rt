@@ -1,12 +1,10 @@
 //! How far the lines after a position are the unique shortest path.
 ghost use Rattle.std.specs.Prelude.{◌≡◌, ◌+◌, ◌<◌, ◌≤◌, ◌∷◌, [], IfOk, length, slice_index};
 ghost use Rattle.olr_spec.specs.Map.{end};
-ghost use Rattle.olr_spec.specs.Routes.{dm_of};
-ghost use Rattle.olr_spec.specs.Points.{stretch};
-ghost use Rattle.olr_spec.specs.Queries.{IsLastTested};
 ghost use Rattle.olr_search.specs.declared.distances.Direction.TheVariants.{Along};
+ghost use Rattle.olr_refs.specs.Along.{IsFar};
+ghost use Rattle.olr_refs.specs.Choice.{TestedTo};
 ghost use Rattle.olr_search.specs.Searches.{IsSearch, limit_of};
-ghost use Rattle.olr_refs.specs.Along.{IsFar, IsReach};
 
 use crate::along::ResolvedPath;
 use olr_roads::MapRead;
@@ -36,12 +34,8 @@ pub fn covered_to<M: MapRead>(
     requires begun { IsSearch (M.map resolved.now.map.now) (M.node_slot resolved.now.map.now) Along
         ((end (M.map resolved.now.map.now) (slice_index resolved.now.lines.now i), 0) ∷ []) search.old }
     requires at_source { limit_of search.old ≡ 0 }
-    ensures reach { IfOk result (λ t. IsReach (M.map resolved.now.map.now) resolved.now.lines.now i t.reach) }
-    ensures last { IfOk result (λ t. IsLastTested (M.map resolved.now.map.now) resolved.now.lines.now i t.last) }
-    ensures search { IfOk result (λ _. IsSearch (M.map resolved.now.map.now) (M.node_slot resolved.now.map.now) Along
-        ((end (M.map resolved.now.map.now) (slice_index resolved.now.lines.now i), 0) ∷ []) search.new) }
-    ensures no_farther { IfOk result (λ t. limit_of search.new
-        ≡ dm_of (M.map resolved.now.map.now) (stretch resolved.now.lines.now (i + 1) t.last)) }
+    ensures { IfOk result (λ t. TestedTo (M.map resolved.now.map.now) (M.node_slot resolved.now.map.now)
+        resolved.now.lines.now i t.reach t.last search.new) }
 {
     let end = far.min(resolved.lines.len() - 1).max(i + 1);
     for k in i + 1..end {

@@ -1,7 +1,8 @@
 //! The reference of an extended path.
 ghost use Rattle.std.specs.Prelude.{◌≡◌, ◌+◌, ◌-◌, ◌<◌, ◌≤◌, IfOk, length, slice_index};
 ghost use Rattle.olr_spec.specs.Routes.{dm_of};
-ghost use Rattle.olr_spec.specs.Reference.{legs, dm_between, reference, reference_by};
+ghost use Rattle.olr_spec.specs.Points.{Candidate};
+ghost use Rattle.olr_spec.specs.Reference.{legs, dm_between, offset, reference, reference_by};
 ghost use Rattle.olr_spec.specs.Bytes.{IsReference};
 ghost use Rattle.olr_refs.specs.Along.{AreDistances};
 ghost use Rattle.olr_spec.specs.Extension.{AreJoined};
@@ -35,14 +36,32 @@ fn reference_by<M: MapRead>(
         neg_left kept.now) }
 {
     let last = kept.len() - 1;
+    let (start, next) = (kept[0], kept[1]);
+    let (before, end) = (kept[last - 1], kept[last]);
+    let pos = offset_along(resolved, pos_left, start, next);
+    let neg = offset_along(resolved, neg_left, before, end);
     let middle = middle_points(alloc, resolved, kept)?;
     Ok(Reference {
-        first: first_point(resolved, kept[0], kept[1]),
+        first: first_point(resolved, start, next),
         middle,
-        last: last_point(resolved, kept[last - 1], kept[last]),
-        pos: offset(pos_left, resolved.between(kept[0], kept[1])),
-        neg: offset(neg_left, resolved.between(kept[last - 1], kept[last])),
+        last: last_point(resolved, before, end),
+        pos,
+        neg,
     })
+}
+
+/// The remainder of an offset, in decimetres, on the leg from position `i` to position `j`, as a reference has it.
+fn offset_along<M: MapRead>(
+    resolved: &ResolvedPath<M>,
+    left: u128,
+    i: usize,
+    j: usize,
+) -> Option<u8>
+    requires candidate { Candidate (M.map resolved.now.map.now) resolved.now.lines.now i j }
+    requires within { left < dm_between (legs (M.map resolved.now.map.now) resolved.now.lines.now) i j }
+    ensures { result ≡ offset left (dm_between (legs (M.map resolved.now.map.now) resolved.now.lines.now) i j) }
+{
+    offset(left, resolved.between(i, j))
 }
 
 /// The reference of the lines of an extended path, by the distances of their positions, the location reference points

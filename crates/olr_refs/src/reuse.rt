@@ -1,9 +1,9 @@
 //! Coverage queries along a path's own lines, which are not searched again where they are known.
-ghost use Rattle.std.specs.Prelude.{◌≡◌, ◌+◌, ◌-◌, ◌^◌, ◌<◌, ◌≤◌, ◌↔◌, min, IsTrue, IsNone, IfSome, MatchOption};
-ghost use Rattle.std.specs.Prelude.{Contains, length};
+ghost use Rattle.std.specs.Prelude.{◌≡◌, ◌+◌, ◌-◌, ◌^◌, ◌<◌, ◌≤◌, ◌↔◌, min, IsTrue, MatchOption};
+ghost use Rattle.std.specs.Prelude.{length};
 ghost use Rattle.olr_spec.specs.Queries.{IsKnownAt, IsLastTested, IsReused, query_to, KnownQuery as Query};
 ghost use Rattle.olr_refs.specs.Along.{IsFar, IsReach};
-ghost use Rattle.olr_refs.specs.Reuse.{Reuses, known_reach};
+ghost use Rattle.olr_refs.specs.Reuse.{Reuses, Serves, known_reach};
 
 use crate::along::ResolvedPath;
 use crate::reach::Tested;
@@ -50,13 +50,9 @@ pub fn known_after<M: MapRead>(
     requires reuse { Reuses (M.map resolved.now.map.now) resolved.now.lines.now reuse.now.lead reuse.now.own
         reuse.now.known.now }
     requires far { IsFar (M.map resolved.now.map.now) resolved.now.lines.now i far }
-    ensures none { IsNone result → ¬ IsReused (M.map resolved.now.map.now) resolved.now.lines.now reuse.now.lead
-        reuse.now.own reuse.now.known.now i }
-    ensures known { IfSome result (IsKnownAt (M.map resolved.now.map.now) resolved.now.lines.now reuse.now.lead
-        reuse.now.own i) }
-    ensures reach { IfSome result (λ e. IsReach (M.map resolved.now.map.now) resolved.now.lines.now i
-        (known_reach reuse.now.lead far e)) }
-    ensures given { IfSome result (Contains reuse.now.known.now) }
+    ensures { MatchOption result (¬ IsReused (M.map resolved.now.map.now) resolved.now.lines.now reuse.now.lead
+        reuse.now.own reuse.now.known.now i) (Serves (M.map resolved.now.map.now) resolved.now.lines.now reuse.now.lead
+        reuse.now.own reuse.now.known.now i far) }
 {
     let first = (i + 1).checked_sub(reuse.lead)?;
     let k = reuse

@@ -1,4 +1,4 @@
-use Rattle.olr_refs.proofs.Common.{ℕ, List, Contains, sym, subst, ◌↔◌, IsStrictlyIncreasing, LiesWithin, limit_of}
+use Rattle.olr_refs.proofs.Common.{on_ok_weaker, ℕ, List, Contains, sym, subst, ◌↔◌, IsStrictlyIncreasing, LiesWithin, limit_of}
 use Rattle.olr_refs.proofs.Noting.{nodes_noted}
 use Rattle.olr_refs.proofs.chosen.note_settled.Goals as goal
 
@@ -10,9 +10,10 @@ note_all-requires c =
           (c.in_ok-nodes.ensures.ascending r.0 r.1 r.2 r.3 r.4);
     }
 
-pub returns-in_ok-note_all : goal.returns-in_ok-note_all
-returns-in_ok-note_all c = λ M place direction from search.
-    nodes_noted (LiesWithin M direction from (limit_of c.args.search.now)) c.args.seen.now c.in-Some.seen
-    c.note_all.new.self c.deref.result.now c.in-Some.is c.in_ok-note_all.ensures.ok
+pub returns : goal.returns
+returns c =
+    on_ok_weaker c.note_all.result
+    (λ noted M place direction from search. nodes_noted (LiesWithin M direction from (limit_of c.args.search.now))
+    c.args.seen.now c.in-Some.seen c.note_all.new.self c.deref.result.now c.in-Some.is noted
     (λ v. subst (λ (vs : List ℕ). Contains vs v ↔ LiesWithin M direction from (limit_of c.args.search.now) v)
-    (sym c.deref.ensures.value) (c.in_ok-nodes.ensures.nodes M place direction from v search))
+    (sym c.deref.ensures.value) (c.in_ok-nodes.ensures.nodes M place direction from v search))) c.note_all.ensures.ok

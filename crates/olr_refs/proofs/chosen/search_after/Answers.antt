@@ -1,4 +1,4 @@
-use Rattle.olr_refs.proofs.Common.{[], ◌∷◌, refl, sym, ◌∙◌, arith, CoverageQuery, Along, IsSearch}
+use Rattle.olr_refs.proofs.Common.{[], ◌∷◌, refl, rules, sym, ◌∙◌, arith, CoverageQuery, Along, IsSearch}
 use Rattle.olr_refs.proofs.Noting.{one_query, query_noted}
 use Rattle.olr_refs.proofs.chosen.search_after.Given.{Over}
 use Rattle.olr_refs.proofs.chosen.search_after.Goals as goal
@@ -7,25 +7,23 @@ pub note_settled-requires : goal.note_settled-requires
 note_settled-requires g c = (_, _, _, _, c.in_ok-tested.ensures.search)
 
 -- the search, as one from where the query begins
-search : (g : Over) (c : goal.After-between g) →
+one_search : (g : Over) (c : goal.After-between g) →
     IsSearch (g.M.MapRead.map c.args.resolved.now.map.now) (g.M.MapRead.node_slot c.args.resolved.now.map.now) Along
     ((c.end-from.result, 0) ∷ []) c.covered_to.new.search
-search g c = grind arith
+one_search g c = grind arith
 
-pub returns-clause-seen : goal.returns-clause-seen
-returns-clause-seen g c =
+pub returns : goal.returns
+returns g c =
     let M = g.M.MapRead.map c.args.resolved.now.map.now in
     let place = g.M.MapRead.node_slot c.args.resolved.now.map.now in
     let query : CoverageQuery = record { from = c.end-from.result; to = c.node.result; within = c.between.result } in
-    query_noted M place query c.covered_to.new.search _ _ (search g c) c.end-from.ensures.known
-    (c.in_ok-tested.ensures.no_farther ∙ sym c.between.ensures.value)
-    (c.in_ok-note_settled.ensures M place _ _ (search g c))
-
-pub returns-clause-work : goal.returns-clause-work
-returns-clause-work g c =
-    let M = g.M.MapRead.map c.args.resolved.now.map.now in
-    let place = g.M.MapRead.node_slot c.args.resolved.now.map.now in
-    let query : CoverageQuery = record { from = c.end-from.result; to = c.node.result; within = c.between.result } in
-    one_query M place query c.settled_count.result c.covered_to.new.search c.args.work.now _ (search g c)
-    c.end-from.ensures.known (c.in_ok-tested.ensures.no_farther ∙ sym c.between.ensures.value)
-    (c.settled_count.ensures _ _ _ _ (search g c)) refl (omega arith) (omega arith)
+    let far = c.in_ok-tested.ensures.no_farther ∙ sym c.between.ensures.value in
+    record {
+      reach = c.in_ok-tested.ensures.reach;
+      last = c.in_ok-tested.ensures.last;
+      query = search rules;
+      seen = query_noted M place query c.covered_to.new.search _ _ (one_search g c) c.end-from.ensures.known far
+          (c.in_ok-note_settled.ensures M place _ _ (one_search g c));
+      work = one_query M place query c.settled_count.result c.covered_to.new.search c.args.work.now _ (one_search g c)
+          c.end-from.ensures.known far (c.settled_count.ensures _ _ _ _ (one_search g c)) refl (omega arith) (omega arith);
+    }

@@ -11,8 +11,9 @@ loop-record-preserved g c =
     rw (c.in_ok-push.ensures.items, reverse-append items (r ∷ [])) refl in
     rw pushed (grows_more (g.M.MapRead.map c.args.map.now) c.args.direction _ (some_ids _ c.requires.some)
     c.requires.known _ _ _ _ c.loop-record.invariant _ r _ _
-    (ap (λ (s : ResolvedLine). s.len) c.record.view_is) c.in-Some.ensures.line c.in-Some.ensures.record
-    (sym (c.in_ok-used.ensures r.id) ∙ c.in-Some.ensures.fresh) c.in-Some.ensures.near c.line_beyond-at.ensures)
+    (ap (λ (s : ResolvedLine). s.len) c.record.view_is) c.in-Some.ensures.some.line c.in-Some.ensures.some.known
+    (sym (c.in_ok-used.ensures r.id) ∙ c.in-Some.ensures.some.fresh) c.in-Some.ensures.some.near
+    c.line_beyond-at.ensures)
 
 pub returns : goal.returns
 returns g c =

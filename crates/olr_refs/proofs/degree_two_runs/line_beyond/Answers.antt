@@ -1,6 +1,5 @@
 use Rattle.olr_refs.proofs.Common.{◌≡◌, ℕ, true, false, eqb, ap, sym, ◌∙◌, subst, arith, both_ways, eq-eqb, passing}
-use Rattle.olr_refs.proofs.Common.{far_end, read_at, not-true}
-use Rattle.std.proofs.Common.{IsTrue}
+use Rattle.olr_refs.proofs.Common.{far_end, read_at, not-true, IsTrue}
 use Rattle.olr_search.proofs.ReadLemmas.{found_at}
 use Rattle.olr_refs.proofs.degree_two_runs.line_beyond.Goals.{then-through+else-loop-next-test, else-through}
 use Rattle.olr_refs.proofs.degree_two_runs.line_beyond.Goals as goal

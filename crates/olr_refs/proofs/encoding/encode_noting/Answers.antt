@@ -1,6 +1,12 @@
-use Rattle.olr_refs.proofs.Common.{refl, arith, IfOk-weaker}
+use Rattle.olr_refs.proofs.Common.{refl, arith, rules, IfOk-weaker}
 use Rattle.olr_refs.proofs.Asking.{queries_whole, known_whole, searched_whole, searched_of, searched_few}
 use Rattle.olr_refs.proofs.encoding.encode_noting.Goals as goal
+
+pub returns-in_err-refusal : goal.returns-in_err-refusal
+returns-in_err-refusal g c = search rules
+
+pub returns-in-Err : goal.returns-in-Err
+returns-in-Err g c = search rules
 
 pub returns-in-Ok-clause-queries : goal.returns-in-Ok-clause-queries
 returns-in-Ok-clause-queries g c = grind (arith, IfOk-weaker, queries_whole)

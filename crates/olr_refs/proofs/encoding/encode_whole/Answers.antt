@@ -1,6 +1,21 @@
-use Rattle.olr_refs.proofs.Common.{arith}
-use Rattle.olr_refs.proofs.Referring.{encoding_of, joins_of, traversed_of}
+use Rattle.olr_refs.proofs.Common.{arith, rules}
+use Rattle.olr_refs.proofs.Referring.{whole_joined, whole_short, asks_of, encoding_of, joins_of, traversed_of}
 use Rattle.olr_refs.proofs.encoding.encode_whole.Goals as goal
+
+pub returns-in_err-extended : goal.returns-in_err-extended
+returns-in_err-extended g c = search rules
+
+pub returns-in_err-answer : goal.returns-in_err-answer
+returns-in_err-answer g c = search rules
+
+pub encode_along-requires-clause-joined : goal.encode_along-requires-clause-joined
+encode_along-requires-clause-joined g c = grind (arith, whole_joined)
+
+pub encode_along-requires-clause-short : goal.encode_along-requires-clause-short
+encode_along-requires-clause-short g c = grind (arith, whole_short)
+
+pub returns-clause-asks : goal.returns-clause-asks
+returns-clause-asks g c = grind (arith, asks_of)
 
 pub returns-clause-joins : goal.returns-clause-joins
 returns-clause-joins g c = grind (arith, encoding_of, joins_of)

@@ -1,6 +1,13 @@
-use Rattle.olr_refs.proofs.Common.{◌++◌, List, length, sym, ap, ◌∙◌, refl, ResolvedLine, ids, records_of}
-use Rattle.olr_refs.proofs.Extending.{whole_records, extends}
+use Rattle.olr_refs.proofs.Common.{arith, ◌++◌, List, length, sym, ap, ◌∙◌, refl, ResolvedLine, ids, records_of}
+use Rattle.olr_refs.proofs.Extending.{own_some, own_first, front_some, front_last, front_records, whole_records, extends}
+use Rattle.olr_refs.proofs.Resolving.{are_records}
 use Rattle.olr_refs.proofs.extension.extend.Goals as goal
+
+pub longest_run-requires : goal.longest_run-requires
+longest_run-requires g c = grind (arith, own_some, own_first, are_records)
+
+pub longest_run-requires-2 : goal.longest_run-requires-2
+longest_run-requires-2 g c = grind (arith, front_some, front_last, front_records)
 
 pub returns : goal.returns
 returns g c =
@@ -9,20 +16,20 @@ returns g c =
     let front =
     c.deref.ensures.value ∙ c.in_ok-extend_from_slice.ensures.items
     ∙ ap (λ (rs : List ResolvedLine). rs ++ c.args.own.now)
-    (c.in_ok-records.ensures.items ∙ c.taken_part-front_len.ensures.records) in
+    (c.in_ok-records.ensures.items ∙ c.taken_part-pos.ensures.records) in
     let whole =
     c.in_ok-extend_from_slice-2.ensures.items
-    ∙ (λ i. sym c.deref.ensures.value i ++ c.taken_part-back_len.ensures.records i) in
+    ∙ (λ i. sym c.deref.ensures.value i ++ c.taken_part-neg.ensures.records i) in
     let records =
     whole_records M P c.requires.path c.requires.known _ c.requires.own _ _ _ c.in_ok-before.ensures _ front _ _ _
     c.in_ok-after.ensures _ whole in
     record {
       ok = extends M P c.requires.path c.requires.known _ c.requires.own _ _ _ c.in_ok-before.ensures _ front _ _ _
           c.in_ok-after.ensures _ whole _ _ _ _
-          (ap (λ (rs : List ResolvedLine). length rs) c.taken_part-front_len.ensures.records)
+          (ap (λ (rs : List ResolvedLine). length rs) c.taken_part-pos.ensures.records)
           (c.in_ok-lines.ensures ∙ ap ids c.deref-2.ensures.value)
-          (rw (c.from.ensures, c.pos.ensures, c.from-2.ensures, c.taken_part-front_len.ensures.len) refl)
-          (rw (c.from-3.ensures, c.neg.ensures, c.from-4.ensures, c.taken_part-back_len.ensures.len) refl)
+          (rw (c.taken_part-pos.ensures.raised, c.pos.ensures) refl)
+          (rw (c.taken_part-neg.ensures.raised, c.neg.ensures) refl)
           (c.in_ok-note_ends.ensures.ok M _ _ _ (c.deref-3.ensures.value ∙ records)
           (c.deref-4.ensures.value ∙ c.in_ok-before.ensures.are) (c.deref-5.ensures.value ∙ c.in_ok-after.ensures.are));
       records = records ∙ ap (records_of M) (sym (c.in_ok-lines.ensures ∙ ap ids c.deref-2.ensures.value));

@@ -5,7 +5,6 @@ use Rattle.olr_refs.proofs.fields.attrs.Goals as goal
 pub returns : goal.returns
 returns g c =
     let M = g.M.MapRead.map c.args.resolved.now.map.now in
-    let after = c.requires.candidate.after in
     let read =
     leg_read M c.args.resolved.now.lines.now c.args.i _ c.ends_of.result (omega arith) c.line-line.ensures.value
     c.ends_of.ensures.from c.ends_of.ensures.to in

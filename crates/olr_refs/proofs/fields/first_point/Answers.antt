@@ -1,7 +1,12 @@
-use Rattle.olr_refs.proofs.Common.{rules, ap, ◌∙◌, Coord, abs24, legs, w32}
-use Rattle.olr_refs.proofs.PlaceLemmas.{stored}
-use Rattle.olr_refs.proofs.PointLemmas.{first_read}
+use Rattle.olr_refs.proofs.Common.{rules, arith, and_parts, to_z-of_z, ap, ◌∙◌, Coord, abs24, legs, w32}
+use Rattle.olr_refs.proofs.PointLemmas.{first_read, stored}
 use Rattle.olr_refs.proofs.fields.first_point.Goals as goal
+
+pub abs24-requires : goal.abs24-requires
+abs24-requires g c = grind (arith, and_parts, to_z-of_z)
+
+pub abs24-requires-2 : goal.abs24-requires-2
+abs24-requires-2 g c = grind (arith, and_parts, to_z-of_z)
 
 pub returns : goal.returns
 returns g c =

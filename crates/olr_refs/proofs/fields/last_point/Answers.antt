@@ -7,8 +7,6 @@ pub returns : goal.returns
 returns g c =
     let M = g.M.MapRead.map c.args.resolved.now.map.now in
     let gs = legs M c.args.resolved.now.lines.now in
-    let after = c.requires.candidate.after in
-    let upto = c.requires.candidate.upto in
     let read =
     leg_read M c.args.resolved.now.lines.now (c.args.i - 1) _ c.ends_of.result (omega arith) c.line-line.ensures.value
     c.ends_of.ensures.from c.ends_of.ensures.to in

@@ -1,5 +1,4 @@
-use Rattle.olr_refs.proofs.Common.{◌≡◌, sym, subst, IsReference, Reference, later, reference_fits}
-use Rattle.std.proofs.Common.{IfOk}
+use Rattle.olr_refs.proofs.Common.{◌≡◌, sym, subst, IsReference, Reference, later, reference_fits, IfOk}
 use Rattle.olr_refs.proofs.LegLemmas.{joined_known}
 use Rattle.olr_refs.proofs.Trimming.{some_lines, points_along, trimmed}
 use Rattle.olr_refs.proofs.reference.reference_of.Goals as goal

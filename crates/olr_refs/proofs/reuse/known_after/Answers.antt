@@ -1,26 +1,26 @@
-use Rattle.olr_refs.proofs.Common.{◌≡◌, true, false, arith, rules, answers_always}
+use Rattle.olr_refs.proofs.Common.{◌≡◌, true, false, arith, rules, answers_always, IsReused}
 use Rattle.olr_refs.proofs.Reusing.{none_at, found_at, one_first, known_at, reach_known, ends_at}
 use Rattle.olr_refs.proofs.reuse.known_after.Goals as goal
 
-pub returns-in_err-k-clause-none : goal.returns-in_err-k-clause-none
-returns-in_err-k-clause-none g c = λ n r.
-    let up = c.requires.reuse.are.ascend in
-    let leads = c.in_ok-first.ensures in
+pub returns-in_err-k : goal.returns-in_err-k
+returns-in_err-k g c =
+    let none : ¬ IsReused (g.M.MapRead.map c.args.resolved.now.map.now) c.args.resolved.now.lines.now
+    c.args.reuse.now.lead c.args.reuse.now.own c.args.reuse.now.known.now c.args.i = λ r.
     let begins = r.2.begins in
     let by_key = c.binary_search_by_key.ensures.position (λ e. e.first)
     (answers_always _ _ _ (λ f a r g called. search rules)) in
-    none_at c.args.reuse.now.known.now up c.in_ok-first.first c.binary_search_by_key.result by_key
-    c.in_err-k.ensures.value r.0 r.1 (omega arith)
+    none_at c.args.reuse.now.known.now c.requires.reuse.are.ascend c.in_ok-first.first c.binary_search_by_key.result by_key
+    c.in_err-k.ensures.value r.0 r.1 (omega arith) in
+    search rules
 
-pub returns-then-not-ends_here-clause-none : goal.returns-then-not-ends_here-clause-none
-returns-then-not-ends_here-clause-none g c = λ n r.
+pub returns-then-not-ends_here : goal.returns-then-not-ends_here
+returns-then-not-ends_here g c = λ r.
     let reuse = c.requires.reuse in
     let found = c.binary_search_by_key in
     let by_key = found.ensures.position (λ e. e.first) (answers_always _ _ _ (λ f a r g called. search rules)) in
     let at =
     found_at c.args.reuse.now.known.now c.requires.reuse.are.ascend c.in_ok-first.first found.result by_key
     found.ensures.bound c.in_ok-k.k c.in_ok-k.ensures.value c.index-reuse-k.result in
-    let leads = c.in_ok-first.ensures in
     let begins = r.2.begins in
     let same =
     one_first c.args.reuse.now.known.now reuse.are.ascend c.in_ok-first.first _ r.0 at.0 r.1 (omega arith) in
@@ -40,7 +40,6 @@ returns g c =
     let own = c.args.reuse.now.own in
     let known = c.args.reuse.now.known.now in
     let joined = c.args.resolved.now.joined in
-    let leads = c.in_ok-first.ensures in
     let found = c.binary_search_by_key in
     let by_key = found.ensures.position (λ e. e.first) (answers_always _ _ _ (λ f a r g called. search rules)) in
     let at =
@@ -48,7 +47,6 @@ returns g c =
     found.ensures.bound c.in_ok-k.k c.in_ok-k.ensures.value c.index-reuse-k.result in
     let ends = c.ends_here.ensures.0 c.if-not-ends_here.false in
     record {
-      none = λ none. absurd cc;
       known = known_at M ls lead own known c.requires.reuse joined c.args.i c.args.far c.requires.some c.requires.far _
           at.0 (omega arith) ends;
       reach = reach_known M ls lead own known c.requires.reuse joined c.args.i c.args.far c.requires.some
