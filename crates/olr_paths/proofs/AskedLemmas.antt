@@ -1,8 +1,24 @@
--- What is searched for each path of a list is searched for the path at a position.
-use Rattle.olr_paths.proofs.Common.{◌≡◌, ℕ, List, slice_get, Contains, Some, true, false, min, CoverageQuery, Map}
-use Rattle.olr_paths.proofs.Common.{limit, AreLengths, Against, Made, Item, nodes_of, sources, IsExactAt, AreAsked}
+-- How far the numbers of nodes let a search go, and what is searched for the path at a position.
+use Rattle.olr_paths.proofs.Common.{ℕ, ◌≤◌, min, IsTrue, refl, arith, Map, limit, AreBounds, IsUnder, Against, IsRight}
+use Rattle.olr_paths.proofs.Common.{IsSource, bound_of, ◌≡◌, List, slice_get, Contains, Some, true, false}
+use Rattle.olr_paths.proofs.Common.{CoverageQuery, AreLengths, Made, Item, nodes_of, sources, IsExactAt, AreAsked}
 use Rattle.olr_paths.proofs.Common.{Begins, ChangeSet, Searches, AreFar}
+use Rattle.olr_near.specs.declared.distance_bounds.DistanceBounds.{DistanceBounds}
 use Rattle.olr_paths.proofs.OriginLemmas.{begins_there}
+
+-- right numbers are bounds
+pub are_bounds : (M : Map) (f : DistanceBounds) → IsTrue f.known → IsRight M f → AreBounds M Against (bound_of f)
+are_bounds M f known right x b line at short =
+    let k = right known _ b at x line refl short in
+    (k.number, k.at, k.low)
+
+-- and no source is beyond them
+pub source_under : (f : DistanceBounds) (v w d : ℕ) → IsTrue f.known → IsSource f v w → d ≤ min w limit →
+    IsUnder (bound_of f) v d
+source_under f v w d known source le =
+    let k = source known in
+    let low = k.low in
+    record { bound = k.number; at = k.at; low = omega arith }
 
 module _ (N : Map) (slot : ℕ → ℕ) (t : ChangeSet) (s : Searches) (is : List Item) where
   query_there : (k : ℕ) (i : Item) (m : Made) (l : CoverageQuery) → slice_get is k ≡ Some i → i.made ≡ Some m →

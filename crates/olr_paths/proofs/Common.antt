@@ -43,7 +43,7 @@ pub use Rattle.olr_search.specs.Distances.{IsDistance, Leads}
 pub use Rattle.olr_search.specs.declared.distances.Direction.TheVariants.{Against, Along}
 pub use Rattle.olr_search.specs.declared.work.Work.{Work}
 pub use Rattle.olr_spec.proofs.AscendingLists.{ascends, ascends-remove, ascends_push, found_has, has-remove, has_at}
-pub use Rattle.olr_spec.proofs.AscendingLists.{place_not, place_of, put_ascends, stays_has, there_found}
+pub use Rattle.olr_spec.proofs.AscendingLists.{place_not, place_of, put_ascends, put_has, stays_has, there_found}
 pub use Rattle.olr_spec.proofs.KnownLemmas.{all_searched, known_holds, known_stays, none_known}
 pub use Rattle.olr_spec.proofs.ListLemmas.{Contains-cases, Contains-here, Contains-later, Each-cons, at_index}
 pub use Rattle.olr_spec.proofs.ListLemmas.{has_index, take_more_at}
@@ -55,18 +55,18 @@ pub use Rattle.olr_spec.specs.Detours.{AccountsFor, ChangedLine, Detour, Near}
 pub use Rattle.olr_spec.specs.Encoding.{Answer, Refusal, path_fault}
 pub use Rattle.olr_spec.specs.Extension.{Path, extended_path, first, is_path, last, limit}
 pub use Rattle.olr_spec.specs.Map.{IsMap, Map, SameLine, SameRound, end, has, has_line, has_node, start}
-pub use Rattle.olr_spec.specs.Queries.{AreKnown, CoverageQuery, IsClear, IsKnown, IsQuery, KnownQuery, Needed}
-pub use Rattle.olr_spec.specs.Queries.{QueriesOf, QueriesOfExtended, SearchedOf, TraversedOf, TraversedOfExtended}
-pub use Rattle.olr_spec.specs.Queries.{query_to}
+pub use Rattle.olr_spec.specs.Queries.{TraversedOfExtended, QueriesOfExtended, CoverageQuery, TraversedOf, KnownQuery}
+pub use Rattle.olr_spec.specs.Queries.{SearchedOf, QueriesOf, AreKnown, query_to, IsClear, IsKnown, IsQuery, Needed}
 pub use Rattle.olr_spec.specs.Routes.{IsRoute, dm_of}
 pub use Rattle.std.proofs.Common.{All, Bool, Bor, Contains, Err, Global, IfSome, IsTrue, List, MatchOption, None, Ok}
 pub use Rattle.std.proofs.Common.{Option, Result, Some, String, Vec, [], ap, append-nil, append_assoc, arith, cond}
 pub use Rattle.std.proofs.Common.{drop, eqb, false, get_or, inl, inr, is_some, length, map, min, not, refl, rules}
 pub use Rattle.std.proofs.Common.{slice_get, subst, suc, sym, take, true, unwrap_or, vec_capacity, vec_len, zero, ℕ}
-pub use Rattle.std.proofs.Common.{⊎_elim, ◌&&◌, ◌++◌, ◌+◌, ◌-◌, ◌<◌, ◌==◌, ◌^◌, ◌||◌, ◌↔◌, ◌∙◌, ◌∷◌, ◌≡◌, ◌≢◌, ◌≤◌}
-pub use Rattle.std.proofs.Common.{◌⊎◌}
-pub use Rattle.std.proofs.lemmas.Bool.{both_ways, cases_Bool, cases_lt, cases_order, eq-eqb, eqb-true, or_left}
+pub use Rattle.std.proofs.Common.{⊎_elim, ◌&&◌, ◌++◌, ◌+◌, ◌-◌, ◌<◌, ◌==◌, ◌^◌, ◌||◌, ◌↔◌, ◌∙◌, ◌∷◌, ◌≡◌, ◌≢◌, ◌≤◌, ◌⊎◌}
+pub use Rattle.std.proofs.lemmas.Bool.{both_ways, cases_Bool, cases_lt, cases_order, eq-eqb, eqb-true, false≢true}
+pub use Rattle.std.proofs.lemmas.Bool.{or_left, true≢false}
 pub use Rattle.std.proofs.lemmas.Bool.Decides.{nat_tests}
+pub use Rattle.std.proofs.lemmas.Grind.{common_steps, elements}
 pub use Rattle.std.proofs.lemmas.List.{drop_all, drop_more, get_or_default, get_or_read, length-append, length-map}
 pub use Rattle.std.proofs.lemmas.List.{length_push, map-append, take-map, take_all, take_at, take_more}
 pub use Rattle.std.proofs.lemmas.List.Edits.{length-remove}

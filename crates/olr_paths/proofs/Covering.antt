@@ -12,7 +12,7 @@ use Rattle.olr_paths.proofs.Common.{all_named, or_left, at_index, ToStay, Covers
 use Rattle.olr_paths.proofs.Common.{Global, list_any-IsPermutation, IsAsked}
 use Rattle.std.proofs.Math.Bool.{or-false}
 use Rattle.olr_paths.proofs.NamedEntries.{Entries, First, item_of, items_of, same_flip}
-use Rattle.olr_paths.proofs.Sets.{in_from}
+use Rattle.olr_paths.proofs.Alls.{in_from}
 use Rattle.olr_paths.proofs.Distances.{near_absent, leads_from}
 use Rattle.olr_paths.proofs.NotedPositions.{back}
 use Rattle.olr_paths.proofs.RenewedPrefix.{SoFar, so_far_step}

@@ -4,7 +4,7 @@ use Rattle.olr_paths.proofs.Common.{Option, Some, None, IfSome, refl, sym, ap, s
 use Rattle.olr_paths.proofs.Common.{has_node, end, has, IsRoute, dm_of, ChangedLine, Near, Leads, Along, Against}
 use Rattle.olr_paths.proofs.Common.{AreFarther, ⊎_elim, Detour, route_start, IsDistance}
 use Rattle.olr_search.specs.declared.distances.Direction.{Direction}
-use Rattle.olr_paths.proofs.Sets.{has_from, in_from, Contains-map, Contains-unmap}
+use Rattle.olr_paths.proofs.Alls.{has_from, in_from, Contains-map, Contains-unmap}
 
 -- ---- a shortest distance
 

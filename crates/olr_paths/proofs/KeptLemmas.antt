@@ -1,17 +1,108 @@
--- Results that are right on a map are right on the next one, if no change can affect them.
-use Rattle.olr_paths.proofs.Common.{inl, inr, ◌≡◌, ℕ, ◌≤◌, List, All, Contains, Some, IsTrue, true, false, subst}
-use Rattle.olr_paths.proofs.Common.{arith, get_or, min, slice_get, cases_Bool, Map, IsMap, has, SameRound, Path}
-use Rattle.olr_paths.proofs.Common.{is_path, limit, ChangedLine, Near, CoverageQuery, TraversedOf, Made, Item}
-use Rattle.olr_paths.proofs.Common.{IsEncodingOf, IsAffected, TraversedTouched, LineTouched, QueryTouched}
-use Rattle.olr_paths.proofs.Common.{IsKnownClear, IsBefore, IsSpared, IsEncodedAgain, both_ways, Contains-get_or}
-use Rattle.olr_paths.proofs.Common.{SameLine, IsClear, IsUnchanged, By_name, By_node, By_line, Touches, Stays}
-use Rattle.olr_paths.proofs.Common.{ToEncode}
+-- A coverage query is at most as long as the greatest limit. Its ends are traversed nodes: if none of these is touched,
+-- they are on the next map too. Results that are right on a map are right on the next one, if no change can affect them.
+use Rattle.olr_paths.proofs.Common.{TraversedOfExtended, QueriesOfExtended, extended_path, CoverageQuery, dm_of-append}
+use Rattle.olr_paths.proofs.Common.{MatchOption, TraversedOf, slice_index, path_fault, query_from, cases_Bool, Contains}
+use Rattle.olr_paths.proofs.Common.{QueriesOf, SameRound, Each-cons, has_index, query_to, has_node, has_line, Refusal}
+use Rattle.olr_paths.proofs.Common.{IsQuery, is_some, IsRoute, is_path, IsOnMap, length, Option, Needed, IsTrue, arith}
+use Rattle.olr_paths.proofs.Common.{dm_of, limit, false, subst, IsMap, start, first, refl, List, Some, None, Path, true}
+use Rattle.olr_paths.proofs.Common.{last, inl, inr, ◌≡◌, ◌+◌, ◌<◌, ◌≤◌, ◌∷◌, ◌⊎◌, Map, sym, ◌∙◌, end, has, [], ap, ℕ}
+use Rattle.olr_paths.proofs.Common.{All, get_or, min, slice_get, ChangedLine, Near, Made, Item, IsEncodingOf}
+use Rattle.olr_paths.proofs.Common.{IsAffected, TraversedTouched, LineTouched, QueryTouched, IsKnownClear, IsBefore}
+use Rattle.olr_paths.proofs.Common.{IsSpared, IsEncodedAgain, both_ways, Contains-get_or, SameLine, IsClear}
+use Rattle.olr_paths.proofs.Common.{IsUnchanged, By_name, By_node, By_line, Touches, Stays, ToEncode}
+use Rattle.olr_spec.specs.Points.{stretch}
+use Rattle.olr_spec.proofs.JoinLemmas.{empty_stretch}
+use Rattle.olr_spec.proofs.QueryLemmas.{stretch_parts}
+use Rattle.olr_spec.specs.Coordinates.{Coord}
+use Rattle.olr_spec.proofs.JoinedLemmas.{extended_joined}
 use Rattle.olr_spec.proofs.ListLemmas.{Each}
 use Rattle.olr_spec.proofs.StayLemmas.{known_kept, untouched_retained}
 use Rattle.olr_spec.proofs.TestedLemmas.{foot_affected, one_queries}
-use Rattle.olr_paths.proofs.QueryLengths.{within_limit}
-use Rattle.olr_paths.proofs.QueryEnds.{on_map}
 use Rattle.olr_paths.proofs.GivenQueries.{made_before, path_before}
+
+module _ (M : Map) (ls : List ℕ) (i : ℕ) (l : CoverageQuery) where
+  by_need : (k : ℕ) → i < k → l ≡ query_to M ls i k → (k ≡ i + 1) ⊎ Needed M ls i k → l.within ≤ limit
+  by_need k after is (inl e) =
+      let none : stretch ls (i + 1) k ≡ [] = empty_stretch ls (i + 1) k (omega arith) in
+      let zero_long : dm_of M (stretch ls (i + 1) k) ≡ 0 = ap (dm_of M) none in
+      let long : l.within ≡ dm_of M (stretch ls (i + 1) k) = ap (λ (x : CoverageQuery). x.within) is in
+      omega arith
+  by_need k after is (inr need) =
+      let j = need.0 in
+      let below : k ≤ j = omega (arith, need.3) in
+      let first = stretch_parts ls i (i + 1) j (omega arith) (omega arith) in
+      let second = stretch_parts ls (i + 1) k j (omega arith) below in
+      let near = rw (first, dm_of-append, second, dm_of-append) at need.2 in
+      let long : l.within ≡ dm_of M (stretch ls (i + 1) k) = ap (λ (x : CoverageQuery). x.within) is in
+      omega (arith, near)
+
+  short_query : IsQuery M ls i l → l.within ≤ limit
+  short_query h = by_need h.0 h.1.after h.2 h.1.needed
+
+-- a path with a coverage query is encodable
+pub extended_queries : (M : Map) (P : Path) (queries : List CoverageQuery) → QueriesOf M P queries →
+    (l : CoverageQuery) → Contains queries l → (path_fault M P ≡ None) × QueriesOfExtended M P queries
+extended_queries M P queries h l on = by (path_fault M P) refl h where
+  by : (o : Option Refusal) → path_fault M P ≡ o → MatchOption o (QueriesOfExtended M P queries) (λ _. queries ≡ []) →
+      (path_fault M P ≡ None) × QueriesOfExtended M P queries
+  by None e h = (e, h)
+  by (Some r) e h = let none : length queries ≡ 0 = ap length h in let lt = on.1 in absurd (omega arith)
+
+pub within_limit : (M : Map) (P : Path) (queries : List CoverageQuery) → QueriesOf M P queries → (l : CoverageQuery) →
+    Contains queries l → l.within ≤ limit
+within_limit M P queries o l on =
+    let h = (extended_queries M P queries o l on).1 in
+    let ls = (extended_path M P h.before h.after).lines in
+    let r = query_from M ls (0 ∷ h.points) queries h.holds l on in
+    short_query M ls r.0 l r.3
+
+route_lines : (M : Map) (s v : ℕ) (xs : List ℕ) → IsRoute M s v xs → (x : ℕ) → has xs x ≡ true → IsTrue (has_line M x)
+route_lines M s v [] w = λ x on. let never : ⊥ = cc (on) in absurd never
+route_lines M s v (y ∷ ys) w = Each-cons (λ x. IsTrue (has_line M x)) y ys w.0 (route_lines M (end M y) v ys w.2)
+
+module _ (M N : Map) (m : IsMap M) (T : List ℕ) (rounds : (v : ℕ) → has T v ≡ false → SameRound M N v) (P : Path)
+    (is : IsTrue (is_path P.lines)) where
+  ends_on_map : (queries : List CoverageQuery) → path_fault M P ≡ None → QueriesOfExtended M P queries →
+      ((v : ℕ) → has T v ≡ true → ¬ TraversedOfExtended M P v) → (l : CoverageQuery) → Contains queries l →
+      IsTrue (has_node N l.from) × IsTrue (has_node N l.to)
+  ends_on_map queries e o free l on =
+      let ls = (extended_path M P o.before o.after).lines in
+      let r = query_from M ls (0 ∷ o.points) queries o.holds l on in
+      let i : ℕ = r.0 in
+      let k : ℕ = r.3.0 in
+      let tested = r.3.1 in
+      let is_l = r.3.2 in
+      let inside : i + 2 < length ls = r.2 in
+      let x : ℕ = slice_index ls i in
+      let y : ℕ = slice_index ls k in
+      let joined : IsRoute M (start M (first ls)) (end M (last ls)) ls =
+      extended_joined M P is e o.before o.after o.tried in
+      let x_in : has ls x ≡ true = has_index ls i (omega arith) in
+      let y_in : has ls y ≡ true = has_index ls k tested.inside in
+      let x_there = route_lines M (start M (first ls)) (end M (last ls)) ls joined x x_in in
+      let y_there = route_lines M (start M (first ls)) (end M (last ls)) ls joined y y_in in (
+        subst (λ (v : ℕ). IsTrue (has_node N v)) (sym (ap (λ (q : CoverageQuery). q.from) is_l))
+            (stays (end M x)
+            (record { before = o.before; after = o.after; tried = o.tried; traversed = inl (x, x_in, inr refl) })
+            (m.ends x x_there)),
+        subst (λ (v : ℕ). IsTrue (has_node N v)) (sym (ap (λ (q : CoverageQuery). q.to) is_l))
+            (stays (start M y)
+            (record { before = o.before; after = o.after; tried = o.tried; traversed = inl (y, y_in, inl refl) })
+            (m.starts y y_there)),
+      )
+    where
+      stays : (v : ℕ) → TraversedOfExtended M P v → IsTrue (has_node M v) → IsTrue (has_node N v)
+      stays v t there = elim (cases_Bool (has T v)) [
+        | inl touched ↦ absurd (free v touched t)
+        | inr off ↦ sym (ap (λ (c : Option Coord). is_some c) (rounds v off).place) ∙ there
+      ]
+
+  pub on_map : (queries : List CoverageQuery) → QueriesOf M P queries → ((v : ℕ) → has T v ≡ true →
+      ¬ TraversedOf M P v) → (l : CoverageQuery) → Contains queries l → IsOnMap N l
+  on_map queries o free l on =
+      let q = extended_queries M P queries o l on in
+      let both = ends_on_map queries q.0 q.1 (λ v t h. free v t (rw q.0 h)) l on in
+      record { from = both.0; to = both.1; within = within_limit M P queries o l on }
 
 -- no coverage query is longer than the limit
 near_wider : {L : Map} {T : List ℕ} {s : ℕ} (d e : ℕ) → d ≤ e → Near L T s d → Near L T s e

@@ -1,11 +1,10 @@
 -- A map's entries as a list of named paths: lookups, edits, and that no name occurs twice.
-use Rattle.olr_paths.proofs.Common.{inl, inr, ◌≡◌, ℕ, zero, suc, ◌<◌, length, get_or, subst, arith, Bool, true, false}
-use Rattle.olr_paths.proofs.Common.{not, List, [], ◌∷◌, map, slice_get, Option, Some, None, is_some, refl, sym, ap}
-use Rattle.olr_paths.proofs.Common.{◌∙◌, slice_get-map, option_map, string_bytes, filter, AllByRecursion, lookup}
-use Rattle.olr_paths.proofs.Common.{set_value_at, remove, bytes_eq, string_eq, cases_Bool, Path, same_name, path_named}
-use Rattle.olr_paths.proofs.Common.{NamesDiffer, same_is, flipped, Made, Item, made_of, named_of, all_named, made_in}
-use Rattle.olr_paths.proofs.Common.{set_item, NamedPath, bytes_decides, String, option_and_then, position, keys_of}
-use Rattle.olr_paths.proofs.Common.{Global}
+use Rattle.olr_paths.proofs.Common.{option_and_then, AllByRecursion, slice_get-map, bytes_decides, string_bytes, length}
+use Rattle.olr_paths.proofs.Common.{set_value_at, NamesDiffer, option_map, cases_Bool, path_named, slice_get, string_eq}
+use Rattle.olr_paths.proofs.Common.{same_name, all_named, NamedPath, bytes_eq, named_of, set_item, position, is_some, ℕ}
+use Rattle.olr_paths.proofs.Common.{same_is, flipped, made_of, made_in, keys_of, get_or, Option, filter, lookup, remove}
+use Rattle.olr_paths.proofs.Common.{String, Global, subst, arith, false, zero, Bool, true, List, Some, None, refl, Path}
+use Rattle.olr_paths.proofs.Common.{Made, Item, inl, inr, ◌≡◌, suc, ◌<◌, not, ◌∷◌, map, sym, ◌∙◌, [], ap}
 use Rattle.std.specs.List.{IsDistinct}
 use Rattle.std.proofs.lemmas.List.Quantifiers.{position-Some}
 

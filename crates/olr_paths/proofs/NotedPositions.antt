@@ -1,12 +1,54 @@
--- Results to be stored at positions, with index entries for their path ids.
-use Rattle.olr_paths.proofs.Common.{inl, inr, ◌≡◌, ℕ, zero, suc, ◌+◌, ◌<◌, List, [], ◌∷◌, take, length, get_or}
-use Rattle.olr_paths.proofs.Common.{slice_get, Option, Some, None, IsTrue, refl, sym, ap, ◌∙◌, option_map, Rc}
-use Rattle.olr_paths.proofs.Common.{All-contains, has, CoverageQuery, holds, LackQueries, BeginsIn, Begins, PathList}
-use Rattle.olr_paths.proofs.Common.{NamedNoted, AreNotedAt, Grows, Finder, Published, NamedPath, Entry, Item, made_of}
-use Rattle.olr_paths.proofs.Common.{items, Reported, String, Global, path_ids_of, ArePublished}
+-- Index entries that are added and removed one by one, and results to be stored at positions.
+use Rattle.olr_paths.proofs.Common.{◌≡◌, ◌≢◌, ◌==◌, ℕ, ◌+◌, ◌<◌, List, not, ◌||◌, ◌&&◌, All, Contains, take, length}
+use Rattle.olr_paths.proofs.Common.{get_or, IsTrue, subst, arith, nat_tests, holds, Index, KeepsAll, KeepsBut}
+use Rattle.olr_paths.proofs.Common.{option_to_list, CoverageQuery, All-contains, ArePublished, set_value_at, option_map}
+use Rattle.olr_paths.proofs.Common.{LackQueries, path_ids_of, NamedNoted, AreNotedAt, map-append, slice_get, Published}
+use Rattle.olr_paths.proofs.Common.{NamedPath, values_of, BeginsIn, PathList, Reported, made_of, all_put, puts_of, zero}
+use Rattle.olr_paths.proofs.Common.{Option, Begins, Finder, String, Global, Grows, Entry, items, Some, None, refl, Item}
+use Rattle.olr_paths.proofs.Common.{◌++◌, Path, Made, inl, inr, suc, ◌∷◌, sym, ◌∙◌, has, ◌≤◌, Put, put, [], ap, Rc}
+use Rattle.olr_paths.proofs.Alls.{all_more}
 use Rattle.olr_paths.proofs.NamedEntries.{Entries, item_of, items_of, item_at, made_of_named}
 use Rattle.olr_paths.proofs.PathIdLemmas.{named_grown}
-use Rattle.olr_paths.proofs.Alls.{all_more}
+
+-- after this many of the numbers
+pub record Noted {A : Type 0} (number : A → ℕ) (path_id : ℕ) (old now : Index) (xs : List A) : Type 0 where
+  pub noted : All (λ x. IsTrue (holds now (number x) path_id)) xs
+  pub grows : KeepsAll old now
+  pub spares : KeepsBut path_id old now
+
+module _ {A : Type 0} (number : A → ℕ) (path_id : ℕ) (old : Index) where
+  pub noted_more : (now new : Index) (xs : List A) (k : ℕ) (d : A) (v : ℕ) → k < length xs →
+      v ≡ number (get_or xs k d) → Noted number path_id old now (take k xs)
+      → ((n m : ℕ) → holds new n m ≡ (holds now n m || ((v == n) && (path_id == m)))) →
+      Noted number path_id old new (take (k + 1) xs)
+  noted_more now new xs k d v lt is h added =
+      let P : A → Type 0 = λ x. IsTrue (holds new (number x) path_id) in
+      let grown : KeepsAll now new = λ n m t. grind (arith, added n m) in
+      record {
+        noted = all_more P xs k d lt (λ i e low. grown (number (get_or (take k xs) i e)) path_id (h.noted i e low))
+            (grind (arith, nat_tests, added v path_id));
+        grows = λ n m t. grown n m (h.grows n m t);
+        spares = λ n m ne. grind (arith, nat_tests, added n m, h.spares n m ne);
+      }
+
+-- after some of them were removed; the retained numbers still have the path id
+pub record Forgot (Kept : ℕ → Type 0) (path_id : ℕ) (old now : Index) : Type 0 where
+  pub keeps : (n : ℕ) → Kept n → IsTrue (holds old n path_id) → IsTrue (holds now n path_id)
+  pub spares : KeepsBut path_id old now
+
+module _ (Kept : ℕ → Type 0) (path_id : ℕ) (old : Index) where
+  pub forgot_more : (now new : Index) (v : ℕ) → Forgot Kept path_id old now → ¬ Kept v →
+      ((n m : ℕ) → holds new n m ≡ (holds now n m && not ((v == n) && (path_id == m)))) → Forgot Kept path_id old new
+  forgot_more now new v h free taken = record {
+    keeps = λ n k t. let apart : n ≢ v = λ e. free (subst Kept e k) in
+        grind (arith, nat_tests, taken n path_id, h.keeps n k t);
+    spares = λ n m ne. grind (arith, nat_tests, taken n m, h.spares n m ne);
+  }
+
+-- what is retained
+module _ {A : Type 0} (number : A → ℕ) (kept : List A) where
+  abbrev pub KeptIn : ℕ → Type 0
+  KeptIn n = (x : A) × Contains kept x × (number x ≡ n)
 
 abbrev pub One : Type 0
 One = ℕ × NamedPath
@@ -75,3 +117,46 @@ all_same es fs same h k e at = λ none.
     none_published : (o : Option (Rc Published Global)) → option_map (λ p. made_of p.value) o ≡ None → o ≡ None
     none_published None h = refl
     none_published (Some p) h = let never : ⊥ = cc (h) in absurd never
+
+-- after the first ones
+pub put_behind : (xs : List Item) (k : ℕ) (i : Item) (ys : List Item) (path : Path) (made : Option Made) →
+    k ≤ length xs →
+    put (take k xs ++ i ∷ ys) k path made ≡ take k xs ++ record { name = i.name; path = path; made = made } ∷ ys
+put_behind xs zero i ys path made le = refl
+put_behind [] (suc k) i ys path made le = absurd (omega arith)
+put_behind (x ∷ xs) (suc k) i ys path made le = ap (λ zs. x ∷ zs) (put_behind xs k i ys path made (omega arith))
+
+-- the last of a list is stored first
+pub all_put-push : (is : List Item) (ps : List Put) (p : Put) →
+    all_put is (ps ++ p ∷ []) ≡ all_put (put is p.position p.path p.made) ps
+all_put-push is [] p = refl
+all_put-push is (q ∷ ps) p = ap (λ js. put js q.position q.path q.made) (all_put-push is ps p)
+
+-- ---- in the entries of a map
+
+-- the new value replaces the old one
+pub put_at : (es : Entries) (k : ℕ) (n : NamedPath) →
+    items_of (set_value_at es k n) ≡ put (items_of es) k n.path.value (made_of_named n)
+put_at [] k n = refl
+put_at (e ∷ es) zero n = refl
+put_at (e ∷ es) (suc k) n = ap (λ (is : List Item). item_of e ∷ is) (put_at es k n)
+
+-- if there is no entry, nothing is stored
+put_nowhere : (es : Entries) (k : ℕ) (path : Path) (made : Option Made) → None ≡ slice_get (values_of es) k →
+    put (items_of es) k path made ≡ items_of es
+put_nowhere [] k path made at = refl
+put_nowhere (e ∷ es) zero path made at = let never : ⊥ = cc in absurd never
+put_nowhere (e ∷ es) (suc k) path made at = ap (λ (is : List Item). item_of e ∷ is) (put_nowhere es k path made at)
+
+module _ (es : Entries) (k : ℕ) (n : NamedPath) (all rest : List One) (o : Option One)
+    (last : all ≡ rest ++ option_to_list o) (is : o ≡ Some (k, n))
+    (whole : List Item) (h : all_put (items_of es) (puts_of all) ≡ whole) where
+  -- the last of the remaining ones, stored first
+  taken : all_put (put (items_of es) k n.path.value (made_of_named n)) (puts_of rest) ≡ whole
+  taken = rw (last, is, map-append, all_put-push) at h
+
+  pub placed : all_put (items_of (set_value_at es k n)) (puts_of rest) ≡ whole
+  placed = ap (λ (js : List Item). all_put js (puts_of rest)) (put_at es k n) ∙ taken
+
+  pub passed_by : None ≡ slice_get (values_of es) k → all_put (items_of es) (puts_of rest) ≡ whole
+  passed_by at = rw (put_nowhere es k n.path.value (made_of_named n) at) at taken

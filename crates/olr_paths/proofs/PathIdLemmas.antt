@@ -1,13 +1,12 @@
 -- A list of entries with the ids of its paths, as paths are added, removed and replaced.
 --     Each P es ms      P holds of the id and the path at each position
-use Rattle.olr_paths.proofs.Common.{inl, inr, ◌≡◌, ◌≢◌, ℕ, zero, suc, ◌<◌, Bool, false, not, ◌&&◌, List, [], ◌∷◌, ◌++◌}
-use Rattle.olr_paths.proofs.Common.{length, get_or, slice_get, Some, Result, Ok, Err, ◌-◌, ◌+◌, refl, sym, ap, ◌∙◌}
-use Rattle.olr_paths.proofs.Common.{subst, arith, string_bytes, remove, IsStrictlyIncreasing, result_ok, string_eq}
-use Rattle.olr_paths.proofs.Common.{set_value_at, insert_entry, cases_lt, eq-eqb, length-remove}
-use Rattle.olr_paths.proofs.Common.{AllPairs-from_increasing, get_or_from_slice_get, slice_get_within, has, place_of}
-use Rattle.olr_paths.proofs.Common.{NamedNoted, Grows, Finder, NamedPath, PathList, flipped, String}
-use Rattle.olr_paths.proofs.Common.{IsBinarySearchResult, Global, cases_order, get_or_read, ascends, has_at, place_not}
-use Rattle.olr_paths.proofs.Common.{has-remove, AreNoted, Spares}
+use Rattle.olr_paths.proofs.Common.{AllPairs-from_increasing, get_or_from_slice_get, IsStrictlyIncreasing, string_bytes}
+use Rattle.olr_paths.proofs.Common.{IsBinarySearchResult, slice_get_within, length-remove, set_value_at, insert_entry}
+use Rattle.olr_paths.proofs.Common.{cases_order, get_or_read, NamedNoted, has-remove, slice_get, result_ok, string_eq}
+use Rattle.olr_paths.proofs.Common.{NamedPath, place_not, cases_lt, place_of, PathList, AreNoted, flipped, ascends, inl}
+use Rattle.olr_paths.proofs.Common.{length, get_or, Result, remove, eq-eqb, Finder, String, Global, has_at, Spares, inr}
+use Rattle.olr_paths.proofs.Common.{false, subst, arith, Grows, zero, Bool, ◌&&◌, List, ◌++◌, Some, refl, ◌≡◌, ◌≢◌, suc}
+use Rattle.olr_paths.proofs.Common.{◌<◌, not, ◌∷◌, Err, ◌-◌, ◌+◌, sym, ◌∙◌, has, [], Ok, ap, ℕ}
 use Rattle.std.specs.Ordering.{nat_cmp}
 use Rattle.olr_paths.proofs.NamedEntries.{Entries, item_of, items_of, absent, not_here}
 

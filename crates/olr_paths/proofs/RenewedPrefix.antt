@@ -10,7 +10,7 @@ use Rattle.olr_paths.proofs.Common.{Counted, take_more_at, option_map, length-ap
 use Rattle.olr_paths.proofs.Common.{with_made, IsRemade, AreRemade, Totals, AreTotals, AreCounted, made_at, entries_of}
 use Rattle.olr_paths.proofs.Common.{ReportsIfOther, spared_one, encoded_one, IsStep, WasBefore, IsRenewal}
 use Rattle.olr_refs.proofs.Noting.{raised_more, settled_append}
-use Rattle.olr_paths.proofs.Placing.{put_behind, all_put-push}
+use Rattle.olr_paths.proofs.NotedPositions.{put_behind, all_put-push}
 use Rattle.olr_paths.proofs.GivenQueries.{at_position, searches_item}
 use Rattle.olr_paths.proofs.KeptLemmas.{stays_unless, stays_retained, spared_by, touched_by, encoded_again}
 

@@ -1,9 +1,9 @@
 //! Which action a renewal takes for a path.
-ghost use Rattle.std.specs.Prelude.{◌≡◌, ◌↔◌, ◌≤◌, length, Some, IsTrue, IfOk, OnOk};
-ghost use Rattle.olr_paths.specs.Items.{Made, made_of};
+ghost use Rattle.std.specs.Prelude.{◌≡◌, ◌↔◌, ◌≤◌, List, length, Some, IsTrue, IfOk, OnOk};
+ghost use Rattle.olr_paths.specs.Items.{Made, Item, made_of};
 ghost use Rattle.olr_paths.specs.Showing.{shown_item};
 ghost use Rattle.olr_paths.specs.Touching.{nodes_of, lines_of, changed_of};
-ghost use Rattle.olr_paths.specs.Searching.{AreDetours, IsAsked};
+ghost use Rattle.olr_paths.specs.Searching.{AreDetours, AreAsked, IsAsked};
 ghost use Rattle.olr_commands.specs.Counts.{most_changed};
 ghost use Rattle.olr_paths.specs.Renewing.{Stays, IsActionFor};
 
@@ -59,18 +59,20 @@ fn is_unchanged<M: MapRead>(
 pub(crate) fn decide<M: MapRead>(
     map: &M,
     touched: &ChangeSet,
-    searches: &Searches,
-    detours: &mut Detours,
+    searches: &mut Searches,
     shown: PathView<'_>,
 ) -> Result<Action, AllocError>
     requires asked { (m : Made) → (shown_item shown).made ≡ Some m
-        → IsAsked (M.map map.now) (M.node_slot map.now) touched.now searches.now m }
+        → IsAsked (M.map map.now) (M.node_slot map.now) touched.now searches.old m }
     requires detours { length (changed_of touched.now) ≤ most_changed
-        → AreDetours (M.map map.now) (M.node_slot map.now) touched.now detours.old }
+        → AreDetours (M.map map.now) (M.node_slot map.now) touched.now searches.old.detours }
     ensures action { IfOk result (λ action. IsActionFor (M.map map.now) (nodes_of touched.now) (lines_of touched.now)
         (changed_of touched.now) (shown_item shown.entry).made (shown_item shown.entry).path action) }
     ensures detours { OnOk result (length (changed_of touched.now) ≤ most_changed
-        → AreDetours (M.map map.now) (M.node_slot map.now) touched.now detours.new) }
+        → AreDetours (M.map map.now) (M.node_slot map.now) touched.now searches.new.detours) }
+    ensures asked { OnOk result ((is : List Item)
+        → AreAsked (M.map map.now) (M.node_slot map.now) touched.now searches.old is
+        → AreAsked (M.map map.now) (M.node_slot map.now) touched.now searches.new is) }
 {
     let Some(published) = shown.published else {
         return Ok(Action::Encode);
@@ -78,7 +80,7 @@ pub(crate) fn decide<M: MapRead>(
     if !is_touched(map, touched, searches, shown.path, published) {
         return Ok(Action::Stay);
     }
-    if is_unchanged(map, touched, detours, shown.path, published)? {
+    if is_unchanged(map, touched, &mut searches.detours, shown.path, published)? {
         return Ok(Action::Keep);
     }
     Ok(Action::Encode)

@@ -125,9 +125,7 @@ pub(crate) fn ask<M: MapRead>(
 {
     search_touched(alloc, map, touched, bounds, overlaid, searches)?;
     let found = candidates(alloc, map, overlaid, touched, searches)?;
-    if !found.is_empty() {
-        begin_detours(alloc, map, touched, &mut searches.detours)?;
-    }
+    begin_detours(alloc, map, touched, &found, &mut searches.detours)?;
     Ok(found)
 }
 

@@ -124,7 +124,6 @@ impl ChangeSet {
 }
 
 /// Inserts a node in ascending order, unless it is there. Takes no memory.
-#[tactic(auto, using(olr_spec::proofs::AscendingLists::put_has))]
 fn put_node(nodes: &mut Vec<NodeId>, node: NodeId)
     requires ascend { IsStrictlyIncreasing nodes.old.items }
     requires room { vec_len nodes.old + 1 ≤ vec_capacity nodes.old }
@@ -142,7 +141,6 @@ fn put_node(nodes: &mut Vec<NodeId>, node: NodeId)
 }
 
 /// Inserts a line in ascending order, unless it is there. Takes no memory.
-#[tactic(auto, using(olr_spec::proofs::AscendingLists::put_has))]
 fn put_line(lines: &mut Vec<LineId>, line: LineId)
     requires room { vec_len lines.old + 1 ≤ vec_capacity lines.old }
     requires ascend { IsStrictlyIncreasing lines.old.items }

@@ -1,5 +1,5 @@
 //! Whether changed lines offer a detour that is as short as a coverage query.
-ghost use Rattle.std.specs.Prelude.{◌≡◌, ◌≤◌, ◌+◌, ◌↔◌, length, IsTrue, IfOk, IfSome, OnOk};
+ghost use Rattle.std.specs.Prelude.{◌≡◌, ◌<◌, ◌≤◌, ◌+◌, ◌↔◌, length, IsTrue, IfOk, IfSome, OnOk};
 ghost use Rattle.olr_paths.specs.Touching.{changed_of};
 ghost use Rattle.olr_paths.specs.Searching.{AreDetours, AreFarther, starts, ends};
 ghost use Rattle.olr_commands.specs.Counts.{Picks, IsAgainClear, most_changed};
@@ -34,28 +34,22 @@ impl Detours {
 /// With more changed lines than this, no detours are searched: nearly every path is encoded anyway.
 const MOST_CHANGED: usize = 8;
 
-/// The nodes where changed lines begin, each with the line's length.
-fn starts_of(alloc: Global, touched: &ChangeSet) -> Result<Vec<(NodeId, u32)>, AllocError>
-    ensures { IfOk result (λ v. v.items ≡ starts touched.now) }
+/// The nodes where changed lines begin, each with the line's length, and the nodes where they end.
+fn starts_and_ends(
+    alloc: Global,
+    touched: &ChangeSet,
+) -> Result<(Vec<(NodeId, u32)>, Vec<(NodeId, u32)>), AllocError>
+    ensures starts { IfOk result (λ v. v.0.items ≡ starts touched.now) }
+    ensures ends { IfOk result (λ v. v.1.items ≡ ends touched.now) }
 {
     let changed = touched.changed.as_slice();
     let mut starts = Vec::with_capacity(alloc, changed.len())?;
-    for line in changed {
-        starts.push((line.from, line.len))?;
-    }
-    Ok(starts)
-}
-
-/// The nodes where changed lines end.
-fn ends_of(alloc: Global, touched: &ChangeSet) -> Result<Vec<(NodeId, u32)>, AllocError>
-    ensures { IfOk result (λ v. v.items ≡ ends touched.now) }
-{
-    let changed = touched.changed.as_slice();
     let mut ends = Vec::with_capacity(alloc, changed.len())?;
     for line in changed {
+        starts.push((line.from, line.len))?;
         ends.push((line.to, 0))?;
     }
-    Ok(ends)
+    Ok((starts, ends))
 }
 
 /// Whether so few lines changed that detours over them are searched.
@@ -65,21 +59,25 @@ pub(crate) fn are_few(touched: &ChangeSet) -> bool
     touched.changed.len() <= MOST_CHANGED
 }
 
-/// Begins the searches for distances to the starts of changed lines and from their ends, unless too many lines changed.
+/// Begins the searches for distances to the starts of changed lines and from their ends, unless no path is found that
+/// the edits may affect, or too many lines changed.
 pub(crate) fn begin_detours<M: MapRead>(
     alloc: Global,
     map: &M,
     touched: &ChangeSet,
+    found: &[usize],
     detours: &mut Detours,
 ) -> Result<(), AllocError>
-    ensures { OnOk result (length (changed_of touched.now) ≤ most_changed
+    ensures { OnOk result (0 < length found.now → length (changed_of touched.now) ≤ most_changed
         → AreDetours (M.map map.now) (M.node_slot map.now) touched.now detours.new) }
 {
+    if found.is_empty() {
+        return Ok(());
+    }
     if !are_few(touched) {
         return Ok(());
     }
-    let starts = starts_of(alloc, touched)?;
-    let ends = ends_of(alloc, touched)?;
+    let (starts, ends) = starts_and_ends(alloc, touched)?;
     detours.before.begin(map, Direction::Against, &starts)?;
     detours.after.begin(map, Direction::Along, &ends)?;
     Ok(())

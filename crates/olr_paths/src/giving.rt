@@ -46,9 +46,17 @@ fn encode_alone<M: MapRead>(
     Ok(published)
 }
 
+/// A list of one entry, that of a path.
+fn only_entry(alloc: Global, name: &str, published: &Published) -> Result<Vec<Entry>, AllocError>
+    ensures { IfOk result (λ es. list_map entry_of es.items ≡ entry name.now (made_of published.now).answer ∷ []) }
+{
+    let mut entries = Vec::with_capacity(alloc, 1)?;
+    entries.push(published.entry(alloc, name)?)?;
+    Ok(entries)
+}
+
 impl PathList {
     /// Encodes a path and appends it. The reply names it. If an allocation fails, list and work are unchanged.
-    #[tactic(auto, using(crate::proofs::OriginLemmas::begins_add))]
     pub fn add<M: MapRead>(
         &mut self,
         alloc: Global,
@@ -73,8 +81,7 @@ impl PathList {
     {
         let mut tried = *work;
         let published = encode_alone(alloc, map, &path, searches, &mut tried)?;
-        let mut entries = Vec::with_capacity(alloc, 1)?;
-        entries.push(published.entry(alloc, name.as_str())?)?;
+        let entries = only_entry(alloc, name.as_str(), &published)?;
         let named = NamedPath::encoded(alloc, path, published)?;
         self.put_last(name, named)?;
         *work = tried;
@@ -83,7 +90,6 @@ impl PathList {
 
     /// Encodes another path for a name. It keeps its position, and the reply names it if its answer is another than
     /// before. If an allocation fails, list and work are unchanged.
-    #[tactic(auto, using(crate::proofs::OriginLemmas::begins_set))]
     pub fn set<M: MapRead>(
         &mut self,
         alloc: Global,

@@ -70,7 +70,7 @@ fn put_one(
 
 /// Appends a list, under changes, to another. The lists share paths and answers. If an allocation fails, only some
 /// paths are appended.
-pub(crate) fn put_behind(
+fn put_behind(
     alloc: Global,
     changes: &IndexMap<String, Option<Rc<Path>>>,
     list: &PathList,
@@ -89,6 +89,20 @@ pub(crate) fn put_behind(
         put_one(alloc, changes, name.as_str(), named, to)?;
     }
     Ok(())
+}
+
+/// Appends a list to another. The lists share paths and answers. If an allocation fails, only some paths are appended.
+#[tactic(auto, using(crate::proofs::Overlaying::behind_none))]
+pub(crate) fn put_unchanged(
+    alloc: Global,
+    list: &PathList,
+    to: &mut PathList,
+) -> Result<(), AllocError>
+    requires { NamesDiffer (all_named (items to.old ++ items list.now)) }
+    ensures put { OnOk result (items to.new ≡ items to.old ++ items list.now) }
+    ensures before { take (length (items to.old)) (items to.new) ≡ items to.old }
+{
+    put_behind(alloc, &IndexMap::new(alloc), list, to)
 }
 
 impl Overlay {
@@ -187,15 +201,19 @@ impl Overlay {
     }
 
     /// The list under these changes, without index entries. It shares paths and answers with the list.
-    #[tactic(auto, using(crate::proofs::Overlaying::behind_none, crate::proofs::Overlaying::first_differ))]
+    #[tactic(auto, using(crate::proofs::Overlaying::first_differ))]
+    #[inline(never)]
     pub fn overlaid_copy(&self, alloc: Global, list: &PathList) -> Result<PathList, AllocError>
         requires { NamesDiffer (all_named (under_overlay (items list.now) self.now)) }
         ensures { IfOk result (λ l. items l ≡ under_overlay (items list.now) self.now) }
     {
         let mut overlaid = PathList::unindexed(alloc);
-        put_behind(alloc, &self.changes, list, &mut overlaid)?;
-        let none = IndexMap::new(alloc);
-        put_behind(alloc, &none, &self.added, &mut overlaid)?;
+        if put_behind(alloc, &self.changes, list, &mut overlaid).is_err()
+            || put_unchanged(alloc, &self.added, &mut overlaid).is_err()
+        {
+            drop(overlaid);
+            return Err(AllocError);
+        }
         Ok(overlaid)
     }
 }

@@ -305,11 +305,11 @@ fn note_named(
     ensures keeps { IfSome kept.entry (λ k. NamedNoted finder.old path_id k.now → NamedNoted finder.new path_id k.now) }
     ensures spares { Spares path_id finder.old finder.new }
 {
-    let noted = note_one(finder, path_id, named);
-    if noted.is_err() {
+    if let Err(error) = note_one(finder, path_id, named) {
         forget_named(finder, path_id, named, kept);
+        return Err(error);
     }
-    noted
+    Ok(())
 }
 
 /// Adds the index entries of a path that replaces another and has its id, and removes those of the replaced path. If an

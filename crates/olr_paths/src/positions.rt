@@ -6,9 +6,8 @@ ghost use Rattle.olr_paths.specs.Finding.{AreNotedAt};
 ghost use Rattle.olr_paths.specs.Renewing.{all_put, puts_of};
 
 use crate::finder::Finder;
-use crate::overlay::{Overlay, put_behind};
+use crate::overlay::{Overlay, put_unchanged};
 use crate::path_list::{NamedPath, PathList, forget_named, note_one};
-use indexmap::IndexMap;
 use std::alloc::{AllocError, Global};
 use std::mem;
 
@@ -25,10 +24,11 @@ fn place(
 {
     list.held = true;
     while let Some((position, named)) = fresh.pop() {
-        if let Some(place) = list.paths.get_index_mut(position) {
-            let earlier = mem::replace(place, named);
-            before.push_reserved((position, earlier));
-        }
+        let Some(place) = list.paths.get_index_mut(position) else {
+            continue;
+        };
+        let earlier = mem::replace(place, named);
+        before.push_reserved((position, earlier));
     }
 }
 
@@ -70,9 +70,16 @@ impl PathList {
     pub(crate) fn index(&mut self, alloc: Global)
         ensures { items self.new ≡ items self.old }
     {
-        if self.finder.known {
-            return;
+        if !self.finder.known {
+            self.index_all(alloc);
         }
+    }
+
+    /// Adds the index entries of all paths. If an allocation fails, nothing changes.
+    #[inline(never)]
+    fn index_all(&mut self, alloc: Global)
+        ensures { items self.new ≡ items self.old }
+    {
         if let Ok(finder) = self.all_noted(alloc) {
             self.finder = finder;
         }
@@ -96,7 +103,6 @@ fn note_all(list: &mut PathList, fresh: &[(usize, NamedPath)]) -> Result<(), All
 
 /// Appends the new paths of changes, not encoded yet, and adds the index entries of results under the ids of their
 /// positions. If an allocation fails, only some paths are appended.
-#[tactic(auto, using(crate::proofs::Overlaying::behind_none))]
 fn make_room(
     alloc: Global,
     list: &mut PathList,
@@ -108,11 +114,10 @@ fn make_room(
     ensures noted { OnOk result (AreNotedAt list.new.path_ids.items list.new.finder fresh.now) }
     ensures before { take (length (items list.old)) (items list.new) ≡ items list.old }
 {
-    put_behind(alloc, &IndexMap::new(alloc), &overlay.added, list)?;
-    let noted = note_all(list, fresh);
-    if noted.is_err() {
+    put_unchanged(alloc, &overlay.added, list)?;
+    if let Err(error) = note_all(list, fresh) {
         tidy(list, fresh);
-        return noted;
+        return Err(error);
     }
     Ok(())
 }
@@ -133,11 +138,10 @@ pub(crate) fn put_in(
     let mut before = Vec::with_capacity(alloc, fresh.len())?;
     let count = list.len();
     let held = list.held;
-    let room = make_room(alloc, list, overlay, &fresh);
-    if room.is_err() {
+    if let Err(error) = make_room(alloc, list, overlay, &fresh) {
         list.cut(count);
         list.held = held;
-        return room;
+        return Err(error);
     }
     place(list, fresh, &mut before);
     tidy(list, &before);

@@ -35,7 +35,6 @@ use olr_refs::KnownQuery;
 use olr_roads::MapRead;
 use olr_search::{Dijkstra, Work};
 use std::alloc::{AllocError, Global};
-use std::mem;
 use std::rc::Rc;
 
 /// The work of encodings, and how many of the counted encodings retained an answer.
@@ -94,6 +93,7 @@ pub(crate) struct Renewal {
 impl Renewal {
     /// Takes the action for the path at that position: it is left as it is; or it is counted; or it is encoded again,
     /// and reported if its answer is not the earlier one of its name.
+    #[inline(never)]
     fn advance<M: MapRead>(
         &mut self,
         alloc: Global,
@@ -132,6 +132,7 @@ impl Renewal {
 
 /// The coverage queries that are not searched again if the path is encoded again: those along its own lines that are
 /// clear of the changed lines.
+#[inline(never)]
 fn known_for<M: MapRead>(
     alloc: Global,
     map: &M,
@@ -165,18 +166,16 @@ fn renewal_by<M: MapRead>(
     overlaid: OverlaidList<'_>,
     before: &PathList,
     touched: &ChangeSet,
-    searches: &Searches,
+    searches: &mut Searches,
     found: &[usize],
-    detours: &mut Detours,
-    query: &mut Dijkstra,
     counted: &mut Counted,
 ) -> Result<Renewal, AllocError>
-    requires asked { AreAsked (M.map map.now) (M.node_slot map.now) touched.now searches.now (shown_items overlaid) }
+    requires asked { AreAsked (M.map map.now) (M.node_slot map.now) touched.now searches.old (shown_items overlaid) }
     requires ascending { IsNonDecreasing found.now }
     requires covers { Covers (M.map map.now) (nodes_of touched.now) (lines_of touched.now) (shown_items overlaid)
         found.now }
     requires detours { 0 < length found.now → length (changed_of touched.now) ≤ most_changed
-        → AreDetours (M.map map.now) (M.node_slot map.now) touched.now detours.old }
+        → AreDetours (M.map map.now) (M.node_slot map.now) touched.now searches.old.detours }
     requires follows { Follows (items before.now) (shown_items overlaid) }
     requires before { (L : Map) × WasBefore L (M.map map.now) touched.now (shown_items overlaid) }
     ensures renewed { IfOk result (λ r. IsRenewal (M.map map.now) touched.now (items before.now)
@@ -197,8 +196,9 @@ fn renewal_by<M: MapRead>(
         if position < next {
             continue;
         }
-        let action = decide(map, touched, searches, detours, shown)?;
-        let known = known_for(alloc, map, touched, detours, action, shown)?;
+        let action = decide(map, touched, searches, shown)?;
+        let known = known_for(alloc, map, touched, &mut searches.detours, action, shown)?;
+        let query = &mut searches.query;
         renewal.advance(
             alloc, map, before, action, position, shown, &known, query, counted,
         )?;
@@ -242,8 +242,6 @@ pub(crate) fn renewal_of<M: MapRead>(
     }
     have_64_bits(work);
     let found = ask(alloc, map, overlaid, touched, bounds, searches)?;
-    let mut detours = mem::replace(&mut searches.detours, Detours::new(alloc));
-    let mut query = mem::replace(&mut searches.query, Dijkstra::new(alloc));
     let mut counted = Counted {
         work: *work,
         kept: *kept,
@@ -256,12 +254,8 @@ pub(crate) fn renewal_of<M: MapRead>(
         touched,
         searches,
         &found,
-        &mut detours,
-        &mut query,
         &mut counted,
     )?;
-    searches.detours = detours;
-    searches.query = query;
     searches.count(counted.work.encodings != work.encodings);
     note_fresh(&renewal.fresh, &mut searches.new_origins)?;
     *work = counted.work;

@@ -23,6 +23,7 @@ use olr_near::DistanceBounds;
 use olr_roads::MapRead;
 use olr_search::Work;
 use std::alloc::{AllocError, Global};
+use std::mem;
 
 impl PathList {
     /// `renew_over` for changes that remove no path. The replaced and new paths are stored in place, at a cost that
@@ -125,12 +126,32 @@ impl PathList {
         }
         let mut list = overlay.overlaid_copy(alloc, self)?;
         let none = Overlay::new(alloc);
-        let before = Some(&*self);
-        let entries = list.renew_overlaid(
-            alloc, map, before, &none, touched, bounds, searches, work, kept,
-        )?;
-        *self = list;
+        let renewed = list.renew_overlaid(
+            alloc,
+            map,
+            Some(&*self),
+            &none,
+            touched,
+            bounds,
+            searches,
+            work,
+            kept,
+        );
+        drop(none);
+        if renewed.is_ok() {
+            self.replace_by(alloc, list);
+        } else {
+            drop(list);
+        }
+        renewed
+    }
+
+    /// Replaces the list by another, and adds the index entries of its paths.
+    #[inline(never)]
+    fn replace_by(&mut self, alloc: Global, list: PathList)
+        ensures { items self.new ≡ items list }
+    {
+        drop(mem::replace(self, list));
         self.index(alloc);
-        Ok(entries)
     }
 }

@@ -1,13 +1,12 @@
-use Rattle.olr_paths.proofs.Common.{◌≤◌, length, IfOk-weaker, most_changed, nodes_of, lines_of, changed_of, made_of}
-use Rattle.olr_paths.proofs.Common.{TraversedTouched, LineTouched, rules}
+use Rattle.olr_paths.proofs.Common.{IfOk-weaker, nodes_of, lines_of, made_of, TraversedTouched, LineTouched, rules}
 use Rattle.olr_paths.proofs.actions.is_unchanged.Goals as goal
 
 pub returns-clause-stays : goal.returns-clause-stays
 returns-clause-stays g c =
     let t = c.args.touched.now in
     let m = made_of c.args.published.now in
+    let few = c.are_few.ensures.0 c.if-not-are_few.false in
     let none : (¬ TraversedTouched (nodes_of t) m) × (¬ LineTouched (lines_of t) c.args.path.now) = search rules in
-    let few : length (changed_of t) ≤ most_changed = c.are_few.ensures.0 cc in
     IfOk-weaker c.are_clear.result _ _
     (λ stays clear. (
       (λ yes. record { few = few; traversed = none.0; lines = none.1; clear = clear.0 yes }),

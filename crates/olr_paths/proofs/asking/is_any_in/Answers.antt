@@ -1,14 +1,12 @@
-use Rattle.olr_paths.proofs.Common.{◌≡◌, ℕ, All, Contains, true, false, subst, arith, take_all, All-contains}
-use Rattle.olr_paths.proofs.Alls.{all_more}
-use Rattle.olr_paths.proofs.Sets.{in_from}
+use Rattle.olr_paths.proofs.Common.{ℕ, All, Contains, sym, ◌∙◌, subst, arith, take_all, All-contains, true≢false}
+use Rattle.olr_paths.proofs.Alls.{all_more, in_from}
 use Rattle.olr_paths.proofs.asking.is_any_in.Goals as goal
 
 pub loop-node-preserved : goal.loop-node-preserved
 loop-node-preserved c =
     let P : ℕ → Type 0 = λ v. ¬ Contains c.args.footprint.now v in
     let item : ℕ = c.node-item.result in
-    let off : c.has.result ≡ false = cc in
-    let no : P item = λ in_it. let on : c.has.result ≡ true = c.has.ensures.1 in_it in cc in
+    let no : P item = λ in_it. true≢false (sym (c.has.ensures.1 in_it) ∙ c.if-has.false) in
     all_more P _ _ item c.loop-node-test.true c.loop-node.invariant (subst P c.node-item.is no)
 
 pub returns : goal.returns
@@ -17,6 +15,6 @@ returns c =
     let all : All P c.args.nodes.now =
     subst (All P) (take_all c.loop-node.node-index c.args.nodes.now (omega (arith, c.loop-node-test.false)))
     c.loop-node.invariant in (
-      (λ no. absurd cc),
+      (λ no. absurd (true≢false (sym no))),
       (λ h. absurd (All-contains P c.args.nodes.now h.0 all (in_from c.args.nodes.now h.0 h.1) h.2)),
     )

@@ -1,5 +1,5 @@
 use Rattle.olr_paths.proofs.Common.{lines_of}
-use Rattle.olr_paths.proofs.Sets.{shared}
+use Rattle.olr_paths.proofs.Alls.{shared}
 use Rattle.olr_paths.proofs.asking.is_line_touched.Goals as goal
 
 pub returns : goal.returns

@@ -1,4 +1,4 @@
-use Rattle.olr_paths.proofs.Common.{Map, ChangeSet, ◌≡◌, All, Contains, true, false, sym, subst, ◌∙◌, arith, min}
+use Rattle.olr_paths.proofs.Common.{Map, ChangeSet, All, Contains, sym, subst, ◌∙◌, arith, min, true≢false, false≢true}
 use Rattle.olr_paths.proofs.Common.{take_all, All-contains, limit, Near, CoverageQuery, IsExactAt, nodes_of}
 use Rattle.olr_paths.proofs.Alls.{all_more}
 use Rattle.olr_paths.proofs.asking.is_query_touched.Goals as goal
@@ -21,12 +21,9 @@ is_near-requires-clause-returned g c =
 pub loop-query-preserved : goal.loop-query-preserved
 loop-query-preserved g c =
     let P = Far (g.M.MapRead.map c.args.map.now) c.args.touched.now in
-    let off : c.is_near.result ≡ false = cc in
-    let no : P c.query-item.result = λ near.
-    let on : c.is_near.result ≡ true =
-    c.is_near.ensures.1
+    let no : P c.query-item.result = λ near. true≢false (sym (c.is_near.ensures.1
     (subst (λ (l : CoverageQuery). Near (g.M.MapRead.map c.args.map.now) (nodes_of c.args.touched.now) l.from
-    (min l.within limit)) (sym c.query.view_is) near) in cc in
+    (min l.within limit)) (sym c.query.view_is) near)) ∙ c.if-is_near.false) in
     all_more P _ _ c.query-item.result c.loop-query-test.true c.loop-query.invariant (subst P c.query-item.is no)
 
 pub returns : goal.returns
@@ -36,6 +33,6 @@ returns g c =
     subst (All P)
     (take_all c.loop-query.query-index c.as_slice-queries.result.now (omega (arith, c.loop-query-test.false))
     ∙ c.as_slice-queries.ensures.value) c.loop-query.invariant in (
-      (λ no. absurd cc),
+      (λ no. absurd (false≢true no)),
       (λ h. absurd (All-contains P c.args.published.now.queries.items h.0 all h.1 h.2)),
     )

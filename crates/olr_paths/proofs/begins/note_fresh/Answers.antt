@@ -1,5 +1,5 @@
 use Rattle.olr_paths.proofs.Common.{◌≡◌, ℕ, List, [], ◌∷◌, ◌++◌, ◌+◌, inl, inr, take, sym, ap, ◌∙◌, subst, take_more}
-use Rattle.olr_paths.proofs.Common.{BeginsPut, puts_of, NamedPath}
+use Rattle.olr_paths.proofs.Common.{BeginsPut, puts_of, NamedPath, arith, common_steps}
 use Rattle.olr_paths.proofs.OriginLemmas.{begins_push}
 use Rattle.olr_paths.proofs.begins.note_fresh.Goals as goal
 
@@ -17,3 +17,6 @@ loop-named-preserved c = λ v h.
       | inl a ↦ c.in_ok-note_named.ensures.before v (c.loop-named.invariant v a)
       | inr b ↦ c.in_ok-note_named.ensures.named v b
     ]
+
+pub returns : goal.returns
+returns c = grind (arith, common_steps)

@@ -4,12 +4,8 @@ use Rattle.olr_paths.proofs.NamedEntries.{item_of}
 use Rattle.olr_paths.proofs.Covering.{covers_order, covers_overlaid, covers_grown, changed_grown}
 use Rattle.olr_paths.proofs.candidates.candidates.Goals as goal
 
-pub returns-clause-ascending : goal.returns-clause-ascending
-returns-clause-ascending g c =
-    IsNonDecreasingBy-from_sort (λ (n : ℕ). n) c.sort_unstable.new.self.items c.sort_unstable.ensures.sorted
-
-pub returns-clause-covers : goal.returns-clause-covers
-returns-clause-covers g c =
+pub returns : goal.returns
+returns g c =
     let N = g.M.MapRead.map c.args.map.now in
     let slot = g.M.MapRead.node_slot c.args.map.now in
     let t = c.args.touched.now in
@@ -25,9 +21,14 @@ returns-clause-covers g c =
     c.len-count.ensures.len ∙ sym (length-map l.list.now.paths.entries item_of) in
     let more : c.len.result ≡ length ys =
     c.len.ensures.len ∙ sym (length-map l.overlay.now.added.paths.entries item_of) in
-    covers_order N (nodes_of t) (lines_of t) (shown_items l) two c.sort_unstable.new.self.items
-    c.sort_unstable.ensures.permutation
-    (covers_overlaid cs is ys l.keeps N slot t s two
-    (covers_grown N slot t s is one two kept c.in_ok-put_listed.ensures.asked)
-    (changed_grown cs is one two kept c.in_ok-put_listed.ensures.changed)
-    (λ k low high. c.in_ok-put_range.ensures.put k (omega arith) (omega arith)) c.requires)
+    record {
+      ascending =
+          IsNonDecreasingBy-from_sort (λ (n : ℕ). n) c.sort_unstable.new.self.items c.sort_unstable.ensures.sorted;
+      covers =
+          covers_order N (nodes_of t) (lines_of t) (shown_items l) two c.sort_unstable.new.self.items
+          c.sort_unstable.ensures.permutation
+          (covers_overlaid cs is ys l.keeps N slot t s two
+          (covers_grown N slot t s is one two kept c.in_ok-put_listed.ensures.asked)
+          (changed_grown cs is one two kept c.in_ok-put_listed.ensures.changed)
+          (λ k low high. c.in_ok-put_range.ensures.put k (omega arith) (omega arith)) c.requires);
+    }

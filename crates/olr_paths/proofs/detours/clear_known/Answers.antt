@@ -1,8 +1,8 @@
 use Rattle.olr_paths.proofs.Common.{◌≡◌, ◌≤◌, ℕ, ◌+◌, List, ◌∷◌, [], ◌++◌, drop, length, inl, inr, refl, append-nil}
-use Rattle.olr_paths.proofs.Common.{append_assoc, IsTrue, ◌↔◌, true, false, sym, ap, subst, ◌∙◌, Global, drop_all}
+use Rattle.olr_paths.proofs.Common.{append_assoc, IsTrue, ◌↔◌, sym, ap, subst, ◌∙◌, Global, drop_all}
 use Rattle.olr_paths.proofs.Common.{drop_more, CoverageQuery, KnownQuery, IsAgainClear, Picks, most_changed}
-use Rattle.olr_paths.proofs.Common.{changed_of, IsKnownClear, Vec}
-use Rattle.olr_paths.proofs.Picking.{picks_none}
+use Rattle.olr_paths.proofs.Common.{changed_of, IsKnownClear, Vec, true≢false}
+use Rattle.olr_paths.proofs.GivenQueries.{picks_none}
 use Rattle.olr_paths.proofs.detours.clear_known.Goals.{then-branch+in_ok-push, else-branch}
 use Rattle.olr_paths.proofs.detours.clear_known.Goals as goal
 
@@ -15,7 +15,7 @@ loop-one-preserved g c =
     let k : ℕ = c.loop-one.one-index in
     let item : KnownQuery = c.one-item.result in
     let old : List KnownQuery = c.loop-one.clear.items in
-    let few : length C ≤ most_changed = c.are_few.ensures.0 cc in
+    let few : length C ≤ most_changed = c.are_few.ensures.0 c.if-not-are_few.false in
     let clear = subst (λ (l : CoverageQuery). IsTrue c.in_ok-is_clear.field-0 ↔ IsKnownClear N C l)
     (ap (λ (e : KnownQuery). e.query) c.one.view_is) c.in_ok-is_clear.ensures.clear in
     let rest : drop k known ≡ item ∷ drop (k + 1) known =
@@ -32,8 +32,7 @@ loop-one-preserved g c =
         | else-branch w ↦
             let same : c.if-branch.clear.items ≡ old = ap (λ (v : Vec KnownQuery Global). v.items) w.clear-is in
             let here : Picks P (item ∷ drop (k + 1) known) ks = inr (
-              (λ e. let on : c.in_ok-is_clear.field-0 ≡ true = clear.1 (e.on_map, e.clear) in
-                  let off : c.in_ok-is_clear.field-0 ≡ false = w.if-branch.false in cc),
+              (λ e. true≢false (sym (clear.1 (e.on_map, e.clear)) ∙ w.if-branch.false)),
               h,
             ) in
             rw same (c.loop-one.invariant.0 ks (rw rest here))
@@ -42,7 +41,7 @@ loop-one-preserved g c =
     )
 
 pub loop-one-init : goal.loop-one-init
-loop-one-init g c = ((λ ks h. rw c.new-clear.ensures.items h), c.requires (c.are_few.ensures.0 cc))
+loop-one-init g c = ((λ ks h. rw c.new-clear.ensures.items h), c.requires (c.are_few.ensures.0 c.if-not-are_few.false))
 
 pub returns-clause-clear : goal.returns-clause-clear
 returns-clause-clear g c =
@@ -53,5 +52,4 @@ pub returns-then-not-are_few-clause-clear : goal.returns-then-not-are_few-clause
 returns-then-not-are_few-clause-clear g c =
     rw c.new-clear.ensures.items
     (picks_none (λ e. IsAgainClear (g.M.MapRead.map c.args.map.now) (changed_of c.args.touched.now) e.query)
-    (λ e clear. let on : c.are_few.result ≡ true = c.are_few.ensures.1 clear.few in
-    let never : ⊥ = cc (on, c.if-not-are_few.true) in never) _)
+    (λ e clear. true≢false (sym (c.are_few.ensures.1 clear.few) ∙ c.if-not-are_few.true)) _)

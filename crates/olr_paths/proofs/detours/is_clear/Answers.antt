@@ -3,8 +3,8 @@ use Rattle.olr_search.specs.Searches.{limit_of}
 use Rattle.olr_paths.proofs.Distances.{ReturnsDistance, all_starts, all_ends, clear_by, clear_only, rest_more}
 use Rattle.olr_paths.proofs.detours.is_clear.Goals as goal
 
-pub returns-clause-clear : goal.returns-clause-clear
-returns-clause-clear g c =
+pub returns : goal.returns
+returns g c =
     let N = g.M.MapRead.map c.args.map.now in
     let slot = g.M.MapRead.node_slot c.args.map.now in
     let t = c.args.touched.now in
@@ -18,14 +18,14 @@ returns-clause-clear g c =
     let within_is : raw.within ≡ l.within = ap (λ (k : CoverageQuery). k.within) c.query.view_is in
     let from_there = rw from_is at c.in-Some.ensures.0 in
     let to_there = rw to_is at c.in-Some-slot_of.ensures.0 in
+    let to_start = c.in_ok-settle_to.ensures.search Against (starts t) c.requires.before in
+    let from_end = c.in_ok-settle_to-2.ensures.search Along (ends t) c.requires.after in
     let before : ReturnsDistance N Against (all_starts C) l.from (limit_of first) c.dist_at-before.result = λ d.
     c.dist_at-before.ensures N slot Against (starts t) l.from d
-    (c.in_ok-settle_to.ensures.search Against (starts t) c.requires.before) from_there
-    (rw from_is at (sym c.in-Some.ensures.1)) in
+    to_start from_there (rw from_is at (sym c.in-Some.ensures.1)) in
     let after : ReturnsDistance N Along (all_ends C) l.to (limit_of second) c.dist_at-after.result = λ d.
     c.dist_at-after.ensures N slot Along (ends t) l.to d
-    (c.in_ok-settle_to-2.ensures.search Along (ends t) c.requires.after) to_there
-    (rw to_is at (sym c.in-Some-slot_of.ensures.1)) in
+    from_end to_there (rw to_is at (sym c.in-Some-slot_of.ensures.1)) in
     let short = c.if-query-gt-GREATEST_LIMIT.false in
     let reached : limit_of first ≡ _ = c.in_ok-settle_to.ensures.limit in
     let rested : limit_of second ≡ _ = c.in_ok-settle_to-2.ensures.limit in
@@ -33,18 +33,14 @@ returns-clause-clear g c =
     let rest = rest_more l.within raw.within c.rest_of.result (limit_of second) c.dist_at-before.result within_is
     (omega (arith, rested)) c.rest_of.ensures.rest in
     let sound = g.met.M.MapRead.sound c.args.map.now in
-    let farther = rw within_is at c.is_farther.ensures in (
-      (λ yes. (
-        record { from = from_there; to = to_there; within = omega (arith, short, within_is) },
-        clear_by N sound C l.from l.to l.within _ _ from_there to_there le _ _ before after rest (farther.0 yes),
-      )),
-      (λ k. farther.1 (clear_only N sound C l.from l.to l.within _ _ from_there to_there le _ _ before after k.1)),
-    )
-
-pub returns-clause-detours : goal.returns-clause-detours
-returns-clause-detours g c =
-    let t = c.args.touched.now in
+    let farther = rw within_is at c.is_farther.ensures in
     record {
-      before = c.in_ok-settle_to.ensures.search Against (starts t) c.requires.before;
-      after = c.in_ok-settle_to-2.ensures.search Along (ends t) c.requires.after;
+      clear = (
+        (λ yes. (
+          record { from = from_there; to = to_there; within = omega (arith, short, within_is) },
+          clear_by N sound C l.from l.to l.within _ _ from_there to_there le _ _ before after rest (farther.0 yes),
+        )),
+        (λ k. farther.1 (clear_only N sound C l.from l.to l.within _ _ from_there to_there le _ _ before after k.1)),
+      );
+      detours = record { before = to_start; after = from_end };
     }

@@ -1,5 +1,5 @@
 use Rattle.olr_paths.proofs.Common.{ℕ}
-use Rattle.olr_paths.proofs.Noting.{Forgot, KeptIn}
+use Rattle.olr_paths.proofs.NotedPositions.{Forgot, KeptIn}
 use Rattle.olr_paths.proofs.finder.forget_lines.Given as goal
 
 -- the retained lines still have the path id

@@ -1,5 +1,5 @@
-use Rattle.olr_paths.proofs.Common.{◌≡◌, ℕ, false, Contains, ◌∙◌, subst, place_of, there_found}
-use Rattle.olr_paths.proofs.Noting.{KeptIn, forgot_more}
+use Rattle.olr_paths.proofs.Common.{ℕ, Contains, sym, ◌∙◌, subst, true≢false, place_of, there_found}
+use Rattle.olr_paths.proofs.NotedPositions.{KeptIn, forgot_more}
 use Rattle.olr_paths.proofs.finder.forget_nodes.Goals as goal
 
 pub loop-node-preserved : goal.loop-node-preserved
@@ -7,8 +7,7 @@ loop-node-preserved c =
     let xs = c.args.kept.now in
     let v = c.node-item.result in
     let r = c.binary_search.result in
-    let off : c.is_ok.result ≡ false = cc in
     let place = place_of xs v r c.requires c.binary_search.ensures.position in
     forgot_more (KeptIn (λ (u : ℕ). u) c.args.kept.now) _ _ _ _ _ c.loop-node.invariant
     (λ k. let on = there_found xs v r place (subst (Contains xs) (k.2 ∙ c.from.ensures ∙ c.number.ensures.same) k.1) in
-    let never : ⊥ = cc (on, off, c.is_ok.ensures.value) in never) c.remove.ensures
+    true≢false (sym on ∙ sym c.is_ok.ensures.value ∙ c.if-is_ok.false)) c.remove.ensures

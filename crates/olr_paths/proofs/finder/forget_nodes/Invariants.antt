@@ -1,5 +1,5 @@
 use Rattle.olr_paths.proofs.Common.{ℕ}
-use Rattle.olr_paths.proofs.Noting.{Forgot, KeptIn}
+use Rattle.olr_paths.proofs.NotedPositions.{Forgot, KeptIn}
 use Rattle.olr_paths.proofs.finder.forget_nodes.Given as goal
 
 -- the retained nodes still have the path id

@@ -1,5 +1,5 @@
 use Rattle.olr_paths.proofs.Common.{◌≡◌, true, false, ◌∙◌, CoverageQuery}
-use Rattle.olr_paths.proofs.Noting.{KeptIn, forgot_more}
+use Rattle.olr_paths.proofs.NotedPositions.{KeptIn, forgot_more}
 use Rattle.olr_paths.proofs.finder.forget_queries.Goals as goal
 
 pub loop-query-preserved : goal.loop-query-preserved

@@ -1,5 +1,5 @@
 use Rattle.olr_paths.proofs.Common.{CoverageQuery}
-use Rattle.olr_paths.proofs.Noting.{Forgot, KeptIn}
+use Rattle.olr_paths.proofs.NotedPositions.{Forgot, KeptIn}
 use Rattle.olr_paths.proofs.finder.forget_queries.Given as goal
 
 -- the first nodes of the retained queries still have the path id

@@ -1,5 +1,5 @@
 use Rattle.olr_paths.proofs.Common.{◌∙◌, ap}
-use Rattle.olr_paths.proofs.Noting.{noted_more}
+use Rattle.olr_paths.proofs.NotedPositions.{noted_more}
 use Rattle.olr_paths.proofs.finder.note_each.Goals as goal
 
 pub loop-item-preserved : goal.loop-item-preserved

@@ -1,5 +1,5 @@
 use Rattle.olr_paths.proofs.Common.{take}
-use Rattle.olr_paths.proofs.Noting.{Noted}
+use Rattle.olr_paths.proofs.NotedPositions.{Noted}
 use Rattle.olr_paths.proofs.finder.note_each.Given as goal
 
 -- the numbers so far have the path id

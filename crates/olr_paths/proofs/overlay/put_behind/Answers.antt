@@ -24,23 +24,22 @@ loop-k-preserved c =
     let at = item_at c.args.list.now.paths.entries c.loop-k.k (c.in-Some.name.now, named) (sym c.in-Some.ensures.entry) in
     copied_more cs _ _ _ _ c.loop-k.invariant i at _ (rw c.as_str.ensures.value at c.in_ok-put_one.ensures.ok)
 
-pub returns-clause-put : goal.returns-clause-put
-returns-clause-put c =
+pub returns : goal.returns
+returns c =
     let h = c.loop-k.invariant in
     let is = items c.args.list.now in
+    let to = items c.args.to.now in
     let past : length is ≤ c.loop-k.k =
     omega (arith, length-map c.args.list.now.paths.entries item_of, c.loop-k-test.false, c.len-k-end.ensures.len) in
-    h.put ∙ ap (λ (js : List Item). items c.args.to.now ++ js)
-    (sym (append-nil h.done)
-    ∙ ap (λ (js : List Item). h.done ++ under_changes (changes_in c.args.changes.now.entries) js)
-    (sym (drop_all c.loop-k.k is past)) ∙ h.rest)
+    record {
+      put = h.put ∙ ap (λ (js : List Item). to ++ js)
+          (sym (append-nil h.done)
+          ∙ ap (λ (js : List Item). h.done ++ under_changes (changes_in c.args.changes.now.entries) js)
+          (sym (drop_all c.loop-k.k is past)) ∙ h.rest);
+      before = rw h.put (take_at to h.done (length to) refl);
+    }
 
 pub returns-in_err-put_one-clause-before : goal.returns-in_err-put_one-clause-before
 returns-in_err-put_one-clause-before c =
     let to = items c.args.to.now in
     rw (c.in_err-put_one.ensures.err, c.loop-k.invariant.put) (take_at to c.loop-k.invariant.done (length to) refl)
-
-pub returns-clause-before : goal.returns-clause-before
-returns-clause-before c =
-    let to = items c.args.to.now in
-    rw c.loop-k.invariant.put (take_at to c.loop-k.invariant.done (length to) refl)

@@ -2,12 +2,11 @@ use Rattle.olr_paths.proofs.Common.{◌≡◌, refl, ◌∙◌, true, false, Lis
 use Rattle.olr_paths.proofs.Common.{NamedNoted, all_put, puts_of, NamedPath, set_value_at, All-pop}
 use Rattle.olr_paths.proofs.NamedEntries.{items_of}
 use Rattle.olr_paths.proofs.PathIdLemmas.{kept_long, each_set}
-use Rattle.olr_paths.proofs.NotedPositions.{One, NotedAt}
-use Rattle.olr_paths.proofs.Placing.{placed, passed_by}
+use Rattle.olr_paths.proofs.NotedPositions.{One, NotedAt, placed, passed_by}
 use Rattle.olr_paths.proofs.positions.place.Goals as goal
 
-pub invariant_of-list-in-Some-get_index_mut : goal.invariant_of-list-in-Some-get_index_mut
-invariant_of-list-in-Some-get_index_mut c =
+pub invariant_of-list-in-Some : goal.invariant_of-list-in-Some
+invariant_of-list-in-Some c =
     let l = c.loop-position.list in
     let es = l.paths.entries in
     let ms = l.path_ids.items in
@@ -26,8 +25,8 @@ invariant_of-list-in-Some-get_index_mut c =
       encoded = λ off. let never : true ≡ false = sym c.loop-position.invariant.3 ∙ off in absurd cc;
     }
 
-pub loop-position-preserved-in-Some-get_index_mut : goal.loop-position-preserved-in-Some-get_index_mut
-loop-position-preserved-in-Some-get_index_mut c =
+pub loop-position-preserved : goal.loop-position-preserved
+loop-position-preserved c =
     let l = c.loop-position.list in
     let es = l.paths.entries in
     let q = c.in-Some.position in
@@ -45,16 +44,6 @@ loop-position-preserved-in-Some-get_index_mut c =
         c.push_reserved.ensures.capacity,
         c.in-Some.ensures.len,
       ),
-      c.loop-position.invariant.3,
-    )
-
-pub loop-position-preserved : goal.loop-position-preserved
-loop-position-preserved c =
-    let l = c.loop-position.list in (
-      passed_by _ _ _ _ _ _ c.pop.ensures.items c.in-Some.is _ c.loop-position.invariant.0
-          c.in_default-get_index_mut.ensures.value,
-      (All-pop (NotedAt l.path_ids.items l.finder) _ _ _ c.pop.ensures.items c.loop-position.invariant.1).0,
-      omega (arith, c.loop-position.invariant.2, c.in-Some.ensures.len),
       c.loop-position.invariant.3,
     )
 

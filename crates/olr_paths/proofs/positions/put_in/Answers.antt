@@ -10,6 +10,6 @@ invariant_of-list c =
       ascend = l.ascend;
       noted = l.noted;
       encoded = λ off. all_same c.args.list.now.paths.entries l.paths.entries
-          ((rw c.len-count.ensures.len at c.cut.ensures) ∙ c.make_room-room.ensures.before)
+          ((rw c.len-count.ensures.len at c.cut.ensures) ∙ c.make_room.ensures.before)
           (c.args.list.now.encoded off);
     }

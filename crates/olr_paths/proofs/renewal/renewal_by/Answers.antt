@@ -5,7 +5,7 @@ use Rattle.olr_paths.proofs.Covering.{passed_more, to_position, past_end}
 use Rattle.olr_paths.proofs.renewal.renewal_by.Goals as goal
 
 pub decide-requires-clause-asked : goal.decide-requires-clause-asked
-decide-requires-clause-asked g c = λ m. c.requires.asked _ (shown_item c.in-Some.shown) m c.in-Some.ensures.shown
+decide-requires-clause-asked g c = λ m. c.loop-candidate.invariant.3 _ (shown_item c.in-Some.shown) m c.in-Some.ensures.shown
 
 pub known_for-requires-clause-before : goal.known_for-requires-clause-before
 known_for-requires-clause-before g c =
@@ -19,12 +19,13 @@ loop-candidate-init g c = (
   so_far_none _ c.args.counted.now c.new.ensures.items c.new-2.ensures.items,
   record { below = λ j lt. absurd (omega arith); within = omega arith },
   c.requires.detours,
+  c.requires.asked,
 )
 
 pub loop-candidate-preserved-then-position-next : goal.loop-candidate-preserved-then-position-next
 loop-candidate-preserved-then-position-next g c =
     let h = c.loop-candidate.invariant in
-    (h.0, passed_more _ _ h.1 refl (inl c.if-position-next.true) (omega arith) h.1.within, h.2)
+    (h.0, passed_more _ _ h.1 refl (inl c.if-position-next.true) (omega arith) h.1.within, h.2, h.3)
 
 pub loop-candidate-preserved-in_default : goal.loop-candidate-preserved-in_default
 loop-candidate-preserved-in_default g c =
@@ -33,6 +34,7 @@ loop-candidate-preserved-in_default g c =
       passed_more _ _ h.1 refl (inr (past_end (shown_items c.args.overlaid) _ c.in_default.ensures.shown))
           (omega arith) h.1.within,
       h.2,
+      h.3,
     )
 
 pub loop-candidate-preserved : goal.loop-candidate-preserved
@@ -53,6 +55,7 @@ loop-candidate-preserved g c =
           (λ e. rw c.deref.ensures.value (c.in_ok-known.ensures.given e)) c.in_ok-action.ensures.action),
       passed_more position (position + 1) h.1 refl (inl (omega arith)) (omega arith) (omega arith),
       (λ some. c.in_ok-known.ensures.detours),
+      c.in_ok-action.ensures.asked _ h.3,
     )
 
 pub returns : goal.returns

@@ -1,15 +1,16 @@
 use Rattle.olr_paths.proofs.Common.{◌<◌, ◌≤◌, length, take, most_changed, AreDetours, items, shown_items, nodes_of}
-use Rattle.olr_paths.proofs.Common.{lines_of, changed_of}
+use Rattle.olr_paths.proofs.Common.{lines_of, changed_of, AreAsked}
 use Rattle.olr_paths.proofs.RenewedPrefix.{SoFar}
 use Rattle.olr_paths.proofs.Covering.{Passed}
 use Rattle.olr_paths.proofs.renewal.renewal_by.Given as goal
 
 -- the paths before the next position are renewed, reported and counted, and the candidates so far are among them;  the
--- searches for detours are right
+-- searches are right
 abbrev pub invariant-loop-candidate : goal.invariant-loop-candidate
 invariant-loop-candidate g l =
     SoFar (g.M.MapRead.map l.map) (nodes_of l.touched) (lines_of l.touched) (changed_of l.touched) (items l.before)
     (shown_items l.overlaid) l.initial.counted (take l.next (shown_items l.overlaid)) l.renewal l.counted
     × Passed l.found (length (shown_items l.overlaid)) l.candidate-index l.next
     × (0 < length l.found → length (changed_of l.touched) ≤ most_changed
-    → AreDetours (g.M.MapRead.map l.map) (g.M.MapRead.node_slot l.map) l.touched l.detours)
+    → AreDetours (g.M.MapRead.map l.map) (g.M.MapRead.node_slot l.map) l.touched l.searches.detours)
+    × AreAsked (g.M.MapRead.map l.map) (g.M.MapRead.node_slot l.map) l.touched l.searches (shown_items l.overlaid)

@@ -4,6 +4,9 @@ use Rattle.olr_paths.proofs.RenewedPrefix.{whole, so_far_none}
 use Rattle.olr_paths.proofs.Raising.{kept_up, work_up}
 use Rattle.olr_paths.proofs.renewal.renewal_of.Goals as goal
 
+pub renewal_by-requires-clause-ascending : goal.renewal_by-requires-clause-ascending
+renewal_by-requires-clause-ascending g c = rw c.deref.ensures.value c.in_ok-found.ensures.ascending
+
 pub renewal_by-requires-clause-covers : goal.renewal_by-requires-clause-covers
 renewal_by-requires-clause-covers g c = rw c.deref.ensures.value c.in_ok-found.ensures.covers
 
@@ -24,15 +27,17 @@ returns-then-is_none g c =
       err_kept = tt;
     }
 
-pub returns-clause-rises : goal.returns-clause-rises
-returns-clause-rises g c =
+pub returns : goal.returns
+returns g c =
     let b = c.requires.before in
+    let new = c.renewal_by.new.counted in
     let t = c.in_ok-renewal.ensures.renewed.counted b.0 b.1 in
-    work_up (g.M.MapRead.map c.args.map.now) t.0.queries t.0.affected c.args.work.now c.renewal_by.new.counted.work
-    c.have_64_bits.ensures t.2.encodings t.2.searched
-
-pub returns-clause-kept : goal.returns-clause-kept
-returns-clause-kept g c =
-    let b = c.requires.before in
-    let t = c.in_ok-renewal.ensures.renewed.counted b.0 b.1 in
-    kept_up c.args.kept.now c.renewal_by.new.counted.kept t.0.spared (omega arith) t.2.spared
+    record {
+      renewed = c.in_ok-renewal.ensures.renewed;
+      rises = work_up (g.M.MapRead.map c.args.map.now) t.0.queries t.0.affected c.args.work.now new.work
+          c.have_64_bits.ensures t.2.encodings t.2.searched;
+      kept = kept_up c.args.kept.now new.kept t.0.spared (omega arith) t.2.spared;
+      new_origins = rw c.deref-2.ensures.value at c.in_ok-note_fresh.ensures;
+      err_work = tt;
+      err_kept = tt;
+    }

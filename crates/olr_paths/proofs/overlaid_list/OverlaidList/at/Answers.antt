@@ -37,18 +37,18 @@ returns-in_err-name-2-clause-shown c =
     ∙ ap (option_map item_of) (sym c.in_err-name-2.ensures.entry)
     ∙ ap (option_map shown_item) (sym c.from_residual-in_err-name-2.ensures)
 
-pub returns-clause-shown : goal.returns-clause-shown
-returns-clause-shown c =
+pub returns : goal.returns
+returns c =
     let l = c.args.self in
     let e : String Global × NamedPath = (c.in_ok-name-2.name.now, c.in_ok-name-2.named.now) in
     let at = item_at l.overlay.now.added.paths.entries (c.args.position - c.len-count.result) e
     (sym c.in_ok-name-2.ensures.entry) in
-    behind l c.args.position c.len-count.result c.len-count.ensures.len c.if-position-count.false
-    ∙ at ∙ ap (λ (n : List ℕ). Some (under n c.in_ok-name-2.named.now)) (sym c.as_str-2.ensures.value)
-    ∙ ap (λ (j : Item). Some j) (sym c.show.ensures)
-
-pub returns-clause-small : goal.returns-clause-small
-returns-clause-small c = λ some.
-    let within = c.in_ok-name-2.ensures.found.0 refl in
     let few = c.len-few.ensures in
-    omega (arith, within, few.len, few.small, c.len-count.ensures.small, c.if-position-count.false)
+    record {
+      shown =
+          behind l c.args.position c.len-count.result c.len-count.ensures.len c.if-position-count.false
+          ∙ at ∙ ap (λ (n : List ℕ). Some (under n c.in_ok-name-2.named.now)) (sym c.as_str-2.ensures.value)
+          ∙ ap (λ (j : Item). Some j) (sym c.show.ensures);
+      small = λ some. let within = c.in_ok-name-2.ensures.found.0 refl in
+          omega (arith, within, few.len, few.small, c.len-count.ensures.small, c.if-position-count.false);
+    }

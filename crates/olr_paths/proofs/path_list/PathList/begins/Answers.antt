@@ -1,4 +1,4 @@
-use Rattle.olr_paths.proofs.Common.{inl, inr, ◌≡◌, slice_get, Some, sym, Item, items}
+use Rattle.olr_paths.proofs.Common.{inl, inr, ◌≡◌, slice_get, Some, sym, Item, items, arith, common_steps}
 use Rattle.olr_paths.proofs.OriginLemmas.{begins_more}
 use Rattle.olr_paths.proofs.NamedEntries.{item_of, item_at}
 use Rattle.olr_paths.proofs.path_list.PathList.begins.Goals as goal
@@ -14,3 +14,6 @@ loop-position-preserved c = λ v h.
       | inl a ↦ c.in_ok-note_named.ensures.before v (c.loop-position.invariant v a)
       | inr b ↦ c.in_ok-note_named.ensures.named v b
     ]
+
+pub returns : goal.returns
+returns c = grind (arith, common_steps)

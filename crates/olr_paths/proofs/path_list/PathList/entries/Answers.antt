@@ -34,3 +34,6 @@ returns-clause-reported c =
     let past : length is ≤ c.loop-k.k =
     omega (arith, length-map c.args.self.now.paths.entries item_of, c.len-count.ensures.len) in
     rw (← append-nil (map entry_of c.loop-k.entries.items)) (c.loop-k.invariant [] (rw (drop_all c.loop-k.k is past) refl))
+
+pub returns-in_err-push-clause-lacks : goal.returns-in_err-push-clause-lacks
+returns-in_err-push-clause-lacks c = grind (arith, length-map)

@@ -1,4 +1,4 @@
-use Rattle.olr_paths.proofs.Yielded.{all_some, all_left}
+use Rattle.olr_paths.proofs.EntryLists.{all_some, all_left}
 use Rattle.olr_paths.proofs.path_list.PathList.iter.Goals as goal
 
 pub invariant_of-result : goal.invariant_of-result

@@ -1,7 +1,6 @@
-use Rattle.olr_paths.proofs.Common.{Bor, ◌≡◌, ◌++◌, ◌∙◌, List, Option, Some, None, map, inl, inr, refl, ap, sym, subst}
-use Rattle.olr_paths.proofs.Common.{option_map, Entry, entry_of, Item, items, Begins, Reported, TakesNone}
-use Rattle.olr_paths.proofs.Common.{overlay_changes, all_put, puts_of, after_renewal, PathList, Renewal, unwrap_or}
-use Rattle.olr_paths.proofs.Common.{under_overlay}
+use Rattle.olr_paths.proofs.Common.{overlay_changes, after_renewal, under_overlay, option_map, TakesNone, unwrap_or, ap}
+use Rattle.olr_paths.proofs.Common.{entry_of, Reported, PathList, all_put, puts_of, Renewal, Option, Begins, subst, Bor}
+use Rattle.olr_paths.proofs.Common.{Entry, items, ◌++◌, List, Some, None, refl, Item, ◌≡◌, ◌∙◌, map, inl, inr, sym}
 use Rattle.olr_paths.specs.declared.overlay.Overlay.{Overlay}
 use Rattle.olr_paths.proofs.OriginLemmas.{begins_all_put}
 use Rattle.olr_paths.proofs.Changed.{grown_differ, put_on_overlaid}

@@ -1,17 +1,27 @@
 use Rattle.olr_paths.proofs.Common.{◌≡◌, inl, inr, List, [], ◌∷◌, ◌++◌, ap, ◌∙◌, Entry, entry, entry_of, Made}
-use Rattle.olr_paths.proofs.Common.{made_of, map}
+use Rattle.olr_paths.proofs.Common.{made_of, map, arith}
+use Rattle.olr_paths.proofs.OriginLemmas.{begins_set}
 use Rattle.olr_paths.proofs.path_list.PathList.set.Goals as goal
 
-pub returns-clause-set : goal.returns-clause-set
-returns-clause-set g c =
+pub returns : goal.returns
+returns g c =
+    let e = c.in_ok-published.ensures in
     let m : Made = made_of c.in_ok-published.published in
-    let name = c.args.name.now in
-    let none : map entry_of c.new-entries.result.items ≡ [] = ap (map entry_of) c.new-entries.ensures.items in (
-      m,
-      c.in_ok-published.ensures.made,
-      rw (← c.in_ok-named.ensures.path, ← c.in_ok-named.ensures.made) c.in_ok-put_other.ensures.ok,
-      elim c.in_ok-push_if_changed.ensures [
-        | inl t ↦ inl (t.0, t.1 ∙ none)
-        | inr t ↦ inr (t.0, t.1 ∙ ap (λ (es : List Entry). es ++ entry name m.answer ∷ []) none)
-      ],
-    )
+    let none : map entry_of c.new-entries.result.items ≡ [] = ap (map entry_of) c.new-entries.ensures.items in
+    record {
+      set = (
+        m,
+        e.made,
+        rw (← c.in_ok-named.ensures.path, ← c.in_ok-named.ensures.made) c.in_ok-put_other.ensures.ok,
+        elim c.in_ok-push_if_changed.ensures [
+          | inl t ↦ inl (t.0, t.1 ∙ none)
+          | inr t ↦ inr (t.0, t.1 ∙ ap (λ (es : List Entry). es ++ entry c.args.name.now m.answer ∷ []) none)
+        ],
+      );
+      counted = e.counted;
+      searched = e.searched;
+      rises = e.rises;
+      new_origins = λ v b. grind (arith, begins_set);
+      err = tt;
+      err_work = tt;
+    }

@@ -1,6 +1,6 @@
 use Rattle.olr_paths.proofs.Common.{ap, sym, ◌∙◌, subst, result_ok, IsReference, published_text}
 use Rattle.olr_answers.specs.Answers.{answer_of}
-use Rattle.olr_paths.proofs.Spellings.{decided}
+use Rattle.olr_paths.proofs.EntryLists.{decided}
 use Rattle.olr_paths.proofs.published.Published.has_answer_of.Goals as goal
 
 pub returns-in-Points-Points : goal.returns-in-Points-Points
