@@ -125,8 +125,7 @@ module _ (c : Content) (old new : RoadMap) (is : List Item) (b d : Batch) (x : C
 
   is_refusal : (f : Fault) → MayReport (content_with old is b x) f → (xs : List Change) →
       IsBatchOf c (batch_of old is b) xs → IsRefusal (state c (Some xs)) (Make x) f
-  is_refusal f (ByContent e) xs i =
-      replies.ByState (step_given c old is b xs x i ∙ ap (into_batch c (xs ++ x ∷ [])) e)
+  is_refusal f (ByContent e) xs i = replies.ByState (step_given c old is b xs x i ∙ ap (into_batch c (xs ++ x ∷ [])) e)
   is_refusal f (Lacks e first) xs i =
       let may = ap may_want (step_given c old is b xs x i) ∙ may_by c (xs ++ x ∷ []) (content_with old is b x) first in
       replies.Lacks e (λ j. held_takes x xs (length c.paths == 0) j && may j)
@@ -180,8 +179,7 @@ module _ (roads : RoadMap) (is : List Item) (b : Batch) (near : DistanceBounds) 
 
   pub begun_held : IsKeptRight roads is (Some b) near
   begun_held =
-      kept_moved roads roads is None (Some b) near same_before
-      (record {
+      kept_moved roads roads is None (Some b) near same_before (record {
         undo = (
           subst (CanMakeAll (map_of roads) (room_of roads)) (sym e.log) tt,
           let nodes : b.log.nodes ≡ 0 = b.log.nodes_counted ∙ ap all_node_puts e.log in
@@ -220,7 +218,6 @@ module _ (roads : RoadMap) (is : List Item) (b : Batch) (near : DistanceBounds) 
   begin_done w n r empty =
       let c : Content = content_on (map_of roads) is in
       let later : RegisterState = record { content = c; batch = Some (batch_of roads is b) } in
-      rw same_before
-      (answered_uncounted (register_of c None w n) later Begin r
+      rw same_before (answered_uncounted (register_of c None w n) later Begin r
       (in_states (record { content = c; batch = None }) (Keeps later Begin r)
       (refl, (state c (Some []), (refl, empty_batch), (refl, empty)))))

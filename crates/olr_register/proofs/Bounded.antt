@@ -9,8 +9,7 @@ pub bounded_unknown : (M : Map) (is : List Item) (near : DistanceBounds) → IsF
 bounded_unknown M is near off =
     record {
       right = λ on. let never : ⊥ = cc (on, off) in absurd never;
-      sources = λ v b on. let never : ⊥ =
-          cc (on, off) in absurd never;
+      sources = λ v b on. let never : ⊥ = cc (on, off) in absurd never;
     }
 
 -- no node has a bound, and no coverage query begins at a node

@@ -67,8 +67,7 @@ edit_lacks c (Err g) h = absurd cc
 -- ---- accepted, with these results of the path
 
 pub add_ok : (M : Map) (is : List Item) (name : List ℕ) (path : Path) (made : Option Made) → has_name is name ≡ false →
-    is_path path.lines ≡ true
-    → with_change (content_on M is) (Add_path name path)
+    is_path path.lines ≡ true → with_change (content_on M is) (Add_path name path)
     ≡ Ok (content_on M (is ++ record { name = name; path = path; made = made } ∷ []))
 add_ok M is name path made free good = rw (free, good) (ap (content_from M) (sym (names_add is _)))
 

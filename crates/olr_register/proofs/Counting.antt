@@ -33,12 +33,9 @@ Given names i = is_none i.made ≡ list_any (same_name i.name) names
 module _ (names : List (List ℕ)) (P : Item → Type 0) (Q : Named → Type 0)
     (to : (i : Item) → Given names i → P i → Q (named_of i))
     (back : (i : Item) → Given names i → Q (named_of i) → P i) where
-  count_named : (is : List Item) (n : ℕ) →
-      AreGiven names (map held_of is) → CountIs P is n →
-      CountIs Q (all_named is) n
+  count_named : (is : List Item) (n : ℕ) → AreGiven names (map held_of is) → CountIs P is n → CountIs Q (all_named is) n
   count_named [] n given count = count
-  count_named (i ∷ is) n given (inl h) =
-      inl (to i given.0 h.0, (h.1.0, count_named is h.1.0 given.1 h.1.1, h.1.2))
+  count_named (i ∷ is) n given (inl h) = inl (to i given.0 h.0, (h.1.0, count_named is h.1.0 given.1 h.1.1, h.1.2))
   count_named (i ∷ is) n given (inr h) = inr ((λ k. h.0 (back i given.0 k)), count_named is n given.1 h.1)
 
   collect_named : (R : Item → List CoverageQuery → Type 0) (S : Named → List CoverageQuery → Type 0) →
@@ -101,8 +98,7 @@ module _ (c d : Content) (changes : List Change) (ns xs : List ℕ) (cs : List C
     made = λ e. let on : is_none i.made ≡ true = ap (λ (o : Option Made). is_none o) e in
         both_ways (is_none i.made) (given ∙ h.unnamed) on;
     affected = affects_back i given h.affected;
-    unchanged =
-        unchanged_moves (λ v. sym (same_nodes v)) (λ x. sym (same_lines x)) (sym same_changed) h.unchanged;
+    unchanged = unchanged_moves (λ v. sym (same_nodes v)) (λ x. sym (same_lines x)) (sym same_changed) h.unchanged;
   }
 
   encodes_to : (i : Item) → Given (all_names changes) i → IsEncodedAgain c.map d.map ns xs cs i →
@@ -119,8 +115,7 @@ module _ (c d : Content) (changes : List Change) (ns xs : List ℕ) (cs : List C
   searches_to i queries given h =
       let from : List ChangedLine = all_changed c changes in
       subst (λ (b : Bool). Either b (SearchedFor d.map i.path queries) (SearchedAgain c.map d.map from i.path queries))
-      given
-      (either_by i.made (SearchedFor d.map i.path queries) (SearchedAgain c.map d.map from i.path queries)
+      given (either_by i.made (SearchedFor d.map i.path queries) (SearchedAgain c.map d.map from i.path queries)
       (subst (λ (ks : List ChangedLine). SearchesItem c.map d.map ks i queries) same_changed h))
 
   module _ (is : List Item) (t : Totals) (totals : AreTotals c.map d.map ns xs cs is t)

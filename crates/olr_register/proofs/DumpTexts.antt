@@ -71,8 +71,7 @@ pub one_more : {A : Type 0} (q : A → Bool) (xs : List A) (k : ℕ) (d : A) →
     ((x : A) → slice_get xs k ≡ Some x → true ≡ q x) → list_all q (take k xs) ≡ true →
     list_all q (take (k + 1) xs) ≡ true
 one_more q xs k d lt h before =
-    list_all_more q xs k d lt
-    ∙ and_from (list_all q (take k xs)) (q (get_or xs k d)) before
+    list_all_more q xs k d lt ∙ and_from (list_all q (take k xs)) (q (get_or xs k d)) before
     (sym (h (get_or xs k d) (slice_get-get_or xs k d lt)))
 
 -- ---- a map, node by node

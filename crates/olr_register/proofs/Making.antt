@@ -74,8 +74,7 @@ module _ (roads : RoadMap) (is : List Item) (b : Batch) (l : Overlay) (x : Chang
           content = ok;
           nodes = λ v. sym (ap (λ (vs : List ℕ). has (nodes_of b.touched) v || has vs v) nodes ∙ or-false _);
           lines = λ y. sym (ap (λ (ys : List ℕ). has (lines_of b.touched) y || has ys y) lines ∙ or-false _);
-          changed =
-              sym (ap (λ (cs : List ChangedLine). changed_of b.touched ++ cs) changed ∙ append-nil _);
+          changed = sym (ap (λ (cs : List ChangedLine). changed_of b.touched ++ cs) changed ∙ append-nil _);
           given = given;
         });
     refused = tt;
@@ -126,8 +125,7 @@ module _ (old new : RoadMap) (is : List Item) (b : Batch) (log : UndoLog) (t : C
           few = h.few;
           noted =
               subst (λ (M : Map). AreEditsNoted M (map_of new) (nodes_of t) (lines_of t) (changed_of t))
-              (sym same_before)
-              (noted_more (map_before old b.log) (map_of old) (map_of new) e (nodes_of b.touched)
+              (sym same_before) (noted_more (map_before old b.log) (map_of old) (map_of new) e (nodes_of b.touched)
               (lines_of b.touched) (nodes_of t) (lines_of t) (changed_of b.touched) (changed_of t) h.noted done
               nodes lines changed);
           made = subst (λ (M : Map). AreEncodingsIfAny M (under_overlay is b.overlay)) (sym same_before) h.made;

@@ -47,8 +47,7 @@ held_by : (ms ns us : List ℕ) (v : ℕ) → has ms v ≡ (has ns v || has us v
 held_by ms ns us v e off = list_any-append (λ y. y == v) ns us ∙ sym e ∙ off
 
 pub noted_more : (L M N : Map) (e : Edit) (ns xs ms ys : List ℕ) (cs ds : List ChangedLine) →
-    AreEditsNoted L M ns xs cs →
-    edited M e ≡ Ok N
+    AreEditsNoted L M ns xs cs → edited M e ≡ Ok N
     → ((v : ℕ) → has ms v ≡ (has ns v || has (touched_nodes M e) v)) →
     ((x : ℕ) → has ys x ≡ (has xs x || has (touched_lines e) x)) → ds ≡ cs ++ changes_of M e
     → AreEditsNoted L N ms ys ds
@@ -102,8 +101,7 @@ is_before M N T X C is noted sound paths made =
       difference = noted.difference;
       starts = noted.starts;
       paths = are_paths is paths;
-      made =
-          made;
+      made = made;
     }
 
 -- what a commit renews

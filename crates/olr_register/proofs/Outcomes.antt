@@ -121,8 +121,7 @@ refused_same x c r f failed all =
 
 pub explain_refused : (x : Registered) (text : List ℕ) (f : CommandFault) (g : state.TextFault) →
     command_fault_of f ≡ Not_a_reference g → text_fault text ≡ Some g → Answered x (state.Explain text) (Err f) x
-explain_refused x text f g is fault =
-    refused_same x (state.Explain text) (Err f) f refl (λ o. ByState (rw (fault, is)))
+explain_refused x text f g is fault = refused_same x (state.Explain text) (Err f) f refl (λ o. ByState (rw (fault, is)))
 
 -- out of memory may be reported instead of a fault of the text
 pub explain_lacks : (x : Registered) (text : List ℕ) (f : CommandFault) → command_fault_of f ≡ state.Memory →
@@ -168,5 +167,4 @@ explain_fault x text (Bytes Length) f is e = bytes_refused x text is.0 spec.Leng
 explain_fault x text (Bytes Status) f is e = bytes_refused x text is.0 spec.Status f is.1 is.2 e
 explain_fault x text (Bytes Flags) f is e = bytes_refused x text is.0 spec.Flags f is.1 is.2 e
 explain_fault x text (Bytes Reserved) f is e = bytes_refused x text is.0 spec.Reserved f is.1 is.2 e
-explain_fault x text NotBase64 f is e =
-    explain_refused x text f state.Not_base64 e (ap bytes_fault (decoded text is.1))
+explain_fault x text NotBase64 f is e = explain_refused x text f state.Not_base64 e (ap bytes_fault (decoded text is.1))

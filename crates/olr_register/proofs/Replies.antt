@@ -194,8 +194,7 @@ reported_set M is name path m es content a taken right returned =
     let made =
     each_set (each_encoded M) (each_encoded M) name path (Some m) (λ i e. (m, refl, right)) (λ i e p. p) is a in
     let self = follows_self is content.names in
-    planned_changes M M is (map (set_item name path (Some m)) is) es content a made
-    (elim returned [
+    planned_changes M M is (map (set_item name path (Some m)) is) es content a made (elim returned [
       | inl h ↦ subst (Reported is (map (set_item name path (Some m)) is)) (sym h.1)
           (follows_untold M is (map (set_item name path (Some m)) is) made (each_set (each_follows is) (each_follows is)
           name path (Some m) (λ i e. inr (ap (answer_in is) (same_is i.name name e) ∙ h.0)) (λ i e p. p) is self))

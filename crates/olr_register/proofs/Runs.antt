@@ -22,8 +22,7 @@ run_starts x rs new none = rw (new, none) (start_state, (refl, tt), (refl, refl)
 
 pub run_continues : (x y : Registered) (cs : List Asked) (c : Asked) (rs ss : List (Result Answered CommandFault))
     (r : Result Answered CommandFault) → HasRun x cs rs → Applied x (command_of c) (outcome_of r) y →
-    IsContent y.kept.content
-    → ss ≡ rs ++ r ∷ [] → HasRun y (cs ++ c ∷ []) ss
+    IsContent y.kept.content → ss ≡ rs ++ r ∷ [] → HasRun y (cs ++ c ∷ []) ss
 run_continues x y cs c rs ss r run applied sound more =
     let next = applied run.0 run.1 in
     let right : IsContent next.0.content = subst IsContent next.1.0 sound in

@@ -84,8 +84,7 @@ module _ (r : Inside) {x : Registered} (view : of_parts r.roads (items r.paths) 
       Answered x (Make y) (Ok q) (of_parts later js r.batch v m)
   accepted_now y later js v m q u is_made reply raised counts rises kept same =
       let new : Registered = of_parts later js None v m in
-      rw (← view, shut)
-      (answered_counted (of_parts r.roads is None r.work r.spared) new (Make y) q u
+      rw (← view, shut) (answered_counted (of_parts r.roads is None r.work r.spared) new (Make y) q u
       (in_states (kept_of r.roads is None) (Accepts new (Make y) q u)
       ((state (content_on (map_of later) js) None, (refl, tt), (ap at_once is_made, reply)), raised))
       counts (record { work = rises; spared = kept }) same)
@@ -127,8 +126,7 @@ module _ (r : Inside) {x : Registered} (view : of_parts r.roads (items r.paths) 
 
       pub bare_right : (f : DistanceBounds) → HasCoord e → is ≡ [] → HasBounds (map_of later) [] f →
           IsKeptRight later is r.batch f
-      bare_right f placed bare bounded =
-          rw bare (still_right (On_map e) later [] f placed (bare_ok bare) tt bounded)
+      bare_right f placed bare bounded = rw bare (still_right (On_map e) later [] f placed (bare_ok bare) tt bounded)
 
       pub bare_done : (q : Reply) → is ≡ [] → reply_of q ≡ replies.Paths [] →
           Answered x (Make (On_map e)) (Ok q) (of_parts later is r.batch r.work r.spared)
@@ -185,8 +183,7 @@ module _ (r : Inside) {x : Registered} (view : of_parts r.roads (items r.paths) 
       pub drop_right : has_name is name ≡ true → js ≡ left → IsKeptRight r.roads js r.batch r.near
       drop_right there list =
           rw list (still_right (Drop_path name) r.roads left r.near tt (drop_ok M is name there)
-          (each_left (each_encoded M) (λ i. not (same_name i.name name)) is right.register.made)
-          (record {
+          (each_left (each_encoded M) (λ i. not (same_name i.name name)) is right.register.made) (record {
             right = right.bounded.right;
             sources = λ v on. right.bounded.sources v (begins_drop (λ i. not (same_name i.name name)) is v on);
           }))
@@ -216,8 +213,7 @@ module _ (r : Inside) {x : Registered} (view : of_parts r.roads (items r.paths) 
           pub set_right : (f : DistanceBounds) → has_name is name ≡ true → js ≡ replaced → HasBounds M js f →
               IsKeptRight r.roads js r.batch f
           set_right f there list bounded =
-              still_right (Set_path name path) r.roads js f tt
-              (rw list (set_ok M is name path (Some m) there good))
+              still_right (Set_path name path) r.roads js f tt (rw list (set_ok M is name path (Some m) there good))
               (rw list (each_set (each_encoded M) (each_encoded M) name path (Some m)
               (λ i e. (m, refl, encoded)) (λ i e p. p) is right.register.made)) bounded
 
@@ -238,8 +234,7 @@ module _ (r : Inside) {x : Registered} (view : of_parts r.roads (items r.paths) 
             path_done y ks list ok placed nodes lines names there raised differ counted =
                 let d : Content = content_on M ks in
                 rw list (accepted_now y r.roads ks v r.spared q (record { affected = 1; spared = 0; queries = searches.0 }) ok
-                (rw says differ)
-                (record {
+                (rw says differ) (record {
                   affected = raised;
                   spared = spares_none (state c None) (state d None) y name path before refl nodes lines names;
                   queries = searches_one (state c None) (state d None) y name path before refl nodes lines names searches.0
@@ -256,8 +251,7 @@ module _ (r : Inside) {x : Registered} (view : of_parts r.roads (items r.paths) 
                 path_done (Add_path name path) added list ok tt refl refl refl
                 (added_path (state c None) (state d None) name path refl (ap at_once ok))
                 ((paths_raise (state c None) (state d None) name path before refl).0 (ap at_once ok))
-                (reported_add M is name path m es right.register.content right.register.made free encoded
-                listed) refl
+                (reported_add M is name path m es right.register.content right.register.made free encoded listed) refl
 
             pub set_done : has_name is name ≡ true → js ≡ replaced → ((answer_in is name ≡ Some m.answer) × (es ≡ []))
                 ⊎ ((answer_in is name ≢ Some m.answer) × (es ≡ entry name m.answer ∷ [])) →
@@ -268,5 +262,4 @@ module _ (r : Inside) {x : Registered} (view : of_parts r.roads (items r.paths) 
                 path_done (Set_path name path) replaced list ok tt refl refl refl
                 (replaced_path (state c None) (state d None) name path refl (ap at_once ok))
                 ((paths_raise (state c None) (state d None) name path before refl).1 (ap at_once ok))
-                (reported_set M is name path m es right.register.content right.register.made there encoded
-                listed) refl
+                (reported_set M is name path m es right.register.content right.register.made there encoded listed) refl

@@ -105,7 +105,10 @@ pub fn replay(
     let mut outcomes = Vec::new(alloc);
     for command in commands {
         let outcome = register.apply(command);
-        outcomes.push(outcome)?;
+        let Ok(()) = outcomes.push(outcome) else {
+            drop(register);
+            return Err(AllocError);
+        };
     }
     Ok((register, outcomes))
 }

@@ -15,36 +15,39 @@ impl Register {
     ghost use Rattle.olr_register.specs.Answering.{Answered};
 
     /// Opens a batch, which holds the changes that follow. Takes no memory.
+    #[inline(never)]
     pub(crate) fn begin(&mut self) -> Result<Reply, CommandFault>
         ensures { Answered self.old Begin result self.new }
     {
         if self.batch.is_some() {
             return Err(CommandFault::BatchOpen);
         }
-        self.batch = Some(Batch {
+        let batch = Batch {
             log: UndoLog::new(self.alloc),
             overlay: Overlay::new(self.alloc),
             count: 0,
             touched: ChangeSet::new(self.alloc),
-        });
+        };
+        // Nothing is dropped: no batch is open.
+        drop(self.batch.replace(batch));
         Ok(Reply::Paths(Vec::new(self.alloc)))
     }
 
     /// Makes a change in the open batch and holds it. After a fault the register is unchanged.
+    #[inline(never)]
     pub(crate) fn hold(&mut self, change: Change) -> Result<Reply, CommandFault>
         requires { IsSome self.old.kept.batch }
         ensures { Answered self.old (Make (change_of change)) result self.new }
     {
-        let Some(mut batch) = self.batch.take() else {
+        let Some(batch) = &mut self.batch else {
             unreachable!()
         };
-        let result = batch.hold(self.alloc, &mut self.roads, &self.paths, change);
-        self.batch = Some(batch);
-        result
+        batch.hold(self.alloc, &mut self.roads, &self.paths, change)
     }
 
     /// Accepts all held changes at once, if their number is `count`, and encodes the affected paths. After a fault the
     /// batch is still open, and unchanged.
+    #[inline(never)]
     pub(crate) fn commit(&mut self, count: u32) -> Result<Reply, CommandFault>
         ensures { Answered self.old (Commit count) result self.new }
     {
@@ -66,17 +69,27 @@ impl Register {
             &mut self.spared,
         )?;
         // The log is dropped with the batch: its edits are permanent.
-        self.batch = None;
+        drop(self.batch.take());
         Ok(Reply::Paths(entries))
     }
 
     /// Drops all held changes: the map is the one before the batch. Takes no memory.
+    #[inline(never)]
     pub(crate) fn abort(&mut self) -> Result<Reply, CommandFault>
         ensures { Answered self.old Abort result self.new }
     {
         match self.batch.take() {
-            Some(Batch { log, .. }) => {
+            Some(
+                Batch {
+                    log,
+                    overlay,
+                    touched,
+                    ..
+                },
+            ) => {
                 self.roads.undo_all(log);
+                drop(overlay);
+                drop(touched);
                 Ok(Reply::Paths(Vec::new(self.alloc)))
             }
             None => Err(CommandFault::NoBatch),

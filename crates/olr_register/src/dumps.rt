@@ -179,6 +179,7 @@ impl Register {
     /// The records that build the register from an empty one: its nodes and its lines, each in ascending order of their
     /// numbers, and its paths in their order. The faults are `BatchOpen`, `NotARecord` and `Memory`, in this order of
     /// precedence.
+    #[inline(never)]
     pub fn dump(&self) -> Result<Reply, CommandFault>
         ensures { Answered self.now Asked result self.now }
     {

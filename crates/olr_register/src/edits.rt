@@ -1,7 +1,9 @@
 //! Edits of the map that are made at once, outside a batch.
-ghost use Rattle.std.specs.Prelude.{◌≡◌, ℕ, map as list_map, OnOk};
+ghost use Rattle.std.specs.Prelude.{◌≡◌, map as list_map, Ok, None, OnOk, OnErr, IfOk, IsTrue};
 ghost use Rattle.std.specs.Option.{option_to_list};
-ghost use Rattle.olr_spec.specs.Map.{Map, Edit as EditRecord};
+ghost use Rattle.olr_spec.specs.Map.{edited};
+ghost use Rattle.olr_roads.specs.Edits.{edit_of, allocates};
+ghost use Rattle.olr_map.specs.RoadMaps.{map_of, slot_of, CanUndo, map_undone};
 ghost use Rattle.olr_map.specs.EditPlans.{IsEditPlan, planned_changes};
 ghost use Rattle.olr_paths.specs.Touching.{change_of};
 ghost use Rattle.olr_register.specs.Noting.{IsNotedOf};
@@ -9,7 +11,7 @@ ghost use Rattle.olr_register.specs.Noting.{IsNotedOf};
 use crate::nearing::renew;
 use crate::register::Register;
 use olr_commands::{CommandFault, Reply};
-use olr_map::{Edit, EditPlan, judge};
+use olr_map::{Edit, EditPlan, RoadMap, Undo, judge};
 use olr_paths::{ChangeSet, ChangedLine, Overlay};
 use std::alloc::AllocError;
 
@@ -26,20 +28,39 @@ pub(crate) fn line_changed(plan: &EditPlan) -> Option<ChangedLine>
     })
 }
 
-/// Records what a judged edit touches, and nothing else.
-fn note_alone(touched: &mut ChangeSet, plan: &EditPlan) -> Result<(), AllocError>
-    ensures { OnOk result ((M : Map) (slot : ℕ → ℕ) (e : EditRecord) → IsEditPlan M slot e plan.now
-        → IsNotedOf M e touched.new) }
+/// Makes a judged edit that is never undone. If an allocation fails, the map is unchanged.
+fn make_kept(roads: &mut RoadMap, edit: Edit, plan: &EditPlan) -> Result<(), AllocError>
+    requires { IsEditPlan (map_of roads.old) (slot_of roads.old) (edit_of edit) plan.now }
+    ensures done { OnOk result (edited (map_of roads.old) (edit_of edit) ≡ Ok (map_of roads.new)) }
+    ensures same { OnErr result (map_of roads.new ≡ map_of roads.old) }
+    ensures lacks { OnErr result (IsTrue (allocates (edit_of edit))) }
+{
+    let undo = roads.make(edit, plan)?;
+    roads.keep(undo);
+    Ok(())
+}
+
+/// Records what a judged edit touches, and nothing else, and makes it. If an allocation fails, the map is unchanged.
+fn make_noted(
+    roads: &mut RoadMap,
+    touched: &mut ChangeSet,
+    edit: Edit,
+    plan: &EditPlan,
+) -> Result<Undo, AllocError>
+    requires { IsEditPlan (map_of roads.old) (slot_of roads.old) (edit_of edit) plan.now }
+    ensures noted { OnOk result (IsNotedOf (map_of roads.old) (edit_of edit) touched.new) }
+    ensures done { OnOk result (edited (map_of roads.old) (edit_of edit) ≡ Ok (map_of roads.new)) }
+    ensures same { OnErr result (map_of roads.new ≡ map_of roads.old) }
+    ensures can_undo { IfOk result (CanUndo roads.new) }
+    ensures before { IfOk result (λ undo. map_undone roads.new undo ≡ map_of roads.old) }
 {
     touched.clear();
     touched.reserve()?;
     touched.note(plan.nodes, plan.line, line_changed(plan));
-    Ok(())
+    roads.make(edit, plan)
 }
 
 impl Register {
-    ghost use Rattle.std.specs.Prelude.{◌≡◌, None};
-    ghost use Rattle.olr_roads.specs.Edits.{edit_of};
     ghost use Rattle.olr_commands.specs.State.{Make, On_map};
     ghost use Rattle.olr_register.specs.Answering.{Answered};
 
@@ -54,15 +75,13 @@ impl Register {
             Err(fault) => return Err(CommandFault::Map(fault)),
         };
         if self.paths.len() == 0 {
-            let undo = self.roads.make(edit, &plan)?;
-            self.roads.keep(undo);
+            make_kept(&mut self.roads, edit, &plan)?;
             self.near.clear();
             return Ok(Reply::Paths(Vec::new(self.alloc)));
         }
-        note_alone(&mut self.touched, &plan)?;
-        let undo = self.roads.make(edit, &plan)?;
+        let undo = make_noted(&mut self.roads, &mut self.touched, edit, &plan)?;
         let none = Overlay::new(self.alloc);
-        match renew(
+        let renewed = renew(
             self.alloc,
             &self.roads,
             &mut self.paths,
@@ -72,15 +91,13 @@ impl Register {
             &mut self.searches,
             &mut self.work,
             &mut self.spared,
-        ) {
-            Ok(entries) => {
-                self.roads.keep(undo);
-                Ok(Reply::Paths(entries))
-            }
-            Err(_) => {
-                self.roads.undo(undo);
-                Err(CommandFault::Memory)
-            }
-        }
+        );
+        drop(none);
+        let Ok(entries) = renewed else {
+            self.roads.undo(undo);
+            return Err(CommandFault::Memory);
+        };
+        self.roads.keep(undo);
+        Ok(Reply::Paths(entries))
     }
 }

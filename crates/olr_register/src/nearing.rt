@@ -50,6 +50,7 @@ fn add_near(near: &mut DistanceBounds, roads: &RoadMap, queries: &[CoverageQuery
 
 /// Rebuilds the bounds, with a source where each coverage query of the list begins. If an allocation fails, they are
 /// unknown.
+#[inline(never)]
 fn bounds_from_scratch(alloc: Global, near: &mut DistanceBounds, roads: &RoadMap, paths: &PathList)
     ensures { HasBounds (map_of roads.now) (items paths.now) near.new }
 {

@@ -13,6 +13,7 @@ impl Register {
 
     /// Encodes a new path and appends it. The faults are `PathExists`, `BadPath` and `Memory`, in this order of
     /// precedence.
+    #[inline(never)]
     pub(crate) fn add_now(&mut self, name: String, parts: PathParts) -> Result<Reply, CommandFault>
         requires { self.old.kept.batch ≡ None }
         ensures { Answered self.old (Make (Add_path (string_bytes name) (path_by parts))) result
@@ -27,6 +28,7 @@ impl Register {
     }
 
     /// Encodes another path for a name. The faults are `NoPath`, `BadPath` and `Memory`, in this order of precedence.
+    #[inline(never)]
     pub(crate) fn set_now(&mut self, name: &str, parts: PathParts) -> Result<Reply, CommandFault>
         requires { self.old.kept.batch ≡ None }
         ensures { Answered self.old (Make (Set_path name.now (path_by parts))) result self.new }

@@ -29,6 +29,7 @@ impl Register {
     ghost use Rattle.olr_register.specs.Answering.{Answered};
 
     /// What is published of one path. `NoPath` takes precedence over `Memory`.
+    #[inline(never)]
     pub fn show(&self, name: &str) -> Result<Reply, CommandFault>
         ensures { Answered self.now (Show name.now) result self.now }
     {
@@ -40,6 +41,7 @@ impl Register {
     }
 
     /// What is published of every path, in order.
+    #[inline(never)]
     pub fn report(&self) -> Result<Reply, CommandFault>
         ensures { Answered self.now Report result self.now }
     {
@@ -48,6 +50,7 @@ impl Register {
 
     /// The fields of the reference that this text encodes. If it encodes none, the fault says why; `Memory` if an
     /// allocation fails.
+    #[inline(never)]
     pub fn explain(&self, text: &[u8]) -> Result<Reply, CommandFault>
         ensures { Answered self.now (Explain text.now) result self.now }
     {

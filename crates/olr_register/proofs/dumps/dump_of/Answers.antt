@@ -1,4 +1,5 @@
-use Rattle.olr_register.proofs.Common.{List, ℕ, [], ◌++◌, ap, ◌∙◌, flat_map, entries, map_of, Content, record_line}
+use Rattle.std.proofs.lemmas.Grind.{common_steps}
+use Rattle.olr_register.proofs.Common.{List, ℕ, [], ◌++◌, ap, arith, ◌∙◌, flat_map, entries, map_of, Content, record_line}
 use Rattle.olr_register.proofs.Common.{node_change, line_change, path_change, items, all_named}
 use Rattle.olr_register.proofs.DumpTexts.{dump_text}
 use Rattle.olr_register.proofs.dumps.dump_of.Goals as goal
@@ -12,3 +13,12 @@ returns-clause-text c =
     ∙ ap (λ (t : List ℕ). t ++ flat_map (λ e. record_line (line_change e)) (entries M.lines)) (c.in_ok-push_nodes.ensures
     ∙ ap (λ (t : List ℕ). t ++ flat_map (λ e. record_line (node_change e)) (entries M.nodes)) c.new-text.ensures.items))
     ∙ dump_text content []
+
+pub push_nodes-requires-clause-ids : goal.push_nodes-requires-clause-ids
+push_nodes-requires-clause-ids c = c.deref.ensures.value ∙ c.in_ok-nodes.ensures
+
+pub push_lines-requires-clause-ids : goal.push_lines-requires-clause-ids
+push_lines-requires-clause-ids c = c.deref-2.ensures.value ∙ c.in_ok-lines.ensures
+
+pub returns-clause-count : goal.returns-clause-count
+returns-clause-count c = grind (arith, common_steps)

@@ -10,6 +10,5 @@ returns-then-not-is_recordable_slot c =
 pub returns : goal.returns
 returns c =
     let kept = c.args.roads.now.kept in
-    sym (by_nodes (map_of c.args.roads.now) kept.sound
-    (λ v there. c.loop-slot.invariant v there
+    sym (by_nodes (map_of c.args.roads.now) kept.sound (λ v there. c.loop-slot.invariant v there
     (omega (arith, kept.placed.below v there, c.slot_count-slot-end.ensures, c.loop-slot-test.false))))

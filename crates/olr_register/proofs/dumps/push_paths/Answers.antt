@@ -1,7 +1,16 @@
-use Rattle.olr_register.proofs.Common.{◌≡◌, ℕ, List, Some, ◌++◌, slice_get, sym, ap, ◌∙◌, record_line, Named, Add_path}
-use Rattle.olr_register.proofs.Common.{path_change, items, all_named}
+use Rattle.olr_register.proofs.Common.{◌≡◌, ℕ, List, Some, ◌++◌, slice_get, sym, ap, arith, ◌∙◌, record_line, Named}
+use Rattle.olr_register.proofs.Common.{Add_path, path_change, items, all_named, named_of, inl, inr, length-map}
+use Rattle.std.proofs.lemmas.Option.{slice_get_cases}
 use Rattle.olr_register.proofs.DumpTexts.{records-at}
 use Rattle.olr_register.proofs.dumps.push_paths.Goals as goal
+
+pub unreachable-requires : goal.unreachable-requires
+unreachable-requires c =
+    let is = items c.args.paths.now in
+    elim (slice_get_cases (all_named is) c.loop-k.k).1 [
+      | inl s ↦ let never = c.in_default.ensures ∙ s.2 in absurd cc
+      | inr p ↦ omega (arith, p.0, c.loop-k-test.true, length-map is named_of, c.len-k-end.ensures.len)
+    ]
 
 pub loop-k-preserved : goal.loop-k-preserved
 loop-k-preserved c =

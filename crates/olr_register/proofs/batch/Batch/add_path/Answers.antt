@@ -24,8 +24,8 @@ returns-in_err-path c = λ roads.
 pub returns-in_err-hold : goal.returns-in_err-hold
 returns-in_err-hold c = λ roads.
     let is = items c.args.list.now in
-    path_unmade roads is c.args.self.now c.hold.new.self _ c.from_residual-in_err-hold.result No_memory
-    c.from_residual-in_err-hold.ensures.1 (c.in_err-hold.ensures.err is)
+    path_unmade roads is c.args.self.now c.hold.new.self _ _ No_memory c.from_residual-in_err-hold.ensures.1
+    (c.in_err-hold.ensures.err is)
     (add_refused _ (string_bytes c.args.name) (path_by c.args.parts) c.has-taken.result _
     (c.has-taken.ensures ∙ ap (has_name (under_overlay is c.args.self.now.overlay)) c.deref.ensures)
     c.in_ok-path.ensures.lacks)

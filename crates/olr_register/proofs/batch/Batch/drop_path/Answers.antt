@@ -17,13 +17,13 @@ returns c = λ roads.
     let name = c.args.name.now in
     let ks = under_overlay is b.overlay in
     let keep = λ (i : Item). not (same_name i.name name) in
-    path_made roads is b c.drop_path.new.self (Drop_path name) _
-    (c.in_ok-drop_path.ensures.ok is c.requires) (drop_ok (map_of roads) ks name (sym c.if-not-has.ensures)) tt refl refl refl
+    path_made roads is b c.drop_path.new.self (Drop_path name) _ (c.in_ok-drop_path.ensures.ok is c.requires)
+    (drop_ok (map_of roads) ks name (sym c.if-not-has.ensures)) tt refl refl refl
     (λ names g. rw (append-nil names) (each_left (each_given names) keep ks g))
     (λ M. each_left (each_if_any M) keep ks) (each_left (each_follows is) keep ks) (begins_drop keep ks)
 
 pub returns-in_err-drop_path : goal.returns-in_err-drop_path
 returns-in_err-drop_path c = λ roads.
     let is = items c.args.list.now in
-    path_unmade roads is c.args.self.now c.drop_path.new.self _ c.from_residual.result No_memory c.from_residual.ensures.1
+    path_unmade roads is c.args.self.now c.drop_path.new.self _ _ No_memory c.from_residual.ensures.1
     (c.in_err-drop_path.ensures.err is) (drop_lacks _ c.args.name.now (sym c.if-not-has.ensures))

@@ -15,7 +15,7 @@ returns-in_err-reserve c = λ is.
     let b = c.args.self.now in
     let t = c.reserve.ensures in
     unmade _ c.args.roads.now is b b.log b.overlay c.reserve.new.self (On_map (edit_of c.args.edit))
-    c.from_residual.result No_memory c.from_residual.ensures.1 (λ h. c.requires) refl refl refl t.nodes t.lines t.changed
+    _ No_memory c.from_residual.ensures.1 (λ h. c.requires) refl refl refl t.nodes t.lines t.changed
     (edit_lacks (content_under c.args.roads.now is b) _ c.in-Ok.ensures.plan.accepted)
 
 pub returns : goal.returns
@@ -34,6 +34,6 @@ returns-in_err-make_into c = λ is.
     let t = c.reserve.ensures in
     let m = c.make_into.ensures in
     unmade c.args.roads.now c.make_into.new.self is b c.make_into.new.log b.overlay c.reserve.new.self
-    (On_map (edit_of c.args.edit)) c.from_residual-in_err-make_into.result No_memory
-    c.from_residual-in_err-make_into.ensures.1 (λ h. m.can_undo) m.before c.in_err-make_into.ensures.same refl t.nodes t.lines t.changed
+    (On_map (edit_of c.args.edit)) _ No_memory c.from_residual-in_err-make_into.ensures.1 (λ h. m.can_undo) m.before
+    c.in_err-make_into.ensures.same refl t.nodes t.lines t.changed
     (edit_lacks (content_under c.args.roads.now is b) _ c.in-Ok.ensures.plan.accepted)

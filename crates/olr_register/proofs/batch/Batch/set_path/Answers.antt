@@ -8,18 +8,16 @@ use Rattle.olr_register.proofs.batch.Batch.set_path.Goals as goal
 
 pub returns-in_err-path : goal.returns-in_err-path
 returns-in_err-path c = λ roads.
-    path_unmade roads (items c.args.list.now) c.args.self.now c.args.self.now.overlay _ c.from_residual.result
-    c.in_err-path.field-0.0 c.from_residual.ensures.1 refl
-    (set_refused _ c.args.name.now (path_by c.args.parts) (not c.has-missing.result) _ (ap not c.has-missing.ensures)
-    c.in_err-path.ensures.fault)
+    path_unmade roads (items c.args.list.now) c.args.self.now c.args.self.now.overlay _ _ c.in_err-path.field-0.0
+    c.from_residual.ensures.1 refl (set_refused _ c.args.name.now (path_by c.args.parts) (not c.has-missing.result) _
+    (ap not c.has-missing.ensures) c.in_err-path.ensures.fault)
 
 pub returns-in_err-hold_other : goal.returns-in_err-hold_other
 returns-in_err-hold_other c = λ roads.
     let is = items c.args.list.now in
-    path_unmade roads is c.args.self.now c.hold_other.new.self _ c.from_residual-in_err-hold_other.result No_memory
-    c.from_residual-in_err-hold_other.ensures.1 (c.in_err-hold_other.ensures.err is)
-    (set_refused _ c.args.name.now (path_by c.args.parts) (not c.has-missing.result) _ (ap not c.has-missing.ensures)
-    c.in_ok-path.ensures.lacks)
+    path_unmade roads is c.args.self.now c.hold_other.new.self _ _ No_memory c.from_residual-in_err-hold_other.ensures.1
+    (c.in_err-hold_other.ensures.err is) (set_refused _ c.args.name.now (path_by c.args.parts) (not c.has-missing.result) _
+    (ap not c.has-missing.ensures) c.in_ok-path.ensures.lacks)
 
 pub returns : goal.returns
 returns c = λ roads.

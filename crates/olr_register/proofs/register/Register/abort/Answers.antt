@@ -35,6 +35,6 @@ returns-in-Some c =
       ),
     ))))
 
-pub returns : goal.returns
-returns c =
+pub returns-in-None : goal.returns-in-None
+returns-in-None c =
     rw (← c.self.view_is, ← c.in-None.ensures.value, c.take.ensures.after) (answered_refused _ _ Abort _ _ refl refl (ByState refl))

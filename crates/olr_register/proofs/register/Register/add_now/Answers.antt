@@ -19,8 +19,7 @@ returns-in_err-path c =
 pub returns-in_err-entries : goal.returns-in_err-entries
 returns-in_err-entries c =
     let name = string_bytes c.args.name in
-    refused_now c.self.inside c.self.view_is c.requires (Add_path name (path_by c.args.parts)) _
-    c.from_residual-in_err-entries.result rust.Memory
+    refused_now c.self.inside c.self.view_is c.requires (Add_path name (path_by c.args.parts)) _ _ rust.Memory
     (rw (c.in_err-entries.ensures.err, c.in_err-entries.ensures.err_work) c.self.view_is)
     c.from_residual-in_err-entries.ensures.1
     (may_refuse _ _ _ refl (add_refused _ name (path_by c.args.parts) c.has-taken.result _

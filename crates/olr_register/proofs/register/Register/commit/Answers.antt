@@ -19,8 +19,7 @@ returns-in_default c =
 
 pub returns-then-batch-count : goal.returns-then-batch-count
 returns-then-batch-count c =
-    rw (← c.self.view_is, c.in-Some.is)
-    (answered_refused _ _ (Commit c.args.count) _ rust.CountDiffers refl refl
+    rw (← c.self.view_is, c.in-Some.is) (answered_refused _ _ (Commit c.args.count) _ rust.CountDiffers refl refl
     (λ xs i. ByState (rw (ne_eqb (length xs) c.args.count (λ h. c.if-batch-count.true (i.count ∙ h))))))
 
 pub renew-requires : goal.renew-requires
@@ -35,7 +34,7 @@ invariant_of-self-2 c =
     let s = c.self.inside in
     let right : IsKeptRight s.roads (items s.paths) (Some c.in-Some.batch) s.near = rw (← c.in-Some.is) c.self.invariant in
     let e = c.in_ok-entries.ensures in
-    record {
+    rw c.take.ensures.after (record {
       register = record {
         content = subst (λ (ps : List Named). IsContent (record { map = map_of s.roads; paths = ps }))
             (sym e.renewed.named) right.register.held.sound;
@@ -43,7 +42,7 @@ invariant_of-self-2 c =
         held = tt;
       };
       bounded = e.bounded;
-    }
+    })
 
 pub returns : goal.returns
 returns c =
@@ -59,11 +58,9 @@ returns c =
     let count = e.renewed.counted old.map (can_commit s.roads is b s.near right).before in
     let r = reply.Paths c.in_ok-entries.entries in
     let later : Registered = of_parts s.roads js None c.renew.new.work c.renew.new.spared in
-    rw (← c.self.view_is, c.in-Some.is)
-    (answered_counted _ later (Commit c.args.count) r count.0
+    rw (← c.self.view_is, c.in-Some.is, c.take.ensures.after) (answered_counted _ later (Commit c.args.count) r count.0
     (in_states (record { content = old; batch = Some (batch_of s.roads is b) })
-    (Accepts later (Commit c.args.count) r count.0)
-    (λ xs i. (
+    (Accepts later (Commit c.args.count) r count.0) (λ xs i. (
       (
         state new None,
         (refl, tt),
@@ -84,5 +81,5 @@ pub returns-in_err-entries : goal.returns-in_err-entries
 returns-in_err-entries c =
     let e = c.in_err-entries.ensures in
     rw (← c.self.view_is, c.in-Some.is, e.err, e.err_work, e.err_kept)
-    (answered_refused _ _ (Commit c.args.count) c.from_residual.result rust.Memory refl c.from_residual.ensures.1
+    (answered_refused _ _ (Commit c.args.count) _ rust.Memory refl c.from_residual.ensures.1
     (λ xs i. Lacks_memory refl (ap may_want (right_count _ _ xs i c.if-batch-count.false))))

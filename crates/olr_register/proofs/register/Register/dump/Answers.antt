@@ -10,8 +10,7 @@ use Rattle.olr_register.proofs.register.Register.dump.Goals as goal
 pub returns-then-is_some : goal.returns-then-is_some
 returns-then-is_some c =
     let r = c.self.inside in
-    rw (← c.self.view_is)
-    (open_refused r.roads (items r.paths) r.batch _ _ Dump _ (sym c.if-is_some.ensures) (λ d xs. refl))
+    rw (← c.self.view_is) (open_refused r.roads (items r.paths) r.batch _ _ Dump _ (sym c.if-is_some.ensures) (λ d xs. refl))
 
 pub returns-then-not-is_recordable : goal.returns-then-not-is_recordable
 returns-then-not-is_recordable c =
@@ -43,5 +42,4 @@ returns c =
 pub returns-in_err-dump_of : goal.returns-in_err-dump_of
 returns-in_err-dump_of c =
     rw (← c.self.view_is, none_of c.self.inside.batch (sym c.if-is_some.ensures))
-    (answered_refused _ _ Dump c.from_residual.result No_memory refl c.from_residual.ensures.1
-    (Lacks refl (rw (← c.if-not-is_recordable.ensures))))
+    (answered_refused _ _ Dump _ No_memory refl c.from_residual.ensures.1 (Lacks refl (rw (← c.if-not-is_recordable.ensures))))

@@ -22,32 +22,34 @@ returns-in-Err c =
 
 pub invariant_of-self : goal.invariant_of-self
 invariant_of-self c =
-    same_right c.self.inside c.self.view_is c.requires c.self.invariant c.make.new.self _ _ c.in_err-undo.ensures.same refl
-    (rw c.in_err-undo.ensures.same (kept_bounds c.self.inside c.self.view_is c.requires c.self.invariant))
+    let same = c.in_err-make_kept.ensures.same in
+    same_right c.self.inside c.self.view_is c.requires c.self.invariant c.make_kept.new.roads _ _ same refl
+    (rw same (kept_bounds c.self.inside c.self.view_is c.requires c.self.invariant))
 
-pub returns-in_err-undo : goal.returns-in_err-undo
-returns-in_err-undo c =
+pub returns-in_err-make_kept : goal.returns-in_err-make_kept
+returns-in_err-make_kept c =
     let r = c.self.inside in
-    refused_now r c.self.view_is c.requires (On_map (edit_of c.args.edit)) _ c.from_residual.result No_memory
-    (same_map r c.self.view_is c.requires c.make.new.self c.in_err-undo.ensures.same) c.from_residual.ensures.1
-    (may_refuse _ _ _ (rw (no_items (items r.paths) c.len.ensures.len c.if-len-eq0.true) c.in_err-undo.ensures.lacks)
+    let e = c.in_err-make_kept.ensures in
+    refused_now r c.self.view_is c.requires (On_map (edit_of c.args.edit)) _ _ No_memory
+    (same_map r c.self.view_is c.requires c.make_kept.new.roads e.same) c.from_residual.ensures.1
+    (may_refuse _ _ _ (rw (no_items (items r.paths) c.len.ensures.len c.if-len-eq0.true) e.lacks)
     (edit_lacks (content_on (map_of r.roads) (items r.paths)) _ c.in-Ok.ensures.plan.accepted))
 
 pub invariant_of-self-then-len-eq0 : goal.invariant_of-self-then-len-eq0
 invariant_of-self-then-len-eq0 c =
     let r = c.self.inside in
-    bare_right r c.self.view_is c.requires c.self.invariant (edit_of c.args.edit) c.keep.new.self
-    (rw c.keep.ensures c.in_ok-undo.ensures.done) c.clear.new.self c.in-Ok.ensures.plan.placed
+    bare_right r c.self.view_is c.requires c.self.invariant (edit_of c.args.edit) c.make_kept.new.roads
+    c.in_ok-make_kept.ensures.done c.clear.new.self c.in-Ok.ensures.plan.placed
     (no_items (items r.paths) c.len.ensures.len c.if-len-eq0.true) (record {
-      right = right_without (map_of c.keep.new.self) c.clear.new.self c.clear.ensures.bounds;
+      right = right_without (map_of c.make_kept.new.roads) c.clear.new.self c.clear.ensures.bounds;
       sources = λ v on. absurd on;
     })
 
 pub returns-then-len-eq0 : goal.returns-then-len-eq0
 returns-then-len-eq0 c =
     let r = c.self.inside in
-    bare_done r c.self.view_is c.requires c.self.invariant (edit_of c.args.edit) c.keep.new.self
-    (rw c.keep.ensures c.in_ok-undo.ensures.done) _ (no_items (items r.paths) c.len.ensures.len c.if-len-eq0.true)
+    bare_done r c.self.view_is c.requires c.self.invariant (edit_of c.args.edit) c.make_kept.new.roads
+    c.in_ok-make_kept.ensures.done _ (no_items (items r.paths) c.len.ensures.len c.if-len-eq0.true)
     (ap (λ (es : List Entry). returned.Paths (map entry_of es)) c.new.ensures.items)
 
 -- ---- out of memory
@@ -59,70 +61,58 @@ lacks_now M is k e len some ok =
     may_refuse (content_on M is) (On_map e) _ (rw (some_named is (λ none. some (len ∙ none))))
     (edit_lacks (content_on M is) (edited M e) ok)
 
-pub returns-in_err-note_alone : goal.returns-in_err-note_alone
-returns-in_err-note_alone c =
-    refused_now c.self.inside c.self.view_is c.requires (On_map (edit_of c.args.edit)) _
-    c.from_residual-in_err-note_alone.result No_memory c.self.view_is c.from_residual-in_err-note_alone.ensures.1
-    (lacks_now _ _ _ (edit_of c.args.edit) c.len.ensures.len c.if-len-eq0.false c.in-Ok.ensures.plan.accepted)
-
-pub invariant_of-self-in_err-undo-2 : goal.invariant_of-self-in_err-undo-2
-invariant_of-self-in_err-undo-2 c =
-    let same = c.in_err-undo-2.ensures.same in
-    same_right c.self.inside c.self.view_is c.requires c.self.invariant c.make-2.new.self _ _ same refl
+pub invariant_of-self-in_err-undo : goal.invariant_of-self-in_err-undo
+invariant_of-self-in_err-undo c =
+    let same = c.in_err-undo.ensures.same in
+    same_right c.self.inside c.self.view_is c.requires c.self.invariant c.make_noted.new.roads _ _ same refl
     (rw same (kept_bounds c.self.inside c.self.view_is c.requires c.self.invariant))
 
-pub returns-in_err-undo-2 : goal.returns-in_err-undo-2
-returns-in_err-undo-2 c =
-    refused_now c.self.inside c.self.view_is c.requires (On_map (edit_of c.args.edit)) _
-    c.from_residual-in_err-undo-2.result No_memory
-    (same_map c.self.inside c.self.view_is c.requires c.make-2.new.self c.in_err-undo-2.ensures.same)
-    c.from_residual-in_err-undo-2.ensures.1
+pub returns-in_err-undo : goal.returns-in_err-undo
+returns-in_err-undo c =
+    refused_now c.self.inside c.self.view_is c.requires (On_map (edit_of c.args.edit)) _ _ No_memory
+    (same_map c.self.inside c.self.view_is c.requires c.make_noted.new.roads c.in_err-undo.ensures.same)
+    c.from_residual-in_err-undo.ensures.1
     (lacks_now _ _ _ (edit_of c.args.edit) c.len.ensures.len c.if-len-eq0.false c.in-Ok.ensures.plan.accepted)
 
-pub invariant_of-self-in-Err-renew : goal.invariant_of-self-in-Err-renew
-invariant_of-self-in-Err-renew c =
+pub invariant_of-self-in_default : goal.invariant_of-self-in_default
+invariant_of-self-in_default c =
     same_right c.self.inside c.self.view_is c.requires c.self.invariant c.undo.new.self _ _
-    (c.undo.ensures ∙ c.in_ok-undo-2.ensures.before) c.in-Err-renew.ensures.err
-    (bounded_unknown _ _ _ c.in-Err-renew.ensures.unknown)
+    (c.undo.ensures ∙ c.in_ok-undo.ensures.before) c.in_default.ensures.err
+    (bounded_unknown _ _ _ c.in_default.ensures.unknown)
 
-pub returns : goal.returns
-returns c =
-    let e = c.in-Err-renew.ensures in
+pub returns-in_default : goal.returns-in_default
+returns-in_default c =
+    let e = c.in_default.ensures in
     refused_now c.self.inside c.self.view_is c.requires (On_map (edit_of c.args.edit)) _ _ No_memory
     (rw (e.err, e.err_work, e.err_kept) (same_map c.self.inside c.self.view_is c.requires c.undo.new.self
-    (c.undo.ensures ∙ c.in_ok-undo-2.ensures.before))) refl
+    (c.undo.ensures ∙ c.in_ok-undo.ensures.before))) refl
     (lacks_now _ _ _ (edit_of c.args.edit) c.len.ensures.len c.if-len-eq0.false c.in-Ok.ensures.plan.accepted)
 
 -- ---- accepted
 
-pub renew-requires : goal.renew-requires
-renew-requires c = (
+pub renew-renewed-requires : goal.renew-renewed-requires
+renew-renewed-requires c = (
   map_of c.self.inside.roads,
   rw (c.new-none.ensures (items c.self.inside.paths))
-      (can_edit c.self.inside c.self.view_is c.requires c.self.invariant (edit_of c.args.edit) c.make-2.new.self
-      c.in_ok-undo-2.ensures.done c.note_alone.new.touched
-      (c.in_ok-note_alone.ensures (map_of c.self.inside.roads) _ (edit_of c.args.edit) c.in-Ok.ensures.plan)),
+      (can_edit c.self.inside c.self.view_is c.requires c.self.invariant (edit_of c.args.edit) c.make_noted.new.roads
+      c.in_ok-undo.ensures.done c.make_noted.new.touched c.in_ok-undo.ensures.noted),
 )
 
-pub invariant_of-self-in-Ok-renew : goal.invariant_of-self-in-Ok-renew
-invariant_of-self-in-Ok-renew c =
+pub invariant_of-self-2 : goal.invariant_of-self-2
+invariant_of-self-2 c =
     let r = c.self.inside in
-    let e = edit_of c.args.edit in
-    let k = c.in-Ok-renew.ensures in
-    edit_right r c.self.view_is c.requires c.self.invariant e c.keep-in-Ok-renew.new.self
-    (rw c.keep-in-Ok-renew.ensures c.in_ok-undo-2.ensures.done)
-    c.note_alone.new.touched (c.in_ok-note_alone.ensures (map_of r.roads) _ e c.in-Ok.ensures.plan)
-    (items c.renew.new.paths) c.in-Ok-renew.entries.items c.renew.new.work c.renew.new.spared
-    (rw c.keep-in-Ok-renew.ensures (rw (c.new-none.ensures (items r.paths)) at k.renewed)) _ c.in-Ok.ensures.plan.placed
-    (rw c.keep-in-Ok-renew.ensures k.bounded)
+    let k = c.in-Ok-renewed.ensures in
+    edit_right r c.self.view_is c.requires c.self.invariant (edit_of c.args.edit) c.keep.new.self
+    (rw c.keep.ensures c.in_ok-undo.ensures.done) c.make_noted.new.touched c.in_ok-undo.ensures.noted
+    (items c.renew-renewed.new.paths) c.in-Ok-renewed.entries.items c.renew-renewed.new.work
+    c.renew-renewed.new.spared (rw c.keep.ensures (rw (c.new-none.ensures (items r.paths)) at k.renewed)) _
+    c.in-Ok.ensures.plan.placed (rw c.keep.ensures k.bounded)
 
-pub returns-in-Ok-renew : goal.returns-in-Ok-renew
-returns-in-Ok-renew c =
+pub returns : goal.returns
+returns c =
     let r = c.self.inside in
-    let e = edit_of c.args.edit in
-    let k = c.in-Ok-renew.ensures in
-    edit_done r c.self.view_is c.requires c.self.invariant e c.keep-in-Ok-renew.new.self
-    (rw c.keep-in-Ok-renew.ensures c.in_ok-undo-2.ensures.done)
-    c.note_alone.new.touched (c.in_ok-note_alone.ensures (map_of r.roads) _ e c.in-Ok.ensures.plan)
-    (items c.renew.new.paths) c.in-Ok-renew.entries.items c.renew.new.work c.renew.new.spared
-    (rw c.keep-in-Ok-renew.ensures (rw (c.new-none.ensures (items r.paths)) at k.renewed)) _ refl k.rises k.kept
+    let k = c.in-Ok-renewed.ensures in
+    edit_done r c.self.view_is c.requires c.self.invariant (edit_of c.args.edit) c.keep.new.self
+    (rw c.keep.ensures c.in_ok-undo.ensures.done) c.make_noted.new.touched c.in_ok-undo.ensures.noted
+    (items c.renew-renewed.new.paths) c.in-Ok-renewed.entries.items c.renew-renewed.new.work
+    c.renew-renewed.new.spared (rw c.keep.ensures (rw (c.new-none.ensures (items r.paths)) at k.renewed)) _ refl k.rises k.kept

@@ -3,23 +3,22 @@ use Rattle.olr_register.proofs.BatchSteps.{answered_held}
 use Rattle.olr_register.proofs.States.{kept_moved}
 use Rattle.olr_register.proofs.register.Register.hold.Goals as goal
 
-pub hold-result-requires : goal.hold-result-requires
-hold-result-requires c =
+pub hold-requires : goal.hold-requires
+hold-requires c =
     let s = c.self.inside in
-    let right : IsKeptRight s.roads (items s.paths) (Some c.in-Some.batch) s.near =
-    rw c.in-Some.ensures.value c.self.invariant in
+    let right : IsKeptRight s.roads (items s.paths) (Some c.in-Some.batch) s.near = rw (← c.in-Some.is) c.self.invariant in
     right.register.held
 
 pub invariant_of-self : goal.invariant_of-self
 invariant_of-self c =
     let s = c.self.inside in
-    kept_moved s.roads c.hold-result.new.roads (items s.paths) (Some c.in-Some.batch) _ s.near
-    c.hold-result.ensures.before c.hold-result.ensures.held (rw c.in-Some.ensures.value c.self.invariant)
+    kept_moved s.roads c.hold.new.roads (items s.paths) (Some c.in-Some.batch) _ s.near c.hold.ensures.before
+    c.hold.ensures.held (rw (← c.in-Some.is) c.self.invariant)
 
 pub returns : goal.returns
 returns c =
     let s = c.self.inside in
     let b = c.in-Some.batch in
-    rw (← c.self.view_is, ← c.in-Some.ensures.value, c.hold-result.ensures.before)
-    (answered_held (content_on (map_before s.roads b.log) (items s.paths)) s.roads c.hold-result.new.roads (items s.paths)
-    b c.hold-result.new.self (change_of c.args.change) s.work s.spared c.hold-result.result c.hold-result.ensures)
+    rw (← c.self.view_is, c.in-Some.is, c.hold.ensures.before)
+    (answered_held (content_on (map_before s.roads b.log) (items s.paths)) s.roads c.hold.new.roads (items s.paths) b
+    c.hold.new.self (change_of c.args.change) s.work s.spared c.hold.result c.hold.ensures)

@@ -1,4 +1,6 @@
-use Rattle.olr_register.proofs.Common.{None, content_on}
+use Rattle.olr_register.proofs.Common.{None, map_of, content_on}
+use Rattle.olr_commands.proofs.HistoryLemmas.{start_sound}
+use Rattle.olr_register.proofs.Bounded.{right_without}
 use Rattle.olr_register.proofs.States.{register_of}
 use Rattle.olr_register.proofs.register.Register.new.Goals as goal
 
@@ -7,3 +9,16 @@ pub returns : goal.returns
 returns c = λ i.
     register_of (content_on (c.new.ensures i) (c.new-2.ensures i)) None
     (record { encodings = 0; searches = 0; settled = 0 }) 0
+
+pub invariant_of-result : goal.invariant_of-result
+invariant_of-result c = record {
+  register = record {
+    content = rw (c.new.ensures, c.new-2.ensures) start_sound.content;
+    made = rw c.new-2.ensures tt;
+    held = tt;
+  };
+  bounded = record {
+    right = right_without (map_of c.new.result) c.new-5.result c.new-5.ensures.bounds;
+    sources = λ v on. absurd (rw c.new-2.ensures at on);
+  };
+}

@@ -12,8 +12,7 @@ entries-requires c =
 pub returns : goal.returns
 returns c =
     let r = c.self.inside in
-    rw (← c.self.view_is)
-    (answered_same _ _ _ refl (λ xs. refl) (λ o. (
+    rw (← c.self.view_is) (answered_same _ _ _ refl (λ xs. refl) (λ o. (
       refl,
       reported_all (map_kept r.roads r.batch) (items r.paths) _
           c.self.invariant.register.made c.in_ok-entries.ensures.reported,
@@ -21,6 +20,5 @@ returns c =
 
 pub returns-in_err-entries : goal.returns-in_err-entries
 returns-in_err-entries c =
-    rw (← c.self.view_is)
-    (refused_same _ _ _ No_memory c.from_residual.ensures.1
+    rw (← c.self.view_is) (refused_same _ _ _ No_memory c.from_residual.ensures.1
     (λ o. Lacks_memory refl (rw (some_named (items c.self.inside.paths) c.in_err-entries.ensures.lacks))))

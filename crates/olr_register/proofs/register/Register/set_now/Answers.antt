@@ -14,18 +14,16 @@ pub returns-in_err-path : goal.returns-in_err-path
 returns-in_err-path c =
     let y = Set_path c.args.name.now (path_by c.args.parts) in
     refused_now c.self.inside c.self.view_is c.requires y _ c.from_residual.result c.in_err-path.field-0.0 refl
-    c.from_residual.ensures.1
-    (may_refuse _ y _ refl (set_refused _ c.args.name.now (path_by c.args.parts) (not c.has-missing.result) _
-    (ap not c.has-missing.ensures) c.in_err-path.ensures.fault))
+    c.from_residual.ensures.1 (may_refuse _ y _ refl (set_refused _ c.args.name.now (path_by c.args.parts)
+    (not c.has-missing.result) _ (ap not c.has-missing.ensures) c.in_err-path.ensures.fault))
 
 pub returns-in_err-entries : goal.returns-in_err-entries
 returns-in_err-entries c =
     let y = Set_path c.args.name.now (path_by c.args.parts) in
-    refused_now c.self.inside c.self.view_is c.requires y _ c.from_residual-in_err-entries.result rust.Memory
+    refused_now c.self.inside c.self.view_is c.requires y _ _ rust.Memory
     (rw (c.in_err-entries.ensures.err, c.in_err-entries.ensures.err_work) c.self.view_is)
-    c.from_residual-in_err-entries.ensures.1
-    (may_refuse _ y _ refl (set_refused _ c.args.name.now (path_by c.args.parts) (not c.has-missing.result) _
-    (ap not c.has-missing.ensures) c.in_ok-path.ensures.lacks))
+    c.from_residual-in_err-entries.ensures.1 (may_refuse _ y _ refl (set_refused _ c.args.name.now
+    (path_by c.args.parts) (not c.has-missing.result) _ (ap not c.has-missing.ensures) c.in_ok-path.ensures.lacks))
 
 pub invariant_of-self-2 : goal.invariant_of-self-2
 invariant_of-self-2 c =

@@ -7,8 +7,7 @@ use Rattle.olr_register.proofs.Replies.{answer_held}
 use Rattle.olr_register.proofs.register.Register.show.Goals as goal
 
 pub returns-then-not-has : goal.returns-then-not-has
-returns-then-not-has c =
-    rw (← c.self.view_is) (refused_same _ _ _ _ refl (λ o. ByState (rw (← c.if-not-has.ensures))))
+returns-then-not-has c = rw (← c.self.view_is) (refused_same _ _ _ _ refl (λ o. ByState (rw (← c.if-not-has.ensures))))
 
 pub entry-requires : goal.entry-requires
 entry-requires c =
@@ -20,16 +19,14 @@ entry-requires c =
 
 pub returns-in_err-entry : goal.returns-in_err-entry
 returns-in_err-entry c =
-    rw (← c.self.view_is)
-    (refused_same _ _ _ Memory c.from_residual.ensures.1 (λ o. Lacks refl (rw (← c.if-not-has.ensures))))
+    rw (← c.self.view_is) (refused_same _ _ _ Memory c.from_residual.ensures.1 (λ o. Lacks refl (rw (← c.if-not-has.ensures))))
 
 pub returns : goal.returns
 returns c =
     let r = c.self.inside in
     let h = c.self.invariant.register in
     let returned = c.in_ok-entry.ensures in
-    rw (← c.self.view_is)
-    (answered_same _ _ _ refl (λ xs. refl) (λ o. (
+    rw (← c.self.view_is) (answered_same _ _ _ refl (λ xs. refl) (λ o. (
       rw (← c.if-not-has.ensures),
       (
         returned.0,
@@ -40,6 +37,5 @@ returns c =
 
 pub returns-in_err-one_entry : goal.returns-in_err-one_entry
 returns-in_err-one_entry c =
-    rw (← c.self.view_is)
-    (refused_same _ _ _ Memory c.from_residual-in_err-one_entry.ensures.1
+    rw (← c.self.view_is) (refused_same _ _ _ Memory c.from_residual-in_err-one_entry.ensures.1
     (λ o. Lacks refl (rw (← c.if-not-has.ensures))))
