@@ -27,7 +27,9 @@ pub use Rattle.olr_spec.specs.Map.{Add_line, Add_node, Drop_line, Drop_node, Edi
 pub use Rattle.olr_spec.specs.Map.{Move_node, Set_line, ShapePoint, are_coords, edited, end, no_line, start}
 pub use Rattle.std.proofs.lemmas.Bool.{and_parts, cases_eq, eq-eqb, le-leb, leb-true, ne_eqb}
 pub use Rattle.std.proofs.lemmas.Bool.Decides.{nat_tests}
+pub use Rattle.std.proofs.Common.{arith}
 pub use Rattle.std.proofs.lemmas.Fmt.{decimal_nonempty, digits_decimal, digits_value-decimal, length-decimal-le}
+pub use Rattle.std.proofs.lemmas.Grind.{common_steps}
 pub use Rattle.std.proofs.lemmas.List.{append-nil, drop_all, length-append, length-drop, length-map, length-take}
 pub use Rattle.std.proofs.lemmas.List.{map-append, take_all, take_more}
 pub use Rattle.std.specs.Char.{is_ascii_digit}

@@ -1,16 +1,13 @@
 -- Commands whose changes have records lead to contents that have records.
-use Rattle.olr_records.proofs.Common.{IfSome, list_all, AllByRecursion, and_parts, eq-eqb, Coord, is_coord, Line, Edit}
-use Rattle.olr_records.proofs.Common.{Add_node, Move_node, Drop_node, Add_line, Set_line, Drop_line, Path, Change}
-use Rattle.olr_records.proofs.Common.{On_map, Add_path, Set_path, Drop_path, Make, is_name, is_number, is_amount}
-use Rattle.olr_records.proofs.Common.{is_place, are_attributes, has_record, Recorded, cases_eq, ne_eqb, Map, MapFault}
-use Rattle.olr_records.proofs.Common.{no_line, start, end, edited, is_recordable_coord, is_recordable_shape, IsRecorded}
-use Rattle.olr_records.proofs.Common.{StaysRecorded}
+use Rattle.olr_records.proofs.Common.{IfSome, Line, Add_path, Set_path, is_place, Recorded, cases_eq, MapFault, no_line}
+use Rattle.olr_records.proofs.Common.{list_all, is_coord, Add_node, Add_line, Set_line, Drop_path, is_number, is_amount}
+use Rattle.olr_records.proofs.Common.{AllByRecursion, is_name, are_attributes, is_recordable_coord, is_recordable_shape}
+use Rattle.olr_records.proofs.Common.{and_parts, Move_node, Drop_node, Drop_line, has_record, IsRecorded, StaysRecorded}
+use Rattle.olr_records.proofs.Common.{eq-eqb, Coord, Edit, Path, Change, On_map, Make, ne_eqb, Map, start, end, edited}
 use Rattle.std.proofs.Common.{rules, arith, ◌≡◌, ℕ, Bool, true, List, [], ◌∷◌, ◌++◌, map, Option, Some, None}
 use Rattle.std.proofs.Common.{unwrap_or, Result, Ok, Err, IsTrue, refl, sym, ◌∙◌, subst, filter, is_some, nat_cmp}
-use Rattle.olr_commands.specs.State.{Command, Begin, Commit, Abort, Named, Content}
-use Rattle.olr_commands.specs.State.{with_path, with_map}
-use Rattle.olr_commands.specs.State.{with_change, after, no_content, is_recordable, start_state, State}
-use Rattle.olr_commands.specs.State.{step}
+use Rattle.olr_commands.specs.State.{Command, Begin, Commit, Abort, Named, Content, with_path, with_map, with_change}
+use Rattle.olr_commands.specs.State.{after, no_content, is_recordable, start_state, State, step}
 use Rattle.std.specs.Prelude.{◌&&◌}
 use Rattle.std.specs.FinMap.{FinMap, get, insert, remove, empty, entries, entries_sorted, get-entries, get-empty}
 use Rattle.std.specs.FinMap.Entries.{find}

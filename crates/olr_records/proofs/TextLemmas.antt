@@ -5,7 +5,7 @@ use Rattle.std.proofs.Common.{◌≡◌, ℕ, ◌+◌, ◌<◌, List, [], ◌∷
 use Rattle.std.proofs.Common.{◌≤◌, ◌^◌, get_or}
 use Rattle.std.specs.Prelude.{codes}
 use Rattle.std.proofs.lemmas.List.Folds.{concat-append}
-use Rattle.olr_spec.specs.Reference.{Middle, Reference}
+use Rattle.olr_spec.specs.Reference.{Reference}
 use Rattle.olr_commands.specs.declared.reply.Entry.{Entry}
 use Rattle.olr_records.specs.ReplyText.{reply_line, accepted_text, first_line, last_line, offset_lines, reference_lines}
 
@@ -15,7 +15,7 @@ pub fields_line_of : (t w a b : List ℕ) (fs : List (List ℕ))
 fields_line_of t w a b fs = grind (arith, append_assoc, joined)
 
 -- the lines with those of one item more
-lines_more : {A : Type 0} (f : A → List ℕ) (t : List ℕ) (xs : List A) (k : ℕ) (d : A) → k < length xs
+pub lines_more : {A : Type 0} (f : A → List ℕ) (t : List ℕ) (xs : List A) (k : ℕ) (d : A) → k < length xs
     → (t ++ concat (map f (take k xs))) ++ f (get_or xs k d) ≡ t ++ concat (map f (take (k + 1) xs))
 lines_more f t xs k d lt =
     grind (
@@ -26,16 +26,6 @@ lines_more f t xs k d lt =
       concat-append (map f (take k xs)) (f (get_or xs k d) ∷ []),
       append_assoc t (concat (map f (take k xs))) (f (get_or xs k d)),
     )
-
-pub entries_more : (t : List ℕ) (es : List Entry) (k : ℕ) (d : Entry) → k < length es
-    → (t ++ concat (map (λ e. entry_line (entry_of e)) (take k es))) ++ entry_line (entry_of (get_or es k d))
-    ≡ t ++ concat (map (λ e. entry_line (entry_of e)) (take (k + 1) es))
-entries_more t es k d lt = lines_more (λ e. entry_line (entry_of e)) t es k d lt
-
-pub points_more : (t : List ℕ) (ps : List Middle) (k : ℕ) (d : Middle) → k < length ps
-    → (t ++ concat (map middle_line (take k ps))) ++ middle_line (get_or ps k d)
-    ≡ t ++ concat (map middle_line (take (k + 1) ps))
-points_more t ps k d lt = lines_more middle_line t ps k d lt
 
 pub entry_lines : (es : List Entry) → map (λ e. entry_line (entry_of e)) es ≡ map entry_line (map entry_of es)
 entry_lines [] = refl

@@ -1,13 +1,12 @@
 -- The record of a change is read as this change.
-use Rattle.olr_records.proofs.Common.{decimal, if◌then◌else◌, list_all, and_parts, leb-true, digits_decimal, Coord}
-use Rattle.olr_records.proofs.Common.{degrees, ShapePoint, Edit, Add_node, Move_node, Drop_node, Add_line, Set_line}
-use Rattle.olr_records.proofs.Common.{Drop_line, Path, degrees_text, has_degrees_text, own, Change, On_map, Add_path}
-use Rattle.olr_records.proofs.Common.{Set_path, Drop_path, Make, is_name, fields_of_coord, fields_of_shape}
-use Rattle.olr_records.proofs.Common.{fields_of_path, fields_of_change, Field, Bad_form, value_or_fault, max32, number}
-use Rattle.olr_records.proofs.Common.{amount, class, coordinate, place, name, numbers, point, shape, ◌⊛◌, edit}
-use Rattle.olr_records.proofs.Common.{node_record, attributes, read, path_fields, is_number, is_amount, is_place}
-use Rattle.olr_records.proofs.Common.{is_point, are_attributes, is_named_path, has_record, le-leb, digits_value-decimal}
-use Rattle.olr_records.proofs.Common.{decimal_nonempty, degrees-read}
+use Rattle.olr_records.proofs.Common.{decimal, if◌then◌else◌, degrees_text, are_attributes, is_named_path, degrees-read}
+use Rattle.olr_records.proofs.Common.{list_all, leb-true, Add_node, Add_line, Set_line, Add_path, Set_path, Bad_form}
+use Rattle.olr_records.proofs.Common.{and_parts, Edit, Move_node, Drop_node, Drop_line, Drop_path, is_number, is_amount}
+use Rattle.olr_records.proofs.Common.{digits_decimal, fields_of_coord, fields_of_shape, fields_of_path, value_or_fault}
+use Rattle.olr_records.proofs.Common.{Coord, has_degrees_text, fields_of_change, digits_value-decimal, decimal_nonempty}
+use Rattle.olr_records.proofs.Common.{degrees, ShapePoint, coordinate, node_record, attributes, path_fields, has_record}
+use Rattle.olr_records.proofs.Common.{Path, Make, Field, max32, class, place, name, point, shape, ◌⊛◌, edit, read}
+use Rattle.olr_records.proofs.Common.{own, Change, On_map, is_name, number, amount, numbers, is_place, is_point, le-leb}
 use Rattle.std.proofs.Common.{◌≡◌, ℕ, ◌<◌, ◌^◌, ℤ, Bool, true, ◌&&◌, List, [], ◌∷◌, map, Ok, nat_le, IsTrue, refl, ◌∙◌}
 use Rattle.std.proofs.Common.{arith}
 use Rattle.std.specs.Prelude.{Err}

@@ -1,13 +1,11 @@
 //! The fields of a record, each checked for its form and then for its range.
 ghost use Rattle.std.specs.Prelude.{◌≡◌, ◌≤◌, ◌^◌, [], IsTrue, IfOk, IfSome, is_some, length, min, slice_index_or};
-ghost use Rattle.std.specs.Prelude.{string_bytes, ⊤};
+ghost use Rattle.std.specs.Prelude.{string_bytes, OnErr, Some, ⊤};
 ghost use Rattle.std.specs.Char.{is_ascii_digit};
 ghost use Rattle.std.specs.List.{list_all};
 ghost use Rattle.csv.specs.Records.{fields_of};
 ghost use Rattle.olr_spec.specs.Degrees.{are_digits, digits_value};
 ghost use Rattle.olr_spec.specs.Degrees as text_of;
-ghost use Rattle.olr_spec.specs.Coordinates.{is_longitude, is_latitude};
-ghost use Rattle.olr_coords.specs.Bounds.{is_degrees};
 ghost use Rattle.olr_records.specs.Records as records;
 ghost use Rattle.olr_records.specs.Words.{Gathers, Reads};
 
@@ -41,7 +39,6 @@ pub(crate) fn field(fields: &ByteRecord, k: usize) -> &[u8]
 }
 
 /// The value of digits, which fits 64 bits. None if there is another byte among them.
-#[tactic(auto, using(crate::proofs::FieldLemmas::front_small))]
 fn few_digits(field: &[u8]) -> Option<u64>
     requires { length field.now ≤ 19 }
     ensures form { is_some result ≡ list_all is_ascii_digit field.now }
@@ -92,7 +89,9 @@ pub(crate) fn number(field: &[u8], low: u32, high: u32) -> Result<u32, ReadFault
     ensures reads { Reads (λ n. n) (records.digits low high field.now) result }
     ensures within { IfOk result (λ n. (low ≤ n) × (n ≤ high)) }
 {
-    let value = value(field).ok_or(ReadFault::Syntax)?;
+    let Some(value) = value(field) else {
+        return Err(ReadFault::Syntax);
+    };
     if u64::from(low) <= value && value <= u64::from(high) {
         Ok(value as u32)
     } else {
@@ -135,9 +134,11 @@ pub(crate) fn length(field: &[u8]) -> Result<u32, ReadFault>
     number(field, 1, GREATEST_LENGTH)
 }
 
-/// A longitude or a latitude in units, from -180 to 180 degrees.
+/// Degrees in units, from -180 to 180 degrees. The ranges of longitudes and of latitudes are narrower.
 fn degrees(field: &[u8]) -> Result<i64, ReadFault>
-    ensures { Reads (λ z. z) (records.coordinate is_degrees (text_of.degrees field.now)) result }
+    ensures ok { IfOk result (λ z. text_of.degrees field.now ≡ Some z) }
+    ensures lon { OnErr result (Reads (λ z. z) (records.longitude field.now) result) }
+    ensures lat { OnErr result (Reads (λ z. z) (records.latitude field.now) result) }
 {
     match read_degrees(field) {
         Ok(units) => Ok(units),
@@ -146,37 +147,11 @@ fn degrees(field: &[u8]) -> Result<i64, ReadFault>
     }
 }
 
-/// A longitude in units, in the range of longitudes.
-fn longitude(field: &[u8]) -> Result<i64, ReadFault>
-    ensures reads { Reads (λ z. z) (records.longitude field.now) result }
-    ensures within { IfOk result (λ z. IsTrue (is_longitude z)) }
-{
-    let units = degrees(field)?;
-    if Coord::new(units, 0).is_some() {
-        Ok(units)
-    } else {
-        Err(ReadFault::Range)
-    }
-}
-
-/// A latitude in units, in the range of latitudes.
-fn latitude(field: &[u8]) -> Result<i64, ReadFault>
-    ensures reads { Reads (λ z. z) (records.latitude field.now) result }
-    ensures within { IfOk result (λ z. IsTrue (is_latitude z)) }
-{
-    let units = degrees(field)?;
-    if Coord::new(0, units).is_some() {
-        Ok(units)
-    } else {
-        Err(ReadFault::Range)
-    }
-}
-
 /// A coordinate, by its longitude and its latitude.
 pub(crate) fn coord(lon: &[u8], lat: &[u8]) -> Result<Coord, ReadFault>
     ensures { Reads (λ c. c) (records.place lon.now lat.now) result }
 {
-    let (lon, lat) = both(longitude(lon), latitude(lat))?;
+    let (lon, lat) = both(degrees(lon), degrees(lat))?;
     Coord::new(lon, lat).ok_or(ReadFault::Range)
 }
 

@@ -1,5 +1,5 @@
 //! Commands, decoded from records.
-ghost use Rattle.std.specs.Prelude.{drop, Ok};
+ghost use Rattle.std.specs.Prelude.{◌≡◌, ◌≢◌, ◌↔◌, codes, drop, IsTrue, Ok};
 ghost use Rattle.csv.specs.Records.{fields_of};
 ghost use Rattle.olr_commands.specs.State.{Explain, Commit};
 ghost use Rattle.olr_commands.specs.Words.{command_of};
@@ -30,38 +30,54 @@ pub fn read_command(alloc: Global, fields: &ByteRecord) -> Result<Command, ReadF
 fn read_by(alloc: Global, word: &[u8], fields: &ByteRecord) -> Result<Command, ReadFault>
     ensures { IsRead (records.read_by records.forms word.now (drop 1 (fields_of fields.now))) result }
 {
-    let is = |text: &[u8]| word == text;
-    if is(b"line") {
+    if is(word, b"line") {
         add_line(alloc, fields)
-    } else if is(b"node") {
+    } else if is(word, b"node") {
         add_node(fields)
-    } else if is(b"explain") {
+    } else if is(word, b"explain") {
         explain(alloc, fields)
-    } else if is(b"path") {
+    } else if is(word, b"path") {
         add_path(alloc, fields)
-    } else if is(b"set-line") {
+    } else if is(word, b"set-line") {
         set_line(alloc, fields)
-    } else if is(b"move") {
+    } else if is(word, b"move") {
         move_node(fields)
-    } else if is(b"drop-line") {
+    } else if is(word, b"drop-line") {
         drop_line(fields)
-    } else if is(b"drop-node") {
+    } else if is(word, b"drop-node") {
         drop_node(fields)
-    } else if is(b"begin") {
+    } else {
+        read_rarer(alloc, word, fields)
+    }
+}
+
+/// Whether a word is this text.
+fn is(word: &[u8], text: &[u8]) -> bool
+    ensures { IsTrue result ↔ (word.now ≡ text.now) }
+{
+    word == text
+}
+
+/// The same, for a word that `read_by` doesn't know.
+fn read_rarer(alloc: Global, word: &[u8], fields: &ByteRecord) -> Result<Command, ReadFault>
+    requires { word.now ≢ codes "explain" }
+    ensures { IsRead (records.read_by (drop 7 records.forms) word.now (drop 1 (fields_of fields.now))) result }
+{
+    if is(word, b"begin") {
         single_word(fields, Command::Begin)
-    } else if is(b"abort") {
+    } else if is(word, b"abort") {
         single_word(fields, Command::Abort)
-    } else if is(b"repath") {
+    } else if is(word, b"repath") {
         set_path(alloc, fields)
-    } else if is(b"report") {
+    } else if is(word, b"report") {
         single_word(fields, Command::Report)
-    } else if is(b"commit") {
+    } else if is(word, b"commit") {
         commit(fields)
-    } else if is(b"dump") {
+    } else if is(word, b"dump") {
         single_word(fields, Command::Dump)
-    } else if is(b"drop-path") {
+    } else if is(word, b"drop-path") {
         drop_path(alloc, fields)
-    } else if is(b"show") {
+    } else if is(word, b"show") {
         show(alloc, fields)
     } else {
         Err(ReadFault::Syntax)

@@ -50,8 +50,7 @@ fn push_count(text: &mut Vec<u8>, word: &[u8], count: usize) -> Result<(), Alloc
 {
     text.extend_from_slice(word)?;
     push_number(text, count)?;
-    text.push(b'\n')?;
-    Ok(())
+    text.extend_from_slice(b"\n")
 }
 
 /// The number of paths, and each path with its string or the reason why it has none.
@@ -64,7 +63,6 @@ fn push_paths(text: &mut Vec<u8>, entries: &[Entry]) -> Result<(), AllocError>
 }
 
 /// The lines of these paths.
-#[tactic(auto, using(crate::proofs::TextLemmas::entries_more))]
 fn push_entries(text: &mut Vec<u8>, entries: &[Entry]) -> Result<(), AllocError>
     ensures { OnOk result (text.new.items
         ≡ text.old.items ++ concat (map (λ e. texts.entry_line (entry_of e)) entries.now)) }
@@ -90,8 +88,7 @@ fn push_entry(text: &mut Vec<u8>, entry: &Entry) -> Result<(), AllocError>
             push_refusal(text, *refusal)?;
         }
     }
-    text.push(b'\n')?;
-    Ok(())
+    text.extend_from_slice(b"\n")
 }
 
 /// The number of a reason, and what it names.
@@ -99,20 +96,16 @@ fn push_refusal(text: &mut Vec<u8>, refusal: Refusal) -> Result<(), AllocError>
     ensures { OnOk result (text.new.items
         ≡ text.old.items ++ after_commas (texts.refusal_fields (refusal_of refusal))) }
 {
-    match refusal {
-        Refusal::UnknownLine(line) => {
-            push_field(text, b"1")?;
-            push_number(text, line.number())
-        }
-        Refusal::Broken(k) => {
-            push_field(text, b"2")?;
-            push_number(text, k)
-        }
-        Refusal::OffsetTooLong => push_field(text, b"3"),
-        Refusal::NoNextPoint(k) => {
-            push_field(text, b"4")?;
-            push_number(text, k)
-        }
+    let (reason, named) = match refusal {
+        Refusal::UnknownLine(line) => (b"1", Some(line.number() as usize)),
+        Refusal::Broken(k) => (b"2", Some(k)),
+        Refusal::OffsetTooLong => (b"3", None),
+        Refusal::NoNextPoint(k) => (b"4", Some(k)),
+    };
+    push_field(text, reason)?;
+    match named {
+        Some(number) => push_number(text, number),
+        None => Ok(()),
     }
 }
 
@@ -129,8 +122,7 @@ fn push_reference(text: &mut Vec<u8>, reference: &Reference) -> Result<(), Alloc
     push_points(text, points)?;
     push_last(text, reference.last)?;
     push_offset(text, b"positive", reference.pos)?;
-    push_offset(text, b"negative", reference.neg)?;
-    Ok(())
+    push_offset(text, b"negative", reference.neg)
 }
 
 /// The number of records, and the records as they are.
@@ -154,7 +146,6 @@ fn offset_count(offset: Option<u8>) -> usize
 }
 
 /// The lines of the LRPs between the first and the last.
-#[tactic(auto, using(crate::proofs::TextLemmas::points_more))]
 fn push_points(text: &mut Vec<u8>, points: &[Middle]) -> Result<(), AllocError>
     ensures { OnOk result (text.new.items
         ≡ text.old.items ++ concat (map texts.middle_line points.now)) }
@@ -203,10 +194,12 @@ fn push_offset(text: &mut Vec<u8>, word: &[u8], offset: Option<u8>) -> Result<()
     ensures { OnOk result (text.new.items
         ≡ text.old.items ++ concat (texts.offset_lines word.now offset)) }
 {
-    if let Some(byte) = offset {
-        text.extend_from_slice(word)?;
-        push_number(text, byte)?;
-        text.push(b'\n')?;
+    match offset {
+        Some(byte) => {
+            text.extend_from_slice(word)?;
+            push_number(text, byte)?;
+            text.extend_from_slice(b"\n")
+        }
+        None => Ok(()),
     }
-    Ok(())
 }

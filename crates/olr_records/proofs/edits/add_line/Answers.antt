@@ -1,5 +1,5 @@
 use Rattle.olr_records.proofs.Common.{fields_of, ShapePoint, Line, Edit, Add_line, Make, On_map, Field, Read, ◌⊛◌}
-use Rattle.olr_records.proofs.Common.{number, attributes, line_between, HoldsList, Reads, LineAttributes}
+use Rattle.olr_records.proofs.Common.{number, attributes, line_between, HoldsList, Reads, LineAttributes, common_steps}
 use Rattle.std.proofs.Common.{rules, arith, ℕ, ◌<◌, List, drop, length, Ok, subst}
 use Rattle.olr_records.proofs.LoopLemmas.{at}
 use Rattle.olr_records.proofs.PartLemmas.{no-memory, first-part, parts, made-part, both-parts, handed-on}
@@ -34,3 +34,6 @@ returns-in_err-id c =
     c.line_id.result c.both-line.result c.both.result c.both.ensures (λ g b never. absurd never) (λ a b some. some)
     (no-memory (λ _. ⊥) _ front c.line_id.result (first-part _ (λ n. n) (number (at fs 1)) c.line_id.result id))
     line)))
+
+pub returns : goal.returns
+returns c = grind (arith, common_steps)

@@ -15,9 +15,7 @@ returns-in_err-id c =
     let both =
     both-parts (λ _. ⊥) (λ p. 0 < length p.3) (λ e. HoldsList (Make (On_map e))) _
     (λ (k : LineAttributes). (k.frc, k.fow, k.len, k.shape.items)) front rest c.line_id.result c.attributes_at.result
-    c.both.result
-    c.both.ensures
-    (λ g b never. absurd never) (λ a b some. some)
+    c.both.result c.both.ensures (λ g b never. absurd never) (λ a b some. some)
     (no-memory (λ _. ⊥) _ front c.line_id.result (first-part _ (λ n. n) (number (at fs 1)) c.line_id.result id))
     c.attributes_at.ensures in
     rw (set-line-record fs (omega arith))

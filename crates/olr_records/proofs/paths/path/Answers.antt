@@ -1,4 +1,4 @@
-use Rattle.olr_records.proofs.Common.{⊤, fields_of, Path, Field, ◌⊛◌, amount, name, numbers, Reads, Gathers}
+use Rattle.olr_records.proofs.Common.{⊤, fields_of, Path, Field, ◌⊛◌, amount, name, numbers, Reads, Gathers, common_steps}
 use Rattle.std.proofs.Common.{rules, arith, ℕ, List, drop, Ok, subst}
 use Rattle.std.specs.Prelude.{string_bytes}
 use Rattle.olr_records.proofs.LoopLemmas.{at}
@@ -17,8 +17,7 @@ returns-in_err-name c =
     let neg = subst (λ (f : Field). Reads (λ n. n) (amount f) c.amount-2.result) c.field-3.ensures c.amount-2.ensures in
     let started =
     both-parts (λ _. ⊤) (λ _. ⊤) (λ _. ⊤) _ (λ n. n) front (amount (at fs 2)) c.name.result c.amount.result
-    c.both-started.result c.both-started.ensures
-    (λ g b h. tt) (λ a b h. tt)
+    c.both-started.result c.both-started.ensures (λ g b h. tt) (λ a b h. tt)
     (made-part (λ _. ⊤) (λ _. ⊤) whole string_bytes (name (at fs 1)) c.name.result (λ b h. tt) named)
     (no-memory (λ _. ⊤) (λ n. n) (amount (at fs 2)) c.amount.result pos) in
     let offset =
@@ -31,3 +30,6 @@ returns-in_err-name c =
     (both-parts (λ _. ⊤) (λ _. ⊤) (λ _. ⊤) _ (λ v. v.items) (front ⊛ amount (at fs 2) ⊛ amount (at fs 3))
     (numbers (drop 4 fs)) c.both-offset.result c.line_ids.result c.both.result c.both.ensures
     (λ g b h. tt) (λ a b h. tt) offset c.line_ids.ensures))
+
+pub returns : goal.returns
+returns c = grind (arith, common_steps)
