@@ -1,11 +1,11 @@
 -- The ends of the program.
 use Rattle.olr_run.proofs.Common.{Bor, fault_of, Registered, Opens, Ends, Claims, Known, known_records, known_both}
 use Rattle.olr_run.proofs.Common.{RanOn, FaultedOn, HasTooMany, exit_code, RunFault, Options, keep_app, options, IsFile}
-use Rattle.olr_run.proofs.Common.{OpensFile, Not_opened, Cut_off, known_file}
-use Rattle.std.proofs.Common.{arith, ◌≡◌, ℕ, List, [], Option, Some, None, Result, Ok, Err, refl, sym, ap, ◌∙◌}
-use Rattle.std.proofs.Common.{◌⊎◌}
+use Rattle.olr_run.proofs.Common.{OpensFile, Not_opened, Cut_off, known_file, IfErr}
+use Rattle.std.proofs.Common.{arith, ◌≡◌, ℕ, List, [], Option, Some, None, Result, Ok, Err, refl, sym, ap, ◌∙◌, ◌⊎◌}
 use Rattle.olr_run.specs.declared.ends.Status.{Status}
 use Rattle.std.specs.Fn.{Once}
+use Rattle.std.specs.Prelude.{IfOk}
 use Rattle.olr_run.specs.Ends.{Ran}
 use Rattle.olr_run.specs.declared.ends.RunFault.TheVariants as fault
 
@@ -36,19 +36,15 @@ module _ {O F E : Type 0} (call : Once O (Bor (List ℕ) × Unit {0}) (Result F 
         IsFile (options arguments).file (Opens call remaining opener) (known_file remaining file)
     opened file h = grind (arith, file_is)
 
-    pub ran_to_its_end : (file : Option F) (new : Registered) (later : Known) (end : Status) (code : ℕ) →
+    pub ended_as : (file : Option F) (new : Registered) (later : Known) (r : Result Status RunFault) (code : ℕ) →
         OpensFile call opener o.file (Ok file)
-        → RanOn Claims o.stop old (known_both (known_records (known_file remaining file)) (known_records input)) before
-        new later end → code ≡ exit_code (Ok end)
-        → Ends arguments (Opens call remaining opener) input old before new later code
-    ran_to_its_end file new later end code h run status =
+        → IfOk r (RanOn Claims o.stop old (known_both (known_records (known_file remaining file)) (known_records input))
+        before new later)
+        → IfErr r (FaultedOn Claims o.stop old
+        (known_both (known_records (known_file remaining file)) (known_records input)) before new later)
+        → IfErr r (λ e. e ≡ fault.TooMany → HasTooMany (known_file remaining file) ⊎ HasTooMany input)
+        → code ≡ exit_code r → Ends arguments (Opens call remaining opener) input old before new later code
+    ended_as file new later (Ok end) code h run _ _ status =
         Ran none (known_file remaining file) (opened file h) end (rw is at run) status
-
-    pub was_cut_off : (file : Option F) (new : Registered) (later : Known) (e : RunFault) (code : ℕ) →
-        OpensFile call opener o.file (Ok file)
-        → FaultedOn Claims o.stop old (known_both (known_records (known_file remaining file)) (known_records input)) before
-        new later e
-        → (e ≡ fault.TooMany → HasTooMany (known_file remaining file) ⊎ HasTooMany input) → code ≡ exit_code (Err e)
-        → Ends arguments (Opens call remaining opener) input old before new later code
-    was_cut_off file new later e code h run many status =
+    ended_as file new later (Err e) code h _ run many status =
         Cut_off none (known_file remaining file) (opened file h) e (rw is at run) many status

@@ -7,17 +7,23 @@ use Rattle.std.specs.Str.{bytes_eq}
 use Rattle.clap.specs.Kinds.{Kinds, IsAmong}
 use Rattle.clap.specs.Simple.{App, on_top, new_app, new_rule, with_rule, matches_of}
 use Rattle.clap.specs.Values.{kind_of}
-use Rattle.clap.specs.Walk.{first_of}
+use Rattle.clap.specs.Walk.{Rule, first_of}
 use Rattle.clap.specs.declared.builder.action.ArgAction.TheVariants.{Set, SetTrue}
 use Rattle.olr_run.specs.declared.arguments.Options.{Options as Arguments}
 use Rattle.olr_run.specs.declared.arguments.OptionsFault.{OptionsFault}
 use Rattle.olr_run.specs.declared.arguments.OptionsFault.TheVariants.{Clap, Memory}
 
+abbrev pub described_app : App
+described_app = on_top (λ s. record s { has_version = true }) (new_app (codes "olr-keep"))
+
+abbrev pub file_rule : Rule
+file_rule = record (new_rule (codes "file")) { short = Some 109; action = Some Set; value_names = 1 }
+
+abbrev pub stop_rule : Rule
+stop_rule = record (new_rule (codes "stop")) { short = Some 115; action = Some SetTrue }
+
 abbrev pub keep_app : App
-keep_app =
-    with_rule (with_rule (on_top (λ s. record s { has_version = true }) (new_app (codes "olr-keep")))
-    (record (new_rule (codes "file")) { short = Some 109; action = Some Set; value_names = 1 }))
-    (record (new_rule (codes "stop")) { short = Some 115; action = Some SetTrue })
+keep_app = with_rule (with_rule described_app file_rule) stop_rule
 
 pub record Options : Type 0 where
   pub file : Option (List ℕ)

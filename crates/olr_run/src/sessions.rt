@@ -31,10 +31,10 @@ impl<R: Read + Drop, W: Write> Session<W> for Reader<R> {
     fn take(&mut self, _output: &mut W, fields: &mut ByteRecord) -> Result<bool, RunFault> {
         match self.read_byte_record(fields) {
             Ok(found) => Ok(found),
-            Err(error) => match error.kind() {
-                ErrorKind::OutOfMemory => Err(RunFault::Memory),
-                _ => Err(RunFault::Read),
-            },
+            Err(error) => Err(match error.kind() {
+                ErrorKind::OutOfMemory => RunFault::Memory,
+                _ => RunFault::Read,
+            }),
         }
     }
 

@@ -11,7 +11,7 @@ ghost use Rattle.olr_run.specs.Runs as runs;
 use crate::arguments::OptionsFault;
 use crate::both::run_both;
 use crate::command_line::options;
-use crate::ends::{RunFault, exit_code};
+use crate::ends::{RunFault, Status, exit_code};
 use crate::output::write_all;
 use olr_register::Register;
 use std::alloc::Global;
@@ -61,10 +61,7 @@ pub fn program<
         return NO_FILE;
     };
     let ended = run_both(alloc, register, file, input, output, options.stop);
-    match ended {
-        Ok(_) => exit_code(&ended),
-        Err(fault) => report_fault(fault, errors),
-    }
+    end_status(ended, errors)
 }
 
 /// Runs the program on a register that begins empty, and returns the exit status.
@@ -120,6 +117,18 @@ pub fn report_fault<E: Write>(fault: RunFault, errors: &mut E) -> u8
 {
     let _ = writeln!(errors, "olr-keep: {fault}");
     exit_code(&Err(fault))
+}
+
+/// The exit status after a run. If it was cut off, writes why.
+fn end_status<E: Write>(ended: Result<Status, RunFault>, errors: &mut E) -> u8
+    ensures code { result ≡ runs.exit_code ended }
+    ensures bounded { result ≤ 4 }
+    ensures quiet { result ≤ 1 → errors.new ≡ errors.old }
+{
+    match ended {
+        Ok(_) => exit_code(&ended),
+        Err(fault) => report_fault(fault, errors),
+    }
 }
 
 /// Writes a text as it is: help or the version.

@@ -1,7 +1,7 @@
 -- Each end of the program, from the contracts of its parts.
-use Rattle.olr_run.proofs.Common.{exit_code, Explained, options_of}
-use Rattle.std.proofs.Common.{refl, ap, ◌∙◌}
-use Rattle.olr_run.proofs.Ending.{not_opened, ran_to_its_end, was_cut_off}
+use Rattle.olr_run.proofs.Common.{Explained, options_of}
+use Rattle.std.proofs.Common.{refl}
+use Rattle.olr_run.proofs.Ending.{not_opened, ended_as}
 use Rattle.olr_run.proofs.streams.program.Goals as goal
 
 pub returns-in-Err-clause-ends : goal.returns-in-Err-clause-ends
@@ -12,14 +12,9 @@ returns-in_default-clause-ends g c =
     not_opened g.O.FnOnce g.F.Read.remaining c.args.opener _ (options_of c.in-Ok.options) _ _ _ c.in-Ok.ensures.kinds
     c.in-Ok.ensures.ok c.in_default.field-0 c.in_default.ensures
 
-pub returns-in-Ok-ended-clause-ends : goal.returns-in-Ok-ended-clause-ends
-returns-in-Ok-ended-clause-ends g c =
-    ran_to_its_end g.O.FnOnce g.F.Read.remaining c.args.opener _ (options_of c.in-Ok.options) _ _ _
-    c.in-Ok.ensures.kinds c.in-Ok.ensures.ok c.in-Ok-open_file.file _ _ c.in-Ok-ended.field-0 _
-    c.in-Ok-open_file.ensures c.in-Ok-ended.ensures.ran (c.exit_code.ensures ∙ ap exit_code c.in-Ok-ended.is)
-
-pub returns-in-Err-ended-clause-ends : goal.returns-in-Err-ended-clause-ends
-returns-in-Err-ended-clause-ends g c =
-    was_cut_off g.O.FnOnce g.F.Read.remaining c.args.opener _ (options_of c.in-Ok.options) _ _ _ c.in-Ok.ensures.kinds
-    c.in-Ok.ensures.ok c.in-Ok-open_file.file _ _ c.in-Err-ended.fault _ c.in-Ok-open_file.ensures
-    c.in-Err-ended.ensures.faulted c.in-Err-ended.ensures.too_many c.report_fault.ensures
+pub returns-clause-ends : goal.returns-clause-ends
+returns-clause-ends g c =
+    let r = c.run_both-ended.ensures in
+    ended_as g.O.FnOnce g.F.Read.remaining c.args.opener _ (options_of c.in-Ok.options) _ _ _ c.in-Ok.ensures.kinds
+    c.in-Ok.ensures.ok c.in-Ok-open_file.file _ _ c.run_both-ended.result _ c.in-Ok-open_file.ensures r.ran r.faulted
+    r.too_many c.end_status.ensures.code
