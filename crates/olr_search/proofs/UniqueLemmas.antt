@@ -11,17 +11,10 @@ module _ (M : Map) (slot : ℕ → ℕ) (s : ℕ) (q : Dijkstra) (h : IsSearch M
   pub way_le : (v : ℕ) (xs : List ℕ) → IsTrue (has_node M v) → IsRoute M s v xs → dm_of M xs ≤ q.limit →
       label_of q.frontier (slot v) ≤ dm_of M xs
   way_le v xs known w le =
+      let there = route_start M h.under_way.labelled.sound s v xs w known in
+      let long : 0 + dm_of M xs ≡ dm_of M xs = omega arith in
       h.settled v (dm_of M xs) known le
-      (record {
-        source = s;
-        begun = 0;
-        lines = xs;
-        listed = first_one (s, 0);
-        there =
-            route_start M h.under_way.labelled.sound s v xs w known;
-        way = w;
-        long = omega arith;
-      })
+      (record { source = s; begun = 0; lines = xs; listed = first_one (s, 0); there = there; way = w; long = long })
 
   pub label_way : (v : ℕ) → IsTrue (has_node M v) → label_of q.frontier (slot v) ≤ GREATEST_LIMIT → (xs : List ℕ)
       × IsRoute M s v xs × (dm_of M xs ≡ label_of q.frontier (slot v))

@@ -28,29 +28,14 @@ way_ends M Along s v lines w = elim (ends_of lines) [
   | empty e ↦ stays (subst (λ (zs : List ℕ). IsRoute M s v zs) e w) (ap (dm_of M) e)
   | ended front x e ↦
       let step = last_step M s v x front (subst (λ (zs : List ℕ). IsRoute M s v zs) e w) in
-      let size : length lines ≡ length (front ++ x ∷ []) = ap (λ (zs : List ℕ). length zs) e in
-      continues (record {
-        line = x;
-        front = front;
-        way = step.front;
-        known = step.known;
-        to = step.to;
-        long =
-            ap (dm_of M) e ∙ dm_of-line M front x;
-        size = omega (arith, length-append front (x ∷ []));
-      })
+      let same : length lines ≡ length (front ++ x ∷ []) = ap (λ (zs : List ℕ). length zs) e in
+      let size : length lines ≡ length front + 1 = omega (arith, length-append front (x ∷ [])) in
+      let long = ap (dm_of M) e ∙ dm_of-line M front x in
+      continues (record { line = x; front = front; way = step.front; known = step.known; to = step.to; long = long; size = size })
 ]
 way_ends M Against s v [] w = stays (sym w) refl
 way_ends M Against s v (x ∷ xs) w =
-    continues (record {
-      line = x;
-      front = xs;
-      way = w.2;
-      known = w.0;
-      to = w.1;
-      long = omega arith;
-      size = omega arith;
-    })
+    continues (record { line = x; front = xs; way = w.2; known = w.0; to = w.1; long = omega arith; size = omega arith })
 
 pub near_node : (M : Map) → IsMap M → (direction : Direction) (x : ℕ) → IsTrue (has_line M x) →
     IsTrue (has_node M (near_end M direction x))
@@ -180,14 +165,8 @@ entry_is M slot to lines items same is i e lt at =
     made_at (end_in M slot) lines items i e (is ∙ ap (λ (zs : List ℕ). map (end_in M slot) zs) (sym same)) lt at in
     let x = get_or lines i 0 in
     let own = read_at M Against to lines i x same k.0 (sym (get_or_default_zero lines i x k.0)) in
-    record {
-      within = k.0;
-      known = own.0;
-      leads = own.1;
-      there = ap (λ (y : LineEnd). y.slot) k.1;
-      len =
-          ap (λ (y : LineEnd). y.len) k.1;
-    }
+    let there = ap (λ (y : LineEnd). y.slot) k.1 in
+    record { within = k.0; known = own.0; leads = own.1; there = there; len = ap (λ (y : LineEnd). y.len) k.1 }
 
 pub as_many : (M : Map) (slot : ℕ → ℕ) (to : ℕ) (lines : List ℕ) (items : List LineEnd) → lines ≡ lines_in M to →
     items ≡ ends_in M slot to → length items ≡ length lines
