@@ -10,7 +10,8 @@ use Rattle.olr_search.proofs.distances.Dijkstra.is_only_predecessor.Goals as goa
 entry : (g : Over) (c : After-is_other g) →
     IsEntry (g.M.MapRead.map c.args.map.now) (g.M.MapRead.node_slot c.args.map.now) c.args.to c.in_lines-lines.result.now
     c.loop-index.index c.index-ends-index.result
-entry g c = grind (arith, entry_is)
+entry g c =
+    entry_is _ _ _ _ _ c.in_lines-lines.ensures c.in_ends-ends.ensures _ _ c.loop-index-test.true c.index-ends-index.is
 
 pub returns-then-is_other : goal.returns-then-is_other
 returns-then-is_other g c = grind (arith, entry, After-is_other, get_or_default_zero, label_of)
