@@ -1,4 +1,4 @@
-use Rattle.olr_search.proofs.Common.{IsRelaxed}
+use Rattle.olr_search.proofs.Common.{IsRelaxed, arith}
 use Rattle.std.proofs.lemmas.Result.{on_ok_weaker}
 use Rattle.olr_search.proofs.SearchLemmas.{put_labelled, put_moves}
 use Rattle.olr_search.proofs.steps.label_node.Goals as goal
@@ -13,4 +13,10 @@ returns-then-admits-clause-labelled g c =
     on_ok_weaker c.relax.result
     (λ (k : IsRelaxed c.args.frontier.now c.relax.new.self c.args.node c.args.slot c.args.length) N node_slot way from.
     put_labelled N node_slot way from c.args.frontier.now c.relax.new.self c.args.node c.args.slot c.args.length k)
+    c.relax.ensures
+
+pub returns-then-admits-clause-low : goal.returns-then-admits-clause-low
+returns-then-admits-clause-low g c =
+    on_ok_weaker c.relax.result
+    (λ (k : IsRelaxed c.args.frontier.now c.relax.new.self c.args.node c.args.slot c.args.length) u. let h = k.here in omega arith)
     c.relax.ensures
