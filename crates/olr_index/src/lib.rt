@@ -14,11 +14,19 @@ use std::collections::HashMap;
 type PathIds = SmallVec<u64, 1>;
 
 /// Numbers and their path ids. Each number has each path id at most once, and a number without path ids has no entry.
-#[derive(Drop, Debug)]
+#[derive(Debug)]
 pub struct Index {
     path_ids: HashMap<u64, PathIds>,
     alloc: Global,
     ghost ascend: { (number : ℕ) → IsStrictlyIncreasing (path_ids_in path_ids number) },
+}
+
+// Written out: a derived drop is proved again in each crate that ends an index.
+impl Drop for Index {
+    fn drop(self) {
+        let Index { path_ids, alloc: _ } = self;
+        drop(path_ids);
+    }
 }
 
 impl Index {

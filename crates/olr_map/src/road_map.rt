@@ -15,12 +15,25 @@ use std::alloc::Global;
 
 /// A road map. The time of a read or an edit depends neither on the order of node and line numbers nor on gaps in them.
 /// It has the slots of the nodes by number, the nodes' entries by slot, and the lines by number.
-#[derive(Drop)]
 pub struct RoadMap {
     pub(crate) index: Blocks,
     pub(crate) nodes: NodeSlots,
     pub(crate) lines: LineTable,
     pub ghost kept: { AreTables index (node_slots nodes) (all_held lines) } by { AreTables-prop index (node_slots nodes) (all_held lines) },
+}
+
+// Written out: a derived drop is proved again in each crate that ends a map.
+impl Drop for RoadMap {
+    fn drop(self) {
+        let RoadMap {
+            index,
+            nodes,
+            lines,
+        } = self;
+        drop(index);
+        drop(nodes);
+        drop(lines);
+    }
 }
 
 impl MapRead for RoadMap {

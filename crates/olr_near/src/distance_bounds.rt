@@ -15,7 +15,6 @@ use std::hash::BuildHasherDefault;
 /// are removed, bounds may be too small, and nodes that no query reaches may have one.
 ///
 /// If an allocation fails, the bounds are unknown until `clear`.
-#[derive(Drop)]
 pub struct DistanceBounds {
     alloc: Global,
     /// By node number.
@@ -24,6 +23,20 @@ pub struct DistanceBounds {
     waiting: BinaryHeap<Reverse<(u32, NodeId)>>,
     known: bool,
     ghost small: { (v : ℕ) → IsSome (get nat_eq bounds v) → v < 2 ^ 32 },
+}
+
+// Written out: a derived drop is proved again in each crate that ends bounds.
+impl Drop for DistanceBounds {
+    fn drop(self) {
+        let DistanceBounds {
+            alloc: _,
+            bounds,
+            waiting,
+            known: _,
+        } = self;
+        drop(bounds);
+        drop(waiting);
+    }
 }
 
 impl DistanceBounds {

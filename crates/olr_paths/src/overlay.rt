@@ -16,7 +16,6 @@ use std::rc::Rc;
 
 /// Changes over a list of named paths: replaced paths, removed paths, and new paths at the end. A name that is removed
 /// and added again is both in `changes` and in `added`.
-#[derive(Drop)]
 pub struct Overlay {
     /// The changes of the list's paths: a replacement, or None if the path is removed.
     pub(crate) changes: IndexMap<String, Option<Rc<Path>>>,
@@ -103,6 +102,15 @@ pub(crate) fn put_unchanged(
     ensures before { take (length (items to.old)) (items to.new) ≡ items to.old }
 {
     put_behind(alloc, &IndexMap::new(alloc), list, to)
+}
+
+// Written out: a derived drop is proved again in each crate that ends an overlay.
+impl Drop for Overlay {
+    fn drop(self) {
+        let Overlay { changes, added } = self;
+        drop(changes);
+        drop(added);
+    }
 }
 
 impl Overlay {

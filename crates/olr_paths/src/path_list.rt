@@ -57,7 +57,7 @@ impl NamedPath {
 }
 
 /// Paths by name, in the order of their registration.
-#[derive(Drop, Debug)]
+#[derive(Debug)]
 pub struct PathList {
     pub(crate) paths: IndexMap<String, NamedPath>,
     /// The ids of the paths, in ascending order. A path keeps its id when others are dropped.
@@ -70,6 +70,21 @@ pub struct PathList {
     ghost ascend: { IsStrictlyIncreasing path_ids.items },
     ghost noted: { AreNoted paths.entries path_ids.items finder } by { AreNoted-prop paths.entries path_ids.items finder },
     ghost encoded: { IsFalse held → ArePublished paths.entries } by { ArePublished-prop held paths.entries },
+}
+
+// Written out: a derived drop is proved again in each crate that ends a list.
+impl Drop for PathList {
+    fn drop(self) {
+        let PathList {
+            paths,
+            path_ids,
+            finder,
+            held: _,
+        } = self;
+        drop(paths);
+        drop(path_ids);
+        drop(finder);
+    }
 }
 
 impl PathList {
