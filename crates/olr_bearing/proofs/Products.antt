@@ -1,6 +1,5 @@
 -- Products of whole numbers, and how large they are.
-use Rattle.olr_spec.proofs.Common.{◌≡◌, ℕ, zero, suc, ◌+◌, ◌*◌, ◌≤◌, ℤ, pos, negsuc, ◌+ℤ◌, ◌*ℤ◌, ◌≤ℤ◌, ap, ◌∙◌, arith}
-use Rattle.olr_spec.proofs.Common.{mul-le, ints}
+use Rattle.olr_spec.proofs.Common.{◌≡◌, ℕ, zero, suc, ◌+◌, ◌*◌, ◌≤◌, ℤ, pos, negsuc, ◌+ℤ◌, ◌*ℤ◌, ◌≤ℤ◌, ap, ◌∙◌, arith, mul-le, ints}
 use Rattle.std.proofs.Common.{neg_ℤ}
 use Rattle.std.proofs.Math.IntN.{pos-*ℤ-pos, pos-*ℤ-negsuc, negsuc-*ℤ-negsuc, suc_ℤ-*ℤ, zero-*ℤ}
 use Rattle.olr_spec.proofs.SectorLemmas.{neg_left}
@@ -11,16 +10,13 @@ use Rattle.olr_bearing.specs.Ranges.{IsWithin}
 pub same_product : (a b x y : ℤ) → a ≡ b → x ≡ y → a *ℤ x ≡ b *ℤ y
 same_product a b x y p q = cc
 
-one_more : (n : ℕ) (z : ℤ) → pos (suc n) *ℤ z ≡ pos n *ℤ z +ℤ z
-one_more n z = suc_ℤ-*ℤ (pos n) z
-
 pub times_sum : (n : ℕ) (x y : ℤ) → pos n *ℤ (x +ℤ y) ≡ pos n *ℤ x +ℤ pos n *ℤ y
 times_sum zero x y = omega (arith, ints, zero-*ℤ (x +ℤ y), zero-*ℤ x, zero-*ℤ y)
-times_sum (suc n) x y = omega (arith, ints, one_more n (x +ℤ y), one_more n x, one_more n y, times_sum n x y)
+times_sum (suc n) x y = omega (arith, ints, suc_ℤ-*ℤ (pos n) (x +ℤ y), suc_ℤ-*ℤ (pos n) x, suc_ℤ-*ℤ (pos n) y, times_sum n x y)
 
 pub sum_times : (n m : ℕ) (z : ℤ) → pos (n + m) *ℤ z ≡ pos n *ℤ z +ℤ pos m *ℤ z
 sum_times zero m z = let is : zero + m ≡ m = omega arith in ap (λ k. pos k *ℤ z) is ∙ omega (arith, ints, zero-*ℤ z)
-sum_times (suc n) m z = omega (arith, ints, one_more (n + m) z, one_more n z, sum_times n m z)
+sum_times (suc n) m z = omega (arith, ints, suc_ℤ-*ℤ (pos (n + m)) z, suc_ℤ-*ℤ (pos n) z, sum_times n m z)
 
 -- ---- sizes: a product stays within the product of the bounds
 

@@ -1,7 +1,6 @@
 -- The ranges of coordinates, and of coordinates between two others.
 use Rattle.olr_spec.proofs.Common.{◌≡◌, ℕ, ◌+◌, ◌-◌, ◌*◌, ◌≤◌, ℤ, pos, negsuc, ◌+ℤ◌, ◌-ℤ◌, ◌*ℤ◌, IsTrue, to_z, of_z, ap}
-use Rattle.olr_spec.proofs.Common.{arith, Width, ints, and_parts, Coord, is_coord}
-use Rattle.olr_spec.proofs.Common.{thousandths}
+use Rattle.olr_spec.proofs.Common.{arith, Width, w64, w128, FitsSigned, to_z-of_z, subst, sym, ints, and_parts, Coord, is_coord, thousandths}
 use Rattle.olr_spec.proofs.BytesLemmas.{bounds}
 use Rattle.olr_bearing.specs.Ranges.{IsWithin, degree_units}
 use Rattle.olr_bearing.proofs.Products.{natural_product_within, times_sum, sum_times}
@@ -10,11 +9,22 @@ use Rattle.olr_bearing.proofs.Products.{natural_product_within, times_sum, sum_t
 abbrev pub held : Width → ℤ → ℤ
 held w z = to_z w (of_z w z)
 
+pub held_within : (b : ℕ) (z : ℤ) → FitsSigned w128 z → IsWithin b z → IsWithin b (held w128 z)
+held_within b z fits h = subst (IsWithin b) (sym (to_z-of_z w128 z fits)) h
+
 -- ---- coordinates
 
 pub coord_within : (c : Coord) → IsTrue (is_coord c) →
     IsWithin (degree_units 180) c.lon × IsWithin (degree_units 90) c.lat
 coord_within c h = grind (arith, and_parts, bounds, ints)
+
+-- a part of a coordinate, in the code
+pub coord_held : (z y : ℤ) → z ≡ y → IsWithin (degree_units 180) y → (held w64 z ≡ y) × IsWithin (degree_units 180) (held w64 z)
+coord_held z y is h =
+    let same : held w64 z ≡ y = omega (arith, ints, h.0, h.1) in (same, subst (IsWithin (degree_units 180)) (sym same) h)
+
+pub wider : (v : ℕ) (y : ℤ) → IsWithin (v * degree_units 90) y → IsWithin (v * degree_units 180) y
+wider v y h = (omega (arith, ints, h.0, h.1), omega (arith, ints, h.0, h.1))
 
 pub thousandths_within : (z : ℤ) → IsWithin (degree_units 90) z → IsWithin 90000 (thousandths z)
 thousandths_within (pos n) h = (omega (arith, ints, h.0, h.1), omega (arith, ints, h.0, h.1))

@@ -1,59 +1,66 @@
-use Rattle.olr_spec.proofs.Common.{◌≡◌, ℕ, ℤ, pos, ◌+ℤ◌, ◌-ℤ◌, ◌*ℤ◌, ap, ◌∙◌, FitsSigned, to_z-of_z, w64, arith, w128, ints, Scaled, sector}
-use Rattle.olr_spec.proofs.Common.{thousandths}
-use Rattle.olr_bearing.proofs.Scaling.{held, coord_within}
+use Rattle.olr_spec.proofs.Common.{◌≡◌, ℕ, ◌*◌, ◌^◌, ◌≤◌, ℤ, pos, ◌+ℤ◌, ◌-ℤ◌, ◌*ℤ◌, ap, subst, sym, ◌∙◌, FitsSigned, to_z-of_z, arith, w128, ints, Scaled, sector, thousandths}
+use Rattle.olr_bearing.specs.Ranges.{IsFactor, IsWithin, degree_units}
+use Rattle.olr_bearing.proofs.Scaling.{held, coord_held, coord_within, held_within, wider}
 use Rattle.olr_bearing.proofs.bearings.bearing.Goals as goal
 
-pub part-north-requires-clause-place : goal.part-north-requires-clause-place
-part-north-requires-clause-place c =
-    let lat : c.place.inside.lat ≡ c.args.place.lat = ap (λ (s : Scaled). s.lat) c.place.view_is in
-    let width : c.place.inside.width ≡ c.args.place.width = ap (λ (s : Scaled). s.width) c.place.view_is in
-    let range = c.requires.in_range.1 in
-    (omega (arith, ints, lat, width, range.0, range.1), omega (arith, ints, lat, width, range.0, range.1))
+-- numbers of 128 bits: a coordinate's part, and a factor
+fits : (w : ℕ) (y : ℤ) → w ≤ 1000000 → IsWithin (w * degree_units 180) y → FitsSigned w128 y
+fits w y short h = omega (arith, ints, h.0, h.1)
 
-pub part-north-requires-clause-origin : goal.part-north-requires-clause-origin
-part-north-requires-clause-origin c =
-    let lat = (coord_within c.args.origin c.lat.ensures.range).1 in
-    (omega (arith, ints, lat.0, lat.1), omega (arith, ints, lat.0, lat.1))
+factor_fits : (z : ℤ) → IsFactor z → FitsSigned w128 z
+factor_fits z h = omega (arith, ints, h.0, h.1)
 
-part_is : (r f s o f' s' o' : ℤ) (w w' : ℕ) → r ≡ f *ℤ (s -ℤ pos w *ℤ o) → f ≡ f' → s ≡ s' → w ≡ w' → o ≡ o' →
-    r ≡ f' *ℤ (s' -ℤ pos w' *ℤ o')
-part_is r f s o f' s' o' w w' is p q h g = cc
+pub part-east-requires : goal.part-east-requires
+part-east-requires c =
+    let factor = c.cosine_at-cosine.ensures.in_range.0 in
+    let range = c.requires.in_range.0 in
+    record {
+      factor = held_within 40500000000 _ (factor_fits _ factor) factor;
+      short = subst (λ (s : Scaled). s.width ≤ 1000000) (sym c.place.view_is) c.requires.short;
+      place = subst (λ (s : Scaled). IsWithin (s.width * degree_units 180) (held w128 s.lon)) (sym c.place.view_is)
+          (held_within _ _ (fits c.args.place.width _ c.requires.short range) range);
+      origin = (coord_held _ _ c.lon.ensures.value (coord_within c.args.origin c.lon.ensures.range).0).1;
+    }
 
-sector_is : (k : ℕ) (a b x y : ℤ) → k ≡ sector a b → a ≡ x → b ≡ y → k ≡ sector x y
-sector_is k a b x y is p q = cc
+pub part-north-requires : goal.part-north-requires
+part-north-requires c =
+    let factor = c.cosine_at-cosine.ensures.in_range.1 in
+    let range = wider c.args.place.width c.args.place.lat c.requires.in_range.1 in
+    record {
+      factor = held_within 40500000000 _ (factor_fits _ factor) factor;
+      short = subst (λ (s : Scaled). s.width ≤ 1000000) (sym c.place.view_is) c.requires.short;
+      place = subst (λ (s : Scaled). IsWithin (s.width * degree_units 180) (held w128 s.lat)) (sym c.place.view_is)
+          (held_within _ _ (fits c.args.place.width _ c.requires.short range) range);
+      origin = (coord_held _ _ c.lat.ensures.value (wider 1 _ (coord_within c.args.origin c.lat.ensures.range).1)).1;
+    }
 
--- a number of 128 bits
-held_is : (z b : ℤ) → FitsSigned w128 z → z ≡ b → held w128 z ≡ b
-held_is z b h p = to_z-of_z w128 z h ∙ p
+pub sector-requires : goal.sector-requires
+sector-requires c = record {
+  east = held_within (10 ^ 31) _ (record { sfits = c.part-east.type_inv }) c.part-east.ensures.in_range;
+  north = held_within (10 ^ 31) _ (record { sfits = c.part-north.type_inv }) c.part-north.ensures.in_range;
+}
 
 pub returns-clause-value : goal.returns-clause-value
 returns-clause-value c =
     let m = thousandths c.args.origin.lat in
     let above : ℤ = pos 4 *ℤ (pos 8100000000 -ℤ m *ℤ m) in
     let below : ℤ = pos 32400000000 +ℤ m *ℤ m in
-    let cosine = c.cosine_at-cosine.result in
     let factors = c.cosine_at-cosine.ensures in
     let from = c.args.origin in
     let to = c.args.place in
-    let passed = c.place.inside in
-    let lon : passed.lon ≡ to.lon = ap (λ (s : Scaled). s.lon) c.place.view_is in
-    let lat : passed.lat ≡ to.lat = ap (λ (s : Scaled). s.lat) c.place.view_is in
-    let width : passed.width ≡ to.width = ap (λ (s : Scaled). s.width) c.place.view_is in
     let range = c.requires.in_range in
+    let numerator = to_z-of_z w128 _ (factor_fits _ factors.in_range.0) ∙ factors.numerator in
+    let denominator = to_z-of_z w128 _ (factor_fits _ factors.in_range.1) ∙ factors.denominator in
+    let width = ap (λ (s : Scaled). s.width) c.place.view_is in
+    let lon = ap (λ (s : Scaled). held w128 s.lon) c.place.view_is ∙ to_z-of_z w128 to.lon (fits _ _ c.requires.short range.0) in
+    let lat = ap (λ (s : Scaled). held w128 s.lat) c.place.view_is
+    ∙ to_z-of_z w128 to.lat (fits _ _ c.requires.short (wider _ _ range.1)) in
+    let east_of = (coord_held c.lon.result from.lon c.lon.ensures.value (coord_within from c.lon.ensures.range).0).0 in
+    let north_of = (coord_held c.lat.result from.lat c.lat.ensures.value (wider 1 _ (coord_within from c.lat.ensures.range).1)).0 in
     let east : c.part-east.result ≡ above *ℤ (to.lon -ℤ pos to.width *ℤ from.lon) =
-    part_is c.part-east.result (held w128 cosine.numerator) (held w128 passed.lon) (held w64 c.lon.result) above to.lon
-    from.lon passed.width to.width c.part-east.ensures.value
-    (held_is cosine.numerator above (omega (arith, ints, factors.in_range.0.0, factors.in_range.0.1)) factors.numerator)
-    (held_is passed.lon to.lon (omega (arith, ints, lon, range.0.0, range.0.1, range.0.1)) lon)
-    width (omega (arith, ints)) in
+    c.part-east.ensures.value ∙ (λ i. numerator i *ℤ (lon i -ℤ pos (width i) *ℤ east_of i)) in
     let north : c.part-north.result ≡ below *ℤ (to.lat -ℤ pos to.width *ℤ from.lat) =
-    part_is c.part-north.result (held w128 cosine.denominator) (held w128 passed.lat) (held w64 c.lat.result) below
-    to.lat from.lat passed.width to.width c.part-north.ensures.value
-    (held_is cosine.denominator below (omega (arith, ints, factors.in_range.1.0, factors.in_range.1.1)) factors.denominator)
-    (held_is passed.lat to.lat (omega (arith, ints, lat, range.1.0, range.1.1, range.1.1)) lat)
-    width (omega (arith, ints)) in
-    sector_is c.sector.result (held w128 c.part-east.result) (held w128 c.part-north.result)
-    (above *ℤ (to.lon -ℤ pos to.width *ℤ from.lon)) (below *ℤ (to.lat -ℤ pos to.width *ℤ from.lat))
-    c.sector.ensures.value
-    (held_is c.part-east.result (above *ℤ (to.lon -ℤ pos to.width *ℤ from.lon)) (record { sfits = c.part-east.type_inv }) east)
-    (held_is c.part-north.result (below *ℤ (to.lat -ℤ pos to.width *ℤ from.lat)) (record { sfits = c.part-north.type_inv }) north)
+    c.part-north.ensures.value ∙ (λ i. denominator i *ℤ (lat i -ℤ pos (width i) *ℤ north_of i)) in
+    let a = to_z-of_z w128 c.part-east.result (record { sfits = c.part-east.type_inv }) ∙ east in
+    let b = to_z-of_z w128 c.part-north.result (record { sfits = c.part-north.type_inv }) ∙ north in
+    c.sector.ensures.value ∙ (λ i. sector (a i) (b i))

@@ -1,4 +1,4 @@
-use Rattle.olr_spec.proofs.Common.{◌≡◌, ◌^◌, ℤ, pos, ◌+ℤ◌, ◌-ℤ◌, ◌*ℤ◌, FitsSigned, w64, arith, w128, ints}
+use Rattle.olr_spec.proofs.Common.{◌≡◌, ◌^◌, ℤ, pos, ◌-ℤ◌, ◌*ℤ◌, FitsSigned, w64, arith, w128, ints}
 use Rattle.olr_bearing.specs.Ranges.{IsWithin}
 use Rattle.olr_bearing.proofs.Products.{same_product, product_within}
 use Rattle.olr_bearing.proofs.Scaling.{held}
