@@ -255,18 +255,16 @@ impl PathList {
     {
         // For the proof alone: no name occurs twice.
         let _names = self.len();
-        let Some(position) = self.paths.get_index_of(name) else {
+        let Some((position, _, current)) = self.paths.get_full(name) else {
             return Ok(());
         };
         let path_id = self.path_ids[position];
-        let Some((_, current)) = self.paths.get_index(position) else {
-            unreachable!()
-        };
         renote(&mut self.finder, path_id, current, &named)?;
         self.held = is_held(self.held, &named);
-        if let Some(place) = self.paths.get_index_mut(position) {
-            *place = named;
-        }
+        let Some(place) = self.paths.get_index_mut(position) else {
+            unreachable!()
+        };
+        *place = named;
         Ok(())
     }
 }

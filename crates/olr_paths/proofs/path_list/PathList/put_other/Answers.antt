@@ -1,35 +1,32 @@
-use Rattle.olr_paths.proofs.Common.{◌≢◌, ◌<◌, None, length, sym, ◌∙◌, arith, lookup, none_of}
-use Rattle.olr_paths.proofs.NamedEntries.{asks, first_at, set_absent, set_items}
+use Rattle.olr_paths.proofs.Common.{◌≢◌, ◌<◌, None, length, sym, ◌∙◌, arith, slice_get_within}
+use Rattle.olr_paths.proofs.NamedEntries.{first_at, set_absent, set_items}
 use Rattle.olr_paths.proofs.PathIdLemmas.{kept_long, each_set, noted_but, noted_set}
 use Rattle.olr_paths.proofs.path_list.PathList.put_other.Goals as goal
 
 pub returns-in_default-clause-ok : goal.returns-in_default-clause-ok
-returns-in_default-clause-ok c =
-    let es = c.args.self.now.paths.entries in
-    set_absent es c.args.name.now c.args.named
-    (none_of (lookup (asks c.args.name.now) es) (sym c.in_default.ensures.found))
+returns-in_default-clause-ok c = set_absent c.args.self.now.paths.entries c.args.name.now c.args.named (sym c.in_default.ensures.value)
 
 pub invariant_of-self-in-Break-1 : goal.invariant_of-self-in-Break-1
 invariant_of-self-in-Break-1 c =
     let l = c.args.self.now in
     let q = c.in-Some.position in
-    let within : q < length l.path_ids.items = omega (arith, c.in-Some.ensures.within, l.long) in
+    let within : q < length l.path_ids.items = omega (arith, slice_get_within l.paths.entries q _ c.in-Some.ensures.entry, l.long) in
     record {
       long = l.long;
       ascend = l.ascend;
       noted = noted_but l c.renote.new.finder q _ within c.index-path_id.ensures c.renote.ensures.spares _
-          (sym c.in-Some-get_index.ensures.entry) c.in_err-renote.ensures.err;
+          c.in-Some.ensures.entry c.in_err-renote.ensures.err;
       encoded = l.encoded;
     }
 
-pub invariant_of-self-in-Some-get_index_mut : goal.invariant_of-self-in-Some-get_index_mut
-invariant_of-self-in-Some-get_index_mut c =
+pub invariant_of-self-2 : goal.invariant_of-self-2
+invariant_of-self-2 c =
     let l = c.args.self.now in
     let es = l.paths.entries in
     let ms = l.path_ids.items in
     let q = c.in-Some.position in
     let n = c.args.named in
-    let within : q < length ms = omega (arith, c.in-Some.ensures.within, l.long) in
+    let within : q < length ms = omega (arith, slice_get_within l.paths.entries q _ c.in-Some.ensures.entry, l.long) in
     record {
       long = l.long ∙ sym (kept_long es q n);
       ascend = l.ascend;
@@ -39,8 +36,8 @@ invariant_of-self-in-Some-get_index_mut c =
           each_set (λ _ m. m.published ≢ None) es ms q n (λ k e ne. l.encoded was.0 k e) was.1;
     }
 
-pub returns-in-Some-get_index_mut-clause-ok : goal.returns-in-Some-get_index_mut-clause-ok
-returns-in-Some-get_index_mut-clause-ok c =
+pub returns-clause-ok : goal.returns-clause-ok
+returns-clause-ok c =
     let es = c.args.self.now.paths.entries in
     let name = c.args.name.now in
     let q = c.in-Some.position in
