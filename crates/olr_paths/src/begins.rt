@@ -16,9 +16,10 @@ fn note_named(named: &NamedPath, new_origins: &mut Vec<CoverageQuery>) -> Result
     ensures named { OnOk result ((v : QueryRecord) → BeginsIn (option_map (λ p. made_of p.value) named.now.published) v
         → Contains new_origins.new.items v) }
 {
-    if let Some(published) = &named.published {
-        new_origins.extend_from_slice(&published.queries)?;
-    }
+    let Some(published) = named.published() else {
+        return Ok(());
+    };
+    new_origins.extend_from_slice(&published.queries)?;
     Ok(())
 }
 

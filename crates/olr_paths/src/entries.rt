@@ -37,10 +37,10 @@ impl PathList {
             let Some((name, named)) = self.paths.get_index(k) else {
                 unreachable!()
             };
-            let Some(published) = &named.published else {
+            let Some(published) = named.published() else {
                 unreachable!()
             };
-            entries.push(published.entry(alloc, name.as_str())?)?;
+            entries.push_reserved(published.entry(alloc, name.as_str())?);
         }
         Ok(entries)
     }

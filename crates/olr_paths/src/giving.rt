@@ -22,28 +22,30 @@ use olr_refs::Path;
 use olr_roads::MapRead;
 use olr_search::Work;
 use std::alloc::{AllocError, Global};
+use std::rc::Rc;
 
-/// Encodes a path that is searched from scratch; its coverage queries are those that the last renewal made. If an
-/// allocation fails, the work may be counted in part.
+/// Encodes a path that is searched from scratch, and returns it with what is published of it; its coverage queries are
+/// those that the last renewal made. If an allocation fails, the work may be counted in part.
 fn encode_alone<M: MapRead>(
     alloc: Global,
     map: &M,
-    path: &Path,
+    path: Path,
     searches: &mut Searches,
     work: &mut Work,
-) -> Result<Published, AllocError>
-    ensures made { IfOk result (λ p. IsEncodingOf (M.map map.now) path.now (made_of p)) }
-    ensures counted { OnOk result (work.new.encodings ≡ raised_count work.old.encodings 1) }
-    ensures searched { OnOk result ((queries : List QueryRecord) × SearchedFor (M.map map.now) path.now queries
-        × AreSearched (M.map map.now) queries work.old work.new) }
-    ensures rises { OnOk result (Rises work.old work.new) }
-    ensures new_origins { IfOk result (λ p. new_origins_in searches.new ≡ (made_of p).queries) }
+) -> Result<(Rc<Path>, Rc<Published>), AllocError>
+    ensures new_origins { IfOk result (λ r. new_origins_in searches.new ≡ (made_of r.1.value).queries) }
+    ensures made { IfOk result (λ r. (r.0.value ≡ path) × IsEncodingOf (M.map map.now) path (made_of r.1.value)
+        × (work.new.encodings ≡ raised_count work.old.encodings 1) × Rises work.old work.new
+        × ((queries : List QueryRecord) × SearchedFor (M.map map.now) path queries
+        × AreSearched (M.map map.now) queries work.old work.new)) }
 {
     have_64_bits(work);
-    let published = publish(alloc, map, path, &[], &mut searches.query, work)?;
+    let published = publish(alloc, map, &path, &[], &mut searches.query, work)?;
+    let shared = Rc::new(alloc, published)?;
     searches.new_origins.clear();
-    searches.new_origins.extend_from_slice(&published.queries)?;
-    Ok(published)
+    searches.new_origins.extend_from_slice(&shared.queries)?;
+    let path = Rc::new(alloc, path)?;
+    Ok((path, shared))
 }
 
 /// A list of one entry, that of a path.
@@ -51,7 +53,7 @@ fn only_entry(alloc: Global, name: &str, published: &Published) -> Result<Vec<En
     ensures { IfOk result (λ es. list_map entry_of es.items ≡ entry name.now (made_of published.now).answer ∷ []) }
 {
     let mut entries = Vec::with_capacity(alloc, 1)?;
-    entries.push(published.entry(alloc, name)?)?;
+    entries.push_reserved(published.entry(alloc, name)?);
     Ok(entries)
 }
 
@@ -80,9 +82,12 @@ impl PathList {
         ensures err_work { OnErr result (work.new ≡ work.old) }
     {
         let mut tried = *work;
-        let published = encode_alone(alloc, map, &path, searches, &mut tried)?;
+        let (path, published) = encode_alone(alloc, map, path, searches, &mut tried)?;
         let entries = only_entry(alloc, name.as_str(), &published)?;
-        let named = NamedPath::encoded(alloc, path, published)?;
+        let named = NamedPath {
+            path,
+            published: Some(published),
+        };
         self.put_last(name, named)?;
         *work = tried;
         Ok(entries)
@@ -115,10 +120,13 @@ impl PathList {
         ensures err_work { OnErr result (work.new ≡ work.old) }
     {
         let mut tried = *work;
-        let published = encode_alone(alloc, map, &path, searches, &mut tried)?;
+        let (path, published) = encode_alone(alloc, map, path, searches, &mut tried)?;
         let mut entries = Vec::new(alloc);
         push_if_changed(alloc, self, name, &published, &mut entries)?;
-        let named = NamedPath::encoded(alloc, path, published)?;
+        let named = NamedPath {
+            path,
+            published: Some(published),
+        };
         self.put_other(name, named)?;
         *work = tried;
         Ok(entries)

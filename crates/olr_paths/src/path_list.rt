@@ -21,22 +21,17 @@ pub struct NamedPath {
 }
 
 impl NamedPath {
-    ghost use Rattle.std.specs.Prelude.{◌≡◌, Some, IfOk, option_map};
+    ghost use Rattle.std.specs.Prelude.{◌≡◌, IfOk, option_map};
     ghost use Rattle.olr_paths.specs.Items.{made_of};
 
-    /// A path with what is published of it.
-    pub(crate) fn encoded(
-        alloc: Global,
-        path: Path,
-        published: Published,
-    ) -> Result<NamedPath, AllocError>
-        ensures path { IfOk result (λ n. n.path.value ≡ path) }
-        ensures made { IfOk result (λ n. option_map (λ p. made_of p.value) n.published ≡ Some (made_of published)) }
+    /// What is published of the path. None if it is not encoded yet.
+    pub(crate) fn published(&self) -> Option<&Published>
+        ensures { option_map (λ p. made_of p.now) result ≡ option_map (λ p. made_of p.value) self.now.published }
     {
-        Ok(NamedPath {
-            path: Rc::new(alloc, path)?,
-            published: Some(Rc::new(alloc, published)?),
-        })
+        match &self.published {
+            Some(published) => Some(&**published),
+            None => None,
+        }
     }
 
     /// A second value that shares the path and what is published of it.
@@ -45,14 +40,12 @@ impl NamedPath {
         ensures made { IfOk result (λ n. option_map (λ p. made_of p.value) n.published
             ≡ option_map (λ p. made_of p.value) self.now.published) }
     {
+        let path = self.path.clone()?;
         let published = match &self.published {
             Some(published) => Some(published.clone()?),
             None => None,
         };
-        Ok(NamedPath {
-            path: self.path.clone()?,
-            published,
-        })
+        Ok(NamedPath { path, published })
     }
 }
 
@@ -155,10 +148,7 @@ impl PathList {
     pub fn published_of(&self, name: &str) -> Option<&Published>
         ensures { option_map (λ p. made_of p.now) result ≡ made_in (items self.now) name.now }
     {
-        match self.paths.get(name)?.published.as_ref() {
-            Some(published) => Some(&**published),
-            None => None,
-        }
+        self.paths.get(name)?.published()
     }
 
     /// The path of that name. None if there is none.

@@ -22,14 +22,10 @@ pub(crate) struct PathView<'a> {
 pub(crate) fn show<'a>(name: &'a str, named: &'a NamedPath) -> PathView<'a>
     ensures { shown_item result ≡ item_of name.now named.now }
 {
-    let published = match &named.published {
-        Some(published) => Some(&**published),
-        None => None,
-    };
     PathView {
         name,
         path: &named.path,
-        published,
+        published: named.published(),
     }
 }
 

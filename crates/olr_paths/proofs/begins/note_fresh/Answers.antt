@@ -1,5 +1,5 @@
 use Rattle.olr_paths.proofs.Common.{◌≡◌, ℕ, List, [], ◌∷◌, ◌++◌, ◌+◌, inl, inr, take, sym, ap, ◌∙◌, subst, take_more}
-use Rattle.olr_paths.proofs.Common.{BeginsPut, puts_of, NamedPath, arith, common_steps}
+use Rattle.olr_paths.proofs.Common.{BeginsPut, puts_of, NamedPath, arith, take_all}
 use Rattle.olr_paths.proofs.OriginLemmas.{begins_push}
 use Rattle.olr_paths.proofs.begins.note_fresh.Goals as goal
 
@@ -19,4 +19,4 @@ loop-named-preserved c = λ v h.
     ]
 
 pub returns : goal.returns
-returns c = grind (arith, common_steps)
+returns c = λ v h. c.loop-named.invariant v (rw (take_all c.loop-named.named-index c.args.fresh.now (omega arith)) h)

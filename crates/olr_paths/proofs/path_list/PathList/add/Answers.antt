@@ -1,16 +1,16 @@
-use Rattle.olr_paths.proofs.Common.{arith, made_of, common_steps}
+use Rattle.olr_paths.proofs.Common.{arith, made_of}
 use Rattle.olr_paths.proofs.OriginLemmas.{begins_add}
 use Rattle.olr_paths.proofs.path_list.PathList.add.Goals as goal
 
 pub returns : goal.returns
 returns g c =
-    let e = c.in_ok-published.ensures in
-    let put = rw (c.in_ok-named.ensures.path, c.in_ok-named.ensures.made) at c.in_ok-put_last.ensures.ok in
+    let e = c.in_ok-path.ensures.made in
+    let put = rw e.0 at c.in_ok-put_last.ensures.ok in
     record {
-      added = (made_of c.in_ok-published.published, e.made, put, grind (arith, common_steps));
-      counted = e.counted;
-      searched = e.searched;
-      rises = e.rises;
+      added = (made_of c.in_ok-path.published.value, e.1, put, rw (← c.as_str.ensures.value, ← c.deref.ensures) c.in_ok-entries.ensures);
+      counted = e.2;
+      searched = e.4;
+      rises = e.3;
       new_origins = λ v b. grind (arith, begins_add);
       err = tt;
       err_work = tt;

@@ -1,4 +1,4 @@
-use Rattle.olr_paths.proofs.Common.{inl, inr, ◌≡◌, slice_get, Some, sym, Item, items, arith, common_steps}
+use Rattle.olr_paths.proofs.Common.{inl, inr, ◌≡◌, slice_get, Some, sym, Item, items, arith, take_all, length-map}
 use Rattle.olr_paths.proofs.OriginLemmas.{begins_more}
 use Rattle.olr_paths.proofs.NamedEntries.{item_of, item_at}
 use Rattle.olr_paths.proofs.path_list.PathList.begins.Goals as goal
@@ -16,4 +16,5 @@ loop-position-preserved c = λ v h.
     ]
 
 pub returns : goal.returns
-returns c = grind (arith, common_steps)
+returns c = λ v h. c.loop-position.invariant v (rw (take_all c.loop-position.position (items c.args.self.now)
+    (omega (arith, length-map c.args.self.now.paths.entries item_of, c.len-position-end.ensures.len))) h)

@@ -5,22 +5,22 @@ use Rattle.olr_paths.proofs.path_list.PathList.set.Goals as goal
 
 pub returns : goal.returns
 returns g c =
-    let e = c.in_ok-published.ensures in
-    let m : Made = made_of c.in_ok-published.published in
+    let e = c.in_ok-path.ensures.made in
+    let m : Made = made_of c.in_ok-path.published.value in
     let none : map entry_of c.new-entries.result.items ≡ [] = ap (map entry_of) c.new-entries.ensures.items in
     record {
       set = (
         m,
-        e.made,
-        rw (← c.in_ok-named.ensures.path, ← c.in_ok-named.ensures.made) c.in_ok-put_other.ensures.ok,
-        elim c.in_ok-push_if_changed.ensures [
+        e.1,
+        rw (← e.0) c.in_ok-put_other.ensures.ok,
+        elim (rw c.deref.ensures at c.in_ok-push_if_changed.ensures) [
           | inl t ↦ inl (t.0, t.1 ∙ none)
           | inr t ↦ inr (t.0, t.1 ∙ ap (λ (es : List Entry). es ++ entry c.args.name.now m.answer ∷ []) none)
         ],
       );
-      counted = e.counted;
-      searched = e.searched;
-      rises = e.rises;
+      counted = e.2;
+      searched = e.4;
+      rises = e.3;
       new_origins = λ v b. grind (arith, begins_set);
       err = tt;
       err_work = tt;
