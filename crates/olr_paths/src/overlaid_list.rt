@@ -26,8 +26,7 @@ impl<'a> OverlaidList<'a> {
         let count = self.list.paths.len();
         // For the proof alone: a list has fewer than 2^64 paths.
         let _few = self.overlay.added.paths.len();
-        if position < count {
-            let (name, named) = self.list.paths.get_index(position)?;
+        if let Some((name, named)) = self.list.paths.get_index(position) {
             return Some(show_under(&self.overlay.changes, name.as_str(), named));
         }
         let (name, named) = self.overlay.added.paths.get_index(position - count)?;
