@@ -84,6 +84,7 @@ impl Published {
     pub fn entry(&self, alloc: Global, name: &str) -> Result<Entry, AllocError>
         ensures { IfOk result (λ e. entry_of e ≡ entry name.now (made_of self.now).answer) }
     {
+        let name = String::from_str(alloc, name)?;
         let published = match &self.answer {
             Answer::Points(_) => match self.text() {
                 Some(text) => Ok(String::from_str(alloc, text)?),
@@ -91,9 +92,6 @@ impl Published {
             },
             Answer::Refused(refusal) => Err(*refusal),
         };
-        Ok(Entry {
-            name: String::from_str(alloc, name)?,
-            published,
-        })
+        Ok(Entry { name, published })
     }
 }
