@@ -41,11 +41,16 @@ impl NamedPath {
             ≡ option_map (λ p. made_of p.value) self.now.published) }
     {
         let path = self.path.clone()?;
-        let published = match &self.published {
-            Some(published) => Some(published.clone()?),
-            None => None,
+        let Some(published) = &self.published else {
+            return Ok(NamedPath {
+                path,
+                published: None,
+            });
         };
-        Ok(NamedPath { path, published })
+        Ok(NamedPath {
+            path,
+            published: Some(published.clone()?),
+        })
     }
 }
 
@@ -191,8 +196,6 @@ impl PathList {
     pub fn drop_path(&mut self, name: &str)
         ensures { items self.new ≡ filter (λ i. not (same_name i.name name.now)) (items self.old) }
     {
-        // For the proof alone: no name occurs twice.
-        let _names = self.len();
         let Some(position) = self.paths.get_index_of(name) else {
             return;
         };
@@ -218,13 +221,12 @@ impl PathList {
         self.paths.reserve(1)?;
         self.path_ids.reserve(1)?;
         note_named(&mut self.finder, path_id, &named, None)?;
-        let held = is_held(self.held, &named);
+        self.held = is_held(self.held, &named);
         match self.paths.insert(name, named) {
             Ok(_) => (),
             Err(_) => unreachable!(),
         }
         self.path_ids.push_reserved(path_id);
-        self.held = held;
         Ok(())
     }
 
@@ -243,8 +245,6 @@ impl PathList {
             (items self.old)) }
         ensures err { OnErr result (items self.new ≡ items self.old) }
     {
-        // For the proof alone: no name occurs twice.
-        let _names = self.len();
         let Some((position, _, current)) = self.paths.get_full(name) else {
             return Ok(());
         };

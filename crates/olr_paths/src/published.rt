@@ -72,7 +72,8 @@ impl Published {
         match (&self.answer, &other.answer) {
             (Answer::Points(one), Answer::Points(another)) => {
                 // For the proof alone: the fields of both are in range.
-                let (_, _) = (one.pos, another.pos);
+                let _first = one.pos;
+                let _second = another.pos;
                 self.text() == other.text()
             }
             (Answer::Refused(one), Answer::Refused(another)) => one == another,
@@ -85,13 +86,18 @@ impl Published {
         ensures { IfOk result (λ e. entry_of e ≡ entry name.now (made_of self.now).answer) }
     {
         let name = String::from_str(alloc, name)?;
-        let published = match &self.answer {
+        match &self.answer {
             Answer::Points(_) => match self.text() {
-                Some(text) => Ok(String::from_str(alloc, text)?),
+                Some(text) => Ok(Entry {
+                    name,
+                    published: Ok(String::from_str(alloc, text)?),
+                }),
                 None => unreachable!(),
             },
-            Answer::Refused(refusal) => Err(*refusal),
-        };
-        Ok(Entry { name, published })
+            Answer::Refused(refusal) => Ok(Entry {
+                name,
+                published: Err(*refusal),
+            }),
+        }
     }
 }

@@ -1,5 +1,5 @@
 use Rattle.olr_paths.proofs.Common.{◌≢◌, ◌<◌, None, sym, ap, length, ◌∙◌, arith, length-remove, items, ascends-remove}
-use Rattle.olr_paths.proofs.NamedEntries.{first_at, items_of, keeps_all, named_there, removed_items}
+use Rattle.olr_paths.proofs.NamedEntries.{first_at, items_of, keeps_all, named_there, names_differ, removed_items}
 use Rattle.olr_paths.proofs.PathIdLemmas.{each_removed, noted_removed}
 use Rattle.olr_paths.proofs.path_list.PathList.drop_path.Goals as goal
 
@@ -9,7 +9,8 @@ returns c =
     let name = c.args.name.now in
     let q = c.in-Some.position in
     ap items_of c.shift_remove_index.ensures.entries
-    ∙ removed_items es name q (first_at es name q (sym c.in-Some.ensures.index)) c.len-names.ensures.names
+    ∙ removed_items es name q (first_at es name q (sym c.in-Some.ensures.index))
+    (names_differ es c.in-Some.ensures.unique)
 
 pub returns-in_default : goal.returns-in_default
 returns-in_default c =

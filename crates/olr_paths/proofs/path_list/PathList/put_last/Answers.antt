@@ -44,6 +44,6 @@ invariant_of-self-2 c =
       noted =
           rw (entries, ids) (each_push (NamedNoted g) es ms name n path_id l.long
           (noted_below l g path_id below c.note_named.ensures.spares) c.in_ok-note_named.ensures.noted);
-      encoded = λ off. let was = c.is_held-held.ensures off in
+      encoded = λ off. let was = c.is_held-self.ensures off in
           rw entries (each_push (λ _ m. m.published ≢ None) es ms name n path_id l.long (l.encoded was.0) was.1);
     }

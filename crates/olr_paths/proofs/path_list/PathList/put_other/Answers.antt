@@ -1,5 +1,5 @@
 use Rattle.olr_paths.proofs.Common.{◌≢◌, ◌<◌, None, length, sym, ◌∙◌, arith, slice_get_within}
-use Rattle.olr_paths.proofs.NamedEntries.{first_at, set_absent, set_items}
+use Rattle.olr_paths.proofs.NamedEntries.{first_at, names_differ, set_absent, set_items}
 use Rattle.olr_paths.proofs.PathIdLemmas.{kept_long, each_set, noted_but, noted_set}
 use Rattle.olr_paths.proofs.path_list.PathList.put_other.Goals as goal
 
@@ -39,6 +39,5 @@ invariant_of-self-2 c =
 pub returns-clause-ok : goal.returns-clause-ok
 returns-clause-ok c =
     let es = c.args.self.now.paths.entries in
-    let name = c.args.name.now in
-    let q = c.in-Some.position in
-    set_items es name q c.args.named (first_at es name q (sym c.in-Some.ensures.index)) c.len-names.ensures.names
+    set_items es c.args.name.now c.in-Some.position c.args.named (first_at es _ _ (sym c.in-Some.ensures.index))
+    (names_differ es c.in-Some-get_index_mut.ensures.unique)
