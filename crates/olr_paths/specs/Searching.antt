@@ -4,17 +4,20 @@
 --         of m is touched
 --     AreAsked      the same of each path that was encoded
 --     LackQueries is      no path has a query
+--     source_in direction c      where the search in a direction begins at a changed line, and its start value
 --     AreDetours N slot t d      the searches for the distances to where changed lines begin, and from where they end
 --     AreFarther p q d      two distances together are more than d, or one is none
 use Rattle.std.specs.Prelude.{◌≡◌, ℕ, ◌+◌, ◌<◌, ◌≤◌, min, List, map, Contains, Bool, Option, Some, None}
 use Rattle.std.specs.Prelude.{IsTrue, IsFalse, ⊤, slice_get}
 use Rattle.olr_spec.specs.Map.{Map, has_node}
 use Rattle.olr_spec.specs.Queries.{CoverageQuery}
+use Rattle.olr_spec.specs.Detours.{ChangedLine}
 use Rattle.olr_search.specs.Bounds.{AreLengths, label_at}
 use Rattle.olr_search.specs.Distances.{Leads}
 use Rattle.olr_search.specs.Searches.{IsSearch}
 use Rattle.olr_search.specs.declared.distances.Dijkstra.{Dijkstra}
 use Rattle.olr_search.specs.declared.distances.Direction.TheVariants.{Along, Against}
+use Rattle.olr_search.specs.declared.distances.Direction.{Direction}
 use Rattle.olr_spec.specs.Extension.{limit}
 use Rattle.olr_paths.specs.Items.{Made, Item}
 use Rattle.olr_paths.specs.Changes.{QueryTouched}
@@ -46,6 +49,10 @@ AreAsked N slot t s is =
 
 abbrev pub LackQueries : List Item → Type 0
 LackQueries is = (l : CoverageQuery) → ¬ Begins is l
+
+abbrev pub source_in : Direction → ChangedLine → ℕ × ℕ
+source_in Against c = (c.from, c.len)
+source_in Along c = (c.to, 0)
 
 abbrev pub starts : ChangeSet → List (ℕ × ℕ)
 starts t = map (λ c. (c.from, c.len)) (changed_of t)

@@ -25,23 +25,12 @@ use crate::overlaid_list::OverlaidList;
 use crate::path_list::PathList;
 use crate::published::Published;
 use crate::searches::Searches;
+use crate::sources::begin_at;
 use olr_near::DistanceBounds;
 use olr_refs::Path;
 use olr_roads::{Footprint, LineId, MapRead, NodeId};
 use olr_search::{Dijkstra, Direction, GREATEST_LIMIT};
 use std::alloc::{AllocError, Global};
-
-/// The touched nodes, as sources of a search.
-fn sources_of(alloc: Global, touched: &ChangeSet) -> Result<Vec<(NodeId, u32)>, AllocError>
-    ensures { IfOk result (λ v. v.items ≡ sources touched.now) }
-{
-    let nodes = touched.nodes.as_slice();
-    let mut sources = Vec::with_capacity(alloc, nodes.len())?;
-    for node in nodes {
-        sources.push((*node, 0))?;
-    }
-    Ok(sources)
-}
 
 /// Searches against the lines from all touched nodes, as far as the distance bounds let it if they are known.
 pub(crate) fn search_near<M: MapRead>(
@@ -56,8 +45,7 @@ pub(crate) fn search_near<M: MapRead>(
     ensures returned { OnOk result (IsRight (M.map map.now) bounds.now → (v w : ℕ) → IsSource bounds.now v w
         → IsExactAt (M.map map.now) (M.node_slot map.now) touched.now near.new v (min w limit)) }
 {
-    let sources = sources_of(alloc, touched)?;
-    near.begin(map, Direction::Against, &sources)?;
+    begin_at(alloc, map, Direction::Against, touched.nodes(), near)?;
     if bounds.is_known() {
         near.settle_under(map, bounds.bounds())?;
         return Ok(());

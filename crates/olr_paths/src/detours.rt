@@ -1,14 +1,15 @@
 //! Whether changed lines offer a detour that is as short as a coverage query.
 ghost use Rattle.std.specs.Prelude.{◌≡◌, ◌<◌, ◌≤◌, ◌+◌, ◌↔◌, length, IsTrue, IfOk, IfSome, OnOk};
 ghost use Rattle.olr_paths.specs.Touching.{changed_of};
-ghost use Rattle.olr_paths.specs.Searching.{AreDetours, AreFarther, starts, ends};
+ghost use Rattle.olr_paths.specs.Searching.{AreDetours, AreFarther};
 ghost use Rattle.olr_commands.specs.Counts.{Picks, IsAgainClear, most_changed};
 ghost use Rattle.olr_paths.specs.Changes.{IsKnownClear};
 ghost use Rattle.std.specs.Prelude.{All};
 
 use crate::change_set::ChangeSet;
+use crate::sources::begin_at;
 use olr_refs::{CoverageQuery, KnownQuery};
-use olr_roads::{MapRead, NodeId};
+use olr_roads::MapRead;
 use olr_search::{Dijkstra, Direction, GREATEST_LIMIT};
 use std::alloc::{AllocError, Global};
 
@@ -33,24 +34,6 @@ impl Detours {
 
 /// With more changed lines than this, no detours are searched: nearly every path is encoded anyway.
 const MOST_CHANGED: usize = 8;
-
-/// The nodes where changed lines begin, each with the line's length, and the nodes where they end.
-fn starts_and_ends(
-    alloc: Global,
-    touched: &ChangeSet,
-) -> Result<(Vec<(NodeId, u32)>, Vec<(NodeId, u32)>), AllocError>
-    ensures starts { IfOk result (λ v. v.0.items ≡ starts touched.now) }
-    ensures ends { IfOk result (λ v. v.1.items ≡ ends touched.now) }
-{
-    let changed = touched.changed.as_slice();
-    let mut starts = Vec::with_capacity(alloc, changed.len())?;
-    let mut ends = Vec::with_capacity(alloc, changed.len())?;
-    for line in changed {
-        starts.push((line.from, line.len))?;
-        ends.push((line.to, 0))?;
-    }
-    Ok((starts, ends))
-}
 
 /// Whether so few lines changed that detours over them are searched.
 pub(crate) fn are_few(touched: &ChangeSet) -> bool
@@ -77,10 +60,9 @@ pub(crate) fn begin_detours<M: MapRead>(
     if !are_few(touched) {
         return Ok(());
     }
-    let (starts, ends) = starts_and_ends(alloc, touched)?;
-    detours.before.begin(map, Direction::Against, &starts)?;
-    detours.after.begin(map, Direction::Along, &ends)?;
-    Ok(())
+    let changed = touched.changed.as_slice();
+    begin_at(alloc, map, Direction::Against, changed, &mut detours.before)?;
+    begin_at(alloc, map, Direction::Along, changed, &mut detours.after)
 }
 
 /// Whether the sum of two distances is more than a length, all in decimetres, or one of them is None.

@@ -23,6 +23,7 @@ mod renewal;
 mod renewing;
 mod searches;
 mod showing;
+mod sources;
 
 pub use change_set::{ChangeSet, ChangedLine};
 pub use iter::Iter;

@@ -1,30 +1,27 @@
-use Rattle.olr_paths.proofs.Common.{List, ℕ, IsTrue, sym, subst, ◌∙◌, arith, Against, Leads}
+use Rattle.olr_paths.proofs.Common.{IsTrue, sym, ◌∙◌, arith, Against, sources}
 use Rattle.olr_paths.proofs.AskedLemmas.{are_bounds, source_under}
 use Rattle.olr_paths.proofs.asking.search_near.Goals as goal
 
 -- as far as the numbers let it
 pub returns-then-is_known : goal.returns-then-is_known
 returns-then-is_known g c =
-    let from = c.deref.result.now in
-    let is = c.deref.ensures.value ∙ c.in_ok-sources.ensures in
-    let begun = c.in_ok-begin.ensures.search in
+    let from = sources c.args.touched.now in
+    let begun = rw c.nodes.ensures at c.in_ok-begin_at.ensures in
     record {
-      lengths = rw is at (c.in_ok-settle_under.ensures.labelled Against from begun);
+      lengths = c.in_ok-settle_under.ensures.labelled Against from begun;
       returned = λ right v w source d le there way.
           let N = g.M.MapRead.map c.args.map.now in
           let f = c.args.bounds.now in
           let known : IsTrue f.known = sym c.is_known.ensures ∙ c.if-is_known.true in
           c.in_ok-settle_under.ensures.settled Against from begun (rw c.bounds.ensures (are_bounds N f known right)) v d
-          (rw c.bounds.ensures (source_under f v w d known source le)) there
-          (subst (λ (xs : List (ℕ × ℕ)). Leads N Against xs v d) (sym is) way);
+          (rw c.bounds.ensures (source_under f v w d known source le)) there way;
     }
 
 -- as far as a query can reach
 pub returns : goal.returns
 returns g c =
-    let h =
-    rw (c.deref.ensures.value, c.in_ok-sources.ensures) at (c.in_ok-settle_to.ensures.search Against c.deref.result.now
-    c.in_ok-begin.ensures.search) in
+    let begun = rw c.nodes.ensures at c.in_ok-begin_at.ensures in
+    let h = c.in_ok-settle_to.ensures.search Against (sources c.args.touched.now) begun in
     let far = c.in_ok-settle_to.ensures.limit in
     record {
       lengths = h.under_way.labelled;
