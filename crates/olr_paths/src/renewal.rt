@@ -117,11 +117,12 @@ impl Renewal {
             Action::Stay => (),
             Action::Keep => counted.keep(),
             Action::Encode => {
-                let published = publish(alloc, map, shown.path, known, query, &mut counted.work)?;
+                let made = publish(alloc, map, shown.path, known, query, &mut counted.work)?;
+                let published = Rc::new(alloc, made)?;
                 push_if_changed(alloc, before, shown.name, &published, &mut self.entries)?;
                 let named = NamedPath {
                     path: shown.path.clone()?,
-                    published: Some(Rc::new(alloc, published)?),
+                    published: Some(published),
                 };
                 self.fresh.push((position, named))?;
             }

@@ -21,22 +21,25 @@ before_is : (o : Option (Bor PathList)) (b : Bor PathList) →
 before_is None b = refl
 before_is (Some x) b = refl
 
-pub returns-clause-new_origins : goal.returns-clause-new_origins
-returns-clause-new_origins g c = λ v h.
-    let same = renewed (items c.unwrap_or.result.now) (items c.args.self.now) c.args.overlay.now c.in_ok-fresh.field-0
-    (items c.put_in.new.list) c.requires.keeps c.in_ok-fresh.ensures.renewed.reported c.in_ok-put_in.ensures.ok in
-    elim (begins_all_put (under_overlay (items c.args.self.now) c.args.overlay.now)
-    (puts_of c.in_ok-fresh.field-0.fresh.items) v (subst (λ (is : List Item). Begins is v) same h)) [
-      | inl a ↦ inl a
-      | inr b ↦ inr (c.in_ok-fresh.ensures.new_origins v b)
-    ]
-
-pub returns-clause-renewed : goal.returns-clause-renewed
-returns-clause-renewed g c =
+pub returns : goal.returns
+returns g c =
     let same = renewed (items c.unwrap_or.result.now) (items c.args.self.now) c.args.overlay.now c.in_ok-fresh.field-0
     (items c.put_in.new.list) c.requires.keeps c.in_ok-fresh.ensures.renewed.reported c.in_ok-put_in.ensures.ok in
     let was = ap (λ (b : Bor PathList). items b.now) c.unwrap_or.ensures ∙ before_is c.args.before _ in
-    rw (same, ← was) c.in_ok-fresh.ensures.renewed
+    let e = c.in_ok-fresh.ensures in
+    record {
+      renewed = rw (same, ← was) e.renewed;
+      rises = e.rises;
+      kept = e.kept;
+      new_origins = λ v h. elim (begins_all_put (under_overlay (items c.args.self.now) c.args.overlay.now)
+          (puts_of c.in_ok-fresh.field-0.fresh.items) v (subst (λ (is : List Item). Begins is v) same h)) [
+            | inl a ↦ inl a
+            | inr b ↦ inr (e.new_origins v b)
+          ];
+      err = tt;
+      err_work = tt;
+      err_kept = tt;
+    }
 
 pub put_in-requires : goal.put_in-requires
 put_in-requires g c =

@@ -7,14 +7,15 @@ returns-in-Keep g c = λ T X C gives f.
 
 pub returns-in_ok-push-in-Encode : goal.returns-in_ok-push-in-Encode
 returns-in_ok-push-in-Encode g c = λ T X C gives f.
-    let e = c.in_ok-published-in-Encode.ensures in
+    let e = c.in_ok-made-in-Encode.ensures in
     let s = e.searched in
-    EncodedAgain (rw c.in-Encode.is at f) (made_of c.in_ok-published-in-Encode.published) (rw c.deref.ensures at e.made)
+    EncodedAgain (rw c.in-Encode.is at f) (made_of c.in_ok-made-in-Encode.made) (rw c.deref.ensures at e.made)
     (rw (
       c.in_ok-push-in-Encode.ensures.items,
       map-append,
       c.in_ok-clone-in-Encode.ensures.cases,
-      c.in_ok-new-in-Encode.ensures.ok,
+      c.in_ok-published-in-Encode.ensures.ok,
     ) refl)
-    c.in_ok-push_if_changed-in-Encode.ensures c.args.known.now s.0 (gives (rw c.in-Encode.is tt))
+    (rw (c.deref-in-Encode.ensures, c.in_ok-published-in-Encode.ensures.ok) at c.in_ok-push_if_changed-in-Encode.ensures)
+    c.args.known.now s.0 (gives (rw c.in-Encode.is tt))
     (rw c.deref.ensures at s.1) (record { encodings = e.counted; spared = refl; searched = s.2 })
