@@ -1,6 +1,6 @@
 //! Encoding again the paths whose answer a change of the map may have changed.
 ghost use Rattle.std.specs.Prelude.{◌≡◌, ◌≤◌, ◌↔◌, ℕ, Contains, Some, slice_get, map as list_map, IsTrue, IfOk};
-ghost use Rattle.std.specs.Prelude.{◌<◌, length, OnOk, OnErr};
+ghost use Rattle.std.specs.Prelude.{◌<◌, length, OnOk};
 ghost use Rattle.olr_spec.specs.Map.{Map};
 ghost use Rattle.olr_commands.specs.Words.{entry_of};
 ghost use Rattle.std.specs.Prelude.{List};
@@ -40,8 +40,8 @@ use std::rc::Rc;
 /// The work of encodings, and how many of the counted encodings retained an answer.
 #[derive(Clone, Copy)]
 pub(crate) struct Counted {
-    work: Work,
-    kept: u64,
+    pub(crate) work: Work,
+    pub(crate) kept: u64,
 }
 
 impl Counted {
@@ -208,8 +208,8 @@ fn renewal_by<M: MapRead>(
     Ok(renewal)
 }
 
-/// The renewal of a list under changes on a map, with its work counted. If an allocation fails, the counts are
-/// unchanged.
+/// The renewal of a list under changes on a map, with its work counted. If an allocation fails, it may be counted in
+/// part.
 pub(crate) fn renewal_of<M: MapRead>(
     alloc: Global,
     map: &M,
@@ -218,21 +218,18 @@ pub(crate) fn renewal_of<M: MapRead>(
     touched: &ChangeSet,
     bounds: &DistanceBounds,
     searches: &mut Searches,
-    work: &mut Work,
-    kept: &mut u64,
+    counted: &mut Counted,
 ) -> Result<Renewal, AllocError>
     requires follows { Follows (items before.now) (shown_items overlaid) }
     requires before { (L : Map) × WasBefore L (M.map map.now) touched.now (shown_items overlaid) }
     requires bounds { AreBoundsOf (M.map map.now) bounds.now (shown_items overlaid) }
     ensures renewed { IfOk result (λ r. IsRenewal (M.map map.now) touched.now (items before.now)
         (shown_items overlaid.entry) (after_renewal r (shown_items overlaid.entry)) (list_map entry_of r.entries.items)
-        work.old work.new kept.old kept.new) }
-    ensures rises { OnOk result (Rises work.old work.new) }
-    ensures kept { OnOk result (kept.old ≤ kept.new) }
+        counted.old.work counted.new.work counted.old.kept counted.new.kept) }
+    ensures rises { OnOk result (Rises counted.old.work counted.new.work) }
+    ensures kept { OnOk result (counted.old.kept ≤ counted.new.kept) }
     ensures new_origins { IfOk result (λ r. (v : QueryRecord) → BeginsPut (made_at r) v →
         Contains (new_origins_in searches.new) v) }
-    ensures err_work { OnErr result (work.new ≡ work.old) }
-    ensures err_kept { OnErr result (kept.new ≡ kept.old) }
 {
     searches.new_origins.clear();
     if overlaid.at(0).is_none() {
@@ -241,25 +238,15 @@ pub(crate) fn renewal_of<M: MapRead>(
             entries: Vec::new(alloc),
         });
     }
-    have_64_bits(work);
+    have_64_bits(&counted.work);
+    // For the proof alone: what is read is in range.
+    let _kept = counted.kept;
+    let encodings = counted.work.encodings;
     let found = ask(alloc, map, overlaid, touched, bounds, searches)?;
-    let mut counted = Counted {
-        work: *work,
-        kept: *kept,
-    };
     let renewal = renewal_by(
-        alloc,
-        map,
-        overlaid,
-        before,
-        touched,
-        searches,
-        &found,
-        &mut counted,
+        alloc, map, overlaid, before, touched, searches, &found, counted,
     )?;
-    searches.count(counted.work.encodings != work.encodings);
+    searches.count(counted.work.encodings != encodings);
     note_fresh(&renewal.fresh, &mut searches.new_origins)?;
-    *work = counted.work;
-    *kept = counted.kept;
     Ok(renewal)
 }

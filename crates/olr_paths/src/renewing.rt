@@ -16,7 +16,7 @@ use crate::overlaid_list::OverlaidList;
 use crate::overlay::Overlay;
 use crate::path_list::PathList;
 use crate::positions::put_in;
-use crate::renewal::{Renewal, renewal_of};
+use crate::renewal::{Counted, Renewal, renewal_of};
 use crate::searches::Searches;
 use olr_commands::Entry;
 use olr_near::DistanceBounds;
@@ -58,8 +58,10 @@ impl PathList {
         ensures err_work { OnErr result (work.new ≡ work.old) }
         ensures err_kept { OnErr result (kept.new ≡ kept.old) }
     {
-        let mut tried = *work;
-        let mut spared = *kept;
+        let mut counted = Counted {
+            work: *work,
+            kept: *kept,
+        };
         let overlaid = OverlaidList {
             list: self,
             overlay,
@@ -72,13 +74,12 @@ impl PathList {
             touched,
             bounds,
             searches,
-            &mut tried,
-            &mut spared,
+            &mut counted,
         )?;
         put_in(alloc, self, overlay, fresh)?;
         self.held = false;
-        *work = tried;
-        *kept = spared;
+        *work = counted.work;
+        *kept = counted.kept;
         Ok(entries)
     }
 

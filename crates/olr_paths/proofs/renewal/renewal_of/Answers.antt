@@ -1,4 +1,4 @@
-use Rattle.olr_paths.proofs.Common.{arith, ◌∙◌, ap, option_map, shown_items, shown_item, Renewal, Counted, none_of}
+use Rattle.olr_paths.proofs.Common.{arith, ◌∙◌, ap, option_map, shown_items, shown_item, Renewal, none_of}
 use Rattle.olr_paths.proofs.Covering.{nothing_at}
 use Rattle.olr_paths.proofs.RenewedPrefix.{whole, so_far_none}
 use Rattle.olr_paths.proofs.Raising.{kept_up, work_up}
@@ -16,15 +16,12 @@ returns-then-is_none g c =
     nothing_at (shown_items c.args.overlaid) (c.at.ensures.shown
     ∙ ap (option_map shown_item) (none_of c.at.result c.if-is_none.ensures)) in
     let r : Renewal = record { fresh = c.new.result; entries = c.new-then-is_none.result } in
-    let counted : Counted = record { work = c.args.work.now; kept = c.args.kept.now } in
     record {
-      renewed = whole {old = counted} {now = counted} r c.requires.before
-          (rw none (so_far_none r counted c.new.ensures.items c.new-then-is_none.ensures.items));
+      renewed = whole r c.requires.before
+          (rw none (so_far_none r c.args.counted.now c.new.ensures.items c.new-then-is_none.ensures.items));
       rises = record { encodings = omega arith; searches = omega arith; settled = omega arith };
       kept = omega arith;
       new_origins = λ v b. absurd (rw c.new.ensures.items at b);
-      err_work = tt;
-      err_kept = tt;
     }
 
 pub returns : goal.returns
@@ -34,10 +31,8 @@ returns g c =
     let t = c.in_ok-renewal.ensures.renewed.counted b.0 b.1 in
     record {
       renewed = c.in_ok-renewal.ensures.renewed;
-      rises = work_up (g.M.MapRead.map c.args.map.now) t.0.queries t.0.affected c.args.work.now new.work
+      rises = work_up (g.M.MapRead.map c.args.map.now) t.0.queries t.0.affected c.args.counted.now.work new.work
           c.have_64_bits.ensures t.2.encodings t.2.searched;
-      kept = kept_up c.args.kept.now new.kept t.0.spared (omega arith) t.2.spared;
+      kept = kept_up c.args.counted.now.kept new.kept t.0.spared (omega arith) t.2.spared;
       new_origins = rw c.deref-2.ensures.value at c.in_ok-note_fresh.ensures;
-      err_work = tt;
-      err_kept = tt;
     }
