@@ -7,6 +7,9 @@ use Rattle.olr_paths.proofs.renewal.renewal_by.Goals as goal
 pub decide-requires-clause-asked : goal.decide-requires-clause-asked
 decide-requires-clause-asked g c = λ m. c.loop-candidate.invariant.3 _ (shown_item c.in-Some.shown) m c.in-Some.ensures.shown
 
+pub decide-requires-clause-detours : goal.decide-requires-clause-detours
+decide-requires-clause-detours g c = c.loop-candidate.invariant.2 (omega arith)
+
 pub known_for-requires-clause-before : goal.known_for-requires-clause-before
 known_for-requires-clause-before g c =
     let b = c.requires.before in (b.0, shown_items c.args.overlaid, _, c.in-Some.ensures.shown, b.1)

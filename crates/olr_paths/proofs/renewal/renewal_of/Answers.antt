@@ -4,11 +4,15 @@ use Rattle.olr_paths.proofs.RenewedPrefix.{whole, so_far_none}
 use Rattle.olr_paths.proofs.Raising.{kept_up, work_up}
 use Rattle.olr_paths.proofs.renewal.renewal_of.Goals as goal
 
-pub renewal_by-requires-clause-ascending : goal.renewal_by-requires-clause-ascending
-renewal_by-requires-clause-ascending g c = rw c.deref.ensures.value c.in_ok-found.ensures.ascending
-
-pub renewal_by-requires-clause-covers : goal.renewal_by-requires-clause-covers
-renewal_by-requires-clause-covers g c = rw c.deref.ensures.value c.in_ok-found.ensures.covers
+pub renewal_by-requires : goal.renewal_by-requires
+renewal_by-requires g c = let f = c.in_ok-found.ensures in record {
+  asked = f.asked;
+  ascending = rw c.deref.ensures.value f.ascending;
+  covers = rw c.deref.ensures.value f.covers;
+  detours = rw c.deref.ensures.value f.detours;
+  follows = c.requires.follows;
+  before = c.requires.before;
+}
 
 pub returns-then-is_none : goal.returns-then-is_none
 returns-then-is_none g c =

@@ -21,6 +21,11 @@ before_is : (o : Option (Bor PathList)) (b : Bor PathList) →
 before_is None b = refl
 before_is (Some x) b = refl
 
+pub renewal_of-requires : goal.renewal_of-requires
+renewal_of-requires g c =
+    let was = ap (λ (b : Bor PathList). items b.now) c.unwrap_or.ensures ∙ before_is c.args.before _ in
+    record { follows = rw was c.requires.follows; bounds = c.requires.bounds; before = c.requires.before }
+
 pub returns : goal.returns
 returns g c =
     let same = renewed (items c.unwrap_or.result.now) (items c.args.self.now) c.args.overlay.now c.in_ok-fresh.field-0
