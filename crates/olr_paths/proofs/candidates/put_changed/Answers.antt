@@ -1,6 +1,6 @@
 use Rattle.olr_paths.proofs.Common.{◌≡◌, ◌++◌, ◌∷◌, [], ◌∙◌, ℕ, List, Option, String, Global, false, sym, subst}
 use Rattle.olr_paths.proofs.Common.{string_bytes, has, same_name, Rc, Path, items, Changes, path_in, Includes}
-use Rattle.olr_paths.proofs.Common.{FindsChanged}
+use Rattle.olr_paths.proofs.Common.{FindsChanged, arith, take_all}
 use Rattle.olr_paths.proofs.NamedEntries.{first_at, named_there, same_flip}
 use Rattle.olr_paths.proofs.Overlaying.{Entered}
 use Rattle.olr_paths.proofs.Changed.{take_more_changes, not_there}
@@ -45,3 +45,7 @@ loop-k-preserved c =
           (others_apart es name q old first c.len-names.ensures.names k i there
           (subst (λ (xs : List ℕ). has xs k ≡ false) put off)))),
     )
+
+pub returns-clause-put : goal.returns-clause-put
+returns-clause-put c =
+    rw (take_all c.loop-k.k c.args.overlaid.overlay.now.changes.entries (omega arith)) at c.loop-k.invariant.1

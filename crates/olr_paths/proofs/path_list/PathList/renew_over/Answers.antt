@@ -24,3 +24,9 @@ pub returns-then-is_ok-clause-new_origins : goal.returns-then-is_ok-clause-new_o
 returns-then-is_ok-clause-new_origins g c = rw c.replace_by.ensures
     (rw (c.new-none.ensures (items c.in_ok-list.list), c.in_ok-list.ensures) at
     c.renew_overlaid-renewed.ensures.new_origins)
+
+pub returns-then-not-takes_some-clause-renewed : goal.returns-then-not-takes_some-clause-renewed
+returns-then-not-takes_some-clause-renewed g c = rw c.index.ensures c.in_ok-entries.ensures.renewed
+
+pub returns-then-not-takes_some-clause-new_origins : goal.returns-then-not-takes_some-clause-new_origins
+returns-then-not-takes_some-clause-new_origins g c = rw c.index.ensures c.in_ok-entries.ensures.new_origins
