@@ -90,7 +90,7 @@ fn search_touched<M: MapRead>(
 }
 
 /// Searches from the touched nodes, and finds the positions of the paths that the edits may affect, in ascending order.
-/// If there are any, the searches from the changed lines begin.
+/// If there are any, the searches from the changed lines begin. Without paths, nothing is searched.
 pub(crate) fn ask<M: MapRead>(
     alloc: Global,
     map: &M,
@@ -110,6 +110,10 @@ pub(crate) fn ask<M: MapRead>(
         (λ found. 0 < length found.items → length (changed_of touched.now) ≤ most_changed
         → AreDetours (M.map map.now) (M.node_slot map.now) touched.now searches.new.detours) }
 {
+    if overlaid.at(0).is_none() {
+        searches.far = true;
+        return Ok(Vec::new(alloc));
+    }
     search_touched(alloc, map, touched, bounds, overlaid, searches)?;
     let found = candidates(alloc, map, overlaid, touched, searches)?;
     begin_detours(alloc, map, touched, &found, &mut searches.detours)?;

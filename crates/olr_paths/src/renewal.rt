@@ -232,12 +232,6 @@ pub(crate) fn renewal_of<M: MapRead>(
         Contains (new_origins_in searches.new) v) }
 {
     searches.new_origins.clear();
-    if overlaid.at(0).is_none() {
-        return Ok(Renewal {
-            fresh: Vec::new(alloc),
-            entries: Vec::new(alloc),
-        });
-    }
     have_64_bits(&counted.work);
     // For the proof alone: what is read is in range.
     let _kept = counted.kept;

@@ -1,6 +1,4 @@
-use Rattle.olr_paths.proofs.Common.{arith, ◌∙◌, ap, option_map, shown_items, shown_item, Renewal, none_of}
-use Rattle.olr_paths.proofs.Covering.{nothing_at}
-use Rattle.olr_paths.proofs.RenewedPrefix.{whole, so_far_none}
+use Rattle.olr_paths.proofs.Common.{arith}
 use Rattle.olr_paths.proofs.Raising.{kept_up, work_up}
 use Rattle.olr_paths.proofs.renewal.renewal_of.Goals as goal
 
@@ -13,20 +11,6 @@ renewal_by-requires g c = let f = c.in_ok-found.ensures in record {
   follows = c.requires.follows;
   before = c.requires.before;
 }
-
-pub returns-then-is_none : goal.returns-then-is_none
-returns-then-is_none g c =
-    let none =
-    nothing_at (shown_items c.args.overlaid) (c.at.ensures.shown
-    ∙ ap (option_map shown_item) (none_of c.at.result c.if-is_none.ensures)) in
-    let r : Renewal = record { fresh = c.new.result; entries = c.new-then-is_none.result } in
-    record {
-      renewed = whole r c.requires.before
-          (rw none (so_far_none r c.args.counted.now c.new.ensures.items c.new-then-is_none.ensures.items));
-      rises = record { encodings = omega arith; searches = omega arith; settled = omega arith };
-      kept = omega arith;
-      new_origins = λ v b. absurd (rw c.new.ensures.items at b);
-    }
 
 pub returns : goal.returns
 returns g c =
