@@ -25,8 +25,8 @@ pub use Rattle.olr_paths.specs.Origins.{AreFar, Begins, BeginsIn, BeginsPut}
 pub use Rattle.olr_paths.specs.Renewing.{EncodedAgain, Gives, IsRenewal, IsStep, Left, Put, ReportsIfOther, Retained}
 pub use Rattle.olr_paths.specs.Renewing.{Stays, ToEncode, ToStay, WasBefore, after_renewal, all_put, encoded_one}
 pub use Rattle.olr_paths.specs.Renewing.{entries_of, made_at, put, puts_of, spared_one}
-pub use Rattle.olr_paths.specs.Searching.{AreAsked, AreDetours, AreFarther, IsAsked, IsExactAt, LackQueries, ends}
-pub use Rattle.olr_paths.specs.Searching.{sources, starts}
+pub use Rattle.olr_paths.specs.Searching.{AreAsked, AreDetours, AreFarther, IsAsked, IsExactAt, LackQueries, sources}
+pub use Rattle.olr_paths.specs.Searching.{sources_in}
 pub use Rattle.olr_paths.specs.Showing.{shown_item, shown_items}
 pub use Rattle.olr_paths.specs.Touching.{change_of, changed_of, lines_of, nodes_of}
 pub use Rattle.olr_paths.specs.declared.change_set.ChangeSet.{ChangeSet}

@@ -205,7 +205,7 @@ lack_overlaid cs (i ∷ is) ys first second l h =
     ]
 
 -- with more positions
-unfound : (old now : List ℕ) (k : ℕ) → Includes old now → has now k ≡ false → has old k ≡ false
+pub unfound : (old now : List ℕ) (k : ℕ) → Includes old now → has now k ≡ false → has old k ≡ false
 unfound old now k kept off = grind (arith, kept k)
 
 pub covers_grown : (N : Map) (slot : ℕ → ℕ) (t : ChangeSet) (s : Searches) (is : List Item) (old now : List ℕ) →

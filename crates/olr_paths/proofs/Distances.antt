@@ -2,7 +2,7 @@
 use Rattle.olr_paths.proofs.Common.{inl, inr, ◌≡◌, ℕ, zero, suc, ◌+◌, ◌<◌, ◌≤◌, true, List, [], ◌∷◌, map, IsTrue, ◌↔◌}
 use Rattle.olr_paths.proofs.Common.{Option, Some, None, IfSome, refl, sym, ap, subst, arith, cases_lt, Map, IsMap}
 use Rattle.olr_paths.proofs.Common.{has_node, end, has, IsRoute, dm_of, ChangedLine, Near, Leads, Along, Against}
-use Rattle.olr_paths.proofs.Common.{AreFarther, ⊎_elim, Detour, route_start, IsDistance}
+use Rattle.olr_paths.proofs.Common.{AreFarther, sources_in, ⊎_elim, Detour, route_start, IsDistance}
 use Rattle.olr_search.specs.declared.distances.Direction.{Direction}
 use Rattle.olr_paths.proofs.Alls.{has_from, in_from, Contains-map, Contains-unmap}
 
@@ -101,15 +101,9 @@ module _ (N : Map) (n : IsMap N) (T : List ℕ) (node : ℕ) where
 
 -- ---- detours
 
-abbrev pub all_starts : List ChangedLine → List (ℕ × ℕ)
-all_starts C = map {A = ChangedLine} {B = ℕ × ℕ} (λ c. (c.from, c.len)) C
-
-abbrev pub all_ends : List ChangedLine → List (ℕ × ℕ)
-all_ends C = map {A = ChangedLine} {B = ℕ × ℕ} (λ c. (c.to, 0)) C
-
 module _ (N : Map) (n : IsMap N) (C : List ChangedLine) (s t d most far : ℕ) (from_there : IsTrue (has_node N s))
     (to_there : IsTrue (has_node N t)) (le : d ≤ most) where
-  leads_to : (h : Detour N C s t d) → Leads N Against (all_starts C) s (h.first.len + dm_of N h.before)
+  leads_to : (h : Detour N C s t d) → Leads N Against (sources_in Against C) s (h.first.len + dm_of N h.before)
   leads_to h = record {
     source = h.first.from;
     begun = h.first.len;
@@ -120,7 +114,7 @@ module _ (N : Map) (n : IsMap N) (C : List ChangedLine) (s t d most far : ℕ) (
     long = refl;
   }
 
-  leads_back : (h : Detour N C s t d) → Leads N Along (all_ends C) t (dm_of N h.after)
+  leads_back : (h : Detour N C s t d) → Leads N Along (sources_in Along C) t (dm_of N h.after)
   leads_back h = record {
     source = h.last.to;
     begun = 0;
@@ -132,7 +126,7 @@ module _ (N : Map) (n : IsMap N) (C : List ChangedLine) (s t d most far : ℕ) (
   }
 
   -- two distances that are short enough make a detour
-  detour_by : (a b : ℕ) → Leads N Against (all_starts C) s a → Leads N Along (all_ends C) t b → a + b ≤ d →
+  detour_by : (a b : ℕ) → Leads N Against (sources_in Against C) s a → Leads N Along (sources_in Along C) t b → a + b ≤ d →
       Detour N C s t d
   detour_by a b to back short =
       let f = Contains-unmap (λ (c : ChangedLine). (c.from, c.len)) C (to.source, to.begun) to.listed in
@@ -154,8 +148,8 @@ module _ (N : Map) (n : IsMap N) (C : List ChangedLine) (s t d most far : ℕ) (
         within = omega arith;
       }
 
-  pub clear_only : (q r : Option ℕ) → ReturnsDistance N Against (all_starts C) s most q →
-      ReturnsDistance N Along (all_ends C) t far r → ¬ Detour N C s t d → AreFarther q r d
+  pub clear_only : (q r : Option ℕ) → ReturnsDistance N Against (sources_in Against C) s most q →
+      ReturnsDistance N Along (sources_in Along C) t far r → ¬ Detour N C s t d → AreFarther q r d
   clear_only None r before after none = tt
   clear_only (Some a) None before after none = tt
   clear_only (Some a) (Some b) before after none = elim (cases_lt d (a + b)) [
@@ -169,12 +163,12 @@ module _ (N : Map) (n : IsMap N) (C : List ChangedLine) (s t d most far : ℕ) (
   far_apart (Some a) None x y one two short rest h = omega arith
   far_apart (Some a) (Some b) x y one two short rest h = omega arith
 
-  pub clear_by : (q r : Option ℕ) → ReturnsDistance N Against (all_starts C) s most q →
-      ReturnsDistance N Along (all_ends C) t far r → IfSome q (λ a. d ≤ a + far) →
+  pub clear_by : (q r : Option ℕ) → ReturnsDistance N Against (sources_in Against C) s most q →
+      ReturnsDistance N Along (sources_in Along C) t far r → IfSome q (λ a. d ≤ a + far) →
       AreFarther q r d → ¬ Detour N C s t d
   clear_by q r before after rest farther h = far_apart q r (h.first.len + dm_of N h.before) (dm_of N h.after)
-      (at_least N Against (all_starts C) s most q before _ (leads_to h))
-      (at_least N Along (all_ends C) t far r after _ (leads_back h)) (let w = h.within in omega arith) rest farther
+      (at_least N Against (sources_in Against C) s most q before _ (leads_to h))
+      (at_least N Along (sources_in Along C) t far r after _ (leads_back h)) (let w = h.within in omega arith) rest farther
 
 -- as far as what is left, or farther
 pub rest_more : (d within rest far : ℕ) (q : Option ℕ) → within ≡ d → rest ≤ far → IfSome q (λ b. within ≤ b + rest) →

@@ -4,7 +4,7 @@
 --         of m is touched
 --     AreAsked      the same of each path that was encoded
 --     LackQueries is      no path has a query
---     source_in direction c      where the search in a direction begins at a changed line, and its start value
+--     source_in, sources_in direction      where the search in a direction begins at changed lines, and its start values
 --     AreDetours N slot t d      the searches for the distances to where changed lines begin, and from where they end
 --     AreFarther p q d      two distances together are more than d, or one is none
 use Rattle.std.specs.Prelude.{◌≡◌, ℕ, ◌+◌, ◌<◌, ◌≤◌, min, List, map, Contains, Bool, Option, Some, None}
@@ -54,15 +54,12 @@ abbrev pub source_in : Direction → ChangedLine → ℕ × ℕ
 source_in Against c = (c.from, c.len)
 source_in Along c = (c.to, 0)
 
-abbrev pub starts : ChangeSet → List (ℕ × ℕ)
-starts t = map (λ c. (c.from, c.len)) (changed_of t)
-
-abbrev pub ends : ChangeSet → List (ℕ × ℕ)
-ends t = map (λ c. (c.to, 0)) (changed_of t)
+abbrev pub sources_in : Direction → List ChangedLine → List (ℕ × ℕ)
+sources_in direction C = map (source_in direction) C
 
 pub record AreDetours (N : Map) (slot : ℕ → ℕ) (t : ChangeSet) (d : Detours) : Type 0 where
-  pub before : IsSearch N slot Against (starts t) d.before
-  pub after : IsSearch N slot Along (ends t) d.after
+  pub before : IsSearch N slot Against (sources_in Against (changed_of t)) d.before
+  pub after : IsSearch N slot Along (sources_in Along (changed_of t)) d.after
 
 abbrev pub AreFarther : Option ℕ → Option ℕ → ℕ → Type 0
 AreFarther (Some a) (Some b) d = d < a + b

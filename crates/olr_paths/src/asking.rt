@@ -54,6 +54,7 @@ pub(crate) fn search_near<M: MapRead>(
 }
 
 /// Whether it is known that no path of a list has a coverage query.
+#[tactic(auto, using(crate::proofs::NotedPositions::lack_by))]
 fn lacks_queries(list: &PathList) -> bool
     ensures { IsTrue result → LackQueries (items list.now) }
 {
@@ -61,6 +62,7 @@ fn lacks_queries(list: &PathList) -> bool
 }
 
 /// Whether it is known that no path has a coverage query: then no touched node can be near to one.
+#[tactic(auto, using(crate::proofs::Covering::lack_overlaid))]
 fn is_without_queries(overlaid: OverlaidList<'_>) -> bool
     ensures { IsTrue result → LackQueries (shown_items overlaid.entry) }
 {

@@ -1,5 +1,5 @@
 //! Whether changed lines offer a detour that is as short as a coverage query.
-ghost use Rattle.std.specs.Prelude.{◌≡◌, ◌<◌, ◌≤◌, ◌+◌, ◌↔◌, length, IsTrue, IfOk, IfSome, OnOk};
+ghost use Rattle.std.specs.Prelude.{◌<◌, ◌≤◌, ◌+◌, ◌↔◌, length, IsTrue, IfOk, IfSome, OnOk};
 ghost use Rattle.olr_paths.specs.Touching.{changed_of};
 ghost use Rattle.olr_paths.specs.Searching.{AreDetours, AreFarther};
 ghost use Rattle.olr_commands.specs.Counts.{Picks, IsAgainClear, most_changed};

@@ -22,8 +22,7 @@ pub returns : goal.returns
 returns g c =
     let begun = rw c.nodes.ensures at c.in_ok-begin_at.ensures in
     let h = c.in_ok-settle_to.ensures.search Against (sources c.args.touched.now) begun in
-    let far = c.in_ok-settle_to.ensures.limit in
     record {
       lengths = h.under_way.labelled;
-      returned = λ right v w source d le there way. h.settled v d there (omega arith) way;
+      returned = λ right v w source d le there way. h.settled v d there (omega (arith, c.in_ok-settle_to.ensures.limit)) way;
     }

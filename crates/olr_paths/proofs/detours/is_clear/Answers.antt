@@ -1,6 +1,6 @@
-use Rattle.olr_paths.proofs.Common.{◌≡◌, ◌≤◌, sym, ap, arith, Along, Against, changed_of, CoverageQuery, starts, ends}
+use Rattle.olr_paths.proofs.Common.{◌≡◌, ◌≤◌, sym, ap, arith, Along, Against, changed_of, CoverageQuery, sources_in}
 use Rattle.olr_search.specs.Searches.{limit_of}
-use Rattle.olr_paths.proofs.Distances.{ReturnsDistance, all_starts, all_ends, clear_by, clear_only, rest_more}
+use Rattle.olr_paths.proofs.Distances.{ReturnsDistance, clear_by, clear_only, rest_more}
 use Rattle.olr_paths.proofs.detours.is_clear.Goals as goal
 
 pub returns : goal.returns
@@ -18,13 +18,13 @@ returns g c =
     let within_is : raw.within ≡ l.within = ap (λ (k : CoverageQuery). k.within) c.query.view_is in
     let from_there = rw from_is at c.in-Some.ensures.0 in
     let to_there = rw to_is at c.in-Some-slot_of.ensures.0 in
-    let to_start = c.in_ok-settle_to.ensures.search Against (starts t) c.requires.before in
-    let from_end = c.in_ok-settle_to-2.ensures.search Along (ends t) c.requires.after in
-    let before : ReturnsDistance N Against (all_starts C) l.from (limit_of first) c.dist_at-before.result = λ d.
-    c.dist_at-before.ensures N slot Against (starts t) l.from d
+    let to_start = c.in_ok-settle_to.ensures.search Against (sources_in Against C) c.requires.before in
+    let from_end = c.in_ok-settle_to-2.ensures.search Along (sources_in Along C) c.requires.after in
+    let before : ReturnsDistance N Against (sources_in Against C) l.from (limit_of first) c.dist_at-before.result = λ d.
+    c.dist_at-before.ensures N slot Against (sources_in Against C) l.from d
     to_start from_there (rw from_is at (sym c.in-Some.ensures.1)) in
-    let after : ReturnsDistance N Along (all_ends C) l.to (limit_of second) c.dist_at-after.result = λ d.
-    c.dist_at-after.ensures N slot Along (ends t) l.to d
+    let after : ReturnsDistance N Along (sources_in Along C) l.to (limit_of second) c.dist_at-after.result = λ d.
+    c.dist_at-after.ensures N slot Along (sources_in Along C) l.to d
     from_end to_there (rw to_is at (sym c.in-Some-slot_of.ensures.1)) in
     let short = c.if-query-gt-GREATEST_LIMIT.false in
     let reached : limit_of first ≡ _ = c.in_ok-settle_to.ensures.limit in

@@ -65,7 +65,6 @@ pub returns : goal.returns
 returns g c =
     let h = c.loop-candidate.invariant in
     let is = shown_items c.args.overlaid in
-    let past : length c.args.found.now ≤ c.loop-candidate.candidate-index = c.loop-candidate-test.false in
     record {
       renewed =
           whole c.loop-candidate.renewal c.requires.before (rw (take_all (length is) is (omega arith)) at (to_position
