@@ -105,10 +105,7 @@ pub fn replay(
     let mut outcomes = Vec::new(alloc);
     for command in commands {
         let outcome = register.apply(command);
-        let Ok(()) = outcomes.push(outcome) else {
-            drop(register);
-            return Err(AllocError);
-        };
+        outcomes.push(outcome)?;
     }
     Ok((register, outcomes))
 }

@@ -10,7 +10,6 @@ use std::alloc::Global;
 use std::marker::Model;
 
 /// A road map and named paths with what is published of them, and an open batch if there is one.
-#[derive(Drop)]
 pub struct Register {
     pub(crate) alloc: Global,
     /// The map, or that of the open batch.
@@ -41,6 +40,29 @@ impl Model for Register {
     ghost view = { λ r. record { kept = kept_of r.roads (items r.paths) r.batch; work = r.work; spared = r.spared } };
 
     ghost invariant = { λ r. IsKeptRight r.roads (items r.paths) r.batch r.near };
+}
+
+// Written out: a derived drop is proved again in each crate that ends a register.
+impl Drop for Register {
+    fn drop(self) {
+        let Register {
+            alloc: _,
+            roads,
+            paths,
+            searches,
+            touched,
+            work: _,
+            spared: _,
+            batch,
+            near,
+        } = self;
+        drop(roads);
+        drop(paths);
+        drop(searches);
+        drop(touched);
+        drop(batch);
+        drop(near);
+    }
 }
 
 impl Register {

@@ -13,7 +13,7 @@ pub loop-command-preserved : goal.loop-command-preserved
 loop-command-preserved c =
     run_continues c.loop-command.register c.apply-outcome.new.self c.loop-command.yielded c.in-Some.command
     c.loop-command.outcomes.items _ c.apply-outcome.result c.loop-command.invariant c.apply-outcome.ensures.outcome
-    c.apply-outcome.ensures.sound c.in-Ok.ensures.items
+    c.apply-outcome.ensures.sound c.in_ok-push.ensures.items
 
 -- the state to which all commands lead
 whole_run : (c : goal.After-drop-command-iterator-2) →
