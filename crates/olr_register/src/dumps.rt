@@ -155,10 +155,9 @@ fn push_paths(text: &mut Vec<u8>, paths: &PathList) -> Result<(), AllocError>
 /// The records of a map and of paths.
 fn dump_of(alloc: Global, roads: &RoadMap, paths: &PathList) -> Result<Dump, AllocError>
     requires recordable { IsTrue (recordable.is_recordable_map (map_of roads.now)) }
-    ensures count { IfOk result (λ d. d.count
-        ≡ length (dump_lines (record { map = map_of roads.now; paths = all_named (items paths.now) }))) }
-    ensures text { IfOk result (λ d. d.text.items
-        ≡ concat (dump_lines (record { map = map_of roads.now; paths = all_named (items paths.now) }))) }
+    ensures { IfOk result (λ d.
+        (d.count ≡ length (dump_lines (record { map = map_of roads.now; paths = all_named (items paths.now) })))
+        × (d.text.items ≡ concat (dump_lines (record { map = map_of roads.now; paths = all_named (items paths.now) })))) }
 {
     let mut text = Vec::new(alloc);
     let nodes = roads.node_ids(alloc)?;

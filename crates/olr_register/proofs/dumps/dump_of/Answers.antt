@@ -4,21 +4,20 @@ use Rattle.olr_register.proofs.Common.{node_change, line_change, path_change, it
 use Rattle.olr_register.proofs.DumpTexts.{dump_text}
 use Rattle.olr_register.proofs.dumps.dump_of.Goals as goal
 
-pub returns-clause-text : goal.returns-clause-text
-returns-clause-text c =
-    let M = map_of c.args.roads.now in
-    let content : Content = record { map = M; paths = all_named (items c.args.paths.now) } in
-    c.in_ok-push_paths.ensures
-    ∙ ap (λ (t : List ℕ). t ++ flat_map (λ p. record_line (path_change p)) content.paths) (c.in_ok-push_lines.ensures
-    ∙ ap (λ (t : List ℕ). t ++ flat_map (λ e. record_line (line_change e)) (entries M.lines)) (c.in_ok-push_nodes.ensures
-    ∙ ap (λ (t : List ℕ). t ++ flat_map (λ e. record_line (node_change e)) (entries M.nodes)) c.new-text.ensures.items))
-    ∙ dump_text content []
-
 pub push_nodes-requires-clause-ids : goal.push_nodes-requires-clause-ids
 push_nodes-requires-clause-ids c = c.deref.ensures.value ∙ c.in_ok-nodes.ensures
 
 pub push_lines-requires-clause-ids : goal.push_lines-requires-clause-ids
 push_lines-requires-clause-ids c = c.deref-2.ensures.value ∙ c.in_ok-lines.ensures
 
-pub returns-clause-count : goal.returns-clause-count
-returns-clause-count c = grind (arith, common_steps)
+pub returns : goal.returns
+returns c =
+    let content : Content = record { map = map_of c.args.roads.now; paths = all_named (items c.args.paths.now) } in (
+      grind (arith, common_steps),
+      c.in_ok-push_paths.ensures
+          ∙ ap (λ (t : List ℕ). t ++ flat_map (λ p. record_line (path_change p)) content.paths) (c.in_ok-push_lines.ensures
+          ∙ ap (λ (t : List ℕ). t ++ flat_map (λ e. record_line (line_change e)) (entries content.map.lines))
+          (c.in_ok-push_nodes.ensures
+          ∙ ap (λ (t : List ℕ). t ++ flat_map (λ e. record_line (node_change e)) (entries content.map.nodes)) c.new-text.ensures.items))
+          ∙ dump_text content [],
+    )

@@ -1,12 +1,11 @@
-use Rattle.olr_register.proofs.Common.{List, ℕ, ◌++◌, sym, ap, ◌∙◌, Map, map_of, record_line, line_change}
+use Rattle.olr_register.proofs.Common.{List, ℕ, ◌++◌, sym, ap, ◌∙◌, map_of, record_line, line_change}
 use Rattle.std.specs.Option.{option_copied}
 use Rattle.olr_register.proofs.DumpTexts.{shapes_pass, entry_there, entry_record}
 use Rattle.olr_register.proofs.dumps.push_lines.Goals as goal
 
 pub unreachable-requires : goal.unreachable-requires
 unreachable-requires c =
-    let M : Map = map_of c.args.roads.now in
-    entry_there M.lines c.args.ids.now c.loop-id.id-index c.id-item.result _ c.requires.ids
+    entry_there (map_of c.args.roads.now).lines c.args.ids.now c.loop-id.id-index c.id-item.result _ c.requires.ids
     c.loop-id-test.true c.id-item.is c.line.ensures (ap option_copied c.in_default.is)
 
 pub push_line_record-requires : goal.push_line_record-requires
@@ -16,9 +15,8 @@ push_line_record-requires c =
 
 pub loop-id-preserved : goal.loop-id-preserved
 loop-id-preserved c =
-    let M : Map = map_of c.args.roads.now in
     let id : ℕ = c.id-item.result in
     c.in_ok-push_line_record.ensures
     ∙ ap (λ (t : List ℕ). t ++ record_line (line_change (id, c.in-Some.line.now))) c.loop-id.invariant
-    ∙ entry_record M.lines c.args.ids.now c.loop-id.id-index id _ c.requires.ids c.loop-id-test.true
+    ∙ entry_record (map_of c.args.roads.now).lines c.args.ids.now c.loop-id.id-index id _ c.requires.ids c.loop-id-test.true
     c.id-item.is c.line.ensures (λ e. record_line (line_change e)) c.args.text.now.items _ (ap option_copied c.in-Some.is)

@@ -1,11 +1,10 @@
-use Rattle.olr_register.proofs.Common.{List, ℕ, ◌++◌, sym, ap, ◌∙◌, Map, map_of, record_line, node_change}
+use Rattle.olr_register.proofs.Common.{List, ℕ, ◌++◌, sym, ap, ◌∙◌, map_of, record_line, node_change}
 use Rattle.olr_register.proofs.DumpTexts.{coords_pass, entry_there, entry_record}
 use Rattle.olr_register.proofs.dumps.push_nodes.Goals as goal
 
 pub unreachable-requires : goal.unreachable-requires
 unreachable-requires c =
-    let M : Map = map_of c.args.roads.now in
-    entry_there M.nodes c.args.ids.now c.loop-id.id-index c.id-item.result _ c.requires.ids
+    entry_there (map_of c.args.roads.now).nodes c.args.ids.now c.loop-id.id-index c.id-item.result _ c.requires.ids
     c.loop-id-test.true c.id-item.is c.node.ensures c.in_default.is
 
 pub push_node_record-requires : goal.push_node_record-requires
@@ -15,9 +14,8 @@ push_node_record-requires c =
 
 pub loop-id-preserved : goal.loop-id-preserved
 loop-id-preserved c =
-    let M : Map = map_of c.args.roads.now in
     let id : ℕ = c.id-item.result in
     c.in_ok-push_node_record.ensures
     ∙ ap (λ (t : List ℕ). t ++ record_line (node_change (id, c.in-Some.coord))) c.loop-id.invariant
-    ∙ entry_record M.nodes c.args.ids.now c.loop-id.id-index id _ c.requires.ids c.loop-id-test.true
+    ∙ entry_record (map_of c.args.roads.now).nodes c.args.ids.now c.loop-id.id-index id _ c.requires.ids c.loop-id-test.true
     c.id-item.is c.node.ensures (λ e. record_line (node_change e)) c.args.text.now.items _ c.in-Some.is

@@ -32,14 +32,13 @@ returns-in_err-hold c = λ roads.
 
 pub returns : goal.returns
 returns c = λ roads.
-    let b = c.args.self.now in
     let is = items c.args.list.now in
     let name = string_bytes c.args.name in
     let path = path_by c.args.parts in
-    let ks = under_overlay is b.overlay in
+    let ks = under_overlay is c.args.self.now.overlay in
     let free : has_name ks name ≡ false =
     ap (has_name ks) (sym c.deref.ensures) ∙ sym c.has-taken.ensures ∙ c.in_ok-path.ensures.right in
-    path_made roads is b c.hold.new.self (Add_path name path) _
+    path_made roads is c.args.self.now c.hold.new.self (Add_path name path) _
     (rw (← c.in_ok-path.ensures.ok) (c.in_ok-hold.ensures.ok is))
     (add_ok (map_of roads) ks name path _ free c.in_ok-path.ensures.good) tt refl refl refl
     (λ names g. given_add name path names ks free g) (λ M. each_add (each_if_any M) ks _ tt)

@@ -35,7 +35,7 @@ returns c =
       (
         state k.content None,
         (refl, tt),
-        (rw (← c.if-not-is_recordable.ensures), λ i. Dumped (c.in_ok-dump_of.ensures.count i) (c.in_ok-dump_of.ensures.text i)),
+        (rw (← c.if-not-is_recordable.ensures), λ i. Dumped (c.in_ok-dump_of.ensures.0 i) (c.in_ok-dump_of.ensures.1 i)),
       ),
     )))
 
