@@ -1,8 +1,8 @@
 //! Encoding in version 3.
-ghost use Rattle.std.specs.Prelude.{◌≡◌, ◌++◌, IfOk, OnOk};
+ghost use Rattle.std.specs.Prelude.{◌≡◌, ◌∷◌, ◌++◌, IfOk, OnOk};
 ghost use Rattle.std.specs.List.{AllByRecursion, flat_map};
 ghost use Rattle.olr_spec.specs.Bytes.{IsFirst, IsMiddle, IsLast, AreAttrs, HasBytes, attr_bytes, first_bytes};
-ghost use Rattle.olr_spec.specs.Bytes.{middle_bytes, last_bytes, offset_bytes};
+ghost use Rattle.olr_spec.specs.Bytes.{middle_bytes, last_bytes, offset_bytes, status_byte};
 
 use crate::bits::{attribute1, attribute2, attribute4, signed16, signed24};
 use crate::fields::{Attrs, First, Last, Middle, Reference};
@@ -27,16 +27,16 @@ fn attr_bytes(attrs: Attrs) -> [u8; 3]
     ]
 }
 
-/// The bytes of the first LRP.
-fn first_bytes(point: First) -> [u8; 9]
+/// The status byte and the bytes of the first LRP.
+fn start_bytes(point: First) -> [u8; 10]
     requires { IsFirst point }
-    ensures { result ≡ first_bytes point }
+    ensures { result ≡ status_byte ∷ first_bytes point }
 {
     let [lon_high, lon_middle, lon_low] = signed24(point.lon);
     let [lat_high, lat_middle, lat_low] = signed24(point.lat);
     let [one, two, dnp] = attr_bytes(point.attrs);
     [
-        lon_high, lon_middle, lon_low, lat_high, lat_middle, lat_low, one, two, dnp,
+        STATUS, lon_high, lon_middle, lon_low, lat_high, lat_middle, lat_low, one, two, dnp,
     ]
 }
 
@@ -106,8 +106,7 @@ pub fn write_v3(alloc: Global, reference: &Reference) -> Result<Vec<u8>, AllocEr
 {
     let points = reference.middle.as_slice();
     let mut bytes = Vec::with_capacity(alloc, TWO_POINTS + POINT * points.len())?;
-    bytes.push(STATUS)?;
-    bytes.extend_from_slice(&first_bytes(reference.first))?;
+    bytes.extend_from_slice(&start_bytes(reference.first))?;
     push_middle(&mut bytes, points)?;
     push_last(&mut bytes, reference.last, reference.pos, reference.neg)?;
     Ok(bytes)
