@@ -1,0 +1,6 @@
+use Rattle.olr_spec.proofs.Common.{arith}
+use Rattle.std.proofs.lemmas.Grind.{common_steps}
+use Rattle.olr_binary.proofs.write.push_middle.Goals as goal
+
+pub loop-point-preserved : goal.loop-point-preserved
+loop-point-preserved c = grind (arith, common_steps)
