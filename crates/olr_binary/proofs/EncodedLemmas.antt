@@ -1,20 +1,11 @@
--- The bytes that a reference encodes as have no fault.
-use Rattle.olr_spec.proofs.Common.{rules, ◌≡◌, ℕ, zero, suc, ◌%◌, ◌<◌, List, [], ◌∷◌, ◌++◌, Option, Some, None, IsSome}
-use Rattle.olr_spec.proofs.Common.{IfSome, IfErr, Result, Ok, Err, slice_index, arith, AllByRecursion, flat_map, First}
-use Rattle.olr_spec.proofs.Common.{Middle, Last, Reference, IsFirst, IsMiddle, IsLast, IsReference, HasBytes}
-use Rattle.olr_spec.proofs.Common.{first_bytes, last_bytes, middle_bytes, offset_bytes, reference_bytes, v3_fault}
+-- Each element of what a reference encodes as is a byte.
+use Rattle.olr_spec.proofs.Common.{rules, ℕ, zero, suc, ◌%◌, ◌<◌, List, [], ◌∷◌, ◌++◌, Option}
+use Rattle.olr_spec.proofs.Common.{IfSome, slice_index, arith, AllByRecursion, flat_map, First, Middle, Last, Reference}
+use Rattle.olr_spec.proofs.Common.{IsFirst, IsMiddle, IsLast, IsReference, first_bytes, last_bytes, middle_bytes}
+use Rattle.olr_spec.proofs.Common.{reference_bytes}
 use Rattle.base64.specs.GeneralPurpose.{IsBytes}
-use Rattle.olr_spec.proofs.ReadLemmas.{AreBytes, encoded_passes}
+use Rattle.olr_spec.proofs.ReadLemmas.{AreBytes}
 use Rattle.olr_spec.proofs.BytesLemmas.{flag_below}
-use Rattle.olr_binary.specs.declared.faults.V3Fault.{V3Fault as Fault}
-use Rattle.olr_binary.specs.Faults.{bytes_fault_of}
-
-pub unspelled : {T : Type 0} (b : List ℕ) (r : Result T Fault) → IfErr r (λ f. v3_fault b ≡ bytes_fault_of f) →
-    IfErr r (λ f. IsSome (bytes_fault_of f) → (s : Reference) → ¬ HasBytes s b)
-unspelled b (Ok x) reported = tt
-unspelled b (Err f) reported = grind (arith, encoded_passes)
-
--- ---- each element is a byte
 
 both : (xs ys : List ℕ) → AreBytes xs → AreBytes ys → AreBytes (xs ++ ys)
 both [] ys a b = b
@@ -38,13 +29,9 @@ middles_all : (ps : List Middle) → AllByRecursion IsMiddle ps → AreBytes (fl
 middles_all [] all = tt
 middles_all (p ∷ ps) all = both (middle_bytes p) (flat_map middle_bytes ps) (middle_all p all.0) (middles_all ps all.1)
 
-offset_all : (o : Option ℕ) → IfSome o (λ n. n < 256) → AreBytes (offset_bytes o)
-offset_all None fit = tt
-offset_all (Some n) fit = (fit, tt)
-
 last_all : (p : Last) (m n : Option ℕ) → IsLast p → IfSome m (λ k. k < 256) → IfSome n (λ k. k < 256) →
     AreBytes (last_bytes p m n)
-last_all p m n fit some_m some_n = grind (arith, flag_below, below, both, offset_all)
+last_all p m n fit some_m some_n = grind (arith, flag_below, below, both)
 
 pub reference_bytes-bytes : (r : Reference) → IsReference r → IsBytes (reference_bytes r)
 reference_bytes-bytes r fit = search (rules, arith, both, first_all, middles_all, at, last_all)

@@ -94,6 +94,3 @@ module _ (b : List ℕ) (m o : ℕ) (w : IsLayout b m o) (e : v3_fault b ≡ Non
     leb-false 128 (flags_of b) (or_parts _ _ (no_fault b e).reserved).1,
     low_at (m + 1) (10 + 7 * m) (length b - (10 + 7 * m)) (omega arith) (omega arith) (omega (arith, w.size)),
   )
-
-  pub status-is : slice_index b 0 ≡ status_byte
-  status-is = (no_fault b e).state

@@ -8,11 +8,8 @@ use lib.IntN.{+ℤ_assoc}
 pub add_none : (z : ℤ) → z +ℤ pos 0 ≡ z
 add_none z = omega (arith, ints)
 
-none_add : (z : ℤ) → z ≡ pos 0 +ℤ z
-none_add z = omega (arith, ints)
-
 steps_sum-push : (zs : List ℤ) (z : ℤ) → steps_sum (zs ++ z ∷ []) ≡ steps_sum zs +ℤ from_rel16 z
-steps_sum-push [] z = add_none (from_rel16 z) ∙ none_add (from_rel16 z)
+steps_sum-push [] z = omega (arith, ints)
 steps_sum-push (y ∷ ys) z = grind (arith, ℤ, +ℤ_assoc, steps_sum-push ys z)
 
 -- one more LRP

@@ -1,6 +1,6 @@
-use Rattle.olr_spec.proofs.Common.{arith, rules, w32, to_z-of_z}
+use Rattle.olr_spec.proofs.Common.{arith, rules, to_z-of_z}
 use Rattle.olr_binary.proofs.PointLemmas.{first_bytes-parts}
 use Rattle.olr_binary.proofs.read.read_first.Goals as goal
 
 pub returns-clause-encoded : goal.returns-clause-encoded
-returns-clause-encoded c = search (rules, arith, w32, to_z-of_z, first_bytes-parts)
+returns-clause-encoded c = search (rules, arith, to_z-of_z, first_bytes-parts)

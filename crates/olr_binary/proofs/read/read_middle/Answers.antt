@@ -1,6 +1,6 @@
-use Rattle.olr_spec.proofs.Common.{arith, rules, w16, to_z-of_z}
+use Rattle.olr_spec.proofs.Common.{arith, rules, to_z-of_z}
 use Rattle.olr_binary.proofs.PointLemmas.{middle_bytes-parts}
 use Rattle.olr_binary.proofs.read.read_middle.Goals as goal
 
 pub returns-clause-encoded : goal.returns-clause-encoded
-returns-clause-encoded c = search (rules, arith, w16, to_z-of_z, middle_bytes-parts)
+returns-clause-encoded c = search (rules, arith, to_z-of_z, middle_bytes-parts)

@@ -1,13 +1,13 @@
-use Rattle.olr_spec.proofs.Common.{◌≡◌, ℕ, ◌+◌, ◌*◌, List, length, slice_index, slice_range, arith, rules, length-drop, length-take}
-use Rattle.olr_spec.proofs.Common.{flat_map, Reference, IsReference, middle_bytes, status_byte}
+use Rattle.olr_spec.proofs.Common.{◌≡◌, ℕ, ◌+◌, ◌*◌, List, slice_range, arith, rules, length-drop, length-take}
+use Rattle.olr_spec.proofs.Common.{flat_map, Reference, IsReference, middle_bytes}
 use Rattle.olr_binary.specs.Codes.{reference_from}
-use Rattle.olr_binary.proofs.LayoutLemmas.{last_bytes, status-is}
+use Rattle.olr_binary.proofs.LayoutLemmas.{last_bytes, no_fault}
 use Rattle.olr_binary.proofs.PointLemmas.{reference_bytes-parts}
-use Rattle.olr_binary.proofs.EncodedLemmas.{unspelled}
+use Rattle.olr_spec.proofs.ReadLemmas.{encoded_passes}
 use Rattle.olr_binary.proofs.read.read_v3.Goals as goal
 
 pub returns-in_err-layout-clause-unspelled : goal.returns-in_err-layout-clause-unspelled
-returns-in_err-layout-clause-unspelled c = grind (arith, unspelled)
+returns-in_err-layout-clause-unspelled c = grind (arith, encoded_passes)
 
 pub read_last-last-requires : goal.read_last-last-requires
 read_last-last-requires c =
@@ -30,8 +30,7 @@ returns-clause-ok c =
     c.read_last-last.result.2 in
     let fit : IsReference r = search rules in
     let middle : flat_map middle_bytes points ≡ slice_range b 10 (10 + 7 * m) = search rules in
-    let state : slice_index b 0 ≡ status_byte =
-    status-is b m c.in_ok-layout.layout.offsets c.in_ok-layout.ensures.ok c.in_ok-layout.ensures.sound in (
+    let state = (no_fault b c.in_ok-layout.ensures.sound).state in (
       fit,
       reference_bytes-parts b m r (omega arith) state c.read_first-first.ensures.encoded middle
           c.read_last-last.ensures.encoded,
