@@ -152,12 +152,6 @@ pub nodes_noted : (P : ℕ → Type 0) (a : Option (List ℕ)) (f g nodes : List
     Notes P a (Some g)
 nodes_noted P a f g nodes e n p = rw e (notes_same (Contains nodes) P (Some f) (Some g) p n)
 
--- what the search for a query notes
-pub query_noted : (M : Map) (place : ℕ → ℕ) (l : CoverageQuery) (q : Dijkstra) (a b : Option (List ℕ)) →
-    IsSearch M place Along ((l.from, 0) ∷ []) q → IsTrue (has_node M l.from) → limit_of q ≡ l.within
-    → Notes (LiesWithin M Along ((l.from, 0) ∷ []) (limit_of q)) a b → Notes (Sees M l) a b
-query_noted M place l q a b h there far n = notes_same _ _ a b (search_sees M place l q h there far) n
-
 -- ---- what the queries reach
 
 pub seen_one : (M : Map) (l : CoverageQuery) (v : ℕ) → Sees M l v ↔ SeenBy M (l ∷ []) v

@@ -65,7 +65,6 @@ fn note_settled(
 /// How far the positions after `i` are covered and near enough, where two lines or more follow line `i`, and how far
 /// that was tested; and the query for that, by one search, which settles the nodes that the query reaches. These are
 /// noted where any are. Positions up to `far` are near enough.
-#[tactic(auto, using(crate::proofs::Noting::query_short))]
 fn search_after<M: MapRead>(
     alloc: Global,
     resolved: &ResolvedPath<M>,
@@ -181,12 +180,12 @@ pub fn points<M: MapRead>(
         reuse.now.known.now (0 ∷ js) chosen.queries.all.items chosen.queries.own.items work.old work.new seen.old
         seen.new)) }
 {
+    let mut positions = Vec::new(alloc);
+    positions.push(0)?;
     let mut queries = Queries {
         all: Vec::new(alloc),
         own: Vec::new(alloc),
     };
-    let mut positions = Vec::new(alloc);
-    positions.push(0)?;
     let mut last = 0;
     while last < resolved.lines.len() {
         let reach = reach_of(

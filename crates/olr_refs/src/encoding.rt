@@ -215,7 +215,6 @@ fn encode_along<M: MapRead>(
 }
 
 /// The answer by the chosen LRPs. The two offsets, in decimetres, are together less than the length of the lines.
-#[tactic(auto, using(crate::proofs::Referring::points_answer))]
 fn answer_by<M: MapRead>(
     alloc: Global,
     resolved: &ResolvedPath<M>,

@@ -60,15 +60,11 @@ pub fn refer<M: MapRead>(
         × SettledBy (M.map map.now) queries work.old.settled work.new.settled) }
 {
     let mut seen = Some(Footprint::new(alloc));
-    let encoding = {
+    let (answer, traversed) = {
         let mut search = Dijkstra::new(alloc);
-        encode_noting(alloc, map, path, &[], &mut search, &mut seen, work)?
+        let encoding = encode_noting(alloc, map, path, &[], &mut search, &mut seen, work)?;
+        (encoding.answer, encoding.traversed)
     };
-    let Encoding {
-        answer,
-        traversed,
-        ..
-    } = encoding;
     let footprint = with_seen(traversed, seen)?;
     Ok((answer, footprint))
 }

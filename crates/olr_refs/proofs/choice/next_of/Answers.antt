@@ -5,24 +5,22 @@ use Rattle.olr_refs.proofs.choice.next_of.Goals as goal
 pub returns-then-not-passing : goal.returns-then-not-passing
 returns-then-not-passing g c =
     let M = g.M.MapRead.map c.args.resolved.now.map.now in
-    let node : c.node.result ≡ node_at M c.args.resolved.now.lines.now (c.loop-k.k - 1) = c.node.ensures.value in
     let fits : fit M c.args.resolved.now.lines.now c.args.i (c.loop-k.k - 1) ≡ true =
     fit_read M c.args.resolved.now.lines.now c.args.i (c.loop-k.k - 1) _ _ _ c.place-here.ensures.at
     c.place-in-loop-k.ensures.at c.is_fit-in-loop-k.ensures ∙ c.if-is_fit-2.true in
     let valid : passing M (node_at M c.args.resolved.now.lines.now (c.loop-k.k - 1)) ≡ false =
-    ap (passing M) (sym node) ∙ sym c.passing.ensures ∙ c.if-not-passing.true in
+    ap (passing M) (sym c.node.ensures.value) ∙ sym c.passing.ensures ∙ c.if-not-passing.true in
     next_valid M c.args.resolved.now.lines.now c.args.i c.args.reach c.loop-k.k _ (omega arith) (omega arith)
     (omega arith) c.requires.reach c.loop-k.invariant fits valid
 
 pub loop-k-preserved-then-is_fit-2 : goal.loop-k-preserved-then-is_fit-2
 loop-k-preserved-then-is_fit-2 g c =
     let M = g.M.MapRead.map c.args.resolved.now.map.now in
-    let node : c.node.result ≡ node_at M c.args.resolved.now.lines.now (c.loop-k.k - 1) = c.node.ensures.value in
     let fits : fit M c.args.resolved.now.lines.now c.args.i (c.loop-k.k - 1) ≡ true =
     fit_read M c.args.resolved.now.lines.now c.args.i (c.loop-k.k - 1) _ _ _ c.place-here.ensures.at
     c.place-in-loop-k.ensures.at c.is_fit-in-loop-k.ensures ∙ c.if-is_fit-2.true in
     let through : passing M (node_at M c.args.resolved.now.lines.now (c.loop-k.k - 1)) ≡ true =
-    ap (passing M) (sym node) ∙ sym c.passing.ensures ∙ c.if-not-passing.false in
+    ap (passing M) (sym c.node.ensures.value) ∙ sym c.passing.ensures ∙ c.if-not-passing.false in
     subst (Scanned M c.args.resolved.now.lines.now c.args.i c.args.reach (c.loop-k.k - 1)) (sym c.or-last.ensures)
     (scan_passing M c.args.resolved.now.lines.now c.args.i c.args.reach c.loop-k.k _ (omega arith) (omega arith)
     (omega arith) c.requires.reach c.loop-k.invariant fits through)

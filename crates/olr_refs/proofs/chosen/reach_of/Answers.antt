@@ -1,4 +1,4 @@
-use Rattle.olr_refs.proofs.Common.{[], sym, arith, append-nil}
+use Rattle.olr_refs.proofs.Common.{[], sym, arith, append-nil, common_steps}
 use Rattle.olr_refs.proofs.Asking.{asks_nowhere}
 use Rattle.olr_refs.proofs.Reaching.{reach_near_end}
 use Rattle.olr_refs.proofs.chosen.reach_of.Goals as goal
@@ -17,3 +17,9 @@ returns-then-resolved-i-le2 g c = (
         c.args.reuse.now.lead c.args.reuse.now.own c.args.reuse.now.known.now c.args.i _ _ (omega arith);
   },
 )
+
+pub returns-in_default : goal.returns-in_default
+returns-in_default g c = grind (arith, common_steps)
+
+pub returns-in_ok-push-2 : goal.returns-in_ok-push-2
+returns-in_ok-push-2 g c = grind (arith, common_steps)

@@ -1,5 +1,5 @@
 use Rattle.olr_refs.proofs.Common.{[], ◌∷◌, refl, rules, sym, ◌∙◌, arith, CoverageQuery, Along, IsSearch}
-use Rattle.olr_refs.proofs.Noting.{one_query, query_noted}
+use Rattle.olr_refs.proofs.Noting.{one_query, notes_same, search_sees, query_short}
 use Rattle.olr_refs.proofs.chosen.search_after.Given.{Over}
 use Rattle.olr_refs.proofs.chosen.search_after.Goals as goal
 
@@ -22,8 +22,11 @@ returns g c =
       reach = c.in_ok-tested.ensures.reach;
       last = c.in_ok-tested.ensures.last;
       query = search rules;
-      seen = query_noted M place query c.covered_to.new.search _ _ (one_search g c) c.end-from.ensures.known far
+      seen = notes_same _ _ _ _ (search_sees M place query _ (one_search g c) c.end-from.ensures.known far)
           (c.in_ok-note_settled.ensures M place _ _ (one_search g c));
       work = one_query M place query c.settled_count.result c.covered_to.new.search c.args.work.now _ (one_search g c)
           c.end-from.ensures.known far (c.settled_count.ensures _ _ _ _ (one_search g c)) refl (omega arith) (omega arith);
     }
+
+pub overflow_cast-query : goal.overflow_cast-query
+overflow_cast-query g c = grind (arith, query_short)
