@@ -5,6 +5,7 @@ ghost use Rattle.std.specs.List.Sorted.{IsNonDecreasing};
 ghost use Rattle.olr_spec.specs.Map.{has};
 ghost use Rattle.olr_spec.specs.Extension.{limit};
 ghost use Rattle.olr_spec.specs.Detours.{Near};
+ghost use Rattle.olr_spec.specs.Queries.{CoverageQuery};
 ghost use Rattle.olr_search.specs.Bounds.{AreLengths};
 ghost use Rattle.olr_near.specs.Bounds.{IsRight, IsSource};
 ghost use Rattle.olr_search.specs.declared.distances.Direction.TheVariants.{Against};
@@ -184,18 +185,17 @@ pub(crate) fn is_line_touched(touched: &ChangeSet, lines: &[LineId]) -> bool
 fn is_query_touched<M: MapRead>(
     map: &M,
     touched: &ChangeSet,
-    searches: &Searches,
+    near: &Dijkstra,
     published: &Published,
 ) -> bool
-    requires { IsAsked (M.map map.now) (M.node_slot map.now) touched.now searches.now (made_of published.now) }
+    requires lengths { AreLengths (M.map map.now) (M.node_slot map.now) Against (sources touched.now) near.now }
+    requires returned { (l : CoverageQuery) → Contains (made_of published.now).queries l
+        → IsExactAt (M.map map.now) (M.node_slot map.now) touched.now near.now l.from (min l.within limit) }
     ensures { IsTrue result ↔ QueryTouched (M.map map.now) (nodes_of touched.now) (made_of published.now) }
 {
-    if searches.far {
-        return false;
-    }
     let queries = published.queries.as_slice();
     for query in queries {
-        if is_near(map, touched, &searches.near, query.from, query.within) {
+        if is_near(map, touched, near, query.from, query.within) {
             return true;
         }
     }
@@ -214,11 +214,7 @@ pub(crate) fn is_touched<M: MapRead>(
     ensures { IsTrue result
         ↔ Touches (M.map map.now) (nodes_of touched.now) (lines_of touched.now) (made_of published.now) path.now }
 {
-    if is_query_touched(map, touched, searches, published) {
-        return true;
-    }
-    if is_traversed_touched(touched, &published.traversed) {
-        return true;
-    }
-    is_line_touched(touched, path.lines())
+    (!searches.far && is_query_touched(map, touched, &searches.near, published))
+        || is_traversed_touched(touched, &published.traversed)
+        || is_line_touched(touched, path.lines())
 }

@@ -15,8 +15,8 @@ is_near-requires-clause-returned g c =
     let at : Contains c.as_slice-queries.result.now item =
     (c.loop-query.query-index, c.loop-query-test.true, sym c.query-item.is) in
     let on : Contains c.args.published.now.queries.items item = rw (← c.as_slice-queries.ensures.value) at in
-    subst (λ (l : CoverageQuery). IsExactAt N slot t c.args.searches.now.near l.from (min l.within limit)) (sym c.query.view_is)
-    (c.requires.returned c.if-searches.false item on)
+    subst (λ (l : CoverageQuery). IsExactAt N slot t c.args.near.now l.from (min l.within limit)) (sym c.query.view_is)
+    (c.requires.returned item on)
 
 pub loop-query-preserved : goal.loop-query-preserved
 loop-query-preserved g c =
