@@ -3,7 +3,7 @@ ghost use Rattle.std.specs.Prelude.{IfErr, IfOk};
 ghost use Rattle.std.specs.String.{string_bytes};
 ghost use Rattle.olr_spec.specs.Reference.{Reference as Fields};
 ghost use Rattle.olr_binary.specs.Faults.{IsFaultOf, IsOfText};
-ghost use Rattle.olr_binary.specs.Text.{IsTextOf, OneReference, OneText};
+ghost use Rattle.olr_binary.specs.Text.{IsTextOf};
 
 use crate::faults::{TextFault, V3Fault};
 use crate::fields::Reference;
@@ -36,10 +36,3 @@ pub fn from_text(alloc: Global, text: &[u8]) -> Result<Reference, TextFault>
     };
     read_v3(alloc, &bytes).map_err(TextFault::Bytes)
 }
-
-/// Each reference encodes as one text, and no text decodes to two references. So `from_text` decodes what `to_text`
-/// returns to the same reference, and `to_text` encodes what `from_text` returns as the same text.
-pub fn laws_of_text()
-    ensures one_text { OneText }
-    ensures one_reference { OneReference }
-{}

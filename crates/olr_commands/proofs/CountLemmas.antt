@@ -1,47 +1,17 @@
 -- Counts.
 use Rattle.olr_commands.proofs.Common.{Path}
-use Rattle.std.proofs.Common.{inl, inr, ◌≡◌, ℕ, ◌≤◌, List, [], ◌∷◌, Some, None, Ok, refl, sym, ◌∙◌, subst, arith}
-use Rattle.olr_commands.specs.State.{Named, Content, path_named, Change, Add_path, Set_path, State, Command, Make, step}
-use Rattle.olr_commands.specs.State.{changes_made, IsState}
+use Rattle.std.proofs.Common.{◌≡◌, ℕ, List, [], ◌∷◌, Some, None, Ok, refl, sym, subst}
+use Rattle.olr_commands.specs.State.{Named, Content, path_named, Change, Add_path, Set_path, State, Make, step, IsState}
 use Rattle.olr_commands.specs.Counts.{Affects, By_name, By_node, By_line, CountIs, Raises, all_nodes, all_lines}
-use Rattle.olr_commands.specs.Counts.{all_names, Retains, Spares}
+use Rattle.olr_commands.specs.Counts.{all_names}
 use Rattle.olr_commands.proofs.StateLemmas.{steps_keep}
 use Rattle.olr_commands.proofs.SearchLemmas.{only_name, by_name, makes, one_counted, added_path, replaced_path}
-
-pub one_count : {A : Type 0} (P : A → Type 0) (xs : List A) (n m : ℕ) → CountIs P xs n → CountIs P xs m → n ≡ m
-one_count P [] n m p q = p ∙ sym q
-one_count P (x ∷ xs) n m p q = grind (arith, one_count P xs, one_count P xs n m)
-
--- a claim that holds of nothing
-pub no_count : {A : Type 0} (P : A → Type 0) → ((x : A) → ¬ P x) → (xs : List A) (n : ℕ) → CountIs P xs n → n ≡ 0
-no_count P none [] n p = p
-no_count P none (x ∷ xs) n p = elim p [ inl h ↦ absurd (none x h.0) | inr h ↦ no_count P none xs n h.1 ]
-
--- a claim that another one follows from holds of no more elements
-pub count_within : {A : Type 0} (P Q : A → Type 0) → ((x : A) → P x → Q x) → (xs : List A) (n m : ℕ) → CountIs P xs n →
-    CountIs Q xs m → n ≤ m
-count_within P Q implies [] n m p q = omega (arith, p, q)
-count_within P Q implies (x ∷ xs) n m p q = grind (arith, implies x, count_within P Q implies xs)
-
-pub one_spare : (s t : State) (c : Command) (n m : ℕ) → Spares s c t n → Spares s c t m → n ≡ m
-one_spare s t c n m = one_count (Retains s.content t.content (changes_made s c)) t.content.paths n m
-
-pub spares_few : (s t : State) (c : Command) (n m : ℕ) → Spares s c t n → Raises s c t m → n ≤ m
-spares_few s t c n m =
-    count_within (Retains s.content t.content (changes_made s c)) (Affects s.content (changes_made s c))
-    (λ p h. h.affected) t.content.paths n m
 
 -- no change affects no path
 pub unconcerned : (c : Content) (p : Named) → ¬ Affects c [] p
 unconcerned c p (By_name h) = absurd cc
 unconcerned c p (By_node v h f) = absurd cc
 unconcerned c p (By_line x h f) = absurd cc
-
-pub no_rise : (s t : State) (c : Command) (n : ℕ) → changes_made s c ≡ [] → Raises s c t n → n ≡ 0
-no_rise s t c n none h = grind (arith, no_count, unconcerned)
-
-pub one_rise : (s t : State) (c : Command) (n m : ℕ) → Raises s c t n → Raises s c t m → n ≡ m
-one_rise s t c n m = one_count (Affects s.content (changes_made s c)) t.content.paths n m
 
 -- ---- one path
 

@@ -12,7 +12,7 @@ use Rattle.olr_spec.specs.Coordinates.{Coord}
 use Rattle.olr_commands.specs.State.{Named, Content, no_content, path_named, Change, with_change, next, Make, ArePaths}
 use Rattle.olr_commands.specs.State.{NamesDiffer}
 use Rattle.olr_commands.specs.Dump.{node_change, line_change, path_change, dump_changes, Leads, steps, DumpsLead}
-use Rattle.olr_commands.specs.Dump.{DumpsRun, DumpsAgain}
+use Rattle.olr_commands.specs.Dump.{DumpsRun}
 use Rattle.olr_commands.proofs.StateLemmas.{next_ok}
 use Rattle.olr_commands.proofs.NameLemmas.{named_push, not_named, flipped}
 
@@ -173,6 +173,3 @@ run_leads c d (x ∷ xs) l = grind (arith, run_leads (next c x) d xs (l.0.1, l.1
 
 pub dumps_run : DumpsRun
 dumps_run c i = run_leads no_content c (dump_changes c) (dumps_lead c i)
-
-pub dumps_again : DumpsAgain
-dumps_again c i = ap (λ (d : Content). dump_changes d) (dumps_lead c i).1

@@ -10,14 +10,13 @@ use Rattle.olr_spec.specs.Joins.{Joined}
 use Rattle.olr_spec.proofs.JoinedAnswers.{joined}
 use Rattle.olr_commands.specs.State.{Named, Content, path_named, same_name, ArePaths, NamesDiffer, IsContent, Fault}
 use Rattle.olr_commands.specs.State.{Change, after, Command, Make, Begin, Commit, Abort, State, start_state, step}
-use Rattle.olr_commands.specs.State.{changes_made, changes_made_in, HasCoords, IsState, Dump}
+use Rattle.olr_commands.specs.State.{changes_made, changes_made_in, IsState, Dump}
 use Rattle.olr_commands.specs.Reply.{Entry, entry, Paths, HasAnswer, Published, ChangedOf, Differences, IsReply}
 use Rattle.olr_commands.specs.Reply.{Outcome, IsOutcome, Dumped, Reply}
-use Rattle.olr_commands.specs.History.{Run, History, AllHaveCoords, brought_by, next_state, all_changes_made, OneOf, IsPublished}
-use Rattle.olr_commands.specs.History.{names, NamesChanged, reports, IsNamed, IsRefused, Headline, IsDump, IsDumped}
-use Rattle.olr_commands.proofs.NameLemmas.{same_is}
-use Rattle.olr_commands.proofs.StateLemmas.{Ends, ends, when_ok, next_ok, after_append, steps_keep}
-use Rattle.olr_commands.proofs.ReplyLemmas.{named_path}
+use Rattle.olr_commands.specs.History.{Run, brought_by, next_state, all_changes_made, OneOf, IsPublished, names}
+use Rattle.olr_commands.specs.History.{NamesChanged, reports, IsNamed, IsRefused, Headline, IsDump, IsDumped}
+use Rattle.olr_commands.proofs.NameLemmas.{named_path, same_is}
+use Rattle.olr_commands.proofs.StateLemmas.{Ends, ends, when_ok, next_ok, after_append}
 use Rattle.olr_commands.proofs.DumpLemmas.{dumps_run}
 
 -- ---- the content
@@ -209,13 +208,6 @@ names_changed before later es i c =
       reported before later es all,
     )
 
-pub no_differences : (c : Content) (es : List Entry) → IsContent c → Differences c c es → es ≡ []
-no_differences c [] i d = refl
-no_differences c (e ∷ es) i d =
-    let here : names (e ∷ es) e.name = rw ((bytes_decides e.name e.name).1 refl) refl in
-    let h = ((names_changed c c (e ∷ es) i d).0 e.name).0 here in
-    absurd (h.2 h.1)
-
 -- ---- the claims of a run
 
 -- what the reply to a command reports, if it names paths
@@ -288,22 +280,9 @@ headline_of P asked f = headline_by P P asked (λ s x o t p. (p, f s x o t p))
 
 -- ---- the claims of commands
 
-pub outcome_keeps : (s t : State) (c : Command) (o : Outcome) → IsState s → HasCoords c → IsOutcome s c o t → IsState t
-outcome_keeps s t c (Ok reply) i h p = steps_keep s t c i h p.0
-outcome_keeps s t c (Err fault) i h p = subst IsState (sym p.1) i
-
 -- an outcome after which the content is sound
 abbrev pub SoundOutcome : State → Command → Outcome → State → Type 0
 SoundOutcome s c o t = IsOutcome s c o t × IsContent t.content
-
-history_keeps : (s t : State) (cs : List Command) (os : List Outcome) → IsState s → AllHaveCoords cs →
-    Run IsOutcome s cs os t → IsState t × Run SoundOutcome s cs os t
-history_keeps s t cs [] i h p = (subst IsState p i, p)
-history_keeps s t [] (o ∷ os) i h p = absurd p
-history_keeps s t (c ∷ cs) (o ∷ os) i h p =
-    let mid = outcome_keeps s p.0 c o i h.0 p.1 in
-    let rest = history_keeps p.0 t cs os mid h.1 p.2 in
-    (rest.0, (p.0, (p.1, mid.content), rest.1))
 
 pub headline_of_outcomes : (s : State) (cs : List Command) (os : List Outcome) (t : State) → IsContent s.content →
     Run SoundOutcome s cs os t → Headline IsOutcome (λ c. Some c) s cs os t
@@ -319,7 +298,3 @@ headline_of_outcomes =
         dumped = λ i. is_dumped a b c o i p.0;
       },
     ))
-
-pub headline_of_histories : (cs : List Command) (os : List Outcome) (t : State) → AllHaveCoords cs →
-    History start_state cs os t → IsState t × Headline IsOutcome (λ c. Some c) start_state cs os t
-headline_of_histories cs os t h run = grind (arith, history_keeps, start_sound, headline_of_outcomes)

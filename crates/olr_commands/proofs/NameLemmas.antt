@@ -1,6 +1,6 @@
 -- Lists of named paths: what is preserved when a path is appended, set or dropped.
 use Rattle.olr_commands.proofs.Common.{filter, bytes_decides, Path, is_path}
-use Rattle.std.proofs.Common.{◌≡◌, ℕ, Bool, true, false, List, [], ◌∷◌, ◌++◌, map, is_some, IsTrue, refl, arith}
+use Rattle.std.proofs.Common.{◌≡◌, ℕ, Bool, true, false, List, [], ◌∷◌, ◌++◌, map, Some, is_some, IsTrue, refl, arith}
 use Rattle.olr_commands.specs.State.{Named, NamesDiffer, ArePaths, same_name, path_named, with_path}
 
 -- ---- names
@@ -64,3 +64,8 @@ paths_set name path (p ∷ ps) a h = (grind (arith, a.0), paths_set name path ps
 pub paths_filter : (test : Named → Bool) (ps : List Named) → ArePaths ps → ArePaths (filter test ps)
 paths_filter test [] a = tt
 paths_filter test (p ∷ ps) a = grind (arith, a.0, paths_filter test ps a.1)
+
+pub named_path : (ps : List Named) (name : List ℕ) (P : Path) → ArePaths ps → path_named ps name ≡ Some P →
+    IsTrue (is_path P.lines)
+named_path [] name P a e = absurd cc
+named_path (p ∷ ps) name P a e = grind (arith, named_path ps name P a.1)

@@ -5,6 +5,4 @@ pub mod Dump
 pub mod Reply
 pub mod Counts
 pub mod History
-pub mod Laws
-pub mod Rows
 pub mod Words

@@ -4,11 +4,9 @@
 
 pub mod command;
 pub mod fault;
-pub mod laws;
 pub mod record_text;
 pub mod recordable;
 pub mod reply;
-pub mod rows;
 
 pub use command::Command;
 pub use fault::CommandFault;

@@ -5,7 +5,6 @@
 
 mod coord;
 mod degrees;
-pub mod laws;
 mod steps;
 mod text;
 

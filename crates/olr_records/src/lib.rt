@@ -4,13 +4,11 @@
 mod edits;
 pub mod faults;
 mod fields;
-pub mod laws;
 mod lines;
 mod parts;
 mod paths;
 mod read;
 mod reply;
-pub mod rows;
 mod texts;
 
 pub use faults::{ReadFault, fault_text, read_fault_text};

@@ -8,10 +8,9 @@ use Rattle.olr_register.proofs.Common.{Bool, not, ◌++◌, map, filter, is_some
 use Rattle.olr_register.proofs.Common.{named_of, Follows, set_item, follows_self, ◌↔◌}
 use Rattle.olr_spec.proofs.AnswerLemmas.{one_answer}
 use Rattle.olr_commands.specs.Reply.{Entry, HasAnswer}
-use Rattle.olr_commands.proofs.ReplyLemmas.{named_path}
 use Rattle.std.specs.Prelude.{if◌then◌else◌}
 use Rattle.olr_commands.specs.State.{NamesDiffer}
-use Rattle.olr_commands.proofs.NameLemmas.{same_is}
+use Rattle.olr_commands.proofs.NameLemmas.{named_path, same_is}
 use Rattle.olr_register.proofs.Listed.{each_add, each_set, each_left, each_encoded, each_follows, follows_untold}
 
 -- the path of a name and its results, or neither

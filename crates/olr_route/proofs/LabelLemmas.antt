@@ -6,7 +6,7 @@ use Rattle.olr_route.proofs.Common.{Label, Labels, label_at, last_of, AreLabels,
 use Rattle.olr_route.proofs.Common.{dm_of-line, route_on, last_step, empty, ended}
 use Rattle.std.proofs.Common.{zero, reverse}
 use Rattle.olr_spec.specs.Routes.{FirstSmaller, PrecedesInTieOrder}
-use Rattle.olr_spec.proofs.LabelLemmas.{last_first}
+use Rattle.olr_spec.proofs.RouteLemmas.{last_first}
 use Rattle.olr_route.specs.Labels.{IsLabel}
 use Rattle.olr_route.specs.Relaxed.{NotAfter, IsClosed}
 use Rattle.olr_search.proofs.RouteEnds.{LastStep}

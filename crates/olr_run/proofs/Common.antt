@@ -6,10 +6,10 @@ unfoldable pub use Rattle.csv.specs.Machine.{next_record}
 pub use Rattle.csv.specs.Records.{fields_of, partial_of}
 pub use Rattle.csv.specs.declared.reader.Reader.{Reader}
 pub use Rattle.olr_commands.proofs.HistoryLemmas.{Claimed, Leads, headline_of, is_dumped, is_named, is_refused}
-pub use Rattle.olr_commands.proofs.HistoryLemmas.{outcome_keeps, outcome_leads, run_join, run_longer, run_more}
+pub use Rattle.olr_commands.proofs.HistoryLemmas.{outcome_leads, run_join, run_longer, run_more}
 pub use Rattle.olr_commands.specs.Reply.{ByState, IsOutcome, IsRefusal, IsReply, Outcome, Paths, lacks_memory, may_lack}
 pub use Rattle.olr_commands.specs.Words.{command_fault_of, command_of, reply_of}
-pub use Rattle.olr_records.proofs.ReadLemmas.{coords_read, read_recorded}
+pub use Rattle.olr_records.proofs.ReadLemmas.{read_recorded}
 pub use Rattle.olr_records.specs.Records.{Field, read}
 pub use Rattle.olr_records.specs.ReplyText.{count_line, fault_text, outcome_text, reply_text}
 pub use Rattle.olr_register.specs.RegisterState.{Represents}

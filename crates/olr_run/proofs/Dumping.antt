@@ -1,17 +1,16 @@
 -- Dumps in runs of records.
-use Rattle.olr_run.proofs.Common.{IsFalse, is_err, both_ways, or_parts, length-map, Outcome, IsRefusal, ByState}
-use Rattle.olr_run.proofs.Common.{lacks_memory, Field, read, records_of, CommandOutcome, RecordOutcome, SoundOutcomes}
-use Rattle.olr_run.proofs.Common.{Outcomes, AllHadMemory, AreAnswered, IsReply, count_line, reply_text, read_recorded}
-use Rattle.std.proofs.Common.{inl, inr, ◌≡◌, ◌≢◌, ℕ, Bool, false, List, [], ◌∷◌, ◌++◌, map, length, None, Result}
-use Rattle.std.proofs.Common.{Ok, Err, IsTrue, refl, sym, ap, subst, arith}
+use Rattle.olr_run.proofs.Common.{length-map, Outcome, IsRefusal, ByState, Field, read, CommandOutcome, RecordOutcome}
+use Rattle.olr_run.proofs.Common.{SoundOutcomes, IsReply, count_line, reply_text, read_recorded}
+use Rattle.std.proofs.Common.{inl, inr, ◌≡◌, ◌≢◌, ℕ, List, [], ◌∷◌, ◌++◌, map, length, Ok, Err, IsTrue, refl, sym, ap}
+use Rattle.std.proofs.Common.{subst, arith}
 use Rattle.olr_commands.specs.State.{Content, IsContent, Fault, Memory, Not_a_record, Change, Command, Make, Dump}
-use Rattle.olr_commands.specs.State.{State, is_recordable, start_state, step}
+use Rattle.olr_commands.specs.State.{State, is_recordable}
 use Rattle.olr_commands.specs.Reply.{Lacks, Reply}
 use Rattle.olr_records.specs.Records.{Read}
-use Rattle.olr_run.specs.Output.{any_refused, Ran, Builds, IsDumpOf, Dumps, Status, All_accepted}
+use Rattle.olr_run.specs.Output.{Builds, IsDumpOf, Dumps}
 use Rattle.std.specs.List.{concat}
 use Rattle.olr_commands.specs.RecordText.{fields_line, fields_of_change, record_line}
-use Rattle.olr_commands.specs.Dump.{dump_lines, steps_then, steps}
+use Rattle.olr_commands.specs.Dump.{dump_lines}
 use Rattle.olr_commands.proofs.DumpLemmas.{dumps_run}
 use Rattle.olr_records.specs.Recorded.{HaveRecords, IsRecorded, StaysRecorded}
 use Rattle.olr_records.proofs.RecordLines.{records_split}
@@ -71,46 +70,3 @@ dumps_of s (r ∷ rs) (o ∷ os) t sound h run =
     let first = record_dumps s r o run.0 sound h run.1.0 in
     let rest = dumps_of run.0 rs os t run.1.1 first.1 run.2 in
     record { each = (run.0, (run.1, first.0), rest.each); stays = rest.stays }
-
--- ---- a run over the text of a dump
-
-then_ok : (r : Result State Fault) (f : State → Result State Fault) (u : State) → steps_then r f ≡ Ok u →
-    (v : State) × (r ≡ Ok v) × (f v ≡ Ok u)
-then_ok (Ok v) f u is = (v, refl, is)
-then_ok (Err fault) f u is = absurd cc
-
-refused_not : (s v : State) (c : Command) (f : Fault) → step s c ≡ Ok v → IsFalse (lacks_memory (Err f)) →
-    IsRefusal s c f → ⊥
-refused_not s v c f is had (ByState e) = grind arith
-refused_not s v c f is had (Lacks memory may) = grind arith
-
-command_goes : (s t v : State) (r : Read Command) (c : Command) (o : Outcome) → r ≡ Ok c → step s c ≡ Ok v →
-    IsFalse (lacks_memory o) → CommandOutcome s r o t → (is_err o ≡ false) × (t ≡ v)
-command_goes s t v r c (Ok reply) e is had p = grind arith
-command_goes s t v r c (Err f) e is had p = grind (arith, refused_not)
-
-record_goes : (s t v : State) (fields : List Field) (c : Command) (o : Outcome) → read fields ≡ Ok c →
-    step s c ≡ Ok v → IsFalse (lacks_memory o) → RecordOutcome s fields o t → (is_err o ≡ false) × (t ≡ v)
-record_goes s t v fields c o e is had h = grind (arith, command_goes, both_ways)
-
-all_go : (s u t : State) (cs : List Command) (rs : List (List Field)) (os : List Outcome) →
-    map read rs ≡ map (λ c. Ok c) cs → steps s cs ≡ Ok u → AllHadMemory os → Outcomes s rs os t →
-    IsFalse (any_refused os) × (length os ≡ length rs → t ≡ u)
-all_go s u t [] [] [] e is had run = grind arith
-all_go s u t (c ∷ cs) [] [] e is had run = absurd cc
-all_go s u t cs (r ∷ rs) [] e is had run = grind arith
-all_go s u t cs [] (o ∷ os) e is had run = absurd run
-all_go s u t [] (r ∷ rs) (o ∷ os) e is had run = absurd cc
-all_go s u t (c ∷ cs) (r ∷ rs) (o ∷ os) e is had run =
-    let p = then_ok (step s c) (λ v. steps v cs) u is in
-    grind (arith, or_parts, record_goes s run.0 p.0 r c o, all_go run.0 u t cs rs os)
-
--- a run over all records ends with the state that they lead to
-ended : (stop : Bool) (rs : List (List Field)) (os : List Outcome) → IsFalse (any_refused os) →
-    AreAnswered stop rs os → length os ≡ length rs
-ended stop rs os none h = grind arith
-
-pub dumps_reload : (text : List ℕ) (n : ℕ) (c : Content) (stop : Bool) (t : State) (w : List ℕ) (end : Status) →
-    Builds text n c → (p : Ran Outcomes stop start_state (records_of text) t w end) → AllHadMemory p.outcomes →
-    (end ≡ All_accepted) × (t ≡ record { content = c; batch = None })
-dumps_reload text n c stop t w end b p had = grind (arith, all_go, ended)

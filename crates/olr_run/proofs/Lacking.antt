@@ -1,11 +1,9 @@
 -- The faults that a command has by its state, and where out of memory may be reported.
-use Rattle.olr_run.proofs.Common.{IfErr, ⊤, IsRefusal, ByState, Field, read, CommandOutcome, RecordOutcome, may_lack}
-use Rattle.std.proofs.Common.{arith, Bool, false, List, Option, Some, None, Result, Ok, Err, inl, inr, ◌⊎◌, IsTrue}
-use Rattle.olr_commands.specs.State.{Fault, Memory, Content, State, Change, Command, Make, Not_a_record}
-use Rattle.olr_commands.specs.State.{is_recordable, after, with_change, step_in}
-use Rattle.olr_commands.specs.Reply.{Lacks}
-use Rattle.olr_records.specs.Records.{Read, HoldsList}
-use Rattle.std.specs.Prelude.{◌≡◌, IsOkAnd}
+use Rattle.olr_run.proofs.Common.{IfErr, ⊤}
+use Rattle.std.proofs.Common.{arith, Bool, false, List, Option, Some, None, Result}
+use Rattle.olr_commands.specs.State.{Fault, Memory, Content, Change, Command, Make, Not_a_record, is_recordable, after}
+use Rattle.olr_commands.specs.State.{with_change, step_in}
+use Rattle.std.specs.Prelude.{◌≡◌}
 
 -- ---- the faults that a command has by its state
 
@@ -26,22 +24,3 @@ pub step_own : (c : Content) (batch : Option (List Change)) (x : Command) →
 step_own c None (Make x) = grind (arith, change_own (is_recordable c) c x)
 step_own c (Some xs) (Make x) = grind (arith, change_own (is_recordable c) (after c xs) x)
 step_own c b x = grind arith
-
--- ---- of a record
-
-refused : (s : State) (c : Command) → IsRefusal s c Memory → IsTrue (may_lack s c)
-refused s c (ByState e) = grind (arith, step_own)
-refused s c (Lacks is may) = may
-
-of_command : (s t : State) (r : Read Command) → CommandOutcome s r (Err Memory) t →
-    IsOkAnd r (λ c. HoldsList c ⊎ IsTrue (may_lack s c))
-of_command s t (Ok c) h = inr (refused s c h.0)
-of_command s t (Err f) h = grind arith
-
-of_reading : (s : State) (r : Read Command) → IsOkAnd r HoldsList → IsOkAnd r (λ c. HoldsList c ⊎ IsTrue (may_lack s c))
-of_reading s (Ok c) h = inl h
-of_reading s (Err f) h = h
-
-pub memory_lacks : (s t : State) (fields : List Field) → RecordOutcome s fields (Err Memory) t →
-    IsOkAnd (read fields) (λ c. HoldsList c ⊎ IsTrue (may_lack s c))
-memory_lacks s t fields h = grind (arith, of_command, of_reading)

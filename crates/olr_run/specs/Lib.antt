@@ -1,6 +1,4 @@
 pub mod Output
-pub mod Laws
-pub mod Rows
 pub mod Options
 pub mod Sessions
 pub mod InMemory

@@ -6,12 +6,10 @@ mod answers;
 mod arguments;
 mod both;
 mod command_line;
-mod ends;
+pub mod ends;
 mod in_memory;
-pub mod laws;
 mod output;
 mod records;
-pub mod rows;
 mod sessions;
 mod streams;
 

@@ -1,16 +1,13 @@
 -- The coordinates that the LRPs of an answer are decoded as.
 use Rattle.olr_spec.proofs.Common.{◌≡◌, ℕ, zero, suc, ◌+◌, ◌*◌, ℤ, pos, ◌<ℤ◌, ◌-ℤ◌, true, List, ◌∷◌, ◌++◌, length, take}
-use Rattle.olr_spec.proofs.Common.{map, ◌<◌, ◌≤◌, Some, None, is_some, IsTrue, refl, ap, ◌∙◌, subst, arith, nat_le, []}
-use Rattle.olr_spec.proofs.Common.{◌-◌, nat_abs, slice_get, option_map, le-leb, leb-true, slice_index, cases_Bool, ints}
-use Rattle.olr_spec.proofs.Common.{abs24, relative, Map, IsMap, coord_at, has, Path, is_path, extended_path, node_at}
-use Rattle.olr_spec.proofs.Common.{Leg, Middle, Reference, legs, position, first_kept, last_kept, kept_points, last_two}
+use Rattle.olr_spec.proofs.Common.{map, ◌<◌, ◌≤◌, Some, None, IsTrue, refl, ap, ◌∙◌, arith, [], ◌-◌, nat_abs, le-leb}
+use Rattle.olr_spec.proofs.Common.{slice_index, ints, abs24, relative, Map, has, Path, is_path, extended_path, Leg}
+use Rattle.olr_spec.proofs.Common.{Middle, Reference, legs, position, first_kept, last_kept, kept_points, last_two}
 use Rattle.olr_spec.proofs.Common.{middle_points, reference_by_kept, reference_by, last_point, Last, from_front}
 use Rattle.olr_spec.proofs.Common.{to_back, Points, path_fault, Encoding, decoded_bound, IsNear, ◌+ℤ◌, cond-true}
-use Rattle.olr_spec.proofs.Common.{slice_get-get_or, from_abs24, nearest, from_rel16, middle_point, IsPoint, steps_sum}
-use Rattle.olr_spec.proofs.Common.{decoded, DecodedNear, DecodedPoints}
-use Rattle.olr_spec.proofs.Facts.{has_cases, path_also, path_at, two_kept, Linked, follow_linked, kept_linked}
-use Rattle.olr_spec.proofs.FieldLemmas.{position_is}
-use Rattle.olr_spec.proofs.FitLemmas.{kept_ends, extended_sound, answered, by_answer}
+use Rattle.olr_spec.proofs.Common.{from_abs24, nearest, from_rel16, middle_point, steps_sum, decoded}
+use Rattle.olr_spec.proofs.Facts.{has_cases, two_kept, Linked, follow_linked, kept_linked}
+use Rattle.olr_spec.proofs.FitLemmas.{kept_ends, extended_sound, answered}
 
 -- ---- one rounding
 
@@ -134,37 +131,3 @@ module _ (M : Map) (P : Path) (is : IsTrue (is_path P.lines)) (none : path_fault
         count = omega (arith, middle_count (legs M E.lines) form.h form.i form.js);
         near = λ k lt. near_of (legs M E.lines) Front Back form.h form.i form.js k (omega arith);
       })
-
-pub got_index : (f : ℕ → ℕ) (ks : List ℕ) (k v : ℕ) → option_map f (slice_get ks k) ≡ Some v → (k < length ks)
-    × (f (slice_index ks k) ≡ v)
-got_index f [] k v e = absurd cc
-got_index f (x ∷ ks) zero v e = (omega arith, cc)
-got_index f (x ∷ ks) (suc k) v e = let r = got_index f ks k v e in (omega (arith, r.0), r.1)
-
-module _ (M : Map) (m : IsMap M) (P : Path) (is : IsTrue (is_path P.lines)) (none : path_fault M P ≡ None)
-    (r : Reference) (e : Encoding M P (Points r)) where
-  abbrev ls : List ℕ
-  ls = (E M P is none r e).lines
-
-  abbrev ks : List ℕ
-  ks = Kept M P is none r e
-
-  near_point : (k v : ℕ) → IsPoint M P k v → (d : ℤ × ℤ) × (decoded r k ≡ Some d) × IsNear k d (coord_at M v)
-  near_point k v p =
-      let at = got_index (node_at M ls) ks k v (path_at m is none e p) in
-      let near = (answer_decodes M P is none r e).near k at.0 in
-      let s = extended_sound M P is none e.before e.after e.tried in
-      let place = position_is M m ls s.known (slice_index ks k) s.size ∙ ap (coord_at M) at.1 in
-      (near.0, near.1, subst (IsNear k near.0) place near.2)
-
-  point_at : (k : ℕ) → is_some (decoded r k) ≡ true → (v : ℕ) × IsPoint M P k v
-  point_at k h =
-      let count = (answer_decodes M P is none r e).count in
-      let within : k ≤ length r.middle + 1 = grind (arith, leb-true, cases_Bool (nat_le k (length r.middle + 1))) in
-      (node_at M ls (slice_index ks k), path_also e (ap (option_map (node_at M ls)) (slice_get-get_or ks k 0 (omega arith))))
-
-pub decoded_near : DecodedNear
-decoded_near M m P is r e = let p = by_answer M P r e in near_point M m P is p.0 r p.1
-
-pub decoded_points : DecodedPoints
-decoded_points M m P is r e = let p = by_answer M P r e in point_at M m P is p.0 r p.1

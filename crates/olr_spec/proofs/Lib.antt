@@ -8,7 +8,6 @@ pub mod AgreeLemmas
 pub mod EditLemmas
 pub mod UndoLemmas
 pub mod RouteLemmas
-pub mod LabelLemmas
 pub mod RunLemmas
 pub mod RunMoves
 pub mod AnswerLemmas

@@ -1,29 +1,19 @@
 -- Every receiver recovers the legs between the remaining LRPs, and what the lengths and nodes of these say.
-use Rattle.olr_spec.proofs.Common.{◌≡◌, ℕ, suc, ◌+◌, ◌-◌, true, List, ◌∷◌, length, map, ◌<◌, ℤ, ◌≤◌, ◌↔◌, Some, None}
-use Rattle.olr_spec.proofs.Common.{IsTrue, refl, sym, ap, ◌∙◌, arith, slice_get, inl, inr, zero, Bool, pos}
-use Rattle.olr_spec.proofs.Common.{Option, unwrap_or, cond, [], nat_lt, ◌==◌, ◌||◌, option_map, slice_index, lt-ltb}
-use Rattle.olr_spec.proofs.Common.{le-ltb, ⊤, AllZip, get_or, get_or-map, AllPass-from_list_all, cases_lt, or_cases}
-use Rattle.olr_spec.proofs.Common.{or_left, or_right, Map, IsMap, coord_at, start, end, Path, is_path, none_twice}
-use Rattle.olr_spec.proofs.Common.{extended_path, first, last, AreJoined, stretch, OfPath, node_at, Leg, Reference, leg}
-use Rattle.olr_spec.proofs.Common.{legs, leg_at, no_leg, attrs, first_kept, last_kept, kept_points}
-use Rattle.olr_spec.proofs.Common.{Middle, middle_points, last_two, reference_by_kept, last_point}
+use Rattle.olr_spec.proofs.Common.{◌≡◌, ℕ, suc, ◌+◌, ◌-◌, true, List, ◌∷◌, length, map, ◌<◌, ℤ, ◌↔◌, Some, None, IsTrue}
+use Rattle.olr_spec.proofs.Common.{refl, sym, ap, ◌∙◌, arith, slice_get, [], option_map, slice_index, ⊤, get_or-map}
+use Rattle.olr_spec.proofs.Common.{Map, IsMap, Path, is_path, none_twice, extended_path, stretch, OfPath, Reference}
+use Rattle.olr_spec.proofs.Common.{leg, legs, leg_at, no_leg, attrs, Middle, middle_points, last_two, reference_by_kept}
 use Rattle.olr_spec.proofs.Common.{Points, path_fault, Encoding, Side, Receiver, Within, RecoversTo, RecoversLast}
-use Rattle.olr_spec.proofs.Common.{candidates, is_nearest, has_no_twin, coordinate_on, Measure, node_on, IsCut, IsClose}
-use Rattle.olr_spec.proofs.Common.{IsWeighted, is_spaced, dm_of, IsNear, concat, list_all-from_AllPass, cond-false}
-use Rattle.olr_spec.proofs.Common.{Recovered, StretchesJoin, Offsets, Distances, Nearest}
-use Rattle.olr_spec.proofs.Facts.{Each, has_index, has_last, last_index, Known, path_also, path_at, Linked}
-use Rattle.olr_spec.proofs.Facts.{follow_linked, kept_linked, joins_to, joins_last, empty_stretch, stretch_first}
-use Rattle.olr_spec.proofs.Facts.{positive, next_start}
-use Rattle.olr_spec.specs.Receiver.{Outgoing, Incoming, lrp_at, last_number, last_lrp, decoded_coord, attributes}
-use Rattle.olr_spec.specs.Receiver.{RecoversFrom, Recovers}
-use Rattle.olr_spec.specs.Recovery.{line_by, IsLineAt, Distinct, stretches, IsStretches, IsLeft, IsStep, are_spaced}
-use Rattle.olr_spec.proofs.FieldLemmas.{range_legs, linked_above, dm_same, position_is, last_two_linked}
+use Rattle.olr_spec.proofs.Common.{candidates, is_nearest, has_no_twin, Recovered}
+use Rattle.olr_spec.proofs.Facts.{Each, has_index, Known, path_also, path_at, Linked, joins_to, joins_last}
+use Rattle.olr_spec.specs.Receiver.{Outgoing, Incoming, lrp_at, last_number, last_lrp, decoded_coord, RecoversFrom}
+use Rattle.olr_spec.specs.Receiver.{Recovers}
+use Rattle.olr_spec.specs.Recovery.{line_by, IsLineAt, Distinct, stretches, IsStretches}
+use Rattle.olr_spec.proofs.FieldLemmas.{range_legs}
 use Rattle.olr_spec.proofs.FitLemmas.{extended_sound, by_answer}
-use Rattle.olr_spec.proofs.DecodedLemmas.{answer_decodes, got_index, Back, Form, Front, Kept, form}
-use Rattle.olr_spec.proofs.CandidateLemmas.{Own, takes_own, offset_close, nearer}
+use Rattle.olr_spec.proofs.DecodedLemmas.{answer_decodes, Back, Form, Front, Kept, form}
+use Rattle.olr_spec.proofs.CandidateLemmas.{Own, takes_own}
 use Rattle.olr_spec.proofs.RecoverLemmas.{within_greatest, recovers_to, recovers_last, extended_once, once_apart}
-use Rattle.olr_spec.proofs.JoinedLemmas.{extended_joined}
-use Rattle.olr_spec.proofs.QueryLemmas.{stretch_parts}
 use Rattle.olr_spec.specs.Reference as fields
 
 -- ---- one LRP
@@ -99,83 +89,12 @@ module _ (R : Receiver) (M : Map) (m : IsMap M) (ls : List ℕ) (known : Each (K
       let rest = from_point r 0 h i js l refl o.1 ws in
       grind (arith)
 
--- ---- legs
-
-module _ (M : Map) (m : IsMap M) (ls : List ℕ) (known : Each (Known M) ls) where
-  last_length : (h i : ℕ) (js : List ℕ) →
-      last (map (dm_of M) (stretches ls (h ∷ i ∷ js))) ≡ dm_of M (stretch ls (last_two h i js).0 (last_two h i js).1)
-  last_length h i [] = refl
-  last_length h i (j ∷ js) = last_length i j js
-
-  steps_of : (h i : ℕ) (js : List ℕ) → AllZip (λ a w. IsStep a (dm_of M w))
-      (attrs (legs M ls) h i ∷ map (λ (p : Middle). p.attrs) (middle_points (legs M ls) h i js)) (stretches ls (h ∷ i ∷ js))
-  steps_of h i [] = grind (arith, dm_same)
-  steps_of h i (j ∷ js) = grind (arith, dm_same, (steps_of i j js))
-
-  -- what remains of the offsets, front and back, is near to what their bytes cut off from the first leg and the last
-  abbrev Cuts : ℕ → List (List ℕ) → Reference → ℕ → ℕ → Type 0
-  Cuts n ws r front back =
-      ((c : ℕ) → IsCut n (first (map (dm_of M) ws)) r.pos c → IsClose n (first (map (dm_of M) ws)) front c)
-      × ((c : ℕ) → IsCut n (last (map (dm_of M) ws)) r.neg c → IsClose n (last (map (dm_of M) ws)) back c)
-
-  cuts_close : (p q h i : ℕ) (js : List ℕ) → Linked M ls (h ∷ i ∷ js) → (n : ℕ) → 0 < n →
-      Cuts n (stretches ls (h ∷ i ∷ js)) (reference_by_kept (legs M ls) p q h i js) p q
-  cuts_close p q h i js l n some =
-      grind (
-        arith,
-        last_two_linked M ls h i js l,
-        dm_same,
-        offset_close,
-        stretch_first,
-        positive,
-        has_index,
-        last_length h i js,
-      )
-
--- ---- positions
-
-linked_bounds : (M : Map) (ls ks : List ℕ) → Linked M ls ks → (k : ℕ) → suc k < length ks →
-    (slice_index ks k < slice_index ks (suc k)) × (slice_index ks (suc k) ≤ length ls)
-linked_bounds M ls [] l k h = absurd (omega arith)
-linked_bounds M ls (p ∷ []) l k h = absurd (omega arith)
-linked_bounds M ls (p ∷ q ∷ ks) l zero h = (l.0.after, l.0.upto)
-linked_bounds M ls (p ∷ q ∷ ks) l (suc k) h = linked_bounds M ls (q ∷ ks) l.1 k (omega arith)
-
-at_start : (M : Map) (ls : List ℕ) (i : ℕ) → i < length ls → node_at M ls i ≡ start M (slice_index ls i)
-at_start M ls i h = ap (λ (b : Bool). cond b (start M (slice_index ls i)) (end M (last ls))) (lt-ltb i (length ls) h)
-
-at_end : (M : Map) → IsMap M → (ls : List ℕ) → Each (Known M) ls → AreJoined M ls → (i : ℕ) →
-    0 < i → i ≤ length ls → node_at M ls i ≡ end M (slice_index ls (i - 1))
-at_end M m ls known joined i some up = elim (cases_lt i (length ls)) [
-  | inl lt ↦
-      let on : i - 1 + 1 ≡ i = omega arith in
-      let next = next_start M (start M (first ls)) (end M (last ls)) ls (i - 1) joined (omega arith) in
-      cc (at_start M ls i lt)
-  | inr ge ↦
-      let whole : length ls ≡ i = omega arith in
-      cc (
-        cond-false (nat_lt i (length ls)) (start M (slice_index ls i)) (end M (last ls)) (le-ltb i (length ls) ge),
-        last_index ls (omega arith),
-      )
-]
-
-spaced_nearest : (n d scale : ℕ) (far : Measure) → IsWeighted n d scale far → (k : ℕ) (p : ℤ × ℤ) (s : Side) (g : Leg) →
-    IsNear k p (coordinate_on s g) → (cs : List (ℕ × Leg)) → IsTrue (are_spaced n d k s g cs) → IsTrue (is_nearest far s p g cs)
-spaced_nearest n d scale far w k p s g near cs a =
-    list_all-from_AllPass _ cs (λ j x lt. here (get_or cs j x) (AllPass-from_list_all _ cs a j x lt))
-  where
-    here : (c : ℕ × Leg) → IsTrue (node_on s c.1 == node_on s g || is_spaced n d k (coordinate_on s g) (coordinate_on s c.1)) →
-        IsTrue (node_on s c.1 == node_on s g || nat_lt (far p (coordinate_on s g)) (far p (coordinate_on s c.1)))
-    here c t =
-        let closer = nearer n d scale far w k p (coordinate_on s g) (coordinate_on s c.1) near in
-        grind (arith, or_cases, or_left, or_right, lt-ltb)
-
 -- ---- an answer
 
 -- a property of the path's extension and LRPs holds for those of the encoding, since they are unique
 module _ (M : Map) (m : IsMap M) (P : Path) (is : IsTrue (is_path P.lines)) (none : path_fault M P ≡ None)
     (r : Reference) (e : Encoding M P (Points r)) where
-  same_path : (Q : Path → List ℕ → Type 0) → OfPath M P (λ E _ _ js. Q E js) →
+  pub same_path : (Q : Path → List ℕ → Type 0) → OfPath M P (λ E _ _ js. Q E js) →
       Q (extended_path M P e.before e.after) e.points
   same_path Q p = path_at m is none e p
 
@@ -184,9 +103,6 @@ module _ (M : Map) (m : IsMap M) (P : Path) (is : IsTrue (is_path P.lines)) (non
 
   abbrev Points_kept : List ℕ
   Points_kept = Kept M P is none r e
-
-  known_lines : Each (Known M) Lines
-  known_lines = (extended_sound M P is none e.before e.after e.tried).known
 
   formed : Form M Lines Points_kept (Front M P is none r e) (Back M P is none r e) r
   formed = form M P is none r e
@@ -230,80 +146,7 @@ module _ (M : Map) (m : IsMap M) (P : Path) (is : IsTrue (is_path P.lines)) (non
         (λ p. by.1 (same_path _ p)),
       )
 
-  stretches_are : (ws : List (List ℕ)) → IsStretches M P ws → ws ≡ stretches Lines (formed.h ∷ formed.i ∷ formed.js)
-  stretches_are ws s =
-      same_path _ s ∙ ap (stretches Lines) formed.kept
-
-  cuts : (ws : List (List ℕ)) → IsStretches M P ws → (front back : ℕ) → IsLeft M P front back → (n : ℕ) → 0 < n →
-      Cuts M m Lines known_lines n ws r front back
-  cuts ws s front back l n some =
-      let left = same_path _ l in
-      coe 1 0 (i. Cuts M m Lines known_lines n (stretches_are ws s i) (formed.fields_are i) (left.0 i) (left.1 i))
-      (cuts_close M m Lines known_lines (Front M P is none r e) (Back M P is none r e) formed.h formed.i formed.js formed.linked n some)
-
-  all_steps : (ws : List (List ℕ)) → IsStretches M P ws → AllZip (λ a w. IsStep a (dm_of M w)) (attributes r) ws
-  all_steps ws s = grind (arith, formed.fields_are, stretches_are ws s, steps_of M m Lines known_lines formed.h)
-
-  -- ---- the nearest node
-
-  bounds : (k : ℕ) → k < last_number r →
-      (slice_index Points_kept k < slice_index Points_kept (k + 1)) × (slice_index Points_kept (k + 1) ≤ length Lines)
-  bounds k h =
-      let on : k + 1 ≡ suc k = omega arith in
-      grind (arith, size, formed.kept, linked_bounds M Lines (formed.h ∷ formed.i ∷ formed.js) formed.linked k)
-
-  -- LRP k is decoded near the node of its line x
-  near_line : (s : Side) (k x : ℕ) → k ≤ last_number r → IsLineAt M P s k x →
-      ((i : ℕ) → slice_index Points_kept k ≡ i → coord_at M (node_at M Lines i) ≡ coordinate_on s (leg M (line_by s Lines i))) →
-      IsNear k (decoded_coord r k) (coordinate_on s (leg M x))
-  near_line s k x h at on =
-      let there = same_path _ at in
-      let near = (answer_decodes M P is none r e).near k (omega (arith, size)) in
-      let some = (extended_sound M P is none e.before e.after e.tried).size in
-      let place_is = position_is M m Lines known_lines (slice_index Points_kept k) some ∙ on (slice_index Points_kept k) refl
-      ∙ ap (λ (y : ℕ). coordinate_on s (leg M y)) (got_index (line_by s Lines) Points_kept k x there).1 in
-      coe 0 1 (i. IsNear k (sym (ap (λ (o : Option (ℤ × ℤ)). unwrap_or o (pos 0, pos 0)) near.1) i) (place_is i)) near.2
-
-  near_out : (k x : ℕ) → k < last_number r → IsLineAt M P Outgoing k x → IsNear k (decoded_coord r k) (leg M x).begin
-  near_out k x h at = grind (arith, bounds k h, near_line Outgoing k x, at_start M Lines)
-
-  near_in : (x : ℕ) → IsLineAt M P Incoming (last_number r) x →
-      IsNear (last_number r) (decoded_coord r (last_number r)) (leg M x).finish
-  near_in x at =
-      let b = bounds (length r.middle) (omega arith) in
-      near_line Incoming (last_number r) x (omega arith) at
-      (λ i is_i. ap (coord_at M) (at_end M m Lines known_lines
-      (extended_joined M P is none e.before e.after e.tried) i (omega (arith, is_i, b.0)) (omega (arith, is_i, b.1))))
+-- ---- the nearest node
 
 pub recovered : Recovered
 recovered R M m P is r e d ws = let p = by_answer M P r e in recovered_of M m P is p.0 r p.1 R d ws
-
--- ---- the legs together
-
-joined : (M : Map) (ls ks : List ℕ) → Linked M ls ks → concat (stretches ls ks) ≡ stretch ls (first ks) (last ks)
-joined M ls [] l = sym (empty_stretch ls 0 0 (omega arith))
-joined M ls (p ∷ []) l = sym (empty_stretch ls p p (omega arith))
-joined M ls (p ∷ q ∷ ks) l =
-    let here = linked_above M ls q ks l.1 (last (q ∷ ks)) in
-    grind (arith, has_last (q ∷ ks), joined M ls (q ∷ ks) l.1, stretch_parts ls p q (last (q ∷ ks)))
-
-pub stretches_join : StretchesJoin
-stretches_join M P ws p =
-    let E = extended_path M P p.before p.after in
-    let gs = legs M E.lines in
-    let ks = kept_points gs E.pos E.neg p.points in
-    let linked = kept_linked M E.lines (first_kept gs E.pos p.points) (last_kept gs E.neg p.points) (0 ∷ p.points)
-    (follow_linked M E.lines 0 p.points p.follow) in
-    path_also p (ap concat p.holds ∙ joined M E.lines ks linked)
-
-pub offsets_close : Offsets
-offsets_close M m P is r e = let p = by_answer M P r e in cuts M m P is p.0 r p.1
-
-pub steps_close : Distances
-steps_close M m P is r e ws s = let p = by_answer M P r e in all_steps M m P is p.0 r p.1 ws s
-
-pub nearest_own : Nearest
-nearest_own M m P is r e n d scale far w = let p = by_answer M P r e in (
-  (λ k x h at a. spaced_nearest n d scale far w k _ Outgoing (leg M x) (near_out M m P is p.0 r p.1 k x h at) _ a),
-  (λ x at a. spaced_nearest n d scale far w (last_number r) _ Incoming (leg M x) (near_in M m P is p.0 r p.1 x at) _ a),
-)

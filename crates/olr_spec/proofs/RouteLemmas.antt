@@ -3,7 +3,7 @@ use Rattle.olr_spec.proofs.Common.{◌≡◌, ◌≢◌, ℕ, ◌+◌, ◌<◌, 
 use Rattle.olr_spec.proofs.Common.{subst, arith, IsTrue, [], cases_order, and_parts, nat_tests, reverse-append, Map}
 use Rattle.olr_spec.proofs.Common.{IsMap, has_node, has_line, end, dm, IsRoute, dm_of, FirstSmaller, PrecedesInTieOrder}
 use Rattle.olr_spec.proofs.Common.{reverse-reverse, append_cancel_right, NoLongerSuffix, OneLeast, PrefixOfLeast}
-use Rattle.olr_spec.proofs.Common.{EmptyIsLeast, EmptyIsUnique, UniqueIsLeast, PrefixOfUnique}
+use Rattle.olr_spec.proofs.Common.{◌⊎◌, EmptyIsLeast, EmptyIsUnique, UniqueIsLeast, PrefixOfUnique}
 
 pub positive : (M : Map) → IsMap M → (x : ℕ) → IsTrue (has_line M x) → 0 < dm M x
 positive M m x h = let good = m.good x h in grind (arith, nat_tests, and_parts)
@@ -120,3 +120,8 @@ unique_least M s t xs o = grind (arith, not_before_itself)
 
 pub prefix_of_unique : PrefixOfUnique
 prefix_of_unique M s v t xs ys o w u = grind (arith, IsRoute-append, append_cancel_right, dm_of-append)
+
+-- of routes from their ends the last lines are compared first
+pub last_first : (xs ys : List ℕ) (x y : ℕ) → FirstSmaller (reverse (xs ++ x ∷ [])) (reverse (ys ++ y ∷ [])) → (x < y)
+    ⊎ ((x ≡ y) × FirstSmaller (reverse xs) (reverse ys))
+last_first xs ys x y h = grind (arith, reverse-append)

@@ -17,5 +17,4 @@ pub mod Footprint
 pub mod Receiver
 pub mod Recovery
 pub mod Laws
-pub mod Rows
 pub mod Codes

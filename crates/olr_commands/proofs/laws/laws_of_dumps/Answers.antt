@@ -1,5 +1,0 @@
-use Rattle.olr_commands.proofs.DumpLemmas.{dumps_lead}
-use Rattle.olr_commands.proofs.laws.laws_of_dumps.Goals as goal
-
-pub returns-clause-lead : goal.returns-clause-lead
-returns-clause-lead c = dumps_lead

@@ -1,0 +1,316 @@
+-- Receivers exist, and what the lengths and nodes of the legs between the remaining LRPs say.
+use Rattle.olr_spec.proofs.Common.{◌≡◌, ℕ, zero, suc, ◌+◌, ℤ, true, List, ◌∷◌, length, ◌<◌, ◌≤◌, Some, None, is_some}
+use Rattle.olr_spec.proofs.Common.{IsTrue, ap, ◌∙◌, subst, arith, nat_le, [], slice_get, option_map, leb-true}
+use Rattle.olr_spec.proofs.Common.{slice_index, cases_Bool, Map, IsMap, coord_at, Path, is_path, node_at, Reference}
+use Rattle.olr_spec.proofs.Common.{Points, path_fault, Encoding, IsNear, slice_get-get_or, IsPoint, decoded}
+use Rattle.olr_spec.proofs.Common.{DecodedNear, DecodedPoints, ◌-◌, refl, nat_lt, ◌==◌, ◌*◌, ◌-ℤ◌, ◌/◌, eqb-true}
+use Rattle.olr_spec.proofs.Common.{ltb-true, lt-ltb, le-ltb, nat_abs, or_cases, ints, offset, Measure, Coord}
+use Rattle.olr_spec.proofs.Common.{decoded_bound, IsWeighted, is_spaced, IsCut, IsClose, SomeReceiver, SomeWeighted}
+use Rattle.olr_spec.proofs.Common.{map, sym, inl, inr, Bool, pos, Option, unwrap_or, cond, ◌||◌, AllZip, get_or}
+use Rattle.olr_spec.proofs.Common.{AllPass-from_list_all, cases_lt, or_left, or_right, start, end, extended_path, first}
+use Rattle.olr_spec.proofs.Common.{last, AreJoined, stretch, Leg, leg, legs, attrs, first_kept, last_kept, kept_points}
+use Rattle.olr_spec.proofs.Common.{Middle, middle_points, last_two, reference_by_kept, Side, is_nearest, coordinate_on}
+use Rattle.olr_spec.proofs.Common.{node_on, dm_of, concat, list_all-from_AllPass, cond-false, StretchesJoin, Offsets}
+use Rattle.olr_spec.proofs.Common.{Distances, Nearest}
+use Rattle.olr_spec.proofs.Facts.{path_also, path_at, Each, has_index, has_last, last_index, Known, Linked}
+use Rattle.olr_spec.proofs.Facts.{follow_linked, kept_linked, empty_stretch, stretch_first, positive, next_start}
+use Rattle.olr_spec.proofs.FieldLemmas.{position_is, linked_above, dm_same, last_two_linked}
+use Rattle.olr_spec.proofs.FitLemmas.{extended_sound, by_answer}
+use Rattle.olr_spec.proofs.DecodedLemmas.{E, Kept, answer_decodes, Back, Form, Front, form}
+use Rattle.std.proofs.Math.Nat.{mul-le-mul_left, mul-le-mul_right, mul-lt-mul_of_pos_left, le_of_mul-le-mul_left}
+use Rattle.std.proofs.Math.Nat.{mul-add, mul_comm, div-mul-le_self, lt-div-mul-add}
+use Rattle.olr_spec.specs.Receiver.{Rating, IsDifference, Outgoing, Incoming, last_number, decoded_coord, attributes}
+use Rattle.olr_spec.specs.Recovery.{lon_apart, lat_apart, line_by, IsLineAt, stretches, IsStretches, IsLeft, IsStep}
+use Rattle.olr_spec.specs.Recovery.{are_spaced}
+use Rattle.olr_spec.proofs.JoinedLemmas.{extended_joined}
+use Rattle.olr_spec.proofs.QueryLemmas.{stretch_parts}
+use Rattle.olr_spec.proofs.ReceiverLemmas.{same_path}
+
+-- ---- the LRPs of an answer
+
+got_index : (f : ℕ → ℕ) (ks : List ℕ) (k v : ℕ) → option_map f (slice_get ks k) ≡ Some v → (k < length ks)
+    × (f (slice_index ks k) ≡ v)
+got_index f [] k v e = absurd cc
+got_index f (x ∷ ks) zero v e = (omega arith, cc)
+got_index f (x ∷ ks) (suc k) v e = let r = got_index f ks k v e in (omega (arith, r.0), r.1)
+
+module _ (M : Map) (m : IsMap M) (P : Path) (is : IsTrue (is_path P.lines)) (none : path_fault M P ≡ None)
+    (r : Reference) (e : Encoding M P (Points r)) where
+  abbrev ls : List ℕ
+  ls = (E M P is none r e).lines
+
+  abbrev ks : List ℕ
+  ks = Kept M P is none r e
+
+  near_point : (k v : ℕ) → IsPoint M P k v → (d : ℤ × ℤ) × (decoded r k ≡ Some d) × IsNear k d (coord_at M v)
+  near_point k v p =
+      let at = got_index (node_at M ls) ks k v (path_at m is none e p) in
+      let near = (answer_decodes M P is none r e).near k at.0 in
+      let s = extended_sound M P is none e.before e.after e.tried in
+      let place = position_is M m ls s.known (slice_index ks k) s.size ∙ ap (coord_at M) at.1 in
+      (near.0, near.1, subst (IsNear k near.0) place near.2)
+
+  point_at : (k : ℕ) → is_some (decoded r k) ≡ true → (v : ℕ) × IsPoint M P k v
+  point_at k h =
+      let count = (answer_decodes M P is none r e).count in
+      let within : k ≤ length r.middle + 1 = grind (arith, leb-true, cases_Bool (nat_le k (length r.middle + 1))) in
+      (node_at M ls (slice_index ks k), path_also e (ap (option_map (node_at M ls)) (slice_get-get_or ks k 0 (omega arith))))
+
+pub decoded_near : DecodedNear
+decoded_near M m P is r e = let p = by_answer M P r e in near_point M m P is p.0 r p.1
+
+pub decoded_points : DecodedPoints
+decoded_points M m P is r e = let p = by_answer M P r e in point_at M m P is p.0 r p.1
+
+-- ---- receivers exist
+
+abbrev apart : ℕ → ℕ → ℕ
+apart a b = a - b + (b - a)
+
+apart_differs : IsDifference apart
+apart_differs = record { same = λ a. omega arith; other = λ a b e. omega arith }
+
+abbrev total : Rating → ℕ
+total a = a.far + a.frc + a.fow + a.bearing
+
+-- it prefers the smaller sum of the measure and the differences
+pub some_receiver : SomeReceiver
+some_receiver far = (
+  record {
+    far = far;
+    frc_apart = apart;
+    fow_apart = apart;
+    bearing_apart = apart;
+    prefers = λ a b. nat_lt (total a) (total b);
+    frcs = apart_differs;
+    fows = apart_differs;
+    bearings = apart_differs;
+    monotone = λ a b w h. lt-ltb (total a) (total b) (omega arith);
+    strict = λ a b h. le-ltb (total b) (total a) (omega (arith, ltb-true (total a) (total b) h));
+  },
+  refl,
+)
+
+-- ---- products
+
+-- the bound of the measure for the node of the LRP, from both axes
+own_side : (u scale a b B f : ℕ) → 0 < scale → u ≤ scale → a < B → b < B → f ≤ u * a + scale * b → f < scale * B + scale * B
+own_side u scale a b B f unit most ha hb h = grind (arith, mul-le-mul_right, mul-lt-mul_of_pos_left)
+
+by_latitude : (scale e B f : ℕ) → B + B ≤ e → scale * e ≤ f → scale * B + scale * B ≤ f
+by_latitude scale e B f h g = omega (arith, mul-le-mul_left scale h, mul-add scale B B)
+
+-- e is the distance D minus at most B
+by_longitude : (n d scale u e D B f : ℕ) → 0 < d → 0 < scale → n * scale ≤ d * u → u ≤ scale → D ≤ e + B →
+    3 * (d * B) ≤ n * D → u * e ≤ f → scale * B + scale * B ≤ f
+by_longitude n d scale u e D B f some unit least most h far g =
+    let few : n ≤ d = le_of_mul-le-mul_left
+    (let goal : scale * n ≤ scale * d = omega (arith, mul-le-mul_left d most, mul_comm n scale, mul_comm d scale) in
+    goal) unit in
+    let kept : d * B + d * B ≤ n * e = omega (arith, mul-le-mul_left n h, mul-add n e B, mul-le-mul_right B few) in
+    let all : d * (scale * B + scale * B) ≤ d * (u * e) =
+    grind (arith, mul-le-mul_left scale kept, mul-le-mul_right e least) in
+    omega (arith, le_of_mul-le-mul_left all some)
+
+-- ---- distances on an axis
+
+triangle : (p a b : ℤ) → nat_abs (a -ℤ b) ≤ nat_abs (p -ℤ b) + nat_abs (p -ℤ a)
+triangle p a b = grind (arith, ints)
+
+-- ---- the nearest node
+
+nearer : (n d scale : ℕ) (far : Measure) → IsWeighted n d scale far → (k : ℕ) (p : ℤ × ℤ) (a b : Coord) →
+    IsNear k p a → is_spaced n d k a b ≡ true → far p a < far p b
+nearer n d scale far w k p a b near spaced =
+    let B = decoded_bound k in
+    let here = w.all p a in
+    let there = w.all p b in
+    let own = own_side here.u scale (lon_apart p a) (lat_apart p a) B (far p a) w.unit here.most near.lon near.lat here.by_both in
+    let north = by_latitude scale (lat_apart p b) B (far p b) in
+    let east = by_longitude n d scale there.u (lon_apart p b) (nat_abs (a.lon -ℤ b.lon)) B (far p b) w.some w.unit there.least in
+    let next = triangle p.1 a.lat b.lat in
+    let later = triangle p.0 a.lon b.lon in
+    let also = leb-true (3 * B) (nat_abs (a.lat -ℤ b.lat)) in
+    let more = leb-true (3 * (d * B)) (n * nat_abs (a.lon -ℤ b.lon)) in
+    grind (arith, or_cases (nat_le (3 * B) (nat_abs (a.lat -ℤ b.lat))) _ spaced)
+
+-- ---- such measures exist
+
+pub some_weighted : SomeWeighted
+some_weighted n d h some = grind (arith, mul_comm n d)
+
+-- the byte of what remains of an offset
+byte_close : (q s left c : ℕ) → 0 < q → 0 < s → IsCut q s (Some (256 * left / s)) c → IsClose q s left c
+byte_close q s left c hq hs k =
+    let b = 256 * left / s in
+    let low_q : q * (b * s) ≤ q * (256 * left) = mul-le-mul_left q (div-mul-le_self (256 * left) s) in
+    let high_q : q * (256 * left) < q * (b * s + s) = mul-lt-mul_of_pos_left (lt-div-mul-add hs) hq in
+    record { below = grind arith; above = grind arith }
+
+offset_close : (q s left c : ℕ) → 0 < q → 0 < s → IsCut q s (offset left s) c → IsClose q s left c
+offset_close q s left c hq hs = grind (arith, cases_Bool (left == 0), eqb-true left 0, byte_close q s left c hq hs)
+
+-- ---- legs
+
+module _ (M : Map) (m : IsMap M) (ls : List ℕ) (known : Each (Known M) ls) where
+  last_length : (h i : ℕ) (js : List ℕ) →
+      last (map (dm_of M) (stretches ls (h ∷ i ∷ js))) ≡ dm_of M (stretch ls (last_two h i js).0 (last_two h i js).1)
+  last_length h i [] = refl
+  last_length h i (j ∷ js) = last_length i j js
+
+  steps_of : (h i : ℕ) (js : List ℕ) → AllZip (λ a w. IsStep a (dm_of M w))
+      (attrs (legs M ls) h i ∷ map (λ (p : Middle). p.attrs) (middle_points (legs M ls) h i js)) (stretches ls (h ∷ i ∷ js))
+  steps_of h i [] = grind (arith, dm_same)
+  steps_of h i (j ∷ js) = grind (arith, dm_same, (steps_of i j js))
+
+  -- what remains of the offsets, front and back, is near to what their bytes cut off from the first leg and the last
+  abbrev Cuts : ℕ → List (List ℕ) → Reference → ℕ → ℕ → Type 0
+  Cuts n ws r front back =
+      ((c : ℕ) → IsCut n (first (map (dm_of M) ws)) r.pos c → IsClose n (first (map (dm_of M) ws)) front c)
+      × ((c : ℕ) → IsCut n (last (map (dm_of M) ws)) r.neg c → IsClose n (last (map (dm_of M) ws)) back c)
+
+  cuts_close : (p q h i : ℕ) (js : List ℕ) → Linked M ls (h ∷ i ∷ js) → (n : ℕ) → 0 < n →
+      Cuts n (stretches ls (h ∷ i ∷ js)) (reference_by_kept (legs M ls) p q h i js) p q
+  cuts_close p q h i js l n some =
+      grind (
+        arith,
+        last_two_linked M ls h i js l,
+        dm_same,
+        offset_close,
+        stretch_first,
+        positive,
+        has_index,
+        last_length h i js,
+      )
+
+-- ---- positions
+
+linked_bounds : (M : Map) (ls ks : List ℕ) → Linked M ls ks → (k : ℕ) → suc k < length ks →
+    (slice_index ks k < slice_index ks (suc k)) × (slice_index ks (suc k) ≤ length ls)
+linked_bounds M ls [] l k h = absurd (omega arith)
+linked_bounds M ls (p ∷ []) l k h = absurd (omega arith)
+linked_bounds M ls (p ∷ q ∷ ks) l zero h = (l.0.after, l.0.upto)
+linked_bounds M ls (p ∷ q ∷ ks) l (suc k) h = linked_bounds M ls (q ∷ ks) l.1 k (omega arith)
+
+at_start : (M : Map) (ls : List ℕ) (i : ℕ) → i < length ls → node_at M ls i ≡ start M (slice_index ls i)
+at_start M ls i h = ap (λ (b : Bool). cond b (start M (slice_index ls i)) (end M (last ls))) (lt-ltb i (length ls) h)
+
+at_end : (M : Map) → IsMap M → (ls : List ℕ) → Each (Known M) ls → AreJoined M ls → (i : ℕ) →
+    0 < i → i ≤ length ls → node_at M ls i ≡ end M (slice_index ls (i - 1))
+at_end M m ls known joined i some up = elim (cases_lt i (length ls)) [
+  | inl lt ↦
+      let on : i - 1 + 1 ≡ i = omega arith in
+      let next = next_start M (start M (first ls)) (end M (last ls)) ls (i - 1) joined (omega arith) in
+      cc (at_start M ls i lt)
+  | inr ge ↦
+      let whole : length ls ≡ i = omega arith in
+      cc (
+        cond-false (nat_lt i (length ls)) (start M (slice_index ls i)) (end M (last ls)) (le-ltb i (length ls) ge),
+        last_index ls (omega arith),
+      )
+]
+
+spaced_nearest : (n d scale : ℕ) (far : Measure) → IsWeighted n d scale far → (k : ℕ) (p : ℤ × ℤ) (s : Side) (g : Leg) →
+    IsNear k p (coordinate_on s g) → (cs : List (ℕ × Leg)) → IsTrue (are_spaced n d k s g cs) → IsTrue (is_nearest far s p g cs)
+spaced_nearest n d scale far w k p s g near cs a =
+    list_all-from_AllPass _ cs (λ j x lt. here (get_or cs j x) (AllPass-from_list_all _ cs a j x lt))
+  where
+    here : (c : ℕ × Leg) → IsTrue (node_on s c.1 == node_on s g || is_spaced n d k (coordinate_on s g) (coordinate_on s c.1)) →
+        IsTrue (node_on s c.1 == node_on s g || nat_lt (far p (coordinate_on s g)) (far p (coordinate_on s c.1)))
+    here c t =
+        let closer = nearer n d scale far w k p (coordinate_on s g) (coordinate_on s c.1) near in
+        grind (arith, or_cases, or_left, or_right, lt-ltb)
+
+-- ---- an answer
+
+module _ (M : Map) (m : IsMap M) (P : Path) (is : IsTrue (is_path P.lines)) (none : path_fault M P ≡ None)
+    (r : Reference) (e : Encoding M P (Points r)) where
+  abbrev Lines : List ℕ
+  Lines = (extended_path M P e.before e.after).lines
+
+  abbrev Points_kept : List ℕ
+  Points_kept = Kept M P is none r e
+
+  formed : Form M Lines Points_kept (Front M P is none r e) (Back M P is none r e) r
+  formed = form M P is none r e
+
+  size : last_number r + 1 ≡ length Points_kept
+  size = omega (arith, (answer_decodes M P is none r e).count)
+
+  known_lines : Each (Known M) Lines
+  known_lines = (extended_sound M P is none e.before e.after e.tried).known
+
+  stretches_are : (ws : List (List ℕ)) → IsStretches M P ws → ws ≡ stretches Lines (formed.h ∷ formed.i ∷ formed.js)
+  stretches_are ws s =
+      same_path M m P is none r e _ s ∙ ap (stretches Lines) formed.kept
+
+  cuts : (ws : List (List ℕ)) → IsStretches M P ws → (front back : ℕ) → IsLeft M P front back → (n : ℕ) → 0 < n →
+      Cuts M m Lines known_lines n ws r front back
+  cuts ws s front back l n some =
+      let left = same_path M m P is none r e _ l in
+      coe 1 0 (i. Cuts M m Lines known_lines n (stretches_are ws s i) (formed.fields_are i) (left.0 i) (left.1 i))
+      (cuts_close M m Lines known_lines (Front M P is none r e) (Back M P is none r e) formed.h formed.i formed.js formed.linked n some)
+
+  all_steps : (ws : List (List ℕ)) → IsStretches M P ws → AllZip (λ a w. IsStep a (dm_of M w)) (attributes r) ws
+  all_steps ws s = grind (arith, formed.fields_are, stretches_are ws s, steps_of M m Lines known_lines formed.h)
+
+  -- ---- the nearest node
+
+  bounds : (k : ℕ) → k < last_number r →
+      (slice_index Points_kept k < slice_index Points_kept (k + 1)) × (slice_index Points_kept (k + 1) ≤ length Lines)
+  bounds k h =
+      let on : k + 1 ≡ suc k = omega arith in
+      grind (arith, size, formed.kept, linked_bounds M Lines (formed.h ∷ formed.i ∷ formed.js) formed.linked k)
+
+  -- LRP k is decoded near the node of its line x
+  near_line : (s : Side) (k x : ℕ) → k ≤ last_number r → IsLineAt M P s k x →
+      ((i : ℕ) → slice_index Points_kept k ≡ i → coord_at M (node_at M Lines i) ≡ coordinate_on s (leg M (line_by s Lines i))) →
+      IsNear k (decoded_coord r k) (coordinate_on s (leg M x))
+  near_line s k x h at on =
+      let there = same_path M m P is none r e _ at in
+      let near = (answer_decodes M P is none r e).near k (omega (arith, size)) in
+      let some = (extended_sound M P is none e.before e.after e.tried).size in
+      let place_is = position_is M m Lines known_lines (slice_index Points_kept k) some ∙ on (slice_index Points_kept k) refl
+      ∙ ap (λ (y : ℕ). coordinate_on s (leg M y)) (got_index (line_by s Lines) Points_kept k x there).1 in
+      coe 0 1 (i. IsNear k (sym (ap (λ (o : Option (ℤ × ℤ)). unwrap_or o (pos 0, pos 0)) near.1) i) (place_is i)) near.2
+
+  near_out : (k x : ℕ) → k < last_number r → IsLineAt M P Outgoing k x → IsNear k (decoded_coord r k) (leg M x).begin
+  near_out k x h at = grind (arith, bounds k h, near_line Outgoing k x, at_start M Lines)
+
+  near_in : (x : ℕ) → IsLineAt M P Incoming (last_number r) x →
+      IsNear (last_number r) (decoded_coord r (last_number r)) (leg M x).finish
+  near_in x at =
+      let b = bounds (length r.middle) (omega arith) in
+      near_line Incoming (last_number r) x (omega arith) at
+      (λ i is_i. ap (coord_at M) (at_end M m Lines known_lines
+      (extended_joined M P is none e.before e.after e.tried) i (omega (arith, is_i, b.0)) (omega (arith, is_i, b.1))))
+
+-- ---- the legs together
+
+joined : (M : Map) (ls ks : List ℕ) → Linked M ls ks → concat (stretches ls ks) ≡ stretch ls (first ks) (last ks)
+joined M ls [] l = sym (empty_stretch ls 0 0 (omega arith))
+joined M ls (p ∷ []) l = sym (empty_stretch ls p p (omega arith))
+joined M ls (p ∷ q ∷ ks) l =
+    let here = linked_above M ls q ks l.1 (last (q ∷ ks)) in
+    grind (arith, has_last (q ∷ ks), joined M ls (q ∷ ks) l.1, stretch_parts ls p q (last (q ∷ ks)))
+
+pub stretches_join : StretchesJoin
+stretches_join M P ws p =
+    let E = extended_path M P p.before p.after in
+    let gs = legs M E.lines in
+    let ks = kept_points gs E.pos E.neg p.points in
+    let linked = kept_linked M E.lines (first_kept gs E.pos p.points) (last_kept gs E.neg p.points) (0 ∷ p.points)
+    (follow_linked M E.lines 0 p.points p.follow) in
+    path_also p (ap concat p.holds ∙ joined M E.lines ks linked)
+
+pub offsets_close : Offsets
+offsets_close M m P is r e = let p = by_answer M P r e in cuts M m P is p.0 r p.1
+
+pub steps_close : Distances
+steps_close M m P is r e ws s = let p = by_answer M P r e in all_steps M m P is p.0 r p.1 ws s
+
+pub nearest_own : Nearest
+nearest_own M m P is r e n d scale far w = let p = by_answer M P r e in (
+  (λ k x h at a. spaced_nearest n d scale far w k _ Outgoing (leg M x) (near_out M m P is p.0 r p.1 k x h at) _ a),
+  (λ x at a. spaced_nearest n d scale far w (last_number r) _ Incoming (leg M x) (near_in M m P is p.0 r p.1 x at) _ a),
+)

@@ -1,0 +1,5 @@
+use Rattle.olr_commands.proofs.DumpLemmas.{dumps_lead}
+use Rattle.olr_laws.proofs.commands.laws_of_dumps.Goals as goal
+
+pub returns-clause-lead : goal.returns-clause-lead
+returns-clause-lead c = dumps_lead

@@ -1,0 +1,80 @@
+use Rattle.olr_run.proofs.Common.{ByState, In_last, csv_on_literals, Paths}
+use Rattle.std.proofs.Common.{arith, inl, inr, ◌≡◌, [], ◌∷◌, ◌++◌, Ok, Err, refl}
+use Rattle.olr_commands.specs.State.{start_state, On_map, Make, Syntax, Range, Map_fault, step}
+use Rattle.std.specs.Cmp.{nat_cmp_total}
+use Rattle.std.specs.FinMap.{insert, empty, get-empty, get-insert}
+use Rattle.std.specs.Prelude.{codes}
+use Rattle.std.specs.Fmt.{digits}
+use Rattle.olr_spec.specs.Map.{Node_exists, No_node, Add_node, Drop_node}
+use Rattle.olr_laws.specs.RecordRows.{zero}
+use Rattle.olr_laws.specs.RunRows.{state20}
+use Rattle.olr_laws.proofs.runs.rows_runs.Goals as goal
+
+add_first : step start_state (Make (On_map (Add_node 1 zero))) ≡ Ok state20
+add_first = grind (arith, insert, empty, get-empty)
+
+add_again : step state20 (Make (On_map (Add_node 1 zero))) ≡ Err (Map_fault Node_exists)
+add_again = grind (arith, insert, empty, nat_cmp_total, get-insert)
+
+drop_none : step state20 (Make (On_map (Drop_node 2))) ≡ Err (Map_fault No_node)
+drop_none = grind (arith, insert, empty, nat_cmp_total, get-insert, get-empty)
+
+pub returns-clause-all : goal.returns-clause-all
+unfolding csv_on_literals digits
+returns-clause-all c =
+    record {
+      outcomes = Ok (Paths []) ∷ Err (Map_fault Node_exists) ∷ Err (Map_fault No_node) ∷ Err Range ∷ Err Syntax ∷ [];
+      each = (
+        state20,
+        inl (add_first, refl),
+        (
+          state20,
+          inl (ByState add_again, refl),
+          (state20, inl (ByState drop_none, refl), (state20, inl (refl, refl), (state20, inl (refl, refl), refl))),
+        ),
+      );
+      stops = (λ e. absurd cc, (λ e. absurd cc, (λ e. absurd cc, (λ e. absurd cc, (λ e. refl, tt)))));
+      all = inl refl;
+      wrote = refl;
+      ended = refl;
+    }
+
+pub returns-clause-stopped : goal.returns-clause-stopped
+unfolding csv_on_literals digits
+returns-clause-stopped c =
+    record {
+      outcomes = Ok (Paths []) ∷ Err (Map_fault Node_exists) ∷ [];
+      each = (state20, inl (add_first, refl), (state20, inl (ByState add_again, refl), refl));
+      stops = (λ e. absurd cc, (λ e. refl, tt));
+      all = inr refl;
+      wrote = refl;
+      ended = refl;
+    }
+
+pub returns-clause-nothing : goal.returns-clause-nothing
+unfolding csv_on_literals digits
+returns-clause-nothing c = record { outcomes = []; each = refl; stops = tt; all = inl refl; wrote = refl; ended = refl }
+
+pub returns-clause-cut : goal.returns-clause-cut
+unfolding csv_on_literals digits
+returns-clause-cut c =
+    record {
+      outcomes = Ok (Paths []) ∷ Err (Map_fault Node_exists) ∷ [];
+      each = (state20, inl (add_first, refl), (state20, inl (ByState add_again, refl), refl));
+      stops = (λ e. absurd cc, (λ e. refl, tt));
+      wrote =
+          In_last refl (Ok (Paths []) ∷ []) (Err (Map_fault Node_exists)) (codes "fau")
+          (codes "lt,3,NodeExists" ++ 10 ∷ []) refl refl (λ e. absurd cc) refl;
+    }
+
+pub returns-clause-cut_at_once : goal.returns-clause-cut_at_once
+unfolding csv_on_literals digits
+returns-clause-cut_at_once c = grind arith
+
+pub returns-clause-stopped_in_file : goal.returns-clause-stopped_in_file
+unfolding csv_on_literals
+returns-clause-stopped_in_file c = returns-clause-stopped c
+
+pub returns-clause-both : goal.returns-clause-both
+unfolding csv_on_literals
+returns-clause-both c = returns-clause-all c

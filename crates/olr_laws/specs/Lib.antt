@@ -1,0 +1,7 @@
+pub mod Rows
+pub mod CommandLaws
+pub mod CommandRows
+pub mod RecordLaws
+pub mod RecordRows
+pub mod RunLaws
+pub mod RunRows

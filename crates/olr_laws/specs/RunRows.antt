@@ -1,0 +1,21 @@
+-- Worked values.
+use Rattle.std.specs.Prelude.{ℕ, List, [], ◌∷◌, codes, None}
+use Rattle.std.specs.FinMap.{insert, empty}
+use Rattle.olr_spec.specs.Map.{empty_map}
+use Rattle.olr_commands.specs.State.{State}
+use Rattle.olr_laws.specs.RecordRows.{zero, text_of_lines}
+
+-- a run of five records, four of them rejected
+abbrev pub input20 : List ℕ
+input20 =
+    text_of_lines (codes "node,1,0,0" ∷ codes "node,1,0,0" ∷ codes "drop-node,2" ∷ codes "node,3,180,0"
+    ∷ codes "node,x,0,0" ∷ [])
+
+abbrev pub output20 : List ℕ
+output20 =
+    text_of_lines (codes "ok,0" ∷ codes "fault,3,NodeExists" ∷ codes "fault,4,NoNode" ∷ codes "fault,2,Range" ∷ codes
+    "fault,1,Syntax" ∷ [])
+
+abbrev pub state20 : State
+state20 =
+    record { content = record { map = record empty_map { nodes = insert empty 1 zero }; paths = [] }; batch = None }

@@ -1,0 +1,58 @@
+//! The laws of answers and their location reference points (LRPs), and worked rows of LRPs and fields.
+ghost use Rattle.std.specs.Prelude.{◌≡◌, ℕ, pos, [], ◌∷◌, Some, None};
+ghost use Rattle.olr_spec.specs.Laws;
+ghost use Rattle.olr_spec.specs.Reference.{kept_points, reference};
+ghost use Rattle.olr_spec.specs.Bytes.{reference_bytes};
+ghost use Rattle.olr_spec.specs.Decoded.{decoded};
+ghost use Rattle.olr_laws.specs.Rows.{legs1, leg10, reference1, bytes1, side_road_dropped_bytes, first_dropped_bytes};
+ghost use Rattle.olr_laws.specs.Rows.{last_dropped_bytes, both_offsets_bytes, offset_bytes_of};
+
+/// A path has exactly one answer on a map, and the reference of an answer fits its bits.
+pub fn laws_of_answers()
+    ensures one_start_run { Laws.OneStartRun }
+    ensures one_end_run { Laws.OneEndRun }
+    ensures one_next { Laws.OneNext }
+    ensures one_points { Laws.OnePoints }
+    ensures one_answer { Laws.OneAnswer }
+    ensures some_answer { Laws.SomeAnswer }
+    ensures fits { Laws.AnswerFits }
+{}
+
+/// At least two location reference points (LRPs) remain after the offsets, the routes between them
+/// join to the path, and each is decoded near its coordinate on the map.
+pub fn laws_of_points()
+    ensures two_kept { Laws.TwoKept }
+    ensures routes_join { Laws.RoutesJoin }
+    ensures decoded_near { Laws.DecodedNear }
+    ensures decoded_points { Laws.DecodedPoints }
+{}
+
+/// The LRPs that remain after the offsets, in dm from the start and from the end.
+pub fn rows_kept()
+    ensures all { kept_points legs1 1500 740 (1 ∷ 3 ∷ []) ≡ 0 ∷ 1 ∷ 3 ∷ [] }
+    ensures first_dropped { kept_points legs1 5610 0 (1 ∷ 3 ∷ []) ≡ 1 ∷ 3 ∷ [] }
+    ensures first_kept { kept_points legs1 5609 0 (1 ∷ 3 ∷ []) ≡ 0 ∷ 1 ∷ 3 ∷ [] }
+    ensures last_dropped { kept_points legs1 0 2740 (1 ∷ 3 ∷ []) ≡ 0 ∷ 1 ∷ [] }
+    ensures last_kept { kept_points legs1 0 2739 (1 ∷ 3 ∷ []) ≡ 0 ∷ 1 ∷ 3 ∷ [] }
+{}
+
+/// The fields and bytes of the first worked path, by its LRPs and offsets.
+pub fn rows_reference()
+    ensures three_points { reference legs1 1500 0 (1 ∷ 3 ∷ []) ≡ reference1 }
+    ensures encoded { reference_bytes reference1 ≡ bytes1 }
+    ensures side_road_dropped { reference_bytes (reference legs1 1500 0 (3 ∷ [])) ≡ side_road_dropped_bytes }
+    ensures first_dropped { reference_bytes (reference legs1 6000 0 (1 ∷ 3 ∷ [])) ≡ first_dropped_bytes }
+    ensures last_dropped { reference_bytes (reference legs1 0 2740 (1 ∷ 3 ∷ [])) ≡ last_dropped_bytes }
+    ensures both_offsets { reference_bytes (reference legs1 1500 740 (1 ∷ 3 ∷ [])) ≡ both_offsets_bytes }
+    ensures one_line { reference_bytes (reference (leg10 ∷ []) 0 0 (1 ∷ [])) ≡ last_dropped_bytes }
+    ensures greatest_offset { reference_bytes (reference (leg10 ∷ []) 5609 0 (1 ∷ [])) ≡ offset_bytes_of 255 }
+    ensures least_offset { reference_bytes (reference (leg10 ∷ []) 1 0 (1 ∷ [])) ≡ offset_bytes_of 0 }
+{}
+
+/// The decoded LRPs of the first worked reference.
+pub fn rows_decoded()
+    ensures first { decoded reference1 0 ≡ Some (pos 2007636328125, pos 16255719140625) }
+    ensures second { decoded reference1 1 ≡ Some (pos 2008144232125, pos 16254234750225) }
+    ensures third { decoded reference1 2 ≡ Some (pos 2008075419325, pos 16253930007825) }
+    ensures past { decoded reference1 3 ≡ None }
+{}

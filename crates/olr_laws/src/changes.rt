@@ -1,0 +1,59 @@
+//! The laws of footprints, changes and coverage queries, and worked rows of changed lines and queries.
+ghost use Rattle.std.specs.Prelude.{◌≡◌, ℕ, [], ◌∷◌};
+ghost use Rattle.olr_spec.specs.Laws;
+ghost use Rattle.olr_spec.specs.Queries.{querying};
+ghost use Rattle.olr_spec.specs.Map.{empty_map, no_coord, Add_node, Add_line};
+ghost use Rattle.olr_spec.specs.Detours.{changes_of};
+ghost use Rattle.olr_laws.specs.Rows.{leg10};
+
+/// An answer and its footprint depend only on the footprint and on the path's own lines.
+pub fn laws_of_footprints()
+    ensures answer { Laws.LocalAnswer }
+    ensures foot { Laws.LocalFoot }
+    ensures edits { Laws.EditsAreLocal }
+{}
+
+/// An edit makes no other difference than what it touches and changes, and the differences of
+/// consecutive edits add up. If no changed line offers a detour that is as short, routes are the
+/// same before and after.
+pub fn laws_of_changes()
+    ensures edits { Laws.EditsDiffer }
+    ensures none { Laws.NoDifference }
+    ensures more { Laws.DifferencesAdd }
+    ensures routes { Laws.AllRoutesStay }
+    ensures soles { Laws.SolesStay }
+    ensures near { Laws.NearStays }
+{}
+
+/// A path has exactly one list of coverage queries, and they determine its footprint; if edits
+/// affect neither these nor its traversed nodes, its answer is retained.
+pub fn laws_of_queries()
+    ensures one_last_tested { Laws.OneLastTested }
+    ensures some_last_tested { Laws.SomeLastTested }
+    ensures one { Laws.OneQueries }
+    ensures some { Laws.SomeQueries }
+    ensures foot { Laws.FootIsQueried }
+    ensures affected { Laws.FootAffected }
+    ensures queries { Laws.QueriesStay }
+    ensures known { Laws.KnownStays }
+    ensures one_known { Laws.OneKnown }
+    ensures known_holds { Laws.KnownHolds }
+    ensures one_searched { Laws.OneSearched }
+    ensures all_searched { Laws.AllSearched }
+    ensures kept { Laws.AnswersRetained }
+    ensures untouched { Laws.UntouchedRetained }
+    ensures known_kept { Laws.KnownRetained }
+{}
+
+/// The LRPs with a coverage query: those whose line is followed by two or more lines.
+pub fn rows_querying()
+    ensures first_two { querying (11 ∷ 12 ∷ 13 ∷ 14 ∷ []) (0 ∷ 1 ∷ 2 ∷ 4 ∷ []) ≡ 0 ∷ 1 ∷ [] }
+    ensures two_lines { querying (11 ∷ 12 ∷ []) (0 ∷ 1 ∷ 2 ∷ []) ≡ [] }
+    ensures three_lines { querying (11 ∷ 12 ∷ 13 ∷ []) (0 ∷ 3 ∷ []) ≡ 0 ∷ [] }
+{}
+
+/// The lines that an edit changes: an added line with its length, and none for an added node.
+pub fn rows_changes()
+    ensures line { changes_of empty_map (Add_line 7 leg10.line) ≡ record { from = 1; to = 2; len = 5610 } ∷ [] }
+    ensures node { changes_of empty_map (Add_node 7 no_coord) ≡ [] }
+{}

@@ -1,0 +1,109 @@
+//! The laws of states, replies and counts, the claims about whole runs of commands, and worked rows of commands.
+ghost use Rattle.std.specs.Prelude.{◌≡◌, ℕ, true, false, [], ◌∷◌, codes, None, Some, Ok, Err};
+ghost use Rattle.olr_spec.specs.Bytes.{Length, Flags, Reserved};
+ghost use Rattle.olr_spec.specs.Bytes as bytes;
+ghost use Rattle.olr_spec.specs.Map.{Move_node, Drop_node, no_coord};
+ghost use Rattle.olr_commands.specs.History;
+ghost use Rattle.olr_commands.specs.Dump;
+ghost use Rattle.olr_commands.specs.State.{On_map, Add_path, Not_a_reference, Not_v3, Not_base64, Path_exists};
+ghost use Rattle.olr_commands.specs.State.{No_path, Batch_open, No_batch, Count_differs, Drop_path, Make, Show};
+ghost use Rattle.olr_commands.specs.State.{Report, Explain, Begin, Commit, Abort, start_state, step};
+ghost use Rattle.olr_commands.specs.Reply.{Paths, Held, IsReply, takes_memory, may_lack};
+ghost use Rattle.olr_laws.specs.CommandLaws as Laws;
+ghost use Rattle.olr_laws.specs.CommandRows.{in_batch, path_a, with_a, with_node};
+
+/// What commands preserve, and that a reply is determined.
+#[tactic(auto, using(olr_commands::proofs::StateLemmas::steps_keep, crate::proofs::ReplyLemmas::one_reply, crate::proofs::ReplyLemmas::one_outcome, crate::proofs::SomeLemmas::some_reply))]
+pub fn laws_of_states()
+    ensures kept { Laws.StepsKeep }
+    ensures one_reply { Laws.OneReply }
+    ensures empty { Laws.EmptyCommit }
+    ensures abort { Laws.AbortGivesBack }
+    ensures one_outcome { Laws.OneOutcome }
+    ensures some_reply { Laws.SomeReply }
+{}
+
+/// The rises of the counts of encodings and of retained answers are determined.
+#[tactic(auto, using(crate::proofs::HistoryLemmas::one_rise, crate::proofs::HistoryLemmas::no_rise, crate::proofs::HistoryLemmas::one_spare, crate::proofs::HistoryLemmas::spares_few))]
+pub fn laws_of_counts()
+    ensures one { Laws.OneRise }
+    ensures none { Laws.NoRise }
+    ensures paths { Laws.PathsRaiseOne }
+    ensures one_spare { Laws.OneSpare }
+    ensures few { Laws.SparesFew }
+{}
+
+/// The claims about whole runs of commands.
+#[tactic(auto, using(crate::proofs::HistoryLemmas::headline_of_histories, olr_commands::proofs::HistoryLemmas::routes_of, olr_commands::proofs::HistoryLemmas::names_changed, crate::proofs::HistoryLemmas::no_differences, olr_commands::proofs::HistoryLemmas::is_dumped))]
+pub fn claims()
+    ensures headline { History.HeadlineOfHistories }
+    ensures joined { History.RoutesOfReferences }
+    ensures named { History.RepliesName }
+    ensures no_differences { History.NoDifferences }
+    ensures refused { History.RefusedChangeNothing }
+    ensures dumped { History.DumpsBuild }
+{}
+
+/// The changes that a content is written as build it from an empty one.
+#[tactic(auto, using(olr_commands::proofs::DumpLemmas::dumps_run, crate::proofs::HistoryLemmas::dumps_again))]
+pub fn laws_of_dumps()
+    ensures lead { Dump.DumpsLead }
+    ensures run { Dump.DumpsRun }
+    ensures again { Dump.DumpsAgain }
+{}
+
+/// The steps of `explain`.
+#[tactic(auto, unfolding(base64::specs::GeneralPurpose::decoded_of, base64::specs::Decode::groups_error, base64::specs::Decode::groups_bytes, base64::specs::Decode::scan_steps))]
+pub fn rows_explain()
+    ensures one { step start_state (Explain (codes "CwRbWyNG9RpsCQCb/jsbtAT/6/+jK1lE")) ≡ Ok start_state }
+    ensures two { step start_state (Explain (codes "CwRbWyNG9RpsCQCb/jsaHA==")) ≡ Ok start_state }
+    ensures byte_gone { step start_state (Explain (codes "CwRbWyNG9RpsCQCb/jsbtAT/6/+jK1k="))
+        ≡ Err (Not_a_reference (Not_v3 Flags)) }
+    ensures nothing { step start_state (Explain []) ≡ Err (Not_a_reference (Not_v3 Length)) }
+    ensures status { step start_state (Explain (codes "CgRbWyNG9RpsCQCb/jsaHA=="))
+        ≡ Err (Not_a_reference (Not_v3 bytes.Status)) }
+    ensures reserved { step start_state (Explain (codes "CwRbWyNG9ZpsCQCb/jsaHA=="))
+        ≡ Err (Not_a_reference (Not_v3 Reserved)) }
+    ensures no_text { step start_state (Explain (codes "*")) ≡ Err (Not_a_reference Not_base64) }
+{}
+
+/// Batches, in a register without paths.
+pub fn rows_batches()
+    ensures begin { step start_state Begin ≡ Ok (in_batch []) }
+    ensures again { step (in_batch []) Begin ≡ Err Batch_open }
+    ensures commit_nothing { step (in_batch []) (Commit 0) ≡ Ok start_state }
+    ensures count_differs { step (in_batch []) (Commit 2) ≡ Err Count_differs }
+    ensures none_to_commit { step start_state (Commit 0) ≡ Err No_batch }
+    ensures none_to_abort { step start_state Abort ≡ Err No_batch }
+    ensures abort { step (in_batch (path_a ∷ [])) Abort ≡ Ok start_state }
+    ensures held { step (in_batch []) (Make path_a) ≡ Ok (in_batch (path_a ∷ [])) }
+    ensures held_name { step (in_batch (path_a ∷ [])) (Make path_a) ≡ Err Path_exists }
+    ensures not_shown { step (in_batch (path_a ∷ [])) (Show (codes "a")) ≡ Err No_path }
+    ensures dropped_again { step (in_batch (path_a ∷ [])) (Make (Drop_path (codes "a")))
+        ≡ Ok (in_batch (path_a ∷ Drop_path (codes "a") ∷ [])) }
+    ensures report { IsReply start_state Report start_state (Paths []) }
+    ensures one_held { IsReply (in_batch []) (Make path_a) (in_batch (path_a ∷ [])) (Held 1) }
+{}
+
+/// Which commands may run out of memory.
+pub fn rows_memory()
+    ensures abort { may_lack (in_batch []) Abort ≡ false }
+    ensures abort_nothing { may_lack start_state Abort ≡ false }
+    ensures begin { may_lack start_state Begin ≡ false }
+    ensures begin_again { may_lack (in_batch []) Begin ≡ false }
+    ensures commit { may_lack (in_batch []) (Commit 0) ≡ true }
+    ensures commit_nothing { may_lack start_state (Commit 0) ≡ false }
+    ensures commit_other { may_lack (in_batch []) (Commit 1) ≡ false }
+    ensures report { may_lack (with_a None) Report ≡ true }
+    ensures report_of_none { may_lack start_state Report ≡ false }
+    ensures show { may_lack start_state (Show (codes "a")) ≡ false }
+    ensures added { may_lack start_state (Make path_a) ≡ true }
+    ensures no_lines { may_lack start_state (Make (Add_path (codes "a") (record { lines = []; pos = 0; neg = 0 })))
+        ≡ true }
+    ensures dropped { may_lack start_state (Make (Drop_path (codes "a"))) ≡ false }
+    ensures dropped_one { may_lack (with_a None) (Make (Drop_path (codes "a"))) ≡ false }
+    ensures dropped_in_batch { may_lack (with_a (Some [])) (Make (Drop_path (codes "a"))) ≡ true }
+    ensures moved { may_lack with_node (Make (On_map (Move_node 1 no_coord))) ≡ false }
+    ensures moved_beside_paths { takes_memory (Make (On_map (Move_node 1 no_coord))) None false ≡ true }
+    ensures node_dropped { takes_memory (Make (On_map (Drop_node 1))) None true ≡ true }
+{}

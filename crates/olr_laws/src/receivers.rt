@@ -1,0 +1,37 @@
+//! The laws of receivers, and worked rows of candidates.
+ghost use Rattle.std.specs.Prelude.{◌≡◌, ℕ, true, false};
+ghost use Rattle.olr_spec.specs.Laws;
+ghost use Rattle.olr_spec.specs.Receiver.{Outgoing, Incoming, decoded_coord, is_nearest, has_no_twin};
+ghost use Rattle.olr_spec.specs.Recovery.{are_spaced};
+ghost use Rattle.olr_laws.specs.Rows.{leg10, reference1, leg20, leg30, morning_lines, twin_lines, axes_sum};
+
+/// If the path's own line is distinct at each LRP, every receiver recovers the legs between the
+/// remaining LRPs; offsets are exact within a 256th of a leg. A node is the nearest if the others are
+/// at least three times the bound of decoding away.
+pub fn laws_of_receivers()
+    ensures recovered { Laws.Recovered }
+    ensures stretches_join { Laws.StretchesJoin }
+    ensures offsets { Laws.Offsets }
+    ensures distances { Laws.Distances }
+    ensures nearest { Laws.Nearest }
+    ensures some { Laws.SomeReceiver }
+    ensures weighted { Laws.SomeWeighted }
+{}
+
+/// The lines at the LRPs of the first worked path, among all lines of its map: each is the nearest
+/// candidate and has no twin. With a second line 20 it has a twin and isn't distinct. The cosine of
+/// 49.6 degrees is greater than 64/100.
+pub fn rows_distinct()
+    ensures first { is_nearest axes_sum Outgoing (decoded_coord reference1 0) leg10 morning_lines ≡ true }
+    ensures second { is_nearest axes_sum Outgoing (decoded_coord reference1 1) leg20 morning_lines ≡ true }
+    ensures third { is_nearest axes_sum Incoming (decoded_coord reference1 2) leg30 morning_lines ≡ true }
+    ensures first_alone { has_no_twin Outgoing 10 leg10 morning_lines ≡ true }
+    ensures second_alone { has_no_twin Outgoing 20 leg20 morning_lines ≡ true }
+    ensures third_alone { has_no_twin Incoming 30 leg30 morning_lines ≡ true }
+    ensures beside_its_twin { is_nearest axes_sum Outgoing (decoded_coord reference1 1) leg20 twin_lines ≡ true }
+    ensures not_alone { has_no_twin Outgoing 20 leg20 twin_lines ≡ false }
+    ensures first_spaced { are_spaced 64 100 0 Outgoing leg10 morning_lines ≡ true }
+    ensures second_spaced { are_spaced 64 100 1 Outgoing leg20 morning_lines ≡ true }
+    ensures third_spaced { are_spaced 64 100 2 Incoming leg30 morning_lines ≡ true }
+    ensures node_by_far { is_nearest axes_sum Outgoing (decoded_coord reference1 0) leg20 morning_lines ≡ false }
+{}

@@ -1,0 +1,70 @@
+//! The laws of whole runs, and worked rows of command lines, records of bytes and runs.
+ghost use Rattle.std.specs.Prelude.{◌≡◌, ℕ, [], ◌∷◌, ◌++◌, codes, Some, None, false, true};
+ghost use Rattle.clap.specs.Faults.{fault_of};
+ghost use Rattle.clap.specs.Takes.{takes};
+ghost use Rattle.clap.specs.declared.error.kind.ErrorKind.TheVariants as kind;
+ghost use Rattle.olr_commands.specs.State.{start_state};
+ghost use Rattle.olr_run.specs.Options.{keep_app, options};
+ghost use Rattle.olr_run.specs.Output.{records_of, greater, Outcomes, Ran, Faulted, Some_refused, Stopped};
+ghost use Rattle.olr_run.specs.Output.{All_accepted};
+ghost use Rattle.olr_run.specs.declared.ends.RunFault.TheVariants as fault;
+ghost use Rattle.olr_laws.specs.RunLaws as Laws;
+ghost use Rattle.olr_laws.specs.RecordRows.{text_of_lines};
+ghost use Rattle.olr_laws.specs.RunRows.{input20, output20, state20};
+
+/// Outcomes keep the register's state sound. Apart from out of memory, the state at the start and the bytes that are
+/// read determine what is written, the status and the state at the end. Records that are taken one after another are
+/// the first ones. Out of memory is reported only for a command that holds a list, or may run out of memory when it is
+/// carried out. A run over the text of a dump leads to what was dumped.
+#[tactic(auto, using(crate::proofs::RunLemmas::outcomes_keep, olr_run::proofs::RecordLemmas::first_records, crate::proofs::RunLemmas::memory_lacks))]
+pub fn laws_of_runs()
+    ensures kept { Laws.OutcomesKeep }
+    ensures one { Laws.OneRun }
+    ensures first { Laws.FirstRecords }
+    ensures lacks { Laws.MemoryLacks }
+    ensures reload { Laws.DumpsReload }
+{}
+
+/// Command lines.
+#[tactic(auto, unfolding(clap::proofs::OnLiterals::clap_on_literals))]
+pub fn rows_options()
+    ensures none { options (codes "olr-keep" ∷ []) ≡ record { file = None; stop = false } }
+    ensures both { options (codes "olr-keep" ∷ codes "-s" ∷ codes "-m" ∷ codes "f" ∷ [])
+        ≡ record { file = Some (codes "f"); stop = true } }
+    ensures joined { options (codes "olr-keep" ∷ codes "-smf" ∷ []) ≡ record { file = Some (codes "f"); stop = true } }
+    ensures takes_none { takes keep_app (codes "olr-keep" ∷ []) ≡ true }
+    ensures takes_both { takes keep_app (codes "olr-keep" ∷ codes "-s" ∷ codes "-m" ∷ codes "f" ∷ []) ≡ true }
+    ensures unknown { fault_of keep_app (codes "olr-keep" ∷ codes "-x" ∷ []) ≡ kind.UnknownArgument ∷ [] }
+    ensures word { fault_of keep_app (codes "olr-keep" ∷ codes "f" ∷ []) ≡ kind.UnknownArgument ∷ [] }
+    ensures help { fault_of keep_app (codes "olr-keep" ∷ codes "--help" ∷ []) ≡ kind.DisplayHelp ∷ [] }
+    ensures version { fault_of keep_app (codes "olr-keep" ∷ codes "-V" ∷ []) ≡ kind.DisplayVersion ∷ [] }
+{}
+
+/// Records of bytes.
+#[tactic(auto, unfolding(csv::proofs::OnLiterals::csv_on_literals))]
+pub fn rows_input()
+    ensures lines { records_of (text_of_lines (codes "node,1,0,0" ∷ codes "drop-node,2" ∷ codes "node,x,0,0" ∷ []))
+        ≡ (codes "node" ∷ codes "1" ∷ codes "0" ∷ codes "0" ∷ []) ∷ (codes "drop-node" ∷ codes "2" ∷ [])
+        ∷ (codes "node" ∷ codes "x" ∷ codes "0" ∷ codes "0" ∷ []) ∷ [] }
+    ensures quoted { records_of (codes "\"node\",1,0,0") ≡ (codes "node" ∷ codes "1" ∷ codes "0" ∷ codes "0" ∷ [])
+        ∷ [] }
+    ensures nothing { records_of [] ≡ [] }
+    ensures empty_lines { records_of (10 ∷ codes "report" ++ 13 ∷ 10 ∷ 10 ∷ codes "a,")
+        ≡ (codes "report" ∷ []) ∷ (codes "a" ∷ [] ∷ []) ∷ [] }
+    ensures mark { records_of (239 ∷ 187 ∷ 191 ∷ codes "report") ≡ (codes "report" ∷ []) ∷ [] }
+{}
+
+/// Whole runs.
+pub fn rows_runs()
+    ensures all { Ran Outcomes false start_state (records_of input20) state20 output20 Some_refused }
+    ensures stopped { Ran Outcomes true start_state (records_of input20) state20
+        (text_of_lines (codes "ok,0" ∷ codes "fault,3,NodeExists" ∷ [])) Stopped }
+    ensures cut { Faulted Outcomes false start_state (records_of input20) state20 (codes "ok,0" ++ 10 ∷ codes "fau")
+        fault.Write }
+    ensures cut_at_once { Faulted Outcomes false start_state (records_of input20) start_state [] fault.Read }
+    ensures nothing { Ran Outcomes false start_state (records_of []) start_state [] All_accepted }
+    ensures greatest { greater Some_refused All_accepted ≡ Some_refused }
+    ensures stopped_in_file { Ran Outcomes true start_state (records_of input20 ++ records_of []) state20
+        (text_of_lines (codes "ok,0" ∷ codes "fault,3,NodeExists" ∷ [])) Stopped }
+    ensures both { Ran Outcomes false start_state (records_of [] ++ records_of input20) state20 output20 Some_refused }
+{}
