@@ -2,7 +2,6 @@ pub mod Common
 pub mod RecordLemmas
 pub mod NameLemmas
 pub mod StateLemmas
-pub mod CountLemmas
 pub mod HistoryLemmas
 pub mod DumpLemmas
 pub mod SearchLemmas

@@ -1,7 +1,7 @@
 -- A path that is added or set outside of batches: it is encoded, no answer is retained, and nothing else is searched.
 use Rattle.olr_commands.proofs.Common.{list_any, cases_Bool, both_ways, not-false, bytes_decides, Path, is_path}
 use Rattle.std.proofs.Common.{rules, arith, inr, ◌⊎◌, ◌≡◌, ℕ, true, false, not, List, [], ◌∷◌, ◌++◌, map, Option, Some}
-use Rattle.std.proofs.Common.{None, is_some, Ok, refl, ap, append-nil}
+use Rattle.std.proofs.Common.{None, is_some, Ok, refl, ap, append-nil, sym, subst}
 use Rattle.std.proofs.Math.Bool.{or-false}
 use Rattle.olr_spec.specs.Queries.{CoverageQuery}
 use Rattle.olr_commands.specs.State.{Named, Content, same_name, path_named, with_path, NamesDiffer, Path_exists}
@@ -9,8 +9,9 @@ use Rattle.olr_commands.specs.State.{Bad_path, when, Change, Add_path, Set_path,
 use Rattle.olr_commands.specs.State.{changes_made, IsState}
 use Rattle.olr_commands.specs.Counts.{Affects, By_name, By_node, By_line, CountIs, all_nodes, all_lines, all_names}
 use Rattle.olr_commands.specs.Counts.{Retains, EncodesAgain, Spares, SearchedFor, SearchesFor, Collects, Searches}
+use Rattle.olr_commands.specs.Counts.{Raises}
 use Rattle.olr_commands.proofs.NameLemmas.{same_is, not_named, set_name}
-use Rattle.olr_commands.proofs.StateLemmas.{ends, when_ok, passed}
+use Rattle.olr_commands.proofs.StateLemmas.{ends, when_ok, passed, steps_keep}
 
 -- ---- one path of a list without repeats
 
@@ -124,3 +125,26 @@ added_path s t name path b is =
 pub replaced_path : (s t : State) (name : List ℕ) (path : Path) → s.batch ≡ None →
     step s (Make (Set_path name path)) ≡ Ok t → path_named t.content.paths name ≡ Some path
 replaced_path s t name path b is = grind (arith, when_ok, made, passed, path_set, not-false)
+
+-- no change affects no path
+pub unconcerned : (c : Content) (p : Named) → ¬ Affects c [] p
+unconcerned c p (By_name h) = absurd cc
+unconcerned c p (By_node v h f) = absurd cc
+unconcerned c p (By_line x h f) = absurd cc
+
+pub paths_raise : (s t : State) (name : List ℕ) (path : Path) → IsState s → s.batch ≡ None
+    → (step s (Make (Add_path name path)) ≡ Ok t → Raises s (Make (Add_path name path)) t 1)
+    × (step s (Make (Set_path name path)) ≡ Ok t → Raises s (Make (Set_path name path)) t 1)
+paths_raise s t name path i b = (
+  λ is. one (Add_path name path) refl refl refl (steps_keep s t (Make (Add_path name path)) i tt is)
+      (added_path s t name path b is),
+  λ is. one (Set_path name path) refl refl refl (steps_keep s t (Make (Set_path name path)) i tt is)
+      (replaced_path s t name path b is),
+)
+  where
+    one : (x : Change) → all_nodes s.content (x ∷ []) ≡ [] → all_lines (x ∷ []) ≡ [] → all_names (x ∷ []) ≡ name ∷ [] →
+        IsState t → path_named t.content.paths name ≡ Some path → Raises s (Make x) t 1
+    one x nodes lines names keeps there =
+        subst (λ (xs : List Change). CountIs (Affects s.content xs) t.content.paths 1) (sym (makes s x b))
+        (one_counted (Affects s.content (x ∷ [])) name (only_name s.content x name nodes lines names)
+        (by_name s.content x name names) path t.content.paths keeps.content.names there)

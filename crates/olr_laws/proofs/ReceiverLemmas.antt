@@ -1,4 +1,4 @@
--- Receivers exist, and what the lengths and nodes of the legs between the remaining LRPs say.
+-- Where the LRPs of an answer are decoded, that receivers exist, and what the legs between the LRPs say.
 use Rattle.olr_spec.proofs.Common.{◌≡◌, ℕ, zero, suc, ◌+◌, ℤ, true, List, ◌∷◌, length, ◌<◌, ◌≤◌, Some, None, is_some}
 use Rattle.olr_spec.proofs.Common.{IsTrue, ap, ◌∙◌, subst, arith, nat_le, [], slice_get, option_map, leb-true}
 use Rattle.olr_spec.proofs.Common.{slice_index, cases_Bool, Map, IsMap, coord_at, Path, is_path, node_at, Reference}
@@ -16,7 +16,7 @@ use Rattle.olr_spec.proofs.Facts.{path_also, path_at, Each, has_index, has_last,
 use Rattle.olr_spec.proofs.Facts.{follow_linked, kept_linked, empty_stretch, stretch_first, positive, next_start}
 use Rattle.olr_spec.proofs.FieldLemmas.{position_is, linked_above, dm_same, last_two_linked}
 use Rattle.olr_spec.proofs.FitLemmas.{extended_sound, by_answer}
-use Rattle.olr_spec.proofs.DecodedLemmas.{E, Kept, answer_decodes, Back, Form, Front, form}
+use Rattle.olr_spec.proofs.DecodedLemmas.{Kept, answer_decodes, Back, Form, Front, form}
 use Rattle.std.proofs.Math.Nat.{mul-le-mul_left, mul-le-mul_right, mul-lt-mul_of_pos_left, le_of_mul-le-mul_left}
 use Rattle.std.proofs.Math.Nat.{mul-add, mul_comm, div-mul-le_self, lt-div-mul-add}
 use Rattle.olr_spec.specs.Receiver.{Rating, IsDifference, Outgoing, Incoming, last_number, decoded_coord, attributes}
@@ -26,41 +26,11 @@ use Rattle.olr_spec.proofs.JoinedLemmas.{extended_joined}
 use Rattle.olr_spec.proofs.QueryLemmas.{stretch_parts}
 use Rattle.olr_spec.proofs.ReceiverLemmas.{same_path}
 
--- ---- the LRPs of an answer
-
 got_index : (f : ℕ → ℕ) (ks : List ℕ) (k v : ℕ) → option_map f (slice_get ks k) ≡ Some v → (k < length ks)
     × (f (slice_index ks k) ≡ v)
 got_index f [] k v e = absurd cc
 got_index f (x ∷ ks) zero v e = (omega arith, cc)
 got_index f (x ∷ ks) (suc k) v e = let r = got_index f ks k v e in (omega (arith, r.0), r.1)
-
-module _ (M : Map) (m : IsMap M) (P : Path) (is : IsTrue (is_path P.lines)) (none : path_fault M P ≡ None)
-    (r : Reference) (e : Encoding M P (Points r)) where
-  abbrev ls : List ℕ
-  ls = (E M P is none r e).lines
-
-  abbrev ks : List ℕ
-  ks = Kept M P is none r e
-
-  near_point : (k v : ℕ) → IsPoint M P k v → (d : ℤ × ℤ) × (decoded r k ≡ Some d) × IsNear k d (coord_at M v)
-  near_point k v p =
-      let at = got_index (node_at M ls) ks k v (path_at m is none e p) in
-      let near = (answer_decodes M P is none r e).near k at.0 in
-      let s = extended_sound M P is none e.before e.after e.tried in
-      let place = position_is M m ls s.known (slice_index ks k) s.size ∙ ap (coord_at M) at.1 in
-      (near.0, near.1, subst (IsNear k near.0) place near.2)
-
-  point_at : (k : ℕ) → is_some (decoded r k) ≡ true → (v : ℕ) × IsPoint M P k v
-  point_at k h =
-      let count = (answer_decodes M P is none r e).count in
-      let within : k ≤ length r.middle + 1 = grind (arith, leb-true, cases_Bool (nat_le k (length r.middle + 1))) in
-      (node_at M ls (slice_index ks k), path_also e (ap (option_map (node_at M ls)) (slice_get-get_or ks k 0 (omega arith))))
-
-pub decoded_near : DecodedNear
-decoded_near M m P is r e = let p = by_answer M P r e in near_point M m P is p.0 r p.1
-
-pub decoded_points : DecodedPoints
-decoded_points M m P is r e = let p = by_answer M P r e in point_at M m P is p.0 r p.1
 
 -- ---- receivers exist
 
@@ -91,7 +61,7 @@ some_receiver far = (
   refl,
 )
 
--- ---- products
+-- ---- the nearest node
 
 -- the bound of the measure for the node of the LRP, from both axes
 own_side : (u scale a b B f : ℕ) → 0 < scale → u ≤ scale → a < B → b < B → f ≤ u * a + scale * b → f < scale * B + scale * B
@@ -112,12 +82,8 @@ by_longitude n d scale u e D B f some unit least most h far g =
     grind (arith, mul-le-mul_left scale kept, mul-le-mul_right e least) in
     omega (arith, le_of_mul-le-mul_left all some)
 
--- ---- distances on an axis
-
 triangle : (p a b : ℤ) → nat_abs (a -ℤ b) ≤ nat_abs (p -ℤ b) + nat_abs (p -ℤ a)
 triangle p a b = grind (arith, ints)
-
--- ---- the nearest node
 
 nearer : (n d scale : ℕ) (far : Measure) → IsWeighted n d scale far → (k : ℕ) (p : ℤ × ℤ) (a b : Coord) →
     IsNear k p a → is_spaced n d k a b ≡ true → far p a < far p b
@@ -133,8 +99,6 @@ nearer n d scale far w k p a b near spaced =
     let also = leb-true (3 * B) (nat_abs (a.lat -ℤ b.lat)) in
     let more = leb-true (3 * (d * B)) (n * nat_abs (a.lon -ℤ b.lon)) in
     grind (arith, or_cases (nat_le (3 * B) (nat_abs (a.lat -ℤ b.lat))) _ spaced)
-
--- ---- such measures exist
 
 pub some_weighted : SomeWeighted
 some_weighted n d h some = grind (arith, mul_comm n d)
@@ -182,8 +146,6 @@ module _ (M : Map) (m : IsMap M) (ls : List ℕ) (known : Each (Known M) ls) whe
         has_index,
         last_length h i js,
       )
-
--- ---- positions
 
 linked_bounds : (M : Map) (ls ks : List ℕ) → Linked M ls ks → (k : ℕ) → suc k < length ks →
     (slice_index ks k < slice_index ks (suc k)) × (slice_index ks (suc k) ≤ length ls)
@@ -237,6 +199,22 @@ module _ (M : Map) (m : IsMap M) (P : Path) (is : IsTrue (is_path P.lines)) (non
   size : last_number r + 1 ≡ length Points_kept
   size = omega (arith, (answer_decodes M P is none r e).count)
 
+  near_point : (k v : ℕ) → IsPoint M P k v → (d : ℤ × ℤ) × (decoded r k ≡ Some d) × IsNear k d (coord_at M v)
+  near_point k v p =
+      let at = got_index (node_at M Lines) Points_kept k v (path_at m is none e p) in
+      let near = (answer_decodes M P is none r e).near k at.0 in
+      let s = extended_sound M P is none e.before e.after e.tried in
+      let place = position_is M m Lines s.known (slice_index Points_kept k) s.size ∙ ap (coord_at M) at.1 in
+      (near.0, near.1, subst (IsNear k near.0) place near.2)
+
+  point_at : (k : ℕ) → is_some (decoded r k) ≡ true → (v : ℕ) × IsPoint M P k v
+  point_at k h =
+      let count = (answer_decodes M P is none r e).count in
+      let within : k ≤ length r.middle + 1 = grind (arith, leb-true, cases_Bool (nat_le k (length r.middle + 1))) in (
+        node_at M Lines (slice_index Points_kept k),
+        path_also e (ap (option_map (node_at M Lines)) (slice_get-get_or Points_kept k 0 (omega arith))),
+      )
+
   known_lines : Each (Known M) Lines
   known_lines = (extended_sound M P is none e.before e.after e.tried).known
 
@@ -284,6 +262,12 @@ module _ (M : Map) (m : IsMap M) (P : Path) (is : IsTrue (is_path P.lines)) (non
       near_line Incoming (last_number r) x (omega arith) at
       (λ i is_i. ap (coord_at M) (at_end M m Lines known_lines
       (extended_joined M P is none e.before e.after e.tried) i (omega (arith, is_i, b.0)) (omega (arith, is_i, b.1))))
+
+pub decoded_near : DecodedNear
+decoded_near M m P is r e = let p = by_answer M P r e in near_point M m P is p.0 r p.1
+
+pub decoded_points : DecodedPoints
+decoded_points M m P is r e = let p = by_answer M P r e in point_at M m P is p.0 r p.1
 
 -- ---- the legs together
 

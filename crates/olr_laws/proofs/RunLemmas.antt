@@ -7,12 +7,11 @@ use Rattle.std.proofs.Common.{◌⊎◌, IsTrue, map, length, None, Result}
 use Rattle.olr_commands.specs.State.{State, Command, HasCoords, IsState, Memory, Content, Fault, start_state, step}
 use Rattle.olr_records.specs.Records.{Read, HoldsList}
 use Rattle.olr_run.specs.Output.{StopsAtFault, Ran, Status, any_refused, Builds, All_accepted}
-use Rattle.olr_laws.proofs.HistoryLemmas.{outcome_keeps}
+use Rattle.olr_laws.proofs.CommandLemmas.{one_outcome, outcome_keeps}
 use Rattle.olr_records.proofs.ReadLemmas.{coords_read}
-use Rattle.olr_laws.proofs.ReplyLemmas.{one_outcome}
 use Rattle.olr_commands.specs.Reply.{Lacks}
 use Rattle.std.specs.Prelude.{IsOkAnd}
-use Rattle.olr_run.proofs.Lacking.{step_own}
+use Rattle.olr_run.proofs.Dumping.{step_own}
 use Rattle.olr_commands.specs.Dump.{steps_then, steps}
 
 command_keeps : (s t : State) (r : Read Command) (o : Outcome) → ((c : Command) → r ≡ Ok c → HasCoords c) → IsState s →

@@ -1,4 +1,4 @@
--- Worked values.
+-- The values of the worked rows of commands.
 use Rattle.std.specs.Prelude.{List, [], ◌∷◌, codes, pos, neg_ℤ, Option, None, Some}
 use Rattle.std.specs.FinMap.{insert, empty}
 use Rattle.olr_spec.specs.Map.{empty_map, no_coord}

@@ -1,4 +1,4 @@
--- The laws of the definitions.
+-- The laws of records.
 use Rattle.std.specs.Prelude.{◌≡◌, List, map, Ok, IsTrue}
 use Rattle.std.specs.List.{concat}
 use Rattle.csv.specs.Reading.{records, default_config, strip_bom}

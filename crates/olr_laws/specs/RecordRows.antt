@@ -1,4 +1,4 @@
--- Worked values.
+-- The values of the worked rows of records.
 use Rattle.std.specs.Prelude.{ℕ, ℤ, pos, neg_ℤ, List, [], ◌∷◌, ◌++◌, flat_map, codes}
 use Rattle.olr_spec.specs.Coordinates.{Coord}
 use Rattle.olr_spec.specs.Map.{Add_node, Add_line}

@@ -1,4 +1,4 @@
--- The laws of the definitions.
+-- The laws of whole runs.
 use Rattle.std.specs.Prelude.{◌≡◌, ℕ, Bool, List, [], ◌++◌, None, Err, IsOkAnd, ◌⊎◌, IsTrue}
 use Rattle.csv.specs.Machine.{next_record}
 use Rattle.csv.specs.Reading.{Reached, default_config, strip_bom}

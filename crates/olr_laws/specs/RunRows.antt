@@ -1,4 +1,4 @@
--- Worked values.
+-- The values of the worked rows of runs.
 use Rattle.std.specs.Prelude.{ℕ, List, [], ◌∷◌, codes, None}
 use Rattle.std.specs.FinMap.{insert, empty}
 use Rattle.olr_spec.specs.Map.{empty_map}

@@ -13,7 +13,7 @@ ghost use Rattle.olr_laws.specs.CommandLaws as Laws;
 ghost use Rattle.olr_laws.specs.CommandRows.{in_batch, path_a, with_a, with_node};
 
 /// What commands preserve, and that a reply is determined.
-#[tactic(auto, using(olr_commands::proofs::StateLemmas::steps_keep, crate::proofs::ReplyLemmas::one_reply, crate::proofs::ReplyLemmas::one_outcome, crate::proofs::SomeLemmas::some_reply))]
+#[tactic(auto, using(olr_commands::proofs::StateLemmas::steps_keep, crate::proofs::CommandLemmas::one_reply, crate::proofs::CommandLemmas::one_outcome, crate::proofs::CommandLemmas::some_reply))]
 pub fn laws_of_states()
     ensures kept { Laws.StepsKeep }
     ensures one_reply { Laws.OneReply }
@@ -24,7 +24,7 @@ pub fn laws_of_states()
 {}
 
 /// The rises of the counts of encodings and of retained answers are determined.
-#[tactic(auto, using(crate::proofs::HistoryLemmas::one_rise, crate::proofs::HistoryLemmas::no_rise, crate::proofs::HistoryLemmas::one_spare, crate::proofs::HistoryLemmas::spares_few))]
+#[tactic(auto, using(crate::proofs::CommandLemmas::one_rise, crate::proofs::CommandLemmas::no_rise, crate::proofs::CommandLemmas::one_spare, crate::proofs::CommandLemmas::spares_few))]
 pub fn laws_of_counts()
     ensures one { Laws.OneRise }
     ensures none { Laws.NoRise }
@@ -34,7 +34,7 @@ pub fn laws_of_counts()
 {}
 
 /// The claims about whole runs of commands.
-#[tactic(auto, using(crate::proofs::HistoryLemmas::headline_of_histories, olr_commands::proofs::HistoryLemmas::routes_of, olr_commands::proofs::HistoryLemmas::names_changed, crate::proofs::HistoryLemmas::no_differences, olr_commands::proofs::HistoryLemmas::is_dumped))]
+#[tactic(auto, using(crate::proofs::CommandLemmas::headline_of_histories, olr_commands::proofs::HistoryLemmas::routes_of, olr_commands::proofs::HistoryLemmas::names_changed, crate::proofs::CommandLemmas::no_differences, olr_commands::proofs::HistoryLemmas::is_dumped))]
 pub fn claims()
     ensures headline { History.HeadlineOfHistories }
     ensures joined { History.RoutesOfReferences }
@@ -45,7 +45,7 @@ pub fn claims()
 {}
 
 /// The changes that a content is written as build it from an empty one.
-#[tactic(auto, using(olr_commands::proofs::DumpLemmas::dumps_run, crate::proofs::HistoryLemmas::dumps_again))]
+#[tactic(auto, using(olr_commands::proofs::DumpLemmas::dumps_run, crate::proofs::CommandLemmas::dumps_again))]
 pub fn laws_of_dumps()
     ensures lead { Dump.DumpsLead }
     ensures run { Dump.DumpsRun }

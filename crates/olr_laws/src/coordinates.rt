@@ -15,6 +15,7 @@ pub fn laws_of_degrees()
 {}
 
 /// Each direction but (0, 0) is in exactly one sector.
+#[tactic(auto, using(olr_spec::proofs::SectorLemmas::one_sector, olr_spec::proofs::SectorLemmas::sector_is))]
 pub fn laws_of_sectors()
     ensures one { Laws.OneSector }
     ensures some { Laws.SomeSector }

@@ -7,7 +7,7 @@ use Rattle.olr_register.proofs.Common.{Reply, CommandFault, Totals, AreSearched,
 use Rattle.olr_register.proofs.Common.{Registered, Answered, encodes, ap, ◌∙◌, option_map, result_ok, Result}
 use Rattle.olr_commands.specs.State.{changes_made_in, unless_fault, Not_a_reference, bytes_fault}
 use Rattle.olr_commands.specs.Reply.{Lacks}
-use Rattle.olr_commands.proofs.CountLemmas.{unconcerned}
+use Rattle.olr_commands.proofs.SearchLemmas.{unconcerned}
 use Rattle.olr_register.specs.Sparing.{NoneFalls, SameCounts}
 use Rattle.olr_register.proofs.States.{state, InStates, in_states}
 use Rattle.olr_register.proofs.Counting.{AreRises, no_totals, none_affected, none_spent, same_work}

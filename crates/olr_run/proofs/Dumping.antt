@@ -1,10 +1,11 @@
--- Dumps in runs of records.
-use Rattle.olr_run.proofs.Common.{length-map, Outcome, IsRefusal, ByState, Field, read, CommandOutcome, RecordOutcome}
-use Rattle.olr_run.proofs.Common.{SoundOutcomes, IsReply, count_line, reply_text, read_recorded}
-use Rattle.std.proofs.Common.{inl, inr, ◌≡◌, ◌≢◌, ℕ, List, [], ◌∷◌, ◌++◌, map, length, Ok, Err, IsTrue, refl, sym, ap}
-use Rattle.std.proofs.Common.{subst, arith}
-use Rattle.olr_commands.specs.State.{Content, IsContent, Fault, Memory, Not_a_record, Change, Command, Make, Dump}
-use Rattle.olr_commands.specs.State.{State, is_recordable}
+-- Dumps in runs of records, and the faults that a command has by its state.
+use Rattle.olr_run.proofs.Common.{IfErr, ⊤, length-map, Outcome, IsRefusal, ByState, Field, read, CommandOutcome}
+use Rattle.olr_run.proofs.Common.{RecordOutcome, SoundOutcomes, IsReply, count_line, reply_text, read_recorded}
+use Rattle.std.proofs.Common.{arith, Bool, false, List, Option, Some, None, Result, inl, inr, ◌≢◌, ℕ, [], ◌∷◌, ◌++◌}
+use Rattle.std.proofs.Common.{map, length, Ok, Err, IsTrue, refl, sym, ap, subst}
+use Rattle.olr_commands.specs.State.{Fault, Memory, Content, Change, Command, Make, Not_a_record, is_recordable, after}
+use Rattle.olr_commands.specs.State.{with_change, step_in, IsContent, Dump, State}
+use Rattle.std.specs.Prelude.{◌≡◌}
 use Rattle.olr_commands.specs.Reply.{Lacks, Reply}
 use Rattle.olr_records.specs.Records.{Read}
 use Rattle.olr_run.specs.Output.{Builds, IsDumpOf, Dumps}
@@ -16,7 +17,26 @@ use Rattle.olr_records.specs.Recorded.{HaveRecords, IsRecorded, StaysRecorded}
 use Rattle.olr_records.proofs.RecordLines.{records_split}
 use Rattle.olr_records.proofs.RecordedLemmas.{step_stays, recorded_dumps}
 use Rattle.olr_records.proofs.WrittenLemmas.{record_back}
-use Rattle.olr_run.proofs.Lacking.{step_own}
+
+-- ---- the faults that a command has by its state
+
+-- none is out of memory, and one is that the content can't be written as records only if it can't
+abbrev pub IsOwn : Bool → Fault → Type 0
+IsOwn recordable Memory = ⊥
+IsOwn recordable Not_a_record = recordable ≡ false
+IsOwn recordable fault = ⊤
+
+abbrev OwnFault : {A : Type 0} → Bool → Result A Fault → Type 0
+OwnFault b r = IfErr r (IsOwn b)
+
+change_own : (k : Bool) (c : Content) (x : Change) → OwnFault k (with_change c x)
+change_own k c x = grind arith
+
+pub step_own : (c : Content) (batch : Option (List Change)) (x : Command) →
+    IfErr (step_in c batch x) (IsOwn (is_recordable c))
+step_own c None (Make x) = grind (arith, change_own (is_recordable c) c x)
+step_own c (Some xs) (Make x) = grind (arith, change_own (is_recordable c) (after c xs) x)
+step_own c b x = grind arith
 
 -- ---- the text
 

@@ -10,5 +10,4 @@ pub mod InputRuns
 pub mod CsvBytes
 pub mod InMemoryRuns
 pub mod Ending
-pub mod Lacking
 pub mod Dumping

@@ -17,7 +17,6 @@ pub mod KeptLemmas
 pub mod FieldLemmas
 pub mod FitLemmas
 pub mod DecodedLemmas
-pub mod CandidateLemmas
 pub mod RecoverLemmas
 pub mod ReceiverLemmas
 pub mod SectorLemmas

@@ -1,4 +1,4 @@
--- Bytes have no fault exactly if some reference encodes as them.
+-- The bytes of a reference have no fault.
 use Rattle.olr_spec.proofs.Common.{◌≡◌, ℕ, zero, suc, ◌+◌, ◌-◌, ◌*◌, ◌/◌, ◌<◌, Bool, false, cond, ◌||◌, List, ◌∷◌, ◌++◌}
 use Rattle.olr_spec.proofs.Common.{length, Option, Some, None, refl, ap, ◌∙◌, arith, nat_le, length-append, [], eq-eqb}
 use Rattle.olr_spec.proofs.Common.{le-ltb, get_or-append-add, flat_map, slice_index, ◌↔◌, AllByRecursion, list_any}

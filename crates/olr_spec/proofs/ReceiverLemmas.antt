@@ -1,20 +1,48 @@
--- Every receiver recovers the legs between the remaining LRPs, and what the lengths and nodes of these say.
-use Rattle.olr_spec.proofs.Common.{◌≡◌, ℕ, suc, ◌+◌, ◌-◌, true, List, ◌∷◌, length, map, ◌<◌, ℤ, ◌↔◌, Some, None, IsTrue}
-use Rattle.olr_spec.proofs.Common.{refl, sym, ap, ◌∙◌, arith, slice_get, [], option_map, slice_index, ⊤, get_or-map}
-use Rattle.olr_spec.proofs.Common.{Map, IsMap, Path, is_path, none_twice, extended_path, stretch, OfPath, Reference}
-use Rattle.olr_spec.proofs.Common.{leg, legs, leg_at, no_leg, attrs, Middle, middle_points, last_two, reference_by_kept}
-use Rattle.olr_spec.proofs.Common.{Points, path_fault, Encoding, Side, Receiver, Within, RecoversTo, RecoversLast}
-use Rattle.olr_spec.proofs.Common.{candidates, is_nearest, has_no_twin, Recovered}
-use Rattle.olr_spec.proofs.Facts.{Each, has_index, Known, path_also, path_at, Linked, joins_to, joins_last}
-use Rattle.olr_spec.specs.Receiver.{Outgoing, Incoming, lrp_at, last_number, last_lrp, decoded_coord, RecoversFrom}
-use Rattle.olr_spec.specs.Receiver.{Recovers}
+-- Every receiver recovers the legs between the remaining LRPs.
+use Rattle.olr_spec.proofs.Common.{◌≡◌, ◌≢◌, ℕ, Bool, true, ◌↔◌, IsTrue, arith, eqb-true, eq-eqb, ltb-true, cases_Bool}
+use Rattle.olr_spec.proofs.Common.{cases_eq, both_ways, or_cases, Map, has_line, line_at, Leg, leg, candidates}
+use Rattle.olr_spec.proofs.Common.{Receiver, is_nearest, has_no_twin, AllPass-from_list_all, list_all, list_all-map}
+use Rattle.olr_spec.proofs.Common.{suc, ◌+◌, ◌-◌, List, ◌∷◌, length, map, ◌<◌, ℤ, Some, None, refl, sym, ap, ◌∙◌}
+use Rattle.olr_spec.proofs.Common.{slice_get, [], option_map, slice_index, ⊤, get_or-map, IsMap, Path, is_path}
+use Rattle.olr_spec.proofs.Common.{none_twice, extended_path, stretch, OfPath, Reference, legs, leg_at, no_leg, attrs}
+use Rattle.olr_spec.proofs.Common.{Middle, middle_points, last_two, reference_by_kept, Points, path_fault, Encoding}
+use Rattle.olr_spec.proofs.Common.{Side, Within, RecoversTo, RecoversLast, Recovered}
+use Rattle.olr_spec.proofs.Facts.{at_index, has_number, Each, has_index, Known, path_also, path_at, Linked, joins_to}
+use Rattle.olr_spec.proofs.Facts.{joins_last}
+use Rattle.olr_spec.specs.Receiver.{sector_on, Lrp, rating, Takes, Outgoing, Incoming, lrp_at, last_number, last_lrp}
+use Rattle.olr_spec.specs.Receiver.{decoded_coord, RecoversFrom, Recovers}
 use Rattle.olr_spec.specs.Recovery.{line_by, IsLineAt, Distinct, stretches, IsStretches}
 use Rattle.olr_spec.proofs.FieldLemmas.{range_legs}
 use Rattle.olr_spec.proofs.FitLemmas.{extended_sound, by_answer}
 use Rattle.olr_spec.proofs.DecodedLemmas.{answer_decodes, Back, Form, Front, Kept, form}
-use Rattle.olr_spec.proofs.CandidateLemmas.{Own, takes_own}
 use Rattle.olr_spec.proofs.RecoverLemmas.{within_greatest, recovers_to, recovers_last, extended_once, once_apart}
 use Rattle.olr_spec.specs.Reference as fields
+
+-- ---- a test that all candidates pass
+
+pub passes : (M : Map) (f : ℕ × Leg → Bool) → IsTrue (list_all f (candidates M)) → (y : ℕ) → IsTrue (has_line M y) →
+    f (y, leg M y) ≡ true
+passes M f a y h = grind (arith, at_index, has_number M y h, AllPass-from_list_all, list_all-map f)
+
+-- ---- the path's own line
+
+-- line x is the line that the LRP t describes, the nearest candidate, and without a twin
+pub record Own (R : Receiver) (M : Map) (t : Lrp) (x : ℕ) : Type 0 where
+  pub known : IsTrue (has_line M x)
+  pub frc : t.frc ≡ (line_at M x).frc
+  pub fow : t.fow ≡ (line_at M x).fow
+  pub bearing : t.bearing ≡ sector_on t.side (leg M x)
+  pub nearest : IsTrue (is_nearest R.far t.side t.place (leg M x) (candidates M))
+  pub alone : IsTrue (has_no_twin t.side x (leg M x) (candidates M))
+
+module _ (R : Receiver) (M : Map) (t : Lrp) (x : ℕ) (o : Own R M t x) where
+  preferred : (y : ℕ) → IsTrue (has_line M y) → y ≢ x → IsTrue (R.prefers (rating R t (leg M x)) (rating R t (leg M y)))
+  preferred y h n =
+      grind (arith, passes, or_cases, eqb-true, cases_eq, both_ways, eq-eqb, ltb-true)
+
+  -- so a receiver chooses it, and no other
+  pub takes_own : (y : ℕ) → Takes R M t y ↔ (y ≡ x)
+  takes_own y = grind (arith, cases_eq, both_ways, preferred, cases_Bool)
 
 -- ---- one LRP
 
@@ -145,8 +173,6 @@ module _ (M : Map) (m : IsMap M) (P : Path) (is : IsTrue (is_path P.lines)) (non
         (λ g. path_also e (by.0 g)),
         (λ p. by.1 (same_path _ p)),
       )
-
--- ---- the nearest node
 
 pub recovered : Recovered
 recovered R M m P is r e d ws = let p = by_answer M P r e in recovered_of M m P is p.0 r p.1 R d ws

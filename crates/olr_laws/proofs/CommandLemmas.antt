@@ -1,0 +1,283 @@
+-- An accepted command has one reply, apart from out of memory a command has one outcome, counts are determined, and the
+-- claims hold of runs from the start.
+use Rattle.olr_commands.proofs.Common.{Map, IsMap, Path, Reference, Answer, Encodes, one_answer, one_decoding}
+use Rattle.olr_commands.proofs.Common.{both_ways, concat, cases_Bool, cases_eq, bytes_decides, is_path, Refused}
+use Rattle.olr_commands.proofs.Common.{Refusal, some_answer}
+use Rattle.std.proofs.Common.{arith, ◌≡◌, ℕ, List, [], ◌∷◌, Option, Some, None, sym, ap, ◌∙◌, subst, Result, Ok, Err}
+use Rattle.std.proofs.Common.{IsFalse, inl, inr, ◌⊎◌, ◌≢◌, suc, true, false, not, length, is_some, IsTrue, refl, ◌≤◌}
+use Rattle.olr_commands.specs.State.{Named, Content, ArePaths, IsContent, Change, State, Command, Make, Show, Report}
+use Rattle.olr_commands.specs.State.{Explain, Begin, Commit, Abort, IsState, Dump, Fault, HasCoords, step, path_named}
+use Rattle.olr_commands.specs.State.{same_name, has_path, No_path, changes_made, start_state}
+use Rattle.olr_commands.specs.Reply.{Entry, entry, Reply, Fields, HasAnswer, AllOf, ChangedOf, Differences, Shown}
+use Rattle.olr_commands.specs.Reply.{Explained, IsPaths, IsFields, IsChangeReply, IsReply, IsRefusal, ByState, Lacks}
+use Rattle.olr_commands.specs.Reply.{Outcome, IsOutcome, lacks_memory, Dumped, Paths, Held}
+use Rattle.olr_commands.proofs.NameLemmas.{named_path}
+use Rattle.olr_commands.proofs.StateLemmas.{steps_keep, when_ok}
+use Rattle.olr_spec.specs.Encoding.{Points, Unknown_line, Broken, Offset_too_long, No_next_point}
+use Rattle.olr_spec.specs.Bytes.{IsReference, reference_bytes}
+use Rattle.olr_spec.proofs.FitLemmas.{encoded_fits}
+use Rattle.olr_commands.specs.Dump.{dump_lines, dump_changes, DumpsAgain}
+use Rattle.olr_commands.specs.Counts.{Affects, CountIs, Raises, Retains, Spares}
+use Rattle.olr_commands.proofs.SearchLemmas.{unconcerned}
+use Rattle.olr_commands.proofs.DumpLemmas.{dumps_lead}
+use Rattle.olr_commands.specs.History.{Run, History, AllHaveCoords, names, Headline}
+use Rattle.olr_commands.proofs.HistoryLemmas.{start_sound, names_changed, SoundOutcome, headline_of_outcomes}
+
+-- ---- replies are determined
+
+-- each path has one answer, so a list of paths has one list of entries
+one_all : (M : Map) → IsMap M → (ps : List Named) (es fs : List Entry) → ArePaths ps → AllOf M ps es → AllOf M ps fs →
+    es ≡ fs
+one_all M m [] es fs a p q = p ∙ sym q
+one_all M m (n ∷ ps) es fs a p q = grind (arith, one_answer, one_all M m ps p.1 q.1 a.1 p.3 q.3)
+
+one_changed : (s : Content) (M : Map) → IsMap M → (ps : List Named) (es fs : List Entry) → ArePaths ps →
+    ChangedOf s M ps es → ChangedOf s M ps fs → es ≡ fs
+one_changed s M m [] es fs a p q = p ∙ sym q
+one_changed s M m (n ∷ ps) es fs a p q = grind (arith, one_answer, one_changed s M m ps p.1 q.1 a.1 p.3 q.3)
+
+one_paths : (T : List Entry → Type 0) → ((es fs : List Entry) → T es → T fs → es ≡ fs) → (r q : Reply) → IsPaths r T →
+    IsPaths q T → r ≡ q
+one_paths T one r q p g = grind (arith, one)
+
+one_fields : (T : Reference → Type 0) → ((x y : Reference) → T x → T y → x ≡ y) → (r q : Reply) → IsFields r T →
+    IsFields q T → r ≡ q
+one_fields T one (Fields x) (Fields y) p g = ap (λ (z : Reference). Fields z) (one x y p g)
+one_fields T one (Fields x) q p g = absurd g
+one_fields T one r q p g = absurd p
+
+-- the path of a name has one answer
+pub one_has : (c : Content) → IsContent c → (name : List ℕ) (A B : Answer) → HasAnswer c name A → HasAnswer c name B →
+    A ≡ B
+one_has c i name A B p q =
+    let path_is : Some p.0 ≡ Some q.0 = sym p.1 ∙ q.1 in
+    let same_path : p.0 ≡ q.0 = cc in
+    let answer : Encodes c.map p.0 B = subst (λ (Q : Path). Encodes c.map Q B) (sym same_path) q.2 in
+    one_answer c.map i.map p.0 (named_path c.paths name p.0 i.paths p.1) A B p.2 answer
+
+one_shown : (c : Content) (name : List ℕ) → IsContent c → (es fs : List Entry) → Shown c name es → Shown c name fs →
+    es ≡ fs
+one_shown c name i es fs p q =
+    let same : p.0 ≡ q.0 = one_has c i name p.0 q.0 p.1 q.1 in
+    p.2 ∙ (λ k. entry name (same k) ∷ []) ∙ sym q.2
+
+one_explained : (text : List ℕ) (x y : Reference) → Explained text x → Explained text y → x ≡ y
+one_explained text x y p q =
+    let bytes_are : Some p.0 ≡ Some q.0 = sym p.1 ∙ q.1 in
+    let bytes : p.0 ≡ q.0 = cc in
+    one_decoding x y p.2.0 q.2.0 (sym p.2.1 ∙ bytes ∙ q.2.1)
+
+one_difference : (s t : Content) → IsContent t → (r q : Reply) → IsPaths r (Differences s t) →
+    IsPaths q (Differences s t) → r ≡ q
+one_difference s t j r q p g =
+    one_paths (Differences s t) (λ es fs. one_changed s t.map j.map t.paths es fs j.paths) r q p g
+
+one_held : (b : Option (List Change)) (s t : Content) → IsContent t → (r q : Reply) → IsChangeReply b s t r →
+    IsChangeReply b s t q → r ≡ q
+one_held None s t j r q p g = one_difference s t j r q p g
+one_held (Some xs) s t j r q p g = p ∙ sym g
+
+pub one_reply : (s t : State) (c : Command) (r q : Reply) → IsState s → IsState t → IsReply s c t r → IsReply s c t q →
+    r ≡ q
+one_reply s t (Make x) r q i j p g = one_held s.batch s.content t.content j.content r q p g
+one_reply s t (Show name) r q i j p g = one_paths (Shown s.content name) (one_shown s.content name i.content) r q p g
+one_reply s t Report r q i j p g = grind (arith, one_paths, one_all)
+one_reply s t Dump r q i j p g = p ∙ sym g
+one_reply s t (Explain text) r q i j p g = one_fields (Explained text) (one_explained text) r q p g
+one_reply s t Begin r q i j p g = p ∙ sym g
+one_reply s t (Commit count) r q i j p g = one_difference s.content t.content j.content r q p g
+one_reply s t Abort r q i j p g = p ∙ sym g
+
+-- a fault other than out of memory is that of step
+pub reported_by : (s : State) (c : Command) (fault : Fault) → IsFalse (lacks_memory (Err fault)) → IsRefusal s c fault →
+    step s c ≡ Err fault
+reported_by s c fault n (ByState e) = e
+reported_by s c fault n (Lacks is may) =
+    absurd (both_ways (lacks_memory (Err fault)) n (ap (λ (f : Fault). lacks_memory (Err f)) is))
+
+pub one_outcome : (s t u : State) (c : Command) (o q : Outcome) → IsState s → HasCoords c → IsFalse (lacks_memory o) →
+    IsFalse (lacks_memory q)
+    → IsOutcome s c o t → IsOutcome s c q u → (o ≡ q) × (t ≡ u)
+one_outcome s t u c (Ok r) (Ok w) i h n m p g =
+    let both : ◌≡◌ {A = Result State Fault} (Ok t) (Ok u) = sym p.0 ∙ g.0 in
+    let same : t ≡ u = cc in
+    let one =
+    one_reply s t c r w i (steps_keep s t c i h p.0) p.1 (subst (λ (x : State). IsReply s c x w) (sym same) g.1) in
+    (ap (λ (x : Reply). Ok x) one, same)
+one_outcome s t u c (Ok r) (Err f) i h n m p g = grind (arith, reported_by)
+one_outcome s t u c (Err f) (Ok w) i h n m p g = grind (arith, reported_by)
+one_outcome s t u c (Err f) (Err k) i h n m p g = grind (arith, reported_by)
+
+-- ---- answers are equal or not
+
+Is_or_not : {A : Type 0} → A → A → Type 0
+Is_or_not a b = (a ≡ b) ⊎ (a ≢ b)
+
+lists_decide : (xs ys : List ℕ) → Is_or_not xs ys
+unfolding Is_or_not
+lists_decide xs ys =
+    elim (cases_Bool (same_name xs ys)) [
+      | inl t ↦ inl ((bytes_decides xs ys).0 t)
+      | inr f ↦ inr (λ e. both_ways (same_name xs ys) f ((bytes_decides xs ys).1 e))
+    ]
+
+-- a reason is decided by its kind and its number
+refusals_decide : (x y : Refusal) → Is_or_not x y
+unfolding Is_or_not
+refusals_decide (Unknown_line n) (Unknown_line m) =
+    elim (cases_eq n m) [ inl e ↦ inl (ap (λ (k : ℕ). Unknown_line k) e) | inr ne ↦ inr (λ e. ne cc) ]
+refusals_decide (Broken n) (Broken m) =
+    elim (cases_eq n m) [ inl e ↦ inl (ap (λ (k : ℕ). Broken k) e) | inr ne ↦ inr (λ e. ne cc) ]
+refusals_decide (No_next_point n) (No_next_point m) =
+    elim (cases_eq n m) [ inl e ↦ inl (ap (λ (k : ℕ). No_next_point k) e) | inr ne ↦ inr (λ e. ne cc) ]
+refusals_decide Offset_too_long Offset_too_long = inl refl
+refusals_decide x y = inr (λ e. absurd cc)
+
+-- a reference is decided by its bytes
+Fits : Answer → Type 0
+Fits (Points r) = IsReference r
+Fits (Refused f) = ◌≡◌ {A = Refusal} f f
+
+answers_decide : (A B : Answer) → Fits A → Fits B → Is_or_not A B
+unfolding Is_or_not Fits
+answers_decide (Points r) (Points q) f g =
+    elim (lists_decide (reference_bytes r) (reference_bytes q)) [
+      | inl e ↦ inl (ap (λ (x : Reference). Points x) (one_decoding r q f g e))
+      | inr ne ↦ inr (λ e. let same : r ≡ q = cc in ne (ap reference_bytes same))
+    ]
+answers_decide (Refused x) (Refused y) f g =
+    elim (refusals_decide x y) [ inl e ↦ inl (ap (λ (k : Refusal). Refused k) e) | inr ne ↦ inr (λ e. ne cc) ]
+answers_decide A B f g = inr (λ e. absurd cc)
+
+answer_fits : (M : Map) → IsMap M → (P : Path) → IsTrue (is_path P.lines) → (A : Answer) → Encodes M P A → Fits A
+unfolding Fits
+answer_fits M m P i (Points r) e = encoded_fits M m P i r e
+answer_fits M m P i (Refused f) e = refl
+
+-- ---- replies
+
+-- whether a path had this answer
+had : (c : Content) → IsContent c → (name : List ℕ) (A : Answer) → Fits A → HasAnswer c name A ⊎ (¬ HasAnswer c name A)
+unfolding Is_or_not
+had c i name A f = by_path (path_named c.paths name) refl where
+  by_path : (o : Option Path) → path_named c.paths name ≡ o → HasAnswer c name A ⊎ (¬ HasAnswer c name A)
+  by_path None e = inr (λ h. absurd (let no : ◌≡◌ {A = Option Path} None (Some h.0) = sym e ∙ h.1 in cc))
+  by_path (Some P) e =
+      let sound = named_path c.paths name P i.paths e in
+      let some = some_answer c.map i.map P sound in
+      elim (answers_decide A some.0 f (answer_fits c.map i.map P sound some.0 some.1)) [
+        | inl same ↦ inl (P, e, subst (λ (B : Answer). Encodes c.map P B) (sym same) some.1)
+        | inr other ↦ inr (λ h. other (one_has c i name A some.0 h (P, e, some.1)))
+      ]
+
+some_changed : (c : Content) → IsContent c → (M : Map) → IsMap M → (ps : List Named) → ArePaths ps → (es : List Entry)
+    × ChangedOf c M ps es
+some_changed c i M m [] a = ([], refl)
+some_changed c i M m (p ∷ ps) a =
+    let some = some_answer M m p.path a.0 in
+    let rest = some_changed c i M m ps a.1 in
+    elim (had c i p.name some.0 (answer_fits M m p.path a.0 some.0 some.1)) [
+      | inl h ↦ (rest.0, (some.0, rest.0, some.1, rest.1, inl (h, refl)))
+      | inr n ↦ (entry p.name some.0 ∷ rest.0, (some.0, rest.0, some.1, rest.1, inr (n, refl)))
+    ]
+
+some_all : (M : Map) → IsMap M → (ps : List Named) → ArePaths ps → (es : List Entry) × AllOf M ps es
+some_all M m [] a = ([], refl)
+some_all M m (p ∷ ps) a =
+    let some = some_answer M m p.path a.0 in
+    let rest = some_all M m ps a.1 in
+    (entry p.name some.0 ∷ rest.0, (some.0, rest.0, some.1, rest.1, refl))
+
+some_shown : (c : Content) → IsContent c → (name : List ℕ) → not (has_path c name) ≡ false → (es : List Entry)
+    × Shown c name es
+some_shown c i name h = by_path (path_named c.paths name) refl where
+  by_path : (o : Option Path) → path_named c.paths name ≡ o → (es : List Entry) × Shown c name es
+  by_path None e = absurd (both_ways true (ap (λ (o : Option Path). not (is_some o)) (sym e) ∙ h) refl)
+  by_path (Some P) e =
+      let some = some_answer c.map i.map P (named_path c.paths name P i.paths e) in
+      (entry name some.0 ∷ [], (some.0, (P, e, some.1), refl))
+
+some_difference : (c d : Content) → IsContent c → IsContent d → (es : List Entry) × Differences c d es
+some_difference c d i j = some_changed c i d.map j.map d.paths j.paths
+
+some_held : (b : Option (List Change)) (c d : Content) → IsContent c → IsContent d → (reply : Reply)
+    × IsChangeReply b c d reply
+some_held None c d i j = let es = some_difference c d i j in (Paths es.0, es.1)
+some_held (Some xs) c d i j = (Held (suc (length xs)), refl)
+
+pub some_reply : (s t : State) (c : Command) → IsState s → HasCoords c → step s c ≡ Ok t →
+    ((text : List ℕ) → c ≢ Explain text) → (reply : Reply) × IsReply s c t reply
+some_reply s t (Make x) i h is n =
+    some_held s.batch s.content t.content i.content (steps_keep s t (Make x) i h is).content
+some_reply s t (Show name) i h is n = let es =
+    some_shown s.content i.content name (when_ok (not (has_path s.content name)) No_path (Ok s) t is).0 in
+    (Paths es.0, es.1)
+some_reply s t Report i h is n = let es =
+    some_all s.content.map i.content.map s.content.paths i.content.paths in (Paths es.0, es.1)
+some_reply s t Dump i h is n =
+    (Dumped (length (dump_lines s.content)) (concat (dump_lines s.content)), refl)
+some_reply s t (Explain text) i h is n = absurd (n text refl)
+some_reply s t Begin i h is n = (Paths [], refl)
+some_reply s t (Commit count) i h is n = let es =
+    some_difference s.content t.content i.content (steps_keep s t (Commit count) i h is).content in (Paths es.0, es.1)
+some_reply s t Abort i h is n = (Paths [], refl)
+
+-- ---- counts
+
+pub one_count : {A : Type 0} (P : A → Type 0) (xs : List A) (n m : ℕ) → CountIs P xs n → CountIs P xs m → n ≡ m
+one_count P [] n m p q = p ∙ sym q
+one_count P (x ∷ xs) n m p q = grind (arith, one_count P xs, one_count P xs n m)
+
+-- a claim that holds of nothing
+pub no_count : {A : Type 0} (P : A → Type 0) → ((x : A) → ¬ P x) → (xs : List A) (n : ℕ) → CountIs P xs n → n ≡ 0
+no_count P none [] n p = p
+no_count P none (x ∷ xs) n p = elim p [ inl h ↦ absurd (none x h.0) | inr h ↦ no_count P none xs n h.1 ]
+
+-- a claim that another one follows from holds of no more elements
+pub count_within : {A : Type 0} (P Q : A → Type 0) → ((x : A) → P x → Q x) → (xs : List A) (n m : ℕ) → CountIs P xs n →
+    CountIs Q xs m → n ≤ m
+count_within P Q implies [] n m p q = omega (arith, p, q)
+count_within P Q implies (x ∷ xs) n m p q = grind (arith, implies x, count_within P Q implies xs)
+
+pub one_spare : (s t : State) (c : Command) (n m : ℕ) → Spares s c t n → Spares s c t m → n ≡ m
+one_spare s t c n m = one_count (Retains s.content t.content (changes_made s c)) t.content.paths n m
+
+pub spares_few : (s t : State) (c : Command) (n m : ℕ) → Spares s c t n → Raises s c t m → n ≤ m
+spares_few s t c n m =
+    count_within (Retains s.content t.content (changes_made s c)) (Affects s.content (changes_made s c))
+    (λ p h. h.affected) t.content.paths n m
+
+pub no_rise : (s t : State) (c : Command) (n : ℕ) → changes_made s c ≡ [] → Raises s c t n → n ≡ 0
+no_rise s t c n none h = grind (arith, no_count, unconcerned)
+
+pub one_rise : (s t : State) (c : Command) (n m : ℕ) → Raises s c t n → Raises s c t m → n ≡ m
+one_rise s t c n m = one_count (Affects s.content (changes_made s c)) t.content.paths n m
+
+pub dumps_again : DumpsAgain
+dumps_again c i = ap (λ (d : Content). dump_changes d) (dumps_lead c i).1
+
+pub no_differences : (c : Content) (es : List Entry) → IsContent c → Differences c c es → es ≡ []
+no_differences c [] i d = refl
+no_differences c (e ∷ es) i d =
+    let here : names (e ∷ es) e.name = rw ((bytes_decides e.name e.name).1 refl) refl in
+    let h = ((names_changed c c (e ∷ es) i d).0 e.name).0 here in
+    absurd (h.2 h.1)
+
+-- ---- runs from the start
+
+pub outcome_keeps : (s t : State) (c : Command) (o : Outcome) → IsState s → HasCoords c → IsOutcome s c o t → IsState t
+outcome_keeps s t c (Ok reply) i h p = steps_keep s t c i h p.0
+outcome_keeps s t c (Err fault) i h p = subst IsState (sym p.1) i
+
+history_keeps : (s t : State) (cs : List Command) (os : List Outcome) → IsState s → AllHaveCoords cs →
+    Run IsOutcome s cs os t → IsState t × Run SoundOutcome s cs os t
+history_keeps s t cs [] i h p = (subst IsState p i, p)
+history_keeps s t [] (o ∷ os) i h p = absurd p
+history_keeps s t (c ∷ cs) (o ∷ os) i h p =
+    let mid = outcome_keeps s p.0 c o i h.0 p.1 in
+    let rest = history_keeps p.0 t cs os mid h.1 p.2 in
+    (rest.0, (p.0, (p.1, mid.content), rest.1))
+
+pub headline_of_histories : (cs : List Command) (os : List Outcome) (t : State) → AllHaveCoords cs →
+    History start_state cs os t → IsState t × Headline IsOutcome (λ c. Some c) start_state cs os t
+headline_of_histories cs os t h run = grind (arith, history_keeps, start_sound, headline_of_outcomes)
