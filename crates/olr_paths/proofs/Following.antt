@@ -1,7 +1,7 @@
 -- A list follows itself, since no name occurs twice.
-use Rattle.olr_paths.proofs.Common.{inl, inr, ◌≡◌, Bool, false, List, [], ◌∷◌, Option, is_some, refl, ap, ◌∙◌}
-use Rattle.olr_paths.proofs.Common.{option_map, bytes_decides, Answer, path_named, NamesDiffer, flipped, Made, Item}
-use Rattle.olr_paths.proofs.Common.{named_of, all_named, made_in, answer_in, Follows, if◌then◌else◌, not_named}
+use Rattle.olr_paths.proofs.Common.{if◌then◌else◌, option_map, answer_in, not_named, all_named, named_of, is_some, refl}
+use Rattle.olr_paths.proofs.Common.{Follows, Option, Answer, false, List, Made, Item, ◌∷◌, inr, ◌≡◌, ◌∙◌, inl, ap, []}
+use Rattle.olr_list.proofs.Common.{bytes_decides, NamesDiffer, path_named, flipped, made_in, Bool}
 
 abbrev pub answer_made : Option Made → Option Answer
 answer_made o = option_map (λ m. m.answer) o

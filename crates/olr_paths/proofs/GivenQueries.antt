@@ -1,19 +1,18 @@
 -- The coverage queries along a path's own lines, and those of them that an encoding is given: right on the next map.
-use Rattle.olr_paths.proofs.Common.{AllPairs-from_increasing, IsStrictlyIncreasing, AreEncodingsIfAny, AllByRecursion}
-use Rattle.olr_paths.proofs.Common.{AllPairs-cons, CoverageQuery, SearchedAgain, IsAgainClear, IsEncodingOf, KnownQuery}
-use Rattle.olr_paths.proofs.Common.{SearchesItem, all_searched, ChangedLine, AccountsFor, known_stays, MatchOption, inl}
-use Rattle.olr_paths.proofs.Common.{known_holds, SearchedFor, SearchedOf, none_known, slice_get, QueriesOf, AreKnown, ℕ}
-use Rattle.olr_paths.proofs.Common.{All-cons, All-head, All-tail, AllPairs, IsBefore, All-nil, IsKnown, is_path, Option}
-use Rattle.olr_paths.proofs.Common.{IsTrue, IfSome, subst, arith, Picks, IsMap, Gives, List, refl, zero, None, Some, []}
-use Rattle.olr_paths.proofs.Common.{Path, Made, Item, inr, suc, ◌+◌, ◌<◌, ◌∷◌, map, All, sym, Map, ◌≡◌}
+use Rattle.olr_paths.proofs.Common.{AreEncodingsIfAny, CoverageQuery, AllPairs-cons, SearchedAgain, IsEncodingOf, arith}
+use Rattle.olr_paths.proofs.Common.{SearchesItem, SearchedFor, AccountsFor, ChangedLine, MatchOption, SearchedOf, IsMap}
+use Rattle.olr_paths.proofs.Common.{QueriesOf, slice_get, AreKnown, All-cons, IsBefore, is_path, All-nil, IsKnown, None}
+use Rattle.olr_paths.proofs.Common.{Option, IsTrue, Gives, subst, refl, Path, Some, List, Made, Item, ◌∷◌, inr, ◌<◌, []}
+use Rattle.olr_paths.proofs.Common.{sym, map, ◌≡◌, inl, ◌+◌, All, Map, suc, ℕ}
+use Rattle.olr_list.proofs.Alls.{at_position}
+use Rattle.olr_list.proofs.Common.{AllPairs-from_increasing, IsStrictlyIncreasing, AllByRecursion, IsAgainClear, IfSome}
+use Rattle.olr_list.proofs.Common.{KnownQuery, All-tail, All-head, Picks}
+use Rattle.olr_spec.proofs.KnownLemmas.{all_searched, known_holds, known_stays, none_known}
+use Rattle.std.specs.List.{AllPairs}
 
 -- ---- elements that are picked from a list
 
 module _ {A : Type 0} (P : A → Type 0) where
-  pub picks_none : ((x : A) → ¬ P x) → (xs : List A) → Picks P xs []
-  picks_none none [] = refl
-  picks_none none (x ∷ xs) = inr (none x, picks_none none xs)
-
   -- what holds of each element and of those that are picked
   picked_each : (Q R : A → Type 0) → ((x : A) → P x → Q x → R x) → (xs ys : List A) → Picks P xs ys → All Q xs →
       All R ys
@@ -83,14 +82,6 @@ searched_from_none N n P is m queries made searched =
 pub gives_picked : (N : Map) (C : List ChangedLine) (made : Option Made) (m : Made) (ks given : List KnownQuery) →
     made ≡ Some m → ks ≡ m.known → Picks (λ e. IsAgainClear N C e.query) ks given → Gives N C made given
 gives_picked N C made m ks given e same picks = rw e (rw same at picks)
-
--- what a list says of each of its items is said of the one at a position
-pub at_position : (Q : List Item → Type 0) (P : Item → Type 0) →
-    ((x : Item) (is : List Item) → Q (x ∷ is) → P x × Q is) → (is : List Item) (k : ℕ) (i : Item) → Q is →
-    slice_get is k ≡ Some i → P i
-at_position Q P parts [] k i h at = let never : ⊥ = cc in absurd never
-at_position Q P parts (x ∷ is) zero i h at = let e : x ≡ i = cc in subst P e (parts x is h).0
-at_position Q P parts (x ∷ is) (suc k) i h at = at_position Q P parts is k i (parts x is h).1 at
 
 module _ {L N : Map} (n : IsMap N) {T X : List ℕ} {C : List ChangedLine} {is : List Item}
     (before : IsBefore L N T X C is) (k : ℕ) (i : Item) (at : slice_get is k ≡ Some i) where

@@ -1,24 +1,31 @@
 -- A coverage query is at most as long as the greatest limit. Its ends are traversed nodes: if none of these is touched,
 -- they are on the next map too. Results that are right on a map are right on the next one, if no change can affect them.
-use Rattle.olr_paths.proofs.Common.{TraversedOfExtended, QueriesOfExtended, extended_path, CoverageQuery, dm_of-append}
-use Rattle.olr_paths.proofs.Common.{MatchOption, TraversedOf, slice_index, path_fault, query_from, cases_Bool, Contains}
-use Rattle.olr_paths.proofs.Common.{QueriesOf, SameRound, Each-cons, has_index, query_to, has_node, has_line, Refusal}
-use Rattle.olr_paths.proofs.Common.{IsQuery, is_some, IsRoute, is_path, IsOnMap, length, Option, Needed, IsTrue, arith}
-use Rattle.olr_paths.proofs.Common.{dm_of, limit, false, subst, IsMap, start, first, refl, List, Some, None, Path, true}
-use Rattle.olr_paths.proofs.Common.{last, inl, inr, ◌≡◌, ◌+◌, ◌<◌, ◌≤◌, ◌∷◌, ◌⊎◌, Map, sym, ◌∙◌, end, has, [], ap, ℕ}
-use Rattle.olr_paths.proofs.Common.{All, get_or, min, slice_get, ChangedLine, Near, Made, Item, IsEncodingOf}
-use Rattle.olr_paths.proofs.Common.{IsAffected, TraversedTouched, LineTouched, QueryTouched, IsKnownClear, IsBefore}
-use Rattle.olr_paths.proofs.Common.{IsSpared, IsEncodedAgain, both_ways, Contains-get_or, SameLine, IsClear}
-use Rattle.olr_paths.proofs.Common.{IsUnchanged, By_name, By_node, By_line, Touches, Stays, ToEncode}
-use Rattle.olr_spec.specs.Points.{stretch}
-use Rattle.olr_spec.proofs.JoinLemmas.{empty_stretch}
-use Rattle.olr_spec.proofs.QueryLemmas.{stretch_parts}
-use Rattle.olr_spec.specs.Coordinates.{Coord}
-use Rattle.olr_spec.proofs.JoinedLemmas.{extended_joined}
-use Rattle.olr_spec.proofs.ListLemmas.{Each}
-use Rattle.olr_spec.proofs.StayLemmas.{known_kept, untouched_retained}
-use Rattle.olr_spec.proofs.TestedLemmas.{foot_affected, one_queries}
+use Rattle.olr_paths.proofs.Common.{Contains-get_or, IsEncodedAgain, CoverageQuery, extended_path, IsEncodingOf, length}
+use Rattle.olr_paths.proofs.Common.{IsUnchanged, MatchOption, ChangedLine, IsAffected, cases_Bool, query_from, IsSpared}
+use Rattle.olr_paths.proofs.Common.{slice_get, QueriesOf, IsBefore, By_line, is_some, is_path, By_name, IsOnMap, get_or}
+use Rattle.olr_paths.proofs.Common.{By_node, Option, IsTrue, IsMap, false, arith, first, subst, Some, None, Item, refl}
+use Rattle.olr_paths.proofs.Common.{List, Made, Path, last, has, ◌⊎◌, ◌+◌, ◌<◌, All, ◌∷◌, sym, ◌≡◌, ◌≤◌, min, inr, Map}
+use Rattle.olr_paths.proofs.Common.{◌∙◌, inl, ap, [], ℕ}
+use Rattle.olr_list.proofs.Common.{TraversedTouched, IsKnownClear, QueryTouched, LineTouched, Contains, has_node, limit}
+use Rattle.olr_list.proofs.Common.{IsRoute, dm_of, true, Near, end}
+use Rattle.olr_list.specs.Actions.{ToEncode, Stays}
+use Rattle.olr_list.specs.Changes.{Touches}
 use Rattle.olr_paths.proofs.GivenQueries.{made_before, path_before}
+use Rattle.olr_spec.proofs.JoinLemmas.{empty_stretch}
+use Rattle.olr_spec.proofs.JoinedLemmas.{extended_joined}
+use Rattle.olr_spec.proofs.ListLemmas.{has_index, Each-cons, Each}
+use Rattle.olr_spec.proofs.QueryLemmas.{stretch_parts}
+use Rattle.olr_spec.proofs.RouteLemmas.{dm_of-append}
+use Rattle.olr_spec.proofs.StayLemmas.{untouched_retained, known_kept}
+use Rattle.olr_spec.proofs.TestedLemmas.{foot_affected, one_queries}
+use Rattle.olr_spec.specs.Coordinates.{Coord}
+use Rattle.olr_spec.specs.Encoding.{path_fault, Refusal}
+use Rattle.olr_spec.specs.Map.{SameRound, SameLine, has_line, start}
+use Rattle.olr_spec.specs.Points.{stretch}
+use Rattle.olr_spec.specs.Queries.{TraversedOfExtended, QueriesOfExtended, TraversedOf, query_to, IsClear, IsQuery}
+use Rattle.olr_spec.specs.Queries.{Needed}
+use Rattle.std.proofs.lemmas.Bool.{both_ways}
+use Rattle.std.specs.List.{slice_index}
 
 module _ (M : Map) (ls : List ℕ) (i : ℕ) (l : CoverageQuery) where
   by_need : (k : ℕ) → i < k → l ≡ query_to M ls i k → (k ≡ i + 1) ⊎ Needed M ls i k → l.within ≤ limit

@@ -1,17 +1,6 @@
 pub mod Common
 pub mod Raising
-pub mod Distances
-pub mod OriginLemmas
-pub mod AskedLemmas
-pub mod Alls
-pub mod NamedEntries
-pub mod PathIdLemmas
-pub mod NotedPositions
-pub mod Overlaying
-pub mod Changed
-pub mod EntryLists
 pub mod KeptLemmas
 pub mod Following
 pub mod GivenQueries
 pub mod RenewedPrefix
-pub mod Covering

@@ -1,18 +1,23 @@
 -- A list, as far as it was renewed: SoFar says it of the first paths, with the work. A list follows itself.
-use Rattle.olr_paths.proofs.Common.{◌≡◌, ℕ, map, take, ◌+◌, List, [], ◌∷◌, ◌++◌, length, slice_get, Option, None, Some}
-use Rattle.olr_paths.proofs.Common.{◌⊎◌, inl, inr, refl, sym, ap, ◌∙◌, append-nil, append_assoc, arith, map-append}
-use Rattle.olr_paths.proofs.Common.{slice_get_within, Map, IsMap, Answer, ChangedLine, CoverageQuery, Work}
-use Rattle.olr_paths.proofs.Common.{raised_count, entry_of, Entry, entry, Made, Item, IsEncodingOf, named_of}
-use Rattle.olr_paths.proofs.Common.{all_named, answer_in, IsBefore, Reported, Follows, IsAffected, IsSpared}
-use Rattle.olr_paths.proofs.Common.{IsEncodedAgain, SearchesItem, all_put, puts_of, Left, Retained, EncodedAgain}
-use Rattle.olr_paths.proofs.Common.{after_renewal, nodes_of, lines_of, changed_of, ChangeSet, NamedPath, Renewal}
-use Rattle.olr_paths.proofs.Common.{Counted, take_more_at, option_map, length-append, CountIs, Collects, Named}
-use Rattle.olr_paths.proofs.Common.{with_made, IsRemade, AreRemade, Totals, AreTotals, AreCounted, made_at, entries_of}
-use Rattle.olr_paths.proofs.Common.{ReportsIfOther, spared_one, encoded_one, IsStep, WasBefore, IsRenewal}
-use Rattle.olr_refs.proofs.Noting.{raised_more, settled_append}
-use Rattle.olr_paths.proofs.NotedPositions.{put_behind, all_put-push}
-use Rattle.olr_paths.proofs.GivenQueries.{at_position, searches_item}
-use Rattle.olr_paths.proofs.KeptLemmas.{stays_unless, stays_retained, spared_by, touched_by, encoded_again}
+use Rattle.olr_paths.proofs.Common.{slice_get_within, IsEncodedAgain, after_renewal, CoverageQuery, EncodedAgain, IsMap}
+use Rattle.olr_paths.proofs.Common.{raised_count, SearchesItem, IsEncodingOf, ChangedLine, IsAffected, cases_Bool, Some}
+use Rattle.olr_paths.proofs.Common.{map-append, changed_of, option_map, all_named, answer_in, slice_get, NamedPath, has}
+use Rattle.olr_paths.proofs.Common.{Reported, lines_of, entry_of, at_index, IsSpared, nodes_of, Retained, IsBefore, ◌⊎◌}
+use Rattle.olr_paths.proofs.Common.{named_of, all_put, Renewal, Follows, Counted, puts_of, Answer, length, get_or, None}
+use Rattle.olr_paths.proofs.Common.{Option, Named, false, arith, Entry, entry, Work, ◌++◌, Item, take, refl, zero, List}
+use Rattle.olr_paths.proofs.Common.{Made, ◌+◌, suc, ◌<◌, ◌-◌, ◌∷◌, sym, ◌≡◌, ◌≤◌, inr, map, ◌∙◌, inl, Map, ap, [], ℕ}
+use Rattle.olr_commands.specs.Counts.{Collects, CountIs}
+use Rattle.olr_list.proofs.Alls.{at_position}
+use Rattle.olr_list.proofs.Common.{append_assoc, take_more_at, append-nil, Covers}
+use Rattle.olr_list.proofs.NotedPositions.{all_put-push, put_behind}
+use Rattle.olr_list.specs.declared.change_set.ChangeSet.{ChangeSet}
+use Rattle.olr_paths.proofs.GivenQueries.{searches_item}
+use Rattle.olr_paths.proofs.KeptLemmas.{stays_retained, encoded_again, stays_unless, touched_by, spared_by}
+use Rattle.olr_paths.specs.Changes.{AreCounted, with_made, AreRemade, AreTotals, IsRemade, Totals}
+use Rattle.olr_paths.specs.Renewing.{ReportsIfOther, encoded_one, entries_of, spared_one, IsRenewal, WasBefore, made_at}
+use Rattle.olr_paths.specs.Renewing.{IsStep, Left}
+use Rattle.olr_refs.proofs.Noting.{settled_append, raised_more}
+use Rattle.std.proofs.lemmas.List.{length-append}
 
 AreRemade-push : (N : Map) (is js : List Item) (i j : Item) → AreRemade N is js → IsRemade N i j →
     AreRemade N (is ++ i ∷ []) (js ++ j ∷ [])
@@ -210,3 +215,45 @@ module _ {N : Map} (n : IsMap N) {T X : List ℕ} {C : List ChangedLine} {before
           );
         },
       )) one
+
+-- ---- from one candidate to the next
+
+-- the positions below next are done, as far as the candidates before index k
+pub record Passed (found : List ℕ) (long k next : ℕ) : Type 0 where
+  pub below : (j : ℕ) → j < k → (get_or found j 0 < next) ⊎ (long ≤ get_or found j 0)
+  pub within : next ≤ long
+
+-- one candidate more, whose position is done or past the last path
+pub passed_more : {found : List ℕ} {long k next : ℕ} (position later : ℕ) → Passed found long k next →
+    position ≡ get_or found k 0 → (position < later) ⊎ (long ≤ position) → next ≤ later → later ≤ long →
+    Passed found long (k + 1) later
+passed_more position later h at out le most = record { below = λ j lt. grind (arith, h.below j); within = most }
+
+-- after the last path
+pub past_end : (js : List Item) (q : ℕ) → slice_get js q ≡ None → length js ≤ q
+past_end [] q at = omega arith
+past_end (j ∷ js) zero at = let never : ⊥ = cc (at) in absurd never
+past_end (j ∷ js) (suc q) at = let le = past_end js q at in omega arith
+
+module _ {N : Map} (n : IsMap N) {T X : List ℕ} {C : List ChangedLine} {before is : List Item} (found : List ℕ)
+    (follows : Follows before is) (covers : Covers N T X is found) {old : Counted} {r : Renewal} {now : Counted} where
+  -- paths that are no candidates are unchanged
+  gap : (d p q : ℕ) → p + d ≡ q → q ≤ length is → ((j : ℕ) → p ≤ j → j < q → has found j ≡ false) →
+      SoFar N T X C before is old (take p is) r now → SoFar N T X C before is old (take q is) r now
+  gap zero p q e le free h = let same : p ≡ q = omega arith in rw (← same) h
+  gap (suc d) p q e le free h =
+      elim (slice_get is p) as (λ o. slice_get is p ≡ o → SoFar N T X C before is old (take q is) r now) [
+        | None ↦ λ at. absurd (omega (arith, past_end is p at))
+        | Some i ↦ λ at. gap d (p + 1) q (omega arith) le (λ j a b. free j (omega arith) b)
+            (so_far_step n follows p i at h (Left (covers p i at (free p (omega arith) (omega arith))) refl refl))
+      ] refl
+
+  -- up to a position that no candidate left is before
+  pub to_position : (k next q : ℕ) → ((m : ℕ) → k ≤ m → m < length found → q ≤ get_or found m 0) →
+      Passed found (length is) k next → next ≤ q → q ≤ length is →
+      SoFar N T X C before is old (take next is) r now → SoFar N T X C before is old (take q is) r now
+  to_position k next q rest h le most =
+      gap (q - next) next q (omega arith) most (λ j a b. elim (cases_Bool (has found j)) [
+        | inr e ↦ e
+        | inl on ↦ let p = at_index found j on in absurd (grind (arith, p.1, p.2, h.below p.0, rest p.0))
+      ])

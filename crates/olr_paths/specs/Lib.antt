@@ -1,11 +1,2 @@
-pub mod Finding
-pub mod Items
 pub mod Changes
-pub mod Touching
-pub mod Searching
 pub mod Renewing
-pub mod Candidates
-pub mod Laying
-pub mod Showing
-pub mod Origins
-pub mod Yielding

@@ -7,11 +7,11 @@ ghost use Rattle.olr_spec.specs.Queries.{CoverageQuery as QueryRecord, AreKnown,
 ghost use Rattle.olr_answers.specs.Answers.{answer_of};
 ghost use Rattle.olr_refs.specs.Choice.{raised_count};
 ghost use Rattle.olr_commands.specs.Reply.{published_text};
-ghost use Rattle.olr_paths.specs.Items.{IsEncodingOf, made_of};
+ghost use Rattle.olr_list.specs.Items.{IsEncodingOf, made_of};
 ghost use Rattle.olr_paths.specs.Changes.{AreCounts, AreSearched};
 
-use crate::published::Published;
 use olr_binary::text::to_text;
+use olr_list::Published;
 use olr_refs::{Answer, Encoding, KnownQuery, Path, encode_again};
 use olr_roads::MapRead;
 use olr_search::{Dijkstra, Work};
@@ -65,11 +65,5 @@ pub fn publish<M: MapRead>(
         known,
     } = encode_again(alloc, map, path, known, search, work)?;
     let text = text_of(alloc, &answer)?;
-    Ok(Published {
-        answer,
-        text,
-        traversed,
-        queries,
-        known,
-    })
+    Ok(Published::new(answer, text, traversed, queries, known))
 }

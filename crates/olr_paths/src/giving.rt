@@ -8,16 +8,15 @@ ghost use Rattle.olr_commands.specs.Counts.{SearchedFor};
 ghost use Rattle.olr_commands.specs.Reply.{entry};
 ghost use Rattle.olr_commands.specs.Words.{entry_of};
 ghost use Rattle.olr_spec.specs.Queries.{CoverageQuery as QueryRecord};
-ghost use Rattle.olr_paths.specs.Items.{Made, IsEncodingOf, items, made_of, all_named, answer_in};
-ghost use Rattle.olr_paths.specs.Changes.{AreSearched, Rises, set_item};
-ghost use Rattle.olr_paths.specs.Origins.{Begins, new_origins_in};
+ghost use Rattle.olr_list.specs.Items.{Made, IsEncodingOf, items, made_of, all_named, answer_in};
+ghost use Rattle.olr_list.specs.Changes.{set_item};
+ghost use Rattle.olr_paths.specs.Changes.{AreSearched, Rises};
+ghost use Rattle.olr_list.specs.Origins.{Begins, new_origins_in};
 
 use crate::encoding::{have_64_bits, publish};
-use crate::path_list::{NamedPath, PathList};
-use crate::published::Published;
 use crate::renewal::push_if_changed;
-use crate::searches::Searches;
 use olr_commands::Entry;
+use olr_list::{NamedPath, PathList, Published, Searches};
 use olr_refs::Path;
 use olr_roads::MapRead;
 use olr_search::Work;
@@ -43,7 +42,7 @@ fn encode_alone<M: MapRead>(
     let published = publish(alloc, map, &path, &[], &mut searches.query, work)?;
     let shared = Rc::new(alloc, published)?;
     searches.new_origins.clear();
-    searches.new_origins.extend_from_slice(&shared.queries)?;
+    searches.new_origins.extend_from_slice(shared.queries())?;
     let path = Rc::new(alloc, path)?;
     Ok((path, shared))
 }
@@ -57,78 +56,76 @@ fn only_entry(alloc: Global, name: &str, published: &Published) -> Result<Vec<En
     Ok(entries)
 }
 
-impl PathList {
-    /// Encodes a path and appends it. The reply names it. If an allocation fails, list and work are unchanged.
-    pub fn add<M: MapRead>(
-        &mut self,
-        alloc: Global,
-        map: &M,
-        name: String,
-        path: Path,
-        searches: &mut Searches,
-        work: &mut Work,
-    ) -> Result<Vec<Entry>, AllocError>
-        requires { is_some (path_named (all_named (items self.old)) (string_bytes name)) ≡ false }
-        ensures added { IfOk result (λ es. (m : Made) × IsEncodingOf (M.map map.now) path m
-            × (items self.new ≡ items self.old ++ record { name = string_bytes name; path = path; made = Some m } ∷ [])
-            × (list_map entry_of es.items ≡ entry (string_bytes name) m.answer ∷ [])) }
-        ensures counted { OnOk result (work.new.encodings ≡ raised_count work.old.encodings 1) }
-        ensures searched { OnOk result ((queries : List QueryRecord) × SearchedFor (M.map map.now) path queries
-            × AreSearched (M.map map.now) queries work.old work.new) }
-        ensures rises { OnOk result (Rises work.old work.new) }
-        ensures new_origins { OnOk result ((v : QueryRecord) → Begins (items self.new) v
-            → Begins (items self.old) v ⊎ Contains (new_origins_in searches.new) v) }
-        ensures err { OnErr result (items self.new ≡ items self.old) }
-        ensures err_work { OnErr result (work.new ≡ work.old) }
-    {
-        let mut tried = *work;
-        let (path, published) = encode_alone(alloc, map, path, searches, &mut tried)?;
-        let entries = only_entry(alloc, name.as_str(), &published)?;
-        let named = NamedPath {
-            path,
-            published: Some(published),
-        };
-        self.put_last(name, named)?;
-        *work = tried;
-        Ok(entries)
-    }
+/// Encodes a path and appends it. The reply names it. If an allocation fails, list and work are unchanged.
+pub fn add<M: MapRead>(
+    list: &mut PathList,
+    alloc: Global,
+    map: &M,
+    name: String,
+    path: Path,
+    searches: &mut Searches,
+    work: &mut Work,
+) -> Result<Vec<Entry>, AllocError>
+    requires { is_some (path_named (all_named (items list.old)) (string_bytes name)) ≡ false }
+    ensures added { IfOk result (λ es. (m : Made) × IsEncodingOf (M.map map.now) path m
+        × (items list.new ≡ items list.old ++ record { name = string_bytes name; path = path; made = Some m } ∷ [])
+        × (list_map entry_of es.items ≡ entry (string_bytes name) m.answer ∷ [])) }
+    ensures counted { OnOk result (work.new.encodings ≡ raised_count work.old.encodings 1) }
+    ensures searched { OnOk result ((queries : List QueryRecord) × SearchedFor (M.map map.now) path queries
+        × AreSearched (M.map map.now) queries work.old work.new) }
+    ensures rises { OnOk result (Rises work.old work.new) }
+    ensures new_origins { OnOk result ((v : QueryRecord) → Begins (items list.new) v
+        → Begins (items list.old) v ⊎ Contains (new_origins_in searches.new) v) }
+    ensures err { OnErr result (items list.new ≡ items list.old) }
+    ensures err_work { OnErr result (work.new ≡ work.old) }
+{
+    let mut tried = *work;
+    let (path, published) = encode_alone(alloc, map, path, searches, &mut tried)?;
+    let entries = only_entry(alloc, name.as_str(), &published)?;
+    let named = NamedPath {
+        path,
+        published: Some(published),
+    };
+    list.put_last(name, named)?;
+    *work = tried;
+    Ok(entries)
+}
 
-    /// Encodes another path for a name. It keeps its position, and the reply names it if its answer is another than
-    /// before. If an allocation fails, list and work are unchanged.
-    pub fn set<M: MapRead>(
-        &mut self,
-        alloc: Global,
-        map: &M,
-        name: &str,
-        path: Path,
-        searches: &mut Searches,
-        work: &mut Work,
-    ) -> Result<Vec<Entry>, AllocError>
-        requires { (A : Answer) × (answer_in (items self.old) name.now ≡ Some A) }
-        ensures set { IfOk result (λ es. (m : Made) × IsEncodingOf (M.map map.now) path m
-            × (items self.new ≡ list_map (set_item name.now path (Some m)) (items self.old))
-            × (((answer_in (items self.old) name.now ≡ Some m.answer) × (list_map entry_of es.items ≡ []))
-            ⊎ ((answer_in (items self.old) name.now ≢ Some m.answer)
-            × (list_map entry_of es.items ≡ entry name.now m.answer ∷ [])))) }
-        ensures counted { OnOk result (work.new.encodings ≡ raised_count work.old.encodings 1) }
-        ensures searched { OnOk result ((queries : List QueryRecord) × SearchedFor (M.map map.now) path queries
-            × AreSearched (M.map map.now) queries work.old work.new) }
-        ensures rises { OnOk result (Rises work.old work.new) }
-        ensures new_origins { OnOk result ((v : QueryRecord) → Begins (items self.new) v
-            → Begins (items self.old) v ⊎ Contains (new_origins_in searches.new) v) }
-        ensures err { OnErr result (items self.new ≡ items self.old) }
-        ensures err_work { OnErr result (work.new ≡ work.old) }
-    {
-        let mut tried = *work;
-        let (path, published) = encode_alone(alloc, map, path, searches, &mut tried)?;
-        let mut entries = Vec::new(alloc);
-        push_if_changed(alloc, self, name, &published, &mut entries)?;
-        let named = NamedPath {
-            path,
-            published: Some(published),
-        };
-        self.put_other(name, named)?;
-        *work = tried;
-        Ok(entries)
-    }
+/// Encodes another path for a name. It keeps its position, and the reply names it if its answer is another than
+/// before. If an allocation fails, list and work are unchanged.
+pub fn set<M: MapRead>(
+    list: &mut PathList,
+    alloc: Global,
+    map: &M,
+    name: &str,
+    path: Path,
+    searches: &mut Searches,
+    work: &mut Work,
+) -> Result<Vec<Entry>, AllocError>
+    requires { (A : Answer) × (answer_in (items list.old) name.now ≡ Some A) }
+    ensures set { IfOk result (λ es. (m : Made) × IsEncodingOf (M.map map.now) path m
+        × (items list.new ≡ list_map (set_item name.now path (Some m)) (items list.old))
+        × (((answer_in (items list.old) name.now ≡ Some m.answer) × (list_map entry_of es.items ≡ []))
+        ⊎ ((answer_in (items list.old) name.now ≢ Some m.answer)
+        × (list_map entry_of es.items ≡ entry name.now m.answer ∷ [])))) }
+    ensures counted { OnOk result (work.new.encodings ≡ raised_count work.old.encodings 1) }
+    ensures searched { OnOk result ((queries : List QueryRecord) × SearchedFor (M.map map.now) path queries
+        × AreSearched (M.map map.now) queries work.old work.new) }
+    ensures rises { OnOk result (Rises work.old work.new) }
+    ensures new_origins { OnOk result ((v : QueryRecord) → Begins (items list.new) v
+        → Begins (items list.old) v ⊎ Contains (new_origins_in searches.new) v) }
+    ensures err { OnErr result (items list.new ≡ items list.old) }
+    ensures err_work { OnErr result (work.new ≡ work.old) }
+{
+    let mut tried = *work;
+    let (path, published) = encode_alone(alloc, map, path, searches, &mut tried)?;
+    let mut entries = Vec::new(alloc);
+    push_if_changed(alloc, list, name, &published, &mut entries)?;
+    let named = NamedPath {
+        path,
+        published: Some(published),
+    };
+    list.put_other(name, named)?;
+    *work = tried;
+    Ok(entries)
 }

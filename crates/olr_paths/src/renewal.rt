@@ -6,30 +6,25 @@ ghost use Rattle.olr_commands.specs.Words.{entry_of};
 ghost use Rattle.std.specs.Prelude.{List};
 ghost use Rattle.olr_spec.specs.Detours.{ChangedLine};
 ghost use Rattle.olr_spec.specs.Queries.{CoverageQuery as QueryRecord, AreKnown};
-ghost use Rattle.olr_paths.specs.Items.{Item, made_of, items, answer_in, all_named};
-ghost use Rattle.olr_paths.specs.Changes.{AreCounted, Rises, Follows};
-ghost use Rattle.olr_paths.specs.Showing.{shown_items, shown_item};
-ghost use Rattle.olr_paths.specs.Touching.{nodes_of, lines_of, changed_of};
-ghost use Rattle.olr_paths.specs.Searching.{AreDetours, AreAsked};
+ghost use Rattle.olr_list.specs.Items.{Item, made_of, items, answer_in};
+ghost use Rattle.olr_list.specs.Showing.{shown_items, shown_item};
+ghost use Rattle.olr_list.specs.Touching.{nodes_of, lines_of, changed_of};
+ghost use Rattle.olr_list.specs.Searching.{AreDetours, AreAsked};
 ghost use Rattle.olr_commands.specs.Counts.{most_changed};
-ghost use Rattle.olr_paths.specs.Candidates.{Covers};
+ghost use Rattle.olr_list.specs.Candidates.{Covers};
 ghost use Rattle.std.specs.List.Sorted.{IsNonDecreasing};
-ghost use Rattle.olr_paths.specs.Origins.{BeginsPut, AreBoundsOf, new_origins_in};
-ghost use Rattle.olr_paths.specs.Renewing.{made_at, after_renewal, ReportsIfOther, IsActionFor, IsEncode, Gives, IsStep};
-ghost use Rattle.olr_paths.specs.Renewing.{spared_one, WasBefore, IsRenewal};
+ghost use Rattle.olr_list.specs.Origins.{BeginsPut, AreBoundsOf, new_origins_in};
+ghost use Rattle.olr_list.specs.Actions.{IsActionFor, IsEncode};
+ghost use Rattle.olr_paths.specs.Changes.{AreCounted, Rises, Follows};
+ghost use Rattle.olr_paths.specs.Renewing.{made_at, after_renewal, ReportsIfOther, Gives, IsStep, spared_one};
+ghost use Rattle.olr_paths.specs.Renewing.{WasBefore, IsRenewal};
 
-use crate::actions::{Action, decide};
-use crate::asking::ask;
-use crate::begins::note_fresh;
-use crate::change_set::ChangeSet;
-use crate::detours::{Detours, clear_known};
 use crate::encoding::{have_64_bits, publish};
-use crate::overlaid_list::OverlaidList;
-use crate::path_list::{NamedPath, PathList};
-use crate::published::Published;
-use crate::searches::Searches;
-use crate::showing::PathView;
 use olr_commands::Entry;
+use olr_list::{
+    Action, ChangeSet, Detours, NamedPath, OverlaidList, PathList, PathView, Published, Searches,
+    ask, clear_known, decide, note_fresh,
+};
 use olr_near::DistanceBounds;
 use olr_refs::KnownQuery;
 use olr_roads::MapRead;
@@ -154,7 +149,7 @@ fn known_for<M: MapRead>(
 {
     match (action, shown.published) {
         (Action::Encode, Some(published)) => {
-            clear_known(alloc, map, touched, detours, &published.known)
+            clear_known(alloc, map, touched, detours, published.known())
         }
         _ => Ok(Vec::new(alloc)),
     }

@@ -5,154 +5,145 @@ ghost use Rattle.olr_spec.specs.Map.{Map};
 ghost use Rattle.olr_commands.specs.State.{NamesDiffer};
 ghost use Rattle.olr_commands.specs.Words.{entry_of};
 ghost use Rattle.olr_spec.specs.Queries.{CoverageQuery as QueryRecord};
-ghost use Rattle.olr_paths.specs.Items.{items, all_named};
+ghost use Rattle.olr_list.specs.Items.{items, all_named};
+ghost use Rattle.olr_list.specs.Laying.{TakesNone, overlay_changes, under_overlay};
+ghost use Rattle.olr_list.specs.Origins.{Begins, AreBoundsOf, new_origins_in};
 ghost use Rattle.olr_paths.specs.Changes.{Rises, Follows};
-ghost use Rattle.olr_paths.specs.Laying.{TakesNone, overlay_changes, under_overlay};
-ghost use Rattle.olr_paths.specs.Origins.{Begins, AreBoundsOf, new_origins_in};
 ghost use Rattle.olr_paths.specs.Renewing.{items_before, WasBefore, IsRenewal};
 
-use crate::change_set::ChangeSet;
-use crate::overlaid_list::OverlaidList;
-use crate::overlay::Overlay;
-use crate::path_list::PathList;
-use crate::positions::put_in;
 use crate::renewal::{Counted, Renewal, renewal_of};
-use crate::searches::Searches;
 use olr_commands::Entry;
+use olr_list::{ChangeSet, OverlaidList, Overlay, PathList, Searches, put_in};
 use olr_near::DistanceBounds;
 use olr_roads::MapRead;
 use olr_search::Work;
 use std::alloc::{AllocError, Global};
 use std::mem;
 
-impl PathList {
-    /// `renew_over` for changes that remove no path. The replaced and new paths are stored in place, at a cost that
-    /// depends only on the changes. The reported paths are those whose answer is not the earlier one of their name, in
-    /// `before` if it is given.
-    fn renew_overlaid<M: MapRead>(
-        &mut self,
-        alloc: Global,
-        map: &M,
-        before: Option<&PathList>,
-        overlay: &Overlay,
-        touched: &ChangeSet,
-        bounds: &DistanceBounds,
-        searches: &mut Searches,
-        work: &mut Work,
-        kept: &mut u64,
-    ) -> Result<Vec<Entry>, AllocError>
-        requires keeps { TakesNone (overlay_changes overlay.now) }
-        requires names { NamesDiffer (all_named (under_overlay (items self.old) overlay.now)) }
-        requires follows { Follows (items_before before self.old) (under_overlay (items self.old) overlay.now) }
-        requires bounds { AreBoundsOf (M.map map.now) bounds.now (under_overlay (items self.old) overlay.now) }
-        requires before { (L : Map) × WasBefore L (M.map map.now) touched.now
-            (under_overlay (items self.old) overlay.now) }
-        ensures renewed { IfOk result (λ es. IsRenewal (M.map map.now) touched.now (items_before before.entry self.old)
-            (under_overlay (items self.old) overlay.now) (items self.new) (list_map entry_of es.items) work.old work.new
-            kept.old kept.new) }
-        ensures rises { OnOk result (Rises work.old work.new) }
-        ensures kept { OnOk result (kept.old ≤ kept.new) }
-        ensures new_origins { OnOk result ((v : QueryRecord) → Begins (items self.new) v
-            → Begins (under_overlay (items self.old) overlay.now) v ⊎ Contains (new_origins_in searches.new) v) }
-        ensures err { OnErr result (items self.new ≡ items self.old) }
-        ensures err_work { OnErr result (work.new ≡ work.old) }
-        ensures err_kept { OnErr result (kept.new ≡ kept.old) }
-    {
-        let mut counted = Counted {
-            work: *work,
-            kept: *kept,
-        };
-        let overlaid = OverlaidList {
-            list: self,
-            overlay,
-        };
-        let Renewal { fresh, entries } = renewal_of(
-            alloc,
-            map,
-            overlaid,
-            before.unwrap_or(self),
-            touched,
-            bounds,
-            searches,
-            &mut counted,
+/// `renew_over` for changes that remove no path. The replaced and new paths are stored in place, at a cost that
+/// depends only on the changes. The reported paths are those whose answer is not the earlier one of their name, in
+/// `before` if it is given.
+fn renew_overlaid<M: MapRead>(
+    list: &mut PathList,
+    alloc: Global,
+    map: &M,
+    before: Option<&PathList>,
+    overlay: &Overlay,
+    touched: &ChangeSet,
+    bounds: &DistanceBounds,
+    searches: &mut Searches,
+    work: &mut Work,
+    kept: &mut u64,
+) -> Result<Vec<Entry>, AllocError>
+    requires keeps { TakesNone (overlay_changes overlay.now) }
+    requires names { NamesDiffer (all_named (under_overlay (items list.old) overlay.now)) }
+    requires follows { Follows (items_before before list.old) (under_overlay (items list.old) overlay.now) }
+    requires bounds { AreBoundsOf (M.map map.now) bounds.now (under_overlay (items list.old) overlay.now) }
+    requires before { (L : Map) × WasBefore L (M.map map.now) touched.now
+        (under_overlay (items list.old) overlay.now) }
+    ensures renewed { IfOk result (λ es. IsRenewal (M.map map.now) touched.now (items_before before.entry list.old)
+        (under_overlay (items list.old) overlay.now) (items list.new) (list_map entry_of es.items) work.old work.new
+        kept.old kept.new) }
+    ensures rises { OnOk result (Rises work.old work.new) }
+    ensures kept { OnOk result (kept.old ≤ kept.new) }
+    ensures new_origins { OnOk result ((v : QueryRecord) → Begins (items list.new) v
+        → Begins (under_overlay (items list.old) overlay.now) v ⊎ Contains (new_origins_in searches.new) v) }
+    ensures err { OnErr result (items list.new ≡ items list.old) }
+    ensures err_work { OnErr result (work.new ≡ work.old) }
+    ensures err_kept { OnErr result (kept.new ≡ kept.old) }
+{
+    let mut counted = Counted {
+        work: *work,
+        kept: *kept,
+    };
+    let overlaid = OverlaidList { list, overlay };
+    let Renewal { fresh, entries } = renewal_of(
+        alloc,
+        map,
+        overlaid,
+        before.unwrap_or(list),
+        touched,
+        bounds,
+        searches,
+        &mut counted,
+    )?;
+    put_in(alloc, list, overlay, fresh)?;
+    list.note_encoded();
+    *work = counted.work;
+    *kept = counted.kept;
+    Ok(entries)
+}
+
+/// Makes the changes of the list, encodes on a map the paths that are new or replaced and those whose answer changes
+/// of it can have changed, and returns those whose answer is not the earlier one of their name. Each affected path is
+/// counted as an encoding; `kept` counts those of them that retained their answer, and `work` the coverage queries of
+/// the others that are not known from the map before. On that map, from which the changes of the map led, the results
+/// in the list are right. The bounds are distance bounds that are right on the map, for all coverage queries of the
+/// list: they cut the search from touched nodes. If no path is removed, the changes are made in place, at the cost of
+/// the changes and of the affected paths; otherwise the list is replaced by the list under changes, at the cost of
+/// all paths. If an allocation fails, list and counts are unchanged.
+pub fn renew_over<M: MapRead>(
+    list: &mut PathList,
+    alloc: Global,
+    map: &M,
+    overlay: &Overlay,
+    touched: &ChangeSet,
+    bounds: &DistanceBounds,
+    searches: &mut Searches,
+    work: &mut Work,
+    kept: &mut u64,
+) -> Result<Vec<Entry>, AllocError>
+    requires names { NamesDiffer (all_named (under_overlay (items list.old) overlay.now)) }
+    requires follows { Follows (items list.old) (under_overlay (items list.old) overlay.now) }
+    requires bounds { AreBoundsOf (M.map map.now) bounds.now (under_overlay (items list.old) overlay.now) }
+    requires before { (L : Map) × WasBefore L (M.map map.now) touched.now
+        (under_overlay (items list.old) overlay.now) }
+    ensures renewed { IfOk result (λ es. IsRenewal (M.map map.now) touched.now (items list.old)
+        (under_overlay (items list.old) overlay.now) (items list.new) (list_map entry_of es.items) work.old work.new
+        kept.old kept.new) }
+    ensures rises { OnOk result (Rises work.old work.new) }
+    ensures kept { OnOk result (kept.old ≤ kept.new) }
+    ensures new_origins { OnOk result ((v : QueryRecord) → Begins (items list.new) v
+        → Begins (under_overlay (items list.old) overlay.now) v ⊎ Contains (new_origins_in searches.new) v) }
+    ensures err { OnErr result (items list.new ≡ items list.old) }
+    ensures err_work { OnErr result (work.new ≡ work.old) }
+    ensures err_kept { OnErr result (kept.new ≡ kept.old) }
+{
+    if !overlay.takes_some() {
+        let entries = renew_overlaid(
+            list, alloc, map, None, overlay, touched, bounds, searches, work, kept,
         )?;
-        put_in(alloc, self, overlay, fresh)?;
-        self.held = false;
-        *work = counted.work;
-        *kept = counted.kept;
-        Ok(entries)
+        list.index(alloc);
+        return Ok(entries);
     }
+    let mut overlaid = overlay.overlaid_copy(alloc, list)?;
+    let none = Overlay::new(alloc);
+    let renewed = renew_overlaid(
+        &mut overlaid,
+        alloc,
+        map,
+        Some(&*list),
+        &none,
+        touched,
+        bounds,
+        searches,
+        work,
+        kept,
+    );
+    drop(none);
+    if renewed.is_ok() {
+        replace_by(list, alloc, overlaid);
+    } else {
+        drop(overlaid);
+    }
+    renewed
+}
 
-    /// Makes the changes of the list, encodes on a map the paths that are new or replaced and those whose answer changes
-    /// of it can have changed, and returns those whose answer is not the earlier one of their name. Each affected path is
-    /// counted as an encoding; `kept` counts those of them that retained their answer, and `work` the coverage queries of
-    /// the others that are not known from the map before. On that map, from which the changes of the map led, the results
-    /// in the list are right. The bounds are distance bounds that are right on the map, for all coverage queries of the
-    /// list: they cut the search from touched nodes. If no path is removed, the changes are made in place, at the cost of
-    /// the changes and of the affected paths; otherwise the list is replaced by the list under changes, at the cost of
-    /// all paths. If an allocation fails, list and counts are unchanged.
-    pub fn renew_over<M: MapRead>(
-        &mut self,
-        alloc: Global,
-        map: &M,
-        overlay: &Overlay,
-        touched: &ChangeSet,
-        bounds: &DistanceBounds,
-        searches: &mut Searches,
-        work: &mut Work,
-        kept: &mut u64,
-    ) -> Result<Vec<Entry>, AllocError>
-        requires names { NamesDiffer (all_named (under_overlay (items self.old) overlay.now)) }
-        requires follows { Follows (items self.old) (under_overlay (items self.old) overlay.now) }
-        requires bounds { AreBoundsOf (M.map map.now) bounds.now (under_overlay (items self.old) overlay.now) }
-        requires before { (L : Map) × WasBefore L (M.map map.now) touched.now
-            (under_overlay (items self.old) overlay.now) }
-        ensures renewed { IfOk result (λ es. IsRenewal (M.map map.now) touched.now (items self.old)
-            (under_overlay (items self.old) overlay.now) (items self.new) (list_map entry_of es.items) work.old work.new
-            kept.old kept.new) }
-        ensures rises { OnOk result (Rises work.old work.new) }
-        ensures kept { OnOk result (kept.old ≤ kept.new) }
-        ensures new_origins { OnOk result ((v : QueryRecord) → Begins (items self.new) v
-            → Begins (under_overlay (items self.old) overlay.now) v ⊎ Contains (new_origins_in searches.new) v) }
-        ensures err { OnErr result (items self.new ≡ items self.old) }
-        ensures err_work { OnErr result (work.new ≡ work.old) }
-        ensures err_kept { OnErr result (kept.new ≡ kept.old) }
-    {
-        if !overlay.takes_some() {
-            let entries = self.renew_overlaid(
-                alloc, map, None, overlay, touched, bounds, searches, work, kept,
-            )?;
-            self.index(alloc);
-            return Ok(entries);
-        }
-        let mut list = overlay.overlaid_copy(alloc, self)?;
-        let none = Overlay::new(alloc);
-        let renewed = list.renew_overlaid(
-            alloc,
-            map,
-            Some(&*self),
-            &none,
-            touched,
-            bounds,
-            searches,
-            work,
-            kept,
-        );
-        drop(none);
-        if renewed.is_ok() {
-            self.replace_by(alloc, list);
-        } else {
-            drop(list);
-        }
-        renewed
-    }
-
-    /// Replaces the list by another, and adds the index entries of its paths.
-    #[inline(never)]
-    fn replace_by(&mut self, alloc: Global, list: PathList)
-        ensures { items self.new ≡ items list }
-    {
-        drop(mem::replace(self, list));
-        self.index(alloc);
-    }
+/// Replaces the list by another, and adds the index entries of its paths.
+#[inline(never)]
+fn replace_by(list: &mut PathList, alloc: Global, other: PathList)
+    ensures { items list.new ≡ items other }
+{
+    drop(mem::replace(list, other));
+    list.index(alloc);
 }

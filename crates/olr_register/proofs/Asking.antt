@@ -5,7 +5,7 @@ use Rattle.olr_register.proofs.Common.{result_ok, ne_eqb, length-map, Map, Answe
 use Rattle.olr_register.proofs.Common.{path_named, published_text, Made, Item, IsEncodingOf, AreEncodings, named_of}
 use Rattle.olr_register.proofs.Common.{all_named, made_in, answer_in, content_on, is_some}
 use Rattle.olr_commands.specs.Reply.{Published, PublishedText}
-use Rattle.olr_paths.specs.Changes.{AreEncoded}
+use Rattle.olr_list.specs.Changes.{AreEncoded}
 use Rattle.olr_register.specs.Registered.{HaveEncodings}
 use Rattle.olr_register.proofs.Replies.{made_found}
 

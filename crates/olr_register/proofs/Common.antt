@@ -19,6 +19,15 @@ pub use Rattle.olr_commands.specs.declared.fault.CommandFault.{CommandFault}
 pub use Rattle.olr_commands.specs.declared.fault.CommandFault.TheVariants.{Memory as No_memory}
 pub use Rattle.olr_commands.specs.declared.reply.Entry.{Entry}
 pub use Rattle.olr_commands.specs.declared.reply.Reply.{Reply}
+pub use Rattle.olr_list.proofs.OriginLemmas.{begins_drop}
+pub use Rattle.olr_list.proofs.Overlaying.{has_name}
+pub use Rattle.olr_list.specs.Changes.{Reported, set_item}
+pub use Rattle.olr_list.specs.Items.{AreEncodings, AreEncodingsIfAny, IsEncodingOf, Item, Made, all_named, answer_in}
+pub use Rattle.olr_list.specs.Items.{items, made_in, named_of}
+pub use Rattle.olr_list.specs.Laying.{under_overlay}
+pub use Rattle.olr_list.specs.Origins.{Begins}
+pub use Rattle.olr_list.specs.Touching.{changed_of, lines_of, nodes_of}
+pub use Rattle.olr_list.specs.declared.change_set.ChangeSet.{ChangeSet}
 pub use Rattle.olr_roads.specs.Edits.{edit_of}
 pub use Rattle.olr_map.specs.RoadMaps.{map_before, map_of}
 pub use Rattle.olr_map.specs.declared.judging.EditPlan.{EditPlan}
@@ -26,16 +35,8 @@ pub use Rattle.olr_map.specs.declared.road_map.RoadMap.{RoadMap}
 pub use Rattle.olr_near.specs.Bounds.{IsSource}
 pub use Rattle.olr_near.specs.declared.distance_bounds.DistanceBounds.{DistanceBounds}
 pub use Rattle.olr_paths.proofs.Following.{follows_self}
-pub use Rattle.olr_paths.proofs.OriginLemmas.{begins_drop}
-pub use Rattle.olr_paths.proofs.Overlaying.{has_name}
-pub use Rattle.olr_paths.specs.Changes.{AreCounted, AreSearched, Follows, Reported, Rises, Totals, set_item}
-pub use Rattle.olr_paths.specs.Items.{AreEncodings, AreEncodingsIfAny, IsEncodingOf, Item, Made, all_named, answer_in}
-pub use Rattle.olr_paths.specs.Items.{items, made_in, named_of}
-pub use Rattle.olr_paths.specs.Laying.{under_overlay}
-pub use Rattle.olr_paths.specs.Origins.{Begins}
+pub use Rattle.olr_paths.specs.Changes.{AreCounted, AreSearched, Follows, Rises, Totals}
 pub use Rattle.olr_paths.specs.Renewing.{IsRenewal}
-pub use Rattle.olr_paths.specs.Touching.{changed_of, lines_of, nodes_of}
-pub use Rattle.olr_paths.specs.declared.change_set.ChangeSet.{ChangeSet}
 pub use Rattle.olr_register.specs.Answering.{Answered}
 pub use Rattle.olr_register.specs.Dumping.{is_recordable_line_at, is_recordable_node_at}
 pub use Rattle.olr_register.specs.Holding.{AreEditsNoted, CanRenew, HasBounds, IsHeld, IsKeptRight, batch_of}

@@ -9,7 +9,7 @@ use Rattle.olr_register.proofs.Common.{lines_of, changed_of, ChangeSet, content_
 use Rattle.olr_register.proofs.Common.{held_of, IsHeld, AreGiven, MayReport, Batch, Result, IsErrAnd, append-nil}
 use Rattle.olr_map.specs.RoadMaps.{CanUndoAll}
 use Rattle.olr_map.specs.declared.undo.UndoLog.{UndoLog}
-use Rattle.olr_paths.specs.declared.overlay.Overlay.{Overlay}
+use Rattle.olr_list.specs.declared.overlay.Overlay.{Overlay}
 use Rattle.olr_register.specs.Holding.{IsHeldAs}
 use Rattle.olr_register.specs.HoldsChange.{IsMade, Makes}
 use Rattle.olr_register.proofs.Noted.{noted_more}

@@ -15,12 +15,12 @@ use Rattle.olr_map.specs.declared.road_map.RoadMap.{RoadMap}
 use Rattle.olr_map.specs.declared.undo.UndoLog.{UndoLog}
 use Rattle.olr_near.specs.declared.distance_bounds.DistanceBounds.{DistanceBounds}
 use Rattle.olr_commands.specs.State.{Content, IsContent, NamesDiffer, full}
-use Rattle.olr_paths.specs.Items.{Item, AreEncodings, AreEncodingsIfAny, all_named}
+use Rattle.olr_list.specs.Items.{Item, AreEncodings, AreEncodingsIfAny, all_named}
 use Rattle.olr_paths.specs.Changes.{Follows, IsBefore}
-use Rattle.olr_paths.specs.Origins.{Begins, AreBoundsOf}
-use Rattle.olr_paths.specs.Laying.{under_overlay}
-use Rattle.olr_paths.specs.Touching.{nodes_of, lines_of, changed_of}
-use Rattle.olr_paths.specs.declared.change_set.ChangeSet.{ChangeSet}
+use Rattle.olr_list.specs.Origins.{Begins, AreBoundsOf}
+use Rattle.olr_list.specs.Laying.{under_overlay}
+use Rattle.olr_list.specs.Touching.{nodes_of, lines_of, changed_of}
+use Rattle.olr_list.specs.declared.change_set.ChangeSet.{ChangeSet}
 use Rattle.olr_register.specs.RegisterState as kept
 use Rattle.olr_register.specs.declared.batch.Batch.{Batch}
 

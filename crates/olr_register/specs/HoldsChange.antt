@@ -21,10 +21,10 @@ use Rattle.olr_commands.specs.Counts.{nodes_of_change, lines_of_change, changed_
 use Rattle.olr_commands.specs.Words.{command_fault_of, reply_of, path_along}
 use Rattle.olr_commands.specs.declared.reply.Reply.{Reply}
 use Rattle.olr_commands.specs.declared.fault.CommandFault.{CommandFault}
-use Rattle.olr_paths.specs.Items.{Item}
-use Rattle.olr_paths.specs.Laying.{under_overlay}
-use Rattle.olr_paths.specs.Touching.{nodes_of, lines_of, changed_of}
-use Rattle.olr_paths.specs.declared.change_set.ChangeSet.{ChangeSet}
+use Rattle.olr_list.specs.Items.{Item}
+use Rattle.olr_list.specs.Laying.{under_overlay}
+use Rattle.olr_list.specs.Touching.{nodes_of, lines_of, changed_of}
+use Rattle.olr_list.specs.declared.change_set.ChangeSet.{ChangeSet}
 use Rattle.olr_register.specs.RegisterState.{Held}
 use Rattle.olr_register.specs.Holding.{held_of, content_on, content_under, batch_of, IsHeld}
 use Rattle.olr_register.specs.declared.batch.Batch.{Batch}

@@ -3,8 +3,8 @@
 use Rattle.std.specs.Prelude.{◌≡◌, ℕ}
 use Rattle.olr_spec.specs.Map.{Map, Edit, touched_nodes, touched_lines, has}
 use Rattle.olr_spec.specs.Detours.{changes_of}
-use Rattle.olr_paths.specs.Touching.{nodes_of, lines_of, changed_of}
-use Rattle.olr_paths.specs.declared.change_set.ChangeSet.{ChangeSet}
+use Rattle.olr_list.specs.Touching.{nodes_of, lines_of, changed_of}
+use Rattle.olr_list.specs.declared.change_set.ChangeSet.{ChangeSet}
 
 pub record IsNotedOf (M : Map) (e : Edit) (t : ChangeSet) : Type 0 where
   pub nodes : (v : ℕ) → has (nodes_of t) v ≡ has (touched_nodes M e) v

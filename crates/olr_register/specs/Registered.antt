@@ -16,7 +16,7 @@ use Rattle.olr_refs.specs.Choice.{raised_count}
 use Rattle.olr_commands.specs.State.{State, Content, Named, no_content, path_named, Command}
 use Rattle.olr_commands.specs.Reply.{Outcome, IsOutcome}
 use Rattle.olr_commands.specs.Counts.{Raises}
-use Rattle.olr_paths.specs.Items.{Made, IsEncodingOf}
+use Rattle.olr_list.specs.Items.{Made, IsEncodingOf}
 use Rattle.olr_register.specs.RegisterState.{RegisterState, Represents, coded_kept}
 
 pub record Registered : Type 0 where

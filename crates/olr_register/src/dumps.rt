@@ -9,7 +9,7 @@ ghost use Rattle.olr_commands.specs.State.{Named, is_recordable};
 ghost use Rattle.olr_commands.specs.Recordable as recordable;
 ghost use Rattle.olr_commands.specs.RecordText.{record_line};
 ghost use Rattle.olr_commands.specs.Dump.{node_change, line_change, path_change, dump_lines};
-ghost use Rattle.olr_paths.specs.Items.{items, all_named};
+ghost use Rattle.olr_list.specs.Items.{items, all_named};
 ghost use Rattle.olr_register.specs.Dumping as numbered;
 
 use crate::register::Register;

@@ -5,7 +5,7 @@ ghost use Rattle.olr_spec.specs.Map.{edited};
 ghost use Rattle.olr_roads.specs.Edits.{edit_of, allocates};
 ghost use Rattle.olr_map.specs.RoadMaps.{map_of, slot_of, CanUndo, map_undone};
 ghost use Rattle.olr_map.specs.EditPlans.{IsEditPlan, planned_changes};
-ghost use Rattle.olr_paths.specs.Touching.{change_of};
+ghost use Rattle.olr_list.specs.Touching.{change_of};
 ghost use Rattle.olr_register.specs.Noting.{IsNotedOf};
 
 use crate::nearing::renew;

@@ -4,7 +4,7 @@ ghost use Rattle.std.specs.Prelude.{option_map};
 ghost use Rattle.std.specs.Result.{IfOk, IfErr};
 ghost use Rattle.olr_spec.specs.Footprint.{Foot};
 ghost use Rattle.olr_commands.specs.State.{path_named};
-ghost use Rattle.olr_paths.specs.Items.{made_of};
+ghost use Rattle.olr_list.specs.Items.{made_of};
 
 use crate::register::Register;
 use olr_commands::CommandFault;

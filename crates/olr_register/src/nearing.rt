@@ -5,18 +5,18 @@ ghost use Rattle.olr_spec.specs.Queries.{CoverageQuery as QueryRecord};
 ghost use Rattle.olr_map.specs.RoadMaps.{map_of};
 ghost use Rattle.olr_near.specs.Bounds.{IsRight, IsSource, SameBut};
 ghost use Rattle.olr_commands.specs.Words.{entry_of};
-ghost use Rattle.olr_paths.specs.Items.{Item, items};
+ghost use Rattle.olr_list.specs.Items.{Item, items};
 ghost use Rattle.olr_paths.specs.Changes.{Rises};
-ghost use Rattle.olr_paths.specs.Laying.{under_overlay};
-ghost use Rattle.olr_paths.specs.Origins.{Begins, new_origins_in};
+ghost use Rattle.olr_list.specs.Laying.{under_overlay};
+ghost use Rattle.olr_list.specs.Origins.{Begins, new_origins_in};
 ghost use Rattle.olr_paths.specs.Renewing.{IsRenewal};
-ghost use Rattle.olr_paths.specs.Touching.{nodes_of};
+ghost use Rattle.olr_list.specs.Touching.{nodes_of};
 ghost use Rattle.olr_register.specs.Holding.{HasBounds, CanRenew};
 
 use olr_commands::Entry;
 use olr_map::RoadMap;
 use olr_near::DistanceBounds;
-use olr_paths::{ChangeSet, Overlay, PathList, Searches};
+use olr_paths::{ChangeSet, Overlay, PathList, Searches, renew_over};
 use olr_refs::CoverageQuery;
 use olr_search::Work;
 use std::alloc::{AllocError, Global};
@@ -118,7 +118,9 @@ pub(crate) fn renew(
     ensures unknown { OnErr result (IsFalse near.new.known) }
 {
     ask_near(near, roads, touched);
-    match paths.renew_over(alloc, roads, overlay, touched, near, searches, work, spared) {
+    match renew_over(
+        paths, alloc, roads, overlay, touched, near, searches, work, spared,
+    ) {
         Ok(entries) => {
             rebuild_bounds(alloc, near, roads, paths, searches);
             Ok(entries)

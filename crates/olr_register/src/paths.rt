@@ -5,6 +5,7 @@ use crate::change::{PathParts, path_unless};
 use crate::nearing::rebuild_bounds;
 use crate::register::Register;
 use olr_commands::{CommandFault, Reply};
+use olr_paths::{add, set};
 
 impl Register {
     ghost use Rattle.std.specs.Prelude.{◌≡◌, None, string_bytes};
@@ -22,7 +23,15 @@ impl Register {
         let taken = self.paths.has(&name);
         let path = path_unless(self.alloc, taken, CommandFault::PathExists, parts)?;
         let (heap, roads) = (self.alloc, &self.roads);
-        let entries = self.paths.add(heap, roads, name, path, &mut self.searches, &mut self.work)?;
+        let entries = add(
+            &mut self.paths,
+            heap,
+            roads,
+            name,
+            path,
+            &mut self.searches,
+            &mut self.work,
+        )?;
         rebuild_bounds(heap, &mut self.near, roads, &self.paths, &mut self.searches);
         Ok(Reply::Paths(entries))
     }
@@ -36,7 +45,15 @@ impl Register {
         let missing = !self.paths.has(name);
         let path = path_unless(self.alloc, missing, CommandFault::NoPath, parts)?;
         let (heap, roads) = (self.alloc, &self.roads);
-        let entries = self.paths.set(heap, roads, name, path, &mut self.searches, &mut self.work)?;
+        let entries = set(
+            &mut self.paths,
+            heap,
+            roads,
+            name,
+            path,
+            &mut self.searches,
+            &mut self.work,
+        )?;
         rebuild_bounds(heap, &mut self.near, roads, &self.paths, &mut self.searches);
         Ok(Reply::Paths(entries))
     }

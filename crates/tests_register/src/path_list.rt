@@ -2,13 +2,13 @@
 ghost use Rattle.std.specs.Prelude.{◌≡◌, string_bytes, map as list_map};
 ghost use Rattle.std.specs.Option.{option_to_list};
 ghost use Rattle.olr_map.specs.EditPlans.{planned_changes};
-ghost use Rattle.olr_paths.specs.Touching.{change_of};
+ghost use Rattle.olr_list.specs.Touching.{change_of};
 ghost use Rattle.tests_register.specs.Lists.{IsRightAnywhere, IsRightOn};
 
 use made_maps::{Plain, STRAIGHT, line, lines, new_node, node, other_line, plain_map};
 use olr_map::{Edit, EditPlan, RoadMap, judge};
 use olr_near::DistanceBounds;
-use olr_paths::{ChangeSet, ChangedLine, Overlay, PathList, Searches};
+use olr_paths::{ChangeSet, ChangedLine, Overlay, PathList, Searches, renew_over};
 use olr_refs::Path;
 use olr_search::Work;
 use std::alloc::Global;
@@ -97,7 +97,8 @@ fn renew(rt: &impl Abort, alloc: Global, list: &mut PathList, map: &mut RoadMap,
     let (mut work, mut kept) = (Work::default(), 0);
     let none = Overlay::new(alloc);
     let _names = list.len();
-    let renewed = list.renew_over(
+    let renewed = renew_over(
+        list,
         alloc,
         &*map,
         &none,

@@ -10,5 +10,5 @@ returns-in-Encode-Some-clause-known g c =
     IfOk-weaker c.clear_known.result _ _
     (λ ks picks. given_known (g.met.M.MapRead.sound c.args.map.now) b.4 b.2 i b.3 ks.items
     (gives_picked (g.M.MapRead.map c.args.map.now) (changed_of c.args.touched.now) i.made
-    (made_of c.in-Encode-Some.published.now) c.deref.result.now ks.items made c.deref.ensures.value picks))
+    (made_of c.in-Encode-Some.published.now) c.known.result.now ks.items made c.known.ensures picks))
     c.clear_known.ensures.clear

@@ -2,7 +2,7 @@ use Rattle.std.proofs.Common.{Ok, ap, ◌∙◌, sym}
 use Rattle.olr_spec.specs.Map.{Map}
 use Rattle.olr_roads.specs.Edits.{edit_of}
 use Rattle.olr_map.specs.RoadMaps.{map_of}
-use Rattle.olr_paths.specs.Items.{items}
+use Rattle.olr_list.specs.Items.{items}
 use Rattle.olr_paths.proofs.Following.{follows_self}
 use Rattle.olr_register.proofs.Bounded.{bounded_unknown}
 use Rattle.olr_register.proofs.Noted.{noted_plan}
@@ -41,5 +41,5 @@ returns g c =
     let renewed =
     rw (c.new-none.ensures is) at (if_ok_at c.renew_over-renewed.result c.expect-entries.result _
     c.renew_over-renewed.ensures.renewed c.expect-entries.ensures) in
-    right_renewed M (map_of c.keep.new.self) is (items c.renew_over-renewed.new.self) c.requires renewed.remade
+    right_renewed M (map_of c.keep.new.self) is (items c.renew_over-renewed.new.list) c.requires renewed.remade
     renewed.named

@@ -1,6 +1,6 @@
 use Rattle.olr_register.proofs.Common.{◌≡◌, inl, inr, string_bytes, false, refl, sym, ap, ◌∙◌, map_of, Add_path, items}
 use Rattle.olr_register.proofs.Common.{under_overlay, has_name, path_by, No_memory}
-use Rattle.olr_paths.proofs.OriginLemmas.{begins_add}
+use Rattle.olr_list.proofs.OriginLemmas.{begins_add}
 use Rattle.olr_register.proofs.Changing.{add_refused, add_ok}
 use Rattle.olr_register.proofs.Listed.{each_add, each_if_any, each_follows, given_add}
 use Rattle.olr_register.proofs.Making.{path_unmade, path_made}

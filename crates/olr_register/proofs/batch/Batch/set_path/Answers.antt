@@ -1,6 +1,6 @@
 use Rattle.olr_register.proofs.Common.{inl, inr, not, refl, sym, ap, ◌∙◌, map_of, Set_path, items, under_overlay}
 use Rattle.olr_register.proofs.Common.{path_by, not-false, No_memory}
-use Rattle.olr_paths.proofs.OriginLemmas.{begins_set}
+use Rattle.olr_list.proofs.OriginLemmas.{begins_set}
 use Rattle.olr_register.proofs.Changing.{set_refused, set_ok}
 use Rattle.olr_register.proofs.Listed.{each_set, each_if_any, each_follows, given_set}
 use Rattle.olr_register.proofs.Making.{path_unmade, path_made}

@@ -29,7 +29,7 @@ pub invariant_of-self-2 : goal.invariant_of-self-2
 invariant_of-self-2 c =
     let r = c.self.inside in
     let e = c.in_ok-entries.ensures in
-    add_right r c.self.view_is c.requires c.self.invariant (string_bytes c.args.name) (items c.add.new.self)
+    add_right r c.self.view_is c.requires c.self.invariant (string_bytes c.args.name) (items c.add.new.list)
     c.in_ok-path.path e.added.0 (rw c.in_ok-path.ensures.ok c.in_ok-path.ensures.good) e.added.1 _
     (ap (has_name (items r.paths)) (sym c.deref.ensures) ∙ sym c.has-taken.ensures ∙ c.in_ok-path.ensures.right) e.added.2
     (c.rebuild_bounds.ensures (items r.paths) (kept_bounds r c.self.view_is c.requires c.self.invariant) e.new_origins)
@@ -39,7 +39,7 @@ returns c =
     let r = c.self.inside in
     let e = c.in_ok-entries.ensures in
     rw (← c.in_ok-path.ensures.ok)
-    (add_done r c.self.view_is c.requires c.self.invariant (string_bytes c.args.name) (items c.add.new.self)
+    (add_done r c.self.view_is c.requires c.self.invariant (string_bytes c.args.name) (items c.add.new.list)
     c.in_ok-path.path e.added.0 (rw c.in_ok-path.ensures.ok c.in_ok-path.ensures.good) e.added.1 _ _ _ refl
     e.counted e.rises e.searched
     (ap (has_name (items r.paths)) (sym c.deref.ensures) ∙ sym c.has-taken.ensures ∙ c.in_ok-path.ensures.right) e.added.2

@@ -29,7 +29,7 @@ pub invariant_of-self-2 : goal.invariant_of-self-2
 invariant_of-self-2 c =
     let r = c.self.inside in
     let e = c.in_ok-entries.ensures in
-    set_right r c.self.view_is c.requires c.self.invariant c.args.name.now (items c.set.new.self) c.in_ok-path.path
+    set_right r c.self.view_is c.requires c.self.invariant c.args.name.now (items c.set.new.list) c.in_ok-path.path
     e.set.0 (rw c.in_ok-path.ensures.ok c.in_ok-path.ensures.good) e.set.1 _
     (sym c.has-missing.ensures ∙ not-false c.has-missing.result c.in_ok-path.ensures.right) e.set.2
     (c.rebuild_bounds.ensures (items r.paths) (kept_bounds r c.self.view_is c.requires c.self.invariant) e.new_origins)
@@ -38,7 +38,7 @@ pub returns : goal.returns
 returns c =
     let e = c.in_ok-entries.ensures in
     rw (← c.in_ok-path.ensures.ok)
-    (set_done c.self.inside c.self.view_is c.requires c.self.invariant c.args.name.now (items c.set.new.self)
+    (set_done c.self.inside c.self.view_is c.requires c.self.invariant c.args.name.now (items c.set.new.list)
     c.in_ok-path.path e.set.0 (rw c.in_ok-path.ensures.ok c.in_ok-path.ensures.good) e.set.1 _ _ _ refl e.counted
     e.rises e.searched (sym c.has-missing.ensures ∙ not-false c.has-missing.result c.in_ok-path.ensures.right)
     e.set.2 e.set.3)

@@ -1,0 +1,188 @@
+-- The positions that are found have all affected paths, and the paths between them are unchanged.
+use Rattle.olr_list.proofs.Common.{All, inl, inr, ◌≡◌, ◌≢◌, ℕ, ◌+◌, ◌<◌, ◌≤◌, ◌==◌, ◌||◌, ◌⊎◌, false, List, [], ◌∷◌}
+use Rattle.olr_list.proofs.Common.{◌++◌, length, get_or, slice_get, Option, Some, None, IsTrue, refl, sym, ap, ◌∙◌}
+use Rattle.olr_list.proofs.Common.{subst, append_assoc, arith, min, cases_Bool, nat_tests, All-contains}
+use Rattle.olr_list.proofs.Common.{slice_get_within, Map, IsMap, has, holds, Index, Item, Includes, Finds, Covers}
+use Rattle.olr_list.proofs.Common.{FindsChanged, option_map, Rc, has_node, dm_of, CoverageQuery, limit, AreLengths}
+use Rattle.olr_list.proofs.Common.{label_at, Against, made_of, items, QueryTouched, nodes_of, lines_of, sources}
+use Rattle.olr_list.proofs.Common.{AreAsked, LackQueries, BeginsIn, Begins, ChangeSet, Searches, Finder, Published}
+use Rattle.olr_list.proofs.Common.{NamedPath, PathList, Path, Changes, TakesNone, change_at, under_change}
+use Rattle.olr_list.proofs.Common.{under_changes, NamesDiffer, same_name, all_named, or_left, ToStay, CoversAsked}
+use Rattle.olr_list.proofs.Common.{AreFound, String, IsPermutation, Global, list_any-IsPermutation, IsAsked}
+use Rattle.std.proofs.Math.Bool.{or-false}
+use Rattle.olr_list.proofs.NamedEntries.{Entries, First, item_of, items_of, same_flip}
+use Rattle.olr_list.proofs.Alls.{in_from}
+use Rattle.olr_list.proofs.Distances.{near_absent, leads_from}
+use Rattle.olr_list.proofs.NotedPositions.{back}
+use Rattle.olr_list.proofs.Changed.{changed, overlaid_from, change_push, first_only}
+
+-- ---- lists of numbers
+
+pub has_push : (xs : List ℕ) (x v : ℕ) → has (xs ++ x ∷ []) v ≡ (has xs v || (x == v))
+has_push [] x v = or-false (x == v)
+has_push (y ∷ ys) x v = grind (arith, has_push ys x v)
+
+pub pushed_kept : (xs : List ℕ) (x : ℕ) → Includes xs (xs ++ x ∷ [])
+pushed_kept xs x v on = has_push xs x v ∙ or_left (has xs v) (x == v) on
+
+pub pushed_there : (xs : List ℕ) (x v : ℕ) → x ≡ v → IsTrue (has (xs ++ x ∷ []) v)
+pushed_there xs x v is = grind (arith, nat_tests, has_push xs x v)
+
+-- ---- positions by numbers of nodes or lines
+
+pub record PutAll {A : Type 0} (number : A → ℕ) (path_ids : List ℕ) (index : Index) (xs : List A)
+    (old now : List ℕ) : Type 0 where
+  pub kept : Includes old now
+  pub put : All (λ x. Finds path_ids index (number x) now) xs
+
+pub nothing_at : (js : List Item) → slice_get js 0 ≡ None → js ≡ []
+nothing_at [] at = refl
+nothing_at (j ∷ js) at = absurd cc
+
+-- ---- the positions that are found have all paths that edits affect
+
+is_there : (o : Option (Rc Published Global)) → o ≢ None → (p : Rc Published Global) × (o ≡ Some p)
+is_there None h = absurd (h refl)
+is_there (Some p) h = (p, refl)
+
+module _ {N : Map} (n : IsMap N) (slot : ℕ → ℕ) (t : ChangeSet) (s : Searches) (l : PathList) (off_held : l.held ≡ false)
+    (known : IsTrue l.finder.known)
+    (found : List ℕ) (traversed : AreFound l.path_ids.items l.finder.traversed (nodes_of t) found)
+    (from : AreFound l.path_ids.items l.finder.by_query_origin (nodes_of t) found)
+    (lines : AreFound l.path_ids.items l.finder.lines (lines_of t) found)
+    (reached : s.far ≡ false → AreLengths N slot Against (sources t) s.near → (v : ℕ) → IsTrue (has_node N v) →
+    label_at s.near (slot v) ≤ limit → Finds l.path_ids.items l.finder.by_query_origin v found) where
+  abbrev ms : List ℕ
+  ms = l.path_ids.items
+
+  abbrev f : Finder
+  f = l.finder
+
+  module _ (k : ℕ) (e : String Global × NamedPath) (at : slice_get l.paths.entries k ≡ Some e) (p : Rc Published Global)
+      (some : e.1.published ≡ Some p) (off : has found k ≡ false) where
+    lower : k < length ms
+    lower = omega (arith, slice_get_within l.paths.entries k e at, l.long)
+
+    missed : (i : Index) (vs : List ℕ) → AreFound ms i vs found → (v : ℕ) → IsTrue (has vs v) →
+        IsTrue (holds i v (get_or ms k 0)) → ⊥
+    missed i vs are v touched held =
+        let on = All-contains (λ (u : ℕ). Finds ms i u found) vs v are (in_from vs v touched) k lower held in
+        cc (on, off)
+
+    never_query : IsAsked N slot t s (made_of p.value) → QueryTouched N (nodes_of t) (made_of p.value) → ⊥
+    never_query a h =
+        let v : ℕ = h.0.from in
+        let near = h.2 in
+        let held = All-contains (λ (l : CoverageQuery). IsTrue (holds f.by_query_origin l.from (get_or ms k 0))) _ h.0
+        (l.noted k e at p some known).1 h.1 in
+        elim (cases_Bool s.far) [
+          | inl far ↦ a.far far h
+          | inr close ↦ elim (cases_Bool (has_node N v)) [
+            | inl there ↦
+                let short = near.within in
+                let way = leads_from N n (nodes_of t) v near.node near.route near.touched near.leads there in
+                let low = a.returned close h.0 h.1 (dm_of N near.route) short there way in
+                let on = reached close (a.lengths close) v there (omega arith) k lower held in
+                let never : ⊥ = cc (on, off) in never
+            | inr lacks ↦
+                missed f.by_query_origin (nodes_of t) from v ((near_absent N n (nodes_of t) v (min h.0.within limit)
+                (λ there. let never : ⊥ = cc (there, lacks) in never)).1 near) held
+          ]
+        ]
+
+    stays_there : IsAsked N slot t s (made_of p.value) →
+        ToStay N (nodes_of t) (lines_of t) (item_of e).made e.1.path.value
+    stays_there a = (
+      made_of p.value,
+      ap (option_map (λ (q : Rc Published Global). made_of q.value)) some,
+      (λ h. let noted = l.noted k e at p some known in elim h [
+        | inl o ↦ missed f.traversed (nodes_of t) traversed o.0 o.1
+            (All-contains (λ (v : ℕ). IsTrue (holds f.traversed v (get_or ms k 0))) p.value.traversed o.0 noted.0 o.2)
+        | inr rest ↦ elim rest [
+          | inl x ↦ missed f.lines (lines_of t) lines x.0 x.1
+              (All-contains (λ (v : ℕ). IsTrue (holds f.lines v (get_or ms k 0))) e.1.path.value.lines x.0 noted.2
+              (in_from e.1.path.value.lines x.0 x.2))
+          | inr q ↦ never_query a q
+        ]
+      ]),
+    )
+
+  pub covers_by : CoversAsked N slot t s (items l) found
+  covers_by k i at off one =
+      let b = back l.paths.entries k i at in
+      let p = is_there b.0.1.published (l.encoded off_held k b.0 b.1) in
+      subst (λ (x : Item). ToStay N (nodes_of t) (lines_of t) x.made x.path) b.2 (stays_there k b.0 b.1 p.0 p.1 off
+      (one (made_of p.0.value)
+      (ap (λ (x : Item). x.made) (sym b.2) ∙ ap (option_map (λ (q : Rc Published Global). made_of q.value)) p.1)))
+
+-- the positions may be put in another order
+pub covers_order : (N : Map) (T X : List ℕ) (is : List Item) (xs ys : List ℕ) → IsPermutation xs ys →
+    Covers N T X is xs → Covers N T X is ys
+covers_order N T X is xs ys same h k i at off = h k i at (list_any-IsPermutation (λ y. y == k) xs ys same ∙ off)
+
+-- ---- for a list under changes
+
+module _ (cs : Changes) (is ys : List Item) (keeps : TakesNone cs) where
+  -- if the replaced paths and all new ones are found, the others are unchanged
+  pub covers_overlaid : (N : Map) (slot : ℕ → ℕ) (t : ChangeSet) (s : Searches) (found : List ℕ) →
+      CoversAsked N slot t s is found → FindsChanged cs is found →
+      ((k : ℕ) → length is ≤ k → k < length is + length ys → IsTrue (has found k))
+      → AreAsked N slot t s (under_changes cs is ++ ys) →
+      Covers N (nodes_of t) (lines_of t) (under_changes cs is ++ ys) found
+  covers_overlaid N slot t s found covers given behind asked k j at off = elim (overlaid_from cs is ys keeps k j at) [
+    | inl a ↦
+        let same : j ≡ a.0 = a.2 ∙ ap (λ (c : Option (Option Path)). changed c a.0) (given k a.0 a.1 off) in
+        subst (λ (i : Item). ToStay N (nodes_of t) (lines_of t) i.made i.path) (sym same)
+        (covers k a.0 a.1 off
+        (λ m some. asked k j m at (ap (λ (i : Item). i.made) same ∙ some)))
+    | inr b ↦
+        let low = slice_get_within ys b.0 j b.2 in
+        let on = behind k (let e = b.1 in omega arith) (let e = b.1 in omega arith) in
+        let never : ⊥ = cc (on, off) in absurd never
+  ]
+
+begins_changed : (c : Option (Option Path)) (i : Item) (js : List Item) (l : CoverageQuery) →
+    Begins (under_change c i ++ js) l → BeginsIn i.made l ⊎ Begins js l
+begins_changed None i js l h = h
+begins_changed (Some None) i js l h = inr h
+begins_changed (Some (Some p)) i js l (inl h) = absurd h
+begins_changed (Some (Some p)) i js l (inr h) = inr h
+
+-- no path has a coverage query, if none of either list has one
+pub lack_overlaid : (cs : Changes) (is ys : List Item) → LackQueries is → LackQueries ys →
+    LackQueries (under_changes cs is ++ ys)
+lack_overlaid cs [] ys first second l h = second l h
+lack_overlaid cs (i ∷ is) ys first second l h =
+    let c = change_at cs i.name in
+    elim (begins_changed c i (under_changes cs is ++ ys) l
+    (subst (λ (js : List Item). Begins js l) (append_assoc (under_change c i) (under_changes cs is) ys) h)) [
+      | inl b ↦ first l (inl b)
+      | inr b ↦ lack_overlaid cs is ys (λ m a. first m (inr a)) second l b
+    ]
+
+-- with more positions
+pub unfound : (old now : List ℕ) (k : ℕ) → Includes old now → has now k ≡ false → has old k ≡ false
+unfound old now k kept off = grind (arith, kept k)
+
+pub covers_grown : (N : Map) (slot : ℕ → ℕ) (t : ChangeSet) (s : Searches) (is : List Item) (old now : List ℕ) →
+    Includes old now → CoversAsked N slot t s is old → CoversAsked N slot t s is now
+covers_grown N slot t s is old now kept h k i at off = h k i at (unfound old now k kept off)
+
+pub changed_grown : (cs : Changes) (is : List Item) (old now : List ℕ) → Includes old now → FindsChanged cs is old →
+    FindsChanged cs is now
+changed_grown cs is old now kept h k i at off = h k i at (unfound old now k kept off)
+
+-- with one change more
+pub changed_more : (cs : Changes) (c : List ℕ × Option Path) (is : List Item) (old now : List ℕ) → Includes old now →
+    FindsChanged cs is old →
+    ((k : ℕ) (i : Item) → slice_get is k ≡ Some i → has now k ≡ false → same_name c.0 i.name ≡ false) →
+    FindsChanged (cs ++ c ∷ []) is now
+changed_more cs c is old now kept h other k i at off =
+    change_push cs c i.name (changed_grown cs is old now kept h k i at off) (other k i at off)
+
+-- if the position of the name is added, the others have other names
+pub others_apart : (es : Entries) (name : List ℕ) (q : ℕ) (old : List ℕ) → First name es q →
+    NamesDiffer (all_named (items_of es)) → (k : ℕ) (i : Item) → slice_get (items_of es) k ≡ Some i →
+    has (old ++ q ∷ []) k ≡ false → same_name name i.name ≡ false
+others_apart es name q old first differ k i at off =
+    grind (arith, first_only es name q k i first differ at, pushed_there old q k, same_flip name i.name)

@@ -1,0 +1,12 @@
+pub mod Common
+pub mod Distances
+pub mod OriginLemmas
+pub mod AskedLemmas
+pub mod Alls
+pub mod NamedEntries
+pub mod PathIdLemmas
+pub mod NotedPositions
+pub mod Overlaying
+pub mod Changed
+pub mod EntryLists
+pub mod Covering

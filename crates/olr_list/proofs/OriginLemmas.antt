@@ -1,0 +1,60 @@
+-- The coverage queries of a list in which an item was replaced, or a path was added, set or dropped.
+use Rattle.olr_list.proofs.Common.{inl, inr, ◌≡◌, ℕ, zero, suc, ◌+◌, ◌⊎◌, Bool, List, [], ◌∷◌, ◌++◌, map, take}
+use Rattle.olr_list.proofs.Common.{slice_get, Option, Some, subst, arith, filter, option_map, Path, CoverageQuery}
+use Rattle.olr_list.proofs.Common.{Made, Item, made_of, set_item, BeginsIn, Begins, BeginsPut, Put, put, all_put}
+use Rattle.olr_list.proofs.Common.{puts_of, NamedPath, take_more_at}
+
+-- of one of the list's items
+pub begins_there : (is : List Item) (k : ℕ) (i : Item) (v : CoverageQuery) → slice_get is k ≡ Some i →
+    BeginsIn i.made v → Begins is v
+begins_there [] k i v at h = absurd cc
+begins_there (x ∷ is) zero i v at h = let e : x ≡ i = cc in inl (rw e h)
+begins_there (x ∷ is) (suc k) i v at h = inr (begins_there is k i v at h)
+
+-- ---- after results are stored
+
+begins_put : (is : List Item) (k : ℕ) (path : Path) (made : Option Made) (v : CoverageQuery) →
+    Begins (put is k path made) v →
+    Begins is v ⊎ BeginsIn made v
+begins_put [] k path made v h = absurd h
+begins_put (i ∷ is) zero path made v (inl h) = inr h
+begins_put (i ∷ is) zero path made v (inr h) = inl (inr h)
+begins_put (i ∷ is) (suc k) path made v h = grind (arith, begins_put is k path made v)
+
+pub begins_all_put : (is : List Item) (ps : List Put) (v : CoverageQuery) → Begins (all_put is ps) v → Begins is v
+    ⊎ BeginsPut ps v
+begins_all_put is [] v h = inl h
+begins_all_put is (p ∷ ps) v h =
+    grind (arith, begins_put (all_put is ps) p.position p.path p.made v h, begins_all_put is ps v)
+
+-- one more, behind the others
+pub begins_push : (es : List (ℕ × NamedPath)) (e : ℕ × NamedPath) (v : CoverageQuery) →
+    BeginsPut (puts_of (es ++ e ∷ [])) v →
+    BeginsPut (puts_of es) v ⊎ BeginsIn (option_map (λ p. made_of p.value) e.1.published) v
+begins_push [] e v (inl h) = inr h
+begins_push [] e v (inr h) = absurd h
+begins_push (x ∷ es) e v h = grind (arith, begins_push es e v)
+
+-- ---- after one path is added, set or dropped
+
+pub begins_add : (is : List Item) (j : Item) (v : CoverageQuery) → Begins (is ++ j ∷ []) v → Begins is v
+    ⊎ BeginsIn j.made v
+begins_add [] j v (inl h) = inr h
+begins_add [] j v (inr h) = absurd h
+begins_add (i ∷ is) j v h = grind (arith, begins_add is j v)
+
+pub begins_set : (name : List ℕ) (path : Path) (made : Option Made) (is : List Item) (v : CoverageQuery) →
+    Begins (map (set_item name path made) is) v → Begins is v ⊎ BeginsIn made v
+begins_set name path made [] v h = absurd h
+begins_set name path made (i ∷ is) v h = grind (arith, begins_set name path made is v)
+
+pub begins_drop : (keep : Item → Bool) (is : List Item) (v : CoverageQuery) → Begins (filter keep is) v → Begins is v
+begins_drop keep [] v h = h
+begins_drop keep (i ∷ is) v h = grind (arith, begins_drop keep is v)
+
+-- as far as a loop has come
+pub begins_more : (is : List Item) (k : ℕ) (i : Item) (v : CoverageQuery) → slice_get is k ≡ Some i →
+    Begins (take (k + 1) is) v →
+    Begins (take k is) v ⊎ BeginsIn i.made v
+begins_more is k i v at h =
+    begins_add (take k is) i v (subst (λ (js : List Item). Begins js v) (take_more_at is k i at) h)

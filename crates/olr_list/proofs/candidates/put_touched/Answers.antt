@@ -1,0 +1,26 @@
+use Rattle.olr_list.proofs.Common.{All-contains, Against, sources, Finds}
+use Rattle.olr_search.specs.declared.frontier.Reached.{Reached}
+use Rattle.olr_list.proofs.Covering.{covers_by}
+use Rattle.olr_list.proofs.candidates.put_touched.Goals as goal
+
+pub returns : goal.returns
+returns g c =
+    let t = c.args.touched.now in
+    let l = c.args.list.now in
+    let ids = l.path_ids.items in
+    let slot = g.M.MapRead.node_slot c.args.map.now in
+    let four = c.put_found-4.new.found.items in
+    let kept2 = c.in_ok-put_found-2.ensures.kept in
+    let kept3 = c.in_ok-put_found-3.ensures.kept in
+    let kept4 = c.in_ok-put_found-4.ensures.kept in
+    let same = c.as_slice-ids.ensures.value in
+    let one = rw (same, c.nodes-nodes.ensures) at c.in_ok-put_found.ensures.put in
+    let two = rw (same, c.nodes-nodes.ensures) at c.in_ok-put_found-2.ensures.put in
+    let three = rw (same, c.lines.ensures) at c.in_ok-put_found-3.ensures.put in
+    covers_by (g.met.M.MapRead.sound c.args.map.now) slot t c.args.searches.now l c.requires.encoded c.requires.known four
+    (λ i d lt k low on. kept4 k (kept3 k (kept2 k (one i d lt k low on))))
+    (λ i d lt k low on. kept4 k (kept3 k (two i d lt k low on))) (λ i d lt k low on. kept4 k (three i d lt k low on))
+    (λ close lengths v known small.
+    All-contains (λ (r : Reached). Finds ids l.finder.by_query_origin r.node four) c.reached.result.now
+    (record { node = v; slot = slot v }) (rw same at c.in_ok-put_found-4.ensures.put)
+    (c.reached.ensures (g.M.MapRead.map c.args.map.now) slot Against (sources t) v close lengths known small))

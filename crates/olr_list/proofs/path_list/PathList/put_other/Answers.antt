@@ -1,0 +1,43 @@
+use Rattle.olr_list.proofs.Common.{◌≢◌, ◌<◌, None, length, sym, ◌∙◌, arith, slice_get_within}
+use Rattle.olr_list.proofs.NamedEntries.{first_at, names_differ, set_absent, set_items}
+use Rattle.olr_list.proofs.PathIdLemmas.{kept_long, each_set, noted_but, noted_set}
+use Rattle.olr_list.proofs.path_list.PathList.put_other.Goals as goal
+
+pub returns-in_default-clause-ok : goal.returns-in_default-clause-ok
+returns-in_default-clause-ok c = set_absent c.args.self.now.paths.entries c.args.name.now c.args.named (sym c.in_default.ensures.value)
+
+pub invariant_of-self-in-Break-1 : goal.invariant_of-self-in-Break-1
+invariant_of-self-in-Break-1 c =
+    let l = c.args.self.now in
+    let q = c.in-Some.position in
+    let within : q < length l.path_ids.items = omega (arith, slice_get_within l.paths.entries q _ c.in-Some.ensures.entry, l.long) in
+    record {
+      long = l.long;
+      ascend = l.ascend;
+      noted = noted_but l c.renote.new.finder q _ within c.index-path_id.ensures c.renote.ensures.spares _
+          c.in-Some.ensures.entry c.in_err-renote.ensures.err;
+      encoded = l.encoded;
+    }
+
+pub invariant_of-self-2 : goal.invariant_of-self-2
+invariant_of-self-2 c =
+    let l = c.args.self.now in
+    let es = l.paths.entries in
+    let ms = l.path_ids.items in
+    let q = c.in-Some.position in
+    let n = c.args.named in
+    let within : q < length ms = omega (arith, slice_get_within l.paths.entries q _ c.in-Some.ensures.entry, l.long) in
+    record {
+      long = l.long ∙ sym (kept_long es q n);
+      ascend = l.ascend;
+      noted = noted_set l c.renote.new.finder q _ within c.index-path_id.ensures c.renote.ensures.spares n
+          c.in_ok-renote.ensures.noted;
+      encoded = λ off. let was = c.is_held-self.ensures off in
+          each_set (λ _ m. m.published ≢ None) es ms q n (λ k e ne. l.encoded was.0 k e) was.1;
+    }
+
+pub returns-clause-ok : goal.returns-clause-ok
+returns-clause-ok c =
+    let es = c.args.self.now.paths.entries in
+    set_items es c.args.name.now c.in-Some.position c.args.named (first_at es _ _ (sym c.in-Some.ensures.index))
+    (names_differ es c.in-Some-get_index_mut.ensures.unique)

@@ -1,0 +1,40 @@
+-- Which action a renewal takes for a path.
+--     Stays N T X C m P      not too many lines have changed, no traversed node and no line of the path is touched, and
+--         each coverage query is clear
+--     IsActionFor      the action for a path
+--     IsEncode a      the action is that the path is encoded again
+use Rattle.std.specs.Prelude.{◌≡◌, ℕ, List, All, ◌≤◌, Option, Some, None, ◌⊎◌, length, ⊤}
+use Rattle.olr_spec.specs.Map.{Map}
+use Rattle.olr_spec.specs.Detours.{ChangedLine}
+use Rattle.olr_spec.specs.Extension.{Path}
+use Rattle.olr_commands.specs.Counts.{most_changed}
+use Rattle.olr_list.specs.Items.{Made}
+use Rattle.olr_list.specs.Changes.{TraversedTouched, LineTouched, Touches, IsKnownClear}
+use Rattle.olr_list.specs.declared.actions.Action.{Action}
+use Rattle.olr_list.specs.declared.actions.Action.TheVariants.{Stay, Keep, Encode}
+
+pub record Stays (N : Map) (T X : List ℕ) (C : List ChangedLine) (m : Made) (P : Path) : Type 0 where
+  pub few : length C ≤ most_changed
+  pub traversed : ¬ TraversedTouched T m
+  pub lines : ¬ LineTouched X P
+  pub clear : All (IsKnownClear N C) m.queries
+
+abbrev pub ToStay : Map → List ℕ → List ℕ → Option Made → Path → Type 0
+ToStay N T X made P = (m : Made) × (made ≡ Some m) × ¬ Touches N T X m P
+
+abbrev pub ToKeep : Map → List ℕ → List ℕ → List ChangedLine → Option Made → Path → Type 0
+ToKeep N T X C made P = (m : Made) × (made ≡ Some m) × Touches N T X m P × Stays N T X C m P
+
+abbrev pub ToEncode : Map → List ℕ → List ℕ → List ChangedLine → Option Made → Path → Type 0
+ToEncode N T X C made P =
+    (made ≡ None) ⊎ ((m : Made) × (made ≡ Some m) × Touches N T X m P × ¬ Stays N T X C m P)
+
+abbrev pub IsActionFor : Map → List ℕ → List ℕ → List ChangedLine → Option Made → Path → Action → Type 0
+IsActionFor N T X C made P Stay = ToStay N T X made P
+IsActionFor N T X C made P Keep = ToKeep N T X C made P
+IsActionFor N T X C made P Encode = ToEncode N T X C made P
+
+abbrev pub IsEncode : Action → Type 0
+IsEncode Stay = ⊥
+IsEncode Keep = ⊥
+IsEncode Encode = ⊤

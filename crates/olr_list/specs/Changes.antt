@@ -1,0 +1,47 @@
+-- What a change of the map, or of one path, means for a list of named paths.
+--     Touches N T X m P      a traversed node or a line of the path is touched, or a touched node is near to where a
+--         coverage query begins, within its length and the limit
+--     IsKnownClear N C l      a coverage query within the limit whose ends are on the map, and that is clear
+--     Reported before js es      an entry for each path whose answer is not the earlier one of its name, in order
+--     AreEncoded is      each path was encoded
+use Rattle.std.specs.Prelude.{◌≡◌, ◌≢◌, ℕ, List, [], ◌∷◌, Contains, Option, Some, None, option_map, ◌⊎◌, IsTrue, ⊤}
+use Rattle.std.specs.Prelude.{min, if◌then◌else◌}
+use Rattle.olr_spec.specs.Map.{Map, has}
+use Rattle.olr_spec.specs.Extension.{Path, limit}
+use Rattle.olr_spec.specs.Encoding.{Answer}
+use Rattle.olr_spec.specs.Detours.{ChangedLine, Near}
+use Rattle.olr_spec.specs.Queries.{CoverageQuery, IsClear}
+use Rattle.olr_commands.specs.State.{same_name}
+use Rattle.olr_commands.specs.Counts.{IsOnMap}
+use Rattle.olr_commands.specs.Reply.{Entry, entry}
+use Rattle.olr_list.specs.Items.{Made, Item, answer_in}
+
+abbrev pub TraversedTouched : List ℕ → Made → Type 0
+TraversedTouched T m = (v : ℕ) × IsTrue (has T v) × Contains m.traversed v
+
+abbrev pub LineTouched : List ℕ → Path → Type 0
+LineTouched X P = (x : ℕ) × IsTrue (has X x) × IsTrue (has P.lines x)
+
+abbrev pub QueryTouched : Map → List ℕ → Made → Type 0
+QueryTouched N T m = (l : CoverageQuery) × Contains m.queries l × Near N T l.from (min l.within limit)
+
+abbrev pub Touches : Map → List ℕ → List ℕ → Made → Path → Type 0
+Touches N T X m P = TraversedTouched T m ⊎ (LineTouched X P ⊎ QueryTouched N T m)
+
+abbrev pub IsKnownClear : Map → List ChangedLine → CoverageQuery → Type 0
+IsKnownClear N C l = IsOnMap N l × IsClear N C l
+
+abbrev pub Reported : List Item → List Item → List Entry → Type 0
+Reported before [] es = es ≡ []
+Reported before (j ∷ js) es =
+    (A : Answer) × (rest : List Entry) × (option_map (λ m. m.answer) j.made ≡ Some A) × Reported before js rest
+    × (((answer_in before j.name ≡ Some A) × (es ≡ rest))
+    ⊎ ((answer_in before j.name ≢ Some A) × (es ≡ entry j.name A ∷ rest)))
+
+abbrev pub AreEncoded : List Item → Type 0
+AreEncoded [] = ⊤
+AreEncoded (i ∷ is) = (i.made ≢ None) × AreEncoded is
+
+-- the path of that name is replaced
+abbrev pub set_item : List ℕ → Path → Option Made → Item → Item
+set_item name path made i = if same_name i.name name then record { name = i.name; path = path; made = made } else i

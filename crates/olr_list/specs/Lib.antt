@@ -1,0 +1,12 @@
+pub mod Items
+pub mod Finding
+pub mod Changes
+pub mod Touching
+pub mod Storing
+pub mod Laying
+pub mod Showing
+pub mod Origins
+pub mod Searching
+pub mod Actions
+pub mod Candidates
+pub mod Yielding

@@ -1,0 +1,38 @@
+-- The coverage queries of a list.
+--     BeginsIn made l, Begins is l      l is a query of what was made;  one of a list's
+--     BeginsPut ps l      one of those that are put at places of a list
+--     AreFar N T is      no query reaches one of the nodes T
+--     AreBoundsOf N f is      the bounds are right, and they are those of all queries
+--     new_origins_in s      the queries that the last renewal made
+use Rattle.std.specs.Prelude.{ℕ, List, [], ◌∷◌, Contains, Option, Some, None, ◌⊎◌, min}
+use Rattle.olr_spec.specs.Map.{Map}
+use Rattle.olr_spec.specs.Extension.{limit}
+use Rattle.olr_spec.specs.Detours.{Near}
+use Rattle.olr_spec.specs.Queries.{CoverageQuery}
+use Rattle.olr_near.specs.Bounds.{IsRight, IsSource}
+use Rattle.olr_near.specs.declared.distance_bounds.DistanceBounds.{DistanceBounds}
+use Rattle.olr_list.specs.Items.{Made, Item}
+use Rattle.olr_list.specs.Storing.{Put}
+use Rattle.olr_list.specs.declared.searches.Searches.{Searches}
+
+abbrev pub BeginsIn : Option Made → CoverageQuery → Type 0
+BeginsIn None l = ⊥
+BeginsIn (Some m) l = Contains m.queries l
+
+abbrev pub Begins : List Item → CoverageQuery → Type 0
+Begins [] l = ⊥
+Begins (i ∷ is) l = BeginsIn i.made l ⊎ Begins is l
+
+abbrev pub BeginsPut : List Put → CoverageQuery → Type 0
+BeginsPut [] l = ⊥
+BeginsPut (p ∷ ps) l = BeginsIn p.made l ⊎ BeginsPut ps l
+
+abbrev pub AreFar : Map → List ℕ → List Item → Type 0
+AreFar N T is = (l : CoverageQuery) → Begins is l → ¬ Near N T l.from (min l.within limit)
+
+pub record AreBoundsOf (N : Map) (f : DistanceBounds) (is : List Item) : Type 0 where
+  pub right : IsRight N f
+  pub sources : (l : CoverageQuery) → Begins is l → IsSource f l.from l.within
+
+abbrev pub new_origins_in : Searches → List CoverageQuery
+new_origins_in s = s.new_origins.items

@@ -1,0 +1,24 @@
+-- What edits touched and changed, as lists.
+--     nodes_of t, lines_of t, changed_of t      the nodes, the lines and the changed lines
+--     HasRoom t      capacity for what one more edit touches
+use Rattle.std.specs.Prelude.{ℕ, ◌+◌, ◌≤◌, List, map, vec_len, vec_capacity}
+use Rattle.olr_spec.specs.Detours.{ChangedLine}
+use Rattle.olr_list.specs.declared.change_set.ChangedLine.{ChangedLine as Noted}
+use Rattle.olr_list.specs.declared.change_set.ChangeSet.{ChangeSet}
+
+abbrev pub nodes_of : ChangeSet → List ℕ
+nodes_of t = t.nodes.items
+
+abbrev pub lines_of : ChangeSet → List ℕ
+lines_of t = t.lines.items
+
+abbrev pub change_of : Noted → ChangedLine
+change_of c = record { from = c.from; to = c.to; len = c.len }
+
+abbrev pub changed_of : ChangeSet → List ChangedLine
+changed_of t = map change_of t.changed.items
+
+pub record HasRoom (t : ChangeSet) : Type 0 where
+  pub nodes : vec_len t.nodes + 2 ≤ vec_capacity t.nodes
+  pub lines : vec_len t.lines + 1 ≤ vec_capacity t.lines
+  pub changed : vec_len t.changed + 1 ≤ vec_capacity t.changed

@@ -1,0 +1,87 @@
+//! Which action a renewal takes for a path.
+ghost use Rattle.std.specs.Prelude.{◌≡◌, ◌↔◌, ◌≤◌, List, length, Some, IsTrue, IfOk, OnOk};
+ghost use Rattle.olr_list.specs.Items.{Made, Item, made_of};
+ghost use Rattle.olr_list.specs.Showing.{shown_item};
+ghost use Rattle.olr_list.specs.Touching.{nodes_of, lines_of, changed_of};
+ghost use Rattle.olr_list.specs.Searching.{AreDetours, AreAsked, IsAsked};
+ghost use Rattle.olr_commands.specs.Counts.{most_changed};
+ghost use Rattle.olr_list.specs.Actions.{Stays, IsActionFor};
+
+use crate::asking::{is_line_touched, is_touched, is_traversed_touched};
+use crate::change_set::ChangeSet;
+use crate::detours::{Detours, are_clear, are_few};
+use crate::published::Published;
+use crate::searches::Searches;
+use crate::showing::PathView;
+use olr_answers::Path;
+use olr_roads::MapRead;
+use std::alloc::AllocError;
+
+/// The action for a path.
+#[derive(Clone, Copy)]
+pub enum Action {
+    /// It isn't affected.
+    Stay,
+    /// It is affected, and its answer is retained.
+    Keep,
+    /// It is encoded again.
+    Encode,
+}
+
+/// Whether a path which the edits affect retains its answer.
+fn is_unchanged<M: MapRead>(
+    map: &M,
+    touched: &ChangeSet,
+    detours: &mut Detours,
+    path: &Path,
+    published: &Published,
+) -> Result<bool, AllocError>
+    requires { length (changed_of touched.now) ≤ most_changed
+        → AreDetours (M.map map.now) (M.node_slot map.now) touched.now detours.old }
+    ensures stays { IfOk result (λ stays. IsTrue stays ↔ Stays (M.map map.now) (nodes_of touched.now)
+        (lines_of touched.now) (changed_of touched.now) (made_of published.now) path.now) }
+    ensures detours { OnOk result (length (changed_of touched.now) ≤ most_changed
+        → AreDetours (M.map map.now) (M.node_slot map.now) touched.now detours.new) }
+{
+    if !are_few(touched) {
+        return Ok(false);
+    }
+    if is_traversed_touched(touched, &published.traversed) {
+        return Ok(false);
+    }
+    if is_line_touched(touched, path.lines()) {
+        return Ok(false);
+    }
+    are_clear(map, touched, detours, &published.queries)
+}
+
+/// The action for a path.
+pub fn decide<M: MapRead>(
+    map: &M,
+    touched: &ChangeSet,
+    searches: &mut Searches,
+    shown: PathView<'_>,
+) -> Result<Action, AllocError>
+    requires asked { (m : Made) → (shown_item shown).made ≡ Some m
+        → IsAsked (M.map map.now) (M.node_slot map.now) touched.now searches.old m }
+    requires detours { length (changed_of touched.now) ≤ most_changed
+        → AreDetours (M.map map.now) (M.node_slot map.now) touched.now searches.old.detours }
+    ensures action { IfOk result (λ action. IsActionFor (M.map map.now) (nodes_of touched.now) (lines_of touched.now)
+        (changed_of touched.now) (shown_item shown.entry).made (shown_item shown.entry).path action) }
+    ensures detours { OnOk result (length (changed_of touched.now) ≤ most_changed
+        → AreDetours (M.map map.now) (M.node_slot map.now) touched.now searches.new.detours) }
+    ensures asked { OnOk result ((is : List Item)
+        → AreAsked (M.map map.now) (M.node_slot map.now) touched.now searches.old is
+        → AreAsked (M.map map.now) (M.node_slot map.now) touched.now searches.new is) }
+{
+    let Some(published) = shown.published else {
+        return Ok(Action::Encode);
+    };
+    if !is_touched(map, touched, searches, shown.path, published) {
+        return Ok(Action::Stay);
+    }
+    if is_unchanged(map, touched, &mut searches.detours, shown.path, published)? {
+        return Ok(Action::Keep);
+    }
+    Ok(Action::Encode)
+}

@@ -1,0 +1,165 @@
+//! Which paths the edits may affect: found by what they touched, without a pass over all paths.
+ghost use Rattle.std.specs.Prelude.{◌≡◌, ◌<◌, ◌≤◌, ℕ, Some, All, length, get_or, IsTrue, IsFalse, IfOk, OnOk};
+ghost use Rattle.std.specs.List.Sorted.{IsStrictlyIncreasing, IsNonDecreasing};
+ghost use Rattle.olr_spec.specs.Map.{has};
+ghost use Rattle.olr_list.specs.Items.{items};
+ghost use Rattle.olr_list.specs.Touching.{nodes_of, lines_of};
+ghost use Rattle.olr_list.specs.Searching.{AreAsked};
+ghost use Rattle.olr_list.specs.Laying.{overlay_changes};
+ghost use Rattle.olr_list.specs.Showing.{shown_items};
+ghost use Rattle.olr_list.specs.Candidates.{Includes, Finds, Covers, CoversAsked, FindsChanged};
+
+use crate::change_set::ChangeSet;
+use crate::numbered::Numbered;
+use crate::overlaid_list::OverlaidList;
+use crate::path_list::PathList;
+use crate::searches::Searches;
+use olr_index::Index;
+use olr_roads::MapRead;
+use std::alloc::{AllocError, Global};
+
+/// The position of the path with this id, by binary search.
+fn position_of(path_ids: &[u64], path_id: u64) -> Option<usize>
+    requires { IsStrictlyIncreasing path_ids.now }
+    ensures { (k : ℕ) → k < length path_ids.now → get_or path_ids.now k 0 ≡ path_id → result ≡ Some k }
+{
+    path_ids.binary_search(&path_id).ok()
+}
+
+/// Appends the positions of the paths with these ids.
+fn put_positions(path_ids: &[u64], of: &[u64], found: &mut Vec<usize>) -> Result<(), AllocError>
+    requires { IsStrictlyIncreasing path_ids.now }
+    ensures kept { OnOk result (Includes found.old.items found.new.items) }
+    ensures put { OnOk result ((k : ℕ) → k < length path_ids.now → IsTrue (has of.now (get_or path_ids.now k 0))
+        → IsTrue (has found.new.items k)) }
+{
+    for path_id in of {
+        if let Some(position) = position_of(path_ids, *path_id) {
+            found.push(position)?;
+        }
+    }
+    Ok(())
+}
+
+/// Appends the positions of the paths that have an index entry for one of these.
+fn put_found<T: Numbered>(
+    path_ids: &[u64],
+    index: &Index,
+    items: &[T],
+    found: &mut Vec<usize>,
+) -> Result<(), AllocError>
+    requires { IsStrictlyIncreasing path_ids.now }
+    ensures kept { OnOk result (Includes found.old.items found.new.items) }
+    ensures put { OnOk result
+        (All (λ x. Finds path_ids.now index.now (T.number_of x) found.new.items) items.now) }
+{
+    for item in items {
+        put_positions(path_ids, index.of(item.index_number()), found)?;
+    }
+    Ok(())
+}
+
+/// Appends the positions from `from` up to, but not including, `to`.
+fn put_range(from: usize, to: usize, found: &mut Vec<usize>) -> Result<(), AllocError>
+    ensures kept { OnOk result (Includes found.old.items found.new.items) }
+    ensures put { OnOk result ((k : ℕ) → from ≤ k → k < to → IsTrue (has found.new.items k)) }
+{
+    for position in from..to {
+        found.push(position)?;
+    }
+    Ok(())
+}
+
+/// Appends the positions of the paths that changes replace.
+fn put_changed(overlaid: OverlaidList<'_>, found: &mut Vec<usize>) -> Result<(), AllocError>
+    ensures kept { OnOk result (Includes found.old.items found.new.items) }
+    ensures put { OnOk result
+        (FindsChanged (overlay_changes overlaid.entry.overlay.now) (items overlaid.entry.list.now) found.new.items) }
+{
+    // For the proof alone: no name occurs twice.
+    let _names = overlaid.list.len();
+    for k in 0..overlaid.overlay.changes.len() {
+        let Some((name, _)) = overlaid.overlay.changes.get_index(k) else {
+            unreachable!()
+        };
+        let Some(position) = overlaid.list.paths.get_index_of(name.as_str()) else {
+            continue;
+        };
+        found.push(position)?;
+    }
+    Ok(())
+}
+
+/// Appends the positions of the paths that the edits may affect: those with a touched node or line, and those with a
+/// coverage query that begins at a node labelled by the search.
+fn put_touched<M: MapRead>(
+    map: &M,
+    list: &PathList,
+    touched: &ChangeSet,
+    searches: &Searches,
+    found: &mut Vec<usize>,
+) -> Result<(), AllocError>
+    requires encoded { IsFalse list.now.held }
+    requires known { IsTrue list.now.finder.known }
+    ensures { OnOk result
+        (CoversAsked (M.map map.now) (M.node_slot map.now) touched.now searches.now (items list.now) found.new.items) }
+{
+    let ids = list.path_ids.as_slice();
+    let nodes = touched.nodes();
+    put_found(ids, &list.finder.traversed, nodes, found)?;
+    put_found(ids, &list.finder.by_query_origin, nodes, found)?;
+    put_found(ids, &list.finder.lines, touched.lines(), found)?;
+    put_found(ids, &list.finder.by_query_origin, searches.reached(), found)?;
+    Ok(())
+}
+
+/// Appends the positions of the list's paths that the edits may affect, or that changes replace; all positions if the
+/// list may have a path that is not encoded yet, or if its index entries are not known.
+fn put_listed<M: MapRead>(
+    map: &M,
+    overlaid: OverlaidList<'_>,
+    touched: &ChangeSet,
+    searches: &Searches,
+    found: &mut Vec<usize>,
+) -> Result<(), AllocError>
+    ensures changed { OnOk result
+        (FindsChanged (overlay_changes overlaid.entry.overlay.now) (items overlaid.entry.list.now) found.new.items) }
+    ensures asked { OnOk result
+        (CoversAsked (M.map map.now) (M.node_slot map.now) touched.now searches.now (items overlaid.entry.list.now)
+        found.new.items) }
+{
+    if overlaid.list.held || !overlaid.list.finder.known {
+        put_range(0, overlaid.list.len(), found)?;
+        return Ok(());
+    }
+    put_touched(map, overlaid.list, touched, searches, found)?;
+    put_changed(overlaid, found)?;
+    Ok(())
+}
+
+/// The positions, in ascending order, of the paths that the edits may affect, and of replaced and new paths; a position
+/// may be repeated. All positions if the list may have a path that is not encoded yet.
+pub(crate) fn candidates<M: MapRead>(
+    alloc: Global,
+    map: &M,
+    overlaid: OverlaidList<'_>,
+    touched: &ChangeSet,
+    searches: &Searches,
+) -> Result<Vec<usize>, AllocError>
+    requires { AreAsked (M.map map.now) (M.node_slot map.now) touched.now searches.now (shown_items overlaid) }
+    ensures ascending { IfOk result (λ found. IsNonDecreasing found.items) }
+    ensures covers { IfOk result
+        (λ found. Covers (M.map map.now) (nodes_of touched.now) (lines_of touched.now) (shown_items overlaid.entry)
+        found.items) }
+{
+    let count = overlaid.list.paths.len();
+    let mut found = Vec::new(alloc);
+    put_listed(map, overlaid, touched, searches, &mut found)?;
+    put_range(
+        count,
+        count + overlaid.overlay.added.paths.len(),
+        &mut found,
+    )?;
+    found.sort_unstable();
+    Ok(found)
+}

@@ -1,0 +1,164 @@
+//! Whether changed lines offer a detour that is as short as a coverage query.
+ghost use Rattle.std.specs.Prelude.{◌<◌, ◌≤◌, ◌+◌, ◌↔◌, length, IsTrue, IfOk, IfSome, OnOk};
+ghost use Rattle.olr_list.specs.Touching.{changed_of};
+ghost use Rattle.olr_list.specs.Searching.{AreDetours, AreFarther};
+ghost use Rattle.olr_commands.specs.Counts.{Picks, IsAgainClear, most_changed};
+ghost use Rattle.olr_list.specs.Changes.{IsKnownClear};
+ghost use Rattle.std.specs.Prelude.{All};
+
+use crate::change_set::ChangeSet;
+use crate::sources::begin_at;
+use olr_answers::{CoverageQuery, KnownQuery};
+use olr_roads::MapRead;
+use olr_search::{Dijkstra, Direction, GREATEST_LIMIT};
+use std::alloc::{AllocError, Global};
+
+/// The searches for detours over changed lines. They begin with each renewal, and go as far as they are asked.
+#[derive(Drop)]
+pub struct Detours {
+    /// The reverse search from the starts of changed lines.
+    pub(crate) before: Dijkstra,
+    /// The forward search from the ends of changed lines.
+    pub(crate) after: Dijkstra,
+}
+
+impl Detours {
+    /// Searches that have not begun. Takes no memory.
+    pub(crate) fn new(alloc: Global) -> Detours {
+        Detours {
+            before: Dijkstra::new(alloc),
+            after: Dijkstra::new(alloc),
+        }
+    }
+}
+
+/// With more changed lines than this, no detours are searched: nearly every path is encoded anyway.
+const MOST_CHANGED: usize = 8;
+
+/// Whether so few lines changed that detours over them are searched.
+pub(crate) fn are_few(touched: &ChangeSet) -> bool
+    ensures { IsTrue result ↔ (length (changed_of touched.now) ≤ most_changed) }
+{
+    touched.changed.len() <= MOST_CHANGED
+}
+
+/// Begins the searches for distances to the starts of changed lines and from their ends, unless no path is found that
+/// the edits may affect, or too many lines changed.
+pub(crate) fn begin_detours<M: MapRead>(
+    alloc: Global,
+    map: &M,
+    touched: &ChangeSet,
+    found: &[usize],
+    detours: &mut Detours,
+) -> Result<(), AllocError>
+    ensures { OnOk result (0 < length found.now → length (changed_of touched.now) ≤ most_changed
+        → AreDetours (M.map map.now) (M.node_slot map.now) touched.now detours.new) }
+{
+    if found.is_empty() {
+        return Ok(());
+    }
+    if !are_few(touched) {
+        return Ok(());
+    }
+    let changed = touched.changed.as_slice();
+    begin_at(alloc, map, Direction::Against, changed, &mut detours.before)?;
+    begin_at(alloc, map, Direction::Along, changed, &mut detours.after)
+}
+
+/// Whether the sum of two distances is more than a length, all in decimetres, or one of them is None.
+fn is_farther(before: Option<u32>, after: Option<u32>, within: u32) -> bool
+    ensures { IsTrue result ↔ AreFarther before after within }
+{
+    match (before, after) {
+        (Some(before), Some(after)) => { u64::from(before) + u64::from(after) > u64::from(within) }
+        _ => true,
+    }
+}
+
+/// How much of a length is left after a distance, both in decimetres; 0 if there is no distance, or it is greater.
+fn rest_of(before: Option<u32>, within: u32) -> u32
+    ensures rest { IfSome before (λ b. within ≤ b + result) }
+    ensures most { result ≤ within }
+{
+    match before {
+        Some(before) => within.saturating_sub(before),
+        None => 0,
+    }
+}
+
+/// Whether the coverage query is on the map, within the greatest limit, and no detour over the changed lines is as
+/// short. The searches go no farther than it takes to tell.
+fn is_clear<M: MapRead>(
+    map: &M,
+    touched: &ChangeSet,
+    detours: &mut Detours,
+    query: &CoverageQuery,
+) -> Result<bool, AllocError>
+    requires { AreDetours (M.map map.now) (M.node_slot map.now) touched.now detours.old }
+    ensures clear { IfOk result
+        (λ clear. IsTrue clear ↔ IsKnownClear (M.map map.now) (changed_of touched.now) query.now) }
+    ensures detours { OnOk result (AreDetours (M.map map.now) (M.node_slot map.now) touched.now detours.new) }
+{
+    if query.within > GREATEST_LIMIT {
+        return Ok(false);
+    }
+    let Some(from) = map.slot_of(query.from) else {
+        return Ok(false);
+    };
+    let Some(to) = map.slot_of(query.to) else {
+        return Ok(false);
+    };
+    detours.before.settle_to(map, query.within)?;
+    let before = detours.before.dist_at(from);
+    detours.after.settle_to(map, rest_of(before, query.within))?;
+    let after = detours.after.dist_at(to);
+    Ok(is_farther(before, after, query.within))
+}
+
+/// Whether each coverage query is on the map, within the greatest limit, and clear.
+pub(crate) fn are_clear<M: MapRead>(
+    map: &M,
+    touched: &ChangeSet,
+    detours: &mut Detours,
+    queries: &[CoverageQuery],
+) -> Result<bool, AllocError>
+    requires { AreDetours (M.map map.now) (M.node_slot map.now) touched.now detours.old }
+    ensures clear { IfOk result
+        (λ clear. IsTrue clear ↔ All (IsKnownClear (M.map map.now) (changed_of touched.now)) queries.now) }
+    ensures detours { OnOk result (AreDetours (M.map map.now) (M.node_slot map.now) touched.now detours.new) }
+{
+    for query in queries {
+        if !is_clear(map, touched, detours, query)? {
+            return Ok(false);
+        }
+    }
+    Ok(true)
+}
+
+/// Those of the coverage queries along a path's own lines that are clear of the changed lines; none if too many lines
+/// changed.
+pub fn clear_known<M: MapRead>(
+    alloc: Global,
+    map: &M,
+    touched: &ChangeSet,
+    detours: &mut Detours,
+    known: &[KnownQuery],
+) -> Result<Vec<KnownQuery>, AllocError>
+    requires { length (changed_of touched.now) ≤ most_changed
+        → AreDetours (M.map map.now) (M.node_slot map.now) touched.now detours.old }
+    ensures clear { IfOk result
+        (λ clear. Picks (λ e. IsAgainClear (M.map map.now) (changed_of touched.now) e.query) known.now clear.items) }
+    ensures detours { OnOk result (length (changed_of touched.now) ≤ most_changed
+        → AreDetours (M.map map.now) (M.node_slot map.now) touched.now detours.new) }
+{
+    let mut clear = Vec::new(alloc);
+    if !are_few(touched) {
+        return Ok(clear);
+    }
+    for one in known {
+        if is_clear(map, touched, detours, &one.query)? {
+            clear.push(*one)?;
+        }
+    }
+    Ok(clear)
+}

@@ -1,0 +1,47 @@
+//! The entries of replies.
+ghost use Rattle.std.specs.Prelude.{◌≡◌, IfOk};
+ghost use Rattle.olr_commands.specs.Reply.{entry};
+ghost use Rattle.olr_commands.specs.Words.{entry_of};
+
+use crate::path_list::PathList;
+use olr_commands::Entry;
+use std::alloc::{AllocError, Global};
+
+impl PathList {
+    ghost use Rattle.std.specs.Prelude.{◌≡◌, ◌≢◌, [], Some, map, length, IfOk, OnErr};
+    ghost use Rattle.olr_spec.specs.Encoding.{Answer};
+    ghost use Rattle.olr_list.specs.Items.{items, answer_in};
+    ghost use Rattle.olr_list.specs.Changes.{AreEncoded, Reported};
+
+    /// The entry of the path of that name, which was encoded.
+    pub fn entry(&self, alloc: Global, name: &str) -> Result<Entry, AllocError>
+        requires encoded { (A : Answer) × (answer_in (items self.now) name.now ≡ Some A) }
+        ensures { IfOk result (λ e. (A : Answer) × (answer_in (items self.now) name.now ≡ Some A)
+            × (entry_of e ≡ entry name.now A)) }
+    {
+        match self.published_of(name) {
+            Some(published) => published.entry(alloc, name),
+            None => unreachable!(),
+        }
+    }
+
+    /// The entries of all paths, in order. Each of them was encoded. Takes no memory if there are none.
+    pub fn entries(&self, alloc: Global) -> Result<Vec<Entry>, AllocError>
+        requires encoded { AreEncoded (items self.now) }
+        ensures reported { IfOk result (λ es. Reported [] (items self.now) (map entry_of es.items)) }
+        ensures lacks { OnErr result (length (items self.now) ≢ 0) }
+    {
+        let count = self.paths.len();
+        let mut entries = Vec::with_capacity(alloc, count)?;
+        for k in 0..count {
+            let Some((name, named)) = self.paths.get_index(k) else {
+                unreachable!()
+            };
+            let Some(published) = named.published() else {
+                unreachable!()
+            };
+            entries.push_reserved(published.entry(alloc, name.as_str())?);
+        }
+        Ok(entries)
+    }
+}

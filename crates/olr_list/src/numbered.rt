@@ -1,0 +1,50 @@
+//! What an index finds paths by.
+ghost use Rattle.std.specs.Prelude.{◌≡◌, ℕ};
+
+use olr_answers::CoverageQuery;
+use olr_roads::{LineId, NodeId};
+use olr_search::Reached;
+
+/// What has a number in an index.
+pub(crate) trait Numbered {
+    /// The number.
+    ghost number_of: { Self → ℕ };
+
+    /// The number.
+    fn index_number(&self) -> u64
+        ensures { result ≡ number_of self.now };
+}
+
+impl Numbered for NodeId {
+    ghost number_of = { λ v. v };
+
+    fn index_number(&self) -> u64 {
+        u64::from(self.number())
+    }
+}
+
+impl Numbered for LineId {
+    ghost number_of = { λ x. x };
+
+    fn index_number(&self) -> u64 {
+        u64::from(self.number())
+    }
+}
+
+/// A coverage query is found by the node where it begins.
+impl Numbered for CoverageQuery {
+    ghost number_of = { λ l. l.from };
+
+    fn index_number(&self) -> u64 {
+        u64::from(self.from.number())
+    }
+}
+
+/// A labelled node.
+impl Numbered for Reached {
+    ghost number_of = { λ r. r.node };
+
+    fn index_number(&self) -> u64 {
+        u64::from(self.node.number())
+    }
+}

@@ -1,0 +1,128 @@
+//! What is published of a path.
+ghost use Rattle.std.specs.Prelude.{◌≡◌, option_map, string_bytes};
+ghost use Rattle.std.specs.Result.{result_ok};
+ghost use Rattle.olr_answers.specs.Answers.{answer_of};
+ghost use Rattle.olr_commands.specs.Reply.{published_text};
+
+use olr_answers::{Answer, CoverageQuery, KnownQuery};
+use olr_commands::Entry;
+use olr_roads::Footprint;
+use std::alloc::{AllocError, Global};
+
+/// A path's answer, its text, its traversed nodes, its coverage queries, and those along its own lines.
+#[derive(Drop, Debug)]
+pub struct Published {
+    pub(crate) answer: Answer,
+    pub(crate) text: Option<String>,
+    pub(crate) traversed: Footprint,
+    pub(crate) queries: Vec<CoverageQuery>,
+    pub(crate) known: Vec<KnownQuery>,
+    ghost encoded: { option_map string_bytes text ≡ result_ok (published_text (answer_of answer)) },
+}
+
+impl Published {
+    ghost use Rattle.std.specs.Prelude.{◌≡◌, ◌↔◌, IsTrue, IfOk};
+    ghost use Rattle.olr_commands.specs.Reply.{entry};
+    ghost use Rattle.olr_commands.specs.Words.{entry_of};
+    ghost use Rattle.olr_list.specs.Items.{made_of};
+
+    /// What is published for an answer, whose text this is if it has one.
+    pub fn new(
+        answer: Answer,
+        text: Option<String>,
+        traversed: Footprint,
+        queries: Vec<CoverageQuery>,
+        known: Vec<KnownQuery>,
+    ) -> Published
+        requires { option_map string_bytes text ≡ result_ok (published_text (answer_of answer)) }
+        ensures { made_of result ≡ record {
+          answer = answer_of answer;
+          traversed = traversed;
+          queries = queries.items;
+          known = known.items;
+        } }
+    {
+        Published {
+            answer,
+            text,
+            traversed,
+            queries,
+            known,
+        }
+    }
+
+    /// The answer.
+    pub fn answer(&self) -> &Answer
+        ensures { answer_of result.now ≡ (made_of self.now).answer }
+    {
+        &self.answer
+    }
+
+    /// The text of the reference. None if the path is not encodable.
+    pub fn text(&self) -> Option<&str>
+        ensures { option_map (λ t. t.now) result ≡ result_ok (published_text (made_of self.now).answer) }
+    {
+        match &self.text {
+            Some(text) => Some(text.as_str()),
+            None => None,
+        }
+    }
+
+    /// The path's traversed nodes, in ascending order: those of its extended path and of the runs of degree-two nodes
+    /// that were tried.
+    pub fn traversed(&self) -> &Footprint
+        ensures { result.now ≡ (made_of self.now).traversed }
+    {
+        &self.traversed
+    }
+
+    /// The coverage queries of the encoding, in the order of the LRPs at which they begin.
+    pub fn queries(&self) -> &[CoverageQuery]
+        ensures { result.now ≡ (made_of self.now).queries }
+    {
+        self.queries.as_slice()
+    }
+
+    /// The coverage queries along the path's own lines, in the order of the lines where they begin.
+    pub fn known(&self) -> &[KnownQuery]
+        ensures { result.now ≡ (made_of self.now).known }
+    {
+        self.known.as_slice()
+    }
+
+    /// Whether the other has the same answer, by their texts or their reasons.
+    pub fn has_answer_of(&self, other: &Published) -> bool
+        ensures { IsTrue result ↔ ((made_of self.now).answer ≡ (made_of other.now).answer) }
+    {
+        match (&self.answer, &other.answer) {
+            (Answer::Points(one), Answer::Points(another)) => {
+                // For the proof alone: the fields of both are in range.
+                let _first = one.pos;
+                let _second = another.pos;
+                self.text() == other.text()
+            }
+            (Answer::Refused(one), Answer::Refused(another)) => one == another,
+            _ => false,
+        }
+    }
+
+    /// The entry of a reply under this name: the text, or the reason why there is none.
+    pub fn entry(&self, alloc: Global, name: &str) -> Result<Entry, AllocError>
+        ensures { IfOk result (λ e. entry_of e ≡ entry name.now (made_of self.now).answer) }
+    {
+        let name = String::from_str(alloc, name)?;
+        match &self.answer {
+            Answer::Points(_) => match self.text() {
+                Some(text) => Ok(Entry {
+                    name,
+                    published: Ok(String::from_str(alloc, text)?),
+                }),
+                None => unreachable!(),
+            },
+            Answer::Refused(refusal) => Ok(Entry {
+                name,
+                published: Err(*refusal),
+            }),
+        }
+    }
+}

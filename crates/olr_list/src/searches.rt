@@ -1,0 +1,81 @@
+//! The searches of a list's renewals.
+ghost use Rattle.std.specs.Prelude.{◌≡◌};
+ghost use Rattle.olr_list.specs.Origins.{new_origins_in};
+
+use crate::detours::Detours;
+use olr_answers::CoverageQuery;
+use olr_search::{Dijkstra, Reached};
+use std::alloc::Global;
+
+/// Searches that are restarted for each renewal, so that their tables are allocated once.
+#[derive(Drop)]
+pub struct Searches {
+    /// The reverse search from all touched nodes.
+    pub(crate) near: Dijkstra,
+    /// Whether it was known without that search that no coverage query is affected.
+    pub(crate) far: bool,
+    /// The searches from changed lines.
+    pub detours: Detours,
+    /// The search of the encoder.
+    pub query: Dijkstra,
+    /// The coverage queries that the last renewal made.
+    pub new_origins: Vec<CoverageQuery>,
+    /// How many nodes were labelled by searches that found no path.
+    pub(crate) wasted_labels: usize,
+}
+
+impl Searches {
+    ghost use Rattle.std.specs.Prelude.{◌≡◌, ◌≤◌, ℕ, List, Contains, IsTrue, IsFalse};
+    ghost use Rattle.olr_spec.specs.Map.{Map, has_node};
+    ghost use Rattle.olr_spec.specs.Extension.{limit};
+    ghost use Rattle.olr_search.specs.Bounds.{AreLengths, label_at};
+
+    /// Searches that have not begun. Takes no memory.
+    pub fn new(alloc: Global) -> Searches {
+        Searches {
+            near: Dijkstra::new(alloc),
+            far: false,
+            detours: Detours::new(alloc),
+            query: Dijkstra::new(alloc),
+            new_origins: Vec::new(alloc),
+            wasted_labels: 0,
+        }
+    }
+
+    /// The coverage queries of what the last renewal encoded.
+    pub fn new_origins(&self) -> &[CoverageQuery]
+        ensures { result.now ≡ new_origins_in self.now }
+    {
+        self.new_origins.as_slice()
+    }
+
+    /// The number of nodes that searches from touched nodes labelled without finding a path, since the last reset.
+    pub fn wasted_labels(&self) -> usize {
+        self.wasted_labels
+    }
+
+    /// Resets this number to 0.
+    pub fn set_back(&mut self) {
+        self.wasted_labels = 0;
+    }
+
+    /// The nodes that the search from touched nodes labelled; none if it was not made.
+    pub(crate) fn reached(&self) -> &[Reached]
+        ensures { (M : Map) (slot : ℕ → ℕ) (direction : _) (from : List (ℕ × ℕ)) (v : ℕ) → IsFalse self.now.far
+            → AreLengths M slot direction from self.now.near → IsTrue (has_node M v)
+            → label_at self.now.near (slot v) ≤ limit → Contains result.now (record { node = v; slot = slot v }) }
+    {
+        if self.far {
+            return &[];
+        }
+        self.near.labelled_nodes()
+    }
+
+    /// Counts the labels of a renewal's search from touched nodes, if it found no path.
+    pub fn count(&mut self, found: bool) {
+        if !found {
+            let labelled = self.reached().len();
+            self.wasted_labels = self.wasted_labels.saturating_add(labelled);
+        }
+    }
+}

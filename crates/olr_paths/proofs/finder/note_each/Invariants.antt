@@ -1,7 +1,0 @@
-use Rattle.olr_paths.proofs.Common.{take}
-use Rattle.olr_paths.proofs.NotedPositions.{Noted}
-use Rattle.olr_paths.proofs.finder.note_each.Given as goal
-
--- the numbers so far have the path id
-abbrev pub invariant-loop-item : goal.invariant-loop-item
-invariant-loop-item g l = Noted g.T.Numbered.number_of l.path_id l.initial.index l.index (take l.item-index l.items)
