@@ -1,10 +1,12 @@
 -- The names that most proofs of olr_run cite, passed on from one place. Declares nothing.
-pub use Rattle.clap.specs.Faults.{fault_of, is_simple_and_free}
+pub use Rattle.clap.specs.Faults.{fault_of}
 unfoldable pub use Rattle.csv.proofs.OnLiterals.{csv_on_literals}
 pub use Rattle.csv.specs.Machine.{ends_at_end, field_after, fields_after, is_end}
 unfoldable pub use Rattle.csv.specs.Machine.{next_record}
-pub use Rattle.csv.specs.Records.{fields_of, partial_of}
+pub use Rattle.csv.specs.Records.{fields_of}
 pub use Rattle.csv.specs.declared.reader.Reader.{Reader}
+pub use Rattle.olr_arguments.specs.Opens.{IsFile, Opens, OpensFile}
+pub use Rattle.olr_arguments.specs.Options.{Options, keep_app, options, options_of}
 pub use Rattle.olr_commands.proofs.HistoryLemmas.{Claimed, Leads, headline_of, is_dumped, is_named, is_refused}
 pub use Rattle.olr_commands.proofs.HistoryLemmas.{outcome_leads, run_join, run_longer, run_more}
 pub use Rattle.olr_commands.specs.Reply.{ByState, IsOutcome, IsRefusal, IsReply, Outcome, Paths, lacks_memory, may_lack}
@@ -14,21 +16,19 @@ pub use Rattle.olr_records.specs.Records.{Field, read}
 pub use Rattle.olr_records.specs.ReplyText.{count_line, fault_text, outcome_text, reply_text}
 pub use Rattle.olr_register.specs.RegisterState.{Represents}
 pub use Rattle.olr_register.specs.Registered.{Registered}
-pub use Rattle.olr_run.specs.Ends.{Cut_off, Ends, Explained, IsFile, Not_opened, Opens, OpensFile}
-pub use Rattle.olr_run.specs.Options.{Options, keep_app, options, options_of}
+pub use Rattle.olr_run.specs.Ends.{Cut_off, Ends, Explained, Not_opened}
 pub use Rattle.olr_run.specs.Output.{AllHadMemory, AreAnswered, Claims, CommandOutcome, In_last, Outcomes}
 pub use Rattle.olr_run.specs.Output.{RecordOutcome, SoundOutcome, SoundOutcomes, most_records, records_of, texts}
 pub use Rattle.olr_run.specs.Runs.{AnsweredOn, AnswersRecord, CarriedOut, CutIn, FaultedOn, HasTooMany, In_text}
-pub use Rattle.olr_run.specs.Runs.{IsAnswer, Past_the_most, RanIn, RanOn, Records, WritesAll, answer_text, exit_code}
+pub use Rattle.olr_run.specs.Runs.{IsAnswer, Past_the_most, RanIn, RanOn, Records, answer_text}
 pub use Rattle.olr_run.specs.Runs.{known_both, known_file, known_records, last_events, status_of}
-pub use Rattle.olr_run.specs.Sessions.{CsvHappens, Cut, Ended, Event, History, IsOfTaking, IsPlain, Known, Not_taken}
-pub use Rattle.olr_run.specs.Sessions.{Took, Wrote, exchanges}
-pub use Rattle.olr_run.specs.declared.ends.RunFault.{RunFault}
-pub use Rattle.std.proofs.Math.Seq.{drop-length, take-add, take-length}
+pub use Rattle.olr_sessions.specs.Sessions.{CsvHappens, Cut, Ended, Event, History, IsOfTaking, IsPlain, Known}
+pub use Rattle.olr_sessions.specs.Sessions.{Not_taken, Took, Wrote, exchanges}
+pub use Rattle.olr_sessions.specs.Statuses.{exit_code}
+pub use Rattle.olr_sessions.specs.declared.ends.RunFault.{RunFault}
 pub use Rattle.std.proofs.lemmas.Bool.{both_ways, cases_Bool, false≢true, or_from, or_parts, or_right}
-pub use Rattle.std.proofs.lemmas.List.{append-nil, append_assoc, length-map, map-append, take-append-drop, take_all}
-pub use Rattle.std.proofs.lemmas.List.{take_more}
+pub use Rattle.std.proofs.lemmas.List.{append-nil, append_assoc, length-map, map-append}
 pub use Rattle.std.proofs.lemmas.List.Folds.{flat_map-map, list_any-append}
 pub use Rattle.std.specs.Borrow.{Bor}
-pub use Rattle.std.specs.Io.KnownBytes.{Appends, Keeps}
+pub use Rattle.std.specs.Io.KnownBytes.{Appends}
 pub use Rattle.std.specs.Prelude.{IfErr, IfSome, IsErrAnd, IsFalse, if◌then◌else◌, is_err, is_ok, ⊤, ◌&&◌, ◌||◌}

@@ -3,11 +3,11 @@ use Rattle.olr_run.proofs.Common.{Bor, fault_of, Registered, Opens, Ends, Claims
 use Rattle.olr_run.proofs.Common.{RanOn, FaultedOn, HasTooMany, exit_code, RunFault, Options, keep_app, options, IsFile}
 use Rattle.olr_run.proofs.Common.{OpensFile, Not_opened, Cut_off, known_file, IfErr}
 use Rattle.std.proofs.Common.{arith, ◌≡◌, ℕ, List, [], Option, Some, None, Result, Ok, Err, refl, sym, ap, ◌∙◌, ◌⊎◌}
-use Rattle.olr_run.specs.declared.ends.Status.{Status}
+use Rattle.olr_sessions.specs.declared.ends.Status.{Status}
 use Rattle.std.specs.Fn.{Once}
 use Rattle.std.specs.Prelude.{IfOk}
 use Rattle.olr_run.specs.Ends.{Ran}
-use Rattle.olr_run.specs.declared.ends.RunFault.TheVariants as fault
+use Rattle.olr_sessions.specs.declared.ends.RunFault.TheVariants as fault
 
 -- the bytes of the file that was opened
 module _ {O F E : Type 0} (call : Once O (Bor (List ℕ) × Unit {0}) (Result F E)) (remaining : F → Known)

@@ -5,23 +5,24 @@ use Rattle.olr_run.proofs.Common.{Known, Event, Took, Ended, Not_taken, Wrote, C
 use Rattle.olr_run.proofs.Common.{CsvHappens, IsOfTaking, known_records, RanOn, FaultedOn, HasTooMany, RanIn, CutIn}
 use Rattle.olr_run.proofs.Common.{Past_the_most, In_text, AnsweredOn, status_of, RunFault, next_record, flat_map-map}
 use Rattle.std.proofs.Common.{◌≡◌, ◌≢◌, ◌∙◌, ℕ, Bool, List, [], ◌∷◌, ◌++◌, length, map, None, Some, inl, inr, refl}
-use Rattle.std.proofs.Common.{sym, ap, subst, arith, length-append, option_map}
+use Rattle.std.proofs.Common.{sym, ap, subst, arith, length-append}
 use Rattle.std.proofs.KnownBytes.{Appends-nil, Appends-trans}
 use Rattle.csv.specs.Reading.{default_config, source_of, Reached, reader_state, strip_bom}
 use Rattle.olr_commands.specs.State.{IsContent}
 use Rattle.olr_run.specs.Runs.{In_taking, No_text}
-use Rattle.olr_run.specs.declared.ends.Status.{Status}
+use Rattle.olr_sessions.specs.declared.ends.Status.{Status}
 use Rattle.std.specs.Prelude.{IfOk, Result, Ok, Err}
 use Rattle.csv.proofs.ReadFacts.{rows-more, rows-end}
 use Rattle.olr_run.proofs.RecordLemmas.{first_records}
+use Rattle.olr_sessions.proofs.SessionLemmas.{Starts}
 use Rattle.olr_run.proofs.RunLemmas.{claims_of}
 use Rattle.olr_run.proofs.Running.{represented}
 use Rattle.olr_run.proofs.Joining.{stopped_is}
 use Rattle.std.specs.List.{flat_map}
 use Rattle.csv.specs.declared.parser.State.TheVariants as st
 use Rattle.olr_run.specs.Output as output
-use Rattle.olr_run.specs.declared.ends.Status.TheVariants as ended
-use Rattle.olr_run.specs.declared.ends.RunFault.TheVariants as fault
+use Rattle.olr_sessions.specs.declared.ends.Status.TheVariants as ended
+use Rattle.olr_sessions.specs.declared.ends.RunFault.TheVariants as fault
 
 -- ---- texts
 
@@ -53,12 +54,6 @@ reader_at p = p.0
 
 abbrev pub written_at : {A W : Type 0} → (W → Known) → A × W → Known
 written_at contents p = contents p.1
-
--- the reader of an input before its first record
-pub record Starts {R : Type 0} (remaining : R → Known) (a : Reader R) (known : Known) : Type 0 where
-  pub plain : IsPlain a
-  pub state : reader_state a ≡ st.StartRecord
-  pub source : source_of remaining a ≡ option_map strip_bom known
 
 -- these records of the input were read, and these bytes written
 record Through {R : Type 0} (remaining : R → Known) (before : Known) (input : List ℕ) (rs : List (List Field))

@@ -8,12 +8,12 @@ use Rattle.std.proofs.Common.{length-append, Some, inl, inr, refl, sym, ap}
 use Rattle.std.proofs.KnownBytes.{Appends-nil, Appends-trans}
 use Rattle.olr_commands.specs.State.{IsContent, State}
 use Rattle.olr_run.specs.Output.{StopsAtFault, any_refused, Ran, CutOff, Before_next, No_text, greater}
-use Rattle.olr_run.specs.declared.ends.Status.{Status}
+use Rattle.olr_sessions.specs.declared.ends.Status.{Status}
 use Rattle.std.proofs.lemmas.List.Concat.{flat_map-append}
 use Rattle.olr_run.proofs.RunLemmas.{claims_of}
 use Rattle.olr_run.proofs.Running.{represented, status_by, stopped_by, stops_join}
 use Rattle.olr_run.specs.Output as output
-use Rattle.olr_run.specs.declared.ends.Status.TheVariants as status
+use Rattle.olr_sessions.specs.declared.ends.Status.TheVariants as status
 
 -- no bytes have no records
 pub no_file : (stop : Bool) (old : Registered) (before : Known) → IsContent old.kept.content →

@@ -2,12 +2,8 @@ pub mod Common
 pub mod RecordLemmas
 pub mod RunLemmas
 pub mod Answering
-pub mod Writing
-pub mod SessionLemmas
 pub mod Running
 pub mod Joining
 pub mod InputRuns
-pub mod CsvBytes
-pub mod InMemoryRuns
 pub mod Ending
 pub mod Dumping

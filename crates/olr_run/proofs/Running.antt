@@ -9,13 +9,13 @@ use Rattle.std.proofs.Common.{Err, Result, inl, inr, refl, sym, ap, subst, lengt
 use Rattle.olr_commands.specs.State.{IsContent, State}
 use Rattle.olr_run.specs.Output.{StopsAtFault, any_refused, run_status}
 use Rattle.olr_run.specs.Runs.{In_taking, No_text}
-use Rattle.olr_run.specs.declared.ends.Status.{Status}
+use Rattle.olr_sessions.specs.declared.ends.Status.{Status}
 use Rattle.olr_run.proofs.RunLemmas.{sound_after, claims_of}
-use Rattle.olr_run.proofs.SessionLemmas.{history_join, exchanges_more}
+use Rattle.olr_sessions.proofs.SessionLemmas.{history_join, exchanges_more}
 use Rattle.std.proofs.Math.Bool.{or-true, or-false, and-false}
 use Rattle.olr_run.specs.Output as output
-use Rattle.olr_run.specs.declared.ends.Status.TheVariants as ended
-use Rattle.olr_run.specs.declared.ends.RunFault.TheVariants as fault
+use Rattle.olr_sessions.specs.declared.ends.Status.TheVariants as ended
+use Rattle.olr_sessions.specs.declared.ends.RunFault.TheVariants as fault
 
 -- ---- outcomes
 

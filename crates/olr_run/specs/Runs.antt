@@ -1,12 +1,10 @@
 -- Runs on a register in terms of Rust's values: in a session, and by the known bytes of a reader and a writer.
---     WritesAll before later bytes r      all of the bytes were written, or only the first of them
 --     CarriedOut old fields new r      the effect of a record on the register, and its answer
 --     AnswersRecord      the same, and its text was written
 --     RanIn, CutIn      a run in a session: each record was taken and answered before the next
 --     known_records known      the records of known bytes
 --     known_both      those of a file followed by those of the input
 --     RanOn, FaultedOn      a run over known records
---     exit_code r      the exit status of the program
 use Rattle.std.specs.Prelude.{◌≡◌, ◌≢◌, ℕ, ◌<◌, Bool, ◌&&◌, List, [], ◌∷◌, ◌++◌, length, map, Option, Some, None}
 use Rattle.std.specs.Prelude.{option_map, Result, Ok, Err, IfSome, is_ok, IsFalse, ◌⊎◌, ⊤}
 use Rattle.std.specs.Io.KnownBytes.{Appends}
@@ -23,16 +21,12 @@ use Rattle.olr_register.specs.Registered.{Registered}
 use Rattle.olr_run.specs.Output as output
 use Rattle.olr_run.specs.Output.{SoundOutcome, Claims, StopsAtFault, any_refused, run_status, Ran, Faulted, records_of}
 use Rattle.olr_run.specs.Output.{most_records}
-use Rattle.olr_run.specs.Sessions.{Known, Event, Took, Ended, Not_taken, Wrote, Cut, History, exchanges, IsOfTaking}
-use Rattle.olr_run.specs.declared.ends.RunFault.{RunFault}
-use Rattle.olr_run.specs.declared.ends.RunFault.TheVariants as fault
-use Rattle.olr_run.specs.declared.ends.Status.{Status}
-use Rattle.olr_run.specs.declared.ends.Status.TheVariants as status
-
-abbrev pub WritesAll : Known → Known → List ℕ → Result (Unit {0}) RunFault → Type 0
-WritesAll before later bytes (Ok done) = Appends before later bytes
-WritesAll before later bytes (Err e) =
-    (front rest : List ℕ) × (bytes ≡ front ++ rest) × (rest ≢ []) × Appends before later front × (e ≡ fault.Write)
+use Rattle.olr_sessions.specs.Sessions.{Known, Event, Took, Ended, Not_taken, Wrote, Cut, History, exchanges}
+use Rattle.olr_sessions.specs.Sessions.{IsOfTaking}
+use Rattle.olr_sessions.specs.declared.ends.RunFault.{RunFault}
+use Rattle.olr_sessions.specs.declared.ends.RunFault.TheVariants as fault
+use Rattle.olr_sessions.specs.declared.ends.Status.{Status}
+use Rattle.olr_sessions.specs.declared.ends.Status.TheVariants as status
 
 -- ---- one record
 
@@ -155,12 +149,3 @@ FaultedOn Each stop old records before new later e =
 
 abbrev pub HasTooMany : Known → Type 0
 HasTooMany known = IfSome known (λ input. most_records < length (records_of input))
-
-abbrev pub exit_code : Result Status RunFault → ℕ
-exit_code (Ok status.AllAccepted) = 0
-exit_code (Ok status.SomeRefused) = 1
-exit_code (Ok status.Stopped) = 1
-exit_code (Err fault.Read) = 3
-exit_code (Err fault.Write) = 3
-exit_code (Err fault.TooMany) = 3
-exit_code (Err fault.Memory) = 4

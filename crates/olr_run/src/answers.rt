@@ -7,12 +7,11 @@ ghost use Rattle.olr_commands.specs.Words.{reply_of};
 ghost use Rattle.olr_records.specs.ReplyText.{reply_text};
 ghost use Rattle.olr_run.specs.Runs.{CarriedOut, answer_text, WritesText, AnswersRecord};
 
-use crate::ends::RunFault;
-use crate::sessions::Session;
 use csv::ByteRecord;
 use olr_commands::Reply;
 use olr_records::{append_reply, fault_text, no_paths_text, read_command, read_fault_text};
 use olr_register::Register;
+use olr_sessions::{RunFault, Session};
 use std::alloc::{AllocError, Global};
 
 /// Carries out the command of a record. Returns the reply, or the line of the fault.

@@ -4,9 +4,9 @@ ghost use Rattle.std.specs.Prelude.{◌≡◌, ◌⊎◌, IfOk, IfErr};
 ghost use Rattle.olr_run.specs.Output.{greater, Claims};
 ghost use Rattle.olr_run.specs.Runs.{known_file, known_records, known_both, status_of, RanOn, FaultedOn, HasTooMany};
 
-use crate::ends::{RunFault, Status};
 use crate::records::run;
 use olr_register::Register;
+use olr_sessions::{RunFault, Status};
 use std::alloc::Global;
 use std::io::{Read, Write};
 

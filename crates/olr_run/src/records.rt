@@ -5,11 +5,9 @@ ghost use Rattle.olr_run.specs.Output.{Claims, records_of};
 ghost use Rattle.olr_run.specs.Runs.{known_records, RanIn, CutIn, RanOn, FaultedOn, HasTooMany};
 
 use crate::answers::write_outcome;
-use crate::ends::{RunFault, Status};
-use crate::in_memory::InMemory;
-use crate::sessions::Session;
 use csv::{ByteRecord, ReaderBuilder};
 use olr_register::Register;
+use olr_sessions::{InMemory, RunFault, Session, Status};
 use std::alloc::Global;
 use std::io::{Read, Write};
 

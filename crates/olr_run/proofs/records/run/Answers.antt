@@ -2,7 +2,8 @@
 use Rattle.std.proofs.Common.{◌∙◌, ap, true, inr}
 use Rattle.csv.specs.Reading.{builder_config, builder_trim, builder_names_headers, builder_is_flexible, with_flexible}
 use Rattle.csv.specs.declared.reader.ReaderBuilder.{ReaderBuilder}
-use Rattle.olr_run.proofs.InputRuns.{OfReader, Starts, reader_at, written_at, on_known}
+use Rattle.olr_run.proofs.InputRuns.{OfReader, reader_at, written_at, on_known}
+use Rattle.olr_sessions.proofs.SessionLemmas.{Starts}
 use Rattle.olr_run.proofs.records.run.Goals as goal
 
 pub returns : goal.returns

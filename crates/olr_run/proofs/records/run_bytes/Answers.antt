@@ -1,6 +1,6 @@
 -- A run over bytes in memory, from its session.
 use Rattle.std.proofs.Common.{Some}
-use Rattle.olr_run.proofs.InMemoryRuns.{OfBytes, all_known, bytes_at, happens_as, starts_in_memory}
+use Rattle.olr_sessions.proofs.InMemoryRuns.{OfBytes, all_known, bytes_at, happens_as, starts_in_memory}
 use Rattle.olr_run.proofs.InputRuns.{written_at, on_known}
 use Rattle.olr_run.proofs.records.run_bytes.Goals as goal
 

@@ -1,0 +1,118 @@
+//! The command-line arguments, read by `clap`.
+
+ghost use Rattle.std.specs.Prelude.{◌≡◌, [], map, true, false, IfOk, IfErr, MatchResult, option_map};
+ghost use Rattle.clap.specs.Faults.{fault_of};
+ghost use Rattle.clap.specs.Simple.{app_of};
+ghost use Rattle.clap.specs.Takes.{takes};
+ghost use Rattle.clap.specs.Kinds.{Kinds, HasKind};
+ghost use Rattle.clap.specs.Values.{kind_of};
+ghost use Rattle.clap.specs.declared.error.kind.ErrorKind.TheVariants as kinds;
+ghost use Rattle.clap.specs.Walk.{rule_of};
+ghost use Rattle.olr_arguments.specs.Options.{described_app, file_rule, stop_rule, keep_app, options, options_of, is_set, IsOptionsFault};
+
+use crate::arguments::{Options, OptionsFault};
+use clap::error::ErrorKind;
+use clap::{Arg, ArgAction, Command, Error};
+use std::alloc::{AllocError, Global};
+use std::convert::AsStr;
+
+const ABOUT: &str = "Keeps published OpenLR strings correct while the road map is edited.";
+
+/// The version, and the toolchain with which it was proved, as `rt version` prints it.
+const VERSION: &str = "1.1.0, proved with rattle-kit-13f logic dac8208d650f15bf";
+
+const AFTER_HELP: &str =
+    "Records: node, move, drop-node, line, set-line, drop-line, path, repath, drop-path,
+show, report, dump, explain, begin, commit, abort. docs/LIMITS.md: fields, limits, faults.
+Replies: `ok,N` and N lines, `held,N` in a batch, `fault,NUMBER,WORD`.
+Example: olr-keep < examples/morning.csv
+Status: 0 all accepted, 1 some rejected, 2 invalid arguments, 3 I/O failed, 4 out of memory.
+docs/RUNNING.md: maps from a database, a log for restarts, a queue, regions.";
+
+/// The argument that names the command file.
+fn file_argument<'a>(alloc: Global) -> Arg<'a>
+    ensures rule { rule_of result ≡ file_rule }
+    ensures local { result.global ≡ false }
+{
+    Arg::new(alloc, "file")
+        .short('m')
+        .value_name("FILE")
+        .action(ArgAction::Set)
+        .help("Reads the records of FILE before those of standard input")
+}
+
+/// The argument that asks for a stop at the first rejected command.
+fn stop_argument<'a>(alloc: Global) -> Arg<'a>
+    ensures rule { rule_of result ≡ stop_rule }
+    ensures local { result.global ≡ false }
+{
+    Arg::new(alloc, "stop")
+        .short('s')
+        .action(ArgAction::SetTrue)
+        .help("Stops at the first rejected record")
+}
+
+/// The program's texts, without arguments.
+fn described<'a>(alloc: Global) -> Command<'a>
+    ensures { app_of result ≡ described_app }
+{
+    Command::new(alloc, "olr-keep")
+        .version(VERSION)
+        .about(ABOUT)
+        .after_help(AFTER_HELP)
+}
+
+/// The program's arguments.
+fn command<'a>(alloc: Global) -> Result<Command<'a>, AllocError>
+    ensures { IfOk result (λ c. app_of c ≡ keep_app) }
+{
+    described(alloc)
+        .arg(file_argument(alloc))?
+        .arg(stop_argument(alloc))
+}
+
+/// Whether the text of a flag, if it has one, says that the flag is set.
+fn is_given(flag: Option<&str>) -> bool
+    ensures { result ≡ is_set (option_map (λ text. text.now) flag.entry) }
+{
+    match flag {
+        Some(text) => text == "true",
+        None => false,
+    }
+}
+
+/// Why arguments that `clap` rejected give no options.
+fn rejected(error: Error) -> OptionsFault
+    ensures memory { kind_of error ≡ kinds.OutOfMemory → result ≡ OptionsFault.Memory }
+    ensures kinds { (kinds : Kinds) → HasKind kinds error → IsOptionsFault kinds result }
+{
+    if error.kind() == ErrorKind::OutOfMemory {
+        return OptionsFault::Memory;
+    }
+    OptionsFault::Clap(error)
+}
+
+/// Reads the command-line arguments, the first of which is the program's own name. Arguments that the definition
+/// accepts are rejected only if an allocation fails.
+pub fn options<'a, S: AsStr>(alloc: Global, arguments: &'a [S]) -> Result<Options<'a>, OptionsFault>
+    ensures ok { IfOk result (λ o. options_of o ≡ options (map S.text arguments.entry.now)) }
+    ensures taken { takes keep_app (map S.text arguments.entry.now) ≡ true →
+        IfErr result (λ e. e ≡ OptionsFault.Memory) }
+    ensures kinds { MatchResult result (λ _. fault_of keep_app (map S.text arguments.entry.now) ≡ [])
+        (IsOptionsFault (fault_of keep_app (map S.text arguments.entry.now))) }
+{
+    let Ok(command) = command(alloc) else {
+        return Err(OptionsFault::Memory);
+    };
+    match command.try_get_matches_from(arguments) {
+        Ok(matches) => {
+            let options = Options {
+                file: matches.get_str("file"),
+                stop: is_given(matches.get_str("stop")),
+            };
+            drop(matches);
+            Ok(options)
+        }
+        Err(error) => Err(rejected(error)),
+    }
+}

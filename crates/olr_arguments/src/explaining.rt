@@ -1,0 +1,50 @@
+//! Why the arguments gave no options: help, the version or a fault is written.
+
+ghost use Rattle.std.specs.Prelude.{◌≡◌, ◌≤◌};
+ghost use Rattle.clap.specs.Kinds.{Kinds};
+ghost use Rattle.olr_arguments.specs.Explains.{Explains, ExplainsFault, Shows};
+ghost use Rattle.olr_arguments.specs.Options.{IsOptionsFault};
+
+use crate::arguments::OptionsFault;
+use olr_sessions::{RunFault, report_fault, write_all};
+use std::alloc::Global;
+use std::fmt::Display;
+use std::io::Write;
+
+/// The exit status for invalid arguments.
+pub const WRONG_ARGUMENTS: u8 = 2;
+
+/// Writes a text as it is: help or the version.
+fn show<D: Display, W: Write>(alloc: Global, shown: &D, output: &mut W) -> Result<(), RunFault>
+    ensures { Shows (D.output shown.now) (W.contents output.old) (W.contents output.new) result }
+{
+    let text = format!(in alloc; "{shown}")?;
+    write_all(output, text.as_bytes())
+}
+
+/// Writes why the arguments gave no options, and returns the exit status: help and the version are no fault. The status
+/// is 4 only if an allocation failed, in `clap` or for the text.
+pub fn explain<W: Write, E: Write>(
+    alloc: Global,
+    fault: &OptionsFault,
+    output: &mut W,
+    errors: &mut E,
+) -> u8
+    ensures bounded { result ≤ 4 }
+    ensures explains { (kinds : Kinds) → IsOptionsFault kinds fault.now
+        → Explains kinds (W.contents output.old) (W.contents output.new) result }
+    ensures by_fault { ExplainsFault fault.now (W.contents output.old) (W.contents output.new) result }
+    ensures quiet { result ≤ 1 → errors.new ≡ errors.old }
+{
+    match fault {
+        OptionsFault::Memory => report_fault(RunFault::Memory, errors),
+        OptionsFault::Clap(error) if error.use_stderr() => {
+            let _ = write!(errors, "{error}");
+            WRONG_ARGUMENTS
+        }
+        OptionsFault::Clap(error) => match show(alloc, error, output) {
+            Ok(()) => 0,
+            Err(fault) => report_fault(fault, errors),
+        },
+    }
+}

@@ -1,0 +1,13 @@
+//! The command-line arguments, read by `clap`: the command file, and whether to stop at the first rejected command; or
+//! help, the version or a fault, which is written.
+#![tactic(auto)]
+
+mod arguments;
+mod command_line;
+mod explaining;
+mod files;
+
+pub use arguments::{Options, OptionsFault};
+pub use command_line::options;
+pub use explaining::{WRONG_ARGUMENTS, explain};
+pub use files::open_file;

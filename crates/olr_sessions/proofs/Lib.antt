@@ -1,0 +1,4 @@
+pub mod SessionLemmas
+pub mod CsvBytes
+pub mod Writing
+pub mod InMemoryRuns

@@ -1,0 +1,81 @@
+-- Sessions: the events at the two ends of a run, in order.
+--     Event      a record was taken, or there was none, or none could be taken; a text was written, or only its
+--         first bytes
+--     History happens a es b      these events, in this order, lead from a to b; happens is the relation of one event
+--     exchanges rs texts      each record was taken, and then its text was written
+--     WritesAll before later bytes r      all of the bytes were written, or only the first of them
+--     IsPlain r, ReadsOne remaining old new found fields      a reader with csv's defaults, and one read of it
+--     CsvHappens      the events of such a reader and a writer whose bytes are known
+use Rattle.std.specs.Prelude.{◌≡◌, ◌≢◌, ℕ, Bool, true, false, List, [], ◌∷◌, ◌++◌, Option, Result, Ok, Err, ⊤}
+use Rattle.std.specs.Io.KnownBytes.{Appends}
+use Rattle.csv.specs.Reading.{ReadRecord, Ready, default_config, reader_config, reader_trim, is_flexible, has_failed}
+use Rattle.csv.specs.declared.reader.Reader.{Reader}
+use Rattle.csv.specs.declared.reader.Trim.TheVariants as trim
+use Rattle.olr_sessions.specs.declared.ends.RunFault.{RunFault}
+use Rattle.olr_sessions.specs.declared.ends.RunFault.TheVariants as fault
+
+abbrev pub Known : Type 0
+Known = Option (List ℕ)
+
+-- ---- events
+
+pub data Event : Type 0 where
+  Took : (fields : List (List ℕ)) → Event
+  Ended : Event
+  Not_taken : (fault : RunFault) → Event
+  Wrote : (text : List ℕ) → Event
+  Cut : (front : List ℕ) → Event
+
+abbrev pub History : {S : Type 0} → (S → Event → S → Type 0) → S → List Event → S → Type 0
+History happens a [] b = a ≡ b
+History {S} happens a (e ∷ es) b = (m : S) × happens a e m × History happens m es b
+
+abbrev pub exchanges : List (List (List ℕ)) → List (List ℕ) → List Event
+exchanges [] texts = []
+exchanges (r ∷ rs) [] = []
+exchanges (r ∷ rs) (text ∷ texts) = Took r ∷ Wrote text ∷ exchanges rs texts
+
+-- ---- calls
+
+-- a fault of taking a record: that of the reader, or out of memory
+abbrev pub IsOfTaking : RunFault → Type 0
+IsOfTaking fault.Read = ⊤
+IsOfTaking fault.Memory = ⊤
+IsOfTaking _ = ⊥
+
+abbrev pub TakesNext : {S : Type 0} → (S → Event → S → Type 0) → S → S → Result Bool RunFault → List (List ℕ) → Type 0
+TakesNext happens old new (Ok true) fields = happens old (Took fields) new
+TakesNext happens old new (Ok false) fields = happens old Ended new
+TakesNext happens old new (Err e) fields = happens old (Not_taken e) new × IsOfTaking e
+
+-- all of the text was written, or only its first bytes
+abbrev pub Writes : {S : Type 0} → (S → Event → S → Type 0) → S → List ℕ → S → Result (Unit {0}) RunFault → Type 0
+Writes happens old text new (Ok done) = happens old (Wrote text) new
+Writes happens old text new (Err e) =
+    (front rest : List ℕ) × (text ≡ front ++ rest) × (rest ≢ []) × happens old (Cut front) new × (e ≡ fault.Write)
+
+abbrev pub WritesAll : Known → Known → List ℕ → Result (Unit {0}) RunFault → Type 0
+WritesAll before later bytes (Ok done) = Appends before later bytes
+WritesAll before later bytes (Err e) =
+    (front rest : List ℕ) × (bytes ≡ front ++ rest) × (rest ≢ []) × Appends before later front × (e ≡ fault.Write)
+
+-- ---- records as csv reads them
+
+-- a csv reader with its defaults, no header, any number of fields, and no field trimmed
+pub record IsPlain {R : Type 0} (r : Reader R) : Type 0 where
+  pub config : reader_config r ≡ default_config
+  pub trim : reader_trim r ≡ trim.None
+  pub flexible : is_flexible r ≡ true
+  pub ready : Ready r
+
+abbrev pub ReadsOne : {R : Type 0} → (R → Known) → Reader R → Reader R → Bool → List (List ℕ) → Type 0
+ReadsOne remaining old new found fields = IsPlain old → IsPlain new × ReadRecord remaining old new found fields
+
+-- if no record can be taken, because the reader below or an allocation failed, then none can be taken afterwards
+abbrev pub CsvHappens : {R : Type 0} → (R → Known) → Reader R → Reader R → Known → Known → Event → Type 0
+CsvHappens remaining old new before later (Took fields) = ReadsOne remaining old new true fields × (later ≡ before)
+CsvHappens remaining old new before later Ended =
+    ((fields : List (List ℕ)) × ReadsOne remaining old new false fields) × (later ≡ before)
+CsvHappens remaining old new before later (Not_taken e) = (IsPlain old → has_failed new ≡ true) × (later ≡ before)
+CsvHappens remaining old new before later (Wrote text) = (new ≡ old) × Appends before later text
+CsvHappens remaining old new before later (Cut front) = (new ≡ old) × Appends before later front
