@@ -1,8 +1,7 @@
 -- Each element of what a reference encodes as is a byte.
-use Rattle.olr_spec.proofs.Common.{rules, ℕ, zero, suc, ◌%◌, ◌<◌, List, [], ◌∷◌, ◌++◌, Option}
-use Rattle.olr_spec.proofs.Common.{IfSome, slice_index, arith, AllByRecursion, flat_map, First, Middle, Last, Reference}
-use Rattle.olr_spec.proofs.Common.{IsFirst, IsMiddle, IsLast, IsReference, first_bytes, last_bytes, middle_bytes}
-use Rattle.olr_spec.proofs.Common.{reference_bytes}
+use Rattle.olr_spec.proofs.Common.{rules, ℕ, zero, suc, ◌%◌, ◌<◌, List, [], ◌∷◌, ◌++◌, Option, IfSome, slice_index}
+use Rattle.olr_spec.proofs.Common.{arith, AllByRecursion, flat_map, First, Middle, Last, Reference, IsFirst, IsMiddle}
+use Rattle.olr_spec.proofs.Common.{IsLast, IsReference, first_bytes, last_bytes, middle_bytes, reference_bytes}
 use Rattle.base64.specs.GeneralPurpose.{IsBytes}
 use Rattle.olr_spec.proofs.ReadLemmas.{AreBytes}
 use Rattle.olr_spec.proofs.BytesLemmas.{flag_below}

@@ -110,8 +110,7 @@ lead_nodes m lines ps (e ∷ es) s a =
 
 -- the ends of the line are among these nodes, and the line is valid
 abbrev Fits : FinMap nat_cmp Coord → ℕ × Line → Type 0
-Fits nodes e =
-    (is_some (get nodes e.1.from) ≡ true) × (is_some (get nodes e.1.to) ≡ true) × (is_good e.1 ≡ true)
+Fits nodes e = (is_some (get nodes e.1.from) ≡ true) × (is_some (get nodes e.1.to) ≡ true) × (is_good e.1 ≡ true)
 
 lead_lines : (nodes : FinMap nat_cmp Coord) (m : FinMap nat_cmp Line) (ps : List Named) (es : List (ℕ × Line)) →
     T (is_sorted nat_cmp es) → Absent m es → AllByRecursion (Fits nodes) es →

@@ -109,8 +109,7 @@ module _ (s t : State) (x : Change) (name : List ℕ) (path : Path) (i : IsState
 
 -- the change that is made
 made : (s t : State) (x : Change) → s.batch ≡ None → step s (Make x) ≡ Ok t → with_change s.content x ≡ Ok t.content
-made s t x b is =
-    ends (λ u. with_change s.content x ≡ Ok u.content) s t (Make x) is (rw b (λ d e. e))
+made s t x b is = ends (λ u. with_change s.content x ≡ Ok u.content) s t (Make x) is (rw b (λ d e. e))
 
 pub added_path : (s t : State) (name : List ℕ) (path : Path) → s.batch ≡ None →
     step s (Make (Add_path name path)) ≡ Ok t → path_named t.content.paths name ≡ Some path

@@ -197,8 +197,7 @@ step-at : (k j n : ℕ) → k ≤ 7 → n < 10 ^ k → 0 < n → k ≡ suc j →
 step-at k j n few h more e f = grind (arith, ten-positive, pow-le-pow_right, digit-small, mod-lt, next-digit)
 
 pub step : (k n : ℕ) → k ≤ 7 → n < 10 ^ k → 0 < n → IsStep k n
-step k n few h more =
-    step-at k (k - 1) n few h more (omega (arith, places-left k n h more)) refl
+step k n few h more = step-at k (k - 1) n few h more (omega (arith, places-left k n h more)) refl
 
 pub point-first : (n : ℕ) → n < 10 ^ 7 → 0 < n → after_point (decimals 7 n) ≡ 46 ∷ decimals 7 n
 point-first n h more = ap after_point (next-digit 6 n more) ∙ ap (λ (ds : List ℕ). 46 ∷ ds) (sym (next-digit 6 n more))

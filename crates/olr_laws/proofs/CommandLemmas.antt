@@ -214,8 +214,7 @@ some_reply s t (Show name) i h is n = let es =
     (Paths es.0, es.1)
 some_reply s t Report i h is n = let es =
     some_all s.content.map i.content.map s.content.paths i.content.paths in (Paths es.0, es.1)
-some_reply s t Dump i h is n =
-    (Dumped (length (dump_lines s.content)) (concat (dump_lines s.content)), refl)
+some_reply s t Dump i h is n = (Dumped (length (dump_lines s.content)) (concat (dump_lines s.content)), refl)
 some_reply s t (Explain text) i h is n = absurd (n text refl)
 some_reply s t Begin i h is n = (Paths [], refl)
 some_reply s t (Commit count) i h is n = let es =

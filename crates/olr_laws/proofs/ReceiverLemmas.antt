@@ -219,8 +219,7 @@ module _ (M : Map) (m : IsMap M) (P : Path) (is : IsTrue (is_path P.lines)) (non
   known_lines = (extended_sound M P is none e.before e.after e.tried).known
 
   stretches_are : (ws : List (List ℕ)) → IsStretches M P ws → ws ≡ stretches Lines (formed.h ∷ formed.i ∷ formed.js)
-  stretches_are ws s =
-      same_path M m P is none r e _ s ∙ ap (stretches Lines) formed.kept
+  stretches_are ws s = same_path M m P is none r e _ s ∙ ap (stretches Lines) formed.kept
 
   cuts : (ws : List (List ℕ)) → IsStretches M P ws → (front back : ℕ) → IsLeft M P front back → (n : ℕ) → 0 < n →
       Cuts M m Lines known_lines n ws r front back

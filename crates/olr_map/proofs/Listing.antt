@@ -165,8 +165,7 @@ module _ (side : Side) (M : Map) (v : ℕ) where
   none_listed h = grind (arith, common_steps, same_ascending, ascending_none, ascends_at, has-lines_where, none_passes)
 
   pub absent_lines : IsMap M → has_node M v ≡ false → [] ≡ lines_at side M v
-  absent_lines sound absent =
-      none_listed (λ x l e. other_node M (near side l) v (near_there side M x l sound e) absent)
+  absent_lines sound absent = none_listed (λ x l e. other_node M (near side l) v (near_there side M x l sound e) absent)
 
   pub unused_lines : in_use M v ≡ false → [] ≡ lines_at side M v
   unused_lines free = none_listed (λ x l e. near_unused side M v x l free e)

@@ -46,8 +46,7 @@ abbrev no_totals : Totals
 no_totals = record { affected = 0; spared = 0; queries = [] }
 
 abbrev both : Totals → Totals → Totals
-both t u =
-    record { affected = t.affected + u.affected; spared = t.spared + u.spared; queries = t.queries ++ u.queries }
+both t u = record { affected = t.affected + u.affected; spared = t.spared + u.spared; queries = t.queries ++ u.queries }
 
 module _ (L N : Map) (T X : List ℕ) (C : List ChangedLine) (is js : List Item) (t u : Totals) where
   totals_both : AreTotals L N T X C is t → AreTotals L N T X C js u → AreTotals L N T X C (is ++ js) (both t u)

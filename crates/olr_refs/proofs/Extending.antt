@@ -44,8 +44,7 @@ module _ (M : Map) (P : Path) (good : IsTrue (is_path P.lines)) (unknown : first
       (b : IsRun M Against (ids own) before before_len before_valid)
       (front : List ResolvedLine) (front_is : front ≡ cond before_valid before [] ++ own) where
     start_is : ids (cond before_valid before []) ≡ taken_start M (ids before) P.lines
-    start_is =
-        taken_is before_valid _ before b.leads ∙ ap (λ (ls : List ℕ). taken_start M (ids before) ls) own_ids
+    start_is = taken_is before_valid _ before b.leads ∙ ap (λ (ls : List ℕ). taken_start M (ids before) ls) own_ids
 
     -- the path, extended at its start
     from_is : ids front ≡ from_start M P (ids before)

@@ -6,8 +6,7 @@ use Rattle.olr_refs.proofs.Common.{records_of, ids, AreRecords}
 -- the record of line k
 pub record_at : (M : Map) (ls : List ℕ) (rs : List ResolvedLine) (k : ℕ) (d : ResolvedLine) → rs ≡ records_of M ls →
     k < length ls → get_or rs k d ≡ record_of M (slice_index ls k)
-record_at M ls rs k d e h =
-    ap (λ (xs : List ResolvedLine). get_or xs k d) e ∙ get_or-map (record_of M) ls k 0 d h
+record_at M ls rs k d e h = ap (λ (xs : List ResolvedLine). get_or xs k d) e ∙ get_or-map (record_of M) ls k 0 d h
 
 pub records_length : (M : Map) (ls : List ℕ) (rs : List ResolvedLine) → rs ≡ records_of M ls → length rs ≡ length ls
 records_length M ls rs e = ap (λ (xs : List ResolvedLine). length xs) e ∙ length-map ls (record_of M)

@@ -96,8 +96,7 @@ module _ (M : Map) (ls : List ℕ) (lead own : ℕ) (known : List KnownQuery) (r
     (joined : AreJoined M ls) (i far : ℕ) (some : i + 1 < length ls) (is_far : IsFar M ls i far) where
   -- the last position of a query is the last one that is tested
   abbrev pub EndsHere : KnownQuery → Type 0
-  EndsHere e =
-      (lead + e.last ≤ min far (length ls - 1)) × (IsTrue e.covered → lead + e.last ≡ min far (length ls - 1))
+  EndsHere e = (lead + e.last ≤ min far (length ls - 1)) × (IsTrue e.covered → lead + e.last ≡ min far (length ls - 1))
 
   module _ (e : KnownQuery) (listed : Contains known e) (begins : i + 1 ≡ lead + e.first) (ends : EndsHere e) where
     there : KnownThere M ls lead own i e

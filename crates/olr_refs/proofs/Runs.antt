@@ -67,8 +67,7 @@ module _ (M : Map) (d : Direction) (ls : List ℕ) (some : 0 < length ls) (known
   beside : (c : List ℕ) (y x : ℕ) → Chain M d ls c → IsTrue (has_line M y) → LeadsOn M d y x → has ls y ≡ false →
       has c y ≡ false → has c x ≡ false
   beside [] y x p k q a b = refl
-  beside (w ∷ c) y x p k q a b =
-      grind (arith, nat_tests, one_from, tip_known c p.3, tip_in c, beside c y x p.3 k q a)
+  beside (w ∷ c) y x p k q a b = grind (arith, nat_tests, one_from, tip_known c p.3, tip_in c, beside c y x p.3 k q a)
 
   -- what leads on from a run is not among its lines
   pub fresh : (c : List ℕ) (x : ℕ) → Chain M d ls c → LeadsOn M d (tip d ls c) x → has c x ≡ false
@@ -126,8 +125,7 @@ dm_of-in_order M v1 c = grind (arith, dm_of-reverse)
 
 tip_is : (d : Direction) (ls c : List ℕ) → outermost d (joined d ls (in_order d c)) ≡ tip d ls c
 tip_is Along ls [] = ap last (append-nil ls)
-tip_is Along ls (x ∷ c) =
-    rw (pushed x c, ← append_assoc ls (reverse c) (x ∷ [])) (last_push (ls ++ reverse c) x)
+tip_is Along ls (x ∷ c) = rw (pushed x c, ← append_assoc ls (reverse c) (x ∷ [])) (last_push (ls ++ reverse c) x)
 tip_is Against ls c = grind arith
 
 end_parts : (M : Map) (ls c : List ℕ) (x : ℕ) → EndRun M ls (c ++ x ∷ []) → EndRun M ls c × MayFollow M (ls ++ c) x

@@ -105,8 +105,7 @@ module _ (M : Map) (ls ds ps : List ℕ) (d : AreDistances M ls ds) (p : ArePoin
   upto k h = grind (arith, points_end, not_above)
 
   ascend : (j k : ℕ) → j ≤ k → k < length ps → distance_at ds ps j ≤ distance_at ds ps k
-  ascend j k h g =
-      distances_rise M ls ds d _ _ (not_above j k h g) (omega (arith, upto k g))
+  ascend j k h g = distances_rise M ls ds d _ _ (not_above j k h g) (omega (arith, upto k g))
 
   last_distance : whole_distance ds ≡ slice_index ds (length ls)
   last_distance = let long = d.long in let on : length ds - 1 ≡ length ls = omega arith in ap (slice_index ds) on

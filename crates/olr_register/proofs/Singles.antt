@@ -18,8 +18,7 @@ use Rattle.olr_refs.specs.Choice.{raised_count}
 use Rattle.olr_commands.specs.State.{IsState}
 use Rattle.olr_commands.specs.Reply.{IsPaths}
 use Rattle.olr_commands.specs.Counts.{Raises}
-use Rattle.olr_commands.proofs.SearchLemmas.{paths_raise, spares_none, searches_one, added_path}
-use Rattle.olr_commands.proofs.SearchLemmas.{replaced_path}
+use Rattle.olr_commands.proofs.SearchLemmas.{paths_raise, spares_none, searches_one, added_path, replaced_path}
 use Rattle.olr_register.proofs.Changing.{add_ok, set_ok, drop_ok}
 use Rattle.olr_register.proofs.Counting.{AreRises, counted_changes, no_totals, none_affected, none_spent, same_work}
 use Rattle.olr_register.proofs.Listed.{given_at_first, each_left, each_add, each_set, each_encoded}

@@ -1,9 +1,8 @@
 -- Whether a line extends a shortest path, or a unique one, by the labels.
-use Rattle.olr_route.proofs.Common.{◌≡◌, ℕ, ◌≤◌, List, [], ◌∷◌, ◌++◌, Option, Some, None, inl, inr, sym, ap, ◌∙◌}
-use Rattle.olr_route.proofs.Common.{subst, arith, Bool, true, false, IsTrue, refl, cases_lt, Map, IsMap, start, end}
-use Rattle.olr_route.proofs.Common.{IsRoute, dm_of, Least, positive, some_of, is_some_of, Label, Labels, label_at}
-use Rattle.olr_route.proofs.Common.{dist_at, last_of, AreLabels, LeastWithin, UniqueWithin, IsShortest, dm_of-line}
-use Rattle.olr_route.proofs.Common.{last_step}
+use Rattle.olr_route.proofs.Common.{◌≡◌, ℕ, ◌≤◌, List, [], ◌∷◌, ◌++◌, Option, Some, None, inl, inr, sym, ap, ◌∙◌, subst}
+use Rattle.olr_route.proofs.Common.{arith, Bool, true, false, IsTrue, refl, cases_lt, Map, IsMap, start, end, IsRoute}
+use Rattle.olr_route.proofs.Common.{dm_of, Least, positive, some_of, is_some_of, Label, Labels, label_at, dist_at}
+use Rattle.olr_route.proofs.Common.{last_of, AreLabels, LeastWithin, UniqueWithin, IsShortest, dm_of-line, last_step}
 use Rattle.std.specs.Option.{option_map}
 use Rattle.std.specs.Prelude.{option_and_then}
 use Rattle.olr_spec.proofs.RouteLemmas.{one_least, unique_least}

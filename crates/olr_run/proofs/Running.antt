@@ -196,8 +196,7 @@ module _ {S : Type 0} (happens : S → Event → S → Type 0) (stop : Bool) (ol
 
       pub accepted_so_far : (b : Bool) → b ≡ true → AnswersRecord happens now fields new taken later (Ok b) →
           SoFar happens stop old before new later end (n + 1)
-      accepted_so_far b e reported =
-          one_more end b reported a.last (λ os o is. accepted_goes stop end os o (is ∙ e))
+      accepted_so_far b e reported = one_more end b reported a.last (λ os o is. accepted_goes stop end os o (is ∙ e))
 
       pub refused_so_far : (b : Bool) → b ≡ false → stop ≡ false → AnswersRecord happens now fields new taken later (Ok b)
           → SoFar happens stop old before new later ended.SomeRefused (n + 1)

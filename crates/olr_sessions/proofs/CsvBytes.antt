@@ -80,8 +80,7 @@ pub text_ended : (s : State) (f g : List (List ℕ)) (p text : List ℕ) (i : �
     ends_at_end s ≡ true → next_record default_config s f p (drop i text)
     ≡ Some (g, StartRecord, drop (length text) text)
 unfolding next_record
-text_ended s f g p text i high more ends =
-    rw (drop_of_length-le text {i = i} high, drop-length text, more, ends) refl
+text_ended s f g p text i high more ends = rw (drop_of_length-le text {i = i} high, drop-length text, more, ends) refl
 
 pub none_left : (s : State) (f : List (List ℕ)) (p text : List ℕ) (i : ℕ) → length text ≤ i → ends_at_end s ≡ false →
     next_record default_config s f p (drop i text) ≡ None

@@ -38,8 +38,7 @@ reader_of s =
 read_of : (a b : InMemory) (found : Bool) (fields : List (List ℕ)) → TookFrom a b found fields →
     ReadRecord all_known (reader_of a) (reader_of b) found fields
 unfolding reader_of
-read_of a b true fields h =
-    (rw (h.0, h.1, h.2) (refl, refl, refl, refl), refl, refl, refl, refl, λ _ never. absurd cc)
+read_of a b true fields h = (rw (h.0, h.1, h.2) (refl, refl, refl, refl), refl, refl, refl, refl, λ _ never. absurd cc)
 read_of a b false fields h = (nothing a.failed refl, refl, refl, refl, refl, λ never _. absurd cc)
   where
     nothing : (failed : Bool) → a.failed ≡ failed →

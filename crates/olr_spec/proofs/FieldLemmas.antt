@@ -1,14 +1,13 @@
 -- The fields of an answer fit their bits.
 use Rattle.olr_spec.proofs.Common.{◌≡◌, ℕ, suc, ◌+◌, ◌-◌, ◌*◌, ◌/◌, max, ℤ, min, Bool, true, false, List, ◌∷◌, length}
 use Rattle.olr_spec.proofs.Common.{take, drop, map, ◌<◌, ◌≤◌, Some, None, IfSome, unwrap_or, IsTrue, ap, ◌∙◌, arith}
-use Rattle.olr_spec.proofs.Common.{◌==◌, take-add, [], ltb-true, fold, find, slice_range, cases_Bool}
-use Rattle.olr_spec.proofs.Common.{cases_lt, and_parts, and_from, cond_both, nat_tests, length-map, get_or-map}
-use Rattle.olr_spec.proofs.Common.{AllByRecursion, Coord, is_coord, abs24, relative, fits16, Map, IsMap}
-use Rattle.olr_spec.proofs.Common.{line_at, coord_at, has, dm_of, node_at, stretch, Candidate, Leg, up_to}
-use Rattle.olr_spec.proofs.Common.{vector, boundary, lies_between, leg, legs, no_leg, leg_at, position, dm_along}
-use Rattle.olr_spec.proofs.Common.{dm_between, from_front, last_where, first_where, attrs, last_two, middle_points}
-use Rattle.olr_spec.proofs.Common.{offset, last_point, AreAttrs, IsMiddle, IsLast, fits24, get_or_past, take-map}
-use Rattle.olr_spec.proofs.Common.{drop-map, Scaled, scaled_coord, bearing, sector}
+use Rattle.olr_spec.proofs.Common.{◌==◌, take-add, [], ltb-true, fold, find, slice_range, cases_Bool, cases_lt}
+use Rattle.olr_spec.proofs.Common.{and_parts, and_from, cond_both, nat_tests, length-map, get_or-map, AllByRecursion}
+use Rattle.olr_spec.proofs.Common.{Coord, is_coord, abs24, relative, fits16, Map, IsMap, line_at, coord_at, has, dm_of}
+use Rattle.olr_spec.proofs.Common.{node_at, stretch, Candidate, Leg, up_to, vector, boundary, lies_between, leg, legs}
+use Rattle.olr_spec.proofs.Common.{no_leg, leg_at, position, dm_along, dm_between, from_front, last_where, first_where}
+use Rattle.olr_spec.proofs.Common.{attrs, last_two, middle_points, offset, last_point, AreAttrs, IsMiddle, IsLast}
+use Rattle.olr_spec.proofs.Common.{fits24, get_or_past, take-map, drop-map, Scaled, scaled_coord, bearing, sector}
 use Rattle.olr_spec.proofs.Facts.{Each, Each-nil, Each-cons, Each-head, Each-tail, Each-range, has_index, has_here}
 use Rattle.olr_spec.proofs.Facts.{last_index, has_there, has_cases, Known, Linked, dm_along-legs, dm_along-append}
 use Rattle.std.proofs.Common.{div-lt_iff_lt-mul}

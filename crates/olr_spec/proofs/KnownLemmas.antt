@@ -1,14 +1,13 @@
 -- Coverage queries along a path's own lines: what they say without the extension, and that they are the same on another
 -- map where they are clear.
 use Rattle.olr_spec.proofs.Common.{◌≡◌, ℕ, ◌+◌, List, ◌∷◌, ◌++◌, length, ◌<◌, ◌≤◌, sym, ap, ◌∙◌, subst, arith, refl}
-use Rattle.olr_spec.proofs.Common.{◌↔◌, IsTrue, MatchOption, nat_lt, length-append, [], append_assoc}
-use Rattle.olr_spec.proofs.Common.{get_or-append-add, length-drop, slice_index, AllZip, All-nil, Map, start, end}
-use Rattle.olr_spec.proofs.Common.{SameLine, IsRoute, dm_of, UniqueShortest, LrpRoute, Path, extended_path, from_start}
-use Rattle.olr_spec.proofs.Common.{taken_start, taken_end, AreJoined, stretch, Covered, path_fault, ChangedLine}
-use Rattle.olr_spec.proofs.Common.{AccountsFor, Detour, IsLastTested, CoverageQuery, query_to, IsQuery, IsClear}
-use Rattle.olr_spec.proofs.Common.{KnownQuery, IsKnownAt, FoundFor, KnownOfExtended, QueriesOf, querying}
-use Rattle.olr_spec.proofs.Common.{drop-append-le, take-append-le, get_or_append_left, drop-append-add, OneKnown}
-use Rattle.olr_spec.proofs.Common.{OneSearched, KnownHolds, AllSearched}
+use Rattle.olr_spec.proofs.Common.{◌↔◌, IsTrue, MatchOption, nat_lt, length-append, [], append_assoc, get_or-append-add}
+use Rattle.olr_spec.proofs.Common.{length-drop, slice_index, AllZip, All-nil, Map, start, end, SameLine, IsRoute, dm_of}
+use Rattle.olr_spec.proofs.Common.{UniqueShortest, LrpRoute, Path, extended_path, from_start, taken_start, taken_end}
+use Rattle.olr_spec.proofs.Common.{AreJoined, stretch, Covered, path_fault, ChangedLine, AccountsFor, Detour}
+use Rattle.olr_spec.proofs.Common.{IsLastTested, CoverageQuery, query_to, IsQuery, IsClear, KnownQuery, IsKnownAt}
+use Rattle.olr_spec.proofs.Common.{FoundFor, KnownOfExtended, QueriesOf, querying, drop-append-le, take-append-le}
+use Rattle.olr_spec.proofs.Common.{get_or_append_left, drop-append-add, OneKnown, OneSearched, KnownHolds, AllSearched}
 use Rattle.olr_spec.proofs.Facts.{Each, Each-head, Each-right, IsRoute-split, same_start, same_dm_of, IsRoute-moves}
 use Rattle.olr_spec.proofs.Facts.{same_there, clear_unique, part_stays, stretch_first, follow_linked, Linked, path_also}
 use Rattle.olr_spec.proofs.Facts.{path_at, same_by, by_fault, next_start}

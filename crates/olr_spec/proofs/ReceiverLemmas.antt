@@ -37,8 +37,7 @@ pub record Own (R : Receiver) (M : Map) (t : Lrp) (x : ℕ) : Type 0 where
 
 module _ (R : Receiver) (M : Map) (t : Lrp) (x : ℕ) (o : Own R M t x) where
   preferred : (y : ℕ) → IsTrue (has_line M y) → y ≢ x → IsTrue (R.prefers (rating R t (leg M x)) (rating R t (leg M y)))
-  preferred y h n =
-      grind (arith, passes, or_cases, eqb-true, cases_eq, both_ways, eq-eqb, ltb-true)
+  preferred y h n = grind (arith, passes, or_cases, eqb-true, cases_eq, both_ways, eq-eqb, ltb-true)
 
   -- so a receiver chooses it, and no other
   pub takes_own : (y : ℕ) → Takes R M t y ↔ (y ≡ x)

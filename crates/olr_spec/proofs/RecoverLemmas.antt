@@ -1,11 +1,10 @@
 -- A shortest route over lines within the LFRCNP is the leg of the extended path.
-use Rattle.olr_spec.proofs.Common.{inl, inr, ◌≡◌, ◌≢◌, ℕ, zero, suc, ◌+◌, ◌-◌, max, true, false, not, List, ◌∷◌}
-use Rattle.olr_spec.proofs.Common.{◌++◌, length, ◌<◌, ◌≤◌, ◌↔◌, IsTrue, map, refl, ap, ◌∙◌, subst, arith, []}
-use Rattle.olr_spec.proofs.Common.{slice_index, fold, eq-eqb, ne_eqb, both_ways, and_parts, and_from, or_parts}
-use Rattle.olr_spec.proofs.Common.{list_any-append, Map, line_at, start, end, has, LrpRoute, Path, is_path, none_twice}
-use Rattle.olr_spec.proofs.Common.{Tried, extended_path, stretch, Leg, legs, JoinsTo, JoinsLast, Within, RecoversTo}
-use Rattle.olr_spec.proofs.Common.{RecoversLast, length-drop, length-append, drop, not_from_false, not-true}
-use Rattle.olr_spec.proofs.Common.{length-take-le}
+use Rattle.olr_spec.proofs.Common.{inl, inr, ◌≡◌, ◌≢◌, ℕ, zero, suc, ◌+◌, ◌-◌, max, true, false, not, List, ◌∷◌, ◌++◌}
+use Rattle.olr_spec.proofs.Common.{length, ◌<◌, ◌≤◌, ◌↔◌, IsTrue, map, refl, ap, ◌∙◌, subst, arith, [], slice_index}
+use Rattle.olr_spec.proofs.Common.{fold, eq-eqb, ne_eqb, both_ways, and_parts, and_from, or_parts, list_any-append, Map}
+use Rattle.olr_spec.proofs.Common.{line_at, start, end, has, LrpRoute, Path, is_path, none_twice, Tried, extended_path}
+use Rattle.olr_spec.proofs.Common.{stretch, Leg, legs, JoinsTo, JoinsLast, Within, RecoversTo, RecoversLast}
+use Rattle.olr_spec.proofs.Common.{length-drop, length-append, drop, not_from_false, not-true, length-take-le}
 use Rattle.olr_spec.proofs.Facts.{has_index, extended_keeps}
 use Rattle.olr_spec.specs.Receiver.{Shortest, One_line, More_lines}
 use Rattle.olr_spec.proofs.DecideLemmas.{dec_same}

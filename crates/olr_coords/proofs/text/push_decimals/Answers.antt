@@ -1,5 +1,4 @@
-use Rattle.olr_spec.proofs.Common.{arith, append_assoc}
-use Rattle.olr_spec.proofs.Common.{append-nil}
+use Rattle.olr_spec.proofs.Common.{arith, append_assoc, append-nil}
 use Rattle.olr_coords.proofs.DegreesTextLemmas.{IsStep, step, decimals-end}
 use Rattle.olr_coords.proofs.text.push_decimals.Goals.{In-loop-rest}
 use Rattle.olr_coords.proofs.text.push_decimals.Goals as goal

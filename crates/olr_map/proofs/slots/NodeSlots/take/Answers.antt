@@ -1,6 +1,5 @@
 use Rattle.olr_map.proofs.Common.{arith, ◌≡◌, get_or, sym, subst, some_of, slots_of, Links}
-use Rattle.olr_map.proofs.ColumnLemmas.{entry_is, row_removed}
-use Rattle.olr_map.proofs.ColumnLemmas.{inside_outs, inside_ins}
+use Rattle.olr_map.proofs.ColumnLemmas.{entry_is, row_removed, inside_outs, inside_ins}
 use Rattle.olr_map.proofs.slots.NodeSlots.take.Goals as goal
 
 pub returns-clause-removes : goal.returns-clause-removes

@@ -1,7 +1,6 @@
 use Rattle.std.proofs.Common.{◌≡◌, true, false, inl, inr, refl, sym, ◌∙◌, arith}
 use Rattle.olr_near.specs.Bounds.{bound_of}
-use Rattle.olr_near.proofs.BoundLemmas.{within_better, popped_skip, popped_more, gain_le}
-use Rattle.olr_near.proofs.BoundLemmas.{led_on, popped_others}
+use Rattle.olr_near.proofs.BoundLemmas.{within_better, popped_skip, popped_more, gain_le, led_on, popped_others}
 use Rattle.olr_near.proofs.distance_bounds.DistanceBounds.follow_all.Goals as goal
 
 pub loop-top-smaller-then-is_at : goal.loop-top-smaller-then-is_at

@@ -15,8 +15,7 @@ abbrev after : goal.After-sort_unstable → List ℕ
 after c = c.sort_unstable.new.self.items
 
 sorted : (c : goal.After-sort_unstable) → IsPermutation (near c) (after c)
-sorted c =
-    subst (λ (ns : List ℕ). IsPermutation ns (after c)) c.in_ok-nodes.ensures c.sort_unstable.ensures.permutation
+sorted c = subst (λ (ns : List ℕ). IsPermutation ns (after c)) c.in_ok-nodes.ensures c.sort_unstable.ensures.permutation
 
 pub returns-clause-ascending : goal.returns-clause-ascending
 returns-clause-ascending c = λ M node_slot direction from h.
