@@ -4,11 +4,14 @@
 //   read N        the Nth read                 write N        the Nth write
 //   none N        the Nth write returns 0
 // With SLOW set, each read and write transfers one byte. When the program ends, its counts of allocations, reads, writes and
-// refused calls are written to the file that COUNTS names.
+// refused calls are written to the file that COUNTS names. With LIVE set, the file that it names has, from each read on, the
+// number of bytes that are allocated then, and the number of reads.
 typedef unsigned long size_t;
 typedef long ssize_t;
 extern void *__libc_malloc(size_t size);
 extern void *__libc_realloc(void *old, size_t size);
+extern void __libc_free(void *old);
+extern size_t malloc_usable_size(void *block);
 extern int *__errno_location(void);
 extern char *getenv(const char *name);
 extern int strncmp(const char *one, const char *other, size_t size);
@@ -16,9 +19,9 @@ extern long strtol(const char *text, char **end, int base);
 extern long syscall(long number, ...);
 extern int dprintf(int file, const char *format, ...);
 
-enum { READ = 0, WRITE = 1, OPEN = 2, CLOSE = 3, NO_MEMORY = 12, IO_FAULT = 5 };
+enum { READ = 0, WRITE = 1, OPEN = 2, CLOSE = 3, SEEK = 8, NO_MEMORY = 12, IO_FAULT = 5 };
 
-static long allocations, reads, writes, refused;
+static long allocations, reads, writes, refused, live;
 
 // The N that REFUSE has for this kind, or 0.
 static long wanted(const char *kind, size_t size) {
@@ -35,9 +38,36 @@ static int refuses_allocation(void) {
     return 1;
 }
 
-void *malloc(size_t size) { return refuses_allocation() ? 0 : __libc_malloc(size); }
+void *malloc(size_t size) {
+    void *block = refuses_allocation() ? 0 : __libc_malloc(size);
+    live += malloc_usable_size(block);
+    return block;
+}
 
-void *realloc(void *old, size_t size) { return refuses_allocation() ? 0 : __libc_realloc(old, size); }
+void *realloc(void *old, size_t size) {
+    if (refuses_allocation()) return 0;
+    size_t before = malloc_usable_size(old);
+    void *block = __libc_realloc(old, size);
+    if (block) live += malloc_usable_size(block) - before;
+    return block;
+}
+
+void free(void *old) {
+    live -= malloc_usable_size(old);
+    __libc_free(old);
+}
+
+// Writes the number of allocated bytes, if it is asked for.
+static void write_live(void) {
+    static long file = -2;
+    if (file == -2) {
+        const char *name = getenv("LIVE");
+        file = name ? syscall(OPEN, name, 01 | 0100 | 01000, 0600) : -1;
+    }
+    if (file < 0) return;
+    syscall(SEEK, file, 0, 0);
+    dprintf(file, "%20ld %20ld\n", live, reads);
+}
 
 static ssize_t fault(void) {
     refused++;
@@ -47,6 +77,7 @@ static ssize_t fault(void) {
 
 ssize_t read(int file, void *into, size_t size) {
     if (++reads == wanted("read ", 5)) return fault();
+    write_live();
     return syscall(READ, file, into, size > 1 && getenv("SLOW") ? 1 : size);
 }
 
