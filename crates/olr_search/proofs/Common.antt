@@ -6,7 +6,8 @@ pub use Rattle.olr_search.specs.Frontiers.{label_of, queued_len, to_do}
 pub use Rattle.olr_search.specs.Notes.{AreAllReached, AreApart, NotesOnce, label_in, numbers_of}
 pub use Rattle.olr_search.specs.Queues.{queue_key}
 pub use Rattle.olr_search.specs.Searches.{Counts, CoversSlots, CutAt, IsCut, IsLabelled, IsLabelledAt}
-pub use Rattle.olr_search.specs.Searches.{IsOnlyPredecessor, IsReached, IsSearch, IsUnderWay, LiesWithin}
+pub use Rattle.olr_search.specs.Searches.{FromWithin, IsOnlyPredecessor, IsReached, IsSearch, IsUnderWay, LiesWithin}
+pub use Rattle.olr_search.specs.Searches.{StaysWithin}
 pub use Rattle.olr_search.specs.declared.distances.Dijkstra.{Dijkstra}
 pub use Rattle.olr_search.specs.declared.distances.Direction.{Direction}
 pub use Rattle.olr_search.specs.declared.distances.Direction.TheVariants.{Against, Along}

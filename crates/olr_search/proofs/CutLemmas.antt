@@ -3,7 +3,7 @@ use Rattle.olr_search.proofs.Common.{◌≡◌, ℕ, ◌+◌, ◌≤◌, ◌<◌
 use Rattle.olr_search.proofs.Common.{arith, ◌∙◌, refl, sym, ⊤, cases_lt, Map, has_node, has_line, dm, dm_of, Way, Leads}
 use Rattle.olr_search.proofs.Common.{near_end, far_end, label_of, IsQueued, Moves, IsLabelled, IsUnderWay, IsSearch}
 use Rattle.olr_search.proofs.Common.{IsCut, GREATEST_LIMIT, Frontier, Direction, Dijkstra, zero, suc, max, CutAt}
-use Rattle.olr_search.proofs.Common.{IsAlike}
+use Rattle.olr_search.proofs.Common.{IsAlike, StaysWithin}
 use Rattle.olr_search.proofs.SearchLemmas.{alike_labels, labelled_same}
 use Rattle.olr_search.proofs.WayLemmas.{way_ends, near_node}
 use Rattle.olr_search.proofs.WayLemmas.WayEnds.{stays, continues}
@@ -119,6 +119,32 @@ module _ (M : Map) (slot : ℕ → ℕ) (direction : Direction) (from : List (�
           cut_by (length l.lines) l.source l.begun v l.lines (omega arith) l.listed l.there l.way
           (subst (Q v) (sym l.long) short) in
           omega arith
+
+-- ---- no farther than a limit
+
+module _ (M : Map) (slot : ℕ → ℕ) (direction : Direction) (limit : ℕ) where
+  pub stays_then : (f g h : Frontier) → ((p : ℕ) → label_of h p ≤ label_of g p) →
+      StaysWithin M slot direction limit (label_of f) (label_of g) →
+      StaysWithin M slot direction limit (label_of g) (label_of h) →
+      StaysWithin M slot direction limit (label_of f) (label_of h)
+  stays_then f g h better first then p = elim (then p) [
+    | inr new ↦ inr new
+    | inl same ↦ elim (first p) [
+      | inl was ↦ inl (same ∙ was)
+      | inr k ↦
+          let le = better (slot (near_end M direction k.line)) in
+          inr (record { line = k.line; known = k.known; to = k.to; near = omega (arith, k.near); sum = omega (arith, k.sum) })
+    ]
+  ]
+
+  -- from labels that are the same, up to a lesser limit
+  pub stays_more : (f g h : Frontier) (d : ℕ) → IsAlike f g → d ≤ limit →
+      StaysWithin M slot direction d (label_of g) (label_of h) →
+      StaysWithin M slot direction limit (label_of f) (label_of h)
+  stays_more f g h d alike le then p = elim (then p) [
+    | inl same ↦ inl (same ∙ alike_labels f g alike p)
+    | inr k ↦ inr (record { line = k.line; known = k.known; to = k.to; near = omega (arith, k.near); sum = k.sum })
+  ]
 
 -- the search s, in which every node may be labelled, is continued to a limit, up to the search t
 pub settled_on_to : (M : Map) (slot : ℕ → ℕ) (direction : Direction) (from : List (ℕ × ℕ)) (s t : Dijkstra) (limit : ℕ) →

@@ -25,6 +25,11 @@ put_by f g v p d label table within was lt once there kept len more =
 put_le : (f g : Frontier) (v p d : ℕ) → IsRelaxed f g v p d → (q : ℕ) → label_of g q ≤ label_of f q
 put_le f g v p d k q = grind (arith, cases_eq, label_of)
 
+-- each label is that of before, or the new one
+pub put_cases : (f g : Frontier) (v p d : ℕ) → IsRelaxed f g v p d → (q : ℕ) → (label_of g q ≡ label_of f q)
+    ⊎ ((label_of g q ≡ d) × (q ≡ p))
+put_cases f g v p d k q = grind (arith, cases_eq, label_of, cases_lt)
+
 pub put_moves : (f g : Frontier) (v p d : ℕ) → IsRelaxed f g v p d → Moves f g
 put_moves f g v p d k = record {
   better = put_le f g v p d k;
@@ -56,13 +61,9 @@ module _ (M : Map) (slot : ℕ → ℕ) (direction : Direction) (from : List (�
   -- the length of a route is written as a label at its node
   module _ (f g : Frontier) (v p d : ℕ) (k : IsRelaxed f g v p d) (there : IsTrue (has_node M v)) (at : slot v ≡ p)
       (way : Leads M direction from v d) (l : IsLabelled M slot direction from f) where
-    -- each label is that of before, or the new one
-    put_cases : (q : ℕ) → (label_of g q ≡ label_of f q) ⊎ ((label_of g q ≡ d) × (q ≡ p))
-    put_cases q = grind (arith, cases_eq, label_of, cases_lt)
-
     put_leads : (w : ℕ) → IsTrue (has_node M w) → label_of g (slot w) ≤ GREATEST_LIMIT →
         Leads M direction from w (label_of g (slot w))
-    put_leads w known small = elim (put_cases (slot w)) [
+    put_leads w known small = elim (put_cases f g v p d k (slot w)) [
       | inl same ↦ subst (λ (e : ℕ). Leads M direction from w e) (sym same) (l.leads w known (omega arith))
       | inr new ↦
           let own : w ≡ v = l.own w v known there (new.1 ∙ sym at) in
@@ -70,7 +71,7 @@ module _ (M : Map) (slot : ℕ → ℕ) (direction : Direction) (from : List (�
     ]
 
     put_nodes : (q : ℕ) → label_of g q ≤ GREATEST_LIMIT → (w : ℕ) × IsTrue (has_node M w) × (slot w ≡ q)
-    put_nodes q small = elim (put_cases q) [
+    put_nodes q small = elim (put_cases f g v p d k q) [
       | inl same ↦ l.nodes q (omega arith)
       | inr new ↦ (v, there, at ∙ sym new.1)
     ]

@@ -13,6 +13,9 @@
 --     IsCut M slot direction from P f      and the lines from each label are followed as far as P lets them, or it is
 --         queued; those where the search begins have labels
 --     IsUnderWay M slot direction from f      so where P lets all
+--     FromWithin M slot direction limit labels p      the label at p is no less than a label within the limit and the
+--         length of a line from there
+--     StaysWithin M slot direction limit old new      each of the new labels is the old one, or it is such a label
 use Rattle.std.specs.Prelude.{◌≡◌, ◌==◌, ℕ, ◌+◌, ◌<◌, ◌≤◌, ◌⊎◌, ◌↔◌, List, Contains, IsTrue, length, ⊤}
 use Rattle.std.specs.List.{IsDistinct}
 use Rattle.olr_spec.specs.Map.{Map, IsMap, has_node, has_line, start, end, dm}
@@ -66,6 +69,17 @@ pub record IsCut (M : Map) (slot : ℕ → ℕ) (direction : Direction) (from : 
 
 abbrev pub IsUnderWay : Map → (ℕ → ℕ) → Direction → List (ℕ × ℕ) → Frontier → Type 0
 IsUnderWay M slot direction from f = IsCut M slot direction from (λ _ _. ⊤) f
+
+pub record FromWithin (M : Map) (slot : ℕ → ℕ) (direction : Direction) (limit : ℕ) (labels : ℕ → ℕ) (p : ℕ) : Type 0
+  where
+    pub line : ℕ
+    pub known : IsTrue (has_line M line)
+    pub to : slot (far_end M direction line) ≡ p
+    pub near : labels (slot (near_end M direction line)) ≤ limit
+    pub sum : labels (slot (near_end M direction line)) + dm M line ≤ labels p
+
+abbrev pub StaysWithin : Map → (ℕ → ℕ) → Direction → ℕ → (ℕ → ℕ) → (ℕ → ℕ) → Type 0
+StaysWithin M slot direction limit old new = (p : ℕ) → (new p ≡ old p) ⊎ FromWithin M slot direction limit new p
 
 pub record IsSearch (M : Map) (slot : ℕ → ℕ) (direction : Direction) (from : List (ℕ × ℕ)) (s : Dijkstra) : Type 0 where
   pub way : s.direction ≡ direction

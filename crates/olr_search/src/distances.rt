@@ -9,7 +9,8 @@ ghost use Rattle.olr_spec.specs.Routes.{UniqueShortest, dm_of};
 ghost use Rattle.olr_search.specs.Distances.{IsDistance, Leads};
 ghost use Rattle.olr_search.specs.Frontiers.{label_of};
 ghost use Rattle.olr_search.specs.Notes.{numbers_of};
-ghost use Rattle.olr_search.specs.Searches.{IsSearch, LiesWithin, IsReached, Counts, IsOnlyPredecessor, limit_of};
+ghost use Rattle.olr_search.specs.Searches.{IsSearch, LiesWithin, IsReached, Counts, StaysWithin};
+ghost use Rattle.olr_search.specs.Searches.{IsOnlyPredecessor, limit_of};
 ghost use Rattle.olr_search.specs.Bounds.{AreBounds, AreLengths, IsUnder, bound_in, label_at};
 ghost use Rattle.olr_search.specs.declared.frontier.Reached.{Reached as ReachedRecord};
 ghost use Rattle.olr_search.specs.declared.distances.Direction.TheVariants.{Along};
@@ -78,7 +79,8 @@ impl Dijkstra {
     }
 
     /// Continues the search to a limit in decimetres. Its labels are then those of a search within this limit, or
-    /// within a greater one to which it was settled before.
+    /// within a greater one to which it was settled before. It goes no farther: lines are followed only from nodes within
+    /// the limit.
     pub fn settle_to<M: MapRead>(&mut self, map: &M, limit: u32) -> Result<(), AllocError>
         requires small { limit ≤ GREATEST_LIMIT }
         requires begun { (direction : _) × (from : List (ℕ × ℕ))
@@ -87,6 +89,10 @@ impl Dijkstra {
             → IsSearch (M.map map.now) (M.node_slot map.now) direction from self.old
             → IsSearch (M.map map.now) (M.node_slot map.now) direction from self.new) }
         ensures limit { OnOk result (limit_of self.new ≡ max (limit_of self.old) limit) }
+        ensures near { OnOk result ((direction : _) (from : List (ℕ × ℕ))
+            → IsSearch (M.map map.now) (M.node_slot map.now) direction from self.old
+            → StaysWithin (M.map map.now) (M.node_slot map.now) direction limit (label_at self.old)
+            (label_at self.new)) }
     {
         settle(map, self.direction, limit, &Anywhere, &mut self.frontier)?;
         self.limit = self.limit.max(limit);

@@ -1,10 +1,10 @@
 //! The steps of a search that can be continued: the nodes where it begins, the lines from a node, and all queued nodes up
 //! to a length.
-ghost use Rattle.std.specs.Prelude.{◌≡◌, ◌≤◌, ◌<◌, ℕ, List, Contains, OnOk, IsTrue};
+ghost use Rattle.std.specs.Prelude.{◌≡◌, ◌≤◌, ◌<◌, ◌⊎◌, ℕ, List, Contains, OnOk, IsTrue};
 ghost use Rattle.olr_spec.specs.Map.{Map, has_node};
 ghost use Rattle.olr_search.specs.Distances.{Leads, ends_at};
 ghost use Rattle.olr_search.specs.Frontiers.{Moves, IsQueued, label_of, frontier_len};
-ghost use Rattle.olr_search.specs.Searches.{CoversSlots, IsLabelled, IsUnderWay, CutAt, IsCut};
+ghost use Rattle.olr_search.specs.Searches.{CoversSlots, IsLabelled, IsUnderWay, CutAt, IsCut, StaysWithin};
 
 use crate::bounds::{Admits, Anywhere};
 use crate::distances::Direction;
@@ -30,6 +30,8 @@ fn label_node<M: MapRead, A: Admits>(
         → IsTrue (has_node N node) → node_slot node ≡ slot → Leads N way from node length
         → IsLabelled N node_slot way from frontier.old → IsLabelled N node_slot way from frontier.new) }
     ensures low { OnOk result (A.lets admits.now node length → label_of frontier.new slot ≤ length) }
+    ensures only { OnOk result ((p : ℕ) → (label_of frontier.new p ≡ label_of frontier.old p)
+        ⊎ ((label_of frontier.new p ≡ length) × (p ≡ slot))) }
 {
     if length < frontier.label(slot) && admits.admits(node, length) {
         let ahead = ends_from(map, direction, slot).len();
@@ -87,6 +89,7 @@ fn follow<M: MapRead, A: Admits>(
 ) -> Result<(), AllocError>
     requires node { (v : ℕ) × IsTrue (has_node (M.map map.now) v) × (M.node_slot map.now v ≡ slot) }
     requires within { dist ≤ GREATEST_LIMIT }
+    requires label { label_of frontier.old slot ≤ dist }
     requires room { CoversSlots (M.map map.now) (M.node_slot map.now) frontier.old }
     ensures moves { OnOk result (Moves frontier.old frontier.new) }
     ensures labelled { OnOk result ((v : ℕ) (from : List (ℕ × ℕ)) → IsTrue (has_node (M.map map.now) v) →
@@ -96,6 +99,8 @@ fn follow<M: MapRead, A: Admits>(
         → IsLabelled (M.map map.now) (M.node_slot map.now) direction from frontier.new) }
     ensures closed { OnOk result ((v : ℕ) → IsTrue (has_node (M.map map.now) v) → M.node_slot map.now v ≡ slot
         → CutAt (M.map map.now) (M.node_slot map.now) direction (A.lets admits.now) frontier.new v dist) }
+    ensures near { OnOk result (StaysWithin (M.map map.now) (M.node_slot map.now) direction dist
+        (label_of frontier.old) (label_of frontier.new)) }
 {
     for end in ends_from(map, direction, slot) {
         label_node(
@@ -128,6 +133,8 @@ pub fn settle<M: MapRead, A: Admits>(
         → IsCut (M.map map.now) (M.node_slot map.now) direction from (A.lets admits.now) frontier.new) }
     ensures better { OnOk result ((p : ℕ) → label_of frontier.new p ≤ label_of frontier.old p) }
     ensures far { OnOk result ((d p : ℕ) → IsQueued frontier.new d p → limit < d) }
+    ensures near { OnOk result (StaysWithin (M.map map.now) (M.node_slot map.now) direction limit
+        (label_of frontier.old) (label_of frontier.new)) }
 {
     while let Some(next) = frontier.pop_within(limit) {
         let (dist, slot) = next;

@@ -1,7 +1,8 @@
-use Rattle.olr_search.proofs.Common.{◌≡◌, ◌≤◌, ◌+◌, ℕ, IsTrue, get_or, sym, ap, subst, ◌∙◌, arith, get_or_default}
+use Rattle.olr_search.proofs.Common.{◌≡◌, ◌≤◌, ◌+◌, ℕ, IsTrue, get_or, sym, ap, subst, ◌∙◌, arith, get_or_default, inl, inr}
 use Rattle.olr_search.proofs.Common.{has_node, LineEnd, Leads, near_end, far_end, label_of, below_more, line_short}
 use Rattle.olr_search.proofs.WayLemmas.{IsEnd, end_is, has_end, no_end, far_node, leads_on}
 use Rattle.olr_search.proofs.SearchLemmas.{moves_then}
+use Rattle.olr_search.proofs.CutLemmas.{stays_then}
 use Rattle.olr_search.proofs.steps.follow.Given.{Over}
 use Rattle.olr_search.proofs.steps.follow.Goals.{After-end-item}
 use Rattle.olr_search.proofs.steps.follow.Goals as goal
@@ -64,6 +65,23 @@ loop-end-preserved g c =
           omega arith)
           (subst (λ (x : LineEnd). lets x.node (d + x.len) → label_of h x.slot ≤ d + x.len)
           (c.end-item.is ∙ get_or_default items n end no_end c.loop-end-test.true) to.low);
+      near =
+          stays_then M slot c.args.direction d c.args.frontier.now c.loop-end.frontier h to.moves.better inv.near
+          (λ p. elim (to.only p) [
+            | inl same ↦ inl same
+            | inr new ↦
+                let at : label_of h (slot (near_end M c.args.direction e.line)) ≡ label_of h c.args.slot =
+                ap (label_of h) (ap slot e.near ∙ own.2) in
+                let was = inv.moves.better c.args.slot in
+                let le = to.moves.better c.args.slot in
+                inr (record {
+                  line = e.line;
+                  known = e.known;
+                  to = sym e.there ∙ sym new.1;
+                  near = omega (arith, c.requires.label);
+                  sum = omega (arith, c.requires.label, e.len, new.0);
+                })
+          ]);
     }
 
 pub returns-clause-closed : goal.returns-clause-closed

@@ -1,5 +1,5 @@
-use Rattle.olr_search.proofs.Common.{◌≡◌, sym, ap, ◌∙◌, inl, inr, arith, label_of}
-use Rattle.olr_search.proofs.CutLemmas.{cut_begun, cut_same, cut_more}
+use Rattle.olr_search.proofs.Common.{◌≡◌, refl, sym, ap, ◌∙◌, inl, inr, arith, label_of}
+use Rattle.olr_search.proofs.CutLemmas.{cut_begun, cut_same, cut_more, stays_then, stays_more}
 use Rattle.olr_search.proofs.SearchLemmas.{alike_labels}
 use Rattle.olr_search.proofs.steps.settle.Goals as goal
 
@@ -8,6 +8,7 @@ loop-next-init g c = record {
   cut = λ from u. cut_begun (g.M.MapRead.map c.args.map.now) (g.M.MapRead.node_slot c.args.map.now) c.args.direction
       from (g.A.Admits.lets c.args.admits.now) c.args.frontier.now u;
   better = λ p. omega arith;
+  near = λ p. inl refl;
 }
 
 pub follow-requires-clause-node : goal.follow-requires-clause-node
@@ -37,6 +38,11 @@ loop-next-preserved-in-Continue-1 g c =
           let a = e.moves.better q in
           let b = c.loop-next.invariant.better q in
           omega (arith, alike_labels _ _ o.alike q);
+      near =
+          stays_then _ _ _ _ c.args.frontier.now c.loop-next.frontier c.follow.new.frontier
+          (λ p. let le = e.moves.better p in omega (arith, alike_labels _ _ o.alike p)) c.loop-next.invariant.near
+          (stays_more _ _ _ _ c.loop-next.frontier c.pop_within.new.self c.follow.new.frontier c.in-Some.next.0 o.alike
+          (omega (arith, o.within)) e.near);
     }
 
 pub loop-next-preserved : goal.loop-next-preserved
@@ -54,6 +60,10 @@ loop-next-preserved g c =
                 absurd (c.if-label-dist.false (omega (arith, alike_labels _ _ o.alike c.in-Some.next.1)))
           ]) (c.loop-next.invariant.cut from u);
       better = λ q. let b = c.loop-next.invariant.better q in omega (arith, alike_labels _ _ o.alike q);
+      near =
+          stays_then _ _ _ _ c.args.frontier.now c.loop-next.frontier c.pop_within.new.self
+          (λ p. omega (arith, alike_labels _ _ o.alike p)) c.loop-next.invariant.near
+          (λ p. inl (alike_labels _ _ o.alike p));
     }
 
 pub returns-clause-cut : goal.returns-clause-cut
@@ -62,3 +72,9 @@ returns-clause-cut g c = λ from u.
     cut_same (g.M.MapRead.map c.args.map.now) (g.M.MapRead.node_slot c.args.map.now) c.args.direction from
     (g.A.Admits.lets c.args.admits.now) c.loop-next.frontier c.pop_within.new.self e.alike (λ q w. e.same _ q w)
     (c.loop-next.invariant.cut from u)
+
+pub returns-clause-near : goal.returns-clause-near
+returns-clause-near g c =
+    stays_then _ _ _ _ c.args.frontier.now c.loop-next.frontier c.pop_within.new.self
+    (λ p. omega (arith, alike_labels _ _ c.in_default.ensures.alike p)) c.loop-next.invariant.near
+    (λ p. inl (alike_labels _ _ c.in_default.ensures.alike p))

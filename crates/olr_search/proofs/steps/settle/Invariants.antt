@@ -1,4 +1,4 @@
-use Rattle.olr_search.proofs.Common.{◌≤◌, ℕ, List, label_of, IsUnderWay, IsCut, to_do}
+use Rattle.olr_search.proofs.Common.{◌≤◌, ℕ, List, label_of, IsUnderWay, IsCut, StaysWithin, to_do}
 use Rattle.olr_search.proofs.steps.settle.Given as goal
 
 abbrev pub invariant-loop-next : goal.invariant-loop-next
@@ -8,6 +8,8 @@ invariant-loop-next g l = record {
       → IsCut (g.M.MapRead.map l.map) (g.M.MapRead.node_slot l.map) l.direction from (g.A.Admits.lets l.admits)
       l.frontier;
   better : (p : ℕ) → label_of l.frontier p ≤ label_of l.initial.frontier p;
+  near : StaysWithin (g.M.MapRead.map l.map) (g.M.MapRead.node_slot l.map) l.direction l.limit
+      (label_of l.initial.frontier) (label_of l.frontier);
 }
 
 abbrev pub decreases-loop-next : goal.decreases-loop-next

@@ -1,4 +1,4 @@
-use Rattle.olr_search.proofs.Common.{refl, sym, subst, ⊤, IsUnderWay, IsCut, Direction}
+use Rattle.olr_search.proofs.Common.{refl, sym, subst, arith, ⊤, IsUnderWay, IsCut, Direction, StaysWithin, label_of}
 use Rattle.olr_search.proofs.CutLemmas.{settled_on_to}
 use Rattle.olr_search.proofs.distances.Dijkstra.settle_to.Goals as goal
 
@@ -12,5 +12,10 @@ returns-clause-search g c = λ direction from h.
     settled_on_to M slot direction from c.args.self.now
     (record { direction = c.args.self.now.direction; limit = c.max-self.result; frontier = c.settle.new.frontier })
     c.args.limit h refl
-    (subst (λ (d : Direction). IsCut M slot d from (λ _ _. ⊤) c.settle.new.frontier) h.way u) c.requires.small e.far
-    e.better c.max-self.ensures
+    (subst (λ (d : Direction). IsCut M slot d from (λ _ _. ⊤) c.settle.new.frontier) h.way u) c.requires.small
+    (λ d p q. let lt = e.far d p q in omega (arith, c.requires.small)) e.better c.max-self.ensures
+
+pub returns-clause-near : goal.returns-clause-near
+returns-clause-near g c = λ direction from h.
+    subst (λ (d : Direction). StaysWithin (g.M.MapRead.map c.args.map.now) (g.M.MapRead.node_slot c.args.map.now) d
+    c.args.limit (label_of c.args.self.now.frontier) (label_of c.settle.new.frontier)) h.way c.in_ok-settle.ensures.near
