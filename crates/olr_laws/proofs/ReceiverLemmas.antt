@@ -5,14 +5,17 @@ use Rattle.olr_spec.proofs.Common.{slice_index, cases_Bool, Map, IsMap, coord_at
 use Rattle.olr_spec.proofs.Common.{Points, path_fault, Encoding, IsNear, slice_get-get_or, IsPoint, decoded}
 use Rattle.olr_spec.proofs.Common.{DecodedNear, DecodedPoints, ◌-◌, refl, nat_lt, ◌==◌, ◌*◌, ◌-ℤ◌, ◌/◌, eqb-true}
 use Rattle.olr_spec.proofs.Common.{ltb-true, lt-ltb, le-ltb, nat_abs, or_cases, ints, offset, Measure, Coord}
+use Rattle.olr_spec.specs.Recovery.{are_cosines}
 use Rattle.olr_spec.proofs.Common.{decoded_bound, IsWeighted, is_spaced, IsCut, IsClose, SomeReceiver, SomeWeighted}
-use Rattle.olr_spec.proofs.Common.{map, sym, inl, inr, Bool, pos, Option, unwrap_or, cond, ◌||◌, AllZip, get_or}
+use Rattle.olr_spec.proofs.Common.{map, sym, inl, inr, Bool, pos, Option, unwrap_or, cond, AllZip, get_or}
 use Rattle.olr_spec.proofs.Common.{AllPass-from_list_all, cases_lt, or_left, or_right, start, end, extended_path, first}
 use Rattle.olr_spec.proofs.Common.{last, AreJoined, stretch, Leg, leg, legs, attrs, first_kept, last_kept, kept_points}
 use Rattle.olr_spec.proofs.Common.{Middle, middle_points, last_two, reference_by_kept, Side, is_nearest, coordinate_on}
-use Rattle.olr_spec.proofs.Common.{node_on, dm_of, concat, list_all-from_AllPass, cond-false, StretchesJoin, Offsets}
-use Rattle.olr_spec.proofs.Common.{Distances, Nearest}
-use Rattle.olr_spec.proofs.Facts.{path_also, path_at, Each, has_index, has_last, last_index, Known, Linked}
+use Rattle.olr_spec.proofs.Common.{dm_of, concat, list_all-from_AllPass, cond-false, StretchesJoin, Offsets}
+use Rattle.olr_spec.proofs.Common.{Distances, Nearest, has, has_line, candidates, list_all, and_parts, up_to, lines_where}
+use Rattle.olr_spec.proofs.Common.{◌&&◌, get_or_default, list_all-map}
+use Rattle.std.specs.List.{AllPass}
+use Rattle.olr_spec.proofs.Facts.{path_also, path_at, Each, has_index, at_index, has-lines_where, has_last, last_index, Known, Linked}
 use Rattle.olr_spec.proofs.Facts.{follow_linked, kept_linked, empty_stretch, stretch_first, positive, next_start}
 use Rattle.olr_spec.proofs.FieldLemmas.{position_is, linked_above, dm_same, last_two_linked}
 use Rattle.olr_spec.proofs.FitLemmas.{extended_sound, by_answer}
@@ -21,10 +24,11 @@ use Rattle.std.proofs.Math.Nat.{mul-le-mul_left, mul-le-mul_right, mul-lt-mul_of
 use Rattle.std.proofs.Math.Nat.{mul-add, mul_comm, div-mul-le_self, lt-div-mul-add}
 use Rattle.olr_spec.specs.Receiver.{Rating, IsDifference, Outgoing, Incoming, last_number, decoded_coord, attributes}
 use Rattle.olr_spec.specs.Recovery.{lon_apart, lat_apart, line_by, IsLineAt, stretches, IsStretches, IsLeft, IsStep}
-use Rattle.olr_spec.specs.Recovery.{are_spaced}
+use Rattle.olr_spec.specs.Recovery.{are_spaced, Weighted, is_cosine}
+use Rattle.olr_spec.proofs.SectorLemmas.{has_below}
 use Rattle.olr_spec.proofs.JoinedLemmas.{extended_joined}
 use Rattle.olr_spec.proofs.QueryLemmas.{stretch_parts}
-use Rattle.olr_spec.proofs.ReceiverLemmas.{same_path}
+use Rattle.olr_spec.proofs.ReceiverLemmas.{same_path, passes}
 
 got_index : (f : ℕ → ℕ) (ks : List ℕ) (k v : ℕ) → option_map f (slice_get ks k) ≡ Some v → (k < length ks)
     × (f (slice_index ks k) ≡ v)
@@ -85,23 +89,57 @@ by_longitude n d scale u e D B f some unit least most h far g =
 triangle : (p a b : ℤ) → nat_abs (a -ℤ b) ≤ nat_abs (p -ℤ b) + nat_abs (p -ℤ a)
 triangle p a b = grind (arith, ints)
 
-nearer : (n d scale : ℕ) (far : Measure) → IsWeighted n d scale far → (k : ℕ) (p : ℤ × ℤ) (a b : Coord) →
-    IsNear k p a → is_spaced n d k a b ≡ true → far p a < far p b
-nearer n d scale far w k p a b near spaced =
+nearer : (n d scale k : ℕ) (far : Measure) (p : ℤ × ℤ) (a b : Coord) → 0 < d → 0 < scale → Weighted n d scale far p a →
+    Weighted n d scale far p b → IsNear k p a → is_spaced n d k a b ≡ true → far p a < far p b
+nearer n d scale k far p a b some unit here there near spaced =
     let B = decoded_bound k in
-    let here = w.all p a in
-    let there = w.all p b in
-    let own = own_side here.u scale (lon_apart p a) (lat_apart p a) B (far p a) w.unit here.most near.lon near.lat here.by_both in
+    let own = own_side here.u scale (lon_apart p a) (lat_apart p a) B (far p a) unit here.most near.lon near.lat here.by_both in
     let north = by_latitude scale (lat_apart p b) B (far p b) in
-    let east = by_longitude n d scale there.u (lon_apart p b) (nat_abs (a.lon -ℤ b.lon)) B (far p b) w.some w.unit there.least in
+    let east = by_longitude n d scale there.u (lon_apart p b) (nat_abs (a.lon -ℤ b.lon)) B (far p b) some unit there.least in
     let next = triangle p.1 a.lat b.lat in
     let later = triangle p.0 a.lon b.lon in
     let also = leb-true (3 * B) (nat_abs (a.lat -ℤ b.lat)) in
     let more = leb-true (3 * (d * B)) (n * nat_abs (a.lon -ℤ b.lon)) in
     grind (arith, or_cases (nat_le (3 * B) (nat_abs (a.lat -ℤ b.lat))) _ spaced)
 
+-- the weighted sum with this cosine
+of_cosine : (n d scale : ℕ) (cosine : Measure) (p : ℤ × ℤ) (c : Coord) → is_cosine n d scale (cosine p c) ≡ true →
+    Weighted n d scale (λ p c. cosine p c * lon_apart p c + scale * lat_apart p c) p c
+of_cosine n d scale cosine p c h =
+    let both = and_parts (nat_le (n * scale) (d * cosine p c)) _ h in
+    record {
+      u = cosine p c;
+      least = leb-true _ _ both.0;
+      most = leb-true _ _ both.1;
+      by_lon = omega arith;
+      by_lat = omega arith;
+      by_both = omega arith;
+    }
+
+passed : (p : ℕ → Bool) (xs : List ℕ) → list_all p xs ≡ true → (x : ℕ) → has xs x ≡ true → p x ≡ true
+passed p xs all x h = grind (arith, at_index xs x h, AllPass-from_list_all p xs all)
+
+module _ (n d scale : ℕ) (cosine : Measure) (M : Map) (r : Reference)
+    (h : IsTrue (are_cosines n d scale cosine M r)) where
+  abbrev near : ℤ × ℤ → ℕ × Leg → Bool
+  near p c = is_cosine n d scale (cosine p c.1.begin) && is_cosine n d scale (cosine p c.1.finish)
+
+  cosines_at : (k x : ℕ) → k ≤ last_number r → IsTrue (has_line M x) → near (decoded_coord r k) (x, leg M x) ≡ true
+  cosines_at k x up known =
+      passes M (near (decoded_coord r k))
+      (passed (λ k. list_all (near (decoded_coord r k)) (candidates M)) (up_to (last_number r + 1)) h k
+      (has_below (last_number r + 1) k (omega arith))) x known
+
+  weighted_at : (s : Side) (k x : ℕ) → k ≤ last_number r → IsTrue (has_line M x) →
+      Weighted n d scale (λ p c. cosine p c * lon_apart p c + scale * lat_apart p c) (decoded_coord r k) (coordinate_on s (leg M x))
+  weighted_at Outgoing k x up known =
+      of_cosine n d scale cosine _ _ (and_parts _ _ (cosines_at k x up known)).0
+  weighted_at Incoming k x up known =
+      of_cosine n d scale cosine _ _ (and_parts (is_cosine n d scale (cosine (decoded_coord r k) (leg M x).begin)) _ (cosines_at k x up known)).1
+
 pub some_weighted : SomeWeighted
-some_weighted n d h some = grind (arith, mul_comm n d)
+some_weighted n d scale cosine M r some unit h =
+    record { some = some; unit = unit; all = weighted_at n d scale cosine M r h }
 
 -- the byte of what remains of an offset
 byte_close : (q s left c : ℕ) → 0 < q → 0 < s → IsCut q s (Some (256 * left / s)) c → IsClose q s left c
@@ -172,16 +210,33 @@ at_end M m ls known joined i some up = elim (cases_lt i (length ls)) [
       )
 ]
 
-spaced_nearest : (n d scale : ℕ) (far : Measure) → IsWeighted n d scale far → (k : ℕ) (p : ℤ × ℤ) (s : Side) (g : Leg) →
-    IsNear k p (coordinate_on s g) → (cs : List (ℕ × Leg)) → IsTrue (are_spaced n d k s g cs) → IsTrue (is_nearest far s p g cs)
-spaced_nearest n d scale far w k p s g near cs a =
-    list_all-from_AllPass _ cs (λ j x lt. here (get_or cs j x) (AllPass-from_list_all _ cs a j x lt))
-  where
-    here : (c : ℕ × Leg) → IsTrue (node_on s c.1 == node_on s g || is_spaced n d k (coordinate_on s g) (coordinate_on s c.1)) →
-        IsTrue (node_on s c.1 == node_on s g || nat_lt (far p (coordinate_on s g)) (far p (coordinate_on s c.1)))
-    here c t =
-        let closer = nearer n d scale far w k p (coordinate_on s g) (coordinate_on s c.1) near in
-        grind (arith, or_cases, or_left, or_right, lt-ltb)
+number_known : (M : Map) (j d : ℕ) → j < length (lines_where M (λ _. true)) →
+    IsTrue (has_line M (get_or (lines_where M (λ _. true)) j d))
+number_known M j d lt =
+    let xs = lines_where M (λ _. true) in
+    let x = get_or xs j d in
+    let same : x ≡ slice_index xs j = get_or_default xs j d 0 lt in
+    let there : has xs x ≡ true = ap (has xs) same ∙ has_index xs j lt in
+    grind (arith, has-lines_where M (λ _. true) x)
+
+-- a test that all candidates pass, if they pass another
+pub all_candidates : (M : Map) (f g : ℕ × Leg → Bool) →
+    ((x : ℕ) → IsTrue (has_line M x) → f (x, leg M x) ≡ true → g (x, leg M x) ≡ true) →
+    IsTrue (list_all f (candidates M)) → IsTrue (list_all g (candidates M))
+all_candidates M f g more a =
+    let xs = lines_where M (λ _. true) in
+    let each : AllPass (λ x. f (x, leg M x)) xs = AllPass-from_list_all (λ x. f (x, leg M x)) xs (sym (list_all-map f (λ x. (x, leg M x)) xs) ∙ a) in
+    list_all-map g (λ x. (x, leg M x)) xs
+    ∙ list_all-from_AllPass (λ x. g (x, leg M x)) xs (λ j x lt. more (get_or xs j x) (number_known M j x lt) (each j x lt))
+
+spaced_nearest : (n d scale : ℕ) (far : Measure) (M : Map) (r : Reference) → IsWeighted n d scale far M r → (k : ℕ) →
+    k ≤ last_number r → (s : Side) (x : ℕ) → IsTrue (has_line M x) →
+    IsNear k (decoded_coord r k) (coordinate_on s (leg M x)) → IsTrue (are_spaced n d k s (leg M x) (candidates M)) →
+    IsTrue (is_nearest far s (decoded_coord r k) (leg M x) (candidates M))
+spaced_nearest n d scale far M r w k up s x known near =
+    all_candidates M _ _ (λ y there t.
+    let closer = nearer n d scale k far (decoded_coord r k) (coordinate_on s (leg M x)) (coordinate_on s (leg M y)) w.some w.unit (w.all s k x up known) (w.all s k y up there) near in
+    grind (arith, or_cases, or_left, or_right, lt-ltb))
 
 -- ---- an answer
 
@@ -262,6 +317,23 @@ module _ (M : Map) (m : IsMap M) (P : Path) (is : IsTrue (is_path P.lines)) (non
       (λ i is_i. ap (coord_at M) (at_end M m Lines known_lines
       (extended_joined M P is none e.before e.after e.tried) i (omega (arith, is_i, b.0)) (omega (arith, is_i, b.1))))
 
+  known_at : (s : Side) (k x : ℕ) → IsLineAt M P s k x →
+      ((i : ℕ) → slice_index Points_kept k ≡ i → IsTrue (has_line M (line_by s Lines i))) → IsTrue (has_line M x)
+  known_at s k x at known =
+      let there = same_path M m P is none r e _ at in
+      subst (λ (y : ℕ). IsTrue (has_line M y)) (got_index (line_by s Lines) Points_kept k x there).1 (known (slice_index Points_kept k) refl)
+
+  known_out : (k x : ℕ) → k < last_number r → IsLineAt M P Outgoing k x → IsTrue (has_line M x)
+  known_out k x h at =
+      let b = bounds k h in
+      known_at Outgoing k x at (λ i is_i. known_lines _ (has_index Lines i (omega (arith, is_i, b.0, b.1))))
+
+  known_in : (x : ℕ) → IsLineAt M P Incoming (last_number r) x → IsTrue (has_line M x)
+  known_in x at =
+      let b = bounds (length r.middle) (omega arith) in
+      known_at Incoming (last_number r) x at
+      (λ i is_i. known_lines _ (has_index Lines (i - 1) (omega (arith, is_i, b.0, b.1))))
+
 pub decoded_near : DecodedNear
 decoded_near M m P is r e = let p = by_answer M P r e in near_point M m P is p.0 r p.1
 
@@ -294,6 +366,8 @@ steps_close M m P is r e ws s = let p = by_answer M P r e in all_steps M m P is 
 
 pub nearest_own : Nearest
 nearest_own M m P is r e n d scale far w = let p = by_answer M P r e in (
-  (λ k x h at a. spaced_nearest n d scale far w k _ Outgoing (leg M x) (near_out M m P is p.0 r p.1 k x h at) _ a),
-  (λ x at a. spaced_nearest n d scale far w (last_number r) _ Incoming (leg M x) (near_in M m P is p.0 r p.1 x at) _ a),
+  (λ k x h at. spaced_nearest n d scale far M r w k (omega arith) Outgoing x (known_out M m P is p.0 r p.1 k x h at)
+      (near_out M m P is p.0 r p.1 k x h at)),
+  (λ x at. spaced_nearest n d scale far M r w (last_number r) (omega arith) Incoming x
+      (known_in M m P is p.0 r p.1 x at) (near_in M m P is p.0 r p.1 x at)),
 )

@@ -24,7 +24,7 @@ pub up_to_below : (n : ℕ) → Each (λ k. k < n) (up_to n)
 up_to_below zero = Each-nil (λ k. k < zero)
 up_to_below (suc n) = Each-push (λ k. k < suc n) (up_to n) n (λ k h. omega (arith, up_to_below n k h)) (omega arith)
 
-has_below : (n k : ℕ) → k < n → has (up_to n) k ≡ true
+pub has_below : (n k : ℕ) → k < n → has (up_to n) k ≡ true
 has_below zero k lt = absurd (omega arith)
 has_below (suc n) k lt = grind (arith, list_any-append, cases_order k n, or_right, or_left, eq-eqb n k, has_below n k)
 

@@ -34,7 +34,7 @@ use Rattle.olr_spec.specs.Joins.{Joins}
 use Rattle.olr_spec.specs.Receiver.{Outgoing, Incoming, Measure, Receiver, Recovers, attributes, candidates}
 use Rattle.olr_spec.specs.Receiver.{last_number, decoded_coord, is_nearest}
 use Rattle.olr_spec.specs.Recovery.{Distinct, IsLineAt, IsStretches, IsKeptPart, IsLeft, IsCut, IsClose, IsStep}
-use Rattle.olr_spec.specs.Recovery.{IsWeighted, are_spaced, lon_apart, lat_apart}
+use Rattle.olr_spec.specs.Recovery.{IsWeighted, are_cosines, are_spaced, lon_apart, lat_apart}
 use Rattle.olr_spec.specs.Footprint.{Sees, Foot}
 use Rattle.olr_spec.specs.Detours.{ChangedLine, changes_of, AccountsFor, Difference, Detour, Near}
 use Rattle.olr_spec.specs.Queries.{TraversedOf, IsLastTested, CoverageQuery, query_to, QueriesOf, IsClear}
@@ -219,7 +219,7 @@ Distances =
 abbrev pub Nearest : Type 0
 Nearest =
     (M : Map) → IsMap M → (P : Path) → IsTrue (is_path P.lines) → (r : Reference) → Encodes M P (Points r)
-    → (n d scale : ℕ) (far : Measure) → IsWeighted n d scale far
+    → (n d scale : ℕ) (far : Measure) → IsWeighted n d scale far M r
     → ((k x : ℕ) → k < last_number r → IsLineAt M P Outgoing k x →
     IsTrue (are_spaced n d k Outgoing (leg M x) (candidates M)) →
     IsTrue (is_nearest far Outgoing (decoded_coord r k) (leg M x) (candidates M)))
@@ -227,10 +227,12 @@ Nearest =
     IsTrue (are_spaced n d (last_number r) Incoming (leg M x) (candidates M)) →
     IsTrue (is_nearest far Incoming (decoded_coord r (last_number r)) (leg M x) (candidates M)))
 
--- the weighted sum of both axes is such a measure
+-- the weighted sum of both axes is such a measure, with any cosines that at these coordinates are in range
 abbrev pub SomeWeighted : Type 0
 SomeWeighted =
-    (n d : ℕ) → n ≤ d → 0 < d → IsWeighted n d d (λ p c. n * lon_apart p c + d * lat_apart p c)
+    (n d scale : ℕ) (cosine : Measure) (M : Map) (r : Reference) → 0 < d → 0 < scale
+    → IsTrue (are_cosines n d scale cosine M r)
+    → IsWeighted n d scale (λ p c. cosine p c * lon_apart p c + scale * lat_apart p c) M r
 
 -- ---- sectors and bytes
 

@@ -8,17 +8,19 @@
 --     IsCut q s o c, IsClose q s a c      c is a value in the interval of an offset byte over the length s; c and a
 --         differ by less than a 256th of it. c is in q-ths of a decimetre
 --     IsStep a len      a length is in the interval of a distance to the next point
---     IsWeighted n d scale far      a measure between the axes' maximum and their sum, with cosines of at least n / d
+--     IsWeighted n d scale far M r      a measure that, from each LRP of r to each node with candidates, is between the
+--         axes' maximum and their sum, with cosines of at least n / d
+--     are_cosines n d scale cosine M r      these cosines are at least n / d and at most 1
 --     are_spaced n d k s g cs      the other nodes are far enough from a candidate's node, so that it is the nearest at
 --         LRP k
-use Rattle.std.specs.Prelude.{◌≡◌, ℕ, ◌+◌, ◌-◌, ◌*◌, ◌<◌, ◌≤◌, ℤ, ◌-ℤ◌, nat_abs, Bool, ◌||◌, ◌==◌, nat_le, List, []}
-use Rattle.std.specs.Prelude.{◌∷◌, slice_index, slice_get, Option, Some, None, option_map, IsTrue}
+use Rattle.std.specs.Prelude.{◌≡◌, ℕ, ◌+◌, ◌-◌, ◌*◌, ◌<◌, ◌≤◌, ℤ, ◌-ℤ◌, nat_abs, Bool, ◌&&◌, ◌||◌, ◌==◌, nat_le, List}
+use Rattle.std.specs.Prelude.{[], ◌∷◌, slice_index, slice_get, Option, Some, None, option_map, IsTrue}
 use Rattle.std.specs.List.{list_all}
 use Rattle.olr_spec.specs.Coordinates.{Coord}
-use Rattle.olr_spec.specs.Map.{Map}
+use Rattle.olr_spec.specs.Map.{Map, has_line}
 use Rattle.olr_spec.specs.Extension.{Path, first, last}
 use Rattle.olr_spec.specs.Points.{stretch, OfPath}
-use Rattle.olr_spec.specs.Bearings.{Leg}
+use Rattle.olr_spec.specs.Bearings.{Leg, up_to}
 use Rattle.olr_spec.specs.Reference.{Attrs, Reference, leg, legs, from_front, to_back, first_kept, last_kept}
 use Rattle.olr_spec.specs.Reference.{kept_points}
 use Rattle.olr_spec.specs.Decoded.{decoded_bound}
@@ -104,10 +106,21 @@ pub record Weighted (n d scale : ℕ) (far : Measure) (p : ℤ × ℤ) (c : Coor
   pub by_lat : scale * lat_apart p c ≤ far p c
   pub by_both : far p c ≤ u * lon_apart p c + scale * lat_apart p c
 
-pub record IsWeighted (n d scale : ℕ) (far : Measure) : Type 0 where
+-- a cosine of u / scale
+abbrev pub is_cosine : ℕ → ℕ → ℕ → ℕ → Bool
+is_cosine n d scale u = nat_le (n * scale) (d * u) && nat_le u scale
+
+-- from each decoded LRP of r to each end of a line of M
+pub record IsWeighted (n d scale : ℕ) (far : Measure) (M : Map) (r : Reference) : Type 0 where
   pub some : 0 < d
   pub unit : 0 < scale
-  pub all : (p : ℤ × ℤ) (c : Coord) → Weighted n d scale far p c
+  pub all : (s : Side) (k x : ℕ) → k ≤ last_number r → IsTrue (has_line M x) →
+      Weighted n d scale far (decoded_coord r k) (coordinate_on s (leg M x))
+
+abbrev pub are_cosines : ℕ → ℕ → ℕ → Measure → Map → Reference → Bool
+are_cosines n d scale cosine M r =
+    list_all (λ k. list_all (λ c. is_cosine n d scale (cosine (decoded_coord r k) c.1.begin)
+    && is_cosine n d scale (cosine (decoded_coord r k) c.1.finish)) (candidates M)) (up_to (last_number r + 1))
 
 -- in latitude, or in longitude times n / d, at least three times the bound within which LRP k is decoded
 abbrev pub is_spaced : ℕ → ℕ → ℕ → Coord → Coord → Bool
