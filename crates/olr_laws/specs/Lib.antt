@@ -1,4 +1,5 @@
 pub mod Rows
+pub mod MapRows
 pub mod CommandLaws
 pub mod CommandRows
 pub mod RecordLaws

@@ -5,10 +5,10 @@
 --     straight_leg, slanted_leg lat      lines of the rows on bearings
 --     morning_lines, twin_lines      all lines of the first worked path's map, and those of one where line 20 has a
 --         twin
---     axes_sum      a measure: the sum of both axes
-use Rattle.std.specs.Prelude.{ℕ, ◌+◌, List, [], ◌∷◌, pos, neg_ℤ, Some, None}
+--     axes_sum, by_cosine      measures: the sum of both axes, and the sum with the cosine of the latitude
+use Rattle.std.specs.Prelude.{ℕ, ◌+◌, ◌-◌, ◌*◌, ◌/◌, List, [], ◌∷◌, pos, neg_ℤ, nat_abs, Some, None}
 use Rattle.olr_spec.specs.Coordinates.{Coord, coord}
-use Rattle.olr_spec.specs.Bearings.{Leg}
+use Rattle.olr_spec.specs.Bearings.{Leg, thousandths}
 use Rattle.olr_spec.specs.Reference.{Attrs, Reference}
 use Rattle.olr_spec.specs.Receiver.{Measure}
 use Rattle.olr_spec.specs.Recovery.{lon_apart, lat_apart}
@@ -158,7 +158,7 @@ slanted_leg lat =
 -- ---- candidates
 
 -- from node 2 to node 3, as line 20, but shorter and of a lower class
-abbrev leg99 : Leg
+abbrev pub leg99 : Leg
 leg99 =
     record {
       line = record { from = 2; to = 3; frc = 4; fow = 3; len = 1500; shape = [] };
@@ -174,3 +174,13 @@ twin_lines = (10, leg10) ∷ (20, leg20) ∷ (21, leg20) ∷ (30, leg30) ∷ []
 
 abbrev pub axes_sum : Measure
 axes_sum p c = lon_apart p c + lat_apart p c
+
+-- the cosine of the latitude of c in millionths, rounded down, by the formula of the bearings
+abbrev pub cosine : Measure
+cosine p c =
+    let m = nat_abs (thousandths c.lat) in
+    1000000 * (4 * (8100000000 - m * m)) / (32400000000 + m * m)
+
+-- the difference in longitude times this cosine, and that in latitude
+abbrev pub by_cosine : Measure
+by_cosine p c = cosine p c * lon_apart p c + 1000000 * lat_apart p c

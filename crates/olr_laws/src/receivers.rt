@@ -1,9 +1,13 @@
 //! The laws of receivers, and worked rows of candidates.
 ghost use Rattle.std.specs.Prelude.{◌≡◌, ℕ, true, false};
 ghost use Rattle.olr_spec.specs.Laws;
-ghost use Rattle.olr_spec.specs.Receiver.{Outgoing, Incoming, decoded_coord, is_nearest, has_no_twin};
-ghost use Rattle.olr_spec.specs.Recovery.{are_spaced};
-ghost use Rattle.olr_laws.specs.Rows.{leg10, reference1, leg20, leg30, morning_lines, twin_lines, axes_sum};
+ghost use Rattle.olr_spec.specs.Map.{IsMap};
+ghost use Rattle.olr_spec.specs.Encoding.{Encodes, Points};
+ghost use Rattle.olr_spec.specs.Receiver.{Outgoing, Incoming, candidates, decoded_coord, is_nearest, has_no_twin};
+ghost use Rattle.olr_spec.specs.Recovery.{Distinct, IsWeighted, are_cosines, are_spaced};
+ghost use Rattle.olr_laws.specs.Rows.{leg10, reference1, leg20, leg30, morning_lines, twin_lines, axes_sum, cosine};
+ghost use Rattle.olr_laws.specs.Rows.{by_cosine};
+ghost use Rattle.olr_laws.specs.MapRows.{morning_map, morning_path};
 
 /// If the path's own line is distinct at each LRP, every receiver recovers the legs between the
 /// remaining LRPs; offsets are exact within a 256th of a leg. A node is the nearest if the others are
@@ -16,6 +20,17 @@ pub fn laws_of_receivers()
     ensures nearest { Laws.Nearest }
     ensures some { Laws.SomeReceiver }
     ensures weighted { Laws.SomeWeighted }
+{}
+
+/// The first worked path on its map: the answer is its reference, which is distinct. By the cosine of the latitude,
+/// which is more than 64/100 there, the weighted sum is such a measure as the law of the nearest node asks for.
+pub fn rows_morning()
+    ensures sound { IsMap morning_map }
+    ensures lines { candidates morning_map ≡ morning_lines }
+    ensures answer { Encodes morning_map morning_path (Points reference1) }
+    ensures distinct { Distinct axes_sum morning_map morning_path reference1 }
+    ensures cosines { are_cosines 64 100 1000000 cosine morning_map reference1 ≡ true }
+    ensures weighted { IsWeighted 64 100 1000000 by_cosine morning_map reference1 }
 {}
 
 /// The lines at the LRPs of the first worked path, among all lines of its map: each is the nearest
