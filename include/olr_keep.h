@@ -8,7 +8,7 @@
  *     ... olr_keep_reply(&keep, buffer, size) ...
  *     olr_keep_drop(&keep);
  *
- * Link with libolr_keep.a and the C library. docs/LIMITS.md has the records, the replies and the limits.
+ * Compile and link with `pkg-config --cflags --libs olr_keep`. docs/LIMITS.md has the records, the replies and the limits.
  *
  * Conditions that the caller has to meet, since the library can't test them:
  *
@@ -19,7 +19,7 @@
  * - malloc, realloc and free are those of the process, belong to one allocator, and align to 16 bytes.
  *
  * No call retains the caller's memory. The functions olr_c_* are proved, on condition that no pointer is NULL and no length is
- * greater than any object has. The functions olr_keep_* test this first and call them.
+ * greater than any object has. The functions olr_keep_* are written in C: they test this first and call them.
  */
 #ifndef OLR_KEEP_H
 #define OLR_KEEP_H
@@ -31,6 +31,10 @@
 #ifdef __cplusplus
 extern "C" {
 #endif
+
+/* The version of this header, and as a number: 10000 times the first part, plus 100 times the second, plus the third. */
+#define OLR_KEEP_VERSION "1.1.0"
+#define OLR_KEEP_VERSION_NUMBER 10100
 
 /* A register, or none. */
 typedef struct olr_keep {
@@ -53,42 +57,34 @@ enum {
     OLR_KEEP_BAD_LENGTH = 6   /* a length is greater than PTRDIFF_MAX */
 };
 
+/* The version of the library that is loaded, such as "1.1.0". */
+const char *olr_keep_version(void);
+
+/* What a status means, in English and without a line end, such as "out of memory". Never NULL. */
+const char *olr_keep_status_text(int status);
+
+/* Makes a register with an empty map and no paths. Frees the register that the olr_keep had, if any. */
+int olr_keep_make(olr_keep *keep);
+
+/* Frees the register. An olr_keep without a register is left unchanged. */
+void olr_keep_drop(olr_keep *keep);
+
+/* Carries out a record, with or without its line end. Fields may be quoted as in CSV. If there are several records, the
+ * reply is their replies in order. */
+int olr_keep_ask(olr_keep *keep, const void *record, size_t length);
+
+/* The length of the last reply in bytes, with its line ends; 0 if there is no reply or no register. */
+size_t olr_keep_length(olr_keep *keep);
+
+/* Copies the last reply to the start of a buffer of `size` bytes. No zero byte is appended. */
+int olr_keep_reply(olr_keep *keep, void *buffer, size_t size);
+
 /* The proved functions. No pointer may be NULL, and no length greater than PTRDIFF_MAX. */
 uint8_t olr_c_make(olr_keep *keep);
 void olr_c_drop(olr_keep *keep);
 uint8_t olr_c_ask(olr_keep *keep, const uint8_t *records, size_t length);
 size_t olr_c_length(olr_keep *keep);
 uint8_t olr_c_reply(olr_keep *keep, uint8_t *buffer, size_t size);
-
-/* Makes a register with an empty map and no paths. Frees the register that the olr_keep had, if any. */
-static inline int olr_keep_make(olr_keep *keep) {
-    if (!keep) return OLR_KEEP_NULL;
-    return olr_c_make(keep);
-}
-
-/* Frees the register. An olr_keep without a register is left unchanged. */
-static inline void olr_keep_drop(olr_keep *keep) {
-    if (keep) olr_c_drop(keep);
-}
-
-/* Carries out a record, with or without its line end. Fields may be quoted as in CSV. If there are several records, the
- * reply is their replies in order. */
-static inline int olr_keep_ask(olr_keep *keep, const void *record, size_t length) {
-    if (!keep || (!record && length)) return OLR_KEEP_NULL;
-    if (length > PTRDIFF_MAX) return OLR_KEEP_BAD_LENGTH;
-    return olr_c_ask(keep, (const uint8_t *)(record ? record : ""), length);
-}
-
-/* The length of the last reply in bytes, with its line ends; 0 if there is no reply or no register. */
-static inline size_t olr_keep_length(olr_keep *keep) { return keep ? olr_c_length(keep) : 0; }
-
-/* Copies the last reply to the start of a buffer of `size` bytes. No zero byte is appended. */
-static inline int olr_keep_reply(olr_keep *keep, void *buffer, size_t size) {
-    uint8_t none = 0;
-    if (!keep || (!buffer && size)) return OLR_KEEP_NULL;
-    if (size > PTRDIFF_MAX) return OLR_KEEP_BAD_LENGTH;
-    return olr_c_reply(keep, buffer ? (uint8_t *)buffer : &none, size);
-}
 
 #ifdef __cplusplus
 }
