@@ -17,7 +17,7 @@ import sys
 from typing import Optional, Union
 
 HERE = os.path.dirname(os.path.realpath(__file__))
-sys.path.append(os.path.join(os.path.dirname(HERE), "tools"))
+sys.path.append(os.path.join(os.path.dirname(os.path.dirname(HERE)), "tools"))
 from replies import Reply, read_reply  # noqa: E402
 
 ACCEPTED, REJECTED, NO_MEMORY = 0, 1, 4
