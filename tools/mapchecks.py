@@ -4,7 +4,8 @@ import math
 from collections import defaultdict
 from typing import NamedTuple
 
-from receiver import SECTOR, STEP_16, STEP_24, bearing, distance, place, project, shape_length
+from geo import SECTOR, distance
+from receiver import STEP_16, STEP_24, bearing, place, shape_length
 from refound import SHORT, are_twins
 
 KINDS = ("twin-lines", "alike-lines", "line-over-node", "short-line", "same-coordinate", "near-nodes", "under-straight",

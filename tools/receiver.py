@@ -14,36 +14,15 @@ import math
 from collections import defaultdict
 from typing import NamedTuple
 
-METRES = 111_319.49  # metres to a degree, on a sphere with the equator of WGS84
+from geo import METRES, Point, Reference, angle_between, direction, distance, on_piece, scale
+
 CELL = 0.002  # degrees, the width of a cell of the grid
 STEP_24 = 360 / 2**24  # degrees, the step of the first point's coordinates
 STEP_16 = 1e-5  # degrees, the step of a further point's coordinates
-DNP_STEP = 58.6
-SECTOR = 11.25
 
 
 class TextError(Exception):
     """A text that is not a line location of version 3; the text of the error is printed."""
-
-
-class Point(NamedTuple):
-    """A location reference point; the last one has neither `lfrcnp` nor `dnp`."""
-
-    lon: float
-    lat: float
-    frc: int
-    fow: int
-    bearing: float
-    lfrcnp: int
-    dnp: float
-
-
-class Reference(NamedTuple):
-    """The points of a string, and the least and greatest share of the first and of the last leg that is cut off."""
-
-    points: list
-    positive: tuple
-    negative: tuple
 
 
 def read_reference(text):
@@ -66,8 +45,7 @@ def read_reference(text):
             at = (at[0] + signed(data[begin - 4 : begin - 2]) * STEP_16, at[1] + signed(data[begin - 2 : begin]) * STEP_16)
         points.append(point_of(at, data[begin : begin + 3] if k <= count else data[begin : begin + 2]))
     offsets = iter(data[size:])
-    shares = [share(next(offsets)) if flags & bit else (0, 0) for bit in (2, 1)]
-    return Reference(points, *shares)
+    return Reference(tuple(points), *(next(offsets) if flags & bit else None for bit in (2, 1)))
 
 
 def signed(data):
@@ -81,15 +59,10 @@ def degrees_24(data):
     return (number - (number > 0) * 0.5 + (number < 0) * 0.5) * STEP_24
 
 
-def share(byte):
-    """The bounds of the share of a leg that an offset's byte stands for."""
-    return byte / 256, (byte + 1) / 256
-
-
 def point_of(at, data):
     """A point by its coordinates and its two or three bytes of attributes."""
-    lfrcnp, dnp = (data[1] >> 5, (data[2] + 0.5) * DNP_STEP) if len(data) == 3 else (7, 0)
-    return Point(*at, data[0] >> 3 & 7, data[0] & 7, ((data[1] & 31) + 0.5) * SECTOR, lfrcnp, dnp)
+    more = (data[1] >> 5, data[2]) if len(data) == 3 else ()
+    return Point(*at, data[0] >> 3 & 7, data[0] & 7, data[1] & 31, *more)
 
 
 # ---- the map
@@ -171,17 +144,7 @@ def cells_along(a, b):
                 yield x, y
 
 
-# ---- geometry
-
-
-def scale(lat):
-    """Metres to a degree of longitude."""
-    return METRES * math.cos(math.radians(lat))
-
-
-def distance(a, b):
-    """The straight distance between two coordinates that are near each other."""
-    return math.hypot((b[0] - a[0]) * scale((a[1] + b[1]) / 2), (b[1] - a[1]) * METRES)
+# ---- geometry of roads
 
 
 def shape_length(points):
@@ -198,29 +161,10 @@ def place(road, at):
     return road.points[-1][1:]
 
 
-def direction(a, b):
-    """The bearing from one coordinate to another; 0 if they are equal."""
-    return math.degrees(math.atan2((b[0] - a[0]) * scale(a[1]), (b[1] - a[1]) * METRES)) % 360
-
-
 def bearing(road, at, is_last, length=20.0):
     """The bearing from a position on a line to the one 20 m along it, or 20 m back for a last point, or to the line's end."""
     other = max(0.0, at - length) if is_last else min(road.length, at + length)
     return direction(place(road, at), place(road, other))
-
-
-def angle_between(a, b):
-    """The difference of two bearings, at most 180 degrees."""
-    return abs((a - b + 180) % 360 - 180)
-
-
-def on_piece(a, b, lon, lat):
-    """The distance of a coordinate from a straight segment, and the share of the segment before the nearest point."""
-    east, bx, by = scale(lat), b[0] - a[0], b[1] - a[1]
-    px, py, qx, qy = (lon - a[0]) * east, (lat - a[1]) * METRES, bx * east, by * METRES
-    square = qx * qx + qy * qy
-    part = min(1.0, max(0.0, (px * qx + py * qy) / square)) if square else 0.0
-    return math.hypot(px - part * qx, py - part * qy), part
 
 
 def project(road, lon, lat):
@@ -387,8 +331,8 @@ class Router:
 
     def bounds(self, point):
         """The least and the greatest length of the route after a point."""
-        more = point.dnp * self.rules.dnp_share + self.rules.dnp_metres
-        return point.dnp - more, point.dnp + more
+        more = point.next_m * self.rules.dnp_share + self.rules.dnp_metres
+        return point.next_m - more, point.next_m + more
 
     def route(self, point, a, b):
         """The leg from one candidate to the next, or the kind and the text of why there is none."""
@@ -502,12 +446,12 @@ def cut(roads, reference, taken, second, legs):
     """The whole route with its offsets cut off, each in the middle of its interval."""
     whole = [taken[0].line, *(line for it in legs for line in it.lines)]
     begin, end = taken[0].at, taken[-1].at
-    lengths = [it.length for it in legs]
-    lines, first = whole, begin + sum(reference.positive) / 2 * lengths[0]
+    lengths, (positive, negative) = [it.length for it in legs], reference.shares
+    lines, first = whole, begin + sum(positive) / 2 * lengths[0]
     while len(lines) > 1 and first >= roads.lines[lines[0]].length:
         first -= roads.lines[lines[0]].length
         lines = lines[1:]
-    last = roads.lines[lines[-1]].length - end + sum(reference.negative) / 2 * lengths[-1]
+    last = roads.lines[lines[-1]].length - end + sum(negative) / 2 * lengths[-1]
     while len(lines) > 1 and last >= roads.lines[lines[-1]].length:
         last -= roads.lines[lines[-1]].length
         lines = lines[:-1]

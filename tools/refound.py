@@ -3,7 +3,8 @@ import math
 import random
 from typing import NamedTuple
 
-from receiver import METRES, Failed, Road, RoadMap, cells_along, decode, distance, on_piece, place, scale, shape_length
+from geo import METRES, distance, on_piece, scale
+from receiver import Failed, Road, RoadMap, cells_along, decode, place, shape_length
 
 SHORT = 5.0  # metres; shorter lines are below the precision of the coordinates of a string
 UNDER_5_M = "a line under 5 m"
@@ -77,10 +78,7 @@ def is_same(roads, reference, found, location, slack):
     after = sum(lengths[k + len(location.lines) - 1 :]) - location.end - (lengths[-1] - found.end)
     return all(
         low * leg - slack <= cut <= high * leg + slack
-        for (low, high), leg, cut in (
-            (reference.positive, found.lengths[0], before),
-            (reference.negative, found.lengths[-1], after),
-        )
+        for (low, high), leg, cut in zip(reference.shares, (found.lengths[0], found.lengths[-1]), (before, after))
     )
 
 
@@ -100,8 +98,7 @@ def farthest(coordinates, others):
 
 def is_near(reference, found, shape, other):
     """Whether two shapes follow each other, and their ends are as near as the offsets' intervals allow."""
-    more = ((high - low) * leg / 2 for (low, high), leg in (
-        (reference.positive, found.lengths[0]), (reference.negative, found.lengths[-1])))
+    more = ((high - low) * leg / 2 for (low, high), leg in zip(reference.shares, (found.lengths[0], found.lengths[-1])))
     ends = ((shape[0], other[0]), (shape[-1], other[-1]))
     if any(distance(a, b) > APART + further for (a, b), further in zip(ends, more)):
         return False

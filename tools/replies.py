@@ -14,6 +14,9 @@ from typing import NamedTuple
 FIELD = rb'(?:"(?:[^"]|"")*"(?:[^",][^,]*)?|[^",][^,]*|)'
 ONE_RECORD = re.compile(rb"(?=[^\r\n]+\Z)" + FIELD + rb"(?:," + FIELD + rb")*")
 
+# The first line of a reply.
+HEAD = re.compile(r"(ok|held|fault),([0-9]+)(?:,(.*))?")
+
 # A line that is always rejected, to be sent in place of a record that would continue after its line end.
 NO_RECORD = b"?"
 
@@ -42,24 +45,31 @@ class Reply(NamedTuple):
         return "".join(line + "\n" for line in [head, *self.lines])
 
 
-def whole_line(stream):
-    """The next line without its end, or None at the end of the stream. A line that was cut off raises EOFError."""
-    line = stream.readline()
+def whole_line(stream, line=None):
+    """The next line without its end, or None at the end of the stream. A line that was cut off raises EOFError. `line` is the
+    line, if it has been read."""
+    line = stream.readline() if line is None else line
     if line and not line.endswith("\n"):
-        raise EOFError(f"a reply was cut off: {line!r}")
+        raise EOFError(f"a reply was cut off: {line[:200]!r}")
     return line[:-1] if line else None
 
 
-def read_reply(stream):
-    """The next reply of a stream of text, or None at its end. One that was cut off raises EOFError."""
-    head = whole_line(stream)
+def read_reply(stream, line=None):
+    """The next reply of a stream of text, or None at its end; `line` is its first line, if it has been read.
+
+    Raises EOFError for a reply that was cut off, and ValueError for a text that is none.
+    """
+    head = whole_line(stream, line)
     if head is None:
         return None
-    word, number, *rest = head.split(",", 2)
-    lines = [whole_line(stream) for _ in range(int(number) if word == "ok" else 0)]
+    found = HEAD.fullmatch(head)
+    if not found:
+        raise ValueError(f"this is no reply of olr-keep: {head[:200]!r}")
+    word, number, rest = found[1], int(found[2]), found[3] or ""
+    lines = [whole_line(stream) for _ in range(number if word == "ok" else 0)]
     if None in lines:
         raise EOFError(f"lines are missing after {head}")
-    return Reply(word, int(number), "".join(rest), lines)
+    return Reply(word, number, rest, lines)
 
 
 class Keep:
