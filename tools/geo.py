@@ -5,6 +5,7 @@ records.py, are whole numbers of 10^-7 degree: `degrees` converts them. A course
 lat) in that unit. Strings are read by the program (`explain`), and converted to degrees and metres by the White Paper's binary
 format.
 """
+import json
 import math
 import os
 from typing import NamedTuple, Optional
@@ -208,6 +209,26 @@ def moved(place, bearing, far):
     north = math.asin(math.sin(lat) * math.cos(angle) + math.cos(lat) * math.sin(angle) * math.cos(turn))
     east = math.atan2(math.sin(turn) * math.sin(angle) * math.cos(lat), math.cos(angle) - math.sin(lat) * math.sin(north))
     return (math.degrees(lon + east) + 540) % 360 - 180, math.degrees(north)
+
+
+# ---- GeoJSON
+
+
+def rounded(place):
+    """A coordinate, rounded to the decimals of records."""
+    return [round(place[0], 7), round(place[1], 7)]
+
+
+def feature(kind, geometry, coordinates, **more):
+    """A feature of GeoJSON; one without coordinates has no geometry."""
+    place = {"type": geometry, "coordinates": coordinates} if coordinates else None
+    return {"type": "Feature", "geometry": place, "properties": {"kind": kind, **more}}
+
+
+def collection(features):
+    """The text of a GeoJSON file with these features, one on a line."""
+    rows = ",\n".join(json.dumps(it) for it in features)
+    return f'{{"type": "FeatureCollection", "features": [\n{rows}\n]}}\n'
 
 
 # ---- courses of paths

@@ -4,12 +4,13 @@ import math
 from collections import defaultdict
 from typing import NamedTuple
 
-from geo import SECTOR, distance
-from receiver import STEP_16, STEP_24, bearing, place, shape_length
+from geo import METRES, SECTOR, direction, distance, scale
+from receiver import CELL, STEP_16, STEP_24, bearing, pieces, place, project, shape_length
 from refound import SHORT, are_twins
 
 KINDS = ("twin-lines", "alike-lines", "line-over-node", "short-line", "same-coordinate", "near-nodes", "under-straight",
          "over-shape", "over-15-km", "one-way-dead-end", "separate-part", "lone-node")
+AHEAD = 20.0  # metres over which a bearing is taken
 LONGEST = 15_000  # metres between two location reference points (LRPs) of a string
 
 # The greatest difference on each axis, in degrees, between a node and its coordinate in a string. For the first LRP it is less
@@ -41,23 +42,25 @@ def findings(roads, point=0):
 
 
 def sector(road, is_last):
-    """The bearing sector of a line at its start, or at its end."""
+    """The bearing sector of a line at its start, or at its end: of the next 20 m along it, or of the last 20 m, backwards."""
+    here, beside = (road.points[-1], road.points[-2]) if is_last else road.points[:2]
+    if abs(here[0] - beside[0]) >= min(AHEAD, road.length):
+        return int(direction(here[1:], beside[1:]) // SECTOR)
     return int(bearing(road, road.length if is_last else 0.0, is_last) // SECTOR)
 
 
 def lines_alike(roads):
     """Twin lines, and lines with the same attributes at one of their ends."""
     for is_last, sides in ((False, roads.leaving), (True, roads.entering)):
-        groups = defaultdict(list)
         for node, numbers in sorted(sides.items()):
+            groups = defaultdict(list)
             for it in numbers:
-                road = roads.lines[it]
-                groups[node, road.frc, road.fow, sector(road, is_last)].append(it)
-        for (node, frc, fow, _), numbers in groups.items():
-            for a, b in itertools.combinations(numbers, 2):
-                if not are_twins(roads.lines[a], roads.lines[b]):
-                    how = f"{'enter' if is_last else 'leave'} node {node} alike, class {frc}, form {fow}"
-                    yield Finding("alike-lines", (a, b), (node,), f"lines {a} and {b} {how}")
+                groups[roads.lines[it][2:4]].append(it)
+            for (frc, fow), group in groups.items():
+                how = f"{'enter' if is_last else 'leave'} node {node} alike, class {frc}, form {fow}"
+                for a, b in pairs_alike(roads, group, is_last):
+                    if not are_twins(roads.lines[a], roads.lines[b]):
+                        yield Finding("alike-lines", (a, b), (node,), f"lines {a} and {b} {how}")
     same = defaultdict(list)
     for number, road in roads.lines.items():
         same[road[:4]].append(number)
@@ -69,27 +72,64 @@ def lines_alike(roads):
                 yield Finding("twin-lines", (a, b), one[:2], text)
 
 
+def pairs_alike(roads, numbers, is_last):
+    """Pairs of these lines with the same bearing sector."""
+    if len(numbers) > 1:
+        sectors = {it: sector(roads.lines[it], is_last) for it in numbers}
+        for a, b in itertools.combinations(numbers, 2):
+            if sectors[a] == sectors[b]:
+                yield a, b
+
+
 def lines_over_nodes(roads):
     """Lines that pass a node that isn't their end, and have the class, form and sector of a line that leaves the node."""
-    for node, coordinate in sorted(roads.nodes.items()):
-        for number, far, at in roads.lines_near(*coordinate, SHORT):
-            road = roads.lines[number]
-            if node in road[:2] or min(at, road.length - at) <= SHORT:
-                continue
-            ahead = place(road, at), place(road, min(road.length, at + 20))
-            rest = road._replace(length=distance(*ahead), points=((0.0, *ahead[0]), (distance(*ahead), *ahead[1])))
-            for other in roads.leaving[node]:
-                one = roads.lines[other]
-                if one[2:4] == road[2:4] and sector(one, False) == sector(rest, False):
-                    text = f"line {number} passes node {node} within {far:.1f} m, alike to line {other} that leaves there"
-                    yield Finding("line-over-node", (number, other), (node,), text)
+    for node, number in sorted(nodes_passed(roads)):
+        road = roads.lines[number]
+        far, at = project(road, *roads.nodes[node])
+        if far > SHORT or min(at, road.length - at) <= SHORT:
+            continue
+        ahead = place(road, at), place(road, min(road.length, at + AHEAD))
+        rest = int(direction(*ahead) // SECTOR)
+        for other in roads.leaving[node]:
+            one = roads.lines[other]
+            if one[2:4] == road[2:4] and sector(one, False) == rest:
+                text = f"line {number} passes node {node} within {far:.1f} m, alike to line {other} that leaves there"
+                yield Finding("line-over-node", (number, other), (node,), text)
+
+
+def nodes_passed(roads):
+    """Pairs of a node and a line that may pass it: one whose class and form a line that leaves the node has, and that has a
+    segment whose box, with a margin, contains the node."""
+    cells, found = defaultdict(list), set()
+    for node, (lon, lat) in roads.nodes.items():
+        kinds = {roads.lines[it][2:4] for it in roads.leaving.get(node, ())}
+        cells[int(lon // CELL), int(lat // CELL)].append((lon, lat, node, kinds))
+    for number, road in roads.lines.items():
+        kind, points = road[2:4], road.points
+        for (_, *a), (_, *b) in zip(points, points[1:]):
+            for west, south, east, north in boxes(a, b):
+                for x in range(int(west // CELL), int(east // CELL) + 1):
+                    for y in range(int(south // CELL), int(north // CELL) + 1):
+                        for lon, lat, node, kinds in cells.get((x, y), ()):
+                            if south <= lat <= north and west <= lon <= east and kind in kinds and node not in road[:2]:
+                                found.add((node, number))
+    return found
+
+
+def boxes(a, b):
+    """The boxes of the pieces of a straight segment, with a margin of SHORT: west, south, east, north."""
+    north, east = SHORT / METRES, SHORT / max(1.0, scale(max(abs(a[1]), abs(b[1]))))
+    for (x, y), (u, v) in pieces(a, b):
+        x, u = (x, u) if x < u else (u, x)
+        y, v = (y, v) if y < v else (v, y)
+        yield x - east, y - north, u + east, v + north
 
 
 def lines_alone(roads):
     """Findings on the length of a line."""
     for number, road in sorted(roads.lines.items()):
-        straight = distance(roads.nodes[road.start], roads.nodes[road.end])
-        shape = shape_length(road.points)
+        straight = distance(road.points[0][1:], road.points[-1][1:])
+        shape = shape_length(road.points) if len(road.points) > 2 else straight
         if road.length < SHORT:
             yield Finding("short-line", (number,), road[:2], f"line {number}, {road.length:.1f} m")
         if road.length + 1 < 0.99 * straight:

@@ -8,6 +8,7 @@ Coordinates are degrees; lengths, distances and offsets metres; bearings degrees
 """
 import base64
 import binascii
+import functools
 import heapq
 import itertools
 import math
@@ -80,22 +81,34 @@ class Road(NamedTuple):
 
 
 class RoadMap:
-    """Lines by number, those that leave and enter each node, and a grid over both."""
+    """Lines by number, those that leave and enter each node, and a grid over both, which is made when it is first asked for."""
 
     def __init__(self, nodes, lines):
         self.nodes, self.lines = nodes, lines
         self.leaving, self.entering = defaultdict(list), defaultdict(list)
-        self.node_cells, self.line_cells, self.boxes = defaultdict(list), defaultdict(set), {}
-        for number, (lon, lat) in nodes.items():
-            self.node_cells[int(lon // CELL), int(lat // CELL)].append(number)
         for number, road in lines.items():
             self.leaving[road.start].append(number)
             self.entering[road.end].append(number)
+
+    @functools.cached_property
+    def node_cells(self):
+        """The nodes in each cell of the grid."""
+        cells = defaultdict(list)
+        for number, (lon, lat) in self.nodes.items():
+            cells[int(lon // CELL), int(lat // CELL)].append(number)
+        return cells
+
+    @functools.cached_property
+    def line_cells(self):
+        """The lines in each cell of the grid, each with its box: west, south, east, north."""
+        cells = defaultdict(dict)
+        for number, road in self.lines.items():
             _, lons, lats = zip(*road.points)
-            self.boxes[number] = min(lons), min(lats), max(lons), max(lats)
+            box = min(lons), min(lats), max(lons), max(lats)
             for (_, *a), (_, *b) in zip(road.points, road.points[1:]):
                 for cell in cells_along(a, b):
-                    self.line_cells[cell].add(number)
+                    cells[cell][number] = box
+        return cells
 
     @classmethod
     def of_state(cls, state):
@@ -104,41 +117,49 @@ class RoadMap:
         return cls(nodes, {number: road_of(line, nodes) for number, line in state.lines.items()})
 
     def near(self, cells, lon, lat, radius):
-        """The contents of the cells within a radius of a coordinate, in ascending order."""
+        """The contents of each cell within a radius of a coordinate."""
         east, north = radius / scale(lat), radius / METRES
         columns = range(int((lon - east) // CELL), int((lon + east) // CELL) + 1)
         rows = range(int((lat - north) // CELL), int((lat + north) // CELL) + 1)
-        return sorted({it for cell in itertools.product(columns, rows) for it in cells.get(cell, ())})
+        return filter(None, map(cells.get, itertools.product(columns, rows)))
 
     def nodes_near(self, lon, lat, radius):
-        """The nodes within a radius of a coordinate, each with its distance."""
-        pairs = ((it, distance((lon, lat), self.nodes[it])) for it in self.near(self.node_cells, lon, lat, radius))
+        """The nodes within a radius of a coordinate, each with its distance, in ascending order."""
+        numbers = sorted(it for cell in self.near(self.node_cells, lon, lat, radius) for it in cell)
+        pairs = ((it, distance((lon, lat), self.nodes[it])) for it in numbers)
         return [(it, far) for it, far in pairs if far <= radius]
 
     def lines_near(self, lon, lat, radius):
-        """The lines within a radius of a coordinate, each with its distance and the position of its nearest point."""
-        east, north, found = radius / scale(lat), radius / METRES, []
-        for it in self.near(self.line_cells, lon, lat, radius):
-            west, south, other_east, other_north = self.boxes[it]
-            if west - east <= lon <= other_east + east and south - north <= lat <= other_north + north:
-                far, at = project(self.lines[it], lon, lat)
-                if far <= radius:
-                    found.append((it, far, at))
-        return found
+        """The lines within a radius of a coordinate, each with its distance and the position of its nearest point, in ascending
+        order."""
+        east, north, found = radius / scale(lat), radius / METRES, {}
+        for cell in self.near(self.line_cells, lon, lat, radius):
+            for it, (west, south, other_east, other_north) in cell.items():
+                if west - east <= lon <= other_east + east and south - north <= lat <= other_north + north and it not in found:
+                    found[it] = project(self.lines[it], lon, lat)
+        return [(it, far, at) for it, (far, at) in sorted(found.items()) if far <= radius]
 
 
 def road_of(line, nodes):
     """A line of the records, in metres and degrees."""
-    inner = ((at / 10, lon / 1e7, lat / 1e7) for at, lon, lat in line.shape)
-    points = ((0.0, *nodes[line.start]), *inner, (line.length / 10, *nodes[line.end]))
-    return Road(line.start, line.end, line.frc, line.fow, line.length / 10, points)
+    start, end, frc, fow, length, shape = line
+    length /= 10
+    inner = [(at / 10, lon / 1e7, lat / 1e7) for at, lon, lat in shape] if shape else ()
+    return Road(start, end, frc, fow, length, ((0.0, *nodes[start]), *inner, (length, *nodes[end])))
+
+
+def pieces(a, b):
+    """The parts of a straight segment, none wider or higher than a cell of the grid, as pairs of coordinates."""
+    count = max(1, math.ceil(max(abs(b[0] - a[0]), abs(b[1] - a[1])) / CELL))
+    if count == 1:
+        return ((a, b),)
+    stops = [(a[0] + (b[0] - a[0]) * k / count, a[1] + (b[1] - a[1]) * k / count) for k in range(count + 1)]
+    return zip(stops, stops[1:])
 
 
 def cells_along(a, b):
     """The cells of the grid that a straight segment passes, and some neighbours."""
-    count = max(1, math.ceil(max(abs(b[0] - a[0]), abs(b[1] - a[1])) / CELL))
-    stops = [(a[0] + (b[0] - a[0]) * k / count, a[1] + (b[1] - a[1]) * k / count) for k in range(count + 1)]
-    for p, q in zip(stops, stops[1:]):
+    for p, q in pieces(a, b):
         for x in {int(p[0] // CELL), int(q[0] // CELL)}:
             for y in {int(p[1] // CELL), int(q[1] // CELL)}:
                 yield x, y

@@ -31,8 +31,8 @@ BOM = "\xef\xbb\xbf"  # the byte order mark of UTF-8, as Latin-1
 # What a file without a record begins with, and what it is.
 OTHER_FILES = (
     (re.compile(rb"\xff\xfe|\xfe\xff|.\0.\0|\0.\0.", re.DOTALL), "it is UTF-16: records are ASCII"),
-    (re.compile(rb".{0,4}\n?\tOSMHeader", re.DOTALL), "it is an OpenStreetMap file: tools/osm-records makes records of it"),
-    (re.compile(rb"(?:\xef\xbb\xbf)?\s*<(?:.{0,300}<)?osm", re.DOTALL), "it is an OpenStreetMap file: tools/osm-records makes records of it"),
+    (re.compile(rb".{4}\n\tOSMHeader|(?:\xef\xbb\xbf)?\s*<(?:.{0,300}<)?osm", re.DOTALL),
+     "it is an OpenStreetMap file: tools/osm-records makes records of it"),
     (re.compile(rb"\x1f\x8b|BZh|\xfd7zXZ|PK\x03\x04|\x28\xb5\x2f\xfd"), "it is compressed: unpack it first"),
 )
 
@@ -157,6 +157,12 @@ def units(text):
     return -value if text.startswith("-") else value
 
 
+def decimal(value):
+    """Degrees as records have them, without trailing zeros, of a whole number of 10^-7 degree."""
+    whole, part = divmod(abs(value), UNITS)
+    return ("-" if value < 0 else "") + f"{whole}.{part:07}".rstrip("0").rstrip(".")
+
+
 def coordinate_of(text):
     """A longitude and a latitude, as fields, in whole units."""
     lon, lat = text.split(",")
@@ -166,7 +172,9 @@ def coordinate_of(text):
 def line_of(text):
     """The line with these fields of a record."""
     start, end, frc, fow, length, *rest = text.split(",")
-    shape = tuple((int(at), units(lon), units(lat)) for at, lon, lat in zip(rest[::3], rest[1::3], rest[2::3]))
+    shape = ()
+    if rest:
+        shape = tuple((int(at), units(lon), units(lat)) for at, lon, lat in zip(rest[::3], rest[1::3], rest[2::3]))
     return Line(int(start), int(end), int(frc), int(fow), int(length), shape)
 
 
@@ -266,8 +274,8 @@ def state_of(joined, program=None, or_empty=False):
             raise RecordsError(f"{joined.names[index]}: it has no record")
         if count and not accepted:
             what = next((what for form, what in OTHER_FILES if form.match(joined.begins(index))), None)
-            many = f"all {count} records are rejected, the first with" if count > 1 else "its only record is rejected with"
-            raise RecordsError(f"{joined.names[index]}: {many} {what or advice(*first)}")
+            many = f"all its {count} records are rejected" if count > 1 else "its only record is rejected"
+            raise RecordsError(f"{joined.names[index]}: {many}: {what or advice(*first)}")
     return state
 
 

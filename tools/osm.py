@@ -1,0 +1,289 @@
+"""Reads OpenStreetMap files: the coordinates of nodes in arrays, and the ways that cars use, with why others are left out.
+
+    extract = read_osm("region.osm", with_ferries=False)
+    for way in extract.ways:
+        print(way.number, way.road, [extract.places.degrees(it) for it in way.nodes])
+
+XML is read by the standard library, every other format by Debian's `python3-pyosmium`.
+"""
+import array
+import bisect
+import collections
+import sys
+import xml.parsers.expat
+from typing import NamedTuple
+
+# The functional road class of each kind of highway that is used; its links have the same class. And that of ferries.
+CLASSES = {"motorway": 0, "trunk": 1, "primary": 2, "secondary": 3, "tertiary": 4, "unclassified": 5, "road": 5}
+CLASSES |= {"residential": 6, "living_street": 6, "service": 7}
+FERRY = 5
+
+# Forms of way.
+MOTORWAY, MULTIPLE, SINGLE, ROUNDABOUT, SLIP_ROAD, OTHER = 1, 2, 3, 4, 6, 7
+
+# Who may use a road, from the tag that is decisive for a car to the most general one; and what their values mean for its driver.
+WHO = ("motorcar", "motor_vehicle", "vehicle", "access")
+CLOSED = ("no", "private", "agricultural", "forestry", "agricultural;forestry", "emergency", "military", "bus", "psv")
+OPEN = ("yes", "permissive", "designated", "official", "public", "destination", "customers", "delivery", "permit", "residents",
+        "unknown")
+ONE_WAY, BACKWARD, BOTH_WAYS, BY_TIME = ("yes", "true", "1"), ("-1", "reverse"), ("no", "false", "0", "alternating"), ("reversible",)
+ROUND = ("roundabout", "circular")
+TAGS = {"highway", "route", "area", "junction", "dual_carriageway", *WHO}
+TAGS |= {f"{it}:{way}" for it in WHO for way in ("forward", "backward")} | {"oneway", *(f"oneway:{it}" for it in WHO)}
+ELEMENTS = ("node", "way", "relation", "bounds", "note", "meta", "tag", "nd", "member", "changeset")
+
+
+class OsmError(Exception):
+    """A file that is no OpenStreetMap file with roads; the text is printed."""
+
+
+class Road(NamedTuple):
+    """What a way is as a road: class, form, and whether it may be driven along its way and against it."""
+
+    frc: int
+    fow: int
+    forward: bool
+    backward: bool
+
+
+class Way(NamedTuple):
+    """A way that cars use: its number, the places of its nodes (-1 for one that is not in the file), and what it is."""
+
+    number: int
+    nodes: array.array
+    road: Road
+
+
+class Places:
+    """Coordinates in whole numbers of 10^-7 degree, by the place of a node in this table; the nodes of the file are sorted by
+    their numbers, and behind them are added ones, which have a text in place of a number."""
+
+    def __init__(self):
+        self.ids, self.lons, self.lats, self.added, self.is_sorted = array.array("q"), array.array("i"), array.array("i"), [], True
+
+    def put(self, number, lon, lat):
+        """Adds a node of the file."""
+        if not (-180 <= lon <= 180 and -90 <= lat <= 90):
+            raise OsmError(f"node {number} has lon {lon} and lat {lat}, which is no place on the earth")
+        if self.ids and number <= self.ids[-1]:
+            self.is_sorted = False
+        self.ids.append(number)
+        self.lons.append(round(lon * 1e7))
+        self.lats.append(round(lat * 1e7))
+
+    def sort(self):
+        """Sorts the nodes; of those with one number the last one stays."""
+        if not self.is_sorted:
+            last = {number: k for k, number in enumerate(self.ids)}
+            order = [last[number] for number in sorted(last)]
+            for name in ("ids", "lons", "lats"):
+                values = getattr(self, name)
+                setattr(self, name, array.array(values.typecode, map(values.__getitem__, order)))
+            self.is_sorted = True
+
+    def find(self, number):
+        """The place of a node of the file, or -1."""
+        k = bisect.bisect_left(self.ids, number)
+        return k if k < len(self.ids) and self.ids[k] == number else -1
+
+    def add(self, key, lon, lat):
+        """Adds a node that is not in the file, and returns its place."""
+        self.added.append(key)
+        self.lons.append(lon)
+        self.lats.append(lat)
+        return len(self.lons) - 1
+
+    def key(self, place):
+        """The number of a node, or the text of an added one, as text."""
+        return str(self.ids[place]) if place < len(self.ids) else self.added[place - len(self.ids)]
+
+    def degrees(self, place):
+        """The coordinate of a node, in degrees."""
+        return self.lons[place] / 1e7, self.lats[place] / 1e7
+
+
+class Extract:
+    """What was read: places, ways, how many were left out for which reason, and the values of tags that are not known."""
+
+    def __init__(self, with_ferries):
+        self.with_ferries, self.places, self.roads = with_ferries, Places(), {}
+        self.left_out, self.unknown, self.twice, self.count = collections.Counter(), collections.Counter(), 0, 0
+
+    def take_way(self, number, refs, tags):
+        """Takes a way with the numbers of its nodes, if cars use it."""
+        self.count += 1
+        road = self.road_of(tags)
+        if road is None:
+            return
+        self.twice += number in self.roads
+        self.roads[number] = (array.array("q", refs), road)
+
+    def road_of(self, tags):
+        """The road that a way with these tags is, or None if no car uses it."""
+        kind, is_ferry = tags.get("highway", ""), tags.get("route") == "ferry" and "highway" not in tags
+        if not kind and not is_ferry:
+            return None
+        if kind.removesuffix("_link") not in CLASSES and not is_ferry:
+            return self.leave_out(f"highway={kind}")
+        if is_ferry and not self.with_ferries:
+            return self.leave_out("route=ferry")
+        if tags.get("area") == "yes":
+            return self.leave_out("area=yes")
+        why = self.closed(tags, "")
+        ways = self.directions(tags)
+        closed = [self.closed(tags, ":forward"), self.closed(tags, ":backward")]
+        if ways is None:
+            return self.leave_out(f"oneway={tags['oneway'].lower()}")
+        # A tag for one direction decides about it, and else the tag for both.
+        closed = [why if it is None else it for it in closed]
+        forward, backward = (is_way and not it for is_way, it in zip(ways, closed))
+        if not forward and not backward:
+            return self.leave_out(next(filter(None, (it for it, is_way in zip(closed, ways) if is_way)), "closed in each direction"))
+        return Road(FERRY if is_ferry else CLASSES[kind.removesuffix("_link")], form_of_way(tags, ways), forward, backward)
+
+    def leave_out(self, reason):
+        """Counts a way that is not used."""
+        self.left_out[reason] += 1
+
+    def closed(self, tags, direction):
+        """The tag that closes a road to cars, in a direction or in both; empty if it is open; None if no tag says so."""
+        for who in WHO:
+            value = tags.get(who + direction, "").lower()
+            if value in CLOSED:
+                return f"{who}{direction}={value}"
+            if value in OPEN or any(it.strip() in OPEN for it in value.split(";")):
+                return ""
+            if value:
+                self.unknown[f"{who}{direction}={value}"] += 1
+        return None
+
+    def directions(self, tags):
+        """Whether a road may be driven along its way, and against it, by its tags on one-way roads; None if that changes."""
+        is_round = tags.get("junction") in ROUND
+        for tag in (*(f"oneway:{who}" for who in WHO), "oneway"):
+            value = tags.get(tag, "").lower()
+            if value in BY_TIME:
+                return None
+            if value in ONE_WAY:
+                return True, False
+            if value in BACKWARD:
+                return False, True
+            if value in BOTH_WAYS:
+                return True, True
+            if value:
+                self.unknown[f"{tag}={value}"] += 1
+        is_one = is_round or tags.get("highway") == "motorway"
+        return True, not is_one
+
+    def finish(self):
+        """Replaces the numbers of the ways' nodes by their places. Raises OsmError if there is no way."""
+        if not self.count:
+            raise OsmError("it has no way")
+        self.places.sort()
+        find = self.places.find
+        self.ways = [Way(number, array.array("i", map(find, refs)), road) for number, (refs, road) in self.roads.items()]
+        self.roads.clear()
+
+
+def form_of_way(tags, ways):
+    """The form of way."""
+    kind = tags.get("highway", "")
+    if tags.get("junction") in ROUND:
+        return ROUNDABOUT
+    if not kind:
+        return OTHER
+    if kind.endswith("_link"):
+        return SLIP_ROAD
+    if kind == "motorway":
+        return MOTORWAY
+    is_dual = tags.get("dual_carriageway") == "yes" or (kind == "trunk" and ways != (True, True))
+    return MULTIPLE if is_dual else SINGLE
+
+
+class Xml:
+    """The handlers of the elements of a file in XML."""
+
+    def __init__(self, extract):
+        self.extract, self.way, self.refs, self.tags, self.has_root = extract, None, [], {}, False
+
+    def begin(self, name, fields):
+        """Handles the start of an element. What is deleted is left out."""
+        if not self.has_root:
+            self.has_root = True
+            if name != "osm":
+                raise OsmError(f"its root element is <{name}> and not <osm>" + (": apply the changes to a file first, such as by "
+                               "osmium apply-changes" if name == "osmChange" else ""))
+        elif name == "node":
+            if fields.get("action") != "delete" and fields.get("visible") != "false":
+                if "lon" in fields and "lat" in fields:
+                    self.extract.places.put(int(fields["id"]), float(fields["lon"]), float(fields["lat"]))
+        elif name == "nd":
+            self.refs.append(int(fields["ref"]))
+        elif name == "tag":
+            if fields["k"] in TAGS:
+                self.tags[fields["k"]] = fields["v"]
+        elif name == "way":
+            is_gone = fields.get("action") == "delete" or fields.get("visible") == "false"
+            self.way, self.refs, self.tags = None if is_gone else int(fields["id"]), [], {}
+        elif name == "relation":
+            self.way = None
+
+    def end(self, name):
+        """Handles the end of an element."""
+        if name == "way":
+            if self.way is not None:
+                self.extract.take_way(self.way, self.refs, self.tags)
+            self.way = None
+        elif name == "node":
+            self.tags = {}
+
+
+def read_xml(file, extract):
+    """Reads a file in XML."""
+    handlers, parser = Xml(extract), xml.parsers.expat.ParserCreate()
+    parser.StartElementHandler, parser.EndElementHandler = handlers.begin, handlers.end
+    try:
+        parser.ParseFile(file)
+    except KeyError as error:
+        raise OsmError(f"line {parser.CurrentLineNumber}: an element has no attribute {error}") from None
+    except (xml.parsers.expat.ExpatError, ValueError, OverflowError) as error:
+        where = "" if isinstance(error, xml.parsers.expat.ExpatError) else f"line {parser.CurrentLineNumber}: "
+        raise OsmError(f"not OpenStreetMap XML ({where}{error})") from None
+
+
+def read_other(name, extract):
+    """Reads a file in another format, such as PBF."""
+    try:
+        import osmium
+    except ImportError:
+        raise OsmError(f"not OpenStreetMap XML, and {sys.executable} has no module osmium to read another format: install Debian's "
+                       f"python3-pyosmium and run this with /usr/bin/python3, or convert it: osmium cat {name} -o FILE.osm") from None
+
+    class Handler(osmium.SimpleHandler):
+        """Takes nodes and ways."""
+
+        def node(self, it):
+            if it.visible and it.location.valid():
+                extract.places.put(it.id, it.location.lon, it.location.lat)
+
+        def way(self, it):
+            if it.visible:
+                extract.take_way(it.id, [node.ref for node in it.nodes], {tag.k: tag.v for tag in it.tags if tag.k in TAGS})
+
+    try:
+        Handler().apply_file(name)
+    except RuntimeError as error:
+        raise OsmError(f"not an OpenStreetMap file ({error}); to convert it: osmium cat {name} -o FILE.osm") from None
+
+
+def read_osm(name, with_ferries):
+    """The extract in a file. Raises OSError if it can't be opened, and OsmError if it is no OpenStreetMap file with ways."""
+    extract = Extract(with_ferries)
+    with open(name, "rb") as file:
+        is_xml = file.peek(64)[:64].lstrip(b"\xef\xbb\xbf \t\r\n").startswith(b"<")
+        if is_xml or not file.peek(1):
+            read_xml(file, extract)
+    if not is_xml:
+        read_other(name, extract)
+    extract.finish()
+    return extract
