@@ -14,7 +14,8 @@ from records import UNITS, RecordsError, program_name
 from replies import Keep
 
 EARTH = 6371008.8  # metres, the mean radius
-METRES = EARTH * math.pi / 180  # metres to a degree of latitude
+RADIAN = math.pi / 180  # radians to a degree
+METRES = EARTH * RADIAN  # metres to a degree of latitude
 AXIS, FLATTENING = 6378137.0, 1 / 298.257223563  # metres, the half of the longer axis of the spheroid WGS84
 SECTOR = 11.25  # degrees of a bearing's sector
 STEP = 58.6  # metres of a step of the distance to the next point
@@ -137,10 +138,10 @@ def distance(a, b):
 
 def great_circle(a, b):
     """The distance between two coordinates on a sphere."""
-    east, north = math.radians(b[0] - a[0]), math.radians(b[1] - a[1])
-    cosines = math.cos(math.radians(a[1])) * math.cos(math.radians(b[1]))
-    square = math.sin(north / 2) ** 2 + cosines * math.sin(east / 2) ** 2
-    return 2 * EARTH * math.asin(min(1, math.sqrt(square)))
+    lat, north = a[1] * RADIAN, b[1] * RADIAN
+    square = math.sin((b[1] - a[1]) * RADIAN / 2) ** 2
+    square += math.cos(lat) * math.cos(north) * math.sin((b[0] - a[0]) * RADIAN / 2) ** 2
+    return 2 * EARTH * math.asin(math.sqrt(square if square < 1 else 1))
 
 
 def geodesic(a, b):

@@ -9,6 +9,7 @@ XML is read by the standard library, every other format by Debian's `python3-pyo
 import array
 import bisect
 import collections
+import itertools
 import sys
 import xml.parsers.expat
 from typing import NamedTuple
@@ -30,7 +31,6 @@ ONE_WAY, BACKWARD, BOTH_WAYS, BY_TIME = ("yes", "true", "1"), ("-1", "reverse"),
 ROUND = ("roundabout", "circular")
 TAGS = {"highway", "route", "area", "junction", "dual_carriageway", *WHO}
 TAGS |= {f"{it}:{way}" for it in WHO for way in ("forward", "backward")} | {"oneway", *(f"oneway:{it}" for it in WHO)}
-ELEMENTS = ("node", "way", "relation", "bounds", "note", "meta", "tag", "nd", "member", "changeset")
 
 
 class OsmError(Exception):
@@ -59,32 +59,30 @@ class Places:
     their numbers, and behind them are added ones, which have a text in place of a number."""
 
     def __init__(self):
-        self.ids, self.lons, self.lats, self.added, self.is_sorted = array.array("q"), array.array("i"), array.array("i"), [], True
+        self.ids, self.lons, self.lats, self.added = array.array("q"), array.array("i"), array.array("i"), []
 
     def put(self, number, lon, lat):
         """Adds a node of the file."""
         if not (-180 <= lon <= 180 and -90 <= lat <= 90):
             raise OsmError(f"node {number} has lon {lon} and lat {lat}, which is no place on the earth")
-        if self.ids and number <= self.ids[-1]:
-            self.is_sorted = False
         self.ids.append(number)
         self.lons.append(round(lon * 1e7))
         self.lats.append(round(lat * 1e7))
 
     def sort(self):
         """Sorts the nodes; of those with one number the last one stays."""
-        if not self.is_sorted:
+        if any(a >= b for a, b in zip(self.ids, itertools.islice(self.ids, 1, None))):
             last = {number: k for k, number in enumerate(self.ids)}
             order = [last[number] for number in sorted(last)]
             for name in ("ids", "lons", "lats"):
                 values = getattr(self, name)
                 setattr(self, name, array.array(values.typecode, map(values.__getitem__, order)))
-            self.is_sorted = True
 
-    def find(self, number):
-        """The place of a node of the file, or -1."""
-        k = bisect.bisect_left(self.ids, number)
-        return k if k < len(self.ids) and self.ids[k] == number else -1
+    def find(self, numbers):
+        """The places of nodes of the file, -1 for one that is not there."""
+        ids, size, search = self.ids, len(self.ids), bisect.bisect_left
+        found = [search(ids, it) for it in numbers]
+        return array.array("i", [k if k < size and ids[k] == it else -1 for k, it in zip(found, numbers)])
 
     def add(self, key, lon, lat):
         """Adds a node that is not in the file, and returns its place."""
@@ -116,7 +114,7 @@ class Extract:
         if road is None:
             return
         self.twice += number in self.roads
-        self.roads[number] = (array.array("q", refs), road)
+        self.roads[number] = (refs, road)
 
     def road_of(self, tags):
         """The road that a way with these tags is, or None if no car uses it."""
@@ -180,8 +178,7 @@ class Extract:
         if not self.count:
             raise OsmError("it has no way")
         self.places.sort()
-        find = self.places.find
-        self.ways = [Way(number, array.array("i", map(find, refs)), road) for number, (refs, road) in self.roads.items()]
+        self.ways = [Way(number, self.places.find(refs), road) for number, (refs, road) in self.roads.items()]
         self.roads.clear()
 
 
@@ -204,44 +201,54 @@ class Xml:
     """The handlers of the elements of a file in XML."""
 
     def __init__(self, extract):
-        self.extract, self.way, self.refs, self.tags, self.has_root = extract, None, [], {}, False
+        self.extract, self.way, self.refs, self.tags = extract, None, array.array("q"), {}
+        self.begin = self.outside(extract.places.put)
+        self.parser = xml.parsers.expat.ParserCreate()
+        self.parser.StartElementHandler = self.begin_root
 
-    def begin(self, name, fields):
-        """Handles the start of an element. What is deleted is left out."""
-        if not self.has_root:
-            self.has_root = True
-            if name != "osm":
-                raise OsmError(f"its root element is <{name}> and not <osm>" + (": apply the changes to a file first, such as by "
-                               "osmium apply-changes" if name == "osmChange" else ""))
-        elif name == "node":
-            if fields.get("action") != "delete" and fields.get("visible") != "false":
-                if "lon" in fields and "lat" in fields:
-                    self.extract.places.put(int(fields["id"]), float(fields["lon"]), float(fields["lat"]))
-        elif name == "nd":
+    def begin_root(self, name, _):
+        """Handles the root element."""
+        if name != "osm":
+            hint = ": apply the changes to a file first, such as by osmium apply-changes" if name == "osmChange" else ""
+            raise OsmError(f"its root element is <{name}> and not <osm>{hint}")
+        self.parser.StartElementHandler = self.begin
+
+    def outside(self, put):
+        """A handler of the start of an element that is not in a way. What is deleted is left out."""
+
+        def begin(name, fields):
+            if name == "node":
+                if "lon" in fields and "lat" in fields and ("action" not in fields and "visible" not in fields or is_there(fields)):
+                    put(int(fields["id"]), float(fields["lon"]), float(fields["lat"]))
+            elif name == "way":
+                self.way, self.refs, self.tags = int(fields["id"]) if is_there(fields) else None, array.array("q"), {}
+                self.parser.StartElementHandler, self.parser.EndElementHandler = self.begin_inside, self.end
+
+        return begin
+
+    def begin_inside(self, name, fields):
+        """Handles the start of an element in a way."""
+        if name == "nd":
             self.refs.append(int(fields["ref"]))
-        elif name == "tag":
-            if fields["k"] in TAGS:
-                self.tags[fields["k"]] = fields["v"]
-        elif name == "way":
-            is_gone = fields.get("action") == "delete" or fields.get("visible") == "false"
-            self.way, self.refs, self.tags = None if is_gone else int(fields["id"]), [], {}
-        elif name == "relation":
-            self.way = None
+        elif name == "tag" and fields["k"] in TAGS:
+            self.tags[fields["k"]] = fields["v"]
 
     def end(self, name):
-        """Handles the end of an element."""
+        """Handles the end of an element in a way, or of the way."""
         if name == "way":
             if self.way is not None:
                 self.extract.take_way(self.way, self.refs, self.tags)
-            self.way = None
-        elif name == "node":
-            self.tags = {}
+            self.parser.StartElementHandler, self.parser.EndElementHandler = self.begin, None
+
+
+def is_there(fields):
+    """Whether an element with these fields is not deleted."""
+    return fields.get("action") != "delete" and fields.get("visible") != "false"
 
 
 def read_xml(file, extract):
     """Reads a file in XML."""
-    handlers, parser = Xml(extract), xml.parsers.expat.ParserCreate()
-    parser.StartElementHandler, parser.EndElementHandler = handlers.begin, handlers.end
+    parser = Xml(extract).parser
     try:
         parser.ParseFile(file)
     except KeyError as error:
@@ -268,7 +275,7 @@ def read_other(name, extract):
 
         def way(self, it):
             if it.visible:
-                extract.take_way(it.id, [node.ref for node in it.nodes], {tag.k: tag.v for tag in it.tags if tag.k in TAGS})
+                extract.take_way(it.id, array.array("q", (node.ref for node in it.nodes)), {tag.k: tag.v for tag in it.tags if tag.k in TAGS})
 
     try:
         Handler().apply_file(name)

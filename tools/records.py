@@ -159,8 +159,7 @@ def units(text):
 
 def decimal(value):
     """Degrees as records have them, without trailing zeros, of a whole number of 10^-7 degree."""
-    whole, part = divmod(abs(value), UNITS)
-    return ("-" if value < 0 else "") + f"{whole}.{part:07}".rstrip("0").rstrip(".")
+    return f"{value / UNITS:.7f}".rstrip("0").rstrip(".")
 
 
 def coordinate_of(text):
