@@ -1,0 +1,274 @@
+"""Finds the lines of a map that follow a course.
+
+    found = follow(course, lines, tolerance=20.0)
+    print(found.lines if isinstance(found, Found) else found.words)
+
+A course is a list of coordinates in degrees. Of the routes everywhere within the tolerance of it, with a length within 1 % of
+its own or twice the tolerance, that with the least mean distance is found. A search over labels, each a node at a position
+along the course, tries no route twice, however many lines lead from one node to another.
+"""
+import bisect
+import heapq
+import math
+from collections import defaultdict
+from typing import NamedTuple
+
+DEGREE = 111_195.0  # metres of a degree of latitude
+SNAP = 1.0  # metres between an end of the course and a node that are taken as none
+SAMPLE = 10.0  # metres between the points at which a line is compared with the course
+SHARE = 0.01
+OTHER = 0.01  # the added mean distance of a line that isn't preferred
+SAME = 1e-6  # costs that differ by less are equal
+START, END = "start", "end"
+
+
+class Ground(NamedTuple):
+    """A line of the map: its nodes, a name that its stretch of road shares with others, its coordinates, and its length in
+    decimetres."""
+
+    start: int
+    end: int
+    street: str
+    points: tuple
+    length: int
+
+
+class Found(NamedTuple):
+    """The lines that follow a course, and the decimetres of them before its start and after its end."""
+
+    lines: list
+    start: int
+    end: int
+
+
+class Lost(NamedTuple):
+    """Why no lines follow a course, and where."""
+
+    words: str
+    place: tuple
+
+
+class Polyline:
+    """Points of a plane in metres, with their distances from the first."""
+
+    def __init__(self, points):
+        self.points, self.far = points, [0.0]
+        for a, b in zip(points, points[1:]):
+            self.far.append(self.far[-1] + math.dist(a, b))
+        self.length = self.far[-1]
+
+    def at(self, far):
+        """The point at a distance from the first."""
+        k = min(max(1, bisect.bisect_left(self.far, far)), len(self.far) - 1)
+        (a, b), (p, q) = self.far[k - 1 : k + 1], self.points[k - 1 : k + 1]
+        part = min(1.0, max(0.0, (far - a) / (b - a))) if b > a else 0.0
+        return p[0] + part * (q[0] - p[0]), p[1] + part * (q[1] - p[1])
+
+    def project(self, point, segments=None):
+        """The distance of a point from each of these segments, and the position of the nearest point there."""
+        for k in range(len(self.points) - 1) if segments is None else segments:
+            (x, y), b = self.points[k], self.points[k + 1]
+            dx, dy = b[0] - x, b[1] - y
+            size = dx * dx + dy * dy
+            part = min(1.0, max(0.0, ((point[0] - x) * dx + (point[1] - y) * dy) / size)) if size else 0.0
+            yield math.hypot(x + part * dx - point[0], y + part * dy - point[1]), self.far[k] + part * math.sqrt(size)
+
+    def samples(self, begin, end):
+        """Positions between two positions: those of the points, and further ones so that none are more than SAMPLE apart."""
+        low, high = bisect.bisect_right(self.far, begin), bisect.bisect_left(self.far, end)
+        marks = [begin, *self.far[low:high], end]
+        for a, b in zip(marks, marks[1:]):
+            count = max(1, math.ceil((b - a) / SAMPLE))
+            yield from (a + (b - a) * k / count for k in range(count))
+        yield end
+
+
+class Plane:
+    """Degrees near a latitude as metres."""
+
+    def __init__(self, lat):
+        self.wide = DEGREE * math.cos(math.radians(lat))
+
+    def flat(self, place):
+        """A coordinate in degrees as a point of the plane."""
+        return place[0] * self.wide, place[1] * DEGREE
+
+    def degrees(self, point):
+        """A point of the plane as a coordinate in degrees."""
+        return point[0] / self.wide, point[1] / DEGREE
+
+
+class Follower:
+    """The search for the lines that follow one course."""
+
+    def __init__(self, course, lines, tolerance, preferred):
+        lats = [it[1] for it in course]
+        self.plane = Plane((min(lats) + max(lats)) / 2)
+        self.course = Polyline([self.plane.flat(it) for it in course])
+        self.lines, self.tolerance, self.preferred = lines, tolerance, preferred
+        self.shapes = {number: Polyline([self.plane.flat(it) for it in line.points]) for number, line in lines.items()}
+        self.cell = max(tolerance, 50.0)
+        self.cells = defaultdict(set)
+        for k, (a, b) in enumerate(zip(self.course.points, self.course.points[1:])):
+            count = max(1, math.ceil(2 * math.dist(a, b) / self.cell))
+            for step in range(count + 1):
+                x, y = a[0] + (b[0] - a[0]) * step / count, a[1] + (b[1] - a[1]) * step / count
+                self.cells[int(x // self.cell), int(y // self.cell)].add(k)
+        self.leaving, self.nodes = defaultdict(list), {}
+        for number, line in lines.items():
+            self.leaving[line.start].append(number)
+            self.nodes[line.start], self.nodes[line.end] = self.shapes[number].points[0], self.shapes[number].points[-1]
+        self.positions = {node: self.positions_of(point) for node, point in self.nodes.items()}
+
+    def segments_near(self, point):
+        """The segments of the course near a point."""
+        x, y = int(point[0] // self.cell), int(point[1] // self.cell)
+        return sorted({k for i in (-1, 0, 1) for j in (-1, 0, 1) for k in self.cells.get((x + i, y + j), ())})
+
+    def positions_of(self, point):
+        """The positions along the course at which it passes a point: of each pass the nearest one."""
+        near = [(at, far) for far, at in self.course.project(point, self.segments_near(point)) if far <= self.tolerance]
+        passes = []
+        for at, far in sorted(near):
+            if passes and at - passes[-1][2] <= 2 * self.tolerance:
+                best, least, _ = passes[-1]
+                passes[-1] = (at, far, at) if far < least else (best, least, at)
+            else:
+                passes.append((at, far, at))
+        return [at for at, _, _ in passes]
+
+    def cost(self, number, begin, end, low, high):
+        """How far a part of a line is from a part of the course: the mean distance times the length, or None if it doesn't
+        follow it."""
+        shape = self.shapes[number]
+        length, wanted = end - begin, high - low
+        slack = max(SHARE * max(length, wanted), 2 * self.tolerance)
+        if abs(length - wanted) > slack or high < low and low - high > SNAP:
+            return None
+        total = count = 0
+        for at in shape.samples(begin, end):
+            point, along = shape.at(at), low + (at - begin) / (length or 1) * wanted
+            near = (far for far, there in self.course.project(point, self.segments_near(point)) if abs(there - along) <= slack)
+            far = min(near, default=math.inf)
+            if far > self.tolerance:
+                return None
+            total, count = total + far, count + 1
+        for k in range(bisect.bisect_right(self.course.far, low), bisect.bisect_left(self.course.far, high)):
+            if min(far for far, _ in shape.project(self.course.points[k])) > self.tolerance:
+                return None
+        other = 0 if self.lines[number].street in self.preferred else OTHER
+        return (total / count + other) * length + 1e-4
+
+    def ends(self):
+        """The parts of lines on which the course starts and ends: (distance along the line, distance from it) by number."""
+        found = {}
+        for name, point in ((START, self.course.points[0]), (END, self.course.points[-1])):
+            found[name] = {}
+            for number, shape in self.shapes.items():
+                far, at = min(shape.project(point))
+                if far <= self.tolerance and SNAP < at < shape.length - SNAP:
+                    found[name][number] = at
+        return found
+
+    def from_start(self, ends):
+        """The labels at which a route begins: (cost, label, lines)."""
+        for node, point in self.nodes.items():
+            far = math.dist(point, self.course.points[0])
+            if far <= self.tolerance:
+                yield far * far, (node, 0.0), None
+        for number, begin in ends[START].items():
+            shape = self.shapes[number]
+            yield from self.steps(number, begin, 0.0)
+            if number in ends[END] and ends[END][number] > begin:
+                cost = self.cost(number, begin, ends[END][number], 0.0, self.course.length)
+                if cost is not None:
+                    yield cost, END, (number, begin, shape.length - ends[END][number])
+
+    def steps(self, number, begin, low):
+        """The labels that a line leads to from a distance along it, where the course is at this position."""
+        shape, line = self.shapes[number], self.lines[number]
+        positions = self.positions.get(line.end, ())
+        if math.dist(shape.points[-1], self.course.points[-1]) <= self.tolerance:
+            positions = {*positions, self.course.length}
+        for high in positions:
+            cost = self.cost(number, begin, shape.length, low, high)
+            if cost is not None:
+                yield cost, (line.end, high), (number, begin, 0.0)
+
+    def search(self):
+        """The found lines, or why there are none."""
+        ends = self.ends()
+        best, waiting, order, furthest = {}, [], 0, 0.0
+
+        def relax(cost, label, step, before):
+            nonlocal order
+            known = best.get(label)
+            if known is None or cost < known[0] - SAME:
+                best[label] = [cost, step, before, None]
+                order += 1
+                heapq.heappush(waiting, (cost, order, label))
+            elif abs(cost - known[0]) <= SAME and step and known[1] and step[0] != known[1][0]:
+                known[3] = step[0]
+
+        for cost, label, step in self.from_start(ends):
+            relax(cost, label, step, None)
+        if not waiting:
+            return Lost("no line is near its start", self.plane.degrees(self.course.points[0]))
+        while waiting:
+            cost, _, label = heapq.heappop(waiting)
+            if cost > best[label][0]:
+                continue
+            if label == END:
+                return self.found(best)
+            node, low = label
+            furthest = max(furthest, low)
+            last = math.dist(self.nodes[node], self.course.points[-1])
+            if last <= self.tolerance and self.course.length - low <= 2 * self.tolerance and best[label][1]:
+                relax(cost + last * last, END, (None, 0.0, 0.0), label)
+            for number in self.leaving[node]:
+                for more, after, step in self.steps(number, 0.0, low):
+                    relax(cost + more, after, step, label)
+                if number in ends[END]:
+                    more = self.cost(number, 0.0, ends[END][number], low, self.course.length)
+                    if more is not None:
+                        relax(cost + more, END, (number, 0.0, self.shapes[number].length - ends[END][number]), label)
+        words = "no lines follow it from here on" if furthest else "no lines follow it from its start"
+        return Lost(words, self.plane.degrees(self.course.at(furthest)))
+
+    def found(self, best):
+        """The route that leads to the end, or why it is none."""
+        label, steps, tie = END, [], None
+        while label is not None:
+            _, step, before, other = best[label]
+            if step and step[0] is not None:
+                steps.append(step)
+                tie = tie or other and (step[0], other)
+            label = before
+        steps.reverse()
+        numbers = [it[0] for it in steps]
+        if tie:
+            place = self.lines[tie[0]].points[0]
+            return Lost(f"two lines follow it equally near, of {self.name(tie[0])} and {self.name(tie[1])}", place)
+        twice = next((it for k, it in enumerate(numbers) if it in numbers[:k]), None)
+        if twice is not None:
+            return Lost(f"it leads over {self.name(twice)} twice in the same direction", self.lines[twice].points[0])
+        length = sum(self.shapes[it].length for it in numbers) - steps[0][1] - steps[-1][2]
+        if abs(length - self.course.length) > max(SHARE * self.course.length, 2 * self.tolerance):
+            return Lost("the lines that follow it have another length", self.plane.degrees(self.course.points[0]))
+        return Found(numbers, self.cut(numbers[0], steps[0][1]), self.cut(numbers[-1], steps[-1][2]))
+
+    def name(self, number):
+        """What a message calls a line."""
+        return f"street {self.lines[number].street}" if self.lines[number].street else f"line {number}"
+
+    def cut(self, number, metres):
+        """Decimetres of a line for metres of the plane."""
+        return round(metres / (self.shapes[number].length or 1) * self.lines[number].length)
+
+
+def follow(course, lines, tolerance=20.0, preferred=frozenset()):
+    """The lines that follow a course, or why there are none: `Found` or `Lost`. Lines on preferred streets are taken before
+    others that are as near."""
+    if len(course) < 2 or len(set(course)) < 2:
+        return Lost("its course has no two different coordinates", course[0] if course else (0.0, 0.0))
+    return Follower(course, lines, tolerance, preferred).search()

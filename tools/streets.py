@@ -1,0 +1,395 @@
+"""Cuts streets at their junctions into nodes and lines, and keeps the numbers of an earlier cut where they still mean the same.
+
+A place is a coordinate as one number: (lon + 180 degrees) * 2^31 + lat + 90 degrees, in units of 10^-7 degree. A street has
+parts, each a tuple of places, none twice in a row. It is cut at each place that it shares with another street, or has twice,
+and where a line would be too long. The numbers of nodes and lines are those of tools/live.
+"""
+import difflib
+import itertools
+import math
+import struct
+from collections import Counter, defaultdict
+from typing import NamedTuple, Optional
+
+UNITS = 10_000_000
+EAST, NORTH = 180 * UNITS, 90 * UNITS
+LOW = (1 << 31) - 1
+METRES = 6378137 * math.pi / 180 / UNITS  # of a unit of longitude at the equator
+LONGEST = 14_900.0  # metres; between two location reference points are 15 km at most
+WIDEST = 3_200_000  # units; between two location reference points is a third of a degree at most
+MOST_SHAPE = 990  # shape points of a line; the program takes 1,000
+DIRECTIONS = ("both", "along", "against")
+NEAR = 20.0  # metres within which a line between the same nodes is the same stretch of road
+
+
+def place_of(lon, lat):
+    """The place of a coordinate in units."""
+    return lon + EAST << 31 | lat + NORTH
+
+
+def units(place):
+    """The coordinate of a place, in units."""
+    return (place >> 31) - EAST, (place & LOW) - NORTH
+
+
+def degrees(place):
+    """The coordinate of a place, in degrees."""
+    lon, lat = units(place)
+    return lon / UNITS, lat / UNITS
+
+
+class Street(NamedTuple):
+    """A street that can be lines."""
+
+    frc: int
+    fow: int
+    direction: str
+    parts: tuple
+
+
+class Made(NamedTuple):
+    """A line as the streets give it; `k` is the index of its stretch in its part, and `along` whether it follows the geometry."""
+
+    street: str
+    part: int
+    k: int
+    along: bool
+    start: int
+    end: int
+    nth: int
+    length: int
+    fields: str
+    places: tuple
+
+    @property
+    def loop(self):
+        """What distinguishes two lines of one stretch that have the same ends."""
+        return self.along if self.start == self.end else None
+
+
+class Old(NamedTuple):
+    """A line of the earlier cut."""
+
+    number: int
+    street: str
+    start: int
+    end: int
+    along: bool
+    part: int
+    k: int
+    nth: int
+    fields: str
+
+    @property
+    def loop(self):
+        """What distinguishes two lines of one stretch that have the same ends."""
+        return self.along if self.start == self.end else None
+
+
+# ---- reading
+
+
+def street_of(frc, fow, direction, kind, srid, shape):
+    """The street of these texts and this shape (little-endian WKB in degrees), or a text that says why it can't be lines."""
+    missing = [name for name, it in (("class", frc), ("form", fow), ("direction", direction), ("geometry", kind)) if it is None]
+    if missing:
+        return f"{' and '.join(missing)} {'is' if len(missing) == 1 else 'are'} NULL"
+    for name, text in (("class", frc), ("form", fow)):
+        if text not in ("0", "1", "2", "3", "4", "5", "6", "7"):
+            return f"{name} is {text}, and has to be 0 to 7"
+    if direction not in DIRECTIONS:
+        return f"direction is {direction}, and has to be both, along or against"
+    if kind not in ("ST_LineString", "ST_MultiLineString"):
+        return f"the geometry is of type {kind[3:]}, and has to be a LineString or a MultiLineString"
+    if srid == 0:
+        return "the geometry has no SRID"
+    if shape is None:
+        return f"the geometry of SRID {srid} has no coordinates in degrees"
+    parts = []
+    for points in wkb_parts(shape):
+        if not all(-180 <= lon <= 179.9999 and -89.9999 <= lat <= 89.9999 for lon, lat in points):
+            return "the geometry is beyond the longitudes -180 to 179.9999 or the latitudes -89.9999 to 89.9999"
+        places = [place_of(round(lon * UNITS), round(lat * UNITS)) for lon, lat in points]
+        parts.append(tuple(subdivided([place for place, _ in itertools.groupby(places)])))
+    parts = tuple(it for it in parts if len(it) > 1)
+    return Street(int(frc), int(fow), direction, parts) if parts else "the geometry has no two different vertices"
+
+
+def wkb_parts(shape):
+    """The coordinates of each part of a little-endian WKB LineString or MultiLineString."""
+    _, kind, count = struct.unpack_from("<BII", shape)
+    at = 9
+    for _ in range(count if kind == 5 else 1):
+        if kind == 5:
+            _, _, size = struct.unpack_from("<BII", shape, at)
+            at += 9
+        else:
+            size = count
+        numbers = struct.unpack_from(f"<{2 * size}d", shape, at)
+        at += 16 * size
+        yield list(zip(numbers[::2], numbers[1::2]))
+
+
+def wkb_hex(places):
+    """The LineString of these places, as hexadecimal EWKB in degrees."""
+    numbers = [it for place in places for it in degrees(place)]
+    return struct.pack(f"<BIII{len(numbers)}d", 1, 0x20000002, 4326, len(places), *numbers).hex()
+
+
+def subdivided(places):
+    """The places, with further ones on segments that are too long for a line."""
+    for a, b in zip(places, places[1:]):
+        yield a
+        (lon, lat), (east, north) = units(a), units(b)
+        wide = max(abs(east - lon), abs(north - lat))
+        count = int(max(distances((a, b))[1] / LONGEST, wide / WIDEST)) + 1
+        for k in range(1, count):
+            yield place_of(round(lon + (east - lon) * k / count), round(lat + (north - lat) * k / count))
+    yield from places[-1:]
+
+
+def distances(places):
+    """The metres from the first place to each, on the spheroid, with its two radii at the middle of each segment."""
+    found, far = [0.0], 0.0
+    lon, lat = units(places[0])
+    for place in places[1:]:
+        east, north = units(place)
+        sine = math.sin(math.radians((lat + north) / 2 / UNITS))
+        bend = 1 - 0.00669437999014 * sine * sine
+        across, up = east - lon, north - lat
+        far += METRES * math.sqrt((1 - sine * sine) * across * across / bend + 0.98665605 * up * up / (bend * bend * bend))
+        found.append(far)
+        lon, lat = east, north
+    return found
+
+
+# ---- cutting
+
+
+def meeting_places(streets, others):
+    """The places at which streets are cut: that several streets have, or one street twice; `others` are places of streets that
+    are not among these."""
+    counts = Counter(place for street in streets for part in street.parts for place in part)
+    return {place for place, count in counts.items() if count > 1 or place in others}
+
+
+def stretches(part, meeting):
+    """The pairs of indices between which a part is one stretch."""
+    far, begin, last = distances(part), 0, len(part) - 1
+    for k in range(1, last + 1):
+        if k == last or part[k] in meeting or is_too_long(part, far, begin, k + 1):
+            yield begin, k
+            begin = k
+
+
+def is_too_long(part, far, begin, end):
+    """Whether the stretch between these two indices is too long for a line."""
+    if far[end] - far[begin] > LONGEST or end - begin > MOST_SHAPE:
+        return True
+    (lon, lat), (east, north) = units(part[begin]), units(part[end])
+    return max(abs(east - lon), abs(north - lat)) > WIDEST
+
+
+def cut_places(street, meeting):
+    """The places at which a street has nodes."""
+    return {part[k] for part in street.parts for pair in stretches(part, meeting) for k in pair}
+
+
+def fields_of(street, places):
+    """The length of a line in decimetres, and the fields of its two records after the ends: along the places and against."""
+    far = distances(places)
+    length, shape, before = max(1, round(10 * far[-1])), [], 0
+    for place, metres in zip(places[1:-1], far[1:-1]):
+        at = round(10 * metres)
+        if before < at < length:
+            lon, lat = degrees(place)
+            shape.append((at, f",{lon:.7f},{lat:.7f}"))
+            before = at
+    head = f"{street.frc},{street.fow},{length}"
+    along = head + "".join(f",{at}{text}" for at, text in shape)
+    return length, along, head + "".join(f",{length - at}{text}" for at, text in reversed(shape))
+
+
+def lines_of(key, street, meeting, node_at):
+    """The lines of a street."""
+    counts = Counter()
+    for index, part in enumerate(street.parts):
+        for k, (begin, end) in enumerate(stretches(part, meeting)):
+            places = part[begin : end + 1]
+            length, *fields = fields_of(street, places)
+            for along in (True, False):
+                if street.direction in ("both", "along" if along else "against"):
+                    ends = (node_at[places[0]], node_at[places[-1]])[:: 1 if along else -1]
+                    line = Made(key, index, k, along, *ends, 0, length, fields[not along], places[:: 1 if along else -1])
+                    counts[ends, line.loop] += 1
+                    yield line._replace(nth=counts[ends, line.loop])
+
+
+# ---- numbers that stay
+
+
+def images(old, new):
+    """Where each place of a street is after a change, as far as that is clear: old place to new place."""
+    if len(old) != len(new):
+        old, new = [tuple(itertools.chain(*old))], [tuple(itertools.chain(*new))]
+    found = {}
+    for before, after in zip(old, new):
+        pairs = max((aligned(before, it) for it in (after, after[::-1])), key=lambda it: closeness(before, after, it))
+        found.update(pairs)
+    return found
+
+
+def closeness(before, after, pairs):
+    """How well places are aligned: how many stay, and how near the others are."""
+    far = sum(abs(x - y) for a, b in pairs.items() for x, y in zip(units(a), units(b)))
+    return sum(a == b for a, b in pairs.items()), -far / max(1, len(pairs))
+
+
+def aligned(before, after):
+    """The places of one course with those of another that take their positions in it."""
+    pairs = {}
+    for word, a, b, c, d in difflib.SequenceMatcher(None, before, after, False).get_opcodes():
+        if word == "equal" or word == "replace" and b - a == d - c:
+            pairs.update(zip(before[a:b], after[c:d]))
+        elif word == "replace":
+            if a == 0 and c == 0:
+                pairs[before[0]] = after[0]
+            if b == len(before) and d == len(after):
+                pairs[before[-1]] = after[-1]
+    return pairs
+
+
+def kept_nodes(votes, old_places, cuts):
+    """The node of each place that keeps its number: place to node.
+
+    `votes` has for each node the places at which the streets that were cut there are now. A node whose streets agree on one
+    place, which no other node's streets claim, is that place's node. The others are the nodes of their coordinates.
+    """
+    claims = defaultdict(set)
+    for node, places in votes.items():
+        for place in places:
+            claims[place].add(node)
+    found = {}
+    for node, places in votes.items():
+        place = next(iter(places), None)
+        if len(places) == 1 and place != old_places[node] and place in cuts and claims[place] == {node}:
+            found[place] = node
+    moved = set(found.values())
+    for node, place in old_places.items():
+        if node not in moved and place in cuts:
+            found.setdefault(place, node)
+    return found
+
+
+def kept_lines(made, old, nodes):
+    """The lines that keep their numbers: the index of each in `made`, with its number.
+
+    A line is its street and its ends, and on a loop its direction; of several such ones those with equal fields belong
+    together. What remains is compared without its street: a line between the same nodes over the same ground.
+    """
+    found, free = {}, {it.number: it for it in old}
+
+    def pair(key, is_same):
+        groups = defaultdict(list)
+        for it in free.values():
+            groups[key(it)].append(it)
+        for index, line in enumerate(made):
+            if index not in found:
+                group = groups.get(key(line), [])
+                match = next((it for it in group if is_same(line, it)), None)
+                if match:
+                    group.remove(match)
+                    del free[match.number]
+                    found[index] = match.number
+
+    for key in (lambda it: (it.street, it.start, it.end, it.loop)), (lambda it: (it.start, it.end, it.loop)):
+        pair(key, lambda line, it: line.fields == it.fields)
+        if not free:
+            break
+        pair(key, lambda line, it: it.street == line.street or is_near(line.places, old_course(it, nodes)))
+    return found
+
+
+def old_course(line, nodes):
+    """The places of an earlier line, from its fields and the places of its nodes."""
+    rest = line.fields.split(",")[3:]
+    inner = [place_of(round(float(lon) * UNITS), round(float(lat) * UNITS)) for lon, lat in zip(rest[1::3], rest[2::3])]
+    return (nodes[line.start], *inner, nodes[line.end])
+
+
+def is_near(one, other):
+    """Whether two courses have lengths within 1 % or twice NEAR, and each vertex of one is within NEAR of the other."""
+    a, b = distances(one)[-1], distances(other)[-1]
+    if abs(a - b) > max(0.01 * max(a, b), 2 * NEAR):
+        return False
+    return all(far_from(place, them) <= NEAR for us, them in ((one, other), (other, one)) for place in us)
+
+
+def far_from(place, course):
+    """The metres from a place to a course, in the plane around the place."""
+    lon, lat = units(place)
+    wide = METRES * math.cos(math.radians(lat / UNITS))
+    flat = [((x - lon) * wide, (y - lat) * METRES) for x, y in map(units, course)]
+    return min(from_origin(a, b) for a, b in zip(flat, flat[1:]))
+
+
+def from_origin(a, b):
+    """The distance of a segment of the plane from the origin."""
+    dx, dy = b[0] - a[0], b[1] - a[1]
+    size = dx * dx + dy * dy
+    part = min(1.0, max(0.0, -(a[0] * dx + a[1] * dy) / size)) if size else 0.0
+    return math.hypot(a[0] + part * dx, a[1] + part * dy)
+
+
+class Cut(NamedTuple):
+    """What a change of streets makes of the map: places of new nodes, moved and dropped nodes, and the lines in three kinds."""
+
+    new_nodes: dict
+    moved: dict
+    dropped_nodes: list
+    dropped: list
+    changed: dict
+    added: dict
+
+
+def recut(before, after, lines, nodes, others, new_nodes, new_lines):
+    """The new cut of all streets that a change affects.
+
+    `before` has the old parts of streets by key, `after` the streets that are there now, `lines` their old lines, `nodes` the
+    old places of these lines' nodes, and of those at a place of the streets, and `others` the places of streets beside these.
+    `new_nodes` and `new_lines` give so many numbers.
+    """
+    meeting = meeting_places(after.values(), others)
+    cuts = set().union(*(cut_places(it, meeting) for it in after.values()))
+    votes = defaultdict(set)
+    ends = defaultdict(set)
+    for line in lines:
+        ends[line.street].update((line.start, line.end))
+    for key, numbers in ends.items():
+        now = after[key].parts if key in after else ()
+        where = {} if now == before[key] else images(before[key], now)
+        for node in numbers:
+            place = nodes[node] if now == before[key] else where.get(nodes[node])
+            if place is not None:
+                votes[node].add(place)
+    node_at = kept_nodes({node: votes[node] for numbers in ends.values() for node in numbers}, nodes, cuts)
+    fresh = sorted(cuts - node_at.keys())
+    added = dict(zip(new_nodes(len(fresh)), fresh))
+    moved = {node: place for place, node in node_at.items() if nodes[node] != place}
+    there = set(node_at.values())
+    gone = sorted({node for numbers in ends.values() for node in numbers} - there)
+    node_at.update((place, node) for node, place in added.items())
+
+    made = [line for key, street in after.items() for line in lines_of(key, street, meeting, node_at)]
+    found = kept_lines(made, lines, nodes)
+    numbers = iter(new_lines(len(made) - len(found)))
+    old = {it.number: it for it in lines}
+    same = set(found.values())
+    dropped = [it.number for it in lines if it.number not in same]
+    changed, new = {}, {}
+    for index, line in enumerate(made):
+        if index in found:
+            changed[found[index]] = line, old[found[index]]
+        else:
+            new[next(numbers)] = line
+    return Cut(added, moved, gone, dropped, changed, new)
