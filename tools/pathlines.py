@@ -81,6 +81,10 @@ class Finder:
     def read(self, where, values):
         """The lines of the table for which a condition holds."""
         self.cursor.execute(f"select {COLUMNS} from olr_keep.line where {where}", values)
+        return self.take()
+
+    def take(self):
+        """The lines that a query found."""
         rows = [Row(*it[:-1], coordinates(it[-1])) for it in self.cursor]
         self.rows.update((it.number, it) for it in rows)
         return rows
@@ -95,9 +99,13 @@ class Finder:
         high = 1.1 * self.tolerance / 111_000
         wide = high / max(0.01, math.cos(math.radians(lat)))
         text = "LINESTRING(" + ",".join(f"{lon:.8f} {lat:.8f}" for lon, lat in course) + ")"
-        where = """line in (select other.line from ST_DumpSegments(ST_GeomFromText(%s, 4326)) as segment
-            join olr_keep.line as other on other.geom && ST_Expand(segment.geom, %s, %s))"""
-        return {it.number: it.ground for it in self.read(where, (text, wide, high))}
+        self.cursor.execute(
+            f"""select {COLUMNS} from (
+                select distinct other.line from ST_DumpSegments(ST_GeomFromText(%s, 4326)) as segment
+                cross join lateral (select line from olr_keep.line where line.geom && ST_Expand(segment.geom, %s, %s) offset 0) as other
+            ) as found cross join lateral (select * from olr_keep.line where line.line = found.line offset 0) as line""",
+            (text, wide, high))
+        return {it.number: it.ground for it in self.take()}
 
     def find(self, wanted, known):
         """The lines of a path: those that it has, if they are still there and join, else the first that are found: `Found`,
