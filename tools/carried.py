@@ -1,0 +1,272 @@
+"""Carries out messages of commands on olr-keep, with the whole map and one share of the paths.
+
+    share = Share(Program(["olr-keep"]), 0, Shares.of("2"))
+    for outcome in share.carry_out(b"node,1,0,0\\npath,a,0,0,1\\n"):
+        print(outcome.index, outcome.record, outcome.reply)
+"""
+import collections
+import os
+import re
+import select
+import subprocess
+from typing import NamedTuple
+
+from places import start_of
+from replies import Reply
+from stream import BROKEN, Stop, is_plain
+
+OUT_OF_MEMORY, MEMORY = 4, 13
+CHUNK = 1 << 18
+QUESTIONS = ("report", "explain", "dump")
+PATH_COMMANDS = ("path", "repath", "drop-path")
+OF_A_PATH = (*PATH_COMMANDS, "show")
+# A message without a line that begins like this is sent to the program as it is.
+SPECIAL = re.compile(b"^(?:path|repath|drop-path|show|report|explain|dump|begin|commit|abort)|^\n", re.MULTILINE)
+UNCHANGED_REPLIES = re.compile(b"(?:ok,0\n)+")
+NOT_PLAIN = Reply("fault", 0, "NotPlain", [])
+NO_QUESTION = Reply("fault", 0, "NoQuestion", [])
+NO_COMMIT = Reply("fault", 0, "NoCommit", [])
+COUNT_DIFFERS = Reply("fault", 16, "CountDiffers", [])
+UNCHANGED_REPLY = Reply("ok", 0, "", [])
+
+
+class Outcome(NamedTuple):
+    """A record of a message that was rejected or changed something, with its index in the message and its reply."""
+
+    index: int
+    record: str
+    reply: Reply
+
+
+class Program:
+    """A running olr-keep. If it does not reply within `deadline` seconds it is ended."""
+
+    def __init__(self, command, deadline=60):
+        try:
+            self.process = subprocess.Popen(command, stdin=subprocess.PIPE, stdout=subprocess.PIPE, bufsize=0)
+        except OSError as error:
+            raise Stop(BROKEN, f"{command[0]}: {error.strerror}") from None
+        self.deadline, self.unsent, self.buffer, self.at = deadline, b"", b"", 0
+        self.send_to, self.read_from = self.process.stdin.fileno(), self.process.stdout.fileno()
+        os.set_blocking(self.send_to, False)
+
+    def move(self):
+        """Sends and reads what is possible now, and waits until something is."""
+        sending = [self.send_to] if self.unsent else []
+        readable, writable, _ = select.select([self.read_from], sending, [], self.deadline)
+        if not readable and not writable:
+            self.process.kill()
+            raise Stop(BROKEN, f"the program has not replied for {self.deadline} s; it is ended")
+        if writable:
+            try:
+                self.unsent = self.unsent[os.write(self.send_to, self.unsent[:CHUNK]) :]
+            except BlockingIOError:
+                pass
+            except BrokenPipeError:
+                self.unsent = b""
+        if readable:
+            text = os.read(self.read_from, CHUNK)
+            if not text:
+                status = self.process.wait()
+                raise Stop(OUT_OF_MEMORY if status == OUT_OF_MEMORY else BROKEN, f"the program ended with status {status}")
+            self.buffer, self.at = self.buffer[self.at :] + text, 0
+
+    def line(self):
+        """The next line of a reply."""
+        while (end := self.buffer.find(b"\n", self.at)) < 0:
+            self.move()
+        line, self.at = self.buffer[self.at : end], end + 1
+        return line.decode("ascii", "replace")
+
+    def ask(self, text, count):
+        """Sends this number of records, and yields their replies: a number for as many replies `ok,0` in a row, else a Reply."""
+        self.unsent = memoryview(text)
+        while count:
+            if self.at == len(self.buffer):
+                self.move()
+                continue
+            run = UNCHANGED_REPLIES.match(self.buffer, self.at)
+            if run:
+                self.at = run.end()
+                found = (run.end() - run.start()) // 5
+                count -= found
+                yield found
+                continue
+            word, number, *rest = self.line().split(",", 2)
+            lines = [self.line() for _ in range(int(number) if word == "ok" else 0)]
+            if word == "fault" and int(number) == MEMORY:
+                raise Stop(OUT_OF_MEMORY, "out of memory for a record")
+            count -= 1
+            yield Reply(word, int(number), "".join(rest), lines)
+
+    def one(self, record):
+        """The reply to one record."""
+        reply, = self.ask(record.encode() + b"\n", 1)
+        return UNCHANGED_REPLY if isinstance(reply, int) else reply
+
+    def write_dump(self, file):
+        """Writes the lines of a dump to a file as they arrive. After a failed write the rest is read, and OSError raised."""
+        self.unsent, failure = b"dump\n", None
+        word, number, *_ = self.line().split(",")
+        if word != "ok":
+            raise Stop(BROKEN, f"a dump is rejected with fault {number}")
+        left = int(number)
+        while left:
+            if self.at == len(self.buffer):
+                self.move()
+            text, self.at = self.buffer[self.at :], len(self.buffer)
+            left -= text.count(b"\n")
+            try:
+                failure or file.write(text)
+            except OSError as error:
+                failure = error
+        if failure:
+            raise failure
+
+
+class Share:
+    """The program, with the whole map and one share of the paths."""
+
+    def __init__(self, program, share, shares, names=()):
+        self.program, self.share, self.shares, self.names = program, share, shares, dict(names)
+        self.asked, self.unplaced, self.held, self.begun = collections.deque(), {}, None, None
+        # Whether this share reports rejected edits: all shares reject the same ones.
+        self.reports = share == 0
+
+    def carry_out(self, body):
+        """Carries out a message, and yields the outcomes of the records that were rejected or changed something. A batch that
+        does not commit is aborted."""
+        yield from self.carry_out_part(body)
+        if self.held is not None:
+            self.held = None
+            self.program.one("abort")
+            yield from self.report(self.begun, "begin", NO_COMMIT)
+
+    def carry_out_part(self, body):
+        """Carries out whole records of a message or of a snapshot. A batch may stay open."""
+        if self.held is None and is_plain(body) and body.endswith(b"\n") and not SPECIAL.search(body):
+            yield from self.pass_on(body)
+        elif body:
+            yield from self.step(body.split(b"\n"))
+
+    def pass_on(self, body):
+        """Carries out a message without path commands and batches, which is sent as it is."""
+        index, records = 0, None
+        for reply in self.program.ask(body, body.count(b"\n")):
+            if isinstance(reply, int):
+                index += reply
+                continue
+            records = records or body.split(b"\n")
+            if reply.accepted or self.reports:
+                yield Outcome(index, records[index].decode("ascii"), reply)
+            index += 1
+
+    def step(self, lines):
+        """Carries out records one by one."""
+        for index, line in enumerate(lines):
+            if not line:
+                continue
+            record = line.decode("ascii", "replace")
+            word = record.partition(",")[0]
+            if not is_plain(line) or word in QUESTIONS:
+                yield from self.report(index, record, NO_QUESTION if word in QUESTIONS else NOT_PLAIN)
+            elif self.held is not None and word in PATH_COMMANDS:
+                self.held.append((index, record))
+            elif self.held is not None and word == "commit":
+                yield from self.commit(index, record)
+            elif word in OF_A_PATH:
+                yield from self.path_command(index, record, word)
+            else:
+                yield from self.push(index, record)
+                if record == "begin" and self.held is None:
+                    self.held, self.begun = [], index
+                elif record == "abort":
+                    self.held = None
+        yield from self.flush()
+
+    def report(self, index, record, reply):
+        """The outcome of a rejected record that all shares reject."""
+        if self.reports:
+            yield Outcome(index, record, reply)
+
+    def commit(self, index, record):
+        """Commits the edits of a batch, and then carries out its path commands. If the commit is rejected, the batch is aborted."""
+        yield from self.flush()
+        held, self.held, count = self.held, None, record[7:]
+        edits = int(count[:20]) - len(held) if count.isdecimal() else None
+        reply = COUNT_DIFFERS if edits is not None and edits < 0 else None
+        if reply is None:
+            reply = self.program.one(record if edits is None else f"commit,{edits}")
+        if not reply.accepted:
+            self.program.one("abort")
+            yield from self.report(index, record, reply)
+            return
+        yield Outcome(index, record, reply)
+        for index, record in held:
+            yield from self.path_command(index, record, record.partition(",")[0])
+
+    def path_command(self, index, record, word):
+        """Carries out a path command, if the path belongs here."""
+        name = record.split(",", 2)[1:2]
+        name = name[0] if name else ""
+        if self.shares.boxes is None:
+            owner = self.shares.of_name(name)
+        elif word == "path" and name not in self.names and name not in self.unplaced:
+            self.unplaced[name] = index, record
+            return
+        else:
+            yield from self.place()
+            owner = self.names.get(name, 0)
+        if owner == self.share:
+            yield from self.push(index, record)
+
+    def place(self):
+        """Finds the shares of new names, by the places where their paths start, and carries out those that belong here."""
+        unplaced, self.unplaced = self.unplaced, {}
+        yield from self.flush()
+        firsts = [record.split(",", 5)[4:5] for _, record in unplaced.values()]
+        unused = next(it for it in ("." * count for count in range(1, 65)) if it not in self.names and it not in unplaced)
+        places = self.places(unused, [it[0] for it in firsts if it])
+        for (name, (index, record)), first in zip(unplaced.items(), firsts):
+            self.names[name] = self.shares.of_place(next(places) if first else None)
+            if self.names[name] == self.share:
+                self.wait_for(index, record)
+
+    def places(self, name, lines):
+        """The coordinate where each of these lines starts, or None if it has none. It is that of the first location reference
+        point of a path along this line alone, which is registered under an unused name for a moment."""
+        text = "".join(f"path,{name},0,0,{it}\ndrop-path,{name}\n" for it in lines)
+        found, replies = [], 0
+        for reply in self.program.ask(text.encode(), 2 * len(lines)):
+            if replies % 2 == 0:
+                _, kind, *answer = reply.lines[0].split(",") if not isinstance(reply, int) and reply.lines else ("", "")
+                found.append(start_of(answer[0]) if kind == "text" else None)
+            replies += reply if isinstance(reply, int) else 1
+        return iter(found)
+
+    def wait_for(self, index, record):
+        """Lets a record wait to be sent with others."""
+        self.asked.append((index, record))
+
+    def push(self, index, record):
+        """Lets a record wait to be sent with others, after the new names before it."""
+        if self.unplaced:
+            yield from self.place()
+        self.wait_for(index, record)
+
+    def flush(self):
+        """Sends the waiting records, and yields their outcomes."""
+        if self.unplaced:
+            yield from self.place()
+        asked, self.asked = self.asked, collections.deque()
+        text = "".join(f"{record}\n" for _, record in asked).encode()
+        for reply in self.program.ask(text, len(asked)):
+            for _ in range(reply - 1 if isinstance(reply, int) else 0):
+                yield from self.outcome(*asked.popleft(), UNCHANGED_REPLY)
+            yield from self.outcome(*asked.popleft(), UNCHANGED_REPLY if isinstance(reply, int) else reply)
+
+    def outcome(self, index, record, reply):
+        """The outcome of a record that was sent, if there is anything to say, and this share says it."""
+        word = record.partition(",")[0]
+        if reply.lines or word == "drop-path" or not reply.accepted and (word in OF_A_PATH or self.reports):
+            yield Outcome(index, record, reply)

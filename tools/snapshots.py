@@ -1,0 +1,112 @@
+"""Snapshots of a share: a dump of its program, and beside it, in a file whose name ends in .json, the offset of the last message
+of commands that it holds, the identity of their stream, the share, and the shares of all names if they are by place.
+"""
+import json
+import os
+from typing import NamedTuple
+from urllib.parse import quote
+
+from stream import LOST_STREAMS, Stop
+
+BLOCK = 1 << 20
+RETAINED = 2
+
+
+class Snapshot(NamedTuple):
+    """A file of records, the offset up to which it has the messages, the identity of their stream, and the shares of names."""
+
+    file: str
+    offset: int
+    identity: str = None
+    names: dict = {}
+
+
+class Snapshots:
+    """The snapshots of a share in a folder."""
+
+    def __init__(self, folder, stream, share, shares):
+        self.folder, self.of = folder, {"stream": stream, "share": share, "shares": shares.label}
+        self.prefix = f"{quote(stream, '')}.{share}.{shares.label}."
+
+    def offsets(self):
+        """The offsets of the complete snapshots, in ascending order."""
+        try:
+            names = [it[len(self.prefix) : -5] for it in os.listdir(self.folder) if it.startswith(self.prefix) and it.endswith(".json")]
+        except OSError as error:
+            raise Stop(LOST_STREAMS, f"{self.folder}: {error.strerror}") from None
+        return sorted(int(it) for it in names if it.isdecimal())
+
+    def newest(self):
+        """The newest snapshot, or None."""
+        offsets = self.offsets()
+        return described(self.file(offsets[-1]), self.of) if offsets else None
+
+    def file(self, offset):
+        return os.path.join(self.folder, f"{self.prefix}{offset}.csv")
+
+    def write(self, program, offset, identity, names):
+        """Writes a snapshot, and removes all but the newest ones. Raises OSError; a part is removed then."""
+        file, about = self.file(offset), {**self.of, "offset": offset, "identity": identity, "names": names}
+        self.put(file, program.write_dump)
+        self.put(f"{file[:-4]}.json", lambda it: it.write(json.dumps(about).encode()))
+        for old in self.offsets()[:-RETAINED]:
+            for name in (f"{self.file(old)[:-4]}.json", self.file(old)):
+                if os.path.exists(name):
+                    os.unlink(name)
+
+    def put(self, name, write):
+        """Makes a file, or replaces it: it is whole, and on the disk, before it has its name."""
+        part = f"{name}.{os.getpid()}"
+        try:
+            with open(part, "wb") as file:
+                write(file)
+                file.flush()
+                os.fsync(file.fileno())
+            os.rename(part, name)
+        except OSError:
+            if os.path.exists(part):
+                os.unlink(part)
+            raise
+
+
+def described(file, of):
+    """A snapshot with what is beside it, which has to be of this share."""
+    try:
+        with open(f"{file[:-4]}.json", encoding="utf-8") as beside:
+            about = json.load(beside)
+    except (OSError, ValueError) as error:
+        raise Stop(LOST_STREAMS, f"{file[:-4]}.json: {error}") from None
+    for key, it in of.items():
+        if about.get(key) != it:
+            raise Stop(LOST_STREAMS, f"{file} is a snapshot with {key} {about.get(key)}, and not {it}")
+    return Snapshot(file, about["offset"], about["identity"], about["names"])
+
+
+def load(share, name):
+    """Carries out the records of a snapshot, which all have to be accepted. The first line may be that of a dump."""
+    share.reports, count, head = True, 0, None
+    try:
+        with open(name, "rb") as file:
+            rest = b""
+            while text := file.read(BLOCK):
+                block, end, rest = (rest + text).rpartition(b"\n")
+                block += end
+                if count == 0 and head is None and block.startswith(b"ok,"):
+                    head, _, block = block.partition(b"\n")
+                carry_out(share, name, block, count)
+                count += block.count(b"\n")
+            carry_out(share, name, rest + b"\n" if rest else b"", count)
+    except OSError as error:
+        raise Stop(LOST_STREAMS, f"{name}: {error.strerror}") from None
+    if head not in (None, b"ok,%d" % count):
+        raise Stop(LOST_STREAMS, f"{name} is not a whole dump: {count} lines follow {head.decode()}")
+    if share.held is not None:
+        raise Stop(LOST_STREAMS, f"{name} ends with an open batch")
+    share.reports = share.share == 0
+
+
+def carry_out(share, name, block, before):
+    """Carries out some records of a snapshot."""
+    for index, record, reply in share.carry_out_part(block):
+        if not reply.accepted:
+            raise Stop(LOST_STREAMS, f"{name}: record {before + index + 1} is rejected: {record[:200]}")
