@@ -27,7 +27,8 @@ WHO = ("motorcar", "motor_vehicle", "vehicle", "access")
 CLOSED = ("no", "private", "agricultural", "forestry", "agricultural;forestry", "emergency", "military", "bus", "psv")
 OPEN = ("yes", "permissive", "designated", "official", "public", "destination", "customers", "delivery", "permit", "residents",
         "unknown")
-ONE_WAY, BACKWARD, BOTH_WAYS, BY_TIME = ("yes", "true", "1"), ("-1", "reverse"), ("no", "false", "0", "alternating"), ("reversible",)
+ONE_WAY, BACKWARD = ("yes", "true", "1"), ("-1", "reverse")
+BOTH_WAYS, BY_TIME = ("no", "false", "0", "alternating"), ("reversible",)
 ROUND = ("roundabout", "circular")
 TAGS = {"highway", "route", "area", "junction", "dual_carriageway", *WHO}
 TAGS |= {f"{it}:{way}" for it in WHO for way in ("forward", "backward")} | {"oneway", *(f"oneway:{it}" for it in WHO)}
@@ -136,7 +137,7 @@ class Extract:
         closed = [why if it is None else it for it in closed]
         forward, backward = (is_way and not it for is_way, it in zip(ways, closed))
         if not forward and not backward:
-            return self.leave_out(next(filter(None, (it for it, is_way in zip(closed, ways) if is_way)), "closed in each direction"))
+            return self.leave_out(next(it for it, is_way in zip(closed, ways) if is_way))
         return Road(FERRY if is_ferry else CLASSES[kind.removesuffix("_link")], form_of_way(tags, ways), forward, backward)
 
     def leave_out(self, reason):
@@ -218,7 +219,7 @@ class Xml:
 
         def begin(name, fields):
             if name == "node":
-                if "lon" in fields and "lat" in fields and ("action" not in fields and "visible" not in fields or is_there(fields)):
+                if "lon" in fields and "lat" in fields and is_there(fields):
                     put(int(fields["id"]), float(fields["lon"]), float(fields["lat"]))
             elif name == "way":
                 self.way, self.refs, self.tags = int(fields["id"]) if is_there(fields) else None, array.array("q"), {}
@@ -263,8 +264,9 @@ def read_other(name, extract):
     try:
         import osmium
     except ImportError:
-        raise OsmError(f"not OpenStreetMap XML, and {sys.executable} has no module osmium to read another format: install Debian's "
-                       f"python3-pyosmium and run this with /usr/bin/python3, or convert it: osmium cat {name} -o FILE.osm") from None
+        lacks = f"{sys.executable} has no module osmium to read another format"
+        hint = "install Debian's python3-pyosmium and run this with /usr/bin/python3, or convert it"
+        raise OsmError(f"not OpenStreetMap XML, and {lacks}: {hint}: osmium cat {name} -o FILE.osm") from None
 
     class Handler(osmium.SimpleHandler):
         """Takes nodes and ways."""
@@ -275,7 +277,8 @@ def read_other(name, extract):
 
         def way(self, it):
             if it.visible:
-                extract.take_way(it.id, array.array("q", (node.ref for node in it.nodes)), {tag.k: tag.v for tag in it.tags if tag.k in TAGS})
+                tags = {tag.k: tag.v for tag in it.tags if tag.k in TAGS}
+                extract.take_way(it.id, array.array("q", (node.ref for node in it.nodes)), tags)
 
     try:
         Handler().apply_file(name)

@@ -23,7 +23,10 @@ NO_RECORD = b"?"
 
 def is_one_record(line):
     """Whether this text, bytes or str, is one record on one line: neither empty, nor with a line end or an open quote."""
-    return ONE_RECORD.fullmatch(line if isinstance(line, bytes) else line.encode("utf-8", "surrogateescape")) is not None
+    text = line if isinstance(line, bytes) else line.encode("utf-8", "surrogateescape")
+    if not any(it in text for it in (b'"', b"\r", b"\n")):
+        return bool(text)
+    return ONE_RECORD.fullmatch(text) is not None
 
 
 class Reply(NamedTuple):
