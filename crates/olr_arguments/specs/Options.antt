@@ -1,17 +1,21 @@
 -- What the command-line arguments ask for.
 --     keep_app      the program's arguments, -m FILE and -s, beside the flags for help and the version
 --     Options, options arguments      a file and whether to stop, by clap's matches of the arguments
---     IsOptionsFault kinds fault      clap's fault is of one of these kinds, or an allocation failed
-use Rattle.std.specs.Prelude.{ℕ, Bool, true, false, List, Option, Some, None, option_map, codes, ⊤}
+--     is_asked_for kind      the error is no fault: help or the version was asked for
+--     IsOptionsFault kinds fault      clap's error is of one of these kinds, or an allocation failed
+use Rattle.std.specs.Prelude.{◌≡◌, ℕ, Bool, true, false, List, Option, Some, None, option_map, codes, ⊤}
 use Rattle.std.specs.Str.{bytes_eq}
 use Rattle.clap.specs.Kinds.{Kinds, IsAmong}
 use Rattle.clap.specs.Simple.{App, on_top, new_app, new_rule, with_rule, matches_of}
 use Rattle.clap.specs.Values.{kind_of}
 use Rattle.clap.specs.Walk.{Rule, first_of}
 use Rattle.clap.specs.declared.builder.action.ArgAction.TheVariants.{Set, SetTrue}
+use Rattle.clap.specs.declared.error.Error.{Error}
+use Rattle.clap.specs.declared.error.kind.ErrorKind.{ErrorKind}
+use Rattle.clap.specs.declared.error.kind.ErrorKind.TheVariants as kind
 use Rattle.olr_arguments.specs.declared.arguments.Options.{Options as Arguments}
 use Rattle.olr_arguments.specs.declared.arguments.OptionsFault.{OptionsFault}
-use Rattle.olr_arguments.specs.declared.arguments.OptionsFault.TheVariants.{Clap, Memory}
+use Rattle.olr_arguments.specs.declared.arguments.OptionsFault.TheVariants.{Asked, Wrong, Memory}
 
 abbrev pub described_app : App
 described_app = on_top (λ s. record s { has_version = true }) (new_app (codes "olr-keep"))
@@ -45,6 +49,13 @@ options arguments =
 abbrev pub options_of : Arguments → Options
 options_of o = record { file = option_map (λ s. s.now) o.file; stop = o.stop }
 
-abbrev pub IsOptionsFault : Kinds → OptionsFault → Type 0
-IsOptionsFault kinds (Clap e) = IsAmong (kind_of e) kinds
+-- help and the version are asked for; the other kinds are faults
+abbrev pub is_asked_for : ErrorKind → Bool
+is_asked_for kind.DisplayHelp = true
+is_asked_for kind.DisplayVersion = true
+is_asked_for _ = false
+
+abbrev pub IsOptionsFault : Kinds → OptionsFault Error → Type 0
+IsOptionsFault kinds (Asked e) = IsAmong (kind_of e) kinds × (is_asked_for (kind_of e) ≡ true)
+IsOptionsFault kinds (Wrong e) = IsAmong (kind_of e) kinds × (is_asked_for (kind_of e) ≡ false)
 IsOptionsFault kinds Memory = ⊤

@@ -9,11 +9,13 @@ pub struct Options<'a> {
     pub stop: bool,
 }
 
-/// Why arguments give no options.
+/// Why arguments give no options. The text for the user is that of the error.
 #[derive(Drop)]
-pub enum OptionsFault {
-    /// Help or the version was asked for, or an argument is invalid. The text for the user is that of this error.
-    Clap(clap::Error),
+pub enum OptionsFault<D: Drop> {
+    /// Help or the version was asked for.
+    Asked(D),
+    /// An argument is invalid.
+    Wrong(D),
     /// Out of memory.
     Memory,
 }

@@ -18,8 +18,8 @@ use std::convert::AsStr;
 
 const ABOUT: &str = "Keeps published OpenLR strings correct while the road map is edited.";
 
-/// The version, and the toolchain with which it was proved, as `rt version` prints it.
-const VERSION: &str = "1.1.0, proved with rattle-kit-13f logic dac8208d650f15bf";
+/// The version, and the logic with which it was proved, as the end of what `rt version` prints.
+const VERSION: &str = "1.1.0, proved with logic dac8208d650f15bf";
 
 const AFTER_HELP: &str =
     "Records: node, move, drop-node, line, set-line, drop-line, path, repath, drop-path,
@@ -82,19 +82,22 @@ fn is_given(flag: Option<&str>) -> bool
 }
 
 /// Why arguments that `clap` rejected give no options.
-fn rejected(error: Error) -> OptionsFault
+fn rejected(error: Error) -> OptionsFault<Error>
     ensures memory { kind_of error ≡ kinds.OutOfMemory → result ≡ OptionsFault.Memory }
     ensures kinds { (kinds : Kinds) → HasKind kinds error → IsOptionsFault kinds result }
 {
     if error.kind() == ErrorKind::OutOfMemory {
         return OptionsFault::Memory;
     }
-    OptionsFault::Clap(error)
+    if error.use_stderr() {
+        return OptionsFault::Wrong(error);
+    }
+    OptionsFault::Asked(error)
 }
 
 /// Reads the command-line arguments, the first of which is the program's own name. Arguments that the definition
 /// accepts are rejected only if an allocation fails.
-pub fn options<'a, S: AsStr>(alloc: Global, arguments: &'a [S]) -> Result<Options<'a>, OptionsFault>
+pub fn options<'a, S: AsStr>(alloc: Global, arguments: &'a [S]) -> Result<Options<'a>, OptionsFault<Error>>
     ensures ok { IfOk result (λ o. options_of o ≡ options (map S.text arguments.entry.now)) }
     ensures taken { takes keep_app (map S.text arguments.entry.now) ≡ true →
         IfErr result (λ e. e ≡ OptionsFault.Memory) }

@@ -2,12 +2,28 @@
 use Rattle.olr_run.proofs.Common.{Bor, fault_of, Registered, Opens, Ends, Claims, Known, known_records, known_both}
 use Rattle.olr_run.proofs.Common.{RanOn, FaultedOn, HasTooMany, exit_code, RunFault, Options, keep_app, options, IsFile}
 use Rattle.olr_run.proofs.Common.{OpensFile, Not_opened, Cut_off, known_file, IfErr}
-use Rattle.std.proofs.Common.{arith, ◌≡◌, ℕ, List, [], Option, Some, None, Result, Ok, Err, refl, sym, ap, ◌∙◌, ◌⊎◌}
+use Rattle.std.proofs.Common.{arith, ◌≡◌, ℕ, List, [], Option, Some, None, Result, Ok, Err, refl, sym, ap, ◌∙◌, ◌⊎◌, inl, inr}
+use Rattle.clap.specs.Kinds.{Kinds}
+use Rattle.clap.specs.Values.{kind_of}
+use Rattle.clap.specs.declared.error.Error.{Error}
+use Rattle.olr_arguments.specs.Explains.{ExplainsFault, Explains, Shown, Not_shown, Wrong_arguments, No_memory}
+use Rattle.olr_arguments.specs.Options.{IsOptionsFault}
+use Rattle.olr_arguments.specs.declared.arguments.OptionsFault.{OptionsFault}
+use Rattle.olr_arguments.specs.declared.arguments.OptionsFault.TheVariants.{Asked, Wrong, Memory}
 use Rattle.olr_sessions.specs.declared.ends.Status.{Status}
 use Rattle.std.specs.Fn.{Once}
 use Rattle.std.specs.Prelude.{IfOk}
 use Rattle.olr_run.specs.Ends.{Ran}
 use Rattle.olr_sessions.specs.declared.ends.RunFault.TheVariants as fault
+
+-- what was shown, by clap's kinds of error; the text of its error has no definition
+pub explained : (kinds : Kinds) (fault : OptionsFault Error) (before later : Known) (code : ℕ) →
+    IsOptionsFault kinds fault → ExplainsFault (λ _. None) fault before later code → Explains kinds before later code
+explained kinds (Asked e) before later code h (inl w) = Shown (kind_of e, h.0, h.1) w.0 w.1
+explained kinds (Asked e) before later code h (inr (inl w)) = Not_shown (kind_of e, h.0, h.1) w.0 w.1
+explained kinds (Asked e) before later code h (inr (inr w)) = No_memory w.0 w.1
+explained kinds (Wrong e) before later code h w = Wrong_arguments (kind_of e, h.0, h.1) w.0 w.1
+explained kinds Memory before later code h w = No_memory w.0 w.1
 
 -- the bytes of the file that was opened
 module _ {O F E : Type 0} (call : Once O (Bor (List ℕ) × Unit {0}) (Result F E)) (remaining : F → Known)

@@ -1,11 +1,11 @@
 -- Each end of the program, from the contracts of its parts.
 use Rattle.olr_run.proofs.Common.{Explained, options_of}
 use Rattle.std.proofs.Common.{refl}
-use Rattle.olr_run.proofs.Ending.{not_opened, ended_as}
+use Rattle.olr_run.proofs.Ending.{explained, not_opened, ended_as}
 use Rattle.olr_run.proofs.streams.program.Goals as goal
 
 pub returns-in-Err-clause-ends : goal.returns-in-Err-clause-ends
-returns-in-Err-clause-ends g c = Explained (c.explain.ensures.explains _ c.in-Err.ensures.kinds) refl
+returns-in-Err-clause-ends g c = Explained (explained _ _ _ _ _ c.in-Err.ensures.kinds c.explain.ensures.explains) refl
 
 pub returns-in_default-clause-ends : goal.returns-in_default-clause-ends
 returns-in_default-clause-ends g c =
