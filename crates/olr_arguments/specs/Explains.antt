@@ -19,19 +19,19 @@ use Rattle.olr_sessions.specs.declared.ends.RunFault.TheVariants as fault
 abbrev pub Adds : Known → Known → Known → Type 0
 Adds text before later = (t : List ℕ) × Appends before later t × IfSome text (λ x. t ≡ x)
 
--- only its first bytes
+-- its first bytes
 abbrev pub AddsFront : Known → Known → Known → Type 0
 AddsFront text before later =
-    (front rest : List ℕ) × (rest ≢ []) × Appends before later front × IfSome text (λ x. x ≡ front ++ rest)
+    (front rest : List ℕ) × Appends before later front × IfSome text (λ x. x ≡ front ++ rest)
 
--- all of a text was written; its first bytes; or nothing, out of memory
+-- a text was written and sent; it was not sent, or only its first bytes were written; or nothing was, out of memory
 abbrev pub Shows : Known → Known → Known → Result (Unit {0}) RunFault → Type 0
 Shows text before later (Ok done) = Adds text before later
 Shows text before later (Err fault.Write) = AddsFront text before later
 Shows text before later (Err fault.Memory) = later ≡ before
 Shows text before later (Err e) = ⊥
 
--- a text was written, with status 0; or only its first bytes, with 3; or nothing, out of memory, with 4
+-- the same by the status: 0, 3 and 4
 abbrev pub IsShown : Known → Known → Known → ℕ → Type 0
 IsShown text before later code =
     (Adds text before later × (code ≡ 0)) ⊎ (AddsFront text before later × (code ≡ 3))

@@ -3,7 +3,7 @@
 //! Commands are read as CSV records from a file and from standard input. Replies are written to standard output.
 #![tactic(auto)]
 
-use olr_run::{RunFault, WRONG_ARGUMENTS, report_fault, run_program};
+use olr_run::{Buffered, RunFault, WRONG_ARGUMENTS, report_fault, run_program};
 use std::process::ExitCode;
 use std::{env, fs, io};
 
@@ -24,12 +24,15 @@ fn without_arguments(rt: &HostRuntime, error: &io::Error) -> u8 {
 
 /// Carries out the commands of the file that the arguments name, and then those of standard input.
 fn run(rt: &HostRuntime, arguments: &[String]) -> u8 {
+    let Ok(mut output) = Buffered::new(rt.alloc(), io::writer(rt)) else {
+        return report_fault(RunFault::Memory, &mut rt.stderr());
+    };
     run_program(
         rt.alloc(),
         arguments,
         |name: &str| fs::open(rt, name),
         rt.reader(),
-        &mut io::writer(rt),
+        &mut output,
         &mut rt.stderr(),
     )
 }

@@ -23,12 +23,12 @@ pub use Rattle.olr_run.specs.Runs.{AnsweredOn, AnswersRecord, CarriedOut, CutIn,
 pub use Rattle.olr_run.specs.Runs.{IsAnswer, Past_the_most, RanIn, RanOn, Records, answer_text}
 pub use Rattle.olr_run.specs.Runs.{known_both, known_file, known_records, last_events, status_of}
 pub use Rattle.olr_sessions.specs.Sessions.{CsvHappens, Cut, Ended, Event, History, IsOfTaking, IsPlain, Known}
-pub use Rattle.olr_sessions.specs.Sessions.{Not_taken, Took, Wrote, exchanges}
+pub use Rattle.olr_sessions.specs.Sessions.{Not_sent, Not_taken, Took, Wrote, exchanges}
 pub use Rattle.olr_sessions.specs.Statuses.{exit_code}
 pub use Rattle.olr_sessions.specs.declared.ends.RunFault.{RunFault}
 pub use Rattle.std.proofs.lemmas.Bool.{both_ways, cases_Bool, false≢true, or_from, or_parts, or_right}
 pub use Rattle.std.proofs.lemmas.List.{append-nil, append_assoc, length-map, map-append}
 pub use Rattle.std.proofs.lemmas.List.Folds.{flat_map-map, list_any-append}
 pub use Rattle.std.specs.Borrow.{Bor}
-pub use Rattle.std.specs.Io.KnownBytes.{Appends}
+pub use Rattle.std.specs.Io.KnownBytes.{Appends, Keeps}
 pub use Rattle.std.specs.Prelude.{IfErr, IfSome, IsErrAnd, IsFalse, if◌then◌else◌, is_err, is_ok, ⊤, ◌&&◌, ◌||◌}

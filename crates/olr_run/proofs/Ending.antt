@@ -2,7 +2,7 @@
 use Rattle.olr_run.proofs.Common.{Bor, fault_of, Registered, Opens, Ends, Claims, Known, known_records, known_both}
 use Rattle.olr_run.proofs.Common.{RanOn, FaultedOn, HasTooMany, exit_code, RunFault, Options, keep_app, options, IsFile}
 use Rattle.olr_run.proofs.Common.{OpensFile, Not_opened, Cut_off, known_file, IfErr}
-use Rattle.std.proofs.Common.{arith, ◌≡◌, ℕ, List, [], Option, Some, None, Result, Ok, Err, refl, sym, ap, ◌∙◌, ◌⊎◌, inl, inr}
+use Rattle.std.proofs.Common.{arith, ◌≡◌, ℕ, Bool, List, [], Option, Some, None, Result, Ok, Err, refl, sym, ap, ◌∙◌, ◌⊎◌, inl, inr}
 use Rattle.clap.specs.Kinds.{Kinds}
 use Rattle.clap.specs.Values.{kind_of}
 use Rattle.clap.specs.declared.error.Error.{Error}
@@ -11,6 +11,10 @@ use Rattle.olr_arguments.specs.Options.{IsOptionsFault}
 use Rattle.olr_arguments.specs.declared.arguments.OptionsFault.{OptionsFault}
 use Rattle.olr_arguments.specs.declared.arguments.OptionsFault.TheVariants.{Asked, Wrong, Memory}
 use Rattle.olr_sessions.specs.declared.ends.Status.{Status}
+use Rattle.olr_run.proofs.Common.{Keeps, Records}
+use Rattle.olr_run.specs.Ends.{SendsAnswers}
+use Rattle.olr_run.specs.Output as output
+use Rattle.std.proofs.KnownBytes.{Appends-kept}
 use Rattle.std.specs.Fn.{Once}
 use Rattle.std.specs.Prelude.{IfOk}
 use Rattle.olr_run.specs.Ends.{Ran}
@@ -24,6 +28,38 @@ explained kinds (Asked e) before later code h (inr (inl w)) = Not_shown (kind_of
 explained kinds (Asked e) before later code h (inr (inr w)) = No_memory w.0 w.1
 explained kinds (Wrong e) before later code h w = Wrong_arguments (kind_of e, h.0, h.1) w.0 w.1
 explained kinds Memory before later code h w = No_memory w.0 w.1
+
+-- ---- the answers of a run are sent
+
+ran_sent : (stop : Bool) (old : Registered) (records : Records) (before : Known) (new : Registered)
+    (mid later : Known) (end : Status) → Keeps mid later → RanOn Claims stop old records before new mid end
+    → RanOn Claims stop old records before new later end
+ran_sent stop old None before new mid later end kept h = tt
+ran_sent stop old (Some rs) before new mid later end kept h = λ s represents.
+    let r = h s represents in (r.0, r.1, r.2, Appends-kept before mid later r.2 r.3 kept, r.4)
+
+faulted_sent : (stop : Bool) (old : Registered) (records : Records) (before : Known) (new : Registered)
+    (mid later : Known) (e : RunFault) → Keeps mid later → FaultedOn Claims stop old records before new mid e
+    → FaultedOn Claims stop old records before new later e
+faulted_sent stop old None before new mid later e kept h = tt
+faulted_sent stop old (Some rs) before new mid later e kept h = λ s represents.
+    let r = h s represents in (r.0, r.1, r.2, Appends-kept before mid later r.2 r.3 kept, r.4)
+
+-- or could not be sent
+ran_unsent : (stop : Bool) (old : Registered) (records : Records) (before : Known) (new : Registered)
+    (mid later : Known) (end : Status) → Keeps mid later → RanOn Claims stop old records before new mid end
+    → FaultedOn Claims stop old records before new later fault.Write
+ran_unsent stop old None before new mid later end kept h = tt
+ran_unsent stop old (Some rs) before new mid later end kept h = λ s represents.
+    let r = h s represents in (
+      r.0,
+      r.1,
+      r.2,
+      Appends-kept before mid later r.2 r.3 kept,
+      record { outcomes = r.4.outcomes; each = r.4.each; stops = r.4.stops; wrote = output.Not_sent refl r.4.wrote },
+    )
+
+-- ---- ends
 
 -- the bytes of the file that was opened
 module _ {O F E : Type 0} (call : Once O (Bor (List ℕ) × Unit {0}) (Result F E)) (remaining : F → Known)
@@ -52,15 +88,24 @@ module _ {O F E : Type 0} (call : Once O (Bor (List ℕ) × Unit {0}) (Result F 
         IsFile (options arguments).file (Opens call remaining opener) (known_file remaining file)
     opened file h = grind (arith, file_is)
 
-    pub ended_as : (file : Option F) (new : Registered) (later : Known) (r : Result Status RunFault) (code : ℕ) →
+    pub ended_as : (file : Option F) (new : Registered) (mid later : Known) (r end : Result Status RunFault) (code : ℕ) →
         OpensFile call opener o.file (Ok file)
         → IfOk r (RanOn Claims o.stop old (known_both (known_records (known_file remaining file)) (known_records input))
-        before new later)
+        before new mid)
         → IfErr r (FaultedOn Claims o.stop old
-        (known_both (known_records (known_file remaining file)) (known_records input)) before new later)
+        (known_both (known_records (known_file remaining file)) (known_records input)) before new mid)
         → IfErr r (λ e. e ≡ fault.TooMany → HasTooMany (known_file remaining file) ⊎ HasTooMany input)
-        → code ≡ exit_code r → Ends arguments (Opens call remaining opener) input old before new later code
-    ended_as file new later (Ok end) code h run _ _ status =
-        Ran none (known_file remaining file) (opened file h) end (rw is at run) status
-    ended_as file new later (Err e) code h _ run many status =
-        Cut_off none (known_file remaining file) (opened file h) e (rw is at run) many status
+        → SendsAnswers r mid later end
+        → code ≡ exit_code end → Ends arguments (Opens call remaining opener) input old before new later code
+    ended_as file new mid later (Ok end) r code h run _ _ (kept, inl same) status =
+        Ran none (known_file remaining file) (opened file h) end
+        (ran_sent (options arguments).stop old _ before new mid later end kept (rw is at run)) (status ∙ ap exit_code same)
+    ended_as file new mid later (Ok end) r code h run _ _ (kept, inr unsent) status =
+        Cut_off none (known_file remaining file) (opened file h) fault.Write
+        (ran_unsent (options arguments).stop old _ before new mid later end kept (rw is at run))
+        (λ many. let never : fault.Write ≡ fault.TooMany = many in cc) (status ∙ ap exit_code unsent.1)
+    ended_as file new mid later (Err e) r code h _ run many (kept, inl same) status =
+        Cut_off none (known_file remaining file) (opened file h) e
+        (faulted_sent (options arguments).stop old _ before new mid later e kept (rw is at run)) many
+        (status ∙ ap exit_code same)
+    ended_as file new mid later (Err e) r code h _ run many (kept, inr unsent) status = absurd (let never = unsent.0 in cc)

@@ -1,15 +1,17 @@
 -- Runs over an input of known bytes, from the history of their session.
 use Rattle.olr_run.proofs.Common.{◌&&◌, IsFalse, IfErr, append-nil, append_assoc, length-map, Appends, Reader, Outcome}
 use Rattle.olr_run.proofs.Common.{run_longer, Field, outcome_text, Registered, SoundOutcome, Claims, texts, records_of}
-use Rattle.olr_run.proofs.Common.{Known, Event, Took, Ended, Not_taken, Wrote, Cut, History, exchanges, IsPlain}
+use Rattle.olr_run.proofs.Common.{Known, Event, Took, Ended, Not_taken, Not_sent, Wrote, Cut, History, exchanges}
+use Rattle.olr_run.proofs.Common.{IsPlain, Keeps}
 use Rattle.olr_run.proofs.Common.{CsvHappens, IsOfTaking, known_records, RanOn, FaultedOn, HasTooMany, RanIn, CutIn}
 use Rattle.olr_run.proofs.Common.{Past_the_most, In_text, AnsweredOn, status_of, RunFault, next_record, flat_map-map}
 use Rattle.std.proofs.Common.{◌≡◌, ◌≢◌, ◌∙◌, ℕ, Bool, List, [], ◌∷◌, ◌++◌, length, map, None, Some, inl, inr, refl}
 use Rattle.std.proofs.Common.{sym, ap, subst, arith, length-append}
-use Rattle.std.proofs.KnownBytes.{Appends-nil, Appends-trans}
+use Rattle.std.proofs.KnownBytes.{Appends-kept, Appends-nil, Appends-trans, Keeps-refl}
 use Rattle.csv.specs.Reading.{default_config, source_of, Reached, reader_state, strip_bom}
 use Rattle.olr_commands.specs.State.{IsContent}
 use Rattle.olr_run.specs.Runs.{In_taking, No_text}
+use Rattle.olr_run.specs.Runs as runs
 use Rattle.olr_sessions.specs.declared.ends.Status.{Status}
 use Rattle.std.specs.Prelude.{IfOk, Result, Ok, Err}
 use Rattle.csv.proofs.ReadFacts.{rows-more, rows-end}
@@ -18,6 +20,7 @@ use Rattle.olr_sessions.proofs.SessionLemmas.{Starts}
 use Rattle.olr_run.proofs.RunLemmas.{claims_of}
 use Rattle.olr_run.proofs.Running.{represented}
 use Rattle.olr_run.proofs.Joining.{stopped_is}
+use Rattle.std.proofs.Math.Bool.{and-false}
 use Rattle.std.specs.List.{flat_map}
 use Rattle.csv.specs.declared.parser.State.TheVariants as st
 use Rattle.olr_run.specs.Output as output
@@ -101,7 +104,13 @@ module _ {S R : Type 0} (remaining : R → Known) (reader : S → Reader R) (con
       let more =
       rows-more remaining (reader m) (reader n) r default_config st.StartRecord (strip_bom input) at.left rs
       at.plain.config at.source at.read one.1 in
-      record { plain = one.0; left = more.0; source = more.1; read = more.2; wrote = rw took.1 at.wrote }
+      record {
+        plain = one.0;
+        left = more.0;
+        source = more.1;
+        read = more.2;
+        wrote = Appends-kept (contents a) (contents m) (contents n) w at.wrote took.1;
+      }
 
   exchanged : (done rs : List (List Field)) (w : List ℕ) (ws : List (List ℕ)) (es : List Event) (m b : S) →
       length ws ≡ length rs → At done w m → History happens m (exchanges rs ws ++ es) b →
@@ -148,7 +157,7 @@ module _ {S R : Type 0} (remaining : R → Known) (reader : S → Reader R) (con
 
     -- the end of a run that was not cut off
     ended_in : (end : Status) (rs : List (List Field)) (ws : List (List ℕ)) (m : S) → At rs (joined ws) m →
-        contents b ≡ contents m
+        Keeps (contents m) (contents b)
         → ((os : List Outcome) → map outcome_text os ≡ ws → status_of end ≡ output.run_status stop os →
         output.AreAnswered stop (records_of input) os)
         → AnsweredOn stop (λ os. status_of end ≡ output.run_status stop os) old rs ws new
@@ -158,7 +167,7 @@ module _ {S R : Type 0} (remaining : R → Known) (reader : S → Reader R) (con
           h.0,
           h.1,
           joined ws,
-          rw later at.wrote,
+          Appends-kept (contents a) (contents m) (contents b) (joined ws) at.wrote later,
           record {
             outcomes = h.2;
             each = h.3;
@@ -184,24 +193,36 @@ module _ {S R : Type 0} (remaining : R → Known) (reader : S → Reader R) (con
           record { outcomes = h.2; each = h.3; stops = h.5; wrote = cut h.2 h.4 h.6 },
         )
 
+    nothing_more : (m : S) → Keeps (contents m) (contents b) → Appends (contents m) (contents b) []
+    nothing_more m later =
+        Appends-kept (contents m) (contents m) (contents b) [] (Appends-nil (contents m)) later
+
     cut_before : (e : RunFault) (rs : List (List Field)) (ws : List (List ℕ)) (m : S) → e ≢ fault.Write →
-        At rs (joined ws) m → contents b ≡ contents m →
+        At rs (joined ws) m → Keeps (contents m) (contents b) →
         AnsweredOn stop (λ os. IsFalse (stop && output.any_refused os)) old rs ws new
         → FaultedOn Claims stop old (Some (records_of input)) (contents a) new (contents b) e
     cut_before e rs ws m no_write at later answered =
-        cut_in e _ rs ws (joined ws) [] m at (rw later (Appends-nil (contents m))) answered
+        cut_in e _ rs ws (joined ws) [] m at (nothing_more m later) answered
         (λ os are going. output.Before_next no_write going (append-nil (joined ws) ∙ written_as os ws are))
+
+    cut_unsent : (e : RunFault) (rs : List (List Field)) (ws : List (List ℕ)) (m : S) → e ≡ fault.Write →
+        At rs (joined ws) m → Keeps (contents m) (contents b) →
+        AnsweredOn stop (λ os. IsFalse (stop && output.any_refused os)) old rs ws new
+        → FaultedOn Claims stop old (Some (records_of input)) (contents a) new (contents b) e
+    cut_unsent e rs ws m write at later answered =
+        cut_in e _ rs ws (joined ws) [] m at (nothing_more m later) answered
+        (λ os are going. output.Not_sent write (append-nil (joined ws) ∙ written_as os ws are))
 
     ran_on : (end : Status) → RanIn happens stop old a new b end →
         RanOn Claims stop old (Some (records_of input)) (contents a) new (contents b) end
     ran_on ended.Stopped h =
         let x = exchanged [] h.records [] h.texts [] a b h.each start h.history in
-        ended_in ended.Stopped h.records h.texts x.0 x.1 (ap contents (sym x.2))
+        ended_in ended.Stopped h.records h.texts x.0 x.1 (subst (λ (p : S). Keeps (contents x.0) (contents p)) x.2 (Keeps-refl (contents x.0)))
         (λ os are is. inr (stopped_is stop (output.any_refused os) is)) h.answered
     ran_on end h =
         let x = exchanged [] h.records [] h.texts (Ended ∷ []) a b h.each start h.history in
         let all = whole h.records (joined h.texts) x.0 x.2.0 x.1 x.2.1 in
-        ended_in end h.records h.texts x.0 x.1 (ap contents (sym x.2.2) ∙ (seen x.0 x.2.0 Ended x.2.1).1)
+        ended_in end h.records h.texts x.0 x.1 (subst (λ (p : S). Keeps (contents x.0) (contents p)) x.2.2 (seen x.0 x.2.0 Ended x.2.1).1)
         (λ os are is. inl (sym (length-map os outcome_text) ∙ ap length are ∙ h.each ∙ sym all)) h.answered
 
     cut_on : (e : RunFault) → CutIn happens stop old a new b e →
@@ -209,12 +230,16 @@ module _ {S R : Type 0} (remaining : R → Known) (reader : S → Reader R) (con
     cut_on e (In_taking of rs ws l history answered) =
         let x = exchanged [] rs [] ws (Not_taken e ∷ []) a b l start history in
         cut_before e rs ws x.0 (not_writing e of) x.1
-        (ap contents (sym x.2.2) ∙ (seen x.0 x.2.0 (Not_taken e) x.2.1).1) answered
+        (subst (λ (p : S). Keeps (contents x.0) (contents p)) x.2.2 (seen x.0 x.2.0 (Not_taken e) x.2.1).1) answered
+    cut_on e (runs.Not_sent is rs ws l history answered) =
+        let x = exchanged [] rs [] ws (Not_sent ∷ []) a b l start history in
+        cut_unsent e rs ws x.0 is x.1
+        (subst (λ (p : S). Keeps (contents x.0) (contents p)) x.2.2 (seen x.0 x.2.0 Not_sent x.2.1).1) answered
     cut_on e (Past_the_most is rs ws l most r history answered) =
         let x = exchanged [] rs [] ws (Took r ∷ []) a b l start history in
         cut_before e rs ws x.0
         (λ write. let never : fault.TooMany ≡ fault.Write = sym is ∙ write in cc) x.1
-        (ap contents (sym x.2.2) ∙ (seen x.0 x.2.0 (Took r) x.2.1).1) answered
+        (subst (λ (p : S). Keeps (contents x.0) (contents p)) x.2.2 (seen x.0 x.2.0 (Took r) x.2.1).1) answered
     cut_on e (No_text is rs ws l r w history answered) =
         let x = exchanged [] rs [] ws (Took r ∷ []) a b l start history in
         let t = taken rs r (joined ws) x.0 x.2.0 x.1 x.2.1 in
@@ -234,6 +259,7 @@ module _ {S R : Type 0} (remaining : R → Known) (reader : S → Reader R) (con
 
     too_many : (e : RunFault) → CutIn happens stop old a new b e → e ≡ fault.TooMany → HasTooMany (Some input)
     too_many e (In_taking of rs ws l history answered) is = absurd (subst IsOfTaking is of)
+    too_many e (runs.Not_sent write rs ws l history answered) is = absurd cc
     too_many e (Past_the_most _ rs ws l most r history answered) is =
         let x = exchanged [] rs [] ws (Took r ∷ []) a b l start history in
         let f = first_of (rs ++ r ∷ []) (joined ws) x.2.0 (taken rs r (joined ws) x.0 x.2.0 x.1 x.2.1) in
@@ -263,3 +289,21 @@ on_known remaining reader contents happens seen stop old new a b (Some input) (E
     )
 on_known remaining reader contents happens seen stop old new a b None (Ok end) base starts h k = (tt, tt, tt)
 on_known remaining reader contents happens seen stop old new a b None (Err e) base starts h k = (tt, tt, λ is. tt)
+
+-- a run that lacked memory before it began
+pub cut_at_first : (stop : Bool) (old : Registered) (before known : Known) (e : RunFault) → IsContent old.kept.content →
+    e ≡ fault.Memory → FaultedOn Claims stop old (known_records known) before old before e
+cut_at_first stop old before None e base memory = tt
+cut_at_first stop old before (Some input) e base memory = λ s represents. (
+  s,
+  represents,
+  [],
+  Appends-nil before,
+  record {
+    outcomes = [];
+    each = claims_of s (records_of input) [] s (represented old s base represents) refl;
+    stops = tt;
+    wrote = output.Before_next (λ write. let never : fault.Memory ≡ fault.Write = sym memory ∙ write in cc)
+        (and-false stop) refl;
+  },
+)

@@ -69,6 +69,8 @@ cut_join stop os qs second e n (No_text is before last are wrote) =
 cut_join stop os qs second e n (In_last is before last front rest are text some wrote) =
     In_last is (os ++ before) last front rest (rw (are, append_assoc) refl) text some
     (rw (wrote, texts_join, append_assoc) refl)
+cut_join stop os qs second e n (output.Not_sent write wrote) =
+    output.Not_sent write (rw (wrote, texts_join) refl)
 
 -- ---- both runs
 

@@ -1,11 +1,12 @@
 -- The records that a run has answered so far.
 use Rattle.olr_run.proofs.Common.{◌&&◌, ◌||◌, is_err, is_ok, if◌then◌else◌, ⊤, IfErr, or_parts, append-nil}
 use Rattle.olr_run.proofs.Common.{list_any-append, Outcome, Field, outcome_text, Represents, Registered, SoundOutcome}
-use Rattle.olr_run.proofs.Common.{SoundOutcomes, most_records, Event, Took, Ended, Not_taken, Wrote, Cut, History}
+use Rattle.olr_run.proofs.Common.{SoundOutcomes, most_records, Event, Took, Ended, Not_taken, Not_sent, Wrote, Cut, History}
+use Rattle.olr_run.specs.Runs as runs
 use Rattle.olr_run.proofs.Common.{exchanges, IsOfTaking, status_of, AnsweredOn, RanIn, CutIn, Past_the_most, In_text}
 use Rattle.olr_run.proofs.Common.{RunFault, IsErrAnd, run_more, AnswersRecord, last_events, map-append}
 use Rattle.std.proofs.Common.{arith, ◌≡◌, ◌∙◌, ◌+◌, ℕ, Bool, true, false, not, List, [], ◌∷◌, ◌++◌, length, map, Ok}
-use Rattle.std.proofs.Common.{Err, Result, inl, inr, refl, sym, ap, subst, length-append}
+use Rattle.std.proofs.Common.{◌⊎◌, Err, Result, inl, inr, refl, sym, ap, subst, length-append}
 use Rattle.olr_commands.specs.State.{IsContent, State}
 use Rattle.olr_run.specs.Output.{StopsAtFault, any_refused, run_status}
 use Rattle.olr_run.specs.Runs.{In_taking, No_text}
@@ -131,12 +132,15 @@ module _ {S : Type 0} (happens : S → Event → S → Type 0) (stop : Bool) (ol
           answered = answered_on stop _ _ old now a.records a.texts base a.answered (λ os g. g.1);
         }
 
-    -- no further record can be taken
+    -- no further record can be taken, or the texts could not be sent before
     pub cut_in_taking : (later : S) (e : RunFault) → IsContent old.kept.content →
-        happens mid (Not_taken e) later × IsOfTaking e
+        (happens mid (Not_taken e) later × IsOfTaking e) ⊎ (happens mid Not_sent later × (e ≡ fault.Write))
         → CutIn happens stop old before now later e
-    cut_in_taking later e base none =
+    cut_in_taking later e base (inl none) =
         In_taking none.1 a.records a.texts a.each (and_then later (Not_taken e ∷ []) (later, none.0, refl))
+        (answered_on stop _ _ old now a.records a.texts base a.answered (λ os g. g.0))
+    cut_in_taking later e base (inr held) =
+        runs.Not_sent held.1 a.records a.texts a.each (and_then later (Not_sent ∷ []) (later, held.0, refl))
         (answered_on stop _ _ old now a.records a.texts base a.answered (λ os g. g.0))
 
     -- one record more than the greatest number

@@ -1,7 +1,9 @@
 -- How the program ends, given its command-line arguments, the result of opening the file, and the bytes of file and
 -- input.
+--     SendsAnswers ended before later r      how a run ends once its answers have been sent
 --     Ends arguments Opened input old before new later code      the register, what is written and the exit status
-use Rattle.std.specs.Prelude.{◌≡◌, ℕ, List, [], Option, Some, None, Ok, Err, ◌⊎◌}
+use Rattle.std.specs.Prelude.{◌≡◌, ℕ, List, [], Option, Some, None, Result, Ok, Err, ◌⊎◌, IsTrue, is_ok}
+use Rattle.std.specs.Io.KnownBytes.{Keeps}
 use Rattle.clap.specs.Faults.{fault_of}
 use Rattle.olr_arguments.specs.Explains.{Explains}
 use Rattle.olr_arguments.specs.Opens.{IsFile}
@@ -14,6 +16,11 @@ use Rattle.olr_sessions.specs.Statuses.{exit_code}
 use Rattle.olr_sessions.specs.declared.ends.RunFault.{RunFault}
 use Rattle.olr_sessions.specs.declared.ends.RunFault.TheVariants as fault
 use Rattle.olr_sessions.specs.declared.ends.Status.{Status}
+
+-- it ends as it ended, or with a fault of writing in place of a status
+abbrev pub SendsAnswers : Result Status RunFault → Known → Known → Result Status RunFault → Type 0
+SendsAnswers ended before later r =
+    Keeps before later × ((r ≡ ended) ⊎ (IsTrue (is_ok ended) × (r ≡ Err fault.Write)))
 
 -- a run is made only if the arguments have no fault and the file was opened
 pub data Ends (arguments : List (List ℕ)) (Opened : List ℕ → Option Known → Type 0) (input : Known) (old : Registered)

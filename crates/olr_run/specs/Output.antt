@@ -123,13 +123,15 @@ pub record Ran (Each : State → List (List Field) → List Outcome → State �
   pub wrote : written ≡ texts outcomes
   pub ended : end ≡ run_status stop outcomes
 
--- by a fault before the next record was taken, by out of memory for the last text, or while that text was written
+-- by a fault before the next record was taken, by out of memory for the last text, or while that text was written; or
+-- all texts were written to an output that held some of them back, and could not send them
 pub data CutOff (stop : Bool) (os : List Outcome) (written : List ℕ) (e : RunFault) : Type 0 where
   Before_next : e ≢ fault.Write → IsFalse (stop && any_refused os) → written ≡ texts os → CutOff stop os written e
   No_text : e ≡ fault.Memory → (before : List Outcome) (last : Outcome) → os ≡ before ++ last ∷ [] →
       written ≡ texts before → CutOff stop os written e
   In_last : e ≡ fault.Write → (before : List Outcome) (last : Outcome) (front rest : List ℕ) → os ≡ before ++ last ∷ []
       → outcome_text last ≡ front ++ rest → rest ≢ [] → written ≡ texts before ++ front → CutOff stop os written e
+  Not_sent : e ≡ fault.Write → written ≡ texts os → CutOff stop os written e
 
 pub record Faulted (Each : State → List (List Field) → List Outcome → State → Type 0) (stop : Bool) (s : State)
     (rs : List (List Field)) (t : State) (written : List ℕ) (e : RunFault) : Type 0 where

@@ -23,6 +23,7 @@ use Rattle.olr_run.specs.Output.{SoundOutcome, Claims, StopsAtFault, any_refused
 use Rattle.olr_run.specs.Output.{most_records}
 use Rattle.olr_sessions.specs.Sessions.{Known, Event, Took, Ended, Not_taken, Wrote, Cut, History, exchanges}
 use Rattle.olr_sessions.specs.Sessions.{IsOfTaking}
+use Rattle.olr_sessions.specs.Sessions as event
 use Rattle.olr_sessions.specs.declared.ends.RunFault.{RunFault}
 use Rattle.olr_sessions.specs.declared.ends.RunFault.TheVariants as fault
 use Rattle.olr_sessions.specs.declared.ends.Status.{Status}
@@ -92,12 +93,16 @@ pub record RanIn {S : Type 0} (happens : S → Event → S → Type 0) (stop : B
   pub history : History happens before (exchanges records texts ++ last_events end) later
   pub answered : AnsweredOn stop (λ os. status_of end ≡ run_status stop os) old records texts new
 
--- the same, up to a record that can't be taken, or one more than the greatest number; or up to a record whose text was
--- not made, out of memory, or not written completely
+-- the same, up to a record that can't be taken, or before which the texts could not be sent, or one more than the
+-- greatest number; or up to a record whose text was not made, out of memory, or not written completely
 pub data CutIn {S : Type 0} (happens : S → Event → S → Type 0) (stop : Bool) (old : Registered) (before : S)
     (new : Registered) (later : S) (e : RunFault) : Type 0 where
   In_taking : IsOfTaking e → (rs : List (List Field)) (texts : List (List ℕ)) → length texts ≡ length rs →
       History happens before (exchanges rs texts ++ Not_taken e ∷ []) later
+      → AnsweredOn stop (λ os. IsFalse (stop && any_refused os)) old rs texts new
+      → CutIn happens stop old before new later e
+  Not_sent : e ≡ fault.Write → (rs : List (List Field)) (texts : List (List ℕ)) → length texts ≡ length rs →
+      History happens before (exchanges rs texts ++ event.Not_sent ∷ []) later
       → AnsweredOn stop (λ os. IsFalse (stop && any_refused os)) old rs texts new
       → CutIn happens stop old before new later e
   Past_the_most : e ≡ fault.TooMany → (rs : List (List Field)) (texts : List (List ℕ)) → length texts ≡ length rs →

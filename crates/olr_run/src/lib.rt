@@ -8,6 +8,6 @@ mod streams;
 
 pub use both::run_both;
 pub use olr_arguments::WRONG_ARGUMENTS;
-pub use olr_sessions::{RunFault, Session, Status, exit_code, report_fault};
+pub use olr_sessions::{Buffered, RunFault, Session, Status, exit_code, report_fault};
 pub use records::{Room, run, run_bytes, run_session};
 pub use streams::{program, run_program};

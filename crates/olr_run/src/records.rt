@@ -7,7 +7,7 @@ ghost use Rattle.olr_run.specs.Runs.{known_records, RanIn, CutIn, RanOn, Faulted
 use crate::answers::write_outcome;
 use csv::{ByteRecord, ReaderBuilder};
 use olr_register::Register;
-use olr_sessions::{InMemory, RunFault, Session, Status};
+use olr_sessions::{InMemory, Lines, RunFault, Session, Status};
 use std::alloc::Global;
 use std::io::{Read, Write};
 
@@ -92,10 +92,12 @@ pub fn run_session<W, S: Session<W>>(
     run_within(alloc, register, session, output, stop, &mut room)
 }
 
-/// Runs the records of the input, as `csv` reads them, in a session whose answers are written to the output. After a
-/// fault the register has the state after the answered records. After a fault of reading, all of their texts are
-/// written, and none of them stops the run. After a fault of writing, or out of memory for a text, the last text is
-/// missing, or only its first bytes are written.
+/// Runs the records of the input, as `csv` reads them, in a session whose answers are written to the output. An output
+/// that holds bytes back is flushed before the run may wait for the input, and where a text doesn't fit; what it holds
+/// at the end is left to the caller. After a fault the register has the state after the answered records. After a fault
+/// of reading, all of their texts are written, and none of them stops the run. After a fault of writing, or out of
+/// memory for a text, the last text is missing, or only its first bytes are written; or all texts are written, and the
+/// output could not be flushed.
 pub fn run<R: Read + Drop, W: Write>(
     alloc: Global,
     register: &mut Register,
@@ -110,10 +112,11 @@ pub fn run<R: Read + Drop, W: Write>(
     ensures too_many { IfErr result (λ e. e ≡ RunFault.TooMany → HasTooMany (R.remaining input)) }
 {
     register.is_sound();
+    let lines = Lines::new(alloc, input)?;
     let mut reader = ReaderBuilder::new()
         .has_headers(false)
         .flexible(true)
-        .from_reader(alloc, input);
+        .from_reader(alloc, lines);
     run_session(alloc, register, &mut reader, output, stop)
 }
 

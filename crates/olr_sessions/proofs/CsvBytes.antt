@@ -21,7 +21,7 @@ pub did : (r : Here × Action) (a : Action) (x : State × CsvAction) → csv_ste
 did r a x e h = sym e ∙ ap (λ (k : Action). (csv_state r.0, csv_action k)) h
 
 -- the effect of a byte on a record
-of_byte : (s t : State) (a : CsvAction) (f : List (List ℕ)) (p rest : List ℕ) (c : ℕ) → step default_config s c ≡ (t, a) →
+pub of_byte : (s t : State) (a : CsvAction) (f : List (List ℕ)) (p rest : List ℕ) (c : ℕ) → step default_config s c ≡ (t, a) →
     next_record default_config s f p (c ∷ rest) ≡ (if is_end a then Some (fields_after a f p, t, rest) else
     next_record default_config t (fields_after a f p) (field_after a c p) rest)
 unfolding next_record

@@ -1,7 +1,8 @@
 -- Runs over bytes in memory are runs of a csv reader that has all of its bytes.
 use Rattle.std.proofs.Common.{◌≡◌, ◌∙◌, ℕ, Bool, List, [], Option, Some, None, true, false, refl, ap, inl}
 use Rattle.csv.specs.Reading.{ReadRecord, default_config, source_of, ReadsNext, pending_of, strip_bom}
-use Rattle.olr_sessions.specs.Sessions.{Known, Event, Took, Ended, Not_taken, Wrote, Cut, IsPlain, CsvHappens}
+use Rattle.olr_sessions.specs.Sessions.{Known, Event, Took, Ended, Not_taken, Not_sent, Wrote, Cut, IsPlain, CsvHappens}
+use Rattle.std.specs.Io.KnownBytes.{Keeps}
 use Rattle.olr_sessions.specs.InMemory.{csv_state, TookFrom, BytesHappens}
 use Rattle.olr_sessions.specs.declared.in_memory.InMemory.{InMemory}
 use Rattle.olr_sessions.specs.declared.in_memory.State.TheVariants.{StartRecord}
@@ -53,6 +54,11 @@ plain_of s = record { config = refl; trim = refl; flexible = refl; ready = inl r
 
 -- ---- events
 
+same_kept : (before later : Known) → later ≡ before → Keeps before later
+same_kept None later e = tt
+same_kept (Some xs) None e = absurd cc
+same_kept (Some xs) (Some ys) e = cc
+
 abbrev pub OfBytes : {W : Type 0} → (W → Known) → InMemory × W → Event → InMemory × W → Type 0
 OfBytes contents a e b = BytesHappens a.0 b.0 (contents a.1) (contents b.1) e
 
@@ -62,9 +68,12 @@ bytes_at p = reader_of p.0
 pub happens_as : {W : Type 0} (contents : W → Known) (a b : InMemory × W) (e : Event) → OfBytes contents a e b →
     CsvHappens all_known (bytes_at a) (bytes_at b) (contents a.1) (contents b.1) e
 unfolding reader_of
-happens_as contents a b (Took fields) h = (λ plain. (plain_of b.0, read_of a.0 b.0 true fields h.0), h.1)
-happens_as contents a b Ended h = (([], λ plain. (plain_of b.0, read_of a.0 b.0 false [] h.0)), h.1)
-happens_as contents a b (Not_taken e) h = (λ plain. h.0, h.1)
+happens_as contents a b (Took fields) h =
+    (λ plain. (plain_of b.0, read_of a.0 b.0 true fields h.0), same_kept (contents a.1) (contents b.1) h.1)
+happens_as contents a b Ended h =
+    (([], λ plain. (plain_of b.0, read_of a.0 b.0 false [] h.0)), same_kept (contents a.1) (contents b.1) h.1)
+happens_as contents a b (Not_taken e) h = (λ plain. h.0, same_kept (contents a.1) (contents b.1) h.1)
+happens_as contents a b Not_sent h = absurd h
 happens_as contents a b (Wrote text) h = (ap reader_of h.0, h.1)
 happens_as contents a b (Cut front) h = (ap reader_of h.0, h.1)
 

@@ -2,3 +2,4 @@ pub mod SessionLemmas
 pub mod CsvBytes
 pub mod Writing
 pub mod InMemoryRuns
+pub mod WholeLines

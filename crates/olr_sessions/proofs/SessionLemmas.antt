@@ -1,5 +1,5 @@
 -- Histories of sessions.
-use Rattle.std.proofs.Common.{◌≡◌, ℕ, true, false, List, [], ◌∷◌, ◌++◌, length, refl, sym, ap, subst, arith}
+use Rattle.std.proofs.Common.{◌≡◌, ℕ, Bool, Result, Ok, Err, inl, true, false, List, [], ◌∷◌, ◌++◌, length, refl, sym, ap, subst, arith}
 use Rattle.std.specs.Prelude.{option_map}
 use Rattle.csv.specs.Reading.{is_flexible, ExplainsRead, stops_reader, source_of, reader_state, strip_bom}
 use Rattle.csv.specs.declared.error.ErrorKind.{ErrorKind}
@@ -7,6 +7,9 @@ use Rattle.csv.specs.declared.error.ErrorKind.TheVariants as kind
 use Rattle.csv.specs.declared.parser.State.TheVariants.{StartRecord}
 use Rattle.csv.specs.declared.reader.Reader.{Reader}
 use Rattle.olr_sessions.specs.Sessions.{Known, Event, Took, Wrote, History, exchanges, IsPlain}
+use Rattle.olr_sessions.specs.Sessions.{CsvHappens, ReadsNext, TakesNext}
+use Rattle.olr_sessions.specs.declared.ends.RunFault.{RunFault}
+use Rattle.std.specs.Io.KnownBytes.{Keeps}
 
 -- a reader that accepts any number of fields is stopped by each fault
 pub stopped : {R : Type 0} (remaining : R → Known) (old new : Reader R) (k : ErrorKind) → is_flexible old ≡ true →
@@ -17,6 +20,16 @@ stopped remaining old new (kind.UnequalLengths pos expected len) f h = grind ari
 stopped remaining old new (kind.Utf8 pos err) f h = grind arith
 stopped remaining old new (kind.Serialize why) f h = absurd h
 stopped remaining old new (kind.Deserialize pos err) f h = absurd h
+
+-- a read after a flush
+pub takes_next : {R W : Type 0} (remaining : R → Known) (contents : W → Known) (old new : Reader R) (before later : W)
+    (r : Result Bool RunFault) (fields : List (List ℕ)) → Keeps (contents before) (contents later) →
+    ReadsNext remaining old new r fields
+    → TakesNext {S = Reader R × W} (λ a e b. CsvHappens remaining a.0 b.0 (contents a.1) (contents b.1) e) (old, before) (new, later) r
+    fields
+takes_next remaining contents old new before later (Ok true) fields kept h = (h, kept)
+takes_next remaining contents old new before later (Ok false) fields kept h = ((fields, h), kept)
+takes_next remaining contents old new before later (Err e) fields kept h = inl ((h.0, kept), h.1)
 
 -- the reader of an input before its first record
 pub record Starts {R : Type 0} (remaining : R → Known) (a : Reader R) (known : Known) : Type 0 where

@@ -12,7 +12,7 @@ use Rattle.csv.specs.declared.parser.Action.{Action as CsvAction}
 use Rattle.csv.specs.declared.parser.Action.TheVariants as csv_act
 use Rattle.csv.specs.declared.parser.State.{State as CsvState}
 use Rattle.csv.specs.declared.parser.State.TheVariants as csv_st
-use Rattle.olr_sessions.specs.Sessions.{Known, Event, Took, Ended, Not_taken, Wrote, Cut}
+use Rattle.olr_sessions.specs.Sessions.{Known, Event, Took, Ended, Not_taken, Not_sent, Wrote, Cut}
 use Rattle.olr_sessions.specs.declared.in_memory.Action.{Action}
 use Rattle.olr_sessions.specs.declared.in_memory.Action.TheVariants as act
 use Rattle.olr_sessions.specs.declared.in_memory.InMemory.{InMemory}
@@ -55,5 +55,6 @@ abbrev pub BytesHappens : InMemory → InMemory → Known → Known → Event �
 BytesHappens old new before later (Took fields) = TookFrom old new true fields × (later ≡ before)
 BytesHappens old new before later Ended = TookFrom old new false [] × (later ≡ before)
 BytesHappens old new before later (Not_taken e) = (new.failed ≡ true) × (later ≡ before)
+BytesHappens old new before later Not_sent = ⊥
 BytesHappens old new before later (Wrote text) = (new ≡ old) × Appends before later text
 BytesHappens old new before later (Cut front) = (new ≡ old) × Appends before later front

@@ -1,3 +1,5 @@
 pub mod Sessions
 pub mod InMemory
 pub mod Statuses
+pub mod Buffers
+pub mod Lines

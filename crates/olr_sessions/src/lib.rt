@@ -2,12 +2,16 @@
 //! and its exit status.
 #![tactic(auto)]
 
+mod buffered;
 mod ends;
 mod in_memory;
+mod lines;
 mod output;
 mod sessions;
 
+pub use buffered::Buffered;
 pub use ends::{RunFault, Status, end_status, exit_code, report_fault};
 pub use in_memory::InMemory;
+pub use lines::Lines;
 pub use output::write_all;
 pub use sessions::Session;

@@ -1,11 +1,13 @@
 //! Sessions: the two ends of a run, the source of its records and the output of its answers.
 
-ghost use Rattle.std.specs.Prelude.{ℕ, List};
+ghost use Rattle.std.specs.Prelude.{◌≡◌, ℕ, List, IfErr};
+ghost use Rattle.std.specs.Io.KnownBytes.{Keeps};
 ghost use Rattle.csv.specs.Records.{fields_of};
-ghost use Rattle.olr_sessions.specs.Sessions.{Event, TakesNext, Writes, CsvHappens};
+ghost use Rattle.olr_sessions.specs.Sessions.{Event, TakesNext, Writes, ReadsNext, CsvHappens};
 
 use crate::ends::RunFault;
-use crate::output::write_all;
+use crate::lines::Lines;
+use crate::output::{flush, write_all};
 use csv::{ByteRecord, ErrorKind, Reader};
 use std::io::{Read, Write};
 
@@ -15,7 +17,8 @@ pub trait Session<W> {
     /// The relation of an event with the values of both ends before and after it.
     ghost happens: { Self × W → Event → Self × W → Type 0 };
 
-    /// Takes the next record, which is then in `fields`. Returns false if there is none.
+    /// Takes the next record, which is then in `fields`. Returns false if there is none. An output that holds answers
+    /// back sends them first, if the source may wait for its input.
     fn take(&mut self, output: &mut W, fields: &mut ByteRecord) -> Result<bool, RunFault>
         ensures { TakesNext happens (self.old, output.old) (self.new, output.new) result (fields_of fields.new) };
 
@@ -24,18 +27,43 @@ pub trait Session<W> {
         ensures { Writes happens (self.old, output.old) text.now (self.new, output.new) result };
 }
 
+/// Reads the next record into `fields`. Returns false if there is none.
 #[tactic(auto, using(crate::proofs::SessionLemmas::stopped))]
-impl<R: Read + Drop, W: Write> Session<W> for Reader<R> {
-    ghost happens = { λ a e b. CsvHappens R.remaining a.0 b.0 (W.contents a.1) (W.contents b.1) e };
+fn read_record<R: Read + Drop>(
+    reader: &mut Reader<R>,
+    fields: &mut ByteRecord,
+) -> Result<bool, RunFault>
+    ensures { ReadsNext R.remaining reader.old reader.new result (fields_of fields.new) }
+{
+    match reader.read_byte_record(fields) {
+        Ok(found) => Ok(found),
+        Err(error) => Err(match error.kind() {
+            ErrorKind::OutOfMemory => RunFault::Memory,
+            _ => RunFault::Read,
+        }),
+    }
+}
 
-    fn take(&mut self, _output: &mut W, fields: &mut ByteRecord) -> Result<bool, RunFault> {
-        match self.read_byte_record(fields) {
-            Ok(found) => Ok(found),
-            Err(error) => Err(match error.kind() {
-                ErrorKind::OutOfMemory => RunFault::Memory,
-                _ => RunFault::Read,
-            }),
-        }
+/// Flushes an output if the source may wait. `Write` is the fault if it fails.
+fn flush_before<W: Write>(waits: bool, output: &mut W) -> Result<(), RunFault>
+    ensures bytes { Keeps (W.contents output.old) (W.contents output.new) }
+    ensures fault { IfErr result (λ e. e ≡ RunFault.Write) }
+{
+    if !waits {
+        return Ok(());
+    }
+    flush(output)
+}
+
+impl<R: Read + Drop, W: Write> Session<W> for Reader<Lines<R>> {
+    ghost use Rattle.olr_sessions.specs.Buffers.{unread};
+
+    ghost happens = { λ a e b. CsvHappens (unread R.remaining) a.0 b.0 (W.contents a.1) (W.contents b.1) e };
+
+    fn take(&mut self, output: &mut W, fields: &mut ByteRecord) -> Result<bool, RunFault> {
+        let waits = self.get_ref().may_wait();
+        flush_before(waits, output)?;
+        read_record(self, fields)
     }
 
     fn answer(&mut self, output: &mut W, text: &[u8]) -> Result<(), RunFault> {

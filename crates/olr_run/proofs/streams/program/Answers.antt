@@ -16,5 +16,5 @@ pub returns-clause-ends : goal.returns-clause-ends
 returns-clause-ends g c =
     let r = c.run_both-ended.ensures in
     ended_as g.O.FnOnce g.F.Read.remaining c.args.opener _ (options_of c.in-Ok.options) _ _ _ c.in-Ok.ensures.kinds
-    c.in-Ok.ensures.ok c.in-Ok-open_file.file _ _ c.run_both-ended.result _ c.in-Ok-open_file.ensures r.ran r.faulted
-    r.too_many c.end_status.ensures.code
+    c.in-Ok.ensures.ok c.in-Ok-open_file.file _ _ _ c.run_both-ended.result c.send_answers.result _
+    c.in-Ok-open_file.ensures r.ran r.faulted r.too_many c.send_answers.ensures.ends c.end_status.ensures.code

@@ -1,0 +1,102 @@
+//! An output that holds bytes back until it is flushed.
+
+ghost use Rattle.std.specs.Prelude.{◌≡◌, ◌≤◌, [], length, take, drop, vec_len, IfOk, OnOk};
+ghost use Rattle.std.specs.Io.KnownBytes.{Appends, Keeps};
+ghost use Rattle.olr_sessions.specs.Sessions.{most_held};
+
+use std::alloc::{AllocError, Global};
+use std::io;
+use std::io::{ErrorKind, Write};
+
+/// The most bytes that are held back, 64 KB.
+const MOST_HELD: usize = 1 << 16;
+
+/// An output that holds back what is written, at most 64 KB of it, until it is flushed. It sends nothing by itself, not
+/// even when it is dropped, and nothing more once its device has failed.
+#[derive(Drop)]
+pub struct Buffered<W: Drop> {
+    device: W,
+    held: Vec<u8>,
+    failed: bool,
+    ghost bounded: { length held.items ≤ most_held },
+}
+
+/// Sends bytes to a device until all are sent or it fails. Returns how many were sent.
+#[tactic(auto, using(crate::proofs::Writing::written_more))]
+fn send<W: Write>(device: &mut W, bytes: &[u8]) -> usize
+    ensures bound { result ≤ length bytes.now }
+    ensures sent { Appends (W.contents device.old) (W.contents device.new) (take result bytes.now) }
+{
+    let mut sent = 0;
+    while sent < bytes.len() {
+        match device.write(&bytes[sent..]) {
+            Ok(taken) if taken > 0 => sent += taken,
+            _ => return sent,
+        }
+    }
+    sent
+}
+
+/// Removes the first bytes.
+fn remove_front(bytes: &mut Vec<u8>, count: usize)
+    requires { count ≤ vec_len bytes.old }
+    ensures { bytes.new.items ≡ drop count bytes.old.items }
+{
+    let len = bytes.len();
+    bytes.as_mut_slice().copy_within(count..len, 0);
+    bytes.truncate(len - count);
+}
+
+impl<W: Write + Drop> Buffered<W> {
+    ghost use Rattle.olr_sessions.specs.Buffers.{held};
+
+    /// An output to this device. Every byte that it will hold has its place from the start.
+    pub fn new(alloc: Global, device: W) -> Result<Buffered<W>, AllocError>
+        ensures device { IfOk result (λ b. b.device ≡ device) }
+        ensures empty { IfOk result (λ b. held b ≡ []) }
+    {
+        Ok(Buffered {
+            device,
+            held: Vec::with_capacity(alloc, MOST_HELD)?,
+            failed: false,
+        })
+    }
+}
+
+impl<W: Write + Drop> Write for Buffered<W> {
+    ghost use Rattle.olr_sessions.specs.Buffers.{held, written};
+
+    ghost contents = { λ b. written W.contents b };
+
+    /// Holds bytes back. Takes nothing of a text for which there is no room beside others, so that texts leave whole if
+    /// they are no longer than the room for all.
+    fn write(&mut self, bytes: &[u8]) -> io::Result<usize> {
+        let room = MOST_HELD - self.held.len();
+        let taken = if bytes.len() <= room {
+            bytes.len()
+        } else if self.held.is_empty() {
+            room
+        } else {
+            0
+        };
+        self.held.extend_from_slice(&bytes[..taken])?;
+        Ok(taken)
+    }
+
+    /// Sends what is held.
+    fn flush(&mut self) -> io::Result<()>
+        ensures bytes { Keeps (written W.contents self.old) (written W.contents self.new) }
+        ensures sent { OnOk result (held self.new ≡ []) }
+    {
+        if self.failed {
+            return Err(io::Error::from(ErrorKind::BrokenPipe));
+        }
+        let sent = send(&mut self.device, self.held.as_slice());
+        remove_front(&mut self.held, sent);
+        if !self.held.is_empty() {
+            self.failed = true;
+            return Err(io::Error::from(ErrorKind::BrokenPipe));
+        }
+        self.device.flush()
+    }
+}

@@ -1,0 +1,92 @@
+//! A source that reads blocks and gives them line by line.
+
+ghost use Rattle.std.specs.Prelude.{◌≡◌, ◌≤◌, length, true, false, not, IfOk};
+ghost use Rattle.olr_sessions.specs.Lines.{IsWhole, has_line, is_line_end};
+
+use std::alloc::{AllocError, Global};
+use std::io;
+use std::io::{BufReader, Read};
+
+/// The most bytes that are read at once, 64 KB.
+const BLOCK: usize = 1 << 16;
+
+/// Whether a byte ends a record outside of quotes.
+fn ends_line(byte: u8) -> bool
+    ensures { result ≡ is_line_end byte }
+{
+    byte == b'\n' || byte == b'\r'
+}
+
+/// The number of bytes up to the first that ends a line, or of all bytes.
+fn line_length(bytes: &[u8]) -> usize
+    ensures { result ≤ length bytes.now }
+{
+    for i in 0..bytes.len() {
+        if ends_line(bytes[i]) {
+            return i + 1;
+        }
+    }
+    bytes.len()
+}
+
+/// Whether bytes begin with a line that ends, isn't empty and has no quote, after empty lines: csv reads a whole record
+/// from it.
+fn begins_with_line(bytes: &[u8]) -> bool
+    ensures { result ≡ has_line false bytes.now }
+{
+    let mut has_bytes = false;
+    for i in 0..bytes.len() {
+        if bytes[i] == b'"' {
+            return false;
+        }
+        if !ends_line(bytes[i]) {
+            has_bytes = true;
+        } else if has_bytes {
+            return true;
+        }
+    }
+    false
+}
+
+/// A source that reads blocks of its input, and gives them line by line. So a csv reader that has read a record from it
+/// holds no byte of the next one.
+#[derive(Drop)]
+pub struct Lines<R: Drop> {
+    block: BufReader<R>,
+}
+
+impl<R: Read + Drop> Lines<R> {
+    ghost use Rattle.olr_sessions.specs.Buffers.{at_hand, unread};
+
+    /// The lines of an input.
+    pub fn new(alloc: Global, input: R) -> Result<Lines<R>, AllocError>
+        ensures { IfOk result (λ l. unread R.remaining l ≡ R.remaining input) }
+    {
+        match BufReader::with_capacity(alloc, BLOCK, input) {
+            Ok(block) => Ok(Lines { block }),
+            Err(_error) => Err(AllocError),
+        }
+    }
+
+    /// Whether the next record may need a read of the input, which may wait.
+    #[tactic(auto, using(crate::proofs::WholeLines::whole_line))]
+    pub fn may_wait(&self) -> bool
+        ensures is { result ≡ not (has_line false (at_hand self.now)) }
+        ensures whole { result ≡ false → IsWhole (at_hand self.now) }
+    {
+        !begins_with_line(self.block.buffer())
+    }
+}
+
+impl<R: Read + Drop> Read for Lines<R> {
+    ghost use Rattle.olr_sessions.specs.Buffers.{unread};
+
+    ghost remaining = { unread R.remaining };
+
+    /// Of a new block only the first byte is given at first.
+    fn read(&mut self, bytes: &mut [u8]) -> io::Result<usize> {
+        let line = line_length(self.block.buffer());
+        let most = line.max(1).min(bytes.len());
+        self.block.read(&mut bytes[..most])
+    }
+}
