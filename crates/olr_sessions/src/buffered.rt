@@ -61,6 +61,13 @@ impl<W: Write + Drop> Buffered<W> {
             failed: false,
         })
     }
+
+    /// The device, which has what was sent.
+    pub fn get_ref(&self) -> &W
+        ensures { result.now ≡ self.now.device }
+    {
+        &self.device
+    }
 }
 
 impl<W: Write + Drop> Write for Buffered<W> {

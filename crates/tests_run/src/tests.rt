@@ -1,5 +1,5 @@
 use olr_register::Register;
-use olr_run::{RunFault, Status, exit_code, program, run, run_both};
+use olr_run::{Buffered, RunFault, Status, exit_code, program, run, run_both};
 use std::alloc::Global;
 use std::io;
 use std::io::{Read, Write};
@@ -52,7 +52,7 @@ fn outage() -> Slow {
     Slow::new("node,1,0,0\n", 100, 0)
 }
 
-/// A writer that takes `step` bytes per call, and at one call fails or takes nothing.
+/// A writer that takes `step` bytes per call. At one call it fails, or from there on it takes nothing.
 #[derive(Drop)]
 struct Narrow {
     taken: Vec<u8>,
@@ -78,12 +78,11 @@ impl Write for Narrow {
     fn write(&mut self, from: &[u8]) -> io::Result<usize> {
         let call = self.calls;
         self.calls = call.saturating_add(1);
+        if self.takes_nothing && call >= self.fails_at {
+            return Ok(0);
+        }
         if call == self.fails_at {
-            return if self.takes_nothing {
-                Ok(0)
-            } else {
-                Err(io::Error::from(io::ErrorKind::Other))
-            };
+            return Err(io::Error::from(io::ErrorKind::Other));
         }
         let taken = from.len().min(self.step);
         self.taken.extend_from_slice(&from[..taken])?;
@@ -202,15 +201,9 @@ fn forms_of_records(rt: HostRuntime) {
     expect_replies(&rt, two, "ok,0\nok,0\n", Status::AllAccepted);
 }
 
-/// How many bytes a reader has returned before a call. The first byte is read alone, since a byte order mark may begin
-/// there.
+/// How many bytes a reader has returned before a call.
 fn given_before(call: usize, step: usize) -> usize {
-    if call == 0 {
-        return 0;
-    }
-    call.saturating_sub(1)
-        .saturating_mul(step)
-        .saturating_add(1)
+    call.saturating_mul(step)
 }
 
 /// The number of calls that a run makes, with the one that finds the end.
@@ -340,7 +333,7 @@ fn first_run_that_ends_both(rt: HostRuntime) {
     expect_both(&rt, file, outage(), true, "fault,1,Syntax\n", stopped);
     let file = Some(whole("node,1,0,0\n"));
     expect_both(&rt, file, outage(), true, "ok,0\n", failed);
-    let file = Some(Slow::new("node,1,0,0\n", 100, 2));
+    let file = Some(Slow::new("node,1,0,0\n", 100, 1));
     expect_both(&rt, file, whole("x\n"), false, "ok,0\n", failed);
 }
 
@@ -360,6 +353,14 @@ fn statuses(rt: HostRuntime) {
     }
 }
 
+/// An output to a device.
+fn output_to<R: Abort + AllocGlobal, W: Write + Drop>(rt: &R, device: W) -> Buffered<W> {
+    match Buffered::new(rt.alloc(), device) {
+        Ok(output) => output,
+        Err(_) => panic!(rt; "no memory"),
+    }
+}
+
 /// Runs the program with arguments and an input; the file that they name has these records, or does not exist.
 fn expect_program<R: Abort + AllocGlobal>(
     rt: &R,
@@ -371,7 +372,7 @@ fn expect_program<R: Abort + AllocGlobal>(
     expected: &str,
 ) {
     let mut register = Register::new(rt.alloc());
-    let mut output = Vec::new(rt.alloc());
+    let mut output = output_to(rt, Vec::new(rt.alloc()));
     let mut errors = Vec::new(rt.alloc());
     let records = file.map(|text| text.as_bytes());
     let ended = program(
@@ -386,7 +387,7 @@ fn expect_program<R: Abort + AllocGlobal>(
         &mut output,
         &mut errors,
     );
-    let found = (ended, output.as_slice(), errors.as_slice());
+    let found = (ended, output.get_ref().as_slice(), errors.as_slice());
     let wanted = (status, replies.as_bytes(), expected.as_bytes());
     assert_eq!(rt; found, wanted, "of {arguments:?}");
     let_go(register);
@@ -415,10 +416,16 @@ fn whole_programs(rt: HostRuntime) {
     expect_program(&rt, named, Some(node), outage(), 3, "ok,0\n", unread);
 }
 
-/// Runs the program with arguments, and a writer that fails at the first call.
-fn expect_write_fault<R: Abort + AllocGlobal>(rt: &R, arguments: &[&str]) {
+/// Runs the program with arguments, and a writer that fails at this call or takes nothing: the bytes before were sent,
+/// and none afterwards.
+fn expect_write_fault<R: Abort + AllocGlobal>(
+    rt: &R,
+    arguments: &[&str],
+    fails_at: usize,
+    takes_nothing: bool,
+) {
     let mut register = Register::new(rt.alloc());
-    let mut output = Narrow::new(rt.alloc(), 100, 0, false);
+    let mut output = output_to(rt, Narrow::new(rt.alloc(), 1, fails_at, takes_nothing));
     let mut errors = Vec::new(rt.alloc());
     let ended = program(
         rt.alloc(),
@@ -429,15 +436,85 @@ fn expect_write_fault<R: Abort + AllocGlobal>(rt: &R, arguments: &[&str]) {
         &mut output,
         &mut errors,
     );
-    let wanted = (3, b"olr-keep: write fault\n".as_slice());
-    assert_eq!(rt; (ended, errors.as_slice()), wanted, "of {arguments:?}");
+    let sent = output.get_ref().taken.len();
+    let wanted = (3, b"olr-keep: write fault\n".as_slice(), fails_at);
+    assert_eq!(rt; (ended, errors.as_slice(), sent), wanted, "of {arguments:?}");
     let_go(register);
 }
 
 #[test]
 fn write_fault_of_the_program(rt: HostRuntime) {
-    expect_write_fault(&rt, &["olr-keep"]);
-    expect_write_fault(&rt, &["olr-keep", "--help"]);
+    for fails_at in 0..REPLIES.len() {
+        expect_write_fault(&rt, &["olr-keep"], fails_at, false);
+        expect_write_fault(&rt, &["olr-keep"], fails_at, true);
+    }
+    expect_write_fault(&rt, &["olr-keep", "--help"], 0, false);
+    expect_write_fault(&rt, &["olr-keep", "--help"], 7, true);
+}
+
+/// Writes a text to an output, and asserts how many bytes it took, and what it has sent.
+fn expect_taken<R: Abort + AllocGlobal>(
+    rt: &R,
+    output: &mut Buffered<Narrow>,
+    text: &[u8],
+    taken: usize,
+    sent: &[u8],
+) {
+    let found = match output.write(text) {
+        Ok(count) => count,
+        Err(_) => panic!(rt; "not written"),
+    };
+    assert_eq!(rt; (found, output.get_ref().taken.as_slice()), (taken, sent));
+}
+
+#[test]
+fn bytes_that_are_held(rt: HostRuntime) {
+    let mut output = output_to(&rt, Narrow::new(rt.alloc(), 3, 1000, false));
+    expect_taken(&rt, &mut output, b"ok,0\n", 5, b"");
+    expect_taken(&rt, &mut output, b"held,1\n", 7, b"");
+    assert!(rt; output.flush().is_ok());
+    expect_taken(&rt, &mut output, b"ok,2\n", 5, b"ok,0\nheld,1\n");
+    let long = [b'x'; 65536];
+    expect_taken(&rt, &mut output, &long, 0, b"ok,0\nheld,1\n");
+    expect_taken(&rt, &mut output, &long[5..], 65531, b"ok,0\nheld,1\n");
+    expect_taken(&rt, &mut output, b"o", 0, b"ok,0\nheld,1\n");
+}
+
+/// An output whose device failed sends nothing more.
+#[test]
+fn device_that_failed(rt: HostRuntime) {
+    let mut output = output_to(&rt, Narrow::new(rt.alloc(), 3, 1, false));
+    expect_taken(&rt, &mut output, b"ok,0\n", 5, b"");
+    assert!(rt; output.flush().is_err());
+    expect_taken(&rt, &mut output, b"ok,1\n", 5, b"ok,");
+    assert!(rt; output.flush().is_err());
+    expect_taken(&rt, &mut output, b"", 0, b"ok,");
+}
+
+/// More answers than an output holds: all are sent, in their order.
+#[test]
+fn many_answers(rt: HostRuntime) {
+    let mut records = Vec::new(rt.alloc());
+    let mut replies = Vec::new(rt.alloc());
+    for _ in 0..10000 {
+        let added = records.extend_from_slice(b"x\n").is_ok()
+            && replies.extend_from_slice(b"fault,1,Syntax\n").is_ok();
+        assert!(rt; added);
+    }
+    let mut register = Register::new(rt.alloc());
+    let mut output = output_to(&rt, Vec::new(rt.alloc()));
+    let mut errors = Vec::new(rt.alloc());
+    let ended = program(
+        rt.alloc(),
+        &mut register,
+        &["olr-keep"],
+        |_: &str| Ok("".as_bytes()),
+        records.as_slice(),
+        &mut output,
+        &mut errors,
+    );
+    assert!(rt; ended == 1 && output.get_ref().as_slice() == replies.as_slice());
+    let_go(register);
 }
 
 #[test]
