@@ -14,7 +14,8 @@ from collections import defaultdict
 from typing import NamedTuple
 
 DEGREE = 111_195.0  # metres of a degree of latitude
-SNAP = 1.0  # metres between an end of the course and a node that are taken as none
+SNAP = 1.0  # metres along a line between an end of the course and a node that are taken as none
+DRAWN = 5.0  # the same for a course that was drawn, or is from another map
 SAMPLE = 10.0  # metres between the points at which a line is compared with the course
 SHARE = 0.01
 OTHER = 0.01  # the added mean distance of a line that isn't preferred
@@ -73,6 +74,21 @@ class Polyline:
             part = min(1.0, max(0.0, ((point[0] - x) * dx + (point[1] - y) * dy) / size)) if size else 0.0
             yield math.hypot(x + part * dx - point[0], y + part * dy - point[1]), self.far[k] + part * math.sqrt(size)
 
+    def distance(self, point, first, last):
+        """The distance of a point from the segments from `first` up to, but not including, `last`."""
+        px, py = point
+        least = math.inf
+        for (x, y), (u, v) in zip(self.points[first:last], self.points[first + 1 : last + 1]):
+            dx, dy, qx, qy = u - x, v - y, px - x, py - y
+            size = dx * dx + dy * dy
+            part = (qx * dx + qy * dy) / size if size else 0.0
+            part = 0.0 if part < 0 else 1.0 if part > 1 else part
+            ex, ey = qx - part * dx, qy - part * dy
+            far = ex * ex + ey * ey
+            if far < least:
+                least = far
+        return math.sqrt(least)
+
     def samples(self, begin, end):
         """Positions between two positions: those of the points, and further ones so that none are more than SAMPLE apart."""
         low, high = bisect.bisect_right(self.far, begin), bisect.bisect_left(self.far, end)
@@ -101,11 +117,11 @@ class Plane:
 class Follower:
     """The search for the lines that follow one course."""
 
-    def __init__(self, course, lines, tolerance, preferred):
+    def __init__(self, course, lines, tolerance, preferred, snap):
         lats = [it[1] for it in course]
         self.plane = Plane((min(lats) + max(lats)) / 2)
         self.course = Polyline([self.plane.flat(it) for it in course])
-        self.lines, self.tolerance, self.preferred = lines, tolerance, preferred
+        self.lines, self.tolerance, self.preferred, self.snap = lines, tolerance, preferred, snap
         self.shapes = {number: Polyline([self.plane.flat(it) for it in line.points]) for number, line in lines.items()}
         self.cell = max(tolerance, 50.0)
         self.cells = defaultdict(set)
@@ -147,14 +163,15 @@ class Follower:
             return None
         total = count = 0
         for at in shape.samples(begin, end):
-            point, along = shape.at(at), low + (at - begin) / (length or 1) * wanted
-            near = (far for far, there in self.course.project(point, self.segments_near(point)) if abs(there - along) <= slack)
-            far = min(near, default=math.inf)
+            along = low + (at - begin) / (length or 1) * wanted
+            first = max(0, bisect.bisect_left(self.course.far, along - slack) - 1)
+            last = bisect.bisect_right(self.course.far, along + slack)
+            far = self.course.distance(shape.at(at), first, min(last, len(self.course.far) - 1))
             if far > self.tolerance:
                 return None
             total, count = total + far, count + 1
         for k in range(bisect.bisect_right(self.course.far, low), bisect.bisect_left(self.course.far, high)):
-            if min(far for far, _ in shape.project(self.course.points[k])) > self.tolerance:
+            if shape.distance(self.course.points[k], 0, len(shape.far) - 1) > self.tolerance:
                 return None
         other = 0 if self.lines[number].street in self.preferred else OTHER
         return (total / count + other) * length + 1e-4
@@ -165,8 +182,10 @@ class Follower:
         for name, point in ((START, self.course.points[0]), (END, self.course.points[-1])):
             found[name] = {}
             for number, shape in self.shapes.items():
+                if shape.distance(point, 0, len(shape.far) - 1) > self.tolerance:
+                    continue
                 far, at = min(shape.project(point))
-                if far <= self.tolerance and SNAP < at < shape.length - SNAP:
+                if far <= self.tolerance and self.snap < at < shape.length - self.snap:
                     found[name][number] = at
         return found
 
@@ -266,9 +285,9 @@ class Follower:
         return round(metres / (self.shapes[number].length or 1) * self.lines[number].length)
 
 
-def follow(course, lines, tolerance=20.0, preferred=frozenset()):
+def follow(course, lines, tolerance=20.0, preferred=frozenset(), snap=SNAP):
     """The lines that follow a course, or why there are none: `Found` or `Lost`. Lines on preferred streets are taken before
-    others that are as near."""
+    others that are as near. An end of the course within `snap` metres of a node along a line is at the node."""
     if len(course) < 2 or len(set(course)) < 2:
         return Lost("its course has no two different coordinates", course[0] if course else (0.0, 0.0))
-    return Follower(course, lines, tolerance, preferred).search()
+    return Follower(course, lines, tolerance, preferred, snap).search()

@@ -225,8 +225,18 @@ begin
 end $$;
 comment on function olr_keep.release is 'Lets a held round be published, if it still changes no more than it said.';
 
--- A geometry in degrees without Z and M, or NULL if its coordinates can't be transformed.
-create or replace function olr_keep.degrees(geom geometry) returns geometry language plpgsql immutable strict parallel safe as $$
+create or replace function olr_keep.records() returns setof text language sql stable as $$
+    select format('node,%s,%s,%s', node, trim_scale(round(((place >> 31) - 1800000000) / 1e7, 7)),
+        trim_scale(round(((place & 2147483647) - 900000000) / 1e7, 7))) from olr_keep.node
+    union all select format('line,%s,%s,%s,%s', line, from_node, to_node, fields) from olr_keep.line
+    union all select format('path,%s,%s,%s,%s', name, start_offset, end_offset, array_to_string(lines, ',')) from olr_keep.string
+        where cardinality(lines) > 0
+$$;
+comment on function olr_keep.records is 'The records of the map and the paths as they are published, for the other tools.';
+
+-- A geometry in degrees without Z and M, or NULL if its coordinates can't be transformed. Not for parallel queries, since it
+-- catches errors.
+create or replace function olr_keep.degrees(geom geometry) returns geometry language plpgsql immutable strict as $$
 begin
     if ST_SRID(geom) = 4326 then
         return ST_Force2D(geom);

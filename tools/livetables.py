@@ -95,9 +95,9 @@ def connect(database, idle):
 
 def check_schema(cursor):
     """Fails if the schema is missing."""
-    cursor.execute("select to_regclass('olr_keep.string') is null")
+    cursor.execute("select to_regprocedure('olr_keep.records()') is null")
     if cursor.fetchone()[0]:
-        raise psycopg2.ProgrammingError("the database has no schema olr_keep; tools/live.sql makes it")
+        raise psycopg2.ProgrammingError("the database has no schema olr_keep, or that of another version: run tools/live.sql")
 
 
 def try_lock(cursor):
@@ -731,14 +731,5 @@ def write_path_problems(cursor, change, outcome):
 
 def write_records(cursor, file):
     """Writes the records of the tables' map and paths, and returns their number."""
-    count = 0
-    for query in (
-        """select format('node,%s,%s,%s', node, trim_scale(round(((place >> 31) - 1800000000) / 1e7, 7)),
-            trim_scale(round(((place & 2147483647) - 900000000) / 1e7, 7))) from olr_keep.node order by node""",
-        "select format('line,%s,%s,%s,%s', line, from_node, to_node, fields) from olr_keep.line order by line",
-        """select format('path,%s,%s,%s,%s', name, start_offset, end_offset, array_to_string(lines, ',')) from olr_keep.string
-            where cardinality(lines) > 0 order by name""",
-    ):
-        cursor.copy_expert(f"copy ({query}) to stdout", file)
-        count += cursor.rowcount
-    return count
+    cursor.copy_expert("copy (select olr_keep.records()) to stdout", file)
+    return cursor.rowcount

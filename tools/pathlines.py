@@ -4,7 +4,7 @@ import math
 from collections import defaultdict
 from typing import NamedTuple, Optional
 
-from courses import Found, Ground, Lost, Plane, Polyline, follow
+from courses import DRAWN, Found, Ground, Lost, Plane, Polyline, follow
 from streets import wkb_parts
 
 AGAINST = 1e6  # the cost of a street against its geometry where its direction isn't given
@@ -119,12 +119,12 @@ class Finder:
             found = attempt(known)
             if isinstance(found, Found):
                 return found
-            lost = lost or found
+            lost = found or lost
         for attempt in (self.by_streets, self.by_course):
             found = attempt(wanted)
             if isinstance(found, Found):
                 return found
-            lost = found or lost
+            lost = lost or found
         return lost or Lost("it has neither streets nor a course", None)
 
     def kept(self, known):
@@ -149,7 +149,7 @@ class Finder:
 
     def by_course(self, wanted):
         """The lines that follow the drawn course."""
-        return wanted.course and follow(list(wanted.course), self.near(wanted.course), self.tolerance)
+        return wanted.course and follow(list(wanted.course), self.near(wanted.course), self.tolerance, snap=DRAWN)
 
     def by_last_streets(self, known):
         """The lines of the streets that the path led over, from its last start to its last end."""
@@ -164,7 +164,7 @@ class Finder:
             length = sum(self.rows[it].length for it in found.lines) - found.start - found.end
             before = 10 * length_of(known.course)
             if not before / 2 - 1000 <= length <= before * 2 + 1000:
-                return Lost("its streets have another length", known.course[0])
+                return Lost("its streets lead from its start to its end by more than twice or less than half its length", known.course[0])
         return found
 
     def by_streets(self, wanted):

@@ -19,6 +19,7 @@ LONGEST = 14_900.0  # metres; between two location reference points are 15 km at
 WIDEST = 3_200_000  # units; between two location reference points is a third of a degree at most
 MOST_SHAPE = 990  # shape points of a line; the program takes 1,000
 DIRECTIONS = ("both", "along", "against")
+ALIKE = 100  # units within which vertices of a street that has another id are the same
 NEAR = 20.0  # metres within which a line between the same nodes is the same stretch of road
 
 
@@ -341,6 +342,36 @@ def from_origin(a, b):
     return math.hypot(a[0] + part * dx, a[1] + part * dy)
 
 
+def renamed(before, after):
+    """The streets that are there under another id: old key to new key, for streets of the same vertices, each within ALIKE units."""
+    fresh, found = defaultdict(list), {}
+    for key, street in after.items():
+        if not before.get(key):
+            fresh[cell(street.parts)].append(key)
+    for key, parts in before.items():
+        if not parts or key in after or not fresh:
+            continue
+        x, y, *sizes = cell(parts)
+        near = (it for dx in (-1, 0, 1) for dy in (-1, 0, 1) for it in fresh.get((x + dx, y + dy, *sizes), ()))
+        match = next((it for it in near if is_alike(parts, after[it].parts)), None)
+        if match is not None:
+            found[key] = match
+            fresh[cell(after[match].parts)].remove(match)
+    return found
+
+
+def cell(parts):
+    """The cell of a grid in which a street begins, and how many vertices its parts have."""
+    lon, lat = units(parts[0][0])
+    return (lon // ALIKE, lat // ALIKE, *map(len, parts))
+
+
+def is_alike(parts, others):
+    """Whether all vertices of two streets are within ALIKE units of each other, on each axis."""
+    pairs = zip(itertools.chain(*parts), itertools.chain(*others))
+    return all(abs(x - y) <= ALIKE for a, b in pairs for x, y in zip(units(a), units(b)))
+
+
 class Cut(NamedTuple):
     """What a change of streets makes of the map: places of new nodes, moved and dropped nodes, and the lines in three kinds."""
 
@@ -361,12 +392,12 @@ def recut(before, after, lines, nodes, others, new_nodes, new_lines):
     """
     meeting = meeting_places(after.values(), others)
     cuts = set().union(*(cut_places(it, meeting) for it in after.values()))
-    votes = defaultdict(set)
-    ends = defaultdict(set)
+    votes, ends, new_keys = defaultdict(set), defaultdict(set), renamed(before, after)
     for line in lines:
         ends[line.street].update((line.start, line.end))
     for key, numbers in ends.items():
-        now = after[key].parts if key in after else ()
+        name = new_keys.get(key, key)
+        now = after[name].parts if name in after else ()
         where = {} if now == before[key] else images(before[key], now)
         for node in numbers:
             place = nodes[node] if now == before[key] else where.get(nodes[node])
