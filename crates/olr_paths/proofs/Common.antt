@@ -12,19 +12,18 @@ pub use Rattle.olr_list.proofs.Common.{sym, map, ◌≡◌, ◌∙◌, ◌-◌, 
 pub use Rattle.olr_list.specs.Items.{AreEncodingsIfAny, IsEncodingOf}
 pub use Rattle.olr_list.specs.declared.path_list.NamedPath.{NamedPath}
 pub use Rattle.olr_list.specs.declared.published.Published.{Published}
-pub use Rattle.olr_paths.specs.Changes.{IsEncodedAgain, SearchesItem, AreSearched, IsAffected, AreCounts, IsSpared}
-pub use Rattle.olr_paths.specs.Changes.{IsBefore, Follows, By_name, By_node, By_line, Rises}
+pub use Rattle.olr_paths.specs.Changes.{IsEncodedAgain, SearchesItem, IsAffected, IsSpared, SearchedAlone}
+pub use Rattle.olr_paths.specs.Changes.{IsBefore, Follows, By_name, By_node, By_line}
 pub use Rattle.olr_paths.specs.Renewing.{after_renewal, EncodedAgain, Retained, Gives}
-pub use Rattle.olr_paths.specs.declared.renewal.Counted.{Counted}
 pub use Rattle.olr_paths.specs.declared.renewal.Renewal.{Renewal}
-pub use Rattle.olr_refs.specs.Choice.{raised_count, SettledBy}
+pub use Rattle.olr_refs.specs.Choice.{AreSearched}
 pub use Rattle.olr_search.specs.declared.work.Work.{Work}
 pub use Rattle.olr_spec.proofs.ListLemmas.{at_index}
 pub use Rattle.olr_spec.proofs.QueryLists.{query_from}
 pub use Rattle.olr_spec.specs.Detours.{AccountsFor}
 pub use Rattle.olr_spec.specs.Extension.{extended_path, is_path, first, last}
 pub use Rattle.olr_spec.specs.Queries.{SearchedOf, QueriesOf, AreKnown, IsKnown}
-pub use Rattle.std.proofs.Common.{MatchOption, unwrap_or, ◌^◌}
+pub use Rattle.std.proofs.Common.{MatchOption, unwrap_or}
 pub use Rattle.std.proofs.lemmas.List.Elements.{Contains-get_or, All-cons, All-nil}
 pub use Rattle.std.proofs.lemmas.List.Kept.{AllPairs-cons}
 pub use Rattle.std.specs.Prelude.{if◌then◌else◌}

@@ -1,5 +1,4 @@
 pub mod Common
-pub mod Raising
 pub mod KeptLemmas
 pub mod Following
 pub mod GivenQueries

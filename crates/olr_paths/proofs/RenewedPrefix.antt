@@ -1,9 +1,9 @@
 -- A list, as far as it was renewed: SoFar says it of the first paths, with the work. A list follows itself.
 use Rattle.olr_paths.proofs.Common.{slice_get_within, IsEncodedAgain, after_renewal, CoverageQuery, EncodedAgain, IsMap}
-use Rattle.olr_paths.proofs.Common.{raised_count, SearchesItem, IsEncodingOf, ChangedLine, IsAffected, cases_Bool, Some}
+use Rattle.olr_paths.proofs.Common.{SearchesItem, IsEncodingOf, ChangedLine, IsAffected, cases_Bool, Some}
 use Rattle.olr_paths.proofs.Common.{map-append, changed_of, option_map, all_named, answer_in, slice_get, NamedPath, has}
 use Rattle.olr_paths.proofs.Common.{Reported, lines_of, entry_of, at_index, IsSpared, nodes_of, Retained, IsBefore, ◌⊎◌}
-use Rattle.olr_paths.proofs.Common.{named_of, all_put, Renewal, Follows, Counted, puts_of, Answer, length, get_or, None}
+use Rattle.olr_paths.proofs.Common.{named_of, all_put, Renewal, Follows, puts_of, Answer, length, get_or, None}
 use Rattle.olr_paths.proofs.Common.{Option, Named, false, arith, Entry, entry, Work, ◌++◌, Item, take, refl, zero, List}
 use Rattle.olr_paths.proofs.Common.{Made, ◌+◌, suc, ◌<◌, ◌-◌, ◌∷◌, sym, ◌≡◌, ◌≤◌, inr, map, ◌∙◌, inl, Map, ap, [], ℕ}
 use Rattle.olr_commands.specs.Counts.{Collects, CountIs}
@@ -15,8 +15,11 @@ use Rattle.olr_paths.proofs.GivenQueries.{searches_item}
 use Rattle.olr_paths.proofs.KeptLemmas.{stays_retained, encoded_again, stays_unless, touched_by, spared_by}
 use Rattle.olr_paths.specs.Changes.{AreCounted, with_made, AreRemade, AreTotals, IsRemade, Totals}
 use Rattle.olr_paths.specs.Renewing.{ReportsIfOther, encoded_one, entries_of, spared_one, IsRenewal, WasBefore, made_at}
-use Rattle.olr_paths.specs.Renewing.{IsStep, Left}
-use Rattle.olr_refs.proofs.Noting.{settled_append, raised_more}
+use Rattle.olr_paths.specs.Renewing.{Counts, IsStep, Left, after_retained}
+use Rattle.olr_paths.specs.declared.renewal.Renewed.{Renewed}
+use Rattle.olr_refs.proofs.Noting.{raised_twice, searched_more, searched_none, searched_on}
+use Rattle.olr_search.specs.Counts.{no_work, raised_work}
+use Rattle.olr_refs.specs.Choice.{AreSearched}
 use Rattle.std.proofs.lemmas.List.{length-append}
 
 AreRemade-push : (N : Map) (is js : List Item) (i j : Item) → AreRemade N is js → IsRemade N i j →
@@ -57,25 +60,32 @@ module _ (L N : Map) (T X : List ℕ) (C : List ChangedLine) (is js : List Item)
         collect_both (IsEncodedAgain L N T X C) (SearchesItem L N C) is js t.queries u.queries g.queries h.queries;
   }
 
-raised_twice : (a b c n m : ℕ) → b ≡ raised_count a n → c ≡ raised_count b m → c ≡ raised_count a (n + m)
-raised_twice a b c n m h k = k ∙ ap (λ (x : ℕ). raised_count x m) h ∙ raised_more a n m
-
-counted_none : (N : Map) (c : Counted) → AreCounted N no_totals c.work c.work c.kept c.kept
-counted_none N c = record { encodings = refl; spared = refl; searched = record { searches = refl; settled = refl } }
-
 module _ (N : Map) (t u : Totals) (a b c : Work) (j k l : ℕ) where
   counted_both : AreCounted N t a b j k → AreCounted N u b c k l → AreCounted N (both t u) a c j l
   counted_both g h = record {
-    encodings = raised_twice a.encodings b.encodings c.encodings t.affected u.affected g.encodings h.encodings;
-    spared = raised_twice j k l t.spared u.spared g.spared h.spared;
-    searched = record {
-      searches = raised_twice a.searches b.searches c.searches (length t.queries) (length u.queries)
-          g.searched.searches h.searched.searches
-          ∙ ap (raised_count a.searches) (sym (length-append t.queries u.queries));
-      settled = settled_append N t.queries u.queries a.settled b.settled c.settled g.searched.settled
-          h.searched.settled;
-    };
+    encodings = raised_twice _ _ _ _ _ _ g.encodings h.encodings refl;
+    spared = raised_twice _ _ _ _ _ _ g.spared h.spared refl;
+    searched = searched_more N t.queries u.queries a b c g.searched h.searched;
   }
+
+counted_none : (N : Map) (w : Work) (n : ℕ) → AreCounted N no_totals w w n n
+counted_none N w n = record { encodings = omega arith; spared = omega arith; searched = searched_none N w }
+
+counted_retained : (N : Map) (r : Renewed) → Counts N spared_one r (after_retained r)
+counted_retained N r = record {
+  encodings = refl;
+  spared = refl;
+  searched = record { searches = omega arith; settled = ([], tt, omega arith) };
+}
+
+-- an encoding with its work
+pub counted_encoded : (N : Map) (queries : List CoverageQuery) (old w : Work) (n : ℕ) → w.encodings ≡ 1 →
+    AreSearched N queries no_work w → AreCounted N (encoded_one queries) old (raised_work old w) n n
+counted_encoded N queries old w n one searched = record {
+  encodings = omega arith;
+  spared = omega arith;
+  searched = searched_on N queries old w searched;
+}
 
 -- ---- the paths before a position, with the work
 
@@ -83,54 +93,54 @@ module _ (N : Map) (t u : Totals) (a b c : Work) (j k l : ℕ) where
 abbrev pub answer : Item → Option Answer
 answer i = option_map (λ m. m.answer) i.made
 
--- of the paths of a list the first are renewed: r has their results and reports them
-pub record SoFar (N : Map) (T X : List ℕ) (C : List ChangedLine) (before is : List Item) (old : Counted)
-    (first : List Item) (r : Renewal) (now : Counted) : Type 0 where
-  pub js : List Item
-  pub many : Totals
-  pub put : (ys : List Item) → all_put (first ++ ys) (made_at r) ≡ js ++ ys
-  pub named : all_named js ≡ all_named first
-  pub reported : (ks : List Item) (fs : List Entry) → Reported before ks fs →
-      Reported before (js ++ ks) (entries_of r ++ fs)
-  pub remade : (L : Map) → IsBefore L N T X C is → AreRemade N first js × AreTotals L N T X C first many
-  pub counted : AreCounted N many old.work now.work old.kept now.kept
+-- of the paths of a list the first are renewed: r has their results, reports them and counts them
+pub record SoFar (N : Map) (T X : List ℕ) (C : List ChangedLine) (before is first : List Item) (r : Renewal) : Type 0
+  where
+    pub js : List Item
+    pub many : Totals
+    pub put : (ys : List Item) → all_put (first ++ ys) (made_at r) ≡ js ++ ys
+    pub named : all_named js ≡ all_named first
+    pub reported : (ks : List Item) (fs : List Entry) → Reported before ks fs →
+        Reported before (js ++ ks) (entries_of r.renewed ++ fs)
+    pub remade : (L : Map) → IsBefore L N T X C is → AreRemade N first js × AreTotals L N T X C first many
+    pub counted : AreCounted N many no_work r.renewed.work 0 r.renewed.spared
 
-pub so_far_none : {N : Map} {T X : List ℕ} {C : List ChangedLine} {before is : List Item} (r : Renewal)
-    (work : Counted) → r.fresh.items ≡ [] → r.entries.items ≡ [] → SoFar N T X C before is work [] r work
-so_far_none {N} r work fresh entries = record {
+pub so_far_none : {N : Map} {T X : List ℕ} {C : List ChangedLine} {before is : List Item} (r : Renewal) →
+    r.fresh.items ≡ [] → r.renewed.entries.items ≡ [] → r.renewed.work ≡ no_work → r.renewed.spared ≡ 0 →
+    SoFar N T X C before is [] r
+so_far_none {N} r fresh entries work spared = record {
   js = [];
   many = no_totals;
   put = λ ys. ap (λ (es : List (ℕ × NamedPath)). all_put ys (puts_of es)) fresh;
   named = refl;
   reported = λ ks fs k. rw (ap (map entry_of) entries) k;
   remade = λ L q. (refl, record { affected = refl; spared = refl; queries = refl });
-  counted = counted_none N work;
+  counted = rw (work, spared) (counted_none N no_work 0);
 }
 
 -- for the whole list
-pub whole : {N : Map} {t : ChangeSet} {before is : List Item} {old : Counted} {now : Counted} (r : Renewal) →
-    ((L : Map) × WasBefore L N t is) → SoFar N (nodes_of t) (lines_of t) (changed_of t) before is old is r now →
-    IsRenewal N t before is (after_renewal r is) (entries_of r) old.work now.work old.kept now.kept
+pub whole : {N : Map} {t : ChangeSet} {before is : List Item} (r : Renewal) → ((L : Map) × WasBefore L N t is) →
+    SoFar N (nodes_of t) (lines_of t) (changed_of t) before is is r →
+    IsRenewal N t before is (after_renewal r is) r.renewed
 whole {N} {t} {before} {is} r b h =
     let put = rw (append-nil is, append-nil h.js) at (h.put []) in
     rw put (record {
       remade = (h.remade b.0 b.1).0;
       named = h.named;
-      reported = rw (append-nil h.js, append-nil (entries_of r)) at (h.reported [] [] refl);
+      reported = rw (append-nil h.js, append-nil (entries_of r.renewed)) at (h.reported [] [] refl);
       counted = λ L q. (h.many, (h.remade L q).1, h.counted);
     })
 
-module _ {N : Map} (n : IsMap N) {T X : List ℕ} {C : List ChangedLine} {before is : List Item} {old : Counted}
+module _ {N : Map} (n : IsMap N) {T X : List ℕ} {C : List ChangedLine} {before is : List Item}
     (follows : Follows before is) (position : ℕ) (i : Item) (at : slice_get is position ≡ Some i) where
   -- with the item j, and its totals, after what was stored
-  grown : (r s : Renewal) (now later : Counted) (j : Item) (A : Answer) (u : Totals)
-      (h : SoFar N T X C before is old (take position is) r now) →
+  grown : (r s : Renewal) (j : Item) (A : Answer) (u : Totals) (h : SoFar N T X C before is (take position is) r) →
       ((ys : List Item) → all_put (take position is ++ i ∷ ys) (made_at s) ≡ h.js ++ j ∷ ys) →
-      named_of j ≡ named_of i → answer j ≡ Some A → ReportsIfOther before j.name A (entries_of r) (entries_of s) →
+      named_of j ≡ named_of i → answer j ≡ Some A →
+      ReportsIfOther before j.name A (entries_of r.renewed) (entries_of s.renewed) →
       ((L : Map) → IsBefore L N T X C is → IsRemade N i j × AreTotals L N T X C (i ∷ []) u) →
-      AreCounted N u now.work later.work now.kept later.kept →
-      SoFar N T X C before is old (take (position + 1) is) s later
-  grown r s now later j A u h puts same is_A returned one counted = rw (take_more_at is position i at) (record {
+      Counts N u r.renewed s.renewed → SoFar N T X C before is (take (position + 1) is) s
+  grown r s j A u h puts same is_A returned one counted = rw (take_more_at is position i at) (record {
     js = h.js ++ j ∷ [];
     many = both h.many u;
     put = λ ys. rw (append_assoc (take position is) (i ∷ []) ys, append_assoc h.js (j ∷ []) ys) (puts ys);
@@ -139,23 +149,23 @@ module _ {N : Map} (n : IsMap N) {T X : List ℕ} {C : List ChangedLine} {before
         ∙ sym (map-append named_of (take position is) (i ∷ []));
     reported = λ ks fs k. rw (append_assoc h.js (j ∷ []) ks) (elim returned [
       | inl e ↦ rw e.1 (h.reported (j ∷ ks) fs (A, fs, is_A, k, inl (e.0, refl)))
-      | inr e ↦ rw (e.1, append_assoc (entries_of r) (entry j.name A ∷ []) fs)
+      | inr e ↦ rw (e.1, append_assoc (entries_of r.renewed) (entry j.name A ∷ []) fs)
           (h.reported (j ∷ ks) (entry j.name A ∷ fs) (A, fs, is_A, k, inr (e.0, refl)))
     ]);
     remade = λ L q. (
       AreRemade-push N (take position is) h.js i j (h.remade L q).0 (one L q).0,
       totals_both L N T X C (take position is) (i ∷ []) h.many u (h.remade L q).1 (one L q).1,
     );
-    counted = counted_both N h.many u old.work now.work later.work old.kept now.kept later.kept h.counted counted;
+    counted = counted_both N h.many u _ _ _ _ _ _ h.counted counted;
   })
 
   -- with the same item, built again
-  retained : (r : Renewal) (now later : Counted) (m : Made) (u : Totals) → i.made ≡ Some m →
-      SoFar N T X C before is old (take position is) r now →
+  retained : (r s : Renewal) (m : Made) (u : Totals) → i.made ≡ Some m →
+      SoFar N T X C before is (take position is) r → made_at s ≡ made_at r →
+      entries_of s.renewed ≡ entries_of r.renewed →
       ((L : Map) → IsBefore L N T X C is → IsEncodingOf N i.path m × AreTotals L N T X C (i ∷ []) u) →
-      AreCounted N u now.work later.work now.kept later.kept →
-      SoFar N T X C before is old (take (position + 1) is) r later
-  retained r now later m u some h one counted =
+      Counts N u r.renewed s.renewed → SoFar N T X C before is (take (position + 1) is) s
+  retained r s m u some h puts entries one counted =
       let is_A : answer i ≡ Some m.answer = ap (option_map (λ (k : Made). k.answer)) some in
       let answered : answer_in before i.name ≡ Some m.answer =
       elim (at_position (Follows before) (λ j. (j.made ≡ None) ⊎ (answer_in before j.name ≡ answer j)) (λ x xs f. f) is
@@ -163,13 +173,13 @@ module _ {N : Map} (n : IsMap N) {T X : List ℕ} {C : List ChangedLine} {before
         | inl none ↦ let never : ⊥ = cc in absurd never
         | inr same ↦ same ∙ is_A
       ] in
-      grown r r now later i m.answer u h (λ ys. h.put (i ∷ ys)) refl is_A (inl (answered, refl))
+      grown r s i m.answer u h (λ ys. rw puts (h.put (i ∷ ys))) refl is_A (inl (answered, entries))
       (λ L q. ((m, (one L q).0, (λ k. record { name = i.name; path = i.path; made = some k })), (one L q).1)) counted
 
-  pub so_far_step : {r s : Renewal} {now later : Counted} → SoFar N T X C before is old (take position is) r now →
-      IsStep N T X C before i position r s now later → SoFar N T X C before is old (take (position + 1) is) s later
-  so_far_step {r} {s} {now} {later} h (Left f same still) =
-      rw (same, still) (retained r now now f.0 no_totals f.1 h (λ L q.
+  pub so_far_step : {r s : Renewal} → SoFar N T X C before is (take position is) r →
+      IsStep N T X C before i position r s → SoFar N T X C before is (take (position + 1) is) s
+  so_far_step {r} {s} h (Left f same) =
+      rw same (retained r r f.0 no_totals f.1 h refl refl (λ L q.
       let free = λ (o : IsAffected L T X i). f.2 (touched_by n q position i at f.1 o) in (
         stays_unless n q position i at f.1 f.2,
         record {
@@ -177,9 +187,9 @@ module _ {N : Map} (n : IsMap N) {T X : List ℕ} {C : List ChangedLine} {before
           spared = inr ((λ o. free o.affected), refl);
           queries = inr ((λ o. free o.0), refl);
         },
-      )) (counted_none N now))
-  so_far_step {r} {s} {now} {later} h (Retained f same one) =
-      rw same (retained r now later f.0 spared_one f.1 h (λ L q.
+      )) (counted_none N r.renewed.work r.renewed.spared))
+  so_far_step {r} {s} h (Retained f same) =
+      rw same (retained r (record r { renewed = after_retained r.renewed }) f.0 spared_one f.1 h refl refl (λ L q.
       let s = spared_by n q position i at f.1 f.2 f.3 in (
         stays_retained n q position i at f.1 f.3,
         record {
@@ -187,9 +197,9 @@ module _ {N : Map} (n : IsMap N) {T X : List ℕ} {C : List ChangedLine} {before
           spared = inl (s, (0, refl, refl));
           queries = inr ((λ o. o.1 s), refl);
         },
-      )) one)
-  so_far_step {r} {s} {now} {later} h (EncodedAgain f m made puts returned given queries gives those one) =
-      grown r s now later (with_made i m) m.answer (encoded_one queries) h
+      )) (counted_retained N r.renewed))
+  so_far_step {r} {s} h (EncodedAgain f m made puts returned given queries gives those one) =
+      grown r s (with_made i m) m.answer (encoded_one queries) h
       (λ ys. rw (
         puts,
         all_put-push,
@@ -235,22 +245,22 @@ past_end (j ∷ js) zero at = let never : ⊥ = cc (at) in absurd never
 past_end (j ∷ js) (suc q) at = let le = past_end js q at in omega arith
 
 module _ {N : Map} (n : IsMap N) {T X : List ℕ} {C : List ChangedLine} {before is : List Item} (found : List ℕ)
-    (follows : Follows before is) (covers : Covers N T X is found) {old : Counted} {r : Renewal} {now : Counted} where
+    (follows : Follows before is) (covers : Covers N T X is found) {r : Renewal} where
   -- paths that are no candidates are unchanged
   gap : (d p q : ℕ) → p + d ≡ q → q ≤ length is → ((j : ℕ) → p ≤ j → j < q → has found j ≡ false) →
-      SoFar N T X C before is old (take p is) r now → SoFar N T X C before is old (take q is) r now
+      SoFar N T X C before is (take p is) r → SoFar N T X C before is (take q is) r
   gap zero p q e le free h = let same : p ≡ q = omega arith in rw (← same) h
   gap (suc d) p q e le free h =
-      elim (slice_get is p) as (λ o. slice_get is p ≡ o → SoFar N T X C before is old (take q is) r now) [
+      elim (slice_get is p) as (λ o. slice_get is p ≡ o → SoFar N T X C before is (take q is) r) [
         | None ↦ λ at. absurd (omega (arith, past_end is p at))
         | Some i ↦ λ at. gap d (p + 1) q (omega arith) le (λ j a b. free j (omega arith) b)
-            (so_far_step n follows p i at h (Left (covers p i at (free p (omega arith) (omega arith))) refl refl))
+            (so_far_step n follows p i at h (Left (covers p i at (free p (omega arith) (omega arith))) refl))
       ] refl
 
   -- up to a position that no candidate left is before
   pub to_position : (k next q : ℕ) → ((m : ℕ) → k ≤ m → m < length found → q ≤ get_or found m 0) →
       Passed found (length is) k next → next ≤ q → q ≤ length is →
-      SoFar N T X C before is old (take next is) r now → SoFar N T X C before is old (take q is) r now
+      SoFar N T X C before is (take next is) r → SoFar N T X C before is (take q is) r
   to_position k next q rest h le most =
       gap (q - next) next q (omega arith) most (λ j a b. elim (cases_Bool (has found j)) [
         | inr e ↦ e

@@ -7,22 +7,21 @@
 --     SearchesItem M N C i queries      the coverage queries for which the path is searched if it is encoded again
 --     Totals, AreTotals M N T X C is t      how many paths are affected and how many of these retain their answers; the
 --         coverage queries for which the others are searched
---     AreSearched N queries old new      the work of searching for these
---     AreCounts w      the counts of work have 64 bits
---     Rises old new      none of them falls
+--     SearchedAlone N P w      the work w has the searches of encoding a path from scratch
 --     AreCounted N t old new before after      the work and the count of retained answers rise by these totals
 --     AreRemade N is js      each path has results that are right on N
 --     Follows before is      each path that was encoded has the earlier answer of its name
 use Rattle.std.specs.Prelude.{◌≡◌, ◌≢◌, ℕ, List, [], ◌∷◌, Contains, Some, None, option_map, ◌⊎◌, IsTrue, ⊤}
-use Rattle.std.specs.Prelude.{◌<◌, ◌≤◌, ◌^◌, length, MatchOption}
+use Rattle.std.specs.Prelude.{MatchOption}
 use Rattle.std.specs.List.{AllByRecursion}
 use Rattle.olr_spec.specs.Map.{Map, IsMap, has}
-use Rattle.olr_spec.specs.Extension.{is_path}
+use Rattle.olr_spec.specs.Extension.{Path, is_path}
 use Rattle.olr_spec.specs.Footprint.{Foot}
 use Rattle.olr_spec.specs.Detours.{ChangedLine, Difference}
 use Rattle.olr_spec.specs.Queries.{CoverageQuery}
 use Rattle.olr_search.specs.declared.work.Work.{Work}
-use Rattle.olr_refs.specs.Choice.{SettledBy, raised_count}
+use Rattle.olr_search.specs.Counts.{no_work, raised_count}
+use Rattle.olr_refs.specs.Choice.{AreSearched}
 use Rattle.olr_commands.specs.Counts.{IsUnchanged, CountIs, SearchedFor, SearchedAgain, Collects}
 use Rattle.olr_list.specs.Items.{Made, Item, IsEncodingOf, AreEncodingsIfAny, answer_in}
 
@@ -64,22 +63,10 @@ pub record AreTotals (M N : Map) (T X : List ℕ) (C : List ChangedLine) (is : L
   pub spared : CountIs (IsSpared M N T X C) is t.spared
   pub queries : Collects (IsEncodedAgain M N T X C) (SearchesItem M N C) is t.queries
 
--- one search each, and the nodes that it settles
-pub record AreSearched (N : Map) (queries : List CoverageQuery) (old new : Work) : Type 0 where
-  pub searches : new.searches ≡ raised_count old.searches (length queries)
-  pub settled : SettledBy N queries old.settled new.settled
-
--- counts of 64 bits
-pub record AreCounts (w : Work) : Type 0 where
-  pub encodings : w.encodings < 2 ^ 64
-  pub searches : w.searches < 2 ^ 64
-  pub settled : w.settled < 2 ^ 64
-
--- no count falls
-pub record Rises (old new : Work) : Type 0 where
-  pub encodings : old.encodings ≤ new.encodings
-  pub searches : old.searches ≤ new.searches
-  pub settled : old.settled ≤ new.settled
+pub record SearchedAlone (N : Map) (P : Path) (w : Work) : Type 0 where
+  pub queries : List CoverageQuery
+  pub those : SearchedFor N P queries
+  pub counts : AreSearched N queries no_work w
 
 pub record AreCounted (N : Map) (t : Totals) (old new : Work) (before after : ℕ) : Type 0 where
   pub encodings : new.encodings ≡ raised_count old.encodings t.affected

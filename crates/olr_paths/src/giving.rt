@@ -2,18 +2,16 @@
 ghost use Rattle.std.specs.Prelude.{◌≡◌, ◌≢◌, ◌⊎◌, [], ◌∷◌, ◌++◌, List, Contains, false};
 ghost use Rattle.std.specs.Prelude.{map as list_map, Some, is_some, string_bytes, option_map, IfOk, OnOk, OnErr};
 ghost use Rattle.olr_spec.specs.Encoding.{Answer};
-ghost use Rattle.olr_refs.specs.Choice.{raised_count};
 ghost use Rattle.olr_commands.specs.State.{path_named};
-ghost use Rattle.olr_commands.specs.Counts.{SearchedFor};
 ghost use Rattle.olr_commands.specs.Reply.{entry};
 ghost use Rattle.olr_commands.specs.Words.{entry_of};
 ghost use Rattle.olr_spec.specs.Queries.{CoverageQuery as QueryRecord};
 ghost use Rattle.olr_list.specs.Items.{Made, IsEncodingOf, items, made_of, all_named, answer_in};
 ghost use Rattle.olr_list.specs.Changes.{set_item};
-ghost use Rattle.olr_paths.specs.Changes.{AreSearched, Rises};
+ghost use Rattle.olr_paths.specs.Changes.{SearchedAlone};
 ghost use Rattle.olr_list.specs.Origins.{Begins, new_origins_in};
 
-use crate::encoding::{have_64_bits, publish};
+use crate::encoding::publish;
 use crate::renewal::push_if_changed;
 use olr_commands::Entry;
 use olr_list::{NamedPath, PathList, Published, Searches};
@@ -23,28 +21,24 @@ use olr_search::Work;
 use std::alloc::{AllocError, Global};
 use std::rc::Rc;
 
-/// Encodes a path that is searched from scratch, and returns it with what is published of it; its coverage queries are
-/// those that the last renewal made. If an allocation fails, the work may be counted in part.
+/// Encodes a path from scratch, and returns it with what is published of it and the work; its coverage queries are those
+/// that the last renewal made.
 fn encode_alone<M: MapRead>(
     alloc: Global,
     map: &M,
     path: Path,
     searches: &mut Searches,
-    work: &mut Work,
-) -> Result<(Rc<Path>, Rc<Published>), AllocError>
+) -> Result<(Rc<Path>, Rc<Published>, Work), AllocError>
     ensures new_origins { IfOk result (λ r. new_origins_in searches.new ≡ (made_of r.1.value).queries) }
     ensures made { IfOk result (λ r. (r.0.value ≡ path) × IsEncodingOf (M.map map.now) path (made_of r.1.value)
-        × (work.new.encodings ≡ raised_count work.old.encodings 1) × Rises work.old work.new
-        × ((queries : List QueryRecord) × SearchedFor (M.map map.now) path queries
-        × AreSearched (M.map map.now) queries work.old work.new)) }
+        × (r.2.encodings ≡ 1) × SearchedAlone (M.map map.now) path r.2) }
 {
-    have_64_bits(work);
-    let published = publish(alloc, map, &path, &[], &mut searches.query, work)?;
+    let (published, work) = publish(alloc, map, &path, &[], &mut searches.query)?;
     let shared = Rc::new(alloc, published)?;
     searches.new_origins.clear();
     searches.new_origins.extend_from_slice(shared.queries())?;
     let path = Rc::new(alloc, path)?;
-    Ok((path, shared))
+    Ok((path, shared, work))
 }
 
 /// A list of one entry, that of a path.
@@ -56,7 +50,8 @@ fn only_entry(alloc: Global, name: &str, published: &Published) -> Result<Vec<En
     Ok(entries)
 }
 
-/// Encodes a path and appends it. The reply names it. If an allocation fails, list and work are unchanged.
+/// Encodes a path and appends it. Returns the entries of the reply, which names it, and the work. If an allocation fails,
+/// the list is unchanged.
 pub fn add<M: MapRead>(
     list: &mut PathList,
     alloc: Global,
@@ -64,35 +59,29 @@ pub fn add<M: MapRead>(
     name: String,
     path: Path,
     searches: &mut Searches,
-    work: &mut Work,
-) -> Result<Vec<Entry>, AllocError>
+) -> Result<(Vec<Entry>, Work), AllocError>
     requires { is_some (path_named (all_named (items list.old)) (string_bytes name)) ≡ false }
-    ensures added { IfOk result (λ es. (m : Made) × IsEncodingOf (M.map map.now) path m
+    ensures added { IfOk result (λ r. (m : Made) × IsEncodingOf (M.map map.now) path m
         × (items list.new ≡ items list.old ++ record { name = string_bytes name; path = path; made = Some m } ∷ [])
-        × (list_map entry_of es.items ≡ entry (string_bytes name) m.answer ∷ [])) }
-    ensures counted { OnOk result (work.new.encodings ≡ raised_count work.old.encodings 1) }
-    ensures searched { OnOk result ((queries : List QueryRecord) × SearchedFor (M.map map.now) path queries
-        × AreSearched (M.map map.now) queries work.old work.new) }
-    ensures rises { OnOk result (Rises work.old work.new) }
+        × (list_map entry_of r.0.items ≡ entry (string_bytes name) m.answer ∷ [])) }
+    ensures counted { IfOk result (λ r. r.1.encodings ≡ 1) }
+    ensures searched { IfOk result (λ r. SearchedAlone (M.map map.now) path r.1) }
     ensures new_origins { OnOk result ((v : QueryRecord) → Begins (items list.new) v
         → Begins (items list.old) v ⊎ Contains (new_origins_in searches.new) v) }
     ensures err { OnErr result (items list.new ≡ items list.old) }
-    ensures err_work { OnErr result (work.new ≡ work.old) }
 {
-    let mut tried = *work;
-    let (path, published) = encode_alone(alloc, map, path, searches, &mut tried)?;
+    let (path, published, work) = encode_alone(alloc, map, path, searches)?;
     let entries = only_entry(alloc, name.as_str(), &published)?;
     let named = NamedPath {
         path,
         published: Some(published),
     };
     list.put_last(name, named)?;
-    *work = tried;
-    Ok(entries)
+    Ok((entries, work))
 }
 
-/// Encodes another path for a name. It keeps its position, and the reply names it if its answer is another than
-/// before. If an allocation fails, list and work are unchanged.
+/// Encodes another path for a name, which keeps its position. Returns the entries of the reply, which names it if its
+/// answer changed, and the work. If an allocation fails, the list is unchanged.
 pub fn set<M: MapRead>(
     list: &mut PathList,
     alloc: Global,
@@ -100,25 +89,20 @@ pub fn set<M: MapRead>(
     name: &str,
     path: Path,
     searches: &mut Searches,
-    work: &mut Work,
-) -> Result<Vec<Entry>, AllocError>
+) -> Result<(Vec<Entry>, Work), AllocError>
     requires { (A : Answer) × (answer_in (items list.old) name.now ≡ Some A) }
-    ensures set { IfOk result (λ es. (m : Made) × IsEncodingOf (M.map map.now) path m
+    ensures set { IfOk result (λ r. (m : Made) × IsEncodingOf (M.map map.now) path m
         × (items list.new ≡ list_map (set_item name.now path (Some m)) (items list.old))
-        × (((answer_in (items list.old) name.now ≡ Some m.answer) × (list_map entry_of es.items ≡ []))
+        × (((answer_in (items list.old) name.now ≡ Some m.answer) × (list_map entry_of r.0.items ≡ []))
         ⊎ ((answer_in (items list.old) name.now ≢ Some m.answer)
-        × (list_map entry_of es.items ≡ entry name.now m.answer ∷ [])))) }
-    ensures counted { OnOk result (work.new.encodings ≡ raised_count work.old.encodings 1) }
-    ensures searched { OnOk result ((queries : List QueryRecord) × SearchedFor (M.map map.now) path queries
-        × AreSearched (M.map map.now) queries work.old work.new) }
-    ensures rises { OnOk result (Rises work.old work.new) }
+        × (list_map entry_of r.0.items ≡ entry name.now m.answer ∷ [])))) }
+    ensures counted { IfOk result (λ r. r.1.encodings ≡ 1) }
+    ensures searched { IfOk result (λ r. SearchedAlone (M.map map.now) path r.1) }
     ensures new_origins { OnOk result ((v : QueryRecord) → Begins (items list.new) v
         → Begins (items list.old) v ⊎ Contains (new_origins_in searches.new) v) }
     ensures err { OnErr result (items list.new ≡ items list.old) }
-    ensures err_work { OnErr result (work.new ≡ work.old) }
 {
-    let mut tried = *work;
-    let (path, published) = encode_alone(alloc, map, path, searches, &mut tried)?;
+    let (path, published, work) = encode_alone(alloc, map, path, searches)?;
     let mut entries = Vec::new(alloc);
     push_if_changed(alloc, list, name, &published, &mut entries)?;
     let named = NamedPath {
@@ -126,6 +110,5 @@ pub fn set<M: MapRead>(
         published: Some(published),
     };
     list.put_other(name, named)?;
-    *work = tried;
-    Ok(entries)
+    Ok((entries, work))
 }

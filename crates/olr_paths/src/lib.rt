@@ -9,4 +9,5 @@ mod renewing;
 
 pub use giving::{add, set};
 pub use olr_list::{ChangeSet, ChangedLine, Iter, Overlay, PathList, Published, Searches};
+pub use renewal::Renewed;
 pub use renewing::renew_over;

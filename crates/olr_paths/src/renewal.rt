@@ -15,11 +15,11 @@ ghost use Rattle.olr_list.specs.Candidates.{Covers};
 ghost use Rattle.std.specs.List.Sorted.{IsNonDecreasing};
 ghost use Rattle.olr_list.specs.Origins.{BeginsPut, AreBoundsOf, new_origins_in};
 ghost use Rattle.olr_list.specs.Actions.{IsActionFor, IsEncode};
-ghost use Rattle.olr_paths.specs.Changes.{AreCounted, Rises, Follows};
-ghost use Rattle.olr_paths.specs.Renewing.{made_at, after_renewal, ReportsIfOther, Gives, IsStep, spared_one};
+ghost use Rattle.olr_paths.specs.Changes.{Follows};
+ghost use Rattle.olr_paths.specs.Renewing.{made_at, after_renewal, after_retained, ReportsIfOther, Gives, IsStep};
 ghost use Rattle.olr_paths.specs.Renewing.{WasBefore, IsRenewal};
 
-use crate::encoding::{have_64_bits, publish};
+use crate::encoding::publish;
 use olr_commands::Entry;
 use olr_list::{
     Action, ChangeSet, Detours, NamedPath, OverlaidList, PathList, PathView, Published, Searches,
@@ -31,23 +31,6 @@ use olr_roads::MapRead;
 use olr_search::{Dijkstra, Work};
 use std::alloc::{AllocError, Global};
 use std::rc::Rc;
-
-/// The work of encodings, and how many of the counted encodings retained an answer.
-#[derive(Clone, Copy)]
-pub(crate) struct Counted {
-    pub(crate) work: Work,
-    pub(crate) kept: u64,
-}
-
-impl Counted {
-    /// Counts an encoding whose answer is retained.
-    fn keep(&mut self)
-        ensures { (N : Map) → AreCounted N spared_one self.old.work self.new.work self.old.kept self.new.kept }
-    {
-        self.work.encodings = self.work.encodings.saturating_add(1);
-        self.kept = self.kept.saturating_add(1);
-    }
-}
 
 /// Whether a name had the same answer in an earlier list.
 fn is_same_as_before(before: &PathList, name: &str, published: &Published) -> bool
@@ -77,12 +60,38 @@ pub(crate) fn push_if_changed(
     Ok(())
 }
 
-/// The paths that were encoded again, each with its position in the list, and the entries of those with another answer
-/// than before.
+/// What the renewal of a list reports and counts.
+#[derive(Drop)]
+pub struct Renewed {
+    /// The paths whose answer is not the earlier one of their name.
+    pub entries: Vec<Entry>,
+    /// The work: each affected path counts as an encoding.
+    pub work: Work,
+    /// How many of the affected paths retained their answer.
+    pub spared: u64,
+}
+
+impl Renewed {
+    /// Counts an affected path whose answer is retained.
+    fn keep(&mut self)
+        ensures { self.new ≡ after_retained self.old }
+    {
+        self.work = self.work.plus(Work {
+            encodings: 1,
+            searches: 0,
+            settled: 0,
+        });
+        self.spared = self.spared.saturating_add(1);
+    }
+}
+
+/// The renewal of a list, before its results are stored.
 #[derive(Drop)]
 pub(crate) struct Renewal {
+    /// The paths that were encoded again, each with its position in the list.
     pub(crate) fresh: Vec<(usize, NamedPath)>,
-    pub(crate) entries: Vec<Entry>,
+    /// What is reported and counted.
+    pub(crate) renewed: Renewed,
 }
 
 impl Renewal {
@@ -99,27 +108,28 @@ impl Renewal {
         shown: PathView<'_>,
         known: &[KnownQuery],
         query: &mut Dijkstra,
-        counted: &mut Counted,
     ) -> Result<(), AllocError>
         requires known { AreKnown (M.map map.now) (shown_item shown).path.lines known.now }
         ensures { OnOk result ((T X : List ℕ) (C : List ChangedLine)
             → (IsEncode action → Gives (M.map map.now) C (shown_item shown.entry).made known.now)
             → IsActionFor (M.map map.now) T X C (shown_item shown.entry).made (shown_item shown.entry).path action
             → IsStep (M.map map.now) T X C (items before.now) (shown_item shown.entry)
-            position self.old self.new counted.old counted.new) }
+            position self.old self.new) }
     {
         match action {
             Action::Stay => (),
-            Action::Keep => counted.keep(),
+            Action::Keep => self.renewed.keep(),
             Action::Encode => {
-                let made = publish(alloc, map, shown.path, known, query, &mut counted.work)?;
+                let (made, work) = publish(alloc, map, shown.path, known, query)?;
                 let published = Rc::new(alloc, made)?;
-                push_if_changed(alloc, before, shown.name, &published, &mut self.entries)?;
+                let entries = &mut self.renewed.entries;
+                push_if_changed(alloc, before, shown.name, &published, entries)?;
                 let named = NamedPath {
                     path: shown.path.clone()?,
                     published: Some(published),
                 };
                 self.fresh.push((position, named))?;
+                self.renewed.work = self.renewed.work.plus(work);
             }
         }
         Ok(())
@@ -164,7 +174,6 @@ fn renewal_by<M: MapRead>(
     touched: &ChangeSet,
     searches: &mut Searches,
     found: &[usize],
-    counted: &mut Counted,
 ) -> Result<Renewal, AllocError>
     requires asked { AreAsked (M.map map.now) (M.node_slot map.now) touched.now searches.old (shown_items overlaid) }
     requires ascending { IsNonDecreasing found.now }
@@ -175,13 +184,15 @@ fn renewal_by<M: MapRead>(
     requires follows { Follows (items before.now) (shown_items overlaid) }
     requires before { (L : Map) × WasBefore L (M.map map.now) touched.now (shown_items overlaid) }
     ensures renewed { IfOk result (λ r. IsRenewal (M.map map.now) touched.now (items before.now)
-        (shown_items overlaid.entry) (after_renewal r (shown_items overlaid.entry)) (list_map entry_of r.entries.items)
-        counted.old.work counted.new.work counted.old.kept
-        counted.new.kept) }
+        (shown_items overlaid.entry) (after_renewal r (shown_items overlaid.entry)) r.renewed) }
 {
     let mut renewal = Renewal {
         fresh: Vec::new(alloc),
-        entries: Vec::new(alloc),
+        renewed: Renewed {
+            entries: Vec::new(alloc),
+            work: Work::none(),
+            spared: 0,
+        },
     };
     let mut next = 0;
     for candidate in found {
@@ -196,15 +207,14 @@ fn renewal_by<M: MapRead>(
         let known = known_for(alloc, map, touched, &mut searches.detours, action, shown)?;
         let query = &mut searches.query;
         renewal.advance(
-            alloc, map, before, action, position, shown, &known, query, counted,
+            alloc, map, before, action, position, shown, &known, query,
         )?;
         next = position + 1;
     }
     Ok(renewal)
 }
 
-/// The renewal of a list under changes on a map, with its work counted. If an allocation fails, it may be counted in
-/// part.
+/// The renewal of a list under changes on a map.
 pub(crate) fn renewal_of<M: MapRead>(
     alloc: Global,
     map: &M,
@@ -213,29 +223,19 @@ pub(crate) fn renewal_of<M: MapRead>(
     touched: &ChangeSet,
     bounds: &DistanceBounds,
     searches: &mut Searches,
-    counted: &mut Counted,
 ) -> Result<Renewal, AllocError>
     requires follows { Follows (items before.now) (shown_items overlaid) }
     requires before { (L : Map) × WasBefore L (M.map map.now) touched.now (shown_items overlaid) }
     requires bounds { AreBoundsOf (M.map map.now) bounds.now (shown_items overlaid) }
     ensures renewed { IfOk result (λ r. IsRenewal (M.map map.now) touched.now (items before.now)
-        (shown_items overlaid.entry) (after_renewal r (shown_items overlaid.entry)) (list_map entry_of r.entries.items)
-        counted.old.work counted.new.work counted.old.kept counted.new.kept) }
-    ensures rises { OnOk result (Rises counted.old.work counted.new.work) }
-    ensures kept { OnOk result (counted.old.kept ≤ counted.new.kept) }
+        (shown_items overlaid.entry) (after_renewal r (shown_items overlaid.entry)) r.renewed) }
     ensures new_origins { IfOk result (λ r. (v : QueryRecord) → BeginsPut (made_at r) v →
         Contains (new_origins_in searches.new) v) }
 {
     searches.new_origins.clear();
-    have_64_bits(&counted.work);
-    // For the proof alone: what is read is in range.
-    let _kept = counted.kept;
-    let encodings = counted.work.encodings;
     let found = ask(alloc, map, overlaid, touched, bounds, searches)?;
-    let renewal = renewal_by(
-        alloc, map, overlaid, before, touched, searches, &found, counted,
-    )?;
-    searches.count(counted.work.encodings != encodings);
+    let renewal = renewal_by(alloc, map, overlaid, before, touched, searches, &found)?;
+    searches.count(renewal.renewed.work.encodings != 0);
     note_fresh(&renewal.fresh, &mut searches.new_origins)?;
     Ok(renewal)
 }

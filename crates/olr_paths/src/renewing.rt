@@ -1,22 +1,18 @@
 //! Encoding again the paths whose answer a change of the map may have changed, in place or in a list under changes.
-ghost use Rattle.std.specs.Prelude.{◌≡◌, ◌≤◌, ◌⊎◌, Contains, map as list_map, IfOk, OnOk};
-ghost use Rattle.std.specs.Prelude.{OnErr};
+ghost use Rattle.std.specs.Prelude.{◌≡◌, ◌⊎◌, Contains, IfOk, OnOk, OnErr};
 ghost use Rattle.olr_spec.specs.Map.{Map};
 ghost use Rattle.olr_commands.specs.State.{NamesDiffer};
-ghost use Rattle.olr_commands.specs.Words.{entry_of};
 ghost use Rattle.olr_spec.specs.Queries.{CoverageQuery as QueryRecord};
 ghost use Rattle.olr_list.specs.Items.{items, all_named};
 ghost use Rattle.olr_list.specs.Laying.{TakesNone, overlay_changes, under_overlay};
 ghost use Rattle.olr_list.specs.Origins.{Begins, AreBoundsOf, new_origins_in};
-ghost use Rattle.olr_paths.specs.Changes.{Rises, Follows};
+ghost use Rattle.olr_paths.specs.Changes.{Follows};
 ghost use Rattle.olr_paths.specs.Renewing.{items_before, WasBefore, IsRenewal};
 
-use crate::renewal::{Counted, Renewal, renewal_of};
-use olr_commands::Entry;
+use crate::renewal::{Renewal, Renewed, renewal_of};
 use olr_list::{ChangeSet, OverlaidList, Overlay, PathList, Searches, put_in};
 use olr_near::DistanceBounds;
 use olr_roads::MapRead;
-use olr_search::Work;
 use std::alloc::{AllocError, Global};
 use std::mem;
 
@@ -32,32 +28,21 @@ fn renew_overlaid<M: MapRead>(
     touched: &ChangeSet,
     bounds: &DistanceBounds,
     searches: &mut Searches,
-    work: &mut Work,
-    kept: &mut u64,
-) -> Result<Vec<Entry>, AllocError>
+) -> Result<Renewed, AllocError>
     requires keeps { TakesNone (overlay_changes overlay.now) }
     requires names { NamesDiffer (all_named (under_overlay (items list.old) overlay.now)) }
     requires follows { Follows (items_before before list.old) (under_overlay (items list.old) overlay.now) }
     requires bounds { AreBoundsOf (M.map map.now) bounds.now (under_overlay (items list.old) overlay.now) }
     requires before { (L : Map) × WasBefore L (M.map map.now) touched.now
         (under_overlay (items list.old) overlay.now) }
-    ensures renewed { IfOk result (λ es. IsRenewal (M.map map.now) touched.now (items_before before.entry list.old)
-        (under_overlay (items list.old) overlay.now) (items list.new) (list_map entry_of es.items) work.old work.new
-        kept.old kept.new) }
-    ensures rises { OnOk result (Rises work.old work.new) }
-    ensures kept { OnOk result (kept.old ≤ kept.new) }
+    ensures renewed { IfOk result (IsRenewal (M.map map.now) touched.now (items_before before.entry list.old)
+        (under_overlay (items list.old) overlay.now) (items list.new)) }
     ensures new_origins { OnOk result ((v : QueryRecord) → Begins (items list.new) v
         → Begins (under_overlay (items list.old) overlay.now) v ⊎ Contains (new_origins_in searches.new) v) }
     ensures err { OnErr result (items list.new ≡ items list.old) }
-    ensures err_work { OnErr result (work.new ≡ work.old) }
-    ensures err_kept { OnErr result (kept.new ≡ kept.old) }
 {
-    let mut counted = Counted {
-        work: *work,
-        kept: *kept,
-    };
     let overlaid = OverlaidList { list, overlay };
-    let Renewal { fresh, entries } = renewal_of(
+    let Renewal { fresh, renewed } = renewal_of(
         alloc,
         map,
         overlaid,
@@ -65,23 +50,20 @@ fn renew_overlaid<M: MapRead>(
         touched,
         bounds,
         searches,
-        &mut counted,
     )?;
     put_in(alloc, list, overlay, fresh)?;
     list.note_encoded();
-    *work = counted.work;
-    *kept = counted.kept;
-    Ok(entries)
+    Ok(renewed)
 }
 
 /// Makes the changes of the list, encodes on a map the paths that are new or replaced and those whose answer changes
-/// of it can have changed, and returns those whose answer is not the earlier one of their name. Each affected path is
-/// counted as an encoding; `kept` counts those of them that retained their answer, and `work` the coverage queries of
-/// the others that are not known from the map before. On that map, from which the changes of the map led, the results
-/// in the list are right. The bounds are distance bounds that are right on the map, for all coverage queries of the
-/// list: they cut the search from touched nodes. If no path is removed, the changes are made in place, at the cost of
-/// the changes and of the affected paths; otherwise the list is replaced by the list under changes, at the cost of
-/// all paths. If an allocation fails, list and counts are unchanged.
+/// of it can have changed, and returns those whose answer is not the earlier one of their name, and the counts: each
+/// affected path is an encoding, some of these retain their answer, and the coverage queries of the others are searched
+/// where they are not known from the map before. On that map, from which the changes of the map led, the results in the
+/// list are right. The bounds are distance bounds that are right on the map, for all coverage queries of the list: they
+/// cut the search from touched nodes. If no path is removed, the changes are made in place, at the cost of the changes
+/// and of the affected paths; otherwise the list is replaced by the list under changes, at the cost of all paths. If an
+/// allocation fails, the list is unchanged.
 pub fn renew_over<M: MapRead>(
     list: &mut PathList,
     alloc: Global,
@@ -90,31 +72,24 @@ pub fn renew_over<M: MapRead>(
     touched: &ChangeSet,
     bounds: &DistanceBounds,
     searches: &mut Searches,
-    work: &mut Work,
-    kept: &mut u64,
-) -> Result<Vec<Entry>, AllocError>
+) -> Result<Renewed, AllocError>
     requires names { NamesDiffer (all_named (under_overlay (items list.old) overlay.now)) }
     requires follows { Follows (items list.old) (under_overlay (items list.old) overlay.now) }
     requires bounds { AreBoundsOf (M.map map.now) bounds.now (under_overlay (items list.old) overlay.now) }
     requires before { (L : Map) × WasBefore L (M.map map.now) touched.now
         (under_overlay (items list.old) overlay.now) }
-    ensures renewed { IfOk result (λ es. IsRenewal (M.map map.now) touched.now (items list.old)
-        (under_overlay (items list.old) overlay.now) (items list.new) (list_map entry_of es.items) work.old work.new
-        kept.old kept.new) }
-    ensures rises { OnOk result (Rises work.old work.new) }
-    ensures kept { OnOk result (kept.old ≤ kept.new) }
+    ensures renewed { IfOk result (IsRenewal (M.map map.now) touched.now (items list.old)
+        (under_overlay (items list.old) overlay.now) (items list.new)) }
     ensures new_origins { OnOk result ((v : QueryRecord) → Begins (items list.new) v
         → Begins (under_overlay (items list.old) overlay.now) v ⊎ Contains (new_origins_in searches.new) v) }
     ensures err { OnErr result (items list.new ≡ items list.old) }
-    ensures err_work { OnErr result (work.new ≡ work.old) }
-    ensures err_kept { OnErr result (kept.new ≡ kept.old) }
 {
     if !overlay.takes_some() {
-        let entries = renew_overlaid(
-            list, alloc, map, None, overlay, touched, bounds, searches, work, kept,
+        let renewed = renew_overlaid(
+            list, alloc, map, None, overlay, touched, bounds, searches,
         )?;
         list.index(alloc);
-        return Ok(entries);
+        return Ok(renewed);
     }
     let mut overlaid = overlay.overlaid_copy(alloc, list)?;
     let none = Overlay::new(alloc);
@@ -127,8 +102,6 @@ pub fn renew_over<M: MapRead>(
         touched,
         bounds,
         searches,
-        work,
-        kept,
     );
     drop(none);
     if renewed.is_ok() {

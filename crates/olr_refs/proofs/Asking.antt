@@ -3,13 +3,14 @@ use Rattle.olr_refs.proofs.Common.{◌≡◌, ◌<◌, ◌≤◌, ◌+◌, ◌*�
 use Rattle.olr_refs.proofs.Common.{MatchOption, refl, sym, subst, arith, inl, inr, IsTrue, AllZip, nat_tests, Map}
 use Rattle.olr_refs.proofs.Common.{IsMap, Path, is_path, extended_path, Next, path_fault, Sees, Foot, CoverageQuery}
 use Rattle.olr_refs.proofs.Common.{QueriesOf, KnownQuery, IsKnownAt, Contains-here, Contains-cases, path_also}
-use Rattle.olr_refs.proofs.Common.{all_searched, raised_count, SettledBy, Work, Queried, Notes, Asks, AsksOf}
+use Rattle.olr_refs.proofs.Common.{all_searched, raised_count, SettledBy, Work, AreSearched, Notes, Asks, AsksOf}
 use Rattle.olr_refs.proofs.Common.{foot_queried, append-nil, nat_lt, option_to_list, filter-append, IsQuery, querying}
 use Rattle.olr_refs.proofs.Common.{IsReused, IsSearched, FoundFor, KnownOf, SearchedOf, Contains-later, Next-candidate}
-use Rattle.olr_refs.proofs.Common.{AsksAfter, Searched}
+use Rattle.olr_refs.proofs.Common.{AsksAfter, Searched, no_work, raised_work}
+use Rattle.olr_refs.specs.declared.chosen.Queries.{Queries}
 use Rattle.std.proofs.Math.Nat.{mul-le-mul_right}
 use Rattle.olr_spec.proofs.KnownLists.{found_append, found_here}
-use Rattle.olr_refs.proofs.Noting.{queried_none, queried_more, zip_append, Led, led_more, settled_most, notes_same}
+use Rattle.olr_refs.proofs.Noting.{searched_none, searched_more, searched_on, raised_none, zip_append, Led, led_more, settled_most, notes_same}
 use Rattle.olr_refs.proofs.Noting.{notes_more, seen_one, seen_append, noted_none}
 use Rattle.olr_spec.proofs.TestedLemmas.{one_query}
 use Rattle.olr_spec.specs.Encoding as spec
@@ -17,39 +18,52 @@ use Rattle.olr_spec.specs.Encoding as spec
 -- ---- the LRPs of a list
 
 module _ (M : Map) (ls : List ℕ) (lead own : ℕ) (given : List KnownQuery) where
-  pub asks_append : (is js : List ℕ) (q r : List CoverageQuery) (k l : List KnownQuery) (a b c : Work)
-      (s t u : Option (List ℕ)) → Asks M ls lead own given is q k a b s t → Asks M ls lead own given js r l b c t u →
-      Asks M ls lead own given (is ++ js) (q ++ r) (k ++ l) a c s u
-  asks_append is js q r k l a b c s t u x y =
+  pub asks_append : (is js : List ℕ) (q r : List CoverageQuery) (k l : List KnownQuery) (v w : Work)
+      (s t u : Option (List ℕ)) → Asks M ls lead own given is q k v s t → Asks M ls lead own given js r l w t u →
+      Asks M ls lead own given (is ++ js) (q ++ r) (k ++ l) (raised_work v w) s u
+  asks_append is js q r k l v w s t u x y =
       let e = filter-append (λ i. nat_lt (i + 2) (length ls)) is js in
       record {
         searched = x.searched ++ y.searched;
         each = rw e (zip_append _ _ _ _ _ x.each y.each);
         own_queries = rw e (found_append _ _ _ _ _ x.own_queries y.own_queries);
         others = rw e (found_append _ _ _ _ _ x.others y.others);
-        counts = queried_more M x.searched y.searched a b c x.counts y.counts;
+        counts = searched_more M x.searched y.searched no_work v (raised_work v w) x.counts
+            (searched_on M y.searched v w y.counts);
         notes = notes_more _ _ _ s t u (seen_append M x.searched y.searched) x.notes y.notes;
       }
 
   -- ---- one LRP
 
   -- where at most one line follows line i nothing is searched
-  pub asks_nowhere : (i : ℕ) (w : Work) (s : Option (List ℕ)) → length ls ≤ i + 2 →
-      Asks M ls lead own given (i ∷ []) [] [] w w s s
-  asks_nowhere i w s h = grind (arith, nat_tests, queried_none, noted_none)
+  asks_nowhere : (i : ℕ) (s : Option (List ℕ)) → length ls ≤ i + 2 →
+      Asks M ls lead own given (i ∷ []) [] [] no_work s s
+  asks_nowhere i s h = grind (arith, nat_tests, searched_none, noted_none)
+
+  pub asks_none : (i : ℕ) (q : Queries) (s : Option (List ℕ)) → length ls ≤ i + 2 →
+      AsksAfter M ls lead own given i q q s s
+  asks_none i q s h = record {
+    queries = [];
+    own_queries = [];
+    work = no_work;
+    grown = sym (append-nil _);
+    own_grown = sym (append-nil _);
+    work_grown = raised_none q.work;
+    asks = asks_nowhere i s h;
+  }
 
   -- or where the query is known
   pub asks_known : (i : ℕ) (e : KnownQuery) (w : Work) (s : Option (List ℕ)) → i + 2 < length ls →
-      IsKnownAt M ls lead own i e → Contains given e →
-      Asks M ls lead own given (i ∷ []) (e.query ∷ []) (e ∷ []) w w s s
-  asks_known i e w s h k c =
+      IsKnownAt M ls lead own i e → Contains given e → w ≡ no_work →
+      Asks M ls lead own given (i ∷ []) (e.query ∷ []) (e ∷ []) w s s
+  asks_known i e w s h k c none =
       let is : querying ls (i ∷ []) ≡ i ∷ [] = grind (arith, nat_tests) in
       record {
         searched = [];
         each = rw is ((lead + e.last, k.tested, k.query), tt);
         own_queries = rw is (found_here (IsKnownAt M ls lead own) i [] e [] k refl);
         others = rw is (inl ((λ q x. x.1 (e, c, k)), refl));
-        counts = queried_none M w;
+        counts = subst (AreSearched M [] no_work) (sym none) (searched_none M no_work);
         notes = noted_none M s;
       }
 
@@ -59,12 +73,12 @@ module _ (M : Map) (ls : List ℕ) (lead own : ℕ) (given : List KnownQuery) wh
   own_here i v1 none = grind (arith, found_here)
 
   -- and else there is a search
-  pub asks_searched : (i : ℕ) (query : CoverageQuery) (o : Option KnownQuery) (a b : Work) (s t : Option (List ℕ)) →
+  pub asks_searched : (i : ℕ) (query : CoverageQuery) (o : Option KnownQuery) (w : Work) (s t : Option (List ℕ)) →
       i + 2 < length ls → IsQuery M ls i query → ¬ IsReused M ls lead own given i →
       MatchOption o ((e : KnownQuery) → ¬ IsKnownAt M ls lead own i e) (IsKnownAt M ls lead own i) →
-      Queried M (query ∷ []) a b → Notes (Sees M query) s t →
-      Asks M ls lead own given (i ∷ []) (query ∷ []) (option_to_list o) a b s t
-  asks_searched i query o a b s t h is fresh known counts notes =
+      AreSearched M (query ∷ []) no_work w → Notes (Sees M query) s t →
+      Asks M ls lead own given (i ∷ []) (query ∷ []) (option_to_list o) w s t
+  asks_searched i query o w s t h is fresh known counts notes =
       let here : querying ls (i ∷ []) ≡ i ∷ [] = grind (arith, nat_tests) in
       record {
         searched = query ∷ [];
@@ -77,10 +91,9 @@ module _ (M : Map) (ls : List ℕ) (lead own : ℕ) (given : List KnownQuery) wh
 
 -- ---- from LRP to LRP
 
--- the LRPs so far, up to the last, from which no search was made yet; the coverage queries, and the counts
-pub record Gone (M : Map) (ls : List ℕ) (lead own : ℕ) (given : List KnownQuery) (ps : List ℕ) (last : ℕ)
-    (queries : List CoverageQuery) (known : List KnownQuery) (before work : Work) (seen noted : Option (List ℕ))
-    : Type 0
+-- the LRPs so far, up to the last, from which no search was made yet, and their coverage queries
+pub record Gone (M : Map) (ls : List ℕ) (lead own : ℕ) (given : List KnownQuery) (ps : List ℕ) (last : ℕ) (q : Queries)
+    (seen noted : Option (List ℕ)) : Type 0
   where
     pub done : List ℕ
     pub points : List ℕ
@@ -88,21 +101,22 @@ pub record Gone (M : Map) (ls : List ℕ) (lead own : ℕ) (given : List KnownQu
     pub first : done ++ last ∷ [] ≡ 0 ∷ points
     pub led : Led M ls points last
     pub within : last ≤ length ls
-    pub asks : Asks M ls lead own given done queries known before work seen noted
+    pub asks : Asks M ls lead own given done q.all.items q.own.items q.work seen noted
 
 module _ (M : Map) (ls : List ℕ) (lead own : ℕ) (given : List KnownQuery) where
   -- a search was made from the last LRP too
-  asks_more : (done : List ℕ) (last : ℕ) (old new : List CoverageQuery) (known after : List KnownQuery) (a b c : Work)
-      (s t u : Option (List ℕ)) → Asks M ls lead own given done old known a b s t →
-      AsksAfter M ls lead own given last old new known after b c t u →
-      Asks M ls lead own given (done ++ last ∷ []) new after a c s u
-  asks_more done last old new known after a b c s t u x y = grind (arith, asks_append)
+  asks_more : (done : List ℕ) (last : ℕ) (q r : Queries) (s t u : Option (List ℕ)) →
+      Asks M ls lead own given done q.all.items q.own.items q.work s t → AsksAfter M ls lead own given last q r t u →
+      Asks M ls lead own given (done ++ last ∷ []) r.all.items r.own.items r.work s u
+  asks_more done last q r s t u x y =
+      rw (y.grown, y.own_grown, y.work_grown)
+      (asks_append M ls lead own given done (last ∷ []) q.all.items y.queries q.own.items y.own_queries q.work y.work s t u x
+      y.asks)
 
-  pub gone_more : (ps qs : List ℕ) (last m : ℕ) (old new : List CoverageQuery) (known after : List KnownQuery)
-      (a b c : Work) (s t u : Option (List ℕ)) → Gone M ls lead own given ps last old known a b s t →
-      AsksAfter M ls lead own given last old new known after b c t u → Next M ls last m → qs ≡ ps ++ m ∷ [] →
-      Gone M ls lead own given qs m new after a c s u
-  gone_more ps qs last m old new known after a b c s t u g y n e =
+  pub gone_more : (ps qs : List ℕ) (last m : ℕ) (q r : Queries) (s t u : Option (List ℕ)) →
+      Gone M ls lead own given ps last q s t → AsksAfter M ls lead own given last q r t u → Next M ls last m →
+      qs ≡ ps ++ m ∷ [] → Gone M ls lead own given qs m r s u
+  gone_more ps qs last m q r s t u g y n e =
       record {
         done = g.done ++ last ∷ [];
         points = g.points ++ m ∷ [];
@@ -110,28 +124,38 @@ module _ (M : Map) (ls : List ℕ) (lead own : ℕ) (given : List KnownQuery) wh
         first = rw g.first refl;
         led = led_more M ls g.points last m g.led n;
         within = (Next-candidate M ls last m n).upto;
-        asks = asks_more g.done last old new known after a b c s t u g.asks y;
+        asks = asks_more g.done last q r s t u g.asks y;
       }
 
-  pub ended : (ps : List ℕ) (last : ℕ) (old new : List CoverageQuery) (known after : List KnownQuery)
-      (a b c : Work) (s t u : Option (List ℕ)) → (g : Gone M ls lead own given ps last old known a b s t) →
-      AsksAfter M ls lead own given last old new known after b c t u →
-      Asks M ls lead own given (0 ∷ g.points) new after a c s u
-  ended ps last old new known after a b c s t u g y = grind (arith, asks_more)
+  pub ended : (ps : List ℕ) (last : ℕ) (q r : Queries) (s t u : Option (List ℕ)) →
+      (g : Gone M ls lead own given ps last q s t) → AsksAfter M ls lead own given last q r t u →
+      Asks M ls lead own given (0 ∷ g.points) r.all.items r.own.items r.work s u
+  ended ps last q r s t u g y = grind (arith, asks_more)
 
   -- no search is made from the end
-  pub ended_there : (ps : List ℕ) (last : ℕ) (queries : List CoverageQuery) (known : List KnownQuery) (a b : Work)
-      (s t : Option (List ℕ)) → (g : Gone M ls lead own given ps last queries known a b s t) → length ls ≤ last →
-      Asks M ls lead own given (0 ∷ g.points) queries known a b s t
-  ended_there ps last queries known a b s t g h =
-      let x = asks_append M ls lead own given _ _ _ _ _ _ _ _ _ _ _ _ g.asks (asks_nowhere M ls lead own given last b t (omega arith)) in
-      rw (append-nil, append-nil, g.first) at x
+  pub ended_there : (ps : List ℕ) (last : ℕ) (q : Queries) (s t : Option (List ℕ)) →
+      (g : Gone M ls lead own given ps last q s t) → length ls ≤ last →
+      Asks M ls lead own given (0 ∷ g.points) q.all.items q.own.items q.work s t
+  ended_there ps last q s t g h =
+      ended ps last q q s t t g (asks_none M ls lead own given last q t (omega arith))
 
 -- ---- of a path
 
+-- as the work of one encoding
+pub asks_encoding : (M : Map) (P : Path) (given : List KnownQuery) (queries : List CoverageQuery)
+    (known : List KnownQuery) (w : Work) (s t : Option (List ℕ)) → AsksOf M P given queries known w s t →
+    AsksOf M P given queries known (record w { encodings = 1 }) s t
+asks_encoding M P given queries known w s t a = path_also a (record {
+  searched = a.holds.searched;
+  each = a.holds.each;
+  own_queries = a.holds.own_queries;
+  others = a.holds.others;
+  counts = record { searches = a.holds.counts.searches; settled = a.holds.counts.settled };
+  notes = a.holds.notes;
+})
+
 module _ (M : Map) (P : Path) (given : List KnownQuery) (queries : List CoverageQuery) (known : List KnownQuery)
-    (a b : Work) (s t : Option (List ℕ)) (sound : path_fault M P ≡ None)
-    (asks : AsksOf M P given queries known a b s t) where
+    (w : Work) (s t : Option (List ℕ)) (sound : path_fault M P ≡ None) (asks : AsksOf M P given queries known w s t) where
   -- what holds of a path without a fault
   whole : (X Y : Type 0) → X → MatchOption (path_fault M P) X (λ _. Y)
   whole X Y x = subst (λ (o : Option spec.Refusal). MatchOption o X (λ _. Y)) (sym sound) x
@@ -145,8 +169,8 @@ module _ (M : Map) (P : Path) (given : List KnownQuery) (queries : List Coverage
   pub searched_whole : SearchedOf M P given asks.holds.searched
   searched_whole = whole _ _ (path_also asks asks.holds.others)
 
-  pub searched_of : (old : Work) → old.searches ≡ a.searches → old.settled ≡ a.settled → Searched M P given old b
-  searched_of old e f = grind (arith, searched_whole)
+  pub searched_of : Searched M P given w
+  searched_of = record { queries = asks.holds.searched; those = searched_whole; counts = asks.holds.counts }
 
 -- these are no more than those, and each is one of those
 abbrev Among : List CoverageQuery → List CoverageQuery → Type 0
@@ -169,20 +193,20 @@ searched_among M ls lead own given (i ∷ is) (q ∷ qs) rs z (inr f) =
 
 -- and so they settle no more than the footprint each
 pub searched_few : (M : Map) → IsMap M → (P : Path) → IsTrue (is_path P.lines) → path_fault M P ≡ None →
-    (given : List KnownQuery) (queries : List CoverageQuery) (known : List KnownQuery) (a b : Work)
-    (s t : Option (List ℕ)) → AsksOf M P given queries known a b s t → (all : List ℕ) →
-    ((v : ℕ) → Foot M P v → Contains all v) → b.settled ≤ a.settled + length queries * length all
-searched_few M m P is sound given queries known a b s t asks all h =
+    (given : List KnownQuery) (queries : List CoverageQuery) (known : List KnownQuery) (w : Work)
+    (s t : Option (List ℕ)) → AsksOf M P given queries known w s t → (all : List ℕ) →
+    ((v : ℕ) → Foot M P v → Contains all v) → w.settled ≤ length queries * length all
+searched_few M m P is sound given queries known w s t asks all h =
     let ls = (extended_path M P asks.before asks.after).lines in
     let x = asks.holds in
     let among = searched_among M ls _ _ given (querying ls (0 ∷ asks.points)) queries x.searched x.each x.others in
-    let most = settled_most M x.searched a.settled b.settled x.counts.settled all
-    (λ v r. h v ((foot_queried M m P is queries (queries_whole M P given queries known a b s t sound asks) v).1
+    let most = settled_most M x.searched 0 w.settled x.counts.settled all
+    (λ v r. h v ((foot_queried M m P is queries (queries_whole M P given queries known w s t sound asks) v).1
     (inr (r.0, among.1 r.0 r.1, r.2)))) in
     omega (arith, mul-le-mul_right (length all) among.0)
 
 -- where nothing is given, all coverage queries are searched
 pub searched_all : (M : Map) → IsMap M → (P : Path) → IsTrue (is_path P.lines) → (given : List KnownQuery)
-    (queries : List CoverageQuery) (a b : Work) → given ≡ [] → QueriesOf M P queries → Searched M P given a b →
-    (b.searches ≡ raised_count a.searches (length queries)) × SettledBy M queries a.settled b.settled
-searched_all M m P is given queries a b none o r = grind (arith, all_searched)
+    (queries : List CoverageQuery) (w : Work) → given ≡ [] → QueriesOf M P queries → Searched M P given w →
+    AreSearched M queries no_work w
+searched_all M m P is given queries w none o r = grind (arith, all_searched)

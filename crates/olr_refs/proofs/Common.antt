@@ -1,7 +1,7 @@
 -- The names that most proofs of olr_refs cite, passed on from one place. Declares nothing.
 pub use Rattle.olr_answers.specs.Answers.{answer_of}
 pub use Rattle.olr_refs.specs.Along.{AreDistances, DistancesTo, IsFar, IsLastWithinLimit, IsReach}
-pub use Rattle.olr_refs.specs.Choice.{CountOf, ForPoints, Notes, Queried, SeenBy, SettledBy, raised_count, searches_of}
+pub use Rattle.olr_refs.specs.Choice.{AreSearched, CountOf, ForPoints, Notes, SeenBy, SettledBy, searches_of}
 pub use Rattle.olr_refs.specs.Extends.{Extends}
 pub use Rattle.olr_refs.specs.Fields.{lowest_class, middle_points_of}
 pub use Rattle.olr_refs.specs.KeptPoints.{AreAlong, AreLinked, ArePoints, AreTrimmed, IsFirstKept, IsLastKept}
@@ -10,6 +10,7 @@ pub use Rattle.olr_refs.specs.ResolvedLines.{AreRecords, ResolvedLine, ids, reco
 pub use Rattle.olr_refs.specs.Reuse.{Asks, AsksAfter, AsksOf, Reuses, Searched, known_reach}
 pub use Rattle.olr_refs.specs.Runs.{IsLongest, IsRun, LeadsOn, LiesBeyond, in_order, outermost}
 pub use Rattle.olr_search.proofs.ReadLemmas.{read_at}
+pub use Rattle.olr_search.specs.Counts.{no_work, raised_count, raised_work, saturated_count}
 pub use Rattle.olr_search.specs.Distances.{far_end, near_end}
 pub use Rattle.olr_search.specs.Searches.{Counts, IsSearch, LiesWithin, limit_of}
 pub use Rattle.olr_search.specs.declared.distances.Dijkstra.{Dijkstra}

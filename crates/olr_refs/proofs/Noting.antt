@@ -1,17 +1,19 @@
--- The coverage queries of a choice of LRPs, and the counts that its searches raise.
-use Rattle.olr_refs.proofs.Common.{append_assoc, ◌≡◌, ◌≤◌, ◌+◌, ◌*◌, ℕ, zero, suc, List, [], ◌∷◌, ◌++◌, length}
-use Rattle.olr_refs.proofs.Common.{Contains, refl, ap, ◌∙◌, subst, arith, inl, inr, length-append, None, Some, Option}
+-- The coverage queries of a choice of LRPs, and the work of its searches.
+use Rattle.olr_refs.proofs.Common.{append_assoc, ◌≡◌, ◌≤◌, ◌+◌, ◌*◌, ◌-◌, ℕ, suc, List, [], ◌∷◌, ◌++◌, length}
+use Rattle.olr_refs.proofs.Common.{Contains, refl, arith, inl, inr, length-append, None, Some, Option}
 use Rattle.olr_refs.proofs.Common.{◌⊎◌, IsTrue, ◌↔◌, AllZip, eqb-true, Contains-append_left, Map, has_node, IsMap}
 use Rattle.olr_refs.proofs.Common.{dm_of, limit, Path, is_path, Next, last_position, stretch, Sees, Foot, CoverageQuery}
 use Rattle.olr_refs.proofs.Common.{IsLastTested, QueriesOf, Contains-here, Contains-cases, Work, Along, Dijkstra}
-use Rattle.olr_refs.proofs.Common.{IsSearch, LiesWithin, limit_of, Queried, SeenBy, SettledBy, raised_count, Notes}
+use Rattle.olr_refs.proofs.Common.{IsSearch, LiesWithin, limit_of, AreSearched, SeenBy, SettledBy, Notes}
+use Rattle.olr_refs.proofs.Common.{no_work, raised_count, raised_work}
 use Rattle.olr_refs.proofs.Common.{foot_queried, all_searched, Contains-append_right, Contains-append_cases, Follow}
 use Rattle.olr_refs.proofs.Common.{NoNext, TraversedOf, SearchedOf, Contains-one, Counts, CountOf, append-nil}
 use Rattle.olr_refs.proofs.Common.{MatchOption}
 use Rattle.std.specs.Cmp.{nat_eq_equiv}
 use Rattle.std.proofs.lemmas.Map.Made.{length-le_from_is_member}
 use Rattle.std.proofs.lemmas.Map.Views.{Contains-from_any, list_any-from_Contains}
-use Rattle.olr_search.specs.Counts.{saturated_count}
+use Rattle.std.proofs.lemmas.List.Sums.{sum_by-append, sum_by-cons}
+use Rattle.std.specs.Prelude.{sum, ◌^◌}
 use Rattle.olr_search.proofs.SearchLemmas.{near_leads}
 use Rattle.olr_refs.proofs.Stretches.{stretch_sum}
 use Rattle.olr_refs.proofs.Reaching.{empty_stretch}
@@ -45,15 +47,26 @@ query_short M ls i k t =
 
 -- ---- counts
 
-pub raised_more : (count n m : ℕ) → raised_count (raised_count count n) m ≡ raised_count count (n + m)
-raised_more count n zero = ap (raised_count count) (omega arith)
-raised_more count n (suc m) = let e : suc (n + m) ≡ n + suc m =
-    omega arith in ap (λ (k : ℕ). saturated_count (k + 1)) (raised_more count n m) ∙ ap (raised_count count) e
+pub raised_none : (w : Work) → w ≡ raised_work w no_work
+raised_none w =
+    let e : raised_count w.encodings 0 ≡ w.encodings = omega arith in
+    let f : raised_count w.searches 0 ≡ w.searches = omega arith in
+    let g : raised_count w.settled 0 ≡ w.settled = omega arith in
+    rw (e, f, g) refl
 
-pub settled_append : (M : Map) (ks ls : List CoverageQuery) (a b c : ℕ) → SettledBy M ks a b → SettledBy M ls b c →
-    SettledBy M (ks ++ ls) a c
-settled_append M [] ls a b c p q = subst (λ (k : ℕ). SettledBy M ls k c) p q
-settled_append M (k ∷ ks) ls a b c p q = (p.0, p.1, settled_append M ks ls (saturated_count (a + p.0)) b c p.2 q)
+-- a count that is raised twice, and one that is raised by a count from 0
+pub raised_twice : (a b c n m k : ℕ) → b ≡ raised_count a n → c ≡ raised_count b m → k ≡ n + m → c ≡ raised_count a k
+raised_twice a b c n m k h g e = omega arith
+
+raised_from : (a b n : ℕ) → b ≡ raised_count 0 n → raised_count a b ≡ raised_count a n
+raised_from a b n h = omega arith
+
+pub zip_append : {X Y : Type 0} (R : X → Y → Type 0) (ws xs : List X) (bs ys : List Y) → AllZip R ws bs → AllZip R xs ys →
+    AllZip R (ws ++ xs) (bs ++ ys)
+zip_append R [] xs [] ys z w = w
+zip_append R [] xs (b ∷ bs) ys z w = absurd z
+zip_append R (a ∷ ws) xs [] ys z w = absurd z
+zip_append R (a ∷ ws) xs (b ∷ bs) ys z w = (z.0, zip_append R ws xs bs ys z.1 w)
 
 -- no more than there are such nodes
 settled_few : (near : ℕ → Type 0) (n : ℕ) (all : List ℕ) → CountOf near n → ((v : ℕ) → near v → Contains all v) →
@@ -67,51 +80,62 @@ settled_few near n all c each =
           (each q ((c.exactly q).0 (Contains-from_any (λ x y e. eqb-true x y e) q c.nodes is)))),
     )
 
-most_more : (a b c n m t : ℕ) → b ≤ a + n → n ≤ t → c ≤ b + m * t → c ≤ a + suc m * t
-most_more a b c n m t f h g = let parts : suc m * t ≡ m * t + t = omega arith in omega arith
-
 -- no query reaches more than all nodes that any of them reaches
+sum_most : (M : Map) (queries : List CoverageQuery) (counts : List ℕ) →
+    AllZip (λ l n. CountOf (Sees M l) n) queries counts → (all : List ℕ) → ((v : ℕ) → SeenBy M queries v → Contains all v)
+    → sum counts ≤ length queries * length all
+sum_most M [] [] z all h = omega arith
+sum_most M [] (n ∷ ns) z all h = absurd z
+sum_most M (l ∷ ls) [] z all h = absurd z
+sum_most M (l ∷ ls) (n ∷ ns) z all h =
+    let first = settled_few (Sees M l) n all z.0 (λ v r. h v (l, Contains-here l ls, r)) in
+    let rest = sum_most M ls ns z.1 all (λ v r. h v (r.0, Contains-append_right (l ∷ []) ls r.0 r.1, r.2)) in
+    let parts : suc (length ls) * length all ≡ length ls * length all + length all = omega arith in
+    omega (arith, sum_by-cons (λ (x : ℕ). x) n ns)
+
 pub settled_most : (M : Map) (queries : List CoverageQuery) (a c : ℕ) → SettledBy M queries a c → (all : List ℕ) →
     ((v : ℕ) → SeenBy M queries v → Contains all v) → c ≤ a + length queries * length all
-settled_most M [] a c s all h = omega arith
-settled_most M (l ∷ ls) a c s all h =
-    most_more a (saturated_count (a + s.0)) c s.0 (length ls) (length all) (omega arith)
-    (settled_few (Sees M l) s.0 all s.1 (λ v r. h v (l, Contains-here l ls, r)))
-    (settled_most M ls (saturated_count (a + s.0)) c s.2 all
-    (λ v r. h v (r.0, Contains-append_right (l ∷ []) ls r.0 r.1, r.2)))
+settled_most M queries a c s all h = omega (arith, sum_most M queries s.0 s.1 all h)
 
-pub queried_none : (M : Map) (w : Work) → Queried M [] w w
-queried_none M w = record { encodings = refl; searches = refl; ascends = omega arith; settled = refl }
+pub searched_none : (M : Map) (w : Work) → AreSearched M [] w w
+searched_none M w = record { searches = omega arith; settled = ([], tt, omega arith) }
 
-pub queried_more : (M : Map) (ks ls : List CoverageQuery) (a b c : Work) → Queried M ks a b → Queried M ls b c →
-    Queried M (ks ++ ls) a c
-queried_more M ks ls a b c f g = grind (arith, raised_more, length-append, settled_append)
+pub searched_more : (M : Map) (ks ls : List CoverageQuery) (a b c : Work) → AreSearched M ks a b →
+    AreSearched M ls b c → AreSearched M (ks ++ ls) a c
+searched_more M ks ls a b c f g = record {
+  searches = raised_twice _ _ _ _ _ _ f.searches g.searches (length-append ks ls);
+  settled = (
+    f.settled.0 ++ g.settled.0,
+    zip_append _ _ _ _ _ f.settled.1 g.settled.1,
+    raised_twice _ _ _ _ _ _ f.settled.2 g.settled.2 (sum_by-append (λ (x : ℕ). x) f.settled.0 g.settled.0),
+  );
+}
+
+-- added to other work
+pub searched_on : (M : Map) (ls : List CoverageQuery) (old w : Work) → AreSearched M ls no_work w →
+    AreSearched M ls old (raised_work old w)
+searched_on M ls old w h = record {
+  searches = raised_from _ _ _ h.searches;
+  settled = (h.settled.0, h.settled.1, raised_from _ _ _ h.settled.2);
+}
 
 -- one search for a query
-pub one_query : (M : Map) (place : ℕ → ℕ) (l : CoverageQuery) (n : ℕ) (q : Dijkstra) (before after : Work) →
+pub one_query : (M : Map) (place : ℕ → ℕ) (l : CoverageQuery) (q : Dijkstra) (w : Work) →
     IsSearch M place Along ((l.from, 0) ∷ []) q → IsTrue (has_node M l.from) → limit_of q ≡ l.within
-    → Counts M Along ((l.from, 0) ∷ []) (limit_of q) n
-    → after.encodings ≡ before.encodings → after.searches ≡ saturated_count (before.searches + 1) →
-    after.settled ≡ saturated_count (before.settled + n) → Queried M (l ∷ []) before after
-one_query M place l n q before after h there far c encodings searches settled =
+    → Counts M Along ((l.from, 0) ∷ []) (limit_of q) w.settled
+    → w.searches ≡ 1 → w.settled ≤ 2 ^ 64 - 1 → AreSearched M (l ∷ []) no_work w
+one_query M place l q w h there far c searches small =
     let exactly : (v : ℕ) → Contains c.nodes v ↔ Sees M l v = λ v.
     let s = search_sees M place l q h there far v in
     let e = c.exactly v in ((λ m. s.0 (e.0 m)), (λ r. e.1 (s.1 r))) in
     record {
-      encodings = encodings;
-      searches = searches;
-      ascends = omega arith;
-      settled = (n, record { nodes = c.nodes; apart = c.apart; exactly = exactly; many = c.many }, settled);
+      searches = omega arith;
+      settled = (
+        w.settled ∷ [],
+        (record { nodes = c.nodes; apart = c.apart; exactly = exactly; many = c.many }, tt),
+        omega arith,
+      );
     }
-
--- ---- coverage queries
-
-pub zip_append : {X Y : Type 0} (R : X → Y → Type 0) (ws xs : List X) (bs ys : List Y) → AllZip R ws bs → AllZip R xs ys →
-    AllZip R (ws ++ xs) (bs ++ ys)
-zip_append R [] xs [] ys z w = w
-zip_append R [] xs (b ∷ bs) ys z w = absurd z
-zip_append R (a ∷ ws) xs [] ys z w = absurd z
-zip_append R (a ∷ ws) xs (b ∷ bs) ys z w = (z.0, zip_append R ws xs bs ys z.1 w)
 
 -- ---- from LRP to LRP
 

@@ -79,16 +79,16 @@ traversed_of M m P E lead F G is none empty x v =
 
 -- the coverage queries, by the extension
 pub asks_of : (M : Map) (P E : Path) (lead : ℕ) (F G : List ℕ) (given : List KnownQuery) (queries : List CoverageQuery)
-    (known : List KnownQuery) (a b : Work) (s t : Option (List ℕ)) → Extends M P E lead F G →
-    ForPoints M E.lines (λ js. Asks M E.lines lead (length P.lines) given (0 ∷ js) queries known a b s t) →
-    AsksOf M P given queries known a b s t
-asks_of M P E lead F G given queries known a b s t x f = grind (arith, of_path)
+    (known : List KnownQuery) (w : Work) (s t : Option (List ℕ)) → Extends M P E lead F G →
+    ForPoints M E.lines (λ js. Asks M E.lines lead (length P.lines) given (0 ∷ js) queries known w s t) →
+    AsksOf M P given queries known w s t
+asks_of M P E lead F G given queries known w s t x f = grind (arith, of_path)
 
 -- ---- where a result is a success
 
-pub if_on : {A F : Type 0} (r : Result A F) (P : A → Type 0) (Q : Type 0) (R : A → Type 0) →
-    ((x : A) → P x → Q → R x) → IfOk r P → OnOk r Q → IfOk r R
-if_on v0 P Q R f p q = grind arith
+pub if_both : {A F : Type 0} (r : Result A F) (P Q R : A → Type 0) → ((x : A) → P x → Q x → R x) → IfOk r P →
+    IfOk r Q → IfOk r R
+if_both v0 P Q R f p q = grind arith
 
 -- ---- counts
 

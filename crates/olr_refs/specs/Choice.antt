@@ -4,18 +4,17 @@
 --         point
 --     searches_of ls is      how many of the points is are searched from: those that two lines or more follow
 --     CountOf near n      so many nodes are `near`
---     SettledBy M queries old new      a count is raised for each of the queries, by the number of nodes that the query
---         sees
---     Queried M queries old new      one search more for each of the queries, which settles the nodes that it reaches
+--     SettledBy M queries old new      a count is raised by the number of nodes that the queries see, added up
+--     AreSearched M queries old new      one search more for each of the queries, which settles the nodes that it reaches
 --     SeenBy M queries v      one of the queries reaches node v
 --     Notes near old new      where nodes are noted, those that are `near` are noted besides
 --     TestedTo M slot ls i far to q      the positions after i are covered and within the limit up to far, and tested up
 --         to the position `to`, by the search q
---     FoundFrom M ls i far to asked old new before noted      by one search for the query asked, the positions after i
---         are covered and within the limit up to far, and tested up to the position `to`
-use Rattle.std.specs.Prelude.{◌≡◌, ◌≢◌, ◌==◌, ℕ, zero, suc, ◌+◌, ◌≤◌, List, [], ◌∷◌, length, count_by, nat_lt}
+--     FoundFrom M ls i far to asked work before noted      by one search for the query asked, with this work, the
+--         positions after i are covered and within the limit up to far, and tested up to the position `to`
+use Rattle.std.specs.Prelude.{◌≡◌, ◌≢◌, ◌==◌, ℕ, ◌+◌, List, ◌∷◌, [], length, count_by, sum, nat_lt}
 use Rattle.std.specs.Prelude.{Contains, Option, Some, None, ◌↔◌, ◌⊎◌, ⊤, slice_index}
-use Rattle.std.specs.List.{IsDistinct}
+use Rattle.std.specs.List.{AllZip, IsDistinct}
 use Rattle.olr_spec.specs.Map.{Map, end}
 use Rattle.olr_spec.specs.Routes.{dm_of}
 use Rattle.olr_spec.specs.Points.{Follow, last_position, stretch}
@@ -25,7 +24,7 @@ use Rattle.olr_search.specs.declared.distances.Dijkstra.{Dijkstra}
 use Rattle.olr_search.specs.declared.distances.Direction.TheVariants.{Along}
 use Rattle.olr_search.specs.Searches.{IsSearch, limit_of}
 use Rattle.olr_search.specs.declared.work.Work.{Work}
-use Rattle.olr_search.specs.Counts.{saturated_count}
+use Rattle.olr_search.specs.Counts.{no_work, raised_count}
 use Rattle.olr_refs.specs.Along.{IsReach}
 use Rattle.olr_refs.specs.declared.chosen.Choice.{Choice}
 use Rattle.olr_refs.specs.declared.chosen.Choice.TheVariants.{Positions, NoNext}
@@ -40,11 +39,6 @@ IsChoice ls js (NoNext k) = (last_position 0 js ≢ length ls) × (k ≡ last_po
 abbrev pub searches_of : List ℕ → List ℕ → ℕ
 searches_of ls is = count_by (λ i. nat_lt (i + 2) (length ls)) is
 
--- a count that is raised by one so many times
-abbrev pub raised_count : ℕ → ℕ → ℕ
-raised_count count zero = count
-raised_count count (suc n) = saturated_count (raised_count count n + 1)
-
 pub record CountOf (near : ℕ → Type 0) (n : ℕ) : Type 0 where
   pub nodes : List ℕ
   pub apart : IsDistinct ◌==◌ nodes
@@ -52,13 +46,11 @@ pub record CountOf (near : ℕ → Type 0) (n : ℕ) : Type 0 where
   pub many : length nodes ≡ n
 
 abbrev pub SettledBy : Map → List CoverageQuery → ℕ → ℕ → Type 0
-SettledBy M [] old new = new ≡ old
-SettledBy M (l ∷ ls) old new = (n : ℕ) × CountOf (Sees M l) n × SettledBy M ls (saturated_count (old + n)) new
+SettledBy M queries old new =
+    (counts : List ℕ) × AllZip (λ l n. CountOf (Sees M l) n) queries counts × (new ≡ raised_count old (sum counts))
 
-pub record Queried (M : Map) (queries : List CoverageQuery) (old new : Work) : Type 0 where
-  pub encodings : new.encodings ≡ old.encodings
+pub record AreSearched (M : Map) (queries : List CoverageQuery) (old new : Work) : Type 0 where
   pub searches : new.searches ≡ raised_count old.searches (length queries)
-  pub ascends : saturated_count old.settled ≤ new.settled
   pub settled : SettledBy M queries old.settled new.settled
 
 abbrev pub SeenBy : Map → List CoverageQuery → ℕ → Type 0
@@ -78,11 +70,11 @@ pub record TestedTo (M : Map) (slot : ℕ → ℕ) (ls : List ℕ) (i far to : �
   pub search : IsSearch M slot Along ((end M (slice_index ls i), 0) ∷ []) q
   pub no_farther : limit_of q ≡ dm_of M (stretch ls (i + 1) to)
 
-pub record FoundFrom (M : Map) (ls : List ℕ) (i far to : ℕ) (asked : CoverageQuery) (old new : Work)
+pub record FoundFrom (M : Map) (ls : List ℕ) (i far to : ℕ) (asked : CoverageQuery) (work : Work)
     (before noted : Option (List ℕ)) : Type 0
   where
     pub reach : IsReach M ls i far
     pub last : IsLastTested M ls i to
     pub query : asked ≡ query_to M ls i to
     pub seen : Notes (Sees M asked) before noted
-    pub work : Queried M (asked ∷ []) old new
+    pub counts : AreSearched M (asked ∷ []) no_work work

@@ -25,13 +25,28 @@ pub enum Choice {
     NoNext(usize),
 }
 
-/// Coverage queries of a path.
+/// Coverage queries of a path, and the searches that were made for them.
 #[derive(Drop)]
 pub struct Queries {
     /// One coverage query from each LRP whose line is followed by two lines or more.
     pub all: Vec<CoverageQuery>,
     /// Those of them that are along the path's own lines.
     pub own: Vec<KnownQuery>,
+    /// The searches for those that were not known.
+    pub work: Work,
+}
+
+/// A coverage query from an LRP, and what it shows.
+#[derive(Clone, Copy)]
+struct Found {
+    /// The last position that is covered and near enough.
+    reach: usize,
+    /// The query.
+    query: CoverageQuery,
+    /// The same as a query along the path's own lines, where it is one.
+    own: Option<KnownQuery>,
+    /// The search for it; none if it was known.
+    work: Work,
 }
 
 /// The LRPs of an extended path, and the coverage queries by which they were found.
@@ -43,7 +58,7 @@ pub struct Chosen {
     pub queries: Queries,
 }
 
-/// Adds the nodes that a search has settled to those that were seen, where these are noted.
+/// If `seen` is `Some`, adds the nodes that the search has settled.
 fn note_settled(
     alloc: Global,
     search: &Dijkstra,
@@ -62,9 +77,9 @@ fn note_settled(
     seen.note_all(&nodes)
 }
 
-/// How far the positions after `i` are covered and near enough, where two lines or more follow line `i`, and how far
-/// that was tested; and the query for that, by one search, which settles the nodes that the query reaches. These are
-/// noted where any are. Positions up to `far` are near enough.
+/// Tests by one search how far the positions after `i` are covered and near enough, where two lines or more follow line
+/// `i`. Returns the result, the query for it and the work of the search. If `seen` is `Some`, adds the nodes that the
+/// search settled: those that the query reaches. Positions up to `far` are near enough.
 fn search_after<M: MapRead>(
     alloc: Global,
     resolved: &ResolvedPath<M>,
@@ -72,30 +87,31 @@ fn search_after<M: MapRead>(
     far: usize,
     search: &mut Dijkstra,
     seen: &mut Option<Footprint>,
-    work: &mut Work,
-) -> Result<(Tested, CoverageQuery), AllocError>
+) -> Result<(Tested, CoverageQuery, Work), AllocError>
     requires some { i + 2 < length resolved.now.lines.now }
     requires far { IsFar (M.map resolved.now.map.now) resolved.now.lines.now i far }
     ensures { IfOk result (λ r. FoundFrom (M.map resolved.now.map.now) resolved.now.lines.now i r.0.reach r.0.last r.1
-        work.old work.new seen.old seen.new) }
+        r.2 seen.old seen.new) }
 {
     let from = resolved.end(i);
     search.begin(resolved.map, Direction::Along, &[(from, 0)])?;
     let tested = covered_to(resolved, i, far, search)?;
     note_settled(alloc, search, seen)?;
-    work.searches = work.searches.saturating_add(1);
-    work.settled = work.settled.saturating_add(search.settled_count() as u64);
     let query = CoverageQuery {
         from,
         to: resolved.node(tested.last),
         within: resolved.between(i + 1, tested.last) as u32,
     };
-    Ok((tested, query))
+    let work = Work {
+        encodings: 0,
+        searches: 1,
+        settled: search.settled_count() as u64,
+    };
+    Ok((tested, query, work))
 }
 
-/// How far the positions after `i` are covered and near enough, where two lines or more follow line `i`; the query for
-/// that; and this as a query along the path's own lines, where it is one. It is searched where it isn't known, and then
-/// what it sees is noted where anything is.
+/// The coverage query from position `i`, where two lines or more follow line `i`. If it is not known, it is searched;
+/// then, if `seen` is `Some`, adds the nodes that the search settled.
 fn query_after<M: MapRead>(
     alloc: Global,
     resolved: &ResolvedPath<M>,
@@ -103,31 +119,37 @@ fn query_after<M: MapRead>(
     i: usize,
     search: &mut Dijkstra,
     seen: &mut Option<Footprint>,
-    work: &mut Work,
-) -> Result<(usize, CoverageQuery, Option<KnownQuery>), AllocError>
+) -> Result<Found, AllocError>
     requires some { i + 2 < length resolved.now.lines.now }
     requires reuse { Reuses (M.map resolved.now.map.now) resolved.now.lines.now reuse.now.lead reuse.now.own
         reuse.now.known.now }
-    ensures { IfOk result (λ r. IsReach (M.map resolved.now.map.now) resolved.now.lines.now i r.0
+    ensures { IfOk result (λ r. IsReach (M.map resolved.now.map.now) resolved.now.lines.now i r.reach
         × Asks (M.map resolved.now.map.now) resolved.now.lines.now reuse.now.lead reuse.now.own reuse.now.known.now
-        (i ∷ []) (r.1 ∷ []) (option_to_list r.2) work.old work.new seen.old seen.new) }
+        (i ∷ []) (r.query ∷ []) (option_to_list r.own) r.work seen.old seen.new) }
 {
     let far = last_within_limit(resolved, i);
     match known_after(resolved, reuse, i, far) {
-        Some(known) => {
-            let reach = reach_by(&known, reuse.lead, far);
-            Ok((reach, query_of(&known), Some(known)))
-        }
+        Some(known) => Ok(Found {
+            reach: reach_by(&known, reuse.lead, far),
+            query: query_of(&known),
+            own: Some(known),
+            work: Work::none(),
+        }),
         None => {
-            let (tested, query) = search_after(alloc, resolved, i, far, search, seen, work)?;
+            let (tested, query, work) = search_after(alloc, resolved, i, far, search, seen)?;
             let own = own_query(resolved, reuse, i, query, tested);
-            Ok((tested.reach, query, own))
+            Ok(Found {
+                reach: tested.reach,
+                query,
+                own,
+                work,
+            })
         }
     }
 }
 
-/// How far the positions after `i` are covered and near enough. The query for that, where two lines or more follow line
-/// `i`, is put behind the others.
+/// How far the positions after `i` are covered and near enough. Where two lines or more follow line `i`, appends the
+/// coverage query that shows it.
 fn reach_of<M: MapRead>(
     alloc: Global,
     resolved: &ResolvedPath<M>,
@@ -136,40 +158,38 @@ fn reach_of<M: MapRead>(
     queries: &mut Queries,
     search: &mut Dijkstra,
     seen: &mut Option<Footprint>,
-    work: &mut Work,
 ) -> Result<usize, AllocError>
     requires some { i < length resolved.now.lines.now }
     requires reuse { Reuses (M.map resolved.now.map.now) resolved.now.lines.now reuse.now.lead reuse.now.own
         reuse.now.known.now }
     ensures { IfOk result (λ reach. IsReach (M.map resolved.now.map.now) resolved.now.lines.now i reach
         × AsksAfter (M.map resolved.now.map.now) resolved.now.lines.now reuse.now.lead reuse.now.own
-        reuse.now.known.now i queries.old.all.items queries.new.all.items queries.old.own.items
-        queries.new.own.items work.old work.new seen.old seen.new) }
+        reuse.now.known.now i queries.old queries.new seen.old seen.new) }
 {
     if resolved.lines.len() - i <= 2 {
         return Ok(last_within_limit(resolved, i));
     }
-    let (reach, query, own) = query_after(alloc, resolved, reuse, i, search, seen, work)?;
-    queries.all.push(query)?;
-    if let Some(own) = own {
+    let found = query_after(alloc, resolved, reuse, i, search, seen)?;
+    queries.all.push(found.query)?;
+    if let Some(own) = found.own {
         queries.own.push(own)?;
     }
-    Ok(reach)
+    queries.work = queries.work.plus(found.work);
+    Ok(found.reach)
 }
 
 /// The location reference points of an extended path, by position: the first position, the one that follows it as a
 /// point, and so on to the end, or the position that none can follow (White Paper, intermediate points and the 15,000 m
 /// rule; which one follows is the profile's choice). Each point that two lines or more follow is searched from once, no
-/// farther than it takes to find the next one, unless its coverage query is known. The nodes that these searches settle
-/// are added to those that were seen, where these are noted; `None` notes nothing. If it is out of memory, the work may
-/// hold more than before, and so may what was seen; and the search has to be begun again.
+/// farther than it takes to find the next one, unless its coverage query is known. If `seen` is `Some`, adds the nodes
+/// that these searches settled. If an allocation fails, `seen` may have some of these nodes, and the search must be begun
+/// again.
 pub fn points<M: MapRead>(
     alloc: Global,
     resolved: &ResolvedPath<M>,
     reuse: &Reuse,
     search: &mut Dijkstra,
     seen: &mut Option<Footprint>,
-    work: &mut Work,
 ) -> Result<Chosen, AllocError>
     requires { Reuses (M.map resolved.now.map.now) resolved.now.lines.now reuse.now.lead reuse.now.own
         reuse.now.known.now }
@@ -177,7 +197,7 @@ pub fn points<M: MapRead>(
         (λ js. IsChoice resolved.now.lines.now js chosen.choice)) }
     ensures asks { IfOk result (λ chosen. ForPoints (M.map resolved.now.map.now) resolved.now.lines.now
         (λ js. Asks (M.map resolved.now.map.now) resolved.now.lines.now reuse.now.lead reuse.now.own
-        reuse.now.known.now (0 ∷ js) chosen.queries.all.items chosen.queries.own.items work.old work.new seen.old
+        reuse.now.known.now (0 ∷ js) chosen.queries.all.items chosen.queries.own.items chosen.queries.work seen.old
         seen.new)) }
 {
     let mut positions = Vec::new(alloc);
@@ -185,19 +205,11 @@ pub fn points<M: MapRead>(
     let mut queries = Queries {
         all: Vec::new(alloc),
         own: Vec::new(alloc),
+        work: Work::none(),
     };
     let mut last = 0;
     while last < resolved.lines.len() {
-        let reach = reach_of(
-            alloc,
-            resolved,
-            reuse,
-            last,
-            &mut queries,
-            search,
-            seen,
-            work,
-        )?;
+        let reach = reach_of(alloc, resolved, reuse, last, &mut queries, search, seen)?;
         match next_of(resolved, last, reach) {
             Some(next) => {
                 positions.push(next)?;

@@ -1,5 +1,5 @@
 //! The encoding of a path on a map.
-ghost use Rattle.std.specs.Prelude.{◌≡◌, ℕ, List, ◌+◌, ◌*◌, ◌^◌, ◌<◌, ◌≤◌, ◌↔◌, ◌∷◌, IsTrue, IfOk, OnOk, None};
+ghost use Rattle.std.specs.Prelude.{◌≡◌, ℕ, List, ◌+◌, ◌*◌, ◌<◌, ◌≤◌, ◌↔◌, ◌∷◌, IsTrue, IfOk, OnOk, None};
 ghost use Rattle.std.specs.Prelude.{Contains, length};
 ghost use Rattle.olr_spec.specs.Extension.{is_path, AreJoined};
 ghost use Rattle.olr_spec.specs.Encoding.{path_fault, Encoding as EncodingRecord, Encodes};
@@ -9,7 +9,8 @@ ghost use Rattle.olr_spec.specs.Queries.{CoverageQuery as QueryRecord};
 ghost use Rattle.olr_answers.specs.Answers.{answer_of};
 ghost use Rattle.olr_spec.specs.Encoding.{answer_by_points as answer_along};
 ghost use Rattle.olr_spec.specs.Routes.{dm_of};
-ghost use Rattle.olr_refs.specs.Choice.{ForPoints, IsChoice, Notes, SeenBy, SettledBy, raised_count};
+ghost use Rattle.olr_refs.specs.Choice.{ForPoints, IsChoice, Notes, SeenBy, SettledBy};
+ghost use Rattle.olr_search.specs.Counts.{saturated_count};
 ghost use Rattle.olr_refs.specs.Referring.{JoinsOf};
 ghost use Rattle.olr_refs.specs.ResolvedLines.{records_of};
 ghost use Rattle.olr_refs.specs.Reuse.{Reuses, Asks, AsksOf, Searched};
@@ -40,18 +41,18 @@ pub struct Encoding {
     /// Those of them that are along the path's own lines, in the same order. After edits they are known to be right
     /// where they are clear of the changed lines.
     pub known: Vec<KnownQuery>,
+    /// One encoding, and one search for each coverage query that was not known before.
+    pub work: Work,
 }
 
 /// The encoding of a path on a map, by searches that are settled no farther than it takes to find the LRPs.
 ///
-/// Counts one encoding, and one search for each coverage query. If an allocation fails, the work may hold more than
-/// before, and the search must be begun again.
+/// If an allocation fails, the search must be begun again.
 pub fn encode<M: MapRead>(
     alloc: Global,
     map: &M,
     path: &Path,
     search: &mut Dijkstra,
-    work: &mut Work,
 ) -> Result<Encoding, AllocError>
     ensures answer { IfOk result (λ e. Encodes (M.map map.now) path.now (answer_of e.answer)) }
     ensures joins { IfOk result (λ e. JoinsOf (M.map map.now) path.now e.answer) }
@@ -59,30 +60,26 @@ pub fn encode<M: MapRead>(
     ensures queries { IfOk result (λ e. QueriesOf (M.map map.now) path.now e.queries.items) }
     ensures known { IfOk result (λ e. KnownOf (M.map map.now) path.now e.known.items) }
     ensures path { IsTrue (is_path path.now.lines) }
-    ensures encodings { OnOk result (work.new.encodings ≡ raised_count work.old.encodings 1) }
-    ensures searches { IfOk result (λ e. work.new.searches ≡ raised_count work.old.searches (length e.queries.items)) }
-    ensures settled_rises { OnOk result (work.old.settled < 2 ^ 64 → work.old.settled ≤ work.new.settled) }
+    ensures encodings { IfOk result (λ e. e.work.encodings ≡ 1) }
+    ensures searches { IfOk result (λ e. e.work.searches ≡ saturated_count (length e.queries.items)) }
     ensures settled { IfOk result (λ e. (all : List ℕ) → ((v : ℕ) → Foot (M.map map.now) path.now v → Contains all v)
-        → work.new.settled ≤ work.old.settled + length e.queries.items * length all) }
-    ensures settled_exactly { IfOk result
-        (λ e. SettledBy (M.map map.now) e.queries.items work.old.settled work.new.settled) }
+        → e.work.settled ≤ length e.queries.items * length all) }
+    ensures settled_exactly { IfOk result (λ e. SettledBy (M.map map.now) e.queries.items 0 e.work.settled) }
 {
-    encode_again(alloc, map, path, &[], search, work)
+    encode_again(alloc, map, path, &[], search)
 }
 
 /// The encoding of a path on a map, as `encode` makes it, without a search for the coverage queries along the path's
 /// own lines that are known to be right on this map, as those of an earlier encoding which are clear of all changes
 /// since. They are in the order of the lines where they begin.
 ///
-/// Counts one encoding, and one search for each other coverage query. If an allocation fails, the work may hold more
-/// than before, and the search must be begun again.
+/// If an allocation fails, the search must be begun again.
 pub fn encode_again<M: MapRead>(
     alloc: Global,
     map: &M,
     path: &Path,
     known: &[KnownQuery],
     search: &mut Dijkstra,
-    work: &mut Work,
 ) -> Result<Encoding, AllocError>
     requires { AreKnown (M.map map.now) path.now.lines known.now }
     ensures answer { IfOk result (λ e. Encodes (M.map map.now) path.now (answer_of e.answer)) }
@@ -91,20 +88,19 @@ pub fn encode_again<M: MapRead>(
     ensures queries { IfOk result (λ e. QueriesOf (M.map map.now) path.now e.queries.items) }
     ensures known { IfOk result (λ e. KnownOf (M.map map.now) path.now e.known.items) }
     ensures path { IsTrue (is_path path.now.lines) }
-    ensures encodings { OnOk result (work.new.encodings ≡ raised_count work.old.encodings 1) }
-    ensures searched { OnOk result (Searched (M.map map.now) path.now known.now work.old work.new) }
-    ensures settled_rises { OnOk result (work.old.settled < 2 ^ 64 → work.old.settled ≤ work.new.settled) }
+    ensures encodings { IfOk result (λ e. e.work.encodings ≡ 1) }
+    ensures searched { IfOk result (λ e. Searched (M.map map.now) path.now known.now e.work) }
     ensures settled { IfOk result (λ e. (all : List ℕ) → ((v : ℕ) → Foot (M.map map.now) path.now v → Contains all v)
-        → work.new.settled ≤ work.old.settled + length e.queries.items * length all) }
+        → e.work.settled ≤ length e.queries.items * length all) }
 {
     let mut seen = None;
-    encode_noting(alloc, map, path, known, search, &mut seen, work)
+    encode_noting(alloc, map, path, known, search, &mut seen)
 }
 
-/// The encoding of a path on a map, as `encode_again` makes it. The nodes that its searches settle are added to those
-/// that were seen, where these are noted; `None` notes nothing.
+/// The encoding of a path on a map, as `encode_again` makes it. If `seen` is `Some`, adds the nodes that the searches
+/// settled.
 ///
-/// If it is out of memory, what was seen may be more than before.
+/// If an allocation fails, the search must be begun again, and `seen` may have some of these nodes.
 pub fn encode_noting<M: MapRead>(
     alloc: Global,
     map: &M,
@@ -112,7 +108,6 @@ pub fn encode_noting<M: MapRead>(
     known: &[KnownQuery],
     search: &mut Dijkstra,
     seen: &mut Option<Footprint>,
-    work: &mut Work,
 ) -> Result<Encoding, AllocError>
     requires { AreKnown (M.map map.now) path.now.lines known.now }
     ensures answer { IfOk result (λ e. Encodes (M.map map.now) path.now (answer_of e.answer)) }
@@ -121,23 +116,25 @@ pub fn encode_noting<M: MapRead>(
     ensures queries { IfOk result (λ e. QueriesOf (M.map map.now) path.now e.queries.items) }
     ensures known { IfOk result (λ e. KnownOf (M.map map.now) path.now e.known.items) }
     ensures path { IsTrue (is_path path.now.lines) }
-    ensures encodings { OnOk result (work.new.encodings ≡ raised_count work.old.encodings 1) }
-    ensures searched { OnOk result (Searched (M.map map.now) path.now known.now work.old work.new) }
-    ensures settled_rises { OnOk result (work.old.settled < 2 ^ 64 → work.old.settled ≤ work.new.settled) }
+    ensures encodings { IfOk result (λ e. e.work.encodings ≡ 1) }
+    ensures searched { IfOk result (λ e. Searched (M.map map.now) path.now known.now e.work) }
     ensures settled { IfOk result (λ e. (all : List ℕ) → ((v : ℕ) → Foot (M.map map.now) path.now v → Contains all v)
-        → work.new.settled ≤ work.old.settled + length e.queries.items * length all) }
+        → e.work.settled ≤ length e.queries.items * length all) }
     ensures seen { OnOk result ((queries : List QueryRecord) × SearchedOf (M.map map.now) path.now known.now queries
         × Notes (SeenBy (M.map map.now) queries) seen.old seen.new) }
 {
-    work.encodings = work.encodings.saturating_add(1);
     match own_lines(alloc, map, path)? {
         Err(refusal) => Ok(Encoding {
             answer: Answer::Refused(refusal),
             traversed: Footprint::new(alloc),
             queries: Vec::new(alloc),
             known: Vec::new(alloc),
+            work: Work {
+                encodings: 1,
+                ..Work::none()
+            },
         }),
-        Ok(own) => encode_whole(alloc, map, path, &own, known, search, seen, work),
+        Ok(own) => encode_whole(alloc, map, path, &own, known, search, seen),
     }
 }
 
@@ -150,7 +147,6 @@ fn encode_whole<M: MapRead>(
     known: &[KnownQuery],
     search: &mut Dijkstra,
     seen: &mut Option<Footprint>,
-    work: &mut Work,
 ) -> Result<Encoding, AllocError>
     requires path { IsTrue (is_path path.now.lines) }
     requires sound { path_fault (M.map map.now) path.now ≡ None }
@@ -160,8 +156,9 @@ fn encode_whole<M: MapRead>(
     ensures joins { IfOk result (λ e. JoinsOf (M.map map.now) path.now e.answer) }
     ensures traversed { IfOk result (λ e. (v : ℕ) → Contains e.traversed v
         ↔ TraversedOfExtended (M.map map.now) path.now v) }
-    ensures asks { IfOk result (λ e. AsksOf (M.map map.now) path.now known.now e.queries.items e.known.items work.old
-        work.new seen.old seen.new) }
+    ensures encodings { IfOk result (λ e. e.work.encodings ≡ 1) }
+    ensures asks { IfOk result (λ e. AsksOf (M.map map.now) path.now known.now e.queries.items e.known.items e.work
+        seen.old seen.new) }
 {
     let mut traversed = Footprint::new(alloc);
     let extended = extend(alloc, map, path, own, &mut traversed)?;
@@ -170,12 +167,16 @@ fn encode_whole<M: MapRead>(
         lead: extended.lead,
         own: path.lines().len(),
     };
-    let (answer, queries) = encode_along(alloc, map, &extended, &reuse, search, seen, work)?;
+    let (answer, queries) = encode_along(alloc, map, &extended, &reuse, search, seen)?;
     Ok(Encoding {
         answer,
         traversed,
         queries: queries.all,
         known: queries.own,
+        work: Work {
+            encodings: 1,
+            ..queries.work
+        },
     })
 }
 
@@ -188,7 +189,6 @@ fn encode_along<M: MapRead>(
     reuse: &Reuse,
     search: &mut Dijkstra,
     seen: &mut Option<Footprint>,
-    work: &mut Work,
 ) -> Result<(Answer, Queries), AllocError>
     requires joined { AreJoined (M.map map.now) extended.now.path.lines }
     requires records { extended.now.records ≡ records_of (M.map map.now) extended.now.path.lines }
@@ -198,7 +198,7 @@ fn encode_along<M: MapRead>(
         (λ js. answer_of r.0 ≡ answer_along (M.map map.now) extended.now.path js)
         × ForPoints (M.map map.now) extended.now.path.lines
         (λ js. Asks (M.map map.now) extended.now.path.lines reuse.now.lead reuse.now.own reuse.now.known.now (0 ∷ js)
-        r.1.all.items r.1.own.items work.old work.new seen.old seen.new)) }
+        r.1.all.items r.1.own.items r.1.work seen.old seen.new)) }
 {
     let lines = extended.lines.as_slice();
     let records = extended.records.as_slice();
@@ -209,7 +209,7 @@ fn encode_along<M: MapRead>(
         records,
         distances: &distances,
     };
-    let Chosen { choice, queries } = points(alloc, &resolved, reuse, search, seen, work)?;
+    let Chosen { choice, queries } = points(alloc, &resolved, reuse, search, seen)?;
     let answer = answer_by(alloc, &resolved, choice, extended.pos, extended.neg)?;
     Ok((answer, queries))
 }

@@ -1,12 +1,13 @@
 //! Footprints: the nodes on which an answer rests.
-ghost use Rattle.std.specs.Prelude.{◌≡◌, ℕ, ◌+◌, ◌*◌, ◌^◌, ◌<◌, ◌≤◌, ◌↔◌, ◌⊎◌, IfOk, OnOk, MatchOption};
+ghost use Rattle.std.specs.Prelude.{◌≡◌, ℕ, ◌+◌, ◌*◌, ◌^◌, ◌<◌, ◌≤◌, ◌↔◌, ◌⊎◌, IfOk, OnOk, OnErr, MatchOption};
 ghost use Rattle.std.specs.Prelude.{List, Contains, length};
 ghost use Rattle.olr_spec.specs.Map.{Map, IsMap, Agree};
 ghost use Rattle.olr_spec.specs.Encoding.{Encodes};
 ghost use Rattle.olr_spec.specs.Footprint.{Foot};
 ghost use Rattle.olr_spec.specs.Queries.{CoverageQuery as QueryRecord, QueriesOf};
 ghost use Rattle.olr_answers.specs.Answers.{answer_of};
-ghost use Rattle.olr_refs.specs.Choice.{SettledBy, raised_count};
+ghost use Rattle.olr_refs.specs.Choice.{SettledBy};
+ghost use Rattle.olr_search.specs.Counts.{raised_count};
 ghost use Rattle.olr_refs.specs.Recovered.{RecoveredOf};
 ghost use Rattle.olr_refs.specs.Referring.{JoinsOf, SearchesOf};
 
@@ -35,8 +36,8 @@ fn with_seen(traversed: Footprint, seen: Option<Footprint>) -> Result<Footprint,
 /// the same around these nodes, and has the same lines of the path, the answer is the same. On this map every decoder
 /// for which each LRP's own line is distinct recovers the lines between the location reference points (LRPs).
 ///
-/// One encoding is counted, and one search for each query: the searches of the encoding find the footprint. After want
-/// of memory the work may hold more than before.
+/// Adds one encoding to the work, and one search for each coverage query: the searches of the encoding find the
+/// footprint. If an allocation fails, the work is unchanged.
 pub fn refer<M: MapRead>(
     alloc: Global,
     map: &M,
@@ -58,13 +59,15 @@ pub fn refer<M: MapRead>(
     ensures settled_exactly { IfOk result (λ _. (queries : List QueryRecord)
         × QueriesOf (M.map map.now) path.now queries
         × SettledBy (M.map map.now) queries work.old.settled work.new.settled) }
+    ensures err_work { OnErr result (work.new ≡ work.old) }
 {
     let mut seen = Some(Footprint::new(alloc));
-    let (answer, traversed) = {
+    let (answer, traversed, done) = {
         let mut search = Dijkstra::new(alloc);
-        let encoding = encode_noting(alloc, map, path, &[], &mut search, &mut seen, work)?;
-        (encoding.answer, encoding.traversed)
+        let encoding = encode_noting(alloc, map, path, &[], &mut search, &mut seen)?;
+        (encoding.answer, encoding.traversed, encoding.work)
     };
     let footprint = with_seen(traversed, seen)?;
+    *work = work.plus(done);
     Ok((answer, footprint))
 }

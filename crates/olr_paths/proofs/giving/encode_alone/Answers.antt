@@ -1,6 +1,5 @@
 use Rattle.olr_paths.proofs.Common.{made_of}
 use Rattle.olr_paths.proofs.GivenQueries.{searched_from_none}
-use Rattle.olr_paths.proofs.Raising.{work_up}
 use Rattle.olr_paths.proofs.giving.encode_alone.Goals as goal
 
 pub returns-clause-made : goal.returns-clause-made
@@ -11,11 +10,10 @@ returns-clause-made g c =
       c.in_ok-path.ensures.ok,
       rw c.in_ok-shared.ensures.ok e.made,
       e.counted,
-      work_up M s.0 1 c.args.work.now c.publish.new.work c.have_64_bits.ensures e.counted s.2,
-      (
-        s.0,
-        searched_from_none M (g.met.M.MapRead.sound c.args.map.now) c.args.path c.publish.ensures.path
-            (made_of c.in_ok-published.published) s.0 e.made s.1,
-        s.2,
-      ),
+      record {
+        queries = s.queries;
+        those = searched_from_none M (g.met.M.MapRead.sound c.args.map.now) c.args.path c.publish.ensures.path
+            (made_of c.in_ok-published.published) s.queries e.made s.those;
+        counts = s.counts;
+      },
     )

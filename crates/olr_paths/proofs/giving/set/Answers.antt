@@ -19,9 +19,7 @@ returns g c =
         ],
       );
       counted = e.2;
-      searched = e.4;
-      rises = e.3;
+      searched = e.3;
       new_origins = λ v b. grind (arith, begins_set);
       err = tt;
-      err_work = tt;
     }

@@ -18,7 +18,7 @@ advance-requires g c = record { known = rw c.deref.ensures.value c.in_ok-known.e
 
 pub loop-candidate-init : goal.loop-candidate-init
 loop-candidate-init g c = (
-  so_far_none _ c.args.counted.now c.new.ensures.items c.new-2.ensures.items,
+  so_far_none _ c.new.ensures.items c.new-2.ensures.items c.none.ensures refl,
   record { below = λ j lt. absurd (omega arith); within = omega arith },
   c.requires.detours,
   c.requires.asked,

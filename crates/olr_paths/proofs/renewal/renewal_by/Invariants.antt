@@ -8,7 +8,7 @@ use Rattle.olr_paths.proofs.renewal.renewal_by.Given as goal
 abbrev pub invariant-loop-candidate : goal.invariant-loop-candidate
 invariant-loop-candidate g l =
     SoFar (g.M.MapRead.map l.map) (nodes_of l.touched) (lines_of l.touched) (changed_of l.touched) (items l.before)
-    (shown_items l.overlaid) l.initial.counted (take l.next (shown_items l.overlaid)) l.renewal l.counted
+    (shown_items l.overlaid) (take l.next (shown_items l.overlaid)) l.renewal
     × Passed l.found (length (shown_items l.overlaid)) l.candidate-index l.next
     × (0 < length l.found → length (changed_of l.touched) ≤ most_changed
     → AreDetours (g.M.MapRead.map l.map) (g.M.MapRead.node_slot l.map) l.touched l.searches.detours)

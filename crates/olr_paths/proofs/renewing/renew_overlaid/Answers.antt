@@ -16,14 +16,14 @@ are_encoded before (j ∷ js) es h = ((λ none. let lost = rw none at h.2 in cc 
 -- the results, stored in the list with the new paths at its end
 module _ (before : List Item) (is : List Item) (o : Overlay) (r : Renewal) (new : List Item)
     (keeps : TakesNone (overlay_changes o))
-    (returned : Reported before (after_renewal r (under_overlay is o)) (map entry_of r.entries.items))
+    (returned : Reported before (after_renewal r (under_overlay is o)) (map entry_of r.renewed.entries.items))
     (put : new ≡ all_put (is ++ items o.added) (puts_of r.fresh.items)) where
   renewed : new ≡ after_renewal r (under_overlay is o)
   renewed = put ∙ put_on_overlaid (overlay_changes o) before is (items o.added) (puts_of r.fresh.items)
-      (map entry_of r.entries.items) keeps returned
+      (map entry_of r.renewed.entries.items) keeps returned
 
   encoded : AreEncoded new
-  encoded = subst AreEncoded (sym renewed) (are_encoded before _ (map entry_of r.entries.items) returned)
+  encoded = subst AreEncoded (sym renewed) (are_encoded before _ (map entry_of r.renewed.entries.items) returned)
 
 before_is : (o : Option (Bor PathList)) (b : Bor PathList) →
     items (unwrap_or o b).now ≡ unwrap_or (option_map (λ (x : Bor PathList). items x.now) o) (items b.now)
@@ -44,16 +44,12 @@ returns g c =
     let e = c.in_ok-fresh.ensures in
     record {
       renewed = rw (same, ← was) e.renewed;
-      rises = e.rises;
-      kept = e.kept;
       new_origins = λ v h. elim (begins_all_put (under_overlay (items c.args.list.now) c.args.overlay.now)
           (puts_of c.in_ok-fresh.field-0.fresh.items) v (subst (λ (is : List Item). Begins is v) same h)) [
             | inl a ↦ inl a
             | inr b ↦ inr (e.new_origins v b)
           ];
       err = tt;
-      err_work = tt;
-      err_kept = tt;
     }
 
 pub put_in-requires : goal.put_in-requires

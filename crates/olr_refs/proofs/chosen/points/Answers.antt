@@ -7,7 +7,7 @@ pub loop-last-preserved : goal.loop-last-preserved
 loop-last-preserved g c =
     gone_more (g.M.MapRead.map c.args.resolved.now.map.now) c.args.resolved.now.lines.now c.args.reuse.now.lead
     c.args.reuse.now.own c.args.reuse.now.known.now c.loop-last.positions.items c.push-in-Some.new.self.items
-    c.loop-last.last c.in-Some.next _ _ _ _ _ _ _ _ _ _ c.loop-last.invariant c.in_ok-reach.ensures.1
+    c.loop-last.last c.in-Some.next _ _ _ _ _ c.loop-last.invariant c.in_ok-reach.ensures.1
     c.in-Some.ensures c.in_ok-push-in-Some.ensures.items
 
 pub returns-in-None : goal.returns-in-None
@@ -22,7 +22,7 @@ returns-in-None g c =
         s.points,
         led.0,
         ended M ls c.args.reuse.now.lead c.args.reuse.now.own c.args.reuse.now.known.now
-            c.loop-last.positions.items c.loop-last.last _ _ _ _ _ _ _ _ _ _ s c.in_ok-reach.ensures.1,
+            c.loop-last.positions.items c.loop-last.last _ _ _ _ _ s c.in_ok-reach.ensures.1,
       );
     }
 
@@ -39,6 +39,6 @@ returns g c =
         s.points,
         led.0,
         ended_there M ls c.args.reuse.now.lead c.args.reuse.now.own
-            c.args.reuse.now.known.now c.loop-last.positions.items c.loop-last.last _ _ _ _ _ _ s (omega arith),
+            c.args.reuse.now.known.now c.loop-last.positions.items c.loop-last.last _ _ _ s (omega arith),
       );
     }

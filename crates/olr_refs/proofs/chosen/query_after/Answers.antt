@@ -14,7 +14,7 @@ returns-in_ok-tested-in-None g c =
       found.reach,
       asks_searched (g.M.MapRead.map c.args.resolved.now.map.now) c.args.resolved.now.lines.now
           c.args.reuse.now.lead c.args.reuse.now.own c.args.reuse.now.known.now c.args.i
-          c.in_ok-tested-in-None.query c.own_query-own.result _ _ _ _ c.requires.some
+          c.in_ok-tested-in-None.query c.own_query-own.result _ _ _ c.requires.some
           (c.in_ok-tested-in-None.tested.last, found.last, found.query) c.in-None.ensures c.own_query-own.ensures
-          found.work found.seen,
+          found.counts found.seen,
     )

@@ -1,16 +1,17 @@
-use Rattle.olr_refs.proofs.Common.{refl}
-use Rattle.olr_refs.proofs.Referring.{if_on}
+use Rattle.olr_refs.proofs.Common.{◌≡◌, ◌+◌, List, Result, CoverageQuery, IfOk, QueriesOf, AreSearched, arith}
+use Rattle.olr_refs.proofs.Common.{length, no_work, saturated_count, refl}
+use Rattle.olr_refs.proofs.Referring.{if_both}
 use Rattle.olr_refs.proofs.Asking.{searched_all}
 use Rattle.olr_refs.proofs.encoding.encode.Goals as goal
 
 pub returns-clause-searches : goal.returns-clause-searches
 returns-clause-searches g c =
-    if_on c.encode_again.result _ _ _ (λ e o r. (searched_all _ (g.met.M.MapRead.sound c.args.map.now) c.args.path.now
-    c.encode_again.ensures.path _ e.queries.items _ _ refl o r).0) c.encode_again.ensures.queries
-    c.encode_again.ensures.searched
+    if_both c.encode_again.result _ _ _ (λ e o r. let s = searched_all _ (g.met.M.MapRead.sound c.args.map.now)
+    c.args.path.now c.encode_again.ensures.path _ e.queries.items _ refl o r in omega (arith, s.searches))
+    c.encode_again.ensures.queries c.encode_again.ensures.searched
 
 pub returns-clause-settled_exactly : goal.returns-clause-settled_exactly
 returns-clause-settled_exactly g c =
-    if_on c.encode_again.result _ _ _ (λ e o r. (searched_all _ (g.met.M.MapRead.sound c.args.map.now) c.args.path.now
-    c.encode_again.ensures.path _ e.queries.items _ _ refl o r).1) c.encode_again.ensures.queries
+    if_both c.encode_again.result _ _ _ (λ e o r. (searched_all _ (g.met.M.MapRead.sound c.args.map.now) c.args.path.now
+    c.encode_again.ensures.path _ e.queries.items _ refl o r).settled) c.encode_again.ensures.queries
     c.encode_again.ensures.searched

@@ -16,19 +16,20 @@ returns-in-Ok-clause-known g c = grind (arith, IfOk-weaker, known_whole)
 
 pub returns-in-Ok-clause-searched : goal.returns-in-Ok-clause-searched
 returns-in-Ok-clause-searched g c =
-    IfOk-weaker c.encode_whole.result _ _ (λ e a. searched_of (g.M.MapRead.map c.args.map.now) c.args.path.now _ _ _ _ _
-    _ _ (rw c.in-Ok.is at c.in_ok-refusal.ensures.own).0 a c.args.work.now refl refl) c.encode_whole.ensures.asks
+    IfOk-weaker c.encode_whole.result _ _ (λ e. searched_of (g.M.MapRead.map c.args.map.now) c.args.path.now _ _ _ _ _ _
+    (rw c.in-Ok.is at c.in_ok-refusal.ensures.own).0) c.encode_whole.ensures.asks
 
 pub returns-in-Ok-clause-settled : goal.returns-in-Ok-clause-settled
 returns-in-Ok-clause-settled g c =
-    IfOk-weaker c.encode_whole.result _ _ (λ e a. searched_few (g.M.MapRead.map c.args.map.now)
-    (g.met.M.MapRead.sound c.args.map.now) c.args.path.now c.in_ok-refusal.ensures.path (rw c.in-Ok.is at c.in_ok-refusal.ensures.own).0
-    _ _ _ _ _ _ _ a) c.encode_whole.ensures.asks
+    IfOk-weaker c.encode_whole.result _ _ (λ e. searched_few (g.M.MapRead.map c.args.map.now)
+    (g.met.M.MapRead.sound c.args.map.now) c.args.path.now c.in_ok-refusal.ensures.path
+    (rw c.in-Ok.is at c.in_ok-refusal.ensures.own).0 _ _ _ _ _ _) c.encode_whole.ensures.asks
 
 pub returns-in-Ok-clause-seen : goal.returns-in-Ok-clause-seen
 returns-in-Ok-clause-seen g c =
     IfOk-weaker c.encode_whole.result _ _ (λ e a. (
       a.holds.searched,
-      searched_whole (g.M.MapRead.map c.args.map.now) c.args.path.now _ _ _ _ _ _ _ (rw c.in-Ok.is at c.in_ok-refusal.ensures.own).0 a,
+      searched_whole (g.M.MapRead.map c.args.map.now) c.args.path.now _ _ _ _ _ _
+          (rw c.in-Ok.is at c.in_ok-refusal.ensures.own).0 a,
       a.holds.notes,
     )) c.encode_whole.ensures.asks

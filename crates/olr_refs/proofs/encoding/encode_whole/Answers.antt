@@ -1,5 +1,6 @@
 use Rattle.olr_refs.proofs.Common.{arith, rules}
 use Rattle.olr_refs.proofs.Referring.{whole_joined, whole_short, asks_of, encoding_of, joins_of, traversed_of}
+use Rattle.olr_refs.proofs.Asking.{asks_encoding}
 use Rattle.olr_refs.proofs.encoding.encode_whole.Goals as goal
 
 pub returns-in_err-extended : goal.returns-in_err-extended
@@ -15,7 +16,8 @@ pub encode_along-requires-clause-short : goal.encode_along-requires-clause-short
 encode_along-requires-clause-short g c = grind (arith, whole_short)
 
 pub returns-clause-asks : goal.returns-clause-asks
-returns-clause-asks g c = grind (arith, asks_of)
+returns-clause-asks g c =
+    asks_encoding (g.M.MapRead.map c.args.map.now) c.args.path.now _ _ _ c.in_ok-answer.queries.work _ _ (grind (arith, asks_of))
 
 pub returns-clause-joins : goal.returns-clause-joins
 returns-clause-joins g c = grind (arith, encoding_of, joins_of)

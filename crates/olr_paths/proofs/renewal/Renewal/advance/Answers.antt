@@ -1,9 +1,9 @@
 use Rattle.olr_paths.proofs.Common.{refl, map-append, made_of, Retained, EncodedAgain}
+use Rattle.olr_paths.proofs.RenewedPrefix.{counted_encoded}
 use Rattle.olr_paths.proofs.renewal.Renewal.advance.Goals as goal
 
 pub returns-in-Keep : goal.returns-in-Keep
-returns-in-Keep g c = λ T X C gives f.
-    Retained (rw c.in-Keep.is at f) refl (c.keep.ensures (g.M.MapRead.map c.args.map.now))
+returns-in-Keep g c = λ T X C gives f. Retained (rw c.in-Keep.is at f) (rw c.keep.ensures refl)
 
 pub returns-in_ok-push-in-Encode : goal.returns-in_ok-push-in-Encode
 returns-in_ok-push-in-Encode g c = λ T X C gives f.
@@ -17,5 +17,6 @@ returns-in_ok-push-in-Encode g c = λ T X C gives f.
       c.in_ok-published-in-Encode.ensures.ok,
     ) refl)
     (rw (c.deref-in-Encode.ensures, c.in_ok-published-in-Encode.ensures.ok) at c.in_ok-push_if_changed-in-Encode.ensures)
-    c.args.known.now s.0 (gives (rw c.in-Encode.is tt))
-    (rw c.deref.ensures at s.1) (record { encodings = e.counted; spared = refl; searched = s.2 })
+    c.args.known.now s.queries (gives (rw c.in-Encode.is tt))
+    (rw c.deref.ensures at s.those)
+    (rw c.plus.ensures (counted_encoded (g.M.MapRead.map c.args.map.now) s.queries _ _ _ e.counted s.counts))
