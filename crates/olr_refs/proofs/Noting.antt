@@ -58,7 +58,7 @@ raised_none w =
 pub raised_twice : (a b c n m k : ℕ) → b ≡ raised_count a n → c ≡ raised_count b m → k ≡ n + m → c ≡ raised_count a k
 raised_twice a b c n m k h g e = omega arith
 
-raised_from : (a b n : ℕ) → b ≡ raised_count 0 n → raised_count a b ≡ raised_count a n
+pub raised_from : (a b n : ℕ) → b ≡ raised_count 0 n → raised_count a b ≡ raised_count a n
 raised_from a b n h = omega arith
 
 pub zip_append : {X Y : Type 0} (R : X → Y → Type 0) (ws xs : List X) (bs ys : List Y) → AllZip R ws bs → AllZip R xs ys →

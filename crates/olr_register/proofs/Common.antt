@@ -35,7 +35,8 @@ pub use Rattle.olr_map.specs.declared.road_map.RoadMap.{RoadMap}
 pub use Rattle.olr_near.specs.Bounds.{IsSource}
 pub use Rattle.olr_near.specs.declared.distance_bounds.DistanceBounds.{DistanceBounds}
 pub use Rattle.olr_paths.proofs.Following.{follows_self}
-pub use Rattle.olr_paths.specs.Changes.{AreCounted, AreSearched, Follows, Rises, Totals}
+pub use Rattle.olr_paths.specs.Changes.{AreCounted, Follows, SearchedAlone, Totals}
+pub use Rattle.olr_refs.specs.Choice.{AreSearched}
 pub use Rattle.olr_paths.specs.Renewing.{IsRenewal}
 pub use Rattle.olr_register.specs.Answering.{Answered}
 pub use Rattle.olr_register.specs.Dumping.{is_recordable_line_at, is_recordable_node_at}

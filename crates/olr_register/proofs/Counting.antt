@@ -4,7 +4,9 @@ use Rattle.olr_register.proofs.Common.{Some, None, refl, sym, ap, ◌∙◌, sub
 use Rattle.olr_register.proofs.Common.{Map, has, Path, ChangedLine, CoverageQuery, Named, Content, same_name, Change}
 use Rattle.olr_register.proofs.Common.{Affects, By_name, By_node, By_line, all_nodes, all_lines, all_changed, all_names}
 use Rattle.olr_register.proofs.Common.{SearchedFor, Made, Item, named_of, all_named, Totals, held_of, AreGiven, arith}
-use Rattle.olr_register.proofs.Common.{Work, AreCounted, Rises, Bool}
+use Rattle.olr_register.proofs.Common.{Work, AreCounted, Bool}
+use Rattle.olr_refs.proofs.Noting.{raised_from, searched_none, searched_on}
+use Rattle.olr_search.specs.Counts.{no_work, raised_count, raised_work}
 use Rattle.olr_spec.specs.Queries.{IsClear}
 use Rattle.olr_commands.specs.Counts.{CountIs, most_changed, IsUnchanged, Retains, EncodesAgain, SearchedAgain, Either}
 use Rattle.olr_commands.specs.Counts.{SearchesFor, Collects}
@@ -135,10 +137,16 @@ abbrev pub no_totals : Totals
 no_totals = record { affected = 0; spared = 0; queries = [] }
 
 pub none_spent : (M : Map) (w : Work) (n : ℕ) → AreCounted M no_totals w w n n
-none_spent M w n = record { encodings = refl; spared = refl; searched = record { searches = refl; settled = refl } }
+none_spent M w n = record { encodings = omega arith; spared = omega arith; searched = searched_none M w }
 
-pub same_work : (w : Work) → Rises w w
-same_work w = record { encodings = omega arith; searches = omega arith; settled = omega arith }
+-- totals that are added to other counts
+pub counted_on : (M : Map) (t : Totals) (old w : Work) (n m : ℕ) → AreCounted M t no_work w 0 m →
+    AreCounted M t old (raised_work old w) n (raised_count n m)
+counted_on M t old w n m h = record {
+  encodings = raised_from _ _ _ h.encodings;
+  spared = raised_from _ _ _ h.spared;
+  searched = searched_on M t.queries old w h.searched;
+}
 
 -- changes that affect no path
 pub none_affected : (c d : Content) (xs : List Change) → ((p : Named) → ¬ Affects c xs p) → (ps : List Named) →

@@ -8,9 +8,9 @@ use Rattle.olr_register.proofs.Common.{Registered, Answered, encodes, ap, ◌∙
 use Rattle.olr_commands.specs.State.{changes_made_in, unless_fault, Not_a_reference, bytes_fault}
 use Rattle.olr_commands.specs.Reply.{Lacks}
 use Rattle.olr_commands.proofs.SearchLemmas.{unconcerned}
-use Rattle.olr_register.specs.Sparing.{NoneFalls, SameCounts}
+use Rattle.olr_register.specs.Sparing.{SameCounts}
 use Rattle.olr_register.proofs.States.{state, InStates, in_states}
-use Rattle.olr_register.proofs.Counting.{AreRises, no_totals, none_affected, none_spent, same_work}
+use Rattle.olr_register.proofs.Counting.{AreRises, no_totals, none_affected, none_spent}
 use Rattle.base64.specs.Engines.{standard}
 use Rattle.base64.specs.GeneralPurpose.{decode_of, decoded_of}
 use Rattle.base64.specs.declared.decode.DecodeError.{DecodeError}
@@ -37,9 +37,9 @@ Accepts new c r u s =
 
 pub answered_counted : (old new : Registered) (c : Command) (r : Reply) (u : Totals) →
     ((s : State) → Represents old.kept s → Accepts new c r u s) →
-    AreCounted new.kept.content.map u old.work new.work old.spared new.spared → NoneFalls old new →
+    AreCounted new.kept.content.map u old.work new.work old.spared new.spared →
     (IsFalse (encodes (is_some old.kept.batch) c) → SameCounts old new) → Answered old c (Ok r) new
-answered_counted old new c r u accepts counts falls same = record {
+answered_counted old new c r u accepts counts same = record {
   outcome = λ s h. (accepts s h).0;
   counted = λ s t h k. (u.affected, (at s t h k).affected, counts.encodings);
   spares = λ s t h k. (u.spared, (at s t h k).spared, counts.spared);
@@ -48,7 +48,12 @@ answered_counted old new c r u accepts counts falls same = record {
     (at s t h k).queries,
     subst (λ (e : Content). AreSearched e.map u.queries old.work new.work) k.0 counts.searched,
   );
-  rises = falls;
+  rises = record {
+    encodings = omega (arith, counts.encodings);
+    searches = omega (arith, counts.searched.searches);
+    settled = omega (arith, counts.searched.settled.2);
+    spared = omega (arith, counts.spared);
+  };
   same = same;
   unchanged = tt;
 }
@@ -70,8 +75,7 @@ answered_uncounted old k c r keeps =
       subst (λ (xs : List Change). AreRises s.content k.content xs k.content.paths no_totals) (sym (keeps s h).0)
           (none_affected s.content k.content [] (unconcerned s.content) k.content.paths),
     ))
-    (none_spent k.content.map old.work old.spared) (record { work = same_work old.work; spared = omega arith })
-    (λ off. (refl, refl))
+    (none_spent k.content.map old.work old.spared) (λ off. (refl, refl))
 
 -- the register is unchanged
 pub answered_refused : (old new : Registered) (c : Command) (r : Result Reply CommandFault) (f : CommandFault) →

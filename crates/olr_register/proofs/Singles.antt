@@ -8,19 +8,22 @@ use Rattle.olr_register.proofs.Common.{Drop_path, with_map, with_change, at_once
 use Rattle.olr_register.proofs.Common.{IsRefusal, takes_memory, may_want, Affects, By_name, By_node, By_line}
 use Rattle.olr_register.proofs.Common.{SearchedFor, all_nodes, all_lines, all_names, entry_of, reply_of}
 use Rattle.olr_register.proofs.Common.{command_fault_of, Entry, Reply, CommandFault, changes_keep, DistanceBounds, Made}
-use Rattle.olr_register.proofs.Common.{Item, IsEncodingOf, AreEncodings, all_named, answer_in, Totals, AreSearched}
-use Rattle.olr_register.proofs.Common.{AreCounted, Rises, set_item, IsRenewal, nodes_of, lines_of, changed_of}
+use Rattle.olr_register.proofs.Common.{Item, IsEncodingOf, AreEncodings, all_named, answer_in, Totals, SearchedAlone}
+use Rattle.olr_register.proofs.Common.{AreCounted, set_item, IsRenewal, nodes_of, lines_of, changed_of}
 use Rattle.olr_register.proofs.Common.{ChangeSet, follows_self, has_name, Registered, content_on, items, kept_of}
 use Rattle.olr_register.proofs.Common.{HasBounds, IsKeptRight, CanRenew, MayReport, ByContent, Lacks, Answered}
 use Rattle.olr_register.proofs.Common.{IsNotedOf, encodes, begins_drop, append-nil, Option}
 use Rattle.olr_register.specs.Holding.{option_batch}
-use Rattle.olr_refs.specs.Choice.{raised_count}
+use Rattle.olr_refs.proofs.Noting.{searched_on}
+use Rattle.olr_search.specs.Counts.{raised_count, raised_work}
+use Rattle.olr_paths.specs.Renewing.{entries_of}
+use Rattle.olr_paths.specs.declared.renewal.Renewed.{Renewed}
 use Rattle.olr_commands.specs.State.{IsState}
 use Rattle.olr_commands.specs.Reply.{IsPaths}
 use Rattle.olr_commands.specs.Counts.{Raises}
 use Rattle.olr_commands.proofs.SearchLemmas.{paths_raise, spares_none, searches_one, added_path, replaced_path}
 use Rattle.olr_register.proofs.Changing.{add_ok, set_ok, drop_ok}
-use Rattle.olr_register.proofs.Counting.{AreRises, counted_changes, no_totals, none_affected, none_spent, same_work}
+use Rattle.olr_register.proofs.Counting.{AreRises, counted_changes, counted_on, no_totals, none_affected, none_spent}
 use Rattle.olr_register.proofs.Listed.{given_at_first, each_left, each_add, each_set, each_encoded}
 use Rattle.olr_register.proofs.Noted.{noted_edit, is_before}
 use Rattle.olr_register.proofs.Outcomes.{answered_counted, answered_refused, Accepts}
@@ -79,14 +82,14 @@ module _ (r : Inside) {x : Registered} (view : of_parts r.roads (items r.paths) 
       with_change c y ≡ Ok (content_on (map_of later) js) →
       IsPaths (reply_of q) (Differences c (content_on (map_of later) js)) →
       AreRises c (content_on (map_of later) js) (y ∷ []) (all_named js) u → AreCounted (map_of later) u r.work v r.spared m →
-      Rises r.work v → r.spared ≤ m → (IsFalse (encodes false (Make y)) → (v ≡ r.work) × (m ≡ r.spared)) →
+      (IsFalse (encodes false (Make y)) → (v ≡ r.work) × (m ≡ r.spared)) →
       Answered x (Make y) (Ok q) (of_parts later js r.batch v m)
-  accepted_now y later js v m q u is_made reply raised counts rises kept same =
+  accepted_now y later js v m q u is_made reply raised counts same =
       let new : Registered = of_parts later js None v m in
       rw (← view, shut) (answered_counted (of_parts r.roads is None r.work r.spared) new (Make y) q u
       (in_states (kept_of r.roads is None) (Accepts new (Make y) q u)
       ((state (content_on (map_of later) js) None, (refl, tt), (ap at_once is_made, reply)), raised))
-      counts (record { work = rises; spared = kept }) same)
+      counts same)
 
   module _ (h : IsKeptRight r.roads is r.batch r.near) where
     right : IsKeptRight r.roads is None r.near
@@ -133,7 +136,7 @@ module _ (r : Inside) {x : Registered} (view : of_parts r.roads (items r.paths) 
           subst (λ (ks : List Item). Answered x (Make (On_map e)) (Ok q) (of_parts later ks r.batch r.work r.spared)) (sym bare)
           (accepted_now (On_map e) later [] r.work r.spared q no_totals (bare_ok bare) (rw says refl)
           (record { affected = refl; spared = refl; queries = refl }) (none_spent (map_of later) r.work r.spared)
-          (same_work r.work) (omega arith) (λ off. let no : true ≡ false = off in absurd cc))
+          (λ off. let no : true ≡ false = off in absurd cc))
 
       module _ (t : ChangeSet) (noted : IsNotedOf M e t) where
         pub can_edit : CanRenew M (map_of later) is is t r.near
@@ -148,8 +151,7 @@ module _ (r : Inside) {x : Registered} (view : of_parts r.roads (items r.paths) 
               (made_if_any M is right.register.made);
         }
 
-        module _ (js : List Item) (es : List Entry) (v : Work) (m : ℕ)
-            (renewal : IsRenewal (map_of later) t is is js (map entry_of es) r.work v r.spared m) where
+        module _ (js : List Item) (n : Renewed) (renewal : IsRenewal (map_of later) t is is js n) where
           edit_ok : with_change c (On_map e) ≡ Ok (content_on (map_of later) js)
           edit_ok =
               ap (with_map c) done
@@ -159,19 +161,21 @@ module _ (r : Inside) {x : Registered} (view : of_parts r.roads (items r.paths) 
           edit_right f placed bounded =
               still_right (On_map e) later js f placed edit_ok (remade_made (map_of later) is js renewal.remade) bounded
 
-          pub edit_done : (q : Reply) → reply_of q ≡ replies.Paths (map entry_of es) → Rises r.work v → r.spared ≤ m →
-              Answered x (Make (On_map e)) (Ok q) (of_parts later js r.batch v m)
-          edit_done q says rises kept =
+          pub edit_done : (q : Reply) → reply_of q ≡ replies.Paths (entries_of n) →
+              Answered x (Make (On_map e)) (Ok q) (of_parts later js r.batch (raised_work r.work n.work)
+              (raised_count r.spared n.spared))
+          edit_done q says =
               let count = renewal.counted M can_edit.before in
-              accepted_now (On_map e) later js v m q count.0 edit_ok
-              (rw says (planned_changes M (map_of later) is js (map entry_of es) right.register.content
+              accepted_now (On_map e) later js _ _ q count.0 edit_ok
+              (rw says (planned_changes M (map_of later) is js (entries_of n) right.register.content
               right.register.made (remade_made (map_of later) is js renewal.remade) renewal.reported))
               (counted_changes c (content_on (map_of later) js) (On_map e ∷ []) (nodes_of t) (lines_of t) (changed_of t)
               (λ v. noted.nodes v ∙ ap (λ (vs : List ℕ). has vs v) (sym (append-nil (touched_nodes M e))))
               (λ y. noted.lines y ∙ ap (λ (ys : List ℕ). has ys y) (sym (append-nil (touched_lines e))))
               (noted.changed ∙ sym (append-nil (changes_of M e))) is count.0 count.1
               (given_at_first M is right.register.made) (all_named js) renewal.named)
-              count.2 rises kept (λ off. let no : true ≡ false = off in absurd cc)
+              (counted_on (map_of later) count.0 r.work n.work r.spared n.spared count.2)
+              (λ off. let no : true ≡ false = off in absurd cc)
 
     -- ---- paths
 
@@ -193,7 +197,7 @@ module _ (r : Inside) {x : Registered} (view : of_parts r.roads (items r.paths) 
           rw list (accepted_now (Drop_path name) r.roads left r.work r.spared q no_totals (drop_ok M is name there)
           (rw says (reported_drop M is name right.register.content right.register.made))
           (none_affected c (content_on M left) (Drop_path name ∷ []) (drop_affects c name) (all_named left))
-          (none_spent M r.work r.spared) (same_work r.work) (omega arith) (λ off. (refl, refl)))
+          (none_spent M r.work r.spared) (λ off. (refl, refl)))
 
       module _ (path : Path) (m : Made) (good : is_path path.lines ≡ true) (encoded : IsEncodingOf M path m)
         where
@@ -216,10 +220,11 @@ module _ (r : Inside) {x : Registered} (view : of_parts r.roads (items r.paths) 
               (rw list (each_set (each_encoded M) (each_encoded M) name path (Some m)
               (λ i e. (m, refl, encoded)) (λ i e p. p) is right.register.made)) bounded
 
-          module _ (v : Work) (q : Reply) (es : List replies.Entry) (says : reply_of q ≡ replies.Paths es)
-              (counts : v.encodings ≡ raised_count r.work.encodings 1) (rises : Rises r.work v)
-              (searches : (qs : List CoverageQuery) × SearchedFor M path qs
-              × AreSearched M qs r.work v) where
+          module _ (w : Work) (q : Reply) (es : List replies.Entry) (says : reply_of q ≡ replies.Paths es)
+              (one : w.encodings ≡ 1) (searches : SearchedAlone M path w) where
+            abbrev v : Work
+            v = raised_work r.work w
+
             abbrev before : IsState (state c None)
             before = record { content = right.register.content; batch = tt }
 
@@ -232,14 +237,18 @@ module _ (r : Inside) {x : Registered} (view : of_parts r.roads (items r.paths) 
                 Answered x (Make y) (Ok q) (of_parts r.roads js r.batch v r.spared)
             path_done y ks list ok placed nodes lines names there raised differ counted =
                 let d : Content = content_on M ks in
-                rw list (accepted_now y r.roads ks v r.spared q (record { affected = 1; spared = 0; queries = searches.0 }) ok
+                rw list (accepted_now y r.roads ks v r.spared q (record { affected = 1; spared = 0; queries = searches.queries }) ok
                 (rw says differ) (record {
                   affected = raised;
                   spared = spares_none (state c None) (state d None) y name path before refl nodes lines names;
-                  queries = searches_one (state c None) (state d None) y name path before refl nodes lines names searches.0
-                      (changes_keep c d y right.register.content placed ok).names there searches.1;
+                  queries = searches_one (state c None) (state d None) y name path before refl nodes lines names
+                      searches.queries (changes_keep c d y right.register.content placed ok).names there searches.those;
                 })
-                (record { encodings = counts; spared = refl; searched = searches.2 }) rises (omega arith)
+                (record {
+                  encodings = omega arith;
+                  spared = omega arith;
+                  searched = searched_on M searches.queries r.work w searches.counts;
+                })
                 (λ off. let no : true ≡ false = sym counted ∙ off in absurd cc))
 
             pub add_done : has_name is name ≡ false → js ≡ added → es ≡ entry name m.answer ∷ [] →

@@ -12,7 +12,7 @@ use Rattle.std.specs.Coded.{Coded, code_by, coded_ℕ, coded×}
 use Rattle.std.proofs.Common.{refl}
 use Rattle.olr_spec.specs.Map.{Map}
 use Rattle.olr_search.specs.declared.work.Work.{Work}
-use Rattle.olr_refs.specs.Choice.{raised_count}
+use Rattle.olr_search.specs.Counts.{no_work, raised_count}
 use Rattle.olr_commands.specs.State.{State, Content, Named, no_content, path_named, Command}
 use Rattle.olr_commands.specs.Reply.{Outcome, IsOutcome}
 use Rattle.olr_commands.specs.Counts.{Raises}
@@ -40,8 +40,7 @@ abbrev pub nothing_registered : Registered
 nothing_registered =
     record {
       kept = record { content = no_content; batch = None };
-      work =
-          record { encodings = 0; searches = 0; settled = 0 };
+      work = no_work;
       spared = 0;
     }
 

@@ -9,8 +9,8 @@ use Rattle.std.specs.Prelude.{◌≡◌, ℕ, ◌≤◌, List, Bool, true, false
 use Rattle.olr_spec.specs.Queries.{CoverageQuery}
 use Rattle.olr_commands.specs.State.{State, On_map, Add_path, Set_path, Command, Make, Commit}
 use Rattle.olr_commands.specs.Counts.{Spares, Searches}
-use Rattle.olr_refs.specs.Choice.{raised_count}
-use Rattle.olr_paths.specs.Changes.{AreSearched, Rises}
+use Rattle.olr_search.specs.Counts.{raised_count}
+use Rattle.olr_refs.specs.Choice.{AreSearched}
 use Rattle.olr_register.specs.RegisterState.{Represents}
 use Rattle.olr_register.specs.Registered.{Registered}
 
@@ -32,7 +32,9 @@ SearchesCounted old c new =
     × Searches s c t queries × AreSearched t.content.map queries old.work new.work
 
 pub record NoneFalls (old new : Registered) : Type 0 where
-  pub work : Rises old.work new.work
+  pub encodings : old.work.encodings ≤ new.work.encodings
+  pub searches : old.work.searches ≤ new.work.searches
+  pub settled : old.work.settled ≤ new.work.settled
   pub spared : old.spared ≤ new.spared
 
 abbrev pub SameCounts : Registered → Registered → Type 0

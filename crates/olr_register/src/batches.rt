@@ -57,7 +57,7 @@ impl Register {
         if batch.count != count {
             return Err(CommandFault::CountDiffers);
         }
-        let entries = renew(
+        let renewed = renew(
             self.alloc,
             &self.roads,
             &mut self.paths,
@@ -65,12 +65,12 @@ impl Register {
             &batch.touched,
             &mut self.near,
             &mut self.searches,
-            &mut self.work,
-            &mut self.spared,
         )?;
         // The log is dropped with the batch: its edits are permanent.
         drop(self.batch.take());
-        Ok(Reply::Paths(entries))
+        self.work = self.work.plus(renewed.work);
+        self.spared = self.spared.saturating_add(renewed.spared);
+        Ok(Reply::Paths(renewed.entries))
     }
 
     /// Drops all held changes: the map is the one before the batch. Takes no memory.

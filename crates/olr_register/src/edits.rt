@@ -89,15 +89,15 @@ impl Register {
             &self.touched,
             &mut self.near,
             &mut self.searches,
-            &mut self.work,
-            &mut self.spared,
         );
         drop(none);
-        let Ok(entries) = renewed else {
+        let Ok(renewed) = renewed else {
             self.roads.undo(undo);
             return Err(CommandFault::Memory);
         };
         self.roads.keep(undo);
-        Ok(Reply::Paths(entries))
+        self.work = self.work.plus(renewed.work);
+        self.spared = self.spared.saturating_add(renewed.spared);
+        Ok(Reply::Paths(renewed.entries))
     }
 }

@@ -39,12 +39,7 @@ impl Register {
         let Some(path) = self.paths.path(name) else {
             return Ok(None);
         };
-        let mut work = Work {
-            encodings: 0,
-            searches: 0,
-            settled: 0,
-        };
-        let (_, footprint) = refer(self.alloc, &self.roads, path, &mut work)?;
+        let (_, footprint) = refer(self.alloc, &self.roads, path, &mut Work::none())?;
         Ok(Some(footprint))
     }
 }

@@ -1,24 +1,20 @@
 //! Distance bounds, which cut the search from an edit, and the renewal of a list with them.
-ghost use Rattle.std.specs.Prelude.{◌≡◌, ◌≤◌, ◌⊎◌, ℕ, List, map as list_map, Contains, IfOk, OnOk, OnErr, IsFalse};
+ghost use Rattle.std.specs.Prelude.{◌≡◌, ◌⊎◌, ℕ, List, Contains, IfOk, OnOk, OnErr, IsFalse};
 ghost use Rattle.olr_spec.specs.Map.{Map};
 ghost use Rattle.olr_spec.specs.Queries.{CoverageQuery as QueryRecord};
 ghost use Rattle.olr_map.specs.RoadMaps.{map_of};
 ghost use Rattle.olr_near.specs.Bounds.{IsRight, IsSource, SameBut};
-ghost use Rattle.olr_commands.specs.Words.{entry_of};
 ghost use Rattle.olr_list.specs.Items.{Item, items};
-ghost use Rattle.olr_paths.specs.Changes.{Rises};
 ghost use Rattle.olr_list.specs.Laying.{under_overlay};
 ghost use Rattle.olr_list.specs.Origins.{Begins, new_origins_in};
 ghost use Rattle.olr_paths.specs.Renewing.{IsRenewal};
 ghost use Rattle.olr_list.specs.Touching.{nodes_of};
 ghost use Rattle.olr_register.specs.Holding.{HasBounds, CanRenew};
 
-use olr_commands::Entry;
 use olr_map::RoadMap;
 use olr_near::DistanceBounds;
-use olr_paths::{ChangeSet, Overlay, PathList, Searches, renew_over};
+use olr_paths::{ChangeSet, Overlay, PathList, Renewed, Searches, renew_over};
 use olr_refs::CoverageQuery;
-use olr_search::Work;
 use std::alloc::{AllocError, Global};
 
 /// The bounds are rebuilt only after searches that found no path have labelled more nodes than this.
@@ -92,7 +88,7 @@ pub(crate) fn rebuild_bounds(
 }
 
 /// Encodes the affected paths again after edits that led to the map, with the changes of an overlay, and makes the
-/// bounds right. If an allocation fails, list, work and counts are unchanged, and the bounds are unknown.
+/// bounds right. If an allocation fails, the list is unchanged, and the bounds are unknown.
 pub(crate) fn renew(
     alloc: Global,
     roads: &RoadMap,
@@ -101,29 +97,20 @@ pub(crate) fn renew(
     touched: &ChangeSet,
     near: &mut DistanceBounds,
     searches: &mut Searches,
-    work: &mut Work,
-    spared: &mut u64,
-) -> Result<Vec<Entry>, AllocError>
+) -> Result<Renewed, AllocError>
     requires { (M : Map) × CanRenew M (map_of roads.now) (items paths.old)
         (under_overlay (items paths.old) overlay.now) touched.now near.old }
-    ensures renewed { IfOk result (λ es. IsRenewal (map_of roads.now) touched.now (items paths.old)
-        (under_overlay (items paths.old) overlay.now) (items paths.new) (list_map entry_of es.items) work.old work.new
-        spared.old spared.new) }
-    ensures rises { OnOk result (Rises work.old work.new) }
-    ensures kept { OnOk result (spared.old ≤ spared.new) }
+    ensures renewed { IfOk result (IsRenewal (map_of roads.now) touched.now (items paths.old)
+        (under_overlay (items paths.old) overlay.now) (items paths.new)) }
     ensures bounded { OnOk result (HasBounds (map_of roads.now) (items paths.new) near.new) }
     ensures err { OnErr result (items paths.new ≡ items paths.old) }
-    ensures err_work { OnErr result (work.new ≡ work.old) }
-    ensures err_kept { OnErr result (spared.new ≡ spared.old) }
     ensures unknown { OnErr result (IsFalse near.new.known) }
 {
     ask_near(near, roads, touched);
-    match renew_over(
-        paths, alloc, roads, overlay, touched, near, searches, work, spared,
-    ) {
-        Ok(entries) => {
+    match renew_over(paths, alloc, roads, overlay, touched, near, searches) {
+        Ok(renewed) => {
             rebuild_bounds(alloc, near, roads, paths, searches);
-            Ok(entries)
+            Ok(renewed)
         }
         Err(error) => {
             near.forget();

@@ -82,11 +82,7 @@ impl Register {
             paths: PathList::new(alloc),
             searches: Searches::new(alloc),
             touched: ChangeSet::new(alloc),
-            work: Work {
-                encodings: 0,
-                searches: 0,
-                settled: 0,
-            },
+            work: Work::none(),
             spared: 0,
             batch: None,
             near: DistanceBounds::new(alloc),

@@ -36,13 +36,9 @@ fn some_path(rt: &impl Abort, alloc: Global) -> Path {
 /// The encoding of a path, made again if an allocation failed.
 fn some_encoding(rt: &impl Abort, alloc: Global, map: &RoadMap, path: &Path) -> Encoding {
     let mut search = Dijkstra::new(alloc);
-    let mut work = Work::default();
-    match encode(alloc, map, path, &mut search, &mut work) {
+    match encode(alloc, map, path, &mut search) {
         Ok(found) => found,
-        Err(_) => encode(alloc, map, path, &mut search, &mut work).expect(
-            rt,
-            "memory the second time",
-        ),
+        Err(_) => encode(alloc, map, path, &mut search).expect(rt, "memory the second time"),
     }
 }
 

@@ -49,8 +49,7 @@ impl Named {
     pub fn encoding(&self, alloc: Global, roads: &RoadMap) -> Result<Encoding, Fail> {
         let path = self.path(alloc)?;
         let mut search = Dijkstra::new(alloc);
-        let mut work = Work::default();
-        Ok(encode(alloc, roads, &path, &mut search, &mut work)?)
+        Ok(encode(alloc, roads, &path, &mut search)?)
     }
 
     /// The path's footprint on a map.

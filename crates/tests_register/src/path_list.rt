@@ -10,7 +10,6 @@ use olr_map::{Edit, EditPlan, RoadMap, judge};
 use olr_near::DistanceBounds;
 use olr_paths::{ChangeSet, ChangedLine, Overlay, PathList, Searches, renew_over};
 use olr_refs::Path;
-use olr_search::Work;
 use std::alloc::Global;
 use std::process::Abort;
 
@@ -94,7 +93,6 @@ fn renew(rt: &impl Abort, alloc: Global, list: &mut PathList, map: &mut RoadMap,
     let mut bounds = DistanceBounds::new(alloc);
     bounds.forget();
     let mut searches = Searches::new(alloc);
-    let (mut work, mut kept) = (Work::default(), 0);
     let none = Overlay::new(alloc);
     let _names = list.len();
     let renewed = renew_over(
@@ -105,11 +103,9 @@ fn renew(rt: &impl Abort, alloc: Global, list: &mut PathList, map: &mut RoadMap,
         &touched,
         &bounds,
         &mut searches,
-        &mut work,
-        &mut kept,
     );
-    let entries = renewed.expect(rt, "memory");
-    assert!(rt; entries.len() <= list.len());
+    let renewed = renewed.expect(rt, "memory");
+    assert!(rt; renewed.entries.len() <= list.len());
 }
 
 /// Renews a list on two roads: with one more node, with a longer line 30, and without line 10.

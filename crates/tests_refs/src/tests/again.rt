@@ -6,7 +6,7 @@ use super::queries::{DETOUR, EQUAL, ROAD, ROUND, TOO_LONG_FIRST, WHOLE, grid_map
 use made_maps::{Plan, WORKED, map_of};
 use olr_map::RoadMap;
 use olr_refs::{Encoding, KnownQuery, Path, encode, encode_again};
-use olr_route::{Dijkstra, Work};
+use olr_route::Dijkstra;
 use std::alloc::Global;
 use std::process::Abort;
 use std::test::Fail;
@@ -44,18 +44,16 @@ fn expect_same(rt: &impl Abort, first: &Encoding, second: &Encoding) {
     );
 }
 
-/// A path encoded, and encoded again with its known coverage queries; and the work of each.
+/// A path encoded, and encoded again with its known coverage queries.
 fn encode_twice(
     alloc: Global,
     map: &RoadMap,
     path: &Path,
-) -> Result<(Encoding, Encoding, Work, Work), Fail> {
+) -> Result<(Encoding, Encoding), Fail> {
     let mut search = Dijkstra::new(alloc);
-    let mut work = Work::default();
-    let first = encode(alloc, map, path, &mut search, &mut work)?;
-    let mut more = Work::default();
-    let second = encode_again(alloc, map, path, &first.known, &mut search, &mut more)?;
-    Ok((first, second, work, more))
+    let first = encode(alloc, map, path, &mut search)?;
+    let second = encode_again(alloc, map, path, &first.known, &mut search)?;
+    Ok((first, second))
 }
 
 /// Asserts which coverage queries of a path are known, and that it is encoded again with a search for the others alone.
@@ -67,7 +65,8 @@ fn expect_again(
     wanted: &[Known],
 ) -> Result<(), Fail> {
     let path = path_of(rt, alloc, plain);
-    let (first, second, work, more) = encode_twice(alloc, map, &path)?;
+    let (first, second) = encode_twice(alloc, map, &path)?;
+    let (work, more) = (first.work, second.work);
     expect_known(rt, &first.known, wanted);
     expect_same(rt, &first, &second);
     let all = first.queries.len() as u64;

@@ -8,7 +8,7 @@ use super::maps::{BARE, LONG, LONG_BARE, PASSING, PlainPath, path_of};
 use made_maps::{Place, Plan, STRAIGHT, WORKED, end_of, map_of, start_of};
 use olr_map::{Footprint, LineId, MapRead, RoadMap};
 use olr_refs::{Choice, Reuse, distances, extend, points, resolve};
-use olr_route::{Dijkstra, Work};
+use olr_route::Dijkstra;
 use std::alloc::{AllocError, Global};
 use std::process::Abort;
 use std::test::Fail;
@@ -69,21 +69,20 @@ fn expect_chosen(
         distances: &distances,
     };
     let mut search = Dijkstra::new(alloc);
-    let mut work = Work::default();
     let mut seen = None;
     let nothing = Reuse {
         known: &[],
         lead: 0,
         own: 0,
     };
-    let chosen = points(alloc, &along, &nothing, &mut search, &mut seen, &mut work)?;
+    let chosen = points(alloc, &along, &nothing, &mut search, &mut seen)?;
     let olr_refs::Chosen { choice, queries } = chosen;
     match choice {
         Choice::Positions(found) => assert_eq!(rt; found.as_slice(), positions, "the points"),
         Choice::NoNext(k) => panic!(rt; "no point after position {k}"),
     }
-    let counted = (queries.all.len() as u64, work.encodings, work.searches);
-    assert_eq!(rt; counted, (searches, 0, searches), "of {positions:?}");
+    let counted = (queries.all.len() as u64, queries.work.searches);
+    assert_eq!(rt; counted, (searches, searches), "of {positions:?}");
     Ok(())
 }
 

@@ -42,13 +42,12 @@ fn expect_footprint(
     map: &RoadMap,
     path: &Path,
     encoding: &Encoding,
-    encoded: Work,
 ) -> Result<(), Fail> {
     let wanted = seen(alloc, map, encoding)?;
     let mut work = Work::default();
     let (_, found) = refer(alloc, map, path, &mut work)?;
     assert_eq!(rt; found.as_slice(), wanted.as_slice(), "the footprint");
-    assert_eq!(rt; work, encoded, "the work");
+    assert_eq!(rt; work, encoding.work, "the work");
     Ok(())
 }
 
@@ -97,13 +96,12 @@ fn expect_queries(
 ) -> Result<(), Fail> {
     let path = path_of(rt, alloc, plain);
     let mut search = Dijkstra::new(alloc);
-    let mut work = Work::default();
-    let encoding = encode(alloc, map, &path, &mut search, &mut work)?;
+    let encoding = encode(alloc, map, &path, &mut search)?;
     expect_seen(rt, alloc, &encoding, wanted, plain);
     let searches = encoding.queries.len() as u64;
-    let counted = (work.encodings, work.searches);
+    let counted = (encoding.work.encodings, encoding.work.searches);
     assert_eq!(rt; counted, (1, searches), "of {plain:?}");
-    expect_footprint(rt, alloc, map, &path, &encoding, work)
+    expect_footprint(rt, alloc, map, &path, &encoding)
 }
 
 /// The worked map with a side road as long as the line beside it.

@@ -26,7 +26,7 @@ returns-then-is_ok-clause-new_origins g c = rw c.replace_by.ensures
     c.renew_overlaid-renewed.ensures.new_origins)
 
 pub returns-then-not-takes_some-clause-renewed : goal.returns-then-not-takes_some-clause-renewed
-returns-then-not-takes_some-clause-renewed g c = rw c.index.ensures c.in_ok-entries.ensures.renewed
+returns-then-not-takes_some-clause-renewed g c = rw c.index.ensures c.in_ok-renewed.ensures.renewed
 
 pub returns-then-not-takes_some-clause-new_origins : goal.returns-then-not-takes_some-clause-new_origins
-returns-then-not-takes_some-clause-new_origins g c = rw c.index.ensures c.in_ok-entries.ensures.new_origins
+returns-then-not-takes_some-clause-new_origins g c = rw c.index.ensures c.in_ok-renewed.ensures.new_origins

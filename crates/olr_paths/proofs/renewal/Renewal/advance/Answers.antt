@@ -19,4 +19,4 @@ returns-in_ok-push-in-Encode g c = λ T X C gives f.
     (rw (c.deref-in-Encode.ensures, c.in_ok-published-in-Encode.ensures.ok) at c.in_ok-push_if_changed-in-Encode.ensures)
     c.args.known.now s.queries (gives (rw c.in-Encode.is tt))
     (rw c.deref.ensures at s.those)
-    (rw c.plus.ensures (counted_encoded (g.M.MapRead.map c.args.map.now) s.queries _ _ _ e.counted s.counts))
+    (rw c.plus-self.ensures (counted_encoded (g.M.MapRead.map c.args.map.now) s.queries _ _ _ e.counted s.counts))

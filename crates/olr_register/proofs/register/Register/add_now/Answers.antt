@@ -20,7 +20,7 @@ pub returns-in_err-entries : goal.returns-in_err-entries
 returns-in_err-entries c =
     let name = string_bytes c.args.name in
     refused_now c.self.inside c.self.view_is c.requires (Add_path name (path_by c.args.parts)) _ _ rust.Memory
-    (rw (c.in_err-entries.ensures.err, c.in_err-entries.ensures.err_work) c.self.view_is)
+    (rw c.in_err-entries.ensures.err c.self.view_is)
     c.from_residual-in_err-entries.ensures.1
     (may_refuse _ _ _ refl (add_refused _ name (path_by c.args.parts) c.has-taken.result _
     (c.has-taken.ensures ∙ ap (has_name (items c.self.inside.paths)) c.deref.ensures) c.in_ok-path.ensures.lacks))
@@ -38,9 +38,9 @@ pub returns : goal.returns
 returns c =
     let r = c.self.inside in
     let e = c.in_ok-entries.ensures in
-    rw (← c.in_ok-path.ensures.ok)
+    rw (← c.in_ok-path.ensures.ok, c.plus-self-inside.ensures)
     (add_done r c.self.view_is c.requires c.self.invariant (string_bytes c.args.name) (items c.add.new.list)
     c.in_ok-path.path e.added.0 (rw c.in_ok-path.ensures.ok c.in_ok-path.ensures.good) e.added.1 _ _ _ refl
-    e.counted e.rises e.searched
+    e.counted e.searched
     (ap (has_name (items r.paths)) (sym c.deref.ensures) ∙ sym c.has-taken.ensures ∙ c.in_ok-path.ensures.right) e.added.2
     e.added.3)

@@ -1,4 +1,4 @@
-use Rattle.olr_register.proofs.Common.{◌≡◌, ℕ, List, map, length, None, IsOk, refl, ap, ◌∙◌, Map, Edit, edited, edit_of}
+use Rattle.olr_register.proofs.Common.{◌≡◌, ℕ, List, map, length, None, IsOk, refl, ap, arith, ◌∙◌, Map, Edit, edited, edit_of}
 use Rattle.olr_register.proofs.Common.{map_of, On_map, Make, at_once, IsRefusal, ByState, entry_of, Entry, Item, items}
 use Rattle.olr_register.proofs.Common.{content_on, No_memory}
 use Rattle.olr_register.proofs.Asking.{some_named}
@@ -10,6 +10,7 @@ use Rattle.olr_register.proofs.Singles.{bare_done, can_edit, edit_right, edit_do
 use Rattle.olr_register.proofs.States.{state}
 use Rattle.olr_commands.specs.State as faults
 use Rattle.olr_commands.specs.Reply as returned
+use Rattle.olr_search.specs.Counts.{raised_count}
 use Rattle.olr_register.proofs.register.Register.edit_now.Goals as goal
 
 pub returns-in-Err : goal.returns-in-Err
@@ -84,7 +85,7 @@ pub returns-in_default : goal.returns-in_default
 returns-in_default c =
     let e = c.in_default.ensures in
     refused_now c.self.inside c.self.view_is c.requires (On_map (edit_of c.args.edit)) _ _ No_memory
-    (rw (e.err, e.err_work, e.err_kept) (same_map c.self.inside c.self.view_is c.requires c.undo.new.self
+    (rw e.err (same_map c.self.inside c.self.view_is c.requires c.undo.new.self
     (c.undo.ensures ∙ c.in_ok-undo.ensures.before))) refl
     (lacks_now _ _ _ (edit_of c.args.edit) c.len.ensures.len c.if-len-eq0.false c.in-Ok.ensures.plan.accepted)
 
@@ -104,15 +105,17 @@ invariant_of-self-2 c =
     let k = c.in-Ok-renewed.ensures in
     edit_right r c.self.view_is c.requires c.self.invariant (edit_of c.args.edit) c.keep.new.self
     (rw c.keep.ensures c.in_ok-undo.ensures.done) c.make_noted.new.touched c.in_ok-undo.ensures.noted
-    (items c.renew-renewed.new.paths) c.in-Ok-renewed.entries.items c.renew-renewed.new.work
-    c.renew-renewed.new.spared (rw c.keep.ensures (rw (c.new-none.ensures (items r.paths)) at k.renewed)) _
-    c.in-Ok.ensures.plan.placed (rw c.keep.ensures k.bounded)
+    (items c.renew-renewed.new.paths) c.in-Ok-renewed.renewed
+    (rw c.keep.ensures (rw (c.new-none.ensures (items r.paths)) at k.renewed)) _ c.in-Ok.ensures.plan.placed
+    (rw c.keep.ensures k.bounded)
 
 pub returns : goal.returns
 returns c =
     let r = c.self.inside in
     let k = c.in-Ok-renewed.ensures in
-    edit_done r c.self.view_is c.requires c.self.invariant (edit_of c.args.edit) c.keep.new.self
+    let spared : c.saturating_add-self-inside.result ≡ raised_count r.spared c.in-Ok-renewed.renewed.spared = omega arith in
+    rw (c.plus-self-inside.ensures, spared)
+    (edit_done r c.self.view_is c.requires c.self.invariant (edit_of c.args.edit) c.keep.new.self
     (rw c.keep.ensures c.in_ok-undo.ensures.done) c.make_noted.new.touched c.in_ok-undo.ensures.noted
-    (items c.renew-renewed.new.paths) c.in-Ok-renewed.entries.items c.renew-renewed.new.work
-    c.renew-renewed.new.spared (rw c.keep.ensures (rw (c.new-none.ensures (items r.paths)) at k.renewed)) _ refl k.rises k.kept
+    (items c.renew-renewed.new.paths) c.in-Ok-renewed.renewed
+    (rw c.keep.ensures (rw (c.new-none.ensures (items r.paths)) at k.renewed)) _ refl)

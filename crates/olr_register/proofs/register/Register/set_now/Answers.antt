@@ -21,7 +21,7 @@ pub returns-in_err-entries : goal.returns-in_err-entries
 returns-in_err-entries c =
     let y = Set_path c.args.name.now (path_by c.args.parts) in
     refused_now c.self.inside c.self.view_is c.requires y _ _ rust.Memory
-    (rw (c.in_err-entries.ensures.err, c.in_err-entries.ensures.err_work) c.self.view_is)
+    (rw c.in_err-entries.ensures.err c.self.view_is)
     c.from_residual-in_err-entries.ensures.1 (may_refuse _ y _ refl (set_refused _ c.args.name.now
     (path_by c.args.parts) (not c.has-missing.result) _ (ap not c.has-missing.ensures) c.in_ok-path.ensures.lacks))
 
@@ -37,8 +37,8 @@ invariant_of-self-2 c =
 pub returns : goal.returns
 returns c =
     let e = c.in_ok-entries.ensures in
-    rw (← c.in_ok-path.ensures.ok)
+    rw (← c.in_ok-path.ensures.ok, c.plus-self-inside.ensures)
     (set_done c.self.inside c.self.view_is c.requires c.self.invariant c.args.name.now (items c.set.new.list)
     c.in_ok-path.path e.set.0 (rw c.in_ok-path.ensures.ok c.in_ok-path.ensures.good) e.set.1 _ _ _ refl e.counted
-    e.rises e.searched (sym c.has-missing.ensures ∙ not-false c.has-missing.result c.in_ok-path.ensures.right)
+    e.searched (sym c.has-missing.ensures ∙ not-false c.has-missing.result c.in_ok-path.ensures.right)
     e.set.2 e.set.3)
