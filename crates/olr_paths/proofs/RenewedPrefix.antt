@@ -20,7 +20,6 @@ use Rattle.olr_paths.specs.declared.renewal.Renewed.{Renewed}
 use Rattle.olr_refs.proofs.Noting.{raised_twice, searched_more, searched_none, searched_on}
 use Rattle.olr_search.specs.Counts.{no_work, raised_work}
 use Rattle.olr_refs.specs.Choice.{AreSearched}
-use Rattle.std.proofs.lemmas.List.{length-append}
 
 AreRemade-push : (N : Map) (is js : List Item) (i j : Item) → AreRemade N is js → IsRemade N i j →
     AreRemade N (is ++ i ∷ []) (js ++ j ∷ [])

@@ -3,7 +3,7 @@ use Rattle.olr_refs.proofs.Common.{◌≡◌, ◌<◌, ◌≤◌, ◌+◌, ◌*�
 use Rattle.olr_refs.proofs.Common.{MatchOption, refl, sym, subst, arith, inl, inr, IsTrue, AllZip, nat_tests, Map}
 use Rattle.olr_refs.proofs.Common.{IsMap, Path, is_path, extended_path, Next, path_fault, Sees, Foot, CoverageQuery}
 use Rattle.olr_refs.proofs.Common.{QueriesOf, KnownQuery, IsKnownAt, Contains-here, Contains-cases, path_also}
-use Rattle.olr_refs.proofs.Common.{all_searched, raised_count, SettledBy, Work, AreSearched, Notes, Asks, AsksOf}
+use Rattle.olr_refs.proofs.Common.{all_searched, Work, AreSearched, Notes, Asks, AsksOf}
 use Rattle.olr_refs.proofs.Common.{foot_queried, append-nil, nat_lt, option_to_list, filter-append, IsQuery, querying}
 use Rattle.olr_refs.proofs.Common.{IsReused, IsSearched, FoundFor, KnownOf, SearchedOf, Contains-later, Next-candidate}
 use Rattle.olr_refs.proofs.Common.{AsksAfter, Searched, no_work, raised_work}

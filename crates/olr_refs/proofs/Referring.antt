@@ -3,7 +3,7 @@ use Rattle.olr_refs.proofs.Common.{◌≡◌, ◌<◌, ◌+◌, ℕ, List, [], �
 use Rattle.olr_refs.proofs.Common.{ap, ◌∙◌, arith, inl, inr, eq-eqb, IsTrue, IfOk, Map, IsMap, dm_of, Path, is_path}
 use Rattle.olr_refs.proofs.Common.{extended_path, AreJoined, last_position, Reference, legs, reference, path_fault}
 use Rattle.olr_refs.proofs.Common.{CoverageQuery, QueriesOf, KnownQuery, path_nonempty, all_first, all_last, path_also}
-use Rattle.olr_refs.proofs.Common.{Asks, AsksOf, Work, Extends, later, joined, answer_of, OnOk, Tried, OfPath}
+use Rattle.olr_refs.proofs.Common.{Asks, AsksOf, Work, Extends, later, joined, answer_of, Tried, OfPath}
 use Rattle.olr_refs.proofs.Common.{answer_by_points, Encoding, Encodes, Traversed, TraversedOfExtended}
 use Rattle.olr_refs.proofs.Common.{QueriesOfExtended, sound_lines, one_tried, extended_sound, ForPoints, searches_of}
 use Rattle.olr_refs.proofs.Common.{◌↔◌, Result}

@@ -1,5 +1,5 @@
 use Rattle.olr_refs.proofs.Common.{[], ◌∷◌, refl, rules, sym, ◌∙◌, arith, CoverageQuery, Along, IsSearch, Work}
-use Rattle.olr_refs.proofs.Noting.{one_query, notes_same, search_sees, query_short}
+use Rattle.olr_refs.proofs.Noting.{one_query, notes_same, search_sees}
 use Rattle.olr_refs.proofs.chosen.search_after.Given.{Over}
 use Rattle.olr_refs.proofs.chosen.search_after.Goals.{After-settled_count}
 use Rattle.olr_refs.proofs.chosen.search_after.Goals as goal

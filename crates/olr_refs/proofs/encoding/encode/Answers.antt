@@ -1,5 +1,5 @@
-use Rattle.olr_refs.proofs.Common.{◌≡◌, ◌+◌, List, Result, CoverageQuery, IfOk, QueriesOf, AreSearched, arith}
-use Rattle.olr_refs.proofs.Common.{length, no_work, saturated_count, refl}
+use Rattle.olr_refs.proofs.Common.{arith}
+use Rattle.olr_refs.proofs.Common.{refl}
 use Rattle.olr_refs.proofs.Referring.{if_both}
 use Rattle.olr_refs.proofs.Asking.{searched_all}
 use Rattle.olr_refs.proofs.encoding.encode.Goals as goal

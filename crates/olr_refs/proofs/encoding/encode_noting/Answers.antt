@@ -1,4 +1,4 @@
-use Rattle.olr_refs.proofs.Common.{refl, arith, rules, IfOk-weaker}
+use Rattle.olr_refs.proofs.Common.{arith, rules, IfOk-weaker}
 use Rattle.olr_refs.proofs.Asking.{queries_whole, known_whole, searched_whole, searched_of, searched_few}
 use Rattle.olr_refs.proofs.encoding.encode_noting.Goals as goal
 
