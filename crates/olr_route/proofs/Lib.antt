@@ -1,8 +1,5 @@
 pub mod Common
-mod LastLemmas
-mod LabelLemmas
-mod ExtendLemmas
-mod ViewLemmas
-mod StretchLemmas
-mod EqualLemmas
-mod ReportedLemmas
+pub mod EndLemmas
+pub mod LastLemmas
+pub mod LabelLemmas
+pub mod ExtendLemmas

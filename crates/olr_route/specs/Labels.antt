@@ -1,71 +1,68 @@
--- The labels of a search: for each node that it reaches, the length and the last line of the shortest path there.
---     Labels      the source, the limit in decimetres, and the labels by node
---     dist_at, last_at      the parts of the label at a node
---     count_of x      how many labels there are
---     AreLabels M x      exactly the nodes that are reached have labels, and these are those of the shortest paths
---     LeastWithin, UniqueWithin M x t xs      xs is the (unique) shortest path from the source to t, within the limit
---     IsShortest unique M x t xs      one of these
-use Rattle.std.specs.Prelude.{◌≡◌, ℕ, ◌≤◌, ◌↔◌, Bool, true, false, List, [], ◌∷◌, Option, Some, None, IsSome, option_and_then}
-use Rattle.std.specs.Option.{option_map}
-use Rattle.std.specs.Coded.{Coded, code_by, coded_ℕ, coded_option, coded×}
-use Rattle.std.specs.Ordering.{nat_cmp}
-use Rattle.std.specs.FinMap.{FinMap, get, len, code}
-use Rattle.std.proofs.Common.{refl}
-use Rattle.olr_spec.specs.Map.{Map}
-use Rattle.olr_spec.specs.Routes.{Reaches, dm_of, Least, UniqueShortest}
+-- Shortest paths within a limit, and labels: what a search says of them at each node that it reaches.
+--     LeastWithin, UniqueWithin M s limit t xs      xs is the (unique) shortest path from s to t, and within the limit
+--     IsShortest unique M s limit t xs      one of these
+--     last_of xs      the last line
+--     EndsRoute M s v d x      a route of length d from s to v ends with line x
+--     IsLast M s v d o only      o is the least such line, if there is one; only: there is no other
+--     IsLabel M s limit v k      the shortest path from s to v is within the limit, with the length and the last line of
+--         the label k, and k says whether no other line ends a route of this length
+--     IsFound M s limit v k      the same by the distance of v
+--     after_search w n      the work after one more search, which settled n nodes
+use Rattle.std.specs.Prelude.{◌≡◌, ℕ, ◌+◌, ◌≤◌, ◌↔◌, Bool, true, false, List, [], ◌∷◌, Option, Some, None, IsTrue}
+use Rattle.olr_spec.specs.Map.{Map, has_line, start, end, dm}
+use Rattle.olr_spec.specs.Routes.{IsRoute, dm_of, Least, UniqueShortest}
+use Rattle.olr_search.specs.Counts.{saturated_count}
+use Rattle.olr_search.specs.Distances.{IsDistance}
+use Rattle.olr_search.specs.declared.distances.Direction.TheVariants.{Along}
+use Rattle.olr_search.specs.declared.work.Work.{Work}
 
--- a route's length, and its last line, if it has lines
-abbrev pub Label : Type 0
-Label = ℕ × Option ℕ
+pub record LeastWithin (M : Map) (s limit t : ℕ) (xs : List ℕ) : Type 0 where
+  pub least : Least M s t xs
+  pub within : dm_of M xs ≤ limit
 
-pub record Labels : Type 0 where
-  pub source : ℕ
-  pub limit : ℕ
-  pub by_node : FinMap nat_cmp Label
+pub record UniqueWithin (M : Map) (s limit t : ℕ) (xs : List ℕ) : Type 0 where
+  pub unique : UniqueShortest M s t xs
+  pub within : dm_of M xs ≤ limit
 
-abbrev pub coded_labels : Coded Labels
-coded_labels =
-    code_by (ℕ × (ℕ × FinMap nat_cmp Label))
-    (coded× coded_ℕ (coded× coded_ℕ (code coded_ℕ (coded× coded_ℕ (coded_option coded_ℕ)))))
-    (λ x. (x.source, (x.limit, x.by_node))) (λ p. record { source = p.0; limit = p.1.0; by_node = p.1.1 }) (λ _. refl)
-
-abbrev pub label_at : Labels → ℕ → Option Label
-label_at x v = get x.by_node v
-
-abbrev pub dist_at : Labels → ℕ → Option ℕ
-dist_at x v = option_map (λ k. k.0) (label_at x v)
-
-abbrev pub last_at : Labels → ℕ → Option ℕ
-last_at x v = option_and_then (λ k. k.1) (label_at x v)
-
-abbrev pub count_of : Labels → ℕ
-count_of x = len x.by_node
+abbrev pub IsShortest : Bool → Map → ℕ → ℕ → ℕ → List ℕ → Type 0
+IsShortest false M s limit t xs = LeastWithin M s limit t xs
+IsShortest true M s limit t xs = UniqueWithin M s limit t xs
 
 abbrev pub last_of : List ℕ → Option ℕ
 last_of [] = None
 last_of (x ∷ []) = Some x
 last_of (x ∷ y ∷ xs) = last_of (y ∷ xs)
 
--- the shortest path from s to v has this length and this last line
-pub record IsLabel (M : Map) (s v dist : ℕ) (last : Option ℕ) : Type 0 where
+pub record EndsRoute (M : Map) (s v d x : ℕ) : Type 0 where
+  pub front : List ℕ
+  pub route : IsRoute M s (start M x) front
+  pub known : IsTrue (has_line M x)
+  pub to : end M x ≡ v
+  pub long : dm_of M front + dm M x ≡ d
+
+-- no two lines end a route of this length
+abbrev pub IsOnly : Map → ℕ → ℕ → ℕ → Type 0
+IsOnly M s v d = (x y : ℕ) → EndsRoute M s v d x → EndsRoute M s v d y → x ≡ y
+
+pub record IsLast (M : Map) (s v d : ℕ) (o : Option ℕ) (only : Bool) : Type 0 where
+  pub ends : (x : ℕ) → o ≡ Some x → EndsRoute M s v d x
+  pub least : (x : ℕ) → EndsRoute M s v d x → (y : ℕ) × (o ≡ Some y) × (y ≤ x)
+  pub alone : IsTrue only ↔ IsOnly M s v d
+
+abbrev pub Label : Type 0
+Label = ℕ × Option ℕ × Bool
+
+pub record IsLabel (M : Map) (s limit v : ℕ) (k : Label) : Type 0 where
   pub lines : List ℕ
-  pub least : Least M s v lines
-  pub long : dm_of M lines ≡ dist
-  pub ends : last_of lines ≡ last
+  pub shortest : LeastWithin M s limit v lines
+  pub long : dm_of M lines ≡ k.0
+  pub ends : last_of lines ≡ k.1
+  pub alone : IsTrue k.2 ↔ IsOnly M s v k.0
 
-pub record AreLabels (M : Map) (x : Labels) : Type 0 where
-  pub reached : (v : ℕ) → IsSome (label_at x v) ↔ Reaches M x.source x.limit v
-  pub least : (v dist : ℕ) (last : Option ℕ) → label_at x v ≡ Some (dist, last) → IsLabel M x.source v dist last
+pub record IsFound (M : Map) (s limit v : ℕ) (k : Label) : Type 0 where
+  pub dist : IsDistance M Along ((s, 0) ∷ []) v k.0
+  pub within : k.0 ≤ limit
+  pub last : IsLast M s v k.0 k.1 k.2
 
-pub record LeastWithin (M : Map) (x : Labels) (t : ℕ) (xs : List ℕ) : Type 0 where
-  pub least : Least M x.source t xs
-  pub within : dm_of M xs ≤ x.limit
-
-pub record UniqueWithin (M : Map) (x : Labels) (t : ℕ) (xs : List ℕ) : Type 0 where
-  pub unique : UniqueShortest M x.source t xs
-  pub within : dm_of M xs ≤ x.limit
-
--- the shortest path, or the unique one
-abbrev pub IsShortest : Bool → Map → Labels → ℕ → List ℕ → Type 0
-IsShortest false M x t xs = LeastWithin M x t xs
-IsShortest true M x t xs = UniqueWithin M x t xs
+abbrev pub after_search : Work → ℕ → Work
+after_search w n = record w { searches = saturated_count (w.searches + 1); settled = saturated_count (w.settled + n) }

@@ -1,5 +1,2 @@
 pub mod Labels
-pub mod Counts
-pub mod Relaxed
-pub mod Ends
-pub mod Listed
+pub mod AreLabels

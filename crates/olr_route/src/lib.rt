@@ -8,8 +8,6 @@
 #![tactic(auto)]
 
 mod labels;
-mod last_lines;
-mod lines;
 mod routes;
 mod shortest;
 
