@@ -663,12 +663,12 @@ def write_held(cursor, change, outcome, counts, seconds):
 
 
 def publish(cursor, change, outcome, counts, held, seconds):
-    """Writes the answers, and the round with its history. Returns its number, or None if nothing changed."""
-    if not (change.streets or change.found or change.gone or outcome.answers):
-        return None
+    """Writes the answers, and the round with its history. Returns its number, or None if neither the map nor an answer changed."""
     number = held or next_round(cursor)
     write_strings(cursor, change, outcome, number)
     write_path_problems(cursor, change, outcome)
+    if not (change.streets or change.gone or outcome.answers):
+        return None
     write_round(cursor, number, "done", change, outcome, counts, seconds)
     rows = [(number, name, *columns(after)) for name, (_, after) in sorted(outcome.answers.items())]
     copy(cursor, "history", "round, name, text, reason", rows)

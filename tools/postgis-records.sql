@@ -1,6 +1,6 @@
 -- Prints the records of the roads of a region, from a table of roads in PostGIS:
 --
---     psql -AtXq -v ON_ERROR_STOP=1 -f tools/postgis-records.sql DATABASE > map.csv
+--     psql -AtXq -f tools/postgis-records.sql -o map.csv.new DATABASE && mv map.csv.new map.csv
 --
 -- It reads two tables, or views of these names:
 --
@@ -13,9 +13,12 @@
 --         geom        geometry(LineString, 4326)
 --     region(geom)    the region's polygons, with the margin by which regions overlap
 --
--- A road that meets the region is included whole, with both its nodes, even if it crosses the border. An invalid value stops
--- the query with a message that names the road, and so does a region that no road meets. A table without nodes, whose roads
+-- A road that meets the region is included whole, with both its nodes, even if it crosses the border. Invalid values stop
+-- the query with a message that lists all of them, by road, and so does a region that no road meets. Then no record is printed
+-- and the status is not 0, so that map.csv stays as it is. A table without nodes, whose roads
 -- continue across junctions, is converted by tools/postgis-split.sql.
+
+\set ON_ERROR_STOP on
 
 begin isolation level repeatable read;
 set local work_mem = '256MB';
@@ -25,7 +28,7 @@ do $$
 declare
     wrong text;
 begin
-    select format('road %s: %s', coalesce(id::text, 'without id'), reason) into wrong
+    select string_agg(format('road %s: %s', coalesce(id::text, 'without id'), reason), E'\n' order by id) into wrong
     from (
         select id, case
             when num_nulls(id, start_node, end_node, class, form, direction, geom) > 0 then 'a column is NULL'
@@ -45,9 +48,7 @@ begin
         end as reason
         from roads
     ) as judged
-    where reason is not null
-    order by id
-    limit 1;
+    where reason is not null;
     if wrong is not null then
         raise exception '%', wrong;
     end if;
