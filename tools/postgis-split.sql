@@ -39,9 +39,9 @@ create table if not exists road_vertices (
 );
 comment on table road_vertices is 'The vertices of the streets as they were split last, with the nodes at which they were split.';
 
--- A geometry with further vertices where two would be too far apart for a part.
+-- A geometry with further vertices where two would be too far apart for a part. 14.9 km are at least 0.133 degrees.
 create or replace function street_vertices(geom geometry) returns geometry language sql immutable as $$
-    select case when ST_Length(geom::geography) > 14900 then ST_Segmentize(geom::geography, 14900)::geometry else geom end
+    select case when ST_Length(geom) > 0.133 and ST_Length(geom::geography) > 14900 then ST_Segmentize(geom::geography, 14900)::geometry else geom end
 $$;
 
 create or replace function wrong_streets() returns text language sql stable as $$
@@ -88,7 +88,7 @@ begin
     end if;
 
     -- The vertices of each street, none twice in a row.
-    drop table if exists pg_temp.split_vertex, pg_temp.split_cut, pg_temp.split_part, pg_temp.split_moved;
+    drop table if exists pg_temp.split_vertex, pg_temp.split_cut, pg_temp.split_part, pg_temp.split_moved, pg_temp.split_state;
     create temporary table split_vertex on commit drop as
     select street, (row_number() over way)::int as k, x, y, ST_SetSRID(ST_MakePoint(x / 1e7, y / 1e7), 4326) as place
     from (
@@ -121,7 +121,7 @@ begin
         from split_vertex as vertex left join split_cut as cut using (street, k)
         where vertex.street in (
             select street from split_vertex group by street
-            having count(*) > 900 or ST_Length(ST_MakeLine(place order by k)::geography) > 14900
+            having count(*) > 900 or ST_Length(ST_MakeLine(place order by k)) > 0.133
         )
         window way as (partition by vertex.street order by vertex.k)
         order by vertex.street, vertex.k
@@ -147,11 +147,16 @@ begin
 
     -- The nodes that have moved: all streets that were split there agree on one place, which no other node claims.
     create temporary table split_moved on commit drop as
-    with size as (
+    with changed as (
+        select distinct street from (select street, k, x, y from split_vertex except select street, k, x, y from road_vertices) as new
+        union select distinct street from (select street, k, x, y from road_vertices except select street, k, x, y from split_vertex) as old
+    ),
+    size as (
         select street, max(k) as last, max(old_last) as old_last
         from (
             select street, k, null::int as old_last from split_vertex union all select street, null, k from road_vertices
         ) as counted
+        join changed using (street)
         group by street having count(k) > 0 and count(old_last) > 0
     ),
     turned as (
@@ -182,6 +187,9 @@ begin
             when old.k = old_last then case when is_turned then 1 else last end
         end
         where old.node is not null and num_nulls(same.x, new.x) < 2
+        union
+        select distinct node, x, y from road_vertices as old
+        where node is not null and not exists (select from changed where changed.street = old.street)
     ),
     agreed as (
         select node, min(x) as x, min(y) as y from vote group by node having count(*) = 1
@@ -253,11 +261,16 @@ begin
     )
     order by street, k;
 
-    delete from road_vertices;
-    insert into road_vertices (street, k, x, y, node)
-    select street, k, vertex.x, vertex.y, case when cut.k is not null then node end
+    create temporary table split_state on commit drop as
+    select street, k, vertex.x, vertex.y, node
     from split_vertex as vertex left join split_cut as cut using (street, k)
-    left join road_nodes as it on (it.x, it.y) = (vertex.x, vertex.y);
+    left join road_nodes as it on (it.x, it.y) = (cut.x, cut.y);
+    delete from road_vertices as old where not exists (
+        select from split_state as new
+        where (new.street, new.k, new.x, new.y, coalesce(new.node, 0)) = (old.street, old.k, old.x, old.y, coalesce(old.node, 0)));
+    insert into road_vertices (street, k, x, y, node)
+    select street, k, x, y, node from split_state as new
+    where not exists (select from road_vertices as old where (old.street, old.k) = (new.street, new.k));
 
     return query
     select known.id, part.start_node, part.end_node, streets.class::int, streets.form::int,
