@@ -35,11 +35,6 @@ create or replace function olr_keep.lon(place bigint) returns float8 language sq
     return ((place >> 31) - 1800000000) / 1e7;
 create or replace function olr_keep.lat(place bigint) returns float8 language sql immutable parallel safe
     return ((place & 2147483647) - 900000000) / 1e7;
-create or replace function olr_keep.point(place bigint) returns geometry(Point, 4326) language plpgsql immutable parallel safe as $$
-begin
-    return ST_SetSRID(ST_MakePoint(((place >> 31) - 1800000000) / 1e7, ((place & 2147483647) - 900000000) / 1e7), 4326);
-end $$;
-
 create table if not exists olr_keep.street (
     street text primary key, digest bigint not null, source int not null, class smallint, form smallint, direction text
 );
@@ -49,7 +44,7 @@ create table if not exists olr_keep.vertex (street text not null, part int not n
 create index if not exists vertex_street on olr_keep.vertex (street);
 create index if not exists vertex_place on olr_keep.vertex (place);
 comment on table olr_keep.vertex is
-    'The vertices of the streets. A place is a coordinate: (lon + 180 degrees) * 2^31 + lat + 90 degrees, in units of 10^-7 degree.';
+    'The vertices of the streets. A place is a coordinate, (lon + 180) * 2^31 + lat + 90, in units of 10^-7 degree.';
 
 create table if not exists olr_keep.node (
     node bigint primary key, place bigint not null unique deferrable initially deferred, geom geometry(Point, 4326) not null
@@ -65,14 +60,17 @@ create table if not exists olr_keep.line (
 create index if not exists line_street on olr_keep.line (street);
 create index if not exists line_geom on olr_keep.line using gist (geom);
 comment on table olr_keep.line is 'The lines of the map, with the numbers that the program has; lengths are decimetres.';
-comment on column olr_keep.line.nth is 'Which of the lines of this street between the same two nodes, in this direction on a loop.';
-comment on column olr_keep.line.fields is 'The fields of the line''s record after its ends: class, form, length and shape points.';
+comment on column olr_keep.line.nth is
+    'Which of the lines of this street between the same two nodes, in this direction on a loop.';
+comment on column olr_keep.line.fields is
+    'The fields of the line''s record after its ends: class, form, length and shape points.';
 
 create table if not exists olr_keep.string (
     name text primary key, text text, reason text, round bigint not null,
     lines bigint[] not null default '{}', streets text[] not null default '{}',
     start_offset bigint not null default 0, end_offset bigint not null default 0,
-    start_cut bigint not null default 0, end_cut bigint not null default 0, start_node bigint, end_node bigint, definition text not null,
+    start_cut bigint not null default 0, end_cut bigint not null default 0, start_node bigint, end_node bigint,
+    definition text not null,
     last_text text, last_round bigint, lost boolean not null default false, geom geometry(LineString, 4326),
     check (num_nonnulls(text, reason) = 1)
 );
@@ -80,10 +78,12 @@ create index if not exists string_lines on olr_keep.string using gin (lines);
 create index if not exists string_geom on olr_keep.string using gist (geom);
 comment on table olr_keep.string is
     'The published string of each path since a round, or the reason why it has none, with its last string beside it.';
-comment on column olr_keep.string.lines is 'The lines of the path, in order; start_offset and end_offset are the offsets of its record, in decimetres.';
+comment on column olr_keep.string.lines is
+    'The lines of the path, in order; start_offset and end_offset are the offsets of its record, in decimetres.';
 comment on column olr_keep.string.start_cut is 'The decimetres of its first line that are before its streets or its course.';
 comment on column olr_keep.string.lost is 'Whether no lines of the map were found for it: the lines are its last ones.';
-comment on column olr_keep.string.geom is 'The course of the lines between the offsets, without the metres that the path cuts off.';
+comment on column olr_keep.string.geom is
+    'The course of the lines between the offsets, without the metres that the path cuts off.';
 
 create table if not exists olr_keep.round (
     round bigint primary key, state text not null check (state in ('done', 'held', 'released')),
@@ -91,14 +91,15 @@ create table if not exists olr_keep.round (
     changed int not null, refused int not null, dropped int not null, seconds float8 not null
 );
 comment on table olr_keep.round is
-    'The rounds: their time, which streets and paths they changed, by which users, and how many strings changed, were refused or dropped.';
+    'The rounds: their time, which streets and paths they changed, by which users, and how many strings they changed.';
 
 create table if not exists olr_keep.history (
     round bigint not null references olr_keep.round, name text not null, text text, reason text,
     primary key (round, name)
 );
 create index if not exists history_name on olr_keep.history (name, round);
-comment on table olr_keep.history is 'Each answer that was published, by round. The reason dropped means that the path was removed.';
+comment on table olr_keep.history is
+    'Each answer that was published, by round. The reason dropped means that the path was removed.';
 
 create table if not exists olr_keep.problem (
     problem bigint generated always as identity primary key, street text, path text, node bigint, words text not null,
@@ -111,12 +112,15 @@ comment on table olr_keep.problem is 'What the map or a path lacks now. A row is
 
 -- ---- what triggers write
 
-create table if not exists olr_keep.note (source int not null, key text, who text not null, at timestamptz not null default now());
-comment on table olr_keep.note is 'The streets (or paths, source 0) that changed since the last round; without a key: all of the source.';
+create table if not exists olr_keep.note (
+    source int not null, key text, who text not null, at timestamptz not null default now()
+);
+comment on table olr_keep.note is
+    'The streets (or paths, source 0) that changed since the last round; without a key: all of the source.';
 
 create table if not exists olr_keep.source (
-    source int generated by default as identity primary key, streets text not null unique, id text not null, id_type text not null,
-    class text not null, form text not null, direction text not null, geom text not null, prefix text not null default ''
+    source int generated by default as identity primary key, streets text not null unique, id text not null,
+    id_type text not null, class text not null, form text not null, direction text not null, geom text not null, prefix text not null default ''
 );
 comment on table olr_keep.source is 'The tables of streets, with the expressions of their columns. add_streets writes it.';
 
@@ -133,8 +137,10 @@ end $$;
 -- Makes the function and the triggers that note which rows of a table change: of a source of streets, or of the paths (0).
 create or replace function olr_keep.make_triggers(source int, streets text, id text) returns void language plpgsql as $body$
 declare
-    was text := case when id ~ '^[a-z_][a-z0-9_]*$' then 'old.' || id || '::text' else '(select (' || id || ')::text from (select old.*) as one)' end;
-    now text := case when id ~ '^[a-z_][a-z0-9_]*$' then 'new.' || id || '::text' else '(select (' || id || ')::text from (select new.*) as one)' end;
+    form text := case when id ~ '^[a-z_][a-z0-9_]*$' then '%s.' || id || '::text'
+        else '(select (' || replace(id, '%', '%%') || ')::text from (select %s.*) as one)' end;
+    was text := format(form, 'old');
+    now text := format(form, 'new');
 begin
     execute format($f$
         create or replace function olr_keep.note_row_%1$s() returns trigger language plpgsql security definer
@@ -154,10 +160,14 @@ begin
     execute format('drop trigger if exists olr_keep_row on %s', streets);
     execute format('drop trigger if exists olr_keep_statement on %s', streets);
     execute format('drop trigger if exists olr_keep_truncate on %s', streets);
-    execute format('create trigger olr_keep_row after insert or update or delete on %s for each row execute function olr_keep.note_row_%s()', streets, source);
-    execute format('create trigger olr_keep_statement after insert or update or delete on %s for each statement execute function olr_keep.notify_change(%s)', streets, source);
-    execute format('create trigger olr_keep_truncate after truncate on %s for each statement execute function olr_keep.notify_change(%s)', streets, source);
-    execute format('alter table %s enable always trigger olr_keep_row, enable always trigger olr_keep_statement, enable always trigger olr_keep_truncate', streets);
+    execute format('create trigger olr_keep_row after insert or update or delete on %s for each row
+        execute function olr_keep.note_row_%s()', streets, source);
+    execute format('create trigger olr_keep_statement after insert or update or delete on %s for each statement
+        execute function olr_keep.notify_change(%s)', streets, source);
+    execute format('create trigger olr_keep_truncate after truncate on %s for each statement
+        execute function olr_keep.notify_change(%s)', streets, source);
+    execute format('alter table %s enable always trigger olr_keep_row, enable always trigger olr_keep_statement,
+        enable always trigger olr_keep_truncate', streets);
 end $body$;
 
 create or replace function olr_keep.add_streets(
@@ -178,8 +188,8 @@ begin
     if whole is null then
         raise exception '% is not a table: triggers of a view don''t fire for the changes of its tables; name these', streets;
     end if;
-    execute format('select pg_typeof(%s), (%s)::text, (%s)::text, (%s)::text, ST_SRID(%s) from (select 1) as one left join %s on false',
-        id, class, form, direction, geom, whole) into type;
+    execute format('select pg_typeof(%s), (%s)::text, (%s)::text, (%s)::text, ST_SRID(%s)
+        from (select 1) as one left join %s on false', id, class, form, direction, geom, whole) into type;
     insert into olr_keep.source as old (streets, id, id_type, class, form, direction, geom, prefix)
     values (whole, id, type, class, form, direction, geom, prefix)
     on conflict on constraint source_streets_key do update set (id, id_type, class, form, direction, geom, prefix)
@@ -191,7 +201,7 @@ begin
     return format('%s is source %s', whole, number);
 end $$;
 comment on function olr_keep.add_streets is
-    'Adds a table of streets, or changes its expressions. direction has to give both, along or against; prefix begins its streets'' ids.';
+    'Adds a table of streets, or changes its expressions. direction gives both, along or against; prefix begins its streets'' ids.';
 
 create or replace function olr_keep.drop_streets(streets text) returns text language plpgsql as $$
 declare
@@ -199,7 +209,8 @@ declare
     number int;
 begin
     delete from olr_keep.source as old
-    where old.streets in (drop_streets.streets, 'public.' || drop_streets.streets) returning old.streets, old.source into whole, number;
+    where old.streets in (drop_streets.streets, 'public.' || drop_streets.streets)
+    returning old.streets, old.source into whole, number;
     if whole is null then
         raise exception '% is not a table of streets of olr_keep', streets;
     end if;

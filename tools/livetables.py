@@ -19,6 +19,7 @@ LOCK = 7165_0029  # of pg_try_advisory_lock
 MANY = 1000  # changed streets after which the statistics of the tables are made again
 GAP = 1.0  # metres between the end of a street and another street that are taken for a fault
 DROPPED, LOST = "dropped", "lost"
+ESCAPES = str.maketrans({"\\": "\\\\", "\t": "\\t", "\n": "\\n", "\r": "\\r"})  # of COPY
 
 
 class Stale(Exception):
@@ -88,8 +89,8 @@ def connect(database, idle):
         tcp_user_timeout=30_000, connect_timeout=10)
     connection.autocommit = True
     with connection.cursor() as cursor:
-        cursor.execute("set row_security = off; set search_path = public, pg_temp; set jit = off; set client_min_messages = warning")
-        cursor.execute("set idle_in_transaction_session_timeout = %s; set work_mem = '64MB'", (f"{idle}s",))
+        cursor.execute("set row_security = off; set search_path = public, pg_temp; set jit = off; set work_mem = '64MB'")
+        cursor.execute("set client_min_messages = warning; set idle_in_transaction_session_timeout = %s", (f"{idle}s",))
     return connection
 
 
@@ -202,7 +203,7 @@ def forget_held(cursor):
 
 
 def check_triggers(cursor, say):
-    """Whether a table has lost its triggers, so that all streets have to be compared; they are made again where that is allowed."""
+    """Whether a table has lost its triggers, so that all streets have to be compared. They are made again if that is allowed."""
     cursor.execute("""select source, streets, id, to_regclass(streets) is null from olr_keep.source
         where 3 > (select count(*) from pg_trigger where tgrelid = to_regclass(streets) and tgenabled = 'A'
             and tgname in ('olr_keep_row', 'olr_keep_statement', 'olr_keep_truncate'))""")
@@ -215,7 +216,7 @@ def check_triggers(cursor, say):
             cursor.execute("select olr_keep.make_triggers(%s, %s, %s)", (source, streets, key))
             say(f"the triggers of {streets} were missing or disabled, and are made again")
         except psycopg2.Error as error:
-            say(f"the triggers of {streets} are missing or disabled; all streets are compared each minute: {str(error).strip()}")
+            say(f"the triggers of {streets} are missing or disabled, and streets are compared each minute: {str(error).strip()}")
     return bool(missing)
 
 
@@ -234,9 +235,11 @@ def metrics(cursor):
 def row_query(source, where=""):
     """The rows of a table of streets, with the columns that make a street."""
     columns = f"({source.id}) as id, ({source.frc})::text as class, ({source.fow})::text as form"
+    columns += f", ({source.direction})::text as direction, ({source.geom}) as geom"
+    digested = "coalesce(class, '?'), coalesce(form, '?'), coalesce(direction, '?'), geom::text"
     return f"""select %(prefix)s || id::text as street, class, form, direction, geom,
-            hashtextextended(concat_ws('|', coalesce(class, '?'), coalesce(form, '?'), coalesce(direction, '?'), geom::text), 0) as digest
-        from (select {columns}, ({source.direction})::text as direction, ({source.geom}) as geom from {source.streets} {where}) as it"""
+            hashtextextended(concat_ws('|', {digested}), 0) as digest
+        from (select {columns} from {source.streets} {where}) as it"""
 
 
 def read_change(cursor, whole):
@@ -265,7 +268,8 @@ def read_change(cursor, whole):
 def differing(cursor, source):
     """The ids of streets whose rows differ from what was read last; '' if there are rows without an id."""
     cursor.execute(
-        f"""select street from (select street, min(digest) as digest, count(*) as count from ({row_query(source)}) as row group by street) as new
+        f"""select street
+        from (select street, min(digest) as digest, count(*) as count from ({row_query(source)}) as row group by street) as new
         full join (select street, digest from olr_keep.street where source = %(source)s) as old using (street)
         where new.digest is distinct from old.digest or count > 1""",
         {"prefix": source.prefix, "source": source.source})
@@ -289,7 +293,8 @@ def read_rows(cursor, source, ids, change):
     old = {street: (digest, number) for street, digest, number in cursor}
     where = f"where ({source.id}) = any(%(ids)s::text[]::{source.id_type}[])"
     cursor.execute(
-        f"""select street, digest, class, form, direction, ST_GeometryType(geom), ST_SRID(geom), ST_AsBinary(olr_keep.degrees(geom), 'NDR')
+        f"""select street, digest, class, form, direction, ST_GeometryType(geom), ST_SRID(geom),
+            ST_AsBinary(olr_keep.degrees(geom), 'NDR')
         from ({row_query(source, where)}) as row""",
         {"prefix": source.prefix, "ids": text_array(ids)})
     found = {}
@@ -311,7 +316,8 @@ def read_rows(cursor, source, ids, change):
 
 def removed_sources(cursor, change):
     """Adds the streets of tables that are no sources any more."""
-    cursor.execute("select street from olr_keep.street where not exists (select from olr_keep.source where source = street.source)")
+    cursor.execute("""select street from olr_keep.street
+        where not exists (select from olr_keep.source where source = street.source)""")
     change.streets.update((street, None) for (street,) in cursor)
 
 
@@ -322,9 +328,7 @@ def copy(cursor, table, columns, rows):
     """Inserts rows by COPY; None is NULL, and texts may have any characters."""
     file = io.StringIO()
     for row in rows:
-        fields = ("\\N" if it is None else str(it).replace("\\", "\\\\").replace("\t", "\\t").replace("\n", "\\n").replace("\r", "\\r")
-                  for it in row)
-        file.write("\t".join(fields) + "\n")
+        file.write("\t".join("\\N" if it is None else str(it).translate(ESCAPES) for it in row) + "\n")
     if file.tell():
         file.seek(0)
         cursor.copy_expert(f"copy olr_keep.{table} ({columns}) from stdin", file)
@@ -342,7 +346,8 @@ def new_numbers(cursor, sequence):
 
 def old_parts(cursor, keys):
     """The vertices of streets as they were, as parts by key."""
-    cursor.execute("select street, part, place from olr_keep.vertex where street = any(%s::text[]) order by street, part, k", (text_array(keys),))
+    cursor.execute("""select street, part, place from olr_keep.vertex
+        where street = any(%s::text[]) order by street, part, k""", (text_array(keys),))
     parts = {key: {} for key in keys}
     for street, part, place in cursor:
         parts[street].setdefault(part, []).append(place)
@@ -351,12 +356,14 @@ def old_parts(cursor, keys):
 
 def beside(cursor, before, after, changed):
     """Adds to both the streets that share a place with a changed one."""
-    touched = {place for key in changed for parts in (before[key], after[key].parts if key in after else ()) for it in parts for place in it}
+    both = (parts for key in changed for parts in (before[key], after[key].parts if key in after else ()))
+    touched = {place for parts in both for part in parts for place in part}
     cursor.execute("select distinct street from olr_keep.vertex where place = any(%s::bigint[])", (number_array(touched),))
     others = {it for (it,) in cursor} - changed.keys()
     if others:
         before.update(old_parts(cursor, others))
-        cursor.execute("select street, class, form, direction from olr_keep.street where street = any(%s::text[])", (text_array(others),))
+        cursor.execute("""select street, class, form, direction from olr_keep.street
+            where street = any(%s::text[])""", (text_array(others),))
         after.update((key, Street(*rest, before[key])) for key, *rest in cursor)
     return touched
 
@@ -378,12 +385,13 @@ def apply_streets(cursor, change):
     touched = beside(cursor, before, after, changed)
     places = {place for street in after.values() for part in street.parts for place in part}
     cursor.execute("""select distinct place from olr_keep.vertex where place = any(%s::bigint[])
-        and not exists (select from unnest(%s::text[]) as known where known = street)""", (number_array(places), text_array(before)))
+        and not exists (select from unnest(%s::text[]) as known where known = street)""",
+                   (number_array(places), text_array(before)))
     others = {it for (it,) in cursor}
     lines = old_lines(cursor, before)
     ends = {it for line in lines for it in (line.start, line.end)}
-    cursor.execute("select node, place from olr_keep.node where node = any(%s::bigint[]) union select node, place from olr_keep.node where place = any(%s::bigint[])",
-                   (number_array(ends), number_array(places)))
+    cursor.execute("""select node, place from olr_keep.node where node = any(%s::bigint[])
+        union select node, place from olr_keep.node where place = any(%s::bigint[])""", (number_array(ends), number_array(places)))
     nodes = dict(cursor.fetchall())
     cut = recut(before, after, lines, nodes, others, new_numbers(cursor, "node_number"), new_numbers(cursor, "line_number"))
     write_streets(cursor, change)
@@ -413,7 +421,8 @@ def write_streets(cursor, change):
         if it:
             good = isinstance(it.street, Street)
             rows.append((key, it.digest, it.source, *(it.street[:3] if good else (None, None, None))))
-            vertices += [(key, part, k, place) for part, places in enumerate(it.street.parts if good else ()) for k, place in enumerate(places)]
+            for part, places in enumerate(it.street.parts if good else ()):
+                vertices += [(key, part, k, place) for k, place in enumerate(places)]
     copy(cursor, "street", "street, digest, source, class, form, direction", rows)
     copy(cursor, "vertex", "street, part, k, place", vertices)
 
@@ -435,7 +444,8 @@ def write_cut(cursor, cut):
 
     cursor.execute("delete from olr_keep.node where node = any(%s::bigint[])", (number_array(cut.dropped_nodes),))
     point = [(node, place, point_hex(place)) for node, place in cut.moved.items()]
-    update(cursor, "update olr_keep.node set place = it.place::bigint, geom = it.geom::geometry from (values %s) as it(node, place, geom) where node.node = it.node", point)
+    update(cursor, """update olr_keep.node set place = it.place::bigint, geom = it.geom::geometry
+        from (values %s) as it(node, place, geom) where node.node = it.node""", point)
     copy(cursor, "node", "node, place, geom", [(node, place, point_hex(place)) for node, place in cut.new_nodes.items()])
 
     cursor.execute("delete from olr_keep.line where line = any(%s::bigint[])", (number_array(cut.dropped),))
@@ -447,8 +457,8 @@ def write_cut(cursor, cut):
             looked.add(number)
         if is_moved or line[:4] + (line.nth,) != (old.street, old.part, old.k, old.along, old.nth):
             rows.append((number, *line[:9], wkb_hex(line.places)))
-    update(cursor, f"""update olr_keep.line set ({columns}) = (it.line, it.street, it.part, it.k, it.along, it.from_node, it.to_node,
-        it.nth, it.length, it.fields, it.geom::geometry) from (values %s) as it({columns}) where line.line = it.line""", rows)
+    update(cursor, f"""update olr_keep.line set ({columns}) = (it.line, it.street, it.part, it.k, it.along, it.from_node,
+        it.to_node, it.nth, it.length, it.fields, it.geom::geometry) from (values %s) as it({columns}) where line.line = it.line""", rows)
     copy(cursor, "line", columns, [(number, *it[:9], wkb_hex(it.places)) for number, it in cut.added.items()])
     return records, looked
 
@@ -469,7 +479,8 @@ def update(cursor, statement, rows):
 
 def write_problems(cursor, change, cut):
     """Writes which streets can't be lines, and which ends of streets nearly touch another street."""
-    cursor.execute("delete from olr_keep.problem where street = any(%s::text[]) and node is null", (text_array(change.streets),))
+    keys = text_array(change.streets)
+    cursor.execute("delete from olr_keep.problem where street = any(%s::text[]) and node is null", (keys,))
     rows = [(key, it.street) for key, it in change.streets.items() if it and not isinstance(it.street, Street)]
     copy(cursor, "problem", "street, words", rows)
     if not change.box:
@@ -478,16 +489,19 @@ def write_problems(cursor, change, cut):
     wide = high / max(0.01, math.cos(math.radians(max(abs(box[1]), abs(box[3])))))
     added = {it for line in [*cut.added.values(), *(line for line, _ in cut.changed.values())] for it in (line.start, line.end)}
     numbers = number_array([*cut.added, *cut.changed])
-    values = {"wide": wide, "high": high, "box": box, "nodes": number_array({*added, *cut.dropped_nodes}), "lines": numbers, "gap": GAP}
+    nodes = number_array({*added, *cut.dropped_nodes})
+    values = {"wide": wide, "high": high, "nodes": nodes, "lines": numbers, "gap": GAP, **dict(zip("wsen", box))}
     cursor.execute("""create temporary table if not exists checked (node bigint primary key) on commit delete rows;
         insert into checked select unnest(%(nodes)s::bigint[])
-        union select node from olr_keep.problem where node is not null and geom && ST_Expand(ST_MakeEnvelope(%(box)s, 4326), %(wide)s)
+        union select node from olr_keep.problem where node is not null
+            and geom && ST_Expand(ST_MakeEnvelope(%(w)s, %(s)s, %(e)s, %(n)s, 4326), %(wide)s)
         union select node from olr_keep.line join olr_keep.node on node.geom && ST_Expand(line.geom, %(wide)s, %(high)s)
             where line = any(%(lines)s::bigint[])
-        on conflict do nothing""".replace("%(box)s", "%s, %s, %s, %s" % box), values)
+        on conflict do nothing""", values)
     cursor.execute("delete from olr_keep.problem where node in (select node from checked)")
     cursor.execute("""insert into olr_keep.problem (node, street, words, geom)
-        select node.node, own.street, format('an end is %%s m from street %%s, without a common vertex', round(far::numeric, 2), other.street), node.geom
+        select node.node, own.street,
+            format('an end is %%s m from street %%s, without a common vertex', round(far::numeric, 2), other.street), node.geom
         from checked join olr_keep.node using (node)
         join lateral (
             select count(distinct (street, part, k)) as ways, min(street) as street from olr_keep.line
@@ -495,7 +509,8 @@ def write_problems(cursor, change, cut):
         ) as own on ways = 1
         join lateral (
             select street, ST_Distance(node.geom::geography, geom::geography) as far from olr_keep.line
-            where geom && ST_Expand(node.geom, %(wide)s, %(high)s) and node.node not in (from_node, to_node) order by far limit 1
+            where geom && ST_Expand(node.geom, %(wide)s, %(high)s) and node.node not in (from_node, to_node)
+            order by far limit 1
         ) as other on far < %(gap)s""", values)
 
 
@@ -543,7 +558,8 @@ def affected(cursor, change, looked):
         marked = [mark + it for it in change.streets for mark in ("", "<", ">")]
         cursor.execute(
             """select name from olr_keep.string left join olr_keep.path using (name) where reason is not null
-            and (coalesce(geom, course) && ST_MakeEnvelope(%s, %s, %s, %s, 4326) or string.streets && %s::text[] or path.streets && %s::text[])""",
+            and (coalesce(geom, course) && ST_MakeEnvelope(%s, %s, %s, %s, 4326)
+                or string.streets && %s::text[] or path.streets && %s::text[])""",
             (*(change.box or (0, 0, 0, 0)), text_array(marked), text_array(marked)))
         names.update(it for (it,) in cursor)
     return names
@@ -551,11 +567,13 @@ def affected(cursor, change, looked):
 
 def read_paths(cursor, names, finder):
     """The paths of these names as operators give them, and as they were found last, with their two offsets."""
-    cursor.execute("""select name, streets, ST_AsBinary(course, 'NDR'), cut_start, cut_end, md5(concat(streets::text, '|', course::text))
+    cursor.execute("""select name, streets, ST_AsBinary(course, 'NDR'), cut_start, cut_end,
+            md5(concat(streets::text, '|', course::text))
         from olr_keep.path where name = any(%s::text[])""", (text_array(names),))
     wanted = {name: Wanted(name, streets, coordinates(course), *rest) for name, streets, course, *rest in cursor}
-    cursor.execute("""select name, lines, streets, start_cut, end_cut, start_node, end_node, ST_AsBinary(geom, 'NDR'), definition,
-        start_offset, end_offset from olr_keep.string where name = any(%s::text[])""", (text_array(names),))
+    cursor.execute("""select name, lines, streets, start_cut, end_cut, start_node, end_node, ST_AsBinary(geom, 'NDR'),
+            definition, start_offset, end_offset
+        from olr_keep.string where name = any(%s::text[])""", (text_array(names),))
     rows = cursor.fetchall()
     ends = {it for row in rows for it in row[5:7] if it is not None}
     cursor.execute("select node from olr_keep.node where node = any(%s::bigint[])", (number_array(ends),))
@@ -648,10 +666,9 @@ def write_round(cursor, number, state, change, outcome, counts, seconds):
         """insert into olr_keep.round (round, state, at, streets, paths, users, changed, refused, dropped, seconds)
         values (%s, %s, clock_timestamp(), %s::text[], %s::text[], %s::text[], %s, %s, %s, %s)
         on conflict (round) do update set (state, at, streets, paths, users, changed, refused, dropped, seconds)
-            = (excluded.state, excluded.at, excluded.streets, excluded.paths, excluded.users, excluded.changed, excluded.refused,
-                excluded.dropped, excluded.seconds)""",
-        (number, state, text_array(sorted(change.streets)), text_array(sorted(outcome.answers)), text_array(sorted(change.users)),
-         *counts[:3], seconds))
+            = (excluded.state, excluded.at, excluded.streets, excluded.paths, excluded.users, excluded.changed,
+                excluded.refused, excluded.dropped, excluded.seconds)""",
+        (number, state, *(text_array(sorted(it)) for it in (change.streets, outcome.answers, change.users)), *counts[:3], seconds))
 
 
 def write_held(cursor, change, outcome, counts, seconds):
@@ -663,7 +680,7 @@ def write_held(cursor, change, outcome, counts, seconds):
 
 
 def publish(cursor, change, outcome, counts, held, seconds):
-    """Writes the answers, and the round with its history. Returns its number, or None if neither the map nor an answer changed."""
+    """Writes the answers, and the round with its history. Returns its number, or None if neither map nor answers changed."""
     number = held or next_round(cursor)
     write_strings(cursor, change, outcome, number)
     write_path_problems(cursor, change, outcome)
@@ -690,12 +707,12 @@ def write_strings(cursor, change, outcome, number):
                      it.words is not None, course_hex(it.course)))
     names = "name, lines, streets, start_offset, end_offset, start_cut, end_cut, start_node, end_node, definition, lost, geom"
     update(cursor, f"""insert into olr_keep.string ({names}, reason, round)
-        select name, lines::bigint[], streets::text[], start_offset, end_offset, start_cut, end_cut, start_node::bigint, end_node::bigint,
-            definition, lost, geom::geometry, '{LOST}', {number}
+        select name, lines::bigint[], streets::text[], start_offset, end_offset, start_cut, end_cut, start_node::bigint,
+            end_node::bigint, definition, lost, geom::geometry, '{LOST}', {number}
         from (values %s) as it({names})
         on conflict (name) do update set ({names}) = (excluded.name, excluded.lines, excluded.streets, excluded.start_offset,
-            excluded.end_offset, excluded.start_cut, excluded.end_cut, excluded.start_node, excluded.end_node, excluded.definition,
-            excluded.lost, excluded.geom)""", rows)
+            excluded.end_offset, excluded.start_cut, excluded.end_cut, excluded.start_node, excluded.end_node,
+            excluded.definition, excluded.lost, excluded.geom)""", rows)
     answers = [(name, *columns(after), number) for name, (_, after) in outcome.answers.items() if after != DROPPED]
     update(cursor, """update olr_keep.string set text = it.text, reason = it.reason, round = it.round,
             last_text = case when it.text is null then coalesce(string.text, last_text) end,
@@ -715,8 +732,8 @@ def write_path_problems(cursor, change, outcome):
     """Writes which paths have no lines or no string, and why."""
     names = {*change.found, *change.gone, *outcome.answers}
     cursor.execute("delete from olr_keep.problem where path = any(%s::text[])", (text_array(names),))
-    cursor.execute("select name, reason, ST_AsText(ST_StartPoint(geom)) from olr_keep.string where reason is not null and name = any(%s::text[])",
-                   (text_array(names),))
+    cursor.execute("""select name, reason, ST_AsText(ST_StartPoint(geom)) from olr_keep.string
+        where reason is not null and name = any(%s::text[])""", (text_array(names),))
     rows = []
     for name, reason, start in cursor.fetchall():
         placed = change.found.get(name)

@@ -102,7 +102,9 @@ class Finder:
         self.cursor.execute(
             f"""select {COLUMNS} from (
                 select distinct other.line from ST_DumpSegments(ST_GeomFromText(%s, 4326)) as segment
-                cross join lateral (select line from olr_keep.line where line.geom && ST_Expand(segment.geom, %s, %s) offset 0) as other
+                cross join lateral (
+                    select line from olr_keep.line where line.geom && ST_Expand(segment.geom, %s, %s) offset 0
+                ) as other
             ) as found cross join lateral (select * from olr_keep.line where line.line = found.line offset 0) as line""",
             (text, wide, high))
         return {it.number: it.ground for it in self.take()}
@@ -145,7 +147,8 @@ class Finder:
 
     def by_last_course(self, known):
         """The lines that follow the last course."""
-        return known.course and follow(list(known.course), self.near(known.course), self.tolerance, frozenset(streets_of(known)))
+        near = known.course and self.near(known.course)
+        return near and follow(list(known.course), near, self.tolerance, frozenset(streets_of(known)))
 
     def by_course(self, wanted):
         """The lines that follow the drawn course."""
@@ -164,7 +167,7 @@ class Finder:
             length = sum(self.rows[it].length for it in found.lines) - found.start - found.end
             before = 10 * length_of(known.course)
             if not before / 2 - 1000 <= length <= before * 2 + 1000:
-                return Lost("its streets lead from its start to its end by more than twice or less than half its length", known.course[0])
+                return Lost("its streets are more than twice, or less than half its length, from start to end", known.course[0])
         return found
 
     def by_streets(self, wanted):
@@ -264,7 +267,9 @@ class Route:
         place = self.known.course[-1]
         if self.known.end:
             far, at, length = position(row, place)
-            return (STRAY * far - (length - at), round((length - at) / (length or 1) * row.length)) if far <= self.tolerance and at > 0.05 else None
+            if far > self.tolerance or at <= 0.05:
+                return None
+            return STRAY * far - (length - at), round((length - at) / (length or 1) * row.length)
         far = self.stray(1, row.end, row.points[-1])
         return (STRAY * far, 0) if far <= self.tolerance else None
 
@@ -279,8 +284,10 @@ class Route:
     def following(self, leg, row):
         """The lines that may follow a line: the next ones of its street, and those of the next street at its end."""
         for it in self.legs[leg][2].get(row.end, ()):
-            is_next = it.part == row.part and it.along == row.along and it.k == row.k + (1 if row.along else -1)
-            if is_next or self.is_last(leg, row) and self.is_first(leg, it) and it.along == row.along and it.number != row.number:
+            if it.along != row.along or it.number == row.number:
+                continue
+            is_next = it.part == row.part and it.k == row.k + (1 if row.along else -1)
+            if is_next or self.is_last(leg, row) and self.is_first(leg, it):
                 yield 0, leg, it
         if leg + 1 < len(self.legs):
             mark = self.legs[leg + 1][0]

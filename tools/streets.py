@@ -49,7 +49,7 @@ class Street(NamedTuple):
 
 
 class Made(NamedTuple):
-    """A line as the streets give it; `k` is the index of its stretch in its part, and `along` whether it follows the geometry."""
+    """A line as the streets give it; `k` is the index of its stretch in its part, `along` whether it follows the geometry."""
 
     street: str
     part: int
@@ -343,7 +343,7 @@ def from_origin(a, b):
 
 
 def renamed(before, after):
-    """The streets that are there under another id: old key to new key, for streets of the same vertices, each within ALIKE units."""
+    """The streets that have another id now: old key to new key, for streets of the same vertices, each within ALIKE units."""
     fresh, found = defaultdict(list), {}
     for key, street in after.items():
         if not before.get(key):
