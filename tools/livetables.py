@@ -203,7 +203,7 @@ def forget_held(cursor):
 
 
 def check_triggers(cursor, say):
-    """Whether a table has lost its triggers, so that all streets have to be compared. They are made again if that is allowed."""
+    """Whether a table has lost its triggers, so that all streets have to be compared. They are made again if possible."""
     cursor.execute("""select source, streets, id, to_regclass(streets) is null from olr_keep.source
         where 3 > (select count(*) from pg_trigger where tgrelid = to_regclass(streets) and tgenabled = 'A'
             and tgname in ('olr_keep_row', 'olr_keep_statement', 'olr_keep_truncate'))""")
@@ -216,7 +216,7 @@ def check_triggers(cursor, say):
             cursor.execute("select olr_keep.make_triggers(%s, %s, %s)", (source, streets, key))
             say(f"the triggers of {streets} were missing or disabled, and are made again")
         except psycopg2.Error as error:
-            say(f"the triggers of {streets} are missing or disabled, and streets are compared each minute: {str(error).strip()}")
+            say(f"the triggers of {streets} are missing, and all streets are compared each minute: {str(error).strip()}")
     return bool(missing)
 
 
@@ -391,7 +391,8 @@ def apply_streets(cursor, change):
     lines = old_lines(cursor, before)
     ends = {it for line in lines for it in (line.start, line.end)}
     cursor.execute("""select node, place from olr_keep.node where node = any(%s::bigint[])
-        union select node, place from olr_keep.node where place = any(%s::bigint[])""", (number_array(ends), number_array(places)))
+        union select node, place from olr_keep.node where place = any(%s::bigint[])""",
+                   (number_array(ends), number_array(places)))
     nodes = dict(cursor.fetchall())
     cut = recut(before, after, lines, nodes, others, new_numbers(cursor, "node_number"), new_numbers(cursor, "line_number"))
     write_streets(cursor, change)
@@ -458,7 +459,8 @@ def write_cut(cursor, cut):
         if is_moved or line[:4] + (line.nth,) != (old.street, old.part, old.k, old.along, old.nth):
             rows.append((number, *line[:9], wkb_hex(line.places)))
     update(cursor, f"""update olr_keep.line set ({columns}) = (it.line, it.street, it.part, it.k, it.along, it.from_node,
-        it.to_node, it.nth, it.length, it.fields, it.geom::geometry) from (values %s) as it({columns}) where line.line = it.line""", rows)
+        it.to_node, it.nth, it.length, it.fields, it.geom::geometry)
+        from (values %s) as it({columns}) where line.line = it.line""", rows)
     copy(cursor, "line", columns, [(number, *it[:9], wkb_hex(it.places)) for number, it in cut.added.items()])
     return records, looked
 
@@ -668,7 +670,8 @@ def write_round(cursor, number, state, change, outcome, counts, seconds):
         on conflict (round) do update set (state, at, streets, paths, users, changed, refused, dropped, seconds)
             = (excluded.state, excluded.at, excluded.streets, excluded.paths, excluded.users, excluded.changed,
                 excluded.refused, excluded.dropped, excluded.seconds)""",
-        (number, state, *(text_array(sorted(it)) for it in (change.streets, outcome.answers, change.users)), *counts[:3], seconds))
+        (number, state, *(text_array(sorted(it)) for it in (change.streets, outcome.answers, change.users)), *counts[:3],
+         seconds))
 
 
 def write_held(cursor, change, outcome, counts, seconds):
