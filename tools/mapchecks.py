@@ -4,7 +4,7 @@ import math
 from collections import defaultdict
 from typing import NamedTuple
 
-from geo import METRES, SECTOR, direction, distance, scale
+from geo import METRES, SECTOR, direction, distance
 from receiver import CELL, STEP_16, STEP_24, bearing, pieces, place, project, shape_length
 from refound import SHORT, are_twins
 
@@ -83,7 +83,7 @@ def pairs_alike(roads, numbers, is_last):
 
 def lines_over_nodes(roads):
     """Lines that pass a node that isn't their end, and have the class, form and sector of a line that leaves the node."""
-    for node, number in sorted(nodes_passed(roads)):
+    for node, number in sorted(nodes_beside(roads)):
         road = roads.lines[number]
         far, at = project(road, *roads.nodes[node])
         if far > SHORT or min(at, road.length - at) <= SHORT:
@@ -97,45 +97,62 @@ def lines_over_nodes(roads):
                 yield Finding("line-over-node", (number, other), (node,), text)
 
 
-def nodes_passed(roads):
-    """Pairs of a node and a line that may pass it: one whose class and form a line that leaves the node has, and that has a
-    segment whose box, with a margin, contains the node."""
-    cells, found = defaultdict(list), set()
+def nodes_beside(roads):
+    """Pairs of a node and a line that may pass it: a box of the line, with a margin, contains the node, and a line with the same
+    class and form leaves it."""
+    cells, found, near = defaultdict(list), set(), {}
     for node, (lon, lat) in roads.nodes.items():
         kinds = {roads.lines[it][2:4] for it in roads.leaving.get(node, ())}
         cells[int(lon // CELL), int(lat // CELL)].append((lon, lat, node, kinds))
     for number, road in roads.lines.items():
-        kind, points = road[2:4], road.points
-        for (_, *a), (_, *b) in zip(points, points[1:]):
-            for west, south, east, north in boxes(a, b):
-                for x in range(int(west // CELL), int(east // CELL) + 1):
-                    for y in range(int(south // CELL), int(north // CELL) + 1):
-                        for lon, lat, node, kinds in cells.get((x, y), ()):
-                            if south <= lat <= north and west <= lon <= east and kind in kinds and node not in road[:2]:
-                                found.add((node, number))
+        _, lons, lats = zip(*road.points)
+        # The two directions of a road have the same points, and their sums are exact.
+        key = (min(road[:2]), max(road[:2]), math.fsum(lons), math.fsum(lats))
+        if key not in near:
+            near[key] = nodes_in(cells, boxes(road, lons, lats), road[:2])
+        kind = road[2:4]
+        found.update((node, number) for node, kinds in near[key] if kind in kinds)
     return found
 
 
-def boxes(a, b):
-    """The boxes of the pieces of a straight segment, with a margin of SHORT: west, south, east, north."""
-    north, east = SHORT / METRES, SHORT / max(1.0, scale(max(abs(a[1]), abs(b[1]))))
-    for (x, y), (u, v) in pieces(a, b):
-        x, u = (x, u) if x < u else (u, x)
-        y, v = (y, v) if y < v else (v, y)
-        yield x - east, y - north, u + east, v + north
+def nodes_in(cells, found_boxes, ends):
+    """The nodes within these boxes, but for a line's ends, each with the classes and forms of the lines that leave it."""
+    found = []
+    for west, south, east, north in found_boxes:
+        for x in range(int(west // CELL), int(east // CELL) + 1):
+            for y in range(int(south // CELL), int(north // CELL) + 1):
+                for lon, lat, node, kinds in cells.get((x, y), ()):
+                    if south <= lat <= north and west <= lon <= east and node not in ends:
+                        found.append((node, kinds))
+    return found
+
+
+def boxes(road, lons, lats):
+    """Boxes that contain a line with a margin of SHORT, as west, south, east, north: one of a short line, and one of each piece
+    of a long one."""
+    west, south, east, north = min(lons), min(lats), max(lons), max(lats)
+    up = SHORT / METRES
+    aside = up / max(1e-3, math.cos(math.radians(max(-south, north))))
+    if east - west <= 2 * CELL and north - south <= 2 * CELL:
+        return [(west - aside, south - up, east + aside, north + up)]
+    found = []
+    for (_, *a), (_, *b) in zip(road.points, road.points[1:]):
+        for (x, y), (u, v) in pieces(a, b):
+            found.append((min(x, u) - aside, min(y, v) - up, max(x, u) + aside, max(y, v) + up))
+    return found
 
 
 def lines_alone(roads):
     """Findings on the length of a line."""
     for number, road in sorted(roads.lines.items()):
         straight = distance(road.points[0][1:], road.points[-1][1:])
-        shape = shape_length(road.points) if len(road.points) > 2 else straight
         if road.length < SHORT:
             yield Finding("short-line", (number,), road[:2], f"line {number}, {road.length:.1f} m")
         if road.length + 1 < 0.99 * straight:
             text = f"line {number}, {road.length:.1f} m, and straight {straight:.1f} m"
             yield Finding("under-straight", (number,), road[:2], text)
-        if road.length > 1.2 * shape + SHORT:
+        # A shape is no shorter than the straight line.
+        if road.length > 1.2 * straight + SHORT and road.length > 1.2 * (shape := shape_length(road.points)) + SHORT:
             yield Finding("over-shape", (number,), road[:2], f"line {number}, {road.length:.1f} m, and its shape {shape:.1f} m")
         if road.length > LONGEST:
             yield Finding("over-15-km", (number,), road[:2], f"line {number}, {road.length / 1000:.1f} km")

@@ -112,9 +112,10 @@ class RoadMap:
 
     @classmethod
     def of_state(cls, state):
-        """The map of a state that `records.read_state` gave."""
-        nodes = {number: (lon / 1e7, lat / 1e7) for number, (lon, lat) in state.nodes.items()}
-        return cls(nodes, {number: road_of(line, nodes) for number, line in state.lines.items()})
+        """The map of a state that `records.read_state` gave. It is made from the texts of the records: a decimal of a coordinate
+        is the same number as its whole units divided by their number."""
+        nodes = {number: tuple(map(float, text.split(","))) for number, text in state.nodes.text.items()}
+        return cls(nodes, {number: road_of(text, nodes) for number, text in state.lines.text.items()})
 
     def near(self, cells, lon, lat, radius):
         """The contents of each cell within a radius of a coordinate."""
@@ -140,12 +141,13 @@ class RoadMap:
         return [(it, far, at) for it, (far, at) in sorted(found.items()) if far <= radius]
 
 
-def road_of(line, nodes):
-    """A line of the records, in metres and degrees."""
-    start, end, frc, fow, length, shape = line
-    length /= 10
-    inner = [(at / 10, lon / 1e7, lat / 1e7) for at, lon, lat in shape] if shape else ()
-    return Road(start, end, frc, fow, length, ((0.0, *nodes[start]), *inner, (length, *nodes[end])))
+def road_of(text, nodes):
+    """The line with these fields of a record, in metres and degrees."""
+    start, end, frc, fow, length, *rest = text.split(",")
+    start, end, length, inner = int(start), int(end), int(length) / 10, ()
+    if rest:
+        inner = zip([int(it) / 10 for it in rest[::3]], map(float, rest[1::3]), map(float, rest[2::3]))
+    return Road(start, end, int(frc), int(fow), length, ((0.0, *nodes[start]), *inner, (length, *nodes[end])))
 
 
 def pieces(a, b):
