@@ -4,7 +4,6 @@
     for outcome in share.carry_out(b"node,1,0,0\\npath,a,0,0,1\\n"):
         print(outcome.index, outcome.record, outcome.reply)
 """
-import collections
 import os
 import re
 import select
@@ -20,14 +19,15 @@ CHUNK = 1 << 18
 QUESTIONS = ("report", "explain", "dump")
 PATH_COMMANDS = ("path", "repath", "drop-path")
 OF_A_PATH = (*PATH_COMMANDS, "show")
-# A message without a line that begins like this is sent to the program as it is.
-SPECIAL = re.compile(b"^(?:path|repath|drop-path|show|report|explain|dump|begin|commit|abort)|^\n", re.MULTILINE)
+# The records that a worker looks at; all others are sent as they are.
+SPECIAL = re.compile(b"^(path|repath|drop-path|show|report|explain|dump|begin|commit|abort)(?:,.*)?$", re.MULTILINE)
+EMPTY_LINE = re.compile(b"^\n", re.MULTILINE)
 UNCHANGED_REPLIES = re.compile(b"(?:ok,0\n)+")
 NOT_PLAIN = Reply("fault", 0, "NotPlain", [])
 NO_QUESTION = Reply("fault", 0, "NoQuestion", [])
 NO_COMMIT = Reply("fault", 0, "NoCommit", [])
 COUNT_DIFFERS = Reply("fault", 16, "CountDiffers", [])
-UNCHANGED_REPLY = Reply("ok", 0, "", [])
+UNCHANGED = Reply("ok", 0, "", [])
 
 
 class Outcome(NamedTuple):
@@ -79,7 +79,8 @@ class Program:
         return line.decode("ascii", "replace")
 
     def ask(self, text, count):
-        """Sends this number of records, and yields their replies: a number for as many replies `ok,0` in a row, else a Reply."""
+        """Sends this number of records, and yields their replies: a number for as many replies `ok,0` in a row, else one
+        Reply."""
         self.unsent = memoryview(text)
         while count:
             if self.at == len(self.buffer):
@@ -102,7 +103,7 @@ class Program:
     def one(self, record):
         """The reply to one record."""
         reply, = self.ask(record.encode() + b"\n", 1)
-        return UNCHANGED_REPLY if isinstance(reply, int) else reply
+        return UNCHANGED if isinstance(reply, int) else reply
 
     def write_dump(self, file):
         """Writes the lines of a dump to a file as they arrive. After a failed write the rest is read, and OSError raised."""
@@ -124,12 +125,20 @@ class Program:
             raise failure
 
 
+class Sent(NamedTuple):
+    """Records that are sent as they are, with the index of the first one in its message."""
+
+    index: int
+    count: int
+    text: bytes
+
+
 class Share:
     """The program, with the whole map and one share of the paths."""
 
     def __init__(self, program, share, shares, names=()):
         self.program, self.share, self.shares, self.names = program, share, shares, dict(names)
-        self.asked, self.unplaced, self.held, self.begun = collections.deque(), {}, None, None
+        self.waiting, self.unplaced, self.held, self.begun = [], {}, None, None
         # Whether this share reports rejected edits: all shares reject the same ones.
         self.reports = share == 0
 
@@ -144,45 +153,45 @@ class Share:
 
     def carry_out_part(self, body):
         """Carries out whole records of a message or of a snapshot. A batch may stay open."""
-        if self.held is None and is_plain(body) and body.endswith(b"\n") and not SPECIAL.search(body):
-            yield from self.pass_on(body)
-        elif body:
-            yield from self.step(body.split(b"\n"))
-
-    def pass_on(self, body):
-        """Carries out a message without path commands and batches, which is sent as it is."""
-        index, records = 0, None
-        for reply in self.program.ask(body, body.count(b"\n")):
-            if isinstance(reply, int):
-                index += reply
-                continue
-            records = records or body.split(b"\n")
-            if reply.accepted or self.reports:
-                yield Outcome(index, records[index].decode("ascii"), reply)
-            index += 1
-
-    def step(self, lines):
-        """Carries out records one by one."""
-        for index, line in enumerate(lines):
-            if not line:
-                continue
-            record = line.decode("ascii", "replace")
-            word = record.partition(",")[0]
-            if not is_plain(line) or word in QUESTIONS:
-                yield from self.report(index, record, NO_QUESTION if word in QUESTIONS else NOT_PLAIN)
-            elif self.held is not None and word in PATH_COMMANDS:
-                self.held.append((index, record))
-            elif self.held is not None and word == "commit":
-                yield from self.commit(index, record)
-            elif word in OF_A_PATH:
-                yield from self.path_command(index, record, word)
-            else:
-                yield from self.push(index, record)
-                if record == "begin" and self.held is None:
-                    self.held, self.begun = [], index
-                elif record == "abort":
-                    self.held = None
+        if is_plain(body) and body.endswith(b"\n") and not EMPTY_LINE.search(body):
+            yield from self.carry_out_plain(body)
+        else:
+            for index, line in enumerate(body.split(b"\n")):
+                if line and is_plain(line):
+                    yield from self.carry_out_plain(line + b"\n", index)
+                elif line:
+                    yield from self.report(index, line.decode("ascii", "replace"), NOT_PLAIN)
         yield from self.flush()
+
+    def carry_out_plain(self, text, index=0):
+        """Carries out lines without quotes. What is between path commands, questions and ends of batches is sent as it is."""
+        at = 0
+        for it in SPECIAL.finditer(text):
+            if it.start() > at:
+                count = text.count(b"\n", at, it.start())
+                yield from self.push(Sent(index, count, text[at : it.start()]))
+                index += count
+            yield from self.step(index, it[0].decode(), it[1].decode())
+            at, index = it.end() + 1, index + 1
+        if at < len(text):
+            yield from self.push(Sent(index, text.count(b"\n", at), text[at:]))
+
+    def step(self, index, record, word):
+        """Carries out a path command, a question or an end of a batch."""
+        if word in QUESTIONS:
+            yield from self.report(index, record, NO_QUESTION)
+        elif self.held is not None and word in PATH_COMMANDS:
+            self.held.append((index, record, word))
+        elif self.held is not None and word == "commit":
+            yield from self.commit(index, record)
+        elif word in OF_A_PATH:
+            yield from self.path_command(index, record, word)
+        else:
+            yield from self.push(sent(index, record))
+            if record == "begin" and self.held is None:
+                self.held, self.begun = [], index
+            elif record == "abort":
+                self.held = None
 
     def report(self, index, record, reply):
         """The outcome of a rejected record that all shares reject."""
@@ -190,7 +199,7 @@ class Share:
             yield Outcome(index, record, reply)
 
     def commit(self, index, record):
-        """Commits the edits of a batch, and then carries out its path commands. If the commit is rejected, the batch is aborted."""
+        """Commits the edits of a batch, and then carries out its path commands. A batch whose commit is rejected is aborted."""
         yield from self.flush()
         held, self.held, count = self.held, None, record[7:]
         edits = int(count[:20]) - len(held) if count.isdecimal() else None
@@ -202,13 +211,12 @@ class Share:
             yield from self.report(index, record, reply)
             return
         yield Outcome(index, record, reply)
-        for index, record in held:
-            yield from self.path_command(index, record, record.partition(",")[0])
+        for it in held:
+            yield from self.path_command(*it)
 
     def path_command(self, index, record, word):
         """Carries out a path command, if the path belongs here."""
-        name = record.split(",", 2)[1:2]
-        name = name[0] if name else ""
+        name = record.split(",", 2)[1] if "," in record else ""
         if self.shares.boxes is None:
             owner = self.shares.of_name(name)
         elif word == "path" and name not in self.names and name not in self.unplaced:
@@ -218,10 +226,12 @@ class Share:
             yield from self.place()
             owner = self.names.get(name, 0)
         if owner == self.share:
-            yield from self.push(index, record)
+            yield from self.push(sent(index, record))
 
     def place(self):
-        """Finds the shares of new names, by the places where their paths start, and carries out those that belong here."""
+        """Finds the shares of new names, by the places where their paths start, and lets those that belong here wait."""
+        if not self.unplaced:
+            return
         unplaced, self.unplaced = self.unplaced, {}
         yield from self.flush()
         firsts = [record.split(",", 5)[4:5] for _, record in unplaced.values()]
@@ -230,7 +240,7 @@ class Share:
         for (name, (index, record)), first in zip(unplaced.items(), firsts):
             self.names[name] = self.shares.of_place(next(places) if first else None)
             if self.names[name] == self.share:
-                self.wait_for(index, record)
+                self.waiting.append(sent(index, record))
 
     def places(self, name, lines):
         """The coordinate where each of these lines starts, or None if it has none. It is that of the first location reference
@@ -244,29 +254,34 @@ class Share:
             replies += reply if isinstance(reply, int) else 1
         return iter(found)
 
-    def wait_for(self, index, record):
-        """Lets a record wait to be sent with others."""
-        self.asked.append((index, record))
-
-    def push(self, index, record):
-        """Lets a record wait to be sent with others, after the new names before it."""
-        if self.unplaced:
-            yield from self.place()
-        self.wait_for(index, record)
+    def push(self, records):
+        """Lets records wait to be sent with others, after the new names before them."""
+        yield from self.place()
+        self.waiting.append(records)
 
     def flush(self):
         """Sends the waiting records, and yields their outcomes."""
-        if self.unplaced:
-            yield from self.place()
-        asked, self.asked = self.asked, collections.deque()
-        text = "".join(f"{record}\n" for _, record in asked).encode()
-        for reply in self.program.ask(text, len(asked)):
-            for _ in range(reply - 1 if isinstance(reply, int) else 0):
-                yield from self.outcome(*asked.popleft(), UNCHANGED_REPLY)
-            yield from self.outcome(*asked.popleft(), UNCHANGED_REPLY if isinstance(reply, int) else reply)
+        yield from self.place()
+        waiting, self.waiting = self.waiting, []
+        parts, at = iter(waiting), 0
+        part = next(parts, None)
+        for reply in self.program.ask(b"".join(it.text for it in waiting), sum(it.count for it in waiting)):
+            count, reply = (reply, UNCHANGED) if isinstance(reply, int) else (1, reply)
+            while count:
+                taken = min(count, part.count - at)
+                yield from self.outcome(part, at, reply)
+                count, at = count - taken, at + taken
+                if at == part.count:
+                    part, at = next(parts, None), 0
 
-    def outcome(self, index, record, reply):
+    def outcome(self, part, at, reply):
         """The outcome of a record that was sent, if there is anything to say, and this share says it."""
-        word = record.partition(",")[0]
-        if reply.lines or word == "drop-path" or not reply.accepted and (word in OF_A_PATH or self.reports):
-            yield Outcome(index, record, reply)
+        if reply.lines or not reply.accepted or part.text.startswith(b"drop-path,"):
+            record = part.text.split(b"\n", at + 1)[at].decode("ascii")
+            if reply.accepted or self.reports or record.partition(",")[0] in OF_A_PATH:
+                yield Outcome(part.index + at, record, reply)
+
+
+def sent(index, record):
+    """One record that is sent."""
+    return Sent(index, 1, record.encode() + b"\n")

@@ -1,5 +1,5 @@
-"""Snapshots of a share: a dump of its program, and beside it, in a file whose name ends in .json, the offset of the last message
-of commands that it holds, the identity of their stream, the share, and the shares of all names if they are by place.
+"""Snapshots of a share: a dump of its program, and beside it, in a file whose name ends in .json, the offset of the last
+message of commands that it holds, the identity of their stream, the share, and the shares of all names if they are by place.
 """
 import json
 import os
@@ -31,10 +31,10 @@ class Snapshots:
     def offsets(self):
         """The offsets of the complete snapshots, in ascending order."""
         try:
-            names = [it[len(self.prefix) : -5] for it in os.listdir(self.folder) if it.startswith(self.prefix) and it.endswith(".json")]
+            names = [it for it in os.listdir(self.folder) if it.startswith(self.prefix) and it.endswith(".json")]
         except OSError as error:
             raise Stop(LOST_STREAMS, f"{self.folder}: {error.strerror}") from None
-        return sorted(int(it) for it in names if it.isdecimal())
+        return sorted(int(it) for it in (name[len(self.prefix) : -5] for name in names) if it.isdecimal())
 
     def newest(self):
         """The newest snapshot, or None."""

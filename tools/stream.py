@@ -139,7 +139,7 @@ def consume(channel, name, offset, handle):
 
 def newest(connection, name, until=-1, start="last"):
     """The newest message of a stream, or one at or after the offset `until`, that is expected; None if it has no message. Its
-    channel stays open, since pika would reject what is under way, and a stream takes no such thing; a few messages wait there."""
+    channel stays open, since pika would reject what is under way, and streams refuse that; a few messages wait there."""
     channel, found, ended = new_channel(connection), [], []
 
     def take(offset, tag, properties, _):
@@ -177,7 +177,8 @@ def cancelled(_):
 
 
 def is_locked(connection, name):
-    """Takes the lock of this name, a queue that belongs to one connection and is removed with it. Returns whether it is taken."""
+    """Takes the lock of this name, a queue that belongs to one connection and is removed with it. Returns whether it is
+    taken."""
     try:
         connection.channel().queue_declare(name, exclusive=True)
         return True

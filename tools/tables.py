@@ -4,8 +4,8 @@
         for name, answer in table.rows("select name, answer from published order by name"):
             ...
 
-`published` has a row for each path, `rejected` one for each rejected record, `shares` the position of each share. What a message
-of answers changes in them is one transaction.
+`published` has a row for each path, `rejected` one for each rejected record, `shares` the position of each share. What a
+message of answers changes in them is one transaction.
 """
 import os
 import sqlite3
@@ -180,7 +180,8 @@ class Table:
         if read <= before:
             return
         if read > before + 1 and properties.type != "whole":
-            raise Stop(LOST_STREAMS, f"share {share} has answers at {read} after {before}: start a new table from a newer snapshot")
+            raise Stop(LOST_STREAMS, f"share {share} has answers at {read} after {before}: start a new table from a newer"
+                                     " snapshot")
         self.check_identity((properties.headers or {}).get("identity"))
         offset, part, phase = stream.position_of(properties.message_id)
         lines, changes = body.decode("ascii", "replace").splitlines(), 0
