@@ -6,7 +6,7 @@ import os
 from typing import NamedTuple
 from urllib.parse import quote
 
-from stream import LOST_STREAMS, Stop
+from stream import BROKEN, LOST_STREAMS, Stop
 
 BLOCK = 1 << 20
 RETAINED = 2
@@ -33,7 +33,7 @@ class Snapshots:
         try:
             names = [it for it in os.listdir(self.folder) if it.startswith(self.prefix) and it.endswith(".json")]
         except OSError as error:
-            raise Stop(LOST_STREAMS, f"{self.folder}: {error.strerror}") from None
+            raise Stop(BROKEN, f"{self.folder}: {error.strerror}") from None
         return sorted(int(it) for it in (name[len(self.prefix) : -5] for name in names) if it.isdecimal())
 
     def newest(self):

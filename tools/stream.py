@@ -4,7 +4,8 @@ messages, and which worker carries out a record.
 The commands are one stream, whose messages have records as lines. Each share of the paths has a separate stream for its
 answers. The id of a message of answers is its position: SHARE:OFFSET if it has the answers up to the end of the message of
 commands at that offset, SHARE:OFFSET:PART if it has a part of them, from 0; `:rejected` follows if it has the rejected records
-of these. Each message has the identity of the stream of commands in a header: the id of its first message.
+of these, `:whole` if it has all answers, beside a snapshot. Each message has the identity of the stream of commands in a
+header: the id of its first message.
 """
 import argparse
 import datetime
@@ -29,6 +30,9 @@ except ImportError:
 # What a record may have: no quote, and nothing that isn't printed ASCII.
 PLAIN = bytes(it for it in range(32, 127) if it != ord('"'))
 END = 2**31
+# What messages of answers have, in their order: rejected records, changes, and all answers, beside a snapshot.
+KINDS = "rejected", "changes", "whole"
+REJECTED, CHANGES, WHOLE = range(3)
 MANY = 20
 # What is raised when a connection is lost or cannot be made. The second is for a broker that accepts it and does not answer.
 LOST = (AMQPError, AMQPConnectorException, ConnectionError, socket.timeout, socket.gaierror, ssl.SSLError)
@@ -96,17 +100,16 @@ def answers_name(stream, share, shares):
 
 
 def position_of(message_id):
-    """The position of a message of answers: an offset, a part or END, and 0 for rejected records, 1 for changes."""
+    """The position of a message of answers: an offset, a part or END, and which of KINDS it has."""
     _, offset, *more = message_id.split(":")
-    phase = 0 if more and more[-1] == "rejected" else 1
-    part = int(more[0]) if more and more[0] != "rejected" else END
-    return int(offset), part, phase
+    kind = KINDS.index(more.pop()) if more and more[-1] in KINDS else CHANGES
+    return int(offset), int(more[0]) if more else END, kind
 
 
 def id_of(share, position):
     """The id of a message of answers."""
-    offset, part, phase = position
-    return f"{share}:{offset}" + ("" if part == END else f":{part}") + ("" if phase else ":rejected")
+    offset, part, kind = position
+    return f"{share}:{offset}" + ("" if part == END else f":{part}") + ("" if kind == CHANGES else f":{KINDS[kind]}")
 
 
 def identity_of(offset, properties):

@@ -114,7 +114,7 @@ class Table:
     """The tables, with the positions of the shares."""
 
     def __init__(self, file, shares=None):
-        self.file = file
+        self.file, self.late = file, set()
         if shares:
             self.prepare(shares)
 
@@ -180,17 +180,27 @@ class Table:
         if read <= before:
             return
         if read > before + 1 and properties.type != "whole":
+            if before < 0:
+                self.wait_for_whole(share)
+                return
             raise Stop(LOST_STREAMS, f"share {share} has answers at {read} after {before}: start a new table from a newer"
                                      " snapshot")
         self.check_identity((properties.headers or {}).get("identity"))
-        offset, part, phase = stream.position_of(properties.message_id)
+        offset, part, kind = stream.position_of(properties.message_id)
         lines, changes = body.decode("ascii", "replace").splitlines(), 0
-        if phase == 0:
+        if kind == stream.REJECTED:
             self.reject(share, offset, lines)
         elif (offset, part) > position:
             position, changes = (offset, part), self.change(share, offset, properties.type == "whole", lines)
         self.file.run('update shares set "offset" = ?, record = ?, read = ?, changes = changes + ? where share = ?',
                       (*position, read, changes, share))
+
+    def wait_for_whole(self, share):
+        """The first answers are no longer in the stream of a share: a message that has all of them is needed."""
+        if share not in self.late:
+            self.late.add(share)
+            stream.complain(f"the first answers of share {share} are no longer in their stream: waiting for a message with all"
+                            " of them, which its worker sends beside each snapshot")
 
     def reject(self, share, offset, lines):
         """Adds rows of rejected records."""
