@@ -19,9 +19,8 @@ CHUNK = 1 << 18
 QUESTIONS = ("report", "explain", "dump")
 PATH_COMMANDS = ("path", "repath", "drop-path")
 OF_A_PATH = (*PATH_COMMANDS, "show")
-# The records that a worker looks at; all others are sent as they are.
-SPECIAL = re.compile(b"^(path|repath|drop-path|show|report|explain|dump|begin|commit|abort)(?:,.*)?$", re.MULTILINE)
-EMPTY_LINE = re.compile(b"^\n", re.MULTILINE)
+# The records that a worker looks at, after the end of the line before; all others are sent as they are.
+SPECIAL = re.compile(b"\n(path|repath|drop-path|show|report|explain|dump|begin|commit|abort)(?:,.*)?(?=\n)")
 UNCHANGED_REPLIES = re.compile(b"(?:ok,0\n)+")
 NOT_PLAIN = Reply("fault", 0, "NotPlain", [])
 NO_QUESTION = Reply("fault", 0, "NoQuestion", [])
@@ -153,7 +152,7 @@ class Share:
 
     def carry_out_part(self, body):
         """Carries out whole records of a message or of a snapshot. A batch may stay open."""
-        if is_plain(body) and body.endswith(b"\n") and not EMPTY_LINE.search(body):
+        if is_plain(body) and body.endswith(b"\n") and b"\n\n" not in body and not body.startswith(b"\n"):
             yield from self.carry_out_plain(body)
         else:
             for index, line in enumerate(body.split(b"\n")):
@@ -165,13 +164,13 @@ class Share:
 
     def carry_out_plain(self, text, index=0):
         """Carries out lines without quotes. What is between path commands, questions and ends of batches is sent as it is."""
-        at = 0
+        text, at = b"\n" + text, 1
         for it in SPECIAL.finditer(text):
-            if it.start() > at:
-                count = text.count(b"\n", at, it.start())
-                yield from self.push(Sent(index, count, text[at : it.start()]))
+            if it.start() >= at:
+                count = text.count(b"\n", at, it.start() + 1)
+                yield from self.push(Sent(index, count, text[at : it.start() + 1]))
                 index += count
-            yield from self.step(index, it[0].decode(), it[1].decode())
+            yield from self.step(index, it[0][1:].decode(), it[1].decode())
             at, index = it.end() + 1, index + 1
         if at < len(text):
             yield from self.push(Sent(index, text.count(b"\n", at), text[at:]))
