@@ -8,27 +8,15 @@
 
 enum { STREAM_FAILED = 3 };
 
-/* A buffer for replies, which is enlarged as needed. */
-struct buffer {
-    char *bytes;
-    size_t size;
-};
-
 /* Writes the last reply, and returns whether that succeeded, as a status. */
-static int write_reply(olr_keep *keep, struct buffer *buffer) {
-    size_t length = olr_keep_length(keep);
-    if (length > buffer->size) {
-        char *bytes = realloc(buffer->bytes, length);
-        if (!bytes) return OLR_KEEP_NO_MEMORY;
-        buffer->bytes = bytes;
-        buffer->size = length;
-    }
-    if (olr_keep_reply(keep, buffer->bytes, buffer->size) != OLR_KEEP_ACCEPTED) return OLR_KEEP_NO_MEMORY;
-    return fwrite(buffer->bytes, 1, length, stdout) == length ? OLR_KEEP_ACCEPTED : STREAM_FAILED;
+static int write_reply(olr_keep *keep) {
+    size_t length;
+    const char *reply = olr_keep_text(keep, &length);
+    return fwrite(reply, 1, length, stdout) == length ? OLR_KEEP_ACCEPTED : STREAM_FAILED;
 }
 
 /* Carries out all records of the input. */
-static int run(olr_keep *keep, struct buffer *buffer) {
+static int run(olr_keep *keep) {
     char *line = NULL;
     size_t size = 0;
     ssize_t length;
@@ -36,7 +24,7 @@ static int run(olr_keep *keep, struct buffer *buffer) {
     while (ended < STREAM_FAILED && (length = getline(&line, &size, stdin)) >= 0) {
         int status = olr_keep_ask(keep, line, (size_t)length);
         if (status == OLR_KEEP_ACCEPTED || status == OLR_KEEP_REJECTED) {
-            int written = write_reply(keep, buffer);
+            int written = write_reply(keep);
             if (written != OLR_KEEP_ACCEPTED) status = written;
         }
         if (status > ended) ended = status;
@@ -48,11 +36,10 @@ static int run(olr_keep *keep, struct buffer *buffer) {
 
 int main(void) {
     olr_keep keep = OLR_KEEP_INIT;
-    struct buffer buffer = {NULL, 0};
     int status = olr_keep_make(&keep);
-    if (status == OLR_KEEP_ACCEPTED) status = run(&keep, &buffer);
+    if (status == OLR_KEEP_ACCEPTED) status = run(&keep);
     olr_keep_drop(&keep);
-    free(buffer.bytes);
     if (fflush(stdout) != 0 && status < STREAM_FAILED) status = STREAM_FAILED;
+    if (status > OLR_KEEP_REJECTED && status != STREAM_FAILED) fprintf(stderr, "library: %s\n", olr_keep_status_text(status));
     return status;
 }

@@ -31,6 +31,14 @@ int olr_keep_ask(olr_keep *keep, const void *record, size_t length) {
 
 size_t olr_keep_length(olr_keep *keep) { return keep ? olr_c_length(keep) : 0; }
 
+const char *olr_keep_text(olr_keep *keep, size_t *length) {
+    const uint8_t *at = NULL;
+    size_t size = olr_keep_length(keep);
+    if (length) *length = size;
+    if (!size || olr_c_at(keep, &at) != OLR_KEEP_ACCEPTED) return "";
+    return (const char *)at;
+}
+
 int olr_keep_reply(olr_keep *keep, void *buffer, size_t size) {
     uint8_t none = 0;
     if (!keep || (!buffer && size)) return OLR_KEEP_NULL;

@@ -4,8 +4,8 @@
  *     olr_keep keep = OLR_KEEP_INIT;
  *     int status = olr_keep_make(&keep);
  *     if (status == OLR_KEEP_ACCEPTED) status = olr_keep_ask(&keep, "node,1,6.1,49.6", 15);
- *     size_t length = olr_keep_length(&keep);
- *     ... olr_keep_reply(&keep, buffer, size) ...
+ *     size_t length;
+ *     const char *reply = olr_keep_text(&keep, &length);
  *     olr_keep_drop(&keep);
  *
  * Compile and link with `pkg-config --cflags --libs olr_keep`. docs/LIMITS.md has the records, the replies and the limits.
@@ -76,14 +76,19 @@ int olr_keep_ask(olr_keep *keep, const void *record, size_t length);
 /* The length of the last reply in bytes, with its line ends; 0 if there is no reply or no register. */
 size_t olr_keep_length(olr_keep *keep);
 
+/* The last reply itself, without a copy, and its length if `length` is not NULL. It is valid until the next olr_keep_make,
+ * olr_keep_ask or olr_keep_drop of this register. Without a reply "" and 0; never NULL. No zero byte is appended to a reply. */
+const char *olr_keep_text(olr_keep *keep, size_t *length);
+
 /* Copies the last reply to the start of a buffer of `size` bytes. No zero byte is appended. */
 int olr_keep_reply(olr_keep *keep, void *buffer, size_t size);
 
-/* The proved functions. No pointer may be NULL, and no length greater than PTRDIFF_MAX. */
+/* The proved functions. No pointer may be NULL, no length greater than PTRDIFF_MAX, and no two arguments may overlap. */
 uint8_t olr_c_make(olr_keep *keep);
 void olr_c_drop(olr_keep *keep);
 uint8_t olr_c_ask(olr_keep *keep, const uint8_t *records, size_t length);
 size_t olr_c_length(olr_keep *keep);
+uint8_t olr_c_at(olr_keep *keep, const uint8_t **at);
 uint8_t olr_c_reply(olr_keep *keep, uint8_t *buffer, size_t size);
 
 #ifdef __cplusplus

@@ -7,6 +7,7 @@ mod loose;
 mod owned;
 
 ghost use Rattle.std.specs.Prelude.{◌≡◌, ◌≢◌, ◌++◌, ◌≤◌, ◌<◌, length, take, drop, None, Some, IsSomeAnd, MatchOption};
+ghost use Rattle.std.specs.Vec.{vec_ptr};
 ghost use Rattle.olr_c.specs.Asked.{AskedOf, IsNew};
 
 use crate::handle::{Handle, put, taken};
@@ -72,6 +73,21 @@ pub extern "C" fn olr_c_length(alloc: Global, handle: &mut Handle) -> usize
     let length = keep.reply.len();
     *handle = put(keep);
     length
+}
+
+/// Writes where the bytes of the last reply are, until the next call that changes the register.
+#[unsafe(no_mangle)]
+pub extern "C" fn olr_c_at(alloc: Global, handle: &mut Handle, at: &mut *const u8) -> u8
+    ensures at { MatchOption handle.old.owned.keep ((result ≡ 2) × (at.new ≡ at.old))
+        (λ k. (result ≡ 0) × (at.new ≡ vec_ptr k.reply)) }
+    ensures unchanged { handle.new.owned.keep ≡ handle.old.owned.keep }
+{
+    let Some(keep) = taken(alloc, handle) else {
+        return NO_REGISTER;
+    };
+    *at = keep.reply.as_ptr();
+    *handle = put(keep);
+    DONE
 }
 
 /// Copies the last reply into a buffer.

@@ -1,0 +1,83 @@
+"""The text of records."""
+import decimal
+import math
+import operator
+import re
+from typing import Iterable, SupportsIndex, Tuple, Union
+
+# Degrees: a number, which is rounded to seven decimals, or a text or decimal, which is used as it is.
+Degrees = Union[float, int, str, decimal.Decimal]
+# The shape points of a line: the distance of each from the line's start, in decimetres, and its longitude and latitude.
+Shape = Iterable[Tuple[int, Degrees, Degrees]]
+
+# The CSV fields of one line: quoted, with text after the closing quote allowed, or without a quote at the start.
+FIELD = rb'(?:"(?:[^"]|"")*"(?:[^",][^,]*)?|[^",][^,]*|)'
+ONE_RECORD = re.compile(rb"(?=[^\r\n]+\Z)" + FIELD + rb"(?:," + FIELD + rb")*")
+PLAIN = re.compile(rb'[^"\r\n]+')
+NAME = re.compile(r'[^",\r\n]+')
+
+
+def bytes_of(record: Union[str, bytes, bytearray, memoryview]) -> bytes:
+    """The bytes of a record. Raises TypeError for what is neither text nor bytes."""
+    if isinstance(record, str):
+        return record.encode("utf-8", "surrogateescape")
+    if isinstance(record, (bytes, bytearray, memoryview)):
+        return bytes(record)
+    raise TypeError(f"a record is str or bytes, not {type(record).__name__}")
+
+
+def is_one_record(line: bytes) -> bool:
+    """Whether these bytes are one record on one line, without its line end."""
+    return bool(PLAIN.fullmatch(line) or ONE_RECORD.fullmatch(line))
+
+
+def number(value: SupportsIndex) -> str:
+    """A whole number. Raises TypeError for what is none, such as a float."""
+    return str(operator.index(value))
+
+
+def degrees(value: Degrees) -> str:
+    """A coordinate. Raises ValueError for a number that is not finite."""
+    if isinstance(value, str):
+        return name(value)
+    if isinstance(value, (int, decimal.Decimal)):
+        return f"{value:f}" if isinstance(value, decimal.Decimal) else str(int(value))
+    if not isinstance(value, float):
+        raise TypeError(f"degrees are a number or a text, not {type(value).__name__}")
+    if not math.isfinite(value):
+        raise ValueError(f"not degrees: {value}")
+    text = f"{value:.7f}".rstrip("0").rstrip(".")
+    return "0" if text == "-0" else text
+
+
+def name(text: str) -> str:
+    """A text as one field. One that the program would read as several fields or records is quoted, and then rejected."""
+    if not isinstance(text, str):
+        raise TypeError(f"a name is str, not {type(text).__name__}")
+    return text if NAME.fullmatch(text) else '"' + text.replace('"', '""') + '"'
+
+
+def shape_fields(shape: Shape) -> str:
+    """The fields of shape points, each with a comma before it."""
+    return "".join(f",{number(at)},{degrees(lon)},{degrees(lat)}" for at, lon, lat in shape)
+
+
+def node(word: str, node_number: int, lon: Degrees, lat: Degrees) -> str:
+    """A record `node` or `move`."""
+    return f"{word},{number(node_number)},{degrees(lon)},{degrees(lat)}"
+
+
+def line(line_number: int, start: int, end: int, frc: int, fow: int, length: int, shape: Shape) -> str:
+    """A record `line`."""
+    ends = f"{number(start)},{number(end)}"
+    return f"line,{number(line_number)},{ends},{number(frc)},{number(fow)},{number(length)}{shape_fields(shape)}"
+
+
+def set_line(line_number: int, frc: int, fow: int, length: int, shape: Shape) -> str:
+    """A record `set-line`."""
+    return f"set-line,{number(line_number)},{number(frc)},{number(fow)},{number(length)}{shape_fields(shape)}"
+
+
+def path(word: str, path_name: str, lines: Iterable[int], positive: int, negative: int) -> str:
+    """A record `path` or `repath`."""
+    return ",".join([word, name(path_name), number(positive), number(negative), *map(number, lines)])
