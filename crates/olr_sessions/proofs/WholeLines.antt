@@ -1,14 +1,15 @@
 -- Lines that are whole records.
-use Rattle.std.proofs.Common.{◌≡◌, ◌∙◌, ℕ, ◌==◌, Bool, true, false, ◌||◌, not, if◌then◌else◌, List, [], ◌∷◌, ◌++◌, Some}
-use Rattle.std.proofs.Common.{◌⊎◌, inl, inr, refl, sym, arith}
-use Rattle.csv.specs.Machine.{next_record, step, in_field, start_field, start_record, after_end, is_end, fields_after}
+use Rattle.std.proofs.Common.{◌≡◌, ◌∙◌, ℕ, ◌==◌, Bool, true, false, not, List, [], ◌∷◌, ◌++◌, Some}
+use Rattle.std.proofs.Common.{◌⊎◌, length, zero, suc, inl, inr, refl, arith}
+use Rattle.memchr.specs.Find.{Passes, Nowhere, NoneBefore, is_byte3}
+use Rattle.std.specs.Prelude.{slice_index}
+use Rattle.csv.specs.Machine.{next_record, step, in_field, is_end, fields_after}
 use Rattle.csv.specs.Machine.{field_after, line_feed, carriage_return}
 use Rattle.csv.specs.Reading.{default_config}
 use Rattle.csv.specs.declared.parser.Action.{Action}
 use Rattle.csv.specs.declared.parser.Action.TheVariants as act
 use Rattle.csv.specs.declared.parser.State.{State}
 use Rattle.csv.specs.declared.parser.State.TheVariants as st
-use Rattle.csv.specs.declared.parser.Terminator.TheVariants as term
 use Rattle.olr_sessions.specs.Lines.{BetweenRecords, IsWhole, has_line, is_line_end}
 use Rattle.olr_sessions.proofs.CsvBytes.{of_byte}
 
@@ -98,3 +99,31 @@ line_from (x ∷ xs) s at h = by_byte (x == default_config.quote) (is_line_end x
 
 pub whole_line : (xs : List ℕ) → has_line false xs ≡ true → IsWhole xs
 whole_line xs h s at = line_from xs s at h
+
+-- ---- the first byte that ends a line or is a quote
+
+abbrev Stops : List ℕ → ℕ → Type 0
+Stops xs k = Passes (is_byte3 line_feed carriage_return default_config.quote) xs k
+
+plain_first : (x : ℕ) (xs : List ℕ) → ¬ (is_byte3 line_feed carriage_return default_config.quote x ≡ true) →
+    has_line true (x ∷ xs) ≡ has_line true xs
+plain_first x xs plain = grind arith
+
+pub line_found : (xs : List ℕ) (k : ℕ) → NoneBefore (Stops xs) 0 (length xs) k × Stops xs k →
+    has_line true xs ≡ not (slice_index xs k == default_config.quote)
+line_found [] k h = absurd (omega (arith, h.0.high))
+line_found (x ∷ xs) zero h = grind arith
+line_found (x ∷ xs) (suc k) h =
+    let plain = h.0.before 0 (omega arith) (omega arith) in
+    let rest = line_found xs k (record {
+      low = omega arith;
+      high = omega (arith, h.0.high);
+      before = λ j low high. h.0.before (suc j) (omega arith) (omega arith);
+    }, h.1) in
+    plain_first x xs (λ e. plain e) ∙ rest
+
+pub no_line : (xs : List ℕ) → Nowhere (Stops xs) 0 (length xs) → has_line true xs ≡ false
+no_line [] h = refl
+no_line (x ∷ xs) h =
+    plain_first x xs (λ e. h 0 (omega arith) (omega arith) e)
+    ∙ no_line xs (λ j low high. h (suc j) (omega arith) (omega arith))

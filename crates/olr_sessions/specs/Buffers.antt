@@ -2,7 +2,7 @@
 --     held b, written contents b      what such an output holds back; what was written to it: what its device has, and
 --         what is held
 --     at_hand l, unread remaining l      the rest of such a source's block; all that is left of it
-use Rattle.std.specs.Prelude.{ℕ, List, Option}
+use Rattle.std.specs.Prelude.{ℕ, List}
 use Rattle.std.specs.Io.Buffered.{reader_buffer, reader_remaining}
 use Rattle.std.specs.Io.KnownBytes.{append_known}
 use Rattle.olr_sessions.specs.Sessions.{Known}

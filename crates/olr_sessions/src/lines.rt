@@ -3,6 +3,7 @@
 ghost use Rattle.std.specs.Prelude.{◌≡◌, ◌≤◌, length, true, false, not, IfOk};
 ghost use Rattle.olr_sessions.specs.Lines.{IsWhole, has_line, is_line_end};
 
+use memchr::{memchr2, memchr3};
 use std::alloc::{AllocError, Global};
 use std::io;
 use std::io::{BufReader, Read};
@@ -21,31 +22,35 @@ fn ends_line(byte: u8) -> bool
 fn line_length(bytes: &[u8]) -> usize
     ensures { result ≤ length bytes.now }
 {
+    match memchr2(b'\n', b'\r', bytes) {
+        Some(i) => i + 1,
+        None => bytes.len(),
+    }
+}
+
+/// The bytes after empty lines.
+fn after_empty_lines(bytes: &[u8]) -> &[u8]
+    ensures { has_line false bytes.now ≡ has_line true result.now }
+{
     for i in 0..bytes.len() {
-        if ends_line(bytes[i]) {
-            return i + 1;
+        if !ends_line(bytes[i]) {
+            return &bytes[i..];
         }
     }
-    bytes.len()
+    &bytes[bytes.len()..]
 }
 
 /// Whether bytes begin with a line that ends, isn't empty and has no quote, after empty lines: csv reads a whole record
 /// from it.
+#[tactic(auto, using(crate::proofs::WholeLines::line_found, crate::proofs::WholeLines::no_line))]
 fn begins_with_line(bytes: &[u8]) -> bool
     ensures { result ≡ has_line false bytes.now }
 {
-    let mut has_bytes = false;
-    for i in 0..bytes.len() {
-        if bytes[i] == b'"' {
-            return false;
-        }
-        if !ends_line(bytes[i]) {
-            has_bytes = true;
-        } else if has_bytes {
-            return true;
-        }
+    let line = after_empty_lines(bytes);
+    match memchr3(b'\n', b'\r', b'"', line) {
+        Some(i) => line[i] != b'"',
+        None => false,
     }
-    false
 }
 
 /// A source that reads blocks of its input, and gives them line by line. So a csv reader that has read a record from it
