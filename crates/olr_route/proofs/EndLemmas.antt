@@ -1,8 +1,7 @@
 -- Distances from one node, and the lines that end routes of that length.
-use Rattle.olr_route.proofs.Common.{◌≡◌, ℕ, ◌+◌, ◌≤◌, List, [], ◌∷◌, ◌++◌, Option, Some, None, IsTrue, arith, ◌↔◌}
-use Rattle.olr_route.proofs.Common.{refl, sym, ap, ◌∙◌, subst, Map, has_node, has_line, start, end, dm, IsRoute, dm_of}
-use Rattle.olr_route.proofs.Common.{Leads, IsDistance, Along, EndsRoute, last_of, first_one, ends_of, last_step, empty}
-use Rattle.olr_route.proofs.Common.{ended, dm_of-line}
+use Rattle.olr_route.proofs.Common.{◌≡◌, ◌↔◌, ℕ, ◌+◌, ◌≤◌, List, [], ◌∷◌, ◌++◌, Option, Some, None, IsTrue, arith, sym}
+use Rattle.olr_route.proofs.Common.{ap, ◌∙◌, subst, inl, inr, cases_lt, Map, has_node, has_line, start, end, dm, IsRoute}
+use Rattle.olr_route.proofs.Common.{dm_of, Least, Leads, IsDistance, Along, EndsRoute, first_one, last_step, dm_of-line}
 use Rattle.std.proofs.Common.{eqb}
 use Rattle.std.specs.Option.{option_eq}
 use Rattle.std.proofs.lemmas.Bool.{eqb-true, eq-eqb}
@@ -12,26 +11,15 @@ use Rattle.olr_search.proofs.WayLemmas.{leads_on}
 -- what `==` says of an option and a number
 pub option_is : (o : Option ℕ) (n : ℕ) → IsTrue (option_eq eqb o (Some n)) ↔ (o ≡ Some n)
 option_is None n = (λ e. absurd cc, λ e. absurd cc)
-option_is (Some x) n =
-    (λ e. ap (λ (y : ℕ). Some y) (eqb-true x n e), λ e. let same : x ≡ n = cc in eq-eqb x n same)
+option_is (Some x) n = (λ e. ap (λ (y : ℕ). Some y) (eqb-true x n e), λ e. let same : x ≡ n = cc in eq-eqb x n same)
 
-pub last_of-append : (xs : List ℕ) (x : ℕ) → last_of (xs ++ x ∷ []) ≡ Some x
-last_of-append [] x = refl
-last_of-append (y ∷ []) x = refl
-last_of-append (y ∷ z ∷ xs) x = last_of-append (z ∷ xs) x
-
--- a list with a last element ends with it
-pub ended_by : (xs : List ℕ) (x : ℕ) → last_of xs ≡ Some x → (front : List ℕ) × (xs ≡ front ++ x ∷ [])
-ended_by xs x e = elim (ends_of xs) [
-  | empty none ↦ let never : ◌≡◌ {A = Option ℕ} None (Some x) = ap last_of (sym none) ∙ e in cc
-  | ended front y is ↦
-      let both : ◌≡◌ {A = Option ℕ} (Some y) (Some x) = sym (last_of-append front y) ∙ ap last_of (sym is) ∙ e in
-      let same : y ≡ x = cc in
-      (front, is ∙ ap (λ (z : ℕ). front ++ z ∷ []) same)
-]
+-- a shortest path is no longer than a route with the same ends
+pub least_le : (M : Map) (s t : ℕ) (xs ys : List ℕ) → Least M s t xs → IsRoute M s t ys → dm_of M xs ≤ dm_of M ys
+least_le M s t xs ys l w =
+    elim (cases_lt (dm_of M ys) (dm_of M xs)) [ inl lt ↦ absurd (l.first ys w (inl lt)) | inr le ↦ le ]
 
 module _ (M : Map) (s : ℕ) where
-  pub source_there : (v d : ℕ) → Leads M Along ((s, 0) ∷ []) v d → IsTrue (has_node M s)
+  source_there : (v d : ℕ) → Leads M Along ((s, 0) ∷ []) v d → IsTrue (has_node M s)
   source_there v d l = grind (arith, Contains-one)
 
   pub leads_route : (v d : ℕ) → Leads M Along ((s, 0) ∷ []) v d → (xs : List ℕ) × IsRoute M s v xs × (dm_of M xs ≡ d)
@@ -60,8 +48,7 @@ module _ (M : Map) (s : ℕ) where
     least = λ n l.
         let on = leads_on M Along ((s, 0) ∷ []) x n e.known l in
         let low = k.least (n + dm M x) (subst (λ (u : ℕ). Leads M Along ((s, 0) ∷ []) u (n + dm M x)) e.to on) in
-        let long = e.long in
-        omega arith;
+        omega (arith, e.long);
   }
 
   -- and only there

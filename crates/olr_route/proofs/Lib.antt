@@ -1,5 +1,4 @@
 pub mod Common
 pub mod EndLemmas
-pub mod LastLemmas
 pub mod LabelLemmas
 pub mod ExtendLemmas

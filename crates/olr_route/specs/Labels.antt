@@ -1,14 +1,12 @@
 -- Shortest paths within a limit, and labels: what a search says of them at each node that it reaches.
 --     LeastWithin, UniqueWithin M s limit t xs      xs is the (unique) shortest path from s to t, and within the limit
 --     IsShortest unique M s limit t xs      one of these
---     last_of xs      the last line
 --     EndsRoute M s v d x      a route of length d from s to v ends with line x
---     IsLast M s v d o only      o is the least such line, if there is one; only: there is no other
---     IsLabel M s limit v k      the shortest path from s to v is within the limit, with the length and the last line of
---         the label k, and k says whether no other line ends a route of this length
---     IsFound M s limit v k      the same by the distance of v
+--     IsLast M s v d o      o is the least such line, if there is one
+--     IsLabel M s limit v k      the label k has the distance of v from s, within the limit, and the least line that ends
+--         a route of this length
 --     after_search w n      the work after one more search, which settled n nodes
-use Rattle.std.specs.Prelude.{◌≡◌, ℕ, ◌+◌, ◌≤◌, ◌↔◌, Bool, true, false, List, [], ◌∷◌, Option, Some, None, IsTrue}
+use Rattle.std.specs.Prelude.{◌≡◌, ℕ, ◌+◌, ◌≤◌, Bool, true, false, List, [], ◌∷◌, Option, Some, IsTrue}
 use Rattle.olr_spec.specs.Map.{Map, has_line, start, end, dm}
 use Rattle.olr_spec.specs.Routes.{IsRoute, dm_of, Least, UniqueShortest}
 use Rattle.olr_search.specs.Counts.{saturated_count}
@@ -28,11 +26,6 @@ abbrev pub IsShortest : Bool → Map → ℕ → ℕ → ℕ → List ℕ → Ty
 IsShortest false M s limit t xs = LeastWithin M s limit t xs
 IsShortest true M s limit t xs = UniqueWithin M s limit t xs
 
-abbrev pub last_of : List ℕ → Option ℕ
-last_of [] = None
-last_of (x ∷ []) = Some x
-last_of (x ∷ y ∷ xs) = last_of (y ∷ xs)
-
 pub record EndsRoute (M : Map) (s v d x : ℕ) : Type 0 where
   pub front : List ℕ
   pub route : IsRoute M s (start M x) front
@@ -40,29 +33,14 @@ pub record EndsRoute (M : Map) (s v d x : ℕ) : Type 0 where
   pub to : end M x ≡ v
   pub long : dm_of M front + dm M x ≡ d
 
--- no two lines end a route of this length
-abbrev pub IsOnly : Map → ℕ → ℕ → ℕ → Type 0
-IsOnly M s v d = (x y : ℕ) → EndsRoute M s v d x → EndsRoute M s v d y → x ≡ y
-
-pub record IsLast (M : Map) (s v d : ℕ) (o : Option ℕ) (only : Bool) : Type 0 where
+pub record IsLast (M : Map) (s v d : ℕ) (o : Option ℕ) : Type 0 where
   pub ends : (x : ℕ) → o ≡ Some x → EndsRoute M s v d x
   pub least : (x : ℕ) → EndsRoute M s v d x → (y : ℕ) × (o ≡ Some y) × (y ≤ x)
-  pub alone : IsTrue only ↔ IsOnly M s v d
 
-abbrev pub Label : Type 0
-Label = ℕ × Option ℕ × Bool
-
-pub record IsLabel (M : Map) (s limit v : ℕ) (k : Label) : Type 0 where
-  pub lines : List ℕ
-  pub shortest : LeastWithin M s limit v lines
-  pub long : dm_of M lines ≡ k.0
-  pub ends : last_of lines ≡ k.1
-  pub alone : IsTrue k.2 ↔ IsOnly M s v k.0
-
-pub record IsFound (M : Map) (s limit v : ℕ) (k : Label) : Type 0 where
+pub record IsLabel (M : Map) (s limit v : ℕ) (k : ℕ × Option ℕ) : Type 0 where
   pub dist : IsDistance M Along ((s, 0) ∷ []) v k.0
   pub within : k.0 ≤ limit
-  pub last : IsLast M s v k.0 k.1 k.2
+  pub last : IsLast M s v k.0 k.1
 
 abbrev pub after_search : Work → ℕ → Work
 after_search w n = record w { searches = saturated_count (w.searches + 1); settled = saturated_count (w.settled + n) }

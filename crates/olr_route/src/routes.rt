@@ -1,42 +1,23 @@
 //! The search for shortest paths within a limit.
-ghost use Rattle.std.specs.Prelude.{◌≡◌, ◌≤◌, ◌<◌, ◌↔◌, ◌⊎◌, ◌∷◌, [], ℕ, Contains, IsTrue, IfOk, OnOk, None, false};
+ghost use Rattle.std.specs.Prelude.{◌≡◌, ◌≤◌, ◌<◌, ◌↔◌, ◌⊎◌, ◌∷◌, [], ℕ, Contains, IsTrue, IfOk, OnOk, None};
 ghost use Rattle.std.specs.Prelude.{length, slice_index, slice_index_or};
 ghost use Rattle.olr_spec.specs.Map.{has_node, has_line, end};
-ghost use Rattle.olr_spec.specs.Routes.{Reaches};
 ghost use Rattle.olr_search.specs.Distances.{IsDistance};
-ghost use Rattle.olr_search.specs.Searches.{IsSearch, Counts, LiesWithin, limit_of};
+ghost use Rattle.olr_search.specs.Searches.{IsSearch, Counts, LiesWithin, limit_of as search_limit};
 ghost use Rattle.olr_search.specs.declared.distances.Direction.TheVariants.{Along};
-ghost use Rattle.olr_route.specs.Labels.{EndsRoute, IsLast, IsFound, after_search};
-ghost use Rattle.olr_route.specs.AreLabels.{AreLabels};
+ghost use Rattle.olr_route.specs.Labels.{EndsRoute, IsLast, IsLabel, after_search};
+ghost use Rattle.olr_route.specs.AreLabels.{AreLabels, limit_of};
 
 use crate::labels::{Label, Labels};
 use olr_map::{Footprint, LineId, MapRead, NodeId};
-use olr_search::{Dijkstra, Direction, GREATEST_LIMIT, Work, both_ends};
+use olr_search::{Dijkstra, Direction, GREATEST_LIMIT, Work, both_ends, settled_search};
 use std::alloc::{AllocError, Global};
-
-/// A search from some nodes, each with a start value, settled to a limit. All in decimetres.
-pub fn settled_search<M: MapRead>(
-    alloc: Global,
-    map: &M,
-    direction: Direction,
-    from: &[(NodeId, u32)],
-    limit: u32,
-) -> Result<Dijkstra, AllocError>
-    requires { limit ≤ GREATEST_LIMIT }
-    ensures search { IfOk result (λ search. IsSearch (M.map map.now) (M.node_slot map.now) direction from.now search) }
-    ensures limit { IfOk result (λ search. limit_of search ≡ limit) }
-{
-    let mut search = Dijkstra::new(alloc);
-    search.begin(map, direction, from)?;
-    search.settle_to(map, limit)?;
-    Ok(search)
-}
 
 /// Whether a line ends a route of this length, which is the distance of its end.
 fn ends_route<M: MapRead>(map: &M, settled: &Dijkstra, line: LineId, length: u32) -> bool
     ensures { (s v : ℕ) → IsSearch (M.map map.now) (M.node_slot map.now) Along ((s, 0) ∷ []) settled.now
         → IsTrue (has_line (M.map map.now) line) → end (M.map map.now) line ≡ v
-        → IsDistance (M.map map.now) Along ((s, 0) ∷ []) v length → length ≤ limit_of settled.now
+        → IsDistance (M.map map.now) Along ((s, 0) ∷ []) v length → length ≤ search_limit settled.now
         → (IsTrue result ↔ EndsRoute (M.map map.now) s v length line) }
 {
     let Some(ends) = both_ends(map, line) else {
@@ -47,27 +28,18 @@ fn ends_route<M: MapRead>(map: &M, settled: &Dijkstra, line: LineId, length: u32
 }
 
 /// The least number of a line that ends a route of this length, which is the distance of the node. None if there is no
-/// such line. With it, whether there is no other.
-fn last_line<M: MapRead>(
-    map: &M,
-    settled: &Dijkstra,
-    node: NodeId,
-    length: u32,
-) -> (Option<LineId>, bool)
+/// such line.
+fn last_line<M: MapRead>(map: &M, settled: &Dijkstra, node: NodeId, length: u32) -> Option<LineId>
     ensures { (s : ℕ) → IsSearch (M.map map.now) (M.node_slot map.now) Along ((s, 0) ∷ []) settled.now
-        → IsDistance (M.map map.now) Along ((s, 0) ∷ []) node length → length ≤ limit_of settled.now
-        → IsLast (M.map map.now) s node length result.0 result.1 }
+        → IsDistance (M.map map.now) Along ((s, 0) ∷ []) node length → length ≤ search_limit settled.now
+        → IsLast (M.map map.now) s node length result }
 {
-    let mut last = None;
     for line in map.in_lines(node) {
         if ends_route(map, settled, *line, length) {
-            if last.is_some() {
-                return (last, false);
-            }
-            last = Some(*line);
+            return Some(*line);
         }
     }
-    (last, true)
+    None
 }
 
 /// The labels of these nodes, which are within the limit of the search.
@@ -78,20 +50,20 @@ fn labels_at<M: MapRead>(
     nodes: &[NodeId],
 ) -> Result<Vec<Label>, AllocError>
     requires { (s : ℕ) × IsSearch (M.map map.now) (M.node_slot map.now) Along ((s, 0) ∷ []) settled.now
-        × ((v : ℕ) → Contains nodes.now v → LiesWithin (M.map map.now) Along ((s, 0) ∷ []) (limit_of settled.now) v) }
+        × ((v : ℕ) → Contains nodes.now v → LiesWithin (M.map map.now) Along ((s, 0) ∷ []) (search_limit settled.now) v) }
     ensures beside { IfOk result (λ labels. length labels.items ≡ length nodes.now) }
     ensures each { IfOk result (λ labels. (s i : ℕ)
         → IsSearch (M.map map.now) (M.node_slot map.now) Along ((s, 0) ∷ []) settled.now → i < length nodes.now
-        → IsFound (M.map map.now) s (limit_of settled.now) (slice_index nodes.now i)
-        (slice_index_or labels.items i (0, None, false))) }
+        → IsLabel (M.map map.now) s (search_limit settled.now) (slice_index nodes.now i)
+        (slice_index_or labels.items i (0, None))) }
 {
     let mut labels = Vec::with_capacity(alloc, nodes.len())?;
     for node in nodes {
         let Some(dist) = settled.dist(map, *node) else {
             unreachable!()
         };
-        let (last, only) = last_line(map, settled, *node, dist);
-        labels.push((dist, last, only))?;
+        let last = last_line(map, settled, *node, dist);
+        labels.push((dist, last))?;
     }
     Ok(labels)
 }
@@ -111,18 +83,23 @@ pub fn search<M: MapRead>(
 ) -> Result<Labels, AllocError>
     requires source { IsTrue (has_node (M.map map.now) source) }
     requires limit { limit_dm ≤ GREATEST_LIMIT }
-    ensures labels { IfOk result (λ labels. AreLabels (M.map map.now) source limit_dm labels) }
-    ensures footprint { OnOk result ((v : ℕ)
-        → (Contains footprint.new v) ↔ ((Contains footprint.old v) ⊎ (Reaches (M.map map.now) source limit_dm v))) }
+    ensures labels { IfOk result (λ labels. AreLabels (M.map map.now) (M.node_slot map.now) source labels) }
+    ensures limit { IfOk result (λ labels. limit_of labels ≡ limit_dm) }
+    ensures footprint { OnOk result ((v : ℕ) → (Contains footprint.new v)
+        ↔ ((Contains footprint.old v) ⊎ (LiesWithin (M.map map.now) Along ((source, 0) ∷ []) limit_dm v))) }
     ensures work { OnOk result ((n : ℕ) × Counts (M.map map.now) Along ((source, 0) ∷ []) limit_dm n
         × (work.new ≡ after_search work.old n) × (n ≤ length footprint.new)) }
     ensures grows { OnOk result (length footprint.old ≤ length footprint.new) }
 {
-    let settled = settled_search(alloc, map, Direction::Along, &[(source, 0)], limit_dm)?;
-    let nodes = settled.nodes(alloc)?;
-    let labels = labels_at(alloc, map, &settled, &nodes)?;
+    let search = settled_search(alloc, map, Direction::Along, &[(source, 0)], limit_dm)?;
+    let nodes = search.nodes(alloc)?;
+    let labels = labels_at(alloc, map, &search, &nodes)?;
     footprint.note_all(&nodes)?;
     work.searches = work.searches.saturating_add(1);
     work.settled = work.settled.saturating_add(nodes.len() as u64);
-    Ok(Labels { nodes, labels })
+    Ok(Labels {
+        search,
+        nodes,
+        labels,
+    })
 }

@@ -278,3 +278,21 @@ fn is_sum(first: u32, second: u32, whole: u32) -> bool
 {
     second <= whole && first == whole - second
 }
+
+/// A search from some nodes, each with a start value, settled to a limit. All in decimetres.
+pub fn settled_search<M: MapRead>(
+    alloc: Global,
+    map: &M,
+    direction: Direction,
+    from: &[(NodeId, u32)],
+    limit: u32,
+) -> Result<Dijkstra, AllocError>
+    requires { limit ≤ GREATEST_LIMIT }
+    ensures search { IfOk result (λ search. IsSearch (M.map map.now) (M.node_slot map.now) direction from.now search) }
+    ensures limit { IfOk result (λ search. limit_of search ≡ limit) }
+{
+    let mut search = Dijkstra::new(alloc);
+    search.begin(map, direction, from)?;
+    search.settle_to(map, limit)?;
+    Ok(search)
+}

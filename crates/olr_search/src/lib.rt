@@ -12,6 +12,7 @@ mod steps;
 pub mod work;
 
 pub use bounds::Bounds;
-pub use distances::{Dijkstra, Direction};
+pub use distances::{Dijkstra, Direction, settled_search};
 pub use frontier::{GREATEST_LIMIT, Reached};
+pub use lines::both_ends;
 pub use work::Work;

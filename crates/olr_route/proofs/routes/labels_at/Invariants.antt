@@ -1,4 +1,4 @@
-use Rattle.olr_route.proofs.Common.{◌≡◌, ◌<◌, ◌∷◌, [], ℕ, None, false, length, get_or, Along, IsFound}
+use Rattle.olr_route.proofs.Common.{◌≡◌, ◌<◌, ◌∷◌, [], ℕ, None, length, get_or, Along, IsLabel}
 use Rattle.olr_search.specs.Searches.{IsSearch, limit_of}
 use Rattle.olr_route.proofs.routes.labels_at.Given as goal
 
@@ -7,5 +7,5 @@ invariant-loop-node g l = record {
   beside : length l.labels.items ≡ l.node-index;
   each : (s i : ℕ) → IsSearch (g.M.MapRead.map l.map) (g.M.MapRead.node_slot l.map) Along ((s, 0) ∷ []) l.settled →
       i < l.node-index →
-      IsFound (g.M.MapRead.map l.map) s (limit_of l.settled) (get_or l.nodes i 0) (get_or l.labels.items i (0, None, false));
+      IsLabel (g.M.MapRead.map l.map) s (limit_of l.settled) (get_or l.nodes i 0) (get_or l.labels.items i (0, None));
 }

@@ -1,10 +1,11 @@
-use Rattle.olr_route.proofs.Common.{◌∷◌, [], ℕ, ◌≤◌, ◌+◌, ◌↔◌, IsTrue, IsDistance, Along, EndsRoute, sym, subst}
-use Rattle.olr_route.proofs.Common.{◌∙◌, get_or_default_zero, false≢true}
-use Rattle.olr_search.specs.Searches.{IsSearch, limit_of}
-use Rattle.olr_search.proofs.ReadLemmas.{enters}
-use Rattle.olr_route.proofs.LastLemmas.{Seen, seen_first, seen_other, last_of_all, last_of_two}
+use Rattle.olr_route.proofs.Common.{◌≡◌, ◌∷◌, [], ℕ, ◌≤◌, ◌↔◌, List, IsTrue, IsDistance, IsSearch, Along, EndsRoute, refl, sym, subst}
+use Rattle.olr_route.proofs.Common.{◌∙◌, arith, inl, inr, cases_lt, none-some, get_or, get_or_default_zero, false≢true}
+use Rattle.olr_route.proofs.Common.{below_more, enters, entering, IsStrictlyIncreasing}
+use Rattle.olr_spec.proofs.AscendingLists.{ascends}
+use Rattle.olr_spec.proofs.OrderLemmas.{ascend_in}
+use Rattle.olr_search.specs.Searches.{limit_of}
 use Rattle.olr_route.proofs.routes.last_line.Given.{Over}
-use Rattle.olr_route.proofs.routes.last_line.Goals.{After-ends_route, then-ends_route+else-is_some, else-ends_route}
+use Rattle.olr_route.proofs.routes.last_line.Goals.{After-ends_route}
 use Rattle.olr_route.proofs.routes.last_line.Goals as goal
 
 -- whether the line ends such a route
@@ -21,31 +22,46 @@ ends g c s h dist le =
     c.in_lines-line-items.result.now c.in_lines-line-items.ensures c.loop-line-test.true c.line-item.is in
     c.ends_route.ensures s c.args.node h k.0 k.1 dist le
 
-pub returns-then-is_some : goal.returns-then-is_some
-returns-then-is_some g c = λ s h dist le.
-    last_of_two (g.M.MapRead.map c.args.map.now) s c.args.node c.args.length c.in_lines-line-items.result.now
-    c.in_lines-line-items.ensures c.loop-line.line-index c.line-item.result c.loop-line.last c.loop-line-test.true
-    (c.line-item.is ∙ get_or_default_zero _ _ _ c.loop-line-test.true)
-    ((ends g (goal.at.returns-then-is_some g c).After-ends_route s h dist le).0 c.if-ends_route.true)
-    (sym c.is_some.ensures ∙ c.if-is_some.true) (c.loop-line.invariant s h dist le)
+pub returns-then-ends_route : goal.returns-then-ends_route
+returns-then-ends_route g c = λ s h dist le.
+    let M = g.M.MapRead.map c.args.map.now in
+    let lines = c.in_lines-line-items.result.now in
+    let Ends : ℕ → Type 0 = EndsRoute M s c.args.node c.args.length in
+    let x = c.line-item.result in
+    let is = c.line-item.is ∙ get_or_default_zero lines c.loop-line.line-index x c.loop-line-test.true in
+    let here = (ends g (goal.at.returns-then-ends_route g c).After-ends_route s h dist le).0 c.if-ends_route.true in
+    record {
+      ends = λ y e. let same : x ≡ y = cc in subst Ends same here;
+      least = λ y e.
+          let j = entering M c.args.node y lines c.in_lines-line-items.ensures e.known e.to in (
+            x,
+            refl,
+            elim (cases_lt j.0 c.loop-line.line-index) [
+              | inl low ↦ absurd (c.loop-line.invariant s h dist le j.0 low (subst Ends (sym j.2) e))
+              | inr high ↦
+                  let up = subst (λ (zs : List ℕ). IsStrictlyIncreasing zs) (sym c.in_lines-line-items.ensures)
+                  (ascend_in M c.args.node) in
+                  let low = ascends lines up c.loop-line.line-index j.0 high j.1 in
+                  omega (arith, is, j.2)
+            ],
+          );
+    }
 
 pub loop-line-preserved : goal.loop-line-preserved
 loop-line-preserved g c = λ s h dist le.
-    let is = c.line-item.is ∙ get_or_default_zero _ _ _ c.loop-line-test.true in
     let e = ends g (goal.at.loop-line-preserved g c).After-ends_route s h dist le in
-    elim c.if-ends_route.branch [
-      | then-ends_route+else-is_some w ↦
-          subst (Seen _ _ (c.loop-line.line-index + 1)) (sym w.last-is)
-          (seen_first _ _ _ _ _ (sym w.is_some.ensures ∙ w.if-is_some.false) (c.loop-line.invariant s h dist le) is
-          (e.0 w.if-ends_route.true))
-      | else-ends_route w ↦
-          subst (Seen _ _ (c.loop-line.line-index + 1)) (sym w.last-is)
-          (seen_other _ _ _ _ _ (c.loop-line.invariant s h dist le) is
-          (λ r. false≢true (sym w.if-ends_route.false ∙ e.1 r)))
-    ]
+    let lines = c.in_lines-line-items.result.now in
+    let Ends : ℕ → Type 0 = EndsRoute (g.M.MapRead.map c.args.map.now) s c.args.node c.args.length in
+    let is = c.line-item.is ∙ get_or_default_zero lines c.loop-line.line-index c.line-item.result c.loop-line-test.true in
+    below_more (λ j. ¬ Ends (get_or lines j 0)) c.loop-line.line-index (c.loop-line.invariant s h dist le)
+    (λ r. false≢true (sym c.if-ends_route.false ∙ e.1 (subst Ends (sym is) r)))
 
 pub returns : goal.returns
-returns g c = λ s h dist le.
-    last_of_all (g.M.MapRead.map c.args.map.now) s c.args.node c.args.length c.in_lines-line-items.result.now
-    c.in_lines-line-items.ensures c.loop-line.line-index c.loop-line.last c.loop-line-test.false
-    (c.loop-line.invariant s h dist le)
+returns g c = λ s h dist le. record {
+  ends = λ x e. absurd (none-some x e);
+  least = λ x e.
+      let M = g.M.MapRead.map c.args.map.now in
+      let j = entering M c.args.node x c.in_lines-line-items.result.now c.in_lines-line-items.ensures e.known e.to in
+      absurd (c.loop-line.invariant s h dist le j.0 (omega (arith, j.1))
+      (subst (EndsRoute M s c.args.node c.args.length) (sym j.2) e));
+}

@@ -1,32 +1,28 @@
-use Rattle.olr_route.proofs.Common.{ℕ, Reaches, sym, subst, false≢true, last_step, IsLabel, Label}
-use Rattle.olr_route.proofs.ExtendLemmas.{extends_if, extends_only_if, least_of}
+use Rattle.olr_route.proofs.Common.{◌∷◌, [], ◌++◌, ℕ, Bool, List, sym, subst, arith, start, end, dm_of-line, IsShortest, limit_of}
 use Rattle.olr_route.proofs.shortest.extends.Goals as goal
 
-pub returns-in_default : goal.returns-in_default
-returns-in_default g c = λ s limit route a l. (
-  λ e. absurd (false≢true e),
-  λ whole.
-      let M = g.M.MapRead.map c.args.map.now in
-      let path = least_of c.args.unique M s limit _ _ whole in
-      c.in_default.ensures.there.1 (last_step M s _ c.args.line route path.least.route).known,
-)
-
-pub returns-in-None : goal.returns-in-None
-returns-in-None g c = λ s limit route a l. (
-  λ e. absurd (false≢true e),
-  λ whole.
-      let M = g.M.MapRead.map c.args.map.now in
-      let path = least_of c.args.unique M s limit _ _ whole in
-      absurd (c.in-None.ensures M s limit a
-      (subst (Reaches M s limit) (sym c.in-Some.ensures.end) (_, path.least.route, path.within))),
-)
-
-pub returns-in-Some-label : goal.returns-in-Some-label
-returns-in-Some-label g c = λ s limit route a l.
+pub returns-then-unique : goal.returns-then-unique
+returns-then-unique g c = λ s route a l short.
     let M = g.M.MapRead.map c.args.map.now in
+    let limit = limit_of c.args.labels.now in
+    let At : Bool → ℕ → List ℕ → Type 0 = λ b. IsShortest b M s limit in
     let x = c.args.line in
-    let k : Label = c.in-Some-label.label in
-    let label = subst (λ (v : ℕ). IsLabel M s limit v k) c.in-Some.ensures.end (c.in-Some-label.ensures M s limit a) in (
-      λ yes. let h = c.is_last.ensures.0 yes in extends_if M a.sound s limit x route k label c.args.unique l h.0 h.1,
-      λ whole. c.is_last.ensures.1 (extends_only_if M a.sound s limit x route k label c.args.unique whole),
+    let same = c.if-unique.true in
+    let near = subst (λ (b : Bool). At b (start M x) route) same l in
+    let k = c.extends_unique_shortest.ensures s route a.search near.unique (short same) in
+    let le = short same in (
+      λ yes. subst (λ (b : Bool). At b (end M x) (route ++ x ∷ [])) (sym same)
+          (record { unique = k.0 yes; within = omega (arith, dm_of-line M route x) }),
+      λ whole. k.1 (subst (λ (b : Bool). At b (end M x) (route ++ x ∷ [])) same whole).unique,
+    )
+
+pub returns-else-unique : goal.returns-else-unique
+returns-else-unique g c = λ s route a l short.
+    let M = g.M.MapRead.map c.args.map.now in
+    let limit = limit_of c.args.labels.now in
+    let x = c.args.line in
+    let same = c.if-unique.false in
+    let k = c.extends_least.ensures s route a (subst (λ (b : Bool). IsShortest b M s limit (start M x) route) same l) in (
+      λ yes. subst (λ (b : Bool). IsShortest b M s limit (end M x) (route ++ x ∷ [])) (sym same) (k.0 yes),
+      λ whole. k.1 (subst (λ (b : Bool). IsShortest b M s limit (end M x) (route ++ x ∷ [])) same whole),
     )

@@ -1,20 +1,14 @@
-use Rattle.olr_route.proofs.Common.{◌∷◌, [], ◌++◌, ℕ, List, ◌∙◌, sym, subst, LeastWithin}
-use Rattle.std.proofs.lemmas.Option.{none-some}
-use Rattle.olr_route.proofs.EndLemmas.{last_of-append, ended_by}
-use Rattle.olr_route.proofs.ExtendLemmas.{label_is}
+use Rattle.olr_route.proofs.Common.{sym, ◌∙◌, none-some, limit_of}
+use Rattle.olr_route.proofs.LabelLemmas.{label_of, last_is, near_of}
 use Rattle.olr_route.proofs.labels.Labels.last_line.Goals as goal
 
 pub returns-in_err-line : goal.returns-in_err-line
-returns-in_err-line c = λ M s limit x a. (
+returns-in_err-line c = λ M slot s x a. (
   λ e. absurd (none-some x (sym c.from_residual.ensures ∙ e)),
-  λ k. absurd (c.in_err-line.ensures M s limit a (k.0 ++ x ∷ [], k.1.least.route, k.1.within)),
+  λ k. absurd (c.in_err-line.ensures M slot s a (near_of M slot s c.args.self.now a c.args.node x k.0 k.1)),
 )
 
 pub returns : goal.returns
-returns c = λ M s limit x a.
-    let k = c.in_ok-line.ensures M s limit a in (
-      λ e.
-          let p = ended_by k.lines x (k.ends ∙ e) in
-          (p.0, subst (λ (zs : List ℕ). LeastWithin M s limit c.args.node zs) p.1 k.shortest),
-      λ r. sym (label_is M a.sound s limit c.args.node _ k (r.0 ++ x ∷ []) r.1.least).0 ∙ last_of-append r.0 x,
-    )
+returns c = λ M slot s x a.
+    last_is M a.search.under_way.labelled.sound s (limit_of c.args.self.now) (label_of M slot s c.args.self.now a)
+    c.args.node x _ (c.in_ok-line.ensures M slot s a)

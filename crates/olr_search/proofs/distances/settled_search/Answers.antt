@@ -1,4 +1,4 @@
-use Rattle.olr_route.proofs.routes.settled_search.Goals as goal
+use Rattle.olr_search.proofs.distances.settled_search.Goals as goal
 
 pub returns-clause-search : goal.returns-clause-search
 returns-clause-search g c =
