@@ -10,8 +10,9 @@ use Rattle.olr_spec.proofs.Common.{Side, Within, RecoversTo, RecoversLast, Recov
 use Rattle.olr_spec.proofs.Facts.{at_index, has_number, Each, has_index, Known, path_also, path_at, Linked, joins_to}
 use Rattle.olr_spec.proofs.Facts.{joins_last}
 use Rattle.olr_spec.specs.Receiver.{sector_on, Lrp, rating, Takes, Outgoing, Incoming, lrp_at, last_number, last_lrp}
-use Rattle.olr_spec.specs.Receiver.{decoded_coord, RecoversFrom, Recovers}
-use Rattle.olr_spec.specs.Recovery.{line_by, IsLineAt, Distinct, stretches, IsStretches}
+use Rattle.olr_spec.specs.Receiver.{decoded_coord, RecoversFrom, RecoversBy}
+use Rattle.olr_spec.proofs.Common.{Encodes}
+use Rattle.olr_spec.specs.Recovery.{line_by, IsLineAt, stretches, IsStretches}
 use Rattle.olr_spec.proofs.FieldLemmas.{range_legs}
 use Rattle.olr_spec.proofs.FitLemmas.{extended_sound, by_answer}
 use Rattle.olr_spec.proofs.DecodedLemmas.{answer_decodes, Back, Form, Front, Kept, form}
@@ -26,16 +27,19 @@ passes M f a y h = grind (arith, at_index, has_number M y h, AllPass-from_list_a
 
 -- ---- the path's own line
 
--- line x is the line that the LRP t describes, the nearest candidate, and without a twin
-pub record Own (R : Receiver) (M : Map) (t : Lrp) (x : ℕ) : Type 0 where
+-- line x is the line that the LRP t describes
+pub record Describes (M : Map) (t : Lrp) (x : ℕ) : Type 0 where
   pub known : IsTrue (has_line M x)
   pub frc : t.frc ≡ (line_at M x).frc
   pub fow : t.fow ≡ (line_at M x).fow
   pub bearing : t.bearing ≡ sector_on t.side (leg M x)
-  pub nearest : IsTrue (is_nearest R.far t.side t.place (leg M x) (candidates M))
-  pub alone : IsTrue (has_no_twin t.side x (leg M x) (candidates M))
 
-module _ (R : Receiver) (M : Map) (t : Lrp) (x : ℕ) (o : Own R M t x) where
+-- line x is the nearest candidate, and without a twin
+pub record Stands (R : Receiver) (M : Map) (s : Side) (p : ℤ × ℤ) (x : ℕ) : Type 0 where
+  pub nearest : IsTrue (is_nearest R.far s p (leg M x) (candidates M))
+  pub alone : IsTrue (has_no_twin s x (leg M x) (candidates M))
+
+module _ (R : Receiver) (M : Map) (t : Lrp) (x : ℕ) (d : Describes M t x) (o : Stands R M t.side t.place x) where
   preferred : (y : ℕ) → IsTrue (has_line M y) → y ≢ x → IsTrue (R.prefers (rating R t (leg M x)) (rating R t (leg M y)))
   preferred y h n = grind (arith, passes, or_cases, eqb-true, cases_eq, both_ways, eq-eqb, ltb-true)
 
@@ -45,46 +49,42 @@ module _ (R : Receiver) (M : Map) (t : Lrp) (x : ℕ) (o : Own R M t x) where
 
 -- ---- one LRP
 
--- line x is the nearest candidate, and without a twin
-record Stands (R : Receiver) (M : Map) (s : Side) (p : ℤ × ℤ) (x : ℕ) : Type 0 where
-  nearest : IsTrue (is_nearest R.far s p (leg M x) (candidates M))
-  alone : IsTrue (has_no_twin s x (leg M x) (candidates M))
+-- S holds of the path's own lines at the LRPs ks, from LRP k on
+abbrev Owns : (Side → ℤ × ℤ → ℕ → Type 0) → List ℕ → Reference → ℕ → List ℕ → Type 0
+Owns S ls r k [] = ⊤
+Owns S ls r k (h ∷ []) = S Incoming (decoded_coord r (last_number r)) (slice_index ls (h - 1))
+Owns S ls r k (h ∷ i ∷ js) = S Outgoing (decoded_coord r k) (slice_index ls h) × Owns S ls r (suc k) (i ∷ js)
 
--- the path's own lines at the LRPs ks, from LRP k on
-abbrev Owns : Receiver → Map → List ℕ → Reference → ℕ → List ℕ → Type 0
-Owns R M ls r k [] = ⊤
-Owns R M ls r k (h ∷ []) = Stands R M Incoming (decoded_coord r (last_number r)) (slice_index ls (h - 1))
-Owns R M ls r k (h ∷ i ∷ js) = Stands R M Outgoing (decoded_coord r k) (slice_index ls h) × Owns R M ls r (suc k) (i ∷ js)
-
-module _ (R : Receiver) (M : Map) (m : IsMap M) (ls : List ℕ) (known : Each (Known M) ls)
-    (once : none_twice ls ≡ true) where
+-- by T each line that an LRP describes, and of which S holds, is chosen and no other
+module _ (M : Map) (T : Lrp → ℕ → Type 0) (S : Side → ℤ × ℤ → ℕ → Type 0)
+    (chosen : (t : Lrp) (x : ℕ) → Describes M t x → S t.side t.place x → (y : ℕ) → T t y ↔ (y ≡ x)) (m : IsMap M)
+    (ls : List ℕ) (known : Each (Known M) ls) (once : none_twice ls ≡ true) where
   leg_is : (i : ℕ) → i < length ls → leg_at (legs M ls) i ≡ leg M (slice_index ls i)
   leg_is i lt = get_or-map (leg M) ls i 0 no_leg lt
 
-  own_out : (r : Reference) (k i j : ℕ) → i < length ls → Stands R M Outgoing (decoded_coord r k) (slice_index ls i) →
-      Own R M (lrp_at r k (attrs (legs M ls) i j)) (slice_index ls i)
-  own_out r k i j lt s = grind (arith, has_index, leg_is)
+  own_out : (r : Reference) (k i j : ℕ) → i < length ls →
+      Describes M (lrp_at r k (attrs (legs M ls) i j)) (slice_index ls i)
+  own_out r k i j lt = grind (arith, has_index, leg_is)
 
   own_in : (r : Reference) (h i : ℕ) → i - 1 < length ls → r.last ≡ fields.last_point (legs M ls) h i →
-      Stands R M Incoming (decoded_coord r (last_number r)) (slice_index ls (i - 1)) →
-      Own R M (last_lrp r) (slice_index ls (i - 1))
-  own_in r h i lt is s = grind (arith, has_index, leg_is)
+      Describes M (last_lrp r) (slice_index ls (i - 1))
+  own_in r h i lt is = grind (arith, has_index, leg_is)
 
   within_stretch : (i j : ℕ) → Within M (attrs (legs M ls) i j).lfrc (stretch ls i j)
   within_stretch i j = grind (arith, range_legs M m ls known i j, within_greatest M 0 (stretch ls i j))
 
   -- ---- one LRP after another
 
-  -- the receiver that has chosen the path's own line at LRP k recovers the legs after it
+  -- from the path's own line at LRP k the legs after it are recovered
   from_point : (r : Reference) (k h i : ℕ) (js : List ℕ) → Linked M ls (h ∷ i ∷ js) →
-      r.last ≡ fields.last_point (legs M ls) (last_two h i js).0 (last_two h i js).1 → Owns R M ls r (suc k) (i ∷ js) →
-      (ws : List (List ℕ)) → RecoversFrom R M r k (slice_index ls h)
+      r.last ≡ fields.last_point (legs M ls) (last_two h i js).0 (last_two h i js).1 → Owns S ls r (suc k) (i ∷ js) →
+      (ws : List (List ℕ)) → RecoversFrom T M r k (slice_index ls h)
       (attrs (legs M ls) h i ∷ map (λ (m : Middle). m.attrs) (middle_points (legs M ls) h i js)) ws
       ↔ (ws ≡ stretches ls (h ∷ i ∷ js))
   from_point r k h i [] l is o ws =
       let y = slice_index ls (i - 1) in
       let c = (attrs (legs M ls) h i).lfrc in
-      let takes = takes_own R M (last_lrp r) y (own_in r h i (omega arith) is o) in
+      let takes = chosen (last_lrp r) y (own_in r h i (omega arith) is) o in
       let route = recovers_last M ls c h i l.0.after l.0.upto
       (λ far. once_apart ls h (i - 1) once (omega arith) (omega arith)) (within_stretch h i) (joins_last M ls h i l.0) in (
         (λ g. g.4 ∙ ap (λ (v : List ℕ). v ∷ [])
@@ -94,25 +94,25 @@ module _ (R : Receiver) (M : Map) (m : IsMap M) (ls : List ℕ) (known : Each (K
   from_point r k h i (j ∷ js) l is o ws =
       let y = slice_index ls i in
       let c = (attrs (legs M ls) h i).lfrc in
-      let takes = takes_own R M (lrp_at r (suc k) (attrs (legs M ls) i j)) y (own_out r (suc k) i j (omega arith) o.0) in
+      let takes = chosen (lrp_at r (suc k) (attrs (legs M ls) i j)) y (own_out r (suc k) i j (omega arith)) o.0 in
       let route = recovers_to M ls c h i (within_stretch h i) (joins_to M ls h i (omega arith) l.0) in
       let rest = from_point r (suc k) i j js l.1 is o.1 in
       let later = attrs (legs M ls) i j ∷ map (λ (m : Middle). m.attrs) (middle_points (legs M ls) i j js) in (
         (λ g.
             let yes = (takes g.0).0 g.3 in
             let w : g.1 ≡ stretch ls h i = (route g.1).0 (coe 0 1 (i. RecoversTo M c (slice_index ls h) (yes i) g.1) g.4) in
-            g.5 ∙ (λ n. w n ∷ (rest g.2).0 (coe 0 1 (i. RecoversFrom R M r (suc k) (yes i) later g.2) g.6) n)),
+            g.5 ∙ (λ n. w n ∷ (rest g.2).0 (coe 0 1 (i. RecoversFrom T M r (suc k) (yes i) later g.2) g.6) n)),
         (λ e. (y, stretch ls h i, _, (takes y).1 refl, (route (stretch ls h i)).1 refl, e, (rest _).1 refl)),
       )
 
   -- from the first LRP on
   recovers_kept : (p q h i : ℕ) (js : List ℕ) → Linked M ls (h ∷ i ∷ js) →
-      Owns R M ls (reference_by_kept (legs M ls) p q h i js) 0 (h ∷ i ∷ js) → (ws : List (List ℕ))
-      → Recovers R M (reference_by_kept (legs M ls) p q h i js) ws ↔ (ws ≡ stretches ls (h ∷ i ∷ js))
+      Owns S ls (reference_by_kept (legs M ls) p q h i js) 0 (h ∷ i ∷ js) → (ws : List (List ℕ))
+      → RecoversBy T M (reference_by_kept (legs M ls) p q h i js) ws ↔ (ws ≡ stretches ls (h ∷ i ∷ js))
   recovers_kept p q h i js l o ws =
       let r = reference_by_kept (legs M ls) p q h i js in
       let x = slice_index ls h in
-      let takes = takes_own R M (lrp_at r 0 (attrs (legs M ls) h i)) x (own_out r 0 h i (omega arith) o.0) in
+      let takes = chosen (lrp_at r 0 (attrs (legs M ls) h i)) x (own_out r 0 h i (omega arith)) o.0 in
       let rest = from_point r 0 h i js l refl o.1 ws in
       grind (arith)
 
@@ -140,38 +140,51 @@ module _ (M : Map) (m : IsMap M) (P : Path) (is : IsTrue (is_path P.lines)) (non
   line_at_point : (s : Side) (k p : ℕ) → slice_get Points_kept k ≡ Some p → IsLineAt M P s k (line_by s Lines p)
   line_at_point s k p at = path_also e (ap (option_map (line_by s Lines)) at)
 
-  module _ (R : Receiver) (d : Distinct R.far M P r) where
+  module _ (T : Lrp → ℕ → Type 0) (S : Side → ℤ × ℤ → ℕ → Type 0)
+      (chosen : (t : Lrp) (x : ℕ) → Describes M t x → S t.side t.place x → (y : ℕ) → T t y ↔ (y ≡ x))
+      (out : (k : ℕ) → k < last_number r → (x : ℕ) → IsLineAt M P Outgoing k x → S Outgoing (decoded_coord r k) x)
+      (back : (x : ℕ) → IsLineAt M P Incoming (last_number r) x → S Incoming (decoded_coord r (last_number r)) x) where
     owns_from : (k : ℕ) (ks : List ℕ) → ((n : ℕ) → slice_get Points_kept (k + n) ≡ slice_get ks n) →
-        k + length ks ≡ last_number r + 1 → Owns R M Lines r k ks
+        k + length ks ≡ last_number r + 1 → Owns S Lines r k ks
     owns_from k [] at size = tt
     owns_from k (h ∷ []) at size =
         let on : k + 0 ≡ last_number r = omega arith in
-        let here = line_at_point Incoming (last_number r) h (ap (slice_get Points_kept) (sym on) ∙ at 0) in
-        record { nearest = d.incoming.nearest _ here; alone = d.incoming.alone _ here }
+        back _ (line_at_point Incoming (last_number r) h (ap (slice_get Points_kept) (sym on) ∙ at 0))
     owns_from k (h ∷ i ∷ js) at size =
-        let on : k + 0 ≡ k = omega arith in
-        let here = line_at_point Outgoing k h (ap (slice_get Points_kept) (sym on) ∙ at 0) in
-        let own = d.outgoing k (omega arith) in (
-          record { nearest = own.nearest _ here; alone = own.alone _ here },
+        let on : k + 0 ≡ k = omega arith in (
+          out k (omega arith) _ (line_at_point Outgoing k h (ap (slice_get Points_kept) (sym on) ∙ at 0)),
           owns_from (suc k) (i ∷ js)
               (λ n. let step : suc k + n ≡ k + suc n = omega arith in ap (slice_get Points_kept) step ∙ at (suc n))
               (omega arith),
         )
 
-  recovered_of : (R : Receiver) → Distinct R.far M P r → (ws : List (List ℕ)) → Recovers R M r ws ↔ IsStretches M P ws
-  recovered_of R d ws =
-      let f = formed in
-      let s = extended_sound M P is none e.before e.after e.tried in
-      let once = extended_once M P e.before e.after is e.tried in
-      let all = owns_from R d 0 Points_kept (λ n. let z : 0 + n ≡ n = omega arith in ap (slice_get Points_kept) z)
-      (omega (arith, size)) in
-      let by : Recovers R M r ws ↔ (ws ≡ stretches Lines Points_kept) =
-      coe 1 0 (i. Recovers R M (f.fields_are i) ws ↔ (ws ≡ stretches Lines (f.kept i)))
-      (recovers_kept R M m Lines s.known once (Front M P is none r e) (Back M P is none r e) f.h f.i f.js f.linked
-      (coe 0 1 (i. Owns R M Lines (f.fields_are i) 0 (f.kept i)) all) ws) in (
-        (λ g. path_also e (by.0 g)),
-        (λ p. by.1 (same_path _ p)),
-      )
+    recovered_of : (ws : List (List ℕ)) → RecoversBy T M r ws ↔ IsStretches M P ws
+    recovered_of ws =
+        let f = formed in
+        let s = extended_sound M P is none e.before e.after e.tried in
+        let once = extended_once M P e.before e.after is e.tried in
+        let all = owns_from 0 Points_kept (λ n. let z : 0 + n ≡ n = omega arith in ap (slice_get Points_kept) z)
+        (omega (arith, size)) in
+        let by : RecoversBy T M r ws ↔ (ws ≡ stretches Lines Points_kept) =
+        coe 1 0 (i. RecoversBy T M (f.fields_are i) ws ↔ (ws ≡ stretches Lines (f.kept i)))
+        (recovers_kept M T S chosen m Lines s.known once (Front M P is none r e) (Back M P is none r e) f.h f.i f.js f.linked
+        (coe 0 1 (i. Owns S Lines (f.fields_are i) 0 (f.kept i)) all) ws) in (
+          (λ g. path_also e (by.0 g)),
+          (λ p. by.1 (same_path _ p)),
+        )
+
+-- by T the legs of an answer are recovered, and nothing else, if S holds of the path's line at each LRP
+pub recovered_by : (T : Lrp → ℕ → Type 0) (S : Side → ℤ × ℤ → ℕ → Type 0) (M : Map) →
+    ((t : Lrp) (x : ℕ) → Describes M t x → S t.side t.place x → (y : ℕ) → T t y ↔ (y ≡ x)) → IsMap M →
+    (P : Path) → IsTrue (is_path P.lines) → (r : Reference) → Encodes M P (Points r) →
+    ((k : ℕ) → k < last_number r → (x : ℕ) → IsLineAt M P Outgoing k x → S Outgoing (decoded_coord r k) x) →
+    ((x : ℕ) → IsLineAt M P Incoming (last_number r) x → S Incoming (decoded_coord r (last_number r)) x) →
+    (ws : List (List ℕ)) → RecoversBy T M r ws ↔ IsStretches M P ws
+recovered_by T S M chosen m P is r e out back =
+    let p = by_answer M P r e in recovered_of M m P is p.0 r p.1 T S chosen out back
 
 pub recovered : Recovered
-recovered R M m P is r e d ws = let p = by_answer M P r e in recovered_of M m P is p.0 r p.1 R d ws
+recovered R M m P is r e d =
+    recovered_by (Takes R M) (Stands R M) M (takes_own R M) m P is r e
+    (λ k lt x at. let own = d.outgoing k lt in record { nearest = own.nearest x at; alone = own.alone x at })
+    (λ x at. record { nearest = d.incoming.nearest x at; alone = d.incoming.alone x at })

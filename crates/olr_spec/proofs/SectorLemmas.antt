@@ -43,11 +43,11 @@ abbrev InQuadrant : ℕ → ℤ → ℤ → Type 0
 InQuadrant zero e n = (pos 0 ≤ℤ e) × (pos 0 <ℤ n)
 InQuadrant (suc q) e n = InQuadrant q (neg_ℤ n) e
 
-same_at : {X : Type 0} (f g : ℕ → X) (xs : List ℕ) → map f xs ≡ map g xs → (k : ℕ) → has xs k ≡ true → f k ≡ g k
+pub same_at : {X : Type 0} (f g : ℕ → X) (xs : List ℕ) → map f xs ≡ map g xs → (k : ℕ) → has xs k ≡ true → f k ≡ g k
 same_at f g [] e k i = absurd cc
 same_at f g (x ∷ xs) e k i = grind (arith, has_cases x xs k i, same_at f g xs)
 
-turned : (k : ℕ) → k < 25 → boundary (k + 8) ≡ quarter_turn (boundary k)
+pub turned : (k : ℕ) → k < 25 → boundary (k + 8) ≡ quarter_turn (boundary k)
 turned k lt = same_at (λ j. boundary (j + 8)) (λ j. quarter_turn (boundary j)) (up_to 25) refl k (has_below 25 k lt)
 
 pub neg_right : (a b : ℤ) → a *ℤ neg_ℤ b ≡ neg_ℤ (a *ℤ b)
@@ -56,7 +56,7 @@ neg_right a b = grind (arith, ints)
 pub neg_left : (a b : ℤ) → neg_ℤ a *ℤ b ≡ neg_ℤ (a *ℤ b)
 neg_left a b = grind (arith, ints)
 
-turns_into : (x y e n : ℤ) → e *ℤ neg_ℤ x -ℤ n *ℤ y ≡ neg_ℤ n *ℤ y -ℤ e *ℤ x
+pub turns_into : (x y e n : ℤ) → e *ℤ neg_ℤ x -ℤ n *ℤ y ≡ neg_ℤ n *ℤ y -ℤ e *ℤ x
 turns_into x y e n = omega (arith, neg_right e x, neg_left n y, ints)
 
 side_turned : (k : ℕ) → k < 25 → (e n : ℤ) → side e n (k + 8) ≡ side (neg_ℤ n) e k

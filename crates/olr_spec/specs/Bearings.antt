@@ -1,8 +1,9 @@
 -- Coordinates along a line, directions, and the 32 sectors of bearings (White Paper, bearing attribute).
 --     Leg      a line with the coordinates of its two ends
 --     scaled_coord g t      the coordinate t dm along the line, times the width of its interval between shape points
---     bearing_out g, bearing_back g      the sector of the direction from the line's start to the coordinate 200 dm
---         along it, or from its end to the coordinate 200 dm before it
+--     direction_out g, direction_back g      the direction from the line's start to the coordinate 200 dm along it, or
+--         from its end to the coordinate 200 dm before it
+--     bearing_out g, bearing_back g      the sectors of these directions
 --     IsSector east north k, sector east north      the direction is between the two boundary vectors of sector k; the
 --         sector of a direction
 use Rattle.std.specs.Prelude.{ℕ, zero, suc, ◌-◌, ◌<◌, min, ℤ, pos, ◌+ℤ◌, ◌-ℤ◌, ◌*ℤ◌, neg_ℤ, int_le, int_lt, int_div}
@@ -112,17 +113,27 @@ thousandths lat = int_div lat (pos 327680000)
 
 -- from o to the coordinate s. The part to the east is multiplied by the cosine of the latitude of o, approximated by
 -- Bhaskara's formula, 4 * (8100 - x^2) / (32400 + x^2) at x degrees (profile)
-abbrev pub bearing : Coord → Scaled → ℕ
-bearing o s =
+abbrev pub direction : Coord → Scaled → Vector
+direction o s =
     let m = thousandths o.lat in
     let lon = s.lon -ℤ pos s.width *ℤ o.lon in
     let lat = s.lat -ℤ pos s.width *ℤ o.lat in
-    sector (pos 4 *ℤ (pos 8100000000 -ℤ m *ℤ m) *ℤ lon) ((pos 32400000000 +ℤ m *ℤ m) *ℤ lat)
+    vector (pos 4 *ℤ (pos 8100000000 -ℤ m *ℤ m) *ℤ lon) ((pos 32400000000 +ℤ m *ℤ m) *ℤ lat)
+
+-- its sector
+abbrev pub bearing : Coord → Scaled → ℕ
+bearing o s = let v = direction o s in sector v.east v.north
 
 -- 20 m along the line, or to its end if it is shorter (White Paper, bearing attribute)
+abbrev pub direction_out : Leg → Vector
+direction_out g = direction g.begin (scaled_coord g (min 200 g.line.len))
+
 abbrev pub bearing_out : Leg → ℕ
 bearing_out g = bearing g.begin (scaled_coord g (min 200 g.line.len))
 
 -- 20 m back from its end, or to its start if it is shorter
+abbrev pub direction_back : Leg → Vector
+direction_back g = direction g.finish (scaled_coord g (g.line.len - 200))
+
 abbrev pub bearing_back : Leg → ℕ
 bearing_back g = bearing g.finish (scaled_coord g (g.line.len - 200))

@@ -4,7 +4,8 @@
 --     Lrp, lrp_at r k a, last_lrp r      an LRP as it is decoded
 --     Receiver      a measure, three differences and a monotone preference
 --     Takes R M t x      the receiver may choose line x for the LRP t
---     Recovers R M r ws      ws are the lines, leg by leg, that the receiver may recover
+--     RecoversBy T M r ws, Recovers R M r ws      ws are the lines, leg by leg, that may be recovered by such a choice
+--         of lines, or by the receiver
 --     candidates M      the lines of a map with the coordinates of their ends
 --     is_nearest far s p g cs, has_no_twin s x g cs      the node of a candidate is the nearest to p; no other
 --         candidate is a twin of it
@@ -153,19 +154,22 @@ pub data RecoversLast (M : Map) (c x y : ℕ) (w : List ℕ) : Type 0 where
   More_lines : (xs : List ℕ) → x ≢ y → w ≡ x ∷ (xs ++ y ∷ []) → Shortest M c (end M x) (start M y) xs →
       (line_at M y).frc ≤ c → RecoversLast M c x y w
 
--- from LRP k on, for which line x is chosen; the attributes are those of LRP k and of the LRPs after it but the last
-abbrev pub RecoversFrom : Receiver → Map → Reference → ℕ → ℕ → List Attrs → List (List ℕ) → Type 0
-RecoversFrom R M r k x [] ws = ⊥
-RecoversFrom R M r k x (a ∷ []) ws =
-    (y : ℕ) × (w : List ℕ) × Takes R M (last_lrp r) y × RecoversLast M a.lfrc x y w × (ws ≡ w ∷ [])
-RecoversFrom R M r k x (a ∷ b ∷ later) ws =
-    (y : ℕ) × (w : List ℕ) × (rest : List (List ℕ)) × Takes R M (lrp_at r (suc k) b) y × RecoversTo M a.lfrc x y w
-    × (ws ≡ w ∷ rest) × RecoversFrom R M r (suc k) y (b ∷ later) rest
+-- from LRP k on, for which line x is chosen; T t y says that line y may be chosen for the LRP t. The attributes are
+-- those of LRP k and of the LRPs after it but the last
+abbrev pub RecoversFrom : (Lrp → ℕ → Type 0) → Map → Reference → ℕ → ℕ → List Attrs → List (List ℕ) → Type 0
+RecoversFrom T M r k x [] ws = ⊥
+RecoversFrom T M r k x (a ∷ []) ws =
+    (y : ℕ) × (w : List ℕ) × T (last_lrp r) y × RecoversLast M a.lfrc x y w × (ws ≡ w ∷ [])
+RecoversFrom T M r k x (a ∷ b ∷ later) ws =
+    (y : ℕ) × (w : List ℕ) × (rest : List (List ℕ)) × T (lrp_at r (suc k) b) y × RecoversTo M a.lfrc x y w
+    × (ws ≡ w ∷ rest) × RecoversFrom T M r (suc k) y (b ∷ later) rest
 
 -- a line is chosen for each LRP, and neighbouring lines are joined by shortest routes over lines within the LFRCNP
+abbrev pub RecoversBy : (Lrp → ℕ → Type 0) → Map → Reference → List (List ℕ) → Type 0
+RecoversBy T M r ws = (x : ℕ) × T (lrp_at r 0 r.first.attrs) x × RecoversFrom T M r 0 x (attributes r) ws
+
 abbrev pub Recovers : Receiver → Map → Reference → List (List ℕ) → Type 0
-Recovers R M r ws =
-    (x : ℕ) × Takes R M (lrp_at r 0 r.first.attrs) x × RecoversFrom R M r 0 x (attributes r) ws
+Recovers R M r ws = RecoversBy (Takes R M) M r ws
 
 -- ---- where the path's own candidate is distinct
 
