@@ -2,6 +2,10 @@ pub mod ByteLemmas
 pub mod LabelLemmas
 pub mod ReceiverLemmas
 pub mod MapLemmas
+pub mod AngleLemmas
+pub mod DirectionLemmas
+pub mod RowLemmas
 pub mod MorningLemmas
+pub mod ForkLemmas
 pub mod CommandLemmas
 pub mod RunLemmas

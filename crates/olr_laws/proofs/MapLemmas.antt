@@ -1,14 +1,15 @@
 -- What a map of given nodes and lines has.
 use Rattle.olr_spec.proofs.Common.{◌≡◌, ℕ, Bool, true, false, List, [], ◌∷◌, map, filter, list_all, Option, Some, unwrap_or}
-use Rattle.olr_spec.proofs.Common.{is_some, IsTrue, T, ◌&&◌, ◌∙◌, ap, sym, cond, arith, nat_cmp, get, entries, Line, Coord}
+use Rattle.olr_spec.proofs.Common.{is_some, IsTrue, T, ◌&&◌, ◌∙◌, ap, sym, cond, nat_cmp, get, entries, Line, Coord}
 use Rattle.olr_spec.proofs.Common.{IsMap, has_line, has_node, line_at, coord_at, no_line, no_coord, is_good}
 use Rattle.olr_spec.proofs.Common.{is_coord, are_coords, lines_where, passing, passes_between, leg, Leg}
-use Rattle.olr_spec.proofs.Common.{candidates, has, ◌==◌, eqb-true, and_parts, or_parts}
+use Rattle.olr_spec.proofs.Common.{candidates, has, ◌==◌, and_parts}
 use Rattle.olr_spec.proofs.Facts.{has_number}
 use Rattle.std.specs.FinMap.{entries-from_sorted, get-from_sorted}
 use Rattle.std.specs.FinMap.Entries.{find, is_sorted}
 use Rattle.std.specs.Ordering.{eq_by_cmp}
 use Rattle.olr_laws.specs.MapRows.{map_of}
+use Rattle.olr_laws.proofs.ReceiverLemmas.{passed}
 
 -- the record of line x, the coordinate of node v, and whether v is a degree-two node, by the lists
 abbrev pub line_in : List (ℕ × Line) → ℕ → Line
@@ -83,15 +84,11 @@ module _ (ns : List (ℕ × Coord)) (ls : List (ℕ × Line)) (sn : T (is_sorted
       passes_between v (map (λ x. (line_at_is x i).from) (numbers_are (λ l. l.to == v) i))
       (map (λ x. (line_at_is x i).to) (numbers_are (λ l. l.from == v) i))
 
-  -- a test that all numbers of lines pass
-  passes_in : (t : ℕ → Bool) (xs : List ℕ) → list_all t xs ≡ true → (x : ℕ) → has xs x ≡ true → t x ≡ true
-  passes_in t [] a x h = absurd cc
-  passes_in t (y ∷ xs) a x h = grind (arith, and_parts, or_parts, eqb-true, passes_in t xs)
-
+  -- a test that all lines pass, by number
   pub each_line : (t : ℕ → Bool) → list_all t (numbers_in ls (λ _. true)) ≡ true → (x : ℕ) →
       IsTrue (has_line (map_of ns ls) x) → t x ≡ true
   each_line t a x h =
-      passes_in t (numbers_in ls (λ _. true)) a x (coe 0 1 (i. has (numbers_are (λ _. true) i) x ≡ true) (has_number (map_of ns ls) x h))
+      passed t (numbers_in ls (λ _. true)) a x (coe 0 1 (i. has (numbers_are (λ _. true) i) x ≡ true) (has_number (map_of ns ls) x h))
 
   good_nodes : (es : List (ℕ × Coord)) → list_all (λ e. is_coord e.1) es ≡ true → (v : ℕ) →
       is_some (find nat_cmp v es) ≡ true → is_coord (coord_in es v) ≡ true

@@ -1,60 +1,15 @@
 -- The answer of the first worked path on its map.
-use Rattle.olr_spec.proofs.Common.{◌≡◌, ℕ, zero, suc, ◌+◌, ◌<◌, ◌≤◌, Bool, true, false, List, [], ◌∷◌, ◌++◌, refl, sym, ap, ◌∙◌, subst}
-use Rattle.olr_spec.proofs.Common.{IsTrue, arith, Some, None}
-use Rattle.olr_spec.proofs.Common.{Map, IsMap, has_line, start, end, dm, passing, first, last}
-use Rattle.olr_spec.proofs.Common.{Path, StartRun, EndRun, LongestStart, LongestEnd, Tried, extended_path, path_fault}
-use Rattle.olr_spec.proofs.Common.{Candidate, Follow, To_end, To_valid, UniqueShortest}
-use Rattle.olr_spec.proofs.Common.{Points, Encodes, Encoding, reference, dm_of, IsRoute}
+use Rattle.olr_spec.proofs.Common.{◌≡◌, ℕ, zero, suc, ◌<◌, ◌≤◌, true, false, List, [], ◌∷◌, refl, sym, ap, ◌∙◌, subst, IsTrue, arith, None, list_all, up_to, ◌&&◌}
+use Rattle.olr_spec.proofs.Common.{Map, IsMap, has_line, start, end, dm, passing, path_fault, Candidate, Follow, To_end, To_valid, UniqueShortest, IsRoute}
+use Rattle.olr_spec.proofs.Common.{Points, Encodes, reference, Leg, leg, fit16, candidates}
 use Rattle.olr_spec.proofs.Facts.{empty_unique}
-use Rattle.olr_spec.specs.Extension.{MayPrecede}
-use Rattle.olr_laws.specs.Rows.{leg10, leg20, leg30, leg99, reference1}
-use Rattle.olr_laws.specs.MapRows.{morning_map, morning_path, morning_nodes, morning_records}
-use Rattle.olr_spec.proofs.Common.{cond, Leg, leg, legs, fit16, answer_by_points, Option, Refusal, Refused, MatchOption}
-use Rattle.olr_spec.proofs.Common.{list_all, up_to, ◌&&◌, Side, candidates, option_map, slice_get, kept_points, is_nearest, has_no_twin}
 use Rattle.olr_spec.specs.Receiver.{Outgoing, Incoming, decoded_coord}
-use Rattle.olr_spec.specs.Recovery.{IsLineAt, line_by, Distinct, DistinctAt, are_cosines, is_cosine}
-use Rattle.olr_spec.proofs.Facts.{path_at}
-use Rattle.olr_laws.specs.Rows.{legs1, morning_lines, axes_sum, cosine}
+use Rattle.olr_spec.specs.Recovery.{IsLineAt, Distinct, DistinctAt, are_cosines, is_cosine}
+use Rattle.olr_laws.specs.Rows.{leg10, leg20, leg30, leg99, reference1, legs1, morning_lines, axes_sum, cosine}
+use Rattle.olr_laws.specs.MapRows.{morning_map, morning_path, morning_nodes, morning_records}
+use Rattle.olr_laws.specs.Directions.{DistinctByDirection, stands_out}
 use Rattle.olr_laws.proofs.MapLemmas.{sound, has_line_is, leg_is, passing_is, candidates_are}
-
--- ---- ends at valid nodes
-
--- no line leads to the lines ls or on from them
-pub no_start_run : (M : Map) (ls : List ℕ) → passing M (start M (first ls)) ≡ false → (c : List ℕ) → StartRun M c ls → c ≡ []
-no_start_run M ls h [] r = refl
-no_start_run M ls h (x ∷ c) r = absurd (none c x r.0 r.1)
-  where
-    none : (c : List ℕ) (x : ℕ) → MayPrecede M x (c ++ ls) → StartRun M c ls → ⊥
-    none [] x p r =
-        let t : passing M (start M (first ls)) ≡ true = subst (λ (v : ℕ). IsTrue (passing M v)) p.joins p.through in cc (t, h)
-    none (y ∷ c) x p r = none c y r.0 r.1
-
-pub no_end_run : (M : Map) (ls : List ℕ) → passing M (end M (last ls)) ≡ false → (c : List ℕ) → EndRun M ls c → c ≡ []
-no_end_run M ls h [] r = refl
-no_end_run M ls h (x ∷ c) r =
-    let p = r.0 in
-    let t : passing M (end M (last ls)) ≡ true = subst (λ (v : ℕ). IsTrue (passing M v)) p.joins p.through in
-    absurd (let never : ⊥ = cc (t, h) in never)
-
-pub longest_start : (M : Map) (ls : List ℕ) → passing M (start M (first ls)) ≡ false → LongestStart M [] ls
-longest_start M ls h =
-    record { run = tt; within = omega arith; longest = λ d r w. omega (arith, ap (dm_of M) (no_start_run M ls h d r)) }
-
-pub longest_end : (M : Map) (ls : List ℕ) → passing M (end M (last ls)) ≡ false → LongestEnd M ls []
-longest_end M ls h =
-    record { run = tt; within = omega arith; longest = λ d r w. omega (arith, ap (dm_of M) (no_end_run M ls h d r)) }
-
-cond_same : (b : Bool) (xs : List ℕ) → cond b xs xs ≡ xs
-cond_same true xs = refl
-cond_same false xs = refl
-
--- a path to which nothing is added
-pub not_extended : (M : Map) (P : Path) → extended_path M P [] [] ≡ record { lines = P.lines ++ []; pos = P.pos + 0; neg = P.neg + 0 }
-not_extended M P i =
-    let from = cond_same (passing M (start M (first P.lines))) [] in
-    let ls = λ (xs : List ℕ). xs ++ P.lines in
-    let to = λ (xs : List ℕ). cond_same (passing M (end M (last ((xs ++ P.lines) ++ [])))) [] in
-    record { lines = (from i ++ P.lines) ++ to (from i) i; pos = P.pos + dm_of M (from i); neg = P.neg + dm_of M (to (from i) i) }
+use Rattle.olr_laws.proofs.RowLemmas.{IsRow, encodes, distinct_at, stands_at}
 
 -- ---- the morning's map
 
@@ -127,15 +82,6 @@ module _ (M : Map) (is : IsMorning M) where
     ap (λ (g : Leg). g.line.len) is.is99,
   )
 
-  tried : Tried M morning_path [] []
-  tried =
-      record {
-        before = longest_start M Lines (ap (passing M) from10 ∙ is.valid1);
-        after =
-            subst (λ (xs : List ℕ). LongestEnd M (xs ++ Lines) []) (sym (cond_same (passing M (start M 10)) []))
-            (longest_end M Lines (ap (passing M) to30 ∙ is.valid4));
-      }
-
   -- a second way from node 2 to node 3 is shorter
   not_over : ¬ UniqueShortest M (end M 10) (start M 30) (20 ∷ [])
   not_over u =
@@ -179,67 +125,45 @@ module _ (M : Map) (is : IsMorning M) where
   no_fault : path_fault M morning_path ≡ None
   no_fault = simp (is.has10, is.has20, is.has30, from10, to10, from20, to20, from30, to30, dm_are.0, dm_are.1, dm_are.2)
 
-  legs_are : legs M Lines ≡ legs1
-  legs_are i = is.is10 i ∷ is.is20 i ∷ is.is30 i ∷ []
-
-  unchanged : extended_path M morning_path [] [] ≡ morning_path
-  unchanged = not_extended M morning_path
-
-  encoding : Encoding M morning_path (Points reference1)
-  encoding =
+  row : IsRow M morning_path (1 ∷ 3 ∷ []) legs1 morning_lines reference1
+  row =
       record {
-        before = [];
-        after = [];
-        points = 1 ∷ 3 ∷ [];
-        tried = tried;
-        follow = subst (λ (E : Path). Follow M E.lines 0 (1 ∷ 3 ∷ [])) (sym unchanged) follows;
-        holds = sym (ap (λ (E : Path). answer_by_points M E (1 ∷ 3 ∷ [])) unchanged
-            ∙ ap (λ (gs : List Leg). Points (reference gs 1500 0 (1 ∷ 3 ∷ []))) legs_are);
+        sound = is.sound;
+        is = refl;
+        none = no_fault;
+        starts = ap (passing M) from10 ∙ is.valid1;
+        ends = ap (passing M) to30 ∙ is.valid4;
+        follow = follows;
+        along = λ i. is.is10 i ∷ is.is20 i ∷ is.is30 i ∷ [];
+        all = is.all;
+        answer = λ i. Points (reference (is.is10 i ∷ is.is20 i ∷ is.is30 i ∷ []) 1500 0 (1 ∷ 3 ∷ []));
       }
-
-  answer : Encodes M morning_path (Points reference1)
-  answer =
-      subst (λ (o : Option Refusal). MatchOption o (Encoding M morning_path (Points reference1))
-      (λ f. Points reference1 ≡ Refused f)) (sym no_fault) encoding
-
-  -- the path's line at an LRP
-  line_found : (s : Side) (k x : ℕ) → IsLineAt M morning_path s k x →
-      option_map (line_by s Lines) (slice_get (0 ∷ 1 ∷ 3 ∷ []) k) ≡ Some x
-  unfolding encoding
-  line_found s k x at =
-      let there = path_at is.sound refl no_fault encoding at in
-      ap (λ (gs : List Leg). option_map (line_by s Lines) (slice_get (kept_points gs 1500 0 (1 ∷ 3 ∷ [])) k)) (sym legs_are)
-      ∙ ap (λ (E : Path). option_map (line_by s E.lines) (slice_get (kept_points (legs M E.lines) E.pos E.neg (1 ∷ 3 ∷ [])) k)) (sym unchanged)
-      ∙ there
-
-  -- by the lists of the map
-  distinct_at : (s : Side) (k y : ℕ) (g : Leg) → option_map (line_by s Lines) (slice_get (0 ∷ 1 ∷ 3 ∷ []) k) ≡ Some y →
-      leg M y ≡ g → is_nearest axes_sum s (decoded_coord reference1 k) g morning_lines ≡ true →
-      has_no_twin s y g morning_lines ≡ true → DistinctAt axes_sum M morning_path s k (decoded_coord reference1 k)
-  distinct_at s k y g on is_g near none =
-      record {
-        nearest = λ x at. subst (λ (x : ℕ). IsTrue (is_nearest axes_sum s (decoded_coord reference1 k) (leg M x) (candidates M))) (same x at)
-            ((λ i. is_nearest axes_sum s (decoded_coord reference1 k) (is_g i) (is.all i)) ∙ near);
-        alone = λ x at. subst (λ (x : ℕ). IsTrue (has_no_twin s x (leg M x) (candidates M))) (same x at)
-            ((λ i. has_no_twin s y (is_g i) (is.all i)) ∙ none);
-      }
-    where
-      same : (x : ℕ) → IsLineAt M morning_path s k x → y ≡ x
-      same x at = let there = line_found s k x at in cc (there, on)
 
   distinct : Distinct axes_sum M morning_path reference1
-  distinct = record { outgoing = out; incoming = distinct_at Incoming 2 30 leg30 refl is.is30 refl refl }
+  distinct = record { outgoing = out; incoming = distinct_at M _ _ _ _ _ row Incoming 2 30 leg30 refl is.is30 axes_sum refl refl }
     where
       out : (k : ℕ) → k < 2 → DistinctAt axes_sum M morning_path Outgoing k (decoded_coord reference1 k)
-      out zero lt = distinct_at Outgoing 0 10 leg10 refl is.is10 refl refl
-      out (suc zero) lt = distinct_at Outgoing 1 20 leg20 refl is.is20 refl refl
+      out zero lt = distinct_at M _ _ _ _ _ row Outgoing 0 10 leg10 refl is.is10 axes_sum refl refl
+      out (suc zero) lt = distinct_at M _ _ _ _ _ row Outgoing 1 20 leg20 refl is.is20 axes_sum refl refl
       out (suc (suc k)) lt = absurd (omega arith)
 
+  by_direction : DistinctByDirection axes_sum 10000000 M morning_path reference1
+  by_direction = record { outgoing = out; incoming = stands_at M _ _ _ _ _ row Incoming 2 30 leg30 refl is.is30 axes_sum 10000000 refl }
+    where
+      out : (k x : ℕ) → k < 2 → IsLineAt M morning_path Outgoing k x →
+          IsTrue (stands_out axes_sum 10000000 Outgoing (decoded_coord reference1 k) x (leg M x) (candidates M))
+      out zero x lt = stands_at M _ _ _ _ _ row Outgoing 0 10 leg10 refl is.is10 axes_sum 10000000 refl x
+      out (suc zero) x lt = stands_at M _ _ _ _ _ row Outgoing 1 20 leg20 refl is.is20 axes_sum 10000000 refl x
+      out (suc (suc k)) x lt = absurd (omega arith)
+
 pub morning_answer : Encodes morning_map morning_path (Points reference1)
-morning_answer = answer morning_map is_morning
+morning_answer = encodes morning_map _ _ _ _ _ (row morning_map is_morning)
 
 pub morning_distinct : Distinct axes_sum morning_map morning_path reference1
 morning_distinct = distinct morning_map is_morning
+
+pub morning_by_direction : DistinctByDirection axes_sum 10000000 morning_map morning_path reference1
+morning_by_direction = by_direction morning_map is_morning
 
 -- between 0.64 and 1 at each end of a line
 pub morning_cosines : are_cosines 64 100 1000000 cosine morning_map reference1 ≡ true

@@ -27,6 +27,10 @@ use Rattle.olr_spec.specs.Recovery.{lon_apart, lat_apart, line_by, IsLineAt, str
 use Rattle.olr_spec.specs.Recovery.{are_spaced, Weighted, is_cosine}
 use Rattle.olr_spec.proofs.SectorLemmas.{has_below}
 use Rattle.olr_spec.proofs.JoinedLemmas.{extended_joined}
+use Rattle.olr_spec.proofs.Common.{◌⊎◌, ◌||◌, and_from, le-leb, node_on}
+use Rattle.olr_spec.specs.Receiver.{sector_on}
+use Rattle.olr_laws.specs.Directions.{is_spaced_by, is_outdone, is_clear, stands_out, is_direction, is_beyond, direction_on}
+use Rattle.olr_laws.specs.DirectionLaws.{ClearStandsOut}
 use Rattle.olr_spec.proofs.QueryLemmas.{stretch_parts}
 use Rattle.olr_spec.proofs.ReceiverLemmas.{same_path, passes}
 
@@ -38,7 +42,7 @@ got_index f (x ∷ ks) (suc k) v e = let r = got_index f ks k v e in (omega (ari
 
 -- ---- receivers exist
 
-abbrev apart : ℕ → ℕ → ℕ
+abbrev pub apart : ℕ → ℕ → ℕ
 apart a b = a - b + (b - a)
 
 apart_differs : IsDifference apart
@@ -71,36 +75,55 @@ some_receiver far = (
 own_side : (u scale a b B f : ℕ) → 0 < scale → u ≤ scale → a < B → b < B → f ≤ u * a + scale * b → f < scale * B + scale * B
 own_side u scale a b B f unit most ha hb h = grind (arith, mul-le-mul_right, mul-lt-mul_of_pos_left)
 
-by_latitude : (scale e B f : ℕ) → B + B ≤ e → scale * e ≤ f → scale * B + scale * B ≤ f
-by_latitude scale e B f h g = omega (arith, mul-le-mul_left scale h, mul-add scale B B)
+by_latitude : (scale x B e f : ℕ) → B + B + e ≤ x → scale * x ≤ f → scale * B + scale * B + scale * e ≤ f
+by_latitude scale x B e f h g =
+    let all : scale * (B + B + e) ≤ scale * x = mul-le-mul_left scale h in
+    let parts : scale * (B + B + e) ≡ scale * (B + B) + scale * e = mul-add scale (B + B) e in
+    let two : scale * (B + B) ≡ scale * B + scale * B = mul-add scale B B in
+    omega arith
 
--- e is the distance D minus at most B
-by_longitude : (n d scale u e D B f : ℕ) → 0 < d → 0 < scale → n * scale ≤ d * u → u ≤ scale → D ≤ e + B →
-    3 * (d * B) ≤ n * D → u * e ≤ f → scale * B + scale * B ≤ f
-by_longitude n d scale u e D B f some unit least most h far g =
+-- x is the distance D minus at most B
+by_longitude : (n d scale u x D B e f : ℕ) → 0 < d → 0 < scale → n * scale ≤ d * u → u ≤ scale → D ≤ x + B →
+    3 * (d * B) + d * e ≤ n * D → u * x ≤ f → scale * B + scale * B + scale * e ≤ f
+by_longitude n d scale u x D B e f some unit least most h far g =
     let few : n ≤ d = le_of_mul-le-mul_left
     (let goal : scale * n ≤ scale * d = omega (arith, mul-le-mul_left d most, mul_comm n scale, mul_comm d scale) in
     goal) unit in
-    let kept : d * B + d * B ≤ n * e = omega (arith, mul-le-mul_left n h, mul-add n e B, mul-le-mul_right B few) in
-    let all : d * (scale * B + scale * B) ≤ d * (u * e) =
-    grind (arith, mul-le-mul_left scale kept, mul-le-mul_right e least) in
+    let kept : d * B + d * B + d * e ≤ n * x = omega (arith, mul-le-mul_left n h, mul-add n x B, mul-le-mul_right B few) in
+    let all : d * (scale * B + scale * B + scale * e) ≤ d * (u * x) =
+    grind (arith, mul-le-mul_left scale kept, mul-le-mul_right x least) in
     omega (arith, le_of_mul-le-mul_left all some)
 
 triangle : (p a b : ℤ) → nat_abs (a -ℤ b) ≤ nat_abs (p -ℤ b) + nat_abs (p -ℤ a)
 triangle p a b = grind (arith, ints)
 
+-- a is the own node's coordinate, and b is so far away in latitude, or in longitude times n / d
+farther : (n d scale e k : ℕ) (far : Measure) (p : ℤ × ℤ) (a b : Coord) → 0 < d → 0 < scale → Weighted n d scale far p a →
+    Weighted n d scale far p b → IsNear k p a
+    → (3 * decoded_bound k + e ≤ nat_abs (a.lat -ℤ b.lat)) ⊎ (3 * (d * decoded_bound k) + d * e ≤ n * nat_abs (a.lon -ℤ b.lon))
+    → far p a + scale * e < far p b
+farther n d scale e k far p a b some unit here there near spaced =
+    let B = decoded_bound k in
+    let own = own_side here.u scale (lon_apart p a) (lat_apart p a) B (far p a) unit here.most near.lon near.lat here.by_both in
+    let next = triangle p.1 a.lat b.lat in
+    let later = triangle p.0 a.lon b.lon in
+    elim spaced [
+      | inl north ↦
+          let over = by_latitude scale (lat_apart p b) B e (far p b) (omega (arith, near.lat)) there.by_lat in omega arith
+      | inr east ↦
+          let over = by_longitude n d scale there.u (lon_apart p b) (nat_abs (a.lon -ℤ b.lon)) B e (far p b) some unit there.least
+          there.most (omega (arith, near.lon)) east there.by_lon in omega arith
+    ]
+
 nearer : (n d scale k : ℕ) (far : Measure) (p : ℤ × ℤ) (a b : Coord) → 0 < d → 0 < scale → Weighted n d scale far p a →
     Weighted n d scale far p b → IsNear k p a → is_spaced n d k a b ≡ true → far p a < far p b
 nearer n d scale k far p a b some unit here there near spaced =
-    let B = decoded_bound k in
-    let own = own_side here.u scale (lon_apart p a) (lat_apart p a) B (far p a) unit here.most near.lon near.lat here.by_both in
-    let north = by_latitude scale (lat_apart p b) B (far p b) in
-    let east = by_longitude n d scale there.u (lon_apart p b) (nat_abs (a.lon -ℤ b.lon)) B (far p b) some unit there.least in
-    let next = triangle p.1 a.lat b.lat in
-    let later = triangle p.0 a.lon b.lon in
-    let also = leb-true (3 * B) (nat_abs (a.lat -ℤ b.lat)) in
-    let more = leb-true (3 * (d * B)) (n * nat_abs (a.lon -ℤ b.lon)) in
-    grind (arith, or_cases (nat_le (3 * B) (nat_abs (a.lat -ℤ b.lat))) _ spaced)
+    let over = farther n d scale 0 k far p a b some unit here there near
+    (elim (or_cases (nat_le (3 * decoded_bound k) (nat_abs (a.lat -ℤ b.lat))) _ spaced) [
+      | inl north ↦ inl (omega (arith, leb-true (3 * decoded_bound k) (nat_abs (a.lat -ℤ b.lat)) north))
+      | inr east ↦ inr (omega (arith, leb-true (3 * (d * decoded_bound k)) (n * nat_abs (a.lon -ℤ b.lon)) east))
+    ]) in
+    omega arith
 
 -- the weighted sum with this cosine
 of_cosine : (n d scale : ℕ) (cosine : Measure) (p : ℤ × ℤ) (c : Coord) → is_cosine n d scale (cosine p c) ≡ true →
@@ -116,7 +139,8 @@ of_cosine n d scale cosine p c h =
       by_both = omega arith;
     }
 
-passed : (p : ℕ → Bool) (xs : List ℕ) → list_all p xs ≡ true → (x : ℕ) → has xs x ≡ true → p x ≡ true
+-- a test that all numbers of a list pass
+pub passed : (p : ℕ → Bool) (xs : List ℕ) → list_all p xs ≡ true → (x : ℕ) → has xs x ≡ true → p x ≡ true
 passed p xs all x h = grind (arith, at_index xs x h, AllPass-from_list_all p xs all)
 
 module _ (n d scale : ℕ) (cosine : Measure) (M : Map) (r : Reference)
@@ -371,3 +395,68 @@ nearest_own M m P is r e n d scale far w = let p = by_answer M P r e in (
   (λ x at. spaced_nearest n d scale far M r w (last_number r) (omega arith) Incoming x
       (known_in M m P is p.0 r p.1 x at) (near_in M m P is p.0 r p.1 x at)),
 )
+
+-- ---- without the decoded coordinate
+
+outdone_of : (slack a b : ℕ) (beyond : Bool) → (a + slack < b) ⊎ ((a ≤ b) × (beyond ≡ true)) →
+    (nat_lt (a + slack) b || nat_le a b && beyond) ≡ true
+outdone_of slack a b beyond (inl lt) = or_left (nat_lt (a + slack) b) _ (lt-ltb (a + slack) b lt)
+outdone_of slack a b beyond (inr both) = or_right (nat_lt (a + slack) b) _ (and_from (nat_le a b) beyond (le-leb a b both.0) both.1)
+
+spaced_either : (n d e k : ℕ) (a b : Coord) → is_spaced_by n d e k a b ≡ true →
+    (3 * decoded_bound k + e ≤ nat_abs (a.lat -ℤ b.lat)) ⊎ (3 * (d * decoded_bound k) + d * e ≤ n * nat_abs (a.lon -ℤ b.lon))
+spaced_either n d e k a b h =
+    elim (or_cases (nat_le (3 * decoded_bound k + e) (nat_abs (a.lat -ℤ b.lat))) _ h) [
+      | inl north ↦ inl (leb-true (3 * decoded_bound k + e) _ north)
+      | inr east ↦ inr (leb-true (3 * (d * decoded_bound k) + d * e) _ east)
+    ]
+
+same_place : (M : Map) (s : Side) (x y : ℕ) → node_on s (leg M y) ≡ node_on s (leg M x) →
+    coordinate_on s (leg M y) ≡ coordinate_on s (leg M x)
+same_place M Outgoing x y e = ap (coord_at M) e
+same_place M Incoming x y e = ap (coord_at M) e
+
+module _ (n d scale e : ℕ) (far : Measure) (M : Map) (r : Reference) (w : IsWeighted n d scale far M r) (k : ℕ)
+    (up : k ≤ last_number r) (s : Side) (x : ℕ) (known : IsTrue (has_line M x))
+    (near : IsNear k (decoded_coord r k) (coordinate_on s (leg M x))) where
+  out : (y : ℕ) → (far (decoded_coord r k) (coordinate_on s (leg M x)) + scale * e < far (decoded_coord r k) (coordinate_on s (leg M y)))
+      ⊎ ((far (decoded_coord r k) (coordinate_on s (leg M x)) ≤ far (decoded_coord r k) (coordinate_on s (leg M y)))
+      × (is_beyond (sector_on s (leg M x)) (direction_on s (leg M y)) ≡ true)) →
+      (y == x || is_outdone far (scale * e) s (decoded_coord r k) (leg M x) (leg M y)) ≡ true
+  out y h = or_right (y == x) _ (outdone_of (scale * e) _ _ _ h)
+
+  other_outdone : (y : ℕ) → IsTrue (has_line M y) →
+      (y == x || is_spaced_by n d e k (coordinate_on s (leg M x)) (coordinate_on s (leg M y))
+      || node_on s (leg M y) == node_on s (leg M x) && is_beyond (sector_on s (leg M x)) (direction_on s (leg M y))) ≡ true →
+      (y == x || is_outdone far (scale * e) s (decoded_coord r k) (leg M x) (leg M y)) ≡ true
+  other_outdone y there t =
+      let spaced_y = is_spaced_by n d e k (coordinate_on s (leg M x)) (coordinate_on s (leg M y)) in
+      let at_node = node_on s (leg M y) == node_on s (leg M x) in
+      let beyond_y = is_beyond (sector_on s (leg M x)) (direction_on s (leg M y)) in
+      elim (or_cases (y == x || spaced_y) (at_node && beyond_y) t) [
+        | inl front ↦ elim (or_cases (y == x) spaced_y front) [
+          | inl same ↦ or_left (y == x) _ same
+          | inr spaced ↦ out y (inl (farther n d scale e k far (decoded_coord r k) (coordinate_on s (leg M x))
+              (coordinate_on s (leg M y)) w.some w.unit (w.all s k x up known) (w.all s k y up there) near (spaced_either n d e k (coordinate_on s (leg M x)) (coordinate_on s (leg M y)) spaced)))
+        ]
+        | inr here ↦
+            let both = and_parts at_node beyond_y here in
+            let place = same_place M s x y (eqb-true _ _ both.0) in
+            let as_far : far (decoded_coord r k) (coordinate_on s (leg M y)) ≡ far (decoded_coord r k) (coordinate_on s (leg M x)) = ap (far (decoded_coord r k)) place in
+            out y (inr (omega arith, both.1))
+      ]
+
+  clear_out : IsTrue (is_clear n d e k s x (leg M x) (candidates M)) →
+      IsTrue (stands_out far (scale * e) s (decoded_coord r k) x (leg M x) (candidates M))
+  clear_out h =
+      let p = and_parts (is_direction (direction_on s (leg M x))) _ h in
+      and_from _ _ p.0 (all_candidates M _ _ other_outdone p.1)
+
+pub clear_stands_out : ClearStandsOut
+clear_stands_out M m P is r enc n d scale e far w out back = let p = by_answer M P r enc in
+    record {
+      outgoing = λ k x h at. clear_out n d scale e far M r w k (omega arith) Outgoing x (known_out M m P is p.0 r p.1 k x h at)
+          (near_out M m P is p.0 r p.1 k x h at) (out k x h at);
+      incoming = λ x at. clear_out n d scale e far M r w (last_number r) (omega arith) Incoming x (known_in M m P is p.0 r p.1 x at)
+          (near_in M m P is p.0 r p.1 x at) (back x at);
+    }

@@ -1,4 +1,6 @@
 pub mod Rows
+pub mod Directions
+pub mod DirectionLaws
 pub mod MapRows
 pub mod CommandLaws
 pub mod CommandRows

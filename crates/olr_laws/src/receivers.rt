@@ -7,7 +7,10 @@ ghost use Rattle.olr_spec.specs.Receiver.{Outgoing, Incoming, candidates, decode
 ghost use Rattle.olr_spec.specs.Recovery.{Distinct, IsWeighted, are_cosines, are_spaced};
 ghost use Rattle.olr_laws.specs.Rows.{leg10, reference1, leg20, leg30, morning_lines, twin_lines, axes_sum, cosine};
 ghost use Rattle.olr_laws.specs.Rows.{by_cosine};
-ghost use Rattle.olr_laws.specs.MapRows.{morning_map, morning_path};
+ghost use Rattle.olr_laws.specs.DirectionLaws;
+ghost use Rattle.olr_laws.specs.Directions.{DistinctByDirection, stands_out};
+ghost use Rattle.olr_laws.specs.MapRows.{morning_map, morning_path, fork_map, fork_path, fork_reference, fork_lines};
+ghost use Rattle.olr_laws.specs.MapRows.{fork10, TakesOther};
 
 /// If the path's own line is distinct at each LRP, every receiver recovers the legs between the
 /// remaining LRPs; offsets are exact within a 256th of a leg. A node is the nearest if the others are
@@ -22,15 +25,37 @@ pub fn laws_of_receivers()
     ensures weighted { Laws.SomeWeighted }
 {}
 
-/// The first worked path on its map: the answer is its reference, which is distinct. By the cosine of the latitude,
+/// Receivers that compare directions, as by degrees, recover the legs too, if at each LRP the path's own line stands out.
+/// The map alone shows where it does. A count of limits that the angle from the middle of the sector exceeds is such a
+/// difference of bearing, and a weighted sum of differences such a preference.
+pub fn laws_of_directions()
+    ensures recovered { DirectionLaws.RecoveredByDirection }
+    ensures clear { DirectionLaws.ClearStandsOut }
+    ensures limits { DirectionLaws.SeesByLimits }
+    ensures weights { DirectionLaws.SomeByWeights }
+{}
+
+/// The first worked path on its map: the answer is its reference, which is distinct for both kinds of receivers; the
+/// slack is 10,000,000 units, 3.4 m of latitude. By the cosine of the latitude,
 /// which is more than 64/100 there, the weighted sum is such a measure as the law of the nearest node asks for.
 pub fn rows_morning()
     ensures sound { IsMap morning_map }
     ensures lines { candidates morning_map ≡ morning_lines }
     ensures answer { Encodes morning_map morning_path (Points reference1) }
     ensures distinct { Distinct axes_sum morning_map morning_path reference1 }
+    ensures by_direction { DistinctByDirection axes_sum 10000000 morning_map morning_path reference1 }
     ensures cosines { are_cosines 64 100 1000000 cosine morning_map reference1 ≡ true }
     ensures weighted { IsWeighted 64 100 1000000 by_cosine morning_map reference1 }
+{}
+
+/// Two lines from one node in one sector, of other classes: the path along one of them is distinct, and yet a receiver
+/// that compares directions takes the other one. To such receivers it doesn't stand out.
+pub fn rows_fork()
+    ensures lines { candidates fork_map ≡ fork_lines }
+    ensures answer { Encodes fork_map fork_path (Points fork_reference) }
+    ensures distinct { Distinct axes_sum fork_map fork_path fork_reference }
+    ensures other { TakesOther }
+    ensures stands_out { stands_out axes_sum 0 Outgoing (decoded_coord fork_reference 0) 10 fork10 fork_lines ≡ false }
 {}
 
 /// The lines at the LRPs of the first worked path, among all lines of its map: each is the nearest

@@ -1,7 +1,7 @@
 use Rattle.std.proofs.Common.{refl, arith}
 use Rattle.olr_laws.specs.MapRows.{morning_nodes, morning_records, morning_map}
 use Rattle.olr_laws.proofs.MapLemmas.{sound, candidates_are}
-use Rattle.olr_laws.proofs.MorningLemmas.{morning_answer, morning_distinct, morning_cosines}
+use Rattle.olr_laws.proofs.MorningLemmas.{morning_answer, morning_distinct, morning_by_direction, morning_cosines}
 use Rattle.olr_laws.proofs.ReceiverLemmas.{some_weighted}
 use Rattle.olr_laws.specs.Rows.{reference1, cosine}
 use Rattle.olr_laws.proofs.receivers.rows_morning.Goals as goal
@@ -23,3 +23,6 @@ returns-clause-cosines c = morning_cosines
 
 pub returns-clause-weighted : goal.returns-clause-weighted
 returns-clause-weighted c = some_weighted 64 100 1000000 cosine morning_map reference1 (omega arith) (omega arith) morning_cosines
+
+pub returns-clause-by_direction : goal.returns-clause-by_direction
+returns-clause-by_direction c = morning_by_direction

@@ -1,0 +1,134 @@
+-- Two lines in one sector, of other classes.
+use Rattle.olr_spec.proofs.Common.{ℤ, pos, ◌-ℤ◌, ◌*◌, nat_abs, nat_lt, ints, not, not-true, ◌≡◌, ℕ, ◌≤◌, true, false, [], ◌∷◌, refl, ap, ◌∙◌, subst, IsTrue, arith}
+use Rattle.olr_spec.proofs.Common.{Map, IsMap, has_line, start, end, dm, passing, Candidate, To_end}
+use Rattle.olr_spec.proofs.Common.{Points, Encodes, reference, Leg, leg, fit16, candidates}
+use Rattle.olr_spec.specs.Receiver.{Outgoing, Incoming, decoded_coord, Lrp, lrp_at}
+use Rattle.olr_spec.specs.Recovery.{Distinct, DistinctAt}
+use Rattle.olr_laws.specs.Rows.{axes_sum}
+use Rattle.olr_laws.specs.MapRows.{fork_map, fork_path, fork_nodes, fork_records, fork_lines, fork_reference, fork10, fork11, degrees10, TakesOther}
+use Rattle.olr_laws.specs.Directions.{DirectionReceiver, TakesByDirection, exceeded, rating_by, weighted, SeesDirections}
+use Rattle.olr_laws.proofs.MapLemmas.{leg_in, sound, has_line_is, leg_is, passing_is, candidates_are, each_line}
+use Rattle.olr_laws.proofs.RowLemmas.{IsRow, encodes, distinct_at}
+use Rattle.olr_laws.proofs.AngleLemmas.{sees_by_limits}
+use Rattle.olr_laws.proofs.DirectionLemmas.{by_weights}
+use Rattle.olr_laws.proofs.ReceiverLemmas.{apart}
+
+record IsFork (M : Map) : Type 0 where
+  sound : IsMap M
+  has10 : IsTrue (has_line M 10)
+  is10 : leg M 10 ≡ fork10
+  all : candidates M ≡ fork_lines
+  valid1 : passing M 1 ≡ false
+  valid2 : passing M 2 ≡ false
+
+is_fork : IsFork fork_map
+is_fork =
+    record {
+      sound = sound fork_nodes fork_records tt tt refl refl;
+      has10 = has_line_is fork_nodes fork_records tt tt 10;
+      is10 = leg_is fork_nodes fork_records tt tt 10;
+      all = candidates_are fork_nodes fork_records tt tt;
+      valid1 = passing_is fork_nodes fork_records tt tt 1;
+      valid2 = passing_is fork_nodes fork_records tt tt 2;
+    }
+
+module _ (M : Map) (is : IsFork M) where
+  from10 : start M 10 ≡ 1
+  from10 = ap (λ (g : Leg). g.line.from) is.is10
+
+  to10 : end M 10 ≡ 2
+  to10 = ap (λ (g : Leg). g.line.to) is.is10
+
+  dm_is : dm M 10 ≡ 4890
+  dm_is = ap (λ (g : Leg). g.line.len) is.is10
+
+  leg_fits : Candidate M (10 ∷ []) 0 1
+  leg_fits =
+      record {
+        after = omega arith;
+        upto = omega arith;
+        covered = λ lt. absurd (omega arith);
+        near = omega (arith, dm_is);
+        fits = λ i. fit16 (is.is10 i).begin (is.is10 i).finish;
+      }
+
+  row : IsRow M fork_path (1 ∷ []) (fork10 ∷ []) fork_lines fork_reference
+  row =
+      record {
+        sound = is.sound;
+        is = refl;
+        none = simp (is.has10, dm_is);
+        starts = ap (passing M) from10 ∙ is.valid1;
+        ends = ap (passing M) to10 ∙ is.valid2;
+        follow = (To_end refl leg_fits, λ j c. omega (arith, c.after, c.upto));
+        along = λ i. is.is10 i ∷ [];
+        all = is.all;
+        answer = λ i. Points (reference (is.is10 i ∷ []) 0 0 (1 ∷ []));
+      }
+
+  distinct : Distinct axes_sum M fork_path fork_reference
+  distinct =
+      record {
+        outgoing = λ k lt. let first : 0 ≡ k = omega arith in
+            subst (λ (k : ℕ). DistinctAt axes_sum M fork_path Outgoing k (decoded_coord fork_reference k)) first
+            (distinct_at M _ _ _ _ _ row Outgoing 0 10 fork10 refl is.is10 axes_sum refl refl);
+        incoming = distinct_at M _ _ _ _ _ row Incoming 1 10 fork10 refl is.is10 axes_sum refl refl;
+      }
+
+pub fork_answer : Encodes fork_map fork_path (Points fork_reference)
+fork_answer = encodes fork_map _ _ _ _ _ (row fork_map is_fork)
+
+pub fork_distinct : Distinct axes_sum fork_map fork_path fork_reference
+fork_distinct = distinct fork_map is_fork
+
+-- ---- a receiver by degrees
+
+no_change : (z : ℤ) → 200 * nat_abs (z -ℤ z) ≤ nat_abs z
+no_change z = let none : z -ℤ z ≡ pos 0 = omega (arith, ints) in omega (arith, ap nat_abs none)
+
+by_degrees : SeesDirections (exceeded degrees10) 5
+by_degrees =
+    sees_by_limits degrees10 105104 refl (omega arith) (omega arith) (λ v. v)
+    (λ v. record { east = no_change v.east; north = no_change v.north })
+
+nearest_same : (a b : ℕ) → apart a a ≤ apart a b
+nearest_same a b = omega arith
+
+abbrev other : DirectionReceiver
+other =
+    by_weights axes_sum 5 5 apart apart (λ c. exceeded degrees10) nearest_same nearest_same (λ c. by_degrees)
+    (record { far = 1; frc = 1; fow = 1; bearing = 1 }) (omega arith, omega arith, omega arith, omega arith) (omega arith)
+
+abbrev at_first : Lrp
+at_first = lrp_at fork_reference 0 fork_reference.first.attrs
+
+abbrev sum_of : Leg → ℕ
+sum_of g = weighted (record { far = 1; frc = 1; fow = 1; bearing = 1 }) (rating_by other at_first g)
+
+abbrev leg_of : ℕ → Leg
+leg_of x = leg_in fork_nodes fork_records x
+
+leg_of_is : (x : ℕ) → leg fork_map x ≡ leg_of x
+leg_of_is = leg_is fork_nodes fork_records tt tt
+
+has11 : IsTrue (has_line fork_map 11)
+has11 = has_line_is fork_nodes fork_records tt tt 11
+
+takes11 : TakesByDirection other fork_map at_first 11
+takes11 =
+    record {
+      known = has11;
+      best = λ y h. (λ i. nat_lt (sum_of (leg_of_is y i)) (sum_of (leg_of_is 11 i)))
+          ∙ not-true (nat_lt (sum_of (leg_of y)) (sum_of fork11))
+          (each_line fork_nodes fork_records tt tt (λ y. not (nat_lt (sum_of (leg_of y)) (sum_of fork11))) refl y h);
+    }
+
+not10 : ¬ TakesByDirection other fork_map at_first 10
+not10 k =
+    let worse : nat_lt (sum_of (leg fork_map 11)) (sum_of (leg fork_map 10)) ≡ true =
+    λ i. nat_lt (sum_of (leg_of_is 11 i)) (sum_of (leg_of_is 10 i)) in
+    let best = k.best 11 has11 in
+    cc (worse, best)
+
+pub takes_other : TakesOther
+takes_other = (other, refl, refl, takes11, not10)

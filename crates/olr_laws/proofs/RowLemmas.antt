@@ -1,0 +1,126 @@
+-- A path of a worked row, to which nothing is added: its answer, and its lines at the LRPs.
+use Rattle.olr_spec.proofs.Common.{◌≡◌, ℕ, ◌+◌, Bool, true, false, List, [], ◌∷◌, ◌++◌, refl, sym, ap, ◌∙◌, subst, IsTrue, arith, Some, None, cond, append-nil, add-zero}
+use Rattle.olr_spec.proofs.Common.{Map, IsMap, start, end, passing, first, last, dm_of, Path, StartRun, EndRun, LongestStart, LongestEnd, Tried, extended_path, path_fault, is_path}
+use Rattle.olr_spec.proofs.Common.{Follow, Points, Encodes, Encoding, Leg, leg, legs, answer_by_points, Option, Refusal, Refused, MatchOption, Reference}
+use Rattle.olr_spec.proofs.Common.{Side, Measure, candidates, option_map, slice_get, kept_points, is_nearest, has_no_twin}
+use Rattle.olr_spec.proofs.Facts.{path_at}
+use Rattle.olr_spec.specs.Extension.{MayPrecede}
+use Rattle.olr_spec.specs.Receiver.{decoded_coord}
+use Rattle.olr_spec.specs.Recovery.{IsLineAt, line_by, DistinctAt}
+use Rattle.olr_laws.specs.Directions.{stands_out}
+
+-- ---- ends at valid nodes
+
+-- no line leads to the lines ls or on from them
+no_start_run : (M : Map) (ls : List ℕ) → passing M (start M (first ls)) ≡ false → (c : List ℕ) → StartRun M c ls → c ≡ []
+no_start_run M ls h [] r = refl
+no_start_run M ls h (x ∷ c) r = absurd (none c x r.0 r.1)
+  where
+    none : (c : List ℕ) (x : ℕ) → MayPrecede M x (c ++ ls) → StartRun M c ls → ⊥
+    none [] x p r =
+        let t : passing M (start M (first ls)) ≡ true = subst (λ (v : ℕ). IsTrue (passing M v)) p.joins p.through in cc (t, h)
+    none (y ∷ c) x p r = none c y r.0 r.1
+
+no_end_run : (M : Map) (ls : List ℕ) → passing M (end M (last ls)) ≡ false → (c : List ℕ) → EndRun M ls c → c ≡ []
+no_end_run M ls h [] r = refl
+no_end_run M ls h (x ∷ c) r =
+    let p = r.0 in
+    let t : passing M (end M (last ls)) ≡ true = subst (λ (v : ℕ). IsTrue (passing M v)) p.joins p.through in
+    absurd (let never : ⊥ = cc (t, h) in never)
+
+longest_start : (M : Map) (ls : List ℕ) → passing M (start M (first ls)) ≡ false → LongestStart M [] ls
+longest_start M ls h =
+    record { run = tt; within = omega arith; longest = λ d r w. omega (arith, ap (dm_of M) (no_start_run M ls h d r)) }
+
+longest_end : (M : Map) (ls : List ℕ) → passing M (end M (last ls)) ≡ false → LongestEnd M ls []
+longest_end M ls h =
+    record { run = tt; within = omega arith; longest = λ d r w. omega (arith, ap (dm_of M) (no_end_run M ls h d r)) }
+
+cond_same : (b : Bool) (xs : List ℕ) → cond b xs xs ≡ xs
+cond_same true xs = refl
+cond_same false xs = refl
+
+not_extended : (M : Map) (P : Path) → extended_path M P [] [] ≡ P
+not_extended M P =
+    let from = cond_same (passing M (start M (first P.lines))) [] in
+    let to = λ (xs : List ℕ). cond_same (passing M (end M (last ((xs ++ P.lines) ++ [])))) [] in
+    let whole : extended_path M P [] [] ≡ record { lines = P.lines ++ []; pos = P.pos + 0; neg = P.neg + 0 } =
+    λ i. record {
+      lines = (from i ++ P.lines) ++ to (from i) i;
+      pos = P.pos + dm_of M (from i);
+      neg = P.neg + dm_of M (to (from i) i);
+    } in
+    whole ∙ (λ i. record { lines = append-nil P.lines i; pos = add-zero P.pos i; neg = add-zero P.neg i })
+
+-- ---- the row
+
+-- a path of lines gs among the lines cs of a map, with the LRPs 0 and js and the reference r
+pub record IsRow (M : Map) (P : Path) (js : List ℕ) (gs : List Leg) (cs : List (ℕ × Leg)) (r : Reference) : Type 0 where
+  pub sound : IsMap M
+  pub is : IsTrue (is_path P.lines)
+  pub none : path_fault M P ≡ None
+  pub starts : passing M (start M (first P.lines)) ≡ false
+  pub ends : passing M (end M (last P.lines)) ≡ false
+  pub follow : Follow M P.lines 0 js
+  pub along : legs M P.lines ≡ gs
+  pub all : candidates M ≡ cs
+  pub answer : answer_by_points M P js ≡ Points r
+
+module _ (M : Map) (P : Path) (js : List ℕ) (gs : List Leg) (cs : List (ℕ × Leg)) (r : Reference) (w : IsRow M P js gs cs r) where
+  tried : Tried M P [] []
+  tried =
+      record {
+        before = longest_start M P.lines w.starts;
+        after =
+            subst (λ (xs : List ℕ). LongestEnd M (xs ++ P.lines) []) (sym (cond_same (passing M (start M (first P.lines))) []))
+            (longest_end M P.lines w.ends);
+      }
+
+  encoding : Encoding M P (Points r)
+  encoding =
+      record {
+        before = [];
+        after = [];
+        points = js;
+        tried = tried;
+        follow = subst (λ (E : Path). Follow M E.lines 0 js) (sym (not_extended M P)) w.follow;
+        holds = sym (ap (λ (E : Path). answer_by_points M E js) (not_extended M P) ∙ w.answer);
+      }
+
+  pub encodes : Encodes M P (Points r)
+  encodes =
+      subst (λ (o : Option Refusal). MatchOption o (Encoding M P (Points r)) (λ f. Points r ≡ Refused f)) (sym w.none)
+      encoding
+
+  -- the path's line at an LRP
+  line_found : (s : Side) (k x : ℕ) → IsLineAt M P s k x →
+      option_map (line_by s P.lines) (slice_get (kept_points gs P.pos P.neg js) k) ≡ Some x
+  unfolding encoding
+  line_found s k x at =
+      let there = path_at w.sound w.is w.none encoding at in
+      ap (λ (gs : List Leg). option_map (line_by s P.lines) (slice_get (kept_points gs P.pos P.neg js) k)) (sym w.along)
+      ∙ ap (λ (E : Path). option_map (line_by s E.lines) (slice_get (kept_points (legs M E.lines) E.pos E.neg js) k)) (sym (not_extended M P))
+      ∙ there
+
+  module _ (s : Side) (k y : ℕ) (g : Leg) (on : option_map (line_by s P.lines) (slice_get (kept_points gs P.pos P.neg js) k) ≡ Some y)
+      (is_g : leg M y ≡ g) (far : Measure) where
+    same : (x : ℕ) → IsLineAt M P s k x → y ≡ x
+    same x at = let there = line_found s k x at in cc (there, on)
+
+    -- line y is distinct at LRP k, by the lines of the map
+    pub distinct_at : is_nearest far s (decoded_coord r k) g cs ≡ true → has_no_twin s y g cs ≡ true →
+        DistinctAt far M P s k (decoded_coord r k)
+    distinct_at near none =
+        record {
+          nearest = λ x at. subst (λ (x : ℕ). IsTrue (is_nearest far s (decoded_coord r k) (leg M x) (candidates M))) (same x at)
+              ((λ i. is_nearest far s (decoded_coord r k) (is_g i) (w.all i)) ∙ near);
+          alone = λ x at. subst (λ (x : ℕ). IsTrue (has_no_twin s x (leg M x) (candidates M))) (same x at)
+              ((λ i. has_no_twin s y (is_g i) (w.all i)) ∙ none);
+        }
+
+    -- it stands out
+    pub stands_at : (slack : ℕ) → stands_out far slack s (decoded_coord r k) y g cs ≡ true → (x : ℕ) → IsLineAt M P s k x →
+        IsTrue (stands_out far slack s (decoded_coord r k) x (leg M x) (candidates M))
+    stands_at slack out x at =
+        subst (λ (x : ℕ). IsTrue (stands_out far slack s (decoded_coord r k) x (leg M x) (candidates M))) (same x at)
+        ((λ i. stands_out far slack s (decoded_coord r k) y (is_g i) (w.all i)) ∙ out)

@@ -1,0 +1,178 @@
+-- Receivers that compare directions, and when each of them recovers a path.
+--     direction_on s g      the direction of a candidate at its node
+--     margin_start k, margin_end k, is_beyond k v      sector k with a margin of a quarter of a sector on both sides; v is
+--         a direction outside of it
+--     SeesDirections apart reach      a difference of at most the reach for each direction in a sector, and of more than
+--         the reach beyond its margin
+--     DirectionReceiver, TakesByDirection D M t x      a receiver with such a difference; it may choose line x for the LRP t
+--     stands_out far slack s p x g cs      every other candidate is farther by more than the slack, or no nearer and
+--         beyond the margin
+--     DistinctByDirection far slack M P r      the path's own line at each LRP has a direction, and stands out
+--     is_clear n d e k s x g cs      the same by the map alone, without the decoded coordinate
+use Rattle.std.specs.Prelude.{ℕ, suc, ◌+◌, ◌*◌, ◌%◌, ◌+ℤ◌, ◌-ℤ◌, ◌*ℤ◌, int_lt, if◌then◌else◌, ◌<◌, ◌≤◌, ℤ, pos, negsuc, nat_abs, Bool, not, ◌&&◌, ◌||◌, ◌==◌, nat_le, nat_lt}
+use Rattle.std.specs.Prelude.{List, [], ◌∷◌, slice_index_or, IsTrue, IsFalse}
+use Rattle.std.specs.List.{list_all}
+use Rattle.olr_spec.specs.Coordinates.{Coord}
+use Rattle.olr_spec.specs.Map.{Map, has_line}
+use Rattle.olr_spec.specs.Extension.{Path}
+use Rattle.olr_spec.specs.Bearings.{Leg, Vector, vector, beyond, direction_out, direction_back, quarters, IsSector, lies_between}
+use Rattle.olr_spec.specs.Reference.{Reference, leg}
+use Rattle.olr_spec.specs.Decoded.{decoded_bound}
+use Rattle.olr_spec.specs.Receiver.{Side, Outgoing, Incoming, node_on, coordinate_on, sector_on, Lrp, Measure, Rating, NowhereWorse}
+use Rattle.olr_spec.specs.Receiver.{SomewhereBetter, candidates, decoded_coord, last_number}
+use Rattle.olr_spec.specs.Recovery.{IsLineAt}
+
+abbrev pub direction_on : Side → Leg → Vector
+direction_on Outgoing g = direction_out g
+direction_on Incoming g = direction_back g
+
+-- ---- sectors with margins
+
+-- 2.8125 degrees before the boundaries 0 to 7, and after them, as vectors of whole numbers
+abbrev pub first_before : List Vector
+first_before =
+    vector (negsuc 49126) (pos 1000000) ∷ vector (pos 148336) (pos 1000000) ∷ vector (pos 357806) (pos 1000000)
+    ∷ vector (pos 599377) (pos 1000000) ∷ vector (pos 906347) (pos 1000000) ∷ vector (pos 1000000) (pos 741651)
+    ∷ vector (pos 1000000) (pos 472965) ∷ vector (pos 1000000) (pos 250487) ∷ []
+
+abbrev pub first_after : List Vector
+first_after =
+    vector (pos 49127) (pos 1000000) ∷ vector (pos 250487) (pos 1000000) ∷ vector (pos 472965) (pos 1000000)
+    ∷ vector (pos 741651) (pos 1000000) ∷ vector (pos 1000000) (pos 906347) ∷ vector (pos 1000000) (pos 599377)
+    ∷ vector (pos 1000000) (pos 357806) ∷ vector (pos 1000000) (pos 148336) ∷ []
+
+-- a quarter of a sector before sector k, and after it
+abbrev pub margin_start : ℕ → Vector
+margin_start k = slice_index_or (quarters 4 first_before) k (vector (pos 0) (pos 0))
+
+abbrev pub margin_end : ℕ → Vector
+margin_end k = slice_index_or (quarters 4 first_after) (suc k % 32) (vector (pos 0) (pos 0))
+
+-- (0, 0) is no direction
+abbrev pub is_direction : Vector → Bool
+is_direction v = not (nat_abs v.east == 0 && nat_abs v.north == 0)
+
+-- neither in sector k nor in its margin
+abbrev pub is_beyond : ℕ → Vector → Bool
+is_beyond k v = is_direction v && not (lies_between (margin_start k) (margin_end k) v)
+
+-- ---- the angle from the middle of a sector
+
+-- 5.625 degrees after the boundaries 0 to 7
+abbrev pub first_middle : List Vector
+first_middle =
+    vector (pos 98491) (pos 1000000) ∷ vector (pos 303347) (pos 1000000) ∷ vector (pos 534511) (pos 1000000)
+    ∷ vector (pos 820679) (pos 1000000) ∷ vector (pos 1000000) (pos 820679) ∷ vector (pos 1000000) (pos 534511)
+    ∷ vector (pos 1000000) (pos 303347) ∷ vector (pos 1000000) (pos 98491) ∷ []
+
+abbrev pub middle : ℕ → Vector
+middle k = slice_index_or (quarters 4 first_middle) k (vector (pos 0) (pos 0))
+
+-- how far v leads along a direction m, and across it to either side
+abbrev pub along : Vector → Vector → ℤ
+along m v = v.east *ℤ m.east +ℤ v.north *ℤ m.north
+
+abbrev pub across : Vector → Vector → ℕ
+across m v = nat_abs (beyond m v)
+
+-- the angle between m and v has a tangent of at most t / 1000000
+abbrev pub is_within : ℕ → Vector → Vector → Bool
+is_within t m v = int_lt (pos 0) (along m v) && nat_le (1000000 * across m v) (t * nat_abs (along m v))
+
+abbrev pub count_where : (ℕ → Bool) → List ℕ → ℕ
+count_where test [] = 0
+count_where test (x ∷ xs) = (if test x then 1 else 0) + count_where test xs
+
+-- the number of the limits ts, tangents in millionths, that the angle from the middle of sector k exceeds
+abbrev pub exceeded : List ℕ → ℕ → Vector → ℕ
+exceeded ts k v = count_where (λ t. not (is_within t (middle k) v)) ts
+
+-- w is v, but for at most a 200th of each part: the direction with a slightly different cosine
+pub record IsNearly (v w : Vector) : Type 0 where
+  pub east : 200 * nat_abs (w.east -ℤ v.east) ≤ nat_abs v.east
+  pub north : 200 * nat_abs (w.north -ℤ v.north) ≤ nat_abs v.north
+
+-- ---- receivers
+
+-- the difference of a direction from the sector of an LRP
+pub record SeesDirections (apart : ℕ → Vector → ℕ) (reach : ℕ) : Type 0 where
+  pub inside : (k : ℕ) (v : Vector) → IsSector v.east v.north k → apart k v ≤ reach
+  pub outside : (k : ℕ) (v : Vector) → k < 32 → IsTrue (is_beyond k v) → reach < apart k v
+
+-- no value is nearer than the equal one
+abbrev pub SameIsNearest : (ℕ → ℕ → ℕ) → Type 0
+SameIsNearest apart = (a b : ℕ) → apart a a ≤ apart a b
+
+-- any measure, any differences of FRC and FOW by which no other value is nearer than the same one, a difference of bearing
+-- that may depend on where the candidate is, and any preference by which a candidate that is nowhere worse and somewhere
+-- better is preferred. One that is nearer by more than the slack is preferred, too, if its FRC and FOW are no worse and
+-- its bearing differs by at most the reach: so much the distance counts beside the bearing
+pub record DirectionReceiver : Type 0 where
+  pub far : Measure
+  pub slack : ℕ
+  pub reach : ℕ
+  pub frc_apart : ℕ → ℕ → ℕ
+  pub fow_apart : ℕ → ℕ → ℕ
+  pub bearing_apart : Coord → ℕ → Vector → ℕ
+  pub prefers : Rating → Rating → Bool
+  pub frcs : SameIsNearest frc_apart
+  pub fows : SameIsNearest fow_apart
+  pub bearings : (c : Coord) → SeesDirections (bearing_apart c) reach
+  pub monotone : (a b : Rating) → NowhereWorse a b → SomewhereBetter a b → IsTrue (prefers a b)
+  pub nearer : (a b : Rating) → a.far + slack < b.far → a.frc ≤ b.frc → a.fow ≤ b.fow → a.bearing ≤ reach →
+      IsTrue (prefers a b)
+  pub strict : (a b : Rating) → IsTrue (prefers a b) → IsFalse (prefers b a)
+
+abbrev pub rating_by : DirectionReceiver → Lrp → Leg → Rating
+rating_by D t g =
+    record {
+      far = D.far t.place (coordinate_on t.side g);
+      frc = D.frc_apart t.frc g.line.frc;
+      fow = D.fow_apart t.fow g.line.fow;
+      bearing = D.bearing_apart (coordinate_on t.side g) t.bearing (direction_on t.side g);
+    }
+
+-- no candidate is preferred to line x
+pub record TakesByDirection (D : DirectionReceiver) (M : Map) (t : Lrp) (x : ℕ) : Type 0 where
+  pub known : IsTrue (has_line M x)
+  pub best : (y : ℕ) → IsTrue (has_line M y) → IsFalse (D.prefers (rating_by D t (leg M y)) (rating_by D t (leg M x)))
+
+-- a sum of the differences with weights
+abbrev pub weighted : Rating → Rating → ℕ
+weighted w a = w.far * a.far + w.frc * a.frc + w.fow * a.fow + w.bearing * a.bearing
+
+-- ---- where the path's own candidate stands out
+
+-- a candidate h beside the own one, g: it is farther from p by more than the slack, or it is no nearer, and its direction
+-- is outside of the sector of g and its margin
+abbrev pub is_outdone : Measure → ℕ → Side → ℤ × ℤ → Leg → Leg → Bool
+is_outdone far slack s p g h =
+    nat_lt (far p (coordinate_on s g) + slack) (far p (coordinate_on s h))
+    || nat_le (far p (coordinate_on s g)) (far p (coordinate_on s h)) && is_beyond (sector_on s g) (direction_on s h)
+
+abbrev pub stands_out : Measure → ℕ → Side → ℤ × ℤ → ℕ → Leg → List (ℕ × Leg) → Bool
+stands_out far slack s p x g cs =
+    is_direction (direction_on s g) && list_all (λ c. c.0 == x || is_outdone far slack s p g c.1) cs
+
+-- at each LRP of the reference r
+pub record DistinctByDirection (far : Measure) (slack : ℕ) (M : Map) (P : Path) (r : Reference) : Type 0 where
+  pub outgoing : (k x : ℕ) → k < last_number r → IsLineAt M P Outgoing k x →
+      IsTrue (stands_out far slack Outgoing (decoded_coord r k) x (leg M x) (candidates M))
+  pub incoming : (x : ℕ) → IsLineAt M P Incoming (last_number r) x →
+      IsTrue (stands_out far slack Incoming (decoded_coord r (last_number r)) x (leg M x) (candidates M))
+
+-- ---- where the map alone shows it
+
+-- by e units more than in is_spaced
+abbrev pub is_spaced_by : ℕ → ℕ → ℕ → ℕ → Coord → Coord → Bool
+is_spaced_by n d e k a b =
+    nat_le (3 * decoded_bound k + e) (nat_abs (a.lat -ℤ b.lat))
+    || nat_le (3 * (d * decoded_bound k) + d * e) (n * nat_abs (a.lon -ℤ b.lon))
+
+-- the node of every other candidate is so far away, or it is the same node, and the candidate's direction is outside of the
+-- sector of g and its margin
+abbrev pub is_clear : ℕ → ℕ → ℕ → ℕ → Side → ℕ → Leg → List (ℕ × Leg) → Bool
+is_clear n d e k s x g cs =
+    is_direction (direction_on s g)
+    && list_all (λ c. c.0 == x || is_spaced_by n d e k (coordinate_on s g) (coordinate_on s c.1)
+    || node_on s c.1 == node_on s g && is_beyond (sector_on s g) (direction_on s c.1)) cs
