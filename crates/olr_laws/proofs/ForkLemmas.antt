@@ -10,6 +10,8 @@ use Rattle.olr_laws.specs.Directions.{DirectionReceiver, TakesByDirection, excee
 use Rattle.olr_laws.proofs.MapLemmas.{leg_in, sound, has_line_is, leg_is, passing_is, candidates_are, each_line}
 use Rattle.olr_laws.proofs.RowLemmas.{IsRow, encodes, distinct_at}
 use Rattle.olr_laws.proofs.AngleLemmas.{sees_by_limits}
+use Rattle.olr_spec.proofs.Common.{has, List}
+use Rattle.olr_laws.specs.Directions.{count_where}
 use Rattle.olr_laws.proofs.DirectionLemmas.{by_weights}
 use Rattle.olr_laws.proofs.ReceiverLemmas.{apart}
 
@@ -86,10 +88,16 @@ fork_distinct = distinct fork_map is_fork
 no_change : (z : ℤ) → 200 * nat_abs (z -ℤ z) ≤ nat_abs z
 no_change z = let none : z -ℤ z ≡ pos 0 = omega (arith, ints) in omega (arith, ap nat_abs none)
 
-by_degrees : SeesDirections (exceeded degrees10) 5
-by_degrees =
-    sees_by_limits degrees10 105104 refl (omega arith) (omega arith) (λ v. v)
+sees : (ts : List ℕ) → IsTrue (has ts 105104) → SeesDirections (exceeded ts) (count_where (λ u. nat_lt u 104000) ts)
+sees ts six =
+    sees_by_limits ts 105104 six (omega arith) (omega arith) (λ v. v)
     (λ v. record { east = no_change v.east; north = no_change v.north })
+
+pub by_scores : SeesDirections (exceeded (105104 ∷ 212557 ∷ 324920 ∷ [])) 0
+by_scores = sees (105104 ∷ 212557 ∷ 324920 ∷ []) refl
+
+pub by_degrees : SeesDirections (exceeded degrees10) 5
+by_degrees = sees degrees10 refl
 
 nearest_same : (a b : ℕ) → apart a a ≤ apart a b
 nearest_same a b = omega arith

@@ -123,7 +123,7 @@ module _ (M : Map) (is : IsMorning M) where
   )
 
   no_fault : path_fault M morning_path ≡ None
-  no_fault = simp (is.has10, is.has20, is.has30, from10, to10, from20, to20, from30, to30, dm_are.0, dm_are.1, dm_are.2)
+  no_fault = simp (is.has10, is.has20, is.has30, to10, from20, to20, from30, dm_are.0, dm_are.1, dm_are.2)
 
   row : IsRow M morning_path (1 ∷ 3 ∷ []) legs1 morning_lines reference1
   row =

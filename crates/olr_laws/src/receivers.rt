@@ -1,16 +1,18 @@
 //! The laws of receivers, and worked rows of candidates.
-ghost use Rattle.std.specs.Prelude.{◌≡◌, ℕ, true, false};
+ghost use Rattle.std.specs.Prelude.{◌≡◌, ℕ, pos, negsuc, [], ◌∷◌, true, false};
 ghost use Rattle.olr_spec.specs.Laws;
 ghost use Rattle.olr_spec.specs.Map.{IsMap};
+ghost use Rattle.olr_spec.specs.Bearings.{vector};
 ghost use Rattle.olr_spec.specs.Encoding.{Encodes, Points};
 ghost use Rattle.olr_spec.specs.Receiver.{Outgoing, Incoming, candidates, decoded_coord, is_nearest, has_no_twin};
 ghost use Rattle.olr_spec.specs.Recovery.{Distinct, IsWeighted, are_cosines, are_spaced};
 ghost use Rattle.olr_laws.specs.Rows.{leg10, reference1, leg20, leg30, morning_lines, twin_lines, axes_sum, cosine};
 ghost use Rattle.olr_laws.specs.Rows.{by_cosine};
 ghost use Rattle.olr_laws.specs.DirectionLaws;
-ghost use Rattle.olr_laws.specs.Directions.{DistinctByDirection, stands_out};
+ghost use Rattle.olr_laws.specs.Directions.{DistinctByDirection, SeesDirections, exceeded, is_beyond, is_within, middle};
+ghost use Rattle.olr_laws.specs.Directions.{stands_out};
 ghost use Rattle.olr_laws.specs.MapRows.{morning_map, morning_path, fork_map, fork_path, fork_reference, fork_lines};
-ghost use Rattle.olr_laws.specs.MapRows.{fork10, TakesOther};
+ghost use Rattle.olr_laws.specs.MapRows.{fork10, degrees10, TakesOther};
 
 /// If the path's own line is distinct at each LRP, every receiver recovers the legs between the
 /// remaining LRPs; offsets are exact within a 256th of a leg. A node is the nearest if the others are
@@ -56,6 +58,22 @@ pub fn rows_fork()
     ensures distinct { Distinct axes_sum fork_map fork_path fork_reference }
     ensures other { TakesOther }
     ensures stands_out { stands_out axes_sum 0 Outgoing (decoded_coord fork_reference 0) 10 fork10 fork_lines ≡ false }
+{}
+
+/// Directions beside the margin of sector 4, which is from 42.1875 to 59.0625 degrees, and at most 6 degrees from its
+/// middle. Scores by 6, 12 and 18 degrees don't tell directions in a sector apart; whole degrees tell five.
+pub fn rows_margin()
+    ensures start { is_beyond 4 (vector (pos 906347) (pos 1000000)) ≡ false }
+    ensures before_start { is_beyond 4 (vector (pos 906346) (pos 1000000)) ≡ true }
+    ensures before_end { is_beyond 4 (vector (pos 1000000) (pos 599378)) ≡ false }
+    ensures end { is_beyond 4 (vector (pos 1000000) (pos 599377)) ≡ true }
+    ensures behind { is_beyond 4 (vector (negsuc 0) (negsuc 0)) ≡ true }
+    ensures nowhere { is_beyond 4 (vector (pos 0) (pos 0)) ≡ false }
+    ensures past_north { is_beyond 31 (vector (pos 49126) (pos 1000000)) ≡ false }
+    ensures at_46 { is_within 105104 (middle 4) (vector (pos 1035500) (pos 1000000)) ≡ true }
+    ensures at_44 { is_within 105104 (middle 4) (vector (pos 965700) (pos 1000000)) ≡ false }
+    ensures scores { SeesDirections (exceeded (105104 ∷ 212557 ∷ 324920 ∷ [])) 0 }
+    ensures degrees { SeesDirections (exceeded degrees10) 5 }
 {}
 
 /// The lines at the LRPs of the first worked path, among all lines of its map: each is the nearest
