@@ -3,7 +3,8 @@ _olr_keep() {
     local options
     COMPREPLY=()
     if [[ $2 == -* ]]; then
-        options=$("$1" --help 2> /dev/null | sed -nE 's/^ +(-[^ ].*)/\1/; s/^(-[^ ].*)  .*/\1/; /^-/p' | grep -oE -- '--?[A-Za-z][a-z-]*' | sort -u)
+        options=$("$1" --help 2> /dev/null | sed -nE 's/^ +(-[^ ].*)/\1/; s/^(-[^ ].*)  .*/\1/; /^-/p' |
+            grep -oE -- '--?[A-Za-z][a-z-]*' | sort -u)
         mapfile -t COMPREPLY < <(compgen -W "$options" -- "$2")
     fi
 }
