@@ -6,6 +6,7 @@
         browser.value("document.activeElement.id")
 """
 import base64
+import contextlib
 import fcntl
 import json
 import os
@@ -123,7 +124,14 @@ class Browser:
         return self
 
     def __exit__(self, *_):
+        # A browser that is killed leaves processes that still write to its profile.
+        self.session = None
+        with contextlib.suppress(RuntimeError, OSError):
+            self.call("Browser.close")
         os.close(self.to)
         os.close(self.back)
-        self.process.kill()
-        self.process.wait()
+        try:
+            self.process.wait(SECONDS)
+        except subprocess.TimeoutExpired:
+            self.process.kill()
+            self.process.wait()
