@@ -44,7 +44,7 @@ module _ {A : Type 0} (P : A → Type 0) where
       inl (h.0, (r.0, r.1 ++ vs, r.2, collect_both Q xs ys r.1 vs r.3 k, rw r.4 (append_assoc r.0 r.1 vs)))
   collect_both Q (x ∷ xs) ys us vs (inr h) k = inr (h.0, collect_both Q xs ys us vs h.1 k)
 
-abbrev no_totals : Totals
+abbrev pub no_totals : Totals
 no_totals = record { affected = 0; spared = 0; queries = [] }
 
 abbrev both : Totals → Totals → Totals
@@ -67,7 +67,7 @@ module _ (N : Map) (t u : Totals) (a b c : Work) (j k l : ℕ) where
     searched = searched_more N t.queries u.queries a b c g.searched h.searched;
   }
 
-counted_none : (N : Map) (w : Work) (n : ℕ) → AreCounted N no_totals w w n n
+pub counted_none : (N : Map) (w : Work) (n : ℕ) → AreCounted N no_totals w w n n
 counted_none N w n = record { encodings = omega arith; spared = omega arith; searched = searched_none N w }
 
 counted_retained : (N : Map) (r : Renewed) → Counts N spared_one r (after_retained r)

@@ -206,9 +206,7 @@ fn renewal_by<M: MapRead>(
         let action = decide(map, touched, searches, shown)?;
         let known = known_for(alloc, map, touched, &mut searches.detours, action, shown)?;
         let query = &mut searches.query;
-        renewal.advance(
-            alloc, map, before, action, position, shown, &known, query,
-        )?;
+        renewal.advance(alloc, map, before, action, position, shown, &known, query)?;
         next = position + 1;
     }
     Ok(renewal)

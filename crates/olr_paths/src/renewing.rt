@@ -85,9 +85,7 @@ pub fn renew_over<M: MapRead>(
     ensures err { OnErr result (items list.new ≡ items list.old) }
 {
     if !overlay.takes_some() {
-        let renewed = renew_overlaid(
-            list, alloc, map, None, overlay, touched, bounds, searches,
-        )?;
+        let renewed = renew_overlaid(list, alloc, map, None, overlay, touched, bounds, searches)?;
         list.index(alloc);
         return Ok(renewed);
     }

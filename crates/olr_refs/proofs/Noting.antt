@@ -37,14 +37,6 @@ search_sees M place l q h there far v = (
   },
 )
 
--- a coverage query reaches no farther than two LRPs may be apart
-pub query_short : (M : Map) (ls : List ℕ) (i k : ℕ) → IsLastTested M ls i k → dm_of M (stretch ls (i + 1) k) ≤ limit
-query_short M ls i k t =
-    elim t.needed [
-      | inl e ↦ rw (e, ← empty_stretch ls (i + 1)) (omega arith)
-      | inr n ↦ let after = t.after in grind (arith, stretch_sum M ls i (i + 1) k, stretch_sum M ls i k n.0)
-    ]
-
 -- ---- counts
 
 pub raised_none : (w : Work) → w ≡ raised_work w no_work

@@ -5,7 +5,8 @@ use Rattle.olr_register.proofs.Common.{Map, has, Path, ChangedLine, CoverageQuer
 use Rattle.olr_register.proofs.Common.{Affects, By_name, By_node, By_line, all_nodes, all_lines, all_changed, all_names}
 use Rattle.olr_register.proofs.Common.{SearchedFor, Made, Item, named_of, all_named, Totals, held_of, AreGiven, arith}
 use Rattle.olr_register.proofs.Common.{Work, AreCounted, Bool}
-use Rattle.olr_refs.proofs.Noting.{raised_from, searched_none, searched_on}
+use Rattle.olr_paths.proofs.RenewedPrefix.{no_totals}
+use Rattle.olr_refs.proofs.Noting.{raised_from, searched_on}
 use Rattle.olr_search.specs.Counts.{no_work, raised_count, raised_work}
 use Rattle.olr_spec.specs.Queries.{IsClear}
 use Rattle.olr_commands.specs.Counts.{CountIs, most_changed, IsUnchanged, Retains, EncodesAgain, SearchedAgain, Either}
@@ -131,13 +132,7 @@ module _ (c d : Content) (changes : List Change) (ns xs : List ℕ) (cs : List C
           (SearchesFor c d changes) searches_to is t.queries given totals.queries;
     })
 
--- ---- a count of 0
-
-abbrev pub no_totals : Totals
-no_totals = record { affected = 0; spared = 0; queries = [] }
-
-pub none_spent : (M : Map) (w : Work) (n : ℕ) → AreCounted M no_totals w w n n
-none_spent M w n = record { encodings = omega arith; spared = omega arith; searched = searched_none M w }
+-- ---- counts
 
 -- totals that are added to other counts
 pub counted_on : (M : Map) (t : Totals) (old w : Work) (n m : ℕ) → AreCounted M t no_work w 0 m →

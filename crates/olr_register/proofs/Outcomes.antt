@@ -10,7 +10,8 @@ use Rattle.olr_commands.specs.Reply.{Lacks}
 use Rattle.olr_commands.proofs.SearchLemmas.{unconcerned}
 use Rattle.olr_register.specs.Sparing.{SameCounts}
 use Rattle.olr_register.proofs.States.{state, InStates, in_states}
-use Rattle.olr_register.proofs.Counting.{AreRises, no_totals, none_affected, none_spent}
+use Rattle.olr_paths.proofs.RenewedPrefix.{counted_none, no_totals}
+use Rattle.olr_register.proofs.Counting.{AreRises, none_affected}
 use Rattle.base64.specs.Engines.{standard}
 use Rattle.base64.specs.GeneralPurpose.{decode_of, decoded_of}
 use Rattle.base64.specs.declared.decode.DecodeError.{DecodeError}
@@ -75,7 +76,7 @@ answered_uncounted old k c r keeps =
       subst (λ (xs : List Change). AreRises s.content k.content xs k.content.paths no_totals) (sym (keeps s h).0)
           (none_affected s.content k.content [] (unconcerned s.content) k.content.paths),
     ))
-    (none_spent k.content.map old.work old.spared) (λ off. (refl, refl))
+    (counted_none k.content.map old.work old.spared) (λ off. (refl, refl))
 
 -- the register is unchanged
 pub answered_refused : (old new : Registered) (c : Command) (r : Result Reply CommandFault) (f : CommandFault) →

@@ -23,7 +23,8 @@ use Rattle.olr_commands.specs.Reply.{IsPaths}
 use Rattle.olr_commands.specs.Counts.{Raises}
 use Rattle.olr_commands.proofs.SearchLemmas.{paths_raise, spares_none, searches_one, added_path, replaced_path}
 use Rattle.olr_register.proofs.Changing.{add_ok, set_ok, drop_ok}
-use Rattle.olr_register.proofs.Counting.{AreRises, counted_changes, counted_on, no_totals, none_affected, none_spent}
+use Rattle.olr_register.proofs.Counting.{AreRises, counted_changes, counted_on, none_affected}
+use Rattle.olr_paths.proofs.RenewedPrefix.{counted_encoded, counted_none, no_totals}
 use Rattle.olr_register.proofs.Listed.{given_at_first, each_left, each_add, each_set, each_encoded}
 use Rattle.olr_register.proofs.Noted.{noted_edit, is_before}
 use Rattle.olr_register.proofs.Outcomes.{answered_counted, answered_refused, Accepts}
@@ -135,7 +136,7 @@ module _ (r : Inside) {x : Registered} (view : of_parts r.roads (items r.paths) 
       bare_done q bare says =
           subst (λ (ks : List Item). Answered x (Make (On_map e)) (Ok q) (of_parts later ks r.batch r.work r.spared)) (sym bare)
           (accepted_now (On_map e) later [] r.work r.spared q no_totals (bare_ok bare) (rw says refl)
-          (record { affected = refl; spared = refl; queries = refl }) (none_spent (map_of later) r.work r.spared)
+          (record { affected = refl; spared = refl; queries = refl }) (counted_none (map_of later) r.work r.spared)
           (λ off. let no : true ≡ false = off in absurd cc))
 
       module _ (t : ChangeSet) (noted : IsNotedOf M e t) where
@@ -197,7 +198,7 @@ module _ (r : Inside) {x : Registered} (view : of_parts r.roads (items r.paths) 
           rw list (accepted_now (Drop_path name) r.roads left r.work r.spared q no_totals (drop_ok M is name there)
           (rw says (reported_drop M is name right.register.content right.register.made))
           (none_affected c (content_on M left) (Drop_path name ∷ []) (drop_affects c name) (all_named left))
-          (none_spent M r.work r.spared) (λ off. (refl, refl)))
+          (counted_none M r.work r.spared) (λ off. (refl, refl)))
 
       module _ (path : Path) (m : Made) (good : is_path path.lines ≡ true) (encoded : IsEncodingOf M path m)
         where
@@ -244,11 +245,7 @@ module _ (r : Inside) {x : Registered} (view : of_parts r.roads (items r.paths) 
                   queries = searches_one (state c None) (state d None) y name path before refl nodes lines names
                       searches.queries (changes_keep c d y right.register.content placed ok).names there searches.those;
                 })
-                (record {
-                  encodings = omega arith;
-                  spared = omega arith;
-                  searched = searched_on M searches.queries r.work w searches.counts;
-                })
+                (counted_encoded M searches.queries r.work w r.spared one searches.counts)
                 (λ off. let no : true ≡ false = sym counted ∙ off in absurd cc))
 
             pub add_done : has_name is name ≡ false → js ≡ added → es ≡ entry name m.answer ∷ [] →

@@ -104,8 +104,8 @@ fn renew(rt: &impl Abort, alloc: Global, list: &mut PathList, map: &mut RoadMap,
         &bounds,
         &mut searches,
     );
-    let renewed = renewed.expect(rt, "memory");
-    assert!(rt; renewed.entries.len() <= list.len());
+    let report = renewed.expect(rt, "memory");
+    assert!(rt; report.entries.len() <= list.len());
 }
 
 /// Renews a list on two roads: with one more node, with a longer line 30, and without line 10.

@@ -39,7 +39,7 @@ returns g c =
     let M = map_of c.args.map.now in
     let is = items c.args.list.now in
     let renewed =
-    rw (c.new-none.ensures is) at (if_ok_at c.renew_over-renewed.result c.expect-entries.result _
-    c.renew_over-renewed.ensures.renewed c.expect-entries.ensures) in
+    rw (c.new-none.ensures is) at (if_ok_at c.renew_over-renewed.result c.expect-report.result _
+    c.renew_over-renewed.ensures.renewed c.expect-report.ensures) in
     right_renewed M (map_of c.keep.new.self) is (items c.renew_over-renewed.new.list) c.requires renewed.remade
     renewed.named
