@@ -97,7 +97,10 @@ fn rejected(error: Error) -> OptionsFault<Error>
 
 /// Reads the command-line arguments, the first of which is the program's own name. Arguments that the definition
 /// accepts are rejected only if an allocation fails.
-pub fn options<'a, S: AsStr>(alloc: Global, arguments: &'a [S]) -> Result<Options<'a>, OptionsFault<Error>>
+pub fn options<'a, S: AsStr>(
+    alloc: Global,
+    arguments: &'a [S],
+) -> Result<Options<'a>, OptionsFault<Error>>
     ensures ok { IfOk result (λ o. options_of o ≡ options (map S.text arguments.entry.now)) }
     ensures taken { takes keep_app (map S.text arguments.entry.now) ≡ true →
         IfErr result (λ e. e ≡ OptionsFault.Memory) }

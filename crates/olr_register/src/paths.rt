@@ -23,8 +23,7 @@ impl Register {
         let taken = self.paths.has(&name);
         let path = path_unless(self.alloc, taken, CommandFault::PathExists, parts)?;
         let (heap, roads) = (self.alloc, &self.roads);
-        let (entries, work) =
-            add(&mut self.paths, heap, roads, name, path, &mut self.searches)?;
+        let (entries, work) = add(&mut self.paths, heap, roads, name, path, &mut self.searches)?;
         rebuild_bounds(heap, &mut self.near, roads, &self.paths, &mut self.searches);
         self.work = self.work.plus(work);
         Ok(Reply::Paths(entries))
@@ -39,8 +38,7 @@ impl Register {
         let missing = !self.paths.has(name);
         let path = path_unless(self.alloc, missing, CommandFault::NoPath, parts)?;
         let (heap, roads) = (self.alloc, &self.roads);
-        let (entries, work) =
-            set(&mut self.paths, heap, roads, name, path, &mut self.searches)?;
+        let (entries, work) = set(&mut self.paths, heap, roads, name, path, &mut self.searches)?;
         rebuild_bounds(heap, &mut self.near, roads, &self.paths, &mut self.searches);
         self.work = self.work.plus(work);
         Ok(Reply::Paths(entries))

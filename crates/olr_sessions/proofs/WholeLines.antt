@@ -115,11 +115,14 @@ line_found [] k h = absurd (omega (arith, h.0.high))
 line_found (x ∷ xs) zero h = grind arith
 line_found (x ∷ xs) (suc k) h =
     let plain = h.0.before 0 (omega arith) (omega arith) in
-    let rest = line_found xs k (record {
-      low = omega arith;
-      high = omega (arith, h.0.high);
-      before = λ j low high. h.0.before (suc j) (omega arith) (omega arith);
-    }, h.1) in
+    let rest = line_found xs k (
+      record {
+        low = omega arith;
+        high = omega (arith, h.0.high);
+        before = λ j low high. h.0.before (suc j) (omega arith) (omega arith);
+      },
+      h.1,
+    ) in
     plain_first x xs (λ e. plain e) ∙ rest
 
 pub no_line : (xs : List ℕ) → Nowhere (Stops xs) 0 (length xs) → has_line true xs ≡ false

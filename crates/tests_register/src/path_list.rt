@@ -95,15 +95,7 @@ fn renew(rt: &impl Abort, alloc: Global, list: &mut PathList, map: &mut RoadMap,
     let mut searches = Searches::new(alloc);
     let none = Overlay::new(alloc);
     let _names = list.len();
-    let renewed = renew_over(
-        list,
-        alloc,
-        &*map,
-        &none,
-        &touched,
-        &bounds,
-        &mut searches,
-    );
+    let renewed = renew_over(list, alloc, &*map, &none, &touched, &bounds, &mut searches);
     let report = renewed.expect(rt, "memory");
     assert!(rt; report.entries.len() <= list.len());
 }

@@ -438,7 +438,11 @@ fn expect_write_fault<R: Abort + AllocGlobal>(
     );
     let sent = output.get_ref().taken.len();
     let wanted = (3, b"olr-keep: write fault\n".as_slice(), fails_at);
-    assert_eq!(rt; (ended, errors.as_slice(), sent), wanted, "of {arguments:?}");
+    assert_eq!(rt;
+        (ended, errors.as_slice(), sent),
+        wanted,
+        "of {arguments:?}"
+    );
     let_go(register);
 }
 

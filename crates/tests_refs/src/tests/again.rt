@@ -45,11 +45,7 @@ fn expect_same(rt: &impl Abort, first: &Encoding, second: &Encoding) {
 }
 
 /// A path encoded, and encoded again with its known coverage queries.
-fn encode_twice(
-    alloc: Global,
-    map: &RoadMap,
-    path: &Path,
-) -> Result<(Encoding, Encoding), Fail> {
+fn encode_twice(alloc: Global, map: &RoadMap, path: &Path) -> Result<(Encoding, Encoding), Fail> {
     let mut search = Dijkstra::new(alloc);
     let first = encode(alloc, map, path, &mut search)?;
     let second = encode_again(alloc, map, path, &first.known, &mut search)?;

@@ -19,6 +19,6 @@ returns-clause-shows g c =
       t,
       [],
       Appends-kept (written contents c.args.output.now) (written contents c.write_all.new.output)
-      (written contents c.flush.new.self) t c.in_ok-write_all.ensures c.flush.ensures.bytes,
+          (written contents c.flush.new.self) t c.in_ok-write_all.ensures c.flush.ensures.bytes,
       all_of text t is,
     )
