@@ -80,10 +80,14 @@ class Places:
                 setattr(self, name, array.array(values.typecode, map(values.__getitem__, order)))
 
     def find(self, numbers):
-        """The places of nodes of the file, -1 for one that is not there."""
-        ids, size, search = self.ids, len(self.ids), bisect.bisect_left
-        found = [search(ids, it) for it in numbers]
-        return array.array("i", [k if k < size and ids[k] == it else -1 for k, it in zip(found, numbers)])
+        """The places of nodes of the file, -1 for one that is not there. Often a node is the next one in the table."""
+        ids, size, search, found, k = self.ids, len(self.ids), bisect.bisect_left, array.array("i"), 0
+        for number in numbers:
+            k += 1
+            if k >= size or ids[k] != number:
+                k = search(ids, number)
+            found.append(k if k < size and ids[k] == number else -1)
+        return found
 
     def add(self, key, lon, lat):
         """Adds a node that is not in the file, and returns its place."""
@@ -268,17 +272,27 @@ def read_other(name, extract):
         hint = "install Debian's python3-pyosmium and run this with /usr/bin/python3, or convert it"
         raise OsmError(f"not OpenStreetMap XML, and {lacks}: {hint}: osmium cat {name} -o FILE.osm") from None
 
+    places = extract.places
+    add, add_lon, add_lat = places.ids.append, places.lons.append, places.lats.append
+
     class Handler(osmium.SimpleHandler):
         """Takes nodes and ways."""
 
         def node(self, it):
-            if it.visible and it.location.valid():
-                extract.places.put(it.id, it.location.lon, it.location.lat)
+            place = it.location
+            lon, lat = place.x, place.y
+            if -1_800_000_000 <= lon <= 1_800_000_000 and -900_000_000 <= lat <= 900_000_000 and it.visible:
+                add(it.id)
+                add_lon(lon)
+                add_lat(lat)
 
         def way(self, it):
             if it.visible:
                 tags = {tag.k: tag.v for tag in it.tags if tag.k in TAGS}
-                extract.take_way(it.id, array.array("q", (node.ref for node in it.nodes)), tags)
+                if "highway" in tags or "route" in tags:
+                    extract.take_way(it.id, array.array("q", [node.ref for node in it.nodes]), tags)
+                else:
+                    extract.count += 1
 
     try:
         Handler().apply_file(name)
