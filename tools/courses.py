@@ -122,7 +122,7 @@ class Follower:
         self.plane = Plane((min(lats) + max(lats)) / 2)
         self.course = Polyline([self.plane.flat(it) for it in course])
         self.lines, self.tolerance, self.preferred, self.snap = lines, tolerance, preferred, snap
-        self.shapes = {number: Polyline([self.plane.flat(it) for it in line.points]) for number, line in lines.items()}
+        self.shapes, self.positions = {}, {}
         self.cell = max(tolerance, 50.0)
         self.cells = defaultdict(set)
         for k, (a, b) in enumerate(zip(self.course.points, self.course.points[1:])):
@@ -133,16 +133,27 @@ class Follower:
         self.leaving, self.nodes = defaultdict(list), {}
         for number, line in lines.items():
             self.leaving[line.start].append(number)
-            self.nodes[line.start], self.nodes[line.end] = self.shapes[number].points[0], self.shapes[number].points[-1]
-        self.positions = {node: self.positions_of(point) for node, point in self.nodes.items()}
+            self.nodes[line.start], self.nodes[line.end] = map(self.plane.flat, (line.points[0], line.points[-1]))
+
+    def shape(self, number):
+        """The course of a line in the plane."""
+        if number not in self.shapes:
+            self.shapes[number] = Polyline([self.plane.flat(it) for it in self.lines[number].points])
+        return self.shapes[number]
 
     def segments_near(self, point):
         """The segments of the course near a point."""
         x, y = int(point[0] // self.cell), int(point[1] // self.cell)
         return sorted({k for i in (-1, 0, 1) for j in (-1, 0, 1) for k in self.cells.get((x + i, y + j), ())})
 
-    def positions_of(self, point):
-        """The positions along the course at which it passes a point: of each pass the nearest one."""
+    def positions_of(self, node):
+        """The positions along the course at which it passes a node: of each pass the nearest one."""
+        if node not in self.positions:
+            self.positions[node] = self.passes(self.nodes[node])
+        return self.positions[node]
+
+    def passes(self, point):
+        """The positions along the course at which it passes a point."""
         near = [(at, far) for far, at in self.course.project(point, self.segments_near(point)) if far <= self.tolerance]
         passes = []
         for at, far in sorted(near):
@@ -156,7 +167,7 @@ class Follower:
     def cost(self, number, begin, end, low, high):
         """How far a part of a line is from a part of the course: the mean distance times the length, or None if it doesn't
         follow it."""
-        shape = self.shapes[number]
+        shape = self.shape(number)
         length, wanted = end - begin, high - low
         slack = max(SHARE * max(length, wanted), 2 * self.tolerance)
         if abs(length - wanted) > slack or high < low and low - high > SNAP:
@@ -181,7 +192,13 @@ class Follower:
         found = {}
         for name, point in ((START, self.course.points[0]), (END, self.course.points[-1])):
             found[name] = {}
-            for number, shape in self.shapes.items():
+            lon, lat = self.plane.degrees(point)
+            east, north = self.plane.degrees((self.tolerance, self.tolerance))
+            for number, line in self.lines.items():
+                lons, lats = zip(*line.points)
+                if not (min(lons) - east <= lon <= max(lons) + east and min(lats) - north <= lat <= max(lats) + north):
+                    continue
+                shape = self.shape(number)
                 if shape.distance(point, 0, len(shape.far) - 1) > self.tolerance:
                     continue
                 far, at = min(shape.project(point))
@@ -196,7 +213,7 @@ class Follower:
             if far <= self.tolerance:
                 yield far * far, (node, 0.0), None
         for number, begin in ends[START].items():
-            shape = self.shapes[number]
+            shape = self.shape(number)
             yield from self.steps(number, begin, 0.0)
             if number in ends[END] and ends[END][number] > begin:
                 cost = self.cost(number, begin, ends[END][number], 0.0, self.course.length)
@@ -205,8 +222,8 @@ class Follower:
 
     def steps(self, number, begin, low):
         """The labels that a line leads to from a distance along it, where the course is at this position."""
-        shape, line = self.shapes[number], self.lines[number]
-        positions = self.positions.get(line.end, ())
+        shape, line = self.shape(number), self.lines[number]
+        positions = self.positions_of(line.end)
         if math.dist(shape.points[-1], self.course.points[-1]) <= self.tolerance:
             positions = {*positions, self.course.length}
         for high in positions:
@@ -250,7 +267,7 @@ class Follower:
                 if number in ends[END]:
                     more = self.cost(number, 0.0, ends[END][number], low, self.course.length)
                     if more is not None:
-                        relax(cost + more, END, (number, 0.0, self.shapes[number].length - ends[END][number]), label)
+                        relax(cost + more, END, (number, 0.0, self.shape(number).length - ends[END][number]), label)
         words = "no lines follow it from here on" if furthest else "no lines follow it from its start"
         return Lost(words, self.plane.degrees(self.course.at(furthest)))
 
@@ -271,7 +288,7 @@ class Follower:
         twice = next((it for k, it in enumerate(numbers) if it in numbers[:k]), None)
         if twice is not None:
             return Lost(f"it leads over {self.name(twice)} twice in the same direction", self.lines[twice].points[0])
-        length = sum(self.shapes[it].length for it in numbers) - steps[0][1] - steps[-1][2]
+        length = sum(self.shape(it).length for it in numbers) - steps[0][1] - steps[-1][2]
         if abs(length - self.course.length) > max(SHARE * self.course.length, 2 * self.tolerance):
             return Lost("the lines that follow it have another length", self.plane.degrees(self.course.points[0]))
         return Found(numbers, self.cut(numbers[0], steps[0][1]), self.cut(numbers[-1], steps[-1][2]))
@@ -282,7 +299,7 @@ class Follower:
 
     def cut(self, number, metres):
         """Decimetres of a line for metres of the plane."""
-        return round(metres / (self.shapes[number].length or 1) * self.lines[number].length)
+        return round(metres / (self.shape(number).length or 1) * self.lines[number].length)
 
 
 def follow(course, lines, tolerance=20.0, preferred=frozenset(), snap=SNAP):

@@ -17,6 +17,8 @@ except ImportError:
 
 LOCK = 7165_0029  # of pg_try_advisory_lock
 MANY = 1000  # changed streets after which the statistics of the tables are made again
+FEW = 100  # changed streets up to which each is compared with the paths that are lost
+MARGIN = 0.0003  # degrees around a changed street within which such a path is tried again
 GAP = 1.0  # metres between the end of a street and another street that are taken for a fault
 DROPPED, LOST = "dropped", "lost"
 ESCAPES = str.maketrans({"\\": "\\\\", "\t": "\\t", "\n": "\\n", "\r": "\\r"})  # of COPY
@@ -69,7 +71,7 @@ class Change:
 
     def __init__(self):
         self.sources, self.streets, self.paths, self.users, self.every_path = [], {}, set(), set(), False
-        self.found, self.gone, self.box = {}, set(), None
+        self.found, self.gone, self.box, self.boxes = {}, set(), None, []
 
 
 class Outcome(NamedTuple):
@@ -397,11 +399,21 @@ def apply_streets(cursor, change):
     cut = recut(before, after, lines, nodes, others, new_numbers(cursor, "node_number"), new_numbers(cursor, "line_number"))
     write_streets(cursor, change)
     change.box = box_of(touched)
+    change.boxes = boxes_of(change, before)
     records, looked = write_cut(cursor, cut)
     if len(changed) > MANY:
         cursor.execute("analyze olr_keep.street, olr_keep.vertex, olr_keep.node, olr_keep.line")
     write_problems(cursor, change, cut)
     return records, looked
+
+
+def boxes_of(change, before):
+    """The boxes of the changed streets as they were and as they are, with a margin; one box if they are many."""
+    if len(change.streets) > FEW:
+        return [change.box] if change.box else []
+    now = (it.street.parts for it in change.streets.values() if it and isinstance(it.street, Street))
+    boxes = (box_of([place for part in parts for place in part]) for parts in (*(before[it] for it in change.streets), *now))
+    return [(w - MARGIN, s - MARGIN, e + MARGIN, n + MARGIN) for w, s, e, n in filter(None, boxes)]
 
 
 def box_of(places):
@@ -557,12 +569,14 @@ def affected(cursor, change, looked):
         cursor.execute("select name from olr_keep.string where lines && %s::bigint[]", (number_array(looked),))
         names.update(it for (it,) in cursor)
     if change.streets:
-        marked = [mark + it for it in change.streets for mark in ("", "<", ">")]
+        marked = text_array(mark + it for it in change.streets for mark in ("", "<", ">"))
+        boxes = [[f"{it:.7f}" for it in side] for side in zip(*change.boxes)] or [[]] * 4
         cursor.execute(
             """select name from olr_keep.string left join olr_keep.path using (name) where reason is not null
-            and (coalesce(geom, course) && ST_MakeEnvelope(%s, %s, %s, %s, 4326)
-                or string.streets && %s::text[] or path.streets && %s::text[])""",
-            (*(change.box or (0, 0, 0, 0)), text_array(marked), text_array(marked)))
+            and (string.streets && %s::text[] or path.streets && %s::text[] or exists (
+                select from unnest(%s::float8[], %s::float8[], %s::float8[], %s::float8[]) as box(w, s, e, n)
+                where ST_Intersects(coalesce(geom, course), ST_MakeEnvelope(w, s, e, n, 4326))))""",
+            (marked, marked, *map(number_array, boxes)))
         names.update(it for (it,) in cursor)
     return names
 

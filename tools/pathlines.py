@@ -115,14 +115,14 @@ class Finder:
         is_same = known is not None and known.definition == wanted.definition
         if is_same and (kept := self.kept(known)):
             return kept
-        tries = [self.by_last_streets, self.by_last_course, self.by_any_streets] if is_same else []
         lost = None
-        for attempt in tries:
+        for attempt in (self.by_last_streets, self.by_last_course, self.by_any_streets) if is_same else ():
             found = attempt(known)
             if isinstance(found, Found):
                 return found
             lost = found or lost
-        for attempt in (self.by_streets, self.by_course):
+        is_tried = is_same and rounded(known.course) == rounded(wanted.course)
+        for attempt in (self.by_streets,) if is_tried else (self.by_streets, self.by_course):
             found = attempt(wanted)
             if isinstance(found, Found):
                 return found
@@ -186,6 +186,11 @@ class Finder:
                 return Lost(f"street {street} has no line", None)
         found = Route(marked, by_street, known, tolerance).search()
         return found
+
+
+def rounded(course):
+    """A course with coordinates as records have them, or None."""
+    return course and [(round(lon, 7), round(lat, 7)) for lon, lat in course]
 
 
 def streets_of(known):
