@@ -10,7 +10,7 @@ from streets import Old, Street, degrees, recut, street_of, units, wkb_hex
 
 try:
     import psycopg2
-    import psycopg2.extensions
+    import psycopg2.errors
     import psycopg2.extras
 except ImportError:
     psycopg2 = None
@@ -26,6 +26,10 @@ ESCAPES = str.maketrans({"\\": "\\\\", "\t": "\\t", "\n": "\\n", "\r": "\\r"})  
 
 class Stale(Exception):
     """The sources changed while a round began."""
+
+
+class Busy(Exception):
+    """Another transaction has a table locked, as TRUNCATE does until its end."""
 
 
 class Source(NamedTuple):
@@ -134,7 +138,8 @@ def sources_of(cursor):
 
 
 class Transaction:
-    """A transaction that sees one state of all tables: they are locked against TRUNCATE before its snapshot is taken."""
+    """A transaction that sees one state of all tables: they are locked against TRUNCATE before its snapshot is taken. It never
+    waits for a lock while it has others, so it can't be part of a deadlock with an editor."""
 
     def __init__(self, connection, cursor):
         self.connection, self.cursor, self.is_open = connection, cursor, False
@@ -145,9 +150,12 @@ class Transaction:
         self.cursor.execute("begin isolation level repeatable read")
         self.is_open = True
         try:
-            self.cursor.execute(f"lock table {names} in access share mode")
+            self.cursor.execute(f"lock table {names} in access share mode nowait")
             if sources_of(self.cursor) != sources:
                 raise Stale("the tables of streets changed")
+        except psycopg2.errors.LockNotAvailable as error:
+            self.__exit__()
+            raise Busy(str(error).strip()) from None
         except BaseException:
             self.__exit__()
             raise
