@@ -9,7 +9,7 @@ import itertools
 import math
 import struct
 from collections import Counter, defaultdict
-from typing import NamedTuple, Optional
+from typing import NamedTuple
 
 UNITS = 10_000_000
 EAST, NORTH = 180 * UNITS, 90 * UNITS
