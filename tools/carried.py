@@ -66,9 +66,15 @@ class Program:
         if readable:
             text = os.read(self.read_from, CHUNK)
             if not text:
-                status = self.process.wait()
-                raise Stop(OUT_OF_MEMORY if status == OUT_OF_MEMORY else BROKEN, f"the program ended with status {status}")
+                self.process.wait()
+                self.check()
             self.buffer, self.at = self.buffer[self.at :] + text, 0
+
+    def check(self):
+        """Stops if the program has ended."""
+        status = self.process.poll()
+        if status is not None:
+            raise Stop(OUT_OF_MEMORY if status == OUT_OF_MEMORY else BROKEN, f"the program ended with status {status}")
 
     def line(self):
         """The next line of a reply."""
