@@ -1,9 +1,5 @@
-//! Tests of searches, routes and distances, of labels on a grid of 400 nodes, and of distance bounds.
+//! Tests of labels, shortest paths and unique shortest paths.
 #![tactic(auto)]
 
-#[cfg(test)]
-mod distance_bounds;
-#[cfg(test)]
-mod grid;
 #[cfg(test)]
 mod searches;

@@ -1,18 +1,11 @@
-//! Searches and routes on small maps.
-ghost use Rattle.std.specs.Prelude.{◌≡◌, ◌≤◌, ℕ};
-ghost use Rattle.std.specs.Bool.{OnTrue};
-ghost use Rattle.olr_spec.specs.Routes.{IsRoute};
-ghost use Rattle.olr_route.specs.Labels.{AreLabels};
+//! Labels, shortest paths and unique shortest paths on small maps.
+ghost use Rattle.std.specs.Prelude.{◌≤◌};
 
 use made_maps::{
-    Plain, STRAIGHT, WORKED, end_of, line, make, map_of, node, other_line, plain_line, plain_map,
-    start_of,
+    Plain, STRAIGHT, WORKED, line, lines, make, map_of, node, other_line, plain_map,
 };
-use olr_map::{Footprint, LineId, MapRead, NodeId, RoadMap};
-use olr_route::{
-    Dijkstra, Direction, GREATEST_LIMIT, Labels, Work, extends_least, extends_unique_shortest,
-    is_least, is_unique_shortest, search, settled_search,
-};
+use olr_map::{Footprint, MapRead, NodeId, RoadMap};
+use olr_route::{GREATEST_LIMIT, Labels, Work, is_least, is_unique_shortest, search};
 use std::alloc::Global;
 use std::fmt::Debug;
 use std::process::Abort;
@@ -71,8 +64,6 @@ fn labels_from<M: MapRead>(
     limit: u32,
 ) -> Labels
     requires { limit ≤ GREATEST_LIMIT }
-    ensures from { result.source ≡ source }
-    ensures labels { AreLabels (M.map map.now) result }
 {
     assert!(rt; map.node(source).is_some());
     let mut footprint = Footprint::new(alloc);
@@ -81,24 +72,6 @@ fn labels_from<M: MapRead>(
         Ok(labels) => labels,
         Err(_) => panic!(rt; "no memory"),
     }
-}
-
-/// Whether the lines are on the map, the first begins at the source, and each other one where the one before ends.
-fn is_route<M: MapRead>(map: &M, source: NodeId, lines: &[LineId]) -> bool
-    ensures { OnTrue result ((t : ℕ) × IsRoute (M.map map.now) source t lines.now) }
-{
-    let mut at = source;
-    for id in lines {
-        if map.line(*id).is_none() {
-            return false;
-        }
-        let from = start_of(map, *id);
-        if from != at {
-            return false;
-        }
-        at = end_of(map, *id);
-    }
-    true
 }
 
 /// Whether a route is the shortest path, and whether it is the unique one, by a search from its start.
@@ -110,12 +83,7 @@ fn judgement<M: MapRead>(
     numbers: &[u32],
 ) -> (bool, bool) {
     let labels = labels_from(rt, alloc, map, source, GREATEST_LIMIT);
-    let mut lines = Vec::new(alloc);
-    for number in numbers {
-        let pushed = lines.push(line(*number));
-        assert!(rt; pushed.is_ok());
-    }
-    assert!(rt; is_route(map, source, &lines));
+    let lines = lines(alloc, numbers).expect(rt, "memory");
     (
         is_least(map, &labels, &lines),
         is_unique_shortest(map, &labels, &lines),
@@ -241,21 +209,6 @@ fn least_and_unique_routes(rt: HostRuntime) {
 }
 
 #[test]
-fn lines_that_prolong_routes(rt: HostRuntime) {
-    let map = diamond(&rt, rt.alloc());
-    let labels = labels_from(&rt, rt.alloc(), &map, node(1), GREATEST_LIMIT);
-    for (number, least, unique) in [(6, true, true), (7, true, false), (8, false, false)] {
-        let line = line(number);
-        assert!(rt; map.line(line).is_some());
-        let found = (
-            extends_least(&map, &labels, line),
-            extends_unique_shortest(&map, &labels, line),
-        );
-        same!(&rt; found, (least, unique));
-    }
-}
-
-#[test]
 fn loops_and_parallel_lines(rt: HostRuntime) {
     let map = parallel(&rt, rt.alloc());
     let start = (Some(0), None);
@@ -288,179 +241,3 @@ fn counts_end_at_the_greatest_number(rt: HostRuntime) {
     same!(&rt; (work.encodings, work.searches, work.settled), (7, u64::MAX, 3));
 }
 
-/// The distances of the nodes from 1 on, by a search from nodes given by number and start value.
-fn distances<M: MapRead>(
-    rt: &impl Abort,
-    alloc: Global,
-    map: &M,
-    direction: Direction,
-    from: &[(u32, u32)],
-    limit: u32,
-) -> [Option<u32>; 4]
-    requires { limit ≤ GREATEST_LIMIT }
-{
-    let mut begins = Vec::new(alloc);
-    for begin in from {
-        let (number, length) = *begin;
-        let pushed = begins.push((node(number), length));
-        assert!(rt; pushed.is_ok());
-    }
-    match settled_search(alloc, map, direction, &begins, limit) {
-        Ok(search) => [
-            search.dist(map, node(1)),
-            search.dist(map, node(2)),
-            search.dist(map, node(3)),
-            search.dist(map, node(4)),
-        ],
-        Err(_) => panic!(rt; "no memory"),
-    }
-}
-
-#[test]
-fn distances_in_either_direction(rt: HostRuntime) {
-    let map = base(&rt, rt.alloc());
-    for (direction, from, limit, found) in [
-        (
-            Direction::Along,
-            &[(2, 0)][..],
-            150_000,
-            [None, Some(0), Some(1500), Some(2240)],
-        ),
-        (
-            Direction::Along,
-            &[(2, 0)],
-            2239,
-            [None, Some(0), Some(1500), None],
-        ),
-        (
-            Direction::Against,
-            &[(4, 0)],
-            150_000,
-            [Some(7850), Some(2240), Some(740), Some(0)],
-        ),
-        (
-            Direction::Against,
-            &[(4, 0)],
-            740,
-            [None, None, Some(740), Some(0)],
-        ),
-        (
-            Direction::Along,
-            &[(2, 100), (3, 50)],
-            790,
-            [None, Some(100), Some(50), Some(790)],
-        ),
-        (Direction::Along, &[(9, 0), (3, 60), (3, 50)], 49, [None; 4]),
-        (
-            Direction::Against,
-            &[(1, 150_001), (2, 149_999)],
-            150_000,
-            [None, Some(149_999), None, None],
-        ),
-        (Direction::Along, &[], 150_000, [None; 4]),
-    ] {
-        same!(&rt; distances(&rt, rt.alloc(), &map, direction, from, limit), found);
-    }
-
-    let ring = map_with(
-        &rt,
-        rt.alloc(),
-        4,
-        &[
-            (1, 1, 2, 10),
-            (2, 2, 3, 20),
-            (3, 3, 1, 30),
-            (4, 3, 3, 5),
-            (5, 1, 2, 15),
-        ],
-    );
-    same!(
-        &rt;
-        distances(&rt, rt.alloc(), &ring, Direction::Along, &[(1, 0)], 100),
-        [Some(0), Some(10), Some(30), None]
-    );
-    same!(
-        &rt;
-        distances(&rt, rt.alloc(), &ring, Direction::Against, &[(1, 0)], 100),
-        [Some(0), Some(50), Some(30), None]
-    );
-}
-
-/// The distances of the nodes 1 to 4, and how many nodes the search settled.
-fn distances_of(map: &RoadMap, search: &Dijkstra) -> ([Option<u32>; 4], usize) {
-    let dists = [
-        search.dist(map, node(1)),
-        search.dist(map, node(2)),
-        search.dist(map, node(3)),
-        search.dist(map, node(4)),
-    ];
-    (dists, search.settled_count())
-}
-
-/// Settles a search of the worked map from node 2 in steps.
-fn settle_in_steps(rt: &impl Abort, map: &RoadMap, search: &mut Dijkstra) -> Result<(), Fail> {
-    search.begin(map, Direction::Along, &[(node(2), 0)])?;
-    same!(rt; distances_of(map, search), ([None, Some(0), None, None], 1));
-    search.settle_to(map, 1500)?;
-    let third = [None, Some(0), Some(1500), None];
-    same!(rt; distances_of(map, search), (third, 2));
-    search.settle_to(map, 700)?;
-    same!(rt; distances_of(map, search), (third, 2));
-    search.settle_to(map, 2240)?;
-    same!(rt; distances_of(map, search), ([None, Some(0), Some(1500), Some(2240)], 3));
-    Ok(())
-}
-
-/// Asserts that a search reached these nodes in this order, each with its distance.
-fn assert_reached(rt: &impl Abort, map: &RoadMap, search: &Dijkstra, numbers: &[u32]) {
-    for (at, number) in search.labelled_nodes().iter().zip(numbers) {
-        let reached = node(*number);
-        same!(rt; at.node, reached);
-        same!(rt; search.dist_at(at.slot), search.dist(map, reached));
-    }
-}
-
-/// Begins the same search again on the diamond, against its lines from node 4.
-fn begin_again(rt: &impl Abort, map: &RoadMap, search: &mut Dijkstra) -> Result<(), Fail> {
-    search.begin(map, Direction::Against, &[(node(4), 0)])?;
-    search.settle_to(map, 100)?;
-    same!(rt; distances_of(map, search), ([None, Some(100), Some(100), Some(0)], 3));
-    Ok(())
-}
-
-#[test]
-fn search_step_by_step(rt: HostRuntime) -> Result<(), Fail> {
-    let map = base(&rt, rt.alloc());
-    let mut search = Dijkstra::new(rt.alloc());
-    settle_in_steps(&rt, &map, &mut search)?;
-    assert_reached(&rt, &map, &search, &[2, 3, 4]);
-    begin_again(&rt, &diamond(&rt, rt.alloc()), &mut search)
-}
-
-/// Asserts whether each of these lines extends a unique shortest path from node 1.
-fn assert_unique(
-    rt: &impl Abort,
-    alloc: Global,
-    map: &RoadMap,
-    lines: &[(u32, bool)],
-) -> Result<(), Fail> {
-    let from = [(node(1), 0)];
-    let search = settled_search(alloc, map, Direction::Along, &from, GREATEST_LIMIT)?;
-    for (number, unique) in lines {
-        same!(rt; search.extends_unique_shortest(map, line(*number)), *unique);
-    }
-    Ok(())
-}
-
-#[test]
-fn unique_routes_by_distances(rt: HostRuntime) -> Result<(), Fail> {
-    let map = diamond(&rt, rt.alloc());
-    let lines = [(5, true), (6, true), (7, false), (8, false), (10, false)];
-    assert_unique(&rt, rt.alloc(), &map, &lines)?;
-
-    let mut map = parallel(&rt, rt.alloc());
-    make(&mut map, plain_line(rt.alloc(), (4, 2, 3, 10)))?;
-    make(&mut map, plain_line(rt.alloc(), (5, 2, 3, 11)))?;
-    let lines = [(1, false), (2, false), (3, false), (4, true), (5, false)];
-    assert_unique(&rt, rt.alloc(), &map, &lines)
-}

@@ -3,7 +3,7 @@
 use made_maps::{Plain, STRAIGHT, line, make, node, other_line, plain_line, plain_map};
 use olr_map::{Edit, RoadMap};
 use olr_near::DistanceBounds;
-use olr_route::GREATEST_LIMIT;
+use olr_search::GREATEST_LIMIT;
 use std::alloc::Global;
 use std::process::Abort;
 

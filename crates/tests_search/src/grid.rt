@@ -1,10 +1,11 @@
-//! Searches on a grid of 20 by 20 nodes, from a corner, from the middle and from the other corner.
+//! Searches on a grid of 20 by 20 nodes, from a corner, from the middle and from the other corner, beside naive ones.
 ghost use Rattle.std.specs.Prelude.{◌≤◌};
 
 use made_maps::{make, new_node, node, plain_line};
-use olr_map::{Edit, Footprint, LineId, MapRead, RoadMap};
-use olr_route::{Labels, Work, search};
+use olr_map::{Edit, RoadMap};
+use olr_search::{Direction, settled_search};
 use std::alloc::Global;
+use std::collections::HashMap;
 use std::process::Abort;
 
 /// Nodes in a row, and rows.
@@ -75,75 +76,66 @@ fn length(number: u32) -> u32
     700 + number % 5
 }
 
-/// The distance and the last line that the lines into a node give it, by the labels where they begin: of the lines that
-/// give the least distance, the one with the least number.
-fn label_by_lines(
-    labels: &Labels,
+/// The distances from a node within a limit, or to it, by number: lines are followed one by one until none shortens a
+/// distance.
+fn naive(
+    rt: &impl Abort,
+    alloc: Global,
     ends: &[(u32, u32)],
+    direction: Direction,
+    source: u32,
     limit: u32,
-    number: u32,
-) -> (Option<u32>, u32) {
-    let mut best = (None, 0);
-    let mut line = 0u32;
-    for (from, to) in ends {
-        line = line.saturating_add(1);
-        if *to != number {
-            continue;
+) -> HashMap<u32, u32> {
+    let mut dists = HashMap::new(alloc);
+    let begun = dists.insert(source, 0);
+    assert!(rt; begun.is_ok());
+    let mut shorter = true;
+    for _ in 0..SIDE * SIDE {
+        if !shorter {
+            break;
         }
-        let Some(near) = labels.dist(node(*from)) else {
-            continue;
-        };
-        let dist = near.saturating_add(length(line));
-        if dist <= limit && best.0.is_none_or(|least| dist < least) {
-            best = (Some(dist), line);
-        }
-    }
-    best
-}
-
-/// That each label but the source's is the one that the lines into its node give it.
-fn assert_labels(rt: &impl Abort, labels: &Labels, ends: &[(u32, u32)], source: u32, limit: u32) {
-    for before in 0..SIDE * SIDE {
-        let number = before + 1;
-        let (dist, last) = label_by_lines(labels, ends, limit, number);
-        let at = node(number);
-        if number == source {
-            assert_eq!(rt;
-                (labels.dist(at), labels.last_line(at)),
-                (Some(0), None),
-                "at {at:?}"
-            );
-        } else {
-            assert_eq!(rt;
-                (labels.dist(at), labels.last_line(at)),
-                (dist, LineId::new(last)),
-                "at {at:?}"
-            );
+        shorter = false;
+        let mut number = 0u32;
+        for (from, to) in ends {
+            number = number.saturating_add(1);
+            let (near, far) = match direction {
+                Direction::Along => (from, to),
+                Direction::Against => (to, from),
+            };
+            if let Some(dist) = dists.get(near).copied() {
+                let longer: u32 = length(number).saturating_add(dist);
+                if longer <= limit && dists.get(far).is_none_or(|old| longer < *old) {
+                    let shortened = dists.insert(*far, longer);
+                    assert!(rt; shortened.is_ok());
+                    shorter = true;
+                }
+            }
         }
     }
+    dists
 }
 
-/// That a search labels as many nodes as are wanted, and each as the lines into it do.
+/// That a search finds the same distances as the naive one, and settles as many nodes as are wanted.
 fn assert_searched(
     rt: &impl Abort,
     alloc: Global,
     map: &RoadMap,
+    direction: Direction,
     source: u32,
     limit: u32,
-    count: u64,
+    count: usize,
 )
     requires { limit ≤ 150000 }
 {
-    let start = node(source);
-    assert!(rt; map.node(start).is_some());
-    let mut work = Work::default();
-    let mut footprint = Footprint::new(alloc);
-    let found = search(alloc, map, start, limit, &mut footprint, &mut work);
-    assert_eq!(rt; work.settled, count, "from {source} within {limit}");
-    match found {
-        Ok(labels) => assert_labels(rt, &labels, &ends(rt, alloc), source, limit),
-        Err(_) => panic!(rt; "no memory"),
+    let from = [(node(source), 0)];
+    let search = settled_search(alloc, map, direction, &from, limit).expect(rt, "memory");
+    let dists = naive(rt, alloc, &ends(rt, alloc), direction, source, limit);
+    for before in 0..SIDE * SIDE {
+        let number = before + 1;
+        let found = search.dist(map, node(number));
+        assert_eq!(rt; found, dists.get(&number).copied(), "at {number}");
     }
+    assert_eq!(rt; search.settled_count(), count, "from {source} within {limit}");
 }
 
 #[test]
@@ -152,7 +144,9 @@ fn search_on_the_grid(rt: HostRuntime) {
     // Seven lines are at most 4,928 dm long, and eight at least 5,600 dm.
     for (source, near) in [(1, 36), (210, 113), (400, 36)] {
         for (limit, count) in [(0, 1), (5000, near), (150_000, 400)] {
-            assert_searched(&rt, rt.alloc(), &map, source, limit, count);
+            for direction in [Direction::Along, Direction::Against] {
+                assert_searched(&rt, rt.alloc(), &map, direction, source, limit, count);
+            }
         }
     }
 }
