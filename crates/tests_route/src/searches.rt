@@ -1,9 +1,7 @@
 //! Labels, shortest paths and unique shortest paths on small maps.
 ghost use Rattle.std.specs.Prelude.{◌≤◌};
 
-use made_maps::{
-    Plain, STRAIGHT, WORKED, line, lines, make, map_of, node, other_line, plain_map,
-};
+use made_maps::{Plain, STRAIGHT, WORKED, line, lines, make, map_of, node, other_line, plain_map};
 use olr_map::{Footprint, MapRead, NodeId, RoadMap};
 use olr_route::{GREATEST_LIMIT, Labels, Work, is_least, is_unique_shortest, search};
 use std::alloc::Global;
@@ -240,4 +238,3 @@ fn counts_end_at_the_greatest_number(rt: HostRuntime) {
     }
     same!(&rt; (work.encodings, work.searches, work.settled), (7, u64::MAX, 3));
 }
-

@@ -135,7 +135,11 @@ fn assert_searched(
         let found = search.dist(map, node(number));
         assert_eq!(rt; found, dists.get(&number).copied(), "at {number}");
     }
-    assert_eq!(rt; search.settled_count(), count, "from {source} within {limit}");
+    assert_eq!(rt;
+        search.settled_count(),
+        count,
+        "from {source} within {limit}"
+    );
 }
 
 #[test]
