@@ -8,7 +8,7 @@ from geo import METRES, SECTOR, direction, distance
 from receiver import CELL, STEP_16, STEP_24, bearing, pieces, place, project, shape_length
 from refound import SHORT, are_twins
 
-KINDS = ("twin-lines", "alike-lines", "line-over-node", "short-line", "same-coordinate", "near-nodes", "under-straight",
+KINDS = ("twin-lines", "alike-lines", "line-over-node", "open-end", "short-line", "same-coordinate", "near-nodes", "under-straight",
          "over-shape", "over-15-km", "one-way-dead-end", "separate-part", "lone-node")
 AHEAD = 20.0  # metres over which a bearing is taken
 LONGEST = 15_000  # metres between two location reference points (LRPs) of a string
@@ -81,11 +81,25 @@ def pairs_alike(roads, numbers, is_last):
                 yield a, b
 
 
+def neighbours(roads):
+    """The nodes that lines connect with each node."""
+    beside = defaultdict(set)
+    for road in roads.lines.values():
+        beside[road.start].add(road.end)
+        beside[road.end].add(road.start)
+    return beside
+
+
 def lines_over_nodes(roads):
-    """Lines that pass a node that isn't their end, and have the class, form and sector of a line that leaves the node."""
-    for node, number in sorted(nodes_beside(roads)):
+    """Lines that pass a node that isn't their end, and have the class, form and sector of a line that leaves the node; and ends
+    of roads beside a line that neither they nor their neighbour are an end of, each with the nearest one."""
+    beside, open_ends = neighbours(roads), {}
+    ends = {node for node, others in beside.items() if len(others) == 1}
+    for node, number in sorted(nodes_beside(roads, ends)):
         road = roads.lines[number]
         far, at = project(road, *roads.nodes[node])
+        if far <= SHORT and node in ends and not beside[node].intersection(road[:2]):
+            open_ends[node] = min(open_ends.get(node, (far, number)), (far, number))
         if far > SHORT or min(at, road.length - at) <= SHORT:
             continue
         ahead = place(road, at), place(road, min(road.length, at + AHEAD))
@@ -95,11 +109,14 @@ def lines_over_nodes(roads):
             if one[2:4] == road[2:4] and sector(one, False) == rest:
                 text = f"line {number} passes node {node} within {far:.1f} m, alike to line {other} that leaves there"
                 yield Finding("line-over-node", (number, other), (node,), text)
+    for node, (far, number) in sorted(open_ends.items()):
+        text = f"node {node} ends a road {far:.1f} m from line {number}, which has no node there"
+        yield Finding("open-end", (number,), (node,), text)
 
 
-def nodes_beside(roads):
-    """Pairs of a node and a line that may pass it: a box of the line, with a margin, contains the node, and a line with the same
-    class and form leaves it."""
+def nodes_beside(roads, ends):
+    """Pairs of a node and a line that may pass it: a box of the line, with a margin, contains the node, and the node is one of
+    these ends of roads, or a line with the same class and form leaves it."""
     cells, found, near = defaultdict(list), set(), {}
     for node, (lon, lat) in roads.nodes.items():
         kinds = {roads.lines[it][2:4] for it in roads.leaving.get(node, ())}
@@ -111,7 +128,7 @@ def nodes_beside(roads):
         if key not in near:
             near[key] = nodes_in(cells, boxes(road, lons, lats), road[:2])
         kind = road[2:4]
-        found.update((node, number) for node, kinds in near[key] if kind in kinds)
+        found.update((node, number) for node, kinds in near[key] if kind in kinds or node in ends)
     return found
 
 
@@ -190,11 +207,7 @@ def dead_ends(roads):
 
 def parts(roads):
     """The parts of the map that are not connected to the largest one; a node without lines is no part."""
-    beside = defaultdict(set)
-    for road in roads.lines.values():
-        beside[road.start].add(road.end)
-        beside[road.end].add(road.start)
-    seen, found = set(), []
+    beside, seen, found = neighbours(roads), set(), []
     for node in sorted(beside):
         if node not in seen:
             seen.add(node)
