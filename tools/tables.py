@@ -159,7 +159,7 @@ class Table:
         before = self.identity()
         if identity and before and identity != before:
             raise Stop(LOST_STREAMS, f"these answers belong to the commands {identity}, and the table to {before}: the streams"
-                                     " were made anew; start a new table")
+                                     " were made again; start a new table")
         if identity and not before:
             self.file.run("insert into streams values (?)", (identity,))
 
