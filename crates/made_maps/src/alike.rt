@@ -20,8 +20,28 @@ fn are_nodes_alike<M: MapRead, N: MapRead>(one: &M, other: &N, id: NodeId) -> bo
     one.node(id) == other.node(id)
         && one.out_lines(id) == other.out_lines(id)
         && one.in_lines(id) == other.in_lines(id)
-        && are_ends_alike(one, other, one.out_ends(id), other.out_ends(id))
-        && are_ends_alike(one, other, one.in_ends(id), other.in_ends(id))
+        && are_sides_alike(one, other, id)
+}
+
+/// Whether the lines on both sides of a node have the same far ends on two maps, or the node is on neither.
+fn are_sides_alike<M: MapRead, N: MapRead>(one: &M, other: &N, id: NodeId) -> bool {
+    match (one.slot_of(id), other.slot_of(id)) {
+        (Some(here), Some(there)) => {
+            are_ends_alike(
+                one,
+                other,
+                one.out_lines_at(here).ends,
+                other.out_lines_at(there).ends,
+            ) && are_ends_alike(
+                one,
+                other,
+                one.in_lines_at(here).ends,
+                other.in_lines_at(there).ends,
+            )
+        }
+        (None, None) => true,
+        _ => false,
+    }
 }
 
 /// Whether two lists have the same far ends with the same lengths, and each node's slot on its own map.

@@ -1,5 +1,5 @@
 //! The coordinates of the LRPs of a reference, decoded from its fields.
-ghost use Rattle.std.specs.Prelude.{◌≡◌, ◌+◌, ◌*◌, ◌^◌, ◌≤◌, ◌+ℤ◌, length, map, nat_abs};
+ghost use Rattle.std.specs.Prelude.{◌≡◌, ◌+◌, ◌*◌, ◌^◌, ◌≤◌, ◌+ℤ◌, length, map, nat_abs, IfSome};
 ghost use Rattle.olr_spec.specs.Coordinates.{from_abs24, from_rel16};
 ghost use Rattle.olr_spec.specs.Bytes.{IsFirst};
 ghost use Rattle.olr_spec.specs.Decoded.{decoded, steps_sum};
@@ -36,7 +36,8 @@ fn way(first: First, points: &[Middle]) -> (i128, i128)
 /// The longitude and the latitude, in units, of LRP `k` of a reference, counted from 0: the first LRP by its 24-bit
 /// steps, each later one by adding its relative steps (White Paper, binary format). None exactly after the last LRP.
 pub fn decoded(reference: &Reference, k: usize) -> Option<(i128, i128)>
-    ensures { result ≡ decoded reference.now k }
+    ensures value { result ≡ decoded reference.now k }
+    ensures bound { IfSome result (λ p. (nat_abs p.0 ≤ 2 ^ 102) × (nat_abs p.1 ≤ 2 ^ 102)) }
 {
     let between = reference.middle.len();
     if k > between + 1 {

@@ -1,7 +1,7 @@
 -- The values of digits.
 use Rattle.olr_spec.proofs.Common.{◌≡◌, ℕ, ◌+◌, ◌*◌, ◌-◌, ◌<◌, ◌≤◌, ◌^◌, true, ◌==◌, List, [], ◌∷◌, length, fold, refl}
-use Rattle.olr_spec.proofs.Common.{ap, sym, ◌∙◌, arith, rules, take, not, get_or, zero, suc, list_all, is_ascii_digit}
-use Rattle.olr_spec.proofs.Common.{and_parts, length-take, take_while-cons, pow-add, before_point, digits_value}
+use Rattle.olr_spec.proofs.Common.{ap, sym, ◌∙◌, arith, rules, take, not, list_all, is_ascii_digit}
+use Rattle.olr_spec.proofs.Common.{length-take, take_while-cons, pow-add, before_point, digits_value}
 use Rattle.std.proofs.Math.Nat.{mul-lt-mul_of_pos_right}
 use Rattle.std.proofs.lemmas.Str.Parse.{IsNumeralModel, numerals_by_fold, digits_value_short}
 
@@ -32,20 +32,3 @@ before-more c text other = take_while-cons (λ d. not (d == 46)) c text ∙ rw o
 
 pub before-none : (c : ℕ) (text : List ℕ) → c ≡ 46 → before_point (c ∷ text) ≡ []
 before-none c text point = take_while-cons (λ d. not (d == 46)) c text ∙ rw point refl
-
--- the index of the first decimal point
-pub point-at : (text : List ℕ) (i : ℕ) → i < length text → list_all (λ c. not (c == 46)) (take i text) ≡ true →
-    get_or text i 0 ≡ 46 → i ≡ length (before_point text)
-point-at [] i lt all e = absurd (omega arith)
-point-at (c ∷ text) zero lt all e = ap (λ (t : List ℕ). length t) (sym (before-none c text e))
-point-at (c ∷ text) (suc i) lt all e =
-    let p = and_parts (not (c == 46)) (list_all (λ d. not (d == 46)) (take i text)) all in
-    ap suc (point-at text i (omega arith) p.1 e) ∙ ap (λ (t : List ℕ). length t) (sym (before-more c text p.0))
-
-pub no-point : (text : List ℕ) (k : ℕ) → length text ≤ k → list_all (λ c. not (c == 46)) (take k text) ≡ true →
-    length text ≡ length (before_point text)
-no-point [] k few all = refl
-no-point (c ∷ text) zero few all = absurd (omega arith)
-no-point (c ∷ text) (suc k) few all =
-    let p = and_parts (not (c == 46)) (list_all (λ d. not (d == 46)) (take k text)) all in
-    ap suc (no-point text k (omega arith) p.1) ∙ ap (λ (t : List ℕ). length t) (sym (before-more c text p.0))

@@ -72,12 +72,7 @@ fn fraction(text: &[u8]) -> Option<u64>
 fn point(text: &[u8]) -> usize
     ensures { result ≡ length (before_point text.now) }
 {
-    for i in 0..text.len() {
-        if text[i] == b'.' {
-            return i;
-        }
-    }
-    text.len()
+    text.iter().take_while(|byte| **byte != b'.').count()
 }
 
 /// Degrees without a sign, in units.

@@ -22,7 +22,7 @@ use Rattle.olr_spec.proofs.MapLemmas.{keys_sorted}
 use Rattle.olr_spec.proofs.OrderLemmas.{exactly_out}
 use Rattle.std.proofs.lemmas.Cmp.{eq_by_cmp_equiv}
 use Rattle.olr_map.proofs.Lookups.{eqb_flip}
-use Rattle.olr_map.proofs.Numbers.{distinct_from_ascending, same_ascending}
+use Rattle.olr_spec.proofs.SameNumbers.{distinct_from_ascending, same_ascending}
 use Rattle.olr_map.proofs.Reading.{slot_of, id_has}
 
 -- ---- lists of numbers

@@ -1,6 +1,5 @@
 pub mod Common
 pub mod Lookups
-pub mod Numbers
 pub mod SlotLemmas
 pub mod Blocking
 pub mod ColumnLemmas

@@ -14,7 +14,7 @@ use Rattle.olr_spec.proofs.AscendingLists.{has-insert, has-remove, has_at, ascen
 use Rattle.olr_spec.proofs.ListLemmas.{map_same}
 use Rattle.olr_spec.proofs.OrderLemmas.{ascend_in}
 use Rattle.olr_map.proofs.Lookups.{over_cond, unchanged_at}
-use Rattle.olr_map.proofs.Numbers.{above, same_ascending}
+use Rattle.olr_spec.proofs.SameNumbers.{above, same_ascending}
 use Rattle.olr_map.proofs.LineRecords.{none_passes, used_by, other_node, line_starts, line_ends}
 use Rattle.std.proofs.lemmas.List.{take-map, drop-map}
 

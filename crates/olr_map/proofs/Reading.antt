@@ -3,7 +3,7 @@ use Rattle.olr_map.proofs.Common.{◌≡◌, ◌==◌, ℕ, ◌<◌, ◌≤◌, 
 use Rattle.olr_map.proofs.Common.{length, refl, sym, ap, subst, ◌∙◌, arith, option_map}
 use Rattle.olr_map.proofs.Common.{false_from_ne_true, FinMap, get, Map, Line, IsMap, has_node, has_line}
 use Rattle.olr_map.proofs.Common.{none_of, some_of, pairs_of, slot_by, at, node_slots, links_at, node_in, links_in}
-use Rattle.olr_map.proofs.Common.{lines_at, end_at, map_from, node_slot, IsListed, IsIndexed, AreTables, tables_map}
+use Rattle.olr_map.proofs.Common.{lines_at, map_from, node_slot, IsListed, IsIndexed, AreTables, tables_map}
 use Rattle.olr_map.proofs.Common.{Blocks, Links, NodeEntry, Side, RoadMap, held, all_held, in_slot, common_steps}
 use Rattle.std.proofs.Common.{IsTrue, SomeIff}
 use Rattle.std.proofs.lemmas.Map.Made.{lookup-map_values}
@@ -116,9 +116,6 @@ module _ (t : RoadMap) where
   -- an absent node has no lines
   pub no_lines : (side : Side) (v : ℕ) → (has_node M v ≡ true → ⊥) → [] ≡ lines_at side M v
   no_lines side v missing = absent_lines side M v t.kept.sound (false_from_ne_true (has_node M v) missing)
-
-  pub no_ends : (side : Side) (v : ℕ) → (has_node M v ≡ true → ⊥) → [] ≡ map (end_at side M (node_slot b)) (lines_at side M v)
-  no_ends side v missing = ap (map (end_at side M (node_slot b))) (no_lines side v missing)
 
   -- the slot of a node, by `node_slot`
   pub slot_is : (v p : ℕ) → has_node M v ≡ true → node_slot b v ≡ p → slot_by b v ≡ Some p

@@ -3,7 +3,7 @@ use Rattle.olr_map.proofs.Common.{◌≤◌, ℕ, List, length, Contains, IsStri
 use Rattle.olr_map.proofs.Common.{list_any-from_Contains}
 use Rattle.std.proofs.lemmas.Map.Made.{length-le_from_is_member}
 use Rattle.std.specs.Cmp.{nat_eq_equiv}
-use Rattle.olr_map.proofs.Numbers.{distinct_from_ascending}
+use Rattle.olr_spec.proofs.SameNumbers.{distinct_from_ascending}
 
 pub ascending_within : (xs ys : List ℕ) → IsStrictlyIncreasing xs → ((n : ℕ) → Contains xs n → Contains ys n) →
     length xs ≤ length ys

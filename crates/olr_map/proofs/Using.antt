@@ -1,14 +1,12 @@
 -- When a node is in use, by its two lists.
 use Rattle.olr_map.proofs.Common.{common_steps, ◌==◌, nil_from_length, Node_in_use, has-lines_where}
-use Rattle.olr_map.proofs.Common.{◌≡◌, ◌<◌, ◌∷◌, Ok, Err, map, sym, ap, ◌∙◌, get, Map, has, near, Side, Out, In}
-use Rattle.olr_map.proofs.Common.{◌||◌, true, false, List, [], Some, length, refl, arith, Line, in_use, edited, LineEnd}
+use Rattle.olr_map.proofs.Common.{◌≡◌, ◌<◌, ◌∷◌, Ok, Err, sym, ap, ◌∙◌, get, Map, has, near, Side, Out, In}
+use Rattle.olr_map.proofs.Common.{◌||◌, true, false, List, [], Some, length, arith, Line, in_use, edited}
 use Rattle.olr_map.proofs.Common.{ℕ, or_left, or_right, lines_out, has_node, has_here, passed_line, lines_at}
 use Rattle.std.specs.FinMap.{remove}
 use Rattle.std.proofs.lemmas.Bool.{or_from, not_from_true}
-use Rattle.std.proofs.lemmas.List.{length-map}
 use Rattle.olr_spec.specs.Map.{lines_in, Drop_node}
 use Rattle.olr_spec.proofs.UndoLemmas.{unless_false}
-use Rattle.olr_roads.specs.Ends.{end_in, end_out}
 use Rattle.olr_map.proofs.LineRecords.{used_by, unused_by}
 
 -- a line with an end at the node uses it
@@ -37,21 +35,15 @@ unused_if_empty M v out into =
 
 -- ---- the outcome of removing a node
 
--- when a node is not in use, by the ends of both lists
-pub unused_without_ends : (M : Map) (slot : ℕ → ℕ) (v : ℕ) (outs ins : List LineEnd) →
-    outs ≡ map (end_out M slot) (lines_out M v) → ins ≡ map (end_in M slot) (lines_in M v)
-    → length outs ≡ 0 → length ins ≡ 0 → in_use M v ≡ false
-unused_without_ends M slot v outs ins outs_are ins_are a b = grind (arith, common_steps, length-map, unused_if_empty)
+pub unused_by_lists : (M : Map) (v : ℕ) (outs ins : List ℕ) → outs ≡ lines_out M v → ins ≡ lines_in M v →
+    length outs ≡ 0 → length ins ≡ 0 → in_use M v ≡ false
+unused_by_lists M v outs ins outs_are ins_are a b = grind (arith, common_steps, unused_if_empty)
 
-pub used_by_out : (M : Map) (slot : ℕ → ℕ) (v : ℕ) (outs : List LineEnd) →
-    outs ≡ map (end_out M slot) (lines_out M v) → (length outs ≡ 0 → ⊥) → in_use M v ≡ true
-used_by_out M slot v outs are ne =
-    let uses = first_uses Out M v (lines_out M v) refl in grind (arith, common_steps, length-map, uses)
+pub used_by_out : (M : Map) (v : ℕ) (outs : List ℕ) → outs ≡ lines_out M v → (length outs ≡ 0 → ⊥) → in_use M v ≡ true
+used_by_out M v outs are ne = let uses = first_uses Out M v outs are in grind (arith, common_steps, uses)
 
-pub used_by_in : (M : Map) (slot : ℕ → ℕ) (v : ℕ) (ins : List LineEnd) → ins ≡ map (end_in M slot) (lines_in M v) →
-    (length ins ≡ 0 → ⊥) → in_use M v ≡ true
-used_by_in M slot v ins are ne =
-    let uses = first_uses In M v (lines_in M v) refl in grind (arith, common_steps, length-map, uses)
+pub used_by_in : (M : Map) (v : ℕ) (ins : List ℕ) → ins ≡ lines_in M v → (length ins ≡ 0 → ⊥) → in_use M v ≡ true
+used_by_in M v ins are ne = let uses = first_uses In M v ins are in grind (arith, common_steps, uses)
 
 pub drop_taken : (M : Map) (v : ℕ) → has_node M v ≡ true → in_use M v ≡ false →
     edited M (Drop_node v) ≡ Ok (record M { nodes = remove M.nodes v })

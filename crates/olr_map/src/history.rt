@@ -199,6 +199,21 @@ impl RoadMap {
         })
     }
 
+    /// Makes an edit that was judged on this map and is never undone. An error leaves the map as it was, and is returned
+    /// only for an edit that adds or removes a node or a line.
+    #[tactic(auto, using(crate::proofs::Verdicts::plan_slots, crate::proofs::Verdicts::slots_reserved))]
+    pub fn make_kept(&mut self, edit: Edit, plan: &EditPlan) -> Result<(), AllocError>
+        requires { IsEditPlan (map_of self.old) (slot_of self.old) (edit_of edit) plan.now }
+        ensures done { OnOk result (edited (map_of self.old) (edit_of edit) ≡ Ok (map_of self.new)) }
+        ensures same { OnErr result (map_of self.new ≡ map_of self.old) }
+        ensures lacks { OnErr result (IsTrue (allocates (edit_of edit))) }
+    {
+        self.make_room(&edit, plan.slots, 0, 0)?;
+        let change = self.change_for(edit, plan.nodes);
+        drop(self.make_change(change, plan.slots));
+        Ok(())
+    }
+
     /// Undoes an edit: the map is as it was before. Does not allocate.
     pub fn undo(&mut self, undo: Undo)
         requires { CanUndo self.old undo }

@@ -3,7 +3,7 @@ ghost use Rattle.std.specs.Prelude.{◌≡◌, ◌+◌, ◌-◌, ◌<◌, ◌≤
 ghost use Rattle.std.specs.Prelude.{slice_range};
 ghost use Rattle.std.specs.List.{remove_range};
 
-use olr_roads::{LineEnd, LineId};
+use olr_roads::{LineEnd, LineId, NodeLines};
 
 /// How many lines fit in the value.
 pub const INLINE: usize = 4;
@@ -31,18 +31,16 @@ impl Inline {
         }
     }
 
-    /// The lines.
-    pub fn lines(&self) -> &[LineId]
-        ensures { result.now ≡ take self.now.count self.now.lines }
+    /// The lines, with their far ends.
+    pub fn as_slices(&self) -> NodeLines<'_>
+        ensures lines { result.lines.now ≡ take self.now.count self.now.lines }
+        ensures ends { result.ends.now ≡ take self.now.count self.now.ends }
     {
-        &self.lines[..self.count as usize]
-    }
-
-    /// Their far ends.
-    pub fn ends(&self) -> &[LineEnd]
-        ensures { result.now ≡ take self.now.count self.now.ends }
-    {
-        &self.ends[..self.count as usize]
+        let count = self.count as usize;
+        NodeLines {
+            lines: &self.lines[..count],
+            ends: &self.ends[..count],
+        }
     }
 
     /// Inserts a line at this position. There are fewer than four lines.

@@ -81,7 +81,7 @@ fn judge_node_dropped<M: MapRead>(map: &M, id: NodeId) -> Result<EditPlan, EditF
     let Some(at) = map.slot_of(id) else {
         return Err(EditFault::NoNode);
     };
-    if !map.out_ends_at(at).is_empty() || !map.in_ends_at(at).is_empty() {
+    if !map.out_lines_at(at).lines.is_empty() || !map.in_lines_at(at).lines.is_empty() {
         return Err(EditFault::NodeInUse);
     }
     Ok(node_plan(id, at))

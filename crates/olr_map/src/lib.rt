@@ -18,7 +18,8 @@ pub mod undo;
 
 pub use judging::{EditPlan, judge};
 pub use olr_roads::{
-    Edit, EditFault, Footprint, Line, LineEnd, LineId, MapRead, NodeId, NumberHasher, Shape,
+    Edit, EditFault, Footprint, Line, LineEnd, LineId, MapRead, NodeId, NodeLines, NumberHasher,
+    Shape,
 };
 pub use road_map::RoadMap;
 pub use undo::{Undo, UndoLog};

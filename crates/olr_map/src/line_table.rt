@@ -60,10 +60,7 @@ impl LineTable {
         ensures put { (k : ℕ) → held self.new k ≡ cond (number == k) (Some line) (held self.old k) }
         ensures spare { spare_numbers self.old ≤ spare_numbers self.new }
     {
-        match self.by_number.get_mut(&number) {
-            Some(place) => mem::replace(place, line),
-            None => unreachable!(),
-        }
+        mem::replace(self.by_number.get_mut(&number).unwrap(), line)
     }
 
     /// Removes the line with this number, and returns it.
@@ -73,9 +70,6 @@ impl LineTable {
         ensures taken { (k : ℕ) → held self.new k ≡ cond (number == k) None (held self.old k) }
         ensures spare { spare_numbers self.old ≤ spare_numbers self.new }
     {
-        match self.by_number.remove(&number) {
-            Some(line) => line,
-            None => unreachable!(),
-        }
+        self.by_number.remove(&number).unwrap()
     }
 }

@@ -5,7 +5,7 @@ ghost use Rattle.std.specs.Vec.{vec_capacity};
 ghost use Rattle.olr_spec.specs.Map.{has};
 
 use crate::inline::{INLINE, Inline};
-use olr_roads::{LineEnd, LineId};
+use olr_roads::{LineEnd, LineId, NodeLines};
 use std::alloc::{AllocError, Global};
 
 /// The numbers of lines in ascending order, and the far end of each.
@@ -53,23 +53,17 @@ impl Links {
         }
     }
 
-    /// The lines.
-    pub fn lines(&self) -> &[LineId]
-        ensures { result.now ≡ lines_on self.now }
+    /// The lines, with their far ends.
+    pub fn as_slices(&self) -> NodeLines<'_>
+        ensures lines { result.lines.now ≡ lines_on self.now }
+        ensures ends { result.ends.now ≡ ends_on self.now }
     {
         match self {
-            Links::Inline(inline) => inline.lines(),
-            Links::Spilled(spilled) => spilled.lines.as_slice(),
-        }
-    }
-
-    /// Their far ends.
-    pub fn ends(&self) -> &[LineEnd]
-        ensures { result.now ≡ ends_on self.now }
-    {
-        match self {
-            Links::Inline(inline) => inline.ends(),
-            Links::Spilled(spilled) => spilled.ends.as_slice(),
+            Links::Inline(inline) => inline.as_slices(),
+            Links::Spilled(spilled) => NodeLines {
+                lines: spilled.lines.as_slice(),
+                ends: spilled.ends.as_slice(),
+            },
         }
     }
 
@@ -79,8 +73,9 @@ impl Links {
         ensures ends { IfOk result (λ l. ends_on l ≡ take inline.now.count inline.now.ends) }
         ensures room { IfOk result (λ l. 8 ≤ links_room l) }
     {
-        let lines = copied(alloc, inline.lines())?;
-        let ends = copied(alloc, inline.ends())?;
+        let inline = inline.as_slices();
+        let lines = copied(alloc, inline.lines)?;
+        let ends = copied(alloc, inline.ends)?;
         Ok(Links::Spilled(Box::new(alloc, Spilled { lines, ends })?))
     }
 
@@ -107,7 +102,7 @@ impl Links {
         requires room { IsFalse (has (lines_on self.old) id) → length (lines_on self.old) < links_room self.old }
         ensures { IsPut self.old self.new id end }
     {
-        match (self.lines().binary_search(&id), end) {
+        match (self.as_slices().lines.binary_search(&id), end) {
             (Ok(at), Some(end)) => self.set_at(at, end),
             (Ok(at), None) => self.remove(at),
             (Err(at), Some(end)) => self.insert(at, id, end),

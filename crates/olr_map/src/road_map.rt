@@ -6,11 +6,10 @@ ghost use Rattle.olr_map.specs.Tables.{AreTables, AreTables-prop};
 
 use crate::blocks::Blocks;
 use crate::line_table::LineTable;
-use crate::links::Links;
 use crate::slots::{NodeSlots, Side};
 use crate::undo::{Undo, UndoLog};
 use olr_coords::Coord;
-use olr_roads::{Line, LineEnd, LineId, MapRead, NodeId};
+use olr_roads::{Line, LineId, MapRead, NodeId, NodeLines};
 use std::alloc::Global;
 
 /// A road map. The time of a read or an edit depends neither on the order of node and line numbers nor on gaps in them.
@@ -68,14 +67,6 @@ impl MapRead for RoadMap {
         self.side_lines(Side::In, id)
     }
 
-    fn out_ends(&self, id: NodeId) -> &[LineEnd] {
-        self.side_ends(Side::Out, id)
-    }
-
-    fn in_ends(&self, id: NodeId) -> &[LineEnd] {
-        self.side_ends(Side::In, id)
-    }
-
     #[tactic(auto, using(crate::proofs::ColumnLemmas::slot_count))]
     fn slot_count(&self) -> usize {
         self.nodes.heads.entries.len()
@@ -86,16 +77,12 @@ impl MapRead for RoadMap {
         self.index.get(id.number())
     }
 
-    fn in_lines_at(&self, slot: u32) -> &[LineId] {
-        self.links_at(Side::In, slot).lines()
+    fn out_lines_at(&self, slot: u32) -> NodeLines<'_> {
+        self.side_at(Side::Out, slot)
     }
 
-    fn out_ends_at(&self, slot: u32) -> &[LineEnd] {
-        self.links_at(Side::Out, slot).ends()
-    }
-
-    fn in_ends_at(&self, slot: u32) -> &[LineEnd] {
-        self.links_at(Side::In, slot).ends()
+    fn in_lines_at(&self, slot: u32) -> NodeLines<'_> {
+        self.side_at(Side::In, slot)
     }
 
     ghost sound = { λ m. m.kept.sound };
@@ -107,7 +94,6 @@ impl RoadMap {
     ghost use Rattle.std.specs.Prelude.{ℕ, map, IsTrue};
     ghost use Rattle.olr_spec.specs.Map.{empty_map, has_node};
     ghost use Rattle.olr_map.specs.RoadMaps.{map_of, slot_of};
-    ghost use Rattle.olr_map.specs.Linked.{lines_on, ends_on};
     ghost use Rattle.olr_map.specs.Tables.{lines_at, end_at};
 
     /// A map without nodes and lines. Does not allocate.
@@ -121,17 +107,16 @@ impl RoadMap {
         }
     }
 
-    /// The lines on one side of the node in a slot.
+    /// The lines on one side of the node in a slot, with their far ends.
     #[tactic(auto, using(crate::proofs::Reading::slot_filled))]
-    fn links_at(&self, side: Side, slot: u32) -> &Links
+    fn side_at(&self, side: Side, slot: u32) -> NodeLines<'_>
         requires { (v : ℕ) × IsTrue (has_node (map_of self.now) v) × (slot_of self.now v ≡ slot) }
         ensures lines { (v : ℕ) → IsTrue (has_node (map_of self.now) v) → slot_of self.now v ≡ slot
-            → lines_on result.now ≡ lines_at side (map_of self.now) v }
+            → result.lines.now ≡ lines_at side (map_of self.now) v }
         ensures ends { (v : ℕ) → IsTrue (has_node (map_of self.now) v) → slot_of self.now v ≡ slot
-            → ends_on result.now
-            ≡ map (end_at side (map_of self.now) (slot_of self.now)) (lines_at side (map_of self.now) v) }
+            → result.ends.now ≡ map (end_at side (map_of self.now) (slot_of self.now)) (lines_at side (map_of self.now) v) }
     {
-        self.nodes.links(side, slot)
+        self.nodes.links(side, slot).as_slices()
     }
 
     /// The numbers of the lines on one side of a node. Empty for an absent node.
@@ -140,18 +125,7 @@ impl RoadMap {
         ensures { result.now ≡ lines_at side (map_of self.now) id }
     {
         match self.slot_of(id) {
-            Some(slot) => self.links_at(side, slot).lines(),
-            None => &[],
-        }
-    }
-
-    /// The far ends of the lines on one side of a node. Empty for an absent node.
-    #[tactic(auto, using(crate::proofs::Reading::no_ends))]
-    fn side_ends(&self, side: Side, id: NodeId) -> &[LineEnd]
-        ensures { result.now ≡ map (end_at side (map_of self.now) (slot_of self.now)) (lines_at side (map_of self.now) id) }
-    {
-        match self.slot_of(id) {
-            Some(slot) => self.links_at(side, slot).ends(),
+            Some(slot) => self.side_at(side, slot).lines,
             None => &[],
         }
     }

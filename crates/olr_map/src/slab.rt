@@ -36,10 +36,7 @@ impl<V: Drop> Slab<V> {
         requires { IsSome (at (slots_of self.now) slot) }
         ensures { at (slots_of self.now) slot ≡ Some result.now }
     {
-        match &self.entries[slot as usize] {
-            Some(entry) => entry,
-            None => unreachable!(),
-        }
+        self.entries[slot as usize].as_ref().unwrap()
     }
 
     /// Reserves capacity for `additional` more values.
@@ -91,10 +88,7 @@ impl<V: Drop> Slab<V> {
         ensures free { free_in self.new ≡ free_in self.old }
         ensures room { room_in self.new ≡ room_in self.old }
     {
-        match &mut self.entries[slot as usize] {
-            Some(place) => mem::replace(place, entry),
-            None => unreachable!(),
-        }
+        mem::replace(self.entries[slot as usize].as_mut().unwrap(), entry)
     }
 
     /// Removes the value in a slot, and returns it. The slot is then free.
@@ -105,12 +99,8 @@ impl<V: Drop> Slab<V> {
         ensures free { free_in self.new ≡ free_in self.old + 1 }
         ensures room { room_in self.old + 1 ≤ room_in self.new }
     {
-        match mem::replace(&mut self.entries[slot as usize], None) {
-            Some(entry) => {
-                self.free.push_reserved(slot);
-                entry
-            }
-            None => unreachable!(),
-        }
+        let entry = mem::replace(&mut self.entries[slot as usize], None);
+        self.free.push_reserved(slot);
+        entry.unwrap()
     }
 }

@@ -69,10 +69,7 @@ impl RoadMap {
         requires { IsTrue (has_node (tables_map self.now) id) }
         ensures { slot_by self.now.index id ≡ Some result }
     {
-        match self.slot_of(id) {
-            Some(slot) => slot,
-            None => unreachable!(),
-        }
+        self.slot_of(id).unwrap()
     }
 
     /// The slots where a line of the map begins and ends.
@@ -82,10 +79,8 @@ impl RoadMap {
         ensures from { slot_by self.now.index (start (tables_map self.now) id) ≡ Some result.0 }
         ensures to { slot_by self.now.index (end (tables_map self.now) id) ≡ Some result.1 }
     {
-        match self.lines.get(id.number()) {
-            Some(line) => (self.slot(line.from), self.slot(line.to)),
-            None => unreachable!(),
-        }
+        let line = self.lines.get(id.number()).unwrap();
+        (self.slot(line.from), self.slot(line.to))
     }
 
     /// Reserves capacity for one more node number, in addition to `owed` numbers that undo records may put back.

@@ -62,12 +62,8 @@ impl UndoLog {
             TableChange::PutLine(..) => (0, 1),
             _ => (0, 0),
         };
-        match self.changes.push(change) {
-            Ok(()) => {
-                self.nodes += nodes;
-                self.lines += lines;
-            }
-            Err(_) => unreachable!(),
-        }
+        self.changes.push_reserved(change);
+        self.nodes += nodes;
+        self.lines += lines;
     }
 }

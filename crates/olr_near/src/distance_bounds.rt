@@ -3,7 +3,7 @@ ghost use Rattle.std.specs.Prelude.{◌<◌, ◌^◌, ℕ, IsSome, nat_eq};
 ghost use Rattle.std.specs.HashMap.{get};
 
 use olr_roads::{MapRead, NodeId, NumberHasher};
-use olr_search::{Bounds, GREATEST_LIMIT};
+use olr_search::{Bounds, Direction, GREATEST_LIMIT, ends_from};
 use std::alloc::{AllocError, Global};
 use std::cmp::Reverse;
 use std::collections::{BinaryHeap, HashMap};
@@ -236,8 +236,11 @@ impl DistanceBounds {
         if number > GREATEST_LIMIT {
             return Ok(());
         }
+        let Some(slot) = map.slot_of(node) else {
+            return Ok(());
+        };
         let room = GREATEST_LIMIT - number;
-        for end in map.out_ends(node) {
+        for end in ends_from(map, Direction::Along, slot) {
             if end.len <= room {
                 self.relax(end.node, number + end.len)?;
             }

@@ -6,12 +6,13 @@ pub use Rattle.olr_refs.specs.Extends.{Extends}
 pub use Rattle.olr_refs.specs.Fields.{lowest_class, middle_points_of}
 pub use Rattle.olr_refs.specs.KeptPoints.{AreAlong, AreLinked, ArePoints, AreTrimmed, IsFirstKept, IsLastKept}
 pub use Rattle.olr_refs.specs.KeptPoints.{distance_at, later, whole_distance}
-pub use Rattle.olr_refs.specs.ResolvedLines.{AreRecords, ResolvedLine, ids, record_of, records_of}
+pub use Rattle.olr_refs.specs.ResolvedLines.{AreRecords, ids, records_of}
 pub use Rattle.olr_refs.specs.Reuse.{Asks, AsksAfter, AsksOf, Reuses, Searched, known_reach}
 pub use Rattle.olr_refs.specs.Runs.{IsLongest, IsRun, LeadsOn, LiesBeyond, in_order, outermost}
 pub use Rattle.olr_search.proofs.ReadLemmas.{read_at}
 pub use Rattle.olr_search.specs.Counts.{no_work, raised_count, raised_work, saturated_count}
 pub use Rattle.olr_search.specs.Distances.{far_end, near_end}
+pub use Rattle.olr_search.specs.ResolvedLines.{IsResolved, ResolvedLine, record_of}
 pub use Rattle.olr_search.specs.Searches.{Counts, IsSearch, LiesWithin, limit_of}
 pub use Rattle.olr_search.specs.declared.distances.Dijkstra.{Dijkstra}
 pub use Rattle.olr_search.specs.declared.distances.Direction.TheVariants.{Against, Along}

@@ -19,29 +19,29 @@ taken_is : (valid through : Bool) (rs : List ResolvedLine) → valid ≡ not thr
     ids (cond valid rs []) ≡ cond through [] (ids rs)
 taken_is valid v1 rs e = grind arith
 
-taken_records : (M : Map) (valid : Bool) (rs : List ResolvedLine) → AreRecords M rs → AreRecords M (cond valid rs [])
-taken_records M v1 rs are = grind arith
+taken_records : (M : Map) (slot : ℕ → ℕ) (valid : Bool) (rs : List ResolvedLine) → AreRecords M slot rs → AreRecords M slot (cond valid rs [])
+taken_records M slot v1 rs are = grind arith
 
 len_taken : (M : Map) (valid : Bool) (rs : List ResolvedLine) (len : ℕ) → len ≡ dm_of M (ids rs) →
     cond valid len 0 ≡ dm_of M (ids (cond valid rs []))
 len_taken M v1 rs len e = grind arith
 
-module _ (M : Map) (P : Path) (good : IsTrue (is_path P.lines)) (unknown : first_unknown M P.lines ≡ None)
-    (own : List ResolvedLine) (own_is : own ≡ records_of M P.lines) where
+module _ (M : Map) (slot : ℕ → ℕ) (P : Path) (good : IsTrue (is_path P.lines)) (unknown : first_unknown M P.lines ≡ None)
+    (own : List ResolvedLine) (own_is : own ≡ records_of M slot P.lines) where
   some : 0 < length P.lines
   some = path_nonempty P.lines good
 
   own_ids : ids own ≡ P.lines
-  own_ids = ids_are M P.lines own own_is
+  own_ids = ids_are M slot P.lines own own_is
 
   pub own_some : 0 < length own
-  own_some = let n = some in let l = records_length M P.lines own own_is in omega arith
+  own_some = let n = some in let l = records_length M slot P.lines own own_is in omega arith
 
   pub own_first : IsTrue (has_line M (first (ids own)))
   own_first = grind (arith, own_ids, all_first, some, no_unknown)
 
   module _ (before : List ResolvedLine) (before_len : ℕ) (before_valid : Bool)
-      (b : IsRun M Against (ids own) before before_len before_valid)
+      (b : IsRun M slot Against (ids own) before before_len before_valid)
       (front : List ResolvedLine) (front_is : front ≡ cond before_valid before [] ++ own) where
     start_is : ids (cond before_valid before []) ≡ taken_start M (ids before) P.lines
     start_is = taken_is before_valid _ before b.leads ∙ ap (λ (ls : List ℕ). taken_start M (ids before) ls) own_ids
@@ -50,7 +50,7 @@ module _ (M : Map) (P : Path) (good : IsTrue (is_path P.lines)) (unknown : first
     from_is : ids front ≡ from_start M P (ids before)
     from_is = grind (arith, map-append, start_is, own_ids)
 
-    pub front_records : AreRecords M front
+    pub front_records : AreRecords M slot front
     front_records = grind (arith, records_append, taken_records, are_records)
 
     pub front_some : 0 < length front
@@ -62,12 +62,12 @@ module _ (M : Map) (P : Path) (good : IsTrue (is_path P.lines)) (unknown : first
         (all_last _ P.lines some (no_unknown M P.lines unknown))
 
     module _ (after : List ResolvedLine) (after_len : ℕ) (after_valid : Bool)
-        (a : IsRun M Along (ids front) after after_len after_valid)
+        (a : IsRun M slot Along (ids front) after after_len after_valid)
         (whole : List ResolvedLine) (whole_is : whole ≡ front ++ cond after_valid after []) where
       back_is : ids (cond after_valid after []) ≡ taken_end M (from_start M P (ids before)) (ids after)
       back_is = taken_is after_valid _ after a.leads ∙ ap (λ (zs : List ℕ). taken_end M zs (ids after)) from_is
 
-      pub whole_records : AreRecords M whole
+      pub whole_records : AreRecords M slot whole
       whole_records = grind (arith, records_append, front_records, taken_records)
 
       -- what the code composes is the extended path

@@ -36,15 +36,15 @@ record_sound M m x l h e = grind (arith, is_good, has_node)
 
 -- ---- attributes
 
-class_read : (M : Map) (ls : List ℕ) (rs : List ResolvedLine) (i j : ℕ) → rs ≡ records_of M ls →
+class_read : (M : Map) (slot : ℕ → ℕ) (ls : List ℕ) (rs : List ResolvedLine) (i j : ℕ) → rs ≡ records_of M slot ls →
     lowest_class (stretch rs i j) ≡ fold max 0 (map (λ g. g.line.frc) (slice_range (legs M ls) i j))
-class_read M ls rs i j e = grind (arith, range_map, map-map)
+class_read M slot ls rs i j e = grind (arith, range_map, map-map)
 
-pub attrs_read : (M : Map) (ls : List ℕ) (rs : List ResolvedLine) (i j frc fow lfrc bearing d : ℕ) (l : Line)
-    (e : Ends) → rs ≡ records_of M ls →
+pub attrs_read : (M : Map) (slot : ℕ → ℕ) (ls : List ℕ) (rs : List ResolvedLine) (i j frc fow lfrc bearing d : ℕ) (l : Line)
+    (e : Ends) → rs ≡ records_of M slot ls →
     ends.leg_between l e ≡ leg_at (legs M ls) i → frc ≡ l.frc → fow ≡ l.fow
     → lfrc ≡ lowest_class (stretch rs i j) → bearing ≡ bearing_out (ends.leg_between l e) →
     d ≡ dm_between (legs M ls) i j
     → ◌≡◌ {A = Attrs} (record { frc = frc; fow = fow; lfrc = lfrc; bearing = bearing; dnp = d / 586 })
     (attrs (legs M ls) i j)
-attrs_read M ls rs i j frc fow lfrc bearing d l e resolved is hr hf hl hb hd = grind (arith, class_read)
+attrs_read M slot ls rs i j frc fow lfrc bearing d l e resolved is hr hf hl hb hd = grind (arith, class_read)

@@ -2,8 +2,8 @@
 use Rattle.olr_refs.proofs.Common.{append_assoc, ◌≡◌, ◌≤◌, ◌+◌, ◌*◌, ◌-◌, ℕ, suc, List, [], ◌∷◌, ◌++◌, length}
 use Rattle.olr_refs.proofs.Common.{Contains, refl, arith, inl, inr, length-append, None, Some, Option}
 use Rattle.olr_refs.proofs.Common.{◌⊎◌, IsTrue, ◌↔◌, AllZip, eqb-true, Contains-append_left, Map, has_node, IsMap}
-use Rattle.olr_refs.proofs.Common.{dm_of, limit, Path, is_path, Next, last_position, stretch, Sees, Foot, CoverageQuery}
-use Rattle.olr_refs.proofs.Common.{IsLastTested, QueriesOf, Contains-here, Contains-cases, Work, Along, Dijkstra}
+use Rattle.olr_refs.proofs.Common.{dm_of, Path, is_path, Next, last_position, Sees, Foot, CoverageQuery}
+use Rattle.olr_refs.proofs.Common.{QueriesOf, Contains-here, Contains-cases, Work, Along, Dijkstra}
 use Rattle.olr_refs.proofs.Common.{IsSearch, LiesWithin, limit_of, AreSearched, SeenBy, SettledBy, Notes}
 use Rattle.olr_refs.proofs.Common.{no_work, raised_count, raised_work}
 use Rattle.olr_refs.proofs.Common.{foot_queried, all_searched, Contains-append_right, Contains-append_cases, Follow}
@@ -15,8 +15,6 @@ use Rattle.std.proofs.lemmas.Map.Views.{Contains-from_any, list_any-from_Contain
 use Rattle.std.proofs.lemmas.List.Sums.{sum_by-append, sum_by-cons}
 use Rattle.std.specs.Prelude.{sum, ◌^◌}
 use Rattle.olr_search.proofs.SearchLemmas.{near_leads}
-use Rattle.olr_refs.proofs.Stretches.{stretch_sum}
-use Rattle.olr_refs.proofs.Reaching.{empty_stretch}
 
 -- ---- what a search settles
 

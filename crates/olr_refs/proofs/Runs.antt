@@ -4,7 +4,8 @@ use Rattle.olr_refs.proofs.Common.{nat_tests, ◌⊎◌, ◌≡◌, ℕ, ◌+◌
 use Rattle.olr_refs.proofs.Common.{◌++◌, length, map, reverse, Option, Some, None, MatchOption, refl, sym, ap, ◌∙◌}
 use Rattle.olr_refs.proofs.Common.{subst, arith, append_assoc, both_ways, map-append, reverse-append}
 use Rattle.olr_refs.proofs.Common.{list_any-IsPermutation, Map, has_line, dm, has, dm_of, last, limit, dm_of-append}
-use Rattle.olr_refs.proofs.Common.{far_end, Along, Against, ResolvedLine, record_of, records_of, ids, AreRecords}
+use Rattle.olr_refs.proofs.Common.{far_end, Along, Against, ResolvedLine, IsResolved, record_of, records_of, ids}
+use Rattle.olr_refs.proofs.Common.{AreRecords}
 use Rattle.olr_refs.proofs.Common.{LiesBeyond, IsRun, same_start_run, same_end_run, last_push, reverse-reverse, ◌≢◌}
 use Rattle.olr_refs.proofs.Common.{is_some, ⊤, ne_eqb, or_from, or_parts, list_any-append, IsPermutation-reverse}
 use Rattle.olr_refs.proofs.Common.{MayPrecede, MayFollow, StartRun, EndRun, has_here, has_first, has_last, near_end}
@@ -113,9 +114,9 @@ map-reverse {X} {Y} f (x ∷ xs) = grind (arith, pushed, map-append, map-reverse
 ids-in_order : (d : Direction) (rs : List ResolvedLine) → ids (in_order d rs) ≡ in_order d (ids rs)
 ids-in_order v0 rs = grind (arith, map-reverse)
 
-records-in_order : (M : Map) (d : Direction) (rs : List ResolvedLine) → AreRecords M rs → AreRecords M (in_order d rs)
-records-in_order M Along rs are = grind (arith, are, map-reverse, record_of, ids, records_of, ids-in_order)
-records-in_order M Against rs are = are
+records-in_order : (M : Map) (slot : ℕ → ℕ) (d : Direction) (rs : List ResolvedLine) → AreRecords M slot rs → AreRecords M slot (in_order d rs)
+records-in_order M slot Along rs are = grind (arith, are, map-reverse, record_of, ids, records_of, ids-in_order)
+records-in_order M slot Against rs are = are
 
 order_none : (d : Direction) → ◌≡◌ {A = List ResolvedLine} (in_order d []) []
 order_none v0 = grind arith
@@ -171,35 +172,36 @@ longest M Along ls c p w most =
 -- ---- a run as it is built
 
 -- the lines so far, their length, and what lies beyond them
-pub record Grows (M : Map) (d : Direction) (ls : List ℕ) (rs : List ResolvedLine) (len : ℕ) (through : Bool)
+pub record Grows (M : Map) (slot : ℕ → ℕ) (d : Direction) (ls : List ℕ) (rs : List ResolvedLine) (len : ℕ) (through : Bool)
     (line : Option ℕ) : Type 0
   where
     pub chain : Chain M d ls (ids rs)
-    pub are : AreRecords M rs
+    pub are : AreRecords M slot rs
     pub long : len ≡ dm_of M (ids rs)
     pub within : len ≤ limit
     pub beyond : LiesBeyond M d (tip d ls (ids rs)) through line
 
-pub grows_none : (M : Map) (d : Direction) (ls : List ℕ) (through : Bool) (line : Option ℕ) →
-    LiesBeyond M d (outermost d ls) through line → Grows M d ls [] 0 through line
-grows_none M d ls through line b = record { chain = tt; are = refl; long = refl; within = omega arith; beyond = b }
+pub grows_none : (M : Map) (slot : ℕ → ℕ) (d : Direction) (ls : List ℕ) (through : Bool) (line : Option ℕ) →
+    LiesBeyond M d (outermost d ls) through line → Grows M slot d ls [] 0 through line
+grows_none M slot d ls through line b = record { chain = tt; are = refl; long = refl; within = omega arith; beyond = b }
 
-module _ (M : Map) (d : Direction) (ls : List ℕ) (some : 0 < length ls) (known : IsTrue (has_line M (outermost d ls)))
-    (rs : List ResolvedLine) (len : ℕ) (through : Bool) (line : Option ℕ) (grows : Grows M d ls rs len through line)
+module _ (M : Map) (slot : ℕ → ℕ) (d : Direction) (ls : List ℕ) (some : 0 < length ls)
+    (known : IsTrue (has_line M (outermost d ls))) (rs : List ResolvedLine) (len : ℕ) (through : Bool) (line : Option ℕ)
+    (grows : Grows M slot d ls rs len through line)
   where
     pub grows_more : (n : ℕ) (r : ResolvedLine) (passes : Bool) (next : Option ℕ) → n ≡ r.len → line ≡ Some r.id →
-        r ≡ record_of M r.id → has ls r.id ≡ false → len + r.len ≤ limit → LiesBeyond M d r.id passes next →
-        Grows M d ls (r ∷ rs) (len + n) passes next
+        IsResolved M slot r → has ls r.id ≡ false → len + r.len ≤ limit → LiesBeyond M d r.id passes next →
+        Grows M slot d ls (r ∷ rs) (len + n) passes next
     grows_more n r passes next added is record_is off near b = grind (arith, fresh)
 
     pub finished : (used : List ℕ) → ((x : ℕ) → has used x ≡ has ls x) →
         MatchOption line ⊤ (λ x. (has used x ≡ true) ⊎ (limit < len + dm M x)) →
-        IsRun M d ls (in_order d rs) len (not through)
+        IsRun M slot d ls (in_order d rs) len (not through)
     finished used same none =
         record {
           longest = subst (IsLongest M d ls) (sym (ids-in_order d rs)) (longest M d ls (ids rs) grows.chain (omega arith)
               (no_longer M d ls some known (ids rs) grows.chain (stops line grows.beyond.next none)));
-          are = records-in_order M d rs grows.are;
+          are = records-in_order M slot d rs grows.are;
           long = rw (ids-in_order d rs, dm_of-in_order M d (ids rs)) grows.long;
           leads = rw (ids-in_order d rs, tip_is d ls (ids rs)) (ap not grows.beyond.node);
         }
@@ -213,10 +215,10 @@ module _ (M : Map) (d : Direction) (ls : List ℕ) (some : 0 < length ls) (known
             grind (arith, grows.long, same y)
 
 -- if no line leads on, no run does
-pub none_beyond : (M : Map) (d : Direction) (ls : List ℕ) → 0 < length ls → IsTrue (has_line M (outermost d ls)) →
+pub none_beyond : (M : Map) (slot : ℕ → ℕ) (d : Direction) (ls : List ℕ) → 0 < length ls → IsTrue (has_line M (outermost d ls)) →
     (through : Bool) (line : Option ℕ) → LiesBeyond M d (outermost d ls) through line → is_some line ≡ false →
-    IsRun M d ls [] 0 (not through)
-none_beyond M d ls some known through None b none =
-    subst (λ (rs : List ResolvedLine). IsRun M d ls rs 0 (not through)) (order_none d)
-    (finished M d ls some known [] 0 through None (grows_none M d ls through None b) ls (λ x. refl) tt)
-none_beyond M d ls some known through (Some y) b none = absurd cc
+    IsRun M slot d ls [] 0 (not through)
+none_beyond M slot d ls some known through None b none =
+    subst (λ (rs : List ResolvedLine). IsRun M slot d ls rs 0 (not through)) (order_none d)
+    (finished M slot d ls some known [] 0 through None (grows_none M slot d ls through None b) ls (λ x. refl) tt)
+none_beyond M slot d ls some known through (Some y) b none = absurd cc

@@ -3,11 +3,11 @@
 --     IsChoice ls js c      the choice is 0 and js where they lead to the end, and else the position that has no next
 --         point
 --     searches_of ls is      how many of the points is are searched from: those that two lines or more follow
---     CountOf near n      so many nodes are `near`
---     SettledBy M queries old new      a count is raised by the number of nodes that the queries see, added up
---     AreSearched M queries old new      one search more for each of the queries, which settles the nodes that it reaches
+--     CountOf near n      n nodes are `near`
+--     SettledBy M queries old new      a count rises by the sum of the numbers of nodes that the queries see
+--     AreSearched M queries old new      one more search for each query, which settles the nodes that it reaches
 --     SeenBy M queries v      one of the queries reaches node v
---     Notes near old new      where nodes are noted, those that are `near` are noted besides
+--     Notes near old new      if nodes are recorded at all, those that are `near` are added
 --     TestedTo M slot ls i far to q      the positions after i are covered and within the limit up to far, and tested up
 --         to the position `to`, by the search q
 --     FoundFrom M ls i far to asked work before noted      by one search for the query asked, with this work, the
@@ -56,7 +56,7 @@ pub record AreSearched (M : Map) (queries : List CoverageQuery) (old new : Work)
 abbrev pub SeenBy : Map → List CoverageQuery → ℕ → Type 0
 SeenBy M queries v = (l : CoverageQuery) × Contains queries l × Sees M l v
 
--- where none are noted, none are afterwards
+-- if none are recorded before, none are recorded afterwards
 abbrev pub Notes : (ℕ → Type 0) → Option (List ℕ) → Option (List ℕ) → Type 0
 Notes near None None = ⊤
 Notes near None (Some new) = ⊥

@@ -5,7 +5,7 @@ use Rattle.std.proofs.Common.{refl}
 use Rattle.olr_spec.specs.Extension.{Path}
 use Rattle.olr_answers.specs.Coded.{coded_path}
 use Rattle.olr_refs.specs.Extends.{ExtendedPath}
-use Rattle.olr_refs.specs.ResolvedLines.{ResolvedLine, coded_resolved_line}
+use Rattle.olr_search.specs.ResolvedLines.{ResolvedLine, coded_resolved_line}
 
 abbrev pub coded_extended : Coded ExtendedPath
 coded_extended =

@@ -6,7 +6,8 @@ use Rattle.olr_spec.specs.Map.{Map, start, end}
 use Rattle.olr_spec.specs.Routes.{IsRoute}
 use Rattle.olr_spec.specs.Extension.{first, last, AreJoined}
 use Rattle.olr_refs.specs.Along.{AreDistances}
-use Rattle.olr_refs.specs.ResolvedLines.{ResolvedLine, records_of, coded_resolved_line}
+use Rattle.olr_search.specs.ResolvedLines.{ResolvedLine, coded_resolved_line}
+use Rattle.olr_refs.specs.ResolvedLines.{records_of}
 
 pub IsRoute-prop : (M : Map) (s t : ℕ) (xs : List ℕ) → IsProp (IsRoute M s t xs)
 IsRoute-prop M s t [] = Coded-set coded_ℕ s t
@@ -21,8 +22,8 @@ IsRoute-prop M s t (x ∷ xs) =
 pub AreJoined-prop : (M : Map) (ls : List ℕ) → IsProp (AreJoined M ls)
 AreJoined-prop M ls = IsRoute-prop M (start M (first ls)) (end M (last ls)) ls
 
-pub AreRecords-prop : (M : Map) (ls : List ℕ) (rs : List ResolvedLine) → IsProp (rs ≡ records_of M ls)
-AreRecords-prop M ls rs = Coded-set (coded_list coded_resolved_line) rs (records_of M ls)
+pub AreRecords-prop : (M : Map) (slot : ℕ → ℕ) (ls : List ℕ) (rs : List ResolvedLine) → IsProp (rs ≡ records_of M slot ls)
+AreRecords-prop M slot ls rs = Coded-set (coded_list coded_resolved_line) rs (records_of M slot ls)
 
 pub AreDistances-prop : (M : Map) (ls ds : List ℕ) → IsProp (AreDistances M ls ds)
 AreDistances-prop M ls ds = λ d e i. record {

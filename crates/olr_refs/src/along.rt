@@ -6,13 +6,15 @@ ghost use Rattle.olr_spec.specs.Routes.{dm_of};
 ghost use Rattle.olr_spec.specs.Points.{node_at, stretch};
 ghost use Rattle.olr_spec.specs.Reference.{legs, dm_between, position};
 ghost use Rattle.olr_refs.specs.Along.{AreDistances};
-ghost use Rattle.olr_spec.specs.Extension.{AreJoined};
-ghost use Rattle.olr_refs.specs.ResolvedLines.{record_of, records_of};
+ghost use Rattle.olr_spec.specs.Extension.{AreJoined, passing};
+ghost use Rattle.olr_search.specs.ResolvedLines.{IsResolved, record_of};
+ghost use Rattle.olr_refs.specs.ResolvedLines.{records_of};
 ghost use Rattle.olr_refs.specs.ResolvedPaths.{AreJoined-prop, AreRecords-prop, AreDistances-prop};
 
-use crate::resolved::ResolvedLine;
+use crate::nodes::passing_at;
 use olr_coords::Coord;
 use olr_roads::{Line, LineId, MapRead, NodeId};
+use olr_search::ResolvedLine;
 use std::alloc::{AllocError, Global};
 
 /// Joined lines of a map, each of which ends where the next begins, as the map has them, with the distances of their
@@ -28,7 +30,7 @@ pub struct ResolvedPath<'a, M: MapRead> {
     /// The distance of each position from the start, in decimetres.
     pub distances: &'a [u128],
     ghost joined: { AreJoined (M.map map.now) lines.now } by { AreJoined-prop (M.map map.now) lines.now },
-    ghost resolved: { records.now ≡ records_of (M.map map.now) lines.now } by { AreRecords-prop (M.map map.now) lines.now records.now },
+    ghost resolved: { records.now ≡ records_of (M.map map.now) (M.node_slot map.now) lines.now } by { AreRecords-prop (M.map map.now) (M.node_slot map.now) lines.now records.now },
     ghost measured: { AreDistances (M.map map.now) lines.now distances.now } by { AreDistances-prop (M.map map.now) lines.now distances.now },
 }
 
@@ -47,13 +49,32 @@ impl<M: MapRead> ResolvedPath<'_, M> {
 
     /// What the path has of line `k`.
     #[tactic(auto, using(crate::proofs::Resolving::records_length))]
-    fn resolved_line(&self, k: usize) -> ResolvedLine
+    pub(crate) fn resolved_line(&self, k: usize) -> ResolvedLine
         requires { k < length self.now.lines.now }
-        ensures value { result ≡ record_of (M.map self.now.map.now) (slice_index self.now.lines.now k) }
+        ensures value { result
+            ≡ record_of (M.map self.now.map.now) (M.node_slot self.now.map.now) (slice_index self.now.lines.now k) }
+        ensures resolved { IsResolved (M.map self.now.map.now) (M.node_slot self.now.map.now) result }
         ensures from { IsTrue (has_node (M.map self.now.map.now) result.from) }
         ensures to { IsTrue (has_node (M.map self.now.map.now) result.to) }
     {
         self.records[k]
+    }
+
+    /// The node at position `k`, and its slot.
+    pub(crate) fn node_and_slot(&self, k: usize) -> (NodeId, u32)
+        requires some { 0 < length self.now.lines.now }
+        requires within { k ≤ length self.now.lines.now }
+        ensures node { result.0 ≡ node_at (M.map self.now.map.now) self.now.lines.now k }
+        ensures slot { result.1
+            ≡ M.node_slot self.now.map.now (node_at (M.map self.now.map.now) self.now.lines.now k) }
+        ensures known { IsTrue (has_node (M.map self.now.map.now) result.0) }
+    {
+        if k < self.lines.len() {
+            let line = self.resolved_line(k);
+            (line.from, line.from_slot)
+        } else {
+            self.end_and_slot(self.lines.len() - 1)
+        }
     }
 
     /// The node at position `k`.
@@ -63,11 +84,19 @@ impl<M: MapRead> ResolvedPath<'_, M> {
         ensures value { result ≡ node_at (M.map self.now.map.now) self.now.lines.now k }
         ensures known { IsTrue (has_node (M.map self.now.map.now) result) }
     {
-        if k < self.lines.len() {
-            self.resolved_line(k).from
-        } else {
-            self.end(self.lines.len() - 1)
-        }
+        self.node_and_slot(k).0
+    }
+
+    /// The node where line `k` ends, and its slot.
+    fn end_and_slot(&self, k: usize) -> (NodeId, u32)
+        requires { k < length self.now.lines.now }
+        ensures node { result.0 ≡ end (M.map self.now.map.now) (slice_index self.now.lines.now k) }
+        ensures slot { result.1
+            ≡ M.node_slot self.now.map.now (end (M.map self.now.map.now) (slice_index self.now.lines.now k)) }
+        ensures known { IsTrue (has_node (M.map self.now.map.now) result.0) }
+    {
+        let line = self.resolved_line(k);
+        (line.to, line.to_slot)
     }
 
     /// The node where line `k` ends.
@@ -76,7 +105,17 @@ impl<M: MapRead> ResolvedPath<'_, M> {
         ensures value { result ≡ end (M.map self.now.map.now) (slice_index self.now.lines.now k) }
         ensures known { IsTrue (has_node (M.map self.now.map.now) result) }
     {
-        self.resolved_line(k).to
+        self.end_and_slot(k).0
+    }
+
+    /// Whether the node at position `k` is a degree-two node.
+    pub(crate) fn is_passing(&self, k: usize) -> bool
+        requires some { 0 < length self.now.lines.now }
+        requires within { k ≤ length self.now.lines.now }
+        ensures { result ≡ passing (M.map self.now.map.now) (node_at (M.map self.now.map.now) self.now.lines.now k) }
+    {
+        let (node, slot) = self.node_and_slot(k);
+        passing_at(self.map, node, slot)
     }
 
     /// The coordinate of position `k`.
@@ -119,7 +158,7 @@ pub fn coord_of<M: MapRead>(map: &M, node: NodeId) -> Coord
 
 /// The distance of each position from the start, in decimetres. 128 bits suffice for any list of lines.
 pub fn distances(alloc: Global, records: &[ResolvedLine]) -> Result<Vec<u128>, AllocError>
-    ensures { IfOk result (λ distances. (M : Map) (ls : List ℕ) → records.now ≡ records_of M ls
+    ensures { IfOk result (λ distances. (M : Map) (slot : ℕ → ℕ) (ls : List ℕ) → records.now ≡ records_of M slot ls
         → AreDistances M ls distances.items) }
 {
     let mut distances = Vec::with_capacity(alloc, records.len() + 1)?;

@@ -8,7 +8,6 @@ ghost use Rattle.olr_spec.specs.Extension.{limit};
 ghost use Rattle.olr_refs.specs.Along.{IsFar, IsLastWithinLimit, IsReach};
 
 use crate::along::ResolvedPath;
-use crate::nodes::passing;
 use olr_coords::{Coord, rel16};
 use olr_roads::MapRead;
 use olr_search::GREATEST_LIMIT;
@@ -67,7 +66,7 @@ pub fn next_of<M: MapRead>(resolved: &ResolvedPath<M>, i: usize, reach: usize) -
     let mut last = None;
     for k in (i + 1..reach + 1).rev() {
         if is_fit(here, resolved.place(k)) {
-            if !passing(resolved.map, resolved.node(k)) {
+            if !resolved.is_passing(k) {
                 return Some(k);
             }
             last = last.or(Some(k));

@@ -30,9 +30,9 @@ pub enum Choice {
 pub struct Queries {
     /// One coverage query from each LRP whose line is followed by two lines or more.
     pub all: Vec<CoverageQuery>,
-    /// Those of them that are along the path's own lines.
+    /// Those of the queries that are along the path's own lines.
     pub own: Vec<KnownQuery>,
-    /// The searches for those that were not known.
+    /// The searches for the queries that were not known already.
     pub work: Work,
 }
 
@@ -43,7 +43,7 @@ struct Found {
     reach: usize,
     /// The query.
     query: CoverageQuery,
-    /// The same as a query along the path's own lines, where it is one.
+    /// The query as one along the path's own lines. None if it is not one.
     own: Option<KnownQuery>,
     /// The search for it; none if it was known.
     work: Work,
@@ -148,7 +148,7 @@ fn query_after<M: MapRead>(
     }
 }
 
-/// How far the positions after `i` are covered and near enough. Where two lines or more follow line `i`, appends the
+/// How far the positions after `i` are covered and near enough. If two lines or more follow line `i`, appends the
 /// coverage query that shows it.
 fn reach_of<M: MapRead>(
     alloc: Global,
@@ -178,12 +178,12 @@ fn reach_of<M: MapRead>(
     Ok(found.reach)
 }
 
-/// The location reference points of an extended path, by position: the first position, the one that follows it as a
-/// point, and so on to the end, or the position that none can follow (White Paper, intermediate points and the 15,000 m
-/// rule; which one follows is the profile's choice). Each point that two lines or more follow is searched from once, no
-/// farther than it takes to find the next one, unless its coverage query is known. If `seen` is `Some`, adds the nodes
-/// that these searches settled. If an allocation fails, `seen` may have some of these nodes, and the search must be begun
-/// again.
+/// The location reference points (LRPs) of an extended path, by position: position 0, the next LRP after it, and so on
+/// to the end; or the position after which there is no valid LRP (White Paper, intermediate points and the 15,000 m
+/// rule; which LRP is next is the profile's choice). From each LRP that two lines or more follow one search is made,
+/// no farther than is needed to find the next LRP, and none if the coverage query is known. If `seen` is `Some`, adds
+/// the nodes that these searches settled. If an allocation fails, `seen` may have some of these nodes, and the search
+/// must be started again before its next use.
 pub fn points<M: MapRead>(
     alloc: Global,
     resolved: &ResolvedPath<M>,

@@ -1,22 +1,21 @@
 //! Runs of degree-two nodes, by which the ends of a path are extended to valid nodes: along its lines from the last one,
 //! and against them from the first.
 ghost use Rattle.std.specs.Prelude.{◌≡◌, ◌<◌, ◌≤◌, ◌+◌, ◌⊎◌, IsTrue, if◌then◌else◌, IfOk, IfSome, IfNone};
-ghost use Rattle.std.specs.Prelude.{MatchOption, length, reverse, [], ⊤};
+ghost use Rattle.std.specs.Prelude.{◌≢◌, ℕ, MatchOption, length, reverse, [], ⊤};
 ghost use Rattle.olr_spec.specs.Map.{Map, has_line, has};
 ghost use Rattle.olr_spec.specs.Extension.{limit};
-ghost use Rattle.olr_search.specs.Distances.{near_end, far_end, lines_at};
+ghost use Rattle.olr_search.specs.Distances.{near_end, far_end, lines_at, ends_at};
 ghost use Rattle.olr_refs.specs.Runs.{outermost, in_order, GrowsBy, LiesBeyond, IsRun};
-ghost use Rattle.olr_refs.specs.ResolvedLines.{record_of, ids, AreRecords};
+ghost use Rattle.olr_search.specs.ResolvedLines.{IsResolved, record_of};
+ghost use Rattle.olr_refs.specs.ResolvedLines.{ids, AreRecords};
 
 use crate::line_set::LineSet;
-use crate::lines::far_end_of;
-use crate::nodes::passing;
-use crate::resolved::{ResolvedLine, record_of};
-use olr_roads::{LineId, MapRead, NodeId};
-use olr_search::{Direction, GREATEST_LIMIT};
+use crate::nodes::passing_at;
+use olr_roads::{LineEnd, LineId, MapRead, NodeId};
+use olr_search::{Direction, GREATEST_LIMIT, ResolvedLine, lines_from, resolve_line};
 use std::alloc::{AllocError, Global};
 
-/// A run of degree-two nodes: lines that lead through such nodes to the first line of a list, or from its last one.
+/// A run of degree-two nodes: lines that lead through such nodes to the first line of a list, or on from its last one.
 #[derive(Drop)]
 pub(crate) struct DegreeTwoRun {
     /// The lines, in the order of travel.
@@ -61,9 +60,9 @@ pub(crate) fn longest_run<M: MapRead>(
 ) -> Result<DegreeTwoRun, AllocError>
     requires some { 0 < length records.now }
     requires known { IsTrue (has_line (M.map map.now) (outermost direction (ids records.now))) }
-    requires records { AreRecords (M.map map.now) records.now }
+    requires records { AreRecords (M.map map.now) (M.node_slot map.now) records.now }
     ensures { IfOk result
-        (λ run. IsRun (M.map map.now) direction (ids records.now) run.records.items run.len run.valid) }
+        (λ run. IsRun (M.map map.now) (M.node_slot map.now) direction (ids records.now) run.records.items run.len run.valid) }
 {
     let beyond = line_beyond(map, direction, outermost_of(direction, records));
     if beyond.line.is_none() {
@@ -89,7 +88,7 @@ fn grown_run<M: MapRead>(
     requires beyond { LiesBeyond (M.map map.now) direction (outermost direction (ids records.now)) beyond.passing
         beyond.line }
     ensures { IfOk result
-        (λ run. IsRun (M.map map.now) direction (ids records.now) run.records.items run.len run.valid) }
+        (λ run. IsRun (M.map map.now) (M.node_slot map.now) direction (ids records.now) run.records.items run.len run.valid) }
 {
     let used = LineSet::of(alloc, records)?;
     let mut run = Vec::new(alloc);
@@ -132,12 +131,12 @@ fn next_within<M: MapRead>(
 ) -> Option<ResolvedLine>
     requires known { MatchOption line ⊤ (λ x. IsTrue (has_line (M.map map.now) x)) }
     requires within { len ≤ limit }
-    ensures some { IfSome result (GrowsBy (M.map map.now) line len used.now) }
+    ensures some { IfSome result (GrowsBy (M.map map.now) (M.node_slot map.now) line len used.now) }
     ensures none { IfNone result (MatchOption line ⊤
-        (λ x. IsTrue (has used.now x) ⊎ (limit < len + (record_of (M.map map.now) x).len))) }
+        (λ x. IsTrue (has used.now x) ⊎ (limit < len + (record_of (M.map map.now) (M.node_slot map.now) x).len))) }
 {
     let line = line?;
-    let record = record_of(map, line).unwrap();
+    let record = resolve_line(map, line).unwrap();
     if used.has(line) || record.len > GREATEST_LIMIT - len {
         return None;
     }
@@ -147,7 +146,8 @@ fn next_within<M: MapRead>(
 /// The outermost of some lines: the last one along them, the first one against them.
 fn outermost_of(direction: Direction, records: &[ResolvedLine]) -> ResolvedLine
     requires { 0 < length records.now }
-    ensures { (M : Map) → AreRecords M records.now → result ≡ record_of M (outermost direction (ids records.now)) }
+    ensures { (M : Map) (slot : ℕ → ℕ) → AreRecords M slot records.now
+        → result ≡ record_of M slot (outermost direction (ids records.now)) }
 {
     match direction {
         Direction::Along => records[records.len() - 1],
@@ -155,47 +155,51 @@ fn outermost_of(direction: Direction, records: &[ResolvedLine]) -> ResolvedLine
     }
 }
 
-/// Where a line is entered in this direction, and where it leads.
-fn ends_of(direction: Direction, line: ResolvedLine) -> (NodeId, NodeId)
-    ensures { (M : Map) → line ≡ record_of M line.id
-        → (result.0 ≡ near_end M direction line.id) × (result.1 ≡ far_end M direction line.id) }
+/// Where a line is entered in this direction, where it leads, and the slot of that node.
+fn ends_of(direction: Direction, line: ResolvedLine) -> (NodeId, NodeId, u32)
+    ensures { (M : Map) (slot : ℕ → ℕ) → line ≡ record_of M slot line.id
+        → (result.0 ≡ near_end M direction line.id) × (result.1 ≡ far_end M direction line.id)
+        × (result.2 ≡ slot (far_end M direction line.id)) }
 {
     match direction {
-        Direction::Along => (line.from, line.to),
-        Direction::Against => (line.to, line.from),
+        Direction::Along => (line.from, line.to, line.to_slot),
+        Direction::Against => (line.to, line.from, line.from_slot),
     }
 }
 
-/// The lines that are entered at a node in this direction.
-fn lines_at<M: MapRead>(map: &M, direction: Direction, node: NodeId) -> &[LineId]
-    ensures { result.now ≡ lines_at (M.map map.now) direction node }
+/// The first of the lines that are entered at a node which does not lead to `other`.
+fn first_apart(other: NodeId, lines: &[LineId], ends: &[LineEnd]) -> Option<LineId>
+    requires { length ends.now ≤ length lines.now }
+    ensures { (M : Map) (slot : ℕ → ℕ) (direction : _) (v : ℕ) → lines.now ≡ lines_at M direction v
+        → ends.now ≡ ends_at M slot direction v
+        → MatchOption result
+        ((x : ℕ) → IsTrue (has_line M x) → near_end M direction x ≡ v → far_end M direction x ≡ other)
+        (λ x. IsTrue (has_line M x) × (near_end M direction x ≡ v) × (far_end M direction x ≢ other)) }
 {
-    match direction {
-        Direction::Along => map.out_lines(node),
-        Direction::Against => map.in_lines(node),
+    for (index, end) in ends.iter().enumerate() {
+        if end.node != other {
+            return Some(lines[index]);
+        }
     }
+    None
 }
 
 /// What lies beyond a line: the one line that leads on from it is entered at the degree-two node to which it leads, and
 /// does not lead back to where it is entered.
 fn line_beyond<M: MapRead>(map: &M, direction: Direction, line: ResolvedLine) -> Beyond
-    requires { line ≡ record_of (M.map map.now) line.id }
+    requires { IsResolved (M.map map.now) (M.node_slot map.now) line }
     ensures { LiesBeyond (M.map map.now) direction line.id result.passing result.line }
 {
-    let (near, far) = ends_of(direction, line);
-    let through = passing(map, far);
-    if through {
-        for next in lines_at(map, direction, far) {
-            if far_end_of(map, direction, *next) != near {
-                return Beyond {
-                    passing: through,
-                    line: Some(*next),
-                };
-            }
-        }
+    let (near, far, slot) = ends_of(direction, line);
+    if !passing_at(map, far, slot) {
+        return Beyond {
+            passing: false,
+            line: None,
+        };
     }
+    let leaving = lines_from(map, direction, slot);
     Beyond {
-        passing: through,
-        line: None,
+        passing: true,
+        line: first_apart(near, leaving.lines, leaving.ends),
     }
 }

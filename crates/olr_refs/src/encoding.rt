@@ -20,14 +20,13 @@ use crate::chosen::{Choice, Chosen, Queries, points};
 use crate::extension::{Extended, extend};
 use crate::faults::own_lines;
 use crate::reference::reference_of;
-use crate::resolved::ResolvedLine;
 use crate::reuse::Reuse;
 use olr_answers::{Answer, CoverageQuery, KnownQuery, Path, Refusal};
 use olr_roads::{Footprint, MapRead};
-use olr_search::{Dijkstra, Work};
+use olr_search::{Dijkstra, ResolvedLine, Work};
 use std::alloc::{AllocError, Global};
 
-/// The answer of a path on a map, and what it depends on. An edit that affects none of that leaves the answer
+/// The answer of a path on a map, and what it depends on. An edit that affects nothing of this leaves the answer
 /// unchanged.
 #[derive(Drop)]
 pub struct Encoding {
@@ -38,16 +37,16 @@ pub struct Encoding {
     pub traversed: Footprint,
     /// The coverage queries, in the order of the LRPs where they begin.
     pub queries: Vec<CoverageQuery>,
-    /// Those of them that are along the path's own lines, in the same order. After edits they are known to be right
-    /// where they are clear of the changed lines.
+    /// The coverage queries along the path's own lines, in the same order. After edits, those that are clear of the
+    /// changed lines are known to be still right.
     pub known: Vec<KnownQuery>,
     /// One encoding, and one search for each coverage query that was not known before.
     pub work: Work,
 }
 
-/// The encoding of a path on a map, by searches that are settled no farther than it takes to find the LRPs.
+/// The encoding of a path on a map, by searches that are settled no farther than is needed to find the LRPs.
 ///
-/// If an allocation fails, the search must be begun again.
+/// If an allocation fails, the search must be started again before its next use.
 pub fn encode<M: MapRead>(
     alloc: Global,
     map: &M,
@@ -69,11 +68,11 @@ pub fn encode<M: MapRead>(
     encode_again(alloc, map, path, &[], search)
 }
 
-/// The encoding of a path on a map, as `encode` makes it, without a search for the coverage queries along the path's
-/// own lines that are known to be right on this map, as those of an earlier encoding which are clear of all changes
-/// since. They are in the order of the lines where they begin.
+/// The encoding of a path on a map, as `encode` returns it, but without searches for the coverage queries in `known`.
+/// These are along the path's own lines, in the order of the lines where they begin, and are known to be right on this
+/// map: for instance those of an earlier encoding that are clear of all changes since.
 ///
-/// If an allocation fails, the search must be begun again.
+/// If an allocation fails, the search must be started again before its next use.
 pub fn encode_again<M: MapRead>(
     alloc: Global,
     map: &M,
@@ -97,10 +96,11 @@ pub fn encode_again<M: MapRead>(
     encode_noting(alloc, map, path, known, search, &mut seen)
 }
 
-/// The encoding of a path on a map, as `encode_again` makes it. If `seen` is `Some`, adds the nodes that the searches
-/// settled.
+/// The encoding of a path on a map, as `encode_again` returns it. If `seen` is `Some`, adds the nodes that the
+/// searches settled.
 ///
-/// If an allocation fails, the search must be begun again, and `seen` may have some of these nodes.
+/// If an allocation fails, `seen` may have some of these nodes, and the search must be started again before its next
+/// use.
 pub fn encode_noting<M: MapRead>(
     alloc: Global,
     map: &M,
@@ -138,7 +138,7 @@ pub fn encode_noting<M: MapRead>(
     }
 }
 
-/// The encoding of a path for which none of reasons 1 to 3 holds.
+/// The encoding of a path to which none of reasons 1 to 3 applies.
 fn encode_whole<M: MapRead>(
     alloc: Global,
     map: &M,
@@ -150,7 +150,7 @@ fn encode_whole<M: MapRead>(
 ) -> Result<Encoding, AllocError>
     requires path { IsTrue (is_path path.now.lines) }
     requires sound { path_fault (M.map map.now) path.now ≡ None }
-    requires own { own.now ≡ records_of (M.map map.now) path.now.lines }
+    requires own { own.now ≡ records_of (M.map map.now) (M.node_slot map.now) path.now.lines }
     requires known { AreKnown (M.map map.now) path.now.lines known.now }
     ensures answer { IfOk result (λ e. EncodingRecord (M.map map.now) path.now (answer_of e.answer)) }
     ensures joins { IfOk result (λ e. JoinsOf (M.map map.now) path.now e.answer) }
@@ -191,7 +191,7 @@ fn encode_along<M: MapRead>(
     seen: &mut Option<Footprint>,
 ) -> Result<(Answer, Queries), AllocError>
     requires joined { AreJoined (M.map map.now) extended.now.path.lines }
-    requires records { extended.now.records ≡ records_of (M.map map.now) extended.now.path.lines }
+    requires records { extended.now.records ≡ records_of (M.map map.now) (M.node_slot map.now) extended.now.path.lines }
     requires short { extended.now.path.pos + extended.now.path.neg < dm_of (M.map map.now) extended.now.path.lines }
     requires reuse { Reuses (M.map map.now) extended.now.path.lines reuse.now.lead reuse.now.own reuse.now.known.now }
     ensures { IfOk result (λ r. ForPoints (M.map map.now) extended.now.path.lines

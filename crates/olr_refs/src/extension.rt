@@ -8,10 +8,10 @@ ghost use Rattle.olr_refs.specs.Extends.{Extends};
 ghost use Rattle.olr_refs.specs.ResolvedLines.{records_of};
 
 use crate::degree_two_runs::longest_run;
-use crate::resolved::{ResolvedLine, ids_of};
+use crate::resolved::ids_of;
 use olr_answers::Path;
 use olr_roads::{Footprint, LineId, MapRead, NodeId};
-use olr_search::Direction;
+use olr_search::{Direction, ResolvedLine};
 use std::alloc::{AllocError, Global};
 use std::marker::Model;
 
@@ -61,10 +61,10 @@ pub fn extend<M: MapRead>(
 ) -> Result<Extended, AllocError>
     requires path { IsTrue (is_path path.now.lines) }
     requires known { first_unknown (M.map map.now) path.now.lines ≡ None }
-    requires own { own.now ≡ records_of (M.map map.now) path.now.lines }
+    requires own { own.now ≡ records_of (M.map map.now) (M.node_slot map.now) path.now.lines }
     ensures ok { IfOk result
         (λ extended. Extends (M.map map.now) path.now extended.path extended.lead footprint.old footprint.new) }
-    ensures records { IfOk result (λ extended. extended.records ≡ records_of (M.map map.now) extended.path.lines) }
+    ensures records { IfOk result (λ extended. extended.records ≡ records_of (M.map map.now) (M.node_slot map.now) extended.path.lines) }
     ensures err { OnErr result (footprint.new ≡ footprint.old) }
 {
     let before = longest_run(alloc, map, Direction::Against, own)?;
@@ -93,8 +93,8 @@ fn note_ends(
     after: &[ResolvedLine],
     footprint: &mut Footprint,
 ) -> Result<(), AllocError>
-    ensures ok { OnOk result ((M : Map) (ls b a : List ℕ)
-        → records.now ≡ records_of M ls → before.now ≡ records_of M b → after.now ≡ records_of M a
+    ensures ok { OnOk result ((M : Map) (slot : ℕ → ℕ) (ls b a : List ℕ)
+        → records.now ≡ records_of M slot ls → before.now ≡ records_of M slot b → after.now ≡ records_of M slot a
         → (v : ℕ) → Contains footprint.new v
         ↔ (Contains footprint.old v ⊎ (NodeOf M ls v ⊎ (NodeOf M b v ⊎ NodeOf M a v)))) }
     ensures err { OnErr result (footprint.new ≡ footprint.old) }
@@ -110,7 +110,7 @@ fn note_ends(
 
 /// Appends both ends of each of these lines to the nodes.
 fn push_ends(records: &[ResolvedLine], nodes: &mut Vec<NodeId>) -> Result<(), AllocError>
-    ensures { OnOk result ((M : Map) (ls : List ℕ) → records.now ≡ records_of M ls
+    ensures { OnOk result ((M : Map) (slot : ℕ → ℕ) (ls : List ℕ) → records.now ≡ records_of M slot ls
         → (v : ℕ) → Contains nodes.new.items v ↔ (Contains nodes.old.items v ⊎ NodeOf M ls v)) }
 {
     for record in records {

@@ -7,12 +7,13 @@ ghost use Rattle.olr_spec.specs.Encoding.{first_break, path_fault};
 ghost use Rattle.olr_answers.specs.Answers.{refusal_of};
 ghost use Rattle.olr_refs.specs.ResolvedLines.{records_of};
 
-use crate::resolved::{ResolvedLine, resolve};
+use crate::resolved::resolve;
 use olr_answers::{Path, Refusal};
 use olr_roads::MapRead;
+use olr_search::ResolvedLine;
 use std::alloc::{AllocError, Global};
 
-/// A path's own lines as the map has them, or the first of reasons 1 to 3 that holds for the path.
+/// A path's own lines as the map has them, or the first of reasons 1 to 3 that applies to the path.
 pub fn own_lines<M: MapRead>(
     alloc: Global,
     map: &M,
@@ -20,7 +21,7 @@ pub fn own_lines<M: MapRead>(
 ) -> Result<Result<Vec<ResolvedLine>, Refusal>, AllocError>
     ensures own { IfOk result (λ r. MatchResult r
         (λ own. (path_fault (M.map map.now) path.now ≡ None)
-        × (own.items ≡ records_of (M.map map.now) path.now.lines))
+        × (own.items ≡ records_of (M.map map.now) (M.node_slot map.now) path.now.lines))
         (λ refusal. path_fault (M.map map.now) path.now ≡ Some (refusal_of refusal))) }
     ensures path { IsTrue (is_path path.now.lines) }
 {
@@ -40,7 +41,7 @@ pub fn own_lines<M: MapRead>(
 /// The index of the first line that does not end where the next one begins.
 #[tactic(auto, using(crate::proofs::Resolving::records_length, crate::proofs::Resolving::record_at, crate::proofs::Faulting::no_break_at, crate::proofs::Faulting::break_at, crate::proofs::Faulting::no_break_left))]
 fn first_break(records: &[ResolvedLine]) -> Option<usize>
-    ensures { (M : Map) (ls : List ℕ) → records.now ≡ records_of M ls → result ≡ first_break M 0 ls }
+    ensures { (M : Map) (slot : ℕ → ℕ) (ls : List ℕ) → records.now ≡ records_of M slot ls → result ≡ first_break M 0 ls }
 {
     for k in 1..records.len() {
         let (before, record) = (records[k - 1], records[k]);
@@ -54,7 +55,7 @@ fn first_break(records: &[ResolvedLine]) -> Option<usize>
 /// The length of some lines, in decimetres. 128 bits suffice for any list of lines.
 #[tactic(auto, using(crate::proofs::Resolving::records_length, crate::proofs::Resolving::record_at, crate::proofs::Joined::longer_by))]
 fn length_of(records: &[ResolvedLine]) -> u128
-    ensures { (M : Map) (ls : List ℕ) → records.now ≡ records_of M ls → result ≡ dm_of M ls }
+    ensures { (M : Map) (slot : ℕ → ℕ) (ls : List ℕ) → records.now ≡ records_of M slot ls → result ≡ dm_of M ls }
 {
     let mut len: u128 = 0;
     for record in records {

@@ -12,11 +12,11 @@ ghost use Rattle.olr_refs.specs.Fields.{lowest_class, middle_points_of};
 ghost use Rattle.olr_refs.specs.KeptPoints.{AreLinked};
 
 use crate::along::{ResolvedPath, coord_of};
-use crate::resolved::ResolvedLine;
 use olr_bearing::{Ends, bearing_back, bearing_out};
 use olr_binary::{Attrs, First, Last, Middle};
 use olr_coords::{Coord, abs24, rel16};
 use olr_roads::{Line, MapRead};
+use olr_search::ResolvedLine;
 use std::alloc::{AllocError, Global};
 
 /// One step of the distance to the next point (DNP), in decimetres: 58.6 m.

@@ -1,4 +1,4 @@
-//! Footprints: the nodes on which an answer rests.
+//! Footprints: the nodes on which an answer depends.
 ghost use Rattle.std.specs.Prelude.{◌≡◌, ℕ, ◌+◌, ◌*◌, ◌^◌, ◌<◌, ◌≤◌, ◌↔◌, ◌⊎◌, IfOk, OnOk, OnErr, MatchOption};
 ghost use Rattle.std.specs.Prelude.{List, Contains, length};
 ghost use Rattle.olr_spec.specs.Map.{Map, IsMap, Agree};
@@ -17,7 +17,7 @@ use olr_roads::{Footprint, MapRead};
 use olr_search::{Dijkstra, Work};
 use std::alloc::{AllocError, Global};
 
-/// A path's traversed nodes, and those that were seen.
+/// A path's traversed nodes, and the nodes that its searches settled.
 fn with_seen(traversed: Footprint, seen: Option<Footprint>) -> Result<Footprint, AllocError>
     ensures { IfOk result
         (λ f. (v : ℕ) → Contains f v ↔ (Contains traversed v ⊎ MatchOption seen ⊥ (λ s. Contains s v))) }

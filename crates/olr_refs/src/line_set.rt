@@ -3,8 +3,9 @@ ghost use Rattle.std.specs.Prelude.{◌≡◌, ℕ, IfOk};
 ghost use Rattle.olr_spec.specs.Map.{has};
 ghost use Rattle.olr_refs.specs.ResolvedLines.{ids};
 
-use crate::resolved::{ResolvedLine, ids_of};
+use crate::resolved::ids_of;
 use olr_roads::LineId;
+use olr_search::ResolvedLine;
 use std::alloc::{AllocError, Global};
 use std::marker::Model;
 

@@ -1,5 +1,6 @@
 //! Degree-two nodes, at which nothing turns off.
-ghost use Rattle.std.specs.Prelude.{◌≡◌, map, [], ◌∷◌};
+ghost use Rattle.std.specs.Prelude.{◌≡◌, IsTrue, map, [], ◌∷◌};
+ghost use Rattle.olr_spec.specs.Map.{has_node};
 ghost use Rattle.olr_spec.specs.Extension.{passing, passes_between, apart};
 
 use olr_roads::{LineEnd, MapRead, NodeId};
@@ -10,7 +11,21 @@ use olr_roads::{LineEnd, MapRead, NodeId};
 pub fn passing<M: MapRead>(map: &M, node: NodeId) -> bool
     ensures { result ≡ passing (M.map map.now) node }
 {
-    passes_between(node, map.in_ends(node), map.out_ends(node))
+    match map.slot_of(node) {
+        Some(slot) => passing_at(map, node, slot),
+        None => false,
+    }
+}
+
+/// Whether the node in this slot is a degree-two node.
+pub(crate) fn passing_at<M: MapRead>(map: &M, node: NodeId, slot: u32) -> bool
+    requires there { IsTrue (has_node (M.map map.now) node) }
+    requires at { M.node_slot map.now node ≡ slot }
+    ensures { result ≡ passing (M.map map.now) node }
+{
+    let entering = map.in_lines_at(slot);
+    let leaving = map.out_lines_at(slot);
+    passes_between(node, entering.ends, leaving.ends)
 }
 
 /// Whether a node with these lines is a degree-two node, by the other ends of the lines that enter it, and of those that

@@ -40,7 +40,7 @@ pub fn covered_to<M: MapRead>(
     let end = far.min(resolved.lines.len() - 1).max(i + 1);
     for k in i + 1..end {
         search.settle_to(resolved.map, resolved.between(i + 1, k + 1) as u32)?;
-        if !search.extends_unique_shortest(resolved.map, resolved.lines[k]) {
+        if !search.extends_unique_shortest(resolved.map, resolved.resolved_line(k)) {
             return Ok(Tested {
                 reach: k,
                 last: k + 1,

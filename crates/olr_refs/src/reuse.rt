@@ -1,4 +1,4 @@
-//! Coverage queries along a path's own lines, which are not searched again where they are known.
+//! Coverage queries along a path's own lines: those that are known are not searched again.
 ghost use Rattle.std.specs.Prelude.{◌≡◌, ◌+◌, ◌-◌, ◌^◌, ◌<◌, ◌≤◌, ◌↔◌, min, IsTrue, MatchOption};
 ghost use Rattle.std.specs.Prelude.{length};
 ghost use Rattle.olr_spec.specs.Queries.{IsKnownAt, IsLastTested, IsReused, query_to, KnownQuery as Query};

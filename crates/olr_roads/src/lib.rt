@@ -14,4 +14,4 @@ pub use footprint::Footprint;
 pub use ids::{LineId, NodeId};
 pub use line::{Line, Shape, has_good_fields};
 pub use number_hash::NumberHasher;
-pub use read::{LineEnd, MapRead};
+pub use read::{LineEnd, MapRead, NodeLines};

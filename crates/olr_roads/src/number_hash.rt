@@ -1,15 +1,26 @@
-//! The hash of node and line numbers. Neighbouring numbers share a position of the hash table, so that a map with
-//! consecutive numbers is read with few cache misses; other patterns of numbers are spread.
+//! The hash of node and line numbers. Neighbouring numbers share a position of the hash table, and the next ones are at
+//! the next position, so that a map with consecutive numbers is read with few cache misses, and each position has equally
+//! many of them; other patterns of numbers are spread.
 ghost use Rattle.olr_roads.specs.Hashing.{number_write, number_hash};
 
 use std::hash::Hasher;
 
 /// How many neighbours share a position.
 const NEIGHBOURS: u32 = 4;
-/// An odd number without pattern: 2^64 divided by the golden ratio.
-const SPREAD: u64 = 0x9e37_79b9_7f4a_7c15;
-/// The lowest of the bits of a hash that distinguish numbers at one position.
+/// How many blocks of neighbours follow each other without a gap.
+const RUN: u64 = 1 << 7;
+/// The gap after them, so that numbers at steps of a power of two spread.
+const GAP: u64 = 3;
+/// How many blocks there are up to a further gap.
+const LONG_RUN: u64 = 1 << 18;
+/// The further gap.
+const LONG_GAP: u64 = 37;
+/// An odd number without pattern: 2^32 divided by the golden ratio.
+const SPREAD: u64 = 0x9e37_79b1;
+/// The lowest of the bits of a hash that distinguish numbers at one position: first two for the neighbours of a block.
 const TAG_SHIFT: u32 = 24;
+/// The lowest of those that distinguish blocks.
+const BLOCK_TAG: u64 = 1 << 26;
 
 /// Hashes a number by the block of neighbours that contains it.
 #[derive(Clone, Copy, Default)]
@@ -23,8 +34,10 @@ impl Hasher for NumberHasher {
     ghost finish = { number_hash };
 
     fn finish(&self) -> u64 {
-        let block = u64::from(self.number / NEIGHBOURS).wrapping_mul(SPREAD);
-        block ^ u64::from((self.number % NEIGHBOURS) << TAG_SHIFT)
+        let block = u64::from(self.number / NEIGHBOURS);
+        let place = block + GAP * (block / RUN) + LONG_GAP * (block / LONG_RUN);
+        let tag = block * SPREAD % (1 << 32) / BLOCK_TAG * BLOCK_TAG;
+        place ^ tag ^ u64::from((self.number % NEIGHBOURS) << TAG_SHIFT)
     }
 
     fn write(&mut self, bytes: &[u8]) {

@@ -20,6 +20,16 @@ pub struct LineEnd {
     pub len: u32,
 }
 
+/// The lines that leave a node, or those that enter it: their numbers in ascending order, and beside each the line as
+/// seen from the node.
+#[derive(Clone, Copy)]
+pub struct NodeLines<'a> {
+    /// The numbers.
+    pub lines: &'a [LineId],
+    /// The other end of each line, in the same order.
+    pub ends: &'a [LineEnd],
+}
+
 /// A map that can be read. No call allocates.
 pub trait MapRead {
     /// The nodes and the lines.
@@ -47,16 +57,6 @@ pub trait MapRead {
     fn in_lines(&self, id: NodeId) -> &[LineId]
         ensures { result.now ≡ lines_in (map self.now) id };
 
-    /// For each line of `out_lines`, in that order: the node where it ends, that node's slot, and the line's length in
-    /// decimetres.
-    fn out_ends(&self, id: NodeId) -> &[LineEnd]
-        ensures { result.now ≡ ends_out (map self.now) (node_slot self.now) id };
-
-    /// For each line of `in_lines`, in that order: the node where it begins, that node's slot, and the line's length in
-    /// decimetres.
-    fn in_ends(&self, id: NodeId) -> &[LineEnd]
-        ensures { result.now ≡ ends_in (map self.now) (node_slot self.now) id };
-
     /// The number of slots. Each node's slot is less than it.
     fn slot_count(&self) -> usize
         ensures { result ≡ count self.now };
@@ -66,23 +66,21 @@ pub trait MapRead {
     fn slot_of(&self, id: NodeId) -> Option<u32>
         ensures { SomeIff result (IsTrue (has_node (map self.now) id)) (node_slot self.now id) };
 
-    /// `in_lines` of the node in this slot, without a lookup by its number.
-    fn in_lines_at(&self, slot: u32) -> &[LineId]
+    /// The lines that leave the node in this slot, those of `out_lines`, with their far ends.
+    fn out_lines_at(&self, slot: u32) -> NodeLines<'_>
         requires { (v : ℕ) × IsTrue (has_node (map self.now) v) × (node_slot self.now v ≡ slot) }
-        ensures { (v : ℕ) → IsTrue (has_node (map self.now) v) → node_slot self.now v ≡ slot
-            → result.now ≡ lines_in (map self.now) v };
+        ensures lines { (v : ℕ) → IsTrue (has_node (map self.now) v) → node_slot self.now v ≡ slot
+            → result.lines.now ≡ lines_out (map self.now) v }
+        ensures ends { (v : ℕ) → IsTrue (has_node (map self.now) v) → node_slot self.now v ≡ slot
+            → result.ends.now ≡ ends_out (map self.now) (node_slot self.now) v };
 
-    /// `out_ends` of the node in this slot, without a lookup by its number.
-    fn out_ends_at(&self, slot: u32) -> &[LineEnd]
+    /// The lines that enter the node in this slot, those of `in_lines`, with their far ends.
+    fn in_lines_at(&self, slot: u32) -> NodeLines<'_>
         requires { (v : ℕ) × IsTrue (has_node (map self.now) v) × (node_slot self.now v ≡ slot) }
-        ensures { (v : ℕ) → IsTrue (has_node (map self.now) v) → node_slot self.now v ≡ slot
-            → result.now ≡ ends_out (map self.now) (node_slot self.now) v };
-
-    /// `in_ends` of the node in this slot, without a lookup by its number.
-    fn in_ends_at(&self, slot: u32) -> &[LineEnd]
-        requires { (v : ℕ) × IsTrue (has_node (map self.now) v) × (node_slot self.now v ≡ slot) }
-        ensures { (v : ℕ) → IsTrue (has_node (map self.now) v) → node_slot self.now v ≡ slot
-            → result.now ≡ ends_in (map self.now) (node_slot self.now) v };
+        ensures lines { (v : ℕ) → IsTrue (has_node (map self.now) v) → node_slot self.now v ≡ slot
+            → result.lines.now ≡ lines_in (map self.now) v }
+        ensures ends { (v : ℕ) → IsTrue (has_node (map self.now) v) → node_slot self.now v ≡ slot
+            → result.ends.now ≡ ends_in (map self.now) (node_slot self.now) v };
 
     /// Every line is good, both its nodes are on the map, and every coordinate is in range.
     ghost sound: { (m : Self) → IsMap (map m) };

@@ -10,7 +10,7 @@ ghost use Rattle.olr_route.specs.AreLabels.{AreLabels, limit_of};
 
 use crate::labels::{Label, Labels};
 use olr_map::{Footprint, LineId, MapRead, NodeId};
-use olr_search::{Dijkstra, Direction, GREATEST_LIMIT, Work, both_ends, settled_search};
+use olr_search::{Dijkstra, Direction, GREATEST_LIMIT, Work, settled_search};
 use std::alloc::{AllocError, Global};
 
 /// Whether a line ends a route of this length, which is the distance of its end.
@@ -20,11 +20,10 @@ fn ends_route<M: MapRead>(map: &M, settled: &Dijkstra, line: LineId, length: u32
         → IsDistance (M.map map.now) Along ((s, 0) ∷ []) v length → length ≤ search_limit settled.now
         → (IsTrue result ↔ EndsRoute (M.map map.now) s v length line) }
 {
-    let Some(ends) = both_ends(map, line) else {
+    let Some(record) = map.line(line) else {
         return false;
     };
-    let (from, _, len) = ends;
-    len <= length && settled.dist(map, from) == Some(length - len)
+    record.len <= length && settled.dist(map, record.from) == Some(length - record.len)
 }
 
 /// The least number of a line that ends a route of this length, which is the distance of the node. None if there is no

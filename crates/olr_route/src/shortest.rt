@@ -8,7 +8,7 @@ ghost use Rattle.olr_route.specs.AreLabels.{AreLabels, limit_of};
 
 use crate::labels::Labels;
 use olr_map::{LineId, MapRead};
-use olr_search::both_ends;
+use olr_search::resolve_line;
 
 /// Whether a line extends the shortest path to its start to the shortest path to its end, within the limit.
 fn extends_least<M: MapRead>(map: &M, labels: &Labels, line: LineId) -> bool
@@ -17,10 +17,10 @@ fn extends_least<M: MapRead>(map: &M, labels: &Labels, line: LineId) -> bool
         → (IsTrue result ↔ LeastWithin (M.map map.now) s (limit_of labels.now) (end (M.map map.now) line)
         (route ++ line ∷ [])) }
 {
-    let Some(ends) = both_ends(map, line) else {
+    let Some(record) = map.line(line) else {
         return false;
     };
-    labels.last_line(ends.1) == Some(line)
+    labels.last_line(record.to) == Some(line)
 }
 
 /// The same, or, if `unique`, for unique shortest paths. Then the extended path has to be within the limit.
@@ -31,11 +31,13 @@ fn extends<M: MapRead>(map: &M, labels: &Labels, line: LineId, unique: bool) -> 
         → (IsTrue result ↔ IsShortest unique (M.map map.now) s (limit_of labels.now) (end (M.map map.now) line)
         (route ++ line ∷ [])) }
 {
-    if unique {
-        labels.search.extends_unique_shortest(map, line)
-    } else {
-        extends_least(map, labels, line)
+    if !unique {
+        return extends_least(map, labels, line);
     }
+    let Some(resolved) = resolve_line(map, line) else {
+        return false;
+    };
+    labels.search.extends_unique_shortest(map, resolved)
 }
 
 /// Whether each line of a route extends the shortest path to its start, or, if `unique`, the unique shortest path. Then

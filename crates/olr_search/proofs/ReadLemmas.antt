@@ -1,5 +1,6 @@
 -- The lists of the lines that are entered at a node.
-use Rattle.olr_search.proofs.Common.{arith, ◌≡◌, ℕ, ◌<◌, List, true, IsTrue, length, get_or, sym, subst, Map, has_line}
+use Rattle.olr_search.proofs.Common.{arith, ◌≡◌, ℕ, ◌<◌, List, true, IsTrue, length, get_or, sym, ap, ◌∙◌, subst, Map, has_line}
+use Rattle.olr_search.specs.ResolvedLines.{ResolvedLine, IsResolved, record_of}
 use Rattle.olr_search.proofs.Common.{end, lines_in, near_end, lines_at, Direction, Along, Against, is_some, unwrap_or}
 use Rattle.olr_search.proofs.Common.{no_line, has, at_index, has_read}
 use Rattle.std.specs.FinMap.{get}
@@ -31,3 +32,13 @@ enters M v i x xs e lt is = read_at M Against v xs i x e lt is
 pub entering : (M : Map) (v x : ℕ) (xs : List ℕ) → xs ≡ lines_in M v → IsTrue (has_line M x) → end M x ≡ v → (i : ℕ)
     × (i < length xs) × (get_or xs i 0 ≡ x)
 entering M v x xs e h to = found_at M Against v xs x e h to
+
+-- a line that is read as the map has it
+pub resolved_as : (M : Map) (slot : ℕ → ℕ) (x : ℕ) (r : ResolvedLine) → IsTrue (has_line M x) → r ≡ record_of M slot x →
+    IsResolved M slot r
+resolved_as M slot x r known is =
+    let id = ap (λ (q : ResolvedLine). q.id) is in
+    record {
+      known = subst (λ (y : ℕ). IsTrue (has_line M y)) (sym id) known;
+      is = is ∙ ap (record_of M slot) (sym id);
+    }

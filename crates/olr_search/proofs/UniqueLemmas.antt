@@ -45,11 +45,11 @@ module _ (M : Map) (slot : ℕ → ℕ) (s : ℕ) (q : Dijkstra) (h : IsSearch M
         IsOnlyPredecessor M slot q.frontier x (end M x) (label_of q.frontier (slot (end M x)))
     only_if whole y known to le = grind (arith, dm_of-line, unique_label, end, label_way, start, unique_alone)
 
-    -- the result, by what the code reads of the line
-    module _ (from to len near length : ℕ) (is_from : from ≡ start M x) (is_to : to ≡ end M x) (is_len : len ≡ dm M x)
-        (is_near : near ≡ label_of q.frontier (slot from)) (is_length : length ≡ label_of q.frontier (slot to)) where
-      pub reported : (near + len ≡ length → IsOnlyPredecessor M slot q.frontier x to length →
-          UniqueShortest M s (end M x) (route ++ x ∷ []))
-          × (UniqueShortest M s (end M x) (route ++ x ∷ []) →
-          (near + len ≡ length) × IsOnlyPredecessor M slot q.frontier x to length)
-      reported = grind (arith, label_of, extends_if, sum_if, only_if)
+    -- the result, by what the code reads of the labels
+    pub reported : (near length : ℕ) → near ≡ label_of q.frontier (slot (start M x)) →
+        length ≡ label_of q.frontier (slot (end M x)) →
+        (near + dm M x ≡ length → IsOnlyPredecessor M slot q.frontier x (end M x) length →
+        UniqueShortest M s (end M x) (route ++ x ∷ []))
+        × (UniqueShortest M s (end M x) (route ++ x ∷ []) →
+        (near + dm M x ≡ length) × IsOnlyPredecessor M slot q.frontier x (end M x) length)
+    reported near length is_near is_length = grind (arith, label_of, extends_if, sum_if, only_if)

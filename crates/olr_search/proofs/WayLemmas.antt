@@ -1,9 +1,9 @@
 -- Routes in one direction or the other, and the far ends of the lines at a node.
 use Rattle.olr_search.proofs.Common.{◌≡◌, ℕ, ◌+◌, ◌<◌, List, [], ◌∷◌, ◌++◌, Contains, IsTrue, length, get_or, refl, sym}
 use Rattle.olr_search.proofs.Common.{ap, ◌∙◌, subst, arith, length-append, get_or-map, length-map, get_or_default_zero}
-use Rattle.olr_search.proofs.Common.{Map, IsMap, has_node, has_line, dm, lines_in, IsRoute, dm_of, LineEnd, Way, Leads}
-use Rattle.olr_search.proofs.Common.{start, end, near_end, far_end, lines_at, Direction, Along, Against, map, ends_at}
-use Rattle.olr_roads.specs.Ends.{end_out, end_in, ends_in}
+use Rattle.olr_search.proofs.Common.{Map, IsMap, has_node, has_line, dm, IsRoute, dm_of, LineEnd, Way, Leads}
+use Rattle.olr_search.proofs.Common.{near_end, far_end, lines_at, Direction, Along, Against, map, ends_at}
+use Rattle.olr_roads.specs.Ends.{end_out, end_in}
 use Rattle.olr_search.proofs.ReadLemmas.{read_at, found_at}
 use Rattle.olr_search.proofs.RouteEnds.{ends_of, dm_of-line, route_on, last_step}
 use Rattle.olr_search.proofs.RouteEnds.Ends.{empty, ended}
@@ -149,25 +149,29 @@ has_end M slot direction v x items is known near =
     let f = subst (IsFar M slot direction x) (sym e) (far_is M slot direction x) in
     record { index = k.0; within = omega arith; node = f.node; there = f.there; len = f.len }
 
--- the i-th line that enters a node, and its far end
-pub record IsEntry (M : Map) (slot : ℕ → ℕ) (to : ℕ) (lines : List ℕ) (i : ℕ) (e : LineEnd) : Type 0 where
-  pub within : i < length lines
-  pub known : IsTrue (has_line M (get_or lines i 0))
-  pub leads : end M (get_or lines i 0) ≡ to
-  pub there : e.slot ≡ slot (start M (get_or lines i 0))
-  pub len : e.len ≡ dm M (get_or lines i 0)
+-- the i-th line that is entered at a node, and its far end
+pub record IsEntry (M : Map) (slot : ℕ → ℕ) (direction : Direction) (v : ℕ) (lines : List ℕ) (i : ℕ) (e : LineEnd) : Type 0
+  where
+    pub within : i < length lines
+    pub known : IsTrue (has_line M (get_or lines i 0))
+    pub leads : near_end M direction (get_or lines i 0) ≡ v
+    pub node : e.node ≡ far_end M direction (get_or lines i 0)
+    pub there : e.slot ≡ slot (far_end M direction (get_or lines i 0))
+    pub len : e.len ≡ dm M (get_or lines i 0)
 
-pub entry_is : (M : Map) (slot : ℕ → ℕ) (to : ℕ) (lines : List ℕ) (items : List LineEnd) → lines ≡ lines_in M to →
-    items ≡ ends_in M slot to → (i : ℕ) (e : LineEnd) → i < length items → e ≡ get_or items i e →
-    IsEntry M slot to lines i e
-entry_is M slot to lines items same is i e lt at =
-    let k =
-    made_at (end_in M slot) lines items i e (is ∙ ap (λ (zs : List ℕ). map (end_in M slot) zs) (sym same)) lt at in
+pub entry_is : (M : Map) (slot : ℕ → ℕ) (direction : Direction) (v : ℕ) (lines : List ℕ) (items : List LineEnd) →
+    lines ≡ lines_at M direction v → items ≡ ends_at M slot direction v → (i : ℕ) (e : LineEnd) → i < length items →
+    e ≡ get_or items i e → IsEntry M slot direction v lines i e
+entry_is M slot direction v lines items same is i e lt at =
+    let made = is ∙ ends_are M slot direction v ∙ ap (λ (zs : List ℕ). map (far_of M slot direction) zs) (sym same) in
+    let k = made_at (far_of M slot direction) lines items i e made lt at in
     let x = get_or lines i 0 in
-    let own = read_at M Against to lines i x same k.0 (sym (get_or_default_zero lines i x k.0)) in
-    let there = ap (λ (y : LineEnd). y.slot) k.1 in
-    record { within = k.0; known = own.0; leads = own.1; there = there; len = ap (λ (y : LineEnd). y.len) k.1 }
+    let own = read_at M direction v lines i x same k.0 (sym (get_or_default_zero lines i x k.0)) in
+    let f = subst (IsFar M slot direction x) (sym k.1) (far_is M slot direction x) in
+    record { within = k.0; known = own.0; leads = own.1; node = f.node; there = f.there; len = f.len }
 
-pub as_many : (M : Map) (slot : ℕ → ℕ) (to : ℕ) (lines : List ℕ) (items : List LineEnd) → lines ≡ lines_in M to →
-    items ≡ ends_in M slot to → length items ≡ length lines
-as_many M slot to lines items same is = grind (arith, length-map, lines_in, to, end_in)
+pub as_many : (M : Map) (slot : ℕ → ℕ) (direction : Direction) (v : ℕ) (lines : List ℕ) (items : List LineEnd) →
+    lines ≡ lines_at M direction v → items ≡ ends_at M slot direction v → length items ≡ length lines
+as_many M slot direction v lines items same is =
+    ap (λ (es : List LineEnd). length es) (is ∙ ends_are M slot direction v)
+    ∙ length-map (lines_at M direction v) (far_of M slot direction) ∙ ap (λ (xs : List ℕ). length xs) (sym same)

@@ -6,3 +6,4 @@ pub mod Frontiers
 pub mod Distances
 pub mod Searches
 pub mod Bounds
+pub mod ResolvedLines

@@ -1,13 +1,15 @@
 //! A Dijkstra search that can be continued: distances only, from one node or from several, along the lines or against
 //! them.
 ghost use Rattle.std.specs.Prelude.{◌≡◌, ◌==◌, ◌≢◌, ◌↔◌, ◌≤◌, ◌+◌, ℕ, List, [], ◌∷◌, ◌++◌, Some, Contains, OnOk, IfOk};
-ghost use Rattle.std.specs.Prelude.{IsTrue, max};
+ghost use Rattle.std.specs.Prelude.{IsTrue, length, max};
 ghost use Rattle.std.specs.List.{IsDistinct};
 ghost use Rattle.std.specs.List.Sorted.{IsStrictlyIncreasing};
-ghost use Rattle.olr_spec.specs.Map.{Map, has_node, start as start_node, end, dm};
+ghost use Rattle.olr_spec.specs.Map.{Map, has_node, start as start_node, end, dm, lines_in};
+ghost use Rattle.olr_roads.specs.Ends.{ends_in};
 ghost use Rattle.olr_spec.specs.Routes.{UniqueShortest, dm_of};
 ghost use Rattle.olr_search.specs.Distances.{IsDistance, Leads};
 ghost use Rattle.olr_search.specs.Frontiers.{label_of};
+ghost use Rattle.olr_search.specs.ResolvedLines.{IsResolved};
 ghost use Rattle.olr_search.specs.Notes.{numbers_of};
 ghost use Rattle.olr_search.specs.Searches.{IsSearch, LiesWithin, IsReached, Counts, StaysWithin};
 ghost use Rattle.olr_search.specs.Searches.{IsOnlyPredecessor, limit_of};
@@ -17,7 +19,7 @@ ghost use Rattle.olr_search.specs.declared.distances.Direction.TheVariants.{Alon
 
 use crate::bounds::{Anywhere, Bounds};
 use crate::frontier::{Frontier, GREATEST_LIMIT, Reached};
-use crate::lines::both_ends;
+use crate::resolved::ResolvedLine;
 use crate::steps::{settle, start};
 use olr_roads::{LineEnd, LineId, MapRead, NodeId};
 use std::alloc::{AllocError, Global};
@@ -211,17 +213,6 @@ impl Dijkstra {
         Ok(nodes)
     }
 
-    /// The label of a node; `UNREACHED` if it has none.
-    fn label<M: MapRead>(&self, map: &M, node: NodeId) -> u32
-        requires { IsTrue (has_node (M.map map.now) node) }
-        ensures { result ≡ label_of self.now.frontier (M.node_slot map.now node) }
-    {
-        match map.slot_of(node) {
-            None => unreachable!(),
-            Some(slot) => self.frontier.label(slot),
-        }
-    }
-
     /// Whether `other`, as seen from where it ends, is not `line`, and leads there within a length in decimetres.
     fn is_other(&self, line: LineId, other: LineId, end: &LineEnd, length: u32) -> bool
         ensures { IsTrue result ↔ ((other ≢ line) × (label_of self.now.frontier end.now.slot + end.now.len ≤ length)) }
@@ -229,21 +220,20 @@ impl Dijkstra {
         other != line && end.len <= length && self.frontier.label(end.slot) <= length - end.len
     }
 
-    /// Whether no line but this one leads to a node within a length in decimetres.
-    fn is_only_predecessor<M: MapRead>(
+    /// Whether none of the lines that enter a node but this one leads there within a length in decimetres.
+    fn is_only_predecessor(
         &self,
-        map: &M,
         line: LineId,
-        to: NodeId,
-        length: u32,
+        lines: &[LineId],
+        ends: &[LineEnd],
+        within: u32,
     ) -> bool
-        ensures { IsTrue result ↔ IsOnlyPredecessor (M.map map.now) (M.node_slot map.now) self.now.frontier line to
-            length }
+        requires { length ends.now ≤ length lines.now }
+        ensures { (M : Map) (node_slot : ℕ → ℕ) (v : ℕ) → lines.now ≡ lines_in M v → ends.now ≡ ends_in M node_slot v
+            → (IsTrue result ↔ IsOnlyPredecessor M node_slot self.now.frontier line v within) }
     {
-        let lines = map.in_lines(to);
-        let ends = map.in_ends(to);
         for (index, end) in ends.iter().enumerate() {
-            if self.is_other(line, lines[index], end, length) {
+            if self.is_other(line, lines[index], end, within) {
                 return false;
             }
         }
@@ -253,22 +243,21 @@ impl Dijkstra {
     /// Whether a line extends the unique shortest path to its start to the unique shortest path to its end. Unspecified
     /// if there is no unique shortest path to its start, or if the extended one is longer than the limit to which the
     /// search is settled.
-    pub fn extends_unique_shortest<M: MapRead>(&self, map: &M, line: LineId) -> bool
+    pub fn extends_unique_shortest<M: MapRead>(&self, map: &M, line: ResolvedLine) -> bool
+        requires { IsResolved (M.map map.now) (M.node_slot map.now) line }
         ensures { (s : ℕ) (route : List ℕ)
             → IsSearch (M.map map.now) (M.node_slot map.now) Along ((s, 0) ∷ []) self.now
-            → UniqueShortest (M.map map.now) s (start_node (M.map map.now) line) route
-            → dm_of (M.map map.now) route + dm (M.map map.now) line ≤ limit_of self.now
-            → (IsTrue result ↔ UniqueShortest (M.map map.now) s (end (M.map map.now) line) (route ++ line ∷ [])) }
+            → UniqueShortest (M.map map.now) s (start_node (M.map map.now) line.id) route
+            → dm_of (M.map map.now) route + dm (M.map map.now) line.id ≤ limit_of self.now
+            → (IsTrue result
+            ↔ UniqueShortest (M.map map.now) s (end (M.map map.now) line.id) (route ++ line.id ∷ [])) }
     {
-        let Some(ends) = both_ends(map, line) else {
-            return false;
-        };
-        let (from, to, len) = ends;
-        let length = self.label(map, to);
-        if !is_sum(self.label(map, from), len, length) {
+        let length = self.frontier.label(line.to_slot);
+        if !is_sum(self.frontier.label(line.from_slot), line.len, length) {
             return false;
         }
-        self.is_only_predecessor(map, line, to, length)
+        let entering = map.in_lines_at(line.to_slot);
+        self.is_only_predecessor(line.id, entering.lines, entering.ends, length)
     }
 }
 

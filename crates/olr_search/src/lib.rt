@@ -6,13 +6,14 @@
 pub mod bounds;
 pub mod distances;
 mod frontier;
-mod lines;
 mod queue;
+mod resolved;
 mod steps;
 pub mod work;
 
 pub use bounds::Bounds;
 pub use distances::{Dijkstra, Direction, settled_search};
 pub use frontier::{GREATEST_LIMIT, Reached};
-pub use lines::both_ends;
+pub use resolved::{ResolvedLine, resolve_line};
+pub use steps::{ends_from, lines_from};
 pub use work::Work;

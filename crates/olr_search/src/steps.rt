@@ -2,14 +2,14 @@
 //! to a length.
 ghost use Rattle.std.specs.Prelude.{◌≡◌, ◌≤◌, ◌<◌, ◌⊎◌, ℕ, List, Contains, OnOk, IsTrue};
 ghost use Rattle.olr_spec.specs.Map.{Map, has_node};
-ghost use Rattle.olr_search.specs.Distances.{Leads, ends_at};
+ghost use Rattle.olr_search.specs.Distances.{Leads, ends_at, lines_at};
 ghost use Rattle.olr_search.specs.Frontiers.{Moves, IsQueued, label_of, frontier_len};
 ghost use Rattle.olr_search.specs.Searches.{CoversSlots, IsLabelled, IsUnderWay, CutAt, IsCut, StaysWithin};
 
 use crate::bounds::{Admits, Anywhere};
 use crate::distances::Direction;
 use crate::frontier::{Frontier, GREATEST_LIMIT};
-use olr_roads::{LineEnd, MapRead, NodeId};
+use olr_roads::{LineEnd, MapRead, NodeId, NodeLines};
 use std::alloc::AllocError;
 
 /// Lowers a node's label to a length in decimetres. No effect if the label is no greater, or the node may not have this
@@ -65,16 +65,27 @@ pub fn start<M: MapRead>(
     Ok(())
 }
 
-/// For each line that is entered in this direction at the node in this slot: its far end, and its length.
-fn ends_from<M: MapRead>(map: &M, direction: Direction, slot: u32) -> &[LineEnd]
+/// The lines that are entered in this direction at the node in this slot, with their far ends.
+pub fn lines_from<M: MapRead>(map: &M, direction: Direction, slot: u32) -> NodeLines<'_>
+    requires { (v : ℕ) × IsTrue (has_node (M.map map.now) v) × (M.node_slot map.now v ≡ slot) }
+    ensures lines { (v : ℕ) → IsTrue (has_node (M.map map.now) v) → M.node_slot map.now v ≡ slot
+        → result.lines.now ≡ lines_at (M.map map.now) direction v }
+    ensures ends { (v : ℕ) → IsTrue (has_node (M.map map.now) v) → M.node_slot map.now v ≡ slot
+        → result.ends.now ≡ ends_at (M.map map.now) (M.node_slot map.now) direction v }
+{
+    match direction {
+        Direction::Along => map.out_lines_at(slot),
+        Direction::Against => map.in_lines_at(slot),
+    }
+}
+
+/// The far ends of these lines, with their lengths.
+pub fn ends_from<M: MapRead>(map: &M, direction: Direction, slot: u32) -> &[LineEnd]
     requires { (v : ℕ) × IsTrue (has_node (M.map map.now) v) × (M.node_slot map.now v ≡ slot) }
     ensures { (v : ℕ) → IsTrue (has_node (M.map map.now) v) → M.node_slot map.now v ≡ slot
         → result.now ≡ ends_at (M.map map.now) (M.node_slot map.now) direction v }
 {
-    match direction {
-        Direction::Along => map.out_ends_at(slot),
-        Direction::Against => map.in_ends_at(slot),
-    }
+    lines_from(map, direction, slot).ends
 }
 
 /// Follows the lines from the node in this slot, at the distance `dist` in decimetres: labels those of their far ends

@@ -327,12 +327,17 @@ fn assert_at_third(rt: &impl Abort, map: &RoadMap, end: &LineEnd) {
     holds!(rt; (end.slot as usize) < map.slot_count());
 }
 
-/// Asserts that the reads of a node by its slot are those by its number.
-fn assert_ends_at(rt: &impl Abort, map: &RoadMap, id: NodeId) {
-    if let Some(slot) = map.slot_of(id) {
-        same!(rt; map.in_lines_at(slot), map.in_lines(id));
-        holds!(rt; map.in_ends_at(slot) == map.in_ends(id));
-        holds!(rt; map.out_ends_at(slot) == map.out_ends(id));
+/// Asserts that the lines of node 2 by its slot are those by its number, and that line 7 enters it from node 3.
+fn assert_sides_of_second(rt: &impl Abort, map: &RoadMap) {
+    let Some(slot) = map.slot_of(node(2)) else {
+        panic!(rt; "node 2 is on the map");
+    };
+    same!(rt; map.in_lines_at(slot).lines, map.in_lines(node(2)));
+    same!(rt; map.out_lines_at(slot).lines, map.out_lines(node(2)));
+    same!(rt; map.out_lines_at(slot).ends.len(), map.out_lines(node(2)).len());
+    match map.in_lines_at(slot).ends.first() {
+        Some(end) => assert_at_third(rt, map, end),
+        None => panic!(rt; "line 7 enters node 2"),
     }
 }
 
@@ -342,13 +347,8 @@ fn far_ends_are_beside_lines(rt: HostRuntime) {
     let back = new_line(&rt, rt.alloc(), (7, 3, 2, 3, 2, 700, STRAIGHT));
     take(&rt, &mut map, back);
     assert_lines(&rt, &map, 2, &[20, 99], &[7, 10]);
-    match map.in_ends(node(2)).first() {
-        Some(end) => assert_at_third(&rt, &map, end),
-        None => panic!(&rt; "line 7 enters node 2"),
-    }
-    assert_ends_at(&rt, &map, node(2));
+    assert_sides_of_second(&rt, &map);
     same!(&rt; map.slot_of(node(77)), None);
-    holds!(&rt; map.out_ends(node(77)).is_empty());
 }
 
 #[test]

@@ -3,7 +3,7 @@ ghost use Rattle.std.specs.Prelude.{◌≤◌};
 
 use made_maps::{Plain, WORKED, line, make, map_of, node, plain_line, plain_map};
 use olr_map::{MapRead, RoadMap};
-use olr_search::{Dijkstra, Direction, GREATEST_LIMIT, settled_search};
+use olr_search::{Dijkstra, Direction, GREATEST_LIMIT, resolve_line, settled_search};
 use std::alloc::Global;
 use std::fmt::Debug;
 use std::process::Abort;
@@ -212,7 +212,12 @@ fn assert_unique(
     let from = [(node(1), 0)];
     let search = settled_search(alloc, map, Direction::Along, &from, GREATEST_LIMIT)?;
     for (number, unique) in lines {
-        same!(rt; search.extends_unique_shortest(map, line(*number)), *unique);
+        match resolve_line(map, line(*number)) {
+            Some(resolved) => {
+                same!(rt; search.extends_unique_shortest(map, resolved), *unique);
+            }
+            None => same!(rt; false, *unique),
+        }
     }
     Ok(())
 }

@@ -5,7 +5,7 @@ use Rattle.olr_refs.proofs.along.distances.Given as goal
 abbrev pub invariant-loop-record : goal.invariant-loop-record
 invariant-loop-record l =
     record {
-      are : (M : Map) (ls : List ℕ) → l.records ≡ records_of M ls →
+      are : (M : Map) (slot : ℕ → ℕ) (ls : List ℕ) → l.records ≡ records_of M slot ls →
           DistancesTo M ls l.record-index l.distances.items × (l.along ≡ dm_of M (take l.record-index ls));
       small : l.along ≤ 4294967296 * l.record-index;
     }

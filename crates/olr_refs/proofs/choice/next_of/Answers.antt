@@ -1,15 +1,15 @@
-use Rattle.olr_refs.proofs.Common.{◌≡◌, ◌-◌, true, false, ap, sym, ◌∙◌, subst, arith, passing, node_at}
+use Rattle.olr_refs.proofs.Common.{◌≡◌, ◌-◌, true, false, sym, ◌∙◌, subst, arith, passing, node_at}
 use Rattle.olr_refs.proofs.Choosing.{fit, fit_read, Scanned, scan_unfit, scan_passing, next_valid}
 use Rattle.olr_refs.proofs.choice.next_of.Goals as goal
 
-pub returns-then-not-passing : goal.returns-then-not-passing
-returns-then-not-passing g c =
+pub returns-then-not-is_passing : goal.returns-then-not-is_passing
+returns-then-not-is_passing g c =
     let M = g.M.MapRead.map c.args.resolved.now.map.now in
     let fits : fit M c.args.resolved.now.lines.now c.args.i (c.loop-k.k - 1) ≡ true =
     fit_read M c.args.resolved.now.lines.now c.args.i (c.loop-k.k - 1) _ _ _ c.place-here.ensures.at
     c.place-in-loop-k.ensures.at c.is_fit-in-loop-k.ensures ∙ c.if-is_fit-2.true in
     let valid : passing M (node_at M c.args.resolved.now.lines.now (c.loop-k.k - 1)) ≡ false =
-    ap (passing M) (sym c.node.ensures.value) ∙ sym c.passing.ensures ∙ c.if-not-passing.true in
+    sym c.is_passing.ensures ∙ c.if-not-is_passing.true in
     next_valid M c.args.resolved.now.lines.now c.args.i c.args.reach c.loop-k.k _ (omega arith) (omega arith)
     (omega arith) c.requires.reach c.loop-k.invariant fits valid
 
@@ -20,7 +20,7 @@ loop-k-preserved-then-is_fit-2 g c =
     fit_read M c.args.resolved.now.lines.now c.args.i (c.loop-k.k - 1) _ _ _ c.place-here.ensures.at
     c.place-in-loop-k.ensures.at c.is_fit-in-loop-k.ensures ∙ c.if-is_fit-2.true in
     let through : passing M (node_at M c.args.resolved.now.lines.now (c.loop-k.k - 1)) ≡ true =
-    ap (passing M) (sym c.node.ensures.value) ∙ sym c.passing.ensures ∙ c.if-not-passing.false in
+    sym c.is_passing.ensures ∙ c.if-not-is_passing.false in
     subst (Scanned M c.args.resolved.now.lines.now c.args.i c.args.reach (c.loop-k.k - 1)) (sym c.or-last.ensures)
     (scan_passing M c.args.resolved.now.lines.now c.args.i c.args.reach c.loop-k.k _ (omega arith) (omega arith)
     (omega arith) c.requires.reach c.loop-k.invariant fits through)

@@ -1,49 +1,82 @@
-use Rattle.olr_refs.proofs.Common.{◌≡◌, ℕ, true, false, eqb, ap, sym, ◌∙◌, subst, arith, both_ways, eq-eqb, passing}
-use Rattle.olr_refs.proofs.Common.{far_end, read_at, not-true, IsTrue}
-use Rattle.olr_search.proofs.ReadLemmas.{found_at}
-use Rattle.olr_refs.proofs.degree_two_runs.line_beyond.Goals.{then-through+else-loop-next-test, else-through}
+use Rattle.olr_refs.proofs.Common.{◌≡◌, ◌≢◌, ℕ, Map, Option, Some, None, MatchOption, IsTrue, has_node, has_line, ap, sym, ◌∙◌, subst}
+use Rattle.olr_refs.proofs.Common.{arith, both_ways, passing, near_end, far_end, LeadsOn, length}
+use Rattle.olr_search.specs.Distances.{lines_at, ends_at}
+use Rattle.olr_search.specs.declared.distances.Direction.{Direction}
+use Rattle.olr_search.proofs.WayLemmas.{far_node, as_many}
+use Rattle.olr_refs.proofs.degree_two_runs.line_beyond.Given.{Over}
+use Rattle.olr_refs.proofs.degree_two_runs.line_beyond.Goals.{After-lines_from-leaving}
 use Rattle.olr_refs.proofs.degree_two_runs.line_beyond.Goals as goal
 
-pub far_end_of-requires : goal.far_end_of-requires
-far_end_of-requires g c =
-    (read_at (g.M.MapRead.map c.args.map.now) c.args.direction _ _ _ _ c.lines_at-next-items.ensures
-    c.loop-next-test.true c.next-item.is).0
-
-pub returns-then-ne : goal.returns-then-ne
-returns-then-ne g c =
+pub passing_at-requires-clause-there : goal.passing_at-requires-clause-there
+passing_at-requires-clause-there g c =
     let M = g.M.MapRead.map c.args.map.now in
-    let ends = c.ends_of-near.ensures M c.requires in
-    let r =
-    read_at M c.args.direction _ _ _ _ c.lines_at-next-items.ensures c.loop-next-test.true c.next-item.is in
-    let through : passing M c.ends_of-near.result.1 ≡ true = cc in
-    let differ : eqb (far_end M c.args.direction c.next-item.result) c.ends_of-near.result.0 ≡ false =
-    rw (← c.far_end_of.ensures) (not-true _ (rw (← c.ne.ensures) c.if-ne.true)) in
-    record {
-      node = rw (← ends.1) c.passing-through.ensures;
-      next = record {
-        known = r.0;
-        joins = rw (← ends.1) r.1;
-        through = subst (λ (v : ℕ). IsTrue (passing M v)) (sym r.1) through;
-        onward = λ is. both_ways _ differ (eq-eqb _ _ (is ∙ sym ends.0));
-      };
-    }
+    let ends = c.ends_of-near.ensures M (g.M.MapRead.node_slot c.args.map.now) c.requires.is in
+    subst (λ (v : ℕ). IsTrue (has_node M v)) (sym ends.1) (far_node (g.M.MapRead.map c.args.map.now) (g.met.M.MapRead.sound c.args.map.now) c.args.direction c.args.line.id c.requires.known)
+
+pub passing_at-requires-clause-at : goal.passing_at-requires-clause-at
+passing_at-requires-clause-at g c =
+    let slot = g.M.MapRead.node_slot c.args.map.now in
+    let ends = c.ends_of-near.ensures (g.M.MapRead.map c.args.map.now) slot c.requires.is in
+    ap slot ends.1 ∙ sym ends.2
+
+pub returns-then-not-passing_at : goal.returns-then-not-passing_at
+returns-then-not-passing_at g c =
+    let M = g.M.MapRead.map c.args.map.now in
+    let ends = c.ends_of-near.ensures M (g.M.MapRead.node_slot c.args.map.now) c.requires.is in
+    let node = sym c.if-not-passing_at.true ∙ c.passing_at.ensures ∙ ap (passing M) ends.1 in
+    record { node = node; next = λ x p. both_ways _ (sym node) (ap (passing M) (sym p.joins) ∙ p.through) }
+
+pub lines_from-leaving-requires : goal.lines_from-leaving-requires
+lines_from-leaving-requires g c =
+    let ends =
+    c.ends_of-near.ensures (g.M.MapRead.map c.args.map.now) (g.M.MapRead.node_slot c.args.map.now) c.requires.is in
+    (_, far_node (g.M.MapRead.map c.args.map.now) (g.met.M.MapRead.sound c.args.map.now) c.args.direction c.args.line.id c.requires.known, sym ends.2)
+
+-- the lines that are entered there
+module _ (g : Over) (c : After-lines_from-leaving g) where
+  abbrev M : Map
+  M = g.M.MapRead.map c.args.map.now
+
+  abbrev slot : ℕ → ℕ
+  slot = g.M.MapRead.node_slot c.args.map.now
+
+  abbrev far : ℕ
+  far = far_end M c.args.direction c.args.line.id
+
+  lines : c.lines_from-leaving.result.lines.now ≡ lines_at M c.args.direction far
+  lines = c.lines_from-leaving.ensures.lines far (far_node (g.M.MapRead.map c.args.map.now) (g.met.M.MapRead.sound c.args.map.now) c.args.direction c.args.line.id c.requires.known) (sym (c.ends_of-near.ensures M slot c.requires.is).2)
+
+  ends : c.lines_from-leaving.result.ends.now ≡ ends_at M slot c.args.direction far
+  ends = c.lines_from-leaving.ensures.ends far (far_node (g.M.MapRead.map c.args.map.now) (g.met.M.MapRead.sound c.args.map.now) c.args.direction c.args.line.id c.requires.known) (sym (c.ends_of-near.ensures M slot c.requires.is).2)
+
+  pub many : length c.lines_from-leaving.result.ends.now ≡ length c.lines_from-leaving.result.lines.now
+  many = as_many M slot c.args.direction far _ _ lines ends
+
+pub first_apart-requires : goal.first_apart-requires
+first_apart-requires g c =
+    let same = many g (goal.at.first_apart-requires g c).After-lines_from-leaving in omega arith
+
+-- the one of these lines that leads on
+beyond : (M : Map) (d : Direction) (z : ℕ) (o : Option ℕ) → IsTrue (passing M (far_end M d z)) →
+    MatchOption o ((x : ℕ) → IsTrue (has_line M x) → near_end M d x ≡ far_end M d z → far_end M d x ≡ near_end M d z)
+    (λ x. IsTrue (has_line M x) × (near_end M d x ≡ far_end M d z) × (far_end M d x ≢ near_end M d z)) →
+    MatchOption o ((x : ℕ) → ¬ LeadsOn M d z x) (LeadsOn M d z)
+beyond M d z None t all = λ x p. p.onward (all x p.known p.joins)
+beyond M d z (Some x) t k =
+    record { known = k.0; joins = k.1; through = subst (λ (v : ℕ). IsTrue (passing M v)) (sym k.1) t; onward = k.2 }
 
 pub returns : goal.returns
 returns g c =
     let M = g.M.MapRead.map c.args.map.now in
+    let slot = g.M.MapRead.node_slot c.args.map.now in
     let d = c.args.direction in
-    let ends = c.ends_of-near.ensures M c.requires in
-    let node : c.passing-through.result ≡ passing M (far_end M d c.args.line.id) =
-    rw (← ends.1) c.passing-through.ensures in
-    record {
-      node = node;
-      next = elim c.if-through.branch [
-        | then-through+else-loop-next-test w ↦ λ x p.
-            let k = found_at M d _ _ x w.lines_at-next-items.ensures p.known (p.joins ∙ sym ends.1) in
-            let past = w.loop-next-test.false in
-            p.onward (ap (far_end M d) (sym k.2) ∙ w.loop-next.invariant k.0 (omega arith) ∙ ends.0)
-        | else-through w ↦ λ x p.
-            both_ways (passing M (far_end M d c.args.line.id)) (sym node ∙ w.if-through.false)
-            (sym (ap (passing M) p.joins) ∙ p.through)
-      ];
-    }
+    let z = c.args.line.id in
+    let at = (goal.at.returns g c).After-lines_from-leaving in
+    let is = c.ends_of-near.ensures M slot c.requires.is in
+    let node = sym c.if-not-passing_at.false ∙ c.passing_at.ensures ∙ ap (passing M) is.1 in
+    let found =
+    subst (λ (other : ℕ). MatchOption c.first_apart.result
+    ((x : ℕ) → IsTrue (has_line M x) → near_end M d x ≡ far_end M d z → far_end M d x ≡ other)
+    (λ x. IsTrue (has_line M x) × (near_end M d x ≡ far_end M d z) × (far_end M d x ≢ other))) is.0
+    (c.first_apart.ensures M slot d (far_end M d z) (lines g at) (ends g at)) in
+    record { node = node; next = beyond M d z c.first_apart.result (sym node) found }

@@ -4,5 +4,5 @@ use Rattle.olr_refs.proofs.faults.first_break.Given as goal
 -- the first break of the remaining lines is the first of all
 abbrev pub invariant-loop-k : goal.invariant-loop-k
 invariant-loop-k l =
-    (M : Map) (ls : List ℕ) → l.records ≡ records_of M ls →
+    (M : Map) (slot : ℕ → ℕ) (ls : List ℕ) → l.records ≡ records_of M slot ls →
     first_break M (l.k - 1) (drop (l.k - 1) ls) ≡ first_break M 0 ls

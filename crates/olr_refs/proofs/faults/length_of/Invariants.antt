@@ -5,6 +5,6 @@ use Rattle.olr_refs.proofs.faults.length_of.Given as goal
 abbrev pub invariant-loop-record : goal.invariant-loop-record
 invariant-loop-record l =
     record {
-      is : (M : Map) (ls : List ℕ) → l.records ≡ records_of M ls → l.len ≡ dm_of M (take l.record-index ls);
+      is : (M : Map) (slot : ℕ → ℕ) (ls : List ℕ) → l.records ≡ records_of M slot ls → l.len ≡ dm_of M (take l.record-index ls);
       small : l.len ≤ 4294967296 * l.record-index;
     }

@@ -8,6 +8,6 @@ returns g c =
     let read =
     leg_read M c.args.resolved.now.lines.now c.args.i _ c.ends_of.result (omega arith) c.line-line.ensures.value
     c.ends_of.ensures.from c.ends_of.ensures.to in
-    attrs_read M c.args.resolved.now.lines.now c.args.resolved.now.records.now c.args.i c.args.j _ _ _ _ _ _
+    attrs_read M (g.M.MapRead.node_slot c.args.resolved.now.map.now) c.args.resolved.now.lines.now c.args.resolved.now.records.now c.args.i c.args.j _ _ _ _ _ _
     c.ends_of.result c.args.resolved.now.resolved read (search rules)
     (search rules) c.lowest_class.ensures (search rules) c.between.ensures.legs

@@ -1,4 +1,4 @@
-use Rattle.olr_refs.proofs.Common.{◌≡◌, ◌+◌, ℕ, true, false, subst, arith, get_or_default, dm_of, stretch, limit_of}
+use Rattle.olr_refs.proofs.Common.{◌≡◌, ◌+◌, ℕ, true, false, ap, subst, arith, ResolvedLine, dm_of, stretch, limit_of}
 use Rattle.olr_refs.proofs.Reaching.{UniqueTo, tests_start, tests_on, all_covered, covered_so_far, near_after}
 use Rattle.olr_refs.proofs.reach.covered_to.Goals as goal
 
@@ -26,7 +26,7 @@ pub returns-then-not-extends_unique_shortest : goal.returns-then-not-extends_uni
 returns-then-not-extends_unique_shortest g c =
     let M = g.M.MapRead.map c.args.resolved.now.map.now in
     let ls = c.args.resolved.now.lines.now in
-    let read = get_or_default ls c.loop-k.k c.index-resolved-k.result 0 (omega arith) in
+    let read = ap (λ (r : ResolvedLine). r.id) c.resolved_line.ensures.value in
     let search = c.in_ok-settle_to.ensures.search _ _ c.loop-k.invariant.search in
     let on =
     tests_on M (g.M.MapRead.node_slot c.args.resolved.now.map.now) ls c.args.i c.loop-k.k _ _
@@ -45,7 +45,7 @@ returns-then-not-extends_unique_shortest g c =
 pub loop-k-preserved : goal.loop-k-preserved
 loop-k-preserved g c =
     let ls = c.args.resolved.now.lines.now in
-    let read = get_or_default ls c.loop-k.k c.index-resolved-k.result 0 (omega arith) in
+    let read = ap (λ (r : ResolvedLine). r.id) c.resolved_line.ensures.value in
     let search = c.in_ok-settle_to.ensures.search _ _ c.loop-k.invariant.search in
     let on =
     tests_on (g.M.MapRead.map c.args.resolved.now.map.now) (g.M.MapRead.node_slot c.args.resolved.now.map.now) ls

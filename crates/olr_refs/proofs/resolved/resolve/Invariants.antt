@@ -7,5 +7,5 @@ invariant-loop-line g l =
     record {
       known : first_unknown (g.M.MapRead.map l.map) (drop l.line-index l.lines)
           ≡ first_unknown (g.M.MapRead.map l.map) l.lines;
-      are : l.records.items ≡ records_of (g.M.MapRead.map l.map) (take l.line-index l.lines);
+      are : l.records.items ≡ records_of (g.M.MapRead.map l.map) (g.M.MapRead.node_slot l.map) (take l.line-index l.lines);
     }

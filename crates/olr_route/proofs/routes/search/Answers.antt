@@ -1,7 +1,7 @@
 use Rattle.olr_route.proofs.Common.{◌∷◌, [], ◌⊎◌, ◌↔◌, ◌<◌, ℕ, List, None, Contains, length, get_or, refl, sym, subst, inl, inr}
 use Rattle.olr_route.proofs.Common.{Along, IsLabel, IsStrictlyIncreasing, LiesWithin, Counts}
 use Rattle.std.proofs.Common.{rules}
-use Rattle.olr_map.proofs.Numbers.{distinct_from_ascending}
+use Rattle.olr_spec.proofs.SameNumbers.{distinct_from_ascending}
 use Rattle.olr_map.proofs.Sizes.{ascending_within}
 use Rattle.olr_route.proofs.routes.search.Given.{Over}
 use Rattle.olr_route.proofs.routes.search.Goals.{In_ok-nodes}

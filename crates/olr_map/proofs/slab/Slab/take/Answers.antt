@@ -8,7 +8,7 @@ invariant_of-self g c =
     let room = free_room s.entries.items s.free.items _ s.slotted c.args.slot c.requires in
     let len = s.free.ok.0 in
     record {
-      slotted = rw c.replace.ensures.after
+      slotted = rw c.replace-entry.ensures.after
           (take_slotted s.entries.items s.free.items _ s.slotted c.args.slot c.push_reserved.new.self.items _ c.requires
           c.push_reserved.ensures.items (omega (arith, c.push_reserved.ensures.capacity)));
     }

@@ -1,4 +1,5 @@
-use Rattle.std.proofs.Common.{◌≡◌, ◌≤◌, ◌+◌, ◌-◌, ℕ, Option, get_or, inl, inr, sym, ◌∙◌, subst, arith}
+use Rattle.std.proofs.Common.{◌≡◌, ◌≤◌, ◌+◌, ◌-◌, ℕ, Option, get_or, inl, inr, sym, ◌∙◌, subst, arith, IsTrue}
+use Rattle.olr_spec.specs.Map.{has_node}
 use borrow.Author.Count.{below_more}
 use Rattle.std.proofs.lemmas.List.{get_or_default}
 use Rattle.olr_roads.specs.declared.read.LineEnd.{LineEnd}
@@ -16,7 +17,7 @@ Reaches L d e = e.len ≤ 150000 - d → Within L e.node (d + e.len)
 pub loop-end-preserved : goal.loop-end-preserved
 loop-end-preserved g c =
     let inv = c.loop-end.invariant in
-    let items = c.out_ends-end-items.result.now in
+    let items = c.ends_from-end-items.result.now in
     let n = c.loop-end.end-index in
     let d = c.args.number in
     let end = c.end-item.result in
@@ -33,7 +34,7 @@ loop-end-preserved g c =
               | inr new ↦
                   let x =
                   end_is (g.M.MapRead.map c.args.map.now) (g.M.MapRead.node_slot c.args.map.now) Along c.args.node items n
-                  end c.out_ends-end-items.ensures c.loop-end-test.true c.end-item.is in
+                  end (c.ends_from-end-items.ensures c.args.node c.in-Some.ensures.0 (sym c.in-Some.ensures.1)) c.loop-end-test.true c.end-item.is in
                   inr (record {
                     line = x.line;
                     known = x.known;
@@ -60,8 +61,13 @@ loop-end-preserved g c =
 pub returns-clause-closed : goal.returns-clause-closed
 returns-clause-closed g c = λ x known from short.
     let M = g.M.MapRead.map c.args.map.now in
-    let k = has_end M (g.M.MapRead.node_slot c.args.map.now) Along c.args.node x c.out_ends-end-items.result.now
-    c.out_ends-end-items.ensures known from in
+    let k = has_end M (g.M.MapRead.node_slot c.args.map.now) Along c.args.node x c.ends_from-end-items.result.now
+    (c.ends_from-end-items.ensures c.args.node c.in-Some.ensures.0 (sym c.in-Some.ensures.1)) known from in
     let w = c.loop-end.invariant.followed k.index (omega arith) (omega arith) in
     let L = bound_of c.loop-end.self in
     coe 0 1 (i. Within L (k.node i) (c.args.number + k.len i)) w
+
+pub returns-in_default-clause-closed : goal.returns-in_default-clause-closed
+returns-in_default-clause-closed g c = λ x known from short.
+    absurd (c.in_default.ensures (subst (λ (v : ℕ). IsTrue (has_node (g.M.MapRead.map c.args.map.now) v)) from
+    ((g.met.M.MapRead.sound c.args.map.now).starts x known)))
