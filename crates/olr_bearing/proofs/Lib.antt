@@ -1,3 +1,4 @@
 pub mod Products
 pub mod Scaling
 pub mod Turns
+pub mod Quarters

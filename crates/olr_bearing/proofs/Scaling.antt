@@ -2,7 +2,7 @@
 use Rattle.olr_spec.proofs.Common.{◌≡◌, ℕ, ◌+◌, ◌-◌, ◌*◌, ◌≤◌, ℤ, pos, negsuc, ◌+ℤ◌, ◌-ℤ◌, ◌*ℤ◌, IsTrue, to_z, of_z, ap}
 use Rattle.olr_spec.proofs.Common.{arith, Width, w64, w128, FitsSigned, to_z-of_z, subst, sym, ints, and_parts, Coord, is_coord, thousandths}
 use Rattle.olr_spec.proofs.BytesLemmas.{bounds}
-use Rattle.olr_bearing.specs.Ranges.{IsWithin, degree_units}
+use Rattle.olr_bearing.specs.Ranges.{IsWithin, IsPart, IsBoundary, degree_units}
 use Rattle.olr_bearing.proofs.Products.{natural_product_within, times_sum, sum_times}
 
 -- the value of a number in an integer type
@@ -11,6 +11,13 @@ held w z = to_z w (of_z w z)
 
 pub held_within : (b : ℕ) (z : ℤ) → FitsSigned w128 z → IsWithin b z → IsWithin b (held w128 z)
 held_within b z fits h = subst (IsWithin b) (sym (to_z-of_z w128 z fits)) h
+
+-- a direction's parts, and a boundary's, fit 128 bits
+pub part_held : (z : ℤ) → IsPart z → held w128 z ≡ z
+part_held z h = to_z-of_z w128 z (omega (arith, ints, h.0, h.1))
+
+pub boundary_held : (z : ℤ) → IsBoundary z → held w128 z ≡ z
+boundary_held z h = to_z-of_z w128 z (omega (arith, ints, h.0, h.1))
 
 -- ---- coordinates
 

@@ -1,3 +1,4 @@
 pub mod Ranges
 pub mod Legs
 pub mod Codes
+pub mod Turned

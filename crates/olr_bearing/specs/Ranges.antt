@@ -2,6 +2,7 @@
 --     IsWithin most z      at most `most` either way
 --     IsFactor z      a factor of the cosine: at most 32,400,000,000 plus the square of 90,000
 --     IsPart z      a direction's part to the east or to the north: at most 10^31 either way
+--     IsBoundary z      a part of a boundary: at most a million either way
 --     degree_units n      n degrees in units
 --     IsInRange s      a scaled coordinate whose longitude and latitude are in range
 use Rattle.std.specs.Prelude.{ℕ, ◌^◌, ◌*◌, ℤ, pos, neg_ℤ, ◌≤ℤ◌}
@@ -15,6 +16,9 @@ IsFactor z = IsWithin 40500000000 z
 
 abbrev pub IsPart : ℤ → Type 0
 IsPart z = IsWithin (10 ^ 31) z
+
+abbrev pub IsBoundary : ℤ → Type 0
+IsBoundary z = IsWithin 1000000 z
 
 abbrev pub degree_units : ℕ → ℕ
 degree_units n = n * 327680000000

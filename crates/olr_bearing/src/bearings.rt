@@ -1,7 +1,7 @@
 //! The bearings at a line's two ends.
 ghost use Rattle.std.specs.Prelude.{◌≡◌, ◌*◌, ◌<◌, ◌≤◌, pos, ◌+ℤ◌, ◌-ℤ◌, ◌*ℤ◌, IsTrue};
 ghost use Rattle.olr_spec.specs.Map.{is_good};
-ghost use Rattle.olr_spec.specs.Bearings.{bearing, bearing_back, bearing_out, thousandths};
+ghost use Rattle.olr_spec.specs.Bearings.{bearing_back, bearing_out, direction, direction_back, direction_out, thousandths};
 ghost use Rattle.olr_bearing.specs.Legs.{leg_between};
 ghost use Rattle.olr_bearing.specs.Ranges.{IsFactor, IsInRange, IsPart, IsWithin, degree_units};
 
@@ -9,47 +9,91 @@ use crate::places::{Ends, Scaled, place};
 use crate::sectors::sector;
 use olr_coords::Coord;
 use olr_roads::Line;
+use std::marker::Model;
 
 /// BEARDIST, the length of a line over which its bearing is taken, in decimetres.
 const BEARING_DISTANCE: u32 = 200;
 /// A thousandth of a degree, in units.
 const THOUSANDTH: i64 = 327_680_000;
 
-/// The bearing at a location reference point (LRP) that a good line leaves: the sector, 0 to 31, of the direction from
-/// the line's start to the coordinate 200 dm along it, or to its end if it is shorter (White Paper, bearing attribute).
+/// A direction, by its parts to the east and to the north, which are at most 10^31 either way.
+#[derive(Clone, Copy)]
+pub struct Direction {
+    /// The part to the east; less than 0 to the west.
+    pub east: i128,
+    /// The part to the north; less than 0 to the south.
+    pub north: i128,
+}
+
+impl Model for Direction {
+    ghost use Rattle.olr_spec.specs.Bearings.{Vector};
+    ghost use Rattle.olr_bearing.specs.Codes.{coded_vector};
+
+    ghost Value = { Vector };
+
+    ghost coded = { coded_vector };
+
+    ghost view = { λ v. record { east = v.east; north = v.north } };
+
+    ghost inverse = { λ v. record { east = v.east; north = v.north } };
+}
+
+/// The direction of a good line at its start: from there to the coordinate 200 dm along it, or to its end if it is
+/// shorter (White Paper, bearing attribute).
+pub fn direction_out(line: &Line, ends: Ends) -> Direction
+    requires { IsTrue (is_good line.now) }
+    ensures value { result ≡ direction_out (leg_between line.now ends) }
+    ensures in_range { IsPart result.east × IsPart result.north }
+{
+    let at = BEARING_DISTANCE.min(line.len);
+    direction_to(ends.from, place(line, ends, at))
+}
+
+/// The direction of a good line at its end, backwards: from there to the coordinate 200 dm before it, or to its start if
+/// it is shorter (White Paper, bearing attribute).
+pub fn direction_back(line: &Line, ends: Ends) -> Direction
+    requires { IsTrue (is_good line.now) }
+    ensures value { result ≡ direction_back (leg_between line.now ends) }
+    ensures in_range { IsPart result.east × IsPart result.north }
+{
+    let at = line.len.saturating_sub(BEARING_DISTANCE);
+    direction_to(ends.to, place(line, ends, at))
+}
+
+/// The bearing at a location reference point (LRP) that a good line leaves: the sector, 0 to 31, of its direction there
+/// (White Paper, bearing attribute).
 pub fn bearing_out(line: &Line, ends: Ends) -> u8
     requires { IsTrue (is_good line.now) }
     ensures value { result ≡ bearing_out (leg_between line.now ends) }
     ensures below { result < 32 }
 {
-    let at = BEARING_DISTANCE.min(line.len);
-    bearing(ends.from, place(line, ends, at))
+    let direction = direction_out(line, ends);
+    sector(direction.east, direction.north)
 }
 
-/// The bearing at the last LRP, which a good line enters: the sector, 0 to 31, of the direction from the line's end to
-/// the coordinate 200 dm before it, or to its start if it is shorter (White Paper, bearing attribute).
+/// The bearing at the last LRP, which a good line enters: the sector, 0 to 31, of its direction there, backwards (White
+/// Paper, bearing attribute).
 pub fn bearing_back(line: &Line, ends: Ends) -> u8
     requires { IsTrue (is_good line.now) }
     ensures value { result ≡ bearing_back (leg_between line.now ends) }
     ensures below { result < 32 }
 {
-    let at = line.len.saturating_sub(BEARING_DISTANCE);
-    bearing(ends.to, place(line, ends, at))
+    let direction = direction_back(line, ends);
+    sector(direction.east, direction.north)
 }
 
-/// The sector of the direction from `origin` to `place`. The part to the east is multiplied by the cosine of the
-/// origin's latitude.
-fn bearing(origin: Coord, place: Scaled) -> u8
+/// The direction from `origin` to `place`. The part to the east is multiplied by the cosine of the origin's latitude.
+fn direction_to(origin: Coord, place: Scaled) -> Direction
     requires short { place.width ≤ 1000000 }
     requires in_range { IsInRange place }
-    ensures value { result ≡ bearing origin place }
-    ensures below { result < 32 }
+    ensures value { result ≡ direction origin place }
+    ensures in_range { IsPart result.east × IsPart result.north }
 {
     let Scaled { lon, lat, width } = place;
     let cosine = cosine_at(origin);
     let east = part(cosine.numerator, lon, width, origin.lon());
     let north = part(cosine.denominator, lat, width, origin.lat());
-    sector(east, north)
+    Direction { east, north }
 }
 
 /// A part of a direction: a coordinate scaled by `width`, minus `width` times `origin`, times a factor of the cosine.

@@ -6,9 +6,11 @@
 #![tactic(auto)]
 
 mod bearings;
+mod margins;
 pub mod places;
 mod sectors;
 
-pub use bearings::{bearing_back, bearing_out};
+pub use bearings::{Direction, bearing_back, bearing_out, direction_back, direction_out};
+pub use margins::{is_beyond, is_direction};
 pub use places::{Ends, Scaled, place};
 pub use sectors::sector;

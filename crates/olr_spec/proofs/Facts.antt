@@ -12,7 +12,7 @@ pub use Rattle.olr_spec.proofs.ListLemmas.{Each-tail, Each-to, Known, at_index, 
 pub use Rattle.olr_spec.proofs.ListLemmas.{has_first, has_here, has_index, has_last, has_there, last_index, map_same}
 pub use Rattle.olr_spec.proofs.MapLemmas.{has-lines_where, none_has, passes_at}
 pub use Rattle.olr_spec.proofs.OptionLemmas.{none_of, there_not}
-pub use Rattle.olr_spec.proofs.OrderLemmas.{exactly_in, exactly_out, has_number, lines_ascend}
+pub use Rattle.olr_spec.proofs.OrderLemmas.{exactly_in, exactly_out, has-all_nodes, all_nodes_ascend, has_number, lines_ascend}
 pub use Rattle.olr_spec.proofs.RouteLemmas.{IsRoute-append, IsRoute-split, dm_of-append, empty_least, empty_unique}
 pub use Rattle.olr_spec.proofs.RouteLemmas.{longer, not_before_itself, nothing_below_nil, one_least, positive}
 pub use Rattle.olr_spec.proofs.RouteLemmas.{prefix_of_least, prefix_of_unique, unique_least}

@@ -36,3 +36,4 @@ pub mod TestedLemmas
 pub mod LocalLemmas
 pub mod KnownLists
 pub mod KnownLemmas
+pub mod SameNumbers

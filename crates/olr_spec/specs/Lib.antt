@@ -16,5 +16,7 @@ pub mod Queries
 pub mod Footprint
 pub mod Receiver
 pub mod Recovery
+pub mod Directions
+pub mod Ambiguity
 pub mod Laws
 pub mod Codes

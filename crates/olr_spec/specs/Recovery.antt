@@ -1,5 +1,7 @@
 -- What a receiver should recover of a path, and when it can.
 --     IsLineAt M P s k x      line x of the extended path leaves LRP k of its reference, or enters it
+--     own_lines ls ks, OwnLines M P xs      these lines of all LRPs, in order
+--     OwnLinesOf M P A xs      of an answer: none if it has no reference
 --     Distinct far M P r      the path's own line at each LRP is the nearest candidate by the measure far, and has no
 --         twin
 --     stretches ls ks, IsStretches M P ws      the legs: the lines between each two neighbouring LRPs
@@ -23,6 +25,7 @@ use Rattle.olr_spec.specs.Points.{stretch, OfPath}
 use Rattle.olr_spec.specs.Bearings.{Leg, up_to}
 use Rattle.olr_spec.specs.Reference.{Attrs, Reference, leg, legs, from_front, to_back, first_kept, last_kept}
 use Rattle.olr_spec.specs.Reference.{kept_points}
+use Rattle.olr_spec.specs.Encoding.{Answer, Points, Refused}
 use Rattle.olr_spec.specs.Decoded.{decoded_bound}
 use Rattle.olr_spec.specs.Receiver.{Side, Outgoing, Incoming, node_on, coordinate_on, Measure, candidates}
 use Rattle.olr_spec.specs.Receiver.{decoded_coord}
@@ -37,6 +40,20 @@ abbrev pub IsLineAt : Map → Path → Side → ℕ → ℕ → Type 0
 IsLineAt M P s k x =
     OfPath M P (λ E _ _ js. option_map (line_by s E.lines)
     (slice_get (kept_points (legs M E.lines) E.pos E.neg js) k) ≡ Some x)
+
+-- at the LRPs ks of the extended path ls, the last of which its line enters
+abbrev pub own_lines : List ℕ → List ℕ → List ℕ
+own_lines ls [] = []
+own_lines ls (i ∷ []) = line_by Incoming ls i ∷ []
+own_lines ls (i ∷ j ∷ ks) = line_by Outgoing ls i ∷ own_lines ls (j ∷ ks)
+
+abbrev pub OwnLines : Map → Path → List ℕ → Type 0
+OwnLines M P xs =
+    OfPath M P (λ E _ _ js. xs ≡ own_lines E.lines (kept_points (legs M E.lines) E.pos E.neg js))
+
+abbrev pub OwnLinesOf : Map → Path → Answer → List ℕ → Type 0
+OwnLinesOf M P (Points r) xs = OwnLines M P xs
+OwnLinesOf M P (Refused refusal) xs = xs ≡ []
 
 -- at LRP k, which is decoded as p
 pub record DistinctAt (far : Measure) (M : Map) (P : Path) (s : Side) (k : ℕ) (p : ℤ × ℤ) : Type 0 where

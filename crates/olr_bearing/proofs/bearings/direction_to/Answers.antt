@@ -1,7 +1,7 @@
-use Rattle.olr_spec.proofs.Common.{◌≡◌, ℕ, ◌*◌, ◌^◌, ◌≤◌, ℤ, pos, ◌+ℤ◌, ◌-ℤ◌, ◌*ℤ◌, ap, subst, sym, ◌∙◌, FitsSigned, to_z-of_z, arith, w128, ints, Scaled, sector, thousandths}
+use Rattle.olr_spec.proofs.Common.{◌≡◌, ℕ, ◌*◌, ◌^◌, ◌≤◌, ℤ, pos, ◌+ℤ◌, ◌-ℤ◌, ◌*ℤ◌, ap, subst, sym, ◌∙◌, FitsSigned, to_z-of_z, arith, w128, ints, Scaled, thousandths, vector}
 use Rattle.olr_bearing.specs.Ranges.{IsFactor, IsWithin, degree_units}
 use Rattle.olr_bearing.proofs.Scaling.{held, coord_held, coord_within, held_within, wider}
-use Rattle.olr_bearing.proofs.bearings.bearing.Goals as goal
+use Rattle.olr_bearing.proofs.bearings.direction_to.Goals as goal
 
 -- numbers of 128 bits: a coordinate's part, and a factor
 fits : (w : ℕ) (y : ℤ) → w ≤ 1000000 → IsWithin (w * degree_units 180) y → FitsSigned w128 y
@@ -34,11 +34,11 @@ part-north-requires c =
       origin = (coord_held _ _ c.lat.ensures.value (wider 1 _ (coord_within c.args.origin c.lat.ensures.range).1)).1;
     }
 
-pub sector-requires : goal.sector-requires
-sector-requires c = record {
-  east = held_within (10 ^ 31) _ (record { sfits = c.part-east.type_inv }) c.part-east.ensures.in_range;
-  north = held_within (10 ^ 31) _ (record { sfits = c.part-north.type_inv }) c.part-north.ensures.in_range;
-}
+pub returns-clause-in_range : goal.returns-clause-in_range
+returns-clause-in_range c = (
+  held_within (10 ^ 31) _ (record { sfits = c.part-east.type_inv }) c.part-east.ensures.in_range,
+  held_within (10 ^ 31) _ (record { sfits = c.part-north.type_inv }) c.part-north.ensures.in_range,
+)
 
 pub returns-clause-value : goal.returns-clause-value
 returns-clause-value c =
@@ -63,4 +63,4 @@ returns-clause-value c =
     c.part-north.ensures.value ∙ (λ i. denominator i *ℤ (lat i -ℤ pos (width i) *ℤ north_of i)) in
     let a = to_z-of_z w128 c.part-east.result (record { sfits = c.part-east.type_inv }) ∙ east in
     let b = to_z-of_z w128 c.part-north.result (record { sfits = c.part-north.type_inv }) ∙ north in
-    c.sector.ensures.value ∙ (λ i. sector (a i) (b i))
+    λ i. vector (a i) (b i)

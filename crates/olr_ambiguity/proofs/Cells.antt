@@ -1,0 +1,91 @@
+-- The nodes of a range of cells, and of a window.
+use Rattle.olr_spec.proofs.Common.{◌≡◌, ℕ, suc, ◌+◌, ◌-◌, ◌*◌, ◌<◌, ◌≤◌, ◌⊎◌, inl, inr, ℤ, Bool, true, false, nat_lt, nat_le, List, [], length, take, drop, get_or, Contains, IsTrue, IsFalse, arith, sym, ap, ◌∙◌, subst, refl, cases_lt, cases_Bool, both_ways}
+use Rattle.olr_spec.proofs.Common.{ltb-true, ltb-false, leb-true, leb-false, lt-ltb, le-ltb, le-leb, get_or-drop, get_or-take, length-drop, length-take-le, get_or_default, Map, coord_at, has_node, Coord}
+use Rattle.olr_spec.specs.Ambiguity.{is_farther, usual_slack}
+use Rattle.olr_ambiguity.specs.declared.grid.Placed.{Placed}
+use Rattle.olr_ambiguity.specs.declared.rivals.Window.{Window}
+use Rattle.olr_ambiguity.specs.Grids.{Starts, Ends, cell_at, cell_of, cells_from, columns, last_cell, lowest_lat, lowest_lon, IsGrid, IsWindow, Notes}
+
+-- an element whose cell is within is between the two positions
+between : (es : List Placed) (first last i j k : ℕ) (e : Placed) → Starts es first i → Ends es last j → k < length es →
+    get_or es k e ≡ e → first ≤ e.cell → e.cell ≤ last → (i ≤ k) × (k < j)
+between es first last i j k e s f lt at low high = (
+  elim (cases_lt k i) [
+    | inl before ↦
+        let less : nat_lt (get_or es k e).cell first ≡ true = s.0 k e (omega arith) before in
+        let under = ltb-true (get_or es k e).cell first less in
+        let same : (get_or es k e).cell ≡ e.cell = ap (λ (g : Placed). g.cell) at in
+        absurd (omega (arith, under, same, low))
+    | inr after ↦ after
+  ],
+  elim (cases_lt k j) [
+    | inl before ↦ before
+    | inr after ↦
+        let more : nat_le (get_or es k e).cell last ≡ false = f.1 k e after lt in
+        let over = leb-false (get_or es k e).cell last more in
+        let same : (get_or es k e).cell ≡ e.cell = ap (λ (g : Placed). g.cell) at in
+        absurd (omega (arith, over, same, high))
+  ],
+)
+
+-- from position i on, or from an earlier one
+pub in_range : (es : List Placed) (first last i n j : ℕ) → Starts es first i → Ends es last j → n ≤ i → j ≤ length es →
+    (e : Placed) → Contains es e → first ≤ e.cell → e.cell ≤ last → Contains (take (j - n) (drop n es)) e
+in_range es first last i n j s f few more e h low high =
+    let b = between es first last i j h.0 e s f h.1 h.2 low high in
+    let k = h.0 - n in
+    let on : n + k ≡ h.0 = omega (arith, b.0, few) in
+    let long : length (take (j - n) (drop n es)) ≡ j - n = length-take-le (j - n) (drop n es) (omega (arith, length-drop n es, more)) in (
+      k,
+      omega (arith, long, b.0, b.1, few),
+      get_or-take (j - n) (drop n es) k e (omega (arith, b.0, b.1, few)) ∙ get_or-drop n es k e ∙ ap (λ (m : ℕ). get_or es m e) on ∙ h.2,
+    )
+
+-- a cell of the window is in the range of its row
+pub in_row : (w0 w1 row column : ℕ) → w0 ≤ column → column ≤ w1 → (cell_at row w0 ≤ cell_at row column) × (cell_at row column ≤ cell_at row w1)
+in_row w0 w1 row column low high = (omega (arith, low), omega (arith, high))
+
+-- ---- rows of a window
+
+-- what was noted of the rows from `start` up to this one, in the columns from c0 to c1
+pub record Rows (rival : ℕ → Bool) (es : List Placed) (start c0 c1 row : ℕ) (found : List ℕ) : Type 0 where
+  pub sound : (v : ℕ) → Contains found v → IsTrue (rival v)
+  pub whole : (e : Placed) (r : ℕ) → Contains es e → IsTrue (rival e.node) → start ≤ r → r < row →
+      cell_at r c0 ≤ e.cell → e.cell ≤ cell_at r c1 → Contains found e.node
+
+pub rows_more : (rival : ℕ → Bool) (es near : List Placed) (start c0 c1 row : ℕ) (old new : List ℕ) → Rows rival es start c0 c1 row old →
+    Notes rival near old new →
+    ((e : Placed) → Contains es e → cell_at row c0 ≤ e.cell → e.cell ≤ cell_at row c1 → Contains near e) →
+    Rows rival es start c0 c1 (row + 1) new
+rows_more rival es near start c0 c1 row old new h n all =
+    record {
+      sound = λ v there. elim (n.sound v there) [ inl before ↦ h.sound v before | inr is ↦ is ];
+      whole = λ e r there is low high a b. elim (cases_lt r row) [
+        | inl before ↦ n.kept e.node (h.whole e r there is low before a b)
+        | inr last ↦
+            let here : r ≡ row = omega (arith, high, last) in
+            let first = subst (λ (q : ℕ). cell_at q c0 ≤ e.cell) here a in
+            let end = subst (λ (q : ℕ). e.cell ≤ cell_at q c1) here b in
+            n.whole e (all e there first end) is
+      ];
+    }
+
+-- each node that isn't farther by more than the slack was looked at
+pub whole_window : (M : Map) (rival : ℕ → Bool) (es : List Placed) (w : Window) (p : ℤ × ℤ) (c : Coord) (row : ℕ) (found : List ℕ) →
+    IsGrid M es → IsWindow p c w → Rows rival es w.rows.0 w.columns.0 w.columns.1 row found → w.rows.1 < row →
+    ((v : ℕ) → IsTrue (rival v) → IsFalse (is_farther usual_slack p c (coord_at M v))) →
+    (v : ℕ) → IsTrue (has_node M v) → IsTrue (rival v) → Contains found v
+whole_window M rival es w p c row found g win h past near v known is =
+    let e = (g.placing.whole v known).0 in
+    let there = (g.placing.whole v known).1 in
+    let same : e.node ≡ v = (g.placing.whole v known).2 in
+    let right = g.placing.right e there in
+    let is_e : IsTrue (rival e.node) = ap rival same ∙ is in
+    let close : IsFalse (is_farther usual_slack p c e.place) =
+    ap (is_farther usual_slack p c) right.1 ∙ near e.node is_e in
+    let rows = win.rows e.place close in
+    let columns = win.columns e.place close in
+    let r = cells_from lowest_lat e.place.lat in
+    let cells = in_row w.columns.0 w.columns.1 r (cells_from lowest_lon e.place.lon) columns.0 columns.1 in
+    subst (λ (u : ℕ). Contains found u) same
+    (h.whole e r there is_e rows.0 (omega (arith, rows.1, past)) (omega (arith, cells.0, right.2)) (omega (arith, cells.1, right.2)))

@@ -1,0 +1,197 @@
+-- Tests of a list's elements, one after another, and what is noted of them.
+use Rattle.olr_spec.proofs.Common.{◌≡◌, ◌≢◌, ℕ, zero, suc, ◌+◌, ◌<◌, ◌≤◌, ◌⊎◌, inl, inr, Bool, true, false, not, ◌||◌, ◌&&◌, ◌==◌, List, [], ◌∷◌, ◌++◌, filter, take, length, get_or, Contains, IsTrue, IsFalse, arith, sym, ap, ◌∙◌, subst, refl, cond, ◌↔◌}
+use Rattle.olr_spec.proofs.Common.{eq-eqb, ne_eqb, eqb-true, cases_Bool, or_left, or_right, or_cases, and_from, and_parts, both_ways, take_more, has, IsStrictlyIncreasing, Map, IsMap, has_line, has_node, coord_at, start, end, line_at, leg, Side, node_on, coordinate_on, ℤ}
+use Rattle.std.specs.List.{list_any}
+use Rattle.std.proofs.lemmas.List.Elements.{Contains-push_cases, Contains-get_or}
+use Rattle.std.proofs.lemmas.List.Folds.{Any-from_list_any}
+use Rattle.olr_spec.proofs.Common.{All, is_some}
+use Rattle.std.proofs.lemmas.List.Kept.{IsStrictlyIncreasing-filter}
+use Rattle.olr_spec.specs.Receiver.{Outgoing, Incoming, sector_on}
+use Rattle.olr_spec.specs.Directions.{direction_on, is_beyond}
+use Rattle.olr_spec.specs.Ambiguity.{is_farther, usual_slack, is_outdone_for_all, is_rival, lines_on, all_nodes}
+use Rattle.olr_spec.proofs.ListLemmas.{has-filter}
+use Rattle.olr_spec.proofs.OrderLemmas.{exactly_in, exactly_out, has-all_nodes, all_nodes_ascend}
+use Rattle.olr_spec.proofs.SameNumbers.{has_from, in_from, same_ascending}
+use Rattle.std.specs.FinMap.{get}
+use Rattle.std.specs.Prelude.{unwrap_or, Some}
+use Rattle.olr_spec.specs.Map.{no_line, Line}
+use Rattle.olr_ambiguity.specs.declared.grid.Placed.{Placed}
+use Rattle.olr_ambiguity.specs.Grids.{Notes}
+use Rattle.olr_spec.proofs.Common.{map, map-append, append_assoc, append-nil, length-take-le, Reference}
+use Rattle.olr_spec.specs.Receiver.{decoded_coord}
+use Rattle.olr_spec.specs.Ambiguity.{Obstacle, Same_sector, Other_bearing, Other_node, obstacles_at, obstacles_from, side_at}
+
+pub none_any : (p : ℕ → Bool) (xs : List ℕ) → ((x : ℕ) → has xs x ≡ true → p x ≡ false) → list_any p xs ≡ false
+none_any p [] h = refl
+none_any p (x ∷ xs) h =
+    ap (λ (b : Bool). b || list_any p xs) (h x (or_left (x == x) (has xs x) (eq-eqb x x refl)))
+    ∙ none_any p xs (λ y on. h y (or_right (x == y) (has xs y) on))
+
+-- ---- rivals
+
+line_there : (M : Map) (s : Side) (w y : ℕ) → has (lines_on s M w) y ≡ true → node_on s (leg M y) ≡ w
+line_there M Outgoing w y h =
+    let on = (exactly_out M w y).0 h in
+    ap (λ (o : _). (unwrap_or o no_line).from) on.1.0 ∙ on.1.1
+line_there M Incoming w y h =
+    let on = (exactly_in M w y).0 h in
+    ap (λ (o : _). (unwrap_or o no_line).to) on.1.0 ∙ on.1.1
+
+line_known : (M : Map) (s : Side) (w y : ℕ) → has (lines_on s M w) y ≡ true → IsTrue (has_line M y)
+line_known M Outgoing w y h = ap is_some ((exactly_out M w y).0 h).1.0
+line_known M Incoming w y h = ap is_some ((exactly_in M w y).0 h).1.0
+
+pub lines_known : (M : Map) (s : Side) (w : ℕ) → All (λ y. IsTrue (has_line M y)) (lines_on s M w)
+lines_known M s w = λ k d lt. line_known M s w _ (has_from (lines_on s M w) _ (Contains-get_or (lines_on s M w) k d lt))
+
+place_there : (M : Map) (s : Side) (y w : ℕ) → node_on s (leg M y) ≡ w → coordinate_on s (leg M y) ≡ coord_at M w
+place_there M Outgoing y w e = ap (coord_at M) e
+place_there M Incoming y w e = ap (coord_at M) e
+
+module _ (M : Map) (s : Side) (p : ℤ × ℤ) (x w : ℕ) where
+  abbrev open_lines : Bool
+  open_lines = list_any (λ y. not (is_outdone_for_all s p (leg M x) (leg M y))) (lines_on s M w)
+
+  pub not_itself : w ≡ node_on s (leg M x) → is_rival M s p x w ≡ false
+  not_itself e = ap (λ (b : Bool). not b && open_lines) (eq-eqb w (node_on s (leg M x)) e)
+
+  pub by_lines : w ≢ node_on s (leg M x) → is_rival M s p x w ≡ open_lines
+  by_lines n = ap (λ (b : Bool). not b && open_lines) (ne_eqb w (node_on s (leg M x)) n)
+
+  pub not_far : is_farther usual_slack p (coordinate_on s (leg M x)) (coord_at M w) ≡ true → is_rival M s p x w ≡ false
+  not_far far =
+      let none : open_lines ≡ false =
+      none_any (λ y. not (is_outdone_for_all s p (leg M x) (leg M y))) (lines_on s M w) (λ y on.
+      let there = place_there M s y w (line_there M s w y on) in
+      let off : is_farther usual_slack p (coordinate_on s (leg M x)) (coordinate_on s (leg M y)) ≡ true =
+      ap (is_farther usual_slack p (coordinate_on s (leg M x))) there ∙ far in
+      ap not (or_left (is_farther usual_slack p (coordinate_on s (leg M x)) (coordinate_on s (leg M y))) _ off)) in
+      elim (cases_Bool (not (w == node_on s (leg M x)))) [
+        | inl is ↦ ap (λ (b : Bool). b && open_lines) is ∙ none
+        | inr isnt ↦ ap (λ (b : Bool). b && open_lines) isnt
+      ]
+
+  pub close : is_rival M s p x w ≡ true → is_farther usual_slack p (coordinate_on s (leg M x)) (coord_at M w) ≡ false
+  close is = elim (cases_Bool (is_farther usual_slack p (coordinate_on s (leg M x)) (coord_at M w))) [
+    | inl far ↦ absurd (both_ways (is_rival M s p x w) (not_far far) is)
+    | inr near ↦ near
+  ]
+
+  pub rival_known : IsMap M → is_rival M s p x w ≡ true → IsTrue (has_node M w)
+  rival_known m is =
+      let some = and_parts (not (w == node_on s (leg M x))) open_lines is in
+      let at = Any-from_list_any (λ y. not (is_outdone_for_all s p (leg M x) (leg M y))) (lines_on s M w) some.1 in
+      let y = get_or (lines_on s M w) at.0 at.1 in
+      let on = has_from (lines_on s M w) y (Contains-get_or (lines_on s M w) at.0 at.1 at.2) in
+      subst (λ (v : ℕ). IsTrue (has_node M v)) (line_there M s w y on) (node_there m s y (line_known M s w y on))
+    where
+      node_there : IsMap M → (s : Side) (y : ℕ) → IsTrue (has_line M y) → IsTrue (has_node M (node_on s (leg M y)))
+      node_there m Outgoing y h = m.starts y h
+      node_there m Incoming y h = m.ends y h
+
+-- ---- noting
+
+pub notes_on : (rival : ℕ → Bool) (es : List Placed) (k : ℕ) (e : Placed) (old mid new : List ℕ) → k < length es → get_or es k e ≡ e →
+    Notes rival (take k es) old mid → IsTrue (rival e.node) →
+    ((n : ℕ) → Contains new n ↔ (Contains mid n ⊎ (n ≡ e.node))) → Notes rival (take (k + 1) es) old new
+notes_on rival es k e old mid new lt at h is more =
+    let next : take (k + 1) es ≡ take k es ++ e ∷ [] = take_more es k e lt ∙ ap (λ (f : Placed). take k es ++ f ∷ []) at in
+    record {
+      sound = λ v there. elim ((more v).0 there) [
+        | inl before ↦ h.sound v before
+        | inr same ↦ inr (ap rival same ∙ is)
+      ];
+      kept = λ v there. (more v).1 (inl (h.kept v there));
+      whole = λ f there r. elim (Contains-push_cases (take k es) e f (subst (λ (fs : List Placed). Contains fs f) next there)) [
+        | inl before ↦ (more f.node).1 (inl (h.whole f before r))
+        | inr same ↦ (more f.node).1 (inr (ap (λ (g : Placed). g.node) (sym same)))
+      ];
+    }
+
+pub notes_past : (rival : ℕ → Bool) (es : List Placed) (k : ℕ) (e : Placed) (old mid : List ℕ) → k < length es → get_or es k e ≡ e →
+    Notes rival (take k es) old mid → IsFalse (rival e.node) → Notes rival (take (k + 1) es) old mid
+notes_past rival es k e old mid lt at h isnt =
+    let next : take (k + 1) es ≡ take k es ++ e ∷ [] = take_more es k e lt ∙ ap (λ (f : Placed). take k es ++ f ∷ []) at in
+    record {
+      sound = h.sound;
+      kept = h.kept;
+      whole = λ f there r. elim (Contains-push_cases (take k es) e f (subst (λ (fs : List Placed). Contains fs f) next there)) [
+        | inl before ↦ h.whole f before r
+        | inr same ↦ absurd (both_ways (rival f.node) (ap (λ (g : Placed). rival g.node) (sym same) ∙ isnt) r)
+      ];
+    }
+
+-- ---- an ascending list of exactly the nodes that pass a test
+
+pub all_found : (M : Map) (p : ℕ → Bool) (found : List ℕ) → IsStrictlyIncreasing found →
+    ((v : ℕ) → Contains found v → IsTrue (p v) × IsTrue (has_node M v)) →
+    ((v : ℕ) → IsTrue (has_node M v) → IsTrue (p v) → Contains found v) → found ≡ filter p (all_nodes M)
+all_found M p found up sound whole =
+    same_ascending found (filter p (all_nodes M)) up (IsStrictlyIncreasing-filter p (all_nodes M) (all_nodes_ascend M)) (λ v.
+    let both : has (filter p (all_nodes M)) v ≡ (p v && has_node M v) =
+    has-filter p (all_nodes M) v ∙ ap (λ (b : Bool). p v && b) (has-all_nodes M v) in
+    elim (cases_Bool (has found v)) [
+      | inl is ↦
+          let there = sound v (in_from found v is) in
+          is ∙ sym (both ∙ and_from (p v) (has_node M v) there.0 there.1)
+      | inr isnt ↦
+          let none : (p v && has_node M v) ≡ false = elim (cases_Bool (p v && has_node M v)) [
+            | inl yes_both ↦
+                let parts = and_parts (p v) (has_node M v) yes_both in
+                absurd (both_ways (has found v) isnt (has_from found v (whole v parts.1 parts.0)))
+            | inr neither ↦ neither
+          ] in
+          isnt ∙ sym (both ∙ none)
+    ])
+
+-- ---- what was found at an LRP, and at one after another
+
+abbrev pub numbered : ℕ → List Obstacle → List (ℕ × Obstacle)
+numbered k os = map {A = Obstacle} {B = ℕ × Obstacle} (λ o. (k, o)) os
+
+abbrev pub each : ℕ → (ℕ → Obstacle) → List ℕ → List (ℕ × Obstacle)
+each k f xs = map {A = ℕ} {B = ℕ × Obstacle} (λ x. (k, f x)) xs
+
+tag : (k : ℕ) (f : ℕ → Obstacle) (xs : List ℕ) → numbered k (map f xs) ≡ each k f xs
+tag k f [] = refl
+tag k f (x ∷ xs) = ap (λ (os : List (ℕ × Obstacle)). (k, f x) ∷ os) (tag k f xs)
+
+pub joined_at : (k : ℕ) (start one two three : List (ℕ × Obstacle)) (ts us rs : List ℕ) →
+    one ≡ start ++ each k (λ y. Same_sector y) ts → two ≡ one ++ each k (λ y. Other_bearing y) us →
+    three ≡ two ++ each k (λ v. Other_node v) rs → three ≡ start
+    ++ numbered k (map (λ y. Same_sector y) ts ++ map (λ y. Other_bearing y) us ++ map (λ v. Other_node v) rs)
+joined_at k start one two three ts us rs a b c =
+    let T : List (ℕ × Obstacle) = each k (λ y. Same_sector y) ts in
+    let U : List (ℕ × Obstacle) = each k (λ y. Other_bearing y) us in
+    let R : List (ℕ × Obstacle) = each k (λ v. Other_node v) rs in
+    let front : List Obstacle = map (λ y. Same_sector y) ts ++ map (λ y. Other_bearing y) us in
+    let two_parts : numbered k front ≡ T ++ U =
+    map-append (λ (o : Obstacle). (k, o)) (map (λ y. Same_sector y) ts) (map (λ y. Other_bearing y) us)
+    ∙ (λ i. tag k (λ y. Same_sector y) ts i ++ tag k (λ y. Other_bearing y) us i) in
+    let parts : numbered k (front ++ map (λ v. Other_node v) rs) ≡ (T ++ U) ++ R =
+    map-append (λ (o : Obstacle). (k, o)) front (map (λ v. Other_node v) rs)
+    ∙ (λ i. two_parts i ++ tag k (λ v. Other_node v) rs i) in
+    c ∙ ap (λ (zs : List (ℕ × Obstacle)). zs ++ R) (b ∙ ap (λ (zs : List (ℕ × Obstacle)). zs ++ U) a)
+    ∙ ap (λ (zs : List (ℕ × Obstacle)). zs ++ R) (append_assoc start T U) ∙ append_assoc start (T ++ U) R
+    ∙ ap (λ (zs : List (ℕ × Obstacle)). start ++ zs) (sym parts)
+
+abbrev at : Map → Reference → ℕ → ℕ → List (ℕ × Obstacle)
+at M r k x = numbered k (obstacles_at M (side_at r k) (decoded_coord r k) x)
+
+from_more : (M : Map) (r : Reference) (k : ℕ) (xs : List ℕ) (x : ℕ) → obstacles_from M r k (xs ++ x ∷ [])
+    ≡ obstacles_from M r k xs ++ at M r (k + length xs) x
+from_more M r k [] x =
+    let here : k + 0 ≡ k = omega arith in
+    append-nil (at M r k x) ∙ sym (ap (λ (n : ℕ). at M r n x) here)
+from_more M r k (y ∷ xs) x =
+    let step : suc k + length xs ≡ k + suc (length xs) = omega arith in
+    ap (λ (zs : List (ℕ × Obstacle)). at M r k y ++ zs) (from_more M r (suc k) xs x)
+    ∙ sym (append_assoc (at M r k y) (obstacles_from M r (suc k) xs) (at M r (suc k + length xs) x))
+    ∙ ap (λ (n : ℕ). (at M r k y ++ obstacles_from M r (suc k) xs) ++ at M r n x) step
+
+pub one_more : (M : Map) (r : Reference) (xs : List ℕ) (k x : ℕ) → k < length xs → get_or xs k x ≡ x →
+    obstacles_from M r 0 (take (k + 1) xs) ≡ obstacles_from M r 0 (take k xs) ++ at M r k x
+one_more M r xs k x lt is =
+    let long : 0 + length (take k xs) ≡ k = omega (arith, length-take-le k xs (omega (arith, lt))) in
+    ap (obstacles_from M r 0) (take_more xs k x lt ∙ ap (λ (y : ℕ). take k xs ++ y ∷ []) is)
+    ∙ from_more M r 0 (take k xs) x ∙ ap (λ (n : ℕ). obstacles_from M r 0 (take k xs) ++ at M r n x) long

@@ -1,0 +1,8 @@
+use Rattle.olr_spec.proofs.Common.{◌≡◌, map, take}
+use Rattle.olr_spec.specs.Ambiguity.{obstacles_from}
+use Rattle.olr_ambiguity.specs.Found.{found_of}
+use Rattle.olr_ambiguity.proofs.finding.obstacles.Given as goal
+
+-- what stands in the way at the LRPs so far
+abbrev pub invariant-loop-k : goal.invariant-loop-k
+invariant-loop-k g l = map found_of l.found.items ≡ obstacles_from (g.M.MapRead.map l.map) l.reference 0 (take l.k l.own)

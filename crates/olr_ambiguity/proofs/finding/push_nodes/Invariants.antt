@@ -1,0 +1,9 @@
+use Rattle.olr_spec.proofs.Common.{◌≡◌, ◌++◌, map, take}
+use Rattle.olr_spec.specs.Ambiguity.{Other_node}
+use Rattle.olr_ambiguity.specs.Found.{found_of}
+use Rattle.olr_ambiguity.proofs.finding.push_nodes.Given as goal
+
+-- the nodes so far
+abbrev pub invariant-loop-node : goal.invariant-loop-node
+invariant-loop-node l =
+    map found_of l.found.items ≡ map found_of l.initial.found.items ++ map (λ v. (l.lrp, Other_node v)) (take l.node-index l.nodes)

@@ -1,0 +1,61 @@
+use Rattle.olr_spec.proofs.Common.{◌≡◌, ◌∙◌, ◌++◌, ◌∷◌, [], ◌+◌, ◌<◌, ℕ, List, Contains, IsTrue, inl, inr, is_some, unwrap_or, has, has_node, coord_at, no_coord, ap, sym, subst, arith, cases_lt, both_ways, get_or, get_or_default, Coord, Option, Some}
+use Rattle.std.proofs.lemmas.List.Elements.{Contains-push, Contains-push_cases, Contains-append_left}
+use Rattle.olr_spec.proofs.ListLemmas.{at_index}
+use Rattle.olr_spec.proofs.OrderLemmas.{has-all_nodes}
+use Rattle.olr_spec.proofs.SameNumbers.{has_from}
+use Rattle.olr_ambiguity.specs.declared.grid.Placed.{Placed}
+use Rattle.olr_ambiguity.specs.Grids.{cell_of}
+use Rattle.olr_ambiguity.proofs.grid.with_cells.Goals as goal
+
+pub unreachable-requires : goal.unreachable-requires
+unreachable-requires g c =
+    let M = g.M.MapRead.map c.args.map.now in
+    let v = c.id-item.result in
+    let known : IsTrue (has_node M v) =
+    sym (has-all_nodes M v) ∙ ap (λ (xs : List ℕ). has xs v) (sym c.requires)
+    ∙ has_from c.args.ids.now v (c.loop-id.id-index, c.loop-id-test.true, sym c.id-item.is) in
+    both_ways (has_node M v) (ap is_some (sym c.node.ensures ∙ c.in_default.is)) known
+
+pub loop-id-preserved : goal.loop-id-preserved
+loop-id-preserved g c =
+    let M = g.M.MapRead.map c.args.map.now in
+    let v = c.id-item.result in
+    let old = c.loop-id.nodes.items in
+    let new = c.push.new.self.items in
+    let e : Placed = record { cell = c.cell_of.result; node = v; place = c.in-Some.place } in
+    let pushed : new ≡ old ++ e ∷ [] = c.in_ok-push.ensures.items in
+    let there = sym c.node.ensures ∙ c.in-Some.is in
+    let inv = c.loop-id.invariant in
+    let right_e : IsTrue (has_node M e.node) × (e.place ≡ coord_at M e.node) × (e.cell ≡ cell_of e.place) =
+    (ap is_some there, sym (ap (λ (o : Option Coord). unwrap_or o no_coord) there), c.cell_of.ensures) in
+    record {
+      right = λ f h. elim (Contains-push_cases old e f (subst (λ (es : List Placed). Contains es f) pushed h)) [
+        | inl before ↦ inv.right f before
+        | inr same ↦
+            subst (λ (x : Placed). IsTrue (has_node M x.node) × (x.place ≡ coord_at M x.node) × (x.cell ≡ cell_of x.place)) same right_e
+      ];
+      whole = λ k lt. elim (cases_lt k c.loop-id.id-index) [
+        | inl before ↦
+            let w = inv.whole k before in
+            (w.0, subst (λ (es : List Placed). Contains es w.0) (sym pushed) (Contains-append_left old (e ∷ []) w.0 w.1), w.2)
+        | inr last ↦
+            let here : c.loop-id.id-index ≡ k = omega (arith, lt, last) in (
+              e,
+              subst (λ (es : List Placed). Contains es e) (sym pushed) (Contains-push old e),
+              c.id-item.is ∙ get_or_default c.args.ids.now c.loop-id.id-index v 0 c.loop-id-test.true
+                  ∙ ap (λ (n : ℕ). get_or c.args.ids.now n 0) here,
+            )
+      ];
+    }
+
+pub returns : goal.returns
+returns g c =
+    let M = g.M.MapRead.map c.args.map.now in
+    let inv = c.loop-id.invariant in
+    record {
+      right = inv.right;
+      whole = λ v known.
+          let at = at_index c.args.ids.now v (ap (λ (xs : List ℕ). has xs v) c.requires ∙ has-all_nodes M v ∙ known) in
+          let w = inv.whole at.0 (let lt = at.1 in omega arith) in
+          (w.0, w.1, w.2 ∙ at.2);
+    }

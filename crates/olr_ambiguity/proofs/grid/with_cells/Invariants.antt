@@ -1,0 +1,12 @@
+use Rattle.olr_spec.proofs.Common.{◌≡◌, ℕ, ◌<◌, get_or, Contains}
+use Rattle.olr_ambiguity.specs.declared.grid.Placed.{Placed}
+use Rattle.olr_ambiguity.specs.Grids.{ArePlaced}
+use Rattle.olr_ambiguity.proofs.grid.with_cells.Given as goal
+
+-- the nodes so far
+abbrev pub invariant-loop-id : goal.invariant-loop-id
+invariant-loop-id g l =
+    record {
+      right : ArePlaced (g.M.MapRead.map l.map) l.nodes.items;
+      whole : (k : ℕ) → k < l.id-index → (e : Placed) × Contains l.nodes.items e × (e.node ≡ get_or l.ids k 0);
+    }

@@ -1,0 +1,32 @@
+use Rattle.olr_spec.proofs.Common.{◌≡◌, ◌≤◌, false, subst, sym, arith, coord_at, Coord}
+use Rattle.olr_spec.specs.Ambiguity.{is_farther, is_rival, usual_slack}
+use Rattle.olr_ambiguity.specs.OwnLines.{side_of}
+use Rattle.olr_ambiguity.specs.Places.{place_of}
+use Rattle.olr_ambiguity.proofs.Cells.{rows_more, whole_window}
+use Rattle.olr_ambiguity.proofs.Lists.{all_found, rival_known, close}
+use Rattle.olr_ambiguity.proofs.rivals.rivals.Goals as goal
+
+pub loop-row-preserved : goal.loop-row-preserved
+loop-row-preserved g c =
+    let M = g.M.MapRead.map c.args.map.now in
+    let o = c.args.own.now in
+    let w = c.window_of-window.result in
+    rows_more (is_rival M (side_of o.side) (place_of o.place) o.id) c.args.grid.now.nodes.items c.within-nodes.result.now w.rows.0
+    w.columns.0 w.columns.1 c.loop-row.row c.loop-row.found c.note_rivals.new.found c.loop-row.invariant c.in_ok-note_rivals.ensures
+    (λ e h low high. c.within-nodes.ensures.all e h (omega (arith, c.cell_at.ensures, low)) (omega (arith, c.cell_at-in-loop-row.ensures, high)))
+
+pub returns : goal.returns
+returns g c =
+    let M = g.M.MapRead.map c.args.map.now in
+    let m = g.met.M.MapRead.sound c.args.map.now in
+    let o = c.args.own.now in
+    let s = side_of o.side in
+    let p = place_of o.place in
+    let rows = c.loop-row.invariant in
+    let own = c.requires.own in
+    all_found M (is_rival M s p o.id) c.loop-row.found c.as_slice-ascending.ensures.ascending
+    (λ v h. (rows.sound v h, rival_known M s p o.id v m (rows.sound v h)))
+    (λ v known is. whole_window M (is_rival M s p o.id) c.args.grid.now.nodes.items c.window_of-window.result p o.here c.loop-row.row
+    c.loop-row.found c.requires.grid c.window_of-window.ensures rows (omega arith)
+    (λ u rival. subst (λ (q : Coord). is_farther usual_slack p q (coord_at M u) ≡ false) (sym own.here_is) (close M s p o.id u rival))
+    v known is)

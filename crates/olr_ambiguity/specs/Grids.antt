@@ -1,0 +1,79 @@
+-- Nodes in the cells of a grid.
+--     cells_from low most z      the number of cells between two coordinates: 0 if z is below, and at most `most`
+--     cell_of c      the number of a coordinate's cell, row by row
+--     ArePlaced M es      each is a node of the map, with its coordinate and its cell
+--     IsPlacing M es      each node of the map, with its coordinate and its cell
+--     IsGrid M es      the same, in ascending order of cells
+--     Starts es first i, Ends es last j      where a range of cells starts and ends
+--     Notes rival es old new      those of these nodes that are rivals were added
+--     IsWindow p c w      each node that isn't farther from p than one at c, by more than the slack, is in these rows and columns
+use Rattle.std.specs.Prelude.{◌≡◌, ℕ, ◌+◌, ◌*◌, ◌/◌, ◌≤◌, min, ℤ, pos, negsuc, ◌-ℤ◌, neg_ℤ, Bool, true, false, nat_lt, nat_le, List, Contains, ◌⊎◌, IsTrue, IsFalse}
+use Rattle.std.specs.List.Sorted.{IsNonDecreasingBy, IsPartitionPoint}
+use Rattle.olr_spec.specs.Coordinates.{Coord}
+use Rattle.olr_spec.specs.Map.{Map, has_node, coord_at}
+use Rattle.olr_spec.specs.Ambiguity.{is_farther, usual_slack}
+use Rattle.olr_ambiguity.specs.declared.grid.Placed.{Placed}
+use Rattle.olr_ambiguity.specs.declared.rivals.Window.{Window}
+
+-- 23 m of latitude, in units
+abbrev pub cell_size : ℕ
+cell_size = 67108864
+
+-- the number of cells in a row, and the last row and column
+abbrev pub columns : ℕ
+columns = 2097152
+
+abbrev pub last_cell : ℕ
+last_cell = 2097151
+
+abbrev pub part_above : ℤ → ℕ
+part_above (pos n) = n
+part_above (negsuc n) = 0
+
+abbrev pub cells_from : ℤ → ℤ → ℕ
+cells_from low z = min (part_above (z -ℤ low) / cell_size) last_cell
+
+abbrev pub lowest_lat : ℤ
+lowest_lat = neg_ℤ (pos 29491200000000)
+
+abbrev pub lowest_lon : ℤ
+lowest_lon = neg_ℤ (pos 58982400000000)
+
+abbrev pub cell_at : ℕ → ℕ → ℕ
+cell_at row column = row * columns + column
+
+abbrev pub cell_of : Coord → ℕ
+cell_of c = cell_at (cells_from lowest_lat c.lat) (cells_from lowest_lon c.lon)
+
+abbrev pub ArePlaced : Map → List Placed → Type 0
+ArePlaced M es = (e : Placed) → Contains es e →
+    IsTrue (has_node M e.node) × (e.place ≡ coord_at M e.node) × (e.cell ≡ cell_of e.place)
+
+pub record IsPlacing (M : Map) (es : List Placed) : Type 0 where
+  pub right : ArePlaced M es
+  pub whole : (v : ℕ) → IsTrue (has_node M v) → (e : Placed) × Contains es e × (e.node ≡ v)
+
+pub record IsGrid (M : Map) (es : List Placed) : Type 0 where
+  pub placing : IsPlacing M es
+  pub sorted : IsNonDecreasingBy (λ e. e.cell) es
+
+-- the position of the first element in the cell `first` or a later one, and the one after the last in the cell `last` or an
+-- earlier one
+abbrev pub Starts : List Placed → ℕ → ℕ → Type 0
+Starts es first i = IsPartitionPoint (λ e. nat_lt e.cell first ≡ true) (λ e. nat_lt e.cell first ≡ false) es i
+
+abbrev pub Ends : List Placed → ℕ → ℕ → Type 0
+Ends es last j = IsPartitionPoint (λ e. nat_le e.cell last ≡ true) (λ e. nat_le e.cell last ≡ false) es j
+
+pub record IsWindow (p : ℤ × ℤ) (c : Coord) (w : Window) : Type 0 where
+  pub rows : (d : Coord) → IsFalse (is_farther usual_slack p c d) →
+      (w.rows.0 ≤ cells_from lowest_lat d.lat) × (cells_from lowest_lat d.lat ≤ w.rows.1)
+  pub columns : (d : Coord) → IsFalse (is_farther usual_slack p c d) →
+      (w.columns.0 ≤ cells_from lowest_lon d.lon) × (cells_from lowest_lon d.lon ≤ w.columns.1)
+  pub few : (w.rows.1 ≤ last_cell) × (w.columns.0 ≤ last_cell) × (w.columns.1 ≤ last_cell)
+
+-- those of these nodes that are rivals were added
+pub record Notes (rival : ℕ → Bool) (es : List Placed) (old new : List ℕ) : Type 0 where
+  pub sound : (v : ℕ) → Contains new v → Contains old v ⊎ IsTrue (rival v)
+  pub kept : (v : ℕ) → Contains old v → Contains new v
+  pub whole : (e : Placed) → Contains es e → IsTrue (rival e.node) → Contains new e.node

@@ -1,0 +1,4 @@
+pub mod Places
+pub mod OwnLines
+pub mod Grids
+pub mod Found

@@ -1,0 +1,160 @@
+//! What stands in the way of a string's being read in only one way.
+ghost use Rattle.std.specs.Prelude.{◌≡◌, ◌<◌, ◌++◌, ◌+◌, map as list_map, filter, length, IfOk, OnOk, IsTrue};
+ghost use Rattle.std.specs.List.{All};
+ghost use Rattle.olr_spec.specs.Map.{has_line};
+ghost use Rattle.olr_spec.specs.Reference.{Reference};
+ghost use Rattle.olr_spec.specs.Receiver.{last_number};
+ghost use Rattle.olr_spec.specs.Ambiguity.{Other_bearing, Other_node, Same_sector, is_twin_of, is_unclear, obstacles, obstacles_at, side_at};
+ghost use Rattle.olr_ambiguity.specs.Found.{found_of};
+ghost use Rattle.olr_ambiguity.specs.Grids.{IsGrid};
+ghost use Rattle.olr_ambiguity.specs.OwnLines.{IsOwnLine, side_of};
+ghost use Rattle.olr_ambiguity.specs.Places.{place_of};
+
+use crate::decoded::place_at;
+use crate::grid::Grid;
+use crate::own_line::{OwnLine, Side, is_twin_of, is_unclear, lines_on, own_line};
+use crate::rivals::rivals;
+use olr_binary::Reference as PublishedReference;
+use olr_roads::{LineId, MapRead, NodeId};
+use std::alloc::{AllocError, Global};
+
+/// What stands in the way at an LRP.
+#[derive(Clone, Copy, Debug, PartialEq, Eq)]
+pub enum Obstacle {
+    /// Another line at its node with the same class, form and sector.
+    SameSector(LineId),
+    /// Another line at its node with a direction in the sector or its margin; or the path's own line, without one.
+    OtherBearing(LineId),
+    /// Another node with a candidate that a receiver may take.
+    OtherNode(NodeId),
+}
+
+/// What stands in the way, and at which LRP, counted from 0.
+#[derive(Clone, Copy, Debug, PartialEq, Eq)]
+pub struct Found {
+    /// The number of the LRP.
+    pub lrp: usize,
+    /// What stands in the way there.
+    pub obstacle: Obstacle,
+}
+
+/// Appends the twins among these candidates.
+fn push_twins<M: MapRead>(
+    found: &mut Vec<Found>,
+    map: &M,
+    own: &OwnLine,
+    lrp: usize,
+    lines: &[LineId],
+) -> Result<(), AllocError>
+    requires own { IsOwnLine (M.map map.now) own.now }
+    requires known { All (λ y. IsTrue (has_line (M.map map.now) y)) lines.now }
+    ensures { OnOk result (list_map found_of found.new.items ≡ list_map found_of found.old.items
+        ++ list_map (λ y. (lrp, Same_sector y)) (filter (is_twin_of (M.map map.now) (side_of own.now.side) own.now.id) lines.now)) }
+{
+    for line in lines {
+        if is_twin_of(map, own, *line) {
+            found.push(Found {
+                lrp,
+                obstacle: Obstacle::SameSector(*line),
+            })?;
+        }
+    }
+    Ok(())
+}
+
+/// Appends the candidates among these that are unclear by their directions.
+fn push_unclear<M: MapRead>(
+    found: &mut Vec<Found>,
+    map: &M,
+    own: &OwnLine,
+    lrp: usize,
+    lines: &[LineId],
+) -> Result<(), AllocError>
+    requires own { IsOwnLine (M.map map.now) own.now }
+    requires known { All (λ y. IsTrue (has_line (M.map map.now) y)) lines.now }
+    ensures { OnOk result (list_map found_of found.new.items ≡ list_map found_of found.old.items
+        ++ list_map (λ y. (lrp, Other_bearing y)) (filter (is_unclear (M.map map.now) (side_of own.now.side) own.now.id) lines.now)) }
+{
+    for line in lines {
+        if is_unclear(map, own, *line) {
+            found.push(Found {
+                lrp,
+                obstacle: Obstacle::OtherBearing(*line),
+            })?;
+        }
+    }
+    Ok(())
+}
+
+/// Appends these nodes.
+fn push_nodes(found: &mut Vec<Found>, lrp: usize, nodes: &[NodeId]) -> Result<(), AllocError>
+    ensures { OnOk result (list_map found_of found.new.items ≡ list_map found_of found.old.items
+        ++ list_map (λ v. (lrp, Other_node v)) nodes.now) }
+{
+    for node in nodes {
+        found.push(Found {
+            lrp,
+            obstacle: Obstacle::OtherNode(*node),
+        })?;
+    }
+    Ok(())
+}
+
+/// Which lines are candidates at LRP k of so many.
+fn side_at(k: usize, count: usize) -> Side
+    requires { k < count }
+    ensures { (r : Reference) → count ≡ last_number r + 1 → side_of result ≡ side_at r k }
+{
+    if k + 1 < count {
+        Side::Outgoing
+    } else {
+        Side::Incoming
+    }
+}
+
+/// Appends what stands in the way of a path's own line at an LRP.
+fn push_at<M: MapRead>(
+    alloc: Global,
+    found: &mut Vec<Found>,
+    map: &M,
+    grid: &Grid,
+    own: &OwnLine,
+    lrp: usize,
+) -> Result<(), AllocError>
+    requires own { IsOwnLine (M.map map.now) own.now }
+    requires grid { IsGrid (M.map map.now) grid.now.nodes.items }
+    ensures { OnOk result (list_map found_of found.new.items ≡ list_map found_of found.old.items
+        ++ list_map (λ o. (lrp, o)) (obstacles_at (M.map map.now) (side_of own.now.side) (place_of own.now.place) own.now.id)) }
+{
+    let lines = lines_on(map, own.side, own.node);
+    push_twins(found, map, own, lrp, lines)?;
+    push_unclear(found, map, own, lrp, lines)?;
+    let nodes = rivals(alloc, map, grid, own)?;
+    push_nodes(found, lrp, nodes.as_slice())?;
+    Ok(())
+}
+
+/// What stands in the way of reading a reference in only one way, LRP by LRP: at each first twins, then other lines that
+/// are unclear by their directions, then other nodes, each in ascending order. `own` are the path's own lines at the LRPs,
+/// and `grid` is that of the map.
+pub fn obstacles<M: MapRead>(
+    alloc: Global,
+    map: &M,
+    grid: &Grid,
+    reference: &PublishedReference,
+    own: &[LineId],
+) -> Result<Vec<Found>, AllocError>
+    requires grid { IsGrid (M.map map.now) grid.now.nodes.items }
+    requires own { All (λ x. IsTrue (has_line (M.map map.now) x)) own.now }
+    requires count { length own.now ≡ last_number reference.now + 1 }
+    ensures { IfOk result (λ found. list_map found_of found.items ≡ obstacles (M.map map.now) reference.now own.now) }
+{
+    let mut found = Vec::new(alloc);
+    for k in 0..own.len() {
+        let place = place_at(reference, k);
+        let side = side_at(k, own.len());
+        let own = own_line(map, place, side, own[k]);
+        push_at(alloc, &mut found, map, grid, &own, k)?;
+    }
+    Ok(found)
+}

@@ -1,0 +1,148 @@
+//! The nodes of a map by the cell of a grid in which they are.
+ghost use Rattle.std.specs.Prelude.{◌≡◌, ◌≤◌, ◌^◌, nat_abs, length, Contains, IfOk};
+ghost use Rattle.std.specs.List.Sorted.{IsNonDecreasingBy};
+ghost use Rattle.olr_spec.specs.Ambiguity.{all_nodes};
+ghost use Rattle.olr_ambiguity.specs.Grids.{Ends, IsGrid, IsPlacing, Starts, cell_at, cell_of, cells_from, last_cell, lowest_lat, lowest_lon};
+
+use olr_coords::Coord;
+use olr_roads::{MapRead, NodeId};
+use std::alloc::{AllocError, Global};
+
+/// The width of a cell, in units: 23 m of latitude.
+const CELL: u128 = 67_108_864;
+/// The number of cells in a row.
+const COLUMNS: u64 = 2_097_152;
+/// The number of the last cell of a row, and of the last row.
+pub(crate) const LAST_CELL: u64 = 2_097_151;
+/// The lowest latitude, -90 degrees.
+const LOWEST_LAT: i128 = -29_491_200_000_000;
+/// The lowest longitude, -180 degrees.
+const LOWEST_LON: i128 = -58_982_400_000_000;
+
+/// A node in its cell.
+#[derive(Clone, Copy)]
+pub(crate) struct Placed {
+    /// The number of the cell, row by row.
+    pub(crate) cell: u64,
+    /// The node.
+    pub(crate) node: NodeId,
+    /// Its coordinate.
+    pub(crate) place: Coord,
+}
+
+/// The nodes of a map, in ascending order of their cells.
+#[derive(Drop)]
+pub struct Grid {
+    pub(crate) nodes: Vec<Placed>,
+}
+
+/// The number of cells from `low` up to `z`: 0 if it is below, and at most the last.
+fn cells_from(low: i128, z: i128) -> u64
+    requires low { nat_abs low ≤ 10 ^ 14 }
+    requires z { nat_abs z ≤ 10 ^ 38 }
+    ensures value { result ≡ cells_from low z }
+    ensures few { result ≤ last_cell }
+{
+    match u128::try_from(z - low) {
+        Ok(above) => (above / CELL).min(u128::from(LAST_CELL)) as u64,
+        Err(_) => 0,
+    }
+}
+
+/// The row of a latitude.
+pub(crate) fn row_of(latitude: i128) -> u64
+    requires { nat_abs latitude ≤ 10 ^ 38 }
+    ensures value { result ≡ cells_from lowest_lat latitude }
+    ensures few { result ≤ last_cell }
+{
+    cells_from(LOWEST_LAT, latitude)
+}
+
+/// The column of a longitude.
+pub(crate) fn column_of(longitude: i128) -> u64
+    requires { nat_abs longitude ≤ 10 ^ 38 }
+    ensures value { result ≡ cells_from lowest_lon longitude }
+    ensures few { result ≤ last_cell }
+{
+    cells_from(LOWEST_LON, longitude)
+}
+
+/// The number of a cell.
+pub(crate) fn cell_at(row: u64, column: u64) -> u64
+    requires row { row ≤ last_cell }
+    requires column { column ≤ last_cell }
+    ensures { result ≡ cell_at row column }
+{
+    row * COLUMNS + column
+}
+
+/// The number of a coordinate's cell.
+fn cell_of(place: Coord) -> u64
+    ensures { result ≡ cell_of place }
+{
+    cell_at(
+        row_of(i128::from(place.lat())),
+        column_of(i128::from(place.lon())),
+    )
+}
+
+/// The nodes with their cells, in the order of their numbers.
+fn with_cells<M: MapRead>(alloc: Global, map: &M, ids: &[NodeId]) -> Result<Vec<Placed>, AllocError>
+    requires { ids.now ≡ all_nodes (M.map map.now) }
+    ensures { IfOk result (λ v. IsPlacing (M.map map.now) v.items) }
+{
+    let mut nodes = Vec::with_capacity(alloc, ids.len())?;
+    for id in ids {
+        let Some(place) = map.node(*id) else {
+            unreachable!()
+        };
+        nodes.push(Placed {
+            cell: cell_of(place),
+            node: *id,
+            place,
+        })?;
+    }
+    Ok(nodes)
+}
+
+/// The position of the first node whose cell is at least `first`.
+fn start_of(nodes: &[Placed], first: u64) -> usize
+    requires { IsNonDecreasingBy (λ e. e.cell) nodes.now }
+    ensures bound { result ≤ length nodes.now }
+    ensures starts { Starts nodes.now first result }
+{
+    nodes.partition_point(|node| node.cell < first)
+}
+
+/// The position after the last node whose cell is at most `last`.
+fn end_of(nodes: &[Placed], last: u64) -> usize
+    requires { IsNonDecreasingBy (λ e. e.cell) nodes.now }
+    ensures bound { result ≤ length nodes.now }
+    ensures ends { Ends nodes.now last result }
+{
+    nodes.partition_point(|node| node.cell <= last)
+}
+
+impl Grid {
+    /// The grid of a map, by the numbers of all its nodes in ascending order.
+    pub fn new<M: MapRead>(alloc: Global, map: &M, ids: &[NodeId]) -> Result<Grid, AllocError>
+        requires { ids.now ≡ all_nodes (M.map map.now) }
+        ensures { IfOk result (λ grid. IsGrid (M.map map.now) grid.nodes.items) }
+    {
+        let mut nodes = with_cells(alloc, map, ids)?;
+        nodes.sort_unstable_by_key(|node| node.cell);
+        Ok(Grid { nodes })
+    }
+
+    /// The nodes whose cells are from `first` to `last`.
+    pub(crate) fn within(&self, first: u64, last: u64) -> &[Placed]
+        requires { IsNonDecreasingBy (λ e. e.cell) self.now.nodes.items }
+        ensures some { (e : Placed) → Contains result.now e → Contains self.now.nodes.items e }
+        ensures all { (e : Placed) → Contains self.now.nodes.items e → first ≤ e.cell → e.cell ≤ last → Contains result.now e }
+    {
+        let nodes = self.nodes.as_slice();
+        let start = start_of(nodes, first);
+        let end = end_of(nodes, last);
+        &nodes[start.min(end)..end]
+    }
+}

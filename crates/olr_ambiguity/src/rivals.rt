@@ -1,0 +1,144 @@
+//! Other nodes near the decoded coordinate of an LRP.
+ghost use Rattle.std.specs.Prelude.{◌≡◌, ◌+◌, ◌*◌, ◌^◌, ◌<◌, ◌≤◌, ℕ, not, filter, IfOk, OnOk, IsTrue};
+ghost use Rattle.std.specs.List.{All, list_any};
+ghost use Rattle.olr_spec.specs.Map.{coord_at, has_line, has_node};
+ghost use Rattle.olr_spec.specs.Recovery.{lat_apart, lon_apart};
+ghost use Rattle.olr_spec.specs.Reference.{leg};
+ghost use Rattle.olr_spec.specs.Ambiguity.{all_nodes, is_outdone_for_all, is_rival, usual_slack};
+ghost use Rattle.olr_ambiguity.specs.Grids.{ArePlaced, IsGrid, IsWindow, Notes};
+ghost use Rattle.olr_ambiguity.specs.OwnLines.{IsOwnLine, side_of};
+ghost use Rattle.olr_ambiguity.specs.Places.{IsPlaced, place_of};
+
+use crate::decoded::DecodedPlace;
+use crate::grid::{Grid, LAST_CELL, Placed, cell_at, column_of, row_of};
+use crate::measures::{ONE, SLACK, cosine_up_to, is_farther, lat_apart, lon_apart};
+use crate::own_line::{OwnLine, is_outdone, lines_on};
+use olr_coords::Coord;
+use olr_roads::{Footprint, LineId, MapRead, NodeId};
+use std::alloc::{AllocError, Global};
+
+/// A part of the grid, by its first and last rows and columns.
+#[derive(Clone, Copy)]
+pub(crate) struct Window {
+    pub(crate) rows: (u64, u64),
+    pub(crate) columns: (u64, u64),
+}
+
+/// How far a node may be from the decoded coordinate, in units: the own node's distance along both axes, and the slack.
+fn reach_of(place: DecodedPlace, here: Coord) -> u128
+    requires { IsPlaced place }
+    ensures value { result ≡ lon_apart (place_of place) here + lat_apart (place_of place) here + usual_slack }
+    ensures small { result ≤ 5 * 10 ^ 31 }
+{
+    lon_apart(place, here) + lat_apart(place, here) + SLACK
+}
+
+/// How far in longitude, in units, a node may be for a cosine in millionths, greater than 0.
+fn widened(reach: u128, cosine: u128) -> u128
+    requires reach { reach ≤ 5 * 10 ^ 31 }
+    requires some { 0 < cosine }
+    ensures enough { (x : ℕ) → cosine * x ≤ 1000000 * reach → x ≤ result }
+    ensures small { result ≤ 5 * 10 ^ 37 }
+{
+    ONE * reach / cosine
+}
+
+/// The part of the grid in which each node is that isn't farther than the own one by more than the slack.
+fn window_of(place: DecodedPlace, here: Coord) -> Window
+    requires { IsPlaced place }
+    ensures { IsWindow (place_of place) here result }
+{
+    let reach = reach_of(place, here);
+    let cosine = cosine_up_to(place.lat.unsigned_abs() + reach);
+    let rows = (
+        row_of(place.lat - reach as i128),
+        row_of(place.lat + reach as i128),
+    );
+    if cosine == 0 {
+        return Window {
+            rows,
+            columns: (0, LAST_CELL),
+        };
+    }
+    let wide = widened(reach, cosine) as i128;
+    Window {
+        rows,
+        columns: (column_of(place.lon - wide), column_of(place.lon + wide)),
+    }
+}
+
+/// Whether one of these candidates isn't outdone by the own line.
+fn has_rival<M: MapRead>(map: &M, own: &OwnLine, lines: &[LineId]) -> bool
+    requires own { IsOwnLine (M.map map.now) own.now }
+    requires known { All (λ y. IsTrue (has_line (M.map map.now) y)) lines.now }
+    ensures { result ≡ list_any (λ y. not (is_outdone_for_all (side_of own.now.side) (place_of own.now.place)
+        (leg (M.map map.now) own.now.id) (leg (M.map map.now) y))) lines.now }
+{
+    for line in lines {
+        if !is_outdone(map, own, *line) {
+            return true;
+        }
+    }
+    false
+}
+
+/// Whether a node of the map, with its coordinate, is another one with a candidate that isn't outdone by the own line.
+fn is_rival<M: MapRead>(map: &M, own: &OwnLine, node: NodeId, place: Coord) -> bool
+    requires own { IsOwnLine (M.map map.now) own.now }
+    requires node { IsTrue (has_node (M.map map.now) node) }
+    requires place { place ≡ coord_at (M.map map.now) node }
+    ensures { result ≡ is_rival (M.map map.now) (side_of own.now.side) (place_of own.now.place) own.now.id node }
+{
+    let decoded = own.place;
+    let here = own.here;
+    if node == own.node || is_farther(SLACK, decoded, here, place) {
+        return false;
+    }
+    has_rival(map, own, lines_on(map, own.side, node))
+}
+
+/// Adds those of these nodes that are rivals.
+fn note_rivals<M: MapRead>(
+    map: &M,
+    own: &OwnLine,
+    nodes: &[Placed],
+    found: &mut Footprint,
+) -> Result<(), AllocError>
+    requires own { IsOwnLine (M.map map.now) own.now }
+    requires right { ArePlaced (M.map map.now) nodes.now }
+    ensures { OnOk result (Notes (is_rival (M.map map.now) (side_of own.now.side) (place_of own.now.place) own.now.id)
+        nodes.now found.old found.new) }
+{
+    for near in nodes {
+        if is_rival(map, own, near.node, near.place) {
+            found.note(near.node)?;
+        }
+    }
+    Ok(())
+}
+
+/// Other nodes with a candidate that isn't outdone by the path's own line, in ascending order.
+pub(crate) fn rivals<M: MapRead>(
+    alloc: Global,
+    map: &M,
+    grid: &Grid,
+    own: &OwnLine,
+) -> Result<Footprint, AllocError>
+    requires own { IsOwnLine (M.map map.now) own.now }
+    requires grid { IsGrid (M.map map.now) grid.now.nodes.items }
+    ensures { IfOk result (λ found. found ≡ filter (is_rival (M.map map.now) (side_of own.now.side) (place_of own.now.place)
+        own.now.id) (all_nodes (M.map map.now))) }
+{
+    let mut found = Footprint::new(alloc);
+    let place = own.place;
+    let here = own.here;
+    let window = window_of(place, here);
+    let (first, last) = window.columns;
+    for row in window.rows.0..window.rows.1 + 1 {
+        let nodes = grid.within(cell_at(row, first), cell_at(row, last));
+        note_rivals(map, own, nodes, &mut found)?;
+    }
+    // For the proof alone: the nodes ascend.
+    let _ascending = found.as_slice();
+    Ok(found)
+}

@@ -1,0 +1,61 @@
+-- Ascending lists of numbers, by the numbers that they contain.
+use Rattle.olr_spec.proofs.Common.{IsStrictlyIncreasing, nat_cmp, eqb-true, ne_eqb, arith, subst, Less, AllByRecursion}
+use Rattle.olr_spec.proofs.Common.{List, refl, true, ◌==◌, has, sym, ◌<◌, ◌∙◌, ◌∷◌, ◌≡◌, ◌≤◌, [], ap, ℕ}
+use Rattle.olr_spec.proofs.ListLemmas.{has_here}
+use Rattle.std.proofs.lemmas.Cmp.{ranked}
+use Rattle.std.proofs.lemmas.Grind.{common_steps}
+use Rattle.std.proofs.lemmas.Map.Keys.{IsDistinct-from_apart, sorted_from_strictly_increasing}
+use Rattle.olr_spec.proofs.Common.{Contains, get_or_default, eq-eqb, list_any_at}
+use Rattle.std.proofs.lemmas.List.Folds.{Any-from_list_any}
+use Rattle.std.specs.List.{IsDistinct}
+use Rattle.std.specs.List.Sorted.{IsStrictlySortedBy}
+use Rattle.std.proofs.lemmas.Map.Keys.{below_from_sorted}
+
+pub distinct_from_ascending : (xs : List ℕ) → IsStrictlyIncreasing xs → IsDistinct ◌==◌ xs
+distinct_from_ascending xs up = grind (arith, common_steps, IsDistinct-from_apart, ne_eqb, below_from_sorted, sorted_from_strictly_increasing)
+
+-- ---- ascending lists with the same numbers are equal
+
+pub above : (x n : ℕ) (xs : List ℕ) → AllByRecursion (λ (y : ℕ). nat_cmp x y ≡ Less) xs → has xs n ≡ true → x < n
+above x n [] h e = absurd cc
+above x n (y ∷ ys) h e = let rest = above x n ys in grind (arith, common_steps, ranked, eqb-true, rest)
+
+-- a number in a list is its first, or is greater
+in_list : (x n : ℕ) (xs : List ℕ) → AllByRecursion (λ (y : ℕ). nat_cmp x y ≡ Less) xs → has (x ∷ xs) n ≡ true → x ≤ n
+in_list x n xs h e = grind (arith, common_steps, eqb-true, above)
+
+-- the numbers after the first
+tail_has : (x n : ℕ) (xs ys : List ℕ) → AllByRecursion (λ (y : ℕ). nat_cmp x y ≡ Less) xs →
+    AllByRecursion (λ (y : ℕ). nat_cmp x y ≡ Less) ys → has (x ∷ xs) n ≡ has (x ∷ ys) n → has xs n ≡ has ys n
+tail_has x n xs ys h k e = grind (arith, common_steps, above, eqb-true)
+
+same_sorted : (xs ys : List ℕ) → IsStrictlySortedBy nat_cmp xs → IsStrictlySortedBy nat_cmp ys →
+    ((n : ℕ) → has xs n ≡ has ys n) → xs ≡ ys
+unfolding IsStrictlySortedBy
+same_sorted [] [] a b h = refl
+same_sorted [] (y ∷ ys) a b h = let e = h y in let f = has_here y ys in absurd cc
+same_sorted (x ∷ xs) [] a b h = let e = h x in let f = has_here x xs in absurd cc
+same_sorted (x ∷ xs) (y ∷ ys) a b h =
+    let low : y ≤ x = in_list y x ys b.0 (sym (h x) ∙ has_here x xs) in
+    let high : x ≤ y = in_list x y xs a.0 (h y ∙ has_here y ys) in
+    let is : x ≡ y = omega arith in
+    let above_y : AllByRecursion (λ (z : ℕ). nat_cmp x z ≡ Less) ys =
+    subst (λ (k : ℕ). AllByRecursion (λ (z : ℕ). nat_cmp k z ≡ Less) ys) (sym is) b.0 in
+    let same : (n : ℕ) → has (x ∷ xs) n ≡ has (x ∷ ys) n = λ n. h n ∙ ap (λ (k : ℕ). has (k ∷ ys) n) (sym is) in
+    let tails : xs ≡ ys = same_sorted xs ys a.1 b.1 (λ n. tail_has x n xs ys a.0 above_y (same n)) in
+    λ i. is i ∷ tails i
+
+pub same_ascending : (xs ys : List ℕ) → IsStrictlyIncreasing xs → IsStrictlyIncreasing ys →
+    ((n : ℕ) → has xs n ≡ has ys n) → xs ≡ ys
+same_ascending xs ys a b h =
+    same_sorted xs ys (sorted_from_strictly_increasing xs a) (sorted_from_strictly_increasing ys b) h
+
+-- ---- membership, by a test and by a position
+
+pub has_from : (xs : List ℕ) (x : ℕ) → Contains xs x → has xs x ≡ true
+has_from xs x h = list_any_at (λ y. y == x) xs h.0 x h.1 (eq-eqb _ x h.2)
+
+pub in_from : (xs : List ℕ) (x : ℕ) → has xs x ≡ true → Contains xs x
+in_from xs x h =
+    let found = Any-from_list_any (λ y. y == x) xs h in
+    (found.0, found.2, get_or_default xs found.0 x found.1 found.2 ∙ found.3 ∙ eqb-true found.1 x found.4)
