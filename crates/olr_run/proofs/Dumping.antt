@@ -2,10 +2,18 @@
 use Rattle.olr_run.proofs.Common.{IfErr, ⊤, length-map, Outcome, IsRefusal, ByState, Field, read, CommandOutcome}
 use Rattle.olr_run.proofs.Common.{RecordOutcome, SoundOutcomes, IsReply, count_line, reply_text, read_recorded}
 use Rattle.std.proofs.Common.{arith, Bool, false, List, Option, Some, None, Result, inl, inr, ◌≢◌, ℕ, [], ◌∷◌, ◌++◌}
-use Rattle.std.proofs.Common.{map, length, Ok, Err, IsTrue, refl, sym, ap, subst}
+use Rattle.std.proofs.Common.{map, length, Ok, Err, IsTrue, refl, sym, ap, subst, true, not, nat_cmp, ◌==◌}
+use Rattle.std.proofs.lemmas.Bool.{and_parts, cases_eq, eq-eqb, ne_eqb}
+use Rattle.std.specs.FinMap.{get, entries, get-entries}
+use Rattle.std.specs.FinMap.Entries.{find}
+use Rattle.std.specs.List.{list_all}
+use Rattle.olr_spec.specs.Coordinates.{Coord}
+use Rattle.olr_spec.specs.Map.{Map, Line, MapFault, No_node, No_line, has_node, has_line, no_coord, no_line, start, end, line_at}
+use Rattle.olr_commands.specs.Recordable.{is_recordable_map, is_recordable_coord, is_recordable_shape, has_node_record}
+use Rattle.olr_commands.specs.Recordable.{has_line_records}
 use Rattle.olr_commands.specs.State.{Fault, Memory, Content, Change, Command, Make, Not_a_record, is_recordable, after}
-use Rattle.olr_commands.specs.State.{with_change, step_in, IsContent, Dump, State}
-use Rattle.std.specs.Prelude.{◌≡◌}
+use Rattle.olr_commands.specs.State.{with_change, step_in, IsContent, Dump, State, Show_node, Show_line, Map_fault, when}
+use Rattle.std.specs.Prelude.{◌≡◌, unwrap_or}
 use Rattle.olr_commands.specs.Reply.{Lacks, Reply}
 use Rattle.olr_records.specs.Records.{Read}
 use Rattle.olr_run.specs.Output.{Builds, IsDumpOf, Dumps}
@@ -32,8 +40,47 @@ OwnFault b r = IfErr r (IsOwn b)
 change_own : (k : Bool) (c : Content) (x : Change) → OwnFault k (with_change c x)
 change_own k c x = grind arith
 
+all_find : {X : Type 0} (f : ℕ × X → Bool) (es : List (ℕ × X)) (k : ℕ) (v : X) → find nat_cmp k es ≡ Some v →
+    list_all f es ≡ true → f (k, v) ≡ true
+all_find f [] k v is all = absurd cc
+all_find f (e ∷ es) k v is all =
+    grind (arith, cases_eq, find, nat_cmp, eq-eqb, ne_eqb, and_parts, all_find f es k v)
+
+-- records can write each node and each line of such a map, and what stands for one that it doesn't have
+node_written : (M : Map) (v : ℕ) → is_recordable_map M ≡ true → has_node_record M v ≡ true
+node_written M v can = by_place (get M.nodes v) (sym (get-entries M.nodes v))
+  where
+    by_place : (o : Option Coord) → find nat_cmp v (entries M.nodes) ≡ o → is_recordable_coord (unwrap_or o no_coord) ≡ true
+    by_place (Some p) is = all_find (λ e. is_recordable_coord e.1) (entries M.nodes) v p is (and_parts _ _ can).0
+    by_place None is = refl
+
+shape_written : (M : Map) (x : ℕ) → is_recordable_map M ≡ true → is_recordable_shape (line_at M x).shape ≡ true
+shape_written M x can = by_line (get M.lines x) (sym (get-entries M.lines x))
+  where
+    by_line : (o : Option Line) → find nat_cmp x (entries M.lines) ≡ o →
+        is_recordable_shape (unwrap_or o no_line).shape ≡ true
+    by_line (Some l) is = all_find (λ e. is_recordable_shape e.1.shape) (entries M.lines) x l is (and_parts _ _ can).1
+    by_line None is = refl
+
+line_written : (M : Map) (x : ℕ) → is_recordable_map M ≡ true → has_line_records M x ≡ true
+line_written M x can =
+    grind (arith, node_written M (start M x) can, node_written M (end M x) can, shape_written M x can)
+
+own_when : (k there ok : Bool) (fault : MapFault) (s : State) → (k ≡ true → ok ≡ true) →
+    IfErr (when (not there) (Map_fault fault) (when (not ok) Not_a_record (Ok s))) (IsOwn k)
+own_when k false ok fault s h = tt
+own_when k true true fault s h = tt
+own_when false true false fault s h = refl
+own_when true true false fault s h = absurd (let never = h refl in cc)
+
 pub step_own : (c : Content) (batch : Option (List Change)) (x : Command) →
     IfErr (step_in c batch x) (IsOwn (is_recordable c))
+step_own c None (Show_node v) =
+    own_when (is_recordable c) (has_node c.map v) (has_node_record c.map v) No_node (record { content = c; batch = None })
+    (λ k. node_written c.map v (and_parts _ _ k).0)
+step_own c None (Show_line x) =
+    own_when (is_recordable c) (has_line c.map x) (has_line_records c.map x) No_line (record { content = c; batch = None })
+    (λ k. line_written c.map x (and_parts _ _ k).0)
 step_own c None (Make x) = grind (arith, change_own (is_recordable c) c x)
 step_own c (Some xs) (Make x) = grind (arith, change_own (is_recordable c) (after c xs) x)
 step_own c b x = grind arith
@@ -62,7 +109,11 @@ of_reply s t c reply sound h is same = grind (arith, builds)
 
 not_refused : (s : State) (c : Command) (f : Fault) → IsTrue (is_recordable s.content) → IsRefusal s c f →
     f ≢ Not_a_record
-not_refused s c f can (ByState e) = grind (arith, step_own)
+not_refused s c f can (ByState e) = λ is.
+    let own : IsOwn (is_recordable s.content) f =
+    subst (λ (r : Result State Fault). IfErr r (IsOwn (is_recordable s.content))) e (step_own s.content s.batch c) in
+    let never : is_recordable s.content ≡ false = subst (λ (g : Fault). IsOwn (is_recordable s.content) g) is own in
+    cc (can, never)
 not_refused s c f can (Lacks is may) = λ e. cc
 
 command_dumps : (s t : State) (r : Read Command) (fields : List Field) (o : Outcome) → read fields ≡ r →

@@ -2,7 +2,9 @@
 use Rattle.olr_run.proofs.Common.{◌&&◌, IsFalse, IfErr, append-nil, append_assoc, length-map, Appends, Reader, Outcome}
 use Rattle.olr_run.proofs.Common.{run_longer, Field, outcome_text, Registered, SoundOutcome, Claims, texts, records_of}
 use Rattle.olr_run.proofs.Common.{Known, Event, Took, Ended, Not_taken, Not_sent, Wrote, Cut, History, exchanges}
-use Rattle.olr_run.proofs.Common.{IsPlain, Keeps}
+use Rattle.olr_run.proofs.Common.{IsPlain, Keeps, IfSome, SoundOutcomes, Represents}
+use Rattle.olr_run.specs.Output.{StopsAtFault}
+use Rattle.olr_commands.specs.State.{State}
 use Rattle.olr_run.proofs.Common.{CsvHappens, IsOfTaking, known_records, RanOn, FaultedOn, HasTooMany, RanIn, CutIn}
 use Rattle.olr_run.proofs.Common.{Past_the_most, In_text, AnsweredOn, status_of, RunFault, next_record, flat_map-map}
 use Rattle.std.proofs.Common.{◌≡◌, ◌≢◌, ◌∙◌, ℕ, Bool, List, [], ◌∷◌, ◌++◌, length, map, None, Some, inl, inr, refl}
@@ -30,7 +32,7 @@ use Rattle.olr_sessions.specs.declared.ends.RunFault.TheVariants as fault
 -- ---- texts
 
 -- the outcome of the last text
-last_of : (os : List Outcome) (ws : List (List ℕ)) (w : List ℕ) → map outcome_text os ≡ ws ++ w ∷ [] →
+pub last_of : (os : List Outcome) (ws : List (List ℕ)) (w : List ℕ) → map outcome_text os ≡ ws ++ w ∷ [] →
     (before : List Outcome) × (last : Outcome) × (os ≡ before ++ last ∷ []) × (map outcome_text before ≡ ws)
     × (outcome_text last ≡ w)
 last_of [] [] w e = absurd cc
@@ -58,6 +60,55 @@ reader_at p = p.0
 abbrev pub written_at : {A W : Type 0} → (W → Known) → A × W → Known
 written_at contents p = contents p.1
 
+-- what an event shows of a reader and of what is written
+abbrev pub Sees : {R : Type 0} → (R → Known) → Reader R → Reader R → Known → Known → Event → Type 0
+Sees remaining old new before later (Took fields) = CsvHappens remaining old new before later (Took fields)
+Sees remaining old new before later Ended = CsvHappens remaining old new before later Ended
+Sees remaining old new before later (Not_taken e) = Keeps before later
+Sees remaining old new before later Not_sent = Keeps before later
+Sees remaining old new before later (Wrote text) = CsvHappens remaining old new before later (Wrote text)
+Sees remaining old new before later (Cut front rest) = CsvHappens remaining old new before later (Cut front rest)
+
+pub csv_sees : {R : Type 0} (remaining : R → Known) (old new : Reader R) (before later : Known) (e : Event) →
+    CsvHappens remaining old new before later e → Sees remaining old new before later e
+csv_sees remaining old new before later (Took fields) h = h
+csv_sees remaining old new before later Ended h = h
+csv_sees remaining old new before later (Not_taken e) h = h.1
+csv_sees remaining old new before later Not_sent h = h.1
+csv_sees remaining old new before later (Wrote text) h = h
+csv_sees remaining old new before later (Cut front rest) h = h
+
+-- what each state that the register represented leads to, where the outcomes are related by Each
+abbrev AnsweredBy : (State → List (List Field) → List Outcome → State → Type 0) → Bool → (List Outcome → Type 0) →
+    Registered → List (List Field) → List (List ℕ) → Registered → Type 0
+AnsweredBy Each stop And old rs texts new =
+    (s : State) → Represents old.kept s → (t : State) × Represents new.kept t × (os : List Outcome) × Each s rs os t
+    × (map outcome_text os ≡ texts) × StopsAtFault stop os × And os
+
+-- the records of a run that was cut off, and the texts of their answers
+abbrev pub cut_records : {S : Type 0} {happens : S → Event → S → Type 0} {stop : Bool} {old new : Registered} {a b : S}
+    {e : RunFault} → CutIn happens stop old a new b e → List (List Field)
+cut_records (In_taking of rs ws l history answered) = rs
+cut_records (runs.Not_sent is rs ws l history answered) = rs
+cut_records (Past_the_most is rs ws l most r history answered) = rs
+cut_records (No_text is rs ws l r w history answered) = rs ++ r ∷ []
+cut_records (In_text is rs ws l r front rest some history answered) = rs ++ r ∷ []
+
+abbrev pub cut_texts : {S : Type 0} {happens : S → Event → S → Type 0} {stop : Bool} {old new : Registered} {a b : S}
+    {e : RunFault} → CutIn happens stop old a new b e → List (List ℕ)
+cut_texts (In_taking of rs ws l history answered) = ws
+cut_texts (runs.Not_sent is rs ws l history answered) = ws
+cut_texts (Past_the_most is rs ws l most r history answered) = ws
+cut_texts (No_text is rs ws l r w history answered) = ws ++ w ∷ []
+cut_texts (In_text is rs ws l r front rest some history answered) = ws ++ (front ++ rest) ∷ []
+
+-- from outcomes of the first records, with these texts, what is wanted of those of all records
+abbrev pub Gives : (State → List (List Field) → List Outcome → State → Type 0) → List (List Field) → List (List Field) →
+    List (List ℕ) → Type 0
+Gives Each all rs ws =
+    (s t : State) (rest : List (List Field)) (os : List Outcome) → all ≡ rs ++ rest → Claims s all os t →
+    SoundOutcomes s rs os t → map outcome_text os ≡ ws → Each s all os t
+
 -- these records of the input were read, and these bytes written
 record Through {R : Type 0} (remaining : R → Known) (before : Known) (input : List ℕ) (rs : List (List Field))
     (w : List ℕ) (r : Reader R) (later : Known) : Type 0 where
@@ -74,7 +125,7 @@ not_writing e h is = grind arith
 module _ {S R : Type 0} (remaining : R → Known) (reader : S → Reader R) (contents : S → Known)
     (happens : S → Event → S → Type 0)
     (seen : (a b : S) (e : Event) → happens a e b →
-    CsvHappens remaining (reader a) (reader b) (contents a) (contents b) e) (a : S) (input : List ℕ) where
+    Sees remaining (reader a) (reader b) (contents a) (contents b) e) (a : S) (input : List ℕ) where
   abbrev At : List (List Field) → List ℕ → S → Type 0
   At rs w m = Through remaining (contents a) input rs w (reader m) (contents m)
 
@@ -143,27 +194,29 @@ module _ {S R : Type 0} (remaining : R → Known) (reader : S → Reader R) (con
       ap length (f.1 ∙ ap (λ (ms : List (List Field)). rs ++ ms) (f.2 none) ∙ append-nil rs)
 
   module _ (stop : Bool) (old new : Registered) (b : S) (base : IsContent old.kept.content)
-      (start : At [] [] a) where
+      (start : At [] [] a) (Each : State → List (List Field) → List Outcome → State → Type 0) where
     -- the claims are those of all records of the input
     of_all : (And : List Outcome → Type 0) (rs : List (List Field)) (ws : List (List ℕ)) (w : List ℕ) (m : S) →
-        At rs w m → AnsweredOn stop And old rs ws new → AnsweredOn stop And old (records_of input) ws new
-    of_all And rs ws w m at answered s represents =
+        At rs w m → Gives Each (records_of input) rs ws → AnsweredOn stop And old rs ws new →
+        AnsweredBy Each stop And old (records_of input) ws new
+    of_all And rs ws w m at give answered s represents =
         let f = first_of rs w m at in
         let h = answered s represents in
         let all = run_longer SoundOutcome s h.0 rs f.0 h.2 h.3.headline.run in
         let claims =
         claims_of s (records_of input) h.2 h.0 (represented old s base represents) (rw f.1 all) in
-        (h.0, h.1, h.2, claims, h.4, h.5, h.6)
+        (h.0, h.1, h.2, give s h.0 f.0 h.2 f.1 claims h.3.headline.run h.4, h.4, h.5, h.6)
 
     -- the end of a run that was not cut off
     ended_in : (end : Status) (rs : List (List Field)) (ws : List (List ℕ)) (m : S) → At rs (joined ws) m →
         Keeps (contents m) (contents b)
         → ((os : List Outcome) → map outcome_text os ≡ ws → status_of end ≡ output.run_status stop os →
         output.AreAnswered stop (records_of input) os)
+        → Gives Each (records_of input) rs ws
         → AnsweredOn stop (λ os. status_of end ≡ output.run_status stop os) old rs ws new
-        → RanOn Claims stop old (Some (records_of input)) (contents a) new (contents b) end
-    ended_in end rs ws m at later all answered s represents =
-        let h = of_all _ rs ws (joined ws) m at answered s represents in (
+        → RanOn Each stop old (Some (records_of input)) (contents a) new (contents b) end
+    ended_in end rs ws m at later all give answered s represents =
+        let h = of_all _ rs ws (joined ws) m at give answered s represents in (
           h.0,
           h.1,
           joined ws,
@@ -181,11 +234,11 @@ module _ {S R : Type 0} (remaining : R → Known) (reader : S → Reader R) (con
     -- the end of one that was, after these bytes
     cut_in : (e : RunFault) (And : List Outcome → Type 0) (rs : List (List Field)) (ws : List (List ℕ))
         (w front : List ℕ) (m : S) → At rs w m → Appends (contents m) (contents b) front →
-        AnsweredOn stop And old rs ws new
+        Gives Each (records_of input) rs ws → AnsweredOn stop And old rs ws new
         → ((os : List Outcome) → map outcome_text os ≡ ws → And os → output.CutOff stop os (w ++ front) e)
-        → FaultedOn Claims stop old (Some (records_of input)) (contents a) new (contents b) e
-    cut_in e And rs ws w front m at more answered cut s represents =
-        let h = of_all And rs ws w m at answered s represents in (
+        → FaultedOn Each stop old (Some (records_of input)) (contents a) new (contents b) e
+    cut_in e And rs ws w front m at more give answered cut s represents =
+        let h = of_all And rs ws w m at give answered s represents in (
           h.0,
           h.1,
           w ++ front,
@@ -198,61 +251,62 @@ module _ {S R : Type 0} (remaining : R → Known) (reader : S → Reader R) (con
         Appends-kept (contents m) (contents m) (contents b) [] (Appends-nil (contents m)) later
 
     cut_before : (e : RunFault) (rs : List (List Field)) (ws : List (List ℕ)) (m : S) → e ≢ fault.Write →
-        At rs (joined ws) m → Keeps (contents m) (contents b) →
+        At rs (joined ws) m → Keeps (contents m) (contents b) → Gives Each (records_of input) rs ws →
         AnsweredOn stop (λ os. IsFalse (stop && output.any_refused os)) old rs ws new
-        → FaultedOn Claims stop old (Some (records_of input)) (contents a) new (contents b) e
-    cut_before e rs ws m no_write at later answered =
-        cut_in e _ rs ws (joined ws) [] m at (nothing_more m later) answered
+        → FaultedOn Each stop old (Some (records_of input)) (contents a) new (contents b) e
+    cut_before e rs ws m no_write at later give answered =
+        cut_in e _ rs ws (joined ws) [] m at (nothing_more m later) give answered
         (λ os are going. output.Before_next no_write going (append-nil (joined ws) ∙ written_as os ws are))
 
     cut_unsent : (e : RunFault) (rs : List (List Field)) (ws : List (List ℕ)) (m : S) → e ≡ fault.Write →
-        At rs (joined ws) m → Keeps (contents m) (contents b) →
+        At rs (joined ws) m → Keeps (contents m) (contents b) → Gives Each (records_of input) rs ws →
         AnsweredOn stop (λ os. IsFalse (stop && output.any_refused os)) old rs ws new
-        → FaultedOn Claims stop old (Some (records_of input)) (contents a) new (contents b) e
-    cut_unsent e rs ws m write at later answered =
-        cut_in e _ rs ws (joined ws) [] m at (nothing_more m later) answered
+        → FaultedOn Each stop old (Some (records_of input)) (contents a) new (contents b) e
+    cut_unsent e rs ws m write at later give answered =
+        cut_in e _ rs ws (joined ws) [] m at (nothing_more m later) give answered
         (λ os are going. output.Not_sent write (append-nil (joined ws) ∙ written_as os ws are))
 
-    ran_on : (end : Status) → RanIn happens stop old a new b end →
-        RanOn Claims stop old (Some (records_of input)) (contents a) new (contents b) end
-    ran_on ended.Stopped h =
+    ran_on : (end : Status) (h : RanIn happens stop old a new b end) → Gives Each (records_of input) h.records h.texts →
+        RanOn Each stop old (Some (records_of input)) (contents a) new (contents b) end
+    ran_on ended.Stopped h give =
         let x = exchanged [] h.records [] h.texts [] a b h.each start h.history in
         ended_in ended.Stopped h.records h.texts x.0 x.1 (subst (λ (p : S). Keeps (contents x.0) (contents p)) x.2 (Keeps-refl (contents x.0)))
-        (λ os are is. inr (stopped_is stop (output.any_refused os) is)) h.answered
-    ran_on end h =
+        (λ os are is. inr (stopped_is stop (output.any_refused os) is)) give h.answered
+    ran_on end h give =
         let x = exchanged [] h.records [] h.texts (Ended ∷ []) a b h.each start h.history in
         let all = whole h.records (joined h.texts) x.0 x.2.0 x.1 x.2.1 in
         ended_in end h.records h.texts x.0 x.1 (subst (λ (p : S). Keeps (contents x.0) (contents p)) x.2.2 (seen x.0 x.2.0 Ended x.2.1).1)
-        (λ os are is. inl (sym (length-map os outcome_text) ∙ ap length are ∙ h.each ∙ sym all)) h.answered
+        (λ os are is. inl (sym (length-map os outcome_text) ∙ ap length are ∙ h.each ∙ sym all)) give h.answered
 
-    cut_on : (e : RunFault) → CutIn happens stop old a new b e →
-        FaultedOn Claims stop old (Some (records_of input)) (contents a) new (contents b) e
-    cut_on e (In_taking of rs ws l history answered) =
+    cut_on : (e : RunFault) (h : CutIn happens stop old a new b e) →
+        Gives Each (records_of input) (cut_records h) (cut_texts h) →
+        FaultedOn Each stop old (Some (records_of input)) (contents a) new (contents b) e
+    cut_on e (In_taking of rs ws l history answered) give =
         let x = exchanged [] rs [] ws (Not_taken e ∷ []) a b l start history in
         cut_before e rs ws x.0 (not_writing e of) x.1
-        (subst (λ (p : S). Keeps (contents x.0) (contents p)) x.2.2 (seen x.0 x.2.0 (Not_taken e) x.2.1).1) answered
-    cut_on e (runs.Not_sent is rs ws l history answered) =
+        (subst (λ (p : S). Keeps (contents x.0) (contents p)) x.2.2 (seen x.0 x.2.0 (Not_taken e) x.2.1)) give answered
+    cut_on e (runs.Not_sent is rs ws l history answered) give =
         let x = exchanged [] rs [] ws (Not_sent ∷ []) a b l start history in
         cut_unsent e rs ws x.0 is x.1
-        (subst (λ (p : S). Keeps (contents x.0) (contents p)) x.2.2 (seen x.0 x.2.0 Not_sent x.2.1).1) answered
-    cut_on e (Past_the_most is rs ws l most r history answered) =
+        (subst (λ (p : S). Keeps (contents x.0) (contents p)) x.2.2 (seen x.0 x.2.0 Not_sent x.2.1)) give answered
+    cut_on e (Past_the_most is rs ws l most r history answered) give =
         let x = exchanged [] rs [] ws (Took r ∷ []) a b l start history in
         cut_before e rs ws x.0
         (λ write. let never : fault.TooMany ≡ fault.Write = sym is ∙ write in cc) x.1
-        (subst (λ (p : S). Keeps (contents x.0) (contents p)) x.2.2 (seen x.0 x.2.0 (Took r) x.2.1).1) answered
-    cut_on e (No_text is rs ws l r w history answered) =
+        (subst (λ (p : S). Keeps (contents x.0) (contents p)) x.2.2 (seen x.0 x.2.0 (Took r) x.2.1).1) give answered
+    cut_on e (No_text is rs ws l r w history answered) give =
         let x = exchanged [] rs [] ws (Took r ∷ []) a b l start history in
         let t = taken rs r (joined ws) x.0 x.2.0 x.1 x.2.1 in
         cut_in e _ (rs ++ r ∷ []) (ws ++ w ∷ []) (joined ws) [] x.2.0 t
-        (subst (λ (p : S). Appends (contents x.2.0) (contents p) []) x.2.2 (Appends-nil (contents x.2.0))) answered
+        (subst (λ (p : S). Appends (contents x.2.0) (contents p) []) x.2.2 (Appends-nil (contents x.2.0))) give answered
         (λ os are _. let o = last_of os ws w are in
         output.No_text is o.0 o.1 o.2 (append-nil (joined ws) ∙ written_as o.0 ws o.3))
-    cut_on e (In_text is rs ws l r front rest some history answered) =
-        let x = exchanged [] rs [] ws (Took r ∷ Cut front ∷ []) a b l start history in
+    cut_on e (In_text is rs ws l r front rest some history answered) give =
+        let x = exchanged [] rs [] ws (Took r ∷ Cut front rest ∷ []) a b l start history in
         let t = taken rs r (joined ws) x.0 x.2.0 x.1 x.2.1 in
         cut_in e _ (rs ++ r ∷ []) (ws ++ (front ++ rest) ∷ []) (joined ws) front x.2.0 t
         (subst (λ (p : S). Appends (contents x.2.0) (contents p) front) x.2.2.2
-        (seen x.2.0 x.2.2.0 (Cut front) x.2.2.1).1) answered
+        (seen x.2.0 x.2.2.0 (Cut front rest) x.2.2.1).1) give answered
         (λ os are _. let o = last_of os ws (front ++ rest) are in
         output.In_last is o.0 o.1 front rest o.2 o.4 some
         (ap (λ (v : List ℕ). v ++ front) (written_as o.0 ws o.3)))
@@ -268,27 +322,70 @@ module _ {S R : Type 0} (remaining : R → Known) (reader : S → Reader R) (con
     too_many e (In_text write rs ws l r front rest some history answered) is = absurd cc
 
 -- what a run says of the known bytes of its input
+module _ {S R : Type 0} (remaining : R → Known) (reader : S → Reader R) (contents : S → Known)
+    (happens : S → Event → S → Type 0)
+    (seen : (a b : S) (e : Event) → happens a e b →
+    Sees remaining (reader a) (reader b) (contents a) (contents b) e)
+    (Whole Part : State → List (List Field) → List Outcome → State → Type 0) (stop : Bool) (old new : Registered)
+    (a b : S) where
+  abbrev GivesWhole : Known → Result Status RunFault → Type 0
+  GivesWhole known r =
+      IfSome known (λ input. IfOk r (λ end. (h : RanIn happens stop old a new b end) →
+      Gives Whole (records_of input) h.records h.texts))
+
+  abbrev GivesPart : Known → Result Status RunFault → Type 0
+  GivesPart known r =
+      IfSome known (λ input. IfErr r (λ e. (h : CutIn happens stop old a new b e) →
+      Gives Part (records_of input) (cut_records h) (cut_texts h)))
+
+  pub on_known_as : (known : Known) (r : Result Status RunFault) → IsContent old.kept.content →
+      Starts remaining (reader a) known → GivesWhole known r → GivesPart known r → IfOk r (RanIn happens stop old a new b)
+      → IfErr r (CutIn happens stop old a new b)
+      → IfOk r (RanOn Whole stop old (known_records known) (contents a) new (contents b))
+      × IfErr r (FaultedOn Part stop old (known_records known) (contents a) new (contents b))
+      × IfErr r (λ e. e ≡ fault.TooMany → HasTooMany known)
+  on_known_as (Some input) (Ok end) base starts whole part h k =
+      let start = started remaining reader contents happens seen a input starts in
+      (ran_on remaining reader contents happens seen a input stop old new b base start Whole end h (whole h), tt, tt)
+  on_known_as (Some input) (Err e) base starts whole part h k =
+      let start = started remaining reader contents happens seen a input starts in (
+        tt,
+        cut_on remaining reader contents happens seen a input stop old new b base start Part e k (part k),
+        too_many remaining reader contents happens seen a input stop old new b base start Part e k,
+      )
+  on_known_as None (Ok end) base starts whole part h k = (tt, tt, tt)
+  on_known_as None (Err e) base starts whole part h k = (tt, tt, λ is. tt)
+
+all_gives : (all rs : List (List Field)) (ws : List (List ℕ)) → Gives Claims all rs ws
+all_gives all rs ws s t rest os e claims run texts = claims
+
 pub on_known : {S R : Type 0} (remaining : R → Known) (reader : S → Reader R) (contents : S → Known)
     (happens : S → Event → S → Type 0)
     (seen : (a b : S) (e : Event) → happens a e b →
-    CsvHappens remaining (reader a) (reader b) (contents a) (contents b) e) (stop : Bool) (old new : Registered)
+    Sees remaining (reader a) (reader b) (contents a) (contents b) e) (stop : Bool) (old new : Registered)
     (a b : S) (known : Known) (r : Result Status RunFault) → IsContent old.kept.content →
     Starts remaining (reader a) known → IfOk r (RanIn happens stop old a new b) →
     IfErr r (CutIn happens stop old a new b)
     → IfOk r (RanOn Claims stop old (known_records known) (contents a) new (contents b))
     × IfErr r (FaultedOn Claims stop old (known_records known) (contents a) new (contents b))
     × IfErr r (λ e. e ≡ fault.TooMany → HasTooMany known)
-on_known remaining reader contents happens seen stop old new a b (Some input) (Ok end) base starts h k =
-    let start = started remaining reader contents happens seen a input starts in
-    (ran_on remaining reader contents happens seen a input stop old new b base start end h, tt, tt)
-on_known remaining reader contents happens seen stop old new a b (Some input) (Err e) base starts h k =
-    let start = started remaining reader contents happens seen a input starts in (
-      tt,
-      cut_on remaining reader contents happens seen a input stop old new b base start e k,
-      too_many remaining reader contents happens seen a input stop old new b base start e k,
-    )
-on_known remaining reader contents happens seen stop old new a b None (Ok end) base starts h k = (tt, tt, tt)
-on_known remaining reader contents happens seen stop old new a b None (Err e) base starts h k = (tt, tt, λ is. tt)
+on_known remaining reader contents happens seen stop old new a b known r base starts h k =
+    on_known_as remaining reader contents happens seen Claims Claims stop old new a b known r base starts (wholes known r)
+    (parts known r) h k
+  where
+    wholes : (known : Known) (r : Result Status RunFault) →
+        IfSome known (λ input. IfOk r (λ end. (h : RanIn happens stop old a new b end) →
+        Gives Claims (records_of input) h.records h.texts))
+    wholes (Some input) (Ok end) = λ h. all_gives (records_of input) h.records h.texts
+    wholes (Some input) (Err e) = tt
+    wholes None r = tt
+
+    parts : (known : Known) (r : Result Status RunFault) →
+        IfSome known (λ input. IfErr r (λ e. (h : CutIn happens stop old a new b e) →
+        Gives Claims (records_of input) (cut_records h) (cut_texts h)))
+    parts (Some input) (Ok end) = tt
+    parts (Some input) (Err e) = λ h. all_gives (records_of input) (cut_records h) (cut_texts h)
+    parts None r = tt
 
 -- a run that lacked memory before it began
 pub cut_at_first : (stop : Bool) (old : Registered) (before known : Known) (e : RunFault) → IsContent old.kept.content →

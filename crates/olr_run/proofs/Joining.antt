@@ -75,103 +75,150 @@ cut_join stop os qs second e n (output.Not_sent write wrote) =
 -- ---- both runs
 
 -- the claims hold with more records, of which only the first were read
-longer : (s t : State) (rs ms : List (List Field)) (os : List Outcome) → IsContent s.content → Claims s rs os t →
+pub longer : (s t : State) (rs ms : List (List Field)) (os : List Outcome) → IsContent s.content → Claims s rs os t →
     Claims s (rs ++ ms) os t
 longer s t rs ms os i h = claims_of s (rs ++ ms) os t i (run_longer SoundOutcome s t rs ms os h.headline.run)
+
+-- and of two runs
+pub joined_claims : (s t u : State) (rs ms : List (List Field)) (os qs : List Outcome) → IsContent s.content →
+    length os ≡ length rs → Claims s rs os t → Claims t ms qs u → Claims s (rs ++ ms) (os ++ qs) u
+joined_claims s t u rs ms os qs i size one two =
+    claims_of s (rs ++ ms) (os ++ qs) u i (run_join SoundOutcome s t u rs ms os qs size one.headline.run two.headline.run)
+
+abbrev pub Longer : (State → List (List Field) → List Outcome → State → Type 0) →
+    (State → List (List Field) → List Outcome → State → Type 0) → Type 0
+Longer First All =
+    (s t : State) (rs ms : List (List Field)) (os : List Outcome) → IsContent s.content → First s rs os t →
+    All s (rs ++ ms) os t
+
+abbrev pub Joins : (State → List (List Field) → List Outcome → State → Type 0) →
+    (State → List (List Field) → List Outcome → State → Type 0) →
+    (State → List (List Field) → List Outcome → State → Type 0) → Type 0
+Joins First Second All =
+    (s t u : State) (rs ms : List (List Field)) (os qs : List Outcome) → IsContent s.content → length os ≡ length rs →
+    First s rs os t → Second t ms qs u → All s (rs ++ ms) (os ++ qs) u
+
+-- a second run after one that was not stopped
+record Continued (All : State → List (List Field) → List Outcome → State → Type 0) (stop : Bool) (s : State)
+    (rs ms : List (List Field)) (os qs : List Outcome) (u : State) : Type 0 where
+  going : (stop && any_refused os) ≡ false
+  size : length os ≡ length rs
+  each : All s (rs ++ ms) (os ++ qs) u
+  stops : StopsAtFault stop (os ++ qs)
+
+-- where the outcomes of each run have a relation, and those of both
+module _ (First Second All : State → List (List Field) → List Outcome → State → Type 0) where
+  pub both_stopped_as : Longer First All → (stop : Bool) (old mid : Registered) (first second : Records)
+      (before later : Known) (p : Status) → IsContent old.kept.content → RanOn First stop old first before mid later p →
+      p ≡ status.Stopped
+      → RanOn All stop old (known_both first second) before mid later p
+  both_stopped_as more stop old mid (Some rs) (Some ms) before later p base h e =
+      λ s represents.
+      let r = h s represents in
+      let x = r.4 in
+      let each = more s r.0 rs ms x.outcomes (represented old s base represents) x.each in
+      let all = stopped_is stop (any_refused x.outcomes) (ap status_of (sym e) ∙ x.ended) in
+      let ran : Ran All stop s (rs ++ ms) r.0 r.2 (status_of p) =
+      record { outcomes = x.outcomes; each = each; stops = x.stops; all = inr all; wrote = x.wrote; ended = x.ended } in
+      (r.0, r.1, r.2, r.3, ran)
+  both_stopped_as more stop old mid first second before later p base h e = tt
+
+  pub both_faulted_first_as : Longer First All → (stop : Bool) (old mid : Registered) (first second : Records)
+      (before later : Known) (e : RunFault) → IsContent old.kept.content →
+      FaultedOn First stop old first before mid later e
+      → FaultedOn All stop old (known_both first second) before mid later e
+  both_faulted_first_as more stop old mid (Some rs) (Some ms) before later e base h =
+      λ s represents.
+      let r = h s represents in
+      let cut = r.4 in
+      let each = more s r.0 rs ms cut.outcomes (represented old s base represents) cut.each in
+      (r.0, r.1, r.2, r.3, record { outcomes = cut.outcomes; each = each; stops = cut.stops; wrote = cut.wrote })
+  both_faulted_first_as more stop old mid first second before later e base h = tt
+
+  continued : Joins First Second All → (stop : Bool) (s t u : State) (rs ms : List (List Field)) (w : List ℕ) (p : Status)
+      (qs : List Outcome) → IsContent s.content → p ≢ status.Stopped → (one : Ran First stop s rs t w (status_of p)) →
+      Second t ms qs u → StopsAtFault stop qs → Continued All stop s rs ms one.outcomes qs u
+  continued join stop s t u rs ms w p qs i n one two stops =
+      let on = continues stop p one.outcomes n one.ended in
+      let size = all_whole stop rs one.outcomes on one.all in
+      record {
+        going = on;
+        size = size;
+        each = join s t u rs ms one.outcomes qs i size one.each two;
+        stops = stops_join stop one.outcomes qs on one.stops stops;
+      }
+
+  pub both_ran_as : Joins First Second All → (stop : Bool) (old mid new : Registered) (first second : Records)
+      (before now later : Known) (p q end : Status) → IsContent old.kept.content →
+      RanOn First stop old first before mid now p → p ≢ status.Stopped
+      → RanOn Second stop mid second now new later q → status_of end ≡ greater (status_of p) (status_of q) →
+      RanOn All stop old (known_both first second) before new later end
+  both_ran_as join stop old mid new (Some rs) (Some ms) before now later p q end base h n k e =
+      λ s represents.
+      let a = h s represents in
+      let b = k a.0 a.1 in
+      let one = a.4 in
+      let two = b.4 in
+      let on =
+      continued join stop s a.0 b.0 rs ms a.2 p two.outcomes (represented old s base represents) n one two.each two.stops in
+      let status = status_join stop one.outcomes two.outcomes on.going in (
+        b.0,
+        b.1,
+        a.2 ++ b.2,
+        Appends-trans before now later a.2 b.2 a.3 b.3,
+        record {
+          outcomes = one.outcomes ++ two.outcomes;
+          each = on.each;
+          stops = on.stops;
+          all = all_join stop rs ms one.outcomes two.outcomes on.size two.all;
+          wrote = (λ i. one.wrote i ++ two.wrote i) ∙ sym (texts_join one.outcomes two.outcomes);
+          ended = e ∙ (λ i. greater (one.ended i) (two.ended i)) ∙ status;
+        },
+      )
+  both_ran_as join stop old mid new first second before now later p q end base h n k e = tt
+
+  pub both_faulted_second_as : Joins First Second All → (stop : Bool) (old mid new : Registered) (first second : Records)
+      (before now later : Known) (p : Status) (e : RunFault) → IsContent old.kept.content →
+      RanOn First stop old first before mid now p
+      → p ≢ status.Stopped → FaultedOn Second stop mid second now new later e →
+      FaultedOn All stop old (known_both first second) before new later e
+  both_faulted_second_as join stop old mid new (Some rs) (Some ms) before now later p e base h n k =
+      λ s represents.
+      let a = h s represents in
+      let b = k a.0 a.1 in
+      let one = a.4 in
+      let cut = b.4 in
+      let on =
+      continued join stop s a.0 b.0 rs ms a.2 p cut.outcomes (represented old s base represents) n one cut.each cut.stops in
+      let wrote : CutOff stop (one.outcomes ++ cut.outcomes) (a.2 ++ b.2) e =
+      rw one.wrote (cut_join stop one.outcomes cut.outcomes b.2 e on.going cut.wrote) in (
+        b.0,
+        b.1,
+        a.2 ++ b.2,
+        Appends-trans before now later a.2 b.2 a.3 b.3,
+        record { outcomes = one.outcomes ++ cut.outcomes; each = on.each; stops = on.stops; wrote = wrote },
+      )
+  both_faulted_second_as join stop old mid new first second before now later p e base h n k = tt
 
 pub both_stopped : (stop : Bool) (old mid : Registered) (first second : Records) (before later : Known) (p : Status) →
     IsContent old.kept.content → RanOn Claims stop old first before mid later p → p ≡ status.Stopped
     → RanOn Claims stop old (known_both first second) before mid later p
-both_stopped stop old mid (Some rs) (Some ms) before later p base h e =
-    λ s represents.
-    let r = h s represents in
-    let x = r.4 in
-    let each = longer s r.0 rs ms x.outcomes (represented old s base represents) x.each in
-    let all = stopped_is stop (any_refused x.outcomes) (ap status_of (sym e) ∙ x.ended) in
-    let ran : Ran Claims stop s (rs ++ ms) r.0 r.2 (status_of p) =
-    record { outcomes = x.outcomes; each = each; stops = x.stops; all = inr all; wrote = x.wrote; ended = x.ended } in
-    (r.0, r.1, r.2, r.3, ran)
-both_stopped stop old mid first second before later p base h e = tt
+both_stopped = both_stopped_as Claims Claims Claims longer
 
 pub both_faulted_first : (stop : Bool) (old mid : Registered) (first second : Records) (before later : Known)
     (e : RunFault) → IsContent old.kept.content → FaultedOn Claims stop old first before mid later e
     → FaultedOn Claims stop old (known_both first second) before mid later e
-both_faulted_first stop old mid (Some rs) (Some ms) before later e base h =
-    λ s represents.
-    let r = h s represents in
-    let cut = r.4 in
-    let each = longer s r.0 rs ms cut.outcomes (represented old s base represents) cut.each in
-    (r.0, r.1, r.2, r.3, record { outcomes = cut.outcomes; each = each; stops = cut.stops; wrote = cut.wrote })
-both_faulted_first stop old mid first second before later e base h = tt
-
--- a second run after one that was not stopped
-record Continued (stop : Bool) (s : State) (rs ms : List (List Field)) (os qs : List Outcome) (u : State) : Type 0 where
-  going : (stop && any_refused os) ≡ false
-  size : length os ≡ length rs
-  each : Claims s (rs ++ ms) (os ++ qs) u
-  stops : StopsAtFault stop (os ++ qs)
-
-continued : (stop : Bool) (s t u : State) (rs ms : List (List Field)) (w : List ℕ) (p : Status) (qs : List Outcome) →
-    IsContent s.content → p ≢ status.Stopped → (one : Ran Claims stop s rs t w (status_of p)) → Claims t ms qs u →
-    StopsAtFault stop qs → Continued stop s rs ms one.outcomes qs u
-continued stop s t u rs ms w p qs i n one two stops =
-    let on = continues stop p one.outcomes n one.ended in
-    let size = all_whole stop rs one.outcomes on one.all in
-    let run = run_join SoundOutcome s t u rs ms one.outcomes qs size one.each.headline.run two.headline.run in
-    record {
-      going = on;
-      size = size;
-      each = claims_of s (rs ++ ms) (one.outcomes ++ qs) u i run;
-      stops = stops_join stop one.outcomes qs on one.stops stops;
-    }
+both_faulted_first = both_faulted_first_as Claims Claims Claims longer
 
 pub both_ran : (stop : Bool) (old mid new : Registered) (first second : Records) (before now later : Known)
     (p q end : Status) → IsContent old.kept.content → RanOn Claims stop old first before mid now p →
     p ≢ status.Stopped
     → RanOn Claims stop mid second now new later q → status_of end ≡ greater (status_of p) (status_of q) →
     RanOn Claims stop old (known_both first second) before new later end
-both_ran stop old mid new (Some rs) (Some ms) before now later p q end base h n k e =
-    λ s represents.
-    let a = h s represents in
-    let b = k a.0 a.1 in
-    let one = a.4 in
-    let two = b.4 in
-    let on =
-    continued stop s a.0 b.0 rs ms a.2 p two.outcomes (represented old s base represents) n one two.each two.stops in
-    let status = status_join stop one.outcomes two.outcomes on.going in (
-      b.0,
-      b.1,
-      a.2 ++ b.2,
-      Appends-trans before now later a.2 b.2 a.3 b.3,
-      record {
-        outcomes = one.outcomes ++ two.outcomes;
-        each = on.each;
-        stops = on.stops;
-        all = all_join stop rs ms one.outcomes two.outcomes on.size two.all;
-        wrote = (λ i. one.wrote i ++ two.wrote i) ∙ sym (texts_join one.outcomes two.outcomes);
-        ended = e ∙ (λ i. greater (one.ended i) (two.ended i)) ∙ status;
-      },
-    )
-both_ran stop old mid new first second before now later p q end base h n k e = tt
+both_ran = both_ran_as Claims Claims Claims joined_claims
 
 pub both_faulted_second : (stop : Bool) (old mid new : Registered) (first second : Records) (before now later : Known)
     (p : Status) (e : RunFault) → IsContent old.kept.content → RanOn Claims stop old first before mid now p
     → p ≢ status.Stopped → FaultedOn Claims stop mid second now new later e →
     FaultedOn Claims stop old (known_both first second) before new later e
-both_faulted_second stop old mid new (Some rs) (Some ms) before now later p e base h n k =
-    λ s represents.
-    let a = h s represents in
-    let b = k a.0 a.1 in
-    let one = a.4 in
-    let cut = b.4 in
-    let on =
-    continued stop s a.0 b.0 rs ms a.2 p cut.outcomes (represented old s base represents) n one cut.each cut.stops in
-    let wrote : CutOff stop (one.outcomes ++ cut.outcomes) (a.2 ++ b.2) e =
-    rw one.wrote (cut_join stop one.outcomes cut.outcomes b.2 e on.going cut.wrote) in (
-      b.0,
-      b.1,
-      a.2 ++ b.2,
-      Appends-trans before now later a.2 b.2 a.3 b.3,
-      record { outcomes = one.outcomes ++ cut.outcomes; each = on.each; stops = on.stops; wrote = wrote },
-    )
-both_faulted_second stop old mid new first second before now later p e base h n k = tt
+both_faulted_second = both_faulted_second_as Claims Claims Claims joined_claims

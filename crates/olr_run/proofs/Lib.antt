@@ -7,3 +7,8 @@ pub mod Joining
 pub mod InputRuns
 pub mod Ending
 pub mod Dumping
+pub mod Plain
+pub mod Logging
+pub mod LoggedRuns
+pub mod Restoring
+pub mod LogRecords

@@ -238,7 +238,7 @@ module _ {S : Type 0} (happens : S → Event → S → Type 0) (stop : Bool) (ol
                 (and_then later (Took fields ∷ []) (taken, took, sym none.1)) more
             | inr cut ↦
                 In_text cut.5 a.records a.texts a.each fields cut.0 cut.1 cut.3
-                (and_then later (Took fields ∷ Cut cut.0 ∷ []) (taken, took, (later, cut.4, refl)))
+                (and_then later (Took fields ∷ Cut cut.0 cut.1 ∷ []) (taken, took, (later, cut.4, refl)))
                 (subst (λ (text : List ℕ).
                 AnsweredOn stop (λ os. ⊤) old (a.records ++ fields ∷ []) (a.texts ++ text ∷ []) new) cut.2 more)
           ]

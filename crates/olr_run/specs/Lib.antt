@@ -1,3 +1,6 @@
 pub mod Output
 pub mod Runs
 pub mod Ends
+pub mod Logged
+pub mod Logs
+pub mod Restored

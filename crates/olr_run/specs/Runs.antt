@@ -51,7 +51,7 @@ abbrev pub WritesText : {S : Type 0} → (S → Event → S → Type 0) → S �
 WritesText happens before text later (Ok accepted) is = happens before (Wrote text) later × (accepted ≡ is)
 WritesText happens before text later (Err e) is =
     ((e ≡ fault.Memory) × (later ≡ before))
-    ⊎ ((front rest : List ℕ) × (text ≡ front ++ rest) × (rest ≢ []) × happens before (Cut front) later
+    ⊎ ((front rest : List ℕ) × (text ≡ front ++ rest) × (rest ≢ []) × happens before (Cut front rest) later
     × (e ≡ fault.Write))
 
 -- a record's command is carried out, and its answer is written: it has this text, and accepts the command or not
@@ -115,7 +115,7 @@ pub data CutIn {S : Type 0} (happens : S → Event → S → Type 0) (stop : Boo
       → CutIn happens stop old before new later e
   In_text : e ≡ fault.Write → (rs : List (List Field)) (texts : List (List ℕ)) → length texts ≡ length rs →
       (r : List Field) (front rest : List ℕ) → rest ≢ []
-      → History happens before (exchanges rs texts ++ Took r ∷ Cut front ∷ []) later
+      → History happens before (exchanges rs texts ++ Took r ∷ Cut front rest ∷ []) later
       → AnsweredOn stop (λ os. ⊤) old (rs ++ r ∷ []) (texts ++ (front ++ rest) ∷ []) new
       → CutIn happens stop old before new later e
 

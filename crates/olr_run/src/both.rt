@@ -11,7 +11,7 @@ use std::alloc::Global;
 use std::io::{Read, Write};
 
 /// The greater of two statuses.
-fn greater_of(first: Status, second: Status) -> Status
+pub(crate) fn greater_of(first: Status, second: Status) -> Status
     ensures { status_of result ≡ greater (status_of first) (status_of second) }
 {
     match (first, second) {

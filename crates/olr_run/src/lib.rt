@@ -3,11 +3,17 @@
 
 mod answers;
 mod both;
+mod loader;
+mod logged;
 mod records;
 mod streams;
 
 pub use both::run_both;
+pub use loader::{RestoreFault, restore};
+pub use logged::run_with_log;
 pub use olr_arguments::WRONG_ARGUMENTS;
-pub use olr_sessions::{Buffered, RunFault, Session, Status, exit_code, report_fault};
+pub use olr_sessions::{
+    Buffered, Gate, Journal, LogFault, RunFault, Session, Status, exit_code, report_fault,
+};
 pub use records::{Room, run, run_bytes, run_session};
 pub use streams::{program, run_program};

@@ -75,7 +75,7 @@ happens_as contents a b Ended h =
 happens_as contents a b (Not_taken e) h = (λ plain. h.0, same_kept (contents a.1) (contents b.1) h.1)
 happens_as contents a b Not_sent h = absurd h
 happens_as contents a b (Wrote text) h = (ap reader_of h.0, h.1)
-happens_as contents a b (Cut front) h = (ap reader_of h.0, h.1)
+happens_as contents a b (Cut front rest) h = (ap reader_of h.0, h.1)
 
 pub starts_in_memory : (s : InMemory) (bytes : List ℕ) → s.rest.now ≡ strip_bom bytes → s.state ≡ StartRecord →
     s.failed ≡ false → Starts all_known (reader_of s) (Some bytes)

@@ -3,3 +3,7 @@ pub mod CsvBytes
 pub mod Writing
 pub mod InMemoryRuns
 pub mod WholeLines
+pub mod KeptLines
+pub mod Parts
+pub mod Passing
+pub mod LoggedEvents

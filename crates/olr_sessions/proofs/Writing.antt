@@ -17,7 +17,7 @@ pub record Written (before now : Known) (bytes : List ℕ) (n : ℕ) : Type 0 wh
 abbrev pub rest_from : List ℕ → ℕ → List ℕ
 rest_from bytes n = take (length bytes - n) (drop n bytes)
 
-rest_is : (bytes : List ℕ) (n : ℕ) → rest_from bytes n ≡ drop n bytes
+pub rest_is : (bytes : List ℕ) (n : ℕ) → rest_from bytes n ≡ drop n bytes
 rest_is bytes n = grind (arith, take_all, length-drop)
 
 pub written_more : (before now later : Known) (bytes : List ℕ) (n k : ℕ) → Written before now bytes n →

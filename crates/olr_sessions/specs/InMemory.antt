@@ -57,4 +57,4 @@ BytesHappens old new before later Ended = TookFrom old new false [] × (later �
 BytesHappens old new before later (Not_taken e) = (new.failed ≡ true) × (later ≡ before)
 BytesHappens old new before later Not_sent = ⊥
 BytesHappens old new before later (Wrote text) = (new ≡ old) × Appends before later text
-BytesHappens old new before later (Cut front) = (new ≡ old) × Appends before later front
+BytesHappens old new before later (Cut front rest) = (new ≡ old) × Appends before later front

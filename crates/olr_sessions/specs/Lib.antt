@@ -3,3 +3,8 @@ pub mod InMemory
 pub mod Statuses
 pub mod Buffers
 pub mod Lines
+pub mod Journals
+pub mod KeptLines
+pub mod Unkept
+pub mod Gates
+pub mod LoggedRuns

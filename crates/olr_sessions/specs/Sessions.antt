@@ -1,6 +1,6 @@
 -- Sessions: the events at the two ends of a run, in order.
 --     Event      a record was taken, or there was none, or none could be taken, or none was taken since the texts so
---         far could not be sent; a text was written, or only its first bytes
+--         far could not be sent; a text was written, or only its first bytes, and not the rest
 --     History happens a es b      these events, in this order, lead from a to b; happens is the relation of one event
 --     exchanges rs texts      each record was taken, and then its text was written
 --     WritesAll before later bytes r      all of the bytes were written, or only the first of them
@@ -30,7 +30,7 @@ pub data Event : Type 0 where
   Not_taken : (fault : RunFault) → Event
   Not_sent : Event
   Wrote : (text : List ℕ) → Event
-  Cut : (front : List ℕ) → Event
+  Cut : (front rest : List ℕ) → Event
 
 abbrev pub History : {S : Type 0} → (S → Event → S → Type 0) → S → List Event → S → Type 0
 History happens a [] b = a ≡ b
@@ -59,7 +59,7 @@ TakesNext happens old new (Err e) fields =
 abbrev pub Writes : {S : Type 0} → (S → Event → S → Type 0) → S → List ℕ → S → Result (Unit {0}) RunFault → Type 0
 Writes happens old text new (Ok done) = happens old (Wrote text) new
 Writes happens old text new (Err e) =
-    (front rest : List ℕ) × (text ≡ front ++ rest) × (rest ≢ []) × happens old (Cut front) new × (e ≡ fault.Write)
+    (front rest : List ℕ) × (text ≡ front ++ rest) × (rest ≢ []) × happens old (Cut front rest) new × (e ≡ fault.Write)
 
 abbrev pub WritesAll : Known → Known → List ℕ → Result (Unit {0}) RunFault → Type 0
 WritesAll before later bytes (Ok done) = Appends before later bytes
@@ -91,4 +91,4 @@ CsvHappens remaining old new before later Ended =
 CsvHappens remaining old new before later (Not_taken e) = (IsPlain old → has_failed new ≡ true) × Keeps before later
 CsvHappens remaining old new before later Not_sent = (new ≡ old) × Keeps before later
 CsvHappens remaining old new before later (Wrote text) = (new ≡ old) × Appends before later text
-CsvHappens remaining old new before later (Cut front) = (new ≡ old) × Appends before later front
+CsvHappens remaining old new before later (Cut front rest) = (new ≡ old) × Appends before later front

@@ -38,7 +38,7 @@ fn send<W: Write>(device: &mut W, bytes: &[u8]) -> usize
 }
 
 /// Removes the first bytes.
-fn remove_front(bytes: &mut Vec<u8>, count: usize)
+pub(crate) fn remove_front(bytes: &mut Vec<u8>, count: usize)
     requires { count ≤ vec_len bytes.old }
     ensures { bytes.new.items ≡ drop count bytes.old.items }
 {
@@ -48,7 +48,8 @@ fn remove_front(bytes: &mut Vec<u8>, count: usize)
 }
 
 impl<W: Write + Drop> Buffered<W> {
-    ghost use Rattle.olr_sessions.specs.Buffers.{held};
+    ghost use Rattle.std.specs.Prelude.{◌++◌, OnErr};
+    ghost use Rattle.olr_sessions.specs.Buffers.{held, Sends};
 
     /// An output to this device. Every byte that it will hold has its place from the start.
     pub fn new(alloc: Global, device: W) -> Result<Buffered<W>, AllocError>
@@ -60,6 +61,43 @@ impl<W: Write + Drop> Buffered<W> {
             held: Vec::with_capacity(alloc, MOST_HELD)?,
             failed: false,
         })
+    }
+
+    /// Holds bytes back, and returns how many. Takes nothing of a text for which there is no room beside others, so that
+    /// texts leave whole if they are no longer than the room for all.
+    pub(crate) fn hold(&mut self, bytes: &[u8]) -> Result<usize, AllocError>
+        ensures bound { IfOk result (λ n. n ≤ length bytes.now) }
+        ensures held { IfOk result (λ n. held self.new ≡ held self.old ++ take n bytes.now) }
+        ensures nothing { OnErr result (held self.new ≡ held self.old) }
+        ensures device { self.new.device ≡ self.old.device }
+    {
+        let room = MOST_HELD - self.held.len();
+        let taken = if bytes.len() <= room {
+            bytes.len()
+        } else if self.held.is_empty() {
+            room
+        } else {
+            0
+        };
+        self.held.extend_from_slice(&bytes[..taken])?;
+        Ok(taken)
+    }
+
+    /// Sends what is held, from its front on. After a failure the rest is still held, and nothing more is sent.
+    pub(crate) fn send_held(&mut self) -> io::Result<()>
+        ensures device { Sends (W.contents self.old.device) (held self.old) (W.contents self.new.device) (held self.new) }
+        ensures sent { OnOk result (held self.new ≡ []) }
+    {
+        if self.failed {
+            return Err(io::Error::from(ErrorKind::BrokenPipe));
+        }
+        let sent = send(&mut self.device, self.held.as_slice());
+        remove_front(&mut self.held, sent);
+        if !self.held.is_empty() {
+            self.failed = true;
+            return Err(io::Error::from(ErrorKind::BrokenPipe));
+        }
+        self.device.flush()
     }
 
     /// The device, which has what was sent.
@@ -78,16 +116,7 @@ impl<W: Write + Drop> Write for Buffered<W> {
     /// Holds bytes back. Takes nothing of a text for which there is no room beside others, so that texts leave whole if
     /// they are no longer than the room for all.
     fn write(&mut self, bytes: &[u8]) -> io::Result<usize> {
-        let room = MOST_HELD - self.held.len();
-        let taken = if bytes.len() <= room {
-            bytes.len()
-        } else if self.held.is_empty() {
-            room
-        } else {
-            0
-        };
-        self.held.extend_from_slice(&bytes[..taken])?;
-        Ok(taken)
+        Ok(self.hold(bytes)?)
     }
 
     /// Sends what is held.
@@ -95,15 +124,6 @@ impl<W: Write + Drop> Write for Buffered<W> {
         ensures bytes { Keeps (written W.contents self.old) (written W.contents self.new) }
         ensures sent { OnOk result (held self.new ≡ []) }
     {
-        if self.failed {
-            return Err(io::Error::from(ErrorKind::BrokenPipe));
-        }
-        let sent = send(&mut self.device, self.held.as_slice());
-        remove_front(&mut self.held, sent);
-        if !self.held.is_empty() {
-            self.failed = true;
-            return Err(io::Error::from(ErrorKind::BrokenPipe));
-        }
-        self.device.flush()
+        self.send_held()
     }
 }

@@ -200,7 +200,7 @@ impl<'a> InMemory<'a> {
     }
 
     /// Takes the next record. Returns false if there is none, or if an allocation failed before.
-    fn take_record(&mut self, row: &mut ByteRecord) -> Result<bool, AllocError>
+    pub fn take_record(&mut self, row: &mut ByteRecord) -> Result<bool, AllocError>
         ensures took { IfOk result (λ found. TookFrom self.old self.new found (fields_of row.new)) }
         ensures failed { OnErr result (self.new.failed ≡ true) }
     {

@@ -4,14 +4,22 @@
 
 mod buffered;
 mod ends;
+mod gate;
 mod in_memory;
+mod journal;
 mod lines;
+mod logged;
 mod output;
 mod sessions;
+mod unkept;
 
 pub use buffered::Buffered;
 pub use ends::{RunFault, Status, end_status, exit_code, report_fault};
+pub use gate::{Gate, LogFault};
 pub use in_memory::InMemory;
+pub use journal::Journal;
 pub use lines::Lines;
+pub use logged::Logged;
 pub use output::write_all;
 pub use sessions::Session;
+pub use unkept::{Effect, Unkept};

@@ -29,7 +29,7 @@ pub trait Session<W> {
 
 /// Reads the next record into `fields`. Returns false if there is none.
 #[tactic(auto, using(crate::proofs::SessionLemmas::stopped))]
-fn read_record<R: Read + Drop>(
+pub(crate) fn read_record<R: Read + Drop>(
     reader: &mut Reader<R>,
     fields: &mut ByteRecord,
 ) -> Result<bool, RunFault>

@@ -3,4 +3,6 @@
 #![tactic(auto)]
 
 #[cfg(test)]
+mod logs;
+#[cfg(test)]
 mod tests;

@@ -2,7 +2,7 @@
 use Rattle.std.proofs.Common.{◌∙◌, ap, refl, true, inr}
 use Rattle.csv.specs.Reading.{strip_bom, builder_config, builder_trim, builder_names_headers, builder_is_flexible, with_flexible}
 use Rattle.csv.specs.declared.reader.ReaderBuilder.{ReaderBuilder}
-use Rattle.olr_run.proofs.InputRuns.{OfReader, reader_at, written_at, on_known, cut_at_first}
+use Rattle.olr_run.proofs.InputRuns.{OfReader, reader_at, written_at, csv_sees, on_known, cut_at_first}
 use Rattle.olr_sessions.specs.Buffers.{unread}
 use Rattle.std.specs.Prelude.{option_map}
 use Rattle.olr_sessions.proofs.SessionLemmas.{Starts}
@@ -29,7 +29,8 @@ returns g c =
     } in
     let k =
     on_known lines reader_at (written_at g.W.Write.contents)
-    (OfReader lines g.W.Write.contents) (λ a b e h. h) c.args.stop c.args.register.now
+    (OfReader lines g.W.Write.contents)
+    (λ a b e h. csv_sees lines a.0 b.0 (g.W.Write.contents a.1) (g.W.Write.contents b.1) e h) c.args.stop c.args.register.now
     c.run_session.new.register (c.from_reader-reader.result, c.args.output.now)
     (c.run_session.new.session, c.run_session.new.output) input c.run_session.result c.is_sound.ensures starts
     c.run_session.ensures.ran c.run_session.ensures.cut in

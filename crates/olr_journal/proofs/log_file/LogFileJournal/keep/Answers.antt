@@ -1,0 +1,107 @@
+use Rattle.std.proofs.Common.{rules, ◌≡◌, inr, ◌+◌, ◌-◌, ◌<◌, ℕ, List, ◌++◌, length, Bool, true, [], refl, sym, ◌∙◌, ap, subst, arith}
+use Rattle.std.proofs.lemmas.List.{append-nil}
+use Rattle.olr_journal.specs.Texts.{counts, text_of}
+use Rattle.olr_journal.specs.Files.{kept_in, KeepsFirst}
+use Rattle.olr_journal.proofs.Keeping.{led_here, no_records, counts_from, kept_text, put_cut, padded_after, size_after, text_after, kept_more, room_after}
+use Rattle.olr_journal.proofs.log_file.LogFileJournal.keep.Goals as goal
+
+pub returns-in_err-self-clause-cut : goal.returns-in_err-self-clause-cut
+returns-in_err-self-clause-cut g c text left =
+    let disk = g.D.Disk in
+    let self = c.args.self.now in
+    let settled = c.if-not-is_settled.false in
+    let own = self.own settled in
+    let leaves = led_here disk.is_clean disk.may_leave (g.F.Folder.may_lead self.folder) self.number c.extend.new.disk self.rival text (self.led own.0) left in
+    let file = self.padded settled (sym c.extend.ensures.calm ∙ leaves.clean) in
+    let from = c.extend.ensures.crash leaves.file leaves.left in
+    let keeps = subst (λ (d : List ℕ). KeepsFirst self.file_len d leaves.file) (self.durable own.0 from.0 from.1) from.2 in
+    let same = kept_text self.text_len self.file_len (disk.seen self.disk) (self.room settled).0 file.0 file.1 leaves.file keeps in
+    inr ([], no_records c.args.records.now, sym leaves.is ∙ same ∙ sym (append-nil _) ∙ ap (λ (b : Bool). kept_in b self.text_len (disk.seen self.disk) ++ []) (sym own.1))
+
+pub returns-in_err-put-clause-cut : goal.returns-in_err-put-clause-cut
+returns-in_err-put-clause-cut g c text left =
+    let disk = g.D.Disk in
+    let self = c.args.self.now in
+    let settled = c.if-not-is_settled.false in
+    let own = self.own settled in
+    let leaves = led_here disk.is_clean disk.may_leave (g.F.Folder.may_lead self.folder) self.number c.put.new.disk self.rival text (self.led own.0) left in
+    let file = self.padded settled (sym c.extend.ensures.calm ∙ sym c.put.ensures.calm ∙ leaves.clean) in
+    let long = c.in_ok-self.ensures.needed in
+    let end : c.in_ok-end.end ≡ self.text_len + 1 + length c.args.records.now = search rules in
+    let found = put_cut self.text_len self.file_len (disk.seen self.disk) (self.room settled).0 file.0 file.1 (c.in_ok-self.field-0 - self.file_len) (disk.seen c.extend.new.disk) c.args.records.now (c.in_ok-self.ensures.padded file.0) (omega (arith, end, long.0, long.1, file.0))
+    (disk.may_leave c.extend.new.disk) (disk.may_leave c.put.new.disk) (c.in_ok-self.ensures.durable (self.durable own.0)) c.put.ensures.crash leaves.file leaves.left in
+    inr (found.0, found.1, sym leaves.is ∙ found.2 ∙ ap (λ (b : Bool). kept_in b self.text_len (disk.seen self.disk) ++ found.0) (sym own.1))
+
+pub returns-clause-cut : goal.returns-clause-cut
+returns-clause-cut g c text left =
+    let disk = g.D.Disk in
+    let self = c.args.self.now in
+    let settled = c.if-not-is_settled.false in
+    let own = self.own settled in
+    let leaves = led_here disk.is_clean disk.may_leave (g.F.Folder.may_lead self.folder) self.number c.put.new.disk self.rival text (self.led own.0) left in
+    let file = self.padded settled (sym c.extend.ensures.calm ∙ sym c.put.ensures.calm ∙ leaves.clean) in
+    let long = c.in_ok-self.ensures.needed in
+    let end : c.in_ok-end.end ≡ self.text_len + 1 + length c.args.records.now = search rules in
+    let found = put_cut self.text_len self.file_len (disk.seen self.disk) (self.room settled).0 file.0 file.1 (c.in_ok-self.field-0 - self.file_len) (disk.seen c.extend.new.disk) c.args.records.now (c.in_ok-self.ensures.padded file.0) (omega (arith, end, long.0, long.1, file.0))
+    (disk.may_leave c.extend.new.disk) (disk.may_leave c.put.new.disk) (c.in_ok-self.ensures.durable (self.durable own.0)) c.put.ensures.crash leaves.file leaves.left in
+    inr (found.0, found.1, sym leaves.is ∙ found.2 ∙ ap (λ (b : Bool). kept_in b self.text_len (disk.seen self.disk) ++ found.0) (sym own.1))
+
+pub returns-clause-kept : goal.returns-clause-kept
+returns-clause-kept g c =
+    let disk = g.D.Disk in
+    let self = c.args.self.now in
+    let settled = c.if-not-is_settled.false in
+    let own = self.own settled in
+    let room = self.room settled in
+    ap (λ (b : Bool). kept_in b (self.text_len + length c.args.records.now) (disk.seen c.put.new.disk)) own.1
+    ∙ kept_more self.text_len self.file_len (disk.seen self.disk) (disk.seen c.extend.new.disk) (disk.seen c.put.new.disk) c.args.records.now room.1 room.0 c.extend.ensures.keeps c.in_ok-put.ensures.held c.put.ensures.others
+    ∙ ap (λ (b : Bool). kept_in b self.text_len (disk.seen self.disk) ++ c.args.records.now) (sym own.1)
+
+pub returns-clause-durable : goal.returns-clause-durable
+returns-clause-durable g c text left =
+    let disk = g.D.Disk in
+    let self = c.args.self.now in
+    let records = c.args.records.now in
+    let settled = c.if-not-is_settled.false in
+    let own = self.own settled in
+    let leaves = led_here disk.is_clean disk.may_leave (g.F.Folder.may_lead self.folder) self.number c.put.new.disk self.rival text (self.led own.0) left in
+    let file = self.padded settled (sym c.extend.ensures.calm ∙ sym c.put.ensures.calm ∙ leaves.clean) in
+    let long = c.in_ok-self.ensures.needed in
+    let end : c.in_ok-end.end ≡ self.text_len + 1 + length records = search rules in
+    let whole : counts records ≡ true = counts_from records c.requires (search rules) in
+    let same = text_after self.text_len self.file_len (disk.seen self.disk) (self.room settled).0 file.0 file.1 (c.in_ok-self.field-0 - self.file_len) (disk.seen c.extend.new.disk) records (c.in_ok-self.ensures.padded file.0) (omega (arith, end, long.0, long.1, file.0))
+    (disk.seen c.put.new.disk) c.in_ok-put.ensures.held c.put.ensures.others whole in
+    sym leaves.is ∙ ap text_of (c.in_ok-put.ensures.durable leaves.file leaves.left) ∙ same ∙ ap (λ (b : Bool). kept_in b (self.text_len + length records) (disk.seen c.put.new.disk)) (sym own.1)
+
+pub invariant_of-self-2 : goal.invariant_of-self-2
+invariant_of-self-2 g c =
+    let disk = g.D.Disk in
+    let self = c.args.self.now in
+    let records = c.args.records.now in
+    let settled = c.if-not-is_settled.false in
+    let own = self.own settled in
+    let room = self.room settled in
+    let long = c.in_ok-self.ensures.needed in
+    let end : c.in_ok-end.end ≡ self.text_len + 1 + length records = search rules in
+    let whole : counts records ≡ true = counts_from records c.requires (search rules) in
+    record {
+      any_returns = self.any_returns;
+      all_returns = self.all_returns;
+      usable = λ _. c.in_ok-put.ensures.usable;
+      durable = λ _. c.in_ok-put.ensures.durable;
+      led = λ _. self.led own.0;
+      opened = λ _ never. absurd (cc never);
+      own = λ _. (refl, own.1);
+      room = λ _. (
+        omega (arith, end, long.0),
+        room_after self.text_len self.file_len (disk.seen self.disk) (disk.seen c.extend.new.disk) (disk.seen c.put.new.disk) records room.1 c.extend.ensures.keeps c.in_ok-put.ensures.held c.put.ensures.others,
+      );
+      padded = λ _ clean.
+          let file = self.padded settled (sym c.extend.ensures.calm ∙ sym c.put.ensures.calm ∙ clean) in
+          let more = c.in_ok-self.field-0 - self.file_len in
+          let fits : self.text_len + 1 + length records < length (disk.seen self.disk) + more = omega (arith, end, long.0, long.1, file.0) in
+          let size = size_after self.text_len self.file_len (disk.seen self.disk) room.0 file.0 file.1 more (disk.seen c.extend.new.disk) records (c.in_ok-self.ensures.padded file.0) fits (disk.seen c.put.new.disk) c.in_ok-put.ensures.held c.put.ensures.others whole in (
+            omega (arith, size, file.0, long.1),
+            padded_after self.text_len self.file_len (disk.seen self.disk) room.0 file.0 file.1 more (disk.seen c.extend.new.disk) records (c.in_ok-self.ensures.padded file.0) fits (disk.seen c.put.new.disk) c.in_ok-put.ensures.held c.put.ensures.others whole,
+          );
+    }

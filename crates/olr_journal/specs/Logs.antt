@@ -1,0 +1,22 @@
+-- What a log keeps, and the texts with which the next run may begin.
+use Rattle.std.specs.Prelude.{ℕ, ◌+◌, ◌-◌, Bool, not, ◌||◌, if◌then◌else◌, List, [], take, drop}
+use Rattle.sqlite_disk.specs.declared.Disk as disk
+use Rattle.olr_journal.specs.declared.folder.Folder as folder
+use Rattle.olr_journal.specs.declared.log_file.LogFile.{LogFile}
+use Rattle.olr_journal.specs.Files.{kept_in}
+use Rattle.olr_journal.specs.Outcomes.{MayLeave}
+
+module _ {D F : Type 0} {d : disk.Ghosts D} {f : folder.Ghosts F D} where
+  abbrev pub kept_of : LogFile D F d f → List ℕ
+  kept_of log = kept_in log.is_own log.text_len (d.seen log.disk)
+
+  abbrev pub left_of : LogFile D F d f → List ℕ → Type 0
+  left_of log = MayLeave d.is_clean d.may_leave (f.may_lead log.folder) log.number log.disk log.rival
+
+  -- the disk has told no lie
+  abbrev pub is_clean : LogFile D F d f → Bool
+  is_clean log = d.is_clean log.disk
+
+  -- what stands behind the text of an opened log, up to the last byte that isn't a carriage return
+  abbrev pub left_over_of : LogFile D F d f → List ℕ
+  left_over_of log = if log.is_settled || not log.is_own then [] else take (log.last + 1 - (log.text_len + 1)) (drop (log.text_len + 1) (d.seen log.disk))

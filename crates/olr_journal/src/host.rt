@@ -1,0 +1,141 @@
+//! A file of the operating system. Each method makes one call of the system and notes it with its answer, whatever that is: this
+//! is read, and not proved.
+
+ghost use Rattle.std.specs.Prelude.{◌≡◌, ◌<◌, ◌≤◌, ◌^◌, [], ◌∷◌, length, IfOk};
+ghost use Rattle.sqlite_disk.specs.Events.{settled};
+
+use crate::noted::Noted;
+use crate::writes::BLOCK;
+use sqlite_disk::{Calls, is_no_room};
+use std::os::unix::fs::FileExt;
+use std::{fs, io};
+
+/// What the system takes for an offset.
+const MOST: usize = (1 << 63) - 1;
+
+/// An open file.
+#[derive(Drop)]
+pub struct HostFile {
+    file: fs::File,
+    calls: Noted,
+}
+
+impl HostFile {
+    /// Writes what a file holds once more, and syncs it and its folder: after a sync that failed in an earlier process the kernel's
+    /// pages may differ from the disk, and no later sync would write them.
+    pub(crate) fn settle(file: fs::File, folder: &fs::File) -> io::Result<HostFile>
+        ensures { IfOk result (λ host. host.calls.events ≡ settled 0 ∷ []) }
+    {
+        write_back(&file)?;
+        file.sync_all()?;
+        folder.sync_all()?;
+        let mut calls = Noted::none();
+        calls.add(&[0, 0, 0, 1], &[]);
+        Ok(HostFile { file, calls })
+    }
+}
+
+/// Reads a file and writes each block where it stands.
+fn write_back(file: &fs::File) -> io::Result<()> {
+    let mut block = [0u8; BLOCK];
+    for k in 0..file.metadata()?.len().div_ceil(BLOCK as u64) {
+        let at = k * BLOCK as u64;
+        let n = file.read_at(&mut block, at)?;
+        file.write_all_at(&block[..n], at)?;
+    }
+    Ok(())
+}
+
+fn size(file: &fs::File) -> io::Result<usize> {
+    Ok(file.metadata()?.len() as usize)
+}
+
+fn read(file: &fs::File, at: usize, buf: &mut [u8]) -> io::Result<usize>
+    ensures { IfOk result (λ n. (0 < n) × (n ≤ length buf.old) × (at < 2 ^ 63)) }
+{
+    if at > MOST {
+        return Err(io::ErrorKind::InvalidInput.into());
+    }
+    match file.read_at(buf, at as u64)? {
+        0 => Err(io::ErrorKind::UnexpectedEof.into()),
+        n => Ok(n),
+    }
+}
+
+fn write(file: &fs::File, at: usize, bytes: &[u8]) -> io::Result<usize>
+    ensures { IfOk result (λ n. (0 < n) × (n ≤ length bytes.now) × (at < 2 ^ 63)) }
+{
+    if at > MOST {
+        return Err(io::ErrorKind::FileTooLarge.into());
+    }
+    match file.write_at(bytes, at as u64)? {
+        0 => Err(io::ErrorKind::WriteZero.into()),
+        n => Ok(n),
+    }
+}
+
+impl Calls for HostFile {
+    ghost history = { λ host. host.calls.events };
+
+    fn len(&mut self) -> io::Result<usize> {
+        let answer = size(&self.file);
+        match answer {
+            Ok(n) => self.calls.add(&[1, n as u64, 0, 1], &[]),
+            Err(_) => self.calls.add(&[1, 0, 0, 0], &[]),
+        }
+        answer
+    }
+
+    fn read_some(&mut self, at: usize, buf: &mut [u8]) -> io::Result<usize> {
+        let (place, asked) = (at as u64, buf.len() as u64);
+        let answer = read(&self.file, at, buf);
+        match answer {
+            Ok(n) => self.calls.add(&[2, place, asked, 1], &buf[..n]),
+            Err(_) => self.calls.add(&[2, place, asked, 0], &[]),
+        }
+        answer
+    }
+
+    fn read_under(&mut self, key: u64, want: u64, at: usize, buf: &mut [u8]) -> io::Result<usize> {
+        let (place, asked) = (at as u64, buf.len() as u64);
+        let answer = read(&self.file, at, buf);
+        match answer {
+            Ok(n) => self.calls.add(&[6, place, asked, 1, key, want], &buf[..n]),
+            Err(_) => self.calls.add(&[6, place, asked, 0, key, want], &[]),
+        }
+        answer
+    }
+
+    fn write_some(&mut self, at: usize, bytes: &[u8]) -> io::Result<usize> {
+        let answer = write(&self.file, at, bytes);
+        match answer {
+            Ok(n) => self.calls.add(&[3, at as u64, n as u64, 1], bytes),
+            Err(error) => self
+                .calls
+                .add(&[3, at as u64, u64::from(is_no_room(&error)), 0], bytes),
+        }
+        answer
+    }
+
+    fn resize(&mut self, len: usize) -> io::Result<()> {
+        let answer = self.file.set_len(len as u64);
+        match answer {
+            Ok(()) => self.calls.add(&[4, len as u64, 0, 1], &[]),
+            Err(error) => self
+                .calls
+                .add(&[4, len as u64, u64::from(is_no_room(&error)), 0], &[]),
+        }
+        answer
+    }
+
+    fn sync(&mut self) -> io::Result<()> {
+        let answer = self.file.sync_data();
+        match answer {
+            Ok(()) => self.calls.add(&[5, 0, 0, 1], &[]),
+            Err(error) => self
+                .calls
+                .add(&[5, 0, u64::from(is_no_room(&error)), 0], &[]),
+        }
+        answer
+    }
+}

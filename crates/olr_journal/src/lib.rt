@@ -1,0 +1,18 @@
+//! The log of a run, in a file: a `Journal` over any disk.
+#![tactic(auto)]
+
+mod folder;
+mod host;
+mod log_file;
+mod noted;
+mod opening;
+mod place;
+mod reads;
+mod scan;
+mod writes;
+
+pub use folder::Folder;
+pub use host::HostFile;
+pub use log_file::LogFile;
+pub use place::{HostDisk, LogFolder, OpenError, open_place, set_aside};
+pub use sqlite_disk::{Start, Unknown};

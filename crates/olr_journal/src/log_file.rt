@@ -1,0 +1,192 @@
+//! A log in a file: text, and carriage returns behind it.
+
+ghost use Rattle.std.specs.Prelude.{◌≡◌, ◌⊎◌, ◌+◌, ◌-◌, ◌<◌, ◌≤◌, ℕ, List, ◌++◌, length, replicate, true, false, if◌then◌else◌, IsTrue, IfOk, OnOk, OnErr, IsNone, ⊤, MatchOption, Option};
+ghost use Rattle.sqlite_disk.specs.Disk.{Only};
+ghost use Rattle.olr_sessions.specs.Journals.{IsFront, is_whole};
+ghost use Rattle.olr_journal.specs.Texts.{ends_blank, padded};
+ghost use Rattle.olr_journal.specs.Files.{IsOpened, IsPadded, kept_in};
+ghost use Rattle.olr_journal.specs.Outcomes.{MayLeave, LeavesText};
+
+use crate::folder::Folder;
+use crate::writes::{extend, fill, put};
+use olr_sessions::Journal;
+use sqlite_disk::Disk;
+use std::io;
+
+/// A log in a file, which begins with an empty line. Behind its text the file is padded with carriage returns, over which
+/// records are written.
+#[derive(Drop)]
+pub struct LogFile<D: Disk, F: Folder<D>> {
+    pub(crate) disk: D,
+    pub(crate) folder: F,
+    /// The number of the file.
+    pub(crate) number: u64,
+    /// The next file, if it isn't known to which the name of the log leads.
+    pub(crate) rival: Option<D>,
+    /// The file begins with an empty line.
+    pub(crate) is_own: bool,
+    /// Nothing more can be kept.
+    pub(crate) is_broken: bool,
+    /// Records can be written behind the text.
+    pub(crate) is_settled: bool,
+    pub(crate) text_len: usize,
+    /// From this byte behind the first line on, an opened file has none but carriage returns.
+    pub(crate) last: usize,
+    pub(crate) file_len: usize,
+    /// The length from which on a text is replaced the next time.
+    pub(crate) least: usize,
+    /// The least length of a text that is replaced.
+    pub(crate) compact_at: usize,
+    /// Why it was not replaced, the last time.
+    pub(crate) refusal: Option<io::Error>,
+    /// Carriage returns.
+    pub(crate) returns: Vec<u8>,
+    ghost any_returns: { 0 < length returns.items },
+    ghost all_returns: { returns.items ≡ replicate (length returns.items) 13 },
+    ghost usable: { is_broken ≡ false → IsTrue (D.Disk.is_usable disk) },
+    ghost durable: { is_broken ≡ false → Only (D.Disk.seen disk) (D.Disk.may_leave disk) },
+    ghost led: { is_broken ≡ false → (n : ℕ) → F.Folder.may_lead folder n → n ≡ number },
+    ghost opened: { is_broken ≡ false → is_settled ≡ false → IsOpened is_own text_len last file_len (D.Disk.is_clean disk) (D.Disk.seen disk) },
+    ghost own: { is_settled ≡ true → (is_broken ≡ false) × (is_own ≡ true) },
+    ghost room: { is_settled ≡ true → (text_len + 1 < file_len) × (text_len + 1 ≤ length (D.Disk.seen disk)) },
+    ghost padded: { is_settled ≡ true → D.Disk.is_clean disk ≡ true → (length (D.Disk.seen disk) ≡ file_len) × IsPadded text_len (D.Disk.seen disk) },
+}
+
+/// Whether a text ends in an empty line.
+fn is_blank_at_end(text: &[u8]) -> bool
+    ensures { result ≡ ends_blank text.now }
+{
+    let mut before = b'\n';
+    let mut is_blank = false;
+    for byte in text {
+        is_blank = before == b'\n' && *byte == b'\n';
+        before = *byte;
+    }
+    is_blank
+}
+
+/// A file that was written beside the log and put in its place.
+#[derive(Drop)]
+struct Made<D: Disk> {
+    disk: D,
+    number: u64,
+    len: usize,
+    /// Why it isn't known whether the name of the log leads to it.
+    doubt: Option<io::Error>,
+}
+
+/// Writes records beside the log, and puts them in its place. After an error the name of the log leads where it did.
+fn write_in_place<D: Disk + Drop, F: Folder<D>>(
+    folder: &mut F,
+    old: u64,
+    records: &[u8],
+    returns: &[u8],
+) -> io::Result<Made<D>>
+    requires some { 0 < length returns.now }
+    requires returns { returns.now ≡ replicate (length returns.now) 13 }
+    ensures usable { IfOk result (λ made. IsTrue (D.Disk.is_usable made.disk)) }
+    ensures file { IfOk result (λ made. D.Disk.seen made.disk ≡ padded records.now (made.len - (length records.now + 1))) }
+    ensures len { IfOk result (λ made. length records.now + 1 < made.len) }
+    ensures durable { IfOk result (λ made. Only (D.Disk.seen made.disk) (D.Disk.may_leave made.disk)) }
+    ensures counts { IfOk result (λ made. ends_blank records.now ≡ false) }
+    ensures number { IfOk result (λ made. made.number ≡ old + 1) }
+    ensures refused { OnErr result ((n : ℕ) → F.Folder.may_lead folder.new n → F.Folder.may_lead folder.old n) }
+    ensures placed { IfOk result (λ made. IsNone made.doubt → (n : ℕ) → F.Folder.may_lead folder.new n → n ≡ old + 1) }
+    ensures either { (n : ℕ) → F.Folder.may_lead folder.new n → F.Folder.may_lead folder.old n ⊎ (n ≡ old + 1) }
+{
+    if is_blank_at_end(records) || old == u64::MAX {
+        return Err(io::ErrorKind::InvalidInput.into());
+    }
+    let number = old + 1;
+    let mut disk = folder.create_beside()?;
+    let len = match fill(&mut disk, records, returns) {
+        Ok(len) => len,
+        Err(error) => {
+            folder.remove_beside();
+            return Err(error);
+        }
+    };
+    match folder.put_in_place(number) {
+        Ok(None) => Ok(Made {
+            disk,
+            number,
+            len,
+            doubt: None,
+        }),
+        Ok(Some(error)) => {
+            folder.remove_beside();
+            Err(error)
+        }
+        Err(error) => Ok(Made {
+            disk,
+            number,
+            len,
+            doubt: Some(error),
+        }),
+    }
+}
+
+impl<D: Disk + Drop, F: Folder<D>> Journal for LogFile<D, F> {
+    ghost kept = { λ j. kept_in j.is_own j.text_len (D.Disk.seen j.disk) };
+
+    ghost may_leave = { λ j. MayLeave D.Disk.is_clean D.Disk.may_leave (F.Folder.may_lead j.folder) j.number j.disk j.rival };
+
+    fn keep(&mut self, records: &[u8]) -> io::Result<()> {
+        let is_settled = self.is_settled;
+        self.is_settled = false;
+        self.is_broken = true;
+        if !is_settled {
+            return Err(io::ErrorKind::InvalidInput.into());
+        }
+        if is_blank_at_end(records) {
+            return Err(io::ErrorKind::InvalidInput.into());
+        }
+        let at = self.text_len + 1;
+        let end = at
+            .checked_add(records.len())
+            .ok_or(io::ErrorKind::FileTooLarge)?;
+        self.file_len = extend(&mut self.disk, self.file_len, end, &self.returns)?;
+        put(&mut self.disk, at, records)?;
+        self.text_len += records.len();
+        self.is_broken = false;
+        self.is_settled = true;
+        Ok(())
+    }
+
+    fn replace(&mut self, records: &[u8]) -> io::Result<bool> {
+        if self.is_broken {
+            return Err(io::ErrorKind::InvalidInput.into());
+        }
+        let made = match write_in_place(&mut self.folder, self.number, records, &self.returns) {
+            Ok(made) => made,
+            Err(error) => {
+                self.least = self.text_len.saturating_mul(2);
+                self.refusal = Some(error);
+                return Ok(false);
+            }
+        };
+        if let Some(error) = made.doubt {
+            self.is_settled = false;
+            self.is_broken = true;
+            self.rival = Some(made.disk);
+            return Err(error);
+        }
+        self.disk = made.disk;
+        self.number = made.number;
+        self.rival = None;
+        self.is_own = true;
+        self.is_settled = true;
+        self.text_len = records.len();
+        self.file_len = made.len;
+        self.least = records.len().saturating_mul(2).max(self.compact_at);
+        Ok(true)
+    }
+
+    fn is_large(&self) -> bool {
+        self.text_len >= self.least
+    }
+
+    fn is_in_place(&self) -> bool {
+        self.folder.is_in_place(self.file_len)
+    }
+}

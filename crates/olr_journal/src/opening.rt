@@ -1,0 +1,142 @@
+//! Opening a log, and closing it.
+
+ghost use Rattle.std.specs.Prelude.{◌≡◌, ◌⊎◌, ◌+◌, true, false, ℕ, List, ◌∷◌, IsTrue, IfOk, OnOk};
+ghost use Rattle.std.specs.Io.KnownBytes.{Appends};
+ghost use Rattle.olr_sessions.specs.Journals.{Only};
+ghost use Rattle.olr_journal.specs.Texts.{text_of};
+
+use crate::folder::Folder;
+use crate::log_file::LogFile;
+use crate::reads::{copy_range, examine, read_exact};
+use crate::writes::{BLOCK, blank, carriage_returns, cut};
+use sqlite_disk::Disk;
+use std::alloc::Global;
+use std::io;
+use std::io::Write;
+
+impl<D: Disk + Drop, F: Folder<D>> LogFile<D, F> {
+    ghost use Rattle.olr_journal.specs.Logs.{kept_of, left_over_of, left_of, is_clean};
+
+    /// Syncs the file and finds the end of its text. It changes nothing. A text of `compact_at` bytes or more is to be replaced.
+    pub fn open(alloc: Global, disk: D, folder: F, compact_at: usize) -> io::Result<LogFile<D, F>>
+        requires usable { IsTrue (D.Disk.is_usable disk) }
+        requires named { (n : ℕ) → F.Folder.may_lead folder n → n ≡ 0 }
+        ensures text { IfOk result (λ log. is_clean log ≡ true → kept_of log ≡ text_of (D.Disk.seen disk)) }
+        ensures durable { IfOk result (λ log. Only (kept_of log) (left_of log)) }
+    {
+        let mut disk = disk;
+        let ends = examine(alloc, &mut disk)?;
+        let returns = carriage_returns(alloc, BLOCK)?;
+        Ok(LogFile {
+            disk,
+            folder,
+            number: 0,
+            rival: None,
+            is_own: ends.own,
+            is_broken: false,
+            is_settled: false,
+            text_len: ends.text_len,
+            last: ends.last,
+            file_len: ends.file_len,
+            least: compact_at,
+            compact_at,
+            refusal: None,
+            returns,
+        })
+    }
+
+    /// The folder of the log.
+    pub fn folder(&self) -> &F {
+        &self.folder
+    }
+
+    /// Whether the file begins with the empty line of the program's own files. If not, all of it is its text, and `replace` has
+    /// to give it its own form before anything is kept.
+    pub fn is_own(&self) -> bool {
+        self.is_own
+    }
+
+    /// How many bytes stand behind the text, up to the last that isn't a carriage return. They were never answered.
+    pub fn left_over(&self) -> usize {
+        if self.is_settled || !self.is_own {
+            return 0;
+        }
+        self.last.saturating_sub(self.text_len)
+    }
+
+    /// Writes these bytes.
+    pub fn copy_left_over<W: Write>(&mut self, alloc: Global, to: &mut W) -> io::Result<()>
+        ensures copied { OnOk result (is_clean self.new ≡ true → Appends (W.contents to.old) (W.contents to.new) (left_over_of self.old)) }
+        ensures kept { kept_of self.new ≡ kept_of self.old }
+        ensures less { (c : List ℕ) → left_of self.new c → left_of self.old c }
+    {
+        if self.is_settled || !self.is_own {
+            return Ok(());
+        }
+        if self.is_broken {
+            return Err(io::ErrorKind::InvalidInput.into());
+        }
+        copy_range(alloc, &mut self.disk, self.text_len + 1, self.last + 1, to)
+    }
+
+    /// Why the text was not replaced, the last time.
+    pub fn refusal(&self) -> Option<io::Error> {
+        self.refusal
+    }
+
+    /// Overwrites what stands behind the text by carriage returns, and syncs. From then on records can be kept.
+    pub fn settle(&mut self) -> io::Result<()>
+        ensures kept { OnOk result (is_clean self.new ≡ true → kept_of self.new ≡ kept_of self.old) }
+        ensures durable { OnOk result (Only (kept_of self.new) (left_of self.new)) }
+        ensures cut { (c : List ℕ) → left_of self.new c → left_of self.old c ⊎ (c ≡ kept_of self.old) }
+    {
+        if self.is_settled {
+            return Ok(());
+        }
+        if self.is_broken {
+            return Err(io::ErrorKind::InvalidInput.into());
+        }
+        if !self.is_own {
+            return Err(io::ErrorKind::InvalidInput.into());
+        }
+        self.is_broken = true;
+        let from = self.text_len + 1;
+        let to = from
+            .max(self.last)
+            .checked_add(1)
+            .ok_or(io::ErrorKind::FileTooLarge)?;
+        blank(&mut self.disk, from, to, &self.returns)?;
+        self.file_len = self.file_len.max(to);
+        self.is_broken = false;
+        self.is_settled = true;
+        Ok(())
+    }
+
+    /// The text.
+    pub fn text(&mut self, alloc: Global) -> io::Result<Vec<u8>>
+        ensures text { IfOk result (λ text. is_clean self.new ≡ true → text.items ≡ kept_of self.old) }
+        ensures kept { kept_of self.new ≡ kept_of self.old }
+        ensures less { (c : List ℕ) → left_of self.new c → left_of self.old c }
+    {
+        if self.is_broken {
+            return Err(io::ErrorKind::InvalidInput.into());
+        }
+        let mut text = vec![in alloc; 0u8; self.text_len]?;
+        read_exact(&mut self.disk, usize::from(self.is_own), &mut text)?;
+        Ok(text)
+    }
+
+    /// Cuts the padding off. Nothing more can be kept.
+    pub fn close(&mut self) -> io::Result<()>
+        ensures cut { (c : List ℕ) → left_of self.new c → left_of self.old c ⊎ (c ≡ kept_of self.old) }
+    {
+        if !self.is_settled {
+            return Ok(());
+        }
+        self.is_settled = false;
+        self.is_broken = true;
+        let end = self.text_len + 1;
+        cut(&mut self.disk, end + 1)?;
+        cut(&mut self.disk, end)
+    }
+}

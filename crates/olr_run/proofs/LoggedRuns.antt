@@ -1,0 +1,591 @@
+-- The log of a run, from the history of its session.
+use Rattle.olr_run.proofs.Common.{IfErr, IfSome, Outcome, Field, outcome_text, SoundOutcome, SoundOutcomes}
+use Rattle.olr_run.proofs.Common.{append-nil, append_assoc, length-map, Known, records_of}
+use Rattle.olr_run.proofs.Common.{Event, Took, Ended, Not_taken, Not_sent, Wrote, Cut, History, exchanges, RanIn, CutIn, Keeps}
+use Rattle.olr_run.proofs.Common.{Past_the_most, In_text, Appends, Reader, Registered, RunFault}
+use Rattle.std.proofs.Common.{◌≡◌, ◌≢◌, ◌∙◌, ℕ, Bool, false, List, [], ◌∷◌, ◌++◌, length, map, Some, None, refl, sym, ap, subst, arith}
+use Rattle.std.proofs.Common.{length-append}
+use Rattle.olr_commands.specs.State.{Content, State}
+use Rattle.std.specs.Io.KnownBytes.{append_known}
+use Rattle.olr_commands.specs.History.{Run}
+use Rattle.olr_run.specs.Runs.{In_taking, No_text}
+use Rattle.olr_run.specs.Runs as runs
+use Rattle.olr_run.specs.Logged.{UpTo}
+use Rattle.olr_run.specs.Logs.{Going, HoldsBatch, Logs, LogsSome, GoesOn, EndsIn, Began, LastsWhole, LastsCut}
+use Rattle.olr_run.specs.Logged.{Leads}
+use Rattle.olr_run.proofs.InputRuns.{Sees, cut_records, cut_texts, Gives, last_of, on_known_as}
+use Rattle.olr_sessions.proofs.SessionLemmas.{Starts}
+use Rattle.olr_run.proofs.Common.{HasTooMany}
+use Rattle.std.specs.Prelude.{IfOk, Ok, Err}
+use Rattle.olr_run.proofs.Logging.{logs_pass, logs_same, logs_settle, logs_longer, no_front, up_later}
+use Rattle.olr_sessions.specs.Buffers.{held, written}
+use Rattle.olr_sessions.specs.Gates.{Passes, ready, is_closed}
+use Rattle.olr_sessions.specs.KeptLines.{Waiting}
+use Rattle.olr_sessions.specs.Unkept.{waiting}
+use Rattle.olr_sessions.specs.LoggedRuns.{LogHappens}
+use Rattle.olr_sessions.specs.declared.buffered.Buffered.{Buffered}
+use Rattle.olr_sessions.specs.declared.gate.Gate.{Gate}
+use Rattle.olr_sessions.specs.declared.lines.Lines.{Lines}
+use Rattle.olr_sessions.specs.declared.logged.Logged.{Logged}
+use Rattle.olr_sessions.specs.declared.ends.Status.{Status}
+use Rattle.olr_sessions.specs.declared.ends.Status.TheVariants as ended
+use Rattle.olr_sessions.proofs.Writing.{took_nothing}
+use Rattle.std.proofs.Common.{inl}
+use Rattle.std.proofs.KnownBytes.{Appends-nil}
+use Rattle.std.proofs.Math.Bool.{and-false}
+use Rattle.olr_commands.specs.State.{Change, IsContent}
+use Rattle.std.proofs.KnownBytes.{Appends-kept}
+use Rattle.std.specs.Prelude.{Option, Result}
+use Rattle.olr_run.proofs.Common.{Records}
+use Rattle.olr_run.proofs.Common.{RanOn, FaultedOn, known_records, csv_on_literals}
+use Rattle.olr_run.specs.Logs.{LogsOn, LogsUpTo}
+use Rattle.olr_run.specs.Output as output
+use Rattle.olr_run.proofs.Joining.{Longer, Joins, longer, joined_claims, both_stopped_as, both_ran_as}
+use Rattle.olr_run.proofs.Joining.{both_faulted_first_as, both_faulted_second_as}
+use Rattle.olr_run.proofs.Common.{known_both, status_of}
+use Rattle.olr_run.proofs.RunLemmas.{claims_of}
+use Rattle.olr_run.proofs.Running.{represented}
+use Rattle.olr_sessions.specs.declared.ends.RunFault.TheVariants as fault
+
+-- the last step of a run
+run_split : {A : Type 0} (P : State → A → Outcome → State → Type 0) (s t : State) (xs : List A) (x : A)
+    (os : List Outcome) (o : Outcome) → length os ≡ length xs → Run P s (xs ++ x ∷ []) (os ++ o ∷ []) t →
+    (m : State) × Run P s xs os m × P m x o t
+run_split P s t [] x [] o l h = (s, refl, subst (λ (u : State). P s x o u) h.2 h.1)
+run_split P s t [] x (k ∷ os) o l h = absurd (omega arith)
+run_split P s t (y ∷ xs) x [] o l h = absurd (omega arith)
+run_split P s t (y ∷ xs) x (k ∷ os) o l h =
+    let r = run_split P h.0 t xs x os o (omega arith) h.2 in (r.0, (h.0, h.1, r.1), r.2)
+
+-- ---- what is written
+
+known_writes : (d e : Known) (sent o p text : List ℕ) → Appends d e sent → o ++ text ≡ sent ++ p →
+    Appends (append_known d o) (append_known e p) text
+known_writes None e sent o p text a b = tt
+known_writes (Some d) None sent o p text a b = absurd a
+known_writes (Some d) (Some e) sent o p text a b =
+    ap (λ (x : List ℕ). x ++ p) a ∙ append_assoc d sent p ∙ ap (λ (x : List ℕ). d ++ x) (sym b)
+    ∙ sym (append_assoc d o text)
+
+module _ {J W : Type 0} {kept : J → List ℕ} {may_leave : J → List ℕ → Type 0} {contents : W → Known} where
+  passes_writes : (g h : Gate J) (o p : Buffered W) (text : List ℕ) → Passes kept may_leave contents g o h p text →
+      Appends (written contents o) (written contents p) text
+  passes_writes g h o p text a = known_writes (contents o.device) (contents p.device) a.sent (held o) (held p) text a.device a.bytes
+
+  passes_keeps : (g h : Gate J) (o p : Buffered W) → Passes kept may_leave contents g o h p [] →
+      Keeps (written contents o) (written contents p)
+  passes_keeps g h o p a = took_nothing (written contents o) (written contents p) (passes_writes g h o p [] a)
+
+module _ {R W J : Type 0} (remaining : Lines R → Known) (contents : W → Known) (kept : J → List ℕ)
+    (may_leave : J → List ℕ → Type 0) where
+  abbrev pub Happens : Logged R J × Buffered W → Event → Logged R J × Buffered W → Type 0
+  Happens a e b = LogHappens remaining contents kept may_leave a.0 a.1 b.0 b.1 e
+
+  abbrev pub reader_of : Logged R J × Buffered W → Reader (Lines R)
+  reader_of p = p.0.reader
+
+  abbrev pub written_of : Logged R J × Buffered W → Known
+  written_of p = written contents p.1
+
+  pub log_sees : (a b : Logged R J × Buffered W) (e : Event) → Happens a e b →
+      Sees remaining (reader_of a) (reader_of b) (written_of a) (written_of b) e
+  log_sees a b (Took fields) h = (h.3, passes_keeps a.0.gate h.0 a.1 b.1 h.1)
+  log_sees a b Ended h = (h.1, passes_keeps a.0.gate b.0.gate a.1 b.1 h.0)
+  log_sees a b (Not_taken e) h = passes_keeps a.0.gate h.0 a.1 b.1 h.1
+  log_sees a b Not_sent h = passes_keeps a.0.gate b.0.gate a.1 b.1 h.1
+  log_sees a b (Wrote text) h = (h.0, passes_writes h.1.0 b.0.gate a.1 b.1 text h.1.2)
+  log_sees a b (Cut front rest) h = (h.0, passes_writes h.1.0 b.0.gate a.1 b.1 front h.1.2)
+
+  module _ (base : Known) (s : State) where
+    abbrev Log : List (List Field) → List Outcome → State → List ℕ → Logged R J × Buffered W → Type 0
+    Log rs os t unwritten m = Logs kept may_leave contents base s rs os t unwritten m.0.gate m.1
+
+    log_passes : (rs : List (List Field)) (os : List Outcome) (t : State) (m n : Logged R J × Buffered W) →
+        Log rs os t [] m → Passes kept may_leave contents m.0.gate m.1 n.0.gate n.1 [] → Log rs os t [] n
+    log_passes rs os t m n a p =
+        logs_pass kept may_leave contents base s rs os t [] [] m.0.gate n.0.gate m.1 n.1 a p
+
+    log_took : (rs : List (List Field)) (os : List Outcome) (t : State) (r : List Field) (m n : Logged R J × Buffered W) →
+        Log rs os t [] m → Happens m (Took r) n → Log rs os t [] n
+    log_took rs os t r m n a h =
+        logs_same kept may_leave contents base s rs os t [] h.0 n.0.gate n.1 h.2.untouched h.2.waits
+        (logs_pass kept may_leave contents base s rs os t [] [] m.0.gate h.0 m.1 n.1 a h.1)
+
+    log_lost : (rs : List (List Field)) (os : List Outcome) (t : State) (e : RunFault) (m n : Logged R J × Buffered W) →
+        Log rs os t [] m → Happens m (Not_taken e) n → Log rs os t [] n
+    log_lost rs os t e m n a h =
+        logs_same kept may_leave contents base s rs os t [] h.0 n.0.gate n.1 h.2.untouched h.2.waits
+        (logs_pass kept may_leave contents base s rs os t [] [] m.0.gate h.0 m.1 n.1 a h.1)
+
+    -- a record whose text is written, or only its first bytes
+    log_cut : (rs : List (List Field)) (os : List Outcome) (t u : State) (r : List Field) (o : Outcome)
+        (front rest : List ℕ) (m k n : Logged R J × Buffered W) → length os ≡ length rs → Log rs os t [] m →
+        SoundOutcome t r o u → outcome_text o ≡ front ++ rest → Happens m (Took r) k → Happens k (Cut front rest) n
+        → Log (rs ++ r ∷ []) (os ++ o ∷ []) u rest n
+    log_cut rs os t u r o front rest m k n size a one is h cut =
+        logs_pass kept may_leave contents base s (rs ++ r ∷ []) (os ++ o ∷ []) u front rest cut.1.0 n.0.gate k.1 n.1
+        (logs_settle kept may_leave contents base s rs os t u r o (front ++ rest) k.0.gate cut.1.0 k.1 size one is
+        h.2.effect h.2.line (log_took rs os t r m k a h) cut.1.1) cut.1.2
+
+    log_wrote : (rs : List (List Field)) (os : List Outcome) (t u : State) (r : List Field) (o : Outcome)
+        (text : List ℕ) (m k n : Logged R J × Buffered W) → length os ≡ length rs → Log rs os t [] m →
+        SoundOutcome t r o u → outcome_text o ≡ text → Happens m (Took r) k → Happens k (Wrote text) n
+        → Log (rs ++ r ∷ []) (os ++ o ∷ []) u [] n
+    log_wrote rs os t u r o text m k n size a one is h wrote =
+        logs_pass kept may_leave contents base s (rs ++ r ∷ []) (os ++ o ∷ []) u text [] wrote.1.0 n.0.gate k.1 n.1
+        (subst (λ (x : List ℕ). Logs kept may_leave contents base s (rs ++ r ∷ []) (os ++ o ∷ []) u x wrote.1.0 k.1)
+        (sym (append-nil text))
+        (logs_settle kept may_leave contents base s rs os t u r o text k.0.gate wrote.1.0 k.1 size one is
+        h.2.effect h.2.line (log_took rs os t r m k a h) wrote.1.1)) wrote.1.2
+
+    log_exchanged : (rs : List (List Field)) (ws : List (List ℕ)) (es : List Event) (m b : Logged R J × Buffered W)
+        (dn : List (List Field)) (dos : List Outcome) (t u : State) (os : List Outcome) → length dos ≡ length dn →
+        map outcome_text os ≡ ws → length ws ≡ length rs → Log dn dos t [] m → SoundOutcomes t rs os u →
+        History Happens m (exchanges rs ws ++ es) b
+        → (n : Logged R J × Buffered W) × Log (dn ++ rs) (dos ++ os) u [] n × History Happens n es b
+    log_exchanged [] [] es m b dn dos t u [] size is l a run h =
+        (m, rw (append-nil dn, append-nil dos) (subst (λ (x : State). Log dn dos x [] m) run a), h)
+    log_exchanged (r ∷ rs) (w ∷ ws) es m b dn dos t u (o ∷ os) size is l a run h =
+        let first : outcome_text o ≡ w = cc in
+        let rest : map outcome_text os ≡ ws = cc in
+        let now = log_wrote dn dos t run.0 r o w m h.0 h.2.0 size a run.1 first h.1 h.2.1 in
+        let grown : length (dos ++ o ∷ []) ≡ length (dn ++ r ∷ []) = grind (arith, length-append) in
+        rw (← append_assoc dn (r ∷ []) rs, ← append_assoc dos (o ∷ []) os)
+        (log_exchanged rs ws es h.2.0 b (dn ++ r ∷ []) (dos ++ o ∷ []) run.0 u os grown rest (omega arith) now run.2 h.2.2)
+    log_exchanged [] (w ∷ ws) es m b dn dos t u os size is l a run h = absurd (omega arith)
+    log_exchanged (r ∷ rs) [] es m b dn dos t u os size is l a run h = absurd (omega arith)
+    log_exchanged [] [] es m b dn dos t u (o ∷ os) size is l a run h = absurd cc
+    log_exchanged (r ∷ rs) (w ∷ ws) es m b dn dos t u [] size is l a run h = absurd cc
+
+  -- ---- whole runs
+
+  module _ (stop : Bool) (old new : Registered) (a b : Logged R J × Buffered W) (all : List (List Field)) where
+    with_rest : (base : Known) (s t : State) (rs0 rs rest : List (List Field)) (os : List Outcome) (unwritten : List ℕ) →
+        all ≡ rs ++ rest → Logs kept may_leave contents base s (rs0 ++ rs) os t unwritten b.0.gate b.1 →
+        Logs kept may_leave contents base s (rs0 ++ all) os t unwritten b.0.gate b.1
+    with_rest base s t rs0 rs rest os unwritten is l =
+        rw (is, ← append_assoc rs0 rs rest) (logs_longer kept may_leave contents base s (rs0 ++ rs) rest os t unwritten b.0.gate b.1 l)
+
+    pub gives_whole : (end : Status) (h : RanIn Happens stop old a new b end) →
+        Gives (GoesOn kept may_leave contents a.0.gate a.1 b.0.gate b.1) all h.records h.texts
+    gives_whole ended.Stopped h s t rest os is claims run texts base s0 rs0 os0 size l =
+        let x = log_exchanged base s0 h.records h.texts [] a b rs0 os0 s t os size texts h.each l run h.history in
+        with_rest base s0 t rs0 h.records rest (os0 ++ os) [] is
+        (subst (λ (m : Logged R J × Buffered W).
+        Logs kept may_leave contents base s0 (rs0 ++ h.records) (os0 ++ os) t [] m.0.gate m.1) x.2 x.1)
+    gives_whole end h s t rest os is claims run texts base s0 rs0 os0 size l =
+        let x = log_exchanged base s0 h.records h.texts (Ended ∷ []) a b rs0 os0 s t os size texts h.each l run h.history in
+        let now = log_passes base s0 (rs0 ++ h.records) (os0 ++ os) t x.0 x.2.0 x.1 x.2.1.0 in
+        with_rest base s0 t rs0 h.records rest (os0 ++ os) [] is
+        (subst (λ (m : Logged R J × Buffered W).
+        Logs kept may_leave contents base s0 (rs0 ++ h.records) (os0 ++ os) t [] m.0.gate m.1) x.2.2 now)
+
+    logs_at : (base : Known) (s0 t : State) (rs qs : List (List Field)) (os ps : List Outcome) (unwritten : List ℕ)
+        (m : Logged R J × Buffered W) → rs ≡ qs → os ≡ ps →
+        Logs kept may_leave contents base s0 rs os t unwritten m.0.gate m.1
+        → Logs kept may_leave contents base s0 qs ps t unwritten m.0.gate m.1
+    logs_at base s0 t rs qs os ps unwritten m e f l =
+        subst (λ (x : List (List Field) × List Outcome).
+        Logs kept may_leave contents base s0 x.0 x.1 t unwritten m.0.gate m.1) (λ n. (e n, f n)) l
+
+    some_logs : (base : Known) (s0 u : State) (rs0 rs rest : List (List Field)) (os0 os first late : List Outcome)
+        (unwritten : List ℕ) (m : Logged R J × Buffered W) → all ≡ rs ++ rest → os ≡ first ++ late → m ≡ b →
+        Logs kept may_leave contents base s0 (rs0 ++ rs) (os0 ++ first) u unwritten m.0.gate m.1
+        → LogsSome kept may_leave contents base s0 (rs0 ++ all) (os0 ++ os) b.0.gate b.1
+    some_logs base s0 u rs0 rs rest os0 os first late unwritten m is splits same l =
+        record {
+          first = os0 ++ first;
+          later = late;
+          splits = ap (λ (x : List Outcome). os0 ++ x) splits ∙ sym (append_assoc os0 first late);
+          state = u;
+          unwritten = unwritten;
+          logs = with_rest base s0 u rs0 rs rest (os0 ++ first) unwritten is
+              (subst (λ (x : Logged R J × Buffered W).
+              Logs kept may_leave contents base s0 (rs0 ++ rs) (os0 ++ first) u unwritten x.0.gate x.1) same l);
+        }
+
+    pub gives_part : (e : RunFault) (h : CutIn Happens stop old a new b e) →
+        Gives (EndsIn kept may_leave contents a.0.gate a.1 b.0.gate b.1) all (cut_records h) (cut_texts h)
+    gives_part e (In_taking of rs ws each history answered) s t rest os is claims run texts base s0 rs0 os0 size l =
+        let x = log_exchanged base s0 rs ws (Not_taken e ∷ []) a b rs0 os0 s t os size texts each l run history in
+        some_logs base s0 t rs0 rs rest os0 os os [] [] x.2.0 is (sym (append-nil os)) x.2.2
+        (log_lost base s0 (rs0 ++ rs) (os0 ++ os) t e x.0 x.2.0 x.1 x.2.1)
+    gives_part e (runs.Not_sent write rs ws each history answered) s t rest os is claims run texts base s0 rs0 os0 size l =
+        let x = log_exchanged base s0 rs ws (Not_sent ∷ []) a b rs0 os0 s t os size texts each l run history in
+        some_logs base s0 t rs0 rs rest os0 os os [] [] x.2.0 is (sym (append-nil os)) x.2.2
+        (log_passes base s0 (rs0 ++ rs) (os0 ++ os) t x.0 x.2.0 x.1 x.2.1.1)
+    gives_part e (Past_the_most many rs ws each most r history answered) s t rest os is claims run texts base s0 rs0 os0 size l =
+        let x = log_exchanged base s0 rs ws (Took r ∷ []) a b rs0 os0 s t os size texts each l run history in
+        some_logs base s0 t rs0 rs rest os0 os os [] [] x.2.0 is (sym (append-nil os)) x.2.2
+        (log_took base s0 (rs0 ++ rs) (os0 ++ os) t r x.0 x.2.0 x.1 x.2.1)
+    gives_part e (No_text memory rs ws each r w history answered) s t rest os is claims run texts base s0 rs0 os0 size l =
+        let o = last_of os ws w texts in
+        let short : length o.0 ≡ length rs = sym (length-map o.0 outcome_text) ∙ ap length o.3 ∙ each in
+        let two = run_split SoundOutcome s t rs r o.0 o.1 short
+        (subst (λ (x : List Outcome). SoundOutcomes s (rs ++ r ∷ []) x t) o.2 run) in
+        let x = log_exchanged base s0 rs ws (Took r ∷ []) a b rs0 os0 s two.0 o.0 size o.3 each l two.1 history in
+        some_logs base s0 two.0 rs0 rs (r ∷ rest) os0 os o.0 (o.1 ∷ []) [] x.2.0
+        (is ∙ append_assoc rs (r ∷ []) rest) o.2 x.2.2
+        (log_took base s0 (rs0 ++ rs) (os0 ++ o.0) two.0 r x.0 x.2.0 x.1 x.2.1)
+    gives_part e (In_text write rs ws each r front late some history answered) s t rest os is claims run texts base s0 rs0 os0 size l =
+        let o = last_of os ws (front ++ late) texts in
+        let short : length o.0 ≡ length rs = sym (length-map o.0 outcome_text) ∙ ap length o.3 ∙ each in
+        let two = run_split SoundOutcome s t rs r o.0 o.1 short
+        (subst (λ (x : List Outcome). SoundOutcomes s (rs ++ r ∷ []) x t) o.2 run) in
+        let x = log_exchanged base s0 rs ws (Took r ∷ Cut front late ∷ []) a b rs0 os0 s two.0 o.0 size o.3 each l two.1 history in
+        let grown : length (os0 ++ o.0) ≡ length (rs0 ++ rs) = grind (arith, length-append) in
+        let now = log_cut base s0 (rs0 ++ rs) (os0 ++ o.0) two.0 t r o.1 front late x.0 x.2.0 x.2.2.0 grown x.1 two.2 o.4 x.2.1 x.2.2.1 in
+        some_logs base s0 t rs0 (rs ++ r ∷ []) rest os0 os os [] late x.2.2.0 is (sym (append-nil os)) x.2.2.2
+        (logs_at base s0 t ((rs0 ++ rs) ++ r ∷ []) (rs0 ++ (rs ++ r ∷ [])) ((os0 ++ o.0) ++ o.1 ∷ []) (os0 ++ os) late
+        x.2.2.0 (append_assoc rs0 rs (r ∷ []))
+        (append_assoc os0 o.0 (o.1 ∷ []) ∙ ap (λ (y : List Outcome). os0 ++ y) (sym o.2)) now)
+
+-- what a run with a log says of the known bytes of its input
+module _ {R W J : Type 0} (remaining : Lines R → Known) (contents : W → Known) (kept : J → List ℕ)
+    (may_leave : J → List ℕ → Type 0) (stop : Bool) (old new : Registered) (a b : Logged R J × Buffered W) where
+  abbrev Whole : State → List (List Field) → List Outcome → State → Type 0
+  Whole s rs os t = LogsOn kept may_leave contents a.0.gate a.1 b.0.gate b.1 s rs os t
+
+  abbrev Part : State → List (List Field) → List Outcome → State → Type 0
+  Part s rs os t = LogsUpTo kept may_leave contents a.0.gate a.1 b.0.gate b.1 s rs os t
+
+  known_whole : (known : Known) (r : Result Status RunFault) → IfSome known (λ input. IfOk r (λ end.
+      (h : RanIn (Happens remaining contents kept may_leave) stop old a new b end) →
+      Gives Whole (records_of input) h.records h.texts))
+  known_whole (Some input) (Ok end) = λ h s t rest os is claims run texts.
+      (claims, gives_whole remaining contents kept may_leave stop old new a b (records_of input) end h s t rest os is claims run texts)
+  known_whole (Some input) (Err e) = tt
+  known_whole None r = tt
+
+  known_part : (known : Known) (r : Result Status RunFault) → IfSome known (λ input. IfErr r (λ e.
+      (h : CutIn (Happens remaining contents kept may_leave) stop old a new b e) →
+      Gives Part (records_of input) (cut_records h) (cut_texts h)))
+  known_part (Some input) (Ok end) = tt
+  known_part (Some input) (Err e) = λ h s t rest os is claims run texts.
+      (claims, gives_part remaining contents kept may_leave stop old new a b (records_of input) e h s t rest os is claims run texts)
+  known_part None r = tt
+
+  both_known : (known : Known) (r : Result Status RunFault) → IsContent old.kept.content →
+      Starts remaining a.0.reader known → IfOk r (RanIn (Happens remaining contents kept may_leave) stop old a new b)
+      → IfErr r (CutIn (Happens remaining contents kept may_leave) stop old a new b)
+      → IfOk r (RanOn (LogsOn kept may_leave contents a.0.gate a.1 b.0.gate b.1) stop old (known_records known)
+      (written contents a.1) new (written contents b.1))
+      × IfErr r (FaultedOn (LogsUpTo kept may_leave contents a.0.gate a.1 b.0.gate b.1) stop old (known_records known)
+      (written contents a.1) new (written contents b.1))
+      × IfErr r (λ e. e ≡ fault.TooMany → HasTooMany known)
+  both_known known r base starts h k =
+      on_known_as remaining (reader_of remaining contents kept may_leave) (written_of remaining contents kept may_leave)
+      (Happens remaining contents kept may_leave) (log_sees remaining contents kept may_leave) Whole Part stop old new a b
+      known r base starts (known_whole known r) (known_part known r) h k
+
+  pub log_known : (known : Known) (r : Result Status RunFault) (g h : Gate J) → IsContent old.kept.content →
+      Starts remaining a.0.reader known → a.0.gate ≡ g → h ≡ b.0.gate → IfOk r (RanIn (Happens remaining contents kept may_leave) stop old a new b)
+      → IfErr r (CutIn (Happens remaining contents kept may_leave) stop old a new b)
+      → IfOk r (RanOn (LogsOn kept may_leave contents g a.1 h b.1) stop old (known_records known)
+      (written contents a.1) new (written contents b.1))
+      × IfErr r (FaultedOn (LogsUpTo kept may_leave contents g a.1 h b.1) stop old (known_records known)
+      (written contents a.1) new (written contents b.1))
+      × IfErr r (λ e. e ≡ fault.TooMany → HasTooMany known)
+  log_known known r g h base starts first last ran cut =
+      subst (λ (x : Gate J × Gate J).
+      IfOk r (RanOn (LogsOn kept may_leave contents x.0 a.1 x.1 b.1) stop old (known_records known)
+      (written contents a.1) new (written contents b.1))
+      × IfErr r (FaultedOn (LogsUpTo kept may_leave contents x.0 a.1 x.1 b.1) stop old (known_records known)
+      (written contents a.1) new (written contents b.1))
+      × IfErr r (λ e. e ≡ fault.TooMany → HasTooMany known)) (λ n. (first n, sym last n)) (both_known known r base starts ran cut)
+
+-- ---- two runs
+
+module _ {J W : Type 0} (kept : J → List ℕ) (may_leave : J → List ℕ → Type 0) (contents : W → Known) where
+  pub goes_longer : (g h : Gate J) (o p : Buffered W) →
+      Longer (LogsOn kept may_leave contents g o h p) (LogsOn kept may_leave contents g o h p)
+  goes_longer g h o p s t rs ms os i a = (
+    longer s t rs ms os i a.0,
+    λ base s0 rs0 os0 size l.
+        subst (λ (x : List (List Field)). Logs kept may_leave contents base s0 x (os0 ++ os) t [] h p)
+        (append_assoc rs0 rs ms)
+        (logs_longer kept may_leave contents base s0 (rs0 ++ rs) ms (os0 ++ os) t [] h p (a.1 base s0 rs0 os0 size l)),
+  )
+
+  some_longer : (base : Known) (s : State) (rs ms : List (List Field)) (os : List Outcome) (g : Gate J) (o : Buffered W) →
+      LogsSome kept may_leave contents base s rs os g o → LogsSome kept may_leave contents base s (rs ++ ms) os g o
+  some_longer base s rs ms os g o a =
+      record {
+        first = a.first;
+        later = a.later;
+        splits = a.splits;
+        state = a.state;
+        unwritten = a.unwritten;
+        logs = logs_longer kept may_leave contents base s rs ms a.first a.state a.unwritten g o a.logs;
+      }
+
+  pub ends_longer : (g h : Gate J) (o p : Buffered W) →
+      Longer (LogsUpTo kept may_leave contents g o h p) (LogsUpTo kept may_leave contents g o h p)
+  ends_longer g h o p s t rs ms os i a = (
+    longer s t rs ms os i a.0,
+    λ base s0 rs0 os0 size l.
+        subst (λ (x : List (List Field)). LogsSome kept may_leave contents base s0 x (os0 ++ os) h p)
+        (append_assoc rs0 rs ms) (some_longer base s0 (rs0 ++ rs) ms (os0 ++ os) h p (a.1 base s0 rs0 os0 size l)),
+  )
+
+  both_sizes : (rs0 rs : List (List Field)) (os0 os : List Outcome) → length os0 ≡ length rs0 → length os ≡ length rs →
+      length (os0 ++ os) ≡ length (rs0 ++ rs)
+  both_sizes rs0 rs os0 os a b = grind (arith, length-append)
+
+  pub goes_joined : (g h i : Gate J) (o p q : Buffered W) →
+      Joins (LogsOn kept may_leave contents g o h p) (LogsOn kept may_leave contents h p i q)
+      (LogsOn kept may_leave contents g o i q)
+  goes_joined g h i o p q s t u rs ms os qs sound whole a b = (
+    joined_claims s t u rs ms os qs sound whole a.0 b.0,
+    λ base s0 rs0 os0 size l.
+        rw (← append_assoc rs0 rs ms, ← append_assoc os0 os qs)
+        (b.1 base s0 (rs0 ++ rs) (os0 ++ os) (both_sizes rs0 rs os0 os size whole) (a.1 base s0 rs0 os0 size l)),
+  )
+
+  pub ends_joined : (g h i : Gate J) (o p q : Buffered W) →
+      Joins (LogsOn kept may_leave contents g o h p) (LogsUpTo kept may_leave contents h p i q)
+      (LogsUpTo kept may_leave contents g o i q)
+  ends_joined g h i o p q s t u rs ms os qs sound whole a b = (
+    joined_claims s t u rs ms os qs sound whole a.0 b.0,
+    λ base s0 rs0 os0 size l.
+        rw (← append_assoc rs0 rs ms, ← append_assoc os0 os qs)
+        (b.1 base s0 (rs0 ++ rs) (os0 ++ os) (both_sizes rs0 rs os0 os size whole) (a.1 base s0 rs0 os0 size l)),
+  )
+
+  -- the ends of both
+  pub both_cut_first : (g h : Gate J) (o p : Buffered W) (stop : Bool) (old mid : Registered) (first second : Records)
+      (before now : Known) (e : RunFault) (r : Result Status RunFault) → IsContent old.kept.content → r ≡ Err e
+      → IfErr r (FaultedOn (LogsUpTo kept may_leave contents g o h p) stop old first before mid now)
+      → FaultedOn (LogsUpTo kept may_leave contents g o h p) stop old (known_both first second) before mid now e
+  both_cut_first g h o p stop old mid first second before now e r base is f =
+      both_faulted_first_as (LogsUpTo kept may_leave contents g o h p) (LogsUpTo kept may_leave contents g o h p)
+      (LogsUpTo kept may_leave contents g o h p) (ends_longer g h o p) stop old mid first second before now e base
+      (rw is at f)
+
+  pub both_stopped_first : (g h : Gate J) (o p : Buffered W) (stop : Bool) (old mid : Registered) (first second : Records)
+      (before now : Known) (end : Status) (r : Result Status RunFault) → IsContent old.kept.content → r ≡ Ok end →
+      end ≡ ended.Stopped
+      → IfOk r (RanOn (LogsOn kept may_leave contents g o h p) stop old first before mid now)
+      → RanOn (LogsOn kept may_leave contents g o h p) stop old (known_both first second) before mid now end
+  both_stopped_first g h o p stop old mid first second before now end r base is stopped f =
+      both_stopped_as (LogsOn kept may_leave contents g o h p) (LogsOn kept may_leave contents g o h p)
+      (LogsOn kept may_leave contents g o h p) (goes_longer g h o p) stop old mid first second before now end base
+      (rw is at f) stopped
+
+  module _ (g h i : Gate J) (o p q : Buffered W) (stop : Bool) (old mid new : Registered) (first second : Records)
+      (before now later : Known) (one : Status) (r s : Result Status RunFault) (base : IsContent old.kept.content)
+      (is : r ≡ Ok one) (goes : one ≢ ended.Stopped)
+      (f : IfOk r (RanOn (LogsOn kept may_leave contents g o h p) stop old first before mid now)) where
+    pub both_went : (two end : Status) → s ≡ Ok two → status_of end ≡ output.greater (status_of one) (status_of two)
+        → IfOk s (RanOn (LogsOn kept may_leave contents h p i q) stop mid second now new later)
+        → RanOn (LogsOn kept may_leave contents g o i q) stop old (known_both first second) before new later end
+    both_went two end same status k =
+        both_ran_as (LogsOn kept may_leave contents g o h p) (LogsOn kept may_leave contents h p i q)
+        (LogsOn kept may_leave contents g o i q) (goes_joined g h i o p q) stop old mid new first second before now later
+        one two end base (rw is at f) goes (rw same at k) status
+
+    pub both_cut_second : (e : RunFault) → s ≡ Err e
+        → IfErr s (FaultedOn (LogsUpTo kept may_leave contents h p i q) stop mid second now new later)
+        → FaultedOn (LogsUpTo kept may_leave contents g o i q) stop old (known_both first second) before new later e
+    both_cut_second e same k =
+        both_faulted_second_as (LogsOn kept may_leave contents g o h p) (LogsUpTo kept may_leave contents h p i q)
+        (LogsUpTo kept may_leave contents g o i q) (ends_joined g h i o p q) stop old mid new first second before now later
+        one e base (rw is at f) goes (rw same at k)
+
+  -- no records
+  goes_none : (g : Gate J) (o : Buffered W) (s : State) → GoesOn kept may_leave contents g o g o s [] [] s
+  goes_none g o s base s0 rs0 os0 size l = rw (append-nil rs0, append-nil os0) l
+
+  pub none_logged : (g : Gate J) (o : Buffered W) (stop : Bool) (old : Registered) (before : Known) →
+      IsContent old.kept.content →
+      RanOn (LogsOn kept may_leave contents g o g o) stop old (known_records (Some [])) before old before ended.AllAccepted
+  unfolding csv_on_literals
+  none_logged g o stop old before base s represents = (
+    s,
+    represents,
+    [],
+    Appends-nil before,
+    record {
+      outcomes = [];
+      each = (claims_of s [] [] s (represented old s base represents) refl, goes_none g o s);
+      stops = tt;
+      all = inl refl;
+      wrote = refl;
+      ended = refl;
+    },
+  )
+
+  -- out of memory before the first record
+  pub cut_logged : (g : Gate J) (o : Buffered W) (stop : Bool) (old : Registered) (before known : Known) (e : RunFault) →
+      IsContent old.kept.content → e ≡ fault.Memory
+      → FaultedOn (LogsUpTo kept may_leave contents g o g o) stop old (known_records known) before old before e
+  cut_logged g o stop old before None e base memory = tt
+  cut_logged g o stop old before (Some input) e base memory = λ s represents. (
+    s,
+    represents,
+    [],
+    Appends-nil before,
+    record {
+      outcomes = [];
+      each = (
+        claims_of s (records_of input) [] s (represented old s base represents) refl,
+        λ from s0 rs0 os0 size l.
+            record {
+              first = os0 ++ [];
+              later = [];
+              splits = sym (append-nil (os0 ++ []));
+              state = s;
+              unwritten = [];
+              logs = logs_longer kept may_leave contents from s0 rs0 (records_of input) (os0 ++ []) s [] g o
+                  (rw (append-nil os0) l);
+            },
+      );
+      stops = tt;
+      wrote = output.Before_next (λ write. let never : fault.Memory ≡ fault.Write = sym memory ∙ write in cc)
+          (and-false stop) refl;
+    },
+  )
+
+-- ---- from the start to the end
+
+module _ {J W : Type 0} (kept : J → List ℕ) (may_leave : J → List ℕ → Type 0) (contents : W → Known) (s : State)
+    (j : J) (o : Buffered W) (k : Began kept may_leave contents s j o) where
+  first_up : (c : Content) → s.content ≡ c → UpTo s [] [] c []
+  first_up c is =
+      record { first = []; later = []; splits = refl; state = s; run = refl; content = is; unsent = []; texts_are = refl }
+
+  pub logs_start : (g : Gate J) → g.journal ≡ j → waiting g.unkept ≡ record { ready = []; batch = [] } →
+      Logs kept may_leave contents (contents o.device) s [] [] s [] g o
+  logs_start g is none =
+      record {
+        run = refl;
+        sent = [];
+        device = Appends-nil (contents o.device);
+        bytes = sym (append-nil (held o) ∙ k.none_held);
+        survives = λ text m. (
+          s.content,
+          subst (λ (x : List ℕ). Leads x s.content) (sym (k.only text (subst (λ (x : J). may_leave x text) is m))) k.leads,
+          first_up s.content refl,
+        );
+        going = λ _.
+            subst (λ (x : J × Waiting). Going kept may_leave contents s [] [] s [] x.0 x.1.ready x.1.batch)
+            (λ n. (sym is n, sym none n))
+            (record {
+              only = k.only;
+              fronts = λ front f. (
+                s.content,
+                subst (λ (x : List ℕ). Leads x s.content)
+                    (sym (ap (λ (x : List ℕ). kept j ++ x) (no_front [] front refl f) ∙ append-nil (kept j))) k.leads,
+                first_up s.content refl,
+              );
+              all = subst (λ (x : List ℕ). Leads x s.content) (sym (append-nil (kept j))) k.leads;
+              batches = subst (λ (b : Option (List Change)). HoldsBatch s.content b []) (sym k.closed_batch) refl;
+            });
+      }
+
+module _ {J W : Type 0} (kept : J → List ℕ) (may_leave : J → List ℕ → Type 0) (contents : W → Known) (j : J)
+    (o p q : Buffered W) (g h i : Gate J) (is : g.journal ≡ j) (none : waiting g.unkept ≡ record { ready = []; batch = [] })
+    (last : Passes kept may_leave contents h p i q []) where
+  -- a run whose answers were sent at the end
+  whole_lasts : (s t : State) (rs : List (List Field)) (os : List Outcome) → ready i ≡ [] → is_closed i ≡ false →
+      LogsOn kept may_leave contents g o h p s rs os t → LastsWhole kept may_leave contents j o i q s rs os t
+  whole_lasts s t rs os kept_all still a = (
+    a.0,
+    (λ k. let l = end k in (l.sent, l.device, l.survives)),
+    (λ k. let go = (end k).going still in (
+      subst (λ (x : List ℕ). Leads x t.content)
+          (ap (λ (x : List ℕ). kept i.journal ++ x) kept_all ∙ append-nil (kept i.journal)) go.all,
+      go.only,
+    )),
+  )
+    where
+      end : Began kept may_leave contents s j o → Logs kept may_leave contents (contents o.device) s rs os t [] i q
+      end k =
+          logs_pass kept may_leave contents (contents o.device) s rs os t [] [] h i p q
+          (a.1 (contents o.device) s [] [] refl (logs_start kept may_leave contents s j o k g is none)) last
+
+  cut_lasts : (s t : State) (rs : List (List Field)) (os : List Outcome) →
+      LogsUpTo kept may_leave contents g o h p s rs os t → LastsCut kept may_leave contents j o i q s rs os t
+  cut_lasts s t rs os a = (
+    a.0,
+    λ k.
+        let some = a.1 (contents o.device) s [] [] refl (logs_start kept may_leave contents s j o k g is none) in
+        let l = logs_pass kept may_leave contents (contents o.device) s rs some.first some.state [] some.unwritten h i p q some.logs last in (
+          l.sent,
+          l.device,
+          λ text m. let b = l.survives text m in
+              (b.0, b.1, up_later s rs os some.first some.later b.0 l.sent some.splits b.2),
+        ),
+  )
+
+  unsent_lasts : (s t : State) (rs : List (List Field)) (os : List Outcome) →
+      LogsOn kept may_leave contents g o h p s rs os t → LastsCut kept may_leave contents j o i q s rs os t
+  unsent_lasts s t rs os a = (
+    a.0,
+    λ k.
+        let l = logs_pass kept may_leave contents (contents o.device) s rs os t [] [] h i p q
+        (a.1 (contents o.device) s [] [] refl (logs_start kept may_leave contents s j o k g is none)) last in
+        (l.sent, l.device, l.survives),
+  )
+
+  later : Keeps (written contents p) (written contents q)
+  later = passes_keeps h i p q last
+
+  -- the end of a run, once its answers were sent, or could not be
+  pub ended_lasting : (stop : Bool) (old : Registered) (records : Records) (before : Known) (new : Registered)
+      (end : Status) → ready i ≡ [] → is_closed i ≡ false
+      → RanOn (LogsOn kept may_leave contents g o h p) stop old records before new (written contents p) end
+      → RanOn (LastsWhole kept may_leave contents j o i q) stop old records before new (written contents q) end
+  ended_lasting stop old None before new end all still a = tt
+  ended_lasting stop old (Some rs) before new end all still a = λ s represents.
+      let r = a s represents in (
+        r.0,
+        r.1,
+        r.2,
+        Appends-kept before (written contents p) (written contents q) r.2 r.3 later,
+        record {
+          outcomes = r.4.outcomes;
+          each = whole_lasts s r.0 rs r.4.outcomes all still r.4.each;
+          stops = r.4.stops;
+          all = r.4.all;
+          wrote = r.4.wrote;
+          ended = r.4.ended;
+        },
+      )
+
+  pub faulted_lasting : (stop : Bool) (old : Registered) (records : Records) (before : Known) (new : Registered)
+      (e : RunFault) → FaultedOn (LogsUpTo kept may_leave contents g o h p) stop old records before new (written contents p) e
+      → FaultedOn (LastsCut kept may_leave contents j o i q) stop old records before new (written contents q) e
+  faulted_lasting stop old None before new e a = tt
+  faulted_lasting stop old (Some rs) before new e a = λ s represents.
+      let r = a s represents in (
+        r.0,
+        r.1,
+        r.2,
+        Appends-kept before (written contents p) (written contents q) r.2 r.3 later,
+        record {
+          outcomes = r.4.outcomes;
+          each = cut_lasts s r.0 rs r.4.outcomes r.4.each;
+          stops = r.4.stops;
+          wrote = r.4.wrote;
+        },
+      )
+
+  pub unsent_lasting : (stop : Bool) (old : Registered) (records : Records) (before : Known) (new : Registered)
+      (end : Status) (e : RunFault) → e ≡ fault.Write
+      → RanOn (LogsOn kept may_leave contents g o h p) stop old records before new (written contents p) end
+      → FaultedOn (LastsCut kept may_leave contents j o i q) stop old records before new (written contents q) e
+  unsent_lasting stop old None before new end e write a = tt
+  unsent_lasting stop old (Some rs) before new end e write a = λ s represents.
+      let r = a s represents in (
+        r.0,
+        r.1,
+        r.2,
+        Appends-kept before (written contents p) (written contents q) r.2 r.3 later,
+        record {
+          outcomes = r.4.outcomes;
+          each = unsent_lasts s r.0 rs r.4.outcomes r.4.each;
+          stops = r.4.stops;
+          wrote = output.Not_sent write r.4.wrote;
+        },
+      )

@@ -1,0 +1,577 @@
+-- The log of a run, record by record.
+use Rattle.olr_run.proofs.Common.{Outcome, Field, read, outcome_text, SoundOutcome, SoundOutcomes, texts}
+use Rattle.olr_run.proofs.Common.{run_longer, run_more, append-nil, append_assoc, map-append, Known}
+use Rattle.std.proofs.Common.{◌≡◌, ◌∙◌, ℕ, Bool, true, false, not, List, [], ◌∷◌, ◌++◌, length, map, Option, Some, None}
+use Rattle.std.proofs.Common.{Ok, Err, Result, inl, inr, refl, sym, ap, subst}
+use Rattle.std.specs.Prelude.{if◌then◌else◌, ◌==◌, nat_le, cond, is_some}
+use Rattle.std.specs.List.{concat, AllByRecursion, join_with_byte}
+use Rattle.std.proofs.KnownBytes.{Appends-trans}
+use Rattle.std.proofs.lemmas.List.Concat.{flat_map-append}
+use Rattle.olr_commands.specs.State.{Content, Change, Command, Make, Show, Report, Dump, Explain, Begin, Commit, Abort, State}
+use Rattle.olr_commands.specs.State.{Fault, Map_fault, with_change, after, step, step_in, start_state, full}
+use Rattle.olr_commands.specs.State.{has_path, is_recordable, text_fault, TextFault, unless_fault, No_path, Not_a_record}
+use Rattle.olr_commands.specs.State.{Show_node, Show_line, Depends}
+use Rattle.olr_commands.specs.Recordable.{has_node_record, has_line_records}
+use Rattle.std.specs.List.{list_all}
+use Rattle.olr_spec.specs.Map.{has_node, has_line as has_line_of}
+use Rattle.olr_spec.specs.Map.{Node_exists, No_node, Line_exists, No_line, Node_in_use, Bad_shape}
+use Rattle.olr_run.proofs.Common.{CommandOutcome}
+use Rattle.olr_sessions.specs.declared.unkept.Effect.{Effect}
+use Rattle.olr_commands.specs.RecordText.{fields_line}
+use Rattle.olr_commands.specs.Dump.{steps}
+use Rattle.olr_commands.specs.Reply.{Reply, Paths, Fields, Held, Dumped, Records, Names}
+use Rattle.olr_records.specs.Records.{Read}
+use Rattle.olr_records.specs.ReplyText.{fault_text, reply_text}
+use Rattle.olr_run.specs.Logged.{IsKept, closed, Leads, UpTo, Survives}
+use Rattle.olr_run.specs.Logs.{BatchLines, HoldsBatch, Going, Logs}
+use Rattle.olr_run.proofs.Plain.{effect_for, effect_is}
+use Rattle.olr_sessions.specs.Buffers.{held}
+use Rattle.olr_sessions.specs.Gates.{is_closed, ready, batch, Untouched, Keeping, None_sent, None_ready, All_kept}
+use Rattle.olr_sessions.specs.Gates.{Cut_off, Passes}
+use Rattle.olr_sessions.specs.Journals.{IsFront, Only, is_empty}
+use Rattle.olr_sessions.specs.KeptLines.{Waiting, effect_of, kept_line, has_line, line_if, line_of, settled}
+use Rattle.olr_sessions.specs.LoggedRuns.{is_fault, Settles}
+use Rattle.olr_sessions.specs.Unkept.{waiting, next_line}
+use Rattle.olr_sessions.specs.declared.buffered.Buffered.{Buffered}
+use Rattle.olr_sessions.specs.declared.gate.Gate.{Gate}
+
+-- ---- logs
+
+pub steps_join : (s t u : State) (cs ds : List Command) → steps s cs ≡ Ok t → steps t ds ≡ Ok u → steps s (cs ++ ds) ≡ Ok u
+steps_join s t u [] ds h k = subst (λ (x : State). steps x ds ≡ Ok u) (sym (let e : s ≡ t = cc in e)) k
+steps_join s t u (c ∷ cs) ds h k = by_step (step s c) refl (λ v rest. steps_join v t u cs ds rest k)
+  where
+    by_step : (r : Result State Fault) → step s c ≡ r →
+        ((v : State) → steps v cs ≡ Ok t → steps v (cs ++ ds) ≡ Ok u) → steps s (c ∷ cs ++ ds) ≡ Ok u
+    by_step (Ok v) e more = rw e (more v (rw e at h))
+    by_step (Err f) e more = absurd (let never = rw e at h in cc)
+
+pub one_step : (s t : State) (c : Command) → step s c ≡ Ok t → steps s (c ∷ []) ≡ Ok t
+one_step s t c e = rw e refl
+
+lines_join : (rs qs : List (List Field)) →
+    concat (map fields_line (rs ++ qs)) ≡ concat (map fields_line rs) ++ concat (map fields_line qs)
+lines_join [] qs = refl
+lines_join (r ∷ rs) qs =
+    ap (λ (x : List ℕ). fields_line r ++ x) (lines_join rs qs)
+    ∙ sym (append_assoc (fields_line r) (concat (map fields_line rs)) (concat (map fields_line qs)))
+
+one_line : (r : List Field) → concat (map fields_line (r ∷ [])) ≡ fields_line r
+one_line r = append-nil (fields_line r)
+
+pub kept_join : (cs ds : List Command) → AllByRecursion IsKept cs → AllByRecursion IsKept ds → AllByRecursion IsKept (cs ++ ds)
+kept_join [] ds h k = k
+kept_join (c ∷ cs) ds h k = (h.0, kept_join cs ds h.1 k)
+
+kept_changes : (xs : List Change) → AllByRecursion IsKept (map (λ x. Make x) xs)
+kept_changes [] = tt
+kept_changes (x ∷ xs) = (tt, kept_changes xs)
+
+pub decoded_join : (rs qs : List (List Field)) (cs ds : List Command) → map read rs ≡ map (λ x. Ok x) cs →
+    map read qs ≡ map (λ x. Ok x) ds → map read (rs ++ qs) ≡ map (λ x. Ok x) (cs ++ ds)
+decoded_join rs qs cs ds h k =
+    map-append read rs qs ∙ (λ i. h i ++ k i) ∙ sym (map-append (λ x. Ok x) cs ds)
+
+leads_more : (text more : List ℕ) (c d : Content) (rs : List (List Field)) (cs : List Command) → Leads text c →
+    more ≡ concat (map fields_line rs) → map read rs ≡ map (λ x. Ok x) cs → AllByRecursion IsKept cs →
+    steps (closed c) cs ≡ Ok (closed d) → Leads (text ++ more) d
+leads_more text more c d rs cs l lines decoded kept leads =
+    record {
+      records = l.records ++ rs;
+      lines = (λ i. l.lines i ++ lines i) ∙ sym (lines_join l.records rs);
+      commands = l.commands ++ cs;
+      decoded = decoded_join l.records rs l.commands cs l.decoded decoded;
+      kept = kept_join l.commands cs l.kept kept;
+      leads = steps_join start_state (closed c) (closed d) l.commands cs l.leads leads;
+    }
+
+-- ---- the lines of a batch
+
+some_bytes : (r : List Field) (more : List ℕ) → is_empty (fields_line r ++ more) ≡ false
+some_bytes r more = by_fields (join_with_byte 44 r)
+  where
+    by_fields : (f : List ℕ) → is_empty ((f ++ 10 ∷ []) ++ more) ≡ false
+    by_fields [] = refl
+    by_fields (b ∷ f) = refl
+
+batch_some : (c : Content) (xs : List Change) (text : List ℕ) → BatchLines c xs text → is_empty text ≡ false
+batch_some c xs text b = by_records b.records b.lines b.decoded
+  where
+    by_records : (rs : List (List Field)) → text ≡ concat (map fields_line rs) →
+        map read rs ≡ map (λ x. Ok x) (Begin ∷ map (λ x. Make x) xs) → is_empty text ≡ false
+    by_records [] l d = absurd cc
+    by_records (r ∷ rs) l d = ap is_empty l ∙ some_bytes r (concat (map fields_line rs))
+
+batch_opened : (c : Content) (r : List Field) → read r ≡ Ok Begin → BatchLines c [] (fields_line r)
+batch_opened c r e =
+    record { records = r ∷ []; lines = sym (one_line r); decoded = ap (λ (x : Read Command). x ∷ []) e; leads = refl }
+
+batch_more : (c : Content) (xs : List Change) (x : Change) (text : List ℕ) (r : List Field) → read r ≡ Ok (Make x) →
+    step_in c (Some xs) (Make x) ≡ Ok (record { content = c; batch = Some (xs ++ x ∷ []) }) → BatchLines c xs text →
+    BatchLines c (xs ++ x ∷ []) (text ++ fields_line r)
+batch_more c xs x text r e is b =
+    let commands : (Begin ∷ map (λ y. Make y) xs) ++ Make x ∷ [] ≡ Begin ∷ map (λ y. Make y) (xs ++ x ∷ []) =
+    ap (λ (cs : List Command). Begin ∷ cs) (sym (map-append (λ y. Make y) xs (x ∷ []))) in
+    record {
+      records = b.records ++ r ∷ [];
+      lines = (λ i. b.lines i ++ sym (one_line r) i) ∙ sym (lines_join b.records (r ∷ []));
+      decoded = decoded_join b.records (r ∷ []) (Begin ∷ map (λ y. Make y) xs) (Make x ∷ []) b.decoded
+          (ap (λ (y : Read Command). y ∷ []) e)
+          ∙ ap (map (λ y. Ok y)) commands;
+      leads = subst (λ (cs : List Command). steps (closed c) cs ≡ Ok (record { content = c; batch = Some (xs ++ x ∷ []) }))
+          commands
+          (steps_join (closed c) (record { content = c; batch = Some xs })
+          (record { content = c; batch = Some (xs ++ x ∷ []) }) (Begin ∷ map (λ y. Make y) xs) (Make x ∷ []) b.leads
+          (one_step (record { content = c; batch = Some xs }) (record { content = c; batch = Some (xs ++ x ∷ []) }) (Make x) is));
+    }
+
+-- ---- one command
+
+abbrev Follows : List ℕ → State → Waiting → Type 0
+Follows k t w = Leads (k ++ w.ready) t.content × HoldsBatch t.content t.batch w.batch
+
+-- what a log makes of the line of an accepted command
+abbrev made : Command → List Field → Waiting → Waiting
+made c r w = settled (effect_for c) (line_if (has_line (effect_for c)) (fields_line r)) w
+
+-- a question leaves the state
+same_state : (c : Content) (b : Option (List Change)) (t : State) (test : Bool) (f : Fault) →
+    cond test (Err f) (Ok (record { content = c; batch = b })) ≡ Ok t → record { content = c; batch = b } ≡ t
+same_state c b t true f e = absurd cc
+same_state c b t false f e = cc
+
+same_after : (c : Content) (b : Option (List Change)) (t : State) (test other : Bool) (f g : Fault) →
+    cond test (Err f) (cond other (Err g) (Ok (record { content = c; batch = b }))) ≡ Ok t →
+    record { content = c; batch = b } ≡ t
+same_after c b t true other f g e = absurd cc
+same_after c b t false other f g e = same_state c b t other g e
+
+follows_same : (k : List ℕ) (w : Waiting) (c : Content) (b : Option (List Change)) (t : State) →
+    record { content = c; batch = b } ≡ t → Follows k (record { content = c; batch = b }) w → Follows k t w
+follows_same k w c b t e h = subst (λ (x : State). Follows k x w) e h
+
+module _ (k lines inner : List ℕ) (c : Content) (r : List Field) where
+  w : Waiting
+  w = record { ready = lines; batch = inner }
+
+  make_now : (x : Change) (t : State) → read r ≡ Ok (Make x) → step_in c None (Make x) ≡ Ok t →
+      Follows k (closed c) (record { ready = lines; batch = inner }) → Follows k t (made (Make x) r (record { ready = lines; batch = inner }))
+  make_now x t e is h = by_change (with_change c x) refl
+    where
+      by_change : (q : Result Content Fault) → with_change c x ≡ q → Follows k t (made (Make x) r (record { ready = lines; batch = inner }))
+      by_change (Err f) same = absurd (let never = rw same at is in cc)
+      by_change (Ok d) same =
+          let here : closed d ≡ t = let ok = rw same at is in cc in
+          let one : steps (closed c) (Make x ∷ []) ≡ Ok (closed d) = one_step (closed c) (closed d) (Make x) (is ∙ ap (λ (y : State). Ok y) (sym here)) in
+          let longer : Leads (k ++ (lines ++ fields_line r)) d =
+          subst (λ (y : List ℕ). Leads y d) (append_assoc k lines (fields_line r))
+          (leads_more (k ++ lines) (fields_line r) c d (r ∷ []) (Make x ∷ []) h.0 (sym (one_line r))
+          (ap (λ (y : Read Command). y ∷ []) e) (tt, tt) one) in
+          subst (λ (y : State). Follows k y (made (Make x) r (record { ready = lines; batch = inner }))) here
+          (rw h.1 (longer, refl))
+
+  make_held : (xs : List Change) (x : Change) (t : State) → read r ≡ Ok (Make x) → step_in c (Some xs) (Make x) ≡ Ok t →
+      Follows k (record { content = c; batch = Some xs }) (record { ready = lines; batch = inner })
+      → Follows k t (made (Make x) r (record { ready = lines; batch = inner }))
+  make_held xs x t e is h = by_room (nat_le full (length xs)) (with_change (after c xs) x) refl refl
+    where
+      by_room : (b : Bool) (q : Result Content Fault) → nat_le full (length xs) ≡ b → with_change (after c xs) x ≡ q →
+          Follows k t (made (Make x) r (record { ready = lines; batch = inner }))
+      by_room true q f same = absurd (let never = rw f at is in cc)
+      by_room false (Err g) f same = absurd (let never = rw (f, same) at is in cc)
+      by_room false (Ok d) f same =
+          let here : record { content = c; batch = Some (xs ++ x ∷ []) } ≡ t = let ok = rw (f, same) at is in cc in
+          let more = batch_more c xs x inner r e (is ∙ ap (λ (y : State). Ok y) (sym here)) h.1 in
+          subst (λ (y : State). Follows k y (made (Make x) r (record { ready = lines; batch = inner }))) here
+          (rw (batch_some c xs inner h.1) (h.0, more))
+
+  begun : (t : State) → read r ≡ Ok Begin → step_in c None Begin ≡ Ok t →
+      Follows k (closed c) (record { ready = lines; batch = inner }) → Follows k t (made Begin r (record { ready = lines; batch = inner }))
+  begun t e is h =
+      let here : record { content = c; batch = Some [] } ≡ t = cc in
+      subst (λ (y : State). Follows k y (made Begin r (record { ready = lines; batch = inner }))) here
+      (h.0, subst (λ (y : List ℕ). BatchLines c [] (y ++ fields_line r)) (sym h.1) (batch_opened c r e))
+
+  committed : (xs : List Change) (n : ℕ) (t : State) → read r ≡ Ok (Commit n) → step_in c (Some xs) (Commit n) ≡ Ok t →
+      Follows k (record { content = c; batch = Some xs }) (record { ready = lines; batch = inner })
+      → Follows k t (made (Commit n) r (record { ready = lines; batch = inner }))
+  committed xs n t e is h = by_count (not (length xs == n)) refl
+    where
+      b : BatchLines c xs inner
+      b = h.1
+
+      by_count : (q : Bool) → not (length xs == n) ≡ q → Follows k t (made (Commit n) r (record { ready = lines; batch = inner }))
+      by_count true f = absurd (let never = rw f at is in cc)
+      by_count false f =
+          let here : closed (after c xs) ≡ t = let ok = rw f at is in cc in
+          let one = one_step (record { content = c; batch = Some xs }) (closed (after c xs)) (Commit n)
+          (is ∙ ap (λ (y : State). Ok y) (sym here)) in
+          let all = steps_join (closed c) (record { content = c; batch = Some xs }) (closed (after c xs))
+          (Begin ∷ map (λ x. Make x) xs) (Commit n ∷ []) b.leads one in
+          let joined : inner ++ fields_line r ≡ concat (map fields_line (b.records ++ r ∷ [])) =
+          (λ i. b.lines i ++ sym (one_line r) i) ∙ sym (lines_join b.records (r ∷ [])) in
+          let longer : Leads (k ++ (lines ++ (inner ++ fields_line r))) (after c xs) =
+          subst (λ (y : List ℕ). Leads y (after c xs)) (append_assoc k lines (inner ++ fields_line r))
+          (leads_more (k ++ lines) (inner ++ fields_line r) c (after c xs) (b.records ++ r ∷ [])
+          ((Begin ∷ map (λ x. Make x) xs) ++ Commit n ∷ []) h.0 joined
+          (decoded_join b.records (r ∷ []) (Begin ∷ map (λ x. Make x) xs) (Commit n ∷ []) b.decoded
+          (ap (λ (y : Read Command). y ∷ []) e))
+          (kept_join (Begin ∷ map (λ x. Make x) xs) (Commit n ∷ []) (tt, kept_changes xs) (tt, tt)) all) in
+          subst (λ (y : State). Follows k y (made (Commit n) r (record { ready = lines; batch = inner }))) here (longer, refl)
+
+  aborted : (xs : List Change) (t : State) → step_in c (Some xs) Abort ≡ Ok t →
+      Follows k (record { content = c; batch = Some xs }) (record { ready = lines; batch = inner })
+      → Follows k t (made Abort r (record { ready = lines; batch = inner }))
+  aborted xs t is h =
+      let here : closed c ≡ t = cc in
+      subst (λ (y : State). Follows k y (made Abort r (record { ready = lines; batch = inner }))) here (h.0, refl)
+
+  explained : (b : Option (List Change)) (f : Option TextFault) (t : State) →
+      unless_fault (record { content = c; batch = b }) f ≡ Ok t → record { content = c; batch = b } ≡ t
+  explained b None t e = cc
+  explained b (Some f) t e = absurd cc
+
+  accepted : (b : Option (List Change)) (x : Command) (t : State) → read r ≡ Ok x → step_in c b x ≡ Ok t →
+      Follows k (record { content = c; batch = b }) (record { ready = lines; batch = inner })
+      → Follows k t (made x r (record { ready = lines; batch = inner }))
+  accepted None (Make x) t e is h = make_now x t e is h
+  accepted (Some xs) (Make x) t e is h = make_held xs x t e is h
+  accepted b (Show n) t e is h =
+      follows_same k (record { ready = lines; batch = inner }) c b t (same_state c b t (not (has_path c n)) No_path is) h
+  accepted None (Show_node v) t e is h =
+      follows_same k (record { ready = lines; batch = inner }) c None t
+      (same_after c None t (not (has_node c.map v)) (not (has_node_record c.map v)) (Map_fault No_node) Not_a_record is) h
+  accepted (Some xs) (Show_node v) t e is h = absurd cc
+  accepted None (Show_line x) t e is h =
+      follows_same k (record { ready = lines; batch = inner }) c None t
+      (same_after c None t (not (has_line_of c.map x)) (not (has_line_records c.map x)) (Map_fault No_line) Not_a_record is) h
+  accepted (Some xs) (Show_line x) t e is h = absurd cc
+  accepted None (Depends nodes) t e is h =
+      follows_same k (record { ready = lines; batch = inner }) c None t
+      (same_state c None t (not (list_all (has_node c.map) nodes)) (Map_fault No_node) is) h
+  accepted (Some xs) (Depends nodes) t e is h = absurd cc
+  accepted b Report t e is h =
+      follows_same k (record { ready = lines; batch = inner }) c b t (let same : record { content = c; batch = b } ≡ t = cc in same) h
+  accepted None Dump t e is h =
+      follows_same k (record { ready = lines; batch = inner }) c None t
+      (same_state c None t (not (is_recordable c)) Not_a_record is) h
+  accepted (Some xs) Dump t e is h = absurd cc
+  accepted b (Explain text) t e is h =
+      follows_same k (record { ready = lines; batch = inner }) c b t (explained b (text_fault text) t is) h
+  accepted None Begin t e is h = begun t e is h
+  accepted (Some xs) Begin t e is h = absurd cc
+  accepted None (Commit n) t e is h = absurd cc
+  accepted (Some xs) (Commit n) t e is h = committed xs n t e is h
+  accepted None Abort t e is h = absurd cc
+  accepted (Some xs) Abort t e is h = aborted xs t is h
+
+-- ---- one outcome
+
+reply_accepts : (reply : Reply) → is_fault (reply_text reply) ≡ false
+reply_accepts (Paths es) = refl
+reply_accepts (Fields x) = refl
+reply_accepts (Dumped n text) = refl
+reply_accepts (Held n) = refl
+reply_accepts (Records n text) = refl
+reply_accepts (Names names) = refl
+
+fault_rejects : (f : Fault) → is_fault (fault_text f) ≡ true
+fault_rejects (Map_fault Node_exists) = refl
+fault_rejects (Map_fault No_node) = refl
+fault_rejects (Map_fault Line_exists) = refl
+fault_rejects (Map_fault No_line) = refl
+fault_rejects (Map_fault Node_in_use) = refl
+fault_rejects (Map_fault Bad_shape) = refl
+fault_rejects f = refl
+
+refused_same : (t u : State) (q : Read Command) (f : Fault) → CommandOutcome t q (Err f) u → u ≡ t
+refused_same t u (Ok c) f h = h.1
+refused_same t u (Err e) f h = h.1
+
+-- what waits after an answer
+abbrev answered : List Field → List ℕ → Waiting → Waiting
+answered r text w = if not (is_fault text) then settled (effect_of r) (kept_line r) w else w
+
+made_is : (r : List Field) (c : Command) (w : Waiting) → read r ≡ Ok c → settled (effect_of r) (kept_line r) w ≡ made c r w
+made_is r c w e = ap (λ (f : Effect). settled f (line_if (has_line f) (line_of r)) w) (effect_is r c e)
+
+by_reply : (k : List ℕ) (w : Waiting) (t u : State) (r : List Field) (q : Read Command) (reply : Reply) → read r ≡ q →
+    CommandOutcome t q (Ok reply) u → Follows k t w → Follows k u (answered r (reply_text reply) w)
+by_reply k w t u r (Ok c) reply e h f =
+    rw (reply_accepts reply) (subst (λ (v : Waiting). Follows k u v) (sym (made_is r c w e))
+    (accepted k w.ready w.batch t.content r t.batch c u e h.0 f))
+by_reply k w t u r (Err g) reply e h f = absurd (let never = h.0 in cc)
+
+follows_outcome : (k : List ℕ) (w : Waiting) (t u : State) (r : List Field) (o : Outcome) → Follows k t w →
+    SoundOutcome t r o u → Follows k u (answered r (outcome_text o) w)
+follows_outcome k w t u r (Ok reply) f (inl h, sound) = by_reply k w t u r (read r) reply refl h f
+follows_outcome k w t u r (Ok reply) f (inr h, sound) = absurd (let never = h.1.0 in cc)
+follows_outcome k w t u r (Err g) f (inl h, sound) =
+    rw (fault_rejects g) (subst (λ (x : State). Follows k x w) (sym (refused_same t u (read r) g h)) f)
+follows_outcome k w t u r (Err g) f (inr h, sound) =
+    rw (fault_rejects g) (subst (λ (x : State). Follows k x w) (sym h.1.1) f)
+
+-- ---- the outcomes so far
+
+up_more : (s : State) (rs more : List (List Field)) (os late : List Outcome) (c : Content) (sent : List ℕ) →
+    UpTo s rs os c sent → UpTo s (rs ++ more) (os ++ late) c sent
+up_more s rs more os late c sent u =
+    record {
+      first = u.first;
+      later = u.later ++ late;
+      splits = ap (λ (x : List Outcome). x ++ late) u.splits ∙ append_assoc u.first u.later late;
+      state = u.state;
+      run = run_longer SoundOutcome s u.state rs more u.first u.run;
+      content = u.content;
+      unsent = u.unsent;
+      texts_are = u.texts_are;
+    }
+
+pub up_later : (s : State) (rs : List (List Field)) (os first later : List Outcome) (c : Content) (sent : List ℕ) →
+    os ≡ first ++ later → UpTo s rs first c sent → UpTo s rs os c sent
+up_later s rs os first later c sent is u =
+    record {
+      first = u.first;
+      later = u.later ++ later;
+      splits = is ∙ ap (λ (x : List Outcome). x ++ later) u.splits ∙ append_assoc u.first u.later later;
+      state = u.state;
+      run = u.run;
+      content = u.content;
+      unsent = u.unsent;
+      texts_are = u.texts_are;
+    }
+
+up_to_all : (s t : State) (rs : List (List Field)) (os : List Outcome) (sent unsent : List ℕ) → SoundOutcomes s rs os t →
+    texts os ≡ sent ++ unsent → UpTo s rs os t.content sent
+up_to_all s t rs os sent unsent run e =
+    record {
+      first = os;
+      later = [];
+      splits = sym (append-nil os);
+      state = t;
+      run = run;
+      content = refl;
+      unsent = unsent;
+      texts_are = e;
+    }
+
+pub no_front : (text front : List ℕ) → text ≡ [] → IsFront text front → front ≡ []
+no_front text [] e f = refl
+no_front text (b ∷ front) e f = absurd (let never : b ∷ front ++ f.rest ≡ [] = sym f.splits ∙ e in cc)
+
+regroup : (x y z w b p : List ℕ) → y ++ z ≡ b ++ p → (x ++ y) ++ (z ++ w) ≡ ((x ++ b) ++ p) ++ w
+regroup x y z w b p e =
+    append_assoc x y (z ++ w) ∙ ap (λ (l : List ℕ). x ++ l) (sym (append_assoc y z w) ∙ ap (λ (l : List ℕ). l ++ w) e
+    ∙ append_assoc b p w)
+    ∙ sym (append_assoc x b (p ++ w)) ∙ sym (append_assoc (x ++ b) p w)
+
+module _ {J W : Type 0} (kept : J → List ℕ) (may_leave : J → List ℕ → Type 0) (contents : W → Known) (base : Known)
+    (s : State) where
+  abbrev Log : List (List Field) → List Outcome → State → List ℕ → Gate J → Buffered W → Type 0
+  Log rs os t unwritten g o = Logs kept may_leave contents base s rs os t unwritten g o
+
+  abbrev Goes : List (List Field) → List Outcome → State → List ℕ → J → List ℕ → List ℕ → Type 0
+  Goes rs os t sent j lines inner = Going kept may_leave contents s rs os t sent j lines inner
+
+  -- all that was ready is kept
+  fresh : (rs : List (List Field)) (os : List Outcome) (t : State) (sent : List ℕ) (j : J) (lines inner : List ℕ) →
+      Only (kept j) (may_leave j) → Leads (kept j) t.content → lines ≡ [] → HoldsBatch t.content t.batch inner →
+      UpTo s rs os t.content sent → Goes rs os t sent j lines inner
+  fresh rs os t sent j lines inner only leads none batches up =
+      record {
+        only = only;
+        fronts = λ front f. (
+          t.content,
+          subst (λ (x : List ℕ). Leads x t.content)
+              (sym (ap (λ (x : List ℕ). kept j ++ x) (no_front lines front none f) ∙ append-nil (kept j))) leads,
+          up,
+        );
+        all = subst (λ (x : List ℕ). Leads x t.content)
+            (sym (ap (λ (x : List ℕ). kept j ++ x) none ∙ append-nil (kept j))) leads;
+        batches = batches;
+      }
+
+  survives_only : (rs : List (List Field)) (os : List Outcome) (sent : List ℕ) (j : J) (c : Content) →
+      Only (kept j) (may_leave j) → Leads (kept j) c → UpTo s rs os c sent → Survives s rs os (may_leave j) sent
+  survives_only rs os sent j c only leads up = λ text m.
+      (c, subst (λ (x : List ℕ). Leads x c) (sym (only text m)) leads, up)
+
+  open_before : (g h : Gate J) → (is_closed g ≡ true → is_closed h ≡ true) → is_closed h ≡ false → is_closed g ≡ false
+  open_before g h c e = by_closed (is_closed g) refl
+    where
+      by_closed : (b : Bool) → is_closed g ≡ b → is_closed g ≡ false
+      by_closed true is = absurd (let never : true ≡ false = sym (c is) ∙ e in cc)
+      by_closed false is = is
+
+  -- ---- what passes the gate
+
+  module _ (rs : List (List Field)) (os : List Outcome) (t : State) (text rest : List ℕ) (g h : Gate J) (o p : Buffered W)
+      (a : Log rs os t (text ++ rest) g o) (b : Passes kept may_leave contents g o h p text) where
+    bytes_now : texts os ≡ ((a.sent ++ b.sent) ++ held p) ++ rest
+    bytes_now = a.bytes ∙ regroup a.sent (held o) text rest b.sent (held p) b.bytes
+
+    up_now : UpTo s rs os t.content (a.sent ++ b.sent)
+    up_now =
+        up_to_all s t rs os (a.sent ++ b.sent) (held p ++ rest) a.run
+        (bytes_now ∙ append_assoc (a.sent ++ b.sent) (held p) rest)
+
+    batch_now : HoldsBatch t.content t.batch (batch g) → HoldsBatch t.content t.batch (batch h)
+    batch_now k = subst (HoldsBatch t.content t.batch) (sym b.others.batches) k
+
+    with_log : Survives s rs os (may_leave h.journal) (a.sent ++ b.sent) →
+        (is_closed h ≡ false → Goes rs os t (a.sent ++ b.sent) h.journal (ready h) (batch h)) → Log rs os t rest h p
+    with_log lives goes =
+        record {
+          run = a.run;
+          sent = a.sent ++ b.sent;
+          device = Appends-trans base (contents o.device) (contents p.device) a.sent b.sent a.device b.device;
+          bytes = bytes_now;
+          survives = lives;
+          going = goes;
+        }
+
+    -- the log leads to all outcomes, and nothing waits
+    with_all : Only (kept h.journal) (may_leave h.journal) → Leads (kept h.journal) t.content → ready h ≡ [] →
+        HoldsBatch t.content t.batch (batch g) → Log rs os t rest h p
+    with_all only leads none inner =
+        with_log (survives_only rs os (a.sent ++ b.sent) h.journal t.content only leads up_now)
+        (λ _. fresh rs os t (a.sent ++ b.sent) h.journal (ready h) (batch h) only leads none (batch_now inner) up_now)
+
+    none_more : b.sent ≡ [] → a.sent ≡ a.sent ++ b.sent
+    none_more e = sym (ap (λ (x : List ℕ). a.sent ++ x) e ∙ append-nil a.sent)
+
+    by_keeping : Keeping kept may_leave g h b.sent → Log rs os t rest h p
+    by_keeping (None_sent j r e c) =
+        with_log
+        (subst (Survives s rs os (may_leave h.journal)) (none_more e)
+        (subst (λ (x : J). Survives s rs os (may_leave x) a.sent) (sym j) a.survives))
+        (λ open_now. subst (λ (x : List ℕ × J × List ℕ × List ℕ). Goes rs os t x.0 x.1 x.2 x.3)
+        (λ n. (none_more e n, sym j n, sym r n, sym b.others.batches n)) (a.going (open_before g h c open_now)))
+    by_keeping (None_ready o j n m) =
+        let k = a.going o in
+        with_all (subst (λ (x : J). Only (kept x) (may_leave x)) (sym j) k.only)
+        (subst (λ (x : J). Leads (kept x) t.content) (sym j)
+        (subst (λ (x : List ℕ). Leads x t.content)
+        (ap (λ (x : List ℕ). kept g.journal ++ x) n ∙ append-nil (kept g.journal)) k.all)) m k.batches
+    by_keeping (All_kept o e only m) =
+        let k = a.going o in
+        with_all only (subst (λ (x : List ℕ). Leads x t.content) (sym e) k.all) m k.batches
+    by_keeping (Cut_off o may some e c) =
+        let k = a.going o in
+        let lives : Survives s rs os (may_leave h.journal) a.sent =
+        λ text m. elim (may text m) [
+          | inl before ↦ a.survives text before
+          | inr cut ↦ let f = k.fronts cut.0 cut.1 in
+              (f.0, subst (λ (x : List ℕ). Leads x f.0) (sym cut.2) f.1, f.2)
+        ] in
+        with_log (subst (Survives s rs os (may_leave h.journal)) (none_more e) lives)
+        (λ open_now. absurd (let never : true ≡ false = sym c ∙ open_now in cc))
+
+    pub logs_pass : Log rs os t rest h p
+    logs_pass = by_keeping b.keeping
+
+  -- nothing happened to the log
+  pub logs_same : (rs : List (List Field)) (os : List Outcome) (t : State) (unwritten : List ℕ) (g h : Gate J)
+      (o : Buffered W) → Untouched g h → waiting h.unkept ≡ waiting g.unkept → Log rs os t unwritten g o →
+      Log rs os t unwritten h o
+  logs_same rs os t unwritten g h o u w a =
+      record {
+        run = a.run;
+        sent = a.sent;
+        device = a.device;
+        bytes = a.bytes;
+        survives = subst (λ (x : J). Survives s rs os (may_leave x) a.sent) (sym u.journal) a.survives;
+        going = λ open_now.
+            subst (λ (x : J × Waiting). Goes rs os t a.sent x.0 x.1.ready x.1.batch)
+            (λ n. (sym u.journal n, sym w n)) (a.going (ap is_some (sym u.fault) ∙ open_now));
+      }
+
+  -- with more records, of which none was taken
+  up_longer : (rs more : List (List Field)) (os : List Outcome) (c : Content) (sent : List ℕ) → UpTo s rs os c sent →
+      UpTo s (rs ++ more) os c sent
+  up_longer rs more os c sent u =
+      record {
+        first = u.first;
+        later = u.later;
+        splits = u.splits;
+        state = u.state;
+        run = run_longer SoundOutcome s u.state rs more u.first u.run;
+        content = u.content;
+        unsent = u.unsent;
+        texts_are = u.texts_are;
+      }
+
+  pub logs_longer : (rs more : List (List Field)) (os : List Outcome) (t : State) (unwritten : List ℕ) (g : Gate J)
+      (o : Buffered W) → Log rs os t unwritten g o → Log (rs ++ more) os t unwritten g o
+  logs_longer rs more os t unwritten g o a =
+      record {
+        run = run_longer SoundOutcome s t rs more os a.run;
+        sent = a.sent;
+        device = a.device;
+        bytes = a.bytes;
+        survives = λ text l. let b = a.survives text l in (b.0, b.1, up_longer rs more os b.0 a.sent b.2);
+        going = λ still. let k = a.going still in
+            record {
+              only = k.only;
+              fronts = λ front f. let b = k.fronts front f in (b.0, b.1, up_longer rs more os b.0 a.sent b.2);
+              all = k.all;
+              batches = k.batches;
+            };
+      }
+
+  -- ---- one record more
+
+  module _ (rs : List (List Field)) (os : List Outcome) (t u : State) (r : List Field) (oc : Outcome) (text : List ℕ)
+      (g h : Gate J) (o : Buffered W) (size : length os ≡ length rs) (one : SoundOutcome t r oc u)
+      (is : outcome_text oc ≡ text) (effect : g.unkept.effect ≡ effect_of r) (line : next_line g.unkept ≡ kept_line r)
+      (a : Log rs os t [] g o) (e : Settles g text h) where
+    run_now : SoundOutcomes s (rs ++ r ∷ []) (os ++ oc ∷ []) u
+    run_now = run_more SoundOutcome s t u rs r os oc size a.run one
+
+    texts_now : texts (os ++ oc ∷ []) ≡ (a.sent ++ held o) ++ text
+    texts_now =
+        flat_map-append outcome_text os (oc ∷ [])
+        ∙ (λ i. (a.bytes ∙ append-nil (a.sent ++ held o)) i ++ (append-nil (outcome_text oc) ∙ is) i)
+
+    up_last : UpTo s (rs ++ r ∷ []) (os ++ oc ∷ []) u.content a.sent
+    up_last =
+        up_to_all s u (rs ++ r ∷ []) (os ++ oc ∷ []) a.sent (held o ++ text) run_now
+        (texts_now ∙ append_assoc a.sent (held o) text)
+
+    waits_as : waiting h.unkept ≡ answered r (outcome_text oc) (waiting g.unkept)
+    waits_as =
+        e.settled.waits
+        ∙ (λ i. if not (is_fault (sym is i)) then settled (effect i) (line i) (waiting g.unkept) else waiting g.unkept)
+
+    goes_now : is_closed h ≡ false → Goes (rs ++ r ∷ []) (os ++ oc ∷ []) u a.sent h.journal (ready h) (batch h)
+    goes_now open_now =
+        let k = a.going (ap is_some (sym e.untouched.fault) ∙ open_now) in
+        let f = follows_outcome (kept g.journal) (waiting g.unkept) t u r oc (k.all, k.batches) one in
+        let now : Follows (kept h.journal) u (waiting h.unkept) =
+        subst (λ (x : J × Waiting). Follows (kept x.0) u x.1) (λ n. (sym e.untouched.journal n, sym waits_as n)) f in
+        record {
+          only = subst (λ (x : J). Only (kept x) (may_leave x)) (sym e.untouched.journal) k.only;
+          fronts = λ front is_front. elim (e.settled.fronts front is_front) [
+            | inl before ↦ let b = k.fronts front before in (
+              b.0,
+              subst (λ (x : J). Leads (kept x ++ front) b.0) (sym e.untouched.journal) b.1,
+              up_more s rs (r ∷ []) os (oc ∷ []) b.0 a.sent b.2,
+            )
+            | inr whole ↦ (u.content, subst (λ (x : List ℕ). Leads (kept h.journal ++ x) u.content) (sym whole) now.0, up_last)
+          ];
+          all = now.0;
+          batches = now.1;
+        }
+
+    pub logs_settle : Log (rs ++ r ∷ []) (os ++ oc ∷ []) u text h o
+    logs_settle =
+        record {
+          run = run_now;
+          sent = a.sent;
+          device = a.device;
+          bytes = texts_now;
+          survives = λ left m.
+              let b = a.survives left (subst (λ (x : J). may_leave x left) e.untouched.journal m) in
+              (b.0, b.1, up_more s rs (r ∷ []) os (oc ∷ []) b.0 a.sent b.2);
+          going = goes_now;
+        }

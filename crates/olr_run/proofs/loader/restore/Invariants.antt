@@ -1,0 +1,12 @@
+use Rattle.std.proofs.Common.{◌-◌, ◌≤◌}
+use Rattle.olr_run.proofs.Restoring.{Loading}
+use Rattle.olr_run.proofs.loader.restore.Given as goal
+
+abbrev pub invariant-records : goal.invariant-records
+invariant-records l = record {
+  few : l.taken ≤ 1099511627776;
+  loading : Loading l.text l.records l.loader;
+}
+
+abbrev pub decreases-records : goal.decreases-records
+decreases-records l = 1099511627776 - l.taken

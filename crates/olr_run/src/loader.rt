@@ -1,0 +1,255 @@
+//! A start from a log.
+
+ghost use Rattle.std.specs.Prelude.{◌≡◌, ◌<◌, IfOk, OnOk};
+ghost use Rattle.csv.specs.Records.{fields_of};
+ghost use Rattle.olr_commands.specs.State as state;
+ghost use Rattle.olr_commands.specs.State.{start_state, Content, Begin, Commit};
+ghost use Rattle.olr_commands.specs.Words.{command_of};
+ghost use Rattle.olr_register.specs.RegisterState.{Represents};
+ghost use Rattle.olr_run.specs.Logged.{closed, IsKept, Leads};
+ghost use Rattle.olr_run.specs.Restored.{IsChange, IsContentOf, Loaded, Loads, LoadsRecord, Steps, kind_by};
+
+use csv::ByteRecord;
+use olr_commands::{Command, CommandFault};
+use olr_records::{ReadFault, read_command};
+use olr_register::Register;
+use olr_sessions::InMemory;
+use std::alloc::{AllocError, Global};
+use thiserror::Error;
+
+/// The greatest number of changes in a batch.
+const FULL: u32 = 100_000;
+
+/// The greatest number of records of a log, 2^40.
+const MOST_RECORDS: u64 = 1 << 40;
+
+/// Why the records of a log can't be carried out.
+#[derive(Clone, Copy, Debug, PartialEq, Eq, Error)]
+pub enum RestoreFault {
+    /// Out of memory.
+    #[error("no memory")]
+    Memory,
+    /// A record is rejected, or a log holds none like it.
+    #[error("a record of the log is rejected")]
+    Rejected,
+    /// The last batch has no commit.
+    #[error("the log ends in a batch")]
+    Open,
+    /// There are more than 2^40 records.
+    #[error("too many records")]
+    TooMany,
+}
+
+impl From<AllocError> for RestoreFault {
+    ghost use Rattle.std.specs.Prelude.{◌≡◌};
+    ghost use Rattle.olr_run.specs.declared.loader.RestoreFault.TheVariants.{Memory};
+
+    ghost from_gives = { λ _ fault. fault ≡ Memory };
+
+    fn from(_error: AllocError) -> RestoreFault {
+        RestoreFault::Memory
+    }
+}
+
+/// A register on its way to the content of a log. A batch of its own is always open, and batches of the log join it: so
+/// each path is encoded once a batch, and not after each edit.
+#[derive(Drop)]
+pub struct Loader {
+    register: Register,
+    /// How many changes the register's batch holds.
+    held: u32,
+    /// Whether a batch of the log is open.
+    in_batch: bool,
+    /// How many changes it holds.
+    count: u32,
+}
+
+/// The fault of a rejected command of a log.
+fn restore_fault(fault: CommandFault) -> RestoreFault {
+    match fault {
+        CommandFault::Memory => RestoreFault::Memory,
+        _ => RestoreFault::Rejected,
+    }
+}
+
+/// What a command is to a log.
+#[derive(Clone, Copy)]
+pub enum Kind {
+    Change,
+    Begin,
+    Commit(u32),
+    Other,
+}
+
+/// The kind of a command.
+fn kind_of(command: &Command) -> Kind
+    ensures { result ≡ kind_by command.now }
+{
+    match command {
+        Command::Edit(_) | Command::AddPath(..) | Command::SetPath(..) | Command::DropPath(_) => {
+            Kind::Change
+        }
+        Command::Begin => Kind::Begin,
+        Command::Commit(count) => Kind::Commit(*count),
+        _ => Kind::Other,
+    }
+}
+
+/// Carries out a command, which has to be accepted.
+fn apply(register: &mut Register, command: Command) -> Result<(), RestoreFault>
+    ensures { OnOk result (Steps register.old (command_of command) register.new) }
+{
+    match register.apply(command) {
+        Ok(reply) => {
+            drop(reply);
+            Ok(())
+        }
+        Err(fault) => Err(restore_fault(fault)),
+    }
+}
+
+impl Loader {
+    /// Before the first record.
+    fn new(alloc: Global) -> Result<Loader, RestoreFault>
+        ensures { IfOk result (λ l. Loads l start_state) }
+    {
+        let mut register = Register::new(alloc);
+        apply(&mut register, Command::Begin)?;
+        Ok(Loader {
+            register,
+            held: 0,
+            in_batch: false,
+            count: 0,
+        })
+    }
+
+    /// Accepts the register's batch, and opens another.
+    fn renew(&mut self) -> Result<(), RestoreFault>
+        ensures loads { OnOk result ((s : state.State) → Loads self.old s → Loads self.new s) }
+        ensures held { OnOk result (self.new.held ≡ 0) }
+    {
+        apply(&mut self.register, Command::Commit(self.held))?;
+        apply(&mut self.register, Command::Begin)?;
+        self.held = 0;
+        Ok(())
+    }
+
+    /// Makes a change, which the register's batch has room for.
+    fn make(&mut self, command: Command) -> Result<(), RestoreFault>
+        requires change { IsChange (command_of command) }
+        requires room { self.old.held < 100000 }
+        ensures { OnOk result (Loaded self.old (command_of command) self.new) }
+    {
+        if !self.in_batch {
+            apply(&mut self.register, command)?;
+            self.held += 1;
+            return Ok(());
+        }
+        if self.count >= FULL {
+            return Err(RestoreFault::Rejected);
+        }
+        apply(&mut self.register, command)?;
+        self.held += 1;
+        self.count += 1;
+        Ok(())
+    }
+
+    /// Makes a change. A full batch of the register is accepted first.
+    fn change(&mut self, command: Command) -> Result<(), RestoreFault>
+        requires { IsChange (command_of command) }
+        ensures { OnOk result (Loaded self.old (command_of command) self.new) }
+    {
+        if self.held < FULL {
+            return self.make(command);
+        }
+        self.renew()?;
+        self.make(command)
+    }
+
+    /// A batch of the log begins.
+    fn begin(&mut self) -> Result<(), RestoreFault>
+        ensures { OnOk result (Loaded self.old Begin self.new) }
+    {
+        if self.in_batch {
+            return Err(RestoreFault::Rejected);
+        }
+        self.in_batch = true;
+        self.count = 0;
+        Ok(())
+    }
+
+    /// A batch of the log ends.
+    fn commit(&mut self, count: u32) -> Result<(), RestoreFault>
+        ensures { OnOk result (Loaded self.old (Commit count) self.new) }
+    {
+        if !self.in_batch || count != self.count {
+            return Err(RestoreFault::Rejected);
+        }
+        self.in_batch = false;
+        Ok(())
+    }
+
+    /// Carries out a command of a log.
+    fn carry_out(&mut self, command: Command) -> Result<(), RestoreFault>
+        ensures { OnOk result (IsKept (command_of command) × Loaded self.old (command_of command) self.new) }
+    {
+        match kind_of(&command) {
+            Kind::Change => self.change(command),
+            Kind::Begin => self.begin(),
+            Kind::Commit(count) => self.commit(count),
+            Kind::Other => Err(RestoreFault::Rejected),
+        }
+    }
+
+    /// Carries out the command of a record.
+    fn take(&mut self, alloc: Global, fields: &ByteRecord) -> Result<(), RestoreFault>
+        ensures { OnOk result (LoadsRecord self.old (fields_of fields.now) self.new) }
+    {
+        match read_command(alloc, fields) {
+            Ok(command) => self.carry_out(command),
+            Err(ReadFault::Memory) => Err(RestoreFault::Memory),
+            Err(ReadFault::Syntax | ReadFault::Range) => Err(RestoreFault::Rejected),
+        }
+    }
+
+    /// The register, once all records were taken.
+    fn finish(self) -> Result<Register, RestoreFault>
+        ensures { IfOk result (λ r. (s : state.State) → Loads self s
+            → (c : Content) × (s ≡ closed c) × Represents r.kept (closed c)) }
+    {
+        let Loader {
+            mut register,
+            held,
+            in_batch,
+            count: _,
+        } = self;
+        if in_batch {
+            return Err(RestoreFault::Open);
+        }
+        apply(&mut register, Command::Commit(held))?;
+        Ok(register)
+    }
+}
+
+/// The register with the content of a log: that to which its records lead from the empty register, each accepted, with no
+/// batch open at the end. `count` has the number of records that were taken: after a fault, the number of the record that
+/// is rejected. A log holds changes, `begin` and `commit`, and no other records.
+pub fn restore(alloc: Global, text: &[u8], count: &mut u64) -> Result<Register, RestoreFault>
+    ensures content { IfOk result (λ r. (c : Content) × IsContentOf text.now c × Represents r.kept (closed c)) }
+    ensures leads { IfOk result (λ r. (c : Content) → Leads text.now c → Represents r.kept (closed c)) }
+{
+    let mut loader = Loader::new(alloc)?;
+    let mut records = InMemory::new(alloc, text);
+    let mut fields = ByteRecord::new(alloc);
+    let mut taken: u64 = 0;
+    *count = 0;
+    'records: while records.take_record(&mut fields)? {
+        if taken == MOST_RECORDS {
+            return Err(RestoreFault::TooMany);
+        }
+        taken += 1;
+        *count = taken;
+        loader.take(alloc, &fields)?;
+    }
+    loader.finish()
+}

@@ -1,0 +1,154 @@
+//! Runs whose accepted changes are kept in a log before their answers are sent.
+
+ghost use Rattle.std.specs.Prelude.{◌≡◌, ◌⊎◌, [], IfOk, IfErr, OnOk};
+ghost use Rattle.olr_run.specs.Logs.{LogsOn, LogsUpTo, LastsWhole, LastsCut};
+ghost use Rattle.olr_run.specs.Runs.{known_file, known_records, known_both, RanOn, FaultedOn, HasTooMany};
+ghost use Rattle.olr_sessions.specs.Buffers.{held, written};
+
+use crate::both::greater_of;
+use crate::records::run_session;
+use csv::ReaderBuilder;
+use olr_register::Register;
+use olr_sessions::{Buffered, Gate, Journal, Lines, Logged, RunFault, Status};
+use std::alloc::Global;
+use std::io::{Read, Write};
+
+/// Runs the records of the input, as `run` does, with a log: each accepted change is kept before its answer is sent.
+fn run_logged<R: Read + Drop, W: Write + Drop, J: Journal + Drop>(
+    alloc: Global,
+    register: &mut Register,
+    input: R,
+    gate: Gate<J>,
+    output: &mut Buffered<W>,
+    stop: bool,
+) -> (Result<Status, RunFault>, Gate<J>)
+    ensures ran { IfOk result.0 (RanOn
+        (LogsOn J.kept J.may_leave W.contents gate output.old result.1 output.new)
+        stop register.old (known_records (R.remaining input)) (written W.contents output.old)
+        register.new (written W.contents output.new)) }
+    ensures faulted { IfErr result.0 (FaultedOn
+        (LogsUpTo J.kept J.may_leave W.contents gate output.old result.1 output.new)
+        stop register.old (known_records (R.remaining input)) (written W.contents output.old)
+        register.new (written W.contents output.new)) }
+    ensures too_many { IfErr result.0 (λ e. e ≡ RunFault.TooMany → HasTooMany (R.remaining input)) }
+{
+    register.is_sound();
+    let Ok(lines) = Lines::new(alloc, input) else {
+        return (Err(RunFault::Memory), gate);
+    };
+    let reader = ReaderBuilder::new()
+        .has_headers(false)
+        .flexible(true)
+        .from_reader(alloc, lines);
+    let mut session = Logged::new(reader, gate);
+    let ended = run_session(alloc, register, &mut session, output, stop);
+    (ended, session.into_gate())
+}
+
+/// The same for the records of a file, or for none if there is no file.
+fn run_file_logged<F: Read + Drop, W: Write + Drop, J: Journal + Drop>(
+    alloc: Global,
+    register: &mut Register,
+    file: Option<F>,
+    gate: Gate<J>,
+    output: &mut Buffered<W>,
+    stop: bool,
+) -> (Result<Status, RunFault>, Gate<J>)
+    ensures ran { IfOk result.0 (RanOn
+        (LogsOn J.kept J.may_leave W.contents gate output.old result.1 output.new)
+        stop register.old (known_records (known_file F.remaining file)) (written W.contents output.old)
+        register.new (written W.contents output.new)) }
+    ensures faulted { IfErr result.0 (FaultedOn
+        (LogsUpTo J.kept J.may_leave W.contents gate output.old result.1 output.new)
+        stop register.old (known_records (known_file F.remaining file)) (written W.contents output.old)
+        register.new (written W.contents output.new)) }
+    ensures too_many { IfErr result.0 (λ e. e ≡ RunFault.TooMany → HasTooMany (known_file F.remaining file)) }
+{
+    register.is_sound();
+    match file {
+        Some(file) => run_logged(alloc, register, file, gate, output, stop),
+        None => (Ok(Status::AllAccepted), gate),
+    }
+}
+
+/// Runs the records of a file, if there is one, and then those of the input, as `run_both` does, with a log.
+fn run_both_logged<F: Read + Drop, R: Read + Drop, W: Write + Drop, J: Journal + Drop>(
+    alloc: Global,
+    register: &mut Register,
+    file: Option<F>,
+    input: R,
+    gate: Gate<J>,
+    output: &mut Buffered<W>,
+    stop: bool,
+) -> (Result<Status, RunFault>, Gate<J>)
+    ensures ran { IfOk result.0 (RanOn
+        (LogsOn J.kept J.may_leave W.contents gate output.old result.1 output.new)
+        stop register.old
+        (known_both (known_records (known_file F.remaining file)) (known_records (R.remaining input)))
+        (written W.contents output.old) register.new (written W.contents output.new)) }
+    ensures faulted { IfErr result.0 (FaultedOn
+        (LogsUpTo J.kept J.may_leave W.contents gate output.old result.1 output.new)
+        stop register.old
+        (known_both (known_records (known_file F.remaining file)) (known_records (R.remaining input)))
+        (written W.contents output.old) register.new (written W.contents output.new)) }
+    ensures too_many { IfErr result.0 (λ e. e ≡ RunFault.TooMany
+        → HasTooMany (known_file F.remaining file) ⊎ HasTooMany (R.remaining input)) }
+{
+    register.is_sound();
+    let (ended, gate) = run_file_logged(alloc, register, file, gate, output, stop);
+    let first = match ended {
+        Ok(first) => first,
+        Err(fault) => return (Err(fault), gate),
+    };
+    if first == Status::Stopped {
+        return (Ok(first), gate);
+    }
+    let (ended, gate) = run_logged(alloc, register, input, gate, output, stop);
+    match ended {
+        Ok(second) => (Ok(greater_of(first, second)), gate),
+        Err(fault) => (Err(fault), gate),
+    }
+}
+
+/// Runs the records of a file, if there is one, and then those of the input, as `run_both` does, with a log that leads to
+/// the content of the register. Each accepted change is kept in the log before its answer is sent, a batch as a whole at
+/// its commit; rejected records, questions and dropped batches are not kept. So whenever the run ends, and for whatever
+/// reason, what is left of the log leads to the content after the records up to some record, and of the answers to later
+/// ones nothing was sent. After a run that was not cut off the log leads to the content at its end. The answers are sent
+/// at the end, if the log and the output can still be written; the gate, which has the log, says what went wrong with it.
+pub fn run_with_log<F: Read + Drop, R: Read + Drop, W: Write + Drop, J: Journal + Drop>(
+    alloc: Global,
+    register: &mut Register,
+    file: Option<F>,
+    input: R,
+    journal: J,
+    output: &mut Buffered<W>,
+    stop: bool,
+) -> (Result<Status, RunFault>, Gate<J>)
+    ensures ran { IfOk result.0 (RanOn
+        (LastsWhole J.kept J.may_leave W.contents journal output.old result.1 output.new)
+        stop register.old
+        (known_both (known_records (known_file F.remaining file)) (known_records (R.remaining input)))
+        (written W.contents output.old) register.new (written W.contents output.new)) }
+    ensures faulted { IfErr result.0 (FaultedOn
+        (LastsCut J.kept J.may_leave W.contents journal output.old result.1 output.new)
+        stop register.old
+        (known_both (known_records (known_file F.remaining file)) (known_records (R.remaining input)))
+        (written W.contents output.old) register.new (written W.contents output.new)) }
+    ensures too_many { IfErr result.0 (λ e. e ≡ RunFault.TooMany
+        → HasTooMany (known_file F.remaining file) ⊎ HasTooMany (R.remaining input)) }
+    ensures sent { OnOk result.0 (held output.new ≡ []) }
+{
+    register.is_sound();
+    let gate = Gate::new(alloc, journal);
+    let (ended, mut gate) = run_both_logged(alloc, register, file, input, gate, output, stop);
+    let sent = gate.send(output);
+    let status = match ended {
+        Ok(status) => status,
+        Err(fault) => return (Err(fault), gate),
+    };
+    match sent {
+        Ok(()) => (Ok(status), gate),
+        Err(fault) => (Err(fault), gate),
+    }
+}

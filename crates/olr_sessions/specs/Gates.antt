@@ -1,0 +1,106 @@
+-- The gate of a run with a log: what is sent, and what is kept before it.
+--     Keeping old new sent      what happened to the log while these bytes were sent
+--     Passes g o h p text      a text was written: of what was held back before, and of the text, the first bytes were sent,
+--         and the rest is held back
+--     PassesSome, PassesAll      the first bytes of a text were written; or all of it
+--     Untouched g h      nothing happened to the log
+--     SettledBy u accepted v      the record whose line was taken last was accepted or rejected
+--     TookLine g fields h, LostLine g h      the line of a record was taken, or could not be
+use Rattle.std.specs.Prelude.{◌≡◌, ◌≢◌, ◌≤◌, ℕ, Bool, true, false, if◌then◌else◌, List, [], ◌++◌, take, length, is_some}
+use Rattle.std.specs.Prelude.{Result, Ok, Err, ◌⊎◌}
+use Rattle.std.specs.Io.KnownBytes.{Appends}
+use Rattle.olr_sessions.specs.Buffers.{held}
+use Rattle.olr_sessions.specs.Journals.{IsFront, Only}
+use Rattle.olr_sessions.specs.KeptLines.{effect_of, kept_line, settled}
+use Rattle.olr_sessions.specs.Sessions.{Known}
+use Rattle.olr_sessions.specs.Unkept.{waiting, next_line}
+use Rattle.olr_sessions.specs.declared.buffered.Buffered.{Buffered}
+use Rattle.olr_sessions.specs.declared.ends.RunFault.{RunFault}
+use Rattle.olr_sessions.specs.declared.ends.RunFault.TheVariants as fault
+use Rattle.olr_sessions.specs.declared.gate.Gate.{Gate}
+use Rattle.olr_sessions.specs.declared.unkept.Unkept.{Unkept}
+
+-- nothing is sent through a gate whose log has failed
+abbrev pub is_closed : {J : Type 0} → Gate J → Bool
+is_closed g = is_some g.fault
+
+abbrev pub ready : {J : Type 0} → Gate J → List ℕ
+ready g = (waiting g.unkept).ready
+
+abbrev pub batch : {J : Type 0} → Gate J → List ℕ
+batch g = (waiting g.unkept).batch
+
+-- a log that failed to keep these records may leave what it left before, or beside all that it kept a whole front of them
+abbrev pub MayHaveKept : {J : Type 0} → (J → List ℕ) → (J → List ℕ → Type 0) → J → List ℕ → J → Type 0
+MayHaveKept kept may_leave old records new =
+    (c : List ℕ) → may_leave new c → may_leave old c
+    ⊎ ((front : List ℕ) × IsFront records front × (c ≡ kept old ++ front))
+
+pub record Untouched {J : Type 0} (g h : Gate J) : Type 0 where
+  pub journal : h.journal ≡ g.journal
+  pub fault : h.fault ≡ g.fault
+
+-- what was ready is kept before anything is sent
+pub data Keeping {J : Type 0} (kept : J → List ℕ) (may_leave : J → List ℕ → Type 0) (old new : Gate J) (sent : List ℕ) :
+    Type 0 where
+  None_sent : new.journal ≡ old.journal → ready new ≡ ready old → sent ≡ []
+      → (is_closed old ≡ true → is_closed new ≡ true) → Keeping kept may_leave old new sent
+  None_ready : is_closed old ≡ false → new.journal ≡ old.journal → ready old ≡ [] → ready new ≡ []
+      → Keeping kept may_leave old new sent
+  All_kept : is_closed old ≡ false → kept new.journal ≡ kept old.journal ++ ready old
+      → Only (kept new.journal) (may_leave new.journal) → ready new ≡ [] → Keeping kept may_leave old new sent
+  Cut_off : is_closed old ≡ false → MayHaveKept kept may_leave old.journal (ready old) new.journal → ready old ≢ []
+      → sent ≡ [] → is_closed new ≡ true → Keeping kept may_leave old new sent
+
+-- the open batch, and the line that was taken last, stay
+pub record SameBatch {J : Type 0} (g h : Gate J) : Type 0 where
+  pub batches : batch h ≡ batch g
+  pub line : next_line h.unkept ≡ next_line g.unkept
+  pub effects : h.unkept.effect ≡ g.unkept.effect
+
+pub record Passes {J W : Type 0} (kept : J → List ℕ) (may_leave : J → List ℕ → Type 0) (contents : W → Known) (g : Gate J)
+    (o : Buffered W) (h : Gate J) (p : Buffered W) (text : List ℕ) : Type 0 where
+  pub sent : List ℕ
+  pub keeping : Keeping kept may_leave g h sent
+  pub others : SameBatch g h
+  pub device : Appends (contents o.device) (contents p.device) sent
+  pub bytes : held o ++ text ≡ sent ++ held p
+
+abbrev pub PassesSome : {J W : Type 0} → (J → List ℕ) → (J → List ℕ → Type 0) → (W → Known) → Gate J → Buffered W →
+    Gate J → Buffered W → List ℕ → Result ℕ RunFault → Type 0
+PassesSome kept may_leave contents g o h p text (Ok n) =
+    (n ≤ length text) × Passes kept may_leave contents g o h p (take n text)
+PassesSome kept may_leave contents g o h p text (Err e) =
+    Passes kept may_leave contents g o h p [] × (e ≡ fault.Write)
+
+abbrev pub PassesAll : {J W : Type 0} → (J → List ℕ) → (J → List ℕ → Type 0) → (W → Known) → Gate J → Buffered W →
+    Gate J → Buffered W → List ℕ → Result (Unit {0}) RunFault → Type 0
+PassesAll kept may_leave contents g o h p text (Ok done) = Passes kept may_leave contents g o h p text
+PassesAll kept may_leave contents g o h p text (Err e) =
+    (front rest : List ℕ) × (text ≡ front ++ rest) × (rest ≢ []) × Passes kept may_leave contents g o h p front
+    × (e ≡ fault.Write)
+
+pub record SettledBy (u : Unkept) (accepted : Bool) (v : Unkept) : Type 0 where
+  pub waits : waiting v ≡ (if accepted then settled u.effect (next_line u) (waiting u) else waiting u)
+  pub fronts : (front : List ℕ) → IsFront (waiting v).ready front →
+      IsFront (waiting u).ready front ⊎ (front ≡ (waiting v).ready)
+
+-- the line of a record was taken
+pub record TookLine {J : Type 0} (g : Gate J) (fields : List (List ℕ)) (h : Gate J) : Type 0 where
+  pub untouched : Untouched g h
+  pub waits : waiting h.unkept ≡ waiting g.unkept
+  pub effect : h.unkept.effect ≡ effect_of fields
+  pub line : next_line h.unkept ≡ kept_line fields
+
+-- or could not be taken
+pub record LostLine {J : Type 0} (g h : Gate J) : Type 0 where
+  pub untouched : Untouched g h
+  pub waits : waiting h.unkept ≡ waiting g.unkept
+
+-- the line of a record that was read was taken, or there was none
+abbrev pub TakesFound : {J : Type 0} → Gate J → Result Bool RunFault → List (List ℕ) → Gate J → Result Bool RunFault →
+    Type 0
+TakesFound g (Ok true) fields h (Ok found) = (found ≡ true) × TookLine g fields h
+TakesFound g (Ok true) fields h (Err e) = (e ≡ fault.Memory) × LostLine g h
+TakesFound g (Ok false) fields h r = (r ≡ Ok false) × (h ≡ g)
+TakesFound g (Err e) fields h r = (r ≡ Err e) × (h ≡ g)

@@ -1,0 +1,209 @@
+//! The gate through which the answers of a run with a log leave.
+
+ghost use Rattle.std.specs.Prelude.{◌≡◌, ◌≤◌, ◌++◌, ℕ, List, [], take, length, None, IfOk, IfErr, OnOk, OnErr, false, true};
+ghost use Rattle.csv.specs.Records.{fields_of};
+ghost use Rattle.olr_sessions.specs.Gates.{Keeping, Passes, PassesSome, PassesAll, Untouched, SameBatch, SettledBy, TakesFound, is_closed, ready};
+ghost use Rattle.olr_sessions.specs.KeptLines.{effect_of, kept_line};
+ghost use Rattle.olr_sessions.specs.Unkept.{waiting, next_line};
+ghost use Rattle.olr_sessions.specs.Buffers.{held};
+
+use crate::buffered::Buffered;
+use crate::ends::RunFault;
+use crate::journal::Journal;
+use crate::unkept::Unkept;
+use csv::ByteRecord;
+use std::alloc::{AllocError, Global};
+use std::io::Write;
+use thiserror::Error;
+
+/// What went wrong with a log.
+#[derive(Clone, Copy, Debug, PartialEq, Eq, Error)]
+pub enum LogFault {
+    /// It could not be written or synced.
+    #[error("the log can't be written")]
+    Unwritten,
+    /// Its name leads to another file or to none, or its length is not the one that was written.
+    #[error("the log was moved or changed by another")]
+    Moved,
+}
+
+/// A log with the lines that it doesn't keep yet. The answers of a run are sent through it: none leaves before each change
+/// that was accepted before it is kept, and none at all once the log has failed.
+#[derive(Drop)]
+pub struct Gate<J: Drop> {
+    journal: J,
+    unkept: Unkept,
+    fault: Option<LogFault>,
+}
+
+impl<J: Journal + Drop> Gate<J> {
+    /// A gate with this log, before the first record.
+    pub fn new(alloc: Global, journal: J) -> Gate<J>
+        ensures journal { result.journal ≡ journal }
+        ensures waiting { waiting result.unkept ≡ record { ready = []; batch = [] } }
+        ensures open { result.fault ≡ None }
+    {
+        Gate {
+            journal,
+            unkept: Unkept::new(alloc),
+            fault: None,
+        }
+    }
+
+    /// The log, as far as it was kept.
+    pub fn get_ref(&self) -> &J
+        ensures { result.now ≡ self.now.journal }
+    {
+        &self.journal
+    }
+
+    /// What went wrong with the log, if something did.
+    pub fn fault(&self) -> Option<LogFault>
+        ensures { result ≡ self.now.fault }
+    {
+        self.fault
+    }
+
+    /// Takes the line of a record that will be answered next.
+    fn take(&mut self, fields: &ByteRecord) -> Result<(), AllocError>
+        ensures untouched { Untouched self.old self.new }
+        ensures waiting { waiting self.new.unkept ≡ waiting self.old.unkept }
+        ensures effect { OnOk result (self.new.unkept.effect ≡ effect_of (fields_of fields.now)) }
+        ensures line { OnOk result (next_line self.new.unkept ≡ kept_line (fields_of fields.now)) }
+    {
+        self.unkept.take(fields)
+    }
+
+    /// Takes the line of a record that was read, if one was.
+    pub fn take_found(
+        &mut self,
+        found: Result<bool, RunFault>,
+        fields: &ByteRecord,
+    ) -> Result<bool, RunFault>
+        ensures { TakesFound self.old found (fields_of fields.now) self.new result }
+    {
+        match found {
+            Ok(true) => match self.take(fields) {
+                Ok(()) => Ok(true),
+                Err(_error) => Err(RunFault::Memory),
+            },
+            Ok(false) => Ok(false),
+            Err(fault) => Err(fault),
+        }
+    }
+
+    /// The record whose line was taken last is accepted or rejected.
+    pub fn settle(&mut self, accepted: bool)
+        ensures untouched { Untouched self.old self.new }
+        ensures settled { SettledBy self.old.unkept accepted self.new.unkept }
+    {
+        self.unkept.settle(accepted);
+    }
+
+    /// Keeps what is ready, and returns once it is on the disk. Returns false, and closes the gate, if the log failed.
+    fn keep(&mut self) -> bool
+        ensures keeping { (sent : List ℕ) → (result ≡ false → sent ≡ [])
+            → Keeping J.kept J.may_leave self.old self.new sent }
+        ensures kept { result ≡ true → (ready self.new ≡ []) × (is_closed self.new ≡ false) }
+        ensures others { SameBatch self.old self.new }
+    {
+        if self.fault.is_some() {
+            return false;
+        }
+        if !self.unkept.ready().is_empty() {
+            if self.journal.keep(self.unkept.ready()).is_err() {
+                self.fault = Some(LogFault::Unwritten);
+                return false;
+            }
+            self.unkept.forget_ready();
+        }
+        if !self.journal.is_in_place() {
+            self.fault = Some(LogFault::Moved);
+            return false;
+        }
+        true
+    }
+
+    /// Keeps what is ready, and then sends what the output holds back. `Write` is the fault if either fails; nothing is
+    /// sent once the log has failed.
+    pub fn send<W: Write + Drop>(&mut self, output: &mut Buffered<W>) -> Result<(), RunFault>
+        ensures passes { Passes J.kept J.may_leave W.contents self.old output.old self.new output.new [] }
+        ensures sent { OnOk result (held output.new ≡ []) }
+        ensures kept { OnOk result ((ready self.new ≡ []) × (is_closed self.new ≡ false)) }
+        ensures fault { IfErr result (λ e. e ≡ RunFault.Write) }
+    {
+        if !self.keep() {
+            return Err(RunFault::Write);
+        }
+        match output.send_held() {
+            Ok(()) => Ok(()),
+            Err(_error) => Err(RunFault::Write),
+        }
+    }
+
+    /// The same, if the source of the records may wait.
+    pub fn send_before<W: Write + Drop>(
+        &mut self,
+        waits: bool,
+        output: &mut Buffered<W>,
+    ) -> Result<(), RunFault>
+        ensures passes { Passes J.kept J.may_leave W.contents self.old output.old self.new output.new [] }
+        ensures fault { IfErr result (λ e. e ≡ RunFault.Write) }
+    {
+        if !waits {
+            return Ok(());
+        }
+        self.send(output)
+    }
+
+    /// Holds back bytes of a text, and returns how many. An output that is full is sent first.
+    fn write_some<W: Write + Drop>(
+        &mut self,
+        output: &mut Buffered<W>,
+        text: &[u8],
+    ) -> Result<usize, RunFault>
+        ensures { PassesSome J.kept J.may_leave W.contents self.old output.old self.new output.new text.now result }
+    {
+        let taken = hold(output, text)?;
+        if taken > 0 {
+            return Ok(taken);
+        }
+        self.send(output)?;
+        hold(output, text)
+    }
+
+    /// Holds back a text, or what is left of it once its first part was sent. `Write` is the fault if it can't be sent.
+    pub fn write<W: Write + Drop>(
+        &mut self,
+        output: &mut Buffered<W>,
+        text: &[u8],
+    ) -> Result<(), RunFault>
+        ensures { PassesAll J.kept J.may_leave W.contents self.old output.old self.new output.new text.now result }
+    {
+        let mut written = 0;
+        while written < text.len() {
+            let Ok(taken) = self.write_some(output, &text[written..]) else {
+                return Err(RunFault::Write);
+            };
+            if taken == 0 {
+                return Err(RunFault::Write);
+            }
+            written += taken;
+        }
+        Ok(())
+    }
+}
+
+/// Holds back as many bytes as there is room for. `Write` is the fault if an allocation fails.
+fn hold<W: Write + Drop>(output: &mut Buffered<W>, bytes: &[u8]) -> Result<usize, RunFault>
+    ensures bound { IfOk result (λ n. n ≤ length bytes.now) }
+    ensures held { IfOk result (λ n. held output.new ≡ held output.old ++ take n bytes.now) }
+    ensures device { output.new.device ≡ output.old.device }
+    ensures nothing { OnErr result (held output.new ≡ held output.old) }
+    ensures fault { IfErr result (λ e. e ≡ RunFault.Write) }
+{
+    match output.hold(bytes) {
+        Ok(taken) => Ok(taken),
+        Err(_error) => Err(RunFault::Write),
+    }
+}

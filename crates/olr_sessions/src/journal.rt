@@ -1,0 +1,38 @@
+//! A log in which the accepted changes of a run are kept.
+
+ghost use Rattle.std.specs.Prelude.{◌≡◌, ◌⊎◌, ℕ, List, ◌++◌, if◌then◌else◌, IsTrue, IfOk, OnOk};
+ghost use Rattle.olr_sessions.specs.Journals.{IsFront, Only, is_whole};
+
+use std::io;
+
+/// A log of records. The next run begins with what this one leaves of it.
+pub trait Journal {
+    /// The text that is kept.
+    ghost kept: { Self → List ℕ };
+
+    /// The texts with which the next run may begin, if this one is cut off now.
+    ghost may_leave: { Self → List ℕ → Type 0 };
+
+    /// Appends whole records, and returns once they are on the disk. If it fails, the log holds what it held, or beside it
+    /// a whole front of the records, and nothing more can be kept.
+    fn keep(&mut self, records: &[u8]) -> io::Result<()>
+        requires { IsTrue (is_whole records.now) }
+        ensures kept { OnOk result (kept self.new ≡ kept self.old ++ records.now) }
+        ensures durable { OnOk result (Only (kept self.new) (may_leave self.new)) }
+        ensures cut { (c : List ℕ) → may_leave self.new c → may_leave self.old c
+            ⊎ ((front : List ℕ) × IsFront records.now front × (c ≡ kept self.old ++ front)) };
+
+    /// Puts whole records in the place of all that is kept. Returns false if that failed and the log is as it was. After an
+    /// error it is what it was, or these records, and nothing more can be kept.
+    fn replace(&mut self, records: &[u8]) -> io::Result<bool>
+        requires { IsTrue (is_whole records.now) }
+        ensures kept { IfOk result (λ done. kept self.new ≡ if done then records.now else kept self.old) }
+        ensures durable { Only (kept self.old) (may_leave self.old) → OnOk result (Only (kept self.new) (may_leave self.new)) }
+        ensures cut { (c : List ℕ) → may_leave self.new c → may_leave self.old c ⊎ (c ≡ records.now) };
+
+    /// Whether the log is so large that it should be replaced.
+    fn is_large(&self) -> bool;
+
+    /// Whether the name of the log still leads to the file that is open, with the length that was written.
+    fn is_in_place(&self) -> bool;
+}

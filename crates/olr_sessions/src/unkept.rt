@@ -1,0 +1,301 @@
+//! Lines of accepted commands that a log doesn't keep yet.
+
+ghost use Rattle.std.specs.Prelude.{◌≡◌, ◌⊎◌, ◌++◌, ◌∷◌, ℕ, List, [], false, IsTrue, OnOk, if◌then◌else◌, slice_index_or};
+ghost use Rattle.std.specs.List.{join_with_byte};
+ghost use Rattle.std.specs.Str.{bytes_eq};
+ghost use Rattle.csv.specs.Records.{fields_of};
+ghost use Rattle.olr_sessions.specs.KeptLines as lines;
+ghost use Rattle.olr_sessions.specs.KeptLines.{AreLines};
+
+use crate::buffered::remove_front;
+use csv::ByteRecord;
+use std::alloc::{AllocError, Global};
+
+/// What a record does to a log, if it is accepted.
+#[derive(Clone, Copy, PartialEq, Eq)]
+pub enum Effect {
+    /// Nothing: it asks a question, or no command has its form.
+    Nothing,
+    /// It changes the map or the paths, at once or in the open batch.
+    Change,
+    /// It opens a batch.
+    Begin,
+    /// It accepts the changes of the batch.
+    Commit,
+    /// It drops them.
+    Abort,
+}
+
+/// Whether a byte is none of a line end.
+fn is_clean_byte(byte: u8) -> bool
+    ensures { result ≡ lines.is_clean_byte byte }
+{
+    !(byte == b'\n' || byte == b'\r')
+}
+
+/// Whether a text holds no line end.
+fn is_clean(text: &[u8]) -> bool
+    ensures { result ≡ lines.is_clean text.now }
+{
+    text.iter().all(|byte| is_clean_byte(*byte))
+}
+
+/// Whether a word is this text.
+fn is(word: &[u8], text: &[u8]) -> bool
+    ensures { result ≡ bytes_eq word.now text.now }
+{
+    word == text
+}
+
+/// Whether a word is that of a record that changes the map or the paths.
+fn is_change(word: &[u8]) -> bool
+    ensures { result ≡ lines.is_change word.now }
+{
+    is(word, b"node")
+        || is(word, b"move")
+        || is(word, b"drop-node")
+        || is(word, b"line")
+        || is(word, b"set-line")
+        || is(word, b"drop-line")
+        || is(word, b"path")
+        || is(word, b"repath")
+        || is(word, b"drop-path")
+}
+
+/// The effect of a record with this word, alone or with further fields.
+fn effect_by(word: &[u8], alone: bool) -> Effect
+    ensures { result ≡ lines.effect_by word.now alone }
+{
+    if is_change(word) {
+        Effect::Change
+    } else if is(word, b"begin") && alone {
+        Effect::Begin
+    } else if is(word, b"commit") && !alone {
+        Effect::Commit
+    } else if is(word, b"abort") {
+        Effect::Abort
+    } else {
+        Effect::Nothing
+    }
+}
+
+/// The effect of a record, by its word.
+fn word_effect(fields: &ByteRecord) -> Effect
+    ensures { result ≡ lines.word_effect (fields_of fields.now) }
+{
+    match fields.get(0) {
+        Some(word) => effect_by(word, fields.len() == 1),
+        None => Effect::Nothing,
+    }
+}
+
+/// Whether an effect is kept as a line.
+fn has_line(effect: Effect) -> bool
+    ensures { result ≡ lines.has_line effect }
+{
+    matches!(effect, Effect::Change | Effect::Begin | Effect::Commit)
+}
+
+/// The field at index `k`, or no bytes past the last one.
+fn field(fields: &ByteRecord, k: usize) -> &[u8]
+    ensures { result.now ≡ slice_index_or (fields_of fields.now) k [] }
+{
+    match fields.get(k) {
+        Some(field) => field,
+        None => &[],
+    }
+}
+
+/// Appends a field, after a comma unless it is the first.
+fn push_field(line: &mut Vec<u8>, field: &[u8], is_first: bool) -> Result<(), AllocError>
+    ensures { OnOk result
+        (line.new.items ≡ line.old.items ++ (if is_first then field.now else 44 ∷ field.now)) }
+{
+    if is_first {
+        line.extend_from_slice(field)?;
+        return Ok(());
+    }
+    line.push(b',')?;
+    line.extend_from_slice(field)?;
+    Ok(())
+}
+
+/// Writes fields, with a comma between each two, in the place of what is in `line`.
+fn write_fields(line: &mut Vec<u8>, fields: &ByteRecord) -> Result<(), AllocError>
+    ensures { OnOk result (line.new.items ≡ join_with_byte 44 (fields_of fields.now)) }
+{
+    line.clear();
+    for i in 0..fields.len() {
+        push_field(line, field(fields, i), i == 0)?;
+    }
+    Ok(())
+}
+
+/// Lines of accepted commands that a log doesn't keep yet: first those that are ready to be kept, then those of the open
+/// batch, then the line of a record that isn't answered yet.
+#[derive(Drop)]
+pub struct Unkept {
+    lines: Vec<u8>,
+    /// How many bytes are ready to be kept.
+    ready: usize,
+    /// How many bytes are those and the open batch's.
+    held: usize,
+    /// What the record that isn't answered yet does, if it is accepted.
+    effect: Effect,
+    /// A buffer for its line, reused from record to record.
+    line: Vec<u8>,
+    ghost right: { AreLines lines.items ready held effect },
+}
+
+impl Unkept {
+    ghost use Rattle.olr_sessions.specs.Journals.{IsFront, is_whole};
+    ghost use Rattle.olr_sessions.specs.KeptLines.{IsLineFor, has_line, settled};
+    ghost use Rattle.olr_sessions.specs.Unkept.{waiting, next_line, Opens, Closes};
+
+    /// No lines. Takes no memory.
+    pub fn new(alloc: Global) -> Unkept
+        ensures waiting { waiting result ≡ record { ready = []; batch = [] } }
+    {
+        Unkept {
+            lines: Vec::new(alloc),
+            ready: 0,
+            held: 0,
+            effect: Effect::Nothing,
+            line: Vec::new(alloc),
+        }
+    }
+
+    /// Drops the line that was taken last.
+    fn cut(&mut self)
+        ensures waiting { waiting self.new ≡ waiting self.old }
+        ensures effect { self.new.effect ≡ Effect.Nothing }
+        ensures line { next_line self.new ≡ [] }
+    {
+        self.lines.truncate(self.held);
+        self.effect = Effect::Nothing;
+    }
+
+    /// Notes the effect of a record that is not kept as a line.
+    fn note(&mut self, effect: Effect)
+        requires unkept { has_line effect ≡ false }
+        requires none { next_line self.old ≡ [] }
+        ensures waiting { waiting self.new ≡ waiting self.old }
+        ensures effect { self.new.effect ≡ effect }
+        ensures line { next_line self.new ≡ [] }
+    {
+        self.effect = effect;
+    }
+
+    /// Takes the line that was written, of a record of this effect.
+    fn add(&mut self, effect: Effect) -> Result<(), AllocError>
+        requires none { next_line self.old ≡ [] }
+        requires line { IsLineFor effect self.old.line.items }
+        ensures waiting { waiting self.new ≡ waiting self.old }
+        ensures effect { OnOk result (self.new.effect ≡ effect) }
+        ensures line { OnOk result (next_line self.new ≡ self.old.line.items) }
+    {
+        self.lines.extend_from_slice(self.line.as_slice())?;
+        self.effect = effect;
+        Ok(())
+    }
+
+    /// Takes the line of a record that will be answered next, in the place of the last one that wasn't. After a failed
+    /// allocation it has no line.
+    pub fn take(&mut self, fields: &ByteRecord) -> Result<(), AllocError>
+        ensures waiting { waiting self.new ≡ waiting self.old }
+        ensures effect { OnOk result (self.new.effect ≡ lines.effect_of (fields_of fields.now)) }
+        ensures line { OnOk result (next_line self.new ≡ lines.kept_line (fields_of fields.now)) }
+    {
+        self.cut();
+        let effect = word_effect(fields);
+        if !has_line(effect) {
+            self.note(effect);
+            return Ok(());
+        }
+        write_fields(&mut self.line, fields)?;
+        if !is_clean(self.line.as_slice()) {
+            return Ok(());
+        }
+        self.line.push(b'\n')?;
+        self.add(effect)
+    }
+
+    /// The line that was taken last waits in the open batch.
+    fn hold_all(&mut self)
+        requires { Opens self.old }
+        ensures waiting { waiting self.new ≡ settled self.old.effect (next_line self.old) (waiting self.old) }
+    {
+        self.held = self.lines.len();
+        self.effect = Effect::Nothing;
+    }
+
+    /// All lines are ready.
+    fn ready_all(&mut self)
+        requires { Closes self.old }
+        ensures waiting { waiting self.new ≡ settled self.old.effect (next_line self.old) (waiting self.old) }
+        ensures fronts { (front : List ℕ) → IsFront (waiting self.new).ready front
+            → IsFront (waiting self.old).ready front ⊎ (front ≡ (waiting self.new).ready) }
+    {
+        self.held = self.lines.len();
+        self.ready = self.held;
+        self.effect = Effect::Nothing;
+    }
+
+    /// Drops the lines of the open batch, and that which was taken last.
+    fn drop_batch(&mut self)
+        ensures waiting { waiting self.new ≡ record { ready = (waiting self.old).ready; batch = [] } }
+    {
+        self.lines.truncate(self.ready);
+        self.held = self.ready;
+        self.effect = Effect::Nothing;
+    }
+
+    /// The record whose line was taken last is accepted.
+    fn accept(&mut self)
+        ensures waiting { waiting self.new ≡ settled self.old.effect (next_line self.old) (waiting self.old) }
+        ensures fronts { (front : List ℕ) → IsFront (waiting self.new).ready front
+            → IsFront (waiting self.old).ready front ⊎ (front ≡ (waiting self.new).ready) }
+    {
+        match self.effect {
+            Effect::Nothing => self.cut(),
+            Effect::Begin => self.hold_all(),
+            Effect::Change if self.ready < self.held => self.hold_all(),
+            Effect::Change => self.ready_all(),
+            Effect::Commit => self.ready_all(),
+            Effect::Abort => self.drop_batch(),
+        }
+    }
+
+    /// The record whose line was taken last is accepted or rejected.
+    pub fn settle(&mut self, accepted: bool)
+        ensures waiting { waiting self.new ≡ (if accepted then settled self.old.effect (next_line self.old) (waiting self.old)
+            else waiting self.old) }
+        ensures fronts { (front : List ℕ) → IsFront (waiting self.new).ready front
+            → IsFront (waiting self.old).ready front ⊎ (front ≡ (waiting self.new).ready) }
+    {
+        if accepted {
+            self.accept();
+        } else {
+            self.cut();
+        }
+    }
+
+    /// The lines that are ready to be kept: they are whole.
+    pub fn ready(&self) -> &[u8]
+        ensures lines { result.now ≡ (waiting self.now).ready }
+        ensures whole { IsTrue (is_whole result.now) }
+    {
+        &self.lines[..self.ready]
+    }
+
+    /// Drops the lines that were ready, which are kept now.
+    pub fn forget_ready(&mut self)
+        ensures waiting { waiting self.new ≡ record { ready = []; batch = (waiting self.old).batch } }
+        ensures effect { self.new.effect ≡ self.old.effect }
+        ensures line { next_line self.new ≡ next_line self.old }
+    {
+        remove_front(&mut self.lines, self.ready);
+        self.held -= self.ready;
+        self.ready = 0;
+    }
+}

@@ -1,0 +1,229 @@
+//! Tests of runs with a log. The log is one in memory that fails at a call.
+
+ghost use Rattle.std.specs.Prelude.{◌≡◌};
+
+use olr_register::Register;
+use olr_run::{
+    Buffered, Journal, LogFault, RestoreFault, RunFault, Status, restore, run, run_with_log,
+};
+use std::alloc::{AllocError, Global};
+use std::io;
+use std::process::Abort;
+
+/// A log in memory. From one call of `keep` on it fails.
+#[derive(Drop)]
+struct Kept {
+    text: Vec<u8>,
+    calls: usize,
+    fails_from: usize,
+    in_place: bool,
+}
+
+impl Journal for Kept {
+    ghost kept = { λ k. k.text.items };
+
+    ghost may_leave = { λ k c. c ≡ k.text.items };
+
+    fn keep(&mut self, records: &[u8]) -> io::Result<()> {
+        let call = self.calls;
+        self.calls = call.saturating_add(1);
+        if call >= self.fails_from {
+            return Err(io::Error::from(io::ErrorKind::Other));
+        }
+        self.text.extend_from_slice(records)?;
+        Ok(())
+    }
+
+    fn replace(&mut self, _records: &[u8]) -> io::Result<bool> {
+        Ok(false)
+    }
+
+    fn is_large(&self) -> bool {
+        false
+    }
+
+    fn is_in_place(&self) -> bool {
+        self.in_place
+    }
+}
+
+/// What a run with a log left.
+struct Left {
+    log: Vec<u8>,
+    answers: Vec<u8>,
+    ended: Result<Status, RunFault>,
+    fault: Option<LogFault>,
+    large: bool,
+}
+
+/// Runs records on a new register, with a new log that fails from one call on.
+fn run_logged(
+    alloc: Global,
+    records: &'static [u8],
+    fails_from: usize,
+    in_place: bool,
+) -> Result<Left, AllocError> {
+    let mut register = Register::new(alloc);
+    let mut output = Buffered::new(alloc, Vec::new(alloc))?;
+    let journal = Kept {
+        text: Vec::new(alloc),
+        calls: 0,
+        fails_from,
+        in_place,
+    };
+    let none: Option<&[u8]> = None;
+    let (ended, gate) = run_with_log(
+        alloc,
+        &mut register,
+        none,
+        records,
+        journal,
+        &mut output,
+        false,
+    );
+    drop(register);
+    let log = gate.get_ref().text.clone()?;
+    let answers = output.get_ref().clone()?;
+    let fault = gate.fault();
+    let large = gate.get_ref().is_large();
+    drop(gate);
+    drop(output);
+    Ok(Left {
+        log,
+        answers,
+        ended,
+        fault,
+        large,
+    })
+}
+
+/// Changes, a question, rejected records, a batch that is dropped and one that is committed.
+const RECORDS: &[u8] =
+    b"node,1,0,0\nnode,1,0,0\nreport\nbegin\nnode,2,0,0\nabort\nbegin\n\"node\",3,0,0\nnode,3,0,0\ncommit,2\nshow,a\ncommit,1\n";
+
+const REPLIES: &[u8] =
+    b"ok,0\nfault,3,NodeExists\nok,0\nok,0\nheld,1\nok,0\nok,0\nheld,1\nfault,3,NodeExists\nfault,16,CountDiffers\nfault,10,NoPath\nok,0\n";
+
+const LOG: &[u8] = b"node,1,0,0\nbegin\nnode,3,0,0\ncommit,1\n";
+
+#[test]
+fn what_is_kept(rt: HostRuntime) {
+    match run_logged(rt.alloc(), RECORDS, 100, true) {
+        Ok(
+            Left {
+                log,
+                answers,
+                ended,
+                fault,
+                large,
+            },
+        ) => {
+            assert_eq!(rt; log.as_slice(), LOG);
+            assert_eq!(rt; answers.as_slice(), REPLIES);
+            assert_eq!(rt;
+                (ended, fault, large),
+                (Ok(Status::SomeRefused), None, false)
+            );
+        }
+        Err(_error) => assert!(rt; false),
+    }
+}
+
+#[test]
+fn log_that_fails(rt: HostRuntime) {
+    match run_logged(rt.alloc(), RECORDS, 0, true) {
+        Ok(
+            Left {
+                log,
+                answers,
+                ended,
+                fault,
+                large,
+            },
+        ) => {
+            assert_eq!(rt; (log.len(), answers.len()), (0, 0));
+            assert_eq!(rt;
+                (ended, fault, large),
+                (Err(RunFault::Write), Some(LogFault::Unwritten), false)
+            );
+        }
+        Err(_error) => assert!(rt; false),
+    }
+}
+
+#[test]
+fn log_that_is_moved(rt: HostRuntime) {
+    match run_logged(rt.alloc(), RECORDS, 100, false) {
+        Ok(
+            Left {
+                log,
+                answers,
+                ended,
+                fault,
+                large,
+            },
+        ) => {
+            assert_eq!(rt; (log.len() > LOG.len(), answers.len()), (false, 0));
+            assert_eq!(rt;
+                (ended, fault, large),
+                (Err(RunFault::Write), Some(LogFault::Moved), false)
+            );
+        }
+        Err(_error) => assert!(rt; false),
+    }
+}
+
+/// Starts from a log, and asserts the reply to `dump`.
+fn expect_dump<R: Abort + AllocGlobal>(rt: &R, log: &[u8], dump: &[u8]) {
+    let mut count = 0;
+    match restore(rt.alloc(), log, &mut count) {
+        Ok(mut register) => {
+            let mut output = Vec::new(rt.alloc());
+            let records: &[u8] = b"dump\n";
+            let ended = run(rt.alloc(), &mut register, records, &mut output, false);
+            assert_eq!(rt; (output.as_slice(), ended), (dump, Ok(Status::AllAccepted)));
+            drop(register);
+        }
+        Err(_fault) => assert!(rt; false),
+    }
+}
+
+/// Asserts that a log is rejected, at this record.
+fn expect_rejected<R: Abort + AllocGlobal>(rt: &R, log: &[u8], fault: RestoreFault, at: u64) {
+    let mut count = 0;
+    match restore(rt.alloc(), log, &mut count) {
+        Ok(register) => {
+            drop(register);
+            assert!(rt; false);
+        }
+        Err(found) => assert_eq!(rt; (found, count), (fault, at)),
+    }
+}
+
+#[test]
+fn starts(rt: HostRuntime) {
+    expect_dump(&rt, LOG, b"ok,2\nnode,1,0,0\nnode,3,0,0\n");
+    expect_dump(&rt, b"", b"ok,0\n");
+    expect_dump(
+        &rt,
+        b"\r\n\"node\",2,0.0,0\r\nbegin\ncommit,0\n",
+        b"ok,1\nnode,2,0,0\n",
+    );
+}
+
+#[test]
+fn logs_that_are_rejected(rt: HostRuntime) {
+    expect_rejected(&rt, b"node,1,0,0\nreport\n", RestoreFault::Rejected, 2);
+    expect_rejected(&rt, b"node,1,0,0\nnode,1,0,0\n", RestoreFault::Rejected, 2);
+    expect_rejected(
+        &rt,
+        b"begin\nnode,1,0,0\ncommit,2\n",
+        RestoreFault::Rejected,
+        3,
+    );
+    expect_rejected(&rt, b"begin\nnode,1,0,0\n", RestoreFault::Open, 2);
+    expect_rejected(&rt, b"begin\nbegin\n", RestoreFault::Rejected, 2);
+    expect_rejected(&rt, b"commit,0\n", RestoreFault::Rejected, 1);
+    expect_rejected(&rt, b"begin\nabort\n", RestoreFault::Rejected, 2);
+    expect_rejected(&rt, b"node,1,0\n", RestoreFault::Rejected, 1);
+}
