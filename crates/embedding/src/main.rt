@@ -5,7 +5,7 @@ use anyhow::Context;
 use olr_binary::to_text;
 use olr_commands::{Command, Entry, Reply};
 use olr_coords::Coord;
-use olr_map::{Edit, Line, LineEnd, LineId, MapRead, NodeId, RoadMap};
+use olr_map::{Edit, Line, LineId, MapRead, NodeId, NodeLines, RoadMap};
 use olr_refs::{Answer, Path, refer};
 use olr_register::Register;
 use olr_search::Work;
@@ -184,14 +184,6 @@ impl<M: MapRead> MapRead for Survey<M> {
         self.map.in_lines(id)
     }
 
-    fn out_ends(&self, id: NodeId) -> &[LineEnd] {
-        self.map.out_ends(id)
-    }
-
-    fn in_ends(&self, id: NodeId) -> &[LineEnd] {
-        self.map.in_ends(id)
-    }
-
     fn slot_count(&self) -> usize {
         self.map.slot_count()
     }
@@ -200,16 +192,12 @@ impl<M: MapRead> MapRead for Survey<M> {
         self.map.slot_of(id)
     }
 
-    fn in_lines_at(&self, slot: u32) -> &[LineId] {
+    fn out_lines_at(&self, slot: u32) -> NodeLines<'_> {
+        self.map.out_lines_at(slot)
+    }
+
+    fn in_lines_at(&self, slot: u32) -> NodeLines<'_> {
         self.map.in_lines_at(slot)
-    }
-
-    fn out_ends_at(&self, slot: u32) -> &[LineEnd] {
-        self.map.out_ends_at(slot)
-    }
-
-    fn in_ends_at(&self, slot: u32) -> &[LineEnd] {
-        self.map.in_ends_at(slot)
     }
 
     ghost sound = { λ s. M.sound s.map };

@@ -10,7 +10,7 @@ use Rattle.olr_spec.specs.Joins.{Joined}
 use Rattle.olr_spec.proofs.JoinedAnswers.{joined}
 use Rattle.olr_commands.specs.State.{Named, Content, path_named, same_name, ArePaths, NamesDiffer, IsContent, Fault}
 use Rattle.olr_commands.specs.State.{Change, after, Command, Make, Begin, Commit, Abort, State, start_state, step}
-use Rattle.olr_commands.specs.State.{changes_made, changes_made_in, IsState, Dump}
+use Rattle.olr_commands.specs.State.{changes_made, changes_made_in, IsState, Dump, Show_node, Show_line}
 use Rattle.olr_commands.specs.Reply.{Entry, entry, Paths, HasAnswer, Published, ChangedOf, Differences, IsReply}
 use Rattle.olr_commands.specs.Reply.{Outcome, IsOutcome, Dumped, Reply}
 use Rattle.olr_commands.specs.History.{Run, brought_by, next_state, all_changes_made, OneOf, IsPublished, names}
@@ -226,6 +226,8 @@ dumped_of : (c : Content) (b : Option (List Change)) (t : State) (x : Command) (
     → IsDump (record { content = c; batch = b }) count text × (t ≡ record { content = c; batch = b })
 dumped_of c b t Dump count text i is h = grind (arith, when_ok, not-false, dumps_run)
 dumped_of c (Some xs) t (Make x) count text i is h = absurd cc
+dumped_of c b t (Show_node v) count text i is h = absurd cc
+dumped_of c b t (Show_line x) count text i is h = absurd cc
 dumped_of c b t Begin count text i is h = absurd cc
 dumped_of c b t Abort count text i is h = absurd cc
 dumped_of c b t x count text i is h = absurd h

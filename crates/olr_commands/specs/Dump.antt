@@ -2,11 +2,12 @@
 --     dump_changes c      an added node for each node, an added line for each line, both in ascending order,
 --         and an added path for each path, in order
 --     dump_lines c      the records of these changes
+--     node_changes M v, line_changes M x      those of a node;  those of the ends of a line, each once, and of the line
 --     Leads c xs d      the changes are accepted one after another and lead from c to d
 --     steps s cs      the state after commands, or the first fault
-use Rattle.std.specs.Prelude.{◌≡◌, ℕ, List, [], ◌∷◌, ◌++◌, map, None, Result, Ok, Err}
+use Rattle.std.specs.Prelude.{◌≡◌, ◌==◌, ℕ, List, [], ◌∷◌, ◌++◌, map, if◌then◌else◌, None, Result, Ok, Err}
 use Rattle.std.specs.FinMap.{entries}
-use Rattle.olr_spec.specs.Map.{Line, Add_node, Add_line}
+use Rattle.olr_spec.specs.Map.{Map, Line, Add_node, Add_line, coord_at, line_at, start, end}
 use Rattle.olr_spec.specs.Coordinates.{Coord}
 use Rattle.olr_commands.specs.State.{Named, Content, no_content, Fault, Change, On_map, Add_path, after, Command, Make}
 use Rattle.olr_commands.specs.State.{State, start_state, step, IsContent, AllAccepted}
@@ -28,6 +29,17 @@ dump_changes c =
 
 abbrev pub dump_lines : Content → List (List ℕ)
 dump_lines c = map record_line (dump_changes c)
+
+abbrev pub node_changes : Map → ℕ → List Change
+node_changes M v = node_change (v, coord_at M v) ∷ []
+
+-- one node if both are the same
+abbrev pub end_changes : Map → ℕ → ℕ → List Change
+end_changes M v w = node_changes M v ++ (if v == w then [] else node_changes M w)
+
+-- the node where it begins first
+abbrev pub line_changes : Map → ℕ → List Change
+line_changes M x = end_changes M (start M x) (end M x) ++ line_change (x, line_at M x) ∷ []
 
 abbrev pub Leads : Content → List Change → Content → Type 0
 Leads c xs d = AllAccepted c xs × (after c xs ≡ d)

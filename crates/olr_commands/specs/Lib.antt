@@ -4,5 +4,6 @@ pub mod RecordText
 pub mod Dump
 pub mod Reply
 pub mod Counts
+pub mod Depending
 pub mod History
 pub mod Words

@@ -4,7 +4,7 @@
 --     IsReply s c t reply      the reply to an accepted command that leads from s to t
 --     IsOutcome s c outcome t      the command may lead from s to t with this reply, or this fault
 use Rattle.std.specs.Prelude.{◌≡◌, ◌==◌, ℕ, suc, Bool, true, false, not, ◌&&◌, ◌||◌, List, [], ◌∷◌, length, Option}
-use Rattle.std.specs.Prelude.{Some, None, option_and_then, IsSomeAnd, MatchOption, Result, Ok, Err, ◌⊎◌, IsTrue}
+use Rattle.std.specs.Prelude.{Some, None, map, option_and_then, IsSomeAnd, MatchOption, Result, Ok, Err, ◌⊎◌, IsTrue}
 use Rattle.std.specs.Result.{result_ok}
 use Rattle.std.specs.List.{concat}
 use Rattle.base64.specs.Engines.{standard}
@@ -20,8 +20,10 @@ use Rattle.olr_commands.specs.State.{Named, Content, path_named, Fault, Syntax, 
 use Rattle.olr_commands.specs.State.{Bad_path, Not_a_reference, Memory, Batch_open, No_batch, Count_differs, Batch_full}
 use Rattle.olr_commands.specs.State.{Not_a_record, Dump}
 use Rattle.olr_commands.specs.State.{Change, On_map, Drop_path, State, Command, Make, Show, Report, Explain, Begin}
-use Rattle.olr_commands.specs.State.{Commit, Abort, step}
-use Rattle.olr_commands.specs.Dump.{dump_lines}
+use Rattle.olr_commands.specs.State.{Commit, Abort, Show_node, Show_line, Depends, step}
+use Rattle.olr_commands.specs.RecordText.{record_line}
+use Rattle.olr_commands.specs.Dump.{dump_lines, node_changes, line_changes}
+use Rattle.olr_commands.specs.Depending.{Dependents}
 
 -- a path's string, or the reason why it has none
 pub record Entry : Type 0 where
@@ -33,6 +35,8 @@ pub data Reply : Type 0 where
   Fields : (reference : Reference) → Reply
   Held : (count : ℕ) → Reply
   Dumped : (count : ℕ) (text : List ℕ) → Reply
+  Records : (count : ℕ) (text : List ℕ) → Reply
+  Names : (names : List (List ℕ)) → Reply
 
 abbrev pub published_text : Answer → Result (List ℕ) Refusal
 published_text (Points r) = Ok (text_of r)
@@ -90,6 +94,14 @@ abbrev pub IsFields : Reply → (Reference → Type 0) → Type 0
 IsFields (Fields r) P = P r
 IsFields _ P = ⊥
 
+abbrev pub IsNames : Reply → (List (List ℕ) → Type 0) → Type 0
+IsNames (Names names) P = P names
+IsNames _ P = ⊥
+
+-- the records of these changes
+abbrev pub IsRecords : Reply → List Change → Type 0
+IsRecords reply xs = reply ≡ Records (length xs) (concat (map record_line xs))
+
 -- to a change, in a batch that holds these changes or outside a batch
 abbrev pub IsChangeReply : Option (List Change) → Content → Content → Reply → Type 0
 IsChangeReply None before later reply = IsPaths reply (Differences before later)
@@ -98,6 +110,9 @@ IsChangeReply (Some xs) before later reply = reply ≡ Held (suc (length xs))
 abbrev pub IsReply : State → Command → State → Reply → Type 0
 IsReply s (Make x) t reply = IsChangeReply s.batch s.content t.content reply
 IsReply s (Show name) t reply = IsPaths reply (Shown s.content name)
+IsReply s (Show_node v) t reply = IsRecords reply (node_changes s.content.map v)
+IsReply s (Show_line x) t reply = IsRecords reply (line_changes s.content.map x)
+IsReply s (Depends nodes) t reply = IsNames reply (Dependents s.content nodes)
 IsReply s Report t reply = IsPaths reply (AllOf s.content.map s.content.paths)
 IsReply s Dump t reply =
     reply ≡ Dumped (length (dump_lines s.content)) (concat (dump_lines s.content))

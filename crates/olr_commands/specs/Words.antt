@@ -33,6 +33,9 @@ command_of (command.SetPath name lines p n) =
     state.Make (state.Set_path (string_bytes name) (path_along lines.items p n))
 command_of (command.DropPath name) = state.Make (state.Drop_path (string_bytes name))
 command_of (command.Show name) = state.Show (string_bytes name)
+command_of (command.ShowNode v) = state.Show_node v
+command_of (command.ShowLine x) = state.Show_line x
+command_of (command.Depends nodes) = state.Depends nodes.items
 command_of command.Report = state.Report
 command_of command.Dump = state.Dump
 command_of (command.Explain text) = state.Explain text.items
@@ -48,6 +51,8 @@ reply_of (answered.Paths entries) = reply.Paths (map entry_of entries.items)
 reply_of (answered.Fields r) = reply.Fields r
 reply_of (answered.Held count) = reply.Held count
 reply_of (answered.Dump d) = reply.Dumped d.count d.text.items
+reply_of (answered.Records d) = reply.Records d.count d.text.items
+reply_of (answered.Names names) = reply.Names (map string_bytes names.items)
 
 -- out of memory is one fault, wherever it was reported
 abbrev pub map_fault_of : EditFault → state.Fault

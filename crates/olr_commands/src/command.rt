@@ -1,6 +1,6 @@
 //! Commands to a register of named paths.
 
-use olr_roads::{Edit, LineId};
+use olr_roads::{Edit, LineId, NodeId};
 
 /// A command. In records a name has 1 to 64 bytes; here it may be any text.
 #[derive(Drop, Debug)]
@@ -15,6 +15,12 @@ pub enum Command {
     DropPath(String),
     /// Asks for one path's answer.
     Show(String),
+    /// Asks for the record of a node.
+    ShowNode(NodeId),
+    /// Asks for the record of a line, after the records of the nodes where it begins and ends.
+    ShowLine(LineId),
+    /// Asks for the names of the paths whose answers an edit may change that touches one of these nodes.
+    Depends(Vec<NodeId>),
     /// Asks for the answer of every path.
     Report,
     /// Asks for the records that build the register from an empty one.

@@ -12,7 +12,8 @@ pub struct Entry {
     pub published: Result<String, Refusal>,
 }
 
-/// The records of a register: its nodes and its lines in ascending order of their numbers, and its paths in their order.
+/// Records as text. Those of a whole register: its nodes and its lines in ascending order of their numbers, and its
+/// paths in their order.
 #[derive(Drop)]
 pub struct Dump {
     /// The number of records.
@@ -24,7 +25,7 @@ pub struct Dump {
 /// The reply to an accepted command.
 #[derive(Drop)]
 pub enum Reply {
-    /// Paths in the order of the register; after a change, the new ones and those with another answer than before.
+    /// Paths in the order of the register; after a change, the new ones and those whose answer changed.
     Paths(Vec<Entry>),
     /// The fields of a reference.
     Fields(Reference),
@@ -32,4 +33,8 @@ pub enum Reply {
     Held(u32),
     /// The records that build the register from an empty one.
     Dump(Dump),
+    /// The record of a node; or the records of a line's nodes, each once, and of the line.
+    Records(Dump),
+    /// The names of paths, in the order of the register.
+    Names(Vec<String>),
 }

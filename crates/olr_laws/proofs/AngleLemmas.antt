@@ -7,7 +7,8 @@ use Rattle.std.proofs.Common.{neg_ℤ, int_lt}
 use Rattle.std.proofs.Math.Nat.{mul-le-mul_right}
 use Rattle.olr_spec.proofs.Common.{by_lt_z, le-ltb, lt-ltb, ltb-true, cases_lt}
 use Rattle.olr_spec.proofs.Facts.{has_cases}
-use Rattle.olr_laws.specs.Directions.{margin_start, margin_end, middle, along, across, is_within, count_where, is_direction, is_beyond, IsNearly}
+use Rattle.olr_spec.specs.Directions.{margin_start, margin_end, is_direction, is_beyond}
+use Rattle.olr_laws.specs.Directions.{middle, along, across, is_within, count_where, IsNearly}
 use Rattle.olr_laws.specs.DirectionLaws.{SeesByLimits}
 
 -- Z is z, but for at most a 200th

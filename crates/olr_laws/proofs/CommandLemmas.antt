@@ -4,19 +4,23 @@ use Rattle.olr_commands.proofs.Common.{Map, IsMap, Path, Reference, Answer, Enco
 use Rattle.olr_commands.proofs.Common.{both_ways, concat, cases_Bool, cases_eq, bytes_decides, is_path, Refused}
 use Rattle.olr_commands.proofs.Common.{Refusal, some_answer}
 use Rattle.std.proofs.Common.{arith, ◌≡◌, ℕ, List, [], ◌∷◌, Option, Some, None, sym, ap, ◌∙◌, subst, Result, Ok, Err}
-use Rattle.std.proofs.Common.{IsFalse, inl, inr, ◌⊎◌, ◌≢◌, suc, true, false, not, length, is_some, IsTrue, refl, ◌≤◌}
+use Rattle.std.proofs.Common.{map, IsFalse, inl, inr, ◌⊎◌, ◌≢◌, suc, true, false, not, length, is_some, IsTrue, refl, ◌≤◌}
 use Rattle.olr_commands.specs.State.{Named, Content, ArePaths, IsContent, Change, State, Command, Make, Show, Report}
 use Rattle.olr_commands.specs.State.{Explain, Begin, Commit, Abort, IsState, Dump, Fault, HasCoords, step, path_named}
+use Rattle.olr_commands.specs.State.{Show_node, Show_line, Depends}
+use Rattle.olr_commands.specs.RecordText.{record_line}
 use Rattle.olr_commands.specs.State.{same_name, has_path, No_path, changes_made, start_state}
 use Rattle.olr_commands.specs.Reply.{Entry, entry, Reply, Fields, HasAnswer, AllOf, ChangedOf, Differences, Shown}
 use Rattle.olr_commands.specs.Reply.{Explained, IsPaths, IsFields, IsChangeReply, IsReply, IsRefusal, ByState, Lacks}
-use Rattle.olr_commands.specs.Reply.{Outcome, IsOutcome, lacks_memory, Dumped, Paths, Held}
+use Rattle.olr_commands.specs.Reply.{Outcome, IsOutcome, lacks_memory, Dumped, Records, Names, Paths, Held}
+use Rattle.olr_laws.proofs.DependLemmas.{one_names, one_dependents, some_dependents}
 use Rattle.olr_commands.proofs.NameLemmas.{named_path}
 use Rattle.olr_commands.proofs.StateLemmas.{steps_keep, when_ok}
 use Rattle.olr_spec.specs.Encoding.{Points, Unknown_line, Broken, Offset_too_long, No_next_point}
 use Rattle.olr_spec.specs.Bytes.{IsReference, reference_bytes}
 use Rattle.olr_spec.proofs.FitLemmas.{encoded_fits}
-use Rattle.olr_commands.specs.Dump.{dump_lines, dump_changes, DumpsAgain}
+use Rattle.olr_commands.specs.Dump.{dump_lines, dump_changes, node_changes, line_changes, DumpsAgain}
+use Rattle.olr_commands.specs.Depending.{Dependents}
 use Rattle.olr_commands.specs.Counts.{Affects, CountIs, Raises, Retains, Spares}
 use Rattle.olr_commands.proofs.SearchLemmas.{unconcerned}
 use Rattle.olr_commands.proofs.DumpLemmas.{dumps_lead}
@@ -81,6 +85,10 @@ pub one_reply : (s t : State) (c : Command) (r q : Reply) → IsState s → IsSt
     r ≡ q
 one_reply s t (Make x) r q i j p g = one_held s.batch s.content t.content j.content r q p g
 one_reply s t (Show name) r q i j p g = one_paths (Shown s.content name) (one_shown s.content name i.content) r q p g
+one_reply s t (Show_node v) r q i j p g = p ∙ sym g
+one_reply s t (Show_line x) r q i j p g = p ∙ sym g
+one_reply s t (Depends nodes) r q i j p g =
+    one_names (Dependents s.content nodes) (one_dependents s.content nodes) r q p g
 one_reply s t Report r q i j p g = grind (arith, one_paths, one_all)
 one_reply s t Dump r q i j p g = p ∙ sym g
 one_reply s t (Explain text) r q i j p g = one_fields (Explained text) (one_explained text) r q p g
@@ -212,6 +220,13 @@ some_reply s t (Make x) i h is n =
 some_reply s t (Show name) i h is n = let es =
     some_shown s.content i.content name (when_ok (not (has_path s.content name)) No_path (Ok s) t is).0 in
     (Paths es.0, es.1)
+some_reply s t (Show_node v) i h is n =
+    let xs = node_changes s.content.map v in (Records (length xs) (concat (map record_line xs)), refl)
+some_reply s t (Show_line x) i h is n =
+    let xs = line_changes s.content.map x in (Records (length xs) (concat (map record_line xs)), refl)
+some_reply s t (Depends nodes) i h is n =
+    let d = some_dependents s.content.map i.content.map nodes s.content.paths i.content.paths in
+    (Names (map (λ p. p.name) d.0), (d.0, d.1, refl))
 some_reply s t Report i h is n = let es =
     some_all s.content.map i.content.map s.content.paths i.content.paths in (Paths es.0, es.1)
 some_reply s t Dump i h is n = (Dumped (length (dump_lines s.content)) (concat (dump_lines s.content)), refl)

@@ -6,7 +6,8 @@ use Rattle.olr_spec.proofs.SectorLemmas.{sector_is}
 use Rattle.olr_spec.proofs.ReceiverLemmas.{Describes, recovered_by, passes}
 use Rattle.olr_spec.specs.Receiver.{Lrp, Rating, NowhereWorse, SomewhereBetter, Outgoing, Incoming, sector_on, coordinate_on}
 use Rattle.olr_spec.proofs.Common.{Measure, Coord}
-use Rattle.olr_laws.specs.Directions.{SameIsNearest, SeesDirections, DirectionReceiver, TakesByDirection, rating_by, direction_on, is_direction, is_beyond, is_outdone, stands_out, weighted}
+use Rattle.olr_spec.specs.Directions.{direction_on, is_direction, is_beyond}
+use Rattle.olr_laws.specs.Directions.{SameIsNearest, SeesDirections, DirectionReceiver, TakesByDirection, rating_by, is_outdone, stands_out, weighted}
 use Rattle.olr_laws.specs.DirectionLaws.{RecoveredByDirection, SomeByWeights}
 use Rattle.std.proofs.Math.Nat.{mul-le-mul_left, mul-lt-mul_of_pos_left, mul-add}
 

@@ -9,3 +9,6 @@ pub mod MorningLemmas
 pub mod ForkLemmas
 pub mod CommandLemmas
 pub mod RunLemmas
+mod AmbiguityLemmas
+pub mod DependLemmas
+pub mod ShownLemmas

@@ -29,12 +29,13 @@ use Rattle.olr_spec.proofs.SectorLemmas.{has_below}
 use Rattle.olr_spec.proofs.JoinedLemmas.{extended_joined}
 use Rattle.olr_spec.proofs.Common.{◌⊎◌, ◌||◌, and_from, le-leb, node_on}
 use Rattle.olr_spec.specs.Receiver.{sector_on}
-use Rattle.olr_laws.specs.Directions.{is_spaced_by, is_outdone, is_clear, stands_out, is_direction, is_beyond, direction_on}
+use Rattle.olr_spec.specs.Directions.{is_direction, is_beyond, direction_on}
+use Rattle.olr_laws.specs.Directions.{is_spaced_by, is_outdone, is_clear, stands_out}
 use Rattle.olr_laws.specs.DirectionLaws.{ClearStandsOut}
 use Rattle.olr_spec.proofs.QueryLemmas.{stretch_parts}
 use Rattle.olr_spec.proofs.ReceiverLemmas.{same_path, passes}
 
-got_index : (f : ℕ → ℕ) (ks : List ℕ) (k v : ℕ) → option_map f (slice_get ks k) ≡ Some v → (k < length ks)
+pub got_index : (f : ℕ → ℕ) (ks : List ℕ) (k v : ℕ) → option_map f (slice_get ks k) ≡ Some v → (k < length ks)
     × (f (slice_index ks k) ≡ v)
 got_index f [] k v e = absurd cc
 got_index f (x ∷ ks) zero v e = (omega arith, cc)
@@ -243,6 +244,13 @@ number_known M j d lt =
     let there : has xs x ≡ true = ap (has xs) same ∙ has_index xs j lt in
     grind (arith, has-lines_where M (λ _. true) x)
 
+pub every_candidate : (M : Map) (f : ℕ × Leg → Bool) →
+    ((x : ℕ) → IsTrue (has_line M x) → f (x, leg M x) ≡ true) → IsTrue (list_all f (candidates M))
+every_candidate M f each =
+    let xs = lines_where M (λ _. true) in
+    list_all-map f (λ x. (x, leg M x)) xs
+    ∙ list_all-from_AllPass (λ x. f (x, leg M x)) xs (λ j x lt. each (get_or xs j x) (number_known M j x lt))
+
 -- a test that all candidates pass, if they pass another
 pub all_candidates : (M : Map) (f g : ℕ × Leg → Bool) →
     ((x : ℕ) → IsTrue (has_line M x) → f (x, leg M x) ≡ true → g (x, leg M x) ≡ true) →
@@ -275,7 +283,7 @@ module _ (M : Map) (m : IsMap M) (P : Path) (is : IsTrue (is_path P.lines)) (non
   formed : Form M Lines Points_kept (Front M P is none r e) (Back M P is none r e) r
   formed = form M P is none r e
 
-  size : last_number r + 1 ≡ length Points_kept
+  pub size : last_number r + 1 ≡ length Points_kept
   size = omega (arith, (answer_decodes M P is none r e).count)
 
   near_point : (k v : ℕ) → IsPoint M P k v → (d : ℤ × ℤ) × (decoded r k ≡ Some d) × IsNear k d (coord_at M v)
@@ -347,12 +355,12 @@ module _ (M : Map) (m : IsMap M) (P : Path) (is : IsTrue (is_path P.lines)) (non
       let there = same_path M m P is none r e _ at in
       subst (λ (y : ℕ). IsTrue (has_line M y)) (got_index (line_by s Lines) Points_kept k x there).1 (known (slice_index Points_kept k) refl)
 
-  known_out : (k x : ℕ) → k < last_number r → IsLineAt M P Outgoing k x → IsTrue (has_line M x)
+  pub known_out : (k x : ℕ) → k < last_number r → IsLineAt M P Outgoing k x → IsTrue (has_line M x)
   known_out k x h at =
       let b = bounds k h in
       known_at Outgoing k x at (λ i is_i. known_lines _ (has_index Lines i (omega (arith, is_i, b.0, b.1))))
 
-  known_in : (x : ℕ) → IsLineAt M P Incoming (last_number r) x → IsTrue (has_line M x)
+  pub known_in : (x : ℕ) → IsLineAt M P Incoming (last_number r) x → IsTrue (has_line M x)
   known_in x at =
       let b = bounds (length r.middle) (omega arith) in
       known_at Incoming (last_number r) x at
@@ -398,7 +406,7 @@ nearest_own M m P is r e n d scale far w = let p = by_answer M P r e in (
 
 -- ---- without the decoded coordinate
 
-outdone_of : (slack a b : ℕ) (beyond : Bool) → (a + slack < b) ⊎ ((a ≤ b) × (beyond ≡ true)) →
+pub outdone_of : (slack a b : ℕ) (beyond : Bool) → (a + slack < b) ⊎ ((a ≤ b) × (beyond ≡ true)) →
     (nat_lt (a + slack) b || nat_le a b && beyond) ≡ true
 outdone_of slack a b beyond (inl lt) = or_left (nat_lt (a + slack) b) _ (lt-ltb (a + slack) b lt)
 outdone_of slack a b beyond (inr both) = or_right (nat_lt (a + slack) b) _ (and_from (nat_le a b) beyond (le-leb a b both.0) both.1)
@@ -411,7 +419,7 @@ spaced_either n d e k a b h =
       | inr east ↦ inr (leb-true (3 * (d * decoded_bound k) + d * e) _ east)
     ]
 
-same_place : (M : Map) (s : Side) (x y : ℕ) → node_on s (leg M y) ≡ node_on s (leg M x) →
+pub same_place : (M : Map) (s : Side) (x y : ℕ) → node_on s (leg M y) ≡ node_on s (leg M x) →
     coordinate_on s (leg M y) ≡ coordinate_on s (leg M x)
 same_place M Outgoing x y e = ap (coord_at M) e
 same_place M Incoming x y e = ap (coord_at M) e

@@ -1,10 +1,13 @@
 -- The laws of states, replies and counts.
-use Rattle.std.specs.Prelude.{◌≡◌, ◌≢◌, ℕ, ◌≤◌, List, [], None, Ok, IsFalse}
+use Rattle.std.specs.Prelude.{◌≡◌, ◌≢◌, ◌⊎◌, ℕ, ◌≤◌, List, [], ◌∷◌, None, Ok, Contains, IsTrue, IsFalse}
+use Rattle.olr_spec.specs.Map.{Map, IsMap, Edit, edited, touched_nodes, touched_lines, has, has_node, has_line}
 use Rattle.olr_spec.specs.Extension.{Path}
 use Rattle.olr_commands.specs.State.{Content, Add_path, Set_path, Make, State, Command, Explain, Begin, Commit, Abort}
-use Rattle.olr_commands.specs.State.{HasCoords, IsState, step, changes_made}
+use Rattle.olr_commands.specs.State.{HasCoords, IsState, step, changes_made, Named, Change, On_map}
+use Rattle.olr_commands.specs.Dump.{dump_changes, node_changes, line_changes}
+use Rattle.olr_commands.specs.Depending.{DependsOn}
 use Rattle.olr_commands.specs.Reply.{Reply, IsReply, Outcome, IsOutcome, lacks_memory}
-use Rattle.olr_commands.specs.Counts.{Raises, Spares}
+use Rattle.olr_commands.specs.Counts.{Raises, Spares, Affects}
 
 abbrev pub StepsKeep : Type 0
 StepsKeep = (s t : State) (c : Command) → IsState s → HasCoords c → step s c ≡ Ok t → IsState t
@@ -54,3 +57,22 @@ OneSpare = (s t : State) (c : Command) (n m : ℕ) → Spares s c t n → Spares
 
 abbrev pub SparesFew : Type 0
 SparesFew = (s t : State) (c : Command) (n m : ℕ) → Spares s c t n → Raises s c t m → n ≤ m
+
+-- the records that show a node, or a line with its ends, are records of a dump
+abbrev pub ShownAreDumped : Type 0
+ShownAreDumped =
+    (c : Content) (n : ℕ) (x : Change) → IsMap c.map
+    → (IsTrue (has_node c.map n) → Contains (node_changes c.map n) x → Contains (dump_changes c) x)
+    × (IsTrue (has_line c.map n) → Contains (line_changes c.map n) x → Contains (dump_changes c) x)
+
+-- a path that names a line which the edit adds
+abbrev pub NamesAdded : Map → Edit → Path → Type 0
+NamesAdded M e P = (x : ℕ) × IsTrue (has (touched_lines e) x) × IsFalse (has_line M x) × IsTrue (has P.lines x)
+
+-- an edit that touches none but these nodes affects only paths that depend on them, and those that name a line which
+-- it adds
+abbrev pub AffectedDepend : Type 0
+AffectedDepend =
+    (c : Content) (N : Map) (e : Edit) (nodes : List ℕ) (p : Named) → edited c.map e ≡ Ok N →
+    ((v : ℕ) → IsTrue (has (touched_nodes c.map e) v) → IsTrue (has nodes v)) → Affects c (On_map e ∷ []) p →
+    DependsOn c.map nodes p.path ⊎ NamesAdded c.map e p.path

@@ -1,7 +1,4 @@
 -- Receivers that compare directions, and when each of them recovers a path.
---     direction_on s g      the direction of a candidate at its node
---     margin_start k, margin_end k, is_beyond k v      sector k with a margin of a quarter of a sector on both sides; v is
---         a direction outside of it
 --     SeesDirections apart reach      a difference of at most the reach for each direction in a sector, and of more than
 --         the reach beyond its margin
 --     DirectionReceiver, TakesByDirection D M t x      a receiver with such a difference; it may choose line x for the LRP t
@@ -9,52 +6,19 @@
 --         beyond the margin
 --     DistinctByDirection far slack M P r      the path's own line at each LRP has a direction, and stands out
 --     is_clear n d e k s x g cs      the same by the map alone, without the decoded coordinate
-use Rattle.std.specs.Prelude.{ℕ, suc, ◌+◌, ◌*◌, ◌%◌, ◌+ℤ◌, ◌-ℤ◌, ◌*ℤ◌, int_lt, if◌then◌else◌, ◌<◌, ◌≤◌, ℤ, pos, negsuc, nat_abs, Bool, not, ◌&&◌, ◌||◌, ◌==◌, nat_le, nat_lt}
+use Rattle.std.specs.Prelude.{ℕ, ◌+◌, ◌*◌, ◌+ℤ◌, ◌-ℤ◌, ◌*ℤ◌, int_lt, if◌then◌else◌, ◌<◌, ◌≤◌, ℤ, pos, nat_abs, Bool, not, ◌&&◌, ◌||◌, ◌==◌, nat_le, nat_lt}
 use Rattle.std.specs.Prelude.{List, [], ◌∷◌, slice_index_or, IsTrue, IsFalse}
 use Rattle.std.specs.List.{list_all}
 use Rattle.olr_spec.specs.Coordinates.{Coord}
 use Rattle.olr_spec.specs.Map.{Map, has_line}
 use Rattle.olr_spec.specs.Extension.{Path}
-use Rattle.olr_spec.specs.Bearings.{Leg, Vector, vector, beyond, direction_out, direction_back, quarters, IsSector, lies_between}
+use Rattle.olr_spec.specs.Bearings.{Leg, Vector, vector, beyond, quarters, IsSector}
+use Rattle.olr_spec.specs.Directions.{direction_on, is_direction, is_beyond}
 use Rattle.olr_spec.specs.Reference.{Reference, leg}
 use Rattle.olr_spec.specs.Decoded.{decoded_bound}
 use Rattle.olr_spec.specs.Receiver.{Side, Outgoing, Incoming, node_on, coordinate_on, sector_on, Lrp, Measure, Rating, NowhereWorse}
 use Rattle.olr_spec.specs.Receiver.{SomewhereBetter, candidates, decoded_coord, last_number}
 use Rattle.olr_spec.specs.Recovery.{IsLineAt}
-
-abbrev pub direction_on : Side → Leg → Vector
-direction_on Outgoing g = direction_out g
-direction_on Incoming g = direction_back g
-
--- ---- sectors with margins
-
--- 2.8125 degrees before the boundaries 0 to 7, and after them, as vectors of whole numbers
-abbrev pub first_before : List Vector
-first_before =
-    vector (negsuc 49126) (pos 1000000) ∷ vector (pos 148336) (pos 1000000) ∷ vector (pos 357806) (pos 1000000)
-    ∷ vector (pos 599377) (pos 1000000) ∷ vector (pos 906347) (pos 1000000) ∷ vector (pos 1000000) (pos 741651)
-    ∷ vector (pos 1000000) (pos 472965) ∷ vector (pos 1000000) (pos 250487) ∷ []
-
-abbrev pub first_after : List Vector
-first_after =
-    vector (pos 49127) (pos 1000000) ∷ vector (pos 250487) (pos 1000000) ∷ vector (pos 472965) (pos 1000000)
-    ∷ vector (pos 741651) (pos 1000000) ∷ vector (pos 1000000) (pos 906347) ∷ vector (pos 1000000) (pos 599377)
-    ∷ vector (pos 1000000) (pos 357806) ∷ vector (pos 1000000) (pos 148336) ∷ []
-
--- a quarter of a sector before sector k, and after it
-abbrev pub margin_start : ℕ → Vector
-margin_start k = slice_index_or (quarters 4 first_before) k (vector (pos 0) (pos 0))
-
-abbrev pub margin_end : ℕ → Vector
-margin_end k = slice_index_or (quarters 4 first_after) (suc k % 32) (vector (pos 0) (pos 0))
-
--- (0, 0) is no direction
-abbrev pub is_direction : Vector → Bool
-is_direction v = not (nat_abs v.east == 0 && nat_abs v.north == 0)
-
--- neither in sector k nor in its margin
-abbrev pub is_beyond : ℕ → Vector → Bool
-is_beyond k v = is_direction v && not (lies_between (margin_start k) (margin_end k) v)
 
 -- ---- the angle from the middle of a sector
 

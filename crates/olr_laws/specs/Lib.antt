@@ -1,6 +1,7 @@
 pub mod Rows
 pub mod Directions
 pub mod DirectionLaws
+pub mod AmbiguityLaws
 pub mod MapRows
 pub mod CommandLaws
 pub mod CommandRows

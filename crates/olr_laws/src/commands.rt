@@ -8,7 +8,8 @@ ghost use Rattle.olr_commands.specs.Dump;
 ghost use Rattle.olr_commands.specs.State.{On_map, Add_path, Not_a_reference, Not_v3, Not_base64, Path_exists};
 ghost use Rattle.olr_commands.specs.State.{No_path, Batch_open, No_batch, Count_differs, Drop_path, Make, Show};
 ghost use Rattle.olr_commands.specs.State.{Report, Explain, Begin, Commit, Abort, start_state, step};
-ghost use Rattle.olr_commands.specs.Reply.{Paths, Held, IsReply, takes_memory, may_lack};
+ghost use Rattle.olr_commands.specs.State.{Show_node, Show_line, Depends};
+ghost use Rattle.olr_commands.specs.Reply.{Paths, Held, Names, IsReply, takes_memory, may_lack};
 ghost use Rattle.olr_laws.specs.CommandLaws as Laws;
 ghost use Rattle.olr_laws.specs.CommandRows.{in_batch, path_a, with_a, with_node};
 
@@ -44,12 +45,19 @@ pub fn claims()
     ensures dumped { History.DumpsBuild }
 {}
 
-/// The changes that a content is written as build it from an empty one.
+/// The changes that a content is written as build it from an empty one; the records that show a part of a map are among
+/// their records.
 #[tactic(auto, using(olr_commands::proofs::DumpLemmas::dumps_run, crate::proofs::CommandLemmas::dumps_again))]
 pub fn laws_of_dumps()
     ensures lead { Dump.DumpsLead }
     ensures run { Dump.DumpsRun }
     ensures again { Dump.DumpsAgain }
+    ensures shown { Laws.ShownAreDumped }
+{}
+
+/// Which paths an edit affects depends on the nodes that it touches.
+pub fn laws_of_dependents()
+    ensures affected { Laws.AffectedDepend }
 {}
 
 /// The steps of `explain`.
@@ -83,6 +91,15 @@ pub fn rows_batches()
         ≡ Ok (in_batch (path_a ∷ Drop_path (codes "a") ∷ [])) }
     ensures report { IsReply start_state Report start_state (Paths []) }
     ensures one_held { IsReply (in_batch []) (Make path_a) (in_batch (path_a ∷ [])) (Held 1) }
+{}
+
+/// Questions about the map, of no nodes, without paths and in a batch.
+pub fn rows_questions()
+    ensures asked_nothing { step start_state (Depends []) ≡ Ok start_state }
+    ensures node_of_batch { step (in_batch []) (Show_node 1) ≡ Err Batch_open }
+    ensures line_of_batch { step (in_batch []) (Show_line 1) ≡ Err Batch_open }
+    ensures batch_asked { step (in_batch []) (Depends (1 ∷ [])) ≡ Err Batch_open }
+    ensures no_paths { IsReply with_node (Depends (1 ∷ [])) with_node (Names []) }
 {}
 
 /// Which commands may run out of memory.

@@ -9,7 +9,9 @@ ghost use Rattle.olr_spec.specs.Recovery.{Distinct, IsWeighted, are_cosines, are
 ghost use Rattle.olr_laws.specs.Rows.{leg10, reference1, leg20, leg30, morning_lines, twin_lines, axes_sum, cosine};
 ghost use Rattle.olr_laws.specs.Rows.{by_cosine};
 ghost use Rattle.olr_laws.specs.DirectionLaws;
-ghost use Rattle.olr_laws.specs.Directions.{DistinctByDirection, SeesDirections, exceeded, is_beyond, is_within, middle};
+ghost use Rattle.olr_laws.specs.AmbiguityLaws;
+ghost use Rattle.olr_spec.specs.Directions.{is_beyond};
+ghost use Rattle.olr_laws.specs.Directions.{DistinctByDirection, SeesDirections, exceeded, is_within, middle};
 ghost use Rattle.olr_laws.specs.Directions.{stands_out};
 ghost use Rattle.olr_laws.specs.MapRows.{morning_map, morning_path, fork_map, fork_path, fork_reference, fork_lines};
 ghost use Rattle.olr_laws.specs.MapRows.{fork10, degrees10, TakesOther};
@@ -35,6 +37,11 @@ pub fn laws_of_directions()
     ensures clear { DirectionLaws.ClearStandsOut }
     ensures limits { DirectionLaws.SeesByLimits }
     ensures weights { DirectionLaws.SomeByWeights }
+{}
+
+/// A string in whose way nothing stands is distinct for both kinds of receivers.
+pub fn laws_of_ambiguity()
+    ensures { AmbiguityLaws.ClearIsDistinct }
 {}
 
 /// The first worked path on its map: the answer is its reference, which is distinct for both kinds of receivers; the

@@ -5,6 +5,7 @@ use Rattle.olr_list.proofs.Common.{eqb-true, length, get_or, IsTrue, eq-eqb, sub
 use Rattle.olr_list.proofs.Common.{true, ◌+◌, ◌<◌, ◌∷◌, All, sym, ◌∙◌, map, ◌↔◌, inl, inr, has, eqb, ap, [], ℕ, Picks}
 use Rattle.olr_list.proofs.Common.{Item, zero, suc, refl}
 use Rattle.std.proofs.lemmas.List.Folds.{Any-from_list_any, list_any_at}
+pub use Rattle.olr_spec.proofs.SameNumbers.{has_from, in_from}
 
 -- of the first k, and of one more
 pub all_more : {X : Type 0} (P : X → Type 0) (xs : List X) (k : ℕ) (d : X) → k < length xs → All P (take k xs) →
@@ -16,14 +17,6 @@ all_more P xs k d lt h p =
 pub drop_at : {X : Type 0} (xs : List X) (k : ℕ) (x : X) → slice_get xs k ≡ Some x → drop k xs ≡ x ∷ drop (k + 1) xs
 drop_at xs k x at = drop_more xs k x (slice_get_within xs k x at) ∙ ap (λ y. y ∷ drop (k + 1) xs)
     (get_or_from_slice_get xs k x x at)
-
-pub has_from : (xs : List ℕ) (x : ℕ) → Contains xs x → has xs x ≡ true
-has_from xs x h = list_any_at (λ y. eqb y x) xs h.0 x h.1 (eq-eqb _ x h.2)
-
-pub in_from : (xs : List ℕ) (x : ℕ) → has xs x ≡ true → Contains xs x
-in_from xs x h =
-    let found = Any-from_list_any (λ y. eqb y x) xs h in
-    (found.0, found.2, get_or_default xs found.0 x found.1 found.2 ∙ found.3 ∙ eqb-true found.1 x found.4)
 
 pub Contains-map : {A B : Type 0} (f : A → B) (xs : List A) (x : A) → Contains xs x → Contains (map f xs) (f x)
 Contains-map f [] x h = absurd (let lt = h.1 in omega arith)

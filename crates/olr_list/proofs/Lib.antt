@@ -10,3 +10,4 @@ pub mod Overlaying
 pub mod Changed
 pub mod EntryLists
 pub mod Covering
+pub mod AroundLemmas

@@ -1,6 +1,7 @@
 -- Which action a renewal takes for a path.
 --     Stays N T X C m P      not too many lines have changed, no traversed node and no line of the path is touched, and
 --         each coverage query is clear
+--     ToName N T X made P      it was not encoded yet, or the edits affect it
 --     IsActionFor      the action for a path
 --     IsEncode a      the action is that the path is encoded again
 use Rattle.std.specs.Prelude.{◌≡◌, ℕ, List, All, ◌≤◌, Option, Some, None, ◌⊎◌, length, ⊤}
@@ -21,6 +22,9 @@ pub record Stays (N : Map) (T X : List ℕ) (C : List ChangedLine) (m : Made) (P
 
 abbrev pub ToStay : Map → List ℕ → List ℕ → Option Made → Path → Type 0
 ToStay N T X made P = (m : Made) × (made ≡ Some m) × ¬ Touches N T X m P
+
+abbrev pub ToName : Map → List ℕ → List ℕ → Option Made → Path → Type 0
+ToName N T X made P = (made ≡ None) ⊎ ((m : Made) × (made ≡ Some m) × Touches N T X m P)
 
 abbrev pub ToKeep : Map → List ℕ → List ℕ → List ChangedLine → Option Made → Path → Type 0
 ToKeep N T X C made P = (m : Made) × (made ≡ Some m) × Touches N T X m P × Stays N T X C m P

@@ -1,11 +1,11 @@
 //! Which action a renewal takes for a path.
-ghost use Rattle.std.specs.Prelude.{◌≡◌, ◌↔◌, ◌≤◌, List, length, Some, IsTrue, IfOk, OnOk};
+ghost use Rattle.std.specs.Prelude.{◌≡◌, ◌↔◌, ◌≤◌, List, length, Some, IsTrue, IsFalse, IfOk, OnOk};
 ghost use Rattle.olr_list.specs.Items.{Made, Item, made_of};
 ghost use Rattle.olr_list.specs.Showing.{shown_item};
 ghost use Rattle.olr_list.specs.Touching.{nodes_of, lines_of, changed_of};
 ghost use Rattle.olr_list.specs.Searching.{AreDetours, AreAsked, IsAsked};
 ghost use Rattle.olr_commands.specs.Counts.{most_changed};
-ghost use Rattle.olr_list.specs.Actions.{Stays, IsActionFor};
+ghost use Rattle.olr_list.specs.Actions.{Stays, ToStay, ToName, IsActionFor};
 
 use crate::asking::{is_line_touched, is_touched, is_traversed_touched};
 use crate::change_set::ChangeSet;
@@ -26,6 +26,26 @@ pub enum Action {
     Keep,
     /// It is encoded again.
     Encode,
+}
+
+/// Whether a path is not encoded yet, or the edits affect it.
+pub fn is_affected<M: MapRead>(
+    map: &M,
+    touched: &ChangeSet,
+    searches: &Searches,
+    shown: PathView<'_>,
+) -> bool
+    requires { (m : Made) → (shown_item shown).made ≡ Some m
+        → IsAsked (M.map map.now) (M.node_slot map.now) touched.now searches.now m }
+    ensures stays { IsFalse result → ToStay (M.map map.now) (nodes_of touched.now) (lines_of touched.now)
+        (shown_item shown.entry).made (shown_item shown.entry).path }
+    ensures affected { IsTrue result → ToName (M.map map.now) (nodes_of touched.now) (lines_of touched.now)
+        (shown_item shown.entry).made (shown_item shown.entry).path }
+{
+    let Some(published) = shown.published else {
+        return true;
+    };
+    is_touched(map, touched, searches, shown.path, published)
 }
 
 /// Whether a path which the edits affect retains its answer.

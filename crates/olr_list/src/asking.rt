@@ -32,7 +32,7 @@ use olr_roads::{Footprint, LineId, MapRead, NodeId};
 use olr_search::{Dijkstra, Direction, GREATEST_LIMIT};
 use std::alloc::{AllocError, Global};
 
-/// Searches against the lines from all touched nodes, as far as the distance bounds let it if they are known.
+/// Searches against the lines from all touched nodes. If the distance bounds are known, they limit the search.
 pub(crate) fn search_near<M: MapRead>(
     alloc: Global,
     map: &M,
@@ -141,7 +141,7 @@ fn is_near<M: MapRead>(
     }
 }
 
-/// Whether one of the nodes is in a footprint, by a look-up of each.
+/// Whether one of the nodes is in a footprint: each is looked up.
 fn is_any_in(footprint: &Footprint, nodes: &[NodeId]) -> bool
     ensures { IsTrue result ↔ ((v : ℕ) × IsTrue (has nodes.now v) × Contains footprint.now v) }
 {
@@ -153,7 +153,7 @@ fn is_any_in(footprint: &Footprint, nodes: &[NodeId]) -> bool
     false
 }
 
-/// Whether one of the traversed nodes was touched, by a look-up of each node of the shorter list.
+/// Whether one of the traversed nodes was touched: each node of the shorter list is looked up.
 pub(crate) fn is_traversed_touched(touched: &ChangeSet, traversed: &Footprint) -> bool
     ensures { IsTrue result ↔ ((v : ℕ) × IsTrue (has (nodes_of touched.now) v) × Contains traversed.now v) }
 {
@@ -164,7 +164,7 @@ pub(crate) fn is_traversed_touched(touched: &ChangeSet, traversed: &Footprint) -
     nodes.iter().any(|node| touched.has_node(*node))
 }
 
-/// Whether one of the lines was touched, by a test of each. An edit outside of batches touches at most one line.
+/// Whether one of the lines was touched: each is tested. An edit outside a batch touches at most one line.
 fn is_any_touched(touched: &ChangeSet, lines: &[LineId]) -> bool
     ensures { result ≡ list_any (λ x. has (lines_of touched.now) x) lines.now }
 {
@@ -202,7 +202,7 @@ fn is_query_touched<M: MapRead>(
     false
 }
 
-/// Whether the edits affect a path, by its results from before them.
+/// Whether the edits affect a path, by its results on the map before them.
 pub(crate) fn is_touched<M: MapRead>(
     map: &M,
     touched: &ChangeSet,

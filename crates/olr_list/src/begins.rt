@@ -23,7 +23,7 @@ fn note_named(named: &NamedPath, new_origins: &mut Vec<CoverageQuery>) -> Result
     Ok(())
 }
 
-/// Appends the coverage queries of what was encoded again.
+/// Appends the coverage queries of the paths that were encoded again.
 pub fn note_fresh(
     fresh: &[(usize, NamedPath)],
     new_origins: &mut Vec<CoverageQuery>,

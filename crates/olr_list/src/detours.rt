@@ -13,7 +13,7 @@ use olr_roads::MapRead;
 use olr_search::{Dijkstra, Direction, GREATEST_LIMIT};
 use std::alloc::{AllocError, Global};
 
-/// The searches for detours over changed lines. They begin with each renewal, and go as far as they are asked.
+/// The searches for detours over changed lines. Each renewal starts them again, and each test continues them.
 #[derive(Drop)]
 pub struct Detours {
     /// The reverse search from the starts of changed lines.
@@ -32,10 +32,10 @@ impl Detours {
     }
 }
 
-/// With more changed lines than this, no detours are searched: nearly every path is encoded anyway.
+/// With more changed lines than this, no detours are searched for: nearly every path is encoded anyway.
 const MOST_CHANGED: usize = 8;
 
-/// Whether so few lines changed that detours over them are searched.
+/// Whether so few lines changed that detours over them are searched for.
 pub(crate) fn are_few(touched: &ChangeSet) -> bool
     ensures { IsTrue result ↔ (length (changed_of touched.now) ≤ most_changed) }
 {
@@ -87,7 +87,7 @@ fn rest_of(before: Option<u32>, within: u32) -> u32
 }
 
 /// Whether the coverage query is on the map, within the greatest limit, and no detour over the changed lines is as
-/// short. The searches go no farther than it takes to tell.
+/// short. The searches go no farther than the test needs.
 fn is_clear<M: MapRead>(
     map: &M,
     touched: &ChangeSet,

@@ -19,7 +19,7 @@ pub struct Finder {
     pub(crate) traversed: Index,
     pub(crate) by_query_origin: Index,
     pub(crate) lines: Index,
-    /// Whether the entries are known. If not, it has none.
+    /// Whether it has the entries of the paths. If not, it has no entry at all.
     pub(crate) known: bool,
 }
 
@@ -83,7 +83,7 @@ impl Finder {
         forget_lines(&mut self.lines, path_id, lines, &[]);
     }
 
-    /// The same, except for what the retained path has.
+    /// Removes the id as `forget` does, except from what the retained path has.
     pub(crate) fn forget_but(
         &mut self,
         path_id: u64,
@@ -112,7 +112,7 @@ impl Finder {
     }
 }
 
-/// Adds a path id to the numbers of these. If an allocation fails, some have it.
+/// Adds a path id to the numbers of these. If an allocation fails, some of them have it.
 fn note_each<T: Numbered>(index: &mut Index, path_id: u64, items: &[T]) -> Result<(), AllocError>
     ensures noted { OnOk result (All (λ x. IsTrue (holds index.new (T.number_of x) path_id)) items.now) }
     ensures grows { KeepsAll index.old index.new }

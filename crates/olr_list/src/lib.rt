@@ -3,6 +3,7 @@
 #![tactic(auto)]
 
 mod actions;
+mod around;
 mod asking;
 mod begins;
 mod candidates;
@@ -21,7 +22,7 @@ mod searches;
 mod showing;
 mod sources;
 
-pub use actions::{Action, decide};
+pub use actions::{Action, decide, is_affected};
 pub use asking::ask;
 pub use begins::note_fresh;
 pub use change_set::{ChangeSet, ChangedLine};

@@ -260,7 +260,7 @@ impl PathList {
         Ok(())
     }
 
-    /// Notes that all paths are encoded.
+    /// Records that all paths are encoded.
     #[tactic(auto, using(crate::proofs::NotedPositions::all_published))]
     pub fn note_encoded(&mut self)
         requires { AreEncoded (items self.old) }

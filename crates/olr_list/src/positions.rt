@@ -65,8 +65,8 @@ impl PathList {
         Ok(finder)
     }
 
-    /// Adds the index entries of all paths, unless they are known. If an allocation fails, they stay unknown, and edits
-    /// are tested against all paths.
+    /// Adds the index entries of all paths, unless they are there. If an allocation fails, there are none, and each
+    /// edit is tested against all paths.
     pub fn index(&mut self, alloc: Global)
         ensures { items self.new ≡ items self.old }
     {

@@ -12,7 +12,7 @@ use std::alloc::Global;
 pub struct Searches {
     /// The reverse search from all touched nodes.
     pub(crate) near: Dijkstra,
-    /// Whether it was known without that search that no coverage query is affected.
+    /// Whether that search was skipped, because no coverage query can be affected.
     pub(crate) far: bool,
     /// The searches from changed lines.
     pub detours: Detours,
@@ -49,7 +49,7 @@ impl Searches {
         self.new_origins.as_slice()
     }
 
-    /// The number of nodes that searches from touched nodes labelled without finding a path, since the last reset.
+    /// How many nodes searches from touched nodes have labelled without finding a path, since the last reset.
     pub fn wasted_labels(&self) -> usize {
         self.wasted_labels
     }

@@ -199,7 +199,7 @@ module _ {M N : Map} (n : IsMap N) {T X : List ℕ} {C : List ChangedLine} {is :
 
     -- ---- which paths are affected
 
-    affected_by : Touches N T X m P → IsAffected M T X i
+    pub affected_by : Touches N T X m P → IsAffected M T X i
     affected_by (inl t) =
         let f = (foot_affected M N q.sound T q.difference.nodes P path m.queries made.queries).1
         (inl (t.0, t.1, (made.traversed t.0).0 t.2)) in By_node f.0 f.1 f.2

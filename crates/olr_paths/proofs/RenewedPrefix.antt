@@ -13,6 +13,7 @@ use Rattle.olr_list.proofs.NotedPositions.{all_put-push, put_behind}
 use Rattle.olr_list.specs.declared.change_set.ChangeSet.{ChangeSet}
 use Rattle.olr_paths.proofs.GivenQueries.{searches_item}
 use Rattle.olr_paths.proofs.KeptLemmas.{stays_retained, encoded_again, stays_unless, touched_by, spared_by}
+use Rattle.olr_paths.proofs.Passing.{Passed, by_steps}
 use Rattle.olr_paths.specs.Changes.{AreCounted, with_made, AreRemade, AreTotals, IsRemade, Totals}
 use Rattle.olr_paths.specs.Renewing.{ReportsIfOther, encoded_one, entries_of, spared_one, IsRenewal, WasBefore, made_at}
 use Rattle.olr_paths.specs.Renewing.{Counts, IsStep, Left, after_retained}
@@ -226,42 +227,12 @@ module _ {N : Map} (n : IsMap N) {T X : List ℕ} {C : List ChangedLine} {before
 
 -- ---- from one candidate to the next
 
--- the positions below next are done, as far as the candidates before index k
-pub record Passed (found : List ℕ) (long k next : ℕ) : Type 0 where
-  pub below : (j : ℕ) → j < k → (get_or found j 0 < next) ⊎ (long ≤ get_or found j 0)
-  pub within : next ≤ long
-
--- one candidate more, whose position is done or past the last path
-pub passed_more : {found : List ℕ} {long k next : ℕ} (position later : ℕ) → Passed found long k next →
-    position ≡ get_or found k 0 → (position < later) ⊎ (long ≤ position) → next ≤ later → later ≤ long →
-    Passed found long (k + 1) later
-passed_more position later h at out le most = record { below = λ j lt. grind (arith, h.below j); within = most }
-
--- after the last path
-pub past_end : (js : List Item) (q : ℕ) → slice_get js q ≡ None → length js ≤ q
-past_end [] q at = omega arith
-past_end (j ∷ js) zero at = let never : ⊥ = cc (at) in absurd never
-past_end (j ∷ js) (suc q) at = let le = past_end js q at in omega arith
-
 module _ {N : Map} (n : IsMap N) {T X : List ℕ} {C : List ChangedLine} {before is : List Item} (found : List ℕ)
     (follows : Follows before is) (covers : Covers N T X is found) {r : Renewal} where
   -- paths that are no candidates are unchanged
-  gap : (d p q : ℕ) → p + d ≡ q → q ≤ length is → ((j : ℕ) → p ≤ j → j < q → has found j ≡ false) →
-      SoFar N T X C before is (take p is) r → SoFar N T X C before is (take q is) r
-  gap zero p q e le free h = let same : p ≡ q = omega arith in rw (← same) h
-  gap (suc d) p q e le free h =
-      elim (slice_get is p) as (λ o. slice_get is p ≡ o → SoFar N T X C before is (take q is) r) [
-        | None ↦ λ at. absurd (omega (arith, past_end is p at))
-        | Some i ↦ λ at. gap d (p + 1) q (omega arith) le (λ j a b. free j (omega arith) b)
-            (so_far_step n follows p i at h (Left (covers p i at (free p (omega arith) (omega arith))) refl))
-      ] refl
-
-  -- up to a position that no candidate left is before
   pub to_position : (k next q : ℕ) → ((m : ℕ) → k ≤ m → m < length found → q ≤ get_or found m 0) →
       Passed found (length is) k next → next ≤ q → q ≤ length is →
       SoFar N T X C before is (take next is) r → SoFar N T X C before is (take q is) r
-  to_position k next q rest h le most =
-      gap (q - next) next q (omega arith) most (λ j a b. elim (cases_Bool (has found j)) [
-        | inr e ↦ e
-        | inl on ↦ let p = at_index found j on in absurd (grind (arith, p.1, p.2, h.below p.0, rest p.0))
-      ])
+  to_position =
+      by_steps is found (λ p. SoFar N T X C before is (take p is) r)
+      (λ p i at free h. so_far_step n follows p i at h (Left (covers p i at free) refl))

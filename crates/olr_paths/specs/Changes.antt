@@ -2,6 +2,7 @@
 --     IsBefore M N T X C is      the results of the list are right on M, and edits led from M to N
 --     IsAffected M T X i      the path was not encoded yet, or its footprint on M has a touched node, or one of its
 --         lines was touched
+--     AffectedNames M T X is names      the names of those of a list, in order
 --     IsSpared M N T X C i      the changes affect it, and it retains its answer
 --     IsEncodedAgain M N T X C i      they affect it, and it does not
 --     SearchesItem M N C i queries      the coverage queries for which the path is searched if it is encoded again
@@ -11,7 +12,7 @@
 --     AreCounted N t old new before after      the work and the count of retained answers rise by these totals
 --     AreRemade N is js      each path has results that are right on N
 --     Follows before is      each path that was encoded has the earlier answer of its name
-use Rattle.std.specs.Prelude.{◌≡◌, ◌≢◌, ℕ, List, [], ◌∷◌, Contains, Some, None, option_map, ◌⊎◌, IsTrue, ⊤}
+use Rattle.std.specs.Prelude.{◌≡◌, ◌≢◌, ℕ, List, [], ◌∷◌, map, Contains, Some, None, option_map, ◌⊎◌, IsTrue, ⊤}
 use Rattle.std.specs.Prelude.{MatchOption}
 use Rattle.std.specs.List.{AllByRecursion}
 use Rattle.olr_spec.specs.Map.{Map, IsMap, has}
@@ -22,7 +23,7 @@ use Rattle.olr_spec.specs.Queries.{CoverageQuery}
 use Rattle.olr_search.specs.declared.work.Work.{Work}
 use Rattle.olr_search.specs.Counts.{no_work, raised_count}
 use Rattle.olr_refs.specs.Choice.{AreSearched}
-use Rattle.olr_commands.specs.Counts.{IsUnchanged, CountIs, SearchedFor, SearchedAgain, Collects}
+use Rattle.olr_commands.specs.Counts.{IsUnchanged, CountIs, Picks, SearchedFor, SearchedAgain, Collects}
 use Rattle.olr_list.specs.Items.{Made, Item, IsEncodingOf, AreEncodingsIfAny, answer_in}
 
 abbrev pub with_made : Item → Made → Item
@@ -39,6 +40,10 @@ pub data IsAffected (M : Map) (T X : List ℕ) (i : Item) : Type 0 where
   By_name : i.made ≡ None → IsAffected M T X i
   By_node : (v : ℕ) → IsTrue (has T v) → Foot M i.path v → IsAffected M T X i
   By_line : (x : ℕ) → IsTrue (has X x) → IsTrue (has i.path.lines x) → IsAffected M T X i
+
+abbrev pub AffectedNames : Map → List ℕ → List ℕ → List Item → List (List ℕ) → Type 0
+AffectedNames M T X is names =
+    (js : List Item) × Picks (IsAffected M T X) is js × (names ≡ map (λ i. i.name) js)
 
 pub record IsSpared (M N : Map) (T X : List ℕ) (C : List ChangedLine) (i : Item) : Type 0 where
   pub made : i.made ≢ None

@@ -7,7 +7,7 @@
 --     IsRenewal N t before is js r      the list js is the list is, renewed on N, after changes t that led from a map
 --         where its results were right;  r reports the answers that are not those of the list before, and counts what was
 --         encoded and retained
---     after_retained r      what is reported and counted after one path more whose answer is retained
+--     after_retained r      what is reported and counted after one more path whose answer is retained
 --     spared_one, encoded_one queries      the totals of one path whose answer is retained;  which is encoded
 --     ReportsIfOther before name A es fs      an entry is appended if the answer is not the earlier one of the
 --         name

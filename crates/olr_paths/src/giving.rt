@@ -21,8 +21,8 @@ use olr_search::Work;
 use std::alloc::{AllocError, Global};
 use std::rc::Rc;
 
-/// Encodes a path from scratch, and returns it with what is published of it and the work; its coverage queries are those
-/// that the last renewal made.
+/// Encodes a path from scratch, and returns it with what is published of it and the work. Its coverage queries are then
+/// the only ones that `searches` has as new.
 fn encode_alone<M: MapRead>(
     alloc: Global,
     map: &M,
@@ -41,7 +41,7 @@ fn encode_alone<M: MapRead>(
     Ok((path, shared, work))
 }
 
-/// A list of one entry, that of a path.
+/// A list with one entry, that of a path.
 fn only_entry(alloc: Global, name: &str, published: &Published) -> Result<Vec<Entry>, AllocError>
     ensures { IfOk result (λ es. list_map entry_of es.items ≡ entry name.now (made_of published.now).answer ∷ []) }
 {
@@ -80,8 +80,8 @@ pub fn add<M: MapRead>(
     Ok((entries, work))
 }
 
-/// Encodes another path for a name, which keeps its position. Returns the entries of the reply, which names it if its
-/// answer changed, and the work. If an allocation fails, the list is unchanged.
+/// Encodes another path for a name, which keeps its position. Returns the entries of the reply, which has the name if
+/// the answer changed, and the work. If an allocation fails, the list is unchanged.
 pub fn set<M: MapRead>(
     list: &mut PathList,
     alloc: Global,

@@ -1,4 +1,4 @@
-//! Encoding again the paths whose answer a change of the map may have changed.
+//! Encodes again the paths whose answer a change of the map may have changed.
 ghost use Rattle.std.specs.Prelude.{◌≡◌, ◌≤◌, ◌↔◌, ℕ, Contains, Some, slice_get, map as list_map, IsTrue, IfOk};
 ghost use Rattle.std.specs.Prelude.{◌<◌, length, OnOk};
 ghost use Rattle.olr_spec.specs.Map.{Map};
@@ -42,7 +42,7 @@ fn is_same_as_before(before: &PathList, name: &str, published: &Published) -> bo
     }
 }
 
-/// Appends the entry of a path, if its answer is not that of its name in an earlier list.
+/// Appends the entry of a path, if its answer differs from that of its name in an earlier list.
 pub(crate) fn push_if_changed(
     alloc: Global,
     before: &PathList,
@@ -63,7 +63,7 @@ pub(crate) fn push_if_changed(
 /// What the renewal of a list reports and counts.
 #[derive(Drop)]
 pub struct Renewed {
-    /// The paths whose answer is not the earlier one of their name.
+    /// The paths whose answer differs from the earlier one of their name.
     pub entries: Vec<Entry>,
     /// The work: each affected path counts as an encoding.
     pub work: Work,
@@ -95,8 +95,8 @@ pub(crate) struct Renewal {
 }
 
 impl Renewal {
-    /// Takes the action for the path at that position: it is left as it is; or it is counted; or it is encoded again,
-    /// and reported if its answer is not the earlier one of its name.
+    /// Takes the action for the path at that position: leaves it, or counts it as retained, or encodes it again and
+    /// reports it if its answer differs from the earlier one of its name.
     #[inline(never)]
     fn advance<M: MapRead>(
         &mut self,
@@ -165,7 +165,7 @@ fn known_for<M: MapRead>(
     }
 }
 
-/// The renewal of a list under changes on a map, after the searches from what edits touched and changed.
+/// The renewal of a list under changes on a map, once the searches from touched nodes and changed lines have begun.
 fn renewal_by<M: MapRead>(
     alloc: Global,
     map: &M,

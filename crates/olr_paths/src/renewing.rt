@@ -1,4 +1,4 @@
-//! Encoding again the paths whose answer a change of the map may have changed, in place or in a list under changes.
+//! Encodes again the paths whose answer a change of the map may have changed, in place or in a list under changes.
 ghost use Rattle.std.specs.Prelude.{◌≡◌, ◌⊎◌, Contains, IfOk, OnOk, OnErr};
 ghost use Rattle.olr_spec.specs.Map.{Map};
 ghost use Rattle.olr_commands.specs.State.{NamesDiffer};
@@ -17,8 +17,8 @@ use std::alloc::{AllocError, Global};
 use std::mem;
 
 /// `renew_over` for changes that remove no path. The replaced and new paths are stored in place, at a cost that
-/// depends only on the changes. The reported paths are those whose answer is not the earlier one of their name, in
-/// `before` if it is given.
+/// depends only on the changes. The reported paths are those whose answer differs from the earlier one of their name,
+/// in `before` if it is given.
 fn renew_overlaid<M: MapRead>(
     list: &mut PathList,
     alloc: Global,
@@ -56,13 +56,13 @@ fn renew_overlaid<M: MapRead>(
     Ok(renewed)
 }
 
-/// Makes the changes of the list, encodes on a map the paths that are new or replaced and those whose answer changes
-/// of it can have changed, and returns those whose answer is not the earlier one of their name, and the counts: each
-/// affected path is an encoding, some of these retain their answer, and the coverage queries of the others are searched
-/// where they are not known from the map before. On that map, from which the changes of the map led, the results in the
-/// list are right. The bounds are distance bounds that are right on the map, for all coverage queries of the list: they
-/// cut the search from touched nodes. If no path is removed, the changes are made in place, at the cost of the changes
-/// and of the affected paths; otherwise the list is replaced by the list under changes, at the cost of all paths. If an
+/// Makes the changes of the list, and encodes the new and the replaced paths, and those whose answer the edits of the
+/// map may have changed. Returns the paths whose answer differs from the earlier one of their name, and the counts:
+/// each affected path counts as an encoding, some of them retain their answer, and the others are searched for the
+/// coverage queries that are not known from the map before. `map` is the map after the edits; the results in the list
+/// are right on the map before them. The bounds are right on `map` for all coverage queries of the list: they limit
+/// the search from touched nodes. If no path is removed, the changes are made in place, at the cost of the changes and
+/// of the affected paths; otherwise the list under the changes replaces the list, at the cost of all paths. If an
 /// allocation fails, the list is unchanged.
 pub fn renew_over<M: MapRead>(
     list: &mut PathList,

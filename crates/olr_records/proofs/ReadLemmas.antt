@@ -9,10 +9,12 @@ use Rattle.olr_records.proofs.Common.{set_line_record, path_fields, read, is_num
 use Rattle.olr_records.proofs.Common.{are_attributes, is_named_path, has_record, Recorded, nat_abs, is_longitude}
 use Rattle.olr_records.proofs.Common.{is_latitude, unit7, are_coords, HasCoord, degrees-whole}
 use Rattle.std.proofs.Common.{◌≡◌, ℕ, ℤ, Bool, true, false, List, [], ◌∷◌, Option, Some, None, Ok, Err, IsTrue, refl}
-use Rattle.std.proofs.Common.{subst, nat_le, ◌&&◌, pos, negsuc, arith, ◌%◌}
-use Rattle.olr_commands.specs.State.{Command, Show, Report, Dump, Explain, Begin, Commit, Abort, HasCoords}
+use Rattle.std.proofs.Common.{subst, length, nat_le, ◌&&◌, pos, negsuc, arith, ◌%◌}
+use Rattle.olr_commands.specs.State.{Command, Show, Show_node, Show_line, Depends, Report, Dump, Explain, Begin}
+use Rattle.olr_commands.specs.State.{Commit, Abort, HasCoords}
 use Rattle.olr_coords.specs.Bounds.{is_degrees}
 use Rattle.olr_records.specs.Records.{digits, longitude, latitude, one, none, path_record, forms, read_by}
+use Rattle.olr_records.specs.Records.{depends_record, few_nodes}
 use Rattle.olr_records.proofs.TestLemmas.{all_weaker, ◌also◌}
 
 if_read : {A : Type 0} (P : A → Type 0) (b : Bool) (r q : Read A) → IfOk r P → IfOk q P → IfOk (if b then r else q) P
@@ -206,6 +208,16 @@ path_record_passes : (g : List ℕ → Path → Change) →
     IfOk (path_record g fs) Recorded
 path_record_passes g h fs = grind (arith, given Recorded NamedPath, path_fields_pass fs)
 
+any_passes : {A : Type 0} (x : Read A) → IfOk x (λ _. ⊤)
+any_passes (Ok a) = tt
+any_passes (Err f) = tt
+
+depends_passes : (fs : List Field) → IfOk (depends_record fs) Recorded
+depends_passes [] = tt
+depends_passes (f ∷ fs) =
+    two Recorded (λ _. ⊤) (λ _. ⊤) (Ok (λ n nodes. Depends nodes)) (few_nodes (length (f ∷ fs))) (numbers (f ∷ fs))
+    (any_passes (few_nodes (length (f ∷ fs)))) (any_passes (numbers (f ∷ fs))) (λ n _ nodes _. tt)
+
 Passes : (List Field → Read Command) → Type 0
 Passes form = (fs : List Field) → IfOk (form fs) Recorded
 
@@ -225,15 +237,18 @@ forms_pass =
     also edit_passes set_line_record set_line_record_passes
     also edit_passes (one Drop_line number) (one_passes OfEdit Number Drop_line number number_passes (λ n h. h))
     also path_record_passes Add_path (λ n p h. h)
+    also one_passes Recorded (λ f. ⊤) Explain (λ f. Ok f) (λ f. tt) (λ f h. tt)
     also path_record_passes Set_path (λ n p h. h)
     also one_passes Recorded Name (λ n. Make (Drop_path n)) name name_passes (λ n h. h)
-    also one_passes Recorded Name Show name name_passes (λ n h. tt)
-    also none_passes Report tt
-    also none_passes Dump tt
-    also one_passes Recorded (λ f. ⊤) Explain (λ f. Ok f) (λ f. tt) (λ f h. tt)
     also none_passes Begin tt
     also one_passes Recorded Amount Commit amount (at_most_pass 0 max32) (λ n h. tt)
     also none_passes Abort tt
+    also one_passes Recorded Name Show name name_passes (λ n h. tt)
+    also one_passes Recorded Number Show_node number number_passes (λ n h. tt)
+    also one_passes Recorded Number Show_line number number_passes (λ n h. tt)
+    also depends_passes
+    also none_passes Report tt
+    also none_passes Dump tt
     also tt
 
 recorded : (fields : List Field) → IfOk (read fields) Recorded

@@ -3,11 +3,12 @@ use Rattle.olr_records.proofs.Common.{decimal, concat, append-nil, length-append
 use Rattle.olr_records.proofs.Common.{entry_line, middle_line, length-decimal-le, length-map, map-append, take_more}
 use Rattle.std.proofs.Common.{◌≡◌, ℕ, ◌+◌, ◌<◌, List, [], ◌∷◌, ◌++◌, length, take, map, refl, ap, append_assoc, arith}
 use Rattle.std.proofs.Common.{◌≤◌, ◌^◌, get_or}
-use Rattle.std.specs.Prelude.{codes}
+use Rattle.std.specs.Prelude.{codes, String, string_bytes}
+use Rattle.std.specs.declared.alloc.Global.{Global}
 use Rattle.std.proofs.lemmas.List.Folds.{concat-append}
 use Rattle.olr_spec.specs.Reference.{Reference}
 use Rattle.olr_commands.specs.declared.reply.Entry.{Entry}
-use Rattle.olr_records.specs.ReplyText.{reply_line, accepted_text, first_line, last_line, offset_lines, reference_lines}
+use Rattle.olr_records.specs.ReplyText.{reply_line, name_line, accepted_text, first_line, last_line, offset_lines, reference_lines}
 
 -- a line of a word, two fields and more
 pub fields_line_of : (t w a b : List ℕ) (fs : List (List ℕ))
@@ -30,6 +31,10 @@ lines_more f t xs k d lt =
 pub entry_lines : (es : List Entry) → map (λ e. entry_line (entry_of e)) es ≡ map entry_line (map entry_of es)
 entry_lines [] = refl
 entry_lines (e ∷ es) = ap (λ (ls : List (List ℕ)). entry_line (entry_of e) ∷ ls) (entry_lines es)
+
+pub name_lines : (ns : List (String Global)) → map (λ n. name_line (string_bytes n)) ns ≡ map name_line (map string_bytes ns)
+name_lines [] = refl
+name_lines (n ∷ ns) = ap (λ (ls : List (List ℕ)). name_line (string_bytes n) ∷ ls) (name_lines ns)
 
 -- the text of a reference, part by part
 parts : (t l f x : List ℕ) (m p n : List (List ℕ)) →

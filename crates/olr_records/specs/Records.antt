@@ -12,7 +12,8 @@ use Rattle.olr_spec.specs.Map.{ShapePoint, Line, Edit, Add_node, Move_node, Drop
 use Rattle.olr_spec.specs.Extension.{Path}
 use Rattle.olr_commands.specs.Recordable.{is_name}
 use Rattle.olr_commands.specs.State.{same_name, Fault, Syntax, Range, Change, On_map, Add_path, Set_path, Drop_path}
-use Rattle.olr_commands.specs.State.{Command, Make, Show, Report, Dump, Explain, Begin, Commit, Abort}
+use Rattle.olr_commands.specs.State.{Command, Make, Show, Show_node, Show_line, Depends, Report, Dump, Explain, Begin}
+use Rattle.olr_commands.specs.State.{Commit, Abort}
 
 -- the fields of a record, or one field, by their bytes
 abbrev pub Field : Type 0
@@ -142,6 +143,18 @@ path_fields _ = Err Bad_form
 abbrev pub path_record : (List ℕ → Path → Change) → List Field → Read Command
 path_record g fs = Ok (λ p. Make (g p.0 p.1)) ⊛ path_fields fs
 
+-- the greatest number of nodes in a question about nodes
+abbrev pub most_nodes : ℕ
+most_nodes = 10000
+
+abbrev pub few_nodes : ℕ → Read ℕ
+few_nodes n = value_or_fault (nat_le n most_nodes) n
+
+-- one or more nodes
+abbrev pub depends_record : List Field → Read Command
+depends_record [] = Err Bad_form
+depends_record fs = Ok (λ n nodes. Depends nodes) ⊛ few_nodes (length fs) ⊛ numbers fs
+
 -- by the first field, how the fields after it are read
 abbrev pub forms : List (Field × (List Field → Read Command))
 forms =
@@ -152,15 +165,18 @@ forms =
     ∷ (codes "set-line", λ fs. edit (set_line_record fs))
     ∷ (codes "drop-line", λ fs. edit (one Drop_line number fs))
     ∷ (codes "path", λ fs. path_record Add_path fs)
+    ∷ (codes "explain", λ fs. one Explain (λ f. Ok f) fs)
     ∷ (codes "repath", λ fs. path_record Set_path fs)
     ∷ (codes "drop-path", λ fs. one (λ n. Make (Drop_path n)) name fs)
-    ∷ (codes "show", λ fs. one Show name fs)
-    ∷ (codes "report", λ fs. none Report fs)
-    ∷ (codes "dump", λ fs. none Dump fs)
-    ∷ (codes "explain", λ fs. one Explain (λ f. Ok f) fs)
     ∷ (codes "begin", λ fs. none Begin fs)
     ∷ (codes "commit", λ fs. one Commit amount fs)
     ∷ (codes "abort", λ fs. none Abort fs)
+    ∷ (codes "show", λ fs. one Show name fs)
+    ∷ (codes "show-node", λ fs. one Show_node number fs)
+    ∷ (codes "show-line", λ fs. one Show_line number fs)
+    ∷ (codes "depends", λ fs. depends_record fs)
+    ∷ (codes "report", λ fs. none Report fs)
+    ∷ (codes "dump", λ fs. none Dump fs)
     ∷ []
 
 abbrev pub read_by : List (Field × (List Field → Read Command)) → Field → List Field → Read Command
@@ -177,13 +193,14 @@ read_fault Out_of_range = Range
 
 -- ---- memory
 
--- a command that holds a name, a non-empty text or a shape point
+-- a command that holds a name, a list of nodes, a non-empty text or a shape point
 abbrev pub HoldsList : Command → Type 0
 HoldsList (Make (On_map (Add_line x l))) = 0 < length l.shape
 HoldsList (Make (On_map (Set_line x frc fow len shape))) = 0 < length shape
 HoldsList (Make (On_map e)) = ⊥
 HoldsList (Make change) = ⊤
 HoldsList (Show name) = ⊤
+HoldsList (Depends nodes) = ⊤
 HoldsList (Explain text) = 0 < length text
 HoldsList c = ⊥
 

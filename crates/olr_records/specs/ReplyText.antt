@@ -12,7 +12,7 @@ use Rattle.olr_commands.specs.State.{TextFault, Not_base64, Not_v3, Fault, Synta
 use Rattle.olr_commands.specs.State.{No_path, Bad_path, Not_a_reference, Memory, Batch_open, No_batch, Count_differs}
 use Rattle.olr_commands.specs.State.{Batch_full, Not_a_record}
 use Rattle.olr_commands.specs.RecordText.{fields_line}
-use Rattle.olr_commands.specs.Reply.{Entry, Reply, Paths, Fields, Held, Dumped, Outcome}
+use Rattle.olr_commands.specs.Reply.{Entry, Reply, Paths, Fields, Held, Dumped, Records, Names, Outcome}
 
 abbrev pub reply_line : List (List ℕ) → List ℕ
 reply_line fields = fields_line fields
@@ -60,6 +60,9 @@ reference_lines r =
 
 -- ---- replies
 
+abbrev pub name_line : List ℕ → List ℕ
+name_line name = reply_line (name ∷ [])
+
 abbrev pub count_line : ℕ → List ℕ
 count_line n = reply_line (codes "ok" ∷ decimal n ∷ [])
 
@@ -71,6 +74,8 @@ abbrev pub reply_text : Reply → List ℕ
 reply_text (Paths es) = accepted_text (map entry_line es)
 reply_text (Fields r) = accepted_text (reference_lines r)
 reply_text (Dumped n text) = count_line n ++ text
+reply_text (Records n text) = count_line n ++ text
+reply_text (Names names) = accepted_text (map name_line names)
 reply_text (Held n) = reply_line (codes "held" ∷ decimal n ∷ [])
 
 -- ---- faults

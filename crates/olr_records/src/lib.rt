@@ -7,6 +7,7 @@ mod fields;
 mod lines;
 mod parts;
 mod paths;
+mod questions;
 mod read;
 mod reply;
 mod texts;

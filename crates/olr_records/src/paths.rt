@@ -15,6 +15,7 @@ use olr_roads::LineId;
 use std::alloc::Global;
 
 /// A path: all fields after the first. Returns its name, its lines, and its positive and negative offset in decimetres.
+#[inline(never)]
 fn path(alloc: Global, fields: &ByteRecord) -> Result<(String, Vec<LineId>, u32, u32), ReadFault>
     ensures { Gathers (λ _. ⊤) (λ p. (string_bytes p.0, path_along p.1.items p.2 p.3))
         (records.path_fields (drop 1 (fields_of fields.now)))

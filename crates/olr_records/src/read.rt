@@ -1,5 +1,5 @@
 //! Commands, decoded from records.
-ghost use Rattle.std.specs.Prelude.{◌≡◌, ◌≢◌, ◌↔◌, codes, drop, IsTrue, Ok};
+ghost use Rattle.std.specs.Prelude.{◌≡◌, ◌↔◌, drop, IsTrue, Ok};
 ghost use Rattle.csv.specs.Records.{fields_of};
 ghost use Rattle.olr_commands.specs.State.{Explain, Commit};
 ghost use Rattle.olr_commands.specs.Words.{command_of};
@@ -10,13 +10,14 @@ use crate::edits::{add_line, add_node, drop_line, drop_node, move_node, set_line
 use crate::faults::ReadFault;
 use crate::fields::{amount, field};
 use crate::paths::{add_path, drop_path, set_path, show};
+use crate::questions::{depends, show_line, show_node};
 use csv::ByteRecord;
 use olr_commands::Command;
 use std::alloc::Global;
 
 /// The command that a record decodes to. `Syntax`: the record has the form of no command. `Range`: it has the form of a
 /// command, and a value is out of range; `Syntax` takes precedence, whatever the order of the fields. `Memory`: only
-/// for a record that decodes to a command with a name, a non-empty text or shape points.
+/// for a record that decodes to a command with a name, nodes, a non-empty text or shape points.
 pub fn read_command(alloc: Global, fields: &ByteRecord) -> Result<Command, ReadFault>
     ensures { IsRead (records.read (fields_of fields.now)) result }
 {
@@ -59,9 +60,9 @@ fn is(word: &[u8], text: &[u8]) -> bool
 }
 
 /// The same, for a word that `read_by` doesn't know.
+#[inline(never)]
 fn read_rarer(alloc: Global, word: &[u8], fields: &ByteRecord) -> Result<Command, ReadFault>
-    requires { word.now ≢ codes "explain" }
-    ensures { IsRead (records.read_by (drop 7 records.forms) word.now (drop 1 (fields_of fields.now))) result }
+    ensures { IsRead (records.read_by (drop 8 records.forms) word.now (drop 1 (fields_of fields.now))) result }
 {
     if is(word, b"begin") {
         single_word(fields, Command::Begin)
@@ -69,16 +70,35 @@ fn read_rarer(alloc: Global, word: &[u8], fields: &ByteRecord) -> Result<Command
         single_word(fields, Command::Abort)
     } else if is(word, b"repath") {
         set_path(alloc, fields)
-    } else if is(word, b"report") {
-        single_word(fields, Command::Report)
     } else if is(word, b"commit") {
         commit(fields)
-    } else if is(word, b"dump") {
-        single_word(fields, Command::Dump)
     } else if is(word, b"drop-path") {
         drop_path(alloc, fields)
-    } else if is(word, b"show") {
+    } else {
+        read_question(alloc, word, fields)
+    }
+}
+
+/// The same, for the words of questions other than `explain`.
+fn read_question(
+    alloc: Global,
+    word: &[u8],
+    fields: &ByteRecord,
+) -> Result<Command, ReadFault>
+    ensures { IsRead (records.read_by (drop 13 records.forms) word.now (drop 1 (fields_of fields.now))) result }
+{
+    if is(word, b"show") {
         show(alloc, fields)
+    } else if is(word, b"show-node") {
+        show_node(fields)
+    } else if is(word, b"show-line") {
+        show_line(fields)
+    } else if is(word, b"depends") {
+        depends(alloc, fields)
+    } else if is(word, b"report") {
+        single_word(fields, Command::Report)
+    } else if is(word, b"dump") {
+        single_word(fields, Command::Dump)
     } else {
         Err(ReadFault::Syntax)
     }

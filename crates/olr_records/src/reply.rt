@@ -1,5 +1,5 @@
 //! The texts of replies.
-ghost use Rattle.std.specs.Prelude.{◌≡◌, ◌≤◌, ◌++◌, ◌∷◌, [], ℕ, List, decimal, length, map, IfOk, OnOk};
+ghost use Rattle.std.specs.Prelude.{◌≡◌, ◌≤◌, ◌++◌, ◌∷◌, [], ℕ, List, decimal, length, map, string_bytes, IfOk, OnOk};
 ghost use Rattle.std.specs.List.{concat};
 ghost use Rattle.olr_answers.specs.Answers.{refusal_of};
 ghost use Rattle.olr_commands.specs.RecordText.{after_commas};
@@ -39,7 +39,8 @@ pub fn append_reply(text: &mut Vec<u8>, reply: &Reply) -> Result<(), AllocError>
         Reply::Paths(entries) => push_paths(text, entries),
         Reply::Fields(reference) => push_reference(text, reference),
         Reply::Held(count) => push_count(text, b"held", *count as usize),
-        Reply::Dump(dump) => push_dump(text, dump),
+        Reply::Dump(records) | Reply::Records(records) => push_dump(text, records),
+        Reply::Names(names) => push_names(text, names),
     }
 }
 
@@ -132,6 +133,34 @@ fn push_dump(text: &mut Vec<u8>, dump: &Dump) -> Result<(), AllocError>
 {
     push_count(text, b"ok", dump.count)?;
     text.extend_from_slice(&dump.text)
+}
+
+/// The number of names, and the names.
+fn push_names(text: &mut Vec<u8>, names: &[String]) -> Result<(), AllocError>
+    ensures { OnOk result (text.new.items ≡ text.old.items
+        ++ texts.accepted_text (map (λ n. texts.name_line (string_bytes n)) names.now)) }
+{
+    push_count(text, b"ok", names.len())?;
+    push_name_lines(text, names)
+}
+
+/// The lines of these names.
+fn push_name_lines(text: &mut Vec<u8>, names: &[String]) -> Result<(), AllocError>
+    ensures { OnOk result (text.new.items
+        ≡ text.old.items ++ concat (map (λ n. texts.name_line (string_bytes n)) names.now)) }
+{
+    for name in names {
+        push_name(text, name)?;
+    }
+    Ok(())
+}
+
+/// The line of a name.
+fn push_name(text: &mut Vec<u8>, name: &str) -> Result<(), AllocError>
+    ensures { OnOk result (text.new.items ≡ text.old.items ++ texts.name_line name.now) }
+{
+    text.extend_from_slice(name.as_bytes())?;
+    text.extend_from_slice(b"\n")
 }
 
 /// The number of lines of an offset.

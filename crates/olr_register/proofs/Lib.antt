@@ -14,3 +14,4 @@ pub mod Replies
 pub mod Runs
 pub mod Singles
 pub mod States
+pub mod Shown

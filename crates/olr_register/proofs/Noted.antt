@@ -1,5 +1,5 @@
 -- What is recorded of edits: the maps before and after them have no other difference.
-use Rattle.olr_register.proofs.Common.{inl, inr, ◌≡◌, ℕ, false, true, List, [], ◌∷◌, ◌++◌, Ok, sym, ◌∙◌, subst, arith}
+use Rattle.olr_register.proofs.Common.{inl, inr, ◌≡◌, ℕ, false, true, List, [], ◌∷◌, ◌++◌, Ok, refl, sym, ◌∙◌, subst, arith}
 use Rattle.olr_register.proofs.Common.{◌||◌, AllByRecursion, or_right, list_any-append, Map, IsMap, Edit, edited, start}
 use Rattle.olr_register.proofs.Common.{touched_nodes, touched_lines, has, is_path, ChangedLine, changes_of, EditPlan}
 use Rattle.olr_register.proofs.Common.{Item, AreEncodingsIfAny, all_named, nodes_of, lines_of, changed_of, ChangeSet}
@@ -41,6 +41,20 @@ starts_of M (Drop_line x) c k = starts_of_one (start M x ∷ end M x ∷ []) _ c
 
 pub noted_none : (M : Map) → AreEditsNoted M M [] [] []
 noted_none M = record { difference = none_differs M; starts = λ c k. absurd (none_contained c k) }
+
+-- nor is more said of nodes and lines that nothing touched
+pub noted_idle : (M : Map) (ns xs : List ℕ) (cs : List ChangedLine) → cs ≡ [] → AreEditsNoted M M ns xs cs
+noted_idle M ns xs cs none =
+    let idle = (noted_none M).difference in
+    rw none (record {
+      difference = record {
+        nodes = λ v off. idle.nodes v refl;
+        lines = λ x off. idle.lines x refl;
+        there = idle.there;
+        here = idle.here;
+      };
+      starts = λ c k. absurd (none_contained c k);
+    })
 
 -- a node or line outside the combined list is in neither part
 held_by : (ms ns us : List ℕ) (v : ℕ) → has ms v ≡ (has ns v || has us v) → has ms v ≡ false → has (ns ++ us) v ≡ false

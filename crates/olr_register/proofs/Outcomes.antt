@@ -9,7 +9,8 @@ use Rattle.olr_commands.specs.State.{changes_made_in, unless_fault, Not_a_refere
 use Rattle.olr_commands.specs.Reply.{Lacks}
 use Rattle.olr_commands.proofs.SearchLemmas.{unconcerned}
 use Rattle.olr_register.specs.Sparing.{SameCounts}
-use Rattle.olr_register.proofs.States.{state, InStates, in_states}
+use Rattle.olr_register.proofs.States.{state, register_of, InStates, in_states}
+use Rattle.olr_search.specs.declared.work.Work.{Work}
 use Rattle.olr_paths.proofs.RenewedPrefix.{counted_none, no_totals}
 use Rattle.olr_register.proofs.Counting.{AreRises, none_affected}
 use Rattle.base64.specs.Engines.{standard}
@@ -98,6 +99,15 @@ answered_refused old new c (Err g) f same is h =
       same = tt;
       unchanged = refl;
     })
+
+-- a question that is answered only if no batch is open: it changes nothing
+pub answered_shut : (c : Content) (w : Work) (n : ℕ) (q : Command) (r : Reply) → changes_made_in None q ≡ [] →
+    IsOutcome (state c None) q (Ok (reply_of r)) (state c None) →
+    Answered (register_of c None w n) q (Ok r) (register_of c None w n)
+answered_shut c w n q r none outcome =
+    let k : RegisterState = record { content = c; batch = None } in
+    answered_uncounted (register_of c None w n) k q r
+    (in_states k (Keeps k q r) (none, (state c None, (refl, tt), outcome)))
 
 -- ---- questions: with a batch open or not, they change nothing
 

@@ -1,6 +1,6 @@
--- What a register keeps, and what is true of it.
+-- What a register stores, and what is true of it.
 --     content_on M is, content_under roads is b      the content of a map and a list;  the content after an open batch
---     AreEditsNoted M N T X C      what is noted of edits that lead from M to N
+--     AreEditsNoted M N T X C      what is recorded of edits that lead from M to N
 --     IsHeld, IsRegister      what is true of an open batch, and of map, list and batch
 --     HasBounds M is near      the bounds are right on the map, and they are those of all coverage queries of the list.
 --     IsKeptRight      what is true of the whole

@@ -48,6 +48,9 @@ impl Register {
             }
             Command::DropPath(name) => self.change(Change::DropPath(name)),
             Command::Show(name) => self.show(&name),
+            Command::ShowNode(id) => self.show_node(id),
+            Command::ShowLine(id) => self.show_line(id),
+            Command::Depends(nodes) => self.depends(&nodes),
             Command::Report => self.report(),
             Command::Dump => self.dump(),
             Command::Explain(text) => self.explain(&text),

@@ -73,7 +73,7 @@ impl Register {
         Ok(Reply::Paths(renewed.entries))
     }
 
-    /// Drops all held changes: the map is the one before the batch. Takes no memory.
+    /// Drops all held changes: the map is again the one before the batch. Takes no memory.
     #[inline(never)]
     pub(crate) fn abort(&mut self) -> Result<Reply, CommandFault>
         ensures { Answered self.old Abort result self.new }

@@ -44,7 +44,7 @@ fn are_recordable_lines(roads: &RoadMap, ids: &[LineId]) -> bool
 }
 
 /// Whether a record can have this node.
-fn is_recordable_place(roads: &RoadMap, id: NodeId) -> bool
+pub(crate) fn is_recordable_place(roads: &RoadMap, id: NodeId) -> bool
     ensures { result ≡ recordable.is_recordable_coord (coord_at (map_of roads.now) id) }
 {
     match roads.node(id) {

@@ -16,7 +16,7 @@ use olr_paths::{ChangeSet, ChangedLine, Overlay};
 use std::alloc::AllocError;
 
 /// The line that a judged edit changes: its ends, and the lesser of its lengths before and after. None if the edit is
-/// one of a node.
+/// of a node.
 pub(crate) fn line_changed(plan: &EditPlan) -> Option<ChangedLine>
     ensures { list_map change_of (option_to_list result) ≡ planned_changes plan.now }
 {
@@ -28,19 +28,8 @@ pub(crate) fn line_changed(plan: &EditPlan) -> Option<ChangedLine>
     })
 }
 
-/// Makes a judged edit that is never undone. If an allocation fails, the map is unchanged.
-fn make_kept(roads: &mut RoadMap, edit: Edit, plan: &EditPlan) -> Result<(), AllocError>
-    requires { IsEditPlan (map_of roads.old) (slot_of roads.old) (edit_of edit) plan.now }
-    ensures done { OnOk result (edited (map_of roads.old) (edit_of edit) ≡ Ok (map_of roads.new)) }
-    ensures same { OnErr result (map_of roads.new ≡ map_of roads.old) }
-    ensures lacks { OnErr result (IsTrue (allocates (edit_of edit))) }
-{
-    let undo = roads.make(edit, plan)?;
-    roads.keep(undo);
-    Ok(())
-}
-
 /// Records what a judged edit touches, and nothing else, and makes it. If an allocation fails, the map is unchanged.
+#[inline(never)]
 fn make_noted(
     roads: &mut RoadMap,
     touched: &mut ChangeSet,
@@ -65,7 +54,7 @@ impl Register {
     ghost use Rattle.olr_register.specs.Answering.{Answered};
 
     /// Makes an edit of the map and encodes the affected paths again. Faults of the map take precedence over `Memory`.
-    /// Where there are no paths, nothing but the map takes memory, and the distance bounds are cleared.
+    /// If there are no paths, nothing but the map takes memory, and the distance bounds are cleared.
     pub(crate) fn edit_now(&mut self, edit: Edit) -> Result<Reply, CommandFault>
         requires { self.old.kept.batch ≡ None }
         ensures { Answered self.old (Make (On_map (edit_of edit))) result self.new }
@@ -75,7 +64,7 @@ impl Register {
             Err(fault) => return Err(CommandFault::Map(fault)),
         };
         if self.paths.len() == 0 {
-            make_kept(&mut self.roads, edit, &plan)?;
+            self.roads.make_kept(edit, &plan)?;
             self.near.clear();
             return Ok(Reply::Paths(Vec::new(self.alloc)));
         }

@@ -5,12 +5,14 @@ mod applying;
 mod batch;
 mod batches;
 mod change;
+mod depending;
 mod dumps;
 mod edits;
 mod footprints;
 mod nearing;
 mod paths;
 mod questions;
+mod records;
 mod register;
 
 pub use applying::replay;

@@ -20,7 +20,7 @@ use std::alloc::{AllocError, Global};
 /// The bounds are rebuilt only after searches that found no path have labelled more nodes than this.
 const LEAST: usize = 65_536;
 
-/// Makes the bounds right on the map after edits that touched these nodes. If an allocation fails they are unknown.
+/// Makes the bounds right on the map after edits that touched these nodes. If an allocation fails, they are unknown.
 fn ask_near(near: &mut DistanceBounds, roads: &RoadMap, touched: &ChangeSet)
     ensures { (M : Map) (is : List Item) → SameBut (nodes_of touched.now) M (map_of roads.now) → HasBounds M is near.old
         → HasBounds (map_of roads.now) is near.new }
@@ -29,7 +29,7 @@ fn ask_near(near: &mut DistanceBounds, roads: &RoadMap, touched: &ChangeSet)
     let _ = near.settle(roads);
 }
 
-/// Adds coverage queries, and makes the bounds right. If an allocation fails they are unknown.
+/// Adds coverage queries, and makes the bounds right. If an allocation fails, they are unknown.
 fn add_near(near: &mut DistanceBounds, roads: &RoadMap, queries: &[CoverageQuery])
     ensures right { IsRight (map_of roads.now) near.old → IsRight (map_of roads.now) near.new }
     ensures before { (s w : ℕ) → IsSource near.old s w → IsSource near.new s w }
@@ -67,7 +67,7 @@ fn is_worn(near: &DistanceBounds, paths: &PathList, searches: &Searches) -> bool
 }
 
 /// Makes the bounds right after a renewal of the list: adds sources where its new coverage queries begin, or rebuilds
-/// the bounds if searches that found no path have cost more than that.
+/// the bounds if searches that found no path have cost more than that would.
 pub(crate) fn rebuild_bounds(
     alloc: Global,
     near: &mut DistanceBounds,
@@ -89,6 +89,7 @@ pub(crate) fn rebuild_bounds(
 
 /// Encodes the affected paths again after edits that led to the map, with the changes of an overlay, and makes the
 /// bounds right. If an allocation fails, the list is unchanged, and the bounds are unknown.
+#[inline(never)]
 pub(crate) fn renew(
     alloc: Global,
     roads: &RoadMap,

@@ -20,7 +20,7 @@ pub struct Register {
     /// What an edit touches, in a buffer that is reused.
     pub(crate) touched: ChangeSet,
     pub(crate) work: Work,
-    /// How many of the counted encodings were spared.
+    /// How many of the counted encodings were not made, because the answer was retained.
     pub(crate) spared: u64,
     pub(crate) batch: Option<Batch>,
     /// Distance bounds, which show that no coverage query begins near an edit. While a batch is open, on the map before

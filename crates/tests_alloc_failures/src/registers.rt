@@ -17,6 +17,9 @@ drop-line,20
 line,20,2,3,3,3,2000,200,6.1282,49.60389
 explain,CwRbWyNG9RpsCQCb/jsbtAT/6/+jK1lE
 dump
+show-node,1
+show-line,10
+depends,4,2
 node,6,6.13,49.604
 node,7,6.131,49.604
 line,60,2,6,4,3,1000

@@ -5,7 +5,7 @@ use crate::twin::{Named, Rise, Twin};
 use csv::ByteRecord;
 use made_maps::{line, next, node};
 use olr_binary::to_text;
-use olr_commands::Command;
+use olr_commands::{Command, Reply};
 use olr_map::MapRead;
 use olr_records::read_command;
 use olr_refs::{Answer, Encoding};
@@ -33,6 +33,8 @@ pub struct Pair {
     /// The records of the changes that the open batch holds, and their number.
     pending: String,
     count: u32,
+    /// By which the nodes of questions are chosen.
+    asked: u64,
 }
 
 /// The command of a record, whose fields are without quotes.
@@ -69,6 +71,7 @@ impl Pair {
             is_open: false,
             pending: String::new(alloc),
             count: 0,
+            asked: 1,
         }
     }
 
@@ -82,7 +85,8 @@ impl Pair {
         let accepted = self.register.apply(command).is_ok();
         assert!(rt; accepted == rise.is_some(), "whether {record} is accepted");
         self.assert_counts(rt, before, rise.unwrap_or_default(), record);
-        self.assert_alike(rt, record)
+        self.assert_alike(rt, record)?;
+        self.assert_dependents(rt, record)
     }
 
     /// The counts of the register.
@@ -248,6 +252,36 @@ impl Pair {
             .expect(rt, "a path of that name");
         let same = kept.as_slice() == fresh.as_slice();
         assert!(rt; same, "footprint of {name} after {record}");
+        Ok(())
+    }
+
+    /// Asks which paths depend on two nodes, and asserts that these are the ones that depend on them in the twin, and
+    /// that the counts stay; unless a batch is open, or a node is not on the map.
+    fn assert_dependents<R: Abort + AllocGlobal>(
+        &mut self,
+        rt: &R,
+        record: &str,
+    ) -> Result<(), Fail> {
+        self.asked = next(self.asked);
+        let mut nodes = Vec::new(rt.alloc());
+        nodes.push(node(number_in(self.asked >> 20, NODES)))?;
+        nodes.push(node(number_in(self.asked >> 40, NODES)))?;
+        let roads = &self.twin.roads;
+        if self.is_open || nodes.iter().any(|it| roads.node(*it).is_none()) {
+            return Ok(());
+        }
+        let mut expected = Vec::new(rt.alloc());
+        for named in &self.twin.paths {
+            if named.depends(rt.alloc(), roads, &nodes)? {
+                expected.push(named.name.clone()?)?;
+            }
+        }
+        let before = self.counts();
+        let Ok(Reply::Names(names)) = self.register.apply(Command::Depends(nodes)) else {
+            panic!(rt; "no answer after {record}");
+        };
+        assert!(rt; names == expected, "dependents after {record}");
+        self.assert_counts(rt, before, Rise::default(), record);
         Ok(())
     }
 

@@ -2,7 +2,7 @@
 
 use crate::changes::{ChangedLine, changed_line, is_clear};
 use olr_commands::Command;
-use olr_map::{Edit, Footprint, LineId, NodeId, RoadMap, judge};
+use olr_map::{Edit, Footprint, LineId, MapRead, NodeId, RoadMap, judge};
 use olr_refs::{CoverageQuery, Encoding, Path, encode, refer};
 use olr_search::{Dijkstra, Work};
 use std::alloc::Global;
@@ -58,6 +58,22 @@ impl Named {
         let mut work = Work::default();
         let (_, footprint) = refer(alloc, roads, &path, &mut work)?;
         Ok(footprint)
+    }
+
+    /// Whether the path's footprint has one of the nodes, or one of its lines begins or ends at one.
+    pub fn depends(&self, alloc: Global, roads: &RoadMap, nodes: &[NodeId]) -> Result<bool, Fail> {
+        let footprint = self.footprint(alloc, roads)?;
+        if nodes.iter().any(|node| footprint.has(*node)) {
+            return Ok(true);
+        }
+        for id in &self.lines {
+            if let Some(line) = roads.line(*id) {
+                if nodes.contains(&line.from) || nodes.contains(&line.to) {
+                    return Ok(true);
+                }
+            }
+        }
+        Ok(false)
     }
 }
 

@@ -65,6 +65,15 @@ fn reads_each_record(rt: HostRuntime) -> Result<(), Fail> {
             ),
             ("drop-path,b", "Ok(DropPath(\"b\"))"),
             ("show,a", "Ok(Show(\"a\"))"),
+            (
+                "show-node,4294967295",
+                "Ok(ShowNode(NodeId { number: 4294967295 }))",
+            ),
+            ("show-line,10", "Ok(ShowLine(LineId { number: 10 }))"),
+            (
+                "depends,4,2,4",
+                "Ok(Depends([NodeId { number: 4 }, NodeId { number: 2 }, NodeId { number: 4 }]))",
+            ),
             ("report", "Ok(Report)"),
             ("dump", "Ok(Dump)"),
             ("explain,*", "Ok(Explain([42]))"),
@@ -119,8 +128,47 @@ fn refuses_malformed_records(rt: HostRuntime) -> Result<(), Fail> {
             ("commit", "Err(Syntax)"),
             ("show", "Err(Syntax)"),
             ("explain", "Err(Syntax)"),
+            ("show-node", "Err(Syntax)"),
+            ("show-node,1,2", "Err(Syntax)"),
+            ("show-node,0", "Err(Range)"),
+            ("show-line,x", "Err(Syntax)"),
+            ("show-line,4294967296", "Err(Range)"),
+            ("depends", "Err(Syntax)"),
+            ("depends,", "Err(Syntax)"),
+            ("depends,1,0", "Err(Range)"),
+            ("depends,0,x", "Err(Syntax)"),
         ],
     )
+}
+
+/// Asserts what a question about so many nodes and one more decodes to: the number of its nodes, or its fault.
+fn expect_nodes<R: Abort + AllocGlobal>(
+    rt: &R,
+    count: u32,
+    last: &str,
+    want: Result<usize, ReadFault>,
+) -> Result<(), Fail> {
+    let mut row = ByteRecord::new(rt.alloc());
+    row.push_field(b"depends")?;
+    for _ in 0..count {
+        row.push_field(b"1")?;
+    }
+    row.push_field(last.as_bytes())?;
+    let got = match read_command(rt.alloc(), &row) {
+        Ok(Command::Depends(nodes)) => Ok(nodes.len()),
+        Ok(_) => panic!(rt; "another command"),
+        Err(fault) => Err(fault),
+    };
+    assert_eq!(rt; got, want, "{count} nodes and {last}");
+    Ok(())
+}
+
+#[test]
+fn questions_have_at_most_10000_nodes(rt: HostRuntime) -> Result<(), Fail> {
+    expect_nodes(&rt, 9_999, "2", Ok(10_000))?;
+    expect_nodes(&rt, 10_000, "2", Err(ReadFault::Range))?;
+    expect_nodes(&rt, 10_000, "0", Err(ReadFault::Range))?;
+    expect_nodes(&rt, 10_000, "x", Err(ReadFault::Syntax))
 }
 
 #[test]
@@ -245,6 +293,23 @@ fn replies_of_dumps(rt: HostRuntime) -> Result<(), Fail> {
         &Reply::Dump(Dump { count: 2, text }),
         "ok,2\nnode,1,6.1,-0.0000001\npath,a,0,20,10\n",
     )
+}
+
+#[test]
+fn replies_of_questions_about_the_map(rt: HostRuntime) -> Result<(), Fail> {
+    let mut text = Vec::new(rt.alloc());
+    text.extend_from_slice(b"node,1,6.1,-0.0000001\n")?;
+    expect_reply(
+        &rt,
+        &Reply::Records(Dump { count: 1, text }),
+        "ok,1\nnode,1,6.1,-0.0000001\n",
+    )?;
+    let mut names = Vec::new(rt.alloc());
+    for name in ["b", "a.1"] {
+        names.push(String::from_str(rt.alloc(), name)?)?;
+    }
+    expect_reply(&rt, &Reply::Names(names), "ok,2\nb\na.1\n")?;
+    expect_reply(&rt, &Reply::Names(Vec::new(rt.alloc())), "ok,0\n")
 }
 
 #[test]

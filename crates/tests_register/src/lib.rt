@@ -15,4 +15,6 @@ mod path_list;
 #[cfg(test)]
 mod paths;
 #[cfg(test)]
+mod questions;
+#[cfg(test)]
 mod worked;

@@ -1,6 +1,7 @@
 use Rattle.olr_paths.proofs.Common.{refl, inl, inr, ◌≡◌, ◌≤◌, ℕ, Some, length, get_or, slice_get, arith, ◌+◌, take_all}
 use Rattle.olr_paths.proofs.Common.{slice_get_within, Item, nodes_of, lines_of, changed_of, shown_items, shown_item}
-use Rattle.olr_paths.proofs.RenewedPrefix.{so_far_none, so_far_step, whole, passed_more, to_position, past_end}
+use Rattle.olr_paths.proofs.Passing.{passed_more, past_end}
+use Rattle.olr_paths.proofs.RenewedPrefix.{so_far_none, so_far_step, whole, to_position}
 use Rattle.olr_paths.proofs.renewal.renewal_by.Goals as goal
 
 pub decide-requires-clause-asked : goal.decide-requires-clause-asked

@@ -1,6 +1,7 @@
 use Rattle.olr_paths.proofs.Common.{shown_items, changed_of, nodes_of, lines_of, length, items, take, ◌≤◌, ◌<◌}
 use Rattle.olr_list.proofs.Common.{most_changed, AreDetours, AreAsked}
-use Rattle.olr_paths.proofs.RenewedPrefix.{Passed, SoFar}
+use Rattle.olr_paths.proofs.Passing.{Passed}
+use Rattle.olr_paths.proofs.RenewedPrefix.{SoFar}
 use Rattle.olr_paths.proofs.renewal.renewal_by.Given as goal
 
 -- the paths before the next position are renewed, reported and counted, and the candidates so far are among them;  the

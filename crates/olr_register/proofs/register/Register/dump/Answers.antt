@@ -1,9 +1,8 @@
 use Rattle.olr_register.proofs.Common.{refl, sym, list_all, and_parts, none_of, map_of, is_name, is_recordable_map}
-use Rattle.olr_register.proofs.Common.{Dump, None, kept_of, items, all_named, ByState, No_memory}
+use Rattle.olr_register.proofs.Common.{Dump, items, all_named, content_on, ByState, No_memory}
 use Rattle.olr_commands.specs.Reply.{Dumped, Lacks}
 use Rattle.olr_register.proofs.BatchSteps.{open_refused}
-use Rattle.olr_register.proofs.Outcomes.{answered_refused, answered_uncounted, Keeps}
-use Rattle.olr_register.proofs.States.{state, in_states}
+use Rattle.olr_register.proofs.Outcomes.{answered_refused, answered_shut}
 use Rattle.olr_commands.specs.declared.reply.Reply.TheVariants as reply
 use Rattle.olr_register.proofs.register.Register.dump.Goals as goal
 
@@ -27,17 +26,10 @@ dump_of-requires c =
 
 pub returns : goal.returns
 returns c =
-    let k = kept_of c.self.inside.roads (items c.self.inside.paths) None in
-    let d = reply.Dump c.in_ok-dump_of.field-0 in
-    rw (← c.self.view_is, none_of c.self.inside.batch (sym c.if-is_some.ensures))
-    (answered_uncounted _ k Dump d (in_states k (Keeps k Dump d) (
-      refl,
-      (
-        state k.content None,
-        (refl, tt),
-        (rw (← c.if-not-is_recordable.ensures), λ i. Dumped (c.in_ok-dump_of.ensures.0 i) (c.in_ok-dump_of.ensures.1 i)),
-      ),
-    )))
+    let r = c.self.inside in
+    rw (← c.self.view_is, none_of r.batch (sym c.if-is_some.ensures))
+    (answered_shut (content_on (map_of r.roads) (items r.paths)) r.work r.spared Dump (reply.Dump c.in_ok-dump_of.field-0) refl
+    (rw (← c.if-not-is_recordable.ensures), λ i. Dumped (c.in_ok-dump_of.ensures.0 i) (c.in_ok-dump_of.ensures.1 i)))
 
 pub returns-in_err-dump_of : goal.returns-in_err-dump_of
 returns-in_err-dump_of c =

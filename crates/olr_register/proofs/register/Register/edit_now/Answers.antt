@@ -24,7 +24,7 @@ returns-in-Err c =
 pub invariant_of-self : goal.invariant_of-self
 invariant_of-self c =
     let same = c.in_err-make_kept.ensures.same in
-    same_right c.self.inside c.self.view_is c.requires c.self.invariant c.make_kept.new.roads _ _ same refl
+    same_right c.self.inside c.self.view_is c.requires c.self.invariant c.make_kept.new.self _ _ same refl
     (rw same (kept_bounds c.self.inside c.self.view_is c.requires c.self.invariant))
 
 pub returns-in_err-make_kept : goal.returns-in_err-make_kept
@@ -32,24 +32,24 @@ returns-in_err-make_kept c =
     let r = c.self.inside in
     let e = c.in_err-make_kept.ensures in
     refused_now r c.self.view_is c.requires (On_map (edit_of c.args.edit)) _ _ No_memory
-    (same_map r c.self.view_is c.requires c.make_kept.new.roads e.same) c.from_residual.ensures.1
+    (same_map r c.self.view_is c.requires c.make_kept.new.self e.same) c.from_residual.ensures.1
     (may_refuse _ _ _ (rw (no_items (items r.paths) c.len.ensures.len c.if-len-eq0.true) e.lacks)
     (edit_lacks (content_on (map_of r.roads) (items r.paths)) _ c.in-Ok.ensures.plan.accepted))
 
 pub invariant_of-self-then-len-eq0 : goal.invariant_of-self-then-len-eq0
 invariant_of-self-then-len-eq0 c =
     let r = c.self.inside in
-    bare_right r c.self.view_is c.requires c.self.invariant (edit_of c.args.edit) c.make_kept.new.roads
+    bare_right r c.self.view_is c.requires c.self.invariant (edit_of c.args.edit) c.make_kept.new.self
     c.in_ok-make_kept.ensures.done c.clear.new.self c.in-Ok.ensures.plan.placed
     (no_items (items r.paths) c.len.ensures.len c.if-len-eq0.true) (record {
-      right = right_without (map_of c.make_kept.new.roads) c.clear.new.self c.clear.ensures.bounds;
+      right = right_without (map_of c.make_kept.new.self) c.clear.new.self c.clear.ensures.bounds;
       sources = λ v on. absurd on;
     })
 
 pub returns-then-len-eq0 : goal.returns-then-len-eq0
 returns-then-len-eq0 c =
     let r = c.self.inside in
-    bare_done r c.self.view_is c.requires c.self.invariant (edit_of c.args.edit) c.make_kept.new.roads
+    bare_done r c.self.view_is c.requires c.self.invariant (edit_of c.args.edit) c.make_kept.new.self
     c.in_ok-make_kept.ensures.done _ (no_items (items r.paths) c.len.ensures.len c.if-len-eq0.true)
     (ap (λ (es : List Entry). returned.Paths (map entry_of es)) c.new.ensures.items)
 

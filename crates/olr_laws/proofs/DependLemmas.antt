@@ -1,0 +1,220 @@
+-- Which paths depend on nodes: that is decidable, so that the question has exactly one answer; and an edit affects only such
+-- paths, and those that name a line which it adds.
+use Rattle.std.proofs.Common.{arith, ◌≡◌, ◌≢◌, ◌⊎◌, inl, inr, ℕ, zero, suc, ◌+◌, ◌-◌, ◌<◌, ◌≤◌, true, false, List, [], ◌∷◌}
+use Rattle.std.proofs.Common.{length, map, Some, None, Option, IsTrue, Contains, refl, sym, ap, ◌∙◌, subst, append-nil}
+use Rattle.std.proofs.Common.{◌++◌, ◌||◌, Ok, MatchOption, Bool}
+use Rattle.std.proofs.Math.Decide.{dec_lt, map_dec, ℕ_discrete}
+use Rattle.std.proofs.lemmas.Bool.{cases_Bool, both_ways, eqb-true, or_left, or_cases}
+use Rattle.olr_spec.specs.Map.{Map, IsMap, Edit, Add_node, Move_node, Drop_node, Add_line, Set_line, Drop_line, has, has_line}
+use Rattle.olr_spec.specs.Map.{edited, start, end, dm, lines_out, touched_nodes, touched_lines}
+use Rattle.olr_spec.specs.Routes.{Reaches, IsRoute, dm_of}
+use Rattle.olr_spec.specs.Extension.{Path, is_path, extended_path}
+use Rattle.olr_spec.specs.Encoding.{path_fault}
+use Rattle.olr_spec.specs.Queries.{NodeOf, CoverageQuery, IsQuery, query_to}
+use Rattle.olr_spec.specs.Footprint.{Foot, FootOf, Sees, Touched, On_path, On_start_run, On_end_run, Within_reach}
+use Rattle.olr_spec.proofs.AnswerLemmas.{path_also, path_at, by_fault}
+use Rattle.olr_spec.proofs.DecideLemmas.{dec_and, some_encoding}
+use Rattle.olr_spec.proofs.ListLemmas.{has_here, has_there, has_cases}
+use Rattle.olr_spec.proofs.RouteLemmas.{positive}
+use Rattle.olr_spec.proofs.RunLemmas.{leaving}
+use Rattle.olr_spec.proofs.TestedLemmas.{some_last_tested, one_query}
+use Rattle.olr_commands.specs.State.{Named, Content, ArePaths, On_map}
+use Rattle.olr_commands.specs.Reply.{Reply, Names, IsNames}
+use Rattle.olr_commands.specs.Counts.{Picks, Affects, By_name, By_node, By_line}
+use Rattle.olr_commands.specs.Depending.{DependsOn, Dependents, On_node, On_line}
+use Rattle.olr_laws.specs.CommandLaws.{NamesAdded, AffectedDepend}
+
+-- ---- one answer
+
+pub one_names : (T : List (List ℕ) → Type 0) → ((x y : List (List ℕ)) → T x → T y → x ≡ y) → (r q : Reply) →
+    IsNames r T → IsNames q T → r ≡ q
+one_names T one (Names x) (Names y) p g = ap (λ (z : List (List ℕ)). Names z) (one x y p g)
+one_names T one (Names x) q p g = absurd g
+one_names T one r q p g = absurd p
+
+one_picked : {A : Type 0} (P : A → Type 0) (xs ys zs : List A) → Picks P xs ys → Picks P xs zs → ys ≡ zs
+one_picked P [] ys zs p q = p ∙ sym q
+one_picked {A} P (x ∷ xs) ys zs (inl p) (inl q) =
+    p.1.2 ∙ ap (λ (ws : List A). x ∷ ws) (one_picked P xs p.1.0 q.1.0 p.1.1 q.1.1) ∙ sym q.1.2
+one_picked P (x ∷ xs) ys zs (inl p) (inr q) = absurd (q.0 p.0)
+one_picked P (x ∷ xs) ys zs (inr p) (inl q) = absurd (p.0 q.0)
+one_picked P (x ∷ xs) ys zs (inr p) (inr q) = one_picked P xs ys zs p.1 q.1
+
+pub one_dependents : (c : Content) (nodes : List ℕ) (x y : List (List ℕ)) → Dependents c nodes x → Dependents c nodes y →
+    x ≡ y
+one_dependents c nodes x y p q =
+    p.2 ∙ ap (λ (ps : List Named). map (λ n. n.name) ps)
+    (one_picked (λ n. DependsOn c.map nodes n.path) c.paths p.0 q.0 p.1 q.1) ∙ sym q.2
+
+-- ---- it is decidable
+
+dec_or : {A B : Type 0} → Dec A → Dec B → Dec (A ⊎ B)
+dec_or (yes a) e = yes (inl a)
+dec_or (no f) (yes b) = yes (inr b)
+dec_or (no f) (no g) = no (λ s. elim s [ inl a ↦ f a | inr b ↦ g b ])
+
+-- one of a list's numbers, or none
+dec_some : (Q : ℕ → Type 0) → ((x : ℕ) → Dec (Q x)) → (xs : List ℕ) → Dec ((x : ℕ) × IsTrue (has xs x) × Q x)
+dec_some Q d [] = no (λ h. absurd (let never = h.1 in cc))
+dec_some Q d (x ∷ xs) = elim (d x) [
+  | yes q ↦ yes (x, has_here x xs, q)
+  | no f ↦ elim (dec_some Q d xs) [
+    | yes r ↦ yes (r.0, has_there x xs r.0 r.1, r.2)
+    | no g ↦ no (λ h. elim (has_cases x xs h.0 h.1) [
+      | inl e ↦ f (subst Q (sym e) h.2)
+      | inr t ↦ g (h.0, t, h.2)
+    ])
+  ]
+]
+
+module _ (M : Map) (m : IsMap M) (v : ℕ) where
+  -- the first line of a route from s
+  Begins : ℕ → ℕ → ℕ → Type 0
+  Begins s d x = (IsTrue (has_line M x) × (start M x ≡ s)) × ((dm M x ≤ d) × Reaches M (end M x) (d - dm M x) v)
+
+  reaches_by : (s d : ℕ) → ((x : ℕ) × IsTrue (has (lines_out M s) x) × Begins s d x) → Reaches M s d v
+  unfolding Begins
+  reaches_by s d (x, on, h) =
+      let r = h.1.1 in let le = h.1.0 in let short = r.2 in (x ∷ r.0, (h.0.0, h.0.1, r.1), omega arith)
+
+  begins_by : (s d : ℕ) → s ≢ v → Reaches M s d v → (x : ℕ) × IsTrue (has (lines_out M s) x) × Begins s d x
+  unfolding Begins
+  begins_by s d other ([], r, w) = absurd (other r)
+  begins_by s d other (x ∷ xs, r, w) =
+      (x, leaving M s x r.0 r.1, ((r.0, r.1), (omega (arith, w), (xs, r.2, omega (arith, w)))))
+
+  dec_reaches : (fuel d s : ℕ) → d < fuel → Dec (Reaches M s d v)
+  unfolding Begins
+  dec_reaches zero d s lt = absurd (omega arith)
+  dec_reaches (suc fuel) d s lt = elim (ℕ_discrete s v) [
+    | yes e ↦ yes ([], e, omega arith)
+    | no other ↦ map_dec (reaches_by s d) (begins_by s d other) (dec_some (Begins s d) (λ x.
+        elim (cases_Bool (has_line M x)) [
+          | inr off ↦ no (λ h. both_ways (has_line M x) off h.0.0)
+          | inl on ↦ elim (dec_lt d (dm M x)) [
+            | yes more ↦ no (λ h. absurd (let le = h.1.0 in omega arith))
+            | no f ↦ elim (ℕ_discrete (start M x) s) [
+              | no ne ↦ no (λ h. ne h.0.1)
+              | yes e ↦ elim (dec_reaches fuel (d - dm M x) (end M x) (omega (arith, positive M m x on, f))) [
+                | yes r ↦ yes ((on, e), (omega (arith, f), r))
+                | no g ↦ no (λ h. g h.1.1)
+              ]
+            ]
+          ]
+        ]) (lines_out M s))
+  ]
+
+  dec_node : (ls : List ℕ) → Dec (NodeOf M ls v)
+  dec_node ls =
+      dec_some (λ x. (start M x ≡ v) ⊎ (end M x ≡ v))
+      (λ x. dec_or (ℕ_discrete (start M x) v) (ℕ_discrete (end M x) v)) ls
+
+  -- the coverage query of an LRP whose line is followed by two or more lines
+  Sought : List ℕ → ℕ → Type 0
+  Sought ls i = (i + 2 < length ls) × ((l : CoverageQuery) × IsQuery M ls i l × Sees M l v)
+
+  dec_sought : (ls : List ℕ) (i : ℕ) → Dec (Sought ls i)
+  unfolding Sought
+  dec_sought ls i = elim (dec_lt (i + 2) (length ls)) [
+    | no f ↦ no (λ h. f h.0)
+    | yes lt ↦
+        let k = some_last_tested M m ls i (omega (arith, lt)) in
+        let q : CoverageQuery = query_to M ls i k.0 in
+        elim (dec_reaches (suc q.within) q.within q.from (omega arith)) [
+          | yes r ↦ yes (lt, (q, (k.0, k.1, refl), r))
+          | no g ↦ no (λ h. g (subst (λ (l : CoverageQuery). Sees M l v)
+              (one_query M ls i h.1.0 q h.1.1 (k.0, k.1, refl)) h.1.2))
+        ]
+  ]
+
+  dec_touched : (ls b a js : List ℕ) → Dec (Touched M ls b a js v)
+  unfolding Sought
+  dec_touched ls b a js =
+      map_dec (λ s. elim s [
+        | inl n ↦ On_path n
+        | inr (inl n) ↦ On_start_run n
+        | inr (inr (inl n)) ↦ On_end_run n
+        | inr (inr (inr f)) ↦ Within_reach (f.0, f.1, f.2.0, f.2.1)
+      ])
+      (λ t. elim t [
+        | On_path n ↦ inl n
+        | On_start_run n ↦ inr (inl n)
+        | On_end_run n ↦ inr (inr (inl n))
+        | Within_reach f ↦ inr (inr (inr (f.0, f.1, (f.2, f.3))))
+      ])
+      (dec_or (dec_node ls) (dec_or (dec_node b) (dec_or (dec_node a) (dec_some (Sought ls) (dec_sought ls) (0 ∷ js)))))
+
+  dec_foot : (P : Path) → IsTrue (is_path P.lines) → Dec (Foot M P v)
+  dec_foot P is =
+      by_fault M P (λ o. Dec (MatchOption o (FootOf M P v) (λ _. ⊥)))
+      (λ none. let p = (some_encoding M m P is none).1 in
+      map_dec (λ t. path_also p t) (λ f. path_at m is none p f)
+      (dec_touched (extended_path M P p.before p.after).lines p.before p.after p.points))
+      (λ r. no (λ h. h))
+
+module _ (M : Map) (m : IsMap M) (nodes : List ℕ) where
+  dec_true : (b : Bool) → Dec (IsTrue b)
+  dec_true true = yes refl
+  dec_true false = no (λ h. absurd cc)
+
+  dec_depends : (P : Path) → IsTrue (is_path P.lines) → Dec (DependsOn M nodes P)
+  dec_depends P is =
+      map_dec (λ s. elim s [
+        | inl (v, on, f) ↦ On_node v on f
+        | inr (x, own, h) ↦ On_line x h.0 h.1 own
+      ])
+      (λ d. elim d [ On_node v on f ↦ inl (v, on, f) | On_line x there at own ↦ inr (x, own, (there, at)) ])
+      (dec_or (dec_some (λ v. Foot M P v) (λ v. dec_foot M m v P is) nodes)
+      (dec_some (λ x. IsTrue (has_line M x) × IsTrue (has nodes (start M x) || has nodes (end M x)))
+      (λ x. dec_and (dec_true (has_line M x)) (dec_true (has nodes (start M x) || has nodes (end M x)))) P.lines))
+
+  pub some_dependents : (ps : List Named) → ArePaths ps →
+      (qs : List Named) × Picks (λ p. DependsOn M nodes p.path) ps qs
+  some_dependents [] a = ([], refl)
+  some_dependents (p ∷ ps) a =
+      let rest = some_dependents ps a.1 in
+      elim (dec_depends p.path a.0) [
+        | yes d ↦ (p ∷ rest.0, inl (d, (rest.0, rest.1, refl)))
+        | no f ↦ (rest.0, inr (f, rest.1))
+      ]
+
+-- ---- what an edit affects
+
+only : (y x : ℕ) → IsTrue (has (y ∷ []) x) → y ≡ x
+only y x on = elim (has_cases y [] x on) [ inl e ↦ e | inr later ↦ absurd (let never = later in cc) ]
+
+module _ (c : Content) (N : Map) (e : Edit) (nodes : List ℕ) (p : Named) (made : edited c.map e ≡ Ok N)
+    (given : (v : ℕ) → IsTrue (has (touched_nodes c.map e) v) → IsTrue (has nodes v)) where
+  abbrev M : Map
+  M = c.map
+
+  -- a line that an edit of the map touches begins at a touched node
+  begins : (e : Edit) → edited M e ≡ Ok N → (x : ℕ) → IsTrue (has (touched_lines e) x) → IsTrue (has_line M x) →
+      IsTrue (has (touched_nodes M e) (start M x))
+  begins (Add_node v place) ok x on there = absurd cc
+  begins (Move_node v place) ok x on there = absurd cc
+  begins (Drop_node v) ok x on there = absurd cc
+  begins (Add_line y l) ok x on there =
+      let same : y ≡ x = only y x on in
+      let known : has_line M y ≡ true = subst (λ (z : ℕ). has_line M z ≡ true) (sym same) there in
+      absurd (let never = rw known at ok in cc)
+  begins (Set_line y frc fow len shape) ok x on there =
+      subst (λ (z : ℕ). IsTrue (has (start M y ∷ end M y ∷ []) (start M z))) (only y x on)
+      (has_here (start M y) (end M y ∷ []))
+  begins (Drop_line y) ok x on there =
+      subst (λ (z : ℕ). IsTrue (has (start M y ∷ end M y ∷ []) (start M z))) (only y x on)
+      (has_here (start M y) (end M y ∷ []))
+
+  by_affected : Affects c (On_map e ∷ []) p → DependsOn M nodes p.path ⊎ NamesAdded M e p.path
+  by_affected (By_name h) = absurd cc
+  by_affected (By_node v on foot) = inl (On_node v (given v (rw append-nil at on)) foot)
+  by_affected (By_line x on own) =
+      let touched = rw append-nil at on in
+      elim (cases_Bool (has_line M x)) [
+        | inl there ↦ inl (On_line x there
+            (or_left (has nodes (start M x)) (has nodes (end M x)) (given (start M x) (begins e made x touched there))) own)
+        | inr off ↦ inr (x, touched, off, own)
+      ]
+
+pub affected_depend : AffectedDepend
+affected_depend c N e nodes p made given a = by_affected c N e nodes p made given a

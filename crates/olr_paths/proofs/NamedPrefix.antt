@@ -1,0 +1,42 @@
+-- The names of the affected paths, as far as a list was passed.
+use Rattle.olr_paths.proofs.Common.{inl, inr, ◌≡◌, ℕ, ◌+◌, List, [], ◌∷◌, ◌++◌, take, slice_get, Some, refl, sym, ap, ◌∙◌}
+use Rattle.olr_paths.proofs.Common.{subst, arith, map-append, Map, IsMap, ChangedLine, Item, IsAffected, IsBefore, By_name, map}
+use Rattle.olr_commands.specs.Counts.{Picks}
+use Rattle.olr_list.proofs.Common.{take_more_at}
+use Rattle.olr_list.specs.Actions.{ToStay, ToName}
+use Rattle.olr_paths.proofs.KeptLemmas.{touched_by, affected_by}
+use Rattle.olr_paths.specs.Changes.{AffectedNames}
+
+module _ {A : Type 0} (P : A → Type 0) where
+  picks_taken : (xs ys : List A) (x : A) → Picks P xs ys → P x → Picks P (xs ++ x ∷ []) (ys ++ x ∷ [])
+  picks_taken [] ys x h p = inl (p, ([], refl, ap (λ (zs : List A). zs ++ x ∷ []) h))
+  picks_taken (y ∷ xs) ys x (inl h) p =
+      inl (h.0, (h.1.0 ++ x ∷ [], picks_taken xs h.1.0 x h.1.1 p, ap (λ (zs : List A). zs ++ x ∷ []) h.1.2))
+  picks_taken (y ∷ xs) ys x (inr h) p = inr (h.0, picks_taken xs ys x h.1 p)
+
+  picks_left : (xs ys : List A) (x : A) → Picks P xs ys → (¬ P x) → Picks P (xs ++ x ∷ []) ys
+  picks_left [] ys x h n = inr (n, h)
+  picks_left (y ∷ xs) ys x (inl h) n = inl (h.0, (h.1.0, picks_left xs h.1.0 x h.1.1 n, h.1.2))
+  picks_left (y ∷ xs) ys x (inr h) n = inr (h.0, picks_left xs ys x h.1 n)
+
+module _ {N : Map} (n : IsMap N) {T X : List ℕ} {C : List ChangedLine} {is : List Item} (q : IsBefore N N T X C is)
+    (p : ℕ) (i : Item) (at : slice_get is p ≡ Some i) (names : List (List ℕ)) where
+  pub names_left : ToStay N T X i.made i.path → AffectedNames N T X (take p is) names →
+      AffectedNames N T X (take (p + 1) is) names
+  names_left f h = rw (take_more_at is p i at) (
+    h.0,
+    picks_left (IsAffected N T X) (take p is) h.0 i h.1 (λ o. f.2 (touched_by n q p i at f.1 o)),
+    h.2,
+  )
+
+  affected : ToName N T X i.made i.path → IsAffected N T X i
+  affected (inl none) = By_name none
+  affected (inr f) = affected_by n q p i at f.1 f.2
+
+  pub names_taken : ToName N T X i.made i.path → AffectedNames N T X (take p is) names →
+      AffectedNames N T X (take (p + 1) is) (names ++ i.name ∷ [])
+  names_taken f h = rw (take_more_at is p i at) (
+    h.0 ++ i ∷ [],
+    picks_taken (IsAffected N T X) (take p is) h.0 i h.1 (affected f),
+    ap (λ (ns : List (List ℕ)). ns ++ i.name ∷ []) h.2 ∙ sym (map-append (λ (j : Item). j.name) h.0 (i ∷ [])),
+  )

@@ -1,0 +1,40 @@
+-- From one candidate to the next in a list: each position between is passed by a step of its own.
+use Rattle.olr_paths.proofs.Common.{inl, inr, ◌≡◌, ◌⊎◌, ℕ, zero, suc, ◌+◌, ◌-◌, ◌<◌, ◌≤◌, false, List, [], ◌∷◌, length}
+use Rattle.olr_paths.proofs.Common.{get_or, slice_get, Some, None, refl, subst, arith, has, cases_Bool, at_index, Item}
+
+-- the positions below next are done, as far as the candidates before index k
+pub record Passed (found : List ℕ) (long k next : ℕ) : Type 0 where
+  pub below : (j : ℕ) → j < k → (get_or found j 0 < next) ⊎ (long ≤ get_or found j 0)
+  pub within : next ≤ long
+
+-- one candidate more, whose position is done or past the last path
+pub passed_more : {found : List ℕ} {long k next : ℕ} (position later : ℕ) → Passed found long k next →
+    position ≡ get_or found k 0 → (position < later) ⊎ (long ≤ position) → next ≤ later → later ≤ long →
+    Passed found long (k + 1) later
+passed_more position later h at out le most = record { below = λ j lt. grind (arith, h.below j); within = most }
+
+-- after the last path
+pub past_end : (js : List Item) (q : ℕ) → slice_get js q ≡ None → length js ≤ q
+past_end [] q at = omega arith
+past_end (j ∷ js) zero at = let never : ⊥ = cc (at) in absurd never
+past_end (j ∷ js) (suc q) at = let le = past_end js q at in omega arith
+
+module _ (is : List Item) (found : List ℕ) (Q : ℕ → Type 0)
+    (step : (p : ℕ) (i : Item) → slice_get is p ≡ Some i → has found p ≡ false → Q p → Q (p + 1)) where
+  gap : (d p q : ℕ) → p + d ≡ q → q ≤ length is → ((j : ℕ) → p ≤ j → j < q → has found j ≡ false) → Q p → Q q
+  gap zero p q e le free h = let same : p ≡ q = omega arith in subst Q same h
+  gap (suc d) p q e le free h =
+      elim (slice_get is p) as (λ o. slice_get is p ≡ o → Q q) [
+        | None ↦ λ at. absurd (omega (arith, past_end is p at))
+        | Some i ↦ λ at. gap d (p + 1) q (omega arith) le (λ j a b. free j (omega arith) b)
+            (step p i at (free p (omega arith) (omega arith)) h)
+      ] refl
+
+  -- up to a position that no candidate left is before
+  pub by_steps : (k next q : ℕ) → ((m : ℕ) → k ≤ m → m < length found → q ≤ get_or found m 0) →
+      Passed found (length is) k next → next ≤ q → q ≤ length is → Q next → Q q
+  by_steps k next q rest h le most =
+      gap (q - next) next q (omega arith) most (λ j a b. elim (cases_Bool (has found j)) [
+        | inr e ↦ e
+        | inl on ↦ let p = at_index found j on in absurd (grind (arith, p.1, p.2, h.below p.0, rest p.0))
+      ])

@@ -1,0 +1,77 @@
+//! Records of questions about the map.
+ghost use Rattle.std.specs.Prelude.{drop, Err, ⊤};
+ghost use Rattle.csv.specs.Records.{fields_of};
+ghost use Rattle.olr_commands.specs.State.{Show_node, Show_line};
+ghost use Rattle.olr_records.specs.Records as records;
+ghost use Rattle.olr_records.specs.Records.{◌⊛◌, Out_of_range};
+ghost use Rattle.olr_records.specs.Words.{Gathers, IsRead};
+
+use crate::faults::ReadFault;
+use crate::fields::{field, line_id, node_id};
+use crate::parts::{room, with_item};
+use csv::ByteRecord;
+use olr_commands::Command;
+use olr_roads::NodeId;
+use std::alloc::Global;
+
+/// The greatest number of nodes in a question.
+const MOST_NODES: usize = 10_000;
+
+/// `show-node,NODE`
+pub(crate) fn show_node(fields: &ByteRecord) -> Result<Command, ReadFault>
+    ensures { IsRead (records.one Show_node records.number (drop 1 (fields_of fields.now))) result }
+{
+    if fields.len() != 2 {
+        return Err(ReadFault::Syntax);
+    }
+    let id = node_id(field(fields, 1))?;
+    Ok(Command::ShowNode(id))
+}
+
+/// `show-line,LINE`
+pub(crate) fn show_line(fields: &ByteRecord) -> Result<Command, ReadFault>
+    ensures { IsRead (records.one Show_line records.number (drop 1 (fields_of fields.now))) result }
+{
+    if fields.len() != 2 {
+        return Err(ReadFault::Syntax);
+    }
+    let id = line_id(field(fields, 1))?;
+    Ok(Command::ShowLine(id))
+}
+
+/// The node numbers from the second field on.
+fn node_ids(alloc: Global, fields: &ByteRecord) -> Result<Vec<NodeId>, ReadFault>
+    ensures { Gathers (λ _. ⊤) (λ v. v.items) (records.numbers (drop 1 (fields_of fields.now))) result }
+{
+    let mut ids = room(alloc, fields.len().saturating_sub(1));
+    for k in 1..fields.len() {
+        ids = with_item(ids, node_id(field(fields, k)));
+    }
+    ids
+}
+
+/// The fault of more nodes than a question may have.
+fn too_many(fields: &ByteRecord) -> Result<Command, ReadFault>
+    ensures { IsRead (Err Out_of_range ⊛ records.numbers (drop 1 (fields_of fields.now))) result }
+{
+    for k in 1..fields.len() {
+        if let Err(ReadFault::Syntax) = node_id(field(fields, k)) {
+            return Err(ReadFault::Syntax);
+        }
+    }
+    Err(ReadFault::Range)
+}
+
+/// `depends,NODE[,NODE]*`
+pub(crate) fn depends(alloc: Global, fields: &ByteRecord) -> Result<Command, ReadFault>
+    ensures { IsRead (records.depends_record (drop 1 (fields_of fields.now))) result }
+{
+    if fields.len() < 2 {
+        return Err(ReadFault::Syntax);
+    }
+    if fields.len() - 1 > MOST_NODES {
+        return too_many(fields);
+    }
+    let nodes = node_ids(alloc, fields)?;
+    Ok(Command::Depends(nodes))
+}
