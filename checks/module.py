@@ -60,6 +60,10 @@ def check_calls():
         same("path", made.answers, (olr_keep.Answer("a", three),))
         with open(f"{TOP}/examples/morning.csv", encoding="ascii") as file:
             same("dump", keep.dump(), tuple(file.read().splitlines()[:9]))
+        ends = ("node,2,6.12838,49.60399", "node,3,6.1279,49.6035")
+        same("show_node", keep.show_node(3), ends[1])
+        same("show_line", keep.show_line(99), (*ends, "line,99,2,3,4,3,1500"))
+        same("depends", (keep.depends(4), keep.depends(1, 3)), (("a",), ("a",)))
         with keep.batch() as batch:
             same("held", keep.drop_line(99).held, 1)
             same("show in a batch", keep.show("a").string, three)

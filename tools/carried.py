@@ -10,17 +10,19 @@ import select
 import subprocess
 from typing import NamedTuple
 
-from places import start_of
+from command import STREAM, Failure
+from records import ENDS, QUESTIONS, Batch
 from replies import Reply
-from stream import BROKEN, Stop, is_plain
+from stream import is_plain
 
 OUT_OF_MEMORY, MEMORY = 4, 13
 CHUNK = 1 << 18
-QUESTIONS = ("report", "explain", "dump")
 PATH_COMMANDS = ("path", "repath", "drop-path")
 OF_A_PATH = (*PATH_COMMANDS, "show")
+# Questions that no worker answers.
+UNANSWERED = tuple(it for it in QUESTIONS if it not in OF_A_PATH)
 # The records that a worker looks at, after the end of the line before; all others are sent as they are.
-SPECIAL = re.compile(b"\n(path|repath|drop-path|show|report|explain|dump|begin|commit|abort)(?:,.*)?(?=\n)")
+SPECIAL = re.compile(f"\n({'|'.join((*OF_A_PATH, *UNANSWERED, 'begin', *ENDS))})(?:,.*)?(?=\n)".encode())
 UNCHANGED_REPLIES = re.compile(b"(?:ok,0\n)+")
 NOT_PLAIN = Reply("fault", 0, "NotPlain", [])
 NO_QUESTION = Reply("fault", 0, "NoQuestion", [])
@@ -44,7 +46,7 @@ class Program:
         try:
             self.process = subprocess.Popen(command, stdin=subprocess.PIPE, stdout=subprocess.PIPE, bufsize=0)
         except OSError as error:
-            raise Stop(BROKEN, f"{command[0]}: {error.strerror}") from None
+            raise Failure(STREAM, f"{command[0]}: {error.strerror}") from None
         self.deadline, self.unsent, self.buffer, self.at = deadline, b"", b"", 0
         self.send_to, self.read_from = self.process.stdin.fileno(), self.process.stdout.fileno()
         os.set_blocking(self.send_to, False)
@@ -55,7 +57,7 @@ class Program:
         readable, writable, _ = select.select([self.read_from], sending, [], self.deadline)
         if not readable and not writable:
             self.process.kill()
-            raise Stop(BROKEN, f"the program has not replied for {self.deadline} s; it is ended")
+            raise Failure(STREAM, f"the program has not replied for {self.deadline} s; it is ended")
         if writable:
             try:
                 self.unsent = self.unsent[os.write(self.send_to, self.unsent[:CHUNK]) :]
@@ -74,7 +76,7 @@ class Program:
         """Stops if the program has ended."""
         status = self.process.poll()
         if status is not None:
-            raise Stop(OUT_OF_MEMORY if status == OUT_OF_MEMORY else BROKEN, f"the program ended with status {status}")
+            raise Failure(OUT_OF_MEMORY if status == OUT_OF_MEMORY else STREAM, f"the program ended with status {status}")
 
     def line(self):
         """The next line of a reply."""
@@ -101,7 +103,7 @@ class Program:
             word, number, *rest = self.line().split(",", 2)
             lines = [self.line() for _ in range(int(number) if word == "ok" else 0)]
             if word == "fault" and int(number) == MEMORY:
-                raise Stop(OUT_OF_MEMORY, "out of memory for a record")
+                raise Failure(OUT_OF_MEMORY, "out of memory for a record")
             count -= 1
             yield Reply(word, int(number), "".join(rest), lines)
 
@@ -115,7 +117,7 @@ class Program:
         self.unsent, failure = b"dump\n", None
         word, number, *_ = self.line().split(",")
         if word != "ok":
-            raise Stop(BROKEN, f"a dump is rejected with fault {number}")
+            raise Failure(STREAM, f"a dump is rejected with fault {number}")
         left = int(number)
         while left:
             if self.at == len(self.buffer):
@@ -143,7 +145,8 @@ class Share:
 
     def __init__(self, program, share, shares, names=()):
         self.program, self.share, self.shares, self.names = program, share, shares, dict(names)
-        self.waiting, self.unplaced, self.held, self.begun = [], {}, None, None
+        # Of a batch the program holds the edits, and `batch` the path commands.
+        self.waiting, self.unplaced, self.batch = [], {}, Batch()
         # Whether this share reports rejected edits: all shares reject the same ones.
         self.reports = share == 0
 
@@ -151,10 +154,11 @@ class Share:
         """Carries out a message, and yields the outcomes of the records that were rejected or changed something. A batch that
         does not commit is aborted."""
         yield from self.carry_out_part(body)
-        if self.held is not None:
-            self.held = None
+        if self.batch.held is not None:
+            begun = self.batch.begin
+            self.batch.accept("abort", None)
             self.program.one("abort")
-            yield from self.report(self.begun, "begin", NO_COMMIT)
+            yield from self.report(begun, "begin", NO_COMMIT)
 
     def carry_out_part(self, body):
         """Carries out whole records of a message or of a snapshot. A batch may stay open."""
@@ -183,20 +187,19 @@ class Share:
 
     def step(self, index, record, word):
         """Carries out a path command, a question or an end of a batch."""
-        if word in QUESTIONS:
+        is_open = self.batch.held is not None
+        if word in UNANSWERED:
             yield from self.report(index, record, NO_QUESTION)
-        elif self.held is not None and word in PATH_COMMANDS:
-            self.held.append((index, record, word))
-        elif self.held is not None and word == "commit":
+        elif is_open and word in PATH_COMMANDS:
+            self.batch.accept(word, (index, record, word))
+        elif is_open and word == "commit":
             yield from self.commit(index, record)
         elif word in OF_A_PATH:
             yield from self.path_command(index, record, word)
         else:
             yield from self.push(sent(index, record))
-            if record == "begin" and self.held is None:
-                self.held, self.begun = [], index
-            elif record == "abort":
-                self.held = None
+            if record == "abort" or (record == "begin" and not is_open):
+                self.batch.accept(word, index)
 
     def report(self, index, record, reply):
         """The outcome of a rejected record that all shares reject."""
@@ -206,7 +209,7 @@ class Share:
     def commit(self, index, record):
         """Commits the edits of a batch, and then carries out its path commands. A batch whose commit is rejected is aborted."""
         yield from self.flush()
-        held, self.held, count = self.held, None, record[7:]
+        held, count = self.batch.accept("commit", None), record[7:]
         edits = int(count[:20]) - len(held) if count.isdecimal() else None
         reply = COUNT_DIFFERS if edits is not None and edits < 0 else None
         if reply is None:
@@ -240,24 +243,16 @@ class Share:
         unplaced, self.unplaced = self.unplaced, {}
         yield from self.flush()
         firsts = [record.split(",", 5)[4:5] for _, record in unplaced.values()]
-        unused = next(it for it in ("." * count for count in range(1, 65)) if it not in self.names and it not in unplaced)
-        places = self.places(unused, [it[0] for it in firsts if it])
+        places = self.places([it[0] for it in firsts if it])
         for (name, (index, record)), first in zip(unplaced.items(), firsts):
             self.names[name] = self.shares.of_place(next(places) if first else None)
             if self.names[name] == self.share:
                 self.waiting.append(sent(index, record))
 
-    def places(self, name, lines):
-        """The coordinate where each of these lines starts, or None if it has none. It is that of the first location reference
-        point of a path along this line alone, which is registered under an unused name for a moment."""
-        text = "".join(f"path,{name},0,0,{it}\ndrop-path,{name}\n" for it in lines)
-        found, replies = [], 0
-        for reply in self.program.ask(text.encode(), 2 * len(lines)):
-            if replies % 2 == 0:
-                _, kind, *answer = reply.lines[0].split(",") if not isinstance(reply, int) and reply.lines else ("", "")
-                found.append(start_of(answer[0]) if kind == "text" else None)
-            replies += reply if isinstance(reply, int) else 1
-        return iter(found)
+    def places(self, lines):
+        """The coordinate of the node where each of these lines starts, or None for a line that the map does not have."""
+        replies = self.program.ask("".join(f"show-line,{it}\n" for it in lines).encode(), len(lines))
+        return iter([place_of(it.lines[0]) if it.accepted else None for it in replies])
 
     def push(self, records):
         """Lets records wait to be sent with others, after the new names before them."""
@@ -285,6 +280,11 @@ class Share:
             record = part.text.split(b"\n", at + 1)[at].decode("ascii")
             if reply.accepted or self.reports or record.partition(",")[0] in OF_A_PATH:
                 yield Outcome(part.index + at, record, reply)
+
+
+def place_of(record):
+    """The coordinate in the record of a node, in whole numbers of 10^-7 degree."""
+    return tuple(round(float(it) * 10_000_000) for it in record.split(",")[2:])
 
 
 def sent(index, record):

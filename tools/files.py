@@ -6,9 +6,14 @@ import shutil
 import sys
 import tempfile
 
+from command import STREAM, Failure
 
-class FileFailure(Exception):
-    """A file that can't be read or written; the text is printed."""
+
+class FileFailure(Failure):
+    """A file that can't be read or written."""
+
+    def __init__(self, text):
+        super().__init__(STREAM, text)
 
 
 @contextlib.contextmanager

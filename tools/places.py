@@ -6,8 +6,6 @@
 
 Coordinates are whole numbers of 10^-7 degree.
 """
-import base64
-import binascii
 import hashlib
 import json
 import re
@@ -71,13 +69,3 @@ def boxes_of(places, count):
     places, half = sorted(places, key=lambda it: (it[axis], it)), count // 2
     at = len(places) * half // count
     return boxes_of(places[:at], half) + boxes_of(places[at:], count - half)
-
-
-def start_of(text):
-    """The coordinate of the first location reference point of an OpenLR string, or None if it isn't one."""
-    try:
-        data = base64.b64decode(text, validate=True)
-    except (binascii.Error, ValueError):
-        return None
-    steps = [int.from_bytes(data[at : at + 3], "big", signed=True) for at in (1, 4)]
-    return tuple((2 * it - (it > 0) + (it < 0)) * 3600000000 >> 25 for it in steps) if len(data) >= 16 else None

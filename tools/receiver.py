@@ -15,6 +15,7 @@ import math
 from collections import defaultdict
 from typing import NamedTuple
 
+from command import USAGE, Failure
 from geo import METRES, Point, Reference, angle_between, direction, distance, on_piece, scale
 
 CELL = 0.002  # degrees, the width of a cell of the grid
@@ -22,8 +23,11 @@ STEP_24 = 360 / 2**24  # degrees, the step of the first point's coordinates
 STEP_16 = 1e-5  # degrees, the step of a further point's coordinates
 
 
-class TextError(Exception):
-    """A text that is not a line location of version 3; the text of the error is printed."""
+class TextError(Failure):
+    """A text that is not a line location of version 3."""
+
+    def __init__(self, text):
+        super().__init__(USAGE, text)
 
 
 def read_reference(text):

@@ -6,11 +6,11 @@
 
 The program itself carries the records out, so a record counts exactly if it is accepted. Coordinates are whole numbers of
 10^-7 degree, lengths and offsets decimetres, as in records. A file may be the reply to `dump`: its first line, `ok,N`, is no
-record, and N lines have to follow it. `Batch` follows `begin`, `commit` and `abort` for whatever reads accepted records.
+record, and N lines have to follow it. `Batch` follows `begin`, `commit` and `abort` for all tools that read accepted records,
+and `is_open_after` for those that don't know yet which ones are accepted.
 """
 import collections.abc
 import csv
-import io
 import itertools
 import os
 import re
@@ -19,13 +19,16 @@ import subprocess
 import tempfile
 from typing import NamedTuple
 
+from command import STREAM, Failure
 from rejected import advice
 from replies import read_reply
 
 UNITS = 10_000_000
 HEAD = re.compile(rb"ok,(\d{1,18})\r?\n")
 TOP = os.path.dirname(os.path.dirname(os.path.realpath(__file__)))
-QUESTIONS = ("show", "report", "explain", "dump")
+QUESTIONS = ("show", "show-node", "show-line", "depends", "report", "explain", "dump")
+NO_ANSWERS = ("show-node", "show-line", "depends", "explain", "dump")
+ENDS = ("commit", "abort")
 BESIDE = [os.path.join(TOP, name) for name in ("crates/olr_keep/out/olr_keep", "../../bin/olr-keep")]
 BOM = "\xef\xbb\xbf"  # the byte order mark of UTF-8, as Latin-1
 # What a file without a record begins with, and what it is.
@@ -56,29 +59,44 @@ class Path(NamedTuple):
     lines: tuple
 
 
-class RecordsError(Exception):
-    """A file that can't be read as records, or a program that can't be run; the text is printed."""
+class RecordsError(Failure):
+    """A file that can't be read as records, or a program that can't be run."""
+
+    def __init__(self, text):
+        super().__init__(STREAM, text)
 
 
 class Batch:
-    """Follows the batches of accepted records: `held` has those of the open batch, or is None."""
+    """Follows the batches of accepted records. Of the open batch, `begin` is its first record, and `held` has its changes; without
+    one both are None."""
 
     def __init__(self):
-        self.held = None
+        self.begin = self.held = None
 
     def accept(self, word, record):
         """The records that take effect now that one with this command word is accepted: the record itself, or all of the batch
         that it commits, or none. What a record is, is the caller's matter."""
         if word == "begin":
-            self.held = []
-        elif word in ("commit", "abort"):
-            held, self.held = self.held, None
+            self.begin, self.held = record, []
+        elif word in ENDS:
+            held, self.begin, self.held = self.held, None, None
             return held if word == "commit" else []
         elif self.held is None:
             return [record]
         elif word not in QUESTIONS:
             self.held.append(record)
         return []
+
+
+def word_of(record):
+    """The command word of a record, bytes or str, which may be quoted."""
+    word = record if isinstance(record, str) else record.partition(b",")[0].decode("latin-1")
+    return word.partition(",")[0].replace('"', "").rstrip("\r")
+
+
+def is_open_after(word, is_open):
+    """Whether a batch is open after a record with this command word, as far as the words show: it may be rejected."""
+    return word == "begin" or (is_open and word not in ENDS)
 
 
 class Table(collections.abc.MutableMapping):
@@ -340,7 +358,7 @@ def carry_out(state, fields, reply):
     changes = (state.held or ()) if fields[0] == "commit" else [fields]
     dropped = [it[1] for it in changes if it[0] == "drop-path"]
     state.accept(fields)
-    if fields[0] not in ("explain", "dump"):
+    if fields[0] not in NO_ANSWERS:
         for name, *answer in (entry.split(",") for entry in reply.lines):
             state.published[name] = answer
     if reply.word == "ok":

@@ -39,6 +39,9 @@ FORMS = {
     "repath": ("NAME POS NEG", "LINE"),
     "drop-path": ("NAME", ""),
     "show": ("NAME", ""),
+    "show-node": ("NODE", ""),
+    "show-line": ("LINE", ""),
+    "depends": ("NODE", "NODE"),
     "report": ("", ""),
     "dump": ("", ""),
     "explain": ("TEXT", ""),
@@ -103,6 +106,8 @@ def wrong_form(fields):
 
 def out_of_range(fields):
     """Which field is out of its bounds."""
+    if fields[0] == "depends" and len(fields) > 10001:
+        return f"it has {len(fields) - 1} nodes, and 10,000 at most are allowed"
     for kind, field in named(fields) or []:
         bounds = KINDS[kind][2]
         if bounds and not bounds[0] <= (float(field) if kind in ("LON", "LAT") else int(field[:30])) <= bounds[1]:
@@ -139,7 +144,8 @@ def reason(record, number, rest, nodes):
     if number in (1, 2, 8, 11):
         return {1: wrong_form, 2: out_of_range, 8: bad_shape, 11: bad_path}[number](fields)
     if number == 4 and nodes is not None:
-        missing = [it for it in (fields[2:4] if fields[0] == "line" else fields[1:2]) if int(it) not in nodes]
+        named_nodes = {"line": fields[2:4], "depends": fields[1:]}.get(fields[0], fields[1:2])
+        missing = [it for it in named_nodes if int(it) not in nodes]
         if missing:
             return f"node {missing[0]} is not in the map: send it first"
     if number == 12 and rest.isdigit():
@@ -147,8 +153,13 @@ def reason(record, number, rest, nodes):
     return WHAT_TO_DO.get(number, "").format(*fields)
 
 
+def shown(record):
+    """A record as a person reads it: at most 200 characters, with a mark for each that isn't printed."""
+    text = "".join(it if it.isprintable() else "\ufffd" for it in record[:200])
+    return text if len(record) <= 200 else f"{text}.. ({len(record)} characters)"
+
+
 def advice(record, head, nodes=None):
     """The fault, the record, and what is wrong with it; `nodes` are the numbers of the nodes in the map, if known."""
     _, number, *rest = head.split(",")
-    shown = record if len(record) <= 200 else f"{record[:200]}.. ({len(record)} characters)"
-    return f"{head}: {shown}: {reason(record, int(number), ','.join(rest[1:]), nodes)}"
+    return f"{head}: {shown(record)}: {reason(record, int(number), ','.join(rest[1:]), nodes)}"

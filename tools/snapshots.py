@@ -6,7 +6,8 @@ import os
 from typing import NamedTuple
 from urllib.parse import quote
 
-from stream import BROKEN, LOST_STREAMS, Stop
+from command import STREAM, Failure
+from stream import LOST_STREAMS
 
 BLOCK = 1 << 20
 RETAINED = 2
@@ -33,7 +34,7 @@ class Snapshots:
         try:
             names = [it for it in os.listdir(self.folder) if it.startswith(self.prefix) and it.endswith(".json")]
         except OSError as error:
-            raise Stop(BROKEN, f"{self.folder}: {error.strerror}") from None
+            raise Failure(STREAM, f"{self.folder}: {error.strerror}") from None
         return sorted(int(it) for it in (name[len(self.prefix) : -5] for name in names) if it.isdecimal())
 
     def newest(self):
@@ -75,10 +76,10 @@ def described(file, of):
         with open(f"{file[:-4]}.json", encoding="utf-8") as beside:
             about = json.load(beside)
     except (OSError, ValueError) as error:
-        raise Stop(LOST_STREAMS, f"{file[:-4]}.json: {error}") from None
+        raise Failure(LOST_STREAMS, f"{file[:-4]}.json: {error}") from None
     for key, it in of.items():
         if about.get(key) != it:
-            raise Stop(LOST_STREAMS, f"{file} is a snapshot with {key} {about.get(key)}, and not {it}")
+            raise Failure(LOST_STREAMS, f"{file} is a snapshot with {key} {about.get(key)}, and not {it}")
     return Snapshot(file, about["offset"], about["identity"], about["names"])
 
 
@@ -97,11 +98,11 @@ def load(share, name):
                 count += block.count(b"\n")
             carry_out(share, name, rest + b"\n" if rest else b"", count)
     except OSError as error:
-        raise Stop(LOST_STREAMS, f"{name}: {error.strerror}") from None
+        raise Failure(LOST_STREAMS, f"{name}: {error.strerror}") from None
     if head not in (None, b"ok,%d" % count):
-        raise Stop(LOST_STREAMS, f"{name} is not a whole dump: {count} lines follow {head.decode()}")
-    if share.held is not None:
-        raise Stop(LOST_STREAMS, f"{name} ends with an open batch")
+        raise Failure(LOST_STREAMS, f"{name} is not a whole dump: {count} lines follow {head.decode()}")
+    if share.batch.held is not None:
+        raise Failure(LOST_STREAMS, f"{name} ends with an open batch")
     share.reports = share.share == 0
 
 
@@ -109,4 +110,4 @@ def carry_out(share, name, block, before):
     """Carries out some records of a snapshot."""
     for index, record, reply in share.carry_out_part(block):
         if not reply.accepted:
-            raise Stop(LOST_STREAMS, f"{name}: record {before + index + 1} is rejected: {record[:200]}")
+            raise Failure(LOST_STREAMS, f"{name}: record {before + index + 1} is rejected: {record[:200]}")

@@ -11,7 +11,8 @@ import os
 import sqlite3
 
 import stream
-from stream import BROKEN, LOST_STREAMS, Stop
+from command import STREAM, Failure, say
+from stream import LOST_STREAMS
 
 try:
     import psycopg2
@@ -37,14 +38,14 @@ class SQLite:
 
     def __init__(self, name, must_exist):
         if must_exist and not os.path.exists(name):
-            raise Stop(2, f"there is no table {name}")
+            raise Failure(2, f"there is no table {name}")
         self.failures = (sqlite3.Error,)
         try:
             self.file = sqlite3.connect(name, isolation_level=None, timeout=60)
             self.file.execute("pragma journal_mode=wal")
             self.file.execute("pragma synchronous=full")
         except sqlite3.Error as error:
-            raise Stop(BROKEN, f"the table {name}: {error}") from None
+            raise Failure(STREAM, f"the table {name}: {error}") from None
 
     def rows(self, text, values=()):
         return self.file.execute(text, values).fetchall()
@@ -74,12 +75,12 @@ class PostgreSQL:
 
     def __init__(self, url, _):
         if psycopg2 is None:
-            raise Stop(2, "for PostgreSQL install Debian's python3-psycopg2, and run this with /usr/bin/python3")
+            raise Failure(2, "for PostgreSQL install Debian's python3-psycopg2, and run this with /usr/bin/python3")
         self.failures = (psycopg2.Error,)
         try:
             self.connection = psycopg2.connect(url, connect_timeout=20, application_name="olr-keep")
         except psycopg2.Error as error:
-            raise Stop(BROKEN, f"the database: {str(error).strip()}") from None
+            raise Failure(STREAM, f"the database: {str(error).strip()}") from None
         self.connection.autocommit = True
 
     def rows(self, text, values=()):
@@ -126,7 +127,7 @@ class Table:
         try:
             return cls(file, shares)
         except file.failures as error:
-            raise Stop(BROKEN, f"the table: {str(error).strip()}") from None
+            raise Failure(STREAM, f"the table: {str(error).strip()}") from None
 
     def prepare(self, shares):
         """Makes what is missing, or stops before it has written anything."""
@@ -136,7 +137,7 @@ class Table:
         found = self.rows("select distinct shares from shares")
         if [it for it, in found if str(it) != shares.label]:
             self.file.rollback()
-            raise Stop(LOST_STREAMS, f"the table is for {found[0][0]} shares and not for {shares.label}: use a new one")
+            raise Failure(LOST_STREAMS, f"the table is for {found[0][0]} shares and not for {shares.label}: use a new one")
         for share in range(0 if found else shares.count):
             self.file.run("insert into shares values (?, ?, -1, -1, -1, 0)", (share, shares.label))
         self.file.commit()
@@ -158,7 +159,7 @@ class Table:
         """Stops if answers belong to another stream of commands than those before."""
         before = self.identity()
         if identity and before and identity != before:
-            raise Stop(LOST_STREAMS, f"these answers belong to the commands {identity}, and the table to {before}: the streams"
+            raise Failure(LOST_STREAMS, f"these answers belong to the commands {identity}, and the table to {before}: the streams"
                                      " were made again; start a new table")
         if identity and not before:
             self.file.run("insert into streams values (?)", (identity,))
@@ -170,7 +171,7 @@ class Table:
             for message in messages:
                 self.apply(*message)
             self.file.commit()
-        except Stop:
+        except Failure:
             self.file.rollback()
             raise
 
@@ -183,7 +184,7 @@ class Table:
             if before < 0:
                 self.wait_for_whole(share)
                 return
-            raise Stop(LOST_STREAMS, f"share {share} has answers at {read} after {before}: start a new table from a newer"
+            raise Failure(LOST_STREAMS, f"share {share} has answers at {read} after {before}: start a new table from a newer"
                                      " snapshot")
         self.check_identity((properties.headers or {}).get("identity"))
         offset, part, kind = stream.position_of(properties.message_id)
@@ -199,7 +200,7 @@ class Table:
         """The first answers are no longer in the stream of a share: a message that has all of them is needed."""
         if share not in self.late:
             self.late.add(share)
-            stream.complain(f"the first answers of share {share} are no longer in their stream: waiting for a message with all"
+            say(f"the first answers of share {share} are no longer in their stream: waiting for a message with all"
                             " of them, which its worker sends beside each snapshot")
 
     def reject(self, share, offset, lines):
