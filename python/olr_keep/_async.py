@@ -105,6 +105,18 @@ class AsyncKeep:
         """What is published of one path."""
         return await self._run(self._keep.show, name)
 
+    async def show_node(self, node: int) -> str:
+        """The record of a node."""
+        return await self._run(self._keep.show_node, node)
+
+    async def show_line(self, line: int) -> Tuple[str, ...]:
+        """The records of the nodes where a line begins and ends, each once, and of the line."""
+        return await self._run(self._keep.show_line, line)
+
+    async def depends(self, *nodes: int) -> Tuple[str, ...]:
+        """The names of the paths whose answers an edit may change that touches one of these nodes."""
+        return await self._run(self._keep.depends, *nodes)
+
     async def report(self) -> Tuple[Answer, ...]:
         """What is published of all paths, in the order of registration."""
         return await self._run(self._keep.report)

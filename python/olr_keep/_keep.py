@@ -148,6 +148,18 @@ class Keep:
         """What is published of one path."""
         return Answer.of(self._accepted(f"show,{records.name(name)}").lines[0])
 
+    def show_node(self, node: int) -> str:
+        """The record of a node."""
+        return self._accepted(f"show-node,{records.number(node)}").lines[0]
+
+    def show_line(self, line: int) -> Tuple[str, ...]:
+        """The records of the nodes where a line begins and ends, each once, and of the line."""
+        return self._accepted(f"show-line,{records.number(line)}").lines
+
+    def depends(self, *nodes: int) -> Tuple[str, ...]:
+        """The names of the paths whose answers an edit may change that touches one of these nodes."""
+        return self._accepted(",".join(["depends", *map(records.number, nodes)])).lines
+
     def report(self) -> Tuple[Answer, ...]:
         """What is published of all paths, in the order of registration."""
         return tuple(map(Answer.of, self._accepted("report").lines))
