@@ -4,6 +4,6 @@ pub mod RecordText
 pub mod Dump
 pub mod Reply
 pub mod Counts
-pub mod Depending
+pub mod Dependents
 pub mod History
 pub mod Words

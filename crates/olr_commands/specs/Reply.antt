@@ -23,7 +23,7 @@ use Rattle.olr_commands.specs.State.{Change, On_map, Drop_path, State, Command, 
 use Rattle.olr_commands.specs.State.{Commit, Abort, Show_node, Show_line, Depends, step}
 use Rattle.olr_commands.specs.RecordText.{record_line}
 use Rattle.olr_commands.specs.Dump.{dump_lines, node_changes, line_changes}
-use Rattle.olr_commands.specs.Depending.{Dependents}
+use Rattle.olr_commands.specs.Dependents.{Dependents}
 
 -- a path's string, or the reason why it has none
 pub record Entry : Type 0 where

@@ -20,7 +20,7 @@ use Rattle.olr_spec.specs.Encoding.{Points, Unknown_line, Broken, Offset_too_lon
 use Rattle.olr_spec.specs.Bytes.{IsReference, reference_bytes}
 use Rattle.olr_spec.proofs.FitLemmas.{encoded_fits}
 use Rattle.olr_commands.specs.Dump.{dump_lines, dump_changes, node_changes, line_changes, DumpsAgain}
-use Rattle.olr_commands.specs.Depending.{Dependents}
+use Rattle.olr_commands.specs.Dependents.{Dependents}
 use Rattle.olr_commands.specs.Counts.{Affects, CountIs, Raises, Retains, Spares}
 use Rattle.olr_commands.proofs.SearchLemmas.{unconcerned}
 use Rattle.olr_commands.proofs.DumpLemmas.{dumps_lead}

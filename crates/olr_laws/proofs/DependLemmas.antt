@@ -21,7 +21,7 @@ use Rattle.olr_spec.proofs.TestedLemmas.{some_last_tested, one_query}
 use Rattle.olr_commands.specs.State.{Named, Content, ArePaths, On_map}
 use Rattle.olr_commands.specs.Reply.{Reply, Names, IsNames}
 use Rattle.olr_commands.specs.Counts.{Picks, Affects, By_name, By_node, By_line}
-use Rattle.olr_commands.specs.Depending.{DependsOn, Dependents, On_node, On_line}
+use Rattle.olr_commands.specs.Dependents.{DependsOn, Dependents, On_node, On_line}
 use Rattle.olr_laws.specs.CommandLaws.{NamesAdded, AffectedDepend}
 
 -- ---- one answer

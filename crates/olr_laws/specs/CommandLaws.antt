@@ -5,7 +5,7 @@ use Rattle.olr_spec.specs.Extension.{Path}
 use Rattle.olr_commands.specs.State.{Content, Add_path, Set_path, Make, State, Command, Explain, Begin, Commit, Abort}
 use Rattle.olr_commands.specs.State.{HasCoords, IsState, step, changes_made, Named, Change, On_map}
 use Rattle.olr_commands.specs.Dump.{dump_changes, node_changes, line_changes}
-use Rattle.olr_commands.specs.Depending.{DependsOn}
+use Rattle.olr_commands.specs.Dependents.{DependsOn}
 use Rattle.olr_commands.specs.Reply.{Reply, IsReply, Outcome, IsOutcome, lacks_memory}
 use Rattle.olr_commands.specs.Counts.{Raises, Spares, Affects}
 

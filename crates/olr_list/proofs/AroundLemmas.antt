@@ -12,7 +12,7 @@ use Rattle.std.proofs.lemmas.List.Sorted.{Contains-permutation, IsPermutation-sy
 use Rattle.olr_spec.specs.Map.{Line, has_line, start, lines_in, lines_out, no_line}
 use Rattle.olr_spec.proofs.OrderLemmas.{exactly_in, exactly_out}
 use Rattle.olr_spec.proofs.RunLemmas.{entering, leaving}
-use Rattle.olr_list.specs.Touching.{IsLineAround}
+use Rattle.olr_list.specs.ChangeSets.{IsLineAround}
 use Rattle.olr_list.proofs.Alls.{has_from, in_from}
 
 -- sorted, and each once

@@ -12,17 +12,17 @@ pub use Rattle.olr_list.specs.Actions.{ToStay}
 pub use Rattle.olr_list.specs.Candidates.{AreFound, Covers, CoversAsked, Finds, FindsChanged, Includes}
 pub use Rattle.olr_list.specs.Changes.{AreEncoded, IsKnownClear, LineTouched, QueryTouched, Reported, TraversedTouched}
 pub use Rattle.olr_list.specs.Changes.{set_item}
-pub use Rattle.olr_list.specs.Finding.{AreNoted, AreNotedAt, ArePublished, Grows, KeepsAll, KeepsBut, NamedNoted}
-pub use Rattle.olr_list.specs.Finding.{Spares}
+pub use Rattle.olr_list.specs.Finders.{AreNoted, AreNotedAt, ArePublished, Grows, KeepsAll, KeepsBut, NamedNoted}
+pub use Rattle.olr_list.specs.Finders.{Spares}
 pub use Rattle.olr_list.specs.Items.{Item, Made, all_named, answer_in, items, made_in, made_of, named_of}
-pub use Rattle.olr_list.specs.Laying.{Changes, TakesNone, change_at, changes_in, drops, overlay_changes, path_in}
-pub use Rattle.olr_list.specs.Laying.{under_change, under_changes}
+pub use Rattle.olr_list.specs.Overlaid.{Changes, TakesNone, change_at, changes_in, drops, overlay_changes, path_in}
+pub use Rattle.olr_list.specs.Overlaid.{under_change, under_changes}
 pub use Rattle.olr_list.specs.Origins.{AreFar, Begins, BeginsIn, BeginsPut}
-pub use Rattle.olr_list.specs.Searching.{AreAsked, AreDetours, AreFarther, IsAsked, IsExactAt, LackQueries, sources}
-pub use Rattle.olr_list.specs.Searching.{sources_in}
-pub use Rattle.olr_list.specs.Showing.{shown_item, shown_items}
-pub use Rattle.olr_list.specs.Storing.{Put, all_put, put, puts_of}
-pub use Rattle.olr_list.specs.Touching.{changed_of, lines_of, nodes_of}
+pub use Rattle.olr_list.specs.AffectedSearches.{AreAsked, AreDetours, AreFarther, IsAsked, IsExactAt, LackQueries, sources}
+pub use Rattle.olr_list.specs.AffectedSearches.{sources_in}
+pub use Rattle.olr_list.specs.Views.{shown_item, shown_items}
+pub use Rattle.olr_list.specs.Stored.{Put, all_put, put, puts_of}
+pub use Rattle.olr_list.specs.ChangeSets.{changed_of, lines_of, nodes_of}
 pub use Rattle.olr_list.specs.declared.change_set.ChangeSet.{ChangeSet}
 pub use Rattle.olr_list.specs.declared.finder.Finder.{Finder}
 pub use Rattle.olr_list.specs.declared.path_list.NamedPath.{NamedPath}

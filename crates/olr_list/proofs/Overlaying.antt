@@ -5,7 +5,7 @@ use Rattle.olr_list.proofs.Common.{arith, option_map, string_bytes, filter, look
 use Rattle.olr_list.proofs.Common.{insert_entry, Path, same_name, path_named, NamesDiffer, same_is, Item, all_named}
 use Rattle.olr_list.proofs.Common.{set_item, NamedPath, Changes, change_at, drops, under_change, under_changes}
 use Rattle.olr_list.proofs.Common.{path_in, changes_in, bytes_decides, String, Global, append-nil, filter-append}
-use Rattle.olr_list.specs.Storing.{item_of}
+use Rattle.olr_list.specs.Stored.{item_of}
 use Rattle.olr_list.proofs.Alls.{drop_at}
 use Rattle.olr_list.proofs.NamedEntries.{asks, same_flip, absent, keeps_all, sets_none}
 

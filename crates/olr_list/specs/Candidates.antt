@@ -11,9 +11,9 @@ use Rattle.olr_index.specs.PathIds.{holds}
 use Rattle.olr_index.specs.declared.Index.{Index}
 use Rattle.olr_list.specs.Items.{Made, Item}
 use Rattle.olr_list.specs.Actions.{ToStay}
-use Rattle.olr_list.specs.Laying.{Changes, change_at}
-use Rattle.olr_list.specs.Touching.{nodes_of, lines_of}
-use Rattle.olr_list.specs.Searching.{IsAsked}
+use Rattle.olr_list.specs.Overlaid.{Changes, change_at}
+use Rattle.olr_list.specs.ChangeSets.{nodes_of, lines_of}
+use Rattle.olr_list.specs.AffectedSearches.{IsAsked}
 use Rattle.olr_list.specs.declared.change_set.ChangeSet.{ChangeSet}
 use Rattle.olr_list.specs.declared.searches.Searches.{Searches}
 

@@ -12,7 +12,7 @@ use Rattle.olr_spec.specs.Queries.{CoverageQuery}
 use Rattle.olr_near.specs.Bounds.{IsRight, IsSource}
 use Rattle.olr_near.specs.declared.distance_bounds.DistanceBounds.{DistanceBounds}
 use Rattle.olr_list.specs.Items.{Made, Item}
-use Rattle.olr_list.specs.Storing.{Put}
+use Rattle.olr_list.specs.Stored.{Put}
 use Rattle.olr_list.specs.declared.searches.Searches.{Searches}
 
 abbrev pub BeginsIn : Option Made → CoverageQuery → Type 0

@@ -1,18 +1,18 @@
 //! Which action a renewal takes for a path.
 ghost use Rattle.std.specs.Prelude.{◌≡◌, ◌↔◌, ◌≤◌, List, length, Some, IsTrue, IsFalse, IfOk, OnOk};
 ghost use Rattle.olr_list.specs.Items.{Made, Item, made_of};
-ghost use Rattle.olr_list.specs.Showing.{shown_item};
-ghost use Rattle.olr_list.specs.Touching.{nodes_of, lines_of, changed_of};
-ghost use Rattle.olr_list.specs.Searching.{AreDetours, AreAsked, IsAsked};
+ghost use Rattle.olr_list.specs.Views.{shown_item};
+ghost use Rattle.olr_list.specs.ChangeSets.{nodes_of, lines_of, changed_of};
+ghost use Rattle.olr_list.specs.AffectedSearches.{AreDetours, AreAsked, IsAsked};
 ghost use Rattle.olr_commands.specs.Counts.{most_changed};
 ghost use Rattle.olr_list.specs.Actions.{Stays, ToStay, ToName, IsActionFor};
 
-use crate::asking::{is_line_touched, is_touched, is_traversed_touched};
+use crate::affected::{is_line_touched, is_touched, is_traversed_touched};
 use crate::change_set::ChangeSet;
 use crate::detours::{Detours, are_clear, are_few};
 use crate::published::Published;
 use crate::searches::Searches;
-use crate::showing::PathView;
+use crate::view::PathView;
 use olr_answers::Path;
 use olr_roads::MapRead;
 use std::alloc::AllocError;

@@ -2,7 +2,7 @@
 ghost use Rattle.std.specs.Prelude.{◌↔◌, ℕ, IsTrue, IfOk};
 ghost use Rattle.std.specs.List.Sorted.{IsStrictlyIncreasing};
 ghost use Rattle.olr_spec.specs.Map.{has};
-ghost use Rattle.olr_list.specs.Touching.{IsLineAround};
+ghost use Rattle.olr_list.specs.ChangeSets.{IsLineAround};
 
 use crate::change_set::ChangeSet;
 use olr_roads::{LineId, MapRead, NodeId};
@@ -40,7 +40,7 @@ fn lines_at<M: MapRead>(alloc: Global, map: &M, nodes: &[NodeId]) -> Result<Vec<
 
 impl ChangeSet {
     ghost use Rattle.std.specs.Prelude.{IfOk};
-    ghost use Rattle.olr_list.specs.Touching.{IsAround};
+    ghost use Rattle.olr_list.specs.ChangeSets.{IsAround};
 
     /// What edits around these nodes may touch: the nodes, and the lines of the map that begin or end at one of them. No
     /// line is changed.

@@ -3,10 +3,10 @@ ghost use Rattle.std.specs.Prelude.{◌≡◌, ◌<◌, ◌≤◌, ℕ, Some, Al
 ghost use Rattle.std.specs.List.Sorted.{IsStrictlyIncreasing, IsNonDecreasing};
 ghost use Rattle.olr_spec.specs.Map.{has};
 ghost use Rattle.olr_list.specs.Items.{items};
-ghost use Rattle.olr_list.specs.Touching.{nodes_of, lines_of};
-ghost use Rattle.olr_list.specs.Searching.{AreAsked};
-ghost use Rattle.olr_list.specs.Laying.{overlay_changes};
-ghost use Rattle.olr_list.specs.Showing.{shown_items};
+ghost use Rattle.olr_list.specs.ChangeSets.{nodes_of, lines_of};
+ghost use Rattle.olr_list.specs.AffectedSearches.{AreAsked};
+ghost use Rattle.olr_list.specs.Overlaid.{overlay_changes};
+ghost use Rattle.olr_list.specs.Views.{shown_items};
 ghost use Rattle.olr_list.specs.Candidates.{Includes, Finds, Covers, CoversAsked, FindsChanged};
 
 use crate::change_set::ChangeSet;

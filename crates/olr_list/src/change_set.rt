@@ -32,7 +32,7 @@ impl ChangeSet {
     ghost use Rattle.std.specs.Prelude.{◌≡◌, ◌==◌, ◌||◌, ◌++◌, ℕ, [], map, OnOk};
     ghost use Rattle.std.specs.Option.{option_to_list};
     ghost use Rattle.olr_spec.specs.Map.{has};
-    ghost use Rattle.olr_list.specs.Touching.{nodes_of, lines_of, change_of, changed_of, HasRoom};
+    ghost use Rattle.olr_list.specs.ChangeSets.{nodes_of, lines_of, change_of, changed_of, HasRoom};
 
     /// Nothing touched. Takes no memory.
     pub fn new(alloc: Global) -> ChangeSet

@@ -1,7 +1,7 @@
 //! Whether changed lines offer a detour that is as short as a coverage query.
 ghost use Rattle.std.specs.Prelude.{◌<◌, ◌≤◌, ◌+◌, ◌↔◌, length, IsTrue, IfOk, IfSome, OnOk};
-ghost use Rattle.olr_list.specs.Touching.{changed_of};
-ghost use Rattle.olr_list.specs.Searching.{AreDetours, AreFarther};
+ghost use Rattle.olr_list.specs.ChangeSets.{changed_of};
+ghost use Rattle.olr_list.specs.AffectedSearches.{AreDetours, AreFarther};
 ghost use Rattle.olr_commands.specs.Counts.{Picks, IsAgainClear, most_changed};
 ghost use Rattle.olr_list.specs.Changes.{IsKnownClear};
 ghost use Rattle.std.specs.Prelude.{All};

@@ -3,7 +3,7 @@ ghost use Rattle.std.specs.Prelude.{◌≡◌, All, Contains, IsTrue, IsFalse, O
 ghost use Rattle.olr_spec.specs.Queries.{CoverageQuery as QueryRecord};
 ghost use Rattle.std.specs.List.Sorted.{IsStrictlyIncreasing};
 ghost use Rattle.olr_index.specs.PathIds.{holds};
-ghost use Rattle.olr_list.specs.Finding.{TraversedNoted, FromNoted, KeepsAll, KeepsBut};
+ghost use Rattle.olr_list.specs.Finders.{TraversedNoted, FromNoted, KeepsAll, KeepsBut};
 
 use crate::numbered::Numbered;
 use crate::published::Published;
@@ -25,7 +25,7 @@ pub struct Finder {
 
 impl Finder {
     ghost use Rattle.std.specs.Prelude.{◌≡◌, OnOk};
-    ghost use Rattle.olr_list.specs.Finding.{IsNoted, Grows, Spares};
+    ghost use Rattle.olr_list.specs.Finders.{IsNoted, Grows, Spares};
 
     /// A finder without entries. Takes no memory.
     pub(crate) fn new(alloc: Global) -> Finder {

@@ -18,7 +18,7 @@ impl<'a> Iterator for Iter<'a> {
     ghost use Rattle.std.specs.Prelude.{Some};
     ghost use Rattle.std.specs.Iterator.{YieldsFirstBy, item_count};
     ghost use Rattle.olr_list.specs.Items.{made_of};
-    ghost use Rattle.olr_list.specs.Yielding.{left};
+    ghost use Rattle.olr_list.specs.Iterated.{left};
 
     type Item = (&'a str, &'a Published);
 
@@ -51,7 +51,7 @@ impl PathList {
     ghost use Rattle.std.specs.Prelude.{◌≡◌, map};
     ghost use Rattle.olr_list.specs.Items.{items};
     ghost use Rattle.olr_list.specs.Changes.{AreEncoded};
-    ghost use Rattle.olr_list.specs.Yielding.{left};
+    ghost use Rattle.olr_list.specs.Iterated.{left};
 
     /// The paths in order, each with what is published of it. All of them were encoded.
     pub fn iter(&self) -> Iter<'_>

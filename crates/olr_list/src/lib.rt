@@ -4,8 +4,8 @@
 
 mod actions;
 mod around;
-mod asking;
-mod begins;
+mod affected;
+mod queries;
 mod candidates;
 pub mod change_set;
 mod detours;
@@ -19,12 +19,12 @@ mod path_list;
 mod positions;
 mod published;
 mod searches;
-mod showing;
+mod view;
 mod sources;
 
 pub use actions::{Action, decide, is_affected};
-pub use asking::ask;
-pub use begins::note_fresh;
+pub use affected::ask;
+pub use queries::note_fresh;
 pub use change_set::{ChangeSet, ChangedLine};
 pub use detours::{Detours, clear_known};
 pub use iter::Iter;
@@ -34,4 +34,4 @@ pub use path_list::{NamedPath, PathList};
 pub use positions::put_in;
 pub use published::Published;
 pub use searches::Searches;
-pub use showing::PathView;
+pub use view::PathView;

@@ -1,9 +1,9 @@
 //! A list under changes, read in place.
-ghost use Rattle.olr_list.specs.Laying.{TakesNone, TakesNone-prop, overlay_changes};
+ghost use Rattle.olr_list.specs.Overlaid.{TakesNone, TakesNone-prop, overlay_changes};
 
 use crate::overlay::Overlay;
 use crate::path_list::PathList;
-use crate::showing::{PathView, show, show_under};
+use crate::view::{PathView, show, show_under};
 
 /// A list, and changes over it that remove none of its paths. A path has the same position as in the list; the new
 /// paths follow.
@@ -18,7 +18,7 @@ pub struct OverlaidList<'a> {
 
 impl<'a> OverlaidList<'a> {
     ghost use Rattle.std.specs.Prelude.{◌≡◌, ◌+◌, ◌<◌, ◌^◌, slice_get, option_map, IsSome};
-    ghost use Rattle.olr_list.specs.Showing.{shown_items, shown_item};
+    ghost use Rattle.olr_list.specs.Views.{shown_items, shown_item};
 
     /// The path at a position, counted from 0. None past the last.
     pub fn at(self, position: usize) -> Option<PathView<'a>>

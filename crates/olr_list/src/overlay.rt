@@ -4,9 +4,9 @@ ghost use Rattle.std.specs.Prelude.{OnErr};
 ghost use Rattle.std.specs.Option.{option_to_list};
 ghost use Rattle.olr_commands.specs.State.{NamesDiffer, path_named};
 ghost use Rattle.olr_list.specs.Items.{Item, items, all_named};
-ghost use Rattle.olr_list.specs.Storing.{item_of};
-ghost use Rattle.olr_list.specs.Laying.{TakesNone, changes_in, overlay_changes, change_at, drops, under_change};
-ghost use Rattle.olr_list.specs.Laying.{under_changes, under_overlay};
+ghost use Rattle.olr_list.specs.Stored.{item_of};
+ghost use Rattle.olr_list.specs.Overlaid.{TakesNone, changes_in, overlay_changes, change_at, drops, under_change};
+ghost use Rattle.olr_list.specs.Overlaid.{under_changes, under_overlay};
 
 use crate::path_list::{NamedPath, PathList};
 use indexmap::IndexMap;

@@ -2,8 +2,8 @@
 ghost use Rattle.std.specs.Prelude.{◌≡◌, IfOk, option_map};
 ghost use Rattle.std.specs.Prelude.{◌≢◌, ◌<◌, ℕ, None, length, get_or, IsFalse, IfSome, OnOk, OnErr};
 ghost use Rattle.std.specs.List.Sorted.{IsStrictlyIncreasing};
-ghost use Rattle.olr_list.specs.Finding.{AreNoted, AreNoted-prop, ArePublished, ArePublished-prop, NamedNoted, Grows};
-ghost use Rattle.olr_list.specs.Finding.{Spares};
+ghost use Rattle.olr_list.specs.Finders.{AreNoted, AreNoted-prop, ArePublished, ArePublished-prop, NamedNoted, Grows};
+ghost use Rattle.olr_list.specs.Finders.{Spares};
 
 use crate::finder::Finder;
 use crate::published::Published;

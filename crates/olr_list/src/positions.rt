@@ -2,8 +2,8 @@
 ghost use Rattle.std.specs.Prelude.{◌≡◌, ◌+◌, ◌≤◌, ◌++◌, IfOk, OnOk, OnErr, take, length, vec_len, vec_capacity};
 ghost use Rattle.olr_commands.specs.State.{NamesDiffer};
 ghost use Rattle.olr_list.specs.Items.{items, all_named};
-ghost use Rattle.olr_list.specs.Finding.{AreNotedAt};
-ghost use Rattle.olr_list.specs.Storing.{all_put, puts_of};
+ghost use Rattle.olr_list.specs.Finders.{AreNotedAt};
+ghost use Rattle.olr_list.specs.Stored.{all_put, puts_of};
 
 use crate::finder::Finder;
 use crate::overlay::{Overlay, put_unchanged};
@@ -48,7 +48,7 @@ fn tidy(list: &mut PathList, replaced: &[(usize, NamedPath)])
 
 impl PathList {
     ghost use Rattle.std.specs.Prelude.{◌≡◌, IfOk};
-    ghost use Rattle.olr_list.specs.Finding.{AreNoted};
+    ghost use Rattle.olr_list.specs.Finders.{AreNoted};
     ghost use Rattle.olr_list.specs.Items.{items};
 
     /// The index entries of all paths.

@@ -2,8 +2,8 @@
 ghost use Rattle.std.specs.Prelude.{◌≡◌, ℕ, map as list_map, OnOk};
 ghost use Rattle.olr_search.specs.Searches.{IsSearch};
 ghost use Rattle.olr_search.specs.declared.distances.Direction.{Direction};
-ghost use Rattle.olr_list.specs.Searching.{source_in};
-ghost use Rattle.olr_list.specs.Touching.{change_of};
+ghost use Rattle.olr_list.specs.AffectedSearches.{source_in};
+ghost use Rattle.olr_list.specs.ChangeSets.{change_of};
 
 use crate::change_set::ChangedLine;
 use olr_roads::{MapRead, NodeId};

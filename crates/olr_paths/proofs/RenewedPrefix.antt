@@ -15,8 +15,8 @@ use Rattle.olr_paths.proofs.GivenQueries.{searches_item}
 use Rattle.olr_paths.proofs.KeptLemmas.{stays_retained, encoded_again, stays_unless, touched_by, spared_by}
 use Rattle.olr_paths.proofs.Passing.{Passed, by_steps}
 use Rattle.olr_paths.specs.Changes.{AreCounted, with_made, AreRemade, AreTotals, IsRemade, Totals}
-use Rattle.olr_paths.specs.Renewing.{ReportsIfOther, encoded_one, entries_of, spared_one, IsRenewal, WasBefore, made_at}
-use Rattle.olr_paths.specs.Renewing.{Counts, IsStep, Left, after_retained}
+use Rattle.olr_paths.specs.Reencoded.{ReportsIfOther, encoded_one, entries_of, spared_one, IsRenewal, WasBefore, made_at}
+use Rattle.olr_paths.specs.Reencoded.{Counts, IsStep, Left, after_retained}
 use Rattle.olr_paths.specs.declared.renewal.Renewed.{Renewed}
 use Rattle.olr_refs.proofs.Noting.{raised_twice, searched_more, searched_none, searched_on}
 use Rattle.olr_search.specs.Counts.{no_work, raised_work}

@@ -1,2 +1,2 @@
 pub mod Changes
-pub mod Renewing
+pub mod Reencoded

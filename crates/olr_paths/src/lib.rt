@@ -3,13 +3,13 @@
 #![tactic(auto)]
 
 mod encoding;
-mod giving;
+mod add_and_set;
 mod naming;
 mod renewal;
-mod renewing;
+mod reencode;
 
-pub use giving::{add, set};
+pub use add_and_set::{add, set};
 pub use naming::affected_names;
 pub use olr_list::{ChangeSet, ChangedLine, Iter, Overlay, PathList, Published, Searches};
 pub use renewal::Renewed;
-pub use renewing::renew_over;
+pub use reencode::renew_over;

@@ -2,14 +2,14 @@
 ghost use Rattle.std.specs.Prelude.{◌≡◌, ◌∷◌, ◌++◌, ◌⊎◌, [], map as list_map, string_bytes, IfOk, OnOk};
 ghost use Rattle.std.specs.List.Sorted.{IsNonDecreasing};
 ghost use Rattle.olr_list.specs.Items.{Made, items};
-ghost use Rattle.olr_list.specs.Showing.{shown_items, shown_item};
-ghost use Rattle.olr_list.specs.Touching.{nodes_of, lines_of};
-ghost use Rattle.olr_list.specs.Searching.{IsAsked, AreAsked};
+ghost use Rattle.olr_list.specs.Views.{shown_items, shown_item};
+ghost use Rattle.olr_list.specs.ChangeSets.{nodes_of, lines_of};
+ghost use Rattle.olr_list.specs.AffectedSearches.{IsAsked, AreAsked};
 ghost use Rattle.olr_list.specs.Candidates.{Covers};
 ghost use Rattle.olr_list.specs.Origins.{AreBoundsOf};
 ghost use Rattle.olr_list.specs.Actions.{ToStay, ToName};
 ghost use Rattle.olr_paths.specs.Changes.{AffectedNames};
-ghost use Rattle.olr_paths.specs.Renewing.{WasBefore};
+ghost use Rattle.olr_paths.specs.Reencoded.{WasBefore};
 
 use olr_list::{ChangeSet, OverlaidList, Overlay, PathList, PathView, Searches, ask, is_affected};
 use olr_near::DistanceBounds;

@@ -17,7 +17,7 @@ use Rattle.olr_commands.specs.State.{Commit, Batch_full, next, into_batch}
 use Rattle.olr_register.specs.RegisterState.{Batch as Outcome}
 use Rattle.std.proofs.lemmas.List.{length_push}
 use Rattle.olr_commands.proofs.StateLemmas.{next_ok, after_push}
-use Rattle.olr_register.specs.HoldsChange.{content_with}
+use Rattle.olr_register.specs.BatchChanges.{content_with}
 use Rattle.olr_register.proofs.Listed.{named_twice, given_at_first}
 use Rattle.olr_register.proofs.Outcomes.{answered_uncounted, answered_refused, Keeps}
 use Rattle.olr_register.proofs.States.{state, register_of, of_parts, in_states, kept_moved}

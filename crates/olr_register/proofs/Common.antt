@@ -24,9 +24,9 @@ pub use Rattle.olr_list.proofs.Overlaying.{has_name}
 pub use Rattle.olr_list.specs.Changes.{Reported, set_item}
 pub use Rattle.olr_list.specs.Items.{AreEncodings, AreEncodingsIfAny, IsEncodingOf, Item, Made, all_named, answer_in}
 pub use Rattle.olr_list.specs.Items.{items, made_in, named_of}
-pub use Rattle.olr_list.specs.Laying.{under_overlay}
+pub use Rattle.olr_list.specs.Overlaid.{under_overlay}
 pub use Rattle.olr_list.specs.Origins.{Begins}
-pub use Rattle.olr_list.specs.Touching.{changed_of, lines_of, nodes_of}
+pub use Rattle.olr_list.specs.ChangeSets.{changed_of, lines_of, nodes_of}
 pub use Rattle.olr_list.specs.declared.change_set.ChangeSet.{ChangeSet}
 pub use Rattle.olr_roads.specs.Edits.{edit_of}
 pub use Rattle.olr_map.specs.RoadMaps.{map_before, map_of}
@@ -37,16 +37,16 @@ pub use Rattle.olr_near.specs.declared.distance_bounds.DistanceBounds.{DistanceB
 pub use Rattle.olr_paths.proofs.Following.{follows_self}
 pub use Rattle.olr_paths.specs.Changes.{AreCounted, Follows, SearchedAlone, Totals}
 pub use Rattle.olr_refs.specs.Choice.{AreSearched}
-pub use Rattle.olr_paths.specs.Renewing.{IsRenewal}
-pub use Rattle.olr_register.specs.Answering.{Answered}
-pub use Rattle.olr_register.specs.Dumping.{is_recordable_line_at, is_recordable_node_at}
-pub use Rattle.olr_register.specs.Holding.{AreEditsNoted, CanRenew, HasBounds, IsHeld, IsKeptRight, batch_of}
-pub use Rattle.olr_register.specs.Holding.{content_on, content_under, held_of, kept_of, map_kept}
-pub use Rattle.olr_register.specs.HoldsChange.{AreGiven, ByContent, HoldsChange, Lacks, MayReport, change_of, path_by}
-pub use Rattle.olr_register.specs.Noting.{IsNotedOf}
+pub use Rattle.olr_paths.specs.Reencoded.{IsRenewal}
+pub use Rattle.olr_register.specs.Answered.{Answered}
+pub use Rattle.olr_register.specs.Recordables.{is_recordable_line_at, is_recordable_node_at}
+pub use Rattle.olr_register.specs.Contents.{AreEditsNoted, CanRenew, HasBounds, IsHeld, IsKeptRight, batch_of}
+pub use Rattle.olr_register.specs.Contents.{content_on, content_under, held_of, kept_of, map_kept}
+pub use Rattle.olr_register.specs.BatchChanges.{AreGiven, ByContent, HoldsChange, Lacks, MayReport, change_of, path_by}
+pub use Rattle.olr_register.specs.EditNotes.{IsNotedOf}
 pub use Rattle.olr_register.specs.RegisterState.{IsBatchOf, RegisterState, Represents, named_held}
 pub use Rattle.olr_register.specs.Registered.{Registered}
-pub use Rattle.olr_register.specs.Sparing.{encodes}
+pub use Rattle.olr_register.specs.CountChanges.{encodes}
 pub use Rattle.olr_register.specs.declared.batch.Batch.{Batch}
 pub use Rattle.olr_search.specs.declared.work.Work.{Work}
 pub use Rattle.olr_spec.proofs.OptionLemmas.{none_of}

@@ -10,8 +10,8 @@ use Rattle.olr_register.proofs.Common.{held_of, IsHeld, AreGiven, MayReport, Bat
 use Rattle.olr_map.specs.RoadMaps.{CanUndoAll}
 use Rattle.olr_map.specs.declared.undo.UndoLog.{UndoLog}
 use Rattle.olr_list.specs.declared.overlay.Overlay.{Overlay}
-use Rattle.olr_register.specs.Holding.{IsHeldAs}
-use Rattle.olr_register.specs.HoldsChange.{IsMade, Makes}
+use Rattle.olr_register.specs.Contents.{IsHeldAs}
+use Rattle.olr_register.specs.BatchChanges.{IsMade, Makes}
 use Rattle.olr_register.proofs.Noted.{noted_more}
 
 -- a change that is not made leaves the batch as it was

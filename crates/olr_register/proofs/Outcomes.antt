@@ -8,7 +8,7 @@ use Rattle.olr_register.proofs.Common.{Registered, Answered, encodes, ap, ◌∙
 use Rattle.olr_commands.specs.State.{changes_made_in, unless_fault, Not_a_reference, bytes_fault}
 use Rattle.olr_commands.specs.Reply.{Lacks}
 use Rattle.olr_commands.proofs.SearchLemmas.{unconcerned}
-use Rattle.olr_register.specs.Sparing.{SameCounts}
+use Rattle.olr_register.specs.CountChanges.{SameCounts}
 use Rattle.olr_register.proofs.States.{state, register_of, InStates, in_states}
 use Rattle.olr_search.specs.declared.work.Work.{Work}
 use Rattle.olr_paths.proofs.RenewedPrefix.{counted_none, no_totals}

@@ -4,11 +4,11 @@ use Rattle.olr_register.proofs.Common.{Map, has, has_node, list_all, Named, Cont
 use Rattle.olr_register.proofs.Common.{named_of, content_on, ChangeSet, nodes_of, lines_of}
 use Rattle.olr_spec.specs.Map.{has_line, No_node, No_line}
 use Rattle.olr_commands.specs.Counts.{Picks}
-use Rattle.olr_commands.specs.Depending.{DependsOn, Dependents, On_node, On_line}
+use Rattle.olr_commands.specs.Dependents.{DependsOn, Dependents, On_node, On_line}
 use Rattle.olr_commands.specs.Recordable.{has_node_record, has_line_records}
 use Rattle.olr_commands.specs.State.{Show_node, Show_line, Depends, Map_fault, Not_a_record}
 use Rattle.olr_list.specs.Items.{Made}
-use Rattle.olr_list.specs.Touching.{IsAround}
+use Rattle.olr_list.specs.ChangeSets.{IsAround}
 use Rattle.olr_paths.specs.Changes.{IsAffected, AffectedNames, By_name, By_node, By_line}
 use Rattle.olr_register.proofs.States.{state}
 

@@ -13,10 +13,10 @@ use Rattle.olr_register.proofs.Common.{AreCounted, set_item, IsRenewal, nodes_of
 use Rattle.olr_register.proofs.Common.{ChangeSet, follows_self, has_name, Registered, content_on, items, kept_of}
 use Rattle.olr_register.proofs.Common.{HasBounds, IsKeptRight, CanRenew, MayReport, ByContent, Lacks, Answered}
 use Rattle.olr_register.proofs.Common.{IsNotedOf, encodes, begins_drop, append-nil, Option}
-use Rattle.olr_register.specs.Holding.{option_batch}
+use Rattle.olr_register.specs.Contents.{option_batch}
 use Rattle.olr_refs.proofs.Noting.{searched_on}
 use Rattle.olr_search.specs.Counts.{raised_count, raised_work}
-use Rattle.olr_paths.specs.Renewing.{entries_of}
+use Rattle.olr_paths.specs.Reencoded.{entries_of}
 use Rattle.olr_paths.specs.declared.renewal.Renewed.{Renewed}
 use Rattle.olr_commands.specs.State.{IsState}
 use Rattle.olr_commands.specs.Reply.{IsPaths}

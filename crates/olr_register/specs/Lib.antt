@@ -1,8 +1,8 @@
 pub mod RegisterState
 pub mod Registered
-pub mod Holding
-pub mod Answering
-pub mod HoldsChange
-pub mod Sparing
-pub mod Dumping
-pub mod Noting
+pub mod Contents
+pub mod Answered
+pub mod BatchChanges
+pub mod CountChanges
+pub mod Recordables
+pub mod EditNotes

@@ -30,9 +30,9 @@ impl Batch {
     ghost use Rattle.olr_map.specs.declared.road_map.RoadMap.{RoadMap as Roads};
     ghost use Rattle.olr_commands.specs.State.{On_map, Add_path, Set_path, Drop_path, full, NamesDiffer};
     ghost use Rattle.olr_list.specs.Items.{Item, items, all_named};
-    ghost use Rattle.olr_list.specs.Laying.{under_overlay};
-    ghost use Rattle.olr_register.specs.Holding.{IsHeld};
-    ghost use Rattle.olr_register.specs.HoldsChange.{Makes, HoldsChange, path_by, change_of};
+    ghost use Rattle.olr_list.specs.Overlaid.{under_overlay};
+    ghost use Rattle.olr_register.specs.Contents.{IsHeld};
+    ghost use Rattle.olr_register.specs.BatchChanges.{Makes, HoldsChange, path_by, change_of};
 
     /// Whether it holds the greatest number of changes.
     fn is_full(&self) -> bool

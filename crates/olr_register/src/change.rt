@@ -4,7 +4,7 @@ ghost use Rattle.std.specs.Result.{IfOk, IfErr};
 ghost use Rattle.olr_spec.specs.Extension.{is_path};
 ghost use Rattle.olr_commands.specs.State.{Content, Bad_path, Memory, when};
 ghost use Rattle.olr_commands.specs.Words.{command_fault_of};
-ghost use Rattle.olr_register.specs.HoldsChange.{path_by, MayReport};
+ghost use Rattle.olr_register.specs.BatchChanges.{path_by, MayReport};
 
 use olr_commands::CommandFault;
 use olr_map::{Edit, LineId};

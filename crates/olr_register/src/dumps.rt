@@ -10,7 +10,7 @@ ghost use Rattle.olr_commands.specs.Recordable as recordable;
 ghost use Rattle.olr_commands.specs.RecordText.{record_line};
 ghost use Rattle.olr_commands.specs.Dump.{node_change, line_change, path_change, dump_lines};
 ghost use Rattle.olr_list.specs.Items.{items, all_named};
-ghost use Rattle.olr_register.specs.Dumping as numbered;
+ghost use Rattle.olr_register.specs.Recordables as numbered;
 
 use crate::register::Register;
 use olr_commands::{
@@ -173,7 +173,7 @@ fn dump_of(alloc: Global, roads: &RoadMap, paths: &PathList) -> Result<Dump, All
 
 impl Register {
     ghost use Rattle.olr_commands.specs.State.{Dump as Asked};
-    ghost use Rattle.olr_register.specs.Answering.{Answered};
+    ghost use Rattle.olr_register.specs.Answered.{Answered};
 
     /// The records that build the register from an empty one: its nodes and its lines, each in ascending order of their
     /// numbers, and its paths in their order. The faults are `BatchOpen`, `NotARecord` and `Memory`, in this order of

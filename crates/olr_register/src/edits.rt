@@ -5,10 +5,10 @@ ghost use Rattle.olr_spec.specs.Map.{edited};
 ghost use Rattle.olr_roads.specs.Edits.{edit_of, allocates};
 ghost use Rattle.olr_map.specs.RoadMaps.{map_of, slot_of, CanUndo, map_undone};
 ghost use Rattle.olr_map.specs.EditPlans.{IsEditPlan, planned_changes};
-ghost use Rattle.olr_list.specs.Touching.{change_of};
-ghost use Rattle.olr_register.specs.Noting.{IsNotedOf};
+ghost use Rattle.olr_list.specs.ChangeSets.{change_of};
+ghost use Rattle.olr_register.specs.EditNotes.{IsNotedOf};
 
-use crate::nearing::renew;
+use crate::bounds::renew;
 use crate::register::Register;
 use olr_commands::{CommandFault, Reply};
 use olr_map::{Edit, EditPlan, RoadMap, Undo, judge};
@@ -51,7 +51,7 @@ fn make_noted(
 
 impl Register {
     ghost use Rattle.olr_commands.specs.State.{Make, On_map};
-    ghost use Rattle.olr_register.specs.Answering.{Answered};
+    ghost use Rattle.olr_register.specs.Answered.{Answered};
 
     /// Makes an edit of the map and encodes the affected paths again. Faults of the map take precedence over `Memory`.
     /// If there are no paths, nothing but the map takes memory, and the distance bounds are cleared.

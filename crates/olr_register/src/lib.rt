@@ -1,20 +1,20 @@
 //! The register: a road map and named paths, whose published answers are right after every command.
 #![tactic(auto)]
 
-mod applying;
+mod apply;
 mod batch;
-mod batches;
+mod batch_commands;
 mod change;
-mod depending;
+mod dependents;
 mod dumps;
 mod edits;
 mod footprints;
-mod nearing;
+mod bounds;
 mod paths;
 mod questions;
 mod records;
 mod register;
 
-pub use applying::replay;
+pub use apply::replay;
 pub use olr_paths::{Iter, Published};
 pub use register::Register;

@@ -1,8 +1,8 @@
 //! Paths that are added, replaced or dropped at once, outside a batch.
-ghost use Rattle.olr_register.specs.HoldsChange.{path_by};
+ghost use Rattle.olr_register.specs.BatchChanges.{path_by};
 
 use crate::change::{PathParts, path_unless};
-use crate::nearing::rebuild_bounds;
+use crate::bounds::rebuild_bounds;
 use crate::register::Register;
 use olr_commands::{CommandFault, Reply};
 use olr_paths::{add, set};
@@ -10,7 +10,7 @@ use olr_paths::{add, set};
 impl Register {
     ghost use Rattle.std.specs.Prelude.{◌≡◌, None, string_bytes};
     ghost use Rattle.olr_commands.specs.State.{Make, Add_path, Set_path, Drop_path};
-    ghost use Rattle.olr_register.specs.Answering.{Answered};
+    ghost use Rattle.olr_register.specs.Answered.{Answered};
 
     /// Encodes a new path and appends it. The faults are `PathExists`, `BadPath` and `Memory`, in this order of
     /// precedence.

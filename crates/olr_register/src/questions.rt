@@ -26,7 +26,7 @@ fn text_fault(fault: TextFault) -> CommandFault
 
 impl Register {
     ghost use Rattle.olr_commands.specs.State.{Show, Report, Explain};
-    ghost use Rattle.olr_register.specs.Answering.{Answered};
+    ghost use Rattle.olr_register.specs.Answered.{Answered};
 
     /// What is published of one path. `NoPath` takes precedence over `Memory`.
     #[inline(never)]

@@ -91,7 +91,7 @@ fn has_line_records(roads: &RoadMap, id: LineId, line: &Line) -> bool
 
 impl Register {
     ghost use Rattle.olr_commands.specs.State.{Show_node, Show_line};
-    ghost use Rattle.olr_register.specs.Answering.{Answered};
+    ghost use Rattle.olr_register.specs.Answered.{Answered};
 
     /// The record of a node, as a dump has it. The faults are `BatchOpen`, `NoNode`, `NotARecord` and `Memory`, in this
     /// order of precedence.

@@ -31,7 +31,7 @@ pub struct Register {
 impl Model for Register {
     ghost use Rattle.olr_list.specs.Items.{items};
     ghost use Rattle.olr_register.specs.Registered.{Registered, coded_registered};
-    ghost use Rattle.olr_register.specs.Holding.{kept_of, IsKeptRight};
+    ghost use Rattle.olr_register.specs.Contents.{kept_of, IsKeptRight};
 
     ghost Value = { Registered };
 
@@ -69,7 +69,7 @@ impl Register {
     ghost use Rattle.std.specs.Prelude.{◌≡◌, ◌↔◌, length, map, option_map, is_some, slice_get, IsTrue};
     ghost use Rattle.olr_commands.specs.Reply.{Published, PublishedText};
     ghost use Rattle.olr_answers.specs.Answers.{answer_of};
-    ghost use Rattle.olr_list.specs.Yielding.{left};
+    ghost use Rattle.olr_list.specs.Iterated.{left};
     ghost use Rattle.olr_register.specs.Registered.{AllPublished, nothing_registered};
 
     /// The register of an empty map and no paths. Takes no memory.

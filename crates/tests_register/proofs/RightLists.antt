@@ -8,9 +8,9 @@ use Rattle.olr_commands.specs.State.{ArePaths, same_name}
 use Rattle.olr_commands.proofs.NameLemmas.{paths_push, paths_filter}
 use Rattle.olr_list.specs.Items.{Item, all_named}
 use Rattle.olr_paths.specs.Changes.{IsBefore, AreRemade}
-use Rattle.olr_list.specs.Touching.{nodes_of, lines_of, changed_of}
+use Rattle.olr_list.specs.ChangeSets.{nodes_of, lines_of, changed_of}
 use Rattle.olr_list.specs.declared.change_set.ChangeSet.{ChangeSet}
-use Rattle.olr_register.specs.Noting.{IsNotedOf}
+use Rattle.olr_register.specs.EditNotes.{IsNotedOf}
 use Rattle.olr_register.proofs.Listed.{names_add, names_drop, each_add, each_left, each_if_any}
 use Rattle.olr_register.proofs.Noted.{noted_edit, is_before}
 use Rattle.olr_register.proofs.Renewed.{remade_made, made_if_any}

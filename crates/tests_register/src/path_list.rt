@@ -2,7 +2,7 @@
 ghost use Rattle.std.specs.Prelude.{◌≡◌, string_bytes, map as list_map};
 ghost use Rattle.std.specs.Option.{option_to_list};
 ghost use Rattle.olr_map.specs.EditPlans.{planned_changes};
-ghost use Rattle.olr_list.specs.Touching.{change_of};
+ghost use Rattle.olr_list.specs.ChangeSets.{change_of};
 ghost use Rattle.tests_register.specs.Lists.{IsRightAnywhere, IsRightOn};
 
 use made_maps::{Plain, STRAIGHT, line, lines, new_node, node, other_line, plain_map};

@@ -1,5 +1,5 @@
 use Rattle.olr_list.proofs.Common.{ℕ, take, has, IsTrue, ◌↔◌}
-use Rattle.olr_list.specs.Touching.{IsLineAround}
+use Rattle.olr_list.specs.ChangeSets.{IsLineAround}
 use Rattle.olr_list.proofs.around.lines_at.Given as goal
 
 -- the lines around the nodes so far

@@ -4,7 +4,7 @@ use Rattle.olr_list.proofs.Common.{◌<◌, cases_lt, inl, inr, true, false, ite
 use Rattle.olr_list.specs.declared.overlaid_list.OverlaidList.{OverlaidList}
 use Rattle.olr_list.proofs.NamedEntries.{item_of, item_at}
 use Rattle.olr_list.proofs.Changed.{changed_by, one_changed, overlaid_at, overlaid_behind}
-use Rattle.olr_list.specs.Storing.{item_of as under}
+use Rattle.olr_list.specs.Stored.{item_of as under}
 use Rattle.olr_list.proofs.overlaid_list.OverlaidList.at.Goals as goal
 
 pub returns-in-Some-clause-shown : goal.returns-in-Some-clause-shown

@@ -1,0 +1,20 @@
+use Rattle.olr_list.proofs.Common.{ℕ, ◌<◌, ◌∙◌, ap, arith, option_map, none_of, shown_items, shown_item}
+use Rattle.olr_list.proofs.Covering.{nothing_at}
+use Rattle.olr_list.proofs.affected.ask.Goals as goal
+
+none_below : (k : ℕ) → k < 0 → ⊥
+none_below k lt = omega arith
+
+pub returns-then-is_none : goal.returns-then-is_none
+returns-then-is_none g c =
+    let shown = c.at.ensures.shown ∙ ap (option_map shown_item) (none_of c.at.result c.if-is_none.ensures) in
+    let none = nothing_at (shown_items c.args.overlaid) shown in
+    record {
+      asked = rw none (λ k i m at. let never : ⊥ = cc (at) in absurd never);
+      ascending = rw c.new.ensures.items (λ i j d le lt. absurd (none_below j lt));
+      covers = rw none (λ k i at. let never : ⊥ = cc (at) in absurd never);
+      detours = rw c.new.ensures.items (λ lt. absurd (none_below 0 lt));
+    }
+
+pub returns-clause-detours : goal.returns-clause-detours
+returns-clause-detours g c = rw c.deref.ensures.value at c.in_ok-begin_detours.ensures

@@ -1,0 +1,63 @@
+use Rattle.olr_paths.proofs.Common.{overlay_changes, after_renewal, option_map, AreEncoded, TakesNone, unwrap_or, items}
+use Rattle.olr_paths.proofs.Common.{Reported, entry_of, Renewal, all_put, puts_of, Option, Begins, Entry, subst, None}
+use Rattle.olr_paths.proofs.Common.{refl, Some, List, ◌++◌, Item, ◌∷◌, inr, sym, map, ◌≡◌, ◌∙◌, inl, Bor, ap, []}
+use Rattle.olr_list.proofs.Changed.{put_on_overlaid, grown_differ}
+use Rattle.olr_list.proofs.OriginLemmas.{begins_all_put}
+use Rattle.olr_list.specs.Overlaid.{under_overlay}
+use Rattle.olr_list.specs.declared.overlay.Overlay.{Overlay}
+use Rattle.olr_list.specs.declared.path_list.PathList.{PathList}
+use Rattle.olr_paths.proofs.reencode.renew_overlaid.Goals as goal
+
+-- if each path is reported, each was encoded
+are_encoded : (before js : List Item) (es : List Entry) → Reported before js es → AreEncoded js
+are_encoded before [] es h = tt
+are_encoded before (j ∷ js) es h = ((λ none. let lost = rw none at h.2 in cc lost), are_encoded before js h.1 h.3)
+
+-- the results, stored in the list with the new paths at its end
+module _ (before : List Item) (is : List Item) (o : Overlay) (r : Renewal) (new : List Item)
+    (keeps : TakesNone (overlay_changes o))
+    (returned : Reported before (after_renewal r (under_overlay is o)) (map entry_of r.renewed.entries.items))
+    (put : new ≡ all_put (is ++ items o.added) (puts_of r.fresh.items)) where
+  renewed : new ≡ after_renewal r (under_overlay is o)
+  renewed = put ∙ put_on_overlaid (overlay_changes o) before is (items o.added) (puts_of r.fresh.items)
+      (map entry_of r.renewed.entries.items) keeps returned
+
+  encoded : AreEncoded new
+  encoded = subst AreEncoded (sym renewed) (are_encoded before _ (map entry_of r.renewed.entries.items) returned)
+
+before_is : (o : Option (Bor PathList)) (b : Bor PathList) →
+    items (unwrap_or o b).now ≡ unwrap_or (option_map (λ (x : Bor PathList). items x.now) o) (items b.now)
+before_is None b = refl
+before_is (Some x) b = refl
+
+pub renewal_of-requires : goal.renewal_of-requires
+renewal_of-requires g c =
+    let was = ap (λ (b : Bor PathList). items b.now) c.unwrap_or.ensures ∙ before_is c.args.before _ in
+    record { follows = rw was c.requires.follows; bounds = c.requires.bounds; before = c.requires.before }
+
+pub returns : goal.returns
+returns g c =
+    let same = c.note_encoded.ensures
+    ∙ renewed (items c.unwrap_or.result.now) (items c.args.list.now) c.args.overlay.now c.in_ok-fresh.field-0
+    (items c.put_in.new.list) c.requires.keeps c.in_ok-fresh.ensures.renewed.reported c.in_ok-put_in.ensures.ok in
+    let was = ap (λ (b : Bor PathList). items b.now) c.unwrap_or.ensures ∙ before_is c.args.before _ in
+    let e = c.in_ok-fresh.ensures in
+    record {
+      renewed = rw (same, ← was) e.renewed;
+      new_origins = λ v h. elim (begins_all_put (under_overlay (items c.args.list.now) c.args.overlay.now)
+          (puts_of c.in_ok-fresh.field-0.fresh.items) v (subst (λ (is : List Item). Begins is v) same h)) [
+            | inl a ↦ inl a
+            | inr b ↦ inr (e.new_origins v b)
+          ];
+      err = tt;
+    }
+
+pub put_in-requires : goal.put_in-requires
+put_in-requires g c =
+    grown_differ (overlay_changes c.args.overlay.now) (items c.args.list.now) (items c.args.overlay.now.added)
+    c.requires.keeps c.requires.names
+
+pub note_encoded-requires : goal.note_encoded-requires
+note_encoded-requires g c =
+    encoded (items c.unwrap_or.result.now) (items c.args.list.now) c.args.overlay.now c.in_ok-fresh.field-0
+    (items c.put_in.new.list) c.requires.keeps c.in_ok-fresh.ensures.renewed.reported c.in_ok-put_in.ensures.ok

@@ -1,0 +1,120 @@
+//! Encodes again the paths whose answer a change of the map may have changed, in place or in a list under changes.
+ghost use Rattle.std.specs.Prelude.{◌≡◌, ◌⊎◌, Contains, IfOk, OnOk, OnErr};
+ghost use Rattle.olr_spec.specs.Map.{Map};
+ghost use Rattle.olr_commands.specs.State.{NamesDiffer};
+ghost use Rattle.olr_spec.specs.Queries.{CoverageQuery as QueryRecord};
+ghost use Rattle.olr_list.specs.Items.{items, all_named};
+ghost use Rattle.olr_list.specs.Overlaid.{TakesNone, overlay_changes, under_overlay};
+ghost use Rattle.olr_list.specs.Origins.{Begins, AreBoundsOf, new_origins_in};
+ghost use Rattle.olr_paths.specs.Changes.{Follows};
+ghost use Rattle.olr_paths.specs.Reencoded.{items_before, WasBefore, IsRenewal};
+
+use crate::renewal::{Renewal, Renewed, renewal_of};
+use olr_list::{ChangeSet, OverlaidList, Overlay, PathList, Searches, put_in};
+use olr_near::DistanceBounds;
+use olr_roads::MapRead;
+use std::alloc::{AllocError, Global};
+use std::mem;
+
+/// `renew_over` for changes that remove no path. The replaced and new paths are stored in place, at a cost that
+/// depends only on the changes. The reported paths are those whose answer differs from the earlier one of their name,
+/// in `before` if it is given.
+fn renew_overlaid<M: MapRead>(
+    list: &mut PathList,
+    alloc: Global,
+    map: &M,
+    before: Option<&PathList>,
+    overlay: &Overlay,
+    touched: &ChangeSet,
+    bounds: &DistanceBounds,
+    searches: &mut Searches,
+) -> Result<Renewed, AllocError>
+    requires keeps { TakesNone (overlay_changes overlay.now) }
+    requires names { NamesDiffer (all_named (under_overlay (items list.old) overlay.now)) }
+    requires follows { Follows (items_before before list.old) (under_overlay (items list.old) overlay.now) }
+    requires bounds { AreBoundsOf (M.map map.now) bounds.now (under_overlay (items list.old) overlay.now) }
+    requires before { (L : Map) × WasBefore L (M.map map.now) touched.now
+        (under_overlay (items list.old) overlay.now) }
+    ensures renewed { IfOk result (IsRenewal (M.map map.now) touched.now (items_before before.entry list.old)
+        (under_overlay (items list.old) overlay.now) (items list.new)) }
+    ensures new_origins { OnOk result ((v : QueryRecord) → Begins (items list.new) v
+        → Begins (under_overlay (items list.old) overlay.now) v ⊎ Contains (new_origins_in searches.new) v) }
+    ensures err { OnErr result (items list.new ≡ items list.old) }
+{
+    let overlaid = OverlaidList { list, overlay };
+    let Renewal { fresh, renewed } = renewal_of(
+        alloc,
+        map,
+        overlaid,
+        before.unwrap_or(list),
+        touched,
+        bounds,
+        searches,
+    )?;
+    put_in(alloc, list, overlay, fresh)?;
+    list.note_encoded();
+    Ok(renewed)
+}
+
+/// Makes the changes of the list, and encodes the new and the replaced paths, and those whose answer the edits of the
+/// map may have changed. Returns the paths whose answer differs from the earlier one of their name, and the counts:
+/// each affected path counts as an encoding, some of them retain their answer, and the others are searched for the
+/// coverage queries that are not known from the map before. `map` is the map after the edits; the results in the list
+/// are right on the map before them. The bounds are right on `map` for all coverage queries of the list: they limit
+/// the search from touched nodes. If no path is removed, the changes are made in place, at the cost of the changes and
+/// of the affected paths; otherwise the list under the changes replaces the list, at the cost of all paths. If an
+/// allocation fails, the list is unchanged.
+pub fn renew_over<M: MapRead>(
+    list: &mut PathList,
+    alloc: Global,
+    map: &M,
+    overlay: &Overlay,
+    touched: &ChangeSet,
+    bounds: &DistanceBounds,
+    searches: &mut Searches,
+) -> Result<Renewed, AllocError>
+    requires names { NamesDiffer (all_named (under_overlay (items list.old) overlay.now)) }
+    requires follows { Follows (items list.old) (under_overlay (items list.old) overlay.now) }
+    requires bounds { AreBoundsOf (M.map map.now) bounds.now (under_overlay (items list.old) overlay.now) }
+    requires before { (L : Map) × WasBefore L (M.map map.now) touched.now
+        (under_overlay (items list.old) overlay.now) }
+    ensures renewed { IfOk result (IsRenewal (M.map map.now) touched.now (items list.old)
+        (under_overlay (items list.old) overlay.now) (items list.new)) }
+    ensures new_origins { OnOk result ((v : QueryRecord) → Begins (items list.new) v
+        → Begins (under_overlay (items list.old) overlay.now) v ⊎ Contains (new_origins_in searches.new) v) }
+    ensures err { OnErr result (items list.new ≡ items list.old) }
+{
+    if !overlay.takes_some() {
+        let renewed = renew_overlaid(list, alloc, map, None, overlay, touched, bounds, searches)?;
+        list.index(alloc);
+        return Ok(renewed);
+    }
+    let mut overlaid = overlay.overlaid_copy(alloc, list)?;
+    let none = Overlay::new(alloc);
+    let renewed = renew_overlaid(
+        &mut overlaid,
+        alloc,
+        map,
+        Some(&*list),
+        &none,
+        touched,
+        bounds,
+        searches,
+    );
+    drop(none);
+    if renewed.is_ok() {
+        replace_by(list, alloc, overlaid);
+    } else {
+        drop(overlaid);
+    }
+    renewed
+}
+
+/// Replaces the list by another, and adds the index entries of its paths.
+#[inline(never)]
+fn replace_by(list: &mut PathList, alloc: Global, other: PathList)
+    ensures { items list.new ≡ items other }
+{
+    drop(mem::replace(list, other));
+    list.index(alloc);
+}

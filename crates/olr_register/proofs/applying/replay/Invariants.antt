@@ -1,5 +1,0 @@
-use Rattle.olr_register.proofs.Runs.{HasRun}
-use Rattle.olr_register.proofs.applying.replay.Given as goal
-
-abbrev pub invariant-loop-command : goal.invariant-loop-command
-invariant-loop-command l = HasRun l.register l.yielded l.outcomes.items

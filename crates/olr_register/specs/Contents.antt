@@ -1,0 +1,108 @@
+-- What a register stores, and what is true of it.
+--     content_on M is, content_under roads is b      the content of a map and a list;  the content after an open batch
+--     AreEditsNoted M N T X C      what is recorded of edits that lead from M to N
+--     IsHeld, IsRegister      what is true of an open batch, and of map, list and batch
+--     HasBounds M is near      the bounds are right on the map, and they are those of all coverage queries of the list.
+--     IsKeptRight      what is true of the whole
+--     CanRenew M N is ls t near      the list ls, which the changes of a batch made of the list is, can be renewed after
+--         edits t that led from M to N
+use Rattle.std.specs.Prelude.{ℕ, ◌≤◌, List, map, Contains, Option, Some, None, is_none, IfSome, IsTrue}
+use Rattle.olr_spec.specs.Map.{Map, has}
+use Rattle.olr_spec.specs.Detours.{ChangedLine, Difference}
+use Rattle.olr_spec.specs.Queries.{CoverageQuery}
+use Rattle.olr_map.specs.RoadMaps.{map_of, CanUndoAll, map_before}
+use Rattle.olr_map.specs.declared.road_map.RoadMap.{RoadMap}
+use Rattle.olr_map.specs.declared.undo.UndoLog.{UndoLog}
+use Rattle.olr_near.specs.declared.distance_bounds.DistanceBounds.{DistanceBounds}
+use Rattle.olr_commands.specs.State.{Content, IsContent, NamesDiffer, full}
+use Rattle.olr_list.specs.Items.{Item, AreEncodings, AreEncodingsIfAny, all_named}
+use Rattle.olr_paths.specs.Changes.{Follows, IsBefore}
+use Rattle.olr_list.specs.Origins.{Begins, AreBoundsOf}
+use Rattle.olr_list.specs.Overlaid.{under_overlay}
+use Rattle.olr_list.specs.ChangeSets.{nodes_of, lines_of, changed_of}
+use Rattle.olr_list.specs.declared.change_set.ChangeSet.{ChangeSet}
+use Rattle.olr_register.specs.RegisterState as kept
+use Rattle.olr_register.specs.declared.batch.Batch.{Batch}
+
+-- ---- in terms of the definitions of commands, over the register's list
+
+abbrev pub held_of : Item → kept.Held
+held_of i = record { name = i.name; path = i.path; given = is_none i.made }
+
+abbrev pub content_on : Map → List Item → Content
+content_on M is = record { map = M; paths = all_named is }
+
+abbrev pub content_under : RoadMap → List Item → Batch → Content
+content_under roads is b = content_on (map_of roads) (under_overlay is b.overlay)
+
+-- with the list ls under its changes
+abbrev pub batch_as : RoadMap → List Item → ℕ → ChangeSet → kept.Batch
+batch_as roads ls count touched =
+    record {
+      map = map_of roads;
+      paths = map held_of ls;
+      count = count;
+      nodes = nodes_of touched;
+      lines = lines_of touched;
+      changed = changed_of touched;
+    }
+
+abbrev pub batch_of : RoadMap → List Item → Batch → kept.Batch
+batch_of roads is b = batch_as roads (under_overlay is b.overlay) b.count b.touched
+
+-- while a batch is open, this is the map to which its log leads back
+abbrev pub map_kept : RoadMap → Option Batch → Map
+map_kept roads None = map_of roads
+map_kept roads (Some b) = map_before roads b.log
+
+abbrev pub option_batch : RoadMap → List Item → Option Batch → Option kept.Batch
+option_batch roads is None = None
+option_batch roads is (Some b) = Some (batch_of roads is b)
+
+abbrev pub kept_of : RoadMap → List Item → Option Batch → kept.RegisterState
+kept_of roads is batch =
+    record {
+      content = content_on (map_kept roads batch) is;
+      batch = option_batch roads is batch;
+    }
+
+-- ---- invariants
+
+-- what is recorded of edits that lead from M to N: there is no other difference, and each changed line begins at a
+-- touched node
+pub record AreEditsNoted (M N : Map) (T X : List ℕ) (C : List ChangedLine) : Type 0 where
+  pub difference : Difference T X C M N
+  pub starts : (c : ChangedLine) → Contains C c → IsTrue (has T c.from)
+
+-- with the list ls under its changes
+pub record IsHeldAs (roads : RoadMap) (before ls : List Item) (log : UndoLog) (count : ℕ) (touched : ChangeSet) : Type 0
+  where
+    pub undo : CanUndoAll roads log
+    pub sound : IsContent (content_on (map_of roads) ls)
+    pub few : count ≤ full
+    pub noted : AreEditsNoted (map_before roads log) (map_of roads) (nodes_of touched) (lines_of touched)
+        (changed_of touched)
+    pub made : AreEncodingsIfAny (map_before roads log) ls
+    pub follows : Follows before ls
+    pub begins : (l : CoverageQuery) → Begins ls l → Begins before l
+
+abbrev pub IsHeld : RoadMap → List Item → Batch → Type 0
+IsHeld roads before b = IsHeldAs roads before (under_overlay before b.overlay) b.log b.count b.touched
+
+pub record IsRegister (roads : RoadMap) (is : List Item) (batch : Option Batch) : Type 0 where
+  pub content : IsContent (content_on (map_kept roads batch) is)
+  pub made : AreEncodings (map_kept roads batch) is
+  pub held : IfSome batch (IsHeld roads is)
+
+abbrev pub HasBounds : Map → List Item → DistanceBounds → Type 0
+HasBounds M is near = AreBoundsOf M near is
+
+pub record IsKeptRight (roads : RoadMap) (is : List Item) (batch : Option Batch) (near : DistanceBounds) : Type 0 where
+  pub register : IsRegister roads is batch
+  pub bounded : HasBounds (map_kept roads batch) is near
+
+pub record CanRenew (M N : Map) (is ls : List Item) (t : ChangeSet) (near : DistanceBounds) : Type 0 where
+  pub names : NamesDiffer (all_named ls)
+  pub follows : Follows is ls
+  pub bounds : HasBounds M ls near
+  pub before : IsBefore M N (nodes_of t) (lines_of t) (changed_of t) ls

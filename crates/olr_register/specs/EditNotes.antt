@@ -1,0 +1,12 @@
+-- What is recorded of an edit that was judged.
+--     IsNotedOf M e t      what the edit touches and changes, and nothing else
+use Rattle.std.specs.Prelude.{◌≡◌, ℕ}
+use Rattle.olr_spec.specs.Map.{Map, Edit, touched_nodes, touched_lines, has}
+use Rattle.olr_spec.specs.Detours.{changes_of}
+use Rattle.olr_list.specs.ChangeSets.{nodes_of, lines_of, changed_of}
+use Rattle.olr_list.specs.declared.change_set.ChangeSet.{ChangeSet}
+
+pub record IsNotedOf (M : Map) (e : Edit) (t : ChangeSet) : Type 0 where
+  pub nodes : (v : ℕ) → has (nodes_of t) v ≡ has (touched_nodes M e) v
+  pub lines : (y : ℕ) → has (lines_of t) y ≡ has (touched_lines e) y
+  pub changed : changed_of t ≡ changes_of M e

@@ -1,0 +1,114 @@
+//! Commands, and whole runs of them.
+ghost use Rattle.std.specs.Prelude.{map, Some, IfOk};
+ghost use Rattle.olr_commands.specs.State.{State, start_state};
+ghost use Rattle.olr_commands.specs.Reply.{IsOutcome};
+ghost use Rattle.olr_commands.specs.History.{History, Headline};
+ghost use Rattle.olr_commands.specs.Words.{command_of, outcome_of};
+ghost use Rattle.olr_register.specs.RegisterState.{Represents};
+
+use crate::change::{Change, PathParts};
+use crate::register::Register;
+use olr_commands::{Command, CommandFault, Reply};
+use std::alloc::{AllocError, Global};
+
+impl Register {
+    ghost use Rattle.std.specs.Prelude.{◌≡◌, is_some, OnOk, OnErr, IsFalse};
+    ghost use Rattle.olr_commands.specs.State.{IsContent, Make};
+    ghost use Rattle.olr_register.specs.BatchChanges.{change_of};
+    ghost use Rattle.olr_register.specs.Registered.{Applied, Counted};
+    ghost use Rattle.olr_register.specs.Answered.{Answered};
+    ghost use Rattle.olr_register.specs.CountChanges.{encodes, SparesCounted, SearchesCounted, NoneFalls, SameCounts};
+
+    /// Holds a change in the open batch, or makes it at once if none is open.
+    fn change(&mut self, change: Change) -> Result<Reply, CommandFault>
+        ensures { Answered self.old (Make (change_of change)) result self.new }
+    {
+        if self.is_open() {
+            return self.hold(change);
+        }
+        match change {
+            Change::Edit(edit) => self.edit_now(edit),
+            Change::AddPath(name, parts) => self.add_now(name, parts),
+            Change::SetPath(name, parts) => self.set_now(&name, parts),
+            Change::DropPath(name) => self.drop_now(&name),
+        }
+    }
+
+    /// The answer to a command.
+    fn answer_to(&mut self, command: Command) -> Result<Reply, CommandFault>
+        ensures { Answered self.old (command_of command) result self.new }
+    {
+        match command {
+            Command::Edit(edit) => self.change(Change::Edit(edit)),
+            Command::AddPath(name, lines, pos, neg) => {
+                self.change(Change::AddPath(name, PathParts { lines, pos, neg }))
+            }
+            Command::SetPath(name, lines, pos, neg) => {
+                self.change(Change::SetPath(name, PathParts { lines, pos, neg }))
+            }
+            Command::DropPath(name) => self.change(Change::DropPath(name)),
+            Command::Show(name) => self.show(&name),
+            Command::ShowNode(id) => self.show_node(id),
+            Command::ShowLine(id) => self.show_line(id),
+            Command::Depends(nodes) => self.depends(&nodes),
+            Command::Report => self.report(),
+            Command::Dump => self.dump(),
+            Command::Explain(text) => self.explain(&text),
+            Command::Begin => self.begin(),
+            Command::Commit(count) => self.commit(count),
+            Command::Abort => self.abort(),
+        }
+    }
+
+    /// Carries out a command. In an open batch, edits and path commands are held. Outside a batch they are accepted at
+    /// once, and the reply has the paths that are new or have another answer than before. After a fault, map, paths,
+    /// answers, texts, counts and an open batch are unchanged. `Memory` is returned only if no fault takes precedence
+    /// over it.
+    ///
+    /// The counts say exactly how many paths are affected, how many of these retain their answer, and for which coverage
+    /// queries of the others searches are made: all those of a path that the command adds or replaces, and of other
+    /// paths those that are not known from the map before.
+    pub fn apply(&mut self, command: Command) -> Result<Reply, CommandFault>
+        ensures outcome { Applied self.old (command_of command) (outcome_of result) self.new }
+        ensures counted { OnOk result (Counted self.old (command_of command) self.new) }
+        ensures unchanged { OnErr result (self.new ≡ self.old) }
+        ensures sound { IsContent self.new.kept.content }
+        ensures spares { OnOk result (SparesCounted self.old (command_of command) self.new) }
+        ensures searches { OnOk result (SearchesCounted self.old (command_of command) self.new) }
+        ensures rises { OnOk result (NoneFalls self.old self.new) }
+        ensures same { OnOk result
+            (IsFalse (encodes (is_some self.old.kept.batch) (command_of command)) → SameCounts self.old self.new) }
+    {
+        let result = self.answer_to(command);
+        // The content is sound, like that of every register.
+        self.is_sound();
+        result
+    }
+
+    /// Does nothing. Its contract says that the content of every register is sound.
+    pub fn is_sound(&self)
+        ensures { IsContent self.now.kept.content }
+    {
+        // For the proof alone: the content is sound, like that of every register.
+        let _encodings = self.work.encodings;
+    }
+}
+
+/// The register after these commands, one after another from the empty one, and the outcome of each.
+pub fn replay(
+    alloc: Global,
+    commands: Vec<Command>,
+) -> Result<(Register, Vec<Result<Reply, CommandFault>>), AllocError>
+    ensures history { IfOk result (λ r. (t : State) × Represents r.0.kept t
+        × History start_state (map command_of commands.items) (map outcome_of r.1.items) t) }
+    ensures headline { IfOk result (λ r. (t : State) × Represents r.0.kept t
+        × Headline IsOutcome (λ c. Some c) start_state (map command_of commands.items) (map outcome_of r.1.items) t) }
+{
+    let mut register = Register::new(alloc);
+    let mut outcomes = Vec::new(alloc);
+    for command in commands {
+        let outcome = register.apply(command);
+        outcomes.push(outcome)?;
+    }
+    Ok((register, outcomes))
+}

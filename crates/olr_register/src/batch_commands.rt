@@ -1,0 +1,98 @@
+//! Batches: opening one, the changes that it holds, commit and abort.
+ghost use Rattle.std.specs.Prelude.{IsSome};
+ghost use Rattle.olr_commands.specs.State.{Make, Begin, Commit, Abort};
+ghost use Rattle.olr_register.specs.BatchChanges.{change_of};
+
+use crate::batch::Batch;
+use crate::change::Change;
+use crate::bounds::renew;
+use crate::register::Register;
+use olr_commands::{CommandFault, Reply};
+use olr_map::UndoLog;
+use olr_paths::{ChangeSet, Overlay};
+
+impl Register {
+    ghost use Rattle.olr_register.specs.Answered.{Answered};
+
+    /// Opens a batch, which holds the changes that follow. Takes no memory.
+    #[inline(never)]
+    pub(crate) fn begin(&mut self) -> Result<Reply, CommandFault>
+        ensures { Answered self.old Begin result self.new }
+    {
+        if self.batch.is_some() {
+            return Err(CommandFault::BatchOpen);
+        }
+        let batch = Batch {
+            log: UndoLog::new(self.alloc),
+            overlay: Overlay::new(self.alloc),
+            count: 0,
+            touched: ChangeSet::new(self.alloc),
+        };
+        // Nothing is dropped: no batch is open.
+        drop(self.batch.replace(batch));
+        Ok(Reply::Paths(Vec::new(self.alloc)))
+    }
+
+    /// Makes a change in the open batch and holds it. After a fault the register is unchanged.
+    #[inline(never)]
+    pub(crate) fn hold(&mut self, change: Change) -> Result<Reply, CommandFault>
+        requires { IsSome self.old.kept.batch }
+        ensures { Answered self.old (Make (change_of change)) result self.new }
+    {
+        let Some(batch) = &mut self.batch else {
+            unreachable!()
+        };
+        batch.hold(self.alloc, &mut self.roads, &self.paths, change)
+    }
+
+    /// Accepts all held changes at once, if their number is `count`, and encodes the affected paths. After a fault the
+    /// batch is still open, and unchanged.
+    #[inline(never)]
+    pub(crate) fn commit(&mut self, count: u32) -> Result<Reply, CommandFault>
+        ensures { Answered self.old (Commit count) result self.new }
+    {
+        let Some(batch) = &self.batch else {
+            return Err(CommandFault::NoBatch);
+        };
+        if batch.count != count {
+            return Err(CommandFault::CountDiffers);
+        }
+        let renewed = renew(
+            self.alloc,
+            &self.roads,
+            &mut self.paths,
+            &batch.overlay,
+            &batch.touched,
+            &mut self.near,
+            &mut self.searches,
+        )?;
+        // The log is dropped with the batch: its edits are permanent.
+        drop(self.batch.take());
+        self.work = self.work.plus(renewed.work);
+        self.spared = self.spared.saturating_add(renewed.spared);
+        Ok(Reply::Paths(renewed.entries))
+    }
+
+    /// Drops all held changes: the map is again the one before the batch. Takes no memory.
+    #[inline(never)]
+    pub(crate) fn abort(&mut self) -> Result<Reply, CommandFault>
+        ensures { Answered self.old Abort result self.new }
+    {
+        match self.batch.take() {
+            Some(
+                Batch {
+                    log,
+                    overlay,
+                    touched,
+                    ..
+                },
+            ) => {
+                self.roads.undo_all(log);
+                drop(overlay);
+                drop(touched);
+                Ok(Reply::Paths(Vec::new(self.alloc)))
+            }
+            None => Err(CommandFault::NoBatch),
+        }
+    }
+}

@@ -1,0 +1,121 @@
+//! Distance bounds, which cut the search from an edit, and the renewal of a list with them.
+ghost use Rattle.std.specs.Prelude.{◌≡◌, ◌⊎◌, ℕ, List, Contains, IfOk, OnOk, OnErr, IsFalse};
+ghost use Rattle.olr_spec.specs.Map.{Map};
+ghost use Rattle.olr_spec.specs.Queries.{CoverageQuery as QueryRecord};
+ghost use Rattle.olr_map.specs.RoadMaps.{map_of};
+ghost use Rattle.olr_near.specs.Bounds.{IsRight, IsSource, SameBut};
+ghost use Rattle.olr_list.specs.Items.{Item, items};
+ghost use Rattle.olr_list.specs.Overlaid.{under_overlay};
+ghost use Rattle.olr_list.specs.Origins.{Begins, new_origins_in};
+ghost use Rattle.olr_paths.specs.Reencoded.{IsRenewal};
+ghost use Rattle.olr_list.specs.ChangeSets.{nodes_of};
+ghost use Rattle.olr_register.specs.Contents.{HasBounds, CanRenew};
+
+use olr_map::RoadMap;
+use olr_near::DistanceBounds;
+use olr_paths::{ChangeSet, Overlay, PathList, Renewed, Searches, renew_over};
+use olr_refs::CoverageQuery;
+use std::alloc::{AllocError, Global};
+
+/// The bounds are rebuilt only after searches that found no path have labelled more nodes than this.
+const LEAST: usize = 65_536;
+
+/// Makes the bounds right on the map after edits that touched these nodes. If an allocation fails, they are unknown.
+fn ask_near(near: &mut DistanceBounds, roads: &RoadMap, touched: &ChangeSet)
+    ensures { (M : Map) (is : List Item) → SameBut (nodes_of touched.now) M (map_of roads.now) → HasBounds M is near.old
+        → HasBounds (map_of roads.now) is near.new }
+{
+    let _ = near.reopen(touched.nodes());
+    let _ = near.settle(roads);
+}
+
+/// Adds coverage queries, and makes the bounds right. If an allocation fails, they are unknown.
+fn add_near(near: &mut DistanceBounds, roads: &RoadMap, queries: &[CoverageQuery])
+    ensures right { IsRight (map_of roads.now) near.old → IsRight (map_of roads.now) near.new }
+    ensures before { (s w : ℕ) → IsSource near.old s w → IsSource near.new s w }
+    ensures sources { (l : QueryRecord) → Contains queries.now l → IsSource near.new l.from l.within }
+{
+    if !near.is_known() {
+        return;
+    }
+    for query in queries {
+        let _ = near.add(query.from, query.within);
+    }
+    let _ = near.settle(roads);
+}
+
+/// Rebuilds the bounds, with a source where each coverage query of the list begins. If an allocation fails, they are
+/// unknown.
+#[inline(never)]
+fn bounds_from_scratch(alloc: Global, near: &mut DistanceBounds, roads: &RoadMap, paths: &PathList)
+    ensures { HasBounds (map_of roads.now) (items paths.now) near.new }
+{
+    let mut new_origins = Vec::new(alloc);
+    match paths.begins(&mut new_origins) {
+        Ok(()) => {
+            near.clear();
+            add_near(near, roads, &new_origins);
+        }
+        Err(_) => near.forget(),
+    }
+}
+
+/// Whether searches that found no path have labelled more nodes in all than it costs to rebuild the bounds.
+fn is_worn(near: &DistanceBounds, paths: &PathList, searches: &Searches) -> bool {
+    let cost = near.len().saturating_add(paths.len()).saturating_mul(4);
+    searches.wasted_labels() > cost.saturating_add(LEAST)
+}
+
+/// Makes the bounds right after a renewal of the list: adds sources where its new coverage queries begin, or rebuilds
+/// the bounds if searches that found no path have cost more than that would.
+pub(crate) fn rebuild_bounds(
+    alloc: Global,
+    near: &mut DistanceBounds,
+    roads: &RoadMap,
+    paths: &PathList,
+    searches: &mut Searches,
+)
+    ensures { (is : List Item) → HasBounds (map_of roads.now) is near.old
+        → ((l : QueryRecord) → Begins (items paths.now) l → Begins is l ⊎ Contains (new_origins_in searches.old) l)
+        → HasBounds (map_of roads.now) (items paths.now) near.new }
+{
+    add_near(near, roads, searches.new_origins());
+    if !is_worn(near, paths, searches) {
+        return;
+    }
+    searches.set_back();
+    bounds_from_scratch(alloc, near, roads, paths);
+}
+
+/// Encodes the affected paths again after edits that led to the map, with the changes of an overlay, and makes the
+/// bounds right. If an allocation fails, the list is unchanged, and the bounds are unknown.
+#[inline(never)]
+pub(crate) fn renew(
+    alloc: Global,
+    roads: &RoadMap,
+    paths: &mut PathList,
+    overlay: &Overlay,
+    touched: &ChangeSet,
+    near: &mut DistanceBounds,
+    searches: &mut Searches,
+) -> Result<Renewed, AllocError>
+    requires { (M : Map) × CanRenew M (map_of roads.now) (items paths.old)
+        (under_overlay (items paths.old) overlay.now) touched.now near.old }
+    ensures renewed { IfOk result (IsRenewal (map_of roads.now) touched.now (items paths.old)
+        (under_overlay (items paths.old) overlay.now) (items paths.new)) }
+    ensures bounded { OnOk result (HasBounds (map_of roads.now) (items paths.new) near.new) }
+    ensures err { OnErr result (items paths.new ≡ items paths.old) }
+    ensures unknown { OnErr result (IsFalse near.new.known) }
+{
+    ask_near(near, roads, touched);
+    match renew_over(paths, alloc, roads, overlay, touched, near, searches) {
+        Ok(renewed) => {
+            rebuild_bounds(alloc, near, roads, paths, searches);
+            Ok(renewed)
+        }
+        Err(error) => {
+            near.forget();
+            Err(error)
+        }
+    }
+}
