@@ -8,7 +8,7 @@ use Rattle.olr_commands.specs.State.{Named, Content, same_name, path_named, with
 use Rattle.olr_commands.specs.State.{Bad_path, when, Change, Add_path, Set_path, with_change, State, Make, step}
 use Rattle.olr_commands.specs.State.{changes_made, IsState}
 use Rattle.olr_commands.specs.Counts.{Affects, By_name, By_node, By_line, CountIs, all_nodes, all_lines, all_names}
-use Rattle.olr_commands.specs.Counts.{Retains, EncodesAgain, Spares, SearchedFor, SearchesFor, Collects, Searches}
+use Rattle.olr_commands.specs.Counts.{Retains, EncodesAgain, RaisesRetained, SearchedFor, SearchesFor, Collects, Searches}
 use Rattle.olr_commands.specs.Counts.{Raises}
 use Rattle.olr_commands.proofs.NameLemmas.{same_is, not_named, set_name}
 use Rattle.olr_commands.proofs.StateLemmas.{ends, when_ok, passed, steps_keep}
@@ -81,9 +81,9 @@ module _ (c d : Content) (x : Change) (name : List ℕ) (nodes : all_nodes c (x 
   retains_none : (p : Named) → ¬ Retains c d (x ∷ []) p
   retains_none p h = grind (arith, both_ways, is_named, only_name)
 
-  no_spares : (ps : List Named) → CountIs (Retains c d (x ∷ [])) ps 0
-  no_spares [] = refl
-  no_spares (p ∷ ps) = inr (retains_none p, no_spares ps)
+  none_retained : (ps : List Named) → CountIs (Retains c d (x ∷ [])) ps 0
+  none_retained [] = refl
+  none_retained (p ∷ ps) = inr (retains_none p, none_retained ps)
 
   one_search : (ps : List Named) (path : Path) (own : List CoverageQuery) → NamesDiffer ps →
       path_named ps name ≡ Some path → SearchedFor d.map path own →
@@ -100,8 +100,8 @@ makes s x closed =
 module _ (s t : State) (x : Change) (name : List ℕ) (path : Path) (i : IsState s) (closed : s.batch ≡ None)
     (nodes : all_nodes s.content (x ∷ []) ≡ []) (lines : all_lines (x ∷ []) ≡ [])
     (names : all_names (x ∷ []) ≡ name ∷ []) where
-  pub spares_none : Spares s (Make x) t 0
-  spares_none = grind (arith, makes, no_spares)
+  pub retains_none : RaisesRetained s (Make x) t 0
+  retains_none = grind (arith, makes, none_retained)
 
   pub searches_one : (own : List CoverageQuery) → NamesDiffer t.content.paths →
       path_named t.content.paths name ≡ Some path → SearchedFor t.content.map path own → Searches s (Make x) t own

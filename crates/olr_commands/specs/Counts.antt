@@ -12,7 +12,7 @@
 --     SearchedAgain M N C P qs      those for which an encoding on N searches after one on M
 --     CountIs P ps n      P holds of n of the elements
 --     Raises s c t n      the accepted command, which leads from s to t, raises the count of encodings by n
---     Spares s c t n      it raises the count of retained answers by n
+--     RaisesRetained s c t n      it raises the count of retained answers by n
 --     Collects E Q ps qs      the lists that Q gives the elements of which E holds, joined in order
 --     Searches s c t qs      the coverage queries for which it searches
 use Rattle.std.specs.Prelude.{◌≡◌, ℕ, suc, ◌≤◌, List, [], ◌∷◌, ◌++◌, flat_map, length, All, ◌⊎◌, IsTrue, IsFalse}
@@ -122,8 +122,8 @@ abbrev pub Raises : State → Command → State → ℕ → Type 0
 Raises s c t n = CountIs (Affects s.content (changes_made s c)) t.content.paths n
 
 -- the number of these that retain their answer
-abbrev pub Spares : State → Command → State → ℕ → Type 0
-Spares s c t n = CountIs (Retains s.content t.content (changes_made s c)) t.content.paths n
+abbrev pub RaisesRetained : State → Command → State → ℕ → Type 0
+RaisesRetained s c t n = CountIs (Retains s.content t.content (changes_made s c)) t.content.paths n
 
 abbrev pub Collects : {A : Type 0} → (A → Type 0) → (A → List CoverageQuery → Type 0) → List A → List CoverageQuery →
     Type 0

@@ -21,7 +21,7 @@ use Rattle.olr_spec.specs.Bytes.{IsReference, reference_bytes}
 use Rattle.olr_spec.proofs.FitLemmas.{encoded_fits}
 use Rattle.olr_commands.specs.Dump.{dump_lines, dump_changes, node_changes, line_changes, DumpsAgain}
 use Rattle.olr_commands.specs.Dependents.{Dependents}
-use Rattle.olr_commands.specs.Counts.{Affects, CountIs, Raises, Retains, Spares}
+use Rattle.olr_commands.specs.Counts.{Affects, CountIs, Raises, Retains, RaisesRetained}
 use Rattle.olr_commands.proofs.SearchLemmas.{unconcerned}
 use Rattle.olr_commands.proofs.DumpLemmas.{dumps_lead}
 use Rattle.olr_commands.specs.History.{Run, History, AllHaveCoords, names, Headline}
@@ -253,11 +253,11 @@ pub count_within : {A : Type 0} (P Q : A → Type 0) → ((x : A) → P x → Q 
 count_within P Q implies [] n m p q = omega (arith, p, q)
 count_within P Q implies (x ∷ xs) n m p q = grind (arith, implies x, count_within P Q implies xs)
 
-pub one_spare : (s t : State) (c : Command) (n m : ℕ) → Spares s c t n → Spares s c t m → n ≡ m
-one_spare s t c n m = one_count (Retains s.content t.content (changes_made s c)) t.content.paths n m
+pub one_retained : (s t : State) (c : Command) (n m : ℕ) → RaisesRetained s c t n → RaisesRetained s c t m → n ≡ m
+one_retained s t c n m = one_count (Retains s.content t.content (changes_made s c)) t.content.paths n m
 
-pub spares_few : (s t : State) (c : Command) (n m : ℕ) → Spares s c t n → Raises s c t m → n ≤ m
-spares_few s t c n m =
+pub retains_few : (s t : State) (c : Command) (n m : ℕ) → RaisesRetained s c t n → Raises s c t m → n ≤ m
+retains_few s t c n m =
     count_within (Retains s.content t.content (changes_made s c)) (Affects s.content (changes_made s c))
     (λ p h. h.affected) t.content.paths n m
 

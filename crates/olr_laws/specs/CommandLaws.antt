@@ -7,7 +7,7 @@ use Rattle.olr_commands.specs.State.{HasCoords, IsState, step, changes_made, Nam
 use Rattle.olr_commands.specs.Dump.{dump_changes, node_changes, line_changes}
 use Rattle.olr_commands.specs.Dependents.{DependsOn}
 use Rattle.olr_commands.specs.Reply.{Reply, IsReply, Outcome, IsOutcome, lacks_memory}
-use Rattle.olr_commands.specs.Counts.{Raises, Spares, Affects}
+use Rattle.olr_commands.specs.Counts.{Raises, RaisesRetained, Affects}
 
 abbrev pub StepsKeep : Type 0
 StepsKeep = (s t : State) (c : Command) → IsState s → HasCoords c → step s c ≡ Ok t → IsState t
@@ -52,11 +52,11 @@ PathsRaiseOne =
     × (step s (Make (Set_path name path)) ≡ Ok t → Raises s (Make (Set_path name path)) t 1)
 
 -- the number of retained answers is determined, and at most the number of encodings that are counted
-abbrev pub OneSpare : Type 0
-OneSpare = (s t : State) (c : Command) (n m : ℕ) → Spares s c t n → Spares s c t m → n ≡ m
+abbrev pub OneRetained : Type 0
+OneRetained = (s t : State) (c : Command) (n m : ℕ) → RaisesRetained s c t n → RaisesRetained s c t m → n ≡ m
 
-abbrev pub SparesFew : Type 0
-SparesFew = (s t : State) (c : Command) (n m : ℕ) → Spares s c t n → Raises s c t m → n ≤ m
+abbrev pub RetainsFew : Type 0
+RetainsFew = (s t : State) (c : Command) (n m : ℕ) → RaisesRetained s c t n → Raises s c t m → n ≤ m
 
 -- the records that show a node, or a line with its ends, are records of a dump
 abbrev pub ShownAreDumped : Type 0

@@ -25,13 +25,13 @@ pub fn laws_of_states()
 {}
 
 /// The rises of the counts of encodings and of retained answers are determined.
-#[tactic(auto, using(crate::proofs::CommandLemmas::one_rise, crate::proofs::CommandLemmas::no_rise, crate::proofs::CommandLemmas::one_spare, crate::proofs::CommandLemmas::spares_few))]
+#[tactic(auto, using(crate::proofs::CommandLemmas::one_rise, crate::proofs::CommandLemmas::no_rise, crate::proofs::CommandLemmas::one_retained, crate::proofs::CommandLemmas::retains_few))]
 pub fn laws_of_counts()
     ensures one { Laws.OneRise }
     ensures none { Laws.NoRise }
     ensures paths { Laws.PathsRaiseOne }
-    ensures one_spare { Laws.OneSpare }
-    ensures few { Laws.SparesFew }
+    ensures one_retained { Laws.OneRetained }
+    ensures few { Laws.RetainsFew }
 {}
 
 /// The claims about whole runs of commands.

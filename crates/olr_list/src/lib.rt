@@ -3,9 +3,8 @@
 #![tactic(auto)]
 
 mod actions;
-mod around;
 mod affected;
-mod queries;
+mod around;
 mod candidates;
 pub mod change_set;
 mod detours;
@@ -18,13 +17,13 @@ pub mod overlay;
 mod path_list;
 mod positions;
 mod published;
+mod queries;
 mod searches;
-mod view;
 mod sources;
+mod view;
 
 pub use actions::{Action, decide, is_affected};
 pub use affected::ask;
-pub use queries::note_fresh;
 pub use change_set::{ChangeSet, ChangedLine};
 pub use detours::{Detours, clear_known};
 pub use iter::Iter;
@@ -33,5 +32,6 @@ pub use overlay::Overlay;
 pub use path_list::{NamedPath, PathList};
 pub use positions::put_in;
 pub use published::Published;
+pub use queries::note_fresh;
 pub use searches::Searches;
 pub use view::PathView;

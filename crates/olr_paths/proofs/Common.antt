@@ -12,7 +12,7 @@ pub use Rattle.olr_list.proofs.Common.{sym, map, ◌≡◌, ◌∙◌, ◌-◌, 
 pub use Rattle.olr_list.specs.Items.{AreEncodingsIfAny, IsEncodingOf}
 pub use Rattle.olr_list.specs.declared.path_list.NamedPath.{NamedPath}
 pub use Rattle.olr_list.specs.declared.published.Published.{Published}
-pub use Rattle.olr_paths.specs.Changes.{IsEncodedAgain, SearchesItem, IsAffected, IsSpared, SearchedAlone}
+pub use Rattle.olr_paths.specs.Changes.{IsEncodedAgain, SearchesItem, IsAffected, IsRetained, SearchedAlone}
 pub use Rattle.olr_paths.specs.Changes.{IsBefore, Follows, By_name, By_node, By_line}
 pub use Rattle.olr_paths.specs.Reencoded.{after_renewal, EncodedAgain, Retained, Gives}
 pub use Rattle.olr_paths.specs.declared.renewal.Renewal.{Renewal}

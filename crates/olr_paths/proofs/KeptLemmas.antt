@@ -1,7 +1,7 @@
 -- A coverage query is at most as long as the greatest limit. Its ends are traversed nodes: if none of these is touched,
 -- they are on the next map too. Results that are right on a map are right on the next one, if no change can affect them.
 use Rattle.olr_paths.proofs.Common.{Contains-get_or, IsEncodedAgain, CoverageQuery, extended_path, IsEncodingOf, length}
-use Rattle.olr_paths.proofs.Common.{IsUnchanged, MatchOption, ChangedLine, IsAffected, cases_Bool, query_from, IsSpared}
+use Rattle.olr_paths.proofs.Common.{IsUnchanged, MatchOption, ChangedLine, IsAffected, cases_Bool, query_from, IsRetained}
 use Rattle.olr_paths.proofs.Common.{slice_get, QueriesOf, IsBefore, By_line, is_some, is_path, By_name, IsOnMap, get_or}
 use Rattle.olr_paths.proofs.Common.{By_node, Option, IsTrue, IsMap, false, arith, first, subst, Some, None, Item, refl}
 use Rattle.olr_paths.proofs.Common.{List, Made, Path, last, has, ◌⊎◌, ◌+◌, ◌<◌, All, ◌∷◌, sym, ◌≡◌, ◌≤◌, min, inr, Map}
@@ -220,8 +220,8 @@ module _ {M N : Map} (n : IsMap N) {T X : List ℕ} {C : List ChangedLine} {is :
         ]
     touched_by (By_line x on line) = inr (inl (x, on, line))
 
-    pub spared_by : Touches N T X m P → Stays N T X C m P → IsSpared M N T X C i
-    spared_by touches stays = record {
+    pub retained_by : Touches N T X m P → Stays N T X C m P → IsRetained M N T X C i
+    retained_by touches stays = record {
       made = λ none. cc;
       affected = affected_by touches;
       unchanged = record {

@@ -2,7 +2,7 @@
 use Rattle.olr_paths.proofs.Common.{slice_get_within, IsEncodedAgain, after_renewal, CoverageQuery, EncodedAgain, IsMap}
 use Rattle.olr_paths.proofs.Common.{SearchesItem, IsEncodingOf, ChangedLine, IsAffected, cases_Bool, Some}
 use Rattle.olr_paths.proofs.Common.{map-append, changed_of, option_map, all_named, answer_in, slice_get, NamedPath, has}
-use Rattle.olr_paths.proofs.Common.{Reported, lines_of, entry_of, at_index, IsSpared, nodes_of, Retained, IsBefore, ◌⊎◌}
+use Rattle.olr_paths.proofs.Common.{Reported, lines_of, entry_of, at_index, IsRetained, nodes_of, Retained, IsBefore, ◌⊎◌}
 use Rattle.olr_paths.proofs.Common.{named_of, all_put, Renewal, Follows, puts_of, Answer, length, get_or, None}
 use Rattle.olr_paths.proofs.Common.{Option, Named, false, arith, Entry, entry, Work, ◌++◌, Item, take, refl, zero, List}
 use Rattle.olr_paths.proofs.Common.{Made, ◌+◌, suc, ◌<◌, ◌-◌, ◌∷◌, sym, ◌≡◌, ◌≤◌, inr, map, ◌∙◌, inl, Map, ap, [], ℕ}
@@ -12,10 +12,10 @@ use Rattle.olr_list.proofs.Common.{append_assoc, take_more_at, append-nil, Cover
 use Rattle.olr_list.proofs.NotedPositions.{all_put-push, put_behind}
 use Rattle.olr_list.specs.declared.change_set.ChangeSet.{ChangeSet}
 use Rattle.olr_paths.proofs.GivenQueries.{searches_item}
-use Rattle.olr_paths.proofs.KeptLemmas.{stays_retained, encoded_again, stays_unless, touched_by, spared_by}
+use Rattle.olr_paths.proofs.KeptLemmas.{stays_retained, encoded_again, stays_unless, touched_by, retained_by}
 use Rattle.olr_paths.proofs.Passing.{Passed, by_steps}
 use Rattle.olr_paths.specs.Changes.{AreCounted, with_made, AreRemade, AreTotals, IsRemade, Totals}
-use Rattle.olr_paths.specs.Reencoded.{ReportsIfOther, encoded_one, entries_of, spared_one, IsRenewal, WasBefore, made_at}
+use Rattle.olr_paths.specs.Reencoded.{ReportsIfOther, encoded_one, entries_of, retained_one, IsRenewal, WasBefore, made_at}
 use Rattle.olr_paths.specs.Reencoded.{Counts, IsStep, Left, after_retained}
 use Rattle.olr_paths.specs.declared.renewal.Renewed.{Renewed}
 use Rattle.olr_refs.proofs.Noting.{raised_twice, searched_more, searched_none, searched_on}
@@ -46,16 +46,16 @@ module _ {A : Type 0} (P : A → Type 0) where
   collect_both Q (x ∷ xs) ys us vs (inr h) k = inr (h.0, collect_both Q xs ys us vs h.1 k)
 
 abbrev pub no_totals : Totals
-no_totals = record { affected = 0; spared = 0; queries = [] }
+no_totals = record { affected = 0; retained = 0; queries = [] }
 
 abbrev both : Totals → Totals → Totals
-both t u = record { affected = t.affected + u.affected; spared = t.spared + u.spared; queries = t.queries ++ u.queries }
+both t u = record { affected = t.affected + u.affected; retained = t.retained + u.retained; queries = t.queries ++ u.queries }
 
 module _ (L N : Map) (T X : List ℕ) (C : List ChangedLine) (is js : List Item) (t u : Totals) where
   totals_both : AreTotals L N T X C is t → AreTotals L N T X C js u → AreTotals L N T X C (is ++ js) (both t u)
   totals_both g h = record {
     affected = count_both (IsAffected L T X) is js t.affected u.affected g.affected h.affected;
-    spared = count_both (IsSpared L N T X C) is js t.spared u.spared g.spared h.spared;
+    retained = count_both (IsRetained L N T X C) is js t.retained u.retained g.retained h.retained;
     queries =
         collect_both (IsEncodedAgain L N T X C) (SearchesItem L N C) is js t.queries u.queries g.queries h.queries;
   }
@@ -64,17 +64,17 @@ module _ (N : Map) (t u : Totals) (a b c : Work) (j k l : ℕ) where
   counted_both : AreCounted N t a b j k → AreCounted N u b c k l → AreCounted N (both t u) a c j l
   counted_both g h = record {
     encodings = raised_twice _ _ _ _ _ _ g.encodings h.encodings refl;
-    spared = raised_twice _ _ _ _ _ _ g.spared h.spared refl;
+    retained = raised_twice _ _ _ _ _ _ g.retained h.retained refl;
     searched = searched_more N t.queries u.queries a b c g.searched h.searched;
   }
 
 pub counted_none : (N : Map) (w : Work) (n : ℕ) → AreCounted N no_totals w w n n
-counted_none N w n = record { encodings = omega arith; spared = omega arith; searched = searched_none N w }
+counted_none N w n = record { encodings = omega arith; retained = omega arith; searched = searched_none N w }
 
-counted_retained : (N : Map) (r : Renewed) → Counts N spared_one r (after_retained r)
+counted_retained : (N : Map) (r : Renewed) → Counts N retained_one r (after_retained r)
 counted_retained N r = record {
   encodings = refl;
-  spared = refl;
+  retained = refl;
   searched = record { searches = omega arith; settled = ([], tt, omega arith) };
 }
 
@@ -83,7 +83,7 @@ pub counted_encoded : (N : Map) (queries : List CoverageQuery) (old w : Work) (n
     AreSearched N queries no_work w → AreCounted N (encoded_one queries) old (raised_work old w) n n
 counted_encoded N queries old w n one searched = record {
   encodings = omega arith;
-  spared = omega arith;
+  retained = omega arith;
   searched = searched_on N queries old w searched;
 }
 
@@ -103,19 +103,19 @@ pub record SoFar (N : Map) (T X : List ℕ) (C : List ChangedLine) (before is fi
     pub reported : (ks : List Item) (fs : List Entry) → Reported before ks fs →
         Reported before (js ++ ks) (entries_of r.renewed ++ fs)
     pub remade : (L : Map) → IsBefore L N T X C is → AreRemade N first js × AreTotals L N T X C first many
-    pub counted : AreCounted N many no_work r.renewed.work 0 r.renewed.spared
+    pub counted : AreCounted N many no_work r.renewed.work 0 r.renewed.retained
 
 pub so_far_none : {N : Map} {T X : List ℕ} {C : List ChangedLine} {before is : List Item} (r : Renewal) →
-    r.fresh.items ≡ [] → r.renewed.entries.items ≡ [] → r.renewed.work ≡ no_work → r.renewed.spared ≡ 0 →
+    r.fresh.items ≡ [] → r.renewed.entries.items ≡ [] → r.renewed.work ≡ no_work → r.renewed.retained ≡ 0 →
     SoFar N T X C before is [] r
-so_far_none {N} r fresh entries work spared = record {
+so_far_none {N} r fresh entries work retained = record {
   js = [];
   many = no_totals;
   put = λ ys. ap (λ (es : List (ℕ × NamedPath)). all_put ys (puts_of es)) fresh;
   named = refl;
   reported = λ ks fs k. rw (ap (map entry_of) entries) k;
-  remade = λ L q. (refl, record { affected = refl; spared = refl; queries = refl });
-  counted = rw (work, spared) (counted_none N no_work 0);
+  remade = λ L q. (refl, record { affected = refl; retained = refl; queries = refl });
+  counted = rw (work, retained) (counted_none N no_work 0);
 }
 
 -- for the whole list
@@ -184,17 +184,17 @@ module _ {N : Map} (n : IsMap N) {T X : List ℕ} {C : List ChangedLine} {before
         stays_unless n q position i at f.1 f.2,
         record {
           affected = inr (free, refl);
-          spared = inr ((λ o. free o.affected), refl);
+          retained = inr ((λ o. free o.affected), refl);
           queries = inr ((λ o. free o.0), refl);
         },
-      )) (counted_none N r.renewed.work r.renewed.spared))
+      )) (counted_none N r.renewed.work r.renewed.retained))
   so_far_step {r} {s} h (Retained f same) =
-      rw same (retained r (record r { renewed = after_retained r.renewed }) f.0 spared_one f.1 h refl refl (λ L q.
-      let s = spared_by n q position i at f.1 f.2 f.3 in (
+      rw same (retained r (record r { renewed = after_retained r.renewed }) f.0 retained_one f.1 h refl refl (λ L q.
+      let s = retained_by n q position i at f.1 f.2 f.3 in (
         stays_retained n q position i at f.1 f.3,
         record {
           affected = inl (s.affected, (0, refl, refl));
-          spared = inl (s, (0, refl, refl));
+          retained = inl (s, (0, refl, refl));
           queries = inr ((λ o. o.1 s), refl);
         },
       )) (counted_retained N r.renewed))
@@ -211,7 +211,7 @@ module _ {N : Map} (n : IsMap N) {T X : List ℕ} {C : List ChangedLine} {before
         (m, made, refl),
         record {
           affected = inl (e.0, (0, refl, refl));
-          spared = inr (e.1, refl);
+          retained = inr (e.1, refl);
           queries = inl (
             e,
             (

@@ -3,7 +3,7 @@
 --     IsAffected M T X i      the path was not encoded yet, or its footprint on M has a touched node, or one of its
 --         lines was touched
 --     AffectedNames M T X is names      the names of those of a list, in order
---     IsSpared M N T X C i      the changes affect it, and it retains its answer
+--     IsRetained M N T X C i      the changes affect it, and it retains its answer
 --     IsEncodedAgain M N T X C i      they affect it, and it does not
 --     SearchesItem M N C i queries      the coverage queries for which the path is searched if it is encoded again
 --     Totals, AreTotals M N T X C is t      how many paths are affected and how many of these retain their answers; the
@@ -45,13 +45,13 @@ abbrev pub AffectedNames : Map → List ℕ → List ℕ → List Item → List 
 AffectedNames M T X is names =
     (js : List Item) × Picks (IsAffected M T X) is js × (names ≡ map (λ i. i.name) js)
 
-pub record IsSpared (M N : Map) (T X : List ℕ) (C : List ChangedLine) (i : Item) : Type 0 where
+pub record IsRetained (M N : Map) (T X : List ℕ) (C : List ChangedLine) (i : Item) : Type 0 where
   pub made : i.made ≢ None
   pub affected : IsAffected M T X i
   pub unchanged : IsUnchanged M N T X C i.path
 
 abbrev pub IsEncodedAgain : Map → Map → List ℕ → List ℕ → List ChangedLine → Item → Type 0
-IsEncodedAgain M N T X C i = IsAffected M T X i × ¬ IsSpared M N T X C i
+IsEncodedAgain M N T X C i = IsAffected M T X i × ¬ IsRetained M N T X C i
 
 -- a path that was not encoded yet is encoded from scratch
 abbrev pub SearchesItem : Map → Map → List ChangedLine → Item → List CoverageQuery → Type 0
@@ -60,12 +60,12 @@ SearchesItem M N C i queries =
 
 pub record Totals : Type 0 where
   pub affected : ℕ
-  pub spared : ℕ
+  pub retained : ℕ
   pub queries : List CoverageQuery
 
 pub record AreTotals (M N : Map) (T X : List ℕ) (C : List ChangedLine) (is : List Item) (t : Totals) : Type 0 where
   pub affected : CountIs (IsAffected M T X) is t.affected
-  pub spared : CountIs (IsSpared M N T X C) is t.spared
+  pub retained : CountIs (IsRetained M N T X C) is t.retained
   pub queries : Collects (IsEncodedAgain M N T X C) (SearchesItem M N C) is t.queries
 
 pub record SearchedAlone (N : Map) (P : Path) (w : Work) : Type 0 where
@@ -75,7 +75,7 @@ pub record SearchedAlone (N : Map) (P : Path) (w : Work) : Type 0 where
 
 pub record AreCounted (N : Map) (t : Totals) (old new : Work) (before after : ℕ) : Type 0 where
   pub encodings : new.encodings ≡ raised_count old.encodings t.affected
-  pub spared : after ≡ raised_count before t.spared
+  pub retained : after ≡ raised_count before t.retained
   pub searched : AreSearched N t.queries old new
 
 abbrev pub IsRemade : Map → Item → Item → Type 0

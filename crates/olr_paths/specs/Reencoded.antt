@@ -8,7 +8,7 @@
 --         where its results were right;  r reports the answers that are not those of the list before, and counts what was
 --         encoded and retained
 --     after_retained r      what is reported and counted after one more path whose answer is retained
---     spared_one, encoded_one queries      the totals of one path whose answer is retained;  which is encoded
+--     retained_one, encoded_one queries      the totals of one path whose answer is retained;  which is encoded
 --     ReportsIfOther before name A es fs      an entry is appended if the answer is not the earlier one of the
 --         name
 use Rattle.std.specs.Prelude.{◌≡◌, ◌≢◌, ℕ, List, [], ◌∷◌, ◌++◌, map, Option, Some, None, option_map, unwrap_or, ◌⊎◌}
@@ -42,7 +42,7 @@ abbrev pub after_retained : Renewed → Renewed
 after_retained r =
     record r {
       work = raised_work r.work (record no_work { encodings = 1 });
-      spared = raised_count r.spared 1;
+      retained = raised_count r.retained 1;
     }
 
 abbrev pub after_renewal : Renewal → List Item → List Item
@@ -63,15 +63,15 @@ Gives N C None given = given ≡ []
 Gives N C (Some m) given = Picks (λ e. IsAgainClear N C e.query) m.known given
 
 -- the totals of one affected path: whose answer is retained, and which is encoded
-abbrev pub spared_one : Totals
-spared_one = record { affected = 1; spared = 1; queries = [] }
+abbrev pub retained_one : Totals
+retained_one = record { affected = 1; retained = 1; queries = [] }
 
 abbrev pub encoded_one : List CoverageQuery → Totals
-encoded_one queries = record { affected = 1; spared = 0; queries = queries }
+encoded_one queries = record { affected = 1; retained = 0; queries = queries }
 
 -- the counts of the second rise from those of the first by these totals
 abbrev pub Counts : Map → Totals → Renewed → Renewed → Type 0
-Counts N t r s = AreCounted N t r.work s.work r.spared s.spared
+Counts N t r s = AreCounted N t r.work s.work r.retained s.retained
 
 pub data IsStep (N : Map) (T X : List ℕ) (C : List ChangedLine) (before : List Item) (i : Item) (k : ℕ) (r s : Renewal)
     : Type 0 where
@@ -96,4 +96,4 @@ pub record IsRenewal (N : Map) (t : ChangeSet) (before is js : List Item) (r : R
   pub named : all_named js ≡ all_named is
   pub reported : Reported before js (entries_of r)
   pub counted : (L : Map) → WasBefore L N t is → (u : Totals)
-      × AreTotals L N (nodes_of t) (lines_of t) (changed_of t) is u × AreCounted N u no_work r.work 0 r.spared
+      × AreTotals L N (nodes_of t) (lines_of t) (changed_of t) is u × AreCounted N u no_work r.work 0 r.retained

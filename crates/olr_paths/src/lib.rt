@@ -2,14 +2,14 @@
 //! reported.
 #![tactic(auto)]
 
-mod encoding;
 mod add_and_set;
+mod encoding;
 mod naming;
-mod renewal;
 mod reencode;
+mod renewal;
 
 pub use add_and_set::{add, set};
 pub use naming::affected_names;
 pub use olr_list::{ChangeSet, ChangedLine, Iter, Overlay, PathList, Published, Searches};
-pub use renewal::Renewed;
 pub use reencode::renew_over;
+pub use renewal::Renewed;

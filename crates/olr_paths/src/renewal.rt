@@ -68,7 +68,7 @@ pub struct Renewed {
     /// The work: each affected path counts as an encoding.
     pub work: Work,
     /// How many of the affected paths retained their answer.
-    pub spared: u64,
+    pub retained: u64,
 }
 
 impl Renewed {
@@ -81,7 +81,7 @@ impl Renewed {
             searches: 0,
             settled: 0,
         });
-        self.spared = self.spared.saturating_add(1);
+        self.retained = self.retained.saturating_add(1);
     }
 }
 
@@ -191,7 +191,7 @@ fn renewal_by<M: MapRead>(
         renewed: Renewed {
             entries: Vec::new(alloc),
             work: Work::none(),
-            spared: 0,
+            retained: 0,
         },
     };
     let mut next = 0;

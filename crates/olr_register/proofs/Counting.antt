@@ -11,13 +11,13 @@ use Rattle.olr_search.specs.Counts.{no_work, raised_count, raised_work}
 use Rattle.olr_spec.specs.Queries.{IsClear}
 use Rattle.olr_commands.specs.Counts.{CountIs, most_changed, IsUnchanged, Retains, EncodesAgain, SearchedAgain, Either}
 use Rattle.olr_commands.specs.Counts.{SearchesFor, Collects}
-use Rattle.olr_paths.specs.Changes.{IsAffected, IsSpared, IsEncodedAgain, SearchesItem, AreTotals}
+use Rattle.olr_paths.specs.Changes.{IsAffected, IsRetained, IsEncodedAgain, SearchesItem, AreTotals}
 use Rattle.olr_paths.specs.Changes as made
 
 -- by how much changes from c to d, whose paths are ps, raise the counts
 pub record AreRises (c d : Content) (xs : List Change) (ps : List Named) (t : Totals) : Type 0 where
   pub affected : CountIs (Affects c xs) ps t.affected
-  pub spared : CountIs (Retains c d xs) ps t.spared
+  pub retained : CountIs (Retains c d xs) ps t.retained
   pub queries : Collects (EncodesAgain c d xs) (SearchesFor c d xs) ps t.queries
 
 some_made : (o : Option Made) → (o ≡ None → ⊥) → is_none o ≡ false
@@ -87,7 +87,7 @@ module _ (c d : Content) (changes : List Change) (ns xs : List ℕ) (cs : List C
   affects_back i given (By_node v h f) = made.By_node v (same_nodes v ∙ h) f
   affects_back i given (By_line x h f) = made.By_line x (same_lines x ∙ h) f
 
-  retains_to : (i : Item) → Given (all_names changes) i → IsSpared c.map d.map ns xs cs i →
+  retains_to : (i : Item) → Given (all_names changes) i → IsRetained c.map d.map ns xs cs i →
       Retains c d changes (named_of i)
   retains_to i given h = record {
     affected = affects_to i given h.affected;
@@ -96,7 +96,7 @@ module _ (c d : Content) (changes : List Change) (ns xs : List ℕ) (cs : List C
   }
 
   retains_back : (i : Item) → Given (all_names changes) i → Retains c d changes (named_of i) →
-      IsSpared c.map d.map ns xs cs i
+      IsRetained c.map d.map ns xs cs i
   retains_back i given h = record {
     made = λ e. let on : is_none i.made ≡ true = ap (λ (o : Option Made). is_none o) e in
         both_ways (is_none i.made) (given ∙ h.unnamed) on;
@@ -126,7 +126,7 @@ module _ (c d : Content) (changes : List Change) (ns xs : List ℕ) (cs : List C
     pub counted_changes : (ps : List Named) → ps ≡ all_named is → AreRises c d changes ps t
     counted_changes ps same = subst (λ (qs : List Named). AreRises c d changes qs t) (sym same) (record {
       affected = count_named (all_names changes) _ _ affects_to affects_back is t.affected given totals.affected;
-      spared = count_named (all_names changes) _ _ retains_to retains_back is t.spared given totals.spared;
+      retained = count_named (all_names changes) _ _ retains_to retains_back is t.retained given totals.retained;
       queries =
           collect_named (all_names changes) _ _ encodes_to encodes_back (SearchesItem c.map d.map cs)
           (SearchesFor c d changes) searches_to is t.queries given totals.queries;
@@ -139,18 +139,18 @@ pub counted_on : (M : Map) (t : Totals) (old w : Work) (n m : ℕ) → AreCounte
     AreCounted M t old (raised_work old w) n (raised_count n m)
 counted_on M t old w n m h = record {
   encodings = raised_from _ _ _ h.encodings;
-  spared = raised_from _ _ _ h.spared;
+  retained = raised_from _ _ _ h.retained;
   searched = searched_on M t.queries old w h.searched;
 }
 
 -- changes that affect no path
 pub none_affected : (c d : Content) (xs : List Change) → ((p : Named) → ¬ Affects c xs p) → (ps : List Named) →
     AreRises c d xs ps no_totals
-none_affected c d xs none [] = record { affected = refl; spared = refl; queries = refl }
+none_affected c d xs none [] = record { affected = refl; retained = refl; queries = refl }
 none_affected c d xs none (p ∷ ps) =
     let rest = none_affected c d xs none ps in
     record {
       affected = inr (none p, rest.affected);
-      spared = inr ((λ h. none p h.affected), rest.spared);
+      retained = inr ((λ h. none p h.affected), rest.retained);
       queries = inr ((λ h. none p h.0), rest.queries);
     }

@@ -39,12 +39,12 @@ Accepts new c r u s =
 
 pub answered_counted : (old new : Registered) (c : Command) (r : Reply) (u : Totals) →
     ((s : State) → Represents old.kept s → Accepts new c r u s) →
-    AreCounted new.kept.content.map u old.work new.work old.spared new.spared →
+    AreCounted new.kept.content.map u old.work new.work old.retained new.retained →
     (IsFalse (encodes (is_some old.kept.batch) c) → SameCounts old new) → Answered old c (Ok r) new
 answered_counted old new c r u accepts counts same = record {
   outcome = λ s h. (accepts s h).0;
   counted = λ s t h k. (u.affected, (at s t h k).affected, counts.encodings);
-  spares = λ s t h k. (u.spared, (at s t h k).spared, counts.spared);
+  retains = λ s t h k. (u.retained, (at s t h k).retained, counts.retained);
   searches = λ s t h k. (
     u.queries,
     (at s t h k).queries,
@@ -54,7 +54,7 @@ answered_counted old new c r u accepts counts same = record {
     encodings = omega (arith, counts.encodings);
     searches = omega (arith, counts.searched.searches);
     settled = omega (arith, counts.searched.settled.2);
-    spared = omega (arith, counts.spared);
+    retained = omega (arith, counts.retained);
   };
   same = same;
   unchanged = tt;
@@ -70,14 +70,14 @@ Keeps k c r s = (changes_made s c ≡ []) × ((t : State) × Represents k t × I
 
 pub answered_uncounted : (old : Registered) (k : RegisterState) (c : Command) (r : Reply) →
     ((s : State) → Represents old.kept s → Keeps k c r s) →
-    Answered old c (Ok r) (record { kept = k; work = old.work; spared = old.spared })
+    Answered old c (Ok r) (record { kept = k; work = old.work; retained = old.retained })
 answered_uncounted old k c r keeps =
-    answered_counted old (record { kept = k; work = old.work; spared = old.spared }) c r no_totals (λ s h. (
+    answered_counted old (record { kept = k; work = old.work; retained = old.retained }) c r no_totals (λ s h. (
       (keeps s h).1,
       subst (λ (xs : List Change). AreRises s.content k.content xs k.content.paths no_totals) (sym (keeps s h).0)
           (none_affected s.content k.content [] (unconcerned s.content) k.content.paths),
     ))
-    (counted_none k.content.map old.work old.spared) (λ off. (refl, refl))
+    (counted_none k.content.map old.work old.retained) (λ off. (refl, refl))
 
 -- the register is unchanged
 pub answered_refused : (old new : Registered) (c : Command) (r : Result Reply CommandFault) (f : CommandFault) →
@@ -93,7 +93,7 @@ answered_refused old new c (Err g) f same is h =
         (in_states old.kept (λ s. IsRefusal s c (command_fault_of g)) (rw is h) s represents, refl),
       );
       counted = tt;
-      spares = tt;
+      retains = tt;
       searches = tt;
       rises = tt;
       same = tt;

@@ -21,7 +21,7 @@ use Rattle.olr_paths.specs.declared.renewal.Renewed.{Renewed}
 use Rattle.olr_commands.specs.State.{IsState}
 use Rattle.olr_commands.specs.Reply.{IsPaths}
 use Rattle.olr_commands.specs.Counts.{Raises}
-use Rattle.olr_commands.proofs.SearchLemmas.{paths_raise, spares_none, searches_one, added_path, replaced_path}
+use Rattle.olr_commands.proofs.SearchLemmas.{paths_raise, retains_none, searches_one, added_path, replaced_path}
 use Rattle.olr_register.proofs.Changing.{add_ok, set_ok, drop_ok}
 use Rattle.olr_register.proofs.Counting.{AreRises, counted_changes, counted_on, none_affected}
 use Rattle.olr_paths.proofs.RenewedPrefix.{counted_encoded, counted_none, no_totals}
@@ -54,7 +54,7 @@ drop_affects c name p (By_node v h f) = absurd cc
 drop_affects c name p (By_line x h f) = absurd cc
 
 -- a register with no batch open
-module _ (r : Inside) {x : Registered} (view : of_parts r.roads (items r.paths) r.batch r.work r.spared ≡ x)
+module _ (r : Inside) {x : Registered} (view : of_parts r.roads (items r.paths) r.batch r.work r.retained ≡ x)
     (none : x.kept.batch ≡ None) where
   abbrev M : Map
   M = map_of r.roads
@@ -72,7 +72,7 @@ module _ (r : Inside) {x : Registered} (view : of_parts r.roads (items r.paths) 
     by (Some b) h = absurd cc
 
   -- with another map that is the same
-  pub same_map : (later : RoadMap) → map_of later ≡ M → of_parts later is r.batch r.work r.spared ≡ x
+  pub same_map : (later : RoadMap) → map_of later ≡ M → of_parts later is r.batch r.work r.retained ≡ x
   same_map later map = rw (← view, shut, map) refl
 
   pub refused_now : (y : Change) (new : Registered) (q : Result Reply CommandFault) (f : CommandFault) → new ≡ x →
@@ -82,12 +82,12 @@ module _ (r : Inside) {x : Registered} (view : of_parts r.roads (items r.paths) 
   accepted_now : (y : Change) (later : RoadMap) (js : List Item) (v : Work) (m : ℕ) (q : Reply) (u : Totals) →
       with_change c y ≡ Ok (content_on (map_of later) js) →
       IsPaths (reply_of q) (Differences c (content_on (map_of later) js)) →
-      AreRises c (content_on (map_of later) js) (y ∷ []) (all_named js) u → AreCounted (map_of later) u r.work v r.spared m →
-      (IsFalse (encodes false (Make y)) → (v ≡ r.work) × (m ≡ r.spared)) →
+      AreRises c (content_on (map_of later) js) (y ∷ []) (all_named js) u → AreCounted (map_of later) u r.work v r.retained m →
+      (IsFalse (encodes false (Make y)) → (v ≡ r.work) × (m ≡ r.retained)) →
       Answered x (Make y) (Ok q) (of_parts later js r.batch v m)
   accepted_now y later js v m q u is_made reply raised counts same =
       let new : Registered = of_parts later js None v m in
-      rw (← view, shut) (answered_counted (of_parts r.roads is None r.work r.spared) new (Make y) q u
+      rw (← view, shut) (answered_counted (of_parts r.roads is None r.work r.retained) new (Make y) q u
       (in_states (kept_of r.roads is None) (Accepts new (Make y) q u)
       ((state (content_on (map_of later) js) None, (refl, tt), (ap at_once is_made, reply)), raised))
       counts same)
@@ -132,11 +132,11 @@ module _ (r : Inside) {x : Registered} (view : of_parts r.roads (items r.paths) 
       bare_right f placed bare bounded = rw bare (still_right (On_map e) later [] f placed (bare_ok bare) tt bounded)
 
       pub bare_done : (q : Reply) → is ≡ [] → reply_of q ≡ replies.Paths [] →
-          Answered x (Make (On_map e)) (Ok q) (of_parts later is r.batch r.work r.spared)
+          Answered x (Make (On_map e)) (Ok q) (of_parts later is r.batch r.work r.retained)
       bare_done q bare says =
-          subst (λ (ks : List Item). Answered x (Make (On_map e)) (Ok q) (of_parts later ks r.batch r.work r.spared)) (sym bare)
-          (accepted_now (On_map e) later [] r.work r.spared q no_totals (bare_ok bare) (rw says refl)
-          (record { affected = refl; spared = refl; queries = refl }) (counted_none (map_of later) r.work r.spared)
+          subst (λ (ks : List Item). Answered x (Make (On_map e)) (Ok q) (of_parts later ks r.batch r.work r.retained)) (sym bare)
+          (accepted_now (On_map e) later [] r.work r.retained q no_totals (bare_ok bare) (rw says refl)
+          (record { affected = refl; retained = refl; queries = refl }) (counted_none (map_of later) r.work r.retained)
           (λ off. let no : true ≡ false = off in absurd cc))
 
       module _ (t : ChangeSet) (noted : IsNotedOf M e t) where
@@ -164,7 +164,7 @@ module _ (r : Inside) {x : Registered} (view : of_parts r.roads (items r.paths) 
 
           pub edit_done : (q : Reply) → reply_of q ≡ replies.Paths (entries_of n) →
               Answered x (Make (On_map e)) (Ok q) (of_parts later js r.batch (raised_work r.work n.work)
-              (raised_count r.spared n.spared))
+              (raised_count r.retained n.retained))
           edit_done q says =
               let count = renewal.counted M can_edit.before in
               accepted_now (On_map e) later js _ _ q count.0 edit_ok
@@ -175,7 +175,7 @@ module _ (r : Inside) {x : Registered} (view : of_parts r.roads (items r.paths) 
               (λ y. noted.lines y ∙ ap (λ (ys : List ℕ). has ys y) (sym (append-nil (touched_lines e))))
               (noted.changed ∙ sym (append-nil (changes_of M e))) is count.0 count.1
               (given_at_first M is right.register.made) (all_named js) renewal.named)
-              (counted_on (map_of later) count.0 r.work n.work r.spared n.spared count.2)
+              (counted_on (map_of later) count.0 r.work n.work r.retained n.retained count.2)
               (λ off. let no : true ≡ false = off in absurd cc)
 
     -- ---- paths
@@ -193,12 +193,12 @@ module _ (r : Inside) {x : Registered} (view : of_parts r.roads (items r.paths) 
           }))
 
       pub drop_done : (q : Reply) → has_name is name ≡ true → js ≡ left → reply_of q ≡ replies.Paths [] →
-          Answered x (Make (Drop_path name)) (Ok q) (of_parts r.roads js r.batch r.work r.spared)
+          Answered x (Make (Drop_path name)) (Ok q) (of_parts r.roads js r.batch r.work r.retained)
       drop_done q there list says =
-          rw list (accepted_now (Drop_path name) r.roads left r.work r.spared q no_totals (drop_ok M is name there)
+          rw list (accepted_now (Drop_path name) r.roads left r.work r.retained q no_totals (drop_ok M is name there)
           (rw says (reported_drop M is name right.register.content right.register.made))
           (none_affected c (content_on M left) (Drop_path name ∷ []) (drop_affects c name) (all_named left))
-          (counted_none M r.work r.spared) (λ off. (refl, refl)))
+          (counted_none M r.work r.retained) (λ off. (refl, refl)))
 
       module _ (path : Path) (m : Made) (good : is_path path.lines ≡ true) (encoded : IsEncodingOf M path m)
         where
@@ -235,21 +235,21 @@ module _ (r : Inside) {x : Registered} (view : of_parts r.roads (items r.paths) 
                 all_lines (y ∷ []) ≡ [] → all_names (y ∷ []) ≡ name ∷ [] → path_named (all_named ks) name ≡ Some path →
                 Raises (state c None) (Make y) (state (content_on M ks) None) 1 →
                 Differences c (content_on M ks) es → encodes false (Make y) ≡ true →
-                Answered x (Make y) (Ok q) (of_parts r.roads js r.batch v r.spared)
+                Answered x (Make y) (Ok q) (of_parts r.roads js r.batch v r.retained)
             path_done y ks list ok placed nodes lines names there raised differ counted =
                 let d : Content = content_on M ks in
-                rw list (accepted_now y r.roads ks v r.spared q (record { affected = 1; spared = 0; queries = searches.queries }) ok
+                rw list (accepted_now y r.roads ks v r.retained q (record { affected = 1; retained = 0; queries = searches.queries }) ok
                 (rw says differ) (record {
                   affected = raised;
-                  spared = spares_none (state c None) (state d None) y name path before refl nodes lines names;
+                  retained = retains_none (state c None) (state d None) y name path before refl nodes lines names;
                   queries = searches_one (state c None) (state d None) y name path before refl nodes lines names
                       searches.queries (changes_keep c d y right.register.content placed ok).names there searches.those;
                 })
-                (counted_encoded M searches.queries r.work w r.spared one searches.counts)
+                (counted_encoded M searches.queries r.work w r.retained one searches.counts)
                 (λ off. let no : true ≡ false = sym counted ∙ off in absurd cc))
 
             pub add_done : has_name is name ≡ false → js ≡ added → es ≡ entry name m.answer ∷ [] →
-                Answered x (Make (Add_path name path)) (Ok q) (of_parts r.roads js r.batch v r.spared)
+                Answered x (Make (Add_path name path)) (Ok q) (of_parts r.roads js r.batch v r.retained)
             add_done free list listed =
                 let d : Content = content_on M added in
                 let ok = add_ok M is name path (Some m) free good in
@@ -260,7 +260,7 @@ module _ (r : Inside) {x : Registered} (view : of_parts r.roads (items r.paths) 
 
             pub set_done : has_name is name ≡ true → js ≡ replaced → ((answer_in is name ≡ Some m.answer) × (es ≡ []))
                 ⊎ ((answer_in is name ≢ Some m.answer) × (es ≡ entry name m.answer ∷ [])) →
-                Answered x (Make (Set_path name path)) (Ok q) (of_parts r.roads js r.batch v r.spared)
+                Answered x (Make (Set_path name path)) (Ok q) (of_parts r.roads js r.batch v r.retained)
             set_done there list listed =
                 let d : Content = content_on M replaced in
                 let ok = set_ok M is name path (Some m) there good in

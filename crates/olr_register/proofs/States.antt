@@ -10,11 +10,11 @@ abbrev pub state : Content → Option (List Change) → State
 state c o = record { content = c; batch = o }
 
 abbrev pub register_of : Content → Option Batch → Work → ℕ → Registered
-register_of c o w n = record { kept = record { content = c; batch = o }; work = w; spared = n }
+register_of c o w n = record { kept = record { content = c; batch = o }; work = w; retained = n }
 
 -- by the fields of the struct
 abbrev pub of_parts : RoadMap → List Item → Option Open → Work → ℕ → Registered
-of_parts roads is b w n = record { kept = kept_of roads is b; work = w; spared = n }
+of_parts roads is b w n = record { kept = kept_of roads is b; work = w; retained = n }
 
 -- what is true of a register, on the same map and list with another batch
 pub kept_moved : (old new : RoadMap) (is : List Item) (o p : Option Open) (near : DistanceBounds) →

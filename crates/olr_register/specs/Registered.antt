@@ -1,6 +1,6 @@
 -- A register as its callers see it, and what its calls promise of whole commands.
 --     Registered      the state that it represents, and the counts: the work, and how many of the counted
---         encodings were spared
+--         encodings were retained
 --     PublishedWhole c name made      what is published under a name, with traversed nodes and coverage queries
 --     HaveEncodings M ps xs      the names of the paths in order, each with an encoding of the path on the map.
 --     AllPublished c xs      the same for all paths of a content
@@ -22,7 +22,7 @@ use Rattle.olr_register.specs.RegisterState.{RegisterState, Represents, coded_ke
 pub record Registered : Type 0 where
   pub kept : RegisterState
   pub work : Work
-  pub spared : ℕ
+  pub retained : ℕ
 
 abbrev pub coded_work : Coded Work
 coded_work =
@@ -32,8 +32,8 @@ coded_work =
 abbrev pub coded_registered : Coded Registered
 coded_registered =
     code_by (RegisterState × (Work × ℕ)) (coded× coded_kept (coded× coded_work coded_ℕ))
-    (λ r. (r.kept, (r.work, r.spared)))
-    (λ t. record { kept = t.0; work = t.1.0; spared = t.1.1 }) (λ _. refl)
+    (λ r. (r.kept, (r.work, r.retained)))
+    (λ t. record { kept = t.0; work = t.1.0; retained = t.1.1 }) (λ _. refl)
 
 -- no paths, an empty map, and counts of 0
 abbrev pub nothing_registered : Registered
@@ -41,7 +41,7 @@ nothing_registered =
     record {
       kept = record { content = no_content; batch = None };
       work = no_work;
-      spared = 0;
+      retained = 0;
     }
 
 -- an encoding of the path on the map

@@ -17,7 +17,7 @@ impl Register {
     ghost use Rattle.olr_register.specs.BatchChanges.{change_of};
     ghost use Rattle.olr_register.specs.Registered.{Applied, Counted};
     ghost use Rattle.olr_register.specs.Answered.{Answered};
-    ghost use Rattle.olr_register.specs.CountChanges.{encodes, SparesCounted, SearchesCounted, NoneFalls, SameCounts};
+    ghost use Rattle.olr_register.specs.CountChanges.{encodes, RetainsCounted, SearchesCounted, NoneFalls, SameCounts};
 
     /// Holds a change in the open batch, or makes it at once if none is open.
     fn change(&mut self, change: Change) -> Result<Reply, CommandFault>
@@ -73,7 +73,7 @@ impl Register {
         ensures counted { OnOk result (Counted self.old (command_of command) self.new) }
         ensures unchanged { OnErr result (self.new ≡ self.old) }
         ensures sound { IsContent self.new.kept.content }
-        ensures spares { OnOk result (SparesCounted self.old (command_of command) self.new) }
+        ensures retains { OnOk result (RetainsCounted self.old (command_of command) self.new) }
         ensures searches { OnOk result (SearchesCounted self.old (command_of command) self.new) }
         ensures rises { OnOk result (NoneFalls self.old self.new) }
         ensures same { OnOk result

@@ -86,7 +86,7 @@ impl Register {
         };
         self.roads.keep(undo);
         self.work = self.work.plus(renewed.work);
-        self.spared = self.spared.saturating_add(renewed.spared);
+        self.retained = self.retained.saturating_add(renewed.retained);
         Ok(Reply::Paths(renewed.entries))
     }
 }

@@ -4,12 +4,12 @@
 mod apply;
 mod batch;
 mod batch_commands;
+mod bounds;
 mod change;
 mod dependents;
 mod dumps;
 mod edits;
 mod footprints;
-mod bounds;
 mod paths;
 mod questions;
 mod records;

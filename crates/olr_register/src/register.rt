@@ -21,7 +21,7 @@ pub struct Register {
     pub(crate) touched: ChangeSet,
     pub(crate) work: Work,
     /// How many of the counted encodings were not made, because the answer was retained.
-    pub(crate) spared: u64,
+    pub(crate) retained: u64,
     pub(crate) batch: Option<Batch>,
     /// Distance bounds, which show that no coverage query begins near an edit. While a batch is open, on the map before
     /// it.
@@ -37,7 +37,7 @@ impl Model for Register {
 
     ghost coded = { coded_registered };
 
-    ghost view = { λ r. record { kept = kept_of r.roads (items r.paths) r.batch; work = r.work; spared = r.spared } };
+    ghost view = { λ r. record { kept = kept_of r.roads (items r.paths) r.batch; work = r.work; retained = r.retained } };
 
     ghost invariant = { λ r. IsKeptRight r.roads (items r.paths) r.batch r.near };
 }
@@ -52,7 +52,7 @@ impl Drop for Register {
             searches,
             touched,
             work: _,
-            spared: _,
+            retained: _,
             batch,
             near,
         } = self;
@@ -83,7 +83,7 @@ impl Register {
             searches: Searches::new(alloc),
             touched: ChangeSet::new(alloc),
             work: Work::none(),
-            spared: 0,
+            retained: 0,
             batch: None,
             near: DistanceBounds::new(alloc),
         }
@@ -150,9 +150,9 @@ impl Register {
     }
 
     /// How many of the counted encodings were not made, because the answer was retained.
-    pub fn spared_count(&self) -> u64
-        ensures { result ≡ self.now.spared }
+    pub fn retained_count(&self) -> u64
+        ensures { result ≡ self.now.retained }
     {
-        self.spared
+        self.retained
     }
 }

@@ -109,7 +109,7 @@ fn assert_same_path(rt: &impl Abort, one: &Register, other: &Register, name: &st
 fn assert_alike(rt: &impl Abort, one: &Register, other: &Register) {
     assert!(rt; one.len() == other.len());
     assert!(rt; one.is_open() == other.is_open());
-    assert!(rt; (one.work(), one.spared_count()) == (other.work(), other.spared_count()));
+    assert!(rt; (one.work(), one.retained_count()) == (other.work(), other.retained_count()));
     for k in 0..one.len() {
         assert!(rt; one.name_at(k) == other.name_at(k));
         if let Some(name) = one.name_at(k) {
@@ -192,7 +192,7 @@ fn give_all(rt: &impl Abort, alloc: Global, register: &mut Register, twin: &mut 
             give(rt, alloc, register, twin, record);
         }
     }
-    assert!(rt; register.spared_count() > 0);
+    assert!(rt; register.retained_count() > 0);
     assert_alike(rt, register, twin);
 }
 

@@ -93,7 +93,7 @@ impl Pair {
     fn counts(&self) -> Rise {
         Rise {
             encodings: self.register.work().encodings,
-            spared: self.register.spared_count(),
+            retained: self.register.retained_count(),
             searches: self.register.work().searches,
         }
     }
@@ -103,8 +103,8 @@ impl Pair {
         let after = self.counts();
         let encodings = before.encodings.saturating_add(rise.encodings);
         assert!(rt; after.encodings == encodings, "encodings after {record}");
-        let spared = before.spared.saturating_add(rise.spared);
-        assert!(rt; after.spared == spared, "retained answers after {record}");
+        let retained = before.retained.saturating_add(rise.retained);
+        assert!(rt; after.retained == retained, "retained answers after {record}");
         let searches = before.searches.saturating_add(rise.searches);
         assert!(rt; after.searches == searches, "searches after {record}");
     }
@@ -287,7 +287,7 @@ impl Pair {
 
     /// How many encodings were counted, and how many of them retained their answer.
     pub fn encodings(&self) -> (u64, u64) {
-        (self.register.work().encodings, self.register.spared_count())
+        (self.register.work().encodings, self.register.retained_count())
     }
 
     /// Makes a ring of twelve nodes, some of its lines in both directions, and some short cuts.

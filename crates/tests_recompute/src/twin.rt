@@ -24,7 +24,7 @@ const MOST_CHANGED: usize = 8;
 #[derive(Clone, Copy, Default)]
 pub struct Rise {
     pub encodings: u64,
-    pub spared: u64,
+    pub retained: u64,
     pub searches: u64,
 }
 
@@ -212,7 +212,7 @@ impl Twin {
         rise.encodings = rise.encodings.saturating_add(1);
         let old = named.encoding(alloc, before)?;
         if !is_given && self.is_retained(alloc, named, &old)? {
-            rise.spared = rise.spared.saturating_add(1);
+            rise.retained = rise.retained.saturating_add(1);
             return Ok(());
         }
         let new = named.encoding(alloc, &self.roads)?;

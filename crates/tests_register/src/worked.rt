@@ -162,7 +162,7 @@ fn expect_iterated(rt: &impl Abort, register: &Register, names: &[&str]) {
 /// Asserts the number of encodings, and how many of them retained an answer.
 pub(crate) fn expect_counts(rt: &impl Abort, register: &Register, encodings: u64, kept: u64) {
     assert_eq!(rt; register.work().encodings, encodings);
-    assert_eq!(rt; register.spared_count(), kept);
+    assert_eq!(rt; register.retained_count(), kept);
 }
 
 /// The same at the end of a test. The register is dropped here; that is proved once, and not again in each test.

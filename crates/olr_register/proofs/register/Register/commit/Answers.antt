@@ -59,9 +59,9 @@ returns c =
     let count = e.renewed.counted old.map (can_commit s.roads is b s.near right).before in
     let n = c.in_ok-renewed.renewed in
     let r = reply.Paths n.entries in
-    let later : Registered = of_parts s.roads js None (raised_work s.work n.work) (raised_count s.spared n.spared) in
-    let spared : c.saturating_add-self-inside.result ≡ raised_count s.spared n.spared = omega arith in
-    rw (← c.self.view_is, c.in-Some.is, c.take.ensures.after, c.plus-self-inside.ensures, spared) (answered_counted _ later (Commit c.args.count) r count.0
+    let later : Registered = of_parts s.roads js None (raised_work s.work n.work) (raised_count s.retained n.retained) in
+    let retained : c.saturating_add-self-inside.result ≡ raised_count s.retained n.retained = omega arith in
+    rw (← c.self.view_is, c.in-Some.is, c.take.ensures.after, c.plus-self-inside.ensures, retained) (answered_counted _ later (Commit c.args.count) r count.0
     (in_states (record { content = old; batch = Some (batch_of s.roads is b) })
     (Accepts later (Commit c.args.count) r count.0) (λ xs i. (
       (
@@ -78,7 +78,7 @@ returns c =
       counted_changes old new xs (nodes_of b.touched) (lines_of b.touched) (changed_of b.touched) i.nodes i.lines
           i.changed (under_overlay is b.overlay) count.0 count.1 i.given (all_named js) e.renewed.named,
     )))
-    (counted_on M count.0 s.work n.work s.spared n.spared count.2) (λ off. let no : true ≡ false = off in absurd cc))
+    (counted_on M count.0 s.work n.work s.retained n.retained count.2) (λ off. let no : true ≡ false = off in absurd cc))
 
 pub returns-in_err-renewed : goal.returns-in_err-renewed
 returns-in_err-renewed c =

@@ -65,7 +65,7 @@ returns c =
     subst (λ (o : Option Batch). IsKeptRight r.roads (items r.paths) o r.near) (none_of r.batch (sym c.if-is_some.ensures))
     c.self.invariant in
     rw (← c.self.view_is, none_of r.batch (sym c.if-is_some.ensures))
-    (answered_shut (content_on (map_of r.roads) (items r.paths)) r.work r.spared (Depends c.args.nodes.now)
+    (answered_shut (content_on (map_of r.roads) (items r.paths)) r.work r.retained (Depends c.args.nodes.now)
     (reply.Names c.in_ok-names.names) refl (
       nodes_asked (map_of r.roads) (all_named (items r.paths)) c.args.nodes.now
           (sym c.are_nodes.ensures ∙ c.if-not-are_nodes.false),

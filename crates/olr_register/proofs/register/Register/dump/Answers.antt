@@ -28,7 +28,7 @@ pub returns : goal.returns
 returns c =
     let r = c.self.inside in
     rw (← c.self.view_is, none_of r.batch (sym c.if-is_some.ensures))
-    (answered_shut (content_on (map_of r.roads) (items r.paths)) r.work r.spared Dump (reply.Dump c.in_ok-dump_of.field-0) refl
+    (answered_shut (content_on (map_of r.roads) (items r.paths)) r.work r.retained Dump (reply.Dump c.in_ok-dump_of.field-0) refl
     (rw (← c.if-not-is_recordable.ensures), λ i. Dumped (c.in_ok-dump_of.ensures.0 i) (c.in_ok-dump_of.ensures.1 i)))
 
 pub returns-in_err-dump_of : goal.returns-in_err-dump_of

@@ -113,8 +113,8 @@ pub returns : goal.returns
 returns c =
     let r = c.self.inside in
     let k = c.in-Ok-renewed.ensures in
-    let spared : c.saturating_add-self-inside.result ≡ raised_count r.spared c.in-Ok-renewed.renewed.spared = omega arith in
-    rw (c.plus-self-inside.ensures, spared)
+    let retained : c.saturating_add-self-inside.result ≡ raised_count r.retained c.in-Ok-renewed.renewed.retained = omega arith in
+    rw (c.plus-self-inside.ensures, retained)
     (edit_done r c.self.view_is c.requires c.self.invariant (edit_of c.args.edit) c.keep.new.self
     (rw c.keep.ensures c.in_ok-undo.ensures.done) c.make_noted.new.touched c.in_ok-undo.ensures.noted
     (items c.renew-renewed.new.paths) c.in-Ok-renewed.renewed

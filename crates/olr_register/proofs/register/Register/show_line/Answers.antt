@@ -47,7 +47,7 @@ returns c =
     let r = c.self.inside in
     let d = c.in_ok-line_records.field-0 in
     rw (← c.self.view_is, none_of r.batch (sym c.if-is_some.ensures))
-    (answered_shut (content_on (map_of r.roads) (items r.paths)) r.work r.spared (Show_line c.args.id) (reply.Records d) refl (
+    (answered_shut (content_on (map_of r.roads) (items r.paths)) r.work r.retained (Show_line c.args.id) (reply.Records d) refl (
       line_shown (map_of r.roads) (all_named (items r.paths)) c.args.id
           (ap (λ (o : Option Line). is_some o) (sym c.line.ensures ∙ ap option_copied c.in-Some.is))
           (sym c.has_line_records.ensures ∙ c.if-not-has_line_records.false),

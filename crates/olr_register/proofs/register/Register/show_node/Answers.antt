@@ -46,7 +46,7 @@ returns c =
     let r = c.self.inside in
     let d = c.in_ok-node_records.field-0 in
     rw (← c.self.view_is, none_of r.batch (sym c.if-is_some.ensures))
-    (answered_shut (content_on (map_of r.roads) (items r.paths)) r.work r.spared (Show_node c.args.id) (reply.Records d) refl (
+    (answered_shut (content_on (map_of r.roads) (items r.paths)) r.work r.retained (Show_node c.args.id) (reply.Records d) refl (
       node_shown (map_of r.roads) (all_named (items r.paths)) c.args.id
           (ap (λ (o : Option Coord). is_some o) (sym c.node.ensures) ∙ c.is_none.ensures ∙ ap not c.if-is_none.false)
           (sym c.is_recordable_place.ensures ∙ c.if-not-is_recordable_place.false),
