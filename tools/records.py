@@ -26,7 +26,7 @@ from replies import read_reply
 UNITS = 10_000_000
 HEAD = re.compile(rb"ok,(\d{1,18})\r?\n")
 TOP = os.path.dirname(os.path.dirname(os.path.realpath(__file__)))
-QUESTIONS = ("show", "show-node", "show-line", "depends", "report", "explain", "dump")
+QUESTIONS = ("show", "show-node", "show-line", "depends", "report", "explain", "dump", "compact")
 NO_ANSWERS = ("show-node", "show-line", "depends", "explain", "dump")
 ENDS = ("commit", "abort")
 BESIDE = [os.path.join(TOP, name) for name in ("crates/olr_keep/out/olr_keep", "../../bin/olr-keep")]

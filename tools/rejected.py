@@ -44,6 +44,7 @@ FORMS = {
     "depends": ("NODE", "NODE"),
     "report": ("", ""),
     "dump": ("", ""),
+    "compact": ("", ""),
     "explain": ("TEXT", ""),
     "begin": ("", ""),
     "commit": ("COUNT", ""),

@@ -228,6 +228,7 @@ dumped_of c b t Dump count text i is h = grind (arith, when_ok, not-false, dumps
 dumped_of c (Some xs) t (Make x) count text i is h = absurd cc
 dumped_of c b t (Show_node v) count text i is h = absurd cc
 dumped_of c b t (Show_line x) count text i is h = absurd cc
+dumped_of c b t Compact count text i is h = absurd cc
 dumped_of c b t Begin count text i is h = absurd cc
 dumped_of c b t Abort count text i is h = absurd cc
 dumped_of c b t x count text i is h = absurd h

@@ -20,7 +20,7 @@ use Rattle.olr_commands.specs.State.{Named, Content, path_named, Fault, Syntax, 
 use Rattle.olr_commands.specs.State.{Bad_path, Not_a_reference, Memory, Batch_open, No_batch, Count_differs, Batch_full}
 use Rattle.olr_commands.specs.State.{Not_a_record, Dump}
 use Rattle.olr_commands.specs.State.{Change, On_map, Drop_path, State, Command, Make, Show, Report, Explain, Begin}
-use Rattle.olr_commands.specs.State.{Commit, Abort, Show_node, Show_line, Depends, step}
+use Rattle.olr_commands.specs.State.{Commit, Abort, Show_node, Show_line, Depends, Compact, step}
 use Rattle.olr_commands.specs.RecordText.{record_line}
 use Rattle.olr_commands.specs.Dump.{dump_lines, node_changes, line_changes}
 use Rattle.olr_commands.specs.Dependents.{Dependents}
@@ -116,6 +116,7 @@ IsReply s (Depends nodes) t reply = IsNames reply (Dependents s.content nodes)
 IsReply s Report t reply = IsPaths reply (AllOf s.content.map s.content.paths)
 IsReply s Dump t reply =
     reply ≡ Dumped (length (dump_lines s.content)) (concat (dump_lines s.content))
+IsReply s Compact t reply = reply ≡ Paths []
 IsReply s (Explain text) t reply = IsFields reply (Explained text)
 IsReply s Begin t reply = reply ≡ Paths []
 IsReply s (Commit count) t reply = IsPaths reply (Differences s.content t.content)
@@ -143,13 +144,14 @@ abbrev pub may_want : Result State Fault → Bool
 may_want (Ok t) = true
 may_want (Err fault) = not (is_reported_first fault)
 
--- opening and dropping a batch take no memory, nor does a path that is dropped outside of batches. Where there are no
+-- opening and dropping a batch take no memory, nor does `compact`, nor does a path that is dropped outside of batches. Where there are no
 -- paths, a report takes none, nor, outside of batches, an edit for which the map does not allocate. Each other command
 -- may be out of memory
 abbrev pub takes_memory : Command → Option (List Change) → Bool → Bool
 takes_memory (Make (Drop_path name)) None bare = false
 takes_memory (Make (On_map e)) None bare = not bare || allocates e
 takes_memory Report batch bare = not bare
+takes_memory Compact batch bare = false
 takes_memory Begin batch bare = false
 takes_memory Abort batch bare = false
 takes_memory c batch bare = true

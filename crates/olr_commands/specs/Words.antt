@@ -38,6 +38,7 @@ command_of (command.ShowLine x) = state.Show_line x
 command_of (command.Depends nodes) = state.Depends nodes.items
 command_of command.Report = state.Report
 command_of command.Dump = state.Dump
+command_of command.Compact = state.Compact
 command_of (command.Explain text) = state.Explain text.items
 command_of command.Begin = state.Begin
 command_of (command.Commit count) = state.Commit count

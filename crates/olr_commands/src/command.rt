@@ -25,6 +25,8 @@ pub enum Command {
     Report,
     /// Asks for the records that build the register from an empty one.
     Dump,
+    /// Asks that a log be replaced by a dump. A register has no log: nothing changes.
+    Compact,
     /// Asks for the fields of a reference, given as base64 text.
     Explain(Vec<u8>),
     /// Opens a batch, which holds the commands that follow.

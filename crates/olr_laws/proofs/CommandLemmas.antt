@@ -7,7 +7,7 @@ use Rattle.std.proofs.Common.{arith, ◌≡◌, ℕ, List, [], ◌∷◌, Option
 use Rattle.std.proofs.Common.{map, IsFalse, inl, inr, ◌⊎◌, ◌≢◌, suc, true, false, not, length, is_some, IsTrue, refl, ◌≤◌}
 use Rattle.olr_commands.specs.State.{Named, Content, ArePaths, IsContent, Change, State, Command, Make, Show, Report}
 use Rattle.olr_commands.specs.State.{Explain, Begin, Commit, Abort, IsState, Dump, Fault, HasCoords, step, path_named}
-use Rattle.olr_commands.specs.State.{Show_node, Show_line, Depends}
+use Rattle.olr_commands.specs.State.{Show_node, Show_line, Depends, Compact}
 use Rattle.olr_commands.specs.RecordText.{record_line}
 use Rattle.olr_commands.specs.State.{same_name, has_path, No_path, changes_made, start_state}
 use Rattle.olr_commands.specs.Reply.{Entry, entry, Reply, Fields, HasAnswer, AllOf, ChangedOf, Differences, Shown}
@@ -91,6 +91,7 @@ one_reply s t (Depends nodes) r q i j p g =
     one_names (Dependents s.content nodes) (one_dependents s.content nodes) r q p g
 one_reply s t Report r q i j p g = grind (arith, one_paths, one_all)
 one_reply s t Dump r q i j p g = p ∙ sym g
+one_reply s t Compact r q i j p g = p ∙ sym g
 one_reply s t (Explain text) r q i j p g = one_fields (Explained text) (one_explained text) r q p g
 one_reply s t Begin r q i j p g = p ∙ sym g
 one_reply s t (Commit count) r q i j p g = one_difference s.content t.content j.content r q p g
@@ -230,6 +231,7 @@ some_reply s t (Depends nodes) i h is n =
 some_reply s t Report i h is n = let es =
     some_all s.content.map i.content.map s.content.paths i.content.paths in (Paths es.0, es.1)
 some_reply s t Dump i h is n = (Dumped (length (dump_lines s.content)) (concat (dump_lines s.content)), refl)
+some_reply s t Compact i h is n = (Paths [], refl)
 some_reply s t (Explain text) i h is n = absurd (n text refl)
 some_reply s t Begin i h is n = (Paths [], refl)
 some_reply s t (Commit count) i h is n = let es =

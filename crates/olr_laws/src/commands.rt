@@ -8,7 +8,7 @@ ghost use Rattle.olr_commands.specs.Dump;
 ghost use Rattle.olr_commands.specs.State.{On_map, Add_path, Not_a_reference, Not_v3, Not_base64, Path_exists};
 ghost use Rattle.olr_commands.specs.State.{No_path, Batch_open, No_batch, Count_differs, Drop_path, Make, Show};
 ghost use Rattle.olr_commands.specs.State.{Report, Explain, Begin, Commit, Abort, start_state, step};
-ghost use Rattle.olr_commands.specs.State.{Show_node, Show_line, Depends};
+ghost use Rattle.olr_commands.specs.State.{Show_node, Show_line, Depends, Compact};
 ghost use Rattle.olr_commands.specs.Reply.{Paths, Held, Names, IsReply, takes_memory, may_lack};
 ghost use Rattle.olr_laws.specs.CommandLaws as Laws;
 ghost use Rattle.olr_laws.specs.CommandRows.{in_batch, path_a, with_a, with_node};
@@ -100,6 +100,14 @@ pub fn rows_questions()
     ensures line_of_batch { step (in_batch []) (Show_line 1) ≡ Err Batch_open }
     ensures batch_asked { step (in_batch []) (Depends (1 ∷ [])) ≡ Err Batch_open }
     ensures no_paths { IsReply with_node (Depends (1 ∷ [])) with_node (Names []) }
+{}
+
+/// A log that is to be replaced.
+pub fn rows_compact()
+    ensures same { step start_state Compact ≡ Ok start_state }
+    ensures of_batch { step (in_batch []) Compact ≡ Err Batch_open }
+    ensures reply { IsReply start_state Compact start_state (Paths []) }
+    ensures memory { may_lack start_state Compact ≡ false }
 {}
 
 /// Which commands may run out of memory.

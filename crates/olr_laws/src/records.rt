@@ -5,8 +5,8 @@ ghost use Rattle.olr_spec.specs.Map.{Add_node, Move_node, Drop_node, Add_line, S
 ghost use Rattle.olr_spec.specs.Map.{No_node, Line_exists, No_line, Node_in_use, Bad_shape};
 ghost use Rattle.olr_spec.specs.Encoding as encoding;
 ghost use Rattle.olr_spec.specs.Bytes as bytes;
-ghost use Rattle.olr_commands.specs.State.{On_map, Add_path, Set_path, Drop_path, Make, Show, Report, Dump, Explain};
-ghost use Rattle.olr_commands.specs.State.{Begin, Commit, Abort};
+ghost use Rattle.olr_commands.specs.State.{On_map, Add_path, Set_path, Drop_path, Make, Show, Report, Dump, Compact};
+ghost use Rattle.olr_commands.specs.State.{Explain, Begin, Commit, Abort};
 ghost use Rattle.olr_commands.specs.RecordText.{record_line};
 ghost use Rattle.olr_commands.specs.Reply as reply;
 ghost use Rattle.olr_commands.specs.State as state;
@@ -123,6 +123,7 @@ pub fn rows_paths()
         ≡ Err Bad_form }
     ensures report { read (codes "report" ∷ []) ≡ Ok Report }
     ensures dump { read (codes "dump" ∷ []) ≡ Ok Dump }
+    ensures compact { read (codes "compact" ∷ []) ≡ Ok Compact }
     ensures dump_more { read (codes "dump" ∷ codes "a" ∷ []) ≡ Err Bad_form }
     ensures report_more { read (codes "report" ∷ [] ∷ []) ≡ Err Bad_form }
     ensures explain { read (codes "explain" ∷ codes "*" ∷ []) ≡ Ok (Explain (codes "*")) }

@@ -10,7 +10,7 @@ use Rattle.olr_records.proofs.Common.{are_attributes, is_named_path, has_record,
 use Rattle.olr_records.proofs.Common.{is_latitude, unit7, are_coords, HasCoord, degrees-whole}
 use Rattle.std.proofs.Common.{◌≡◌, ℕ, ℤ, Bool, true, false, List, [], ◌∷◌, Option, Some, None, Ok, Err, IsTrue, refl}
 use Rattle.std.proofs.Common.{subst, length, nat_le, ◌&&◌, pos, negsuc, arith, ◌%◌}
-use Rattle.olr_commands.specs.State.{Command, Show, Show_node, Show_line, Depends, Report, Dump, Explain, Begin}
+use Rattle.olr_commands.specs.State.{Command, Show, Show_node, Show_line, Depends, Report, Dump, Compact, Explain, Begin}
 use Rattle.olr_commands.specs.State.{Commit, Abort, HasCoords}
 use Rattle.olr_coords.specs.Bounds.{is_degrees}
 use Rattle.olr_records.specs.Records.{digits, longitude, latitude, one, none, path_record, forms, read_by}
@@ -249,6 +249,7 @@ forms_pass =
     also depends_passes
     also none_passes Report tt
     also none_passes Dump tt
+    also none_passes Compact tt
     also tt
 
 recorded : (fields : List Field) → IfOk (read fields) Recorded

@@ -12,7 +12,7 @@ use Rattle.olr_spec.specs.Map.{ShapePoint, Line, Edit, Add_node, Move_node, Drop
 use Rattle.olr_spec.specs.Extension.{Path}
 use Rattle.olr_commands.specs.Recordable.{is_name}
 use Rattle.olr_commands.specs.State.{same_name, Fault, Syntax, Range, Change, On_map, Add_path, Set_path, Drop_path}
-use Rattle.olr_commands.specs.State.{Command, Make, Show, Show_node, Show_line, Depends, Report, Dump, Explain, Begin}
+use Rattle.olr_commands.specs.State.{Command, Make, Show, Show_node, Show_line, Depends, Report, Dump, Compact, Explain, Begin}
 use Rattle.olr_commands.specs.State.{Commit, Abort}
 
 -- the fields of a record, or one field, by their bytes
@@ -177,6 +177,7 @@ forms =
     ∷ (codes "depends", λ fs. depends_record fs)
     ∷ (codes "report", λ fs. none Report fs)
     ∷ (codes "dump", λ fs. none Dump fs)
+    ∷ (codes "compact", λ fs. none Compact fs)
     ∷ []
 
 abbrev pub read_by : List (Field × (List Field → Read Command)) → Field → List Field → Read Command

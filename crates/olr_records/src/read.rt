@@ -99,6 +99,8 @@ fn read_question(
         single_word(fields, Command::Report)
     } else if is(word, b"dump") {
         single_word(fields, Command::Dump)
+    } else if is(word, b"compact") {
+        single_word(fields, Command::Compact)
     } else {
         Err(ReadFault::Syntax)
     }

@@ -53,6 +53,7 @@ impl Register {
             Command::Depends(nodes) => self.depends(&nodes),
             Command::Report => self.report(),
             Command::Dump => self.dump(),
+            Command::Compact => self.compact(),
             Command::Explain(text) => self.explain(&text),
             Command::Begin => self.begin(),
             Command::Commit(count) => self.commit(count),

@@ -25,7 +25,7 @@ fn text_fault(fault: TextFault) -> CommandFault
 }
 
 impl Register {
-    ghost use Rattle.olr_commands.specs.State.{Show, Report, Explain};
+    ghost use Rattle.olr_commands.specs.State.{Show, Report, Compact, Explain};
     ghost use Rattle.olr_register.specs.Answered.{Answered};
 
     /// What is published of one path. `NoPath` takes precedence over `Memory`.
@@ -46,6 +46,17 @@ impl Register {
         ensures { Answered self.now Report result self.now }
     {
         Ok(Reply::Paths(self.paths.entries(self.alloc)?))
+    }
+
+    /// The reply where there is no log to replace. `BatchOpen` if a batch is open. Takes no memory.
+    #[inline(never)]
+    pub fn compact(&self) -> Result<Reply, CommandFault>
+        ensures { Answered self.now Compact result self.now }
+    {
+        if self.batch.is_some() {
+            return Err(CommandFault::BatchOpen);
+        }
+        Ok(Reply::Paths(Vec::new(self.alloc)))
     }
 
     /// The fields of the reference that this text encodes. If it encodes none, the fault says why; `Memory` if an

@@ -10,7 +10,7 @@ use Rattle.std.proofs.lemmas.List.Concat.{flat_map-append}
 use Rattle.olr_commands.specs.State.{Content, Change, Command, Make, Show, Report, Dump, Explain, Begin, Commit, Abort, State}
 use Rattle.olr_commands.specs.State.{Fault, Map_fault, with_change, after, step, step_in, start_state, full}
 use Rattle.olr_commands.specs.State.{has_path, is_recordable, text_fault, TextFault, unless_fault, No_path, Not_a_record}
-use Rattle.olr_commands.specs.State.{Show_node, Show_line, Depends}
+use Rattle.olr_commands.specs.State.{Show_node, Show_line, Depends, Compact}
 use Rattle.olr_commands.specs.Recordable.{has_node_record, has_line_records}
 use Rattle.std.specs.List.{list_all}
 use Rattle.olr_spec.specs.Map.{has_node, has_line as has_line_of}
@@ -256,6 +256,9 @@ module _ (k lines inner : List ℕ) (c : Content) (r : List Field) where
       follows_same k (record { ready = lines; batch = inner }) c None t
       (same_state c None t (not (is_recordable c)) Not_a_record is) h
   accepted (Some xs) Dump t e is h = absurd cc
+  accepted None Compact t e is h =
+      follows_same k (record { ready = lines; batch = inner }) c None t (let same : closed c ≡ t = cc in same) h
+  accepted (Some xs) Compact t e is h = absurd cc
   accepted b (Explain text) t e is h =
       follows_same k (record { ready = lines; batch = inner }) c b t (explained b (text_fault text) t is) h
   accepted None Begin t e is h = begun t e is h

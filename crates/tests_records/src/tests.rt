@@ -76,6 +76,7 @@ fn reads_each_record(rt: HostRuntime) -> Result<(), Fail> {
             ),
             ("report", "Ok(Report)"),
             ("dump", "Ok(Dump)"),
+            ("compact", "Ok(Compact)"),
             ("explain,*", "Ok(Explain([42]))"),
             ("explain,", "Ok(Explain([]))"),
             ("begin", "Ok(Begin)"),
