@@ -9,7 +9,7 @@ use Rattle.olr_spec.proofs.UndoLemmas.{empty_sound}
 use Rattle.olr_spec.specs.Joins.{Joined}
 use Rattle.olr_spec.proofs.JoinedAnswers.{joined}
 use Rattle.olr_commands.specs.State.{Named, Content, path_named, same_name, ArePaths, NamesDiffer, IsContent, Fault}
-use Rattle.olr_commands.specs.State.{Change, after, Command, Make, Begin, Commit, Abort, State, start_state, step}
+use Rattle.olr_commands.specs.State.{Change, after, Command, Make, Compact, Begin, Commit, Abort, State, start_state, step}
 use Rattle.olr_commands.specs.State.{changes_made, changes_made_in, IsState, Dump, Show_node, Show_line}
 use Rattle.olr_commands.specs.Reply.{Entry, entry, Paths, HasAnswer, Published, ChangedOf, Differences, IsReply}
 use Rattle.olr_commands.specs.Reply.{Outcome, IsOutcome, Dumped, Reply}

@@ -100,8 +100,8 @@ makes s x closed =
 module _ (s t : State) (x : Change) (name : List ℕ) (path : Path) (i : IsState s) (closed : s.batch ≡ None)
     (nodes : all_nodes s.content (x ∷ []) ≡ []) (lines : all_lines (x ∷ []) ≡ [])
     (names : all_names (x ∷ []) ≡ name ∷ []) where
-  pub retains_none : RaisesRetained s (Make x) t 0
-  retains_none = grind (arith, makes, none_retained)
+  pub raises_none : RaisesRetained s (Make x) t 0
+  raises_none = grind (arith, makes, none_retained)
 
   pub searches_one : (own : List CoverageQuery) → NamesDiffer t.content.paths →
       path_named t.content.paths name ≡ Some path → SearchedFor t.content.map path own → Searches s (Make x) t own

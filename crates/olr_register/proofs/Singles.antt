@@ -21,7 +21,7 @@ use Rattle.olr_paths.specs.declared.renewal.Renewed.{Renewed}
 use Rattle.olr_commands.specs.State.{IsState}
 use Rattle.olr_commands.specs.Reply.{IsPaths}
 use Rattle.olr_commands.specs.Counts.{Raises}
-use Rattle.olr_commands.proofs.SearchLemmas.{paths_raise, retains_none, searches_one, added_path, replaced_path}
+use Rattle.olr_commands.proofs.SearchLemmas.{paths_raise, raises_none, searches_one, added_path, replaced_path}
 use Rattle.olr_register.proofs.Changing.{add_ok, set_ok, drop_ok}
 use Rattle.olr_register.proofs.Counting.{AreRises, counted_changes, counted_on, none_affected}
 use Rattle.olr_paths.proofs.RenewedPrefix.{counted_encoded, counted_none, no_totals}
@@ -241,7 +241,7 @@ module _ (r : Inside) {x : Registered} (view : of_parts r.roads (items r.paths) 
                 rw list (accepted_now y r.roads ks v r.retained q (record { affected = 1; retained = 0; queries = searches.queries }) ok
                 (rw says differ) (record {
                   affected = raised;
-                  retained = retains_none (state c None) (state d None) y name path before refl nodes lines names;
+                  retained = raises_none (state c None) (state d None) y name path before refl nodes lines names;
                   queries = searches_one (state c None) (state d None) y name path before refl nodes lines names
                       searches.queries (changes_keep c d y right.register.content placed ok).names there searches.those;
                 })
