@@ -26,16 +26,22 @@ class Ended(NamedTuple):
     refused: int = 0
 
 
+def compile_library(name, folder):
+    """Compiles a file of checks/ to a library that can be loaded before the program. Returns the library's name."""
+    library = f"{folder}/{name[:-2]}.so"
+    compiler = f"{os.path.dirname(os.path.dirname(os.path.realpath(shutil.which('rt') or '/')))}/toolchain/bin/clang"
+    command = [compiler, "-fuse-ld=lld"] if os.path.exists(compiler) else [os.environ.get("CC", "cc")]
+    command += ["-O1", "-fno-builtin", "-shared", "-fPIC", "-nostdlib", "-o", library, f"{TOP}/checks/{name}"]
+    subprocess.run(command, check=True)
+    return library
+
+
 class Refuser:
     """Runs the program with `refuse.c` loaded before it."""
 
     def __init__(self):
         self.folder = tempfile.mkdtemp(prefix="olr-keep-")
-        self.library, self.counts = f"{self.folder}/refuse.so", f"{self.folder}/counts"
-        compiler = f"{os.path.dirname(os.path.dirname(os.path.realpath(shutil.which('rt') or '/')))}/toolchain/bin/clang"
-        command = [compiler, "-fuse-ld=lld"] if os.path.exists(compiler) else [os.environ.get("CC", "cc")]
-        command += ["-O1", "-fno-builtin", "-shared", "-fPIC", "-nostdlib", "-o", self.library, f"{TOP}/checks/refuse.c"]
-        subprocess.run(command, check=True)
+        self.library, self.counts = compile_library("refuse.c", self.folder), f"{self.folder}/counts"
 
     def __enter__(self):
         return self
