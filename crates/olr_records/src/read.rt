@@ -80,11 +80,7 @@ fn read_rarer(alloc: Global, word: &[u8], fields: &ByteRecord) -> Result<Command
 }
 
 /// The same, for the words of questions other than `explain`.
-fn read_question(
-    alloc: Global,
-    word: &[u8],
-    fields: &ByteRecord,
-) -> Result<Command, ReadFault>
+fn read_question(alloc: Global, word: &[u8], fields: &ByteRecord) -> Result<Command, ReadFault>
     ensures { IsRead (records.read_by (drop 13 records.forms) word.now (drop 1 (fields_of fields.now))) result }
 {
     if is(word, b"show") {

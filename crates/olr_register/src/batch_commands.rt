@@ -4,8 +4,8 @@ ghost use Rattle.olr_commands.specs.State.{Make, Begin, Commit, Abort};
 ghost use Rattle.olr_register.specs.BatchChanges.{change_of};
 
 use crate::batch::Batch;
-use crate::change::Change;
 use crate::bounds::renew;
+use crate::change::Change;
 use crate::register::Register;
 use olr_commands::{CommandFault, Reply};
 use olr_map::UndoLog;

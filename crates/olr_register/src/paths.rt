@@ -1,8 +1,8 @@
 //! Paths that are added, replaced or dropped at once, outside a batch.
 ghost use Rattle.olr_register.specs.BatchChanges.{path_by};
 
-use crate::change::{PathParts, path_unless};
 use crate::bounds::rebuild_bounds;
+use crate::change::{PathParts, path_unless};
 use crate::register::Register;
 use olr_commands::{CommandFault, Reply};
 use olr_paths::{add, set};

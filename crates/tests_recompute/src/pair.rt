@@ -104,7 +104,10 @@ impl Pair {
         let encodings = before.encodings.saturating_add(rise.encodings);
         assert!(rt; after.encodings == encodings, "encodings after {record}");
         let retained = before.retained.saturating_add(rise.retained);
-        assert!(rt; after.retained == retained, "retained answers after {record}");
+        assert!(rt;
+            after.retained == retained,
+            "retained answers after {record}"
+        );
         let searches = before.searches.saturating_add(rise.searches);
         assert!(rt; after.searches == searches, "searches after {record}");
     }
@@ -287,7 +290,10 @@ impl Pair {
 
     /// How many encodings were counted, and how many of them retained their answer.
     pub fn encodings(&self) -> (u64, u64) {
-        (self.register.work().encodings, self.register.retained_count())
+        (
+            self.register.work().encodings,
+            self.register.retained_count(),
+        )
     }
 
     /// Makes a ring of twelve nodes, some of its lines in both directions, and some short cuts.
