@@ -5,7 +5,7 @@ use Rattle.std.proofs.lemmas.List.{append-nil, append_cancel_left, drop_all, dro
 use Rattle.std.proofs.lemmas.Grind.{same_number_lists}
 use Rattle.sqlite_disk.specs.Disk.{Holds, Torn, Mixed, Cut}
 use Rattle.olr_journal.specs.Texts.{counts, is_own, recovered, text_of, padded}
-use Rattle.olr_journal.specs.Files.{text_in, kept_in, IsOpened, IsPadded, IsFound, Blanked, IsBlank}
+use Rattle.olr_journal.specs.Files.{text_in, kept_in, IsOpened, IsPadded, IsPaddedText, IsFound, Blanked, IsBlank}
 use Rattle.olr_journal.proofs.Fronts.{recovered_append, recovered_counts, spotted_from, spotted_none}
 use Rattle.olr_journal.proofs.Padding.{first_bytes, text_of_own, text_in_padded, text_of_first, front_is}
 
@@ -201,6 +201,11 @@ module _ (n : ℕ) (file : List ℕ) (short : n + 1 < length file) (is : IsPadde
   cut_twice_text once c first size second =
       ap text_of (cut_front once c first size second) ∙ text_then kept (drop (n + 1) c) is.whole (short_none (drop (n + 1) c) (omega (arith, length-drop (n + 1) c, second.no_longer, size)))
 
+  -- once all of it is cut off, the first line and the text are left
+  pub cut_twice_file : (once c : List ℕ) → Cut (n + 1 + 1) file once → length once ≡ n + 1 + 1 → Cut (n + 1) once c → length c ≡ n + 1 → c ≡ 10 ∷ kept
+  cut_twice_file once c first size second last =
+      cut_front once c first size second ∙ ap (λ (x : List ℕ). 10 ∷ (kept ++ x)) (drop_all (n + 1) c (omega (arith, last))) ∙ ap (λ (x : List ℕ). 10 ∷ x) (append-nil kept)
+
 foreign_text : (file : List ℕ) → is_own file ≡ false → text_of file ≡ file
 unfolding text_of
 foreign_text file foreign = cond-false _ _ _ foreign
@@ -209,3 +214,6 @@ foreign_text file foreign = cond-false _ _ _ foreign
 pub opened_text : (own : Bool) (n last len : ℕ) (clean : Bool) (file : List ℕ) → IsOpened own n last len clean file → clean ≡ true → text_of file ≡ kept_in own n file
 opened_text true n last len clean file opened told = found_text n last file (opened.found refl told)
 opened_text false n last len clean file opened told = foreign_text file (opened.foreign refl told)
+
+pub padded_text : (n : ℕ) (file : List ℕ) → n + 1 < length file → IsPadded n file → IsPaddedText (text_in n file) file
+padded_text n file short is = (length file - (n + 1), omega arith, is.is)

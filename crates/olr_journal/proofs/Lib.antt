@@ -5,3 +5,4 @@ pub mod Replacing
 pub mod Scans
 pub mod Reading
 pub mod Blanking
+pub mod Behind

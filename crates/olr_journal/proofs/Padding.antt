@@ -1,6 +1,6 @@
 -- What a crash leaves of a padded file.
 use Rattle.std.proofs.Common.{◌≡◌, inl, inr, ℕ, zero, suc, ◌+◌, ◌-◌, ◌≤◌, ◌<◌, true, List, [], ◌∷◌, ◌++◌, length, take, drop, get_or, replicate, refl, sym, ◌∙◌, ap, arith, length-append, length-drop, append_assoc, take-append-drop}
-use Rattle.std.proofs.lemmas.List.{append-nil, take_at, get_or-take, get_or-drop, get_or-replicate, length-replicate, get_or_append_left, get_or-append-add, drop_more, take_all, replicate-append-replicate, length-take-le}
+use Rattle.std.proofs.lemmas.List.{append-nil, take_at, get_or-take, get_or-drop, get_or-replicate, length-replicate, get_or-append-add, drop_more, take_all, replicate-append-replicate, length-take-le}
 use Rattle.std.proofs.lemmas.Grind.{same_number_lists}
 use Rattle.sqlite_disk.specs.Disk.{Holds, Torn, Mixed, Follows}
 use Rattle.olr_sessions.specs.Journals.{IsFront}

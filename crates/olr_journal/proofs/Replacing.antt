@@ -1,9 +1,8 @@
 -- What a `replace` leaves of a log.
-use Rattle.std.proofs.Common.{◌≡◌, ◌⊎◌, inl, inr, ℕ, ◌+◌, ◌-◌, ◌<◌, Bool, true, List, length, replicate, Option, Some, sym, ◌∙◌, ap, arith, length-append}
-use Rattle.std.proofs.lemmas.List.{length-replicate}
+use Rattle.std.proofs.Common.{◌≡◌, ◌⊎◌, inl, inr, ℕ, ◌+◌, ◌-◌, ◌<◌, Bool, true, List, length, replicate, Option, Some, sym, ◌∙◌, ap, arith}
 use Rattle.sqlite_disk.specs.Disk.{Only}
 use Rattle.olr_journal.specs.Texts.{counts, text_of, padded}
-use Rattle.olr_journal.specs.Files.{text_in, IsPadded}
+use Rattle.olr_journal.specs.Files.{text_in}
 use Rattle.olr_journal.specs.Outcomes.{LeavesText, MayLeave}
 use Rattle.olr_journal.proofs.Padding.{text_in_padded, text_of_padded}
 

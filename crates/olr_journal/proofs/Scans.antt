@@ -136,6 +136,9 @@ returns_more last x returns i low within = elim (cases_lt i (length x)) [
   | inr past ↦ let end : i ≡ length x + 0 = omega (arith, length-append x (13 ∷ [])) in ap (λ (j : ℕ). get_or (x ++ 13 ∷ []) j 0) end ∙ get_or-append-add x (13 ∷ []) 0 0
 ]
 
+last_more : (last : ℕ) (x : List ℕ) (b : ℕ) → last ≤ length x → (0 < last → get_or x (last - 1) 0 ≡ 13 → ⊥) → 0 < last → get_or (x ++ b ∷ []) (last - 1) 0 ≡ 13 → ⊥
+last_more last x b within exact some is = exact some (sym (get_or_append_left x (b ∷ []) 0 (last - 1) (omega arith)) ∙ is)
+
 -- where whole records end, behind a line that ends
 line_found : (o : Bool) (begun x : List ℕ) (s : StandsAt o begun x) (later : Bool) → later ≡ stays_open o s.line → (at found new : ℕ) → at ≡ length x → found ≤ length x → take found x ≡ recovered x
     → (((not later && not (is_empty begun)) ≡ true) × (new ≡ at + 1)) ⊎ (((not later && not (is_empty begun)) ≡ false) × (new ≡ found)) → (take new (x ++ 10 ∷ []) ≡ recovered (x ++ 10 ∷ [])) × (new ≤ length (x ++ 10 ∷ []))
@@ -166,12 +169,32 @@ module _ (s new : Scan) (x : List ℕ) (known : Scanned s x) (at : new.at ≡ s.
     within = omega (arith, found, known.within, size 13);
     reach = omega (arith, last, known.reach, size 13);
     returns = λ i low within. returns_more s.last x known.returns i (omega (arith, last, low)) within;
+    exact = subst (λ (n : ℕ). 0 < n → get_or (x ++ 13 ∷ []) (n - 1) 0 ≡ 13 → ⊥) (sym last) (last_more s.last x 13 known.reach known.exact);
     over = λ _ more. ap recovered (append_assoc x (13 ∷ []) more) ∙ recovered_stop x more ∙ sym (recovered_stop x []);
     stands = λ not_over. absurd (cc (over, not_over));
   })
 
   no_returns : (b : ℕ) → new.last ≡ s.at + 1 → (i : ℕ) → new.last ≤ i → i < length (x ++ b ∷ []) → get_or (x ++ b ∷ []) i 0 ≡ 13
   no_returns b last i low within = absurd (omega (arith, last, low, within, size b, known.at))
+
+  ends_here : (b : ℕ) → new.last ≡ s.at + 1 → (b ≡ 13 → ⊥) → 0 < new.last → get_or (x ++ b ∷ []) (new.last - 1) 0 ≡ 13 → ⊥
+  ends_here b last no_return some is =
+      let place : new.last - 1 ≡ length x + 0 = omega (arith, last, known.at) in
+      let here : get_or (x ++ b ∷ []) (new.last - 1) 0 ≡ b = ap (λ (j : ℕ). get_or (x ++ b ∷ []) j 0) place ∙ get_or-append-add x (b ∷ []) 0 0 in
+      no_return (sym here ∙ is)
+
+  -- behind a carriage return nothing counts
+  pub scanned_over : (b : ℕ) → new.found ≡ s.found → new.last ≡ s.at + 1 → new.is_over ≡ s.is_over → s.is_over ≡ true → (b ≡ 13 → ⊥) → Scanned new (x ++ b ∷ [])
+  scanned_over b found last same over no_return = record {
+    at = at ∙ ap (λ (n : ℕ). n + 1) known.at ∙ sym (size b);
+    found = ap (λ (n : ℕ). take n (x ++ b ∷ [])) found ∙ found_more s.found x (b ∷ []) known.within known.found (known.over over (b ∷ []));
+    within = omega (arith, found, known.within, size b);
+    reach = omega (arith, last, known.at, size b);
+    returns = no_returns b last;
+    exact = ends_here b last no_return;
+    over = λ _ more. ap recovered (append_assoc x (b ∷ []) more) ∙ known.over over (b ∷ more) ∙ sym (known.over over (b ∷ []));
+    stands = λ not_over. absurd (cc (over, same, not_over));
+  }
 
   pub scanned_byte : (b : ℕ) → new.found ≡ s.found → new.last ≡ s.at + 1 → new.is_over ≡ s.is_over → s.is_over ≡ false → new.is_open ≡ s.is_open → (b ≡ 10 → ⊥) → (b ≡ 13 → ⊥)
       → ((line : List ℕ) → take 8 line ≡ s.begun.items → take 8 (line ++ b ∷ []) ≡ new.begun.items) → Scanned new (x ++ b ∷ [])
@@ -183,6 +206,7 @@ module _ (s new : Scan) (x : List ℕ) (known : Scanned s x) (at : new.at ≡ s.
         within = omega (arith, found, known.within, size b);
         reach = omega (arith, last, known.at, size b);
         returns = no_returns b last;
+        exact = ends_here b last no_return;
         over = λ over. absurd (cc (goes, same, over));
         stands = λ _. subst (λ (o : Bool). StandsAt o new.begun.items (x ++ b ∷ [])) (sym opened) (byte_stands s.is_open s.begun.items new.begun.items x b stands no_feed no_return (front stands.line stands.front));
       }
@@ -207,6 +231,7 @@ module _ (s new : Scan) (x : List ℕ) (known : Scanned s x) (at : new.at ≡ s.
         within = ends.1;
         reach = omega (arith, last, known.at, size 10);
         returns = no_returns 10 last;
+        exact = ends_here 10 last (λ never. omega (arith, never));
         over = λ over. absurd (cc (goes, same, over));
         stands = λ _. subst (λ (o : Bool). StandsAt o new.begun.items (x ++ 10 ∷ [])) (sym open_is)
             (subst (λ (begun : List ℕ). StandsAt (stays_open s.is_open stands.line) begun (x ++ 10 ∷ [])) (sym begun) (line_stands s.is_open s.begun.items x stands));
@@ -222,4 +247,7 @@ found_from_scan s file known own some = record {
   returns = λ i low within.
       let place : 1 + (i - 1) ≡ i = omega (arith, low) in
       ap (λ (j : ℕ). get_or file j 0) (sym place) ∙ sym (get_or-drop 1 file (i - 1) 0) ∙ known.returns (i - 1) (omega (arith, low)) (omega (arith, low, within, length-drop 1 file));
+  exact = λ above is.
+      let place : 1 + (s.last - 1) ≡ s.last = omega (arith, above) in
+      known.exact above (get_or-drop 1 file (s.last - 1) 0 ∙ ap (λ (j : ℕ). get_or file j 0) place ∙ is);
 }

@@ -1,9 +1,14 @@
 -- How the file of a log stands between calls, and how it changes.
 --     text_in n file      n bytes behind the first line
 --     IsPadded n file      the program's own file, whose text has n bytes and counts
+--     IsPaddedText text file      the program's own file, with this text and carriage returns behind it
 --     KeepsFirst n old new      no byte of the first n is gone or another
 use Rattle.std.specs.Prelude.{◌≡◌, ◌⊎◌, ℕ, ◌+◌, ◌-◌, ◌<◌, ◌≤◌, max, Bool, true, false, if◌then◌else◌, List, length, take, drop, slice_index}
 use Rattle.olr_journal.specs.Texts.{counts, padded, is_own, recovered}
+
+-- a text behind an empty line, and before one carriage return at least
+abbrev pub IsPaddedText : List ℕ → List ℕ → Type 0
+IsPaddedText text file = (k : ℕ) × (0 < k) × (file ≡ padded text k)
 
 abbrev pub text_in : ℕ → List ℕ → List ℕ
 text_in n file = take n (drop 1 file)
@@ -20,13 +25,15 @@ pub record KeepsFirst (n : ℕ) (old new : List ℕ) : Type 0 where
   pub no_shorter : length old ≤ length new
   pub below : (i : ℕ) → i < length old → i < n → slice_index new i ≡ slice_index old i
 
--- the program's own file, whose text has n bytes. None but carriage returns stand from the byte `last` behind its first line on
+-- the program's own file, whose text has n bytes. From the byte `last` behind its first line on there are none but carriage returns,
+-- and the byte before isn't one
 pub record IsFound (n last : ℕ) (file : List ℕ) : Type 0 where
   pub own : is_own file ≡ true
   pub text : recovered (drop 1 file) ≡ text_in n file
   pub within : n + 1 ≤ length file
   pub reach : last + 1 ≤ length file
   pub returns : (i : ℕ) → last + 1 ≤ i → i < length file → slice_index file i ≡ 13
+  pub exact : 0 < last → slice_index file last ≡ 13 → ⊥
 
 -- each byte of a range is as it was, or a carriage return; what lies past the old end may be anything, and the rest is as it was
 pub record Blanked (from to : ℕ) (old new : List ℕ) : Type 0 where

@@ -13,10 +13,20 @@ module _ {D F : Type 0} {d : disk.Ghosts D} {f : folder.Ghosts F D} where
   abbrev pub left_of : LogFile D F d f → List ℕ → Type 0
   left_of log = MayLeave d.is_clean d.may_leave (f.may_lead log.folder) log.number log.disk log.rival
 
+  abbrev pub file_of : LogFile D F d f → List ℕ
+  file_of log = d.seen log.disk
+
+  abbrev pub is_own_of : LogFile D F d f → Bool
+  is_own_of log = log.is_own
+
+  -- records can be written behind the text
+  abbrev pub is_ready : LogFile D F d f → Bool
+  is_ready log = log.is_settled
+
   -- the disk has told no lie
   abbrev pub is_clean : LogFile D F d f → Bool
   is_clean log = d.is_clean log.disk
 
   -- what stands behind the text of an opened log, up to the last byte that isn't a carriage return
   abbrev pub left_over_of : LogFile D F d f → List ℕ
-  left_over_of log = if log.is_settled || not log.is_own then [] else take (log.last + 1 - (log.text_len + 1)) (drop (log.text_len + 1) (d.seen log.disk))
+  left_over_of log = if log.is_settled || log.is_broken || not log.is_own then [] else take (log.last + 1 - (log.text_len + 1)) (drop (log.text_len + 1) (d.seen log.disk))

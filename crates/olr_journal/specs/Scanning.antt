@@ -1,5 +1,5 @@
 -- What is known of a text while it is read for the end of its whole records.
-use Rattle.std.specs.Prelude.{◌≡◌, ℕ, ◌<◌, ◌≤◌, Bool, true, false, List, [], ◌∷◌, ◌++◌, length, take, slice_index}
+use Rattle.std.specs.Prelude.{◌≡◌, ℕ, ◌-◌, ◌<◌, ◌≤◌, Bool, true, false, List, [], ◌∷◌, ◌++◌, length, take, slice_index}
 use Rattle.olr_sessions.specs.Journals.{is_whole_from, is_empty}
 use Rattle.olr_journal.specs.Texts.{ends_blank, recovered}
 use Rattle.olr_journal.specs.declared.scan.Scan.{Scan}
@@ -17,5 +17,6 @@ pub record Scanned (s : Scan) (text : List ℕ) : Type 0 where
   pub within : s.found ≤ length text
   pub reach : s.last ≤ length text
   pub returns : (i : ℕ) → s.last ≤ i → i < length text → slice_index text i ≡ 13
+  pub exact : 0 < s.last → slice_index text (s.last - 1) ≡ 13 → ⊥
   pub over : s.is_over ≡ true → (more : List ℕ) → recovered (text ++ more) ≡ recovered text
   pub stands : s.is_over ≡ false → StandsAt s.is_open s.begun.items text

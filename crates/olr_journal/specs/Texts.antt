@@ -2,9 +2,10 @@
 --     recovered text      the longest front of a text that consists of whole records, and doesn't end in an empty line
 --     text_of file      the text with which a run over a file begins: of the program's own file, what is recovered behind its
 --                       empty first line; of another file, all of it
+--     left_behind file      what stands behind that text, without the carriage returns at its end
 --     padded text n      the program's own file: an empty first line, a text, and n carriage returns
 use Rattle.std.specs.Prelude.{ℕ, zero, suc, Bool, false, not, ◌==◌, ◌&&◌, if◌then◌else◌, List, [], ◌∷◌, ◌++◌, length, take, drop, replicate}
-use Rattle.olr_sessions.specs.Journals.{is_whole}
+use Rattle.olr_sessions.specs.Journals.{is_whole, is_empty}
 
 -- a text ends in an empty line, behind a byte
 abbrev pub ends_blank_behind : ℕ → List ℕ → Bool
@@ -34,6 +35,13 @@ is_own (b ∷ bs) = b == 10
 
 unfoldable pub text_of : List ℕ → List ℕ
 text_of file = if is_own file then recovered (drop 1 file) else file
+
+abbrev pub unpadded : List ℕ → List ℕ
+unpadded [] = []
+unpadded (b ∷ bs) = if b == 13 && is_empty (unpadded bs) then [] else b ∷ unpadded bs
+
+unfoldable pub left_behind : List ℕ → List ℕ
+left_behind file = if is_own file then unpadded (drop (length (text_of file)) (drop 1 file)) else []
 
 abbrev pub padded : List ℕ → ℕ → List ℕ
 padded text n = 10 ∷ text ++ replicate n 13

@@ -1,9 +1,10 @@
 //! Opening a log, and closing it.
 
-ghost use Rattle.std.specs.Prelude.{◌≡◌, ◌⊎◌, ◌+◌, true, false, ℕ, List, ◌∷◌, IsTrue, IfOk, OnOk};
+ghost use Rattle.std.specs.Prelude.{◌≡◌, ◌⊎◌, ◌+◌, true, false, ℕ, List, ◌∷◌, length, IsTrue, IfOk, OnOk};
 ghost use Rattle.std.specs.Io.KnownBytes.{Appends};
 ghost use Rattle.olr_sessions.specs.Journals.{Only};
-ghost use Rattle.olr_journal.specs.Texts.{text_of};
+ghost use Rattle.olr_journal.specs.Texts.{text_of, is_own, left_behind};
+ghost use Rattle.olr_journal.specs.Files.{IsPaddedText};
 
 use crate::folder::Folder;
 use crate::log_file::LogFile;
@@ -15,13 +16,17 @@ use std::io;
 use std::io::Write;
 
 impl<D: Disk + Drop, F: Folder<D>> LogFile<D, F> {
-    ghost use Rattle.olr_journal.specs.Logs.{kept_of, left_over_of, left_of, is_clean};
+    ghost use Rattle.olr_journal.specs.Logs.{kept_of, file_of, is_own_of, is_ready, left_over_of, left_of, is_clean};
 
     /// Syncs the file and finds the end of its text. It changes nothing. A text of `compact_at` bytes or more is to be replaced.
     pub fn open(alloc: Global, disk: D, folder: F, compact_at: usize) -> io::Result<LogFile<D, F>>
         requires usable { IsTrue (D.Disk.is_usable disk) }
         requires named { (n : ℕ) → F.Folder.may_lead folder n → n ≡ 0 }
         ensures text { IfOk result (λ log. is_clean log ≡ true → kept_of log ≡ text_of (D.Disk.seen disk)) }
+        ensures own { IfOk result (λ log. is_clean log ≡ true → is_own_of log ≡ is_own (D.Disk.seen disk)) }
+        ensures rest { IfOk result (λ log. is_clean log ≡ true → left_over_of log ≡ left_behind (D.Disk.seen disk)) }
+        ensures same { IfOk result (λ log. file_of log ≡ D.Disk.seen disk) }
+        ensures unready { IfOk result (λ log. is_ready log ≡ false) }
         ensures durable { IfOk result (λ log. Only (kept_of log) (left_of log)) }
     {
         let mut disk = disk;
@@ -52,13 +57,17 @@ impl<D: Disk + Drop, F: Folder<D>> LogFile<D, F> {
 
     /// Whether the file begins with the empty line of the program's own files. If not, all of it is its text, and `replace` has
     /// to give it its own form before anything is kept.
-    pub fn is_own(&self) -> bool {
+    pub fn is_own(&self) -> bool
+        ensures { result ≡ is_own_of self.now }
+    {
         self.is_own
     }
 
     /// How many bytes stand behind the text, up to the last that isn't a carriage return. They were never answered.
-    pub fn left_over(&self) -> usize {
-        if self.is_settled || !self.is_own {
+    pub fn left_over(&self) -> usize
+        ensures { is_clean self.now ≡ true → result ≡ length (left_over_of self.now) }
+    {
+        if self.is_settled || self.is_broken || !self.is_own {
             return 0;
         }
         self.last.saturating_sub(self.text_len)
@@ -87,6 +96,8 @@ impl<D: Disk + Drop, F: Folder<D>> LogFile<D, F> {
     /// Overwrites what stands behind the text by carriage returns, and syncs. From then on records can be kept.
     pub fn settle(&mut self) -> io::Result<()>
         ensures kept { OnOk result (is_clean self.new ≡ true → kept_of self.new ≡ kept_of self.old) }
+        ensures ready { OnOk result (is_ready self.new ≡ true) }
+        ensures padded { OnOk result (is_clean self.new ≡ true → IsPaddedText (kept_of self.old) (file_of self.new)) }
         ensures durable { OnOk result (Only (kept_of self.new) (left_of self.new)) }
         ensures cut { (c : List ℕ) → left_of self.new c → left_of self.old c ⊎ (c ≡ kept_of self.old) }
     {
@@ -126,8 +137,12 @@ impl<D: Disk + Drop, F: Folder<D>> LogFile<D, F> {
         Ok(text)
     }
 
-    /// Cuts the padding off. Nothing more can be kept.
+    /// Cuts the padding off. Nothing more can be kept. A log that isn't settled stays as it is.
     pub fn close(&mut self) -> io::Result<()>
+        ensures closed { OnOk result (is_ready self.old ≡ true → is_clean self.new ≡ true → file_of self.new ≡ 10 ∷ kept_of self.old) }
+        ensures durable { OnOk result (is_ready self.old ≡ true → Only (kept_of self.old) (left_of self.new)) }
+        ensures same { is_ready self.old ≡ false → file_of self.new ≡ file_of self.old }
+        ensures unready { is_ready self.new ≡ false }
         ensures cut { (c : List ℕ) → left_of self.new c → left_of self.old c ⊎ (c ≡ kept_of self.old) }
     {
         if !self.is_settled {
@@ -137,6 +152,7 @@ impl<D: Disk + Drop, F: Folder<D>> LogFile<D, F> {
         self.is_broken = true;
         let end = self.text_len + 1;
         cut(&mut self.disk, end + 1)?;
-        cut(&mut self.disk, end)
+        cut(&mut self.disk, end)?;
+        Ok(())
     }
 }

@@ -1,7 +1,8 @@
 use Rattle.std.proofs.Common.{None, sym, ◌∙◌, ap}
-use Rattle.olr_journal.specs.Texts.{text_of}
+use Rattle.olr_journal.specs.Texts.{is_own, text_of, left_behind}
 use Rattle.olr_journal.proofs.Keeping.{led_here}
 use Rattle.olr_journal.proofs.Blanking.{opened_text}
+use Rattle.olr_journal.proofs.Behind.{opened_own, opened_left}
 use Rattle.olr_journal.proofs.log_file.LogFile.open.Goals as goal
 
 pub invariant_of-result : goal.invariant_of-result
@@ -21,6 +22,16 @@ pub returns-clause-text : goal.returns-clause-text
 returns-clause-text g c clean =
     let ends = c.in_ok-ends.ends in
     sym (opened_text ends.own ends.text_len ends.last ends.file_len (g.D.Disk.is_clean c.examine.new.disk) (g.D.Disk.seen c.examine.new.disk) c.in_ok-ends.ensures.opened clean) ∙ ap text_of c.examine.ensures.seen
+
+pub returns-clause-own : goal.returns-clause-own
+returns-clause-own g c clean =
+    let ends = c.in_ok-ends.ends in
+    opened_own ends.own ends.text_len ends.last ends.file_len (g.D.Disk.is_clean c.examine.new.disk) (g.D.Disk.seen c.examine.new.disk) c.in_ok-ends.ensures.opened clean ∙ ap is_own c.examine.ensures.seen
+
+pub returns-clause-rest : goal.returns-clause-rest
+returns-clause-rest g c clean =
+    let ends = c.in_ok-ends.ends in
+    opened_left ends.own ends.text_len ends.last ends.file_len (g.D.Disk.is_clean c.examine.new.disk) (g.D.Disk.seen c.examine.new.disk) c.in_ok-ends.ensures.opened clean ∙ ap left_behind c.examine.ensures.seen
 
 pub returns-clause-durable : goal.returns-clause-durable
 returns-clause-durable g c text left =

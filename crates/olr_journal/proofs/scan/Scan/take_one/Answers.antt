@@ -1,10 +1,14 @@
 use Rattle.std.proofs.Common.{rules, refl, ◌∙◌}
-use Rattle.olr_journal.proofs.Scans.{scanned_return, scanned_byte, scanned_line, front_more, front_same}
+use Rattle.olr_journal.proofs.Scans.{scanned_return, scanned_over, scanned_byte, scanned_line, front_more, front_same}
 use Rattle.olr_journal.proofs.scan.Scan.take_one.Goals as goal
 
 pub returns-then-byte-eq13-clause-text : goal.returns-then-byte-eq13-clause-text
 returns-then-byte-eq13-clause-text c text known =
     scanned_return c.args.self.now _ text known refl c.args.byte c.if-byte-eq13.true refl refl refl
+
+pub returns-then-self-clause-text : goal.returns-then-self-clause-text
+returns-then-self-clause-text c text known =
+    scanned_over c.args.self.now _ text known refl c.args.byte refl refl refl c.if-self.true c.if-byte-eq13.false
 
 pub returns-in_ok-push-clause-text : goal.returns-in_ok-push-clause-text
 returns-in_ok-push-clause-text c text known =
