@@ -5,3 +5,4 @@ pub mod Reads
 pub mod Noting
 pub mod Outcomes
 pub mod Logs
+pub mod Places

@@ -1,5 +1,6 @@
 -- What a log keeps, and the texts with which the next run may begin.
-use Rattle.std.specs.Prelude.{ℕ, ◌+◌, ◌-◌, Bool, not, ◌||◌, if◌then◌else◌, List, [], take, drop}
+use Rattle.std.specs.Prelude.{ℕ, ◌+◌, ◌-◌, Bool, not, ◌||◌, if◌then◌else◌, Option, List, [], take, drop}
+use Rattle.std.specs.declared.io.Error.{Error}
 use Rattle.sqlite_disk.specs.declared.Disk as disk
 use Rattle.olr_journal.specs.declared.folder.Folder as folder
 use Rattle.olr_journal.specs.declared.log_file.LogFile.{LogFile}
@@ -15,6 +16,13 @@ module _ {D F : Type 0} {d : disk.Ghosts D} {f : folder.Ghosts F D} where
 
   abbrev pub file_of : LogFile D F d f → List ℕ
   file_of log = d.seen log.disk
+
+  abbrev pub folder_of : LogFile D F d f → F
+  folder_of log = log.folder
+
+  -- why the text was not replaced, the last time
+  abbrev pub refusal_of : LogFile D F d f → Option Error
+  refusal_of log = log.refusal
 
   abbrev pub is_own_of : LogFile D F d f → Bool
   is_own_of log = log.is_own

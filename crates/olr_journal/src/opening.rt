@@ -16,7 +16,7 @@ use std::io;
 use std::io::Write;
 
 impl<D: Disk + Drop, F: Folder<D>> LogFile<D, F> {
-    ghost use Rattle.olr_journal.specs.Logs.{kept_of, file_of, is_own_of, is_ready, left_over_of, left_of, is_clean};
+    ghost use Rattle.olr_journal.specs.Logs.{kept_of, file_of, folder_of, refusal_of, is_own_of, is_ready, left_over_of, left_of, is_clean};
 
     /// Syncs the file and finds the end of its text. It changes nothing. A text of `compact_at` bytes or more is to be replaced.
     pub fn open(alloc: Global, disk: D, folder: F, compact_at: usize) -> io::Result<LogFile<D, F>>
@@ -27,6 +27,7 @@ impl<D: Disk + Drop, F: Folder<D>> LogFile<D, F> {
         ensures rest { IfOk result (λ log. is_clean log ≡ true → left_over_of log ≡ left_behind (D.Disk.seen disk)) }
         ensures same { IfOk result (λ log. file_of log ≡ D.Disk.seen disk) }
         ensures unready { IfOk result (λ log. is_ready log ≡ false) }
+        ensures folder { IfOk result (λ log. folder_of log ≡ folder) }
         ensures durable { IfOk result (λ log. Only (kept_of log) (left_of log)) }
     {
         let mut disk = disk;
@@ -51,7 +52,9 @@ impl<D: Disk + Drop, F: Folder<D>> LogFile<D, F> {
     }
 
     /// The folder of the log.
-    pub fn folder(&self) -> &F {
+    pub fn folder(&self) -> &F
+        ensures { result.now ≡ folder_of self.now }
+    {
         &self.folder
     }
 
@@ -77,6 +80,8 @@ impl<D: Disk + Drop, F: Folder<D>> LogFile<D, F> {
     pub fn copy_left_over<W: Write>(&mut self, alloc: Global, to: &mut W) -> io::Result<()>
         ensures copied { OnOk result (is_clean self.new ≡ true → Appends (W.contents to.old) (W.contents to.new) (left_over_of self.old)) }
         ensures kept { kept_of self.new ≡ kept_of self.old }
+        ensures own { is_own_of self.new ≡ is_own_of self.old }
+        ensures ready { is_ready self.new ≡ is_ready self.old }
         ensures less { (c : List ℕ) → left_of self.new c → left_of self.old c }
     {
         if self.is_settled || !self.is_own {
@@ -89,7 +94,9 @@ impl<D: Disk + Drop, F: Folder<D>> LogFile<D, F> {
     }
 
     /// Why the text was not replaced, the last time.
-    pub fn refusal(&self) -> Option<io::Error> {
+    pub fn refusal(&self) -> Option<io::Error>
+        ensures { result ≡ refusal_of self.now }
+    {
         self.refusal
     }
 
@@ -127,6 +134,8 @@ impl<D: Disk + Drop, F: Folder<D>> LogFile<D, F> {
     pub fn text(&mut self, alloc: Global) -> io::Result<Vec<u8>>
         ensures text { IfOk result (λ text. is_clean self.new ≡ true → text.items ≡ kept_of self.old) }
         ensures kept { kept_of self.new ≡ kept_of self.old }
+        ensures own { is_own_of self.new ≡ is_own_of self.old }
+        ensures ready { is_ready self.new ≡ is_ready self.old }
         ensures less { (c : List ℕ) → left_of self.new c → left_of self.old c }
     {
         if self.is_broken {

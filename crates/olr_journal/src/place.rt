@@ -1,6 +1,8 @@
 //! Where a log lies: its name, its folder, and the lock that one process holds. Read, and not proved, but for its names.
 
-ghost use Rattle.std.specs.Prelude.{◌≡◌, ◌⊎◌, Some};
+ghost use Rattle.std.specs.Prelude.{◌≡◌, ◌⊎◌, ℕ, List, [], true, Some, IsTrue, IsNone, IfOk};
+ghost use Rattle.olr_journal.specs.Logs.{kept_of, left_of, left_over_of, is_own_of, is_ready, is_clean};
+ghost use Rattle.olr_journal.specs.Places.{disk_is_usable, IsFreshDisk, folder_may_lead};
 
 use crate::folder::Folder;
 use crate::host::HostFile;
@@ -131,7 +133,7 @@ impl LogFolder<'_> {
 }
 
 impl<S: Start> Folder<HostDisk<S>> for LogFolder<'_> {
-    ghost may_lead = { λ it n. (n ≡ it.number) ⊎ (it.next ≡ Some n) };
+    ghost may_lead = { folder_may_lead };
 
     fn create_beside(&mut self) -> io::Result<HostDisk<S>> {
         let file = self.make_beside()?;
@@ -230,7 +232,11 @@ pub fn open_place<'a, S: Start>(
     path: &str,
     is_new: bool,
     _start: S,
-) -> Result<(HostDisk<S>, LogFolder<'a>), OpenError> {
+) -> Result<(HostDisk<S>, LogFolder<'a>), OpenError>
+    ensures usable { IfOk result (λ place. IsTrue (disk_is_usable S.Start place.0)) }
+    ensures fresh { IfOk result (λ place. IsFreshDisk place.0) }
+    ensures named { IfOk result (λ place. (n : ℕ) → folder_may_lead place.1 n → n ≡ 0) }
+{
     let log = resolve(rt, path, is_new)?;
     let lock = lock(rt, log.as_str())?;
     let file = above_streams(
@@ -271,7 +277,13 @@ pub fn open_place<'a, S: Start>(
 /// Copies what stands behind the text of a log to a file of its own beside it, and syncs that. Returns its name, if there was any.
 pub fn set_aside<S: Start>(
     log: &mut LogFile<HostDisk<S>, LogFolder<'_>>,
-) -> io::Result<Option<String>> {
+) -> io::Result<Option<String>>
+    ensures none { IfOk result (λ name. IsNone name → is_clean log.old ≡ true → left_over_of log.old ≡ []) }
+    ensures kept { kept_of log.new ≡ kept_of log.old }
+    ensures own { is_own_of log.new ≡ is_own_of log.old }
+    ensures ready { is_ready log.new ≡ is_ready log.old }
+    ensures less { (c : List ℕ) → left_of log.new c → left_of log.old c }
+{
     if log.left_over() == 0 {
         return Ok(None);
     }
