@@ -1,6 +1,6 @@
 //! Opening a log, and closing it.
 
-ghost use Rattle.std.specs.Prelude.{◌≡◌, ◌⊎◌, ◌+◌, true, false, ℕ, List, ◌∷◌, length, IsTrue, IfOk, OnOk};
+ghost use Rattle.std.specs.Prelude.{◌≡◌, ◌⊎◌, ◌+◌, true, false, ℕ, List, ◌∷◌, length, IsTrue, IfOk, IsOk, OnOk};
 ghost use Rattle.std.specs.Io.KnownBytes.{Appends};
 ghost use Rattle.olr_sessions.specs.Journals.{Only};
 ghost use Rattle.olr_journal.specs.Texts.{text_of, is_own, left_behind};
@@ -104,6 +104,7 @@ impl<D: Disk + Drop, F: Folder<D>> LogFile<D, F> {
     pub fn settle(&mut self) -> io::Result<()>
         ensures kept { OnOk result (is_clean self.new ≡ true → kept_of self.new ≡ kept_of self.old) }
         ensures ready { OnOk result (is_ready self.new ≡ true) }
+        ensures again { is_ready self.old ≡ true → IsOk result }
         ensures padded { OnOk result (is_clean self.new ≡ true → IsPaddedText (kept_of self.old) (file_of self.new)) }
         ensures durable { OnOk result (Only (kept_of self.new) (left_of self.new)) }
         ensures cut { (c : List ℕ) → left_of self.new c → left_of self.old c ⊎ (c ≡ kept_of self.old) }
@@ -152,6 +153,7 @@ impl<D: Disk + Drop, F: Folder<D>> LogFile<D, F> {
         ensures durable { OnOk result (is_ready self.old ≡ true → Only (kept_of self.old) (left_of self.new)) }
         ensures same { is_ready self.old ≡ false → file_of self.new ≡ file_of self.old }
         ensures unready { is_ready self.new ≡ false }
+        ensures again { is_ready self.old ≡ false → IsOk result }
         ensures cut { (c : List ℕ) → left_of self.new c → left_of self.old c ⊎ (c ≡ kept_of self.old) }
     {
         if !self.is_settled {
