@@ -1,6 +1,7 @@
 -- What the command-line arguments ask for.
---     keep_app      the program's arguments, -m FILE and -s, beside the flags for help and the version
---     Options, options arguments      a file and whether to stop, by clap's matches of the arguments
+--     keep_app      the program's arguments, -m FILE, -s, -l LOG, --new and --compact-at SIZE, beside the flags for help and
+--         the version
+--     Options, options arguments      what they ask for, by clap's matches of the arguments
 --     is_asked_for kind      the error is no fault: help or the version was asked for
 --     IsOptionsFault kinds fault      clap's error is of one of these kinds, or an allocation failed
 use Rattle.std.specs.Prelude.{◌≡◌, ℕ, Bool, true, false, List, Option, Some, None, option_map, codes, ⊤}
@@ -26,12 +27,28 @@ file_rule = record (new_rule (codes "file")) { short = Some 109; action = Some S
 abbrev pub stop_rule : Rule
 stop_rule = record (new_rule (codes "stop")) { short = Some 115; action = Some SetTrue }
 
-abbrev pub keep_app : App
-keep_app = with_rule (with_rule described_app file_rule) stop_rule
+abbrev pub log_rule : Rule
+log_rule = record (new_rule (codes "log")) { short = Some 108; action = Some Set; value_names = 1 }
 
+abbrev pub new_log_rule : Rule
+new_log_rule = record (new_rule (codes "new")) { long = Some (codes "new"); action = Some SetTrue }
+
+abbrev pub size_rule : Rule
+size_rule =
+    record (new_rule (codes "compact-at")) { long = Some (codes "compact-at"); action = Some Set; value_names = 1 }
+
+abbrev pub keep_app : App
+keep_app =
+    with_rule (with_rule (with_rule (with_rule (with_rule described_app file_rule) stop_rule) log_rule) new_log_rule)
+    size_rule
+
+-- the size at which a log is compacted is as it was written
 pub record Options : Type 0 where
   pub file : Option (List ℕ)
   pub stop : Bool
+  pub log : Option (List ℕ)
+  pub new : Bool
+  pub compact_at : Option (List ℕ)
 
 -- the text of a flag that is set
 abbrev pub is_set : Option (List ℕ) → Bool
@@ -42,12 +59,21 @@ abbrev pub options : List (List ℕ) → Options
 options arguments =
     record {
       file = first_of (codes "file") (matches_of keep_app arguments);
-      stop =
-          is_set (first_of (codes "stop") (matches_of keep_app arguments));
+      stop = is_set (first_of (codes "stop") (matches_of keep_app arguments));
+      log = first_of (codes "log") (matches_of keep_app arguments);
+      new = is_set (first_of (codes "new") (matches_of keep_app arguments));
+      compact_at = first_of (codes "compact-at") (matches_of keep_app arguments);
     }
 
 abbrev pub options_of : Arguments → Options
-options_of o = record { file = option_map (λ s. s.now) o.file; stop = o.stop }
+options_of o =
+    record {
+      file = option_map (λ s. s.now) o.file;
+      stop = o.stop;
+      log = option_map (λ s. s.now) o.log;
+      new = o.new;
+      compact_at = option_map (λ s. s.now) o.compact_at;
+    }
 
 -- help and the version are asked for; the other kinds are faults
 abbrev pub is_asked_for : ErrorKind → Bool

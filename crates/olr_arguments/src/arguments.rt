@@ -7,6 +7,12 @@ pub struct Options<'a> {
     pub file: Option<&'a str>,
     /// Whether to stop at the first rejected command.
     pub stop: bool,
+    /// The log from which to start, and in which the accepted changes are kept.
+    pub log: Option<&'a str>,
+    /// Whether to make the log.
+    pub new: bool,
+    /// The size at which the log is compacted, as it was written.
+    pub compact_at: Option<&'a str>,
 }
 
 /// Why arguments give no options. The text for the user is that of the error.

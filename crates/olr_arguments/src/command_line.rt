@@ -8,7 +8,7 @@ ghost use Rattle.clap.specs.Kinds.{Kinds, HasKind};
 ghost use Rattle.clap.specs.Values.{kind_of};
 ghost use Rattle.clap.specs.declared.error.kind.ErrorKind.TheVariants as kinds;
 ghost use Rattle.clap.specs.Walk.{rule_of};
-ghost use Rattle.olr_arguments.specs.Options.{described_app, file_rule, stop_rule, keep_app, options, options_of, is_set, IsOptionsFault};
+ghost use Rattle.olr_arguments.specs.Options.{described_app, file_rule, stop_rule, log_rule, new_log_rule, size_rule, keep_app, options, options_of, is_set, IsOptionsFault};
 
 use crate::arguments::{Options, OptionsFault};
 use clap::error::ErrorKind;
@@ -27,7 +27,8 @@ show, show-node, show-line, depends, report, dump, compact, explain, begin, comm
 docs/LIMITS.md: fields, limits, faults.
 Replies: `ok,N` and N lines, `held,N` in a batch, `fault,NUMBER,WORD`.
 Example: olr-keep < examples/morning.csv
-Status: 0 all accepted, 1 some rejected, 2 invalid arguments, 3 I/O failed, 4 out of memory.
+Status: 0 all accepted, 1 some rejected, 2 invalid arguments, 3 I/O failed, 4 out of memory;
+5 a record of LOG is rejected, 6 the input ended in a batch, 7 LOG is in use.
 docs/RUNNING.md: maps from a database, a log for restarts, a queue, regions.";
 
 /// The argument that names the command file.
@@ -53,6 +54,41 @@ fn stop_argument<'a>(alloc: Global) -> Arg<'a>
         .help("Stops at the first rejected record")
 }
 
+/// The argument that names the log.
+fn log_argument<'a>(alloc: Global) -> Arg<'a>
+    ensures rule { rule_of result ≡ log_rule }
+    ensures local { result.global ≡ false }
+{
+    Arg::new(alloc, "log")
+        .short('l')
+        .value_name("LOG")
+        .action(ArgAction::Set)
+        .help("Starts from the records of LOG, and keeps each accepted change there")
+}
+
+/// The argument that asks for a new log.
+fn new_argument<'a>(alloc: Global) -> Arg<'a>
+    ensures rule { rule_of result ≡ new_log_rule }
+    ensures local { result.global ≡ false }
+{
+    Arg::new(alloc, "new")
+        .long("new")
+        .action(ArgAction::SetTrue)
+        .help("Makes LOG, which must not exist")
+}
+
+/// The argument that says at which size the log is compacted.
+fn size_argument<'a>(alloc: Global) -> Arg<'a>
+    ensures rule { rule_of result ≡ size_rule }
+    ensures local { result.global ≡ false }
+{
+    Arg::new(alloc, "compact-at")
+        .long("compact-at")
+        .value_name("SIZE")
+        .action(ArgAction::Set)
+        .help("Replaces LOG by a dump when it has SIZE bytes, as 500M")
+}
+
 /// The program's texts, without arguments.
 fn described<'a>(alloc: Global) -> Command<'a>
     ensures { app_of result ≡ described_app }
@@ -69,7 +105,10 @@ fn command<'a>(alloc: Global) -> Result<Command<'a>, AllocError>
 {
     described(alloc)
         .arg(file_argument(alloc))?
-        .arg(stop_argument(alloc))
+        .arg(stop_argument(alloc))?
+        .arg(log_argument(alloc))?
+        .arg(new_argument(alloc))?
+        .arg(size_argument(alloc))
 }
 
 /// Whether the text of a flag, if it has one, says that the flag is set.
@@ -116,6 +155,9 @@ pub fn options<'a, S: AsStr>(
             let options = Options {
                 file: matches.get_str("file"),
                 stop: is_given(matches.get_str("stop")),
+                log: matches.get_str("log"),
+                new: is_given(matches.get_str("new")),
+                compact_at: matches.get_str("compact-at"),
             };
             drop(matches);
             Ok(options)

@@ -33,10 +33,6 @@ pub struct LogFile<D: Disk, F: Folder<D>> {
     /// From this byte behind the first line on, an opened file has none but carriage returns.
     pub(crate) last: usize,
     pub(crate) file_len: usize,
-    /// The length from which on a text is replaced the next time.
-    pub(crate) least: usize,
-    /// The least length of a text that is replaced.
-    pub(crate) compact_at: usize,
     /// Why it was not replaced, the last time.
     pub(crate) refusal: Option<io::Error>,
     /// Carriage returns.
@@ -171,7 +167,6 @@ impl<D: Disk + Drop, F: Folder<D>> Journal for LogFile<D, F> {
         let made = match write_in_place(&mut self.folder, self.number, records, &self.returns) {
             Ok(made) => made,
             Err(error) => {
-                self.least = self.text_len.saturating_mul(2);
                 self.refusal = Some(error);
                 return Ok(false);
             }
@@ -189,12 +184,11 @@ impl<D: Disk + Drop, F: Folder<D>> Journal for LogFile<D, F> {
         self.is_settled = true;
         self.text_len = records.len();
         self.file_len = made.len;
-        self.least = records.len().saturating_mul(2).max(self.compact_at);
         Ok(true)
     }
 
-    fn is_large(&self) -> bool {
-        self.text_len >= self.least
+    fn len(&self) -> usize {
+        self.text_len
     }
 
     fn is_in_place(&self) -> bool {

@@ -18,8 +18,8 @@ use std::io::Write;
 impl<D: Disk + Drop, F: Folder<D>> LogFile<D, F> {
     ghost use Rattle.olr_journal.specs.Logs.{kept_of, file_of, folder_of, refusal_of, is_own_of, is_ready, left_over_of, left_of, is_clean};
 
-    /// Syncs the file and finds the end of its text. It changes nothing. A text of `compact_at` bytes or more is to be replaced.
-    pub fn open(alloc: Global, disk: D, folder: F, compact_at: usize) -> io::Result<LogFile<D, F>>
+    /// Syncs the file and finds the end of its text. It changes nothing.
+    pub fn open(alloc: Global, disk: D, folder: F) -> io::Result<LogFile<D, F>>
         requires usable { IsTrue (D.Disk.is_usable disk) }
         requires named { (n : ℕ) → F.Folder.may_lead folder n → n ≡ 0 }
         ensures text { IfOk result (λ log. is_clean log ≡ true → kept_of log ≡ text_of (D.Disk.seen disk)) }
@@ -44,8 +44,6 @@ impl<D: Disk + Drop, F: Folder<D>> LogFile<D, F> {
             text_len: ends.text_len,
             last: ends.last,
             file_len: ends.file_len,
-            least: compact_at,
-            compact_at,
             refusal: None,
             returns,
         })

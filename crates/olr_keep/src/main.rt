@@ -3,7 +3,10 @@
 //! Commands are read as CSV records from a file and from standard input. Replies are written to standard output.
 #![tactic(auto)]
 
-use olr_run::{Buffered, RunFault, WRONG_ARGUMENTS, report_fault, run_program};
+use olr_journal::{HostDisk, LogFile, LogFolder, OpenError, Unknown, open_place, set_aside};
+use olr_run::{
+    Buffered, RunFault, WRONG_ARGUMENTS, asked_log, report_fault, run_program, run_program_with_log,
+};
 use std::process::ExitCode;
 use std::{env, fs, io};
 
@@ -22,19 +25,48 @@ fn without_arguments(rt: &HostRuntime, error: &io::Error) -> u8 {
     WRONG_ARGUMENTS
 }
 
-/// Carries out the commands of the file that the arguments name, and then those of standard input.
+/// Opens a log, or makes it. What stands behind its text is set aside, and that is said.
+fn open_log<'a>(
+    rt: &'a HostRuntime,
+    name: &str,
+    is_new: bool,
+) -> Result<LogFile<HostDisk<Unknown>, LogFolder<'a>>, OpenError> {
+    let (disk, folder) = open_place(rt, name, is_new, Unknown)?;
+    let mut log = LogFile::open(rt.alloc(), disk, folder)?;
+    let bytes = log.left_over();
+    if let Some(aside) = set_aside(&mut log)? {
+        let _ = eprintln!(rt; "olr-keep: moved the last {bytes} bytes of {name}, no whole record or batch, to {aside}");
+    }
+    Ok(log)
+}
+
+/// Carries out the commands of the file that the arguments name, and then those of standard input. With a log, it begins
+/// with what the log says, and keeps what it accepts there.
 fn run(rt: &HostRuntime, arguments: &[String]) -> u8 {
     let Ok(mut output) = Buffered::new(rt.alloc(), io::writer(rt)) else {
         return report_fault(RunFault::Memory, &mut rt.stderr());
     };
-    run_program(
+    let Some((name, is_new)) = asked_log(rt.alloc(), arguments) else {
+        return run_program(
+            rt.alloc(),
+            arguments,
+            |name: &str| fs::open(rt, name),
+            rt.reader(),
+            &mut output,
+            &mut rt.stderr(),
+        );
+    };
+    let (status, log) = run_program_with_log(
         rt.alloc(),
         arguments,
         |name: &str| fs::open(rt, name),
+        open_log(rt, name, is_new),
         rt.reader(),
         &mut output,
         &mut rt.stderr(),
-    )
+    );
+    drop(log);
+    status
 }
 
 fn main(rt: HostRuntime) -> ExitCode {

@@ -87,12 +87,12 @@ step_own c b x = grind arith
 
 -- ---- the text
 
-all_back : (xs : List Change) → HaveRecords xs →
+pub all_back : (xs : List Change) → HaveRecords xs →
     map read (map fields_of_change xs) ≡ map (λ c. Ok c) (map (λ x. Make x) xs)
 all_back [] h = refl
 all_back (x ∷ xs) h = grind (arith, record_back, all_back xs)
 
-all_lines : (xs : List Change) → map record_line xs ≡ map fields_line (map fields_of_change xs)
+pub all_lines : (xs : List Change) → map record_line xs ≡ map fields_line (map fields_of_change xs)
 all_lines [] = refl
 all_lines (x ∷ xs) = ap (λ (ls : List (List ℕ)). record_line x ∷ ls) (all_lines xs)
 

@@ -64,14 +64,14 @@ ran_unsent stop old (Some rs) before new mid later end kept h = λ s represents.
 -- the bytes of the file that was opened
 module _ {O F E : Type 0} (call : Once O (Bor (List ℕ) × Unit {0}) (Result F E)) (remaining : F → Known)
     (opener : O) where
-  file_is : (name : Option (List ℕ)) (file : Option F) → OpensFile call opener name (Ok file) →
+  pub file_is : (name : Option (List ℕ)) (file : Option F) → OpensFile call opener name (Ok file) →
       IsFile name (Opens call remaining opener) (known_file remaining file)
   file_is None None h = refl
   file_is None (Some f) h = absurd h
   file_is (Some n) None h = absurd h
   file_is (Some n) (Some f) h = (Ok f, h, refl)
 
-  name_of : (name : Option (List ℕ)) (error : E) → OpensFile call opener name (Err error) →
+  pub name_of : (name : Option (List ℕ)) (error : E) → OpensFile call opener name (Err error) →
       (n : List ℕ) × (name ≡ Some n) × Opens call remaining opener n None
   name_of None error h = absurd h
   name_of (Some n) error h = (n, refl, (Err error, h, refl))

@@ -12,10 +12,11 @@ use Rattle.std.proofs.Common.{sym, ap, subst, arith, length-append}
 use Rattle.std.proofs.KnownBytes.{Appends-kept, Appends-nil, Appends-trans, Keeps-refl}
 use Rattle.csv.specs.Reading.{default_config, source_of, Reached, reader_state, strip_bom}
 use Rattle.olr_commands.specs.State.{IsContent}
-use Rattle.olr_run.specs.Runs.{In_taking, No_text}
+use Rattle.olr_run.specs.Runs.{In_taking, No_text, OutcomesRenewed}
+use Rattle.olr_sessions.specs.Sessions.{Renewed, renewing}
 use Rattle.olr_run.specs.Runs as runs
 use Rattle.olr_sessions.specs.declared.ends.Status.{Status}
-use Rattle.std.specs.Prelude.{IfOk, Result, Ok, Err}
+use Rattle.std.specs.Prelude.{IfOk, Option, Result, Ok, Err}
 use Rattle.csv.proofs.ReadFacts.{rows-more, rows-end}
 use Rattle.olr_run.proofs.RecordLemmas.{first_records}
 use Rattle.olr_sessions.proofs.SessionLemmas.{Starts}
@@ -68,6 +69,7 @@ Sees remaining old new before later (Not_taken e) = Keeps before later
 Sees remaining old new before later Not_sent = Keeps before later
 Sees remaining old new before later (Wrote text) = CsvHappens remaining old new before later (Wrote text)
 Sees remaining old new before later (Cut front rest) = CsvHappens remaining old new before later (Cut front rest)
+Sees remaining old new before later (Renewed records) = CsvHappens remaining old new before later (Renewed records)
 
 pub csv_sees : {R : Type 0} (remaining : R → Known) (old new : Reader R) (before later : Known) (e : Event) →
     CsvHappens remaining old new before later e → Sees remaining old new before later e
@@ -77,6 +79,7 @@ csv_sees remaining old new before later (Not_taken e) h = h.1
 csv_sees remaining old new before later Not_sent h = h.1
 csv_sees remaining old new before later (Wrote text) h = h
 csv_sees remaining old new before later (Cut front rest) h = h
+csv_sees remaining old new before later (Renewed records) h = h
 
 -- what each state that the register represented leads to, where the outcomes are related by Each
 abbrev AnsweredBy : (State → List (List Field) → List Outcome → State → Type 0) → Bool → (List Outcome → Type 0) →
@@ -88,26 +91,35 @@ AnsweredBy Each stop And old rs texts new =
 -- the records of a run that was cut off, and the texts of their answers
 abbrev pub cut_records : {S : Type 0} {happens : S → Event → S → Type 0} {stop : Bool} {old new : Registered} {a b : S}
     {e : RunFault} → CutIn happens stop old a new b e → List (List Field)
-cut_records (In_taking of rs ws l history answered) = rs
-cut_records (runs.Not_sent is rs ws l history answered) = rs
-cut_records (Past_the_most is rs ws l most r history answered) = rs
-cut_records (No_text is rs ws l r w history answered) = rs ++ r ∷ []
-cut_records (In_text is rs ws l r front rest some history answered) = rs ++ r ∷ []
+cut_records (In_taking of rs ws ds l k history answered) = rs
+cut_records (runs.Not_sent is rs ws ds l k history answered) = rs
+cut_records (Past_the_most is rs ws ds l k most r history answered) = rs
+cut_records (No_text is rs ws ds l k r w history answered) = rs ++ r ∷ []
+cut_records (In_text is rs ws ds l k r front rest some history answered) = rs ++ r ∷ []
 
 abbrev pub cut_texts : {S : Type 0} {happens : S → Event → S → Type 0} {stop : Bool} {old new : Registered} {a b : S}
     {e : RunFault} → CutIn happens stop old a new b e → List (List ℕ)
-cut_texts (In_taking of rs ws l history answered) = ws
-cut_texts (runs.Not_sent is rs ws l history answered) = ws
-cut_texts (Past_the_most is rs ws l most r history answered) = ws
-cut_texts (No_text is rs ws l r w history answered) = ws ++ w ∷ []
-cut_texts (In_text is rs ws l r front rest some history answered) = ws ++ (front ++ rest) ∷ []
+cut_texts (In_taking of rs ws ds l k history answered) = ws
+cut_texts (runs.Not_sent is rs ws ds l k history answered) = ws
+cut_texts (Past_the_most is rs ws ds l k most r history answered) = ws
+cut_texts (No_text is rs ws ds l k r w history answered) = ws ++ w ∷ []
+cut_texts (In_text is rs ws ds l k r front rest some history answered) = ws ++ (front ++ rest) ∷ []
+
+-- and the records that were given after them
+abbrev pub cut_renewals : {S : Type 0} {happens : S → Event → S → Type 0} {stop : Bool} {old new : Registered} {a b : S}
+    {e : RunFault} → CutIn happens stop old a new b e → List (Option (List ℕ))
+cut_renewals (In_taking of rs ws ds l k history answered) = ds
+cut_renewals (runs.Not_sent is rs ws ds l k history answered) = ds
+cut_renewals (Past_the_most is rs ws ds l k most r history answered) = ds
+cut_renewals (No_text is rs ws ds l k r w history answered) = ds ++ None ∷ []
+cut_renewals (In_text is rs ws ds l k r front rest some history answered) = ds ++ None ∷ []
 
 -- from outcomes of the first records, with these texts, what is wanted of those of all records
 abbrev pub Gives : (State → List (List Field) → List Outcome → State → Type 0) → List (List Field) → List (List Field) →
-    List (List ℕ) → Type 0
-Gives Each all rs ws =
+    List (List ℕ) → List (Option (List ℕ)) → Type 0
+Gives Each all rs ws ds =
     (s t : State) (rest : List (List Field)) (os : List Outcome) → all ≡ rs ++ rest → Claims s all os t →
-    SoundOutcomes s rs os t → map outcome_text os ≡ ws → Each s all os t
+    OutcomesRenewed s rs os ds t → map outcome_text os ≡ ws → Each s all os t
 
 -- these records of the input were read, and these bytes written
 record Through {R : Type 0} (remaining : R → Known) (before : Known) (input : List ℕ) (rs : List (List Field))
@@ -163,11 +175,29 @@ module _ {S R : Type 0} (remaining : R → Known) (reader : S → Reader R) (con
         wrote = Appends-kept (contents a) (contents m) (contents n) w at.wrote took.1;
       }
 
-  exchanged : (done rs : List (List Field)) (w : List ℕ) (ws : List (List ℕ)) (es : List Event) (m b : S) →
-      length ws ≡ length rs → At done w m → History happens m (exchanges rs ws ++ es) b →
+  -- records may have been given
+  given : (done : List (List Field)) (w : List ℕ) (d : Option (List ℕ)) (es : List Event) (m b : S) → At done w m →
+      History happens m (renewing d ++ es) b → (n : S) × At done w n × History happens n es b
+  given done w None es m b at h = (m, at, h)
+  given done w (Some records) es m b at h =
+      let same = seen m h.0 (Renewed records) h.1 in (
+        h.0,
+        rw same.0 (record {
+          plain = at.plain;
+          left = at.left;
+          source = at.source;
+          read = at.read;
+          wrote = Appends-kept (contents a) (contents m) (contents h.0) w at.wrote same.1;
+        }),
+        h.2,
+      )
+
+  exchanged : (done rs : List (List Field)) (w : List ℕ) (ws : List (List ℕ)) (ds : List (Option (List ℕ)))
+      (es : List Event) (m b : S) → length ws ≡ length rs → length ds ≡ length rs → At done w m →
+      History happens m (exchanges rs ws ds ++ es) b →
       (n : S) × At (done ++ rs) (w ++ joined ws) n × History happens n es b
-  exchanged done [] w [] es m b l at h = (m, rw (append-nil done, append-nil w) at, h)
-  exchanged done (r ∷ rs) w (t ∷ ws) es m b l at h =
+  exchanged done [] w [] [] es m b l k at h = (m, rw (append-nil done, append-nil w) at, h)
+  exchanged done (r ∷ rs) w (t ∷ ws) (d ∷ ds) es m b l k at h =
       let took = taken done r w m h.0 at h.1 in
       let wrote = seen h.0 h.2.0 (Wrote t) h.2.1 in
       let next : At (done ++ r ∷ []) (w ++ t) h.2.0 =
@@ -178,9 +208,11 @@ module _ {S R : Type 0} (remaining : R → Known) (reader : S → Reader R) (con
         read = took.read;
         wrote = Appends-trans (contents a) (contents h.0) (contents h.2.0) w t took.wrote wrote.1;
       }) in
+      let on = given (done ++ r ∷ []) (w ++ t) d (exchanges rs ws ds ++ es) h.2.0 b next
+      (subst (λ (fs : List Event). History happens h.2.0 fs b) (append_assoc (renewing d) (exchanges rs ws ds) es) h.2.2) in
       rw (← append_assoc done (r ∷ []) rs, ← append_assoc w t (joined ws))
-      (exchanged (done ++ r ∷ []) rs (w ++ t) ws es h.2.0 b (omega arith) next h.2.2)
-  exchanged done rs w ws es m b l at h = absurd (omega arith)
+      (exchanged (done ++ r ∷ []) rs (w ++ t) ws ds es on.0 b (omega arith) (omega arith) on.1 on.2)
+  exchanged done rs w ws ds es m b l k at h = absurd (omega arith)
 
   -- all records of the input were answered
   whole : (rs : List (List Field)) (w : List ℕ) (m b : S) → At rs w m → happens m Ended b →
@@ -196,27 +228,28 @@ module _ {S R : Type 0} (remaining : R → Known) (reader : S → Reader R) (con
   module _ (stop : Bool) (old new : Registered) (b : S) (base : IsContent old.kept.content)
       (start : At [] [] a) (Each : State → List (List Field) → List Outcome → State → Type 0) where
     -- the claims are those of all records of the input
-    of_all : (And : List Outcome → Type 0) (rs : List (List Field)) (ws : List (List ℕ)) (w : List ℕ) (m : S) →
-        At rs w m → Gives Each (records_of input) rs ws → AnsweredOn stop And old rs ws new →
-        AnsweredBy Each stop And old (records_of input) ws new
-    of_all And rs ws w m at give answered s represents =
+    of_all : (And : List Outcome → Type 0) (rs : List (List Field)) (ws : List (List ℕ)) (ds : List (Option (List ℕ)))
+        (w : List ℕ) (m : S) → At rs w m → Gives Each (records_of input) rs ws ds → AnsweredOn stop And old rs ws ds new
+        → AnsweredBy Each stop And old (records_of input) ws new
+    of_all And rs ws ds w m at give answered s represents =
         let f = first_of rs w m at in
         let h = answered s represents in
         let all = run_longer SoundOutcome s h.0 rs f.0 h.2 h.3.headline.run in
         let claims =
         claims_of s (records_of input) h.2 h.0 (represented old s base represents) (rw f.1 all) in
-        (h.0, h.1, h.2, give s h.0 f.0 h.2 f.1 claims h.3.headline.run h.4, h.4, h.5, h.6)
+        (h.0, h.1, h.2, give s h.0 f.0 h.2 f.1 claims h.7 h.4, h.4, h.5, h.6)
 
     -- the end of a run that was not cut off
-    ended_in : (end : Status) (rs : List (List Field)) (ws : List (List ℕ)) (m : S) → At rs (joined ws) m →
+    ended_in : (end : Status) (rs : List (List Field)) (ws : List (List ℕ)) (ds : List (Option (List ℕ))) (m : S) →
+        At rs (joined ws) m →
         Keeps (contents m) (contents b)
         → ((os : List Outcome) → map outcome_text os ≡ ws → status_of end ≡ output.run_status stop os →
         output.AreAnswered stop (records_of input) os)
-        → Gives Each (records_of input) rs ws
-        → AnsweredOn stop (λ os. status_of end ≡ output.run_status stop os) old rs ws new
+        → Gives Each (records_of input) rs ws ds
+        → AnsweredOn stop (λ os. status_of end ≡ output.run_status stop os) old rs ws ds new
         → RanOn Each stop old (Some (records_of input)) (contents a) new (contents b) end
-    ended_in end rs ws m at later all give answered s represents =
-        let h = of_all _ rs ws (joined ws) m at give answered s represents in (
+    ended_in end rs ws ds m at later all give answered s represents =
+        let h = of_all _ rs ws ds (joined ws) m at give answered s represents in (
           h.0,
           h.1,
           joined ws,
@@ -233,12 +266,12 @@ module _ {S R : Type 0} (remaining : R → Known) (reader : S → Reader R) (con
 
     -- the end of one that was, after these bytes
     cut_in : (e : RunFault) (And : List Outcome → Type 0) (rs : List (List Field)) (ws : List (List ℕ))
-        (w front : List ℕ) (m : S) → At rs w m → Appends (contents m) (contents b) front →
-        Gives Each (records_of input) rs ws → AnsweredOn stop And old rs ws new
+        (ds : List (Option (List ℕ))) (w front : List ℕ) (m : S) → At rs w m → Appends (contents m) (contents b) front →
+        Gives Each (records_of input) rs ws ds → AnsweredOn stop And old rs ws ds new
         → ((os : List Outcome) → map outcome_text os ≡ ws → And os → output.CutOff stop os (w ++ front) e)
         → FaultedOn Each stop old (Some (records_of input)) (contents a) new (contents b) e
-    cut_in e And rs ws w front m at more give answered cut s represents =
-        let h = of_all And rs ws w m at give answered s represents in (
+    cut_in e And rs ws ds w front m at more give answered cut s represents =
+        let h = of_all And rs ws ds w m at give answered s represents in (
           h.0,
           h.1,
           w ++ front,
@@ -250,61 +283,61 @@ module _ {S R : Type 0} (remaining : R → Known) (reader : S → Reader R) (con
     nothing_more m later =
         Appends-kept (contents m) (contents m) (contents b) [] (Appends-nil (contents m)) later
 
-    cut_before : (e : RunFault) (rs : List (List Field)) (ws : List (List ℕ)) (m : S) → e ≢ fault.Write →
-        At rs (joined ws) m → Keeps (contents m) (contents b) → Gives Each (records_of input) rs ws →
-        AnsweredOn stop (λ os. IsFalse (stop && output.any_refused os)) old rs ws new
+    cut_before : (e : RunFault) (rs : List (List Field)) (ws : List (List ℕ)) (ds : List (Option (List ℕ))) (m : S) →
+        e ≢ fault.Write → At rs (joined ws) m → Keeps (contents m) (contents b) → Gives Each (records_of input) rs ws ds →
+        AnsweredOn stop (λ os. IsFalse (stop && output.any_refused os)) old rs ws ds new
         → FaultedOn Each stop old (Some (records_of input)) (contents a) new (contents b) e
-    cut_before e rs ws m no_write at later give answered =
-        cut_in e _ rs ws (joined ws) [] m at (nothing_more m later) give answered
+    cut_before e rs ws ds m no_write at later give answered =
+        cut_in e _ rs ws ds (joined ws) [] m at (nothing_more m later) give answered
         (λ os are going. output.Before_next no_write going (append-nil (joined ws) ∙ written_as os ws are))
 
-    cut_unsent : (e : RunFault) (rs : List (List Field)) (ws : List (List ℕ)) (m : S) → e ≡ fault.Write →
-        At rs (joined ws) m → Keeps (contents m) (contents b) → Gives Each (records_of input) rs ws →
-        AnsweredOn stop (λ os. IsFalse (stop && output.any_refused os)) old rs ws new
+    cut_unsent : (e : RunFault) (rs : List (List Field)) (ws : List (List ℕ)) (ds : List (Option (List ℕ))) (m : S) →
+        e ≡ fault.Write → At rs (joined ws) m → Keeps (contents m) (contents b) → Gives Each (records_of input) rs ws ds →
+        AnsweredOn stop (λ os. IsFalse (stop && output.any_refused os)) old rs ws ds new
         → FaultedOn Each stop old (Some (records_of input)) (contents a) new (contents b) e
-    cut_unsent e rs ws m write at later give answered =
-        cut_in e _ rs ws (joined ws) [] m at (nothing_more m later) give answered
+    cut_unsent e rs ws ds m write at later give answered =
+        cut_in e _ rs ws ds (joined ws) [] m at (nothing_more m later) give answered
         (λ os are going. output.Not_sent write (append-nil (joined ws) ∙ written_as os ws are))
 
-    ran_on : (end : Status) (h : RanIn happens stop old a new b end) → Gives Each (records_of input) h.records h.texts →
+    ran_on : (end : Status) (h : RanIn happens stop old a new b end) → Gives Each (records_of input) h.records h.texts h.renewals →
         RanOn Each stop old (Some (records_of input)) (contents a) new (contents b) end
     ran_on ended.Stopped h give =
-        let x = exchanged [] h.records [] h.texts [] a b h.each start h.history in
-        ended_in ended.Stopped h.records h.texts x.0 x.1 (subst (λ (p : S). Keeps (contents x.0) (contents p)) x.2 (Keeps-refl (contents x.0)))
+        let x = exchanged [] h.records [] h.texts h.renewals [] a b h.each h.each_renewal start h.history in
+        ended_in ended.Stopped h.records h.texts h.renewals x.0 x.1 (subst (λ (p : S). Keeps (contents x.0) (contents p)) x.2 (Keeps-refl (contents x.0)))
         (λ os are is. inr (stopped_is stop (output.any_refused os) is)) give h.answered
     ran_on end h give =
-        let x = exchanged [] h.records [] h.texts (Ended ∷ []) a b h.each start h.history in
+        let x = exchanged [] h.records [] h.texts h.renewals (Ended ∷ []) a b h.each h.each_renewal start h.history in
         let all = whole h.records (joined h.texts) x.0 x.2.0 x.1 x.2.1 in
-        ended_in end h.records h.texts x.0 x.1 (subst (λ (p : S). Keeps (contents x.0) (contents p)) x.2.2 (seen x.0 x.2.0 Ended x.2.1).1)
+        ended_in end h.records h.texts h.renewals x.0 x.1 (subst (λ (p : S). Keeps (contents x.0) (contents p)) x.2.2 (seen x.0 x.2.0 Ended x.2.1).1)
         (λ os are is. inl (sym (length-map os outcome_text) ∙ ap length are ∙ h.each ∙ sym all)) give h.answered
 
     cut_on : (e : RunFault) (h : CutIn happens stop old a new b e) →
-        Gives Each (records_of input) (cut_records h) (cut_texts h) →
+        Gives Each (records_of input) (cut_records h) (cut_texts h) (cut_renewals h) →
         FaultedOn Each stop old (Some (records_of input)) (contents a) new (contents b) e
-    cut_on e (In_taking of rs ws l history answered) give =
-        let x = exchanged [] rs [] ws (Not_taken e ∷ []) a b l start history in
-        cut_before e rs ws x.0 (not_writing e of) x.1
+    cut_on e (In_taking of rs ws ds l k history answered) give =
+        let x = exchanged [] rs [] ws ds (Not_taken e ∷ []) a b l k start history in
+        cut_before e rs ws ds x.0 (not_writing e of) x.1
         (subst (λ (p : S). Keeps (contents x.0) (contents p)) x.2.2 (seen x.0 x.2.0 (Not_taken e) x.2.1)) give answered
-    cut_on e (runs.Not_sent is rs ws l history answered) give =
-        let x = exchanged [] rs [] ws (Not_sent ∷ []) a b l start history in
-        cut_unsent e rs ws x.0 is x.1
+    cut_on e (runs.Not_sent is rs ws ds l k history answered) give =
+        let x = exchanged [] rs [] ws ds (Not_sent ∷ []) a b l k start history in
+        cut_unsent e rs ws ds x.0 is x.1
         (subst (λ (p : S). Keeps (contents x.0) (contents p)) x.2.2 (seen x.0 x.2.0 Not_sent x.2.1)) give answered
-    cut_on e (Past_the_most is rs ws l most r history answered) give =
-        let x = exchanged [] rs [] ws (Took r ∷ []) a b l start history in
-        cut_before e rs ws x.0
+    cut_on e (Past_the_most is rs ws ds l k most r history answered) give =
+        let x = exchanged [] rs [] ws ds (Took r ∷ []) a b l k start history in
+        cut_before e rs ws ds x.0
         (λ write. let never : fault.TooMany ≡ fault.Write = sym is ∙ write in cc) x.1
         (subst (λ (p : S). Keeps (contents x.0) (contents p)) x.2.2 (seen x.0 x.2.0 (Took r) x.2.1).1) give answered
-    cut_on e (No_text is rs ws l r w history answered) give =
-        let x = exchanged [] rs [] ws (Took r ∷ []) a b l start history in
+    cut_on e (No_text is rs ws ds l k r w history answered) give =
+        let x = exchanged [] rs [] ws ds (Took r ∷ []) a b l k start history in
         let t = taken rs r (joined ws) x.0 x.2.0 x.1 x.2.1 in
-        cut_in e _ (rs ++ r ∷ []) (ws ++ w ∷ []) (joined ws) [] x.2.0 t
+        cut_in e _ (rs ++ r ∷ []) (ws ++ w ∷ []) (ds ++ None ∷ []) (joined ws) [] x.2.0 t
         (subst (λ (p : S). Appends (contents x.2.0) (contents p) []) x.2.2 (Appends-nil (contents x.2.0))) give answered
         (λ os are _. let o = last_of os ws w are in
         output.No_text is o.0 o.1 o.2 (append-nil (joined ws) ∙ written_as o.0 ws o.3))
-    cut_on e (In_text is rs ws l r front rest some history answered) give =
-        let x = exchanged [] rs [] ws (Took r ∷ Cut front rest ∷ []) a b l start history in
+    cut_on e (In_text is rs ws ds l k r front rest some history answered) give =
+        let x = exchanged [] rs [] ws ds (Took r ∷ Cut front rest ∷ []) a b l k start history in
         let t = taken rs r (joined ws) x.0 x.2.0 x.1 x.2.1 in
-        cut_in e _ (rs ++ r ∷ []) (ws ++ (front ++ rest) ∷ []) (joined ws) front x.2.0 t
+        cut_in e _ (rs ++ r ∷ []) (ws ++ (front ++ rest) ∷ []) (ds ++ None ∷ []) (joined ws) front x.2.0 t
         (subst (λ (p : S). Appends (contents x.2.0) (contents p) front) x.2.2.2
         (seen x.2.0 x.2.2.0 (Cut front rest) x.2.2.1).1) give answered
         (λ os are _. let o = last_of os ws (front ++ rest) are in
@@ -312,14 +345,14 @@ module _ {S R : Type 0} (remaining : R → Known) (reader : S → Reader R) (con
         (ap (λ (v : List ℕ). v ++ front) (written_as o.0 ws o.3)))
 
     too_many : (e : RunFault) → CutIn happens stop old a new b e → e ≡ fault.TooMany → HasTooMany (Some input)
-    too_many e (In_taking of rs ws l history answered) is = absurd (subst IsOfTaking is of)
-    too_many e (runs.Not_sent write rs ws l history answered) is = absurd cc
-    too_many e (Past_the_most _ rs ws l most r history answered) is =
-        let x = exchanged [] rs [] ws (Took r ∷ []) a b l start history in
+    too_many e (In_taking of rs ws ds l k history answered) is = absurd (subst IsOfTaking is of)
+    too_many e (runs.Not_sent write rs ws ds l k history answered) is = absurd cc
+    too_many e (Past_the_most _ rs ws ds l k most r history answered) is =
+        let x = exchanged [] rs [] ws ds (Took r ∷ []) a b l k start history in
         let f = first_of (rs ++ r ∷ []) (joined ws) x.2.0 (taken rs r (joined ws) x.0 x.2.0 x.1 x.2.1) in
         grind (arith, length-append)
-    too_many e (No_text memory rs ws l r w history answered) is = absurd cc
-    too_many e (In_text write rs ws l r front rest some history answered) is = absurd cc
+    too_many e (No_text memory rs ws ds l k r w history answered) is = absurd cc
+    too_many e (In_text write rs ws ds l k r front rest some history answered) is = absurd cc
 
 -- what a run says of the known bytes of its input
 module _ {S R : Type 0} (remaining : R → Known) (reader : S → Reader R) (contents : S → Known)
@@ -331,12 +364,12 @@ module _ {S R : Type 0} (remaining : R → Known) (reader : S → Reader R) (con
   abbrev GivesWhole : Known → Result Status RunFault → Type 0
   GivesWhole known r =
       IfSome known (λ input. IfOk r (λ end. (h : RanIn happens stop old a new b end) →
-      Gives Whole (records_of input) h.records h.texts))
+      Gives Whole (records_of input) h.records h.texts h.renewals))
 
   abbrev GivesPart : Known → Result Status RunFault → Type 0
   GivesPart known r =
       IfSome known (λ input. IfErr r (λ e. (h : CutIn happens stop old a new b e) →
-      Gives Part (records_of input) (cut_records h) (cut_texts h)))
+      Gives Part (records_of input) (cut_records h) (cut_texts h) (cut_renewals h)))
 
   pub on_known_as : (known : Known) (r : Result Status RunFault) → IsContent old.kept.content →
       Starts remaining (reader a) known → GivesWhole known r → GivesPart known r → IfOk r (RanIn happens stop old a new b)
@@ -356,8 +389,8 @@ module _ {S R : Type 0} (remaining : R → Known) (reader : S → Reader R) (con
   on_known_as None (Ok end) base starts whole part h k = (tt, tt, tt)
   on_known_as None (Err e) base starts whole part h k = (tt, tt, λ is. tt)
 
-all_gives : (all rs : List (List Field)) (ws : List (List ℕ)) → Gives Claims all rs ws
-all_gives all rs ws s t rest os e claims run texts = claims
+all_gives : (all rs : List (List Field)) (ws : List (List ℕ)) (ds : List (Option (List ℕ))) → Gives Claims all rs ws ds
+all_gives all rs ws ds s t rest os e claims run texts = claims
 
 pub on_known : {S R : Type 0} (remaining : R → Known) (reader : S → Reader R) (contents : S → Known)
     (happens : S → Event → S → Type 0)
@@ -375,16 +408,16 @@ on_known remaining reader contents happens seen stop old new a b known r base st
   where
     wholes : (known : Known) (r : Result Status RunFault) →
         IfSome known (λ input. IfOk r (λ end. (h : RanIn happens stop old a new b end) →
-        Gives Claims (records_of input) h.records h.texts))
-    wholes (Some input) (Ok end) = λ h. all_gives (records_of input) h.records h.texts
+        Gives Claims (records_of input) h.records h.texts h.renewals))
+    wholes (Some input) (Ok end) = λ h. all_gives (records_of input) h.records h.texts h.renewals
     wholes (Some input) (Err e) = tt
     wholes None r = tt
 
     parts : (known : Known) (r : Result Status RunFault) →
         IfSome known (λ input. IfErr r (λ e. (h : CutIn happens stop old a new b e) →
-        Gives Claims (records_of input) (cut_records h) (cut_texts h)))
+        Gives Claims (records_of input) (cut_records h) (cut_texts h) (cut_renewals h)))
     parts (Some input) (Ok end) = tt
-    parts (Some input) (Err e) = λ h. all_gives (records_of input) (cut_records h) (cut_texts h)
+    parts (Some input) (Err e) = λ h. all_gives (records_of input) (cut_records h) (cut_texts h) (cut_renewals h)
     parts None r = tt
 
 -- a run that lacked memory before it began

@@ -7,8 +7,11 @@ pub mod Joining
 pub mod InputRuns
 pub mod Ending
 pub mod Dumping
+pub mod Dumped
+pub mod Renewals
 pub mod Plain
 pub mod Logging
 pub mod LoggedRuns
 pub mod Restoring
 pub mod LogRecords
+pub mod FromLogs

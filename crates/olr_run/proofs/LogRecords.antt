@@ -186,3 +186,11 @@ one_content text c d l r =
     let both : closed c ≡ closed d =
     (let e = sym l.leads ∙ ap (steps start_state) same ∙ r.leads in cc) in
     ap (λ (s : State). s.content) both
+
+-- records lead to one content
+pub same_content : (text : List ℕ) (c d : Content) → IsContentOf text c → IsContentOf text d → c ≡ d
+same_content text c d l r =
+    let same : l.commands ≡ r.commands = ok_of l.commands r.commands (sym l.decoded ∙ r.decoded) in
+    let both : closed c ≡ closed d =
+    (let e = sym l.leads ∙ ap (steps start_state) same ∙ r.leads in cc) in
+    ap (λ (s : State). s.content) both

@@ -8,16 +8,17 @@ use Rattle.std.proofs.Common.{length-append}
 use Rattle.olr_commands.specs.State.{Content, State}
 use Rattle.std.specs.Io.KnownBytes.{append_known}
 use Rattle.olr_commands.specs.History.{Run}
-use Rattle.olr_run.specs.Runs.{In_taking, No_text}
+use Rattle.olr_run.specs.Runs.{In_taking, No_text, OutcomesRenewed, IsRenewal}
+use Rattle.olr_sessions.specs.Sessions.{Renewed, renewing}
 use Rattle.olr_run.specs.Runs as runs
 use Rattle.olr_run.specs.Logged.{UpTo}
 use Rattle.olr_run.specs.Logs.{Going, HoldsBatch, Logs, LogsSome, GoesOn, EndsIn, Began, LastsWhole, LastsCut}
 use Rattle.olr_run.specs.Logged.{Leads}
-use Rattle.olr_run.proofs.InputRuns.{Sees, cut_records, cut_texts, Gives, last_of, on_known_as}
+use Rattle.olr_run.proofs.InputRuns.{Sees, cut_records, cut_texts, cut_renewals, Gives, last_of, on_known_as}
 use Rattle.olr_sessions.proofs.SessionLemmas.{Starts}
 use Rattle.olr_run.proofs.Common.{HasTooMany}
 use Rattle.std.specs.Prelude.{IfOk, Ok, Err}
-use Rattle.olr_run.proofs.Logging.{logs_pass, logs_same, logs_settle, logs_longer, no_front, up_later}
+use Rattle.olr_run.proofs.Logging.{logs_pass, logs_same, logs_settle, logs_longer, logs_renew, no_front, up_later, up_to_all}
 use Rattle.olr_sessions.specs.Buffers.{held, written}
 use Rattle.olr_sessions.specs.Gates.{Passes, ready, is_closed}
 use Rattle.olr_sessions.specs.KeptLines.{Waiting}
@@ -31,7 +32,7 @@ use Rattle.olr_sessions.specs.declared.ends.Status.{Status}
 use Rattle.olr_sessions.specs.declared.ends.Status.TheVariants as ended
 use Rattle.olr_sessions.proofs.Writing.{took_nothing}
 use Rattle.std.proofs.Common.{inl}
-use Rattle.std.proofs.KnownBytes.{Appends-nil}
+use Rattle.std.proofs.KnownBytes.{Appends-nil, Keeps-refl}
 use Rattle.std.proofs.Math.Bool.{and-false}
 use Rattle.olr_commands.specs.State.{Change, IsContent}
 use Rattle.std.proofs.KnownBytes.{Appends-kept}
@@ -47,15 +48,19 @@ use Rattle.olr_run.proofs.RunLemmas.{claims_of}
 use Rattle.olr_run.proofs.Running.{represented}
 use Rattle.olr_sessions.specs.declared.ends.RunFault.TheVariants as fault
 
--- the last step of a run
-run_split : {A : Type 0} (P : State → A → Outcome → State → Type 0) (s t : State) (xs : List A) (x : A)
-    (os : List Outcome) (o : Outcome) → length os ≡ length xs → Run P s (xs ++ x ∷ []) (os ++ o ∷ []) t →
-    (m : State) × Run P s xs os m × P m x o t
-run_split P s t [] x [] o l h = (s, refl, subst (λ (u : State). P s x o u) h.2 h.1)
-run_split P s t [] x (k ∷ os) o l h = absurd (omega arith)
-run_split P s t (y ∷ xs) x [] o l h = absurd (omega arith)
-run_split P s t (y ∷ xs) x (k ∷ os) o l h =
-    let r = run_split P h.0 t xs x os o (omega arith) h.2 in (r.0, (h.0, h.1, r.1), r.2)
+-- the last step of a run, after which no records were given
+renewed_split : (s t : State) (rs : List (List Field)) (r : List Field) (os : List Outcome) (o : Outcome)
+    (ds : List (Option (List ℕ))) → length os ≡ length rs → length ds ≡ length rs →
+    OutcomesRenewed s (rs ++ r ∷ []) (os ++ o ∷ []) (ds ++ None ∷ []) t →
+    (m : State) × OutcomesRenewed s rs os ds m × SoundOutcome m r o t
+renewed_split s t [] r [] o [] l k h = (s, refl, subst (λ (u : State). SoundOutcome s r o u) h.3 h.1)
+renewed_split s t [] r (p ∷ os) o ds l k h = absurd (omega arith)
+renewed_split s t [] r [] o (d ∷ ds) l k h = absurd (omega arith)
+renewed_split s t (q ∷ rs) r [] o ds l k h = absurd (omega arith)
+renewed_split s t (q ∷ rs) r (p ∷ os) o [] l k h = absurd (omega arith)
+renewed_split s t (q ∷ rs) r (p ∷ os) o (d ∷ ds) l k h =
+    let more = renewed_split h.0 t rs r os o ds (omega arith) (omega arith) h.3 in
+    (more.0, (h.0, h.1, h.2, more.1), more.2)
 
 -- ---- what is written
 
@@ -95,6 +100,8 @@ module _ {R W J : Type 0} (remaining : Lines R → Known) (contents : W → Know
   log_sees a b Not_sent h = passes_keeps a.0.gate b.0.gate a.1 b.1 h.1
   log_sees a b (Wrote text) h = (h.0, passes_writes h.1.0 b.0.gate a.1 b.1 text h.1.2)
   log_sees a b (Cut front rest) h = (h.0, passes_writes h.1.0 b.0.gate a.1 b.1 front h.1.2)
+  log_sees a b (Renewed records) h =
+      (h.0, subst (λ (x : Buffered W). Keeps (written contents a.1) (written contents x)) (sym h.1) (Keeps-refl (written contents a.1)))
 
   module _ (base : Known) (s : State) where
     abbrev Log : List (List Field) → List Outcome → State → List ℕ → Logged R J × Buffered W → Type 0
@@ -138,24 +145,42 @@ module _ {R W J : Type 0} (remaining : Lines R → Known) (contents : W → Know
         (logs_settle kept may_leave contents base s rs os t u r o text k.0.gate wrote.1.0 k.1 size one is
         h.2.effect h.2.line (log_took rs os t r m k a h) wrote.1.1)) wrote.1.2
 
-    log_exchanged : (rs : List (List Field)) (ws : List (List ℕ)) (es : List Event) (m b : Logged R J × Buffered W)
+    -- the records of the content may be given
+    log_given : (rs : List (List Field)) (os : List Outcome) (t : State) (d : Option (List ℕ)) (es : List Event)
+        (m b : Logged R J × Buffered W) → Log rs os t [] m → IsContent t.content → IsRenewal t d →
+        History Happens m (renewing d ++ es) b
+        → (n : Logged R J × Buffered W) × Log rs os t [] n × History Happens n es b
+    log_given rs os t None es m b a sound is h = (m, a, h)
+    log_given rs os t (Some records) es m b a sound is h = (
+      h.0,
+      subst (λ (x : Buffered W). Logs kept may_leave contents base s rs os t [] h.0.0.gate x) (sym h.1.1)
+          (logs_renew kept may_leave contents base s rs os t records m.0.gate h.0.0.gate m.1 a sound is.0 is.1 h.1.2),
+      h.2,
+    )
+
+    log_exchanged : (rs : List (List Field)) (ws : List (List ℕ)) (ds : List (Option (List ℕ))) (es : List Event)
+        (m b : Logged R J × Buffered W)
         (dn : List (List Field)) (dos : List Outcome) (t u : State) (os : List Outcome) → length dos ≡ length dn →
-        map outcome_text os ≡ ws → length ws ≡ length rs → Log dn dos t [] m → SoundOutcomes t rs os u →
-        History Happens m (exchanges rs ws ++ es) b
+        map outcome_text os ≡ ws → length ws ≡ length rs → Log dn dos t [] m → OutcomesRenewed t rs os ds u →
+        History Happens m (exchanges rs ws ds ++ es) b
         → (n : Logged R J × Buffered W) × Log (dn ++ rs) (dos ++ os) u [] n × History Happens n es b
-    log_exchanged [] [] es m b dn dos t u [] size is l a run h =
+    log_exchanged [] [] [] es m b dn dos t u [] size is l a run h =
         (m, rw (append-nil dn, append-nil dos) (subst (λ (x : State). Log dn dos x [] m) run a), h)
-    log_exchanged (r ∷ rs) (w ∷ ws) es m b dn dos t u (o ∷ os) size is l a run h =
+    log_exchanged [] [] (d ∷ ds) es m b dn dos t u [] size is l a run h = absurd run
+    log_exchanged (r ∷ rs) (w ∷ ws) [] es m b dn dos t u (o ∷ os) size is l a run h = absurd run
+    log_exchanged (r ∷ rs) (w ∷ ws) (d ∷ ds) es m b dn dos t u (o ∷ os) size is l a run h =
         let first : outcome_text o ≡ w = cc in
         let rest : map outcome_text os ≡ ws = cc in
         let now = log_wrote dn dos t run.0 r o w m h.0 h.2.0 size a run.1 first h.1 h.2.1 in
         let grown : length (dos ++ o ∷ []) ≡ length (dn ++ r ∷ []) = grind (arith, length-append) in
+        let on = log_given (dn ++ r ∷ []) (dos ++ o ∷ []) run.0 d (exchanges rs ws ds ++ es) h.2.0 b now run.1.1 run.2
+        (subst (λ (fs : List Event). History Happens h.2.0 fs b) (append_assoc (renewing d) (exchanges rs ws ds) es) h.2.2) in
         rw (← append_assoc dn (r ∷ []) rs, ← append_assoc dos (o ∷ []) os)
-        (log_exchanged rs ws es h.2.0 b (dn ++ r ∷ []) (dos ++ o ∷ []) run.0 u os grown rest (omega arith) now run.2 h.2.2)
-    log_exchanged [] (w ∷ ws) es m b dn dos t u os size is l a run h = absurd (omega arith)
-    log_exchanged (r ∷ rs) [] es m b dn dos t u os size is l a run h = absurd (omega arith)
-    log_exchanged [] [] es m b dn dos t u (o ∷ os) size is l a run h = absurd cc
-    log_exchanged (r ∷ rs) (w ∷ ws) es m b dn dos t u [] size is l a run h = absurd cc
+        (log_exchanged rs ws ds es on.0 b (dn ++ r ∷ []) (dos ++ o ∷ []) run.0 u os grown rest (omega arith) on.1 run.3 on.2)
+    log_exchanged [] (w ∷ ws) ds es m b dn dos t u os size is l a run h = absurd (omega arith)
+    log_exchanged (r ∷ rs) [] ds es m b dn dos t u os size is l a run h = absurd (omega arith)
+    log_exchanged [] [] ds es m b dn dos t u (o ∷ os) size is l a run h = absurd cc
+    log_exchanged (r ∷ rs) (w ∷ ws) ds es m b dn dos t u [] size is l a run h = absurd cc
 
   -- ---- whole runs
 
@@ -167,14 +192,14 @@ module _ {R W J : Type 0} (remaining : Lines R → Known) (contents : W → Know
         rw (is, ← append_assoc rs0 rs rest) (logs_longer kept may_leave contents base s (rs0 ++ rs) rest os t unwritten b.0.gate b.1 l)
 
     pub gives_whole : (end : Status) (h : RanIn Happens stop old a new b end) →
-        Gives (GoesOn kept may_leave contents a.0.gate a.1 b.0.gate b.1) all h.records h.texts
+        Gives (GoesOn kept may_leave contents a.0.gate a.1 b.0.gate b.1) all h.records h.texts h.renewals
     gives_whole ended.Stopped h s t rest os is claims run texts base s0 rs0 os0 size l =
-        let x = log_exchanged base s0 h.records h.texts [] a b rs0 os0 s t os size texts h.each l run h.history in
+        let x = log_exchanged base s0 h.records h.texts h.renewals [] a b rs0 os0 s t os size texts h.each l run h.history in
         with_rest base s0 t rs0 h.records rest (os0 ++ os) [] is
         (subst (λ (m : Logged R J × Buffered W).
         Logs kept may_leave contents base s0 (rs0 ++ h.records) (os0 ++ os) t [] m.0.gate m.1) x.2 x.1)
     gives_whole end h s t rest os is claims run texts base s0 rs0 os0 size l =
-        let x = log_exchanged base s0 h.records h.texts (Ended ∷ []) a b rs0 os0 s t os size texts h.each l run h.history in
+        let x = log_exchanged base s0 h.records h.texts h.renewals (Ended ∷ []) a b rs0 os0 s t os size texts h.each l run h.history in
         let now = log_passes base s0 (rs0 ++ h.records) (os0 ++ os) t x.0 x.2.0 x.1 x.2.1.0 in
         with_rest base s0 t rs0 h.records rest (os0 ++ os) [] is
         (subst (λ (m : Logged R J × Buffered W).
@@ -205,34 +230,34 @@ module _ {R W J : Type 0} (remaining : Lines R → Known) (contents : W → Know
         }
 
     pub gives_part : (e : RunFault) (h : CutIn Happens stop old a new b e) →
-        Gives (EndsIn kept may_leave contents a.0.gate a.1 b.0.gate b.1) all (cut_records h) (cut_texts h)
-    gives_part e (In_taking of rs ws each history answered) s t rest os is claims run texts base s0 rs0 os0 size l =
-        let x = log_exchanged base s0 rs ws (Not_taken e ∷ []) a b rs0 os0 s t os size texts each l run history in
+        Gives (EndsIn kept may_leave contents a.0.gate a.1 b.0.gate b.1) all (cut_records h) (cut_texts h) (cut_renewals h)
+    gives_part e (In_taking of rs ws ds each k history answered) s t rest os is claims run texts base s0 rs0 os0 size l =
+        let x = log_exchanged base s0 rs ws ds (Not_taken e ∷ []) a b rs0 os0 s t os size texts each l run history in
         some_logs base s0 t rs0 rs rest os0 os os [] [] x.2.0 is (sym (append-nil os)) x.2.2
         (log_lost base s0 (rs0 ++ rs) (os0 ++ os) t e x.0 x.2.0 x.1 x.2.1)
-    gives_part e (runs.Not_sent write rs ws each history answered) s t rest os is claims run texts base s0 rs0 os0 size l =
-        let x = log_exchanged base s0 rs ws (Not_sent ∷ []) a b rs0 os0 s t os size texts each l run history in
+    gives_part e (runs.Not_sent write rs ws ds each k history answered) s t rest os is claims run texts base s0 rs0 os0 size l =
+        let x = log_exchanged base s0 rs ws ds (Not_sent ∷ []) a b rs0 os0 s t os size texts each l run history in
         some_logs base s0 t rs0 rs rest os0 os os [] [] x.2.0 is (sym (append-nil os)) x.2.2
         (log_passes base s0 (rs0 ++ rs) (os0 ++ os) t x.0 x.2.0 x.1 x.2.1.1)
-    gives_part e (Past_the_most many rs ws each most r history answered) s t rest os is claims run texts base s0 rs0 os0 size l =
-        let x = log_exchanged base s0 rs ws (Took r ∷ []) a b rs0 os0 s t os size texts each l run history in
+    gives_part e (Past_the_most many rs ws ds each k most r history answered) s t rest os is claims run texts base s0 rs0 os0 size l =
+        let x = log_exchanged base s0 rs ws ds (Took r ∷ []) a b rs0 os0 s t os size texts each l run history in
         some_logs base s0 t rs0 rs rest os0 os os [] [] x.2.0 is (sym (append-nil os)) x.2.2
         (log_took base s0 (rs0 ++ rs) (os0 ++ os) t r x.0 x.2.0 x.1 x.2.1)
-    gives_part e (No_text memory rs ws each r w history answered) s t rest os is claims run texts base s0 rs0 os0 size l =
+    gives_part e (No_text memory rs ws ds each k r w history answered) s t rest os is claims run texts base s0 rs0 os0 size l =
         let o = last_of os ws w texts in
         let short : length o.0 ≡ length rs = sym (length-map o.0 outcome_text) ∙ ap length o.3 ∙ each in
-        let two = run_split SoundOutcome s t rs r o.0 o.1 short
-        (subst (λ (x : List Outcome). SoundOutcomes s (rs ++ r ∷ []) x t) o.2 run) in
-        let x = log_exchanged base s0 rs ws (Took r ∷ []) a b rs0 os0 s two.0 o.0 size o.3 each l two.1 history in
+        let two = renewed_split s t rs r o.0 o.1 ds short k
+        (subst (λ (x : List Outcome). OutcomesRenewed s (rs ++ r ∷ []) x (ds ++ None ∷ []) t) o.2 run) in
+        let x = log_exchanged base s0 rs ws ds (Took r ∷ []) a b rs0 os0 s two.0 o.0 size o.3 each l two.1 history in
         some_logs base s0 two.0 rs0 rs (r ∷ rest) os0 os o.0 (o.1 ∷ []) [] x.2.0
         (is ∙ append_assoc rs (r ∷ []) rest) o.2 x.2.2
         (log_took base s0 (rs0 ++ rs) (os0 ++ o.0) two.0 r x.0 x.2.0 x.1 x.2.1)
-    gives_part e (In_text write rs ws each r front late some history answered) s t rest os is claims run texts base s0 rs0 os0 size l =
+    gives_part e (In_text write rs ws ds each k r front late some history answered) s t rest os is claims run texts base s0 rs0 os0 size l =
         let o = last_of os ws (front ++ late) texts in
         let short : length o.0 ≡ length rs = sym (length-map o.0 outcome_text) ∙ ap length o.3 ∙ each in
-        let two = run_split SoundOutcome s t rs r o.0 o.1 short
-        (subst (λ (x : List Outcome). SoundOutcomes s (rs ++ r ∷ []) x t) o.2 run) in
-        let x = log_exchanged base s0 rs ws (Took r ∷ Cut front late ∷ []) a b rs0 os0 s two.0 o.0 size o.3 each l two.1 history in
+        let two = renewed_split s t rs r o.0 o.1 ds short k
+        (subst (λ (x : List Outcome). OutcomesRenewed s (rs ++ r ∷ []) x (ds ++ None ∷ []) t) o.2 run) in
+        let x = log_exchanged base s0 rs ws ds (Took r ∷ Cut front late ∷ []) a b rs0 os0 s two.0 o.0 size o.3 each l two.1 history in
         let grown : length (os0 ++ o.0) ≡ length (rs0 ++ rs) = grind (arith, length-append) in
         let now = log_cut base s0 (rs0 ++ rs) (os0 ++ o.0) two.0 t r o.1 front late x.0 x.2.0 x.2.2.0 grown x.1 two.2 o.4 x.2.1 x.2.2.1 in
         some_logs base s0 t rs0 (rs ++ r ∷ []) rest os0 os os [] late x.2.2.0 is (sym (append-nil os)) x.2.2.2
@@ -251,7 +276,7 @@ module _ {R W J : Type 0} (remaining : Lines R → Known) (contents : W → Know
 
   known_whole : (known : Known) (r : Result Status RunFault) → IfSome known (λ input. IfOk r (λ end.
       (h : RanIn (Happens remaining contents kept may_leave) stop old a new b end) →
-      Gives Whole (records_of input) h.records h.texts))
+      Gives Whole (records_of input) h.records h.texts h.renewals))
   known_whole (Some input) (Ok end) = λ h s t rest os is claims run texts.
       (claims, gives_whole remaining contents kept may_leave stop old new a b (records_of input) end h s t rest os is claims run texts)
   known_whole (Some input) (Err e) = tt
@@ -259,7 +284,7 @@ module _ {R W J : Type 0} (remaining : Lines R → Known) (contents : W → Know
 
   known_part : (known : Known) (r : Result Status RunFault) → IfSome known (λ input. IfErr r (λ e.
       (h : CutIn (Happens remaining contents kept may_leave) stop old a new b e) →
-      Gives Part (records_of input) (cut_records h) (cut_texts h)))
+      Gives Part (records_of input) (cut_records h) (cut_texts h) (cut_renewals h)))
   known_part (Some input) (Ok end) = tt
   known_part (Some input) (Err e) = λ h s t rest os is claims run texts.
       (claims, gives_part remaining contents kept may_leave stop old new a b (records_of input) e h s t rest os is claims run texts)
@@ -491,12 +516,15 @@ module _ {J W : Type 0} (kept : J → List ℕ) (may_leave : J → List ℕ → 
       LogsOn kept may_leave contents g o h p s rs os t → LastsWhole kept may_leave contents j o i q s rs os t
   whole_lasts s t rs os kept_all still a = (
     a.0,
-    (λ k. let l = end k in (l.sent, l.device, l.survives)),
-    (λ k. let go = (end k).going still in (
+    λ k. let l = end k in let go = l.going still in (
+      l.sent,
+      l.device,
+      l.survives,
+      up_to_all s t rs os l.sent (held q) l.run (l.bytes ∙ append-nil (l.sent ++ held q)),
       subst (λ (x : List ℕ). Leads x t.content)
           (ap (λ (x : List ℕ). kept i.journal ++ x) kept_all ∙ append-nil (kept i.journal)) go.all,
       go.only,
-    )),
+    ),
   )
     where
       end : Began kept may_leave contents s j o → Logs kept may_leave contents (contents o.device) s rs os t [] i q

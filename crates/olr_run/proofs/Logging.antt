@@ -27,7 +27,10 @@ use Rattle.olr_run.specs.Logs.{BatchLines, HoldsBatch, Going, Logs}
 use Rattle.olr_run.proofs.Plain.{effect_for, effect_is}
 use Rattle.olr_sessions.specs.Buffers.{held}
 use Rattle.olr_sessions.specs.Gates.{is_closed, ready, batch, Untouched, Keeping, None_sent, None_ready, All_kept}
-use Rattle.olr_sessions.specs.Gates.{Cut_off, Passes}
+use Rattle.olr_sessions.specs.Gates.{Cut_off, Passes, Renewal, Replaced, Left_as_it_was, Renews}
+use Rattle.olr_commands.specs.Dump.{dump_lines}
+use Rattle.olr_commands.specs.State.{IsContent}
+use Rattle.olr_run.proofs.Dumped.{dump_leads, kept_changes}
 use Rattle.olr_sessions.specs.Journals.{IsFront, Only, is_empty}
 use Rattle.olr_sessions.specs.KeptLines.{Waiting, effect_of, kept_line, has_line, line_if, line_of, settled}
 use Rattle.olr_sessions.specs.LoggedRuns.{is_fault, Settles}
@@ -62,10 +65,6 @@ one_line r = append-nil (fields_line r)
 pub kept_join : (cs ds : List Command) → AllByRecursion IsKept cs → AllByRecursion IsKept ds → AllByRecursion IsKept (cs ++ ds)
 kept_join [] ds h k = k
 kept_join (c ∷ cs) ds h k = (h.0, kept_join cs ds h.1 k)
-
-kept_changes : (xs : List Change) → AllByRecursion IsKept (map (λ x. Make x) xs)
-kept_changes [] = tt
-kept_changes (x ∷ xs) = (tt, kept_changes xs)
 
 pub decoded_join : (rs qs : List (List Field)) (cs ds : List Command) → map read rs ≡ map (λ x. Ok x) cs →
     map read qs ≡ map (λ x. Ok x) ds → map read (rs ++ qs) ≡ map (λ x. Ok x) (cs ++ ds)
@@ -344,7 +343,7 @@ up_later s rs os first later c sent is u =
       texts_are = u.texts_are;
     }
 
-up_to_all : (s t : State) (rs : List (List Field)) (os : List Outcome) (sent unsent : List ℕ) → SoundOutcomes s rs os t →
+pub up_to_all : (s t : State) (rs : List (List Field)) (os : List Outcome) (sent unsent : List ℕ) → SoundOutcomes s rs os t →
     texts os ≡ sent ++ unsent → UpTo s rs os t.content sent
 up_to_all s t rs os sent unsent run e =
     record {
@@ -488,6 +487,51 @@ module _ {J W : Type 0} (kept : J → List ℕ) (may_leave : J → List ℕ → 
             subst (λ (x : J × Waiting). Goes rs os t a.sent x.0 x.1.ready x.1.batch)
             (λ n. (sym u.journal n, sym w n)) (a.going (ap is_some (sym u.fault) ∙ open_now));
       }
+
+  -- the records of the content are kept in the place of the log
+  pub logs_renew : (rs : List (List Field)) (os : List Outcome) (t : State) (records : List ℕ) (g h : Gate J)
+      (o : Buffered W) → Log rs os t [] g o → IsContent t.content → t.batch ≡ None →
+      records ≡ concat (dump_lines t.content) → Renews kept may_leave g records h → Log rs os t [] h o
+  logs_renew rs os t records g h o a sound none is b =
+      record {
+        run = a.run;
+        sent = a.sent;
+        device = a.device;
+        bytes = a.bytes;
+        survives = λ text left. elim (b.cut text left) [
+          | inl before ↦ a.survives text before
+          | inr new ↦ (t.content, subst (λ (x : List ℕ). Leads x t.content) (sym new.0) (leads_now new.1), up_now)
+        ];
+        going = λ still. let c = b.going still in by_renewal c.0 c.1;
+      }
+    where
+      leads_now : is_closed g ≡ false → Leads records t.content
+      leads_now going_on =
+          subst (λ (x : List ℕ). Leads x t.content) (sym is)
+          (dump_leads (kept g.journal ++ ready g) t.content (a.going going_on).all sound)
+
+      up_now : UpTo s rs os t.content a.sent
+      up_now = up_to_all s t rs os a.sent (held o) a.run (a.bytes ∙ append-nil (a.sent ++ held o))
+
+      by_renewal : is_closed g ≡ false → Renewal kept may_leave g records h →
+          Goes rs os t a.sent h.journal (ready h) (batch h)
+      by_renewal going_on (Replaced no_batch same only waits) =
+          let k = a.going going_on in
+          fresh rs os t a.sent h.journal (ready h) (batch h) (only k.only)
+          (subst (λ (x : List ℕ). Leads x t.content) (sym same) (leads_now going_on))
+          (ap (λ (w : Waiting). w.ready) waits)
+          (subst (λ (b : Option (List Change)). HoldsBatch t.content b (batch h)) (sym none)
+          (ap (λ (w : Waiting). w.batch) waits)) up_now
+      by_renewal going_on (Left_as_it_was same only waits) =
+          let k = a.going going_on in
+          subst (λ (w : Waiting). Goes rs os t a.sent h.journal w.ready w.batch) (sym waits)
+          (record {
+            only = only k.only;
+            fronts = λ front f. subst (λ (x : List ℕ). (c : Content) × Leads (x ++ front) c × UpTo s rs os c a.sent)
+                (sym same) (k.fronts front f);
+            all = subst (λ (x : List ℕ). Leads (x ++ ready g) t.content) (sym same) k.all;
+            batches = k.batches;
+          })
 
   -- with more records, of which none was taken
   up_longer : (rs more : List (List Field)) (os : List Outcome) (c : Content) (sent : List ℕ) → UpTo s rs os c sent →

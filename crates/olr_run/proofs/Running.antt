@@ -5,11 +5,12 @@ use Rattle.olr_run.proofs.Common.{SoundOutcomes, most_records, Event, Took, Ende
 use Rattle.olr_run.specs.Runs as runs
 use Rattle.olr_run.proofs.Common.{exchanges, IsOfTaking, status_of, AnsweredOn, RanIn, CutIn, Past_the_most, In_text}
 use Rattle.olr_run.proofs.Common.{RunFault, IsErrAnd, run_more, AnswersRecord, last_events, map-append}
-use Rattle.std.proofs.Common.{arith, ◌≡◌, ◌∙◌, ◌+◌, ℕ, Bool, true, false, not, List, [], ◌∷◌, ◌++◌, length, map, Ok}
+use Rattle.std.proofs.Common.{arith, ◌≡◌, ◌∙◌, ◌+◌, ℕ, Bool, true, false, not, List, [], ◌∷◌, ◌++◌, length, map, Option, Some, None, Ok}
 use Rattle.std.proofs.Common.{◌⊎◌, Err, Result, inl, inr, refl, sym, ap, subst, length-append}
 use Rattle.olr_commands.specs.State.{IsContent, State}
 use Rattle.olr_run.specs.Output.{StopsAtFault, any_refused, run_status}
-use Rattle.olr_run.specs.Runs.{In_taking, No_text}
+use Rattle.olr_run.specs.Runs.{In_taking, No_text, OutcomesRenewed, IsRenewal, AreRenewal, RenewedBy}
+use Rattle.olr_sessions.specs.Sessions.{renewing}
 use Rattle.olr_sessions.specs.declared.ends.Status.{Status}
 use Rattle.olr_run.proofs.RunLemmas.{sound_after, claims_of}
 use Rattle.olr_sessions.proofs.SessionLemmas.{history_join, exchanges_more}
@@ -55,31 +56,56 @@ refused_goes os o is = rw (refused_more os o false is, or-true (any_refused os))
 
 -- ---- the records so far
 
+-- one more outcome, after which the records of the content may be given
+renewed_more : (s t u : State) (rs : List (List Field)) (r : List Field) (os : List Outcome) (o : Outcome)
+    (renewals : List (Option (List ℕ))) (renewal : Option (List ℕ)) → OutcomesRenewed s rs os renewals t →
+    length os ≡ length rs → SoundOutcome t r o u → IsRenewal u renewal →
+    OutcomesRenewed s (rs ++ r ∷ []) (os ++ o ∷ []) (renewals ++ renewal ∷ []) u
+renewed_more s t u [] r [] o [] d a size one is = (u, subst (λ (x : State). SoundOutcome x r o u) (sym a) one, is, refl)
+renewed_more s t u (q ∷ rs) r [] o [] d a size one is = absurd (omega arith)
+renewed_more s t u [] r (p ∷ os) o ds d a size one is = absurd (omega arith)
+renewed_more s t u (q ∷ rs) r (p ∷ os) o [] d a size one is = absurd a
+renewed_more s t u rs r [] o (e ∷ ds) d a size one is = absurd a
+renewed_more s t u (q ∷ rs) r (p ∷ os) o (e ∷ ds) d a size one is =
+    (a.0, a.1, a.2, renewed_more a.0 t u rs r os o ds d a.3 (omega arith) one is)
+
+one_longer : {A B : Type 0} (xs : List A) (ys : List B) (x : A) (y : B) → length xs ≡ length ys →
+    length (xs ++ x ∷ []) ≡ length (ys ++ y ∷ [])
+one_longer xs ys x y e = grind (arith, length-append)
+
+-- the records of the register were given, or none were
+abbrev pub Renews : {S : Type 0} → (S → Event → S → Type 0) → Registered → S → S → Type 0
+Renews happens register before later =
+    (renewal : Option (List ℕ)) × AreRenewal register renewal × RenewedBy happens before renewal later
+
 pub record Answered (stop : Bool) (And : List Outcome → Type 0) (s : State) (records : List (List Field))
-    (texts : List (List ℕ)) (t : State) : Type 0 where
+    (texts : List (List ℕ)) (renewals : List (Option (List ℕ))) (t : State) : Type 0 where
   pub outcomes : List Outcome
   pub each : SoundOutcomes s records outcomes t
   pub stops : StopsAtFault stop outcomes
   pub all : length outcomes ≡ length records
   pub texts_are : map outcome_text outcomes ≡ texts
   pub also : And outcomes
+  pub renewed : OutcomesRenewed s records outcomes renewals t
 
 -- from each state that the register represented
-abbrev pub Answers : Bool → (List Outcome → Type 0) → Registered → List (List Field) → List (List ℕ) → Registered →
-    Type 0
-Answers stop And old records texts now =
+abbrev pub Answers : Bool → (List Outcome → Type 0) → Registered → List (List Field) → List (List ℕ) →
+    List (Option (List ℕ)) → Registered → Type 0
+Answers stop And old records texts renewals now =
     (s : State) → Represents old.kept s → IsContent s.content → (t : State) × Represents now.kept t
-    × Answered stop And s records texts t
+    × Answered stop And s records texts renewals t
 
 pub record SoFar {S : Type 0} (happens : S → Event → S → Type 0) (stop : Bool) (old : Registered) (before : S)
     (now : Registered) (later : S) (end : Status) (n : ℕ) : Type 0 where
   pub records : List (List Field)
   pub texts : List (List ℕ)
+  pub renewals : List (Option (List ℕ))
   pub count : length records ≡ n
   pub each : length texts ≡ length records
-  pub history : History happens before (exchanges records texts) later
+  pub each_renewal : length renewals ≡ length records
+  pub history : History happens before (exchanges records texts renewals) later
   pub last : last_events end ≡ Ended ∷ []
-  pub answered : Answers stop (Going stop end) old records texts now
+  pub answered : Answers stop (Going stop end) old records texts renewals now
 
 -- the states that a register represents have its content
 pub represented : (old : Registered) (s : State) → IsContent old.kept.content → Represents old.kept s →
@@ -87,13 +113,14 @@ pub represented : (old : Registered) (s : State) → IsContent old.kept.content 
 represented old s sound represents = subst IsContent represents.0 sound
 
 answered_on : (stop : Bool) (And Then : List Outcome → Type 0) (old now : Registered) (records : List (List Field))
-    (texts : List (List ℕ)) → IsContent old.kept.content → Answers stop And old records texts now →
-    ((os : List Outcome) → And os → Then os) → AnsweredOn stop Then old records texts now
-answered_on stop And Then old now records texts base h give s represents =
+    (texts : List (List ℕ)) (renewals : List (Option (List ℕ))) → IsContent old.kept.content →
+    Answers stop And old records texts renewals now → ((os : List Outcome) → And os → Then os) →
+    AnsweredOn stop Then old records texts renewals now
+answered_on stop And Then old now records texts renewals base h give s represents =
     let sound = represented old s base represents in
     let so = h s represents sound in
     let claims = claims_of s records so.2.outcomes so.0 sound so.2.each in
-    (so.0, so.1, so.2.outcomes, claims, so.2.texts_are, so.2.stops, give so.2.outcomes so.2.also)
+    (so.0, so.1, so.2.outcomes, claims, so.2.texts_are, so.2.stops, give so.2.outcomes so.2.also, so.2.renewed)
 
 module _ {S : Type 0} (happens : S → Event → S → Type 0) (stop : Bool) (old : Registered) (before : S) where
   -- before the first record
@@ -102,23 +129,25 @@ module _ {S : Type 0} (happens : S → Event → S → Type 0) (stop : Bool) (ol
       record {
         records = [];
         texts = [];
+        renewals = [];
         count = refl;
         each = refl;
+        each_renewal = refl;
         history = refl;
         last = refl;
         answered =
             λ s represents sound. (
               s,
               represents,
-              record { outcomes = []; each = refl; stops = tt; all = refl; texts_are = refl; also = (and-false stop, refl) },
+              record { outcomes = []; each = refl; stops = tt; all = refl; texts_are = refl; also = (and-false stop, refl); renewed = refl },
             );
       }
 
   module _ (now : Registered) (mid : S) (end : Status) (n : ℕ) (a : SoFar happens stop old before now mid end n) where
     -- the history up to here, and these events
     and_then : (later : S) (es : List Event) → History happens mid es later →
-        History happens before (exchanges a.records a.texts ++ es) later
-    and_then later es h = history_join happens before mid later (exchanges a.records a.texts) es a.history h
+        History happens before (exchanges a.records a.texts a.renewals ++ es) later
+    and_then later es h = history_join happens before mid later (exchanges a.records a.texts a.renewals) es a.history h
 
     -- there is no further record
     pub ran_whole : (later : S) → IsContent old.kept.content → happens mid Ended later →
@@ -127,9 +156,11 @@ module _ {S : Type 0} (happens : S → Event → S → Type 0) (stop : Bool) (ol
         record {
           records = a.records;
           texts = a.texts;
+          renewals = a.renewals;
           each = a.each;
+          each_renewal = a.each_renewal;
           history = rw a.last (and_then later (Ended ∷ []) (later, none, refl));
-          answered = answered_on stop _ _ old now a.records a.texts base a.answered (λ os g. g.1);
+          answered = answered_on stop _ _ old now a.records a.texts a.renewals base a.answered (λ os g. g.1);
         }
 
     -- no further record can be taken, or the texts could not be sent before
@@ -137,29 +168,29 @@ module _ {S : Type 0} (happens : S → Event → S → Type 0) (stop : Bool) (ol
         (happens mid (Not_taken e) later × IsOfTaking e) ⊎ (happens mid Not_sent later × (e ≡ fault.Write))
         → CutIn happens stop old before now later e
     cut_in_taking later e base (inl none) =
-        In_taking none.1 a.records a.texts a.each (and_then later (Not_taken e ∷ []) (later, none.0, refl))
-        (answered_on stop _ _ old now a.records a.texts base a.answered (λ os g. g.0))
+        In_taking none.1 a.records a.texts a.renewals a.each a.each_renewal (and_then later (Not_taken e ∷ []) (later, none.0, refl))
+        (answered_on stop _ _ old now a.records a.texts a.renewals base a.answered (λ os g. g.0))
     cut_in_taking later e base (inr held) =
-        runs.Not_sent held.1 a.records a.texts a.each (and_then later (Not_sent ∷ []) (later, held.0, refl))
-        (answered_on stop _ _ old now a.records a.texts base a.answered (λ os g. g.0))
+        runs.Not_sent held.1 a.records a.texts a.renewals a.each a.each_renewal (and_then later (Not_sent ∷ []) (later, held.0, refl))
+        (answered_on stop _ _ old now a.records a.texts a.renewals base a.answered (λ os g. g.0))
 
     -- one record more than the greatest number
     pub cut_past : (later : S) (fields : List Field) → IsContent old.kept.content → n ≡ most_records →
         happens mid (Took fields) later
         → CutIn happens stop old before now later fault.TooMany
     cut_past later fields base most took =
-        Past_the_most refl a.records a.texts a.each (a.count ∙ most) fields
+        Past_the_most refl a.records a.texts a.renewals a.each a.each_renewal (a.count ∙ most) fields
         (and_then later (Took fields ∷ []) (later, took, refl))
-        (answered_on stop _ _ old now a.records a.texts base a.answered (λ os g. g.0))
+        (answered_on stop _ _ old now a.records a.texts a.renewals base a.answered (λ os g. g.0))
 
     -- ---- one record more
 
     module _ (new : Registered) (taken later : S) (fields : List Field) (took : happens mid (Took fields) taken) where
       answers_more : (And : List Outcome → Type 0) (r : Result Bool RunFault)
-          (reported : AnswersRecord happens now fields new taken later r)
-          → ((os : List Outcome) (o : Outcome) → is_ok o ≡ reported.accepts → Going stop end os → And (os ++ o ∷ []))
-          → Answers stop And old (a.records ++ fields ∷ []) (a.texts ++ reported.text ∷ []) new
-      answers_more And r reported give s represents sound =
+          (reported : AnswersRecord happens now fields new taken later r) (renewal : Option (List ℕ))
+          → AreRenewal new renewal → ((os : List Outcome) (o : Outcome) → is_ok o ≡ reported.accepts → Going stop end os → And (os ++ o ∷ []))
+          → Answers stop And old (a.records ++ fields ∷ []) (a.texts ++ reported.text ∷ []) (a.renewals ++ renewal ∷ []) new
+      answers_more And r reported renewal are give s represents sound =
           let so = a.answered s represents sound in
           let one = so.2 in
           let t = reported.outcome so.0 so.1 (sound_after s so.0 a.records one.outcomes sound one.each) in (
@@ -172,55 +203,69 @@ module _ {S : Type 0} (happens : S → Event → S → Type 0) (stop : Bool) (ol
               all = grind (arith, length-append);
               texts_are = map-append outcome_text one.outcomes (t.1 ∷ []) ∙ (λ i. one.texts_are i ++ t.4 i ∷ []);
               also = give one.outcomes t.1 t.5 one.also;
+              renewed = renewed_more s so.0 t.0 a.records fields one.outcomes t.1 a.renewals renewal one.renewed one.all t.3
+                  (are t.0 t.2);
             },
           )
 
       -- the history with its events
-      history_more : (text : List ℕ) → happens taken (Wrote text) later →
-          History happens before (exchanges (a.records ++ fields ∷ []) (a.texts ++ text ∷ [])) later
-      history_more text wrote =
-          rw (exchanges_more a.records a.texts fields text a.each)
-          (and_then later (Took fields ∷ Wrote text ∷ []) (taken, took, (later, wrote, refl)))
+      history_more : (text : List ℕ) (renewal : Option (List ℕ)) (last : S) → happens taken (Wrote text) later →
+          RenewedBy happens later renewal last
+          → History happens before (exchanges (a.records ++ fields ∷ []) (a.texts ++ text ∷ []) (a.renewals ++ renewal ∷ [])) last
+      history_more text renewal last wrote renewed =
+          rw (exchanges_more a.records a.texts a.renewals fields text renewal a.each a.each_renewal)
+          (and_then last (Took fields ∷ Wrote text ∷ renewing renewal) (taken, took, (later, wrote, by_renewal renewal renewed)))
+        where
+          by_renewal : (d : Option (List ℕ)) → RenewedBy happens later d last → History happens later (renewing d) last
+          by_renewal None h = h
+          by_renewal (Some records) h = (last, h, refl)
 
       -- one that does not end the run
-      one_more : (next : Status) (b : Bool) → AnswersRecord happens now fields new taken later (Ok b) →
-          last_events next ≡ Ended ∷ []
+      one_more : (next : Status) (b : Bool) (renewal : Option (List ℕ)) (on : S) →
+          AnswersRecord happens now fields new taken later (Ok b) → AreRenewal new renewal →
+          RenewedBy happens later renewal on → last_events next ≡ Ended ∷ []
           → ((os : List Outcome) (o : Outcome) → is_ok o ≡ b → Going stop end os → Going stop next (os ++ o ∷ []))
-          → SoFar happens stop old before new later next (n + 1)
-      one_more next b reported last goes =
+          → SoFar happens stop old before new on next (n + 1)
+      one_more next b renewal on reported are renewed last goes =
           record {
             records = a.records ++ fields ∷ [];
             texts = a.texts ++ reported.text ∷ [];
+            renewals = a.renewals ++ renewal ∷ [];
             count = grind (arith, length-append);
             each = grind (arith, length-append);
-            history = history_more reported.text reported.writes.0;
+            each_renewal = one_longer a.renewals a.records renewal fields a.each_renewal;
+            history = history_more reported.text renewal on reported.writes.0 renewed;
             last = last;
-            answered = answers_more _ (Ok b) reported (λ os o is. goes os o (is ∙ sym reported.writes.1));
+            answered = answers_more _ (Ok b) reported renewal are (λ os o is. goes os o (is ∙ sym reported.writes.1));
           }
 
-      pub accepted_so_far : (b : Bool) → b ≡ true → AnswersRecord happens now fields new taken later (Ok b) →
-          SoFar happens stop old before new later end (n + 1)
-      accepted_so_far b e reported = one_more end b reported a.last (λ os o is. accepted_goes stop end os o (is ∙ e))
+      pub accepted_so_far : (b : Bool) (on : S) → b ≡ true → AnswersRecord happens now fields new taken later (Ok b) →
+          Renews happens new later on → SoFar happens stop old before new on end (n + 1)
+      accepted_so_far b on e reported d =
+          one_more end b d.0 on reported d.1 d.2 a.last (λ os o is. accepted_goes stop end os o (is ∙ e))
 
-      pub refused_so_far : (b : Bool) → b ≡ false → stop ≡ false → AnswersRecord happens now fields new taken later (Ok b)
-          → SoFar happens stop old before new later ended.SomeRefused (n + 1)
-      refused_so_far b e going reported =
-          one_more ended.SomeRefused b reported refl (λ os o is g. rw going (refused_goes os o (is ∙ e)))
+      pub refused_so_far : (b : Bool) (on : S) → b ≡ false → stop ≡ false →
+          AnswersRecord happens now fields new taken later (Ok b) → Renews happens new later on
+          → SoFar happens stop old before new on ended.SomeRefused (n + 1)
+      refused_so_far b on e going reported d =
+          one_more ended.SomeRefused b d.0 on reported d.1 d.2 refl (λ os o is g. rw going (refused_goes os o (is ∙ e)))
 
       -- the first rejected record stops the run
-      pub ran_stopped : (b : Bool) → IsContent old.kept.content → b ≡ false → stop ≡ true →
-          AnswersRecord happens now fields new taken later (Ok b)
-          → RanIn happens stop old before new later ended.Stopped
-      ran_stopped b base e stops reported =
+      pub ran_stopped : (b : Bool) (on : S) → IsContent old.kept.content → b ≡ false → stop ≡ true →
+          AnswersRecord happens now fields new taken later (Ok b) → Renews happens new later on
+          → RanIn happens stop old before new on ended.Stopped
+      ran_stopped b on base e stops reported d =
           record {
             records = a.records ++ fields ∷ [];
             texts = a.texts ++ reported.text ∷ [];
+            renewals = a.renewals ++ d.0 ∷ [];
             each = grind (arith, length-append);
+            each_renewal = one_longer a.renewals a.records d.0 fields a.each_renewal;
             history =
-                rw (append-nil (exchanges (a.records ++ fields ∷ []) (a.texts ++ reported.text ∷ [])))
-                (history_more reported.text reported.writes.0);
-            answered = answered_on stop _ _ old new _ _ base
-                (answers_more (λ os. any_refused os ≡ true) (Ok b) reported (λ os o is g.
+                rw (append-nil (exchanges (a.records ++ fields ∷ []) (a.texts ++ reported.text ∷ []) (a.renewals ++ d.0 ∷ [])))
+                (history_more reported.text d.0 on reported.writes.0 d.2);
+            answered = answered_on stop _ _ old new _ _ _ base
+                (answers_more (λ os. any_refused os ≡ true) (Ok b) reported d.0 d.1 (λ os o is g.
                 refused_more os o false (is ∙ sym reported.writes.1 ∙ e) ∙ or-true (any_refused os)))
                 (λ os some. rw (some, stops) refl);
           }
@@ -230,17 +275,17 @@ module _ {S : Type 0} (happens : S → Event → S → Type 0) (stop : Bool) (ol
           AnswersRecord happens now fields new taken later (Err e) → CutIn happens stop old before new later e
       cut_in_answer e base reported =
           let more =
-          answered_on stop (λ os. ⊤) (λ os. ⊤) old new _ _ base
-          (answers_more (λ os. ⊤) (Err e) reported (λ os o is g. tt)) (λ os h. h) in
+          answered_on stop (λ os. ⊤) (λ os. ⊤) old new _ _ _ base
+          (answers_more (λ os. ⊤) (Err e) reported None (λ t h. tt) (λ os o is g. tt)) (λ os h. h) in
           elim reported.writes [
             | inl none ↦
-                No_text none.0 a.records a.texts a.each fields reported.text
+                No_text none.0 a.records a.texts a.renewals a.each a.each_renewal fields reported.text
                 (and_then later (Took fields ∷ []) (taken, took, sym none.1)) more
             | inr cut ↦
-                In_text cut.5 a.records a.texts a.each fields cut.0 cut.1 cut.3
+                In_text cut.5 a.records a.texts a.renewals a.each a.each_renewal fields cut.0 cut.1 cut.3
                 (and_then later (Took fields ∷ Cut cut.0 cut.1 ∷ []) (taken, took, (later, cut.4, refl)))
                 (subst (λ (text : List ℕ).
-                AnsweredOn stop (λ os. ⊤) old (a.records ++ fields ∷ []) (a.texts ++ text ∷ []) new) cut.2 more)
+                AnsweredOn stop (λ os. ⊤) old (a.records ++ fields ∷ []) (a.texts ++ text ∷ []) (a.renewals ++ None ∷ []) new) cut.2 more)
           ]
 
 -- a fault that `?` passes on

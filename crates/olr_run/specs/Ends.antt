@@ -2,12 +2,12 @@
 -- input.
 --     SendsAnswers ended before later r      how a run ends once its answers have been sent
 --     Ends arguments Opened input old before new later code      the register, what is written and the exit status
-use Rattle.std.specs.Prelude.{◌≡◌, ℕ, List, [], Option, Some, None, Result, Ok, Err, ◌⊎◌, IsTrue, is_ok}
+use Rattle.std.specs.Prelude.{◌≡◌, ℕ, Bool, true, ◌||◌, List, [], Option, Some, None, Result, Ok, Err, ◌⊎◌, IsTrue, is_ok, is_some}
 use Rattle.std.specs.Io.KnownBytes.{Keeps}
 use Rattle.clap.specs.Faults.{fault_of}
 use Rattle.olr_arguments.specs.Explains.{Explains}
 use Rattle.olr_arguments.specs.Opens.{IsFile}
-use Rattle.olr_arguments.specs.Options.{keep_app, options}
+use Rattle.olr_arguments.specs.Options.{Options, keep_app, options}
 use Rattle.olr_register.specs.Registered.{Registered}
 use Rattle.olr_run.specs.Output.{Claims}
 use Rattle.olr_run.specs.Runs.{known_records, known_both, RanOn, FaultedOn, HasTooMany}
@@ -22,11 +22,17 @@ abbrev pub SendsAnswers : Result Status RunFault → Known → Known → Result 
 SendsAnswers ended before later r =
     Keeps before later × ((r ≡ ended) ⊎ (IsTrue (is_ok ended) × (r ≡ Err fault.Write)))
 
+-- options about a log
+abbrev pub is_about_log : Options → Bool
+is_about_log o = is_some o.log || o.new || is_some o.compact_at
+
 -- a run is made only if the arguments have no fault and the file was opened
 pub data Ends (arguments : List (List ℕ)) (Opened : List ℕ → Option Known → Type 0) (input : Known) (old : Registered)
     (before : Known) (new : Registered) (later : Known) (code : ℕ) : Type 0 where
   Explained : Explains (fault_of keep_app arguments) before later code → new ≡ old →
       Ends arguments Opened input old before new later code
+  Log_refused : fault_of keep_app arguments ≡ [] → is_about_log (options arguments) ≡ true → later ≡ before → new ≡ old →
+      code ≡ 2 → Ends arguments Opened input old before new later code
   Not_opened : fault_of keep_app arguments ≡ [] → (name : List ℕ) → (options arguments).file ≡ Some name →
       Opened name None →
       later ≡ before → new ≡ old → code ≡ 3

@@ -4,3 +4,5 @@ pub mod Ends
 pub mod Logged
 pub mod Logs
 pub mod Restored
+pub mod LogEnds
+pub mod ProgramEnds

@@ -96,8 +96,10 @@ module _ {J W : Type 0} (kept : J → List ℕ) (may_leave : J → List ℕ → 
   -- a whole run: the log leads to the content at its end
   abbrev pub LastsWhole : J → Buffered W → Gate J → Buffered W → State → List (List Field) → List Outcome → State → Type 0
   LastsWhole j o g p s rs os t =
-      Claims s rs os t × Lasts j o g p s rs os
-      × (Began s j o → Leads (kept g.journal) t.content × Only (kept g.journal) (may_leave g.journal))
+      Claims s rs os t
+      × (Began s j o → (sent : List ℕ) × Appends (contents o.device) (contents p.device) sent
+      × Survives s rs os (may_leave g.journal) sent × UpTo s rs os t.content sent
+      × Leads (kept g.journal) t.content × Only (kept g.journal) (may_leave g.journal))
 
   -- one that was cut off
   abbrev pub LastsCut : J → Buffered W → Gate J → Buffered W → State → List (List Field) → List Outcome → State → Type 0

@@ -1,6 +1,7 @@
 -- Runs on a register in terms of Rust's values: in a session, and by the known bytes of a reader and a writer.
 --     CarriedOut old fields new r      the effect of a record on the register, and its answer
 --     AnswersRecord      the same, and its text was written
+--     IsRenewal t renewal      no records were given, or those of the content
 --     RanIn, CutIn      a run in a session: each record was taken and answered before the next
 --     known_records known      the records of known bytes
 --     known_both      those of a file followed by those of the input
@@ -8,8 +9,10 @@
 use Rattle.std.specs.Prelude.{◌≡◌, ◌≢◌, ℕ, ◌<◌, Bool, ◌&&◌, List, [], ◌∷◌, ◌++◌, length, map, Option, Some, None}
 use Rattle.std.specs.Prelude.{option_map, Result, Ok, Err, IfSome, is_ok, IsFalse, ◌⊎◌, ⊤}
 use Rattle.std.specs.Io.KnownBytes.{Appends}
+use Rattle.std.specs.List.{concat}
 use Rattle.std.specs.Option.{option_map_or}
 use Rattle.std.specs.Borrow.{Bor}
+use Rattle.olr_commands.specs.Dump.{dump_lines}
 use Rattle.olr_commands.specs.Reply.{Outcome}
 use Rattle.olr_commands.specs.State.{IsContent, State, Fault}
 use Rattle.olr_commands.specs.Words.{reply_of}
@@ -21,7 +24,7 @@ use Rattle.olr_register.specs.Registered.{Registered}
 use Rattle.olr_run.specs.Output as output
 use Rattle.olr_run.specs.Output.{SoundOutcome, Claims, StopsAtFault, any_refused, run_status, Ran, Faulted, records_of}
 use Rattle.olr_run.specs.Output.{most_records}
-use Rattle.olr_sessions.specs.Sessions.{Known, Event, Took, Ended, Not_taken, Wrote, Cut, History, exchanges}
+use Rattle.olr_sessions.specs.Sessions.{Known, Event, Took, Ended, Not_taken, Wrote, Cut, Renewed, History, exchanges}
 use Rattle.olr_sessions.specs.Sessions.{IsOfTaking}
 use Rattle.olr_sessions.specs.Sessions as event
 use Rattle.olr_sessions.specs.declared.ends.RunFault.{RunFault}
@@ -64,6 +67,24 @@ pub record AnswersRecord {S : Type 0} (happens : S → Event → S → Type 0) (
       × Represents new.kept t
       × SoundOutcome s fields o t × (outcome_text o ≡ text) × (is_ok o ≡ accepts)
 
+-- no records are given to be kept in the place of a log, or those of the content, while no batch is open
+abbrev pub IsRenewal : State → Option (List ℕ) → Type 0
+IsRenewal t None = ⊤
+IsRenewal t (Some records) = (t.batch ≡ None) × (records ≡ concat (dump_lines t.content))
+
+-- the records of the register were given to be kept in the place of a log, or none were
+abbrev pub RenewedBy : {S : Type 0} → (S → Event → S → Type 0) → S → Option (List ℕ) → S → Type 0
+RenewedBy happens before None later = before ≡ later
+RenewedBy happens before (Some records) later = happens before (Renewed records) later
+
+abbrev pub AreRenewal : Registered → Option (List ℕ) → Type 0
+AreRenewal register renewal = (t : State) → Represents register.kept t → IsRenewal t renewal
+
+abbrev pub RenewsFrom : {S W : Type 0} → (S × W → Event → S × W → Type 0) → Registered → S → S → Type 0
+RenewsFrom {S} {W} happens register before later =
+    (renewal : Option (List ℕ)) × AreRenewal register renewal
+    × ((output : W) → RenewedBy happens (before, output) renewal (later, output))
+
 -- ---- runs in a session
 
 abbrev pub status_of : Status → output.Status
@@ -71,13 +92,19 @@ status_of status.AllAccepted = output.All_accepted
 status_of status.SomeRefused = output.Some_refused
 status_of status.Stopped = output.Stopped
 
+abbrev pub OutcomesRenewed : State → List (List Field) → List Outcome → List (Option (List ℕ)) → State → Type 0
+OutcomesRenewed s rs [] [] t = s ≡ t
+OutcomesRenewed s (r ∷ rs) (o ∷ os) (renewal ∷ renewals) t =
+    (mid : State) × SoundOutcome s r o mid × IsRenewal mid renewal × OutcomesRenewed mid rs os renewals t
+OutcomesRenewed s rs os renewals t = ⊥
+
 -- from each state that the register represented, these records have outcomes of these texts, and lead to a state that
--- it represents
-abbrev pub AnsweredOn : Bool → (List Outcome → Type 0) → Registered → List (List Field) → List (List ℕ) → Registered →
-    Type 0
-AnsweredOn stop And old rs texts new =
+-- it represents; after some of them the records of the content are given
+abbrev pub AnsweredOn : Bool → (List Outcome → Type 0) → Registered → List (List Field) → List (List ℕ) →
+    List (Option (List ℕ)) → Registered → Type 0
+AnsweredOn stop And old rs texts renewals new =
     (s : State) → Represents old.kept s → (t : State) × Represents new.kept t × (os : List Outcome) × Claims s rs os t
-    × (map outcome_text os ≡ texts) × StopsAtFault stop os × And os
+    × (map outcome_text os ≡ texts) × StopsAtFault stop os × And os × OutcomesRenewed s rs os renewals t
 
 -- no event follows the rejected record that stops the run; otherwise there is no further record
 abbrev pub last_events : Status → List Event
@@ -89,34 +116,43 @@ pub record RanIn {S : Type 0} (happens : S → Event → S → Type 0) (stop : B
     (new : Registered) (later : S) (end : Status) : Type 0 where
   pub records : List (List Field)
   pub texts : List (List ℕ)
+  pub renewals : List (Option (List ℕ))
   pub each : length texts ≡ length records
-  pub history : History happens before (exchanges records texts ++ last_events end) later
-  pub answered : AnsweredOn stop (λ os. status_of end ≡ run_status stop os) old records texts new
+  pub each_renewal : length renewals ≡ length records
+  pub history : History happens before (exchanges records texts renewals ++ last_events end) later
+  pub answered : AnsweredOn stop (λ os. status_of end ≡ run_status stop os) old records texts renewals new
 
 -- the same, up to a record that can't be taken, or before which the texts could not be sent, or one more than the
 -- greatest number; or up to a record whose text was not made, out of memory, or not written completely
 pub data CutIn {S : Type 0} (happens : S → Event → S → Type 0) (stop : Bool) (old : Registered) (before : S)
     (new : Registered) (later : S) (e : RunFault) : Type 0 where
-  In_taking : IsOfTaking e → (rs : List (List Field)) (texts : List (List ℕ)) → length texts ≡ length rs →
-      History happens before (exchanges rs texts ++ Not_taken e ∷ []) later
-      → AnsweredOn stop (λ os. IsFalse (stop && any_refused os)) old rs texts new
+  In_taking : IsOfTaking e → (rs : List (List Field)) (texts : List (List ℕ)) (renewals : List (Option (List ℕ))) →
+      length texts ≡ length rs → length renewals ≡ length rs →
+      History happens before (exchanges rs texts renewals ++ Not_taken e ∷ []) later
+      → AnsweredOn stop (λ os. IsFalse (stop && any_refused os)) old rs texts renewals new
       → CutIn happens stop old before new later e
-  Not_sent : e ≡ fault.Write → (rs : List (List Field)) (texts : List (List ℕ)) → length texts ≡ length rs →
-      History happens before (exchanges rs texts ++ event.Not_sent ∷ []) later
-      → AnsweredOn stop (λ os. IsFalse (stop && any_refused os)) old rs texts new
+  Not_sent : e ≡ fault.Write → (rs : List (List Field)) (texts : List (List ℕ)) (renewals : List (Option (List ℕ))) →
+      length texts ≡ length rs → length renewals ≡ length rs →
+      History happens before (exchanges rs texts renewals ++ event.Not_sent ∷ []) later
+      → AnsweredOn stop (λ os. IsFalse (stop && any_refused os)) old rs texts renewals new
       → CutIn happens stop old before new later e
-  Past_the_most : e ≡ fault.TooMany → (rs : List (List Field)) (texts : List (List ℕ)) → length texts ≡ length rs →
-      length rs ≡ most_records → (r : List Field) → History happens before (exchanges rs texts ++ Took r ∷ []) later
-      → AnsweredOn stop (λ os. IsFalse (stop && any_refused os)) old rs texts new
+  Past_the_most : e ≡ fault.TooMany → (rs : List (List Field)) (texts : List (List ℕ)) (renewals : List (Option (List ℕ))) →
+      length texts ≡ length rs → length renewals ≡ length rs →
+      length rs ≡ most_records → (r : List Field) → History happens before (exchanges rs texts renewals ++ Took r ∷ []) later
+      → AnsweredOn stop (λ os. IsFalse (stop && any_refused os)) old rs texts renewals new
       → CutIn happens stop old before new later e
-  No_text : e ≡ fault.Memory → (rs : List (List Field)) (texts : List (List ℕ)) → length texts ≡ length rs →
-      (r : List Field) (text : List ℕ) → History happens before (exchanges rs texts ++ Took r ∷ []) later
-      → AnsweredOn stop (λ os. ⊤) old (rs ++ r ∷ []) (texts ++ text ∷ []) new
+  No_text : e ≡ fault.Memory → (rs : List (List Field)) (texts : List (List ℕ)) (renewals : List (Option (List ℕ))) →
+      length texts ≡ length rs → length renewals ≡ length rs →
+      (r : List Field) (text : List ℕ) → History happens before (exchanges rs texts renewals ++ Took r ∷ []) later
+      → AnsweredOn stop (λ os. ⊤) old (rs ++ r ∷ []) (texts ++ text ∷ [])
+      (renewals ++ None ∷ []) new
       → CutIn happens stop old before new later e
-  In_text : e ≡ fault.Write → (rs : List (List Field)) (texts : List (List ℕ)) → length texts ≡ length rs →
+  In_text : e ≡ fault.Write → (rs : List (List Field)) (texts : List (List ℕ)) (renewals : List (Option (List ℕ))) →
+      length texts ≡ length rs → length renewals ≡ length rs →
       (r : List Field) (front rest : List ℕ) → rest ≢ []
-      → History happens before (exchanges rs texts ++ Took r ∷ Cut front rest ∷ []) later
-      → AnsweredOn stop (λ os. ⊤) old (rs ++ r ∷ []) (texts ++ (front ++ rest) ∷ []) new
+      → History happens before (exchanges rs texts renewals ++ Took r ∷ Cut front rest ∷ []) later
+      → AnsweredOn stop (λ os. ⊤) old (rs ++ r ∷ []) (texts ++ (front ++ rest) ∷ [])
+      (renewals ++ None ∷ []) new
       → CutIn happens stop old before new later e
 
 -- ---- runs over known records

@@ -1,14 +1,14 @@
 //! The answer to one record.
 
-ghost use Rattle.std.specs.Prelude.{◌≡◌, [], true, IfOk, is_ok};
+ghost use Rattle.std.specs.Prelude.{◌≡◌, [], true, Some, IfOk, is_ok};
 ghost use Rattle.csv.specs.Records.{fields_of};
 ghost use Rattle.olr_commands.specs.Reply.{Paths};
 ghost use Rattle.olr_commands.specs.Words.{reply_of};
 ghost use Rattle.olr_records.specs.ReplyText.{reply_text};
-ghost use Rattle.olr_run.specs.Runs.{CarriedOut, answer_text, WritesText, AnswersRecord};
+ghost use Rattle.olr_run.specs.Runs.{CarriedOut, answer_text, WritesText, AnswersRecord, AreRenewal, RenewsFrom};
 
 use csv::ByteRecord;
-use olr_commands::Reply;
+use olr_commands::{CommandFault, Reply};
 use olr_records::{append_reply, fault_text, no_paths_text, read_command, read_fault_text};
 use olr_register::Register;
 use olr_sessions::{RunFault, Session};
@@ -76,6 +76,30 @@ fn write_answer<W, S: Session<W>>(
             Ok(false)
         }
     }
+}
+
+/// The records of the register, as a text. There are none while a batch is open.
+pub fn records_text(register: &Register) -> Result<Vec<u8>, CommandFault>
+    ensures { IfOk result (λ text. AreRenewal register.now (Some text.items)) }
+{
+    match register.dump() {
+        Ok(Reply::Dump(dump)) => Ok(dump.text),
+        Ok(_) => Err(CommandFault::NotARecord),
+        Err(fault) => Err(fault),
+    }
+}
+
+/// Gives the records of the register to a session that wants them, unless a batch is open, or memory runs out.
+pub fn renew<W, S: Session<W>>(register: &Register, session: &mut S)
+    ensures { RenewsFrom S.happens register.now session.old session.new }
+{
+    if !session.wants_records() {
+        return;
+    }
+    let Ok(text) = records_text(register) else {
+        return;
+    };
+    session.renew(text.as_slice());
 }
 
 /// Carries out the command of a record and writes the answer, whose text is made in `text`. Returns whether the command

@@ -3,9 +3,11 @@
 
 mod answers;
 mod both;
+mod from_log;
 mod loader;
 mod logged;
 mod records;
+mod starts;
 mod streams;
 
 pub use both::run_both;
@@ -16,4 +18,4 @@ pub use olr_sessions::{
     Buffered, Gate, Journal, LogFault, RunFault, Session, Status, exit_code, report_fault,
 };
 pub use records::{Room, run, run_bytes, run_session};
-pub use streams::{program, run_program};
+pub use streams::{asked_log, program, run_program, run_program_with_log};

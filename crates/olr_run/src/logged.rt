@@ -112,7 +112,9 @@ fn run_both_logged<F: Read + Drop, R: Read + Drop, W: Write + Drop, J: Journal +
 
 /// Runs the records of a file, if there is one, and then those of the input, as `run_both` does, with a log that leads to
 /// the content of the register. Each accepted change is kept in the log before its answer is sent, a batch as a whole at
-/// its commit; rejected records, questions and dropped batches are not kept. So whenever the run ends, and for whatever
+/// its commit; rejected records, questions and dropped batches are not kept. Where no batch is open, a log that has
+/// `renewed_from` bytes, and twice as many as after the last time, is replaced by the records of the register, and so is one
+/// of any length when a record asks for it. So whenever the run ends, and for whatever
 /// reason, what is left of the log leads to the content after the records up to some record, and of the answers to later
 /// ones nothing was sent. After a run that was not cut off the log leads to the content at its end. The answers are sent
 /// at the end, if the log and the output can still be written; the gate, which has the log, says what went wrong with it.
@@ -122,6 +124,7 @@ pub fn run_with_log<F: Read + Drop, R: Read + Drop, W: Write + Drop, J: Journal 
     file: Option<F>,
     input: R,
     journal: J,
+    renewed_from: usize,
     output: &mut Buffered<W>,
     stop: bool,
 ) -> (Result<Status, RunFault>, Gate<J>)
@@ -140,7 +143,7 @@ pub fn run_with_log<F: Read + Drop, R: Read + Drop, W: Write + Drop, J: Journal 
     ensures sent { OnOk result.0 (held output.new ≡ []) }
 {
     register.is_sound();
-    let gate = Gate::new(alloc, journal);
+    let gate = Gate::new(alloc, journal, renewed_from);
     let (ended, mut gate) = run_both_logged(alloc, register, file, input, gate, output, stop);
     let sent = gate.send(output);
     let status = match ended {

@@ -4,7 +4,7 @@ ghost use Rattle.std.specs.Prelude.{◌≡◌, Some, IfOk, IfErr};
 ghost use Rattle.olr_run.specs.Output.{Claims, records_of};
 ghost use Rattle.olr_run.specs.Runs.{known_records, RanIn, CutIn, RanOn, FaultedOn, HasTooMany};
 
-use crate::answers::write_outcome;
+use crate::answers::{renew, write_outcome};
 use csv::{ByteRecord, ReaderBuilder};
 use olr_register::Register;
 use olr_sessions::{InMemory, Lines, RunFault, Session, Status};
@@ -53,14 +53,16 @@ fn run_within<W, S: Session<W>>(
             return Err(RunFault::TooMany);
         }
         answered += 1;
-        if !write_outcome(
+        let accepted = write_outcome(
             alloc,
             register,
             &room.fields,
             &mut room.text,
             session,
             output,
-        )? {
+        )?;
+        renew(register, session);
+        if !accepted {
             if stop {
                 return Ok(Status::Stopped);
             }
@@ -71,7 +73,8 @@ fn run_within<W, S: Session<W>>(
 }
 
 /// Takes the records of a session, and writes the text of each answer before it takes the next record: the history of
-/// the session is a record, its text, a record, its text, to the end. If `stop` is set, it takes no record after the
+/// the session is a record, its text, a record, its text, to the end. If the session wants the records of all that is
+/// accepted, they are given to it after a text, while no batch is open. If `stop` is set, it takes no record after the
 /// first rejected one. If a record can't be taken, all records before it have been answered. For the commands that the
 /// records decode to: each path's published answer is that of a full encoding from scratch on the map of the accepted
 /// commands; the routes of its reference join; each reply to a change names the paths whose answer changed; and a

@@ -1,25 +1,30 @@
 //! The program, over any streams and any way to open the command file.
 
-ghost use Rattle.std.specs.Prelude.{◌≡◌, ◌≢◌, ◌≤◌, [], length, map, OnOk};
+ghost use Rattle.std.specs.Prelude.{◌≡◌, ◌≢◌, ◌≤◌, ℕ, List, [], Some, length, map, OnOk, IfSome};
 ghost use Rattle.clap.specs.Faults.{fault_of};
 ghost use Rattle.olr_arguments.specs.Opens.{Opens};
-ghost use Rattle.olr_arguments.specs.Options.{keep_app};
+ghost use Rattle.olr_arguments.specs.Options.{keep_app, options, options_of};
 ghost use Rattle.olr_register.specs.Registered.{Registered, nothing_registered};
-ghost use Rattle.olr_run.specs.Ends.{Ends, SendsAnswers};
+ghost use Rattle.olr_run.specs.Ends.{Ends, SendsAnswers, is_about_log};
+ghost use Rattle.olr_run.specs.ProgramEnds.{ProgramEnds};
+ghost use Rattle.std.specs.Result.{result_ok};
 ghost use Rattle.olr_sessions.specs.Buffers.{held, written};
 ghost use Rattle.olr_sessions.specs.Sessions.{most_held};
 
 use crate::both::run_both;
-use olr_arguments::{explain, open_file, options};
+use crate::from_log::with_log;
+use olr_arguments::{Options, WRONG_ARGUMENTS, explain, open_file, options};
+use olr_journal::{Folder, LogFile, OpenError};
 use olr_register::Register;
 use olr_sessions::{Buffered, RunFault, Status, end_status};
+use sqlite_disk::Disk;
 use std::alloc::Global;
 use std::convert::AsStr;
 use std::io;
 use std::io::{Read, Write};
 
 /// The exit status if the command file can't be opened.
-const NO_FILE: u8 = 3;
+pub(crate) const NO_FILE: u8 = 3;
 
 /// Sends the answers of a run that are held back. If they can't be sent, a run that was not cut off ends with a fault of
 /// writing.
@@ -37,10 +42,55 @@ fn send_answers<W: Write + Drop>(
     }
 }
 
+/// Whether options are about a log.
+fn asks_for_log(options: &Options<'_>) -> bool
+    ensures { result ≡ is_about_log (options_of options.now) }
+{
+    options.log.is_some() || options.new || options.compact_at.is_some()
+}
+
+/// The program without a log, once its arguments were read.
+fn without_log<
+    F: Read + Drop,
+    O: FnOnce(&str) -> io::Result<F>,
+    R: Read + Drop,
+    W: Write + Drop,
+    E: Write,
+>(
+    alloc: Global,
+    register: &mut Register,
+    asked: &Options<'_>,
+    opener: O,
+    input: R,
+    output: &mut Buffered<W>,
+    errors: &mut E,
+) -> u8
+    requires { O.IsAlwaysCallable opener }
+    ensures bounded { result ≤ 4 }
+    ensures ends { (arguments : List (List ℕ)) → fault_of keep_app arguments ≡ []
+        → options_of asked.now ≡ options arguments
+        → Ends arguments (Opens O.FnOnce F.remaining opener) (R.remaining input) register.old
+        (written W.contents output.old) register.new (written W.contents output.new) result }
+    ensures sent { result ≤ 1 → held output.new ≡ [] }
+    ensures lacks { length (held output.new) ≤ most_held }
+    ensures quiet { result ≤ 1 → errors.new ≡ errors.old }
+{
+    if asks_for_log(asked) {
+        let _ = errors.write_all(b"olr-keep: --new and --compact-at need -l LOG\n");
+        return WRONG_ARGUMENTS;
+    }
+    let Ok(file) = open_file(opener, asked.file) else {
+        let _ = errors.write_all(b"olr-keep: cannot open the command file\n");
+        return NO_FILE;
+    };
+    let ended = run_both(alloc, register, file, input, output, asked.stop);
+    end_status(send_answers(ended, output), errors)
+}
+
 /// Reads the arguments, opens the command file if they name one, carries out its commands and then those of the input,
 /// and returns the exit status. Replies, and help if it was asked for, are written to `output`, and all of them have been
 /// sent if the status is 0 or 1; otherwise the last ones may still be held, at most 64 KB. Messages about faults are
-/// written to `errors`.
+/// written to `errors`. It keeps no log: arguments that ask for one have status 2.
 pub fn program<
     S: AsStr,
     F: Read + Drop,
@@ -70,12 +120,7 @@ pub fn program<
         Ok(options) => options,
         Err(fault) => return explain(alloc, &fault, output, errors),
     };
-    let Ok(file) = open_file(opener, options.file) else {
-        let _ = errors.write_all(b"olr-keep: cannot open the command file\n");
-        return NO_FILE;
-    };
-    let ended = run_both(alloc, register, file, input, output, options.stop);
-    end_status(send_answers(ended, output), errors)
+    without_log(alloc, register, &options, opener, input, output, errors)
 }
 
 /// Runs the program on a register that begins empty, and returns the exit status.
@@ -115,4 +160,53 @@ pub fn run_program<
     );
     drop(register);
     status
+}
+
+/// The log that arguments name, and whether it is to be made. None if they name none, or can't be read.
+pub fn asked_log<'a, S: AsStr>(alloc: Global, arguments: &'a [S]) -> Option<(&'a str, bool)>
+    ensures { IfSome result (λ asked.
+        ((options (map S.text arguments.entry.now)).log ≡ Some asked.0.now)
+        × ((options (map S.text arguments.entry.now)).new ≡ asked.1)) }
+{
+    let Ok(options) = options(alloc, arguments) else {
+        return None;
+    };
+    match options.log {
+        Some(name) => Some((name, options.new)),
+        None => None,
+    }
+}
+
+/// Runs the program with the log that the arguments name, once it was opened or made, or could not be. It begins with
+/// what the log says, and keeps each accepted change in it before the answer is sent. Returns the exit status, and the log
+/// as it was left.
+pub fn run_program_with_log<
+    S: AsStr,
+    F: Read + Drop,
+    O: FnOnce(&str) -> io::Result<F>,
+    D: Disk + Drop,
+    G: Folder<D>,
+    R: Read + Drop,
+    W: Write + Drop,
+    E: Write,
+>(
+    alloc: Global,
+    arguments: &[S],
+    opener: O,
+    log: Result<LogFile<D, G>, OpenError>,
+    input: R,
+    output: &mut Buffered<W>,
+    errors: &mut E,
+) -> (u8, Option<LogFile<D, G>>)
+    requires { O.IsAlwaysCallable opener }
+    ensures bounded { result.0 ≤ 7 }
+    ensures ends { ProgramEnds W.contents (map S.text arguments.now) (Opens O.FnOnce F.remaining opener)
+        (result_ok log) (R.remaining input) output.old output.new result.1 result.0 }
+    ensures sent { result.0 ≤ 1 → held output.new ≡ [] }
+    ensures lacks { length (held output.new) ≤ most_held }
+{
+    match options(alloc, arguments) {
+        Ok(options) => with_log(alloc, &options, opener, log, input, output, errors),
+        Err(fault) => (explain(alloc, &fault, output, errors), log.ok()),
+    }
 }

@@ -1,7 +1,7 @@
 -- Runs over bytes in memory are runs of a csv reader that has all of its bytes.
 use Rattle.std.proofs.Common.{◌≡◌, ◌∙◌, ℕ, Bool, List, [], Option, Some, None, true, false, refl, ap, inl}
 use Rattle.csv.specs.Reading.{ReadRecord, default_config, source_of, ReadsNext, pending_of, strip_bom}
-use Rattle.olr_sessions.specs.Sessions.{Known, Event, Took, Ended, Not_taken, Not_sent, Wrote, Cut, IsPlain, CsvHappens}
+use Rattle.olr_sessions.specs.Sessions.{Known, Event, Took, Ended, Not_taken, Not_sent, Wrote, Cut, Renewed, IsPlain, CsvHappens}
 use Rattle.std.specs.Io.KnownBytes.{Keeps}
 use Rattle.olr_sessions.specs.InMemory.{csv_state, TookFrom, BytesHappens}
 use Rattle.olr_sessions.specs.declared.in_memory.InMemory.{InMemory}
@@ -76,6 +76,7 @@ happens_as contents a b (Not_taken e) h = (λ plain. h.0, same_kept (contents a.
 happens_as contents a b Not_sent h = absurd h
 happens_as contents a b (Wrote text) h = (ap reader_of h.0, h.1)
 happens_as contents a b (Cut front rest) h = (ap reader_of h.0, h.1)
+happens_as contents a b (Renewed records) h = (ap reader_of h.0, same_kept (contents a.1) (contents b.1) h.1)
 
 pub starts_in_memory : (s : InMemory) (bytes : List ℕ) → s.rest.now ≡ strip_bom bytes → s.state ≡ StartRecord →
     s.failed ≡ false → Starts all_known (reader_of s) (Some bytes)

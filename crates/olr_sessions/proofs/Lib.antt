@@ -7,3 +7,5 @@ pub mod KeptLines
 pub mod Parts
 pub mod Passing
 pub mod LoggedEvents
+pub mod WholeTexts
+pub mod Renewing

@@ -1,15 +1,16 @@
 -- Histories of sessions.
-use Rattle.std.proofs.Common.{◌≡◌, ℕ, Bool, Result, Ok, Err, inl, true, false, List, [], ◌∷◌, ◌++◌, length, refl, sym, ap, subst, arith}
+use Rattle.std.proofs.Common.{◌≡◌, ℕ, Bool, Result, Ok, Err, inl, true, false, List, [], ◌∷◌, ◌++◌, length, Option, ◌∙◌, refl, sym, ap, subst, arith}
 use Rattle.std.specs.Prelude.{option_map}
 use Rattle.csv.specs.Reading.{is_flexible, ExplainsRead, stops_reader, source_of, reader_state, strip_bom}
 use Rattle.csv.specs.declared.error.ErrorKind.{ErrorKind}
 use Rattle.csv.specs.declared.error.ErrorKind.TheVariants as kind
 use Rattle.csv.specs.declared.parser.State.TheVariants.{StartRecord}
 use Rattle.csv.specs.declared.reader.Reader.{Reader}
-use Rattle.olr_sessions.specs.Sessions.{Known, Event, Took, Wrote, History, exchanges, IsPlain}
+use Rattle.olr_sessions.specs.Sessions.{Known, Event, Took, Wrote, History, exchanges, renewing, IsPlain}
 use Rattle.olr_sessions.specs.Sessions.{CsvHappens, ReadsNext, TakesNext}
 use Rattle.olr_sessions.specs.declared.ends.RunFault.{RunFault}
 use Rattle.std.specs.Io.KnownBytes.{Keeps}
+use Rattle.std.proofs.lemmas.List.{append-nil, append_assoc}
 
 -- a reader that accepts any number of fields is stopped by each fault
 pub stopped : {R : Type 0} (remaining : R → Known) (old new : Reader R) (k : ErrorKind) → is_flexible old ≡ true →
@@ -42,11 +43,19 @@ pub history_join : {S : Type 0} (happens : S → Event → S → Type 0) (a b c 
 history_join {S} happens a b c [] fs h k = subst (λ (x : S). History happens x fs c) (sym h) k
 history_join happens a b c (e ∷ es) fs h k = (h.0, h.1, history_join happens h.0 b c es fs h.2 k)
 
-pub exchanges_more : (rs : List (List (List ℕ))) (texts : List (List ℕ)) (r : List (List ℕ)) (text : List ℕ) →
-    length texts ≡ length rs → exchanges (rs ++ r ∷ []) (texts ++ text ∷ []) ≡ exchanges rs texts ++ Took r ∷ Wrote text
-    ∷ []
-exchanges_more [] [] r text l = refl
-exchanges_more [] (w ∷ texts) r text l = absurd (omega arith)
-exchanges_more (x ∷ rs) [] r text l = absurd (omega arith)
-exchanges_more (x ∷ rs) (w ∷ texts) r text l =
-    ap (λ (es : List Event). Took x ∷ Wrote w ∷ es) (exchanges_more rs texts r text (omega arith))
+pub exchanges_more : (rs : List (List (List ℕ))) (texts : List (List ℕ)) (renewals : List (Option (List ℕ)))
+    (r : List (List ℕ)) (text : List ℕ) (renewal : Option (List ℕ)) → length texts ≡ length rs →
+    length renewals ≡ length rs →
+    exchanges (rs ++ r ∷ []) (texts ++ text ∷ []) (renewals ++ renewal ∷ [])
+    ≡ exchanges rs texts renewals ++ Took r ∷ Wrote text ∷ renewing renewal
+exchanges_more [] [] [] r text renewal l k =
+    ap (λ (es : List Event). Took r ∷ Wrote text ∷ es) (append-nil (renewing renewal))
+exchanges_more [] (w ∷ texts) renewals r text renewal l k = absurd (omega arith)
+exchanges_more [] [] (d ∷ renewals) r text renewal l k = absurd (omega arith)
+exchanges_more (x ∷ rs) [] renewals r text renewal l k = absurd (omega arith)
+exchanges_more (x ∷ rs) (w ∷ texts) [] r text renewal l k = absurd (omega arith)
+exchanges_more (x ∷ rs) (w ∷ texts) (d ∷ renewals) r text renewal l k =
+    ap (λ (es : List Event). Took x ∷ Wrote w ∷ renewing d ++ es)
+    (exchanges_more rs texts renewals r text renewal (omega arith) (omega arith))
+    ∙ ap (λ (es : List Event). Took x ∷ Wrote w ∷ es)
+    (sym (append_assoc (renewing d) (exchanges rs texts renewals) (Took r ∷ Wrote text ∷ renewing renewal)))

@@ -5,6 +5,7 @@
 --     PassesSome, PassesAll      the first bytes of a text were written; or all of it
 --     Untouched g h      nothing happened to the log
 --     SettledBy u accepted v      the record whose line was taken last was accepted or rejected
+--     Renews g records h      these records were given, to be kept in the place of the log
 --     TookLine g fields h, LostLine g h      the line of a record was taken, or could not be
 use Rattle.std.specs.Prelude.{◌≡◌, ◌≢◌, ◌≤◌, ℕ, Bool, true, false, if◌then◌else◌, List, [], ◌++◌, take, length, is_some}
 use Rattle.std.specs.Prelude.{Result, Ok, Err, ◌⊎◌}
@@ -84,6 +85,21 @@ pub record SettledBy (u : Unkept) (accepted : Bool) (v : Unkept) : Type 0 where
   pub waits : waiting v ≡ (if accepted then settled u.effect (next_line u) (waiting u) else waiting u)
   pub fronts : (front : List ℕ) → IsFront (waiting v).ready front →
       IsFront (waiting u).ready front ⊎ (front ≡ (waiting v).ready)
+
+-- a log that isn't closed was replaced by these records, with all that was ready, where no batch is open, or was left
+pub data Renewal {J : Type 0} (kept : J → List ℕ) (may_leave : J → List ℕ → Type 0) (g : Gate J) (records : List ℕ)
+    (h : Gate J) : Type 0 where
+  Replaced : batch g ≡ [] → kept h.journal ≡ records → (Only (kept g.journal) (may_leave g.journal)
+      → Only (kept h.journal) (may_leave h.journal)) → waiting h.unkept ≡ record { ready = []; batch = [] }
+      → Renewal kept may_leave g records h
+  Left_as_it_was : kept h.journal ≡ kept g.journal → (Only (kept g.journal) (may_leave g.journal)
+      → Only (kept h.journal) (may_leave h.journal)) → waiting h.unkept ≡ waiting g.unkept
+      → Renewal kept may_leave g records h
+
+pub record Renews {J : Type 0} (kept : J → List ℕ) (may_leave : J → List ℕ → Type 0) (g : Gate J) (records : List ℕ)
+    (h : Gate J) : Type 0 where
+  pub cut : (c : List ℕ) → may_leave h.journal c → may_leave g.journal c ⊎ ((c ≡ records) × (is_closed g ≡ false))
+  pub going : is_closed h ≡ false → (is_closed g ≡ false) × Renewal kept may_leave g records h
 
 -- the line of a record was taken
 pub record TookLine {J : Type 0} (g : Gate J) (fields : List (List ℕ)) (h : Gate J) : Type 0 where

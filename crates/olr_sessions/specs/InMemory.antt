@@ -12,7 +12,7 @@ use Rattle.csv.specs.declared.parser.Action.{Action as CsvAction}
 use Rattle.csv.specs.declared.parser.Action.TheVariants as csv_act
 use Rattle.csv.specs.declared.parser.State.{State as CsvState}
 use Rattle.csv.specs.declared.parser.State.TheVariants as csv_st
-use Rattle.olr_sessions.specs.Sessions.{Known, Event, Took, Ended, Not_taken, Not_sent, Wrote, Cut}
+use Rattle.olr_sessions.specs.Sessions.{Known, Event, Took, Ended, Not_taken, Not_sent, Wrote, Cut, Renewed}
 use Rattle.olr_sessions.specs.declared.in_memory.Action.{Action}
 use Rattle.olr_sessions.specs.declared.in_memory.Action.TheVariants as act
 use Rattle.olr_sessions.specs.declared.in_memory.InMemory.{InMemory}
@@ -58,3 +58,4 @@ BytesHappens old new before later (Not_taken e) = (new.failed ≡ true) × (late
 BytesHappens old new before later Not_sent = ⊥
 BytesHappens old new before later (Wrote text) = (new ≡ old) × Appends before later text
 BytesHappens old new before later (Cut front rest) = (new ≡ old) × Appends before later front
+BytesHappens old new before later (Renewed records) = (new ≡ old) × (later ≡ before)

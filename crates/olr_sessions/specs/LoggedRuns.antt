@@ -2,8 +2,8 @@
 --     is_fault text      an answer that begins so rejects its record
 --     LogHappens      the events of a reader with csv's defaults, of a gate, and of an output
 use Rattle.std.specs.Prelude.{◌≡◌, ◌==◌, ℕ, Bool, true, false, not, List, [], ◌∷◌, ◌++◌}
-use Rattle.olr_sessions.specs.Gates.{Passes, Untouched, SettledBy, TookLine, LostLine}
-use Rattle.olr_sessions.specs.Sessions.{Known, Event, Took, Ended, Not_taken, Not_sent, Wrote, Cut, ReadsOne}
+use Rattle.olr_sessions.specs.Gates.{Passes, Untouched, SettledBy, TookLine, LostLine, Renews}
+use Rattle.olr_sessions.specs.Sessions.{Known, Event, Took, Ended, Not_taken, Not_sent, Wrote, Cut, Renewed, ReadsOne}
 use Rattle.olr_sessions.specs.declared.buffered.Buffered.{Buffered}
 use Rattle.olr_sessions.specs.declared.gate.Gate.{Gate}
 use Rattle.olr_sessions.specs.declared.lines.Lines.{Lines}
@@ -34,3 +34,4 @@ module _ {R W J : Type 0} (remaining : Lines R → Known) (contents : W → Know
   LogHappens s o t p (Cut front rest) =
       (t.reader ≡ s.reader)
       × ((g : Gate J) × Settles s.gate (front ++ rest) g × Passes kept may_leave contents g o t.gate p front)
+  LogHappens s o t p (Renewed records) = (t.reader ≡ s.reader) × (p ≡ o) × Renews kept may_leave s.gate records t.gate

@@ -1,13 +1,14 @@
 -- Sessions: the events at the two ends of a run, in order.
 --     Event      a record was taken, or there was none, or none could be taken, or none was taken since the texts so
---         far could not be sent; a text was written, or only its first bytes, and not the rest
+--         far could not be sent; a text was written, or only its first bytes, and not the rest; records were given to be
+--         kept in the place of a log
 --     History happens a es b      these events, in this order, lead from a to b; happens is the relation of one event
---     exchanges rs texts      each record was taken, and then its text was written
+--     exchanges rs texts renewals      each record was taken, and then its text was written; then perhaps records were given
 --     WritesAll before later bytes r      all of the bytes were written, or only the first of them
 --     IsPlain r, ReadsOne remaining old new found fields      a reader with csv's defaults, and one read of it
 --     ReadsNext      the same, or none can be read
 --     CsvHappens      the events of such a reader and a writer whose bytes are known
-use Rattle.std.specs.Prelude.{◌≡◌, ◌≢◌, ◌^◌, ℕ, Bool, true, false, List, [], ◌∷◌, ◌++◌, Option, Result, Ok, Err, ⊤, ◌⊎◌}
+use Rattle.std.specs.Prelude.{◌≡◌, ◌≢◌, ◌^◌, ℕ, Bool, true, false, List, [], ◌∷◌, ◌++◌, Option, Some, None, Result, Ok, Err, ⊤, ◌⊎◌}
 use Rattle.std.specs.Io.KnownBytes.{Appends, Keeps}
 use Rattle.csv.specs.Reading.{ReadRecord, Ready, default_config, reader_config, reader_trim, is_flexible, has_failed}
 use Rattle.csv.specs.declared.reader.Reader.{Reader}
@@ -31,15 +32,22 @@ pub data Event : Type 0 where
   Not_sent : Event
   Wrote : (text : List ℕ) → Event
   Cut : (front rest : List ℕ) → Event
+  Renewed : (records : List ℕ) → Event
 
 abbrev pub History : {S : Type 0} → (S → Event → S → Type 0) → S → List Event → S → Type 0
 History happens a [] b = a ≡ b
 History {S} happens a (e ∷ es) b = (m : S) × happens a e m × History happens m es b
 
-abbrev pub exchanges : List (List (List ℕ)) → List (List ℕ) → List Event
-exchanges [] texts = []
-exchanges (r ∷ rs) [] = []
-exchanges (r ∷ rs) (text ∷ texts) = Took r ∷ Wrote text ∷ exchanges rs texts
+abbrev pub renewing : Option (List ℕ) → List Event
+renewing None = []
+renewing (Some records) = Renewed records ∷ []
+
+abbrev pub exchanges : List (List (List ℕ)) → List (List ℕ) → List (Option (List ℕ)) → List Event
+exchanges [] texts renewals = []
+exchanges (r ∷ rs) [] renewals = []
+exchanges (r ∷ rs) (text ∷ texts) [] = []
+exchanges (r ∷ rs) (text ∷ texts) (renewal ∷ renewals) =
+    Took r ∷ Wrote text ∷ renewing renewal ++ exchanges rs texts renewals
 
 -- ---- calls
 
@@ -92,3 +100,4 @@ CsvHappens remaining old new before later (Not_taken e) = (IsPlain old → has_f
 CsvHappens remaining old new before later Not_sent = (new ≡ old) × Keeps before later
 CsvHappens remaining old new before later (Wrote text) = (new ≡ old) × Appends before later text
 CsvHappens remaining old new before later (Cut front rest) = (new ≡ old) × Appends before later front
+CsvHappens remaining old new before later (Renewed records) = (new ≡ old) × Keeps before later

@@ -1,8 +1,9 @@
 //! The gate through which the answers of a run with a log leave.
 
-ghost use Rattle.std.specs.Prelude.{◌≡◌, ◌≤◌, ◌++◌, ℕ, List, [], take, length, None, IfOk, IfErr, OnOk, OnErr, false, true};
+ghost use Rattle.std.specs.Prelude.{◌≡◌, ◌≤◌, ◌++◌, ℕ, List, [], take, length, None, IfOk, IfErr, OnOk, OnErr, IsTrue, false, true};
 ghost use Rattle.csv.specs.Records.{fields_of};
-ghost use Rattle.olr_sessions.specs.Gates.{Keeping, Passes, PassesSome, PassesAll, Untouched, SameBatch, SettledBy, TakesFound, is_closed, ready};
+ghost use Rattle.olr_sessions.specs.Gates.{Keeping, Passes, PassesSome, PassesAll, Untouched, SameBatch, SettledBy, TakesFound, Renews, is_closed, ready, batch};
+ghost use Rattle.olr_sessions.specs.Journals as journals;
 ghost use Rattle.olr_sessions.specs.KeptLines.{effect_of, kept_line};
 ghost use Rattle.olr_sessions.specs.Unkept.{waiting, next_line};
 ghost use Rattle.olr_sessions.specs.Buffers.{held};
@@ -11,6 +12,7 @@ use crate::buffered::Buffered;
 use crate::ends::RunFault;
 use crate::journal::Journal;
 use crate::unkept::Unkept;
+use crate::whole::is_whole;
 use csv::ByteRecord;
 use std::alloc::{AllocError, Global};
 use std::io::Write;
@@ -34,11 +36,19 @@ pub struct Gate<J: Drop> {
     journal: J,
     unkept: Unkept,
     fault: Option<LogFault>,
+    /// The least length of a log that is replaced by the records of what is accepted.
+    renewed_from: usize,
+    /// The length from which on it is replaced the next time.
+    next_from: usize,
+    /// The record that isn't answered yet asks that it be replaced.
+    is_asked: bool,
+    /// It should be replaced as soon as no batch is open.
+    is_wanted: bool,
 }
 
 impl<J: Journal + Drop> Gate<J> {
-    /// A gate with this log, before the first record.
-    pub fn new(alloc: Global, journal: J) -> Gate<J>
+    /// A gate with this log, before the first record. A log of so many bytes is replaced by the records of what is accepted.
+    pub fn new(alloc: Global, journal: J, renewed_from: usize) -> Gate<J>
         ensures journal { result.journal ≡ journal }
         ensures waiting { waiting result.unkept ≡ record { ready = []; batch = [] } }
         ensures open { result.fault ≡ None }
@@ -47,6 +57,10 @@ impl<J: Journal + Drop> Gate<J> {
             journal,
             unkept: Unkept::new(alloc),
             fault: None,
+            renewed_from,
+            next_from: renewed_from,
+            is_asked: false,
+            is_wanted: false,
         }
     }
 
@@ -55,6 +69,23 @@ impl<J: Journal + Drop> Gate<J> {
         ensures { result.now ≡ self.now.journal }
     {
         &self.journal
+    }
+
+    /// The log, as far as it was kept. Lines that it doesn't keep yet are dropped.
+    pub fn into_journal(self) -> J
+        ensures { result ≡ self.journal }
+    {
+        let Gate {
+            journal,
+            unkept,
+            fault: _,
+            renewed_from: _,
+            next_from: _,
+            is_asked: _,
+            is_wanted: _,
+        } = self;
+        drop(unkept);
+        journal
     }
 
     /// What went wrong with the log, if something did.
@@ -71,7 +102,66 @@ impl<J: Journal + Drop> Gate<J> {
         ensures effect { OnOk result (self.new.unkept.effect ≡ effect_of (fields_of fields.now)) }
         ensures line { OnOk result (next_line self.new.unkept ≡ kept_line (fields_of fields.now)) }
     {
+        if self.wants_records() {
+            // They could not be made.
+            self.put_off();
+        }
+        self.is_asked = asks_for_records(fields);
         self.unkept.take(fields)
+    }
+
+    /// The log is not replaced before it has twice its length.
+    fn put_off(&mut self)
+        ensures untouched { Untouched self.old self.new }
+        ensures unkept { self.new.unkept ≡ self.old.unkept }
+    {
+        self.is_wanted = false;
+        self.next_from = twice(self.journal.len(), self.renewed_from);
+    }
+
+    /// Whether the records of all that is accepted are wanted, to be kept in the place of the log.
+    pub fn wants_records(&self) -> bool {
+        self.is_wanted && self.fault.is_none() && !self.unkept.is_in_batch()
+    }
+
+    /// Keeps whole records in the place of the log. It is left as it was if a batch is open, if they aren't whole, or if they
+    /// could not be written. If it isn't known what it holds, the gate is closed.
+    #[tactic(auto, using(crate::proofs::Renewing::renews_on))]
+    pub fn renew(&mut self, records: &[u8])
+        ensures { Renews J.kept J.may_leave self.old records.now self.new }
+    {
+        self.replace_if(records);
+        self.put_off();
+    }
+
+    /// The same, if no batch is open, and the records are whole.
+    #[tactic(auto, using(crate::proofs::Renewing::renews_none))]
+    fn replace_if(&mut self, records: &[u8])
+        ensures { Renews J.kept J.may_leave self.old records.now self.new }
+    {
+        if self.fault().is_some() {
+            return;
+        }
+        if self.unkept.is_in_batch() {
+            return;
+        }
+        if is_whole(records) {
+            self.replace(records);
+        }
+    }
+
+    /// The same, of records that are whole, while no batch is open.
+    fn replace(&mut self, records: &[u8])
+        requires whole { IsTrue (journals.is_whole records.now) }
+        requires open { is_closed self.old ≡ false }
+        requires none { batch self.old ≡ [] }
+        ensures { Renews J.kept J.may_leave self.old records.now self.new }
+    {
+        match self.journal.replace(records) {
+            Ok(true) => self.unkept.forget_ready(),
+            Ok(false) => {}
+            Err(_error) => self.fault = Some(LogFault::Unwritten),
+        }
     }
 
     /// Takes the line of a record that was read, if one was.
@@ -98,6 +188,16 @@ impl<J: Journal + Drop> Gate<J> {
         ensures settled { SettledBy self.old.unkept accepted self.new.unkept }
     {
         self.unkept.settle(accepted);
+        let is_wanted = self.is_due(accepted);
+        self.is_wanted = is_wanted;
+        self.is_asked = false;
+    }
+
+    /// Whether the log should be replaced, once the record that was taken last is accepted or rejected.
+    fn is_due(&self, accepted: bool) -> bool {
+        self.is_wanted
+            || (accepted && self.is_asked)
+            || self.journal.len() >= self.next_from
     }
 
     /// Keeps what is ready, and returns once it is on the disk. Returns false, and closes the gate, if the log failed.
@@ -191,6 +291,19 @@ impl<J: Journal + Drop> Gate<J> {
             written += taken;
         }
         Ok(())
+    }
+}
+
+/// Twice a length, and this length at least.
+fn twice(len: usize, least: usize) -> usize {
+    len.saturating_mul(2).max(least)
+}
+
+/// Whether a record asks that the log be replaced.
+fn asks_for_records(fields: &ByteRecord) -> bool {
+    match fields.get(0) {
+        Some(word) => word == b"compact".as_slice() && fields.len() == 1,
+        None => false,
     }
 }
 

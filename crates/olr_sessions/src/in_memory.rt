@@ -232,4 +232,10 @@ impl<'a, W: Write> Session<W> for InMemory<'a> {
     fn answer(&mut self, output: &mut W, text: &[u8]) -> Result<(), RunFault> {
         write_all(output, text)
     }
+
+    fn wants_records(&self) -> bool {
+        false
+    }
+
+    fn renew(&mut self, _records: &[u8]) {}
 }

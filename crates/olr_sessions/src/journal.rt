@@ -30,8 +30,8 @@ pub trait Journal {
         ensures durable { Only (kept self.old) (may_leave self.old) → OnOk result (Only (kept self.new) (may_leave self.new)) }
         ensures cut { (c : List ℕ) → may_leave self.new c → may_leave self.old c ⊎ (c ≡ records.now) };
 
-    /// Whether the log is so large that it should be replaced.
-    fn is_large(&self) -> bool;
+    /// How many bytes are kept.
+    fn len(&self) -> usize;
 
     /// Whether the name of the log still leads to the file that is open, with the length that was written.
     fn is_in_place(&self) -> bool;

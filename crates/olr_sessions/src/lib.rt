@@ -12,6 +12,7 @@ mod logged;
 mod output;
 mod sessions;
 mod unkept;
+mod whole;
 
 pub use buffered::Buffered;
 pub use ends::{RunFault, Status, end_status, exit_code, report_fault};
@@ -23,3 +24,4 @@ pub use logged::Logged;
 pub use output::write_all;
 pub use sessions::Session;
 pub use unkept::{Effect, Unkept};
+pub use whole::is_whole;

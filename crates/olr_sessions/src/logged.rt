@@ -69,4 +69,12 @@ impl<R: Read + Drop, W: Write + Drop, J: Journal + Drop> Session<Buffered<W>> fo
         self.gate.settle(!is_fault(text));
         self.gate.write(output, text)
     }
+
+    fn wants_records(&self) -> bool {
+        self.gate.wants_records()
+    }
+
+    fn renew(&mut self, records: &[u8]) {
+        self.gate.renew(records);
+    }
 }

@@ -3,7 +3,7 @@
 ghost use Rattle.std.specs.Prelude.{◌≡◌, ℕ, List, IfErr};
 ghost use Rattle.std.specs.Io.KnownBytes.{Keeps};
 ghost use Rattle.csv.specs.Records.{fields_of};
-ghost use Rattle.olr_sessions.specs.Sessions.{Event, TakesNext, Writes, ReadsNext, CsvHappens};
+ghost use Rattle.olr_sessions.specs.Sessions.{Event, Renewed, TakesNext, Writes, ReadsNext, CsvHappens};
 
 use crate::ends::RunFault;
 use crate::lines::Lines;
@@ -25,6 +25,13 @@ pub trait Session<W> {
     /// Writes a text.
     fn answer(&mut self, output: &mut W, text: &[u8]) -> Result<(), RunFault>
         ensures { Writes happens (self.old, output.old) text.now (self.new, output.new) result };
+
+    /// Whether the records of all that is accepted so far are wanted, to be kept in the place of a log.
+    fn wants_records(&self) -> bool;
+
+    /// Keeps these records in the place of a log, if it can.
+    fn renew(&mut self, records: &[u8])
+        ensures { (output : W) → happens (self.old, output) (Renewed records.now) (self.new, output) };
 }
 
 /// Reads the next record into `fields`. Returns false if there is none.
@@ -69,4 +76,10 @@ impl<R: Read + Drop, W: Write> Session<W> for Reader<Lines<R>> {
     fn answer(&mut self, output: &mut W, text: &[u8]) -> Result<(), RunFault> {
         write_all(output, text)
     }
+
+    fn wants_records(&self) -> bool {
+        false
+    }
+
+    fn renew(&mut self, _records: &[u8]) {}
 }

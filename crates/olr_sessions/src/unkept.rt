@@ -148,7 +148,8 @@ pub struct Unkept {
 }
 
 impl Unkept {
-    ghost use Rattle.olr_sessions.specs.Journals.{IsFront, is_whole};
+    ghost use Rattle.std.specs.Prelude.{not};
+    ghost use Rattle.olr_sessions.specs.Journals.{IsFront, is_whole, is_empty};
     ghost use Rattle.olr_sessions.specs.KeptLines.{IsLineFor, has_line, settled};
     ghost use Rattle.olr_sessions.specs.Unkept.{waiting, next_line, Opens, Closes};
 
@@ -278,6 +279,13 @@ impl Unkept {
         } else {
             self.cut();
         }
+    }
+
+    /// Whether a batch is open.
+    pub fn is_in_batch(&self) -> bool
+        ensures { result ≡ not (is_empty (waiting self.now).batch) }
+    {
+        self.ready < self.held
     }
 
     /// The lines that are ready to be kept: they are whole.

@@ -19,7 +19,7 @@ fn empty_folder(rt: &HostRuntime, name: &str) -> io::Result<()> {
 /// Opens a log that isn't replaced for its size.
 fn opened<'a>(rt: &'a HostRuntime, path: &str, is_new: bool) -> Result<Log<'a>, OpenError> {
     let (disk, folder) = open_place(rt, path, is_new, Unknown)?;
-    Ok(LogFile::open(rt.alloc(), disk, folder, usize::MAX)?)
+    Ok(LogFile::open(rt.alloc(), disk, folder)?)
 }
 
 /// Why a log can't be opened.

@@ -34,12 +34,19 @@ impl Journal for Kept {
         Ok(())
     }
 
-    fn replace(&mut self, _records: &[u8]) -> io::Result<bool> {
-        Ok(false)
+    fn replace(&mut self, records: &[u8]) -> io::Result<bool> {
+        if self.fails_from < 100 {
+            return Ok(false);
+        }
+        let mut text = self.text.clone()?;
+        text.clear();
+        text.extend_from_slice(records)?;
+        self.text = text;
+        Ok(true)
     }
 
-    fn is_large(&self) -> bool {
-        false
+    fn len(&self) -> usize {
+        self.text.len()
     }
 
     fn is_in_place(&self) -> bool {
@@ -53,7 +60,6 @@ struct Left {
     answers: Vec<u8>,
     ended: Result<Status, RunFault>,
     fault: Option<LogFault>,
-    large: bool,
 }
 
 /// Runs records on a new register, with a new log that fails from one call on.
@@ -62,6 +68,7 @@ fn run_logged(
     records: &'static [u8],
     fails_from: usize,
     in_place: bool,
+    renewed_from: usize,
 ) -> Result<Left, AllocError> {
     let mut register = Register::new(alloc);
     let mut output = Buffered::new(alloc, Vec::new(alloc))?;
@@ -78,6 +85,7 @@ fn run_logged(
         none,
         records,
         journal,
+        renewed_from,
         &mut output,
         false,
     );
@@ -85,7 +93,6 @@ fn run_logged(
     let log = gate.get_ref().text.clone()?;
     let answers = output.get_ref().clone()?;
     let fault = gate.fault();
-    let large = gate.get_ref().is_large();
     drop(gate);
     drop(output);
     Ok(Left {
@@ -93,7 +100,6 @@ fn run_logged(
         answers,
         ended,
         fault,
-        large,
     })
 }
 
@@ -108,43 +114,69 @@ const LOG: &[u8] = b"node,1,0,0\nbegin\nnode,3,0,0\ncommit,1\n";
 
 #[test]
 fn what_is_kept(rt: HostRuntime) {
-    match run_logged(rt.alloc(), RECORDS, 100, true) {
+    match run_logged(rt.alloc(), RECORDS, 100, true, usize::MAX) {
         Ok(
             Left {
                 log,
                 answers,
                 ended,
                 fault,
-                large,
             },
         ) => {
             assert_eq!(rt; log.as_slice(), LOG);
             assert_eq!(rt; answers.as_slice(), REPLIES);
             assert_eq!(rt;
-                (ended, fault, large),
-                (Ok(Status::SomeRefused), None, false)
+                (ended, fault),
+                (Ok(Status::SomeRefused), None)
             );
         }
         Err(_error) => assert!(rt; false),
     }
 }
 
-#[test]
-fn log_that_fails(rt: HostRuntime) {
-    match run_logged(rt.alloc(), RECORDS, 0, true) {
+/// Runs these records with a log that is replaced from a length on, and asserts what it holds at the end.
+fn expect_log<R: Abort + AllocGlobal>(rt: &R, records: &'static [u8], renewed_from: usize, wanted: &[u8]) {
+    match run_logged(rt.alloc(), records, 100, true, renewed_from) {
         Ok(
             Left {
                 log,
                 answers,
                 ended,
                 fault,
-                large,
+            },
+        ) => {
+            assert_eq!(rt; log.as_slice(), wanted);
+            assert_eq!(rt; (ended.is_ok(), fault), (true, None));
+            drop(answers);
+        }
+        Err(_error) => assert!(rt; false),
+    }
+}
+
+#[test]
+fn logs_that_are_replaced(rt: HostRuntime) {
+    let moved = b"node,1,0,0\nmove,1,0,1\ncompact\nnode,2,0,0\n";
+    let asked: &[u8] = b"node,1,0,1\nnode,2,0,0\n";
+    expect_log(&rt, moved, usize::MAX, asked);
+    let in_batch = b"node,1,0,0\nbegin\nmove,1,0,1\ncompact\ncommit,1\n";
+    expect_log(&rt, in_batch, usize::MAX, b"node,1,0,0\nbegin\nmove,1,0,1\ncommit,1\n");
+}
+
+#[test]
+fn log_that_fails(rt: HostRuntime) {
+    match run_logged(rt.alloc(), RECORDS, 0, true, usize::MAX) {
+        Ok(
+            Left {
+                log,
+                answers,
+                ended,
+                fault,
             },
         ) => {
             assert_eq!(rt; (log.len(), answers.len()), (0, 0));
             assert_eq!(rt;
-                (ended, fault, large),
-                (Err(RunFault::Write), Some(LogFault::Unwritten), false)
+                (ended, fault),
+                (Err(RunFault::Write), Some(LogFault::Unwritten))
             );
         }
         Err(_error) => assert!(rt; false),
@@ -153,20 +185,19 @@ fn log_that_fails(rt: HostRuntime) {
 
 #[test]
 fn log_that_is_moved(rt: HostRuntime) {
-    match run_logged(rt.alloc(), RECORDS, 100, false) {
+    match run_logged(rt.alloc(), RECORDS, 100, false, usize::MAX) {
         Ok(
             Left {
                 log,
                 answers,
                 ended,
                 fault,
-                large,
             },
         ) => {
             assert_eq!(rt; (log.len() > LOG.len(), answers.len()), (false, 0));
             assert_eq!(rt;
-                (ended, fault, large),
-                (Err(RunFault::Write), Some(LogFault::Moved), false)
+                (ended, fault),
+                (Err(RunFault::Write), Some(LogFault::Moved))
             );
         }
         Err(_error) => assert!(rt; false),

@@ -528,17 +528,21 @@ fn help_and_usage(rt: HostRuntime) {
 Usage: olr-keep [OPTIONS]
 
 Options:
-  -m <FILE>      Reads the records of FILE before those of standard input
-  -s             Stops at the first rejected record
-  -h, --help     Print help
-  -V, --version  Print version
+  -m <FILE>                Reads the records of FILE before those of standard input
+  -s                       Stops at the first rejected record
+  -l <LOG>                 Starts from the records of LOG, and keeps each accepted change there
+      --new                Makes LOG, which must not exist
+      --compact-at <SIZE>  Replaces LOG by a dump when it has SIZE bytes, as 500M
+  -h, --help               Print help
+  -V, --version            Print version
 
 Records: node, move, drop-node, line, set-line, drop-line, path, repath, drop-path,
-show, show-node, show-line, depends, report, dump, explain, begin, commit, abort.
+show, show-node, show-line, depends, report, dump, compact, explain, begin, commit, abort.
 docs/LIMITS.md: fields, limits, faults.
 Replies: `ok,N` and N lines, `held,N` in a batch, `fault,NUMBER,WORD`.
 Example: olr-keep < examples/morning.csv
-Status: 0 all accepted, 1 some rejected, 2 invalid arguments, 3 I/O failed, 4 out of memory.
+Status: 0 all accepted, 1 some rejected, 2 invalid arguments, 3 I/O failed, 4 out of memory;
+5 a record of LOG is rejected, 6 the input ended in a batch, 7 LOG is in use.
 docs/RUNNING.md: maps from a database, a log for restarts, a queue, regions.
 ";
     let usage = "error: unexpected argument '-x' found

@@ -6,7 +6,13 @@ use Rattle.olr_arguments.proofs.command_line.command.Goals as goal
 
 pub returns : goal.returns
 returns c =
-    let head = c.in_ok-arg.ensures.shape c.file_argument.ensures.local in
-    let first = head ∙ ap₂ with_rule c.described.ensures c.file_argument.ensures.rule in
-    IfOk-weaker c.arg-2.result _ _
-    (λ r h. h.shape c.stop_argument.ensures.local ∙ ap₂ with_rule first c.stop_argument.ensures.rule) c.arg-2.ensures
+    let first = c.in_ok-arg.ensures.shape c.file_argument.ensures.local
+    ∙ ap₂ with_rule c.described.ensures c.file_argument.ensures.rule in
+    let second = c.in_ok-arg-2.ensures.shape c.stop_argument.ensures.local
+    ∙ ap₂ with_rule first c.stop_argument.ensures.rule in
+    let third = c.in_ok-arg-3.ensures.shape c.log_argument.ensures.local
+    ∙ ap₂ with_rule second c.log_argument.ensures.rule in
+    let fourth = c.in_ok-arg-4.ensures.shape c.new_argument.ensures.local
+    ∙ ap₂ with_rule third c.new_argument.ensures.rule in
+    IfOk-weaker c.arg-5.result _ _
+    (λ r h. h.shape c.size_argument.ensures.local ∙ ap₂ with_rule fourth c.size_argument.ensures.rule) c.arg-5.ensures

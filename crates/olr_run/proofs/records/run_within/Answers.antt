@@ -24,21 +24,38 @@ returns-then-answered-eq-MOST_RECORDS-clause-cut g c =
     cut_past g.S.Session.happens _ _ _ _ _ _ _ c.records.invariant.1 _ (fields_of c.take.new.fields)
     c.is_sound.ensures c.if-answered-eq-MOST_RECORDS.true (rw c.if-branch.true at c.in_ok-take.ensures)
 
-pub returns-in_err-write_outcome-clause-cut : goal.returns-in_err-write_outcome-clause-cut
-returns-in_err-write_outcome-clause-cut g c =
-    passed_on c.from_residual-in_err-write_outcome.result c.in_err-write_outcome.field-0.0 _
-    c.from_residual-in_err-write_outcome.ensures.1
+pub returns-in_err-accepted-clause-cut : goal.returns-in_err-accepted-clause-cut
+returns-in_err-accepted-clause-cut g c =
+    passed_on c.from_residual-in_err-accepted.result c.in_err-accepted.field-0.0 _
+    c.from_residual-in_err-accepted.ensures.1
     (cut_in_answer g.S.Session.happens _ _ _ _ _ _ _ c.records.invariant.1 _ _ _ (fields_of c.take.new.fields)
-    (rw c.if-branch.true at c.in_ok-take.ensures) _ c.is_sound.ensures c.in_err-write_outcome.ensures)
+    (rw c.if-branch.true at c.in_ok-take.ensures) _ c.is_sound.ensures c.in_err-accepted.ensures)
 
 pub returns-then-stop-clause-ran : goal.returns-then-stop-clause-ran
 returns-then-stop-clause-ran g c =
+    let d = c.renew.ensures in
     ran_stopped g.S.Session.happens _ _ _ _ _ _ _ c.records.invariant.1 _ _ _ (fields_of c.take.new.fields)
-    (rw c.if-branch.true at c.in_ok-take.ensures) c.in_ok-write_outcome.field-0 c.is_sound.ensures
-    c.if-not-branch.true c.if-stop.true c.in_ok-write_outcome.ensures
+    (rw c.if-branch.true at c.in_ok-take.ensures) c.in_ok-accepted.accepted _ c.is_sound.ensures
+    c.if-not-accepted.true c.if-stop.true c.in_ok-accepted.ensures (d.0, d.1, d.2 c.write_outcome.new.output)
 
-pub records-preserved-then-not-branch : goal.records-preserved-then-not-branch
-records-preserved-then-not-branch g c = grind (arith, refused_so_far)
+pub records-preserved-then-not-accepted : goal.records-preserved-then-not-accepted
+records-preserved-then-not-accepted g c =
+    let d = c.renew.ensures in
+    let below = c.if-answered-eq-MOST_RECORDS.false in
+    let most = c.records.invariant.0 in (
+      omega (arith, below, most),
+      refused_so_far g.S.Session.happens _ _ _ _ _ _ _ c.records.invariant.1 _ _ _ (fields_of c.take.new.fields)
+          (rw c.if-branch.true at c.in_ok-take.ensures) c.in_ok-accepted.accepted _ c.if-not-accepted.true c.if-stop.false
+          c.in_ok-accepted.ensures (d.0, d.1, d.2 c.write_outcome.new.output),
+    )
 
 pub records-preserved : goal.records-preserved
-records-preserved g c = grind (arith, accepted_so_far)
+records-preserved g c =
+    let d = c.renew.ensures in
+    let below = c.if-answered-eq-MOST_RECORDS.false in
+    let most = c.records.invariant.0 in (
+      omega (arith, below, most),
+      accepted_so_far g.S.Session.happens _ _ _ _ _ _ _ c.records.invariant.1 _ _ _ (fields_of c.take.new.fields)
+          (rw c.if-branch.true at c.in_ok-take.ensures) c.in_ok-accepted.accepted _ c.if-not-accepted.false
+          c.in_ok-accepted.ensures (d.0, d.1, d.2 c.write_outcome.new.output),
+    )

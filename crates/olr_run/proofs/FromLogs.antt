@@ -1,0 +1,186 @@
+-- A run from a log in a file, from the contracts of its parts.
+use Rattle.olr_run.proofs.Common.{IfErr, IfSome, Outcome, Field, Appends, Known, Records, RanOn, FaultedOn, RunFault, Registered}
+use Rattle.olr_run.proofs.Common.{Represents, exit_code, is_ok, ⊤}
+use Rattle.std.proofs.Common.{◌≡◌, ◌∙◌, ◌⊎◌, ℕ, Bool, true, false, List, [], Some, None, inl, inr, refl, sym, ap, subst}
+use Rattle.std.specs.Prelude.{IfOk, OnOk, OnErr, Result, Ok, Err, IsTrue}
+use Rattle.std.specs.List.{concat}
+use Rattle.sqlite_disk.specs.declared.Disk as disk
+use Rattle.olr_commands.specs.Dump.{dump_lines}
+use Rattle.olr_commands.specs.State.{Content, IsContent, State}
+use Rattle.olr_journal.specs.Logs.{kept_of, left_of, is_own_of, is_clean}
+use Rattle.olr_journal.specs.declared.folder.Folder as folder
+use Rattle.olr_journal.specs.declared.log_file.LogFile.{LogFile}
+use Rattle.olr_run.proofs.Dumped.{content_dump_leads}
+use Rattle.olr_run.proofs.LogRecords.{same_content}
+use Rattle.olr_run.proofs.Running.{represented}
+use Rattle.olr_run.specs.LogEnds.{AreRecordsOf, Begins, BeginsWith, LastsOn, Unbegun}
+use Rattle.olr_run.specs.Logged.{closed, Leads}
+use Rattle.olr_run.specs.Logs.{LastsWhole, LastsCut}
+use Rattle.olr_run.specs.ProgramEnds.{FromLog, Ran, Cut_off}
+use Rattle.olr_run.specs.Restored.{IsContentOf}
+use Rattle.olr_sessions.specs.Buffers.{written}
+use Rattle.olr_sessions.specs.Journals.{Only}
+use Rattle.olr_sessions.specs.declared.buffered.Buffered.{Buffered}
+use Rattle.olr_sessions.specs.declared.ends.Status.{Status}
+use Rattle.olr_sessions.specs.declared.gate.Gate.{Gate}
+
+-- what is known of each run, from more
+ran_each : (E E2 : State → List (List Field) → List Outcome → State → Type 0) →
+    ((s : State) (rs : List (List Field)) (os : List Outcome) (t : State) → E s rs os t → E2 s rs os t) → (stop : Bool)
+    (old : Registered) (records : Records) (before : Known) (new : Registered) (later : Known) (end : Status) →
+    RanOn E stop old records before new later end → RanOn E2 stop old records before new later end
+ran_each E E2 f stop old None before new later end h = tt
+ran_each E E2 f stop old (Some rs) before new later end h = λ s represents.
+    let r = h s represents in (
+      r.0,
+      r.1,
+      r.2,
+      r.3,
+      record {
+        outcomes = r.4.outcomes;
+        each = f s rs r.4.outcomes r.0 r.4.each;
+        stops = r.4.stops;
+        all = r.4.all;
+        wrote = r.4.wrote;
+        ended = r.4.ended;
+      },
+    )
+
+faulted_each : (E E2 : State → List (List Field) → List Outcome → State → Type 0) →
+    ((s : State) (rs : List (List Field)) (os : List Outcome) (t : State) → E s rs os t → E2 s rs os t) → (stop : Bool)
+    (old : Registered) (records : Records) (before : Known) (new : Registered) (later : Known) (e : RunFault) →
+    FaultedOn E stop old records before new later e → FaultedOn E2 stop old records before new later e
+faulted_each E E2 f stop old None before new later e h = tt
+faulted_each E E2 f stop old (Some rs) before new later e h = λ s represents.
+    let r = h s represents in (
+      r.0,
+      r.1,
+      r.2,
+      r.3,
+      record {
+        outcomes = r.4.outcomes;
+        each = f s rs r.4.outcomes r.0 r.4.each;
+        stops = r.4.stops;
+        wrote = r.4.wrote;
+      },
+    )
+
+pub always_err : {A E : Type 0} (r : Result A E) (P : Type 0) → P → OnErr r P
+always_err (Ok a) P h = tt
+always_err (Err e) P h = h
+
+pub on_true : {A E : Type 0} (r : Result A E) (P : Type 0) → OnOk r P → is_ok r ≡ true → P
+on_true (Ok a) P h e = h
+on_true (Err e) P h is = absurd (let never = is in cc)
+
+module _ {D F : Type 0} {d : disk.Ghosts D} {f : folder.Ghosts F D} where
+  -- ---- the start
+
+  pub begins_from : (log read start : LogFile D F d f) (register : Registered) → IsContent register.kept.content →
+      is_own_of read ≡ is_own_of log → kept_of read ≡ kept_of log → ((t : List ℕ) → left_of read t → left_of log t)
+      → (is_clean read ≡ true → (c : Content) × IsContentOf (kept_of log) c × Represents register.kept (closed c))
+      → (is_clean read ≡ true → (c : Content) → Leads (kept_of log) c → Represents register.kept (closed c))
+      → (is_own_of read ≡ true → is_clean start ≡ true → kept_of start ≡ kept_of read)
+      → (is_own_of read ≡ false → AreRecordsOf register (kept_of start))
+      → (Only (kept_of read) (left_of read) → Only (kept_of start) (left_of start)) → Begins log read start register
+  begins_from log read start register sound own same less content leads kept renewed durable =
+      record {
+        same = same;
+        less = less;
+        content = content;
+        leads = by_own (is_own_of log) own;
+        only = λ before. durable (λ t left. before t (less t left) ∙ sym same);
+      }
+    where
+      by_own : (b : Bool) → is_own_of read ≡ b → is_clean read ≡ true → is_clean start ≡ true → (c : Content) →
+          BeginsWith b (kept_of log) c → Represents register.kept (closed c) × Leads (kept_of start) c
+      by_own true is clean now c l =
+          (leads clean c l, subst (λ (x : List ℕ). Leads x c) (sym (kept is now ∙ same)) l)
+      by_own false is clean now c l =
+          let there = content clean in
+          let e : there.0 ≡ c = same_content (kept_of log) there.0 c there.1 l in
+          let represents : Represents register.kept (closed c) =
+          subst (λ (x : Content). Represents register.kept (closed x)) e there.2 in
+          (represents,
+          subst (λ (x : List ℕ). Leads x c) (sym (renewed is c represents))
+          (content_dump_leads (kept_of log) c l (represented register (closed c) sound represents)))
+
+  -- a log that may have been replaced before the start failed
+  pub unbegun_after : (log read last : LogFile D F d f) (register : Registered) → kept_of read ≡ kept_of log →
+      ((t : List ℕ) → left_of read t → left_of log t)
+      → (is_clean read ≡ true → (c : Content) × IsContentOf (kept_of log) c × Represents register.kept (closed c))
+      → ((t : List ℕ) → left_of last t → left_of read t ⊎ (t ≡ kept_of read) ⊎ AreRecordsOf register t)
+      → Unbegun log last
+  unbegun_after log read last register same less content cut = (
+    read,
+    same,
+    λ t left. elim (cut t left) [
+      | inl before ↦ inl (less t before)
+      | inr new ↦ inr (elim new [
+        | inl kept ↦ inl (kept ∙ same)
+        | inr records ↦ inr (λ clean. let k = content clean in (k.0, k.1, records k.0 k.2))
+      ])
+    ],
+  )
+
+  pub cut_from : (j k last : LogFile D F d f) (ok : Bool) → k ≡ j →
+      ((t : List ℕ) → left_of last t → left_of k t ⊎ (IsTrue ok × (t ≡ kept_of k))) → (t : List ℕ) → left_of last t →
+      left_of j t ⊎ (IsTrue ok × (t ≡ kept_of j))
+  cut_from j k last ok e cut =
+      subst (λ (x : LogFile D F d f). (t : List ℕ) → left_of last t → left_of x t ⊎ (IsTrue ok × (t ≡ kept_of x))) e cut
+
+  pub unbegun_read : (log read : LogFile D F d f) → kept_of read ≡ kept_of log →
+      ((t : List ℕ) → left_of read t → left_of log t) → Unbegun log read
+  unbegun_read log read same less = (read, same, λ t left. inl (less t left))
+
+  -- ---- the end
+
+  module _ {W : Type 0} (contents : W → Known) (start last : LogFile D F d f) (o p : Buffered W)
+      (g : Gate (LogFile D F d f)) (r : Result Status RunFault)
+      (cut : (t : List ℕ) → left_of last t → left_of g.journal t ⊎ (IsTrue (is_ok r) × (t ≡ kept_of g.journal))) where
+    whole_closed : (s : State) (rs : List (List Field)) (os : List Outcome) (t : State) →
+        LastsWhole kept_of left_of contents start o g p s rs os t → LastsOn contents start o last p s rs os t
+    whole_closed s rs os t a = (
+      a.0,
+      λ k. let b = a.1 k in (
+        b.0,
+        b.1,
+        λ text left. elim (cut text left) [
+          | inl before ↦ b.2 text before
+          | inr all ↦ (t.content, subst (λ (x : List ℕ). Leads x t.content) (sym all.1) b.4, b.3)
+        ],
+      ),
+    )
+
+    cut_closed : (e : RunFault) → r ≡ Err e → (s : State) (rs : List (List Field)) (os : List Outcome) (t : State) →
+        LastsCut kept_of left_of contents start o g p s rs os t → LastsOn contents start o last p s rs os t
+    cut_closed e is s rs os t a = (
+      a.0,
+      λ k. let b = a.1 k in (
+        b.0,
+        b.1,
+        λ text left. elim (cut text left) [
+          | inl before ↦ b.2 text before
+          | inr all ↦ absurd (let never = rw is at all.0 in cc)
+        ],
+      ),
+    )
+
+  pub ended_from : {W : Type 0} (contents : W → Known) (log read start last : LogFile D F d f) (o p : Buffered W)
+      (g : Gate (LogFile D F d f)) (r : Result Status RunFault)
+      (cut : (t : List ℕ) → left_of last t → left_of g.journal t ⊎ (IsTrue (is_ok r) × (t ≡ kept_of g.journal)))
+      (stop : Bool) (old new : Registered) (records : Records) (code : ℕ) → Begins log read start old
+      → IfOk r (RanOn (LastsWhole kept_of left_of contents start o g p) stop old records (written contents o) new
+      (written contents p))
+      → IfErr r (FaultedOn (LastsCut kept_of left_of contents start o g p) stop old records (written contents o) new
+      (written contents p))
+      → IfOk r (λ status. (code ≡ exit_code (Ok status)) ⊎ (code ≡ 6))
+      → IfErr r (λ e. code ≡ exit_code (Err e)) → FromLog contents log last stop records o p code
+  ended_from contents log read start last o p g (Ok end) cut stop old new records code begins ran faulted status fault =
+      Ran read start old new begins end
+      (ran_each _ _ (whole_closed contents start last o p g (Ok end) cut) stop old records (written contents o) new
+      (written contents p) end ran) status
+  ended_from contents log read start last o p g (Err e) cut stop old new records code begins ran faulted status fault =
+      Cut_off read start old new begins e
+      (faulted_each _ _ (cut_closed contents start last o p g (Err e) cut e refl) stop old records (written contents o) new
+      (written contents p) e faulted) fault

@@ -1,0 +1,27 @@
+-- How a run from a log ends, from the contracts of its parts.
+use Rattle.std.proofs.Common.{refl}
+use Rattle.std.specs.Prelude.{is_ok}
+use Rattle.olr_run.proofs.Common.{known_both, known_file, known_records}
+use Rattle.olr_run.specs.ProgramEnds.{Not_begun}
+use Rattle.olr_run.proofs.FromLogs.{cut_from, ended_from, on_true}
+use Rattle.olr_run.proofs.from_log.run_from_log.Goals as goal
+
+pub returns-in-Err-clause-ends : goal.returns-in-Err-clause-ends
+returns-in-Err-clause-ends g c =
+    Not_begun refl c.report_start.ensures.least c.report_start.ensures.bounded c.in-Err.ensures.unbegun
+
+pub returns-clause-ends : goal.returns-clause-ends
+returns-clause-ends g c =
+    let r = c.run_with_log-ended in
+    ended_from g.W.Write.contents c.args.log c.in-Ok.ensures.begun.0 c.begin_with.new.log c.close_log-log.result
+    c.args.output.now r.new.output r.result.1 r.result.0
+    (cut_from r.result.1.journal c.into_journal.result c.close_log-log.result (is_ok r.result.0) c.into_journal.ensures
+    c.close_log-log.ensures.cut)
+    c.args.asked.now.stop c.in-Ok.begun.0 r.new.register
+    (known_both (known_records (known_file g.F.Read.remaining c.args.file)) (known_records (g.R.Read.remaining c.args.input)))
+    c.log_status.result c.in-Ok.ensures.begun.1 r.ensures.ran r.ensures.faulted c.log_status.ensures.ended
+    c.log_status.ensures.cut
+
+pub returns-clause-sent : goal.returns-clause-sent
+returns-clause-sent g c = λ low.
+    on_true c.run_with_log-ended.result.0 _ c.run_with_log-ended.ensures.sent (c.log_status.ensures.whole low)

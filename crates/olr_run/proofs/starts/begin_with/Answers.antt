@@ -1,0 +1,23 @@
+-- A start, from the contracts of its parts.
+use Rattle.olr_run.proofs.FromLogs.{always_err, begins_from, unbegun_after, unbegun_read}
+use Rattle.olr_run.proofs.starts.begin_with.Goals as goal
+
+pub returns-clause-begun : goal.returns-clause-begun
+returns-clause-begun g c = (
+  c.read_log.new.log,
+  begins_from c.args.log.now c.read_log.new.log c.prepare_log.new.log c.in_ok-register.register c.is_sound.ensures
+      c.read_log.ensures.own c.read_log.ensures.kept c.read_log.ensures.less c.in_ok-register.ensures.content
+      c.in_ok-register.ensures.leads c.in_ok-prepare_log.ensures.own c.in_ok-prepare_log.ensures.foreign
+      c.in_ok-prepare_log.ensures.durable,
+)
+
+pub returns-in_err-register-clause-unbegun : goal.returns-in_err-register-clause-unbegun
+returns-in_err-register-clause-unbegun g c =
+    always_err c.from_residual.result _
+    (unbegun_read c.args.log.now c.read_log.new.log c.read_log.ensures.kept c.read_log.ensures.less)
+
+pub returns-in_err-prepare_log-clause-unbegun : goal.returns-in_err-prepare_log-clause-unbegun
+returns-in_err-prepare_log-clause-unbegun g c =
+    always_err c.from_residual-in_err-prepare_log.result _
+    (unbegun_after c.args.log.now c.read_log.new.log c.prepare_log.new.log c.in_ok-register.register c.read_log.ensures.kept
+    c.read_log.ensures.less c.in_ok-register.ensures.content c.prepare_log.ensures.cut)

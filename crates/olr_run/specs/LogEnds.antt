@@ -1,0 +1,68 @@
+-- How a run with a log in a file begins and ends.
+--     AreRecordsOf register text      the text has the records that build the content of the register
+--     BeginsWith own text c      what the text of a log says: of one that the program wrote, each record is a line as the
+--         program writes it
+--     Begins log read start register      a register and a log in which records can be kept, from a log that was opened
+--     FromLog      how a run from a log ends
+use Rattle.std.specs.Prelude.{◌≡◌, ◌≤◌, ◌⊎◌, ℕ, Bool, true, false, List, IfSome, Result, Ok, Err}
+use Rattle.std.specs.List.{concat}
+use Rattle.std.specs.Io.KnownBytes.{Appends}
+use Rattle.sqlite_disk.specs.declared.Disk as disk
+use Rattle.olr_commands.specs.Dump.{dump_lines}
+use Rattle.olr_commands.specs.Reply.{Outcome}
+use Rattle.olr_commands.specs.State.{Content, State}
+use Rattle.olr_journal.specs.Logs.{kept_of, left_of, is_own_of, is_clean}
+use Rattle.olr_journal.specs.declared.folder.Folder as folder
+use Rattle.olr_journal.specs.declared.log_file.LogFile.{LogFile}
+use Rattle.olr_records.specs.Records.{Field}
+use Rattle.olr_register.specs.RegisterState.{Represents}
+use Rattle.olr_register.specs.Registered.{Registered}
+use Rattle.olr_run.specs.Logged.{closed, Leads, Survives}
+use Rattle.olr_run.specs.Logs.{Began}
+use Rattle.olr_run.specs.Output.{Claims}
+use Rattle.olr_run.specs.Restored.{IsContentOf}
+use Rattle.olr_run.specs.Runs.{Records, RanOn, FaultedOn}
+use Rattle.olr_sessions.specs.Buffers.{written}
+use Rattle.olr_sessions.specs.Journals.{Only}
+use Rattle.olr_sessions.specs.Sessions.{Known}
+use Rattle.olr_sessions.specs.declared.buffered.Buffered.{Buffered}
+use Rattle.olr_sessions.specs.declared.ends.RunFault.{RunFault}
+use Rattle.olr_sessions.specs.declared.ends.Status.{Status}
+
+abbrev pub AreRecordsOf : Registered → List ℕ → Type 0
+AreRecordsOf register text = (c : Content) → Represents register.kept (closed c) → text ≡ concat (dump_lines c)
+
+abbrev pub BeginsWith : Bool → List ℕ → Content → Type 0
+BeginsWith true text c = Leads text c
+BeginsWith false text c = IsContentOf text c
+
+module _ {D F : Type 0} {d : disk.Ghosts D} {f : folder.Ghosts F D} where
+  -- Nothing but reads led from `log` to `read`. If the disk told no lie, the register has the content that the text of the log
+  -- says, and the log in which records can be kept leads to it, whatever a crash leaves.
+  pub record Begins (log read start : LogFile D F d f) (register : Registered) : Type 0 where
+    pub same : kept_of read ≡ kept_of log
+    pub less : (t : List ℕ) → left_of read t → left_of log t
+    pub content : is_clean read ≡ true → (c : Content) × IsContentOf (kept_of log) c × Represents register.kept (closed c)
+    pub leads : is_clean read ≡ true → is_clean start ≡ true → (c : Content) → BeginsWith (is_own_of log) (kept_of log) c →
+        Represents register.kept (closed c) × Leads (kept_of start) c
+    pub only : Only (kept_of log) (left_of log) → Only (kept_of start) (left_of start)
+
+  abbrev pub BegunFrom : LogFile D F d f → LogFile D F d f → Registered → Type 0
+  BegunFrom log start register = (read : LogFile D F d f) × Begins log read start register
+
+  -- a log from which no run began, since it could not be read or written, or a record is rejected
+  abbrev pub Unbegun : LogFile D F d f → LogFile D F d f → Type 0
+  Unbegun log last =
+      (read : LogFile D F d f) × (kept_of read ≡ kept_of log)
+      × ((t : List ℕ) → left_of last t → left_of log t ⊎ (t ≡ kept_of log)
+      ⊎ (is_clean read ≡ true → (c : Content) × IsContentOf (kept_of log) c × (t ≡ concat (dump_lines c))))
+
+  module _ {W : Type 0} (contents : W → Known) where
+    -- however it ended, each text that may be left of the log leads to the content after the first of the outcomes, and of the
+    -- texts of later ones nothing was sent
+    abbrev pub LastsOn : LogFile D F d f → Buffered W → LogFile D F d f → Buffered W → State → List (List Field) →
+        List Outcome → State → Type 0
+    LastsOn start o last p s rs os t =
+        Claims s rs os t
+        × (Began kept_of left_of contents s start o → (sent : List ℕ) × Appends (contents o.device) (contents p.device) sent
+        × Survives s rs os (left_of last) sent)

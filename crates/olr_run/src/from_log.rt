@@ -1,0 +1,270 @@
+//! The program with a log.
+
+ghost use Rattle.std.specs.Prelude.{◌≡◌, ◌≤◌, ◌⊎◌, ℕ, List, [], Ok, Err, true, length, IfOk, IfErr, IsTrue, is_ok};
+ghost use Rattle.olr_arguments.specs.Opens.{Opens};
+ghost use Rattle.olr_arguments.specs.Options.{options_of};
+ghost use Rattle.olr_journal.specs.Logs.{kept_of, left_of};
+ghost use Rattle.olr_run.specs.ProgramEnds.{FromLog, LogEnds};
+ghost use Rattle.std.specs.Result.{result_ok};
+ghost use Rattle.olr_run.specs.Runs.{known_file, known_records, known_both};
+ghost use Rattle.olr_sessions.specs.Buffers.{held};
+ghost use Rattle.olr_sessions.specs.Statuses.{exit_code};
+ghost use Rattle.olr_sessions.specs.Sessions.{most_held};
+
+use crate::logged::run_with_log;
+use crate::starts::{StartFault, begin_with};
+use crate::streams::NO_FILE;
+use olr_arguments::{Options, WRONG_ARGUMENTS, open_file};
+use olr_journal::{Folder, LogFile, OpenError};
+use olr_register::Register;
+use olr_sessions::{Buffered, LogFault, RunFault, Status, end_status, report_fault};
+use sqlite_disk::Disk;
+use std::alloc::Global;
+use std::io::{self, Read, Write};
+
+/// The exit status if a log can't be used.
+const NO_LOG: u8 = 3;
+
+/// The exit status if a record of a log is rejected.
+const REJECTED: u8 = 5;
+
+/// The exit status if the input ended in a batch.
+const OPEN_BATCH: u8 = 6;
+
+/// The exit status if another process uses the log.
+const IN_USE: u8 = 7;
+
+/// The number of bytes that an argument names: K, M and G are powers of 1,024.
+fn size(text: &str) -> Option<usize> {
+    let (digits, unit) = match text.strip_suffix('K') {
+        Some(digits) => (digits, 1 << 10),
+        None => match text.strip_suffix('M') {
+            Some(digits) => (digits, 1 << 20),
+            None => match text.strip_suffix('G') {
+                Some(digits) => (digits, 1 << 30),
+                None => (text, 1),
+            },
+        },
+    };
+    let count: usize = digits.parse().ok()?;
+    if count == 0 {
+        return None;
+    }
+    count.checked_mul(unit)
+}
+
+/// The least length of a log that is replaced; none is if no size was asked for.
+fn renewal_length(asked: Option<&str>) -> Option<usize> {
+    match asked {
+        Some(text) => size(text),
+        None => Some(usize::MAX),
+    }
+}
+
+/// Reports why a log can't be opened, and returns the exit status.
+fn report_unopened<E: Write>(name: &str, error: OpenError, errors: &mut E) -> u8
+    ensures least { 2 ≤ result }
+    ensures bounded { result ≤ 7 }
+{
+    match error {
+        OpenError::Missing => {
+            let _ = writeln!(errors, "olr-keep: {name} is missing: --new makes it");
+            WRONG_ARGUMENTS
+        }
+        OpenError::Exists => {
+            let _ = writeln!(errors, "olr-keep: {name} exists: --new is for a new log");
+            WRONG_ARGUMENTS
+        }
+        OpenError::InUse(Some(process)) => {
+            let _ = writeln!(errors, "olr-keep: {name} is in use by process {process}");
+            IN_USE
+        }
+        OpenError::InUse(None) => {
+            let _ = writeln!(errors, "olr-keep: {name} is in use by another process");
+            IN_USE
+        }
+        OpenError::Io(error) => report_unusable(name, error, errors),
+    }
+}
+
+/// Reports why a log can't be used, and returns the exit status.
+fn report_unusable<E: Write>(name: &str, error: io::Error, errors: &mut E) -> u8
+    ensures least { 3 ≤ result }
+    ensures bounded { result ≤ 5 }
+{
+    if error.kind() == io::ErrorKind::OutOfMemory {
+        return report_fault(RunFault::Memory, errors);
+    }
+    let _ = writeln!(errors, "olr-keep: {name}: {error}");
+    NO_LOG
+}
+
+/// Reports why a run can't begin with a log, and returns the exit status.
+fn report_start<E: Write>(name: &str, fault: StartFault, errors: &mut E) -> u8
+    ensures least { 3 ≤ result }
+    ensures bounded { result ≤ 5 }
+{
+    match fault {
+        StartFault::Unusable(error) => report_unusable(name, error, errors),
+        StartFault::Rejected(number) => {
+            let _ = writeln!(errors, "olr-keep: record {number} of {name} is rejected");
+            REJECTED
+        }
+        StartFault::Open => {
+            let _ = writeln!(errors, "olr-keep: {name} ends in a batch");
+            REJECTED
+        }
+        StartFault::TooMany => report_fault(RunFault::TooMany, errors),
+        StartFault::Memory => report_fault(RunFault::Memory, errors),
+    }
+}
+
+/// The exit status after a run with a log. Reports why it was cut off, or that it ended in a batch.
+fn log_status<E: Write>(
+    name: &str,
+    ended: Result<Status, RunFault>,
+    fault: Option<LogFault>,
+    in_batch: bool,
+    errors: &mut E,
+) -> u8
+    ensures ended { IfOk ended (λ status. (result ≡ exit_code (Ok status)) ⊎ (result ≡ 6)) }
+    ensures cut { IfErr ended (λ fault. result ≡ exit_code (Err fault)) }
+    ensures whole { result ≤ 1 → is_ok ended ≡ true }
+    ensures bounded { result ≤ 7 }
+{
+    if let (Err(_), Some(fault)) = (ended, fault) {
+        let _ = writeln!(errors, "olr-keep: {name}: {fault}");
+    }
+    if ended.is_ok() && in_batch {
+        let _ = errors.write_all(b"olr-keep: the input ended within a batch, whose changes are dropped\n");
+        return OPEN_BATCH;
+    }
+    end_status(ended, errors)
+}
+
+/// Says with how many records and paths a run begins.
+fn report_begun<E: Write>(name: &str, records: u64, paths: usize, errors: &mut E) {
+    let _ = writeln!(errors, "olr-keep: {name} has {records} records and {paths} paths");
+}
+
+/// What is asked of a run with a log.
+#[derive(Clone, Copy)]
+struct Asked<'a> {
+    name: &'a str,
+    /// The least length of the log that is replaced by the records of the register.
+    renewed_from: usize,
+    /// Whether to stop at the first rejected record.
+    stop: bool,
+}
+
+/// Cuts the padding of a log off after a run that was not cut off. If that fails, the next start does without it.
+fn close_log<D: Disk + Drop, G: Folder<D>>(
+    ended: &Result<Status, RunFault>,
+    log: LogFile<D, G>,
+) -> LogFile<D, G>
+    ensures cut { (t : List ℕ) → left_of result t → left_of log t ⊎ (IsTrue (is_ok ended.now) × (t ≡ kept_of log)) }
+{
+    let mut log = log;
+    if ended.is_ok() {
+        let _ = log.close();
+    }
+    log
+}
+
+/// Carries out the commands of a file, if there is one, and then those of the input, from a log that was opened, in which
+/// each accepted change is kept before its answer is sent. Returns the exit status, and the log as it was left.
+fn run_from_log<
+    D: Disk + Drop,
+    G: Folder<D>,
+    F: Read + Drop,
+    R: Read + Drop,
+    W: Write + Drop,
+    E: Write,
+>(
+    alloc: Global,
+    log: LogFile<D, G>,
+    asked: &Asked<'_>,
+    file: Option<F>,
+    input: R,
+    output: &mut Buffered<W>,
+    errors: &mut E,
+) -> (u8, LogFile<D, G>)
+    ensures ends { FromLog W.contents log result.1 asked.now.stop
+        (known_both (known_records (known_file F.remaining file)) (known_records (R.remaining input)))
+        output.old output.new result.0 }
+    ensures bounded { result.0 ≤ 7 }
+    ensures sent { result.0 ≤ 1 → held output.new ≡ [] }
+    ensures lacks { length (held output.new) ≤ most_held }
+{
+    let mut log = log;
+    let (mut register, records) = match begin_with(alloc, &mut log) {
+        Ok(begun) => begun,
+        Err(fault) => return (report_start(asked.name, fault, errors), log),
+    };
+    report_begun(asked.name, records, register.len(), errors);
+    let (ended, gate) = run_with_log(
+        alloc,
+        &mut register,
+        file,
+        input,
+        log,
+        asked.renewed_from,
+        output,
+        asked.stop,
+    );
+    let fault = gate.fault();
+    let in_batch = register.is_open();
+    drop(register);
+    let log = close_log(&ended, gate.into_journal());
+    (
+        log_status(asked.name, ended, fault, in_batch, errors),
+        log,
+    )
+}
+
+/// The program with a log, once its arguments were read.
+pub fn with_log<
+    F: Read + Drop,
+    O: FnOnce(&str) -> io::Result<F>,
+    D: Disk + Drop,
+    G: Folder<D>,
+    R: Read + Drop,
+    W: Write + Drop,
+    E: Write,
+>(
+    alloc: Global,
+    asked: &Options<'_>,
+    opener: O,
+    log: Result<LogFile<D, G>, OpenError>,
+    input: R,
+    output: &mut Buffered<W>,
+    errors: &mut E,
+) -> (u8, Option<LogFile<D, G>>)
+    requires { O.IsAlwaysCallable opener }
+    ensures ends { LogEnds W.contents (Opens O.FnOnce F.remaining opener) (result_ok log) (R.remaining input) output.old
+        output.new (options_of asked.now) result.1 result.0 }
+    ensures bounded { result.0 ≤ 7 }
+    ensures sent { result.0 ≤ 1 → held output.new ≡ [] }
+    ensures lacks { length (held output.new) ≤ most_held }
+{
+    let name = asked.log.unwrap_or("the log");
+    let log = match log {
+        Ok(log) => log,
+        Err(error) => return (report_unopened(name, error, errors), None),
+    };
+    let Some(renewed_from) = renewal_length(asked.compact_at) else {
+        let _ = errors.write_all(b"olr-keep: --compact-at takes bytes, or a number with K, M or G, as 500M\n");
+        return (WRONG_ARGUMENTS, Some(log));
+    };
+    let Ok(file) = open_file(opener, asked.file) else {
+        let _ = errors.write_all(b"olr-keep: cannot open the command file\n");
+        return (NO_FILE, Some(log));
+    };
+    let run = Asked {
+        name,
+        renewed_from,
+        stop: asked.stop,
+    };
+    let (status, log) = run_from_log(alloc, log, &run, file, input, output, errors);
+    (status, Some(log))
+}

@@ -1,0 +1,137 @@
+//! A start from a log in a file.
+
+ghost use Rattle.std.specs.Prelude.{◌≡◌, ◌⊎◌, true, false, ℕ, List, IfOk, OnOk, OnErr};
+ghost use Rattle.olr_commands.specs.State.{Content};
+ghost use Rattle.olr_journal.specs.Logs.{kept_of, left_of, is_own_of, is_clean};
+ghost use Rattle.olr_register.specs.RegisterState.{Represents};
+ghost use Rattle.olr_run.specs.Logged.{closed, Leads};
+ghost use Rattle.olr_run.specs.LogEnds.{AreRecordsOf, BegunFrom, Unbegun};
+ghost use Rattle.olr_run.specs.Restored.{IsContentOf};
+ghost use Rattle.olr_sessions.specs.Journals.{Only};
+
+use crate::answers::records_text;
+use crate::loader::{RestoreFault, restore};
+use olr_journal::{Folder, LogFile};
+use olr_register::Register;
+use olr_sessions::{Journal, is_whole};
+use sqlite_disk::Disk;
+use std::alloc::Global;
+use std::io;
+
+/// Why a run can't begin with a log.
+#[derive(Clone, Copy, Debug)]
+pub enum StartFault {
+    /// The log can't be read or written.
+    Unusable(io::Error),
+    /// The record of this number is rejected, or a log holds none like it.
+    Rejected(u64),
+    /// The log ends in a batch.
+    Open,
+    /// There are too many records.
+    TooMany,
+    /// Out of memory.
+    Memory,
+}
+
+/// The fault of a call on a log that failed.
+fn log_fault(error: io::Error) -> StartFault {
+    if error.kind() == io::ErrorKind::OutOfMemory {
+        return StartFault::Memory;
+    }
+    StartFault::Unusable(error)
+}
+
+/// The fault of a log whose records can't be carried out, at the record of this number.
+fn records_fault(fault: RestoreFault, number: u64) -> StartFault {
+    match fault {
+        RestoreFault::Memory => StartFault::Memory,
+        RestoreFault::Rejected => StartFault::Rejected(number),
+        RestoreFault::Open => StartFault::Open,
+        RestoreFault::TooMany => StartFault::TooMany,
+    }
+}
+
+/// The register with the content of a log that was opened, and the number of the log's records.
+fn read_log<D: Disk + Drop, G: Folder<D>>(
+    alloc: Global,
+    log: &mut LogFile<D, G>,
+) -> Result<(Register, u64), StartFault>
+    ensures content { IfOk result (λ r. is_clean log.new ≡ true
+        → (c : Content) × IsContentOf (kept_of log.old) c × Represents r.0.kept (closed c)) }
+    ensures leads { IfOk result (λ r. is_clean log.new ≡ true
+        → (c : Content) → Leads (kept_of log.old) c → Represents r.0.kept (closed c)) }
+    ensures kept { kept_of log.new ≡ kept_of log.old }
+    ensures own { is_own_of log.new ≡ is_own_of log.old }
+    ensures less { (t : List ℕ) → left_of log.new t → left_of log.old t }
+{
+    let text = match log.text(alloc) {
+        Ok(text) => text,
+        Err(error) => return Err(log_fault(error)),
+    };
+    let mut count = 0;
+    match restore(alloc, text.as_slice(), &mut count) {
+        Ok(register) => Ok((register, count)),
+        Err(fault) => Err(records_fault(fault, count)),
+    }
+}
+
+/// Puts the records of the register in the place of a log that the program didn't write.
+fn rewrite<D: Disk + Drop, G: Folder<D>>(
+    log: &mut LogFile<D, G>,
+    register: &Register,
+) -> Result<(), StartFault>
+    ensures kept { OnOk result (AreRecordsOf register.now (kept_of log.new)) }
+    ensures durable { Only (kept_of log.old) (left_of log.old) → OnOk result (Only (kept_of log.new) (left_of log.new)) }
+    ensures cut { (t : List ℕ) → left_of log.new t → left_of log.old t ⊎ AreRecordsOf register.now t }
+{
+    let Ok(text) = records_text(register) else {
+        return Err(StartFault::Memory);
+    };
+    if !is_whole(text.as_slice()) {
+        return Err(StartFault::Open);
+    }
+    match log.replace(text.as_slice()) {
+        Ok(true) => Ok(()),
+        Ok(false) => match log.refusal() {
+            Some(error) => Err(log_fault(error)),
+            None => Err(StartFault::Memory),
+        },
+        Err(error) => Err(log_fault(error)),
+    }
+}
+
+/// Brings a log, from which the register was read, into the form in which records can be kept: what stands behind the
+/// program's own text is overwritten, and another file is replaced by the records of the register.
+fn prepare_log<D: Disk + Drop, G: Folder<D>>(
+    log: &mut LogFile<D, G>,
+    register: &Register,
+) -> Result<(), StartFault>
+    ensures own { is_own_of log.old ≡ true → OnOk result (is_clean log.new ≡ true → kept_of log.new ≡ kept_of log.old) }
+    ensures foreign { is_own_of log.old ≡ false → OnOk result (AreRecordsOf register.now (kept_of log.new)) }
+    ensures durable { Only (kept_of log.old) (left_of log.old) → OnOk result (Only (kept_of log.new) (left_of log.new)) }
+    ensures cut { (t : List ℕ) → left_of log.new t
+        → left_of log.old t ⊎ (t ≡ kept_of log.old) ⊎ AreRecordsOf register.now t }
+{
+    if !log.is_own() {
+        return rewrite(log, register);
+    }
+    match log.settle() {
+        Ok(()) => Ok(()),
+        Err(error) => Err(log_fault(error)),
+    }
+}
+
+/// Begins with a log that was opened. Returns the register with the log's content, and the number of the log's records. From
+/// then on records can be kept in the log.
+pub fn begin_with<D: Disk + Drop, G: Folder<D>>(
+    alloc: Global,
+    log: &mut LogFile<D, G>,
+) -> Result<(Register, u64), StartFault>
+    ensures begun { IfOk result (λ r. BegunFrom log.old log.new r.0) }
+    ensures unbegun { OnErr result (Unbegun log.old log.new) }
+{
+    let (register, records) = read_log(alloc, log)?;
+    register.is_sound();
+    prepare_log(log, &register)?;
+    Ok((register, records))
+}
