@@ -46,11 +46,13 @@ pub fn publish<M: MapRead>(
 {
     let Encoding {
         answer,
+        own,
         traversed,
         queries,
         known,
         work,
     } = encode_again(alloc, map, path, known, search)?;
+    drop(own);
     let text = text_of(alloc, &answer)?;
     let published = Published::new(answer, text, traversed, queries, known);
     Ok((published, work))

@@ -12,6 +12,7 @@ pub mod Reaching
 pub mod Resolving
 pub mod Reusing
 pub mod Asking
+pub mod OwnLines
 pub mod Referring
 pub mod Sets
 pub mod Stretches

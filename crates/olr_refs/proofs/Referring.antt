@@ -11,7 +11,9 @@ use Rattle.olr_answers.specs.declared.answer.Answer.{Answer}
 use Rattle.olr_answers.specs.declared.answer.Answer.TheVariants.{Points, Refused}
 use Rattle.std.proofs.lemmas.Slice.Zip.{AllZip-long}
 use Rattle.std.proofs.lemmas.List.Sums.{length-filter}
-use Rattle.olr_refs.specs.Referring.{JoinsOf, SearchesOf}
+use Rattle.olr_refs.specs.Referring.{JoinsOf, AnsweredAlong, SearchesOf}
+use Rattle.olr_refs.proofs.Common.{kept_points}
+use Rattle.olr_spec.specs.Recovery.{own_lines, OwnLinesOf}
 use Rattle.olr_spec.proofs.JoinedLemmas.{extended_joined}
 use Rattle.olr_spec.proofs.ReceiverLemmas.{recovered}
 use Rattle.olr_refs.specs.Recovered.{RecoveredOf}
@@ -30,21 +32,32 @@ whole_short M P E lead F G is none x = grind (arith, extended_sound)
 
 -- ---- the answer
 
--- the LRPs lead to the end, and this is their reference
-pub points_answer : (M : Map) (E : Path) (ls ps : List ℕ) (r : Reference) → ls ≡ E.lines →
+-- the LRPs lead to the end, and this is their reference, with the lines at them
+pub points_answer : (M : Map) (E : Path) (ls ps : List ℕ) (r : Reference) (xs : List ℕ) → ls ≡ E.lines →
     ForPoints M ls (λ js. (last_position 0 js ≡ length ls) × (ps ≡ 0 ∷ js))
     → r ≡ reference (legs M E.lines) E.pos E.neg (later ps) →
-    ForPoints M E.lines (λ js. spec.Points r ≡ answer_by_points M E js)
-points_answer M E ls ps r e c a = grind (arith, eq-eqb)
+    xs ≡ own_lines E.lines (kept_points (legs M E.lines) E.pos E.neg (later ps)) →
+    ForPoints M E.lines (λ js. AnsweredAlong M E js (spec.Points r) xs)
+points_answer M E ls ps r xs e c a o = grind (arith, eq-eqb)
 
 -- what holds for the extension and its LRPs, whatever the tried runs
 of_path : (M : Map) (P E : Path) (lead : ℕ) (F G : List ℕ) (Q : Path → List ℕ → List ℕ → List ℕ → Type 0) →
     (x : Extends M P E lead F G) → ForPoints M E.lines (Q E x.before x.after) → OfPath M P Q
 of_path M P E lead F G Q x a = grind arith
 
-pub encoding_of : (M : Map) (P E : Path) (lead : ℕ) (F G : List ℕ) (A : spec.Answer) → Extends M P E lead F G →
-    ForPoints M E.lines (λ js. A ≡ answer_by_points M E js) → Encoding M P A
-encoding_of M P E lead F G A x a = of_path M P E lead F G (λ e _ _ js. A ≡ answer_by_points M e js) x a
+pub encoding_of : (M : Map) (P E : Path) (lead : ℕ) (F G : List ℕ) (A : spec.Answer) (xs : List ℕ) →
+    Extends M P E lead F G →
+    ForPoints M E.lines (λ js. AnsweredAlong M E js A xs) → Encoding M P A
+encoding_of M P E lead F G A xs x a =
+    of_path M P E lead F G (λ e _ _ js. A ≡ answer_by_points M e js) x (a.0, a.1, a.2.answer)
+
+pub own_of : (M : Map) (P E : Path) (lead : ℕ) (F G : List ℕ) (A : spec.Answer) (xs : List ℕ) →
+    Extends M P E lead F G →
+    ForPoints M E.lines (λ js. AnsweredAlong M E js A xs) → OwnLinesOf M P A xs
+own_of M P E lead F G (spec.Points r) xs x a =
+    of_path M P E lead F G (λ e _ _ js. xs ≡ own_lines e.lines (kept_points (legs M e.lines) e.pos e.neg js)) x
+    (a.0, a.1, a.2.own)
+own_of M P E lead F G (spec.Refused refusal) xs x a = a.2.own
 
 -- ---- the routes
 

@@ -91,6 +91,7 @@ pub record IsCut (M : Map) (ls ds ps : List ℕ) (positive negative : ℕ) (ks :
   pub linked : AreLinked M ls ks
   pub pos_within : pos_left < dm_between (legs M ls) (slice_index ks 0) (slice_index ks 1)
   pub neg_within : neg_left < dm_between (legs M ls) (slice_index ks (length ks - 1 - 1)) (slice_index ks (length ks - 1))
+  pub kept : ks ≡ kept_points (legs M ls) positive negative (later ps)
   pub value : reference_by (legs M ls) pos_left neg_left ks ≡ reference (legs M ls) positive negative (later ps)
 
 module _ (M : Map) (ls ds ps : List ℕ) (d : AreDistances M ls ds) (p : ArePoints M ls ps) where
@@ -201,5 +202,6 @@ module _ (M : Map) (ls ds ps : List ℕ) (d : AreDistances M ls ds) (p : ArePoin
         linked = linked;
         pos_within = omega (arith, r.pos_cut, at 0 a (omega arith) (omega arith), at 1 (a + 1) refl (omega arith));
         neg_within = omega (arith, r.neg_cut, at (length ks - 1 - 1) (b - 1) (omega arith) (omega arith));
+        kept = kept_is;
         value = λ i. reference_by (legs M ls) (pos_is i) (neg_is i) (kept_is i);
       }

@@ -1,11 +1,17 @@
 -- What is known of an encoding beside its answer: the routes that join, and the searches that it makes.
 --     JoinsOf M P A      if the answer has LRPs, this holds for its reference
 --     SearchesOf M P n      the path is encoded by n searches
-use Rattle.std.specs.Prelude.{◌≡◌, ℕ, ◌∷◌, MatchOption, ⊤}
+--     OwnLinesAlong M E js A xs      xs are the own lines of the extended path E at the LRPs of its answer; none if it has
+--         no reference
+--     AnsweredAlong M E js A xs      A is the answer of the extended path by these LRPs, and xs are these lines
+use Rattle.std.specs.Prelude.{◌≡◌, ℕ, List, [], ◌∷◌, MatchOption, ⊤}
 use Rattle.olr_spec.specs.Map.{Map}
 use Rattle.olr_spec.specs.Extension.{Path}
 use Rattle.olr_spec.specs.Points.{OfPath}
-use Rattle.olr_spec.specs.Encoding.{path_fault}
+use Rattle.olr_spec.specs.Encoding.{path_fault, answer_by_points}
+use Rattle.olr_spec.specs.Encoding as spec
+use Rattle.olr_spec.specs.Reference.{legs, kept_points}
+use Rattle.olr_spec.specs.Recovery.{own_lines}
 use Rattle.olr_spec.specs.Joins.{Joined}
 use Rattle.olr_answers.specs.declared.answer.Answer.{Answer}
 use Rattle.olr_answers.specs.declared.answer.Answer.TheVariants.{Points, Refused}
@@ -17,3 +23,11 @@ JoinsOf M P (Points r) = Joined M P r
 
 abbrev pub SearchesOf : Map → Path → ℕ → Type 0
 SearchesOf M P n = MatchOption (path_fault M P) (OfPath M P (λ E _ _ js. n ≡ searches_of E.lines (0 ∷ js))) (λ _. n ≡ 0)
+
+abbrev pub OwnLinesAlong : Map → Path → List ℕ → spec.Answer → List ℕ → Type 0
+OwnLinesAlong M E js (spec.Points r) xs = xs ≡ own_lines E.lines (kept_points (legs M E.lines) E.pos E.neg js)
+OwnLinesAlong M E js (spec.Refused refusal) xs = xs ≡ []
+
+pub record AnsweredAlong (M : Map) (E : Path) (js : List ℕ) (A : spec.Answer) (xs : List ℕ) : Type 0 where
+  pub answer : A ≡ answer_by_points M E js
+  pub own : OwnLinesAlong M E js A xs

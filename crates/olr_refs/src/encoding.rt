@@ -7,11 +7,11 @@ ghost use Rattle.olr_spec.specs.Footprint.{Foot};
 ghost use Rattle.olr_spec.specs.Queries.{QueriesOf, TraversedOf, TraversedOfExtended, AreKnown, KnownOf, SearchedOf};
 ghost use Rattle.olr_spec.specs.Queries.{CoverageQuery as QueryRecord};
 ghost use Rattle.olr_answers.specs.Answers.{answer_of};
-ghost use Rattle.olr_spec.specs.Encoding.{answer_by_points as answer_along};
 ghost use Rattle.olr_spec.specs.Routes.{dm_of};
 ghost use Rattle.olr_refs.specs.Choice.{ForPoints, IsChoice, Notes, SeenBy, SettledBy};
 ghost use Rattle.olr_search.specs.Counts.{saturated_count};
-ghost use Rattle.olr_refs.specs.Referring.{JoinsOf};
+ghost use Rattle.olr_spec.specs.Recovery.{OwnLinesOf};
+ghost use Rattle.olr_refs.specs.Referring.{AnsweredAlong, JoinsOf};
 ghost use Rattle.olr_refs.specs.ResolvedLines.{records_of};
 ghost use Rattle.olr_refs.specs.Reuse.{Reuses, Asks, AsksOf, Searched};
 
@@ -19,10 +19,10 @@ use crate::along::{ResolvedPath, distances};
 use crate::chosen::{Choice, Chosen, Queries, points};
 use crate::extension::{Extended, extend};
 use crate::faults::own_lines;
-use crate::reference::reference_of;
+use crate::reference::{Referred, reference_of};
 use crate::reuse::Reuse;
 use olr_answers::{Answer, CoverageQuery, KnownQuery, Path, Refusal};
-use olr_roads::{Footprint, MapRead};
+use olr_roads::{Footprint, LineId, MapRead};
 use olr_search::{Dijkstra, ResolvedLine, Work};
 use std::alloc::{AllocError, Global};
 
@@ -32,6 +32,9 @@ use std::alloc::{AllocError, Global};
 pub struct Encoding {
     /// The answer.
     pub answer: Answer,
+    /// The path's own line at each LRP of the reference: the one that leaves it, and at the last LRP the one that enters
+    /// it. Empty if there is no reference.
+    pub own: Vec<LineId>,
     /// The traversed nodes: those of the extended path and of the tried runs of degree-two nodes. Empty if one of
     /// reasons 1 to 3 holds.
     pub traversed: Footprint,
@@ -55,6 +58,7 @@ pub fn encode<M: MapRead>(
 ) -> Result<Encoding, AllocError>
     ensures answer { IfOk result (λ e. Encodes (M.map map.now) path.now (answer_of e.answer)) }
     ensures joins { IfOk result (λ e. JoinsOf (M.map map.now) path.now e.answer) }
+    ensures own { IfOk result (λ e. OwnLinesOf (M.map map.now) path.now (answer_of e.answer) e.own.items) }
     ensures traversed { IfOk result (λ e. (v : ℕ) → Contains e.traversed v ↔ TraversedOf (M.map map.now) path.now v) }
     ensures queries { IfOk result (λ e. QueriesOf (M.map map.now) path.now e.queries.items) }
     ensures known { IfOk result (λ e. KnownOf (M.map map.now) path.now e.known.items) }
@@ -83,6 +87,7 @@ pub fn encode_again<M: MapRead>(
     requires { AreKnown (M.map map.now) path.now.lines known.now }
     ensures answer { IfOk result (λ e. Encodes (M.map map.now) path.now (answer_of e.answer)) }
     ensures joins { IfOk result (λ e. JoinsOf (M.map map.now) path.now e.answer) }
+    ensures own { IfOk result (λ e. OwnLinesOf (M.map map.now) path.now (answer_of e.answer) e.own.items) }
     ensures traversed { IfOk result (λ e. (v : ℕ) → Contains e.traversed v ↔ TraversedOf (M.map map.now) path.now v) }
     ensures queries { IfOk result (λ e. QueriesOf (M.map map.now) path.now e.queries.items) }
     ensures known { IfOk result (λ e. KnownOf (M.map map.now) path.now e.known.items) }
@@ -112,6 +117,7 @@ pub fn encode_noting<M: MapRead>(
     requires { AreKnown (M.map map.now) path.now.lines known.now }
     ensures answer { IfOk result (λ e. Encodes (M.map map.now) path.now (answer_of e.answer)) }
     ensures joins { IfOk result (λ e. JoinsOf (M.map map.now) path.now e.answer) }
+    ensures own { IfOk result (λ e. OwnLinesOf (M.map map.now) path.now (answer_of e.answer) e.own.items) }
     ensures traversed { IfOk result (λ e. (v : ℕ) → Contains e.traversed v ↔ TraversedOf (M.map map.now) path.now v) }
     ensures queries { IfOk result (λ e. QueriesOf (M.map map.now) path.now e.queries.items) }
     ensures known { IfOk result (λ e. KnownOf (M.map map.now) path.now e.known.items) }
@@ -126,6 +132,7 @@ pub fn encode_noting<M: MapRead>(
     match own_lines(alloc, map, path)? {
         Err(refusal) => Ok(Encoding {
             answer: Answer::Refused(refusal),
+            own: Vec::new(alloc),
             traversed: Footprint::new(alloc),
             queries: Vec::new(alloc),
             known: Vec::new(alloc),
@@ -154,6 +161,7 @@ fn encode_whole<M: MapRead>(
     requires known { AreKnown (M.map map.now) path.now.lines known.now }
     ensures answer { IfOk result (λ e. EncodingRecord (M.map map.now) path.now (answer_of e.answer)) }
     ensures joins { IfOk result (λ e. JoinsOf (M.map map.now) path.now e.answer) }
+    ensures own { IfOk result (λ e. OwnLinesOf (M.map map.now) path.now (answer_of e.answer) e.own.items) }
     ensures traversed { IfOk result (λ e. (v : ℕ) → Contains e.traversed v
         ↔ TraversedOfExtended (M.map map.now) path.now v) }
     ensures encodings { IfOk result (λ e. e.work.encodings ≡ 1) }
@@ -167,9 +175,10 @@ fn encode_whole<M: MapRead>(
         lead: extended.lead,
         own: path.lines().len(),
     };
-    let (answer, queries) = encode_along(alloc, map, &extended, &reuse, search, seen)?;
+    let (answered, queries) = encode_along(alloc, map, &extended, &reuse, search, seen)?;
     Ok(Encoding {
-        answer,
+        answer: answered.answer,
+        own: answered.own,
         traversed,
         queries: queries.all,
         known: queries.own,
@@ -178,6 +187,13 @@ fn encode_whole<M: MapRead>(
             ..queries.work
         },
     })
+}
+
+/// The answer of an extended path, and its own lines at the LRPs of the reference.
+#[derive(Drop)]
+struct Answered {
+    answer: Answer,
+    own: Vec<LineId>,
 }
 
 /// The answer of an extended path, by its LRPs, and the coverage queries.
@@ -189,13 +205,13 @@ fn encode_along<M: MapRead>(
     reuse: &Reuse,
     search: &mut Dijkstra,
     seen: &mut Option<Footprint>,
-) -> Result<(Answer, Queries), AllocError>
+) -> Result<(Answered, Queries), AllocError>
     requires joined { AreJoined (M.map map.now) extended.now.path.lines }
     requires records { extended.now.records ≡ records_of (M.map map.now) (M.node_slot map.now) extended.now.path.lines }
     requires short { extended.now.path.pos + extended.now.path.neg < dm_of (M.map map.now) extended.now.path.lines }
     requires reuse { Reuses (M.map map.now) extended.now.path.lines reuse.now.lead reuse.now.own reuse.now.known.now }
     ensures { IfOk result (λ r. ForPoints (M.map map.now) extended.now.path.lines
-        (λ js. answer_of r.0 ≡ answer_along (M.map map.now) extended.now.path js)
+        (λ js. AnsweredAlong (M.map map.now) extended.now.path js (answer_of r.0.answer) r.0.own.items)
         × ForPoints (M.map map.now) extended.now.path.lines
         (λ js. Asks (M.map map.now) extended.now.path.lines reuse.now.lead reuse.now.own reuse.now.known.now (0 ∷ js)
         r.1.all.items r.1.own.items r.1.work seen.old seen.new)) }
@@ -210,31 +226,37 @@ fn encode_along<M: MapRead>(
         distances: &distances,
     };
     let Chosen { choice, queries } = points(alloc, &resolved, reuse, search, seen)?;
-    let answer = answer_by(alloc, &resolved, choice, extended.pos, extended.neg)?;
-    Ok((answer, queries))
+    let answered = answer_by(alloc, &resolved, choice, extended.pos, extended.neg)?;
+    Ok((answered, queries))
 }
 
-/// The answer by the chosen LRPs. The two offsets, in decimetres, are together less than the length of the lines.
+/// The answer by the chosen LRPs, and the lines at these. The two offsets, in decimetres, are together less than the length
+/// of the lines.
 fn answer_by<M: MapRead>(
     alloc: Global,
     resolved: &ResolvedPath<M>,
     choice: Choice,
     pos: u64,
     neg: u64,
-) -> Result<Answer, AllocError>
+) -> Result<Answered, AllocError>
     requires choice { ForPoints (M.map resolved.now.map.now) resolved.now.lines.now
         (λ js. IsChoice resolved.now.lines.now js choice) }
     requires short { pos + neg < dm_of (M.map resolved.now.map.now) resolved.now.lines.now }
-    ensures { IfOk result (λ answer. ForPoints (M.map resolved.now.map.now) resolved.now.lines.now
-        (λ js. answer_of answer
-        ≡ answer_along (M.map resolved.now.map.now) (record { lines = resolved.now.lines.now; pos = pos; neg = neg })
-        js)) }
+    ensures { IfOk result (λ a. ForPoints (M.map resolved.now.map.now) resolved.now.lines.now
+        (λ js. AnsweredAlong (M.map resolved.now.map.now)
+        (record { lines = resolved.now.lines.now; pos = pos; neg = neg }) js (answer_of a.answer) a.own.items)) }
 {
     match choice {
-        Choice::NoNext(k) => Ok(Answer::Refused(Refusal::NoNextPoint(k))),
+        Choice::NoNext(k) => Ok(Answered {
+            answer: Answer::Refused(Refusal::NoNextPoint(k)),
+            own: Vec::new(alloc),
+        }),
         Choice::Positions(points) => {
-            let reference = reference_of(alloc, resolved, &points, pos, neg)?;
-            Ok(Answer::Points(reference))
+            let Referred { reference, own } = reference_of(alloc, resolved, &points, pos, neg)?;
+            Ok(Answered {
+                answer: Answer::Points(reference),
+                own,
+            })
         }
     }
 }

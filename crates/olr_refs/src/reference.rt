@@ -1,8 +1,9 @@
 //! The reference of an extended path.
 ghost use Rattle.std.specs.Prelude.{◌≡◌, ◌+◌, ◌-◌, ◌<◌, ◌≤◌, IfOk, length, slice_index};
+ghost use Rattle.olr_spec.specs.Recovery.{own_lines};
 ghost use Rattle.olr_spec.specs.Routes.{dm_of};
 ghost use Rattle.olr_spec.specs.Points.{Candidate};
-ghost use Rattle.olr_spec.specs.Reference.{legs, dm_between, offset, reference, reference_by};
+ghost use Rattle.olr_spec.specs.Reference.{legs, dm_between, kept_points, offset, reference, reference_by};
 ghost use Rattle.olr_spec.specs.Bytes.{IsReference};
 ghost use Rattle.olr_refs.specs.Along.{AreDistances};
 ghost use Rattle.olr_spec.specs.Extension.{AreJoined};
@@ -12,7 +13,7 @@ use crate::along::ResolvedPath;
 use crate::fields::{first_point, last_point, middle_points, offset};
 use crate::trim::trim;
 use olr_binary::Reference;
-use olr_roads::MapRead;
+use olr_roads::{LineId, MapRead};
 use std::alloc::{AllocError, Global};
 
 /// The reference of the remaining LRPs, at least two, with the remainders of the offsets, in decimetres: less than the
@@ -64,20 +65,61 @@ fn offset_along<M: MapRead>(
     offset(left, resolved.between(i, j))
 }
 
+/// Line `k` of these.
+fn line_at(lines: &[LineId], k: usize) -> LineId
+    requires { k < length lines.now }
+    ensures { result ≡ slice_index lines.now k }
+{
+    lines[k]
+}
+
+/// The lines at the LRPs of these positions, at least two: those that leave them, and at the last one the line that enters
+/// it.
+fn own_lines<M: MapRead>(
+    alloc: Global,
+    resolved: &ResolvedPath<M>,
+    kept: &[usize],
+) -> Result<Vec<LineId>, AllocError>
+    requires linked { AreLinked (M.map resolved.now.map.now) resolved.now.lines.now kept.now }
+    requires two { 2 ≤ length kept.now }
+    ensures { IfOk result (λ own. own.items ≡ own_lines resolved.now.lines.now kept.now) }
+{
+    let last = kept.len() - 1;
+    let mut own = Vec::with_capacity(alloc, kept.len())?;
+    for k in 0..last {
+        own.push(line_at(resolved.lines, kept[k]))?;
+    }
+    own.push(line_at(resolved.lines, kept[last] - 1))?;
+    Ok(own)
+}
+
+/// A reference, and the path's own lines at its LRPs.
+#[derive(Drop)]
+pub struct Referred {
+    /// The reference.
+    pub reference: Reference,
+    /// The line that leaves each LRP, and at the last LRP the line that enters it.
+    pub own: Vec<LineId>,
+}
+
 /// The reference of the lines of an extended path, by the distances of their positions, the location reference points
-/// (LRPs), and the two offsets in decimetres, which together are shorter than the path.
+/// (LRPs), and the two offsets in decimetres, which together are shorter than the path; and the lines at its LRPs.
 pub fn reference_of<M: MapRead>(
     alloc: Global,
     resolved: &ResolvedPath<M>,
     points: &[usize],
     pos: u64,
     neg: u64,
-) -> Result<Reference, AllocError>
+) -> Result<Referred, AllocError>
     requires points { ArePoints (M.map resolved.now.map.now) resolved.now.lines.now points.now }
     requires long { pos + neg < dm_of (M.map resolved.now.map.now) resolved.now.lines.now }
-    ensures { IfOk result (λ r. r ≡ reference (legs (M.map resolved.now.map.now) resolved.now.lines.now) pos neg
-        (later points.now)) }
+    ensures reference { IfOk result (λ r. r.reference
+        ≡ reference (legs (M.map resolved.now.map.now) resolved.now.lines.now) pos neg (later points.now)) }
+    ensures own { IfOk result (λ r. r.own.items ≡ own_lines resolved.now.lines.now
+        (kept_points (legs (M.map resolved.now.map.now) resolved.now.lines.now) pos neg (later points.now))) }
 {
     let trimmed = trim(resolved.distances, points, pos, neg);
-    reference_by(alloc, resolved, trimmed.points, trimmed.pos, trimmed.neg)
+    let own = own_lines(alloc, resolved, trimmed.points)?;
+    let reference = reference_by(alloc, resolved, trimmed.points, trimmed.pos, trimmed.neg)?;
+    Ok(Referred { reference, own })
 }

@@ -1,4 +1,5 @@
-use Rattle.olr_refs.proofs.Common.{◌≡◌, sym, subst, IsReference, Reference, later, reference_fits, IfOk}
+use Rattle.olr_refs.proofs.Common.{sym, subst, IsReference, later, reference_fits, ap, ◌∙◌}
+use Rattle.olr_spec.specs.Recovery.{own_lines}
 use Rattle.olr_refs.proofs.LegLemmas.{joined_known}
 use Rattle.olr_refs.proofs.Trimming.{some_lines, points_along, trimmed}
 use Rattle.olr_refs.proofs.reference.reference_of.Goals as goal
@@ -8,6 +9,14 @@ trim-trimmed-requires-clause-along g c =
     points_along (g.M.MapRead.map c.args.resolved.now.map.now) c.args.resolved.now.lines.now
     c.args.resolved.now.distances.now
     c.args.points.now c.args.resolved.now.measured c.requires.points
+
+pub own_lines-requires : goal.own_lines-requires
+own_lines-requires g c =
+    let cut =
+    trimmed (g.M.MapRead.map c.args.resolved.now.map.now) c.args.resolved.now.lines.now
+    c.args.resolved.now.distances.now c.args.points.now c.args.resolved.now.measured c.requires.points c.args.pos
+    c.args.neg _ _ _ c.trim-trimmed.ensures c.requires.long in
+    record { linked = cut.linked; two = cut.two }
 
 pub reference_by-requires : goal.reference_by-requires
 reference_by-requires g c =
@@ -27,10 +36,18 @@ reference_by-requires g c =
           c.args.pos c.args.neg p.follow p.to_end c.requires.long);
     }
 
-pub returns : goal.returns
-returns g c =
+pub returns-clause-reference : goal.returns-clause-reference
+returns-clause-reference g c =
     let cut =
     trimmed (g.M.MapRead.map c.args.resolved.now.map.now) c.args.resolved.now.lines.now
     c.args.resolved.now.distances.now c.args.points.now c.args.resolved.now.measured c.requires.points c.args.pos
     c.args.neg _ _ _ c.trim-trimmed.ensures c.requires.long in
-    subst (λ (s : Reference). IfOk c.reference_by.result (λ r. r ≡ s)) cut.value c.reference_by.ensures
+    c.in_ok-reference.ensures ∙ cut.value
+
+pub returns-clause-own : goal.returns-clause-own
+returns-clause-own g c =
+    let cut =
+    trimmed (g.M.MapRead.map c.args.resolved.now.map.now) c.args.resolved.now.lines.now
+    c.args.resolved.now.distances.now c.args.points.now c.args.resolved.now.measured c.requires.points c.args.pos
+    c.args.neg _ _ _ c.trim-trimmed.ensures c.requires.long in
+    c.in_ok-own.ensures ∙ ap (own_lines c.args.resolved.now.lines.now) cut.kept

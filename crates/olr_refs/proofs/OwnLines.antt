@@ -1,0 +1,85 @@
+-- A path's own lines at its LRPs are on the map, one for each LRP of its reference.
+use Rattle.olr_refs.proofs.Common.{◌≡◌, ◌<◌, ◌≤◌, ◌-◌, ◌+◌, ℕ, suc, List, [], ◌∷◌, ◌++◌, length, take, refl, sym, ap, ◌∙◌}
+use Rattle.olr_refs.proofs.Common.{subst, arith, slice_index, map, None, IsTrue, Map, IsMap, has_line, Path, is_path}
+use Rattle.olr_refs.proofs.Common.{extended_path, Each, has_index, Linked, AreLinked, Encodes, legs, kept_points}
+use Rattle.olr_refs.proofs.Common.{Reference, extended_sound, path_fault, Encoding}
+use native.Mathlib.Numerals.{unary_clauses}
+use Rattle.std.specs.List.{All}
+use Rattle.std.proofs.lemmas.List.Elements.{All-nil, All-cons}
+use Rattle.olr_spec.specs.Encoding.{Points}
+use Rattle.olr_spec.specs.Receiver.{last_number}
+use Rattle.olr_spec.specs.Recovery.{OwnLines, own_lines}
+use Rattle.olr_spec.proofs.DecodedLemmas.{Kept, form, answer_decodes}
+use Rattle.olr_spec.proofs.FitLemmas.{by_answer}
+use Rattle.olr_spec.proofs.ReceiverLemmas.{same_path}
+
+-- ---- along an extended path
+
+-- all but the last leave their LRP
+pub own_by : (ls ks : List ℕ) → 0 < length ks →
+    own_lines ls ks ≡ map (slice_index ls) (take (length ks - 1) ks)
+    ++ slice_index ls (slice_index ks (length ks - 1) - 1) ∷ []
+own_by ls [] some = absurd (omega arith)
+own_by ls (i ∷ []) some = refl
+own_by ls (i ∷ j ∷ ks) some =
+    simp unary_clauses (ap (λ (xs : List ℕ). slice_index ls i ∷ xs) (simp unary_clauses at (own_by ls (j ∷ ks) (omega arith))))
+
+-- the last of at least two is the end of a line
+pub last_within : (M : Map) (ls ks : List ℕ) → AreLinked M ls ks → 2 ≤ length ks →
+    (0 < slice_index ks (length ks - 1)) × (slice_index ks (length ks - 1) ≤ length ls)
+last_within M ls ks linked two =
+    let c = linked (length ks - 1 - 1) (omega arith) in
+    let order = c.after in
+    let upto = c.upto in
+    let at : length ks - 1 - 1 + 1 ≡ length ks - 1 = omega arith in
+    let both : (0 < slice_index ks (length ks - 1 - 1 + 1)) × (slice_index ks (length ks - 1 - 1 + 1) ≤ length ls) =
+    (omega arith, upto) in
+    subst (λ (n : ℕ). (0 < slice_index ks n) × (slice_index ks n ≤ length ls)) at both
+
+own_count : (ls ks : List ℕ) → length (own_lines ls ks) ≡ length ks
+own_count ls [] = refl
+own_count ls (i ∷ []) = refl
+own_count ls (i ∷ j ∷ ks) = ap suc (own_count ls (j ∷ ks))
+
+abbrev Known : Map → ℕ → Type 0
+Known M x = IsTrue (has_line M x)
+
+-- from an LRP on that follows another one
+known_after : (M : Map) (ls : List ℕ) → Each (Known M) ls → (i : ℕ) (ks : List ℕ) → 0 < i → i ≤ length ls →
+    Linked M ls (i ∷ ks) → All (Known M) (own_lines ls (i ∷ ks))
+known_after M ls known i [] after upto l =
+    All-cons (Known M) _ [] (known _ (has_index ls (i - 1) (omega arith))) (All-nil (Known M))
+known_after M ls known i (j ∷ ks) after upto l =
+    let c = l.0 in
+    let order = c.after in
+    let end = c.upto in
+    All-cons (Known M) _ _ (known _ (has_index ls i (omega arith)))
+    (known_after M ls known j ks (omega arith) end l.1)
+
+-- ---- of a path
+
+module _ (M : Map) (m : IsMap M) (P : Path) (is : IsTrue (is_path P.lines)) (r : Reference) (e : Encodes M P (Points r))
+    (xs : List ℕ) (own : OwnLines M P xs) where
+  own_same : (none : path_fault M P ≡ None) (p : Encoding M P (Points r)) →
+      xs ≡ own_lines (extended_path M P p.before p.after).lines (Kept M P is none r p)
+  own_same none p =
+      same_path M m P is none r p (λ E js. xs ≡ own_lines E.lines (kept_points (legs M E.lines) E.pos E.neg js)) own
+
+  pub own_known : All (Known M) xs
+  own_known =
+      let a = by_answer M P r e in
+      let p = a.1 in
+      let f = form M P is a.0 r p in
+      let known = (extended_sound M P is a.0 p.before p.after p.tried).known in
+      let c = f.linked.0 in
+      let order = c.after in
+      let end = c.upto in
+      let lines = (extended_path M P p.before p.after).lines in
+      subst (All (Known M)) (sym (own_same a.0 p ∙ ap (own_lines lines) f.kept))
+      (All-cons (Known M) _ _ (known _ (has_index lines f.h (omega arith)))
+      (known_after M lines known f.i f.js (omega arith) end f.linked.1))
+
+  pub own_many : length xs ≡ last_number r + 1
+  own_many =
+      let a = by_answer M P r e in
+      ap (λ (ys : List ℕ). length ys) (own_same a.0 a.1) ∙ own_count _ (Kept M P is a.0 r a.1) ∙ omega (arith, (answer_decodes M P is a.0 r a.1).count)

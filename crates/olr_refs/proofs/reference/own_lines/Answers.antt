@@ -1,0 +1,32 @@
+use Rattle.olr_refs.proofs.Common.{arith, common_steps, take_more, map-append, ◌<◌, ◌≡◌, ◌-◌, length}
+use Rattle.olr_refs.proofs.OwnLines.{own_by, last_within}
+use Rattle.olr_refs.proofs.reference.own_lines.Goals as goal
+
+pub loop-k-preserved : goal.loop-k-preserved
+loop-k-preserved g c = grind (arith, common_steps, take_more, map-append)
+
+pub line_at-requires : goal.line_at-requires
+line_at-requires g c =
+    let l = c.requires.linked c.loop-k.k (omega arith) in
+    let order = l.after in
+    let upto = l.upto in
+    omega arith
+
+pub overflow_sub-kept : goal.overflow_sub-kept
+overflow_sub-kept g c =
+    let w = last_within (g.M.MapRead.map c.args.resolved.now.map.now) c.args.resolved.now.lines.now c.args.kept.now
+    c.requires.linked c.requires.two in
+    omega (arith, w.0)
+
+pub line_at-requires-2 : goal.line_at-requires-2
+line_at-requires-2 g c =
+    let w = last_within (g.M.MapRead.map c.args.resolved.now.map.now) c.args.resolved.now.lines.now c.args.kept.now
+    c.requires.linked c.requires.two in
+    omega (arith, w.0, w.1)
+
+pub returns : goal.returns
+returns g c =
+    let some : 0 < length c.args.kept.now = omega arith in
+    let k_is : c.loop-k.k ≡ length c.args.kept.now - 1 = omega arith in
+    let by = own_by c.args.resolved.now.lines.now c.args.kept.now some in
+    cc (by, k_is, c.in_ok-push-2.ensures.items, c.loop-k.invariant, c.line_at-2.ensures)
