@@ -5,5 +5,6 @@ pub mod Dump
 pub mod Reply
 pub mod Counts
 pub mod Dependents
+pub mod Ambiguities
 pub mod History
 pub mod Words

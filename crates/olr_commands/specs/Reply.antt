@@ -20,10 +20,11 @@ use Rattle.olr_commands.specs.State.{Named, Content, path_named, Fault, Syntax, 
 use Rattle.olr_commands.specs.State.{Bad_path, Not_a_reference, Memory, Batch_open, No_batch, Count_differs, Batch_full}
 use Rattle.olr_commands.specs.State.{Not_a_record, Dump}
 use Rattle.olr_commands.specs.State.{Change, On_map, Drop_path, State, Command, Make, Show, Report, Explain, Begin}
-use Rattle.olr_commands.specs.State.{Commit, Abort, Show_node, Show_line, Depends, Compact, step}
+use Rattle.olr_commands.specs.State.{Commit, Abort, Show_node, Show_line, Depends, Compact, Ambiguous, step}
 use Rattle.olr_commands.specs.RecordText.{record_line}
 use Rattle.olr_commands.specs.Dump.{dump_lines, node_changes, line_changes}
 use Rattle.olr_commands.specs.Dependents.{Dependents}
+use Rattle.olr_commands.specs.Ambiguities.{NamedObstacle, AskedAmbiguities}
 
 -- a path's string, or the reason why it has none
 pub record Entry : Type 0 where
@@ -37,6 +38,7 @@ pub data Reply : Type 0 where
   Dumped : (count : ℕ) (text : List ℕ) → Reply
   Records : (count : ℕ) (text : List ℕ) → Reply
   Names : (names : List (List ℕ)) → Reply
+  Obstacles : (found : List NamedObstacle) → Reply
 
 abbrev pub published_text : Answer → Result (List ℕ) Refusal
 published_text (Points r) = Ok (text_of r)
@@ -98,6 +100,10 @@ abbrev pub IsNames : Reply → (List (List ℕ) → Type 0) → Type 0
 IsNames (Names names) P = P names
 IsNames _ P = ⊥
 
+abbrev pub IsObstacles : Reply → (List NamedObstacle → Type 0) → Type 0
+IsObstacles (Obstacles found) P = P found
+IsObstacles _ P = ⊥
+
 -- the records of these changes
 abbrev pub IsRecords : Reply → List Change → Type 0
 IsRecords reply xs = reply ≡ Records (length xs) (concat (map record_line xs))
@@ -117,6 +123,7 @@ IsReply s Report t reply = IsPaths reply (AllOf s.content.map s.content.paths)
 IsReply s Dump t reply =
     reply ≡ Dumped (length (dump_lines s.content)) (concat (dump_lines s.content))
 IsReply s Compact t reply = reply ≡ Paths []
+IsReply s (Ambiguous name) t reply = IsObstacles reply (AskedAmbiguities s.content name)
 IsReply s (Explain text) t reply = IsFields reply (Explained text)
 IsReply s Begin t reply = reply ≡ Paths []
 IsReply s (Commit count) t reply = IsPaths reply (Differences s.content t.content)

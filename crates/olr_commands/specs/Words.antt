@@ -1,6 +1,6 @@
 -- Rust's commands, replies and faults as those of the definitions.
---     command_of, reply_of, command_fault_of, outcome_of
-use Rattle.std.specs.Prelude.{ℕ, List, map, Result, string_bytes}
+--     command_of, named_obstacle_of, reply_of, command_fault_of, outcome_of
+use Rattle.std.specs.Prelude.{ℕ, List, map, Result, option_map, string_bytes}
 use Rattle.std.specs.Result.{result_map_both}
 use Rattle.olr_spec.specs.Bytes.{Length, Status, Flags, Reserved}
 use Rattle.olr_spec.specs.Extension.{Path}
@@ -12,11 +12,14 @@ use Rattle.olr_binary.specs.declared.faults.V3Fault.TheVariants as bytes
 use Rattle.olr_binary.specs.declared.faults.TextFault.{TextFault}
 use Rattle.olr_binary.specs.declared.faults.TextFault.TheVariants as text
 use Rattle.olr_answers.specs.Answers.{refusal_of}
+use Rattle.olr_ambiguity.specs.Found.{found_of}
+use Rattle.olr_commands.specs.Ambiguities as ambiguities
 use Rattle.olr_commands.specs.State as state
 use Rattle.olr_commands.specs.Reply as reply
 use Rattle.olr_commands.specs.declared.command.Command.{Command}
 use Rattle.olr_commands.specs.declared.command.Command.TheVariants as command
 use Rattle.olr_commands.specs.declared.reply.Entry.{Entry}
+use Rattle.olr_commands.specs.declared.reply.NamedObstacle.{NamedObstacle}
 use Rattle.olr_commands.specs.declared.reply.Reply.{Reply}
 use Rattle.olr_commands.specs.declared.reply.Reply.TheVariants as answered
 use Rattle.olr_commands.specs.declared.fault.CommandFault.{CommandFault}
@@ -39,6 +42,7 @@ command_of (command.Depends nodes) = state.Depends nodes.items
 command_of command.Report = state.Report
 command_of command.Dump = state.Dump
 command_of command.Compact = state.Compact
+command_of (command.Ambiguous name) = state.Ambiguous (option_map string_bytes name)
 command_of (command.Explain text) = state.Explain text.items
 command_of command.Begin = state.Begin
 command_of (command.Commit count) = state.Commit count
@@ -47,6 +51,9 @@ command_of command.Abort = state.Abort
 abbrev pub entry_of : Entry → reply.Entry
 entry_of e = record { name = string_bytes e.name; published = result_map_both string_bytes refusal_of e.published }
 
+abbrev pub named_obstacle_of : NamedObstacle → ambiguities.NamedObstacle
+named_obstacle_of e = ambiguities.named (string_bytes e.name) (found_of e.found)
+
 abbrev pub reply_of : Reply → reply.Reply
 reply_of (answered.Paths entries) = reply.Paths (map entry_of entries.items)
 reply_of (answered.Fields r) = reply.Fields r
@@ -54,6 +61,7 @@ reply_of (answered.Held count) = reply.Held count
 reply_of (answered.Dump d) = reply.Dumped d.count d.text.items
 reply_of (answered.Records d) = reply.Records d.count d.text.items
 reply_of (answered.Names names) = reply.Names (map string_bytes names.items)
+reply_of (answered.Obstacles found) = reply.Obstacles (map named_obstacle_of found.items)
 
 -- out of memory is one fault, wherever it was reported
 abbrev pub map_fault_of : EditFault → state.Fault

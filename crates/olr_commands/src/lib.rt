@@ -14,4 +14,4 @@ pub use record_text::{
     push_field, push_line_record, push_node_record, push_number, push_path_record,
 };
 pub use recordable::{is_name, is_recordable_coord, is_recordable_line};
-pub use reply::{Dump, Entry, Reply};
+pub use reply::{Dump, Entry, NamedObstacle, Reply};

@@ -1,5 +1,6 @@
 //! Replies to accepted commands.
 
+use olr_ambiguity::Found;
 use olr_answers::Refusal;
 use olr_binary::Reference;
 
@@ -22,6 +23,15 @@ pub struct Dump {
     pub text: Vec<u8>,
 }
 
+/// What stands in the way of reading a path's string in only one way.
+#[derive(Drop)]
+pub struct NamedObstacle {
+    /// The path's name.
+    pub name: String,
+    /// What stands in the way, and at which LRP.
+    pub found: Found,
+}
+
 /// The reply to an accepted command.
 #[derive(Drop)]
 pub enum Reply {
@@ -37,4 +47,6 @@ pub enum Reply {
     Records(Dump),
     /// The names of paths, in the order of the register.
     Names(Vec<String>),
+    /// What stands in the way of reading strings in only one way, path by path in the order of the register.
+    Obstacles(Vec<NamedObstacle>),
 }

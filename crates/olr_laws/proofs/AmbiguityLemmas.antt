@@ -1,13 +1,13 @@
 -- A string in whose way nothing stands is distinct for both kinds of receivers.
-use Rattle.olr_spec.proofs.Common.{◌≡◌, ◌≢◌, ℕ, zero, suc, ◌+◌, ◌*◌, ◌-◌, ◌<◌, ◌≤◌, ◌⊎◌, inl, inr, ℤ, Bool, true, false, not, ◌&&◌, ◌||◌, ◌==◌, cond, nat_lt}
+use Rattle.olr_spec.proofs.Common.{◌≡◌, ◌≢◌, ℕ, zero, suc, ◌+◌, ◌*◌, ◌<◌, ◌≤◌, ◌⊎◌, inl, inr, ℤ, Bool, true, false, not, ◌&&◌, ◌||◌, ◌==◌, cond, nat_lt}
 use Rattle.olr_spec.proofs.Common.{List, [], ◌∷◌, ◌++◌, map, filter, length, slice_get, slice_index, Some, option_map, refl, sym, ap, ◌∙◌, subst, IsTrue, arith}
-use Rattle.olr_spec.proofs.Common.{cases_Bool, cases_eq, cases_lt, or_cases, or_left, or_right, and_parts, and_from, eqb-true, eq-eqb, ne_eqb, both_ways, ltb-true, lt-ltb, le-ltb, None}
-use Rattle.olr_spec.proofs.Common.{list_all, list_any_at, Map, IsMap, has, has_line, has_node, line_at, start, end, Path, is_path, path_fault, extended_path, Points}
-use Rattle.olr_spec.proofs.Common.{Encodes, Encoding, Reference, Leg, leg, legs, kept_points, candidates, Side, Measure, Coord, node_on, coordinate_on, OfPath}
+use Rattle.olr_spec.proofs.Common.{cases_Bool, cases_eq, or_cases, or_left, or_right, and_parts, and_from, eqb-true, eq-eqb, ne_eqb, both_ways, ltb-true, lt-ltb, le-ltb, None}
+use Rattle.olr_spec.proofs.Common.{list_any_at, Map, IsMap, has, has_line, has_node, line_at, start, end, Path, is_path, path_fault, extended_path, Points}
+use Rattle.olr_spec.proofs.Common.{Encoding, Reference, Leg, leg, legs, kept_points, candidates, Side, Measure, Coord, node_on, coordinate_on}
 use Rattle.std.specs.List.{list_any}
-use Rattle.std.proofs.Math.Nat.{mul-le-mul_left, mul-le-mul_right, mul-lt-mul_of_pos_left, mul-add}
+use Rattle.std.proofs.Math.Nat.{mul-le-mul_right, mul-lt-mul_of_pos_left, mul-add}
 use Rattle.olr_spec.specs.Receiver.{Outgoing, Incoming, sector_on, are_twins, decoded_coord, last_number, is_nearest, has_no_twin}
-use Rattle.olr_spec.specs.Recovery.{lon_apart, lat_apart, line_by, IsLineAt, OwnLines, own_lines, Weighted, Distinct, DistinctAt}
+use Rattle.olr_spec.specs.Recovery.{lon_apart, lat_apart, line_by, IsLineAt, OwnLines, own_lines, Weighted, Distinct}
 use Rattle.olr_spec.specs.Directions.{direction_on, is_direction, is_beyond}
 use Rattle.olr_spec.specs.Ambiguity.{least_cosine, is_farther, usual_slack, is_outdone_for_all, lines_on, all_nodes, Obstacle, Same_sector}
 use Rattle.olr_spec.specs.Ambiguity.{Other_bearing, Other_node, is_twin_of, is_unclear, is_rival, obstacles_at, side_at, obstacles_from, obstacles}

@@ -6,14 +6,15 @@ use Rattle.olr_commands.proofs.Common.{Refusal, some_answer}
 use Rattle.std.proofs.Common.{arith, ◌≡◌, ℕ, List, [], ◌∷◌, Option, Some, None, sym, ap, ◌∙◌, subst, Result, Ok, Err}
 use Rattle.std.proofs.Common.{map, IsFalse, inl, inr, ◌⊎◌, ◌≢◌, suc, true, false, not, length, is_some, IsTrue, refl, ◌≤◌}
 use Rattle.olr_commands.specs.State.{Named, Content, ArePaths, IsContent, Change, State, Command, Make, Show, Report}
-use Rattle.olr_commands.specs.State.{Explain, Begin, Commit, Abort, IsState, Dump, Fault, HasCoords, step, path_named}
-use Rattle.olr_commands.specs.State.{Show_node, Show_line, Depends, Compact}
+use Rattle.olr_commands.specs.State.{Explain, Begin, Commit, Abort, IsState, Dump, Fault, HasCoords, step, step_in, path_named}
+use Rattle.olr_commands.specs.State.{Show_node, Show_line, Depends, Compact, Ambiguous}
 use Rattle.olr_commands.specs.RecordText.{record_line}
 use Rattle.olr_commands.specs.State.{same_name, has_path, No_path, changes_made, start_state}
 use Rattle.olr_commands.specs.Reply.{Entry, entry, Reply, Fields, HasAnswer, AllOf, ChangedOf, Differences, Shown}
 use Rattle.olr_commands.specs.Reply.{Explained, IsPaths, IsFields, IsChangeReply, IsReply, IsRefusal, ByState, Lacks}
-use Rattle.olr_commands.specs.Reply.{Outcome, IsOutcome, lacks_memory, Dumped, Records, Names, Paths, Held}
+use Rattle.olr_commands.specs.Reply.{Outcome, IsOutcome, lacks_memory, Dumped, Records, Names, Obstacles, Paths, Held}
 use Rattle.olr_laws.proofs.DependLemmas.{one_names, one_dependents, some_dependents}
+use Rattle.olr_laws.proofs.NamedObstacles.{one_obstacles, one_asked, some_asked}
 use Rattle.olr_commands.proofs.NameLemmas.{named_path}
 use Rattle.olr_commands.proofs.StateLemmas.{steps_keep, when_ok}
 use Rattle.olr_spec.specs.Encoding.{Points, Unknown_line, Broken, Offset_too_long, No_next_point}
@@ -21,6 +22,8 @@ use Rattle.olr_spec.specs.Bytes.{IsReference, reference_bytes}
 use Rattle.olr_spec.proofs.FitLemmas.{encoded_fits}
 use Rattle.olr_commands.specs.Dump.{dump_lines, dump_changes, node_changes, line_changes, DumpsAgain}
 use Rattle.olr_commands.specs.Dependents.{Dependents}
+use Rattle.olr_commands.specs.Ambiguities.{AskedAmbiguities}
+use Rattle.olr_commands.specs.State.{has_asked}
 use Rattle.olr_commands.specs.Counts.{Affects, CountIs, Raises, Retains, RaisesRetained}
 use Rattle.olr_commands.proofs.SearchLemmas.{unconcerned}
 use Rattle.olr_commands.proofs.DumpLemmas.{dumps_lead}
@@ -92,6 +95,8 @@ one_reply s t (Depends nodes) r q i j p g =
 one_reply s t Report r q i j p g = grind (arith, one_paths, one_all)
 one_reply s t Dump r q i j p g = p ∙ sym g
 one_reply s t Compact r q i j p g = p ∙ sym g
+one_reply s t (Ambiguous name) r q i j p g =
+    one_obstacles (AskedAmbiguities s.content name) (one_asked s.content i.content name) r q p g
 one_reply s t (Explain text) r q i j p g = one_fields (Explained text) (one_explained text) r q p g
 one_reply s t Begin r q i j p g = p ∙ sym g
 one_reply s t (Commit count) r q i j p g = one_difference s.content t.content j.content r q p g
@@ -214,6 +219,12 @@ some_held : (b : Option (List Change)) (c d : Content) → IsContent c → IsCon
 some_held None c d i j = let es = some_difference c d i j in (Paths es.0, es.1)
 some_held (Some xs) c d i j = (Held (suc (length xs)), refl)
 
+when_asked : (s t : State) (name : Option (List ℕ)) → step s (Ambiguous name) ≡ Ok t → not (has_asked s.content name) ≡ false
+when_asked s t name is = by s.batch is where
+  by : (b : Option (List Change)) → step_in s.content b (Ambiguous name) ≡ Ok t → not (has_asked s.content name) ≡ false
+  by None e = (when_ok (not (has_asked s.content name)) No_path (Ok (record { content = s.content; batch = None })) t e).0
+  by (Some xs) e = absurd cc
+
 pub some_reply : (s t : State) (c : Command) → IsState s → HasCoords c → step s c ≡ Ok t →
     ((text : List ℕ) → c ≢ Explain text) → (reply : Reply) × IsReply s c t reply
 some_reply s t (Make x) i h is n =
@@ -232,6 +243,8 @@ some_reply s t Report i h is n = let es =
     some_all s.content.map i.content.map s.content.paths i.content.paths in (Paths es.0, es.1)
 some_reply s t Dump i h is n = (Dumped (length (dump_lines s.content)) (concat (dump_lines s.content)), refl)
 some_reply s t Compact i h is n = (Paths [], refl)
+some_reply s t (Ambiguous name) i h is n =
+    let es = some_asked s.content i.content name (when_asked s t name is) in (Obstacles es.0, es.1)
 some_reply s t (Explain text) i h is n = absurd (n text refl)
 some_reply s t Begin i h is n = (Paths [], refl)
 some_reply s t (Commit count) i h is n = let es =

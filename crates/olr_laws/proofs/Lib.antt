@@ -10,5 +10,6 @@ pub mod ForkLemmas
 pub mod CommandLemmas
 pub mod RunLemmas
 mod AmbiguityLemmas
+pub mod NamedObstacles
 pub mod DependLemmas
 pub mod ShownLemmas

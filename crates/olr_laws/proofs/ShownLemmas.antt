@@ -1,5 +1,5 @@
 -- The records that show a node, or a line with its ends, are records of a dump.
-use Rattle.std.proofs.Common.{arith, ◌≡◌, inl, inr, ℕ, true, false, Bool, List, [], ◌∷◌, ◌++◌, map, Some, Contains, sym, ◌∙◌, subst}
+use Rattle.std.proofs.Common.{arith, ◌≡◌, inl, inr, ℕ, true, false, Bool, List, [], ◌∷◌, map, Some, Contains, sym, ◌∙◌, subst}
 use Rattle.std.proofs.Common.{nat_cmp, ◌==◌}
 use Rattle.std.specs.Prelude.{if◌then◌else◌}
 use Rattle.std.specs.FinMap.{get, entries, get-entries}
@@ -10,7 +10,7 @@ use Rattle.olr_spec.specs.Map.{Map, IsMap, has_node, has_line, coord_at, line_at
 use Rattle.olr_spec.proofs.AgreeLemmas.{some_is}
 use Rattle.olr_spec.proofs.ListLemmas.{Contains-here, Contains-later, Contains-one}
 use Rattle.olr_commands.specs.State.{Content, Change}
-use Rattle.olr_commands.specs.Dump.{dump_changes, node_change, line_change, path_change, node_changes, end_changes}
+use Rattle.olr_commands.specs.Dump.{dump_changes, node_change, line_change, node_changes, end_changes}
 use Rattle.olr_commands.specs.Dump.{line_changes}
 use Rattle.olr_laws.specs.CommandLaws.{ShownAreDumped}
 

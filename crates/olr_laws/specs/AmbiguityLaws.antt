@@ -1,7 +1,9 @@
 -- The law of strings in whose way nothing stands.
 --     IsWeightedByLatitude scale far M r      a measure that, from each LRP of r to each node with candidates, is between
 --         the axes' maximum and their sum, with cosines of at least the least one
-use Rattle.std.specs.Prelude.{◌≡◌, ℕ, ◌*◌, ◌<◌, ◌≤◌, List, [], IsTrue}
+--     Unnamed name es      nothing among these is of the path of that name
+--     StandsFor M p e      e stands in the way of the path's string on M
+use Rattle.std.specs.Prelude.{◌≡◌, ◌≢◌, ℕ, ◌*◌, ◌<◌, ◌≤◌, List, [], None, Contains, IsTrue}
 use Rattle.olr_spec.specs.Map.{Map, IsMap, has_line}
 use Rattle.olr_spec.specs.Extension.{Path, is_path}
 use Rattle.olr_spec.specs.Encoding.{Encodes, Points}
@@ -9,6 +11,8 @@ use Rattle.olr_spec.specs.Reference.{Reference, leg}
 use Rattle.olr_spec.specs.Receiver.{Side, coordinate_on, Measure, decoded_coord, last_number}
 use Rattle.olr_spec.specs.Recovery.{OwnLines, Weighted, Distinct}
 use Rattle.olr_spec.specs.Ambiguity.{least_cosine, usual_slack, obstacles}
+use Rattle.olr_commands.specs.State.{Named, Content, IsContent}
+use Rattle.olr_commands.specs.Ambiguities.{NamedObstacle, AskedAmbiguities}
 use Rattle.olr_laws.specs.Directions.{DistinctByDirection}
 
 pub record IsWeightedByLatitude (scale : ℕ) (far : Measure) (M : Map) (r : Reference) : Type 0 where
@@ -25,3 +29,28 @@ ClearIsDistinct =
     → (xs : List ℕ) → OwnLines M P xs → obstacles M r xs ≡ []
     → (scale : ℕ) (far : Measure) → IsWeightedByLatitude scale far M r → (slack : ℕ) → slack ≤ scale * usual_slack
     → Distinct far M P r × DistinctByDirection far slack M P r
+
+abbrev pub Unnamed : List ℕ → List NamedObstacle → Type 0
+Unnamed name es = (e : NamedObstacle) → Contains es e → e.name ≢ name
+
+-- a path with a string that the answer to the question about all paths doesn't name is distinct for both kinds of receivers
+abbrev pub UnnamedIsDistinct : Type 0
+UnnamedIsDistinct =
+    (c : Content) → IsContent c → (es : List NamedObstacle) → AskedAmbiguities c None es
+    → (p : Named) → Contains c.paths p → Unnamed p.name es → (r : Reference) → Encodes c.map p.path (Points r)
+    → (scale : ℕ) (far : Measure) → IsWeightedByLatitude scale far c.map r → (slack : ℕ) → slack ≤ scale * usual_slack
+    → Distinct far c.map p.path r × DistinctByDirection far slack c.map p.path r
+
+pub record StandsFor (M : Map) (p : Named) (e : NamedObstacle) : Type 0 where
+  pub reference : Reference
+  pub lines : List ℕ
+  pub encodes : Encodes M p.path (Points reference)
+  pub own : OwnLines M p.path lines
+  pub name : e.name ≡ p.name
+  pub stands : Contains (obstacles M reference lines) (e.lrp, e.obstacle)
+
+-- each thing in the answer stands in the way of the string of one of the paths
+abbrev pub NamedStands : Type 0
+NamedStands =
+    (c : Content) (es : List NamedObstacle) → AskedAmbiguities c None es → (e : NamedObstacle) → Contains es e →
+    (p : Named) × Contains c.paths p × StandsFor c.map p e

@@ -8,8 +8,8 @@ ghost use Rattle.olr_commands.specs.Dump;
 ghost use Rattle.olr_commands.specs.State.{On_map, Add_path, Not_a_reference, Not_v3, Not_base64, Path_exists};
 ghost use Rattle.olr_commands.specs.State.{No_path, Batch_open, No_batch, Count_differs, Drop_path, Make, Show};
 ghost use Rattle.olr_commands.specs.State.{Report, Explain, Begin, Commit, Abort, start_state, step};
-ghost use Rattle.olr_commands.specs.State.{Show_node, Show_line, Depends, Compact};
-ghost use Rattle.olr_commands.specs.Reply.{Paths, Held, Names, IsReply, takes_memory, may_lack};
+ghost use Rattle.olr_commands.specs.State.{Show_node, Show_line, Depends, Compact, Ambiguous};
+ghost use Rattle.olr_commands.specs.Reply.{Paths, Held, Names, Obstacles, IsReply, takes_memory, may_lack};
 ghost use Rattle.olr_laws.specs.CommandLaws as Laws;
 ghost use Rattle.olr_laws.specs.CommandRows.{in_batch, path_a, with_a, with_node};
 
@@ -108,6 +108,17 @@ pub fn rows_compact()
     ensures of_batch { step (in_batch []) Compact ≡ Err Batch_open }
     ensures reply { IsReply start_state Compact start_state (Paths []) }
     ensures memory { may_lack start_state Compact ≡ false }
+{}
+
+/// What stands in the way of strings, without paths and in a batch.
+pub fn rows_ambiguous()
+    ensures all { step start_state (Ambiguous None) ≡ Ok start_state }
+    ensures one { step (with_a None) (Ambiguous (Some (codes "a"))) ≡ Ok (with_a None) }
+    ensures no_path { step start_state (Ambiguous (Some (codes "a"))) ≡ Err No_path }
+    ensures of_batch { step (in_batch []) (Ambiguous (Some (codes "a"))) ≡ Err Batch_open }
+    ensures nothing { IsReply start_state (Ambiguous None) start_state (Obstacles []) }
+    ensures memory { may_lack start_state (Ambiguous None) ≡ true }
+    ensures memory_of_none { may_lack start_state (Ambiguous (Some (codes "a"))) ≡ false }
 {}
 
 /// Which commands may run out of memory.

@@ -39,9 +39,12 @@ pub fn laws_of_directions()
     ensures weights { DirectionLaws.SomeByWeights }
 {}
 
-/// A string in whose way nothing stands is distinct for both kinds of receivers.
+/// A string in whose way nothing stands is distinct for both kinds of receivers. So is that of each path which the answer
+/// to the question about all paths doesn't name, and what this names stands in the way.
 pub fn laws_of_ambiguity()
-    ensures { AmbiguityLaws.ClearIsDistinct }
+    ensures clear { AmbiguityLaws.ClearIsDistinct }
+    ensures unnamed { AmbiguityLaws.UnnamedIsDistinct }
+    ensures named { AmbiguityLaws.NamedStands }
 {}
 
 /// The first worked path on its map: the answer is its reference, which is distinct for both kinds of receivers; the

@@ -1,12 +1,13 @@
 //! The laws of records, and worked rows of records, replies and faults as text.
-ghost use Rattle.std.specs.Prelude.{◌≡◌, ℕ, pos, neg_ℤ, [], ◌∷◌, map, codes, Ok, Err};
+ghost use Rattle.std.specs.Prelude.{◌≡◌, ℕ, pos, neg_ℤ, [], ◌∷◌, map, codes, None, Some, Ok, Err};
 ghost use Rattle.std.specs.List.{concat};
 ghost use Rattle.olr_spec.specs.Map.{Add_node, Move_node, Drop_node, Add_line, Set_line, Drop_line, Node_exists};
 ghost use Rattle.olr_spec.specs.Map.{No_node, Line_exists, No_line, Node_in_use, Bad_shape};
 ghost use Rattle.olr_spec.specs.Encoding as encoding;
 ghost use Rattle.olr_spec.specs.Bytes as bytes;
 ghost use Rattle.olr_commands.specs.State.{On_map, Add_path, Set_path, Drop_path, Make, Show, Report, Dump, Compact};
-ghost use Rattle.olr_commands.specs.State.{Explain, Begin, Commit, Abort};
+ghost use Rattle.olr_commands.specs.State.{Explain, Begin, Commit, Abort, Ambiguous};
+ghost use Rattle.olr_spec.specs.Ambiguity.{Same_sector, Other_bearing, Other_node};
 ghost use Rattle.olr_commands.specs.RecordText.{record_line};
 ghost use Rattle.olr_commands.specs.Reply as reply;
 ghost use Rattle.olr_commands.specs.State as state;
@@ -124,6 +125,10 @@ pub fn rows_paths()
     ensures report { read (codes "report" ∷ []) ≡ Ok Report }
     ensures dump { read (codes "dump" ∷ []) ≡ Ok Dump }
     ensures compact { read (codes "compact" ∷ []) ≡ Ok Compact }
+    ensures ambiguous { read (codes "ambiguous" ∷ []) ≡ Ok (Ambiguous None) }
+    ensures ambiguous_one { read (codes "ambiguous" ∷ codes "a" ∷ []) ≡ Ok (Ambiguous (Some (codes "a"))) }
+    ensures ambiguous_two { read (codes "ambiguous" ∷ codes "a" ∷ codes "b" ∷ []) ≡ Err Bad_form }
+    ensures ambiguous_nothing { read (codes "ambiguous" ∷ [] ∷ []) ≡ Err Bad_form }
     ensures dump_more { read (codes "dump" ∷ codes "a" ∷ []) ≡ Err Bad_form }
     ensures report_more { read (codes "report" ∷ [] ∷ []) ≡ Err Bad_form }
     ensures explain { read (codes "explain" ∷ codes "*" ∷ []) ≡ Ok (Explain (codes "*")) }
@@ -163,6 +168,11 @@ pub fn rows_replies()
     ensures records { reply_text (reply.Dumped 4 (concat (map record_line changes1)))
         ≡ text_of_lines (codes "ok,4" ∷ codes "node,1,6.12683,-0.0000001" ∷ codes "node,2,0,-180" ∷ codes
         "line,10,1,2,3,2,5610,200,6.12701,49.60838" ∷ codes "path,a,1500,0,10" ∷ []) }
+    ensures obstacles { reply_text (reply.Obstacles
+        (record { name = codes "a"; lrp = 0; obstacle = Same_sector 11 }
+        ∷ record { name = codes "a"; lrp = 1; obstacle = Other_bearing 21 }
+        ∷ record { name = codes "b"; lrp = 2; obstacle = Other_node 4 } ∷ []))
+        ≡ text_of_lines (codes "ok,3" ∷ codes "a,0,sector,11" ∷ codes "a,1,bearing,21" ∷ codes "b,2,node,4" ∷ []) }
     ensures held { reply_text (reply.Held 100000) ≡ text_of_lines (codes "held,100000" ∷ []) }
 {}
 

@@ -144,6 +144,18 @@ impl PathList {
         Some((name.as_str(), &*named.path))
     }
 
+    /// The name of path k, counted from 0, the path, and what is published of it, if it is encoded. None past the last.
+    pub fn item_at(&self, k: usize) -> Option<(&str, &Path, Option<&Published>)>
+        ensures { option_map (λ p. record {
+          name = p.0.now;
+          path = p.1.now;
+          made = option_map (λ q. made_of q.now) p.2;
+        }) result ≡ slice_get (items self.now) k }
+    {
+        let (name, named) = self.paths.get_index(k)?;
+        Some((name.as_str(), &*named.path, named.published()))
+    }
+
     /// Whether a path has the name.
     pub fn has(&self, name: &str) -> bool
         ensures { result ≡ is_some (path_named (all_named (items self.now)) name.now) }

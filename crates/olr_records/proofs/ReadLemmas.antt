@@ -11,10 +11,10 @@ use Rattle.olr_records.proofs.Common.{is_latitude, unit7, are_coords, HasCoord, 
 use Rattle.std.proofs.Common.{◌≡◌, ℕ, ℤ, Bool, true, false, List, [], ◌∷◌, Option, Some, None, Ok, Err, IsTrue, refl}
 use Rattle.std.proofs.Common.{subst, length, nat_le, ◌&&◌, pos, negsuc, arith, ◌%◌}
 use Rattle.olr_commands.specs.State.{Command, Show, Show_node, Show_line, Depends, Report, Dump, Compact, Explain, Begin}
-use Rattle.olr_commands.specs.State.{Commit, Abort, HasCoords}
+use Rattle.olr_commands.specs.State.{Commit, Abort, Ambiguous, HasCoords}
 use Rattle.olr_coords.specs.Bounds.{is_degrees}
 use Rattle.olr_records.specs.Records.{digits, longitude, latitude, one, none, path_record, forms, read_by}
-use Rattle.olr_records.specs.Records.{depends_record, few_nodes}
+use Rattle.olr_records.specs.Records.{depends_record, few_nodes, ambiguous_record}
 use Rattle.olr_records.proofs.TestLemmas.{all_weaker, ◌also◌}
 
 if_read : {A : Type 0} (P : A → Type 0) (b : Bool) (r q : Read A) → IfOk r P → IfOk q P → IfOk (if b then r else q) P
@@ -218,6 +218,10 @@ depends_passes (f ∷ fs) =
     two Recorded (λ _. ⊤) (λ _. ⊤) (Ok (λ n nodes. Depends nodes)) (few_nodes (length (f ∷ fs))) (numbers (f ∷ fs))
     (any_passes (few_nodes (length (f ∷ fs)))) (any_passes (numbers (f ∷ fs))) (λ n _ nodes _. tt)
 
+ambiguous_passes : (fs : List Field) → IfOk (ambiguous_record fs) Recorded
+ambiguous_passes [] = tt
+ambiguous_passes (f ∷ fs) = one_passes Recorded Name (λ n. Ambiguous (Some n)) name name_passes (λ n h. tt) (f ∷ fs)
+
 Passes : (List Field → Read Command) → Type 0
 Passes form = (fs : List Field) → IfOk (form fs) Recorded
 
@@ -250,6 +254,7 @@ forms_pass =
     also none_passes Report tt
     also none_passes Dump tt
     also none_passes Compact tt
+    also ambiguous_passes
     also tt
 
 recorded : (fields : List Field) → IfOk (read fields) Recorded

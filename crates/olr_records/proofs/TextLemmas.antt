@@ -8,7 +8,9 @@ use Rattle.std.specs.declared.alloc.Global.{Global}
 use Rattle.std.proofs.lemmas.List.Folds.{concat-append}
 use Rattle.olr_spec.specs.Reference.{Reference}
 use Rattle.olr_commands.specs.declared.reply.Entry.{Entry}
-use Rattle.olr_records.specs.ReplyText.{reply_line, name_line, accepted_text, first_line, last_line, offset_lines, reference_lines}
+use Rattle.olr_commands.specs.declared.reply.NamedObstacle.{NamedObstacle}
+use Rattle.olr_commands.specs.Words.{named_obstacle_of}
+use Rattle.olr_records.specs.ReplyText.{reply_line, name_line, obstacle_line, accepted_text, first_line, last_line, offset_lines, reference_lines}
 
 -- a line of a word, two fields and more
 pub fields_line_of : (t w a b : List ℕ) (fs : List (List ℕ))
@@ -35,6 +37,11 @@ entry_lines (e ∷ es) = ap (λ (ls : List (List ℕ)). entry_line (entry_of e) 
 pub name_lines : (ns : List (String Global)) → map (λ n. name_line (string_bytes n)) ns ≡ map name_line (map string_bytes ns)
 name_lines [] = refl
 name_lines (n ∷ ns) = ap (λ (ls : List (List ℕ)). name_line (string_bytes n) ∷ ls) (name_lines ns)
+
+pub obstacle_lines : (es : List NamedObstacle) → map (λ e. obstacle_line (named_obstacle_of e)) es
+    ≡ map obstacle_line (map named_obstacle_of es)
+obstacle_lines [] = refl
+obstacle_lines (e ∷ es) = ap (λ (ls : List (List ℕ)). obstacle_line (named_obstacle_of e) ∷ ls) (obstacle_lines es)
 
 -- the text of a reference, part by part
 parts : (t l f x : List ℕ) (m p n : List (List ℕ)) →

@@ -13,7 +13,7 @@ use Rattle.olr_spec.specs.Extension.{Path}
 use Rattle.olr_commands.specs.Recordable.{is_name}
 use Rattle.olr_commands.specs.State.{same_name, Fault, Syntax, Range, Change, On_map, Add_path, Set_path, Drop_path}
 use Rattle.olr_commands.specs.State.{Command, Make, Show, Show_node, Show_line, Depends, Report, Dump, Compact, Explain, Begin}
-use Rattle.olr_commands.specs.State.{Commit, Abort}
+use Rattle.olr_commands.specs.State.{Commit, Abort, Ambiguous}
 
 -- the fields of a record, or one field, by their bytes
 abbrev pub Field : Type 0
@@ -155,6 +155,11 @@ abbrev pub depends_record : List Field → Read Command
 depends_record [] = Err Bad_form
 depends_record fs = Ok (λ n nodes. Depends nodes) ⊛ few_nodes (length fs) ⊛ numbers fs
 
+-- a name, or none
+abbrev pub ambiguous_record : List Field → Read Command
+ambiguous_record [] = Ok (Ambiguous None)
+ambiguous_record fs = one (λ n. Ambiguous (Some n)) name fs
+
 -- by the first field, how the fields after it are read
 abbrev pub forms : List (Field × (List Field → Read Command))
 forms =
@@ -178,6 +183,7 @@ forms =
     ∷ (codes "report", λ fs. none Report fs)
     ∷ (codes "dump", λ fs. none Dump fs)
     ∷ (codes "compact", λ fs. none Compact fs)
+    ∷ (codes "ambiguous", λ fs. ambiguous_record fs)
     ∷ []
 
 abbrev pub read_by : List (Field × (List Field → Read Command)) → Field → List Field → Read Command
@@ -202,6 +208,7 @@ HoldsList (Make (On_map e)) = ⊥
 HoldsList (Make change) = ⊤
 HoldsList (Show name) = ⊤
 HoldsList (Depends nodes) = ⊤
+HoldsList (Ambiguous (Some name)) = ⊤
 HoldsList (Explain text) = 0 < length text
 HoldsList c = ⊥
 

@@ -12,7 +12,9 @@ use Rattle.olr_commands.specs.State.{TextFault, Not_base64, Not_v3, Fault, Synta
 use Rattle.olr_commands.specs.State.{No_path, Bad_path, Not_a_reference, Memory, Batch_open, No_batch, Count_differs}
 use Rattle.olr_commands.specs.State.{Batch_full, Not_a_record}
 use Rattle.olr_commands.specs.RecordText.{fields_line}
-use Rattle.olr_commands.specs.Reply.{Entry, Reply, Paths, Fields, Held, Dumped, Records, Names, Outcome}
+use Rattle.olr_commands.specs.Reply.{Entry, Reply, Paths, Fields, Held, Dumped, Records, Names, Obstacles, Outcome}
+use Rattle.olr_commands.specs.Ambiguities.{NamedObstacle}
+use Rattle.olr_spec.specs.Ambiguity.{Obstacle, Same_sector, Other_bearing, Other_node}
 
 abbrev pub reply_line : List (List ℕ) → List ℕ
 reply_line fields = fields_line fields
@@ -58,6 +60,16 @@ reference_lines r =
     first_line r.first ∷ (map middle_line r.middle ++ last_line r.last
     ∷ (offset_lines (codes "positive") r.pos ++ offset_lines (codes "negative") r.neg))
 
+-- ---- what stands in the way of a string
+
+abbrev pub obstacle_fields : Obstacle → List (List ℕ)
+obstacle_fields (Same_sector y) = codes "sector" ∷ decimal y ∷ []
+obstacle_fields (Other_bearing y) = codes "bearing" ∷ decimal y ∷ []
+obstacle_fields (Other_node v) = codes "node" ∷ decimal v ∷ []
+
+abbrev pub obstacle_line : NamedObstacle → List ℕ
+obstacle_line e = reply_line (e.name ∷ decimal e.lrp ∷ obstacle_fields e.obstacle)
+
 -- ---- replies
 
 abbrev pub name_line : List ℕ → List ℕ
@@ -76,6 +88,7 @@ reply_text (Fields r) = accepted_text (reference_lines r)
 reply_text (Dumped n text) = count_line n ++ text
 reply_text (Records n text) = count_line n ++ text
 reply_text (Names names) = accepted_text (map name_line names)
+reply_text (Obstacles found) = accepted_text (map obstacle_line found)
 reply_text (Held n) = reply_line (codes "held" ∷ decimal n ∷ [])
 
 -- ---- faults

@@ -1,4 +1,4 @@
-//! Records of questions about the map.
+//! Records of questions about the map, and about the strings of paths.
 ghost use Rattle.std.specs.Prelude.{drop, Err, ⊤};
 ghost use Rattle.csv.specs.Records.{fields_of};
 ghost use Rattle.olr_commands.specs.State.{Show_node, Show_line};
@@ -7,7 +7,7 @@ ghost use Rattle.olr_records.specs.Records.{◌⊛◌, Out_of_range};
 ghost use Rattle.olr_records.specs.Words.{Gathers, IsRead};
 
 use crate::faults::ReadFault;
-use crate::fields::{field, line_id, node_id};
+use crate::fields::{field, line_id, name, node_id};
 use crate::parts::{room, with_item};
 use csv::ByteRecord;
 use olr_commands::Command;
@@ -74,4 +74,18 @@ pub(crate) fn depends(alloc: Global, fields: &ByteRecord) -> Result<Command, Rea
     }
     let nodes = node_ids(alloc, fields)?;
     Ok(Command::Depends(nodes))
+}
+
+/// `ambiguous[,NAME]`
+pub(crate) fn ambiguous(alloc: Global, fields: &ByteRecord) -> Result<Command, ReadFault>
+    ensures { IsRead (records.ambiguous_record (drop 1 (fields_of fields.now))) result }
+{
+    if fields.len() > 2 {
+        return Err(ReadFault::Syntax);
+    }
+    if fields.len() < 2 {
+        return Ok(Command::Ambiguous(None));
+    }
+    let name = name(alloc, field(fields, 1))?;
+    Ok(Command::Ambiguous(Some(name)))
 }

@@ -10,7 +10,7 @@ use crate::edits::{add_line, add_node, drop_line, drop_node, move_node, set_line
 use crate::faults::ReadFault;
 use crate::fields::{amount, field};
 use crate::paths::{add_path, drop_path, set_path, show};
-use crate::questions::{depends, show_line, show_node};
+use crate::questions::{ambiguous, depends, show_line, show_node};
 use csv::ByteRecord;
 use olr_commands::Command;
 use std::alloc::Global;
@@ -97,6 +97,8 @@ fn read_question(alloc: Global, word: &[u8], fields: &ByteRecord) -> Result<Comm
         single_word(fields, Command::Dump)
     } else if is(word, b"compact") {
         single_word(fields, Command::Compact)
+    } else if is(word, b"ambiguous") {
+        ambiguous(alloc, fields)
     } else {
         Err(ReadFault::Syntax)
     }

@@ -1,16 +1,18 @@
 //! The texts of replies.
 ghost use Rattle.std.specs.Prelude.{◌≡◌, ◌≤◌, ◌++◌, ◌∷◌, [], ℕ, List, decimal, length, map, string_bytes, IfOk, OnOk};
 ghost use Rattle.std.specs.List.{concat};
+ghost use Rattle.olr_ambiguity.specs.Found.{obstacle_of};
 ghost use Rattle.olr_answers.specs.Answers.{refusal_of};
 ghost use Rattle.olr_commands.specs.RecordText.{after_commas};
 ghost use Rattle.olr_commands.specs.Reply.{Paths, Dumped};
-ghost use Rattle.olr_commands.specs.Words.{reply_of, entry_of};
+ghost use Rattle.olr_commands.specs.Words.{reply_of, entry_of, named_obstacle_of};
 ghost use Rattle.olr_records.specs.ReplyText as texts;
 
 use crate::texts::push_point;
+use olr_ambiguity::Obstacle;
 use olr_answers::Refusal;
 use olr_binary::{Attrs, First, Last, Middle, Reference};
-use olr_commands::{Dump, Entry, Reply, push_field, push_number};
+use olr_commands::{Dump, Entry, NamedObstacle, Reply, push_field, push_number};
 use std::alloc::{AllocError, Global};
 
 /// The line of a reply that names no path. It takes no memory.
@@ -41,6 +43,7 @@ pub fn append_reply(text: &mut Vec<u8>, reply: &Reply) -> Result<(), AllocError>
         Reply::Held(count) => push_count(text, b"held", *count as usize),
         Reply::Dump(records) | Reply::Records(records) => push_dump(text, records),
         Reply::Names(names) => push_names(text, names),
+        Reply::Obstacles(found) => push_obstacles(text, found),
     }
 }
 
@@ -161,6 +164,57 @@ fn push_name(text: &mut Vec<u8>, name: &str) -> Result<(), AllocError>
 {
     text.extend_from_slice(name.as_bytes())?;
     text.extend_from_slice(b"\n")
+}
+
+/// The number of things that stand in the way, and a line for each.
+fn push_obstacles(text: &mut Vec<u8>, found: &[NamedObstacle]) -> Result<(), AllocError>
+    ensures { OnOk result (text.new.items ≡ text.old.items
+        ++ texts.accepted_text (map (λ e. texts.obstacle_line (named_obstacle_of e)) found.now)) }
+{
+    push_count(text, b"ok", found.len())?;
+    push_obstacle_lines(text, found)
+}
+
+/// A line for each of these things.
+fn push_obstacle_lines(text: &mut Vec<u8>, found: &[NamedObstacle]) -> Result<(), AllocError>
+    ensures { OnOk result (text.new.items ≡ text.old.items
+        ++ concat (map (λ e. texts.obstacle_line (named_obstacle_of e)) found.now)) }
+{
+    for obstacle in found {
+        push_obstacle_line(text, obstacle)?;
+    }
+    Ok(())
+}
+
+/// The path's name, the number of the LRP, and what stands in the way there.
+fn push_obstacle_line(text: &mut Vec<u8>, named: &NamedObstacle) -> Result<(), AllocError>
+    ensures { OnOk result (text.new.items ≡ text.old.items ++ texts.obstacle_line (named_obstacle_of named.now)) }
+{
+    text.extend_from_slice(named.name.as_bytes())?;
+    push_number(text, named.found.lrp)?;
+    push_obstacle(text, named.found.obstacle)?;
+    text.extend_from_slice(b"\n")
+}
+
+/// The kind of what stands in the way, and its number.
+fn push_obstacle(text: &mut Vec<u8>, obstacle: Obstacle) -> Result<(), AllocError>
+    ensures { OnOk result (text.new.items ≡ text.old.items
+        ++ after_commas (texts.obstacle_fields (obstacle_of obstacle))) }
+{
+    match obstacle {
+        Obstacle::SameSector(line) => {
+            push_field(text, b"sector")?;
+            push_number(text, line.number())
+        }
+        Obstacle::OtherBearing(line) => {
+            push_field(text, b"bearing")?;
+            push_number(text, line.number())
+        }
+        Obstacle::OtherNode(node) => {
+            push_field(text, b"node")?;
+            push_number(text, node.number())
+        }
+    }
 }
 
 /// The number of lines of an offset.

@@ -3,7 +3,7 @@ use Rattle.olr_register.proofs.Common.{inl, inr, ◌≡◌, ℕ, ◌≤◌, true
 use Rattle.olr_register.proofs.Common.{Some, None, refl, sym, ap, ◌∙◌, subst, is_none, MatchOption, list_any, both_ways}
 use Rattle.olr_register.proofs.Common.{Map, has, Path, ChangedLine, CoverageQuery, Named, Content, same_name, Change}
 use Rattle.olr_register.proofs.Common.{Affects, By_name, By_node, By_line, all_nodes, all_lines, all_changed, all_names}
-use Rattle.olr_register.proofs.Common.{SearchedFor, Made, Item, named_of, all_named, Totals, held_of, AreGiven, arith}
+use Rattle.olr_register.proofs.Common.{SearchedFor, Made, Item, named_of, all_named, Totals, held_of, AreGiven}
 use Rattle.olr_register.proofs.Common.{Work, AreCounted, Bool}
 use Rattle.olr_paths.proofs.RenewedPrefix.{no_totals}
 use Rattle.olr_refs.proofs.Noting.{raised_from, searched_on}

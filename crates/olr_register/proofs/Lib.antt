@@ -1,4 +1,5 @@
 pub mod Common
+pub mod Ambiguous
 pub mod Asking
 pub mod DumpTexts
 pub mod BatchSteps

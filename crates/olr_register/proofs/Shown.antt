@@ -1,7 +1,7 @@
 -- Questions about the map: their steps, and the paths that depend on nodes, in terms of the definitions of commands.
 use Rattle.olr_register.proofs.Common.{inl, inr, ◌≡◌, ℕ, true, false, List, [], ◌∷◌, map, Some, None, Ok, Err, refl, ap, ◌∙◌}
-use Rattle.olr_register.proofs.Common.{Map, has, has_node, list_all, Named, Content, step, Item, AreEncodings, all_named}
-use Rattle.olr_register.proofs.Common.{named_of, content_on, ChangeSet, nodes_of, lines_of}
+use Rattle.olr_register.proofs.Common.{Map, has_node, list_all, Named, Content, step, Item, AreEncodings, all_named}
+use Rattle.olr_register.proofs.Common.{content_on, ChangeSet, nodes_of, lines_of}
 use Rattle.olr_spec.specs.Map.{has_line, No_node, No_line}
 use Rattle.olr_commands.specs.Counts.{Picks}
 use Rattle.olr_commands.specs.Dependents.{DependsOn, Dependents, On_node, On_line}

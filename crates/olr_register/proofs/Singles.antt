@@ -1,5 +1,5 @@
 -- Changes that are made at once, with no batch open.
-use Rattle.olr_register.proofs.Common.{arith, ◌⊎◌, ◌≡◌, ◌≢◌, ℕ, true, false, not, List, [], ◌∷◌, ◌++◌, map, filter}
+use Rattle.olr_register.proofs.Common.{◌⊎◌, ◌≡◌, ◌≢◌, ℕ, true, false, not, List, [], ◌∷◌, ◌++◌, map, filter}
 use Rattle.olr_register.proofs.Common.{length, Some, None, Result, Ok, Err, refl, sym, ap, ◌∙◌, subst, ◌==◌, ◌&&◌}
 use Rattle.olr_register.proofs.Common.{IsFalse, IsErrAnd, Map, Edit, edited, touched_nodes, touched_lines, has}
 use Rattle.olr_register.proofs.Common.{HasCoord, changes_of, Path, is_path, map_of, RoadMap, Work, Named}
@@ -14,7 +14,6 @@ use Rattle.olr_register.proofs.Common.{ChangeSet, follows_self, has_name, Regist
 use Rattle.olr_register.proofs.Common.{HasBounds, IsKeptRight, CanRenew, MayReport, ByContent, Lacks, Answered}
 use Rattle.olr_register.proofs.Common.{IsNotedOf, encodes, begins_drop, append-nil, Option}
 use Rattle.olr_register.specs.Contents.{option_batch}
-use Rattle.olr_refs.proofs.Noting.{searched_on}
 use Rattle.olr_search.specs.Counts.{raised_count, raised_work}
 use Rattle.olr_paths.specs.Reencoded.{entries_of}
 use Rattle.olr_paths.specs.declared.renewal.Renewed.{Renewed}

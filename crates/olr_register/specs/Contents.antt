@@ -1,21 +1,22 @@
 -- What a register stores, and what is true of it.
 --     content_on M is, content_under roads is b      the content of a map and a list;  the content after an open batch
+--     known_in made      the known coverage queries of results, if there are some
 --     AreEditsNoted M N T X C      what is recorded of edits that lead from M to N
 --     IsHeld, IsRegister      what is true of an open batch, and of map, list and batch
 --     HasBounds M is near      the bounds are right on the map, and they are those of all coverage queries of the list.
 --     IsKeptRight      what is true of the whole
 --     CanRenew M N is ls t near      the list ls, which the changes of a batch made of the list is, can be renewed after
 --         edits t that led from M to N
-use Rattle.std.specs.Prelude.{ℕ, ◌≤◌, List, map, Contains, Option, Some, None, is_none, IfSome, IsTrue}
+use Rattle.std.specs.Prelude.{ℕ, ◌≤◌, List, [], map, Contains, Option, Some, None, is_none, IfSome, IsTrue}
 use Rattle.olr_spec.specs.Map.{Map, has}
 use Rattle.olr_spec.specs.Detours.{ChangedLine, Difference}
-use Rattle.olr_spec.specs.Queries.{CoverageQuery}
+use Rattle.olr_spec.specs.Queries.{CoverageQuery, KnownQuery}
 use Rattle.olr_map.specs.RoadMaps.{map_of, CanUndoAll, map_before}
 use Rattle.olr_map.specs.declared.road_map.RoadMap.{RoadMap}
 use Rattle.olr_map.specs.declared.undo.UndoLog.{UndoLog}
 use Rattle.olr_near.specs.declared.distance_bounds.DistanceBounds.{DistanceBounds}
 use Rattle.olr_commands.specs.State.{Content, IsContent, NamesDiffer, full}
-use Rattle.olr_list.specs.Items.{Item, AreEncodings, AreEncodingsIfAny, all_named}
+use Rattle.olr_list.specs.Items.{Item, Made, AreEncodings, AreEncodingsIfAny, all_named}
 use Rattle.olr_paths.specs.Changes.{Follows, IsBefore}
 use Rattle.olr_list.specs.Origins.{Begins, AreBoundsOf}
 use Rattle.olr_list.specs.Overlaid.{under_overlay}
@@ -65,6 +66,10 @@ kept_of roads is batch =
       content = content_on (map_kept roads batch) is;
       batch = option_batch roads is batch;
     }
+
+abbrev pub known_in : Option Made → List KnownQuery
+known_in None = []
+known_in (Some m) = m.known
 
 -- ---- invariants
 

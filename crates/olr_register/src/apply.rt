@@ -54,6 +54,7 @@ impl Register {
             Command::Report => self.report(),
             Command::Dump => self.dump(),
             Command::Compact => self.compact(),
+            Command::Ambiguous(name) => self.ambiguous(name),
             Command::Explain(text) => self.explain(&text),
             Command::Begin => self.begin(),
             Command::Commit(count) => self.commit(count),

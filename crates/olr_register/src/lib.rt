@@ -1,6 +1,7 @@
 //! The register: a road map and named paths, whose published answers are right after every command.
 #![tactic(auto)]
 
+mod ambiguities;
 mod apply;
 mod batch;
 mod batch_commands;

@@ -10,7 +10,7 @@ use Rattle.std.proofs.lemmas.List.Concat.{flat_map-append}
 use Rattle.olr_commands.specs.State.{Content, Change, Command, Make, Show, Report, Dump, Explain, Begin, Commit, Abort, State}
 use Rattle.olr_commands.specs.State.{Fault, Map_fault, with_change, after, step, step_in, start_state, full}
 use Rattle.olr_commands.specs.State.{has_path, is_recordable, text_fault, TextFault, unless_fault, No_path, Not_a_record}
-use Rattle.olr_commands.specs.State.{Show_node, Show_line, Depends, Compact}
+use Rattle.olr_commands.specs.State.{Show_node, Show_line, Depends, Compact, Ambiguous, has_asked}
 use Rattle.olr_commands.specs.Recordable.{has_node_record, has_line_records}
 use Rattle.std.specs.List.{list_all}
 use Rattle.olr_spec.specs.Map.{has_node, has_line as has_line_of}
@@ -19,7 +19,7 @@ use Rattle.olr_run.proofs.Common.{CommandOutcome}
 use Rattle.olr_sessions.specs.declared.unkept.Effect.{Effect}
 use Rattle.olr_commands.specs.RecordText.{fields_line}
 use Rattle.olr_commands.specs.Dump.{steps}
-use Rattle.olr_commands.specs.Reply.{Reply, Paths, Fields, Held, Dumped, Records, Names}
+use Rattle.olr_commands.specs.Reply.{Reply, Paths, Fields, Held, Dumped, Records, Names, Obstacles}
 use Rattle.olr_records.specs.Records.{Read}
 use Rattle.olr_records.specs.ReplyText.{fault_text, reply_text}
 use Rattle.olr_run.specs.Logged.{IsKept, closed, Leads, UpTo, Survives}
@@ -258,6 +258,10 @@ module _ (k lines inner : List ℕ) (c : Content) (r : List Field) where
   accepted None Compact t e is h =
       follows_same k (record { ready = lines; batch = inner }) c None t (let same : closed c ≡ t = cc in same) h
   accepted (Some xs) Compact t e is h = absurd cc
+  accepted None (Ambiguous name) t e is h =
+      follows_same k (record { ready = lines; batch = inner }) c None t
+      (same_state c None t (not (has_asked c name)) No_path is) h
+  accepted (Some xs) (Ambiguous name) t e is h = absurd cc
   accepted b (Explain text) t e is h =
       follows_same k (record { ready = lines; batch = inner }) c b t (explained b (text_fault text) t is) h
   accepted None Begin t e is h = begun t e is h
@@ -276,6 +280,7 @@ reply_accepts (Dumped n text) = refl
 reply_accepts (Held n) = refl
 reply_accepts (Records n text) = refl
 reply_accepts (Names names) = refl
+reply_accepts (Obstacles found) = refl
 
 fault_rejects : (f : Fault) → is_fault (fault_text f) ≡ true
 fault_rejects (Map_fault Node_exists) = refl

@@ -18,8 +18,8 @@ use Rattle.olr_records.specs.Records.{latitude, place, name, numbers, point, sha
 use Rattle.olr_records.specs.Records.{max32, forms, read, read_by}
 use Rattle.olr_spec.specs.Map.{ShapePoint, Line, Add_line, Set_line}
 use Rattle.olr_commands.specs.State.{On_map, same_name, Show, Report, Dump, Explain, Begin, Commit, Abort}
-use Rattle.olr_commands.specs.State.{Show_node, Show_line, Depends, Compact}
-use Rattle.olr_records.specs.Records.{few_nodes, depends_record}
+use Rattle.olr_commands.specs.State.{Show_node, Show_line, Depends, Compact, Ambiguous}
+use Rattle.olr_records.specs.Records.{few_nodes, depends_record, ambiguous_record}
 use Rattle.olr_records.specs.Records.{line_between}
 use Rattle.olr_sessions.specs.KeptLines.{effect_of, word_effect, has_line, is_clean, is_clean_byte}
 use Rattle.olr_sessions.specs.declared.unkept.Effect.{Effect}
@@ -332,6 +332,11 @@ compacts : (fs : List Field) → IfOk (none Compact fs) (KeptAs (codes "compact"
 compacts [] = record { effect = refl; plain = λ k. absurd k }
 compacts (f ∷ fs) = tt
 
+ambiguous : (fs : List Field) → IfOk (ambiguous_record fs) (KeptAs (codes "ambiguous") fs)
+ambiguous [] = record { effect = refl; plain = λ k. absurd k }
+ambiguous (f ∷ []) = asks (codes "ambiguous") (f ∷ []) (λ n. Ambiguous (Some n)) (name f) (λ a. refl) (λ a k. k)
+ambiguous fs = tt
+
 begins : (fs : List Field) → IfOk (none Begin fs) (KeptAs (codes "begin") fs)
 begins [] = record { effect = refl; plain = λ _. (refl, tt) }
 begins (f ∷ fs) = tt
@@ -364,7 +369,7 @@ by_fits (r ∷ rs) h word fs = by_word (same_name word r.0) refl (by_fits rs h.1
     by_word false e rest = rw e rest
 
 forms_fit : AllByRecursion (λ r. Fits r.0 r.1) forms
-forms_fit = (edits (codes "node") (node_record Add_node) refl (λ _. refl) (node_plain Add_node), (edits (codes "move") (node_record Move_node) refl (λ _. refl) (node_plain Move_node), (edits (codes "drop-node") (one Drop_node number) refl (λ _. refl) (one_plain Drop_node number (digits_plain 1 max32)), (edits (codes "line") line_record refl (λ _. refl) line_plain, (edits (codes "set-line") set_line_record refl (λ _. refl) set_line_plain, (edits (codes "drop-line") (one Drop_line number) refl (λ _. refl) (one_plain Drop_line number (digits_plain 1 max32)), ((λ fs. makes (codes "path") fs (λ p. Add_path p.0 p.1) (path_fields fs) refl refl (path_fields_plain fs)), (explains, ((λ fs. makes (codes "repath") fs (λ p. Set_path p.0 p.1) (path_fields fs) refl refl (path_fields_plain fs)), (drops, (begins, (commits, (aborts, (shows, (shows_node, (shows_line, (depends_on, (reports, (dumps, (compacts, tt))))))))))))))))))))
+forms_fit = (edits (codes "node") (node_record Add_node) refl (λ _. refl) (node_plain Add_node), (edits (codes "move") (node_record Move_node) refl (λ _. refl) (node_plain Move_node), (edits (codes "drop-node") (one Drop_node number) refl (λ _. refl) (one_plain Drop_node number (digits_plain 1 max32)), (edits (codes "line") line_record refl (λ _. refl) line_plain, (edits (codes "set-line") set_line_record refl (λ _. refl) set_line_plain, (edits (codes "drop-line") (one Drop_line number) refl (λ _. refl) (one_plain Drop_line number (digits_plain 1 max32)), ((λ fs. makes (codes "path") fs (λ p. Add_path p.0 p.1) (path_fields fs) refl refl (path_fields_plain fs)), (explains, ((λ fs. makes (codes "repath") fs (λ p. Set_path p.0 p.1) (path_fields fs) refl refl (path_fields_plain fs)), (drops, (begins, (commits, (aborts, (shows, (shows_node, (shows_line, (depends_on, (reports, (dumps, (compacts, (ambiguous, tt)))))))))))))))))))))
 
 kept_as : (word : Field) (fs : List Field) (c : Command) → read (word ∷ fs) ≡ Ok c → KeptAs word fs c
 kept_as word fs c e =

@@ -37,8 +37,8 @@ fn names_no_path(reply: &Reply) -> bool
 {
     match reply {
         Reply::Paths(entries) => entries.is_empty(),
-        Reply::Fields(_) | Reply::Held(_) | Reply::Dump(_) | Reply::Records(_) | Reply::Names(_) =>
-            false,
+        Reply::Fields(_) | Reply::Held(_) | Reply::Dump(_) | Reply::Records(_) => false,
+        Reply::Names(_) | Reply::Obstacles(_) => false,
     }
 }
 

@@ -20,6 +20,8 @@ dump
 show-node,1
 show-line,10
 depends,4,2
+ambiguous
+ambiguous,a
 node,6,6.13,49.604
 node,7,6.131,49.604
 line,60,2,6,4,3,1000

@@ -77,6 +77,8 @@ fn reads_each_record(rt: HostRuntime) -> Result<(), Fail> {
             ("report", "Ok(Report)"),
             ("dump", "Ok(Dump)"),
             ("compact", "Ok(Compact)"),
+            ("ambiguous", "Ok(Ambiguous(None))"),
+            ("ambiguous,a", "Ok(Ambiguous(Some(\"a\")))"),
             ("explain,*", "Ok(Explain([42]))"),
             ("explain,", "Ok(Explain([]))"),
             ("begin", "Ok(Begin)"),
@@ -138,6 +140,8 @@ fn refuses_malformed_records(rt: HostRuntime) -> Result<(), Fail> {
             ("depends,", "Err(Syntax)"),
             ("depends,1,0", "Err(Range)"),
             ("depends,0,x", "Err(Syntax)"),
+            ("ambiguous,", "Err(Syntax)"),
+            ("ambiguous,a,b", "Err(Syntax)"),
         ],
     )
 }

@@ -1,5 +1,6 @@
 use Rattle.olr_laws.proofs.AmbiguityLemmas.{clear_is_distinct}
+use Rattle.olr_laws.proofs.NamedObstacles.{unnamed_is_distinct, named_stands}
 use Rattle.olr_laws.proofs.receivers.laws_of_ambiguity.Goals as goal
 
 pub returns : goal.returns
-returns c = clear_is_distinct
+returns c = record { clear = clear_is_distinct; unnamed = unnamed_is_distinct; named = named_stands }

@@ -1,4 +1,4 @@
-use Rattle.olr_register.proofs.Common.{ℕ, ◌≡◌, is_some, refl, sym, ap, ◌∙◌, none_of, map_of, items, all_named, content_on}
+use Rattle.olr_register.proofs.Common.{is_some, refl, sym, ap, ◌∙◌, none_of, map_of, items, all_named, content_on}
 use Rattle.olr_register.proofs.Common.{ByState, No_memory, may_want, Option}
 use Rattle.std.specs.Option.{option_copied}
 use Rattle.olr_spec.specs.Map.{Line}

@@ -1,4 +1,4 @@
-use Rattle.olr_register.proofs.Common.{ℕ, ◌≡◌, true, not, is_some, refl, sym, ap, ◌∙◌, none_of, map_of, has_node}
+use Rattle.olr_register.proofs.Common.{not, is_some, refl, sym, ap, ◌∙◌, none_of, map_of}
 use Rattle.olr_register.proofs.Common.{items, all_named, content_on, ByState, No_memory, may_want, Option}
 use Rattle.olr_spec.specs.Coordinates.{Coord}
 use Rattle.olr_commands.specs.State.{Show_node}

@@ -1,0 +1,10 @@
+use Rattle.olr_records.proofs.Common.{concat}
+use Rattle.std.proofs.Common.{◌≡◌, ◌++◌, map, take}
+use Rattle.olr_commands.specs.Words.{named_obstacle_of}
+use Rattle.olr_records.specs.ReplyText.{obstacle_line}
+use Rattle.olr_records.proofs.reply.push_obstacle_lines.Given as goal
+
+abbrev pub invariant-loop-obstacle : goal.invariant-loop-obstacle
+invariant-loop-obstacle l =
+    l.text.items
+    ≡ l.initial.text.items ++ concat (map (λ e. obstacle_line (named_obstacle_of e)) (take l.obstacle-index l.found))

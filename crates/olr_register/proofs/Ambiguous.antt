@@ -1,0 +1,96 @@
+-- What stands in the way of the strings of a register's paths, path by path; and the steps of the question.
+use Rattle.olr_register.proofs.Common.{◌≡◌, ℕ, suc, List, [], ◌∷◌, ◌++◌, map, Some, None, Ok, Err, refl, sym}
+use Rattle.olr_register.proofs.Common.{ap, ◌∙◌, subst, append_assoc, append-nil, slice_get, take, ◌+◌}
+use Rattle.olr_register.proofs.Common.{Map, Path, is_path, Named, Content, step, Item, Made, AreEncodings, IsEncodingOf}
+use Rattle.olr_register.proofs.Common.{all_named, named_of, path_named, No_path, option_map}
+use Rattle.olr_spec.proofs.ListLemmas.{take_more_at}
+use Rattle.olr_spec.proofs.KnownLemmas.{known_holds}
+use Rattle.olr_spec.specs.Queries.{AreKnown}
+use Rattle.olr_commands.specs.State.{Ambiguous, ArePaths}
+use Rattle.olr_commands.specs.Ambiguities.{NamedObstacle, named, obstacles_of, Ambiguity, Ambiguities}
+use Rattle.olr_answers.specs.Answers.{answer_of}
+use Rattle.olr_answers.specs.declared.answer.Answer.{Answer}
+use Rattle.olr_answers.specs.declared.answer.Answer.TheVariants.{Points, Refused}
+use Rattle.olr_answers.specs.declared.answer.Refusal.{Refusal}
+use Rattle.olr_spec.specs.Reference.{Reference}
+use Rattle.olr_spec.specs.Encoding.{Encodes}
+use Rattle.olr_spec.specs.Recovery.{OwnLinesOf}
+use Rattle.olr_spec.specs.Ambiguity.{Obstacle, obstacles}
+use Rattle.olr_register.proofs.States.{state}
+use Rattle.olr_register.proofs.Common.{Option}
+use Rattle.olr_register.specs.Contents.{known_in}
+use Rattle.std.proofs.lemmas.Option.{slice_get-map}
+use Rattle.std.proofs.Common.{zero, IsTrue}
+
+-- ---- of one path
+
+module _ (M : Map) (p : Named) (a : Answer) (xs : List ℕ) (e : Encodes M p.path (answer_of a))
+    (o : OwnLinesOf M p.path (answer_of a) xs) (old : List NamedObstacle) where
+  abbrev pub Adds : List NamedObstacle → Type 0
+  Adds new = (own : List NamedObstacle) × Ambiguity M p own × (new ≡ old ++ own)
+
+  adds : (os : List (ℕ × Obstacle)) (new : List NamedObstacle) → obstacles_of M (answer_of a) xs ≡ os →
+      new ≡ old ++ map (named p.name) os → Adds new
+  adds os new f g = (map (named p.name) os, (answer_of a, xs, e, o, ap (map (named p.name)) (sym f)), g)
+
+  pub adds_nothing : (f : Refusal) → a ≡ Refused f → Adds old
+  adds_nothing f is =
+      adds [] old (ap (λ (b : Answer). obstacles_of M (answer_of b) xs) is) (sym (append-nil old))
+
+  pub adds_found : (r : Reference) (os : List (ℕ × Obstacle)) (new : List NamedObstacle) → a ≡ Points r →
+      os ≡ obstacles M r xs → new ≡ old ++ map (named p.name) os → Adds new
+  adds_found r os new is f g = adds os new (ap (λ (b : Answer). obstacles_of M (answer_of b) xs) is ∙ sym f) g
+
+-- ---- path by path
+
+-- with one path more
+pub ambiguities_more : (M : Map) (ps : List Named) (p : Named) (es own : List NamedObstacle) → Ambiguities M ps es →
+    Ambiguity M p own → Ambiguities M (ps ++ p ∷ []) (es ++ own)
+ambiguities_more M [] p es own a o =
+    (own, [], o, refl, ap (λ (xs : List NamedObstacle). xs ++ own) a ∙ sym (append-nil own))
+ambiguities_more M (q ∷ ps) p es own a o =
+    let rest = ambiguities_more M ps p a.1 own a.3 o in
+    (a.0, a.1 ++ own, a.2, rest, ap (λ (xs : List NamedObstacle). xs ++ own) a.4 ∙ append_assoc a.0 a.1 own)
+
+module _ (M : Map) (is : List Item) (k : ℕ) (i : Item) (at : slice_get is k ≡ Some i) where
+  named_at : slice_get (all_named is) k ≡ Some (named_of i)
+  named_at = slice_get-map named_of is k ∙ ap (λ o. option_map named_of o) at
+
+  pub ambiguities_next : (es own : List NamedObstacle) → Ambiguities M (take k (all_named is)) es →
+      Ambiguity M (named_of i) own → Ambiguities M (take (k + 1) (all_named is)) (es ++ own)
+  ambiguities_next es own a o =
+      subst (λ (ps : List Named). Ambiguities M ps (es ++ own)) (sym (take_more_at (all_named is) k (named_of i) named_at))
+      (ambiguities_more M (take k (all_named is)) (named_of i) es own a o)
+
+-- ---- what is known of a path
+
+encoded_at : (M : Map) (is : List Item) (k : ℕ) (i : Item) → AreEncodings M is → slice_get is k ≡ Some i →
+    (m : Made) × (i.made ≡ Some m) × IsEncodingOf M i.path m
+encoded_at M [] k i a h = absurd cc
+encoded_at M (j ∷ is) zero i a h =
+    let same : j ≡ i = cc in
+    subst (λ (z : Item). (m : Made) × (z.made ≡ Some m) × IsEncodingOf M z.path m) same a.0
+encoded_at M (j ∷ is) (suc k) i a h = encoded_at M is k i a.1 h
+
+path_at : (is : List Item) (k : ℕ) (i : Item) → ArePaths (all_named is) → slice_get is k ≡ Some i →
+    IsTrue (is_path i.path.lines)
+path_at [] k i a h = absurd cc
+path_at (j ∷ is) zero i a h = let same : j ≡ i = cc in subst (λ (z : Item). IsTrue (is_path z.path.lines)) same a.0
+path_at (j ∷ is) (suc k) i a h = path_at is k i a.1 h
+
+pub known_at : (M : Map) (is : List Item) (k : ℕ) (i : Item) → AreEncodings M is → ArePaths (all_named is) →
+    slice_get is k ≡ Some i → AreKnown M i.path.lines (known_in i.made)
+known_at M is k i a paths at =
+    let e = encoded_at M is k i a at in
+    subst (λ (o : Option Made). AreKnown M i.path.lines (known_in o)) (sym e.1)
+    (known_holds M i.path (path_at is k i paths at) e.0.known e.2.known)
+
+-- ---- steps, if no batch is open
+
+module _ (c : Content) where
+  pub none_asked : (name : List ℕ) → path_named c.paths name ≡ None → step (state c None) (Ambiguous (Some name)) ≡ Err No_path
+  none_asked name none = rw none refl
+
+  pub one_asked : (name : List ℕ) (P : Path) → path_named c.paths name ≡ Some P →
+      step (state c None) (Ambiguous (Some name)) ≡ Ok (state c None)
+  one_asked name P there = rw there refl
