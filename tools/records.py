@@ -26,8 +26,8 @@ from replies import read_reply
 UNITS = 10_000_000
 HEAD = re.compile(rb"ok,(\d{1,18})\r?\n")
 TOP = os.path.dirname(os.path.dirname(os.path.realpath(__file__)))
-QUESTIONS = ("show", "show-node", "show-line", "depends", "report", "explain", "dump", "compact")
-NO_ANSWERS = ("show-node", "show-line", "depends", "explain", "dump")
+QUESTIONS = ("show", "show-node", "show-line", "depends", "report", "explain", "dump", "compact", "ambiguous")
+NO_ANSWERS = ("show-node", "show-line", "depends", "explain", "dump", "ambiguous")
 ENDS = ("commit", "abort")
 BESIDE = [os.path.join(TOP, name) for name in ("crates/olr_keep/out/olr_keep", "../../bin/olr-keep")]
 BOM = "\xef\xbb\xbf"  # the byte order mark of UTF-8, as Latin-1

@@ -45,11 +45,14 @@ FORMS = {
     "report": ("", ""),
     "dump": ("", ""),
     "compact": ("", ""),
+    "ambiguous": ("", "NAME"),
     "explain": ("TEXT", ""),
     "begin": ("", ""),
     "commit": ("COUNT", ""),
     "abort": ("", ""),
 }
+
+AT_MOST_ONE = ("ambiguous",)  # records whose last field may be left out, but not repeated
 
 WHAT_TO_DO = {
     3: "node {1} is in the map: move it, unless this was sent twice",
@@ -83,7 +86,7 @@ def named(fields):
     """The fields after the command word with the names of their kinds, or None if their number is wrong."""
     fixed, repeated = (it.split() for it in FORMS[fields[0]])
     more = len(fields) - 1 - len(fixed)
-    if more < 0 or more % max(1, len(repeated)) or (more and not repeated):
+    if more < 0 or more % max(1, len(repeated)) or (more and not repeated) or (more > 1 and fields[0] in AT_MOST_ONE):
         return None
     return list(zip(fixed + repeated * (more // max(1, len(repeated))), fields[1:]))
 
@@ -96,7 +99,8 @@ def wrong_form(fields):
         hint = f": write {near}, in lower case without spaces" if near in FORMS else ""
         return f"{word[:40]!r} is no command word{hint}"
     fixed, repeated = (",".join(it.split()) for it in FORMS[word])
-    form = ",".join(filter(None, [word, fixed])) + (f"[,{repeated}]*" if repeated else "")
+    many = "" if word in AT_MOST_ONE else "*"
+    form = ",".join(filter(None, [word, fixed])) + (f"[,{repeated}]{many}" if repeated else "")
     if (kinds := named(fields)) is None:
         return f"its form is {form}, and it has {len(fields)} fields"
     for kind, field in kinds:

@@ -18,7 +18,7 @@ from ._async import AsyncBatch, AsyncKeep
 from ._keep import Batch, Keep
 from ._library import ACCEPTED, NO_MEMORY, REJECTED, library_version
 from ._records import Degrees, Shape
-from ._replies import Answer, Changes, Explained, Point, Rejected, Reply
+from ._replies import Answer, Changes, Explained, Obstacle, Point, Rejected, Reply
 
 __version__ = "1.1.0"
 
@@ -34,6 +34,7 @@ __all__ = [
     "Degrees",
     "Explained",
     "Keep",
+    "Obstacle",
     "Point",
     "Rejected",
     "Reply",

@@ -7,7 +7,7 @@ from typing import Any, AsyncIterator, Callable, Iterable, Optional, Tuple, Type
 from ._keep import Keep, Text
 from ._library import LibraryName
 from ._records import Degrees, Shape
-from ._replies import Answer, Changes, Explained, Reply
+from ._replies import Answer, Changes, Explained, Obstacle, Reply
 
 Result = TypeVar("Result")
 
@@ -116,6 +116,10 @@ class AsyncKeep:
     async def depends(self, *nodes: int) -> Tuple[str, ...]:
         """The names of the paths whose answers an edit may change that touches one of these nodes."""
         return await self._run(self._keep.depends, *nodes)
+
+    async def ambiguous(self, name: Optional[str] = None) -> Tuple[Obstacle, ...]:
+        """What stands in the way of reading strings in only one way: that of one path, or those of all."""
+        return await self._run(self._keep.ambiguous, name)
 
     async def report(self) -> Tuple[Answer, ...]:
         """What is published of all paths, in the order of registration."""

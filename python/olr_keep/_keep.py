@@ -8,7 +8,7 @@ from typing import Iterable, Iterator, Optional, Tuple, Union
 from . import _records as records
 from ._library import ACCEPTED, REJECTED, Handle, LibraryName, load
 from ._records import Degrees, Shape
-from ._replies import Answer, Changes, Explained, Rejected, Reply, replies_of
+from ._replies import Answer, Changes, Explained, Obstacle, Rejected, Reply, replies_of
 
 Text = Union[str, bytes, bytearray, memoryview]
 
@@ -159,6 +159,11 @@ class Keep:
     def depends(self, *nodes: int) -> Tuple[str, ...]:
         """The names of the paths whose answers an edit may change that touches one of these nodes."""
         return self._accepted(",".join(["depends", *map(records.number, nodes)])).lines
+
+    def ambiguous(self, name: Optional[str] = None) -> Tuple[Obstacle, ...]:
+        """What stands in the way of reading strings in only one way: that of one path, or those of all."""
+        record = "ambiguous" if name is None else f"ambiguous,{records.name(name)}"
+        return tuple(map(Obstacle.of, self._accepted(record).lines))
 
     def report(self) -> Tuple[Answer, ...]:
         """What is published of all paths, in the order of registration."""

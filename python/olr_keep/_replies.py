@@ -62,6 +62,26 @@ class Answer:
 
 
 @dataclasses.dataclass(frozen=True)
+class Obstacle:
+    """What stands in the way of reading a path's string in only one way, at its location reference point `point`, from 0.
+
+    `kind` is `sector` for another line at the point's node that is described alike, `bearing` for another line there whose
+    direction is too near, and `node` for another node that is too near. `number` is that of the line or the node.
+    """
+
+    name: str
+    point: int
+    kind: str
+    number: int
+
+    @classmethod
+    def of(cls, line: str) -> "Obstacle":
+        """What a line of a reply says."""
+        name, point, kind, number = line.split(",")
+        return cls(name, int(point), kind, int(number))
+
+
+@dataclasses.dataclass(frozen=True)
 class Changes:
     """An accepted change: the answers of the paths that are new or whose answer has changed, in the order of registration.
 
