@@ -64,6 +64,7 @@ def check_calls():
         same("show_node", keep.show_node(3), ends[1])
         same("show_line", keep.show_line(99), (*ends, "line,99,2,3,4,3,1500"))
         same("depends", (keep.depends(4), keep.depends(1, 3)), (("a",), ("a",)))
+        same("ambiguous", (keep.ambiguous(), keep.ambiguous("a")), ((), ()))
         with keep.batch() as batch:
             same("held", keep.drop_line(99).held, 1)
             same("show in a batch", keep.show("a").string, three)
