@@ -10,12 +10,21 @@ use Rattle.olr_records.proofs.Common.{are_attributes, is_named_path, has_record,
 use Rattle.olr_records.proofs.Common.{is_latitude, unit7, are_coords, HasCoord, degrees-whole}
 use Rattle.std.proofs.Common.{◌≡◌, ℕ, ℤ, Bool, true, false, List, [], ◌∷◌, Option, Some, None, Ok, Err, IsTrue, refl}
 use Rattle.std.proofs.Common.{subst, length, nat_le, ◌&&◌, pos, negsuc, arith, ◌%◌}
+use Rattle.std.specs.Prelude.{codes, slice_index_or}
 use Rattle.olr_commands.specs.State.{Command, Show, Show_node, Show_line, Depends, Report, Dump, Compact, Explain, Begin}
 use Rattle.olr_commands.specs.State.{Commit, Abort, Ambiguous, HasCoords}
 use Rattle.olr_coords.specs.Bounds.{is_degrees}
 use Rattle.olr_records.specs.Records.{digits, longitude, latitude, one, none, path_record, forms, read_by}
 use Rattle.olr_records.specs.Records.{depends_record, few_nodes, ambiguous_record}
 use Rattle.olr_records.proofs.TestLemmas.{all_weaker, ◌also◌}
+
+-- a record of the word explain and one field
+pub explain_record : (fs : List Field) → length fs ≡ 2 → slice_index_or fs 0 [] ≡ codes "explain" →
+    read fs ≡ Ok (Explain (slice_index_or fs 1 []))
+explain_record [] two e = absurd (omega arith)
+explain_record (w ∷ []) two e = absurd (omega arith)
+explain_record (w ∷ t ∷ []) two e = let is : w ≡ codes "explain" = e in rw is refl
+explain_record (w ∷ t ∷ x ∷ fs) two e = absurd (omega arith)
 
 if_read : {A : Type 0} (P : A → Type 0) (b : Bool) (r q : Read A) → IfOk r P → IfOk q P → IfOk (if b then r else q) P
 if_read P true r q h g = h

@@ -2,7 +2,9 @@
 use Rattle.olr_records.proofs.Common.{decimal, concat, append-nil, length-append, entry_of, after_commas, joined}
 use Rattle.olr_records.proofs.Common.{entry_line, middle_line, length-decimal-le, length-map, map-append, take_more}
 use Rattle.std.proofs.Common.{◌≡◌, ℕ, ◌+◌, ◌<◌, List, [], ◌∷◌, ◌++◌, length, take, map, refl, ap, append_assoc, arith}
-use Rattle.std.proofs.Common.{◌≤◌, ◌^◌, get_or}
+use Rattle.std.proofs.Common.{◌≤◌, ◌^◌, ◌/◌, ◌%◌, drop, get_or}
+use Rattle.std.proofs.lemmas.Fmt.{decimal_digit, decimal_step}
+use Rattle.std.proofs.lemmas.List.{drop-drop}
 use Rattle.std.specs.Prelude.{codes, String, string_bytes}
 use Rattle.std.specs.declared.alloc.Global.{Global}
 use Rattle.std.proofs.lemmas.List.Folds.{concat-append}
@@ -56,6 +58,24 @@ pub reference_text : (t : List ℕ) (r : Reference) (n : ℕ)
     ++ concat (offset_lines (codes "positive") r.pos)) ++ concat (offset_lines (codes "negative") r.neg)
     ≡ t ++ accepted_text (reference_lines r)
 reference_text t r n e = grind (arith, length-map, length-append, parts)
+
+-- the digits of a byte of two, and of three
+pub two_digits : (n : ℕ) → 10 ≤ n → n < 100 → decimal n ≡ (48 + n / 10 % 10) ∷ (48 + n % 10) ∷ []
+two_digits n low high =
+    let short : n / 10 % 10 ≡ n / 10 = omega arith in
+    rw (decimal_step n low (omega arith), decimal_digit (n / 10) (omega arith), short)
+
+pub three_digits : (n : ℕ) → 100 ≤ n → n < 256 → decimal n ≡ (48 + n / 10 / 10) ∷ (48 + n / 10 % 10) ∷ (48 + n % 10) ∷ []
+three_digits n low high =
+    rw (
+      decimal_step n (omega arith) (omega arith),
+      decimal_step (n / 10) (omega arith) (omega arith),
+      decimal_digit (n / 10 / 10) (omega arith),
+    )
+
+-- what follows the first of some last bytes
+pub after_first : (xs ys : List ℕ) (i j x : ℕ) → i + 1 ≡ j → drop i xs ≡ x ∷ ys → drop j xs ≡ ys
+after_first xs ys i j x next e = rw (← next, ← (drop-drop 1 i xs), e)
 
 -- a byte takes at most three digits, and a number of 32 bits at most ten
 pub byte_digits : (n : ℕ) → n < 256 → length (decimal n) ≤ 3

@@ -8,7 +8,7 @@ ghost use Rattle.olr_commands.specs.Reply.{Paths, Dumped};
 ghost use Rattle.olr_commands.specs.Words.{reply_of, entry_of, named_obstacle_of};
 ghost use Rattle.olr_records.specs.ReplyText as texts;
 
-use crate::texts::push_point;
+use crate::texts::{push_byte_line, push_point};
 use olr_ambiguity::Obstacle;
 use olr_answers::Refusal;
 use olr_binary::{Attrs, First, Last, Middle, Reference};
@@ -52,6 +52,9 @@ fn push_count(text: &mut Vec<u8>, word: &[u8], count: usize) -> Result<(), Alloc
     ensures { OnOk result (text.new.items
         ≡ text.old.items ++ texts.reply_line (word.now ∷ decimal count ∷ [])) }
 {
+    if count < 256 {
+        return push_byte_line(text, word, count as u8);
+    }
     text.extend_from_slice(word)?;
     push_number(text, count)?;
     text.extend_from_slice(b"\n")
@@ -278,11 +281,7 @@ fn push_offset(text: &mut Vec<u8>, word: &[u8], offset: Option<u8>) -> Result<()
         ≡ text.old.items ++ concat (texts.offset_lines word.now offset)) }
 {
     match offset {
-        Some(byte) => {
-            text.extend_from_slice(word)?;
-            push_number(text, byte)?;
-            text.extend_from_slice(b"\n")
-        }
+        Some(byte) => push_byte_line(text, word, byte),
         None => Ok(()),
     }
 }

@@ -23,8 +23,9 @@ fn put_byte(line: &mut [u8], end: usize, byte: u8) -> usize
     end - 1
 }
 
-/// Writes a number before index `end`, and returns the index where it starts. Most numbers of an LRP have one digit.
-#[tactic(auto, using(crate::proofs::TextLemmas::byte_digits, std::proofs::lemmas::Fmt::decimal_digit))]
+/// Writes a number before index `end`, and returns the index where it starts. Most numbers of an LRP have one digit. Of the
+/// others three digits are written in any case, also a zero that isn't part of the number, since a choice costs more.
+#[tactic(auto, using(crate::proofs::TextLemmas::two_digits, crate::proofs::TextLemmas::three_digits, crate::proofs::TextLemmas::after_first, std::proofs::lemmas::Fmt::decimal_digit))]
 fn put_byte_number(line: &mut [u8], end: usize, number: u8) -> usize
     requires within { end ≤ length line.old }
     requires room { 3 ≤ end }
@@ -35,7 +36,14 @@ fn put_byte_number(line: &mut [u8], end: usize, number: u8) -> usize
     if number < 10 {
         return put_byte(line, end, b'0' + number);
     }
-    write_digits(u64::from(number), line, end)
+    let rest = number / 10;
+    let ones = put_byte(line, end, b'0' + number % 10);
+    let tens = put_byte(line, ones, b'0' + rest % 10);
+    let hundreds = put_byte(line, tens, b'0' + rest / 10);
+    if number < 100 {
+        return tens;
+    }
+    hundreds
 }
 
 /// Writes a comma and a number before index `end`, and returns the index where they start.
@@ -52,8 +60,9 @@ fn put_number(line: &mut [u8], end: usize, number: u8) -> usize
     put_byte(line, start, b',')
 }
 
-/// Writes a comma and a coordinate before index `end`, and returns the index where they start.
-#[tactic(auto, using(crate::proofs::TextLemmas::word_digits))]
+/// Writes a comma and a coordinate before index `end`, and returns the index where they start. A minus sign is written in
+/// any case, and replaced by the comma if the coordinate has none.
+#[tactic(auto, using(crate::proofs::TextLemmas::word_digits, crate::proofs::TextLemmas::after_first))]
 fn put_coordinate(line: &mut [u8], end: usize, coordinate: i32) -> usize
     requires within { end ≤ length line.old }
     requires room { 12 ≤ end }
@@ -62,9 +71,10 @@ fn put_coordinate(line: &mut [u8], end: usize, coordinate: i32) -> usize
     ensures written { drop result line.new ≡ 44 ∷ signed_decimal coordinate ++ drop end line.old }
     ensures size { length line.new ≡ length line.old }
 {
-    let mut start = write_digits(u64::from(coordinate.unsigned_abs()), line, end);
-    if coordinate < 0 {
-        start = put_byte(line, start, b'-');
+    let digits = write_digits(u64::from(coordinate.unsigned_abs()), line, end);
+    let mut start = put_byte(line, digits, b'-');
+    if coordinate >= 0 {
+        start = digits;
     }
     put_byte(line, start, b',')
 }
@@ -87,6 +97,17 @@ fn put_numbers(line: &mut [u8], end: usize, numbers: &[u8]) -> usize
         start = put_number(line, start, numbers[k]);
     }
     start
+}
+
+/// The line of a word and a number.
+pub(crate) fn push_byte_line(text: &mut Vec<u8>, word: &[u8], number: u8) -> Result<(), AllocError>
+    ensures { OnOk result (text.new.items ≡ text.old.items ++ reply_line (word.now ∷ decimal number ∷ [])) }
+{
+    let mut end = [b'\n'; 5];
+    let start = put_number(&mut end, 4, number);
+    text.extend_from_slice(word)?;
+    text.extend_from_slice(&end[start..])?;
+    Ok(())
 }
 
 /// The line of an LRP: a word, two coordinates and numbers.

@@ -2,17 +2,16 @@
 use Rattle.olr_run.proofs.Common.{Outcome, Field, read, outcome_text, RecordOutcome, answer_text, Represents}
 use Rattle.olr_run.proofs.Common.{Registered, is_ok, Bor, IsOutcome, command_of, fault_text, CarriedOut, IsAnswer}
 use Rattle.std.proofs.Common.{◌≡◌, ℕ, List, Result, Ok, Err, inl, inr, refl, sym, ap, ◌∙◌, arith}
-use Rattle.olr_commands.specs.State.{State, IsContent}
+use Rattle.olr_commands.specs.State.{State, Command, IsContent}
 use Rattle.olr_records.specs.declared.faults.ReadFault.TheVariants.{Syntax, Range, Memory}
 use Rattle.olr_commands.specs.declared.reply.Reply.{Reply}
-use Rattle.olr_commands.specs.declared.command.Command.{Command}
 use Rattle.olr_records.specs.Words.{IsRead, read_fault_of}
 use Rattle.olr_records.specs.declared.faults.ReadFault.{ReadFault}
 
 -- a record that decodes to a command
 pub carried : (old : Registered) (fields : List Field) (new : Registered) (r : Result Reply (Bor (List ℕ))) (c : Command)
-    (o : Outcome) → IsRead (read fields) (Ok c)
-    → ((s : State) → Represents old.kept s → (t : State) × Represents new.kept t × IsOutcome s (command_of c) o t)
+    (o : Outcome) → read fields ≡ Ok c
+    → ((s : State) → Represents old.kept s → (t : State) × Represents new.kept t × IsOutcome s c o t)
     → IsContent new.kept.content → IsAnswer r o → CarriedOut old fields new r
 carried old fields new r c o e outcome sound is s represents _ =
     let h = outcome s represents in (h.0, o, h.1, (inl (rw e h.2), rw (← h.1.0) sound), is)

@@ -1,18 +1,38 @@
 //! The answer to one record.
 
-ghost use Rattle.std.specs.Prelude.{◌≡◌, [], true, Some, IfOk, is_ok};
+ghost use Rattle.std.specs.Prelude.{◌≡◌, [], true, Ok, Some, IfOk, is_ok};
 ghost use Rattle.csv.specs.Records.{fields_of};
 ghost use Rattle.olr_commands.specs.Reply.{Paths};
+ghost use Rattle.olr_commands.specs.State.{Explain};
 ghost use Rattle.olr_commands.specs.Words.{reply_of};
+ghost use Rattle.olr_records.specs.Records.{read};
 ghost use Rattle.olr_records.specs.ReplyText.{reply_text};
 ghost use Rattle.olr_run.specs.Runs.{CarriedOut, answer_text, WritesText, AnswersRecord, AreRenewal, RenewsFrom};
 
 use csv::ByteRecord;
 use olr_commands::{CommandFault, Reply};
-use olr_records::{append_reply, fault_text, no_paths_text, read_command, read_fault_text};
+use olr_records::{
+    append_reply, fault_text, no_paths_text, read_command, read_fault_text, text_to_explain,
+};
 use olr_register::Register;
 use olr_sessions::{RunFault, Session};
 use std::alloc::{AllocError, Global};
+
+/// Carries out a record that decodes to the command `explain` with this text, which isn't copied.
+fn explain_text(
+    register: &Register,
+    fields: &ByteRecord,
+    text: &[u8],
+) -> Result<Reply, &'static str>
+    requires { read (fields_of fields.now) ≡ Ok (Explain text.now) }
+    ensures { CarriedOut register.now (fields_of fields.now) register.now result }
+{
+    register.is_sound();
+    match register.explain(text) {
+        Ok(reply) => Ok(reply),
+        Err(fault) => Err(fault_text(fault)),
+    }
+}
 
 /// Carries out the command of a record. Returns the reply, or the line of the fault.
 fn carry_out(
@@ -22,6 +42,9 @@ fn carry_out(
 ) -> Result<Reply, &'static str>
     ensures { CarriedOut register.old (fields_of fields.now) register.new result }
 {
+    if let Some(text) = text_to_explain(fields) {
+        return explain_text(register, fields, text);
+    }
     match read_command(alloc, fields) {
         Ok(command) => match register.apply(command) {
             Ok(reply) => Ok(reply),

@@ -1,6 +1,7 @@
 //! A source that reads blocks and gives them line by line.
 
-ghost use Rattle.std.specs.Prelude.{◌≡◌, ◌≤◌, length, true, false, not, IfOk};
+ghost use Rattle.std.specs.Prelude.{◌≡◌, ◌≤◌, length, true, false, not, is_some, None, IfOk};
+ghost use Rattle.std.specs.Io.Buffered.{reader_buffer};
 ghost use Rattle.olr_sessions.specs.Lines.{IsWhole, has_line, is_line_end};
 
 use memchr::{memchr2, memchr3};
@@ -30,7 +31,8 @@ fn line_length(bytes: &[u8]) -> usize
 
 /// The bytes after empty lines.
 fn after_empty_lines(bytes: &[u8]) -> &[u8]
-    ensures { has_line false bytes.now ≡ has_line true result.now }
+    ensures line { has_line false bytes.now ≡ has_line true result.now }
+    ensures within { length result.now ≤ length bytes.now }
 {
     for i in 0..bytes.len() {
         if !ends_line(bytes[i]) {
@@ -40,16 +42,23 @@ fn after_empty_lines(bytes: &[u8]) -> &[u8]
     &bytes[bytes.len()..]
 }
 
-/// Whether bytes begin with a line that ends, isn't empty and has no quote, after empty lines: csv reads a whole record
-/// from it.
+/// The length, or None if it is not that of a whole line.
+fn length_if(whole: bool, length: usize) -> Option<usize>
+    ensures { is_some result ≡ whole }
+{
+    if whole { Some(length) } else { None }
+}
+
+/// The length of the line that bytes begin with, and of the empty lines before it: csv reads a whole record from these
+/// bytes. None if that line doesn't end or has a quote.
 #[tactic(auto, using(crate::proofs::WholeLines::line_found, crate::proofs::WholeLines::no_line))]
-fn begins_with_line(bytes: &[u8]) -> bool
-    ensures { result ≡ has_line false bytes.now }
+fn whole_length(bytes: &[u8]) -> Option<usize>
+    ensures { is_some result ≡ has_line false bytes.now }
 {
     let line = after_empty_lines(bytes);
     match memchr3(b'\n', b'\r', b'"', line) {
-        Some(i) => line[i] != b'"',
-        None => false,
+        Some(i) => length_if(line[i] != b'"', bytes.len() - line.len() + i + 1),
+        None => None,
     }
 }
 
@@ -58,6 +67,10 @@ fn begins_with_line(bytes: &[u8]) -> bool
 #[derive(Drop)]
 pub struct Lines<R: Drop> {
     block: BufReader<R>,
+    /// The length of the whole line that the bytes of the block begin with, if they do. It is found when bytes before it are
+    /// given, once for each line.
+    whole: Option<usize>,
+    ghost found: { is_some whole ≡ has_line false (reader_buffer block) },
 }
 
 impl<R: Read + Drop> Lines<R> {
@@ -68,7 +81,7 @@ impl<R: Read + Drop> Lines<R> {
         ensures { IfOk result (λ l. unread R.remaining l ≡ R.remaining input) }
     {
         match BufReader::with_capacity(alloc, BLOCK, input) {
-            Ok(block) => Ok(Lines { block }),
+            Ok(block) => Ok(Lines { block, whole: None }),
             Err(_error) => Err(AllocError),
         }
     }
@@ -79,7 +92,7 @@ impl<R: Read + Drop> Lines<R> {
         ensures is { result ≡ not (has_line false (at_hand self.now)) }
         ensures whole { result ≡ false → IsWhole (at_hand self.now) }
     {
-        !begins_with_line(self.block.buffer())
+        !self.whole.is_some()
     }
 }
 
@@ -90,8 +103,13 @@ impl<R: Read + Drop> Read for Lines<R> {
 
     /// Of a new block only the first byte is given at first.
     fn read(&mut self, bytes: &mut [u8]) -> io::Result<usize> {
-        let line = line_length(self.block.buffer());
+        let line = match self.whole {
+            Some(length) => length,
+            None => line_length(self.block.buffer()),
+        };
         let most = line.max(1).min(bytes.len());
-        self.block.read(&mut bytes[..most])
+        let read = self.block.read(&mut bytes[..most]);
+        self.whole = whole_length(self.block.buffer());
+        read
     }
 }
