@@ -9,3 +9,5 @@ pub mod Passing
 pub mod LoggedEvents
 pub mod WholeTexts
 pub mod Renewing
+pub mod LineLemmas
+pub mod LineRecords

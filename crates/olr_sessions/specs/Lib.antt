@@ -3,6 +3,9 @@ pub mod InMemory
 pub mod Statuses
 pub mod Buffers
 pub mod Lines
+pub mod Blocks
+pub mod SingleLines
+pub mod Inputs
 pub mod Journals
 pub mod KeptLines
 pub mod Unkept

@@ -77,7 +77,7 @@ fn start_record(byte: u8) -> (State, Action)
 }
 
 /// The next state and the action of a byte.
-fn next(state: State, byte: u8) -> (State, Action)
+pub(crate) fn next(state: State, byte: u8) -> (State, Action)
     ensures { csv_step result ≡ step default_config (csv_state state) byte }
 {
     match state {

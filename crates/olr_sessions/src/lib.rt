@@ -2,15 +2,18 @@
 //! and its exit status.
 #![tactic(auto)]
 
+mod blocks;
 mod buffered;
 mod ends;
 mod gate;
 mod in_memory;
+mod inputs;
 mod journal;
 mod lines;
 mod logged;
 mod output;
 mod sessions;
+mod single_lines;
 mod unkept;
 mod whole;
 
@@ -18,10 +21,12 @@ pub use buffered::Buffered;
 pub use ends::{RunFault, Status, end_status, exit_code, report_fault};
 pub use gate::{Gate, LogFault};
 pub use in_memory::InMemory;
+pub use inputs::Input;
 pub use journal::Journal;
 pub use lines::Lines;
 pub use logged::Logged;
 pub use output::write_all;
 pub use sessions::Session;
+pub use single_lines::SingleLines;
 pub use unkept::{Effect, Unkept};
 pub use whole::is_whole;

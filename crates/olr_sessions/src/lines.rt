@@ -13,7 +13,7 @@ use std::io::{BufReader, Read};
 const BLOCK: usize = 1 << 16;
 
 /// Whether a byte ends a record outside of quotes.
-fn ends_line(byte: u8) -> bool
+pub(crate) fn ends_line(byte: u8) -> bool
     ensures { result ≡ is_line_end byte }
 {
     byte == b'\n' || byte == b'\r'

@@ -1,0 +1,243 @@
+-- The records of lines.
+use Rattle.std.proofs.Common.{◌≡◌, ◌∙◌, ◌+◌, ◌≤◌, ◌==◌, ◌⊎◌, ℕ, Bool, true, false, not, List, [], ◌∷◌, ◌++◌, Some, inl, inr}
+use Rattle.std.proofs.Common.{refl, sym, ap, arith}
+use Rattle.std.specs.Prelude.{codes, nat_lt, ◌&&◌, if◌then◌else◌}
+use Rattle.csv.specs.Machine.{next_record, step, in_field, is_end, fields_after, field_after}
+use Rattle.csv.specs.Reading.{default_config}
+use Rattle.csv.specs.declared.parser.Action.{Action}
+use Rattle.csv.specs.declared.parser.Action.TheVariants as act
+use Rattle.csv.specs.declared.parser.State.{State}
+use Rattle.csv.specs.declared.parser.State.TheVariants as st
+use Rattle.olr_sessions.specs.Lines.{BetweenRecords, is_line_end}
+use Rattle.olr_sessions.specs.SingleLines.{Place, line_start, next_place, is_quoted, passes, most_in_line}
+use Rattle.olr_sessions.specs.SingleLines.{one_a_line_from, are_single_from, HasNoEnd, ending, ending_of_quotes}
+use Rattle.olr_sessions.specs.declared.single_lines.Mark.TheVariants as mark
+use Rattle.olr_sessions.proofs.LineLemmas.{from_passing, from_end, from_byte, from_long, from_ended, quoted}
+use Rattle.olr_sessions.proofs.LineLemmas.{not_quoted, ended_at_end, neither_is}
+use Rattle.olr_sessions.proofs.CsvBytes.{of_byte}
+
+-- ---- lines that are whole and short
+
+pub single_same : (most : ℕ) (p : Place) (bytes : List ℕ) → are_single_from most p bytes ≡ true →
+    one_a_line_from most p bytes ≡ bytes
+unfolding one_a_line_from are_single_from
+single_same most p [] h = by_quote (is_quoted p.state) refl
+  where
+    by_quote : (q : Bool) → is_quoted p.state ≡ q → one_a_line_from most p [] ≡ []
+    by_quote true e = absurd (grind arith)
+    by_quote false e = rw e refl
+single_same most p (b ∷ bs) h =
+    from_passing most p b bs (grind arith) ∙ ap (λ (x : List ℕ). b ∷ x) (single_same most (next_place p b) bs (grind arith))
+
+-- ---- csv's steps
+
+-- in a record
+abbrev begun : State → Bool
+begun st.StartField = true
+begun st.InField = true
+begun st.InQuoted = true
+begun st.AfterQuote = true
+begun _ = false
+
+abbrev pub IsEnd : ℕ → Type 0
+IsEnd e = (e ≡ 10) ⊎ (e ≡ 13)
+
+abbrev pub after : ℕ → State
+after e = (in_field default_config e).0
+
+bang : List ℕ
+bang = codes "!"
+
+-- fields, and two further ones
+abbrev pub with_further : List (List ℕ) → List (List ℕ)
+with_further fields = (fields ++ codes "!" ∷ []) ++ codes "!" ∷ []
+
+abbrev Stays : State × Action → Type 0
+Stays r = (is_end r.1 ≡ false) × (begun r.0 ≡ true)
+
+field_stays : (b : ℕ) (comma lf cr : Bool) → (b == 44) ≡ comma → (b == 10) ≡ lf → (b == 13) ≡ cr →
+    is_line_end b ≡ false → Stays (in_field default_config b)
+field_stays b true lf cr c l r h = rw c (refl, refl)
+field_stays b false true cr c l r h = absurd (grind arith)
+field_stays b false false true c l r h = absurd (grind arith)
+field_stays b false false false c l r h = rw (c, l, r) (refl, refl)
+
+in_field_stays : (b : ℕ) → is_line_end b ≡ false → Stays (in_field default_config b)
+in_field_stays b h = field_stays b _ _ _ refl refl refl h
+
+if_stays : (c : Bool) (r t : State × Action) → Stays r → Stays t → Stays (if c then r else t)
+if_stays true r t g h = g
+if_stays false r t g h = h
+
+step_stays : (s : State) (b : ℕ) → begun s ≡ true → is_line_end b ≡ false → Stays (step default_config s b)
+step_stays st.StartRecord b at h = absurd (grind arith)
+step_stays st.StartField b at h =
+    if_stays (b == 34) (st.InQuoted, act.Skip) (in_field default_config b) (refl, refl) (in_field_stays b h)
+step_stays st.InField b at h = in_field_stays b h
+step_stays st.InQuoted b at h =
+    if_stays (b == 34) (st.AfterQuote, act.Skip) (st.InQuoted, act.Copy) (refl, refl) (refl, refl)
+step_stays st.InEscape b at h = absurd (grind arith)
+step_stays st.AfterQuote b at h =
+    if_stays (b == 34) (st.InQuoted, act.Copy) (in_field default_config b) (refl, refl) (in_field_stays b h)
+step_stays st.InComment b at h = absurd (grind arith)
+step_stays st.AfterCr b at h = absurd (grind arith)
+
+-- ---- the record of a line
+
+pub record ReadsLine (s : State) (f : List (List ℕ)) (x bytes : List ℕ) (e : ℕ) (rest : List ℕ) (single : Bool) : Type 0 where
+  pub fields : List (List ℕ)
+  pub reads : next_record default_config s f x bytes ≡ Some (fields, after e, rest)
+  pub rejected : single ≡ false → (g : List (List ℕ)) × (y : List ℕ) × (fields ≡ with_further (g ++ y ∷ []))
+
+plain_end : (s : State) (f : List (List ℕ)) (x : List ℕ) (e : ℕ) (rest : List ℕ) → begun s ≡ true →
+    is_quoted s ≡ false → IsEnd e → next_record default_config s f x (e ∷ rest) ≡ Some (f ++ x ∷ [], after e, rest)
+unfolding next_record
+plain_end st.StartRecord f x e rest at q h = absurd (grind arith)
+plain_end st.StartField f x e rest at q (inl h) = rw h refl
+plain_end st.StartField f x e rest at q (inr h) = rw h refl
+plain_end st.InField f x e rest at q (inl h) = rw h refl
+plain_end st.InField f x e rest at q (inr h) = rw h refl
+plain_end st.InQuoted f x e rest at q h = absurd (grind arith)
+plain_end st.InEscape f x e rest at q h = absurd (grind arith)
+plain_end st.AfterQuote f x e rest at q (inl h) = rw h refl
+plain_end st.AfterQuote f x e rest at q (inr h) = rw h refl
+plain_end st.InComment f x e rest at q h = absurd (grind arith)
+plain_end st.AfterCr f x e rest at q h = absurd (grind arith)
+
+further_end : (s : State) (f : List (List ℕ)) (x : List ℕ) (e : ℕ) (rest : List ℕ) → begun s ≡ true → IsEnd e →
+    next_record default_config s f x (ending s ++ e ∷ rest) ≡ Some (with_further (f ++ x ∷ []), after e, rest)
+unfolding next_record
+further_end st.StartRecord f x e rest at h = absurd (grind arith)
+further_end st.StartField f x e rest at (inl h) = rw h refl
+further_end st.StartField f x e rest at (inr h) = rw h refl
+further_end st.InField f x e rest at (inl h) = rw h refl
+further_end st.InField f x e rest at (inr h) = rw h refl
+further_end st.InQuoted f x e rest at (inl h) = rw h refl
+further_end st.InQuoted f x e rest at (inr h) = rw h refl
+further_end st.InEscape f x e rest at h = absurd (grind arith)
+further_end st.AfterQuote f x e rest at (inl h) = rw h refl
+further_end st.AfterQuote f x e rest at (inr h) = rw h refl
+further_end st.InComment f x e rest at h = absurd (grind arith)
+further_end st.AfterCr f x e rest at h = absurd (grind arith)
+
+is_end_byte : (e : ℕ) → IsEnd e → is_line_end e ≡ true
+is_end_byte e (inl h) = rw h refl
+is_end_byte e (inr h) = rw h refl
+
+abbrev pub From : Place → List ℕ → List ℕ
+From p bytes = one_a_line_from most_in_line p bytes
+
+abbrev pub Reads : State → List (List ℕ) → List ℕ → Place → List ℕ → ℕ → List ℕ → Type 0
+Reads s f x p line e rest =
+    ReadsLine s f x (From p (line ++ e ∷ rest)) e (From line_start rest) (are_single_from most_in_line p line)
+
+-- the end of a line
+at_line_end : (p : Place) (f : List (List ℕ)) (x : List ℕ) (e : ℕ) (rest : List ℕ) → begun p.state ≡ true → IsEnd e →
+    Reads p.state f x p [] e rest
+unfolding are_single_from
+at_line_end p f x e rest at end = by_quote (is_quoted p.state) refl
+  where
+    given : From p (e ∷ rest) ≡ ending_of_quotes p.state ++ e ∷ From line_start rest
+    given = from_end most_in_line p e rest (is_end_byte e end)
+
+    by_quote : (q : Bool) → is_quoted p.state ≡ q → Reads p.state f x p [] e rest
+    by_quote true q =
+        record {
+          fields = with_further (f ++ x ∷ []);
+          reads = ap (next_record default_config p.state f x) (given ∙ ap (λ (l : List ℕ). l ++ e ∷ From line_start rest) (quoted p.state q))
+              ∙ further_end p.state f x e (From line_start rest) at end;
+          rejected = λ no. (f, x, refl);
+        }
+    by_quote false q =
+        record {
+          fields = f ++ x ∷ [];
+          reads = ap (next_record default_config p.state f x) (given ∙ ap (λ (l : List ℕ). l ++ e ∷ From line_start rest) (not_quoted p.state q))
+              ∙ plain_end p.state f x e (From line_start rest) at q end;
+          rejected = λ no. absurd (let never : true ≡ false = ap not (sym q) ∙ no in cc);
+        }
+
+next_is : (p : Place) (b : ℕ) → p.mark ≡ mark.Over → is_line_end b ≡ false →
+    next_place p b ≡ record { mark = mark.Over; state = (step default_config p.state b).0; length = p.length + 1 }
+next_is p b over no_end = rw (no_end, over) refl
+
+single_on : (p q : Place) (b : ℕ) (line : List ℕ) → is_line_end b ≡ false → nat_lt p.length most_in_line ≡ true →
+    next_place p b ≡ q → are_single_from most_in_line p (b ∷ line) ≡ are_single_from most_in_line q line
+unfolding are_single_from
+single_on p q b line no_end less next =
+    let pass : passes most_in_line p b ≡ true = rw (no_end, less) refl in
+    ap (λ (c : Bool). c && are_single_from most_in_line (next_place p b) line) pass
+    ∙ ap (λ (x : Place). are_single_from most_in_line x line) next
+
+-- after the first byte, which csv reads from a state
+one_more : (s : State) (p q : Place) (r : State × Action) (f : List (List ℕ)) (x : List ℕ) (b : ℕ) (line : List ℕ) (e : ℕ)
+    (rest : List ℕ) → step default_config s b ≡ r → is_end r.1 ≡ false → is_line_end b ≡ false →
+    nat_lt p.length most_in_line ≡ true → next_place p b ≡ q →
+    Reads r.0 (fields_after r.1 f x) (field_after r.1 b x) q line e rest → Reads s f x p (b ∷ line) e rest
+one_more s p q r f x b line e rest step_is goes_on no_end less next h =
+    record {
+      fields = h.fields;
+      reads = ap (next_record default_config s f x) (from_byte most_in_line p b (line ++ e ∷ rest) no_end less)
+          ∙ of_byte s r.0 r.1 f x (From (next_place p b) (line ++ e ∷ rest)) b step_is
+          ∙ (rw (goes_on, next) h.reads);
+      rejected = λ no. h.rejected (sym (single_on p q b line no_end less next) ∙ no);
+    }
+
+-- the rest of a line
+line_reads : (line : List ℕ) (p : Place) (f : List (List ℕ)) (x : List ℕ) (e : ℕ) (rest : List ℕ) →
+    begun p.state ≡ true → p.mark ≡ mark.Over → p.length ≤ most_in_line → HasNoEnd line → IsEnd e →
+    Reads p.state f x p line e rest
+line_reads [] p f x e rest at over short none end = at_line_end p f x e rest at end
+line_reads (b ∷ line) p f x e rest at over short none end =
+    by_length (nat_lt p.length most_in_line) refl (λ q g y a m l. line_reads line q g y e rest a m l no_more end)
+  where
+    no_end : is_line_end b ≡ false
+    no_end = grind arith
+
+    no_more : HasNoEnd line
+    no_more = grind arith
+
+    r : State × Action
+    r = step default_config p.state b
+
+    q : Place
+    q = record { mark = mark.Over; state = r.0; length = p.length + 1 }
+
+    by_length : (l : Bool) → nat_lt p.length most_in_line ≡ l →
+        ((q : Place) (g : List (List ℕ)) (y : List ℕ) → begun q.state ≡ true → q.mark ≡ mark.Over
+        → q.length ≤ most_in_line → Reads q.state g y q line e rest) → Reads p.state f x p (b ∷ line) e rest
+    by_length true less next =
+        let stays = step_stays p.state b at no_end in
+        one_more p.state p q r f x b line e rest refl stays.0 no_end less (next_is p b over no_end)
+        (next q (fields_after r.1 f x) (field_after r.1 b x) stays.1 refl (grind arith))
+    by_length false less next =
+        record {
+          fields = with_further (f ++ x ∷ []);
+          reads = ap (next_record default_config p.state f x)
+              (from_long most_in_line p b (line ++ e ∷ rest) no_end less (let long : nat_lt most_in_line p.length ≡ false = grind arith in neither_is most_in_line p.length less long)
+              ∙ ap (λ (l : List ℕ). ending p.state ++ l) (from_ended line (e ∷ rest) no_more ∙ ended_at_end e rest (is_end_byte e end)))
+              ∙ further_end p.state f x e (From line_start rest) at end;
+          rejected = λ no. (f, x, refl);
+        }
+
+begins_field : (s : State) (b : ℕ) → BetweenRecords s → is_line_end b ≡ false →
+    step default_config s b ≡ step default_config st.StartField b
+begins_field s b (inl e) no_end = rw e (grind arith)
+begins_field s b (inr e) no_end = rw e (grind arith)
+
+-- a line that isn't empty gives one record, and csv reads what follows as if it began there
+pub line_gives_one : (s : State) (b : ℕ) (line : List ℕ) (e : ℕ) (rest : List ℕ) → BetweenRecords s →
+    HasNoEnd (b ∷ line) → IsEnd e → Reads s [] [] line_start (b ∷ line) e rest
+line_gives_one s b line e rest at none end =
+    let no_end : is_line_end b ≡ false = grind arith in
+    let no_more : HasNoEnd line = grind arith in
+    let r = step default_config st.StartField b in
+    let q = place_in r.0 in
+    let stays = step_stays st.StartField b refl no_end in
+    let next : next_place line_start b ≡ q =
+    next_is line_start b refl no_end
+    ∙ ap (λ (t : State × Action). place_in t.0) (begins_field st.StartRecord b (inl refl) no_end) in
+    one_more s line_start q r [] [] b line e rest (begins_field s b at no_end) stays.0 no_end refl next
+    (line_reads line q (fields_after r.1 [] []) (field_after r.1 b []) e rest stays.1 refl (omega arith) no_more end)
+  where
+    place_in : State → Place
+    place_in t = record { mark = mark.Over; state = t; length = 1 }
