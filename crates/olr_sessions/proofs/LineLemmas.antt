@@ -136,11 +136,6 @@ nothing_left p e = not_quoted p.state e
 abbrev Left : ℕ → Place → Known → Known
 Left given p k = option_map (λ xs. drop given all_further ++ From p xs) k
 
-pub keeps_left : (given : ℕ) (p : Place) (k l : Known) → Keeps k l → Keeps (Left given p k) (Left given p l)
-keeps_left given p None l h = tt
-keeps_left given p (Some xs) None h = h
-keeps_left given p (Some xs) (Some ys) h = ap (λ (zs : List ℕ). drop given all_further ++ From p zs) h
-
 all_given : (given : ℕ) → length all_further ≤ given → drop given all_further ≡ []
 all_given given h = drop_of_length-le all_further {i = given} h
 
