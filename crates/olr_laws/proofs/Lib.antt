@@ -13,3 +13,4 @@ mod AmbiguityLemmas
 pub mod NamedObstacles
 pub mod DependLemmas
 pub mod ShownLemmas
+mod FurtherFields

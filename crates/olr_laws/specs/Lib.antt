@@ -9,3 +9,4 @@ pub mod RecordLaws
 pub mod RecordRows
 pub mod RunLaws
 pub mod RunRows
+pub mod LineLaws

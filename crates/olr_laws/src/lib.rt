@@ -9,6 +9,7 @@ pub mod bytes;
 pub mod changes;
 pub mod commands;
 pub mod coordinates;
+pub mod lines;
 pub mod maps;
 pub mod receivers;
 pub mod records;
