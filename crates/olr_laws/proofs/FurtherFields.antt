@@ -6,9 +6,9 @@ use Rattle.olr_sessions.proofs.LineLemmas.{from_end, from_byte}
 use Rattle.olr_sessions.proofs.LineRecords.{line_gives_one, single_same}
 use Rattle.olr_laws.specs.LineLaws.{LineGivesOne, SingleStay, FirstLine}
 use Rattle.std.proofs.Common.{◌≡◌, ◌∙◌, ℕ, List, [], ◌∷◌, ◌++◌, Ok, Err, refl, sym, ap, codes}
-use Rattle.std.specs.Prelude.{if◌then◌else◌, Bool, true, false, length, ⊤}
+use Rattle.std.specs.Prelude.{if◌then◌else◌, Bool, true, false, length, Some, ⊤}
 use Rattle.olr_commands.specs.State.{Command, same_name, Make, Add_path, Set_path, Drop_path, Explain, Begin, Commit, Abort}
-use Rattle.olr_commands.specs.State.{Show, Show_node, Show_line, Depends, Report, Dump, Compact}
+use Rattle.olr_commands.specs.State.{Show, Show_node, Show_line, Depends, Report, Dump, Compact, Ambiguous}
 use Rattle.olr_spec.specs.Coordinates.{Coord}
 use Rattle.olr_spec.specs.Extension.{Path}
 use Rattle.olr_spec.specs.Map.{ShapePoint, Line, Edit, Add_node, Move_node, Drop_node, Add_line, Set_line, Drop_line}
@@ -16,7 +16,7 @@ use Rattle.olr_records.specs.Records.{line_between, longitude}
 use Rattle.olr_records.specs.Records.{Field, Read, Bad_form, Out_of_range, ◌⊛◌, number, name, numbers, amount, class}
 use Rattle.olr_records.specs.Records.{digits, place, point, shape, one, none, edit, node_fields, node_record, attributes}
 use Rattle.olr_records.specs.Records.{whole_line, line_record, set_line_record, path_fields, few_nodes}
-use Rattle.olr_records.specs.Records.{depends_record, forms, read_by, read}
+use Rattle.olr_records.specs.Records.{depends_record, ambiguous_record, forms, read_by, read}
 
 abbrev pub bang : Field
 bang = codes "!"
@@ -134,6 +134,10 @@ bad_depends (f ∷ fs) =
     ap (λ (r : Read (List ℕ)). Ok (λ n nodes. Depends nodes) ⊛ few_nodes (length (f ∷ (fs ++ further))) ⊛ r) (bad_numbers (f ∷ fs))
     ∙ bad_last (Ok (λ n nodes. Depends nodes) ⊛ few_nodes (length (f ∷ (fs ++ further))))
 
+bad_ambiguous : (fs : List Field) → ambiguous_record (fs ++ further) ≡ Err Bad_form
+bad_ambiguous [] = refl
+bad_ambiguous (f ∷ fs) = bad_one (λ n. Ambiguous (Some n)) name (f ∷ fs)
+
 -- ---- records
 
 abbrev AreBad : List (Field × (List Field → Read Command)) → List Field → Type 0
@@ -194,7 +198,10 @@ all_bad fs = (
                                       bad_none Dump fs,
                                       (
                                         bad_none Compact fs,
-                                        tt,
+                                        (
+                                          bad_ambiguous fs,
+                                          tt,
+                                        ),
                                       ),
                                     ),
                                   ),
