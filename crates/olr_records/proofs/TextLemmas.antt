@@ -2,9 +2,10 @@
 use Rattle.olr_records.proofs.Common.{decimal, concat, append-nil, length-append, entry_of, after_commas, joined}
 use Rattle.olr_records.proofs.Common.{entry_line, middle_line, length-decimal-le, length-map, map-append, take_more}
 use Rattle.std.proofs.Common.{◌≡◌, ℕ, ◌+◌, ◌<◌, List, [], ◌∷◌, ◌++◌, length, take, map, refl, ap, append_assoc, arith}
-use Rattle.std.proofs.Common.{◌≤◌, ◌^◌, ◌/◌, ◌%◌, drop, get_or}
+use Rattle.std.proofs.Common.{◌≤◌, ◌^◌, ◌-◌, ◌/◌, ◌%◌, ◌∙◌, drop, get_or}
 use Rattle.std.proofs.lemmas.Fmt.{decimal_digit, decimal_step}
-use Rattle.std.proofs.lemmas.List.{drop-drop}
+use Rattle.std.proofs.lemmas.List.{drop_all, drop_at, drop-drop, length-take-le, take_at}
+use Rattle.std.specs.List.{copy_within}
 use Rattle.std.specs.Prelude.{codes, String, string_bytes}
 use Rattle.std.specs.declared.alloc.Global.{Global}
 use Rattle.std.proofs.lemmas.List.Folds.{concat-append}
@@ -83,3 +84,17 @@ byte_digits n small = length-decimal-le 3 n (omega arith) (omega arith) (omega a
 
 pub word_digits : (n : ℕ) → n < 2 ^ 32 → length (decimal n) ≤ 10
 word_digits n small = length-decimal-le 10 n (omega arith) (omega arith) (omega arith)
+
+-- a text that was moved behind the place of bytes, which lay behind it
+pub moved : (text front : List ℕ) (n : ℕ) → n ≡ length text →
+    front ++ drop (length front) (copy_within (text ++ front) 0 n (length front)) ≡ front ++ text
+moved text front n is =
+    let all : List ℕ = text ++ front in
+    let long : length all ≡ length text + length front = length-append text front in
+    let first : length (take (length front) all) ≡ length front = length-take-le (length front) all (omega arith) in
+    let own : take (n - 0) (drop 0 all) ≡ text = take_at text front (n - 0) (omega arith) in
+    let none : drop (length front + (n - 0)) all ≡ [] = drop_all (length front + (n - 0)) all (omega arith) in
+    let rest : take (n - 0) (drop 0 all) ++ drop (length front + (n - 0)) all ≡ text = cc (own, none, append-nil text) in
+    let parts = append_assoc (take (length front) all) (take (n - 0) (drop 0 all)) (drop (length front + (n - 0)) all) in
+    ap (λ (xs : List ℕ). front ++ drop (length front) xs) parts
+    ∙ ap (λ (xs : List ℕ). front ++ xs) (drop_at (take (length front) all) _ (length front) first ∙ rest)

@@ -1,5 +1,5 @@
 //! The texts of replies.
-ghost use Rattle.std.specs.Prelude.{◌≡◌, ◌≤◌, ◌++◌, ◌∷◌, [], ℕ, List, decimal, length, map, string_bytes, IfOk, OnOk};
+ghost use Rattle.std.specs.Prelude.{◌≡◌, ◌≤◌, ◌++◌, ◌∷◌, [], ℕ, List, decimal, drop, length, map, string_bytes, IfOk, OnOk};
 ghost use Rattle.std.specs.List.{concat};
 ghost use Rattle.olr_ambiguity.specs.Found.{obstacle_of};
 ghost use Rattle.olr_answers.specs.Answers.{refusal_of};
@@ -139,6 +139,37 @@ fn push_dump(text: &mut Vec<u8>, dump: &Dump) -> Result<(), AllocError>
 {
     push_count(text, b"ok", dump.count)?;
     text.extend_from_slice(&dump.text)
+}
+
+/// Writes bytes over the first of others.
+fn overwrite(bytes: &mut [u8], front: &[u8])
+    requires { length front.now ≤ length bytes.old }
+    ensures written { bytes.new ≡ front.now ++ drop (length front.now) bytes.old }
+    ensures size { length bytes.new ≡ length bytes.old }
+{
+    bytes[..front.len()].copy_from_slice(front);
+}
+
+/// Puts bytes before those of a text.
+fn put_front(text: &mut Vec<u8>, front: &[u8]) -> Result<(), AllocError>
+    ensures { OnOk result (text.new.items ≡ front.now ++ text.old.items) }
+{
+    let len = text.len();
+    text.extend_from_slice(front)?;
+    text.copy_within(0..len, front.len());
+    overwrite(text.as_mut_slice(), front);
+    Ok(())
+}
+
+/// The lines of the reply to `dump`, made in the buffer of its records, so that these are in memory once.
+pub fn dump_text(alloc: Global, dump: Dump) -> Result<Vec<u8>, AllocError>
+    ensures { IfOk result (λ text. text.items ≡ texts.reply_text (Dumped dump.count dump.text.items)) }
+{
+    let mut head = Vec::new(alloc);
+    push_count(&mut head, b"ok", dump.count)?;
+    let mut text = dump.text;
+    put_front(&mut text, &head)?;
+    Ok(text)
 }
 
 /// The number of names, and the names.

@@ -12,7 +12,8 @@ ghost use Rattle.olr_run.specs.Runs.{CarriedOut, answer_text, WritesText, Answer
 use csv::ByteRecord;
 use olr_commands::{CommandFault, Reply};
 use olr_records::{
-    append_reply, fault_text, no_paths_text, read_command, read_fault_text, text_to_explain,
+    append_reply, dump_text, fault_text, no_paths_text, read_command, read_fault_text,
+    text_to_explain,
 };
 use olr_register::Register;
 use olr_sessions::{RunFault, Session};
@@ -77,20 +78,26 @@ fn reply_lines<'a>(text: &'a mut Vec<u8>, reply: &Reply) -> Result<&'a [u8], All
     Ok(text.as_slice())
 }
 
-/// Writes an answer; the text of a reply is made in `text`, whose buffer is reused. Returns whether it accepts the
-/// command.
+/// Writes an answer; the text of a reply is made in `text`, whose buffer is reused, and that of a dump in the dump's own
+/// buffer. Returns whether it accepts the command.
 fn write_answer<W, S: Session<W>>(
-    answer: &Result<Reply, &'static str>,
+    alloc: Global,
+    answer: Result<Reply, &'static str>,
     text: &mut Vec<u8>,
     session: &mut S,
     output: &mut W,
 ) -> Result<bool, RunFault>
-    ensures { WritesText S.happens (session.old, output.old) (answer_text answer.now) (session.new, output.new) result
-        (is_ok answer.now) }
+    ensures { WritesText S.happens (session.old, output.old) (answer_text answer.entry) (session.new, output.new) result
+        (is_ok answer.entry) }
 {
     match answer {
+        Ok(Reply::Dump(dump)) => {
+            let lines = dump_text(alloc, dump)?;
+            session.answer(output, &lines)?;
+            Ok(true)
+        }
         Ok(reply) => {
-            let lines = reply_lines(text, reply)?;
+            let lines = reply_lines(text, &reply)?;
             session.answer(output, lines)?;
             Ok(true)
         }
@@ -139,5 +146,5 @@ pub fn write_outcome<W, S: Session<W>>(
         (session.new, output.new) result }
 {
     let answer = carry_out(alloc, register, fields);
-    write_answer(&answer, text, session, output)
+    write_answer(alloc, answer, text, session, output)
 }
