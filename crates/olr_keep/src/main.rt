@@ -35,7 +35,9 @@ fn open_log<'a>(
     let mut log = LogFile::open(rt.alloc(), disk, folder)?;
     let bytes = log.left_over();
     if let Some(aside) = set_aside(&mut log)? {
-        let _ = eprintln!(rt; "olr-keep: moved the last {bytes} bytes of {name}, no whole record or batch, to {aside}");
+        let _ = eprintln!(rt;
+            "olr-keep: moved the last {bytes} bytes of {name}, no whole record or batch, to {aside}"
+        );
     }
     Ok(log)
 }

@@ -33,9 +33,6 @@ steps_stay s t (c ∷ cs) stays all e = by_step (step s c) refl (λ v first rest
     by_step (Ok v) is more = more v (step_stays s v c stays all.0 is) (rw is at e)
     by_step (Err f) is more = absurd (let never = rw is at e in cc)
 
-
-
-
 -- a content to which records lead can be written as records
 recorded : (rs : List (List Field)) (cs : List Command) (c : Content) → map read rs ≡ map (λ x. Ok x) cs →
     steps start_state cs ≡ Ok (closed c) → IsRecorded c

@@ -100,10 +100,11 @@ module _ {D F : Type 0} {d : disk.Ghosts D} {f : folder.Ghosts F D} where
           let there = content clean in
           let e : there.0 ≡ c = same_content (kept_of log) there.0 c there.1 l in
           let represents : Represents register.kept (closed c) =
-          subst (λ (x : Content). Represents register.kept (closed x)) e there.2 in
-          (represents,
-          subst (λ (x : List ℕ). Leads x c) (sym (renewed is c represents))
-          (content_dump_leads (kept_of log) c l (represented register (closed c) sound represents)))
+          subst (λ (x : Content). Represents register.kept (closed x)) e there.2 in (
+            represents,
+            subst (λ (x : List ℕ). Leads x c) (sym (renewed is c represents))
+                (content_dump_leads (kept_of log) c l (represented register (closed c) sound represents)),
+          )
 
   -- a log that may have been replaced before the start failed
   pub unbegun_after : (log read last : LogFile D F d f) (register : Registered) → kept_of read ≡ kept_of log →

@@ -136,7 +136,9 @@ fn log_status<E: Write>(
         let _ = writeln!(errors, "olr-keep: {name}: {fault}");
     }
     if ended.is_ok() && in_batch {
-        let _ = errors.write_all(b"olr-keep: the input ended within a batch, whose changes are dropped\n");
+        let _ = errors.write_all(
+            b"olr-keep: the input ended within a batch, whose changes are dropped\n",
+        );
         return OPEN_BATCH;
     }
     end_status(ended, errors)
@@ -144,7 +146,10 @@ fn log_status<E: Write>(
 
 /// Says with how many records and paths a run begins.
 fn report_begun<E: Write>(name: &str, records: u64, paths: usize, errors: &mut E) {
-    let _ = writeln!(errors, "olr-keep: {name} has {records} records and {paths} paths");
+    let _ = writeln!(
+        errors,
+        "olr-keep: {name} has {records} records and {paths} paths"
+    );
 }
 
 /// What is asked of a run with a log.
@@ -216,10 +221,7 @@ fn run_from_log<
     let in_batch = register.is_open();
     drop(register);
     let log = close_log(&ended, gate.into_journal());
-    (
-        log_status(asked.name, ended, fault, in_batch, errors),
-        log,
-    )
+    (log_status(asked.name, ended, fault, in_batch, errors), log)
 }
 
 /// The program with a log, once its arguments were read.
@@ -253,7 +255,9 @@ pub fn with_log<
         Err(error) => return (report_unopened(name, error, errors), None),
     };
     let Some(renewed_from) = renewal_length(asked.compact_at) else {
-        let _ = errors.write_all(b"olr-keep: --compact-at takes bytes, or a number with K, M or G, as 500M\n");
+        let _ = errors.write_all(
+            b"olr-keep: --compact-at takes bytes, or a number with K, M or G, as 500M\n",
+        );
         return (WRONG_ARGUMENTS, Some(log));
     };
     let Ok(file) = open_file(opener, asked.file) else {

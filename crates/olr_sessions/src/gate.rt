@@ -195,9 +195,7 @@ impl<J: Journal + Drop> Gate<J> {
 
     /// Whether the log should be replaced, once the record that was taken last is accepted or rejected.
     fn is_due(&self, accepted: bool) -> bool {
-        self.is_wanted
-            || (accepted && self.is_asked)
-            || self.journal.len() >= self.next_from
+        self.is_wanted || (accepted && self.is_asked) || self.journal.len() >= self.next_from
     }
 
     /// Keeps what is ready, and returns once it is on the disk. Returns false, and closes the gate, if the log failed.

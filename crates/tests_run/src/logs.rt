@@ -125,17 +125,19 @@ fn what_is_kept(rt: HostRuntime) {
         ) => {
             assert_eq!(rt; log.as_slice(), LOG);
             assert_eq!(rt; answers.as_slice(), REPLIES);
-            assert_eq!(rt;
-                (ended, fault),
-                (Ok(Status::SomeRefused), None)
-            );
+            assert_eq!(rt; (ended, fault), (Ok(Status::SomeRefused), None));
         }
         Err(_error) => assert!(rt; false),
     }
 }
 
 /// Runs these records with a log that is replaced from a length on, and asserts what it holds at the end.
-fn expect_log<R: Abort + AllocGlobal>(rt: &R, records: &'static [u8], renewed_from: usize, wanted: &[u8]) {
+fn expect_log<R: Abort + AllocGlobal>(
+    rt: &R,
+    records: &'static [u8],
+    renewed_from: usize,
+    wanted: &[u8],
+) {
     match run_logged(rt.alloc(), records, 100, true, renewed_from) {
         Ok(
             Left {
@@ -159,7 +161,12 @@ fn logs_that_are_replaced(rt: HostRuntime) {
     let asked: &[u8] = b"node,1,0,1\nnode,2,0,0\n";
     expect_log(&rt, moved, usize::MAX, asked);
     let in_batch = b"node,1,0,0\nbegin\nmove,1,0,1\ncompact\ncommit,1\n";
-    expect_log(&rt, in_batch, usize::MAX, b"node,1,0,0\nbegin\nmove,1,0,1\ncommit,1\n");
+    expect_log(
+        &rt,
+        in_batch,
+        usize::MAX,
+        b"node,1,0,0\nbegin\nmove,1,0,1\ncommit,1\n",
+    );
 }
 
 #[test]
