@@ -1,11 +1,10 @@
 -- Records in the place of a log.
-use Rattle.std.proofs.Common.{◌≡◌, ◌∙◌, Bool, false, ℕ, List, [], inl, inr, refl, sym, ap, subst}
+use Rattle.std.proofs.Common.{◌≡◌, ◌∙◌, ℕ, List, inl, refl, sym, ap, subst}
 use Rattle.std.specs.Prelude.{is_some}
-use Rattle.olr_sessions.specs.Gates.{is_closed, Untouched, Renewal, Replaced, Left_as_it_was, Renews}
+use Rattle.olr_sessions.specs.Gates.{Untouched, Renewal, Replaced, Left_as_it_was, Renews}
 use Rattle.olr_sessions.specs.Journals.{Only}
 use Rattle.olr_sessions.specs.Unkept.{waiting}
 use Rattle.olr_sessions.specs.declared.gate.Gate.{Gate}
-use Rattle.olr_sessions.specs.declared.unkept.Unkept.{Unkept}
 
 module _ {J : Type 0} (kept : J → List ℕ) (may_leave : J → List ℕ → Type 0) where
   -- nothing was done
