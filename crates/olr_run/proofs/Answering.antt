@@ -1,6 +1,6 @@
 -- The outcome of a record, from what was read of it.
 use Rattle.olr_run.proofs.Common.{Outcome, Field, read, outcome_text, RecordOutcome, answer_text, Represents}
-use Rattle.olr_run.proofs.Common.{Registered, is_ok, Bor, IsOutcome, command_of, fault_text, CarriedOut, IsAnswer}
+use Rattle.olr_run.proofs.Common.{Registered, is_ok, Bor, IsOutcome, fault_text, CarriedOut, IsAnswer}
 use Rattle.std.proofs.Common.{◌≡◌, ℕ, List, Result, Ok, Err, inl, inr, refl, sym, ap, ◌∙◌, arith}
 use Rattle.olr_commands.specs.State.{State, Command, IsContent}
 use Rattle.olr_records.specs.declared.faults.ReadFault.TheVariants.{Syntax, Range, Memory}

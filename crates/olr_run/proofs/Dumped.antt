@@ -1,13 +1,12 @@
 -- The records of a content as a log.
 use Rattle.olr_run.proofs.Common.{Field, read, read_recorded}
-use Rattle.std.proofs.Common.{◌≡◌, ◌∙◌, List, ℕ, [], ◌∷◌, ◌++◌, map, Option, Some, None, Result, Ok, Err, refl, sym, ap, subst, arith}
+use Rattle.std.proofs.Common.{◌≡◌, List, ℕ, [], ◌∷◌, map, Result, Ok, Err, refl, ap, subst}
 use Rattle.std.specs.List.{concat, AllByRecursion}
 use Rattle.olr_commands.specs.Dump.{dump_lines, dump_changes, steps}
-use Rattle.olr_commands.specs.RecordText.{fields_line, fields_of_change}
+use Rattle.olr_commands.specs.RecordText.{fields_of_change}
 use Rattle.olr_commands.specs.State.{Change, Command, Make, Content, IsContent, State, Fault, start_state, step}
 use Rattle.olr_commands.proofs.DumpLemmas.{dumps_run}
-use Rattle.olr_records.specs.Records.{Read}
-use Rattle.olr_records.specs.Recorded.{HaveRecords, IsRecorded, StaysRecorded, Recorded}
+use Rattle.olr_records.specs.Recorded.{IsRecorded, StaysRecorded, Recorded}
 use Rattle.olr_records.proofs.RecordedLemmas.{step_stays, start_recorded}
 use Rattle.olr_run.specs.Logged.{IsKept, Leads, closed}
 use Rattle.olr_run.specs.Output.{records_of}

@@ -2,7 +2,7 @@
 use Rattle.olr_run.proofs.Common.{IfErr, ⊤, length-map, Outcome, IsRefusal, ByState, Field, read, CommandOutcome}
 use Rattle.olr_run.proofs.Common.{RecordOutcome, SoundOutcomes, IsReply, count_line, reply_text, read_recorded}
 use Rattle.std.proofs.Common.{arith, Bool, false, List, Option, Some, None, Result, inl, inr, ◌≢◌, ℕ, [], ◌∷◌, ◌++◌}
-use Rattle.std.proofs.Common.{map, length, Ok, Err, IsTrue, refl, sym, ap, subst, true, not, nat_cmp, ◌==◌}
+use Rattle.std.proofs.Common.{map, length, Ok, Err, IsTrue, refl, sym, ap, subst, true, not, nat_cmp}
 use Rattle.std.proofs.lemmas.Bool.{and_parts, cases_eq, eq-eqb, ne_eqb}
 use Rattle.std.specs.FinMap.{get, entries, get-entries}
 use Rattle.std.specs.FinMap.Entries.{find}

@@ -1,11 +1,9 @@
 -- A run from a log in a file, from the contracts of its parts.
-use Rattle.olr_run.proofs.Common.{IfErr, IfSome, Outcome, Field, Appends, Known, Records, RanOn, FaultedOn, RunFault, Registered}
-use Rattle.olr_run.proofs.Common.{Represents, exit_code, is_ok, ⊤}
-use Rattle.std.proofs.Common.{◌≡◌, ◌∙◌, ◌⊎◌, ℕ, Bool, true, false, List, [], Some, None, inl, inr, refl, sym, ap, subst}
+use Rattle.olr_run.proofs.Common.{IfErr, Outcome, Field, Known, Records, RanOn, FaultedOn, RunFault, Registered}
+use Rattle.olr_run.proofs.Common.{Represents, exit_code, is_ok}
+use Rattle.std.proofs.Common.{◌≡◌, ◌∙◌, ◌⊎◌, ℕ, Bool, true, false, List, Some, None, inl, inr, refl, sym, subst}
 use Rattle.std.specs.Prelude.{IfOk, OnOk, OnErr, Result, Ok, Err, IsTrue}
-use Rattle.std.specs.List.{concat}
 use Rattle.sqlite_disk.specs.declared.Disk as disk
-use Rattle.olr_commands.specs.Dump.{dump_lines}
 use Rattle.olr_commands.specs.State.{Content, IsContent, State}
 use Rattle.olr_journal.specs.Logs.{kept_of, left_of, is_own_of, is_clean}
 use Rattle.olr_journal.specs.declared.folder.Folder as folder

@@ -2,7 +2,7 @@
 use Rattle.olr_run.proofs.Common.{◌&&◌, IsFalse, IfErr, append-nil, append_assoc, length-map, Appends, Reader, Outcome}
 use Rattle.olr_run.proofs.Common.{run_longer, Field, outcome_text, Registered, SoundOutcome, Claims, texts, records_of}
 use Rattle.olr_run.proofs.Common.{Known, Event, Took, Ended, Not_taken, Not_sent, Wrote, Cut, History, exchanges}
-use Rattle.olr_run.proofs.Common.{IsPlain, Keeps, IfSome, SoundOutcomes, Represents}
+use Rattle.olr_run.proofs.Common.{IsPlain, Keeps, IfSome, Represents}
 use Rattle.olr_run.specs.Output.{StopsAtFault}
 use Rattle.olr_commands.specs.State.{State}
 use Rattle.olr_run.proofs.Common.{CsvHappens, IsOfTaking, known_records, RanOn, FaultedOn, HasTooMany, RanIn, CutIn}

@@ -1,5 +1,5 @@
 -- The log of a run, from the history of its session.
-use Rattle.olr_run.proofs.Common.{IfErr, IfSome, Outcome, Field, outcome_text, SoundOutcome, SoundOutcomes}
+use Rattle.olr_run.proofs.Common.{IfErr, IfSome, Outcome, Field, outcome_text, SoundOutcome}
 use Rattle.olr_run.proofs.Common.{append-nil, append_assoc, length-map, Known, records_of}
 use Rattle.olr_run.proofs.Common.{Event, Took, Ended, Not_taken, Not_sent, Wrote, Cut, History, exchanges, RanIn, CutIn, Keeps}
 use Rattle.olr_run.proofs.Common.{Past_the_most, In_text, Appends, Reader, Registered, RunFault}
@@ -7,7 +7,6 @@ use Rattle.std.proofs.Common.{◌≡◌, ◌≢◌, ◌∙◌, ℕ, Bool, false,
 use Rattle.std.proofs.Common.{length-append}
 use Rattle.olr_commands.specs.State.{Content, State}
 use Rattle.std.specs.Io.KnownBytes.{append_known}
-use Rattle.olr_commands.specs.History.{Run}
 use Rattle.olr_run.specs.Runs.{In_taking, No_text, OutcomesRenewed, IsRenewal}
 use Rattle.olr_sessions.specs.Sessions.{Renewed, renewing}
 use Rattle.olr_run.specs.Runs as runs

@@ -1,13 +1,12 @@
 -- The records of a register.
-use Rattle.olr_run.proofs.Common.{Represents, Registered, Event, ⊤}
-use Rattle.std.proofs.Common.{◌≡◌, ◌∙◌, ◌⊎◌, ℕ, List, Option, Some, None, Result, Ok, Err, refl, inl, inr, sym, subst}
-use Rattle.std.specs.List.{concat}
-use Rattle.olr_commands.specs.Reply.{Dumped, Outcome, Reply}
+use Rattle.olr_run.proofs.Common.{Registered, Event}
+use Rattle.std.proofs.Common.{◌≡◌, ◌∙◌, ◌⊎◌, ℕ, List, Option, Some, None, Ok, refl, inl, inr, sym, subst}
+use Rattle.olr_commands.specs.Reply.{Dumped}
 use Rattle.olr_commands.specs.State.{Change, Content, Dump, State, step}
 use Rattle.olr_register.specs.Registered.{Applied}
 use Rattle.olr_run.specs.LogEnds.{AreRecordsOf}
 use Rattle.olr_run.specs.Logged.{closed}
-use Rattle.olr_run.specs.Runs.{AreRenewal, IsRenewal, RenewedBy, RenewsFrom}
+use Rattle.olr_run.specs.Runs.{AreRenewal, RenewsFrom}
 
 -- a dump is accepted where no batch is open
 no_batch : (c : Content) (b : Option (List Change)) (t : State) → step (record { content = c; batch = b }) Dump ≡ Ok t → b ≡ None

@@ -4,7 +4,7 @@
 --         program writes it
 --     Begins log read start register      a register and a log in which records can be kept, from a log that was opened
 --     FromLog      how a run from a log ends
-use Rattle.std.specs.Prelude.{◌≡◌, ◌≤◌, ◌⊎◌, ℕ, Bool, true, false, List, IfSome, Result, Ok, Err}
+use Rattle.std.specs.Prelude.{◌≡◌, ◌⊎◌, ℕ, Bool, true, false, List}
 use Rattle.std.specs.List.{concat}
 use Rattle.std.specs.Io.KnownBytes.{Appends}
 use Rattle.sqlite_disk.specs.declared.Disk as disk
@@ -21,13 +21,9 @@ use Rattle.olr_run.specs.Logged.{closed, Leads, Survives}
 use Rattle.olr_run.specs.Logs.{Began}
 use Rattle.olr_run.specs.Output.{Claims}
 use Rattle.olr_run.specs.Restored.{IsContentOf}
-use Rattle.olr_run.specs.Runs.{Records, RanOn, FaultedOn}
-use Rattle.olr_sessions.specs.Buffers.{written}
 use Rattle.olr_sessions.specs.Journals.{Only}
 use Rattle.olr_sessions.specs.Sessions.{Known}
 use Rattle.olr_sessions.specs.declared.buffered.Buffered.{Buffered}
-use Rattle.olr_sessions.specs.declared.ends.RunFault.{RunFault}
-use Rattle.olr_sessions.specs.declared.ends.Status.{Status}
 
 abbrev pub AreRecordsOf : Registered → List ℕ → Type 0
 AreRecordsOf register text = (c : Content) → Represents register.kept (closed c) → text ≡ concat (dump_lines c)

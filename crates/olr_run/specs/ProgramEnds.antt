@@ -2,28 +2,22 @@
 --     FromLog      a run from a log that was opened
 --     LogEnds      by what the arguments ask for
 --     ProgramEnds      by the arguments
-use Rattle.std.specs.Prelude.{◌≡◌, ◌≤◌, ◌⊎◌, ℕ, Bool, true, List, [], Option, Some, None, Result, Ok, Err}
-use Rattle.std.specs.List.{concat}
+use Rattle.std.specs.Prelude.{◌≡◌, ◌≤◌, ◌⊎◌, ℕ, Bool, List, [], Option, Some, None, Ok, Err}
 use Rattle.clap.specs.Faults.{fault_of}
 use Rattle.sqlite_disk.specs.declared.Disk as disk
 use Rattle.olr_arguments.specs.Explains.{Explains}
 use Rattle.olr_arguments.specs.Opens.{IsFile}
 use Rattle.olr_arguments.specs.Options.{Options, keep_app, options}
-use Rattle.olr_commands.specs.Dump.{dump_lines}
-use Rattle.olr_commands.specs.State.{Content}
-use Rattle.olr_journal.specs.Logs.{kept_of, left_of, is_clean}
 use Rattle.olr_journal.specs.declared.folder.Folder as folder
 use Rattle.olr_journal.specs.declared.log_file.LogFile.{LogFile}
 use Rattle.olr_register.specs.Registered.{Registered}
 use Rattle.olr_run.specs.LogEnds.{Begins, LastsOn, Unbegun}
-use Rattle.olr_run.specs.Restored.{IsContentOf}
-use Rattle.olr_run.specs.Runs.{Records, RanOn, FaultedOn, known_records, known_both, HasTooMany}
+use Rattle.olr_run.specs.Runs.{Records, RanOn, FaultedOn, known_records, known_both}
 use Rattle.olr_sessions.specs.Buffers.{written}
 use Rattle.olr_sessions.specs.Sessions.{Known}
 use Rattle.olr_sessions.specs.Statuses.{exit_code}
 use Rattle.olr_sessions.specs.declared.buffered.Buffered.{Buffered}
 use Rattle.olr_sessions.specs.declared.ends.RunFault.{RunFault}
-use Rattle.olr_sessions.specs.declared.ends.RunFault.TheVariants as fault
 use Rattle.olr_sessions.specs.declared.ends.Status.{Status}
 
 module _ {D F : Type 0} {d : disk.Ghosts D} {f : folder.Ghosts F D} {W : Type 0} (contents : W → Known) where

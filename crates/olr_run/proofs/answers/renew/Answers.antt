@@ -1,6 +1,6 @@
 -- The records of the register are given, or none are.
-use Rattle.std.proofs.Common.{Some, sym, subst, ap, ℕ, List}
-use Rattle.olr_run.specs.Runs.{AreRenewal, RenewedBy}
+use Rattle.std.proofs.Common.{Some, sym, subst, ℕ, List}
+use Rattle.olr_run.specs.Runs.{AreRenewal}
 use Rattle.olr_run.proofs.Renewals.{none_renewed}
 use Rattle.olr_run.proofs.answers.renew.Goals as goal
 

@@ -1,7 +1,6 @@
 -- The text of the log is what was read.
-use Rattle.std.proofs.Common.{◌≡◌, ◌∙◌, ℕ, List, sym, subst}
+use Rattle.std.proofs.Common.{◌∙◌, ℕ, List, sym, subst}
 use Rattle.olr_commands.specs.State.{Content}
-use Rattle.olr_journal.specs.Logs.{kept_of}
 use Rattle.olr_register.specs.RegisterState.{Represents}
 use Rattle.olr_run.specs.Logged.{closed, Leads}
 use Rattle.olr_run.specs.Restored.{IsContentOf}

@@ -1,7 +1,6 @@
 -- The records of the register are kept, or may be.
-use Rattle.std.proofs.Common.{◌≡◌, ◌∙◌, ℕ, List, inl, inr, sym, subst, ap, Some}
+use Rattle.std.proofs.Common.{◌∙◌, sym, subst}
 use Rattle.olr_run.specs.LogEnds.{AreRecordsOf}
-use Rattle.olr_run.specs.Runs.{AreRenewal}
 use Rattle.olr_run.proofs.Renewals.{records_of_renewal, records_may_be}
 use Rattle.olr_run.proofs.starts.rewrite.Goals as goal
 
