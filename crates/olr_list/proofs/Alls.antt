@@ -1,8 +1,8 @@
 -- What is true of each element, as far as a loop has run. Membership in lists: by a test, and by a position.
-use Rattle.olr_list.proofs.Common.{get_or_from_slice_get, slice_get_within, get_or_default, Contains-later, slice_get}
+use Rattle.olr_list.proofs.Common.{get_or_from_slice_get, slice_get_within, Contains-later, slice_get}
 use Rattle.olr_list.proofs.Common.{Contains-cases, Contains-here, take_more, drop_more, All-push, Contains, list_any}
-use Rattle.olr_list.proofs.Common.{eqb-true, length, get_or, IsTrue, eq-eqb, subst, arith, List, take, drop, Some, ◌≡◌}
-use Rattle.olr_list.proofs.Common.{true, ◌+◌, ◌<◌, ◌∷◌, All, sym, ◌∙◌, map, ◌↔◌, inl, inr, has, eqb, ap, [], ℕ, Picks}
+use Rattle.olr_list.proofs.Common.{length, get_or, IsTrue, subst, arith, List, take, drop, Some, ◌≡◌}
+use Rattle.olr_list.proofs.Common.{true, ◌+◌, ◌<◌, ◌∷◌, All, sym, ◌∙◌, map, ◌↔◌, inl, inr, has, ap, [], ℕ, Picks}
 use Rattle.olr_list.proofs.Common.{Item, zero, suc, refl}
 use Rattle.std.proofs.lemmas.List.Folds.{Any-from_list_any, list_any_at}
 pub use Rattle.olr_spec.proofs.SameNumbers.{has_from, in_from}

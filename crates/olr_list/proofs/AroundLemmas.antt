@@ -1,10 +1,9 @@
 -- The lines around nodes, and lists that are sorted without duplicates.
-use Rattle.olr_list.proofs.Common.{inl, inr, ◌≡◌, ℕ, ◌+◌, ◌<◌, true, List, [], ◌++◌, length, take, get_or, eqb, IsTrue, ◌||◌}
-use Rattle.olr_list.proofs.Common.{◌==◌, ◌↔◌, sym, ap, ◌∙◌, subst, arith, eq-eqb, eqb-true, or_left, Map, end, has, ◌≢◌}
+use Rattle.olr_list.proofs.Common.{inl, inr, ◌≡◌, ℕ, ◌+◌, ◌<◌, true, List, ◌++◌, length, take, get_or, eqb, IsTrue, ◌||◌}
+use Rattle.olr_list.proofs.Common.{◌==◌, ◌↔◌, sym, ap, ◌∙◌, eq-eqb, eqb-true, or_left, Map, end, has}
 use Rattle.olr_list.proofs.Common.{IsPermutation, Option, is_some, ◌⊎◌}
 use Rattle.std.specs.Option.{unwrap_or}
 use Rattle.std.specs.List.{dedup}
-use Rattle.std.specs.FinMap.{get}
 use Rattle.std.proofs.lemmas.Bool.{or_cases, or_right}
 use Rattle.std.proofs.lemmas.List.Folds.{list_any-append, list_any_more}
 use Rattle.std.proofs.lemmas.List.Kept.{Contains-dedup_nat, Contains-from_dedup}
