@@ -537,7 +537,8 @@ Options:
   -V, --version            Print version
 
 Records: node, move, drop-node, line, set-line, drop-line, path, repath, drop-path,
-show, show-node, show-line, depends, report, dump, compact, explain, begin, commit, abort.
+show, show-node, show-line, depends, report, dump, compact, ambiguous, explain, begin, commit,
+abort.
 docs/LIMITS.md: fields, limits, faults.
 Replies: `ok,N` and N lines, `held,N` in a batch, `fault,NUMBER,WORD`.
 Example: olr-keep < examples/morning.csv
