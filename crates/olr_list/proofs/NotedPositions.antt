@@ -31,6 +31,21 @@ module _ {A : Type 0} (number : A → ℕ) (path_id : ℕ) (old : Index) where
         spares = λ n m ne. grind (arith, nat_tests, added n m, h.spares n m ne);
       }
 
+  -- a number that has it already
+  pub noted_same : (now : Index) (xs ys : List A) (k : ℕ) (d : A) (v : ℕ) → k < length xs →
+      v ≡ number (get_or xs k d) → (x : A) × Contains ys x × (number x ≡ v) →
+      All (λ x. IsTrue (holds old (number x) path_id)) ys → Noted number path_id old now (take k xs) →
+      Noted number path_id old now (take (k + 1) xs)
+  noted_same now xs ys k d v lt is there all h =
+      let P : A → Type 0 = λ x. IsTrue (holds now (number x) path_id) in
+      let had = All-contains (λ x. IsTrue (holds old (number x) path_id)) ys there.0 all there.1 in
+      record {
+        noted = all_more P xs k d lt h.noted
+            (subst (λ (n : ℕ). IsTrue (holds now n path_id)) (there.2 ∙ is) (h.grows (number there.0) path_id had));
+        grows = h.grows;
+        spares = h.spares;
+      }
+
 -- after some of them were removed; the retained numbers still have the path id
 pub record Forgot (Kept : ℕ → Type 0) (path_id : ℕ) (old now : Index) : Type 0 where
   pub keeps : (n : ℕ) → Kept n → IsTrue (holds old n path_id) → IsTrue (holds now n path_id)

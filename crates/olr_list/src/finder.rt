@@ -68,6 +68,41 @@ impl Finder {
         note_each(&mut self.lines, path_id, lines)
     }
 
+    /// Adds the id of a path as `note` does, where it has that of its earlier lines and results: what is the same at the
+    /// same position is not looked up again. If an allocation fails, some of them have it.
+    pub(crate) fn note_over(
+        &mut self,
+        path_id: u64,
+        lines: &[LineId],
+        published: &Published,
+        earlier_lines: &[LineId],
+        earlier: &Published,
+    ) -> Result<(), AllocError>
+        requires { IsNoted self.old path_id earlier_lines.now earlier.now.traversed earlier.now.queries.items }
+        ensures noted { OnOk result (IsNoted self.new path_id lines.now published.now.traversed
+            published.now.queries.items) }
+        ensures grows { Grows self.old self.new }
+        ensures spares { Spares path_id self.old self.new }
+    {
+        if !self.known {
+            return Ok(());
+        }
+        let nodes = published.traversed.as_slice();
+        note_over(
+            &mut self.traversed,
+            path_id,
+            nodes,
+            earlier.traversed.as_slice(),
+        )?;
+        note_over(
+            &mut self.by_query_origin,
+            path_id,
+            &published.queries,
+            &earlier.queries,
+        )?;
+        note_over(&mut self.lines, path_id, lines, earlier_lines)
+    }
+
     /// Removes the id from these lines, from the traversed nodes and from the nodes where coverage queries began. Takes
     /// no memory.
     pub(crate) fn forget(&mut self, path_id: u64, lines: &[LineId], replaced: &Published)
@@ -120,6 +155,39 @@ fn note_each<T: Numbered>(index: &mut Index, path_id: u64, items: &[T]) -> Resul
 {
     for item in items {
         index.add(item.index_number(), path_id)?;
+    }
+    Ok(())
+}
+
+/// Whether the item at a position is there and has this number.
+fn is_at<T: Numbered>(items: &[T], k: usize, number: u64) -> bool
+    ensures { IsTrue result → (x : _) × Contains items.now x × (T.number_of x ≡ number) }
+{
+    match items.get(k) {
+        Some(item) => item.index_number() == number,
+        None => false,
+    }
+}
+
+/// Adds a path id to the numbers of these, where it has those of the earlier ones: if the earlier one at the same
+/// position has the same number, that isn't looked up. If an allocation fails, some of them have it.
+fn note_over<T: Numbered>(
+    index: &mut Index,
+    path_id: u64,
+    items: &[T],
+    earlier: &[T],
+) -> Result<(), AllocError>
+    requires { All (λ x. IsTrue (holds index.old (T.number_of x) path_id)) earlier.now }
+    ensures noted { OnOk result (All (λ x. IsTrue (holds index.new (T.number_of x) path_id)) items.now) }
+    ensures grows { KeepsAll index.old index.new }
+    ensures spares { KeepsBut path_id index.old index.new }
+{
+    for (k, item) in items.iter().enumerate() {
+        let number = item.index_number();
+        if is_at(earlier, k, number) {
+            continue;
+        }
+        index.add(number, path_id)?;
     }
     Ok(())
 }

@@ -319,6 +319,29 @@ pub(crate) fn note_one(
     finder.note(path_id, named.path.lines(), published)
 }
 
+/// Adds the index entries of a path that is to replace another and to have its id, if it was encoded. If an allocation
+/// fails, some are added.
+pub(crate) fn note_other(
+    finder: &mut Finder,
+    path_id: u64,
+    current: &NamedPath,
+    named: &NamedPath,
+) -> Result<(), AllocError>
+    requires { NamedNoted finder.old path_id current.now }
+    ensures noted { OnOk result (NamedNoted finder.new path_id named.now) }
+    ensures grows { Grows finder.old finder.new }
+    ensures spares { Spares path_id finder.old finder.new }
+{
+    let Some(published) = &named.published else {
+        return Ok(());
+    };
+    let lines = named.path.lines();
+    match &current.published {
+        Some(earlier) => finder.note_over(path_id, lines, published, current.path.lines(), earlier),
+        None => finder.note(path_id, lines, published),
+    }
+}
+
 /// Adds the index entries of a path, if it was encoded. If an allocation fails, they are removed again, except for
 /// those of the retained path.
 fn note_named(

@@ -7,7 +7,7 @@ ghost use Rattle.olr_list.specs.Stored.{all_put, puts_of};
 
 use crate::finder::Finder;
 use crate::overlay::{Overlay, put_unchanged};
-use crate::path_list::{NamedPath, PathList, forget_named, note_one};
+use crate::path_list::{NamedPath, PathList, forget_named, note_one, note_other};
 use std::alloc::{AllocError, Global};
 use std::mem;
 
@@ -92,11 +92,11 @@ fn note_all(list: &mut PathList, fresh: &[(usize, NamedPath)]) -> Result<(), All
     ensures same { items list.new ≡ items list.old }
 {
     for (position, named) in fresh {
-        if *position >= list.path_ids.len() {
+        let Some((_, current)) = list.paths.get_index(*position) else {
             continue;
-        }
+        };
         let path_id = list.path_ids[*position];
-        note_one(&mut list.finder, path_id, named)?;
+        note_other(&mut list.finder, path_id, current, named)?;
     }
     Ok(())
 }
