@@ -43,6 +43,10 @@ all_ends M F ls ns i h ends = subst (λ (zs : List ℕ). HasEnds M F zs ns) (tak
 
 -- ---- sorted, without duplicates
 
+-- where neighbours that are the same were left out
+pub same_deduped : (ns once : List ℕ) → once ≡ dedup eqb ns → (v : ℕ) → Contains once v ↔ Contains ns v
+same_deduped ns once is v = rw is (λ h. Contains-from_dedup eqb ns v h, λ h. Contains-dedup_nat ns v h)
+
 pub same_once : (ns sorted once : List ℕ) → IsPermutation ns sorted → once ≡ dedup eqb sorted → (v : ℕ) →
     Contains once v ↔ Contains ns v
 same_once ns sorted once moved is v = rw is (

@@ -1,7 +1,9 @@
 -- Lines of a path as a map has them.
 use Rattle.olr_refs.proofs.Common.{arith, ◌≡◌, ◌<◌, ℕ, List, [], ◌∷◌, ◌++◌, length, get_or, refl, sym, ap, ◌∙◌, subst}
 use Rattle.olr_refs.proofs.Common.{get_or-map, length-map, map-append, slice_index, Map, ResolvedLine, record_of}
-use Rattle.olr_refs.proofs.Common.{records_of, ids, AreRecords}
+use Rattle.olr_refs.proofs.Common.{records_of, ids, AreRecords, Some}
+use Rattle.std.proofs.lemmas.Option.{get_or_from_slice_get, slice_get_within}
+use Rattle.std.specs.List.{slice_get}
 
 -- the record of line k
 pub record_at : (M : Map) (slot : ℕ → ℕ) (ls : List ℕ) (rs : List ResolvedLine) (k : ℕ) (d : ResolvedLine) → rs ≡ records_of M slot ls →
@@ -28,3 +30,13 @@ are_records M slot ls rs e = e ∙ ap (records_of M slot) (sym (ids_are M slot l
 
 pub records_append : (M : Map) (slot : ℕ → ℕ) (rs ss : List ResolvedLine) → AreRecords M slot rs → AreRecords M slot ss → AreRecords M slot (rs ++ ss)
 records_append M slot rs ss r s = grind (arith, map-append, record_of, ids, records_of)
+
+-- where one of them ends
+pub end_placed : (M : Map) (slot : ℕ → ℕ) (rs : List ResolvedLine) (k : ℕ) (r : ResolvedLine) → AreRecords M slot rs →
+    slice_get rs k ≡ Some r → slot r.to ≡ r.to_slot
+end_placed M slot rs k r are at =
+    let low : k < length (ids rs) =
+    subst (λ (n : ℕ). k < n) (sym (length-map rs (λ (x : ResolvedLine). x.id))) (slice_get_within rs k r at) in
+    let is : record_of M slot (slice_index (ids rs) k) ≡ r =
+    sym (record_at M slot (ids rs) rs k r are low) ∙ get_or_from_slice_get rs k r r at in
+    subst (λ (x : ResolvedLine). slot x.to ≡ x.to_slot) is refl

@@ -103,6 +103,8 @@ fn note_ends(
     push_ends(records, &mut nodes)?;
     push_ends(before, &mut nodes)?;
     push_ends(after, &mut nodes)?;
+    // Most lines begin where the one before ends, so half of the nodes need not be sorted.
+    nodes.dedup();
     nodes.sort_unstable();
     nodes.dedup();
     footprint.note_all(&nodes)

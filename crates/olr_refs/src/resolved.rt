@@ -1,11 +1,49 @@
 //! The lines of a path as a map has them, each of which is looked up once.
-ghost use Rattle.std.specs.Prelude.{◌≡◌, IfOk, MatchResult, None, Some};
+ghost use Rattle.std.specs.Prelude.{◌≡◌, IfOk, IsTrue, MatchResult, None, Some, SomeIff};
 ghost use Rattle.olr_spec.specs.Encoding.{first_unknown};
-ghost use Rattle.olr_refs.specs.ResolvedLines.{records_of, ids};
+ghost use Rattle.olr_spec.specs.Map.{has_line};
+ghost use Rattle.olr_search.specs.ResolvedLines.{record_of};
+ghost use Rattle.olr_refs.specs.ResolvedLines.{AreRecords, records_of, ids};
 
-use olr_roads::{LineId, MapRead};
+use olr_roads::{LineId, MapRead, NodeId};
 use olr_search::{ResolvedLine, resolve_line};
 use std::alloc::{AllocError, Global};
+
+/// A line as the map has it, where a node and its slot are known at which it may begin. None if it is not on the map.
+fn resolve_from<M: MapRead>(map: &M, node: NodeId, slot: u32, id: LineId) -> Option<ResolvedLine>
+    requires { M.node_slot map.now node ≡ slot }
+    ensures { SomeIff result (IsTrue (has_line (M.map map.now) id))
+        (record_of (M.map map.now) (M.node_slot map.now) id) }
+{
+    let line = map.line(id)?;
+    if line.from != node {
+        return resolve_line(map, id);
+    }
+    let to_slot = map.slot_of(line.to)?;
+    Some(ResolvedLine {
+        id,
+        from: line.from,
+        to: line.to,
+        from_slot: slot,
+        to_slot,
+        len: line.len,
+        frc: line.frc,
+        fow: line.fow,
+    })
+}
+
+/// A line as the map has it, by those before it on a path: it begins where the last of them ends, in most cases. None if
+/// it is not on the map.
+fn resolve_after<M: MapRead>(map: &M, before: &[ResolvedLine], id: LineId) -> Option<ResolvedLine>
+    requires { AreRecords (M.map map.now) (M.node_slot map.now) before.now }
+    ensures { SomeIff result (IsTrue (has_line (M.map map.now) id))
+        (record_of (M.map map.now) (M.node_slot map.now) id) }
+{
+    match before.last() {
+        Some(last) => resolve_from(map, last.to, last.to_slot, id),
+        None => resolve_line(map, id),
+    }
+}
 
 /// These lines as the map has them, or the first of them that is not on the map.
 pub fn resolve<M: MapRead>(
@@ -20,7 +58,7 @@ pub fn resolve<M: MapRead>(
 {
     let mut records = Vec::with_capacity(alloc, lines.len())?;
     for line in lines {
-        let Some(record) = resolve_line(map, *line) else {
+        let Some(record) = resolve_after(map, &records, *line) else {
             return Ok(Err(*line));
         };
         records.push(record)?;
