@@ -8,10 +8,11 @@ use Rattle.olr_list.proofs.Common.{label_at, Against, made_of, items, QueryTouch
 use Rattle.olr_list.proofs.Common.{AreAsked, LackQueries, BeginsIn, Begins, ChangeSet, Searches, Finder, Published}
 use Rattle.olr_list.proofs.Common.{NamedPath, PathList, Path, Changes, TakesNone, change_at, under_change}
 use Rattle.olr_list.proofs.Common.{under_changes, NamesDiffer, same_name, all_named, or_left, ToStay, CoversAsked}
-use Rattle.olr_list.proofs.Common.{AreFound, String, IsPermutation, Global, list_any-IsPermutation, IsAsked}
+use Rattle.olr_list.proofs.Common.{AreFound, String, IsPermutation, Global, list_any-IsPermutation, IsAsked, take}
+use Rattle.olr_list.proofs.Common.{path_ids_of}
 use Rattle.std.proofs.Math.Bool.{or-false}
 use Rattle.olr_list.proofs.NamedEntries.{Entries, First, item_of, items_of, same_flip}
-use Rattle.olr_list.proofs.Alls.{in_from}
+use Rattle.olr_list.proofs.Alls.{all_more, in_from}
 use Rattle.olr_list.proofs.Distances.{near_absent, leads_from}
 use Rattle.olr_list.proofs.NotedPositions.{back}
 use Rattle.olr_list.proofs.Changed.{changed, overlaid_from, change_push, first_only}
@@ -34,6 +35,25 @@ pub record PutAll {A : Type 0} (number : A → ℕ) (path_ids : List ℕ) (index
     (old now : List ℕ) : Type 0 where
   pub kept : Includes old now
   pub put : All (λ x. Finds path_ids index (number x) now) xs
+
+no_items : (ys : List ℕ) → length ys ≡ 0 → ys ≡ []
+no_items [] none = refl
+no_items (y ∷ ys) none = absurd (omega arith)
+
+-- one more, whose number no path has
+pub put_none : {A : Type 0} (number : A → ℕ) (path_ids : List ℕ) (index : Index) (xs : List A) (old now : List ℕ)
+    (k : ℕ) (d : A) (v : ℕ) (of : List ℕ) → k < length xs → v ≡ number (get_or xs k d) → of ≡ path_ids_of index v →
+    length of ≡ 0 → PutAll number path_ids index (take k xs) old now →
+    PutAll number path_ids index (take (k + 1) xs) old now
+put_none number path_ids index xs old now k d v of lt is ids none h =
+    let empty : path_ids_of index (number (get_or xs k d)) ≡ [] =
+    sym (ids ∙ ap (path_ids_of index) is) ∙ no_items of none in
+    record {
+      kept = h.kept;
+      put = all_more (λ x. Finds path_ids index (number x) now) xs k d lt h.put (λ j low on.
+          let off = ap (λ (ys : List ℕ). has ys (get_or path_ids j 0)) empty in
+          let never : ⊥ = cc (on, off) in absurd never);
+    }
 
 pub nothing_at : (js : List Item) → slice_get js 0 ≡ None → js ≡ []
 nothing_at [] at = refl

@@ -53,8 +53,15 @@ fn put_found<T: Numbered>(
     ensures put { OnOk result
         (All (λ x. Finds path_ids.now index.now (T.number_of x) found.new.items) items.now) }
 {
+    if index.is_empty() {
+        return Ok(());
+    }
     for item in items {
-        put_positions(path_ids, index.of(item.index_number()), found)?;
+        let of = index.of(item.index_number());
+        if of.is_empty() {
+            continue;
+        }
+        put_positions(path_ids, of, found)?;
     }
     Ok(())
 }

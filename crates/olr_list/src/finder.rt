@@ -205,7 +205,10 @@ fn forget_nodes(index: &mut Index, path_id: u64, replaced: &[NodeId], kept: &[No
     ensures keeps { TraversedNoted index.old path_id kept.now → TraversedNoted index.new path_id kept.now }
     ensures spares { KeepsBut path_id index.old index.new }
 {
-    for node in replaced {
+    for (k, node) in replaced.iter().enumerate() {
+        if is_at(kept, k, node.index_number()) {
+            continue;
+        }
         if kept.binary_search(node).is_ok() {
             continue;
         }

@@ -101,6 +101,9 @@ pub(crate) fn put_unchanged(
     ensures put { OnOk result (items to.new ≡ items to.old ++ items list.now) }
     ensures before { take (length (items to.old)) (items to.new) ≡ items to.old }
 {
+    if list.paths.is_empty() {
+        return Ok(());
+    }
     put_behind(alloc, &IndexMap::new(alloc), list, to)
 }
 
