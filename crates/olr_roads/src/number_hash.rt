@@ -1,6 +1,7 @@
 //! The hash of node and line numbers. Neighbouring numbers share a position of the hash table, and the next ones are at
 //! the next position, so that a map with consecutive numbers is read with few cache misses, and each position has equally
 //! many of them; other patterns of numbers are spread.
+ghost use Rattle.std.specs.Prelude.{◌≡◌};
 ghost use Rattle.olr_roads.specs.Hashing.{number_write, number_hash};
 
 use std::hash::Hasher;
@@ -28,6 +29,15 @@ pub struct NumberHasher {
     number: u32,
 }
 
+impl NumberHasher {
+    /// The last four bytes as a number, the lowest first.
+    fn last_four(self) -> u32
+        ensures { result ≡ self.number }
+    {
+        self.number
+    }
+}
+
 impl Hasher for NumberHasher {
     ghost write = { number_write };
 
@@ -40,8 +50,13 @@ impl Hasher for NumberHasher {
         place ^ tag ^ u64::from((self.number % NEIGHBOURS) << TAG_SHIFT)
     }
 
+    /// The four bytes of a number are taken at once.
     fn write(&mut self, bytes: &[u8]) {
-        let mut number = self.number;
+        let mut number = self.last_four();
+        if let [first, second, third, fourth] = bytes {
+            self.number = u32::from_le_bytes([*first, *second, *third, *fourth]);
+            return;
+        }
         for byte in bytes {
             number = number / 256 + (u32::from(*byte) << TAG_SHIFT);
         }
