@@ -1,6 +1,7 @@
 //! The lines that leave a node, or those that enter it, each with its far end.
 ghost use Rattle.std.specs.Prelude.{◌≡◌, ◌+◌, ◌<◌, ◌≤◌, [], None, length, insert, remove, set, take, IfOk, OnOk, IsFalse};
-ghost use Rattle.std.specs.List.Sorted.{IsStrictlyIncreasing};
+ghost use Rattle.std.specs.List.Sorted.{IsStrictlyIncreasing, IsBinarySearchResult, IsSearchInRange};
+ghost use Rattle.std.specs.Ordering.{nat_cmp};
 ghost use Rattle.std.specs.Vec.{vec_capacity};
 ghost use Rattle.olr_spec.specs.Map.{has};
 
@@ -102,7 +103,7 @@ impl Links {
         requires room { IsFalse (has (lines_on self.old) id) → length (lines_on self.old) < links_room self.old }
         ensures { IsPut self.old self.new id end }
     {
-        match (self.as_slices().lines.binary_search(&id), end) {
+        match (position_of(self.as_slices().lines, id), end) {
             (Ok(at), Some(end)) => self.set_at(at, end),
             (Ok(at), None) => self.remove(at),
             (Err(at), Some(end)) => self.insert(at, id, end),
@@ -194,6 +195,19 @@ impl Spilled {
         let _ = self.lines.remove(at);
         let _ = self.ends.remove(at);
     }
+}
+
+/// The position of a line among ascending numbers, or the one at which it is to be inserted. Most new lines have the
+/// greatest number so far, and are not searched for.
+fn position_of(lines: &[LineId], id: LineId) -> Result<usize, usize>
+    ensures bound { IsSearchInRange result (length lines.now) }
+    ensures position { IsBinarySearchResult (λ y. nat_cmp y id) lines.now result }
+{
+    let count = lines.len();
+    if count > 0 && lines[count - 1] < id {
+        return Err(count);
+    }
+    lines.binary_search(&id)
 }
 
 /// These values, with capacity for as many as a list in vectors has at first.
