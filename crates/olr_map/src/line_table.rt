@@ -1,5 +1,5 @@
 //! The lines by number.
-ghost use Rattle.std.specs.Prelude.{◌≡◌, ◌==◌, ◌+◌, ◌≤◌, ◌<◌, ℕ, [], cond, Some, None, IsSome, OnOk};
+ghost use Rattle.std.specs.Prelude.{◌≡◌, ◌==◌, ◌+◌, ◌≤◌, ◌<◌, ℕ, [], cond, length, Some, None, IsSome, OnOk};
 ghost use Rattle.std.specs.Option.{option_copied};
 ghost use Rattle.olr_map.specs.LineTables.{held, spare_numbers};
 
@@ -29,6 +29,13 @@ impl LineTable {
         ensures { option_copied result ≡ held self.now number }
     {
         self.by_number.get(&number)
+    }
+
+    /// The number of lines.
+    pub fn len(&self) -> usize
+        ensures { result ≡ length self.now.by_number.entries }
+    {
+        self.by_number.len()
     }
 
     /// Reserves capacity for `additional` more lines.

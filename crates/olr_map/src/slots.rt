@@ -32,7 +32,7 @@ pub struct NodeHead {
 fn ids_of(alloc: Global, heads: &[Option<NodeHead>]) -> Result<Vec<NodeId>, AllocError>
     ensures { IfOk result (λ ids. ids.items ≡ map (λ h. h.id) (present heads.now)) }
 {
-    let mut ids = Vec::new(alloc);
+    let mut ids = Vec::with_capacity(alloc, heads.len())?;
     for head in heads {
         push_id(&mut ids, head)?;
     }

@@ -56,7 +56,7 @@ impl RoadMap {
     fn lines_from(&self, alloc: Global, nodes: &[NodeId]) -> Result<Vec<LineId>, AllocError>
         ensures { IfOk result (λ ids. ids.items ≡ flat_map (lines_out (tables_map self.now)) nodes.now) }
     {
-        let mut ids = Vec::new(alloc);
+        let mut ids = Vec::with_capacity(alloc, self.lines.len())?;
         for node in nodes {
             ids.extend_from_slice(self.out_lines(*node))?;
         }

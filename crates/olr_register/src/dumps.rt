@@ -161,12 +161,15 @@ fn dump_of(alloc: Global, roads: &RoadMap, paths: &PathList) -> Result<Dump, All
 {
     let mut text = Vec::new(alloc);
     let nodes = roads.node_ids(alloc)?;
+    let node_count = nodes.len();
     push_nodes(&mut text, roads, &nodes)?;
+    // The numbers of the nodes aren't in memory beside those of the lines and their text.
+    drop(nodes);
     let lines = roads.line_ids(alloc)?;
     push_lines(&mut text, roads, &lines)?;
     push_paths(&mut text, paths)?;
     Ok(Dump {
-        count: nodes.len() + lines.len() + paths.len(),
+        count: node_count + lines.len() + paths.len(),
         text,
     })
 }
