@@ -1,5 +1,5 @@
 //! Edits of the map that are made at once, outside a batch.
-ghost use Rattle.std.specs.Prelude.{◌≡◌, map as list_map, Ok, None, OnOk, OnErr, IfOk, IsTrue};
+ghost use Rattle.std.specs.Prelude.{◌≡◌, ◌≢◌, length, map as list_map, Ok, None, OnOk, OnErr, IfOk, IsTrue};
 ghost use Rattle.std.specs.Option.{option_to_list};
 ghost use Rattle.olr_spec.specs.Map.{edited};
 ghost use Rattle.olr_roads.specs.Edits.{edit_of, allocates};
@@ -59,15 +59,29 @@ impl Register {
         requires { self.old.kept.batch ≡ None }
         ensures { Answered self.old (Make (On_map (edit_of edit))) result self.new }
     {
+        if self.paths.len() > 0 {
+            return self.edit_among_paths(edit);
+        }
         let plan = match judge(&self.roads, &edit) {
             Ok(plan) => plan,
             Err(fault) => return Err(CommandFault::Map(fault)),
         };
-        if self.paths.len() == 0 {
-            self.roads.make_kept(edit, &plan)?;
-            self.near.clear();
-            return Ok(Reply::Paths(Vec::new(self.alloc)));
-        }
+        self.roads.make_kept(edit, &plan)?;
+        self.near.clear();
+        Ok(Reply::Paths(Vec::new(self.alloc)))
+    }
+
+    /// The same, where there are paths. It is not inlined into what edits run through while a map is read.
+    #[inline(never)]
+    fn edit_among_paths(&mut self, edit: Edit) -> Result<Reply, CommandFault>
+        requires open { self.old.kept.batch ≡ None }
+        requires some { length self.old.kept.content.paths ≢ 0 }
+        ensures { Answered self.old (Make (On_map (edit_of edit))) result self.new }
+    {
+        let plan = match judge(&self.roads, &edit) {
+            Ok(plan) => plan,
+            Err(fault) => return Err(CommandFault::Map(fault)),
+        };
         let undo = make_noted(&mut self.roads, &mut self.touched, edit, &plan)?;
         let none = Overlay::new(self.alloc);
         let renewed = renew(
