@@ -24,7 +24,7 @@ some_direction v h e = by v h e
         let none : is_direction v ≡ false = λ i. not (nat_abs (e.0 i) == 0 && nat_abs (e.1 i) == 0) in cc (h, none)
 
 -- a direction is in the sector of its bearing
-in_sector : (s : Side) (g : Leg) → is_direction (direction_on s g) ≡ true →
+pub in_sector : (s : Side) (g : Leg) → is_direction (direction_on s g) ≡ true →
     IsSector (direction_on s g).east (direction_on s g).north (sector_on s g)
 in_sector s g h =
     let v = direction_on s g in
@@ -33,18 +33,18 @@ in_sector s g h =
 abbrev StandsOut : DirectionReceiver → Map → Side → ℤ × ℤ → ℕ → Type 0
 StandsOut D M s p x = IsTrue (stands_out D.far D.slack s p x (leg M x) (candidates M))
 
-irreflexive : (D : DirectionReceiver) (a : Rating) → IsFalse (D.prefers a a)
+pub irreflexive : (D : DirectionReceiver) (a : Rating) → IsFalse (D.prefers a a)
 irreflexive D a = elim (cases_Bool (D.prefers a a)) [ inl is ↦ D.strict a a is | inr isnt ↦ isnt ]
 
 -- a candidate that is farther by more than the slack, or no nearer with its bearing beyond the reach
-either_outdone : (D : DirectionReceiver) (a b : Rating) → a.frc ≤ b.frc → a.fow ≤ b.fow → a.bearing ≤ D.reach →
+pub either_outdone : (D : DirectionReceiver) (a b : Rating) → a.frc ≤ b.frc → a.fow ≤ b.fow → a.bearing ≤ D.reach →
     (a.far + D.slack < b.far) ⊎ ((a.far ≤ b.far) × (D.reach < b.bearing)) → IsTrue (D.prefers a b)
 either_outdone D a b c f i (inl farther) = D.nearer a b farther c f i
 either_outdone D a b c f i (inr beyond) =
     D.monotone a b (record { far = beyond.0; frc = c; fow = f; bearing = omega (arith, beyond.1) })
     (inr (inr (inr (omega (arith, beyond.1)))))
 
-outdone_either : (slack a b : ℕ) (beyond : Bool) →
+pub outdone_either : (slack a b : ℕ) (beyond : Bool) →
     (nat_lt (a + slack) b || nat_le a b && beyond) ≡ true → (a + slack < b) ⊎ ((a ≤ b) × (beyond ≡ true))
 outdone_either slack a b beyond h = elim (or_cases (nat_lt (a + slack) b) _ h) [
   | inl lt ↦ inl (ltb-true _ _ lt)

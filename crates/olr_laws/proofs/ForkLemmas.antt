@@ -99,11 +99,11 @@ by_scores = sees (105104 ∷ 212557 ∷ 324920 ∷ []) refl
 pub by_degrees : SeesDirections (exceeded degrees10) 5
 by_degrees = sees degrees10 refl
 
-nearest_same : (a b : ℕ) → apart a a ≤ apart a b
+pub nearest_same : (a b : ℕ) → apart a a ≤ apart a b
 nearest_same a b = omega arith
 
-abbrev other : DirectionReceiver
-other =
+abbrev pub by_sum : DirectionReceiver
+by_sum =
     by_weights axes_sum 5 5 apart apart (λ c. exceeded degrees10) nearest_same nearest_same (λ c. by_degrees)
     (record { far = 1; frc = 1; fow = 1; bearing = 1 }) (omega arith, omega arith, omega arith, omega arith) (omega arith)
 
@@ -111,7 +111,7 @@ abbrev at_first : Lrp
 at_first = lrp_at fork_reference 0 fork_reference.first.attrs
 
 abbrev sum_of : Leg → ℕ
-sum_of g = weighted (record { far = 1; frc = 1; fow = 1; bearing = 1 }) (rating_by other at_first g)
+sum_of g = weighted (record { far = 1; frc = 1; fow = 1; bearing = 1 }) (rating_by by_sum at_first g)
 
 abbrev leg_of : ℕ → Leg
 leg_of x = leg_in fork_nodes fork_records x
@@ -122,7 +122,7 @@ leg_of_is = leg_is fork_nodes fork_records tt tt
 has11 : IsTrue (has_line fork_map 11)
 has11 = has_line_is fork_nodes fork_records tt tt 11
 
-takes11 : TakesByDirection other fork_map at_first 11
+takes11 : TakesByDirection by_sum fork_map at_first 11
 takes11 =
     record {
       known = has11;
@@ -131,7 +131,7 @@ takes11 =
           (each_line fork_nodes fork_records tt tt (λ y. not (nat_lt (sum_of (leg_of y)) (sum_of fork11))) refl y h);
     }
 
-not10 : ¬ TakesByDirection other fork_map at_first 10
+not10 : ¬ TakesByDirection by_sum fork_map at_first 10
 not10 k =
     let worse : nat_lt (sum_of (leg fork_map 11)) (sum_of (leg fork_map 10)) ≡ true =
     λ i. nat_lt (sum_of (leg_of_is 11 i)) (sum_of (leg_of_is 10 i)) in
@@ -139,4 +139,4 @@ not10 k =
     cc (worse, best)
 
 pub takes_other : TakesOther
-takes_other = (other, refl, refl, takes11, not10)
+takes_other = (by_sum, refl, refl, takes11, not10)

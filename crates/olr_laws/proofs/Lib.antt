@@ -4,12 +4,15 @@ pub mod ReceiverLemmas
 pub mod MapLemmas
 pub mod AngleLemmas
 pub mod DirectionLemmas
+pub mod ProjectionLemmas
 pub mod RowLemmas
 pub mod MorningLemmas
 pub mod ForkLemmas
+mod DetourLemmas
 pub mod CommandLemmas
 pub mod RunLemmas
 mod AmbiguityLemmas
+mod NodeTestLemmas
 pub mod NamedObstacles
 pub mod DependLemmas
 pub mod ShownLemmas

@@ -104,17 +104,17 @@ module _ (M : Map) (P : Path) (js : List ℕ) (gs : List Leg) (cs : List (ℕ ×
 
   module _ (s : Side) (k y : ℕ) (g : Leg) (on : option_map (line_by s P.lines) (slice_get (kept_points gs P.pos P.neg js) k) ≡ Some y)
       (is_g : leg M y ≡ g) (far : Measure) where
-    same : (x : ℕ) → IsLineAt M P s k x → y ≡ x
-    same x at = let there = line_found s k x at in cc (there, on)
+    pub own_is : (x : ℕ) → IsLineAt M P s k x → y ≡ x
+    own_is x at = let there = line_found s k x at in cc (there, on)
 
     -- line y is distinct at LRP k, by the lines of the map
     pub distinct_at : is_nearest far s (decoded_coord r k) g cs ≡ true → has_no_twin s y g cs ≡ true →
         DistinctAt far M P s k (decoded_coord r k)
     distinct_at near none =
         record {
-          nearest = λ x at. subst (λ (x : ℕ). IsTrue (is_nearest far s (decoded_coord r k) (leg M x) (candidates M))) (same x at)
+          nearest = λ x at. subst (λ (x : ℕ). IsTrue (is_nearest far s (decoded_coord r k) (leg M x) (candidates M))) (own_is x at)
               ((λ i. is_nearest far s (decoded_coord r k) (is_g i) (w.all i)) ∙ near);
-          alone = λ x at. subst (λ (x : ℕ). IsTrue (has_no_twin s x (leg M x) (candidates M))) (same x at)
+          alone = λ x at. subst (λ (x : ℕ). IsTrue (has_no_twin s x (leg M x) (candidates M))) (own_is x at)
               ((λ i. has_no_twin s y (is_g i) (w.all i)) ∙ none);
         }
 
@@ -122,5 +122,5 @@ module _ (M : Map) (P : Path) (js : List ℕ) (gs : List Leg) (cs : List (ℕ ×
     pub stands_at : (slack : ℕ) → stands_out far slack s (decoded_coord r k) y g cs ≡ true → (x : ℕ) → IsLineAt M P s k x →
         IsTrue (stands_out far slack s (decoded_coord r k) x (leg M x) (candidates M))
     stands_at slack out x at =
-        subst (λ (x : ℕ). IsTrue (stands_out far slack s (decoded_coord r k) x (leg M x) (candidates M))) (same x at)
+        subst (λ (x : ℕ). IsTrue (stands_out far slack s (decoded_coord r k) x (leg M x) (candidates M))) (own_is x at)
         ((λ i. stands_out far slack s (decoded_coord r k) y (is_g i) (w.all i)) ∙ out)

@@ -3,17 +3,19 @@
 --         the axes' maximum and their sum, with cosines of at least the least one
 --     Unnamed name es      nothing among these is of the path of that name
 --     StandsFor M p e      e stands in the way of the path's string on M
-use Rattle.std.specs.Prelude.{◌≡◌, ◌≢◌, ℕ, ◌*◌, ◌<◌, ◌≤◌, List, [], None, Contains, IsTrue}
+use Rattle.std.specs.Prelude.{◌≡◌, ◌≢◌, ℕ, ◌+◌, ◌*◌, ◌<◌, ◌≤◌, ℤ, List, [], None, Contains, IsTrue, IsFalse}
+use Rattle.olr_spec.specs.Coordinates.{Coord}
 use Rattle.olr_spec.specs.Map.{Map, IsMap, has_line}
 use Rattle.olr_spec.specs.Extension.{Path, is_path}
 use Rattle.olr_spec.specs.Encoding.{Encodes, Points}
 use Rattle.olr_spec.specs.Reference.{Reference, leg}
 use Rattle.olr_spec.specs.Receiver.{Side, coordinate_on, Measure, decoded_coord, last_number}
 use Rattle.olr_spec.specs.Recovery.{OwnLines, Weighted, Distinct}
-use Rattle.olr_spec.specs.Ambiguity.{least_cosine, usual_slack, obstacles}
+use Rattle.olr_spec.specs.Ambiguity.{least_cosine, is_farther, usual_slack, obstacles}
 use Rattle.olr_commands.specs.State.{Named, Content, IsContent}
 use Rattle.olr_commands.specs.Ambiguities.{NamedObstacle, AskedAmbiguities}
 use Rattle.olr_laws.specs.Directions.{DistinctByDirection}
+use Rattle.olr_laws.specs.Projections.{ProjectingReceiver, DistinctByProjection, IsSnappedAlong}
 
 pub record IsWeightedByLatitude (scale : ℕ) (far : Measure) (M : Map) (r : Reference) : Type 0 where
   pub unit : 0 < scale
@@ -40,6 +42,23 @@ UnnamedIsDistinct =
     → (p : Named) → Contains c.paths p → Unnamed p.name es → (r : Reference) → Encodes c.map p.path (Points r)
     → (scale : ℕ) (far : Measure) → IsWeightedByLatitude scale far c.map r → (slack : ℕ) → slack ≤ scale * usual_slack
     → Distinct far c.map p.path r × DistinctByDirection far slack c.map p.path r
+
+-- such a path is distinct for a receiver that projects onto lines, too, if this counts points near the ends of lines as
+-- these ends, and no point within another line is in the way
+abbrev pub UnnamedByProjection : Type 0
+UnnamedByProjection =
+    (c : Content) → IsContent c → (es : List NamedObstacle) → AskedAmbiguities c None es
+    → (p : Named) → Contains c.paths p → Unnamed p.name es → (r : Reference) → Encodes c.map p.path (Points r)
+    → (scale : ℕ) (R : ProjectingReceiver) → IsWeightedByLatitude scale R.rates.far c.map r
+    → R.rates.slack ≤ scale * usual_slack → IsSnappedAlong R c.map p.path r → DistinctByProjection R 0 c.map p.path r
+
+-- no test of nodes names fewer for all these receivers: where a node isn't farther by more than e units, there is such a
+-- measure, for each map and each LRP, by which it isn't
+abbrev pub NoSharperTest : Type 0
+NoSharperTest =
+    (e : ℕ) (p : ℤ × ℤ) (c d : Coord) → IsFalse (is_farther e p c d) →
+    (far : Measure) × ((q : ℤ × ℤ) (v : Coord) → Weighted (least_cosine q v) 1000000 1000000 far q v)
+    × (far p d ≤ far p c + 1000000 * e)
 
 pub record StandsFor (M : Map) (p : Named) (e : NamedObstacle) : Type 0 where
   pub reference : Reference
