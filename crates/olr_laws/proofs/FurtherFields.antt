@@ -1,12 +1,20 @@
 -- Two further fields that no command has, as the ending of a line adds them, and the laws of lines.
-use Rattle.std.proofs.lemmas.List.{append_assoc}
+use Rattle.std.proofs.lemmas.List.{append_assoc, append-nil}
+use Rattle.csv.specs.Reading.{default_config, strip_bom, Reached}
+use Rattle.csv.specs.declared.parser.State.TheVariants as st
+use Rattle.olr_records.specs.Records.{HoldsList}
+use Rattle.olr_records.specs.ReplyText.{outcome_text}
+use Rattle.olr_run.specs.Output.{records_of, CommandOutcome}
+use Rattle.olr_run.proofs.RecordLemmas.{first_records}
 use Rattle.olr_sessions.specs.Lines.{is_line_end}
-use Rattle.olr_sessions.specs.SingleLines.{most_in_line, start, line_start, next_place, Place, one_a_line_from}
+use Rattle.olr_sessions.specs.SingleLines.{most_in_line, start, line_start, next_place, Place, one_a_line, one_a_line_from}
+use Rattle.olr_sessions.specs.SingleLines.{EachIs, HasNoEnd, lines_of}
 use Rattle.olr_sessions.proofs.LineLemmas.{from_end, from_byte}
-use Rattle.olr_sessions.proofs.LineRecords.{line_gives_one, single_same}
-use Rattle.olr_laws.specs.LineLaws.{LineGivesOne, SingleStay, FirstLine}
-use Rattle.std.proofs.Common.{◌≡◌, ◌∙◌, ℕ, List, [], ◌∷◌, ◌++◌, Ok, Err, refl, sym, ap, codes}
-use Rattle.std.specs.Prelude.{if◌then◌else◌, Bool, true, false, length, Some, ⊤}
+use Rattle.olr_sessions.proofs.LineRecords.{From, after, line_gives_one, line_end, single_same}
+use Rattle.olr_sessions.proofs.LinesRead.{alone, yields, first_mark}
+use Rattle.olr_laws.specs.LineLaws.{LineGivesOne, SingleStay, FirstLine, IsRecordOf, LinesGiveRecords, FormlessRejected}
+use Rattle.std.proofs.Common.{◌≡◌, ◌∙◌, ℕ, List, [], ◌∷◌, ◌++◌, Ok, Err, refl, sym, ap, subst, codes, inl, inr}
+use Rattle.std.specs.Prelude.{if◌then◌else◌, Bool, true, false, length, Some, ⊤, IsOkAnd}
 use Rattle.olr_commands.specs.State.{Command, same_name, Make, Add_path, Set_path, Drop_path, Explain, Begin, Commit, Abort}
 use Rattle.olr_commands.specs.State.{Show, Show_node, Show_line, Depends, Report, Dump, Compact, Ambiguous}
 use Rattle.olr_spec.specs.Coordinates.{Coord}
@@ -243,8 +251,11 @@ ended_rejected g y fields is =
 
 pub one_record : LineGivesOne
 one_record s at b line e rest none end =
-    let h = line_gives_one s b line e rest at none end in
-    (h.fields, h.reads, λ long. let more = h.rejected long in ended_rejected more.0 more.1 h.fields more.2)
+    let h = line_gives_one b line none in (
+      h.fields,
+      h.reads s at (e ∷ rest) (e ∷ From line_start rest) (after e) (From line_start rest) (line_end e rest end),
+      λ long. let more = h.rejected long in ended_rejected more.0 more.1 h.fields more.2,
+    )
 
 pub single_stay : SingleStay
 single_stay bytes h = single_same most_in_line start bytes h
@@ -260,3 +271,27 @@ first_line b bytes h = by_end (is_line_end b) refl
         from_byte most_in_line start b bytes e refl
         ∙ ap (λ (p : Place). b ∷ one_a_line_from most_in_line p bytes) next
         ∙ sym (from_byte most_in_line line_start b bytes e refl)
+
+record_is : (b : ℕ) (line : List ℕ) (none : HasNoEnd (b ∷ line)) → IsRecordOf (b ∷ line) (line_gives_one b line none).fields
+record_is b line none = (
+  alone b line none,
+  λ long.
+      let h = line_gives_one b line none in
+      let more = h.rejected long in
+      ended_rejected more.0 more.1 h.fields more.2,
+)
+
+pub records_of_lines : LinesGiveRecords
+records_of_lines bytes =
+    let y = yields IsRecordOf record_is (strip_bom bytes) in
+    let reached : Reached default_config st.StartRecord (strip_bom (one_a_line bytes)) y.records y.all.0 y.all.1 =
+    subst (λ (xs : List ℕ). Reached default_config st.StartRecord xs y.records y.all.0 y.all.1) (sym (first_mark bytes)) y.all.2 in
+    let all = first_records (one_a_line bytes) y.records y.all.0 y.all.1 reached in
+    let same : records_of (one_a_line bytes) ≡ y.records =
+    all.1 ∙ ap (λ (more : List (List Field)). y.records ++ more) (all.2 y.all.3) ∙ append-nil y.records in
+    subst (λ (rs : List (List Field)). EachIs IsRecordOf (lines_of (strip_bom bytes)) rs) (sym same) y.each
+
+pub formless_rejected : FormlessRejected
+formless_rejected fields bad s t o (inl h) =
+    let now : CommandOutcome s (Err Bad_form) o t = rw bad at h in (ap outcome_text now.0, now.1)
+formless_rejected fields bad s t o (inr h) = absurd (let never : IsOkAnd (Err Bad_form) HoldsList = rw bad at h.0 in never)

@@ -3,13 +3,15 @@ ghost use Rattle.std.specs.Prelude.{◌≡◌, codes, true};
 ghost use Rattle.olr_sessions.specs.SingleLines.{one_a_line};
 ghost use Rattle.olr_laws.specs.LineLaws as Laws;
 
-/// Whole and short lines are read as they are. Each line that isn't empty gives one record; a line with an open quote, and
-/// one that is too long, is rejected alone.
-#[tactic(auto, using(crate::proofs::FurtherFields::one_record, crate::proofs::FurtherFields::single_stay, crate::proofs::FurtherFields::first_line))]
+/// Whole and short lines are read as they are. Each line that isn't empty gives one record, and so the records of an input are
+/// those of its lines; a line with an open quote, and one that is too long, is rejected alone.
+#[tactic(auto, using(crate::proofs::FurtherFields::one_record, crate::proofs::FurtherFields::single_stay, crate::proofs::FurtherFields::first_line, crate::proofs::FurtherFields::records_of_lines, crate::proofs::FurtherFields::formless_rejected))]
 pub fn laws_of_lines()
     ensures same { Laws.SingleStay }
     ensures first { Laws.FirstLine }
     ensures one { Laws.LineGivesOne }
+    ensures records { Laws.LinesGiveRecords }
+    ensures rejected { Laws.FormlessRejected }
 {}
 
 /// Inputs, as they are read.

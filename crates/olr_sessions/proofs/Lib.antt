@@ -11,3 +11,4 @@ pub mod WholeTexts
 pub mod Renewing
 pub mod LineLemmas
 pub mod LineRecords
+pub mod LinesRead

@@ -9,12 +9,13 @@ use Rattle.csv.specs.declared.parser.Action.TheVariants as act
 use Rattle.csv.specs.declared.parser.State.{State}
 use Rattle.csv.specs.declared.parser.State.TheVariants as st
 use Rattle.olr_sessions.specs.Lines.{BetweenRecords, is_line_end}
-use Rattle.olr_sessions.specs.SingleLines.{Place, line_start, next_place, is_quoted, passes, most_in_line}
+use Rattle.olr_sessions.specs.SingleLines.{Place, line_start, next_place, is_quoted, passes, most_in_line, ended}
 use Rattle.olr_sessions.specs.SingleLines.{one_a_line_from, are_single_from, HasNoEnd, ending, ending_of_quotes}
 use Rattle.olr_sessions.specs.declared.single_lines.Mark.TheVariants as mark
 use Rattle.olr_sessions.proofs.LineLemmas.{from_passing, from_end, from_byte, from_long, from_ended, quoted}
-use Rattle.olr_sessions.proofs.LineLemmas.{not_quoted, ended_at_end, neither_is}
+use Rattle.olr_sessions.proofs.LineLemmas.{not_quoted, neither_is}
 use Rattle.olr_sessions.proofs.CsvBytes.{of_byte}
+use Rattle.std.proofs.lemmas.List.{append-nil}
 
 -- ---- lines that are whole and short
 
@@ -44,9 +45,6 @@ IsEnd e = (e ≡ 10) ⊎ (e ≡ 13)
 
 abbrev pub after : ℕ → State
 after e = (in_field default_config e).0
-
-bang : List ℕ
-bang = codes "!"
 
 -- fields, and two further ones
 abbrev pub with_further : List (List ℕ) → List (List ℕ)
@@ -82,12 +80,18 @@ step_stays st.AfterQuote b at h =
 step_stays st.InComment b at h = absurd (grind arith)
 step_stays st.AfterCr b at h = absurd (grind arith)
 
--- ---- the record of a line
+-- ---- the end of a line
 
-pub record ReadsLine (s : State) (f : List (List ℕ)) (x bytes : List ℕ) (e : ℕ) (rest : List ℕ) (single : Bool) : Type 0 where
-  pub fields : List (List ℕ)
-  pub reads : next_record default_config s f x bytes ≡ Some (fields, after e, rest)
-  pub rejected : single ≡ false → (g : List (List ℕ)) × (y : List ℕ) × (fields ≡ with_further (g ++ y ∷ []))
+abbrev pub From : Place → List ℕ → List ℕ
+From p bytes = one_a_line_from most_in_line p bytes
+
+-- What follows a line, and what is given for it: there csv ends the record, and goes on from that state with what is left.
+pub record EndsLine (tail given : List ℕ) (t : State) (left : List ℕ) : Type 0 where
+  pub from : (p : Place) → From p tail ≡ ending_of_quotes p.state ++ given
+  pub plain : (s : State) (f : List (List ℕ)) (x : List ℕ) → begun s ≡ true → is_quoted s ≡ false →
+      next_record default_config s f x given ≡ Some (f ++ x ∷ [], t, left)
+  pub further : (s : State) (f : List (List ℕ)) (x : List ℕ) → begun s ≡ true →
+      next_record default_config s f x (ending s ++ given) ≡ Some (with_further (f ++ x ∷ []), t, left)
 
 plain_end : (s : State) (f : List (List ℕ)) (x : List ℕ) (e : ℕ) (rest : List ℕ) → begun s ≡ true →
     is_quoted s ≡ false → IsEnd e → next_record default_config s f x (e ∷ rest) ≡ Some (f ++ x ∷ [], after e, rest)
@@ -124,35 +128,75 @@ is_end_byte : (e : ℕ) → IsEnd e → is_line_end e ≡ true
 is_end_byte e (inl h) = rw h refl
 is_end_byte e (inr h) = rw h refl
 
-abbrev pub From : Place → List ℕ → List ℕ
-From p bytes = one_a_line_from most_in_line p bytes
+pub line_end : (e : ℕ) (rest : List ℕ) → IsEnd e → EndsLine (e ∷ rest) (e ∷ From line_start rest) (after e) (From line_start rest)
+line_end e rest end =
+    record {
+      from = λ p. from_end most_in_line p e rest (is_end_byte e end);
+      plain = λ s f x at q. plain_end s f x e (From line_start rest) at q end;
+      further = λ s f x at. further_end s f x e (From line_start rest) at end;
+    }
 
-abbrev pub Reads : State → List (List ℕ) → List ℕ → Place → List ℕ → ℕ → List ℕ → Type 0
-Reads s f x p line e rest =
-    ReadsLine s f x (From p (line ++ e ∷ rest)) e (From line_start rest) (are_single_from most_in_line p line)
+-- the end of the input
+plain_last : (s : State) (f : List (List ℕ)) (x : List ℕ) → begun s ≡ true →
+    next_record default_config s f x [] ≡ Some (f ++ x ∷ [], st.StartRecord, [])
+unfolding next_record
+plain_last st.StartRecord f x at = absurd (grind arith)
+plain_last st.StartField f x at = refl
+plain_last st.InField f x at = refl
+plain_last st.InQuoted f x at = refl
+plain_last st.InEscape f x at = absurd (grind arith)
+plain_last st.AfterQuote f x at = refl
+plain_last st.InComment f x at = absurd (grind arith)
+plain_last st.AfterCr f x at = absurd (grind arith)
 
--- the end of a line
-at_line_end : (p : Place) (f : List (List ℕ)) (x : List ℕ) (e : ℕ) (rest : List ℕ) → begun p.state ≡ true → IsEnd e →
-    Reads p.state f x p [] e rest
+further_last : (s : State) (f : List (List ℕ)) (x : List ℕ) → begun s ≡ true →
+    next_record default_config s f x (ending s ++ []) ≡ Some (with_further (f ++ x ∷ []), st.StartRecord, [])
+unfolding next_record
+further_last st.StartRecord f x at = absurd (grind arith)
+further_last st.StartField f x at = refl
+further_last st.InField f x at = refl
+further_last st.InQuoted f x at = refl
+further_last st.InEscape f x at = absurd (grind arith)
+further_last st.AfterQuote f x at = refl
+further_last st.InComment f x at = absurd (grind arith)
+further_last st.AfterCr f x at = absurd (grind arith)
+
+from_nothing : (p : Place) → From p [] ≡ ending_of_quotes p.state ++ []
+unfolding one_a_line_from
+from_nothing p = sym (append-nil (ending_of_quotes p.state))
+
+pub input_end : EndsLine [] [] st.StartRecord []
+input_end = record { from = from_nothing; plain = λ s f x at q. plain_last s f x at; further = further_last }
+
+-- ---- the record of a line
+
+-- the rest of a line gives these fields, whatever follows it
+pub record Reads (s : State) (f : List (List ℕ)) (x : List ℕ) (p : Place) (line : List ℕ) : Type 0 where
+  pub fields : List (List ℕ)
+  pub reads : (tail given : List ℕ) (t : State) (left : List ℕ) → EndsLine tail given t left →
+      next_record default_config s f x (From p (line ++ tail)) ≡ Some (fields, t, left)
+  pub rejected : are_single_from most_in_line p line ≡ false →
+      (g : List (List ℕ)) × (y : List ℕ) × (fields ≡ with_further (g ++ y ∷ []))
+
+at_line_end : (p : Place) (f : List (List ℕ)) (x : List ℕ) → begun p.state ≡ true → Reads p.state f x p []
 unfolding are_single_from
-at_line_end p f x e rest at end = by_quote (is_quoted p.state) refl
+at_line_end p f x at = by_quote (is_quoted p.state) refl
   where
-    given : From p (e ∷ rest) ≡ ending_of_quotes p.state ++ e ∷ From line_start rest
-    given = from_end most_in_line p e rest (is_end_byte e end)
-
-    by_quote : (q : Bool) → is_quoted p.state ≡ q → Reads p.state f x p [] e rest
+    by_quote : (q : Bool) → is_quoted p.state ≡ q → Reads p.state f x p []
     by_quote true q =
         record {
           fields = with_further (f ++ x ∷ []);
-          reads = ap (next_record default_config p.state f x) (given ∙ ap (λ (l : List ℕ). l ++ e ∷ From line_start rest) (quoted p.state q))
-              ∙ further_end p.state f x e (From line_start rest) at end;
+          reads = λ tail given t left ends.
+              ap (next_record default_config p.state f x) (ends.from p ∙ ap (λ (l : List ℕ). l ++ given) (quoted p.state q))
+              ∙ ends.further p.state f x at;
           rejected = λ no. (f, x, refl);
         }
     by_quote false q =
         record {
           fields = f ++ x ∷ [];
-          reads = ap (next_record default_config p.state f x) (given ∙ ap (λ (l : List ℕ). l ++ e ∷ From line_start rest) (not_quoted p.state q))
-              ∙ plain_end p.state f x e (From line_start rest) at q end;
+          reads = λ tail given t left ends.
+              ap (next_record default_config p.state f x) (ends.from p ∙ ap (λ (l : List ℕ). l ++ given) (not_quoted p.state q))
+              ∙ ends.plain p.state f x at q;
           rejected = λ no. absurd (let never : true ≡ false = ap not (sym q) ∙ no in cc);
         }
 
@@ -169,26 +213,30 @@ single_on p q b line no_end less next =
     ∙ ap (λ (x : Place). are_single_from most_in_line x line) next
 
 -- after the first byte, which csv reads from a state
-one_more : (s : State) (p q : Place) (r : State × Action) (f : List (List ℕ)) (x : List ℕ) (b : ℕ) (line : List ℕ) (e : ℕ)
-    (rest : List ℕ) → step default_config s b ≡ r → is_end r.1 ≡ false → is_line_end b ≡ false →
-    nat_lt p.length most_in_line ≡ true → next_place p b ≡ q →
-    Reads r.0 (fields_after r.1 f x) (field_after r.1 b x) q line e rest → Reads s f x p (b ∷ line) e rest
-one_more s p q r f x b line e rest step_is goes_on no_end less next h =
-    record {
-      fields = h.fields;
-      reads = ap (next_record default_config s f x) (from_byte most_in_line p b (line ++ e ∷ rest) no_end less)
-          ∙ of_byte s r.0 r.1 f x (From (next_place p b) (line ++ e ∷ rest)) b step_is
-          ∙ (rw (goes_on, next) h.reads);
-      rejected = λ no. h.rejected (sym (single_on p q b line no_end less next) ∙ no);
-    }
+module _ (s : State) (p q : Place) (r : State × Action) (f : List (List ℕ)) (x : List ℕ) (b : ℕ) (line : List ℕ)
+    (step_is : step default_config s b ≡ r) (goes_on : is_end r.1 ≡ false) (no_end : is_line_end b ≡ false)
+    (less : nat_lt p.length most_in_line ≡ true) (next : next_place p b ≡ q)
+    (h : Reads r.0 (fields_after r.1 f x) (field_after r.1 b x) q line) where
+  reads_more : (tail given : List ℕ) (t : State) (left : List ℕ) → EndsLine tail given t left →
+      next_record default_config s f x (From p ((b ∷ line) ++ tail)) ≡ Some (h.fields, t, left)
+  reads_more tail given t left ends =
+      ap (next_record default_config s f x) (from_byte most_in_line p b (line ++ tail) no_end less)
+      ∙ of_byte s r.0 r.1 f x (From (next_place p b) (line ++ tail)) b step_is
+      ∙ (rw (goes_on, next) (h.reads tail given t left ends))
+
+  rejected_more : are_single_from most_in_line p (b ∷ line) ≡ false →
+      (g : List (List ℕ)) × (y : List ℕ) × (h.fields ≡ with_further (g ++ y ∷ []))
+  rejected_more long = h.rejected (sym (single_on p q b line no_end less next) ∙ long)
+
+  one_more : Reads s f x p (b ∷ line)
+  one_more = record { fields = h.fields; reads = reads_more; rejected = rejected_more }
 
 -- the rest of a line
-line_reads : (line : List ℕ) (p : Place) (f : List (List ℕ)) (x : List ℕ) (e : ℕ) (rest : List ℕ) →
-    begun p.state ≡ true → p.mark ≡ mark.Over → p.length ≤ most_in_line → HasNoEnd line → IsEnd e →
-    Reads p.state f x p line e rest
-line_reads [] p f x e rest at over short none end = at_line_end p f x e rest at end
-line_reads (b ∷ line) p f x e rest at over short none end =
-    by_length (nat_lt p.length most_in_line) refl (λ q g y a m l. line_reads line q g y e rest a m l no_more end)
+line_reads : (line : List ℕ) (p : Place) (f : List (List ℕ)) (x : List ℕ) → begun p.state ≡ true →
+    p.mark ≡ mark.Over → p.length ≤ most_in_line → HasNoEnd line → Reads p.state f x p line
+line_reads [] p f x at over short none = at_line_end p f x at
+line_reads (b ∷ line) p f x at over short none =
+    by_length (nat_lt p.length most_in_line) refl (λ q g y a m l. line_reads line q g y a m l no_more)
   where
     no_end : is_line_end b ≡ false
     no_end = grind arith
@@ -204,18 +252,19 @@ line_reads (b ∷ line) p f x e rest at over short none end =
 
     by_length : (l : Bool) → nat_lt p.length most_in_line ≡ l →
         ((q : Place) (g : List (List ℕ)) (y : List ℕ) → begun q.state ≡ true → q.mark ≡ mark.Over
-        → q.length ≤ most_in_line → Reads q.state g y q line e rest) → Reads p.state f x p (b ∷ line) e rest
+        → q.length ≤ most_in_line → Reads q.state g y q line) → Reads p.state f x p (b ∷ line)
     by_length true less next =
         let stays = step_stays p.state b at no_end in
-        one_more p.state p q r f x b line e rest refl stays.0 no_end less (next_is p b over no_end)
+        one_more p.state p q r f x b line refl stays.0 no_end less (next_is p b over no_end)
         (next q (fields_after r.1 f x) (field_after r.1 b x) stays.1 refl (grind arith))
     by_length false less next =
         record {
           fields = with_further (f ++ x ∷ []);
-          reads = ap (next_record default_config p.state f x)
-              (from_long most_in_line p b (line ++ e ∷ rest) no_end less (let long : nat_lt most_in_line p.length ≡ false = grind arith in neither_is most_in_line p.length less long)
-              ∙ ap (λ (l : List ℕ). ending p.state ++ l) (from_ended line (e ∷ rest) no_more ∙ ended_at_end e rest (is_end_byte e end)))
-              ∙ further_end p.state f x e (From line_start rest) at end;
+          reads = λ tail given t left ends.
+              ap (next_record default_config p.state f x)
+              (from_long most_in_line p b (line ++ tail) no_end less (let long : nat_lt most_in_line p.length ≡ false = grind arith in neither_is most_in_line p.length less long)
+              ∙ ap (λ (l : List ℕ). ending p.state ++ l) (from_ended line tail no_more ∙ ends.from (ended most_in_line)))
+              ∙ ends.further p.state f x at;
           rejected = λ no. (f, x, refl);
         }
 
@@ -224,20 +273,43 @@ begins_field : (s : State) (b : ℕ) → BetweenRecords s → is_line_end b ≡ 
 begins_field s b (inl e) no_end = rw e (grind arith)
 begins_field s b (inr e) no_end = rw e (grind arith)
 
--- a line that isn't empty gives one record, and csv reads what follows as if it began there
-pub line_gives_one : (s : State) (b : ℕ) (line : List ℕ) (e : ℕ) (rest : List ℕ) → BetweenRecords s →
-    HasNoEnd (b ∷ line) → IsEnd e → Reads s [] [] line_start (b ∷ line) e rest
-line_gives_one s b line e rest at none end =
-    let no_end : is_line_end b ≡ false = grind arith in
-    let no_more : HasNoEnd line = grind arith in
-    let r = step default_config st.StartField b in
-    let q = place_in r.0 in
-    let stays = step_stays st.StartField b refl no_end in
-    let next : next_place line_start b ≡ q =
-    next_is line_start b refl no_end
-    ∙ ap (λ (t : State × Action). place_in t.0) (begins_field st.StartRecord b (inl refl) no_end) in
-    one_more s line_start q r [] [] b line e rest (begins_field s b at no_end) stays.0 no_end refl next
-    (line_reads line q (fields_after r.1 [] []) (field_after r.1 b []) e rest stays.1 refl (omega arith) no_more end)
+-- a line that isn't empty gives one record, from either state between records
+pub record GivesOne (line : List ℕ) : Type 0 where
+  pub fields : List (List ℕ)
+  pub reads : (s : State) → BetweenRecords s → (tail given : List ℕ) (t : State) (left : List ℕ) →
+      EndsLine tail given t left → next_record default_config s [] [] (From line_start (line ++ tail)) ≡ Some (fields, t, left)
+  pub rejected : are_single_from most_in_line line_start line ≡ false →
+      (g : List (List ℕ)) × (y : List ℕ) × (fields ≡ with_further (g ++ y ∷ []))
+
+pub line_gives_one : (b : ℕ) (line : List ℕ) → HasNoEnd (b ∷ line) → GivesOne (b ∷ line)
+line_gives_one b line none =
+    record {
+      fields = rest.fields;
+      reads = λ s at. reads_more s line_start q r [] [] b line (begins_field s b at no_end) stays.0 no_end refl next rest;
+      rejected = rejected_more st.StartRecord line_start q r [] [] b line (begins_field st.StartRecord b (inl refl) no_end) stays.0
+          no_end refl next rest;
+    }
   where
-    place_in : State → Place
-    place_in t = record { mark = mark.Over; state = t; length = 1 }
+    no_end : is_line_end b ≡ false
+    no_end = grind arith
+
+    no_more : HasNoEnd line
+    no_more = grind arith
+
+    r : State × Action
+    r = step default_config st.StartField b
+
+    q : Place
+    q = record { mark = mark.Over; state = r.0; length = 1 }
+
+    stays : Stays r
+    stays = step_stays st.StartField b refl no_end
+
+    next : next_place line_start b ≡ q
+    next =
+        next_is line_start b refl no_end
+        ∙ ap (λ (t : State × Action). record { mark = mark.Over; state = t.0; length = 1 })
+        (begins_field st.StartRecord b (inl refl) no_end)
+
+    rest : Reads r.0 (fields_after r.1 [] []) (field_after r.1 b []) q line
+    rest = line_reads line q (fields_after r.1 [] []) (field_after r.1 b []) stays.1 refl (omega arith) no_more

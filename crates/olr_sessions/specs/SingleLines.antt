@@ -4,9 +4,11 @@
 --     one_a_line bytes      the bytes, but a line whose quotes are open at its end, or that is longer than 16 MB, ends with
 --         two further fields, !, after its quotes are closed, and what follows the first 16 MB is left out
 --     are_single bytes      no line is such
+--     lines_of bytes      the lines that aren't empty
+--     EachIs Is lines records      there is one record for each line, and this is known of it
 --     left remaining s      what is left of a source that gives its input so
 use Rattle.std.specs.Prelude.{◌+◌, ◌^◌, ℕ, ◌==◌, Bool, true, false, not, ◌&&◌, ◌||◌, if◌then◌else◌, List, [], ◌∷◌, ◌++◌, drop, take, codes, ◌≡◌}
-use Rattle.std.specs.Prelude.{nat_lt, option_map}
+use Rattle.std.specs.Prelude.{nat_lt, option_map, ⊤}
 use Rattle.std.specs.List.{list_any}
 use Rattle.csv.specs.Machine.{step}
 use Rattle.csv.specs.Reading.{default_config}
@@ -110,6 +112,27 @@ PassUpTo p bytes n q =
 
 abbrev pub HasNoEnd : List ℕ → Type 0
 HasNoEnd bytes = list_any is_line_end bytes ≡ false
+
+-- ---- the lines that aren't empty
+
+abbrev pub if_any : List ℕ → List (List ℕ)
+if_any [] = []
+if_any (b ∷ line) = (b ∷ line) ∷ []
+
+-- after the first bytes of a line
+unfoldable pub lines_from : List ℕ → List ℕ → List (List ℕ)
+lines_from line [] = if_any line
+lines_from line (b ∷ bytes) =
+    if is_line_end b then if_any line ++ lines_from [] bytes else lines_from (line ++ b ∷ []) bytes
+
+abbrev pub lines_of : List ℕ → List (List ℕ)
+lines_of bytes = lines_from [] bytes
+
+abbrev pub EachIs : (List ℕ → List (List ℕ) → Type 0) → List (List ℕ) → List (List (List ℕ)) → Type 0
+EachIs Is [] [] = ⊤
+EachIs Is [] (r ∷ rs) = ⊥
+EachIs Is (line ∷ lines) [] = ⊥
+EachIs Is (line ∷ lines) (r ∷ rs) = Is line r × EachIs Is lines rs
 
 -- ---- a source
 
