@@ -1,6 +1,6 @@
 -- What the command-line arguments ask for.
---     keep_app      the program's arguments, -m FILE, -s, -l LOG, --new and --compact-at SIZE, beside the flags for help and
---         the version
+--     keep_app      the program's arguments, -m FILE, -s, --lines, -l LOG, --new and --compact-at SIZE, beside the flags for
+--         help and the version
 --     Options, options arguments      what they ask for, by clap's matches of the arguments
 --     is_asked_for kind      the error is no fault: help or the version was asked for
 --     IsOptionsFault kinds fault      clap's error is of one of these kinds, or an allocation failed
@@ -27,6 +27,9 @@ file_rule = record (new_rule (codes "file")) { short = Some 109; action = Some S
 abbrev pub stop_rule : Rule
 stop_rule = record (new_rule (codes "stop")) { short = Some 115; action = Some SetTrue }
 
+abbrev pub lines_rule : Rule
+lines_rule = record (new_rule (codes "lines")) { long = Some (codes "lines"); action = Some SetTrue }
+
 abbrev pub log_rule : Rule
 log_rule = record (new_rule (codes "log")) { short = Some 108; action = Some Set; value_names = 1 }
 
@@ -39,13 +42,15 @@ size_rule =
 
 abbrev pub keep_app : App
 keep_app =
-    with_rule (with_rule (with_rule (with_rule (with_rule described_app file_rule) stop_rule) log_rule) new_log_rule)
+    with_rule
+    (with_rule (with_rule (with_rule (with_rule (with_rule described_app file_rule) stop_rule) lines_rule) log_rule) new_log_rule)
     size_rule
 
 -- the size at which a log is compacted is as it was written
 pub record Options : Type 0 where
   pub file : Option (List ℕ)
   pub stop : Bool
+  pub lines : Bool
   pub log : Option (List ℕ)
   pub new : Bool
   pub compact_at : Option (List ℕ)
@@ -60,6 +65,7 @@ options arguments =
     record {
       file = first_of (codes "file") (matches_of keep_app arguments);
       stop = is_set (first_of (codes "stop") (matches_of keep_app arguments));
+      lines = is_set (first_of (codes "lines") (matches_of keep_app arguments));
       log = first_of (codes "log") (matches_of keep_app arguments);
       new = is_set (first_of (codes "new") (matches_of keep_app arguments));
       compact_at = first_of (codes "compact-at") (matches_of keep_app arguments);
@@ -70,6 +76,7 @@ options_of o =
     record {
       file = option_map (λ s. s.now) o.file;
       stop = o.stop;
+      lines = o.lines;
       log = option_map (λ s. s.now) o.log;
       new = o.new;
       compact_at = option_map (λ s. s.now) o.compact_at;

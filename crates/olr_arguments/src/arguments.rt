@@ -7,6 +7,8 @@ pub struct Options<'a> {
     pub file: Option<&'a str>,
     /// Whether to stop at the first rejected command.
     pub stop: bool,
+    /// Whether each line of the file and of standard input is one record.
+    pub lines: bool,
     /// The log from which to start, and in which the accepted changes are kept.
     pub log: Option<&'a str>,
     /// Whether to make the log.

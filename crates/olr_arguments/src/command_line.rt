@@ -8,7 +8,7 @@ ghost use Rattle.clap.specs.Kinds.{Kinds, HasKind};
 ghost use Rattle.clap.specs.Values.{kind_of};
 ghost use Rattle.clap.specs.declared.error.kind.ErrorKind.TheVariants as kinds;
 ghost use Rattle.clap.specs.Walk.{rule_of};
-ghost use Rattle.olr_arguments.specs.Options.{described_app, file_rule, stop_rule, log_rule, new_log_rule, size_rule, keep_app, options, options_of, is_set, IsOptionsFault};
+ghost use Rattle.olr_arguments.specs.Options.{described_app, file_rule, stop_rule, lines_rule, log_rule, new_log_rule, size_rule, keep_app, options, options_of, is_set, IsOptionsFault};
 
 use crate::arguments::{Options, OptionsFault};
 use clap::error::ErrorKind;
@@ -53,6 +53,17 @@ fn stop_argument<'a>(alloc: Global) -> Arg<'a>
         .short('s')
         .action(ArgAction::SetTrue)
         .help("Stops at the first rejected record")
+}
+
+/// The argument that asks for one record a line.
+fn lines_argument<'a>(alloc: Global) -> Arg<'a>
+    ensures rule { rule_of result ≡ lines_rule }
+    ensures local { result.global ≡ false }
+{
+    Arg::new(alloc, "lines")
+        .long("lines")
+        .action(ArgAction::SetTrue)
+        .help("Takes each line as one record, also one with an open quote")
 }
 
 /// The argument that names the log.
@@ -107,6 +118,7 @@ fn command<'a>(alloc: Global) -> Result<Command<'a>, AllocError>
     described(alloc)
         .arg(file_argument(alloc))?
         .arg(stop_argument(alloc))?
+        .arg(lines_argument(alloc))?
         .arg(log_argument(alloc))?
         .arg(new_argument(alloc))?
         .arg(size_argument(alloc))
@@ -156,6 +168,7 @@ pub fn options<'a, S: AsStr>(
             let options = Options {
                 file: matches.get_str("file"),
                 stop: is_given(matches.get_str("stop")),
+                lines: is_given(matches.get_str("lines")),
                 log: matches.get_str("log"),
                 new: is_given(matches.get_str("new")),
                 compact_at: matches.get_str("compact-at"),

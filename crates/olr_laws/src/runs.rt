@@ -29,13 +29,15 @@ pub fn laws_of_runs()
 #[tactic(auto, unfolding(clap::proofs::OnLiterals::clap_on_literals))]
 pub fn rows_options()
     ensures none { options (codes "olr-keep" ∷ [])
-        ≡ record { file = None; stop = false; log = None; new = false; compact_at = None } }
+        ≡ record { file = None; stop = false; lines = false; log = None; new = false; compact_at = None } }
     ensures both { options (codes "olr-keep" ∷ codes "-s" ∷ codes "-m" ∷ codes "f" ∷ [])
-        ≡ record { file = Some (codes "f"); stop = true; log = None; new = false; compact_at = None } }
+        ≡ record { file = Some (codes "f"); stop = true; lines = false; log = None; new = false; compact_at = None } }
     ensures joined { options (codes "olr-keep" ∷ codes "-smf" ∷ [])
-        ≡ record { file = Some (codes "f"); stop = true; log = None; new = false; compact_at = None } }
+        ≡ record { file = Some (codes "f"); stop = true; lines = false; log = None; new = false; compact_at = None } }
     ensures log { options (codes "olr-keep" ∷ codes "-l" ∷ codes "f" ∷ codes "--new" ∷ codes "--compact-at" ∷ codes "5M" ∷ [])
-        ≡ record { file = None; stop = false; log = Some (codes "f"); new = true; compact_at = Some (codes "5M") } }
+        ≡ record { file = None; stop = false; lines = false; log = Some (codes "f"); new = true; compact_at = Some (codes "5M") } }
+    ensures lines { options (codes "olr-keep" ∷ codes "--lines" ∷ [])
+        ≡ record { file = None; stop = false; lines = true; log = None; new = false; compact_at = None } }
     ensures takes_none { takes keep_app (codes "olr-keep" ∷ []) ≡ true }
     ensures takes_both { takes keep_app (codes "olr-keep" ∷ codes "-s" ∷ codes "-m" ∷ codes "f" ∷ []) ≡ true }
     ensures unknown { fault_of keep_app (codes "olr-keep" ∷ codes "-x" ∷ []) ≡ kind.UnknownArgument ∷ [] }

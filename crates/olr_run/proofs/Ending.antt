@@ -1,5 +1,6 @@
 -- The ends of the program.
-use Rattle.olr_run.proofs.Common.{Bor, fault_of, Registered, Opens, Ends, Claims, Known, known_records, known_both}
+use Rattle.olr_run.proofs.Common.{Bor, fault_of, Registered, Opens, Ends, Claims, Known, records_read}
+use Rattle.olr_sessions.specs.Inputs.{read_as}
 use Rattle.olr_run.proofs.Common.{RanOn, FaultedOn, HasTooMany, exit_code, RunFault, Options, keep_app, options, IsFile}
 use Rattle.olr_run.proofs.Common.{OpensFile, Not_opened, Cut_off, known_file, IfErr}
 use Rattle.std.proofs.Common.{arith, ◌≡◌, ℕ, Bool, List, [], Option, Some, None, Result, Ok, Err, refl, sym, ap, ◌∙◌, ◌⊎◌, inl, inr}
@@ -90,11 +91,10 @@ module _ {O F E : Type 0} (call : Once O (Bor (List ℕ) × Unit {0}) (Result F 
 
     pub ended_as : (file : Option F) (new : Registered) (mid later : Known) (r end : Result Status RunFault) (code : ℕ) →
         OpensFile call opener o.file (Ok file)
-        → IfOk r (RanOn Claims o.stop old (known_both (known_records (known_file remaining file)) (known_records input))
-        before new mid)
-        → IfErr r (FaultedOn Claims o.stop old
-        (known_both (known_records (known_file remaining file)) (known_records input)) before new mid)
-        → IfErr r (λ e. e ≡ fault.TooMany → HasTooMany (known_file remaining file) ⊎ HasTooMany input)
+        → IfOk r (RanOn Claims o.stop old (records_read o.lines (known_file remaining file) input) before new mid)
+        → IfErr r (FaultedOn Claims o.stop old (records_read o.lines (known_file remaining file) input) before new mid)
+        → IfErr r (λ e. e ≡ fault.TooMany
+        → HasTooMany (read_as o.lines (known_file remaining file)) ⊎ HasTooMany (read_as o.lines input))
         → SendsAnswers r mid later end
         → code ≡ exit_code end → Ends arguments (Opens call remaining opener) input old before new later code
     ended_as file new mid later (Ok end) r code h run _ _ (kept, inl same) status =
@@ -106,6 +106,6 @@ module _ {O F E : Type 0} (call : Once O (Bor (List ℕ) × Unit {0}) (Result F 
         (λ many. let never : fault.Write ≡ fault.TooMany = many in cc) (status ∙ ap exit_code unsent.1)
     ended_as file new mid later (Err e) r code h _ run many (kept, inl same) status =
         Cut_off none (known_file remaining file) (opened file h) e
-        (faulted_sent (options arguments).stop old _ before new mid later e kept (rw is at run)) many
+        (faulted_sent (options arguments).stop old _ before new mid later e kept (rw is at run)) (rw is at many)
         (status ∙ ap exit_code same)
     ended_as file new mid later (Err e) r code h _ run many (kept, inr unsent) status = absurd (let never = unsent.0 in cc)

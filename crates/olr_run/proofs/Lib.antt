@@ -15,3 +15,4 @@ pub mod LoggedRuns
 pub mod Restoring
 pub mod LogRecords
 pub mod FromLogs
+pub mod ReadInputs

@@ -1,5 +1,5 @@
 -- How the program ends, given its command-line arguments, the result of opening the file, and the bytes of file and
--- input.
+-- input; with --lines, each of their lines is one record.
 --     SendsAnswers ended before later r      how a run ends once its answers have been sent
 --     Ends arguments Opened input old before new later code      the register, what is written and the exit status
 use Rattle.std.specs.Prelude.{◌≡◌, ℕ, Bool, true, ◌||◌, List, [], Option, Some, None, Result, Ok, Err, ◌⊎◌, IsTrue, is_ok, is_some}
@@ -10,7 +10,8 @@ use Rattle.olr_arguments.specs.Opens.{IsFile}
 use Rattle.olr_arguments.specs.Options.{Options, keep_app, options}
 use Rattle.olr_register.specs.Registered.{Registered}
 use Rattle.olr_run.specs.Output.{Claims}
-use Rattle.olr_run.specs.Runs.{known_records, known_both, RanOn, FaultedOn, HasTooMany}
+use Rattle.olr_run.specs.Runs.{records_read, RanOn, FaultedOn, HasTooMany}
+use Rattle.olr_sessions.specs.Inputs.{read_as}
 use Rattle.olr_sessions.specs.Sessions.{Known}
 use Rattle.olr_sessions.specs.Statuses.{exit_code}
 use Rattle.olr_sessions.specs.declared.ends.RunFault.{RunFault}
@@ -39,12 +40,11 @@ pub data Ends (arguments : List (List ℕ)) (Opened : List ℕ → Option Known 
       → Ends arguments Opened input old before new later code
   Ran : fault_of keep_app arguments ≡ [] → (file : Known) → IsFile (options arguments).file Opened file →
       (end : Status) →
-      RanOn Claims (options arguments).stop old (known_both (known_records file) (known_records input)) before new
-      later end
+      RanOn Claims (options arguments).stop old (records_read (options arguments).lines file input) before new later end
       → code ≡ exit_code (Ok end) → Ends arguments Opened input old before new later code
   Cut_off : fault_of keep_app arguments ≡ [] → (file : Known) → IsFile (options arguments).file Opened file →
       (e : RunFault) →
-      FaultedOn Claims (options arguments).stop old (known_both (known_records file) (known_records input)) before new
-      later
-      e → (e ≡ fault.TooMany → HasTooMany file ⊎ HasTooMany input) → code ≡ exit_code (Err e) →
-      Ends arguments Opened input old before new later code
+      FaultedOn Claims (options arguments).stop old (records_read (options arguments).lines file input) before new later e
+      → (e ≡ fault.TooMany
+      → HasTooMany (read_as (options arguments).lines file) ⊎ HasTooMany (read_as (options arguments).lines input))
+      → code ≡ exit_code (Err e) → Ends arguments Opened input old before new later code

@@ -12,7 +12,7 @@ use Rattle.olr_journal.specs.declared.folder.Folder as folder
 use Rattle.olr_journal.specs.declared.log_file.LogFile.{LogFile}
 use Rattle.olr_register.specs.Registered.{Registered}
 use Rattle.olr_run.specs.LogEnds.{Begins, LastsOn, Unbegun}
-use Rattle.olr_run.specs.Runs.{Records, RanOn, FaultedOn, known_records, known_both}
+use Rattle.olr_run.specs.Runs.{Records, RanOn, FaultedOn, records_read}
 use Rattle.olr_sessions.specs.Buffers.{written}
 use Rattle.olr_sessions.specs.Sessions.{Known}
 use Rattle.olr_sessions.specs.Statuses.{exit_code}
@@ -42,7 +42,7 @@ module _ {D F : Type 0} {d : disk.Ghosts D} {f : folder.Ghosts F D} {W : Type 0}
           LogEnds asked left code
       From_log : (file : Known) → IsFile asked.file Opened file → (log last : LogFile D F d f) → opened ≡ Some log →
           left ≡ Some last
-          → FromLog log last asked.stop (known_both (known_records file) (known_records input)) o p code
+          → FromLog log last asked.stop (records_read asked.lines file input) o p code
           → LogEnds asked left code
 
   -- a run is made only if the arguments have no fault

@@ -5,6 +5,7 @@
 --     RanIn, CutIn      a run in a session: each record was taken and answered before the next
 --     known_records known      the records of known bytes
 --     known_both      those of a file followed by those of the input
+--     records_read single file input      those of both inputs, read as they are or one record a line
 --     RanOn, FaultedOn      a run over known records
 use Rattle.std.specs.Prelude.{◌≡◌, ◌≢◌, ℕ, ◌<◌, Bool, ◌&&◌, List, [], ◌∷◌, ◌++◌, length, map, Option, Some, None}
 use Rattle.std.specs.Prelude.{option_map, Result, Ok, Err, IfSome, is_ok, IsFalse, ◌⊎◌, ⊤}
@@ -24,6 +25,7 @@ use Rattle.olr_register.specs.Registered.{Registered}
 use Rattle.olr_run.specs.Output as output
 use Rattle.olr_run.specs.Output.{SoundOutcome, Claims, StopsAtFault, any_refused, run_status, Ran, Faulted, records_of}
 use Rattle.olr_run.specs.Output.{most_records}
+use Rattle.olr_sessions.specs.Inputs.{read_as}
 use Rattle.olr_sessions.specs.Sessions.{Known, Event, Took, Ended, Not_taken, Wrote, Cut, Renewed, History, exchanges}
 use Rattle.olr_sessions.specs.Sessions.{IsOfTaking}
 use Rattle.olr_sessions.specs.Sessions as event
@@ -187,6 +189,9 @@ FaultedOn Each stop old records before new later e =
     IfSome records (λ rs. (s : State) → Represents old.kept s
     → (t : State) × Represents new.kept t × (written : List ℕ) × Appends before later written
     × Faulted Each stop s rs t written e)
+
+abbrev pub records_read : Bool → Known → Known → Records
+records_read single file input = known_both (known_records (read_as single file)) (known_records (read_as single input))
 
 abbrev pub HasTooMany : Known → Type 0
 HasTooMany known = IfSome known (λ input. most_records < length (records_of input))

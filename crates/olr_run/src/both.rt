@@ -2,12 +2,15 @@
 
 ghost use Rattle.std.specs.Prelude.{◌≡◌, ◌⊎◌, IfOk, IfErr};
 ghost use Rattle.olr_run.specs.Output.{greater, Claims};
-ghost use Rattle.olr_run.specs.Runs.{known_file, known_records, known_both, status_of, RanOn, FaultedOn, HasTooMany};
+ghost use Rattle.olr_run.specs.Runs.{known_file, known_records, known_both, records_read, status_of, RanOn, FaultedOn};
+ghost use Rattle.olr_run.specs.Runs.{HasTooMany};
+ghost use Rattle.olr_sessions.specs.Inputs.{read_as, read_from};
 
 use crate::records::run;
+use olr_arguments::Options;
 use olr_register::Register;
-use olr_sessions::{RunFault, Status};
-use std::alloc::Global;
+use olr_sessions::{Input, RunFault, Status};
+use std::alloc::{AllocError, Global};
 use std::io::{Read, Write};
 
 /// The greater of two statuses.
@@ -71,4 +74,58 @@ pub fn run_both<F: Read + Drop, R: Read + Drop, W: Write>(
     }
     let second = run(alloc, register, input, output, stop)?;
     Ok(greater_of(first, second))
+}
+
+/// A file, if there is one, read as it is or one record a line.
+fn read_file<F: Read + Drop>(
+    alloc: Global,
+    file: Option<F>,
+    single: bool,
+) -> Result<Option<Input<F>>, AllocError>
+    ensures { IfOk result (λ f. known_file (read_from F.remaining) f ≡ read_as single (known_file F.remaining file)) }
+{
+    match file {
+        Some(file) => Ok(Some(Input::new(alloc, file, single)?)),
+        None => Ok(None),
+    }
+}
+
+/// A file, if there is one, and an input, read as they are or one record a line.
+pub(crate) fn read_inputs<F: Read + Drop, R: Read + Drop>(
+    alloc: Global,
+    file: Option<F>,
+    input: R,
+    single: bool,
+) -> Result<(Option<Input<F>>, Input<R>), AllocError>
+    ensures file { IfOk result (λ r.
+        known_file (read_from F.remaining) r.0 ≡ read_as single (known_file F.remaining file)) }
+    ensures input { IfOk result (λ r. read_from R.remaining r.1 ≡ read_as single (R.remaining input)) }
+{
+    let file = read_file(alloc, file, single)?;
+    let input = Input::new(alloc, input, single)?;
+    Ok((file, input))
+}
+
+/// Runs the commands of a file, if there is one, and then those of the input, as `run_both` does, each read as it is or one
+/// record a line.
+pub(crate) fn run_inputs<F: Read + Drop, R: Read + Drop, W: Write>(
+    alloc: Global,
+    register: &mut Register,
+    file: Option<F>,
+    input: R,
+    output: &mut W,
+    asked: &Options<'_>,
+) -> Result<Status, RunFault>
+    ensures ran { IfOk result (RanOn Claims asked.now.stop register.old
+        (records_read asked.now.lines (known_file F.remaining file) (R.remaining input))
+        (W.contents output.old) register.new (W.contents output.new)) }
+    ensures faulted { IfErr result (FaultedOn Claims asked.now.stop register.old
+        (records_read asked.now.lines (known_file F.remaining file) (R.remaining input))
+        (W.contents output.old) register.new (W.contents output.new)) }
+    ensures too_many { IfErr result (λ e. e ≡ RunFault.TooMany → HasTooMany
+        (read_as asked.now.lines (known_file F.remaining file)) ⊎ HasTooMany (read_as asked.now.lines (R.remaining input))) }
+{
+    register.is_sound();
+    let (file, input) = read_inputs(alloc, file, input, asked.lines)?;
+    run_both(alloc, register, file, input, output, asked.stop)
 }

@@ -11,6 +11,7 @@ ghost use Rattle.olr_sessions.specs.Buffers.{held};
 ghost use Rattle.olr_sessions.specs.Statuses.{exit_code};
 ghost use Rattle.olr_sessions.specs.Sessions.{most_held};
 
+use crate::both::read_inputs;
 use crate::logged::run_with_log;
 use crate::starts::{StartFault, begin_with};
 use crate::streams::NO_FILE;
@@ -268,6 +269,9 @@ pub fn with_log<
         name,
         renewed_from,
         stop: asked.stop,
+    };
+    let Ok((file, input)) = read_inputs(alloc, file, input, asked.lines) else {
+        return (report_fault(RunFault::Memory, errors), Some(log));
     };
     let (status, log) = run_from_log(alloc, log, &run, file, input, output, errors);
     (status, Some(log))

@@ -11,7 +11,7 @@ ghost use Rattle.std.specs.Result.{result_ok};
 ghost use Rattle.olr_sessions.specs.Buffers.{held, written};
 ghost use Rattle.olr_sessions.specs.Sessions.{most_held};
 
-use crate::both::run_both;
+use crate::both::run_inputs;
 use crate::from_log::with_log;
 use olr_arguments::{Options, WRONG_ARGUMENTS, explain, open_file, options};
 use olr_journal::{Folder, LogFile, OpenError};
@@ -83,12 +83,12 @@ fn without_log<
         let _ = errors.write_all(b"olr-keep: cannot open the command file\n");
         return NO_FILE;
     };
-    let ended = run_both(alloc, register, file, input, output, asked.stop);
+    let ended = run_inputs(alloc, register, file, input, output, asked);
     end_status(send_answers(ended, output), errors)
 }
 
 /// Reads the arguments, opens the command file if they name one, carries out its commands and then those of the input,
-/// and returns the exit status. Replies, and help if it was asked for, are written to `output`, and all of them have been
+/// and returns the exit status. With `--lines`, each line of both is one record. Replies, and help if it was asked for, are written to `output`, and all of them have been
 /// sent if the status is 0 or 1; otherwise the last ones may still be held, at most 64 KB. Messages about faults are
 /// written to `errors`. It keeps no log: arguments that ask for one have status 2.
 pub fn program<

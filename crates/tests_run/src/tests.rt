@@ -416,6 +416,19 @@ fn whole_programs(rt: HostRuntime) {
     expect_program(&rt, named, Some(node), outage(), 3, "ok,0\n", unread);
 }
 
+#[test]
+fn one_record_a_line(rt: HostRuntime) {
+    let open = "node,1,0,0\r\nshow,\"a\nnode,2,0,0\n\nnode,\"3,0,0";
+    let plain = "ok,0\nfault,1,Syntax\n";
+    let single = "ok,0\nfault,1,Syntax\nok,0\nfault,1,Syntax\n";
+    let both = "ok,0\nfault,1,Syntax\nok,0\nfault,1,Syntax\nok,0\n";
+    let lines = ["olr-keep", "--lines"].as_slice();
+    let named = ["olr-keep", "--lines", "-m", "f"].as_slice();
+    expect_program(&rt, &["olr-keep"], None, whole(open), 1, plain, "");
+    expect_program(&rt, lines, None, whole(open), 1, single, "");
+    expect_program(&rt, named, Some(open), whole("node,4,0,0\n"), 1, both, "");
+}
+
 /// Runs the program with arguments, and a writer that fails at this call or takes nothing: the bytes before were sent,
 /// and none afterwards.
 fn expect_write_fault<R: Abort + AllocGlobal>(
@@ -530,6 +543,7 @@ Usage: olr-keep [OPTIONS]
 Options:
   -m <FILE>                Reads the records of FILE before those of standard input
   -s                       Stops at the first rejected record
+      --lines              Takes each line as one record, also one with an open quote
   -l <LOG>                 Starts from the records of LOG, and keeps each accepted change there
       --new                Makes LOG, which must not exist
       --compact-at <SIZE>  Replaces LOG by a dump when it has SIZE bytes, as 500M

@@ -10,9 +10,11 @@ returns c =
     ∙ ap₂ with_rule c.described.ensures c.file_argument.ensures.rule in
     let second = c.in_ok-arg-2.ensures.shape c.stop_argument.ensures.local
     ∙ ap₂ with_rule first c.stop_argument.ensures.rule in
-    let third = c.in_ok-arg-3.ensures.shape c.log_argument.ensures.local
-    ∙ ap₂ with_rule second c.log_argument.ensures.rule in
-    let fourth = c.in_ok-arg-4.ensures.shape c.new_argument.ensures.local
-    ∙ ap₂ with_rule third c.new_argument.ensures.rule in
-    IfOk-weaker c.arg-5.result _ _
-    (λ r h. h.shape c.size_argument.ensures.local ∙ ap₂ with_rule fourth c.size_argument.ensures.rule) c.arg-5.ensures
+    let third = c.in_ok-arg-3.ensures.shape c.lines_argument.ensures.local
+    ∙ ap₂ with_rule second c.lines_argument.ensures.rule in
+    let fourth = c.in_ok-arg-4.ensures.shape c.log_argument.ensures.local
+    ∙ ap₂ with_rule third c.log_argument.ensures.rule in
+    let fifth = c.in_ok-arg-5.ensures.shape c.new_argument.ensures.local
+    ∙ ap₂ with_rule fourth c.new_argument.ensures.rule in
+    IfOk-weaker c.arg-6.result _ _
+    (λ r h. h.shape c.size_argument.ensures.local ∙ ap₂ with_rule fifth c.size_argument.ensures.rule) c.arg-6.ensures

@@ -14,18 +14,22 @@ use Rattle.olr_arguments.proofs.command_line.options.Goals as goal
 
 -- each is the first value of its argument
 same_options : (f : Found) (arguments : List (List ℕ))
-    (file stop log new size : Option (Bor (List ℕ))) (stops makes : Bool) → rows_of f ≡ matches_of keep_app arguments →
+    (file stop lines log new size : Option (Bor (List ℕ))) (stops single makes : Bool) → rows_of f ≡ matches_of keep_app arguments →
     option_map (λ s. s.now) file ≡ first_value f (codes "file")
     → option_map (λ s. s.now) stop ≡ first_value f (codes "stop")
     → stops ≡ is_set (option_map (λ s. s.now) stop)
+    → option_map (λ s. s.now) lines ≡ first_value f (codes "lines")
+    → single ≡ is_set (option_map (λ s. s.now) lines)
     → option_map (λ s. s.now) log ≡ first_value f (codes "log")
     → option_map (λ s. s.now) new ≡ first_value f (codes "new")
     → makes ≡ is_set (option_map (λ s. s.now) new)
     → option_map (λ s. s.now) size ≡ first_value f (codes "compact-at")
-    → options_of (record { file = file; stop = stops; log = log; new = makes; compact_at = size }) ≡ options arguments
-same_options f arguments file stop log new size stops makes rows a b set c d made e = λ n. record {
+    → options_of (record { file = file; stop = stops; lines = single; log = log; new = makes; compact_at = size })
+    ≡ options arguments
+same_options f arguments file stop lines log new size stops single makes rows a b set l alone c d made e = λ n. record {
   file = (a ∙ value (codes "file")) n;
   stop = (set ∙ ap is_set (b ∙ value (codes "stop"))) n;
+  lines = (alone ∙ ap is_set (l ∙ value (codes "lines"))) n;
   log = (c ∙ value (codes "log")) n;
   new = (made ∙ ap is_set (d ∙ value (codes "new"))) n;
   compact_at = (e ∙ value (codes "compact-at")) n;
@@ -40,12 +44,14 @@ returns-in-Ok-try_get_matches_from-clause-ok g c =
     let rows = c.in-Ok-try_get_matches_from.ensures.matches (ap is_simple c.in-Ok.ensures) in
     same_options (found_of c.in-Ok-try_get_matches_from.matches) arguments c.get_str.result
     c.get_str-in-Ok-try_get_matches_from.result c.get_str-in-Ok-try_get_matches_from-2.result
-    c.get_str-in-Ok-try_get_matches_from-3.result c.get_str-in-Ok-try_get_matches_from-4.result c.is_given.result
-    c.is_given-in-Ok-try_get_matches_from.result
+    c.get_str-in-Ok-try_get_matches_from-3.result c.get_str-in-Ok-try_get_matches_from-4.result
+    c.get_str-in-Ok-try_get_matches_from-5.result c.is_given.result c.is_given-in-Ok-try_get_matches_from.result
+    c.is_given-in-Ok-try_get_matches_from-2.result
     (rows.0 ∙ ap (λ (a : App). matches_of a arguments) c.in-Ok.ensures) c.get_str.ensures
     c.get_str-in-Ok-try_get_matches_from.ensures c.is_given.ensures c.get_str-in-Ok-try_get_matches_from-2.ensures
-    c.get_str-in-Ok-try_get_matches_from-3.ensures c.is_given-in-Ok-try_get_matches_from.ensures
-    c.get_str-in-Ok-try_get_matches_from-4.ensures
+    c.is_given-in-Ok-try_get_matches_from.ensures c.get_str-in-Ok-try_get_matches_from-3.ensures
+    c.get_str-in-Ok-try_get_matches_from-4.ensures c.is_given-in-Ok-try_get_matches_from-2.ensures
+    c.get_str-in-Ok-try_get_matches_from-5.ensures
 
 pub returns-in-Ok-try_get_matches_from-clause-kinds : goal.returns-in-Ok-try_get_matches_from-clause-kinds
 returns-in-Ok-try_get_matches_from-clause-kinds g c =

@@ -1,8 +1,10 @@
 -- How the program ends with a log, by what its arguments ask for.
-use Rattle.std.proofs.Common.{refl}
-use Rattle.olr_run.proofs.Common.{known_file, options_of}
+use Rattle.std.proofs.Common.{refl, subst}
+use Rattle.olr_run.proofs.Common.{Records, known_file, options_of, records_read}
 use Rattle.olr_run.proofs.Ending.{file_is, name_of}
-use Rattle.olr_run.specs.ProgramEnds.{Not_opened, From_log}
+use Rattle.olr_run.proofs.ReadInputs.{both_read, not_read}
+use Rattle.olr_run.specs.ProgramEnds.{FromLog, Not_opened, From_log}
+use Rattle.olr_sessions.specs.Inputs.{read_from}
 use Rattle.olr_run.proofs.from_log.with_log.Goals as goal
 
 pub returns-in_default-open_file-clause-ends : goal.returns-in_default-open_file-clause-ends
@@ -11,8 +13,27 @@ returns-in_default-open_file-clause-ends g c =
     c.in_default-open_file.ensures in
     Not_opened n.0 n.1 n.2 refl (rw c.in-Ok.is refl) refl
 
+pub returns-in_default-read_inputs-clause-ends : goal.returns-in_default-read_inputs-clause-ends
+returns-in_default-read_inputs-clause-ends g c =
+    let file = known_file g.F.Read.remaining c.in-Ok-open_file.file in
+    From_log file
+    (file_is g.O.FnOnce g.F.Read.remaining c.args.opener (options_of c.args.asked.now).file c.in-Ok-open_file.file
+    c.in-Ok-open_file.ensures) c.in-Ok.log c.in-Ok.log (rw c.in-Ok.is refl) refl
+    (not_read g.W.Write.contents c.in-Ok.log c.args.asked.now.stop
+    (records_read c.args.asked.now.lines file (g.R.Read.remaining c.args.input)) c.args.output.now c.report_fault.result
+    c.report_fault.ensures)
+
 pub returns-clause-ends : goal.returns-clause-ends
 returns-clause-ends g c =
-    From_log (known_file g.F.Read.remaining c.in-Ok-open_file.file)
+    let file = known_file g.F.Read.remaining c.in-Ok-open_file.file in
+    let read = c.in-Ok-read_inputs in
+    let last = c.run_from_log-status.result.1 in
+    From_log file
     (file_is g.O.FnOnce g.F.Read.remaining c.args.opener (options_of c.args.asked.now).file c.in-Ok-open_file.file
-    c.in-Ok-open_file.ensures) c.in-Ok.log c.run_from_log-status.result.1 (rw c.in-Ok.is refl) refl c.run_from_log-status.ensures.ends
+    c.in-Ok-open_file.ensures) c.in-Ok.log last (rw c.in-Ok.is refl) refl
+    (subst (λ (records : Records).
+    FromLog g.W.Write.contents c.in-Ok.log last c.args.asked.now.stop records c.args.output.now
+    c.run_from_log-status.new.output c.run_from_log-status.result.0)
+    (both_read c.args.asked.now.lines file (g.R.Read.remaining c.args.input)
+    (known_file (read_from g.F.Read.remaining) read.file) (read_from g.R.Read.remaining read.input) read.ensures.file
+    read.ensures.input) c.run_from_log-status.ensures.ends)

@@ -1,0 +1,32 @@
+-- Both inputs of a run, as they are read.
+use Rattle.olr_run.proofs.Common.{Known, Records, known_both, known_records, records_read, exit_code}
+use Rattle.std.proofs.Common.{◌≡◌, ℕ, Bool, true, false, [], Some, Err, refl, arith}
+use Rattle.sqlite_disk.specs.declared.Disk as disk
+use Rattle.olr_journal.specs.declared.folder.Folder as folder
+use Rattle.olr_journal.specs.declared.log_file.LogFile.{LogFile}
+use Rattle.olr_run.proofs.FromLogs.{unbegun_read}
+use Rattle.olr_run.specs.ProgramEnds.{FromLog, Not_begun}
+use Rattle.olr_sessions.specs.Inputs.{read_as}
+use Rattle.olr_sessions.specs.SingleLines.{one_a_line_from}
+use Rattle.olr_sessions.specs.declared.buffered.Buffered.{Buffered}
+use Rattle.olr_sessions.specs.declared.ends.RunFault.TheVariants as fault
+
+-- a file that isn't there has no records, however it would be read
+pub nothing_read : (single : Bool) → Some [] ≡ read_as single (Some [])
+unfolding one_a_line_from
+nothing_read true = refl
+nothing_read false = refl
+
+-- the records of both
+pub both_read : (single : Bool) (file input file_read input_read : Known) → file_read ≡ read_as single file →
+    input_read ≡ read_as single input
+    → known_both (known_records file_read) (known_records input_read) ≡ records_read single file input
+both_read single file input file_read input_read e f = λ i. known_both (known_records (e i)) (known_records (f i))
+
+-- there was no memory to read them
+pub not_read : {D F : Type 0} {d : disk.Ghosts D} {f : folder.Ghosts F D} {W : Type 0} (contents : W → Known)
+    (log : LogFile D F d f) (stop : Bool) (records : Records) (o : Buffered W) (code : ℕ) →
+    code ≡ exit_code (Err fault.Memory) → FromLog contents log log stop records o o code
+not_read contents log stop records o code e =
+    let is : code ≡ 4 = e in
+    Not_begun refl (omega (arith, is)) (omega (arith, is)) (unbegun_read log log refl (λ t left. left))
