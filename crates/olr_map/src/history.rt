@@ -74,6 +74,35 @@ impl RoadMap {
         }
     }
 
+    /// Makes a change at these slots that is never undone, and frees what it removes. Inlined, so that the change of an edit
+    /// is taken apart where it is made.
+    #[inline(always)]
+    fn make_for_good(&mut self, change: TableChange, slots: (u32, u32))
+        requires can { CanMake (tables_map self.old) (room_of self.old) change }
+        requires slots { AreSlots self.old.index (tables_map self.old) slots (change_edit change) }
+        requires numbers { HasNumbers self.old (node_puts change) (line_puts change) }
+        ensures map { tables_map self.new ≡ map_after (tables_map self.old) change }
+        ensures room { IsRoomWithin (room_after (room_of self.old) change) (room_of self.new) }
+        ensures nodes { spare_of self.old.index ≤ spare_of self.new.index + node_puts change }
+        ensures lines { spare_numbers self.old.lines ≤ spare_numbers self.new.lines + line_puts change }
+    {
+        match change {
+            TableChange::PutNode {
+                id,
+                place,
+                outs,
+                ins,
+            } => self.put_node(id, place, outs, ins),
+            TableChange::MoveNode(id, place) => {
+                self.move_node(id, place, slots.0);
+            }
+            TableChange::TakeNode(id) => drop(self.take_node(id)),
+            TableChange::PutLine(id, line) => self.put_line(id, line, slots.0, slots.1),
+            TableChange::SetLine(id, line) => drop(self.set_line(id, line, slots.0, slots.1)),
+            TableChange::TakeLine(id) => drop(self.take_line(id, slots.0, slots.1)),
+        }
+    }
+
     /// Makes a change that undoes an edit, and frees what the edit added.
     fn take_back(&mut self, change: TableChange)
         requires can { CanMake (tables_map self.old) (room_of self.old) change }
@@ -84,7 +113,7 @@ impl RoadMap {
         ensures lines { spare_numbers self.old.lines ≤ spare_numbers self.new.lines + line_puts change }
     {
         let slots = self.slots_for(&change);
-        drop(self.make_change(change, slots));
+        self.make_for_good(change, slots);
     }
 
     /// Reserves capacity for what an edit adds at these slots and for its undo, in addition to the numbers of nodes and
@@ -210,7 +239,7 @@ impl RoadMap {
     {
         self.make_room(&edit, plan.slots, 0, 0)?;
         let change = self.change_for(edit, plan.nodes);
-        drop(self.make_change(change, plan.slots));
+        self.make_for_good(change, plan.slots);
         Ok(())
     }
 

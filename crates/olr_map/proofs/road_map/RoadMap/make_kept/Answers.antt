@@ -7,7 +7,7 @@ pub returns-clause-done : goal.returns-clause-done
 returns-clause-done c =
     done_by (tables_map c.args.self.now) (tables_map c.make_room.new.self) _ (edit_of c.args.edit)
     c.change_for-change.result c.change_for-change.ensures.same c.make_room.ensures.same.map c.requires.accepted
-    c.make_change.ensures.made.map
+    c.make_for_good.ensures.map
 
-pub make_change-requires : goal.make_change-requires
-make_change-requires c = grind (arith, plan_slots, slots_reserved)
+pub make_for_good-requires : goal.make_for_good-requires
+make_for_good-requires c = grind (arith, plan_slots, slots_reserved)
