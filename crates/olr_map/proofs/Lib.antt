@@ -14,5 +14,4 @@ pub mod NodeChanges
 pub mod LineChanges
 pub mod Capacity
 pub mod Using
-pub mod Sizes
 pub mod Log

@@ -1,77 +1,66 @@
--- Whether each line of a route extends a shortest path, or a unique one.
-use Rattle.olr_route.proofs.Common.{◌≡◌, ℕ, suc, ◌+◌, ◌<◌, ◌≤◌, List, [], ◌∷◌, ◌++◌, Bool, true, false, refl}
-use Rattle.olr_route.proofs.Common.{sym, ap, ◌∙◌, subst, arith, take, length, get_or, Map, IsMap, start, end, IsRoute}
-use Rattle.olr_route.proofs.Common.{dm_of, Least, UniqueShortest, LeastWithin, IsShortest, empty_least, one_least, last_step}
-use Rattle.olr_route.proofs.Common.{prefix_of_least, unique_least, route_on}
-use Rattle.std.proofs.Common.{drop, append_assoc, add-one, drop-cons}
-use Rattle.std.proofs.lemmas.List.{take_more, take-append-drop}
-use Rattle.olr_spec.proofs.RouteLemmas.{IsRoute-split, dm_of-append, prefix_of_unique, empty_unique}
-
--- the unique shortest path is the shortest path
-pub least_of : (unique : Bool) (M : Map) (s limit t : ℕ) (xs : List ℕ) → IsShortest unique M s limit t xs →
-    LeastWithin M s limit t xs
-least_of false M s limit t xs h = h
-least_of true M s limit t xs h = record { least = unique_least M s t xs h.unique; within = h.within }
+-- A test of each line of a route: whether it extends a shortest path, or a unique one.
+use Rattle.olr_route.proofs.Common.{ℕ, zero, suc, ◌+◌, ◌<◌, ◌≤◌, ◌↔◌, List, [], ◌∷◌, ◌++◌, Bool, true, false, refl}
+use Rattle.olr_route.proofs.Common.{IsTrue, sym, subst, arith, length, Map, IsMap, start, end, dm, IsRoute, dm_of}
+use Rattle.olr_route.proofs.Common.{LeastWithin, one_least, last_step, prefix_of_least, route_on, dm_of-line}
+use Rattle.olr_route.proofs.Common.{false≢true}
+use Rattle.std.proofs.Common.{append_assoc, MatchBool}
+use Rattle.std.proofs.lemmas.List.{append-nil}
+use Rattle.std.specs.List.{AllWithin, HoldsAt}
+use Rattle.olr_spec.proofs.RouteLemmas.{dm_of-append}
 
 -- if the shortest path ends with line x, the line extends the one to its start
 pub same_front : (M : Map) → IsMap M → (s limit x : ℕ) (route front : List ℕ) → LeastWithin M s limit (start M x) route →
     LeastWithin M s limit (end M x) (front ++ x ∷ []) → LeastWithin M s limit (end M x) (route ++ x ∷ [])
 same_front M m s limit x route front short whole =
-    let step = last_step M s (end M x) x front whole.least.route in
-    let l = prefix_of_least M s (start M x) (end M x) front (x ∷ []) whole.least step.front (step.known, refl, refl) in
-    subst (λ (zs : List ℕ). LeastWithin M s limit (end M x) (zs ++ x ∷ []))
-    (one_least M m s (start M x) front route l short.least) whole
+    grind (
+      arith,
+      last_step M s (end M x) x front,
+      prefix_of_least M s (start M x) (end M x) front (x ∷ []),
+      one_least M m s (start M x) front route,
+    )
 
--- ---- the first lines of a route
+-- so each prefix of a shortest path is one
+pub prefix_within : (M : Map) (s limit v t : ℕ) (xs ys : List ℕ) → LeastWithin M s limit t (xs ++ ys) →
+    IsRoute M s v xs → IsRoute M v t ys → LeastWithin M s limit v xs
+prefix_within M s limit v t xs ys l w u =
+    record { least = prefix_of_least M s v t xs ys l.least w u; within = omega (arith, l.within, dm_of-append M xs ys) }
 
--- line x is the one after the first i lines of a route from s to t
-pub record IsNext (M : Map) (s t : ℕ) (lines : List ℕ) (i x : ℕ) : Type 0 where
-  pub front : IsRoute M s (start M x) (take i lines)
-  pub here : IsRoute M s (end M x) (take i lines ++ x ∷ [])
-  pub rest : IsRoute M (end M x) t (drop (i + 1) lines)
-  pub more : take (i + 1) lines ≡ take i lines ++ x ∷ []
-  pub parts : lines ≡ (take i lines ++ x ∷ []) ++ drop (i + 1) lines
-  pub short : dm_of M (take i lines ++ x ∷ []) ≤ dm_of M lines
+-- P says what of a route from s is tested: if it is true of a route, it is true of each prefix
+module _ (M : Map) (s most : ℕ) (P : ℕ → List ℕ → Type 0)
+    (prefix : (v t : ℕ) (xs ys : List ℕ) → P t (xs ++ ys) → IsRoute M s v xs → IsRoute M v t ys → P v xs) where
+  -- what a test of line x decides, of each route to its start
+  abbrev Tested : (Type 0 → Type 0) → ℕ → Type 0
+  Tested F x =
+      (front : List ℕ) → P (start M x) front → dm_of M front + dm M x ≤ most → F (P (end M x) (front ++ x ∷ []))
 
-pub next_of : (M : Map) (s t : ℕ) (lines : List ℕ) → IsRoute M s t lines → (i x : ℕ) → i < length lines →
-    x ≡ get_or lines i x → IsNext M s t lines i x
-next_of M s t lines w i x lt is =
-    let here : drop i lines ≡ x ∷ drop (i + 1) lines =
-    rw add-one (drop-cons lines i x lt ∙ ap (λ (z : ℕ). z ∷ drop (suc i) lines) (sym is)) in
-    let whole : lines ≡ take i lines ++ (x ∷ drop (i + 1) lines) =
-    sym (take-append-drop i lines) ∙ ap (λ (zs : List ℕ). take i lines ++ zs) here in
-    let r = IsRoute-split M s t (take i lines) (x ∷ drop (i + 1) lines)
-    (subst (λ (zs : List ℕ). IsRoute M s t zs) whole w) in
-    let front = subst (λ (v : ℕ). IsRoute M s v (take i lines)) (sym r.2.1) r.1 in
-    let parts = whole ∙ sym (append_assoc (take i lines) (x ∷ []) (drop (i + 1) lines)) in
-    let sum = dm_of-append M (take i lines ++ x ∷ []) (drop (i + 1) lines) in
-    let all = ap (dm_of M) parts in
-    record {
-      front = front;
-      here = route_on M s x (take i lines) front r.2.0;
-      rest = r.2.2;
-      more = take_more lines i x lt ∙ ap (λ (z : ℕ). take i lines ++ z ∷ []) (sym is);
-      parts = parts;
-      short = omega arith;
-    }
+  abbrev pub Extends : ℕ → Type 0
+  Extends = Tested (λ A. A)
 
--- the first lines of a shortest path are one
-pub prefix_of : (unique : Bool) (M : Map) (s limit t : ℕ) (lines : List ℕ) (i x : ℕ) → IsNext M s t lines i x →
-    IsShortest unique M s limit t lines → IsShortest unique M s limit (end M x) (take i lines ++ x ∷ [])
-prefix_of false M s limit t lines i x n h = record {
-  least = prefix_of_least M s (end M x) t (take i lines ++ x ∷ []) (drop (i + 1) lines)
-      (subst (λ (zs : List ℕ). Least M s t zs) n.parts h.least) n.here n.rest;
-  within = omega (arith, n.short, h.within);
-}
-prefix_of true M s limit t lines i x n h = record {
-  unique = prefix_of_unique M s (end M x) t (take i lines ++ x ∷ []) (drop (i + 1) lines)
-      (subst (λ (zs : List ℕ). UniqueShortest M s t zs) n.parts h.unique) n.here n.rest;
-  within = omega (arith, n.short, h.within);
-}
+  abbrev pub Stops : ℕ → Type 0
+  Stops = Tested (λ A. ¬ A)
 
-pub none_of : (unique : Bool) (M : Map) → IsMap M → (s limit v : ℕ) → IsRoute M s v [] →
-    IsShortest unique M s limit v []
-none_of false M m s limit v w =
-    record { least = subst (λ (u : ℕ). Least M s u []) w (empty_least M s); within = omega arith }
-none_of true M m s limit v w =
-    record { unique = subst (λ (u : ℕ). UniqueShortest M s u []) w (empty_unique M m s); within = omega arith }
+  extended : (ys : List ℕ) (v t : ℕ) (xs : List ℕ) → P v xs → IsRoute M v t ys → dm_of M xs + dm_of M ys ≤ most →
+      AllWithin Extends ys 0 (length ys) → P t (xs ++ ys)
+  extended [] v t xs p w le all = subst (P t) (sym (append-nil xs)) (subst (λ (u : ℕ). P u xs) w p)
+  extended (y ∷ ys) v t xs p w le all =
+      let on = all 0 0 (omega arith) (omega arith) xs (subst (λ (u : ℕ). P u xs) (sym w.1) p) (omega arith) in
+      subst (P t) (append_assoc xs (y ∷ []) ys) (extended ys (end M y) t (xs ++ y ∷ []) on w.2
+      (omega (arith, dm_of-line M xs y)) (λ k d low lt. all (suc k) d (omega arith) (omega arith)))
+
+  stopped : (ys : List ℕ) (k v t : ℕ) (xs : List ℕ) → IsRoute M s v xs → IsRoute M v t ys →
+      dm_of M xs + dm_of M ys ≤ most → k < length ys → HoldsAt Stops ys k → ¬ P t (xs ++ ys)
+  stopped [] k v t xs w u le lt bad p = absurd (omega arith)
+  stopped (y ∷ ys) zero v t xs w u le lt bad p =
+      grind (arith, bad 0 xs, prefix (start M y) t xs (y ∷ ys), prefix (end M y) t (xs ++ y ∷ []) ys, route_on, append_assoc)
+  stopped (y ∷ ys) (suc k) v t xs w u le lt bad p =
+      grind (arith, stopped ys k (end M y) t (xs ++ y ∷ []), route_on, dm_of-line, append_assoc, bad)
+
+  -- the result of testing each line of a route
+  pub tested : (r : Bool) (t : ℕ) (ys : List ℕ) → P s [] → IsRoute M s t ys → dm_of M ys ≤ most →
+      MatchBool r (AllWithin Extends ys 0 (length ys)) ((k : ℕ) × (k < length ys) × HoldsAt Stops ys k) →
+      IsTrue r ↔ P t ys
+  tested true t ys none w le all = (λ _. extended ys s t [] none w (omega arith) all, λ _. refl)
+  tested false t ys none w le bad = (
+    λ e. absurd (false≢true e),
+    λ p. absurd (stopped ys bad.0 s t [] refl w (omega arith) bad.1 bad.2 p),
+  )

@@ -1,107 +1,81 @@
 -- Distances with their last lines are the labels of the shortest paths.
-use Rattle.olr_route.proofs.Common.{◌≡◌, ℕ, zero, suc, ◌<◌, ◌⊎◌, ◌↔◌, List, [], ◌∷◌, ◌++◌, Option, Some, None}
-use Rattle.olr_route.proofs.Common.{refl, sym, ap, ◌∙◌, subst, inl, inr, arith, none-some, Map, IsMap, start, dm, IsRoute}
+use Rattle.olr_route.proofs.Common.{◌≡◌, ℕ, zero, suc, ◌<◌, ◌≤◌, ◌↔◌, List, [], ◌∷◌, ◌++◌, Option, Some, None}
+use Rattle.olr_route.proofs.Common.{refl, ap, ◌∙◌, subst, inl, inr, arith, none-some, Map, IsMap, start, IsRoute}
 use Rattle.olr_route.proofs.Common.{dm_of, Least, LeastWithin, empty_least, one_least, positive, LiesWithin, Along, IsLabel}
-use Rattle.olr_route.proofs.Common.{ends_of, empty, ended, dm_of-line, route_on, last_step, same_last, get_or, get_or_default}
+use Rattle.olr_route.proofs.Common.{ends_of, empty, ended, dm_of-line, route_on, last_step, same_last, MatchOption, get_or, get_or_default}
 use Rattle.olr_route.proofs.Common.{AreLabels, limit_of}
 use Rattle.std.proofs.Common.{reverse}
 use Rattle.olr_spec.specs.Routes.{FirstSmaller}
 use Rattle.olr_spec.proofs.RouteLemmas.{last_first, route_start}
 use Rattle.olr_route.specs.declared.labels.Labels.{Labels}
 use Rattle.olr_search.proofs.SearchLemmas.{near_leads}
-use Rattle.olr_route.proofs.EndLemmas.{leads_route, route_leads, distance_le, ends_route, front_distance, least_le}
-
--- an option has a value, or none
-something : (o : Option ℕ) → (o ≡ None) ⊎ ((x : ℕ) × (o ≡ Some x))
-something None = inl refl
-something (Some x) = inr (x, refl)
+use Rattle.olr_route.proofs.EndLemmas.{leads_route, route_leads, distance_le, ends_route, least_long}
 
 module _ (M : Map) (m : IsMap M) (s limit : ℕ)
     (found : (v : ℕ) → LiesWithin M Along ((s, 0) ∷ []) limit v → (k : ℕ × Option ℕ) × IsLabel M s limit v k) where
-  -- the last line of a label extends the shortest path to its start
-  least_on : (v x : ℕ) (k : ℕ × Option ℕ) (front : List ℕ) → IsLabel M s limit v k → k.1 ≡ Some x →
-      Least M s (start M x) front → Least M s v (front ++ x ∷ []) × (dm_of M (front ++ x ∷ []) ≡ k.0)
-  least_on v x k front l is short =
-      let e = l.last.ends x is in
-      let total = dm_of-line M front x in
-      let low = distance_le M s (start M x) (dm_of M e.front) front (front_distance M s v k.0 x l.dist e) short.route in
-      let high = least_le M s (start M x) front e.front short e.route in
-      let long : dm_of M (front ++ x ∷ []) ≡ k.0 = omega (arith, e.long) in
-      let some = positive M m x e.known in (
-        record {
-          route = subst (λ (u : ℕ). IsRoute M s u (front ++ x ∷ [])) e.to (route_on M s x front short.route e.known);
-          first = λ ys w before.
-              let le = distance_le M s v k.0 ys l.dist w in
-              elim before [
-                | inl lt ↦ absurd (omega arith)
-                | inr tie ↦ elim (ends_of ys) [
-                  | empty none ↦ let nothing = ap (dm_of M) none in absurd (omega (arith, tie.0))
-                  | ended g z as_g ↦
-                      let on = subst (λ (zs : List ℕ). IsRoute M s v zs) as_g w in
-                      let step = last_step M s v z g on in
-                      let sum = ap (dm_of M) (sym as_g) ∙ tie.0 ∙ long in
-                      let parts = dm_of-line M g z in
-                      elim (last_first g front z x
-                      (subst (λ (zs : List ℕ). FirstSmaller (reverse zs) (reverse (front ++ x ∷ []))) as_g tie.1)) [
-                        | inl lt ↦
-                            let y = l.last.least z (ends_route M s v k.0 z g on sum) in
-                            let both : Some x ≡ Some y.0 = sym is ∙ y.1 in
-                            let same : x ≡ y.0 = cc in
-                            absurd (omega (arith, y.2))
-                        | inr same ↦
-                            let each = ap (dm M) same.0 in
-                            short.first g (subst (λ (n : ℕ). IsRoute M s (start M n) g) same.0 step.front)
-                            (inr (omega arith, same.1))
-                      ]
-                ]
-              ];
-        },
-        long,
-      )
+  -- of the routes as long as a label says none precedes the one that its last line ends
+  none_before : (v x d : ℕ) (front : List ℕ) → IsLabel M s limit v (d, Some x) → Least M s (start M x) front →
+      dm_of M (front ++ x ∷ []) ≡ d → (g : List ℕ) (z : ℕ) → IsRoute M s v (g ++ z ∷ []) → dm_of M (g ++ z ∷ []) ≡ d →
+      ¬ FirstSmaller (reverse (g ++ z ∷ [])) (reverse (front ++ x ∷ []))
+  none_before v x d front l short long g z w e h =
+      grind (arith, ends_route M s v d z g, dm_of-line M front x, dm_of-line M g z, last_step M s v z g, last_first)
 
-  shortest_by : (n v : ℕ) (k : ℕ × Option ℕ) → k.0 < n → IsLabel M s limit v k → (xs : List ℕ) × Least M s v xs
-  shortest_by zero v k lt l = absurd (omega arith)
-  shortest_by (suc n) v k lt l = elim (something k.1) [
-    | inl none ↦
-        let w = leads_route M s v k.0 l.dist.leads in
-        elim (ends_of w.0) [
-          | empty e ↦
-              ([], subst (λ (u : ℕ). Least M s u []) (subst (λ (zs : List ℕ). IsRoute M s v zs) e w.1) (empty_least M s))
-          | ended front x e ↦
-              let on = subst (λ (zs : List ℕ). IsRoute M s v zs) e w.1 in
-              let y = l.last.least x (ends_route M s v k.0 x front on (ap (dm_of M) (sym e) ∙ w.2)) in
-              absurd (none-some y.0 (sym none ∙ y.1))
-        ]
-    | inr x ↦
-        let e = l.last.ends x.0 x.1 in
-        let some = positive M m x.0 e.known in
-        let near = front_distance M s v k.0 x.0 l.dist e in
-        let own = found (start M x.0) (dm_of M e.front, near, omega (arith, e.long, l.within)) in
-        let low = own.1.dist.least (dm_of M e.front) near.leads in
-        let r = shortest_by n (start M x.0) own.0 (omega (arith, e.long)) own.1 in
-        (r.0 ++ x.0 ∷ [], (least_on v x.0 k r.0 l x.1 r.1).0)
-  ]
+  -- so the last line of a label extends the shortest path to its start
+  least_on : (v x d : ℕ) (front : List ℕ) → IsLabel M s limit v (d, Some x) → Least M s (start M x) front →
+      Least M s v (front ++ x ∷ [])
+  least_on v x d front l short =
+      let e = l.last.ends x refl in
+      let long : dm_of M (front ++ x ∷ []) ≡ d =
+      omega (arith, dm_of-line M front x, least_long M s (start M x) e.before front e.near short, e.long) in
+      let some = positive M m x e.known in record {
+        route = subst (λ (u : ℕ). IsRoute M s u (front ++ x ∷ [])) e.to (route_on M s x front short.route e.known);
+        first = λ ys w before. elim before [
+          | inl lt ↦ let le = distance_le M s v d ys l.dist w in absurd (omega arith)
+          | inr tie ↦ elim (ends_of ys) [
+            | empty none ↦ absurd (omega (arith, tie.0, ap (dm_of M) none))
+            | ended g z is ↦ grind (arith, none_before v x d front l short long g z)
+          ]
+        ];
+      }
+
+  -- the shortest path by its last line
+  abbrev IsShortest : ℕ → Option ℕ → Type 0
+  IsShortest v o = MatchOption o (Least M s v []) (λ x. (front : List ℕ) × Least M s v (front ++ x ∷ []))
+
+  some_path : (v : ℕ) (o : Option ℕ) → IsShortest v o → (xs : List ℕ) × Least M s v xs
+  some_path v None l = ([], l)
+  some_path v (Some x) l = (l.0 ++ x ∷ [], l.1)
+
+  shortest_by : (n v d : ℕ) (o : Option ℕ) → d < n → IsLabel M s limit v (d, o) → IsShortest v o
+  shortest_by zero v d o lt l = absurd (omega arith)
+  shortest_by (suc n) v d None lt l =
+      let w = leads_route M s v d l.dist.leads in
+      elim (ends_of w.0) [
+        | empty e ↦ subst (λ (u : ℕ). Least M s u []) (subst (λ (zs : List ℕ). IsRoute M s v zs) e w.1) (empty_least M s)
+        | ended front x e ↦ grind (arith, ends_route M s v d x front, none-some)
+      ]
+  shortest_by (suc n) v d (Some x) lt l =
+      let e = l.last.ends x refl in
+      let some = positive M m x e.known in
+      let own = found (start M x) (e.before, e.near, omega (arith, e.long, l.within)) in
+      let low = own.1.dist.least e.before e.near.leads in
+      let r = some_path (start M x) own.0.1 (shortest_by n (start M x) own.0.0 own.0.1 (omega (arith, e.long)) own.1) in
+      (r.0, least_on v x d r.0 l r.1)
 
   -- the last line of a label is that of the shortest path
-  path_of : (v x : ℕ) (k : ℕ × Option ℕ) → IsLabel M s limit v k → k.1 ≡ Some x →
-      (front : List ℕ) × LeastWithin M s limit v (front ++ x ∷ [])
-  path_of v x k l is =
-      let e = l.last.ends x is in
-      let own = found (start M x) (dm_of M e.front, front_distance M s v k.0 x l.dist e, omega (arith, e.long, l.within)) in
-      let r = shortest_by (suc own.0.0) (start M x) own.0 (omega arith) own.1 in
-      let whole = least_on v x k r.0 l is r.1 in
-      (r.0, record { least = whole.0; within = omega (arith, whole.1, l.within) })
+  path_of : (v x d : ℕ) → IsLabel M s limit v (d, Some x) → (front : List ℕ) × LeastWithin M s limit v (front ++ x ∷ [])
+  path_of v x d l =
+      let r = shortest_by (suc d) v d (Some x) (omega arith) l in
+      (r.0, record { least = r.1; within = omega (arith, least_long M s v d (r.0 ++ x ∷ []) l.dist r.1, l.within) })
 
   pub last_is : (v x : ℕ) (k : ℕ × Option ℕ) → IsLabel M s limit v k →
       (k.1 ≡ Some x) ↔ ((front : List ℕ) × LeastWithin M s limit v (front ++ x ∷ []))
   last_is v x k l = (
-    λ is. path_of v x k l is,
+    λ is. path_of v x k.0 (subst (λ (o : Option ℕ). IsLabel M s limit v (k.0, o)) is l),
     λ p.
-        let w = leads_route M s v k.0 l.dist.leads in
-        let low = distance_le M s v k.0 (p.0 ++ x ∷ []) l.dist p.1.least.route in
-        let high = least_le M s v (p.0 ++ x ∷ []) w.0 p.1.least w.1 in
-        let y = l.last.least x (ends_route M s v k.0 x p.0 p.1.least.route (omega (arith, w.2))) in
-        let r = path_of v y.0 k l y.1 in
+        let y : (y : ℕ) × (k.1 ≡ Some y) × (y ≤ x) =
+        grind (arith, ends_route M s v k.0 x p.0, least_long M s v k.0 (p.0 ++ x ∷ [])) in
+        let r = path_of v y.0 k.0 (subst (λ (o : Option ℕ). IsLabel M s limit v (k.0, o)) y.1 l) in
         y.1
         ∙ ap (λ (n : ℕ). Some n) (same_last r.0 p.0 y.0 x (one_least M m s v (r.0 ++ y.0 ∷ []) (p.0 ++ x ∷ []) r.1.least p.1.least)),
   )
@@ -111,10 +85,13 @@ pub near_of : (M : Map) (slot : ℕ → ℕ) (s : ℕ) (x : Labels) → AreLabel
     LeastWithin M s (limit_of x) v (front ++ y ∷ []) → LiesWithin M Along ((s, 0) ∷ []) (limit_of x) v
 near_of M slot s x a v y front l =
     let m = a.search.under_way.labelled.sound in
-    let step = last_step M s v y front l.least.route in
-    let there = route_start M m s (start M y) front step.front (m.starts y step.known) in
-    near_leads M slot Along ((s, 0) ∷ []) x.search a.search v (dm_of M (front ++ y ∷ [])) l.within
-    (route_leads M s there v (front ++ y ∷ []) l.least.route)
+    grind (
+      arith,
+      near_leads M slot Along ((s, 0) ∷ []) x.search a.search v,
+      route_leads M s,
+      last_step M s v y front,
+      route_start M m s (start M y) front,
+    )
 
 -- the label of a node
 pub label_of : (M : Map) (slot : ℕ → ℕ) (s : ℕ) (x : Labels) → AreLabels M slot s x → (v : ℕ) →

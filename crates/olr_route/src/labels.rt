@@ -1,7 +1,7 @@
 //! The labels of a search.
 ghost use Rattle.std.specs.Prelude.{◌≡◌, length};
 
-use olr_map::{LineId, NodeId};
+use olr_roads::{LineId, NodeId};
 use olr_search::Dijkstra;
 
 /// The length of the shortest path to a node, and its last line.
@@ -25,8 +25,7 @@ impl Labels {
     ghost use Rattle.olr_search.specs.Distances.{IsDistance};
     ghost use Rattle.olr_search.specs.Searches.{LiesWithin};
     ghost use Rattle.olr_search.specs.declared.distances.Direction.TheVariants.{Along};
-    ghost use Rattle.olr_route.specs.Labels.{LeastWithin, IsLabel};
-    ghost use Rattle.olr_route.specs.AreLabels.{AreLabels, limit_of};
+    ghost use Rattle.olr_route.specs.Labels.{LeastWithin, IsLabel, AreLabels, limit_of};
 
     /// The label of a node.
     fn label(&self, node: NodeId) -> Option<Label>

@@ -2,12 +2,11 @@
 //! start.
 ghost use Rattle.std.specs.Prelude.{◌↔◌, ◌≤◌, ◌+◌, ℕ, List, [], ◌∷◌, ◌++◌, IsTrue};
 ghost use Rattle.olr_spec.specs.Map.{start, end, dm};
-ghost use Rattle.olr_spec.specs.Routes.{IsRoute, dm_of};
-ghost use Rattle.olr_route.specs.Labels.{LeastWithin, UniqueWithin, IsShortest};
-ghost use Rattle.olr_route.specs.AreLabels.{AreLabels, limit_of};
+ghost use Rattle.olr_spec.specs.Routes.{IsRoute, UniqueShortest, dm_of};
+ghost use Rattle.olr_route.specs.Labels.{LeastWithin, UniqueWithin, AreLabels, limit_of};
 
 use crate::labels::Labels;
-use olr_map::{LineId, MapRead};
+use olr_roads::{LineId, MapRead};
 use olr_search::resolve_line;
 
 /// Whether a line extends the shortest path to its start to the shortest path to its end, within the limit.
@@ -17,43 +16,24 @@ fn extends_least<M: MapRead>(map: &M, labels: &Labels, line: LineId) -> bool
         → (IsTrue result ↔ LeastWithin (M.map map.now) s (limit_of labels.now) (end (M.map map.now) line)
         (route ++ line ∷ [])) }
 {
-    let Some(record) = map.line(line) else {
-        return false;
-    };
-    labels.last_line(record.to) == Some(line)
+    match resolve_line(map, line) {
+        None => false,
+        Some(resolved) => labels.last_line(resolved.to) == Some(line),
+    }
 }
 
-/// The same, or, if `unique`, for unique shortest paths. Then the extended path has to be within the limit.
-fn extends<M: MapRead>(map: &M, labels: &Labels, line: LineId, unique: bool) -> bool
+/// Whether a line extends the unique shortest path to its start to the unique shortest path to its end. Unspecified if
+/// the extended path is longer than the limit.
+fn extends_unique<M: MapRead>(map: &M, labels: &Labels, line: LineId) -> bool
     ensures { (s : ℕ) (route : List ℕ) → AreLabels (M.map map.now) (M.node_slot map.now) s labels.now
-        → IsShortest unique (M.map map.now) s (limit_of labels.now) (start (M.map map.now) line) route
-        → (IsTrue unique → dm_of (M.map map.now) route + dm (M.map map.now) line ≤ limit_of labels.now)
-        → (IsTrue result ↔ IsShortest unique (M.map map.now) s (limit_of labels.now) (end (M.map map.now) line)
-        (route ++ line ∷ [])) }
+        → UniqueShortest (M.map map.now) s (start (M.map map.now) line) route
+        → dm_of (M.map map.now) route + dm (M.map map.now) line ≤ limit_of labels.now
+        → (IsTrue result ↔ UniqueShortest (M.map map.now) s (end (M.map map.now) line) (route ++ line ∷ [])) }
 {
-    if !unique {
-        return extends_least(map, labels, line);
+    match resolve_line(map, line) {
+        None => false,
+        Some(resolved) => labels.search.extends_unique_shortest(map, resolved),
     }
-    let Some(resolved) = resolve_line(map, line) else {
-        return false;
-    };
-    labels.search.extends_unique_shortest(map, resolved)
-}
-
-/// Whether each line of a route extends the shortest path to its start, or, if `unique`, the unique shortest path. Then
-/// the route has to be within the limit.
-fn each_extends<M: MapRead>(map: &M, labels: &Labels, lines: &[LineId], unique: bool) -> bool
-    ensures { (s t : ℕ) → AreLabels (M.map map.now) (M.node_slot map.now) s labels.now
-        → IsRoute (M.map map.now) s t lines.now
-        → (IsTrue unique → dm_of (M.map map.now) lines.now ≤ limit_of labels.now)
-        → (IsTrue result ↔ IsShortest unique (M.map map.now) s (limit_of labels.now) t lines.now) }
-{
-    for line in lines {
-        if !extends(map, labels, *line, unique) {
-            return false;
-        }
-    }
-    true
 }
 
 /// Whether a route from the source of the labels is the shortest path to its end, and within their limit. Unspecified if
@@ -63,7 +43,7 @@ pub fn is_least<M: MapRead>(map: &M, labels: &Labels, lines: &[LineId]) -> bool
         → IsRoute (M.map map.now) s t lines.now
         → (IsTrue result ↔ LeastWithin (M.map map.now) s (limit_of labels.now) t lines.now) }
 {
-    each_extends(map, labels, lines, false)
+    lines.iter().all(|line| extends_least(map, labels, *line))
 }
 
 /// Whether a route from the source of the labels is the unique shortest path to its end, each other route being longer,
@@ -73,5 +53,5 @@ pub fn is_unique_shortest<M: MapRead>(map: &M, labels: &Labels, lines: &[LineId]
         → IsRoute (M.map map.now) s t lines.now
         → (IsTrue result ↔ UniqueWithin (M.map map.now) s (limit_of labels.now) t lines.now) }
 {
-    is_least(map, labels, lines) && each_extends(map, labels, lines, true)
+    is_least(map, labels, lines) && lines.iter().all(|line| extends_unique(map, labels, *line))
 }

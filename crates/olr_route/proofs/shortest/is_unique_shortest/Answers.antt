@@ -1,15 +1,24 @@
-use Rattle.olr_route.proofs.Common.{◌∙◌, true, sym, false≢true, limit_of}
-use Rattle.olr_route.proofs.ExtendLemmas.{least_of}
+use Rattle.olr_route.proofs.Common.{arith, limit_of, UniqueShortest}
+use Rattle.std.proofs.Common.{rules, tests}
+use Rattle.std.proofs.lemmas.Iterator.{cases_from_all, YieldsList-from_slice}
+use Rattle.olr_spec.proofs.RouteLemmas.{empty_unique, prefix_of_unique, unique_least}
+use Rattle.olr_route.proofs.ExtendLemmas.{Extends, Stops, tested}
 use Rattle.olr_route.proofs.shortest.is_unique_shortest.Goals as goal
 
 pub returns-then-is_least : goal.returns-then-is_least
 returns-then-is_least g c = λ s t a w.
+    let M = g.M.MapRead.map c.args.map.now in
+    let limit = limit_of c.args.labels.now in
+    let lines = c.args.lines.now in
+    let unique = UniqueShortest M s in
+    let prefix = prefix_of_unique M s in
     let short = (c.is_least.ensures s t a w).0 c.if-is_least.true in
-    c.each_extends.ensures s t a w (λ _. short.within)
+    let k =
+    tested M s limit unique prefix _ t lines (empty_unique M a.search.under_way.labelled.sound s) w short.within
+    (cases_from_all _ _ _ (Extends M s limit unique prefix) (Stops M s limit unique prefix) c.all.ensures.ran
+    (YieldsList-from_slice lines cc) (λ x q k. search (rules, tests)) (λ x q k. search (rules, tests))) in
+    (λ yes. record { unique = k.0 yes; within = short.within }, λ whole. k.1 whole.unique)
 
 pub returns-else-is_least : goal.returns-else-is_least
-returns-else-is_least g c = λ s t a w. (
-  λ e. absurd (false≢true (sym c.if-is_least.false ∙ e)),
-  λ whole. (c.is_least.ensures s t a w).1
-      (least_of true (g.M.MapRead.map c.args.map.now) s (limit_of c.args.labels.now) t c.args.lines.now whole),
-)
+returns-else-is_least g c = λ s t a w.
+    grind (arith, c.is_least.ensures s t a w, unique_least (g.M.MapRead.map c.args.map.now) s t c.args.lines.now)

@@ -1,4 +1,4 @@
-use Rattle.olr_route.proofs.Common.{◌≡◌, ℕ, Some, ap, ◌∙◌, sym, subst, arith, none-some, ◌∷◌, [], IsDistance, Along}
+use Rattle.olr_route.proofs.Common.{◌≡◌, ℕ, Some, ap, ◌∙◌, sym, arith, none-some}
 use Rattle.olr_route.proofs.labels.Labels.dist.Goals as goal
 
 pub returns-in_err-dist : goal.returns-in_err-dist
@@ -10,12 +10,9 @@ returns-in_err-dist c = λ M slot s d a. (
 pub returns : goal.returns
 returns c = λ M slot s d a.
     let k = c.in_ok-dist.ensures M slot s a in (
-      λ e.
-          let same : c.in_ok-dist.dist ≡ d = cc in
-          (subst (IsDistance M Along ((s, 0) ∷ []) c.args.node) same k.dist, omega (arith, same, k.within)),
+      λ e. let same : c.in_ok-dist.dist ≡ d = cc in rw (sym same) (k.dist, k.within),
       λ r.
           let low = r.0.least c.in_ok-dist.dist k.dist.leads in
           let high = k.dist.least d r.0.leads in
-          let same : c.in_ok-dist.dist ≡ d = omega arith in
-          ap (λ (n : ℕ). Some n) same,
+          ap (λ (n : ℕ). Some n) (omega arith),
     )

@@ -1,0 +1,23 @@
+use Rattle.olr_route.proofs.Common.{◌∷◌, [], ◌++◌, ◌+◌, ◌≤◌, ◌↔◌, ℕ, IsTrue, ap, subst, start, end, UniqueShortest, dm_of, limit_of}
+use Rattle.olr_route.proofs.Common.{last_step, dm, false≢true}
+use Rattle.olr_search.specs.ResolvedLines.{ResolvedLine}
+use Rattle.olr_search.proofs.ReadLemmas.{resolved_as}
+use Rattle.olr_route.proofs.shortest.extends_unique.Goals as goal
+
+pub extends_unique_shortest-requires : goal.extends_unique_shortest-requires
+extends_unique_shortest-requires g c =
+    resolved_as (g.M.MapRead.map c.args.map.now) (g.M.MapRead.node_slot c.args.map.now) c.args.line _ c.in-Some.ensures.0
+    c.in-Some.ensures.1
+
+pub returns-in-Some : goal.returns-in-Some
+returns-in-Some g c = λ s route a.
+    let M = g.M.MapRead.map c.args.map.now in
+    subst (λ (y : ℕ). UniqueShortest M s (start M y) route → dm_of M route + dm M y ≤ limit_of c.args.labels.now →
+    (IsTrue c.extends_unique_shortest.result ↔ UniqueShortest M s (end M y) (route ++ y ∷ [])))
+    (ap (λ (r : ResolvedLine). r.id) c.in-Some.ensures.1) (c.extends_unique_shortest.ensures s route a.search)
+
+pub returns-in-None : goal.returns-in-None
+returns-in-None g c = λ s route a unique short. (
+  λ e. absurd (false≢true e),
+  λ whole. absurd (c.in-None.ensures (last_step (g.M.MapRead.map c.args.map.now) s _ c.args.line route whole.route).known),
+)
