@@ -13,7 +13,8 @@ import math
 from collections import defaultdict
 from typing import NamedTuple
 
-DEGREE = 111_195.0  # metres of a degree of latitude
+from geo import METRES, scale
+
 SNAP = 1.0  # metres along a line between an end of the course and a node that are taken as none
 DRAWN = 5.0  # the same for a course that was drawn, or is from another map
 SAMPLE = 10.0  # metres between the points at which a line is compared with the course
@@ -103,15 +104,15 @@ class Plane:
     """Degrees near a latitude as metres."""
 
     def __init__(self, lat):
-        self.wide = DEGREE * math.cos(math.radians(lat))
+        self.wide = scale(lat)
 
     def flat(self, place):
         """A coordinate in degrees as a point of the plane."""
-        return place[0] * self.wide, place[1] * DEGREE
+        return place[0] * self.wide, place[1] * METRES
 
     def degrees(self, point):
         """A point of the plane as a coordinate in degrees."""
-        return point[0] / self.wide, point[1] / DEGREE
+        return point[0] / self.wide, point[1] / METRES
 
 
 class Follower:
