@@ -17,3 +17,4 @@ pub mod NamedObstacles
 pub mod DependLemmas
 pub mod ShownLemmas
 mod FurtherFields
+pub mod LogLemmas

@@ -13,3 +13,4 @@ pub mod RecordRows
 pub mod RunLaws
 pub mod RunRows
 pub mod LineLaws
+pub mod LogLaws

@@ -10,6 +10,7 @@ pub mod changes;
 pub mod commands;
 pub mod coordinates;
 pub mod lines;
+pub mod logs;
 pub mod maps;
 pub mod receivers;
 pub mod records;

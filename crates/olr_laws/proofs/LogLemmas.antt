@@ -1,0 +1,206 @@
+-- A run that is cut off, and the next one from what is left of its log.
+use Rattle.std.proofs.Common.{◌≡◌, ◌∙◌, ℕ, Bool, true, false, List, [], ◌∷◌, ◌++◌, take, length, map, Option, Some, None, Ok, Err}
+use Rattle.std.proofs.Common.{inl, refl, sym, ap, subst, suc, Result, length-append, ◌+◌}
+use Rattle.std.proofs.lemmas.List.{append-nil, append_assoc}
+use Rattle.std.specs.Io.KnownBytes.{Appends}
+use Rattle.sqlite_disk.specs.declared.Disk as disk
+use Rattle.olr_commands.specs.Dump.{steps}
+use Rattle.olr_commands.specs.Reply.{Outcome}
+use Rattle.olr_commands.specs.State.{Change, Command, Content, Fault, IsContent, IsState, State, start_state, step}
+use Rattle.olr_commands.proofs.HistoryLemmas.{run_join, start_sound}
+use Rattle.olr_commands.proofs.StateLemmas.{steps_keep}
+use Rattle.olr_journal.specs.Logs.{kept_of, left_of, is_own_of}
+use Rattle.olr_journal.specs.declared.folder.Folder as folder
+use Rattle.olr_journal.specs.declared.log_file.LogFile.{LogFile}
+use Rattle.olr_records.specs.Records.{Field, read}
+use Rattle.olr_records.proofs.ReadLemmas.{coords_read}
+use Rattle.olr_run.specs.LogEnds.{BeginsWith, LastsOn}
+use Rattle.olr_run.specs.Logged.{closed, Leads, UpTo}
+use Rattle.olr_run.specs.Output.{Claims, SoundOutcome, SoundOutcomes, texts, CutOff, Before_next, No_text, In_last, Not_sent}
+use Rattle.olr_run.specs.Output.{records_of}
+use Rattle.olr_records.specs.ReplyText.{outcome_text}
+use Rattle.olr_commands.specs.State.{Abort}
+use Rattle.olr_commands.specs.History.{Run}
+use Rattle.std.proofs.lemmas.List.Concat.{flat_map-append}
+use Rattle.olr_run.specs.ProgramEnds.{FromLog, Not_begun, Ran, Cut_off}
+use Rattle.olr_run.proofs.RunLemmas.{claims_of, sound_after}
+use Rattle.olr_sessions.specs.Buffers.{held, written}
+use Rattle.olr_sessions.specs.Journals.{Only}
+use Rattle.olr_sessions.specs.Sessions.{Known}
+use Rattle.olr_sessions.specs.declared.buffered.Buffered.{Buffered}
+use Rattle.olr_sessions.specs.declared.ends.RunFault.{RunFault}
+use Rattle.olr_laws.specs.LogLaws.{dropping, dropped, NextContinues, HasBegun, IsHonest, TwoRuns}
+
+-- ---- one run
+
+-- of the records that have outcomes
+run_front : {A : Type 0} (P : State → A → Outcome → State → Type 0) (s t : State) (xs : List A) (os : List Outcome) →
+    Run P s xs os t → (length os ≡ length (take (length os) xs)) × Run P s (take (length os) xs) os t
+run_front P s t xs [] h = (refl, h)
+run_front P s t [] (o ∷ os) h = absurd h
+run_front P s t (x ∷ xs) (o ∷ os) h =
+    let more = run_front P h.0 t xs os h.2 in (ap suc more.0, (h.0, h.1, more.1))
+
+-- an open batch is dropped
+batch_dropped : (s : State) (batch : Option (List Change)) → s.batch ≡ batch → IsContent s.content →
+    SoundOutcomes s (dropping batch) (dropped batch) (closed s.content)
+batch_dropped s None none sound = λ i. record { content = s.content; batch = none i }
+batch_dropped s (Some xs) some sound =
+    let aborts : step s Abort ≡ Ok (closed s.content) = rw some refl in (closed s.content, (inl (aborts, refl), sound), refl)
+
+both_long : (batch : Option (List Change)) → length (dropped batch) ≡ length (dropping batch)
+both_long None = refl
+both_long (Some xs) = refl
+
+pub next_continues : NextContinues
+next_continues s t rs qs os next c sent sound u second =
+    let b = u.state.batch in
+    let front = run_front SoundOutcome s u.state rs u.first u.run in
+    let mid = sound_after s u.state rs u.first sound u.run in
+    let begins : Claims (closed u.state.content) qs next t =
+    subst (λ (x : Content). Claims (closed x) qs next t) (sym u.content) second in
+    let records = take (length u.first) rs in
+    let one =
+    run_join SoundOutcome s u.state (closed u.state.content) records (dropping b) u.first (dropped b) front.0 front.1
+    (batch_dropped u.state b refl mid) in
+    let size : length (u.first ++ dropped b) ≡ length (records ++ dropping b) =
+    length-append u.first (dropped b) ∙ (λ i. front.0 i + both_long b i) ∙ sym (length-append records (dropping b)) in
+    record {
+      first = u.first;
+      middle = u.state;
+      run = u.run;
+      unsent = u.unsent;
+      texts_are = u.texts_are;
+      claims = claims_of s (records ++ dropping b ++ qs) (u.first ++ dropped b ++ next) t sound
+          (run_join SoundOutcome s (closed u.state.content) t (records ++ dropping b) qs (u.first ++ dropped b) next size one
+          begins.headline.run);
+    }
+
+-- ---- a content to which records lead is sound
+
+steps_sound : (s t : State) (rs : List (List Field)) (cs : List Command) → IsState s → map read rs ≡ map (λ c. Ok c) cs →
+    steps s cs ≡ Ok t → IsState t
+steps_sound s t rs [] sound decoded e = subst IsState (let same : s ≡ t = cc in same) sound
+steps_sound s t [] (c ∷ cs) sound decoded e = absurd cc
+steps_sound s t (r ∷ rs) (c ∷ cs) sound decoded e =
+    by_step (step s c) refl (λ v first more. steps_sound v t rs cs first (let rest : map read rs ≡ map (λ x. Ok x) cs = cc in rest) more)
+  where
+    asked : read r ≡ Ok c
+    asked = cc
+
+    by_step : (a : Result State Fault) → step s c ≡ a → ((v : State) → IsState v → steps v cs ≡ Ok t → IsState t) → IsState t
+    by_step (Ok v) is more = more v (steps_keep s v c sound (coords_read r c asked) is) (rw is at e)
+    by_step (Err fault) is more = absurd (let never = rw is at e in cc)
+
+begins_sound : (own : Bool) (text : List ℕ) (c : Content) → BeginsWith own text c → IsContent c
+begins_sound true text c l = (steps_sound start_state (closed c) l.records l.commands start_sound l.decoded l.leads).content
+begins_sound false text c l = (steps_sound start_state (closed c) (records_of text) l.commands start_sound l.decoded l.leads).content
+
+-- ---- what was written
+
+texts_more : (os before : List Outcome) (last : Outcome) → os ≡ before ++ last ∷ [] → texts os ≡ texts before ++ texts (last ∷ [])
+texts_more os before last are = ap texts are ∙ flat_map-append outcome_text before (last ∷ [])
+
+whole : (os : List Outcome) (w : List ℕ) → w ≡ texts os → texts os ≡ w ++ []
+whole os w is = sym is ∙ sym (append-nil w)
+
+cut_front : (stop : Bool) (os : List Outcome) (w : List ℕ) (e : RunFault) → CutOff stop os w e →
+    (rest : List ℕ) × (texts os ≡ w ++ rest)
+cut_front stop os w e (Before_next not_write none is) = ([], whole os w is)
+cut_front stop os w e (No_text memory before last are is) =
+    (texts (last ∷ []), texts_more os before last are ∙ ap (λ (x : List ℕ). x ++ texts (last ∷ [])) (sym is))
+cut_front stop os w e (In_last write before last front back are text some is) = (
+  back ++ [],
+  texts_more os before last are
+      ∙ ap (λ (x : List ℕ). texts before ++ x) (ap (λ (x : List ℕ). x ++ []) text ∙ append_assoc front back [])
+      ∙ sym (append_assoc (texts before) front (back ++ [])) ∙ ap (λ (x : List ℕ). x ++ (back ++ [])) (sym is),
+)
+cut_front stop os w e (Not_sent write is) = ([], whole os w is)
+
+-- ---- two runs
+
+module _ {D F : Type 0} (d : disk.Ghosts D) (f : folder.Ghosts F D) {W : Type 0} (contents : W → Known) where
+  record LeftBy (c : Content) (rs : List (List Field)) (o p : Buffered W) (text : List ℕ) : Type 0 where
+    sent : List ℕ
+    device : Appends (contents o.device) (contents p.device) sent
+    later : Content
+    leads : Leads text later
+    outcomes : List Outcome
+    up_to : UpTo (closed c) rs outcomes later sent
+
+  left_by_run : (start last : LogFile D F d f) (o p : Buffered W) (c : Content) (rs : List (List Field)) (os : List Outcome)
+      (t : State) (text : List ℕ) → LastsOn contents start o last p (closed c) rs os t → Leads (kept_of start) c →
+      Only (kept_of start) (left_of start) → held o ≡ [] → left_of last text → LeftBy c rs o p text
+  left_by_run start last o p c rs os t text lasts leads only none left =
+      let l = lasts.1 (record { closed_batch = refl; only = only; leads = leads; none_held = none }) in
+      let s = l.2 text left in
+      record { sent = l.0; device = l.1; later = s.0; leads = s.1; outcomes = os; up_to = s.2 }
+
+  left_by : (log last : LogFile D F d f) (stop : Bool) (rs : List (List Field)) (o p : Buffered W) (code : ℕ)
+      (one : FromLog contents log last stop (Some rs) o p code) → HasBegun one → IsHonest one → (c : Content) →
+      BeginsWith (is_own_of log) (kept_of log) c → Only (kept_of log) (left_of log) → held o ≡ [] → (text : List ℕ) →
+      left_of last text → LeftBy c rs o p text
+  left_by log last stop rs o p code (Not_begun same least most gone) began honest c says only none text left = absurd began
+  left_by log last stop rs o p code (Ran read start old new begins end run status) began honest c says only none text left =
+      let b = begins.leads honest.0 honest.1 c says in
+      let r = run (closed c) b.0 in
+      left_by_run start last o p c rs r.4.outcomes r.0 text r.4.each b.1 (begins.only only) none left
+  left_by log last stop rs o p code (Cut_off read start old new begins e run status) began honest c says only none text left =
+      let b = begins.leads honest.0 honest.1 c says in
+      let r = run (closed c) b.0 in
+      left_by_run start last o p c rs r.4.outcomes r.0 text r.4.each b.1 (begins.only only) none left
+
+  record Answers (c : Content) (qs : List (List Field)) (u v : Buffered W) : Type 0 where
+    outcomes : List Outcome
+    state : State
+    claims : Claims (closed c) qs outcomes state
+    wrote : List ℕ
+    rest : List ℕ
+    written_is : Appends (written contents u) (written contents v) wrote
+    texts_are : texts outcomes ≡ wrote ++ rest
+
+  answers : (log last : LogFile D F d f) (stop : Bool) (qs : List (List Field)) (u v : Buffered W) (code : ℕ)
+      (two : FromLog contents log last stop (Some qs) u v code) → HasBegun two → IsHonest two → (c : Content) →
+      BeginsWith (is_own_of log) (kept_of log) c → Answers c qs u v
+  answers log last stop qs u v code (Not_begun same least most gone) began honest c says = absurd began
+  answers log last stop qs u v code (Ran read start old new begins end run status) began honest c says =
+      let r = run (closed c) (begins.leads honest.0 honest.1 c says).0 in
+      record {
+        outcomes = r.4.outcomes;
+        state = r.0;
+        claims = r.4.each.0;
+        wrote = r.2;
+        rest = [];
+        written_is = r.3;
+        texts_are = whole r.4.outcomes r.2 r.4.wrote;
+      }
+  answers log last stop qs u v code (Cut_off read start old new begins e run status) began honest c says =
+      let r = run (closed c) (begins.leads honest.0 honest.1 c says).0 in
+      let front = cut_front stop r.4.outcomes r.2 e r.4.wrote in
+      record {
+        outcomes = r.4.outcomes;
+        state = r.0;
+        claims = r.4.each.0;
+        wrote = r.2;
+        rest = front.0;
+        written_is = r.3;
+        texts_are = front.1;
+      }
+
+  pub two_runs : TwoRuns d f contents
+  two_runs log last stop rs o p code one began honest c says only none next end again qs u v status two begun true_too own left =
+      let l = left_by log last stop rs o p code one began honest c says only none (kept_of next) left in
+      let next_says : BeginsWith (is_own_of next) (kept_of next) l.later =
+      subst (λ (b : Bool). BeginsWith b (kept_of next) l.later) (sym own) l.leads in
+      let a = answers next end again qs u v status two begun true_too l.later next_says in (
+        l.sent,
+        l.device,
+        a.outcomes,
+        a.state,
+        next_continues (closed c) a.state rs qs l.outcomes a.outcomes l.later l.sent
+            (begins_sound (is_own_of log) (kept_of log) c says) l.up_to a.claims,
+        a.wrote,
+        a.rest,
+        a.written_is,
+        a.texts_are,
+      )
