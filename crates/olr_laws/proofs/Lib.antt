@@ -5,6 +5,7 @@ pub mod MapLemmas
 pub mod AngleLemmas
 pub mod DirectionLemmas
 pub mod ProjectionLemmas
+mod LineBeforeLemmas
 pub mod RowLemmas
 pub mod MorningLemmas
 pub mod ForkLemmas

@@ -26,38 +26,47 @@ use Rattle.olr_laws.proofs.ReceiverLemmas.{known_out, known_in}
 
 -- ---- one LRP
 
+-- a point of the own line in a direction of its sector is preferred to those that it outdoes
+module _ (R : ProjectingReceiver) (M : Map) (t : Lrp) (x : ℕ) (d : Describes M t x) (q : Projected)
+    (sector : IsSector q.direction.east q.direction.north (sector_on t.side (leg M x))) where
+  inside : (rating_at R t (leg M x) q).bearing ≤ R.rates.reach
+  inside =
+      (R.rates.bearings q.place).inside t.bearing q.direction
+      (subst (λ (k : ℕ). IsSector q.direction.east q.direction.north k) (sym d.bearing) sector)
+
+  below : t.bearing < 32
+  below = subst (λ (k : ℕ). k < 32) (sym d.bearing) sector.0
+
+  pub preferred_to : (y : ℕ) (o : Projected) → is_outdone_at R t.side t.place (leg M x) q o ≡ true →
+      IsTrue (R.rates.prefers (rating_at R t (leg M x) q) (rating_at R t (leg M y) o))
+  preferred_to y o out =
+      let far = λ (q : Projected). R.rates.far t.place q.place in
+      let as_own : is_beyond (sector_on t.side (leg M x)) o.direction ≡ is_beyond t.bearing o.direction = ap (λ (k : ℕ). is_beyond k o.direction) (sym d.bearing) in
+      either_outdone R.rates (rating_at R t (leg M x) q) (rating_at R t (leg M y) o)
+      (subst (λ (f : ℕ). R.rates.frc_apart t.frc f ≤ R.rates.frc_apart t.frc (line_at M y).frc) d.frc (R.rates.frcs t.frc (line_at M y).frc))
+      (subst (λ (f : ℕ). R.rates.fow_apart t.fow f ≤ R.rates.fow_apart t.fow (line_at M y).fow) d.fow (R.rates.fows t.fow (line_at M y).fow))
+      inside
+      (elim (outdone_either R.rates.slack (far q) (far o) (is_beyond (sector_on t.side (leg M x)) o.direction) out) [
+        | inl farther ↦ inl farther
+        | inr both ↦ inr (both.0, (R.rates.bearings o.place).outside t.bearing o.direction below (sym as_own ∙ both.1))
+      ])
+
+-- the LRP is the one with the line's attributes
+pub lrp_is : (M : Map) (t : Lrp) (x : ℕ) → Describes M t x → t ≡ lrp_of M t.side t.place x
+lrp_is M t x d i = record { side = t.side; place = t.place; frc = d.frc i; fow = d.fow i; bearing = d.bearing i }
+
 module _ (R : ProjectingReceiver) (stub : ℕ) (M : Map) (t : Lrp) (x : ℕ) (d : Describes M t x) (o : StandsOutAt R stub M t.side t.place x) where
   abbrev D : DirectionReceiver
   D = R.rates
 
-  -- the LRP is the one with the line's attributes
-  lrp_is : t ≡ lrp_of M t.side t.place x
-  lrp_is i = record { side = t.side; place = t.place; frc = d.frc i; fow = d.fow i; bearing = d.bearing i }
-
-  inside : (rating_at R t (leg M x) o.point).bearing ≤ D.reach
-  inside =
-      (D.bearings o.point.place).inside t.bearing o.point.direction
-      (subst (λ (k : ℕ). IsSector o.point.direction.east o.point.direction.north k) (sym d.bearing) o.sector)
-
   preferred : (y : ℕ) (q : Projected) → IsTrue (has_line M y) → y ≢ x → R.project M t y ≡ Some q →
       IsTrue (D.prefers (rating_at R t (leg M x) o.point) (rating_at R t (leg M y) q))
   preferred y q h n seen =
-      let far = λ (q : Projected). D.far t.place q.place in
-      let as_own : is_beyond (sector_on t.side (leg M x)) q.direction ≡ is_beyond t.bearing q.direction = ap (λ (k : ℕ). is_beyond k q.direction) (sym d.bearing) in
-      either_outdone D (rating_at R t (leg M x) o.point) (rating_at R t (leg M y) q)
-      (subst (λ (f : ℕ). D.frc_apart t.frc f ≤ D.frc_apart t.frc (line_at M y).frc) d.frc (D.frcs t.frc (line_at M y).frc))
-      (subst (λ (f : ℕ). D.fow_apart t.fow f ≤ D.fow_apart t.fow (line_at M y).fow) d.fow (D.fows t.fow (line_at M y).fow))
-      inside
-      (elim (outdone_either D.slack (far o.point) (far q) (is_beyond (sector_on t.side (leg M x)) q.direction) (o.others y q h n (sym (ap (λ (u : Lrp). R.project M u y) lrp_is) ∙ seen))) [
-        | inl farther ↦ inl farther
-        | inr both ↦ inr (both.0, (D.bearings q.place).outside t.bearing q.direction below (sym as_own ∙ both.1))
-      ])
-    where
-      below : t.bearing < 32
-      below = subst (λ (k : ℕ). k < 32) (sym d.bearing) o.sector.0
+      preferred_to R M t x d o.point o.sector y q
+      (o.others y q h n (sym (ap (λ (u : Lrp). R.project M u y) (lrp_is M t x d)) ∙ seen))
 
   seen_own : R.project M t x ≡ Some o.point
-  seen_own = ap (λ (u : Lrp). R.project M u x) lrp_is ∙ o.seen
+  seen_own = ap (λ (u : Lrp). R.project M u x) (lrp_is M t x d) ∙ o.seen
 
   same_point : (q : Projected) → R.project M t x ≡ Some q → q ≡ o.point
   same_point q seen = let two = sym seen ∙ seen_own in cc two
@@ -86,7 +95,7 @@ module _ (R : ProjectingReceiver) (stub : ℕ) (M : Map) (t : Lrp) (x : ℕ) (d 
         absurd (let never : ⊥ = cc (is, isnt) in never)
   ]
 
-  takes_point : (y b : ℕ) → TakesAt R M t y b → (y ≡ x) × (b ≡ o.point.at)
+  pub takes_point : (y b : ℕ) → TakesAt R M t y b → (y ≡ x) × (b ≡ o.point.at)
   takes_point y b k =
       let same = takes_line y k.0 k.1 in
       let point = same_point k.0 (subst (λ (z : ℕ). R.project M t z ≡ Some k.0) same k.1.seen) in
@@ -109,10 +118,10 @@ from_last : (M : Map) (c x a y b : ℕ) (w : List ℕ) → (x ≡ y → a < b) �
 from_last M c x a y b w lt (One_line same e) = Last_on_line (same, lt same) e
 from_last M c x a y b w lt (More_lines xs n e s within) = Last_on_route xs (λ f. n f.0) e s within
 
-before_end : (parts len a b stub : ℕ) → a ≤ stub → parts * len ≤ b + stub → 2 * stub < parts * len → a < b
+pub before_end : (parts len a b stub : ℕ) → a ≤ stub → parts * len ≤ b + stub → 2 * stub < parts * len → a < b
 before_end parts len a b stub h i j = omega arith
 
-within_more : (M : Map) (c d : ℕ) (xs : List ℕ) → c ≤ d → Within M c xs → Within M d xs
+pub within_more : (M : Map) (c d : ℕ) (xs : List ℕ) → c ≤ d → Within M c xs → Within M d xs
 within_more M c d [] h w = tt
 within_more M c d (x ∷ xs) h w = (omega (arith, h, w.0), within_more M c d xs h w.1)
 
@@ -131,31 +140,31 @@ module _ (R : ProjectingReceiver) (stub : ℕ) (M : Map) (Ends : ℕ → Type 0)
   Owns ls r k (h ∷ i ∷ js) = Own Outgoing (decoded_coord r k) (slice_index ls h) × Owns ls r (suc k) (i ∷ js)
 
   -- a point near the end of the last line
-  abbrev IsEnd : ℕ → Type 0
+  abbrev pub IsEnd : ℕ → Type 0
   IsEnd b = (x : ℕ) × Ends x × (R.parts * dm M x ≤ b + stub)
 
-  end_near : ((x y : ℕ) → Ends x → Ends y → x ≡ y) → (b : ℕ) → IsEnd b → (x : ℕ) → Ends x → R.parts * dm M x ≤ b + stub
+  pub end_near : ((x y : ℕ) → Ends x → Ends y → x ≡ y) → (b : ℕ) → IsEnd b → (x : ℕ) → Ends x → R.parts * dm M x ≤ b + stub
   end_near one b e x h = subst (λ (y : ℕ). R.parts * dm M y ≤ b + stub) (one e.0 x e.1 h) e.2
 
   module _ (m : IsMap M) (ls : List ℕ) (known : Each (Known M) ls) (once : none_twice ls ≡ true) where
     leg_is : (i : ℕ) → i < length ls → leg_at (legs M ls) i ≡ leg M (slice_index ls i)
     leg_is i lt = get_or-map (leg M) ls i 0 no_leg lt
 
-    own_out : (r : Reference) (k i j : ℕ) → i < length ls → Describes M (lrp_at r k (attrs (legs M ls) i j)) (slice_index ls i)
+    pub own_out : (r : Reference) (k i j : ℕ) → i < length ls → Describes M (lrp_at r k (attrs (legs M ls) i j)) (slice_index ls i)
     own_out r k i j lt = grind (arith, has_index, leg_is)
 
-    own_in : (r : Reference) (h i : ℕ) → i - 1 < length ls → r.last ≡ fields.last_point (legs M ls) h i →
+    pub own_in : (r : Reference) (h i : ℕ) → i - 1 < length ls → r.last ≡ fields.last_point (legs M ls) h i →
         Describes M (last_lrp r) (slice_index ls (i - 1))
     own_in r h i lt is = grind (arith, has_index, leg_is)
 
-    within_stretch : (i j : ℕ) → Within M (R.lowest (attrs (legs M ls) i j).lfrc) (stretch ls i j)
+    pub within_stretch : (i j : ℕ) → Within M (R.lowest (attrs (legs M ls) i j).lfrc) (stretch ls i j)
     within_stretch i j =
         let least : Within M (attrs (legs M ls) i j).lfrc (stretch ls i j) =
         grind (arith, range_legs M m ls known i j, within_greatest M 0 (stretch ls i j)) in
         within_more M (attrs (legs M ls) i j).lfrc (R.lowest (attrs (legs M ls) i j).lfrc) (stretch ls i j) (R.allows _) least
 
     -- the attributes of the LRPs h and i and those after them but the last
-    abbrev from : ℕ → ℕ → List ℕ → List fields.Attrs
+    abbrev pub from : ℕ → ℕ → List ℕ → List fields.Attrs
     from h i js = attrs (legs M ls) h i ∷ map (λ (m : Middle). m.attrs) (middle_points (legs M ls) h i js)
 
     to_last : (h i : ℕ) → h < i → i ≤ length ls → Linked M ls (h ∷ i ∷ []) → (a b : ℕ) →
@@ -239,7 +248,7 @@ module _ (R : ProjectingReceiver) (stub : ℕ) (M : Map) (Ends : ℕ → Type 0)
         )
 
     -- from the first LRP on
-    abbrev Kept_reference : ℕ → ℕ → ℕ → ℕ → List ℕ → Reference
+    abbrev pub Kept_reference : ℕ → ℕ → ℕ → ℕ → List ℕ → Reference
     Kept_reference p q h i js = reference_by_kept (legs M ls) p q h i js
 
     kept_road : (p q h i : ℕ) (js : List ℕ) → Linked M ls (h ∷ i ∷ js) → Owns ls (Kept_reference p q h i js) 0 (h ∷ i ∷ js) →

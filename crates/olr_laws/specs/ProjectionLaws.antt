@@ -7,7 +7,7 @@ use Rattle.olr_spec.specs.Reference.{Reference}
 use Rattle.olr_spec.specs.Receiver.{Lrp, Outgoing, Incoming, decoded_coord, last_number}
 use Rattle.olr_spec.specs.Recovery.{IsLineAt}
 use Rattle.olr_laws.specs.Directions.{DirectionReceiver, DistinctByDirection}
-use Rattle.olr_laws.specs.Projections.{ProjectingReceiver, Road, RecoversByProjection, DistinctByProjection, IsPathRoad}
+use Rattle.olr_laws.specs.Projections.{ProjectingReceiver, Road, RecoversByProjection, DistinctByProjection, IsPathRoad, DistinctButBefore, IsPathPart}
 use Rattle.olr_laws.specs.Projections.{lrp_of, IsSnappedAlong}
 
 -- if at each LRP the path's own line stands out, every receiver that projects recovers a road, and each road that it
@@ -38,3 +38,12 @@ SomeAtEnds =
     → ((x : ℕ) → IsLineAt M P Incoming (last_number r) x
     → IsTrue (sees M (lrp_of M Incoming (decoded_coord r (last_number r)) x) x))
     → IsSnappedAlong R M P r)
+
+-- if at LRPs between the first and the last the line before may be taken, too, and the path's route from there to the next
+-- LRP is the unique shortest path, each road that is recovered has the lines of the path, though a leg may begin and end
+-- with the lines before its LRPs
+abbrev pub RecoveredButBefore : Type 0
+RecoveredButBefore =
+    (R : ProjectingReceiver) (stub : ℕ) (M : Map) → IsMap M → (P : Path) → IsTrue (is_path P.lines) → (r : Reference)
+    → Encodes M P (Points r) → DistinctButBefore R stub M P r
+    → (road : Road) → RecoversByProjection R M r road → IsPathPart R stub M P r road

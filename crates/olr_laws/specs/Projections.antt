@@ -11,17 +11,22 @@
 --     IsPathRoad R stub M P r road      the legs of the path, with at most the stub missing at each end
 --     node_point, IsSnapped R M s p x, IsSnappedAlong R M P r      the end of a line at an LRP; lines are seen there, but for
 --         those that don't matter
+--     StandsOutButBefore, DistinctButBefore R stub M P r      the line before an LRP may be taken, too
+--     CoveredBefore, CoveredAfterFirst M ls ks      the path's route from there is the unique shortest path
+--     IsPathPart R stub M P r road      the lines of the path, with at most the stub missing at each end
 use Rattle.std.specs.Prelude.{◌≡◌, ◌≢◌, ℕ, suc, ◌+◌, ◌*◌, ◌<◌, ◌≤◌, ℤ, Bool, ◌&&◌, ◌||◌, nat_le, nat_lt, List, [], ◌∷◌}
-use Rattle.std.specs.Prelude.{◌++◌, Option, Some, ◌⊎◌, IsTrue, IsFalse}
+use Rattle.std.specs.Prelude.{◌-◌, ◌++◌, Option, Some, ◌⊎◌, ⊤, IsTrue, IsFalse}
+use Rattle.std.specs.List.{concat}
 use Rattle.olr_spec.specs.Coordinates.{Coord}
 use Rattle.olr_spec.specs.Map.{Map, has_line, line_at, start, end, dm}
 use Rattle.olr_spec.specs.Extension.{Path}
+use Rattle.olr_spec.specs.Points.{Covered, OfPath}
 use Rattle.olr_spec.specs.Bearings.{Leg, Vector, IsSector}
 use Rattle.olr_spec.specs.Directions.{direction_on, is_beyond}
-use Rattle.olr_spec.specs.Reference.{Attrs, Reference, leg}
+use Rattle.olr_spec.specs.Reference.{Attrs, Reference, leg, legs, kept_points}
 use Rattle.olr_spec.specs.Receiver.{Side, Outgoing, Incoming, coordinate_on, sector_on, Lrp, lrp_at, last_lrp, Rating, Shortest}
 use Rattle.olr_spec.specs.Receiver.{RecoversTo, attributes, decoded_coord, last_number}
-use Rattle.olr_spec.specs.Recovery.{IsLineAt, IsStretches}
+use Rattle.olr_spec.specs.Recovery.{IsLineAt, IsStretches, IsKeptPart}
 use Rattle.olr_laws.specs.Directions.{DirectionReceiver}
 
 -- ---- candidates
@@ -180,3 +185,42 @@ pub record IsSnappedAlong (R : ProjectingReceiver) (M : Map) (P : Path) (r : Ref
   pub outgoing : (k x : ℕ) → k < last_number r → IsLineAt M P Outgoing k x → IsSnapped R M Outgoing (decoded_coord r k) x
   pub incoming : (x : ℕ) → IsLineAt M P Incoming (last_number r) x →
       IsSnapped R M Incoming (decoded_coord r (last_number r)) x
+
+-- ---- receivers that may take the line before
+
+-- as StandsOutAt, at an LRP that is decoded as p, but the line z before the own line x may be seen near its end
+pub record StandsOutButBefore (R : ProjectingReceiver) (stub : ℕ) (M : Map) (p : ℤ × ℤ) (x z : ℕ) : Type 0 where
+  pub point : Projected
+  pub known : IsTrue (has_line M x)
+  pub seen : R.project M (lrp_of M Outgoing p x) x ≡ Some point
+  pub near : IsNearEnd R stub M Outgoing x point.at
+  pub sector : IsSector point.direction.east point.direction.north (sector_on Outgoing (leg M x))
+  pub others : (y : ℕ) (o : Projected) → IsTrue (has_line M y) → y ≢ x → R.project M (lrp_of M Outgoing p x) y ≡ Some o →
+      ((y ≡ z) × IsNearEnd R stub M Incoming z o.at) ⊎ IsTrue (is_outdone_at R Outgoing p (leg M x) point o)
+
+-- from the line before each of the LRPs ks the next LRP is covered, too
+abbrev pub CoveredBefore : Map → List ℕ → List ℕ → Type 0
+CoveredBefore M ls [] = ⊤
+CoveredBefore M ls (h ∷ []) = ⊤
+CoveredBefore M ls (h ∷ i ∷ ks) = Covered M ls (h - 1) i × CoveredBefore M ls (i ∷ ks)
+
+-- of the LRPs after the first
+abbrev pub CoveredAfterFirst : Map → List ℕ → List ℕ → Type 0
+CoveredAfterFirst M ls [] = ⊤
+CoveredAfterFirst M ls (h ∷ ks) = CoveredBefore M ls ks
+
+-- at each LRP of the reference r the path's own line stands out, at those between the first and the last but for the line
+-- before
+pub record DistinctButBefore (R : ProjectingReceiver) (stub : ℕ) (M : Map) (P : Path) (r : Reference) : Type 0 where
+  pub first : (x : ℕ) → IsLineAt M P Outgoing 0 x → StandsOutAt R stub M Outgoing (decoded_coord r 0) x
+  pub between : (k x z : ℕ) → 0 < k → k < last_number r → IsLineAt M P Outgoing k x → IsLineAt M P Incoming k z →
+      StandsOutButBefore R stub M (decoded_coord r k) x z
+  pub last : (x : ℕ) → IsLineAt M P Incoming (last_number r) x →
+      StandsOutAt R stub M Incoming (decoded_coord r (last_number r)) x
+  pub covered : OfPath M P (λ E _ _ js. CoveredAfterFirst M E.lines (kept_points (legs M E.lines) E.pos E.neg js))
+
+-- the lines of the path from the first LRP to the last, but for at most the stub at each end
+pub record IsPathPart (R : ProjectingReceiver) (stub : ℕ) (M : Map) (P : Path) (r : Reference) (road : Road) : Type 0 where
+  pub lines : IsKeptPart M P (concat road.legs)
+  pub begin : road.begin ≤ stub
+  pub finish : (x : ℕ) → IsLineAt M P Incoming (last_number r) x → R.parts * dm M x ≤ road.finish + stub

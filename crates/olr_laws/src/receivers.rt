@@ -43,11 +43,13 @@ pub fn laws_of_directions()
 
 /// Receivers that project LRPs onto lines recover the road of the path, but for a stub at each end, if at each LRP the path's
 /// own line stands out among the points of lines that they see. It does so where it stands out at nodes, for receivers
-/// that count points near the ends of lines as these ends, if no point within another line is in the way.
+/// that count points near the ends of lines as these ends, if no point within another line is in the way. The line before an
+/// LRP may be taken if the path's route from there is the unique shortest path.
 pub fn laws_of_projections()
     ensures recovered { ProjectionLaws.RecoveredByProjection }
     ensures snapped { ProjectionLaws.SnappedIsDistinct }
     ensures at_ends { ProjectionLaws.SomeAtEnds }
+    ensures but_before { ProjectionLaws.RecoveredButBefore }
 {}
 
 /// A string in whose way nothing stands is distinct for both kinds of receivers. So is that of each path which the answer
