@@ -70,6 +70,15 @@ line,30,3,4,5,3,740,540,6.12792,49.60311
 line,99,2,3,4,3,1500
 ";
 
+/// The lines of `diamond`.
+const DIAMOND: [Plain; 5] = [
+    (5, 1, 2, 100),
+    (6, 1, 3, 100),
+    (7, 3, 4, 100),
+    (8, 2, 4, 100),
+    (9, 4, 5, 100),
+];
+
 /// The next number of a pseudorandom sequence.
 pub fn next(seed: u64) -> u64 {
     seed.wrapping_mul(6_364_136_223_846_793_005)
@@ -205,4 +214,15 @@ pub fn plain_map(alloc: Global, last: u32, lines: &[Plain]) -> Result<RoadMap, E
         make(&mut map, plain_line(alloc, *plain))?;
     }
     Ok(map)
+}
+
+/// Two routes of equal length from node 1 to node 4, and a line on to node 5.
+pub fn diamond(alloc: Global) -> Result<RoadMap, EditFault> {
+    plain_map(alloc, 5, &DIAMOND)
+}
+
+/// A line from node 1 to itself, and two equally long ones to node 2. Node 3 has no lines.
+pub fn parallel(alloc: Global) -> Result<RoadMap, EditFault> {
+    let lines = [(1, 1, 1, 50), (3, 1, 2, 100), (2, 1, 2, 100)];
+    plain_map(alloc, 3, &lines)
 }

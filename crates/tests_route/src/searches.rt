@@ -1,13 +1,19 @@
 //! Labels, shortest paths and unique shortest paths on small maps.
 ghost use Rattle.std.specs.Prelude.{◌≤◌};
 
-use made_maps::{Plain, STRAIGHT, WORKED, line, lines, make, map_of, node, other_line, plain_map};
+use made_maps::{STRAIGHT, WORKED, diamond, lines, make, map_of, node, other_line, parallel};
 use olr_map::{Footprint, MapRead, NodeId, RoadMap};
 use olr_route::{GREATEST_LIMIT, Labels, Work, is_least, is_unique_shortest, search};
 use std::alloc::Global;
 use std::fmt::Debug;
 use std::process::Abort;
 use std::test::Fail;
+
+/// The label of a node: the length of the shortest path there, and the number of its last line.
+type Label = (Option<u32>, Option<u32>);
+
+/// The label of a node that no route reaches.
+const NONE: Label = (None, None);
 
 /// Asserts that two values are equal. One call is proved faster than the branches of `assert_eq!` at each use.
 fn same<T: PartialEq + Debug + Drop>(rt: &impl Abort, found: T, wanted: T, what: &str) {
@@ -19,38 +25,6 @@ macro_rules! same {
     ($rt:expr; $found:expr, $wanted:expr) => {
         same($rt, $found, $wanted, stringify!($found))
     };
-}
-
-/// The map with the nodes from 1 to `nodes`, and lines given by number, start, end and length.
-fn map_with(rt: &impl Abort, alloc: Global, nodes: u32, lines: &[Plain]) -> RoadMap {
-    plain_map(alloc, nodes, lines).expect(rt, "a map")
-}
-
-/// The worked map: a road of three lines from node 1 to node 4, and a shorter line beside the second.
-fn base(rt: &impl Abort, alloc: Global) -> RoadMap {
-    map_of(alloc, WORKED).expect(rt, "the worked map")
-}
-
-/// Two routes of equal length from node 1 to node 4, and a line on to node 5.
-fn diamond(rt: &impl Abort, alloc: Global) -> RoadMap {
-    map_with(
-        rt,
-        alloc,
-        5,
-        &[
-            (5, 1, 2, 100),
-            (6, 1, 3, 100),
-            (7, 3, 4, 100),
-            (8, 2, 4, 100),
-            (9, 4, 5, 100),
-        ],
-    )
-}
-
-/// A line from node 1 to itself, and two equally long ones to node 2. Node 3 has no lines.
-fn parallel(rt: &impl Abort, alloc: Global) -> RoadMap {
-    let lines = [(1, 1, 1, 50), (3, 1, 2, 100), (2, 1, 2, 100)];
-    map_with(rt, alloc, 3, &lines)
 }
 
 /// The labels of a search from a node of the map.
@@ -87,12 +61,6 @@ fn judgement<M: MapRead>(
         is_unique_shortest(map, &labels, &lines),
     )
 }
-
-/// The label of a node: the length of the shortest path there, and the number of its last line.
-type Label = (Option<u32>, Option<u32>);
-
-/// The label of a node that no route reaches.
-const NONE: Label = (None, None);
 
 /// A node's label.
 fn label(labels: &Labels, number: u32) -> Label {
@@ -150,7 +118,7 @@ fn assert_searched(rt: &impl Abort, alloc: Global, map: &RoadMap) {
 
 #[test]
 fn search_on_the_base_map(rt: HostRuntime) -> Result<(), Fail> {
-    let mut map = base(&rt, rt.alloc());
+    let mut map = map_of(rt.alloc(), WORKED)?;
     assert_searched(&rt, rt.alloc(), &map);
     let start = (Some(0), None);
     for (limit, end) in [(1500, (Some(1500), Some(99))), (1499, NONE)] {
@@ -173,13 +141,13 @@ fn assert_plan<M: MapRead>(
 ) {
     for (lines, wanted) in routes {
         let found = judgement(rt, alloc, map, node(source), lines);
-        assert_eq!(rt; found, *wanted, "the walk {lines:?}");
+        assert_eq!(rt; found, *wanted, "the route {lines:?}");
     }
 }
 
 #[test]
-fn least_and_unique_routes(rt: HostRuntime) {
-    let map = base(&rt, rt.alloc());
+fn least_and_unique_routes(rt: HostRuntime) -> Result<(), Fail> {
+    let map = map_of(rt.alloc(), WORKED)?;
     let routes = [
         (&[][..], (true, true)),
         (&[99], (true, true)),
@@ -188,7 +156,7 @@ fn least_and_unique_routes(rt: HostRuntime) {
     ];
     assert_plan(&rt, rt.alloc(), &map, 2, &routes);
 
-    let map = diamond(&rt, rt.alloc());
+    let map = diamond(rt.alloc())?;
     let by_seventh = [
         (Some(0), None),
         (Some(100), Some(5)),
@@ -204,11 +172,12 @@ fn least_and_unique_routes(rt: HostRuntime) {
         (&[6, 7, 9], (true, false)),
     ];
     assert_plan(&rt, rt.alloc(), &map, 1, &routes);
+    Ok(())
 }
 
 #[test]
-fn loops_and_parallel_lines(rt: HostRuntime) {
-    let map = parallel(&rt, rt.alloc());
+fn loops_and_parallel_lines(rt: HostRuntime) -> Result<(), Fail> {
+    let map = parallel(rt.alloc())?;
     let start = (Some(0), None);
     let second = (Some(100), Some(2));
     same!(&rt; labels_within(&rt, rt.alloc(), &map, 1, GREATEST_LIMIT), [start, second, NONE, NONE]);
@@ -219,11 +188,12 @@ fn loops_and_parallel_lines(rt: HostRuntime) {
         (&[3], (false, false)),
     ];
     assert_plan(&rt, rt.alloc(), &map, 1, &routes);
+    Ok(())
 }
 
 #[test]
-fn counts_end_at_the_greatest_number(rt: HostRuntime) {
-    let map = base(&rt, rt.alloc());
+fn counts_end_at_the_greatest_number(rt: HostRuntime) -> Result<(), Fail> {
+    let map = map_of(rt.alloc(), WORKED)?;
     let source = node(2);
     assert!(rt; map.node(source).is_some());
     let mut footprint = Footprint::new(rt.alloc());
@@ -237,4 +207,5 @@ fn counts_end_at_the_greatest_number(rt: HostRuntime) {
         Err(_) => panic!(rt; "no memory"),
     }
     same!(&rt; (work.encodings, work.searches, work.settled), (7, u64::MAX, 3));
+    Ok(())
 }

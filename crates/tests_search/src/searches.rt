@@ -1,7 +1,7 @@
 //! Searches on small maps, continued step by step, and whether lines extend unique shortest paths.
 ghost use Rattle.std.specs.Prelude.{◌≤◌};
 
-use made_maps::{Plain, WORKED, line, make, map_of, node, plain_line, plain_map};
+use made_maps::{WORKED, diamond, line, make, map_of, node, parallel, plain_line, plain_map};
 use olr_map::{MapRead, RoadMap};
 use olr_search::{Dijkstra, Direction, GREATEST_LIMIT, resolve_line, settled_search};
 use std::alloc::Global;
@@ -19,38 +19,6 @@ macro_rules! same {
     ($rt:expr; $found:expr, $wanted:expr) => {
         same($rt, $found, $wanted, stringify!($found))
     };
-}
-
-/// The map with the nodes from 1 to `nodes`, and lines given by number, start, end and length.
-fn map_with(rt: &impl Abort, alloc: Global, nodes: u32, lines: &[Plain]) -> RoadMap {
-    plain_map(alloc, nodes, lines).expect(rt, "a map")
-}
-
-/// The worked map: a road of three lines from node 1 to node 4, and a shorter line beside the second.
-fn base(rt: &impl Abort, alloc: Global) -> RoadMap {
-    map_of(alloc, WORKED).expect(rt, "the worked map")
-}
-
-/// Two routes of equal length from node 1 to node 4, and a line on to node 5.
-fn diamond(rt: &impl Abort, alloc: Global) -> RoadMap {
-    map_with(
-        rt,
-        alloc,
-        5,
-        &[
-            (5, 1, 2, 100),
-            (6, 1, 3, 100),
-            (7, 3, 4, 100),
-            (8, 2, 4, 100),
-            (9, 4, 5, 100),
-        ],
-    )
-}
-
-/// A line from node 1 to itself, and two equally long ones to node 2. Node 3 has no lines.
-fn parallel(rt: &impl Abort, alloc: Global) -> RoadMap {
-    let lines = [(1, 1, 1, 50), (3, 1, 2, 100), (2, 1, 2, 100)];
-    map_with(rt, alloc, 3, &lines)
 }
 
 /// The distances of the nodes from 1 on, by a search from nodes given by number and start value.
@@ -82,8 +50,8 @@ fn distances<M: MapRead>(
 }
 
 #[test]
-fn distances_in_either_direction(rt: HostRuntime) {
-    let map = base(&rt, rt.alloc());
+fn distances_in_either_direction(rt: HostRuntime) -> Result<(), Fail> {
+    let map = map_of(rt.alloc(), WORKED)?;
     for (direction, from, limit, found) in [
         (
             Direction::Along,
@@ -127,8 +95,7 @@ fn distances_in_either_direction(rt: HostRuntime) {
         same!(&rt; distances(&rt, rt.alloc(), &map, direction, from, limit), found);
     }
 
-    let ring = map_with(
-        &rt,
+    let ring = plain_map(
         rt.alloc(),
         4,
         &[
@@ -138,7 +105,7 @@ fn distances_in_either_direction(rt: HostRuntime) {
             (4, 3, 3, 5),
             (5, 1, 2, 15),
         ],
-    );
+    )?;
     same!(
         &rt;
         distances(&rt, rt.alloc(), &ring, Direction::Along, &[(1, 0)], 100),
@@ -149,6 +116,7 @@ fn distances_in_either_direction(rt: HostRuntime) {
         distances(&rt, rt.alloc(), &ring, Direction::Against, &[(1, 0)], 100),
         [Some(0), Some(50), Some(30), None]
     );
+    Ok(())
 }
 
 /// The distances of the nodes 1 to 4, and how many nodes the search settled.
@@ -195,11 +163,11 @@ fn begin_again(rt: &impl Abort, map: &RoadMap, search: &mut Dijkstra) -> Result<
 
 #[test]
 fn search_step_by_step(rt: HostRuntime) -> Result<(), Fail> {
-    let map = base(&rt, rt.alloc());
+    let map = map_of(rt.alloc(), WORKED)?;
     let mut search = Dijkstra::new(rt.alloc());
     settle_in_steps(&rt, &map, &mut search)?;
     assert_reached(&rt, &map, &search, &[2, 3, 4]);
-    begin_again(&rt, &diamond(&rt, rt.alloc()), &mut search)
+    begin_again(&rt, &diamond(rt.alloc())?, &mut search)
 }
 
 /// Asserts whether each of these lines extends a unique shortest path from node 1.
@@ -224,11 +192,11 @@ fn assert_unique(
 
 #[test]
 fn unique_routes_by_distances(rt: HostRuntime) -> Result<(), Fail> {
-    let map = diamond(&rt, rt.alloc());
+    let map = diamond(rt.alloc())?;
     let lines = [(5, true), (6, true), (7, false), (8, false), (10, false)];
     assert_unique(&rt, rt.alloc(), &map, &lines)?;
 
-    let mut map = parallel(&rt, rt.alloc());
+    let mut map = parallel(rt.alloc())?;
     make(&mut map, plain_line(rt.alloc(), (4, 2, 3, 10)))?;
     make(&mut map, plain_line(rt.alloc(), (5, 2, 3, 11)))?;
     let lines = [(1, false), (2, false), (3, false), (4, true), (5, false)];
