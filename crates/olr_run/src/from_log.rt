@@ -13,7 +13,7 @@ ghost use Rattle.olr_sessions.specs.Sessions.{most_held};
 
 use crate::both::read_inputs;
 use crate::logged::run_with_log;
-use crate::starts::{StartFault, begin_with};
+use crate::starts::{RejectedRecord, StartFault, begin_with};
 use crate::streams::NO_FILE;
 use olr_arguments::{Options, WRONG_ARGUMENTS, open_file};
 use olr_journal::{Folder, LogFile, OpenError};
@@ -100,6 +100,25 @@ fn report_unusable<E: Write>(name: &str, error: io::Error, errors: &mut E) -> u8
     NO_LOG
 }
 
+/// Reports which record of a log is rejected, and why: the line of a fault has its own end.
+fn report_rejected<E: Write>(name: &str, rejected: RejectedRecord, errors: &mut E) {
+    let RejectedRecord {
+        record,
+        line,
+        fault,
+    } = rejected;
+    let _ = match fault {
+        Some(fault) => write!(
+            errors,
+            "olr-keep: record {record} of {name}, line {line}, is rejected: {fault}"
+        ),
+        None => writeln!(
+            errors,
+            "olr-keep: record {record} of {name}, line {line}, is no change, begin or commit"
+        ),
+    };
+}
+
 /// Reports why a run can't begin with a log, and returns the exit status.
 fn report_start<E: Write>(name: &str, fault: StartFault, errors: &mut E) -> u8
     ensures least { 3 ≤ result }
@@ -107,8 +126,8 @@ fn report_start<E: Write>(name: &str, fault: StartFault, errors: &mut E) -> u8
 {
     match fault {
         StartFault::Unusable(error) => report_unusable(name, error, errors),
-        StartFault::Rejected(number) => {
-            let _ = writeln!(errors, "olr-keep: record {number} of {name} is rejected");
+        StartFault::Rejected(rejected) => {
+            report_rejected(name, rejected, errors);
             REJECTED
         }
         StartFault::Open => {
@@ -145,11 +164,18 @@ fn log_status<E: Write>(
     end_status(ended, errors)
 }
 
+/// The ending of a noun after a number.
+fn plural(count: u64) -> &'static str {
+    if count == 1 { "" } else { "s" }
+}
+
 /// Says with how many records and paths a run begins.
 fn report_begun<E: Write>(name: &str, records: u64, paths: usize, errors: &mut E) {
+    let more_records = plural(records);
+    let more_paths = plural(paths as u64);
     let _ = writeln!(
         errors,
-        "olr-keep: {name} has {records} records and {paths} paths"
+        "olr-keep: {name} has {records} record{more_records} and {paths} path{more_paths}"
     );
 }
 

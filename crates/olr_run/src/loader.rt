@@ -11,7 +11,7 @@ ghost use Rattle.olr_run.specs.Restored.{IsChange, IsContentOf, Loaded, Loads, L
 
 use csv::ByteRecord;
 use olr_commands::{Command, CommandFault};
-use olr_records::{ReadFault, read_command};
+use olr_records::{ReadFault, fault_text, read_command, read_fault_text};
 use olr_register::Register;
 use olr_sessions::InMemory;
 use std::alloc::{AllocError, Global};
@@ -29,9 +29,12 @@ pub enum RestoreFault {
     /// Out of memory.
     #[error("no memory")]
     Memory,
-    /// A record is rejected, or a log holds none like it.
+    /// A record is rejected. The line of its fault.
     #[error("a record of the log is rejected")]
-    Rejected,
+    Rejected(&'static str),
+    /// A record is no change, `begin` or `commit`.
+    #[error("a record of the log is no change")]
+    NoChange,
     /// The last batch has no commit.
     #[error("the log ends in a batch")]
     Open,
@@ -64,11 +67,16 @@ pub struct Loader {
     count: u32,
 }
 
+/// A record of a log is rejected with this fault.
+fn rejected(fault: CommandFault) -> RestoreFault {
+    RestoreFault::Rejected(fault_text(fault))
+}
+
 /// The fault of a rejected command of a log.
 fn restore_fault(fault: CommandFault) -> RestoreFault {
     match fault {
         CommandFault::Memory => RestoreFault::Memory,
-        _ => RestoreFault::Rejected,
+        _ => rejected(fault),
     }
 }
 
@@ -146,7 +154,7 @@ impl Loader {
             return Ok(());
         }
         if self.count >= FULL {
-            return Err(RestoreFault::Rejected);
+            return Err(rejected(CommandFault::BatchFull));
         }
         apply(&mut self.register, command)?;
         self.held += 1;
@@ -171,7 +179,7 @@ impl Loader {
         ensures { OnOk result (Loaded self.old Begin self.new) }
     {
         if self.in_batch {
-            return Err(RestoreFault::Rejected);
+            return Err(rejected(CommandFault::BatchOpen));
         }
         self.in_batch = true;
         self.count = 0;
@@ -182,8 +190,11 @@ impl Loader {
     fn commit(&mut self, count: u32) -> Result<(), RestoreFault>
         ensures { OnOk result (Loaded self.old (Commit count) self.new) }
     {
-        if !self.in_batch || count != self.count {
-            return Err(RestoreFault::Rejected);
+        if !self.in_batch {
+            return Err(rejected(CommandFault::NoBatch));
+        }
+        if count != self.count {
+            return Err(rejected(CommandFault::CountDiffers));
         }
         self.in_batch = false;
         Ok(())
@@ -197,7 +208,7 @@ impl Loader {
             Kind::Change => self.change(command),
             Kind::Begin => self.begin(),
             Kind::Commit(count) => self.commit(count),
-            Kind::Other => Err(RestoreFault::Rejected),
+            Kind::Other => Err(RestoreFault::NoChange),
         }
     }
 
@@ -208,7 +219,7 @@ impl Loader {
         match read_command(alloc, fields) {
             Ok(command) => self.carry_out(command),
             Err(ReadFault::Memory) => Err(RestoreFault::Memory),
-            Err(ReadFault::Syntax | ReadFault::Range) => Err(RestoreFault::Rejected),
+            Err(fault) => Err(RestoreFault::Rejected(read_fault_text(fault))),
         }
     }
 
@@ -231,6 +242,25 @@ impl Loader {
     }
 }
 
+/// How far the records of a log were carried out.
+#[derive(Clone, Copy, Debug)]
+pub(crate) struct Progress {
+    /// The number of records that were taken.
+    pub(crate) taken: u64,
+    /// How many bytes of the text come after those that were carried out.
+    pub(crate) left: usize,
+}
+
+impl Progress {
+    /// Before the first record.
+    pub(crate) fn none() -> Progress {
+        Progress {
+            taken: 0,
+            left: usize::MAX,
+        }
+    }
+}
+
 /// The register with the content of a log: that to which its records lead from the empty register, each accepted, with no
 /// batch open at the end. `count` has the number of records that were taken: after a fault, the number of the record that
 /// is rejected. A log holds changes, `begin` and `commit`, and no other records.
@@ -238,18 +268,37 @@ pub fn restore(alloc: Global, text: &[u8], count: &mut u64) -> Result<Register, 
     ensures content { IfOk result (λ r. (c : Content) × IsContentOf text.now c × Represents r.kept (closed c)) }
     ensures leads { IfOk result (λ r. (c : Content) → Leads text.now c → Represents r.kept (closed c)) }
 {
+    let mut progress = Progress::none();
+    let restored = restore_noting(alloc, text, &mut progress);
+    *count = progress.taken;
+    restored
+}
+
+/// The same. After a fault, `progress` is at the record that is rejected.
+pub(crate) fn restore_noting(
+    alloc: Global,
+    text: &[u8],
+    progress: &mut Progress,
+) -> Result<Register, RestoreFault>
+    ensures content { IfOk result (λ r. (c : Content) × IsContentOf text.now c × Represents r.kept (closed c)) }
+    ensures leads { IfOk result (λ r. (c : Content) → Leads text.now c → Represents r.kept (closed c)) }
+{
     let mut loader = Loader::new(alloc)?;
     let mut records = InMemory::new(alloc, text);
     let mut fields = ByteRecord::new(alloc);
     let mut taken: u64 = 0;
-    *count = 0;
+    *progress = Progress {
+        taken,
+        left: records.left(),
+    };
     'records: while records.take_record(&mut fields)? {
         if taken == MOST_RECORDS {
             return Err(RestoreFault::TooMany);
         }
         taken += 1;
-        *count = taken;
+        progress.taken = taken;
         loader.take(alloc, &fields)?;
+        progress.left = records.left();
     }
     loader.finish()
 }

@@ -10,7 +10,7 @@ ghost use Rattle.olr_run.specs.Restored.{IsContentOf};
 ghost use Rattle.olr_sessions.specs.Journals.{Only};
 
 use crate::answers::records_text;
-use crate::loader::{RestoreFault, restore};
+use crate::loader::{Progress, RestoreFault, restore_noting};
 use olr_journal::{Folder, LogFile};
 use olr_register::Register;
 use olr_sessions::{Journal, is_whole};
@@ -18,13 +18,24 @@ use sqlite_disk::Disk;
 use std::alloc::Global;
 use std::io;
 
+/// A record of a log that is rejected.
+#[derive(Clone, Copy, Debug)]
+pub struct RejectedRecord {
+    /// Its number among the records.
+    pub record: u64,
+    /// The number of the line of the file on which it begins.
+    pub line: u64,
+    /// The line of its fault. None if it is no change, `begin` or `commit`.
+    pub fault: Option<&'static str>,
+}
+
 /// Why a run can't begin with a log.
 #[derive(Clone, Copy, Debug)]
 pub enum StartFault {
     /// The log can't be read or written.
     Unusable(io::Error),
-    /// The record of this number is rejected, or a log holds none like it.
-    Rejected(u64),
+    /// A record is rejected, or is no change, `begin` or `commit`.
+    Rejected(RejectedRecord),
     /// The log ends in a batch.
     Open,
     /// There are too many records.
@@ -41,14 +52,40 @@ fn log_fault(error: io::Error) -> StartFault {
     StartFault::Unusable(error)
 }
 
-/// The fault of a log whose records can't be carried out, at the record of this number.
-fn records_fault(fault: RestoreFault, number: u64) -> StartFault {
+/// The fault of a log whose records can't be carried out, at this record on this line.
+fn records_fault(fault: RestoreFault, record: u64, line: u64) -> StartFault {
     match fault {
         RestoreFault::Memory => StartFault::Memory,
-        RestoreFault::Rejected => StartFault::Rejected(number),
+        RestoreFault::Rejected(fault) => StartFault::Rejected(RejectedRecord {
+            record,
+            line,
+            fault: Some(fault),
+        }),
+        RestoreFault::NoChange => StartFault::Rejected(RejectedRecord {
+            record,
+            line,
+            fault: None,
+        }),
         RestoreFault::Open => StartFault::Open,
         RestoreFault::TooMany => StartFault::TooMany,
     }
+}
+
+/// The number of lines that end before the record that follows the first bytes of a text, and the empty lines behind them.
+fn lines_before(text: &[u8], start: usize) -> u64 {
+    let mut count: u64 = 0;
+    let mut before = 0;
+    for i in 0..text.len() {
+        let byte = text[i];
+        if i >= start && byte != b'\n' && byte != b'\r' {
+            return count;
+        }
+        if byte == b'\r' || (byte == b'\n' && before != b'\r') {
+            count = count.saturating_add(1);
+        }
+        before = byte;
+    }
+    count
 }
 
 /// The register with the content of a log that was opened, and the number of the log's records.
@@ -68,10 +105,15 @@ fn read_log<D: Disk + Drop, G: Folder<D>>(
         Ok(text) => text,
         Err(error) => return Err(log_fault(error)),
     };
-    let mut count = 0;
-    match restore(alloc, text.as_slice(), &mut count) {
-        Ok(register) => Ok((register, count)),
-        Err(fault) => Err(records_fault(fault, count)),
+    let mut progress = Progress::none();
+    match restore_noting(alloc, text.as_slice(), &mut progress) {
+        Ok(register) => Ok((register, progress.taken)),
+        Err(fault) => {
+            let start = text.len().saturating_sub(progress.left);
+            let first = 1 + u64::from(log.is_own());
+            let line = lines_before(text.as_slice(), start).saturating_add(first);
+            Err(records_fault(fault, progress.taken, line))
+        }
     }
 }
 

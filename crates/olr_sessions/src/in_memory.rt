@@ -1,6 +1,6 @@
 //! The records of bytes in memory, with csv's defaults.
 
-ghost use Rattle.std.specs.Prelude.{◌≡◌, ◌++◌, ◌∷◌, [], true, false, IfOk, OnOk, OnErr};
+ghost use Rattle.std.specs.Prelude.{◌≡◌, ◌++◌, ◌∷◌, [], length, true, false, IfOk, OnOk, OnErr};
 ghost use Rattle.csv.specs.Machine.{step, ends_at_end};
 ghost use Rattle.csv.specs.Records.{fields_of, partial_of};
 ghost use Rattle.csv.specs.declared.parser.State.TheVariants as st;
@@ -197,6 +197,13 @@ impl<'a> InMemory<'a> {
             field: Vec::new(alloc),
             failed: false,
         }
+    }
+
+    /// How many bytes are left.
+    pub fn left(&self) -> usize
+        ensures { result ≡ length self.now.rest.now }
+    {
+        self.rest.len()
     }
 
     /// Takes the next record. Returns false if there is none, or if an allocation failed before.

@@ -251,17 +251,19 @@ fn starts(rt: HostRuntime) {
 
 #[test]
 fn logs_that_are_rejected(rt: HostRuntime) {
-    expect_rejected(&rt, b"node,1,0,0\nreport\n", RestoreFault::Rejected, 2);
-    expect_rejected(&rt, b"node,1,0,0\nnode,1,0,0\n", RestoreFault::Rejected, 2);
-    expect_rejected(
-        &rt,
-        b"begin\nnode,1,0,0\ncommit,2\n",
-        RestoreFault::Rejected,
-        3,
-    );
+    let node_exists = RestoreFault::Rejected("fault,3,NodeExists\n");
+    let differs = RestoreFault::Rejected("fault,16,CountDiffers\n");
+    let batch_open = RestoreFault::Rejected("fault,14,BatchOpen\n");
+    let no_batch = RestoreFault::Rejected("fault,15,NoBatch\n");
+    let syntax = RestoreFault::Rejected("fault,1,Syntax\n");
+    let range = RestoreFault::Rejected("fault,2,Range\n");
+    expect_rejected(&rt, b"node,1,0,0\nreport\n", RestoreFault::NoChange, 2);
+    expect_rejected(&rt, b"node,1,0,0\nnode,1,0,0\n", node_exists, 2);
+    expect_rejected(&rt, b"begin\nnode,1,0,0\ncommit,2\n", differs, 3);
     expect_rejected(&rt, b"begin\nnode,1,0,0\n", RestoreFault::Open, 2);
-    expect_rejected(&rt, b"begin\nbegin\n", RestoreFault::Rejected, 2);
-    expect_rejected(&rt, b"commit,0\n", RestoreFault::Rejected, 1);
-    expect_rejected(&rt, b"begin\nabort\n", RestoreFault::Rejected, 2);
-    expect_rejected(&rt, b"node,1,0\n", RestoreFault::Rejected, 1);
+    expect_rejected(&rt, b"begin\nbegin\n", batch_open, 2);
+    expect_rejected(&rt, b"commit,0\n", no_batch, 1);
+    expect_rejected(&rt, b"begin\nabort\n", RestoreFault::NoChange, 2);
+    expect_rejected(&rt, b"node,1,0\n", syntax, 1);
+    expect_rejected(&rt, b"node,1,0,91\n", range, 1);
 }

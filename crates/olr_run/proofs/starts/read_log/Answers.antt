@@ -6,12 +6,12 @@ use Rattle.olr_run.specs.Logged.{closed, Leads}
 use Rattle.olr_run.specs.Restored.{IsContentOf}
 use Rattle.olr_run.proofs.starts.read_log.Goals as goal
 
-pub returns-in-Ok-restore-clause-content : goal.returns-in-Ok-restore-clause-content
-returns-in-Ok-restore-clause-content g c = λ clean.
-    subst (λ (x : List ℕ). (k : Content) × IsContentOf x k × Represents c.in-Ok-restore.register.kept (closed k))
-    (c.as_slice.ensures.value ∙ c.in-Ok.ensures.text clean) c.in-Ok-restore.ensures.content
+pub returns-in-Ok-restore_noting-clause-content : goal.returns-in-Ok-restore_noting-clause-content
+returns-in-Ok-restore_noting-clause-content g c = λ clean.
+    subst (λ (x : List ℕ). (k : Content) × IsContentOf x k × Represents c.in-Ok-restore_noting.register.kept (closed k))
+    (c.as_slice.ensures.value ∙ c.in-Ok.ensures.text clean) c.in-Ok-restore_noting.ensures.content
 
-pub returns-in-Ok-restore-clause-leads : goal.returns-in-Ok-restore-clause-leads
-returns-in-Ok-restore-clause-leads g c = λ clean k l.
-    c.in-Ok-restore.ensures.leads k
+pub returns-in-Ok-restore_noting-clause-leads : goal.returns-in-Ok-restore_noting-clause-leads
+returns-in-Ok-restore_noting-clause-leads g c = λ clean k l.
+    c.in-Ok-restore_noting.ensures.leads k
     (subst (λ (x : List ℕ). Leads x k) (sym (c.as_slice.ensures.value ∙ c.in-Ok.ensures.text clean)) l)

@@ -5,7 +5,7 @@ use Rattle.olr_register.specs.RegisterState.{Represents}
 use Rattle.olr_run.specs.Logged.{closed}
 use Rattle.olr_run.proofs.LogRecords.{one_content}
 use Rattle.olr_run.proofs.Restoring.{if_ok, loading_start, loading_more, loading_end}
-use Rattle.olr_run.proofs.loader.restore.Goals as goal
+use Rattle.olr_run.proofs.loader.restore_noting.Goals as goal
 
 pub records-init : goal.records-init
 records-init c = record {

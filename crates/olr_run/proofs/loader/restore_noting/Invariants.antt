@@ -1,6 +1,6 @@
 use Rattle.std.proofs.Common.{◌-◌, ◌≤◌}
 use Rattle.olr_run.proofs.Restoring.{Loading}
-use Rattle.olr_run.proofs.loader.restore.Given as goal
+use Rattle.olr_run.proofs.loader.restore_noting.Given as goal
 
 abbrev pub invariant-records : goal.invariant-records
 invariant-records l = record {
