@@ -25,6 +25,9 @@ pub trait Folder<D: Disk>: Drop {
         ensures done { IfOk result (λ refusal. (n : ℕ) → may_lead self.new n → MatchOption refusal (n ≡ number) (λ _. may_lead self.old n)) }
         ensures either { (n : ℕ) → may_lead self.new n → may_lead self.old n ⊎ (n ≡ number) };
 
+    /// Says that the log was not replaced, and why not. None if there was no memory for its records.
+    fn report_unreplaced(&self, error: Option<io::Error>);
+
     /// Whether the name of the log leads to the file that was put there last, and it has so many bytes.
     fn is_in_place(&self, len: usize) -> bool;
 }

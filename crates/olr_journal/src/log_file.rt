@@ -187,6 +187,11 @@ impl<D: Disk + Drop, F: Folder<D>> Journal for LogFile<D, F> {
         Ok(true)
     }
 
+    fn report_unreplaced(&self, are_made: bool) {
+        let error = if are_made { self.refusal } else { None };
+        self.folder.report_unreplaced(error);
+    }
+
     fn len(&self) -> usize {
         self.text_len
     }

@@ -164,6 +164,18 @@ impl<S: Start> Folder<HostDisk<S>> for LogFolder<'_> {
         Ok(None)
     }
 
+    fn report_unreplaced(&self, error: Option<io::Error>) {
+        let log = self.log.as_str();
+        let _ = match error {
+            Some(error) => eprintln!(self.rt;
+                "olr-keep: {log} is not compacted, and is used as it is: {error}"
+            ),
+            None => eprintln!(self.rt;
+                "olr-keep: {log} is not compacted, and is used as it is: no memory"
+            ),
+        };
+    }
+
     fn is_in_place(&self, len: usize) -> bool {
         match fs::metadata(self.rt, self.log.as_str()) {
             Ok(found) => (found.dev(), found.ino()) == self.node && found.len() == len as u64,

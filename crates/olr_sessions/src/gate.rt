@@ -103,7 +103,7 @@ impl<J: Journal + Drop> Gate<J> {
         ensures line { OnOk result (next_line self.new.unkept ≡ kept_line (fields_of fields.now)) }
     {
         if self.wants_records() {
-            // They could not be made.
+            self.journal.report_unreplaced(false);
             self.put_off();
         }
         self.is_asked = asks_for_records(fields);
@@ -159,7 +159,7 @@ impl<J: Journal + Drop> Gate<J> {
     {
         match self.journal.replace(records) {
             Ok(true) => self.unkept.forget_ready(),
-            Ok(false) => {}
+            Ok(false) => self.journal.report_unreplaced(true),
             Err(_error) => self.fault = Some(LogFault::Unwritten),
         }
     }

@@ -30,6 +30,10 @@ pub trait Journal {
         ensures durable { Only (kept self.old) (may_leave self.old) → OnOk result (Only (kept self.new) (may_leave self.new)) }
         ensures cut { (c : List ℕ) → may_leave self.new c → may_leave self.old c ⊎ (c ≡ records.now) };
 
+    /// Says why records that were to be put in the place of what is kept are not there: they could not be made, out of memory,
+    /// or `replace` returned false.
+    fn report_unreplaced(&self, are_made: bool);
+
     /// How many bytes are kept.
     fn len(&self) -> usize;
 

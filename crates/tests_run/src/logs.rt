@@ -45,6 +45,8 @@ impl Journal for Kept {
         Ok(true)
     }
 
+    fn report_unreplaced(&self, _are_made: bool) {}
+
     fn len(&self) -> usize {
         self.text.len()
     }
