@@ -5,7 +5,8 @@
 
 use olr_journal::{HostDisk, LogFile, LogFolder, OpenError, Unknown, open_place, set_aside};
 use olr_run::{
-    Buffered, RunFault, WRONG_ARGUMENTS, asked_log, report_fault, run_program, run_program_with_log,
+    Buffered, RunFault, WRONG_ARGUMENTS, asked_file, asked_log, report_fault, run_program,
+    run_program_with_log,
 };
 use std::process::ExitCode;
 use std::{env, fs, io};
@@ -42,8 +43,16 @@ fn open_log<'a>(
     Ok(log)
 }
 
+/// The file that was opened, if one was asked for.
+fn opened(file: Option<io::Result<fs::File>>) -> io::Result<fs::File> {
+    match file {
+        Some(opened) => opened,
+        None => Err(io::ErrorKind::NotFound.into()),
+    }
+}
+
 /// Carries out the commands of the file that the arguments name, and then those of standard input. With a log, it begins
-/// with what the log says, and keeps what it accepts there.
+/// with what the log says, and keeps what it accepts there; the file is opened first, so that no log is made if it can't be.
 fn run(rt: &HostRuntime, arguments: &[String]) -> u8 {
     let Ok(mut output) = Buffered::new(rt.alloc(), io::writer(rt)) else {
         return report_fault(RunFault::Memory, &mut rt.stderr());
@@ -58,11 +67,19 @@ fn run(rt: &HostRuntime, arguments: &[String]) -> u8 {
             &mut rt.stderr(),
         );
     };
+    let file = match asked_file(rt.alloc(), arguments) {
+        Some(name) => Some(fs::open(rt, name)),
+        None => None,
+    };
+    let log = match &file {
+        Some(Err(_)) => Err(OpenError::Missing),
+        _ => open_log(rt, name, is_new),
+    };
     let (status, log) = run_program_with_log(
         rt.alloc(),
         arguments,
-        |name: &str| fs::open(rt, name),
-        open_log(rt, name, is_new),
+        move |_name: &str| opened(file),
+        log,
         rt.reader(),
         &mut output,
         &mut rt.stderr(),

@@ -277,6 +277,10 @@ pub fn with_log<
     ensures lacks { length (held output.new) ≤ most_held }
 {
     let name = asked.log.unwrap_or("the log");
+    let Ok(file) = open_file(opener, asked.file) else {
+        let _ = errors.write_all(b"olr-keep: cannot open the command file\n");
+        return (NO_FILE, log.ok());
+    };
     let log = match log {
         Ok(log) => log,
         Err(error) => return (report_unopened(name, error, errors), None),
@@ -286,10 +290,6 @@ pub fn with_log<
             b"olr-keep: --compact-at takes bytes, or a number with K, M or G, as 500M\n",
         );
         return (WRONG_ARGUMENTS, Some(log));
-    };
-    let Ok(file) = open_file(opener, asked.file) else {
-        let _ = errors.write_all(b"olr-keep: cannot open the command file\n");
-        return (NO_FILE, Some(log));
     };
     let run = Asked {
         name,

@@ -177,9 +177,19 @@ pub fn asked_log<'a, S: AsStr>(alloc: Global, arguments: &'a [S]) -> Option<(&'a
     }
 }
 
+/// The command file that arguments name. None if they name none, or can't be read.
+pub fn asked_file<'a, S: AsStr>(alloc: Global, arguments: &'a [S]) -> Option<&'a str>
+    ensures { IfSome result (λ name. (options (map S.text arguments.entry.now)).file ≡ Some name.now) }
+{
+    let Ok(options) = options(alloc, arguments) else {
+        return None;
+    };
+    options.file
+}
+
 /// Runs the program with the log that the arguments name, once it was opened or made, or could not be. It begins with
 /// what the log says, and keeps each accepted change in it before the answer is sent. Returns the exit status, and the log
-/// as it was left.
+/// as it was left. If the command file can't be opened, nothing is said of the log.
 pub fn run_program_with_log<
     S: AsStr,
     F: Read + Drop,

@@ -7,32 +7,32 @@ use Rattle.olr_run.specs.ProgramEnds.{FromLog, Not_opened, From_log}
 use Rattle.olr_sessions.specs.Inputs.{read_from}
 use Rattle.olr_run.proofs.from_log.with_log.Goals as goal
 
-pub returns-in_default-open_file-clause-ends : goal.returns-in_default-open_file-clause-ends
-returns-in_default-open_file-clause-ends g c =
-    let n = name_of g.O.FnOnce g.F.Read.remaining c.args.opener (options_of c.args.asked.now).file c.in_default-open_file.field-0
-    c.in_default-open_file.ensures in
-    Not_opened n.0 n.1 n.2 refl (rw c.in-Ok.is refl) refl
+pub returns-in_default-clause-ends : goal.returns-in_default-clause-ends
+returns-in_default-clause-ends g c =
+    let n = name_of g.O.FnOnce g.F.Read.remaining c.args.opener (options_of c.args.asked.now).file c.in_default.field-0
+    c.in_default.ensures in
+    Not_opened n.0 n.1 n.2 refl c.ok.ensures.value refl
 
 pub returns-in_default-read_inputs-clause-ends : goal.returns-in_default-read_inputs-clause-ends
 returns-in_default-read_inputs-clause-ends g c =
-    let file = known_file g.F.Read.remaining c.in-Ok-open_file.file in
+    let file = known_file g.F.Read.remaining c.in-Ok.file in
     From_log file
-    (file_is g.O.FnOnce g.F.Read.remaining c.args.opener (options_of c.args.asked.now).file c.in-Ok-open_file.file
-    c.in-Ok-open_file.ensures) c.in-Ok.log c.in-Ok.log (rw c.in-Ok.is refl) refl
-    (not_read g.W.Write.contents c.in-Ok.log c.args.asked.now.stop
+    (file_is g.O.FnOnce g.F.Read.remaining c.args.opener (options_of c.args.asked.now).file c.in-Ok.file
+    c.in-Ok.ensures) c.in-Ok-log.log c.in-Ok-log.log (rw c.in-Ok-log.is refl) refl
+    (not_read g.W.Write.contents c.in-Ok-log.log c.args.asked.now.stop
     (records_read c.args.asked.now.lines file (g.R.Read.remaining c.args.input)) c.args.output.now c.report_fault.result
     c.report_fault.ensures)
 
 pub returns-clause-ends : goal.returns-clause-ends
 returns-clause-ends g c =
-    let file = known_file g.F.Read.remaining c.in-Ok-open_file.file in
+    let file = known_file g.F.Read.remaining c.in-Ok.file in
     let read = c.in-Ok-read_inputs in
     let last = c.run_from_log-status.result.1 in
     From_log file
-    (file_is g.O.FnOnce g.F.Read.remaining c.args.opener (options_of c.args.asked.now).file c.in-Ok-open_file.file
-    c.in-Ok-open_file.ensures) c.in-Ok.log last (rw c.in-Ok.is refl) refl
+    (file_is g.O.FnOnce g.F.Read.remaining c.args.opener (options_of c.args.asked.now).file c.in-Ok.file
+    c.in-Ok.ensures) c.in-Ok-log.log last (rw c.in-Ok-log.is refl) refl
     (subst (λ (records : Records).
-    FromLog g.W.Write.contents c.in-Ok.log last c.args.asked.now.stop records c.args.output.now
+    FromLog g.W.Write.contents c.in-Ok-log.log last c.args.asked.now.stop records c.args.output.now
     c.run_from_log-status.new.output c.run_from_log-status.result.0)
     (both_read c.args.asked.now.lines file (g.R.Read.remaining c.args.input)
     (known_file (read_from g.F.Read.remaining) read.file) (read_from g.R.Read.remaining read.input) read.ensures.file
