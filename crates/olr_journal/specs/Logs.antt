@@ -31,7 +31,7 @@ module _ {D F : Type 0} {d : disk.Ghosts D} {f : folder.Ghosts F D} where
   abbrev pub is_ready : LogFile D F d f → Bool
   is_ready log = log.is_settled
 
-  -- the disk has told no lie
+  -- the disk has done what it reported
   abbrev pub is_clean : LogFile D F d f → Bool
   is_clean log = d.is_clean log.disk
 

@@ -1,5 +1,5 @@
 -- What a crash may leave of a log: the text with which the next run begins.
---     LeavesText ..      a disk that has told no lie may leave a file with this text
+--     LeavesText ..      a disk that has done what it reported may leave a file with this text
 --     MayLeave ..      the name of the log may lead to such a file. It leads to the file of a number, or to the next one while a
 --                      file is being put in its place
 use Rattle.std.specs.Prelude.{◌≡◌, ◌⊎◌, ℕ, ◌+◌, Bool, true, List, Option, MatchOption, ⊤}

@@ -52,7 +52,7 @@ module _ {D F : Type 0} {d : disk.Ghosts D} {f : folder.Ghosts F D} {W : Type 0}
   HasBegun (Ran read start old new begins end run status) = ⊤
   HasBegun (Cut_off read start old new begins e run status) = ⊤
 
-  -- the disk told no lie
+  -- the disk did what it reported
   abbrev pub IsHonest : FromLog contents log last stop records o p code → Type 0
   IsHonest (Not_begun same least most left) = ⊤
   IsHonest (Ran read start old new begins end run status) = (is_clean read ≡ true) × (is_clean start ≡ true)

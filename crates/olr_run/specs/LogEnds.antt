@@ -33,8 +33,8 @@ BeginsWith true text c = Leads text c
 BeginsWith false text c = IsContentOf text c
 
 module _ {D F : Type 0} {d : disk.Ghosts D} {f : folder.Ghosts F D} where
-  -- Nothing but reads led from `log` to `read`. If the disk told no lie, the register has the content that the text of the log
-  -- says, and the log in which records can be kept leads to it, whatever a crash leaves.
+  -- Nothing but reads led from `log` to `read`. If the disk did what it reported, the register has the content that the text
+  -- of the log says, and the log in which records can be kept leads to it, whatever a crash leaves.
   pub record Begins (log read start : LogFile D F d f) (register : Registered) : Type 0 where
     pub same : kept_of read ≡ kept_of log
     pub less : (t : List ℕ) → left_of read t → left_of log t

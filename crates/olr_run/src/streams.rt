@@ -88,9 +88,9 @@ fn without_log<
 }
 
 /// Reads the arguments, opens the command file if they name one, carries out its commands and then those of the input,
-/// and returns the exit status. With `--lines`, each line of both is one record. Replies, and help if it was asked for, are written to `output`, and all of them have been
-/// sent if the status is 0 or 1; otherwise the last ones may still be held, at most 64 KB. Messages about faults are
-/// written to `errors`. It keeps no log: arguments that ask for one have status 2.
+/// and returns the exit status. With `--lines`, each line of both is one record. Replies, and help if it was asked for, are
+/// written to `output`, and all of them have been sent if the status is 0 or 1; otherwise the last ones may still be held, at
+/// most 64 KB. Messages about faults are written to `errors`. It keeps no log: arguments that ask for one have status 2.
 pub fn program<
     S: AsStr,
     F: Read + Drop,
