@@ -1,17 +1,22 @@
--- The distance bounds that a register stores: right on its map, with a source where each coverage query of its list
--- begins.
-use Rattle.olr_register.proofs.Common.{◌≡◌, ℕ, List, Option, Some, None, sym, ◌∙◌, Map, DistanceBounds, Item, HasBounds}
+-- The distance bounds that a register stores: right on its map once they are settled, with a source where each coverage
+-- query of its list begins.
+use Rattle.olr_register.proofs.Common.{◌≡◌, ℕ, List, Option, Some, None, sym, ◌∙◌, Map, DistanceBounds, Item, HasBounds, inl}
 use Rattle.std.proofs.Common.{IsFalse}
-use Rattle.olr_near.specs.Bounds.{bound_of, IsRight}
+use Rattle.olr_near.specs.Bounds.{bound_of, IsUnderWay}
+use Rattle.olr_list.specs.Origins.{AreBoundsOf}
 
 -- unknown bounds say nothing
 pub bounded_unknown : (M : Map) (is : List Item) (near : DistanceBounds) → IsFalse near.known → HasBounds M is near
 bounded_unknown M is near off =
     record {
-      right = λ on. let never : ⊥ = cc (on, off) in absurd never;
+      under_way = λ on. let never : ⊥ = cc (on, off) in absurd never;
       sources = λ v b on. let never : ⊥ = cc (on, off) in absurd never;
     }
 
 -- no node has a bound, and no coverage query begins at a node
-pub right_without : (M : Map) (near : DistanceBounds) → ((v : ℕ) → bound_of near v ≡ None) → IsRight M near
-right_without M near none known u d at = let no : ◌≡◌ {A = Option ℕ} None (Some d) = sym (none u) ∙ at in absurd cc
+pub under_way_without : (M : Map) (near : DistanceBounds) → ((v : ℕ) → bound_of near v ≡ None) → IsUnderWay M near
+under_way_without M near none known u d at = let no : ◌≡◌ {A = Option ℕ} None (Some d) = sym (none u) ∙ at in absurd cc
+
+-- bounds that are right need not be settled
+pub settled_bounds : {M : Map} {is : List Item} {near : DistanceBounds} → AreBoundsOf M near is → HasBounds M is near
+settled_bounds h = record { under_way = λ known u d at. inl (h.right known u d at); sources = h.sources }

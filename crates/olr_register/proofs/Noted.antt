@@ -127,7 +127,7 @@ can_commit roads is b near h =
     record {
       names = held.sound.names;
       follows = held.follows;
-      bounds = record { right = h.bounded.right; sources = λ l on. h.bounded.sources l (held.begins l on) };
+      bounds = record { under_way = h.bounded.under_way; sources = λ l on. h.bounded.sources l (held.begins l on) };
       before =
           is_before (map_before roads b.log) (map_of roads) (nodes_of b.touched) (lines_of b.touched)
           (changed_of b.touched) (under_overlay is b.overlay) held.noted h.register.content.map held.sound.paths held.made;

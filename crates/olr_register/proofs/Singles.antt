@@ -187,7 +187,7 @@ module _ (r : Inside) {x : Registered} (view : of_parts r.roads (items r.paths) 
       drop_right there list =
           rw list (still_right (Drop_path name) r.roads left r.near tt (drop_ok M is name there)
           (each_left (each_encoded M) (λ i. not (same_name i.name name)) is right.register.made) (record {
-            right = right.bounded.right;
+            under_way = right.bounded.under_way;
             sources = λ v on. right.bounded.sources v (begins_drop (λ i. not (same_name i.name name)) is v on);
           }))
 

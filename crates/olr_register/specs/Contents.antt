@@ -3,7 +3,8 @@
 --     known_in made      the known coverage queries of results, if there are some
 --     AreEditsNoted M N T X C      what is recorded of edits that lead from M to N
 --     IsHeld, IsRegister      what is true of an open batch, and of map, list and batch
---     HasBounds M is near      the bounds are right on the map, and they are those of all coverage queries of the list.
+--     HasBounds M is near      each coverage query of the list is a source of the bounds, and once they are settled they are
+--         right on the map
 --     IsKeptRight      what is true of the whole
 --     CanRenew M N is ls t near      the list ls, which the changes of a batch made of the list is, can be renewed after
 --         edits t that led from M to N
@@ -14,11 +15,12 @@ use Rattle.olr_spec.specs.Queries.{CoverageQuery, KnownQuery}
 use Rattle.olr_map.specs.RoadMaps.{map_of, CanUndoAll, map_before}
 use Rattle.olr_map.specs.declared.road_map.RoadMap.{RoadMap}
 use Rattle.olr_map.specs.declared.undo.UndoLog.{UndoLog}
+use Rattle.olr_near.specs.Bounds.{IsSource, IsUnderWay}
 use Rattle.olr_near.specs.declared.distance_bounds.DistanceBounds.{DistanceBounds}
 use Rattle.olr_commands.specs.State.{Content, IsContent, NamesDiffer, full}
 use Rattle.olr_list.specs.Items.{Item, Made, AreEncodings, AreEncodingsIfAny, all_named}
 use Rattle.olr_paths.specs.Changes.{Follows, IsBefore}
-use Rattle.olr_list.specs.Origins.{Begins, AreBoundsOf}
+use Rattle.olr_list.specs.Origins.{Begins}
 use Rattle.olr_list.specs.Overlaid.{under_overlay}
 use Rattle.olr_list.specs.ChangeSets.{nodes_of, lines_of, changed_of}
 use Rattle.olr_list.specs.declared.change_set.ChangeSet.{ChangeSet}
@@ -99,8 +101,9 @@ pub record IsRegister (roads : RoadMap) (is : List Item) (batch : Option Batch) 
   pub made : AreEncodings (map_kept roads batch) is
   pub held : IfSome batch (IsHeld roads is)
 
-abbrev pub HasBounds : Map → List Item → DistanceBounds → Type 0
-HasBounds M is near = AreBoundsOf M near is
+pub record HasBounds (M : Map) (is : List Item) (near : DistanceBounds) : Type 0 where
+  pub under_way : IsUnderWay M near
+  pub sources : (l : CoverageQuery) → Begins is l → IsSource near l.from l.within
 
 pub record IsKeptRight (roads : RoadMap) (is : List Item) (batch : Option Batch) (near : DistanceBounds) : Type 0 where
   pub register : IsRegister roads is batch

@@ -3,10 +3,10 @@ ghost use Rattle.std.specs.Prelude.{◌≡◌, ◌⊎◌, ℕ, List, Contains, I
 ghost use Rattle.olr_spec.specs.Map.{Map};
 ghost use Rattle.olr_spec.specs.Queries.{CoverageQuery as QueryRecord};
 ghost use Rattle.olr_map.specs.RoadMaps.{map_of};
-ghost use Rattle.olr_near.specs.Bounds.{IsRight, IsSource, SameBut};
+ghost use Rattle.olr_near.specs.Bounds.{IsUnderWay, IsSource, SameBut};
 ghost use Rattle.olr_list.specs.Items.{Item, items};
 ghost use Rattle.olr_list.specs.Overlaid.{under_overlay};
-ghost use Rattle.olr_list.specs.Origins.{Begins, new_origins_in};
+ghost use Rattle.olr_list.specs.Origins.{AreBoundsOf, Begins, new_origins_in};
 ghost use Rattle.olr_paths.specs.Reencoded.{IsRenewal};
 ghost use Rattle.olr_list.specs.ChangeSets.{nodes_of};
 ghost use Rattle.olr_register.specs.Contents.{HasBounds, CanRenew};
@@ -21,17 +21,18 @@ use std::alloc::{AllocError, Global};
 const LEAST: usize = 65_536;
 
 /// Makes the bounds right on the map after edits that touched these nodes. If an allocation fails, they are unknown.
-fn ask_near(near: &mut DistanceBounds, roads: &RoadMap, touched: &ChangeSet)
+fn settle_bounds(near: &mut DistanceBounds, roads: &RoadMap, touched: &ChangeSet)
     ensures { (M : Map) (is : List Item) → SameBut (nodes_of touched.now) M (map_of roads.now) → HasBounds M is near.old
-        → HasBounds (map_of roads.now) is near.new }
+        → AreBoundsOf (map_of roads.now) near.new is }
 {
     let _ = near.reopen(touched.nodes());
     let _ = near.settle(roads);
 }
 
-/// Adds coverage queries, and makes the bounds right. If an allocation fails, they are unknown.
-fn add_near(near: &mut DistanceBounds, roads: &RoadMap, queries: &[CoverageQuery])
-    ensures right { IsRight (map_of roads.now) near.old → IsRight (map_of roads.now) near.new }
+/// Adds coverage queries, whose lines are followed when the bounds are settled. If an allocation fails, the bounds are
+/// unknown.
+fn add_sources(near: &mut DistanceBounds, queries: &[CoverageQuery])
+    ensures under_way { (M : Map) → IsUnderWay M near.old → IsUnderWay M near.new }
     ensures before { (s w : ℕ) → IsSource near.old s w → IsSource near.new s w }
     ensures sources { (l : QueryRecord) → Contains queries.now l → IsSource near.new l.from l.within }
 {
@@ -41,20 +42,19 @@ fn add_near(near: &mut DistanceBounds, roads: &RoadMap, queries: &[CoverageQuery
     for query in queries {
         let _ = near.add(query.from, query.within);
     }
-    let _ = near.settle(roads);
 }
 
-/// Rebuilds the bounds, with a source where each coverage query of the list begins. If an allocation fails, they are
-/// unknown.
+/// Begins the bounds from scratch, with a source where each coverage query of the list begins. If an allocation fails,
+/// they are unknown.
 #[inline(never)]
-fn bounds_from_scratch(alloc: Global, near: &mut DistanceBounds, roads: &RoadMap, paths: &PathList)
-    ensures { HasBounds (map_of roads.now) (items paths.now) near.new }
+fn bounds_from_scratch(alloc: Global, near: &mut DistanceBounds, paths: &PathList)
+    ensures { (M : Map) → HasBounds M (items paths.now) near.new }
 {
     let mut new_origins = Vec::new(alloc);
     match paths.begins(&mut new_origins) {
         Ok(()) => {
             near.clear();
-            add_near(near, roads, &new_origins);
+            add_sources(near, &new_origins);
         }
         Err(_) => near.forget(),
     }
@@ -66,29 +66,28 @@ fn is_worn(near: &DistanceBounds, paths: &PathList, searches: &Searches) -> bool
     searches.wasted_labels() > cost.saturating_add(LEAST)
 }
 
-/// Makes the bounds right after a renewal of the list: adds sources where its new coverage queries begin, or rebuilds
-/// the bounds if searches that found no path have cost more than that would.
-pub(crate) fn rebuild_bounds(
+/// Adds sources to the bounds where new coverage queries of the list begin, or begins the bounds from scratch if
+/// searches that found no path have cost more than that would. The next edit settles them.
+pub(crate) fn renew_bounds(
     alloc: Global,
     near: &mut DistanceBounds,
-    roads: &RoadMap,
     paths: &PathList,
     searches: &mut Searches,
 )
-    ensures { (is : List Item) → HasBounds (map_of roads.now) is near.old
+    ensures { (M : Map) (is : List Item) → HasBounds M is near.old
         → ((l : QueryRecord) → Begins (items paths.now) l → Begins is l ⊎ Contains (new_origins_in searches.old) l)
-        → HasBounds (map_of roads.now) (items paths.now) near.new }
+        → HasBounds M (items paths.now) near.new }
 {
-    add_near(near, roads, searches.new_origins());
+    add_sources(near, searches.new_origins());
     if !is_worn(near, paths, searches) {
         return;
     }
     searches.set_back();
-    bounds_from_scratch(alloc, near, roads, paths);
+    bounds_from_scratch(alloc, near, paths);
 }
 
-/// Encodes the affected paths again after edits that led to the map, with the changes of an overlay, and makes the
-/// bounds right. If an allocation fails, the list is unchanged, and the bounds are unknown.
+/// Encodes the affected paths again after edits that led to the map, with the changes of an overlay, and adds their
+/// new coverage queries to the bounds. If an allocation fails, the list is unchanged, and the bounds are unknown.
 #[inline(never)]
 pub(crate) fn renew(
     alloc: Global,
@@ -107,10 +106,10 @@ pub(crate) fn renew(
     ensures err { OnErr result (items paths.new ≡ items paths.old) }
     ensures unknown { OnErr result (IsFalse near.new.known) }
 {
-    ask_near(near, roads, touched);
+    settle_bounds(near, roads, touched);
     match renew_over(paths, alloc, roads, overlay, touched, near, searches) {
         Ok(renewed) => {
-            rebuild_bounds(alloc, near, roads, paths, searches);
+            renew_bounds(alloc, near, paths, searches);
             Ok(renewed)
         }
         Err(error) => {

@@ -35,6 +35,8 @@ impl Register {
             return Err(CommandFault::Map(EditFault::NoNode));
         }
         let around = ChangeSet::around(self.alloc, &self.roads, nodes)?;
+        // If an allocation fails, the bounds are unknown, and the search goes as far as it may.
+        let _ = self.near.settle(&self.roads);
         let names = affected_names(
             self.alloc,
             &self.roads,

@@ -1,7 +1,7 @@
 //! Paths that are added, replaced or dropped at once, outside a batch.
 ghost use Rattle.olr_register.specs.BatchChanges.{path_by};
 
-use crate::bounds::rebuild_bounds;
+use crate::bounds::renew_bounds;
 use crate::change::{PathParts, path_unless};
 use crate::register::Register;
 use olr_commands::{CommandFault, Reply};
@@ -24,7 +24,7 @@ impl Register {
         let path = path_unless(self.alloc, taken, CommandFault::PathExists, parts)?;
         let (heap, roads) = (self.alloc, &self.roads);
         let (entries, work) = add(&mut self.paths, heap, roads, name, path, &mut self.searches)?;
-        rebuild_bounds(heap, &mut self.near, roads, &self.paths, &mut self.searches);
+        renew_bounds(heap, &mut self.near, &self.paths, &mut self.searches);
         self.work = self.work.plus(work);
         Ok(Reply::Paths(entries))
     }
@@ -39,7 +39,7 @@ impl Register {
         let path = path_unless(self.alloc, missing, CommandFault::NoPath, parts)?;
         let (heap, roads) = (self.alloc, &self.roads);
         let (entries, work) = set(&mut self.paths, heap, roads, name, path, &mut self.searches)?;
-        rebuild_bounds(heap, &mut self.near, roads, &self.paths, &mut self.searches);
+        renew_bounds(heap, &mut self.near, &self.paths, &mut self.searches);
         self.work = self.work.plus(work);
         Ok(Reply::Paths(entries))
     }

@@ -23,8 +23,8 @@ pub struct Register {
     /// How many of the counted encodings were not made, because the answer was retained.
     pub(crate) retained: u64,
     pub(crate) batch: Option<Batch>,
-    /// Distance bounds, which show that no coverage query begins near an edit. While a batch is open, on the map before
-    /// it.
+    /// Distance bounds, which show that no coverage query begins near an edit. They are settled when an edit needs them.
+    /// While a batch is open, on the map before it.
     pub(crate) near: DistanceBounds,
 }
 

@@ -1,4 +1,5 @@
-use Rattle.olr_register.proofs.Common.{items, under_overlay}
+use Rattle.olr_register.proofs.Common.{items, under_overlay, map_of}
+use Rattle.olr_register.proofs.Bounded.{settled_bounds}
 use Rattle.olr_register.proofs.bounds.renew.Goals as goal
 
 pub renew_over-requires : goal.renew_over-requires
@@ -7,7 +8,7 @@ renew_over-requires c =
     record {
       names = h.names;
       follows = h.follows;
-      bounds = c.ask_near.ensures c.requires.0 _ h.before.difference.nodes h.bounds;
+      bounds = c.settle_bounds.ensures c.requires.0 _ h.before.difference.nodes h.bounds;
       before = (c.requires.0, h.before);
     }
 
@@ -15,5 +16,5 @@ pub returns-in-Ok-clause-bounded : goal.returns-in-Ok-clause-bounded
 returns-in-Ok-clause-bounded c =
     let h = c.requires.1 in
     let ls = under_overlay (items c.args.paths.now) c.args.overlay.now in
-    c.rebuild_bounds.ensures ls (c.ask_near.ensures c.requires.0 ls h.before.difference.nodes h.bounds)
-    c.in-Ok.ensures.new_origins
+    let right = c.settle_bounds.ensures c.requires.0 ls h.before.difference.nodes h.bounds in
+    c.renew_bounds.ensures (map_of c.args.roads.now) ls (settled_bounds right) c.in-Ok.ensures.new_origins

@@ -8,6 +8,11 @@ use Rattle.olr_register.proofs.Noted.{noted_idle, is_before}
 use Rattle.olr_register.proofs.Outcomes.{answered_refused, answered_shut}
 use Rattle.olr_register.proofs.Shown.{no_nodes, nodes_asked, dependents}
 use Rattle.olr_register.proofs.Renewed.{made_if_any}
+use Rattle.olr_register.proofs.Common.{◌≡◌, ℕ, None, DistanceBounds}
+use Rattle.olr_near.specs.Bounds.{IsRight, IsSource, IsUnderWay}
+use Rattle.olr_list.specs.Origins.{AreBoundsOf}
+use Rattle.olr_register.specs.declared.register.Register.TheInside.{Inside}
+use Rattle.olr_register.proofs.Bounded.{settled_bounds}
 use Rattle.olr_register.proofs.register.Register.depends.Goals as goal
 
 pub returns-then-is_some : goal.returns-then-is_some
@@ -44,11 +49,33 @@ affected_names-requires-clause-before c =
     right.register.content.map right.register.content.paths
     (made_if_any (map_of r.roads) (items r.paths) right.register.made)
 
+-- the bounds after they are settled, and the register with them
+module _ (r : Inside) (f : DistanceBounds) (shut : r.batch ≡ None)
+    (kept : IsKeptRight r.roads (items r.paths) r.batch r.near)
+    (right : IsUnderWay (map_of r.roads) r.near → IsRight (map_of r.roads) f)
+    (sources : (s w : ℕ) → IsSource r.near s w → IsSource f s w) where
+  settled : AreBoundsOf (map_of r.roads) f (items r.paths)
+  settled =
+      let h = subst (λ (o : Option Batch). IsKeptRight r.roads (items r.paths) o r.near) shut kept in
+      record { right = right h.bounded.under_way; sources = λ l on. sources l.from l.within (h.bounded.sources l on) }
+
+  kept_settled : IsKeptRight r.roads (items r.paths) r.batch f
+  kept_settled = record { register = kept.register; bounded = rw shut (settled_bounds settled) }
+
 pub affected_names-requires-clause-bounds : goal.affected_names-requires-clause-bounds
 affected_names-requires-clause-bounds c =
-    let r = c.self.inside in
-    (subst (λ (o : Option Batch). IsKeptRight r.roads (items r.paths) o r.near) (none_of r.batch (sym c.if-is_some.ensures))
-    c.self.invariant).bounded
+    settled c.self.inside c.settle.new.self (none_of c.self.inside.batch (sym c.if-is_some.ensures)) c.self.invariant
+    c.settle.ensures.right c.settle.ensures.sources
+
+pub invariant_of-self : goal.invariant_of-self
+invariant_of-self c =
+    kept_settled c.self.inside c.settle.new.self (none_of c.self.inside.batch (sym c.if-is_some.ensures)) c.self.invariant
+    c.settle.ensures.right c.settle.ensures.sources
+
+pub invariant_of-self-2 : goal.invariant_of-self-2
+invariant_of-self-2 c =
+    kept_settled c.self.inside c.settle.new.self (none_of c.self.inside.batch (sym c.if-is_some.ensures)) c.self.invariant
+    c.settle.ensures.right c.settle.ensures.sources
 
 pub returns-in_err-names : goal.returns-in_err-names
 returns-in_err-names c =

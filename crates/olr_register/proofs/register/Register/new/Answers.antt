@@ -1,6 +1,6 @@
 use Rattle.olr_register.proofs.Common.{None, map_of, content_on}
 use Rattle.olr_commands.proofs.HistoryLemmas.{start_sound}
-use Rattle.olr_register.proofs.Bounded.{right_without}
+use Rattle.olr_register.proofs.Bounded.{under_way_without}
 use Rattle.olr_register.proofs.States.{register_of}
 use Rattle.olr_register.proofs.register.Register.new.Goals as goal
 
@@ -16,7 +16,7 @@ invariant_of-result c = record {
     held = tt;
   };
   bounded = record {
-    right = right_without (map_of c.new.result) c.new-5.result c.new-5.ensures.bounds;
+    under_way = under_way_without (map_of c.new.result) c.new-5.result c.new-5.ensures.bounds;
     sources = λ v on. absurd (rw c.new-2.ensures at on);
   };
 }

@@ -1,12 +1,12 @@
-use Rattle.olr_register.proofs.Common.{◌≡◌, false, All, List, inl, take, subst, arith, CoverageQuery, map_of, IsSource}
+use Rattle.olr_register.proofs.Common.{◌≡◌, false, All, List, take, subst, arith, CoverageQuery, IsSource}
 use Rattle.std.proofs.lemmas.List.{take_all}
 use Rattle.std.proofs.lemmas.List.Elements.{All-contains, All-weaker}
 use Rattle.olr_list.proofs.Alls.{all_more}
-use Rattle.olr_register.proofs.bounds.add_near.Goals as goal
+use Rattle.olr_register.proofs.bounds.add_sources.Goals as goal
 
 pub returns-then-not-is_known : goal.returns-then-not-is_known
 returns-then-not-is_known c = record {
-  right = λ h. h;
+  under_way = λ M h. h;
   before = λ s w h. h;
   sources = λ l on known.
       let off : c.is_known.result ≡ false = cc in
@@ -15,7 +15,7 @@ returns-then-not-is_known c = record {
 }
 
 pub loop-query-init : goal.loop-query-init
-loop-query-init c = record { under_way = λ h. h; before = λ s w h. h; added = λ j d lt. absurd (omega arith) }
+loop-query-init c = record { under_way = λ M h. h; before = λ s w h. h; added = λ j d lt. absurd (omega arith) }
 
 pub loop-query-preserved : goal.loop-query-preserved
 loop-query-preserved c =
@@ -24,7 +24,7 @@ loop-query-preserved c =
     let Q : CoverageQuery → Type 0 = λ k. IsSource c.add.new.self k.from k.within in
     let item : CoverageQuery = c.query-item.result in
     record {
-      under_way = λ h. c.add.ensures.under_way (map_of c.args.roads.now) (inv.under_way h);
+      under_way = λ M h. c.add.ensures.under_way M (inv.under_way M h);
       before = λ s w h. c.add.ensures.sources s w (inv.before s w h);
       added =
           all_more Q c.args.queries.now c.loop-query.query-index item c.loop-query-test.true
@@ -41,7 +41,7 @@ returns c =
     subst (λ (ls : List CoverageQuery). All P ls)
     (take_all c.loop-query.query-index c.args.queries.now (omega (arith, c.loop-query-test.false))) inv.added in
     record {
-      right = λ h. c.settle.ensures.right (inv.under_way (λ known u d at. inl (h known u d at)));
-      before = λ s w h. c.settle.ensures.sources s w (inv.before s w h);
-      sources = λ l on. c.settle.ensures.sources l.from l.within (All-contains P c.args.queries.now l all on);
+      under_way = inv.under_way;
+      before = inv.before;
+      sources = λ l on. All-contains P c.args.queries.now l all on;
     }
