@@ -1,8 +1,13 @@
 -- What distances say about touched nodes that are near, and about detours.
 use Rattle.olr_list.proofs.Common.{inl, inr, ◌≡◌, ℕ, zero, suc, ◌+◌, ◌<◌, ◌≤◌, true, List, [], ◌∷◌, map, IsTrue, ◌↔◌}
-use Rattle.olr_list.proofs.Common.{Option, Some, None, IfSome, refl, sym, ap, subst, arith, cases_lt, Map, IsMap}
+use Rattle.olr_list.proofs.Common.{Option, Some, None, refl, sym, ap, subst, arith, cases_lt, Map, IsMap}
 use Rattle.olr_list.proofs.Common.{has_node, end, has, IsRoute, dm_of, ChangedLine, Near, Leads, Along, Against}
 use Rattle.olr_list.proofs.Common.{AreFarther, sources_in, ⊎_elim, Detour, route_start, IsDistance}
+use Rattle.olr_list.proofs.Common.{Bool, ChangeSet, AreDetours, changed_of}
+use Rattle.std.specs.Prelude.{⊤}
+use Rattle.olr_list.specs.declared.detours.Detours.{Detours}
+use Rattle.olr_search.specs.Searches.{IsSearch, limit_of}
+use Rattle.olr_search.specs.declared.distances.Dijkstra.{Dijkstra}
 use Rattle.olr_search.specs.declared.distances.Direction.{Direction}
 use Rattle.olr_list.proofs.Alls.{has_from, in_from, Contains-map, Contains-unmap}
 
@@ -101,8 +106,15 @@ module _ (N : Map) (n : IsMap N) (T : List ℕ) (node : ℕ) where
 
 -- ---- detours
 
+-- two searches go so far that distances which they don't have add up to more than d, together or with the other's
+abbrev pub Suffice : Option ℕ → Option ℕ → ℕ → ℕ → ℕ → Type 0
+Suffice None None most far d = d ≤ most + far + 1
+Suffice None (Some b) most far d = d ≤ most + b
+Suffice (Some a) None most far d = d ≤ a + far
+Suffice (Some a) (Some b) most far d = ⊤
+
 module _ (N : Map) (n : IsMap N) (C : List ChangedLine) (s t d most far : ℕ) (from_there : IsTrue (has_node N s))
-    (to_there : IsTrue (has_node N t)) (le : d ≤ most) where
+    (to_there : IsTrue (has_node N t)) where
   leads_to : (h : Detour N C s t d) → Leads N Against (sources_in Against C) s (h.first.len + dm_of N h.before)
   leads_to h = record {
     source = h.first.from;
@@ -148,7 +160,7 @@ module _ (N : Map) (n : IsMap N) (C : List ChangedLine) (s t d most far : ℕ) (
         within = omega arith;
       }
 
-  pub clear_only : (q r : Option ℕ) → ReturnsDistance N Against (sources_in Against C) s most q →
+  clear_only : (q r : Option ℕ) → ReturnsDistance N Against (sources_in Against C) s most q →
       ReturnsDistance N Along (sources_in Along C) t far r → ¬ Detour N C s t d → AreFarther q r d
   clear_only None r before after none = tt
   clear_only (Some a) None before after none = tt
@@ -157,21 +169,49 @@ module _ (N : Map) (n : IsMap N) (C : List ChangedLine) (s t d most far : ℕ) (
     | inr le ↦ absurd (none (detour_by a b ((before a).0 refl).0.leads ((after b).0 refl).0.leads le))
   ]
 
-  far_apart : (q r : Option ℕ) (x y : ℕ) → Lower q most x → Lower r far y → x + y ≤ d →
-      IfSome q (λ a. d ≤ a + far) → AreFarther q r d → ⊥
-  far_apart None r x y one two short rest h = omega arith
-  far_apart (Some a) None x y one two short rest h = omega arith
-  far_apart (Some a) (Some b) x y one two short rest h = omega arith
+  far_apart : (q r : Option ℕ) (x y : ℕ) → Lower q most x → Lower r far y → x + y ≤ d → Suffice q r most far d →
+      AreFarther q r d → ⊥
+  far_apart None None x y one two short enough h = omega arith
+  far_apart None (Some b) x y one two short enough h = omega arith
+  far_apart (Some a) None x y one two short enough h = omega arith
+  far_apart (Some a) (Some b) x y one two short enough h = omega arith
 
   pub clear_by : (q r : Option ℕ) → ReturnsDistance N Against (sources_in Against C) s most q →
-      ReturnsDistance N Along (sources_in Along C) t far r → IfSome q (λ a. d ≤ a + far) →
-      AreFarther q r d → ¬ Detour N C s t d
-  clear_by q r before after rest farther h = far_apart q r (h.first.len + dm_of N h.before) (dm_of N h.after)
-      (at_least N Against (sources_in Against C) s most q before _ (leads_to h))
-      (at_least N Along (sources_in Along C) t far r after _ (leads_back h)) (let w = h.within in omega arith) rest farther
+      ReturnsDistance N Along (sources_in Along C) t far r → Suffice q r most far d →
+      AreFarther q r d ↔ ¬ Detour N C s t d
+  clear_by q r before after enough = (
+    (λ farther h.
+        far_apart q r (h.first.len + dm_of N h.before) (dm_of N h.after)
+        (at_least N Against (sources_in Against C) s most q before _ (leads_to h))
+        (at_least N Along (sources_in Along C) t far r after _ (leads_back h)) (let w = h.within in omega arith) enough
+        farther),
+    clear_only q r before after,
+  )
 
--- as far as what is left, or farther
-pub rest_more : (d within rest far : ℕ) (q : Option ℕ) → within ≡ d → rest ≤ far → IfSome q (λ b. within ≤ b + rest) →
-    IfSome q (λ b. d ≤ b + far)
-rest_more d within rest far None is le h = tt
-rest_more d within rest far (Some b) is le h = omega arith
+-- as far as what one distance leaves of d
+pub suffice_after : (a most far d : ℕ) (r : Option ℕ) → d ≤ a + far → Suffice (Some a) r most far d
+suffice_after a most far d None le = le
+suffice_after a most far d (Some b) le = tt
+
+pub suffice_before : (b most far d : ℕ) (q : Option ℕ) → d ≤ most + b → Suffice q (Some b) most far d
+suffice_before b most far d None le = le
+suffice_before b most far d (Some a) le = tt
+
+-- what a search returns of the node in a slot, whatever the map and the node
+abbrev pub ReturnsAt : Dijkstra → ℕ → Option ℕ → Type 0
+ReturnsAt s p r =
+    (M : Map) (slot : ℕ → ℕ) (direction : Direction) (from : List (ℕ × ℕ)) (v d : ℕ) → IsSearch M slot direction from s →
+    IsTrue (has_node M v) → slot v ≡ p → (r ≡ Some d) ↔ (IsDistance M direction from v d × (d ≤ limit_of s))
+
+pub no_detour : (N : Map) (n : IsMap N) (slot : ℕ → ℕ) (t : ChangeSet) (ds : Detours) (from to within : ℕ)
+    (q r : Option ℕ) (farther : Bool) → AreDetours N slot t ds → ReturnsAt ds.before from q → ReturnsAt ds.after to r
+    → Suffice q r (limit_of ds.before) (limit_of ds.after) within → IsTrue farther ↔ AreFarther q r within
+    → (v w : ℕ) → IsTrue (has_node N v) → slot v ≡ from → IsTrue (has_node N w) → slot w ≡ to →
+    IsTrue farther ↔ ¬ Detour N (changed_of t) v w within
+no_detour N n slot t ds from to within q r farther searches before after enough is v w v_there v_at w_there w_at =
+    let C = changed_of t in
+    let clear =
+    clear_by N n C v w within (limit_of ds.before) (limit_of ds.after) v_there w_there q r
+    (λ d. before N slot Against (sources_in Against C) v d searches.before v_there v_at)
+    (λ d. after N slot Along (sources_in Along C) w d searches.after w_there w_at) enough in
+    (λ yes. clear.0 (is.0 yes), λ none. is.1 (clear.1 none))

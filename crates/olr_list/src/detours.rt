@@ -1,5 +1,7 @@
 //! Whether changed lines offer a detour that is as short as a coverage query.
-ghost use Rattle.std.specs.Prelude.{◌<◌, ◌≤◌, ◌+◌, ◌↔◌, length, IsTrue, IfOk, IfSome, OnOk};
+ghost use Rattle.std.specs.Prelude.{◌≡◌, ◌<◌, ◌≤◌, ◌↔◌, ℕ, length, IsTrue, IfOk, OnOk};
+ghost use Rattle.olr_spec.specs.Map.{has_node};
+ghost use Rattle.olr_spec.specs.Detours.{Detour};
 ghost use Rattle.olr_list.specs.ChangeSets.{changed_of};
 ghost use Rattle.olr_list.specs.AffectedSearches.{AreDetours, AreFarther};
 ghost use Rattle.olr_commands.specs.Counts.{Picks, IsAgainClear, most_changed};
@@ -75,14 +77,39 @@ fn is_farther(before: Option<u32>, after: Option<u32>, within: u32) -> bool
     }
 }
 
-/// How much of a length is left after a distance, both in decimetres; 0 if there is no distance, or it is greater.
-fn rest_of(before: Option<u32>, within: u32) -> u32
-    ensures rest { IfSome before (λ b. within ≤ b + result) }
-    ensures most { result ≤ within }
+/// Whether no detour over the changed lines, from the node in the slot `from` to the node in the slot `to`, is at most
+/// `within` decimetres long. Both searches go half as far, and only if one of them finds its node, the other goes on to
+/// what is left.
+fn has_no_detour<M: MapRead>(
+    map: &M,
+    touched: &ChangeSet,
+    detours: &mut Detours,
+    from: u32,
+    to: u32,
+    within: u32,
+) -> Result<bool, AllocError>
+    requires short { within ≤ GREATEST_LIMIT }
+    requires searches { AreDetours (M.map map.now) (M.node_slot map.now) touched.now detours.old }
+    ensures none { IfOk result (λ none. (v w : ℕ) → IsTrue (has_node (M.map map.now) v)
+        → M.node_slot map.now v ≡ from → IsTrue (has_node (M.map map.now) w) → M.node_slot map.now w ≡ to
+        → IsTrue none ↔ ¬ Detour (M.map map.now) (changed_of touched.now) v w within) }
+    ensures detours { OnOk result (AreDetours (M.map map.now) (M.node_slot map.now) touched.now detours.new) }
 {
-    match before {
-        Some(before) => within.saturating_sub(before),
-        None => 0,
+    detours.before.settle_to(map, within / 2)?;
+    detours.after.settle_to(map, within / 2)?;
+    let before = detours.before.dist_at(from);
+    let after = detours.after.dist_at(to);
+    match (before, after) {
+        (None, None) => Ok(true),
+        (Some(_), Some(_)) => Ok(is_farther(before, after, within)),
+        (Some(there), None) => {
+            detours.after.settle_to(map, within.saturating_sub(there))?;
+            Ok(is_farther(before, detours.after.dist_at(to), within))
+        }
+        (None, Some(back)) => {
+            detours.before.settle_to(map, within.saturating_sub(back))?;
+            Ok(is_farther(detours.before.dist_at(from), after, within))
+        }
     }
 }
 
@@ -108,11 +135,7 @@ fn is_clear<M: MapRead>(
     let Some(to) = map.slot_of(query.to) else {
         return Ok(false);
     };
-    detours.before.settle_to(map, query.within)?;
-    let before = detours.before.dist_at(from);
-    detours.after.settle_to(map, rest_of(before, query.within))?;
-    let after = detours.after.dist_at(to);
-    Ok(is_farther(before, after, query.within))
+    has_no_detour(map, touched, detours, from, to, query.within)
 }
 
 /// Whether each coverage query is on the map, within the greatest limit, and clear.
