@@ -1,164 +1,43 @@
 -- A path that a receiver loses if it goes on from the line before an LRP.
-use Rattle.olr_spec.proofs.Common.{◌≡◌, ℕ, zero, suc, ◌<◌, ◌≤◌, Bool, true, false, List, [], ◌∷◌, refl, sym, ap, ◌∙◌, subst, IsTrue, IsFalse, arith, inl, inr, None, Some, cond}
-use Rattle.olr_spec.proofs.Common.{ℤ, Side, Within, Map, IsMap, has_line, start, end, dm, dm_of, passing, path_fault, Candidate, Follow, To_end, To_valid, UniqueShortest, IsRoute}
-use Rattle.olr_spec.proofs.Common.{Points, Encodes, reference, Leg, leg, fit16, candidates, list_all, not, not-true, nat_lt, nat_le, ◌||◌, ◌==◌, eq-eqb, or_cases, leb-true, Line}
-use Rattle.olr_spec.proofs.Facts.{empty_unique}
+use Rattle.olr_spec.proofs.Common.{◌≡◌, ℕ, zero, suc, ◌<◌, ◌≤◌, Bool, true, false, List, [], ◌∷◌, refl, sym, ap, ◌∙◌, subst, IsTrue, IsFalse, arith, inl, inr, Some, cond}
+use Rattle.olr_spec.proofs.Common.{ℤ, Side, Within, Map, has_line, start, end, dm, dm_of, IsRoute}
+use Rattle.olr_spec.proofs.Common.{Points, Encodes, Leg, leg, candidates, list_all, not, not-true, nat_lt, nat_le, ◌||◌, ◌==◌, eq-eqb, or_cases, leb-true, Line}
 use Rattle.olr_spec.specs.Receiver.{Outgoing, Incoming, decoded_coord, Lrp, lrp_at, last_lrp, Shortest, coordinate_on}
 use Rattle.olr_spec.specs.Recovery.{IsLineAt}
 use Rattle.olr_spec.specs.Directions.{direction_on}
 use Rattle.olr_laws.specs.Rows.{axes_sum}
 use Rattle.olr_laws.specs.ProjectionRows.{detour10, detour20, detour21, detour30, detour_nodes, detour_records, detour_map, detour_lines, detour_path, detour_reference}
 use Rattle.olr_laws.specs.ProjectionRows.{before_point, is_before, seen_before, RecoversOther, DistinctPastEnd}
-use Rattle.olr_laws.specs.Directions.{DistinctByDirection, stands_out, weighted}
+use Rattle.olr_laws.specs.Directions.{DistinctByDirection, weighted}
 use Rattle.olr_laws.specs.Projections.{Projected, ProjectingReceiver, TakesByProjection, TakesAt, On_line, Last_on_route, Road, RecoversByProjection, rating_at, end_at, lrp_of, IsSnappedAlong}
-use Rattle.olr_laws.proofs.MapLemmas.{sound, has_line_is, leg_is, leg_in, passing_is, candidates_are, each_line, numbers_in, line_in, line_at_is}
-use Rattle.olr_laws.proofs.RowLemmas.{IsRow, encodes, own_is, stands_at}
+use Rattle.olr_laws.proofs.MapLemmas.{sound, leg_is, leg_in, each_line, numbers_in, line_in, line_at_is}
+use Rattle.olr_laws.proofs.RowLemmas.{IsRow, encodes, own_is, by_direction}
+use Rattle.olr_laws.proofs.SideRoadLemmas.{HasSideRoad, with_side_road, row, by_side}
 use Rattle.olr_laws.proofs.ProjectionLemmas.{at_ends, snapped_at, snapped_is_distinct}
 use Rattle.olr_laws.proofs.ForkLemmas.{by_sum}
 
 -- ---- the map
 
-record IsDetour (M : Map) : Type 0 where
-  sound : IsMap M
-  has10 : IsTrue (has_line M 10)
-  has20 : IsTrue (has_line M 20)
-  has21 : IsTrue (has_line M 21)
-  has30 : IsTrue (has_line M 30)
-  is10 : leg M 10 ≡ detour10
-  is20 : leg M 20 ≡ detour20
-  is21 : leg M 21 ≡ detour21
-  is30 : leg M 30 ≡ detour30
-  all : candidates M ≡ detour_lines
-  valid1 : passing M 1 ≡ false
-  valid2 : passing M 2 ≡ false
-  valid4 : passing M 4 ≡ false
-
-is_detour : IsDetour detour_map
+is_detour : HasSideRoad detour_map detour10 detour20 detour30 21 detour21 detour_lines
 is_detour =
-    record {
-      sound = sound detour_nodes detour_records tt tt refl refl;
-      has10 = has_line_is detour_nodes detour_records tt tt 10;
-      has20 = has_line_is detour_nodes detour_records tt tt 20;
-      has21 = has_line_is detour_nodes detour_records tt tt 21;
-      has30 = has_line_is detour_nodes detour_records tt tt 30;
-      is10 = leg_is detour_nodes detour_records tt tt 10;
-      is20 = leg_is detour_nodes detour_records tt tt 20;
-      is21 = leg_is detour_nodes detour_records tt tt 21;
-      is30 = leg_is detour_nodes detour_records tt tt 30;
-      all = candidates_are detour_nodes detour_records tt tt;
-      valid1 = passing_is detour_nodes detour_records tt tt 1;
-      valid2 = passing_is detour_nodes detour_records tt tt 2;
-      valid4 = passing_is detour_nodes detour_records tt tt 4;
-    }
+    with_side_road detour_nodes detour_records tt tt 21 (sound detour_nodes detour_records tt tt refl refl) (refl, refl, refl)
+    (refl, refl, refl) (refl, refl, refl) (refl, refl, refl) (refl, refl, refl)
 
-abbrev Lines : List ℕ
-Lines = 10 ∷ 20 ∷ 30 ∷ []
+detour_row : IsRow detour_map detour_path (1 ∷ 3 ∷ []) (detour10 ∷ detour20 ∷ detour30 ∷ []) detour_lines detour_reference
+detour_row =
+    row detour_map detour10 detour20 detour30 21 detour21 detour_lines is_detour (λ e. cc) (omega arith) (omega arith, omega arith)
+    (refl, refl) 0 0 (omega arith)
 
-module _ (M : Map) (is : IsDetour M) where
-  from10 : start M 10 ≡ 1
-  from10 = ap (λ (g : Leg). g.line.from) is.is10
-
-  to10 : end M 10 ≡ 2
-  to10 = ap (λ (g : Leg). g.line.to) is.is10
-
-  from20 : start M 20 ≡ 2
-  from20 = ap (λ (g : Leg). g.line.from) is.is20
-
-  to20 : end M 20 ≡ 3
-  to20 = ap (λ (g : Leg). g.line.to) is.is20
-
-  from30 : start M 30 ≡ 3
-  from30 = ap (λ (g : Leg). g.line.from) is.is30
-
-  to30 : end M 30 ≡ 4
-  to30 = ap (λ (g : Leg). g.line.to) is.is30
-
-  from21 : start M 21 ≡ 2
-  from21 = ap (λ (g : Leg). g.line.from) is.is21
-
-  to21 : end M 21 ≡ 3
-  to21 = ap (λ (g : Leg). g.line.to) is.is21
-
-  dm_are : (dm M 10 ≡ 1005) × (dm M 20 ≡ 2718) × (dm M 30 ≡ 1359) × (dm M 21 ≡ 1922)
-  dm_are = (
-    ap (λ (g : Leg). g.line.len) is.is10,
-    ap (λ (g : Leg). g.line.len) is.is20,
-    ap (λ (g : Leg). g.line.len) is.is30,
-    ap (λ (g : Leg). g.line.len) is.is21,
-  )
-
-  by21 : IsRoute M (end M 10) (start M 30) (21 ∷ [])
-  by21 = (is.has21, from21 ∙ sym to10, to21 ∙ sym from30)
-
-  -- line 21 is shorter
-  not_over : ¬ UniqueShortest M (end M 10) (start M 30) (20 ∷ [])
-  not_over u = omega (arith, u.others (21 ∷ []) by21 (λ e. cc), dm_are.1, dm_are.3)
-
-  at_most_one : (k : ℕ) → Candidate M Lines 0 k → k ≤ 1
-  at_most_one zero c = omega arith
-  at_most_one (suc zero) c = omega arith
-  at_most_one (suc (suc zero)) c = absurd (not_over (c.covered (omega arith)))
-  at_most_one (suc (suc (suc zero))) c = absurd (not_over (c.covered (omega arith)))
-  at_most_one (suc (suc (suc (suc k)))) c = absurd (omega (arith, c.upto))
-
-  first_leg : Candidate M Lines 0 1
-  first_leg =
-      record {
-        after = omega arith;
-        upto = omega arith;
-        covered = λ _. subst (λ (v : ℕ). UniqueShortest M v (start M 20) []) (from20 ∙ sym to10) (empty_unique M is.sound (start M 20));
-        near = omega (arith, dm_are.0);
-        fits = λ i. fit16 (is.is10 i).begin (is.is20 i).begin;
-      }
-
-  last_leg : Candidate M Lines 1 3
-  last_leg =
-      record {
-        after = omega arith;
-        upto = omega arith;
-        covered = λ _. subst (λ (v : ℕ). UniqueShortest M v (start M 30) []) (from30 ∙ sym to20) (empty_unique M is.sound (start M 30));
-        near = omega (arith, dm_are.1, dm_are.2);
-        fits = λ i. fit16 (is.is20 i).begin (is.is30 i).finish;
-      }
-
-  follows : Follow M Lines 0 (1 ∷ 3 ∷ [])
-  follows = (
-    To_valid (λ c. let few : 3 ≤ 1 = at_most_one 3 c in omega arith)
-        (record { holds = (first_leg, ap (passing M) from20 ∙ is.valid2); others = λ k c. at_most_one k c.0 }),
-    (To_end refl last_leg, λ j c. omega (arith, c.after, c.upto)),
-  )
-
-  no_fault : path_fault M detour_path ≡ None
-  no_fault = simp (is.has10, is.has20, is.has30, to10, from20, to20, from30, dm_are.0, dm_are.1, dm_are.2)
-
-  row : IsRow M detour_path (1 ∷ 3 ∷ []) (detour10 ∷ detour20 ∷ detour30 ∷ []) detour_lines detour_reference
-  row =
-      record {
-        sound = is.sound;
-        is = refl;
-        none = no_fault;
-        starts = ap (passing M) from10 ∙ is.valid1;
-        ends = ap (passing M) to30 ∙ is.valid4;
-        follow = follows;
-        along = λ i. is.is10 i ∷ is.is20 i ∷ is.is30 i ∷ [];
-        all = is.all;
-        answer = λ i. Points (reference (is.is10 i ∷ is.is20 i ∷ is.is30 i ∷ []) 0 0 (1 ∷ 3 ∷ []));
-      }
-
-  by_direction : DistinctByDirection axes_sum 5 M detour_path detour_reference
-  by_direction = record { outgoing = out; incoming = stands_at M _ _ _ _ _ row Incoming 2 30 detour30 refl is.is30 axes_sum 5 refl }
-    where
-      out : (k x : ℕ) → k < 2 → IsLineAt M detour_path Outgoing k x →
-          IsTrue (stands_out axes_sum 5 Outgoing (decoded_coord detour_reference k) x (leg M x) (candidates M))
-      out zero x lt = stands_at M _ _ _ _ _ row Outgoing 0 10 detour10 refl is.is10 axes_sum 5 refl x
-      out (suc zero) x lt = stands_at M _ _ _ _ _ row Outgoing 1 20 detour20 refl is.is20 axes_sum 5 refl x
-      out (suc (suc k)) x lt = absurd (omega arith)
+pub detour_candidates : candidates detour_map ≡ detour_lines
+detour_candidates = is_detour.all
 
 pub detour_answer : Encodes detour_map detour_path (Points detour_reference)
-detour_answer = encodes detour_map _ _ _ _ _ (row detour_map is_detour)
+detour_answer = encodes detour_map _ _ _ _ _ detour_row
 
 pub detour_by_direction : DistinctByDirection axes_sum 5 detour_map detour_path detour_reference
-detour_by_direction = by_direction detour_map is_detour
+detour_by_direction =
+    by_direction detour_map _ _ _ _ _ detour_row axes_sum 5 10 20 30 detour10 detour20 detour30 refl (refl, is_detour.first.is, refl)
+    (refl, is_detour.second.is, refl) (refl, is_detour.third.is, refl)
 
 -- ---- a receiver that sees line 10 before its end
 
@@ -234,15 +113,15 @@ long_enough y h from =
 shortest : Shortest detour_map 3 (end detour_map 10) (start detour_map 30) (21 ∷ [])
 shortest =
     record {
-      route = by21 detour_map is_detour;
-      within = (omega (arith, ap (λ (g : Leg). g.line.frc) is_detour.is21), tt);
+      route = by_side detour_map _ _ _ _ _ _ is_detour;
+      within = (omega (arith, ap (λ (g : Leg). g.line.frc) is_detour.side.is), tt);
       first = others;
     }
   where
     others : (ys : List ℕ) → IsRoute detour_map (end detour_map 10) (start detour_map 30) ys → Within detour_map 3 ys → dm_of detour_map (21 ∷ []) ≤ dm_of detour_map ys
-    others [] route within = absurd (omega (arith, route, to10 detour_map is_detour, from30 detour_map is_detour))
+    others [] route within = absurd (omega (arith, route, is_detour.first.to, is_detour.third.from))
     others (y ∷ ys) route within =
-        omega (arith, long_enough y route.0 (route.1 ∙ to10 detour_map is_detour), (dm_are detour_map is_detour).3)
+        omega (arith, long_enough y route.0 (route.1 ∙ is_detour.first.to), ap (λ (g : Leg). g.line.len) is_detour.side.is)
 
 -- the lines 10, 21 and 30
 abbrev other_road : Road
@@ -253,22 +132,22 @@ other_recovered =
     let r = detour_reference in
     let second = lrp_at r 1 (record { frc = 3; fow = 3; lfrc = 3; bearing = 8; dnp = 6 }) in (
       10,
-      takes_at (lrp_at r 0 r.first.attrs) 10 is_detour.has10 refl,
+      takes_at (lrp_at r 0 r.first.attrs) 10 is_detour.first.known refl,
       (
         10,
         10016,
         [],
         (10 ∷ 21 ∷ 30 ∷ []) ∷ [],
-        takes_at second 10 is_detour.has10 refl,
+        takes_at second 10 is_detour.first.known refl,
         On_line (refl, omega arith) refl,
         refl,
         (
           30,
           13590,
           10 ∷ 21 ∷ 30 ∷ [],
-          takes_at (last_lrp r) 30 is_detour.has30 refl,
+          takes_at (last_lrp r) 30 is_detour.third.known refl,
           Last_on_route (21 ∷ []) (λ f. absurd (omega (arith, f.0))) refl shortest
-              (omega (arith, ap (λ (g : Leg). g.line.frc) is_detour.is30)),
+              (omega (arith, ap (λ (g : Leg). g.line.frc) is_detour.third.is)),
           refl,
           refl,
         ),
@@ -297,18 +176,15 @@ snapped =
       incoming = λ x at. snapped_at by_sum not_before (λ c. c) (λ c. omega arith) detour_map Incoming (decoded_coord detour_reference 2) x (back x at);
     }
   where
-    the_row : IsRow detour_map detour_path (1 ∷ 3 ∷ []) (detour10 ∷ detour20 ∷ detour30 ∷ []) detour_lines detour_reference
-    the_row = row detour_map is_detour
-
     out : (k x : ℕ) → k < 2 → IsLineAt detour_map detour_path Outgoing k x →
         not (is_before (lrp_of detour_map Outgoing (decoded_coord detour_reference k) x) x) ≡ true
-    out zero x lt at = is_not_before Outgoing (decoded_coord detour_reference 0) 10 x (own_is detour_map _ _ _ _ _ the_row Outgoing 0 10 detour10 refl is_detour.is10 axes_sum x at) refl
-    out (suc zero) x lt at = is_not_before Outgoing (decoded_coord detour_reference 1) 20 x (own_is detour_map _ _ _ _ _ the_row Outgoing 1 20 detour20 refl is_detour.is20 axes_sum x at) refl
+    out zero x lt at = is_not_before Outgoing (decoded_coord detour_reference 0) 10 x (own_is detour_map _ _ _ _ _ detour_row Outgoing 0 10 detour10 refl is_detour.first.is axes_sum x at) refl
+    out (suc zero) x lt at = is_not_before Outgoing (decoded_coord detour_reference 1) 20 x (own_is detour_map _ _ _ _ _ detour_row Outgoing 1 20 detour20 refl is_detour.second.is axes_sum x at) refl
     out (suc (suc k)) x lt at = absurd (omega arith)
 
     back : (x : ℕ) → IsLineAt detour_map detour_path Incoming 2 x →
         not (is_before (lrp_of detour_map Incoming (decoded_coord detour_reference 2) x) x) ≡ true
-    back x at = is_not_before Incoming (decoded_coord detour_reference 2) 30 x (own_is detour_map _ _ _ _ _ the_row Incoming 2 30 detour30 refl is_detour.is30 axes_sum x at) refl
+    back x at = is_not_before Incoming (decoded_coord detour_reference 2) 30 x (own_is detour_map _ _ _ _ _ detour_row Incoming 2 30 detour30 refl is_detour.third.is axes_sum x at) refl
 
 pub distinct_past_end : DistinctPastEnd
 distinct_past_end = (

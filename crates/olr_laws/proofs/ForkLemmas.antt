@@ -77,6 +77,9 @@ module _ (M : Map) (is : IsFork M) where
         incoming = distinct_at M _ _ _ _ _ row Incoming 1 10 fork10 refl is.is10 axes_sum refl refl;
       }
 
+pub fork_candidates : candidates fork_map ≡ fork_lines
+fork_candidates = is_fork.all
+
 pub fork_answer : Encodes fork_map fork_path (Points fork_reference)
 fork_answer = encodes fork_map _ _ _ _ _ (row fork_map is_fork)
 

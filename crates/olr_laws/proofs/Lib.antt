@@ -7,6 +7,7 @@ pub mod DirectionLemmas
 pub mod ProjectionLemmas
 mod LineBeforeLemmas
 pub mod RowLemmas
+mod SideRoadLemmas
 pub mod MorningLemmas
 pub mod ForkLemmas
 mod DetourLemmas

@@ -1,13 +1,13 @@
 -- A path of a worked row, to which nothing is added: its answer, and its lines at the LRPs.
-use Rattle.olr_spec.proofs.Common.{◌≡◌, ℕ, ◌+◌, Bool, true, false, List, [], ◌∷◌, ◌++◌, refl, sym, ap, ◌∙◌, subst, IsTrue, arith, Some, None, cond, append-nil, add-zero}
+use Rattle.olr_spec.proofs.Common.{◌≡◌, ℕ, zero, suc, ◌+◌, ◌<◌, Bool, true, false, List, [], ◌∷◌, ◌++◌, refl, sym, ap, ◌∙◌, subst, IsTrue, arith, Some, None, cond, append-nil, add-zero}
 use Rattle.olr_spec.proofs.Common.{Map, IsMap, start, end, passing, first, last, dm_of, Path, StartRun, EndRun, LongestStart, LongestEnd, Tried, extended_path, path_fault, is_path}
 use Rattle.olr_spec.proofs.Common.{Follow, Points, Encodes, Encoding, Leg, leg, legs, answer_by_points, Option, Refusal, Refused, MatchOption, Reference}
 use Rattle.olr_spec.proofs.Common.{Side, Measure, candidates, option_map, slice_get, kept_points, is_nearest, has_no_twin}
 use Rattle.olr_spec.proofs.Facts.{path_at}
 use Rattle.olr_spec.specs.Extension.{MayPrecede}
-use Rattle.olr_spec.specs.Receiver.{decoded_coord}
+use Rattle.olr_spec.specs.Receiver.{Outgoing, Incoming, last_number, decoded_coord}
 use Rattle.olr_spec.specs.Recovery.{IsLineAt, line_by, DistinctAt}
-use Rattle.olr_laws.specs.Directions.{stands_out}
+use Rattle.olr_laws.specs.Directions.{DistinctByDirection, stands_out}
 
 -- ---- ends at valid nodes
 
@@ -124,3 +124,25 @@ module _ (M : Map) (P : Path) (js : List ℕ) (gs : List Leg) (cs : List (ℕ ×
     stands_at slack out x at =
         subst (λ (x : ℕ). IsTrue (stands_out far slack s (decoded_coord r k) x (leg M x) (candidates M))) (own_is x at)
         ((λ i. stands_out far slack s (decoded_coord r k) y (is_g i) (w.all i)) ∙ out)
+
+  -- the path's line at LRP k is line y, which is g and stands out
+  abbrev Stands : Measure → ℕ → Side → ℕ → ℕ → Leg → Type 0
+  Stands far slack s k y g =
+      (option_map (line_by s P.lines) (slice_get (kept_points gs P.pos P.neg js) k) ≡ Some y) × (leg M y ≡ g)
+      × (stands_out far slack s (decoded_coord r k) y g cs ≡ true)
+
+  -- three LRPs, at each of which the path's line stands out
+  pub by_direction : (far : Measure) (slack : ℕ) (x y z : ℕ) (f g h : Leg) → last_number r ≡ 2 → Stands far slack Outgoing 0 x f →
+      Stands far slack Outgoing 1 y g → Stands far slack Incoming 2 z h → DistinctByDirection far slack M P r
+  by_direction far slack x y z f g h two a b c =
+      record {
+        outgoing = out;
+        incoming = subst (λ (k : ℕ). (x : ℕ) → IsLineAt M P Incoming k x → IsTrue (stands_out far slack Incoming (decoded_coord r k) x (leg M x) (candidates M)))
+            (sym two) (stands_at Incoming 2 z h c.0 c.1 far slack c.2);
+      }
+    where
+      out : (k v : ℕ) → k < last_number r → IsLineAt M P Outgoing k v →
+          IsTrue (stands_out far slack Outgoing (decoded_coord r k) v (leg M v) (candidates M))
+      out zero v lt = stands_at Outgoing 0 x f a.0 a.1 far slack a.2 v
+      out (suc zero) v lt = stands_at Outgoing 1 y g b.0 b.1 far slack b.2 v
+      out (suc (suc k)) v lt = absurd (omega (arith, two))

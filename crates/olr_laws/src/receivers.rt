@@ -6,14 +6,12 @@ ghost use Rattle.olr_spec.specs.Bearings.{vector};
 ghost use Rattle.olr_spec.specs.Encoding.{Encodes, Points};
 ghost use Rattle.olr_spec.specs.Receiver.{Outgoing, Incoming, candidates, decoded_coord, is_nearest, has_no_twin};
 ghost use Rattle.olr_spec.specs.Recovery.{Distinct, IsWeighted, are_cosines, are_spaced};
-ghost use Rattle.olr_laws.specs.Rows.{leg10, reference1, leg20, leg30, morning_lines, twin_lines, axes_sum, cosine};
-ghost use Rattle.olr_laws.specs.Rows.{by_cosine};
+ghost use Rattle.olr_laws.specs.Rows.{leg10, reference1, leg20, leg30, morning_lines, twin_lines, axes_sum, cosine, by_cosine};
 ghost use Rattle.olr_laws.specs.DirectionLaws;
 ghost use Rattle.olr_laws.specs.ProjectionLaws;
 ghost use Rattle.olr_laws.specs.AmbiguityLaws;
 ghost use Rattle.olr_spec.specs.Directions.{is_beyond};
-ghost use Rattle.olr_laws.specs.Directions.{DistinctByDirection, SeesDirections, exceeded, is_within, middle};
-ghost use Rattle.olr_laws.specs.Directions.{stands_out};
+ghost use Rattle.olr_laws.specs.Directions.{DistinctByDirection, SeesDirections, exceeded, is_within, middle, stands_out};
 ghost use Rattle.olr_laws.specs.MapRows.{morning_map, morning_path, fork_map, fork_path, fork_reference, fork_lines};
 ghost use Rattle.olr_laws.specs.ProjectionRows.{DistinctPastEnd, RecoversOther, detour_lines, detour_map, detour_path, detour_reference};
 ghost use Rattle.olr_laws.specs.MapRows.{fork10, degrees10, TakesOther};
@@ -66,6 +64,7 @@ pub fn laws_of_ambiguity()
 /// The first worked path on its map: the answer is its reference, which is distinct for both kinds of receivers; the
 /// slack is 10,000,000 units, 3.4 m of latitude. By the cosine of the latitude,
 /// which is more than 64/100 there, the weighted sum is such a measure as the law of the nearest node asks for.
+#[tactic(auto, using(crate::proofs::MorningLemmas::morning_sound, crate::proofs::MorningLemmas::morning_candidates, crate::proofs::MorningLemmas::morning_answer, crate::proofs::MorningLemmas::morning_distinct, crate::proofs::MorningLemmas::morning_by_direction, crate::proofs::MorningLemmas::morning_cosines, crate::proofs::MorningLemmas::morning_weighted))]
 pub fn rows_morning()
     ensures sound { IsMap morning_map }
     ensures lines { candidates morning_map ≡ morning_lines }
@@ -78,6 +77,7 @@ pub fn rows_morning()
 
 /// Two lines from one node in one sector, of other classes: the path along one of them is distinct, and yet a receiver
 /// that compares directions takes the other one. To such receivers it doesn't stand out.
+#[tactic(auto, using(crate::proofs::ForkLemmas::fork_candidates, crate::proofs::ForkLemmas::fork_answer, crate::proofs::ForkLemmas::fork_distinct, crate::proofs::ForkLemmas::takes_other))]
 pub fn rows_fork()
     ensures lines { candidates fork_map ≡ fork_lines }
     ensures answer { Encodes fork_map fork_path (Points fork_reference) }
@@ -89,6 +89,7 @@ pub fn rows_fork()
 /// A path that goes straight on over the second LRP, where another line is a shorter way: it stands out for receivers that take
 /// candidates at nodes, and for those that don't see line 10, which ends there, as they are past it. A receiver that takes a
 /// point of line 10, 0.3 m before its end, goes on by the shorter way.
+#[tactic(auto, using(crate::proofs::DetourLemmas::detour_candidates, crate::proofs::DetourLemmas::detour_answer, crate::proofs::DetourLemmas::detour_by_direction, crate::proofs::DetourLemmas::recovers_other, crate::proofs::DetourLemmas::distinct_past_end))]
 pub fn rows_detour()
     ensures lines { candidates detour_map ≡ detour_lines }
     ensures answer { Encodes detour_map detour_path (Points detour_reference) }
