@@ -1,7 +1,7 @@
 -- A receiver that may take the line before an LRP recovers the path's road, if the route from there is covered.
 use Rattle.olr_spec.proofs.Common.{◌≡◌, ℕ, suc, ◌+◌, ◌-◌, ◌*◌, ◌≤◌, ◌<◌, ◌⊎◌, inl, inr, true, IsTrue, arith, ◌++◌}
-use Rattle.olr_spec.proofs.Common.{cases_eq, ap, sym, ◌∙◌, subst, refl, List, [], ◌∷◌, length, map, slice_index, slice_get, Some, None, option_map, concat, append-nil}
-use Rattle.olr_spec.proofs.Common.{ℤ, ⊤, Map, IsMap, end, start, dm, legs, Side, stretch, Path, is_path, none_twice, first, last, Covered, LrpRoute, AreJoined}
+use Rattle.olr_spec.proofs.Common.{cases_eq, ap, sym, ◌∙◌, subst, refl, List, [], ◌∷◌, length, map, slice_index, slice_get, Some, None, concat, append-nil}
+use Rattle.olr_spec.proofs.Common.{ℤ, ⊤, Map, IsMap, end, start, dm, legs, stretch, Path, is_path, none_twice, first, last, Covered, LrpRoute, AreJoined}
 use Rattle.olr_spec.proofs.Common.{extended_path, path_fault, Points, Encoding, Reference, attrs, Middle, middle_points, last_two, reference_by_kept, Within}
 use Rattle.olr_spec.proofs.Facts.{Each, has_last, Known, Linked, path_also, stretch_first, empty_stretch}
 use Rattle.olr_spec.proofs.DecideLemmas.{dec_same}
@@ -9,18 +9,18 @@ use Rattle.olr_spec.proofs.JoinLemmas.{RouteTo, covered_to, stretch_last}
 use Rattle.olr_spec.proofs.QueryLemmas.{covered_before, stretch_parts}
 use Rattle.olr_spec.proofs.JoinedLemmas.{extended_joined}
 use Rattle.olr_spec.proofs.FieldLemmas.{linked_above}
-use Rattle.olr_spec.proofs.FitLemmas.{extended_sound, by_answer}
-use Rattle.olr_spec.proofs.DecodedLemmas.{answer_decodes, Back, Form, Front, Kept, form}
+use Rattle.olr_spec.proofs.FitLemmas.{by_answer}
+use Rattle.olr_spec.proofs.DecodedLemmas.{Back, Front, Kept, form}
 use Rattle.olr_spec.proofs.RecoverLemmas.{extended_once, once_apart}
 use Rattle.olr_spec.proofs.ReceiverLemmas.{Describes, same_path}
 use Rattle.olr_spec.specs.Reference as fields
 use Rattle.olr_spec.specs.Receiver.{Outgoing, Incoming, Lrp, lrp_at, last_lrp, last_number, decoded_coord, Shortest}
-use Rattle.olr_spec.specs.Recovery.{IsLineAt, line_by}
 use Rattle.olr_laws.specs.Projections.{Projected, ProjectingReceiver, TakesAt, ProjectsTo, On_line, On_route, ProjectsLast}
 use Rattle.olr_laws.specs.Projections.{Last_on_line, Last_on_route, ProjectsFrom, Road, RecoversByProjection, IsNearEnd, StandsOutAt}
 use Rattle.olr_laws.specs.Projections.{StandsOutButBefore, CoveredBefore, CoveredAfterFirst, DistinctButBefore, IsPathPart}
 use Rattle.olr_laws.specs.ProjectionLaws.{RecoveredButBefore}
-use Rattle.olr_laws.proofs.ProjectionLemmas.{takes_point, before_end, preferred_to, lrp_is, own_out, own_in, within_stretch}
+use Rattle.olr_laws.proofs.ReceiverLemmas.{IsLast, size, line_at_point, one_last, known_lines}
+use Rattle.olr_laws.proofs.ProjectionLemmas.{seen_own, same_point, takes_point, before_end, preferred_to, lrp_is, own_out, own_in, within_stretch}
 
 -- ---- routes
 
@@ -104,24 +104,18 @@ module _ (R : ProjectingReceiver) (stub : ℕ) (M : Map) (r : Reference) (k : �
   abbrev t : Lrp
   t = lrp_at r k a
 
-  seen_own : R.project M t x ≡ Some o.point
-  seen_own = ap (λ (u : Lrp). R.project M u x) (lrp_is M t x d) ∙ o.seen
-
-  same_point : (q : Projected) → R.project M t x ≡ Some q → q ≡ o.point
-  same_point q seen = let two = sym seen ∙ seen_own in cc two
-
   -- line x near its start, or line z near its end
   takes_either : (y b : ℕ) → TakesAt R M t y b → ((y ≡ x) × (b ≤ stub)) ⊎ ((y ≡ z) × IsNearEnd R stub M Incoming z b)
   takes_either y b k = elim (cases_eq y x) [
     | inl same ↦
-        let point = same_point k.0 (subst (λ (v : ℕ). R.project M t v ≡ Some k.0) same k.1.seen) in
+        let point = same_point R stub M t x d o.point o.own k.0 (subst (λ (v : ℕ). R.project M t v ≡ Some k.0) same k.1.seen) in
         let at : b ≡ o.point.at = sym k.2 ∙ ap (λ (q : Projected). q.at) point in
-        inl (same, omega (arith, at, o.near))
+        inl (same, omega (arith, at, o.own.near))
     | inr other ↦ elim (o.others y k.0 k.1.known other (sym (ap (λ (u : Lrp). R.project M u y) (lrp_is M t x d)) ∙ k.1.seen)) [
       | inl before ↦ inr (before.0, subst (IsNearEnd R stub M Incoming z) k.2 before.1)
       | inr out ↦
-          let is = preferred_to R M t x d o.point o.sector y k.0 out in
-          let isnt = k.1.best x o.point o.known seen_own in
+          let is = preferred_to R M t x d o.point o.own.sector y k.0 out in
+          let isnt = k.1.best x o.point o.own.known (seen_own R stub M t x d o.point o.own) in
           absurd (let never : ⊥ = cc (is, isnt) in never)
     ]
   ]
@@ -167,7 +161,7 @@ module _ (R : ProjectingReceiver) (stub : ℕ) (M : Map) (Ends : ℕ → Type 0)
   from_before r k h i [] c a chosen cov before l is o ws finish g =
       let y = slice_index ls (i - 1) in
       let bound = R.lowest (attrs (legs M ls) h i).lfrc in
-      let near = o.out.near in
+      let near = o.out.own.near in
       let order = between_chosen stub h c a chosen in
       let takes = takes_point R stub M (last_lrp r) y (own_in R stub M Ends m ls known once r h i (omega arith) is) o.out g.0 g.1 g.3 in
       let leg = coe 0 1 (n. ProjectsLast M bound (slice_index ls c) a (takes.0 n) (takes.1 n) g.2) g.4 in
@@ -215,7 +209,7 @@ module _ (R : ProjectingReceiver) (stub : ℕ) (M : Map) (Ends : ℕ → Type 0)
       let t = lrp_at r 0 (attrs (legs M ls) h i) in
       let takes = takes_point R stub M t (slice_index ls h)
       (own_out R stub M Ends m ls known once r 0 h i (omega (arith, l.0.after, l.0.upto))) first g.0 road.begin g.1 in
-      let near : road.begin ≤ stub = omega (arith, takes.1, first.near) in
+      let near : road.begin ≤ stub = omega (arith, takes.1, first.own.near) in
       let rest = from_before r 0 h i js h road.begin (inl (refl, near)) l.0.covered before l refl o road.legs road.finish
       (coe 0 1 (n. ProjectsFrom R M r 0 (takes.0 n) road.begin (from h i js) road.legs road.finish) g.2) in
       (rest.0, near, rest.1)
@@ -233,41 +227,23 @@ module _ (R : ProjectingReceiver) (stub : ℕ) (M : Map) (m : IsMap M) (P : Path
   abbrev Points_kept : List ℕ
   Points_kept = Kept M P is none r e
 
-  formed : Form M Lines Points_kept (Front M P is none r e) (Back M P is none r e) r
-  formed = form M P is none r e
-
-  count : last_number r + 1 ≡ length Points_kept
-  count = omega (arith, (answer_decodes M P is none r e).count)
-
-  line_at_point : (s : Side) (k p : ℕ) → slice_get Points_kept k ≡ Some p → IsLineAt M P s k (line_by s Lines p)
-  line_at_point s k p at = path_also e (ap (option_map (line_by s Lines)) at)
-
-  abbrev IsLast : ℕ → Type 0
-  IsLast x = IsLineAt M P Incoming (last_number r) x
-
   once : none_twice Lines ≡ true
   once = extended_once M P e.before e.after is e.tried
-
-  known : Each (Known M) Lines
-  known = (extended_sound M P is none e.before e.after e.tried).known
 
   joined : AreJoined M Lines
   joined = extended_joined M P is none e.before e.after e.tried
 
-  one_last : (x y : ℕ) → IsLast x → IsLast y → x ≡ y
-  one_last x y a b = let two = sym (same_path M m P is none r e _ a) ∙ same_path M m P is none r e _ b in cc two
-
   owns_from : (k : ℕ) (ks : List ℕ) → 0 < k → ((n : ℕ) → slice_get Points_kept (k + n) ≡ slice_get ks n) →
-      k + length ks ≡ last_number r + 1 → Owns R stub M IsLast m Lines known once joined r k ks
+      k + length ks ≡ last_number r + 1 → Owns R stub M (IsLast M P r) m Lines (known_lines M m P is none r e) once joined r k ks
   owns_from k [] some at size = tt
   owns_from k (h ∷ []) some at size =
       let on : k + 0 ≡ last_number r = omega arith in
-      let here = line_at_point Incoming (last_number r) h (ap (slice_get Points_kept) (sym on) ∙ at 0) in
+      let here = line_at_point M m P is none r e Incoming (last_number r) h (ap (slice_get Points_kept) (sym on) ∙ at 0) in
       record { out = d.last _ here; ends = here }
   owns_from k (h ∷ i ∷ js) some at size =
       let on : k + 0 ≡ k = omega arith in
       let point = ap (slice_get Points_kept) (sym on) ∙ at 0 in (
-        d.between k _ _ some (omega arith) (line_at_point Outgoing k h point) (line_at_point Incoming k h point),
+        d.between k _ _ some (omega arith) (line_at_point M m P is none r e Outgoing k h point) (line_at_point M m P is none r e Incoming k h point),
         owns_from (suc k) (i ∷ js) (omega arith)
             (λ n. let step : suc k + n ≡ k + suc n = omega arith in ap (slice_get Points_kept) step ∙ at (suc n))
             (omega arith),
@@ -275,22 +251,22 @@ module _ (R : ProjectingReceiver) (stub : ℕ) (M : Map) (m : IsMap M) (P : Path
 
   pub part_is : (road : Road) → RecoversByProjection R M r road → IsPathPart R stub M P r road
   part_is road g =
-      let f = formed in
+      let f = form M P is none r e in
       let ks = f.h ∷ f.i ∷ f.js in
       let at = λ (n : ℕ). ap (λ (zs : List ℕ). slice_get zs n) f.kept in
-      let size : last_number r + 1 ≡ length ks = count ∙ ap length f.kept in
+      let size : last_number r + 1 ≡ length ks = size M m P is none r e ∙ ap length f.kept in
       let rest = owns_from 1 (f.i ∷ f.js) (omega arith)
       (λ n. let step : 1 + n ≡ suc n = omega arith in at (1 + n) ∙ ap (slice_get ks) step) (omega (arith, size)) in
-      let begins = d.first _ (line_at_point Outgoing 0 f.h (at 0)) in
+      let begins = d.first _ (line_at_point M m P is none r e Outgoing 0 f.h (at 0)) in
       let before = coe 0 1 (i. CoveredAfterFirst M Lines (f.kept i)) (same_path M m P is none r e _ d.covered) in
-      let parts = kept_part R stub M IsLast m Lines known once joined (Front M P is none r e) (Back M P is none r e) f.h f.i f.js f.linked before
+      let parts = kept_part R stub M (IsLast M P r) m Lines (known_lines M m P is none r e) once joined (Front M P is none r e) (Back M P is none r e) f.h f.i f.js f.linked before
       (coe 0 1 (i. StandsOutAt R stub M Outgoing (decoded_coord (f.fields_are i) 0) (slice_index Lines f.h)) begins)
-      (coe 0 1 (i. Owns R stub M IsLast m Lines known once joined (f.fields_are i) 1 (f.i ∷ f.js)) rest) road
+      (coe 0 1 (i. Owns R stub M (IsLast M P r) m Lines (known_lines M m P is none r e) once joined (f.fields_are i) 1 (f.i ∷ f.js)) rest) road
       (coe 0 1 (i. RecoversByProjection R M (f.fields_are i) road) g) in
       record {
         lines = path_also e (parts.0 ∙ ap (λ (zs : List ℕ). stretch Lines (first zs) (last zs)) (sym f.kept));
         begin = parts.1;
-        finish = end_is R stub M IsLast m Lines known once joined one_last road.finish parts.2;
+        finish = end_is R stub M (IsLast M P r) m Lines (known_lines M m P is none r e) once joined (one_last M m P is none r e) road.finish parts.2;
       }
 
 pub recovered_but_before : RecoveredButBefore

@@ -1,28 +1,28 @@
 -- Every receiver that projects recovers the path's road, but for a stub at each end.
 use Rattle.olr_spec.proofs.Common.{◌≡◌, ◌≢◌, ℕ, suc, ◌+◌, ◌-◌, ◌*◌, ◌≤◌, ◌<◌, inl, inr, Bool, true, ◌||◌, ◌↔◌, IsTrue, IsFalse, arith}
-use Rattle.olr_spec.proofs.Common.{cases_eq, or_cases, and_parts, ap, sym, ◌∙◌, subst, refl, List, [], ◌∷◌, length, map, slice_index, slice_get, Some, None, option_map}
+use Rattle.olr_spec.proofs.Common.{cases_eq, or_cases, and_parts, ap, sym, ◌∙◌, subst, refl, List, [], ◌∷◌, length, map, slice_index, slice_get, Some, None}
 use Rattle.olr_spec.proofs.Common.{ℤ, ⊤, get_or-map, Map, IsMap, has_line, line_at, dm, leg, legs, leg_at, no_leg, Side, candidates, stretch, Path, is_path, none_twice}
 use Rattle.olr_spec.proofs.Common.{extended_path, path_fault, Points, Encoding, Reference, attrs, Middle, middle_points, last_two, reference_by_kept, Within, RecoversTo, RecoversLast}
 use Rattle.olr_spec.proofs.Common.{false, cond, IsSector, leb-true, eqb-true, ◌==◌}
 use Rattle.olr_spec.proofs.Facts.{Each, has_index, Known, Linked, joins_to, joins_last, path_also}
 use Rattle.olr_spec.proofs.FieldLemmas.{range_legs}
-use Rattle.olr_spec.proofs.FitLemmas.{extended_sound, by_answer}
-use Rattle.olr_spec.proofs.DecodedLemmas.{answer_decodes, Back, Form, Front, Kept, form}
+use Rattle.olr_spec.proofs.FitLemmas.{by_answer}
+use Rattle.olr_spec.proofs.DecodedLemmas.{Back, Front, Kept, form}
 use Rattle.olr_spec.proofs.RecoverLemmas.{within_greatest, recovers_to, recovers_last, extended_once, once_apart}
 use Rattle.std.proofs.Math.Nat.{mul-lt-mul_of_pos_left}
 use Rattle.std.specs.List.{list_all}
-use Rattle.olr_spec.proofs.ReceiverLemmas.{Describes, passes, same_path}
+use Rattle.olr_spec.proofs.ReceiverLemmas.{Describes, passes}
 use Rattle.olr_spec.specs.Reference as fields
 use Rattle.olr_spec.specs.Receiver.{Outgoing, Incoming, Lrp, lrp_at, last_lrp, last_number, decoded_coord, sector_on, One_line, More_lines}
-use Rattle.olr_spec.specs.Recovery.{IsLineAt, line_by, stretches}
+use Rattle.olr_spec.specs.Recovery.{stretches}
 use Rattle.olr_spec.specs.Directions.{direction_on, is_direction, is_beyond}
 use Rattle.olr_laws.specs.Directions.{DirectionReceiver, is_outdone, stands_out}
 use Rattle.olr_laws.specs.Projections.{Projected, ProjectingReceiver, rating_at, TakesByProjection, TakesAt, ProjectsTo, On_line, On_route, ProjectsLast}
-use Rattle.olr_laws.specs.Projections.{Last_on_line, Last_on_route, ProjectsFrom, Road, RecoversByProjection, IsNearEnd, is_outdone_at, StandsOutAt, DistinctByProjection}
+use Rattle.olr_laws.specs.Projections.{Last_on_line, Last_on_route, ProjectsFrom, Road, RecoversByProjection, IsNearEnd, is_outdone_at, IsOwnPoint, StandsOutAt, DistinctByProjection}
 use Rattle.olr_laws.specs.Projections.{IsPathRoad, node_point, lrp_of, IsSnapped}
 use Rattle.olr_laws.specs.ProjectionLaws.{RecoveredByProjection, SnappedIsDistinct, SomeAtEnds}
 use Rattle.olr_laws.proofs.DirectionLemmas.{either_outdone, outdone_either, in_sector, irreflexive}
-use Rattle.olr_laws.proofs.ReceiverLemmas.{known_out, known_in}
+use Rattle.olr_laws.proofs.ReceiverLemmas.{IsLast, size, line_at_point, one_last, known_lines, known_out, known_in}
 
 -- ---- one LRP
 
@@ -55,6 +55,14 @@ module _ (R : ProjectingReceiver) (M : Map) (t : Lrp) (x : ℕ) (d : Describes M
 pub lrp_is : (M : Map) (t : Lrp) (x : ℕ) → Describes M t x → t ≡ lrp_of M t.side t.place x
 lrp_is M t x d i = record { side = t.side; place = t.place; frc = d.frc i; fow = d.fow i; bearing = d.bearing i }
 
+module _ (R : ProjectingReceiver) (stub : ℕ) (M : Map) (t : Lrp) (x : ℕ) (d : Describes M t x) (own : Projected)
+    (o : IsOwnPoint R stub M t.side t.place x own) where
+  pub seen_own : R.project M t x ≡ Some own
+  seen_own = ap (λ (u : Lrp). R.project M u x) (lrp_is M t x d) ∙ o.seen
+
+  pub same_point : (q : Projected) → R.project M t x ≡ Some q → q ≡ own
+  same_point q seen = let two = sym seen ∙ seen_own in cc two
+
 module _ (R : ProjectingReceiver) (stub : ℕ) (M : Map) (t : Lrp) (x : ℕ) (d : Describes M t x) (o : StandsOutAt R stub M t.side t.place x) where
   abbrev D : DirectionReceiver
   D = R.rates
@@ -62,24 +70,18 @@ module _ (R : ProjectingReceiver) (stub : ℕ) (M : Map) (t : Lrp) (x : ℕ) (d 
   preferred : (y : ℕ) (q : Projected) → IsTrue (has_line M y) → y ≢ x → R.project M t y ≡ Some q →
       IsTrue (D.prefers (rating_at R t (leg M x) o.point) (rating_at R t (leg M y) q))
   preferred y q h n seen =
-      preferred_to R M t x d o.point o.sector y q
+      preferred_to R M t x d o.point o.own.sector y q
       (o.others y q h n (sym (ap (λ (u : Lrp). R.project M u y) (lrp_is M t x d)) ∙ seen))
-
-  seen_own : R.project M t x ≡ Some o.point
-  seen_own = ap (λ (u : Lrp). R.project M u x) (lrp_is M t x d) ∙ o.seen
-
-  same_point : (q : Projected) → R.project M t x ≡ Some q → q ≡ o.point
-  same_point q seen = let two = sym seen ∙ seen_own in cc two
 
   own_taken : TakesByProjection R M t x o.point
   own_taken =
       record {
-        known = o.known;
-        seen = seen_own;
+        known = o.own.known;
+        seen = (seen_own R stub M t x d o.point o.own);
         best = λ y q h seen. elim (cases_eq y x) [
           | inl same ↦
               let here = subst (λ (z : ℕ). R.project M t z ≡ Some q) same seen in
-              coe 1 0 (i. IsFalse (D.prefers (rating_at R t (leg M (same i)) (same_point q here i)) (rating_at R t (leg M x) o.point)))
+              coe 1 0 (i. IsFalse (D.prefers (rating_at R t (leg M (same i)) (same_point R stub M t x d o.point o.own q here i)) (rating_at R t (leg M x) o.point)))
               (irreflexive D (rating_at R t (leg M x) o.point))
           | inr other ↦ D.strict (rating_at R t (leg M x) o.point) (rating_at R t (leg M y) q) (preferred y q h other seen)
         ];
@@ -91,14 +93,14 @@ module _ (R : ProjectingReceiver) (stub : ℕ) (M : Map) (t : Lrp) (x : ℕ) (d 
     | inl same ↦ same
     | inr other ↦
         let is = preferred y q k.known other k.seen in
-        let isnt = k.best x o.point o.known seen_own in
+        let isnt = k.best x o.point o.own.known (seen_own R stub M t x d o.point o.own) in
         absurd (let never : ⊥ = cc (is, isnt) in never)
   ]
 
   pub takes_point : (y b : ℕ) → TakesAt R M t y b → (y ≡ x) × (b ≡ o.point.at)
   takes_point y b k =
       let same = takes_line y k.0 k.1 in
-      let point = same_point k.0 (subst (λ (z : ℕ). R.project M t z ≡ Some k.0) same k.1.seen) in
+      let point = same_point R stub M t x d o.point o.own k.0 (subst (λ (z : ℕ). R.project M t z ≡ Some k.0) same k.1.seen) in
       (same, sym k.2 ∙ ap (λ (q : Projected). q.at) point)
 
   takes_own : TakesAt R M t x o.point.at
@@ -196,7 +198,7 @@ module _ (R : ProjectingReceiver) (stub : ℕ) (M : Map) (Ends : ℕ → Type 0)
     from_point r k h i [] a near l is o ws finish g =
         let y = slice_index ls (i - 1) in
         let c = R.lowest (attrs (legs M ls) h i).lfrc in
-        let end_near = o.out.near in
+        let end_near = o.out.own.near in
         let takes = takes_point R stub M (last_lrp r) y (own_in r h i (omega arith) is) o.out g.0 g.1 g.3 in
         let leg = coe 0 1 (n. ProjectsLast M c (slice_index ls h) a (takes.0 n) (takes.1 n) g.2) g.4 in
         let w = (to_last h i l.0.after l.0.upto l a o.out.point.at
@@ -208,7 +210,7 @@ module _ (R : ProjectingReceiver) (stub : ℕ) (M : Map) (Ends : ℕ → Type 0)
         let takes = takes_point R stub M (lrp_at r (suc k) (attrs (legs M ls) i j)) y (own_out r (suc k) i j (omega arith)) o.0.out g.0 g.1 g.4 in
         let w = (to_next h i (omega arith) (omega arith) (l.0, tt) a o.0.out.point.at g.2).0
         (coe 0 1 (n. ProjectsTo M c (slice_index ls h) a (takes.0 n) (takes.1 n) g.2) g.5) in
-        let rest = from_point r (suc k) i j js o.0.out.point.at o.0.out.near l.1 is o.1 g.3 finish
+        let rest = from_point r (suc k) i j js o.0.out.point.at o.0.out.own.near l.1 is o.1 g.3 finish
         (coe 0 1 (n. ProjectsFrom R M r (suc k) (takes.0 n) (takes.1 n) (from i j js) g.3 finish) g.7) in
         (g.6 ∙ (λ n. w n ∷ rest.0 n), rest.1)
 
@@ -218,7 +220,7 @@ module _ (R : ProjectingReceiver) (stub : ℕ) (M : Map) (Ends : ℕ → Type 0)
         (finish : ℕ) × ProjectsFrom R M r k (slice_index ls h) a (from h i js) (stretches ls (h ∷ i ∷ js)) finish
     some_from r k h i [] a near l is o =
         let y = slice_index ls (i - 1) in
-        let end_near = o.out.near in (
+        let end_near = o.out.own.near in (
           o.out.point.at,
           (
             y,
@@ -233,7 +235,7 @@ module _ (R : ProjectingReceiver) (stub : ℕ) (M : Map) (Ends : ℕ → Type 0)
         )
     some_from r k h i (j ∷ js) a near l is o =
         let y = slice_index ls i in
-        let rest = some_from r (suc k) i j js o.0.out.point.at o.0.out.near l.1 is o.1 in (
+        let rest = some_from r (suc k) i j js o.0.out.point.at o.0.out.own.near l.1 is o.1 in (
           rest.0,
           (
             y,
@@ -259,7 +261,7 @@ module _ (R : ProjectingReceiver) (stub : ℕ) (M : Map) (Ends : ℕ → Type 0)
         let x = slice_index ls h in
         let t = lrp_at r 0 (attrs (legs M ls) h i) in
         let takes = takes_point R stub M t x (own_out r 0 h i (omega arith)) o.0.out g.0 road.begin g.1 in
-        let near : road.begin ≤ stub = omega (arith, takes.1, o.0.out.near) in
+        let near : road.begin ≤ stub = omega (arith, takes.1, o.0.out.own.near) in
         let rest = from_point r 0 h i js road.begin near l refl o.1 road.legs road.finish
         (coe 0 1 (n. ProjectsFrom R M r 0 (takes.0 n) road.begin (from h i js) road.legs road.finish) g.2) in
         (rest.0, near, rest.1)
@@ -270,7 +272,7 @@ module _ (R : ProjectingReceiver) (stub : ℕ) (M : Map) (Ends : ℕ → Type 0)
         let r = Kept_reference p q h i js in
         let x = slice_index ls h in
         let t = lrp_at r 0 (attrs (legs M ls) h i) in
-        let rest = some_from r 0 h i js o.0.out.point.at o.0.out.near l refl o.1 in (
+        let rest = some_from r 0 h i js o.0.out.point.at o.0.out.own.near l refl o.1 in (
           record { legs = stretches ls (h ∷ i ∷ js); begin = o.0.out.point.at; finish = rest.0 },
           (x, takes_own R stub M t x (own_out r 0 h i (omega arith)) o.0.out, rest.1),
         )
@@ -285,66 +287,48 @@ module _ (R : ProjectingReceiver) (stub : ℕ) (M : Map) (m : IsMap M) (P : Path
   abbrev Points_kept : List ℕ
   Points_kept = Kept M P is none r e
 
-  formed : Form M Lines Points_kept (Front M P is none r e) (Back M P is none r e) r
-  formed = form M P is none r e
-
-  count : last_number r + 1 ≡ length Points_kept
-  count = omega (arith, (answer_decodes M P is none r e).count)
-
-  line_at_point : (s : Side) (k p : ℕ) → slice_get Points_kept k ≡ Some p → IsLineAt M P s k (line_by s Lines p)
-  line_at_point s k p at = path_also e (ap (option_map (line_by s Lines)) at)
-
-  abbrev IsLast : ℕ → Type 0
-  IsLast x = IsLineAt M P Incoming (last_number r) x
-
-  outgoing_only : (x : ℕ) → Outgoing ≡ Incoming → IsLast x
+  outgoing_only : (x : ℕ) → Outgoing ≡ Incoming → IsLast M P r x
   outgoing_only x e = absurd cc
 
   owns_from : (k : ℕ) (ks : List ℕ) → ((n : ℕ) → slice_get Points_kept (k + n) ≡ slice_get ks n) →
-      k + length ks ≡ last_number r + 1 → Owns R stub M IsLast Lines r k ks
+      k + length ks ≡ last_number r + 1 → Owns R stub M (IsLast M P r) Lines r k ks
   owns_from k [] at size = tt
   owns_from k (h ∷ []) at size =
       let on : k + 0 ≡ last_number r = omega arith in
-      let here = line_at_point Incoming (last_number r) h (ap (slice_get Points_kept) (sym on) ∙ at 0) in
+      let here = line_at_point M m P is none r e Incoming (last_number r) h (ap (slice_get Points_kept) (sym on) ∙ at 0) in
       record { out = d.incoming _ here; ends = λ _. here }
   owns_from k (h ∷ i ∷ js) at size =
       let on : k + 0 ≡ k = omega arith in
-      let here = line_at_point Outgoing k h (ap (slice_get Points_kept) (sym on) ∙ at 0) in (
+      let here = line_at_point M m P is none r e Outgoing k h (ap (slice_get Points_kept) (sym on) ∙ at 0) in (
         record { out = d.outgoing k _ (omega arith) here; ends = λ same. outgoing_only _ same },
         owns_from (suc k) (i ∷ js)
             (λ n. let step : suc k + n ≡ k + suc n = omega arith in ap (slice_get Points_kept) step ∙ at (suc n))
             (omega arith),
       )
 
-  owns : Owns R stub M IsLast Lines r 0 Points_kept
-  owns = owns_from 0 Points_kept (λ n. let z : 0 + n ≡ n = omega arith in ap (slice_get Points_kept) z) (omega (arith, count))
+  owns : Owns R stub M (IsLast M P r) Lines r 0 Points_kept
+  owns = owns_from 0 Points_kept (λ n. let z : 0 + n ≡ n = omega arith in ap (slice_get Points_kept) z) (omega (arith, size M m P is none r e))
 
   once : none_twice Lines ≡ true
   once = extended_once M P e.before e.after is e.tried
 
-  known : Each (Known M) Lines
-  known = (extended_sound M P is none e.before e.after e.tried).known
-
-  one_last : (x y : ℕ) → IsLast x → IsLast y → x ≡ y
-  one_last x y a b = let two = sym (same_path M m P is none r e _ a) ∙ same_path M m P is none r e _ b in cc two
-
   pub road_is : (road : Road) → RecoversByProjection R M r road → IsPathRoad R stub M P r road
   road_is road g =
-      let f = formed in
-      let parts = kept_road R stub M IsLast m Lines known once (Front M P is none r e) (Back M P is none r e) f.h f.i f.js f.linked
-      (coe 0 1 (i. Owns R stub M IsLast Lines (f.fields_are i) 0 (f.kept i)) owns) road
+      let f = form M P is none r e in
+      let parts = kept_road R stub M (IsLast M P r) m Lines (known_lines M m P is none r e) once (Front M P is none r e) (Back M P is none r e) f.h f.i f.js f.linked
+      (coe 0 1 (i. Owns R stub M (IsLast M P r) Lines (f.fields_are i) 0 (f.kept i)) owns) road
       (coe 0 1 (i. RecoversByProjection R M (f.fields_are i) road) g) in
       record {
         legs = path_also e (parts.0 ∙ ap (stretches Lines) (sym f.kept));
         begin = parts.1;
-        finish = end_near R stub M IsLast one_last road.finish parts.2;
+        finish = end_near R stub M (IsLast M P r) (one_last M m P is none r e) road.finish parts.2;
       }
 
   pub some_road : (road : Road) × RecoversByProjection R M r road
   some_road =
-      let f = formed in
-      let some = some_kept R stub M IsLast m Lines known once (Front M P is none r e) (Back M P is none r e) f.h f.i f.js f.linked
-      (coe 0 1 (i. Owns R stub M IsLast Lines (f.fields_are i) 0 (f.kept i)) owns) in
+      let f = form M P is none r e in
+      let some = some_kept R stub M (IsLast M P r) m Lines (known_lines M m P is none r e) once (Front M P is none r e) (Back M P is none r e) f.h f.i f.js f.linked
+      (coe 0 1 (i. Owns R stub M (IsLast M P r) Lines (f.fields_are i) 0 (f.kept i)) owns) in
       (some.0, coe 1 0 (i. RecoversByProjection R M (f.fields_are i) some.0) some.1)
 
 pub recovered_by_projection : RecoveredByProjection
@@ -386,10 +370,12 @@ module _ (R : ProjectingReceiver) (M : Map) (m : IsMap M) (s : Side) (p : ℤ ×
   stands_at_end =
       record {
         point = own;
-        known = known;
-        seen = snapped.own;
-        near = near_node R M m s x known;
-        sector = in_sector s (leg M x) parts_out.0;
+        own = record {
+          known = known;
+          seen = snapped.own;
+          near = near_node R M m s x known;
+          sector = in_sector s (leg M x) parts_out.0;
+        };
         others = λ y o h n seen. elim (snapped.others y o h n seen) [
           | inl e ↦ subst (λ (q : Projected). IsTrue (is_outdone_at R s p (leg M x) own q)) (sym e) (node_outdone y h n)
           | inr is ↦ is

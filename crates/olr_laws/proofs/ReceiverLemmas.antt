@@ -272,6 +272,10 @@ spaced_nearest n d scale far M r w k up s x known near =
 
 -- ---- an answer
 
+-- the path's line at the last LRP
+abbrev pub IsLast : Map → Path → Reference → ℕ → Type 0
+IsLast M P r x = IsLineAt M P Incoming (last_number r) x
+
 module _ (M : Map) (m : IsMap M) (P : Path) (is : IsTrue (is_path P.lines)) (none : path_fault M P ≡ None)
     (r : Reference) (e : Encoding M P (Points r)) where
   abbrev Lines : List ℕ
@@ -285,6 +289,12 @@ module _ (M : Map) (m : IsMap M) (P : Path) (is : IsTrue (is_path P.lines)) (non
 
   pub size : last_number r + 1 ≡ length Points_kept
   size = omega (arith, (answer_decodes M P is none r e).count)
+
+  pub line_at_point : (s : Side) (k p : ℕ) → slice_get Points_kept k ≡ Some p → IsLineAt M P s k (line_by s Lines p)
+  line_at_point s k p at = path_also e (ap (option_map (line_by s Lines)) at)
+
+  pub one_last : (x y : ℕ) → IsLast M P r x → IsLast M P r y → x ≡ y
+  one_last x y a b = let two = sym (same_path M m P is none r e _ a) ∙ same_path M m P is none r e _ b in cc two
 
   near_point : (k v : ℕ) → IsPoint M P k v → (d : ℤ × ℤ) × (decoded r k ≡ Some d) × IsNear k d (coord_at M v)
   near_point k v p =
@@ -302,7 +312,7 @@ module _ (M : Map) (m : IsMap M) (P : Path) (is : IsTrue (is_path P.lines)) (non
         path_also e (ap (option_map (node_at M Lines)) (slice_get-get_or Points_kept k 0 (omega arith))),
       )
 
-  known_lines : Each (Known M) Lines
+  pub known_lines : Each (Known M) Lines
   known_lines = (extended_sound M P is none e.before e.after e.tried).known
 
   stretches_are : (ws : List (List ℕ)) → IsStretches M P ws → ws ≡ stretches Lines (formed.h ∷ formed.i ∷ formed.js)

@@ -135,13 +135,17 @@ is_outdone_at R s p g q o =
     nat_lt (R.rates.far p q.place + R.rates.slack) (R.rates.far p o.place)
     || nat_le (R.rates.far p q.place) (R.rates.far p o.place) && is_beyond (sector_on s g) o.direction
 
--- at an LRP that is decoded as p
-pub record StandsOutAt (R : ProjectingReceiver) (stub : ℕ) (M : Map) (s : Side) (p : ℤ × ℤ) (x : ℕ) : Type 0 where
-  pub point : Projected
+-- the own line x is seen at this point for an LRP that is decoded as p: near its end, and in a direction of its sector
+pub record IsOwnPoint (R : ProjectingReceiver) (stub : ℕ) (M : Map) (s : Side) (p : ℤ × ℤ) (x : ℕ) (point : Projected) : Type 0 where
   pub known : IsTrue (has_line M x)
   pub seen : R.project M (lrp_of M s p x) x ≡ Some point
   pub near : IsNearEnd R stub M s x point.at
   pub sector : IsSector point.direction.east point.direction.north (sector_on s (leg M x))
+
+-- at an LRP that is decoded as p
+pub record StandsOutAt (R : ProjectingReceiver) (stub : ℕ) (M : Map) (s : Side) (p : ℤ × ℤ) (x : ℕ) : Type 0 where
+  pub point : Projected
+  pub own : IsOwnPoint R stub M s p x point
   pub others : (y : ℕ) (o : Projected) → IsTrue (has_line M y) → y ≢ x → R.project M (lrp_of M s p x) y ≡ Some o →
       IsTrue (is_outdone_at R s p (leg M x) point o)
 
@@ -191,10 +195,7 @@ pub record IsSnappedAlong (R : ProjectingReceiver) (M : Map) (P : Path) (r : Ref
 -- as StandsOutAt, at an LRP that is decoded as p, but the line z before the own line x may be seen near its end
 pub record StandsOutButBefore (R : ProjectingReceiver) (stub : ℕ) (M : Map) (p : ℤ × ℤ) (x z : ℕ) : Type 0 where
   pub point : Projected
-  pub known : IsTrue (has_line M x)
-  pub seen : R.project M (lrp_of M Outgoing p x) x ≡ Some point
-  pub near : IsNearEnd R stub M Outgoing x point.at
-  pub sector : IsSector point.direction.east point.direction.north (sector_on Outgoing (leg M x))
+  pub own : IsOwnPoint R stub M Outgoing p x point
   pub others : (y : ℕ) (o : Projected) → IsTrue (has_line M y) → y ≢ x → R.project M (lrp_of M Outgoing p x) y ≡ Some o →
       ((y ≡ z) × IsNearEnd R stub M Incoming z o.at) ⊎ IsTrue (is_outdone_at R Outgoing p (leg M x) point o)
 
