@@ -6,13 +6,13 @@
 --     TakesOther      a receiver that compares directions takes the other one
 use Rattle.std.specs.Prelude.{◌≡◌, ℕ, pos, List, [], ◌∷◌, None}
 use Rattle.std.specs.FinMap.{from_sorted}
-use Rattle.olr_spec.specs.Coordinates.{Coord, coord}
+use Rattle.olr_spec.specs.Coordinates.{Coord}
 use Rattle.olr_spec.specs.Map.{Map, Line}
 use Rattle.olr_spec.specs.Extension.{Path}
 use Rattle.olr_spec.specs.Bearings.{Leg}
 use Rattle.olr_spec.specs.Reference.{Reference}
 use Rattle.olr_spec.specs.Receiver.{lrp_at}
-use Rattle.olr_laws.specs.Rows.{leg10, leg20, leg30, leg99, axes_sum}
+use Rattle.olr_laws.specs.Rows.{place, line_between, leg10, leg20, leg30, leg99, axes_sum}
 use Rattle.olr_laws.specs.Directions.{DirectionReceiver, TakesByDirection, exceeded}
 
 abbrev pub map_of : List (ℕ × Coord) → List (ℕ × Line) → Map
@@ -34,20 +34,10 @@ morning_path = record { lines = 10 ∷ 20 ∷ 30 ∷ []; pos = 1500; neg = 0 }
 
 -- in sector 4, which begins at 45 degrees: at 46 degrees, and at its middle
 abbrev pub fork10 : Leg
-fork10 =
-    record {
-      line = record { from = 1; to = 2; frc = 3; fow = 3; len = 4890; shape = [] };
-      begin = coord (pos 0) (pos 0);
-      finish = coord (pos 1035500000) (pos 1000000000);
-    }
+fork10 = line_between 1 2 3 3 4890 [] (place 0 0) (place 1035500000 1000000000)
 
 abbrev pub fork11 : Leg
-fork11 =
-    record {
-      line = record { from = 1; to = 3; frc = 2; fow = 3; len = 5360; shape = [] };
-      begin = coord (pos 0) (pos 0);
-      finish = coord (pos 1218503000) (pos 1000000000);
-    }
+fork11 = line_between 1 3 2 3 5360 [] (place 0 0) (place 1218503000 1000000000)
 
 abbrev pub fork_nodes : List (ℕ × Coord)
 fork_nodes = (1, fork10.begin) ∷ (2, fork10.finish) ∷ (3, fork11.finish) ∷ []

@@ -5,54 +5,32 @@
 --     RecoversOther      such a receiver recovers another road
 --     DistinctPastEnd      for one that counts the point as past the line, the path is distinct
 use Rattle.std.specs.Prelude.{◌≡◌, ℕ, pos, Bool, not, ◌&&◌, ◌==◌, List, [], ◌∷◌, Option, Some, None, if◌then◌else◌}
-use Rattle.olr_spec.specs.Coordinates.{Coord, coord}
+use Rattle.olr_spec.specs.Coordinates.{Coord}
 use Rattle.olr_spec.specs.Map.{Map, Line}
 use Rattle.olr_spec.specs.Extension.{Path}
 use Rattle.olr_spec.specs.Bearings.{Leg, vector}
 use Rattle.olr_spec.specs.Reference.{Reference}
 use Rattle.olr_spec.specs.Receiver.{Lrp}
-use Rattle.olr_laws.specs.Rows.{axes_sum}
+use Rattle.olr_laws.specs.Rows.{place, bend, line_between, axes_sum}
 use Rattle.olr_laws.specs.MapRows.{map_of}
 use Rattle.olr_laws.specs.Projections.{Projected, ProjectingReceiver, Road, RecoversByProjection, DistinctByProjection, node_point}
 
-abbrev place : ℕ → ℕ → Coord
-place lon lat = coord (pos lon) (pos lat)
-
 -- from node 1 east to node 2
 abbrev pub detour10 : Leg
-detour10 =
-    record {
-      line = record { from = 1; to = 2; frc = 3; fow = 3; len = 1005; shape = [] };
-      begin = place 0 0;
-      finish = place 295912000 0;
-    }
+detour10 = line_between 1 2 3 3 1005 [] (place 0 0) (place 295912000 0)
 
 -- from node 2 on east, and then north to node 3
 abbrev pub detour20 : Leg
 detour20 =
-    record {
-      line = record { from = 2; to = 3; frc = 3; fow = 3; len = 2718; shape = record { at = 1359; place = place 695912000 0 } ∷ [] };
-      begin = place 295912000 0;
-      finish = place 695912000 400000000;
-    }
+    line_between 2 3 3 3 2718 (bend 1359 (place 695912000 0) ∷ []) (place 295912000 0) (place 695912000 400000000)
 
 -- from node 2 north-east to node 3
 abbrev pub detour21 : Leg
-detour21 =
-    record {
-      line = record { from = 2; to = 3; frc = 3; fow = 3; len = 1922; shape = [] };
-      begin = place 295912000 0;
-      finish = place 695912000 400000000;
-    }
+detour21 = line_between 2 3 3 3 1922 [] (place 295912000 0) (place 695912000 400000000)
 
 -- from node 3 on north to node 4
 abbrev pub detour30 : Leg
-detour30 =
-    record {
-      line = record { from = 3; to = 4; frc = 3; fow = 3; len = 1359; shape = [] };
-      begin = place 695912000 400000000;
-      finish = place 695912000 800000000;
-    }
+detour30 = line_between 3 4 3 3 1359 [] (place 695912000 400000000) (place 695912000 800000000)
 
 abbrev pub detour_nodes : List (ℕ × Coord)
 detour_nodes = (1, detour10.begin) ∷ (2, detour10.finish) ∷ (3, detour30.begin) ∷ (4, detour30.finish) ∷ []

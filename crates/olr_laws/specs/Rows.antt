@@ -1,4 +1,5 @@
 -- The values of the worked rows, calculated by hand: lines with the coordinates of their ends, references and bytes.
+--     line_between v w ..      a line with its attributes and the coordinates of its ends
 --     legs1, reference1, bytes1      the first worked path, of three lines; its reference with three LRPs, and the
 --         bytes of it
 --     .._bytes      the bytes of the same path with other LRPs or offsets
@@ -8,67 +9,45 @@
 --     axes_sum, by_cosine      measures: the sum of both axes, and the sum with the cosine of the latitude
 use Rattle.std.specs.Prelude.{ℕ, ◌+◌, ◌-◌, ◌*◌, ◌/◌, List, [], ◌∷◌, pos, neg_ℤ, nat_abs, Some, None}
 use Rattle.olr_spec.specs.Coordinates.{Coord, coord}
+use Rattle.olr_spec.specs.Map.{ShapePoint}
 use Rattle.olr_spec.specs.Bearings.{Leg, thousandths}
 use Rattle.olr_spec.specs.Reference.{Attrs, Reference}
 use Rattle.olr_spec.specs.Receiver.{Measure}
 use Rattle.olr_spec.specs.Recovery.{lon_apart, lat_apart}
 
 -- a coordinate north of the equator and east of Greenwich
-abbrev place : ℕ → ℕ → Coord
+abbrev pub place : ℕ → ℕ → Coord
 place lon lat = coord (pos lon) (pos lat)
+
+abbrev pub bend : ℕ → Coord → ShapePoint
+bend at p = record { at = at; place = p }
+
+-- from node v to node w, of this class, form, length and shape, and the coordinates of its ends
+abbrev pub line_between : ℕ → ℕ → ℕ → ℕ → ℕ → List ShapePoint → Coord → Coord → Leg
+line_between v w frc fow len shape begin finish =
+    record {
+      line = record { from = v; to = w; frc = frc; fow = fow; len = len; shape = shape };
+      begin = begin;
+      finish = finish;
+    }
 
 -- ---- the first worked path
 
 abbrev pub leg10 : Leg
 leg10 =
-    record {
-      line = record {
-        from = 1;
-        to = 2;
-        frc = 3;
-        fow = 2;
-        len = 5610;
-        shape =
-            record { at = 200; place = place 2007698636800 16255673958400 }
-            ∷ record { at = 5410; place = place 2008088576000 16254281318400 } ∷ [];
-      };
-      begin = place 2007639654400 16255719833600;
-      finish = place 2008147558400 16254235443200;
-    }
+    line_between 1 2 3 2 5610
+    (bend 200 (place 2007698636800 16255673958400) ∷ bend 5410 (place 2008088576000 16254281318400) ∷ [])
+    (place 2007639654400 16255719833600) (place 2008147558400 16254235443200)
 
 abbrev pub leg20 : Leg
 leg20 =
-    record {
-      line =
-          record {
-            from = 2;
-            to = 3;
-            frc = 3;
-            fow = 3;
-            len = 2000;
-            shape =
-                record { at = 200; place = place 2008088576000 16254202675200 } ∷ [];
-          };
-      begin = place 2008147558400 16254235443200;
-      finish = place 2007990272000 16254074880000;
-    }
+    line_between 2 3 3 3 2000 (bend 200 (place 2008088576000 16254202675200) ∷ []) (place 2008147558400 16254235443200)
+    (place 2007990272000 16254074880000)
 
 abbrev pub leg30 : Leg
 leg30 =
-    record {
-      line =
-          record {
-            from = 3;
-            to = 4;
-            frc = 5;
-            fow = 3;
-            len = 740;
-            shape =
-                record { at = 540; place = place 2007996825600 16253947084800 } ∷ [];
-          };
-      begin = place 2007990272000 16254074880000;
-      finish = place 2008078745600 16253930700800;
-    }
+    line_between 3 4 5 3 740 (bend 540 (place 2007996825600 16253947084800) ∷ []) (place 2007990272000 16254074880000)
+    (place 2008078745600 16253930700800)
 
 abbrev pub legs1 : List Leg
 legs1 = leg10 ∷ leg20 ∷ leg30 ∷ []
@@ -137,34 +116,17 @@ reserved_bytes =
 
 -- from (0, 0) to (0.001, 0) degrees
 abbrev pub straight_leg : Leg
-straight_leg =
-    record {
-      line = record { from = 1; to = 2; frc = 4; fow = 3; len = 1000; shape = [] };
-      begin = place 0 0;
-      finish =
-          place 327680000 0;
-    }
+straight_leg = line_between 1 2 4 3 1000 [] (place 0 0) (place 327680000 0)
 
 -- from (0, 60) to (0.001, lat), lat in units
 abbrev pub slanted_leg : ℕ → Leg
-slanted_leg lat =
-    record {
-      line = record { from = 1; to = 2; frc = 4; fow = 3; len = 700; shape = [] };
-      begin =
-          place 0 19660800000000;
-      finish = place 327680000 lat;
-    }
+slanted_leg lat = line_between 1 2 4 3 700 [] (place 0 19660800000000) (place 327680000 lat)
 
 -- ---- candidates
 
 -- from node 2 to node 3, as line 20, but shorter and of a lower class
 abbrev pub leg99 : Leg
-leg99 =
-    record {
-      line = record { from = 2; to = 3; frc = 4; fow = 3; len = 1500; shape = [] };
-      begin = leg20.begin;
-      finish = leg20.finish;
-    }
+leg99 = line_between 2 3 4 3 1500 [] leg20.begin leg20.finish
 
 abbrev pub morning_lines : List (ℕ × Leg)
 morning_lines = (10, leg10) ∷ (20, leg20) ∷ (30, leg30) ∷ (99, leg99) ∷ []
