@@ -5,30 +5,38 @@ use Rattle.olr_spec.proofs.StayLemmas.{kept, known_kept, untouched_retained}
 use Rattle.olr_spec.proofs.TestedLemmas.{one_last_tested, some_last_tested, one_queries, some_queries, foot_queried}
 use Rattle.olr_spec.proofs.TestedLemmas.{foot_affected}
 use Rattle.olr_spec.proofs.KnownLemmas.{known_stays, one_known, known_holds, one_searched, all_searched}
+use Rattle.olr_spec.specs.Laws.{QueriesStay, KnownRetained}
 use Rattle.olr_laws.proofs.changes.laws_of_queries.Goals as goal
 
+queries_stay : QueriesStay
+queries_stay M N C there here ls same s t joined i k query clear =
+    let each = Each-from (SameLine M N) ls same in
+    let routes = clear_routes M N ls each s t joined i k query C there here clear in (
+      query_stays M N ls each s t joined i k query routes,
+      to_same M N ls each s t joined i k query,
+      covered_stays M N ls each s t joined i k query routes,
+    )
+
+known_retained : KnownRetained
+known_retained M N m n C there here P is same traversed queries o clear =
+    known_kept M N m n C there here P is (Each-from (SameLine M N) P.lines same) queries clear traversed o
+
 pub returns : goal.returns
-returns c = record {
-  one_last_tested = one_last_tested;
-  some_last_tested = some_last_tested;
-  one = one_queries;
-  some = some_queries;
-  foot = foot_queried;
-  affected = foot_affected;
-  queries = λ M N C there here ls same s t joined i k query clear.
-      let each = Each-from (SameLine M N) ls same in
-      let routes = clear_routes M N ls each s t joined i k query C there here clear in (
-        query_stays M N ls each s t joined i k query routes,
-        to_same M N ls each s t joined i k query,
-        covered_stays M N ls each s t joined i k query routes,
-      );
-  known = known_stays;
-  one_known = one_known;
-  known_holds = known_holds;
-  one_searched = one_searched;
-  all_searched = all_searched;
-  kept = kept;
-  untouched = untouched_retained;
-  known_kept = λ M N m n C there here P is same traversed queries o clear.
-      known_kept M N m n C there here P is (Each-from (SameLine M N) P.lines same) queries clear traversed o;
-}
+returns c =
+    assumption (
+      one_last_tested,
+      some_last_tested,
+      one_queries,
+      some_queries,
+      foot_queried,
+      foot_affected,
+      queries_stay,
+      known_stays,
+      one_known,
+      known_holds,
+      one_searched,
+      all_searched,
+      kept,
+      untouched_retained,
+      known_retained,
+    )
