@@ -289,26 +289,27 @@ fn replies_of_batches(rt: HostRuntime) -> Result<(), Fail> {
     expect_reply(&rt, &Reply::Held(100_000), "held,100000\n")
 }
 
+/// So many records, with this text.
+fn records(alloc: Global, count: usize, lines: &str) -> Result<Dump, Fail> {
+    let mut text = Vec::new(alloc);
+    text.extend_from_slice(lines.as_bytes())?;
+    Ok(Dump { count, text })
+}
+
 #[test]
 fn replies_of_dumps(rt: HostRuntime) -> Result<(), Fail> {
-    let mut text = Vec::new(rt.alloc());
-    text.extend_from_slice(b"node,1,6.1,-0.0000001\npath,a,0,20,10\n")?;
+    let dump = records(rt.alloc(), 2, "node,1,6.1,-0.0000001\npath,a,0,20,10\n")?;
     expect_reply(
         &rt,
-        &Reply::Dump(Dump { count: 2, text }),
+        &Reply::Dump(dump),
         "ok,2\nnode,1,6.1,-0.0000001\npath,a,0,20,10\n",
     )
 }
 
 #[test]
 fn replies_of_questions_about_the_map(rt: HostRuntime) -> Result<(), Fail> {
-    let mut text = Vec::new(rt.alloc());
-    text.extend_from_slice(b"node,1,6.1,-0.0000001\n")?;
-    expect_reply(
-        &rt,
-        &Reply::Records(Dump { count: 1, text }),
-        "ok,1\nnode,1,6.1,-0.0000001\n",
-    )?;
+    let shown = records(rt.alloc(), 1, "node,1,6.1,-0.0000001\n")?;
+    expect_reply(&rt, &Reply::Records(shown), "ok,1\nnode,1,6.1,-0.0000001\n")?;
     let mut names = Vec::new(rt.alloc());
     for name in ["b", "a.1"] {
         names.push(String::from_str(rt.alloc(), name)?)?;

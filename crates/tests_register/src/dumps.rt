@@ -1,10 +1,8 @@
 //! Dumps: the records of the worked map, and what no record can encode.
 
-use crate::worked::{add, edits, ends, expect_reported, names, refuses, three_points};
-use made_maps::{RECORDS, node};
+use crate::worked::{add, ends, expect_reported, names, refuses, three_points, with_finer_node};
+use made_maps::RECORDS;
 use olr_commands::{Command, CommandFault, Reply};
-use olr_coords::Coord;
-use olr_map::Edit;
 use std::process::Abort;
 
 #[test]
@@ -21,11 +19,7 @@ fn the_worked_map_is_dumped(rt: HostRuntime) {
 
 #[test]
 fn one_unit_is_no_record(rt: HostRuntime) {
-    let mut register = three_points(&rt, rt.alloc());
-    let Some(place) = Coord::new(1, 0) else {
-        panic!(rt; "out of range");
-    };
-    edits(&rt, &mut register, Edit::AddNode(node(9), place));
+    let mut register = with_finer_node(&rt, rt.alloc());
     refuses(&rt, &mut register, Command::Dump, CommandFault::NotARecord);
     ends(&rt, register, 1, 0);
 }

@@ -1,10 +1,9 @@
 //! Questions about the map: the records of a node and of a line with its ends, and which paths depend on nodes.
 
-use crate::worked::{add, edits, ends, expect_reported, refuses, three_points};
+use crate::worked::{add, edits, ends, expect_reported, refuses, three_points, with_finer_node};
 use made_maps::{line, new_node, node, plain_line};
 use olr_commands::{Command, CommandFault, Reply};
-use olr_coords::Coord;
-use olr_map::{Edit, EditFault, NodeId};
+use olr_map::{EditFault, NodeId};
 use olr_refs::Refusal;
 use olr_register::Register;
 use std::alloc::Global;
@@ -25,6 +24,22 @@ fn expect_records(
         }
         _ => panic!(rt; "not shown"),
     }
+}
+
+/// Asserts that this line is shown by these records.
+fn expect_line(rt: &impl Abort, register: &mut Register, number: u32, count: usize, records: &str) {
+    expect_records(
+        rt,
+        register,
+        Command::ShowLine(line(number)),
+        count,
+        records,
+    );
+}
+
+/// Asserts that this node is shown by this record.
+fn expect_node(rt: &impl Abort, register: &mut Register, number: u32, record: &str) {
+    expect_records(rt, register, Command::ShowNode(node(number)), 1, record);
 }
 
 /// The question about these nodes.
@@ -58,15 +73,9 @@ fn expect_dependents(
 #[test]
 fn a_node_and_a_line_are_shown(rt: HostRuntime) {
     let mut register = three_points(&rt, rt.alloc());
-    let shown = Command::ShowNode(node(3));
-    expect_records(&rt, &mut register, shown, 1, "node,3,6.1279,49.6035\n");
-    expect_records(
-        &rt,
-        &mut register,
-        Command::ShowLine(line(99)),
-        3,
-        "node,2,6.12838,49.60399\nnode,3,6.1279,49.6035\nline,99,2,3,4,3,1500\n",
-    );
+    expect_node(&rt, &mut register, 3, "node,3,6.1279,49.6035\n");
+    let records = "node,2,6.12838,49.60399\nnode,3,6.1279,49.6035\nline,99,2,3,4,3,1500\n";
+    expect_line(&rt, &mut register, 99, 3, records);
     ends(&rt, register, 1, 0);
 }
 
@@ -75,10 +84,10 @@ fn the_node_of_a_loop_is_shown_once(rt: HostRuntime) {
     let mut register = Register::new(rt.alloc());
     edits(&rt, &mut register, new_node((7, 0, 0)));
     edits(&rt, &mut register, plain_line(rt.alloc(), (70, 7, 7, 1000)));
-    expect_records(
+    expect_line(
         &rt,
         &mut register,
-        Command::ShowLine(line(70)),
+        70,
         2,
         "node,7,0,0\nline,70,7,7,4,3,1000\n",
     );
@@ -99,22 +108,12 @@ fn questions_about_what_is_not_there(rt: HostRuntime) {
 
 #[test]
 fn what_no_record_can_write_is_not_shown(rt: HostRuntime) {
-    let mut register = three_points(&rt, rt.alloc());
-    let Some(place) = Coord::new(1, 0) else {
-        panic!(rt; "out of range");
-    };
-    edits(&rt, &mut register, Edit::AddNode(node(9), place));
+    let mut register = with_finer_node(&rt, rt.alloc());
     edits(&rt, &mut register, plain_line(rt.alloc(), (90, 1, 9, 1000)));
     let fault = CommandFault::NotARecord;
     refuses(&rt, &mut register, Command::ShowNode(node(9)), fault);
     refuses(&rt, &mut register, Command::ShowLine(line(90)), fault);
-    expect_records(
-        &rt,
-        &mut register,
-        Command::ShowNode(node(1)),
-        1,
-        "node,1,6.12683,49.60852\n",
-    );
+    expect_node(&rt, &mut register, 1, "node,1,6.12683,49.60852\n");
     expect_dependents(&rt, rt.alloc(), &mut register, &[9], &[]);
     expect_dependents(&rt, rt.alloc(), &mut register, &[9, 1], &["a"]);
     ends(&rt, register, 2, 0);

@@ -1,8 +1,9 @@
 //! The worked map in a register, with texts that do not come from the program, and functions that tests of commands
 //! share.
 
-use made_maps::{Road, WORKED, edits_of, lines, new_line};
+use made_maps::{Road, WORKED, edits_of, lines, new_line, node};
 use olr_commands::{Command, CommandFault, Entry, Reply};
+use olr_coords::Coord;
 use olr_map::Edit;
 use olr_refs::Refusal;
 use olr_register::Register;
@@ -176,6 +177,16 @@ fn base_map(rt: &impl Abort, alloc: Global) -> Register {
     for edit in worked_edits(rt, alloc) {
         edits(rt, &mut register, edit);
     }
+    register
+}
+
+/// The worked map and its path, and node 9 at a coordinate that no record can encode.
+pub(crate) fn with_finer_node(rt: &impl Abort, alloc: Global) -> Register {
+    let mut register = three_points(rt, alloc);
+    let Some(place) = Coord::new(1, 0) else {
+        panic!(rt; "out of range");
+    };
+    edits(rt, &mut register, Edit::AddNode(node(9), place));
     register
 }
 
