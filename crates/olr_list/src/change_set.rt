@@ -123,7 +123,7 @@ impl ChangeSet {
     }
 }
 
-/// Inserts a node in ascending order, unless it is there. Takes no memory.
+/// Inserts a node in ascending order, unless it is there; it isn't looked up if it is greater than all. Takes no memory.
 fn put_node(nodes: &mut Vec<NodeId>, node: NodeId)
     requires ascend { IsStrictlyIncreasing nodes.old.items }
     requires room { vec_len nodes.old + 1 ≤ vec_capacity nodes.old }
@@ -132,6 +132,10 @@ fn put_node(nodes: &mut Vec<NodeId>, node: NodeId)
     ensures len { vec_len nodes.new ≤ vec_len nodes.old + 1 }
     ensures capacity { vec_capacity nodes.old ≤ vec_capacity nodes.new }
 {
+    if nodes.last().is_none_or(|last| *last < node) {
+        nodes.push_reserved(node);
+        return;
+    }
     if let Err(place) = nodes.binary_search(&node) {
         match nodes.insert(place, node) {
             Ok(()) => (),
@@ -140,13 +144,17 @@ fn put_node(nodes: &mut Vec<NodeId>, node: NodeId)
     }
 }
 
-/// Inserts a line in ascending order, unless it is there. Takes no memory.
+/// Inserts a line in ascending order, unless it is there; it isn't looked up if it is greater than all. Takes no memory.
 fn put_line(lines: &mut Vec<LineId>, line: LineId)
     requires room { vec_len lines.old + 1 ≤ vec_capacity lines.old }
     requires ascend { IsStrictlyIncreasing lines.old.items }
     ensures ascend { IsStrictlyIncreasing lines.new.items }
     ensures holds { (x : ℕ) → has lines.new.items x ≡ (has lines.old.items x || (line == x)) }
 {
+    if lines.last().is_none_or(|last| *last < line) {
+        lines.push_reserved(line);
+        return;
+    }
     if let Err(place) = lines.binary_search(&line) {
         match lines.insert(place, line) {
             Ok(()) => (),
