@@ -5,7 +5,7 @@ use Rattle.olr_list.proofs.Common.{subst, append_assoc, arith, min, cases_Bool, 
 use Rattle.olr_list.proofs.Common.{slice_get_within, Map, IsMap, has, holds, Index, Item, Includes, Finds, Covers}
 use Rattle.olr_list.proofs.Common.{FindsChanged, option_map, Rc, has_node, dm_of, CoverageQuery, limit, AreLengths}
 use Rattle.olr_list.proofs.Common.{label_at, Against, made_of, items, QueryTouched, nodes_of, lines_of, sources}
-use Rattle.olr_list.proofs.Common.{AreAsked, LackQueries, BeginsIn, Begins, ChangeSet, Searches, Finder, Published}
+use Rattle.olr_list.proofs.Common.{AreAsked, AreFar, LackQueries, BeginsIn, Begins, ChangeSet, Searches, Finder, Published}
 use Rattle.olr_list.proofs.Common.{NamedPath, PathList, Path, Changes, TakesNone, change_at, under_change}
 use Rattle.olr_list.proofs.Common.{under_changes, NamesDiffer, same_name, all_named, or_left, ToStay, CoversAsked}
 use Rattle.olr_list.proofs.Common.{AreFound, String, IsPermutation, Global, list_any-IsPermutation, IsAsked, take}
@@ -14,6 +14,7 @@ use Rattle.std.proofs.Math.Bool.{or-false}
 use Rattle.olr_list.proofs.NamedEntries.{Entries, First, item_of, items_of, same_flip}
 use Rattle.olr_list.proofs.Alls.{all_more, in_from}
 use Rattle.olr_list.proofs.Distances.{near_absent, leads_from}
+use Rattle.olr_list.proofs.OriginLemmas.{begins_there}
 use Rattle.olr_list.proofs.NotedPositions.{back}
 use Rattle.olr_list.proofs.Changed.{changed, overlaid_from, change_push, first_only}
 
@@ -40,20 +41,27 @@ no_items : (ys : List ℕ) → length ys ≡ 0 → ys ≡ []
 no_items [] none = refl
 no_items (y ∷ ys) none = absurd (omega arith)
 
+module _ (path_ids : List ℕ) (index : Index) (found : List ℕ) where
+  -- a number that no path has
+  finds_none : (v : ℕ) → path_ids_of index v ≡ [] → Finds path_ids index v found
+  finds_none v none j low on =
+      let off = ap (λ (ys : List ℕ). has ys (get_or path_ids j 0)) none in
+      let never : ⊥ = cc (on, off) in absurd never
+
+  pub all_none : {A : Type 0} (number : A → ℕ) (xs : List A) → All (λ x. path_ids_of index (number x) ≡ []) xs →
+      All (λ x. Finds path_ids index (number x) found) xs
+  all_none number xs none k d lt = finds_none _ (none k d lt)
+
 -- one more, whose number no path has
 pub put_none : {A : Type 0} (number : A → ℕ) (path_ids : List ℕ) (index : Index) (xs : List A) (old now : List ℕ)
     (k : ℕ) (d : A) (v : ℕ) (of : List ℕ) → k < length xs → v ≡ number (get_or xs k d) → of ≡ path_ids_of index v →
     length of ≡ 0 → PutAll number path_ids index (take k xs) old now →
     PutAll number path_ids index (take (k + 1) xs) old now
-put_none number path_ids index xs old now k d v of lt is ids none h =
-    let empty : path_ids_of index (number (get_or xs k d)) ≡ [] =
-    sym (ids ∙ ap (path_ids_of index) is) ∙ no_items of none in
-    record {
-      kept = h.kept;
-      put = all_more (λ x. Finds path_ids index (number x) now) xs k d lt h.put (λ j low on.
-          let off = ap (λ (ys : List ℕ). has ys (get_or path_ids j 0)) empty in
-          let never : ⊥ = cc (on, off) in absurd never);
-    }
+put_none number path_ids index xs old now k d v of lt is ids none h = record {
+  kept = h.kept;
+  put = all_more (λ x. Finds path_ids index (number x) now) xs k d lt h.put
+      (finds_none path_ids index now _ (sym (ids ∙ ap (path_ids_of index) is) ∙ no_items of none));
+}
 
 pub nothing_at : (js : List Item) → slice_get js 0 ≡ None → js ≡ []
 nothing_at [] at = refl
@@ -65,13 +73,9 @@ is_there : (o : Option (Rc Published Global)) → o ≢ None → (p : Rc Publish
 is_there None h = absurd (h refl)
 is_there (Some p) h = (p, refl)
 
-module _ {N : Map} (n : IsMap N) (slot : ℕ → ℕ) (t : ChangeSet) (s : Searches) (l : PathList) (off_held : l.held ≡ false)
-    (known : IsTrue l.finder.known)
+module _ (N : Map) (t : ChangeSet) (l : PathList) (off_held : l.held ≡ false) (known : IsTrue l.finder.known)
     (found : List ℕ) (traversed : AreFound l.path_ids.items l.finder.traversed (nodes_of t) found)
-    (from : AreFound l.path_ids.items l.finder.by_query_origin (nodes_of t) found)
-    (lines : AreFound l.path_ids.items l.finder.lines (lines_of t) found)
-    (reached : s.far ≡ false → AreLengths N slot Against (sources t) s.near → (v : ℕ) → IsTrue (has_node N v) →
-    label_at s.near (slot v) ≤ limit → Finds l.path_ids.items l.finder.by_query_origin v found) where
+    (lines : AreFound l.path_ids.items l.finder.lines (lines_of t) found) where
   abbrev ms : List ℕ
   ms = l.path_ids.items
 
@@ -89,8 +93,47 @@ module _ {N : Map} (n : IsMap N) (slot : ℕ → ℕ) (t : ChangeSet) (s : Searc
         let on = All-contains (λ (u : ℕ). Finds ms i u found) vs v are (in_from vs v touched) k lower held in
         cc (on, off)
 
-    never_query : IsAsked N slot t s (made_of p.value) → QueryTouched N (nodes_of t) (made_of p.value) → ⊥
-    never_query a h =
+    stays_there : ¬ QueryTouched N (nodes_of t) (made_of p.value) →
+        ToStay N (nodes_of t) (lines_of t) (item_of e).made e.1.path.value
+    stays_there unqueried = (
+      made_of p.value,
+      ap (option_map (λ (q : Rc Published Global). made_of q.value)) some,
+      (λ h. let noted = l.noted k e at p some known in elim h [
+        | inl o ↦ missed f.traversed (nodes_of t) traversed o.0 o.1
+            (All-contains (λ (v : ℕ). IsTrue (holds f.traversed v (get_or ms k 0))) p.value.traversed o.0 noted.0 o.2)
+        | inr rest ↦ elim rest [
+          | inl x ↦ missed f.lines (lines_of t) lines x.0 x.1
+              (All-contains (λ (v : ℕ). IsTrue (holds f.lines v (get_or ms k 0))) e.1.path.value.lines x.0 noted.2
+              (in_from e.1.path.value.lines x.0 x.2))
+          | inr q ↦ unqueried q
+        ]
+      ]),
+    )
+
+  -- where none of its queries is touched
+  stays_by : (k : ℕ) (i : Item) → slice_get (items l) k ≡ Some i → has found k ≡ false →
+      ((e : String Global × NamedPath) (p : Rc Published Global) → slice_get l.paths.entries k ≡ Some e →
+      e.1.published ≡ Some p → i.made ≡ Some (made_of p.value) → ¬ QueryTouched N (nodes_of t) (made_of p.value)) →
+      ToStay N (nodes_of t) (lines_of t) i.made i.path
+  stays_by k i at off unqueried =
+      let b = back l.paths.entries k i at in
+      let p = is_there b.0.1.published (l.encoded off_held k b.0 b.1) in
+      subst (λ (x : Item). ToStay N (nodes_of t) (lines_of t) x.made x.path) b.2
+      (stays_there k b.0 b.1 p.0 p.1 off (unqueried b.0 p.0 b.1 p.1
+      (ap (λ (x : Item). x.made) (sym b.2) ∙ ap (option_map (λ (q : Rc Published Global). made_of q.value)) p.1)))
+
+  -- where it is known that they are far from all queries
+  pub covers_far : AreFar N (nodes_of t) (items l) → Covers N (nodes_of t) (lines_of t) (items l) found
+  covers_far far k i at off = stays_by k i at off (λ e p there some made q.
+      far q.0 (begins_there (items l) k i q.0 at (rw made q.1)) q.2)
+
+  module _ (n : IsMap N) (slot : ℕ → ℕ) (s : Searches) (from : AreFound ms f.by_query_origin (nodes_of t) found)
+      (reached : s.far ≡ false → AreLengths N slot Against (sources t) s.near → (v : ℕ) → IsTrue (has_node N v) →
+      label_at s.near (slot v) ≤ limit → Finds ms f.by_query_origin v found) where
+    never_query : (k : ℕ) (e : String Global × NamedPath) (at : slice_get l.paths.entries k ≡ Some e)
+        (p : Rc Published Global) (some : e.1.published ≡ Some p) (off : has found k ≡ false) →
+        IsAsked N slot t s (made_of p.value) → ¬ QueryTouched N (nodes_of t) (made_of p.value)
+    never_query k e at p some off a h =
         let v : ℕ = h.0.from in
         let near = h.2 in
         let held = All-contains (λ (l : CoverageQuery). IsTrue (holds f.by_query_origin l.from (get_or ms k 0))) _ h.0
@@ -102,38 +145,18 @@ module _ {N : Map} (n : IsMap N) (slot : ℕ → ℕ) (t : ChangeSet) (s : Searc
                 let short = near.within in
                 let way = leads_from N n (nodes_of t) v near.node near.route near.touched near.leads there in
                 let low = a.returned close h.0 h.1 (dm_of N near.route) short there way in
-                let on = reached close (a.lengths close) v there (omega arith) k lower held in
+                let on = reached close (a.lengths close) v there (omega arith) k (lower k e at p some off) held in
                 let never : ⊥ = cc (on, off) in never
             | inr lacks ↦
-                missed f.by_query_origin (nodes_of t) from v ((near_absent N n (nodes_of t) v (min h.0.within limit)
+                missed k e at p some off f.by_query_origin (nodes_of t) from v
+                ((near_absent N n (nodes_of t) v (min h.0.within limit)
                 (λ there. let never : ⊥ = cc (there, lacks) in never)).1 near) held
           ]
         ]
 
-    stays_there : IsAsked N slot t s (made_of p.value) →
-        ToStay N (nodes_of t) (lines_of t) (item_of e).made e.1.path.value
-    stays_there a = (
-      made_of p.value,
-      ap (option_map (λ (q : Rc Published Global). made_of q.value)) some,
-      (λ h. let noted = l.noted k e at p some known in elim h [
-        | inl o ↦ missed f.traversed (nodes_of t) traversed o.0 o.1
-            (All-contains (λ (v : ℕ). IsTrue (holds f.traversed v (get_or ms k 0))) p.value.traversed o.0 noted.0 o.2)
-        | inr rest ↦ elim rest [
-          | inl x ↦ missed f.lines (lines_of t) lines x.0 x.1
-              (All-contains (λ (v : ℕ). IsTrue (holds f.lines v (get_or ms k 0))) e.1.path.value.lines x.0 noted.2
-              (in_from e.1.path.value.lines x.0 x.2))
-          | inr q ↦ never_query a q
-        ]
-      ]),
-    )
-
-  pub covers_by : CoversAsked N slot t s (items l) found
-  covers_by k i at off one =
-      let b = back l.paths.entries k i at in
-      let p = is_there b.0.1.published (l.encoded off_held k b.0 b.1) in
-      subst (λ (x : Item). ToStay N (nodes_of t) (lines_of t) x.made x.path) b.2 (stays_there k b.0 b.1 p.0 p.1 off
-      (one (made_of p.0.value)
-      (ap (λ (x : Item). x.made) (sym b.2) ∙ ap (option_map (λ (q : Rc Published Global). made_of q.value)) p.1)))
+    pub covers_by : CoversAsked N slot t s (items l) found
+    covers_by k i at off one =
+        stays_by k i at off (λ e p there some made. never_query k e there p some off (one (made_of p.value) made))
 
 -- the positions may be put in another order
 pub covers_order : (N : Map) (T X : List ℕ) (is : List Item) (xs ys : List ℕ) → IsPermutation xs ys →

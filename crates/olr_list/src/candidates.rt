@@ -1,11 +1,13 @@
 //! Which paths the edits may affect: found by what they touched, without a pass over all paths.
-ghost use Rattle.std.specs.Prelude.{◌≡◌, ◌<◌, ◌≤◌, ℕ, Some, All, length, get_or, IsTrue, IsFalse, IfOk, OnOk};
+ghost use Rattle.std.specs.Prelude.{◌≡◌, ◌<◌, ◌≤◌, ℕ, [], Some, All, length, get_or, IsTrue, IsFalse, IfOk, OnOk};
 ghost use Rattle.std.specs.List.Sorted.{IsStrictlyIncreasing, IsNonDecreasing};
-ghost use Rattle.olr_spec.specs.Map.{has};
+ghost use Rattle.olr_spec.specs.Map.{Map, has};
+ghost use Rattle.olr_index.specs.PathIds.{path_ids_of};
 ghost use Rattle.olr_list.specs.Items.{items};
 ghost use Rattle.olr_list.specs.ChangeSets.{nodes_of, lines_of};
 ghost use Rattle.olr_list.specs.AffectedSearches.{AreAsked};
 ghost use Rattle.olr_list.specs.Overlaid.{overlay_changes};
+ghost use Rattle.olr_list.specs.Origins.{AreBoundsOf};
 ghost use Rattle.olr_list.specs.Views.{shown_items};
 ghost use Rattle.olr_list.specs.Candidates.{Includes, Finds, Covers, CoversAsked, FindsChanged};
 
@@ -15,6 +17,7 @@ use crate::overlaid_list::OverlaidList;
 use crate::path_list::PathList;
 use crate::searches::Searches;
 use olr_index::Index;
+use olr_near::DistanceBounds;
 use olr_roads::MapRead;
 use std::alloc::{AllocError, Global};
 
@@ -169,4 +172,27 @@ pub(crate) fn candidates<M: MapRead>(
     )?;
     found.sort_unstable();
     Ok(found)
+}
+
+/// Whether no path has an index entry for one of these.
+fn finds_none<T: Numbered>(index: &Index, items: &[T]) -> bool
+    ensures { IsTrue result → All (λ x. path_ids_of index.now (T.number_of x) ≡ []) items.now }
+{
+    index.is_empty()
+        || items
+            .iter()
+            .all(|item| index.of(item.index_number()).is_empty())
+}
+
+/// Whether it is known without a search that edits affect no path of the list: all were encoded, none has a touched
+/// node or line, and no coverage query reaches a touched node.
+pub fn affects_none(list: &PathList, touched: &ChangeSet, bounds: &DistanceBounds) -> bool
+    ensures { IsTrue result → (N : Map) → AreBoundsOf N bounds.now (items list.now)
+        → Covers N (nodes_of touched.now) (lines_of touched.now) (items list.now) [] }
+{
+    if list.held || !list.finder.known || !bounds.is_far(touched.nodes()) {
+        return false;
+    }
+    finds_none(&list.finder.traversed, touched.nodes())
+        && finds_none(&list.finder.lines, touched.lines())
 }

@@ -24,6 +24,7 @@ mod view;
 
 pub use actions::{Action, decide, is_affected};
 pub use affected::ask;
+pub use candidates::affects_none;
 pub use change_set::{ChangeSet, ChangedLine};
 pub use detours::{Detours, clear_known};
 pub use iter::Iter;

@@ -1,5 +1,5 @@
-use Rattle.olr_list.proofs.Common.{◌≡◌, ◌∙◌, ℕ, List, ap, has, get_or, length, arith, elements, nat_tests, take_all}
-use Rattle.olr_list.proofs.Covering.{put_none}
+use Rattle.olr_list.proofs.Common.{◌≡◌, ◌∙◌, ap, length, arith, elements, nat_tests, take_all}
+use Rattle.olr_list.proofs.Covering.{all_none, put_none}
 use Rattle.olr_list.proofs.candidates.put_found.Goals as goal
 
 pub loop-item-preserved : goal.loop-item-preserved
@@ -17,8 +17,5 @@ loop-item-preserved-then-is_empty-2 g c =
     c.loop-item.invariant
 
 pub returns-then-is_empty-clause-put : goal.returns-then-is_empty-clause-put
-returns-then-is_empty-clause-put g c = λ k d lt j low on.
-    let id = get_or c.args.path_ids.now j 0 in
-    let off = ap (λ (xs : List ℕ). has xs id)
-    (c.is_empty.ensures c.if-is_empty.true (g.T.Numbered.number_of (get_or c.args.items.now k d))) in
-    let never : ⊥ = cc (on, off) in absurd never
+returns-then-is_empty-clause-put g c = all_none c.args.path_ids.now c.args.index.now _ g.T.Numbered.number_of _
+    (λ k d lt. c.is_empty.ensures c.if-is_empty.true _)

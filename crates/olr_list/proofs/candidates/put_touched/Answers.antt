@@ -17,9 +17,10 @@ returns g c =
     let one = rw (same, c.nodes-nodes.ensures) at c.in_ok-put_found.ensures.put in
     let two = rw (same, c.nodes-nodes.ensures) at c.in_ok-put_found-2.ensures.put in
     let three = rw (same, c.lines.ensures) at c.in_ok-put_found-3.ensures.put in
-    covers_by (g.met.M.MapRead.sound c.args.map.now) slot t c.args.searches.now l c.requires.encoded c.requires.known four
+    covers_by (g.M.MapRead.map c.args.map.now) t l c.requires.encoded c.requires.known four
     (λ i d lt k low on. kept4 k (kept3 k (kept2 k (one i d lt k low on))))
-    (λ i d lt k low on. kept4 k (kept3 k (two i d lt k low on))) (λ i d lt k low on. kept4 k (three i d lt k low on))
+    (λ i d lt k low on. kept4 k (three i d lt k low on)) (g.met.M.MapRead.sound c.args.map.now) slot c.args.searches.now
+    (λ i d lt k low on. kept4 k (kept3 k (two i d lt k low on)))
     (λ close lengths v known small.
     All-contains (λ (r : Reached). Finds ids l.finder.by_query_origin r.node four) c.reached.result.now
     (record { node = v; slot = slot v }) (rw same at c.in_ok-put_found-4.ensures.put)
