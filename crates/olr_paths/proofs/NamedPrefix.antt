@@ -1,6 +1,6 @@
 -- The names of the affected paths, as far as a list was passed.
 use Rattle.olr_paths.proofs.Common.{inl, inr, ◌≡◌, ℕ, ◌+◌, List, [], ◌∷◌, ◌++◌, take, slice_get, Some, refl, sym, ap, ◌∙◌}
-use Rattle.olr_paths.proofs.Common.{subst, arith, map-append, Map, IsMap, ChangedLine, Item, IsAffected, IsBefore, By_name, map}
+use Rattle.olr_paths.proofs.Common.{map-append, Map, IsMap, ChangedLine, Item, IsAffected, IsBefore, By_name}
 use Rattle.olr_commands.specs.Counts.{Picks}
 use Rattle.olr_list.proofs.Common.{take_more_at}
 use Rattle.olr_list.specs.Actions.{ToStay, ToName}

@@ -1,11 +1,11 @@
 -- A list, as far as it was renewed: SoFar says it of the first paths, with the work. A list follows itself.
 use Rattle.olr_paths.proofs.Common.{slice_get_within, IsEncodedAgain, after_renewal, CoverageQuery, EncodedAgain, IsMap}
-use Rattle.olr_paths.proofs.Common.{SearchesItem, IsEncodingOf, ChangedLine, IsAffected, cases_Bool, Some}
-use Rattle.olr_paths.proofs.Common.{map-append, changed_of, option_map, all_named, answer_in, slice_get, NamedPath, has}
-use Rattle.olr_paths.proofs.Common.{Reported, lines_of, entry_of, at_index, IsRetained, nodes_of, Retained, IsBefore, ◌⊎◌}
+use Rattle.olr_paths.proofs.Common.{SearchesItem, IsEncodingOf, ChangedLine, IsAffected, Some}
+use Rattle.olr_paths.proofs.Common.{map-append, changed_of, option_map, all_named, answer_in, slice_get, NamedPath}
+use Rattle.olr_paths.proofs.Common.{Reported, lines_of, entry_of, IsRetained, nodes_of, Retained, IsBefore, ◌⊎◌}
 use Rattle.olr_paths.proofs.Common.{named_of, all_put, Renewal, Follows, puts_of, Answer, length, get_or, None}
-use Rattle.olr_paths.proofs.Common.{Option, Named, false, arith, Entry, entry, Work, ◌++◌, Item, take, refl, zero, List}
-use Rattle.olr_paths.proofs.Common.{Made, ◌+◌, suc, ◌<◌, ◌-◌, ◌∷◌, sym, ◌≡◌, ◌≤◌, inr, map, ◌∙◌, inl, Map, ap, [], ℕ}
+use Rattle.olr_paths.proofs.Common.{Option, Named, arith, Entry, entry, Work, ◌++◌, Item, take, refl, List}
+use Rattle.olr_paths.proofs.Common.{Made, ◌+◌, ◌<◌, ◌∷◌, sym, ◌≡◌, ◌≤◌, inr, map, ◌∙◌, inl, Map, ap, [], ℕ}
 use Rattle.olr_commands.specs.Counts.{Collects, CountIs}
 use Rattle.olr_list.proofs.Alls.{at_position}
 use Rattle.olr_list.proofs.Common.{append_assoc, take_more_at, append-nil, Covers}

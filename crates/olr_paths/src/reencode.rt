@@ -1,6 +1,6 @@
 //! Encodes again the paths whose answer a change of the map may have changed, in place or in a list under changes.
-ghost use Rattle.std.specs.Prelude.{◌≡◌, ◌⊎◌, Contains, IfOk, OnOk, OnErr};
-ghost use Rattle.olr_spec.specs.Map.{Map};
+ghost use Rattle.std.specs.Prelude.{◌≡◌, ◌⊎◌, Contains, IfSome, IfOk, OnOk, OnErr};
+ghost use Rattle.olr_spec.specs.Map.{Map, IsMap};
 ghost use Rattle.olr_commands.specs.State.{NamesDiffer};
 ghost use Rattle.olr_spec.specs.Queries.{CoverageQuery as QueryRecord};
 ghost use Rattle.olr_list.specs.Items.{items, all_named};
@@ -10,7 +10,7 @@ ghost use Rattle.olr_paths.specs.Changes.{Follows};
 ghost use Rattle.olr_paths.specs.Reencoded.{items_before, WasBefore, IsRenewal};
 
 use crate::renewal::{Renewal, Renewed, renewal_of};
-use olr_list::{ChangeSet, OverlaidList, Overlay, PathList, Searches, put_in};
+use olr_list::{ChangeSet, OverlaidList, Overlay, PathList, Searches, affects_none, put_in};
 use olr_near::DistanceBounds;
 use olr_roads::MapRead;
 use std::alloc::{AllocError, Global};
@@ -54,6 +54,26 @@ fn renew_overlaid<M: MapRead>(
     put_in(alloc, list, overlay, fresh)?;
     list.note_encoded();
     Ok(renewed)
+}
+
+/// The renewal of a list without changes, if it is known without a search that the edits affect none of its paths:
+/// nothing is reported or counted. None if that is not known. Takes no memory.
+pub fn renew_unaffected(
+    list: &PathList,
+    alloc: Global,
+    touched: &ChangeSet,
+    bounds: &DistanceBounds,
+) -> Option<Renewed>
+    ensures { IfSome result (λ r. (L N : Map) → IsMap N → WasBefore L N touched.now (items list.now)
+        → AreBoundsOf N bounds.now (items list.now)
+        → IsRenewal N touched.now (items list.now) (items list.now) (items list.now) r) }
+{
+    // For the proof alone: no name occurs twice.
+    let _names = list.len();
+    if !affects_none(list, touched, bounds) {
+        return None;
+    }
+    Some(Renewal::none(alloc).renewed)
 }
 
 /// Makes the changes of the list, and encodes the new and the replaced paths, and those whose answer the edits of the

@@ -95,6 +95,26 @@ pub(crate) struct Renewal {
 }
 
 impl Renewal {
+    ghost use Rattle.std.specs.Prelude.{◌≡◌, ℕ, List, []};
+    ghost use Rattle.olr_search.specs.Counts.{no_work};
+
+    /// Of a list without affected paths. Takes no memory.
+    pub(crate) fn none(alloc: Global) -> Renewal
+        ensures fresh { result.fresh.items ≡ [] }
+        ensures entries { result.renewed.entries.items ≡ [] }
+        ensures work { result.renewed.work ≡ no_work }
+        ensures retained { result.renewed.retained ≡ 0 }
+    {
+        Renewal {
+            fresh: Vec::new(alloc),
+            renewed: Renewed {
+                entries: Vec::new(alloc),
+                work: Work::none(),
+                retained: 0,
+            },
+        }
+    }
+
     /// Takes the action for the path at that position: leaves it, or counts it as retained, or encodes it again and
     /// reports it if its answer differs from the earlier one of its name.
     #[inline(never)]
@@ -186,14 +206,7 @@ fn renewal_by<M: MapRead>(
     ensures renewed { IfOk result (λ r. IsRenewal (M.map map.now) touched.now (items before.now)
         (shown_items overlaid.entry) (after_renewal r (shown_items overlaid.entry)) r.renewed) }
 {
-    let mut renewal = Renewal {
-        fresh: Vec::new(alloc),
-        renewed: Renewed {
-            entries: Vec::new(alloc),
-            work: Work::none(),
-            retained: 0,
-        },
-    };
+    let mut renewal = Renewal::none(alloc);
     let mut next = 0;
     for candidate in found {
         let position = *candidate;

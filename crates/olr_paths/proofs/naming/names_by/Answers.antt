@@ -1,6 +1,5 @@
 use Rattle.olr_paths.proofs.Common.{refl, inl, inr, ◌≡◌, ◌≤◌, ◌+◌, ℕ, List, [], Some, length, get_or, slice_get, arith, map, take}
-use Rattle.olr_paths.proofs.Common.{take_all, slice_get_within, Item, nodes_of, lines_of, shown_items, shown_item, ap, has}
-use Rattle.olr_paths.proofs.Common.{false}
+use Rattle.olr_paths.proofs.Common.{take_all, slice_get_within, Item, nodes_of, lines_of, shown_items, shown_item, ap}
 use Rattle.std.specs.Prelude.{String, string_bytes}
 use Rattle.std.specs.declared.alloc.Global.{Global}
 use Rattle.olr_paths.proofs.Passing.{passed_more, past_end, by_steps}

@@ -19,7 +19,7 @@ advance-requires g c = record { known = rw c.deref.ensures.value c.in_ok-known.e
 
 pub loop-candidate-init : goal.loop-candidate-init
 loop-candidate-init g c = (
-  so_far_none _ c.new.ensures.items c.new-2.ensures.items c.none.ensures refl,
+  so_far_none _ c.none-renewal.ensures.fresh c.none-renewal.ensures.entries c.none-renewal.ensures.work c.none-renewal.ensures.retained,
   record { below = λ j lt. absurd (omega arith); within = omega arith },
   c.requires.detours,
   c.requires.asked,
