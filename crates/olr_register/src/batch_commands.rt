@@ -61,7 +61,7 @@ impl Register {
             self.alloc,
             &self.roads,
             &mut self.paths,
-            &batch.overlay,
+            Some(&batch.overlay),
             &batch.touched,
             &mut self.near,
             &mut self.searches,

@@ -12,7 +12,7 @@ use crate::bounds::renew;
 use crate::register::Register;
 use olr_commands::{CommandFault, Reply};
 use olr_map::{Edit, EditPlan, RoadMap, Undo, judge};
-use olr_paths::{ChangeSet, ChangedLine, Overlay};
+use olr_paths::{ChangeSet, ChangedLine};
 use std::alloc::AllocError;
 
 /// The line that a judged edit changes: its ends, and the lesser of its lengths before and after. None if the edit is
@@ -83,17 +83,15 @@ impl Register {
             Err(fault) => return Err(CommandFault::Map(fault)),
         };
         let undo = make_noted(&mut self.roads, &mut self.touched, edit, &plan)?;
-        let none = Overlay::new(self.alloc);
         let renewed = renew(
             self.alloc,
             &self.roads,
             &mut self.paths,
-            &none,
+            None,
             &self.touched,
             &mut self.near,
             &mut self.searches,
         );
-        drop(none);
         let Ok(renewed) = renewed else {
             self.roads.undo(undo);
             return Err(CommandFault::Memory);

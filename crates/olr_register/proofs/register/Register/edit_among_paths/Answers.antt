@@ -64,9 +64,8 @@ returns-in_default c =
 pub renew-renewed-requires : goal.renew-renewed-requires
 renew-renewed-requires c = (
   map_of c.self.inside.roads,
-  rw (c.new-none.ensures (items c.self.inside.paths))
-      (can_edit c.self.inside c.self.view_is c.requires.open c.self.invariant (edit_of c.args.edit) c.make_noted.new.roads
-      c.in_ok-undo.ensures.done c.make_noted.new.touched c.in_ok-undo.ensures.noted),
+  can_edit c.self.inside c.self.view_is c.requires.open c.self.invariant (edit_of c.args.edit) c.make_noted.new.roads
+      c.in_ok-undo.ensures.done c.make_noted.new.touched c.in_ok-undo.ensures.noted,
 )
 
 pub invariant_of-self-2 : goal.invariant_of-self-2
@@ -76,7 +75,7 @@ invariant_of-self-2 c =
     edit_right r c.self.view_is c.requires.open c.self.invariant (edit_of c.args.edit) c.keep.new.self
     (rw c.keep.ensures c.in_ok-undo.ensures.done) c.make_noted.new.touched c.in_ok-undo.ensures.noted
     (items c.renew-renewed.new.paths) c.in-Ok-renewed.renewed
-    (rw c.keep.ensures (rw (c.new-none.ensures (items r.paths)) at k.renewed)) _ c.in-Ok.ensures.plan.placed
+    (rw c.keep.ensures k.renewed) _ c.in-Ok.ensures.plan.placed
     (rw c.keep.ensures k.bounded)
 
 pub returns : goal.returns
@@ -88,4 +87,4 @@ returns c =
     (edit_done r c.self.view_is c.requires.open c.self.invariant (edit_of c.args.edit) c.keep.new.self
     (rw c.keep.ensures c.in_ok-undo.ensures.done) c.make_noted.new.touched c.in_ok-undo.ensures.noted
     (items c.renew-renewed.new.paths) c.in-Ok-renewed.renewed
-    (rw c.keep.ensures (rw (c.new-none.ensures (items r.paths)) at k.renewed)) _ refl)
+    (rw c.keep.ensures k.renewed) _ refl)
