@@ -6,9 +6,11 @@ ghost use Rattle.std.specs.List.Sorted.{IsStrictlyIncreasing};
 ghost use Rattle.olr_spec.specs.Map.{has};
 ghost use Rattle.olr_index.specs.Listed.{path_ids_in};
 
+use olr_roads::NumberHasher;
 use smallvec::SmallVec;
 use std::alloc::{AllocError, Global};
 use std::collections::HashMap;
+use std::hash::BuildHasherDefault;
 
 /// The path ids of a number: most numbers have one, which is stored without an allocation.
 type PathIds = SmallVec<u64, 1>;
@@ -16,7 +18,7 @@ type PathIds = SmallVec<u64, 1>;
 /// Numbers and their path ids. Each number has each path id at most once, and a number without path ids has no entry.
 #[derive(Debug)]
 pub struct Index {
-    path_ids: HashMap<u64, PathIds>,
+    path_ids: HashMap<u32, PathIds, BuildHasherDefault<NumberHasher>>,
     alloc: Global,
     ghost ascend: { (number : ℕ) → IsStrictlyIncreasing (path_ids_in path_ids number) },
 }
@@ -40,13 +42,13 @@ impl Index {
         ensures { (number : ℕ) → path_ids_of result number ≡ [] }
     {
         Index {
-            path_ids: HashMap::new(alloc),
+            path_ids: HashMap::with_hasher(alloc, BuildHasherDefault::new()),
             alloc,
         }
     }
 
     /// The path ids of a number, in ascending order, without duplicates.
-    pub fn of(&self, number: u64) -> &[u64]
+    pub fn of(&self, number: u32) -> &[u64]
         ensures path_ids { result.now ≡ path_ids_of self.now number }
         ensures ascending { IsStrictlyIncreasing result.now }
     {
@@ -65,7 +67,7 @@ impl Index {
 
     /// Adds a path id to a number, unless the number has it. If an allocation fails, the path ids of all numbers are
     /// unchanged.
-    pub fn add(&mut self, number: u64, path_id: u64) -> Result<(), AllocError>
+    pub fn add(&mut self, number: u32, path_id: u64) -> Result<(), AllocError>
         ensures ok { OnOk result ((n m : ℕ) → holds self.new n m
             ≡ (holds self.old n m || ((number == n) && (path_id == m)))) }
         ensures err { OnErr result ((n m : ℕ) → holds self.new n m ≡ holds self.old n m) }
@@ -80,7 +82,7 @@ impl Index {
     }
 
     /// Removes a path id from a number, if the number has it. Allocates nothing.
-    pub fn remove(&mut self, number: u64, path_id: u64)
+    pub fn remove(&mut self, number: u32, path_id: u64)
         ensures { (n m : ℕ) → holds self.new n m
             ≡ (holds self.old n m && not ((number == n) && (path_id == m))) }
     {

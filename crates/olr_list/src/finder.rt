@@ -160,7 +160,7 @@ fn note_each<T: Numbered>(index: &mut Index, path_id: u64, items: &[T]) -> Resul
 }
 
 /// Whether the item at a position is there and has this number.
-fn is_at<T: Numbered>(items: &[T], k: usize, number: u64) -> bool
+fn is_at<T: Numbered>(items: &[T], k: usize, number: u32) -> bool
     ensures { IsTrue result → (x : _) × Contains items.now x × (T.number_of x ≡ number) }
 {
     match items.get(k) {
@@ -212,7 +212,7 @@ fn forget_nodes(index: &mut Index, path_id: u64, replaced: &[NodeId], kept: &[No
         if kept.binary_search(node).is_ok() {
             continue;
         }
-        index.remove(u64::from(node.number()), path_id);
+        index.remove(node.number(), path_id);
     }
 }
 
@@ -231,7 +231,7 @@ fn forget_queries(
         if is_queried_from(kept, query.from) {
             continue;
         }
-        index.remove(u64::from(query.from.number()), path_id);
+        index.remove(query.from.number(), path_id);
     }
 }
 
@@ -242,7 +242,7 @@ fn forget_lines(index: &mut Index, path_id: u64, replaced: &[LineId], kept: &[Li
 {
     for line in replaced {
         if !kept.contains(line) {
-            index.remove(u64::from(line.number()), path_id);
+            index.remove(line.number(), path_id);
         }
     }
 }

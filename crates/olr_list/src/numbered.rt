@@ -11,23 +11,23 @@ pub(crate) trait Numbered {
     ghost number_of: { Self → ℕ };
 
     /// The number.
-    fn index_number(&self) -> u64
+    fn index_number(&self) -> u32
         ensures { result ≡ number_of self.now };
 }
 
 impl Numbered for NodeId {
     ghost number_of = { λ v. v };
 
-    fn index_number(&self) -> u64 {
-        u64::from(self.number())
+    fn index_number(&self) -> u32 {
+        self.number()
     }
 }
 
 impl Numbered for LineId {
     ghost number_of = { λ x. x };
 
-    fn index_number(&self) -> u64 {
-        u64::from(self.number())
+    fn index_number(&self) -> u32 {
+        self.number()
     }
 }
 
@@ -35,8 +35,8 @@ impl Numbered for LineId {
 impl Numbered for CoverageQuery {
     ghost number_of = { λ l. l.from };
 
-    fn index_number(&self) -> u64 {
-        u64::from(self.from.number())
+    fn index_number(&self) -> u32 {
+        self.from.number()
     }
 }
 
@@ -44,7 +44,7 @@ impl Numbered for CoverageQuery {
 impl Numbered for Reached {
     ghost number_of = { λ r. r.node };
 
-    fn index_number(&self) -> u64 {
-        u64::from(self.node.number())
+    fn index_number(&self) -> u32 {
+        self.node.number()
     }
 }

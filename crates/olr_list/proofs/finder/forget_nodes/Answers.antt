@@ -9,5 +9,5 @@ loop-k-preserved c =
     let r = c.binary_search.result in
     let place = place_of xs v r c.requires c.binary_search.ensures.position in
     forgot_more (KeptIn (λ (u : ℕ). u) c.args.kept.now) _ _ _ _ _ c.loop-k.invariant
-    (λ k. let on = there_found xs v r place (subst (Contains xs) (k.2 ∙ c.from.ensures ∙ c.number.ensures.same) k.1) in
+    (λ k. let on = there_found xs v r place (subst (Contains xs) (k.2 ∙ c.number.ensures.same) k.1) in
     true≢false (sym on ∙ sym c.is_ok.ensures.value ∙ c.if-is_ok.false)) c.remove.ensures
