@@ -6,8 +6,8 @@ use std::alloc::{AllocError, Global};
 use std::io;
 use std::io::Read;
 
-/// The most bytes that are read at once, 64 KB.
-const BLOCK: usize = 1 << 16;
+/// The most bytes that are read at once, 256 KB.
+const BLOCK: usize = 1 << 18;
 
 /// An input, and what is left of the block that was read last.
 #[derive(Drop)]

@@ -9,8 +9,8 @@ use std::alloc::{AllocError, Global};
 use std::io;
 use std::io::{BufReader, Read};
 
-/// The most bytes that are read at once, 64 KB.
-const BLOCK: usize = 1 << 16;
+/// The most bytes that are read at once, 256 KB.
+const BLOCK: usize = 1 << 18;
 
 /// Whether a byte ends a record outside of quotes.
 pub(crate) fn ends_line(byte: u8) -> bool
