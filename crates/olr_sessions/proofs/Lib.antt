@@ -4,6 +4,7 @@ pub mod Writing
 pub mod InMemoryRuns
 pub mod WholeLines
 pub mod KeptLines
+pub mod CleanTexts
 pub mod Parts
 pub mod Passing
 pub mod LoggedEvents

@@ -9,6 +9,7 @@ ghost use Rattle.olr_sessions.specs.KeptLines.{AreLines};
 
 use crate::buffered::remove_front;
 use csv::ByteRecord;
+use memchr::memchr2;
 use std::alloc::{AllocError, Global};
 
 /// What a record does to a log, if it is accepted.
@@ -26,18 +27,12 @@ pub enum Effect {
     Abort,
 }
 
-/// Whether a byte is none of a line end.
-fn is_clean_byte(byte: u8) -> bool
-    ensures { result ≡ lines.is_clean_byte byte }
-{
-    !(byte == b'\n' || byte == b'\r')
-}
-
 /// Whether a text holds no line end.
+#[tactic(auto, using(crate::proofs::CleanTexts::clean_by))]
 fn is_clean(text: &[u8]) -> bool
     ensures { result ≡ lines.is_clean text.now }
 {
-    text.iter().all(|byte| is_clean_byte(*byte))
+    memchr2(b'\n', b'\r', text).is_none()
 }
 
 /// Whether a word is this text.
