@@ -1,7 +1,9 @@
 -- The longest front that counts.
 use Rattle.olr_sessions.proofs.KeptLines.{whole_join}
-use Rattle.std.proofs.Common.{◌≡◌, ◌⊎◌, inl, inr, ℕ, zero, suc, ◌+◌, ◌≤◌, ◌<◌, Bool, true, false, List, [], ◌∷◌, ◌++◌, length, take, drop, get_or, refl, sym, ◌∙◌, ap, arith, length-append, append_assoc}
+use Rattle.std.proofs.Common.{◌≡◌, ◌⊎◌, inl, inr, ℕ, zero, suc, ◌+◌, ◌-◌, ◌≤◌, ◌<◌, Bool, true, false, List, [], ◌∷◌, ◌++◌, length, take, drop, get_or, refl, sym, ◌∙◌, ap, arith, length-append, append_assoc}
 use Rattle.std.specs.Prelude.{◌==◌, ◌&&◌, not}
+use Rattle.std.specs.List.{ends_with}
+use Rattle.std.specs.Str.{bytes_eq}
 use Rattle.std.proofs.lemmas.List.{append-nil, take-append-le, take-append-drop}
 use Rattle.std.proofs.Math.Seq.{take-append-add, take-append_seam}
 use Rattle.std.proofs.lemmas.Bool.{cases_Bool, cases_eq, and_parts, and_left, cond-true, cond-false}
@@ -197,11 +199,16 @@ spotted_from [] (b ∷ s) size each = absurd (omega arith)
 spotted_from (a ∷ r) [] size each = absurd (omega arith)
 spotted_from (a ∷ r) (b ∷ s) size each = (each 0 (omega arith), spotted_from r s (omega arith) (λ i low. each (suc i) (omega arith)))
 
--- whether a text ends in an empty line, from what is known behind some of its bytes
-abbrev pub blank_from : ℕ → Bool → List ℕ → Bool
-blank_from before is_blank [] = is_blank
-blank_from before is_blank (b ∷ bs) = ends_blank_behind before (b ∷ bs)
+-- whether a text ends in an empty line: its last two bytes decide
+two_at_end : (before b : ℕ) (bs : List ℕ) →
+    ends_with ◌==◌ (before ∷ b ∷ bs) (10 ∷ 10 ∷ []) ≡ ends_blank_behind before (b ∷ bs)
+two_at_end before b [] = grind arith
+two_at_end before b (c ∷ bs) =
+    let on : length (before ∷ b ∷ c ∷ bs) - 2 ≡ suc (length (b ∷ c ∷ bs) - 2) = omega arith in
+    ap (λ (n : ℕ). bytes_eq (10 ∷ 10 ∷ []) (drop n (before ∷ b ∷ c ∷ bs))) on ∙ two_at_end b c bs
 
-pub blank_more : (before b : ℕ) (is_blank : Bool) (bs : List ℕ) → blank_from before is_blank (b ∷ bs) ≡ blank_from b (before == 10 && b == 10) bs
-blank_more before b is_blank [] = refl
-blank_more before b is_blank (c ∷ bs) = refl
+pub blank_by : (text : List ℕ) → bytes_eq text (10 ∷ []) ≡ false →
+    ends_with ◌==◌ text (10 ∷ 10 ∷ []) ≡ ends_blank text
+blank_by [] h = refl
+blank_by (b ∷ []) h = grind arith
+blank_by (b ∷ c ∷ bs) h = two_at_end b c bs

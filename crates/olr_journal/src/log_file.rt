@@ -49,16 +49,11 @@ pub struct LogFile<D: Disk, F: Folder<D>> {
 }
 
 /// Whether a text ends in an empty line.
+#[tactic(auto, using(crate::proofs::Fronts::blank_by))]
 fn is_blank_at_end(text: &[u8]) -> bool
     ensures { result ≡ ends_blank text.now }
 {
-    let mut before = b'\n';
-    let mut is_blank = false;
-    for byte in text {
-        is_blank = before == b'\n' && *byte == b'\n';
-        before = *byte;
-    }
-    is_blank
+    text == b"\n".as_slice() || text.ends_with(b"\n\n")
 }
 
 /// A file that was written beside the log and put in its place.
