@@ -9,8 +9,11 @@ use sqlite_disk::Disk;
 use std::alloc::{AllocError, Global};
 use std::io;
 
-/// The least length by which a file is extended, 64 KB.
+/// The bytes that are written or read at once, and the least by which a file is extended, 64 KB.
 pub const BLOCK: usize = 1 << 16;
+
+/// The most by which a file is extended, 1 MB, unless a tenth of it is more.
+const MOST_ADDED: usize = 1 << 20;
 
 /// So many carriage returns.
 pub fn carriage_returns(alloc: Global, n: usize) -> Result<Vec<u8>, AllocError>
@@ -40,6 +43,11 @@ pub fn put<D: Disk>(disk: &mut D, at: usize, bytes: &[u8]) -> io::Result<()>
     disk.sync()
 }
 
+/// By how much a file of `len` bytes is extended: by as much as it has, within bounds.
+fn extension(len: usize) -> usize {
+    len.clamp(BLOCK, MOST_ADDED).max(len / 10)
+}
+
 /// Extends a file of `len` bytes by carriage returns until it has more than `needed` bytes, and syncs. Returns its length.
 pub fn extend<D: Disk>(disk: &mut D, len: usize, needed: usize, returns: &[u8]) -> io::Result<usize>
     requires usable { IsTrue (D.Disk.is_usable disk.old) }
@@ -58,7 +66,7 @@ pub fn extend<D: Disk>(disk: &mut D, len: usize, needed: usize, returns: &[u8]) 
     if needed < len {
         return Ok(len);
     }
-    let Some(wanted) = needed.checked_add(BLOCK.max(len / 10)) else {
+    let Some(wanted) = needed.checked_add(extension(len)) else {
         return Err(io::ErrorKind::FileTooLarge.into());
     };
     let end = append_returns(disk, len, wanted, returns)?;
