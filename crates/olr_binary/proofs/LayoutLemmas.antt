@@ -3,7 +3,7 @@ use Rattle.olr_spec.proofs.Common.{◌≡◌, ℕ, zero, suc, ◌+◌, ◌-◌, 
 use Rattle.olr_spec.proofs.Common.{nat_lt, List, length, Some, None, nat_le, slice_index, refl, sym, subst, ◌∙◌, arith}
 use Rattle.olr_spec.proofs.Common.{add-zero, take, drop, list_any, get_or-take, get_or-drop, or_parts, leb-false}
 use Rattle.olr_spec.proofs.Common.{eqb-true, nat_tests, status_byte, bit, extra, flags_of, attribute1_bytes}
-use Rattle.olr_spec.proofs.Common.{has_reserved, v3_fault}
+use Rattle.olr_spec.proofs.Common.{has_reserved, slice_range, v3_fault}
 use Rattle.std.proofs.Common.{if◌then◌else◌}
 use Rattle.olr_spec.specs.Bytes.{Length, Status, Flags, Reserved}
 use Rattle.olr_binary.specs.Layout.{IsLayout}
@@ -85,12 +85,12 @@ module _ (b : List ℕ) (m o : ℕ) (w : IsLayout b m o) (e : v3_fault b ≡ Non
   low_at k j n within place short = grind (arith, get_or-take, get_or-drop, low_attribute1)
 
   -- attribute bytes 1 and 4, read in the bytes of the last LRP
-  pub last_bytes : (slice_index (take (length b - (10 + 7 * m)) (drop (10 + 7 * m) b)) 5 ≡ flags_of b)
+  pub last_bytes : (slice_index (slice_range b (10 + 7 * m) (10 + 7 * m + 6)) 5 ≡ flags_of b)
       × (bit 6 (flags_of b) + bit 5 (flags_of b) ≡ o) × (flags_of b < 128)
-      × (slice_index (take (length b - (10 + 7 * m)) (drop (10 + 7 * m) b)) 4 < 64)
+      × (slice_index (slice_range b (10 + 7 * m) (10 + 7 * m + 6)) 4 < 64)
   last_bytes = (
     grind (arith, get_or-take, get_or-drop, extra-is),
     (no_fault b e).flags ∙ extra-is b m o w,
     leb-false 128 (flags_of b) (or_parts _ _ (no_fault b e).reserved).1,
-    low_at (m + 1) (10 + 7 * m) (length b - (10 + 7 * m)) (omega arith) (omega arith) (omega (arith, w.size)),
+    low_at (m + 1) (10 + 7 * m) (10 + 7 * m + 6 - (10 + 7 * m)) (omega arith) (omega arith) (omega arith),
   )

@@ -1,5 +1,5 @@
 //! Decoding version 3.
-ghost use Rattle.std.specs.Prelude.{◌≡◌, ◌+◌, ◌*◌, ◌<◌, [], ◌∷◌, ◌++◌, length, slice_index, slice_range, IsSome};
+ghost use Rattle.std.specs.Prelude.{◌≡◌, ◌+◌, ◌*◌, ◌<◌, ◌≤◌, [], ◌∷◌, ◌++◌, length, slice_index, slice_range, IsSome};
 ghost use Rattle.std.specs.Prelude.{IfSome, IfNone, IfOk, IfErr, OnOk};
 ghost use Rattle.std.specs.List.{AllByRecursion, flat_map};
 ghost use Rattle.olr_spec.specs.Reference.{Reference as Fields};
@@ -52,14 +52,23 @@ fn read_attrs(one: u8, two: u8, dnp: u8) -> Attrs
     }
 }
 
+/// So many bytes, from an index on.
+fn bytes_at<const N: usize>(bytes: &[u8], at: usize) -> [u8; N]
+    requires { at + N ≤ length bytes.now }
+    ensures { result ≡ slice_range bytes.now at (at + N) }
+{
+    let mut part = [0; N];
+    part.copy_from_slice(&bytes[at..at + N]);
+    part
+}
+
 /// The first LRP, from its nine bytes.
-fn read_first(bytes: &[u8]) -> First
-    requires nine { length bytes.now ≡ 9 }
-    requires reserved { slice_index bytes.now 6 < 64 }
-    ensures encoded { first_bytes result ≡ bytes.now }
+fn read_first(bytes: [u8; 9]) -> First
+    requires reserved { slice_index bytes 6 < 64 }
+    ensures encoded { first_bytes result ≡ bytes }
     ensures fits { IsFirst result }
 {
-    let &[
+    let [
         lon_high,
         lon_middle,
         lon_low,
@@ -69,10 +78,7 @@ fn read_first(bytes: &[u8]) -> First
         one,
         two,
         dnp,
-    ] = bytes
-    else {
-        unreachable!();
-    };
+    ] = bytes;
     First {
         lon: read_signed24([lon_high, lon_middle, lon_low]),
         lat: read_signed24([lat_high, lat_middle, lat_low]),
@@ -81,15 +87,12 @@ fn read_first(bytes: &[u8]) -> First
 }
 
 /// An LRP between the first and the last, from its seven bytes.
-fn read_middle(bytes: &[u8]) -> Middle
-    requires seven { length bytes.now ≡ 7 }
-    requires reserved { slice_index bytes.now 4 < 64 }
-    ensures encoded { middle_bytes result ≡ bytes.now }
+fn read_middle(bytes: [u8; POINT]) -> Middle
+    requires reserved { slice_index bytes 4 < 64 }
+    ensures encoded { middle_bytes result ≡ bytes }
     ensures fits { IsMiddle result }
 {
-    let &[lon_high, lon_low, lat_high, lat_low, one, two, dnp] = bytes else {
-        unreachable!();
-    };
+    let [lon_high, lon_low, lat_high, lat_low, one, two, dnp] = bytes;
     Middle {
         dlon: read_signed16([lon_high, lon_low]),
         dlat: read_signed16([lat_high, lat_low]),
@@ -104,28 +107,20 @@ fn read_offsets(four: u8, bytes: &[u8]) -> (Option<u8>, Option<u8>)
     ensures positive { flag result.0 ≡ bit 6 four }
     ensures negative { flag result.1 ≡ bit 5 four }
 {
-    match bytes {
-        [] => (None, None),
-        [byte] if has_positive(four) => (Some(*byte), None),
-        [byte] => (None, Some(*byte)),
-        [pos, neg] => (Some(*pos), Some(*neg)),
-        _ => unreachable!(),
-    }
+    let pos = has_positive(four).then(|| bytes[0]);
+    let neg = has_negative(four).then(|| bytes[bytes.len() - 1]);
+    (pos, neg)
 }
 
 /// The last LRP and the offsets, from the six bytes of the LRP and the offset bytes.
-fn read_last(bytes: &[u8]) -> (Last, Option<u8>, Option<u8>)
-    requires size { let four = slice_index bytes.now 5 in
-        length bytes.now ≡ 6 + (bit 6 four + bit 5 four) }
-    requires reserved_1 { slice_index bytes.now 4 < 64 }
-    requires reserved_4 { slice_index bytes.now 5 < 128 }
-    ensures encoded { last_bytes result.0 result.1 result.2 ≡ bytes.now }
+fn read_last(point: [u8; LAST], offsets: &[u8]) -> (Last, Option<u8>, Option<u8>)
+    requires size { let four = slice_index point 5 in length offsets.now ≡ bit 6 four + bit 5 four }
+    requires reserved_1 { slice_index point 4 < 64 }
+    requires reserved_4 { slice_index point 5 < 128 }
+    ensures encoded { last_bytes result.0 result.1 result.2 ≡ point ++ offsets.now }
     ensures fits { IsLast result.0 }
 {
-    let (point, offsets) = bytes.split_at(LAST);
-    let &[lon_high, lon_low, lat_high, lat_low, one, four] = point else {
-        unreachable!();
-    };
+    let [lon_high, lon_low, lat_high, lat_low, one, four] = point;
     let (frc, fow) = read_attribute1(one);
     let (pos, neg) = read_offsets(four, offsets);
     let last = Last {
@@ -205,8 +200,7 @@ fn read_points(alloc: Global, bytes: &[u8], layout: Layout) -> Result<Vec<Middle
 {
     let mut points = Vec::with_capacity(alloc, layout.middle)?;
     for i in 0..layout.middle {
-        let place = MIDDLE + POINT * i;
-        points.push(read_middle(&bytes[place..place + POINT]))?;
+        points.push(read_middle(bytes_at(bytes, MIDDLE + POINT * i)))?;
     }
     Ok(points)
 }
@@ -222,8 +216,9 @@ pub fn read_v3(alloc: Global, bytes: &[u8]) -> Result<Reference, V3Fault>
 {
     let layout = check(bytes)?;
     let middle = read_points(alloc, bytes, layout).map_err(|_| V3Fault::Memory)?;
-    let first = read_first(&bytes[FIRST..MIDDLE]);
-    let (last, pos, neg) = read_last(&bytes[MIDDLE + POINT * layout.middle..]);
+    let first = read_first(bytes_at(bytes, FIRST));
+    let place = MIDDLE + POINT * layout.middle;
+    let (last, pos, neg) = read_last(bytes_at(bytes, place), &bytes[place + LAST..]);
     Ok(Reference {
         first,
         middle,
