@@ -6,7 +6,7 @@ ghost use Rattle.olr_records.specs.Records as records;
 ghost use Rattle.olr_records.specs.Words.{IsRead, Reads};
 
 use crate::faults::ReadFault;
-use crate::fields::{coord, field, line_id, node_id};
+use crate::fields::{coord, field, line_id, node_id, only_field};
 use crate::lines::attributes_at;
 use crate::parts::both;
 use csv::ByteRecord;
@@ -52,10 +52,7 @@ pub(crate) fn drop_node(fields: &ByteRecord) -> Result<Command, ReadFault>
         (records.edit (records.one Drop_node records.number (drop 1 (fields_of fields.now))))
         result }
 {
-    if fields.len() != 2 {
-        return Err(ReadFault::Syntax);
-    }
-    let id = node_id(field(fields, 1))?;
+    let id = node_id(only_field(fields)?)?;
     Ok(Command::Edit(Edit::DropNode(id)))
 }
 
@@ -103,9 +100,6 @@ pub(crate) fn drop_line(fields: &ByteRecord) -> Result<Command, ReadFault>
         (records.edit (records.one Drop_line records.number (drop 1 (fields_of fields.now))))
         result }
 {
-    if fields.len() != 2 {
-        return Err(ReadFault::Syntax);
-    }
-    let id = line_id(field(fields, 1))?;
+    let id = line_id(only_field(fields)?)?;
     Ok(Command::Edit(Edit::DropLine(id)))
 }

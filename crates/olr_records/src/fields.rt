@@ -1,6 +1,6 @@
 //! The fields of a record, each checked for its form and then for its range.
 ghost use Rattle.std.specs.Prelude.{◌≡◌, ◌≤◌, ◌^◌, [], IsTrue, IfOk, IfSome, is_some, length, min, slice_index_or};
-ghost use Rattle.std.specs.Prelude.{string_bytes, OnErr, Some, ⊤};
+ghost use Rattle.std.specs.Prelude.{◌∷◌, ◌≢◌, drop, string_bytes, IfErr, OnErr, Some, ⊤};
 ghost use Rattle.std.specs.Char.{is_ascii_digit};
 ghost use Rattle.std.specs.List.{list_all};
 ghost use Rattle.csv.specs.Records.{fields_of};
@@ -8,6 +8,7 @@ ghost use Rattle.olr_spec.specs.Degrees.{are_digits, digits_value};
 ghost use Rattle.olr_spec.specs.Degrees as text_of;
 ghost use Rattle.olr_records.specs.Records as records;
 ghost use Rattle.olr_records.specs.Words.{Gathers, Reads};
+ghost use Rattle.olr_records.specs.declared.faults.ReadFault.TheVariants.{Syntax};
 
 use crate::faults::ReadFault;
 use crate::parts::both;
@@ -36,6 +37,17 @@ pub(crate) fn field(fields: &ByteRecord, k: usize) -> &[u8]
         Some(field) => field,
         None => &[],
     }
+}
+
+/// The only field after the first.
+pub(crate) fn only_field(fields: &ByteRecord) -> Result<&[u8], ReadFault>
+    ensures ok { IfOk result (λ field. drop 1 (fields_of fields.now) ≡ field.now ∷ []) }
+    ensures err { IfErr result (λ fault. (fault ≡ Syntax) × (length (fields_of fields.now) ≢ 2)) }
+{
+    if fields.len() != 2 {
+        return Err(ReadFault::Syntax);
+    }
+    Ok(field(fields, 1))
 }
 
 /// The value of digits, which fits 64 bits. None if there is another byte among them.

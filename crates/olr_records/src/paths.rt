@@ -7,7 +7,7 @@ ghost use Rattle.olr_records.specs.Records as records;
 ghost use Rattle.olr_records.specs.Words.{Gathers, IsRead};
 
 use crate::faults::ReadFault;
-use crate::fields::{amount, field, line_id, name};
+use crate::fields::{amount, field, line_id, name, only_field};
 use crate::parts::{both, room, with_item};
 use csv::ByteRecord;
 use olr_commands::Command;
@@ -63,10 +63,7 @@ pub(crate) fn drop_path(alloc: Global, fields: &ByteRecord) -> Result<Command, R
         (records.one (λ n. Make (Drop_path n)) records.name (drop 1 (fields_of fields.now)))
         result }
 {
-    if fields.len() != 2 {
-        return Err(ReadFault::Syntax);
-    }
-    let name = name(alloc, field(fields, 1))?;
+    let name = name(alloc, only_field(fields)?)?;
     Ok(Command::DropPath(name))
 }
 
@@ -74,9 +71,6 @@ pub(crate) fn drop_path(alloc: Global, fields: &ByteRecord) -> Result<Command, R
 pub(crate) fn show(alloc: Global, fields: &ByteRecord) -> Result<Command, ReadFault>
     ensures { IsRead (records.one Show records.name (drop 1 (fields_of fields.now))) result }
 {
-    if fields.len() != 2 {
-        return Err(ReadFault::Syntax);
-    }
-    let name = name(alloc, field(fields, 1))?;
+    let name = name(alloc, only_field(fields)?)?;
     Ok(Command::Show(name))
 }

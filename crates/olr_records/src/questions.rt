@@ -7,7 +7,7 @@ ghost use Rattle.olr_records.specs.Records.{◌⊛◌, Out_of_range};
 ghost use Rattle.olr_records.specs.Words.{Gathers, IsRead};
 
 use crate::faults::ReadFault;
-use crate::fields::{field, line_id, name, node_id};
+use crate::fields::{field, line_id, name, node_id, only_field};
 use crate::parts::{room, with_item};
 use csv::ByteRecord;
 use olr_commands::Command;
@@ -21,10 +21,7 @@ const MOST_NODES: usize = 10_000;
 pub(crate) fn show_node(fields: &ByteRecord) -> Result<Command, ReadFault>
     ensures { IsRead (records.one Show_node records.number (drop 1 (fields_of fields.now))) result }
 {
-    if fields.len() != 2 {
-        return Err(ReadFault::Syntax);
-    }
-    let id = node_id(field(fields, 1))?;
+    let id = node_id(only_field(fields)?)?;
     Ok(Command::ShowNode(id))
 }
 
@@ -32,10 +29,7 @@ pub(crate) fn show_node(fields: &ByteRecord) -> Result<Command, ReadFault>
 pub(crate) fn show_line(fields: &ByteRecord) -> Result<Command, ReadFault>
     ensures { IsRead (records.one Show_line records.number (drop 1 (fields_of fields.now))) result }
 {
-    if fields.len() != 2 {
-        return Err(ReadFault::Syntax);
-    }
-    let id = line_id(field(fields, 1))?;
+    let id = line_id(only_field(fields)?)?;
     Ok(Command::ShowLine(id))
 }
 

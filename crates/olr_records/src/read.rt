@@ -8,7 +8,7 @@ ghost use Rattle.olr_records.specs.Words.{IsRead};
 
 use crate::edits::{add_line, add_node, drop_line, drop_node, move_node, set_line};
 use crate::faults::ReadFault;
-use crate::fields::{amount, field};
+use crate::fields::{amount, field, only_field};
 use crate::paths::{add_path, drop_path, set_path, show};
 use crate::questions::{ambiguous, depends, show_line, show_node};
 use csv::ByteRecord;
@@ -130,11 +130,9 @@ fn single_word(fields: &ByteRecord, command: Command) -> Result<Command, ReadFau
 fn explain(alloc: Global, fields: &ByteRecord) -> Result<Command, ReadFault>
     ensures { IsRead (records.one Explain (λ f. Ok f) (drop 1 (fields_of fields.now))) result }
 {
-    if fields.len() != 2 {
-        return Err(ReadFault::Syntax);
-    }
+    let field = only_field(fields)?;
     let mut text = Vec::new(alloc);
-    text.extend_from_slice(field(fields, 1))?;
+    text.extend_from_slice(field)?;
     Ok(Command::Explain(text))
 }
 
@@ -142,9 +140,6 @@ fn explain(alloc: Global, fields: &ByteRecord) -> Result<Command, ReadFault>
 fn commit(fields: &ByteRecord) -> Result<Command, ReadFault>
     ensures { IsRead (records.one Commit records.amount (drop 1 (fields_of fields.now))) result }
 {
-    if fields.len() != 2 {
-        return Err(ReadFault::Syntax);
-    }
-    let count = amount(field(fields, 1))?;
+    let count = amount(only_field(fields)?)?;
     Ok(Command::Commit(count))
 }
