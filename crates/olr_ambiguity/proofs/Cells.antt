@@ -1,10 +1,10 @@
 -- The nodes of a range of cells, and of a window.
-use Rattle.olr_spec.proofs.Common.{◌≡◌, ℕ, suc, ◌+◌, ◌-◌, ◌*◌, ◌<◌, ◌≤◌, ◌⊎◌, inl, inr, ℤ, Bool, true, false, nat_lt, nat_le, List, [], length, take, drop, get_or, Contains, IsTrue, IsFalse, arith, sym, ap, ◌∙◌, subst, refl, cases_lt, cases_Bool, both_ways}
-use Rattle.olr_spec.proofs.Common.{ltb-true, ltb-false, leb-true, leb-false, lt-ltb, le-ltb, le-leb, get_or-drop, get_or-take, length-drop, length-take-le, get_or_default, Map, coord_at, has_node, Coord}
+use Rattle.olr_spec.proofs.Common.{◌≡◌, ℕ, ◌+◌, ◌-◌, ◌<◌, ◌≤◌, inl, inr, ℤ, Bool, true, false, nat_lt, nat_le, List, length, take, drop, get_or, Contains, IsTrue, IsFalse, arith, ap, ◌∙◌, subst, cases_lt}
+use Rattle.olr_spec.proofs.Common.{ltb-true, leb-false, get_or-drop, get_or-take, length-drop, length-take-le, Map, coord_at, has_node, Coord}
 use Rattle.olr_spec.specs.Ambiguity.{is_farther, usual_slack}
 use Rattle.olr_ambiguity.specs.declared.grid.Placed.{Placed}
 use Rattle.olr_ambiguity.specs.declared.rivals.Window.{Window}
-use Rattle.olr_ambiguity.specs.Grids.{Starts, Ends, cell_at, cell_of, cells_from, columns, last_cell, lowest_lat, lowest_lon, IsGrid, IsWindow, Notes}
+use Rattle.olr_ambiguity.specs.Grids.{Starts, Ends, cell_at, cells_from, lowest_lat, lowest_lon, IsGrid, IsWindow, Notes}
 
 -- an element whose cell is within is between the two positions
 between : (es : List Placed) (first last i j k : ℕ) (e : Placed) → Starts es first i → Ends es last j → k < length es →

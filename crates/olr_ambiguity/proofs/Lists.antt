@@ -1,20 +1,18 @@
 -- Tests of a list's elements, one after another, and what is noted of them.
-use Rattle.olr_spec.proofs.Common.{◌≡◌, ◌≢◌, ℕ, zero, suc, ◌+◌, ◌<◌, ◌≤◌, ◌⊎◌, inl, inr, Bool, true, false, not, ◌||◌, ◌&&◌, ◌==◌, List, [], ◌∷◌, ◌++◌, filter, take, length, get_or, Contains, IsTrue, IsFalse, arith, sym, ap, ◌∙◌, subst, refl, cond, ◌↔◌}
-use Rattle.olr_spec.proofs.Common.{eq-eqb, ne_eqb, eqb-true, cases_Bool, or_left, or_right, or_cases, and_from, and_parts, both_ways, take_more, has, IsStrictlyIncreasing, Map, IsMap, has_line, has_node, coord_at, start, end, line_at, leg, Side, node_on, coordinate_on, ℤ}
+use Rattle.olr_spec.proofs.Common.{◌≡◌, ◌≢◌, ℕ, suc, ◌+◌, ◌<◌, ◌⊎◌, inl, inr, Bool, true, false, not, ◌||◌, ◌&&◌, ◌==◌, List, [], ◌∷◌, ◌++◌, filter, take, length, get_or, Contains, IsTrue, IsFalse, arith, sym, ap, ◌∙◌, subst, refl, ◌↔◌}
+use Rattle.olr_spec.proofs.Common.{eq-eqb, ne_eqb, cases_Bool, or_left, or_right, and_from, and_parts, both_ways, take_more, has, IsStrictlyIncreasing, Map, IsMap, has_line, has_node, coord_at, start, leg, Side, node_on, coordinate_on, ℤ}
 use Rattle.std.specs.List.{list_any}
 use Rattle.std.proofs.lemmas.List.Elements.{Contains-push_cases, Contains-get_or}
 use Rattle.std.proofs.lemmas.List.Folds.{Any-from_list_any}
 use Rattle.olr_spec.proofs.Common.{All, is_some}
 use Rattle.std.proofs.lemmas.List.Kept.{IsStrictlyIncreasing-filter}
-use Rattle.olr_spec.specs.Receiver.{Outgoing, Incoming, sector_on}
-use Rattle.olr_spec.specs.Directions.{direction_on, is_beyond}
+use Rattle.olr_spec.specs.Receiver.{Outgoing, Incoming}
 use Rattle.olr_spec.specs.Ambiguity.{is_farther, usual_slack, is_outdone_for_all, is_rival, lines_on, all_nodes}
 use Rattle.olr_spec.proofs.ListLemmas.{has-filter}
 use Rattle.olr_spec.proofs.OrderLemmas.{exactly_in, exactly_out, has-all_nodes, all_nodes_ascend}
 use Rattle.olr_spec.proofs.SameNumbers.{has_from, in_from, same_ascending}
-use Rattle.std.specs.FinMap.{get}
-use Rattle.std.specs.Prelude.{unwrap_or, Some}
-use Rattle.olr_spec.specs.Map.{no_line, Line}
+use Rattle.std.specs.Prelude.{unwrap_or}
+use Rattle.olr_spec.specs.Map.{no_line}
 use Rattle.olr_ambiguity.specs.declared.grid.Placed.{Placed}
 use Rattle.olr_ambiguity.specs.Grids.{Notes}
 use Rattle.olr_spec.proofs.Common.{map, map-append, append_assoc, append-nil, length-take-le, Reference}

@@ -1,11 +1,11 @@
 -- Each node that isn't farther by more than the slack is in the window.
-use Rattle.olr_spec.proofs.Common.{◌≡◌, ℕ, ◌+◌, ◌-◌, ◌*◌, ◌/◌, ◌<◌, ◌≤◌, ℤ, pos, negsuc, ◌+ℤ◌, ◌-ℤ◌, ◌≤ℤ◌, nat_abs, nat_lt, min, max, Bool, false, ◌||◌, IsFalse, arith, ints, sym, ap, ◌∙◌, subst, refl, ltb-false, or_parts, mul-le, Coord}
+use Rattle.olr_spec.proofs.Common.{◌≡◌, ℕ, ◌+◌, ◌-◌, ◌*◌, ◌/◌, ◌<◌, ◌≤◌, ℤ, pos, negsuc, ◌+ℤ◌, ◌-ℤ◌, ◌≤ℤ◌, nat_abs, nat_lt, min, max, false, IsFalse, arith, ints, ◌∙◌, ltb-false, or_parts, mul-le, Coord}
 use Rattle.olr_spec.proofs.Common.{w128, to_z, to_z-of_z, ◌^◌}
 use Rattle.olr_bearing.proofs.Scaling.{held}
 use Rattle.std.proofs.Math.Nat.{div-mul-le_self, le-div_iff_mul-le, mul-le-mul_left, mul-le-mul_right, min-le_right}
 use Rattle.olr_spec.specs.Recovery.{lon_apart, lat_apart}
 use Rattle.olr_spec.specs.Ambiguity.{thousandths_up, cosine_up_to, least_cosine, is_farther, usual_slack}
-use Rattle.olr_ambiguity.specs.Grids.{cell_size, last_cell, part_above, cells_from, lowest_lat, lowest_lon, IsWindow}
+use Rattle.olr_ambiguity.specs.Grids.{cell_size, last_cell, part_above, cells_from, lowest_lat, lowest_lon}
 
 -- ---- cells
 

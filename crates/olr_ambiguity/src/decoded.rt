@@ -18,8 +18,6 @@ pub(crate) fn place_at(reference: &Reference, k: usize) -> DecodedPlace
     ensures value { place_of result ≡ decoded_coord reference.now k }
     ensures placed { IsPlaced result }
 {
-    match decoded(reference, k) {
-        Some((lon, lat)) => DecodedPlace { lon, lat },
-        None => unreachable!(),
-    }
+    let (lon, lat) = decoded(reference, k).unwrap();
+    DecodedPlace { lon, lat }
 }

@@ -4,6 +4,7 @@ ghost use Rattle.std.specs.List.Sorted.{IsNonDecreasingBy};
 ghost use Rattle.olr_spec.specs.Ambiguity.{all_nodes};
 ghost use Rattle.olr_ambiguity.specs.Grids.{Ends, IsGrid, IsPlacing, Starts, cell_at, cell_of, cells_from, last_cell, lowest_lat, lowest_lon};
 
+use crate::own_line::coord_of;
 use olr_coords::Coord;
 use olr_roads::{MapRead, NodeId};
 use std::alloc::{AllocError, Global};
@@ -93,9 +94,7 @@ fn with_cells<M: MapRead>(alloc: Global, map: &M, ids: &[NodeId]) -> Result<Vec<
 {
     let mut nodes = Vec::with_capacity(alloc, ids.len())?;
     for id in ids {
-        let Some(place) = map.node(*id) else {
-            unreachable!()
-        };
+        let place = coord_of(map, *id);
         nodes.push(Placed {
             cell: cell_of(place),
             node: *id,

@@ -61,7 +61,7 @@ fn line_of<M: MapRead>(map: &M, id: LineId) -> &Line
 }
 
 /// The coordinate of a node of the map.
-fn coord_of<M: MapRead>(map: &M, node: NodeId) -> Coord
+pub(crate) fn coord_of<M: MapRead>(map: &M, node: NodeId) -> Coord
     requires { IsTrue (has_node (M.map map.now) node) }
     ensures { result ≡ coord_at (M.map map.now) node }
 {

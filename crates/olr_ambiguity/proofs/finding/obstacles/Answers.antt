@@ -1,7 +1,6 @@
-use Rattle.olr_spec.proofs.Common.{◌≡◌, ◌∙◌, ◌+◌, ◌++◌, ℕ, ℤ, List, Side, sym, ap, subst, arith, map, take, length, get_or, get_or_default}
+use Rattle.olr_spec.proofs.Common.{◌≡◌, ◌∙◌, ◌++◌, sym, ap, get_or, get_or_default}
 use Rattle.olr_spec.specs.Receiver.{decoded_coord}
-use Rattle.olr_spec.specs.Ambiguity.{Obstacle, obstacles_at, obstacles_from, side_at}
-use Rattle.olr_ambiguity.specs.Found.{found_of}
+use Rattle.olr_spec.specs.Ambiguity.{obstacles_at, side_at}
 use Rattle.olr_ambiguity.specs.OwnLines.{side_of}
 use Rattle.olr_ambiguity.specs.Places.{place_of}
 use Rattle.olr_ambiguity.proofs.Lists.{one_more, numbered}

@@ -1,4 +1,5 @@
-use Rattle.olr_spec.proofs.Common.{◌≡◌, ◌∙◌, ◌++◌, ◌∷◌, [], ◌+◌, ◌<◌, ℕ, List, Contains, IsTrue, inl, inr, is_some, unwrap_or, has, has_node, coord_at, no_coord, ap, sym, subst, arith, cases_lt, both_ways, get_or, get_or_default, Coord, Option, Some}
+use Rattle.olr_spec.proofs.Common.{◌≡◌, ◌∙◌, ◌++◌, ◌∷◌, [], ◌<◌, ℕ, List, length, Contains, IsTrue, inl, inr, has, has_node, coord_at, ap, sym, subst, arith, cases_lt, get_or, get_or_default, Map}
+use Rattle.olr_spec.specs.Ambiguity.{all_nodes}
 use Rattle.std.proofs.lemmas.List.Elements.{Contains-push, Contains-push_cases, Contains-append_left}
 use Rattle.olr_spec.proofs.ListLemmas.{at_index}
 use Rattle.olr_spec.proofs.OrderLemmas.{has-all_nodes}
@@ -7,14 +8,15 @@ use Rattle.olr_ambiguity.specs.declared.grid.Placed.{Placed}
 use Rattle.olr_ambiguity.specs.Grids.{cell_of}
 use Rattle.olr_ambiguity.proofs.grid.with_cells.Goals as goal
 
-pub unreachable-requires : goal.unreachable-requires
-unreachable-requires g c =
-    let M = g.M.MapRead.map c.args.map.now in
-    let v = c.id-item.result in
-    let known : IsTrue (has_node M v) =
-    sym (has-all_nodes M v) ∙ ap (λ (xs : List ℕ). has xs v) (sym c.requires)
-    ∙ has_from c.args.ids.now v (c.loop-id.id-index, c.loop-id-test.true, sym c.id-item.is) in
-    both_ways (has_node M v) (ap is_some (sym c.node.ensures ∙ c.in_default.is)) known
+-- each of these numbers is that of a node
+known : (M : Map) (ids : List ℕ) (i v : ℕ) → ids ≡ all_nodes M → i < length ids → v ≡ get_or ids i v → IsTrue (has_node M v)
+known M ids i v all within is =
+    sym (has-all_nodes M v) ∙ ap (λ (xs : List ℕ). has xs v) (sym all) ∙ has_from ids v (i, within, sym is)
+
+pub coord_of-place-requires : goal.coord_of-place-requires
+coord_of-place-requires g c =
+    known (g.M.MapRead.map c.args.map.now) c.args.ids.now c.loop-id.id-index c.id-item.result c.requires c.loop-id-test.true
+    c.id-item.is
 
 pub loop-id-preserved : goal.loop-id-preserved
 loop-id-preserved g c =
@@ -22,12 +24,12 @@ loop-id-preserved g c =
     let v = c.id-item.result in
     let old = c.loop-id.nodes.items in
     let new = c.push.new.self.items in
-    let e : Placed = record { cell = c.cell_of.result; node = v; place = c.in-Some.place } in
+    let e : Placed = record { cell = c.cell_of.result; node = v; place = c.coord_of-place.result } in
     let pushed : new ≡ old ++ e ∷ [] = c.in_ok-push.ensures.items in
-    let there = sym c.node.ensures ∙ c.in-Some.is in
+    let is_node = known M c.args.ids.now c.loop-id.id-index v c.requires c.loop-id-test.true c.id-item.is in
     let inv = c.loop-id.invariant in
     let right_e : IsTrue (has_node M e.node) × (e.place ≡ coord_at M e.node) × (e.cell ≡ cell_of e.place) =
-    (ap is_some there, sym (ap (λ (o : Option Coord). unwrap_or o no_coord) there), c.cell_of.ensures) in
+    (is_node, c.coord_of-place.ensures, c.cell_of.ensures) in
     record {
       right = λ f h. elim (Contains-push_cases old e f (subst (λ (es : List Placed). Contains es f) pushed h)) [
         | inl before ↦ inv.right f before

@@ -1,4 +1,4 @@
-use Rattle.olr_spec.proofs.Common.{◌≡◌, ◌≢◌, ◌==◌, ◌∙◌, List, ℕ, All, IsTrue, not, sym, ap, subst, eq-eqb, eqb-true, both_ways, has_line, leg}
+use Rattle.olr_spec.proofs.Common.{◌≢◌, ◌==◌, ◌∙◌, List, ℕ, All, IsTrue, not, sym, ap, subst, eq-eqb, eqb-true, both_ways, has_line, leg}
 use Rattle.std.specs.List.{list_any}
 use Rattle.olr_spec.specs.Ambiguity.{is_farther, usual_slack, is_outdone_for_all}
 use Rattle.olr_ambiguity.specs.OwnLines.{side_of}

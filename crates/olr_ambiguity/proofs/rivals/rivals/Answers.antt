@@ -1,4 +1,4 @@
-use Rattle.olr_spec.proofs.Common.{◌≡◌, ◌≤◌, false, subst, sym, arith, coord_at, Coord}
+use Rattle.olr_spec.proofs.Common.{◌≡◌, false, subst, sym, arith, coord_at, Coord}
 use Rattle.olr_spec.specs.Ambiguity.{is_farther, is_rival, usual_slack}
 use Rattle.olr_ambiguity.specs.OwnLines.{side_of}
 use Rattle.olr_ambiguity.specs.Places.{place_of}
