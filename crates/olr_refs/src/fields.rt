@@ -44,10 +44,7 @@ fn difference(from: i64, to: i64) -> i16
     requires fits { IsTrue (fits16 (relative from to)) }
     ensures { result ≡ relative from to }
 {
-    let Some(difference) = rel16(from, to) else {
-        unreachable!()
-    };
-    difference
+    rel16(from, to).unwrap()
 }
 
 /// The differences of longitude and latitude from one coordinate to another, in relative steps.
