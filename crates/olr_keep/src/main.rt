@@ -5,7 +5,7 @@
 
 use olr_journal::{HostDisk, LogFile, LogFolder, OpenError, Unknown, open_place, set_aside};
 use olr_run::{
-    Buffered, RunFault, WRONG_ARGUMENTS, asked_file, asked_log, report_fault, run_program,
+    Buffered, RunFault, WRONG_ARGUMENTS, asked_file, asked_log, has_size, report_fault, run_program,
     run_program_with_log,
 };
 use std::process::ExitCode;
@@ -52,12 +52,13 @@ fn opened(file: Option<io::Result<fs::File>>) -> io::Result<fs::File> {
 }
 
 /// Carries out the commands of the file that the arguments name, and then those of standard input. With a log, it begins
-/// with what the log says, and keeps what it accepts there; the file is opened first, so that no log is made if it can't be.
+/// with what the log says, and keeps what it accepts there; the file is opened first, and the size looked at, so that no log is
+/// made if the arguments can't be carried out.
 fn run(rt: &HostRuntime, arguments: &[String]) -> u8 {
     let Ok(mut output) = Buffered::new(rt.alloc(), io::writer(rt)) else {
         return report_fault(RunFault::Memory, &mut rt.stderr());
     };
-    let Some((name, is_new)) = asked_log(rt.alloc(), arguments) else {
+    let Ok(Some((name, is_new))) = asked_log(rt.alloc(), arguments) else {
         return run_program(
             rt.alloc(),
             arguments,
@@ -67,12 +68,16 @@ fn run(rt: &HostRuntime, arguments: &[String]) -> u8 {
             &mut rt.stderr(),
         );
     };
-    let file = match asked_file(rt.alloc(), arguments) {
-        Some(name) => Some(fs::open(rt, name)),
-        None => None,
+    let (Ok(file), Ok(has_size)) = (
+        asked_file(rt.alloc(), arguments),
+        has_size(rt.alloc(), arguments),
+    ) else {
+        return report_fault(RunFault::Memory, &mut rt.stderr());
     };
+    let file = file.map(|name| fs::open(rt, name));
     let log = match &file {
         Some(Err(_)) => Err(OpenError::Missing),
+        _ if !has_size => Err(OpenError::Missing),
         _ => open_log(rt, name, is_new),
     };
     let (status, log) = run_program_with_log(

@@ -1,6 +1,6 @@
 //! The program with a log.
 
-ghost use Rattle.std.specs.Prelude.{◌≡◌, ◌≤◌, ◌⊎◌, ℕ, List, [], Ok, Err, true, length, IfOk, IfErr, IsTrue, is_ok};
+ghost use Rattle.std.specs.Prelude.{◌≡◌, ◌≤◌, ◌⊎◌, ℕ, List, [], Ok, Err, true, length, IfOk, IfErr, IsSome, IsTrue, None, is_ok, option_map};
 ghost use Rattle.olr_arguments.specs.Opens.{Opens};
 ghost use Rattle.olr_arguments.specs.Options.{options_of};
 ghost use Rattle.olr_journal.specs.Logs.{kept_of, left_of};
@@ -54,8 +54,10 @@ fn size(text: &str) -> Option<usize> {
     count.checked_mul(unit)
 }
 
-/// The least length of a log that is replaced; none is if no size was asked for.
-fn renewal_length(asked: Option<&str>) -> Option<usize> {
+/// The least length of a log that is replaced; none is if no size was asked for. None if what was asked for is no size.
+pub(crate) fn renewal_length(asked: Option<&str>) -> Option<usize>
+    ensures { option_map (λ text. text.now) asked.entry ≡ None → IsSome result }
+{
     match asked {
         Some(text) => size(text),
         None => Some(usize::MAX),
@@ -281,15 +283,15 @@ pub fn with_log<
         let _ = errors.write_all(b"olr-keep: cannot open the command file\n");
         return (NO_FILE, log.ok());
     };
-    let log = match log {
-        Ok(log) => log,
-        Err(error) => return (report_unopened(name, error, errors), None),
-    };
     let Some(renewed_from) = renewal_length(asked.compact_at) else {
         let _ = errors.write_all(
             b"olr-keep: --compact-at takes bytes, or a number with K, M or G, as 500M\n",
         );
-        return (WRONG_ARGUMENTS, Some(log));
+        return (WRONG_ARGUMENTS, log.ok());
+    };
+    let log = match log {
+        Ok(log) => log,
+        Err(error) => return (report_unopened(name, error, errors), None),
     };
     let run = Asked {
         name,
