@@ -3,6 +3,7 @@
 //! Commands are read as CSV records from a file and from standard input. Replies are written to standard output.
 #![tactic(auto)]
 
+use olr_arguments::OptionsFault;
 use olr_journal::{HostDisk, LogFile, LogFolder, OpenError, Unknown, open_place, set_aside};
 use olr_run::{
     Buffered, RunFault, WRONG_ARGUMENTS, asked_file, asked_log, has_size, report_fault, run_program,
@@ -58,7 +59,12 @@ fn run(rt: &HostRuntime, arguments: &[String]) -> u8 {
     let Ok(mut output) = Buffered::new(rt.alloc(), io::writer(rt)) else {
         return report_fault(RunFault::Memory, &mut rt.stderr());
     };
-    let Ok(Some((name, is_new))) = asked_log(rt.alloc(), arguments) else {
+    let asked = match asked_log(rt.alloc(), arguments) {
+        Ok(asked) => asked,
+        Err(OptionsFault::Memory) => return report_fault(RunFault::Memory, &mut rt.stderr()),
+        Err(_) => None,
+    };
+    let Some((name, is_new)) = asked else {
         return run_program(
             rt.alloc(),
             arguments,
