@@ -172,14 +172,14 @@ pub record IsEmpty (b : Batch) : Type 0 where
   pub lines : lines_of b.touched ≡ []
   pub changed : changed_of b.touched ≡ []
 
-module _ (roads : RoadMap) (is : List Item) (b : Batch) (near : DistanceBounds) (h : IsKeptRight roads is None near)
+module _ (roads : RoadMap) (is : List Item) (b : Batch) (bounds : DistanceBounds) (h : IsKeptRight roads is None bounds)
     (e : IsEmpty b) where
   same_before : map_before roads b.log ≡ map_of roads
   same_before = ap (made_all (map_of roads)) e.log
 
-  pub begun_held : IsKeptRight roads is (Some b) near
+  pub begun_held : IsKeptRight roads is (Some b) bounds
   begun_held =
-      kept_moved roads roads is None (Some b) near same_before (record {
+      kept_moved roads roads is None (Some b) bounds same_before (record {
         undo = (
           subst (CanMakeAll (map_of roads) (room_of roads)) (sym e.log) tt,
           let nodes : b.log.nodes ≡ 0 = b.log.nodes_counted ∙ ap all_node_puts e.log in

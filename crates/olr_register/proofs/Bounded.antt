@@ -6,17 +6,17 @@ use Rattle.olr_near.specs.Bounds.{bound_of, IsUnderWay}
 use Rattle.olr_list.specs.Origins.{AreBoundsOf}
 
 -- unknown bounds say nothing
-pub bounded_unknown : (M : Map) (is : List Item) (near : DistanceBounds) → IsFalse near.known → HasBounds M is near
-bounded_unknown M is near off =
+pub bounded_unknown : (M : Map) (is : List Item) (bounds : DistanceBounds) → IsFalse bounds.known → HasBounds M is bounds
+bounded_unknown M is bounds off =
     record {
       under_way = λ on. let never : ⊥ = cc (on, off) in absurd never;
       sources = λ v b on. let never : ⊥ = cc (on, off) in absurd never;
     }
 
 -- no node has a bound, and no coverage query begins at a node
-pub under_way_without : (M : Map) (near : DistanceBounds) → ((v : ℕ) → bound_of near v ≡ None) → IsUnderWay M near
-under_way_without M near none known u d at = let no : ◌≡◌ {A = Option ℕ} None (Some d) = sym (none u) ∙ at in absurd cc
+pub under_way_without : (M : Map) (bounds : DistanceBounds) → ((v : ℕ) → bound_of bounds v ≡ None) → IsUnderWay M bounds
+under_way_without M bounds none known u d at = let no : ◌≡◌ {A = Option ℕ} None (Some d) = sym (none u) ∙ at in absurd cc
 
 -- bounds that are right need not be settled
-pub settled_bounds : {M : Map} {is : List Item} {near : DistanceBounds} → AreBoundsOf M near is → HasBounds M is near
+pub settled_bounds : {M : Map} {is : List Item} {bounds : DistanceBounds} → AreBoundsOf M bounds is → HasBounds M is bounds
 settled_bounds h = record { under_way = λ known u d at. inl (h.right known u d at); sources = h.sources }

@@ -119,15 +119,15 @@ is_before M N T X C is noted sound paths made =
     }
 
 -- what a commit renews
-pub can_commit : (roads : RoadMap) (is : List Item) (b : Batch) (near : DistanceBounds) →
-    IsKeptRight roads is (Some b) near →
-    CanRenew (map_before roads b.log) (map_of roads) is (under_overlay is b.overlay) b.touched near
-can_commit roads is b near h =
+pub can_commit : (roads : RoadMap) (is : List Item) (b : Batch) (bounds : DistanceBounds) →
+    IsKeptRight roads is (Some b) bounds →
+    CanRenew (map_before roads b.log) (map_of roads) is (under_overlay is b.overlay) b.touched bounds
+can_commit roads is b bounds h =
     let held = h.register.held in
     record {
       names = held.sound.names;
       follows = held.follows;
-      bounds = record { under_way = h.bounded.under_way; sources = λ l on. h.bounded.sources l (held.begins l on) };
+      bounded = record { under_way = h.bounded.under_way; sources = λ l on. h.bounded.sources l (held.begins l on) };
       before =
           is_before (map_before roads b.log) (map_of roads) (nodes_of b.touched) (lines_of b.touched)
           (changed_of b.touched) (under_overlay is b.overlay) held.noted h.register.content.map held.sound.paths held.made;

@@ -91,11 +91,11 @@ module _ (r : Inside) {x : Registered} (view : of_parts r.roads (items r.paths) 
       ((state (content_on (map_of later) js) None, (refl, tt), (ap at_once is_made, reply)), raised))
       counts same)
 
-  module _ (h : IsKeptRight r.roads is r.batch r.near) where
-    right : IsKeptRight r.roads is None r.near
-    right = subst (λ (o : Option Open). IsKeptRight r.roads is o r.near) shut h
+  module _ (h : IsKeptRight r.roads is r.batch r.bounds) where
+    right : IsKeptRight r.roads is None r.bounds
+    right = subst (λ (o : Option Open). IsKeptRight r.roads is o r.bounds) shut h
 
-    pub kept_bounds : HasBounds M is r.near
+    pub kept_bounds : HasBounds M is r.bounds
     kept_bounds = right.bounded
 
     -- where nothing changes but the bounds
@@ -103,7 +103,7 @@ module _ (r : Inside) {x : Registered} (view : of_parts r.roads (items r.paths) 
         HasBounds (map_of later) js f → IsKeptRight later js r.batch f
     same_right later js f map list bounded =
         rw shut (record {
-          register = rw list (kept_moved r.roads later is None None r.near map tt right).register;
+          register = rw list (kept_moved r.roads later is None None r.bounds map tt right).register;
           bounded = bounded;
         })
 
@@ -139,11 +139,11 @@ module _ (r : Inside) {x : Registered} (view : of_parts r.roads (items r.paths) 
           (λ off. let no : true ≡ false = off in absurd cc))
 
       module _ (t : ChangeSet) (noted : IsNotedOf M e t) where
-        pub can_edit : CanRenew M (map_of later) is is t r.near
+        pub can_edit : CanRenew M (map_of later) is is t r.bounds
         can_edit = record {
           names = right.register.content.names;
           follows = follows_self is right.register.content.names;
-          bounds = right.bounded;
+          bounded = right.bounded;
           before =
               is_before M (map_of later) (nodes_of t) (lines_of t) (changed_of t) is
               (noted_edit M (map_of later) e (nodes_of t) (lines_of t) (changed_of t) done noted.nodes
@@ -183,9 +183,9 @@ module _ (r : Inside) {x : Registered} (view : of_parts r.roads (items r.paths) 
       abbrev left : List Item
       left = filter (λ i. not (same_name i.name name)) is
 
-      pub drop_right : has_name is name ≡ true → js ≡ left → IsKeptRight r.roads js r.batch r.near
+      pub drop_right : has_name is name ≡ true → js ≡ left → IsKeptRight r.roads js r.batch r.bounds
       drop_right there list =
-          rw list (still_right (Drop_path name) r.roads left r.near tt (drop_ok M is name there)
+          rw list (still_right (Drop_path name) r.roads left r.bounds tt (drop_ok M is name there)
           (each_left (each_encoded M) (λ i. not (same_name i.name name)) is right.register.made) (record {
             under_way = right.bounded.under_way;
             sources = λ v on. right.bounded.sources v (begins_drop (λ i. not (same_name i.name name)) is v on);

@@ -17,15 +17,15 @@ abbrev pub of_parts : RoadMap → List Item → Option Open → Work → ℕ →
 of_parts roads is b w n = record { kept = kept_of roads is b; work = w; retained = n }
 
 -- what is true of a register, on the same map and list with another batch
-pub kept_moved : (old new : RoadMap) (is : List Item) (o p : Option Open) (near : DistanceBounds) →
-    map_kept new p ≡ map_kept old o → IfSome p (IsHeld new is) → IsKeptRight old is o near → IsKeptRight new is p near
-kept_moved old new is o p near same held h = record {
+pub kept_moved : (old new : RoadMap) (is : List Item) (o p : Option Open) (bounds : DistanceBounds) →
+    map_kept new p ≡ map_kept old o → IfSome p (IsHeld new is) → IsKeptRight old is o bounds → IsKeptRight new is p bounds
+kept_moved old new is o p bounds same held h = record {
   register = record {
     content = subst (λ (M : Map). IsContent (content_on M is)) (sym same) h.register.content;
     made = subst (λ (M : Map). AreEncodings M is) (sym same) h.register.made;
     held = held;
   };
-  bounded = subst (λ (M : Map). HasBounds M is near) (sym same) h.bounded;
+  bounded = subst (λ (M : Map). HasBounds M is bounds) (sym same) h.bounded;
 }
 
 -- P holds of each state that they represent

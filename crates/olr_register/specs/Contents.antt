@@ -3,11 +3,11 @@
 --     known_in made      the known coverage queries of results, if there are some
 --     AreEditsNoted M N T X C      what is recorded of edits that lead from M to N
 --     IsHeld, IsRegister      what is true of an open batch, and of map, list and batch
---     HasBounds M is near      each coverage query of the list is a source of the bounds, and once they are settled they are
+--     HasBounds M is bounds      each coverage query of the list is a source of the bounds, and once they are settled they are
 --         right on the map
 --     IsKeptRight      what is true of the whole
 --     under_given is o      the list under the changes of the overlay, if one is given
---     CanRenew M N is ls t near      the list ls, which the changes of a batch made of the list is, can be renewed after
+--     CanRenew M N is ls t bounds      the list ls, which the changes of a batch made of the list is, can be renewed after
 --         edits t that led from M to N
 use Rattle.std.specs.Prelude.{ℕ, ◌≤◌, List, [], map, Contains, Option, Some, None, is_none, IfSome, IsTrue}
 use Rattle.std.specs.Borrow.{Bor}
@@ -104,20 +104,20 @@ pub record IsRegister (roads : RoadMap) (is : List Item) (batch : Option Batch) 
   pub made : AreEncodings (map_kept roads batch) is
   pub held : IfSome batch (IsHeld roads is)
 
-pub record HasBounds (M : Map) (is : List Item) (near : DistanceBounds) : Type 0 where
-  pub under_way : IsUnderWay M near
-  pub sources : (l : CoverageQuery) → Begins is l → IsSource near l.from l.within
+pub record HasBounds (M : Map) (is : List Item) (bounds : DistanceBounds) : Type 0 where
+  pub under_way : IsUnderWay M bounds
+  pub sources : (l : CoverageQuery) → Begins is l → IsSource bounds l.from l.within
 
-pub record IsKeptRight (roads : RoadMap) (is : List Item) (batch : Option Batch) (near : DistanceBounds) : Type 0 where
+pub record IsKeptRight (roads : RoadMap) (is : List Item) (batch : Option Batch) (bounds : DistanceBounds) : Type 0 where
   pub register : IsRegister roads is batch
-  pub bounded : HasBounds (map_kept roads batch) is near
+  pub bounded : HasBounds (map_kept roads batch) is bounds
 
 abbrev pub under_given : List Item → Option (Bor Overlay) → List Item
 under_given is None = is
 under_given is (Some o) = under_overlay is o.now
 
-pub record CanRenew (M N : Map) (is ls : List Item) (t : ChangeSet) (near : DistanceBounds) : Type 0 where
+pub record CanRenew (M N : Map) (is ls : List Item) (t : ChangeSet) (bounds : DistanceBounds) : Type 0 where
   pub names : NamesDiffer (all_named ls)
   pub follows : Follows is ls
-  pub bounds : HasBounds M ls near
+  pub bounded : HasBounds M ls bounds
   pub before : IsBefore M N (nodes_of t) (lines_of t) (changed_of t) ls

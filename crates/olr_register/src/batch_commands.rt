@@ -63,7 +63,7 @@ impl Register {
             &mut self.paths,
             Some(&batch.overlay),
             &batch.touched,
-            &mut self.near,
+            &mut self.bounds,
             &mut self.searches,
         )?;
         // The log is dropped with the batch: its edits are permanent.

@@ -20,48 +20,48 @@ use std::alloc::{AllocError, Global};
 const LEAST: usize = 65_536;
 
 /// Makes the bounds right on the map after edits that touched these nodes. If an allocation fails, they are unknown.
-fn settle_bounds(near: &mut DistanceBounds, roads: &RoadMap, touched: &ChangeSet)
-    ensures { (M : Map) (is : List Item) → SameBut (nodes_of touched.now) M (map_of roads.now) → HasBounds M is near.old
-        → AreBoundsOf (map_of roads.now) near.new is }
+fn settle_bounds(bounds: &mut DistanceBounds, roads: &RoadMap, touched: &ChangeSet)
+    ensures { (M : Map) (is : List Item) → SameBut (nodes_of touched.now) M (map_of roads.now) → HasBounds M is bounds.old
+        → AreBoundsOf (map_of roads.now) bounds.new is }
 {
-    let _ = near.reopen(touched.nodes());
-    let _ = near.settle(roads);
+    let _ = bounds.reopen(touched.nodes());
+    let _ = bounds.settle(roads);
 }
 
 /// Adds coverage queries, whose lines are followed when the bounds are settled. If an allocation fails, the bounds are
 /// unknown.
-fn add_sources(near: &mut DistanceBounds, queries: &[CoverageQuery])
-    ensures under_way { (M : Map) → IsUnderWay M near.old → IsUnderWay M near.new }
-    ensures before { (s w : ℕ) → IsSource near.old s w → IsSource near.new s w }
-    ensures sources { (l : QueryRecord) → Contains queries.now l → IsSource near.new l.from l.within }
+fn add_sources(bounds: &mut DistanceBounds, queries: &[CoverageQuery])
+    ensures under_way { (M : Map) → IsUnderWay M bounds.old → IsUnderWay M bounds.new }
+    ensures before { (s w : ℕ) → IsSource bounds.old s w → IsSource bounds.new s w }
+    ensures sources { (l : QueryRecord) → Contains queries.now l → IsSource bounds.new l.from l.within }
 {
-    if !near.is_known() {
+    if !bounds.is_known() {
         return;
     }
     for query in queries {
-        let _ = near.add(query.from, query.within);
+        let _ = bounds.add(query.from, query.within);
     }
 }
 
 /// Begins the bounds from scratch, with a source where each coverage query of the list begins. If an allocation fails,
 /// they are unknown.
 #[inline(never)]
-fn bounds_from_scratch(alloc: Global, near: &mut DistanceBounds, paths: &PathList)
-    ensures { (M : Map) → HasBounds M (items paths.now) near.new }
+fn bounds_from_scratch(alloc: Global, bounds: &mut DistanceBounds, paths: &PathList)
+    ensures { (M : Map) → HasBounds M (items paths.now) bounds.new }
 {
     let mut new_origins = Vec::new(alloc);
     match paths.begins(&mut new_origins) {
         Ok(()) => {
-            near.clear();
-            add_sources(near, &new_origins);
+            bounds.clear();
+            add_sources(bounds, &new_origins);
         }
-        Err(_) => near.forget(),
+        Err(_) => bounds.forget(),
     }
 }
 
 /// Whether searches that found no path have labelled more nodes in all than it costs to rebuild the bounds.
-fn is_worn(near: &DistanceBounds, paths: &PathList, searches: &Searches) -> bool {
-    let cost = near.len().saturating_add(paths.len()).saturating_mul(4);
+fn is_worn(bounds: &DistanceBounds, paths: &PathList, searches: &Searches) -> bool {
+    let cost = bounds.len().saturating_add(paths.len()).saturating_mul(4);
     searches.wasted_labels() > cost.saturating_add(LEAST)
 }
 
@@ -69,20 +69,20 @@ fn is_worn(near: &DistanceBounds, paths: &PathList, searches: &Searches) -> bool
 /// searches that found no path have cost more than that would. The next edit settles them.
 pub(crate) fn renew_bounds(
     alloc: Global,
-    near: &mut DistanceBounds,
+    bounds: &mut DistanceBounds,
     paths: &PathList,
     searches: &mut Searches,
 )
-    ensures { (M : Map) (is : List Item) → HasBounds M is near.old
+    ensures { (M : Map) (is : List Item) → HasBounds M is bounds.old
         → ((l : QueryRecord) → Begins (items paths.now) l → Begins is l ⊎ Contains (new_origins_in searches.old) l)
-        → HasBounds M (items paths.now) near.new }
+        → HasBounds M (items paths.now) bounds.new }
 {
-    add_sources(near, searches.new_origins());
-    if !is_worn(near, paths, searches) {
+    add_sources(bounds, searches.new_origins());
+    if !is_worn(bounds, paths, searches) {
         return;
     }
     searches.set_back();
-    bounds_from_scratch(alloc, near, paths);
+    bounds_from_scratch(alloc, bounds, paths);
 }
 
 /// Encodes the affected paths again after edits that led to the map, with the changes of an overlay if there is one, and
@@ -95,34 +95,34 @@ pub(crate) fn renew(
     paths: &mut PathList,
     overlay: Option<&Overlay>,
     touched: &ChangeSet,
-    near: &mut DistanceBounds,
+    bounds: &mut DistanceBounds,
     searches: &mut Searches,
 ) -> Result<Renewed, AllocError>
     requires { (M : Map) × CanRenew M (map_of roads.now) (items paths.old)
-        (under_given (items paths.old) overlay) touched.now near.old }
+        (under_given (items paths.old) overlay) touched.now bounds.old }
     ensures renewed { IfOk result (IsRenewal (map_of roads.now) touched.now (items paths.old)
         (under_given (items paths.old) overlay.entry) (items paths.new)) }
-    ensures bounded { OnOk result (HasBounds (map_of roads.now) (items paths.new) near.new) }
+    ensures bounded { OnOk result (HasBounds (map_of roads.now) (items paths.new) bounds.new) }
     ensures err { OnErr result (items paths.new ≡ items paths.old) }
-    ensures unknown { OnErr result (IsFalse near.new.known) }
+    ensures unknown { OnErr result (IsFalse bounds.new.known) }
 {
-    settle_bounds(near, roads, touched);
+    settle_bounds(bounds, roads, touched);
     if overlay.is_none()
-        && let Some(renewed) = renew_unaffected(paths, alloc, touched, near)
+        && let Some(renewed) = renew_unaffected(paths, alloc, touched, bounds)
     {
         return Ok(renewed);
     }
     let none = Overlay::new(alloc);
     let overlay = overlay.unwrap_or(&none);
-    let renewed = renew_over(paths, alloc, roads, overlay, touched, near, searches);
+    let renewed = renew_over(paths, alloc, roads, overlay, touched, bounds, searches);
     drop(none);
     match renewed {
         Ok(renewed) => {
-            renew_bounds(alloc, near, paths, searches);
+            renew_bounds(alloc, bounds, paths, searches);
             Ok(renewed)
         }
         Err(error) => {
-            near.forget();
+            bounds.forget();
             Err(error)
         }
     }

@@ -36,13 +36,13 @@ impl Register {
         }
         let around = ChangeSet::around(self.alloc, &self.roads, nodes)?;
         // If an allocation fails, the bounds are unknown, and the search goes as far as it may.
-        let _ = self.near.settle(&self.roads);
+        let _ = self.bounds.settle(&self.roads);
         let names = affected_names(
             self.alloc,
             &self.roads,
             &self.paths,
             &around,
-            &self.near,
+            &self.bounds,
             &mut self.searches,
         )?;
         Ok(Reply::Names(names))

@@ -67,7 +67,7 @@ impl Register {
             Err(fault) => return Err(CommandFault::Map(fault)),
         };
         self.roads.make_kept(edit, &plan)?;
-        self.near.clear();
+        self.bounds.clear();
         Ok(Reply::Paths(Vec::new(self.alloc)))
     }
 
@@ -89,7 +89,7 @@ impl Register {
             &mut self.paths,
             None,
             &self.touched,
-            &mut self.near,
+            &mut self.bounds,
             &mut self.searches,
         );
         let Ok(renewed) = renewed else {

@@ -24,7 +24,7 @@ impl Register {
         let path = path_unless(self.alloc, taken, CommandFault::PathExists, parts)?;
         let (heap, roads) = (self.alloc, &self.roads);
         let (entries, work) = add(&mut self.paths, heap, roads, name, path, &mut self.searches)?;
-        renew_bounds(heap, &mut self.near, &self.paths, &mut self.searches);
+        renew_bounds(heap, &mut self.bounds, &self.paths, &mut self.searches);
         self.work = self.work.plus(work);
         Ok(Reply::Paths(entries))
     }
@@ -39,7 +39,7 @@ impl Register {
         let path = path_unless(self.alloc, missing, CommandFault::NoPath, parts)?;
         let (heap, roads) = (self.alloc, &self.roads);
         let (entries, work) = set(&mut self.paths, heap, roads, name, path, &mut self.searches)?;
-        renew_bounds(heap, &mut self.near, &self.paths, &mut self.searches);
+        renew_bounds(heap, &mut self.bounds, &self.paths, &mut self.searches);
         self.work = self.work.plus(work);
         Ok(Reply::Paths(entries))
     }

@@ -25,7 +25,7 @@ pub struct Register {
     pub(crate) batch: Option<Batch>,
     /// Distance bounds, which show that no coverage query begins near an edit. They are settled when an edit needs them.
     /// While a batch is open, on the map before it.
-    pub(crate) near: DistanceBounds,
+    pub(crate) bounds: DistanceBounds,
 }
 
 impl Model for Register {
@@ -39,7 +39,7 @@ impl Model for Register {
 
     ghost view = { λ r. record { kept = kept_of r.roads (items r.paths) r.batch; work = r.work; retained = r.retained } };
 
-    ghost invariant = { λ r. IsKeptRight r.roads (items r.paths) r.batch r.near };
+    ghost invariant = { λ r. IsKeptRight r.roads (items r.paths) r.batch r.bounds };
 }
 
 // Written out: a derived drop is proved again in each crate that ends a register.
@@ -54,14 +54,14 @@ impl Drop for Register {
             work: _,
             retained: _,
             batch,
-            near,
+            bounds,
         } = self;
         drop(roads);
         drop(paths);
         drop(searches);
         drop(touched);
         drop(batch);
-        drop(near);
+        drop(bounds);
     }
 }
 
@@ -85,7 +85,7 @@ impl Register {
             work: Work::none(),
             retained: 0,
             batch: None,
-            near: DistanceBounds::new(alloc),
+            bounds: DistanceBounds::new(alloc),
         }
     }
 

@@ -20,7 +20,7 @@ loop-query-init c = record { under_way = λ M h. h; before = λ s w h. h; added 
 pub loop-query-preserved : goal.loop-query-preserved
 loop-query-preserved c =
     let inv = c.loop-query.invariant in
-    let P : CoverageQuery → Type 0 = λ k. IsSource c.loop-query.near k.from k.within in
+    let P : CoverageQuery → Type 0 = λ k. IsSource c.loop-query.bounds k.from k.within in
     let Q : CoverageQuery → Type 0 = λ k. IsSource c.add.new.self k.from k.within in
     let item : CoverageQuery = c.query-item.result in
     record {
@@ -36,7 +36,7 @@ loop-query-preserved c =
 pub returns : goal.returns
 returns c =
     let inv = c.loop-query.invariant in
-    let P : CoverageQuery → Type 0 = λ k. IsSource c.loop-query.near k.from k.within in
+    let P : CoverageQuery → Type 0 = λ k. IsSource c.loop-query.bounds k.from k.within in
     let all : All P c.args.queries.now =
     subst (λ (ls : List CoverageQuery). All P ls)
     (take_all c.loop-query.query-index c.args.queries.now (omega (arith, c.loop-query-test.false))) inv.added in

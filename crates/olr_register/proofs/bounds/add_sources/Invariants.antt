@@ -5,7 +5,7 @@ use Rattle.olr_register.proofs.bounds.add_sources.Given as goal
 -- no source is lost, and those so far are among them
 abbrev pub invariant-loop-query : goal.invariant-loop-query
 invariant-loop-query l = record {
-  under_way : (M : Map) → IsUnderWay M l.initial.near → IsUnderWay M l.near;
-  before : (s w : ℕ) → IsSource l.initial.near s w → IsSource l.near s w;
-  added : All (λ k. IsSource l.near k.from k.within) (take l.query-index l.queries);
+  under_way : (M : Map) → IsUnderWay M l.initial.bounds → IsUnderWay M l.bounds;
+  before : (s w : ℕ) → IsSource l.initial.bounds s w → IsSource l.bounds s w;
+  added : All (λ k. IsSource l.bounds k.from k.within) (take l.query-index l.queries);
 }

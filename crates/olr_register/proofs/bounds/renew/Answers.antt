@@ -21,7 +21,7 @@ renew_over-renewed-requires c =
     record {
       names = rw same h.names;
       follows = rw same h.follows;
-      bounds = rw same (c.settle_bounds.ensures c.requires.0 _ h.before.difference.nodes h.bounds);
+      bounds = rw same (c.settle_bounds.ensures c.requires.0 _ h.before.difference.nodes h.bounded);
       before = (c.requires.0, rw same h.before);
     }
 
@@ -30,13 +30,13 @@ returns-clause-renewed c =
     let none = none_of c.args.overlay (c.if-is_none.ensures) in
     let h = c.requires.1 in
     rw none (c.in-Some.ensures c.requires.0 (map_of c.args.roads.now) c.args.roads.now.kept.sound (rw none at h.before)
-    (c.settle_bounds.ensures c.requires.0 _ h.before.difference.nodes (rw none at h.bounds)))
+    (c.settle_bounds.ensures c.requires.0 _ h.before.difference.nodes (rw none at h.bounded)))
 
 pub returns-clause-bounded : goal.returns-clause-bounded
 returns-clause-bounded c =
     let h = c.requires.1 in
     settled_bounds (c.settle_bounds.ensures c.requires.0 _ h.before.difference.nodes
-    (rw (none_of c.args.overlay (c.if-is_none.ensures)) at h.bounds))
+    (rw (none_of c.args.overlay (c.if-is_none.ensures)) at h.bounded))
 
 pub returns-in-Ok-clause-renewed : goal.returns-in-Ok-clause-renewed
 returns-in-Ok-clause-renewed c =
@@ -47,6 +47,6 @@ pub returns-in-Ok-clause-bounded : goal.returns-in-Ok-clause-bounded
 returns-in-Ok-clause-bounded c =
     let is = items c.args.paths.now in
     let h = c.requires.1 in
-    let right = c.settle_bounds.ensures c.requires.0 _ h.before.difference.nodes h.bounds in
+    let right = c.settle_bounds.ensures c.requires.0 _ h.before.difference.nodes h.bounded in
     c.renew_bounds.ensures (map_of c.args.roads.now) _ (settled_bounds right)
     (rw (given_is is c.args.overlay _ _ c.unwrap_or-overlay.ensures (c.new-none.ensures is)) at c.in-Ok.ensures.new_origins)

@@ -9,7 +9,7 @@ use Rattle.olr_register.proofs.register.Register.abort.Goals as goal
 pub undo_all-requires : goal.undo_all-requires
 undo_all-requires c =
     let s = c.self.inside in
-    let right : IsKeptRight s.roads (items s.paths) (Some c.in-Some.field-0) s.near =
+    let right : IsKeptRight s.roads (items s.paths) (Some c.in-Some.field-0) s.bounds =
     rw c.in-Some.ensures.value c.self.invariant in
     right.register.held.undo
 
@@ -17,7 +17,7 @@ pub invariant_of-self : goal.invariant_of-self
 invariant_of-self c =
     let s = c.self.inside in
     rw c.take.ensures.after
-    (kept_moved s.roads c.undo_all.new.self (items s.paths) (Some c.in-Some.field-0) None s.near c.undo_all.ensures tt
+    (kept_moved s.roads c.undo_all.new.self (items s.paths) (Some c.in-Some.field-0) None s.bounds c.undo_all.ensures tt
     (rw c.in-Some.ensures.value c.self.invariant))
 
 pub returns-in-Some : goal.returns-in-Some

@@ -22,7 +22,7 @@ returns-in_err-grid c =
 pub all_ambiguities-requires-clause-made : goal.all_ambiguities-requires-clause-made
 all_ambiguities-requires-clause-made c =
     let r = c.self.inside in
-    (subst (λ (o : Option Batch). IsKeptRight r.roads (items r.paths) o r.near) (none_of r.batch (sym c.if-is_some.ensures))
+    (subst (λ (o : Option Batch). IsKeptRight r.roads (items r.paths) o r.bounds) (none_of r.batch (sym c.if-is_some.ensures))
     c.self.invariant).register.made
 
 pub all_ambiguities-requires-clause-paths : goal.all_ambiguities-requires-clause-paths

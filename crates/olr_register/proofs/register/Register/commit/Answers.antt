@@ -27,13 +27,13 @@ pub renew-requires : goal.renew-requires
 renew-requires c =
     let s = c.self.inside in (
       map_before s.roads c.in-Some.batch.log,
-      can_commit s.roads (items s.paths) c.in-Some.batch s.near (rw (← c.in-Some.is) c.self.invariant),
+      can_commit s.roads (items s.paths) c.in-Some.batch s.bounds (rw (← c.in-Some.is) c.self.invariant),
     )
 
 pub invariant_of-self-2 : goal.invariant_of-self-2
 invariant_of-self-2 c =
     let s = c.self.inside in
-    let right : IsKeptRight s.roads (items s.paths) (Some c.in-Some.batch) s.near = rw (← c.in-Some.is) c.self.invariant in
+    let right : IsKeptRight s.roads (items s.paths) (Some c.in-Some.batch) s.bounds = rw (← c.in-Some.is) c.self.invariant in
     let e = c.in_ok-renewed.ensures in
     rw c.take.ensures.after (record {
       register = record {
@@ -53,10 +53,10 @@ returns c =
     let b = c.in-Some.batch in
     let M = map_of s.roads in
     let e = c.in_ok-renewed.ensures in
-    let right : IsKeptRight s.roads is (Some b) s.near = rw (← c.in-Some.is) c.self.invariant in
+    let right : IsKeptRight s.roads is (Some b) s.bounds = rw (← c.in-Some.is) c.self.invariant in
     let old : Content = content_on (map_before s.roads b.log) is in
     let new : Content = content_on M js in
-    let count = e.renewed.counted old.map (can_commit s.roads is b s.near right).before in
+    let count = e.renewed.counted old.map (can_commit s.roads is b s.bounds right).before in
     let n = c.in_ok-renewed.renewed in
     let r = reply.Paths n.entries in
     let later : Registered = of_parts s.roads js None (raised_work s.work n.work) (raised_count s.retained n.retained) in

@@ -42,7 +42,7 @@ affected_names-requires-clause-before c =
     let r = c.self.inside in
     let t = c.in_ok-around.around in
     let right =
-    subst (λ (o : Option Batch). IsKeptRight r.roads (items r.paths) o r.near) (none_of r.batch (sym c.if-is_some.ensures))
+    subst (λ (o : Option Batch). IsKeptRight r.roads (items r.paths) o r.bounds) (none_of r.batch (sym c.if-is_some.ensures))
     c.self.invariant in
     is_before (map_of r.roads) (map_of r.roads) (nodes_of t) (lines_of t) (changed_of t) (items r.paths)
     (noted_idle (map_of r.roads) (nodes_of t) (lines_of t) (changed_of t) c.in_ok-around.ensures.changed)
@@ -51,12 +51,12 @@ affected_names-requires-clause-before c =
 
 -- the bounds after they are settled, and the register with them
 module _ (r : Inside) (f : DistanceBounds) (shut : r.batch ≡ None)
-    (kept : IsKeptRight r.roads (items r.paths) r.batch r.near)
-    (right : IsUnderWay (map_of r.roads) r.near → IsRight (map_of r.roads) f)
-    (sources : (s w : ℕ) → IsSource r.near s w → IsSource f s w) where
+    (kept : IsKeptRight r.roads (items r.paths) r.batch r.bounds)
+    (right : IsUnderWay (map_of r.roads) r.bounds → IsRight (map_of r.roads) f)
+    (sources : (s w : ℕ) → IsSource r.bounds s w → IsSource f s w) where
   settled : AreBoundsOf (map_of r.roads) f (items r.paths)
   settled =
-      let h = subst (λ (o : Option Batch). IsKeptRight r.roads (items r.paths) o r.near) shut kept in
+      let h = subst (λ (o : Option Batch). IsKeptRight r.roads (items r.paths) o r.bounds) shut kept in
       record { right = right h.bounded.under_way; sources = λ l on. sources l.from l.within (h.bounded.sources l on) }
 
   kept_settled : IsKeptRight r.roads (items r.paths) r.batch f
@@ -89,7 +89,7 @@ pub returns : goal.returns
 returns c =
     let r = c.self.inside in
     let right =
-    subst (λ (o : Option Batch). IsKeptRight r.roads (items r.paths) o r.near) (none_of r.batch (sym c.if-is_some.ensures))
+    subst (λ (o : Option Batch). IsKeptRight r.roads (items r.paths) o r.bounds) (none_of r.batch (sym c.if-is_some.ensures))
     c.self.invariant in
     rw (← c.self.view_is, none_of r.batch (sym c.if-is_some.ensures))
     (answered_shut (content_on (map_of r.roads) (items r.paths)) r.work r.retained (Depends c.args.nodes.now)

@@ -6,13 +6,13 @@ use Rattle.olr_register.proofs.register.Register.hold.Goals as goal
 pub hold-requires : goal.hold-requires
 hold-requires c =
     let s = c.self.inside in
-    let right : IsKeptRight s.roads (items s.paths) (Some c.in-Some.batch) s.near = rw (← c.in-Some.is) c.self.invariant in
+    let right : IsKeptRight s.roads (items s.paths) (Some c.in-Some.batch) s.bounds = rw (← c.in-Some.is) c.self.invariant in
     right.register.held
 
 pub invariant_of-self : goal.invariant_of-self
 invariant_of-self c =
     let s = c.self.inside in
-    kept_moved s.roads c.hold.new.roads (items s.paths) (Some c.in-Some.batch) _ s.near c.hold.ensures.before
+    kept_moved s.roads c.hold.new.roads (items s.paths) (Some c.in-Some.batch) _ s.bounds c.hold.ensures.before
     c.hold.ensures.held (rw (← c.in-Some.is) c.self.invariant)
 
 pub returns : goal.returns
