@@ -6,8 +6,8 @@
 use olr_arguments::OptionsFault;
 use olr_journal::{HostDisk, LogFile, LogFolder, OpenError, Unknown, open_place, set_aside};
 use olr_run::{
-    Buffered, RunFault, WRONG_ARGUMENTS, asked_file, asked_log, has_size, report_fault, run_program,
-    run_program_with_log,
+    Buffered, RunFault, WRONG_ARGUMENTS, asked_file, asked_log, has_size, report_fault,
+    run_program, run_program_with_log,
 };
 use std::process::ExitCode;
 use std::{env, fs, io};

@@ -1,12 +1,14 @@
 -- Lists whose results are right on a map.
-use Rattle.std.proofs.Common.{◌≡◌, ℕ, not, IsTrue, List, [], ◌∷◌, ◌++◌, None, Result, Ok, OnOk, sym, subst}
+use Rattle.std.proofs.Common.{◌≡◌, ℕ, not, IsTrue, IsFalse, List, [], ◌∷◌, ◌++◌, None, Result, Ok, OnOk, sym, subst}
 use Rattle.std.specs.Result.{IfOk}
 use Rattle.std.specs.List.{filter}
 use Rattle.olr_spec.specs.Map.{Map, IsMap, Edit, edited}
 use Rattle.olr_spec.specs.Extension.{Path, is_path}
 use Rattle.olr_commands.specs.State.{ArePaths, same_name}
 use Rattle.olr_commands.proofs.NameLemmas.{paths_push, paths_filter}
+use Rattle.olr_near.specs.declared.distance_bounds.DistanceBounds.{DistanceBounds}
 use Rattle.olr_list.specs.Items.{Item, all_named}
+use Rattle.olr_list.specs.Origins.{AreBoundsOf}
 use Rattle.olr_paths.specs.Changes.{IsBefore, AreRemade}
 use Rattle.olr_list.specs.ChangeSets.{nodes_of, lines_of, changed_of}
 use Rattle.olr_list.specs.declared.change_set.ChangeSet.{ChangeSet}
@@ -60,3 +62,11 @@ right_before M N e t is sound ok noted h =
     is_before M N (nodes_of t) (lines_of t) (changed_of t) is
     (noted_edit M N e (nodes_of t) (lines_of t) (changed_of t) ok noted.nodes noted.lines noted.changed) sound h.paths
     h.made
+
+-- unknown bounds say nothing
+pub bounds_unknown : (M : Map) (is : List Item) (f : DistanceBounds) → IsFalse f.known → AreBoundsOf M f is
+bounds_unknown M is f off =
+    record {
+      right = λ on. let never : ⊥ = cc (on, off) in absurd never;
+      sources = λ l begins on. let never : ⊥ = cc (on, off) in absurd never;
+    }

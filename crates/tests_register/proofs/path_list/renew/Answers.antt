@@ -4,9 +4,8 @@ use Rattle.olr_roads.specs.Edits.{edit_of}
 use Rattle.olr_map.specs.RoadMaps.{map_of}
 use Rattle.olr_list.specs.Items.{items}
 use Rattle.olr_paths.proofs.Following.{follows_self}
-use Rattle.olr_register.proofs.Bounded.{bounded_unknown}
 use Rattle.olr_register.proofs.Noted.{noted_plan}
-use Rattle.tests_register.proofs.RightLists.{on_ok_at, if_ok_at, right_before, right_renewed}
+use Rattle.tests_register.proofs.RightLists.{bounds_unknown, on_ok_at, if_ok_at, right_before, right_renewed}
 use Rattle.tests_register.proofs.path_list.renew.Goals as goal
 
 pub renew_over-renewed-requires : goal.renew_over-renewed-requires
@@ -26,7 +25,7 @@ renew_over-renewed-requires g c =
     record {
       names = rw e c.len-names.ensures.names;
       follows = rw e (follows_self is c.len-names.ensures.names);
-      bounds = rw e (bounded_unknown (map_of c.keep.new.self) is c.forget.new.self c.forget.ensures);
+      bounds = rw e (bounds_unknown (map_of c.keep.new.self) is c.forget.new.self c.forget.ensures);
       before = rw e (
         M,
         right_before M (map_of c.keep.new.self) (edit_of c.args.edit) c.note.new.self is c.args.map.now.kept.sound
