@@ -1,6 +1,6 @@
 //! Lines of accepted commands that a log doesn't keep yet.
 
-ghost use Rattle.std.specs.Prelude.{◌≡◌, ◌⊎◌, ◌++◌, ◌∷◌, ℕ, List, [], false, IsTrue, OnOk, if◌then◌else◌, slice_index_or};
+ghost use Rattle.std.specs.Prelude.{◌≡◌, ◌≤◌, ◌<◌, ◌⊎◌, ◌++◌, ◌∷◌, take, vec_len, is_some, IfOk, IfSome, ℕ, List, [], false, IsTrue, OnOk, if◌then◌else◌, slice_index_or};
 ghost use Rattle.std.specs.List.{join_with_byte};
 ghost use Rattle.std.specs.Str.{bytes_eq};
 ghost use Rattle.csv.specs.Records.{fields_of};
@@ -11,6 +11,9 @@ use crate::buffered::remove_front;
 use csv::ByteRecord;
 use memchr::memchr2;
 use std::alloc::{AllocError, Global};
+
+/// By how much a buffer for a line is made longer.
+const BLOCK: usize = 1 << 10;
 
 /// What a record does to a log, if it is accepted.
 #[derive(Clone, Copy, PartialEq, Eq)]
@@ -35,11 +38,20 @@ fn is_clean(text: &[u8]) -> bool
     memchr2(b'\n', b'\r', text).is_none()
 }
 
-/// Whether a word is this text.
+/// Whether a word is this text, which is short: byte by byte is fastest.
+#[inline]
 fn is(word: &[u8], text: &[u8]) -> bool
     ensures { result ≡ bytes_eq word.now text.now }
 {
-    word == text
+    if word.len() != text.len() {
+        return false;
+    }
+    for i in 0..text.len() {
+        if word[i] != text[i] {
+            return false;
+        }
+    }
+    true
 }
 
 /// Whether a word is that of a record that changes the map or the paths.
@@ -101,29 +113,86 @@ fn field(fields: &ByteRecord, k: usize) -> &[u8]
     }
 }
 
-/// Appends a field, after a comma unless it is the first.
-fn push_field(line: &mut Vec<u8>, field: &[u8], is_first: bool) -> Result<(), AllocError>
-    ensures { OnOk result
-        (line.new.items ≡ line.old.items ++ (if is_first then field.now else 44 ∷ field.now)) }
+/// Makes a line longer than this, if it isn't.
+fn make_longer(line: &mut Vec<u8>, len: usize) -> Result<(), AllocError>
+    ensures room { OnOk result (len < vec_len line.new) }
+    ensures front { OnOk result (take (vec_len line.old) line.new.items ≡ line.old.items) }
 {
-    if is_first {
-        line.extend_from_slice(field)?;
+    if len < line.len() {
         return Ok(());
     }
-    line.push(b',')?;
-    line.extend_from_slice(field)?;
-    Ok(())
+    let more = len.checked_add(BLOCK).ok_or(AllocError)?;
+    line.resize(more, 0)
 }
 
-/// Writes fields, with a comma between each two, in the place of what is in `line`.
-fn write_fields(line: &mut Vec<u8>, fields: &ByteRecord) -> Result<(), AllocError>
-    ensures { OnOk result (line.new.items ≡ join_with_byte 44 (fields_of fields.now)) }
+/// Writes bytes at this place of a line, and returns the place behind them, at which the line has a byte.
+fn put(line: &mut Vec<u8>, at: usize, bytes: &[u8]) -> Result<usize, AllocError>
+    requires { at < vec_len line.old }
+    ensures room { IfOk result (λ n. n < vec_len line.new) }
+    ensures front { IfOk result (λ n. take n line.new.items ≡ take at line.old.items ++ bytes.now) }
 {
-    line.clear();
-    for i in 0..fields.len() {
-        push_field(line, field(fields, i), i == 0)?;
+    let end = at.checked_add(bytes.len()).ok_or(AllocError)?;
+    make_longer(line, end)?;
+    line[at..end].copy_from_slice(bytes);
+    Ok(end)
+}
+
+/// The same of a byte.
+fn put_byte(line: &mut Vec<u8>, at: usize, byte: u8) -> Result<usize, AllocError>
+    requires { at < vec_len line.old }
+    ensures room { IfOk result (λ n. n < vec_len line.new) }
+    ensures front { IfOk result (λ n. take n line.new.items ≡ take at line.old.items ++ byte ∷ []) }
+{
+    line[at] = byte;
+    make_longer(line, at + 1)?;
+    Ok(at + 1)
+}
+
+/// The same of a field, and of a comma before it unless it is the first.
+fn put_field(
+    line: &mut Vec<u8>,
+    at: usize,
+    field: &[u8],
+    is_first: bool,
+) -> Result<usize, AllocError>
+    requires { at < vec_len line.old }
+    ensures room { IfOk result (λ n. n < vec_len line.new) }
+    ensures front { IfOk result (λ n. take n line.new.items
+        ≡ take at line.old.items ++ (if is_first then field.now else 44 ∷ field.now)) }
+{
+    if is_first {
+        return put(line, at, field);
     }
-    Ok(())
+    let after = put_byte(line, at, b',')?;
+    put(line, after, field)
+}
+
+/// Writes fields, with a comma between each two, over the first bytes of a line. Returns their length, which is less than
+/// that of the line.
+fn write_fields(line: &mut Vec<u8>, fields: &ByteRecord) -> Result<usize, AllocError>
+    ensures room { IfOk result (λ n. n < vec_len line.new) }
+    ensures front { IfOk result (λ n. take n line.new.items ≡ join_with_byte 44 (fields_of fields.now)) }
+{
+    make_longer(line, 0)?;
+    let mut at = 0;
+    for i in 0..fields.len() {
+        at = put_field(line, at, field(fields, i), i == 0)?;
+    }
+    Ok(at)
+}
+
+/// Writes the line of a record over the first bytes of a line, and returns its length. None if a field holds a line end.
+fn write_line(line: &mut Vec<u8>, fields: &ByteRecord) -> Result<Option<usize>, AllocError>
+    ensures clean { IfOk result (λ found. is_some found ≡ lines.is_clean (join_with_byte 44 (fields_of fields.now))) }
+    ensures room { IfOk result (λ found. IfSome found (λ n. n < vec_len line.new)) }
+    ensures line { IfOk result (λ found. IfSome found (λ n. take n line.new.items ≡ lines.line_of (fields_of fields.now))) }
+{
+    let len = write_fields(line, fields)?;
+    if !is_clean(&line[..len]) {
+        return Ok(None);
+    }
+    let end = put_byte(line, len, b'\n')?;
+    Ok(Some(end))
 }
 
 /// Lines of accepted commands that a log doesn't keep yet: first those that are ready to be kept, then those of the open
@@ -137,7 +206,7 @@ pub struct Unkept {
     held: usize,
     /// What the record that isn't answered yet does, if it is accepted.
     effect: Effect,
-    /// A buffer for its line, reused from record to record.
+    /// A buffer for its line, whose first bytes it has, reused from record to record.
     line: Vec<u8>,
     ghost right: { AreLines lines.items ready held effect },
 }
@@ -182,15 +251,16 @@ impl Unkept {
         self.effect = effect;
     }
 
-    /// Takes the line that was written, of a record of this effect.
-    fn add(&mut self, effect: Effect) -> Result<(), AllocError>
+    /// Takes the line that was written, of this length and of a record of this effect.
+    fn add(&mut self, len: usize, effect: Effect) -> Result<(), AllocError>
         requires none { next_line self.old ≡ [] }
-        requires line { IsLineFor effect self.old.line.items }
+        requires within { len ≤ vec_len self.old.line }
+        requires line { IsLineFor effect (take len self.old.line.items) }
         ensures waiting { waiting self.new ≡ waiting self.old }
         ensures effect { OnOk result (self.new.effect ≡ effect) }
-        ensures line { OnOk result (next_line self.new ≡ self.old.line.items) }
+        ensures line { OnOk result (next_line self.new ≡ take len self.old.line.items) }
     {
-        self.lines.extend_from_slice(self.line.as_slice())?;
+        self.lines.extend_from_slice(&self.line[..len])?;
         self.effect = effect;
         Ok(())
     }
@@ -208,12 +278,10 @@ impl Unkept {
             self.note(effect);
             return Ok(());
         }
-        write_fields(&mut self.line, fields)?;
-        if !is_clean(self.line.as_slice()) {
-            return Ok(());
+        match write_line(&mut self.line, fields)? {
+            Some(len) => self.add(len, effect),
+            None => Ok(()),
         }
-        self.line.push(b'\n')?;
-        self.add(effect)
     }
 
     /// The line that was taken last waits in the open batch.

@@ -14,4 +14,4 @@ pub returns-clause-waiting : goal.returns-clause-waiting
 returns-clause-waiting c =
     let u = c.args.self.now in
     ap (λ (l : List ℕ). pair (take u.ready l) (take (u.held - u.ready) (drop u.ready l))) c.in_ok-extend_from_slice.ensures.items
-    ∙ added_waits u.lines.items u.ready u.held u.effect u.right c.as_slice.result.now c.requires.none
+    ∙ added_waits u.lines.items u.ready u.held u.effect u.right (take c.args.len c.deref.result.now) c.requires.none
