@@ -126,8 +126,9 @@ fn make_longer(line: &mut Vec<u8>, len: usize) -> Result<(), AllocError>
 }
 
 /// Writes bytes at this place of a line, and returns the place behind them, at which the line has a byte.
+#[inline]
 fn put(line: &mut Vec<u8>, at: usize, bytes: &[u8]) -> Result<usize, AllocError>
-    requires { at < vec_len line.old }
+    requires { at ≤ vec_len line.old }
     ensures room { IfOk result (λ n. n < vec_len line.new) }
     ensures front { IfOk result (λ n. take n line.new.items ≡ take at line.old.items ++ bytes.now) }
 {
@@ -137,46 +138,16 @@ fn put(line: &mut Vec<u8>, at: usize, bytes: &[u8]) -> Result<usize, AllocError>
     Ok(end)
 }
 
-/// The same of a byte.
-fn put_byte(line: &mut Vec<u8>, at: usize, byte: u8) -> Result<usize, AllocError>
-    requires { at < vec_len line.old }
-    ensures room { IfOk result (λ n. n < vec_len line.new) }
-    ensures front { IfOk result (λ n. take n line.new.items ≡ take at line.old.items ++ byte ∷ []) }
-{
-    line[at] = byte;
-    make_longer(line, at + 1)?;
-    Ok(at + 1)
-}
-
-/// The same of a field, and of a comma before it unless it is the first.
-fn put_field(
-    line: &mut Vec<u8>,
-    at: usize,
-    field: &[u8],
-    is_first: bool,
-) -> Result<usize, AllocError>
-    requires { at < vec_len line.old }
-    ensures room { IfOk result (λ n. n < vec_len line.new) }
-    ensures front { IfOk result (λ n. take n line.new.items
-        ≡ take at line.old.items ++ (if is_first then field.now else 44 ∷ field.now)) }
-{
-    if is_first {
-        return put(line, at, field);
-    }
-    let after = put_byte(line, at, b',')?;
-    put(line, after, field)
-}
-
 /// Writes fields, with a comma between each two, over the first bytes of a line. Returns their length, which is less than
 /// that of the line.
 fn write_fields(line: &mut Vec<u8>, fields: &ByteRecord) -> Result<usize, AllocError>
     ensures room { IfOk result (λ n. n < vec_len line.new) }
     ensures front { IfOk result (λ n. take n line.new.items ≡ join_with_byte 44 (fields_of fields.now)) }
 {
-    make_longer(line, 0)?;
-    let mut at = 0;
-    for i in 0..fields.len() {
-        at = put_field(line, at, field(fields, i), i == 0)?;
+    let mut at = put(line, 0, field(fields, 0))?;
+    for i in 1..fields.len() {
+        line[at] = b',';
+        at = put(line, at + 1, field(fields, i))?;
     }
     Ok(at)
 }
@@ -184,15 +155,15 @@ fn write_fields(line: &mut Vec<u8>, fields: &ByteRecord) -> Result<usize, AllocE
 /// Writes the line of a record over the first bytes of a line, and returns its length. None if a field holds a line end.
 fn write_line(line: &mut Vec<u8>, fields: &ByteRecord) -> Result<Option<usize>, AllocError>
     ensures clean { IfOk result (λ found. is_some found ≡ lines.is_clean (join_with_byte 44 (fields_of fields.now))) }
-    ensures room { IfOk result (λ found. IfSome found (λ n. n < vec_len line.new)) }
+    ensures room { IfOk result (λ found. IfSome found (λ n. n ≤ vec_len line.new)) }
     ensures line { IfOk result (λ found. IfSome found (λ n. take n line.new.items ≡ lines.line_of (fields_of fields.now))) }
 {
     let len = write_fields(line, fields)?;
     if !is_clean(&line[..len]) {
         return Ok(None);
     }
-    let end = put_byte(line, len, b'\n')?;
-    Ok(Some(end))
+    line[len] = b'\n';
+    Ok(Some(len + 1))
 }
 
 /// Lines of accepted commands that a log doesn't keep yet: first those that are ready to be kept, then those of the open
