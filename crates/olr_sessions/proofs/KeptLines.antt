@@ -187,15 +187,18 @@ no_line e none = record { none = λ _. refl; turns = λ kept. absurd (let never 
 -- ---- fields
 
 -- one more field
-pub join_more : (fs : List (List ℕ)) (i : ℕ) → 0 < i → i < length fs →
-    join_with_byte 44 (take i fs) ++ 44 ∷ get_or fs i [] ≡ join_with_byte 44 (take (suc i) fs)
-join_more [] i p h = absurd (omega arith)
-join_more (f ∷ fs) zero p h = absurd (omega arith)
-join_more (f ∷ []) (suc i) p h = absurd (omega arith)
-join_more (f ∷ g ∷ fs) (suc zero) p h = refl
-join_more (f ∷ g ∷ fs) (suc (suc i)) p h =
-    append_assoc f (44 ∷ join_with_byte 44 (take (suc i) (g ∷ fs))) (44 ∷ get_or fs i [])
-    ∙ ap (λ (x : List ℕ). f ++ 44 ∷ x) (join_more (g ∷ fs) (suc i) (omega arith) (omega arith))
+pub join_more : (fs : List (List ℕ)) (i : ℕ) → i < length fs →
+    (join_with_byte 44 (take i fs) ++ (if i == 0 then [] else 44 ∷ [])) ++ get_or fs i []
+    ≡ join_with_byte 44 (take (suc i) fs)
+join_more [] i h = absurd (omega arith)
+join_more (f ∷ fs) zero h = refl
+join_more (f ∷ []) (suc i) h = absurd (omega arith)
+join_more (f ∷ g ∷ fs) (suc zero) h = append_assoc f (44 ∷ []) g
+join_more (f ∷ g ∷ fs) (suc (suc i)) h =
+    let more = rw (nonzero i) at (join_more (g ∷ fs) (suc i) (omega arith)) in
+    let joined = join_with_byte 44 (take (suc i) (g ∷ fs)) in
+    rw (nonzero (suc i)) (ap (λ (x : List ℕ). x ++ get_or fs i []) (append_assoc f (44 ∷ joined) (44 ∷ []))
+    ∙ append_assoc f (44 ∷ joined ++ 44 ∷ []) (get_or fs i []) ∙ ap (λ (x : List ℕ). f ++ 44 ∷ x) more)
 
 pub field_is : (fs : List (List ℕ)) (k : ℕ) → unwrap_or (field_at fs k) [] ≡ get_or fs k []
 unfolding field_at

@@ -39,7 +39,6 @@ fn is_clean(text: &[u8]) -> bool
 }
 
 /// Whether a word is this text, which is short: byte by byte is fastest.
-#[inline]
 fn is(word: &[u8], text: &[u8]) -> bool
     ensures { result ≡ bytes_eq word.now text.now }
 {
@@ -126,7 +125,6 @@ fn make_longer(line: &mut Vec<u8>, len: usize) -> Result<(), AllocError>
 }
 
 /// Writes bytes at this place of a line, and returns the place behind them, at which the line has a byte.
-#[inline]
 fn put(line: &mut Vec<u8>, at: usize, bytes: &[u8]) -> Result<usize, AllocError>
     requires { at ≤ vec_len line.old }
     ensures room { IfOk result (λ n. n < vec_len line.new) }
@@ -138,16 +136,30 @@ fn put(line: &mut Vec<u8>, at: usize, bytes: &[u8]) -> Result<usize, AllocError>
     Ok(end)
 }
 
+/// Writes a comma at this place of a line, unless a field is the first, and returns the place of the field.
+fn put_comma(line: &mut Vec<u8>, at: usize, is_first: bool) -> usize
+    requires { at < vec_len line.old }
+    ensures within { result ≤ vec_len line.new }
+    ensures front { take result line.new.items ≡ take at line.old.items ++ (if is_first then [] else 44 ∷ []) }
+{
+    if is_first {
+        return at;
+    }
+    line[at] = b',';
+    at + 1
+}
+
 /// Writes fields, with a comma between each two, over the first bytes of a line. Returns their length, which is less than
 /// that of the line.
 fn write_fields(line: &mut Vec<u8>, fields: &ByteRecord) -> Result<usize, AllocError>
     ensures room { IfOk result (λ n. n < vec_len line.new) }
     ensures front { IfOk result (λ n. take n line.new.items ≡ join_with_byte 44 (fields_of fields.now)) }
 {
-    let mut at = put(line, 0, field(fields, 0))?;
-    for i in 1..fields.len() {
-        line[at] = b',';
-        at = put(line, at + 1, field(fields, i))?;
+    make_longer(line, 0)?;
+    let mut at = 0;
+    for i in 0..fields.len() {
+        let start = put_comma(line, at, i == 0);
+        at = put(line, start, field(fields, i))?;
     }
     Ok(at)
 }
