@@ -1,3 +1,4 @@
 pub mod Options
 pub mod Explains
 pub mod Opens
+pub mod Sizes

@@ -6,8 +6,10 @@ mod arguments;
 mod command_line;
 mod explaining;
 mod files;
+mod sizes;
 
 pub use arguments::{Options, OptionsFault};
 pub use command_line::options;
 pub use explaining::{WRONG_ARGUMENTS, explain};
 pub use files::open_file;
+pub use sizes::compaction_length;

@@ -8,6 +8,7 @@ use Rattle.sqlite_disk.specs.declared.Disk as disk
 use Rattle.olr_arguments.specs.Explains.{Explains}
 use Rattle.olr_arguments.specs.Opens.{IsFile}
 use Rattle.olr_arguments.specs.Options.{Options, keep_app, options}
+use Rattle.olr_arguments.specs.Sizes.{NoSize}
 use Rattle.olr_journal.specs.declared.folder.Folder as folder
 use Rattle.olr_journal.specs.declared.log_file.LogFile.{LogFile}
 use Rattle.olr_register.specs.Registered.{Registered}
@@ -37,7 +38,7 @@ module _ {D F : Type 0} {d : disk.Ghosts D} {f : folder.Ghosts F D} {W : Type 0}
       (o p : Buffered W) where
     pub data LogEnds (asked : Options) (left : Option (LogFile D F d f)) (code : ℕ) : Type 0 where
       Log_not_opened : opened ≡ None → p ≡ o → left ≡ None → 2 ≤ code → code ≤ 7 → LogEnds asked left code
-      No_size : p ≡ o → left ≡ opened → code ≡ 2 → LogEnds asked left code
+      No_size : (text : List ℕ) → asked.compact_at ≡ Some text → NoSize text → p ≡ o → left ≡ opened → code ≡ 2 → LogEnds asked left code
       Not_opened : (file : List ℕ) → asked.file ≡ Some file → Opened file None → p ≡ o → left ≡ opened → code ≡ 3 →
           LogEnds asked left code
       From_log : (file : Known) → IsFile asked.file Opened file → (log last : LogFile D F d f) → opened ≡ Some log →

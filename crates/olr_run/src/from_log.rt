@@ -1,6 +1,6 @@
 //! The program with a log.
 
-ghost use Rattle.std.specs.Prelude.{◌≡◌, ◌≤◌, ◌⊎◌, ℕ, List, [], Ok, Err, true, length, IfOk, IfErr, IsSome, IsTrue, None, is_ok, option_map};
+ghost use Rattle.std.specs.Prelude.{◌≡◌, ◌≤◌, ◌⊎◌, ℕ, List, [], Ok, Err, true, length, IfOk, IfErr, IsTrue, is_ok};
 ghost use Rattle.olr_arguments.specs.Opens.{Opens};
 ghost use Rattle.olr_arguments.specs.Options.{options_of};
 ghost use Rattle.olr_journal.specs.Logs.{kept_of, left_of};
@@ -15,7 +15,7 @@ use crate::both::read_inputs;
 use crate::logged::run_with_log;
 use crate::starts::{RejectedRecord, StartFault, begin_with};
 use crate::streams::NO_FILE;
-use olr_arguments::{Options, WRONG_ARGUMENTS, open_file};
+use olr_arguments::{Options, WRONG_ARGUMENTS, compaction_length, open_file};
 use olr_journal::{Folder, LogFile, OpenError};
 use olr_register::Register;
 use olr_sessions::{Buffered, LogFault, RunFault, Status, end_status, report_fault};
@@ -34,35 +34,6 @@ const OPEN_BATCH: u8 = 6;
 
 /// The exit status if another process uses the log.
 const IN_USE: u8 = 7;
-
-/// The number of bytes that an argument names: K, M and G are powers of 1,024.
-fn size(text: &str) -> Option<usize> {
-    let (digits, unit) = match text.strip_suffix('K') {
-        Some(digits) => (digits, 1 << 10),
-        None => match text.strip_suffix('M') {
-            Some(digits) => (digits, 1 << 20),
-            None => match text.strip_suffix('G') {
-                Some(digits) => (digits, 1 << 30),
-                None => (text, 1),
-            },
-        },
-    };
-    let count: usize = digits.parse().ok()?;
-    if count == 0 {
-        return None;
-    }
-    count.checked_mul(unit)
-}
-
-/// The least length of a log that is replaced; none is if no size was asked for. None if what was asked for is no size.
-pub(crate) fn renewal_length(asked: Option<&str>) -> Option<usize>
-    ensures { option_map (λ text. text.now) asked.entry ≡ None → IsSome result }
-{
-    match asked {
-        Some(text) => size(text),
-        None => Some(usize::MAX),
-    }
-}
 
 /// Reports why a log can't be opened, and returns the exit status.
 fn report_unopened<E: Write>(name: &str, error: OpenError, errors: &mut E) -> u8
@@ -283,7 +254,7 @@ pub fn with_log<
         let _ = errors.write_all(b"olr-keep: cannot open the command file\n");
         return (NO_FILE, log.ok());
     };
-    let Some(renewed_from) = renewal_length(asked.compact_at) else {
+    let Some(renewed_from) = compaction_length(asked.compact_at) else {
         let _ = errors.write_all(
             b"olr-keep: --compact-at takes bytes, or a number with K, M or G, as 500M\n",
         );

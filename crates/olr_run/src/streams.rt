@@ -4,6 +4,7 @@ ghost use Rattle.std.specs.Prelude.{◌≡◌, ◌≢◌, ◌≤◌, ℕ, List, 
 ghost use Rattle.clap.specs.Faults.{fault_of};
 ghost use Rattle.olr_arguments.specs.Opens.{Opens};
 ghost use Rattle.olr_arguments.specs.Options.{IsOptionsFault, keep_app, options, options_of};
+ghost use Rattle.olr_arguments.specs.Sizes.{HasSize};
 ghost use Rattle.olr_register.specs.Registered.{Registered, nothing_registered};
 ghost use Rattle.olr_run.specs.Ends.{Ends, SendsAnswers, is_about_log};
 ghost use Rattle.olr_run.specs.ProgramEnds.{ProgramEnds};
@@ -12,9 +13,11 @@ ghost use Rattle.olr_sessions.specs.Buffers.{held, written};
 ghost use Rattle.olr_sessions.specs.Sessions.{most_held};
 
 use crate::both::run_inputs;
-use crate::from_log::{renewal_length, with_log};
+use crate::from_log::with_log;
 use clap::Error;
-use olr_arguments::{Options, OptionsFault, WRONG_ARGUMENTS, explain, open_file, options};
+use olr_arguments::{
+    Options, OptionsFault, WRONG_ARGUMENTS, compaction_length, explain, open_file, options,
+};
 use olr_journal::{Folder, LogFile, OpenError};
 use olr_register::Register;
 use olr_sessions::{Buffered, RunFault, Status, end_status};
@@ -204,11 +207,11 @@ pub fn has_size<'a, S: AsStr>(
     alloc: Global,
     arguments: &'a [S],
 ) -> Result<bool, OptionsFault<Error>>
-    ensures none { IfOk result (λ is. (options (map S.text arguments.entry.now)).compact_at ≡ None → is ≡ true) }
+    ensures is { IfOk result (HasSize (options (map S.text arguments.entry.now)).compact_at) }
     ensures fault { IfErr result (IsOptionsFault (fault_of keep_app (map S.text arguments.entry.now))) }
 {
     match options(alloc, arguments) {
-        Ok(options) => Ok(renewal_length(options.compact_at).is_some()),
+        Ok(options) => Ok(compaction_length(options.compact_at).is_some()),
         Err(fault) => Err(fault),
     }
 }
