@@ -1,9 +1,10 @@
 -- How the program ends with a log, by what its arguments ask for.
-use Rattle.std.proofs.Common.{refl, subst}
+use Rattle.std.proofs.Common.{◌≡◌, ℕ, List, Option, Some, None, refl, subst}
+use Rattle.olr_arguments.specs.Sizes.{IsLength, NoSize}
 use Rattle.olr_run.proofs.Common.{Records, known_file, options_of, records_read}
 use Rattle.olr_run.proofs.Ending.{file_is, name_of}
 use Rattle.olr_run.proofs.ReadInputs.{both_read, not_read}
-use Rattle.olr_run.specs.ProgramEnds.{FromLog, Not_opened, From_log}
+use Rattle.olr_run.specs.ProgramEnds.{FromLog, No_size, Not_opened, From_log}
 use Rattle.olr_sessions.specs.Inputs.{read_from}
 use Rattle.olr_run.proofs.from_log.with_log.Goals as goal
 
@@ -12,6 +13,15 @@ returns-in_default-clause-ends g c =
     let n = name_of g.O.FnOnce g.F.Read.remaining c.args.opener (options_of c.args.asked.now).file c.in_default.field-0
     c.in_default.ensures in
     Not_opened n.0 n.1 n.2 refl c.ok.ensures.value refl
+
+no_size : (asked : Option (List ℕ)) → IsLength asked None → (text : List ℕ) × (asked ≡ Some text) × NoSize text
+no_size None h = absurd cc
+no_size (Some text) h = (text, refl, h)
+
+pub returns-in_default-compaction_length-clause-ends : goal.returns-in_default-compaction_length-clause-ends
+returns-in_default-compaction_length-clause-ends g c =
+    let n = no_size (options_of c.args.asked.now).compact_at c.in_default-compaction_length.ensures in
+    No_size n.0 n.1 n.2 refl c.ok-in_default-compaction_length.ensures.value refl
 
 pub returns-in_default-read_inputs-clause-ends : goal.returns-in_default-read_inputs-clause-ends
 returns-in_default-read_inputs-clause-ends g c =
