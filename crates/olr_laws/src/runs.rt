@@ -5,6 +5,7 @@ ghost use Rattle.clap.specs.Takes.{takes};
 ghost use Rattle.clap.specs.declared.error.kind.ErrorKind.TheVariants as kind;
 ghost use Rattle.olr_commands.specs.State.{start_state};
 ghost use Rattle.olr_arguments.specs.Options.{keep_app, options};
+ghost use Rattle.olr_arguments.specs.Sizes.{IsSize, NoSize};
 ghost use Rattle.olr_run.specs.Output.{records_of, greater, Outcomes, Ran, Faulted, Some_refused, Stopped};
 ghost use Rattle.olr_run.specs.Output.{All_accepted};
 ghost use Rattle.olr_sessions.specs.declared.ends.RunFault.TheVariants as fault;
@@ -44,6 +45,22 @@ pub fn rows_options()
     ensures word { fault_of keep_app (codes "olr-keep" ∷ codes "f" ∷ []) ≡ kind.UnknownArgument ∷ [] }
     ensures help { fault_of keep_app (codes "olr-keep" ∷ codes "--help" ∷ []) ≡ kind.DisplayHelp ∷ [] }
     ensures version { fault_of keep_app (codes "olr-keep" ∷ codes "-V" ∷ []) ≡ kind.DisplayVersion ∷ [] }
+{}
+
+/// Sizes of a log.
+pub fn rows_sizes()
+    ensures bytes { IsSize (codes "500") 500 }
+    ensures kilobytes { IsSize (codes "30K") 30720 }
+    ensures megabytes { IsSize (codes "500M") 524288000 }
+    ensures gigabytes { IsSize (codes "+1G") 1073741824 }
+    ensures most { IsSize (codes "18446744073709551615") 18446744073709551615 }
+    ensures nothing { NoSize [] }
+    ensures none { NoSize (codes "0K") }
+    ensures letter { NoSize (codes "M") }
+    ensures other { NoSize (codes "5T") }
+    ensures small { NoSize (codes "5k") }
+    ensures two { NoSize (codes "5KK") }
+    ensures much { NoSize (codes "99999999999G") }
 {}
 
 /// Records of bytes.
