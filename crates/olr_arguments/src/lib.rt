@@ -1,5 +1,5 @@
-//! The command-line arguments, read by `clap`: the command file, and whether to stop at the first rejected command; or
-//! help, the version or a fault, which is written.
+//! The command-line arguments, read by `clap`: the command file, the log, and how to run; or help, the version or a
+//! fault, which is written.
 #![tactic(auto)]
 
 mod arguments;
