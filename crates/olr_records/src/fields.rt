@@ -81,10 +81,11 @@ fn many_digits(field: &[u8]) -> Option<u64>
     Some(value)
 }
 
-/// The value of one or more digits, or 2^32 instead of a greater value. None if there are no digits, or another byte.
+/// The value of one or more digits, or another number from 2^32 on instead of such a value. None if there are no digits,
+/// or another byte.
 fn value(field: &[u8]) -> Option<u64>
     ensures form { is_some result ≡ are_digits field.now }
-    ensures same { IfSome result (λ n. n ≡ min (digits_value field.now) (2 ^ 32)) }
+    ensures same { IfSome result (λ n. min n (2 ^ 32) ≡ min (digits_value field.now) (2 ^ 32)) }
 {
     if field.is_empty() {
         return None;
@@ -92,8 +93,7 @@ fn value(field: &[u8]) -> Option<u64>
     if field.len() > MOST_DIGITS {
         return many_digits(field);
     }
-    let value = few_digits(field)?;
-    Some(TOO_GREAT.min(value))
+    few_digits(field)
 }
 
 /// One or more digits with a value from `low` to `high`. Leading zeros are accepted.

@@ -64,11 +64,11 @@ fn read_by(alloc: Global, word: &[u8], fields: &ByteRecord) -> Result<Command, R
     }
 }
 
-/// Whether a word is this text.
+/// Whether a word is this text, byte by byte: words are short, and `==` of slices is made for longer ones.
 fn is(word: &[u8], text: &[u8]) -> bool
     ensures { IsTrue result ↔ (word.now ≡ text.now) }
 {
-    word == text
+    word.iter().eq(text)
 }
 
 /// The same, for a word that `read_by` doesn't know.
