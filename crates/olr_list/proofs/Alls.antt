@@ -1,8 +1,8 @@
 -- What is true of each element, as far as a loop has run. Membership in lists: by a test, and by a position.
-use Rattle.olr_list.proofs.Common.{get_or_from_slice_get, slice_get_within, Contains-later, slice_get}
-use Rattle.olr_list.proofs.Common.{Contains-cases, Contains-here, take_more, drop_more, All-push, Contains, list_any}
-use Rattle.olr_list.proofs.Common.{length, get_or, IsTrue, subst, arith, List, take, drop, Some, ◌≡◌}
-use Rattle.olr_list.proofs.Common.{true, ◌+◌, ◌<◌, ◌∷◌, All, sym, ◌∙◌, map, ◌↔◌, inl, inr, has, ap, [], ℕ, Picks}
+use Rattle.olr_list.proofs.Common.{Contains-later, slice_get}
+use Rattle.olr_list.proofs.Common.{Contains-cases, Contains-here, take_more, All-push, Contains, list_any}
+use Rattle.olr_list.proofs.Common.{length, get_or, IsTrue, subst, arith, List, take, Some, ◌≡◌}
+use Rattle.olr_list.proofs.Common.{true, ◌+◌, ◌<◌, ◌∷◌, All, sym, map, ◌↔◌, inl, inr, has, [], ℕ, Picks}
 use Rattle.olr_list.proofs.Common.{Item, zero, suc, refl}
 use Rattle.std.proofs.lemmas.List.Folds.{Any-from_list_any, list_any_at}
 pub use Rattle.olr_spec.proofs.SameNumbers.{has_from, in_from}
@@ -12,11 +12,6 @@ pub all_more : {X : Type 0} (P : X → Type 0) (xs : List X) (k : ℕ) (d : X) �
     P (get_or xs k d) → All P (take (k + 1) xs)
 all_more P xs k d lt h p =
     subst (λ ys. All P ys) (sym (take_more xs k d lt)) (All-push P (take k xs) (get_or xs k d) h p)
-
--- the elements from the one at index k on
-pub drop_at : {X : Type 0} (xs : List X) (k : ℕ) (x : X) → slice_get xs k ≡ Some x → drop k xs ≡ x ∷ drop (k + 1) xs
-drop_at xs k x at = drop_more xs k x (slice_get_within xs k x at) ∙ ap (λ y. y ∷ drop (k + 1) xs)
-    (get_or_from_slice_get xs k x x at)
 
 pub Contains-map : {A B : Type 0} (f : A → B) (xs : List A) (x : A) → Contains xs x → Contains (map f xs) (f x)
 Contains-map f [] x h = absurd (let lt = h.1 in omega arith)

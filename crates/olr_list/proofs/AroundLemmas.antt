@@ -38,8 +38,8 @@ module _ (M : Map) where
     more : (y : ℕ) → has (take (k + 1) vs) y ≡ (has (take k vs) y || (v == y))
     more y = list_any_more (λ z. z == y) vs k v lt ∙ ap (λ (n : ℕ). has (take k vs) y || (n == y)) (sym at)
 
-    kept : (y : ℕ) → has (take k vs) y ≡ true → has (take (k + 1) vs) y ≡ true
-    kept y h = more y ∙ or_left (has (take k vs) y) (v == y) h
+    had : (y : ℕ) → has (take k vs) y ≡ true → has (take (k + 1) vs) y ≡ true
+    had y h = more y ∙ or_left (has (take k vs) y) (v == y) h
 
     here : (y : ℕ) → y ≡ v → has (take (k + 1) vs) y ≡ true
     here y e = more y ∙ or_right (has (take k vs) y) (v == y) (eq-eqb v y (sym e))
@@ -59,8 +59,8 @@ module _ (M : Map) where
           | inl old ↦ let a = h.0 old in (
             a.0,
             elim (or_cases (has (take k vs) (start M x)) (has (take k vs) (end M x)) a.1) [
-              | inl s ↦ or_left (has more_nodes (start M x)) (has more_nodes (end M x)) (kept (start M x) s)
-              | inr e ↦ or_right (has more_nodes (start M x)) (has more_nodes (end M x)) (kept (end M x) e)
+              | inl s ↦ or_left (has more_nodes (start M x)) (has more_nodes (end M x)) (had (start M x) s)
+              | inr e ↦ or_right (has more_nodes (start M x)) (has more_nodes (end M x)) (had (end M x) e)
             ],
           )
           | inr enters ↦ let a = entered v x enters in

@@ -1,11 +1,11 @@
 -- A list under changes that remove no path: position by position, and with new results stored.
 --     changed_by cs i      one path under the changes.
 --     Lies us vs      vs is us, with some paths replaced by paths that are not encoded yet
-use Rattle.olr_list.proofs.Common.{All, All-head, All-tail, inl, inr, ◌≡◌, ◌⊎◌, ℕ, zero, suc, ◌+◌, Bool, true, false}
-use Rattle.olr_list.proofs.Common.{cond, List, [], ◌∷◌, ◌++◌, map, take, length, slice_get, Option, Some, None}
+use Rattle.olr_list.proofs.Common.{All, All-head, All-tail, inl, inr, ◌≡◌, ◌⊎◌, ℕ, zero, suc, ◌+◌, true, false}
+use Rattle.olr_list.proofs.Common.{cond, List, [], ◌∷◌, ◌++◌, map, length, slice_get, Option, Some, None}
 use Rattle.olr_list.proofs.Common.{is_some, refl, sym, ap, ◌∙◌, subst, arith, Path, same_name, path_named}
-use Rattle.olr_list.proofs.Common.{NamesDiffer, Entry, Made, Item, all_named, Reported, Changes, TakesNone, change_at}
-use Rattle.olr_list.proofs.Common.{drops, under_change, under_changes, Put, put, all_put, map-append, take_more_at}
+use Rattle.olr_list.proofs.Common.{NamesDiffer, Entry, Made, Item, all_named, Reported, Changes, RemovesNone, change_at}
+use Rattle.olr_list.proofs.Common.{drops, under_change, under_changes, Put, put, all_put}
 use Rattle.olr_list.proofs.Common.{string_bytes, Rc, same_is, changes_in, path_in, String, Global}
 use Rattle.olr_list.proofs.NamedEntries.{Entries, First, item_of, items_of, same_flip}
 use Rattle.olr_list.proofs.Overlaying.{Entered, has_name}
@@ -37,7 +37,7 @@ changed_made (Some (Some p)) i = inl refl
 
 -- ---- the list, position by position
 
-pub all_changed : (cs : Changes) (is : List Item) → TakesNone cs → under_changes cs is ≡ map (changed_by cs) is
+pub all_changed : (cs : Changes) (is : List Item) → RemovesNone cs → under_changes cs is ≡ map (changed_by cs) is
 all_changed cs [] h = refl
 all_changed cs (i ∷ is) h =
     ap (λ (js : List Item). js ++ under_changes cs is) (one_changed (change_at cs i.name) i (h i.name))
@@ -68,12 +68,12 @@ map_from f (x ∷ is) ys (suc k) j at = elim (map_from f is ys k j at) [
   | inr b ↦ inr (b.0, (let e = b.1 in omega arith), b.2)
 ]
 
-module _ (cs : Changes) (is ys : List Item) (keeps : TakesNone cs) where
+module _ (cs : Changes) (is ys : List Item) (none_removed : RemovesNone cs) where
   abbrev pub whole : List Item
   whole = under_changes cs is ++ ys
 
   pub parts : whole ≡ map (changed_by cs) is ++ ys
-  parts = ap (λ (js : List Item). js ++ ys) (all_changed cs is keeps)
+  parts = ap (λ (js : List Item). js ++ ys) (all_changed cs is none_removed)
 
   pub overlaid_at : (k : ℕ) (i : Item) → slice_get is k ≡ Some i → slice_get whole k ≡ Some (changed_by cs i)
   overlaid_at k i at = ap (λ (js : List Item). slice_get js k) parts ∙ map_at (changed_by cs) is ys k i at
@@ -101,9 +101,9 @@ map_lies cs [] ys = lies_itself ys
 map_lies cs (i ∷ is) ys =
     (changed_name (change_at cs i.name) i, changed_made (change_at cs i.name) i, map_lies cs is ys)
 
-pub overlaid_lies : (cs : Changes) (is ys : List Item) → TakesNone cs → Lies (is ++ ys) (under_changes cs is ++ ys)
-overlaid_lies cs is ys keeps =
-    subst (λ (js : List Item). Lies (is ++ ys) js) (sym (parts cs is ys keeps)) (map_lies cs is ys)
+pub overlaid_lies : (cs : Changes) (is ys : List Item) → RemovesNone cs → Lies (is ++ ys) (under_changes cs is ++ ys)
+overlaid_lies cs is ys none_removed =
+    subst (λ (js : List Item). Lies (is ++ ys) js) (sym (parts cs is ys none_removed)) (map_lies cs is ys)
 
 put_lies : (us vs : List Item) (k : ℕ) (path : Path) (made : Option Made) → Lies us vs →
     Lies (put us k path made) (put vs k path made)
@@ -129,12 +129,12 @@ lies_same before (a ∷ us) (b ∷ vs) es h returned = elim h.1 [
   | inr same ↦ (λ i. same i ∷ lies_same before us vs returned.1 h.2 returned.3 i)
 ]
 
-pub put_on_overlaid : (cs : Changes) (before is ys : List Item) (ps : List Put) (es : List Entry) → TakesNone cs →
+pub put_on_overlaid : (cs : Changes) (before is ys : List Item) (ps : List Put) (es : List Entry) → RemovesNone cs →
     Reported before (all_put (under_changes cs is ++ ys) ps) es →
     all_put (is ++ ys) ps ≡ all_put (under_changes cs is ++ ys) ps
-put_on_overlaid cs before is ys ps es keeps returned =
+put_on_overlaid cs before is ys ps es none_removed returned =
     lies_same before (all_put (is ++ ys) ps) (all_put (under_changes cs is ++ ys) ps) es
-    (all_put_lies (is ++ ys) (under_changes cs is ++ ys) ps (overlaid_lies cs is ys keeps)) returned
+    (all_put_lies (is ++ ys) (under_changes cs is ++ ys) ps (overlaid_lies cs is ys none_removed)) returned
 
 -- ---- names
 
@@ -154,21 +154,16 @@ lies_differ (a ∷ us) [] h d = absurd h
 lies_differ (a ∷ us) (b ∷ vs) h d =
     (ap (has_name us) h.0 ∙ names_of_both us vs b.name h.2 ∙ d.0, lies_differ us vs h.2 d.1)
 
-pub grown_differ : (cs : Changes) (is ys : List Item) → TakesNone cs →
+pub grown_differ : (cs : Changes) (is ys : List Item) → RemovesNone cs →
     NamesDiffer (all_named (under_changes cs is ++ ys)) → NamesDiffer (all_named (is ++ ys))
-grown_differ cs is ys keeps d = lies_differ (is ++ ys) (under_changes cs is ++ ys) (overlaid_lies cs is ys keeps) d
+grown_differ cs is ys none_removed d = lies_differ (is ++ ys) (under_changes cs is ++ ys) (overlaid_lies cs is ys none_removed) d
 
 -- ---- which names have changes
 
-pub change_push : (cs : Changes) (c : List ℕ × Option Path) (name : List ℕ) → change_at cs name ≡ None →
-    same_name c.0 name ≡ false → change_at (cs ++ c ∷ []) name ≡ None
-change_push [] c name none other = ap (λ (b : Bool). cond b (Some c.1) None) other
-change_push (d ∷ cs) c name none other = grind (arith, change_push cs c name)
-
-pub take_more_changes : (es : Entered) (k : ℕ) (e : String Global × Option (Rc Path Global)) → slice_get es k ≡ Some e →
-    changes_in (take (k + 1) es) ≡ changes_in (take k es) ++ (string_bytes e.0, path_in e.1) ∷ []
-take_more_changes es k e at = ap changes_in (take_more_at es k e at)
-    ∙ map-append (λ (x : String Global × Option (Rc Path Global)). (string_bytes x.0, path_in x.1)) (take k es) (e ∷ [])
+pub change_left : (es : Entered) (e : String Global × Option (Rc Path Global)) (name : List ℕ) →
+    change_at (changes_in es) name ≡ None → same_name (string_bytes e.0) name ≡ false →
+    change_at (changes_in (e ∷ es)) name ≡ None
+change_left es e name none other = rw other none
 
 -- if each change is a replacement, no path is removed
 abbrev pub IsOther : String Global × Option (Rc Path Global) → Type 0
@@ -178,10 +173,10 @@ stays_so : (o : Option (Rc Path Global)) → is_some o ≡ true → drops (Some 
 stays_so None h = absurd cc
 stays_so (Some p) h = refl
 
-pub others_keep : (es : Entered) → All IsOther es → TakesNone (changes_in es)
-others_keep [] h name = refl
-others_keep (e ∷ es) h name =
-    grind (arith, stays_so e.1 (All-head IsOther e es h), others_keep es (All-tail IsOther e es h) name)
+pub others_remove_none : (es : Entered) → All IsOther es → RemovesNone (changes_in es)
+others_remove_none [] h name = refl
+others_remove_none (e ∷ es) h name =
+    grind (arith, stays_so e.1 (All-head IsOther e es h), others_remove_none es (All-tail IsOther e es h) name)
 
 -- ---- the position of a name
 
@@ -213,12 +208,12 @@ not_there es name k i free at = grind (arith, there_named (items_of es) k i name
 
 -- ---- if nothing changes, no path is removed
 
-pub none_keeps : (cs : Changes) (ys : List Item) → ((is : List Item) → under_changes cs is ++ ys ≡ is) → TakesNone cs
-none_keeps cs ys h name = kept (change_at cs name) (h (i ∷ [])) where
+pub none_removed_by : (cs : Changes) (ys : List Item) → ((is : List Item) → under_changes cs is ++ ys ≡ is) → RemovesNone cs
+none_removed_by cs ys h name = is_there (change_at cs name) (h (i ∷ [])) where
   i : Item
   i = record { name = name; path = record { lines = []; pos = 0; neg = 0 }; made = None }
 
-  kept : (c : Option (Option Path)) → (under_change c i ++ []) ++ ys ≡ i ∷ [] → drops c ≡ false
-  kept None e = refl
-  kept (Some None) e = let empty : ys ≡ [] = h [] in let never : ⊥ = cc (e, empty) in absurd never
-  kept (Some (Some p)) e = refl
+  is_there : (c : Option (Option Path)) → (under_change c i ++ []) ++ ys ≡ i ∷ [] → drops c ≡ false
+  is_there None e = refl
+  is_there (Some None) e = let empty : ys ≡ [] = h [] in let never : ⊥ = cc (e, empty) in absurd never
+  is_there (Some (Some p)) e = refl

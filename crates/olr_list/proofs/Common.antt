@@ -8,14 +8,14 @@ pub use Rattle.olr_commands.specs.State.{NamesDiffer, path_named, same_name}
 pub use Rattle.olr_commands.specs.Words.{entry_of}
 pub use Rattle.olr_index.specs.PathIds.{holds, path_ids_of}
 pub use Rattle.olr_index.specs.declared.Index.{Index}
-pub use Rattle.olr_list.specs.Actions.{ToStay}
+pub use Rattle.olr_list.specs.Actions.{ToSkip}
 pub use Rattle.olr_list.specs.Candidates.{AreFound, Covers, CoversAsked, Finds, FindsChanged, Includes}
 pub use Rattle.olr_list.specs.Changes.{AreEncoded, IsKnownClear, LineTouched, QueryTouched, Reported, TraversedTouched}
 pub use Rattle.olr_list.specs.Changes.{set_item}
-pub use Rattle.olr_list.specs.Finders.{AreNoted, AreNotedAt, ArePublished, Grows, KeepsAll, KeepsBut, NamedNoted}
-pub use Rattle.olr_list.specs.Finders.{Spares}
+pub use Rattle.olr_list.specs.Finders.{AreNoted, AreNotedAt, ArePublished, Grows, AddsOnly, ChangesOnly, NamedNoted}
+pub use Rattle.olr_list.specs.Finders.{IsNoted, KeyLists, Spares, keys_by, keys_in, named_keys}
 pub use Rattle.olr_list.specs.Items.{Item, Made, all_named, answer_in, items, made_in, made_of, named_of}
-pub use Rattle.olr_list.specs.Overlaid.{Changes, TakesNone, change_at, changes_in, drops, overlay_changes, path_in}
+pub use Rattle.olr_list.specs.Overlaid.{Changes, RemovesNone, change_at, changes_in, drops, overlay_changes, path_in}
 pub use Rattle.olr_list.specs.Overlaid.{under_change, under_changes}
 pub use Rattle.olr_list.specs.Origins.{AreFar, Begins, BeginsIn, BeginsPut}
 pub use Rattle.olr_list.specs.AffectedSearches.{AreAsked, AreDetours, AreFarther, IsAsked, IsExactAt, LackQueries, sources}
@@ -57,7 +57,7 @@ pub use Rattle.std.proofs.lemmas.Grind.{common_steps, elements}
 pub use Rattle.std.proofs.lemmas.List.{drop_all, drop_more, get_or_default, get_or_read, length-map, length_push}
 pub use Rattle.std.proofs.lemmas.List.{map-append, take-map, take_all, take_at, take_more}
 pub use Rattle.std.proofs.lemmas.List.Edits.{length-remove}
-pub use Rattle.std.proofs.lemmas.List.Elements.{All-contains, All-head, All-pop, All-push, All-tail, filter-append}
+pub use Rattle.std.proofs.lemmas.List.Elements.{All-contains, All-head, All-nil, All-pop, All-push, All-tail, filter-append}
 pub use Rattle.std.proofs.lemmas.List.Kept.{AllPairs-from_increasing}
 pub use Rattle.std.proofs.lemmas.List.Sorted.{IsNonDecreasingBy-from_sort, list_any-IsPermutation}
 pub use Rattle.std.proofs.lemmas.Option.{get_or_from_slice_get, slice_get-map, slice_get_within}

@@ -6,17 +6,17 @@ use Rattle.olr_list.proofs.Common.{slice_get_within, Map, IsMap, has, holds, Ind
 use Rattle.olr_list.proofs.Common.{FindsChanged, option_map, Rc, has_node, dm_of, CoverageQuery, limit, AreLengths}
 use Rattle.olr_list.proofs.Common.{label_at, Against, made_of, items, QueryTouched, nodes_of, lines_of, sources}
 use Rattle.olr_list.proofs.Common.{AreAsked, AreFar, LackQueries, BeginsIn, Begins, ChangeSet, Searches, Finder, Published}
-use Rattle.olr_list.proofs.Common.{NamedPath, PathList, Path, Changes, TakesNone, change_at, under_change}
-use Rattle.olr_list.proofs.Common.{under_changes, NamesDiffer, same_name, all_named, or_left, ToStay, CoversAsked}
-use Rattle.olr_list.proofs.Common.{AreFound, String, IsPermutation, Global, list_any-IsPermutation, IsAsked, take}
+use Rattle.olr_list.proofs.Common.{NamedPath, PathList, Path, Changes, RemovesNone, change_at, under_change}
+use Rattle.olr_list.proofs.Common.{under_changes, NamesDiffer, same_name, all_named, or_left, ToSkip, CoversAsked}
+use Rattle.olr_list.proofs.Common.{AreFound, String, Global, IsAsked, take}
 use Rattle.olr_list.proofs.Common.{path_ids_of}
 use Rattle.std.proofs.Math.Bool.{or-false}
 use Rattle.olr_list.proofs.NamedEntries.{Entries, First, item_of, items_of, same_flip}
 use Rattle.olr_list.proofs.Alls.{all_more, in_from}
 use Rattle.olr_list.proofs.Distances.{near_absent, leads_from}
 use Rattle.olr_list.proofs.OriginLemmas.{begins_there}
-use Rattle.olr_list.proofs.NotedPositions.{back}
-use Rattle.olr_list.proofs.Changed.{changed, overlaid_from, change_push, first_only}
+use Rattle.olr_list.proofs.NotedPositions.{back, noted_as}
+use Rattle.olr_list.proofs.Changed.{changed, overlaid_from, first_only}
 
 -- ---- lists of numbers
 
@@ -24,8 +24,8 @@ pub has_push : (xs : List ℕ) (x v : ℕ) → has (xs ++ x ∷ []) v ≡ (has x
 has_push [] x v = or-false (x == v)
 has_push (y ∷ ys) x v = grind (arith, has_push ys x v)
 
-pub pushed_kept : (xs : List ℕ) (x : ℕ) → Includes xs (xs ++ x ∷ [])
-pushed_kept xs x v on = has_push xs x v ∙ or_left (has xs v) (x == v) on
+pub pushed_includes : (xs : List ℕ) (x : ℕ) → Includes xs (xs ++ x ∷ [])
+pushed_includes xs x v on = has_push xs x v ∙ or_left (has xs v) (x == v) on
 
 pub pushed_there : (xs : List ℕ) (x v : ℕ) → x ≡ v → IsTrue (has (xs ++ x ∷ []) v)
 pushed_there xs x v is = grind (arith, nat_tests, has_push xs x v)
@@ -34,7 +34,7 @@ pushed_there xs x v is = grind (arith, nat_tests, has_push xs x v)
 
 pub record PutAll {A : Type 0} (number : A → ℕ) (path_ids : List ℕ) (index : Index) (xs : List A)
     (old now : List ℕ) : Type 0 where
-  pub kept : Includes old now
+  pub grows : Includes old now
   pub put : All (λ x. Finds path_ids index (number x) now) xs
 
 no_items : (ys : List ℕ) → length ys ≡ 0 → ys ≡ []
@@ -58,7 +58,7 @@ pub put_none : {A : Type 0} (number : A → ℕ) (path_ids : List ℕ) (index : 
     length of ≡ 0 → PutAll number path_ids index (take k xs) old now →
     PutAll number path_ids index (take (k + 1) xs) old now
 put_none number path_ids index xs old now k d v of lt is ids none h = record {
-  kept = h.kept;
+  grows = h.grows;
   put = all_more (λ x. Finds path_ids index (number x) now) xs k d lt h.put
       (finds_none path_ids index now _ (sym (ids ∙ ap (path_ids_of index) is) ∙ no_items of none));
 }
@@ -73,7 +73,7 @@ is_there : (o : Option (Rc Published Global)) → o ≢ None → (p : Rc Publish
 is_there None h = absurd (h refl)
 is_there (Some p) h = (p, refl)
 
-module _ (N : Map) (t : ChangeSet) (l : PathList) (off_held : l.held ≡ false) (known : IsTrue l.finder.known)
+module _ (N : Map) (t : ChangeSet) (l : PathList) (off_held : l.held ≡ false) (indexed : IsTrue l.finder.indexed)
     (found : List ℕ) (traversed : AreFound l.path_ids.items l.finder.traversed (nodes_of t) found)
     (lines : AreFound l.path_ids.items l.finder.lines (lines_of t) found) where
   abbrev ms : List ℕ
@@ -94,11 +94,11 @@ module _ (N : Map) (t : ChangeSet) (l : PathList) (off_held : l.held ≡ false) 
         cc (on, off)
 
     stays_there : ¬ QueryTouched N (nodes_of t) (made_of p.value) →
-        ToStay N (nodes_of t) (lines_of t) (item_of e).made e.1.path.value
+        ToSkip N (nodes_of t) (lines_of t) (item_of e).made e.1.path.value
     stays_there unqueried = (
       made_of p.value,
       ap (option_map (λ (q : Rc Published Global). made_of q.value)) some,
-      (λ h. let noted = l.noted k e at p some known in elim h [
+      (λ h. let noted = noted_as f (get_or ms k 0) e.1 p some (l.noted k e at) indexed in elim h [
         | inl o ↦ missed f.traversed (nodes_of t) traversed o.0 o.1
             (All-contains (λ (v : ℕ). IsTrue (holds f.traversed v (get_or ms k 0))) p.value.traversed o.0 noted.0 o.2)
         | inr rest ↦ elim rest [
@@ -114,11 +114,11 @@ module _ (N : Map) (t : ChangeSet) (l : PathList) (off_held : l.held ≡ false) 
   stays_by : (k : ℕ) (i : Item) → slice_get (items l) k ≡ Some i → has found k ≡ false →
       ((e : String Global × NamedPath) (p : Rc Published Global) → slice_get l.paths.entries k ≡ Some e →
       e.1.published ≡ Some p → i.made ≡ Some (made_of p.value) → ¬ QueryTouched N (nodes_of t) (made_of p.value)) →
-      ToStay N (nodes_of t) (lines_of t) i.made i.path
+      ToSkip N (nodes_of t) (lines_of t) i.made i.path
   stays_by k i at off unqueried =
       let b = back l.paths.entries k i at in
       let p = is_there b.0.1.published (l.encoded off_held k b.0 b.1) in
-      subst (λ (x : Item). ToStay N (nodes_of t) (lines_of t) x.made x.path) b.2
+      subst (λ (x : Item). ToSkip N (nodes_of t) (lines_of t) x.made x.path) b.2
       (stays_there k b.0 b.1 p.0 p.1 off (unqueried b.0 p.0 b.1 p.1
       (ap (λ (x : Item). x.made) (sym b.2) ∙ ap (option_map (λ (q : Rc Published Global). made_of q.value)) p.1)))
 
@@ -137,7 +137,7 @@ module _ (N : Map) (t : ChangeSet) (l : PathList) (off_held : l.held ≡ false) 
         let v : ℕ = h.0.from in
         let near = h.2 in
         let held = All-contains (λ (l : CoverageQuery). IsTrue (holds f.by_query_origin l.from (get_or ms k 0))) _ h.0
-        (l.noted k e at p some known).1 h.1 in
+        (noted_as f (get_or ms k 0) e.1 p some (l.noted k e at) indexed).1 h.1 in
         elim (cases_Bool s.far) [
           | inl far ↦ a.far far h
           | inr close ↦ elim (cases_Bool (has_node N v)) [
@@ -158,24 +158,19 @@ module _ (N : Map) (t : ChangeSet) (l : PathList) (off_held : l.held ≡ false) 
     covers_by k i at off one =
         stays_by k i at off (λ e p there some made. never_query k e there p some off (one (made_of p.value) made))
 
--- the positions may be put in another order
-pub covers_order : (N : Map) (T X : List ℕ) (is : List Item) (xs ys : List ℕ) → IsPermutation xs ys →
-    Covers N T X is xs → Covers N T X is ys
-covers_order N T X is xs ys same h k i at off = h k i at (list_any-IsPermutation (λ y. y == k) xs ys same ∙ off)
-
 -- ---- for a list under changes
 
-module _ (cs : Changes) (is ys : List Item) (keeps : TakesNone cs) where
+module _ (cs : Changes) (is ys : List Item) (none_removed : RemovesNone cs) where
   -- if the replaced paths and all new ones are found, the others are unchanged
   pub covers_overlaid : (N : Map) (slot : ℕ → ℕ) (t : ChangeSet) (s : Searches) (found : List ℕ) →
       CoversAsked N slot t s is found → FindsChanged cs is found →
       ((k : ℕ) → length is ≤ k → k < length is + length ys → IsTrue (has found k))
       → AreAsked N slot t s (under_changes cs is ++ ys) →
       Covers N (nodes_of t) (lines_of t) (under_changes cs is ++ ys) found
-  covers_overlaid N slot t s found covers given behind asked k j at off = elim (overlaid_from cs is ys keeps k j at) [
+  covers_overlaid N slot t s found covers given behind asked k j at off = elim (overlaid_from cs is ys none_removed k j at) [
     | inl a ↦
         let same : j ≡ a.0 = a.2 ∙ ap (λ (c : Option (Option Path)). changed c a.0) (given k a.0 a.1 off) in
-        subst (λ (i : Item). ToStay N (nodes_of t) (lines_of t) i.made i.path) (sym same)
+        subst (λ (i : Item). ToSkip N (nodes_of t) (lines_of t) i.made i.path) (sym same)
         (covers k a.0 a.1 off
         (λ m some. asked k j m at (ap (λ (i : Item). i.made) same ∙ some)))
     | inr b ↦
@@ -205,23 +200,19 @@ lack_overlaid cs (i ∷ is) ys first second l h =
 
 -- with more positions
 pub unfound : (old now : List ℕ) (k : ℕ) → Includes old now → has now k ≡ false → has old k ≡ false
-unfound old now k kept off = grind (arith, kept k)
+unfound old now k grows off = grind (arith, grows k)
+
+pub covers_more : (N : Map) (T X : List ℕ) (is : List Item) (old now : List ℕ) → Includes old now →
+    Covers N T X is old → Covers N T X is now
+covers_more N T X is old now grows h k i at off = h k i at (unfound old now k grows off)
 
 pub covers_grown : (N : Map) (slot : ℕ → ℕ) (t : ChangeSet) (s : Searches) (is : List Item) (old now : List ℕ) →
     Includes old now → CoversAsked N slot t s is old → CoversAsked N slot t s is now
-covers_grown N slot t s is old now kept h k i at off = h k i at (unfound old now k kept off)
+covers_grown N slot t s is old now grows h k i at off = h k i at (unfound old now k grows off)
 
 pub changed_grown : (cs : Changes) (is : List Item) (old now : List ℕ) → Includes old now → FindsChanged cs is old →
     FindsChanged cs is now
-changed_grown cs is old now kept h k i at off = h k i at (unfound old now k kept off)
-
--- with one change more
-pub changed_more : (cs : Changes) (c : List ℕ × Option Path) (is : List Item) (old now : List ℕ) → Includes old now →
-    FindsChanged cs is old →
-    ((k : ℕ) (i : Item) → slice_get is k ≡ Some i → has now k ≡ false → same_name c.0 i.name ≡ false) →
-    FindsChanged (cs ++ c ∷ []) is now
-changed_more cs c is old now kept h other k i at off =
-    change_push cs c i.name (changed_grown cs is old now kept h k i at off) (other k i at off)
+changed_grown cs is old now grows h k i at off = h k i at (unfound old now k grows off)
 
 -- if the position of the name is added, the others have other names
 pub others_apart : (es : Entries) (name : List ℕ) (q : ℕ) (old : List ℕ) → First name es q →

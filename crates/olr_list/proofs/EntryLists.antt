@@ -1,14 +1,13 @@
 -- The texts and entries of a list whose paths were encoded, and such a list as what its iterator has left.
 use Rattle.olr_list.proofs.Common.{◌≡◌, ℕ, Bool, List, Bor, IsTrue, Option, Some, None, sym, ap, ◌∙◌, subst}
 use Rattle.olr_list.proofs.Common.{option_map, bytes_eq, IsReference, bytes_decides, result_ok, published_text}
-use Rattle.olr_list.proofs.Common.{option_eq, true, is_some, inr, ◌+◌, drop, [], ◌∷◌, ◌++◌, slice_get, refl}
+use Rattle.olr_list.proofs.Common.{option_eq, true, is_some, inr, [], ◌∷◌, ◌++◌, refl}
 use Rattle.olr_list.proofs.Common.{append_assoc, Entry, entry, Answer, Made, Item, made_of, made_in, answer_in}
 use Rattle.olr_list.proofs.Common.{Reported, ◌≢◌, ◌&&◌, map, string_bytes, Rc, AreEncoded, Published, list_all, Global}
 use Rattle.olr_binary.proofs.TextLemmas.{one_reference}
 use Rattle.olr_spec.specs.Reference.{Reference}
 use Rattle.olr_binary.specs.Text.{IsTextOf, text_of}
 use Rattle.olr_spec.specs.Encoding as spec
-use Rattle.olr_list.proofs.Alls.{drop_at}
 use Rattle.olr_list.specs.declared.published.Published.{Published as Encoded}
 use Rattle.olr_list.proofs.NamedEntries.{Entries, items_of, made_of_named}
 
@@ -37,13 +36,12 @@ decided q r (Some s) (Some t) soundq soundr textq textr b e =
     (sym e) both
 
 -- with no earlier list, all are reported: one more entry, if the rest follows
-pub reported_more : (is : List Item) (k : ℕ) (i : Item) (m : Made) (es : List Entry) → slice_get is k ≡ Some i →
-    i.made ≡ Some m → ((fs : List Entry) → Reported [] (drop k is) fs → Reported [] is (es ++ fs))
-    → (fs : List Entry) → Reported [] (drop (k + 1) is) fs → Reported [] is ((es ++ entry i.name m.answer ∷ []) ++ fs)
-reported_more is k i m es at made so_far fs rest =
-    let one : Reported [] (i ∷ drop (k + 1) is) (entry i.name m.answer ∷ fs) =
-    (m.answer, fs, ap (option_map (λ (n : Made). n.answer)) made, rest, inr ((λ h. cc), refl)) in
-    rw append_assoc (so_far (entry i.name m.answer ∷ fs) (rw (drop_at is k i at) one))
+pub reported_more : (is left : List Item) (i : Item) (m : Made) (es : List Entry) → i.made ≡ Some m
+    → ((fs : List Entry) → Reported [] (i ∷ left) fs → Reported [] is (es ++ fs))
+    → (fs : List Entry) → Reported [] left fs → Reported [] is ((es ++ entry i.name m.answer ∷ []) ++ fs)
+reported_more is left i m es made so_far fs rest =
+    rw append_assoc (so_far (entry i.name m.answer ∷ fs)
+    (m.answer, fs, ap (option_map (λ (n : Made). n.answer)) made, rest, inr ((λ h. cc), refl)))
 
 -- ---- what was encoded
 

@@ -1,4 +1,5 @@
 pub mod Common
+pub mod Touching
 pub mod Distances
 pub mod OriginLemmas
 pub mod AskedLemmas

@@ -67,9 +67,9 @@ pub not_here : (i : Item) (is : List Item) (name : List ℕ) → absent (i ∷ i
     × absent is name
 not_here i is name h = grind arith
 
-pub keeps_all : (is : List Item) (name : List ℕ) → absent is name → filter (λ i. not (same_name i.name name)) is ≡ is
-keeps_all [] name h = refl
-keeps_all (i ∷ is) name h = let r = not_here i is name h in rw r.0 (ap (λ (js : List Item). i ∷ js) (keeps_all is name r.1))
+pub none_filtered : (is : List Item) (name : List ℕ) → absent is name → filter (λ i. not (same_name i.name name)) is ≡ is
+none_filtered [] name h = refl
+none_filtered (i ∷ is) name h = let r = not_here i is name h in rw r.0 (ap (λ (js : List Item). i ∷ js) (none_filtered is name r.1))
 
 pub sets_none : (is : List Item) (name : List ℕ) (path : Path) (made : Option Made) → absent is name →
     map (set_item name path made) is ≡ is
@@ -102,7 +102,7 @@ pub removed_items : (es : Entries) (name : List ℕ) (q : ℕ) → First name es
 removed_items [] name q h d = absurd h
 removed_items (e ∷ es) name zero h d =
     let here : same_name (string_bytes e.0) name ≡ true = same_flip (string_bytes e.0) name ∙ h in
-    rw here (sym (keeps_all (items_of es) name (subst (absent (items_of es)) (same_is (string_bytes e.0) name here) d.0)))
+    rw here (sym (none_filtered (items_of es) name (subst (absent (items_of es)) (same_is (string_bytes e.0) name here) d.0)))
 removed_items (e ∷ es) name (suc q) h d =
     let other : same_name (string_bytes e.0) name ≡ false = same_flip (string_bytes e.0) name ∙ h.0 in
     rw other (ap (λ (js : List Item). item_of e ∷ js) (removed_items es name q h.1 d.1))

@@ -1,20 +1,20 @@
 -- Index entries that are added and removed one by one, and results to be stored at positions.
 use Rattle.olr_list.proofs.Common.{option_to_list, CoverageQuery, All-contains, ArePublished, set_value_at, LackQueries}
-use Rattle.olr_list.proofs.Common.{path_ids_of, option_map, NamedNoted, AreNotedAt, map-append, AreEncoded, nat_tests}
-use Rattle.olr_list.proofs.Common.{slice_get, Published, NamedPath, values_of, Contains, KeepsAll, KeepsBut, BeginsIn}
+use Rattle.olr_list.proofs.Common.{path_ids_of, option_map, NamedNoted, IsNoted, keys_by, named_keys, AreNotedAt, map-append, AreEncoded, nat_tests}
+use Rattle.olr_list.proofs.Common.{slice_get, Published, NamedPath, values_of, Contains, AddsOnly, ChangesOnly, BeginsIn}
 use Rattle.olr_list.proofs.Common.{PathList, made_of, all_put, puts_of, length, get_or, IsTrue, Option, Begins, Finder}
 use Rattle.olr_list.proofs.Common.{String, Global, subst, arith, holds, Index, Grows, items, ◌==◌, List, ◌||◌, ◌&&◌, []}
 use Rattle.olr_list.proofs.Common.{take, zero, Some, None, refl, Item, ◌++◌, Path, Made, ◌≡◌, ◌≢◌, ◌+◌, ◌<◌, not, All}
 use Rattle.olr_list.proofs.Common.{inl, inr, suc, ◌∷◌, sym, ◌∙◌, has, ◌≤◌, Put, put, ap, Rc, ℕ}
 use Rattle.olr_list.proofs.Alls.{all_more, at_position}
 use Rattle.olr_list.proofs.NamedEntries.{Entries, item_of, items_of, item_at, made_of_named}
-use Rattle.olr_list.proofs.PathIdLemmas.{named_grown}
+use Rattle.olr_list.proofs.PathIdLemmas.{noted_grown}
 
 -- after this many of the numbers
 pub record Noted {A : Type 0} (number : A → ℕ) (path_id : ℕ) (old now : Index) (xs : List A) : Type 0 where
   pub noted : All (λ x. IsTrue (holds now (number x) path_id)) xs
-  pub grows : KeepsAll old now
-  pub spares : KeepsBut path_id old now
+  pub grows : AddsOnly old now
+  pub spares : ChangesOnly path_id old now
 
 module _ {A : Type 0} (number : A → ℕ) (path_id : ℕ) (old : Index) where
   pub noted_more : (now new : Index) (xs : List A) (k : ℕ) (d : A) (v : ℕ) → k < length xs →
@@ -23,7 +23,7 @@ module _ {A : Type 0} (number : A → ℕ) (path_id : ℕ) (old : Index) where
       Noted number path_id old new (take (k + 1) xs)
   noted_more now new xs k d v lt is h added =
       let P : A → Type 0 = λ x. IsTrue (holds new (number x) path_id) in
-      let grown : KeepsAll now new = λ n m t. grind (arith, added n m) in
+      let grown : AddsOnly now new = λ n m t. grind (arith, added n m) in
       record {
         noted = all_more P xs k d lt (λ i e low. grown (number (get_or (take k xs) i e)) path_id (h.noted i e low))
             (grind (arith, nat_tests, added v path_id));
@@ -46,24 +46,24 @@ module _ {A : Type 0} (number : A → ℕ) (path_id : ℕ) (old : Index) where
         spares = h.spares;
       }
 
--- after some of them were removed; the retained numbers still have the path id
-pub record Forgot (Kept : ℕ → Type 0) (path_id : ℕ) (old now : Index) : Type 0 where
-  pub keeps : (n : ℕ) → Kept n → IsTrue (holds old n path_id) → IsTrue (holds now n path_id)
-  pub spares : KeepsBut path_id old now
+-- after some of them were removed; the numbers of the path now still have the path id
+pub record Forgot (Stays : ℕ → Type 0) (path_id : ℕ) (old now : Index) : Type 0 where
+  pub stays : (n : ℕ) → Stays n → IsTrue (holds old n path_id) → IsTrue (holds now n path_id)
+  pub spares : ChangesOnly path_id old now
 
-module _ (Kept : ℕ → Type 0) (path_id : ℕ) (old : Index) where
-  pub forgot_more : (now new : Index) (v : ℕ) → Forgot Kept path_id old now → ¬ Kept v →
-      ((n m : ℕ) → holds new n m ≡ (holds now n m && not ((v == n) && (path_id == m)))) → Forgot Kept path_id old new
+module _ (Stays : ℕ → Type 0) (path_id : ℕ) (old : Index) where
+  pub forgot_more : (now new : Index) (v : ℕ) → Forgot Stays path_id old now → ¬ Stays v →
+      ((n m : ℕ) → holds new n m ≡ (holds now n m && not ((v == n) && (path_id == m)))) → Forgot Stays path_id old new
   forgot_more now new v h free taken = record {
-    keeps = λ n k t. let apart : n ≢ v = λ e. free (subst Kept e k) in
-        grind (arith, nat_tests, taken n path_id, h.keeps n k t);
+    stays = λ n k t. let apart : n ≢ v = λ e. free (subst Stays e k) in
+        grind (arith, nat_tests, taken n path_id, h.stays n k t);
     spares = λ n m ne. grind (arith, nat_tests, taken n m, h.spares n m ne);
   }
 
--- what is retained
-module _ {A : Type 0} (number : A → ℕ) (kept : List A) where
-  abbrev pub KeptIn : ℕ → Type 0
-  KeptIn n = (x : A) × Contains kept x × (number x ≡ n)
+-- the numbers of the path now
+module _ {A : Type 0} (number : A → ℕ) (xs : List A) where
+  abbrev pub NumberIn : ℕ → Type 0
+  NumberIn n = (x : A) × Contains xs x × (number x ≡ n)
 
 abbrev pub One : Type 0
 One = ℕ × NamedPath
@@ -74,7 +74,7 @@ NotedAt ms f r = r.0 < length ms → NamedNoted f (get_or ms r.0 0) r.1
 
 pub at_grown : (ms : List ℕ) (f g : Finder) (fresh : List One) → Grows f g → AreNotedAt ms f fresh →
     AreNotedAt ms g fresh
-at_grown ms f g fresh more h k d lt low = named_grown f g _ (get_or fresh k d).1 more (h k d lt low)
+at_grown ms f g fresh more h k d lt low = noted_grown f g _ (named_keys (get_or fresh k d).1) more (h k d lt low)
 
 -- of the first k, and of one more
 pub at_more : (ms : List ℕ) (f g : Finder) (fresh : List One) (k : ℕ) (d : One) → k < length fresh → Grows f g →
@@ -103,9 +103,14 @@ lack_from [] l none h = h
 lack_from (e ∷ es) l none (inl b) = none 0 e refl b
 lack_from (e ∷ es) l none (inr b) = lack_from es l (λ k. none (suc k)) b
 
-pub lack_by : (p : PathList) → IsTrue p.finder.known → ((number : ℕ) → path_ids_of p.finder.by_query_origin number ≡ []) →
+-- what is published of a path is noted
+pub noted_as : (f : Finder) (m : ℕ) (n : NamedPath) (p : Rc Published Global) → n.published ≡ Some p → NamedNoted f m n →
+    IsNoted f m (keys_by n.path.value.lines (Some p))
+noted_as f m n p is h = subst (λ (o : Option (Rc Published Global)). IsNoted f m (keys_by n.path.value.lines o)) is h
+
+pub lack_by : (p : PathList) → IsTrue p.finder.indexed → ((number : ℕ) → path_ids_of p.finder.by_query_origin number ≡ []) →
     LackQueries (items p)
-lack_by p known empty l = lack_from p.paths.entries l (λ k e at. by k e at e.1.published refl) where
+lack_by p indexed empty l = lack_from p.paths.entries l (λ k e at. by k e at e.1.published refl) where
   by : (k : ℕ) (e : String Global × NamedPath) → slice_get p.paths.entries k ≡ Some e →
       (o : Option (Rc Published Global)) → e.1.published ≡ o → BeginsIn (option_map (λ r. made_of r.value) o) l → ⊥
   by k e at None is b = b
@@ -113,7 +118,7 @@ lack_by p known empty l = lack_from p.paths.entries l (λ k e at. by k e at e.1.
       let id = get_or p.path_ids.items k 0 in
       let held : IsTrue (holds p.finder.by_query_origin l.from id) =
       All-contains (λ (q : CoverageQuery). IsTrue (holds p.finder.by_query_origin q.from id)) r.value.queries.items l
-      (p.noted k e at r is known).1 b in
+      (noted_as p.finder id e.1 r is (p.noted k e at) indexed).1 b in
       let off = ap (λ (xs : List ℕ). has xs id) (empty l.from) in
       cc (held, off)
 

@@ -1,8 +1,8 @@
 -- The coverage queries of a list in which an item was replaced, or a path was added, set or dropped.
-use Rattle.olr_list.proofs.Common.{inl, inr, ◌≡◌, ℕ, zero, suc, ◌+◌, ◌⊎◌, Bool, List, [], ◌∷◌, ◌++◌, map, take}
-use Rattle.olr_list.proofs.Common.{slice_get, Option, Some, subst, arith, filter, option_map, Path, CoverageQuery}
+use Rattle.olr_list.proofs.Common.{inl, inr, ◌≡◌, ℕ, zero, suc, ◌⊎◌, Bool, List, [], ◌∷◌, ◌++◌, map}
+use Rattle.olr_list.proofs.Common.{slice_get, Option, Some, arith, filter, option_map, Path, CoverageQuery}
 use Rattle.olr_list.proofs.Common.{Made, Item, made_of, set_item, BeginsIn, Begins, BeginsPut, Put, put, all_put}
-use Rattle.olr_list.proofs.Common.{puts_of, NamedPath, take_more_at}
+use Rattle.olr_list.proofs.Common.{puts_of, NamedPath}
 
 -- of one of the list's items
 pub begins_there : (is : List Item) (k : ℕ) (i : Item) (v : CoverageQuery) → slice_get is k ≡ Some i →
@@ -48,13 +48,6 @@ pub begins_set : (name : List ℕ) (path : Path) (made : Option Made) (is : List
 begins_set name path made [] v h = absurd h
 begins_set name path made (i ∷ is) v h = grind (arith, begins_set name path made is v)
 
-pub begins_drop : (keep : Item → Bool) (is : List Item) (v : CoverageQuery) → Begins (filter keep is) v → Begins is v
-begins_drop keep [] v h = h
-begins_drop keep (i ∷ is) v h = grind (arith, begins_drop keep is v)
-
--- as far as a loop has come
-pub begins_more : (is : List Item) (k : ℕ) (i : Item) (v : CoverageQuery) → slice_get is k ≡ Some i →
-    Begins (take (k + 1) is) v →
-    Begins (take k is) v ⊎ BeginsIn i.made v
-begins_more is k i v at h =
-    begins_add (take k is) i v (subst (λ (js : List Item). Begins js v) (take_more_at is k i at) h)
+pub begins_drop : (stays : Item → Bool) (is : List Item) (v : CoverageQuery) → Begins (filter stays is) v → Begins is v
+begins_drop stays [] v h = h
+begins_drop stays (i ∷ is) v h = grind (arith, begins_drop stays is v)

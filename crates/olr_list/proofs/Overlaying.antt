@@ -1,13 +1,12 @@
 -- Lists of named paths under changes: which names they have, and the effect of one more change.
-use Rattle.olr_list.proofs.Common.{◌≡◌, ℕ, ◌+◌, Bool, true, false, not, ◌&&◌, cond, List, [], ◌∷◌, ◌++◌, map, drop}
-use Rattle.olr_list.proofs.Common.{slice_get, Option, Some, None, is_some, refl, sym, ap, ◌∙◌, subst, append_assoc}
+use Rattle.olr_list.proofs.Common.{◌≡◌, ℕ, Bool, true, false, not, ◌&&◌, cond, List, [], ◌∷◌, ◌++◌, map}
+use Rattle.olr_list.proofs.Common.{Option, Some, None, is_some, refl, sym, ap, ◌∙◌, subst, append_assoc}
 use Rattle.olr_list.proofs.Common.{arith, option_map, string_bytes, filter, lookup, string_eq, Rc, map-append}
 use Rattle.olr_list.proofs.Common.{insert_entry, Path, same_name, path_named, NamesDiffer, same_is, Item, all_named}
 use Rattle.olr_list.proofs.Common.{set_item, NamedPath, Changes, change_at, drops, under_change, under_changes}
 use Rattle.olr_list.proofs.Common.{path_in, changes_in, bytes_decides, String, Global, append-nil, filter-append}
 use Rattle.olr_list.specs.Stored.{item_of}
-use Rattle.olr_list.proofs.Alls.{drop_at}
-use Rattle.olr_list.proofs.NamedEntries.{asks, same_flip, absent, keeps_all, sets_none}
+use Rattle.olr_list.proofs.NamedEntries.{asks, same_flip, absent, none_filtered, sets_none}
 
 abbrev pub Entered : Type 0
 Entered = List (String Global × Option (Rc Path Global))
@@ -131,7 +130,7 @@ sets name path = record {
 pub removes : (name : List ℕ) → ActsOn name (others name)
 removes name = record {
   split = filter-append (λ i. not (same_name i.name name));
-  free = λ us off. keeps_all us name off;
+  free = λ us off. none_filtered us name off;
 }
 
 -- in the list, or among the new paths
@@ -158,23 +157,18 @@ overlaid_name None i j e = grind arith
 overlaid_name (Some None) i j e = absurd cc
 overlaid_name (Some (Some p)) i j e = grind arith
 
--- what was copied, so that the rest gives the whole
-pub record Copied (cs : Changes) (is to now : List Item) (k : ℕ) : Type 0 where
+-- what was copied, so that the paths that are left give the whole
+pub record Copied (cs : Changes) (left is to now : List Item) : Type 0 where
   pub done : List Item
   pub put : now ≡ to ++ done
-  pub rest : done ++ under_changes cs (drop k is) ≡ under_changes cs is
+  pub rest : done ++ under_changes cs left ≡ under_changes cs is
 
-module _ (cs : Changes) (is to now : List Item) (k : ℕ) (h : Copied cs is to now k) (i : Item)
-    (at : slice_get is k ≡ Some i) where
-  one : List Item
-  one = under_change (change_at cs i.name) i
-
-  pub copied_more : (new : List Item) → new ≡ now ++ under_change (change_at cs i.name) i → Copied cs is to new (k + 1)
+module _ (cs : Changes) (left is to now : List Item) (i : Item) (h : Copied cs (i ∷ left) is to now) where
+  pub copied_more : (new : List Item) → new ≡ now ++ under_change (change_at cs i.name) i → Copied cs left is to new
   copied_more new e = record {
     done = h.done ++ under_change (change_at cs i.name) i;
     put = rw (e, h.put, append_assoc to h.done (under_change (change_at cs i.name) i)) refl;
-    rest = append_assoc h.done (under_change (change_at cs i.name) i) (under_changes cs (drop (k + 1) is))
-        ∙ ap (λ (js : List Item). h.done ++ under_changes cs js) (sym (drop_at is k i at)) ∙ h.rest;
+    rest = append_assoc h.done (under_change (change_at cs i.name) i) (under_changes cs left) ∙ h.rest;
   }
 
   -- one more is added if none has its name
@@ -183,9 +177,9 @@ module _ (cs : Changes) (is to now : List Item) (k : ℕ) (h : Copied cs is to n
   put_free n j e same d =
       let c = change_at cs i.name in
       let is_j : under_change c i ≡ j ∷ [] = ap (under_change c) (sym same) ∙ e in
-      let rest = under_changes cs (drop (k + 1) is) in
+      let rest = under_changes cs left in
       let all : to ++ under_changes cs is ≡ now ++ j ∷ rest =
-      rw (← h.rest, drop_at is k i at, is_j, h.put, append_assoc to h.done (j ∷ rest)) refl in
+      rw (← h.rest, is_j, h.put, append_assoc to h.done (j ∷ rest)) refl in
       let here : same_name j.name j.name ≡ true = (bytes_decides j.name j.name).1 refl in
       rw (← overlaid_name c i j is_j)
       (first_absent now (j ∷ rest) j.name (subst (λ (js : List Item). NamesDiffer (all_named js)) all d) (rw here))

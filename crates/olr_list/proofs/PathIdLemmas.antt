@@ -2,7 +2,7 @@
 --     Each P es ms      P holds of the id and the path at each position
 use Rattle.olr_list.proofs.Common.{AllPairs-from_increasing, get_or_from_slice_get, IsStrictlyIncreasing, string_bytes}
 use Rattle.olr_list.proofs.Common.{IsBinarySearchResult, slice_get_within, length-remove, set_value_at, insert_entry}
-use Rattle.olr_list.proofs.Common.{cases_order, get_or_read, NamedNoted, has-remove, slice_get, result_ok, string_eq}
+use Rattle.olr_list.proofs.Common.{cases_order, get_or_read, NamedNoted, IsNoted, KeyLists, named_keys, has-remove, slice_get, result_ok, string_eq}
 use Rattle.olr_list.proofs.Common.{NamedPath, place_not, cases_lt, place_of, PathList, AreNoted, flipped, ascends, inl}
 use Rattle.olr_list.proofs.Common.{length, get_or, Result, remove, eq-eqb, Finder, String, Global, has_at, Spares, inr}
 use Rattle.olr_list.proofs.Common.{false, subst, arith, Grows, zero, Bool, ◌&&◌, List, ◌++◌, Some, refl, ◌≡◌, ◌≢◌, suc}
@@ -12,18 +12,18 @@ use Rattle.olr_list.proofs.NamedEntries.{Entries, item_of, items_of, absent, not
 
 -- ---- the index entries of a path, as others are added and removed
 
-pub named_grown : (f g : Finder) (m : ℕ) (n : NamedPath) → Grows f g → NamedNoted f m n → NamedNoted g m n
-named_grown f g m n more h p some known =
-    let old = h p some (more.3 known) in (
+pub noted_grown : (f g : Finder) (m : ℕ) (k : KeyLists) → Grows f g → IsNoted f m k → IsNoted g m k
+noted_grown f g m k more h indexed =
+    let old = h (more.3 indexed) in (
       (λ k d lt. more.0 _ m (old.0 k d lt)),
       (λ k d lt. more.1 _ m (old.1 k d lt)),
       (λ k d lt. more.2 _ m (old.2 k d lt)),
     )
 
-pub named_spared : (f g : Finder) (path_id m : ℕ) (n : NamedPath) → m ≢ path_id → Spares path_id f g →
-    NamedNoted f m n → NamedNoted g m n
-named_spared f g path_id m n ne spare h p some known =
-    let old = h p some (spare.3 known) in (
+key_spared : (f g : Finder) (path_id m : ℕ) (k : KeyLists) → m ≢ path_id → Spares path_id f g → IsNoted f m k →
+    IsNoted g m k
+key_spared f g path_id m k ne spare h indexed =
+    let old = h (spare.3 indexed) in (
       (λ k d lt. spare.0 _ m ne ∙ old.0 k d lt),
       (λ k d lt. spare.1 _ m ne ∙ old.1 k d lt),
       (λ k d lt. spare.2 _ m ne ∙ old.2 k d lt),
@@ -113,10 +113,10 @@ module _ (P : ℕ → NamedPath → Type 0) where
   each_set (x ∷ es) (y ∷ ms) (suc q) n h one (suc k) e at =
       each_set es ms q n (λ j f ne. h (suc j) f (λ s. ne (omega arith))) one k e at
 
-pub kept_long : (es : Entries) (q : ℕ) (n : NamedPath) → length (set_value_at es q n) ≡ length es
-kept_long [] q n = refl
-kept_long (e ∷ es) zero n = refl
-kept_long (e ∷ es) (suc q) n = ap suc (kept_long es q n)
+pub set_long : (es : Entries) (q : ℕ) (n : NamedPath) → length (set_value_at es q n) ≡ length es
+set_long [] q n = refl
+set_long (e ∷ es) zero n = refl
+set_long (e ∷ es) (suc q) n = ap suc (set_long es q n)
 
 -- ---- as index entries change
 
@@ -124,7 +124,7 @@ kept_long (e ∷ es) (suc q) n = ap suc (kept_long es q n)
 noted_spared : (es : Entries) (ms : List ℕ) (f g : Finder) (path_id : ℕ) →
     ((k : ℕ) → k < length es → get_or ms k 0 ≢ path_id) → Spares path_id f g → AreNoted es ms f → AreNoted es ms g
 noted_spared es ms f g path_id other spare h k e at =
-    named_spared f g path_id (get_or ms k 0) e.1 (other k (slice_get_within es k e at)) spare (h k e at)
+    key_spared f g path_id (get_or ms k 0) (named_keys e.1) (other k (slice_get_within es k e at)) spare (h k e at)
 
 -- an id greater than all others
 pub noted_below : (l : PathList) (g : Finder) (path_id : ℕ) →
@@ -146,7 +146,7 @@ module _ (l : PathList) (g : Finder) (q path_id : ℕ) (within : q < length l.pa
   here = sym (get_or_read ms q path_id within is 0)
 
   beside : (k : ℕ) (e : String Global × NamedPath) → k ≢ q → slice_get es k ≡ Some e → NamedNoted g (get_or ms k 0) e.1
-  beside k e ne at = named_spared l.finder g path_id (get_or ms k 0) e.1
+  beside k e ne at = key_spared l.finder g path_id (get_or ms k 0) (named_keys e.1)
       (λ same. apart ms l.ascend k q (omega (arith, slice_get_within l.paths.entries k e at, l.long)) within ne (same ∙ sym here))
       spare (l.noted k e at)
 
@@ -164,12 +164,12 @@ module _ (l : PathList) (g : Finder) (q path_id : ℕ) (within : q < length l.pa
   -- its path still has its index entries
   pub noted_but : (x : String Global × NamedPath) → slice_get es q ≡ Some x →
       (NamedNoted l.finder path_id x.1 → NamedNoted g path_id x.1) → AreNoted es ms g
-  noted_but x at keeps k e there = elim (cases_order k q) [
+  noted_but x at still k e there = elim (cases_order k q) [
     | inl same ↦
         let one : x ≡ e = cc (at, there, same) in
         let id : path_id ≡ get_or ms k 0 = sym here ∙ ap (λ (j : ℕ). get_or ms j 0) (sym same) in
         let old : NamedNoted l.finder path_id x.1 = rw (one, id) (l.noted k e there) in
-        rw (← id, ← one) (keeps old)
+        rw (← id, ← one) (still old)
     | inr differ ↦ beside k e (λ s. elim differ [ inl low ↦ omega arith | inr high ↦ omega arith ]) there
   ]
 

@@ -1,5 +1,5 @@
 -- Which action a renewal takes for a path.
---     Stays N T X C m P      not too many lines have changed, no traversed node and no line of the path is touched, and
+--     Retains N T X C m P      not too many lines have changed, no traversed node and no line of the path is touched, and
 --         each coverage query is clear
 --     ToName N T X made P      it was not encoded yet, or the edits affect it
 --     IsActionFor      the action for a path
@@ -12,33 +12,33 @@ use Rattle.olr_commands.specs.Counts.{most_changed}
 use Rattle.olr_list.specs.Items.{Made}
 use Rattle.olr_list.specs.Changes.{TraversedTouched, LineTouched, Touches, IsKnownClear}
 use Rattle.olr_list.specs.declared.actions.Action.{Action}
-use Rattle.olr_list.specs.declared.actions.Action.TheVariants.{Stay, Keep, Encode}
+use Rattle.olr_list.specs.declared.actions.Action.TheVariants.{Skip, Retain, Encode}
 
-pub record Stays (N : Map) (T X : List ℕ) (C : List ChangedLine) (m : Made) (P : Path) : Type 0 where
+pub record Retains (N : Map) (T X : List ℕ) (C : List ChangedLine) (m : Made) (P : Path) : Type 0 where
   pub few : length C ≤ most_changed
   pub traversed : ¬ TraversedTouched T m
   pub lines : ¬ LineTouched X P
   pub clear : All (IsKnownClear N C) m.queries
 
-abbrev pub ToStay : Map → List ℕ → List ℕ → Option Made → Path → Type 0
-ToStay N T X made P = (m : Made) × (made ≡ Some m) × ¬ Touches N T X m P
+abbrev pub ToSkip : Map → List ℕ → List ℕ → Option Made → Path → Type 0
+ToSkip N T X made P = (m : Made) × (made ≡ Some m) × ¬ Touches N T X m P
 
 abbrev pub ToName : Map → List ℕ → List ℕ → Option Made → Path → Type 0
 ToName N T X made P = (made ≡ None) ⊎ ((m : Made) × (made ≡ Some m) × Touches N T X m P)
 
-abbrev pub ToKeep : Map → List ℕ → List ℕ → List ChangedLine → Option Made → Path → Type 0
-ToKeep N T X C made P = (m : Made) × (made ≡ Some m) × Touches N T X m P × Stays N T X C m P
+abbrev pub ToRetain : Map → List ℕ → List ℕ → List ChangedLine → Option Made → Path → Type 0
+ToRetain N T X C made P = (m : Made) × (made ≡ Some m) × Touches N T X m P × Retains N T X C m P
 
 abbrev pub ToEncode : Map → List ℕ → List ℕ → List ChangedLine → Option Made → Path → Type 0
 ToEncode N T X C made P =
-    (made ≡ None) ⊎ ((m : Made) × (made ≡ Some m) × Touches N T X m P × ¬ Stays N T X C m P)
+    (made ≡ None) ⊎ ((m : Made) × (made ≡ Some m) × Touches N T X m P × ¬ Retains N T X C m P)
 
 abbrev pub IsActionFor : Map → List ℕ → List ℕ → List ChangedLine → Option Made → Path → Action → Type 0
-IsActionFor N T X C made P Stay = ToStay N T X made P
-IsActionFor N T X C made P Keep = ToKeep N T X C made P
+IsActionFor N T X C made P Skip = ToSkip N T X made P
+IsActionFor N T X C made P Retain = ToRetain N T X C made P
 IsActionFor N T X C made P Encode = ToEncode N T X C made P
 
 abbrev pub IsEncode : Action → Type 0
-IsEncode Stay = ⊥
-IsEncode Keep = ⊥
+IsEncode Skip = ⊥
+IsEncode Retain = ⊥
 IsEncode Encode = ⊤

@@ -10,7 +10,7 @@ use Rattle.olr_spec.specs.Map.{Map, has}
 use Rattle.olr_index.specs.PathIds.{holds}
 use Rattle.olr_index.specs.declared.Index.{Index}
 use Rattle.olr_list.specs.Items.{Made, Item}
-use Rattle.olr_list.specs.Actions.{ToStay}
+use Rattle.olr_list.specs.Actions.{ToSkip}
 use Rattle.olr_list.specs.Overlaid.{Changes, change_at}
 use Rattle.olr_list.specs.ChangeSets.{nodes_of, lines_of}
 use Rattle.olr_list.specs.AffectedSearches.{IsAsked}
@@ -28,12 +28,12 @@ abbrev pub AreFound : List ℕ → Index → List ℕ → List ℕ → Type 0
 AreFound path_ids i vs found = All (λ v. Finds path_ids i v found) vs
 
 abbrev pub Covers : Map → List ℕ → List ℕ → List Item → List ℕ → Type 0
-Covers N T X is found = (k : ℕ) (i : Item) → slice_get is k ≡ Some i → has found k ≡ false → ToStay N T X i.made i.path
+Covers N T X is found = (k : ℕ) (i : Item) → slice_get is k ≡ Some i → has found k ≡ false → ToSkip N T X i.made i.path
 
 abbrev pub CoversAsked : Map → (ℕ → ℕ) → ChangeSet → Searches → List Item → List ℕ → Type 0
 CoversAsked N slot t s is found =
     (k : ℕ) (i : Item) → slice_get is k ≡ Some i → has found k ≡ false
-    → ((m : Made) → i.made ≡ Some m → IsAsked N slot t s m) → ToStay N (nodes_of t) (lines_of t) i.made i.path
+    → ((m : Made) → i.made ≡ Some m → IsAsked N slot t s m) → ToSkip N (nodes_of t) (lines_of t) i.made i.path
 
 abbrev pub FindsChanged : Changes → List Item → List ℕ → Type 0
 FindsChanged cs is found =

@@ -3,7 +3,7 @@
 --         removed
 --     under_changes cs is      the list with these changes.
 --     under_overlay is o      the list with the changes of an overlay, and the new paths at the end
---     TakesNone cs      no path is removed
+--     RemovesNone cs      no path is removed
 use Rattle.std.specs.Prelude.{◌≡◌, ℕ, Bool, true, false, cond, List, [], ◌∷◌, ◌++◌, map, Option, Some, None, option_map}
 use Rattle.std.specs.Prelude.{string_bytes}
 use Rattle.std.specs.Coded.{coded_ℕ, Coded-set}
@@ -29,11 +29,11 @@ drops (Some None) = true
 drops (Some (Some path)) = false
 drops None = false
 
-abbrev pub TakesNone : Changes → Type 0
-TakesNone cs = (name : List ℕ) → drops (change_at cs name) ≡ false
+abbrev pub RemovesNone : Changes → Type 0
+RemovesNone cs = (name : List ℕ) → drops (change_at cs name) ≡ false
 
-pub TakesNone-prop : (cs : Changes) → IsProp (TakesNone cs)
-TakesNone-prop cs = hlevel (props, Coded-set coded_ℕ)
+pub RemovesNone-prop : (cs : Changes) → IsProp (RemovesNone cs)
+RemovesNone-prop cs = hlevel (props, Coded-set coded_ℕ)
 
 -- one path under its change; a replacement is not encoded yet
 abbrev pub under_change : Option (Option Path) → Item → List Item

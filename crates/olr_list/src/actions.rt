@@ -5,15 +5,13 @@ ghost use Rattle.olr_list.specs.Views.{shown_item};
 ghost use Rattle.olr_list.specs.ChangeSets.{nodes_of, lines_of, changed_of};
 ghost use Rattle.olr_list.specs.AffectedSearches.{AreDetours, AreAsked, IsAsked};
 ghost use Rattle.olr_commands.specs.Counts.{most_changed};
-ghost use Rattle.olr_list.specs.Actions.{Stays, ToStay, ToName, IsActionFor};
+ghost use Rattle.olr_list.specs.Actions.{Retains, ToSkip, ToName, IsActionFor};
 
-use crate::affected::{is_line_touched, is_touched, is_traversed_touched};
+use crate::affected::{is_path_touched, is_query_touched};
 use crate::change_set::ChangeSet;
 use crate::detours::{Detours, are_clear, are_few};
-use crate::published::Published;
 use crate::searches::Searches;
 use crate::view::PathView;
-use olr_answers::Path;
 use olr_roads::MapRead;
 use std::alloc::AllocError;
 
@@ -21,9 +19,9 @@ use std::alloc::AllocError;
 #[derive(Clone, Copy)]
 pub enum Action {
     /// It isn't affected.
-    Stay,
+    Skip,
     /// It is affected, and its answer is retained.
-    Keep,
+    Retain,
     /// It is encoded again.
     Encode,
 }
@@ -37,7 +35,7 @@ pub fn is_affected<M: MapRead>(
 ) -> bool
     requires { (m : Made) → (shown_item shown).made ≡ Some m
         → IsAsked (M.map map.now) (M.node_slot map.now) touched.now searches.now m }
-    ensures stays { IsFalse result → ToStay (M.map map.now) (nodes_of touched.now) (lines_of touched.now)
+    ensures stays { IsFalse result → ToSkip (M.map map.now) (nodes_of touched.now) (lines_of touched.now)
         (shown_item shown.entry).made (shown_item shown.entry).path }
     ensures affected { IsTrue result → ToName (M.map map.now) (nodes_of touched.now) (lines_of touched.now)
         (shown_item shown.entry).made (shown_item shown.entry).path }
@@ -45,34 +43,8 @@ pub fn is_affected<M: MapRead>(
     let Some(published) = shown.published else {
         return true;
     };
-    is_touched(map, touched, searches, shown.path, published)
-}
-
-/// Whether a path which the edits affect retains its answer.
-fn is_unchanged<M: MapRead>(
-    map: &M,
-    touched: &ChangeSet,
-    detours: &mut Detours,
-    path: &Path,
-    published: &Published,
-) -> Result<bool, AllocError>
-    requires { length (changed_of touched.now) ≤ most_changed
-        → AreDetours (M.map map.now) (M.node_slot map.now) touched.now detours.old }
-    ensures stays { IfOk result (λ stays. IsTrue stays ↔ Stays (M.map map.now) (nodes_of touched.now)
-        (lines_of touched.now) (changed_of touched.now) (made_of published.now) path.now) }
-    ensures detours { OnOk result (length (changed_of touched.now) ≤ most_changed
-        → AreDetours (M.map map.now) (M.node_slot map.now) touched.now detours.new) }
-{
-    if !are_few(touched) {
-        return Ok(false);
-    }
-    if is_traversed_touched(touched, &published.traversed) {
-        return Ok(false);
-    }
-    if is_line_touched(touched, path.lines()) {
-        return Ok(false);
-    }
-    are_clear(map, touched, detours, &published.queries)
+    is_query_touched(map, touched, searches, published)
+        || is_path_touched(touched, shown.path, published)
 }
 
 /// The action for a path.
@@ -97,11 +69,14 @@ pub fn decide<M: MapRead>(
     let Some(published) = shown.published else {
         return Ok(Action::Encode);
     };
-    if !is_touched(map, touched, searches, shown.path, published) {
-        return Ok(Action::Stay);
+    if is_path_touched(touched, shown.path, published) {
+        return Ok(Action::Encode);
     }
-    if is_unchanged(map, touched, &mut searches.detours, shown.path, published)? {
-        return Ok(Action::Keep);
+    if !is_query_touched(map, touched, searches, published) {
+        return Ok(Action::Skip);
+    }
+    if are_few(touched) && are_clear(map, touched, &mut searches.detours, &published.queries)? {
+        return Ok(Action::Retain);
     }
     Ok(Action::Encode)
 }

@@ -1,11 +1,11 @@
 //! The searches of a renewal, and which paths the edits of the map affect.
-ghost use Rattle.std.specs.Prelude.{◌≡◌, ◌↔◌, ◌<◌, ◌≤◌, ℕ, min, length, Contains, IsTrue, IfOk, OnOk};
+ghost use Rattle.std.specs.Prelude.{◌≡◌, ◌↔◌, ◌⊎◌, ◌<◌, ◌≤◌, ℕ, min, length, Contains, IsTrue, IfOk, OnOk};
 ghost use Rattle.std.specs.List.{list_any};
-ghost use Rattle.std.specs.List.Sorted.{IsNonDecreasing};
+ghost use Rattle.std.specs.List.Sorted.{IsStrictlyIncreasing};
 ghost use Rattle.olr_spec.specs.Map.{has};
 ghost use Rattle.olr_spec.specs.Extension.{limit};
 ghost use Rattle.olr_spec.specs.Detours.{Near};
-ghost use Rattle.olr_spec.specs.Queries.{CoverageQuery};
+ghost use Rattle.olr_spec.specs.Queries.{CoverageQuery as QueryRecord};
 ghost use Rattle.olr_search.specs.Bounds.{AreLengths};
 ghost use Rattle.olr_near.specs.Bounds.{IsRight, IsSource};
 ghost use Rattle.olr_search.specs.declared.distances.Direction.TheVariants.{Against};
@@ -15,7 +15,7 @@ ghost use Rattle.olr_list.specs.Views.{shown_items};
 ghost use Rattle.olr_list.specs.ChangeSets.{nodes_of, lines_of, changed_of};
 ghost use Rattle.olr_list.specs.AffectedSearches.{sources, IsExactAt, IsAsked, AreAsked, AreDetours, LackQueries};
 ghost use Rattle.olr_list.specs.Candidates.{Covers};
-ghost use Rattle.olr_list.specs.Changes.{Touches, QueryTouched};
+ghost use Rattle.olr_list.specs.Changes.{LineTouched, QueryTouched, TraversedTouched};
 ghost use Rattle.olr_list.specs.Origins.{AreBoundsOf};
 
 use crate::candidates::candidates;
@@ -26,7 +26,7 @@ use crate::path_list::PathList;
 use crate::published::Published;
 use crate::searches::Searches;
 use crate::sources::begin_at;
-use olr_answers::Path;
+use olr_answers::{CoverageQuery, Path};
 use olr_near::DistanceBounds;
 use olr_roads::{Footprint, LineId, MapRead, NodeId};
 use olr_search::{Dijkstra, Direction, GREATEST_LIMIT};
@@ -59,7 +59,7 @@ pub(crate) fn search_near<M: MapRead>(
 fn lacks_queries(list: &PathList) -> bool
     ensures { IsTrue result → LackQueries (items list.now) }
 {
-    list.finder.known && list.finder.by_query_origin.is_empty()
+    list.finder.indexed && list.finder.by_query_origin.is_empty()
 }
 
 /// Whether it is known that no path has a coverage query: then no touched node can be near to one.
@@ -105,7 +105,7 @@ pub fn ask<M: MapRead>(
     requires { AreBoundsOf (M.map map.now) bounds.now (shown_items overlaid) }
     ensures asked { OnOk result
         (AreAsked (M.map map.now) (M.node_slot map.now) touched.now searches.new (shown_items overlaid.entry)) }
-    ensures ascending { IfOk result (λ found. IsNonDecreasing found.items) }
+    ensures ascending { IfOk result (λ found. IsStrictlyIncreasing found.items) }
     ensures covers { IfOk result
         (λ found. Covers (M.map map.now) (nodes_of touched.now) (lines_of touched.now) (shown_items overlaid.entry)
         found.items) }
@@ -154,7 +154,7 @@ fn is_any_in(footprint: &Footprint, nodes: &[NodeId]) -> bool
 }
 
 /// Whether one of the traversed nodes was touched: each node of the shorter list is looked up.
-pub(crate) fn is_traversed_touched(touched: &ChangeSet, traversed: &Footprint) -> bool
+fn is_traversed_touched(touched: &ChangeSet, traversed: &Footprint) -> bool
     ensures { IsTrue result ↔ ((v : ℕ) × IsTrue (has (nodes_of touched.now) v) × Contains traversed.now v) }
 {
     let nodes = traversed.as_slice();
@@ -175,25 +175,33 @@ fn is_any_touched(touched: &ChangeSet, lines: &[LineId]) -> bool
 }
 
 /// Whether one of the lines was touched.
-pub(crate) fn is_line_touched(touched: &ChangeSet, lines: &[LineId]) -> bool
+fn is_line_touched(touched: &ChangeSet, lines: &[LineId]) -> bool
     ensures { IsTrue result ↔ ((x : ℕ) × IsTrue (has (lines_of touched.now) x) × IsTrue (has lines.now x)) }
 {
     is_any_touched(touched, lines)
 }
 
+/// Whether one of a path's traversed nodes or of its lines was touched.
+pub(crate) fn is_path_touched(touched: &ChangeSet, path: &Path, published: &Published) -> bool
+    ensures { IsTrue result ↔ TraversedTouched (nodes_of touched.now) (made_of published.now)
+        ⊎ LineTouched (lines_of touched.now) path.now }
+{
+    is_traversed_touched(touched, &published.traversed) || is_line_touched(touched, path.lines())
+}
+
 /// Whether a touched node is near to where one of the coverage queries begins.
-fn is_query_touched<M: MapRead>(
+fn is_any_near<M: MapRead>(
     map: &M,
     touched: &ChangeSet,
     near: &Dijkstra,
-    published: &Published,
+    queries: &[CoverageQuery],
 ) -> bool
     requires lengths { AreLengths (M.map map.now) (M.node_slot map.now) Against (sources touched.now) near.now }
-    requires returned { (l : CoverageQuery) → Contains (made_of published.now).queries l
+    requires returned { (l : QueryRecord) → Contains queries.now l
         → IsExactAt (M.map map.now) (M.node_slot map.now) touched.now near.now l.from (min l.within limit) }
-    ensures { IsTrue result ↔ QueryTouched (M.map map.now) (nodes_of touched.now) (made_of published.now) }
+    ensures { IsTrue result ↔ ((l : QueryRecord) × Contains queries.now l
+        × Near (M.map map.now) (nodes_of touched.now) l.from (min l.within limit)) }
 {
-    let queries = published.queries.as_slice();
     for query in queries {
         if is_near(map, touched, near, query.from, query.within) {
             return true;
@@ -202,19 +210,16 @@ fn is_query_touched<M: MapRead>(
     false
 }
 
-/// Whether the edits affect a path, by its results on the map before them.
-pub(crate) fn is_touched<M: MapRead>(
+/// Whether a touched node is near to where one of the path's coverage queries begins, by its results on the map before
+/// the edits.
+pub(crate) fn is_query_touched<M: MapRead>(
     map: &M,
     touched: &ChangeSet,
     searches: &Searches,
-    path: &Path,
     published: &Published,
 ) -> bool
     requires { IsAsked (M.map map.now) (M.node_slot map.now) touched.now searches.now (made_of published.now) }
-    ensures { IsTrue result
-        ↔ Touches (M.map map.now) (nodes_of touched.now) (lines_of touched.now) (made_of published.now) path.now }
+    ensures { IsTrue result ↔ QueryTouched (M.map map.now) (nodes_of touched.now) (made_of published.now) }
 {
-    (!searches.far && is_query_touched(map, touched, &searches.near, published))
-        || is_traversed_touched(touched, &published.traversed)
-        || is_line_touched(touched, path.lines())
+    !searches.far && is_any_near(map, touched, &searches.near, &published.queries)
 }

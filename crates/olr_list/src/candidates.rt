@@ -1,6 +1,6 @@
 //! Which paths the edits may affect: found by what they touched, without a pass over all paths.
 ghost use Rattle.std.specs.Prelude.{◌≡◌, ◌<◌, ◌≤◌, ℕ, [], Some, All, length, get_or, IsTrue, IsFalse, IfOk, OnOk};
-ghost use Rattle.std.specs.List.Sorted.{IsStrictlyIncreasing, IsNonDecreasing};
+ghost use Rattle.std.specs.List.Sorted.{IsStrictlyIncreasing};
 ghost use Rattle.olr_spec.specs.Map.{Map, has};
 ghost use Rattle.olr_index.specs.PathIds.{path_ids_of};
 ghost use Rattle.olr_list.specs.Items.{items};
@@ -32,7 +32,7 @@ fn position_of(path_ids: &[u64], path_id: u64) -> Option<usize>
 /// Appends the positions of the paths with these ids.
 fn put_positions(path_ids: &[u64], of: &[u64], found: &mut Vec<usize>) -> Result<(), AllocError>
     requires { IsStrictlyIncreasing path_ids.now }
-    ensures kept { OnOk result (Includes found.old.items found.new.items) }
+    ensures grows { OnOk result (Includes found.old.items found.new.items) }
     ensures put { OnOk result ((k : ℕ) → k < length path_ids.now → IsTrue (has of.now (get_or path_ids.now k 0))
         → IsTrue (has found.new.items k)) }
 {
@@ -52,7 +52,7 @@ fn put_found<T: Numbered>(
     found: &mut Vec<usize>,
 ) -> Result<(), AllocError>
     requires { IsStrictlyIncreasing path_ids.now }
-    ensures kept { OnOk result (Includes found.old.items found.new.items) }
+    ensures grows { OnOk result (Includes found.old.items found.new.items) }
     ensures put { OnOk result
         (All (λ x. Finds path_ids.now index.now (T.number_of x) found.new.items) items.now) }
 {
@@ -71,7 +71,7 @@ fn put_found<T: Numbered>(
 
 /// Appends the positions from `from` up to, but not including, `to`.
 fn put_range(from: usize, to: usize, found: &mut Vec<usize>) -> Result<(), AllocError>
-    ensures kept { OnOk result (Includes found.old.items found.new.items) }
+    ensures grows { OnOk result (Includes found.old.items found.new.items) }
     ensures put { OnOk result ((k : ℕ) → from ≤ k → k < to → IsTrue (has found.new.items k)) }
 {
     for position in from..to {
@@ -82,20 +82,14 @@ fn put_range(from: usize, to: usize, found: &mut Vec<usize>) -> Result<(), Alloc
 
 /// Appends the positions of the paths that changes replace.
 fn put_changed(overlaid: OverlaidList<'_>, found: &mut Vec<usize>) -> Result<(), AllocError>
-    ensures kept { OnOk result (Includes found.old.items found.new.items) }
+    ensures grows { OnOk result (Includes found.old.items found.new.items) }
     ensures put { OnOk result
         (FindsChanged (overlay_changes overlaid.entry.overlay.now) (items overlaid.entry.list.now) found.new.items) }
 {
-    // For the proof alone: no name occurs twice.
-    let _names = overlaid.list.len();
-    for k in 0..overlaid.overlay.changes.len() {
-        let Some((name, _)) = overlaid.overlay.changes.get_index(k) else {
-            unreachable!()
-        };
-        let Some(position) = overlaid.list.paths.get_index_of(name.as_str()) else {
-            continue;
-        };
-        found.push(position)?;
+    for (name, _) in &overlaid.overlay.changes {
+        if let Some(position) = overlaid.list.paths.get_index_of(name.as_str()) {
+            found.push(position)?;
+        }
     }
     Ok(())
 }
@@ -110,7 +104,7 @@ fn put_touched<M: MapRead>(
     found: &mut Vec<usize>,
 ) -> Result<(), AllocError>
     requires encoded { IsFalse list.now.held }
-    requires known { IsTrue list.now.finder.known }
+    requires indexed { IsTrue list.now.finder.indexed }
     ensures { OnOk result
         (CoversAsked (M.map map.now) (M.node_slot map.now) touched.now searches.now (items list.now) found.new.items) }
 {
@@ -138,7 +132,7 @@ fn put_listed<M: MapRead>(
         (CoversAsked (M.map map.now) (M.node_slot map.now) touched.now searches.now (items overlaid.entry.list.now)
         found.new.items) }
 {
-    if overlaid.list.held || !overlaid.list.finder.known {
+    if overlaid.list.held || !overlaid.list.finder.indexed {
         put_range(0, overlaid.list.len(), found)?;
         return Ok(());
     }
@@ -147,8 +141,8 @@ fn put_listed<M: MapRead>(
     Ok(())
 }
 
-/// The positions, in ascending order, of the paths that the edits may affect, and of replaced and new paths; a position
-/// may be repeated. All positions if the list may have a path that is not encoded yet.
+/// The positions of the paths that the edits may affect, and of replaced and new paths, each once and in ascending order.
+/// All positions if the list may have a path that is not encoded yet.
 pub(crate) fn candidates<M: MapRead>(
     alloc: Global,
     map: &M,
@@ -157,7 +151,7 @@ pub(crate) fn candidates<M: MapRead>(
     searches: &Searches,
 ) -> Result<Vec<usize>, AllocError>
     requires { AreAsked (M.map map.now) (M.node_slot map.now) touched.now searches.now (shown_items overlaid) }
-    ensures ascending { IfOk result (λ found. IsNonDecreasing found.items) }
+    ensures ascending { IfOk result (λ found. IsStrictlyIncreasing found.items) }
     ensures covers { IfOk result
         (λ found. Covers (M.map map.now) (nodes_of touched.now) (lines_of touched.now) (shown_items overlaid.entry)
         found.items) }
@@ -171,6 +165,7 @@ pub(crate) fn candidates<M: MapRead>(
         &mut found,
     )?;
     found.sort_unstable();
+    found.dedup();
     Ok(found)
 }
 
@@ -190,7 +185,7 @@ pub fn affects_none(list: &PathList, touched: &ChangeSet, bounds: &DistanceBound
     ensures { IsTrue result → (N : Map) → AreBoundsOf N bounds.now (items list.now)
         → Covers N (nodes_of touched.now) (lines_of touched.now) (items list.now) [] }
 {
-    if list.held || !list.finder.known || !bounds.is_far(touched.nodes()) {
+    if list.held || !list.finder.indexed || !bounds.is_far(touched.nodes()) {
         return false;
     }
     finds_none(&list.finder.traversed, touched.nodes())

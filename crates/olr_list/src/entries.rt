@@ -31,12 +31,8 @@ impl PathList {
         ensures reported { IfOk result (λ es. Reported [] (items self.now) (map entry_of es.items)) }
         ensures lacks { OnErr result (length (items self.now) ≢ 0) }
     {
-        let count = self.paths.len();
-        let mut entries = Vec::with_capacity(alloc, count)?;
-        for k in 0..count {
-            let Some((name, named)) = self.paths.get_index(k) else {
-                unreachable!()
-            };
+        let mut entries = Vec::with_capacity(alloc, self.paths.len())?;
+        for (name, named) in &self.paths {
             let Some(published) = named.published() else {
                 unreachable!()
             };

@@ -11,6 +11,7 @@ mod detours;
 mod entries;
 mod finder;
 mod iter;
+mod keys;
 mod numbered;
 mod overlaid_list;
 pub mod overlay;

@@ -1,5 +1,5 @@
 //! A list under changes, read in place.
-ghost use Rattle.olr_list.specs.Overlaid.{TakesNone, TakesNone-prop, overlay_changes};
+ghost use Rattle.olr_list.specs.Overlaid.{RemovesNone, RemovesNone-prop, overlay_changes};
 
 use crate::overlay::Overlay;
 use crate::path_list::PathList;
@@ -13,7 +13,7 @@ pub struct OverlaidList<'a> {
     pub list: &'a PathList,
     /// The changes.
     pub overlay: &'a Overlay,
-    ghost keeps: { TakesNone (overlay_changes overlay.now) } by { TakesNone-prop (overlay_changes overlay.now) },
+    ghost none_removed: { RemovesNone (overlay_changes overlay.now) } by { RemovesNone-prop (overlay_changes overlay.now) },
 }
 
 impl<'a> OverlaidList<'a> {

@@ -5,7 +5,7 @@ ghost use Rattle.std.specs.Option.{option_to_list};
 ghost use Rattle.olr_commands.specs.State.{NamesDiffer, path_named};
 ghost use Rattle.olr_list.specs.Items.{Item, items, all_named};
 ghost use Rattle.olr_list.specs.Stored.{item_of};
-ghost use Rattle.olr_list.specs.Overlaid.{TakesNone, changes_in, overlay_changes, change_at, drops, under_change};
+ghost use Rattle.olr_list.specs.Overlaid.{RemovesNone, changes_in, overlay_changes, change_at, drops, under_change};
 ghost use Rattle.olr_list.specs.Overlaid.{under_changes, under_overlay};
 
 use crate::path_list::{NamedPath, PathList};
@@ -46,7 +46,7 @@ fn becomes(
 }
 
 /// Appends a path of a list, under the changes, to another list. If an allocation fails, that list is unchanged.
-fn put_one(
+fn push_under(
     alloc: Global,
     changes: &IndexMap<String, Option<Rc<Path>>>,
     name: &str,
@@ -63,13 +63,13 @@ fn put_one(
     let Some(named) = becomes(changes, name, named)? else {
         return Ok(());
     };
-    to.put_last(String::from_str(alloc, name)?, named)?;
+    to.push(String::from_str(alloc, name)?, named)?;
     Ok(())
 }
 
 /// Appends a list, under changes, to another. The lists share paths and answers. If an allocation fails, only some
 /// paths are appended.
-fn put_behind(
+fn extend_under(
     alloc: Global,
     changes: &IndexMap<String, Option<Rc<Path>>>,
     list: &PathList,
@@ -81,22 +81,15 @@ fn put_behind(
         ++ under_changes (changes_in changes.now.entries) (items list.now)) }
     ensures before { take (length (items to.old)) (items to.new) ≡ items to.old }
 {
-    for k in 0..list.paths.len() {
-        let Some((name, named)) = list.paths.get_index(k) else {
-            unreachable!()
-        };
-        put_one(alloc, changes, name.as_str(), named, to)?;
+    for (name, named) in &list.paths {
+        push_under(alloc, changes, name.as_str(), named, to)?;
     }
     Ok(())
 }
 
 /// Appends a list to another. The lists share paths and answers. If an allocation fails, only some paths are appended.
 #[tactic(auto, using(crate::proofs::Overlaying::behind_none))]
-pub(crate) fn put_unchanged(
-    alloc: Global,
-    list: &PathList,
-    to: &mut PathList,
-) -> Result<(), AllocError>
+pub(crate) fn extend(alloc: Global, list: &PathList, to: &mut PathList) -> Result<(), AllocError>
     requires { NamesDiffer (all_named (items to.old ++ items list.now)) }
     ensures put { OnOk result (items to.new ≡ items to.old ++ items list.now) }
     ensures before { take (length (items to.old)) (items to.new) ≡ items to.old }
@@ -104,7 +97,7 @@ pub(crate) fn put_unchanged(
     if list.paths.is_empty() {
         return Ok(());
     }
-    put_behind(alloc, &IndexMap::new(alloc), list, to)
+    extend_under(alloc, &IndexMap::new(alloc), list, to)
 }
 
 // Written out: a derived drop is proved again in each crate that ends an overlay.
@@ -135,13 +128,10 @@ impl Overlay {
     }
 
     /// Whether a path is removed.
-    pub fn takes_some(&self) -> bool
-        ensures { IsFalse result → TakesNone (overlay_changes self.now) }
+    pub fn removes_some(&self) -> bool
+        ensures { IsFalse result → RemovesNone (overlay_changes self.now) }
     {
-        for k in 0..self.changes.len() {
-            let Some((_, change)) = self.changes.get_index(k) else {
-                unreachable!()
-            };
+        for (_, change) in &self.changes {
             if change.is_none() {
                 return true;
             }
@@ -151,7 +141,7 @@ impl Overlay {
 
     /// Whether the path of that name is removed.
     #[tactic(auto, using(crate::proofs::Overlaying::change_found))]
-    fn takes_away(&self, name: &str) -> bool
+    fn removes(&self, name: &str) -> bool
         ensures { result ≡ drops (change_at (overlay_changes self.now) name.now) }
     {
         match self.changes.get(name) {
@@ -165,7 +155,7 @@ impl Overlay {
     pub fn has(&self, list: &PathList, name: &str) -> bool
         ensures { result ≡ is_some (path_named (all_named (under_overlay (items list.now) self.now)) name.now) }
     {
-        self.added.has(name) || (!self.takes_away(name) && list.has(name))
+        self.added.has(name) || (!self.removes(name) && list.has(name))
     }
 
     /// Appends a new path. If an allocation fails, nothing changes.
@@ -219,8 +209,8 @@ impl Overlay {
         ensures { IfOk result (λ l. items l ≡ under_overlay (items list.now) self.now) }
     {
         let mut overlaid = PathList::unindexed(alloc);
-        if put_behind(alloc, &self.changes, list, &mut overlaid).is_err()
-            || put_unchanged(alloc, &self.added, &mut overlaid).is_err()
+        if extend_under(alloc, &self.changes, list, &mut overlaid).is_err()
+            || extend(alloc, &self.added, &mut overlaid).is_err()
         {
             drop(overlaid);
             return Err(AllocError);

@@ -1,15 +1,14 @@
 //! A list of named paths, in order.
 ghost use Rattle.std.specs.Prelude.{◌≡◌, IfOk, option_map};
-ghost use Rattle.std.specs.Prelude.{◌≢◌, ◌<◌, ℕ, None, length, get_or, IsFalse, IfSome, OnOk, OnErr};
+ghost use Rattle.std.specs.Prelude.{◌≢◌, ◌<◌, ℕ, None, length, get_or, IsFalse};
 ghost use Rattle.std.specs.List.Sorted.{IsStrictlyIncreasing};
-ghost use Rattle.olr_list.specs.Finders.{AreNoted, AreNoted-prop, ArePublished, ArePublished-prop, NamedNoted, Grows};
-ghost use Rattle.olr_list.specs.Finders.{Spares};
+ghost use Rattle.olr_list.specs.Finders.{AreNoted, AreNoted-prop, ArePublished, ArePublished-prop};
 
 use crate::finder::Finder;
+use crate::keys::Keys;
 use crate::published::Published;
 use indexmap::IndexMap;
 use olr_answers::Path;
-use olr_roads::LineId;
 use std::alloc::{AllocError, Global};
 use std::rc::Rc;
 
@@ -25,6 +24,21 @@ pub struct NamedPath {
 impl NamedPath {
     ghost use Rattle.std.specs.Prelude.{◌≡◌, IfOk, option_map};
     ghost use Rattle.olr_list.specs.Items.{made_of};
+    ghost use Rattle.olr_list.specs.Finders.{keys_in, named_keys};
+
+    /// What the path is found by.
+    pub(crate) fn keys(&self) -> Keys<'_>
+        ensures { keys_in result ≡ named_keys self.now }
+    {
+        let Some(published) = &self.published else {
+            return Keys::none();
+        };
+        Keys {
+            lines: self.path.lines(),
+            traversed: published.traversed.as_slice(),
+            queries: published.queries.as_slice(),
+        }
+    }
 
     /// What is published of the path. None if it is not encoded yet.
     pub(crate) fn published(&self) -> Option<&Published>
@@ -113,7 +127,7 @@ impl PathList {
         PathList {
             paths: IndexMap::new(alloc),
             path_ids: Vec::new(alloc),
-            finder: Finder::unknown(alloc),
+            finder: Finder::unindexed(alloc),
             held: false,
         }
     }
@@ -189,7 +203,7 @@ impl PathList {
             path: Rc::new(alloc, path)?,
             published: None,
         };
-        self.put_last(name, named)
+        self.push(name, named)
     }
 
     /// Replaces the path of a name by one that is not encoded yet. It keeps its position. If an allocation fails, the
@@ -203,7 +217,7 @@ impl PathList {
             path: Rc::new(alloc, path)?,
             published: None,
         };
-        self.put_other(name, named)
+        self.replace(name, named)
     }
 
     /// Removes the path of that name; the paths after it move up. Takes no memory.
@@ -217,11 +231,11 @@ impl PathList {
             unreachable!()
         };
         let path_id = self.path_ids.remove(position);
-        forget_named(&mut self.finder, path_id, &named, None);
+        self.finder.forget(path_id, named.keys(), Keys::none());
     }
 
     /// Appends a path. If an allocation fails, the list is unchanged.
-    pub fn put_last(&mut self, name: String, named: NamedPath) -> Result<(), AllocError>
+    pub fn push(&mut self, name: String, named: NamedPath) -> Result<(), AllocError>
         requires { is_some (path_named (all_named (items self.old)) (string_bytes name)) ≡ false }
         ensures ok { OnOk result (items self.new ≡ items self.old
             ++ record {
@@ -234,7 +248,7 @@ impl PathList {
         let path_id = next_path_id(&self.path_ids)?;
         self.paths.reserve(1)?;
         self.path_ids.reserve(1)?;
-        note_named(&mut self.finder, path_id, &named, None)?;
+        self.finder.replace(path_id, Keys::none(), named.keys())?;
         self.held = is_held(self.held, &named);
         match self.paths.insert(name, named) {
             Ok(_) => (),
@@ -245,7 +259,7 @@ impl PathList {
     }
 
     /// Removes the paths from a position on, none of which was encoded. Takes no memory.
-    pub(crate) fn cut(&mut self, count: usize)
+    pub(crate) fn truncate(&mut self, count: usize)
         ensures { items self.new ≡ take count (items self.old) }
     {
         self.paths.truncate(count);
@@ -253,7 +267,7 @@ impl PathList {
     }
 
     /// Replaces the path of a name. It keeps its position. If an allocation fails, the list is unchanged.
-    pub fn put_other(&mut self, name: &str, named: NamedPath) -> Result<(), AllocError>
+    pub fn replace(&mut self, name: &str, named: NamedPath) -> Result<(), AllocError>
         ensures ok { OnOk result (items self.new
             ≡ map (set_item name.now named.path.value (option_map (λ p. made_of p.value) named.published))
             (items self.old)) }
@@ -263,7 +277,7 @@ impl PathList {
             return Ok(());
         };
         let path_id = self.path_ids[position];
-        renote(&mut self.finder, path_id, current, &named)?;
+        self.finder.replace(path_id, current.keys(), named.keys())?;
         self.held = is_held(self.held, &named);
         let Some(place) = self.paths.get_index_mut(position) else {
             unreachable!()
@@ -301,116 +315,4 @@ fn next_path_id(path_ids: &[u64]) -> Result<u64, AllocError>
         Some(path_id) => Ok(path_id),
         None => Err(AllocError),
     }
-}
-
-/// Adds the index entries of a path, if it was encoded. If an allocation fails, some are added.
-pub(crate) fn note_one(
-    finder: &mut Finder,
-    path_id: u64,
-    named: &NamedPath,
-) -> Result<(), AllocError>
-    ensures noted { OnOk result (NamedNoted finder.new path_id named.now) }
-    ensures grows { Grows finder.old finder.new }
-    ensures spares { Spares path_id finder.old finder.new }
-{
-    let Some(published) = &named.published else {
-        return Ok(());
-    };
-    finder.note(path_id, named.path.lines(), published)
-}
-
-/// Adds the index entries of a path that is to replace another and to have its id, if it was encoded. If an allocation
-/// fails, some are added.
-pub(crate) fn note_other(
-    finder: &mut Finder,
-    path_id: u64,
-    current: &NamedPath,
-    named: &NamedPath,
-) -> Result<(), AllocError>
-    requires { NamedNoted finder.old path_id current.now }
-    ensures noted { OnOk result (NamedNoted finder.new path_id named.now) }
-    ensures grows { Grows finder.old finder.new }
-    ensures spares { Spares path_id finder.old finder.new }
-{
-    let Some(published) = &named.published else {
-        return Ok(());
-    };
-    let lines = named.path.lines();
-    match &current.published {
-        Some(earlier) => finder.note_over(path_id, lines, published, current.path.lines(), earlier),
-        None => finder.note(path_id, lines, published),
-    }
-}
-
-/// Adds the index entries of a path, if it was encoded. If an allocation fails, they are removed again, except for
-/// those of the retained path.
-fn note_named(
-    finder: &mut Finder,
-    path_id: u64,
-    named: &NamedPath,
-    kept: Option<&NamedPath>,
-) -> Result<(), AllocError>
-    ensures noted { OnOk result (NamedNoted finder.new path_id named.now) }
-    ensures keeps { IfSome kept.entry (λ k. NamedNoted finder.old path_id k.now → NamedNoted finder.new path_id k.now) }
-    ensures spares { Spares path_id finder.old finder.new }
-{
-    if let Err(error) = note_one(finder, path_id, named) {
-        forget_named(finder, path_id, named, kept);
-        return Err(error);
-    }
-    Ok(())
-}
-
-/// Adds the index entries of a path that replaces another and has its id, and removes those of the replaced path. If an
-/// allocation fails, the entries of the replaced path remain.
-fn renote(
-    finder: &mut Finder,
-    path_id: u64,
-    before: &NamedPath,
-    after: &NamedPath,
-) -> Result<(), AllocError>
-    ensures noted { OnOk result (NamedNoted finder.new path_id after.now) }
-    ensures err { OnErr result (NamedNoted finder.old path_id before.now → NamedNoted finder.new path_id before.now) }
-    ensures spares { Spares path_id finder.old finder.new }
-{
-    note_named(finder, path_id, after, Some(before))?;
-    forget_named(finder, path_id, before, Some(after));
-    Ok(())
-}
-
-/// Removes the index entries of a path, if it was encoded, except for those of the retained path. Takes no memory.
-pub(crate) fn forget_named(
-    finder: &mut Finder,
-    path_id: u64,
-    replaced: &NamedPath,
-    kept: Option<&NamedPath>,
-)
-    ensures keeps { IfSome kept.entry (λ k. NamedNoted finder.old path_id k.now → NamedNoted finder.new path_id k.now) }
-    ensures spares { Spares path_id finder.old finder.new }
-{
-    let Some(published) = &replaced.published else {
-        return;
-    };
-    let Some(named) = kept else {
-        finder.forget(path_id, replaced.path.lines(), published);
-        return;
-    };
-    match &named.published {
-        Some(kept) => finder.forget_but(
-            path_id,
-            lines_removed(replaced, named),
-            published,
-            named.path.lines(),
-            kept,
-        ),
-        None => finder.forget(path_id, replaced.path.lines(), published),
-    }
-}
-
-/// The lines of a replaced path; none if it is the same path as the one that is encoded in its place.
-fn lines_removed<'a>(replaced: &'a NamedPath, kept: &NamedPath) -> &'a [LineId] {
-    if Rc::ptr_eq(&replaced.path, &kept.path) {
-        return &[];
-    }
-    replaced.path.lines()
 }

@@ -6,8 +6,9 @@ ghost use Rattle.olr_list.specs.Finders.{AreNotedAt};
 ghost use Rattle.olr_list.specs.Stored.{all_put, puts_of};
 
 use crate::finder::Finder;
-use crate::overlay::{Overlay, put_unchanged};
-use crate::path_list::{NamedPath, PathList, forget_named, note_one, note_other};
+use crate::keys::Keys;
+use crate::overlay::{Overlay, extend};
+use crate::path_list::{NamedPath, PathList};
 use std::alloc::{AllocError, Global};
 use std::mem;
 
@@ -34,15 +35,15 @@ fn place(
 
 /// Removes the index entries of replaced or abandoned paths at these positions, except for those of the paths that are
 /// there now. Takes no memory.
-fn tidy(list: &mut PathList, replaced: &[(usize, NamedPath)])
+fn tidy(list: &mut PathList, earlier: &[(usize, NamedPath)])
     ensures { items list.new ≡ items list.old }
 {
-    for (position, named) in replaced {
-        let Some((_, kept)) = list.paths.get_index(*position) else {
+    for (position, named) in earlier {
+        let Some((_, now)) = list.paths.get_index(*position) else {
             continue;
         };
         let path_id = list.path_ids[*position];
-        forget_named(&mut list.finder, path_id, named, Some(kept));
+        list.finder.forget(path_id, named.keys(), now.keys());
     }
 }
 
@@ -56,11 +57,11 @@ impl PathList {
         ensures { IfOk result (λ finder. AreNoted self.now.paths.entries self.now.path_ids.items finder) }
     {
         let mut finder = Finder::new(alloc);
-        for k in 0..self.paths.len() {
+        for (k, path_id) in self.path_ids.iter().enumerate() {
             let Some((_, named)) = self.paths.get_index(k) else {
-                unreachable!()
+                continue;
             };
-            note_one(&mut finder, self.path_ids[k], named)?;
+            finder.note(*path_id, named.keys(), Keys::none())?;
         }
         Ok(finder)
     }
@@ -70,7 +71,7 @@ impl PathList {
     pub fn index(&mut self, alloc: Global)
         ensures { items self.new ≡ items self.old }
     {
-        if !self.finder.known {
+        if !self.finder.indexed {
             self.index_all(alloc);
         }
     }
@@ -96,7 +97,7 @@ fn note_all(list: &mut PathList, fresh: &[(usize, NamedPath)]) -> Result<(), All
             continue;
         };
         let path_id = list.path_ids[*position];
-        note_other(&mut list.finder, path_id, current, named)?;
+        list.finder.note(path_id, named.keys(), current.keys())?;
     }
     Ok(())
 }
@@ -114,7 +115,7 @@ fn make_room(
     ensures noted { OnOk result (AreNotedAt list.new.path_ids.items list.new.finder fresh.now) }
     ensures before { take (length (items list.old)) (items list.new) ≡ items list.old }
 {
-    put_unchanged(alloc, &overlay.added, list)?;
+    extend(alloc, &overlay.added, list)?;
     if let Err(error) = note_all(list, fresh) {
         tidy(list, fresh);
         return Err(error);
@@ -139,7 +140,7 @@ pub fn put_in(
     let count = list.len();
     let held = list.held;
     if let Err(error) = make_room(alloc, list, overlay, &fresh) {
-        list.cut(count);
+        list.truncate(count);
         list.held = held;
         return Err(error);
     }

@@ -38,13 +38,10 @@ pub fn note_fresh(
 
 impl PathList {
     /// Appends the coverage queries of all paths.
-    pub fn begins(&self, new_origins: &mut Vec<CoverageQuery>) -> Result<(), AllocError>
+    pub fn note_queries(&self, new_origins: &mut Vec<CoverageQuery>) -> Result<(), AllocError>
         ensures { OnOk result ((v : QueryRecord) → Begins (items self.now) v → Contains new_origins.new.items v) }
     {
-        for position in 0..self.paths.len() {
-            let Some((_, named)) = self.paths.get_index(position) else {
-                unreachable!()
-            };
+        for (_, named) in &self.paths {
             note_named(named, new_origins)?;
         }
         Ok(())

@@ -55,7 +55,7 @@ impl Searches {
     }
 
     /// Resets this number to 0.
-    pub fn set_back(&mut self) {
+    pub fn reset_wasted_labels(&mut self) {
         self.wasted_labels = 0;
     }
 

@@ -4,7 +4,7 @@ pub use Rattle.olr_commands.specs.Counts.{SearchedAgain, SearchedFor, IsUnchange
 pub use Rattle.olr_commands.specs.State.{Named}
 pub use Rattle.olr_list.proofs.Common.{slice_get_within, overlay_changes, CoverageQuery, IfOk-weaker, ChangedLine, None}
 pub use Rattle.olr_list.proofs.Common.{shown_items, shown_item, cases_Bool, map-append, changed_of, option_map, is_some}
-pub use Rattle.olr_list.proofs.Common.{AreEncoded, TakesNone, answer_in, all_named, slice_get, nodes_of, take_all, refl}
+pub use Rattle.olr_list.proofs.Common.{AreEncoded, RemovesNone, answer_in, all_named, slice_get, nodes_of, take_all, refl}
 pub use Rattle.olr_list.proofs.Common.{named_of, Reported, lines_of, entry_of, all_put, made_of, puts_of, Option, entry}
 pub use Rattle.olr_list.proofs.Common.{IsTrue, get_or, Begins, Answer, length, false, arith, IsMap, items, Entry, subst}
 pub use Rattle.olr_list.proofs.Common.{Path, zero, Some, List, ◌++◌, Made, Item, take, ◌∷◌, has, min, ◌⊎◌, inr, ◌<◌, ap}

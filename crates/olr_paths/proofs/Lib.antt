@@ -1,5 +1,5 @@
 pub mod Common
-pub mod KeptLemmas
+pub mod RetainedLemmas
 pub mod Following
 pub mod GivenQueries
 pub mod RenewedPrefix

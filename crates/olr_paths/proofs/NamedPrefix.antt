@@ -3,8 +3,8 @@ use Rattle.olr_paths.proofs.Common.{inl, inr, ◌≡◌, ℕ, ◌+◌, List, [],
 use Rattle.olr_paths.proofs.Common.{map-append, Map, IsMap, ChangedLine, Item, IsAffected, IsBefore, By_name}
 use Rattle.olr_commands.specs.Counts.{Picks}
 use Rattle.olr_list.proofs.Common.{take_more_at}
-use Rattle.olr_list.specs.Actions.{ToStay, ToName}
-use Rattle.olr_paths.proofs.KeptLemmas.{touched_by, affected_by}
+use Rattle.olr_list.specs.Actions.{ToSkip, ToName}
+use Rattle.olr_paths.proofs.RetainedLemmas.{touched_by, affected_by}
 use Rattle.olr_paths.specs.Changes.{AffectedNames}
 
 module _ {A : Type 0} (P : A → Type 0) where
@@ -21,7 +21,7 @@ module _ {A : Type 0} (P : A → Type 0) where
 
 module _ {N : Map} (n : IsMap N) {T X : List ℕ} {C : List ChangedLine} {is : List Item} (q : IsBefore N N T X C is)
     (p : ℕ) (i : Item) (at : slice_get is p ≡ Some i) (names : List (List ℕ)) where
-  pub names_left : ToStay N T X i.made i.path → AffectedNames N T X (take p is) names →
+  pub names_left : ToSkip N T X i.made i.path → AffectedNames N T X (take p is) names →
       AffectedNames N T X (take (p + 1) is) names
   names_left f h = rw (take_more_at is p i at) (
     h.0,

@@ -1,17 +1,34 @@
 -- From one candidate to the next in a list: each position between is passed by a step of its own.
+use Rattle.olr_list.proofs.Common.{AllPairs-from_increasing, IsStrictlyIncreasing}
 use Rattle.olr_paths.proofs.Common.{inl, inr, ◌≡◌, ◌⊎◌, ℕ, zero, suc, ◌+◌, ◌-◌, ◌<◌, ◌≤◌, false, List, [], ◌∷◌, length}
 use Rattle.olr_paths.proofs.Common.{get_or, slice_get, Some, None, refl, subst, arith, has, cases_Bool, at_index, Item}
 
--- the positions below next are done, as far as the candidates before index k
+-- the positions below next are done: those of the candidates before index k, and of no others
 pub record Passed (found : List ℕ) (long k next : ℕ) : Type 0 where
   pub below : (j : ℕ) → j < k → (get_or found j 0 < next) ⊎ (long ≤ get_or found j 0)
+  pub ahead : (j : ℕ) → k ≤ j → j < length found → next ≤ get_or found j 0
   pub within : next ≤ long
 
--- one candidate more, whose position is done or past the last path
-pub passed_more : {found : List ℕ} {long k next : ℕ} (position later : ℕ) → Passed found long k next →
-    position ≡ get_or found k 0 → (position < later) ⊎ (long ≤ position) → next ≤ later → later ≤ long →
-    Passed found long (k + 1) later
-passed_more position later h at out le most = record { below = λ j lt. grind (arith, h.below j); within = most }
+pub passed_none : {found : List ℕ} {long : ℕ} → Passed found long 0 0
+passed_none = record { below = λ j lt. absurd (omega arith); ahead = λ j low lt. omega arith; within = omega arith }
+
+-- one candidate more
+module _ {found : List ℕ} {long k next : ℕ} (up : IsStrictlyIncreasing found) (h : Passed found long k next)
+    (lt : k < length found) where
+  pub passed_one : get_or found k 0 < long → Passed found long (k + 1) (get_or found k 0 + 1)
+  passed_one low = let le = h.ahead k (omega arith) lt in record {
+    below = λ j before. grind (arith, h.below j);
+    ahead = λ j after there. let more = AllPairs-from_increasing found up k j 0 (omega arith) there in omega arith;
+    within = omega arith;
+  }
+
+  -- past the last path
+  pub passed_end : long ≤ get_or found k 0 → Passed found long (k + 1) next
+  passed_end past = record {
+    below = λ j before. grind (arith, h.below j);
+    ahead = λ j after. h.ahead j (omega arith);
+    within = h.within;
+  }
 
 -- after the last path
 pub past_end : (js : List Item) (q : ℕ) → slice_get js q ≡ None → length js ≤ q

@@ -12,7 +12,7 @@ use Rattle.olr_list.proofs.Common.{append_assoc, take_more_at, append-nil, Cover
 use Rattle.olr_list.proofs.NotedPositions.{all_put-push, put_behind}
 use Rattle.olr_list.specs.declared.change_set.ChangeSet.{ChangeSet}
 use Rattle.olr_paths.proofs.GivenQueries.{searches_item}
-use Rattle.olr_paths.proofs.KeptLemmas.{stays_retained, encoded_again, stays_unless, touched_by, retained_by}
+use Rattle.olr_paths.proofs.RetainedLemmas.{stays_retained, encoded_again, stays_unless, touched_by, retained_by}
 use Rattle.olr_paths.proofs.Passing.{Passed, by_steps}
 use Rattle.olr_paths.specs.Changes.{AreCounted, with_made, AreRemade, AreTotals, IsRemade, Totals}
 use Rattle.olr_paths.specs.Reencoded.{ReportsIfOther, encoded_one, entries_of, retained_one, IsRenewal, WasBefore, made_at}

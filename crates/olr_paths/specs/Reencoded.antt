@@ -24,7 +24,7 @@ use Rattle.olr_commands.specs.Reply.{Entry, entry}
 use Rattle.olr_list.specs.Items.{Made, Item, IsEncodingOf, items, answer_in, all_named}
 use Rattle.olr_list.specs.Changes.{Reported}
 use Rattle.olr_list.specs.Stored.{Put, all_put, puts_of}
-use Rattle.olr_list.specs.Actions.{ToStay, ToKeep, ToEncode}
+use Rattle.olr_list.specs.Actions.{ToSkip, ToRetain, ToEncode}
 use Rattle.olr_list.specs.ChangeSets.{nodes_of, lines_of, changed_of}
 use Rattle.olr_list.specs.declared.change_set.ChangeSet.{ChangeSet}
 use Rattle.olr_list.specs.declared.path_list.PathList.{PathList}
@@ -75,8 +75,8 @@ Counts N t r s = AreCounted N t r.work s.work r.retained s.retained
 
 pub data IsStep (N : Map) (T X : List ℕ) (C : List ChangedLine) (before : List Item) (i : Item) (k : ℕ) (r s : Renewal)
     : Type 0 where
-  Left : ToStay N T X i.made i.path → s ≡ r → IsStep N T X C before i k r s
-  Retained : ToKeep N T X C i.made i.path → s ≡ record r { renewed = after_retained r.renewed } →
+  Left : ToSkip N T X i.made i.path → s ≡ r → IsStep N T X C before i k r s
+  Retained : ToRetain N T X C i.made i.path → s ≡ record r { renewed = after_retained r.renewed } →
       IsStep N T X C before i k r s
   EncodedAgain : ToEncode N T X C i.made i.path → (m : Made) → IsEncodingOf N i.path m →
       made_at s ≡ made_at r ++ record { position = k; path = i.path; made = Some m } ∷ [] →

@@ -76,7 +76,7 @@ pub fn add<M: MapRead>(
         path,
         published: Some(published),
     };
-    list.put_last(name, named)?;
+    list.push(name, named)?;
     Ok((entries, work))
 }
 
@@ -109,6 +109,6 @@ pub fn set<M: MapRead>(
         path,
         published: Some(published),
     };
-    list.put_other(name, named)?;
+    list.replace(name, named)?;
     Ok((entries, work))
 }

@@ -1,13 +1,13 @@
 //! The names of the paths that edits would affect.
 ghost use Rattle.std.specs.Prelude.{◌≡◌, ◌∷◌, ◌++◌, ◌⊎◌, [], map as list_map, string_bytes, IfOk, OnOk};
-ghost use Rattle.std.specs.List.Sorted.{IsNonDecreasing};
+ghost use Rattle.std.specs.List.Sorted.{IsStrictlyIncreasing};
 ghost use Rattle.olr_list.specs.Items.{Made, items};
 ghost use Rattle.olr_list.specs.Views.{shown_items, shown_item};
 ghost use Rattle.olr_list.specs.ChangeSets.{nodes_of, lines_of};
 ghost use Rattle.olr_list.specs.AffectedSearches.{IsAsked, AreAsked};
 ghost use Rattle.olr_list.specs.Candidates.{Covers};
 ghost use Rattle.olr_list.specs.Origins.{AreBoundsOf};
-ghost use Rattle.olr_list.specs.Actions.{ToStay, ToName};
+ghost use Rattle.olr_list.specs.Actions.{ToSkip, ToName};
 ghost use Rattle.olr_paths.specs.Changes.{AffectedNames};
 ghost use Rattle.olr_paths.specs.Reencoded.{WasBefore};
 
@@ -28,7 +28,7 @@ fn push_if_affected<M: MapRead>(
     requires { (m : Made) → (shown_item shown).made ≡ Some m
         → IsAsked (M.map map.now) (M.node_slot map.now) touched.now searches.now m }
     ensures { OnOk result
-        ((ToStay (M.map map.now) (nodes_of touched.now) (lines_of touched.now) (shown_item shown.entry).made
+        ((ToSkip (M.map map.now) (nodes_of touched.now) (lines_of touched.now) (shown_item shown.entry).made
         (shown_item shown.entry).path × (list_map string_bytes names.new.items ≡ list_map string_bytes names.old.items))
         ⊎ (ToName (M.map map.now) (nodes_of touched.now) (lines_of touched.now) (shown_item shown.entry).made
         (shown_item shown.entry).path × (list_map string_bytes names.new.items
@@ -50,7 +50,7 @@ fn names_by<M: MapRead>(
     found: &[usize],
 ) -> Result<Vec<String>, AllocError>
     requires asked { AreAsked (M.map map.now) (M.node_slot map.now) touched.now searches.now (shown_items overlaid) }
-    requires ascending { IsNonDecreasing found.now }
+    requires ascending { IsStrictlyIncreasing found.now }
     requires covers { Covers (M.map map.now) (nodes_of touched.now) (lines_of touched.now) (shown_items overlaid)
         found.now }
     requires before { WasBefore (M.map map.now) (M.map map.now) touched.now (shown_items overlaid) }
@@ -58,17 +58,11 @@ fn names_by<M: MapRead>(
         (shown_items overlaid.entry) (list_map string_bytes names.items)) }
 {
     let mut names = Vec::new(alloc);
-    let mut next = 0;
-    for candidate in found {
-        let position = *candidate;
-        let Some(shown) = overlaid.at(position) else {
+    for position in found {
+        let Some(shown) = overlaid.at(*position) else {
             continue;
         };
-        if position < next {
-            continue;
-        }
         push_if_affected(alloc, map, touched, searches, shown, &mut names)?;
-        next = position + 1;
     }
     Ok(names)
 }

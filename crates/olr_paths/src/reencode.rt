@@ -4,7 +4,7 @@ ghost use Rattle.olr_spec.specs.Map.{Map, IsMap};
 ghost use Rattle.olr_commands.specs.State.{NamesDiffer};
 ghost use Rattle.olr_spec.specs.Queries.{CoverageQuery as QueryRecord};
 ghost use Rattle.olr_list.specs.Items.{items, all_named};
-ghost use Rattle.olr_list.specs.Overlaid.{TakesNone, overlay_changes, under_overlay};
+ghost use Rattle.olr_list.specs.Overlaid.{RemovesNone, overlay_changes, under_overlay};
 ghost use Rattle.olr_list.specs.Origins.{Begins, AreBoundsOf, new_origins_in};
 ghost use Rattle.olr_paths.specs.Changes.{Follows};
 ghost use Rattle.olr_paths.specs.Reencoded.{items_before, WasBefore, IsRenewal};
@@ -29,7 +29,7 @@ fn renew_overlaid<M: MapRead>(
     bounds: &DistanceBounds,
     searches: &mut Searches,
 ) -> Result<Renewed, AllocError>
-    requires keeps { TakesNone (overlay_changes overlay.now) }
+    requires none_removed { RemovesNone (overlay_changes overlay.now) }
     requires names { NamesDiffer (all_named (under_overlay (items list.old) overlay.now)) }
     requires follows { Follows (items_before before list.old) (under_overlay (items list.old) overlay.now) }
     requires bounds { AreBoundsOf (M.map map.now) bounds.now (under_overlay (items list.old) overlay.now) }
@@ -104,7 +104,7 @@ pub fn renew_over<M: MapRead>(
         → Begins (under_overlay (items list.old) overlay.now) v ⊎ Contains (new_origins_in searches.new) v) }
     ensures err { OnErr result (items list.new ≡ items list.old) }
 {
-    if !overlay.takes_some() {
+    if !overlay.removes_some() {
         let renewed = renew_overlaid(list, alloc, map, None, overlay, touched, bounds, searches)?;
         list.index(alloc);
         return Ok(renewed);

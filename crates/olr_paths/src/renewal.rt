@@ -12,7 +12,7 @@ ghost use Rattle.olr_list.specs.ChangeSets.{nodes_of, lines_of, changed_of};
 ghost use Rattle.olr_list.specs.AffectedSearches.{AreDetours, AreAsked};
 ghost use Rattle.olr_commands.specs.Counts.{most_changed};
 ghost use Rattle.olr_list.specs.Candidates.{Covers};
-ghost use Rattle.std.specs.List.Sorted.{IsNonDecreasing};
+ghost use Rattle.std.specs.List.Sorted.{IsStrictlyIncreasing};
 ghost use Rattle.olr_list.specs.Origins.{BeginsPut, AreBoundsOf, new_origins_in};
 ghost use Rattle.olr_list.specs.Actions.{IsActionFor, IsEncode};
 ghost use Rattle.olr_paths.specs.Changes.{Follows};
@@ -73,7 +73,7 @@ pub struct Renewed {
 
 impl Renewed {
     /// Counts an affected path whose answer is retained.
-    fn keep(&mut self)
+    fn count_retained(&mut self)
         ensures { self.new ≡ after_retained self.old }
     {
         self.work = self.work.plus(Work {
@@ -137,8 +137,8 @@ impl Renewal {
             position self.old self.new) }
     {
         match action {
-            Action::Stay => (),
-            Action::Keep => self.renewed.keep(),
+            Action::Skip => (),
+            Action::Retain => self.renewed.count_retained(),
             Action::Encode => {
                 let (made, work) = publish(alloc, map, shown.path, known, query)?;
                 let published = Rc::new(alloc, made)?;
@@ -196,7 +196,7 @@ fn renewal_by<M: MapRead>(
     found: &[usize],
 ) -> Result<Renewal, AllocError>
     requires asked { AreAsked (M.map map.now) (M.node_slot map.now) touched.now searches.old (shown_items overlaid) }
-    requires ascending { IsNonDecreasing found.now }
+    requires ascending { IsStrictlyIncreasing found.now }
     requires covers { Covers (M.map map.now) (nodes_of touched.now) (lines_of touched.now) (shown_items overlaid)
         found.now }
     requires detours { 0 < length found.now → length (changed_of touched.now) ≤ most_changed
@@ -207,20 +207,14 @@ fn renewal_by<M: MapRead>(
         (shown_items overlaid.entry) (after_renewal r (shown_items overlaid.entry)) r.renewed) }
 {
     let mut renewal = Renewal::none(alloc);
-    let mut next = 0;
-    for candidate in found {
-        let position = *candidate;
-        let Some(shown) = overlaid.at(position) else {
+    for position in found {
+        let Some(shown) = overlaid.at(*position) else {
             continue;
         };
-        if position < next {
-            continue;
-        }
         let action = decide(map, touched, searches, shown)?;
         let known = known_for(alloc, map, touched, &mut searches.detours, action, shown)?;
         let query = &mut searches.query;
-        renewal.advance(alloc, map, before, action, position, shown, &known, query)?;
-        next = position + 1;
+        renewal.advance(alloc, map, before, action, *position, shown, &known, query)?;
     }
     Ok(renewal)
 }

@@ -50,7 +50,7 @@ fn bounds_from_scratch(alloc: Global, bounds: &mut DistanceBounds, paths: &PathL
     ensures { (M : Map) → HasBounds M (items paths.now) bounds.new }
 {
     let mut new_origins = Vec::new(alloc);
-    match paths.begins(&mut new_origins) {
+    match paths.note_queries(&mut new_origins) {
         Ok(()) => {
             bounds.clear();
             add_sources(bounds, &new_origins);
@@ -81,7 +81,7 @@ pub(crate) fn renew_bounds(
     if !is_worn(bounds, paths, searches) {
         return;
     }
-    searches.set_back();
+    searches.reset_wasted_labels();
     bounds_from_scratch(alloc, bounds, paths);
 }
 

@@ -1,9 +1,12 @@
-use Rattle.olr_list.proofs.Common.{ℕ, ◌<◌, ◌∙◌, ap, arith, option_map, none_of, shown_items, shown_item}
+use Rattle.olr_list.proofs.Common.{ℕ, ◌+◌, ◌<◌, ◌∙◌, ap, arith, option_map, none_of, shown_items, shown_item}
 use Rattle.olr_list.proofs.Covering.{nothing_at}
 use Rattle.olr_list.proofs.affected.ask.Goals as goal
 
 none_below : (k : ℕ) → k < 0 → ⊥
 none_below k lt = omega arith
+
+none_more : (k : ℕ) → k + 1 < 0 → ⊥
+none_more k lt = omega arith
 
 pub returns-then-is_none : goal.returns-then-is_none
 returns-then-is_none g c =
@@ -11,7 +14,7 @@ returns-then-is_none g c =
     let none = nothing_at (shown_items c.args.overlaid) shown in
     record {
       asked = rw none (λ k i m at. let never : ⊥ = cc (at) in absurd never);
-      ascending = rw c.new.ensures.items (λ i j d le lt. absurd (none_below j lt));
+      ascending = rw c.new.ensures.items (λ i lt. absurd (none_more i lt));
       covers = rw none (λ k i at. let never : ⊥ = cc (at) in absurd never);
       detours = rw c.new.ensures.items (λ lt. absurd (none_below 0 lt));
     }

@@ -10,17 +10,17 @@ returns g c =
     let ids = l.path_ids.items in
     let slot = g.M.MapRead.node_slot c.args.map.now in
     let four = c.put_found-4.new.found.items in
-    let kept2 = c.in_ok-put_found-2.ensures.kept in
-    let kept3 = c.in_ok-put_found-3.ensures.kept in
-    let kept4 = c.in_ok-put_found-4.ensures.kept in
+    let grown2 = c.in_ok-put_found-2.ensures.grows in
+    let grown3 = c.in_ok-put_found-3.ensures.grows in
+    let grown4 = c.in_ok-put_found-4.ensures.grows in
     let same = c.as_slice-ids.ensures.value in
     let one = rw (same, c.nodes-nodes.ensures) at c.in_ok-put_found.ensures.put in
     let two = rw (same, c.nodes-nodes.ensures) at c.in_ok-put_found-2.ensures.put in
     let three = rw (same, c.lines.ensures) at c.in_ok-put_found-3.ensures.put in
-    covers_by (g.M.MapRead.map c.args.map.now) t l c.requires.encoded c.requires.known four
-    (λ i d lt k low on. kept4 k (kept3 k (kept2 k (one i d lt k low on))))
-    (λ i d lt k low on. kept4 k (three i d lt k low on)) (g.met.M.MapRead.sound c.args.map.now) slot c.args.searches.now
-    (λ i d lt k low on. kept4 k (kept3 k (two i d lt k low on)))
+    covers_by (g.M.MapRead.map c.args.map.now) t l c.requires.encoded c.requires.indexed four
+    (λ i d lt k low on. grown4 k (grown3 k (grown2 k (one i d lt k low on))))
+    (λ i d lt k low on. grown4 k (three i d lt k low on)) (g.met.M.MapRead.sound c.args.map.now) slot c.args.searches.now
+    (λ i d lt k low on. grown4 k (grown3 k (two i d lt k low on)))
     (λ close lengths v known small.
     All-contains (λ (r : Reached). Finds ids l.finder.by_query_origin r.node four) c.reached.result.now
     (record { node = v; slot = slot v }) (rw same at c.in_ok-put_found-4.ensures.put)

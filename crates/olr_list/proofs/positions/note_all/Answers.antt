@@ -1,7 +1,7 @@
 use Rattle.olr_list.proofs.Common.{◌≡◌, ◌∙◌, get_or, subst, sym, arith, get_or_default, NamedNoted, Grows, slice_get}
 use Rattle.olr_list.proofs.Common.{Some, String, Global, NamedPath, slice_get_within, length, ◌<◌, ◌≤◌, List, take_all}
-use Rattle.olr_list.proofs.Common.{AreNotedAt}
-use Rattle.olr_list.proofs.PathIdLemmas.{named_grown}
+use Rattle.olr_list.proofs.Common.{AreNotedAt, IsNoted, named_keys}
+use Rattle.olr_list.proofs.PathIdLemmas.{noted_grown}
 use Rattle.olr_list.proofs.NotedPositions.{One, NotedAt, at_more}
 use Rattle.olr_list.proofs.positions.note_all.Goals as goal
 
@@ -18,8 +18,8 @@ loop-position-preserved-in_default c =
       c.loop-position.invariant.1,
     )
 
-pub note_other-requires : goal.note_other-requires
-note_other-requires c =
+pub note-requires : goal.note-requires
+note-requires c =
     let l = c.loop-position.list in
     let r : One = c.loop-position-item.result in
     let x : String Global × NamedPath = (c.in-Some.field-0-0.now, c.in-Some.current.now) in
@@ -27,19 +27,20 @@ note_other-requires c =
     let low : r.0 < length l.path_ids.items = omega (arith, slice_get_within l.paths.entries r.0 x at, l.long) in
     let is : c.index-path_id.result.now ≡ get_or l.path_ids.items r.0 0 =
     c.index-path_id.ensures ∙ get_or_default l.path_ids.items r.0 c.index-path_id.result.now 0 low in
-    subst (λ (m : _). NamedNoted l.finder m x.1) (sym is) (l.noted r.0 x at)
+    subst (IsNoted l.finder c.index-path_id.result.now) (sym c.keys-in-loop-position.ensures)
+    (subst (λ (m : _). NamedNoted l.finder m x.1) (sym is) (l.noted r.0 x at))
 
 pub loop-position-preserved : goal.loop-position-preserved
 loop-position-preserved c =
     let l = c.loop-position.list in
     let ms = l.path_ids.items in
-    let g = c.note_other.new.finder in
+    let g = c.note.new.self in
     let r : One = c.loop-position-item.result in
     let one : NotedAt ms g r = λ low.
     let is : c.index-path_id.result.now ≡ get_or ms r.0 0 =
     c.index-path_id.ensures ∙ get_or_default ms r.0 c.index-path_id.result.now 0 low in
-    subst (λ (m : _). NamedNoted g m r.1) is c.in_ok-note_other.ensures.noted in (
-      at_more ms l.finder g _ _ r c.loop-position-test.true c.note_other.ensures.grows c.loop-position.invariant.0
+    subst (λ (m : _). NamedNoted g m r.1) is (subst (IsNoted g c.index-path_id.result.now) c.keys.ensures c.in_ok-note.ensures.noted) in (
+      at_more ms l.finder g _ _ r c.loop-position-test.true c.note.ensures.grows c.loop-position.invariant.0
           (subst (λ (y : One). NotedAt ms g y) c.loop-position-item.is one),
       c.loop-position.invariant.1,
     )
@@ -50,8 +51,8 @@ invariant_of-list-in-loop-position c =
     record {
       long = l.long;
       ascend = l.ascend;
-      noted = λ k e at. named_grown l.finder c.note_other.new.finder (get_or l.path_ids.items k 0) e.1
-          c.note_other.ensures.grows (l.noted k e at);
+      noted = λ k e at. noted_grown l.finder c.note.new.self (get_or l.path_ids.items k 0) (named_keys e.1)
+          c.note.ensures.grows (l.noted k e at);
       encoded = l.encoded;
     }
 

@@ -12,7 +12,7 @@ returns g c =
       set = (
         m,
         e.1,
-        rw (← e.0) c.in_ok-put_other.ensures.ok,
+        rw (← e.0) c.in_ok-replace.ensures.ok,
         elim (rw c.deref.ensures at c.in_ok-push_if_changed.ensures) [
           | inl t ↦ inl (t.0, t.1 ∙ none)
           | inr t ↦ inr (t.0, t.1 ∙ ap (λ (es : List Entry). es ++ entry c.args.name.now m.answer ∷ []) none)

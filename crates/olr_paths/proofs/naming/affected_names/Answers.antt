@@ -1,10 +1,10 @@
 use Rattle.olr_paths.proofs.Common.{items, overlay_changes}
-use Rattle.olr_list.proofs.Changed.{none_keeps}
+use Rattle.olr_list.proofs.Changed.{none_removed_by}
 use Rattle.olr_paths.proofs.naming.affected_names.Goals as goal
 
 pub invariant_of-overlaid : goal.invariant_of-overlaid
 invariant_of-overlaid g c = record {
-  keeps = none_keeps (overlay_changes c.new-overlay.result) (items c.new-overlay.result.added) c.new-overlay.ensures;
+  none_removed = none_removed_by (overlay_changes c.new-overlay.result) (items c.new-overlay.result.added) c.new-overlay.ensures;
 }
 
 pub names_by-requires-clause-covers : goal.names_by-requires-clause-covers

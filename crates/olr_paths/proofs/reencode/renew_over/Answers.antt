@@ -1,5 +1,5 @@
 use Rattle.olr_paths.proofs.Common.{◌∙◌, items, overlay_changes}
-use Rattle.olr_list.proofs.Changed.{none_keeps}
+use Rattle.olr_list.proofs.Changed.{none_removed_by}
 use Rattle.olr_paths.proofs.reencode.renew_over.Goals as goal
 
 -- if a path is removed: for the list under the changes
@@ -8,7 +8,7 @@ renew_overlaid-renewed-requires g c =
     let none = c.new-none in
     let e = none.ensures (items c.in_ok-overlaid.overlaid) ∙ c.in_ok-overlaid.ensures in
     record {
-      keeps = none_keeps (overlay_changes none.result) (items none.result.added) none.ensures;
+      none_removed = none_removed_by (overlay_changes none.result) (items none.result.added) none.ensures;
       names = rw e c.requires.names;
       follows = rw e c.requires.follows;
       bounds = rw e c.requires.bounds;
@@ -25,8 +25,8 @@ returns-then-is_ok-clause-new_origins g c = rw c.replace_by.ensures
     (rw (c.new-none.ensures (items c.in_ok-overlaid.overlaid), c.in_ok-overlaid.ensures) at
     c.renew_overlaid-renewed.ensures.new_origins)
 
-pub returns-then-not-takes_some-clause-renewed : goal.returns-then-not-takes_some-clause-renewed
-returns-then-not-takes_some-clause-renewed g c = rw c.index.ensures c.in_ok-renewed.ensures.renewed
+pub returns-then-not-removes_some-clause-renewed : goal.returns-then-not-removes_some-clause-renewed
+returns-then-not-removes_some-clause-renewed g c = rw c.index.ensures c.in_ok-renewed.ensures.renewed
 
-pub returns-then-not-takes_some-clause-new_origins : goal.returns-then-not-takes_some-clause-new_origins
-returns-then-not-takes_some-clause-new_origins g c = rw c.index.ensures c.in_ok-renewed.ensures.new_origins
+pub returns-then-not-removes_some-clause-new_origins : goal.returns-then-not-removes_some-clause-new_origins
+returns-then-not-removes_some-clause-new_origins g c = rw c.index.ensures c.in_ok-renewed.ensures.new_origins

@@ -1,4 +1,4 @@
-use Rattle.olr_paths.proofs.Common.{overlay_changes, after_renewal, option_map, AreEncoded, TakesNone, unwrap_or, items}
+use Rattle.olr_paths.proofs.Common.{overlay_changes, after_renewal, option_map, AreEncoded, RemovesNone, unwrap_or, items}
 use Rattle.olr_paths.proofs.Common.{Reported, entry_of, Renewal, all_put, puts_of, Option, Begins, Entry, subst, None}
 use Rattle.olr_paths.proofs.Common.{refl, Some, List, ◌++◌, Item, ◌∷◌, inr, sym, map, ◌≡◌, ◌∙◌, inl, Bor, ap, []}
 use Rattle.olr_list.proofs.Changed.{put_on_overlaid, grown_differ}
@@ -15,12 +15,12 @@ are_encoded before (j ∷ js) es h = ((λ none. let lost = rw none at h.2 in cc 
 
 -- the results, stored in the list with the new paths at its end
 module _ (before : List Item) (is : List Item) (o : Overlay) (r : Renewal) (new : List Item)
-    (keeps : TakesNone (overlay_changes o))
+    (none_removed : RemovesNone (overlay_changes o))
     (returned : Reported before (after_renewal r (under_overlay is o)) (map entry_of r.renewed.entries.items))
     (put : new ≡ all_put (is ++ items o.added) (puts_of r.fresh.items)) where
   renewed : new ≡ after_renewal r (under_overlay is o)
   renewed = put ∙ put_on_overlaid (overlay_changes o) before is (items o.added) (puts_of r.fresh.items)
-      (map entry_of r.renewed.entries.items) keeps returned
+      (map entry_of r.renewed.entries.items) none_removed returned
 
   encoded : AreEncoded new
   encoded = subst AreEncoded (sym renewed) (are_encoded before _ (map entry_of r.renewed.entries.items) returned)
@@ -39,7 +39,7 @@ pub returns : goal.returns
 returns g c =
     let same = c.note_encoded.ensures
     ∙ renewed (items c.unwrap_or.result.now) (items c.args.list.now) c.args.overlay.now c.in_ok-fresh.field-0
-    (items c.put_in.new.list) c.requires.keeps c.in_ok-fresh.ensures.renewed.reported c.in_ok-put_in.ensures.ok in
+    (items c.put_in.new.list) c.requires.none_removed c.in_ok-fresh.ensures.renewed.reported c.in_ok-put_in.ensures.ok in
     let was = ap (λ (b : Bor PathList). items b.now) c.unwrap_or.ensures ∙ before_is c.args.before _ in
     let e = c.in_ok-fresh.ensures in
     record {
@@ -55,9 +55,9 @@ returns g c =
 pub put_in-requires : goal.put_in-requires
 put_in-requires g c =
     grown_differ (overlay_changes c.args.overlay.now) (items c.args.list.now) (items c.args.overlay.now.added)
-    c.requires.keeps c.requires.names
+    c.requires.none_removed c.requires.names
 
 pub note_encoded-requires : goal.note_encoded-requires
 note_encoded-requires g c =
     encoded (items c.unwrap_or.result.now) (items c.args.list.now) c.args.overlay.now c.in_ok-fresh.field-0
-    (items c.put_in.new.list) c.requires.keeps c.in_ok-fresh.ensures.renewed.reported c.in_ok-put_in.ensures.ok
+    (items c.put_in.new.list) c.requires.none_removed c.in_ok-fresh.ensures.renewed.reported c.in_ok-put_in.ensures.ok

@@ -1,5 +1,6 @@
 use Rattle.olr_paths.proofs.Common.{[], arith, changed_of, items, length, lines_of, nodes_of, take, take_all}
 use Rattle.olr_paths.proofs.Following.{follows_self}
+use Rattle.olr_paths.proofs.Passing.{passed_none}
 use Rattle.olr_paths.proofs.RenewedPrefix.{SoFar, so_far_none, to_position, whole}
 use Rattle.olr_paths.proofs.reencode.renew_unaffected.Goals as goal
 
@@ -11,6 +12,6 @@ returns c = λ L N n was bounds.
     let all : SoFar N (nodes_of t) (lines_of t) (changed_of t) is is (take (length is) is) c.none.result =
     to_position n [] (follows_self is c.len-names.ensures.names)
     (c.affects_none.ensures c.if-not-affects_none.false N bounds) 0 0 (length is) (λ m a b. absurd (omega arith))
-    (record { below = λ j lt. absurd (omega arith); within = omega arith }) (omega arith) (omega arith)
+    passed_none (omega arith) (omega arith)
     (so_far_none c.none.result e.fresh e.entries e.work e.retained) in
     rw e.fresh at (whole {t = t} c.none.result (L, was) (rw (take_all (length is) is (omega arith)) at all))

@@ -1,14 +1,15 @@
 use Rattle.olr_paths.proofs.Common.{refl, inl, inr, ◌≡◌, ◌≤◌, ℕ, Some, length, get_or, slice_get, arith, ◌+◌, take_all}
 use Rattle.olr_paths.proofs.Common.{slice_get_within, Item, nodes_of, lines_of, changed_of, shown_items, shown_item}
-use Rattle.olr_paths.proofs.Passing.{passed_more, past_end}
+use Rattle.olr_list.proofs.Common.{ascends}
+use Rattle.olr_paths.proofs.Passing.{passed_none, passed_one, passed_end, past_end}
 use Rattle.olr_paths.proofs.RenewedPrefix.{so_far_none, so_far_step, whole, to_position}
 use Rattle.olr_paths.proofs.renewal.renewal_by.Goals as goal
 
 pub decide-requires-clause-asked : goal.decide-requires-clause-asked
-decide-requires-clause-asked g c = λ m. c.loop-candidate.invariant.3 _ (shown_item c.in-Some.shown) m c.in-Some.ensures.shown
+decide-requires-clause-asked g c = λ m. c.loop-position.invariant.4 _ (shown_item c.in-Some.shown) m c.in-Some.ensures.shown
 
 pub decide-requires-clause-detours : goal.decide-requires-clause-detours
-decide-requires-clause-detours g c = c.loop-candidate.invariant.2 (omega arith)
+decide-requires-clause-detours g c = c.loop-position.invariant.3 (omega arith)
 
 pub known_for-requires-clause-before : goal.known_for-requires-clause-before
 known_for-requires-clause-before g c =
@@ -17,57 +18,56 @@ known_for-requires-clause-before g c =
 pub advance-requires : goal.advance-requires
 advance-requires g c = record { known = rw c.deref.ensures.value c.in_ok-known.ensures.known }
 
-pub loop-candidate-init : goal.loop-candidate-init
-loop-candidate-init g c = (
+pub loop-position-init : goal.loop-position-init
+loop-position-init g c = (
+  0,
   so_far_none _ c.none-renewal.ensures.fresh c.none-renewal.ensures.entries c.none-renewal.ensures.work c.none-renewal.ensures.retained,
-  record { below = λ j lt. absurd (omega arith); within = omega arith },
+  passed_none,
   c.requires.detours,
   c.requires.asked,
 )
 
-pub loop-candidate-preserved-then-position-next : goal.loop-candidate-preserved-then-position-next
-loop-candidate-preserved-then-position-next g c =
-    let h = c.loop-candidate.invariant in
-    (h.0, passed_more _ _ h.1 refl (inl c.if-position-next.true) (omega arith) h.1.within, h.2, h.3)
-
-pub loop-candidate-preserved-in_default : goal.loop-candidate-preserved-in_default
-loop-candidate-preserved-in_default g c =
-    let h = c.loop-candidate.invariant in (
+pub loop-position-preserved-in_default : goal.loop-position-preserved-in_default
+loop-position-preserved-in_default g c =
+    let h = c.loop-position.invariant in (
       h.0,
-      passed_more _ _ h.1 refl (inr (past_end (shown_items c.args.overlaid) _ c.in_default.ensures.shown))
-          (omega arith) h.1.within,
-      h.2,
+      h.1,
+      passed_end c.requires.ascending h.2 c.loop-position-test.true
+          (past_end (shown_items c.args.overlaid) _ c.in_default.ensures.shown),
       h.3,
+      h.4,
     )
 
-pub loop-candidate-preserved : goal.loop-candidate-preserved
-loop-candidate-preserved g c =
-    let h = c.loop-candidate.invariant in
-    let k = c.loop-candidate.candidate-index in
+pub loop-position-preserved : goal.loop-position-preserved
+loop-position-preserved g c =
+    let h = c.loop-position.invariant in
+    let k = c.loop-position.position-index in
     let position : ℕ = get_or c.args.found.now k 0 in
     let i : Item = shown_item c.in-Some.shown in
     let at : slice_get (shown_items c.args.overlaid) position ≡ Some i = c.in-Some.ensures.shown in
     let within = slice_get_within (shown_items c.args.overlaid) position i at in
-    let le : c.loop-candidate.next ≤ position = c.if-position-next.false in
+    let lt = c.loop-position-test.true in
     let sound = g.met.M.MapRead.sound c.args.map.now in (
+      position + 1,
       so_far_step sound c.requires.follows position i at
-          (to_position sound c.args.found.now c.requires.follows c.requires.covers k c.loop-candidate.next position
-          (λ m a b. c.requires.ascending k m 0 a b) h.1 le (omega arith) h.0)
+          (to_position sound c.args.found.now c.requires.follows c.requires.covers k h.0 position
+          (λ m a b. ascends c.args.found.now c.requires.ascending k m a b) h.2 (h.2.ahead k (omega arith) lt) (omega arith)
+          h.1)
           (c.in_ok-advance.ensures (nodes_of c.args.touched.now) (lines_of c.args.touched.now)
           (changed_of c.args.touched.now)
           (λ e. rw c.deref.ensures.value (c.in_ok-known.ensures.given e)) c.in_ok-action.ensures.action),
-      passed_more position (position + 1) h.1 refl (inl (omega arith)) (omega arith) (omega arith),
+      passed_one c.requires.ascending h.2 lt within,
       (λ some. c.in_ok-known.ensures.detours),
-      c.in_ok-action.ensures.asked _ h.3,
+      c.in_ok-action.ensures.asked _ h.4,
     )
 
 pub returns : goal.returns
 returns g c =
-    let h = c.loop-candidate.invariant in
+    let h = c.loop-position.invariant in
     let is = shown_items c.args.overlaid in
     record {
       renewed =
-          whole c.loop-candidate.renewal c.requires.before (rw (take_all (length is) is (omega arith)) at (to_position
-          (g.met.M.MapRead.sound c.args.map.now) c.args.found.now c.requires.follows c.requires.covers c.loop-candidate.candidate-index
-          c.loop-candidate.next (length is) (λ m a b. absurd (omega arith)) h.1 h.1.within (omega arith) h.0));
+          whole c.loop-position.renewal c.requires.before (rw (take_all (length is) is (omega arith)) at (to_position
+          (g.met.M.MapRead.sound c.args.map.now) c.args.found.now c.requires.follows c.requires.covers c.loop-position.position-index
+          h.0 (length is) (λ m a b. absurd (omega arith)) h.2 h.2.within (omega arith) h.1));
     }

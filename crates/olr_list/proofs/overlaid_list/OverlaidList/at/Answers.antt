@@ -16,9 +16,9 @@ returns-in-Some-clause-shown c =
     let at = item_at l.list.now.paths.entries c.args.position e (sym c.in-Some.ensures.entry) in
     let shown : under_change (change_at cs i.name) i ≡ shown_item c.show_under.result ∷ [] =
     rw c.as_str.ensures.value at c.show_under.ensures in
-    let one = one_changed (change_at cs i.name) i (l.keeps i.name) in
+    let one = one_changed (change_at cs i.name) i (l.none_removed i.name) in
     let same : changed_by cs i ≡ shown_item c.show_under.result = cc (one, shown) in
-    overlaid_at cs (items l.list.now) (items l.overlay.now.added) l.keeps c.args.position i at
+    overlaid_at cs (items l.list.now) (items l.overlay.now.added) l.none_removed c.args.position i at
     ∙ ap (λ (j : Item). Some j) same
 
 behind : (l : OverlaidList) (k n : ℕ) → n ≡ length l.list.now.paths.entries →
@@ -27,7 +27,7 @@ behind : (l : OverlaidList) (k n : ℕ) → n ≡ length l.list.now.paths.entrie
 behind l k n long none =
     let all : length (items l.list.now) ≡ n = length-map l.list.now.paths.entries item_of ∙ sym long in
     let le : n ≤ k = elim (cases_lt k n) [ inl low ↦ absurd (let e = none (omega arith) in cc) | inr high ↦ high ] in
-    overlaid_behind (overlay_changes l.overlay.now) (items l.list.now) (items l.overlay.now.added) l.keeps k (k - n)
+    overlaid_behind (overlay_changes l.overlay.now) (items l.list.now) (items l.overlay.now.added) l.none_removed k (k - n)
     (omega arith)
 
 pub returns-in_err-name-clause-shown : goal.returns-in_err-name-clause-shown

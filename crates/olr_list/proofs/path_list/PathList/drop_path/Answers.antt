@@ -1,5 +1,5 @@
 use Rattle.olr_list.proofs.Common.{◌≢◌, ◌<◌, None, sym, ap, length, ◌∙◌, arith, length-remove, items, ascends-remove}
-use Rattle.olr_list.proofs.NamedEntries.{first_at, items_of, keeps_all, named_there, names_differ, removed_items}
+use Rattle.olr_list.proofs.NamedEntries.{first_at, items_of, none_filtered, named_there, names_differ, removed_items}
 use Rattle.olr_list.proofs.PathIdLemmas.{each_removed, noted_removed}
 use Rattle.olr_list.proofs.path_list.PathList.drop_path.Goals as goal
 
@@ -15,7 +15,7 @@ returns c =
 pub returns-in_default : goal.returns-in_default
 returns-in_default c =
     let es = c.args.self.now.paths.entries in
-    sym (keeps_all (items c.args.self.now) c.args.name.now
+    sym (none_filtered (items c.args.self.now) c.args.name.now
     (sym (named_there es c.args.name.now) ∙ sym c.in_default.ensures.found))
 
 pub invariant_of-self : goal.invariant_of-self
@@ -30,7 +30,7 @@ invariant_of-self c =
     record {
       long = rw (entries, ids) (omega (arith, length-remove ms q within, length-remove es q (omega (arith, l.long)), l.long));
       ascend = rw ids (ascends-remove ms q l.ascend within);
-      noted = rw (entries, ids) (noted_removed l c.forget_named.new.finder q _ within c.remove-path_id.ensures.value
-          c.forget_named.ensures.spares);
+      noted = rw (entries, ids) (noted_removed l c.forget.new.self q _ within c.remove-path_id.ensures.value
+          c.forget.ensures.spares);
       encoded = λ off. rw entries (each_removed (λ _ n. n.published ≢ None) es ms q l.long (l.encoded off));
     }

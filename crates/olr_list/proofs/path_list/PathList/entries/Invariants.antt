@@ -1,10 +1,12 @@
-use Rattle.olr_list.proofs.Common.{List, [], ◌≡◌, ◌≤◌, ◌++◌, drop, map, Entry, entry_of, items, Reported, vec_len}
+use Rattle.olr_list.proofs.Common.{List, [], ◌≤◌, ◌+◌, ◌++◌, map, length, Entry, entry_of, items, Reported, AreEncoded, vec_len}
 use Rattle.olr_list.proofs.Common.{vec_capacity}
+use Rattle.olr_list.proofs.NamedEntries.{items_of}
 use Rattle.olr_list.proofs.path_list.PathList.entries.Given as goal
 
--- the paths so far are reported, if the rest is, and there is room for the rest
-abbrev pub invariant-loop-k : goal.invariant-loop-k
-invariant-loop-k l =
-    ((es : List Entry) → Reported [] (drop l.k (items l.self)) es →
+-- all paths are reported, if those that are left are; there is room for these, and they were encoded
+abbrev pub invariant-loop-name : goal.invariant-loop-name
+invariant-loop-name l =
+    ((es : List Entry) → Reported [] (items_of l.name-iterator) es →
     Reported [] (items l.self) (map entry_of l.entries.items ++ es))
-    × (vec_len l.entries ≡ l.k) × (l.count ≤ vec_capacity l.entries)
+    × (vec_len l.entries + length l.name-iterator ≤ vec_capacity l.entries) × AreEncoded (items_of l.name-iterator)
+    × (length l.name-iterator ≤ length l.self.paths.entries)

@@ -2,8 +2,8 @@ use Rattle.olr_paths.proofs.Common.{refl, map-append, made_of, Retained, Encoded
 use Rattle.olr_paths.proofs.RenewedPrefix.{counted_encoded}
 use Rattle.olr_paths.proofs.renewal.Renewal.advance.Goals as goal
 
-pub returns-in-Keep : goal.returns-in-Keep
-returns-in-Keep g c = λ T X C gives f. Retained (rw c.in-Keep.is at f) (rw c.keep.ensures refl)
+pub returns-in-Retain : goal.returns-in-Retain
+returns-in-Retain g c = λ T X C gives f. Retained (rw c.in-Retain.is at f) (rw c.count_retained.ensures refl)
 
 pub returns-in_ok-push-in-Encode : goal.returns-in_ok-push-in-Encode
 returns-in_ok-push-in-Encode g c = λ T X C gives f.

@@ -1,10 +1,20 @@
-use Rattle.olr_list.proofs.Common.{◌≢◌, ◌<◌, None, length, sym, ◌∙◌, arith, slice_get_within}
+use Rattle.olr_list.proofs.Common.{◌≢◌, ◌<◌, None, length, sym, ◌∙◌, arith, slice_get_within, get_or_read, IsNoted, named_keys, subst, ℕ}
 use Rattle.olr_list.proofs.NamedEntries.{first_at, names_differ, set_absent, set_items}
-use Rattle.olr_list.proofs.PathIdLemmas.{kept_long, each_set, noted_but, noted_set}
-use Rattle.olr_list.proofs.path_list.PathList.put_other.Goals as goal
+use Rattle.olr_list.proofs.PathIdLemmas.{set_long, each_set, noted_but, noted_set}
+use Rattle.olr_list.proofs.path_list.PathList.replace.Goals as goal
 
 pub returns-in_default-clause-ok : goal.returns-in_default-clause-ok
 returns-in_default-clause-ok c = set_absent c.args.self.now.paths.entries c.args.name.now c.args.named (sym c.in_default.ensures.value)
+
+pub replace-requires : goal.replace-requires
+replace-requires c =
+    let l = c.args.self.now in
+    let q = c.in-Some.position in
+    let within : q < length l.path_ids.items = omega (arith, slice_get_within l.paths.entries q _ c.in-Some.ensures.entry, l.long) in
+    subst (IsNoted l.finder c.index-path_id.result.now) (sym c.keys.ensures)
+    (subst (λ (m : ℕ). IsNoted l.finder m (named_keys c.in-Some.current.now))
+    (sym (get_or_read l.path_ids.items q c.index-path_id.result.now within c.index-path_id.ensures 0))
+    (l.noted q (c.in-Some.field-0-1.now, c.in-Some.current.now) c.in-Some.ensures.entry))
 
 pub invariant_of-self-in-Break-1 : goal.invariant_of-self-in-Break-1
 invariant_of-self-in-Break-1 c =
@@ -14,8 +24,8 @@ invariant_of-self-in-Break-1 c =
     record {
       long = l.long;
       ascend = l.ascend;
-      noted = noted_but l c.renote.new.finder q _ within c.index-path_id.ensures c.renote.ensures.spares _
-          c.in-Some.ensures.entry c.in_err-renote.ensures.err;
+      noted = noted_but l c.replace.new.self q _ within c.index-path_id.ensures c.replace.ensures.spares _
+          c.in-Some.ensures.entry (λ _. subst (IsNoted c.replace.new.self c.index-path_id.result.now) c.keys.ensures c.in_err-replace.ensures.err);
       encoded = l.encoded;
     }
 
@@ -28,10 +38,10 @@ invariant_of-self-2 c =
     let n = c.args.named in
     let within : q < length ms = omega (arith, slice_get_within l.paths.entries q _ c.in-Some.ensures.entry, l.long) in
     record {
-      long = l.long ∙ sym (kept_long es q n);
+      long = l.long ∙ sym (set_long es q n);
       ascend = l.ascend;
-      noted = noted_set l c.renote.new.finder q _ within c.index-path_id.ensures c.renote.ensures.spares n
-          c.in_ok-renote.ensures.noted;
+      noted = noted_set l c.replace.new.self q _ within c.index-path_id.ensures c.replace.ensures.spares n
+          (subst (IsNoted c.replace.new.self c.index-path_id.result.now) c.keys-2.ensures c.in_ok-replace.ensures.noted);
       encoded = λ off. let was = c.is_held-self.ensures off in
           each_set (λ _ m. m.published ≢ None) es ms q n (λ k e ne. l.encoded was.0 k e) was.1;
     }

@@ -1,5 +1,5 @@
 use Rattle.olr_list.proofs.Common.{All, take, min, limit, Near, nodes_of}
-use Rattle.olr_list.proofs.affected.is_query_touched.Given as goal
+use Rattle.olr_list.proofs.affected.is_any_near.Given as goal
 
 -- none of the coverage queries so far is near a touched node
 abbrev pub invariant-loop-query : goal.invariant-loop-query

@@ -1,8 +1,8 @@
 use Rattle.olr_list.proofs.Common.{◌≢◌, ℕ, None, List, ◌∙◌, ◌++◌, ◌∷◌, [], arith, ap, map-append, string_eq}
-use Rattle.olr_list.proofs.Common.{insert_entry, NamedNoted, length_push, ascends_push}
+use Rattle.olr_list.proofs.Common.{insert_entry, NamedNoted, IsNoted, subst, length_push, ascends_push}
 use Rattle.olr_list.proofs.NamedEntries.{Entries, item_of}
 use Rattle.olr_list.proofs.PathIdLemmas.{insert_last, noted_below, each_push}
-use Rattle.olr_list.proofs.path_list.PathList.put_last.Goals as goal
+use Rattle.olr_list.proofs.path_list.PathList.push.Goals as goal
 
 pub returns-clause-ok : goal.returns-clause-ok
 returns-clause-ok c =
@@ -20,7 +20,7 @@ invariant_of-self-in-Break-branch-4 c =
     record {
       long = rw (entries, ids) l.long;
       ascend = rw ids l.ascend;
-      noted = rw (entries, ids) (noted_below l c.note_named.new.finder path_id below c.note_named.ensures.spares);
+      noted = rw (entries, ids) (noted_below l c.replace.new.self path_id below c.replace.ensures.spares);
       encoded = λ off. rw entries (l.encoded off);
     }
 
@@ -32,7 +32,7 @@ invariant_of-self-2 c =
     let name = c.args.name in
     let n = c.args.named in
     let path_id = c.in_ok-path_id.path_id in
-    let g = c.note_named.new.finder in
+    let g = c.replace.new.self in
     let below = rw c.deref.ensures.value at c.in_ok-path_id.ensures in
     let entries =
     c.in-Ok.ensures.entries ∙ ap (λ (ys : Entries). insert_entry string_eq ys name n) c.in_ok-reserve.ensures.entries
@@ -43,7 +43,7 @@ invariant_of-self-2 c =
       ascend = rw ids (ascends_push ms path_id l.ascend below);
       noted =
           rw (entries, ids) (each_push (NamedNoted g) es ms name n path_id l.long
-          (noted_below l g path_id below c.note_named.ensures.spares) c.in_ok-note_named.ensures.noted);
+          (noted_below l g path_id below c.replace.ensures.spares) (subst (IsNoted g path_id) c.keys.ensures c.in_ok-replace.ensures.noted));
       encoded = λ off. let was = c.is_held-self.ensures off in
           rw entries (each_push (λ _ m. m.published ≢ None) es ms name n path_id l.long (l.encoded was.0) was.1);
     }

@@ -8,7 +8,7 @@ use Rattle.olr_paths.proofs.Common.{List, Made, Path, last, has, ◌⊎◌, ◌+
 use Rattle.olr_paths.proofs.Common.{◌∙◌, inl, ap, [], ℕ}
 use Rattle.olr_list.proofs.Common.{TraversedTouched, IsKnownClear, QueryTouched, LineTouched, Contains, has_node, limit}
 use Rattle.olr_list.proofs.Common.{IsRoute, dm_of, true, Near, end}
-use Rattle.olr_list.specs.Actions.{ToEncode, Stays}
+use Rattle.olr_list.specs.Actions.{ToEncode, Retains}
 use Rattle.olr_list.specs.Changes.{Touches}
 use Rattle.olr_paths.proofs.GivenQueries.{made_before, path_before}
 use Rattle.olr_spec.proofs.JoinLemmas.{empty_stretch}
@@ -183,10 +183,10 @@ module _ {M N : Map} (n : IsMap N) {T X : List ℕ} {C : List ChangedLine} {is :
     clear_of : All (IsKnownClear N C) m.queries → All (IsClear N C) m.queries
     clear_of all = λ j d lt. (all j d lt).1
 
-    pub stays_retained : Stays N T X C m P → IsEncodingOf N P m
+    pub stays_retained : Retains N T X C m P → IsEncodingOf N P m
     stays_retained stays = stays_clear stays.traversed stays.lines (clear_of stays.clear)
 
-    stays_by : IsUnchanged M N T X C P → Stays N T X C m P
+    stays_by : IsUnchanged M N T X C P → Retains N T X C m P
     stays_by u = record {
       few = u.few;
       traversed = λ o. u.traversed o.0 o.1 ((made.traversed o.0).0 o.2);
@@ -220,7 +220,7 @@ module _ {M N : Map} (n : IsMap N) {T X : List ℕ} {C : List ChangedLine} {is :
         ]
     touched_by (By_line x on line) = inr (inl (x, on, line))
 
-    pub retained_by : Touches N T X m P → Stays N T X C m P → IsRetained M N T X C i
+    pub retained_by : Touches N T X m P → Retains N T X C m P → IsRetained M N T X C i
     retained_by touches stays = record {
       made = λ none. cc;
       affected = affected_by touches;
