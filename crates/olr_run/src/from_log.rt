@@ -55,7 +55,7 @@ fn size(text: &str) -> Option<usize> {
 }
 
 /// The least length of a log that is replaced; none is if no size was asked for. None if what was asked for is no size.
-pub(crate) fn renewal_length(asked: Option<&str>) -> Option<usize>
+pub fn renewal_length(asked: Option<&str>) -> Option<usize>
     ensures { option_map (λ text. text.now) asked.entry ≡ None → IsSome result }
 {
     match asked {

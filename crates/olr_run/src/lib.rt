@@ -11,6 +11,7 @@ mod starts;
 mod streams;
 
 pub use both::run_both;
+pub use from_log::renewal_length;
 pub use loader::{RestoreFault, restore};
 pub use logged::run_with_log;
 pub use olr_arguments::WRONG_ARGUMENTS;
@@ -18,4 +19,4 @@ pub use olr_sessions::{
     Buffered, Gate, Journal, LogFault, RunFault, Session, Status, exit_code, report_fault,
 };
 pub use records::{Room, run, run_bytes, run_session};
-pub use streams::{asked_file, asked_log, has_size, program, run_program, run_program_with_log};
+pub use streams::{program, run_program, run_program_with_log};
