@@ -3,12 +3,9 @@
 //! Commands are read as CSV records from a file and from standard input. Replies are written to standard output.
 #![tactic(auto)]
 
-use olr_arguments::OptionsFault;
+use olr_arguments::{Options, OptionsFault, WRONG_ARGUMENTS, compaction_length, options};
 use olr_journal::{HostDisk, LogFile, LogFolder, OpenError, Unknown, open_place, set_aside};
-use olr_run::{
-    Buffered, RunFault, WRONG_ARGUMENTS, asked_file, asked_log, has_size, report_fault,
-    run_program, run_program_with_log,
-};
+use olr_run::{Buffered, RunFault, report_fault, run_program, run_program_with_log};
 use std::process::ExitCode;
 use std::{env, fs, io};
 
@@ -59,12 +56,21 @@ fn run(rt: &HostRuntime, arguments: &[String]) -> u8 {
     let Ok(mut output) = Buffered::new(rt.alloc(), io::writer(rt)) else {
         return report_fault(RunFault::Memory, &mut rt.stderr());
     };
-    let asked = match asked_log(rt.alloc(), arguments) {
-        Ok(asked) => asked,
+    let asked = match options(rt.alloc(), arguments) {
+        Ok(asked) => Some(asked),
         Err(OptionsFault::Memory) => return report_fault(RunFault::Memory, &mut rt.stderr()),
         Err(_) => None,
     };
-    let Some((name, is_new)) = asked else {
+    let Some(
+        Options {
+            log: Some(name),
+            new,
+            file,
+            compact_at,
+            ..
+        },
+    ) = asked
+    else {
         return run_program(
             rt.alloc(),
             arguments,
@@ -74,17 +80,11 @@ fn run(rt: &HostRuntime, arguments: &[String]) -> u8 {
             &mut rt.stderr(),
         );
     };
-    let (Ok(file), Ok(has_size)) = (
-        asked_file(rt.alloc(), arguments),
-        has_size(rt.alloc(), arguments),
-    ) else {
-        return report_fault(RunFault::Memory, &mut rt.stderr());
-    };
     let file = file.map(|name| fs::open(rt, name));
     let log = match &file {
         Some(Err(_)) => Err(OpenError::Missing),
-        _ if !has_size => Err(OpenError::Missing),
-        _ => open_log(rt, name, is_new),
+        _ if compaction_length(compact_at).is_none() => Err(OpenError::Missing),
+        _ => open_log(rt, name, new),
     };
     let (status, log) = run_program_with_log(
         rt.alloc(),

@@ -15,7 +15,7 @@ pub use Rattle.olr_records.specs.Records.{Bad_form, Field, HoldsList, Out_of_ran
 pub use Rattle.olr_records.specs.Records.{coordinate, edit, line_between, line_record, max32, name, node_fields}
 pub use Rattle.olr_records.specs.Records.{node_record, number, numbers, path_fields, place, point, read}
 pub use Rattle.olr_records.specs.Records.{set_line_record, shape, value_or_fault, whole_line, ◌⊛◌}
-pub use Rattle.olr_records.specs.ReplyText.{entry_line, middle_line}
+pub use Rattle.olr_records.specs.ReplyText.{count_line, entry_line, middle_line, name_line, obstacle_line}
 pub use Rattle.olr_records.specs.Words.{Gathers, Reads, both}
 pub use Rattle.olr_records.specs.declared.faults.ReadFault.{ReadFault}
 pub use Rattle.olr_records.specs.declared.faults.ReadFault.TheVariants.{Memory}

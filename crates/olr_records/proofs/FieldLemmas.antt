@@ -1,10 +1,9 @@
 -- Fields: the bytes of a field by its position, and as text.
-use Rattle.olr_records.proofs.Common.{list_all, is_ascii_digit, digits_value, own, and_parts, nat_tests, is_name}
-use Rattle.olr_records.proofs.Common.{is_name_byte, Field, length-take}
-use Rattle.std.proofs.Common.{◌≡◌, ℕ, zero, suc, ◌<◌, ◌≤◌, ◌^◌, Bool, true, List, [], ◌∷◌, length, take, unwrap_or}
+use Rattle.olr_records.proofs.Common.{list_all, and_parts, nat_tests, is_name}
+use Rattle.olr_records.proofs.Common.{is_name_byte, Field}
+use Rattle.std.proofs.Common.{◌≡◌, ℕ, zero, suc, ◌<◌, Bool, true, List, [], ◌∷◌, unwrap_or}
 use Rattle.std.proofs.Common.{nat_le, refl, arith, rules}
 use Rattle.std.specs.Prelude.{slice_index_or, IsAscii, IsUtf8}
-use Rattle.std.proofs.lemmas.Str.Parse.{digits_value_short}
 use Rattle.std.proofs.lemmas.Str.{IsUtf8-from_ascii}
 use Rattle.csv.specs.Records.{field_at}
 
@@ -14,11 +13,6 @@ unfolding field_at
 field_is [] k = refl
 field_is (f ∷ fs) zero = refl
 field_is (f ∷ fs) (suc k) = field_is fs k
-
--- the digits before another one, of 19 at most
-pub front_small : (f : Field) (k : ℕ) → list_all is_ascii_digit (take k f) ≡ true → k < length f → length f ≤ 19 →
-    digits_value (take k f) < 10 ^ 18
-front_small f k h low few = digits_value_short own (take k f) 18 h (omega (arith, length-take k f))
 
 -- ---- text
 

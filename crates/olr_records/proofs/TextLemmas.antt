@@ -1,19 +1,15 @@
 -- Lines, and texts of several lines.
-use Rattle.olr_records.proofs.Common.{decimal, concat, append-nil, length-append, entry_of, after_commas, joined}
-use Rattle.olr_records.proofs.Common.{entry_line, middle_line, length-decimal-le, length-map, map-append, take_more}
+use Rattle.olr_records.proofs.Common.{decimal, concat, append-nil, length-append, after_commas, joined}
+use Rattle.olr_records.proofs.Common.{middle_line, length-decimal-le, length-map, map-append, take_more}
 use Rattle.std.proofs.Common.{◌≡◌, ℕ, ◌+◌, ◌<◌, List, [], ◌∷◌, ◌++◌, length, take, map, refl, ap, append_assoc, arith}
 use Rattle.std.proofs.Common.{◌≤◌, ◌^◌, ◌-◌, ◌/◌, ◌%◌, ◌∙◌, drop, get_or}
 use Rattle.std.proofs.lemmas.Fmt.{decimal_digit, decimal_step}
 use Rattle.std.proofs.lemmas.List.{drop_all, drop_at, drop-drop, length-take-le, take_at}
 use Rattle.std.specs.List.{copy_within}
-use Rattle.std.specs.Prelude.{codes, String, string_bytes}
-use Rattle.std.specs.declared.alloc.Global.{Global}
+use Rattle.std.specs.Prelude.{codes}
 use Rattle.std.proofs.lemmas.List.Folds.{concat-append}
 use Rattle.olr_spec.specs.Reference.{Reference}
-use Rattle.olr_commands.specs.declared.reply.Entry.{Entry}
-use Rattle.olr_commands.specs.declared.reply.NamedObstacle.{NamedObstacle}
-use Rattle.olr_commands.specs.Words.{named_obstacle_of}
-use Rattle.olr_records.specs.ReplyText.{reply_line, name_line, obstacle_line, accepted_text, first_line, last_line, offset_lines, reference_lines}
+use Rattle.olr_records.specs.ReplyText.{reply_line, accepted_text, first_line, last_line, offset_lines, reference_lines}
 
 -- a line of a word, two fields and more
 pub fields_line_of : (t w a b : List ℕ) (fs : List (List ℕ))
@@ -32,19 +28,6 @@ lines_more f t xs k d lt =
       concat-append (map f (take k xs)) (f (get_or xs k d) ∷ []),
       append_assoc t (concat (map f (take k xs))) (f (get_or xs k d)),
     )
-
-pub entry_lines : (es : List Entry) → map (λ e. entry_line (entry_of e)) es ≡ map entry_line (map entry_of es)
-entry_lines [] = refl
-entry_lines (e ∷ es) = ap (λ (ls : List (List ℕ)). entry_line (entry_of e) ∷ ls) (entry_lines es)
-
-pub name_lines : (ns : List (String Global)) → map (λ n. name_line (string_bytes n)) ns ≡ map name_line (map string_bytes ns)
-name_lines [] = refl
-name_lines (n ∷ ns) = ap (λ (ls : List (List ℕ)). name_line (string_bytes n) ∷ ls) (name_lines ns)
-
-pub obstacle_lines : (es : List NamedObstacle) → map (λ e. obstacle_line (named_obstacle_of e)) es
-    ≡ map obstacle_line (map named_obstacle_of es)
-obstacle_lines [] = refl
-obstacle_lines (e ∷ es) = ap (λ (ls : List (List ℕ)). obstacle_line (named_obstacle_of e) ∷ ls) (obstacle_lines es)
 
 -- the text of a reference, part by part
 parts : (t l f x : List ℕ) (m p n : List (List ℕ)) →

@@ -1,8 +1,6 @@
 //! The fields of a record, each checked for its form and then for its range.
 ghost use Rattle.std.specs.Prelude.{◌≡◌, ◌≤◌, ◌^◌, [], IsTrue, IfOk, IfSome, is_some, length, min, slice_index_or};
 ghost use Rattle.std.specs.Prelude.{◌∷◌, ◌≢◌, drop, string_bytes, IfErr, OnErr, Some, ⊤};
-ghost use Rattle.std.specs.Char.{is_ascii_digit};
-ghost use Rattle.std.specs.List.{list_all};
 ghost use Rattle.csv.specs.Records.{fields_of};
 ghost use Rattle.olr_spec.specs.Degrees.{are_digits, digits_value};
 ghost use Rattle.olr_spec.specs.Degrees as text_of;
@@ -24,8 +22,6 @@ const GREATEST_CLASS: u32 = 7;
 const GREATEST_LENGTH: u32 = 1_000_000;
 /// The greatest distance of a shape point from the start of the line, in decimetres.
 const GREATEST_DISTANCE: u32 = 999_999;
-/// Any number with this many digits fits 64 bits.
-const MOST_DIGITS: usize = 19;
 /// 2^32, which is more than any number of 32 bits.
 const TOO_GREAT: u64 = 1 << 32;
 
@@ -50,27 +46,14 @@ pub(crate) fn only_field(fields: &ByteRecord) -> Result<&[u8], ReadFault>
     Ok(field(fields, 1))
 }
 
-/// The value of digits, which fits 64 bits. None if there is another byte among them.
-fn few_digits(field: &[u8]) -> Option<u64>
-    requires { length field.now ≤ 19 }
-    ensures form { is_some result ≡ list_all is_ascii_digit field.now }
-    ensures same { IfSome result (λ n. n ≡ digits_value field.now) }
-{
-    let mut value: u64 = 0;
-    for byte in field {
-        if !byte.is_ascii_digit() {
-            return None;
-        }
-        value = 10 * value + u64::from(*byte - b'0');
-    }
-    Some(value)
-}
-
-/// The value of any number of digits, or 2^32 instead of a greater value. None if there is another byte among them.
-fn many_digits(field: &[u8]) -> Option<u64>
-    ensures form { is_some result ≡ list_all is_ascii_digit field.now }
+/// The value of one or more digits, or 2^32 instead of a greater value. None if there are no digits, or another byte.
+fn value(field: &[u8]) -> Option<u64>
+    ensures form { is_some result ≡ are_digits field.now }
     ensures same { IfSome result (λ n. n ≡ min (digits_value field.now) (2 ^ 32)) }
 {
+    if field.is_empty() {
+        return None;
+    }
     let mut value: u64 = 0;
     for byte in field {
         if !byte.is_ascii_digit() {
@@ -79,21 +62,6 @@ fn many_digits(field: &[u8]) -> Option<u64>
         value = TOO_GREAT.min(10 * value + u64::from(*byte - b'0'));
     }
     Some(value)
-}
-
-/// The value of one or more digits, or another number from 2^32 on instead of such a value. None if there are no digits,
-/// or another byte.
-fn value(field: &[u8]) -> Option<u64>
-    ensures form { is_some result ≡ are_digits field.now }
-    ensures same { IfSome result (λ n. min n (2 ^ 32) ≡ min (digits_value field.now) (2 ^ 32)) }
-{
-    if field.is_empty() {
-        return None;
-    }
-    if field.len() > MOST_DIGITS {
-        return many_digits(field);
-    }
-    few_digits(field)
 }
 
 /// One or more digits with a value from `low` to `high`. Leading zeros are accepted.

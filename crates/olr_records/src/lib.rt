@@ -14,4 +14,4 @@ mod texts;
 
 pub use faults::{ReadFault, fault_text, read_fault_text};
 pub use read::{read_command, text_to_explain};
-pub use reply::{append_reply, dump_text, no_paths_text, reply_text};
+pub use reply::{append_reply, dump_text, reply_text};

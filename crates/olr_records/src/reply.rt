@@ -4,7 +4,7 @@ ghost use Rattle.std.specs.List.{concat};
 ghost use Rattle.olr_ambiguity.specs.Found.{obstacle_of};
 ghost use Rattle.olr_answers.specs.Answers.{refusal_of};
 ghost use Rattle.olr_commands.specs.RecordText.{after_commas};
-ghost use Rattle.olr_commands.specs.Reply.{Paths, Dumped};
+ghost use Rattle.olr_commands.specs.Reply.{Dumped};
 ghost use Rattle.olr_commands.specs.Words.{reply_of, entry_of, named_obstacle_of};
 ghost use Rattle.olr_records.specs.ReplyText as texts;
 
@@ -14,14 +14,6 @@ use olr_answers::Refusal;
 use olr_binary::{Attrs, First, Last, Middle, Reference};
 use olr_commands::{Dump, Entry, NamedObstacle, Reply, push_field, push_number};
 use std::alloc::{AllocError, Global};
-
-/// The line of a reply that names no path. It takes no memory.
-#[tactic(auto, unfolding(crate::proofs::OnLiterals::on_literals))]
-pub fn no_paths_text() -> &'static str
-    ensures { result.now ≡ texts.reply_text (Paths []) }
-{
-    "ok,0\n"
-}
 
 /// The lines of a reply to an accepted command. It fails if an allocation fails.
 pub fn reply_text(alloc: Global, reply: &Reply) -> Result<Vec<u8>, AllocError>
@@ -33,7 +25,6 @@ pub fn reply_text(alloc: Global, reply: &Reply) -> Result<Vec<u8>, AllocError>
 }
 
 /// Appends the lines of a reply to an accepted command to a text. It fails if an allocation fails.
-#[tactic(auto, using(crate::proofs::TextLemmas::entry_lines))]
 pub fn append_reply(text: &mut Vec<u8>, reply: &Reply) -> Result<(), AllocError>
     ensures { OnOk result (text.new.items ≡ text.old.items ++ texts.reply_text (reply_of reply.now)) }
 {
@@ -65,15 +56,11 @@ fn push_paths(text: &mut Vec<u8>, entries: &[Entry]) -> Result<(), AllocError>
     ensures { OnOk result (text.new.items ≡ text.old.items
         ++ texts.accepted_text (map (λ e. texts.entry_line (entry_of e)) entries.now)) }
 {
+    // Most replies name no path.
+    if entries.is_empty() {
+        return text.extend_from_slice(b"ok,0\n");
+    }
     push_count(text, b"ok", entries.len())?;
-    push_entries(text, entries)
-}
-
-/// The lines of these paths.
-fn push_entries(text: &mut Vec<u8>, entries: &[Entry]) -> Result<(), AllocError>
-    ensures { OnOk result (text.new.items
-        ≡ text.old.items ++ concat (map (λ e. texts.entry_line (entry_of e)) entries.now)) }
-{
     for entry in entries {
         push_entry(text, entry)?;
     }
@@ -178,26 +165,11 @@ fn push_names(text: &mut Vec<u8>, names: &[String]) -> Result<(), AllocError>
         ++ texts.accepted_text (map (λ n. texts.name_line (string_bytes n)) names.now)) }
 {
     push_count(text, b"ok", names.len())?;
-    push_name_lines(text, names)
-}
-
-/// The lines of these names.
-fn push_name_lines(text: &mut Vec<u8>, names: &[String]) -> Result<(), AllocError>
-    ensures { OnOk result (text.new.items
-        ≡ text.old.items ++ concat (map (λ n. texts.name_line (string_bytes n)) names.now)) }
-{
     for name in names {
-        push_name(text, name)?;
+        text.extend_from_slice(name.as_bytes())?;
+        text.extend_from_slice(b"\n")?;
     }
     Ok(())
-}
-
-/// The line of a name.
-fn push_name(text: &mut Vec<u8>, name: &str) -> Result<(), AllocError>
-    ensures { OnOk result (text.new.items ≡ text.old.items ++ texts.name_line name.now) }
-{
-    text.extend_from_slice(name.as_bytes())?;
-    text.extend_from_slice(b"\n")
 }
 
 /// The number of things that stand in the way, and a line for each.
@@ -206,14 +178,6 @@ fn push_obstacles(text: &mut Vec<u8>, found: &[NamedObstacle]) -> Result<(), All
         ++ texts.accepted_text (map (λ e. texts.obstacle_line (named_obstacle_of e)) found.now)) }
 {
     push_count(text, b"ok", found.len())?;
-    push_obstacle_lines(text, found)
-}
-
-/// A line for each of these things.
-fn push_obstacle_lines(text: &mut Vec<u8>, found: &[NamedObstacle]) -> Result<(), AllocError>
-    ensures { OnOk result (text.new.items ≡ text.old.items
-        ++ concat (map (λ e. texts.obstacle_line (named_obstacle_of e)) found.now)) }
-{
     for obstacle in found {
         push_obstacle_line(text, obstacle)?;
     }

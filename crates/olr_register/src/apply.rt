@@ -9,34 +9,22 @@ ghost use Rattle.olr_register.specs.RegisterState.{Represents};
 use crate::change::{Change, PathParts};
 use crate::register::Register;
 use olr_commands::{Command, CommandFault, Reply};
-use olr_map::Edit;
 use std::alloc::{AllocError, Global};
 
 impl Register {
     ghost use Rattle.std.specs.Prelude.{◌≡◌, is_some, OnOk, OnErr, IsFalse};
-    ghost use Rattle.olr_commands.specs.State.{IsContent, Make, On_map};
-    ghost use Rattle.olr_roads.specs.Edits.{edit_of};
+    ghost use Rattle.olr_commands.specs.State.{IsContent, Make};
     ghost use Rattle.olr_register.specs.BatchChanges.{change_of};
     ghost use Rattle.olr_register.specs.Registered.{Applied, Counted};
     ghost use Rattle.olr_register.specs.Answered.{Answered};
     ghost use Rattle.olr_register.specs.CountChanges.{encodes, RetainsCounted, SearchesCounted, NoneFalls, SameCounts};
 
-    /// Holds an edit in the open batch, or makes it at once if none is open.
-    fn edit(&mut self, edit: Edit) -> Result<Reply, CommandFault>
-        ensures { Answered self.old (Make (On_map (edit_of edit))) result self.new }
-    {
-        if self.is_open() {
-            return self.hold(Change::Edit(edit));
-        }
-        self.edit_now(edit)
-    }
-
     /// Holds a change in the open batch, or makes it at once if none is open.
     fn change(&mut self, change: Change) -> Result<Reply, CommandFault>
         ensures { Answered self.old (Make (change_of change)) result self.new }
     {
-        if self.is_open() {
-            return self.hold(change);
+        if let Some(batch) = &mut self.batch {
+            return batch.hold(self.alloc, &mut self.roads, &self.paths, change);
         }
         match change {
             Change::Edit(edit) => self.edit_now(edit),
@@ -46,23 +34,12 @@ impl Register {
         }
     }
 
-    /// The answer to a command. Edits are most of a map's records: what else there is stays out of their way.
+    /// The answer to a command.
     fn answer_to(&mut self, command: Command) -> Result<Reply, CommandFault>
         ensures { Answered self.old (command_of command) result self.new }
     {
         match command {
-            Command::Edit(edit) => self.edit(edit),
-            command => self.answer_other(command),
-        }
-    }
-
-    /// The answer to a command that need not be an edit.
-    #[inline(never)]
-    fn answer_other(&mut self, command: Command) -> Result<Reply, CommandFault>
-        ensures { Answered self.old (command_of command) result self.new }
-    {
-        match command {
-            Command::Edit(edit) => self.edit(edit),
+            Command::Edit(edit) => self.change(Change::Edit(edit)),
             Command::AddPath(name, lines, pos, neg) => {
                 self.change(Change::AddPath(name, PathParts { lines, pos, neg }))
             }

@@ -1,11 +1,8 @@
-//! Batches: opening one, the changes that it holds, commit and abort.
-ghost use Rattle.std.specs.Prelude.{IsSome};
-ghost use Rattle.olr_commands.specs.State.{Make, Begin, Commit, Abort};
-ghost use Rattle.olr_register.specs.BatchChanges.{change_of};
+//! Batches: opening one, commit and abort.
+ghost use Rattle.olr_commands.specs.State.{Begin, Commit, Abort};
 
 use crate::batch::Batch;
 use crate::bounds::renew;
-use crate::change::Change;
 use crate::register::Register;
 use olr_commands::{CommandFault, Reply};
 use olr_map::UndoLog;
@@ -31,18 +28,6 @@ impl Register {
         // Nothing is dropped: no batch is open.
         drop(self.batch.replace(batch));
         Ok(Reply::Paths(Vec::new(self.alloc)))
-    }
-
-    /// Makes a change in the open batch and holds it. After a fault the register is unchanged.
-    #[inline(never)]
-    pub(crate) fn hold(&mut self, change: Change) -> Result<Reply, CommandFault>
-        requires { IsSome self.old.kept.batch }
-        ensures { Answered self.old (Make (change_of change)) result self.new }
-    {
-        let Some(batch) = &mut self.batch else {
-            unreachable!()
-        };
-        batch.hold(self.alloc, &mut self.roads, &self.paths, change)
     }
 
     /// Accepts all held changes at once, if their number is `count`, and encodes the affected paths. After a fault the

@@ -199,26 +199,3 @@ module _ (First Second All : State → List (List Field) → List Outcome → St
         record { outcomes = one.outcomes ++ cut.outcomes; each = on.each; stops = on.stops; wrote = wrote },
       )
   both_faulted_second_as join stop old mid new first second before now later p e base h n k = tt
-
-pub both_stopped : (stop : Bool) (old mid : Registered) (first second : Records) (before later : Known) (p : Status) →
-    IsContent old.kept.content → RanOn Claims stop old first before mid later p → p ≡ status.Stopped
-    → RanOn Claims stop old (known_both first second) before mid later p
-both_stopped = both_stopped_as Claims Claims Claims longer
-
-pub both_faulted_first : (stop : Bool) (old mid : Registered) (first second : Records) (before later : Known)
-    (e : RunFault) → IsContent old.kept.content → FaultedOn Claims stop old first before mid later e
-    → FaultedOn Claims stop old (known_both first second) before mid later e
-both_faulted_first = both_faulted_first_as Claims Claims Claims longer
-
-pub both_ran : (stop : Bool) (old mid new : Registered) (first second : Records) (before now later : Known)
-    (p q end : Status) → IsContent old.kept.content → RanOn Claims stop old first before mid now p →
-    p ≢ status.Stopped
-    → RanOn Claims stop mid second now new later q → status_of end ≡ greater (status_of p) (status_of q) →
-    RanOn Claims stop old (known_both first second) before new later end
-both_ran = both_ran_as Claims Claims Claims joined_claims
-
-pub both_faulted_second : (stop : Bool) (old mid new : Registered) (first second : Records) (before now later : Known)
-    (p : Status) (e : RunFault) → IsContent old.kept.content → RanOn Claims stop old first before mid now p
-    → p ≢ status.Stopped → FaultedOn Claims stop mid second now new later e →
-    FaultedOn Claims stop old (known_both first second) before new later e
-both_faulted_second = both_faulted_second_as Claims Claims Claims joined_claims

@@ -16,7 +16,8 @@ use Rattle.olr_commands.specs.RecordText.{fields_line}
 use Rattle.olr_commands.specs.Dump.{steps}
 use Rattle.olr_run.specs.Logged.{IsKept, closed, Leads}
 use Rattle.olr_run.specs.Restored.{IsContentOf}
-use Rattle.olr_run.proofs.Plain.{Plain, AllPlain, fields_plain}
+use Rattle.olr_records.proofs.PlainLemmas.{Plain, AllPlain}
+use Rattle.olr_run.proofs.Plain.{fields_plain}
 
 -- ---- one field
 

@@ -1,23 +1,19 @@
 //! The answer to one record.
 
-ghost use Rattle.std.specs.Prelude.{◌≡◌, [], true, Ok, Some, IfOk, is_ok};
+ghost use Rattle.std.specs.Prelude.{◌≡◌, Ok, Some, IfOk, is_ok};
 ghost use Rattle.csv.specs.Records.{fields_of};
-ghost use Rattle.olr_commands.specs.Reply.{Paths};
 ghost use Rattle.olr_commands.specs.State.{Explain};
-ghost use Rattle.olr_commands.specs.Words.{reply_of};
 ghost use Rattle.olr_records.specs.Records.{read};
-ghost use Rattle.olr_records.specs.ReplyText.{reply_text};
 ghost use Rattle.olr_run.specs.Runs.{CarriedOut, answer_text, WritesText, AnswersRecord, AreRenewal, RenewsFrom};
 
 use csv::ByteRecord;
 use olr_commands::{CommandFault, Reply};
 use olr_records::{
-    append_reply, dump_text, fault_text, no_paths_text, read_command, read_fault_text,
-    text_to_explain,
+    append_reply, dump_text, fault_text, read_command, read_fault_text, text_to_explain,
 };
 use olr_register::Register;
 use olr_sessions::{RunFault, Session};
-use std::alloc::{AllocError, Global};
+use std::alloc::Global;
 
 /// Carries out a record that decodes to the command `explain` with this text, which isn't copied.
 fn explain_text(
@@ -55,29 +51,6 @@ fn carry_out(
     }
 }
 
-/// Whether a reply names no path, as most replies do.
-fn names_no_path(reply: &Reply) -> bool
-    ensures { result ≡ true → reply_of reply.now ≡ Paths [] }
-{
-    match reply {
-        Reply::Paths(entries) => entries.is_empty(),
-        Reply::Fields(_) | Reply::Held(_) | Reply::Dump(_) | Reply::Records(_) => false,
-        Reply::Names(_) | Reply::Obstacles(_) => false,
-    }
-}
-
-/// The lines of a reply. Unless it names no path, they are written to `text`, whose buffer is reused.
-fn reply_lines<'a>(text: &'a mut Vec<u8>, reply: &Reply) -> Result<&'a [u8], AllocError>
-    ensures { IfOk result (λ lines. lines.now ≡ reply_text (reply_of reply.now)) }
-{
-    if names_no_path(reply) {
-        return Ok(no_paths_text().as_bytes());
-    }
-    text.clear();
-    append_reply(text, reply)?;
-    Ok(text.as_slice())
-}
-
 /// Writes an answer; the text of a reply is made in `text`, whose buffer is reused, and that of a dump in the dump's own
 /// buffer. Returns whether it accepts the command.
 fn write_answer<W, S: Session<W>>(
@@ -97,8 +70,9 @@ fn write_answer<W, S: Session<W>>(
             Ok(true)
         }
         Ok(reply) => {
-            let lines = reply_lines(text, &reply)?;
-            session.answer(output, lines)?;
+            text.clear();
+            append_reply(text, &reply)?;
+            session.answer(output, text.as_slice())?;
             Ok(true)
         }
         Err(line) => {

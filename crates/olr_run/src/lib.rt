@@ -18,4 +18,4 @@ pub use olr_sessions::{
     Buffered, Gate, Journal, LogFault, RunFault, Session, Status, exit_code, report_fault,
 };
 pub use records::{Room, run, run_bytes, run_session};
-pub use streams::{asked_file, asked_log, has_size, program, run_program, run_program_with_log};
+pub use streams::{program, run_program, run_program_with_log};

@@ -1,10 +1,9 @@
 //! The program, over any streams and any way to open the command file.
 
-ghost use Rattle.std.specs.Prelude.{◌≡◌, ◌≢◌, ◌≤◌, ℕ, List, [], None, length, map, option_map, true, OnOk, IfOk, IfErr, IfSome};
+ghost use Rattle.std.specs.Prelude.{◌≡◌, ◌≢◌, ◌≤◌, ℕ, List, [], length, map, OnOk};
 ghost use Rattle.clap.specs.Faults.{fault_of};
 ghost use Rattle.olr_arguments.specs.Opens.{Opens};
-ghost use Rattle.olr_arguments.specs.Options.{IsOptionsFault, keep_app, options, options_of};
-ghost use Rattle.olr_arguments.specs.Sizes.{HasSize};
+ghost use Rattle.olr_arguments.specs.Options.{keep_app, options, options_of};
 ghost use Rattle.olr_register.specs.Registered.{Registered, nothing_registered};
 ghost use Rattle.olr_run.specs.Ends.{Ends, SendsAnswers, is_about_log};
 ghost use Rattle.olr_run.specs.ProgramEnds.{ProgramEnds};
@@ -14,10 +13,7 @@ ghost use Rattle.olr_sessions.specs.Sessions.{most_held};
 
 use crate::both::run_inputs;
 use crate::from_log::with_log;
-use clap::Error;
-use olr_arguments::{
-    Options, OptionsFault, WRONG_ARGUMENTS, compaction_length, explain, open_file, options,
-};
+use olr_arguments::{Options, WRONG_ARGUMENTS, explain, open_file, options};
 use olr_journal::{Folder, LogFile, OpenError};
 use olr_register::Register;
 use olr_sessions::{Buffered, RunFault, Status, end_status};
@@ -164,56 +160,6 @@ pub fn run_program<
     );
     drop(register);
     status
-}
-
-/// The log that arguments name, and whether it is to be made. None if they name none. It fails if they can't be read.
-pub fn asked_log<'a, S: AsStr>(
-    alloc: Global,
-    arguments: &'a [S],
-) -> Result<Option<(&'a str, bool)>, OptionsFault<Error>>
-    ensures log { IfOk result (λ asked.
-        (options (map S.text arguments.entry.now)).log ≡ option_map (λ a. a.0.now) asked) }
-    ensures new { IfOk result (λ asked.
-        IfSome asked (λ a. (options (map S.text arguments.entry.now)).new ≡ a.1)) }
-    ensures fault { IfErr result (IsOptionsFault (fault_of keep_app (map S.text arguments.entry.now))) }
-{
-    let options = match options(alloc, arguments) {
-        Ok(options) => options,
-        Err(fault) => return Err(fault),
-    };
-    match options.log {
-        Some(name) => Ok(Some((name, options.new))),
-        None => Ok(None),
-    }
-}
-
-/// The command file that arguments name. None if they name none. It fails if they can't be read.
-pub fn asked_file<'a, S: AsStr>(
-    alloc: Global,
-    arguments: &'a [S],
-) -> Result<Option<&'a str>, OptionsFault<Error>>
-    ensures file { IfOk result (λ name.
-        (options (map S.text arguments.entry.now)).file ≡ option_map (λ n. n.now) name) }
-    ensures fault { IfErr result (IsOptionsFault (fault_of keep_app (map S.text arguments.entry.now))) }
-{
-    match options(alloc, arguments) {
-        Ok(options) => Ok(options.file),
-        Err(fault) => Err(fault),
-    }
-}
-
-/// Whether a log can be compacted as arguments ask: they name a size for it, or none. It fails if they can't be read.
-pub fn has_size<'a, S: AsStr>(
-    alloc: Global,
-    arguments: &'a [S],
-) -> Result<bool, OptionsFault<Error>>
-    ensures is { IfOk result (HasSize (options (map S.text arguments.entry.now)).compact_at) }
-    ensures fault { IfErr result (IsOptionsFault (fault_of keep_app (map S.text arguments.entry.now))) }
-{
-    match options(alloc, arguments) {
-        Ok(options) => Ok(compaction_length(options.compact_at).is_some()),
-        Err(fault) => Err(fault),
-    }
 }
 
 /// Runs the program with the log that the arguments name, once it was opened or made, or could not be. It begins with

@@ -57,11 +57,11 @@ impl Journal for Kept {
 }
 
 /// What a run with a log left.
+#[derive(Drop)]
 struct Left {
     log: Vec<u8>,
     answers: Vec<u8>,
-    ended: Result<Status, RunFault>,
-    fault: Option<LogFault>,
+    ended: (Result<Status, RunFault>, Option<LogFault>),
 }
 
 /// Runs records on a new register, with a new log that fails from one call on.
@@ -70,7 +70,6 @@ fn run_logged(
     records: &'static [u8],
     fails_from: usize,
     in_place: bool,
-    renewed_from: usize,
 ) -> Result<Left, AllocError> {
     let mut register = Register::new(alloc);
     let mut output = Buffered::new(alloc, Vec::new(alloc))?;
@@ -87,7 +86,7 @@ fn run_logged(
         none,
         records,
         journal,
-        renewed_from,
+        usize::MAX,
         &mut output,
         false,
     );
@@ -100,8 +99,7 @@ fn run_logged(
     Ok(Left {
         log,
         answers,
-        ended,
-        fault,
+        ended: (ended, fault),
     })
 }
 
@@ -115,102 +113,58 @@ const REPLIES: &[u8] =
 const LOG: &[u8] = b"node,1,0,0\nbegin\nnode,3,0,0\ncommit,1\n";
 
 #[test]
-fn what_is_kept(rt: HostRuntime) {
-    match run_logged(rt.alloc(), RECORDS, 100, true, usize::MAX) {
-        Ok(
-            Left {
-                log,
-                answers,
-                ended,
-                fault,
-            },
-        ) => {
-            assert_eq!(rt; log.as_slice(), LOG);
-            assert_eq!(rt; answers.as_slice(), REPLIES);
-            assert_eq!(rt; (ended, fault), (Ok(Status::SomeRefused), None));
-        }
-        Err(_error) => assert!(rt; false),
-    }
+fn what_is_kept(rt: HostRuntime) -> Result<(), AllocError> {
+    let left = run_logged(rt.alloc(), RECORDS, 100, true)?;
+    assert_eq!(rt; left.log.as_slice(), LOG);
+    assert_eq!(rt; left.answers.as_slice(), REPLIES);
+    assert_eq!(rt; left.ended, (Ok(Status::SomeRefused), None));
+    Ok(())
 }
 
-/// Runs these records with a log that is replaced from a length on, and asserts what it holds at the end.
+/// Runs these records with a log that is replaced when it is asked for, and asserts what it holds at the end.
 fn expect_log<R: Abort + AllocGlobal>(
     rt: &R,
     records: &'static [u8],
-    renewed_from: usize,
     wanted: &[u8],
-) {
-    match run_logged(rt.alloc(), records, 100, true, renewed_from) {
-        Ok(
-            Left {
-                log,
-                answers,
-                ended,
-                fault,
-            },
-        ) => {
-            assert_eq!(rt; log.as_slice(), wanted);
-            assert_eq!(rt; (ended.is_ok(), fault), (true, None));
-            drop(answers);
-        }
-        Err(_error) => assert!(rt; false),
-    }
+) -> Result<(), AllocError> {
+    let left = run_logged(rt.alloc(), records, 100, true)?;
+    assert_eq!(rt; left.log.as_slice(), wanted);
+    assert_eq!(rt; (left.ended.0.is_ok(), left.ended.1), (true, None));
+    Ok(())
 }
 
 #[test]
-fn logs_that_are_replaced(rt: HostRuntime) {
+fn logs_that_are_replaced(rt: HostRuntime) -> Result<(), AllocError> {
     let moved = b"node,1,0,0\nmove,1,0,1\ncompact\nnode,2,0,0\n";
-    let asked: &[u8] = b"node,1,0,1\nnode,2,0,0\n";
-    expect_log(&rt, moved, usize::MAX, asked);
+    expect_log(&rt, moved, b"node,1,0,1\nnode,2,0,0\n")?;
     let in_batch = b"node,1,0,0\nbegin\nmove,1,0,1\ncompact\ncommit,1\n";
-    expect_log(
-        &rt,
-        in_batch,
-        usize::MAX,
-        b"node,1,0,0\nbegin\nmove,1,0,1\ncommit,1\n",
+    expect_log(&rt, in_batch, b"node,1,0,0\nbegin\nmove,1,0,1\ncommit,1\n")
+}
+
+/// Runs `RECORDS` with a log that can't be used, and asserts that nothing is written and how the run ends.
+fn expect_fault<R: Abort + AllocGlobal>(
+    rt: &R,
+    fails_from: usize,
+    in_place: bool,
+    fault: LogFault,
+) -> Result<(), AllocError> {
+    let left = run_logged(rt.alloc(), RECORDS, fails_from, in_place)?;
+    assert_eq!(rt;
+        (left.log.len() <= LOG.len(), left.answers.len()),
+        (true, 0)
     );
+    assert_eq!(rt; left.ended, (Err(RunFault::Write), Some(fault)));
+    Ok(())
 }
 
 #[test]
-fn log_that_fails(rt: HostRuntime) {
-    match run_logged(rt.alloc(), RECORDS, 0, true, usize::MAX) {
-        Ok(
-            Left {
-                log,
-                answers,
-                ended,
-                fault,
-            },
-        ) => {
-            assert_eq!(rt; (log.len(), answers.len()), (0, 0));
-            assert_eq!(rt;
-                (ended, fault),
-                (Err(RunFault::Write), Some(LogFault::Unwritten))
-            );
-        }
-        Err(_error) => assert!(rt; false),
-    }
+fn log_that_fails(rt: HostRuntime) -> Result<(), AllocError> {
+    expect_fault(&rt, 0, true, LogFault::Unwritten)
 }
 
 #[test]
-fn log_that_is_moved(rt: HostRuntime) {
-    match run_logged(rt.alloc(), RECORDS, 100, false, usize::MAX) {
-        Ok(
-            Left {
-                log,
-                answers,
-                ended,
-                fault,
-            },
-        ) => {
-            assert_eq!(rt; (log.len() > LOG.len(), answers.len()), (false, 0));
-            assert_eq!(rt;
-                (ended, fault),
-                (Err(RunFault::Write), Some(LogFault::Moved))
-            );
-        }
-        Err(_error) => assert!(rt; false),
-    }
+fn log_that_is_moved(rt: HostRuntime) -> Result<(), AllocError> {
+    expect_fault(&rt, 100, false, LogFault::Moved)
 }
 
 /// Starts from a log, and asserts the reply to `dump`.

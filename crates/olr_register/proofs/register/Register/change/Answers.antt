@@ -1,4 +1,24 @@
+use Rattle.olr_register.proofs.Common.{Some, items, map_before, content_on, change_of, IsKeptRight}
+use Rattle.olr_register.proofs.BatchSteps.{answered_held}
+use Rattle.olr_register.proofs.States.{kept_moved}
 use Rattle.olr_register.proofs.register.Register.change.Goals as goal
 
-pub returns-in-Edit : goal.returns-in-Edit
-returns-in-Edit c = rw c.in-Edit.is c.edit_now.ensures
+pub hold-requires : goal.hold-requires
+hold-requires c =
+    let s = c.self.inside in
+    let right : IsKeptRight s.roads (items s.paths) (Some c.in-Some.batch) s.bounds = rw (← c.in-Some.is) c.self.invariant in
+    right.register.held
+
+pub invariant_of-self : goal.invariant_of-self
+invariant_of-self c =
+    let s = c.self.inside in
+    kept_moved s.roads c.hold.new.roads (items s.paths) (Some c.in-Some.batch) _ s.bounds c.hold.ensures.before
+    c.hold.ensures.held (rw (← c.in-Some.is) c.self.invariant)
+
+pub returns-in-Some : goal.returns-in-Some
+returns-in-Some c =
+    let s = c.self.inside in
+    let b = c.in-Some.batch in
+    rw (← c.self.view_is, c.in-Some.is, c.hold.ensures.before)
+    (answered_held (content_on (map_before s.roads b.log) (items s.paths)) s.roads c.hold.new.roads (items s.paths) b
+    c.hold.new.self (change_of c.args.change) s.work s.retained c.hold.result c.hold.ensures)

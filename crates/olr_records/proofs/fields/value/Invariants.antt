@@ -1,6 +1,6 @@
 use Rattle.olr_records.proofs.Common.{list_all, is_ascii_digit, digits_value}
 use Rattle.std.proofs.Common.{◌≡◌, ◌^◌, true, take, min}
-use Rattle.olr_records.proofs.fields.many_digits.Given as goal
+use Rattle.olr_records.proofs.fields.value.Given as goal
 
 -- the bytes so far are digits, of this value, or of a value that does not fit 32 bits
 abbrev pub invariant-loop-byte : goal.invariant-loop-byte

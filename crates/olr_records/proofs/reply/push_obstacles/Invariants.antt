@@ -1,8 +1,7 @@
-use Rattle.olr_records.proofs.Common.{concat}
-use Rattle.std.proofs.Common.{◌≡◌, ◌++◌, map, take}
+use Rattle.olr_records.proofs.Common.{concat, obstacle_line}
 use Rattle.olr_commands.specs.Words.{named_obstacle_of}
-use Rattle.olr_records.specs.ReplyText.{obstacle_line}
-use Rattle.olr_records.proofs.reply.push_obstacle_lines.Given as goal
+use Rattle.std.proofs.Common.{◌≡◌, ◌++◌, map, take}
+use Rattle.olr_records.proofs.reply.push_obstacles.Given as goal
 
 abbrev pub invariant-loop-obstacle : goal.invariant-loop-obstacle
 invariant-loop-obstacle l =

@@ -1,7 +1,0 @@
-use Rattle.olr_records.proofs.Common.{concat, entry_of, entry_line}
-use Rattle.std.proofs.Common.{◌≡◌, ◌++◌, map, take}
-use Rattle.olr_records.proofs.reply.push_entries.Given as goal
-
-abbrev pub invariant-loop-entry : goal.invariant-loop-entry
-invariant-loop-entry l =
-    l.text.items ≡ l.initial.text.items ++ concat (map (λ e. entry_line (entry_of e)) (take l.entry-index l.entries))
