@@ -192,6 +192,10 @@ impl<M: MapRead> MapRead for Survey<M> {
         self.map.slot_of(id)
     }
 
+    fn node_at(&self, slot: u32) -> Option<NodeId> {
+        self.map.node_at(slot)
+    }
+
     fn out_lines_at(&self, slot: u32) -> NodeLines<'_> {
         self.map.out_lines_at(slot)
     }

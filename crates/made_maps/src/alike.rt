@@ -63,10 +63,15 @@ fn are_ends_alike<M: MapRead, N: MapRead>(
 }
 
 fn is_end_alike<M: MapRead, N: MapRead>(one: &M, other: &N, here: LineEnd, there: LineEnd) -> bool {
-    here.node == there.node
-        && here.len == there.len
-        && one.slot_of(here.node) == Some(here.slot)
-        && other.slot_of(there.node) == Some(there.slot)
+    here.len == there.len
+        && match (one.node_at(here.slot), other.node_at(there.slot)) {
+            (Some(node), Some(same)) => {
+                node == same
+                    && one.slot_of(node) == Some(here.slot)
+                    && other.slot_of(same) == Some(there.slot)
+            }
+            _ => false,
+        }
 }
 
 /// Whether two maps have the same line under a number, or both have none.

@@ -43,7 +43,7 @@ no_items (y ∷ ys) none = absurd (omega arith)
 
 module _ (path_ids : List ℕ) (index : Index) (found : List ℕ) where
   -- a number that no path has
-  finds_none : (v : ℕ) → path_ids_of index v ≡ [] → Finds path_ids index v found
+  pub finds_none : (v : ℕ) → path_ids_of index v ≡ [] → Finds path_ids index v found
   finds_none v none j low on =
       let off = ap (λ (ys : List ℕ). has ys (get_or path_ids j 0)) none in
       let never : ⊥ = cc (on, off) in absurd never

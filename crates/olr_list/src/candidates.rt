@@ -1,7 +1,8 @@
 //! Which paths the edits may affect: found by what they touched, without a pass over all paths.
-ghost use Rattle.std.specs.Prelude.{◌≡◌, ◌<◌, ◌≤◌, ℕ, [], Some, All, length, get_or, IsTrue, IsFalse, IfOk, OnOk};
+ghost use Rattle.std.specs.Prelude.{◌≡◌, ◌<◌, ◌≤◌, ℕ, [], Some, All, Contains, length, get_or, IsTrue, IsFalse};
+ghost use Rattle.std.specs.Prelude.{IfOk, OnOk};
 ghost use Rattle.std.specs.List.Sorted.{IsStrictlyIncreasing};
-ghost use Rattle.olr_spec.specs.Map.{Map, has};
+ghost use Rattle.olr_spec.specs.Map.{Map, has, has_node};
 ghost use Rattle.olr_index.specs.PathIds.{path_ids_of};
 ghost use Rattle.olr_list.specs.Items.{items};
 ghost use Rattle.olr_list.specs.ChangeSets.{nodes_of, lines_of};
@@ -69,6 +70,47 @@ fn put_found<T: Numbered>(
     Ok(())
 }
 
+/// Appends the positions of the paths that have an index entry for the node in a slot.
+fn put_found_in<M: MapRead>(
+    map: &M,
+    path_ids: &[u64],
+    index: &Index,
+    slot: u32,
+    found: &mut Vec<usize>,
+) -> Result<(), AllocError>
+    requires { IsStrictlyIncreasing path_ids.now }
+    ensures grows { OnOk result (Includes found.old.items found.new.items) }
+    ensures put { OnOk result ((v : ℕ) → IsTrue (has_node (M.map map.now) v) → M.node_slot map.now v ≡ slot
+        → Finds path_ids.now index.now v found.new.items) }
+{
+    if let Some(node) = map.node_at(slot) {
+        put_positions(path_ids, index.of(node.number()), found)?;
+    }
+    Ok(())
+}
+
+/// Appends the positions of the paths that have an index entry for a node in one of these slots.
+fn put_found_at<M: MapRead>(
+    map: &M,
+    path_ids: &[u64],
+    index: &Index,
+    slots: &[u32],
+    found: &mut Vec<usize>,
+) -> Result<(), AllocError>
+    requires { IsStrictlyIncreasing path_ids.now }
+    ensures grows { OnOk result (Includes found.old.items found.new.items) }
+    ensures put { OnOk result ((v : ℕ) → IsTrue (has_node (M.map map.now) v)
+        → Contains slots.now (M.node_slot map.now v) → Finds path_ids.now index.now v found.new.items) }
+{
+    if index.is_empty() {
+        return Ok(());
+    }
+    for slot in slots {
+        put_found_in(map, path_ids, index, *slot, found)?;
+    }
+    Ok(())
+}
+
 /// Appends the positions from `from` up to, but not including, `to`.
 fn put_range(from: usize, to: usize, found: &mut Vec<usize>) -> Result<(), AllocError>
     ensures grows { OnOk result (Includes found.old.items found.new.items) }
@@ -113,7 +155,13 @@ fn put_touched<M: MapRead>(
     put_found(ids, &list.finder.traversed, nodes, found)?;
     put_found(ids, &list.finder.by_query_origin, nodes, found)?;
     put_found(ids, &list.finder.lines, touched.lines(), found)?;
-    put_found(ids, &list.finder.by_query_origin, searches.reached(), found)?;
+    put_found_at(
+        map,
+        ids,
+        &list.finder.by_query_origin,
+        searches.reached(),
+        found,
+    )?;
     Ok(())
 }
 

@@ -3,7 +3,6 @@ ghost use Rattle.std.specs.Prelude.{◌≡◌, ℕ};
 
 use olr_answers::CoverageQuery;
 use olr_roads::{LineId, NodeId};
-use olr_search::Reached;
 
 /// What has a number in an index.
 pub(crate) trait Numbered {
@@ -37,14 +36,5 @@ impl Numbered for CoverageQuery {
 
     fn index_number(&self) -> u32 {
         self.from.number()
-    }
-}
-
-/// A labelled node.
-impl Numbered for Reached {
-    ghost number_of = { λ r. r.node };
-
-    fn index_number(&self) -> u32 {
-        self.node.number()
     }
 }

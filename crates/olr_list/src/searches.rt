@@ -4,7 +4,7 @@ ghost use Rattle.olr_list.specs.Origins.{new_origins_in};
 
 use crate::detours::Detours;
 use olr_answers::CoverageQuery;
-use olr_search::{Dijkstra, Reached};
+use olr_search::Dijkstra;
 use std::alloc::Global;
 
 /// Searches that are restarted for each renewal, so that their tables are allocated once.
@@ -59,16 +59,16 @@ impl Searches {
         self.wasted_labels = 0;
     }
 
-    /// The nodes that the search from touched nodes labelled; none if it was not made.
-    pub(crate) fn reached(&self) -> &[Reached]
+    /// The slots of the nodes that the search from touched nodes labelled; none if it was not made.
+    pub(crate) fn reached(&self) -> &[u32]
         ensures { (M : Map) (slot : ℕ → ℕ) (direction : _) (from : List (ℕ × ℕ)) (v : ℕ) → IsFalse self.now.far
             → AreLengths M slot direction from self.now.near → IsTrue (has_node M v)
-            → label_at self.now.near (slot v) ≤ limit → Contains result.now (record { node = v; slot = slot v }) }
+            → label_at self.now.near (slot v) ≤ limit → Contains result.now (slot v) }
     {
         if self.far {
             return &[];
         }
-        self.near.labelled_nodes()
+        self.near.labelled_slots()
     }
 
     /// Counts the labels of a renewal's search from touched nodes, if it found no path.

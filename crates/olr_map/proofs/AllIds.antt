@@ -3,10 +3,10 @@ use Rattle.olr_map.proofs.Common.{inl, inr, ◌⊎◌, ◌≡◌, ◌==◌, ℕ,
 use Rattle.olr_map.proofs.Common.{map, length, get_or, take, Option, Some, None, is_some, nat_cmp, unwrap_or, refl, sym}
 use Rattle.olr_map.proofs.Common.{ap, ◌∙◌, subst, arith, option_map, flat_map, AllByRecursion, some_of}
 use Rattle.olr_map.proofs.Common.{FinMap, get, entries, get-entries, eq-eqb, ne_eqb, or_cases, or_left}
-use Rattle.olr_map.proofs.Common.{or_right, map-append, IsDistinct-head, IsDistinct-tail}
+use Rattle.olr_map.proofs.Common.{or_right, IsDistinct-head, IsDistinct-tail}
 use Rattle.olr_map.proofs.Common.{IsStrictlyIncreasing-from_sorted, Map, IsMap, Line, has, has_node, has_line, no_line}
 use Rattle.olr_map.proofs.Common.{lines_out, has_here, ascend_out, at, present, slot_by, rows, slots_of, RoadMap}
-use Rattle.olr_map.proofs.Common.{tables_map, node_slots, all_held, Links, NodeEntry, NodeHead, same_Some, common_steps}
+use Rattle.olr_map.proofs.Common.{tables_map, node_slots, all_held, Links, NodeEntry, same_Some, common_steps, Coord}
 use Rattle.std.proofs.Common.{◌≢◌}
 use Rattle.std.specs.List.{IsDistinct}
 use Rattle.std.specs.List.Sorted.{IsPermutation, IsSortedByKey}
@@ -72,57 +72,53 @@ module _ {X : Type 0} where
 
 -- ---- the numbers of the nodes in slots
 
--- an entry has the number of its head
-pub id_of_row : (hs : List (Option NodeHead)) (os is : List Links) → length os ≡ length hs → length is ≡ length hs →
-    (p : ℕ) → option_map (λ h. h.id) (at hs p) ≡ option_map (λ (e : NodeEntry). e.id) (at (rows hs os is) p)
-id_of_row [] os is a b p = refl
-id_of_row (h ∷ hs) [] is a b p = absurd (omega arith)
-id_of_row (h ∷ hs) (o ∷ os) [] a b p = absurd (omega arith)
-id_of_row (None ∷ hs) (o ∷ os) (i ∷ is) a b zero = refl
-id_of_row (Some h ∷ hs) (o ∷ os) (i ∷ is) a b zero = refl
-id_of_row (h ∷ hs) (o ∷ os) (i ∷ is) a b (suc p) = id_of_row hs os is (omega arith) (omega arith) p
+-- an entry has its number
+pub id_of_row : (vs : List (Option ℕ)) (cs : List Coord) (os is : List Links) → length cs ≡ length vs →
+    length os ≡ length vs → length is ≡ length vs → (p : ℕ) →
+    at vs p ≡ option_map (λ (e : NodeEntry). e.id) (at (rows vs cs os is) p)
+id_of_row [] cs os is a b c p = refl
+id_of_row (v ∷ vs) [] os is a b c p = absurd (omega arith)
+id_of_row (v ∷ vs) (x ∷ cs) [] is a b c p = absurd (omega arith)
+id_of_row (v ∷ vs) (x ∷ cs) (o ∷ os) [] a b c p = absurd (omega arith)
+id_of_row (None ∷ vs) (x ∷ cs) (o ∷ os) (i ∷ is) a b c zero = refl
+id_of_row (Some v ∷ vs) (x ∷ cs) (o ∷ os) (i ∷ is) a b c zero = refl
+id_of_row (v ∷ vs) (x ∷ cs) (o ∷ os) (i ∷ is) a b c (suc p) =
+    id_of_row vs cs os is (omega arith) (omega arith) (omega arith) p
 
-present_append : (xs ys : List (Option NodeHead)) → present (xs ++ ys) ≡ present xs ++ present ys
+present_append : (xs ys : List (Option ℕ)) → present (xs ++ ys) ≡ present xs ++ present ys
 present_append [] ys = refl
 present_append (None ∷ xs) ys = present_append xs ys
-present_append (Some x ∷ xs) ys = ap (λ (hs : List NodeHead). x ∷ hs) (present_append xs ys)
+present_append (Some x ∷ xs) ys = ap (λ (hs : List ℕ). x ∷ hs) (present_append xs ys)
 
 -- the numbers with that of one slot more
-pub ids_more : (hs : List (Option NodeHead)) (k : ℕ) (h : Option NodeHead) → k < length hs → h ≡ get_or hs k h
-    → map (λ h. h.id) (present (take k hs)) ++ map (λ h. h.id) (present (h ∷ []))
-    ≡ map (λ h. h.id) (present (take (k + 1) hs))
-ids_more hs k h lt is = grind (arith, common_steps, map-append, present_append, take_more)
+pub ids_more : (hs : List (Option ℕ)) (k : ℕ) (h : Option ℕ) → k < length hs → h ≡ get_or hs k h
+    → present (take k hs) ++ present (h ∷ []) ≡ present (take (k + 1) hs)
+ids_more hs k h lt is = grind (arith, common_steps, present_append, take_more)
 
-abbrev ids_in : List (Option NodeHead) → List ℕ
-ids_in hs = map (λ h. h.id) (present hs)
-
-abbrev id_at : List (Option NodeHead) → ℕ → Option ℕ
-id_at hs p = option_map (λ h. h.id) (at hs p)
-
-slot_of_id : (es : List (Option NodeHead)) (v : ℕ) → has (ids_in es) v ≡ true → (p : ℕ) × (id_at es p ≡ Some v)
+slot_of_id : (es : List (Option ℕ)) (v : ℕ) → has (present es) v ≡ true → (p : ℕ) × (at es p ≡ Some v)
 slot_of_id [] v h = absurd cc
 slot_of_id (None ∷ es) v h = let r = slot_of_id es v h in (suc r.0, r.1)
 slot_of_id (Some e ∷ es) v h =
-    elim (has_cases e.id (ids_in es) v h) [
+    elim (has_cases e (present es) v h) [
       | inl is ↦ (0, ap (λ (n : ℕ). Some n) is)
       | inr later ↦ let r = slot_of_id es v later in (suc r.0, r.1)
     ]
 
-id_in_slot : (es : List (Option NodeHead)) (p v : ℕ) → id_at es p ≡ Some v → has (ids_in es) v ≡ true
+id_in_slot : (es : List (Option ℕ)) (p v : ℕ) → at es p ≡ Some v → has (present es) v ≡ true
 id_in_slot [] p v h = absurd cc
 id_in_slot (None ∷ es) zero v h = absurd cc
 id_in_slot (None ∷ es) (suc p) v h = id_in_slot es p v h
 id_in_slot (Some e ∷ es) zero v h =
-    subst (λ (n : ℕ). has (e.id ∷ ids_in es) n ≡ true) (same_Some e.id v h) (has_here e.id (ids_in es))
-id_in_slot (Some e ∷ es) (suc p) v h = has_there e.id (ids_in es) v (id_in_slot es p v h)
+    subst (λ (n : ℕ). has (e ∷ present es) n ≡ true) (same_Some e v h) (has_here e (present es))
+id_in_slot (Some e ∷ es) (suc p) v h = has_there e (present es) v (id_in_slot es p v h)
 
-ids_once : (es : List (Option NodeHead)) → ((p q v : ℕ) → id_at es p ≡ Some v → id_at es q ≡ Some v → p ≡ q) →
-    IsDistinct ◌==◌ (ids_in es)
+ids_once : (es : List (Option ℕ)) → ((p q v : ℕ) → at es p ≡ Some v → at es q ≡ Some v → p ≡ q) →
+    IsDistinct ◌==◌ (present es)
 unfolding IsDistinct
 ids_once [] h = tt
 ids_once (None ∷ es) h = ids_once es (λ p q v a b. let e = h (suc p) (suc q) v a b in omega arith)
 ids_once (Some e ∷ es) h = (
-  none_equal e.id (ids_in es) (λ v i is.
+  none_equal e (present es) (λ v i is.
       let r = slot_of_id es v i in
       let never : 0 ≡ suc r.0 = h 0 (suc r.0) v (ap (λ (n : ℕ). Some n) is) r.1 in omega arith),
   ids_once es (λ p q v a b. let e = h (suc p) (suc q) v a b in omega arith),
@@ -174,35 +170,37 @@ module _ (M : Map) (m : IsMap M) where
 -- ---- the numbers, sorted
 
 module _ (t : RoadMap) where
-  abbrev hs : List (Option NodeHead)
-  hs = slots_of t.nodes.heads
+  abbrev hs : List (Option ℕ)
+  hs = slots_of t.nodes.ids
 
-  same_id : (p : ℕ) → id_at hs p ≡ option_map (λ (e : NodeEntry). e.id) (at (node_slots t.nodes) p)
-  same_id p = id_of_row hs t.nodes.outs.items t.nodes.ins.items t.nodes.outs_beside t.nodes.ins_beside p
+  same_id : (p : ℕ) → at hs p ≡ option_map (λ (e : NodeEntry). e.id) (at (node_slots t.nodes) p)
+  same_id p =
+      id_of_row hs t.nodes.places.items t.nodes.outs.items t.nodes.ins.items t.nodes.places_beside t.nodes.outs_beside
+      t.nodes.ins_beside p
 
-  named : (v p : ℕ) → id_at hs p ≡ Some v → slot_by t.index v ≡ Some p
+  named : (v p : ℕ) → at hs p ≡ Some v → slot_by t.index v ≡ Some p
   named v p h = t.kept.indexed.named v p (sym (same_id p) ∙ h)
 
-  nodes_once : IsDistinct ◌==◌ (ids_in hs)
+  nodes_once : IsDistinct ◌==◌ (present hs)
   nodes_once = ids_once hs (λ p q v i j. same_Some p q (sym (named v p i) ∙ named v q j))
 
-  has_nodes : (v : ℕ) → has (ids_in hs) v ≡ has_node (tables_map t) v
+  has_nodes : (v : ℕ) → has (present hs) v ≡ has_node (tables_map t) v
   has_nodes v =
-      both_ways (has (ids_in hs) v) (has_node (tables_map t) v)
+      both_ways (has (present hs) v) (has_node (tables_map t) v)
       (λ h. let r = slot_of_id hs v h in (id_has t r.0 v (sym (same_id r.0) ∙ r.1)).0)
       (λ h. let s = slot_of t.index (node_slots t.nodes) t.kept.indexed (all_held t.lines) v h in
       id_in_slot hs s.0 v (same_id s.0 ∙ t.kept.indexed.filled v s.0 s.1))
 
-  pub sorted_nodes : (xs ys : List ℕ) → xs ≡ ids_in hs → IsPermutation xs ys → IsSortedByKey (λ n. n) nat_cmp ys →
+  pub sorted_nodes : (xs ys : List ℕ) → xs ≡ present hs → IsPermutation xs ys → IsSortedByKey (λ n. n) nat_cmp ys →
       ys ≡ map (λ e. e.0) (entries (tables_map t).nodes)
   sorted_nodes xs ys is moved up =
-      sorted_keys (tables_map t).nodes (ids_in hs) ys (subst (λ (zs : List ℕ). IsPermutation zs ys) is moved) up
+      sorted_keys (tables_map t).nodes (present hs) ys (subst (λ (zs : List ℕ). IsPermutation zs ys) is moved) up
       nodes_once has_nodes
 
-  pub sorted_lines : (vs xs ys : List ℕ) → vs ≡ ids_in hs → xs ≡ flat_map (lines_out (tables_map t)) vs →
+  pub sorted_lines : (vs xs ys : List ℕ) → vs ≡ present hs → xs ≡ flat_map (lines_out (tables_map t)) vs →
       IsPermutation xs ys → IsSortedByKey (λ n. n) nat_cmp ys → ys ≡ map (λ e. e.0) (entries (tables_map t).lines)
   sorted_lines vs xs ys nodes is moved up =
       let M : Map = tables_map t in
-      let lines : xs ≡ flat_map (lines_out M) (ids_in hs) = is ∙ ap (flat_map (lines_out M)) nodes in
+      let lines : xs ≡ flat_map (lines_out M) (present hs) = is ∙ ap (flat_map (lines_out M)) nodes in
       sorted_keys M.lines _ ys (subst (λ (zs : List ℕ). IsPermutation zs ys) lines moved) up
-      (lines_once M t.kept.sound (ids_in hs) nodes_once) (has_lines M t.kept.sound (ids_in hs) has_nodes)
+      (lines_once M t.kept.sound (present hs) nodes_once) (has_lines M t.kept.sound (present hs) has_nodes)

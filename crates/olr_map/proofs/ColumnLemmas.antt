@@ -3,52 +3,84 @@ use Rattle.olr_map.proofs.Common.{◌≡◌, ◌==◌, ℕ, ◌+◌, ◌<◌, �
 use Rattle.olr_map.proofs.Common.{Option, Some, None, is_some, length, get_or, set, vec_len, refl, sym, ap, ◌∙◌, subst}
 use Rattle.olr_map.proofs.Common.{arith, cond-true, eq-eqb, length-set, length_push, same_Some, at, IsWritten}
 use Rattle.olr_map.proofs.Common.{IsInserted, IsRemoved, IsReplaced, slots_of, rows, node_slots, links_at, with_links}
-use Rattle.olr_map.proofs.Common.{IsRelinked, sides, Links, NodeEntry, NodeHead, NodeSlots, Side, Out, In, common_steps}
+use Rattle.olr_map.proofs.Common.{IsRelinked, sides, Links, NodeEntry, NodeSlots, Side, Out, In, common_steps, Coord}
 use Rattle.std.proofs.Common.{nat_lt}
 use Rattle.std.proofs.lemmas.Bool.{cases_lt, lt-ltb, le-ltb}
 use Rattle.olr_map.specs.Slabs.{Fills}
-use Rattle.olr_map.specs.Columns.{with_lines}
+use Rattle.olr_map.specs.Columns.{entry_of}
 use Rattle.olr_map.specs.declared.slab.Slab.{Slab}
 use Rattle.olr_map.proofs.Lookups.{unchanged_at}
 use Rattle.olr_map.proofs.SlotLemmas.{some_within, few_slots, get_or-written, get_or-pushed}
 
-abbrev Heads : Type 0
-Heads = List (Option NodeHead)
+abbrev Numbers : Type 0
+Numbers = List (Option ℕ)
+
+abbrev Places : Type 0
+Places = List Coord
 
 abbrev pub Column : Type 0
 Column = List Links
 
 -- ---- rows
 
-length-rows : (hs : Heads) (os is : Column) → length os ≡ length hs → length is ≡ length hs →
-    length (rows hs os is) ≡ length hs
-length-rows [] os is a b = refl
-length-rows (h ∷ hs) [] is a b = absurd (omega arith)
-length-rows (h ∷ hs) (o ∷ os) [] a b = absurd (omega arith)
-length-rows (h ∷ hs) (o ∷ os) (i ∷ is) a b = let l = length-rows hs os is (omega arith) (omega arith) in omega arith
+length-rows : (vs : Numbers) (cs : Places) (os is : Column) → length cs ≡ length vs → length os ≡ length vs →
+    length is ≡ length vs → length (rows vs cs os is) ≡ length vs
+length-rows [] cs os is a b c = refl
+length-rows (v ∷ vs) [] os is a b c = absurd (omega arith)
+length-rows (v ∷ vs) (x ∷ cs) [] is a b c = absurd (omega arith)
+length-rows (v ∷ vs) (x ∷ cs) (o ∷ os) [] a b c = absurd (omega arith)
+length-rows (v ∷ vs) (x ∷ cs) (o ∷ os) (i ∷ is) a b c =
+    let l = length-rows vs cs os is (omega arith) (omega arith) (omega arith) in omega arith
 
 -- a row by its columns
-pub row_at : (hs : Heads) (os is : Column) (p : ℕ) (d : Links) → length os ≡ length hs → length is ≡ length hs →
-    at (rows hs os is) p ≡ with_lines (at hs p) (get_or os p d) (get_or is p d)
-row_at [] os is p d a b = refl
-row_at (h ∷ hs) [] is p d a b = absurd (omega arith)
-row_at (h ∷ hs) (o ∷ os) [] p d a b = absurd (omega arith)
-row_at (h ∷ hs) (o ∷ os) (i ∷ is) zero d a b = refl
-row_at (h ∷ hs) (o ∷ os) (i ∷ is) (suc p) d a b = row_at hs os is p d (omega arith) (omega arith)
+pub row_at : (vs : Numbers) (cs : Places) (os is : Column) (p : ℕ) (x : Coord) (d : Links) → length cs ≡ length vs →
+    length os ≡ length vs → length is ≡ length vs →
+    at (rows vs cs os is) p ≡ entry_of (at vs p) (get_or cs p x) (get_or os p d) (get_or is p d)
+row_at [] cs os is p x d a b c = refl
+row_at (v ∷ vs) [] os is p x d a b c = absurd (omega arith)
+row_at (v ∷ vs) (y ∷ cs) [] is p x d a b c = absurd (omega arith)
+row_at (v ∷ vs) (y ∷ cs) (o ∷ os) [] p x d a b c = absurd (omega arith)
+row_at (v ∷ vs) (y ∷ cs) (o ∷ os) (i ∷ is) zero x d a b c = refl
+row_at (v ∷ vs) (y ∷ cs) (o ∷ os) (i ∷ is) (suc p) x d a b c =
+    row_at vs cs os is p x d (omega arith) (omega arith) (omega arith)
 
 -- an entry is composed of the contents of its columns
-pub record IsComposed (h : Option NodeHead) (o i : Links) (e : NodeEntry) : Type 0 where
-  pub head : h ≡ Some (record { id = e.id; place = e.place })
+pub record IsComposed (v : Option ℕ) (c : Coord) (o i : Links) (e : NodeEntry) : Type 0 where
+  pub id : v ≡ Some e.id
+  pub place : c ≡ e.place
   pub outs : o ≡ e.outs
   pub ins : i ≡ e.ins
 
-composed : (h : Option NodeHead) (o i : Links) (e : NodeEntry) → with_lines h o i ≡ Some e → IsComposed h o i e
-composed h o i e x = grind (arith, common_steps)
+composed : (v : Option ℕ) (c : Coord) (o i : Links) (e : NodeEntry) → entry_of v c o i ≡ Some e → IsComposed v c o i e
+composed v c o i e x = grind (arith, common_steps)
+
+-- ---- a value is put beside the numbers, in a column
+
+module _ {X : Type 0} where
+  abbrev column_with : List X → ℕ → X → List X
+  column_with xs p x = cond (nat_lt p (length xs)) (set xs p x) (xs ++ x ∷ [])
+
+  put_below : (xs : List X) (p : ℕ) (x : X) → p < length xs → column_with xs p x ≡ set xs p x
+  put_below xs p x lt = grind (arith, common_steps, lt-ltb)
+
+  put_behind : (xs : List X) (p : ℕ) (x : X) → p ≡ length xs → column_with xs p x ≡ xs ++ x ∷ []
+  put_behind xs p x at' = grind (arith, common_steps, le-ltb)
+
+  column_at : (xs : List X) (p q : ℕ) (x d : X) → p ≤ length xs →
+      get_or (column_with xs p x) q d ≡ cond (p == q) x (get_or xs q d)
+  column_at xs p q x d le = grind (arith, common_steps, cases_lt, put_below, put_behind, get_or-written, get_or-pushed)
+
+  pub stays_beside : (old new : Slab ℕ) (p : ℕ) (xs : List X) (x : X) → length xs ≡ length (slots_of old) →
+      Fills old new p → length (column_with xs p x) ≡ length (slots_of new)
+  stays_beside old new p xs x same fills = grind (arith, common_steps, put_below, put_behind, length-set, length_push)
 
 -- the slots of nodes
 module _ (s : NodeSlots) where
-  abbrev hs : Heads
-  hs = slots_of s.heads
+  abbrev vs : Numbers
+  vs = slots_of s.ids
+
+  abbrev cs : Places
+  cs = s.places.items
 
   abbrev os : Column
   os = s.outs.items
@@ -56,23 +88,26 @@ module _ (s : NodeSlots) where
   abbrev is : Column
   is = s.ins.items
 
-  pub slot_count : length (node_slots s) ≡ length hs
-  slot_count = length-rows hs os is s.outs_beside s.ins_beside
+  pub slot_count : length (node_slots s) ≡ length vs
+  slot_count = length-rows vs cs os is s.places_beside s.outs_beside s.ins_beside
 
   pub few_nodes : length (node_slots s) ≤ 2 ^ 32
-  few_nodes = let few = few_slots s.heads.slotted in let same = slot_count in omega arith
+  few_nodes = let few = few_slots s.ids.slotted in let same = slot_count in omega arith
 
   -- a slot that holds a node is inside each column
-  pub inside : (p : ℕ) → is_some (at (node_slots s) p) ≡ true → p < length hs
+  pub inside : (p : ℕ) → is_some (at (node_slots s) p) ≡ true → p < length vs
   inside p h = let lt = some_within (node_slots s) p h in let same = slot_count in omega arith
 
   pub node_fits : (old : List (Option NodeEntry)) (p : ℕ) (e : NodeEntry) → IsInserted old (node_slots s) p e →
       p + 1 < 2 ^ 32
   node_fits old p e t =
-      let few = s.heads.slotted.few in
+      let few = s.ids.slotted.few in
       let lt =
       inside p (ap (λ v. is_some v) (t.now p ∙ cond-true (p == p) (Some e) (at old p) (eq-eqb p p refl))) in
       omega arith
+
+  pub inside_places : (p : ℕ) → is_some (at (node_slots s) p) ≡ true → p < vec_len s.places
+  inside_places p h = let lt = inside p h in let same = s.places_beside in let len = s.places.ok.0 in omega arith
 
   pub inside_outs : (p : ℕ) → is_some (at (node_slots s) p) ≡ true → p < vec_len s.outs
   inside_outs p h = let lt = inside p h in let same = s.outs_beside in let len = s.outs.ok.0 in omega arith
@@ -80,152 +115,148 @@ module _ (s : NodeSlots) where
   pub inside_ins : (p : ℕ) → is_some (at (node_slots s) p) ≡ true → p < vec_len s.ins
   inside_ins p h = let lt = inside p h in let same = s.ins_beside in let len = s.ins.ok.0 in omega arith
 
+  row : (p : ℕ) (x : Coord) (d : Links) →
+      at (node_slots s) p ≡ entry_of (at vs p) (get_or cs p x) (get_or os p d) (get_or is p d)
+  row p x d = row_at vs cs os is p x d s.places_beside s.outs_beside s.ins_beside
+
   -- the columns of an entry
-  pub columns : (p : ℕ) (e : NodeEntry) (d : Links) → at (node_slots s) p ≡ Some e →
-      IsComposed (at hs p) (get_or os p d) (get_or is p d) e
-  columns p e d here = composed _ _ _ e (sym (row_at hs os is p d s.outs_beside s.ins_beside) ∙ here)
+  pub columns : (p : ℕ) (e : NodeEntry) (x : Coord) (d : Links) → at (node_slots s) p ≡ Some e →
+      IsComposed (at vs p) (get_or cs p x) (get_or os p d) (get_or is p d) e
+  columns p e x d here = composed _ _ _ _ e (sym (row p x d) ∙ here)
 
   -- the lines on one side
   abbrev pub column : Side → Column
   column side = sides os is side
 
+  pub place_at : (p : ℕ) (e : NodeEntry) (x : Coord) → at (node_slots s) p ≡ Some e → get_or cs p x ≡ e.place
+  place_at p e x here = (columns p e x e.outs here).place
+
   pub outs_at : (p : ℕ) (e : NodeEntry) (d : Links) → at (node_slots s) p ≡ Some e → get_or os p d ≡ e.outs
-  outs_at p e d here = (columns p e d here).outs
+  outs_at p e d here = (columns p e e.place d here).outs
 
   pub ins_at : (p : ℕ) (e : NodeEntry) (d : Links) → at (node_slots s) p ≡ Some e → get_or is p d ≡ e.ins
-  ins_at p e d here = (columns p e d here).ins
-
-  pub head_at : (p : ℕ) (e : NodeEntry) → at (node_slots s) p ≡ Some e → at hs p ≡ Some (record { id = e.id; place = e.place })
-  head_at p e here = (columns p e e.outs here).head
+  ins_at p e d here = (columns p e e.place d here).ins
 
   pub links_read : (side : Side) (p : ℕ) (e : NodeEntry) (w : Links) → at (node_slots s) p ≡ Some e →
       w ≡ get_or (column side) p w → w ≡ links_at side e
-  links_read Out p e w here r = r ∙ (columns p e w here).outs
-  links_read In p e w here r = r ∙ (columns p e w here).ins
+  links_read Out p e w here r = r ∙ outs_at p e w here
+  links_read In p e w here r = r ∙ ins_at p e w here
 
   -- ---- after a change of one column, or of all
 
-  -- slot p has h, o and i in its columns
-  rows_written : (hs' : Heads) (os' is' : Column) → length os' ≡ length hs' → length is' ≡ length hs' →
-      (p : ℕ) (d : Links) (h : Option NodeHead) (o i : Links) (v w : Option NodeEntry) → at (node_slots s) p ≡ v →
-      with_lines h o i ≡ w → ((q : ℕ) → at hs' q ≡ cond (p == q) h (at hs q))
+  -- slot p has v, c, o and i in its columns
+  rows_written : (vs' : Numbers) (cs' : Places) (os' is' : Column) → length cs' ≡ length vs' →
+      length os' ≡ length vs' → length is' ≡ length vs' → (p : ℕ) (x : Coord) (d : Links) (v : Option ℕ) (c : Coord)
+      (o i : Links) (was now : Option NodeEntry) → at (node_slots s) p ≡ was →
+      entry_of v c o i ≡ now → ((q : ℕ) → at vs' q ≡ cond (p == q) v (at vs q))
+      → ((q : ℕ) → get_or cs' q x ≡ cond (p == q) c (get_or cs q x))
       → ((q : ℕ) → get_or os' q d ≡ cond (p == q) o (get_or os q d))
       → ((q : ℕ) → get_or is' q d ≡ cond (p == q) i (get_or is q d)) →
-      IsWritten (node_slots s) (rows hs' os' is') p v w
-  rows_written hs' os' is' a b p d h o i v w was now heads outs ins =
+      IsWritten (node_slots s) (rows vs' cs' os' is') p was now
+  rows_written vs' cs' os' is' a b b' p x d v c o i was now at_p made numbers places outs ins =
       record {
-        was = was;
+        was = at_p;
         now = λ q.
-            let new = row_at hs' os' is' q d a b in
-            let old = row_at hs os is q d s.outs_beside s.ins_beside in
-            grind (arith, common_steps, new, old, heads q, outs q, ins q);
+            let new = row_at vs' cs' os' is' q x d a b b' in
+            let old = row q x d in
+            grind (arith, common_steps, new, old, numbers q, places q, outs q, ins q);
       }
 
   module _ (p : ℕ) (e : NodeEntry) (here : at (node_slots s) p ≡ Some e) where
     there : is_some (at (node_slots s) p) ≡ true
     there = ap (λ v. is_some v) here
 
-    -- the slab of the heads has the node
-    pub head_there : is_some (at hs p) ≡ true
-    head_there = ap (λ v. is_some v) (columns p e e.outs here).head
+    -- the slab of the numbers has the node
+    pub id_there : is_some (at vs p) ≡ true
+    id_there = ap (λ v. is_some v) (columns p e e.place e.outs here).id
 
     -- the entry is that of its columns
-    pub entry_is : (h : NodeHead) (o i : Links) → at hs p ≡ Some h → o ≡ get_or os p o → i ≡ get_or is p i →
-        e ≡ record { outs = o; ins = i; id = h.id; place = h.place }
-    entry_is h o i at_head r q =
-        let head : record { id = e.id; place = e.place } ≡ h = same_Some _ _ (sym (columns p e o here).head ∙ at_head) in
+    pub entry_is : (v : ℕ) (c : Coord) (o i : Links) → at vs p ≡ Some v → c ≡ get_or cs p c → o ≡ get_or os p o →
+        i ≡ get_or is p i → e ≡ record { outs = o; ins = i; id = v; place = c }
+    entry_is v c o i at_id place r q =
         λ j. record {
           outs = sym (links_read Out p e o here r) j;
           ins = sym (links_read In p e i here q) j;
-          id = (head j).id;
-          place = (head j).place;
+          id = same_Some _ _ (sym (columns p e c o here).id ∙ at_id) j;
+          place = sym (place ∙ place_at p e c here) j;
         }
 
     -- other lines on one side
     pub relinked : (side : Side) {R : Links → Links → Type 0} (w l : Links) → w ≡ get_or (column side) p w → R w l →
-        IsRelinked (node_slots s) (rows hs (sides (set os p l) os side) (sides is (set is p l) side)) side p R
+        IsRelinked (node_slots s) (rows vs cs (sides (set os p l) os side) (sides is (set is p l) side)) side p R
     relinked side {R} w l r holds =
         record {
           entry = e;
           links = l;
-          is = row side;
+          is = turned side;
           holds = subst (λ (o : Links). R o l) (links_read side p e w here r) holds;
         } where
-          k : IsComposed (at hs p) (get_or os p w) (get_or is p w) e
-          k = columns p e w here
+          k : IsComposed (at vs p) (get_or cs p e.place) (get_or os p w) (get_or is p w) e
+          k = columns p e e.place w here
 
-          row : (c : Side) → IsReplaced (node_slots s) (rows hs (sides (set os p l) os c) (sides is (set is p l) c)) p e
-              (with_links c e l)
-          row Out =
+          turned : (c : Side) →
+              IsReplaced (node_slots s) (rows vs cs (sides (set os p l) os c) (sides is (set is p l) c)) p e (with_links c e l)
+          turned Out =
               let lt = inside p there in
               let same = s.outs_beside in
               let long = length-set os p l in
-              rows_written hs (set os p l) is (omega arith) s.ins_beside p w (at hs p) l (get_or is p w) (Some e) _ here
-              (λ j. with_lines (k.head j) l (k.ins j)) (unchanged_at (at hs) p _ refl)
+              rows_written vs cs (set os p l) is s.places_beside (omega arith) s.ins_beside p e.place w (at vs p)
+              (get_or cs p e.place) l (get_or is p w) (Some e) _ here (λ j. entry_of (k.id j) (k.place j) l (k.ins j))
+              (unchanged_at (at vs) p _ refl) (unchanged_at (λ q. get_or cs q e.place) p _ refl)
               (λ q. get_or-written os p q l w (omega arith)) (unchanged_at (λ q. get_or is q w) p _ refl)
-          row In =
+          turned In =
               let lt = inside p there in
               let same = s.ins_beside in
               let long = length-set is p l in
-              rows_written hs os (set is p l) s.outs_beside (omega arith) p w (at hs p) (get_or os p w) l (Some e) _ here
-              (λ j. with_lines (k.head j) (k.outs j) l) (unchanged_at (at hs) p _ refl)
+              rows_written vs cs os (set is p l) s.places_beside s.outs_beside (omega arith) p e.place w (at vs p)
+              (get_or cs p e.place) (get_or os p w) l (Some e) _ here (λ j. entry_of (k.id j) (k.place j) (k.outs j) l)
+              (unchanged_at (at vs) p _ refl) (unchanged_at (λ q. get_or cs q e.place) p _ refl)
               (unchanged_at (λ q. get_or os q w) p _ refl) (λ q. get_or-written is p q l w (omega arith))
 
-    -- another head
-    pub head_turned : (heads : Heads) (f g : NodeHead) → IsReplaced hs heads p f g → length heads ≡ length hs →
-        IsReplaced (node_slots s) (rows heads os is) p e (record { id = g.id; place = g.place; outs = e.outs; ins = e.ins })
-    head_turned heads f g t same =
-        let a = s.outs_beside in
-        let b = s.ins_beside in
-        let k = columns p e e.outs here in
-        rows_written heads os is (omega arith) (omega arith) p e.outs (Some g) (get_or os p e.outs) (get_or is p e.outs)
-        (Some e) _ here (λ j. with_lines (Some g) (k.outs j) (k.ins j)) t.now
+    -- another coordinate
+    pub place_turned : (c : Coord) →
+        IsReplaced (node_slots s) (rows vs (set cs p c) os is) p e (record { id = e.id; place = c; outs = e.outs; ins = e.ins })
+    place_turned c =
+        let lt = inside p there in
+        let same = s.places_beside in
+        let long = length-set cs p c in
+        let k = columns p e c e.outs here in
+        rows_written vs (set cs p c) os is (omega arith) s.outs_beside s.ins_beside p c e.outs (at vs p) c
+        (get_or os p e.outs) (get_or is p e.outs) (Some e) _ here (λ j. entry_of (k.id j) c (k.outs j) (k.ins j))
+        (unchanged_at (at vs) p _ refl) (λ q. get_or-written cs p q c c (omega arith))
         (unchanged_at (λ q. get_or os q e.outs) p _ refl) (unchanged_at (λ q. get_or is q e.outs) p _ refl)
 
-    -- no head, with other lines in the columns
-    pub row_removed : (heads : Heads) (f : NodeHead) (o i : Links) → IsRemoved hs heads p f → length heads ≡ length hs →
-        IsRemoved (node_slots s) (rows heads (set os p o) (set is p i)) p e
-    row_removed heads f o i t same =
+    -- no number, with other lines in the columns
+    pub row_removed : (vs' : Numbers) (v : ℕ) (o i : Links) → IsRemoved vs vs' p v → length vs' ≡ length vs →
+        IsRemoved (node_slots s) (rows vs' cs (set os p o) (set is p i)) p e
+    row_removed vs' v o i t same =
         let lt = inside p there in
-        let a = s.outs_beside in
-        let b = s.ins_beside in
+        let a = s.places_beside in
+        let b = s.outs_beside in
+        let c = s.ins_beside in
         let outs_long = length-set os p o in
         let ins_long = length-set is p i in
-        rows_written heads (set os p o) (set is p i) (omega arith) (omega arith) p o None o i (Some e) None here refl t.now
+        rows_written vs' cs (set os p o) (set is p i) (omega arith) (omega arith) (omega arith) p e.place o None
+        (get_or cs p e.place) o i (Some e) None here refl t.now (unchanged_at (λ q. get_or cs q e.place) p _ refl)
         (λ q. get_or-written os p q o o (omega arith)) (λ q. get_or-written is p q i o (omega arith))
 
   -- ---- a node is added to all columns
 
-  abbrev column_with : Column → ℕ → Links → Column
-  column_with ls p l = cond (nat_lt p (length ls)) (set ls p l) (ls ++ l ∷ [])
-
-  put_below : (ls : Column) (p : ℕ) (l : Links) → p < length ls → column_with ls p l ≡ set ls p l
-  put_below ls p l lt = grind (arith, common_steps, lt-ltb)
-
-  put_behind : (ls : Column) (p : ℕ) (l : Links) → p ≡ length ls → column_with ls p l ≡ ls ++ l ∷ []
-  put_behind ls p l at' = grind (arith, common_steps, le-ltb)
-
-  column_at : (ls : Column) (p q : ℕ) (l d : Links) → p ≤ length ls →
-      get_or (column_with ls p l) q d ≡ cond (p == q) l (get_or ls q d)
-  column_at ls p q l d le = grind (arith, common_steps, cases_lt, put_below, put_behind, get_or-written, get_or-pushed)
-
-  module _ (heads : Slab NodeHead) (p : ℕ) where
-    pub stays_beside : (ls : Column) (l : Links) → length ls ≡ length hs → Fills s.heads heads p →
-        length (column_with ls p l) ≡ length (slots_of heads)
-    stays_beside ls l same fills = grind (arith, common_steps, put_below, put_behind, length-set, length_push)
-
-    within : Fills s.heads heads p → p ≤ length hs
+  module _ (ids : Slab ℕ) (p : ℕ) where
+    within : Fills s.ids ids p → p ≤ length vs
     within fills = grind (arith, common_steps)
 
-    pub row_inserted : (h : NodeHead) (o i : Links) → IsInserted hs (slots_of heads) p h → Fills s.heads heads p →
-        IsInserted (node_slots s) (rows (slots_of heads) (column_with os p o) (column_with is p i)) p
-        (record { id = h.id; place = h.place; outs = o; ins = i })
-    row_inserted h o i t fills =
-        let a = s.outs_beside in
-        let b = s.ins_beside in
+    pub row_inserted : (v : ℕ) (c : Coord) (o i : Links) → IsInserted vs (slots_of ids) p v → Fills s.ids ids p →
+        IsInserted (node_slots s) (rows (slots_of ids) (column_with cs p c) (column_with os p o) (column_with is p i)) p
+        (record { id = v; place = c; outs = o; ins = i })
+    row_inserted v c o i t fills =
+        let a = s.places_beside in
+        let b = s.outs_beside in
+        let b' = s.ins_beside in
         let le = within fills in
-        rows_written (slots_of heads) (column_with os p o) (column_with is p i)
-        (stays_beside os o s.outs_beside fills) (stays_beside is i s.ins_beside fills) p o (Some h) o i None _
-        (row_at hs os is p o s.outs_beside s.ins_beside
-        ∙ ap (λ (x : Option NodeHead). with_lines x (get_or os p o) (get_or is p o)) t.was)
-        refl t.now (λ q. column_at os p q o o (omega arith)) (λ q. column_at is p q i o (omega arith))
+        rows_written (slots_of ids) (column_with cs p c) (column_with os p o) (column_with is p i)
+        (stays_beside s.ids ids p cs c s.places_beside fills) (stays_beside s.ids ids p os o s.outs_beside fills)
+        (stays_beside s.ids ids p is i s.ins_beside fills) p c o (Some v) c o i None _
+        (row p c o ∙ ap (λ (x : Option ℕ). entry_of x (get_or cs p c) (get_or os p o) (get_or is p o)) t.was)
+        refl t.now (λ q. column_at cs p q c c (omega arith)) (λ q. column_at os p q o o (omega arith))
+        (λ q. column_at is p q i o (omega arith))

@@ -24,7 +24,6 @@ pub use Rattle.olr_map.specs.declared.links.Links.{Links}
 pub use Rattle.olr_roads.specs.declared.read.LineEnd.{LineEnd}
 pub use Rattle.olr_map.specs.declared.road_map.RoadMap.{RoadMap}
 pub use Rattle.olr_map.specs.declared.slots.NodeEntry.{NodeEntry}
-pub use Rattle.olr_map.specs.declared.slots.NodeHead.{NodeHead}
 pub use Rattle.olr_map.specs.declared.slots.NodeSlots.{NodeSlots}
 pub use Rattle.olr_map.specs.declared.slots.Side.{Side}
 pub use Rattle.olr_map.specs.declared.slots.Side.TheVariants.{In, Out}

@@ -182,7 +182,7 @@ module _ {t : RoadMap} {nodes' : NodeSlots} {lines' : LineTable} {x : ℕ} {ends
 
 -- the far end that was stored
 end_seen : (side : Side) (b : Blocks) (l : Line) (q : ℕ) (e : LineEnd) → slot_by b (far side l) ≡ Some q →
-    e ≡ record { node = far side l; slot = q; len = l.len } → Some e ≡ Some (seen side (node_slot b) l)
+    e ≡ record { slot = q; len = l.len } → Some e ≡ Some (seen side (node_slot b) l)
 end_seen side b l q e there is = grind (arith, common_steps, place_is)
 
 -- both lists were changed, first that of the node where the line begins
@@ -224,7 +224,7 @@ module _ (t : RoadMap) (mid nodes' : NodeSlots) (lines' : LineTable) (n x p q : 
 
 pub line_put : (t : RoadMap) (mid nodes' : NodeSlots) (lines' : LineTable) (n x p q : ℕ) (number : n ≡ x) (l : Line)
     (here : slot_by t.index l.from ≡ Some p) (there : slot_by t.index l.to ≡ Some q) (e d : LineEnd) →
-    e ≡ record { node = l.to; slot = q; len = l.len } → d ≡ record { node = l.from; slot = p; len = l.len } →
+    e ≡ record { slot = q; len = l.len } → d ≡ record { slot = p; len = l.len } →
     IsRelinked (node_slots t.nodes) (node_slots mid) Out p (λ a b. IsPut a b x (Some e)) →
     IsRelinked (node_slots mid) (node_slots nodes') In q (λ a b. IsPut a b x (Some d)) →
     ((k : ℕ) → held lines' k ≡ cond (n == k) (Some l) (held t.lines k)) →
@@ -269,8 +269,8 @@ module _ (t : RoadMap) (mid nodes' : NodeSlots) (lines' : LineTable) (n x p q : 
       (near side k)) < option_map_or (λ l. links_room l) (links_in side t.index (node_slots nodes') (near side k)) 0) end
       (room_free r side refl there' refl)) tt (λ R. refl) (λ R. refl)
 
-  pub line_reset : (k : Line) (e d : LineEnd) → e ≡ record { node = k.to; slot = q; len = k.len } →
-      d ≡ record { node = k.from; slot = p; len = k.len } →
+  pub line_reset : (k : Line) (e d : LineEnd) → e ≡ record { slot = q; len = k.len } →
+      d ≡ record { slot = p; len = k.len } →
       IsRelinked (node_slots t.nodes) (node_slots mid) Out p (λ a b. IsPut a b x (Some e)) →
       IsRelinked (node_slots mid) (node_slots nodes') In q (λ a b. IsPut a b x (Some d)) →
       ((m : ℕ) → held lines' m ≡ cond (n == m) (Some k) (held t.lines m)) →

@@ -174,7 +174,7 @@ module _ (side : Side) (M : Map) (v : ℕ) where
 
 -- a line as seen from its end on this side
 abbrev pub seen : Side → (ℕ → ℕ) → Line → LineEnd
-seen side P l = record { node = far side l; slot = P (far side l); len = l.len }
+seen side P l = record { slot = P (far side l); len = l.len }
 
 all_pass : {X : Type 0} (f : Line → X) (test : Line → Bool) (w : Option Line) → ((l : Line) → w ≡ Some l → test l ≡ true)
     → is_some (option_map f w) ≡ passes_at test w

@@ -39,32 +39,12 @@ module _ {X : Type 0} where
   pub some_within : (es : List (Option X)) (p : ℕ) → is_some (at es p) ≡ true → p < length es
   some_within es p h = let x = some_of (at es p) h in holds_within es p x.0 x.1
 
-  -- the value that a write replaced
-  pub stood : (es : List (Option X)) (p : ℕ) (w : Option X) (e : X) → is_some (at es p) ≡ true → w ≡ get_or es p w →
-      w ≡ Some e → at es p ≡ Some e
-  stood es p w e there value is = get_or_default es p None w (some_within es p there) ∙ sym value ∙ is
-
   module _ (es : List (Option X)) (fs : List ℕ) (room : ℕ) (s : IsSlotted es fs room) where
     free_at : (i : ℕ) → i < length fs → at es (slice_index fs i) ≡ None
     free_at i lt = none_of _ (s.vacant i lt)
 
     still_free : (p q : ℕ) (w : Option X) → p < length es → (p ≡ q → ⊥) → at es q ≡ None → IsNone (at (set es p w) q)
     still_free p q w lt ne free = grind (arith, common_steps, get_or-written, ne_eqb)
-
-    pub turned_slotted : (p : ℕ) (e f : X) → at es p ≡ Some e → IsSlotted (set es p (Some f)) fs room
-    turned_slotted p e f h =
-        let lt = holds_within es p e h in
-        let long : length (set es p (Some f)) ≡ length es = length-set es p (Some f) in
-        let roomy = s.roomy in
-        let few = s.few in
-        record {
-          inside = λ i at'. let a = s.inside i at' in omega arith;
-          vacant = λ i at'. still_free p (slice_index fs i) (Some f) lt
-              (λ same. let t = ap (at es) same in let free = free_at i at' in cc) (free_at i at');
-          apart = s.apart;
-          roomy = omega arith;
-          few = omega arith;
-        }
 
     pub put_slotted : (gs : List ℕ) (p : ℕ) (f : X) → fs ≡ gs ++ p ∷ [] → IsSlotted (set es p (Some f)) gs room
     put_slotted gs p f is =

@@ -58,7 +58,7 @@ abbrev pub lines_at : Side → Map → ℕ → List ℕ
 lines_at side M v = lines_where M (λ l. near side l == v)
 
 abbrev pub end_at : Side → Map → (ℕ → ℕ) → ℕ → LineEnd
-end_at side M slot x = record { node = far side (line_at M x); slot = slot (far side (line_at M x)); len = dm M x }
+end_at side M slot x = record { slot = slot (far side (line_at M x)); len = dm M x }
 
 pub record IsListed (side : Side) (M : Map) (slot : ℕ → ℕ) (v : ℕ) (l : Links) : Type 0 where
   pub numbers : lines_on l ≡ lines_at side M v
@@ -78,8 +78,7 @@ pub record AreTables (b : Blocks) (es : List (Option NodeEntry)) (F : FinMap nat
 
 coded_end : Coded LineEnd
 coded_end =
-    code_by (ℕ × (ℕ × ℕ)) (coded× coded_ℕ (coded× coded_ℕ coded_ℕ)) (λ e. (e.node, (e.slot, e.len)))
-    (λ p. record { node = p.0; slot = p.1.0; len = p.1.1 }) (λ _. refl)
+    code_by (ℕ × ℕ) (coded× coded_ℕ coded_ℕ) (λ e. (e.slot, e.len)) (λ p. record { slot = p.0; len = p.1 }) (λ _. refl)
 
 IsListed-prop : (side : Side) (M : Map) (slot : ℕ → ℕ) (v : ℕ) (l : Links) → IsProp (IsListed side M slot v l)
 IsListed-prop side M slot v l = hlevel (props, Coded-set (coded_list coded_ℕ), Coded-set (coded_list coded_end))

@@ -69,12 +69,17 @@ impl MapRead for RoadMap {
 
     #[tactic(auto, using(crate::proofs::ColumnLemmas::slot_count))]
     fn slot_count(&self) -> usize {
-        self.nodes.heads.entries.len()
+        self.nodes.ids.entries.len()
     }
 
     #[tactic(auto, using(crate::proofs::Reading::place_found))]
     fn slot_of(&self, id: NodeId) -> Option<u32> {
         self.index.get(id.number())
+    }
+
+    #[tactic(auto, using(crate::proofs::Reading::id_has, crate::proofs::Reading::has_id))]
+    fn node_at(&self, slot: u32) -> Option<NodeId> {
+        self.nodes.id_at(slot)
     }
 
     fn out_lines_at(&self, slot: u32) -> NodeLines<'_> {

@@ -1,5 +1,5 @@
 //! Values in slots. A value keeps its slot until it is removed.
-ghost use Rattle.std.specs.Prelude.{◌≡◌, ◌<◌, ◌≤◌, ◌+◌, [], length, Some, IsSome, OnOk};
+ghost use Rattle.std.specs.Prelude.{◌≡◌, ◌<◌, ◌≤◌, ◌+◌, [], length, IsSome, OnOk};
 ghost use Rattle.std.specs.Vec.{vec_capacity};
 ghost use Rattle.olr_map.specs.Slotted.{IsSlotted, IsSlotted-prop};
 
@@ -18,7 +18,7 @@ pub struct Slab<V> {
 }
 
 impl<V: Drop> Slab<V> {
-    ghost use Rattle.olr_map.specs.Slotted.{at, IsInserted, IsRemoved, IsReplaced};
+    ghost use Rattle.olr_map.specs.Slotted.{at, IsInserted, IsRemoved};
     ghost use Rattle.olr_map.specs.Slabs.{slots_of, free_in, room_in, Fills};
 
     /// No slots. Does not allocate.
@@ -29,14 +29,6 @@ impl<V: Drop> Slab<V> {
             entries: Vec::new(alloc),
             free: Vec::new(alloc),
         }
-    }
-
-    /// The value in a slot.
-    pub fn entry(&self, slot: u32) -> &V
-        requires { IsSome (at (slots_of self.now) slot) }
-        ensures { at (slots_of self.now) slot ≡ Some result.now }
-    {
-        self.entries[slot as usize].as_ref().unwrap()
     }
 
     /// Reserves capacity for `additional` more values.
@@ -77,18 +69,6 @@ impl<V: Drop> Slab<V> {
                 slot as u32
             }
         }
-    }
-
-    /// Replaces the value in a slot, and returns the previous one.
-    #[tactic(auto, using(crate::proofs::SlotLemmas::stood, crate::proofs::SlotLemmas::turned_slotted))]
-    pub fn replace(&mut self, slot: u32, entry: V) -> V
-        requires { IsSome (at (slots_of self.old) slot) }
-        ensures turns { IsReplaced (slots_of self.old) (slots_of self.new) slot result entry }
-        ensures count { length (slots_of self.new) ≡ length (slots_of self.old) }
-        ensures free { free_in self.new ≡ free_in self.old }
-        ensures room { room_in self.new ≡ room_in self.old }
-    {
-        mem::replace(self.entries[slot as usize].as_mut().unwrap(), entry)
     }
 
     /// Removes the value in a slot, and returns it. The slot is then free.

@@ -1,4 +1,5 @@
-//! The nodes in their slots, in columns: their heads, the lines that leave them, and those that enter them.
+//! The nodes in their slots, in columns: their numbers, their coordinates, the lines that leave them, and those that
+//! enter them.
 ghost use Rattle.std.specs.Prelude.{◌≡◌, ◌+◌, ◌<◌, ◌≤◌, ◌++◌, ◌∷◌, [], length, set, vec_len, cond, nat_lt, Some};
 ghost use Rattle.std.specs.Prelude.{IsSome, IfOk, OnOk, IsTrue, IsFalse, map, option_map};
 ghost use Rattle.olr_map.specs.Slotted.{present, at};
@@ -21,44 +22,36 @@ pub struct NodeEntry {
     pub place: Coord,
 }
 
-/// A node without its lines.
-#[derive(Clone, Copy)]
-pub struct NodeHead {
-    pub id: NodeId,
-    pub place: Coord,
-}
-
 /// The numbers of the nodes in these slots, in the order of the slots.
-fn ids_of(alloc: Global, heads: &[Option<NodeHead>]) -> Result<Vec<NodeId>, AllocError>
-    ensures { IfOk result (λ ids. ids.items ≡ map (λ h. h.id) (present heads.now)) }
+fn ids_of(alloc: Global, slots: &[Option<NodeId>]) -> Result<Vec<NodeId>, AllocError>
+    ensures { IfOk result (λ ids. ids.items ≡ present slots.now) }
 {
-    let mut ids = Vec::with_capacity(alloc, heads.len())?;
-    for head in heads {
-        push_id(&mut ids, head)?;
+    let mut ids = Vec::with_capacity(alloc, slots.len())?;
+    for slot in slots {
+        push_id(&mut ids, *slot)?;
     }
     Ok(ids)
 }
 
 /// Appends the number of the node in a slot, if it is not free.
-fn push_id(ids: &mut Vec<NodeId>, head: &Option<NodeHead>) -> Result<(), AllocError>
-    ensures { OnOk result (ids.new.items ≡ ids.old.items ++ map (λ h. h.id) (present (head.now ∷ []))) }
+fn push_id(ids: &mut Vec<NodeId>, slot: Option<NodeId>) -> Result<(), AllocError>
+    ensures { OnOk result (ids.new.items ≡ ids.old.items ++ present (slot ∷ [])) }
 {
-    if let Some(head) = head {
-        ids.push(head.id)?;
+    if let Some(id) = slot {
+        ids.push(id)?;
     }
     Ok(())
 }
 
-/// The number of the node in a slot. None if the slot is free, or if there is no such slot.
-fn id_in(heads: &[Option<NodeHead>], slot: usize) -> Option<NodeId>
-    ensures { result ≡ option_map (λ h. h.id) (at heads.now slot) }
+/// The content of a slot. None if there is no such slot.
+fn id_in(slots: &[Option<NodeId>], slot: u32) -> Option<NodeId>
+    ensures { result ≡ at slots.now slot }
 {
-    if slot >= heads.len() {
-        return None;
-    }
-    match &heads[slot] {
-        Some(head) => Some(head.id),
-        None => None,
+    let slot = slot as usize;
+    if slot < slots.len() {
+        slots[slot]
+    } else {
+        None
     }
 }
 
@@ -69,15 +62,17 @@ pub enum Side {
     In,
 }
 
-/// The nodes' heads by slot, and in two further columns the lines that leave each node and those that enter it, so that
-/// a search reads the lines of one side and nothing else.
+/// The nodes' numbers by slot, and in three further columns their coordinates, the lines that leave each node and those
+/// that enter it, so that a search reads the lines of one side and nothing else.
 #[derive(Drop)]
 pub struct NodeSlots {
-    pub heads: Slab<NodeHead>,
+    pub ids: Slab<NodeId>,
+    pub places: Vec<Coord>,
     pub outs: Vec<Links>,
     pub ins: Vec<Links>,
-    pub ghost outs_beside: { length outs.items ≡ length heads.entries.items },
-    pub ghost ins_beside: { length ins.items ≡ length heads.entries.items },
+    pub ghost places_beside: { length places.items ≡ length ids.entries.items },
+    pub ghost outs_beside: { length outs.items ≡ length ids.entries.items },
+    pub ghost ins_beside: { length ins.items ≡ length ids.entries.items },
 }
 
 impl NodeSlots {
@@ -94,7 +89,8 @@ impl NodeSlots {
         ensures { node_slots result ≡ [] }
     {
         NodeSlots {
-            heads: Slab::new(alloc),
+            ids: Slab::new(alloc),
+            places: Vec::new(alloc),
             outs: Vec::new(alloc),
             ins: Vec::new(alloc),
         }
@@ -102,26 +98,26 @@ impl NodeSlots {
 
     /// The numbers of all nodes, in the order of their slots.
     pub fn ids(&self, alloc: Global) -> Result<Vec<NodeId>, AllocError>
-        ensures { IfOk result (λ ids. ids.items ≡ map (λ h. h.id) (present (slots_of self.now.heads))) }
+        ensures { IfOk result (λ ids. ids.items ≡ present (slots_of self.now.ids)) }
     {
-        ids_of(alloc, &self.heads.entries)
+        ids_of(alloc, &self.ids.entries)
     }
 
     /// The number of the node in a slot. None if the slot is free, or if there is no such slot.
     #[tactic(auto, using(crate::proofs::AllIds::id_of_row))]
-    pub fn id_at(&self, slot: usize) -> Option<NodeId>
+    pub fn id_at(&self, slot: u32) -> Option<NodeId>
         ensures { result ≡ option_map (λ e. e.id) (at (node_slots self.now) slot) }
     {
-        id_in(&self.heads.entries, slot)
+        id_in(&self.ids.entries, slot)
     }
 
     /// The coordinate of the node in a slot.
-    #[tactic(auto, using(crate::proofs::ColumnLemmas::head_there, crate::proofs::ColumnLemmas::head_at))]
+    #[tactic(auto, using(crate::proofs::ColumnLemmas::inside_places, crate::proofs::ColumnLemmas::place_at))]
     pub fn place(&self, slot: u32) -> Coord
         requires { IsSome (at (node_slots self.now) slot) }
         ensures { (e : Entry) → at (node_slots self.now) slot ≡ Some e → result ≡ e.place }
     {
-        self.heads.entry(slot).place
+        self.places[slot as usize]
     }
 
     /// The lines on one side of the node in a slot.
@@ -142,10 +138,11 @@ impl NodeSlots {
         ensures more { node_room self.old ≤ node_room self.new }
         ensures room { OnOk result (additional ≤ node_room self.new) }
     {
-        let added = additional.saturating_sub(self.heads.free.len());
+        let added = additional.saturating_sub(self.ids.free.len());
+        self.places.reserve(added)?;
         self.outs.reserve(added)?;
         self.ins.reserve(added)?;
-        self.heads.reserve(additional)
+        self.ids.reserve(additional)
     }
 
     /// Stores a node in a free slot, and returns the slot.
@@ -160,20 +157,22 @@ impl NodeSlots {
             id,
             place,
         } = entry;
-        let slot = self.heads.put(NodeHead { id, place });
-        put_links(&mut self.outs, slot, outs);
-        put_links(&mut self.ins, slot, ins);
+        let slot = self.ids.put(id);
+        put_beside(&mut self.places, slot, place);
+        put_beside(&mut self.outs, slot, outs);
+        put_beside(&mut self.ins, slot, ins);
         slot
     }
 
     /// Removes the node in a slot, with its lines. The slot is then free.
-    #[tactic(auto, using(crate::proofs::ColumnLemmas::head_there))]
+    #[tactic(auto, using(crate::proofs::ColumnLemmas::id_there, crate::proofs::ColumnLemmas::inside_places))]
     pub fn take(&mut self, slot: u32) -> NodeEntry
         requires { IsSome (at (node_slots self.old) slot) }
         ensures removes { IsRemoved (node_slots self.old) (node_slots self.new) slot result }
         ensures room { node_room self.old + 1 ≤ node_room self.new }
     {
-        let NodeHead { id, place } = self.heads.take(slot);
+        let id = self.ids.take(slot);
+        let place = self.places[slot as usize];
         let outs = mem::replace(&mut self.outs[slot as usize], Links::in_empty(None));
         let ins = mem::replace(&mut self.ins[slot as usize], Links::in_empty(None));
         NodeEntry {
@@ -185,7 +184,7 @@ impl NodeSlots {
     }
 
     /// Moves the node in a slot to another coordinate, and returns the previous one.
-    #[tactic(auto, using(crate::proofs::ColumnLemmas::head_there))]
+    #[tactic(auto, using(crate::proofs::ColumnLemmas::inside_places))]
     pub fn move_node(&mut self, slot: u32, place: Coord) -> Coord
         requires { IsSome (at (node_slots self.old) slot) }
         ensures turns { (e : Entry) × (e.place ≡ result)
@@ -193,8 +192,7 @@ impl NodeSlots {
             (record { id = e.id; place = place; outs = e.outs; ins = e.ins }) }
         ensures room { node_room self.new ≡ node_room self.old }
     {
-        let id = self.heads.entry(slot).id;
-        self.heads.replace(slot, NodeHead { id, place }).place
+        mem::replace(&mut self.places[slot as usize], place)
     }
 
     /// Reserves capacity for one more line on one side of the node in a slot.
@@ -228,18 +226,18 @@ impl NodeSlots {
     }
 }
 
-/// Writes lines to a slot of a column, or appends them to the column. Capacity for that is reserved.
-fn put_links(column: &mut Vec<Links>, slot: u32, links: Links)
+/// Writes a value to a slot of a column, or appends it to the column. Capacity for that is reserved.
+fn put_beside<T: Drop>(column: &mut Vec<T>, slot: u32, value: T)
     requires within { slot ≤ length column.old.items }
     requires room { slot ≡ length column.old.items → vec_len column.old < vec_capacity column.old }
-    ensures items { column.new.items ≡ cond (nat_lt slot (length column.old.items)) (set column.old.items slot links)
-        (column.old.items ++ links ∷ []) }
+    ensures items { column.new.items ≡ cond (nat_lt slot (length column.old.items)) (set column.old.items slot value)
+        (column.old.items ++ value ∷ []) }
     ensures capacity { vec_capacity column.old ≤ vec_capacity column.new }
 {
     let at = slot as usize;
     if at < column.len() {
-        column[at] = links;
+        column[at] = value;
         return;
     }
-    column.push_reserved(links);
+    column.push_reserved(value);
 }

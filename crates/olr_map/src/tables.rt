@@ -24,15 +24,6 @@ impl RoadMap {
     ghost use Rattle.olr_map.specs.declared.change.TableChange.TheVariants.{SetLine};
     ghost use Rattle.olr_map.specs.declared.change.TableChange.TheVariants.{TakeLine};
 
-    /// The number of the node in a slot, see `MapRead::slot_of`. None if the slot is free, or if there is no such slot.
-    #[tactic(auto, using(crate::proofs::Reading::id_has, crate::proofs::Reading::has_id))]
-    pub fn id_at(&self, slot: usize) -> Option<NodeId>
-        ensures { (v : ℕ) → (result ≡ Some v)
-            ↔ (IsTrue (has_node (map_of self.now) v) × (slot_of self.now v ≡ slot)) }
-    {
-        self.nodes.id_at(slot)
-    }
-
     /// The numbers of the nodes, in ascending order. An error means that an allocation failed.
     pub fn node_ids(&self, alloc: Global) -> Result<Vec<NodeId>, AllocError>
         ensures { IfOk result (λ ids. ids.items ≡ list_map (λ e. e.0) (entries (map_of self.now).nodes)) }
@@ -219,16 +210,14 @@ impl RoadMap {
 
 /// The start of a line between these slots, as seen from its end, and its end, as seen from its start.
 fn far_ends(line: &Line, from: u32, to: u32) -> (LineEnd, LineEnd)
-    ensures begins { result.0 ≡ record { node = line.now.from; slot = from; len = line.now.len } }
-    ensures ends { result.1 ≡ record { node = line.now.to; slot = to; len = line.now.len } }
+    ensures begins { result.0 ≡ record { slot = from; len = line.now.len } }
+    ensures ends { result.1 ≡ record { slot = to; len = line.now.len } }
 {
     let begins = LineEnd {
-        node: line.from,
         slot: from,
         len: line.len,
     };
     let ends = LineEnd {
-        node: line.to,
         slot: to,
         len: line.len,
     };

@@ -242,7 +242,7 @@ impl DistanceBounds {
         let room = GREATEST_LIMIT - number;
         for end in ends_from(map, Direction::Along, slot) {
             if end.len <= room {
-                self.relax(end.node, number + end.len)?;
+                self.relax(map.node_at(end.slot).unwrap(), number + end.len)?;
             }
         }
         Ok(())

@@ -17,3 +17,4 @@ pub mod Referring
 pub mod Sets
 pub mod Stretches
 pub mod Trimming
+mod BySlots

@@ -1,6 +1,6 @@
 -- The positions that are covered, by one route along the lines after a position.
 use Rattle.olr_refs.proofs.Common.{cases_lt, ◌≡◌, ◌<◌, ◌≤◌, ◌-◌, ◌+◌, ℕ, min, max, Bool, List, [], ◌∷◌, ◌++◌, length}
-use Rattle.olr_refs.proofs.Common.{take, drop, ap, ◌∙◌, arith, inl, inr, cases_order, IsTrue, ◌↔◌, slice_index, Map}
+use Rattle.olr_refs.proofs.Common.{take, drop, ap, subst, ◌∙◌, arith, inl, inr, cases_order, IsTrue, ◌↔◌, slice_index, Map}
 use Rattle.olr_refs.proofs.Common.{IsMap, start, end, dm, IsRoute, dm_of, limit, AreJoined, stretch, Covered}
 use Rattle.olr_refs.proofs.Common.{IsLastTested, dm_of-append, stretch_parts, Along, Dijkstra, IsSearch, limit_of}
 use Rattle.olr_refs.proofs.Common.{IsFar, IsReach, UniqueShortest, Needed, empty_unique, prefix_of_unique, stretch_last}
@@ -150,4 +150,10 @@ pub tests_on : (M : Map) (slot : ℕ → ℕ) (ls : List ℕ) (i k line to : ℕ
 tests_on M slot ls i k line to b old new w h g e t search to_is limit f =
     let longer = stretch_longer M ls (i + 1) k (omega arith) (omega arith) in
     let settled : limit_of new ≡ dm_of M (stretch ls (i + 1) (k + 1)) = omega arith in
-    (settled, grind (arith, on_is))
+    let s = end M (slice_index ls i) in
+    let front = stretch ls (i + 1) k in
+    let extends : (x : ℕ) → line ≡ x → UniqueShortest M s (start M x) front → dm_of M front + dm M x ≤ limit_of new →
+    (IsTrue b ↔ UniqueShortest M s (end M x) (front ++ x ∷ [])) =
+    λ x is. subst (λ (y : ℕ). UniqueShortest M s (start M y) front → dm_of M front + dm M y ≤ limit_of new →
+    (IsTrue b ↔ UniqueShortest M s (end M y) (front ++ y ∷ []))) is (f s front search) in
+    (settled, subst (λ (P : Type 0). IsTrue b ↔ P) (on_is M ls i k w h g) (extends (slice_index ls k) e t.unique (omega arith)))

@@ -59,21 +59,22 @@ pub struct Chosen {
 }
 
 /// If `seen` is `Some`, adds the nodes that the search has settled.
-fn note_settled(
+fn note_settled<M: MapRead>(
     alloc: Global,
+    map: &M,
     search: &Dijkstra,
     seen: &mut Option<Footprint>,
 ) -> Result<(), AllocError>
-    requires { (M : Map) × (node_slot : ℕ → ℕ) × (direction : _) × (from : List (ℕ × ℕ))
-        × IsSearch M node_slot direction from search.now }
-    ensures { OnOk result ((M : Map) (node_slot : ℕ → ℕ) (direction : _) (from : List (ℕ × ℕ))
-        → IsSearch M node_slot direction from search.now
-        → Notes (LiesWithin M direction from (limit_of search.now)) seen.old seen.new) }
+    requires { (direction : _) × (from : List (ℕ × ℕ))
+        × IsSearch (M.map map.now) (M.node_slot map.now) direction from search.now }
+    ensures { OnOk result ((direction : _) (from : List (ℕ × ℕ))
+        → IsSearch (M.map map.now) (M.node_slot map.now) direction from search.now
+        → Notes (LiesWithin (M.map map.now) direction from (limit_of search.now)) seen.old seen.new) }
 {
     let Some(seen) = seen else {
         return Ok(());
     };
-    let nodes = search.nodes(alloc)?;
+    let nodes = search.nodes(alloc, map)?;
     seen.note_all(&nodes)
 }
 
@@ -96,7 +97,7 @@ fn search_after<M: MapRead>(
     let from = resolved.end(i);
     search.begin(resolved.map, Direction::Along, &[(from, 0)])?;
     let tested = covered_to(resolved, i, far, search)?;
-    note_settled(alloc, search, seen)?;
+    note_settled(alloc, resolved.map, search, seen)?;
     let query = CoverageQuery {
         from,
         to: resolved.node(tested.last),

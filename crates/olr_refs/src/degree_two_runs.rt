@@ -155,29 +155,29 @@ fn outermost_of(direction: Direction, records: &[ResolvedLine]) -> ResolvedLine
     }
 }
 
-/// Where a line is entered in this direction, where it leads, and the slot of that node.
-fn ends_of(direction: Direction, line: ResolvedLine) -> (NodeId, NodeId, u32)
+/// The slot of the node where a line is entered in this direction, the node to which it leads, and that node's slot.
+fn ends_of(direction: Direction, line: ResolvedLine) -> (u32, NodeId, u32)
     ensures { (M : Map) (slot : ℕ → ℕ) → line ≡ record_of M slot line.id
-        → (result.0 ≡ near_end M direction line.id) × (result.1 ≡ far_end M direction line.id)
+        → (result.0 ≡ slot (near_end M direction line.id)) × (result.1 ≡ far_end M direction line.id)
         × (result.2 ≡ slot (far_end M direction line.id)) }
 {
     match direction {
-        Direction::Along => (line.from, line.to, line.to_slot),
-        Direction::Against => (line.to, line.from, line.from_slot),
+        Direction::Along => (line.from_slot, line.to, line.to_slot),
+        Direction::Against => (line.to_slot, line.from, line.from_slot),
     }
 }
 
-/// The first of the lines that are entered at a node which does not lead to `other`.
-fn first_apart(other: NodeId, lines: &[LineId], ends: &[LineEnd]) -> Option<LineId>
+/// The first of the lines that are entered at a node which does not lead to the slot `other`.
+fn first_apart(other: u32, lines: &[LineId], ends: &[LineEnd]) -> Option<LineId>
     requires { length ends.now ≤ length lines.now }
     ensures { (M : Map) (slot : ℕ → ℕ) (direction : _) (v : ℕ) → lines.now ≡ lines_at M direction v
         → ends.now ≡ ends_at M slot direction v
         → MatchOption result
-        ((x : ℕ) → IsTrue (has_line M x) → near_end M direction x ≡ v → far_end M direction x ≡ other)
-        (λ x. IsTrue (has_line M x) × (near_end M direction x ≡ v) × (far_end M direction x ≢ other)) }
+        ((x : ℕ) → IsTrue (has_line M x) → near_end M direction x ≡ v → slot (far_end M direction x) ≡ other)
+        (λ x. IsTrue (has_line M x) × (near_end M direction x ≡ v) × (slot (far_end M direction x) ≢ other)) }
 {
     for (index, end) in ends.iter().enumerate() {
-        if end.node != other {
+        if end.slot != other {
             return Some(lines[index]);
         }
     }

@@ -25,42 +25,42 @@ pub(crate) fn passing_at<M: MapRead>(map: &M, node: NodeId, slot: u32) -> bool
 {
     let entering = map.in_lines_at(slot);
     let leaving = map.out_lines_at(slot);
-    passes_between(node, entering.ends, leaving.ends)
+    passes_between(slot, entering.ends, leaving.ends)
 }
 
-/// Whether a node with these lines is a degree-two node, by the other ends of the lines that enter it, and of those that
-/// leave it.
-fn passes_between(node: NodeId, entering: &[LineEnd], leaving: &[LineEnd]) -> bool
-    ensures { result ≡ passes_between node (map (λ e. e.node) entering.now) (map (λ e. e.node) leaving.now) }
+/// Whether a node in this slot with these lines is a degree-two node, by the other ends of the lines that enter it, and
+/// of those that leave it.
+fn passes_between(slot: u32, entering: &[LineEnd], leaving: &[LineEnd]) -> bool
+    ensures { result ≡ passes_between slot (map (λ e. e.slot) entering.now) (map (λ e. e.slot) leaving.now) }
 {
     if entering.len() != leaving.len() {
         return false;
     }
     match entering.len() {
-        1 => are_apart(node, entering[0].node, leaving[0].node),
+        1 => are_apart(slot, entering[0].slot, leaving[0].slot),
         2 => connects(
-            node,
-            entering[0].node,
-            entering[1].node,
-            leaving[0].node,
-            leaving[1].node,
+            slot,
+            entering[0].slot,
+            entering[1].slot,
+            leaving[0].slot,
+            leaving[1].slot,
         ),
         _ => false,
     }
 }
 
 /// Whether lines that enter a node from `one` and `other`, and leave it for `first` and `second`, connect two nodes that
-/// differ from each other and from the node, once each way.
-fn connects(node: NodeId, one: NodeId, other: NodeId, first: NodeId, second: NodeId) -> bool
-    ensures { result ≡ passes_between node (one ∷ other ∷ []) (first ∷ second ∷ []) }
+/// differ from each other and from the node, once each way. The nodes are given by their slots.
+fn connects(slot: u32, one: u32, other: u32, first: u32, second: u32) -> bool
+    ensures { result ≡ passes_between slot (one ∷ other ∷ []) (first ∷ second ∷ []) }
 {
-    are_apart(node, one, other)
+    are_apart(slot, one, other)
         && ((first == one && second == other) || (first == other && second == one))
 }
 
-/// Whether two nodes are different, and neither of them is `node`.
-fn are_apart(node: NodeId, one: NodeId, other: NodeId) -> bool
-    ensures { result ≡ apart node one other }
+/// Whether two slots are different, and neither of them is `slot`.
+fn are_apart(slot: u32, one: u32, other: u32) -> bool
+    ensures { result ≡ apart slot one other }
 {
-    one != node && other != node && one != other
+    one != slot && other != slot && one != other
 }

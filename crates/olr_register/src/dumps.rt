@@ -54,12 +54,12 @@ pub(crate) fn is_recordable_place(roads: &RoadMap, id: NodeId) -> bool
 }
 
 /// Whether records can have the node in a slot, and the lines that leave it.
-fn is_recordable_slot(roads: &RoadMap, slot: usize) -> bool
+fn is_recordable_slot(roads: &RoadMap, slot: u32) -> bool
     ensures all { (v : ℕ) → IsTrue (has_node (map_of roads.now) v) → slot_of roads.now v ≡ slot →
         result ≡ numbered.is_recordable_node_at (map_of roads.now) v }
     ensures one { IsFalse result → (v : ℕ) × IsFalse (numbered.is_recordable_node_at (map_of roads.now) v) }
 {
-    let Some(id) = roads.id_at(slot) else {
+    let Some(id) = roads.node_at(slot) else {
         return true;
     };
     is_recordable_place(roads, id) && are_recordable_lines(roads, roads.out_lines(id))
@@ -70,7 +70,7 @@ fn is_recordable_map(roads: &RoadMap) -> bool
     ensures { result ≡ recordable.is_recordable_map (map_of roads.now) }
 {
     for slot in 0..roads.slot_count() {
-        if !is_recordable_slot(roads, slot) {
+        if !is_recordable_slot(roads, slot as u32) {
             return false;
         }
     }

@@ -1,16 +1,16 @@
 -- The lines of a node with their far ends and lengths, and the slots of the nodes.
---     ends_out M slot v, ends_in M slot v      for each line that leaves v (enters v), in order: the node at its far
---         end, that node's slot, and its length
+--     ends_out M slot v, ends_in M slot v      for each line that leaves v (enters v), in order: the slot of the
+--         node at its far end, and its length
 --     HaveSlotsApart M slot count      the nodes have distinct slots, each below the count
 use Rattle.std.specs.Prelude.{◌≡◌, ℕ, ◌<◌, ◌≤◌, ◌^◌, List, map, IsTrue}
 use Rattle.olr_spec.specs.Map.{Map, has_node, start, end, dm, lines_in, lines_out}
 use Rattle.olr_roads.specs.declared.read.LineEnd.{LineEnd}
 
 abbrev pub end_out : Map → (ℕ → ℕ) → ℕ → LineEnd
-end_out M slot x = record { node = end M x; slot = slot (end M x); len = dm M x }
+end_out M slot x = record { slot = slot (end M x); len = dm M x }
 
 abbrev pub end_in : Map → (ℕ → ℕ) → ℕ → LineEnd
-end_in M slot x = record { node = start M x; slot = slot (start M x); len = dm M x }
+end_in M slot x = record { slot = slot (start M x); len = dm M x }
 
 abbrev pub ends_out : Map → (ℕ → ℕ) → ℕ → List LineEnd
 ends_out M slot v = map (end_out M slot) (lines_out M v)

@@ -1,5 +1,5 @@
 //! The read interface of a map, independent of how the map is stored.
-ghost use Rattle.std.specs.Prelude.{◌≡◌, ◌+◌, ◌*◌, ◌<◌, ◌^◌, ℕ, IsTrue, SomeIff};
+ghost use Rattle.std.specs.Prelude.{◌≡◌, ◌↔◌, ◌+◌, ◌*◌, ◌<◌, ◌^◌, ℕ, Some, IsTrue, SomeIff};
 ghost use Rattle.std.specs.Option.{option_copied};
 ghost use Rattle.std.specs.FinMap.{get};
 ghost use Rattle.olr_spec.specs.Map.{Map, IsMap, has_node, lines_in, lines_out};
@@ -12,9 +12,7 @@ use olr_coords::Coord;
 /// A line as seen from one of its ends.
 #[derive(Clone, Copy, Default, PartialEq, Eq)]
 pub struct LineEnd {
-    /// The node at the line's other end.
-    pub node: NodeId,
-    /// The slot of that node in the map, see `MapRead::slot_of`.
+    /// The slot of the node at the line's other end, see `MapRead::slot_of` and `node_at`.
     pub slot: u32,
     /// The line's length, in decimetres.
     pub len: u32,
@@ -65,6 +63,11 @@ pub trait MapRead {
     /// if the node is not on the map.
     fn slot_of(&self, id: NodeId) -> Option<u32>
         ensures { SomeIff result (IsTrue (has_node (map self.now) id)) (node_slot self.now id) };
+
+    /// The node in this slot. None if the slot is free, or if there is no such slot.
+    fn node_at(&self, slot: u32) -> Option<NodeId>
+        ensures { (v : ℕ) → (result ≡ Some v)
+            ↔ (IsTrue (has_node (map self.now) v) × (node_slot self.now v ≡ slot)) };
 
     /// The lines that leave the node in this slot, those of `out_lines`, with their far ends.
     fn out_lines_at(&self, slot: u32) -> NodeLines<'_>

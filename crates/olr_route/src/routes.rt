@@ -43,7 +43,7 @@ fn labels_of<M: MapRead>(alloc: Global, map: &M, settled: Dijkstra) -> Result<La
         → AreLabels (M.map map.now) (M.node_slot map.now) s labels) }
     ensures limit { IfOk result (λ labels. limit_of labels ≡ search_limit settled) }
 {
-    let nodes = settled.nodes(alloc)?;
+    let nodes = settled.nodes(alloc, map)?;
     let mut labels = Vec::with_capacity(alloc, nodes.len())?;
     for node in &nodes {
         let dist = settled.dist(map, *node).unwrap();

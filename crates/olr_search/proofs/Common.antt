@@ -3,16 +3,15 @@ pub use Rattle.olr_roads.specs.declared.read.LineEnd.{LineEnd}
 pub use Rattle.olr_search.specs.Distances.{IsDistance, Leads, Way, ends_at, far_end, lines_at, near_end}
 pub use Rattle.olr_search.specs.Frontiers.{IsAlike, IsEmpty, IsQueued, IsRelaxed, Moves, NotedOnce, frontier_len}
 pub use Rattle.olr_search.specs.Frontiers.{label_of, queued_len, to_do}
-pub use Rattle.olr_search.specs.Notes.{AreAllReached, AreApart, NotesOnce, label_in, numbers_of}
+pub use Rattle.olr_search.specs.Notes.{AreAllReached, AreApart, AreFilled, AreNodesIn, NotesOnce, label_in}
 pub use Rattle.olr_search.specs.Queues.{queue_key}
-pub use Rattle.olr_search.specs.Searches.{Counts, CoversSlots, CutAt, IsCut, IsLabelled, IsLabelledAt}
+pub use Rattle.olr_search.specs.Searches.{Counts, CoversSlots, CutAt, IsCut, IsLabelled}
 pub use Rattle.olr_search.specs.Searches.{FromWithin, IsOnlyPredecessor, IsReached, IsSearch, IsUnderWay, LiesWithin}
 pub use Rattle.olr_search.specs.Searches.{StaysWithin}
 pub use Rattle.olr_search.specs.declared.distances.Dijkstra.{Dijkstra}
 pub use Rattle.olr_search.specs.declared.distances.Direction.{Direction}
 pub use Rattle.olr_search.specs.declared.distances.Direction.TheVariants.{Against, Along}
 pub use Rattle.olr_search.specs.declared.frontier.Frontier.{Frontier}
-pub use Rattle.olr_search.specs.declared.frontier.Reached.{Reached}
 pub use Rattle.olr_search.specs.declared.frontier.TheConstants.{GREATEST_LIMIT, UNREACHED}
 pub use Rattle.olr_spec.proofs.ListLemmas.{Contains-cases, Contains-here, Contains-later, Contains-one, at_index}
 pub use Rattle.olr_spec.proofs.ListLemmas.{has_read}

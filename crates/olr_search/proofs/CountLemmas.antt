@@ -1,73 +1,79 @@
--- The number of nodes that a search has settled.
+-- The nodes that a search has settled, and their number.
 use Rattle.olr_search.proofs.Common.{◌≡◌, ◌==◌, ℕ, true, List, [], ◌∷◌, Contains, sym, ap, ◌∙◌, subst, inl, inr, arith}
-use Rattle.olr_search.proofs.Common.{◌≢◌, ◌<◌, length, get_or, nat_le, filter, IsDistinct, length-map, get_or-map, Map}
-use Rattle.olr_search.proofs.Common.{Contains-later, label_of, numbers_of, IsSearch, LiesWithin, Reached, Direction}
-use Rattle.olr_search.proofs.Common.{Dijkstra, Bool, false, ◌↔◌, cond, count_by, length-filter, All-filter}
+use Rattle.olr_search.proofs.Common.{◌≢◌, ◌≤◌, nat_le, filter, IsDistinct, Map, AreFilled, AreNodesIn}
+use Rattle.olr_search.proofs.Common.{Contains-later, Contains-here, label_of, IsSearch, LiesWithin, Direction, Dijkstra}
+use Rattle.olr_search.proofs.Common.{Bool, false, ◌↔◌, cond, count_by, length-filter, All-filter}
 use Rattle.olr_search.proofs.Common.{All-contains_itself, filter_passes, Contains-cases, Counts}
 use Rattle.std.proofs.lemmas.Bool.Decides.{nat_tests}
 use Rattle.std.proofs.lemmas.List.Kept.{AllPairs-filter}
-use Rattle.olr_search.proofs.DistinctLemmas.{numbers_distinct}
-use Rattle.olr_search.proofs.SearchLemmas.{near_listed, listed_near, label_is, distance_node}
+use Rattle.olr_search.proofs.DistinctLemmas.{nodes_of, slot_in, node_in, nodes_distinct, as_many_nodes}
+use Rattle.olr_search.proofs.SearchLemmas.{labelled_listed, label_is, is_distance, distance_node}
 
--- a node is among those that pass a test if it is in the list and passes
-nodes_in : (test : Reached → Bool) (xs : List Reached) (r : Reached) → Contains xs r → test r ≡ true →
-    Contains (numbers_of (filter test xs)) r.node
-nodes_in test [] r c e = absurd (omega (arith, c.1))
-nodes_in test (x ∷ xs) r c e = elim (Contains-cases x r xs c) [
-  | inl is ↦ rw (ap test is ∙ e) (0, omega arith, ap (λ (y : Reached). y.node) is)
-  | inr h ↦ elim (test x) as (λ b. Contains (numbers_of (cond b (x ∷ filter test xs) (filter test xs))) r.node) [
-    | true ↦ Contains-later x.node r.node (numbers_of (filter test xs)) (nodes_in test xs r h e)
-    | false ↦ nodes_in test xs r h e
+-- a slot is among those that pass a test if it is in the list and passes
+slots_in : (test : ℕ → Bool) (xs : List ℕ) (p : ℕ) → Contains xs p → test p ≡ true → Contains (filter test xs) p
+slots_in test [] p c e = absurd (omega (arith, c.1))
+slots_in test (x ∷ xs) p c e = elim (Contains-cases x p xs c) [
+  | inl is ↦ rw (ap test is ∙ e) (subst (Contains (x ∷ filter test xs)) is (Contains-here x (filter test xs)))
+  | inr h ↦ elim (test x) as (λ b. Contains (cond b (x ∷ filter test xs) (filter test xs)) p) [
+    | true ↦ Contains-later x p (filter test xs) (slots_in test xs p h e)
+    | false ↦ slots_in test xs p h e
   ]
 ]
 
 -- and only then
-nodes_out : (test : Reached → Bool) (xs : List Reached) (v : ℕ) → Contains (numbers_of (filter test xs)) v →
-    (r : Reached) × Contains xs r × (test r ≡ true) × (r.node ≡ v)
-nodes_out test xs v c =
-    let ys = filter test xs in
-    let d : Reached = record { node = v; slot = 0 } in
-    let lt : c.0 < length ys = omega (arith, c.1, length-map ys (λ (r : Reached). r.node)) in (
-      get_or ys c.0 d,
-      All-filter test (Contains xs) xs (All-contains_itself xs) c.0 d lt,
-      filter_passes test xs c.0 d lt,
-      sym (get_or-map (λ (r : Reached). r.node) ys c.0 d v lt) ∙ c.2,
-    )
+slots_out : (test : ℕ → Bool) (xs : List ℕ) (p : ℕ) → Contains (filter test xs) p → Contains xs p × (test p ≡ true)
+slots_out test xs p c = (
+  subst (Contains xs) c.2 (All-filter test (Contains xs) xs (All-contains_itself xs) c.0 p c.1),
+  ap test (sym c.2) ∙ filter_passes test xs c.0 p c.1,
+)
 
 module _ (M : Map) (slot : ℕ → ℕ) (direction : Direction) (from : List (ℕ × ℕ)) (s : Dijkstra)
     (h : IsSearch M slot direction from s) where
-  -- the nodes whose labels are within the limit
-  abbrev pub near_nodes : List ℕ
-  near_nodes = numbers_of (filter (λ r. nat_le (label_of s.frontier r.slot) s.limit) s.frontier.reached.items)
+  -- the slots whose labels are within the limit
+  abbrev pub near_slots : List ℕ
+  near_slots = filter (λ p. nat_le (label_of s.frontier p) s.limit) s.frontier.reached.items
 
-  pub near_apart : IsDistinct ◌==◌ near_nodes
-  near_apart =
-      numbers_distinct _ (AllPairs-filter (λ (q r : Reached). q.node ≢ r.node)
-      (λ r. nat_le (label_of s.frontier r.slot) s.limit) s.frontier.reached.items h.under_way.labelled.apart)
+  -- each slot with a label has a node
+  pub filled : AreFilled M slot s.frontier.reached.items
+  filled p c = let l = h.under_way.labelled in l.nodes p (l.listed p c)
 
-  pub near_exactly : (v : ℕ) → Contains near_nodes v ↔ LiesWithin M direction from s.limit v
-  near_exactly v = (
-    λ c.
-        let k = nodes_out (λ r. nat_le (label_of s.frontier r.slot) s.limit) s.frontier.reached.items v c in
-        subst (LiesWithin M direction from s.limit) k.3
-        (listed_near M slot direction from s h k.0 k.1 (grind (arith, nat_tests, k.2))),
-    λ near.
-        let known = distance_node M slot direction from s h v near.0 near.1 in
-        let label = label_is M slot direction from s h v near.0 known near.1 near.2 in
-        nodes_in (λ r. nat_le (label_of s.frontier r.slot) s.limit) s.frontier.reached.items
-        (record { node = v; slot = slot v }) (near_listed M slot direction from s h v near)
-        (grind (arith, nat_tests)),
-  )
+  -- the nodes in these slots
+  module _ (vs : List ℕ) (a : AreNodesIn M slot near_slots vs) where
+    pub near_apart : IsDistinct ◌==◌ vs
+    near_apart =
+        nodes_distinct M slot near_slots vs a (AllPairs-filter (λ (q p : ℕ). q ≢ p)
+        (λ p. nat_le (label_of s.frontier p) s.limit) s.frontier.reached.items h.under_way.labelled.apart)
 
-  pub counted : (n : ℕ) → n ≡ count_by (λ r. nat_le (label_of s.frontier r.slot) s.limit) s.frontier.reached.items →
+    pub near_exactly : (v : ℕ) → Contains vs v ↔ LiesWithin M direction from s.limit v
+    near_exactly v = (
+      λ c.
+          let k =
+          slots_out (λ p. nat_le (label_of s.frontier p) s.limit) s.frontier.reached.items (slot v)
+          (slot_in M slot near_slots vs a v c) in
+          let le : label_of s.frontier (slot v) ≤ s.limit = grind (arith, nat_tests, k.1) in
+          (label_of s.frontier (slot v), is_distance M slot direction from s h v (a.there v c) le, le),
+      λ near.
+          let known = distance_node M slot direction from s h v near.0 near.1 in
+          let label = label_is M slot direction from s h v near.0 known near.1 near.2 in
+          let small = h.small in
+          let listed =
+          labelled_listed M slot direction from s.frontier h.under_way.labelled v known (omega (arith, near.2)) in
+          node_in M slot near_slots vs a h.under_way.labelled.own v known
+          (slots_in (λ p. nat_le (label_of s.frontier p) s.limit) s.frontier.reached.items (slot v) listed
+          (grind (arith, nat_tests, near.2))),
+    )
+
+  pub counted : (n : ℕ) → n ≡ count_by (λ p. nat_le (label_of s.frontier p) s.limit) s.frontier.reached.items →
       Counts M direction from s.limit n
-  counted n is = record {
-    nodes = near_nodes;
-    apart = near_apart;
-    exactly = near_exactly;
-    many =
-        length-map (filter (λ r. nat_le (label_of s.frontier r.slot) s.limit) s.frontier.reached.items)
-        (λ (r : Reached). r.node)
-        ∙ length-filter (λ (r : Reached). nat_le (label_of s.frontier r.slot) s.limit) s.frontier.reached.items
-        ∙ sym is;
-  }
+  counted n is =
+      let vs =
+      nodes_of M slot near_slots
+      (λ p c. filled p (slots_out (λ p. nat_le (label_of s.frontier p) s.limit) s.frontier.reached.items p c).0) in
+      record {
+        nodes = vs.0;
+        apart = near_apart vs.0 vs.1;
+        exactly = near_exactly vs.0 vs.1;
+        many =
+            as_many_nodes M slot near_slots vs.0 vs.1
+            ∙ length-filter (λ (p : ℕ). nat_le (label_of s.frontier p) s.limit) s.frontier.reached.items ∙ sym is;
+      }

@@ -4,9 +4,9 @@ use Rattle.olr_search.proofs.Common.{sym, ap, ◌∙◌, subst, inl, inr, arith,
 use Rattle.olr_search.proofs.Common.{get_or-set_other, Contains-append_cases, Map, IsMap, has_node, positive}
 use Rattle.olr_search.proofs.Common.{Contains-one, Leads, IsDistance, label_in, NotesOnce, AreApart, label_of}
 use Rattle.olr_search.proofs.Common.{frontier_len, IsQueued, IsRelaxed, Moves, IsLabelled, IsUnderWay, IsSearch}
-use Rattle.olr_search.proofs.Common.{LiesWithin, GREATEST_LIMIT, Reached, Frontier, Direction, Dijkstra}
+use Rattle.olr_search.proofs.Common.{LiesWithin, GREATEST_LIMIT, Frontier, Direction, Dijkstra}
 use Rattle.olr_search.proofs.Common.{Contains-get_or, sum_by-set, queued_len, IsEmpty, IsAlike, NotedOnce, CoversSlots}
-use Rattle.olr_search.proofs.Common.{IsLabelledAt, IsReached}
+use Rattle.olr_search.proofs.Common.{IsReached}
 use Rattle.std.proofs.lemmas.List.Quantifiers.{all_pairs_push}
 use Rattle.olr_search.proofs.DistinctLemmas.{found_slot}
 use Rattle.olr_search.proofs.WayLemmas.{way_ends, leads_node}
@@ -15,24 +15,23 @@ use Rattle.olr_search.proofs.WayLemmas.WayEnds.{stays, continues}
 -- ---- one label is lowered
 
 -- a smaller label is written in slot p, and p is queued
-pub put_by : (f g : Frontier) (v p d label : ℕ) → g.table.items ≡ set f.table.items p d → p < length f.table.items →
-    label ≡ label_of f p → d < label → NotesOnce f.reached.items g.reached.items label (record { node = v; slot = p })
-    → IsQueued g d p → ((e q : ℕ) → IsQueued f e q → IsQueued g e q) → frontier_len g ≡ frontier_len f →
-    queued_len g ≡ queued_len f + 1 → IsRelaxed f g v p d
-put_by f g v p d label table within was lt once there kept len more =
+pub put_by : (f g : Frontier) (p d label : ℕ) → g.table.items ≡ set f.table.items p d → p < length f.table.items →
+    label ≡ label_of f p → d < label → NotesOnce f.reached.items g.reached.items label p → IsQueued g d p → ((e q : ℕ) → IsQueued f e q → IsQueued g e q) → frontier_len g ≡ frontier_len f →
+    queued_len g ≡ queued_len f + 1 → IsRelaxed f g p d
+put_by f g p d label table within was lt once there kept len more =
     grind (arith, label_of, label_in, get_or-set_same, get_or-set_other, sum_by-set)
 
-put_le : (f g : Frontier) (v p d : ℕ) → IsRelaxed f g v p d → (q : ℕ) → label_of g q ≤ label_of f q
-put_le f g v p d k q = grind (arith, cases_eq, label_of)
+put_le : (f g : Frontier) (p d : ℕ) → IsRelaxed f g p d → (q : ℕ) → label_of g q ≤ label_of f q
+put_le f g p d k q = grind (arith, cases_eq, label_of)
 
 -- each label is that of before, or the new one
-pub put_cases : (f g : Frontier) (v p d : ℕ) → IsRelaxed f g v p d → (q : ℕ) → (label_of g q ≡ label_of f q)
+pub put_cases : (f g : Frontier) (p d : ℕ) → IsRelaxed f g p d → (q : ℕ) → (label_of g q ≡ label_of f q)
     ⊎ ((label_of g q ≡ d) × (q ≡ p))
-put_cases f g v p d k q = grind (arith, cases_eq, label_of, cases_lt)
+put_cases f g p d k q = grind (arith, cases_eq, label_of, cases_lt)
 
-pub put_moves : (f g : Frontier) (v p d : ℕ) → IsRelaxed f g v p d → Moves f g
-put_moves f g v p d k = record {
-  better = put_le f g v p d k;
+pub put_moves : (f g : Frontier) (p d : ℕ) → IsRelaxed f g p d → Moves f g
+put_moves f g p d k = record {
+  better = put_le f g p d k;
   fresh = λ q. grind (arith, cases_eq, label_of);
   kept = k.kept;
   len = k.len;
@@ -59,11 +58,11 @@ alike_labels f g k p = ap (λ (t : List ℕ). label_in t p) k.table
 
 module _ (M : Map) (slot : ℕ → ℕ) (direction : Direction) (from : List (ℕ × ℕ)) where
   -- the length of a route is written as a label at its node
-  module _ (f g : Frontier) (v p d : ℕ) (k : IsRelaxed f g v p d) (there : IsTrue (has_node M v)) (at : slot v ≡ p)
+  module _ (f g : Frontier) (v p d : ℕ) (k : IsRelaxed f g p d) (there : IsTrue (has_node M v)) (at : slot v ≡ p)
       (way : Leads M direction from v d) (l : IsLabelled M slot direction from f) where
     put_leads : (w : ℕ) → IsTrue (has_node M w) → label_of g (slot w) ≤ GREATEST_LIMIT →
         Leads M direction from w (label_of g (slot w))
-    put_leads w known small = elim (put_cases f g v p d k (slot w)) [
+    put_leads w known small = elim (put_cases f g p d k (slot w)) [
       | inl same ↦ subst (λ (e : ℕ). Leads M direction from w e) (sym same) (l.leads w known (omega arith))
       | inr new ↦
           let own : w ≡ v = l.own w v known there (new.1 ∙ sym at) in
@@ -71,42 +70,34 @@ module _ (M : Map) (slot : ℕ → ℕ) (direction : Direction) (from : List (�
     ]
 
     put_nodes : (q : ℕ) → label_of g q ≤ GREATEST_LIMIT → (w : ℕ) × IsTrue (has_node M w) × (slot w ≡ q)
-    put_nodes q small = elim (put_cases f g v p d k q) [
+    put_nodes q small = elim (put_cases f g p d k q) [
       | inl same ↦ l.nodes q (omega arith)
       | inr new ↦ (v, there, at ∙ sym new.1)
     ]
 
-    kept_listed : (r : Reached) → IsLabelledAt M slot f r → IsLabelledAt M slot g r
-    kept_listed r h = let le = put_le f g v p d k r.slot in let was =
-        h.label in record { there = h.there; at = h.at; label = omega arith }
-
-    put_listed : NotedOnce f g v p → (r : Reached) → Contains g.reached.items r → IsLabelledAt M slot g r
-    put_listed (inl h) r c = kept_listed r (l.listed r (subst (λ (xs : List Reached). Contains xs r) h.0 c))
-    put_listed (inr h) r c =
-        elim (Contains-append_cases f.reached.items (record { node = v; slot = p } ∷ []) r
-        (subst (λ (xs : List Reached). Contains xs r) h.0 c)) [
-          | inl old ↦ kept_listed r (l.listed r old)
-          | inr new ↦
-              let is : r ≡ record { node = v; slot = p } = Contains-one (record { node = v; slot = p }) r new in
-              let low = l.low p in
-              subst (IsLabelledAt M slot g) (sym is) (record { there = there; at = at; label = omega arith })
+    put_listed : NotedOnce f g p → (q : ℕ) → Contains g.reached.items q → label_of g q ≤ GREATEST_LIMIT
+    put_listed (inl h) q c =
+        let was = l.listed q (subst (λ (ps : List ℕ). Contains ps q) h.0 c) in
+        let le = put_le f g p d k q in omega arith
+    put_listed (inr h) q c =
+        elim (Contains-append_cases f.reached.items (p ∷ []) q (subst (λ (ps : List ℕ). Contains ps q) h.0 c)) [
+          | inl old ↦ let was = l.listed q old in let le = put_le f g p d k q in omega arith
+          | inr new ↦ let low = l.low p in let is = ap (label_of g) (Contains-one p q new) in omega arith
         ]
 
-    put_apart : NotedOnce f g v p → AreApart g.reached.items
+    put_apart : NotedOnce f g p → AreApart g.reached.items
     put_apart (inl h) = subst AreApart (sym h.0) l.apart
-    put_apart (inr h) = subst AreApart (sym h.0) (all_pairs_push (λ (q r : Reached). q.node ≢ r.node) f.reached.items
-        (record { node = v; slot = p }) l.apart (λ k d lt same.
-        let r = get_or f.reached.items k d in
-        let x = l.listed r (Contains-get_or f.reached.items k d lt) in
-        let eq : label_of f r.slot ≡ label_of f p = ap (label_of f) (sym x.at ∙ ap slot same ∙ at) in
-        absurd (omega (arith, x.label, h.1))))
+    put_apart (inr h) =
+        subst AreApart (sym h.0) (all_pairs_push (λ (q r : ℕ). q ≢ r) f.reached.items p l.apart (λ k d lt same.
+        let small = l.listed (get_or f.reached.items k d) (Contains-get_or f.reached.items k d lt) in
+        let eq = ap (label_of f) same in absurd (omega arith)))
 
     pub put_labelled : IsLabelled M slot direction from g
     put_labelled = record {
       sound = l.sound;
       own = l.own;
       room = λ w known. let was = l.room w known in omega arith;
-      low = λ q. let was = l.low q in let le = put_le f g v p d k q in omega arith;
+      low = λ q. let was = l.low q in let le = put_le f g p d k q in omega arith;
       leads = put_leads;
       nodes = put_nodes;
       listed = put_listed k.noted;
@@ -132,10 +123,9 @@ module _ (M : Map) (slot : ℕ → ℕ) (direction : Direction) (from : List (�
     leads = λ v known small. subst (λ (e : ℕ). Leads M direction from v e) (sym (alike_labels f g k (slot v)))
         (l.leads v known (omega (arith, alike_labels f g k (slot v))));
     nodes = λ p small. l.nodes p (omega (arith, alike_labels f g k p));
-    listed = λ r c.
-        let was = l.listed r (subst (λ (xs : List Reached). Contains xs r) k.reached c) in
-        let label = was.label in
-        record { there = was.there; at = was.at; label = omega (arith, alike_labels f g k r.slot) };
+    listed = λ p c.
+        let was = l.listed p (subst (λ (ps : List ℕ). Contains ps p) k.reached c) in
+        omega (arith, alike_labels f g k p);
     apart = subst AreApart (sym k.reached) l.apart;
   }
 
@@ -152,20 +142,13 @@ module _ (M : Map) (slot : ℕ → ℕ) (direction : Direction) (from : List (�
 
   -- ---- what the labels say
 
-  -- each node that has a label is in the list
+  -- the slot of each node that has a label is in the list
   pub labelled_listed : (f : Frontier) → IsLabelled M slot direction from f → (v : ℕ) → IsTrue (has_node M v) →
-      label_of f (slot v) ≤ GREATEST_LIMIT → Contains f.reached.items (record { node = v; slot = slot v })
+      label_of f (slot v) ≤ GREATEST_LIMIT → Contains f.reached.items (slot v)
   labelled_listed f l v known small =
       elim (found_slot f.reached.items (slot v)) [
         | inr none ↦ let no_label = f.noted (slot v) none in absurd (omega arith)
-        | inl k ↦
-            let r = k.0 in
-            let x = l.listed r k.1 in
-            let own : r.node ≡ v = l.own r.node v x.there known (x.at ∙ k.2) in
-            let same : r ≡ record { node = v; slot = slot v } =
-            ap (λ (n : ℕ). record { node = n; slot = r.slot }) own
-            ∙ ap (λ (q : ℕ). record { node = v; slot = q }) k.2 in
-            subst (λ (y : Reached). Contains f.reached.items y) same k.1
+        | inl c ↦ c
       ]
 
   module _ (s : Dijkstra) (h : IsSearch M slot direction from s) where
@@ -197,23 +180,18 @@ module _ (M : Map) (slot : ℕ → ℕ) (direction : Direction) (from : List (�
     pub distance_node : (v d : ℕ) → IsDistance M direction from v d → IsTrue (has_node M v)
     distance_node v d x = leads_node M h.under_way.labelled.sound direction from v d x.leads
 
-    -- each near node is in the list
-    pub near_listed : (v : ℕ) → LiesWithin M direction from s.limit v →
-        Contains s.frontier.reached.items (record { node = v; slot = slot v })
+    -- the slot of each near node is in the list
+    pub near_listed : (v : ℕ) → LiesWithin M direction from s.limit v → Contains s.frontier.reached.items (slot v)
     near_listed v near =
         let known = distance_node v near.0 near.1 in
         let is = label_is v near.0 known near.1 near.2 in
         labelled_listed s.frontier h.under_way.labelled v known (omega arith)
 
-    pub listed_reached : (r : Reached) → Contains s.frontier.reached.items r → IsReached M direction from r.node
-        × (slot r.node ≡ r.slot)
-    listed_reached r c =
-        let x = h.under_way.labelled.listed r c in
-        let is : label_of s.frontier (slot r.node) ≡ label_of s.frontier r.slot = ap (label_of s.frontier) x.at in (
-          (label_of s.frontier (slot r.node), h.under_way.labelled.leads r.node x.there (omega arith), omega arith),
-          x.at,
-        )
-
-    pub listed_near : (r : Reached) → Contains s.frontier.reached.items r → label_of s.frontier r.slot ≤ s.limit →
-        LiesWithin M direction from s.limit r.node
-    listed_near r c le = grind (arith, label_of, is_distance)
+    pub listed_reached : (p : ℕ) → Contains s.frontier.reached.items p → (v : ℕ) × IsReached M direction from v
+        × (slot v ≡ p)
+    listed_reached p c =
+        let l = h.under_way.labelled in
+        let small = l.listed p c in
+        let own = l.nodes p small in
+        let is = ap (label_of s.frontier) own.2 in
+        (own.0, (label_of s.frontier (slot own.0), l.leads own.0 own.1 (omega arith), omega arith), own.2)

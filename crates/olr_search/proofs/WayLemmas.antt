@@ -78,12 +78,16 @@ leads_node M m direction from v d l = elim (way_ends M direction l.source v l.li
 
 -- ---- the far ends at a node
 
+-- the default for a far end
+abbrev pub no_end : LineEnd
+no_end = record { slot = 0; len = 0 }
+
 -- the element of a list that is made by a function
-made_at : (f : ℕ → LineEnd) (xs : List ℕ) (items : List LineEnd) (i : ℕ) (e : LineEnd) → items ≡ map f xs →
-    i < length items → e ≡ get_or items i e → (i < length xs) × (e ≡ f (get_or xs i 0))
-made_at f xs items i e is lt at =
+made_at : (f : ℕ → LineEnd) (xs : List ℕ) (items : List LineEnd) (i : ℕ) → items ≡ map f xs →
+    i < length items → (i < length xs) × (get_or items i no_end ≡ f (get_or xs i 0))
+made_at f xs items i is lt =
     let long : length items ≡ length xs = ap (λ (zs : List LineEnd). length zs) is ∙ length-map xs f in
-    (omega arith, at ∙ ap (λ (zs : List LineEnd). get_or zs i e) is ∙ get_or-map f xs i 0 e (omega arith))
+    (omega arith, ap (λ (zs : List LineEnd). get_or zs i no_end) is ∙ get_or-map f xs i 0 no_end (omega arith))
 
 -- the far end of a line
 abbrev far_of : Map → (ℕ → ℕ) → Direction → ℕ → LineEnd
@@ -91,13 +95,12 @@ far_of M slot Along x = end_out M slot x
 far_of M slot Against x = end_in M slot x
 
 record IsFar (M : Map) (slot : ℕ → ℕ) (direction : Direction) (x : ℕ) (e : LineEnd) : Type 0 where
-  node : e.node ≡ far_end M direction x
   there : e.slot ≡ slot (far_end M direction x)
   len : e.len ≡ dm M x
 
 far_is : (M : Map) (slot : ℕ → ℕ) (direction : Direction) (x : ℕ) → IsFar M slot direction x (far_of M slot direction x)
-far_is M slot Along x = record { node = refl; there = refl; len = refl }
-far_is M slot Against x = record { node = refl; there = refl; len = refl }
+far_is M slot Along x = record { there = refl; len = refl }
+far_is M slot Against x = record { there = refl; len = refl }
 
 ends_are : (M : Map) (slot : ℕ → ℕ) (direction : Direction) (v : ℕ) →
     ends_at M slot direction v ≡ map (far_of M slot direction) (lines_at M direction v)
@@ -108,29 +111,23 @@ pub record IsEnd (M : Map) (slot : ℕ → ℕ) (direction : Direction) (v : ℕ
   pub line : ℕ
   pub known : IsTrue (has_line M line)
   pub near : near_end M direction line ≡ v
-  pub node : e.node ≡ far_end M direction line
   pub there : e.slot ≡ slot (far_end M direction line)
   pub len : e.len ≡ dm M line
 
-pub end_is : (M : Map) (slot : ℕ → ℕ) (direction : Direction) (v : ℕ) (items : List LineEnd) (i : ℕ) (e : LineEnd) →
-    items ≡ ends_at M slot direction v → i < length items → e ≡ get_or items i e → IsEnd M slot direction v e
-end_is M slot direction v items i e is lt at =
+pub end_is : (M : Map) (slot : ℕ → ℕ) (direction : Direction) (v : ℕ) (items : List LineEnd) (i : ℕ) →
+    items ≡ ends_at M slot direction v → i < length items → IsEnd M slot direction v (get_or items i no_end)
+end_is M slot direction v items i is lt =
     let xs = lines_at M direction v in
-    let k = made_at (far_of M slot direction) xs items i e (is ∙ ends_are M slot direction v) lt at in
+    let k = made_at (far_of M slot direction) xs items i (is ∙ ends_are M slot direction v) lt in
     let x = get_or xs i 0 in
     let own = read_at M direction v xs i x refl k.0 (sym (get_or_default_zero xs i x k.0)) in
     let f = subst (IsFar M slot direction x) (sym k.1) (far_is M slot direction x) in
-    record { line = x; known = own.0; near = own.1; node = f.node; there = f.there; len = f.len }
-
--- the default for a far end
-abbrev pub no_end : LineEnd
-no_end = record { node = 0; slot = 0; len = 0 }
+    record { line = x; known = own.0; near = own.1; there = f.there; len = f.len }
 
 -- each line that is entered at v has its far end in the list
 pub record HasEnd (M : Map) (slot : ℕ → ℕ) (direction : Direction) (items : List LineEnd) (x : ℕ) : Type 0 where
   pub index : ℕ
   pub within : index < length items
-  pub node : (get_or items index no_end).node ≡ far_end M direction x
   pub there : (get_or items index no_end).slot ≡ slot (far_end M direction x)
   pub len : (get_or items index no_end).len ≡ dm M x
 
@@ -147,7 +144,7 @@ has_end M slot direction v x items is known near =
     ap (λ (zs : List LineEnd). get_or zs k.0 no_end) made ∙ get_or-map (far_of M slot direction) xs k.0 0 no_end k.1
     ∙ ap (far_of M slot direction) k.2 in
     let f = subst (IsFar M slot direction x) (sym e) (far_is M slot direction x) in
-    record { index = k.0; within = omega arith; node = f.node; there = f.there; len = f.len }
+    record { index = k.0; within = omega arith; there = f.there; len = f.len }
 
 -- the i-th line that is entered at a node, and its far end
 pub record IsEntry (M : Map) (slot : ℕ → ℕ) (direction : Direction) (v : ℕ) (lines : List ℕ) (i : ℕ) (e : LineEnd) : Type 0
@@ -155,20 +152,19 @@ pub record IsEntry (M : Map) (slot : ℕ → ℕ) (direction : Direction) (v : �
     pub within : i < length lines
     pub known : IsTrue (has_line M (get_or lines i 0))
     pub leads : near_end M direction (get_or lines i 0) ≡ v
-    pub node : e.node ≡ far_end M direction (get_or lines i 0)
     pub there : e.slot ≡ slot (far_end M direction (get_or lines i 0))
     pub len : e.len ≡ dm M (get_or lines i 0)
 
 pub entry_is : (M : Map) (slot : ℕ → ℕ) (direction : Direction) (v : ℕ) (lines : List ℕ) (items : List LineEnd) →
-    lines ≡ lines_at M direction v → items ≡ ends_at M slot direction v → (i : ℕ) (e : LineEnd) → i < length items →
-    e ≡ get_or items i e → IsEntry M slot direction v lines i e
-entry_is M slot direction v lines items same is i e lt at =
+    lines ≡ lines_at M direction v → items ≡ ends_at M slot direction v → (i : ℕ) → i < length items →
+    IsEntry M slot direction v lines i (get_or items i no_end)
+entry_is M slot direction v lines items same is i lt =
     let made = is ∙ ends_are M slot direction v ∙ ap (λ (zs : List ℕ). map (far_of M slot direction) zs) (sym same) in
-    let k = made_at (far_of M slot direction) lines items i e made lt at in
+    let k = made_at (far_of M slot direction) lines items i made lt in
     let x = get_or lines i 0 in
     let own = read_at M direction v lines i x same k.0 (sym (get_or_default_zero lines i x k.0)) in
     let f = subst (IsFar M slot direction x) (sym k.1) (far_is M slot direction x) in
-    record { within = k.0; known = own.0; leads = own.1; node = f.node; there = f.there; len = f.len }
+    record { within = k.0; known = own.0; leads = own.1; there = f.there; len = f.len }
 
 pub as_many : (M : Map) (slot : ℕ → ℕ) (direction : Direction) (v : ℕ) (lines : List ℕ) (items : List LineEnd) →
     lines ≡ lines_at M direction v → items ≡ ends_at M slot direction v → length items ≡ length lines

@@ -4,8 +4,8 @@
 --     IsQueued f d p      slot p is queued, at length d
 --     queued_len f      how many entries the queue has
 --     IsEmpty f      no labels, and nothing is queued
---     IsAlike f g      the tables and the labelled nodes are the same
---     IsRelaxed f g v p d      the label of node v in slot p was lowered to d, unless it was no greater
+--     IsAlike f g      the tables and the slots with labels are the same
+--     IsRelaxed f g p d      the label in slot p was lowered to d, unless it was no greater
 --     Moves f g      no label increased, and where one is new its slot is queued
 --     to_do f      what is left to do: it decreases with each label that is lowered and each entry that is removed
 use Rattle.std.specs.Prelude.{◌≡◌, ◌≢◌, ℕ, ◌+◌, ◌*◌, ◌≤◌, ◌<◌, ◌⊎◌, [], ◌∷◌, ◌++◌, min, sum, vec_len}
@@ -40,19 +40,19 @@ pub record IsAlike (f g : Frontier) : Type 0 where
   pub reached : g.reached.items ≡ f.reached.items
   pub len : frontier_len g ≡ frontier_len f
 
--- the node is recorded if it had no label
-abbrev pub NotedOnce : Frontier → Frontier → ℕ → ℕ → Type 0
-NotedOnce f g v p =
+-- the slot is recorded if it had no label
+abbrev pub NotedOnce : Frontier → Frontier → ℕ → Type 0
+NotedOnce f g p =
     ((g.reached.items ≡ f.reached.items) × (label_of g p ≤ GREATEST_LIMIT → label_of f p ≤ GREATEST_LIMIT))
-    ⊎ ((g.reached.items ≡ f.reached.items ++ record { node = v; slot = p } ∷ []) × (GREATEST_LIMIT < label_of f p)
+    ⊎ ((g.reached.items ≡ f.reached.items ++ p ∷ []) × (GREATEST_LIMIT < label_of f p)
     × (label_of g p < label_of f p))
 
-pub record IsRelaxed (f g : Frontier) (v p d : ℕ) : Type 0 where
+pub record IsRelaxed (f g : Frontier) (p d : ℕ) : Type 0 where
   pub here : label_of g p ≡ min (label_of f p) d
   pub others : (q : ℕ) → q ≢ p → label_of g q ≡ label_of f q
   pub waits : (label_of g p ≡ label_of f p) ⊎ IsQueued g (label_of g p) p
   pub kept : (e q : ℕ) → IsQueued f e q → IsQueued g e q
-  pub noted : NotedOnce f g v p
+  pub noted : NotedOnce f g p
   pub len : frontier_len g ≡ frontier_len f
   pub less : to_do g ≤ to_do f
 

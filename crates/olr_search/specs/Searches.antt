@@ -8,8 +8,8 @@
 --     IsOnlyPredecessor M slot f x v length      no line but x leads to v within the length
 --     CutAt M slot direction P f v d      each line from v, at the distance d, leads to a label of at most d plus its
 --         length, if P lets its end be labelled with that
---     IsLabelled M slot direction from f      each label is the length of a route, and the list has the labelled
---         nodes
+--     IsLabelled M slot direction from f      each label is the length of a route, and the list has the slots with
+--         labels
 --     IsCut M slot direction from P f      and the lines from each label are followed as far as P lets them, or it is
 --         queued; those where the search begins have labels
 --     IsUnderWay M slot direction from f      so where P lets all
@@ -24,7 +24,6 @@ use Rattle.olr_search.specs.Notes.{AreApart}
 use Rattle.olr_search.specs.Frontiers.{label_of, frontier_len, IsQueued}
 use Rattle.olr_search.specs.declared.frontier.TheConstants.{GREATEST_LIMIT}
 use Rattle.olr_search.specs.declared.frontier.TheConstants.{UNREACHED}
-use Rattle.olr_search.specs.declared.frontier.Reached.{Reached}
 use Rattle.olr_search.specs.declared.frontier.Frontier.{Frontier}
 use Rattle.olr_search.specs.declared.distances.Direction.{Direction}
 use Rattle.olr_search.specs.declared.distances.Dijkstra.{Dijkstra}
@@ -41,12 +40,6 @@ CutAt M slot direction P f v d =
 abbrev pub CoversSlots : Map → (ℕ → ℕ) → Frontier → Type 0
 CoversSlots M slot f = (v : ℕ) → IsTrue (has_node M v) → slot v < frontier_len f
 
--- a node of the list is on the map, in its slot, with a label
-pub record IsLabelledAt (M : Map) (slot : ℕ → ℕ) (f : Frontier) (r : Reached) : Type 0 where
-  pub there : IsTrue (has_node M r.node)
-  pub at : slot r.node ≡ r.slot
-  pub label : label_of f r.slot ≤ GREATEST_LIMIT
-
 pub record IsLabelled (M : Map) (slot : ℕ → ℕ) (direction : Direction) (from : List (ℕ × ℕ)) (f : Frontier) : Type 0
   where
     pub sound : IsMap M
@@ -56,7 +49,7 @@ pub record IsLabelled (M : Map) (slot : ℕ → ℕ) (direction : Direction) (fr
     pub leads : (v : ℕ) → IsTrue (has_node M v) → label_of f (slot v) ≤ GREATEST_LIMIT →
         Leads M direction from v (label_of f (slot v))
     pub nodes : (p : ℕ) → label_of f p ≤ GREATEST_LIMIT → (v : ℕ) × IsTrue (has_node M v) × (slot v ≡ p)
-    pub listed : (r : Reached) → Contains f.reached.items r → IsLabelledAt M slot f r
+    pub listed : (p : ℕ) → Contains f.reached.items p → label_of f p ≤ GREATEST_LIMIT
     pub apart : AreApart f.reached.items
 
 pub record IsCut (M : Map) (slot : ℕ → ℕ) (direction : Direction) (from : List (ℕ × ℕ)) (P : ℕ → ℕ → Type 0)

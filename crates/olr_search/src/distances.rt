@@ -10,15 +10,13 @@ ghost use Rattle.olr_spec.specs.Routes.{UniqueShortest, dm_of};
 ghost use Rattle.olr_search.specs.Distances.{IsDistance, Leads};
 ghost use Rattle.olr_search.specs.Frontiers.{label_of};
 ghost use Rattle.olr_search.specs.ResolvedLines.{IsResolved};
-ghost use Rattle.olr_search.specs.Notes.{numbers_of};
 ghost use Rattle.olr_search.specs.Searches.{IsSearch, LiesWithin, IsReached, Counts, StaysWithin};
 ghost use Rattle.olr_search.specs.Searches.{IsOnlyPredecessor, limit_of};
 ghost use Rattle.olr_search.specs.Bounds.{AreBounds, AreLengths, IsUnder, bound_in, label_at};
-ghost use Rattle.olr_search.specs.declared.frontier.Reached.{Reached as ReachedRecord};
 ghost use Rattle.olr_search.specs.declared.distances.Direction.TheVariants.{Along};
 
 use crate::bounds::{Anywhere, Bounds};
-use crate::frontier::{Frontier, GREATEST_LIMIT, Reached};
+use crate::frontier::{Frontier, GREATEST_LIMIT};
 use crate::resolved::ResolvedLine;
 use crate::steps::{settle, start};
 use olr_roads::{LineEnd, LineId, MapRead, NodeId};
@@ -104,7 +102,7 @@ impl Dijkstra {
     /// Settles on as far as bounds let it: a node is labelled only if the sum of its bound and its label is at most
     /// `GREATEST_LIMIT`. If each line that is followed to a node with a bound begins at one whose bound is at most that
     /// and the line's length together, a label is the least length wherever that sum is within the limit. Afterwards
-    /// only `is_within` and `labelled_nodes` may be called, until the search is begun again.
+    /// only `is_within` and `labelled_slots` may be called, until the search is begun again.
     pub fn settle_under<M: MapRead>(&mut self, map: &M, bounds: &Bounds) -> Result<(), AllocError>
         requires begun { (direction : _) × (from : List (ℕ × ℕ))
             × IsSearch (M.map map.now) (M.node_slot map.now) direction from self.old }
@@ -167,27 +165,26 @@ impl Dijkstra {
         self.limit
     }
 
-    /// The nodes that the search has labelled, each once, with their slots: those within the limit to which it is
-    /// settled, and some beyond it, up to `GREATEST_LIMIT`. In no particular order.
-    #[tactic(auto, using(crate::proofs::DistinctLemmas::numbers_distinct))]
-    pub fn labelled_nodes(&self) -> &[Reached]
+    /// The slots of the nodes that the search has labelled, each once: those within the limit to which it is settled,
+    /// and some beyond it, up to `GREATEST_LIMIT`. In no particular order.
+    pub fn labelled_slots(&self) -> &[u32]
         ensures near { (M : Map) (node_slot : ℕ → ℕ) (direction : _) (from : List (ℕ × ℕ)) (v : ℕ)
             → IsSearch M node_slot direction from self.now → LiesWithin M direction from (limit_of self.now) v
-            → Contains result.now (record { node = v; slot = node_slot v }) }
+            → Contains result.now (node_slot v) }
         ensures labelled { (M : Map) (node_slot : ℕ → ℕ) (direction : _) (from : List (ℕ × ℕ)) (v : ℕ)
             → AreLengths M node_slot direction from self.now → IsTrue (has_node M v)
-            → label_at self.now (node_slot v) ≤ GREATEST_LIMIT
-            → Contains result.now (record { node = v; slot = node_slot v }) }
+            → label_at self.now (node_slot v) ≤ GREATEST_LIMIT → Contains result.now (node_slot v) }
         ensures once { (M : Map) (node_slot : ℕ → ℕ) (direction : _) (from : List (ℕ × ℕ))
-            → IsSearch M node_slot direction from self.now → IsDistinct ◌==◌ (numbers_of result.now) }
-        ensures reached { (M : Map) (node_slot : ℕ → ℕ) (direction : _) (from : List (ℕ × ℕ)) (r : ReachedRecord)
-            → IsSearch M node_slot direction from self.now → Contains result.now r
-            → IsReached M direction from r.node × (node_slot r.node ≡ r.slot) }
-        ensures exactly { (M : Map) (node_slot : ℕ → ℕ) (direction : _) (from : List (ℕ × ℕ)) (r : ReachedRecord)
-            → IsSearch M node_slot direction from self.now → limit_of self.now ≡ GREATEST_LIMIT → Contains result.now r
-            → LiesWithin M direction from GREATEST_LIMIT r.node }
+            → IsSearch M node_slot direction from self.now → IsDistinct ◌==◌ result.now }
+        ensures reached { (M : Map) (node_slot : ℕ → ℕ) (direction : _) (from : List (ℕ × ℕ)) (p : ℕ)
+            → IsSearch M node_slot direction from self.now → Contains result.now p
+            → (v : ℕ) × IsReached M direction from v × (node_slot v ≡ p) }
+        ensures exactly { (M : Map) (node_slot : ℕ → ℕ) (direction : _) (from : List (ℕ × ℕ)) (v : ℕ)
+            → IsSearch M node_slot direction from self.now → limit_of self.now ≡ GREATEST_LIMIT
+            → IsTrue (has_node M v) → Contains result.now (node_slot v)
+            → LiesWithin M direction from GREATEST_LIMIT v }
     {
-        self.frontier.labelled_nodes()
+        self.frontier.labelled_slots()
     }
 
     /// The number of nodes that the search has settled since it began: those within the limit to which it is settled.
@@ -200,15 +197,15 @@ impl Dijkstra {
     }
 
     /// The nodes within the limit to which the search is settled, in ascending order.
-    pub fn nodes(&self, alloc: Global) -> Result<Vec<NodeId>, AllocError>
-        ensures ascending { IfOk result (λ nodes. (M : Map) (node_slot : ℕ → ℕ) (direction : _) (from : List (ℕ × ℕ))
-            → IsSearch M node_slot direction from self.now → IsStrictlyIncreasing nodes.items) }
-        ensures nodes { IfOk result (λ nodes. (M : Map) (node_slot : ℕ → ℕ) (direction : _) (from : List (ℕ × ℕ))
-            (v : ℕ)
-            → IsSearch M node_slot direction from self.now →
-            (Contains nodes.items v ↔ LiesWithin M direction from (limit_of self.now) v)) }
+    pub fn nodes<M: MapRead>(&self, alloc: Global, map: &M) -> Result<Vec<NodeId>, AllocError>
+        ensures ascending { IfOk result (λ nodes. (direction : _) (from : List (ℕ × ℕ))
+            → IsSearch (M.map map.now) (M.node_slot map.now) direction from self.now
+            → IsStrictlyIncreasing nodes.items) }
+        ensures nodes { IfOk result (λ nodes. (direction : _) (from : List (ℕ × ℕ)) (v : ℕ)
+            → IsSearch (M.map map.now) (M.node_slot map.now) direction from self.now →
+            (Contains nodes.items v ↔ LiesWithin (M.map map.now) direction from (limit_of self.now) v)) }
     {
-        let mut nodes = self.frontier.nodes_within(alloc, self.limit)?;
+        let mut nodes = self.frontier.nodes_within(alloc, map, self.limit)?;
         nodes.sort_unstable();
         Ok(nodes)
     }

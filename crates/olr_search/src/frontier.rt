@@ -1,9 +1,9 @@
-//! The state of a search: labels by slot, the labelled nodes, and the queue of slots to continue from.
+//! The state of a search: labels by slot, the slots of the labelled nodes, and the queue of slots to continue from.
 ghost use Rattle.std.specs.Prelude.{◌≡◌, ◌<◌, OnErr, OnOk};
 ghost use Rattle.olr_search.specs.Notes.{AreAllReached, AreAllReached-prop, NotesOnce};
 
 use crate::queue::Queue;
-use olr_roads::NodeId;
+use olr_roads::{MapRead, NodeId};
 use std::alloc::{AllocError, Global};
 
 /// The greatest limit of a search, in decimetres: the greatest distance of two location reference points.
@@ -12,20 +12,11 @@ pub const GREATEST_LIMIT: u32 = 150_000;
 /// The entry of the table for no label. Each label is less than it.
 pub const UNREACHED: u32 = 150_001;
 
-/// A node that a search has labelled, and its slot in the map.
-#[derive(Clone, Copy, Debug, PartialEq, Eq)]
-pub struct Reached {
-    /// The node's number.
-    pub node: NodeId,
-    /// The node's slot, see `MapRead::slot_of`.
-    pub slot: u32,
-}
-
-/// The labels by slot, in decimetres, the labelled nodes, and the queue of slots to continue from.
+/// The labels by slot, in decimetres, the slots of the labelled nodes, and the queue of slots to continue from.
 #[derive(Drop)]
 pub struct Frontier {
     table: Vec<u32>,
-    reached: Vec<Reached>,
+    reached: Vec<u32>,
     queue: Queue,
     /// A running total of the lines at queued slots, modulo 2^64. Its only use is that these lines are read, and so are in
     /// the processor's cache, some time before the search follows them.
@@ -33,22 +24,22 @@ pub struct Frontier {
     ghost noted: { AreAllReached table.items reached.items } by { AreAllReached-prop table.items reached.items },
 }
 
-/// Records a node that has no label yet.
-fn note(reached: &mut Vec<Reached>, label: u32, node: NodeId, slot: u32) -> Result<(), AllocError>
-    ensures noted { OnOk result
-        (NotesOnce reached.old.items reached.new.items label (record { node = node; slot = slot })) }
+/// Records the slot of a node that has no label yet.
+fn note(reached: &mut Vec<u32>, label: u32, slot: u32) -> Result<(), AllocError>
+    ensures noted { OnOk result (NotesOnce reached.old.items reached.new.items label slot) }
     ensures unchanged { OnErr result (reached.new.items ≡ reached.old.items) }
 {
     if label > GREATEST_LIMIT {
-        reached.push(Reached { node, slot })?;
+        reached.push(slot)?;
     }
     Ok(())
 }
 
 impl Frontier {
-    ghost use Rattle.std.specs.Prelude.{◌≤◌, ◌+◌, ◌⊎◌, ℕ, [], IfOk, IfSome, IfNone, count_by, nat_le};
+    ghost use Rattle.std.specs.Prelude.{◌≤◌, ◌+◌, ◌⊎◌, ◌++◌, ◌∷◌, ℕ, [], cond, IsTrue, IfOk, IfSome, IfNone, count_by, nat_le};
     ghost use Rattle.std.specs.List.{filter};
-    ghost use Rattle.olr_search.specs.Notes.{numbers_of};
+    ghost use Rattle.olr_spec.specs.Map.{has_node};
+    ghost use Rattle.olr_search.specs.Notes.{AreFilled, AreNodesIn};
     ghost use Rattle.olr_search.specs.Frontiers.{label_of, frontier_len, queued_len, IsAlike, IsRelaxed, IsEmpty, IsQueued};
 
     /// No labels. Does not allocate.
@@ -73,8 +64,8 @@ impl Frontier {
         }
     }
 
-    /// The labelled nodes, each once.
-    pub fn labelled_nodes(&self) -> &[Reached]
+    /// The slots of the labelled nodes, each once.
+    pub fn labelled_slots(&self) -> &[u32]
         ensures { result.now ≡ self.now.reached.items }
     {
         &self.reached
@@ -82,24 +73,48 @@ impl Frontier {
 
     /// The number of labels that are at most `limit`. Takes time proportional to the number of labels.
     pub fn count_within(&self, limit: u32) -> usize
-        ensures { result ≡ count_by (λ r. nat_le (label_of self.now r.slot) limit) self.now.reached.items }
+        ensures { result ≡ count_by (λ p. nat_le (label_of self.now p) limit) self.now.reached.items }
     {
         self.reached
             .iter()
-            .filter(|reached| self.label(reached.slot) <= limit)
+            .filter(|slot| self.label(**slot) <= limit)
             .count()
     }
 
+    /// Appends the node in a slot, if the label there is at most `limit`.
+    fn push_within<M: MapRead>(
+        &self,
+        map: &M,
+        slot: u32,
+        limit: u32,
+        nodes: &mut Vec<NodeId>,
+    ) -> Result<(), AllocError>
+        ensures { OnOk result ((v : ℕ) → IsTrue (has_node (M.map map.now) v) → M.node_slot map.now v ≡ slot
+            → nodes.new.items ≡ nodes.old.items ++ cond (nat_le (label_of self.now slot) limit) (v ∷ []) []) }
+    {
+        if self.label(slot) > limit {
+            return Ok(());
+        }
+        if let Some(node) = map.node_at(slot) {
+            nodes.push(node)?;
+        }
+        Ok(())
+    }
+
     /// The nodes whose labels are at most `limit`, in no particular order.
-    pub fn nodes_within(&self, alloc: Global, limit: u32) -> Result<Vec<NodeId>, AllocError>
-        ensures { IfOk result (λ nodes. nodes.items
-            ≡ numbers_of (filter (λ r. nat_le (label_of self.now r.slot) limit) self.now.reached.items)) }
+    pub fn nodes_within<M: MapRead>(
+        &self,
+        alloc: Global,
+        map: &M,
+        limit: u32,
+    ) -> Result<Vec<NodeId>, AllocError>
+        ensures { IfOk result (λ nodes. AreFilled (M.map map.now) (M.node_slot map.now) self.now.reached.items
+            → AreNodesIn (M.map map.now) (M.node_slot map.now)
+            (filter (λ p. nat_le (label_of self.now p) limit) self.now.reached.items) nodes.items) }
     {
         let mut nodes = Vec::with_capacity(alloc, self.reached.len())?;
-        for reached in &self.reached {
-            if self.label(reached.slot) <= limit {
-                nodes.push(reached.node)?;
-            }
+        for slot in &self.reached {
+            self.push_within(map, *slot, limit, &mut nodes)?;
         }
         Ok(nodes)
     }
@@ -109,7 +124,7 @@ impl Frontier {
         ensures { IsEmpty self.new }
     {
         while let Some(reached) = self.reached.pop() {
-            let slot = reached.slot as usize;
+            let slot = reached as usize;
             if slot < self.table.len() {
                 self.table[slot] = UNREACHED;
             }
@@ -130,19 +145,13 @@ impl Frontier {
 
     /// Lowers a node's label to a length in decimetres and queues its slot, from where the search will follow this many
     /// lines. No effect if the label is no greater.
-    pub fn relax(
-        &mut self,
-        node: NodeId,
-        slot: u32,
-        dist: u32,
-        lines: usize,
-    ) -> Result<(), AllocError>
+    pub fn relax(&mut self, slot: u32, dist: u32, lines: usize) -> Result<(), AllocError>
         requires { slot < frontier_len self.old }
-        ensures { OnOk result (IsRelaxed self.old self.new node slot dist) }
+        ensures { OnOk result (IsRelaxed self.old self.new slot dist) }
     {
         let label = self.table[slot as usize];
         if dist < label {
-            note(&mut self.reached, label, node, slot)?;
+            note(&mut self.reached, label, slot)?;
             self.queue.push(dist, slot)?;
             self.table[slot as usize] = dist;
             self.lines_ahead = self.lines_ahead.wrapping_add(lines as u64);

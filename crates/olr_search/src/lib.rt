@@ -13,7 +13,7 @@ pub mod work;
 
 pub use bounds::Bounds;
 pub use distances::{Dijkstra, Direction, settled_search};
-pub use frontier::{GREATEST_LIMIT, Reached};
+pub use frontier::GREATEST_LIMIT;
 pub use resolved::{ResolvedLine, resolve_line};
 pub use steps::{ends_from, lines_from};
 pub use work::Work;

@@ -18,7 +18,6 @@ fn label_node<M: MapRead, A: Admits>(
     map: &M,
     direction: Direction,
     admits: &A,
-    node: NodeId,
     slot: u32,
     length: u32,
     frontier: &mut Frontier,
@@ -26,16 +25,17 @@ fn label_node<M: MapRead, A: Admits>(
     requires there { (v : ℕ) × IsTrue (has_node (M.map map.now) v) × (M.node_slot map.now v ≡ slot) }
     requires room { slot < frontier_len frontier.old }
     ensures moves { OnOk result (Moves frontier.old frontier.new) }
-    ensures labelled { OnOk result ((N : Map) (node_slot : ℕ → ℕ) (way : _) (from : List (ℕ × ℕ))
-        → IsTrue (has_node N node) → node_slot node ≡ slot → Leads N way from node length
+    ensures labelled { OnOk result ((N : Map) (node_slot : ℕ → ℕ) (way : _) (from : List (ℕ × ℕ)) (v : ℕ)
+        → IsTrue (has_node N v) → node_slot v ≡ slot → Leads N way from v length
         → IsLabelled N node_slot way from frontier.old → IsLabelled N node_slot way from frontier.new) }
-    ensures low { OnOk result (A.lets admits.now node length → label_of frontier.new slot ≤ length) }
+    ensures low { OnOk result ((v : ℕ) → IsTrue (has_node (M.map map.now) v) → M.node_slot map.now v ≡ slot
+        → A.lets admits.now v length → label_of frontier.new slot ≤ length) }
     ensures only { OnOk result ((p : ℕ) → (label_of frontier.new p ≡ label_of frontier.old p)
         ⊎ ((label_of frontier.new p ≡ length) × (p ≡ slot))) }
 {
-    if length < frontier.label(slot) && admits.admits(node, length) {
+    if length < frontier.label(slot) && admits.admits(map, slot, length) {
         let ahead = ends_from(map, direction, slot).len();
-        frontier.relax(node, slot, length, ahead)
+        frontier.relax(slot, length, ahead)
     } else {
         Ok(())
     }
@@ -61,7 +61,7 @@ pub fn start<M: MapRead>(
     let Some(slot) = map.slot_of(node) else {
         return Ok(());
     };
-    label_node(map, direction, &Anywhere, node, slot, length, frontier)?;
+    label_node(map, direction, &Anywhere, slot, length, frontier)?;
     Ok(())
 }
 
@@ -114,15 +114,7 @@ fn follow<M: MapRead, A: Admits>(
         (label_of frontier.old) (label_of frontier.new)) }
 {
     for end in ends_from(map, direction, slot) {
-        label_node(
-            map,
-            direction,
-            admits,
-            end.node,
-            end.slot,
-            dist + end.len,
-            frontier,
-        )?;
+        label_node(map, direction, admits, end.slot, dist + end.len, frontier)?;
     }
     Ok(())
 }

@@ -321,7 +321,7 @@ fn a_log_takes_all_back(rt: HostRuntime) -> Result<(), Fail> {
 
 /// Asserts that a line of 700 dm has its other end at node 3.
 fn assert_at_third(rt: &impl Abort, map: &RoadMap, end: &LineEnd) {
-    same!(rt; end.node, node(3));
+    same!(rt; map.node_at(end.slot), Some(node(3)));
     same!(rt; end.len, 700);
     same!(rt; map.slot_of(node(3)), Some(end.slot));
     holds!(rt; (end.slot as usize) < map.slot_count());

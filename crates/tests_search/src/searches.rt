@@ -146,10 +146,10 @@ fn settle_in_steps(rt: &impl Abort, map: &RoadMap, search: &mut Dijkstra) -> Res
 
 /// Asserts that a search reached these nodes in this order, each with its distance.
 fn assert_reached(rt: &impl Abort, map: &RoadMap, search: &Dijkstra, numbers: &[u32]) {
-    for (at, number) in search.labelled_nodes().iter().zip(numbers) {
+    for (slot, number) in search.labelled_slots().iter().zip(numbers) {
         let reached = node(*number);
-        same!(rt; at.node, reached);
-        same!(rt; search.dist_at(at.slot), search.dist(map, reached));
+        same!(rt; map.node_at(*slot), Some(reached));
+        same!(rt; search.dist_at(*slot), search.dist(map, reached));
     }
 }
 

@@ -27,7 +27,7 @@ fn seen(alloc: Global, map: &RoadMap, encoding: &Encoding) -> Result<Footprint, 
         let begin = [(query.from, 0)];
         let within = query.within.min(GREATEST_LIMIT);
         let search = settled_search(alloc, map, Direction::Along, &begin, within)?;
-        for node in &search.nodes(alloc)? {
+        for node in &search.nodes(alloc, map)? {
             nodes.note(*node)?;
         }
     }

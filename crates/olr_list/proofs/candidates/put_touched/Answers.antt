@@ -1,5 +1,4 @@
-use Rattle.olr_list.proofs.Common.{All-contains, Against, sources, Finds}
-use Rattle.olr_search.specs.declared.frontier.Reached.{Reached}
+use Rattle.olr_list.proofs.Common.{Against, sources}
 use Rattle.olr_list.proofs.Covering.{covers_by}
 use Rattle.olr_list.proofs.candidates.put_touched.Goals as goal
 
@@ -9,10 +8,10 @@ returns g c =
     let l = c.args.list.now in
     let ids = l.path_ids.items in
     let slot = g.M.MapRead.node_slot c.args.map.now in
-    let four = c.put_found-4.new.found.items in
+    let four = c.put_found_at.new.found.items in
     let grown2 = c.in_ok-put_found-2.ensures.grows in
     let grown3 = c.in_ok-put_found-3.ensures.grows in
-    let grown4 = c.in_ok-put_found-4.ensures.grows in
+    let grown4 = c.in_ok-put_found_at.ensures.grows in
     let same = c.as_slice-ids.ensures.value in
     let one = rw (same, c.nodes-nodes.ensures) at c.in_ok-put_found.ensures.put in
     let two = rw (same, c.nodes-nodes.ensures) at c.in_ok-put_found-2.ensures.put in
@@ -21,7 +20,5 @@ returns g c =
     (λ i d lt k low on. grown4 k (grown3 k (grown2 k (one i d lt k low on))))
     (λ i d lt k low on. grown4 k (three i d lt k low on)) (g.met.M.MapRead.sound c.args.map.now) slot c.args.searches.now
     (λ i d lt k low on. grown4 k (grown3 k (two i d lt k low on)))
-    (λ close lengths v known small.
-    All-contains (λ (r : Reached). Finds ids l.finder.by_query_origin r.node four) c.reached.result.now
-    (record { node = v; slot = slot v }) (rw same at c.in_ok-put_found-4.ensures.put)
+    (λ close lengths v known small. (rw same at c.in_ok-put_found_at.ensures.put) v known
     (c.reached.ensures (g.M.MapRead.map c.args.map.now) slot Against (sources t) v close lengths known small))

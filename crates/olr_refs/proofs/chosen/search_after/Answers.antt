@@ -5,7 +5,7 @@ use Rattle.olr_refs.proofs.chosen.search_after.Goals.{After-settled_count}
 use Rattle.olr_refs.proofs.chosen.search_after.Goals as goal
 
 pub note_settled-requires : goal.note_settled-requires
-note_settled-requires g c = (_, _, _, _, c.in_ok-tested.ensures.search)
+note_settled-requires g c = (_, _, c.in_ok-tested.ensures.search)
 
 -- the search, as one from where the query begins
 one_search : (g : Over) (c : After-settled_count g) →
@@ -25,7 +25,7 @@ returns g c =
       last = c.in_ok-tested.ensures.last;
       query = search rules;
       seen = notes_same _ _ _ _ (search_sees M place query _ (one_search g c) c.end-from.ensures.known far)
-          (c.in_ok-note_settled.ensures M place _ _ (one_search g c));
+          (c.in_ok-note_settled.ensures _ _ (one_search g c));
       counts = one_query M place query c.covered_to.new.search work (one_search g c)
           c.end-from.ensures.known far (c.settled_count.ensures _ _ _ _ (one_search g c)) refl (omega arith);
     }

@@ -1,8 +1,8 @@
 use Rattle.olr_refs.proofs.Common.{◌≡◌, ◌≢◌, ℕ, Map, Option, Some, None, MatchOption, IsTrue, has_node, has_line, ap, sym, ◌∙◌, subst}
-use Rattle.olr_refs.proofs.Common.{arith, both_ways, passing, near_end, far_end, LeadsOn, length}
+use Rattle.olr_refs.proofs.Common.{arith, both_ways, passing, near_end, far_end, LeadsOn, length, IsMap}
 use Rattle.olr_search.specs.Distances.{lines_at, ends_at}
 use Rattle.olr_search.specs.declared.distances.Direction.{Direction}
-use Rattle.olr_search.proofs.WayLemmas.{far_node, as_many}
+use Rattle.olr_search.proofs.WayLemmas.{far_node, near_node, as_many}
 use Rattle.olr_refs.proofs.degree_two_runs.line_beyond.Given.{Over}
 use Rattle.olr_refs.proofs.degree_two_runs.line_beyond.Goals.{After-lines_from-leaving}
 use Rattle.olr_refs.proofs.degree_two_runs.line_beyond.Goals as goal
@@ -57,13 +57,22 @@ first_apart-requires g c =
     let same = many g (goal.at.first_apart-requires g c).After-lines_from-leaving in omega arith
 
 -- the one of these lines that leads on
-beyond : (M : Map) (d : Direction) (z : ℕ) (o : Option ℕ) → IsTrue (passing M (far_end M d z)) →
-    MatchOption o ((x : ℕ) → IsTrue (has_line M x) → near_end M d x ≡ far_end M d z → far_end M d x ≡ near_end M d z)
-    (λ x. IsTrue (has_line M x) × (near_end M d x ≡ far_end M d z) × (far_end M d x ≢ near_end M d z)) →
+beyond : (M : Map) (m : IsMap M) (slot : ℕ → ℕ) (d : Direction) (z : ℕ) (o : Option ℕ) →
+    ((v w : ℕ) → IsTrue (has_node M v) → IsTrue (has_node M w) → slot v ≡ slot w → v ≡ w) → IsTrue (has_line M z) →
+    IsTrue (passing M (far_end M d z)) →
+    MatchOption o
+    ((x : ℕ) → IsTrue (has_line M x) → near_end M d x ≡ far_end M d z → slot (far_end M d x) ≡ slot (near_end M d z))
+    (λ x. IsTrue (has_line M x) × (near_end M d x ≡ far_end M d z) × (slot (far_end M d x) ≢ slot (near_end M d z))) →
     MatchOption o ((x : ℕ) → ¬ LeadsOn M d z x) (LeadsOn M d z)
-beyond M d z None t all = λ x p. p.onward (all x p.known p.joins)
-beyond M d z (Some x) t k =
-    record { known = k.0; joins = k.1; through = subst (λ (v : ℕ). IsTrue (passing M v)) (sym k.1) t; onward = k.2 }
+beyond M m slot d z None own known t all =
+    λ x p. p.onward (own _ _ (far_node M m d x p.known) (near_node M m d z known) (all x p.known p.joins))
+beyond M m slot d z (Some x) own known t k =
+    record {
+      known = k.0;
+      joins = k.1;
+      through = subst (λ (v : ℕ). IsTrue (passing M v)) (sym k.1) t;
+      onward = λ e. k.2 (ap slot e);
+    }
 
 pub returns : goal.returns
 returns g c =
@@ -76,7 +85,11 @@ returns g c =
     let node = sym c.if-not-passing_at.false ∙ c.passing_at.ensures ∙ ap (passing M) is.1 in
     let found =
     subst (λ (other : ℕ). MatchOption c.first_apart.result
-    ((x : ℕ) → IsTrue (has_line M x) → near_end M d x ≡ far_end M d z → far_end M d x ≡ other)
-    (λ x. IsTrue (has_line M x) × (near_end M d x ≡ far_end M d z) × (far_end M d x ≢ other))) is.0
+    ((x : ℕ) → IsTrue (has_line M x) → near_end M d x ≡ far_end M d z → slot (far_end M d x) ≡ other)
+    (λ x. IsTrue (has_line M x) × (near_end M d x ≡ far_end M d z) × (slot (far_end M d x) ≢ other))) is.0
     (c.first_apart.ensures M slot d (far_end M d z) (lines g at) (ends g at)) in
-    record { node = node; next = beyond M d z c.first_apart.result (sym node) found }
+    record {
+      node = node;
+      next = beyond M (g.met.M.MapRead.sound c.args.map.now) slot d z c.first_apart.result
+          (g.met.M.MapRead.placed c.args.map.now).apart c.requires.known (sym node) found;
+    }

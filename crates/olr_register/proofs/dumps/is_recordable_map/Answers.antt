@@ -2,6 +2,12 @@ use Rattle.olr_register.proofs.Common.{refl, sym, arith, map_of}
 use Rattle.olr_register.proofs.DumpTexts.{not_by_node, by_nodes}
 use Rattle.olr_register.proofs.dumps.is_recordable_map.Goals as goal
 
+pub overflow_cast-slot : goal.overflow_cast-slot
+overflow_cast-slot c =
+    record {
+      fits = omega (arith, c.args.roads.now.kept.placed.few, c.slot_count-slot-end.ensures, c.loop-slot-test.true);
+    }
+
 pub returns-then-not-is_recordable_slot : goal.returns-then-not-is_recordable_slot
 returns-then-not-is_recordable_slot c =
     let one = c.if-not-is_recordable_slot.ensures.one refl in

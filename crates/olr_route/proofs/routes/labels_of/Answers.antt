@@ -8,7 +8,7 @@ pub unwrap-dist-requires : goal.unwrap-dist-requires
 unwrap-dist-requires g c =
     let h = c.requires in
     let near =
-    (c.in_ok-nodes.ensures.nodes _ _ Along ((h.0, 0) ∷ []) c.node-item.result h.1).0
+    (c.in_ok-nodes.ensures.nodes Along ((h.0, 0) ∷ []) c.node-item.result h.1).0
     (subst (λ (vs : List ℕ). Contains vs c.node-item.result) c.deref-node-items.ensures.value
     (c.loop-node.node-index, c.loop-node-test.true, sym c.node-item.is)) in
     ap (λ (o : Option ℕ). is_some o) ((c.dist.ensures Along ((h.0, 0) ∷ []) near.0 h.1).1 (near.1, near.2))
@@ -48,8 +48,8 @@ returns-clause-labels g c = λ s h.
     let long = ap (λ (vs : List ℕ). length vs) c.deref-node-items.ensures.value in
     record {
       search = h;
-      ascending = c.in_ok-nodes.ensures.ascending M slot Along ((s, 0) ∷ []) h;
-      near = λ v. c.in_ok-nodes.ensures.nodes M slot Along ((s, 0) ∷ []) v h;
+      ascending = c.in_ok-nodes.ensures.ascending Along ((s, 0) ∷ []) h;
+      near = λ v. c.in_ok-nodes.ensures.nodes Along ((s, 0) ∷ []) v h;
       each = λ i lt. rw (sym c.deref-node-items.ensures.value)
           (c.loop-node.invariant.each s i h (omega (arith, c.loop-node-test.false)));
     }

@@ -1,38 +1,40 @@
-use Rattle.olr_search.proofs.Common.{◌≡◌, ◌≤◌, ◌+◌, ℕ, IsTrue, get_or, sym, ap, subst, ◌∙◌, arith, get_or_default, inl, inr}
-use Rattle.olr_search.proofs.Common.{has_node, LineEnd, Leads, near_end, far_end, label_of, below_more, line_short}
-use Rattle.olr_search.proofs.WayLemmas.{IsEnd, end_is, has_end, no_end, far_node, leads_on}
+use Rattle.olr_search.proofs.Common.{◌≡◌, ◌≤◌, ◌+◌, ℕ, IsTrue, get_or, sym, ap, subst, ◌∙◌, arith, inl, inr}
+use Rattle.olr_search.proofs.Common.{has_node, Leads, near_end, far_end, label_of, below_more, line_short}
+use Rattle.olr_search.proofs.WayLemmas.{end_is, has_end, no_end, far_node, leads_on}
 use Rattle.olr_search.proofs.SearchLemmas.{moves_then}
 use Rattle.olr_search.proofs.CutLemmas.{stays_then}
-use Rattle.olr_search.proofs.steps.follow.Given.{Over}
-use Rattle.olr_search.proofs.steps.follow.Goals.{After-end-item}
 use Rattle.olr_search.proofs.steps.follow.Goals as goal
-
--- the line that is followed
-line : (g : Over) (c : After-end-item g) →
-    IsEnd (g.M.MapRead.map c.args.map.now) (g.M.MapRead.node_slot c.args.map.now) c.args.direction c.requires.node.0
-    c.end-item.result
-line g c = grind (arith, end_is)
 
 pub overflow_add-dist : goal.overflow_add-dist
 overflow_add-dist g c =
-    let e = line g (goal.at.overflow_add-dist g c).After-end-item in
-    let short = line_short (g.M.MapRead.map c.args.map.now) (g.met.M.MapRead.sound c.args.map.now) e.line e.known in
+    let M = g.M.MapRead.map c.args.map.now in
+    let own = c.requires.node in
+    let e =
+    end_is M (g.M.MapRead.node_slot c.args.map.now) c.args.direction own.0 _ c.loop-end.end-index
+    (c.ends_from-end-items.ensures own.0 own.1 own.2) c.loop-end-test.true in
+    let short = line_short M (g.met.M.MapRead.sound c.args.map.now) e.line e.known in
     omega arith
 
 pub label_node-requires-clause-there : goal.label_node-requires-clause-there
 label_node-requires-clause-there g c =
     let M = g.M.MapRead.map c.args.map.now in
-    let m = g.met.M.MapRead.sound c.args.map.now in
-    let e = line g (goal.at.label_node-requires-clause-there g c).After-end-item in
-    (far_end M c.args.direction e.line, far_node M m c.args.direction e.line e.known, sym e.there)
+    let own = c.requires.node in
+    let e =
+    end_is M (g.M.MapRead.node_slot c.args.map.now) c.args.direction own.0 _ c.loop-end.end-index
+    (c.ends_from-end-items.ensures own.0 own.1 own.2) c.loop-end-test.true in
+    (far_end M c.args.direction e.line, far_node M (g.met.M.MapRead.sound c.args.map.now) c.args.direction e.line e.known, sym e.there)
 
 pub label_node-requires-clause-room : goal.label_node-requires-clause-room
 label_node-requires-clause-room g c =
     let M = g.M.MapRead.map c.args.map.now in
-    let e = line g (goal.at.label_node-requires-clause-room g c).After-end-item in
-    let m = g.met.M.MapRead.sound c.args.map.now in
-    let room = c.requires.room (far_end M c.args.direction e.line) (far_node M m c.args.direction e.line e.known) in
-    omega arith
+    let own = c.requires.node in
+    let e =
+    end_is M (g.M.MapRead.node_slot c.args.map.now) c.args.direction own.0 _ c.loop-end.end-index
+    (c.ends_from-end-items.ensures own.0 own.1 own.2) c.loop-end-test.true in
+    let room =
+    c.requires.room (far_end M c.args.direction e.line)
+    (far_node M (g.met.M.MapRead.sound c.args.map.now) c.args.direction e.line e.known) in
+    omega (arith, c.loop-end.invariant.moves.len, e.there)
 
 pub loop-end-preserved : goal.loop-end-preserved
 loop-end-preserved g c =
@@ -41,10 +43,10 @@ loop-end-preserved g c =
     let own = c.requires.node in
     let lets = g.A.Admits.lets c.args.admits.now in
     let d = c.args.dist in
-    let end = c.end-item.result in
     let items = c.ends_from-end-items.result.now in
     let n = c.loop-end.end-index in
-    let e = line g (goal.at.loop-end-preserved g c).After-end-item in
+    let e =
+    end_is M slot c.args.direction own.0 items n (c.ends_from-end-items.ensures own.0 own.1 own.2) c.loop-end-test.true in
     let inv = c.loop-end.invariant in
     let to = c.in_ok-label_node.ensures in
     let h = c.label_node.new.frontier in
@@ -56,15 +58,15 @@ loop-end-preserved g c =
           let on =
           leads_on M c.args.direction from e.line d e.known
           (subst (λ (u : ℕ). Leads M c.args.direction from u d) near way) in
-          to.labelled M slot c.args.direction from (subst (λ (u : ℕ). IsTrue (has_node M u)) (sym e.node) there)
-          (ap slot e.node ∙ sym e.there)
-          (coe 1 0 (i. Leads M c.args.direction from (e.node i) (d + e.len i)) on) (inv.labelled v from known at way l);
+          to.labelled M slot c.args.direction from (far_end M c.args.direction e.line) there (sym e.there)
+          (coe 1 0 (i. Leads M c.args.direction from (far_end M c.args.direction e.line) (d + e.len i)) on)
+          (inv.labelled v from known at way l);
       followed =
-          below_more (λ j. let x = get_or items j no_end in lets x.node (d + x.len) → label_of h x.slot ≤ d + x.len) n
-          (λ j low under. let was = inv.followed j low under in let le = to.moves.better (get_or items j no_end).slot in
-          omega arith)
-          (subst (λ (x : LineEnd). lets x.node (d + x.len) → label_of h x.slot ≤ d + x.len)
-          (c.end-item.is ∙ get_or_default items n end no_end c.loop-end-test.true) to.low);
+          below_more (λ j. let x = get_or items j no_end in
+          (v : ℕ) → IsTrue (has_node M v) → slot v ≡ x.slot → lets v (d + x.len) → label_of h x.slot ≤ d + x.len) n
+          (λ j low v known at under. let was = inv.followed j low v known at under in
+          let le = to.moves.better (get_or items j no_end).slot in omega arith)
+          to.low;
       near =
           stays_then M slot c.args.direction d c.args.frontier.now c.loop-end.frontier h to.moves.better inv.near
           (λ p. elim (to.only p) [
@@ -92,7 +94,8 @@ returns-clause-closed g c = λ v known at x line near under.
     has_end M (g.M.MapRead.node_slot c.args.map.now) d v x c.ends_from-end-items.result.now
     (c.ends_from-end-items.ensures v known at) line near in
     let low =
-    c.loop-end.invariant.followed k.index (omega arith)
-    (coe 1 0 (i. g.A.Admits.lets c.args.admits.now (k.node i) (c.args.dist + k.len i)) under) in
+    c.loop-end.invariant.followed k.index (omega arith) (far_end M d x)
+    (far_node M (g.met.M.MapRead.sound c.args.map.now) d x line) (sym k.there)
+    (coe 1 0 (i. g.A.Admits.lets c.args.admits.now (far_end M d x) (c.args.dist + k.len i)) under) in
     let eq = ap (label_of c.loop-end.frontier) k.there in
     omega arith

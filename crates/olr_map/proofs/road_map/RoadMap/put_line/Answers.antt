@@ -29,8 +29,8 @@ all : (c : goal.After-put) → LineMade c.args.self.now c.put_end-2.new.self c.p
     (TakeLine c.args.id)
 all c =
     line_put c.args.self.now c.put_end.new.self c.put_end-2.new.self c.put.new.self _ c.args.id c.args.from c.args.to
-    c.number.ensures.same c.args.line c.requires.begin c.requires.end _ _ c.far_ends-begins.ensures.ends
-    c.far_ends-begins.ensures.begins c.put_end.ensures.turns c.put_end-2.ensures.turns c.put.ensures.put c.requires.can
+    c.number.ensures.same c.args.line c.requires.begin c.requires.end _ _ c.far_ends.ensures.ends
+    c.far_ends.ensures.begins c.put_end.ensures.turns c.put_end-2.ensures.turns c.put.ensures.put c.requires.can
 
 pub invariant_of-self : goal.invariant_of-self
 invariant_of-self c = record { kept = (all c).kept }

@@ -30,7 +30,7 @@ all : (c : goal.After-replace) → LineMade c.args.self.now c.put_end-2.new.self
 all c =
     line_reset c.args.self.now c.put_end.new.self c.put_end-2.new.self c.replace.new.self _ c.args.id c.args.from c.args.to
     c.number.ensures.same c.replace.result c.requires.begin c.requires.end c.replace.ensures.was c.args.line _ _
-    c.far_ends-begins.ensures.ends c.far_ends-begins.ensures.begins c.put_end.ensures.turns c.put_end-2.ensures.turns
+    c.far_ends.ensures.ends c.far_ends.ensures.begins c.put_end.ensures.turns c.put_end-2.ensures.turns
     c.replace.ensures.put c.requires.can
 
 pub invariant_of-self : goal.invariant_of-self

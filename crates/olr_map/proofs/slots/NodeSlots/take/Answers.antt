@@ -12,7 +12,9 @@ returns-clause-removes c =
     subst (λ (w : Links). w ≡ get_or s.outs.items p w) (sym c.replace-outs.ensures.value) c.index_mut.ensures.value in
     let i : c.replace-ins.result ≡ get_or s.ins.items p c.replace-ins.result =
     subst (λ (w : Links). w ≡ get_or s.ins.items p w) (sym c.replace-ins.ensures.value) c.index_mut-2.ensures.value in
-    let is = entry_is s p e.0 e.1 c.take-id.result c.replace-outs.result c.replace-ins.result taken.removes.was o i in
+    let is =
+    entry_is s p e.0 e.1 c.take-id.result c.index-place.result.now c.replace-outs.result c.replace-ins.result
+    taken.removes.was c.index-place.ensures o i in
     rw (← is) (row_removed s p e.0 e.1 (slots_of c.take-id.new.self) c.take-id.result c.replace-outs.new.dest
     c.replace-ins.new.dest taken.removes taken.count)
 

@@ -1,7 +1,8 @@
-use Rattle.olr_search.proofs.Common.{◌≡◌, nat_le, filter, label_of, numbers_of, take}
+use Rattle.olr_search.proofs.Common.{nat_le, filter, label_of, take, AreFilled, AreNodesIn}
 use Rattle.olr_search.proofs.frontier.Frontier.nodes_within.Given as goal
 
-abbrev pub invariant-loop-reached : goal.invariant-loop-reached
-invariant-loop-reached l =
-    l.nodes.items
-    ≡ numbers_of (filter (λ r. nat_le (label_of l.self r.slot) l.limit) (take l.reached-index l.reached-items))
+abbrev pub invariant-loop-slot : goal.invariant-loop-slot
+invariant-loop-slot g l =
+    AreFilled (g.M.MapRead.map l.map) (g.M.MapRead.node_slot l.map) l.slot-items →
+    AreNodesIn (g.M.MapRead.map l.map) (g.M.MapRead.node_slot l.map)
+    (filter (λ p. nat_le (label_of l.self p) l.limit) (take l.slot-index l.slot-items)) l.nodes.items

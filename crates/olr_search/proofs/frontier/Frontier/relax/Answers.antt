@@ -21,7 +21,7 @@ invariant_of-self-then-dist-label c =
     c.args.self.now.table.ok.0 in
     record {
       noted = noted_put c.args.self.now.table.items c.args.self.now.reached.items c.note.new.reached.items
-          (record { node = c.args.node; slot = c.args.slot }) c.args.dist c.index-label.result.now label
+          c.args.slot c.args.dist c.index-label.result.now label
           c.in_ok-note.ensures.noted c.args.self.now.noted;
     }
 
@@ -31,6 +31,6 @@ returns-in_ok-push c =
     let label =
     read_label table.items c.args.slot _ c.index-label.result.now c.index-label.ensures c.requires table.ok.0 in
     let push = c.in_ok-push.ensures in
-    put_by c.args.self.now _ c.args.node c.args.slot c.args.dist c.index-label.result.now refl
+    put_by c.args.self.now _ c.args.slot c.args.dist c.index-label.result.now refl
     (omega arith) label c.if-dist-label.true c.in_ok-note.ensures.noted
     push.there push.kept refl push.len
