@@ -12,6 +12,9 @@ use std::io::{BufReader, Read};
 /// The most bytes that are read at once, 256 KB.
 const BLOCK: usize = 1 << 18;
 
+/// The length of a short line, in bytes. Most lines are short.
+const SHORT: usize = 63;
+
 /// Whether a byte ends a record outside of quotes.
 pub(crate) fn ends_line(byte: u8) -> bool
     ensures { result ≡ is_line_end byte }
@@ -50,14 +53,20 @@ fn length_if(whole: bool, length: usize) -> Option<usize>
 }
 
 /// The length of the line that bytes begin with, and of the empty lines before it: csv reads a whole record from these
-/// bytes. None if that line doesn't end or has a quote.
-#[tactic(auto, using(crate::proofs::WholeLines::line_found, crate::proofs::WholeLines::no_line))]
+/// bytes. None if that line doesn't end or has a quote. The first bytes, a short line, are searched by themselves, since
+/// a search of many bytes takes longer where it ends.
+#[tactic(auto, using(crate::proofs::WholeLines::line_found, crate::proofs::WholeLines::no_line, crate::proofs::WholeLines::last_line_found, crate::proofs::WholeLines::no_last_line))]
 fn whole_length(bytes: &[u8]) -> Option<usize>
     ensures { is_some result ≡ has_line false bytes.now }
 {
     let line = after_empty_lines(bytes);
-    match memchr3(b'\n', b'\r', b'"', line) {
-        Some(i) => length_if(line[i] != b'"', bytes.len() - line.len() + i + 1),
+    let before = bytes.len() - line.len();
+    let (front, rest) = line.split_at(SHORT.min(line.len()));
+    if let Some(i) = memchr3(b'\n', b'\r', b'"', front) {
+        return length_if(front[i] != b'"', before + i + 1);
+    }
+    match memchr3(b'\n', b'\r', b'"', rest) {
+        Some(i) => length_if(rest[i] != b'"', before + front.len() + i + 1),
         None => None,
     }
 }
