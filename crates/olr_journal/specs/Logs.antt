@@ -31,6 +31,10 @@ module _ {D F : Type 0} {d : disk.Ghosts D} {f : folder.Ghosts F D} where
   abbrev pub is_ready : LogFile D F d f → Bool
   is_ready log = log.is_settled
 
+  -- a call failed, and nothing more can be kept
+  abbrev pub is_broken_of : LogFile D F d f → Bool
+  is_broken_of log = log.is_broken
+
   -- the disk has done what it reported
   abbrev pub is_clean : LogFile D F d f → Bool
   is_clean log = d.is_clean log.disk

@@ -1,6 +1,6 @@
 //! A log in a file: text, and carriage returns behind it.
 
-ghost use Rattle.std.specs.Prelude.{◌≡◌, ◌⊎◌, ◌+◌, ◌-◌, ◌<◌, ◌≤◌, ℕ, List, ◌++◌, length, replicate, true, false, if◌then◌else◌, IsTrue, IfOk, OnOk, OnErr, IsNone, IsSome, ⊤, MatchOption, Option};
+ghost use Rattle.std.specs.Prelude.{◌≡◌, ◌⊎◌, ◌+◌, ◌-◌, ◌<◌, ◌≤◌, ℕ, List, ◌++◌, length, replicate, true, false, if◌then◌else◌, IsTrue, IfOk, OnOk, OnErr, IsErr, IsNone, IsSome, ⊤, MatchOption, Option};
 ghost use Rattle.sqlite_disk.specs.Disk.{Only};
 ghost use Rattle.olr_sessions.specs.Journals.{IsFront, is_whole};
 ghost use Rattle.olr_journal.specs.Texts.{ends_blank, padded};
@@ -118,13 +118,22 @@ fn write_in_place<D: Disk + Drop, F: Folder<D>>(
 }
 
 impl<D: Disk + Drop, F: Folder<D>> Journal for LogFile<D, F> {
-    ghost use Rattle.olr_journal.specs.Logs.{kept_of, left_of, refusal_of, is_own_of, is_ready};
+    ghost use Rattle.olr_journal.specs.Logs.{kept_of, left_of, refusal_of, is_own_of, is_ready, is_broken_of};
 
     ghost kept = { λ j. kept_in j.is_own j.text_len (D.Disk.seen j.disk) };
 
     ghost may_leave = { λ j. MayLeave D.Disk.is_clean D.Disk.may_leave (F.Folder.may_lead j.folder) j.number j.disk j.rival };
 
-    fn keep(&mut self, records: &[u8]) -> io::Result<()> {
+    fn keep(&mut self, records: &[u8]) -> io::Result<()>
+        requires { IsTrue (is_whole records.now) }
+        ensures kept { OnOk result (kept_of self.new ≡ kept_of self.old ++ records.now) }
+        ensures durable { OnOk result (Only (kept_of self.new) (left_of self.new)) }
+        ensures cut { (c : List ℕ) → left_of self.new c → left_of self.old c
+            ⊎ ((front : List ℕ) × IsFront records.now front × (c ≡ kept_of self.old ++ front)) }
+        ensures ready { OnOk result (is_ready self.new ≡ true) }
+        ensures broken { OnErr result (is_broken_of self.new ≡ true) }
+        ensures unready { is_ready self.old ≡ false → IsErr result }
+    {
         let is_settled = self.is_settled;
         self.is_settled = false;
         self.is_broken = true;
@@ -155,6 +164,8 @@ impl<D: Disk + Drop, F: Folder<D>> Journal for LogFile<D, F> {
         ensures own { IfOk result (λ done. done ≡ true → is_own_of self.new ≡ true) }
         ensures unready { IfOk result (λ done. done ≡ false → is_ready self.new ≡ is_ready self.old) }
         ensures refused { IfOk result (λ done. done ≡ false → IsSome (refusal_of self.new)) }
+        ensures broken { OnErr result (is_broken_of self.new ≡ true) }
+        ensures again { is_broken_of self.old ≡ true → IsErr result }
     {
         if self.is_broken {
             return Err(io::ErrorKind::InvalidInput.into());

@@ -1,6 +1,6 @@
 //! Opening a log, and closing it.
 
-ghost use Rattle.std.specs.Prelude.{◌≡◌, ◌⊎◌, ◌+◌, true, false, ℕ, List, ◌∷◌, length, IsTrue, IfOk, IsOk, OnOk};
+ghost use Rattle.std.specs.Prelude.{◌≡◌, ◌⊎◌, ◌+◌, true, false, ℕ, List, ◌∷◌, length, IsTrue, IfOk, IsOk, IsErr, OnOk, OnErr};
 ghost use Rattle.std.specs.Io.KnownBytes.{Appends};
 ghost use Rattle.olr_sessions.specs.Journals.{Only};
 ghost use Rattle.olr_journal.specs.Texts.{text_of, is_own, left_behind};
@@ -16,7 +16,7 @@ use std::io;
 use std::io::Write;
 
 impl<D: Disk + Drop, F: Folder<D>> LogFile<D, F> {
-    ghost use Rattle.olr_journal.specs.Logs.{kept_of, file_of, folder_of, refusal_of, is_own_of, is_ready, left_over_of, left_of, is_clean};
+    ghost use Rattle.olr_journal.specs.Logs.{kept_of, file_of, folder_of, refusal_of, is_own_of, is_ready, is_broken_of, left_over_of, left_of, is_clean};
 
     /// Syncs the file and finds the end of its text. It changes nothing.
     pub fn open(alloc: Global, disk: D, folder: F) -> io::Result<LogFile<D, F>>
@@ -27,6 +27,7 @@ impl<D: Disk + Drop, F: Folder<D>> LogFile<D, F> {
         ensures rest { IfOk result (λ log. is_clean log ≡ true → left_over_of log ≡ left_behind (D.Disk.seen disk)) }
         ensures same { IfOk result (λ log. file_of log ≡ D.Disk.seen disk) }
         ensures unready { IfOk result (λ log. is_ready log ≡ false) }
+        ensures unbroken { IfOk result (λ log. is_broken_of log ≡ false) }
         ensures folder { IfOk result (λ log. folder_of log ≡ folder) }
         ensures durable { IfOk result (λ log. Only (kept_of log) (left_of log)) }
     {
@@ -76,6 +77,8 @@ impl<D: Disk + Drop, F: Folder<D>> LogFile<D, F> {
 
     /// Writes these bytes.
     pub fn copy_left_over<W: Write>(&mut self, alloc: Global, to: &mut W) -> io::Result<()>
+        ensures none { is_ready self.old ≡ true → IsOk result }
+        ensures foreign { is_own_of self.old ≡ false → IsOk result }
         ensures copied { OnOk result (is_clean self.new ≡ true → Appends (W.contents to.old) (W.contents to.new) (left_over_of self.old)) }
         ensures kept { kept_of self.new ≡ kept_of self.old }
         ensures own { is_own_of self.new ≡ is_own_of self.old }
@@ -103,6 +106,8 @@ impl<D: Disk + Drop, F: Folder<D>> LogFile<D, F> {
         ensures kept { OnOk result (is_clean self.new ≡ true → kept_of self.new ≡ kept_of self.old) }
         ensures ready { OnOk result (is_ready self.new ≡ true) }
         ensures again { is_ready self.old ≡ true → IsOk result }
+        ensures foreign { is_own_of self.old ≡ false → IsErr result }
+        ensures broken { is_broken_of self.old ≡ true → IsErr result }
         ensures padded { OnOk result (is_clean self.new ≡ true → IsPaddedText (kept_of self.old) (file_of self.new)) }
         ensures durable { OnOk result (Only (kept_of self.new) (left_of self.new)) }
         ensures cut { (c : List ℕ) → left_of self.new c → left_of self.old c ⊎ (c ≡ kept_of self.old) }
@@ -131,6 +136,7 @@ impl<D: Disk + Drop, F: Folder<D>> LogFile<D, F> {
 
     /// The text.
     pub fn text(&mut self, alloc: Global) -> io::Result<Vec<u8>>
+        ensures broken { is_broken_of self.old ≡ true → IsErr result }
         ensures text { IfOk result (λ text. is_clean self.new ≡ true → text.items ≡ kept_of self.old) }
         ensures kept { kept_of self.new ≡ kept_of self.old }
         ensures own { is_own_of self.new ≡ is_own_of self.old }
@@ -152,6 +158,7 @@ impl<D: Disk + Drop, F: Folder<D>> LogFile<D, F> {
         ensures same { is_ready self.old ≡ false → file_of self.new ≡ file_of self.old }
         ensures unready { is_ready self.new ≡ false }
         ensures again { is_ready self.old ≡ false → IsOk result }
+        ensures broken { OnErr result (is_broken_of self.new ≡ true) }
         ensures cut { (c : List ℕ) → left_of self.new c → left_of self.old c ⊎ (c ≡ kept_of self.old) }
     {
         if !self.is_settled {
