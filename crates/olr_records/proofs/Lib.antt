@@ -1,6 +1,6 @@
 pub mod Common
 pub mod OnLiterals
-mod TestLemmas
+pub mod TestLemmas
 pub mod FieldLemmas
 pub mod LoopLemmas
 pub mod PartLemmas

@@ -39,7 +39,7 @@ just g (Err e) P h = tt
 
 -- ---- fields
 
-digit_plain : (c : ℕ) → is_ascii_digit c ≡ true → is_name_byte c ≡ true
+pub digit_plain : (c : ℕ) → is_ascii_digit c ≡ true → is_name_byte c ≡ true
 digit_plain c h = grind arith
 
 are_plain : (f : List ℕ) → are_digits f ≡ true → Plain f

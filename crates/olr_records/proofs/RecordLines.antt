@@ -16,6 +16,7 @@ use Rattle.csv.specs.Quoting.{needs_byte}
 use Rattle.csv.specs.Reading.{records, records_from, default_config, strip_bom}
 use Rattle.csv.specs.Writing.{read_back, default_writer, field_text, fields_text, row_text, quoted, is_blank}
 use Rattle.csv.proofs.RoundTrip.{read-write}
+use Rattle.olr_records.proofs.PlainLemmas.{digit_plain}
 use Rattle.olr_records.proofs.TestLemmas.{and_three, and_four, and_five, all_weaker, ◌also◌}
 use Rattle.csv.specs.declared.parser.State.TheVariants as st
 
@@ -27,11 +28,8 @@ Plain f = list_all is_name_byte f ≡ true
 abbrev AllPlain : List Field → Type 0
 AllPlain fs = AllByRecursion Plain fs
 
-digit_byte : (c : ℕ) → is_ascii_digit c ≡ true → is_name_byte c ≡ true
-digit_byte c h = grind (arith, nat_tests)
-
 digits_plain : (f : Field) → list_all is_ascii_digit f ≡ true → Plain f
-digits_plain f h = all_weaker is_ascii_digit is_name_byte digit_byte f h
+digits_plain f h = all_weaker is_ascii_digit is_name_byte digit_plain f h
 
 decimal_plain : (n : ℕ) → n < 2 ^ 64 → Plain (decimal n)
 decimal_plain n small = digits_plain (decimal n) (digits_decimal own n small)

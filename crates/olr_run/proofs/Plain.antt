@@ -11,6 +11,7 @@ use Rattle.olr_commands.specs.State.{Dump, Explain, Begin, Commit, Abort, Show_n
 use Rattle.olr_records.specs.Records.{Field, Read, ◌⊛◌, number, amount, name, numbers, edit, one, none, node_record, max32}
 use Rattle.olr_records.specs.Records.{forms, read, read_by, few_nodes, depends_record, ambiguous_record, line_record}
 use Rattle.olr_records.specs.Records.{set_line_record, path_fields}
+use Rattle.olr_records.proofs.TestLemmas.{◌also◌}
 use Rattle.olr_records.proofs.PlainLemmas.{Plain, AllPlain, Where, digits_plain, name_plain, node_plain, one_plain}
 use Rattle.olr_records.proofs.PlainLemmas.{line_plain, set_line_plain, path_fields_plain}
 use Rattle.olr_sessions.specs.KeptLines.{effect_of, word_effect, has_line, is_clean, is_clean_byte}
@@ -91,11 +92,6 @@ by_fits (r ∷ rs) h word fs = by_word (same_name word r.0) refl (by_fits rs h.1
     by_word true e rest =
         rw e (subst (λ (w : Field). IfOk (r.1 fs) (KeptAs w fs)) (sym (same_text word r.0 e)) (h.0 fs))
     by_word false e rest = rw e rest
-
--- a fact, and those after it
-infixr 20 ◌also◌
-◌also◌ : {A B : Type 0} → A → B → A × B
-a also b = (a, b)
 
 forms_fit : AllByRecursion (λ r. Fits r.0 r.1) forms
 forms_fit =
