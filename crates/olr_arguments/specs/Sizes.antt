@@ -4,10 +4,8 @@
 --     IsSize text n      a text names this number of bytes, from 1 on and of 64 bits at most: a decimal number, perhaps behind a
 --         plus sign, of such units
 --     IsLength asked length      the least length of a log that is compacted, if what was asked for is a size
---     HasSize asked is      no size was asked for, or what was is a size, or not
-use Rattle.std.specs.Prelude.{◌≡◌, ◌*◌, ◌-◌, ◌^◌, ◌<◌, ◌==◌, ℕ, Bool, true, List, Option, Some, None, take, length, slice_index, if◌then◌else◌}
+use Rattle.std.specs.Prelude.{◌≡◌, ◌*◌, ◌-◌, ◌^◌, ◌<◌, ◌==◌, ℕ, List, Option, Some, None, take, length, slice_index, if◌then◌else◌}
 use Rattle.std.specs.Prelude.{MatchOption}
-use Rattle.std.specs.Bool.{MatchBool}
 use Rattle.std.specs.Str.Parse.{IsNumeral, digits_value, without_leading_plus}
 
 abbrev pub last_byte : List ℕ → ℕ
@@ -34,7 +32,3 @@ NoSize text = (n : ℕ) → IsSize text n → ⊥
 abbrev pub IsLength : Option (List ℕ) → Option ℕ → Type 0
 IsLength None length = length ≡ Some (2 ^ 64 - 1)
 IsLength (Some text) length = MatchOption length (NoSize text) (IsSize text)
-
-abbrev pub HasSize : Option (List ℕ) → Bool → Type 0
-HasSize None is = is ≡ true
-HasSize (Some text) is = MatchBool is ((n : ℕ) × IsSize text n) (NoSize text)
