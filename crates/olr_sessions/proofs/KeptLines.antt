@@ -7,7 +7,6 @@ use Rattle.std.specs.List.{join_with_byte}
 use Rattle.std.proofs.Common.{◌<◌, zero, suc, take, get_or, unwrap_or, Some, None}
 use Rattle.csv.specs.Records.{field_at}
 use Rattle.std.specs.Str.{bytes_eq}
-use Rattle.std.proofs.lemmas.Grind.{same_number_lists}
 use Rattle.std.proofs.lemmas.Slice.Eq.{bytes_eq-Decides}
 use Rattle.olr_sessions.specs.Journals.{stays_open, is_empty, is_whole, is_whole_from, IsFront}
 use Rattle.olr_sessions.specs.KeptLines.{is_change, is_clean, effect_by, word_effect, has_line, line_of}
@@ -136,12 +135,6 @@ chosen word alone = refl
 
 pub same_text : (a b : List ℕ) → bytes_eq a b ≡ true → a ≡ b
 same_text a b h = grind (arith, bytes_eq-Decides a b)
-
-pub same_bytes : (a b : List ℕ) → length a ≡ length b → ((k : ℕ) → k < length b → get_or a k 0 ≡ get_or b k 0) →
-    bytes_eq a b ≡ true
-same_bytes a b len each =
-    let same : a ≡ b = same_number_lists a b len (λ k l. each k (omega (arith, l, len))) in
-    grind (arith, bytes_eq-Decides a b, same)
 
 nonzero : (n : ℕ) → (suc n == 0) ≡ false
 nonzero n = grind arith

@@ -38,19 +38,11 @@ fn is_clean(text: &[u8]) -> bool
     memchr2(b'\n', b'\r', text).is_none()
 }
 
-/// Whether a word is this text, which is short: byte by byte is fastest.
+/// Whether a word is this text, byte by byte: words are short, and `==` of slices is made for longer ones.
 fn is(word: &[u8], text: &[u8]) -> bool
     ensures { result ≡ bytes_eq word.now text.now }
 {
-    if word.len() != text.len() {
-        return false;
-    }
-    for i in 0..text.len() {
-        if word[i] != text[i] {
-            return false;
-        }
-    }
-    true
+    word.iter().eq(text)
 }
 
 /// Whether a word is that of a record that changes the map or the paths.
