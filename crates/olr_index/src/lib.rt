@@ -1,7 +1,8 @@
 //! A relation between numbers and path ids: which path ids a number has is found by the number.
 #![tactic(auto)]
 
-ghost use Rattle.std.specs.Prelude.{◌≡◌, ◌||◌, ◌==◌, ◌&&◌, not, ℕ, OnOk, OnErr};
+ghost use Rattle.std.specs.Prelude.{◌≡◌, ◌<◌, ◌||◌, ◌==◌, ◌&&◌, not, ℕ, None, nat_eq, OnOk, OnErr};
+ghost use Rattle.std.specs.HashMap.{get};
 ghost use Rattle.std.specs.List.Sorted.{IsStrictlyIncreasing};
 ghost use Rattle.olr_spec.specs.Map.{has};
 ghost use Rattle.olr_index.specs.Listed.{path_ids_in};
@@ -19,14 +20,21 @@ type PathIds = SmallVec<u64, 1>;
 #[derive(Debug)]
 pub struct Index {
     path_ids: HashMap<u32, PathIds, BuildHasherDefault<NumberHasher>>,
+    /// No greater number has an entry: such a number isn't looked up.
+    greatest: u32,
     alloc: Global,
     ghost ascend: { (number : ℕ) → IsStrictlyIncreasing (path_ids_in path_ids number) },
+    ghost none_above: { (number : ℕ) → greatest < number → get nat_eq path_ids number ≡ None },
 }
 
 // Written out: a derived drop is proved again in each crate that ends an index.
 impl Drop for Index {
     fn drop(self) {
-        let Index { path_ids, alloc: _ } = self;
+        let Index {
+            path_ids,
+            greatest: _,
+            alloc: _,
+        } = self;
         drop(path_ids);
     }
 }
@@ -43,6 +51,7 @@ impl Index {
     {
         Index {
             path_ids: HashMap::with_hasher(alloc, BuildHasherDefault::new()),
+            greatest: 0,
             alloc,
         }
     }
@@ -52,6 +61,9 @@ impl Index {
         ensures path_ids { result.now ≡ path_ids_of self.now number }
         ensures ascending { IsStrictlyIncreasing result.now }
     {
+        if number > self.greatest {
+            return &[];
+        }
         match self.path_ids.get(&number) {
             Some(path_ids) => path_ids.as_slice(),
             None => &[],
@@ -77,6 +89,7 @@ impl Index {
         }
         let mut path_ids = SmallVec::new(self.alloc);
         path_ids.push(path_id)?;
+        self.greatest = self.greatest.max(number);
         self.path_ids.insert(number, path_ids)?;
         Ok(())
     }
