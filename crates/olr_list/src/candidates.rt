@@ -3,7 +3,11 @@ ghost use Rattle.std.specs.Prelude.{◌≡◌, ◌<◌, ◌≤◌, ℕ, [], Some
 ghost use Rattle.std.specs.Prelude.{IfOk, OnOk};
 ghost use Rattle.std.specs.List.Sorted.{IsStrictlyIncreasing};
 ghost use Rattle.olr_spec.specs.Map.{Map, has, has_node};
+ghost use Rattle.std.specs.Prelude.{min};
+ghost use Rattle.olr_spec.specs.Extension.{limit};
+ghost use Rattle.olr_spec.specs.Detours.{Near};
 ghost use Rattle.olr_index.specs.PathIds.{path_ids_of};
+ghost use Rattle.olr_near.specs.Bounds.{IsRight, IsSource, IsUnderWay, SameBut};
 ghost use Rattle.olr_list.specs.Items.{items};
 ghost use Rattle.olr_list.specs.ChangeSets.{nodes_of, lines_of};
 ghost use Rattle.olr_list.specs.AffectedSearches.{AreAsked};
@@ -227,13 +231,25 @@ fn finds_none<T: Numbered>(index: &Index, items: &[T]) -> bool
             .all(|item| index.of(item.index_number()).is_empty())
 }
 
-/// Whether it is known without a search that edits affect no path of the list: all were encoded, none has a touched
-/// node or line, and no coverage query reaches a touched node.
-pub fn affects_none(list: &PathList, touched: &ChangeSet, bounds: &DistanceBounds) -> bool
-    ensures { IsTrue result → (N : Map) → AreBoundsOf N bounds.now (items list.now)
-        → Covers N (nodes_of touched.now) (lines_of touched.now) (items list.now) [] }
+/// Whether it is known that no coverage query reaches a touched node, so that the edits leave the bounds right.
+fn are_spared(bounds: &DistanceBounds, touched: &ChangeSet) -> bool
+    ensures far { IsTrue result → (N : Map) (s w : ℕ) → IsRight N bounds.now → IsSource bounds.now s w
+        → ¬ Near N (nodes_of touched.now) s (min w limit) }
+    ensures right { IsTrue result → (M N : Map) → SameBut (nodes_of touched.now) M N → IsUnderWay M bounds.now
+        → IsRight N bounds.now }
 {
-    if list.held || !list.finder.indexed || !bounds.is_far(touched.nodes()) {
+    bounds.is_settled() && bounds.is_far(touched.nodes())
+}
+
+/// Whether it is known without a search that edits affect no path of the list: all were encoded, none has a touched
+/// node or line, and no coverage query reaches a touched node. If so, the edits leave the bounds right.
+pub fn affects_none(list: &PathList, touched: &ChangeSet, bounds: &DistanceBounds) -> bool
+    ensures covers { IsTrue result → (N : Map) → AreBoundsOf N bounds.now (items list.now)
+        → Covers N (nodes_of touched.now) (lines_of touched.now) (items list.now) [] }
+    ensures right { IsTrue result → (M N : Map) → SameBut (nodes_of touched.now) M N → IsUnderWay M bounds.now
+        → IsRight N bounds.now }
+{
+    if list.held || !list.finder.indexed || !are_spared(bounds, touched) {
         return false;
     }
     finds_none(&list.finder.traversed, touched.nodes())

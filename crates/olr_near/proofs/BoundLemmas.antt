@@ -203,6 +203,17 @@ pub reopened_under_way : (M N : Map) (T : List ℕ) (f g : DistanceBounds) → I
     IsUnderWay N g
 reopened_under_way M N T f g r same under is u d at = grind (arith, bound_of, get, nat_eq, cases_Bool, has, closed_same)
 
+-- where none of the nodes has a bound, no line has to be followed again
+pub spared_under_way : (M N : Map) (T : List ℕ) (f : DistanceBounds) → ((v : ℕ) → IsTrue (has T v) → bound_of f v ≡ None) →
+    SameBut T M N → IsUnderWay M f → IsUnderWay N f
+spared_under_way M N T f none same under is u d at = elim (cases_Bool (has T u)) [
+  | inl on ↦ let no : ◌≡◌ {A = Option ℕ} None (Some d) = sym (none u on) ∙ at in absurd cc
+  | inr off ↦ elim (under is u d at) [
+    | inl closed ↦ inl (closed_same M N (bound_of f) u d (same u off) closed)
+    | inr w ↦ inr w
+  ]
+]
+
 -- ---- the law
 
 -- a route within the limit leads from a node with a bound to a node with a bound

@@ -102,12 +102,22 @@ impl DistanceBounds {
         self.known = false;
     }
 
-    /// Whether it is known that no query reaches one of the nodes.
+    /// Whether the bounds are settled: no node is queued.
+    pub fn is_settled(&self) -> bool
+        ensures { IsTrue result → (M : Map) → IsUnderWay M self.now → IsRight M self.now }
+    {
+        self.waiting.is_empty()
+    }
+
+    /// Whether it is known that no query reaches one of the nodes. If so, edits that touch no other nodes leave the bounds
+    /// as right as they are.
     pub fn is_far(&self, nodes: &[NodeId]) -> bool
         ensures far { IsTrue result → (M : Map) (s w : ℕ) → IsRight M self.now → IsSource self.now s w
             → ¬ Near M nodes.now s (min w limit) }
         ensures exact { IsTrue result
             ↔ (IsTrue self.now.known × ((v : ℕ) → IsTrue (has nodes.now v) → bound_of self.now v ≡ None)) }
+        ensures spared { IsTrue result → (M N : Map) → SameBut nodes.now M N → IsUnderWay M self.now
+            → IsUnderWay N self.now }
     {
         if !self.known {
             return false;

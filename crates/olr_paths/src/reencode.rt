@@ -1,8 +1,10 @@
 //! Encodes again the paths whose answer a change of the map may have changed, in place or in a list under changes.
-ghost use Rattle.std.specs.Prelude.{◌≡◌, ◌⊎◌, Contains, IfSome, IfOk, OnOk, OnErr};
+ghost use Rattle.std.specs.Prelude.{◌≡◌, ◌⊎◌, Contains, IsSome, IfSome, IfOk, OnOk, OnErr};
 ghost use Rattle.olr_spec.specs.Map.{Map, IsMap};
 ghost use Rattle.olr_commands.specs.State.{NamesDiffer};
 ghost use Rattle.olr_spec.specs.Queries.{CoverageQuery as QueryRecord};
+ghost use Rattle.olr_near.specs.Bounds.{IsRight, IsUnderWay, SameBut};
+ghost use Rattle.olr_list.specs.ChangeSets.{nodes_of};
 ghost use Rattle.olr_list.specs.Items.{items, all_named};
 ghost use Rattle.olr_list.specs.Overlaid.{RemovesNone, overlay_changes, under_overlay};
 ghost use Rattle.olr_list.specs.Origins.{Begins, AreBoundsOf, new_origins_in};
@@ -56,17 +58,20 @@ fn renew_overlaid<M: MapRead>(
     Ok(renewed)
 }
 
-/// The renewal of a list without changes, if it is known without a search that the edits affect none of its paths:
-/// nothing is reported or counted. None if that is not known. Takes no memory.
+/// The renewal of a list without changes, if it is known without a search that edits affect none of its paths: nothing
+/// is reported or counted, and the bounds are right on the map after the edits. None if that is not known. Takes no
+/// memory.
 pub fn renew_unaffected(
     list: &PathList,
     alloc: Global,
     touched: &ChangeSet,
     bounds: &DistanceBounds,
 ) -> Option<Renewed>
-    ensures { IfSome result (λ r. (L N : Map) → IsMap N → WasBefore L N touched.now (items list.now)
+    ensures renewed { IfSome result (λ r. (L N : Map) → IsMap N → WasBefore L N touched.now (items list.now)
         → AreBoundsOf N bounds.now (items list.now)
         → IsRenewal N touched.now (items list.now) (items list.now) (items list.now) r) }
+    ensures right { IsSome result → (M N : Map) → SameBut (nodes_of touched.now) M N → IsUnderWay M bounds.now
+        → IsRight N bounds.now }
 {
     // For the proof alone: no name occurs twice.
     let _names = list.len();

@@ -43,7 +43,7 @@ pub use Rattle.olr_register.specs.Recordables.{is_recordable_line_at, is_recorda
 pub use Rattle.olr_register.specs.Contents.{AreEditsNoted, CanRenew, HasBounds, IsHeld, IsKeptRight, batch_of}
 pub use Rattle.olr_register.specs.Contents.{content_on, content_under, held_of, kept_of, map_kept}
 pub use Rattle.olr_register.specs.BatchChanges.{AreGiven, ByContent, HoldsChange, Lacks, MayReport, change_of, path_by}
-pub use Rattle.olr_register.specs.EditNotes.{IsNotedOf}
+pub use Rattle.olr_register.specs.EditNotes.{CanRenewAfter, IsEditMade, IsNotedOf}
 pub use Rattle.olr_register.specs.RegisterState.{IsBatchOf, RegisterState, Represents, named_held}
 pub use Rattle.olr_register.specs.Registered.{Registered}
 pub use Rattle.olr_register.specs.CountChanges.{encodes}

@@ -2,6 +2,7 @@ pub mod Common
 pub mod Ambiguous
 pub mod Asking
 pub mod DumpTexts
+pub mod EditsMade
 pub mod BatchSteps
 pub mod Noted
 pub mod Bounded

@@ -11,7 +11,7 @@ use Rattle.olr_register.proofs.Common.{command_fault_of, Reply, CommandFault, ch
 use Rattle.olr_register.proofs.Common.{Item, IsEncodingOf, AreEncodings, all_named, answer_in, Totals, SearchedAlone}
 use Rattle.olr_register.proofs.Common.{AreCounted, set_item, IsRenewal, nodes_of, lines_of, changed_of}
 use Rattle.olr_register.proofs.Common.{ChangeSet, follows_self, has_name, Registered, content_on, items, kept_of}
-use Rattle.olr_register.proofs.Common.{HasBounds, IsKeptRight, CanRenew, MayReport, ByContent, Lacks, Answered}
+use Rattle.olr_register.proofs.Common.{HasBounds, IsKeptRight, CanRenewAfter, MayReport, ByContent, Lacks, Answered}
 use Rattle.olr_register.proofs.Common.{IsNotedOf, encodes, begins_drop, append-nil, Option}
 use Rattle.olr_register.specs.Contents.{option_batch}
 use Rattle.olr_search.specs.Counts.{raised_count, raised_work}
@@ -121,6 +121,17 @@ module _ (r : Inside) {x : Registered} (view : of_parts r.roads (items r.paths) 
 
     -- ---- edits
 
+    pub can_edit : (e : Edit) (t : ChangeSet) → IsNotedOf M e t → CanRenewAfter M e is t r.bounds
+    can_edit e t noted N done = record {
+      names = right.register.content.names;
+      follows = follows_self is right.register.content.names;
+      bounded = right.bounded;
+      before =
+          is_before M N (nodes_of t) (lines_of t) (changed_of t) is
+          (noted_edit M N e (nodes_of t) (lines_of t) (changed_of t) done noted.nodes noted.lines noted.changed)
+          right.register.content.map right.register.content.paths (made_if_any M is right.register.made);
+    }
+
     module _ (e : Edit) (later : RoadMap) (done : edited M e ≡ Ok (map_of later)) where
       -- where there are no paths
       bare_ok : is ≡ [] → with_change c (On_map e) ≡ Ok (content_on (map_of later) [])
@@ -138,44 +149,32 @@ module _ (r : Inside) {x : Registered} (view : of_parts r.roads (items r.paths) 
           (record { affected = refl; retained = refl; queries = refl }) (counted_none (map_of later) r.work r.retained)
           (λ off. let no : true ≡ false = off in absurd cc))
 
-      module _ (t : ChangeSet) (noted : IsNotedOf M e t) where
-        pub can_edit : CanRenew M (map_of later) is is t r.bounds
-        can_edit = record {
-          names = right.register.content.names;
-          follows = follows_self is right.register.content.names;
-          bounded = right.bounded;
-          before =
-              is_before M (map_of later) (nodes_of t) (lines_of t) (changed_of t) is
-              (noted_edit M (map_of later) e (nodes_of t) (lines_of t) (changed_of t) done noted.nodes
-              noted.lines noted.changed) right.register.content.map right.register.content.paths
-              (made_if_any M is right.register.made);
-        }
+      module _ (t : ChangeSet) (noted : IsNotedOf M e t) (js : List Item) (n : Renewed)
+          (renewal : IsRenewal (map_of later) t is is js n) where
+        edit_ok : with_change c (On_map e) ≡ Ok (content_on (map_of later) js)
+        edit_ok =
+            ap (with_map c) done
+            ∙ ap (λ (ps : List Named). Ok (record { map = map_of later; paths = ps })) (sym renewal.named)
 
-        module _ (js : List Item) (n : Renewed) (renewal : IsRenewal (map_of later) t is is js n) where
-          edit_ok : with_change c (On_map e) ≡ Ok (content_on (map_of later) js)
-          edit_ok =
-              ap (with_map c) done
-              ∙ ap (λ (ps : List Named). Ok (record { map = map_of later; paths = ps })) (sym renewal.named)
+        pub edit_right : (f : DistanceBounds) → HasCoord e → HasBounds (map_of later) js f → IsKeptRight later js r.batch f
+        edit_right f placed bounded =
+            still_right (On_map e) later js f placed edit_ok (remade_made (map_of later) is js renewal.remade) bounded
 
-          pub edit_right : (f : DistanceBounds) → HasCoord e → HasBounds (map_of later) js f → IsKeptRight later js r.batch f
-          edit_right f placed bounded =
-              still_right (On_map e) later js f placed edit_ok (remade_made (map_of later) is js renewal.remade) bounded
-
-          pub edit_done : (q : Reply) → reply_of q ≡ replies.Paths (entries_of n) →
-              Answered x (Make (On_map e)) (Ok q) (of_parts later js r.batch (raised_work r.work n.work)
-              (raised_count r.retained n.retained))
-          edit_done q says =
-              let count = renewal.counted M can_edit.before in
-              accepted_now (On_map e) later js _ _ q count.0 edit_ok
-              (rw says (planned_changes M (map_of later) is js (entries_of n) right.register.content
-              right.register.made (remade_made (map_of later) is js renewal.remade) renewal.reported))
-              (counted_changes c (content_on (map_of later) js) (On_map e ∷ []) (nodes_of t) (lines_of t) (changed_of t)
-              (λ v. noted.nodes v ∙ ap (λ (vs : List ℕ). has vs v) (sym (append-nil (touched_nodes M e))))
-              (λ y. noted.lines y ∙ ap (λ (ys : List ℕ). has ys y) (sym (append-nil (touched_lines e))))
-              (noted.changed ∙ sym (append-nil (changes_of M e))) is count.0 count.1
-              (given_at_first M is right.register.made) (all_named js) renewal.named)
-              (counted_on (map_of later) count.0 r.work n.work r.retained n.retained count.2)
-              (λ off. let no : true ≡ false = off in absurd cc)
+        pub edit_done : (q : Reply) → reply_of q ≡ replies.Paths (entries_of n) →
+            Answered x (Make (On_map e)) (Ok q) (of_parts later js r.batch (raised_work r.work n.work)
+            (raised_count r.retained n.retained))
+        edit_done q says =
+            let count = renewal.counted M (can_edit e t noted (map_of later) done).before in
+            accepted_now (On_map e) later js _ _ q count.0 edit_ok
+            (rw says (planned_changes M (map_of later) is js (entries_of n) right.register.content
+            right.register.made (remade_made (map_of later) is js renewal.remade) renewal.reported))
+            (counted_changes c (content_on (map_of later) js) (On_map e ∷ []) (nodes_of t) (lines_of t) (changed_of t)
+            (λ v. noted.nodes v ∙ ap (λ (vs : List ℕ). has vs v) (sym (append-nil (touched_nodes M e))))
+            (λ y. noted.lines y ∙ ap (λ (ys : List ℕ). has ys y) (sym (append-nil (touched_lines e))))
+            (noted.changed ∙ sym (append-nil (changes_of M e))) is count.0 count.1
+            (given_at_first M is right.register.made) (all_named js) renewal.named)
+            (counted_on (map_of later) count.0 r.work n.work r.retained n.retained count.2)
+            (λ off. let no : true ≡ false = off in absurd cc)
 
     -- ---- paths
 

@@ -6,11 +6,9 @@
 --     HasBounds M is bounds      each coverage query of the list is a source of the bounds, and once they are settled they are
 --         right on the map
 --     IsKeptRight      what is true of the whole
---     under_given is o      the list under the changes of the overlay, if one is given
 --     CanRenew M N is ls t bounds      the list ls, which the changes of a batch made of the list is, can be renewed after
 --         edits t that led from M to N
 use Rattle.std.specs.Prelude.{ℕ, ◌≤◌, List, [], map, Contains, Option, Some, None, is_none, IfSome, IsTrue}
-use Rattle.std.specs.Borrow.{Bor}
 use Rattle.olr_spec.specs.Map.{Map, has}
 use Rattle.olr_spec.specs.Detours.{ChangedLine, Difference}
 use Rattle.olr_spec.specs.Queries.{CoverageQuery, KnownQuery}
@@ -24,7 +22,6 @@ use Rattle.olr_list.specs.Items.{Item, Made, AreEncodings, AreEncodingsIfAny, al
 use Rattle.olr_paths.specs.Changes.{Follows, IsBefore}
 use Rattle.olr_list.specs.Origins.{Begins}
 use Rattle.olr_list.specs.Overlaid.{under_overlay}
-use Rattle.olr_list.specs.declared.overlay.Overlay.{Overlay}
 use Rattle.olr_list.specs.ChangeSets.{nodes_of, lines_of, changed_of}
 use Rattle.olr_list.specs.declared.change_set.ChangeSet.{ChangeSet}
 use Rattle.olr_register.specs.RegisterState as kept
@@ -111,10 +108,6 @@ pub record HasBounds (M : Map) (is : List Item) (bounds : DistanceBounds) : Type
 pub record IsKeptRight (roads : RoadMap) (is : List Item) (batch : Option Batch) (bounds : DistanceBounds) : Type 0 where
   pub register : IsRegister roads is batch
   pub bounded : HasBounds (map_kept roads batch) is bounds
-
-abbrev pub under_given : List Item → Option (Bor Overlay) → List Item
-under_given is None = is
-under_given is (Some o) = under_overlay is o.now
 
 pub record CanRenew (M N : Map) (is ls : List Item) (t : ChangeSet) (bounds : DistanceBounds) : Type 0 where
   pub names : NamesDiffer (all_named ls)

@@ -1,12 +1,32 @@
--- What is recorded of an edit that was judged.
+-- What is recorded of an edit that was judged, and what making it does to a map and a list.
 --     IsNotedOf M e t      what the edit touches and changes, and nothing else
-use Rattle.std.specs.Prelude.{◌≡◌, ℕ}
-use Rattle.olr_spec.specs.Map.{Map, Edit, touched_nodes, touched_lines, has}
+--     CanRenewAfter M e is t bounds      after the edit, which t records, the list can be renewed
+--     IsEditMade M N e t is js bounds result      the edit leads from M to N, and the list is is renewed to js; or,
+--         if an allocation failed, map and list are unchanged. The bounds are right either way
+use Rattle.std.specs.Prelude.{◌≡◌, ℕ, List, Result, Ok, OnOk, OnErr, IfOk}
+use Rattle.std.specs.declared.alloc.AllocError.{AllocError}
+use Rattle.olr_spec.specs.Map.{Map, Edit, edited, touched_nodes, touched_lines, has}
 use Rattle.olr_spec.specs.Detours.{changes_of}
 use Rattle.olr_list.specs.ChangeSets.{nodes_of, lines_of, changed_of}
 use Rattle.olr_list.specs.declared.change_set.ChangeSet.{ChangeSet}
+use Rattle.olr_list.specs.Items.{Item}
+use Rattle.olr_near.specs.declared.distance_bounds.DistanceBounds.{DistanceBounds}
+use Rattle.olr_paths.specs.Reencoded.{IsRenewal}
+use Rattle.olr_paths.specs.declared.renewal.Renewed.{Renewed}
+use Rattle.olr_register.specs.Contents.{HasBounds, CanRenew}
 
 pub record IsNotedOf (M : Map) (e : Edit) (t : ChangeSet) : Type 0 where
   pub nodes : (v : ℕ) → has (nodes_of t) v ≡ has (touched_nodes M e) v
   pub lines : (y : ℕ) → has (lines_of t) y ≡ has (touched_lines e) y
   pub changed : changed_of t ≡ changes_of M e
+
+abbrev pub CanRenewAfter : Map → Edit → List Item → ChangeSet → DistanceBounds → Type 0
+CanRenewAfter M e is t bounds = (N : Map) → edited M e ≡ Ok N → CanRenew M N is is t bounds
+
+pub record IsEditMade (M N : Map) (e : Edit) (t : ChangeSet) (is js : List Item) (bounds : DistanceBounds)
+    (result : Result Renewed AllocError) : Type 0 where
+  pub done : OnOk result (edited M e ≡ Ok N)
+  pub renewed : IfOk result (IsRenewal N t is is js)
+  pub bounded : HasBounds N js bounds
+  pub same_map : OnErr result (N ≡ M)
+  pub same_list : OnErr result (js ≡ is)

@@ -46,7 +46,7 @@ impl Register {
             self.alloc,
             &self.roads,
             &mut self.paths,
-            Some(&batch.overlay),
+            &batch.overlay,
             &batch.touched,
             &mut self.bounds,
             &mut self.searches,

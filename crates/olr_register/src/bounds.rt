@@ -6,13 +6,14 @@ ghost use Rattle.olr_map.specs.RoadMaps.{map_of};
 ghost use Rattle.olr_near.specs.Bounds.{IsUnderWay, IsSource, SameBut};
 ghost use Rattle.olr_list.specs.Items.{Item, items};
 ghost use Rattle.olr_list.specs.Origins.{AreBoundsOf, Begins, new_origins_in};
+ghost use Rattle.olr_list.specs.Overlaid.{under_overlay};
 ghost use Rattle.olr_paths.specs.Reencoded.{IsRenewal};
 ghost use Rattle.olr_list.specs.ChangeSets.{nodes_of};
-ghost use Rattle.olr_register.specs.Contents.{HasBounds, CanRenew, under_given};
+ghost use Rattle.olr_register.specs.Contents.{HasBounds, CanRenew};
 
 use olr_map::RoadMap;
 use olr_near::DistanceBounds;
-use olr_paths::{ChangeSet, Overlay, PathList, Renewed, Searches, renew_over, renew_unaffected};
+use olr_paths::{ChangeSet, Overlay, PathList, Renewed, Searches, renew_over};
 use olr_refs::CoverageQuery;
 use std::alloc::{AllocError, Global};
 
@@ -85,38 +86,28 @@ pub(crate) fn renew_bounds(
     bounds_from_scratch(alloc, bounds, paths);
 }
 
-/// Encodes the affected paths again after edits that led to the map, with the changes of an overlay if there is one, and
-/// adds their new coverage queries to the bounds. Without an overlay, little is done if it is known without a search that
-/// the edits affect no path. If an allocation fails, the list is unchanged, and the bounds are unknown.
+/// Encodes the affected paths again after edits that led to the map, with the changes of an overlay, and adds their new
+/// coverage queries to the bounds. If an allocation fails, the list is unchanged, and the bounds are unknown.
 #[inline(never)]
 pub(crate) fn renew(
     alloc: Global,
     roads: &RoadMap,
     paths: &mut PathList,
-    overlay: Option<&Overlay>,
+    overlay: &Overlay,
     touched: &ChangeSet,
     bounds: &mut DistanceBounds,
     searches: &mut Searches,
 ) -> Result<Renewed, AllocError>
     requires { (M : Map) × CanRenew M (map_of roads.now) (items paths.old)
-        (under_given (items paths.old) overlay) touched.now bounds.old }
+        (under_overlay (items paths.old) overlay.now) touched.now bounds.old }
     ensures renewed { IfOk result (IsRenewal (map_of roads.now) touched.now (items paths.old)
-        (under_given (items paths.old) overlay.entry) (items paths.new)) }
+        (under_overlay (items paths.old) overlay.now) (items paths.new)) }
     ensures bounded { OnOk result (HasBounds (map_of roads.now) (items paths.new) bounds.new) }
     ensures err { OnErr result (items paths.new ≡ items paths.old) }
     ensures unknown { OnErr result (IsFalse bounds.new.known) }
 {
     settle_bounds(bounds, roads, touched);
-    if overlay.is_none()
-        && let Some(renewed) = renew_unaffected(paths, alloc, touched, bounds)
-    {
-        return Ok(renewed);
-    }
-    let none = Overlay::new(alloc);
-    let overlay = overlay.unwrap_or(&none);
-    let renewed = renew_over(paths, alloc, roads, overlay, touched, bounds, searches);
-    drop(none);
-    match renewed {
+    match renew_over(paths, alloc, roads, overlay, touched, bounds, searches) {
         Ok(renewed) => {
             renew_bounds(alloc, bounds, paths, searches);
             Ok(renewed)

@@ -1,19 +1,22 @@
 //! Edits of the map that are made at once, outside a batch.
-ghost use Rattle.std.specs.Prelude.{◌≡◌, ◌≢◌, length, map as list_map, Ok, None, OnOk, OnErr, IfOk, IsTrue};
+ghost use Rattle.std.specs.Prelude.{◌≡◌, ◌≢◌, ℕ, length, map as list_map, None, OnOk};
 ghost use Rattle.std.specs.Option.{option_to_list};
-ghost use Rattle.olr_spec.specs.Map.{edited};
-ghost use Rattle.olr_roads.specs.Edits.{edit_of, allocates};
-ghost use Rattle.olr_map.specs.RoadMaps.{map_of, slot_of, CanUndo, map_undone};
+ghost use Rattle.olr_spec.specs.Map.{Map, Edit as EditRecord};
+ghost use Rattle.olr_roads.specs.Edits.{edit_of};
+ghost use Rattle.olr_map.specs.RoadMaps.{map_of, slot_of};
 ghost use Rattle.olr_map.specs.EditPlans.{IsEditPlan, planned_changes};
 ghost use Rattle.olr_list.specs.ChangeSets.{change_of};
-ghost use Rattle.olr_register.specs.EditNotes.{IsNotedOf};
+ghost use Rattle.olr_list.specs.Items.{items};
+ghost use Rattle.olr_register.specs.Contents.{HasBounds};
+ghost use Rattle.olr_register.specs.EditNotes.{IsNotedOf, CanRenewAfter, IsEditMade};
 
 use crate::bounds::renew;
 use crate::register::Register;
 use olr_commands::{CommandFault, Reply};
-use olr_map::{Edit, EditPlan, RoadMap, Undo, judge};
-use olr_paths::{ChangeSet, ChangedLine};
-use std::alloc::AllocError;
+use olr_map::{Edit, EditPlan, RoadMap, judge};
+use olr_near::DistanceBounds;
+use olr_paths::{ChangeSet, ChangedLine, Overlay, PathList, Renewed, Searches, renew_unaffected};
+use std::alloc::{AllocError, Global};
 
 /// The line that a judged edit changes: its ends, and the lesser of its lengths before and after. None if the edit is
 /// of a node.
@@ -28,25 +31,74 @@ pub(crate) fn line_changed(plan: &EditPlan) -> Option<ChangedLine>
     })
 }
 
-/// Records what a judged edit touches, and nothing else, and makes it. If an allocation fails, the map is unchanged.
-#[inline(never)]
-fn make_noted(
-    roads: &mut RoadMap,
-    touched: &mut ChangeSet,
-    edit: Edit,
-    plan: &EditPlan,
-) -> Result<Undo, AllocError>
-    requires { IsEditPlan (map_of roads.old) (slot_of roads.old) (edit_of edit) plan.now }
-    ensures noted { OnOk result (IsNotedOf (map_of roads.old) (edit_of edit) touched.new) }
-    ensures done { OnOk result (edited (map_of roads.old) (edit_of edit) ≡ Ok (map_of roads.new)) }
-    ensures same { OnErr result (map_of roads.new ≡ map_of roads.old) }
-    ensures can_undo { IfOk result (CanUndo roads.new) }
-    ensures before { IfOk result (λ undo. map_undone roads.new undo ≡ map_of roads.old) }
+/// Records what a judged edit touches, and nothing else.
+fn note_only(touched: &mut ChangeSet, plan: &EditPlan) -> Result<(), AllocError>
+    ensures { OnOk result ((M : Map) (slot : ℕ → ℕ) (e : EditRecord) → IsEditPlan M slot e plan.now
+        → IsNotedOf M e touched.new) }
 {
     touched.clear();
     touched.reserve()?;
     touched.note(plan.nodes, plan.line, line_changed(plan));
-    roads.make(edit, plan)
+    Ok(())
+}
+
+/// `make_and_renew`, where it is not known without a search that the edit affects no path.
+#[inline(never)]
+fn make_and_search(
+    alloc: Global,
+    roads: &mut RoadMap,
+    paths: &mut PathList,
+    edit: Edit,
+    plan: &EditPlan,
+    touched: &ChangeSet,
+    bounds: &mut DistanceBounds,
+    searches: &mut Searches,
+) -> Result<Renewed, AllocError>
+    requires plan { IsEditPlan (map_of roads.old) (slot_of roads.old) (edit_of edit) plan.now }
+    requires bounded { HasBounds (map_of roads.old) (items paths.old) bounds.old }
+    requires renewable { CanRenewAfter (map_of roads.old) (edit_of edit) (items paths.old) touched.now bounds.old }
+    ensures { IsEditMade (map_of roads.old) (map_of roads.new) (edit_of edit) touched.now (items paths.old)
+        (items paths.new) bounds.new result }
+{
+    let undo = roads.make(edit, plan)?;
+    let none = Overlay::new(alloc);
+    let renewed = renew(alloc, roads, paths, &none, touched, bounds, searches);
+    drop(none);
+    match renewed {
+        Ok(renewed) => {
+            roads.keep(undo);
+            Ok(renewed)
+        }
+        Err(error) => {
+            roads.undo(undo);
+            Err(error)
+        }
+    }
+}
+
+/// Makes a judged edit, and encodes the affected paths again. If it is known without a search that there are none, little
+/// more is done than to make the edit. If an allocation fails, map and list are unchanged.
+fn make_and_renew(
+    alloc: Global,
+    roads: &mut RoadMap,
+    paths: &mut PathList,
+    edit: Edit,
+    plan: &EditPlan,
+    touched: &ChangeSet,
+    bounds: &mut DistanceBounds,
+    searches: &mut Searches,
+) -> Result<Renewed, AllocError>
+    requires plan { IsEditPlan (map_of roads.old) (slot_of roads.old) (edit_of edit) plan.now }
+    requires bounded { HasBounds (map_of roads.old) (items paths.old) bounds.old }
+    requires renewable { CanRenewAfter (map_of roads.old) (edit_of edit) (items paths.old) touched.now bounds.old }
+    ensures { IsEditMade (map_of roads.old) (map_of roads.new) (edit_of edit) touched.now (items paths.old)
+        (items paths.new) bounds.new result }
+{
+    let Some(renewed) = renew_unaffected(paths, alloc, touched, bounds) else {
+        return make_and_search(alloc, roads, paths, edit, plan, touched, bounds, searches);
+    };
+    roads.make_kept(edit, plan)?;
+    Ok(renewed)
 }
 
 impl Register {
@@ -82,21 +134,17 @@ impl Register {
             Ok(plan) => plan,
             Err(fault) => return Err(CommandFault::Map(fault)),
         };
-        let undo = make_noted(&mut self.roads, &mut self.touched, edit, &plan)?;
-        let renewed = renew(
+        note_only(&mut self.touched, &plan)?;
+        let renewed = make_and_renew(
             self.alloc,
-            &self.roads,
+            &mut self.roads,
             &mut self.paths,
-            None,
+            edit,
+            &plan,
             &self.touched,
             &mut self.bounds,
             &mut self.searches,
-        );
-        let Ok(renewed) = renewed else {
-            self.roads.undo(undo);
-            return Err(CommandFault::Memory);
-        };
-        self.roads.keep(undo);
+        )?;
         self.work = self.work.plus(renewed.work);
         self.retained = self.retained.saturating_add(renewed.retained);
         Ok(Reply::Paths(renewed.entries))

@@ -1,7 +1,6 @@
 use Rattle.olr_register.proofs.Common.{◌≡◌, ◌≢◌, List, length, None, IsOk, refl, sym, ap, arith, ◌∙◌, Map, Edit, edited, edit_of}
 use Rattle.olr_register.proofs.Common.{map_of, On_map, Make, at_once, IsRefusal, ByState, Item, items, all_named, Registered}
 use Rattle.olr_register.proofs.Common.{content_on, No_memory, ne_eqb}
-use Rattle.olr_register.proofs.Bounded.{bounded_unknown}
 use Rattle.olr_register.proofs.Changing.{edit_refused, edit_lacks}
 use Rattle.olr_register.proofs.Singles.{refused_now, same_map, may_refuse, same_right, kept_bounds}
 use Rattle.olr_register.proofs.Singles.{can_edit, edit_right, edit_done}
@@ -32,59 +31,55 @@ lacks_now M is e some ok =
 
 pub invariant_of-self : goal.invariant_of-self
 invariant_of-self c =
-    let same = c.in_err-undo.ensures.same in
-    same_right c.self.inside c.self.view_is c.requires.open c.self.invariant c.make_noted.new.roads _ _ same refl
-    (rw same (kept_bounds c.self.inside c.self.view_is c.requires.open c.self.invariant))
+    same_right c.self.inside c.self.view_is c.requires.open c.self.invariant c.self.inside.roads _ _ refl refl
+    (kept_bounds c.self.inside c.self.view_is c.requires.open c.self.invariant)
 
-pub returns-in_err-undo : goal.returns-in_err-undo
-returns-in_err-undo c =
+pub returns-in_err-note_only : goal.returns-in_err-note_only
+returns-in_err-note_only c =
     refused_now c.self.inside c.self.view_is c.requires.open (On_map (edit_of c.args.edit)) _ _ No_memory
-    (same_map c.self.inside c.self.view_is c.requires.open c.make_noted.new.roads c.in_err-undo.ensures.same)
-    c.from_residual.ensures.1
+    (same_map c.self.inside c.self.view_is c.requires.open c.self.inside.roads refl) c.from_residual.ensures.1
     (lacks_now _ _ (edit_of c.args.edit) (named_some c.self.inside c.self.view_is c.requires.some)
     c.in-Ok.ensures.plan.accepted)
 
-pub invariant_of-self-in_default : goal.invariant_of-self-in_default
-invariant_of-self-in_default c =
-    same_right c.self.inside c.self.view_is c.requires.open c.self.invariant c.undo.new.self _ _
-    (c.undo.ensures ∙ c.in_ok-undo.ensures.before) c.in_default.ensures.err
-    (bounded_unknown _ _ _ c.in_default.ensures.unknown)
+pub invariant_of-self-in_err-renewed : goal.invariant_of-self-in_err-renewed
+invariant_of-self-in_err-renewed c =
+    let e = c.in_err-renewed.ensures in
+    same_right c.self.inside c.self.view_is c.requires.open c.self.invariant c.make_and_renew.new.roads _ _ e.same_map
+    e.same_list e.bounded
 
-pub returns-in_default : goal.returns-in_default
-returns-in_default c =
-    let e = c.in_default.ensures in
+pub returns-in_err-renewed : goal.returns-in_err-renewed
+returns-in_err-renewed c =
+    let e = c.in_err-renewed.ensures in
     refused_now c.self.inside c.self.view_is c.requires.open (On_map (edit_of c.args.edit)) _ _ No_memory
-    (rw e.err (same_map c.self.inside c.self.view_is c.requires.open c.undo.new.self
-    (c.undo.ensures ∙ c.in_ok-undo.ensures.before))) refl
+    (rw e.same_list (same_map c.self.inside c.self.view_is c.requires.open c.make_and_renew.new.roads e.same_map))
+    c.from_residual-in_err-renewed.ensures.1
     (lacks_now _ _ (edit_of c.args.edit) (named_some c.self.inside c.self.view_is c.requires.some)
     c.in-Ok.ensures.plan.accepted)
 
 -- ---- accepted
 
-pub renew-renewed-requires : goal.renew-renewed-requires
-renew-renewed-requires c = (
-  map_of c.self.inside.roads,
-  can_edit c.self.inside c.self.view_is c.requires.open c.self.invariant (edit_of c.args.edit) c.make_noted.new.roads
-      c.in_ok-undo.ensures.done c.make_noted.new.touched c.in_ok-undo.ensures.noted,
-)
+pub make_and_renew-requires-clause-bounded : goal.make_and_renew-requires-clause-bounded
+make_and_renew-requires-clause-bounded c =
+    kept_bounds c.self.inside c.self.view_is c.requires.open c.self.invariant
+
+pub make_and_renew-requires-clause-renewable : goal.make_and_renew-requires-clause-renewable
+make_and_renew-requires-clause-renewable c =
+    can_edit c.self.inside c.self.view_is c.requires.open c.self.invariant (edit_of c.args.edit) c.note_only.new.touched
+    (c.in_ok-note_only.ensures _ _ _ c.in-Ok.ensures.plan)
 
 pub invariant_of-self-2 : goal.invariant_of-self-2
 invariant_of-self-2 c =
-    let r = c.self.inside in
-    let k = c.in-Ok-renewed.ensures in
-    edit_right r c.self.view_is c.requires.open c.self.invariant (edit_of c.args.edit) c.keep.new.self
-    (rw c.keep.ensures c.in_ok-undo.ensures.done) c.make_noted.new.touched c.in_ok-undo.ensures.noted
-    (items c.renew-renewed.new.paths) c.in-Ok-renewed.renewed
-    (rw c.keep.ensures k.renewed) _ c.in-Ok.ensures.plan.placed
-    (rw c.keep.ensures k.bounded)
+    let e = c.in_ok-renewed.ensures in
+    edit_right c.self.inside c.self.view_is c.requires.open c.self.invariant (edit_of c.args.edit)
+    c.make_and_renew.new.roads e.done c.note_only.new.touched (c.in_ok-note_only.ensures _ _ _ c.in-Ok.ensures.plan)
+    (items c.make_and_renew.new.paths) c.in_ok-renewed.renewed e.renewed _ c.in-Ok.ensures.plan.placed e.bounded
 
 pub returns : goal.returns
 returns c =
     let r = c.self.inside in
-    let k = c.in-Ok-renewed.ensures in
-    let retained : c.saturating_add-self-inside.result ≡ raised_count r.retained c.in-Ok-renewed.renewed.retained = omega arith in
+    let e = c.in_ok-renewed.ensures in
+    let retained : c.saturating_add-self-inside.result ≡ raised_count r.retained c.in_ok-renewed.renewed.retained = omega arith in
     rw (c.plus-self-inside.ensures, retained)
-    (edit_done r c.self.view_is c.requires.open c.self.invariant (edit_of c.args.edit) c.keep.new.self
-    (rw c.keep.ensures c.in_ok-undo.ensures.done) c.make_noted.new.touched c.in_ok-undo.ensures.noted
-    (items c.renew-renewed.new.paths) c.in-Ok-renewed.renewed
-    (rw c.keep.ensures k.renewed) _ refl)
+    (edit_done r c.self.view_is c.requires.open c.self.invariant (edit_of c.args.edit) c.make_and_renew.new.roads e.done
+    c.note_only.new.touched (c.in_ok-note_only.ensures _ _ _ c.in-Ok.ensures.plan)
+    (items c.make_and_renew.new.paths) c.in_ok-renewed.renewed e.renewed _ refl)
