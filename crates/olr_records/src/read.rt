@@ -39,7 +39,8 @@ pub fn text_to_explain(fields: &ByteRecord) -> Option<&[u8]>
     }
 }
 
-/// The command of a record whose first field is this word. The words of the most frequent records are tried first.
+/// The command of a record whose first field is this word. The words of edits are tried first, since those of a map are the
+/// most frequent records.
 fn read_by(alloc: Global, word: &[u8], fields: &ByteRecord) -> Result<Command, ReadFault>
     ensures { IsRead (records.read_by records.forms word.now (drop 1 (fields_of fields.now))) result }
 {
@@ -47,10 +48,6 @@ fn read_by(alloc: Global, word: &[u8], fields: &ByteRecord) -> Result<Command, R
         add_line(alloc, fields)
     } else if is(word, b"node") {
         add_node(fields)
-    } else if is(word, b"explain") {
-        explain(alloc, fields)
-    } else if is(word, b"path") {
-        add_path(alloc, fields)
     } else if is(word, b"set-line") {
         set_line(alloc, fields)
     } else if is(word, b"move") {
@@ -71,12 +68,17 @@ fn is(word: &[u8], text: &[u8]) -> bool
     word.iter().eq(text)
 }
 
-/// The same, for a word that `read_by` doesn't know.
+/// The same, for the words of all other commands. It is not inlined: a function takes room at its start for each result in
+/// it.
 #[inline(never)]
 fn read_rarer(alloc: Global, word: &[u8], fields: &ByteRecord) -> Result<Command, ReadFault>
-    ensures { IsRead (records.read_by (drop 8 records.forms) word.now (drop 1 (fields_of fields.now))) result }
+    ensures { IsRead (records.read_by (drop 6 records.forms) word.now (drop 1 (fields_of fields.now))) result }
 {
-    if is(word, b"begin") {
+    if is(word, b"path") {
+        add_path(alloc, fields)
+    } else if is(word, b"explain") {
+        explain(alloc, fields)
+    } else if is(word, b"begin") {
         single_word(fields, Command::Begin)
     } else if is(word, b"abort") {
         single_word(fields, Command::Abort)
