@@ -1,6 +1,8 @@
 //! The fields of a record, each checked for its form and then for its range.
 ghost use Rattle.std.specs.Prelude.{◌≡◌, ◌≤◌, ◌^◌, [], IsTrue, IfOk, IfSome, is_some, length, min, slice_index_or};
 ghost use Rattle.std.specs.Prelude.{◌∷◌, ◌≢◌, drop, string_bytes, IfErr, OnErr, Some, ⊤};
+ghost use Rattle.std.specs.Char.{is_ascii_digit};
+ghost use Rattle.std.specs.List.{list_all};
 ghost use Rattle.csv.specs.Records.{fields_of};
 ghost use Rattle.olr_spec.specs.Degrees.{are_digits, digits_value};
 ghost use Rattle.olr_spec.specs.Degrees as text_of;
@@ -24,6 +26,8 @@ const GREATEST_LENGTH: u32 = 1_000_000;
 const GREATEST_DISTANCE: u32 = 999_999;
 /// 2^32, which is more than any number of 32 bits.
 const TOO_GREAT: u64 = 1 << 32;
+/// A number of digits whose value fits 64 bits.
+const FEW_DIGITS: usize = 18;
 
 /// The field at index `k`, or no bytes past the last one.
 pub(crate) fn field(fields: &ByteRecord, k: usize) -> &[u8]
@@ -46,6 +50,22 @@ pub(crate) fn only_field(fields: &ByteRecord) -> Result<&[u8], ReadFault>
     Ok(field(fields, 1))
 }
 
+/// The value of at most 18 digits, which fits 64 bits. None if there is another byte.
+fn few_digits(field: &[u8]) -> Option<u64>
+    requires { length field.now ≤ 18 }
+    ensures form { is_some result ≡ list_all is_ascii_digit field.now }
+    ensures same { IfSome result (λ n. n ≡ digits_value field.now) }
+{
+    let mut value: u64 = 0;
+    for byte in field {
+        if !byte.is_ascii_digit() {
+            return None;
+        }
+        value = 10 * value + u64::from(*byte - b'0');
+    }
+    Some(value)
+}
+
 /// The value of one or more digits, or 2^32 instead of a greater value. None if there are no digits, or another byte.
 fn value(field: &[u8]) -> Option<u64>
     ensures form { is_some result ≡ are_digits field.now }
@@ -53,6 +73,9 @@ fn value(field: &[u8]) -> Option<u64>
 {
     if field.is_empty() {
         return None;
+    }
+    if field.len() <= FEW_DIGITS {
+        return few_digits(field).map(|value| TOO_GREAT.min(value));
     }
     let mut value: u64 = 0;
     for byte in field {
