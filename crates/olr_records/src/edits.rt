@@ -16,6 +16,7 @@ use olr_roads::{Edit, Line, NodeId};
 use std::alloc::Global;
 
 /// A node and its coordinate: all fields after the first.
+#[inline(always)]
 #[tactic(auto, using(crate::proofs::FormLemmas::node_at))]
 fn node(fields: &ByteRecord) -> Result<(NodeId, Coord), ReadFault>
     ensures { Reads (λ p. (p.0, p.1)) (records.node_fields (drop 1 (fields_of fields.now))) result }

@@ -25,7 +25,8 @@ pub(crate) struct LineAttributes {
     pub shape: Vec<Shape>,
 }
 
-/// The attributes of a line, from the field at index `k` on.
+/// The attributes of a line, from the field at index `k` on. Inlined, so that they are put straight into the line.
+#[inline(always)]
 pub(crate) fn attributes_at(
     alloc: Global,
     fields: &ByteRecord,
