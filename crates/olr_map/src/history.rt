@@ -37,7 +37,9 @@ impl RoadMap {
         }
     }
 
-    /// Makes a change at these slots, and returns the change that undoes it.
+    /// Makes a change at these slots, and returns the change that undoes it. Inlined, so that the change of an edit is taken
+    /// apart where it is made.
+    #[inline(always)]
     fn make_change(&mut self, change: TableChange, slots: (u32, u32)) -> TableChange
         requires can { CanMake (tables_map self.old) (room_of self.old) change }
         requires slots { AreSlots self.old.index (tables_map self.old) slots (change_edit change) }
@@ -74,8 +76,7 @@ impl RoadMap {
         }
     }
 
-    /// Makes a change at these slots that is never undone, and frees what it removes. Inlined, so that the change of an edit
-    /// is taken apart where it is made.
+    /// Makes a change at these slots that is never undone, and frees what it removes.
     #[inline(always)]
     fn make_for_good(&mut self, change: TableChange, slots: (u32, u32))
         requires can { CanMake (tables_map self.old) (room_of self.old) change }
@@ -86,21 +87,7 @@ impl RoadMap {
         ensures nodes { spare_of self.old.index ≤ spare_of self.new.index + node_puts change }
         ensures lines { spare_numbers self.old.lines ≤ spare_numbers self.new.lines + line_puts change }
     {
-        match change {
-            TableChange::PutNode {
-                id,
-                place,
-                outs,
-                ins,
-            } => self.put_node(id, place, outs, ins),
-            TableChange::MoveNode(id, place) => {
-                self.move_node(id, place, slots.0);
-            }
-            TableChange::TakeNode(id) => drop(self.take_node(id)),
-            TableChange::PutLine(id, line) => self.put_line(id, line, slots.0, slots.1),
-            TableChange::SetLine(id, line) => drop(self.set_line(id, line, slots.0, slots.1)),
-            TableChange::TakeLine(id) => drop(self.take_line(id, slots.0, slots.1)),
-        }
+        drop(self.make_change(change, slots));
     }
 
     /// Makes a change that undoes an edit, and frees what the edit added.
@@ -230,6 +217,7 @@ impl RoadMap {
 
     /// Makes an edit that was judged on this map and is never undone. An error leaves the map as it was, and is returned
     /// only for an edit that adds or removes a node or a line.
+    #[inline(always)]
     #[tactic(auto, using(crate::proofs::Verdicts::plan_slots, crate::proofs::Verdicts::slots_reserved))]
     pub fn make_kept(&mut self, edit: Edit, plan: &EditPlan) -> Result<(), AllocError>
         requires { IsEditPlan (map_of self.old) (slot_of self.old) (edit_of edit) plan.now }
