@@ -3,6 +3,7 @@ pub mod CsvBytes
 pub mod Writing
 pub mod InMemoryRuns
 pub mod WholeLines
+pub mod GivenLines
 pub mod KeptLines
 pub mod CleanTexts
 pub mod Parts

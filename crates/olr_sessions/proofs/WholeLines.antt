@@ -1,7 +1,6 @@
 -- Lines that are whole records.
 use Rattle.std.proofs.Common.{◌≡◌, ◌∙◌, ℕ, ◌==◌, Bool, true, false, not, List, [], ◌∷◌, ◌++◌, Some}
-use Rattle.std.proofs.Common.{◌⊎◌, length, zero, suc, inl, inr, refl, ap, sym, arith}
-use Rattle.std.proofs.lemmas.List.{append-nil}
+use Rattle.std.proofs.Common.{◌⊎◌, length, zero, suc, inl, inr, refl, arith}
 use Rattle.memchr.specs.Find.{Passes, Nowhere, NoneBefore, is_byte3}
 use Rattle.std.specs.Prelude.{slice_index}
 use Rattle.csv.specs.Machine.{next_record, step, in_field, is_end, fields_after}
@@ -110,13 +109,13 @@ plain_first : (x : ℕ) (xs : List ℕ) → ¬ (is_byte3 line_feed carriage_retu
     has_line true (x ∷ xs) ≡ has_line true xs
 plain_first x xs plain = grind arith
 
-pub line_found : (xs ys : List ℕ) (k : ℕ) → NoneBefore (Stops xs) 0 (length xs) k × Stops xs k →
-    has_line true (xs ++ ys) ≡ not (slice_index xs k == default_config.quote)
-line_found [] ys k h = absurd (omega (arith, h.0.high))
-line_found (x ∷ xs) ys zero h = grind arith
-line_found (x ∷ xs) ys (suc k) h =
+pub line_found : (xs : List ℕ) (k : ℕ) → NoneBefore (Stops xs) 0 (length xs) k × Stops xs k →
+    has_line true xs ≡ not (slice_index xs k == default_config.quote)
+line_found [] k h = absurd (omega (arith, h.0.high))
+line_found (x ∷ xs) zero h = grind arith
+line_found (x ∷ xs) (suc k) h =
     let plain = h.0.before 0 (omega arith) (omega arith) in
-    let rest = line_found xs ys k (
+    let rest = line_found xs k (
       record {
         low = omega arith;
         high = omega (arith, h.0.high);
@@ -124,17 +123,10 @@ line_found (x ∷ xs) ys (suc k) h =
       },
       h.1,
     ) in
-    plain_first x (xs ++ ys) (λ e. plain e) ∙ rest
+    plain_first x xs (λ e. plain e) ∙ rest
 
-pub no_line : (xs ys : List ℕ) → Nowhere (Stops xs) 0 (length xs) → has_line true (xs ++ ys) ≡ has_line true ys
-no_line [] ys h = refl
-no_line (x ∷ xs) ys h =
-    plain_first x (xs ++ ys) (λ e. h 0 (omega arith) (omega arith) e)
-    ∙ no_line xs ys (λ j low high. h (suc j) (omega arith) (omega arith))
-
-pub last_line_found : (xs : List ℕ) (k : ℕ) → NoneBefore (Stops xs) 0 (length xs) k × Stops xs k →
-    has_line true xs ≡ not (slice_index xs k == default_config.quote)
-last_line_found xs k h = ap (has_line true) (sym (append-nil xs)) ∙ line_found xs [] k h
-
-pub no_last_line : (xs : List ℕ) → Nowhere (Stops xs) 0 (length xs) → has_line true xs ≡ false
-no_last_line xs h = ap (has_line true) (sym (append-nil xs)) ∙ no_line xs [] h
+pub no_line : (xs : List ℕ) → Nowhere (Stops xs) 0 (length xs) → has_line true xs ≡ false
+no_line [] h = refl
+no_line (x ∷ xs) h =
+    plain_first x xs (λ e. h 0 (omega arith) (omega arith) e)
+    ∙ no_line xs (λ j low high. h (suc j) (omega arith) (omega arith))

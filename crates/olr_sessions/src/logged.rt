@@ -8,7 +8,7 @@ use crate::buffered::Buffered;
 use crate::ends::RunFault;
 use crate::gate::Gate;
 use crate::journal::Journal;
-use crate::lines::Lines;
+use crate::lines::{Lines, may_wait};
 use crate::sessions::{Session, read_record};
 use csv::{ByteRecord, Reader};
 use std::io::{Read, Write};
@@ -59,7 +59,7 @@ impl<R: Read + Drop, W: Write + Drop, J: Journal + Drop> Session<Buffered<W>> fo
         output: &mut Buffered<W>,
         fields: &mut ByteRecord,
     ) -> Result<bool, RunFault> {
-        let waits = self.reader.get_ref().may_wait();
+        let waits = may_wait(&self.reader);
         self.gate.send_before(waits, output)?;
         let found = read_record(&mut self.reader, fields);
         self.gate.take_found(found, fields)

@@ -6,7 +6,7 @@ ghost use Rattle.csv.specs.Records.{fields_of};
 ghost use Rattle.olr_sessions.specs.Sessions.{Event, Renewed, TakesNext, Writes, ReadsNext, CsvHappens};
 
 use crate::ends::RunFault;
-use crate::lines::Lines;
+use crate::lines::{Lines, may_wait};
 use crate::output::{flush, write_all};
 use csv::{ByteRecord, ErrorKind, Reader};
 use std::io::{Read, Write};
@@ -68,7 +68,7 @@ impl<R: Read + Drop, W: Write> Session<W> for Reader<Lines<R>> {
     ghost happens = { λ a e b. CsvHappens (unread R.remaining) a.0 b.0 (W.contents a.1) (W.contents b.1) e };
 
     fn take(&mut self, output: &mut W, fields: &mut ByteRecord) -> Result<bool, RunFault> {
-        let waits = self.get_ref().may_wait();
+        let waits = may_wait(self);
         flush_before(waits, output)?;
         read_record(self, fields)
     }

@@ -1,6 +1,9 @@
+use Rattle.std.proofs.Common.{◌≡◌, ◌∙◌, inr, refl}
+use Rattle.std.proofs.lemmas.Result.{err_from_is_err_and}
 use Rattle.csv.specs.Records.{fields_of}
 use Rattle.olr_sessions.specs.Buffers.{unread}
 use Rattle.olr_sessions.proofs.LoggedEvents.{takes_logged}
+use Rattle.olr_sessions.specs.declared.ends.RunFault.TheVariants as fault
 use Rattle.olr_sessions.proofs.logged.LoggedSessionBuffered.take.Goals as goal
 
 pub returns : goal.returns
@@ -10,3 +13,9 @@ returns g c =
     c.args.output.now c.send_before.new.output c.read_record-found.result c.take_found.result
     (fields_of c.read_record-found.new.fields) c.send_before.ensures.passes c.read_record-found.ensures
     c.take_found.ensures
+
+pub returns-in_err-send_before : goal.returns-in_err-send_before
+returns-in_err-send_before g c =
+    let p = err_from_is_err_and c.from_residual.result c.from_residual.ensures.1 in
+    let is : p.0 ≡ fault.Write = p.2 ∙ c.in_err-send_before.ensures.fault in
+    rw p.1 (inr ((refl, c.send_before.ensures.passes), is))

@@ -1,6 +1,0 @@
-use Rattle.std.proofs.Common.{◌≡◌, drop, false}
-use Rattle.olr_sessions.specs.Lines.{has_line}
-use Rattle.olr_sessions.proofs.lines.after_empty_lines.Given as goal
-
-abbrev pub invariant-loop-i : goal.invariant-loop-i
-invariant-loop-i l = has_line false l.bytes ≡ has_line false (drop l.i l.bytes)
