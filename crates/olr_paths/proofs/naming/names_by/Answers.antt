@@ -1,4 +1,4 @@
-use Rattle.olr_paths.proofs.Common.{refl, inl, inr, ◌≡◌, ◌≤◌, ◌+◌, ℕ, List, [], Some, length, get_or, slice_get, arith, map, take}
+use Rattle.olr_paths.proofs.Common.{refl, inl, inr, ◌≡◌, ◌+◌, ℕ, List, [], Some, length, get_or, slice_get, arith, map, take}
 use Rattle.olr_paths.proofs.Common.{take_all, slice_get_within, Item, nodes_of, lines_of, shown_items, shown_item, ap}
 use Rattle.olr_list.proofs.Common.{ascends}
 use Rattle.std.specs.Prelude.{String, string_bytes}

@@ -1,4 +1,4 @@
-use Rattle.olr_paths.proofs.Common.{refl, inl, inr, ◌≡◌, ◌≤◌, ℕ, Some, length, get_or, slice_get, arith, ◌+◌, take_all}
+use Rattle.olr_paths.proofs.Common.{◌≡◌, ℕ, Some, length, get_or, slice_get, arith, ◌+◌, take_all}
 use Rattle.olr_paths.proofs.Common.{slice_get_within, Item, nodes_of, lines_of, changed_of, shown_items, shown_item}
 use Rattle.olr_list.proofs.Common.{ascends}
 use Rattle.olr_paths.proofs.Passing.{passed_none, passed_one, passed_end, past_end}

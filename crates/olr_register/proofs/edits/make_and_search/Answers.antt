@@ -7,7 +7,7 @@ pub renew-renewed-requires : goal.renew-renewed-requires
 renew-renewed-requires c = (
   map_of c.args.roads.now,
   rw (c.new-none.ensures (items c.args.paths.now))
-  (c.requires.renewable (map_of c.make.new.self) c.in_ok-undo.ensures.done),
+      (c.requires.renewable (map_of c.make.new.self) c.in_ok-undo.ensures.done),
 )
 
 pub returns-in-Ok : goal.returns-in-Ok
