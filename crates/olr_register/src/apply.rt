@@ -9,17 +9,20 @@ ghost use Rattle.olr_register.specs.RegisterState.{Represents};
 use crate::change::{Change, PathParts};
 use crate::register::Register;
 use olr_commands::{Command, CommandFault, Reply};
+use olr_map::Edit;
 use std::alloc::{AllocError, Global};
 
 impl Register {
     ghost use Rattle.std.specs.Prelude.{◌≡◌, is_some, OnOk, OnErr, IsFalse};
-    ghost use Rattle.olr_commands.specs.State.{IsContent, Make};
+    ghost use Rattle.olr_commands.specs.State.{IsContent, Make, On_map};
+    ghost use Rattle.olr_roads.specs.Edits.{edit_of};
     ghost use Rattle.olr_register.specs.BatchChanges.{change_of};
     ghost use Rattle.olr_register.specs.Registered.{Applied, Counted};
     ghost use Rattle.olr_register.specs.Answered.{Answered};
     ghost use Rattle.olr_register.specs.CountChanges.{encodes, RetainsCounted, SearchesCounted, NoneFalls, SameCounts};
 
     /// Holds a change in the open batch, or makes it at once if none is open.
+    #[inline(never)]
     fn change(&mut self, change: Change) -> Result<Reply, CommandFault>
         ensures { Answered self.old (Make (change_of change)) result self.new }
     {
@@ -34,12 +37,33 @@ impl Register {
         }
     }
 
+    /// The same for an edit, which is a change only where it is held.
+    fn edit(&mut self, edit: Edit) -> Result<Reply, CommandFault>
+        ensures { Answered self.old (Make (On_map (edit_of edit))) result self.new }
+    {
+        if self.batch.is_some() {
+            return self.change(Change::Edit(edit));
+        }
+        self.edit_now(edit)
+    }
+
     /// The answer to a command.
     fn answer_to(&mut self, command: Command) -> Result<Reply, CommandFault>
         ensures { Answered self.old (command_of command) result self.new }
     {
         match command {
-            Command::Edit(edit) => self.change(Change::Edit(edit)),
+            Command::Edit(edit) => self.edit(edit),
+            command => self.answer_to_other(command),
+        }
+    }
+
+    /// The same. It is not inlined, so that an edit takes no room for the results of the other commands.
+    #[inline(never)]
+    fn answer_to_other(&mut self, command: Command) -> Result<Reply, CommandFault>
+        ensures { Answered self.old (command_of command) result self.new }
+    {
+        match command {
+            Command::Edit(edit) => self.edit(edit),
             Command::AddPath(name, lines, pos, neg) => {
                 self.change(Change::AddPath(name, PathParts { lines, pos, neg }))
             }

@@ -107,6 +107,7 @@ impl Register {
 
     /// Makes an edit of the map and encodes the affected paths again. Faults of the map take precedence over `Memory`.
     /// If there are no paths, nothing but the map takes memory, and the distance bounds are cleared.
+    #[inline(always)]
     pub(crate) fn edit_now(&mut self, edit: Edit) -> Result<Reply, CommandFault>
         requires { self.old.kept.batch ≡ None }
         ensures { Answered self.old (Make (On_map (edit_of edit))) result self.new }
