@@ -1,7 +1,7 @@
 -- The names that most proofs of olr_search cite, passed on from one place. Declares nothing.
 pub use Rattle.olr_roads.specs.declared.read.LineEnd.{LineEnd}
 pub use Rattle.olr_search.specs.Distances.{IsDistance, Leads, Way, ends_at, far_end, lines_at, near_end}
-pub use Rattle.olr_search.specs.Frontiers.{IsAlike, IsEmpty, IsQueued, IsRelaxed, Moves, NotedOnce, frontier_len}
+pub use Rattle.olr_search.specs.Frontiers.{IsAlike, IsCounted, IsEmpty, IsQueued, IsRelaxed, Moves, NotedOnce, frontier_len}
 pub use Rattle.olr_search.specs.Frontiers.{label_of, queued_len, to_do}
 pub use Rattle.olr_search.specs.Notes.{AreAllReached, AreApart, AreFilled, AreNodesIn, NotesOnce, label_in}
 pub use Rattle.olr_search.specs.Queues.{queue_key}

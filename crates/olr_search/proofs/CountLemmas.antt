@@ -2,7 +2,7 @@
 use Rattle.olr_search.proofs.Common.{◌≡◌, ◌==◌, ℕ, true, List, [], ◌∷◌, Contains, sym, ap, ◌∙◌, subst, inl, inr, arith}
 use Rattle.olr_search.proofs.Common.{◌≢◌, ◌≤◌, nat_le, filter, IsDistinct, Map, AreFilled, AreNodesIn}
 use Rattle.olr_search.proofs.Common.{Contains-later, Contains-here, label_of, IsSearch, LiesWithin, Direction, Dijkstra}
-use Rattle.olr_search.proofs.Common.{Bool, false, ◌↔◌, cond, count_by, length-filter, All-filter}
+use Rattle.olr_search.proofs.Common.{Bool, false, ◌↔◌, cond, All-filter, AreApart}
 use Rattle.olr_search.proofs.Common.{All-contains_itself, filter_passes, Contains-cases, Counts}
 use Rattle.std.proofs.lemmas.Bool.Decides.{nat_tests}
 use Rattle.std.proofs.lemmas.List.Kept.{AllPairs-filter}
@@ -29,51 +29,67 @@ slots_out test xs p c = (
 
 module _ (M : Map) (slot : ℕ → ℕ) (direction : Direction) (from : List (ℕ × ℕ)) (s : Dijkstra)
     (h : IsSearch M slot direction from s) where
-  -- the slots whose labels are within the limit
+  -- the nodes in the slots whose labels are within the limit
+  module _ (ps : List ℕ) (apart : AreApart ps)
+      (near : (p : ℕ) → Contains ps p ↔ (label_of s.frontier p ≤ s.limit)) (vs : List ℕ) (a : AreNodesIn M slot ps vs) where
+    pub apart_in : IsDistinct ◌==◌ vs
+    apart_in = nodes_distinct M slot ps vs a apart
+
+    pub exactly_in : (v : ℕ) → Contains vs v ↔ LiesWithin M direction from s.limit v
+    exactly_in v = (
+      λ c.
+          let le = (near (slot v)).0 (slot_in M slot ps vs a v c) in
+          (label_of s.frontier (slot v), is_distance M slot direction from s h v (a.there v c) le, le),
+      λ within.
+          let known = distance_node M slot direction from s h v within.0 within.1 in
+          let label = label_is M slot direction from s h v within.0 known within.1 within.2 in
+          node_in M slot ps vs a h.under_way.labelled.own v known ((near (slot v)).1 (omega (arith, within.2))),
+    )
+
+  -- the slots with labels that are within the limit
   abbrev pub near_slots : List ℕ
   near_slots = filter (λ p. nat_le (label_of s.frontier p) s.limit) s.frontier.reached.items
+
+  pub near_slots_apart : AreApart near_slots
+  near_slots_apart =
+      AllPairs-filter (λ (q p : ℕ). q ≢ p) (λ p. nat_le (label_of s.frontier p) s.limit) s.frontier.reached.items
+      h.under_way.labelled.apart
+
+  pub near_slots_exactly : (p : ℕ) → Contains near_slots p ↔ (label_of s.frontier p ≤ s.limit)
+  near_slots_exactly p = (
+    λ c.
+        let k = slots_out (λ p. nat_le (label_of s.frontier p) s.limit) s.frontier.reached.items p c in
+        grind (arith, nat_tests, k.1),
+    λ le.
+        let small = h.small in
+        slots_in (λ p. nat_le (label_of s.frontier p) s.limit) s.frontier.reached.items p
+        (labelled_listed s.frontier p (omega arith)) (grind (arith, nat_tests)),
+  )
 
   -- each slot with a label has a node
   pub filled : AreFilled M slot s.frontier.reached.items
   filled p c = let l = h.under_way.labelled in l.nodes p (l.listed p c)
 
-  -- the nodes in these slots
-  module _ (vs : List ℕ) (a : AreNodesIn M slot near_slots vs) where
-    pub near_apart : IsDistinct ◌==◌ vs
-    near_apart =
-        nodes_distinct M slot near_slots vs a (AllPairs-filter (λ (q p : ℕ). q ≢ p)
-        (λ p. nat_le (label_of s.frontier p) s.limit) s.frontier.reached.items h.under_way.labelled.apart)
+  -- the settled slots
+  settled_exactly : (p : ℕ) → Contains h.counted.slots p ↔ (label_of s.frontier p ≤ s.limit)
+  settled_exactly p = (
+    λ c. h.counted.low p c,
+    λ le.
+        let small = h.small in
+        elim (h.counted.waits p (omega arith)) [
+          | inl c ↦ c
+          | inr w ↦ absurd (omega (arith, h.counted.ahead (label_of s.frontier p) p w))
+        ],
+  )
 
-    pub near_exactly : (v : ℕ) → Contains vs v ↔ LiesWithin M direction from s.limit v
-    near_exactly v = (
-      λ c.
-          let k =
-          slots_out (λ p. nat_le (label_of s.frontier p) s.limit) s.frontier.reached.items (slot v)
-          (slot_in M slot near_slots vs a v c) in
-          let le : label_of s.frontier (slot v) ≤ s.limit = grind (arith, nat_tests, k.1) in
-          (label_of s.frontier (slot v), is_distance M slot direction from s h v (a.there v c) le, le),
-      λ near.
-          let known = distance_node M slot direction from s h v near.0 near.1 in
-          let label = label_is M slot direction from s h v near.0 known near.1 near.2 in
-          let small = h.small in
-          let listed =
-          labelled_listed M slot direction from s.frontier h.under_way.labelled v known (omega (arith, near.2)) in
-          node_in M slot near_slots vs a h.under_way.labelled.own v known
-          (slots_in (λ p. nat_le (label_of s.frontier p) s.limit) s.frontier.reached.items (slot v) listed
-          (grind (arith, nat_tests, near.2))),
-    )
-
-  pub counted : (n : ℕ) → n ≡ count_by (λ p. nat_le (label_of s.frontier p) s.limit) s.frontier.reached.items →
-      Counts M direction from s.limit n
-  counted n is =
+  pub counted : Counts M direction from s.limit s.settled
+  counted =
       let vs =
-      nodes_of M slot near_slots
-      (λ p c. filled p (slots_out (λ p. nat_le (label_of s.frontier p) s.limit) s.frontier.reached.items p c).0) in
+      nodes_of M slot h.counted.slots
+      (λ p c. let small = h.small in let le = h.counted.low p c in h.under_way.labelled.nodes p (omega arith)) in
       record {
         nodes = vs.0;
-        apart = near_apart vs.0 vs.1;
-        exactly = near_exactly vs.0 vs.1;
-        many =
-            as_many_nodes M slot near_slots vs.0 vs.1
-            ∙ length-filter (λ (p : ℕ). nat_le (label_of s.frontier p) s.limit) s.frontier.reached.items ∙ sym is;
+        apart = apart_in h.counted.slots h.counted.apart settled_exactly vs.0 vs.1;
+        exactly = exactly_in h.counted.slots h.counted.apart settled_exactly vs.0 vs.1;
+        many = as_many_nodes M slot h.counted.slots vs.0 vs.1 ∙ h.counted.many;
       }

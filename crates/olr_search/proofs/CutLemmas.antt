@@ -3,8 +3,9 @@ use Rattle.olr_search.proofs.Common.{◌≡◌, ℕ, ◌+◌, ◌≤◌, ◌<◌
 use Rattle.olr_search.proofs.Common.{arith, ◌∙◌, refl, sym, ⊤, cases_lt, Map, has_node, has_line, dm, dm_of, Way, Leads}
 use Rattle.olr_search.proofs.Common.{near_end, far_end, label_of, IsQueued, Moves, IsLabelled, IsUnderWay, IsSearch}
 use Rattle.olr_search.proofs.Common.{IsCut, GREATEST_LIMIT, Frontier, Direction, Dijkstra, zero, suc, max, CutAt}
-use Rattle.olr_search.proofs.Common.{IsAlike, StaysWithin}
+use Rattle.olr_search.proofs.Common.{IsAlike, StaysWithin, IsCounted}
 use Rattle.olr_search.proofs.SearchLemmas.{alike_labels, labelled_same}
+use Rattle.olr_search.proofs.SettledLemmas.{counted_up}
 use Rattle.olr_search.proofs.WayLemmas.{way_ends, near_node}
 use Rattle.olr_search.proofs.WayLemmas.WayEnds.{stays, continues}
 
@@ -120,6 +121,15 @@ module _ (M : Map) (slot : ℕ → ℕ) (direction : Direction) (from : List (�
           (subst (Q v) (sym l.long) short) in
           omega arith
 
+-- where every node may be labelled, and nothing is left in the queue up to a limit
+pub settled_up_to : (M : Map) (slot : ℕ → ℕ) (direction : Direction) (from : List (ℕ × ℕ)) (f : Frontier) (limit : ℕ) →
+    IsUnderWay M slot direction from f → limit ≤ GREATEST_LIMIT → ((d p : ℕ) → IsQueued f d p → limit < d) →
+    (v d : ℕ) → d ≤ limit → Leads M direction from v d → label_of f (slot v) ≤ d
+settled_up_to M slot direction from f limit u small far v d near l =
+    cut_settled M slot direction from (λ _ _. ⊤) f u (λ w e. e ≤ limit)
+    (λ w e h. (tt, omega arith, λ p q. let lt = far e p q in omega arith)) (λ w e k h le. omega arith)
+    (λ x e known h. omega arith) v d near l
+
 -- ---- no farther than a limit
 
 module _ (M : Map) (slot : ℕ → ℕ) (direction : Direction) (limit : ℕ) where
@@ -151,17 +161,18 @@ pub settled_on_to : (M : Map) (slot : ℕ → ℕ) (direction : Direction) (from
     IsSearch M slot direction from s → t.direction ≡ s.direction → IsCut M slot direction from (λ _ _. ⊤) t.frontier →
     limit ≤ GREATEST_LIMIT → ((d p : ℕ) → IsQueued t.frontier d p → limit < d)
     → ((p : ℕ) → label_of t.frontier p ≤ label_of s.frontier p) → t.limit ≡ max s.limit limit →
+    IsCounted t.frontier t.settled (max s.limit limit) (max (s.limit + 1) (limit + 1)) →
     IsSearch M slot direction from t
-settled_on_to M slot direction from s t limit h way u small far better is =
+settled_on_to M slot direction from s t limit h way u small far better is counted =
     record {
       way = way ∙ h.way;
       under_way = u;
       small = omega arith;
       settled = λ v d known le l. elim (cases_lt limit d) [
         | inl lt ↦ let low = h.settled v d known (omega arith) l in let less = better (slot v) in omega arith
-        | inr near ↦
-            cut_settled M slot direction from (λ _ _. ⊤) t.frontier u (λ w e. e ≤ limit)
-            (λ w e h. (tt, omega arith, λ p q. let lt = far e p q in omega arith)) (λ w e k h le. omega arith)
-            (λ x e known h. omega arith) v d near l
+        | inr near ↦ settled_up_to M slot direction from t.frontier limit u small far v d near l
       ];
+      counted =
+          counted_up t.frontier t.settled (max s.limit limit) (max (s.limit + 1) (limit + 1)) t.limit (t.limit + 1)
+          (omega arith) (omega arith) (λ e p w. let le = counted.ahead e p w in omega arith) counted;
     }

@@ -6,6 +6,7 @@ pub mod NoteLemmas
 mod DistinctLemmas
 pub mod WayLemmas
 pub mod SearchLemmas
+mod SettledLemmas
 pub mod CutLemmas
 mod CountLemmas
 pub mod UniqueLemmas

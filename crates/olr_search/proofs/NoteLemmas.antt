@@ -3,7 +3,9 @@ use Rattle.olr_search.proofs.Common.{◌≡◌, ◌≢◌, ℕ, ◌<◌, ◌≤�
 use Rattle.olr_search.proofs.Common.{ap, ◌∙◌, subst, inl, inr, arith, cases_eq, get_or-set_same, get_or-set_other}
 use Rattle.olr_search.proofs.Common.{Contains-append_cases, Contains-append_right, set, Contains-one, UNREACHED}
 use Rattle.olr_search.proofs.Common.{label_in, AreAllReached, NotesOnce, get_or_past, get_or_read_under}
-use Rattle.olr_search.proofs.Common.{Contains-append_left}
+use Rattle.olr_search.proofs.Common.{Contains-append_left, ◌⊎◌}
+use Rattle.olr_search.specs.Queues.{LowLabels, Queued, queue_len}
+use Rattle.olr_search.specs.declared.queue.Queue.{Queue}
 
 pub first_one : {X : Type 0} → (x : X) → Contains (x ∷ []) x
 first_one x = (0, omega arith, refl)
@@ -59,4 +61,27 @@ pub noted_past : (table : List ℕ) (front : List ℕ) (r : ℕ) → length tabl
 noted_past table front r past noted p none = elim (cases_eq p r) [
   | inl is ↦ ap (label_in table) is ∙ get_or_past table r UNREACHED past
   | inr ne ↦ noted_without table front r p noted ne none
+]
+
+-- ---- what is queued
+
+pub none_queued : (q : Queue) → queue_len q ≡ 0 → (d p : ℕ) → ¬ Queued q d p
+none_queued q none d p w = omega (arith, w.there.1, q.heap.data.ok.0)
+
+-- a lesser label is written in slot r, which is queued at that length
+pub low_put : (table : List ℕ) (old new : Queue) (r d : ℕ) → r < length table → d < label_in table r →
+    ((e p : ℕ) → Queued new e p → Queued old e p ⊎ ((e ≡ d) × (p ≡ r))) → LowLabels table old →
+    LowLabels (set table r d) new
+low_put table old new r d lt less added low e p w = elim (cases_eq p r) [
+  | inl is ↦
+      let here : label_in (set table r d) p ≡ d =
+      ap (label_in (set table r d)) is ∙ get_or-set_same table r d UNREACHED lt in
+      elim (added e p w) [
+        | inl was ↦ let le = low e p was in let same = ap (label_in table) is in omega arith
+        | inr at ↦ omega (arith, at.0)
+      ]
+  | inr ne ↦ elim (added e p w) [
+    | inl was ↦ let le = low e p was in omega (arith, get_or-set_other table r p d UNREACHED ne)
+    | inr at ↦ absurd (ne at.1)
+  ]
 ]

@@ -1,27 +1,28 @@
 -- The invariants of a search that can be continued.
 use Rattle.olr_search.proofs.Common.{◌≡◌, ◌≢◌, ℕ, ◌+◌, ◌<◌, ◌≤◌, ◌⊎◌, List, [], ◌∷◌, Contains, IsTrue, length, get_or}
 use Rattle.olr_search.proofs.Common.{sym, ap, ◌∙◌, subst, inl, inr, arith, set, cases_eq, cases_lt, get_or-set_same}
-use Rattle.olr_search.proofs.Common.{get_or-set_other, Contains-append_cases, Map, IsMap, has_node, positive}
+use Rattle.olr_search.proofs.Common.{get_or-set_other, Contains-append_cases, Map, IsMap, has_node}
 use Rattle.olr_search.proofs.Common.{Contains-one, Leads, IsDistance, label_in, NotesOnce, AreApart, label_of}
-use Rattle.olr_search.proofs.Common.{frontier_len, IsQueued, IsRelaxed, Moves, IsLabelled, IsUnderWay, IsSearch}
+use Rattle.olr_search.proofs.Common.{frontier_len, IsQueued, IsRelaxed, Moves, IsLabelled, IsSearch}
 use Rattle.olr_search.proofs.Common.{LiesWithin, GREATEST_LIMIT, Frontier, Direction, Dijkstra}
 use Rattle.olr_search.proofs.Common.{Contains-get_or, sum_by-set, queued_len, IsEmpty, IsAlike, NotedOnce, CoversSlots}
 use Rattle.olr_search.proofs.Common.{IsReached}
 use Rattle.std.proofs.lemmas.List.Quantifiers.{all_pairs_push}
 use Rattle.olr_search.proofs.DistinctLemmas.{found_slot}
-use Rattle.olr_search.proofs.WayLemmas.{way_ends, leads_node}
-use Rattle.olr_search.proofs.WayLemmas.WayEnds.{stays, continues}
+use Rattle.olr_search.proofs.WayLemmas.{leads_node}
 
 -- ---- one label is lowered
 
 -- a smaller label is written in slot p, and p is queued
 pub put_by : (f g : Frontier) (p d label : ℕ) → g.table.items ≡ set f.table.items p d → p < length f.table.items →
-    label ≡ label_of f p → d < label → NotesOnce f.reached.items g.reached.items label p → IsQueued g d p → ((e q : ℕ) → IsQueued f e q → IsQueued g e q) → frontier_len g ≡ frontier_len f →
+    label ≡ label_of f p → d < label → NotesOnce f.reached.items g.reached.items label p → IsQueued g d p →
+    ((e q : ℕ) → IsQueued f e q → IsQueued g e q) →
+    ((e q : ℕ) → IsQueued g e q → IsQueued f e q ⊎ ((e ≡ d) × (q ≡ p))) → frontier_len g ≡ frontier_len f →
     queued_len g ≡ queued_len f + 1 → IsRelaxed f g p d
-put_by f g p d label table within was lt once there kept len more =
+put_by f g p d label table within was lt once there kept added len more =
     grind (arith, label_of, label_in, get_or-set_same, get_or-set_other, sum_by-set)
 
-put_le : (f g : Frontier) (p d : ℕ) → IsRelaxed f g p d → (q : ℕ) → label_of g q ≤ label_of f q
+pub put_le : (f g : Frontier) (p d : ℕ) → IsRelaxed f g p d → (q : ℕ) → label_of g q ≤ label_of f q
 put_le f g p d k q = grind (arith, cases_eq, label_of)
 
 -- each label is that of before, or the new one
@@ -52,6 +53,13 @@ moves_then f g h m n = record {
   len = n.len ∙ m.len;
   less = omega arith;
 }
+
+-- each slot with a label is in the list
+pub labelled_listed : (f : Frontier) (p : ℕ) → label_of f p ≤ GREATEST_LIMIT → Contains f.reached.items p
+labelled_listed f p small = elim (found_slot f.reached.items p) [
+  | inr none ↦ let no_label = f.noted p none in absurd (omega arith)
+  | inl c ↦ c
+]
 
 pub alike_labels : (f g : Frontier) → IsAlike f g → (p : ℕ) → label_of g p ≡ label_of f p
 alike_labels f g k p = ap (λ (t : List ℕ). label_in t p) k.table
@@ -129,27 +137,7 @@ module _ (M : Map) (slot : ℕ → ℕ) (direction : Direction) (from : List (�
     apart = subst AreApart (sym k.reached) l.apart;
   }
 
-  -- ---- what is settled
-
-  -- at first each route of length 0 stays where it begins
-  pub settled_none : (f : Frontier) → IsUnderWay M slot direction from f → (v d : ℕ) → IsTrue (has_node M v) → d ≤ 0 →
-      Leads M direction from v d → label_of f (slot v) ≤ d
-  settled_none f u v d known le l = elim (way_ends M direction l.source v l.lines l.way) [
-    | stays e none ↦ let low =
-        u.begun l.source l.begun l.listed l.there in subst (λ (w : ℕ). label_of f (slot w) ≤ d) e (omega arith)
-    | continues k ↦ let some = positive M u.labelled.sound k.line k.known in absurd (omega arith)
-  ]
-
   -- ---- what the labels say
-
-  -- the slot of each node that has a label is in the list
-  pub labelled_listed : (f : Frontier) → IsLabelled M slot direction from f → (v : ℕ) → IsTrue (has_node M v) →
-      label_of f (slot v) ≤ GREATEST_LIMIT → Contains f.reached.items (slot v)
-  labelled_listed f l v known small =
-      elim (found_slot f.reached.items (slot v)) [
-        | inr none ↦ let no_label = f.noted (slot v) none in absurd (omega arith)
-        | inl c ↦ c
-      ]
 
   module _ (s : Dijkstra) (h : IsSearch M slot direction from s) where
     pub is_distance : (v : ℕ) → IsTrue (has_node M v) → label_of s.frontier (slot v) ≤ s.limit →
@@ -185,7 +173,7 @@ module _ (M : Map) (slot : ℕ → ℕ) (direction : Direction) (from : List (�
     near_listed v near =
         let known = distance_node v near.0 near.1 in
         let is = label_is v near.0 known near.1 near.2 in
-        labelled_listed s.frontier h.under_way.labelled v known (omega arith)
+        labelled_listed s.frontier (slot v) (omega arith)
 
     pub listed_reached : (p : ℕ) → Contains s.frontier.reached.items p → (v : ℕ) × IsReached M direction from v
         × (slot v ≡ p)

@@ -1,5 +1,5 @@
 -- Whether a line extends a unique shortest path, by distances only.
-use Rattle.olr_search.proofs.Common.{◌≡◌, ℕ, ◌+◌, ◌≤◌, List, [], ◌∷◌, ◌++◌, IsTrue, arith, cases_lt, Map, has_node}
+use Rattle.olr_search.proofs.Common.{◌≡◌, ℕ, ◌+◌, ◌≤◌, List, [], ◌∷◌, ◌++◌, IsTrue, ap, inl, inr, arith, cases_lt, Map, has_node}
 use Rattle.olr_search.proofs.Common.{has_line, start, end, dm, IsRoute, dm_of, UniqueShortest, positive, Contains-one}
 use Rattle.olr_search.proofs.Common.{label_of, IsSearch, GREATEST_LIMIT, Along, Dijkstra, route_start}
 use Rattle.olr_search.proofs.Common.{IsOnlyPredecessor}
@@ -22,7 +22,17 @@ module _ (M : Map) (slot : ℕ → ℕ) (s : ℕ) (q : Dijkstra) (h : IsSearch M
 
   unique_label : (v : ℕ) (xs : List ℕ) → IsTrue (has_node M v) → UniqueShortest M s v xs → dm_of M xs ≤ q.limit →
       label_of q.frontier (slot v) ≡ dm_of M xs
-  unique_label v xs known unique le = grind (arith, way_le, label_way, cases_lt, label_of, dm_of)
+  unique_label v xs known unique le =
+      let low = way_le v xs known unique.route le in
+      let small = h.small in
+      let own = label_way v known (omega arith) in
+      elim (cases_lt (label_of q.frontier (slot v)) (dm_of M xs)) [
+        | inl lt ↦
+            let more =
+            unique.others own.0 own.1 (λ same. let e = ap (dm_of M) same in omega (arith, own.2)) in
+            absurd (omega (arith, own.2))
+        | inr ge ↦ omega arith
+      ]
 
   module _ (route : List ℕ) (x : ℕ) (line : IsTrue (has_line M x)) (unique : UniqueShortest M s (start M x) route)
       (short : dm_of M route + dm M x ≤ q.limit) where

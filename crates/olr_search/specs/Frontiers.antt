@@ -8,8 +8,10 @@
 --     IsRelaxed f g p d      the label in slot p was lowered to d, unless it was no greater
 --     Moves f g      no label increased, and where one is new its slot is queued
 --     to_do f      what is left to do: it decreases with each label that is lowered and each entry that is removed
-use Rattle.std.specs.Prelude.{◌≡◌, ◌≢◌, ℕ, ◌+◌, ◌*◌, ◌≤◌, ◌<◌, ◌⊎◌, [], ◌∷◌, ◌++◌, min, sum, vec_len}
-use Rattle.olr_search.specs.Notes.{label_in}
+--     IsCounted f n near next      n slots are settled, with labels of at most near; all others with labels are queued, and
+--         nothing at a length less than next
+use Rattle.std.specs.Prelude.{◌≡◌, ◌≢◌, ℕ, ◌+◌, ◌*◌, ◌≤◌, ◌<◌, ◌⊎◌, List, [], ◌∷◌, ◌++◌, Contains, length, min, sum, vec_len}
+use Rattle.olr_search.specs.Notes.{label_in, AreApart}
 use Rattle.olr_search.specs.Queues.{Queued, queue_len}
 use Rattle.olr_search.specs.declared.frontier.TheConstants.{UNREACHED}
 use Rattle.olr_search.specs.declared.frontier.TheConstants.{GREATEST_LIMIT}
@@ -52,6 +54,7 @@ pub record IsRelaxed (f g : Frontier) (p d : ℕ) : Type 0 where
   pub others : (q : ℕ) → q ≢ p → label_of g q ≡ label_of f q
   pub waits : (label_of g p ≡ label_of f p) ⊎ IsQueued g (label_of g p) p
   pub kept : (e q : ℕ) → IsQueued f e q → IsQueued g e q
+  pub added : (e q : ℕ) → IsQueued g e q → IsQueued f e q ⊎ ((e ≡ d) × (q ≡ p))
   pub noted : NotedOnce f g p
   pub len : frontier_len g ≡ frontier_len f
   pub less : to_do g ≤ to_do f
@@ -62,3 +65,13 @@ pub record Moves (f g : Frontier) : Type 0 where
   pub kept : (e q : ℕ) → IsQueued f e q → IsQueued g e q
   pub len : frontier_len g ≡ frontier_len f
   pub less : to_do g ≤ to_do f
+
+pub record IsCounted (f : Frontier) (n near next : ℕ) : Type 0 where
+  pub slots : List ℕ
+  pub many : length slots ≡ n
+  pub apart : AreApart slots
+  pub low : (p : ℕ) → Contains slots p → label_of f p ≤ near
+  pub done : (p : ℕ) → Contains slots p → ¬ IsQueued f (label_of f p) p
+  pub waits : (p : ℕ) → label_of f p ≤ GREATEST_LIMIT → Contains slots p ⊎ IsQueued f (label_of f p) p
+  pub ahead : (e p : ℕ) → IsQueued f e p → next ≤ e
+  pub ordered : near ≤ next

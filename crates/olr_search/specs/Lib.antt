@@ -1,7 +1,7 @@
 pub mod Counts
 pub mod Entries
-pub mod Queues
 pub mod Notes
+pub mod Queues
 pub mod Frontiers
 pub mod Distances
 pub mod Searches

@@ -3,8 +3,12 @@
 --         slot
 --     Queued q d p      slot p is queued, at length d
 --     queue_len q      how many entries there are
-use Rattle.std.specs.Prelude.{ℕ, ◌+◌, ◌*◌, ◌<◌, ◌^◌, Contains}
+--     LowLabels table q      no slot is queued at a length that is less than its label
+use Rattle.std.specs.Prelude.{ℕ, ◌+◌, ◌*◌, ◌<◌, ◌≤◌, ◌^◌, List, Contains}
 use Rattle.std.specs.BinaryHeap.{heap_items, heap_len}
+use Rattle.std.specs.Coded.{coded_ℕ, Coded-set}
+use Rattle.std.proofs.Props.{props}
+use Rattle.olr_search.specs.Notes.{label_in}
 use Rattle.olr_search.specs.declared.queue.Queue.{Queue}
 
 abbrev pub queue_key : ℕ → ℕ → ℕ
@@ -16,3 +20,9 @@ pub record Queued (q : Queue) (d p : ℕ) : Type 0 where
 
 abbrev pub queue_len : Queue → ℕ
 queue_len q = heap_len q.heap
+
+abbrev pub LowLabels : List ℕ → Queue → Type 0
+LowLabels table q = (d p : ℕ) → Queued q d p → label_in table p ≤ d
+
+abbrev pub LowLabels-prop : (table : List ℕ) (q : Queue) → IsProp (LowLabels table q)
+LowLabels-prop table q = hlevel (props, Coded-set coded_ℕ)

@@ -1,7 +1,7 @@
 -- A search that can be continued.
 --     limit_of s      the limit in decimetres to which it is settled
 --     IsSearch M slot direction from s      its labels within this limit are the distances within it, on the map M
---         with its nodes' slots
+--         with its nodes' slots, and they are counted
 --     LiesWithin M direction from limit v      v has a distance of at most the limit
 --     IsReached M direction from v      a route of at most the greatest limit leads to v
 --     Counts M direction from limit n      n nodes have a distance of at most the limit
@@ -21,7 +21,7 @@ use Rattle.std.specs.List.{IsDistinct}
 use Rattle.olr_spec.specs.Map.{Map, IsMap, has_node, has_line, start, end, dm}
 use Rattle.olr_search.specs.Distances.{Leads, IsDistance, near_end, far_end}
 use Rattle.olr_search.specs.Notes.{AreApart}
-use Rattle.olr_search.specs.Frontiers.{label_of, frontier_len, IsQueued}
+use Rattle.olr_search.specs.Frontiers.{label_of, frontier_len, IsQueued, IsCounted}
 use Rattle.olr_search.specs.declared.frontier.TheConstants.{GREATEST_LIMIT}
 use Rattle.olr_search.specs.declared.frontier.TheConstants.{UNREACHED}
 use Rattle.olr_search.specs.declared.frontier.Frontier.{Frontier}
@@ -80,6 +80,7 @@ pub record IsSearch (M : Map) (slot : ℕ → ℕ) (direction : Direction) (from
   pub small : s.limit ≤ GREATEST_LIMIT
   pub settled : (v d : ℕ) → IsTrue (has_node M v) → d ≤ s.limit → Leads M direction from v d →
       label_of s.frontier (slot v) ≤ d
+  pub counted : IsCounted s.frontier s.settled s.limit (s.limit + 1)
 
 -- no line but x leads to v within a length
 abbrev pub IsOnlyPredecessor : Map → (ℕ → ℕ) → Frontier → ℕ → ℕ → ℕ → Type 0

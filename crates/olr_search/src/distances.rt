@@ -40,6 +40,8 @@ pub enum Direction {
 pub struct Dijkstra {
     direction: Direction,
     limit: u32,
+    /// How many nodes are within the limit.
+    settled: usize,
     frontier: Frontier,
 }
 
@@ -51,13 +53,14 @@ impl Dijkstra {
         Dijkstra {
             direction: Direction::Along,
             limit: 0,
+            settled: 0,
             frontier: Frontier::new(alloc),
         }
     }
 
-    /// Discards the previous search, and begins one at these nodes, each with a start value in decimetres. Nodes that
-    /// are not on the map are skipped. Takes time proportional to the number of these nodes and of the previous
-    /// search's labels.
+    /// Discards the previous search, begins one at these nodes, each with a start value in decimetres, and settles it to
+    /// the limit 0. Nodes that are not on the map are skipped. Takes time proportional to the number of these nodes, of
+    /// the lines from those with the start value 0, and of the previous search's labels.
     pub fn begin<M: MapRead>(
         &mut self,
         map: &M,
@@ -75,6 +78,8 @@ impl Dijkstra {
             let (node, length) = *begin;
             start(map, direction, node, length, &mut self.frontier)?;
         }
+        let settled = settle(map, direction, 0, &Anywhere, &mut self.frontier)?;
+        self.settled = settled;
         Ok(())
     }
 
@@ -94,7 +99,8 @@ impl Dijkstra {
             → StaysWithin (M.map map.now) (M.node_slot map.now) direction limit (label_at self.old)
             (label_at self.new)) }
     {
-        settle(map, self.direction, limit, &Anywhere, &mut self.frontier)?;
+        let settled = settle(map, self.direction, limit, &Anywhere, &mut self.frontier)?;
+        self.settled += settled;
         self.limit = self.limit.max(limit);
         Ok(())
     }
@@ -188,12 +194,11 @@ impl Dijkstra {
     }
 
     /// The number of nodes that the search has settled since it began: those within the limit to which it is settled.
-    /// Takes time proportional to the number of nodes that it has labelled.
     pub fn settled_count(&self) -> usize
         ensures { (M : Map) (node_slot : ℕ → ℕ) (direction : _) (from : List (ℕ × ℕ))
             → IsSearch M node_slot direction from self.now → Counts M direction from (limit_of self.now) result }
     {
-        self.frontier.count_within(self.limit)
+        self.settled
     }
 
     /// The nodes within the limit to which the search is settled, in ascending order.

@@ -1,6 +1,7 @@
 //! The state of a search: labels by slot, the slots of the labelled nodes, and the queue of slots to continue from.
 ghost use Rattle.std.specs.Prelude.{◌≡◌, ◌<◌, OnErr, OnOk};
 ghost use Rattle.olr_search.specs.Notes.{AreAllReached, AreAllReached-prop, NotesOnce};
+ghost use Rattle.olr_search.specs.Queues.{LowLabels, LowLabels-prop};
 
 use crate::queue::Queue;
 use olr_roads::{MapRead, NodeId};
@@ -22,6 +23,7 @@ pub struct Frontier {
     /// the processor's cache, some time before the search follows them.
     lines_ahead: u64,
     ghost noted: { AreAllReached table.items reached.items } by { AreAllReached-prop table.items reached.items },
+    ghost low: { LowLabels table.items queue } by { LowLabels-prop table.items queue },
 }
 
 /// Records the slot of a node that has no label yet.
@@ -36,7 +38,7 @@ fn note(reached: &mut Vec<u32>, label: u32, slot: u32) -> Result<(), AllocError>
 }
 
 impl Frontier {
-    ghost use Rattle.std.specs.Prelude.{◌≤◌, ◌+◌, ◌⊎◌, ◌++◌, ◌∷◌, ℕ, [], cond, IsTrue, IfOk, IfSome, IfNone, count_by, nat_le};
+    ghost use Rattle.std.specs.Prelude.{◌≤◌, ◌+◌, ◌⊎◌, ◌++◌, ◌∷◌, ℕ, [], cond, IsTrue, IfOk, IfSome, IfNone, nat_le};
     ghost use Rattle.std.specs.List.{filter};
     ghost use Rattle.olr_spec.specs.Map.{has_node};
     ghost use Rattle.olr_search.specs.Notes.{AreFilled, AreNodesIn};
@@ -69,16 +71,6 @@ impl Frontier {
         ensures { result.now ≡ self.now.reached.items }
     {
         &self.reached
-    }
-
-    /// The number of labels that are at most `limit`. Takes time proportional to the number of labels.
-    pub fn count_within(&self, limit: u32) -> usize
-        ensures { result ≡ count_by (λ p. nat_le (label_of self.now p) limit) self.now.reached.items }
-    {
-        self.reached
-            .iter()
-            .filter(|slot| self.label(**slot) <= limit)
-            .count()
     }
 
     /// Appends the node in a slot, if the label there is at most `limit`.
@@ -123,13 +115,13 @@ impl Frontier {
     pub fn clear(&mut self)
         ensures { IsEmpty self.new }
     {
+        self.queue.clear();
         while let Some(reached) = self.reached.pop() {
             let slot = reached as usize;
             if slot < self.table.len() {
                 self.table[slot] = UNREACHED;
             }
         }
-        self.queue.clear();
     }
 
     /// Makes the table long enough for `count` slots.
@@ -163,9 +155,12 @@ impl Frontier {
     pub fn pop_within(&mut self, limit: u32) -> Option<(u32, u32)>
         ensures alike { IsAlike self.old self.new }
         ensures within { IfSome result (λ x. x.0 ≤ limit) }
+        ensures there { IfSome result (λ x. IsQueued self.old x.0 x.1) }
         ensures least { IfSome result (λ x. (d p : ℕ) → IsQueued self.old d p → x.0 ≤ d) }
         ensures others { IfSome result (λ x. (d p : ℕ) → IsQueued self.old d p → IsQueued self.new d p
             ⊎ ((d ≡ x.0) × (p ≡ x.1))) }
+        ensures gone { IfSome result (λ x. ¬ IsQueued self.new x.0 x.1) }
+        ensures fewer { (d p : ℕ) → IsQueued self.new d p → IsQueued self.old d p }
         ensures len { IfSome result (λ x. queued_len self.new + 1 ≡ queued_len self.old) }
         ensures far { IfNone result ((d p : ℕ) → IsQueued self.new d p → limit < d) }
         ensures same { IfNone result ((d p : ℕ) → IsQueued self.old d p → IsQueued self.new d p) }

@@ -1,7 +1,9 @@
 //! The slots from which a search continues, the nearest first.
 ghost use Rattle.std.proofs.Props.{props};
 ghost use Rattle.std.specs.BinaryHeap.{IsHeap, heap_items};
-ghost use Rattle.olr_search.specs.Entries.{entry_cmp};
+ghost use Rattle.std.specs.List.{IsDistinct};
+ghost use Rattle.std.proofs.lemmas.Map.Keys.{IsDistinct-prop};
+ghost use Rattle.olr_search.specs.Entries.{entry_cmp, entry_eq};
 
 use std::alloc::{AllocError, Global};
 use std::cmp::Reverse;
@@ -10,16 +12,17 @@ use std::collections::BinaryHeap;
 /// How many slots there may be.
 const SLOTS: u64 = 4_294_967_296;
 
-/// Lengths, and the slots of the nodes that routes of these lengths reach, each pair as one number. Keeps its capacity
-/// when it is cleared.
+/// Lengths, and the slots of the nodes that routes of these lengths reach, each pair once and as one number. Keeps its
+/// capacity when it is cleared.
 #[derive(Drop)]
 pub struct Queue {
     heap: BinaryHeap<Reverse<u64>>,
     ghost ordered: { IsHeap entry_cmp (heap_items heap) } by { Prim.hlevel props },
+    ghost once: { IsDistinct entry_eq (heap_items heap) } by { IsDistinct-prop entry_eq (heap_items heap) },
 }
 
 impl Queue {
-    ghost use Rattle.std.specs.Prelude.{◌≡◌, ◌≤◌, ◌<◌, ◌+◌, ◌⊎◌, ℕ, OnOk, IfSome, IfNone};
+    ghost use Rattle.std.specs.Prelude.{◌≡◌, ◌≤◌, ◌<◌, ◌+◌, ◌⊎◌, ℕ, OnOk, OnErr, IfSome, IfNone};
     ghost use Rattle.olr_search.specs.Queues.{Queued, queue_len};
 
     /// The empty queue. Does not allocate.
@@ -38,10 +41,14 @@ impl Queue {
         self.heap.clear();
     }
 
-    /// Adds a slot, at a length in decimetres.
+    /// Adds a slot, at a length in decimetres at which it is not queued.
     pub fn push(&mut self, dist: u32, slot: u32) -> Result<(), AllocError>
+        requires { ¬ Queued self.old dist slot }
         ensures there { OnOk result (Queued self.new dist slot) }
         ensures kept { OnOk result ((d p : ℕ) → Queued self.old d p → Queued self.new d p) }
+        ensures added { OnOk result ((d p : ℕ) → Queued self.new d p → Queued self.old d p
+            ⊎ ((d ≡ dist) × (p ≡ slot))) }
+        ensures unchanged { OnErr result ((d p : ℕ) → Queued self.new d p → Queued self.old d p) }
         ensures len { OnOk result (queue_len self.new ≡ queue_len self.old + 1) }
     {
         let entry = u64::from(dist) * SLOTS + u64::from(slot);
@@ -52,9 +59,12 @@ impl Queue {
     /// Removes the least length, and returns it with its slot. None if no length is at most `limit`.
     pub fn pop_within(&mut self, limit: u32) -> Option<(u32, u32)>
         ensures within { IfSome result (λ x. x.0 ≤ limit) }
+        ensures there { IfSome result (λ x. Queued self.old x.0 x.1) }
         ensures least { IfSome result (λ x. (d p : ℕ) → Queued self.old d p → x.0 ≤ d) }
         ensures others { IfSome result (λ x. (d p : ℕ) → Queued self.old d p → Queued self.new d p
             ⊎ ((d ≡ x.0) × (p ≡ x.1))) }
+        ensures gone { IfSome result (λ x. ¬ Queued self.new x.0 x.1) }
+        ensures fewer { (d p : ℕ) → Queued self.new d p → Queued self.old d p }
         ensures len { IfSome result (λ x. queue_len self.new + 1 ≡ queue_len self.old) }
         ensures far { IfNone result ((d p : ℕ) → Queued self.new d p → limit < d) }
         ensures same { IfNone result (self.new ≡ self.old) }

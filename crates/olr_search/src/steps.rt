@@ -1,9 +1,9 @@
 //! The steps of a search that can be continued: the nodes where it begins, the lines from a node, and all queued nodes up
 //! to a length.
-ghost use Rattle.std.specs.Prelude.{◌≡◌, ◌≤◌, ◌<◌, ◌⊎◌, ℕ, List, Contains, OnOk, IsTrue};
+ghost use Rattle.std.specs.Prelude.{◌≡◌, ◌≤◌, ◌<◌, ◌+◌, ◌⊎◌, ℕ, List, Contains, OnOk, IfOk, IsTrue, max};
 ghost use Rattle.olr_spec.specs.Map.{Map, has_node};
 ghost use Rattle.olr_search.specs.Distances.{Leads, ends_at, lines_at};
-ghost use Rattle.olr_search.specs.Frontiers.{Moves, IsQueued, label_of, frontier_len};
+ghost use Rattle.olr_search.specs.Frontiers.{Moves, IsQueued, IsCounted, label_of, frontier_len};
 ghost use Rattle.olr_search.specs.Searches.{CoversSlots, IsLabelled, IsUnderWay, CutAt, IsCut, StaysWithin};
 
 use crate::bounds::{Admits, Anywhere};
@@ -32,6 +32,8 @@ fn label_node<M: MapRead, A: Admits>(
         → A.lets admits.now v length → label_of frontier.new slot ≤ length) }
     ensures only { OnOk result ((p : ℕ) → (label_of frontier.new p ≡ label_of frontier.old p)
         ⊎ ((label_of frontier.new p ≡ length) × (p ≡ slot))) }
+    ensures counted { OnOk result ((n near next : ℕ) → near < length → next ≤ length
+        → IsCounted frontier.old n near next → IsCounted frontier.new n near next) }
 {
     if length < frontier.label(slot) && admits.admits(map, slot, length) {
         let ahead = ends_from(map, direction, slot).len();
@@ -112,6 +114,8 @@ fn follow<M: MapRead, A: Admits>(
         → CutAt (M.map map.now) (M.node_slot map.now) direction (A.lets admits.now) frontier.new v dist) }
     ensures near { OnOk result (StaysWithin (M.map map.now) (M.node_slot map.now) direction dist
         (label_of frontier.old) (label_of frontier.new)) }
+    ensures counted { OnOk result ((n : ℕ) → IsCounted frontier.old n dist dist
+        → IsCounted frontier.new n dist dist) }
 {
     for end in ends_from(map, direction, slot) {
         label_node(map, direction, admits, end.slot, dist + end.len, frontier)?;
@@ -119,18 +123,19 @@ fn follow<M: MapRead, A: Admits>(
     Ok(())
 }
 
-/// Continues a search until nothing is queued at a length of at most `limit` decimetres. Only nodes that may be labelled
-/// get labels.
+/// Continues a search until nothing is queued at a length of at most `limit` decimetres, and returns how many nodes it
+/// settled. Only nodes that may be labelled get labels.
 pub fn settle<M: MapRead, A: Admits>(
     map: &M,
     direction: Direction,
     limit: u32,
     admits: &A,
     frontier: &mut Frontier,
-) -> Result<(), AllocError>
+) -> Result<usize, AllocError>
     requires small { limit ≤ GREATEST_LIMIT }
     requires begun { (from : List (ℕ × ℕ))
         × IsUnderWay (M.map map.now) (M.node_slot map.now) direction from frontier.old }
+    requires counted { (n : ℕ) × (near : ℕ) × (next : ℕ) × IsCounted frontier.old n near next × (near ≤ GREATEST_LIMIT) }
     ensures cut { OnOk result ((from : List (ℕ × ℕ))
         → IsUnderWay (M.map map.now) (M.node_slot map.now) direction from frontier.old
         → IsCut (M.map map.now) (M.node_slot map.now) direction from (A.lets admits.now) frontier.new) }
@@ -138,12 +143,16 @@ pub fn settle<M: MapRead, A: Admits>(
     ensures far { OnOk result ((d p : ℕ) → IsQueued frontier.new d p → limit < d) }
     ensures near { OnOk result (StaysWithin (M.map map.now) (M.node_slot map.now) direction limit
         (label_of frontier.old) (label_of frontier.new)) }
+    ensures counted { IfOk result (λ settled. (n near next : ℕ) → IsCounted frontier.old n near next
+        → IsCounted frontier.new (n + settled) (max near limit) (max next (limit + 1))) }
 {
+    let mut settled = 0;
     while let Some(next) = frontier.pop_within(limit) {
         let (dist, slot) = next;
         if frontier.label(slot) == dist {
+            settled += 1;
             follow(map, direction, dist, slot, admits, frontier)?;
         }
     }
-    Ok(())
+    Ok(settled)
 }

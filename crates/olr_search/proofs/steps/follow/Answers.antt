@@ -1,5 +1,5 @@
 use Rattle.olr_search.proofs.Common.{◌≡◌, ◌≤◌, ◌+◌, ℕ, IsTrue, get_or, sym, ap, subst, ◌∙◌, arith, inl, inr}
-use Rattle.olr_search.proofs.Common.{has_node, Leads, near_end, far_end, label_of, below_more, line_short}
+use Rattle.olr_search.proofs.Common.{has_node, Leads, near_end, far_end, label_of, below_more, line_short, positive}
 use Rattle.olr_search.proofs.WayLemmas.{end_is, has_end, no_end, far_node, leads_on}
 use Rattle.olr_search.proofs.SearchLemmas.{moves_then}
 use Rattle.olr_search.proofs.CutLemmas.{stays_then}
@@ -84,6 +84,9 @@ loop-end-preserved g c =
                   sum = omega (arith, c.requires.label, e.len, new.0);
                 })
           ]);
+      counted = λ n h.
+          let some = positive M (g.met.M.MapRead.sound c.args.map.now) e.line e.known in
+          to.counted n d d (omega (arith, e.len)) (omega arith) (inv.counted n h);
     }
 
 pub returns-clause-closed : goal.returns-clause-closed

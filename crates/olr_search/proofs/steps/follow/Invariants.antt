@@ -1,5 +1,5 @@
 use Rattle.olr_search.proofs.Common.{◌≡◌, ◌≤◌, ◌<◌, ◌+◌, ℕ, List, IsTrue, get_or, has_node, Leads, Moves, label_of}
-use Rattle.olr_search.proofs.Common.{IsLabelled, StaysWithin}
+use Rattle.olr_search.proofs.Common.{IsLabelled, StaysWithin, IsCounted}
 use Rattle.olr_search.proofs.WayLemmas.{no_end}
 use Rattle.olr_search.proofs.steps.follow.Given as goal
 
@@ -17,4 +17,5 @@ invariant-loop-end g l = record {
       + (get_or l.end-items j no_end).len;
   near : StaysWithin (g.M.MapRead.map l.fn.map) (g.M.MapRead.node_slot l.fn.map) l.fn.direction l.dist
       (label_of l.initial.frontier) (label_of l.frontier);
+  counted : (n : ℕ) → IsCounted l.initial.frontier n l.dist l.dist → IsCounted l.frontier n l.dist l.dist;
 }

@@ -1,4 +1,6 @@
-use Rattle.olr_search.proofs.Common.{◌≡◌, refl, sym, ap, ◌∙◌, inl, inr, arith, label_of}
+use Rattle.olr_search.proofs.Common.{◌≡◌, ◌+◌, ℕ, refl, sym, ap, subst, ◌∙◌, inl, inr, arith, label_of, IsCounted, IsQueued}
+use Rattle.olr_search.proofs.SettledLemmas.{counted_same, counted_more, counted_up, counted_fits}
+use Rattle.olr_search.proofs.steps.settle.Given.{Over}
 use Rattle.olr_search.proofs.CutLemmas.{cut_begun, cut_same, cut_more, stays_then, stays_more}
 use Rattle.olr_search.proofs.SearchLemmas.{alike_labels}
 use Rattle.olr_search.proofs.steps.settle.Goals as goal
@@ -9,6 +11,7 @@ loop-next-init g c = record {
       from (g.A.Admits.lets c.args.admits.now) c.args.frontier.now u;
   better = λ p. omega arith;
   near = λ p. inl refl;
+  counted = λ n near next h. (near, next, subst (λ (m : ℕ). IsCounted c.args.frontier.now m near next) (omega arith) h, omega arith, omega arith);
 }
 
 pub follow-requires-clause-node : goal.follow-requires-clause-node
@@ -22,6 +25,18 @@ follow-requires-clause-room g c = λ v known.
     let u = c.loop-next.invariant.cut c.requires.begun.0 c.requires.begun.1 in
     let was = u.labelled.room v known in
     omega (arith, c.in-Some.ensures.alike.len)
+
+pub overflow_add-settled : goal.overflow_add-settled
+overflow_add-settled g c =
+    let o = c.in-Some.ensures in
+    let own = c.requires.counted in
+    let k = c.loop-next.invariant.counted own.0 own.1 own.2 own.3 in
+    let fits =
+    counted_fits c.pop_within.new.self (own.0 + c.loop-next.settled + 1) c.in-Some.next.0 c.in-Some.next.0
+    (omega (arith, o.within))
+    (counted_more c.loop-next.frontier c.pop_within.new.self o.alike o.fewer c.in-Some.next.0 c.in-Some.next.1 o.least
+    o.there o.gone o.others (omega (arith, alike_labels _ _ o.alike c.in-Some.next.1)) (own.0 + c.loop-next.settled) k.0 k.1 k.2) in
+    omega arith
 
 pub loop-next-preserved-in-Continue-1 : goal.loop-next-preserved-in-Continue-1
 loop-next-preserved-in-Continue-1 g c =
@@ -43,7 +58,34 @@ loop-next-preserved-in-Continue-1 g c =
           (λ p. let le = e.moves.better p in omega (arith, alike_labels _ _ o.alike p)) c.loop-next.invariant.near
           (stays_more _ _ _ _ c.loop-next.frontier c.pop_within.new.self c.follow.new.frontier c.in-Some.next.0 o.alike
           (omega (arith, o.within)) e.near);
+      counted = λ n near next h.
+          let k = c.loop-next.invariant.counted n near next h in
+          let le = k.2.ahead c.in-Some.next.0 c.in-Some.next.1 o.there in
+          let now =
+          e.counted (n + c.loop-next.settled + 1)
+          (counted_more c.loop-next.frontier c.pop_within.new.self o.alike o.fewer c.in-Some.next.0 c.in-Some.next.1
+          o.least o.there o.gone o.others (omega arith) (n + c.loop-next.settled) k.0 k.1 k.2) in (
+            c.in-Some.next.0,
+            c.in-Some.next.0,
+            subst (λ (m : ℕ). IsCounted c.follow.new.frontier m c.in-Some.next.0 c.in-Some.next.0) (omega arith) now,
+            omega (arith, o.within),
+            omega (arith, k.4),
+          );
     }
+
+-- each label that is queued still is
+still : (g : Over) (c : goal.Else-label-dist g) (q : ℕ) →
+    IsQueued c.loop-next.frontier (label_of c.loop-next.frontier q) q →
+    IsQueued c.pop_within.new.self (label_of c.loop-next.frontier q) q
+still g c q w =
+    let o = c.in-Some.ensures in
+    elim (o.others (label_of c.loop-next.frontier q) q w) [
+      | inl kept ↦ kept
+      | inr h ↦
+          let was : label_of c.loop-next.frontier c.in-Some.next.1 ≡ c.in-Some.next.0 =
+          ap (label_of c.loop-next.frontier) (sym h.1) ∙ h.0 in
+          absurd (c.if-label-dist.false (omega (arith, alike_labels _ _ o.alike c.in-Some.next.1)))
+    ]
 
 pub loop-next-preserved : goal.loop-next-preserved
 loop-next-preserved g c =
@@ -51,14 +93,16 @@ loop-next-preserved g c =
     record {
       cut = λ from u.
           cut_same (g.M.MapRead.map c.args.map.now) (g.M.MapRead.node_slot c.args.map.now) c.args.direction from
-          (g.A.Admits.lets c.args.admits.now) c.loop-next.frontier c.pop_within.new.self o.alike
-          (λ q w. elim (o.others (label_of c.loop-next.frontier q) q w) [
-            | inl still ↦ still
-            | inr h ↦
-                let was : label_of c.loop-next.frontier c.in-Some.next.1 ≡ c.in-Some.next.0 =
-                ap (label_of c.loop-next.frontier) (sym h.1) ∙ h.0 in
-                absurd (c.if-label-dist.false (omega (arith, alike_labels _ _ o.alike c.in-Some.next.1)))
-          ]) (c.loop-next.invariant.cut from u);
+          (g.A.Admits.lets c.args.admits.now) c.loop-next.frontier c.pop_within.new.self o.alike (still g c)
+          (c.loop-next.invariant.cut from u);
+      counted = λ n near next h.
+          let k = c.loop-next.invariant.counted n near next h in (
+            k.0,
+            k.1,
+            counted_same c.loop-next.frontier c.pop_within.new.self o.alike o.fewer (still g c) _ k.0 k.1 k.2,
+            k.3,
+            k.4,
+          );
       better = λ q. let b = c.loop-next.invariant.better q in omega (arith, alike_labels _ _ o.alike q);
       near =
           stays_then _ _ _ _ c.args.frontier.now c.loop-next.frontier c.pop_within.new.self
@@ -72,6 +116,15 @@ returns-clause-cut g c = λ from u.
     cut_same (g.M.MapRead.map c.args.map.now) (g.M.MapRead.node_slot c.args.map.now) c.args.direction from
     (g.A.Admits.lets c.args.admits.now) c.loop-next.frontier c.pop_within.new.self e.alike (λ q w. e.same _ q w)
     (c.loop-next.invariant.cut from u)
+
+pub returns-clause-counted : goal.returns-clause-counted
+returns-clause-counted g c = λ n near next h.
+    let e = c.in_default.ensures in
+    let k = c.loop-next.invariant.counted n near next h in
+    let now =
+    counted_same c.loop-next.frontier c.pop_within.new.self e.alike e.fewer (λ q w. e.same _ q w) _ k.0 k.1 k.2 in
+    counted_up c.pop_within.new.self _ k.0 k.1 _ _ (omega (arith, k.3)) (omega (arith, h.ordered))
+    (λ d p w. let far = e.far d p w in let le = now.ahead d p w in omega (arith, k.4)) now
 
 pub returns-clause-near : goal.returns-clause-near
 returns-clause-near g c =

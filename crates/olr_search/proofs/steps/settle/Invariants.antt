@@ -1,4 +1,4 @@
-use Rattle.olr_search.proofs.Common.{◌≤◌, ℕ, List, label_of, IsUnderWay, IsCut, StaysWithin, to_do}
+use Rattle.olr_search.proofs.Common.{◌≤◌, ◌+◌, ℕ, List, max, label_of, IsUnderWay, IsCut, IsCounted, StaysWithin, to_do}
 use Rattle.olr_search.proofs.steps.settle.Given as goal
 
 abbrev pub invariant-loop-next : goal.invariant-loop-next
@@ -10,6 +10,8 @@ invariant-loop-next g l = record {
   better : (p : ℕ) → label_of l.frontier p ≤ label_of l.initial.frontier p;
   near : StaysWithin (g.M.MapRead.map l.map) (g.M.MapRead.node_slot l.map) l.direction l.limit
       (label_of l.initial.frontier) (label_of l.frontier);
+  counted : (n near next : ℕ) → IsCounted l.initial.frontier n near next
+      → (low : ℕ) × (high : ℕ) × IsCounted l.frontier (n + l.settled) low high × (low ≤ max near l.limit) × (next ≤ high);
 }
 
 abbrev pub decreases-loop-next : goal.decreases-loop-next

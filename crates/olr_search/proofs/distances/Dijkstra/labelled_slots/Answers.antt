@@ -11,7 +11,7 @@ returns-clause-near c = λ M node_slot direction from v h near.
 pub returns-clause-labelled : goal.returns-clause-labelled
 returns-clause-labelled c = λ M node_slot direction from v l known small.
     subst (λ (ps : List ℕ). Contains ps (node_slot v)) (sym c.labelled_slots.ensures)
-    (labelled_listed M node_slot direction from c.args.self.now.frontier l v known small)
+    (labelled_listed c.args.self.now.frontier (node_slot v) small)
 
 pub returns-clause-once : goal.returns-clause-once
 returns-clause-once c = λ M node_slot direction from h.

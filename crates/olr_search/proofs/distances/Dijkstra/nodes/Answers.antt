@@ -2,7 +2,7 @@ use Rattle.olr_search.proofs.Common.{ℕ, List, IsPermutation, Contains-permutat
 use Rattle.olr_search.proofs.Common.{IsNonDecreasingBy-from_sort, IsDistinct-IsPermutation, Direction}
 use Rattle.olr_search.proofs.Common.{IsStrictlyIncreasing-from_distinct}
 use Rattle.std.specs.Cmp.{nat_eq_equiv}
-use Rattle.olr_search.proofs.CountLemmas.{filled, near_slots, near_apart, near_exactly}
+use Rattle.olr_search.proofs.CountLemmas.{filled, near_slots, near_slots_apart, near_slots_exactly, apart_in, exactly_in}
 use Rattle.olr_search.proofs.distances.Dijkstra.nodes.Given.{Over}
 use Rattle.olr_search.proofs.distances.Dijkstra.nodes.Goals as goal
 
@@ -31,11 +31,14 @@ returns-clause-ascending g c = λ direction from h.
     IsStrictlyIncreasing-from_distinct (after g c)
     (IsNonDecreasingBy-from_sort (λ n. n) (after g c) c.sort_unstable.ensures.sorted)
     (IsDistinct-IsPermutation eqb nat_eq_equiv.symm (near g c) (after g c) (sorted g c)
-    (near_apart _ _ direction from c.args.self.now h (near g c) (are g c direction from h)))
+    (apart_in _ _ direction from c.args.self.now h _ (near_slots_apart _ _ direction from c.args.self.now h)
+    (near_slots_exactly _ _ direction from c.args.self.now h) (near g c) (are g c direction from h)))
 
 pub returns-clause-nodes : goal.returns-clause-nodes
 returns-clause-nodes g c = λ direction from v h.
-    let all = near_exactly _ _ direction from c.args.self.now h (near g c) (are g c direction from h) v in (
+    let all =
+    exactly_in _ _ direction from c.args.self.now h _ (near_slots_apart _ _ direction from c.args.self.now h)
+    (near_slots_exactly _ _ direction from c.args.self.now h) (near g c) (are g c direction from h) v in (
       λ there. all.0
           (Contains-permutation (after g c) (near g c) v (IsPermutation-sym (near g c) (after g c) (sorted g c)) there),
       λ is. Contains-permutation (near g c) (after g c) v (sorted g c) (all.1 is),

@@ -1,4 +1,4 @@
-use Rattle.olr_search.proofs.Common.{ℕ, List, sym, subst, arith, IsSearch, IsUnderWay, IsCut, Direction}
+use Rattle.olr_search.proofs.Common.{ℕ, ◌+◌, List, sym, subst, arith, IsSearch, IsUnderWay, IsCut, Direction}
 use Rattle.olr_search.specs.Bounds.{IsUnder, bound_in}
 use Rattle.olr_search.proofs.CutLemmas.{cut_settled}
 use Rattle.olr_search.proofs.distances.Dijkstra.settle_under.Given.{Over}
@@ -15,6 +15,11 @@ cut g c direction from h =
     subst (λ (d : Direction). IsCut M slot d from (IsUnder (bound_in c.args.bounds.now)) c.settle.new.frontier) h.way
     (c.in_ok-settle.ensures.cut from
     (subst (λ (d : Direction). IsUnderWay M slot d from c.args.self.now.frontier) (sym h.way) h.under_way))
+
+pub settle-requires-clause-counted : goal.settle-requires-clause-counted
+settle-requires-clause-counted g c =
+    let h = c.requires.begun.2 in
+    (c.args.self.now.settled, c.args.self.now.limit, c.args.self.now.limit + 1, h.counted, h.small)
 
 pub returns-clause-labelled : goal.returns-clause-labelled
 returns-clause-labelled g c = λ direction from h. (cut g c direction from h).labelled

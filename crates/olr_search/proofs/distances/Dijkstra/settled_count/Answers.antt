@@ -2,6 +2,4 @@ use Rattle.olr_search.proofs.CountLemmas.{counted}
 use Rattle.olr_search.proofs.distances.Dijkstra.settled_count.Goals as goal
 
 pub returns : goal.returns
-returns c =
-    λ M node_slot direction from h. counted M node_slot direction from c.args.self.now h c.count_within.result
-    c.count_within.ensures
+returns c = λ M node_slot direction from h. counted M node_slot direction from c.args.self.now h
