@@ -84,14 +84,12 @@ impl Index {
             ≡ (holds self.old n m || ((number == n) && (path_id == m)))) }
         ensures err { OnErr result ((n m : ℕ) → holds self.new n m ≡ holds self.old n m) }
     {
-        if let Some(path_ids) = self.path_ids.get_mut(&number) {
-            return put(path_ids, path_id);
-        }
-        let mut path_ids = SmallVec::new(self.alloc);
-        path_ids.push(path_id)?;
         self.greatest = self.greatest.max(number);
-        self.path_ids.insert(number, path_ids)?;
-        Ok(())
+        let path_ids = self
+            .path_ids
+            .entry(number)?
+            .or_insert(SmallVec::new(self.alloc));
+        put(path_ids, path_id)
     }
 
     /// Removes a path id from a number, if the number has it. Allocates nothing.
