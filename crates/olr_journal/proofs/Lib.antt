@@ -5,4 +5,5 @@ pub mod Replacing
 pub mod Scans
 pub mod Reading
 pub mod Blanking
+pub mod Settled
 pub mod Behind

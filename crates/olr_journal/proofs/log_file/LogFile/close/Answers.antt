@@ -4,6 +4,7 @@ use Rattle.olr_journal.specs.Texts.{text_of}
 use Rattle.olr_journal.specs.Files.{kept_in}
 use Rattle.olr_journal.proofs.Keeping.{led_here}
 use Rattle.olr_journal.proofs.Blanking.{cut_text, cut_twice_text, cut_twice_file}
+use Rattle.olr_journal.proofs.Settled.{twice_cut}
 use Rattle.olr_journal.proofs.log_file.LogFile.close.Goals as goal
 
 pub returns-in_err-cut-clause-cut : goal.returns-in_err-cut-clause-cut
@@ -21,33 +22,13 @@ returns-in_err-cut-clause-cut g c text left =
 
 pub returns-clause-cut : goal.returns-clause-cut
 returns-clause-cut g c text left =
-    let disk = g.D.Disk in
-    let self = c.args.self.now in
-    let settled = c.if-not-self.false in
-    let own = self.own settled in
-    let leaves = led_here disk.is_clean disk.may_leave (g.F.Folder.may_lead self.folder) self.number c.cut-2.new.disk self.rival text (self.led own.0) left in
-    let file = self.padded settled (sym c.cut.ensures.calm ∙ sym c.cut-2.ensures.calm ∙ leaves.clean) in
-    let from = c.cut-2.ensures.crash leaves.file leaves.left in
-    let once = disk.seen c.cut.new.disk in
-    let cut = subst (λ (d : List ℕ). Cut (self.text_len + 1) d leaves.file) (c.in_ok-cut.ensures.durable from.0 from.1) from.2 in
-    let short : self.text_len + 1 < length (disk.seen self.disk) = omega (arith, (self.room settled).0, file.0) in
-    inr (sym leaves.is ∙ cut_twice_text self.text_len (disk.seen self.disk) short file.1 once leaves.file c.cut.ensures.others c.in_ok-cut.ensures.len cut
-    ∙ ap (λ (b : Bool). kept_in b self.text_len (disk.seen self.disk)) (sym own.1))
+    inr (twice_cut c.args.self.now c.if-not-self.false c.cut.new.disk c.cut-2.new.disk c.cut.ensures.calm c.cut-2.ensures.calm c.cut.ensures.others
+    c.in_ok-cut.ensures.len c.in_ok-cut.ensures.durable c.cut-2.ensures.crash text left)
 
 pub returns-in_err-cut-2-clause-cut : goal.returns-in_err-cut-2-clause-cut
 returns-in_err-cut-2-clause-cut g c text left =
-    let disk = g.D.Disk in
-    let self = c.args.self.now in
-    let settled = c.if-not-self.false in
-    let own = self.own settled in
-    let leaves = led_here disk.is_clean disk.may_leave (g.F.Folder.may_lead self.folder) self.number c.cut-2.new.disk self.rival text (self.led own.0) left in
-    let file = self.padded settled (sym c.cut.ensures.calm ∙ sym c.cut-2.ensures.calm ∙ leaves.clean) in
-    let from = c.cut-2.ensures.crash leaves.file leaves.left in
-    let once = disk.seen c.cut.new.disk in
-    let cut = subst (λ (d : List ℕ). Cut (self.text_len + 1) d leaves.file) (c.in_ok-cut.ensures.durable from.0 from.1) from.2 in
-    let short : self.text_len + 1 < length (disk.seen self.disk) = omega (arith, (self.room settled).0, file.0) in
-    inr (sym leaves.is ∙ cut_twice_text self.text_len (disk.seen self.disk) short file.1 once leaves.file c.cut.ensures.others c.in_ok-cut.ensures.len cut
-    ∙ ap (λ (b : Bool). kept_in b self.text_len (disk.seen self.disk)) (sym own.1))
+    inr (twice_cut c.args.self.now c.if-not-self.false c.cut.new.disk c.cut-2.new.disk c.cut.ensures.calm c.cut-2.ensures.calm c.cut.ensures.others
+    c.in_ok-cut.ensures.len c.in_ok-cut.ensures.durable c.cut-2.ensures.crash text left)
 
 pub returns-clause-closed : goal.returns-clause-closed
 returns-clause-closed g c settled clean =

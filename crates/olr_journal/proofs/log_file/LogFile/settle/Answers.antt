@@ -3,6 +3,7 @@ use Rattle.olr_journal.specs.Texts.{text_of}
 use Rattle.olr_journal.specs.Files.{kept_in, IsPaddedText, Blanked, IsBlank}
 use Rattle.olr_journal.proofs.Keeping.{led_here}
 use Rattle.olr_journal.proofs.Blanking.{still_text, blanked_text, blank_size, blank_kept, blank_padded, padded_text}
+use Rattle.olr_journal.proofs.Settled.{rest_blanked}
 use Rattle.olr_journal.proofs.log_file.LogFile.settle.Goals as goal
 
 pub returns-then-self-clause-durable : goal.returns-then-self-clause-durable
@@ -27,31 +28,17 @@ returns-then-self-clause-padded g c clean =
 
 pub returns-in_err-blank-clause-cut : goal.returns-in_err-blank-clause-cut
 returns-in_err-blank-clause-cut g c text left =
-    let disk = g.D.Disk in
     let self = c.args.self.now in
-    let seen = disk.seen self.disk in
-    let alive = c.if-self-2.false in
-    let own = c.if-not-self.false in
-    let leaves = led_here disk.is_clean disk.may_leave (g.F.Folder.may_lead self.folder) self.number c.blank.new.disk self.rival text (self.led alive) left in
-    let found = (self.opened alive c.if-self.false).found own (sym c.blank.ensures.calm ∙ leaves.clean) in
     let to_is : c.in_ok-to.to ≡ max (self.text_len + 1) self.last + 1 = search rules in
-    let from = c.blank.ensures.crash leaves.file leaves.left in
-    let blanked = subst (λ (to : ℕ). Blanked (self.text_len + 1) to seen leaves.file) to_is (subst (λ (d : List ℕ). Blanked (self.text_len + 1) c.in_ok-to.to d leaves.file) (self.durable alive from.0 from.1) from.2) in
-    inr (sym leaves.is ∙ blanked_text self.text_len self.last seen found leaves.file blanked ∙ ap (λ (b : Bool). kept_in b self.text_len seen) (sym own))
+    inr (rest_blanked self c.if-self-2.false c.if-self.false c.if-not-self.false c.blank.new.disk c.blank.ensures.calm c.in_ok-to.to to_is
+    c.blank.ensures.crash text left)
 
 pub returns-clause-cut : goal.returns-clause-cut
 returns-clause-cut g c text left =
-    let disk = g.D.Disk in
     let self = c.args.self.now in
-    let seen = disk.seen self.disk in
-    let alive = c.if-self-2.false in
-    let own = c.if-not-self.false in
-    let leaves = led_here disk.is_clean disk.may_leave (g.F.Folder.may_lead self.folder) self.number c.blank.new.disk self.rival text (self.led alive) left in
-    let found = (self.opened alive c.if-self.false).found own (sym c.blank.ensures.calm ∙ leaves.clean) in
     let to_is : c.in_ok-to.to ≡ max (self.text_len + 1) self.last + 1 = search rules in
-    let from = c.blank.ensures.crash leaves.file leaves.left in
-    let blanked = subst (λ (to : ℕ). Blanked (self.text_len + 1) to seen leaves.file) to_is (subst (λ (d : List ℕ). Blanked (self.text_len + 1) c.in_ok-to.to d leaves.file) (self.durable alive from.0 from.1) from.2) in
-    inr (sym leaves.is ∙ blanked_text self.text_len self.last seen found leaves.file blanked ∙ ap (λ (b : Bool). kept_in b self.text_len seen) (sym own))
+    inr (rest_blanked self c.if-self-2.false c.if-self.false c.if-not-self.false c.blank.new.disk c.blank.ensures.calm c.in_ok-to.to to_is
+    c.blank.ensures.crash text left)
 
 pub returns-clause-kept : goal.returns-clause-kept
 returns-clause-kept g c clean =

@@ -2,7 +2,8 @@ use Rattle.std.proofs.Common.{rules, ◌≡◌, inr, ◌+◌, ◌-◌, ◌<◌, 
 use Rattle.std.proofs.lemmas.List.{append-nil}
 use Rattle.olr_journal.specs.Texts.{counts, text_of}
 use Rattle.olr_journal.specs.Files.{kept_in, KeepsFirst}
-use Rattle.olr_journal.proofs.Keeping.{led_here, no_records, counts_from, kept_text, put_cut, padded_after, size_after, text_after, kept_more, room_after}
+use Rattle.olr_journal.proofs.Keeping.{led_here, no_records, counts_from, kept_text, padded_after, size_after, text_after, kept_more, room_after}
+use Rattle.olr_journal.proofs.Settled.{more_put}
 use Rattle.olr_journal.proofs.log_file.LogFileJournal.keep.Goals as goal
 
 pub returns-in_err-self-clause-cut : goal.returns-in_err-self-clause-cut
@@ -20,31 +21,23 @@ returns-in_err-self-clause-cut g c text left =
 
 pub returns-in_err-put-clause-cut : goal.returns-in_err-put-clause-cut
 returns-in_err-put-clause-cut g c text left =
-    let disk = g.D.Disk in
     let self = c.args.self.now in
     let settled = c.if-not-is_settled.false in
-    let own = self.own settled in
-    let leaves = led_here disk.is_clean disk.may_leave (g.F.Folder.may_lead self.folder) self.number c.put.new.disk self.rival text (self.led own.0) left in
-    let file = self.padded settled (sym c.extend.ensures.calm ∙ sym c.put.ensures.calm ∙ leaves.clean) in
     let long = c.in_ok-self.ensures.needed in
     let end : c.in_ok-end.end ≡ self.text_len + 1 + length c.args.records.now = search rules in
-    let found = put_cut self.text_len self.file_len (disk.seen self.disk) (self.room settled).0 file.0 file.1 (c.in_ok-self.field-0 - self.file_len) (disk.seen c.extend.new.disk) c.args.records.now (c.in_ok-self.ensures.padded file.0) (omega (arith, end, long.0, long.1, file.0))
-    (disk.may_leave c.extend.new.disk) (disk.may_leave c.put.new.disk) (c.in_ok-self.ensures.durable (self.durable own.0)) c.put.ensures.crash leaves.file leaves.left in
-    inr (found.0, found.1, sym leaves.is ∙ found.2 ∙ ap (λ (b : Bool). kept_in b self.text_len (disk.seen self.disk) ++ found.0) (sym own.1))
+    inr (more_put self settled c.extend.new.disk c.put.new.disk c.extend.ensures.calm c.put.ensures.calm c.args.records.now c.in_ok-self.field-0
+    (omega (arith, end, long.0)) long.1 c.in_ok-self.ensures.padded (c.in_ok-self.ensures.durable (self.durable (self.own settled).0))
+    c.put.ensures.crash text left)
 
 pub returns-clause-cut : goal.returns-clause-cut
 returns-clause-cut g c text left =
-    let disk = g.D.Disk in
     let self = c.args.self.now in
     let settled = c.if-not-is_settled.false in
-    let own = self.own settled in
-    let leaves = led_here disk.is_clean disk.may_leave (g.F.Folder.may_lead self.folder) self.number c.put.new.disk self.rival text (self.led own.0) left in
-    let file = self.padded settled (sym c.extend.ensures.calm ∙ sym c.put.ensures.calm ∙ leaves.clean) in
     let long = c.in_ok-self.ensures.needed in
     let end : c.in_ok-end.end ≡ self.text_len + 1 + length c.args.records.now = search rules in
-    let found = put_cut self.text_len self.file_len (disk.seen self.disk) (self.room settled).0 file.0 file.1 (c.in_ok-self.field-0 - self.file_len) (disk.seen c.extend.new.disk) c.args.records.now (c.in_ok-self.ensures.padded file.0) (omega (arith, end, long.0, long.1, file.0))
-    (disk.may_leave c.extend.new.disk) (disk.may_leave c.put.new.disk) (c.in_ok-self.ensures.durable (self.durable own.0)) c.put.ensures.crash leaves.file leaves.left in
-    inr (found.0, found.1, sym leaves.is ∙ found.2 ∙ ap (λ (b : Bool). kept_in b self.text_len (disk.seen self.disk) ++ found.0) (sym own.1))
+    inr (more_put self settled c.extend.new.disk c.put.new.disk c.extend.ensures.calm c.put.ensures.calm c.args.records.now c.in_ok-self.field-0
+    (omega (arith, end, long.0)) long.1 c.in_ok-self.ensures.padded (c.in_ok-self.ensures.durable (self.durable (self.own settled).0))
+    c.put.ensures.crash text left)
 
 pub returns-clause-kept : goal.returns-clause-kept
 returns-clause-kept g c =
