@@ -76,7 +76,7 @@ impl RoadMap {
         }
     }
 
-    /// Makes a change at these slots that is never undone, and frees what it removes.
+    /// Makes a change at these slots that is never undone, and frees what it removes. Inlined, as `make_change` is.
     #[inline(always)]
     fn make_for_good(&mut self, change: TableChange, slots: (u32, u32))
         requires can { CanMake (tables_map self.old) (room_of self.old) change }
@@ -87,7 +87,21 @@ impl RoadMap {
         ensures nodes { spare_of self.old.index ≤ spare_of self.new.index + node_puts change }
         ensures lines { spare_numbers self.old.lines ≤ spare_numbers self.new.lines + line_puts change }
     {
-        drop(self.make_change(change, slots));
+        match change {
+            TableChange::PutNode {
+                id,
+                place,
+                outs,
+                ins,
+            } => self.put_node(id, place, outs, ins),
+            TableChange::MoveNode(id, place) => {
+                self.move_node(id, place, slots.0);
+            }
+            TableChange::TakeNode(id) => drop(self.take_node(id)),
+            TableChange::PutLine(id, line) => self.put_line(id, line, slots.0, slots.1),
+            TableChange::SetLine(id, line) => drop(self.set_line(id, line, slots.0, slots.1)),
+            TableChange::TakeLine(id) => drop(self.take_line(id, slots.0, slots.1)),
+        }
     }
 
     /// Makes a change that undoes an edit, and frees what the edit added.
