@@ -11,13 +11,13 @@ use olr_roads::NumberHasher;
 use smallvec::SmallVec;
 use std::alloc::{AllocError, Global};
 use std::collections::HashMap;
+use std::fmt;
 use std::hash::BuildHasherDefault;
 
 /// The path ids of a number: most numbers have one, which is stored without an allocation.
 type PathIds = SmallVec<u64, 1>;
 
 /// Numbers and their path ids. Each number has each path id at most once, and a number without path ids has no entry.
-#[derive(Debug)]
 pub struct Index {
     path_ids: HashMap<u32, PathIds, BuildHasherDefault<NumberHasher>>,
     /// No greater number has an entry: such a number isn't looked up.
@@ -25,6 +25,13 @@ pub struct Index {
     alloc: Global,
     ghost ascend: { (number : ℕ) → IsStrictlyIncreasing (path_ids_in path_ids number) },
     ghost none_above: { (number : ℕ) → greatest < number → get nat_eq path_ids number ≡ None },
+}
+
+/// Prints the numbers that have path ids. The bound isn't printed: it stays when path ids are removed.
+impl fmt::Debug for Index {
+    fn fmt<W: fmt::Write>(&self, f: &mut fmt::Formatter<W>) -> fmt::Result {
+        self.path_ids.fmt(f)
+    }
 }
 
 // Written out: a derived drop is proved again in each crate that ends an index.
