@@ -20,7 +20,7 @@ abbrev pub slot_if : {X : Type 0} → ℕ → Option X → Option ℕ
 slot_if p None = None
 slot_if p (Some e) = Some p
 
-value_if : {X : Type 0} (p q : ℕ) (o : Option X) → slot_if p o ≡ Some q → (e : X) × (o ≡ Some e) × (p ≡ q)
+pub value_if : {X : Type 0} (p q : ℕ) (o : Option X) → slot_if p o ≡ Some q → (e : X) × (o ≡ Some e) × (p ≡ q)
 value_if p q None h = absurd cc
 value_if p q (Some e) h = (e, refl, same_Some p q h)
 

@@ -177,7 +177,7 @@ module _ {t : RoadMap} {nodes' : NodeSlots} {lines' : LineTable} {x : ℕ} {ends
             } in
             change_made t c can new back is inverse (fits kept') whole
             (subst (λ (R : Room). IsRoomWithin R (room_of new)) (sym (steady (room_of t))) same)
-            (subst (IsRoomWithin (room_of t)) (sym (steady_back (room_of new))) same) (omega arith) spare;
+            (subst (IsRoomWithin (room_of t)) (sym (steady_back (room_of new))) same) (omega arith) spare (λ v _ _. refl);
       }
 
 -- the far end that was stored

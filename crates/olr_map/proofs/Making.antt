@@ -5,6 +5,7 @@ use Rattle.olr_map.proofs.Common.{tables_map, room_of, room_after, CanMake, HasR
 use Rattle.olr_map.proofs.Common.{IsChangeMade, node_puts, line_puts, TableChange, RoadMap, common_steps}
 use Rattle.std.specs.Result.{result_unwrap_or}
 use Rattle.olr_spec.specs.Map.{HasCoord}
+use Rattle.olr_map.specs.Changes.{KeepsSlots}
 use Rattle.olr_spec.proofs.EditLemmas.{Made, made_by, edits_keep}
 use Rattle.olr_spec.proofs.UndoLemmas.{takes_back}
 use Rattle.olr_spec.proofs.OptionLemmas.{is_ok_of}
@@ -47,8 +48,8 @@ module _ (t : RoadMap) (c : TableChange) (can : CanMake (tables_map t) (room_of 
       IsWhole (tables_map new) back → IsRoomWithin (room_after (room_of t) c) (room_of new)
       → IsRoomWithin (room_of t) (room_after (room_of new) back)
       → spare_of t.index ≤ spare_of new.index + node_puts c
-      → spare_numbers t.lines ≤ spare_numbers new.lines + line_puts c → IsChangeMade t new c back
-  change_made new back is inverse fits whole room room_before nodes lines =
+      → spare_numbers t.lines ≤ spare_numbers new.lines + line_puts c → KeepsSlots t new → IsChangeMade t new c back
+  change_made new back is inverse fits whole room room_before nodes lines slots =
       let M : Map = tables_map t in
       let ok = made_ok M c can.accepted in
       let undone : edited (tables_map new) (change_edit back) ≡ Ok M =
@@ -64,6 +65,7 @@ module _ (t : RoadMap) (c : TableChange) (can : CanMake (tables_map t) (room_of 
           whole = whole;
         };
         before = ap (λ r. result_unwrap_or r (tables_map new)) undone;
+        slots = slots;
         room_before = room_before;
         node_numbers = nodes;
         line_numbers = lines;

@@ -15,7 +15,7 @@ use Rattle.olr_map.specs.Linked.{IsBare, EmptyLinks, lines_kept}
 use Rattle.olr_map.specs.declared.links.Links.TheVariants.{Inline, Spilled}
 use Rattle.olr_map.proofs.ColumnLemmas.{few_nodes}
 use Rattle.olr_map.proofs.Lookups.{eqb_flip, over_cond, unchanged_at, got_insert, got_remove, same_answers}
-use Rattle.olr_map.proofs.Indexing.{id_of, place_of, slot_if, id_is, node_was, written_node, written_indexed}
+use Rattle.olr_map.proofs.Indexing.{id_of, place_of, slot_if, value_if, id_is, node_was, written_node, written_indexed}
 use Rattle.olr_map.proofs.Listing.{absent_lines, unused_lines, far_there, far_unused, replaced}
 use Rattle.olr_map.proofs.LineRecords.{record_of, other_node}
 use Rattle.olr_map.proofs.Reading.{got_node, kept_from, not_found, slot_of, node_read, listed_at}
@@ -93,6 +93,13 @@ module _ {t : RoadMap} {b' : Blocks} {nodes' : NodeSlots} {v : ℕ} {o w : Optio
   -- slots of other nodes stay
   pub other_slot : (u : ℕ) → (v == u) ≡ false → node_slot t.index u ≡ node_slot b' u
   other_slot u ne = grind (arith, common_steps)
+
+  -- a node that is on both maps has the same slot on both
+  pub slots_stay : (u : ℕ) → has_node M u ≡ true → has_node N u ≡ true → node_slot b' u ≡ node_slot t.index u
+  slots_stay u was now =
+      let p = slot_of t.index (node_slots t.nodes) t.kept.indexed (all_held t.lines) u was in
+      let q = slot_of b' (node_slots nodes') indexed' (all_held t.lines) u now in
+      grind (arith, common_steps, r.was, r.now u, p.1, q.1, value_if, eqb-true)
 
   -- the capacity of the node's lists was that of o, and is that of w
   module _ (kept' : AreTables b' (node_slots nodes') (all_held t.lines)) where
@@ -178,7 +185,8 @@ module _ (t : RoadMap) (b' : Blocks) (nodes' : NodeSlots) (p n v : ℕ) (q : Coo
       let fits : 0 < node_room t.nodes = can.fits in
       change_made t (PutNode v q o i) can new (TakeNode v) put_map refl tt tt
       (record { nodes = omega arith; lines = λ side. room_forth put_written kept' side _ (same_room side) })
-      (record { nodes = omega arith; lines = λ side. room_back put_written kept' side 0 refl }) spare (omega arith) where
+      (record { nodes = omega arith; lines = λ side. room_back put_written kept' side 0 refl }) spare (omega arith)
+      (slots_stay put_written) where
         same_room : (side : Side) → links_room (links_at side entry) ≡ room_kept (sides o i side)
         same_room Out = bare_outs.room
         same_room In = bare_ins.room
@@ -229,7 +237,7 @@ module _ (t : RoadMap) (b' : Blocks) (nodes' : NodeSlots) (p n v : ℕ) (e : Nod
       (no_outs, no_ins)
       (record { nodes = omega arith; lines = λ side. room_forth take_written kept' side 0 refl })
       (record { nodes = omega arith; lines = λ side. room_back take_written kept' side _ (same_room side) }) (omega arith)
-      (omega arith) where
+      (omega arith) (slots_stay take_written) where
         same_room : (side : Side) → links_room (links_at side e) ≡ room_kept (sides o i side)
         same_room Out = sym same_outs
         same_room In = sym same_ins
@@ -273,7 +281,7 @@ module _ (t : RoadMap) (nodes' : NodeSlots) (p v : ℕ) (e : NodeEntry) (q : Coo
       let place : e.place ≡ coord_at (tables_map t) v =
       sym (ap (λ c. unwrap_or c no_coord) (node_read t v p e here is.was)) in
       change_made t (MoveNode v q) can new (MoveNode v e.place) move_map (ap (maps.Move_node v) place) tt tt same same
-      (omega arith) (omega arith) where
+      (omega arith) (omega arith) (λ u _ _. refl) where
         same_room : (side : Side) → links_room (links_at side e) ≡ links_room (links_at side moved)
         same_room Out = refl
         same_room In = refl

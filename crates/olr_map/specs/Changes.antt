@@ -4,17 +4,18 @@
 --     CanMake M R c      on this map, with this capacity, the change is accepted and does not allocate
 --     map_after M c, room_after R c      the map and the capacity after it
 --     IsReserved old new      the same map, with at least the capacity
+--     KeepsSlots old new      each node that is on both maps has the same slot on both
 --     IsChangeMade old new c back      the change was made, and `back` can undo it
-use Rattle.std.specs.Prelude.{◌≡◌, ◌==◌, ℕ, ◌+◌, ◌-◌, ◌<◌, ◌≤◌, if◌then◌else◌, List, [], ◌∷◌, length, ⊤, IsOk}
+use Rattle.std.specs.Prelude.{◌≡◌, ◌==◌, ℕ, ◌+◌, ◌-◌, ◌<◌, ◌≤◌, if◌then◌else◌, List, [], ◌∷◌, length, ⊤, IsOk, IsTrue}
 use Rattle.std.specs.Option.{option_map_or}
 use Rattle.std.specs.Result.{result_unwrap_or}
 use Rattle.olr_spec.specs.Map as map
-use Rattle.olr_spec.specs.Map.{Map, start, end, edited, HasCoord}
+use Rattle.olr_spec.specs.Map.{Map, has_node, start, end, edited, HasCoord}
 use Rattle.olr_map.specs.SlotIndexes.{slot_by, spare_of}
 use Rattle.olr_map.specs.LineTables.{all_held, spare_numbers}
 use Rattle.olr_map.specs.Linked.{lines_kept, room_kept, links_room}
 use Rattle.olr_map.specs.Columns.{node_slots, node_room}
-use Rattle.olr_map.specs.Tables.{near, sides, lines_at, map_from, links_in}
+use Rattle.olr_map.specs.Tables.{near, sides, lines_at, map_from, node_slot, links_in}
 use Rattle.olr_map.specs.declared.slots.Side.{Side}
 use Rattle.olr_map.specs.declared.road_map.RoadMap.{RoadMap}
 use Rattle.olr_map.specs.declared.change.TableChange.{TableChange}
@@ -121,11 +122,17 @@ pub record CanMake (M : Map) (R : Room) (c : TableChange) : Type 0 where
 abbrev pub map_after : Map → TableChange → Map
 map_after M c = result_unwrap_or (edited M (change_edit c)) M
 
+abbrev pub KeepsSlots : RoadMap → RoadMap → Type 0
+KeepsSlots old new =
+    (v : ℕ) → IsTrue (has_node (tables_map old) v) → IsTrue (has_node (tables_map new) v) →
+    node_slot new.index v ≡ node_slot old.index v
+
 pub record IsChangeMade (old new : RoadMap) (c back : TableChange) : Type 0 where
   pub map : tables_map new ≡ map_after (tables_map old) c
   pub room : IsRoomWithin (room_after (room_of old) c) (room_of new)
   pub can_back : CanMake (tables_map new) (room_of new) back
   pub before : map_after (tables_map new) back ≡ tables_map old
+  pub slots : KeepsSlots old new
   pub room_before : IsRoomWithin (room_of old) (room_after (room_of new) back)
   pub node_numbers : spare_of old.index ≤ spare_of new.index + node_puts c
   pub line_numbers : spare_numbers old.lines ≤ spare_numbers new.lines + line_puts c

@@ -18,7 +18,7 @@ impl RoadMap {
     ghost use Rattle.olr_roads.specs.Edits.{edit_of, edit_fault_of, allocates};
     ghost use Rattle.olr_map.specs.Changes.{tables_map, room_of, change_edit, node_puts, line_puts, node_numbers};
     ghost use Rattle.olr_map.specs.Changes.{line_numbers, HasRoomFor, HasNumbers, IsWhole, IsRoomWithin, CanMake, IsReserved};
-    ghost use Rattle.olr_map.specs.Changes.{IsChangeMade, map_after, room_after};
+    ghost use Rattle.olr_map.specs.Changes.{IsChangeMade, KeepsSlots, map_after, room_after};
     ghost use Rattle.olr_map.specs.Undos.{log_changes};
 
     /// The slots of the nodes that a change touches and that exist before it.
@@ -83,6 +83,7 @@ impl RoadMap {
         requires slots { AreSlots self.old.index (tables_map self.old) slots (change_edit change) }
         requires numbers { HasNumbers self.old (node_puts change) (line_puts change) }
         ensures map { tables_map self.new ≡ map_after (tables_map self.old) change }
+        ensures slots { KeepsSlots self.old self.new }
         ensures room { IsRoomWithin (room_after (room_of self.old) change) (room_of self.new) }
         ensures nodes { spare_of self.old.index ≤ spare_of self.new.index + node_puts change }
         ensures lines { spare_numbers self.old.lines ≤ spare_numbers self.new.lines + line_puts change }
@@ -218,6 +219,7 @@ impl RoadMap {
         requires { IsEditPlan (map_of self.old) (slot_of self.old) (edit_of edit) plan.now }
         ensures done { OnOk result (edited (map_of self.old) (edit_of edit) ≡ Ok (map_of self.new)) }
         ensures same { OnErr result (map_of self.new ≡ map_of self.old) }
+        ensures slots { KeepsSlots self.old self.new }
         ensures can_undo { IfOk result (CanUndo self.new) }
         ensures before { IfOk result (λ undo. map_undone self.new undo ≡ map_of self.old) }
         ensures lacks { OnErr result (IsTrue (allocates (edit_of edit))) }
@@ -237,6 +239,7 @@ impl RoadMap {
         requires { IsEditPlan (map_of self.old) (slot_of self.old) (edit_of edit) plan.now }
         ensures done { OnOk result (edited (map_of self.old) (edit_of edit) ≡ Ok (map_of self.new)) }
         ensures same { OnErr result (map_of self.new ≡ map_of self.old) }
+        ensures slots { KeepsSlots self.old self.new }
         ensures lacks { OnErr result (IsTrue (allocates (edit_of edit))) }
     {
         self.make_room(&edit, plan.slots, 0, 0)?;
@@ -288,6 +291,7 @@ impl RoadMap {
         requires log { CanUndoAll self.old log.old }
         ensures done { OnOk result (edited (map_of self.old) (edit_of edit) ≡ Ok (map_of self.new)) }
         ensures same { OnErr result (map_of self.new ≡ map_of self.old) }
+        ensures slots { KeepsSlots self.old self.new }
         ensures same_log { OnErr result (log_changes log.new ≡ log_changes log.old) }
         ensures can_undo { CanUndoAll self.new log.new }
         ensures before { map_before self.new log.new ≡ map_before self.old log.old }
