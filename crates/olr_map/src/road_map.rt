@@ -100,7 +100,6 @@ impl RoadMap {
     ghost use Rattle.olr_spec.specs.Map.{empty_map, has_node};
     ghost use Rattle.olr_map.specs.RoadMaps.{map_of, slot_of};
     ghost use Rattle.olr_map.specs.Tables.{lines_at, end_at};
-    ghost use Rattle.olr_map.specs.Changes.{KeepsSlots};
 
     /// A map without nodes and lines. Does not allocate.
     pub fn new(alloc: Global) -> RoadMap
@@ -138,8 +137,7 @@ impl RoadMap {
 
     /// Makes an edit permanent, and frees what it removed. Does not allocate.
     pub fn keep(&mut self, undo: Undo)
-        ensures map { map_of self.new ≡ map_of self.old }
-        ensures slots { KeepsSlots self.old self.new }
+        ensures { self.new ≡ self.old }
     {
         let Undo { change } = undo;
         drop(change);
