@@ -65,10 +65,8 @@ impl Blocks {
         }
         let mut block = Block::new();
         block.put(place, slot);
-        match self.blocks.insert(key, block) {
-            Ok(_) => {}
-            Err(_) => unreachable!(),
-        }
+        let inserted: Result<_, _> = self.blocks.insert(key, block);
+        inserted.unwrap();
     }
 
     /// Removes the slot of a number, and returns it.
@@ -80,15 +78,11 @@ impl Blocks {
         ensures spare { spare_of self.old ≤ spare_of self.new }
     {
         let key = number / BLOCK_LEN;
-        match self.blocks.get_mut(&key) {
-            Some(block) => {
-                let slot = block.take((number % BLOCK_LEN) as usize);
-                if block.is_empty() {
-                    self.blocks.remove(&key);
-                }
-                slot
-            }
-            None => unreachable!(),
+        let block = self.blocks.get_mut(&key).unwrap();
+        let slot = block.take((number % BLOCK_LEN) as usize);
+        if block.is_empty() {
+            self.blocks.remove(&key);
         }
+        slot
     }
 }

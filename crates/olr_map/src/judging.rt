@@ -165,13 +165,12 @@ fn line_plan<M: MapRead>(map: &M, id: LineId, was: &Line, len: u32) -> EditPlan
     ensures line { result.line ≡ Some id }
     ensures len { result.len ≡ len }
 {
-    match (map.slot_of(was.from), map.slot_of(was.to)) {
-        (Some(from), Some(to)) => EditPlan {
-            nodes: (was.from, was.to),
-            slots: (from, to),
-            line: Some(id),
-            len,
-        },
-        _ => unreachable!(),
+    let from = map.slot_of(was.from).unwrap();
+    let to = map.slot_of(was.to).unwrap();
+    EditPlan {
+        nodes: (was.from, was.to),
+        slots: (from, to),
+        line: Some(id),
+        len,
     }
 }

@@ -54,10 +54,8 @@ impl LineTable {
         ensures put { (k : ℕ) → held self.new k ≡ cond (number == k) (Some line) (held self.old k) }
         ensures spare { spare_numbers self.old ≤ spare_numbers self.new + 1 }
     {
-        match self.by_number.insert(number, line) {
-            Ok(_) => {}
-            Err(_) => unreachable!(),
-        }
+        let inserted: Result<_, _> = self.by_number.insert(number, line);
+        inserted.unwrap();
     }
 
     /// Replaces the line with this number, and returns the previous one.

@@ -177,12 +177,10 @@ impl Spilled {
         ensures ends { self.new.ends.items ≡ insert self.old.ends.items at end }
         ensures room { vectors_room self.new ≡ vectors_room self.old }
     {
-        let lines = self.lines.insert(at, id);
-        let ends = self.ends.insert(at, end);
-        match (lines, ends) {
-            (Ok(()), Ok(())) => {}
-            _ => unreachable!(),
-        }
+        let lines: Result<_, _> = self.lines.insert(at, id);
+        let ends: Result<_, _> = self.ends.insert(at, end);
+        lines.unwrap();
+        ends.unwrap();
     }
 
     /// Removes the line at this position.
