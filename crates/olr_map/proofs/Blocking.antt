@@ -3,7 +3,7 @@ use Rattle.olr_map.proofs.Common.{IsDistinct-head, IsDistinct-tail, AllByRecursi
 use Rattle.olr_map.proofs.Common.{get_or_past, slice_index, option_or, pairs_of, keys_of, slot_by, slot_in, Blocks, Err}
 use Rattle.olr_map.proofs.Common.{Option, Result, all_in, eq-eqb, length, lookup, ne_eqb, arith, false, Bool, IsOk}
 use Rattle.olr_map.proofs.Common.{List, None, Some, cond, refl, true, zero, ◌++◌, ◌==◌, suc, ◌%◌, ◌+◌, ◌-◌, ◌/◌, ℕ}
-use Rattle.olr_map.proofs.Common.{◌<◌, ◌∙◌, ◌∷◌, ◌≡◌, Ok, [], ap}
+use Rattle.olr_map.proofs.Common.{◌<◌, ◌≤◌, ◌∙◌, ◌∷◌, ◌≡◌, Ok, [], ap}
 use Rattle.std.proofs.Common.{◌*◌, nat_eq, eqb-true, OnOk}
 use Rattle.std.specs.List.{IsDistinct}
 use Rattle.std.specs.Cmp.Lexicographic.{pointwise, same_text, other_text}
@@ -27,6 +27,11 @@ module _ (old new : List (ℕ × Block)) (n : ℕ) (o : Option Block) (w : Optio
     (here : (i : ℕ) → slot_in o i ≡ cond (n % 4 == i) w (slot_in (lookup (λ p. n / 4 == p) old) i)) where
   pub block_changed : (k : ℕ) → found_in new k ≡ cond (n == k) w (found_in old k)
   block_changed k = grind (arith, common_steps, now (k / 4), here (k % 4), same_coord n k, eqb-true, ne_eqb)
+
+-- numbers above all have no slot, after the slot of a number that is not above them
+pub none_above : (old new : ℕ → Option ℕ) (n : ℕ) (w : Option ℕ) (now : (k : ℕ) → new k ≡ cond (n == k) w (old k))
+    (g h : ℕ) → ((k : ℕ) → g < k → old k ≡ None) → g ≤ h → n ≤ h → (k : ℕ) → h < k → new k ≡ None
+none_above old new n w now g h was more within k above = grind (arith, common_steps, now k, was k, ne_eqb)
 
 -- a block that is written and then removed
 pub removed_again : {A : Type 0} (t : Bool) (o p : Option A) → cond t None (cond t o p) ≡ cond t None p

@@ -2,7 +2,7 @@
 ghost use Rattle.std.specs.Prelude.{◌≡◌, ◌==◌, ◌+◌, ◌^◌, ◌<◌, ◌≤◌, ℕ, [], cond, IsSome, Some, None, OnOk};
 ghost use Rattle.std.specs.List.{IsDistinct, IsDistinct-prop};
 ghost use Rattle.std.specs.Map.{keys_of};
-ghost use Rattle.olr_map.specs.Blocked.{AreUsed, AreUsed-prop};
+ghost use Rattle.olr_map.specs.Blocked.{found_in, AreUsed, AreUsed-prop};
 
 use crate::block::{BLOCK_LEN, Block};
 use olr_roads::NumberHasher;
@@ -14,7 +14,10 @@ use std::hash::BuildHasherDefault;
 #[derive(Drop)]
 pub struct Blocks {
     pub blocks: HashMap<u32, Block, BuildHasherDefault<NumberHasher>>,
+    /// No greater number has a slot: such a number isn't looked up.
+    greatest: u32,
     ghost apart: { IsDistinct ◌==◌ (keys_of blocks.entries) } by { IsDistinct-prop ◌==◌ (keys_of blocks.entries) },
+    ghost none_above: { (number : ℕ) → greatest < number → found_in blocks.entries number ≡ None },
     ghost used: { AreUsed blocks.entries } by { AreUsed-prop blocks.entries },
 }
 
@@ -27,6 +30,7 @@ impl Blocks {
     {
         Blocks {
             blocks: HashMap::with_hasher(alloc, BuildHasherDefault::new()),
+            greatest: 0,
         }
     }
 
@@ -34,6 +38,9 @@ impl Blocks {
     pub fn get(&self, number: u32) -> Option<u32>
         ensures { result ≡ slot_by self.now number }
     {
+        if number > self.greatest {
+            return None;
+        }
         match self.blocks.get(&(number / BLOCK_LEN)) {
             Some(block) => block.slot((number % BLOCK_LEN) as usize),
             None => None,
@@ -57,6 +64,7 @@ impl Blocks {
             ≡ cond (number == k) (Some slot) (slot_by self.old k) }
         ensures spare { spare_of self.old ≤ spare_of self.new + 1 }
     {
+        self.greatest = self.greatest.max(number);
         let key = number / BLOCK_LEN;
         let place = (number % BLOCK_LEN) as usize;
         if let Some(block) = self.blocks.get_mut(&key) {

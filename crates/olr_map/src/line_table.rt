@@ -1,7 +1,7 @@
 //! The lines by number.
-ghost use Rattle.std.specs.Prelude.{◌≡◌, ◌==◌, ◌+◌, ◌≤◌, ◌<◌, ℕ, [], cond, length, Some, None, IsSome, OnOk};
+ghost use Rattle.std.specs.Prelude.{◌≡◌, ◌==◌, ◌+◌, ◌≤◌, ◌<◌, ℕ, [], cond, length, nat_eq, Some, None, IsSome, OnOk};
+ghost use Rattle.std.specs.HashMap.{get};
 ghost use Rattle.std.specs.Option.{option_copied};
-ghost use Rattle.olr_map.specs.LineTables.{held, spare_numbers};
 
 use olr_roads::{Line, NumberHasher};
 use std::alloc::{AllocError, Global};
@@ -13,21 +13,31 @@ use std::mem;
 #[derive(Drop)]
 pub struct LineTable {
     pub by_number: HashMap<u32, Line, BuildHasherDefault<NumberHasher>>,
+    /// No greater number has a line: such a number isn't looked up.
+    greatest: u32,
+    ghost none_above: { (number : ℕ) → greatest < number → get nat_eq by_number number ≡ None },
 }
 
 impl LineTable {
+    ghost use Rattle.olr_map.specs.LineTables.{held, spare_numbers};
+
     /// No lines. Does not allocate.
     pub fn new(alloc: Global) -> LineTable
         ensures { result.by_number.entries ≡ [] }
     {
-        let by_number = HashMap::with_hasher(alloc, BuildHasherDefault::new());
-        LineTable { by_number }
+        LineTable {
+            by_number: HashMap::with_hasher(alloc, BuildHasherDefault::new()),
+            greatest: 0,
+        }
     }
 
     /// The line with this number.
     pub fn get(&self, number: u32) -> Option<&Line>
         ensures { option_copied result ≡ held self.now number }
     {
+        if number > self.greatest {
+            return None;
+        }
         self.by_number.get(&number)
     }
 
@@ -54,6 +64,7 @@ impl LineTable {
         ensures put { (k : ℕ) → held self.new k ≡ cond (number == k) (Some line) (held self.old k) }
         ensures spare { spare_numbers self.old ≤ spare_numbers self.new + 1 }
     {
+        self.greatest = self.greatest.max(number);
         let inserted: Result<_, _> = self.by_number.insert(number, line);
         inserted.unwrap();
     }

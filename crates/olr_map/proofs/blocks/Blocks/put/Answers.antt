@@ -1,7 +1,7 @@
 use Rattle.std.specs.HashMap.{spare}
-use Rattle.olr_map.proofs.Common.{ℕ, subst, sym, ap, ◌≡◌, ◌∙◌, ◌==◌, ◌/◌, ◌%◌, ◌<◌, Some, cond, is_some, lookup, slot_in}
+use Rattle.olr_map.proofs.Common.{ℕ, subst, sym, ap, arith, ◌≡◌, ◌∙◌, ◌==◌, ◌/◌, ◌%◌, ◌<◌, Some, cond, is_some, lookup, slot_in}
 use Rattle.olr_map.specs.Blocked.{found_in}
-use Rattle.olr_map.proofs.Blocking.{block_changed, not_blank, on_ok, used_put}
+use Rattle.olr_map.proofs.Blocking.{block_changed, none_above, not_blank, on_ok, used_put}
 use Rattle.olr_map.proofs.blocks.Blocks.put.Goals.{After-put, After-insert-inserted}
 use Rattle.olr_map.proofs.blocks.Blocks.put.Goals as goal
 
@@ -21,6 +21,9 @@ invariant_of-self c =
     let w = c.get_mut.follows.holds c.put.new.self in
     record {
       apart = w.4;
+      none_above =
+          none_above _ _ n _ (stored (goal.at.invariant_of-self c).After-put) bs.greatest _ bs.none_above (omega arith)
+          (omega arith);
       used =
           used_put bs.blocks.entries _ (n / 4) c.put.new.self
           (w.3 (ap (λ o. is_some o) (sym c.in-Some.ensures.value))).0
@@ -49,6 +52,11 @@ added c =
     (λ i.
     c.put-2.ensures i ∙ ap (cond (n % 4 == i) (Some c.args.slot)) (c.new-block.ensures i)
     ∙ ap (λ o. cond (n % 4 == i) (Some c.args.slot) (slot_in o i)) c.in_default.ensures.value)
+
+pub invariant_of-self-2-clause-none_above : goal.invariant_of-self-2-clause-none_above
+invariant_of-self-2-clause-none_above c =
+    let bs = c.args.self.now in
+    none_above _ _ c.args.number _ (added c) bs.greatest _ bs.none_above (omega arith) (omega arith)
 
 pub invariant_of-self-2-clause-used : goal.invariant_of-self-2-clause-used
 invariant_of-self-2-clause-used c =

@@ -1,5 +1,5 @@
 use Rattle.std.proofs.Common.{true≢false}
-use Rattle.olr_map.proofs.Common.{ℕ, ◌≡◌, ◌==◌, ◌/◌, ◌%◌, Some, None, cond, is_some, sym, ap, ◌∙◌, lookup, slot_in}
+use Rattle.olr_map.proofs.Common.{ℕ, ◌≡◌, ◌==◌, ◌/◌, ◌%◌, Some, None, cond, is_some, sym, ap, ◌∙◌, lookup, slot_in, arith, common_steps}
 use Rattle.olr_map.specs.Blocked.{found_in}
 use Rattle.olr_map.proofs.Blocking.{block_changed, removed_again, used_put, used_removed}
 use Rattle.olr_map.proofs.blocks.Blocks.take.Goals.{After-take-slot, After-remove}
@@ -25,6 +25,7 @@ invariant_of-self-else-is_empty c =
     let path = (goal.at.invariant_of-self-else-is_empty c).After-take-slot in
     record {
       apart = (c.get_mut.follows.holds c.take-slot.new.self).4;
+      none_above = λ k above. grind (arith, common_steps, taken path k, bs.none_above k);
       used =
           used_put bs.blocks.entries _ (c.args.number / 4) c.take-slot.new.self (written path)
           (λ blank. true≢false (sym (c.is_empty.ensures.1 blank) ∙ c.if-is_empty.false)) bs.used;
@@ -50,6 +51,10 @@ emptied c =
     block_changed c.args.self.now.blocks.entries c.remove.new.self.entries c.args.number None None (removed c)
     (λ i. sym (c.is_empty.ensures.0 c.if-is_empty.true i) ∙ c.take-slot.ensures.taken i
     ∙ ap (λ o. cond (c.args.number % 4 == i) None (slot_in o i)) here)
+
+pub invariant_of-self-clause-none_above : goal.invariant_of-self-clause-none_above
+invariant_of-self-clause-none_above c =
+    λ k above. grind (arith, common_steps, emptied c k, c.args.self.now.none_above k)
 
 pub invariant_of-self-clause-used : goal.invariant_of-self-clause-used
 invariant_of-self-clause-used c = used_removed c.args.self.now.blocks.entries _ (c.args.number / 4) (removed c) c.args.self.now.used
