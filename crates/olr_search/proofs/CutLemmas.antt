@@ -73,7 +73,7 @@ module _ (M : Map) (slot : ℕ → ℕ) (direction : Direction) (from : List (�
 
   -- nothing is left in the queue at a length that Q allows
   module _ (f : Frontier) (u : IsCut M slot direction from P f) (Q : ℕ → ℕ → Type 0)
-      (lets : (v d : ℕ) → Q v d → P v d × (d ≤ GREATEST_LIMIT) × ((p : ℕ) → ¬ IsQueued f d p))
+      (lets : (v d : ℕ) → Q v d → P (slot v) d × (d ≤ GREATEST_LIMIT) × ((p : ℕ) → ¬ IsQueued f d p))
       (less : (v d e : ℕ) → Q v d → e ≤ d → Q v e)
       (before : (x d : ℕ) → IsTrue (has_line M x) → Q (far_end M direction x) (d + dm M x) → Q (near_end M direction x) d)
     where

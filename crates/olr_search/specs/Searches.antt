@@ -7,7 +7,7 @@
 --     Counts M direction from limit n      n nodes have a distance of at most the limit
 --     IsOnlyPredecessor M slot f x v length      no line but x leads to v within the length
 --     CutAt M slot direction P f v d      each line from v, at the distance d, leads to a label of at most d plus its
---         length, if P lets its end be labelled with that
+--         length, if P lets the slot of its end be labelled with that
 --     IsLabelled M slot direction from f      each label is the length of a route, and the list has the slots with
 --         labels
 --     IsCut M slot direction from P f      and the lines from each label are followed as far as P lets them, or it is
@@ -33,7 +33,7 @@ limit_of s = s.limit
 
 abbrev pub CutAt : Map → (ℕ → ℕ) → Direction → (ℕ → ℕ → Type 0) → Frontier → ℕ → ℕ → Type 0
 CutAt M slot direction P f v d =
-    (x : ℕ) → IsTrue (has_line M x) → near_end M direction x ≡ v → P (far_end M direction x) (d + dm M x) →
+    (x : ℕ) → IsTrue (has_line M x) → near_end M direction x ≡ v → P (slot (far_end M direction x)) (d + dm M x) →
     label_of f (slot (far_end M direction x)) ≤ d + dm M x
 
 -- the table has the slot of each node

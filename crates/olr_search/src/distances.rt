@@ -12,10 +12,10 @@ ghost use Rattle.olr_search.specs.Frontiers.{label_of};
 ghost use Rattle.olr_search.specs.ResolvedLines.{IsResolved};
 ghost use Rattle.olr_search.specs.Searches.{IsSearch, LiesWithin, IsReached, Counts, StaysWithin};
 ghost use Rattle.olr_search.specs.Searches.{IsOnlyPredecessor, limit_of};
-ghost use Rattle.olr_search.specs.Bounds.{AreBounds, AreLengths, IsUnder, bound_in, label_at};
+ghost use Rattle.olr_search.specs.Bounds.{AreBounds, AreLengths, IsUnder, label_at};
 ghost use Rattle.olr_search.specs.declared.distances.Direction.TheVariants.{Along};
 
-use crate::bounds::{Anywhere, Bounds};
+use crate::bounds::Anywhere;
 use crate::frontier::{Frontier, GREATEST_LIMIT};
 use crate::resolved::ResolvedLine;
 use crate::steps::{settle, start};
@@ -105,11 +105,11 @@ impl Dijkstra {
         Ok(())
     }
 
-    /// Settles on as far as bounds let it: a node is labelled only if the sum of its bound and its label is at most
-    /// `GREATEST_LIMIT`. If each line that is followed to a node with a bound begins at one whose bound is at most that
+    /// Settles on as far as bounds let it: a node is labelled only if the sum of its bound (the label of its slot in
+    /// `bounds`) and its label is at most `GREATEST_LIMIT`. If each line that is followed to a node with a bound begins at one whose bound is at most that
     /// and the line's length together, a label is the least length wherever that sum is within the limit. Afterwards
     /// only `is_within` and `labelled_slots` may be called, until the search is begun again.
-    pub fn settle_under<M: MapRead>(&mut self, map: &M, bounds: &Bounds) -> Result<(), AllocError>
+    pub fn settle_under<M: MapRead>(&mut self, map: &M, bounds: &Frontier) -> Result<(), AllocError>
         requires begun { (direction : _) × (from : List (ℕ × ℕ))
             × IsSearch (M.map map.now) (M.node_slot map.now) direction from self.old }
         ensures labelled { OnOk result ((direction : _) (from : List (ℕ × ℕ))
@@ -117,8 +117,8 @@ impl Dijkstra {
             → AreLengths (M.map map.now) (M.node_slot map.now) direction from self.new) }
         ensures settled { OnOk result ((direction : _) (from : List (ℕ × ℕ))
             → IsSearch (M.map map.now) (M.node_slot map.now) direction from self.old
-            → AreBounds (M.map map.now) direction (bound_in bounds.now)
-            → (v d : ℕ) → IsUnder (bound_in bounds.now) v d → IsTrue (has_node (M.map map.now) v)
+            → AreBounds (M.map map.now) (M.node_slot map.now) direction bounds.now
+            → (v d : ℕ) → IsTrue (has_node (M.map map.now) v) → IsUnder bounds.now (M.node_slot map.now v) d
             → Leads (M.map map.now) direction from v d → label_at self.new (M.node_slot map.now v) ≤ d) }
     {
         settle(

@@ -11,9 +11,8 @@ mod resolved;
 mod steps;
 pub mod work;
 
-pub use bounds::Bounds;
 pub use distances::{Dijkstra, Direction, settled_search};
-pub use frontier::GREATEST_LIMIT;
+pub use frontier::{Frontier, GREATEST_LIMIT};
 pub use resolved::{ResolvedLine, resolve_line};
 pub use steps::{ends_from, lines_from};
 pub use work::Work;

@@ -28,14 +28,13 @@ fn label_node<M: MapRead, A: Admits>(
     ensures labelled { OnOk result ((N : Map) (node_slot : ℕ → ℕ) (way : _) (from : List (ℕ × ℕ)) (v : ℕ)
         → IsTrue (has_node N v) → node_slot v ≡ slot → Leads N way from v length
         → IsLabelled N node_slot way from frontier.old → IsLabelled N node_slot way from frontier.new) }
-    ensures low { OnOk result ((v : ℕ) → IsTrue (has_node (M.map map.now) v) → M.node_slot map.now v ≡ slot
-        → A.lets admits.now v length → label_of frontier.new slot ≤ length) }
+    ensures low { OnOk result (A.lets admits.now slot length → label_of frontier.new slot ≤ length) }
     ensures only { OnOk result ((p : ℕ) → (label_of frontier.new p ≡ label_of frontier.old p)
         ⊎ ((label_of frontier.new p ≡ length) × (p ≡ slot))) }
     ensures counted { OnOk result ((n near next : ℕ) → near < length → next ≤ length
         → IsCounted frontier.old n near next → IsCounted frontier.new n near next) }
 {
-    if length < frontier.label(slot) && admits.admits(map, slot, length) {
+    if length < frontier.label(slot) && admits.admits(slot, length) {
         let ahead = ends_from(map, direction, slot).len();
         frontier.relax(slot, length, ahead)
     } else {

@@ -62,9 +62,8 @@ loop-end-preserved g c =
           (coe 1 0 (i. Leads M c.args.direction from (far_end M c.args.direction e.line) (d + e.len i)) on)
           (inv.labelled v from known at way l);
       followed =
-          below_more (λ j. let x = get_or items j no_end in
-          (v : ℕ) → IsTrue (has_node M v) → slot v ≡ x.slot → lets v (d + x.len) → label_of h x.slot ≤ d + x.len) n
-          (λ j low v known at under. let was = inv.followed j low v known at under in
+          below_more (λ j. let x = get_or items j no_end in lets x.slot (d + x.len) → label_of h x.slot ≤ d + x.len) n
+          (λ j low under. let was = inv.followed j low under in
           let le = to.moves.better (get_or items j no_end).slot in omega arith)
           to.low;
       near =
@@ -97,8 +96,7 @@ returns-clause-closed g c = λ v known at x line near under.
     has_end M (g.M.MapRead.node_slot c.args.map.now) d v x c.ends_from-end-items.result.now
     (c.ends_from-end-items.ensures v known at) line near in
     let low =
-    c.loop-end.invariant.followed k.index (omega arith) (far_end M d x)
-    (far_node M (g.met.M.MapRead.sound c.args.map.now) d x line) (sym k.there)
-    (coe 1 0 (i. g.A.Admits.lets c.args.admits.now (far_end M d x) (c.args.dist + k.len i)) under) in
+    c.loop-end.invariant.followed k.index (omega arith)
+    (coe 1 0 (i. g.A.Admits.lets c.args.admits.now (k.there i) (c.args.dist + k.len i)) under) in
     let eq = ap (label_of c.loop-end.frontier) k.there in
     omega arith

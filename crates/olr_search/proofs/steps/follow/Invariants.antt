@@ -10,9 +10,8 @@ invariant-loop-end g l = record {
       g.M.MapRead.node_slot l.fn.map v ≡ l.fn.slot → Leads (g.M.MapRead.map l.fn.map) l.fn.direction from v l.dist
       → IsLabelled (g.M.MapRead.map l.fn.map) (g.M.MapRead.node_slot l.fn.map) l.fn.direction from l.initial.frontier →
       IsLabelled (g.M.MapRead.map l.fn.map) (g.M.MapRead.node_slot l.fn.map) l.fn.direction from l.frontier;
-  followed : (j : ℕ) → j < l.end-index → (v : ℕ) → IsTrue (has_node (g.M.MapRead.map l.fn.map) v)
-      → g.M.MapRead.node_slot l.fn.map v ≡ (get_or l.end-items j no_end).slot
-      → g.A.Admits.lets l.admits v (l.dist + (get_or l.end-items j no_end).len)
+  followed : (j : ℕ) → j < l.end-index
+      → g.A.Admits.lets l.admits (get_or l.end-items j no_end).slot (l.dist + (get_or l.end-items j no_end).len)
       → label_of l.frontier (get_or l.end-items j no_end).slot ≤ l.dist
       + (get_or l.end-items j no_end).len;
   near : StaysWithin (g.M.MapRead.map l.fn.map) (g.M.MapRead.node_slot l.fn.map) l.fn.direction l.dist

@@ -24,7 +24,7 @@ returns-then-admits-clause-only g c =
 pub returns-then-admits-clause-low : goal.returns-then-admits-clause-low
 returns-then-admits-clause-low g c =
     on_ok_weaker c.relax.result
-    (λ (k : IsRelaxed c.args.frontier.now c.relax.new.self c.args.slot c.args.length) v known at u. let h = k.here in omega arith)
+    (λ (k : IsRelaxed c.args.frontier.now c.relax.new.self c.args.slot c.args.length) u. let h = k.here in omega arith)
     c.relax.ensures
 
 pub returns-then-admits-clause-counted : goal.returns-then-admits-clause-counted

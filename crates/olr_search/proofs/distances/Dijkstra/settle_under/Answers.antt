@@ -1,5 +1,5 @@
 use Rattle.olr_search.proofs.Common.{ℕ, ◌+◌, List, sym, subst, arith, IsSearch, IsUnderWay, IsCut, Direction}
-use Rattle.olr_search.specs.Bounds.{IsUnder, bound_in}
+use Rattle.olr_search.specs.Bounds.{IsUnder}
 use Rattle.olr_search.proofs.CutLemmas.{cut_settled}
 use Rattle.olr_search.proofs.distances.Dijkstra.settle_under.Given.{Over}
 use Rattle.olr_search.proofs.distances.Dijkstra.settle_under.Goals as goal
@@ -8,11 +8,11 @@ use Rattle.olr_search.proofs.distances.Dijkstra.settle_under.Goals as goal
 cut : (g : Over) (c : goal.In_ok-settle g) (direction : Direction) (from : List (ℕ × ℕ)) →
     IsSearch (g.M.MapRead.map c.args.map.now) (g.M.MapRead.node_slot c.args.map.now) direction from c.args.self.now →
     IsCut (g.M.MapRead.map c.args.map.now) (g.M.MapRead.node_slot c.args.map.now) direction from
-    (IsUnder (bound_in c.args.bounds.now)) c.settle.new.frontier
+    (IsUnder c.args.bounds.now) c.settle.new.frontier
 cut g c direction from h =
     let M = g.M.MapRead.map c.args.map.now in
     let slot = g.M.MapRead.node_slot c.args.map.now in
-    subst (λ (d : Direction). IsCut M slot d from (IsUnder (bound_in c.args.bounds.now)) c.settle.new.frontier) h.way
+    subst (λ (d : Direction). IsCut M slot d from (IsUnder c.args.bounds.now) c.settle.new.frontier) h.way
     (c.in_ok-settle.ensures.cut from
     (subst (λ (d : Direction). IsUnderWay M slot d from c.args.self.now.frontier) (sym h.way) h.under_way))
 
@@ -25,16 +25,9 @@ pub returns-clause-labelled : goal.returns-clause-labelled
 returns-clause-labelled g c = λ direction from h. (cut g c direction from h).labelled
 
 pub returns-clause-settled : goal.returns-clause-settled
-returns-clause-settled g c = λ direction from h bounds v d under there leads.
-    cut_settled (g.M.MapRead.map c.args.map.now) (g.M.MapRead.node_slot c.args.map.now) direction from
-    (IsUnder (bound_in c.args.bounds.now)) c.settle.new.frontier (cut g c direction from h)
-    (IsUnder (bound_in c.args.bounds.now))
-    (λ w e u. (
-      u,
-      let low = u.low in omega arith,
-      λ p q.
-          let low = u.low in let lt = c.in_ok-settle.ensures.far e p q in omega arith,
-    ))
-    (λ w e k u le. let low = u.low in record { bound = u.bound; at = u.at; low = omega arith })
-    (λ x e known u. let low = u.low in let k = bounds x u.bound known u.at (omega arith) in let less = k.2 in
-    record { bound = k.0; at = k.1; low = omega arith }) v d under leads
+returns-clause-settled g c = λ direction from h bounds v d there under leads.
+    let slot = g.M.MapRead.node_slot c.args.map.now in
+    cut_settled (g.M.MapRead.map c.args.map.now) slot direction from (IsUnder c.args.bounds.now) c.settle.new.frontier
+    (cut g c direction from h) (λ w e. IsUnder c.args.bounds.now (slot w) e)
+    (λ w e u. (u, omega arith, λ p q. let lt = c.in_ok-settle.ensures.far e p q in omega arith))
+    (λ w e k u le. omega arith) (λ x e known u. let less = bounds x known (omega arith) in omega arith) v d under leads
