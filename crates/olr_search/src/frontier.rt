@@ -42,7 +42,8 @@ impl Frontier {
     ghost use Rattle.std.specs.List.{filter};
     ghost use Rattle.olr_spec.specs.Map.{has_node};
     ghost use Rattle.olr_search.specs.Notes.{AreFilled, AreNodesIn};
-    ghost use Rattle.olr_search.specs.Frontiers.{label_of, frontier_len, queued_len, IsAlike, IsRelaxed, IsEmpty, IsQueued};
+    ghost use Rattle.olr_search.specs.Frontiers.{label_of, frontier_len, queued_len, IsAlike, IsKept, IsRelaxed, IsEmpty};
+    ghost use Rattle.olr_search.specs.Frontiers.{IsQueued};
 
     /// No labels. Does not allocate.
     pub fn new(alloc: Global) -> Frontier
@@ -128,6 +129,7 @@ impl Frontier {
     pub fn make_room(&mut self, count: usize) -> Result<(), AllocError>
         ensures room { OnOk result (count ≤ frontier_len self.new) }
         ensures empty { IsEmpty self.old → IsEmpty self.new }
+        ensures kept { IsKept self.old self.new }
     {
         if self.table.len() < count {
             self.table.resize(count, UNREACHED)?;

@@ -1,5 +1,5 @@
-use Rattle.olr_search.proofs.Common.{◌≡◌, ◌≤◌, ◌+◌, ℕ, IsTrue, get_or, sym, ap, subst, ◌∙◌, arith, inl, inr}
-use Rattle.olr_search.proofs.Common.{has_node, Leads, near_end, far_end, label_of, below_more, line_short, positive}
+use Rattle.olr_search.proofs.Common.{◌≡◌, ◌≤◌, ◌+◌, ℕ, get_or, sym, ap, subst, ◌∙◌, arith, inl, inr}
+use Rattle.olr_search.proofs.Common.{Leads, near_end, far_end, label_of, below_more, line_short, positive}
 use Rattle.olr_search.proofs.WayLemmas.{end_is, has_end, no_end, far_node, leads_on}
 use Rattle.olr_search.proofs.SearchLemmas.{moves_then}
 use Rattle.olr_search.proofs.CutLemmas.{stays_then}
