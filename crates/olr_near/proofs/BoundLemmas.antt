@@ -1,230 +1,277 @@
--- How bounds change, and what follows from them if no line leads on.
-use Rattle.std.proofs.Common.{◌≡◌, ◌≢◌, nat_eq, ◌*◌, ◌^◌, length, ℕ, ◌+◌, ◌-◌, ◌<◌, ◌≤◌, ◌⊎◌, List, [], ◌∷◌, ◌++◌}
-use Rattle.std.proofs.Common.{Option, Some, None, IsSome, IsTrue, Bool, refl, sym, ap, ◌∙◌, subst, inl, inr, arith, le_trans}
-use Rattle.std.proofs.lemmas.Bool.{cases_Bool, cases_eq, cases_lt, eqb-true, ne_eqb}
-use Rattle.std.specs.Prelude.{sum_by, unwrap_or, min}
-use Rattle.std.specs.Option.{option_map}
-use Rattle.std.specs.Cmp.{nat_eq_equiv}
-use Rattle.std.specs.HashMap.{IsUnique, PutsEntry, Updates, get, keys, values}
-use Rattle.std.specs.declared.cmp.Reverse.{Reverse}
-use Rattle.std.specs.BinaryHeap.{heap_items}
-use Rattle.std.specs.List.Sorted.{IsPermutation}
-use Rattle.std.proofs.Math.Nat.{mul-le-mul_right}
-use Rattle.std.proofs.lemmas.List.{length-map}
-use Rattle.std.proofs.lemmas.List.Sums.{sum_by-le}
-use Rattle.std.proofs.lemmas.Map.Entries.{sum_by_puts_entry, length-values_of}
-use Rattle.std.proofs.lemmas.Map.Steps.{length-le_from_distinct_below}
-use Rattle.std.proofs.lemmas.Map.Views.{Contains-from_any, IsSome-lookup_from_Contains}
-use Rattle.olr_spec.specs.Map.{Map, end, dm, SameLine, SameRound, has}
+-- What is closed and met, as bounds become less and as maps are edited, and where bounds come from.
+use Rattle.std.proofs.Common.{◌≡◌, ℕ, ◌+◌, ◌<◌, ◌≤◌, ◌⊎◌, List, [], ◌∷◌, ◌++◌, Option, Some, None, IsTrue, refl, sym}
+use Rattle.std.proofs.Common.{ap, ◌∙◌, ◌↔◌, subst, inl, inr, arith, is_some}
+use Rattle.std.proofs.lemmas.Bool.{cases_Bool, eqb-true}
+use Rattle.std.proofs.lemmas.List.Folds.{list_any-append}
+use Rattle.std.specs.Prelude.{min}
+use Rattle.olr_spec.specs.Map.{Map, IsMap, SameLine, has, has_node, start, end, dm}
 use Rattle.olr_spec.specs.Routes.{IsRoute, dm_of}
 use Rattle.olr_spec.specs.Extension.{limit}
 use Rattle.olr_spec.specs.Detours.{Near}
-use Rattle.olr_spec.proofs.RouteLemmas.{IsRoute-append, dm_of-append}
+use Rattle.olr_spec.proofs.RouteLemmas.{IsRoute-append, dm_of-append, route_start}
 use Rattle.olr_spec.proofs.AgreeLemmas.{turned_round, by_leaving, same_known, same_start, same_end, same_dm}
-use Rattle.olr_near.specs.Bounds.{Numbers, bound_of, IsSource, Within, ClosedAt, IsRight, Waits, IsWaiting, IsUnderWay, SameBut, Moves}
-use Rattle.olr_near.specs.Bounds.{IsReopened, IsLowered, IsFollowed, IsLed, lesser}
+use Rattle.olr_search.specs.Bounds.{AreBounds}
+use Rattle.olr_search.specs.Frontiers.{label_of, IsQueued, IsAlike, Moves}
+use Rattle.olr_search.specs.declared.distances.Direction.TheVariants.{Against}
+use Rattle.olr_search.specs.declared.frontier.Frontier.{Frontier}
+use Rattle.olr_search.proofs.SearchLemmas.{alike_labels}
+use Rattle.olr_near.specs.Bounds.{source_of, bound_at, IsSource, AreClosed, AreMet, AreRight, IsRight, IsDue}
+use Rattle.olr_near.specs.Bounds.{AreUnderWay, IsUnderWay, IsEdit, IsFar, IsLed, AreLed, IsFollowed}
 use Rattle.olr_near.specs.declared.distance_bounds.DistanceBounds.{DistanceBounds}
-use Rattle.olr_search.proofs.HeapLemmas.{popped_or, pushed_kept, pushed_there}
 
--- ---- bounds that did not increase
+-- ---- the open nodes
 
-pub within_itself : (L : ℕ → Option ℕ) (v d : ℕ) → L v ≡ Some d → Within L v d
-within_itself L v d at = record { number = d; at = at; low = omega arith }
+pub in_both : (xs ys : List ℕ) (v : ℕ) → IsTrue (has ys v) ⊎ IsTrue (has xs v) → IsTrue (has (xs ++ ys) v)
+in_both xs ys v h = grind (arith, list_any-append)
 
-abbrev pub Better : (ℕ → Option ℕ) → (ℕ → Option ℕ) → Type 0
-Better L K = (v d : ℕ) → L v ≡ Some d → Within K v d
+in_last : (xs : List ℕ) (w v : ℕ) → IsTrue (has (xs ++ w ∷ []) v) → IsTrue (has xs v) ⊎ (v ≡ w)
+in_last xs w v h = grind (arith, list_any-append, eqb-true)
 
-pub within_better : (L K : ℕ → Option ℕ) → Better L K → (v d : ℕ) → Within L v d → Within K v d
-within_better L K better v d w =
-    let k = better v w.number w.at in
-    record { number = k.number; at = k.at; low = omega arith }
+pub due_more : (M : Map) (s : ℕ → ℕ) (T U : List ℕ) (f g : DistanceBounds) → g.bounds ≡ f.bounds → g.sources ≡ f.sources →
+    ((v : ℕ) → IsDue T f v → IsDue U g v) → AreUnderWay M s T f → AreUnderWay M s U g
+due_more M s T U f g bounds sources due u = grind (arith, cases_Bool)
 
-pub closed_better : (M : Map) (L K : ℕ → Option ℕ) → Better L K → (u d : ℕ) → ClosedAt M L u d → ClosedAt M K u d
-closed_better M L K better u d closed x known from short =
-    within_better L K better (end M x) (d + dm M x) (closed x known from short)
+pub node_there : (M : Map) (s : ℕ → ℕ) (p : ℕ) (o : Option ℕ) →
+    ((v : ℕ) → (o ≡ Some v) ↔ (IsTrue (has_node M v) × (s v ≡ p))) → IsTrue (is_some o) → (v : ℕ) × IsTrue (has_node M v)
+    × (s v ≡ p)
+node_there M s p (Some v) is there = let own = (is v).0 refl in (v, own.0, own.1)
+node_there M s p None is there = absurd cc
 
-pub source_better : (f g : DistanceBounds) → g.known ≡ f.known → Better (bound_of f) (bound_of g) → (s w : ℕ) →
-    IsSource f s w → IsSource g s w
-source_better f g known better s w source is =
-    within_better (bound_of f) (bound_of g) better s (limit - w) (source (subst (λ (b : Bool). IsTrue b) known is))
-
-pub moves_then : (f g h : DistanceBounds) → Moves f g → Moves g h → Moves f h
-moves_then f g h m n = record {
-  better = λ v d at. within_better (bound_of g) (bound_of h) n.better v d (m.better v d at);
-  fresh = λ v d at. elim (n.fresh v d at) [
-    | inl was ↦ elim (m.fresh v d was) [ inl first ↦ inl first | inr w ↦ inr (n.kept d v w) ]
-    | inr w ↦ inr w
-  ];
-  kept = λ d v w. n.kept d v (m.kept d v w);
-  known = n.known ∙ m.known;
+pub moves_none : (f : Frontier) → Moves f f
+moves_none f = record {
+  better = λ p. omega arith;
+  fresh = λ p. inl refl;
+  kept = λ e q w. w;
+  len = refl;
+  less = omega arith;
 }
 
--- each number is that of before, and if its node waited it still does, or its lines are followed; or its node waits
-under_next : (M : Map) (f g : DistanceBounds) → g.known ≡ f.known → Better (bound_of f) (bound_of g) →
-    ((v d : ℕ) → bound_of g v ≡ Some d → (bound_of f v ≡ Some d) ⊎ IsWaiting g d v) →
-    ((v d : ℕ) → bound_of f v ≡ Some d → IsWaiting f d v → ClosedAt M (bound_of g) v d ⊎ IsWaiting g d v) →
-    IsUnderWay M f → IsUnderWay M g
-under_next M f g known better fresh kept under is u d at = elim (fresh u d at) [
-  | inr w ↦ inr w
-  | inl was ↦ elim (under (subst (λ (b : Bool). IsTrue b) known is) u d was) [
-    | inl closed ↦ inl (closed_better M (bound_of f) (bound_of g) better u d closed)
-    | inr w ↦ kept u d was w
-  ]
-]
+-- ---- edits
 
-pub moves_under_way : (M : Map) (f g : DistanceBounds) → Moves f g → IsUnderWay M f → IsUnderWay M g
-moves_under_way M f g m = under_next M f g m.known m.better m.fresh (λ v d _ w. inr (m.kept d v w))
+module _ (M N : Map) (s r : ℕ → ℕ) (T : List ℕ) (f : DistanceBounds) (e : IsEdit T M s N r) where
+  module _ (P Q : ℕ → Type 0) (more : (v : ℕ) → P v → Q v)
+      (touched : (v : ℕ) → IsTrue (has T v) → IsFar M s f v ⊎ Q v) where
+    closed_on : AreClosed M s (bound_at f) P → AreClosed N r (bound_at f) Q
+    closed_on closed x line short =
+        let L = bound_at f in
+        let from = e.slots (start N x) (e.starts x line) (e.sound.starts x line) in
+        let to = e.slots (end N x) (e.ends x line) (e.sound.ends x line) in
+        elim (cases_Bool (has T (start N x))) [
+          | inl on ↦ elim (touched (start N x) on) [
+            | inl far ↦ let lt = far.bound (e.starts x line) in absurd (omega (arith, ap L from))
+            | inr q ↦ inr q
+          ]
+          | inr off ↦
+              let is : SameLine N M x =
+              by_leaving N M (start N x) x (turned_round M N (start N x) (e.alike (start N x) off)) line refl in
+              let near : L (s (start M x)) ≡ L (r (start N x)) =
+              ap L (ap s (sym (same_start N M x is)) ∙ sym from) in
+              let there : L (s (end M x)) ≡ L (r (end N x)) = ap L (ap s (sym (same_end N M x is)) ∙ sym to) in
+              elim (closed x (sym (same_known N M x is) ∙ line) (omega (arith, same_dm N M x is))) [
+                | inl c ↦ inl (omega (arith, same_dm N M x is))
+                | inr p ↦ inr (more (start N x) (subst P (sym (same_start N M x is)) p))
+              ]
+        ]
 
--- ---- one bound
+    met_on : AreMet M s (source_of f) (bound_at f) P → AreMet N r (source_of f) (bound_at f) Q
+    met_on met v d at there = elim (cases_Bool (has T v)) [
+      | inl on ↦ elim (touched v on) [
+        | inl far ↦ let never : ◌≡◌ {A = Option ℕ} None (Some d) = sym far.source ∙ at in absurd cc
+        | inr q ↦ inr q
+      ]
+      | inr off ↦
+          let known : IsTrue (has_node M v) = ap (λ o. is_some o) (e.alike v off).place ∙ there in
+          elim (met v d at known) [
+            | inl le ↦ inl (omega (arith, ap (bound_at f) (e.slots v known there)))
+            | inr p ↦ inr (more v p)
+          ]
+    ]
 
--- between f and g, after which node v is queued with that bound
-pub put_moves : (f g : DistanceBounds) (v d : ℕ) → Updates nat_eq f.bounds g.bounds v (Some d) →
-    ((e : ℕ) → bound_of f v ≡ Some e → d < e)
-    → IsPermutation (record { 0 = (d, v) } ∷ heap_items f.waiting) (heap_items g.waiting) →
-    g.known ≡ f.known → Moves f g
-put_moves f g v d updates less p known =
-    let others : (q : ℕ) → q ≢ v → bound_of g q ≡ bound_of f q = λ q ne. updates.2 q (ne_eqb v q (λ e. ne (sym e))) in
-    record {
-      better = λ q e at. elim (cases_eq q v) [
-        | inl eq ↦
-            let lt = less e (ap (bound_of f) (sym eq) ∙ at) in
-            record { number = d; at = ap (bound_of g) eq ∙ updates.1; low = omega arith }
-        | inr ne ↦ within_itself (bound_of g) q e (others q ne ∙ at)
-      ];
-      fresh = λ q e at. elim (cases_eq q v) [
-        | inl eq ↦
-            let both : ◌≡◌ {A = Option ℕ} (Some d) (Some e) = sym updates.1 ∙ ap (bound_of g) (sym eq) ∙ at in
-            let same : d ≡ e = cc in
-            inr (coe 0 1 (i. IsWaiting g (same i) (sym eq i)) (pushed_there _ _ _ p))
-        | inr ne ↦ inl (sym (others q ne) ∙ at)
-      ];
-      kept = λ e q w. pushed_kept _ _ _ _ p w;
-      known = known;
+  -- the nodes of each edit are among those that all edits touched
+  pub edit_under_way : (T' U : List ℕ) → ((v : ℕ) → IsTrue (has T' v) → IsTrue (has U v)) →
+      ((v : ℕ) → IsTrue (has T v) → IsTrue (has U v)) → IsUnderWay M s T' f → IsUnderWay N r U f
+  edit_under_way T' U before more under is =
+      let due : (v : ℕ) → IsDue T' f v → IsDue U f v =
+      λ v d. elim d [ inl h ↦ inl (before v h) | inr o ↦ inr o ] in
+      record {
+        closed = closed_on (IsDue T' f) (IsDue U f) due (λ v h. inr (inl (more v h))) (under is).closed;
+        sources = met_on (IsDue T' f) (IsDue U f) due (λ v h. inr (inl (more v h))) (under is).sources;
+      }
+
+  module _ (far : (v : ℕ) → IsTrue (has T v) → IsFar M s f v) where
+    pub spared_under_way : IsUnderWay M s [] f → IsUnderWay N r [] f
+    spared_under_way under is = record {
+      closed = closed_on (IsDue [] f) (IsDue [] f) (λ v d. d) (λ v h. inl (far v h)) (under is).closed;
+      sources = met_on (IsDue [] f) (IsDue [] f) (λ v d. d) (λ v h. inl (far v h)) (under is).sources;
     }
 
-lesser_one : (o : Option ℕ) (d e : ℕ) → ◌≡◌ {A = Option ℕ} (Some (lesser o d)) (Some e) → (o ≡ Some e) ⊎ (e ≡ d)
-lesser_one None d e at = let is : d ≡ e = cc in inr (sym is)
-lesser_one (Some k) d e at = grind (arith, cases_lt)
+    -- from a bound on, along a route within the limit
+    bound_along : AreRight N r f → (u v b : ℕ) (xs : List ℕ) → IsTrue (has_node M u) → IsTrue (has_node N u) →
+        bound_at f (r u) ≤ b → IsRoute N u v xs → b + dm_of N xs ≤ limit → ¬ IsTrue (has T v)
+    bound_along right u v b [] known there low is short on =
+        let on' : IsTrue (has T u) = subst (λ (q : ℕ). IsTrue (has T q)) (sym is) on in
+        let lt = (far u on').bound known in
+        absurd (omega (arith, ap (bound_at f) (e.slots u known there)))
+    bound_along right u v b (x ∷ xs) known there low way short on =
+        let from = ap (λ (q : ℕ). bound_at f (r q)) way.1 in
+        let le = right.closed x way.0 (omega arith) in
+        bound_along right (end N x) v (b + dm N x) xs (e.ends x way.0) (e.sound.ends x way.0) (omega arith) way.2 (omega arith) on
 
--- each number is one of before, or the new one
-pub lowered_from : (f g : DistanceBounds) (v d : ℕ) → IsLowered f g v d → (q e : ℕ) → bound_of g q ≡ Some e →
-    (bound_of f q ≡ Some e) ⊎ ((e ≡ d) × (q ≡ v))
-lowered_from f g v d l q e at = grind (arith, cases_eq, lesser_one, bound_of)
+    pub far_apart : IsTrue f.known → IsRight N r f → (v w : ℕ) → IsSource f v w → ¬ Near N T v (min w limit)
+    far_apart is right v w source near = go near.route near.leads near.within
+      where
+        go : (xs : List ℕ) → IsRoute N v near.node xs → dm_of N xs ≤ min w limit → ⊥
+        go [] here short =
+            let k = source is in
+            let none = (far near.node near.touched).source in
+            let never : ◌≡◌ {A = Option ℕ} None (Some k.number) = sym none ∙ ap (source_of f) (sym here) ∙ k.at in
+            absurd cc
+        go (x ∷ xs) way short =
+            let k = source is in
+            let known = subst (λ (q : ℕ). IsTrue (has_node M q)) way.1 (e.starts x way.0) in
+            let there = subst (λ (q : ℕ). IsTrue (has_node N q)) way.1 (e.sound.starts x way.0) in
+            let low = (right is).sources v k.number k.at there in
+            let less = k.low in
+            bound_along (right is) v near.node (bound_at f (r v)) (x ∷ xs) known there (omega arith) way (omega arith) near.touched
 
--- what it counts
-abbrev pub weight : ℕ → ℕ
-weight k = limit + 1 - k
+-- an edit that changes nothing
+pub edit_same : (T : List ℕ) (M : Map) (s : ℕ → ℕ) → IsMap M → IsEdit T M s M s
+edit_same T M s m = record {
+  sound = m;
+  alike = λ v off. record { place = refl; entering = λ x l. (λ h. h, λ h. h); leaving = λ x l. (λ h. h, λ h. h) };
+  slots = λ v known there. refl;
+  starts = m.starts;
+  ends = m.ends;
+}
 
--- the gain of all bounds, by the one that is written and the one before
-gain_by : (a b d : ℕ) (old : Option ℕ) → b + unwrap_or (option_map weight old) 0 ≡ a + weight d → d ≤ limit →
-    ((e : ℕ) → old ≡ Some e → d < e) → a + 1 ≤ b
-gain_by a b d None sum short less = omega arith
-gain_by a b d (Some e) sum short less = omega (arith, less e refl)
+-- ---- while bounds are settled
 
-pub gain_put : (m n : Numbers) (v d : ℕ) (old : Option ℕ) → old ≡ get nat_eq m v → PutsEntry nat_eq m n v d old →
-    d ≤ limit → ((e : ℕ) → get nat_eq m v ≡ Some e → d < e) → sum_by weight (values m) + 1 ≤ sum_by weight (values n)
-gain_put m n v d old was puts short less =
-    gain_by (sum_by weight (values m)) (sum_by weight (values n)) d old
-    (sum_by_puts_entry weight nat_eq m n v d old was puts) short (λ e is. less e (sym was ∙ is))
+-- lines are closed, but where their starts are in the list or queued at their bounds
+pub record AreSettling (M : Map) (s : ℕ → ℕ) (S : ℕ → Option ℕ) (xs : List ℕ) (f : Frontier) : Type 0 where
+  pub closed : AreClosed M s (label_of f) (λ v. IsTrue (has xs v) ⊎ IsQueued f (label_of f (s v)) (s v))
+  pub sources : AreMet M s S (label_of f) (λ v. IsTrue (has xs v))
 
--- there are no more bounds than nodes, and each counts at most the limit plus one
-pub gain_le : (m : Numbers) → ((v : ℕ) → IsSome (get nat_eq m v) → v < 2 ^ 32) → IsUnique nat_eq m →
-    sum_by weight (values m) ≤ 2 ^ 32 * (limit + 1)
-gain_le m below unique =
-    let few = length-le_from_distinct_below (keys m) (2 ^ 32) unique
-    (λ q h. below q (IsSome-lookup_from_Contains nat_eq_equiv q m.entries
-    (Contains-from_any (λ x y e. eqb-true x y e) q (keys m) h))) in
-    let same : length (values m) ≡ length (keys m) =
-    length-values_of m.entries ∙ sym (length-map m.entries (λ (e : ℕ × ℕ). e.0)) in
-    let less : length (values m) ≤ 2 ^ 32 = omega arith in
-    le_trans (sum_by-le weight (limit + 1) (values m) (λ i k lt. omega arith)) (mul-le-mul_right (limit + 1) less)
+pub settling_begun : (M : Map) (s : ℕ → ℕ) (f : DistanceBounds) (g : Frontier) → ((p : ℕ) → label_of g p ≡ bound_at f p) →
+    AreUnderWay M s [] f → AreSettling M s (source_of f) f.opened.items g
+settling_begun M s f g same u = grind arith
 
--- ---- the queue
+module _ (M : Map) (m : IsMap M) (s : ℕ → ℕ) (S : ℕ → Option ℕ) where
+  settling_next : (xs ys : List ℕ) (f h : Frontier) → ((p : ℕ) → label_of h p ≤ label_of f p)
+      → ((p : ℕ) → (label_of h p ≡ label_of f p) ⊎ IsQueued h (label_of h p) p)
+      → ((v : ℕ) → IsTrue (has_node M v) → IsTrue (has xs v) ⊎ IsQueued f (label_of f (s v)) (s v) →
+      IsTrue (has ys v) ⊎ (IsQueued h (label_of f (s v)) (s v) ⊎ IsFollowed M s h v))
+      → ((v d : ℕ) → S v ≡ Some d → IsTrue (has_node M v) → IsTrue (has xs v) → (label_of h (s v) ≤ d) ⊎ IsTrue (has ys v))
+      → AreSettling M s S xs f → AreSettling M s S ys h
+  settling_next xs ys f h better fresh due met was = record {
+    closed = λ x line short. elim (fresh (s (start M x))) [
+      | inr q ↦ inr (inr q)
+      | inl same ↦ elim (was.closed x line (omega arith)) [
+        | inl c ↦ let le = better (s (end M x)) in inl (omega arith)
+        | inr d ↦ elim (due (start M x) (m.starts x line) d) [
+          | inl o ↦ inr (inl o)
+          | inr k ↦ elim k [
+            | inl q ↦ inr (inr (subst (λ (n : ℕ). IsQueued h n (s (start M x))) (sym same) q))
+            | inr followed ↦ elim (followed x line refl short) [ inl c ↦ inl c | inr q ↦ inr (inr q) ]
+          ]
+        ]
+      ]
+    ];
+    sources = λ v d at there. elim (was.sources v d at there) [
+      | inl low ↦ let le = better (s v) in inl (omega arith)
+      | inr o ↦ met v d at there o
+    ];
+  }
 
--- node v waits where it has a bound
-abbrev pub WaitsAt : DistanceBounds → List (Reverse (ℕ × ℕ)) → ℕ → Type 0
-WaitsAt f xs v = (d : ℕ) → bound_of f v ≡ Some d → Waits xs d v
-
-pub popped_others : (xs ys : List (Reverse (ℕ × ℕ))) (x : Reverse (ℕ × ℕ)) (d v : ℕ) → IsPermutation xs (x ∷ ys) →
-    Waits xs d v → Waits ys d v ⊎ ((d ≡ x.0.0) × (v ≡ x.0.1))
-popped_others xs ys x d v p w = elim (popped_or xs ys x (record { 0 = (d, v) }) p w) [
-  | inl h ↦ inl h
-  | inr e ↦ inr (ap (λ (y : Reverse (ℕ × ℕ)). y.0.0) e, ap (λ (y : Reverse (ℕ × ℕ)). y.0.1) e)
-]
-
--- an entry is removed, between f and g, and its lines are followed, up to h; or the bound is another one by now
-module _ (M : Map) (f g : DistanceBounds) (d v : ℕ) (same : g.bounds ≡ f.bounds) (known : g.known ≡ f.known)
-    (others : (e q : ℕ) → IsWaiting f e q → IsWaiting g e q ⊎ ((e ≡ d) × (q ≡ v))) where
-  is_same : (q : ℕ) → bound_of g q ≡ bound_of f q
-  is_same q = ap (λ (m : Numbers). get nat_eq m q) same
-
-  pub popped_skip : ¬ (bound_of f v ≡ Some d) → IsUnderWay M f → IsUnderWay M g
-  popped_skip other = under_next M f g known (λ u e at. within_itself (bound_of g) u e (is_same u ∙ at))
-      (λ u e at. inl (sym (is_same u) ∙ at)) (λ u e was w. elim (others e u w) [
+  -- the last open node is looked at
+  pub settling_looked : (xs ys : List ℕ) (w : ℕ) (f h : Frontier) → xs ≡ ys ++ w ∷ [] → Moves f h → IsFollowed M s h w →
+      ((d : ℕ) → S w ≡ Some d → IsTrue (has_node M w) → label_of h (s w) ≤ d) → AreSettling M s S xs f →
+      AreSettling M s S ys h
+  settling_looked xs ys w f h is moves followed met =
+      let last : (v : ℕ) → IsTrue (has xs v) → IsTrue (has ys v) ⊎ (v ≡ w) =
+      λ v o. in_last ys w v (subst (λ (zs : List ℕ). IsTrue (has zs v)) is o) in
+      settling_next xs ys f h moves.better moves.fresh (λ v there d. elim d [
+        | inl o ↦ elim (last v o) [ inl still ↦ inl still | inr e ↦ inr (inr (subst (IsFollowed M s h) (sym e) followed)) ]
+        | inr q ↦ inr (inl (moves.kept (label_of f (s v)) (s v) q))
+      ]) (λ v d at there o. elim (last v o) [
         | inl still ↦ inr still
-        | inr k ↦ absurd (other (coe 0 1 (i. bound_of f (k.1 i) ≡ Some (k.0 i)) was))
+        | inr e ↦ inl (subst (λ (u : ℕ). label_of h (s u) ≤ d) (sym e)
+            (met d (ap S (sym e) ∙ at) (subst (λ (u : ℕ). IsTrue (has_node M u)) e there)))
       ])
 
-  pub popped_more : (h : DistanceBounds) → Moves g h → ClosedAt M (bound_of h) v d → IsUnderWay M f → IsUnderWay M h
-  popped_more h m closed = under_next M f h (m.known ∙ known) (λ u e at. m.better u e (is_same u ∙ at))
-      (λ u e at. elim (m.fresh u e at) [ inl kept ↦ inl (sym (is_same u) ∙ kept) | inr w ↦ inr w ])
-      (λ u e was w. elim (others e u w) [
-        | inl still ↦ inr (m.kept e u still)
-        | inr k ↦ inl (coe 1 0 (i. ClosedAt M (bound_of h) (k.1 i) (k.0 i)) closed)
-      ])
+  -- an entry is removed from the queue, between f and g, and its lines are followed, up to h
+  pub settling_popped : (f g h : Frontier) (d p : ℕ) → IsAlike f g →
+      ((n q : ℕ) → IsQueued f n q → IsQueued g n q ⊎ ((n ≡ d) × (q ≡ p))) → Moves g h →
+      ((v : ℕ) → IsTrue (has_node M v) → s v ≡ p → IsFollowed M s h v) → AreSettling M s S [] f → AreSettling M s S [] h
+  settling_popped f g h d p alike others moves followed =
+      settling_next [] [] f h (λ q. let le = moves.better q in omega (arith, alike_labels f g alike q))
+      (λ q. elim (moves.fresh q) [ inl same ↦ inl (same ∙ alike_labels f g alike q) | inr new ↦ inr new ])
+      (λ v there k. elim k [
+        | inl o ↦ inl o
+        | inr q ↦ elim (others (label_of f (s v)) (s v) q) [
+          | inl still ↦ inr (inl (moves.kept (label_of f (s v)) (s v) still))
+          | inr is ↦ inr (inr (followed v there is.1))
+        ]
+      ]) (λ v n at there o. inr o)
 
--- ---- where numbers come from
+  -- nothing is left
+  pub settled : (f g : Frontier) → IsAlike f g → ((n q : ℕ) → IsQueued f n q → limit < n) → AreSettling M s S [] f →
+      AreBounds M s Against g × ((v d : ℕ) → S v ≡ Some d → IsTrue (has_node M v) → label_of g (s v) ≤ d)
+  settled f g alike far was = (near, met)
+    where
+      near : AreBounds M s Against g
+      near x line short =
+          let from = alike_labels f g alike (s (start M x)) in
+          let to = alike_labels f g alike (s (end M x)) in
+          elim (was.closed x line (omega arith)) [
+            | inl c ↦ omega arith
+            | inr k ↦ elim k [ inl o ↦ absurd cc | inr q ↦ let lt = far _ _ q in absurd (omega arith) ]
+          ]
 
-pub led_on : (M : Map) (L : ℕ → Option ℕ) (u n v d : ℕ) → IsLed M L u n → IsFollowed M u n v d → IsLed M L v d
-led_on M L u n v d k f =
-    let both = dm_of-append M k.route (f.line ∷ []) in
-    record {
-      from = k.from;
-      number = k.number;
-      at = k.at;
-      route = k.route ++ f.line ∷ [];
-      leads = IsRoute-append M k.from u v k.route (f.line ∷ []) k.leads (f.known, f.near, f.far);
-      long = omega arith;
-    }
+      met : (v d : ℕ) → S v ≡ Some d → IsTrue (has_node M v) → label_of g (s v) ≤ d
+      met v d at there = elim (was.sources v d at there) [
+        | inl low ↦ omega (arith, alike_labels f g alike (s v))
+        | inr o ↦ absurd cc
+      ]
 
--- ---- lines that are followed again
+  -- ---- where bounds come from
 
-pub closed_same : (M N : Map) (L : ℕ → Option ℕ) (u d : ℕ) → SameRound M N u → ClosedAt M L u d → ClosedAt N L u d
-closed_same M N L u d same closed x known from short =
-    let is : SameLine N M x = by_leaving N M u x (turned_round M N u same) known from in
-    let long = same_dm N M x is in
-    coe 1 0 (i. Within L (same_end N M x is i) (d + long i))
-    (closed x (sym (same_known N M x is) ∙ known) (sym (same_start N M x is) ∙ from) (omega arith))
+  led_as : (L K : ℕ → ℕ) (p d : ℕ) (k : IsLed M s S K p d) → (L (s k.from) ≡ k.begun) ⊎ (S k.from ≡ Some k.begun) →
+      IsLed M s S L p d
+  led_as L K p d k begins = record {
+    from = k.from;
+    to = k.to;
+    there = k.there;
+    slot = k.slot;
+    begun = k.begun;
+    begins = begins;
+    route = k.route;
+    leads = k.leads;
+    long = k.long;
+  }
 
-pub reopened_sources : (T : List ℕ) (f g : DistanceBounds) → IsReopened T f g → (s w : ℕ) → IsSource f s w → IsSource g s w
-reopened_sources T f g r s w source is = grind (arith, get, nat_eq)
-
-pub reopened_under_way : (M N : Map) (T : List ℕ) (f g : DistanceBounds) → IsReopened T f g → SameBut T M N → IsUnderWay M f →
-    IsUnderWay N g
-reopened_under_way M N T f g r same under is u d at = grind (arith, bound_of, get, nat_eq, cases_Bool, has, closed_same)
-
--- where none of the nodes has a bound, no line has to be followed again
-pub spared_under_way : (M N : Map) (T : List ℕ) (f : DistanceBounds) → ((v : ℕ) → IsTrue (has T v) → bound_of f v ≡ None) →
-    SameBut T M N → IsUnderWay M f → IsUnderWay N f
-spared_under_way M N T f none same under is u d at = elim (cases_Bool (has T u)) [
-  | inl on ↦ let no : ◌≡◌ {A = Option ℕ} None (Some d) = sym (none u on) ∙ at in absurd cc
-  | inr off ↦ elim (under is u d at) [
-    | inl closed ↦ inl (closed_same M N (bound_of f) u d (same u off) closed)
-    | inr w ↦ inr w
+  pub led_then : ((v w : ℕ) → IsTrue (has_node M v) → IsTrue (has_node M w) → s v ≡ s w → v ≡ w) → (L K H : ℕ → ℕ) →
+      AreLed M s S L K → AreLed M s S K H → AreLed M s S L H
+  led_then apart L K H first then p = elim (then p) [
+    | inl same ↦ elim (first p) [ inl was ↦ inl (same ∙ was) | inr k ↦ inr (subst (IsLed M s S L p) (sym same) k) ]
+    | inr k ↦ elim k.begins [
+      | inr source ↦ inr (led_as L K p (H p) k (inr source))
+      | inl at ↦ elim (first (s k.from)) [
+        | inl was ↦ inr (led_as L K p (H p) k (inl (sym was ∙ at)))
+        | inr j ↦
+            let known = route_start M m k.from k.to k.route k.leads k.there in
+            let is = apart j.to k.from j.there known j.slot in
+            inr (record {
+              from = j.from;
+              to = k.to;
+              there = k.there;
+              slot = k.slot;
+              begun = j.begun;
+              begins = j.begins;
+              route = j.route ++ k.route;
+              leads = IsRoute-append M j.from k.from k.to j.route k.route
+                  (subst (λ (u : ℕ). IsRoute M j.from u j.route) is j.leads) k.leads;
+              long = omega (arith, dm_of-append M j.route k.route, j.long, k.long);
+            })
+      ]
+    ]
   ]
-]
-
--- ---- the law
-
--- a route within the limit leads from a node with a bound to a node with a bound
-number_along : (M : Map) (f : DistanceBounds) → IsRight M f → IsTrue f.known → (u v d : ℕ) (xs : List ℕ) →
-    bound_of f u ≡ Some d → IsRoute M u v xs → d + dm_of M xs ≤ limit → IsSome (bound_of f v)
-number_along M f right known u v d [] at w short = coe 1 0 (i. IsSome ((ap (bound_of f) (sym w) ∙ at) i)) refl
-number_along M f right known u v d (x ∷ xs) at w short =
-    let k = right known u d at x w.0 w.1 (omega arith) in
-    number_along M f right known (end M x) v k.number xs k.at w.2 (omega arith)
-
-pub near_bounded : (M : Map) (f : DistanceBounds) (s w : ℕ) (T : List ℕ) → IsTrue f.known → IsRight M f →
-    IsSource f s w →
-    (near : Near M T s (min w limit)) → IsSome (bound_of f near.node)
-near_bounded M f s w T known right source near = grind (arith, number_along)

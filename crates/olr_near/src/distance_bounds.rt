@@ -1,28 +1,35 @@
-//! Numbers of nodes: distance bounds, which cut the search from an edit.
-ghost use Rattle.std.specs.Prelude.{◌<◌, ◌^◌, ℕ, IsSome, nat_eq};
+//! Distance bounds by slot, which cut the search from an edit.
+ghost use Rattle.std.specs.Prelude.{◌≡◌, ◌≤◌, ℕ, Option, Some, OnOk, IsTrue, nat_eq};
 ghost use Rattle.std.specs.HashMap.{get};
+ghost use Rattle.olr_spec.specs.Map.{has_node};
+ghost use Rattle.olr_search.specs.Frontiers.{Moves, label_of};
+ghost use Rattle.olr_search.specs.Searches.{CoversSlots};
+ghost use Rattle.olr_near.specs.Bounds.{AreLed, IsFollowed};
 
 use olr_roads::{MapRead, NodeId, NumberHasher};
-use olr_search::{Bounds, Direction, GREATEST_LIMIT, ends_from};
+use olr_search::{Direction, Frontier, GREATEST_LIMIT, ends_from};
 use std::alloc::{AllocError, Global};
-use std::cmp::Reverse;
-use std::collections::{BinaryHeap, HashMap};
+use std::collections::HashMap;
 use std::hash::BuildHasherDefault;
 
-/// A number, in decimetres, for each node that a query reaches. A query begins at its source and has a length, and
-/// reaches the nodes that a route of at most that length leads to. The number is a lower bound: at most
-/// `GREATEST_LIMIT` less what is left of the query's length at the node. If lines get longer or are removed, or queries
-/// are removed, bounds may be too small, and nodes that no query reaches may have one.
+/// A bound, in decimetres, for each node that a query reaches. A query begins at its source and has a length, and reaches
+/// the nodes that a route of at most that length leads to. The bound is at most `GREATEST_LIMIT` less what is left of the
+/// query's length at the node. If lines get longer or are removed, or queries are removed, bounds may be too small, and
+/// nodes that no query reaches may have one.
+///
+/// Bounds are stored by the slots of the nodes, see `MapRead::slot_of`. All calls must be given the same map, before or
+/// after edits: a node that stays must keep its slot, and a node that is added must have no lines at first.
 ///
 /// If an allocation fails, the bounds are unknown until `clear`.
 pub struct DistanceBounds {
     alloc: Global,
-    /// By node number.
-    bounds: HashMap<u32, u32, BuildHasherDefault<NumberHasher>>,
-    /// The queue of nodes whose lines are to be followed, each with the bound that it had when it was queued.
-    waiting: BinaryHeap<Reverse<(u32, NodeId)>>,
+    /// By node number, the bound that the queries from the node require there: the limit less the longest one's length.
+    sources: HashMap<u32, u32, BuildHasherDefault<NumberHasher>>,
+    /// The bounds by slot. Outside `settle` nothing is queued.
+    bounds: Frontier,
+    /// The nodes whose sources and lines are to be looked at again.
+    opened: Vec<NodeId>,
     known: bool,
-    ghost small: { (v : ℕ) → IsSome (get nat_eq bounds v) → v < 2 ^ 32 },
 }
 
 // Written out: a derived drop is proved again in each crate that ends bounds.
@@ -30,32 +37,84 @@ impl Drop for DistanceBounds {
     fn drop(self) {
         let DistanceBounds {
             alloc: _,
+            sources,
             bounds,
-            waiting,
+            opened,
             known: _,
         } = self;
+        drop(sources);
         drop(bounds);
-        drop(waiting);
+        drop(opened);
     }
 }
 
+/// Lowers the bounds at the far ends of the lines from the node in a slot to its bound and the line's length, within
+/// the limit, and queues their slots. No effect if the slot is free, or has no bound.
+fn follow<M: MapRead>(map: &M, slot: u32, bounds: &mut Frontier) -> Result<(), AllocError>
+    requires { CoversSlots (M.map map.now) (M.node_slot map.now) bounds.old }
+    ensures moves { OnOk result (Moves bounds.old bounds.new) }
+    ensures followed { OnOk result ((v : ℕ) → IsTrue (has_node (M.map map.now) v) → M.node_slot map.now v ≡ slot
+        → IsFollowed (M.map map.now) (M.node_slot map.now) bounds.new v) }
+    ensures led { OnOk result ((S : ℕ → Option ℕ)
+        → AreLed (M.map map.now) (M.node_slot map.now) S (label_of bounds.old) (label_of bounds.new)) }
+{
+    let length = bounds.label(slot);
+    if length > GREATEST_LIMIT || map.node_at(slot).is_none() {
+        return Ok(());
+    }
+    let room = GREATEST_LIMIT - length;
+    for end in ends_from(map, Direction::Along, slot) {
+        if end.len <= room {
+            bounds.relax(end.slot, length + end.len, 0)?;
+        }
+    }
+    Ok(())
+}
+
+/// Lowers a node's bound to what the queries from the node require, and follows its lines. No effect if the node is not on
+/// the map.
+fn look_at<M: MapRead>(
+    map: &M,
+    node: NodeId,
+    sources: &HashMap<u32, u32, BuildHasherDefault<NumberHasher>>,
+    bounds: &mut Frontier,
+) -> Result<(), AllocError>
+    requires { CoversSlots (M.map map.now) (M.node_slot map.now) bounds.old }
+    ensures moves { OnOk result (Moves bounds.old bounds.new) }
+    ensures followed { OnOk result (IsFollowed (M.map map.now) (M.node_slot map.now) bounds.new node) }
+    ensures met { OnOk result ((d : ℕ) → get nat_eq sources.now node ≡ Some d
+        → IsTrue (has_node (M.map map.now) node) → label_of bounds.new (M.node_slot map.now node) ≤ d) }
+    ensures led { OnOk result (AreLed (M.map map.now) (M.node_slot map.now) (λ v. get nat_eq sources.now v)
+        (label_of bounds.old) (label_of bounds.new)) }
+{
+    let Some(slot) = map.slot_of(node) else {
+        return Ok(());
+    };
+    if let Some(bound) = sources.get(&node.number()) {
+        bounds.relax(slot, *bound, 0)?;
+    }
+    follow(map, slot, bounds)
+}
+
 impl DistanceBounds {
-    ghost use Rattle.std.specs.Prelude.{◌≡◌, ◌≤◌, ◌-◌, ◌⊎◌, ◌↔◌, ℕ, None, Some, IsTrue, IsFalse, OnOk, OnErr, min};
+    ghost use Rattle.std.specs.Prelude.{◌-◌, ◌↔◌, List, [], None, IsFalse, OnErr, min};
     ghost use Rattle.olr_spec.specs.Map.{Map, has};
     ghost use Rattle.olr_spec.specs.Extension.{limit};
     ghost use Rattle.olr_spec.specs.Detours.{Near};
-    ghost use Rattle.olr_near.specs.Bounds.{bound_of, bounds_len, IsSource, IsRight, IsUnderWay, SameBut, Within};
-    ghost use Rattle.olr_near.specs.Bounds.{ClosedAt, Moves, IsPaid, IsReopened, IsLowered, IsFollowed, IsLed};
+    ghost use Rattle.olr_near.specs.Bounds.{source_of, bound_at, bounds_len, IsSource, IsRight, IsUnderWay, IsEdit, IsFar};
+    ghost use Rattle.olr_near.specs.Bounds.{IsLowered, IsReopened};
 
     /// No sources and no bounds. Does not allocate.
     pub fn new(alloc: Global) -> DistanceBounds
         ensures known { IsTrue result.known }
-        ensures bounds { (v : ℕ) → bound_of result v ≡ None }
+        ensures under_way { (M : Map) (s : ℕ → ℕ) (T : List ℕ) → IsUnderWay M s T result }
+        ensures sources { (v : ℕ) → source_of result v ≡ None }
     {
         DistanceBounds {
             alloc,
-            bounds: HashMap::with_hasher(alloc, BuildHasherDefault::new()),
-            waiting: BinaryHeap::new(alloc),
+            sources: HashMap::with_hasher(alloc, BuildHasherDefault::new()),
+            bounds: Frontier::new(alloc),
+            opened: Vec::new(alloc),
             known: true,
         }
     }
@@ -71,11 +130,11 @@ impl DistanceBounds {
     pub fn len(&self) -> usize
         ensures { result ≡ bounds_len self.now }
     {
-        self.bounds.len()
+        self.bounds.labelled_slots().len()
     }
 
     /// The bounds, for a search.
-    pub fn bounds(&self) -> &Bounds
+    pub fn bounds(&self) -> &Frontier
         ensures { result.now ≡ self.now.bounds }
     {
         &self.bounds
@@ -84,12 +143,12 @@ impl DistanceBounds {
     /// Discards all sources and bounds, and starts from scratch. Does not allocate.
     pub fn clear(&mut self)
         ensures known { IsTrue self.new.known }
-        ensures bounds { (v : ℕ) → bound_of self.new v ≡ None }
+        ensures under_way { (M : Map) (s : ℕ → ℕ) (T : List ℕ) → IsUnderWay M s T self.new }
+        ensures sources { (v : ℕ) → source_of self.new v ≡ None }
     {
-        if !self.bounds.is_empty() {
-            self.bounds = HashMap::with_hasher(self.alloc, BuildHasherDefault::new());
-        }
-        self.waiting.clear();
+        self.sources = HashMap::with_hasher(self.alloc, BuildHasherDefault::new());
+        self.bounds.clear();
+        self.opened.clear();
         self.known = true;
     }
 
@@ -97,50 +156,66 @@ impl DistanceBounds {
     pub fn forget(&mut self)
         ensures { IsFalse self.new.known }
     {
-        self.bounds = HashMap::with_hasher(self.alloc, BuildHasherDefault::new());
-        self.waiting = BinaryHeap::new(self.alloc);
+        self.sources = HashMap::with_hasher(self.alloc, BuildHasherDefault::new());
+        self.bounds = Frontier::new(self.alloc);
+        self.opened = Vec::new(self.alloc);
         self.known = false;
     }
 
-    /// Whether the bounds are settled: no node is queued.
+    /// Whether the bounds are settled: no node is to be looked at again.
     pub fn is_settled(&self) -> bool
-        ensures { IsTrue result → (M : Map) → IsUnderWay M self.now → IsRight M self.now }
+        ensures { IsTrue result → (M : Map) (s : ℕ → ℕ) → IsUnderWay M s [] self.now → IsRight M s self.now }
     {
-        self.waiting.is_empty()
+        self.opened.is_empty()
+    }
+
+    /// Whether a node of the map has a bound, or a query begins at the node.
+    fn is_near<M: MapRead>(&self, map: &M, node: NodeId) -> bool
+        ensures { IsFalse result ↔ IsFar (M.map map.now) (M.node_slot map.now) self.now node }
+    {
+        match map.slot_of(node) {
+            Some(slot) if self.bounds.label(slot) <= GREATEST_LIMIT => true,
+            _ => self.sources.contains_key(&node.number()),
+        }
     }
 
     /// Whether it is known that no query reaches one of the nodes. If so, edits that touch no other nodes leave the bounds
-    /// as right as they are.
-    pub fn is_far(&self, nodes: &[NodeId]) -> bool
-        ensures far { IsTrue result → (M : Map) (s w : ℕ) → IsRight M self.now → IsSource self.now s w
-            → ¬ Near M nodes.now s (min w limit) }
-        ensures exact { IsTrue result
-            ↔ (IsTrue self.now.known × ((v : ℕ) → IsTrue (has nodes.now v) → bound_of self.now v ≡ None)) }
-        ensures spared { IsTrue result → (M N : Map) → SameBut nodes.now M N → IsUnderWay M self.now
-            → IsUnderWay N self.now }
+    /// as right as they are. The map may be the one before the edits, or the one after them.
+    pub fn is_far<M: MapRead>(&self, map: &M, nodes: &[NodeId]) -> bool
+        ensures exact { IsTrue result ↔ (IsTrue self.now.known × ((v : ℕ) → IsTrue (has nodes.now v)
+            → IsFar (M.map map.now) (M.node_slot map.now) self.now v)) }
+        ensures far { IsTrue result → (N : Map) (r : ℕ → ℕ) (s w : ℕ)
+            → IsEdit nodes.now (M.map map.now) (M.node_slot map.now) N r → IsRight N r self.now
+            → IsSource self.now s w → ¬ Near N nodes.now s (min w limit) }
+        ensures spared { IsTrue result → (N : Map) (r : ℕ → ℕ)
+            → IsEdit nodes.now (M.map map.now) (M.node_slot map.now) N r
+            → IsUnderWay (M.map map.now) (M.node_slot map.now) [] self.now → IsUnderWay N r [] self.now }
     {
         if !self.known {
             return false;
         }
+        if self.bounds.labelled_slots().is_empty() && self.sources.is_empty() {
+            return true;
+        }
         for node in nodes {
-            if self.bounds.contains_key(&node.number()) {
+            if self.is_near(map, *node) {
                 return false;
             }
         }
         true
     }
 
-    /// Adds a query of a length in decimetres that begins at the source, whose lines are then to be followed.
-    #[tactic(auto, using(crate::proofs::BoundLemmas::source_better))]
+    /// Adds a query of a length in decimetres that begins at the source, which is then to be looked at again.
     pub fn add(&mut self, source: NodeId, within: u32) -> Result<(), AllocError>
         ensures source { IsSource self.new source within }
         ensures lowered { OnOk result (IsLowered self.old self.new source (limit - within)) }
-        ensures sources { (s w : ℕ) → IsSource self.old s w → IsSource self.new s w }
-        ensures under_way { (M : Map) → IsUnderWay M self.old → IsUnderWay M self.new }
+        ensures sources { (v w : ℕ) → IsSource self.old v w → IsSource self.new v w }
+        ensures under_way { (M : Map) (s : ℕ → ℕ) (T : List ℕ) → IsUnderWay M s T self.old
+            → IsUnderWay M s T self.new }
         ensures ok { OnOk result (self.new.known ≡ self.old.known) }
         ensures err { OnErr result (IsFalse self.new.known) }
     {
-        match self.relax(source, GREATEST_LIMIT.saturating_sub(within)) {
+        match self.lower(source, GREATEST_LIMIT.saturating_sub(within)) {
             Ok(()) => Ok(()),
             Err(error) => {
                 self.forget();
@@ -149,16 +224,14 @@ impl DistanceBounds {
         }
     }
 
-    /// Queues these nodes, so that `settle` follows their lines again: required where a line was added or became
-    /// shorter.
-    #[tactic(auto, using(crate::proofs::BoundLemmas::reopened_sources))]
+    /// Has these nodes looked at again, when the bounds are settled: required where a line was added or became shorter.
     pub fn reopen(&mut self, nodes: &[NodeId]) -> Result<(), AllocError>
-        ensures sources { (s w : ℕ) → IsSource self.old s w → IsSource self.new s w }
-        ensures under_way { (M N : Map) → SameBut nodes.now M N → IsUnderWay M self.old → IsUnderWay N self.new }
+        ensures sources { (v w : ℕ) → IsSource self.old v w → IsSource self.new v w }
+        ensures under_way { (M : Map) (s : ℕ → ℕ) → IsUnderWay M s nodes.now self.old → IsUnderWay M s [] self.new }
         ensures ok { OnOk result (self.new.known ≡ self.old.known) }
         ensures err { OnErr result (IsFalse self.new.known) }
     {
-        match self.let_wait(nodes) {
+        match self.opened.extend_from_slice(nodes) {
             Ok(()) => Ok(()),
             Err(error) => {
                 self.forget();
@@ -167,17 +240,18 @@ impl DistanceBounds {
         }
     }
 
-    /// Follows the lines of all queued nodes, until the bounds are right.
-    #[tactic(auto, using(crate::proofs::BoundLemmas::source_better))]
+    /// Looks at the open nodes again, and follows lines until the bounds are right.
     pub fn settle<M: MapRead>(&mut self, map: &M) -> Result<(), AllocError>
-        ensures sources { (s w : ℕ) → IsSource self.old s w → IsSource self.new s w }
-        ensures right { IsUnderWay (M.map map.now) self.old → IsRight (M.map map.now) self.new }
-        ensures reached { OnOk result ((v d : ℕ) → bound_of self.new v ≡ Some d
-            → IsLed (M.map map.now) (bound_of self.old) v d) }
+        ensures sources { (v w : ℕ) → IsSource self.old v w → IsSource self.new v w }
+        ensures same { OnOk result ((v : ℕ) → source_of self.new v ≡ source_of self.old v) }
+        ensures right { IsUnderWay (M.map map.now) (M.node_slot map.now) [] self.old
+            → IsRight (M.map map.now) (M.node_slot map.now) self.new }
+        ensures reached { OnOk result (AreLed (M.map map.now) (M.node_slot map.now) (source_of self.old)
+            (bound_at self.old) (bound_at self.new)) }
         ensures ok { OnOk result (self.new.known ≡ self.old.known) }
         ensures err { OnErr result (IsFalse self.new.known) }
     {
-        match self.follow_all(map) {
+        match self.settle_open(map) {
             Ok(()) => Ok(()),
             Err(error) => {
                 self.forget();
@@ -186,94 +260,38 @@ impl DistanceBounds {
         }
     }
 
-    /// Lowers a node's bound to a value in decimetres and queues the node. No effect if its bound is no greater.
-    fn relax(&mut self, node: NodeId, number: u32) -> Result<(), AllocError>
-        requires { number ≤ limit }
-        ensures moves { OnOk result (Moves self.old self.new) }
-        ensures paid { OnOk result (IsPaid self.old self.new) }
-        ensures within { OnOk result (Within (bound_of self.new) node number) }
-        ensures lowered { OnOk result (IsLowered self.old self.new node number) }
+    /// Lowers what the queries from a node require there to a bound in decimetres, and opens the node. No effect if it is
+    /// no greater.
+    fn lower(&mut self, source: NodeId, bound: u32) -> Result<(), AllocError>
+        ensures lowered { OnOk result (IsLowered self.old self.new source bound) }
+        ensures reopened { OnOk result (IsReopened self.old self.new) }
     {
-        if self.is_within(node, number) {
+        if let Some(least) = self.sources.get(&source.number())
+            && *least <= bound
+        {
             return Ok(());
         }
-        self.waiting.push(Reverse((number, node)))?;
-        self.bounds.insert(node.number(), number)?;
+        self.opened.push(source)?;
+        self.sources.insert(source.number(), bound)?;
         Ok(())
     }
 
-    /// Queues those of the nodes that have a bound.
-    fn let_wait(&mut self, nodes: &[NodeId]) -> Result<(), AllocError>
-        ensures { OnOk result (IsReopened nodes.now self.old self.new) }
-    {
-        for node in nodes {
-            if let Some(number) = self.bounds.get(&node.number()) {
-                self.waiting.push(Reverse((*number, *node)))?;
-            }
-        }
-        Ok(())
-    }
-
-    /// Whether the node has a bound of at most this.
-    fn is_within(&self, node: NodeId, number: u32) -> bool
-        ensures low { IsTrue result → Within (bound_of self.now) node number }
-        ensures high { IsFalse result → (d : ℕ) → bound_of self.now node ≡ Some d → number < d }
-    {
-        match self.bounds.get(&node.number()) {
-            None => false,
-            Some(had) => *had <= number,
-        }
-    }
-
-    /// Whether the node has this bound.
-    fn is_at(&self, node: NodeId, number: u32) -> bool
-        ensures { IsTrue result ↔ (bound_of self.now node ≡ Some number) }
-    {
-        match self.bounds.get(&node.number()) {
-            None => false,
-            Some(had) => *had == number,
-        }
-    }
-
-    /// Follows the lines from a node with this bound, within the limit.
-    fn follow<M: MapRead>(&mut self, map: &M, node: NodeId, number: u32) -> Result<(), AllocError>
-        ensures moves { OnOk result (Moves self.old self.new) }
-        ensures paid { OnOk result (IsPaid self.old self.new) }
-        ensures closed { OnOk result (ClosedAt (M.map map.now) (bound_of self.new) node number) }
-        ensures followed { OnOk result ((v d : ℕ) → bound_of self.new v ≡ Some d
-            → (bound_of self.old v ≡ Some d) ⊎ IsFollowed (M.map map.now) node number v d) }
-    {
-        if number > GREATEST_LIMIT {
-            return Ok(());
-        }
-        let Some(slot) = map.slot_of(node) else {
-            return Ok(());
-        };
-        let room = GREATEST_LIMIT - number;
-        for end in ends_from(map, Direction::Along, slot) {
-            if end.len <= room {
-                self.relax(map.node_at(end.slot).unwrap(), number + end.len)?;
-            }
-        }
-        Ok(())
-    }
-
-    /// Follows the lines of all queued nodes.
-    fn follow_all<M: MapRead>(&mut self, map: &M) -> Result<(), AllocError>
-        ensures better { OnOk result ((v d : ℕ) → bound_of self.old v ≡ Some d → Within (bound_of self.new) v d) }
+    /// Looks at the open nodes again, and follows the lines from each node whose bound becomes less.
+    fn settle_open<M: MapRead>(&mut self, map: &M) -> Result<(), AllocError>
+        ensures same { OnOk result ((v : ℕ) → source_of self.new v ≡ source_of self.old v) }
         ensures known { OnOk result (self.new.known ≡ self.old.known) }
-        ensures right { OnOk result (IsUnderWay (M.map map.now) self.old → IsRight (M.map map.now) self.new) }
-        ensures reached { OnOk result ((v d : ℕ) → bound_of self.new v ≡ Some d
-            → IsLed (M.map map.now) (bound_of self.old) v d) }
+        ensures right { OnOk result (IsUnderWay (M.map map.now) (M.node_slot map.now) [] self.old
+            → IsRight (M.map map.now) (M.node_slot map.now) self.new) }
+        ensures reached { OnOk result (AreLed (M.map map.now) (M.node_slot map.now) (source_of self.old)
+            (bound_at self.old) (bound_at self.new)) }
     {
-        while let Some(top) = self.waiting.pop() {
-            let Reverse(nearest) = top;
-            let (number, node) = nearest;
-            if self.is_at(node, number) {
-                self.follow(map, node, number)?;
-                // Only for the proof: no node has two bounds.
-                let _ = self.bounds.len();
-            }
+        self.bounds.make_room(map.slot_count())?;
+        while let Some(node) = self.opened.pop() {
+            look_at(map, node, &self.sources, &mut self.bounds)?;
+        }
+        while let Some(next) = self.bounds.pop_within(GREATEST_LIMIT) {
+            let (_, slot) = next;
+            follow(map, slot, &mut self.bounds)?;
         }
         Ok(())
     }

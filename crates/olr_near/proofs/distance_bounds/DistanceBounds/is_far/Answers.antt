@@ -1,23 +1,28 @@
-use Rattle.std.proofs.Common.{◌≡◌, sym, ap, ◌∙◌, arith, true}
+use Rattle.std.proofs.Common.{◌≡◌, ℕ, true, IsTrue, refl, subst, arith}
+use Rattle.olr_spec.specs.Map.{has}
 use Rattle.olr_spec.proofs.ListLemmas.{at_index}
-use Rattle.olr_spec.proofs.OptionLemmas.{there_not}
-use Rattle.olr_near.specs.Bounds.{bound_of}
-use Rattle.olr_near.proofs.BoundLemmas.{near_bounded, spared_under_way}
+use Rattle.olr_near.specs.Bounds.{IsFar}
+use Rattle.olr_near.proofs.BoundLemmas.{far_apart, spared_under_way}
+use Rattle.olr_near.proofs.distance_bounds.DistanceBounds.is_far.Given.{Over}
 use Rattle.olr_near.proofs.distance_bounds.DistanceBounds.is_far.Goals as goal
 
-pub returns-clause-far : goal.returns-clause-far
-returns-clause-far c = λ yes M s w right source near.
-    let known : c.args.self.now.known ≡ true = cc in
-    let k = at_index c.args.nodes.now near.node near.touched in
-    there_not (bound_of c.args.self.now near.node) (near_bounded M c.args.self.now s w c.args.nodes.now known right source near)
-    (ap (bound_of c.args.self.now) (sym k.2) ∙ c.loop-node.invariant k.0 (omega arith))
-
 -- each of the nodes was tested
+all_far : (g : Over) (c : goal.After-loop-node g) (v : ℕ) → IsTrue (has c.args.nodes.now v) →
+    IsFar (g.M.MapRead.map c.args.map.now) (g.M.MapRead.node_slot c.args.map.now) c.args.self.now v
+all_far g c v on =
+    let k = at_index c.args.nodes.now v on in
+    subst (IsFar (g.M.MapRead.map c.args.map.now) (g.M.MapRead.node_slot c.args.map.now) c.args.self.now) k.2
+    (c.loop-node.invariant k.0 (omega arith))
+
 pub returns-clause-exact : goal.returns-clause-exact
-returns-clause-exact c = grind (arith, at_index, bound_of)
+returns-clause-exact g c =
+    let known : c.args.self.now.known ≡ true = cc in
+    (λ yes. (known, all_far g c), λ all. refl)
+
+pub returns-clause-far : goal.returns-clause-far
+returns-clause-far g c = λ yes N r s w e right source.
+    let known : c.args.self.now.known ≡ true = cc in
+    far_apart _ N _ r c.args.nodes.now c.args.self.now e (all_far g c) known right s w source
 
 pub returns-clause-spared : goal.returns-clause-spared
-returns-clause-spared c = λ yes M N.
-    spared_under_way M N c.args.nodes.now c.args.self.now (λ v on.
-    let k = at_index c.args.nodes.now v on in
-    ap (bound_of c.args.self.now) (sym k.2) ∙ c.loop-node.invariant k.0 (omega arith))
+returns-clause-spared g c = λ yes N r e. spared_under_way _ N _ r c.args.nodes.now c.args.self.now e (all_far g c)
