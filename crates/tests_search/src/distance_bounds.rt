@@ -1,6 +1,6 @@
 //! Distance bounds on small maps, maintained under edits.
 
-use made_maps::{Plain, STRAIGHT, line, make, node, other_line, plain_line, plain_map};
+use made_maps::{Plain, STRAIGHT, line, make, new_node, node, other_line, plain_line, plain_map};
 use olr_map::{Edit, RoadMap};
 use olr_near::DistanceBounds;
 use olr_search::GREATEST_LIMIT;
@@ -26,20 +26,20 @@ fn edit(rt: &impl Abort, map: &mut RoadMap, edit: Edit) {
     assert!(rt; made.is_ok());
 }
 
-/// Asserts which of the nodes 1 to 6 have a bound.
-fn assert_near(rt: &impl Abort, bounds: &DistanceBounds, nodes: &[u32]) {
+/// Asserts at which of the nodes 1 to 6 there is a bound, or a query begins.
+fn assert_near(rt: &impl Abort, bounds: &DistanceBounds, map: &RoadMap, nodes: &[u32]) {
     for number in 1..=6 {
         let alone = [node(number)];
         let far = !nodes.contains(&number);
-        assert!(rt; bounds.is_far(&alone) == far, "at node {number}");
+        assert!(rt; bounds.is_far(map, &alone) == far, "at node {number}");
     }
 }
 
-/// Follows the lines of all queued nodes, and asserts which nodes then have a bound.
+/// Settles the bounds, and asserts which nodes then have one.
 fn settle(rt: &impl Abort, bounds: &mut DistanceBounds, map: &RoadMap, nodes: &[u32]) {
     let settled = bounds.settle(map);
     assert!(rt; settled.is_ok());
-    assert_near(rt, bounds, nodes);
+    assert_near(rt, bounds, map, nodes);
 }
 
 /// As `settle`, after a query of a length that begins at a node was added.
@@ -78,13 +78,13 @@ fn along_the_lines_within_the_limit(rt: HostRuntime) {
     let map = road(&rt, rt.alloc());
     let mut bounds = DistanceBounds::new(rt.alloc());
     assert!(&rt; bounds.is_known());
-    assert_near(&rt, &bounds, &[]);
+    assert_near(&rt, &bounds, &map, &[]);
     add(&rt, &mut bounds, &map, 1, &[1, 2, 3, 4]);
     add(&rt, &mut bounds, &map, 4, &[1, 2, 3, 4, 5]);
     let both = [node(6), node(5)];
-    assert!(&rt; !bounds.is_far(&both));
+    assert!(&rt; !bounds.is_far(&map, &both));
     bounds.clear();
-    assert_near(&rt, &bounds, &[]);
+    assert_near(&rt, &bounds, &map, &[]);
 }
 
 /// Adds a line.
@@ -112,7 +112,7 @@ fn lines_are_added_and_removed(rt: HostRuntime) {
     reopen(&rt, &mut bounds, &map, (4, 5), &[1, 2, 3, 4, 5, 6]);
     // Removing a line leaves the bounds as they are.
     edit(&rt, &mut map, Edit::DropLine(line(2)));
-    assert_near(&rt, &bounds, &[1, 2, 3, 4, 5, 6]);
+    assert_near(&rt, &bounds, &map, &[1, 2, 3, 4, 5, 6]);
     bounds.clear();
     add(&rt, &mut bounds, &map, 2, &[2]);
 }
@@ -123,7 +123,7 @@ fn unknown_until_begun_again(rt: HostRuntime) {
     let mut bounds = DistanceBounds::new(rt.alloc());
     bounds.forget();
     assert!(&rt; !bounds.is_known());
-    assert_near(&rt, &bounds, &[1, 2, 3, 4, 5, 6]);
+    assert_near(&rt, &bounds, &map, &[1, 2, 3, 4, 5, 6]);
     add(&rt, &mut bounds, &map, 1, &[1, 2, 3, 4, 5, 6]);
     bounds.clear();
     assert!(&rt; bounds.is_known());
@@ -140,4 +140,17 @@ fn as_far_as_a_source_goes(rt: HostRuntime) {
     // A shorter query changes no number.
     add_within(&rt, &mut bounds, &map, (1, 0), &[1, 2]);
     add_within(&rt, &mut bounds, &map, (4, 50_000), &[1, 2, 4, 5]);
+}
+
+#[test]
+fn a_source_is_removed_and_added_again(rt: HostRuntime) {
+    let mut map = road(&rt, rt.alloc());
+    let mut bounds = DistanceBounds::new(rt.alloc());
+    add(&rt, &mut bounds, &map, 6, &[6]);
+    edit(&rt, &mut map, Edit::DropNode(node(6)));
+    reopen(&rt, &mut bounds, &map, (6, 6), &[6]);
+    edit(&rt, &mut map, new_node((6, 0, 0)));
+    reopen(&rt, &mut bounds, &map, (6, 6), &[6]);
+    add_line(&rt, rt.alloc(), &mut map, (10, 6, 1, 1));
+    reopen(&rt, &mut bounds, &map, (6, 1), &[1, 2, 3, 6]);
 }
