@@ -1,24 +1,18 @@
--- How far the numbers of nodes let a search go, and what is searched for the path at a position.
-use Rattle.olr_list.proofs.Common.{ℕ, ◌≤◌, min, IsTrue, refl, arith, Map, limit, AreBounds, IsUnder, Against, IsRight}
-use Rattle.olr_list.proofs.Common.{IsSource, bound_of, ◌≡◌, List, slice_get, Contains, Some, true, false}
+-- How far the distance bounds let a search go, and what is searched for the path at a position.
+use Rattle.olr_list.proofs.Common.{ℕ, ◌≤◌, min, IsTrue, arith, Map, has_node, limit, IsUnder, Against, IsRight}
+use Rattle.olr_list.proofs.Common.{IsSource, ◌≡◌, List, slice_get, Contains, Some, true, false}
 use Rattle.olr_list.proofs.Common.{CoverageQuery, AreLengths, Made, Item, nodes_of, sources, IsExactAt, AreAsked}
 use Rattle.olr_list.proofs.Common.{Begins, ChangeSet, Searches, AreFar}
 use Rattle.olr_near.specs.declared.distance_bounds.DistanceBounds.{DistanceBounds}
 use Rattle.olr_list.proofs.OriginLemmas.{begins_there}
 
--- right numbers are bounds
-pub are_bounds : (M : Map) (f : DistanceBounds) → IsTrue f.known → IsRight M f → AreBounds M Against (bound_of f)
-are_bounds M f known right x b line at short =
-    let k = right known _ b at x line refl short in
-    (k.number, k.at, k.low)
-
--- and no source is beyond them
-pub source_under : (f : DistanceBounds) (v w d : ℕ) → IsTrue f.known → IsSource f v w → d ≤ min w limit →
-    IsUnder (bound_of f) v d
-source_under f v w d known source le =
+-- no source is beyond bounds that are right
+pub source_under : (M : Map) (slot : ℕ → ℕ) (f : DistanceBounds) (v w d : ℕ) → IsTrue f.known → IsRight M slot f →
+    IsSource f v w → IsTrue (has_node M v) → d ≤ min w limit → IsUnder f.bounds (slot v) d
+source_under M slot f v w d known right source there le =
     let k = source known in
-    let low = k.low in
-    record { bound = k.number; at = k.at; low = omega arith }
+    let low = (right known).sources v k.number k.at there in
+    omega (arith, k.low)
 
 module _ (N : Map) (slot : ℕ → ℕ) (t : ChangeSet) (s : Searches) (is : List Item) where
   query_there : (k : ℕ) (i : Item) (m : Made) (l : CoverageQuery) → slice_get is k ≡ Some i → i.made ≡ Some m →

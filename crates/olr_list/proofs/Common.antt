@@ -29,8 +29,8 @@ pub use Rattle.olr_list.specs.declared.path_list.NamedPath.{NamedPath}
 pub use Rattle.olr_list.specs.declared.path_list.PathList.{PathList}
 pub use Rattle.olr_list.specs.declared.published.Published.{Published}
 pub use Rattle.olr_list.specs.declared.searches.Searches.{Searches}
-pub use Rattle.olr_near.specs.Bounds.{IsRight, IsSource, bound_of}
-pub use Rattle.olr_search.specs.Bounds.{AreBounds, AreLengths, IsUnder, label_at}
+pub use Rattle.olr_near.specs.Bounds.{IsRight, IsSource}
+pub use Rattle.olr_search.specs.Bounds.{AreLengths, IsUnder, label_at}
 pub use Rattle.olr_search.specs.Distances.{IsDistance, Leads}
 pub use Rattle.olr_search.specs.declared.distances.Direction.TheVariants.{Against, Along}
 pub use Rattle.olr_spec.proofs.AscendingLists.{ascends, ascends-remove, ascends_push, found_has, has-remove, has_at}

@@ -2,7 +2,7 @@
 --     BeginsIn made l, Begins is l      l is a query of what was made;  one of a list's
 --     BeginsPut ps l      one of those that are put at places of a list
 --     AreFar N T is      no query reaches one of the nodes T
---     AreBoundsOf N f is      the bounds are right, and they are those of all queries
+--     AreBoundsOf N slot f is      the bounds are right, and they are those of all queries
 --     new_origins_in s      the queries that the last renewal made
 use Rattle.std.specs.Prelude.{ℕ, List, [], ◌∷◌, Contains, Option, Some, None, ◌⊎◌, min}
 use Rattle.olr_spec.specs.Map.{Map}
@@ -30,8 +30,8 @@ BeginsPut (p ∷ ps) l = BeginsIn p.made l ⊎ BeginsPut ps l
 abbrev pub AreFar : Map → List ℕ → List Item → Type 0
 AreFar N T is = (l : CoverageQuery) → Begins is l → ¬ Near N T l.from (min l.within limit)
 
-pub record AreBoundsOf (N : Map) (f : DistanceBounds) (is : List Item) : Type 0 where
-  pub right : IsRight N f
+pub record AreBoundsOf (N : Map) (slot : ℕ → ℕ) (f : DistanceBounds) (is : List Item) : Type 0 where
+  pub right : IsRight N slot f
   pub sources : (l : CoverageQuery) → Begins is l → IsSource f l.from l.within
 
 abbrev pub new_origins_in : Searches → List CoverageQuery

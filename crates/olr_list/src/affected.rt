@@ -42,7 +42,8 @@ pub(crate) fn search_near<M: MapRead>(
 ) -> Result<(), AllocError>
     ensures lengths { OnOk result
         (AreLengths (M.map map.now) (M.node_slot map.now) Against (sources touched.now) near.new) }
-    ensures returned { OnOk result (IsRight (M.map map.now) bounds.now → (v w : ℕ) → IsSource bounds.now v w
+    ensures returned { OnOk result (IsRight (M.map map.now) (M.node_slot map.now) bounds.now
+        → (v w : ℕ) → IsSource bounds.now v w
         → IsExactAt (M.map map.now) (M.node_slot map.now) touched.now near.new v (min w limit)) }
 {
     begin_at(alloc, map, Direction::Against, touched.nodes(), near)?;
@@ -80,11 +81,11 @@ fn search_touched<M: MapRead>(
     overlaid: OverlaidList<'_>,
     searches: &mut Searches,
 ) -> Result<(), AllocError>
-    requires { AreBoundsOf (M.map map.now) bounds.now (shown_items overlaid) }
+    requires { AreBoundsOf (M.map map.now) (M.node_slot map.now) bounds.now (shown_items overlaid) }
     ensures { OnOk result
         (AreAsked (M.map map.now) (M.node_slot map.now) touched.now searches.new (shown_items overlaid.entry)) }
 {
-    searches.far = bounds.is_far(touched.nodes()) || is_without_queries(overlaid);
+    searches.far = bounds.is_far(map, touched.nodes()) || is_without_queries(overlaid);
     if searches.far {
         return Ok(());
     }
@@ -102,7 +103,7 @@ pub fn ask<M: MapRead>(
     bounds: &DistanceBounds,
     searches: &mut Searches,
 ) -> Result<Vec<usize>, AllocError>
-    requires { AreBoundsOf (M.map map.now) bounds.now (shown_items overlaid) }
+    requires { AreBoundsOf (M.map map.now) (M.node_slot map.now) bounds.now (shown_items overlaid) }
     ensures asked { OnOk result
         (AreAsked (M.map map.now) (M.node_slot map.now) touched.now searches.new (shown_items overlaid.entry)) }
     ensures ascending { IfOk result (λ found. IsStrictlyIncreasing found.items) }

@@ -7,7 +7,7 @@ ghost use Rattle.std.specs.Prelude.{min};
 ghost use Rattle.olr_spec.specs.Extension.{limit};
 ghost use Rattle.olr_spec.specs.Detours.{Near};
 ghost use Rattle.olr_index.specs.PathIds.{path_ids_of};
-ghost use Rattle.olr_near.specs.Bounds.{IsRight, IsSource, IsUnderWay, SameBut};
+ghost use Rattle.olr_near.specs.Bounds.{IsEdit, IsRight, IsSource, IsUnderWay};
 ghost use Rattle.olr_list.specs.Items.{items};
 ghost use Rattle.olr_list.specs.ChangeSets.{nodes_of, lines_of};
 ghost use Rattle.olr_list.specs.AffectedSearches.{AreAsked};
@@ -231,25 +231,37 @@ fn finds_none<T: Numbered>(index: &Index, items: &[T]) -> bool
             .all(|item| index.of(item.index_number()).is_empty())
 }
 
-/// Whether it is known that no coverage query reaches a touched node, so that the edits leave the bounds right.
-fn are_spared(bounds: &DistanceBounds, touched: &ChangeSet) -> bool
-    ensures far { IsTrue result → (N : Map) (s w : ℕ) → IsRight N bounds.now → IsSource bounds.now s w
-        → ¬ Near N (nodes_of touched.now) s (min w limit) }
-    ensures right { IsTrue result → (M N : Map) → SameBut (nodes_of touched.now) M N → IsUnderWay M bounds.now
-        → IsRight N bounds.now }
+/// Whether it is known that no coverage query reaches a touched node, so that the edits leave the bounds right. `map`
+/// is the map before the edits.
+fn are_spared<M: MapRead>(map: &M, touched: &ChangeSet, bounds: &DistanceBounds) -> bool
+    ensures far { IsTrue result → (N : Map) (slot : ℕ → ℕ) (s w : ℕ)
+        → IsEdit (nodes_of touched.now) (M.map map.now) (M.node_slot map.now) N slot → IsRight N slot bounds.now
+        → IsSource bounds.now s w → ¬ Near N (nodes_of touched.now) s (min w limit) }
+    ensures right { IsTrue result → (N : Map) (slot : ℕ → ℕ)
+        → IsEdit (nodes_of touched.now) (M.map map.now) (M.node_slot map.now) N slot
+        → IsUnderWay (M.map map.now) (M.node_slot map.now) [] bounds.now → IsRight N slot bounds.now }
 {
-    bounds.is_settled() && bounds.is_far(touched.nodes())
+    bounds.is_settled() && bounds.is_far(map, touched.nodes())
 }
 
 /// Whether it is known without a search that edits affect no path of the list: all were encoded, none has a touched
-/// node or line, and no coverage query reaches a touched node. If so, the edits leave the bounds right.
-pub fn affects_none(list: &PathList, touched: &ChangeSet, bounds: &DistanceBounds) -> bool
-    ensures covers { IsTrue result → (N : Map) → AreBoundsOf N bounds.now (items list.now)
+/// node or line, and no coverage query reaches a touched node. If so, the edits leave the bounds right. `map` is the
+/// map before the edits.
+pub fn affects_none<M: MapRead>(
+    map: &M,
+    list: &PathList,
+    touched: &ChangeSet,
+    bounds: &DistanceBounds,
+) -> bool
+    ensures covers { IsTrue result → (N : Map) (slot : ℕ → ℕ)
+        → IsEdit (nodes_of touched.now) (M.map map.now) (M.node_slot map.now) N slot
+        → AreBoundsOf N slot bounds.now (items list.now)
         → Covers N (nodes_of touched.now) (lines_of touched.now) (items list.now) [] }
-    ensures right { IsTrue result → (M N : Map) → SameBut (nodes_of touched.now) M N → IsUnderWay M bounds.now
-        → IsRight N bounds.now }
+    ensures right { IsTrue result → (N : Map) (slot : ℕ → ℕ)
+        → IsEdit (nodes_of touched.now) (M.map map.now) (M.node_slot map.now) N slot
+        → IsUnderWay (M.map map.now) (M.node_slot map.now) [] bounds.now → IsRight N slot bounds.now }
 {
-    if list.held || !list.finder.indexed || !are_spared(bounds, touched) {
+    if list.held || !list.finder.indexed || !are_spared(map, touched, bounds) {
         return false;
     }
     finds_none(&list.finder.traversed, touched.nodes())

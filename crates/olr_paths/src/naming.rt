@@ -78,7 +78,7 @@ pub fn affected_names<M: MapRead>(
     searches: &mut Searches,
 ) -> Result<Vec<String>, AllocError>
     requires before { WasBefore (M.map map.now) (M.map map.now) touched.now (items list.now) }
-    requires bounds { AreBoundsOf (M.map map.now) bounds.now (items list.now) }
+    requires bounds { AreBoundsOf (M.map map.now) (M.node_slot map.now) bounds.now (items list.now) }
     ensures { IfOk result (λ names. AffectedNames (M.map map.now) (nodes_of touched.now) (lines_of touched.now)
         (items list.now) (list_map string_bytes names.items)) }
 {

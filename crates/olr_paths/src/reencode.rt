@@ -1,9 +1,9 @@
 //! Encodes again the paths whose answer a change of the map may have changed, in place or in a list under changes.
-ghost use Rattle.std.specs.Prelude.{◌≡◌, ◌⊎◌, Contains, IsSome, IfSome, IfOk, OnOk, OnErr};
-ghost use Rattle.olr_spec.specs.Map.{Map, IsMap};
+ghost use Rattle.std.specs.Prelude.{◌≡◌, ◌⊎◌, ℕ, [], Contains, IsSome, IfSome, IfOk, OnOk, OnErr};
+ghost use Rattle.olr_spec.specs.Map.{Map};
 ghost use Rattle.olr_commands.specs.State.{NamesDiffer};
 ghost use Rattle.olr_spec.specs.Queries.{CoverageQuery as QueryRecord};
-ghost use Rattle.olr_near.specs.Bounds.{IsRight, IsUnderWay, SameBut};
+ghost use Rattle.olr_near.specs.Bounds.{IsEdit, IsRight, IsUnderWay};
 ghost use Rattle.olr_list.specs.ChangeSets.{nodes_of};
 ghost use Rattle.olr_list.specs.Items.{items, all_named};
 ghost use Rattle.olr_list.specs.Overlaid.{RemovesNone, overlay_changes, under_overlay};
@@ -34,7 +34,8 @@ fn renew_overlaid<M: MapRead>(
     requires none_removed { RemovesNone (overlay_changes overlay.now) }
     requires names { NamesDiffer (all_named (under_overlay (items list.old) overlay.now)) }
     requires follows { Follows (items_before before list.old) (under_overlay (items list.old) overlay.now) }
-    requires bounds { AreBoundsOf (M.map map.now) bounds.now (under_overlay (items list.old) overlay.now) }
+    requires bounds { AreBoundsOf (M.map map.now) (M.node_slot map.now) bounds.now
+        (under_overlay (items list.old) overlay.now) }
     requires before { (L : Map) × WasBefore L (M.map map.now) touched.now
         (under_overlay (items list.old) overlay.now) }
     ensures renewed { IfOk result (IsRenewal (M.map map.now) touched.now (items_before before.entry list.old)
@@ -59,23 +60,26 @@ fn renew_overlaid<M: MapRead>(
 }
 
 /// The renewal of a list without changes, if it is known without a search that edits affect none of its paths: nothing
-/// is reported or counted, and the bounds are right on the map after the edits. None if that is not known. Takes no
-/// memory.
-pub fn renew_unaffected(
+/// is reported or counted, and the bounds are right on the map after the edits. None if that is not known. `map` is the
+/// map before the edits. Takes no memory.
+pub fn renew_unaffected<M: MapRead>(
     list: &PathList,
     alloc: Global,
+    map: &M,
     touched: &ChangeSet,
     bounds: &DistanceBounds,
 ) -> Option<Renewed>
-    ensures renewed { IfSome result (λ r. (L N : Map) → IsMap N → WasBefore L N touched.now (items list.now)
-        → AreBoundsOf N bounds.now (items list.now)
+    ensures renewed { IfSome result (λ r. (L N : Map) (slot : ℕ → ℕ)
+        → IsEdit (nodes_of touched.now) (M.map map.now) (M.node_slot map.now) N slot
+        → WasBefore L N touched.now (items list.now) → AreBoundsOf N slot bounds.now (items list.now)
         → IsRenewal N touched.now (items list.now) (items list.now) (items list.now) r) }
-    ensures right { IsSome result → (M N : Map) → SameBut (nodes_of touched.now) M N → IsUnderWay M bounds.now
-        → IsRight N bounds.now }
+    ensures right { IsSome result → (N : Map) (slot : ℕ → ℕ)
+        → IsEdit (nodes_of touched.now) (M.map map.now) (M.node_slot map.now) N slot
+        → IsUnderWay (M.map map.now) (M.node_slot map.now) [] bounds.now → IsRight N slot bounds.now }
 {
     // For the proof alone: no name occurs twice.
     let _names = list.len();
-    if !affects_none(list, touched, bounds) {
+    if !affects_none(map, list, touched, bounds) {
         return None;
     }
     Some(Renewal::none(alloc).renewed)
@@ -100,7 +104,8 @@ pub fn renew_over<M: MapRead>(
 ) -> Result<Renewed, AllocError>
     requires names { NamesDiffer (all_named (under_overlay (items list.old) overlay.now)) }
     requires follows { Follows (items list.old) (under_overlay (items list.old) overlay.now) }
-    requires bounds { AreBoundsOf (M.map map.now) bounds.now (under_overlay (items list.old) overlay.now) }
+    requires bounds { AreBoundsOf (M.map map.now) (M.node_slot map.now) bounds.now
+        (under_overlay (items list.old) overlay.now) }
     requires before { (L : Map) × WasBefore L (M.map map.now) touched.now
         (under_overlay (items list.old) overlay.now) }
     ensures renewed { IfOk result (IsRenewal (M.map map.now) touched.now (items list.old)

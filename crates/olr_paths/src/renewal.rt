@@ -231,7 +231,7 @@ pub(crate) fn renewal_of<M: MapRead>(
 ) -> Result<Renewal, AllocError>
     requires follows { Follows (items before.now) (shown_items overlaid) }
     requires before { (L : Map) × WasBefore L (M.map map.now) touched.now (shown_items overlaid) }
-    requires bounds { AreBoundsOf (M.map map.now) bounds.now (shown_items overlaid) }
+    requires bounds { AreBoundsOf (M.map map.now) (M.node_slot map.now) bounds.now (shown_items overlaid) }
     ensures renewed { IfOk result (λ r. IsRenewal (M.map map.now) touched.now (items before.now)
         (shown_items overlaid.entry) (after_renewal r (shown_items overlaid.entry)) r.renewed) }
     ensures new_origins { IfOk result (λ r. (v : QueryRecord) → BeginsPut (made_at r) v →

@@ -1,8 +1,8 @@
 use Rattle.olr_list.proofs.Common.{IsTrue, sym, ◌∙◌, arith, Against, sources}
-use Rattle.olr_list.proofs.AskedLemmas.{are_bounds, source_under}
+use Rattle.olr_list.proofs.AskedLemmas.{source_under}
 use Rattle.olr_list.proofs.affected.search_near.Goals as goal
 
--- as far as the numbers let it
+-- as far as the bounds let it
 pub returns-then-is_known : goal.returns-then-is_known
 returns-then-is_known g c =
     let from = sources c.args.touched.now in
@@ -13,8 +13,9 @@ returns-then-is_known g c =
           let N = g.M.MapRead.map c.args.map.now in
           let f = c.args.bounds.now in
           let known : IsTrue f.known = sym c.is_known.ensures ∙ c.if-is_known.true in
-          c.in_ok-settle_under.ensures.settled Against from begun (rw c.bounds.ensures (are_bounds N f known right)) v d
-          (rw c.bounds.ensures (source_under f v w d known source le)) there way;
+          c.in_ok-settle_under.ensures.settled Against from begun (rw c.bounds.ensures (right known).closed) v d there
+          (rw c.bounds.ensures (source_under N (g.M.MapRead.node_slot c.args.map.now) f v w d known right source there le))
+          way;
     }
 
 -- as far as a query can reach

@@ -1,5 +1,6 @@
-use Rattle.olr_list.proofs.Common.{ℕ, List, min, sym, ◌∙◌, subst, Near, limit, shown_items, Searches}
+use Rattle.olr_list.proofs.Common.{sym, ◌∙◌, nodes_of, shown_items, Searches}
 use Rattle.olr_list.proofs.AskedLemmas.{asked_far, asked_searched}
+use Rattle.olr_near.proofs.BoundLemmas.{edit_same}
 use Rattle.olr_list.proofs.affected.search_touched.Goals.{then-is_far, else-is_far}
 use Rattle.olr_list.proofs.affected.search_touched.Goals as goal
 
@@ -7,11 +8,13 @@ pub returns-then-searches : goal.returns-then-searches
 returns-then-searches g c =
     let N = g.M.MapRead.map c.args.map.now in
     let s : Searches = record c.args.searches.now { far = c.if-is_far.searches } in
-    asked_far N (g.M.MapRead.node_slot c.args.map.now) c.args.touched.now s (shown_items c.args.overlaid)
-    c.if-searches.true
+    let slot = g.M.MapRead.node_slot c.args.map.now in
+    let same = edit_same (nodes_of c.args.touched.now) N slot (g.met.M.MapRead.sound c.args.map.now) in
+    asked_far N slot c.args.touched.now s (shown_items c.args.overlaid) c.if-searches.true
     (elim c.if-is_far.branch [
-      | then-is_far w ↦ λ l b. subst (λ (T : List ℕ). ¬ Near N T l.from (min l.within limit)) c.nodes.ensures
-          (c.is_far.ensures.far w.if-is_far.true N l.from l.within c.requires.right (c.requires.sources l b))
+      | then-is_far w ↦ λ l b.
+          (rw c.nodes.ensures at c.is_far.ensures.far) w.if-is_far.true N slot l.from l.within same c.requires.right
+          (c.requires.sources l b)
       | else-is_far w ↦ λ l b. absurd (w.is_without_queries-searches.ensures (sym w.searches-is ∙ c.if-searches.true) l b)
     ])
 

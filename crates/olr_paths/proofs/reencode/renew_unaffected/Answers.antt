@@ -5,16 +5,16 @@ use Rattle.olr_paths.proofs.RenewedPrefix.{SoFar, so_far_none, to_position, whol
 use Rattle.olr_paths.proofs.reencode.renew_unaffected.Goals as goal
 
 pub returns-clause-renewed : goal.returns-clause-renewed
-returns-clause-renewed c = λ L N n was bounds.
+returns-clause-renewed g c = λ L N slot edit was bounds.
     let is = items c.args.list.now in
     let t = c.args.touched.now in
     let e = c.none.ensures in
     let all : SoFar N (nodes_of t) (lines_of t) (changed_of t) is is (take (length is) is) c.none.result =
-    to_position n [] (follows_self is c.len-names.ensures.names)
-    (c.affects_none.ensures.covers c.if-not-affects_none.false N bounds) 0 0 (length is) (λ m a b. absurd (omega arith))
-    passed_none (omega arith) (omega arith)
+    to_position edit.sound [] (follows_self is c.len-names.ensures.names)
+    (c.affects_none.ensures.covers c.if-not-affects_none.false N slot edit bounds) 0 0 (length is)
+    (λ m a b. absurd (omega arith)) passed_none (omega arith) (omega arith)
     (so_far_none c.none.result e.fresh e.entries e.work e.retained) in
     rw e.fresh at (whole {t = t} c.none.result (L, was) (rw (take_all (length is) is (omega arith)) at all))
 
 pub returns-clause-right : goal.returns-clause-right
-returns-clause-right c = λ some. c.affects_none.ensures.right c.if-not-affects_none.false
+returns-clause-right g c = λ some. c.affects_none.ensures.right c.if-not-affects_none.false
