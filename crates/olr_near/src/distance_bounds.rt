@@ -146,7 +146,9 @@ impl DistanceBounds {
         ensures under_way { (M : Map) (s : ℕ → ℕ) (T : List ℕ) → IsUnderWay M s T self.new }
         ensures sources { (v : ℕ) → source_of self.new v ≡ None }
     {
-        self.sources = HashMap::with_hasher(self.alloc, BuildHasherDefault::new());
+        if !self.sources.is_empty() {
+            self.sources = HashMap::with_hasher(self.alloc, BuildHasherDefault::new());
+        }
         self.bounds.clear();
         self.opened.clear();
         self.known = true;
