@@ -1,9 +1,13 @@
 -- Changes that can be made with some capacity can be made with more.
 use Rattle.olr_map.proofs.Common.{IsRoomWithin, common_steps, TableChange, change_edit, CanMakeAll, HasRoomFor, CanMake}
 use Rattle.olr_map.proofs.Common.{changed_at, room_after, map_after, made_all, reverse, edited, arith, subst, IsOk, Map}
-use Rattle.olr_map.proofs.Common.{List, Room, Side, ◌++◌, sym, ◌∙◌, ◌∷◌, ◌≡◌, ◌≤◌, Ok, [], ap, ℕ}
+use Rattle.olr_map.proofs.Common.{List, Room, Side, ◌++◌, sym, ◌∙◌, ◌∷◌, ◌≡◌, ◌≤◌, Ok, [], ap, ℕ, RoadMap, tables_map}
+use Rattle.olr_map.proofs.Common.{has_node, node_puts, cases_eq, ◌+◌}
+use Rattle.olr_map.specs.Changes.{AddsNoNode, KeepsSlots, all_node_puts}
+use Rattle.olr_spec.proofs.EditLemmas.{got_other, left_other, left_same}
+use Rattle.std.specs.Prelude.{IsTrue}
 use Rattle.std.proofs.lemmas.List.{reverse-append}
-use Rattle.olr_map.proofs.Making.{made_ok}
+use Rattle.olr_map.proofs.Making.{made_ok, made_as}
 use Rattle.olr_spec.specs.Map as map
 
 room_fits : (M : Map) (R S : Room) (e : map.Edit) → IsRoomWithin R S → HasRoomFor M R e → HasRoomFor M S e
@@ -62,3 +66,23 @@ rest_can M N R S c cs ds is all same within = grind (arith, common_steps, all_on
 pub rest_made : (M N : Map) (c : TableChange) (cs ds : List TableChange) → ds ≡ c ∷ cs → N ≡ map_after M c →
     made_all N cs ≡ made_all M ds
 rest_made M N c cs ds is same = ap (λ (K : Map). made_all K cs) same ∙ ap (made_all M) (sym is)
+
+-- ---- nodes while edits are undone
+
+-- a change that puts no node back leaves no other nodes
+nodes_before : (M : Map) (c : TableChange) → IsOk (edited M (change_edit c)) → node_puts c ≡ 0 → (v : ℕ) →
+    IsTrue (has_node (map_after M c) v) → IsTrue (has_node M v)
+nodes_before M c accepted none v there = grind (arith, common_steps, made_as, got_other, left_other, left_same, cases_eq)
+
+pub rest_slots : (s t u : RoadMap) (R : Room) (c : TableChange) (cs ds : List TableChange) → ds ≡ c ∷ cs →
+    CanMakeAll (tables_map t) R ds → (all_node_puts ds ≡ 0) × AddsNoNode s t →
+    tables_map u ≡ map_after (tables_map t) c → KeepsSlots t u → (all_node_puts cs ≡ 0) × AddsNoNode s u
+rest_slots s t u R c cs ds is all before same slots =
+    let can : CanMake (tables_map t) R c = grind arith in
+    let none : node_puts c + all_node_puts cs ≡ 0 = grind arith in (
+      omega arith,
+      λ v there.
+          let was =
+          nodes_before (tables_map t) c can.accepted (omega arith) v (subst (λ (M : Map). IsTrue (has_node M v)) same there)
+          in ((before.1 v was).0, slots v was there ∙ (before.1 v was).1),
+    )

@@ -5,6 +5,7 @@
 --     map_after M c, room_after R c      the map and the capacity after it
 --     IsReserved old new      the same map, with at least the capacity
 --     KeepsSlots old new      each node that is on both maps has the same slot on both
+--     AddsNoNode old new      each node of the new map was on the old one, in the same slot
 --     IsChangeMade old new c back      the change was made, and `back` can undo it
 use Rattle.std.specs.Prelude.{◌≡◌, ◌==◌, ℕ, ◌+◌, ◌-◌, ◌<◌, ◌≤◌, if◌then◌else◌, List, [], ◌∷◌, length, ⊤, IsOk, IsTrue}
 use Rattle.std.specs.Option.{option_map_or}
@@ -126,6 +127,11 @@ abbrev pub KeepsSlots : RoadMap → RoadMap → Type 0
 KeepsSlots old new =
     (v : ℕ) → IsTrue (has_node (tables_map old) v) → IsTrue (has_node (tables_map new) v) →
     node_slot new.index v ≡ node_slot old.index v
+
+abbrev pub AddsNoNode : RoadMap → RoadMap → Type 0
+AddsNoNode old new =
+    (v : ℕ) → IsTrue (has_node (tables_map new) v) →
+    IsTrue (has_node (tables_map old) v) × (node_slot new.index v ≡ node_slot old.index v)
 
 pub record IsChangeMade (old new : RoadMap) (c back : TableChange) : Type 0 where
   pub map : tables_map new ≡ map_after (tables_map old) c

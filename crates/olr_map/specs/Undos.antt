@@ -2,13 +2,14 @@
 --     CanMakeAll M R cs      the changes can be made one after the other, without allocation
 --     made_all M cs      the map after them
 --     log_changes log      the changes that undo the edits of a log, from the last edit to the first
+--     dropped_nodes log      how many of its edits dropped a node
 use Rattle.std.specs.Prelude.{ℕ, List, [], ◌∷◌, reverse, ⊤}
 use Rattle.std.specs.Coded.{×_prop, Unit-prop, le_prop, coded_ℕ, coded_list, Coded-set}
 use Rattle.std.proofs.Props.{props}
 use Rattle.olr_spec.specs.Map as map
 use Rattle.olr_spec.specs.Map.{Map, HasCoord}
 use Rattle.olr_map.specs.Changes.{Room, CanMake, HasRoomFor, HasNumbers, IsWhole, change_edit, map_after}
-use Rattle.olr_map.specs.Changes.{room_after}
+use Rattle.olr_map.specs.Changes.{room_after, all_node_puts}
 use Rattle.olr_map.specs.declared.change.TableChange.{TableChange}
 use Rattle.olr_map.specs.declared.change.TableChange.TheVariants.{PutNode, MoveNode, TakeNode, PutLine, SetLine}
 use Rattle.olr_map.specs.declared.change.TableChange.TheVariants.{TakeLine}
@@ -25,6 +26,9 @@ made_all M (c ∷ cs) = made_all (map_after M c) cs
 
 abbrev pub log_changes : UndoLog → List TableChange
 log_changes log = reverse log.changes.items
+
+abbrev pub dropped_nodes : UndoLog → ℕ
+dropped_nodes log = all_node_puts (log_changes log)
 
 -- these statements have at most one proof
 HasCoord-prop : (e : map.Edit) → IsProp (HasCoord e)

@@ -18,8 +18,8 @@ impl RoadMap {
     ghost use Rattle.olr_roads.specs.Edits.{edit_of, edit_fault_of, allocates};
     ghost use Rattle.olr_map.specs.Changes.{tables_map, room_of, change_edit, node_puts, line_puts, node_numbers};
     ghost use Rattle.olr_map.specs.Changes.{line_numbers, HasRoomFor, HasNumbers, IsWhole, IsRoomWithin, CanMake, IsReserved};
-    ghost use Rattle.olr_map.specs.Changes.{IsChangeMade, KeepsSlots, map_after, room_after};
-    ghost use Rattle.olr_map.specs.Undos.{log_changes};
+    ghost use Rattle.olr_map.specs.Changes.{IsChangeMade, KeepsSlots, AddsNoNode, map_after, room_after};
+    ghost use Rattle.olr_map.specs.Undos.{log_changes, dropped_nodes};
 
     /// The slots of the nodes that a change touches and that exist before it.
     fn slots_for(&self, change: &TableChange) -> (u32, u32)
@@ -110,6 +110,7 @@ impl RoadMap {
         requires can { CanMake (tables_map self.old) (room_of self.old) change }
         requires numbers { HasNumbers self.old (node_puts change) (line_puts change) }
         ensures map { tables_map self.new ≡ map_after (tables_map self.old) change }
+        ensures slots { KeepsSlots self.old self.new }
         ensures room { IsRoomWithin (room_after (room_of self.old) change) (room_of self.new) }
         ensures nodes { spare_of self.old.index ≤ spare_of self.new.index + node_puts change }
         ensures lines { spare_numbers self.old.lines ≤ spare_numbers self.new.lines + line_puts change }
@@ -304,10 +305,12 @@ impl RoadMap {
         Ok(())
     }
 
-    /// Undoes all edits of a log, the last one first: the map is as it was before the first. Does not allocate.
+    /// Undoes all edits of a log, the last one first: the map is as it was before the first. If no edit of the log dropped
+    /// a node, each node has the slot that it had before the call. Does not allocate.
     pub fn undo_all(&mut self, log: UndoLog)
         requires { CanUndoAll self.old log }
-        ensures { map_of self.new ≡ map_before self.old log }
+        ensures map { map_of self.new ≡ map_before self.old log }
+        ensures slots { dropped_nodes log ≡ 0 → AddsNoNode self.old self.new }
     {
         let UndoLog {
             changes,

@@ -24,10 +24,10 @@ pub struct UndoLog {
 }
 
 impl UndoLog {
-    ghost use Rattle.std.specs.Prelude.{◌<◌, ◌+◌, ◌∷◌, [], OnOk};
+    ghost use Rattle.std.specs.Prelude.{◌<◌, ◌+◌, ◌∷◌, ◌↔◌, [], OnOk, IsTrue};
     ghost use Rattle.std.specs.Vec.{vec_capacity};
     ghost use Rattle.olr_map.specs.Changes.{node_puts, line_puts};
-    ghost use Rattle.olr_map.specs.Undos.{log_changes};
+    ghost use Rattle.olr_map.specs.Undos.{log_changes, dropped_nodes};
 
     /// A log of no edits. Does not allocate.
     pub fn new(alloc: Global) -> UndoLog
@@ -38,6 +38,13 @@ impl UndoLog {
             nodes: 0,
             lines: 0,
         }
+    }
+
+    /// Whether an edit of the log dropped a node.
+    pub fn drops_nodes(&self) -> bool
+        ensures { IsTrue result ↔ 0 < dropped_nodes self.now }
+    {
+        self.nodes > 0
     }
 
     /// Reserves capacity for one more change.
