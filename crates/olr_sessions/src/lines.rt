@@ -1,6 +1,6 @@
 //! A source that reads blocks, and gives as many whole lines of them at once as it can.
 
-ghost use Rattle.std.specs.Prelude.{◌≡◌, ◌≤◌, ◌<◌, ◌⊎◌, ◌||◌, ◌+◌, ◌-◌, ◌^◌, [], min, length, take, drop, true, false, not, nat_lt, IfOk};
+ghost use Rattle.std.specs.Prelude.{◌≡◌, ◌≤◌, ◌<◌, ◌⊎◌, ◌||◌, ◌+◌, ◌-◌, ◌^◌, [], min, length, take, drop, true, false, not, nat_lt, IfOk, OnErr};
 ghost use Rattle.std.specs.List.{list_all};
 ghost use Rattle.olr_sessions.specs.Lines.{IsWhole, IsGivable, LeavesWhole, after_end, has_line, has_quote, is_line_end};
 
@@ -150,9 +150,10 @@ impl<R: Read + Drop> Lines<R> {
     ghost use Rattle.olr_sessions.specs.Blocks.{block_of};
     ghost use Rattle.olr_sessions.specs.Buffers.{at_hand, unread};
 
-    /// The lines of an input.
+    /// The lines of an input, of which nothing was given.
     pub fn new(alloc: Global, input: R) -> Result<Lines<R>, AllocError>
-        ensures { IfOk result (λ l. unread R.remaining l ≡ R.remaining input) }
+        ensures unread { IfOk result (λ l. unread R.remaining l ≡ R.remaining input) }
+        ensures none { IfOk result (λ l. (l.given ≡ 0) × (l.after_end ≡ false)) }
     {
         Ok(Lines {
             source: Blocks::new(alloc, input)?,
@@ -212,6 +213,7 @@ impl<R: Read + Drop> Read for Lines<R> {
         ensures part { IfOk result (λ n. IsGivable self.old.after_end (take n bytes.new)) }
         ensures after { IfOk result (λ n. self.new.after_end ≡ after_end self.old.after_end (take n bytes.new)) }
         ensures given { IfOk result (λ n. self.new.given ≡ min (self.old.given + n) (2 ^ 64 - 1)) }
+        ensures err { OnErr result ((self.new.given ≡ self.old.given) × (self.new.after_end ≡ self.old.after_end)) }
     {
         self.source.fill()?;
         Ok(self.give(bytes))

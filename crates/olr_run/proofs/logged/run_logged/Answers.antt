@@ -28,7 +28,7 @@ returns g c =
         ready = inr (inr (fr.has_headers ∙ ap builder_names_headers builder, fr.headers));
       };
       state = fr.state;
-      source = fr.source ∙ ap (option_map strip_bom) c.in-Ok.ensures;
+      source = fr.source ∙ ap (option_map strip_bom) c.in-Ok.ensures.unread;
     } in
     let contents = g.W.Write.contents in
     let kept = g.J.Journal.kept in

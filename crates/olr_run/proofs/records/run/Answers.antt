@@ -25,7 +25,7 @@ returns g c =
         ready = inr (inr (fr.has_headers ∙ ap builder_names_headers builder, fr.headers));
       };
       state = fr.state;
-      source = fr.source ∙ ap (option_map strip_bom) c.in_ok-lines.ensures;
+      source = fr.source ∙ ap (option_map strip_bom) c.in_ok-lines.ensures.unread;
     } in
     let k =
     on_known lines reader_at (written_at g.W.Write.contents)
