@@ -26,6 +26,12 @@ explain_record (w ∷ []) two e = absurd (omega arith)
 explain_record (w ∷ t ∷ []) two e = let is : w ≡ codes "explain" = e in rw is refl
 explain_record (w ∷ t ∷ x ∷ fs) two e = absurd (omega arith)
 
+-- and one of the word report
+pub report_record : (fs : List Field) → length fs ≡ 1 → slice_index_or fs 0 [] ≡ codes "report" → read fs ≡ Ok Report
+report_record [] one e = absurd (omega arith)
+report_record (w ∷ []) one e = let is : w ≡ codes "report" = e in rw is refl
+report_record (w ∷ x ∷ fs) one e = absurd (omega arith)
+
 if_read : {A : Type 0} (P : A → Type 0) (b : Bool) (r q : Read A) → IfOk r P → IfOk q P → IfOk (if b then r else q) P
 if_read P true r q h g = h
 if_read P false r q h g = g

@@ -13,5 +13,5 @@ mod reply;
 mod texts;
 
 pub use faults::{ReadFault, fault_text, read_fault_text};
-pub use read::{read_command, text_to_explain};
-pub use reply::{append_reply, dump_text, reply_text};
+pub use read::{is_report, read_command, text_to_explain};
+pub use reply::{append_count, append_entry, append_reply, dump_text, reply_text};

@@ -1,7 +1,7 @@
 //! Commands, decoded from records.
 ghost use Rattle.std.specs.Prelude.{◌≡◌, ◌↔◌, drop, IsTrue, IfSome, Ok};
 ghost use Rattle.csv.specs.Records.{fields_of};
-ghost use Rattle.olr_commands.specs.State.{Explain, Commit};
+ghost use Rattle.olr_commands.specs.State.{Explain, Report, Commit};
 ghost use Rattle.olr_commands.specs.Words.{command_of};
 ghost use Rattle.olr_records.specs.Records as records;
 ghost use Rattle.olr_records.specs.Words.{IsRead};
@@ -37,6 +37,14 @@ pub fn text_to_explain(fields: &ByteRecord) -> Option<&[u8]>
     } else {
         None
     }
+}
+
+/// Whether a record decodes to the command `report`.
+#[tactic(auto, using(crate::proofs::ReadLemmas::report_record))]
+pub fn is_report(fields: &ByteRecord) -> bool
+    ensures { IsTrue result → records.read (fields_of fields.now) ≡ Ok Report }
+{
+    fields.len() == 1 && is(field(fields, 0), b"report")
 }
 
 /// The command of a record whose first field is this word. The words of edits are tried first, since those of a map are the

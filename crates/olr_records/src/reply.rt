@@ -1,6 +1,7 @@
 //! The texts of replies.
 ghost use Rattle.std.specs.Prelude.{◌≡◌, ◌≤◌, ◌++◌, ◌∷◌, [], ℕ, List, decimal, drop, length, map, string_bytes, IfOk, OnOk};
 ghost use Rattle.std.specs.List.{concat};
+ghost use Rattle.std.specs.Result.{result_map_both};
 ghost use Rattle.olr_ambiguity.specs.Found.{obstacle_of};
 ghost use Rattle.olr_answers.specs.Answers.{refusal_of};
 ghost use Rattle.olr_commands.specs.RecordText.{after_commas};
@@ -51,6 +52,14 @@ fn push_count(text: &mut Vec<u8>, word: &[u8], count: usize) -> Result<(), Alloc
     text.extend_from_slice(b"\n")
 }
 
+/// Appends the first line of a reply to an accepted command, with the number of lines after it. It fails if an allocation
+/// fails.
+pub fn append_count(text: &mut Vec<u8>, count: usize) -> Result<(), AllocError>
+    ensures { OnOk result (text.new.items ≡ text.old.items ++ texts.count_line count) }
+{
+    push_count(text, b"ok", count)
+}
+
 /// The number of paths, and each path with its string or the reason why it has none.
 fn push_paths(text: &mut Vec<u8>, entries: &[Entry]) -> Result<(), AllocError>
     ensures { OnOk result (text.new.items ≡ text.old.items
@@ -60,19 +69,26 @@ fn push_paths(text: &mut Vec<u8>, entries: &[Entry]) -> Result<(), AllocError>
     if entries.is_empty() {
         return text.extend_from_slice(b"ok,0\n");
     }
-    push_count(text, b"ok", entries.len())?;
+    append_count(text, entries.len())?;
     for entry in entries {
-        push_entry(text, entry)?;
+        append_entry(text, entry.name.as_str(), entry.published.as_deref())?;
     }
     Ok(())
 }
 
-/// The line of one path.
-fn push_entry(text: &mut Vec<u8>, entry: &Entry) -> Result<(), AllocError>
-    ensures { OnOk result (text.new.items ≡ text.old.items ++ texts.entry_line (entry_of entry.now)) }
+/// Appends the line of the path of that name: its string, or the reason why it has none. It fails if an allocation fails.
+pub fn append_entry(
+    text: &mut Vec<u8>,
+    name: &str,
+    published: Result<&str, &Refusal>,
+) -> Result<(), AllocError>
+    ensures { OnOk result (text.new.items ≡ text.old.items ++ texts.entry_line (record {
+      name = name.now;
+      published = result_map_both (λ s. s.now) (λ r. refusal_of r.now) published.entry;
+    })) }
 {
-    text.extend_from_slice(entry.name.as_bytes())?;
-    match &entry.published {
+    text.extend_from_slice(name.as_bytes())?;
+    match published {
         Ok(string) => {
             push_field(text, b"text")?;
             push_field(text, string.as_bytes())?;
@@ -111,7 +127,7 @@ fn push_reference(text: &mut Vec<u8>, reference: &Reference) -> Result<(), Alloc
 {
     let points = reference.middle.as_slice();
     let offsets = offset_count(reference.pos) + offset_count(reference.neg);
-    push_count(text, b"ok", points.len() + 2 + offsets)?;
+    append_count(text, points.len() + 2 + offsets)?;
     push_first(text, reference.first)?;
     push_points(text, points)?;
     push_last(text, reference.last)?;
@@ -124,7 +140,7 @@ fn push_dump(text: &mut Vec<u8>, dump: &Dump) -> Result<(), AllocError>
     ensures { OnOk result (text.new.items
         ≡ text.old.items ++ texts.reply_text (Dumped dump.now.count dump.now.text.items)) }
 {
-    push_count(text, b"ok", dump.count)?;
+    append_count(text, dump.count)?;
     text.extend_from_slice(&dump.text)
 }
 
@@ -153,7 +169,7 @@ pub fn dump_text(alloc: Global, dump: Dump) -> Result<Vec<u8>, AllocError>
     ensures { IfOk result (λ text. text.items ≡ texts.reply_text (Dumped dump.count dump.text.items)) }
 {
     let mut head = Vec::new(alloc);
-    push_count(&mut head, b"ok", dump.count)?;
+    append_count(&mut head, dump.count)?;
     let mut text = dump.text;
     put_front(&mut text, &head)?;
     Ok(text)
@@ -164,7 +180,7 @@ fn push_names(text: &mut Vec<u8>, names: &[String]) -> Result<(), AllocError>
     ensures { OnOk result (text.new.items ≡ text.old.items
         ++ texts.accepted_text (map (λ n. texts.name_line (string_bytes n)) names.now)) }
 {
-    push_count(text, b"ok", names.len())?;
+    append_count(text, names.len())?;
     for name in names {
         text.extend_from_slice(name.as_bytes())?;
         text.extend_from_slice(b"\n")?;
@@ -177,7 +193,7 @@ fn push_obstacles(text: &mut Vec<u8>, found: &[NamedObstacle]) -> Result<(), All
     ensures { OnOk result (text.new.items ≡ text.old.items
         ++ texts.accepted_text (map (λ e. texts.obstacle_line (named_obstacle_of e)) found.now)) }
 {
-    push_count(text, b"ok", found.len())?;
+    append_count(text, found.len())?;
     for obstacle in found {
         push_obstacle_line(text, obstacle)?;
     }

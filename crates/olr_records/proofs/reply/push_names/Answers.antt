@@ -9,7 +9,7 @@ pub loop-name-preserved : goal.loop-name-preserved
 loop-name-preserved c =
     let f : String Global → List ℕ = λ n. name_line (string_bytes n) in
     let more =
-    lines_more f c.push_count.new.text.items c.args.names.now c.loop-name.name-index c.name-item.result
+    lines_more f c.append_count.new.text.items c.args.names.now c.loop-name.name-index c.name-item.result
     c.loop-name-test.true in
     let name = c.in_ok-extend_from_slice.ensures.items in
     let end = c.in_ok-extend_from_slice-2.ensures.items in
