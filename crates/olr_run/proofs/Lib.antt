@@ -2,6 +2,7 @@ pub mod Common
 pub mod RecordLemmas
 pub mod RunLemmas
 pub mod Answering
+pub mod Reports
 pub mod Running
 pub mod Joining
 pub mod InputRuns

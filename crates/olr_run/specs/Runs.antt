@@ -14,7 +14,7 @@ use Rattle.std.specs.List.{concat}
 use Rattle.std.specs.Option.{option_map_or}
 use Rattle.std.specs.Borrow.{Bor}
 use Rattle.olr_commands.specs.Dump.{dump_lines}
-use Rattle.olr_commands.specs.Reply.{Outcome}
+use Rattle.olr_commands.specs.Reply.{Entry, Paths, AllOf, Outcome}
 use Rattle.olr_commands.specs.State.{IsContent, State, Fault}
 use Rattle.olr_commands.specs.Words.{reply_of}
 use Rattle.olr_commands.specs.declared.reply.Reply.{Reply}
@@ -50,6 +50,12 @@ CarriedOut old fields new r =
 abbrev pub answer_text : Result Reply (Bor (List ℕ)) → List ℕ
 answer_text (Ok reply) = reply_text (reply_of reply)
 answer_text (Err line) = line.now
+
+-- the text of the answers of all paths satisfies P
+abbrev pub IsReport : Registered → (List ℕ → Type 0) → Type 0
+IsReport register P =
+    (s : State) → Represents register.kept s
+    → (es : List Entry) × AllOf s.content.map s.content.paths es × P (reply_text (Paths es))
 
 -- the text was written, or an allocation failed, or only its first bytes were written
 abbrev pub WritesText : {S : Type 0} → (S → Event → S → Type 0) → S → List ℕ → S → Result Bool RunFault → Bool → Type 0

@@ -1,19 +1,26 @@
 //! The answer to one record.
 
-ghost use Rattle.std.specs.Prelude.{◌≡◌, Ok, Some, IfOk, is_ok};
+ghost use Rattle.std.specs.Prelude.{◌≡◌, ◌≢◌, ◌++◌, length, Ok, Some, IfOk, OnOk, is_ok};
+ghost use Rattle.std.specs.Result.{result_map_both};
 ghost use Rattle.csv.specs.Records.{fields_of};
-ghost use Rattle.olr_commands.specs.State.{Explain};
+ghost use Rattle.olr_answers.specs.Answers.{refusal_of};
+ghost use Rattle.olr_commands.specs.Reply.{published_text};
+ghost use Rattle.olr_commands.specs.State.{Explain, Report};
+ghost use Rattle.olr_list.specs.Items.{made_of};
 ghost use Rattle.olr_records.specs.Records.{read};
-ghost use Rattle.olr_run.specs.Runs.{CarriedOut, answer_text, WritesText, AnswersRecord, AreRenewal, RenewsFrom};
+ghost use Rattle.olr_run.specs.Runs.{CarriedOut, IsReport, answer_text, WritesText, AnswersRecord, AreRenewal};
+ghost use Rattle.olr_run.specs.Runs.{RenewsFrom};
 
 use csv::ByteRecord;
+use olr_answers::{Answer, Refusal};
 use olr_commands::{CommandFault, Reply};
 use olr_records::{
-    append_reply, dump_text, fault_text, read_command, read_fault_text, text_to_explain,
+    append_count, append_entry, append_reply, dump_text, fault_text, is_report, read_command,
+    read_fault_text, text_to_explain,
 };
-use olr_register::Register;
+use olr_register::{Published, Register};
 use olr_sessions::{RunFault, Session};
-use std::alloc::Global;
+use std::alloc::{AllocError, Global};
 
 /// Carries out a record that decodes to the command `explain` with this text, which isn't copied.
 fn explain_text(
@@ -51,6 +58,19 @@ fn carry_out(
     }
 }
 
+/// Writes the text of an answer. Returns whether it accepts the command.
+fn write_text<W, S: Session<W>>(
+    text: &[u8],
+    accepts: bool,
+    session: &mut S,
+    output: &mut W,
+) -> Result<bool, RunFault>
+    ensures { WritesText S.happens (session.old, output.old) text.now (session.new, output.new) result accepts }
+{
+    session.answer(output, text)?;
+    Ok(accepts)
+}
+
 /// Writes an answer; the text of a reply is made in `text`, whose buffer is reused, and that of a dump in the dump's own
 /// buffer. Returns whether it accepts the command.
 fn write_answer<W, S: Session<W>>(
@@ -66,18 +86,59 @@ fn write_answer<W, S: Session<W>>(
     match answer {
         Ok(Reply::Dump(dump)) => {
             let lines = dump_text(alloc, dump)?;
-            session.answer(output, &lines)?;
-            Ok(true)
+            write_text(&lines, true, session, output)
         }
         Ok(reply) => {
             text.clear();
             append_reply(text, &reply)?;
-            session.answer(output, text.as_slice())?;
-            Ok(true)
+            write_text(text.as_slice(), true, session, output)
         }
-        Err(line) => {
-            session.answer(output, line.as_bytes())?;
-            Ok(false)
+        Err(line) => write_text(line.as_bytes(), false, session, output),
+    }
+}
+
+/// A path's string, or the reason why it has none.
+fn string_of(published: &Published) -> Result<&str, &Refusal>
+    ensures { result_map_both (λ s. s.now) (λ r. refusal_of r.now) result
+        ≡ published_text (made_of published.now).answer }
+{
+    match published.answer() {
+        Answer::Points(_) => Ok(published.text().unwrap()),
+        Answer::Refused(refusal) => Err(refusal),
+    }
+}
+
+/// Appends the reply to `report`, path by path: no name and no string is copied but to the text.
+fn append_report(text: &mut Vec<u8>, register: &Register) -> Result<(), AllocError>
+    ensures { OnOk result (IsReport register.now (λ lines. text.new.items ≡ text.old.items ++ lines)) }
+{
+    append_count(text, register.len())?;
+    for (name, published) in register.iter() {
+        append_entry(text, name, string_of(published))?;
+    }
+    Ok(())
+}
+
+/// Answers a record that decodes to the command `report`, of some paths. If there is no memory for the text, the command is
+/// rejected.
+fn write_report<W, S: Session<W>>(
+    register: &Register,
+    fields: &ByteRecord,
+    text: &mut Vec<u8>,
+    session: &mut S,
+    output: &mut W,
+) -> Result<bool, RunFault>
+    requires report { read (fields_of fields.now) ≡ Ok Report }
+    requires some { length register.now.kept.content.paths ≢ 0 }
+    ensures { AnswersRecord S.happens register.now (fields_of fields.now) register.now (session.old, output.old)
+        (session.new, output.new) result }
+{
+    text.clear();
+    match append_report(text, register) {
+        Ok(()) => write_text(text.as_slice(), true, session, output),
+        Err(_) => {
+            let line = fault_text(CommandFault::Memory);
+            write_text(line.as_bytes(), false, session, output)
         }
     }
 }
@@ -119,6 +180,9 @@ pub fn write_outcome<W, S: Session<W>>(
     ensures { AnswersRecord S.happens register.old (fields_of fields.now) register.new (session.old, output.old)
         (session.new, output.new) result }
 {
+    if is_report(fields) && !register.is_empty() {
+        return write_report(register, fields, text, session, output);
+    }
     let answer = carry_out(alloc, register, fields);
     write_answer(alloc, answer, text, session, output)
 }
