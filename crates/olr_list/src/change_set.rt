@@ -137,10 +137,8 @@ fn put_node(nodes: &mut Vec<NodeId>, node: NodeId)
         return;
     }
     if let Err(place) = nodes.binary_search(&node) {
-        match nodes.insert(place, node) {
-            Ok(()) => (),
-            Err(_) => unreachable!(),
-        }
+        let inserted: Result<_, _> = nodes.insert(place, node);
+        inserted.unwrap();
     }
 }
 
@@ -156,9 +154,7 @@ fn put_line(lines: &mut Vec<LineId>, line: LineId)
         return;
     }
     if let Err(place) = lines.binary_search(&line) {
-        match lines.insert(place, line) {
-            Ok(()) => (),
-            Err(_) => unreachable!(),
-        }
+        let inserted: Result<_, _> = lines.insert(place, line);
+        inserted.unwrap();
     }
 }

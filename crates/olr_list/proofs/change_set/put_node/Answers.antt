@@ -1,9 +1,10 @@
 use Rattle.olr_list.proofs.Common.{arith, put_ascends, put_has, stays_has}
 use Rattle.olr_list.proofs.change_set.put_node.Goals as goal
 
-pub returns-in-Ok-clause-ascend : goal.returns-in-Ok-clause-ascend
-returns-in-Ok-clause-ascend c = rw c.in-Ok.ensures.items
-    (put_ascends c.args.nodes.now.items c.args.node c.in-Err.place c.requires.ascend
+pub returns-in-Err-clause-ascend : goal.returns-in-Err-clause-ascend
+returns-in-Err-clause-ascend c =
+    let items = rw c.unwrap.ensures at c.insert-inserted.ensures.items in
+    rw items (put_ascends c.args.nodes.now.items c.args.node c.in-Err.place c.requires.ascend
     (rw c.deref-2.ensures.value at c.in-Err.ensures.position))
 
 pub returns-in_default-clause-holds : goal.returns-in_default-clause-holds
@@ -11,5 +12,5 @@ returns-in_default-clause-holds c v =
     stays_has c.args.nodes.now.items c.args.node c.in_default.field-0 v c.requires.ascend
     (rw c.deref-2.ensures.value at c.in_default.ensures.position)
 
-pub returns-in-Ok-clause-holds : goal.returns-in-Ok-clause-holds
-returns-in-Ok-clause-holds c = grind (arith, put_has)
+pub returns-in-Err-clause-holds : goal.returns-in-Err-clause-holds
+returns-in-Err-clause-holds c = grind (arith, put_has)
