@@ -38,13 +38,7 @@ node_there M s p (Some v) is there = let own = (is v).0 refl in (v, own.0, own.1
 node_there M s p None is there = absurd cc
 
 pub moves_none : (f : Frontier) → Moves f f
-moves_none f = record {
-  better = λ p. omega arith;
-  fresh = λ p. inl refl;
-  kept = λ e q w. w;
-  len = refl;
-  less = omega arith;
-}
+moves_none f = grind arith
 
 -- ---- edits
 
@@ -52,40 +46,16 @@ module _ (M N : Map) (s r : ℕ → ℕ) (T : List ℕ) (f : DistanceBounds) (e 
   module _ (P Q : ℕ → Type 0) (more : (v : ℕ) → P v → Q v)
       (touched : (v : ℕ) → IsTrue (has T v) → IsFar M s f v ⊎ Q v) where
     closed_on : AreClosed M s (bound_at f) P → AreClosed N r (bound_at f) Q
-    closed_on closed x line short =
-        let L = bound_at f in
-        let from = e.slots (start N x) (e.starts x line) (e.sound.starts x line) in
-        let to = e.slots (end N x) (e.ends x line) (e.sound.ends x line) in
-        elim (cases_Bool (has T (start N x))) [
-          | inl on ↦ elim (touched (start N x) on) [
-            | inl far ↦ let lt = far.bound (e.starts x line) in absurd (omega (arith, ap L from))
-            | inr q ↦ inr q
-          ]
-          | inr off ↦
-              let is : SameLine N M x =
-              by_leaving N M (start N x) x (turned_round M N (start N x) (e.alike (start N x) off)) line refl in
-              let near : L (s (start M x)) ≡ L (r (start N x)) =
-              ap L (ap s (sym (same_start N M x is)) ∙ sym from) in
-              let there : L (s (end M x)) ≡ L (r (end N x)) = ap L (ap s (sym (same_end N M x is)) ∙ sym to) in
-              elim (closed x (sym (same_known N M x is) ∙ line) (omega (arith, same_dm N M x is))) [
-                | inl c ↦ inl (omega (arith, same_dm N M x is))
-                | inr p ↦ inr (more (start N x) (subst P (sym (same_start N M x is)) p))
-              ]
-        ]
+    closed_on closed x line short = elim (cases_Bool (has T (start N x))) [
+      | inl on ↦ grind (arith, bound_at)
+      | inr off ↦
+          let is : SameLine N M x =
+          by_leaving N M (start N x) x (turned_round M N (start N x) (e.alike (start N x) off)) line refl in
+          grind (arith, same_known, same_start, same_end, same_dm)
+    ]
 
     met_on : AreMet M s (source_of f) (bound_at f) P → AreMet N r (source_of f) (bound_at f) Q
-    met_on met v d at there = elim (cases_Bool (has T v)) [
-      | inl on ↦ elim (touched v on) [
-        | inl far ↦ let never : ◌≡◌ {A = Option ℕ} None (Some d) = sym far.source ∙ at in absurd cc
-        | inr q ↦ inr q
-      ]
-      | inr off ↦
-          let known : IsTrue (has_node M v) = ap (λ o. is_some o) (e.alike v off).place ∙ there in
-          elim (met v d at known) [
-            | inl le ↦ inl (omega (arith, ap (bound_at f) (e.slots v known there)))
-            | inr p ↦ inr (more v p)
-          ]
-    ]
+    met_on met v d at there = grind (arith, cases_Bool, bound_at, source_of, has)
 
   -- the nodes of each edit are among those that all edits touched
   pub edit_under_way : (T' U : List ℕ) → ((v : ℕ) → IsTrue (has T' v) → IsTrue (has U v)) →
@@ -108,14 +78,9 @@ module _ (M N : Map) (s r : ℕ → ℕ) (T : List ℕ) (f : DistanceBounds) (e 
     -- from a bound on, along a route within the limit
     bound_along : AreRight N r f → (u v b : ℕ) (xs : List ℕ) → IsTrue (has_node M u) → IsTrue (has_node N u) →
         bound_at f (r u) ≤ b → IsRoute N u v xs → b + dm_of N xs ≤ limit → ¬ IsTrue (has T v)
-    bound_along right u v b [] known there low is short on =
-        let on' : IsTrue (has T u) = subst (λ (q : ℕ). IsTrue (has T q)) (sym is) on in
-        let lt = (far u on').bound known in
-        absurd (omega (arith, ap (bound_at f) (e.slots u known there)))
+    bound_along right u v b [] known there low is short on = grind (arith, bound_at, has)
     bound_along right u v b (x ∷ xs) known there low way short on =
-        let from = ap (λ (q : ℕ). bound_at f (r q)) way.1 in
-        let le = right.closed x way.0 (omega arith) in
-        bound_along right (end N x) v (b + dm N x) xs (e.ends x way.0) (e.sound.ends x way.0) (omega arith) way.2 (omega arith) on
+        grind (arith, bound_at, has, bound_along right (end N x) v (b + dm N x) xs)
 
     pub far_apart : IsTrue f.known → IsRight N r f → (v w : ℕ) → IsSource f v w → ¬ Near N T v (min w limit)
     far_apart is right v w source near = go near.route near.leads near.within
@@ -136,13 +101,7 @@ module _ (M N : Map) (s r : ℕ → ℕ) (T : List ℕ) (f : DistanceBounds) (e 
 
 -- an edit that changes nothing
 pub edit_same : (T : List ℕ) (M : Map) (s : ℕ → ℕ) → IsMap M → IsEdit T M s M s
-edit_same T M s m = record {
-  sound = m;
-  alike = λ v off. record { place = refl; entering = λ x l. (λ h. h, λ h. h); leaving = λ x l. (λ h. h, λ h. h) };
-  slots = λ v known there. refl;
-  starts = m.starts;
-  ends = m.ends;
-}
+edit_same T M s m = grind arith
 
 -- ---- while bounds are settled
 
@@ -167,19 +126,10 @@ module _ (M : Map) (m : IsMap M) (s : ℕ → ℕ) (S : ℕ → Option ℕ) wher
       | inr q ↦ inr (inr q)
       | inl same ↦ elim (was.closed x line (omega arith)) [
         | inl c ↦ let le = better (s (end M x)) in inl (omega arith)
-        | inr d ↦ elim (due (start M x) (m.starts x line) d) [
-          | inl o ↦ inr (inl o)
-          | inr k ↦ elim k [
-            | inl q ↦ inr (inr (subst (λ (n : ℕ). IsQueued h n (s (start M x))) (sym same) q))
-            | inr followed ↦ elim (followed x line refl short) [ inl c ↦ inl c | inr q ↦ inr (inr q) ]
-          ]
-        ]
+        | inr d ↦ let k = due (start M x) (m.starts x line) d in grind (arith, label_of)
       ]
     ];
-    sources = λ v d at there. elim (was.sources v d at there) [
-      | inl low ↦ let le = better (s v) in inl (omega arith)
-      | inr o ↦ met v d at there o
-    ];
+    sources = λ v d at there. let le = better (s v) in grind (arith, label_of);
   }
 
   -- the last open node is looked at
