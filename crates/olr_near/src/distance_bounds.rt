@@ -226,7 +226,7 @@ impl DistanceBounds {
         }
     }
 
-    /// Has these nodes looked at again, when the bounds are settled: required where a line was added or became shorter.
+    /// Has these nodes looked at again when the bounds are settled: required of the nodes that edits touched.
     pub fn reopen(&mut self, nodes: &[NodeId]) -> Result<(), AllocError>
         ensures sources { (v w : ℕ) → IsSource self.old v w → IsSource self.new v w }
         ensures under_way { (M : Map) (s : ℕ → ℕ) → IsUnderWay M s nodes.now self.old → IsUnderWay M s [] self.new }
