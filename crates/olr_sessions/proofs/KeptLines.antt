@@ -2,14 +2,15 @@
 use Rattle.std.proofs.Common.{◌≡◌, ◌∙◌, ◌==◌, ℕ, Bool, true, false, not, ◌&&◌, List, [], ◌∷◌, ◌++◌, length, refl, sym, ap, arith}
 use Rattle.std.proofs.Common.{◌⊎◌, inl, inr, if◌then◌else◌, codes}
 use Rattle.std.proofs.lemmas.Bool.{cases_Bool, and_parts}
-use Rattle.std.proofs.lemmas.List.{append-nil, append_assoc}
+use Rattle.std.proofs.lemmas.List.{append-nil, append_assoc, length-append, take-take, take_at}
+use Rattle.std.proofs.lemmas.List.Folds.{list_all-append}
 use Rattle.std.specs.List.{join_with_byte}
-use Rattle.std.proofs.Common.{◌<◌, zero, suc, take, get_or, unwrap_or, Some, None}
+use Rattle.std.proofs.Common.{◌<◌, ◌≤◌, ◌+◌, zero, suc, take, get_or, unwrap_or, Some, None}
 use Rattle.csv.specs.Records.{field_at}
 use Rattle.std.specs.Str.{bytes_eq}
 use Rattle.std.proofs.lemmas.Slice.Eq.{bytes_eq-Decides}
 use Rattle.olr_sessions.specs.Journals.{stays_open, is_empty, is_whole, is_whole_from, IsFront}
-use Rattle.olr_sessions.specs.KeptLines.{is_change, is_clean, effect_by, word_effect, has_line, line_of}
+use Rattle.olr_sessions.specs.KeptLines.{is_change, is_clean, is_clean_byte, effect_by, word_effect, has_line, line_of}
 use Rattle.olr_sessions.specs.KeptLines.{is_firm_from, firm_after, Turns, turned, IsLineFor}
 use Rattle.olr_sessions.specs.declared.unkept.Effect.{Effect}
 use Rattle.olr_sessions.specs.declared.unkept.Effect.TheVariants as effect
@@ -192,6 +193,61 @@ join_more (f ∷ g ∷ fs) (suc (suc i)) h =
     let joined = join_with_byte 44 (take (suc i) (g ∷ fs)) in
     rw (nonzero (suc i)) (ap (λ (x : List ℕ). x ++ get_or fs i []) (append_assoc f (44 ∷ joined) (44 ∷ []))
     ∙ append_assoc f (44 ∷ joined ++ 44 ∷ []) (get_or fs i []) ∙ ap (λ (x : List ℕ). f ++ 44 ∷ x) more)
+
+-- the same behind other lines
+pub text_more : (lines text : List ℕ) (fs : List (List ℕ)) (i : ℕ) → i < length fs →
+    text ≡ lines ++ join_with_byte 44 (take i fs)
+    → (text ++ (if i == 0 then [] else 44 ∷ [])) ++ get_or fs i [] ≡ lines ++ join_with_byte 44 (take (i + 1) fs)
+text_more lines text fs i h e =
+    let joined = join_with_byte 44 (take i fs) in
+    let comma : List ℕ = if i == 0 then [] else 44 ∷ [] in
+    let one : suc i ≡ i + 1 = omega arith in
+    ap (λ (x : List ℕ). (x ++ comma) ++ get_or fs i []) e
+    ∙ ap (λ (x : List ℕ). x ++ get_or fs i []) (append_assoc lines joined comma)
+    ∙ append_assoc lines (joined ++ comma) (get_or fs i [])
+    ∙ ap (λ (x : List ℕ). lines ++ x) (join_more fs i h ∙ ap (λ (k : ℕ). join_with_byte 44 (take k fs)) one)
+
+-- it holds no line end
+pub clean_more : (fs : List (List ℕ)) (i : ℕ) → i < length fs → is_clean (join_with_byte 44 (take i fs)) ≡ true →
+    is_clean (get_or fs i []) ≡ true → is_clean (join_with_byte 44 (take (i + 1) fs)) ≡ true
+clean_more fs i h before field =
+    let joined = join_with_byte 44 (take i fs) in
+    let comma : List ℕ = if i == 0 then [] else 44 ∷ [] in
+    let one : suc i ≡ i + 1 = omega arith in
+    let clean : is_clean comma ≡ true = by_first (i == 0) in
+    sym (ap is_clean (join_more fs i h ∙ ap (λ (k : ℕ). join_with_byte 44 (take k fs)) one))
+    ∙ list_all-append is_clean_byte (joined ++ comma) (get_or fs i [])
+    ∙ ap (λ (b : Bool). b && is_clean (get_or fs i [])) (list_all-append is_clean_byte joined comma)
+    ∙ (λ n. (before n && clean n) && field n)
+  where
+    by_first : (first : Bool) → is_clean (if first then [] else 44 ∷ []) ≡ true
+    by_first true = refl
+    by_first false = refl
+
+-- or one
+pub unclean : (fs : List (List ℕ)) (i : ℕ) → i < length fs → is_clean (get_or fs i []) ≡ false →
+    is_clean (join_with_byte 44 fs) ≡ false
+unfolding body_rest
+unclean [] i h e = absurd (omega arith)
+unclean (f ∷ fs) zero h e =
+    ap is_clean (body_is f fs) ∙ list_all-append is_clean_byte f (body_rest fs) ∙ ap (λ (b : Bool). b && is_clean (body_rest fs)) e
+unclean (f ∷ []) (suc i) h e = absurd (omega arith)
+unclean (f ∷ g ∷ fs) (suc i) h e =
+    list_all-append is_clean_byte f (44 ∷ join_with_byte 44 (g ∷ fs))
+    ∙ ap (λ (b : Bool). is_clean f && b) (unclean (g ∷ fs) i (omega arith) e) ∙ and_false (is_clean f)
+  where
+    and_false : (b : Bool) → (b && false) ≡ false
+    and_false true = refl
+    and_false false = refl
+
+-- the lines before it stay
+pub lines_stay : (lines text more longer : List ℕ) (n k : ℕ) → n ≡ length lines → k ≡ length (text ++ more) →
+    (rest : List ℕ) → text ≡ lines ++ rest → take k longer ≡ text ++ more → take n longer ≡ lines
+lines_stay lines text more longer n k size sizes rest e front =
+    let all : text ++ more ≡ lines ++ (rest ++ more) =
+    ap (λ (x : List ℕ). x ++ more) e ∙ append_assoc lines rest more in
+    let less : n ≤ k = let long = ap length all in let longs = length-append lines (rest ++ more) in omega arith in
+    sym (take-take n k longer less) ∙ ap (take n) (front ∙ all) ∙ take_at lines (rest ++ more) n (sym size)
 
 pub field_is : (fs : List (List ℕ)) (k : ℕ) → unwrap_or (field_at fs k) [] ≡ get_or fs k []
 unfolding field_at

@@ -5,7 +5,6 @@ pub mod InMemoryRuns
 pub mod WholeLines
 pub mod GivenLines
 pub mod KeptLines
-pub mod CleanTexts
 pub mod Parts
 pub mod Passing
 pub mod LoggedEvents

@@ -139,6 +139,11 @@ module _ (l : List ℕ) (r h : ℕ) (e : Effect) (a : AreLines l r h e) where
   full : drop h l ≡ [] → take h l ≡ l
   full none = sym (append-nil (take h l)) ∙ ap (λ (x : List ℕ). take h l ++ x) (sym none) ∙ take-append-drop h l
 
+  pub added_lines : (k : Effect) (line : List ℕ) → drop h l ≡ [] → IsLineFor k line → AreLines (l ++ line) r h k
+  added_lines k line none is =
+      subst (λ (x : List ℕ). AreLines (x ++ line) r h k) (full none)
+      (lines_are (take h l ++ line) r h k _ _ line (with_line line) a.whole a.batch is)
+
   pub added_waits : (line : List ℕ) → drop h l ≡ [] →
       pair (take r (l ++ line)) (take (h - r) (drop r (l ++ line))) ≡ pair (take r l) (take (h - r) (drop r l))
   added_waits line none =

@@ -18,7 +18,7 @@ use Rattle.olr_sessions.specs.declared.unkept.Effect.TheVariants as effect
 -- the words of the records that change a map or paths
 abbrev pub change_words : List (List ℕ)
 change_words =
-    codes "node" ∷ codes "move" ∷ codes "drop-node" ∷ codes "line" ∷ codes "set-line" ∷ codes "drop-line" ∷ codes "path"
+    codes "line" ∷ codes "node" ∷ codes "set-line" ∷ codes "move" ∷ codes "drop-node" ∷ codes "drop-line" ∷ codes "path"
     ∷ codes "repath" ∷ codes "drop-path" ∷ []
 
 abbrev pub is_change : List ℕ → Bool

@@ -1,6 +1,6 @@
 //! Lines of accepted commands that a log doesn't keep yet.
 
-ghost use Rattle.std.specs.Prelude.{◌≡◌, ◌≤◌, ◌<◌, ◌⊎◌, ◌++◌, ◌∷◌, take, vec_len, is_some, IfOk, IfSome, ℕ, List, [], false, IsTrue, OnOk, if◌then◌else◌, slice_index_or};
+ghost use Rattle.std.specs.Prelude.{◌≡◌, ◌≤◌, ◌<◌, ◌⊎◌, ◌+◌, ◌++◌, ◌∷◌, take, length, vec_len, vec_capacity, IfOk, ℕ, List, [], true, false, IsTrue, Ok, OnOk, OnErr, if◌then◌else◌, slice_index_or};
 ghost use Rattle.std.specs.List.{join_with_byte};
 ghost use Rattle.std.specs.Str.{bytes_eq};
 ghost use Rattle.csv.specs.Records.{fields_of};
@@ -8,12 +8,10 @@ ghost use Rattle.olr_sessions.specs.KeptLines as lines;
 ghost use Rattle.olr_sessions.specs.KeptLines.{AreLines};
 
 use crate::buffered::remove_front;
+use crate::lines::ends_line;
 use csv::ByteRecord;
-use memchr::memchr2;
 use std::alloc::{AllocError, Global};
-
-/// By how much a buffer for a line is made longer.
-const BLOCK: usize = 1 << 10;
+use std::mem;
 
 /// What a record does to a log, if it is accepted.
 #[derive(Clone, Copy, PartialEq, Eq)]
@@ -30,14 +28,6 @@ pub enum Effect {
     Abort,
 }
 
-/// Whether a text holds no line end.
-#[tactic(auto, using(crate::proofs::CleanTexts::clean_by))]
-fn is_clean(text: &[u8]) -> bool
-    ensures { result ≡ lines.is_clean text.now }
-{
-    memchr2(b'\n', b'\r', text).is_none()
-}
-
 /// Whether a word is this text, byte by byte: words are short, and `==` of slices is made for longer ones.
 fn is(word: &[u8], text: &[u8]) -> bool
     ensures { result ≡ bytes_eq word.now text.now }
@@ -49,11 +39,11 @@ fn is(word: &[u8], text: &[u8]) -> bool
 fn is_change(word: &[u8]) -> bool
     ensures { result ≡ lines.is_change word.now }
 {
-    is(word, b"node")
+    is(word, b"line")
+        || is(word, b"node")
+        || is(word, b"set-line")
         || is(word, b"move")
         || is(word, b"drop-node")
-        || is(word, b"line")
-        || is(word, b"set-line")
         || is(word, b"drop-line")
         || is(word, b"path")
         || is(word, b"repath")
@@ -104,70 +94,76 @@ fn field(fields: &ByteRecord, k: usize) -> &[u8]
     }
 }
 
-/// Makes a line longer than this, if it isn't.
-fn make_longer(line: &mut Vec<u8>, len: usize) -> Result<(), AllocError>
-    ensures room { OnOk result (len < vec_len line.new) }
-    ensures front { OnOk result (take (vec_len line.old) line.new.items ≡ line.old.items) }
+/// Adds a comma, for which there is room, unless a field is the first.
+fn push_comma(mut text: Vec<u8>, is_first: bool) -> Vec<u8>
+    requires { is_first ≡ false → vec_len text < vec_capacity text }
+    ensures { result.items ≡ text.items ++ (if is_first then [] else 44 ∷ []) }
 {
-    if len < line.len() {
-        return Ok(());
+    if !is_first {
+        text.push_reserved(b',');
     }
-    let more = len.checked_add(BLOCK).ok_or(AllocError)?;
-    line.resize(more, 0)
+    text
 }
 
-/// Writes bytes at this place of a line, and returns the place behind them, at which the line has a byte.
-fn put(line: &mut Vec<u8>, at: usize, bytes: &[u8]) -> Result<usize, AllocError>
-    requires { at ≤ vec_len line.old }
-    ensures room { IfOk result (λ n. n < vec_len line.new) }
-    ensures front { IfOk result (λ n. take n line.new.items ≡ take at line.old.items ++ bytes.now) }
+/// Adds bytes, for which there is room, up to the first that ends a line. Returns whether none does.
+fn push_bytes(mut text: Vec<u8>, bytes: &[u8]) -> (Vec<u8>, bool)
+    requires { vec_len text + length bytes.now ≤ vec_capacity text }
+    ensures front { take (vec_len text) result.0.items ≡ text.items }
+    ensures items { result.1 ≡ true → result.0.items ≡ text.items ++ bytes.now }
+    ensures capacity { vec_capacity result.0 ≡ vec_capacity text }
+    ensures clean { result.1 ≡ lines.is_clean bytes.now }
 {
-    let end = at.checked_add(bytes.len()).ok_or(AllocError)?;
-    make_longer(line, end)?;
-    line[at..end].copy_from_slice(bytes);
-    Ok(end)
-}
-
-/// Writes a comma at this place of a line, unless a field is the first, and returns the place of the field.
-fn put_comma(line: &mut Vec<u8>, at: usize, is_first: bool) -> usize
-    requires { at < vec_len line.old }
-    ensures within { result ≤ vec_len line.new }
-    ensures front { take result line.new.items ≡ take at line.old.items ++ (if is_first then [] else 44 ∷ []) }
-{
-    if is_first {
-        return at;
+    for i in 0..bytes.len() {
+        let byte = bytes[i];
+        if byte <= b'\r' && ends_line(byte) {
+            return (text, false);
+        }
+        text.push_reserved(byte);
     }
-    line[at] = b',';
-    at + 1
+    (text, true)
 }
 
-/// Writes fields, with a comma between each two, over the first bytes of a line. Returns their length, which is less than
-/// that of the line.
-fn write_fields(line: &mut Vec<u8>, fields: &ByteRecord) -> Result<usize, AllocError>
-    ensures room { IfOk result (λ n. n < vec_len line.new) }
-    ensures front { IfOk result (λ n. take n line.new.items ≡ join_with_byte 44 (fields_of fields.now)) }
+/// Adds the line of a record. Returns false if a field holds a line end. Then, and if there isn't enough room, it adds a part
+/// of the line. The vector comes by value, so that its length can be in a register.
+fn push_line(mut text: Vec<u8>, fields: &ByteRecord) -> (Vec<u8>, Result<bool, AllocError>)
+    requires { 0 < length (fields_of fields.now) }
+    ensures front { take (vec_len text) result.0.items ≡ text.items }
+    ensures line { result.1 ≡ Ok true → result.0.items ≡ text.items ++ lines.line_of (fields_of fields.now) }
+    ensures clean { IfOk result.1 (λ clean. clean ≡ lines.is_clean (join_with_byte 44 (fields_of fields.now))) }
 {
-    make_longer(line, 0)?;
-    let mut at = 0;
     for i in 0..fields.len() {
-        let start = put_comma(line, at, i == 0);
-        at = put(line, start, field(fields, i))?;
+        text = push_comma(text, i == 0);
+        let field = field(fields, i);
+        if text.capacity() - text.len() <= field.len() {
+            return (text, Err(AllocError));
+        }
+        let (longer, is_clean) = push_bytes(text, field);
+        text = longer;
+        if !is_clean {
+            return (text, Ok(false));
+        }
     }
-    Ok(at)
+    text.push_reserved(b'\n');
+    (text, Ok(true))
 }
 
-/// Writes the line of a record over the first bytes of a line, and returns its length. None if a field holds a line end.
-fn write_line(line: &mut Vec<u8>, fields: &ByteRecord) -> Result<Option<usize>, AllocError>
-    ensures clean { IfOk result (λ found. is_some found ≡ lines.is_clean (join_with_byte 44 (fields_of fields.now))) }
-    ensures room { IfOk result (λ found. IfSome found (λ n. n ≤ vec_len line.new)) }
-    ensures line { IfOk result (λ found. IfSome found (λ n. take n line.new.items ≡ lines.line_of (fields_of fields.now))) }
+/// Adds the line of a record. Returns false, and adds nothing, if a field holds a line end.
+fn add_line(text: &mut Vec<u8>, fields: &ByteRecord) -> Result<bool, AllocError>
+    requires { 0 < length (fields_of fields.now) }
+    ensures line { IfOk result (λ added. text.new.items ≡ text.old.items ++ lines.line_if added (lines.line_of (fields_of fields.now))) }
+    ensures clean { IfOk result (λ added. added ≡ lines.is_clean (join_with_byte 44 (fields_of fields.now))) }
+    ensures nothing { OnErr result (text.new.items ≡ text.old.items) }
 {
-    let len = write_fields(line, fields)?;
-    if !is_clean(&line[..len]) {
-        return Ok(None);
+    let len = text.len();
+    let alloc = *text.allocator();
+    text.reserve(fields.as_slice().len().saturating_add(fields.len()))?;
+    let (longer, is_clean) = push_line(mem::replace(text, Vec::new(alloc)), fields);
+    *text = longer;
+    match is_clean {
+        Ok(true) => {}
+        _ => text.truncate(len),
     }
-    line[len] = b'\n';
-    Ok(Some(len + 1))
+    is_clean
 }
 
 /// Lines of accepted commands that a log doesn't keep yet: first those that are ready to be kept, then those of the open
@@ -181,8 +177,6 @@ pub struct Unkept {
     held: usize,
     /// What the record that isn't answered yet does, if it is accepted.
     effect: Effect,
-    /// A buffer for its line, whose first bytes it has, reused from record to record.
-    line: Vec<u8>,
     ghost right: { AreLines lines.items ready held effect },
 }
 
@@ -201,7 +195,6 @@ impl Unkept {
             ready: 0,
             held: 0,
             effect: Effect::Nothing,
-            line: Vec::new(alloc),
         }
     }
 
@@ -226,17 +219,19 @@ impl Unkept {
         self.effect = effect;
     }
 
-    /// Takes the line that was written, of this length and of a record of this effect.
-    fn add(&mut self, len: usize, effect: Effect) -> Result<(), AllocError>
+    /// Takes the line of a record of this effect, unless a field holds a line end.
+    fn add(&mut self, fields: &ByteRecord, effect: Effect) -> Result<(), AllocError>
         requires none { next_line self.old ≡ [] }
-        requires within { len ≤ vec_len self.old.line }
-        requires line { IsLineFor effect (take len self.old.line.items) }
+        requires nothing { self.old.effect ≡ Effect.Nothing }
+        requires effect { lines.word_effect (fields_of fields.now) ≡ effect }
+        requires kept { has_line effect ≡ true }
         ensures waiting { waiting self.new ≡ waiting self.old }
-        ensures effect { OnOk result (self.new.effect ≡ effect) }
-        ensures line { OnOk result (next_line self.new ≡ take len self.old.line.items) }
+        ensures effect { OnOk result (self.new.effect ≡ lines.effect_of (fields_of fields.now)) }
+        ensures line { OnOk result (next_line self.new ≡ lines.kept_line (fields_of fields.now)) }
     {
-        self.lines.extend_from_slice(&self.line[..len])?;
-        self.effect = effect;
+        if add_line(&mut self.lines, fields)? {
+            self.effect = effect;
+        }
         Ok(())
     }
 
@@ -249,14 +244,11 @@ impl Unkept {
     {
         self.cut();
         let effect = word_effect(fields);
-        if !has_line(effect) {
-            self.note(effect);
-            return Ok(());
+        if has_line(effect) {
+            return self.add(fields, effect);
         }
-        match write_line(&mut self.line, fields)? {
-            Some(len) => self.add(len, effect),
-            None => Ok(()),
-        }
+        self.note(effect);
+        Ok(())
     }
 
     /// The line that was taken last waits in the open batch.

@@ -1,17 +1,19 @@
-use Rattle.std.proofs.Common.{◌∙◌, ap, sym, subst, ◌-◌, List, ℕ, take, drop}
-use Rattle.olr_sessions.specs.KeptLines.{AreLines}
-use Rattle.olr_sessions.proofs.Parts.{pair, added_waits}
+use Rattle.std.proofs.Common.{◌≡◌, ◌∙◌, ap, sym, subst, ◌++◌, List, ℕ, true, rules}
+use Rattle.csv.specs.Records.{fields_of}
+use Rattle.olr_sessions.specs.KeptLines.{AreLines, line_of, line_if, is_clean}
+use Rattle.std.specs.List.{join_with_byte}
+use Rattle.olr_sessions.proofs.KeptLines.{line_for}
+use Rattle.olr_sessions.proofs.Parts.{added_lines}
 use Rattle.olr_sessions.proofs.unkept.Unkept.add.Goals as goal
 
-pub invariant_of-self : goal.invariant_of-self
-invariant_of-self c =
+pub invariant_of-self-then-branch : goal.invariant_of-self-then-branch
+invariant_of-self-then-branch c =
     let u = c.args.self.now in
+    let fs = fields_of c.args.fields.now in
+    let clean : is_clean (join_with_byte 44 fs) ≡ true = search rules in
+    let items : c.add_line.new.text.items ≡ u.lines.items ++ line_of fs = search rules in
     record {
-      right = subst (λ (l : List ℕ). AreLines l u.ready u.held u.effect) (sym c.in_err-extend_from_slice.ensures.items) u.right;
+      right = subst (λ (l : List ℕ). AreLines l u.ready u.held c.args.effect) (sym items)
+          (added_lines u.lines.items u.ready u.held u.effect u.right c.args.effect (line_of fs) c.requires.none
+          (line_for c.args.effect fs c.requires.effect c.requires.kept clean));
     }
-
-pub returns-clause-waiting : goal.returns-clause-waiting
-returns-clause-waiting c =
-    let u = c.args.self.now in
-    ap (λ (l : List ℕ). pair (take u.ready l) (take (u.held - u.ready) (drop u.ready l))) c.in_ok-extend_from_slice.ensures.items
-    ∙ added_waits u.lines.items u.ready u.held u.effect u.right (take c.args.len c.deref.result.now) c.requires.none
