@@ -144,13 +144,6 @@ module _ (l : List ℕ) (r h : ℕ) (e : Effect) (a : AreLines l r h e) where
       subst (λ (x : List ℕ). AreLines (x ++ line) r h k) (full none)
       (lines_are (take h l ++ line) r h k _ _ line (with_line line) a.whole a.batch is)
 
-  pub added_waits : (line : List ℕ) → drop h l ≡ [] →
-      pair (take r (l ++ line)) (take (h - r) (drop r (l ++ line))) ≡ pair (take r l) (take (h - r) (drop r l))
-  added_waits line none =
-      let is = are (take h l ++ line) r h _ _ line (with_line line) in
-      subst (λ (x : List ℕ). pair (take r (x ++ line)) (take (h - r) (drop r (x ++ line))) ≡ pair (take r l) (take (h - r) (drop r l)))
-      (full none) (λ i. pair (is.ready i) (is.batch i))
-
   pub dropped_lines : AreLines (take r l) r r effect.Nothing
   dropped_lines =
       lines_are (take r l) r r effect.Nothing _ [] [] dropped a.whole (λ some. absurd (some refl))

@@ -183,7 +183,7 @@ pub struct Unkept {
 impl Unkept {
     ghost use Rattle.std.specs.Prelude.{not};
     ghost use Rattle.olr_sessions.specs.Journals.{IsFront, is_whole, is_empty};
-    ghost use Rattle.olr_sessions.specs.KeptLines.{IsLineFor, has_line, settled};
+    ghost use Rattle.olr_sessions.specs.KeptLines.{has_line, settled};
     ghost use Rattle.olr_sessions.specs.Unkept.{waiting, next_line, Opens, Closes};
 
     /// No lines. Takes no memory.

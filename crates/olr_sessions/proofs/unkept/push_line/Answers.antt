@@ -1,4 +1,4 @@
-use Rattle.std.proofs.Common.{◌≡◌, ◌∙◌, ◌<◌, ◌==◌, ◌++◌, ◌∷◌, [], List, ℕ, length, take, sym, ap, arith, vec_len, length-append}
+use Rattle.std.proofs.Common.{◌∙◌, ◌<◌, ◌==◌, ◌++◌, ◌∷◌, [], ℕ, length, take, sym, ap, arith, vec_len, length-append}
 use Rattle.std.specs.Prelude.{if◌then◌else◌}
 use Rattle.std.specs.List.{join_with_byte}
 use Rattle.csv.specs.Records.{fields_of}

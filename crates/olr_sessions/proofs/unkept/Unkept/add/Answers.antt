@@ -1,6 +1,6 @@
-use Rattle.std.proofs.Common.{◌≡◌, ◌∙◌, ap, sym, subst, ◌++◌, List, ℕ, true, rules}
+use Rattle.std.proofs.Common.{◌≡◌, sym, subst, ◌++◌, List, ℕ, true, rules}
 use Rattle.csv.specs.Records.{fields_of}
-use Rattle.olr_sessions.specs.KeptLines.{AreLines, line_of, line_if, is_clean}
+use Rattle.olr_sessions.specs.KeptLines.{AreLines, line_of, is_clean}
 use Rattle.std.specs.List.{join_with_byte}
 use Rattle.olr_sessions.proofs.KeptLines.{line_for}
 use Rattle.olr_sessions.proofs.Parts.{added_lines}
