@@ -2,7 +2,7 @@
 use Rattle.olr_run.proofs.Common.{Bor, fault_of, Registered, Opens, Ends, Claims, Known, records_read}
 use Rattle.olr_sessions.specs.Inputs.{read_as}
 use Rattle.olr_run.proofs.Common.{RanOn, FaultedOn, HasTooMany, exit_code, RunFault, Options, keep_app, options, IsFile}
-use Rattle.olr_run.proofs.Common.{OpensFile, Not_opened, Cut_off, known_file, IfErr}
+use Rattle.olr_run.proofs.Common.{OpensFile, Not_opened, Cut_off, file_bytes, IfErr}
 use Rattle.std.proofs.Common.{arith, ◌≡◌, ℕ, Bool, List, [], Option, Some, None, Result, Ok, Err, refl, sym, ap, ◌∙◌, ◌⊎◌, inl, inr}
 use Rattle.clap.specs.Kinds.{Kinds}
 use Rattle.clap.specs.Values.{kind_of}
@@ -12,12 +12,11 @@ use Rattle.olr_arguments.specs.Options.{IsOptionsFault}
 use Rattle.olr_arguments.specs.declared.arguments.OptionsFault.{OptionsFault}
 use Rattle.olr_arguments.specs.declared.arguments.OptionsFault.TheVariants.{Asked, Wrong, Memory}
 use Rattle.olr_sessions.specs.declared.ends.Status.{Status}
-use Rattle.olr_run.proofs.Common.{Keeps, Records}
+use Rattle.olr_run.proofs.Common.{Keeps, Records, EndedOn}
 use Rattle.olr_run.specs.Ends.{SendsAnswers}
 use Rattle.olr_run.specs.Output as output
 use Rattle.std.proofs.KnownBytes.{Appends-kept}
 use Rattle.std.specs.Fn.{Once}
-use Rattle.std.specs.Prelude.{IfOk}
 use Rattle.olr_run.specs.Ends.{Ran}
 use Rattle.olr_sessions.specs.declared.ends.RunFault.TheVariants as fault
 
@@ -66,7 +65,7 @@ ran_unsent stop old (Some rs) before new mid later end kept h = λ s represents.
 module _ {O F E : Type 0} (call : Once O (Bor (List ℕ) × Unit {0}) (Result F E)) (remaining : F → Known)
     (opener : O) where
   pub file_is : (name : Option (List ℕ)) (file : Option F) → OpensFile call opener name (Ok file) →
-      IsFile name (Opens call remaining opener) (known_file remaining file)
+      IsFile name (Opens call remaining opener) (file_bytes remaining file)
   file_is None None h = refl
   file_is None (Some f) h = absurd h
   file_is (Some n) None h = absurd h
@@ -86,26 +85,25 @@ module _ {O F E : Type 0} (call : Once O (Bor (List ℕ) × Unit {0}) (Result F 
         Not_opened none n.0 (ap (λ (p : Options). p.file) (sym is) ∙ n.1) n.2 refl refl refl
 
     opened : (file : Option F) → OpensFile call opener o.file (Ok file) →
-        IsFile (options arguments).file (Opens call remaining opener) (known_file remaining file)
+        IsFile (options arguments).file (Opens call remaining opener) (file_bytes remaining file)
     opened file h = grind (arith, file_is)
 
     pub ended_as : (file : Option F) (new : Registered) (mid later : Known) (r end : Result Status RunFault) (code : ℕ) →
         OpensFile call opener o.file (Ok file)
-        → IfOk r (RanOn Claims o.stop old (records_read o.lines (known_file remaining file) input) before new mid)
-        → IfErr r (FaultedOn Claims o.stop old (records_read o.lines (known_file remaining file) input) before new mid)
+        → EndedOn Claims Claims o.stop old (records_read o.lines (file_bytes remaining file) input) before new mid r
         → IfErr r (λ e. e ≡ fault.TooMany
-        → HasTooMany (read_as o.lines (known_file remaining file)) ⊎ HasTooMany (read_as o.lines input))
+        → HasTooMany (read_as o.lines (file_bytes remaining file)) ⊎ HasTooMany (read_as o.lines input))
         → SendsAnswers r mid later end
         → code ≡ exit_code end → Ends arguments (Opens call remaining opener) input old before new later code
-    ended_as file new mid later (Ok end) r code h run _ _ (kept, inl same) status =
-        Ran none (known_file remaining file) (opened file h) end
+    ended_as file new mid later (Ok end) r code h run _ (kept, inl same) status =
+        Ran none (file_bytes remaining file) (opened file h) end
         (ran_sent (options arguments).stop old _ before new mid later end kept (rw is at run)) (status ∙ ap exit_code same)
-    ended_as file new mid later (Ok end) r code h run _ _ (kept, inr unsent) status =
-        Cut_off none (known_file remaining file) (opened file h) fault.Write
+    ended_as file new mid later (Ok end) r code h run _ (kept, inr unsent) status =
+        Cut_off none (file_bytes remaining file) (opened file h) fault.Write
         (ran_unsent (options arguments).stop old _ before new mid later end kept (rw is at run))
         (λ many. let never : fault.Write ≡ fault.TooMany = many in cc) (status ∙ ap exit_code unsent.1)
-    ended_as file new mid later (Err e) r code h _ run many (kept, inl same) status =
-        Cut_off none (known_file remaining file) (opened file h) e
+    ended_as file new mid later (Err e) r code h run many (kept, inl same) status =
+        Cut_off none (file_bytes remaining file) (opened file h) e
         (faulted_sent (options arguments).stop old _ before new mid later e kept (rw is at run)) (rw is at many)
         (status ∙ ap exit_code same)
-    ended_as file new mid later (Err e) r code h _ run many (kept, inr unsent) status = absurd (let never = unsent.0 in cc)
+    ended_as file new mid later (Err e) r code h run many (kept, inr unsent) status = absurd (let never = unsent.0 in cc)

@@ -1,6 +1,6 @@
 -- A run from a log in a file, from the contracts of its parts.
 use Rattle.olr_run.proofs.Common.{IfErr, Outcome, Field, Known, Records, RanOn, FaultedOn, RunFault, Registered}
-use Rattle.olr_run.proofs.Common.{Represents, exit_code, is_ok}
+use Rattle.olr_run.proofs.Common.{Represents, exit_code, is_ok, EndedOn}
 use Rattle.std.proofs.Common.{◌≡◌, ◌∙◌, ◌⊎◌, ℕ, Bool, true, false, List, Some, None, inl, inr, refl, sym, subst}
 use Rattle.std.specs.Prelude.{IfOk, OnOk, OnErr, Result, Ok, Err, IsTrue}
 use Rattle.sqlite_disk.specs.declared.Disk as disk
@@ -169,17 +169,15 @@ module _ {D F : Type 0} {d : disk.Ghosts D} {f : folder.Ghosts F D} where
       (g : Gate (LogFile D F d f)) (r : Result Status RunFault)
       (cut : (t : List ℕ) → left_of last t → left_of g.journal t ⊎ (IsTrue (is_ok r) × (t ≡ kept_of g.journal)))
       (stop : Bool) (old new : Registered) (records : Records) (code : ℕ) → Begins log read start old
-      → IfOk r (RanOn (LastsWhole kept_of left_of contents start o g p) stop old records (written contents o) new
-      (written contents p))
-      → IfErr r (FaultedOn (LastsCut kept_of left_of contents start o g p) stop old records (written contents o) new
-      (written contents p))
+      → EndedOn (LastsWhole kept_of left_of contents start o g p) (LastsCut kept_of left_of contents start o g p) stop old
+      records (written contents o) new (written contents p) r
       → IfOk r (λ status. (code ≡ exit_code (Ok status)) ⊎ (code ≡ 6))
       → IfErr r (λ e. code ≡ exit_code (Err e)) → FromLog contents log last stop records o p code
-  ended_from contents log read start last o p g (Ok end) cut stop old new records code begins ran faulted status fault =
+  ended_from contents log read start last o p g (Ok end) cut stop old new records code begins run status fault =
       Ran read start old new begins end
       (ran_each _ _ (whole_closed contents start last o p g (Ok end) cut) stop old records (written contents o) new
-      (written contents p) end ran) status
-  ended_from contents log read start last o p g (Err e) cut stop old new records code begins ran faulted status fault =
+      (written contents p) end run) status
+  ended_from contents log read start last o p g (Err e) cut stop old new records code begins run status fault =
       Cut_off read start old new begins e
       (faulted_each _ _ (cut_closed contents start last o p g (Err e) cut e refl) stop old records (written contents o) new
-      (written contents p) e faulted) fault
+      (written contents p) e run) fault

@@ -2,10 +2,10 @@
 use Rattle.olr_run.proofs.Common.{◌&&◌, IsFalse, IfErr, append-nil, append_assoc, length-map, Appends, Reader, Outcome}
 use Rattle.olr_run.proofs.Common.{run_longer, Field, outcome_text, Registered, SoundOutcome, Claims, texts, records_of}
 use Rattle.olr_run.proofs.Common.{Known, Event, Took, Ended, Not_taken, Not_sent, Wrote, Cut, History, exchanges}
-use Rattle.olr_run.proofs.Common.{IsPlain, Keeps, IfSome, Represents}
+use Rattle.olr_run.proofs.Common.{IsPlain, Keeps, IfSome, Represents, EndedOn}
 use Rattle.olr_run.specs.Output.{StopsAtFault}
 use Rattle.olr_commands.specs.State.{State}
-use Rattle.olr_run.proofs.Common.{CsvHappens, IsOfTaking, known_records, RanOn, FaultedOn, HasTooMany, RanIn, CutIn}
+use Rattle.olr_run.proofs.Common.{CsvHappens, IsOfTaking, input_records, RanOn, FaultedOn, HasTooMany, RanIn, CutIn}
 use Rattle.olr_run.proofs.Common.{Past_the_most, In_text, AnsweredOn, status_of, RunFault, next_record, flat_map-map}
 use Rattle.std.proofs.Common.{◌≡◌, ◌≢◌, ◌∙◌, ℕ, Bool, List, [], ◌∷◌, ◌++◌, length, map, None, Some, inl, inr, refl}
 use Rattle.std.proofs.Common.{sym, ap, subst, arith, length-append}
@@ -374,20 +374,18 @@ module _ {S R : Type 0} (remaining : R → Known) (reader : S → Reader R) (con
   pub on_known_as : (known : Known) (r : Result Status RunFault) → IsContent old.kept.content →
       Starts remaining (reader a) known → GivesWhole known r → GivesPart known r → IfOk r (RanIn happens stop old a new b)
       → IfErr r (CutIn happens stop old a new b)
-      → IfOk r (RanOn Whole stop old (known_records known) (contents a) new (contents b))
-      × IfErr r (FaultedOn Part stop old (known_records known) (contents a) new (contents b))
+      → EndedOn Whole Part stop old (input_records known) (contents a) new (contents b) r
       × IfErr r (λ e. e ≡ fault.TooMany → HasTooMany known)
   on_known_as (Some input) (Ok end) base starts whole part h k =
       let start = started remaining reader contents happens seen a input starts in
-      (ran_on remaining reader contents happens seen a input stop old new b base start Whole end h (whole h), tt, tt)
+      (ran_on remaining reader contents happens seen a input stop old new b base start Whole end h (whole h), tt)
   on_known_as (Some input) (Err e) base starts whole part h k =
       let start = started remaining reader contents happens seen a input starts in (
-        tt,
         cut_on remaining reader contents happens seen a input stop old new b base start Part e k (part k),
         too_many remaining reader contents happens seen a input stop old new b base start Part e k,
       )
-  on_known_as None (Ok end) base starts whole part h k = (tt, tt, tt)
-  on_known_as None (Err e) base starts whole part h k = (tt, tt, λ is. tt)
+  on_known_as None (Ok end) base starts whole part h k = (tt, tt)
+  on_known_as None (Err e) base starts whole part h k = (tt, λ is. tt)
 
 all_gives : (all rs : List (List Field)) (ws : List (List ℕ)) (ds : List (Option (List ℕ))) → Gives Claims all rs ws ds
 all_gives all rs ws ds s t rest os e claims run texts = claims
@@ -399,8 +397,7 @@ pub on_known : {S R : Type 0} (remaining : R → Known) (reader : S → Reader R
     (a b : S) (known : Known) (r : Result Status RunFault) → IsContent old.kept.content →
     Starts remaining (reader a) known → IfOk r (RanIn happens stop old a new b) →
     IfErr r (CutIn happens stop old a new b)
-    → IfOk r (RanOn Claims stop old (known_records known) (contents a) new (contents b))
-    × IfErr r (FaultedOn Claims stop old (known_records known) (contents a) new (contents b))
+    → EndedOn Claims Claims stop old (input_records known) (contents a) new (contents b) r
     × IfErr r (λ e. e ≡ fault.TooMany → HasTooMany known)
 on_known remaining reader contents happens seen stop old new a b known r base starts h k =
     on_known_as remaining reader contents happens seen Claims Claims stop old new a b known r base starts (wholes known r)
@@ -422,7 +419,7 @@ on_known remaining reader contents happens seen stop old new a b known r base st
 
 -- a run that lacked memory before it began
 pub cut_at_first : (stop : Bool) (old : Registered) (before known : Known) (e : RunFault) → IsContent old.kept.content →
-    e ≡ fault.Memory → FaultedOn Claims stop old (known_records known) before old before e
+    e ≡ fault.Memory → FaultedOn Claims stop old (input_records known) before old before e
 cut_at_first stop old before None e base memory = tt
 cut_at_first stop old before (Some input) e base memory = λ s represents. (
   s,

@@ -1,7 +1,7 @@
 -- Two runs on one register are one run over the records of both.
 use Rattle.olr_run.proofs.Common.{◌&&◌, append_assoc, list_any-append, Outcome, run_longer}
 use Rattle.olr_run.proofs.Common.{Field, outcome_text, Registered, SoundOutcome, Claims, AreAnswered, texts, In_last}
-use Rattle.olr_run.proofs.Common.{Known, known_records, known_both, status_of, RanOn, FaultedOn, RunFault, cases_Bool}
+use Rattle.olr_run.proofs.Common.{Known, input_records, joined_records, status_of, RanOn, FaultedOn, RunFault, cases_Bool}
 use Rattle.olr_run.proofs.Common.{or_from, or_right, csv_on_literals, run_join, Records}
 use Rattle.std.proofs.Common.{arith, ◌≡◌, ◌∙◌, ◌≢◌, ℕ, Bool, true, false, List, [], ◌++◌, length}
 use Rattle.std.proofs.Common.{length-append, Some, inl, inr, refl, sym, ap}
@@ -17,7 +17,7 @@ use Rattle.olr_sessions.specs.declared.ends.Status.TheVariants as status
 
 -- no bytes have no records
 pub no_file : (stop : Bool) (old : Registered) (before : Known) → IsContent old.kept.content →
-    RanOn Claims stop old (known_records (Some [])) before old before status.AllAccepted
+    RanOn Claims stop old (input_records (Some [])) before old before status.AllAccepted
 unfolding csv_on_literals
 no_file stop old before base s represents = (
   s,
@@ -111,7 +111,7 @@ module _ (First Second All : State → List (List Field) → List Outcome → St
   pub both_stopped_as : Longer First All → (stop : Bool) (old mid : Registered) (first second : Records)
       (before later : Known) (p : Status) → IsContent old.kept.content → RanOn First stop old first before mid later p →
       p ≡ status.Stopped
-      → RanOn All stop old (known_both first second) before mid later p
+      → RanOn All stop old (joined_records first second) before mid later p
   both_stopped_as more stop old mid (Some rs) (Some ms) before later p base h e =
       λ s represents.
       let r = h s represents in
@@ -126,7 +126,7 @@ module _ (First Second All : State → List (List Field) → List Outcome → St
   pub both_faulted_first_as : Longer First All → (stop : Bool) (old mid : Registered) (first second : Records)
       (before later : Known) (e : RunFault) → IsContent old.kept.content →
       FaultedOn First stop old first before mid later e
-      → FaultedOn All stop old (known_both first second) before mid later e
+      → FaultedOn All stop old (joined_records first second) before mid later e
   both_faulted_first_as more stop old mid (Some rs) (Some ms) before later e base h =
       λ s represents.
       let r = h s represents in
@@ -152,7 +152,7 @@ module _ (First Second All : State → List (List Field) → List Outcome → St
       (before now later : Known) (p q end : Status) → IsContent old.kept.content →
       RanOn First stop old first before mid now p → p ≢ status.Stopped
       → RanOn Second stop mid second now new later q → status_of end ≡ greater (status_of p) (status_of q) →
-      RanOn All stop old (known_both first second) before new later end
+      RanOn All stop old (joined_records first second) before new later end
   both_ran_as join stop old mid new (Some rs) (Some ms) before now later p q end base h n k e =
       λ s represents.
       let a = h s represents in
@@ -181,7 +181,7 @@ module _ (First Second All : State → List (List Field) → List Outcome → St
       (before now later : Known) (p : Status) (e : RunFault) → IsContent old.kept.content →
       RanOn First stop old first before mid now p
       → p ≢ status.Stopped → FaultedOn Second stop mid second now new later e →
-      FaultedOn All stop old (known_both first second) before new later e
+      FaultedOn All stop old (joined_records first second) before new later e
   both_faulted_second_as join stop old mid new (Some rs) (Some ms) before now later p e base h n k =
       λ s represents.
       let a = h s represents in

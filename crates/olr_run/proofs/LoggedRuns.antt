@@ -37,12 +37,12 @@ use Rattle.olr_commands.specs.State.{Change, IsContent}
 use Rattle.std.proofs.KnownBytes.{Appends-kept}
 use Rattle.std.specs.Prelude.{Option, Result}
 use Rattle.olr_run.proofs.Common.{Records}
-use Rattle.olr_run.proofs.Common.{RanOn, FaultedOn, known_records, csv_on_literals}
+use Rattle.olr_run.proofs.Common.{RanOn, FaultedOn, input_records, csv_on_literals}
 use Rattle.olr_run.specs.Logs.{LogsOn, LogsUpTo}
 use Rattle.olr_run.specs.Output as output
 use Rattle.olr_run.proofs.Joining.{Longer, Joins, longer, joined_claims, both_stopped_as, both_ran_as}
 use Rattle.olr_run.proofs.Joining.{both_faulted_first_as, both_faulted_second_as}
-use Rattle.olr_run.proofs.Common.{known_both, status_of}
+use Rattle.olr_run.proofs.Common.{EndedOn, joined_records, status_of}
 use Rattle.olr_run.proofs.RunLemmas.{claims_of}
 use Rattle.olr_run.proofs.Running.{represented}
 use Rattle.olr_sessions.specs.declared.ends.RunFault.TheVariants as fault
@@ -292,10 +292,7 @@ module _ {R W J : Type 0} (remaining : Lines R → Known) (contents : W → Know
   both_known : (known : Known) (r : Result Status RunFault) → IsContent old.kept.content →
       Starts remaining a.0.reader known → IfOk r (RanIn (Happens remaining contents kept may_leave) stop old a new b)
       → IfErr r (CutIn (Happens remaining contents kept may_leave) stop old a new b)
-      → IfOk r (RanOn (LogsOn kept may_leave contents a.0.gate a.1 b.0.gate b.1) stop old (known_records known)
-      (written contents a.1) new (written contents b.1))
-      × IfErr r (FaultedOn (LogsUpTo kept may_leave contents a.0.gate a.1 b.0.gate b.1) stop old (known_records known)
-      (written contents a.1) new (written contents b.1))
+      → EndedOn Whole Part stop old (input_records known) (written contents a.1) new (written contents b.1) r
       × IfErr r (λ e. e ≡ fault.TooMany → HasTooMany known)
   both_known known r base starts h k =
       on_known_as remaining (reader_of remaining contents kept may_leave) (written_of remaining contents kept may_leave)
@@ -305,17 +302,13 @@ module _ {R W J : Type 0} (remaining : Lines R → Known) (contents : W → Know
   pub log_known : (known : Known) (r : Result Status RunFault) (g h : Gate J) → IsContent old.kept.content →
       Starts remaining a.0.reader known → a.0.gate ≡ g → h ≡ b.0.gate → IfOk r (RanIn (Happens remaining contents kept may_leave) stop old a new b)
       → IfErr r (CutIn (Happens remaining contents kept may_leave) stop old a new b)
-      → IfOk r (RanOn (LogsOn kept may_leave contents g a.1 h b.1) stop old (known_records known)
-      (written contents a.1) new (written contents b.1))
-      × IfErr r (FaultedOn (LogsUpTo kept may_leave contents g a.1 h b.1) stop old (known_records known)
-      (written contents a.1) new (written contents b.1))
+      → EndedOn (LogsOn kept may_leave contents g a.1 h b.1) (LogsUpTo kept may_leave contents g a.1 h b.1) stop old
+      (input_records known) (written contents a.1) new (written contents b.1) r
       × IfErr r (λ e. e ≡ fault.TooMany → HasTooMany known)
   log_known known r g h base starts first last ran cut =
       subst (λ (x : Gate J × Gate J).
-      IfOk r (RanOn (LogsOn kept may_leave contents x.0 a.1 x.1 b.1) stop old (known_records known)
-      (written contents a.1) new (written contents b.1))
-      × IfErr r (FaultedOn (LogsUpTo kept may_leave contents x.0 a.1 x.1 b.1) stop old (known_records known)
-      (written contents a.1) new (written contents b.1))
+      EndedOn (LogsOn kept may_leave contents x.0 a.1 x.1 b.1) (LogsUpTo kept may_leave contents x.0 a.1 x.1 b.1) stop old
+      (input_records known) (written contents a.1) new (written contents b.1) r
       × IfErr r (λ e. e ≡ fault.TooMany → HasTooMany known)) (λ n. (first n, sym last n)) (both_known known r base starts ran cut)
 
 -- ---- two runs
@@ -379,8 +372,9 @@ module _ {J W : Type 0} (kept : J → List ℕ) (may_leave : J → List ℕ → 
   -- the ends of both
   pub both_cut_first : (g h : Gate J) (o p : Buffered W) (stop : Bool) (old mid : Registered) (first second : Records)
       (before now : Known) (e : RunFault) (r : Result Status RunFault) → IsContent old.kept.content → r ≡ Err e
-      → IfErr r (FaultedOn (LogsUpTo kept may_leave contents g o h p) stop old first before mid now)
-      → FaultedOn (LogsUpTo kept may_leave contents g o h p) stop old (known_both first second) before mid now e
+      → EndedOn (LogsOn kept may_leave contents g o h p) (LogsUpTo kept may_leave contents g o h p) stop old first before
+      mid now r
+      → FaultedOn (LogsUpTo kept may_leave contents g o h p) stop old (joined_records first second) before mid now e
   both_cut_first g h o p stop old mid first second before now e r base is f =
       both_faulted_first_as (LogsUpTo kept may_leave contents g o h p) (LogsUpTo kept may_leave contents g o h p)
       (LogsUpTo kept may_leave contents g o h p) (ends_longer g h o p) stop old mid first second before now e base
@@ -389,8 +383,9 @@ module _ {J W : Type 0} (kept : J → List ℕ) (may_leave : J → List ℕ → 
   pub both_stopped_first : (g h : Gate J) (o p : Buffered W) (stop : Bool) (old mid : Registered) (first second : Records)
       (before now : Known) (end : Status) (r : Result Status RunFault) → IsContent old.kept.content → r ≡ Ok end →
       end ≡ ended.Stopped
-      → IfOk r (RanOn (LogsOn kept may_leave contents g o h p) stop old first before mid now)
-      → RanOn (LogsOn kept may_leave contents g o h p) stop old (known_both first second) before mid now end
+      → EndedOn (LogsOn kept may_leave contents g o h p) (LogsUpTo kept may_leave contents g o h p) stop old first before
+      mid now r
+      → RanOn (LogsOn kept may_leave contents g o h p) stop old (joined_records first second) before mid now end
   both_stopped_first g h o p stop old mid first second before now end r base is stopped f =
       both_stopped_as (LogsOn kept may_leave contents g o h p) (LogsOn kept may_leave contents g o h p)
       (LogsOn kept may_leave contents g o h p) (goes_longer g h o p) stop old mid first second before now end base
@@ -399,18 +394,21 @@ module _ {J W : Type 0} (kept : J → List ℕ) (may_leave : J → List ℕ → 
   module _ (g h i : Gate J) (o p q : Buffered W) (stop : Bool) (old mid new : Registered) (first second : Records)
       (before now later : Known) (one : Status) (r s : Result Status RunFault) (base : IsContent old.kept.content)
       (is : r ≡ Ok one) (goes : one ≢ ended.Stopped)
-      (f : IfOk r (RanOn (LogsOn kept may_leave contents g o h p) stop old first before mid now)) where
+      (f : EndedOn (LogsOn kept may_leave contents g o h p) (LogsUpTo kept may_leave contents g o h p) stop old first before
+      mid now r) where
     pub both_went : (two end : Status) → s ≡ Ok two → status_of end ≡ output.greater (status_of one) (status_of two)
-        → IfOk s (RanOn (LogsOn kept may_leave contents h p i q) stop mid second now new later)
-        → RanOn (LogsOn kept may_leave contents g o i q) stop old (known_both first second) before new later end
+        → EndedOn (LogsOn kept may_leave contents h p i q) (LogsUpTo kept may_leave contents h p i q) stop mid second now new
+        later s
+        → RanOn (LogsOn kept may_leave contents g o i q) stop old (joined_records first second) before new later end
     both_went two end same status k =
         both_ran_as (LogsOn kept may_leave contents g o h p) (LogsOn kept may_leave contents h p i q)
         (LogsOn kept may_leave contents g o i q) (goes_joined g h i o p q) stop old mid new first second before now later
         one two end base (rw is at f) goes (rw same at k) status
 
     pub both_cut_second : (e : RunFault) → s ≡ Err e
-        → IfErr s (FaultedOn (LogsUpTo kept may_leave contents h p i q) stop mid second now new later)
-        → FaultedOn (LogsUpTo kept may_leave contents g o i q) stop old (known_both first second) before new later e
+        → EndedOn (LogsOn kept may_leave contents h p i q) (LogsUpTo kept may_leave contents h p i q) stop mid second now new
+        later s
+        → FaultedOn (LogsUpTo kept may_leave contents g o i q) stop old (joined_records first second) before new later e
     both_cut_second e same k =
         both_faulted_second_as (LogsOn kept may_leave contents g o h p) (LogsUpTo kept may_leave contents h p i q)
         (LogsUpTo kept may_leave contents g o i q) (ends_joined g h i o p q) stop old mid new first second before now later
@@ -422,7 +420,7 @@ module _ {J W : Type 0} (kept : J → List ℕ) (may_leave : J → List ℕ → 
 
   pub none_logged : (g : Gate J) (o : Buffered W) (stop : Bool) (old : Registered) (before : Known) →
       IsContent old.kept.content →
-      RanOn (LogsOn kept may_leave contents g o g o) stop old (known_records (Some [])) before old before ended.AllAccepted
+      RanOn (LogsOn kept may_leave contents g o g o) stop old (input_records (Some [])) before old before ended.AllAccepted
   unfolding csv_on_literals
   none_logged g o stop old before base s represents = (
     s,
@@ -442,7 +440,7 @@ module _ {J W : Type 0} (kept : J → List ℕ) (may_leave : J → List ℕ → 
   -- out of memory before the first record
   pub cut_logged : (g : Gate J) (o : Buffered W) (stop : Bool) (old : Registered) (before known : Known) (e : RunFault) →
       IsContent old.kept.content → e ≡ fault.Memory
-      → FaultedOn (LogsUpTo kept may_leave contents g o g o) stop old (known_records known) before old before e
+      → FaultedOn (LogsUpTo kept may_leave contents g o g o) stop old (input_records known) before old before e
   cut_logged g o stop old before None e base memory = tt
   cut_logged g o stop old before (Some input) e base memory = λ s represents. (
     s,

@@ -1,5 +1,5 @@
 -- Both inputs of a run, as they are read.
-use Rattle.olr_run.proofs.Common.{Known, Records, known_both, known_records, records_read, exit_code}
+use Rattle.olr_run.proofs.Common.{Known, Records, both_records, records_read, exit_code}
 use Rattle.std.proofs.Common.{◌≡◌, ℕ, Bool, true, false, [], Some, Err, refl, arith}
 use Rattle.sqlite_disk.specs.declared.Disk as disk
 use Rattle.olr_journal.specs.declared.folder.Folder as folder
@@ -20,8 +20,8 @@ nothing_read false = refl
 -- the records of both
 pub both_read : (single : Bool) (file input file_read input_read : Known) → file_read ≡ read_as single file →
     input_read ≡ read_as single input
-    → known_both (known_records file_read) (known_records input_read) ≡ records_read single file input
-both_read single file input file_read input_read e f = λ i. known_both (known_records (e i)) (known_records (f i))
+    → both_records file_read input_read ≡ records_read single file input
+both_read single file input file_read input_read e f = λ i. both_records (e i) (f i)
 
 -- there was no memory to read them
 pub not_read : {D F : Type 0} {d : disk.Ghosts D} {f : folder.Ghosts F D} {W : Type 0} (contents : W → Known)

@@ -4,7 +4,7 @@ use Rattle.olr_run.proofs.Common.{list_any-append, Outcome, Field, outcome_text,
 use Rattle.olr_run.proofs.Common.{SoundOutcomes, most_records, Event, Took, Ended, Not_taken, Not_sent, Wrote, Cut, History}
 use Rattle.olr_run.specs.Runs as runs
 use Rattle.olr_run.proofs.Common.{exchanges, IsOfTaking, status_of, AnsweredOn, RanIn, CutIn, Past_the_most, In_text}
-use Rattle.olr_run.proofs.Common.{RunFault, IsErrAnd, run_more, AnswersRecord, last_events, map-append}
+use Rattle.olr_run.proofs.Common.{RunFault, IsErrAnd, run_more, AnswersRecord, last_events, map-append, Records, Known, FaultedOn, EndedOn}
 use Rattle.std.proofs.Common.{arith, ◌≡◌, ◌∙◌, ◌+◌, ℕ, Bool, true, false, not, List, [], ◌∷◌, ◌++◌, length, map, Option, Some, None, Ok}
 use Rattle.std.proofs.Common.{◌⊎◌, Err, Result, inl, inr, refl, sym, ap, subst, length-append}
 use Rattle.olr_commands.specs.State.{IsContent, State}
@@ -292,3 +292,11 @@ module _ {S : Type 0} (happens : S → Event → S → Type 0) (stop : Bool) (ol
 pub passed_on : {T : Type 0} (r : Result T RunFault) (e : RunFault) (P : RunFault → Type 0) → IsErrAnd r (λ x. x ≡ e) →
     P e → IfErr r P
 passed_on r e P is h = grind arith
+
+pub cut_by : (Whole Part : State → List (List Field) → List Outcome → State → Type 0) (stop : Bool) (old : Registered)
+    (records : Records) (before : Known) (new : Registered) (later : Known) (r : Result Status RunFault) (e : RunFault)
+    → IsErrAnd r (λ x. x ≡ e) → FaultedOn Part stop old records before new later e
+    → EndedOn Whole Part stop old records before new later r
+cut_by Whole Part stop old records before new later (Ok end) e is h = absurd is
+cut_by Whole Part stop old records before new later (Err f) e is h =
+    subst (λ (x : RunFault). FaultedOn Part stop old records before new later x) (sym is) h

@@ -3,10 +3,10 @@
 --     AnswersRecord      the same, and its text was written
 --     IsRenewal t renewal      no records were given, or those of the content
 --     RanIn, CutIn      a run in a session: each record was taken and answered before the next
---     known_records known      the records of known bytes
---     known_both      those of a file followed by those of the input
+--     input_records known      the records of known bytes
+--     both_records file input      those of a file followed by those of the input
 --     records_read single file input      those of both inputs, read as they are or one record a line
---     RanOn, FaultedOn      a run over known records
+--     RanOn, FaultedOn, EndedOn      a run over known records
 use Rattle.std.specs.Prelude.{◌≡◌, ◌≢◌, ℕ, ◌<◌, Bool, ◌&&◌, List, [], ◌∷◌, ◌++◌, length, map, Option, Some, None}
 use Rattle.std.specs.Prelude.{option_map, Result, Ok, Err, IfSome, is_ok, IsFalse, ◌⊎◌, ⊤}
 use Rattle.std.specs.Io.KnownBytes.{Appends}
@@ -168,17 +168,17 @@ pub data CutIn {S : Type 0} (happens : S → Event → S → Type 0) (stop : Boo
 abbrev pub Records : Type 0
 Records = Option (List (List Field))
 
-abbrev pub known_records : Known → Records
-known_records known = option_map records_of known
+abbrev pub input_records : Known → Records
+input_records known = option_map records_of known
 
 -- the bytes of a file, or no bytes if there is no file
-abbrev pub known_file : {F : Type 0} → (F → Known) → Option F → Known
-known_file remaining file = option_map_or remaining file (Some [])
+abbrev pub file_bytes : {F : Type 0} → (F → Known) → Option F → Known
+file_bytes remaining file = option_map_or remaining file (Some [])
 
-abbrev pub known_both : Records → Records → Records
-known_both None second = None
-known_both (Some rs) None = None
-known_both (Some rs) (Some qs) = Some (rs ++ qs)
+abbrev pub joined_records : Records → Records → Records
+joined_records None second = None
+joined_records (Some rs) None = None
+joined_records (Some rs) (Some qs) = Some (rs ++ qs)
 
 -- from each state that the register represented, a whole run leads to a state that it represents
 abbrev pub RanOn : (State → List (List Field) → List Outcome → State → Type 0) → Bool → Registered → Records → Known →
@@ -196,8 +196,17 @@ FaultedOn Each stop old records before new later e =
     → (t : State) × Represents new.kept t × (written : List ℕ) × Appends before later written
     × Faulted Each stop s rs t written e)
 
+-- the end of a run: whole, or cut off
+abbrev pub EndedOn : (Whole Part : State → List (List Field) → List Outcome → State → Type 0) → Bool → Registered →
+    Records → Known → Registered → Known → Result Status RunFault → Type 0
+EndedOn Whole Part stop old records before new later (Ok end) = RanOn Whole stop old records before new later end
+EndedOn Whole Part stop old records before new later (Err e) = FaultedOn Part stop old records before new later e
+
+abbrev pub both_records : Known → Known → Records
+both_records file input = joined_records (input_records file) (input_records input)
+
 abbrev pub records_read : Bool → Known → Known → Records
-records_read single file input = known_both (known_records (read_as single file)) (known_records (read_as single input))
+records_read single file input = both_records (read_as single file) (read_as single input)
 
 abbrev pub HasTooMany : Known → Type 0
 HasTooMany known = IfSome known (λ input. most_records < length (records_of input))

@@ -2,8 +2,7 @@
 
 ghost use Rattle.std.specs.Prelude.{◌≡◌, ◌⊎◌, IfOk, IfErr};
 ghost use Rattle.olr_run.specs.Output.{greater, Claims};
-ghost use Rattle.olr_run.specs.Runs.{known_file, known_records, known_both, records_read, status_of, RanOn, FaultedOn};
-ghost use Rattle.olr_run.specs.Runs.{HasTooMany};
+ghost use Rattle.olr_run.specs.Runs.{both_records, file_bytes, input_records, records_read, status_of, EndedOn, HasTooMany};
 ghost use Rattle.olr_sessions.specs.Inputs.{read_as, read_from};
 
 use crate::records::run;
@@ -33,12 +32,9 @@ fn run_file<F: Read + Drop, W: Write>(
     output: &mut W,
     stop: bool,
 ) -> Result<Status, RunFault>
-    ensures ran { IfOk result (RanOn Claims stop register.old (known_records (known_file F.remaining file))
-        (W.contents output.old) register.new (W.contents output.new)) }
-    ensures faulted { IfErr result
-        (FaultedOn Claims stop register.old (known_records (known_file F.remaining file))
-        (W.contents output.old) register.new (W.contents output.new)) }
-    ensures too_many { IfErr result (λ e. e ≡ RunFault.TooMany → HasTooMany (known_file F.remaining file)) }
+    ensures ended { EndedOn Claims Claims stop register.old (input_records (file_bytes F.remaining file))
+        (W.contents output.old) register.new (W.contents output.new) result }
+    ensures too_many { IfErr result (λ e. e ≡ RunFault.TooMany → HasTooMany (file_bytes F.remaining file)) }
 {
     register.is_sound();
     match file {
@@ -58,14 +54,11 @@ pub fn run_both<F: Read + Drop, R: Read + Drop, W: Write>(
     output: &mut W,
     stop: bool,
 ) -> Result<Status, RunFault>
-    ensures ran { IfOk result (RanOn Claims stop register.old
-        (known_both (known_records (known_file F.remaining file)) (known_records (R.remaining input)))
-        (W.contents output.old) register.new (W.contents output.new)) }
-    ensures faulted { IfErr result (FaultedOn Claims stop register.old
-        (known_both (known_records (known_file F.remaining file)) (known_records (R.remaining input)))
-        (W.contents output.old) register.new (W.contents output.new)) }
+    ensures ended { EndedOn Claims Claims stop register.old
+        (both_records (file_bytes F.remaining file) (R.remaining input)) (W.contents output.old) register.new
+        (W.contents output.new) result }
     ensures too_many { IfErr result (λ e. e ≡ RunFault.TooMany
-        → HasTooMany (known_file F.remaining file) ⊎ HasTooMany (R.remaining input)) }
+        → HasTooMany (file_bytes F.remaining file) ⊎ HasTooMany (R.remaining input)) }
 {
     register.is_sound();
     let first = run_file(alloc, register, file, output, stop)?;
@@ -82,7 +75,7 @@ fn read_file<F: Read + Drop>(
     file: Option<F>,
     single: bool,
 ) -> Result<Option<Input<F>>, AllocError>
-    ensures { IfOk result (λ f. known_file (read_from F.remaining) f ≡ read_as single (known_file F.remaining file)) }
+    ensures { IfOk result (λ f. file_bytes (read_from F.remaining) f ≡ read_as single (file_bytes F.remaining file)) }
 {
     match file {
         Some(file) => Ok(Some(Input::new(alloc, file, single)?)),
@@ -98,7 +91,7 @@ pub(crate) fn read_inputs<F: Read + Drop, R: Read + Drop>(
     single: bool,
 ) -> Result<(Option<Input<F>>, Input<R>), AllocError>
     ensures file { IfOk result (λ r.
-        known_file (read_from F.remaining) r.0 ≡ read_as single (known_file F.remaining file)) }
+        file_bytes (read_from F.remaining) r.0 ≡ read_as single (file_bytes F.remaining file)) }
     ensures input { IfOk result (λ r. read_from R.remaining r.1 ≡ read_as single (R.remaining input)) }
 {
     let file = read_file(alloc, file, single)?;
@@ -116,14 +109,11 @@ pub(crate) fn run_inputs<F: Read + Drop, R: Read + Drop, W: Write>(
     output: &mut W,
     asked: &Options<'_>,
 ) -> Result<Status, RunFault>
-    ensures ran { IfOk result (RanOn Claims asked.now.stop register.old
-        (records_read asked.now.lines (known_file F.remaining file) (R.remaining input))
-        (W.contents output.old) register.new (W.contents output.new)) }
-    ensures faulted { IfErr result (FaultedOn Claims asked.now.stop register.old
-        (records_read asked.now.lines (known_file F.remaining file) (R.remaining input))
-        (W.contents output.old) register.new (W.contents output.new)) }
+    ensures ended { EndedOn Claims Claims asked.now.stop register.old
+        (records_read asked.now.lines (file_bytes F.remaining file) (R.remaining input)) (W.contents output.old)
+        register.new (W.contents output.new) result }
     ensures too_many { IfErr result (λ e. e ≡ RunFault.TooMany → HasTooMany
-        (read_as asked.now.lines (known_file F.remaining file)) ⊎ HasTooMany (read_as asked.now.lines (R.remaining input))) }
+        (read_as asked.now.lines (file_bytes F.remaining file)) ⊎ HasTooMany (read_as asked.now.lines (R.remaining input))) }
 {
     register.is_sound();
     let (file, input) = read_inputs(alloc, file, input, asked.lines)?;

@@ -6,7 +6,7 @@ ghost use Rattle.olr_arguments.specs.Options.{options_of};
 ghost use Rattle.olr_journal.specs.Logs.{kept_of, left_of};
 ghost use Rattle.olr_run.specs.ProgramEnds.{FromLog, LogEnds};
 ghost use Rattle.std.specs.Result.{result_ok};
-ghost use Rattle.olr_run.specs.Runs.{known_file, known_records, known_both};
+ghost use Rattle.olr_run.specs.Runs.{both_records, file_bytes};
 ghost use Rattle.olr_sessions.specs.Buffers.{held};
 ghost use Rattle.olr_sessions.specs.Statuses.{exit_code};
 ghost use Rattle.olr_sessions.specs.Sessions.{most_held};
@@ -195,7 +195,7 @@ fn run_from_log<
     errors: &mut E,
 ) -> (u8, LogFile<D, G>)
     ensures ends { FromLog W.contents log result.1 asked.now.stop
-        (known_both (known_records (known_file F.remaining file)) (known_records (R.remaining input)))
+        (both_records (file_bytes F.remaining file) (R.remaining input))
         output.old output.new result.0 }
     ensures bounded { result.0 ≤ 7 }
     ensures sent { result.0 ≤ 1 → held output.new ≡ [] }

@@ -2,7 +2,7 @@
 
 ghost use Rattle.std.specs.Prelude.{◌≡◌, ◌⊎◌, [], IfOk, IfErr, OnOk};
 ghost use Rattle.olr_run.specs.Logs.{LogsOn, LogsUpTo, LastsWhole, LastsCut};
-ghost use Rattle.olr_run.specs.Runs.{known_file, known_records, known_both, RanOn, FaultedOn, HasTooMany};
+ghost use Rattle.olr_run.specs.Runs.{both_records, file_bytes, input_records, EndedOn, HasTooMany};
 ghost use Rattle.olr_sessions.specs.Buffers.{held, written};
 
 use crate::both::greater_of;
@@ -22,14 +22,10 @@ fn run_logged<R: Read + Drop, W: Write + Drop, J: Journal + Drop>(
     output: &mut Buffered<W>,
     stop: bool,
 ) -> (Result<Status, RunFault>, Gate<J>)
-    ensures ran { IfOk result.0 (RanOn
-        (LogsOn J.kept J.may_leave W.contents gate output.old result.1 output.new)
-        stop register.old (known_records (R.remaining input)) (written W.contents output.old)
-        register.new (written W.contents output.new)) }
-    ensures faulted { IfErr result.0 (FaultedOn
-        (LogsUpTo J.kept J.may_leave W.contents gate output.old result.1 output.new)
-        stop register.old (known_records (R.remaining input)) (written W.contents output.old)
-        register.new (written W.contents output.new)) }
+    ensures ended { EndedOn (LogsOn J.kept J.may_leave W.contents gate output.old result.1 output.new)
+        (LogsUpTo J.kept J.may_leave W.contents gate output.old result.1 output.new) stop register.old
+        (input_records (R.remaining input)) (written W.contents output.old) register.new
+        (written W.contents output.new) result.0 }
     ensures too_many { IfErr result.0 (λ e. e ≡ RunFault.TooMany → HasTooMany (R.remaining input)) }
 {
     register.is_sound();
@@ -54,15 +50,11 @@ fn run_file_logged<F: Read + Drop, W: Write + Drop, J: Journal + Drop>(
     output: &mut Buffered<W>,
     stop: bool,
 ) -> (Result<Status, RunFault>, Gate<J>)
-    ensures ran { IfOk result.0 (RanOn
-        (LogsOn J.kept J.may_leave W.contents gate output.old result.1 output.new)
-        stop register.old (known_records (known_file F.remaining file)) (written W.contents output.old)
-        register.new (written W.contents output.new)) }
-    ensures faulted { IfErr result.0 (FaultedOn
-        (LogsUpTo J.kept J.may_leave W.contents gate output.old result.1 output.new)
-        stop register.old (known_records (known_file F.remaining file)) (written W.contents output.old)
-        register.new (written W.contents output.new)) }
-    ensures too_many { IfErr result.0 (λ e. e ≡ RunFault.TooMany → HasTooMany (known_file F.remaining file)) }
+    ensures ended { EndedOn (LogsOn J.kept J.may_leave W.contents gate output.old result.1 output.new)
+        (LogsUpTo J.kept J.may_leave W.contents gate output.old result.1 output.new) stop register.old
+        (input_records (file_bytes F.remaining file)) (written W.contents output.old) register.new
+        (written W.contents output.new) result.0 }
+    ensures too_many { IfErr result.0 (λ e. e ≡ RunFault.TooMany → HasTooMany (file_bytes F.remaining file)) }
 {
     register.is_sound();
     match file {
@@ -81,18 +73,12 @@ fn run_both_logged<F: Read + Drop, R: Read + Drop, W: Write + Drop, J: Journal +
     output: &mut Buffered<W>,
     stop: bool,
 ) -> (Result<Status, RunFault>, Gate<J>)
-    ensures ran { IfOk result.0 (RanOn
-        (LogsOn J.kept J.may_leave W.contents gate output.old result.1 output.new)
-        stop register.old
-        (known_both (known_records (known_file F.remaining file)) (known_records (R.remaining input)))
-        (written W.contents output.old) register.new (written W.contents output.new)) }
-    ensures faulted { IfErr result.0 (FaultedOn
-        (LogsUpTo J.kept J.may_leave W.contents gate output.old result.1 output.new)
-        stop register.old
-        (known_both (known_records (known_file F.remaining file)) (known_records (R.remaining input)))
-        (written W.contents output.old) register.new (written W.contents output.new)) }
+    ensures ended { EndedOn (LogsOn J.kept J.may_leave W.contents gate output.old result.1 output.new)
+        (LogsUpTo J.kept J.may_leave W.contents gate output.old result.1 output.new) stop register.old
+        (both_records (file_bytes F.remaining file) (R.remaining input)) (written W.contents output.old)
+        register.new (written W.contents output.new) result.0 }
     ensures too_many { IfErr result.0 (λ e. e ≡ RunFault.TooMany
-        → HasTooMany (known_file F.remaining file) ⊎ HasTooMany (R.remaining input)) }
+        → HasTooMany (file_bytes F.remaining file) ⊎ HasTooMany (R.remaining input)) }
 {
     register.is_sound();
     let (ended, gate) = run_file_logged(alloc, register, file, gate, output, stop);
@@ -128,18 +114,12 @@ pub fn run_with_log<F: Read + Drop, R: Read + Drop, W: Write + Drop, J: Journal 
     output: &mut Buffered<W>,
     stop: bool,
 ) -> (Result<Status, RunFault>, Gate<J>)
-    ensures ran { IfOk result.0 (RanOn
-        (LastsWhole J.kept J.may_leave W.contents journal output.old result.1 output.new)
-        stop register.old
-        (known_both (known_records (known_file F.remaining file)) (known_records (R.remaining input)))
-        (written W.contents output.old) register.new (written W.contents output.new)) }
-    ensures faulted { IfErr result.0 (FaultedOn
-        (LastsCut J.kept J.may_leave W.contents journal output.old result.1 output.new)
-        stop register.old
-        (known_both (known_records (known_file F.remaining file)) (known_records (R.remaining input)))
-        (written W.contents output.old) register.new (written W.contents output.new)) }
+    ensures ended { EndedOn (LastsWhole J.kept J.may_leave W.contents journal output.old result.1 output.new)
+        (LastsCut J.kept J.may_leave W.contents journal output.old result.1 output.new) stop register.old
+        (both_records (file_bytes F.remaining file) (R.remaining input)) (written W.contents output.old)
+        register.new (written W.contents output.new) result.0 }
     ensures too_many { IfErr result.0 (λ e. e ≡ RunFault.TooMany
-        → HasTooMany (known_file F.remaining file) ⊎ HasTooMany (R.remaining input)) }
+        → HasTooMany (file_bytes F.remaining file) ⊎ HasTooMany (R.remaining input)) }
     ensures sent { OnOk result.0 (held output.new ≡ []) }
 {
     register.is_sound();

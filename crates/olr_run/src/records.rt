@@ -2,7 +2,7 @@
 
 ghost use Rattle.std.specs.Prelude.{◌≡◌, Some, IfOk, IfErr};
 ghost use Rattle.olr_run.specs.Output.{Claims, records_of};
-ghost use Rattle.olr_run.specs.Runs.{known_records, RanIn, CutIn, RanOn, FaultedOn, HasTooMany};
+ghost use Rattle.olr_run.specs.Runs.{input_records, RanIn, CutIn, EndedOn, HasTooMany};
 
 use crate::answers::{renew, write_outcome};
 use csv::{ByteRecord, ReaderBuilder};
@@ -108,10 +108,8 @@ pub fn run<R: Read + Drop, W: Write>(
     output: &mut W,
     stop: bool,
 ) -> Result<Status, RunFault>
-    ensures ran { IfOk result (RanOn Claims stop register.old (known_records (R.remaining input))
-        (W.contents output.old) register.new (W.contents output.new)) }
-    ensures faulted { IfErr result (FaultedOn Claims stop register.old (known_records (R.remaining input))
-        (W.contents output.old) register.new (W.contents output.new)) }
+    ensures ended { EndedOn Claims Claims stop register.old (input_records (R.remaining input))
+        (W.contents output.old) register.new (W.contents output.new) result }
     ensures too_many { IfErr result (λ e. e ≡ RunFault.TooMany → HasTooMany (R.remaining input)) }
 {
     register.is_sound();
@@ -132,10 +130,8 @@ pub fn run_bytes<W: Write>(
     stop: bool,
     room: &mut Room,
 ) -> Result<Status, RunFault>
-    ensures ran { IfOk result (RanOn Claims stop register.old (Some (records_of bytes.now))
-        (W.contents output.old) register.new (W.contents output.new)) }
-    ensures faulted { IfErr result (FaultedOn Claims stop register.old (Some (records_of bytes.now))
-        (W.contents output.old) register.new (W.contents output.new)) }
+    ensures ended { EndedOn Claims Claims stop register.old (Some (records_of bytes.now)) (W.contents output.old)
+        register.new (W.contents output.new) result }
     ensures too_many { IfErr result (λ e. e ≡ RunFault.TooMany → HasTooMany (Some bytes.now)) }
 {
     register.is_sound();

@@ -1,7 +1,7 @@
 -- How a run from a log ends, from the contracts of its parts.
 use Rattle.std.proofs.Common.{refl}
 use Rattle.std.specs.Prelude.{is_ok}
-use Rattle.olr_run.proofs.Common.{known_both, known_file, known_records}
+use Rattle.olr_run.proofs.Common.{both_records, file_bytes}
 use Rattle.olr_run.specs.ProgramEnds.{Not_begun}
 use Rattle.olr_run.proofs.FromLogs.{cut_from, ended_from, on_true}
 use Rattle.olr_run.proofs.from_log.run_from_log.Goals as goal
@@ -18,8 +18,8 @@ returns-clause-ends g c =
     (cut_from r.result.1.journal c.into_journal.result c.close_log-log.result (is_ok r.result.0) c.into_journal.ensures
     c.close_log-log.ensures.cut)
     c.args.asked.now.stop c.in-Ok.begun.0 r.new.register
-    (known_both (known_records (known_file g.F.Read.remaining c.args.file)) (known_records (g.R.Read.remaining c.args.input)))
-    c.log_status.result c.in-Ok.ensures.begun.1 r.ensures.ran r.ensures.faulted c.log_status.ensures.ended
+    (both_records (file_bytes g.F.Read.remaining c.args.file) (g.R.Read.remaining c.args.input))
+    c.log_status.result c.in-Ok.ensures.begun.1 r.ensures.ended c.log_status.ensures.ended
     c.log_status.ensures.cut
 
 pub returns-clause-sent : goal.returns-clause-sent

@@ -1,7 +1,7 @@
 -- How the program ends with a log, by what its arguments ask for.
 use Rattle.std.proofs.Common.{◌≡◌, ℕ, List, Option, Some, None, refl, subst}
 use Rattle.olr_arguments.specs.Sizes.{IsLength, NoSize}
-use Rattle.olr_run.proofs.Common.{Records, known_file, options_of, records_read}
+use Rattle.olr_run.proofs.Common.{Records, file_bytes, options_of, records_read}
 use Rattle.olr_run.proofs.Ending.{file_is, name_of}
 use Rattle.olr_run.proofs.ReadInputs.{both_read, not_read}
 use Rattle.olr_run.specs.ProgramEnds.{FromLog, No_size, Not_opened, From_log}
@@ -25,7 +25,7 @@ returns-in_default-compaction_length-clause-ends g c =
 
 pub returns-in_default-read_inputs-clause-ends : goal.returns-in_default-read_inputs-clause-ends
 returns-in_default-read_inputs-clause-ends g c =
-    let file = known_file g.F.Read.remaining c.in-Ok.file in
+    let file = file_bytes g.F.Read.remaining c.in-Ok.file in
     From_log file
     (file_is g.O.FnOnce g.F.Read.remaining c.args.opener (options_of c.args.asked.now).file c.in-Ok.file
     c.in-Ok.ensures) c.in-Ok-log.log c.in-Ok-log.log (rw c.in-Ok-log.is refl) refl
@@ -35,7 +35,7 @@ returns-in_default-read_inputs-clause-ends g c =
 
 pub returns-clause-ends : goal.returns-clause-ends
 returns-clause-ends g c =
-    let file = known_file g.F.Read.remaining c.in-Ok.file in
+    let file = file_bytes g.F.Read.remaining c.in-Ok.file in
     let read = c.in-Ok-read_inputs in
     let last = c.run_from_log-status.result.1 in
     From_log file
@@ -45,5 +45,5 @@ returns-clause-ends g c =
     FromLog g.W.Write.contents c.in-Ok-log.log last c.args.asked.now.stop records c.args.output.now
     c.run_from_log-status.new.output c.run_from_log-status.result.0)
     (both_read c.args.asked.now.lines file (g.R.Read.remaining c.args.input)
-    (known_file (read_from g.F.Read.remaining) read.file) (read_from g.R.Read.remaining read.input) read.ensures.file
+    (file_bytes (read_from g.F.Read.remaining) read.file) (read_from g.R.Read.remaining read.input) read.ensures.file
     read.ensures.input) c.run_from_log-status.ensures.ends)

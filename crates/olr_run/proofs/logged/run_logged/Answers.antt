@@ -40,10 +40,10 @@ returns g c =
     log_known lines contents kept may_leave c.args.stop c.args.register.now c.run_session-ended.new.register a b input
     c.run_session-ended.result c.args.gate c.into_gate.result c.is_sound.ensures reader c.new-session.ensures.gate
     c.into_gate.ensures c.run_session-ended.ensures.ran c.run_session-ended.ensures.cut in
-    record { ran = k.0; faulted = k.1; too_many = k.2 }
+    record { ended = k.0; too_many = k.1 }
 
-pub returns-in_default-clause-faulted : goal.returns-in_default-clause-faulted
-returns-in_default-clause-faulted g c =
+pub returns-in_default-clause-ended : goal.returns-in_default-clause-ended
+returns-in_default-clause-ended g c =
     cut_logged g.J.Journal.kept g.J.Journal.may_leave g.W.Write.contents c.args.gate c.args.output.now c.args.stop
     c.args.register.now (written g.W.Write.contents c.args.output.now) (g.R.Read.remaining c.args.input) fault.Memory
     c.is_sound.ensures refl

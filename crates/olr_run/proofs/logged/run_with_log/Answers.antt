@@ -1,36 +1,36 @@
-use Rattle.olr_run.proofs.Common.{known_both, known_file, known_records}
+use Rattle.olr_run.proofs.Common.{both_records, file_bytes}
 use Rattle.olr_run.proofs.LoggedRuns.{ended_lasting, faulted_lasting, unsent_lasting}
 use Rattle.olr_sessions.specs.Buffers.{written}
 use Rattle.olr_run.proofs.logged.run_with_log.Goals as goal
 
-pub returns-in-Err-clause-faulted : goal.returns-in-Err-clause-faulted
-returns-in-Err-clause-faulted g c =
+pub returns-in-Err-clause-ended : goal.returns-in-Err-clause-ended
+returns-in-Err-clause-ended g c =
     let b = c.run_both_logged-ended in
     let s = c.send-sent in
     faulted_lasting g.J.Journal.kept g.J.Journal.may_leave g.W.Write.contents c.args.journal c.args.output.now b.new.output
     s.new.output c.new-gate.result b.result.1 s.new.self c.new-gate.ensures.journal c.new-gate.ensures.waiting
     s.ensures.passes c.args.stop c.args.register.now
-    (known_both (known_records (known_file g.F.Read.remaining c.args.file)) (known_records (g.R.Read.remaining c.args.input)))
-    (written g.W.Write.contents c.args.output.now) b.new.register c.in-Err.fault (rw c.in-Err.is at b.ensures.faulted)
+    (both_records (file_bytes g.F.Read.remaining c.args.file) (g.R.Read.remaining c.args.input))
+    (written g.W.Write.contents c.args.output.now) b.new.register c.in-Err.fault (rw c.in-Err.is at b.ensures.ended)
 
-pub returns-in-Ok-sent-clause-ran : goal.returns-in-Ok-sent-clause-ran
-returns-in-Ok-sent-clause-ran g c =
+pub returns-in-Ok-sent-clause-ended : goal.returns-in-Ok-sent-clause-ended
+returns-in-Ok-sent-clause-ended g c =
     let b = c.run_both_logged-ended in
     let s = c.send-sent in
     ended_lasting g.J.Journal.kept g.J.Journal.may_leave g.W.Write.contents c.args.journal c.args.output.now b.new.output
     s.new.output c.new-gate.result b.result.1 s.new.self c.new-gate.ensures.journal c.new-gate.ensures.waiting
     s.ensures.passes c.args.stop c.args.register.now
-    (known_both (known_records (known_file g.F.Read.remaining c.args.file)) (known_records (g.R.Read.remaining c.args.input)))
+    (both_records (file_bytes g.F.Read.remaining c.args.file) (g.R.Read.remaining c.args.input))
     (written g.W.Write.contents c.args.output.now) b.new.register c.in-Ok.status c.in-Ok-sent.ensures.kept.0
-    c.in-Ok-sent.ensures.kept.1 (rw c.in-Ok.is at b.ensures.ran)
+    c.in-Ok-sent.ensures.kept.1 (rw c.in-Ok.is at b.ensures.ended)
 
-pub returns-in-Err-sent-clause-faulted : goal.returns-in-Err-sent-clause-faulted
-returns-in-Err-sent-clause-faulted g c =
+pub returns-in-Err-sent-clause-ended : goal.returns-in-Err-sent-clause-ended
+returns-in-Err-sent-clause-ended g c =
     let b = c.run_both_logged-ended in
     let s = c.send-sent in
     unsent_lasting g.J.Journal.kept g.J.Journal.may_leave g.W.Write.contents c.args.journal c.args.output.now b.new.output
     s.new.output c.new-gate.result b.result.1 s.new.self c.new-gate.ensures.journal c.new-gate.ensures.waiting
     s.ensures.passes c.args.stop c.args.register.now
-    (known_both (known_records (known_file g.F.Read.remaining c.args.file)) (known_records (g.R.Read.remaining c.args.input)))
+    (both_records (file_bytes g.F.Read.remaining c.args.file) (g.R.Read.remaining c.args.input))
     (written g.W.Write.contents c.args.output.now) b.new.register c.in-Ok.status c.in-Err-sent.fault
-    c.in-Err-sent.ensures.fault (rw c.in-Ok.is at b.ensures.ran)
+    c.in-Err-sent.ensures.fault (rw c.in-Ok.is at b.ensures.ended)

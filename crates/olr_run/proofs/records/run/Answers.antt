@@ -2,11 +2,12 @@
 use Rattle.std.proofs.Common.{◌∙◌, ap, refl, true, inr}
 use Rattle.csv.specs.Reading.{strip_bom, builder_config, builder_trim, builder_names_headers, builder_is_flexible, with_flexible}
 use Rattle.csv.specs.declared.reader.ReaderBuilder.{ReaderBuilder}
+use Rattle.olr_run.proofs.Common.{Claims}
 use Rattle.olr_run.proofs.InputRuns.{OfReader, reader_at, written_at, csv_sees, on_known, cut_at_first}
 use Rattle.olr_sessions.specs.Buffers.{unread}
 use Rattle.std.specs.Prelude.{option_map}
 use Rattle.olr_sessions.proofs.SessionLemmas.{Starts}
-use Rattle.olr_run.proofs.Running.{passed_on}
+use Rattle.olr_run.proofs.Running.{cut_by}
 use Rattle.olr_sessions.specs.declared.ends.RunFault.TheVariants as fault
 use Rattle.olr_run.proofs.records.run.Goals as goal
 
@@ -34,10 +35,11 @@ returns g c =
     c.run_session.new.register (c.from_reader-reader.result, c.args.output.now)
     (c.run_session.new.session, c.run_session.new.output) input c.run_session.result c.is_sound.ensures starts
     c.run_session.ensures.ran c.run_session.ensures.cut in
-    record { ran = k.0; faulted = k.1; too_many = k.2 }
+    record { ended = k.0; too_many = k.1 }
 
-pub returns-in_err-lines-clause-faulted : goal.returns-in_err-lines-clause-faulted
-returns-in_err-lines-clause-faulted g c =
-    passed_on c.from_residual.result fault.Memory _ c.from_residual.ensures.1
+pub returns-in_err-lines-clause-ended : goal.returns-in_err-lines-clause-ended
+returns-in_err-lines-clause-ended g c =
+    cut_by Claims Claims c.args.stop c.args.register.now _ _ c.args.register.now _ c.from_residual.result fault.Memory
+    c.from_residual.ensures.1
     (cut_at_first c.args.stop c.args.register.now (g.W.Write.contents c.args.output.now)
     (g.R.Read.remaining c.args.input) fault.Memory c.is_sound.ensures refl)

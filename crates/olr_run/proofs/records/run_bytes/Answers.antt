@@ -15,4 +15,4 @@ returns g c =
     (c.run_within.new.session, c.run_within.new.output) (Some c.args.bytes.now) c.run_within.result
     c.is_sound.ensures (starts_in_memory c.new-records.result c.args.bytes.now made.rest made.state made.fresh)
     c.run_within.ensures.ran c.run_within.ensures.cut in
-    record { ran = k.0; faulted = k.1; too_many = k.2 }
+    record { ended = k.0; too_many = k.1 }

@@ -20,5 +20,5 @@ pub returns-clause-ends : goal.returns-clause-ends
 returns-clause-ends g c = λ arguments none is.
     let r = c.run_inputs-ended.ensures in
     ended_as g.O.FnOnce g.F.Read.remaining c.args.opener arguments (options_of c.args.asked.now) _ _ _ none is
-    c.in-Ok.file _ _ _ c.run_inputs-ended.result c.send_answers.result _ c.in-Ok.ensures r.ran r.faulted r.too_many
+    c.in-Ok.file _ _ _ c.run_inputs-ended.result c.send_answers.result _ c.in-Ok.ensures r.ended r.too_many
     c.send_answers.ensures.ends c.end_status.ensures.code
