@@ -1,9 +1,9 @@
 -- The ends of the program.
 use Rattle.olr_run.proofs.Common.{Bor, fault_of, Registered, Opens, Ends, Claims, Known, records_read}
 use Rattle.olr_sessions.specs.Inputs.{read_as}
-use Rattle.olr_run.proofs.Common.{RanOn, FaultedOn, HasTooMany, exit_code, RunFault, Options, keep_app, options, IsFile}
+use Rattle.olr_run.proofs.Common.{HasTooMany, exit_code, RunFault, Options, keep_app, options, IsFile}
 use Rattle.olr_run.proofs.Common.{OpensFile, Not_opened, Cut_off, file_bytes, IfErr}
-use Rattle.std.proofs.Common.{arith, ◌≡◌, ℕ, Bool, List, [], Option, Some, None, Result, Ok, Err, refl, sym, ap, ◌∙◌, ◌⊎◌, inl, inr}
+use Rattle.std.proofs.Common.{arith, ◌≡◌, ℕ, List, [], Option, Some, None, Result, Ok, Err, refl, sym, ap, ◌∙◌, ◌⊎◌, inl, inr}
 use Rattle.clap.specs.Kinds.{Kinds}
 use Rattle.clap.specs.Values.{kind_of}
 use Rattle.clap.specs.declared.error.Error.{Error}
@@ -12,12 +12,11 @@ use Rattle.olr_arguments.specs.Options.{IsOptionsFault}
 use Rattle.olr_arguments.specs.declared.arguments.OptionsFault.{OptionsFault}
 use Rattle.olr_arguments.specs.declared.arguments.OptionsFault.TheVariants.{Asked, Wrong, Memory}
 use Rattle.olr_sessions.specs.declared.ends.Status.{Status}
-use Rattle.olr_run.proofs.Common.{Keeps, Records, EndedOn}
+use Rattle.olr_run.proofs.Common.{EndedOn}
 use Rattle.olr_run.specs.Ends.{SendsAnswers}
-use Rattle.olr_run.specs.Output as output
-use Rattle.std.proofs.KnownBytes.{Appends-kept}
 use Rattle.std.specs.Fn.{Once}
 use Rattle.olr_run.specs.Ends.{Ran}
+use Rattle.olr_run.proofs.Sending.{faulted_sent, ran_sent, ran_unsent}
 use Rattle.olr_sessions.specs.declared.ends.RunFault.TheVariants as fault
 
 -- what was shown, by clap's kinds of error; the text of its error has no definition
@@ -28,36 +27,6 @@ explained kinds (Asked e) before later code h (inr (inl w)) = Not_shown (kind_of
 explained kinds (Asked e) before later code h (inr (inr w)) = No_memory w.0 w.1
 explained kinds (Wrong e) before later code h w = Wrong_arguments (kind_of e, h.0, h.1) w.0 w.1
 explained kinds Memory before later code h w = No_memory w.0 w.1
-
--- ---- the answers of a run are sent
-
-ran_sent : (stop : Bool) (old : Registered) (records : Records) (before : Known) (new : Registered)
-    (mid later : Known) (end : Status) → Keeps mid later → RanOn Claims stop old records before new mid end
-    → RanOn Claims stop old records before new later end
-ran_sent stop old None before new mid later end kept h = tt
-ran_sent stop old (Some rs) before new mid later end kept h = λ s represents.
-    let r = h s represents in (r.0, r.1, r.2, Appends-kept before mid later r.2 r.3 kept, r.4)
-
-faulted_sent : (stop : Bool) (old : Registered) (records : Records) (before : Known) (new : Registered)
-    (mid later : Known) (e : RunFault) → Keeps mid later → FaultedOn Claims stop old records before new mid e
-    → FaultedOn Claims stop old records before new later e
-faulted_sent stop old None before new mid later e kept h = tt
-faulted_sent stop old (Some rs) before new mid later e kept h = λ s represents.
-    let r = h s represents in (r.0, r.1, r.2, Appends-kept before mid later r.2 r.3 kept, r.4)
-
--- or could not be sent
-ran_unsent : (stop : Bool) (old : Registered) (records : Records) (before : Known) (new : Registered)
-    (mid later : Known) (end : Status) → Keeps mid later → RanOn Claims stop old records before new mid end
-    → FaultedOn Claims stop old records before new later fault.Write
-ran_unsent stop old None before new mid later end kept h = tt
-ran_unsent stop old (Some rs) before new mid later end kept h = λ s represents.
-    let r = h s represents in (
-      r.0,
-      r.1,
-      r.2,
-      Appends-kept before mid later r.2 r.3 kept,
-      record { outcomes = r.4.outcomes; each = r.4.each; stops = r.4.stops; wrote = output.Not_sent refl r.4.wrote },
-    )
 
 -- ---- ends
 
@@ -97,13 +66,14 @@ module _ {O F E : Type 0} (call : Once O (Bor (List ℕ) × Unit {0}) (Result F 
         → code ≡ exit_code end → Ends arguments (Opens call remaining opener) input old before new later code
     ended_as file new mid later (Ok end) r code h run _ (kept, inl same) status =
         Ran none (file_bytes remaining file) (opened file h) end
-        (ran_sent (options arguments).stop old _ before new mid later end kept (rw is at run)) (status ∙ ap exit_code same)
+        (ran_sent Claims Claims (λ s rs os t h. h) (options arguments).stop old before new mid later kept _ end (rw is at run)) (status ∙ ap exit_code same)
     ended_as file new mid later (Ok end) r code h run _ (kept, inr unsent) status =
         Cut_off none (file_bytes remaining file) (opened file h) fault.Write
-        (ran_unsent (options arguments).stop old _ before new mid later end kept (rw is at run))
+        (ran_unsent Claims Claims (λ s rs os t h. h) (options arguments).stop old before new mid later kept _ end fault.Write refl
+        (rw is at run))
         (λ many. let never : fault.Write ≡ fault.TooMany = many in cc) (status ∙ ap exit_code unsent.1)
     ended_as file new mid later (Err e) r code h run many (kept, inl same) status =
         Cut_off none (file_bytes remaining file) (opened file h) e
-        (faulted_sent (options arguments).stop old _ before new mid later e kept (rw is at run)) (rw is at many)
+        (faulted_sent Claims Claims (λ s rs os t h. h) (options arguments).stop old before new mid later kept _ e (rw is at run)) (rw is at many)
         (status ∙ ap exit_code same)
     ended_as file new mid later (Err e) r code h run many (kept, inr unsent) status = absurd (let never = unsent.0 in cc)

@@ -1,7 +1,7 @@
 -- A run from a log in a file, from the contracts of its parts.
-use Rattle.olr_run.proofs.Common.{IfErr, Outcome, Field, Known, Records, RanOn, FaultedOn, RunFault, Registered}
+use Rattle.olr_run.proofs.Common.{IfErr, Outcome, Field, Known, Records, RunFault, Registered}
 use Rattle.olr_run.proofs.Common.{Represents, exit_code, is_ok, EndedOn}
-use Rattle.std.proofs.Common.{◌≡◌, ◌∙◌, ◌⊎◌, ℕ, Bool, true, false, List, Some, None, inl, inr, refl, sym, subst}
+use Rattle.std.proofs.Common.{◌≡◌, ◌∙◌, ◌⊎◌, ℕ, Bool, true, false, List, inl, inr, refl, sym, subst}
 use Rattle.std.specs.Prelude.{IfOk, OnOk, OnErr, Result, Ok, Err, IsTrue}
 use Rattle.sqlite_disk.specs.declared.Disk as disk
 use Rattle.olr_commands.specs.State.{Content, IsContent, State}
@@ -11,6 +11,8 @@ use Rattle.olr_journal.specs.declared.log_file.LogFile.{LogFile}
 use Rattle.olr_run.proofs.Dumped.{content_dump_leads}
 use Rattle.olr_run.proofs.LogRecords.{same_content}
 use Rattle.olr_run.proofs.Running.{represented}
+use Rattle.olr_run.proofs.Sending.{faulted_sent, ran_sent}
+use Rattle.std.proofs.KnownBytes.{Keeps-refl}
 use Rattle.olr_run.specs.LogEnds.{AreRecordsOf, Begins, BeginsWith, LastsOn, Unbegun}
 use Rattle.olr_run.specs.Logged.{closed, Leads}
 use Rattle.olr_run.specs.Logs.{LastsWhole, LastsCut}
@@ -21,47 +23,6 @@ use Rattle.olr_sessions.specs.Journals.{Only}
 use Rattle.olr_sessions.specs.declared.buffered.Buffered.{Buffered}
 use Rattle.olr_sessions.specs.declared.ends.Status.{Status}
 use Rattle.olr_sessions.specs.declared.gate.Gate.{Gate}
-
--- what is known of each run, from more
-ran_each : (E E2 : State → List (List Field) → List Outcome → State → Type 0) →
-    ((s : State) (rs : List (List Field)) (os : List Outcome) (t : State) → E s rs os t → E2 s rs os t) → (stop : Bool)
-    (old : Registered) (records : Records) (before : Known) (new : Registered) (later : Known) (end : Status) →
-    RanOn E stop old records before new later end → RanOn E2 stop old records before new later end
-ran_each E E2 f stop old None before new later end h = tt
-ran_each E E2 f stop old (Some rs) before new later end h = λ s represents.
-    let r = h s represents in (
-      r.0,
-      r.1,
-      r.2,
-      r.3,
-      record {
-        outcomes = r.4.outcomes;
-        each = f s rs r.4.outcomes r.0 r.4.each;
-        stops = r.4.stops;
-        all = r.4.all;
-        wrote = r.4.wrote;
-        ended = r.4.ended;
-      },
-    )
-
-faulted_each : (E E2 : State → List (List Field) → List Outcome → State → Type 0) →
-    ((s : State) (rs : List (List Field)) (os : List Outcome) (t : State) → E s rs os t → E2 s rs os t) → (stop : Bool)
-    (old : Registered) (records : Records) (before : Known) (new : Registered) (later : Known) (e : RunFault) →
-    FaultedOn E stop old records before new later e → FaultedOn E2 stop old records before new later e
-faulted_each E E2 f stop old None before new later e h = tt
-faulted_each E E2 f stop old (Some rs) before new later e h = λ s represents.
-    let r = h s represents in (
-      r.0,
-      r.1,
-      r.2,
-      r.3,
-      record {
-        outcomes = r.4.outcomes;
-        each = f s rs r.4.outcomes r.0 r.4.each;
-        stops = r.4.stops;
-        wrote = r.4.wrote;
-      },
-    )
 
 pub always_err : {A E : Type 0} (r : Result A E) (P : Type 0) → P → OnErr r P
 always_err (Ok a) P h = tt
@@ -175,9 +136,9 @@ module _ {D F : Type 0} {d : disk.Ghosts D} {f : folder.Ghosts F D} where
       → IfErr r (λ e. code ≡ exit_code (Err e)) → FromLog contents log last stop records o p code
   ended_from contents log read start last o p g (Ok end) cut stop old new records code begins run status fault =
       Ran read start old new begins end
-      (ran_each _ _ (whole_closed contents start last o p g (Ok end) cut) stop old records (written contents o) new
-      (written contents p) end run) status
+      (ran_sent _ _ (whole_closed contents start last o p g (Ok end) cut) stop old (written contents o) new
+      (written contents p) (written contents p) (Keeps-refl (written contents p)) records end run) status
   ended_from contents log read start last o p g (Err e) cut stop old new records code begins run status fault =
       Cut_off read start old new begins e
-      (faulted_each _ _ (cut_closed contents start last o p g (Err e) cut e refl) stop old records (written contents o) new
-      (written contents p) e run) fault
+      (faulted_sent _ _ (cut_closed contents start last o p g (Err e) cut e refl) stop old (written contents o) new
+      (written contents p) (written contents p) (Keeps-refl (written contents p)) records e run) fault

@@ -6,6 +6,7 @@ pub mod Reports
 pub mod Running
 pub mod Joining
 pub mod InputRuns
+pub mod Sending
 pub mod Ending
 pub mod Dumping
 pub mod Dumped

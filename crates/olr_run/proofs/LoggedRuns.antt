@@ -16,6 +16,7 @@ use Rattle.olr_run.specs.Logged.{Leads}
 use Rattle.olr_run.proofs.InputRuns.{Sees, cut_records, cut_texts, cut_renewals, Gives, last_of, on_known_as}
 use Rattle.olr_sessions.proofs.SessionLemmas.{Starts}
 use Rattle.olr_run.proofs.Common.{HasTooMany}
+use Rattle.olr_run.proofs.Sending.{faulted_sent, ran_sent, ran_unsent}
 use Rattle.std.specs.Prelude.{IfOk, Ok, Err}
 use Rattle.olr_run.proofs.Logging.{logs_pass, logs_same, logs_settle, logs_longer, logs_renew, no_front, up_later, up_to_all}
 use Rattle.olr_sessions.specs.Buffers.{held, written}
@@ -34,7 +35,6 @@ use Rattle.std.proofs.Common.{inl}
 use Rattle.std.proofs.KnownBytes.{Appends-nil, Keeps-refl}
 use Rattle.std.proofs.Math.Bool.{and-false}
 use Rattle.olr_commands.specs.State.{Change, IsContent}
-use Rattle.std.proofs.KnownBytes.{Appends-kept}
 use Rattle.std.specs.Prelude.{Option, Result}
 use Rattle.olr_run.proofs.Common.{Records}
 use Rattle.olr_run.proofs.Common.{RanOn, FaultedOn, input_records, csv_on_literals}
@@ -561,56 +561,23 @@ module _ {J W : Type 0} (kept : J → List ℕ) (may_leave : J → List ℕ → 
       (end : Status) → ready i ≡ [] → is_closed i ≡ false
       → RanOn (LogsOn kept may_leave contents g o h p) stop old records before new (written contents p) end
       → RanOn (LastsWhole kept may_leave contents j o i q) stop old records before new (written contents q) end
-  ended_lasting stop old None before new end all still a = tt
-  ended_lasting stop old (Some rs) before new end all still a = λ s represents.
-      let r = a s represents in (
-        r.0,
-        r.1,
-        r.2,
-        Appends-kept before (written contents p) (written contents q) r.2 r.3 later,
-        record {
-          outcomes = r.4.outcomes;
-          each = whole_lasts s r.0 rs r.4.outcomes all still r.4.each;
-          stops = r.4.stops;
-          all = r.4.all;
-          wrote = r.4.wrote;
-          ended = r.4.ended;
-        },
-      )
+  ended_lasting stop old records before new end all still a =
+      ran_sent (LogsOn kept may_leave contents g o h p) (LastsWhole kept may_leave contents j o i q)
+      (λ s rs os t. whole_lasts s t rs os all still) stop old before new (written contents p) (written contents q) later
+      records end a
 
   pub faulted_lasting : (stop : Bool) (old : Registered) (records : Records) (before : Known) (new : Registered)
       (e : RunFault) → FaultedOn (LogsUpTo kept may_leave contents g o h p) stop old records before new (written contents p) e
       → FaultedOn (LastsCut kept may_leave contents j o i q) stop old records before new (written contents q) e
-  faulted_lasting stop old None before new e a = tt
-  faulted_lasting stop old (Some rs) before new e a = λ s represents.
-      let r = a s represents in (
-        r.0,
-        r.1,
-        r.2,
-        Appends-kept before (written contents p) (written contents q) r.2 r.3 later,
-        record {
-          outcomes = r.4.outcomes;
-          each = cut_lasts s r.0 rs r.4.outcomes r.4.each;
-          stops = r.4.stops;
-          wrote = r.4.wrote;
-        },
-      )
+  faulted_lasting stop old records before new e a =
+      faulted_sent (LogsUpTo kept may_leave contents g o h p) (LastsCut kept may_leave contents j o i q)
+      (λ s rs os t. cut_lasts s t rs os) stop old before new (written contents p) (written contents q) later records e a
 
   pub unsent_lasting : (stop : Bool) (old : Registered) (records : Records) (before : Known) (new : Registered)
       (end : Status) (e : RunFault) → e ≡ fault.Write
       → RanOn (LogsOn kept may_leave contents g o h p) stop old records before new (written contents p) end
       → FaultedOn (LastsCut kept may_leave contents j o i q) stop old records before new (written contents q) e
-  unsent_lasting stop old None before new end e write a = tt
-  unsent_lasting stop old (Some rs) before new end e write a = λ s represents.
-      let r = a s represents in (
-        r.0,
-        r.1,
-        r.2,
-        Appends-kept before (written contents p) (written contents q) r.2 r.3 later,
-        record {
-          outcomes = r.4.outcomes;
-          each = unsent_lasts s r.0 rs r.4.outcomes r.4.each;
-          stops = r.4.stops;
-          wrote = output.Not_sent write r.4.wrote;
-        },
-      )
+  unsent_lasting stop old records before new end e write a =
+      ran_unsent (LogsOn kept may_leave contents g o h p) (LastsCut kept may_leave contents j o i q)
+      (λ s rs os t. unsent_lasts s t rs os) stop old before new (written contents p) (written contents q) later records end e
+      write a
