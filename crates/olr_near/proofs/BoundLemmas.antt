@@ -110,10 +110,6 @@ pub record AreSettling (M : Map) (s : ℕ → ℕ) (S : ℕ → Option ℕ) (xs 
   pub closed : AreClosed M s (label_of f) (λ v. IsTrue (has xs v) ⊎ IsQueued f (label_of f (s v)) (s v))
   pub sources : AreMet M s S (label_of f) (λ v. IsTrue (has xs v))
 
-pub settling_begun : (M : Map) (s : ℕ → ℕ) (f : DistanceBounds) (g : Frontier) → ((p : ℕ) → label_of g p ≡ bound_at f p) →
-    AreUnderWay M s [] f → AreSettling M s (source_of f) f.opened.items g
-settling_begun M s f g same u = grind arith
-
 module _ (M : Map) (m : IsMap M) (s : ℕ → ℕ) (S : ℕ → Option ℕ) where
   settling_next : (xs ys : List ℕ) (f h : Frontier) → ((p : ℕ) → label_of h p ≤ label_of f p)
       → ((p : ℕ) → (label_of h p ≡ label_of f p) ⊎ IsQueued h (label_of h p) p)
