@@ -4,10 +4,10 @@
 --         an allocation failed, and it has the first bytes of these texts
 --     AskedOf old records new code      the same for the register of a handle
 --     IsNew keep      a register of an empty map and no paths, with an empty reply
-use Rattle.std.specs.Prelude.{◌≡◌, ℕ, false, List, [], Option, Some, None, Result, Ok, Err, IfOk, IfErr, IsSomeAnd}
+use Rattle.std.specs.Prelude.{◌≡◌, ℕ, false, List, [], Option, Some, None, Result, Ok, Err, IsSomeAnd}
 use Rattle.olr_register.specs.Registered.{Registered, nothing_registered}
 use Rattle.olr_run.specs.Output.{Claims, records_of}
-use Rattle.olr_run.specs.Runs.{RanOn, FaultedOn}
+use Rattle.olr_run.specs.Runs.{EndedOn}
 use Rattle.olr_sessions.specs.declared.ends.RunFault.{RunFault}
 use Rattle.olr_sessions.specs.declared.ends.Status.{Status}
 use Rattle.olr_sessions.specs.declared.ends.Status.TheVariants as status
@@ -21,10 +21,8 @@ code_of (Err fault) = 4
 
 abbrev pub Asked : Registered → List ℕ → Registered → List ℕ → ℕ → Type 0
 Asked old records new reply code =
-    (end : Result Status RunFault) × IfOk end (RanOn Claims false old (Some (records_of records)) (Some []) new
-    (Some reply))
-    × IfErr end (FaultedOn Claims false old (Some (records_of records)) (Some []) new (Some reply))
-    × (code ≡ code_of end)
+    (end : Result Status RunFault)
+    × EndedOn Claims Claims false old (Some (records_of records)) (Some []) new (Some reply) end × (code ≡ code_of end)
 
 abbrev pub AskedOf : Option Keep → List ℕ → Option Keep → ℕ → Type 0
 AskedOf None records new code = (code ≡ 2) × (new ≡ None)
