@@ -12,6 +12,6 @@ mod routes;
 mod shortest;
 
 pub use labels::Labels;
-pub use olr_search::{Bounds, Dijkstra, Direction, GREATEST_LIMIT, Work, settled_search};
+pub use olr_search::{Dijkstra, Direction, GREATEST_LIMIT, Work, settled_search};
 pub use routes::search;
 pub use shortest::{is_least, is_unique_shortest};
