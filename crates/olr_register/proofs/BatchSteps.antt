@@ -11,7 +11,7 @@ use Rattle.olr_register.proofs.Common.{RegisterState, IsBatchOf, content_on, con
 use Rattle.olr_register.proofs.Common.{AreGiven, MayReport, ByContent, Lacks, HoldsChange, Batch, Option, None, is_some}
 use Rattle.olr_register.proofs.Common.{Command, Begin, IsContent, ByState, DistanceBounds, AreEncodingsIfAny, Begins}
 use Rattle.olr_register.proofs.Common.{Follows, nodes_of, lines_of, changed_of, follows_self, named_held, AreEditsNoted}
-use Rattle.olr_register.proofs.Common.{IsKeptRight, flat_map}
+use Rattle.olr_register.proofs.Common.{IsKeptRight, IsHeld, HasBounds, flat_map}
 use Rattle.std.proofs.lemmas.Bool.{eq-eqb}
 use Rattle.olr_commands.specs.State.{Commit, Batch_full, next, into_batch}
 use Rattle.olr_register.specs.RegisterState.{Batch as Outcome}
@@ -20,7 +20,7 @@ use Rattle.olr_commands.proofs.StateLemmas.{next_ok, after_push}
 use Rattle.olr_register.specs.BatchChanges.{content_with}
 use Rattle.olr_register.proofs.Listed.{named_twice, given_at_first}
 use Rattle.olr_register.proofs.Outcomes.{answered_uncounted, answered_refused, Keeps}
-use Rattle.olr_register.proofs.States.{state, register_of, of_parts, in_states, kept_moved}
+use Rattle.olr_register.proofs.States.{state, register_of, of_parts, in_states, register_moved}
 use Rattle.olr_map.specs.Changes.{room_of, all_node_puts, all_line_puts}
 use Rattle.olr_map.specs.Undos.{CanMakeAll, made_all, log_changes}
 use Rattle.olr_register.proofs.Noted.{noted_none}
@@ -177,27 +177,32 @@ module _ (roads : RoadMap) (is : List Item) (b : Batch) (bounds : DistanceBounds
   same_before : map_before roads b.log ≡ map_of roads
   same_before = ap (made_all (map_of roads)) e.log
 
+  begun : IsHeld roads is b
+  begun = record {
+    undo = (
+      subst (CanMakeAll (map_of roads) (room_of roads)) (sym e.log) tt,
+      let nodes : b.log.nodes ≡ 0 = b.log.nodes_counted ∙ ap all_node_puts e.log in
+          let lines : b.log.lines ≡ 0 = b.log.lines_counted ∙ ap all_line_puts e.log in
+          record { nodes = omega arith; lines = omega arith },
+    );
+    sound = subst (λ (ks : List Item). IsContent (content_on (map_of roads) ks)) (sym (e.paths is))
+        h.register.content;
+    few = let none_yet = e.count in omega arith;
+    noted =
+        coe 0 1 (i. AreEditsNoted (sym same_before i) (map_of roads) (sym e.nodes i) (sym e.lines i)
+        (sym e.changed i)) (noted_none (map_of roads));
+    made =
+        coe 0 1 (i. AreEncodingsIfAny (sym same_before i) (sym (e.paths is) i))
+        (made_if_any (map_of roads) is h.register.made);
+    follows = subst (Follows is) (sym (e.paths is)) (follows_self is h.register.content.names);
+    begins = λ v on. subst (λ (ks : List Item). Begins ks v) (e.paths is) on;
+  }
+
   pub begun_held : IsKeptRight roads is (Some b) bounds
-  begun_held =
-      kept_moved roads roads is None (Some b) bounds same_before (record {
-        undo = (
-          subst (CanMakeAll (map_of roads) (room_of roads)) (sym e.log) tt,
-          let nodes : b.log.nodes ≡ 0 = b.log.nodes_counted ∙ ap all_node_puts e.log in
-              let lines : b.log.lines ≡ 0 = b.log.lines_counted ∙ ap all_line_puts e.log in
-              record { nodes = omega arith; lines = omega arith },
-        );
-        sound = subst (λ (ks : List Item). IsContent (content_on (map_of roads) ks)) (sym (e.paths is))
-            h.register.content;
-        few = let none_yet = e.count in omega arith;
-        noted =
-            coe 0 1 (i. AreEditsNoted (sym same_before i) (map_of roads) (sym e.nodes i) (sym e.lines i)
-            (sym e.changed i)) (noted_none (map_of roads));
-        made =
-            coe 0 1 (i. AreEncodingsIfAny (sym same_before i) (sym (e.paths is) i))
-            (made_if_any (map_of roads) is h.register.made);
-        follows = subst (Follows is) (sym (e.paths is)) (follows_self is h.register.content.names);
-        begins = λ v on. subst (λ (ks : List Item). Begins ks v) (e.paths is) on;
-      }) h
+  begun_held = record {
+    register = register_moved roads roads is None (Some b) same_before begun h.register;
+    bounded = subst (λ (T : List ℕ). HasBounds roads T is bounds) (sym e.nodes) h.bounded;
+  }
 
   empty_batch : IsBatchOf (content_on (map_of roads) is) (batch_of roads is b) []
   empty_batch = record {

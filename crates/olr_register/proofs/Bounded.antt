@@ -1,22 +1,104 @@
--- The distance bounds that a register stores: right on its map once they are settled, with a source where each coverage
--- query of its list begins.
-use Rattle.olr_register.proofs.Common.{◌≡◌, ℕ, List, Option, Some, None, sym, ◌∙◌, Map, DistanceBounds, Item, HasBounds, inl}
-use Rattle.std.proofs.Common.{IsFalse}
-use Rattle.olr_near.specs.Bounds.{bound_of, IsUnderWay}
+-- The distance bounds that a register stores: with a source where each coverage query of its list begins, and right on its
+-- map once they are settled, if the nodes that edits touched are reopened before.
+use Rattle.olr_register.proofs.Common.{◌≡◌, ℕ, subst, List, [], Ok, inl, Map, Edit, edited, start, map_of}
+use Rattle.olr_register.proofs.Common.{RoadMap, DistanceBounds, Item, HasBounds, IsFalse}
+use Rattle.std.proofs.Common.{IsTrue}
+use Rattle.olr_spec.specs.Map.{has_node, end}
+use Rattle.olr_spec.proofs.AgreeLemmas.{turned_round}
+use Rattle.olr_spec.proofs.ChangeLemmas.{none_differs}
+use Rattle.olr_map.specs.RoadMaps.{slot_of}
+use Rattle.olr_map.specs.Changes.{KeepsSlots, AddsNoNode}
+use Rattle.olr_near.specs.Bounds.{IsEdit, IsUnderWay, SameBut}
+use Rattle.olr_near.proofs.BoundLemmas.{edit_under_way}
 use Rattle.olr_list.specs.Origins.{AreBoundsOf}
+use Rattle.olr_register.proofs.EditedMaps.{starts_there, ends_there}
 
 -- unknown bounds say nothing
-pub bounded_unknown : (M : Map) (is : List Item) (bounds : DistanceBounds) → IsFalse bounds.known → HasBounds M is bounds
-bounded_unknown M is bounds off =
+pub bounded_unknown : (roads : RoadMap) (T : List ℕ) (is : List Item) (bounds : DistanceBounds) → IsFalse bounds.known →
+    HasBounds roads T is bounds
+bounded_unknown roads T is bounds off =
     record {
       under_way = λ on. let never : ⊥ = cc (on, off) in absurd never;
       sources = λ v b on. let never : ⊥ = cc (on, off) in absurd never;
     }
 
--- no node has a bound, and no coverage query begins at a node
-pub under_way_without : (M : Map) (bounds : DistanceBounds) → ((v : ℕ) → bound_of bounds v ≡ None) → IsUnderWay M bounds
-under_way_without M bounds none known u d at = let no : ◌≡◌ {A = Option ℕ} None (Some d) = sym (none u) ∙ at in absurd cc
-
 -- bounds that are right need not be settled
-pub settled_bounds : {M : Map} {is : List Item} {bounds : DistanceBounds} → AreBoundsOf M bounds is → HasBounds M is bounds
-settled_bounds h = record { under_way = λ known u d at. inl (h.right known u d at); sources = h.sources }
+pub settled_bounds : {roads : RoadMap} {is : List Item} {bounds : DistanceBounds} →
+    AreBoundsOf (map_of roads) (slot_of roads) bounds is → HasBounds roads [] is bounds
+settled_bounds h =
+    record {
+      under_way = λ known.
+          let right = h.right known in
+          record {
+            closed = λ x there short. inl (right.closed x there short);
+            sources = λ v d at there. inl (right.sources v d at there);
+          };
+      sources = h.sources;
+    }
+
+-- ---- after an edit
+
+module _ (old new : RoadMap) (slots : KeepsSlots old new) where
+  abbrev M : Map
+  M = map_of old
+
+  abbrev N : Map
+  N = map_of new
+
+  abbrev IsEditOf : List ℕ → Type 0
+  IsEditOf T = IsEdit T M (slot_of old) N (slot_of new)
+
+  pub is_edit : (e : Edit) → edited M e ≡ Ok N → (T : List ℕ) → SameBut T M N → IsEditOf T
+  is_edit e done T alike = record {
+    sound = new.kept.sound;
+    alike = alike;
+    slots = slots;
+    starts = starts_there M N e old.kept.sound done;
+    ends = ends_there M N e old.kept.sound done;
+  }
+
+  -- no edit was made
+  no_edit : N ≡ M → IsEditOf []
+  no_edit same = record {
+    sound = new.kept.sound;
+    alike = λ v off. rw same ((none_differs M).nodes v off);
+    slots = slots;
+    starts = λ x there. subst (λ (K : Map). IsTrue (has_node K (start N x))) same (new.kept.sound.starts x there);
+    ends = λ x there. subst (λ (K : Map). IsTrue (has_node K (end N x))) same (new.kept.sound.ends x there);
+  }
+
+  pub under_way_stays : N ≡ M → (T : List ℕ) (bounds : DistanceBounds) → IsUnderWay M (slot_of old) T bounds →
+      IsUnderWay N (slot_of new) T bounds
+  under_way_stays same T bounds h =
+      edit_under_way M N (slot_of old) (slot_of new) [] bounds (no_edit same) T T (λ v on. on) (λ v on. absurd cc) h
+
+  module _ {is : List Item} {bounds : DistanceBounds} where
+    -- the nodes that the edit touched are to be reopened
+    pub bounds_edited : {T : List ℕ} → IsEditOf T → HasBounds old [] is bounds → HasBounds new T is bounds
+    bounds_edited {T} edit h = record {
+      under_way = edit_under_way M N (slot_of old) (slot_of new) T bounds edit [] T (λ v on. absurd cc) (λ v on. on) h.under_way;
+      sources = h.sources;
+    }
+
+    pub bounds_stay : N ≡ M → {T : List ℕ} → HasBounds old T is bounds → HasBounds new T is bounds
+    bounds_stay same {T} h = record { under_way = under_way_stays same T bounds h.under_way; sources = h.sources }
+
+-- ---- after edits were undone, none of which dropped a node
+
+module _ (old new : RoadMap) (none : AddsNoNode old new) (T : List ℕ) (alike : SameBut T (map_of new) (map_of old)) where
+  is_undone : IsEdit T (map_of old) (slot_of old) (map_of new) (slot_of new)
+  is_undone = record {
+    sound = new.kept.sound;
+    alike = λ v off. turned_round (map_of new) (map_of old) v (alike v off);
+    slots = λ v was now. (none v now).1;
+    starts = λ x there. (none _ (new.kept.sound.starts x there)).0;
+    ends = λ x there. (none _ (new.kept.sound.ends x there)).0;
+  }
+
+  pub bounds_undone : {is : List Item} {bounds : DistanceBounds} → HasBounds old T is bounds → HasBounds new T is bounds
+  bounds_undone {is} {bounds} h = record {
+    under_way =
+        edit_under_way (map_of old) (map_of new) (slot_of old) (slot_of new) T bounds is_undone T T (λ v on. on) (λ v on. on)
+        h.under_way;
+    sources = h.sources;
+  }

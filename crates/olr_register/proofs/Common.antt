@@ -29,10 +29,11 @@ pub use Rattle.olr_list.specs.Origins.{Begins}
 pub use Rattle.olr_list.specs.ChangeSets.{changed_of, lines_of, nodes_of}
 pub use Rattle.olr_list.specs.declared.change_set.ChangeSet.{ChangeSet}
 pub use Rattle.olr_roads.specs.Edits.{edit_of}
-pub use Rattle.olr_map.specs.RoadMaps.{map_before, map_of}
+pub use Rattle.olr_map.specs.Changes.{KeepsSlots}
+pub use Rattle.olr_map.specs.RoadMaps.{map_before, map_of, slot_of}
 pub use Rattle.olr_map.specs.declared.judging.EditPlan.{EditPlan}
 pub use Rattle.olr_map.specs.declared.road_map.RoadMap.{RoadMap}
-pub use Rattle.olr_near.specs.Bounds.{IsSource}
+pub use Rattle.olr_near.specs.Bounds.{IsSource, IsUnderWay}
 pub use Rattle.olr_near.specs.declared.distance_bounds.DistanceBounds.{DistanceBounds}
 pub use Rattle.olr_paths.proofs.Following.{follows_self}
 pub use Rattle.olr_paths.specs.Changes.{AreCounted, Follows, SearchedAlone, Totals}
@@ -40,8 +41,8 @@ pub use Rattle.olr_refs.specs.Choice.{AreSearched}
 pub use Rattle.olr_paths.specs.Reencoded.{IsRenewal}
 pub use Rattle.olr_register.specs.Answered.{Answered}
 pub use Rattle.olr_register.specs.Recordables.{is_recordable_line_at, is_recordable_node_at}
-pub use Rattle.olr_register.specs.Contents.{AreEditsNoted, CanRenew, HasBounds, IsHeld, IsKeptRight, batch_of}
-pub use Rattle.olr_register.specs.Contents.{content_on, content_under, held_of, kept_of, map_kept}
+pub use Rattle.olr_register.specs.Contents.{AreEditsNoted, CanRenew, HasBounds, IsHeld, IsKeptRight, IsRegister, batch_of}
+pub use Rattle.olr_register.specs.Contents.{content_on, content_under, held_of, kept_of, map_kept, touched_in}
 pub use Rattle.olr_register.specs.BatchChanges.{AreGiven, ByContent, HoldsChange, Lacks, MayReport, change_of, path_by}
 pub use Rattle.olr_register.specs.EditNotes.{CanRenewAfter, IsEditMade, IsNotedOf}
 pub use Rattle.olr_register.specs.RegisterState.{IsBatchOf, RegisterState, Represents, named_held}

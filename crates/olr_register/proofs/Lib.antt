@@ -5,6 +5,7 @@ pub mod DumpTexts
 pub mod EditsMade
 pub mod BatchSteps
 pub mod Noted
+pub mod EditedMaps
 pub mod Bounded
 pub mod Changing
 pub mod Counting

@@ -6,12 +6,16 @@ use Rattle.olr_register.proofs.Common.{Change, On_map, Make, HasCoords, with_map
 use Rattle.olr_register.proofs.Common.{lines_of_change, changed_by, names_of_change, command_fault_of, CommandFault}
 use Rattle.olr_register.proofs.Common.{changes_keep, Item, AreEncodingsIfAny, Follows, Begins, under_overlay, nodes_of}
 use Rattle.olr_register.proofs.Common.{lines_of, changed_of, ChangeSet, content_on, content_under, AreEditsNoted}
-use Rattle.olr_register.proofs.Common.{held_of, IsHeld, AreGiven, MayReport, Batch, Result, IsErrAnd, append-nil}
+use Rattle.olr_register.proofs.Common.{held_of, IsHeld, AreGiven, MayReport, Batch, Result, IsErrAnd, append-nil, or_right, slot_of, KeepsSlots, IsUnderWay}
 use Rattle.olr_map.specs.RoadMaps.{CanUndoAll}
 use Rattle.olr_map.specs.declared.undo.UndoLog.{UndoLog}
 use Rattle.olr_list.specs.declared.overlay.Overlay.{Overlay}
 use Rattle.olr_register.specs.Contents.{IsHeldAs}
-use Rattle.olr_register.specs.BatchChanges.{IsMade, Makes}
+use Rattle.olr_register.specs.BatchChanges.{IsMade, Makes, StaysUnderWay}
+use Rattle.std.proofs.lemmas.Bool.{or_left}
+use Rattle.olr_spec.proofs.ChangeLemmas.{edit_differs}
+use Rattle.olr_near.proofs.BoundLemmas.{edit_under_way}
+use Rattle.olr_register.proofs.Bounded.{is_edit}
 use Rattle.olr_register.proofs.Noted.{noted_more}
 
 -- a change that is not made leaves the batch as it was
@@ -20,10 +24,10 @@ pub unmade : (old new : RoadMap) (is : List Item) (b : Batch) (log : UndoLog) (l
     (IsHeld old is b → CanUndoAll new log) → map_before new log ≡ map_before old b.log → map_of new ≡ map_of old →
     under_overlay is l ≡ under_overlay is b.overlay → nodes_of t ≡ nodes_of b.touched →
     lines_of t ≡ lines_of b.touched → changed_of t ≡ changed_of b.touched →
-    MayReport (with_change (content_under old is b) x) (command_fault_of f) →
+    StaysUnderWay old new b b → MayReport (with_change (content_under old is b) x) (command_fault_of f) →
     Makes old new is b (record { log = log; overlay = l; count = b.count; touched = t }) x r
-unmade old new is b log l t x (Ok u) f failed undo before same list nodes lines changed may = absurd failed
-unmade old new is b log l t x (Err g) f failed undo before same list nodes lines changed may = record {
+unmade old new is b log l t x (Ok u) f failed undo before same list nodes lines changed stays may = absurd failed
+unmade old new is b log l t x (Err g) f failed undo before same list nodes lines changed stays may = record {
   count = refl;
   before = before;
   made = tt;
@@ -45,6 +49,7 @@ unmade old new is b log l t x (Err g) f failed undo before same list nodes lines
     follows = subst (Follows is) (sym list) h.follows;
     begins = λ v on. h.begins v (subst (λ (ks : List Item). Begins ks v) list on);
   };
+  under_way = λ f h. subst (λ (T : List ℕ). IsUnderWay (map_of new) (slot_of new) T f) (sym nodes) (stays f h);
 }
 
 -- ---- a change of a path, which makes another overlay
@@ -55,7 +60,7 @@ module _ (roads : RoadMap) (is : List Item) (b : Batch) (l : Overlay) (x : Chang
       MayReport (with_change (content_under roads is b) x) (command_fault_of f) →
       Makes roads roads is b (record b { overlay = l }) x r
   path_unmade r f failed same may =
-      unmade roads roads is b b.log l b.touched x r f failed (λ h. h.undo) refl refl same refl refl refl may
+      unmade roads roads is b b.log l b.touched x r f failed (λ h. h.undo) refl refl same refl refl refl (λ f h. h) may
 
   pub path_made : (ls : List Item) → under_overlay is l ≡ ls →
       with_change (content_under roads is b) x ≡ Ok (content_on (map_of roads) ls) → HasCoords (Make x) →
@@ -88,6 +93,7 @@ module _ (roads : RoadMap) (is : List Item) (b : Batch) (l : Overlay) (x : Chang
       follows = follows h.follows;
       begins = λ v on. h.begins v (begins v on);
     });
+    under_way = λ f h. h;
   }
 
 -- ---- an edit
@@ -97,12 +103,12 @@ module _ (old new : RoadMap) (is : List Item) (b : Batch) (log : UndoLog) (t : C
   abbrev edited_batch : Batch
   edited_batch = record { log = log; overlay = b.overlay; count = b.count; touched = t }
 
-  pub edit_made : edited (map_of old) e ≡ Ok (map_of new) → HasCoord e →
+  pub edit_made : edited (map_of old) e ≡ Ok (map_of new) → KeepsSlots old new → HasCoord e →
       ((v : ℕ) → has (nodes_of t) v ≡ (has (nodes_of b.touched) v || has (touched_nodes (map_of old) e) v)) →
       ((y : ℕ) → has (lines_of t) y ≡ (has (lines_of b.touched) y || has (touched_lines e) y)) →
       changed_of t ≡ changed_of b.touched ++ changes_of (map_of old) e →
       Makes old new is b edited_batch (On_map e) (Ok tt)
-  edit_made done placed nodes lines changed =
+  edit_made done slots placed nodes lines changed =
       let content : with_change (content_under old is b) (On_map e)
       ≡ Ok (content_on (map_of new) (under_overlay is b.overlay)) = ap (with_map (content_under old is b)) done in
       record {
@@ -132,4 +138,9 @@ module _ (old new : RoadMap) (is : List Item) (b : Batch) (log : UndoLog) (t : C
           follows = h.follows;
           begins = h.begins;
         };
+        under_way = λ f. edit_under_way (map_of old) (map_of new) (slot_of old) (slot_of new) (touched_nodes (map_of old) e) f
+            (is_edit old new slots e done (touched_nodes (map_of old) e) (edit_differs (map_of old) (map_of new) e done).nodes)
+            (nodes_of b.touched) (nodes_of t)
+            (λ v on. nodes v ∙ or_left (has (nodes_of b.touched) v) (has (touched_nodes (map_of old) e) v) on)
+            (λ v on. nodes v ∙ or_right (has (nodes_of b.touched) v) (has (touched_nodes (map_of old) e) v) on);
       }

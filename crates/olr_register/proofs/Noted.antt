@@ -3,8 +3,8 @@ use Rattle.olr_register.proofs.Common.{inl, inr, ◌≡◌, ℕ, false, true, Li
 use Rattle.olr_register.proofs.Common.{◌||◌, AllByRecursion, or_right, list_any-append, Map, IsMap, Edit, edited, start}
 use Rattle.olr_register.proofs.Common.{touched_nodes, touched_lines, has, is_path, ChangedLine, changes_of, EditPlan}
 use Rattle.olr_register.proofs.Common.{Item, AreEncodingsIfAny, all_named, nodes_of, lines_of, changed_of, ChangeSet}
-use Rattle.olr_register.proofs.Common.{IsNotedOf, AreEditsNoted, Some, RoadMap, map_of, map_before, DistanceBounds}
-use Rattle.olr_register.proofs.Common.{under_overlay, IsKeptRight, CanRenew, Batch, ◌==◌, Contains}
+use Rattle.olr_register.proofs.Common.{IsNotedOf, AreEditsNoted, Some, RoadMap, map_of, map_before}
+use Rattle.olr_register.proofs.Common.{under_overlay, IsRegister, CanRenew, Batch, ◌==◌, Contains}
 use Rattle.std.specs.Option.{option_to_list}
 use Rattle.std.proofs.lemmas.Bool.{or_left}
 use Rattle.std.proofs.lemmas.List.Elements.{Contains-append_cases}
@@ -119,16 +119,14 @@ is_before M N T X C is noted sound paths made =
     }
 
 -- what a commit renews
-pub can_commit : (roads : RoadMap) (is : List Item) (b : Batch) (bounds : DistanceBounds) →
-    IsKeptRight roads is (Some b) bounds →
-    CanRenew (map_before roads b.log) (map_of roads) is (under_overlay is b.overlay) b.touched bounds
-can_commit roads is b bounds h =
-    let held = h.register.held in
+pub can_commit : (roads : RoadMap) (is : List Item) (b : Batch) → IsRegister roads is (Some b) →
+    CanRenew (map_before roads b.log) (map_of roads) is (under_overlay is b.overlay) b.touched
+can_commit roads is b h =
+    let held = h.held in
     record {
       names = held.sound.names;
       follows = held.follows;
-      bounded = record { under_way = h.bounded.under_way; sources = λ l on. h.bounded.sources l (held.begins l on) };
       before =
           is_before (map_before roads b.log) (map_of roads) (nodes_of b.touched) (lines_of b.touched)
-          (changed_of b.touched) (under_overlay is b.overlay) held.noted h.register.content.map held.sound.paths held.made;
+          (changed_of b.touched) (under_overlay is b.overlay) held.noted h.content.map held.sound.paths held.made;
     }

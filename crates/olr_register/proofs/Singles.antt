@@ -29,7 +29,7 @@ use Rattle.olr_register.proofs.Noted.{noted_edit, is_before}
 use Rattle.olr_register.proofs.Outcomes.{answered_counted, answered_refused, Accepts}
 use Rattle.olr_register.proofs.Renewed.{remade_made, made_if_any}
 use Rattle.olr_register.proofs.Replies.{planned_changes, reported_add, reported_set, reported_drop}
-use Rattle.olr_register.proofs.States.{state, of_parts, kept_moved, in_states}
+use Rattle.olr_register.proofs.States.{state, of_parts, register_moved, in_states}
 use Rattle.olr_register.specs.declared.batch.Batch.{Batch as Open}
 use Rattle.olr_register.specs.declared.register.Register.TheInside.{Inside}
 use Rattle.olr_commands.specs.Reply as replies
@@ -95,21 +95,21 @@ module _ (r : Inside) {x : Registered} (view : of_parts r.roads (items r.paths) 
     right : IsKeptRight r.roads is None r.bounds
     right = subst (λ (o : Option Open). IsKeptRight r.roads is o r.bounds) shut h
 
-    pub kept_bounds : HasBounds M is r.bounds
+    pub kept_bounds : HasBounds r.roads [] is r.bounds
     kept_bounds = right.bounded
 
     -- where nothing changes but the bounds
     pub same_right : (later : RoadMap) (js : List Item) (f : DistanceBounds) → map_of later ≡ M → js ≡ is →
-        HasBounds (map_of later) js f → IsKeptRight later js r.batch f
+        HasBounds later [] js f → IsKeptRight later js r.batch f
     same_right later js f map list bounded =
         rw shut (record {
-          register = rw list (kept_moved r.roads later is None None r.bounds map tt right).register;
+          register = rw list (register_moved r.roads later is None None map tt right.register);
           bounded = bounded;
         })
 
     still_right : (y : Change) (later : RoadMap) (js : List Item) (f : DistanceBounds) → HasCoords (Make y) →
         with_change c y ≡ Ok (content_on (map_of later) js) → AreEncodings (map_of later) js →
-        HasBounds (map_of later) js f → IsKeptRight later js r.batch f
+        HasBounds later [] js f → IsKeptRight later js r.batch f
     still_right y later js f placed ok made bounded = rw shut (record {
       register = record {
         content = changes_keep c (content_on (map_of later) js) y right.register.content placed ok;
@@ -121,11 +121,10 @@ module _ (r : Inside) {x : Registered} (view : of_parts r.roads (items r.paths) 
 
     -- ---- edits
 
-    pub can_edit : (e : Edit) (t : ChangeSet) → IsNotedOf M e t → CanRenewAfter M e is t r.bounds
+    pub can_edit : (e : Edit) (t : ChangeSet) → IsNotedOf M e t → CanRenewAfter M e is t
     can_edit e t noted N done = record {
       names = right.register.content.names;
       follows = follows_self is right.register.content.names;
-      bounded = right.bounded;
       before =
           is_before M N (nodes_of t) (lines_of t) (changed_of t) is
           (noted_edit M N e (nodes_of t) (lines_of t) (changed_of t) done noted.nodes noted.lines noted.changed)
@@ -137,7 +136,7 @@ module _ (r : Inside) {x : Registered} (view : of_parts r.roads (items r.paths) 
       bare_ok : is ≡ [] → with_change c (On_map e) ≡ Ok (content_on (map_of later) [])
       bare_ok bare = rw bare (ap (with_map (content_on M [])) done)
 
-      pub bare_right : (f : DistanceBounds) → HasCoord e → is ≡ [] → HasBounds (map_of later) [] f →
+      pub bare_right : (f : DistanceBounds) → HasCoord e → is ≡ [] → HasBounds later [] [] f →
           IsKeptRight later is r.batch f
       bare_right f placed bare bounded = rw bare (still_right (On_map e) later [] f placed (bare_ok bare) tt bounded)
 
@@ -156,7 +155,7 @@ module _ (r : Inside) {x : Registered} (view : of_parts r.roads (items r.paths) 
             ap (with_map c) done
             ∙ ap (λ (ps : List Named). Ok (record { map = map_of later; paths = ps })) (sym renewal.named)
 
-        pub edit_right : (f : DistanceBounds) → HasCoord e → HasBounds (map_of later) js f → IsKeptRight later js r.batch f
+        pub edit_right : (f : DistanceBounds) → HasCoord e → HasBounds later [] js f → IsKeptRight later js r.batch f
         edit_right f placed bounded =
             still_right (On_map e) later js f placed edit_ok (remade_made (map_of later) is js renewal.remade) bounded
 
@@ -206,13 +205,13 @@ module _ (r : Inside) {x : Registered} (view : of_parts r.roads (items r.paths) 
           abbrev replaced : List Item
           replaced = map (set_item name path (Some m)) is
 
-          pub add_right : (f : DistanceBounds) → has_name is name ≡ false → js ≡ added → HasBounds M js f →
+          pub add_right : (f : DistanceBounds) → has_name is name ≡ false → js ≡ added → HasBounds r.roads [] js f →
               IsKeptRight r.roads js r.batch f
           add_right f free list bounded =
               still_right (Add_path name path) r.roads js f tt (rw list (add_ok M is name path (Some m) free good))
               (rw list (each_add (each_encoded M) is _ (m, refl, encoded) right.register.made)) bounded
 
-          pub set_right : (f : DistanceBounds) → has_name is name ≡ true → js ≡ replaced → HasBounds M js f →
+          pub set_right : (f : DistanceBounds) → has_name is name ≡ true → js ≡ replaced → HasBounds r.roads [] js f →
               IsKeptRight r.roads js r.batch f
           set_right f there list bounded =
               still_right (Set_path name path) r.roads js f tt (rw list (set_ok M is name path (Some m) there good))

@@ -1,8 +1,8 @@
 -- The states that a register represents, with a batch open or not.
 use Rattle.olr_register.proofs.Common.{◌≡◌, ℕ, List, Option, Some, None, sym, subst, IfSome, Map, RoadMap, Work}
-use Rattle.olr_register.proofs.Common.{Content, IsContent, Change, State, DistanceBounds, Item, AreEncodings}
+use Rattle.olr_register.proofs.Common.{Content, IsContent, Change, State, Item, AreEncodings}
 use Rattle.olr_register.proofs.Common.{RegisterState, IsBatchOf, Represents, Registered, content_on, map_kept, kept_of}
-use Rattle.olr_register.proofs.Common.{IsHeld, HasBounds, IsKeptRight}
+use Rattle.olr_register.proofs.Common.{IsHeld, IsRegister}
 use Rattle.olr_register.specs.RegisterState.{Batch, RepresentsBatch}
 use Rattle.olr_register.specs.declared.batch.Batch.{Batch as Open}
 
@@ -17,15 +17,12 @@ abbrev pub of_parts : RoadMap → List Item → Option Open → Work → ℕ →
 of_parts roads is b w n = record { kept = kept_of roads is b; work = w; retained = n }
 
 -- what is true of a register, on the same map and list with another batch
-pub kept_moved : (old new : RoadMap) (is : List Item) (o p : Option Open) (bounds : DistanceBounds) →
-    map_kept new p ≡ map_kept old o → IfSome p (IsHeld new is) → IsKeptRight old is o bounds → IsKeptRight new is p bounds
-kept_moved old new is o p bounds same held h = record {
-  register = record {
-    content = subst (λ (M : Map). IsContent (content_on M is)) (sym same) h.register.content;
-    made = subst (λ (M : Map). AreEncodings M is) (sym same) h.register.made;
-    held = held;
-  };
-  bounded = subst (λ (M : Map). HasBounds M is bounds) (sym same) h.bounded;
+pub register_moved : (old new : RoadMap) (is : List Item) (o p : Option Open) → map_kept new p ≡ map_kept old o →
+    IfSome p (IsHeld new is) → IsRegister old is o → IsRegister new is p
+register_moved old new is o p same held h = record {
+  content = subst (λ (M : Map). IsContent (content_on M is)) (sym same) h.content;
+  made = subst (λ (M : Map). AreEncodings M is) (sym same) h.made;
+  held = held;
 }
 
 -- P holds of each state that they represent

@@ -3,6 +3,8 @@
 --     AreGiven names hs      `given` is true for the paths that have one of the names
 --     MayReport taking fault      the first fault, or out of memory where no fault takes precedence over it
 --     IsMade old new ks ls s t x      the change leads from the first map, list and record of edits to the second
+--     StaysUnderWay old new b d      bounds that are under way on the old map, but for what batch b touched, are so on the
+--         new map, but for what batch d touched
 --     Makes old new is b d x result      it is made, or it is rejected and the batch is unchanged
 --     HoldsChange old new is b d x result      it is held too, or it is rejected
 use Rattle.std.specs.Prelude.{◌≡◌, ℕ, suc, ◌||◌, ◌++◌, List, map, Result, Ok, Err, OnOk, OnErr, nat_le, IsFalse, string_bytes}
@@ -11,8 +13,10 @@ use Rattle.std.specs.List.{list_any, AllByRecursion}
 use Rattle.olr_spec.specs.Map.{has}
 use Rattle.olr_spec.specs.Extension.{Path}
 use Rattle.olr_roads.specs.Edits.{edit_of}
-use Rattle.olr_map.specs.RoadMaps.{map_of, map_before}
+use Rattle.olr_map.specs.RoadMaps.{map_of, slot_of, map_before}
 use Rattle.olr_map.specs.declared.road_map.RoadMap.{RoadMap}
+use Rattle.olr_near.specs.Bounds.{IsUnderWay}
+use Rattle.olr_near.specs.declared.distance_bounds.DistanceBounds.{DistanceBounds}
 use Rattle.olr_commands.specs.State as state
 use Rattle.olr_commands.specs.State.{Content, Fault, Memory, Batch_full, full, when, with_change, same_name}
 use Rattle.olr_commands.specs.Reply.{is_reported_first}
@@ -61,6 +65,11 @@ abbrev pub IsMadeIn : RoadMap → RoadMap → List Item → Batch → Batch → 
 IsMadeIn old new is b d x =
     IsMade old new (under_overlay is b.overlay) (under_overlay is d.overlay) b.touched d.touched x
 
+abbrev pub StaysUnderWay : RoadMap → RoadMap → Batch → Batch → Type 0
+StaysUnderWay old new b d =
+    (bounds : DistanceBounds) → IsUnderWay (map_of old) (slot_of old) (nodes_of b.touched) bounds →
+    IsUnderWay (map_of new) (slot_of new) (nodes_of d.touched) bounds
+
 pub record Makes (old new : RoadMap) (is : List Item) (b d : Batch) (x : state.Change)
     (result : Result (Unit {0}) CommandFault) : Type 0
   where
@@ -70,6 +79,7 @@ pub record Makes (old new : RoadMap) (is : List Item) (b d : Batch) (x : state.C
     pub refused : IfErr result (λ f. MayReport (with_change (content_under old is b) x) (command_fault_of f))
     pub unchanged : OnErr result (batch_of new is d ≡ batch_of old is b)
     pub held : IsHeld old is b → IsHeld new is d
+    pub under_way : StaysUnderWay old new b d
 
 -- the content after the held changes and this one, or the first fault
 abbrev pub content_with : RoadMap → List Item → Batch → state.Change → Result Content Fault
@@ -86,3 +96,4 @@ pub record HoldsChange (old new : RoadMap) (is : List Item) (b d : Batch) (x : s
     pub refused : IfErr result (λ f. MayReport (content_with old is b x) (command_fault_of f))
     pub unchanged : OnErr result (batch_of new is d ≡ batch_of old is b)
     pub held : IsHeld new is d
+    pub under_way : StaysUnderWay old new b d

@@ -3,16 +3,17 @@
 --     known_in made      the known coverage queries of results, if there are some
 --     AreEditsNoted M N T X C      what is recorded of edits that lead from M to N
 --     IsHeld, IsRegister      what is true of an open batch, and of map, list and batch
---     HasBounds M is bounds      each coverage query of the list is a source of the bounds, and once they are settled they are
---         right on the map
+--     HasBounds roads T is bounds      each coverage query of the list is a source of the bounds, and once they are settled
+--         they are right on the map, if the nodes T are reopened before
+--     touched_in batch      the nodes that the edits of an open batch touched
 --     IsKeptRight      what is true of the whole
---     CanRenew M N is ls t bounds      the list ls, which the changes of a batch made of the list is, can be renewed after
+--     CanRenew M N is ls t      the list ls, which the changes of a batch made of the list is, can be renewed after
 --         edits t that led from M to N
 use Rattle.std.specs.Prelude.{ℕ, ◌≤◌, List, [], map, Contains, Option, Some, None, is_none, IfSome, IsTrue}
 use Rattle.olr_spec.specs.Map.{Map, has}
 use Rattle.olr_spec.specs.Detours.{ChangedLine, Difference}
 use Rattle.olr_spec.specs.Queries.{CoverageQuery, KnownQuery}
-use Rattle.olr_map.specs.RoadMaps.{map_of, CanUndoAll, map_before}
+use Rattle.olr_map.specs.RoadMaps.{map_of, slot_of, CanUndoAll, map_before}
 use Rattle.olr_map.specs.declared.road_map.RoadMap.{RoadMap}
 use Rattle.olr_map.specs.declared.undo.UndoLog.{UndoLog}
 use Rattle.olr_near.specs.Bounds.{IsSource, IsUnderWay}
@@ -101,16 +102,19 @@ pub record IsRegister (roads : RoadMap) (is : List Item) (batch : Option Batch) 
   pub made : AreEncodings (map_kept roads batch) is
   pub held : IfSome batch (IsHeld roads is)
 
-pub record HasBounds (M : Map) (is : List Item) (bounds : DistanceBounds) : Type 0 where
-  pub under_way : IsUnderWay M bounds
+abbrev pub touched_in : Option Batch → List ℕ
+touched_in None = []
+touched_in (Some b) = nodes_of b.touched
+
+pub record HasBounds (roads : RoadMap) (T : List ℕ) (is : List Item) (bounds : DistanceBounds) : Type 0 where
+  pub under_way : IsUnderWay (map_of roads) (slot_of roads) T bounds
   pub sources : (l : CoverageQuery) → Begins is l → IsSource bounds l.from l.within
 
 pub record IsKeptRight (roads : RoadMap) (is : List Item) (batch : Option Batch) (bounds : DistanceBounds) : Type 0 where
   pub register : IsRegister roads is batch
-  pub bounded : HasBounds (map_kept roads batch) is bounds
+  pub bounded : HasBounds roads (touched_in batch) is bounds
 
-pub record CanRenew (M N : Map) (is ls : List Item) (t : ChangeSet) (bounds : DistanceBounds) : Type 0 where
+pub record CanRenew (M N : Map) (is ls : List Item) (t : ChangeSet) : Type 0 where
   pub names : NamesDiffer (all_named ls)
   pub follows : Follows is ls
-  pub bounded : HasBounds M ls bounds
   pub before : IsBefore M N (nodes_of t) (lines_of t) (changed_of t) ls

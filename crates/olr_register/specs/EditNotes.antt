@@ -1,12 +1,14 @@
 -- What is recorded of an edit that was judged, and what making it does to a map and a list.
 --     IsNotedOf M e t      what the edit touches and changes, and nothing else
---     CanRenewAfter M e is t bounds      after the edit, which t records, the list can be renewed
---     IsEditMade M N e t is js bounds result      the edit leads from M to N, and the list is is renewed to js; or,
---         if an allocation failed, map and list are unchanged. The bounds are right either way
-use Rattle.std.specs.Prelude.{◌≡◌, ℕ, List, Result, Ok, OnOk, OnErr, IfOk}
+--     CanRenewAfter M e is t      after the edit, which t records, the list can be renewed
+--     IsEditMade old new e t is js bounds result      the edit leads from the old map to the new one, and the list is is
+--         renewed to js; or, if an allocation failed, map and list are unchanged. The bounds are right either way
+use Rattle.std.specs.Prelude.{◌≡◌, ℕ, List, [], Result, Ok, OnOk, OnErr, IfOk}
 use Rattle.std.specs.declared.alloc.AllocError.{AllocError}
 use Rattle.olr_spec.specs.Map.{Map, Edit, edited, touched_nodes, touched_lines, has}
 use Rattle.olr_spec.specs.Detours.{changes_of}
+use Rattle.olr_map.specs.RoadMaps.{map_of}
+use Rattle.olr_map.specs.declared.road_map.RoadMap.{RoadMap}
 use Rattle.olr_list.specs.ChangeSets.{nodes_of, lines_of, changed_of}
 use Rattle.olr_list.specs.declared.change_set.ChangeSet.{ChangeSet}
 use Rattle.olr_list.specs.Items.{Item}
@@ -20,13 +22,13 @@ pub record IsNotedOf (M : Map) (e : Edit) (t : ChangeSet) : Type 0 where
   pub lines : (y : ℕ) → has (lines_of t) y ≡ has (touched_lines e) y
   pub changed : changed_of t ≡ changes_of M e
 
-abbrev pub CanRenewAfter : Map → Edit → List Item → ChangeSet → DistanceBounds → Type 0
-CanRenewAfter M e is t bounds = (N : Map) → edited M e ≡ Ok N → CanRenew M N is is t bounds
+abbrev pub CanRenewAfter : Map → Edit → List Item → ChangeSet → Type 0
+CanRenewAfter M e is t = (N : Map) → edited M e ≡ Ok N → CanRenew M N is is t
 
-pub record IsEditMade (M N : Map) (e : Edit) (t : ChangeSet) (is js : List Item) (bounds : DistanceBounds)
+pub record IsEditMade (old new : RoadMap) (e : Edit) (t : ChangeSet) (is js : List Item) (bounds : DistanceBounds)
     (result : Result Renewed AllocError) : Type 0 where
-  pub done : OnOk result (edited M e ≡ Ok N)
-  pub renewed : IfOk result (IsRenewal N t is is js)
-  pub bounded : HasBounds N js bounds
-  pub same_map : OnErr result (N ≡ M)
+  pub done : OnOk result (edited (map_of old) e ≡ Ok (map_of new))
+  pub renewed : IfOk result (IsRenewal (map_of new) t is is js)
+  pub bounded : HasBounds new [] js bounds
+  pub same_map : OnErr result (map_of new ≡ map_of old)
   pub same_list : OnErr result (js ≡ is)

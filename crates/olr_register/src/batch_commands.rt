@@ -2,7 +2,7 @@
 ghost use Rattle.olr_commands.specs.State.{Begin, Commit, Abort};
 
 use crate::batch::Batch;
-use crate::bounds::renew;
+use crate::bounds::{renew, undo_edits};
 use crate::register::Register;
 use olr_commands::{CommandFault, Reply};
 use olr_map::UndoLog;
@@ -58,7 +58,8 @@ impl Register {
         Ok(Reply::Paths(renewed.entries))
     }
 
-    /// Drops all held changes: the map is again the one before the batch. Takes no memory.
+    /// Drops all held changes: the map is again the one before the batch. Never out of memory: if the nodes that the
+    /// batch touched can't be noted, the distance bounds are unknown.
     #[inline(never)]
     pub(crate) fn abort(&mut self) -> Result<Reply, CommandFault>
         ensures { Answered self.old Abort result self.new }
@@ -72,7 +73,7 @@ impl Register {
                     ..
                 },
             ) => {
-                self.roads.undo_all(log);
+                undo_edits(&mut self.roads, &mut self.bounds, log, &touched);
                 drop(overlay);
                 drop(touched);
                 Ok(Reply::Paths(Vec::new(self.alloc)))

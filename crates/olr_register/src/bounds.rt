@@ -1,17 +1,18 @@
 //! Distance bounds, which cut the search from an edit, and the renewal of a list with them.
-ghost use Rattle.std.specs.Prelude.{◌≡◌, ◌⊎◌, ℕ, List, Contains, IfOk, OnOk, OnErr, IsFalse};
+ghost use Rattle.std.specs.Prelude.{◌≡◌, ◌⊎◌, ℕ, List, [], Contains, IfOk, OnOk, OnErr, IsFalse};
 ghost use Rattle.olr_spec.specs.Map.{Map};
 ghost use Rattle.olr_spec.specs.Queries.{CoverageQuery as QueryRecord};
-ghost use Rattle.olr_map.specs.RoadMaps.{map_of};
-ghost use Rattle.olr_near.specs.Bounds.{IsUnderWay, IsSource, SameBut};
+ghost use Rattle.olr_map.specs.RoadMaps.{map_of, slot_of, CanUndoAll, map_before};
+ghost use Rattle.olr_map.specs.declared.road_map.RoadMap.{RoadMap as Roads};
+ghost use Rattle.olr_near.specs.Bounds.{IsUnderWay, IsSource};
 ghost use Rattle.olr_list.specs.Items.{Item, items};
 ghost use Rattle.olr_list.specs.Origins.{AreBoundsOf, Begins, new_origins_in};
 ghost use Rattle.olr_list.specs.Overlaid.{under_overlay};
 ghost use Rattle.olr_paths.specs.Reencoded.{IsRenewal};
-ghost use Rattle.olr_list.specs.ChangeSets.{nodes_of};
-ghost use Rattle.olr_register.specs.Contents.{HasBounds, CanRenew};
+ghost use Rattle.olr_list.specs.ChangeSets.{nodes_of, lines_of, changed_of};
+ghost use Rattle.olr_register.specs.Contents.{AreEditsNoted, HasBounds, CanRenew};
 
-use olr_map::RoadMap;
+use olr_map::{RoadMap, UndoLog};
 use olr_near::DistanceBounds;
 use olr_paths::{ChangeSet, Overlay, PathList, Renewed, Searches, renew_over};
 use olr_refs::CoverageQuery;
@@ -22,8 +23,8 @@ const LEAST: usize = 65_536;
 
 /// Makes the bounds right on the map after edits that touched these nodes. If an allocation fails, they are unknown.
 fn settle_bounds(bounds: &mut DistanceBounds, roads: &RoadMap, touched: &ChangeSet)
-    ensures { (M : Map) (is : List Item) → SameBut (nodes_of touched.now) M (map_of roads.now) → HasBounds M is bounds.old
-        → AreBoundsOf (map_of roads.now) bounds.new is }
+    ensures { (is : List Item) → HasBounds roads.now (nodes_of touched.now) is bounds.old
+        → AreBoundsOf (map_of roads.now) (slot_of roads.now) bounds.new is }
 {
     let _ = bounds.reopen(touched.nodes());
     let _ = bounds.settle(roads);
@@ -32,7 +33,7 @@ fn settle_bounds(bounds: &mut DistanceBounds, roads: &RoadMap, touched: &ChangeS
 /// Adds coverage queries, whose lines are followed when the bounds are settled. If an allocation fails, the bounds are
 /// unknown.
 fn add_sources(bounds: &mut DistanceBounds, queries: &[CoverageQuery])
-    ensures under_way { (M : Map) → IsUnderWay M bounds.old → IsUnderWay M bounds.new }
+    ensures under_way { (M : Map) (slot : ℕ → ℕ) (T : List ℕ) → IsUnderWay M slot T bounds.old → IsUnderWay M slot T bounds.new }
     ensures before { (s w : ℕ) → IsSource bounds.old s w → IsSource bounds.new s w }
     ensures sources { (l : QueryRecord) → Contains queries.now l → IsSource bounds.new l.from l.within }
 {
@@ -48,7 +49,7 @@ fn add_sources(bounds: &mut DistanceBounds, queries: &[CoverageQuery])
 /// they are unknown.
 #[inline(never)]
 fn bounds_from_scratch(alloc: Global, bounds: &mut DistanceBounds, paths: &PathList)
-    ensures { (M : Map) → HasBounds M (items paths.now) bounds.new }
+    ensures { (roads : Roads) (T : List ℕ) → HasBounds roads T (items paths.now) bounds.new }
 {
     let mut new_origins = Vec::new(alloc);
     match paths.note_queries(&mut new_origins) {
@@ -60,26 +61,30 @@ fn bounds_from_scratch(alloc: Global, bounds: &mut DistanceBounds, paths: &PathL
     }
 }
 
-/// Whether searches that found no path have labelled more nodes in all than it costs to rebuild the bounds.
-fn is_worn(bounds: &DistanceBounds, paths: &PathList, searches: &Searches) -> bool {
+/// Whether the bounds are unknown, or searches that found no path have labelled more nodes in all than it costs to rebuild
+/// the bounds.
+fn must_rebuild(bounds: &DistanceBounds, paths: &PathList, searches: &Searches) -> bool {
+    if !bounds.is_known() {
+        return true;
+    }
     let cost = bounds.len().saturating_add(paths.len()).saturating_mul(4);
     searches.wasted_labels() > cost.saturating_add(LEAST)
 }
 
-/// Adds sources to the bounds where new coverage queries of the list begin, or begins the bounds from scratch if
-/// searches that found no path have cost more than that would. The next edit settles them.
+/// Adds sources to the bounds where new coverage queries of the list begin, or begins the bounds from scratch if they are
+/// unknown, or if searches that found no path have cost more than that would. The next edit settles them.
 pub(crate) fn renew_bounds(
     alloc: Global,
     bounds: &mut DistanceBounds,
     paths: &PathList,
     searches: &mut Searches,
 )
-    ensures { (M : Map) (is : List Item) → HasBounds M is bounds.old
+    ensures { (roads : Roads) (T : List ℕ) (is : List Item) → HasBounds roads T is bounds.old
         → ((l : QueryRecord) → Begins (items paths.now) l → Begins is l ⊎ Contains (new_origins_in searches.old) l)
-        → HasBounds M (items paths.now) bounds.new }
+        → HasBounds roads T (items paths.now) bounds.new }
 {
     add_sources(bounds, searches.new_origins());
-    if !is_worn(bounds, paths, searches) {
+    if !must_rebuild(bounds, paths, searches) {
         return;
     }
     searches.reset_wasted_labels();
@@ -98,11 +103,12 @@ pub(crate) fn renew(
     bounds: &mut DistanceBounds,
     searches: &mut Searches,
 ) -> Result<Renewed, AllocError>
-    requires { (M : Map) × CanRenew M (map_of roads.now) (items paths.old)
-        (under_overlay (items paths.old) overlay.now) touched.now bounds.old }
+    requires renewable { (M : Map) × CanRenew M (map_of roads.now) (items paths.old)
+        (under_overlay (items paths.old) overlay.now) touched.now }
+    requires bounded { HasBounds roads.now (nodes_of touched.now) (under_overlay (items paths.old) overlay.now) bounds.old }
     ensures renewed { IfOk result (IsRenewal (map_of roads.now) touched.now (items paths.old)
         (under_overlay (items paths.old) overlay.now) (items paths.new)) }
-    ensures bounded { OnOk result (HasBounds (map_of roads.now) (items paths.new) bounds.new) }
+    ensures bounded { OnOk result (HasBounds roads.now [] (items paths.new) bounds.new) }
     ensures err { OnErr result (items paths.new ≡ items paths.old) }
     ensures unknown { OnErr result (IsFalse bounds.new.known) }
 {
@@ -117,4 +123,28 @@ pub(crate) fn renew(
             Err(error)
         }
     }
+}
+
+/// Undoes the edits of a log, which touched these nodes and lines, and reopens the nodes. The bounds are unknown after that
+/// if an edit dropped a node, which may now be in another slot, or if an allocation fails.
+pub(crate) fn undo_edits(
+    roads: &mut RoadMap,
+    bounds: &mut DistanceBounds,
+    log: UndoLog,
+    touched: &ChangeSet,
+)
+    requires undo { CanUndoAll roads.old log }
+    requires noted { AreEditsNoted (map_before roads.old log) (map_of roads.old) (nodes_of touched.now)
+        (lines_of touched.now) (changed_of touched.now) }
+    ensures map { map_of roads.new ≡ map_before roads.old log }
+    ensures bounded { (is : List Item) → HasBounds roads.old (nodes_of touched.now) is bounds.old
+        → HasBounds roads.new [] is bounds.new }
+{
+    let drops_nodes = log.drops_nodes();
+    roads.undo_all(log);
+    if drops_nodes {
+        bounds.forget();
+        return;
+    }
+    let _ = bounds.reopen(touched.nodes());
 }

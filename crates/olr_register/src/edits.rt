@@ -1,5 +1,5 @@
 //! Edits of the map that are made at once, outside a batch.
-ghost use Rattle.std.specs.Prelude.{◌≡◌, ◌≢◌, ℕ, length, map as list_map, None, OnOk};
+ghost use Rattle.std.specs.Prelude.{◌≡◌, ◌≢◌, ℕ, [], length, map as list_map, None, OnOk};
 ghost use Rattle.std.specs.Option.{option_to_list};
 ghost use Rattle.olr_spec.specs.Map.{Map, Edit as EditRecord};
 ghost use Rattle.olr_roads.specs.Edits.{edit_of};
@@ -55,10 +55,10 @@ fn make_and_search(
     searches: &mut Searches,
 ) -> Result<Renewed, AllocError>
     requires plan { IsEditPlan (map_of roads.old) (slot_of roads.old) (edit_of edit) plan.now }
-    requires bounded { HasBounds (map_of roads.old) (items paths.old) bounds.old }
-    requires renewable { CanRenewAfter (map_of roads.old) (edit_of edit) (items paths.old) touched.now bounds.old }
-    ensures { IsEditMade (map_of roads.old) (map_of roads.new) (edit_of edit) touched.now (items paths.old)
-        (items paths.new) bounds.new result }
+    requires bounded { HasBounds roads.old [] (items paths.old) bounds.old }
+    requires renewable { CanRenewAfter (map_of roads.old) (edit_of edit) (items paths.old) touched.now }
+    ensures { IsEditMade roads.old roads.new (edit_of edit) touched.now (items paths.old) (items paths.new) bounds.new
+        result }
 {
     let undo = roads.make(edit, plan)?;
     let none = Overlay::new(alloc);
@@ -89,12 +89,12 @@ fn make_and_renew(
     searches: &mut Searches,
 ) -> Result<Renewed, AllocError>
     requires plan { IsEditPlan (map_of roads.old) (slot_of roads.old) (edit_of edit) plan.now }
-    requires bounded { HasBounds (map_of roads.old) (items paths.old) bounds.old }
-    requires renewable { CanRenewAfter (map_of roads.old) (edit_of edit) (items paths.old) touched.now bounds.old }
-    ensures { IsEditMade (map_of roads.old) (map_of roads.new) (edit_of edit) touched.now (items paths.old)
-        (items paths.new) bounds.new result }
+    requires bounded { HasBounds roads.old [] (items paths.old) bounds.old }
+    requires renewable { CanRenewAfter (map_of roads.old) (edit_of edit) (items paths.old) touched.now }
+    ensures { IsEditMade roads.old roads.new (edit_of edit) touched.now (items paths.old) (items paths.new) bounds.new
+        result }
 {
-    let Some(renewed) = renew_unaffected(paths, alloc, touched, bounds) else {
+    let Some(renewed) = renew_unaffected(paths, alloc, roads, touched, bounds) else {
         return make_and_search(alloc, roads, paths, edit, plan, touched, bounds, searches);
     };
     roads.make_kept(edit, plan)?;

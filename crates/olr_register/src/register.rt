@@ -23,8 +23,8 @@ pub struct Register {
     /// How many of the counted encodings were not made, because the answer was retained.
     pub(crate) retained: u64,
     pub(crate) batch: Option<Batch>,
-    /// Distance bounds, which show that no coverage query begins near an edit. They are settled when an edit needs them.
-    /// While a batch is open, on the map before it.
+    /// Distance bounds, which show that no coverage query begins near an edit. They are settled when an edit or a commit
+    /// needs them; what the edits of an open batch touched is reopened then.
     pub(crate) bounds: DistanceBounds,
 }
 

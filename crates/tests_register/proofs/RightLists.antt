@@ -64,8 +64,9 @@ right_before M N e t is sound ok noted h =
     h.made
 
 -- unknown bounds say nothing
-pub bounds_unknown : (M : Map) (is : List Item) (f : DistanceBounds) → IsFalse f.known → AreBoundsOf M f is
-bounds_unknown M is f off =
+pub bounds_unknown : (M : Map) (slot : ℕ → ℕ) (is : List Item) (f : DistanceBounds) → IsFalse f.known →
+    AreBoundsOf M slot f is
+bounds_unknown M slot is f off =
     record {
       right = λ on. let never : ⊥ = cc (on, off) in absurd never;
       sources = λ l begins on. let never : ⊥ = cc (on, off) in absurd never;

@@ -54,6 +54,21 @@ fn an_answer_is_retained_by_a_batch(rt: HostRuntime) {
     ends(&rt, register, 4, 2);
 }
 
+/// Has a batch hold two edits, and aborts it.
+fn aborts(rt: &impl Abort, register: &mut Register, first: Edit, second: Edit) {
+    expect_reported(rt, register, Command::Begin, &[]);
+    holds(rt, register, Command::Edit(first), 1);
+    holds(rt, register, Command::Edit(second), 2);
+    expect_reported(rt, register, Command::Abort, &[]);
+}
+
+/// Makes the side road of the worked path longer, for which a coverage query is searched again.
+fn make_longer(rt: &impl Abort, alloc: Global, register: &mut Register) {
+    let longer = other_line(alloc, 99, 1900, STRAIGHT).expect(rt, "memory");
+    edits(rt, register, longer);
+    expect_searches(rt, register, 2);
+}
+
 #[test]
 fn a_coverage_query_that_is_clear_is_not_searched_again(rt: HostRuntime) {
     let mut register = three_points(&rt, rt.alloc());
@@ -62,10 +77,30 @@ fn a_coverage_query_that_is_clear_is_not_searched_again(rt: HostRuntime) {
     add_blind_road(&rt, rt.alloc(), &mut register);
     expect_searches(&rt, &register, 1);
     // The side road is a detour beside the second line.
-    let longer = other_line(rt.alloc(), 99, 1900, STRAIGHT).expect(&rt, "memory");
-    edits(&rt, &mut register, longer);
-    expect_searches(&rt, &register, 2);
+    make_longer(&rt, rt.alloc(), &mut register);
     expect_text(&rt, &register, "a", Some(TEXT));
+    ends(&rt, register, 4, 1);
+}
+
+#[test]
+fn a_path_is_found_after_a_batch_is_aborted(rt: HostRuntime) {
+    let mut register = with_blind_road(&rt, rt.alloc());
+    let added = plain_line(rt.alloc(), (80, 7, 8, 500));
+    aborts(&rt, &mut register, new_node((8, 613_200, 4_960_400)), added);
+    make_longer(&rt, rt.alloc(), &mut register);
+    ends(&rt, register, 4, 1);
+}
+
+#[test]
+fn a_path_is_found_after_a_dropped_node_is_put_back(rt: HostRuntime) {
+    let mut register = with_blind_road(&rt, rt.alloc());
+    aborts(
+        &rt,
+        &mut register,
+        Edit::DropLine(line(70)),
+        Edit::DropNode(node(7)),
+    );
+    make_longer(&rt, rt.alloc(), &mut register);
     ends(&rt, register, 4, 1);
 }
 

@@ -6,7 +6,7 @@ use Rattle.olr_register.proofs.bounds.add_sources.Goals as goal
 
 pub returns-then-not-is_known : goal.returns-then-not-is_known
 returns-then-not-is_known c = record {
-  under_way = λ M h. h;
+  under_way = λ M s T h. h;
   before = λ s w h. h;
   sources = λ l on known.
       let off : c.is_known.result ≡ false = cc in
@@ -15,7 +15,7 @@ returns-then-not-is_known c = record {
 }
 
 pub loop-query-init : goal.loop-query-init
-loop-query-init c = record { under_way = λ M h. h; before = λ s w h. h; added = λ j d lt. absurd (omega arith) }
+loop-query-init c = record { under_way = λ M s T h. h; before = λ s w h. h; added = λ j d lt. absurd (omega arith) }
 
 pub loop-query-preserved : goal.loop-query-preserved
 loop-query-preserved c =
@@ -24,7 +24,7 @@ loop-query-preserved c =
     let Q : CoverageQuery → Type 0 = λ k. IsSource c.add.new.self k.from k.within in
     let item : CoverageQuery = c.query-item.result in
     record {
-      under_way = λ M h. c.add.ensures.under_way M (inv.under_way M h);
+      under_way = λ M s T h. c.add.ensures.under_way M s T (inv.under_way M s T h);
       before = λ s w h. c.add.ensures.sources s w (inv.before s w h);
       added =
           all_more Q c.args.queries.now c.loop-query.query-index item c.loop-query-test.true

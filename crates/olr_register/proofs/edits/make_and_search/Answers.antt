@@ -1,25 +1,32 @@
-use Rattle.olr_register.proofs.Common.{◌∙◌, items, map_of, refl}
-use Rattle.olr_register.proofs.Bounded.{bounded_unknown}
+use Rattle.olr_register.proofs.Common.{◌∙◌, items, map_of, nodes_of, edit_of, refl}
+use Rattle.olr_register.proofs.Bounded.{bounded_unknown, bounds_edited, bounds_stay, is_edit}
 use Rattle.olr_register.proofs.EditsMade.{edit_unmade}
 use Rattle.olr_register.proofs.edits.make_and_search.Goals as goal
 
 pub renew-renewed-requires : goal.renew-renewed-requires
-renew-renewed-requires c = (
-  map_of c.args.roads.now,
-  rw (c.new-none.ensures (items c.args.paths.now))
-      (c.requires.renewable (map_of c.make.new.self) c.in_ok-undo.ensures.done),
-)
+renew-renewed-requires c =
+    let old = c.args.roads.now in
+    let new = c.make.new.self in
+    let done = c.in_ok-undo.ensures.done in
+    let slots = c.make.ensures.slots in
+    let can = c.requires.renewable (map_of new) done in
+    rw (c.new-none.ensures (items c.args.paths.now)) (record {
+      renewable = (map_of old, can);
+      bounded = bounds_edited old new slots
+          (is_edit old new slots (edit_of c.args.edit) done (nodes_of c.args.touched.now) can.before.difference.nodes)
+          c.requires.bounded;
+    })
 
 pub returns-in-Ok : goal.returns-in-Ok
 returns-in-Ok c =
     let e = c.in-Ok.ensures in
-    record {
-      done = rw c.keep.ensures c.in_ok-undo.ensures.done;
-      renewed = rw c.keep.ensures (rw (c.new-none.ensures (items c.args.paths.now)) at e.renewed);
-      bounded = rw c.keep.ensures e.bounded;
+    rw c.keep.ensures (record {
+      done = c.in_ok-undo.ensures.done;
+      renewed = rw (c.new-none.ensures (items c.args.paths.now)) at e.renewed;
+      bounded = e.bounded;
       same_map = tt;
       same_list = tt;
-    }
+    })
 
 pub returns-in-Err : goal.returns-in-Err
 returns-in-Err c =
@@ -27,7 +34,7 @@ returns-in-Err c =
     record {
       done = tt;
       renewed = tt;
-      bounded = bounded_unknown _ _ _ e.unknown;
+      bounded = bounded_unknown _ _ _ _ e.unknown;
       same_map = c.undo.ensures ∙ c.in_ok-undo.ensures.before;
       same_list = e.err;
     }
@@ -35,4 +42,5 @@ returns-in-Err c =
 pub returns-in_err-undo : goal.returns-in_err-undo
 returns-in_err-undo c =
     let same = c.in_err-undo.ensures.same in
-    edit_unmade _ _ _ _ _ _ _ _ _ c.from_residual.ensures.1 (rw same c.requires.bounded) same refl
+    edit_unmade _ _ _ _ _ _ _ _ _ c.from_residual.ensures.1
+    (bounds_stay c.args.roads.now c.make.new.self c.make.ensures.slots same c.requires.bounded) same refl

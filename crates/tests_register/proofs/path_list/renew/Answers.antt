@@ -1,7 +1,7 @@
 use Rattle.std.proofs.Common.{Ok, ap, ◌∙◌, sym}
-use Rattle.olr_spec.specs.Map.{Map}
 use Rattle.olr_roads.specs.Edits.{edit_of}
-use Rattle.olr_map.specs.RoadMaps.{map_of}
+use Rattle.olr_map.specs.RoadMaps.{map_of, slot_of}
+use Rattle.olr_map.specs.declared.road_map.RoadMap.{RoadMap}
 use Rattle.olr_list.specs.Items.{items}
 use Rattle.olr_paths.proofs.Following.{follows_self}
 use Rattle.olr_register.proofs.Noted.{noted_plan}
@@ -25,11 +25,11 @@ renew_over-renewed-requires g c =
     record {
       names = rw e c.len-names.ensures.names;
       follows = rw e (follows_self is c.len-names.ensures.names);
-      bounds = rw e (bounds_unknown (map_of c.keep.new.self) is c.forget.new.self c.forget.ensures);
+      bounds = rw e (bounds_unknown (map_of c.keep.new.self) (slot_of c.keep.new.self) is c.forget.new.self c.forget.ensures);
       before = rw e (
         M,
         right_before M (map_of c.keep.new.self) (edit_of c.args.edit) c.note.new.self is c.args.map.now.kept.sound
-            (done ∙ ap (λ (N : Map). Ok N) (sym c.keep.ensures)) noted c.requires,
+            (done ∙ ap (λ (m : RoadMap). Ok (map_of m)) (sym c.keep.ensures)) noted c.requires,
       );
     }
 

@@ -12,6 +12,7 @@ returns-then-is_full c = record {
   refused = ByContent (rw (← c.if-is_full.ensures));
   unchanged = refl;
   held = c.requires;
+  under_way = λ f h. h;
 }
 
 pub returns-in_err-make : goal.returns-in_err-make
@@ -27,6 +28,7 @@ returns-in_err-make c =
       refused = rw (← c.if-is_full.ensures) m.refused;
       unchanged = m.unchanged;
       held = m.held c.requires;
+      under_way = m.under_way;
     })
 
 pub returns : goal.returns
@@ -52,4 +54,5 @@ returns c =
         follows = h.follows;
         begins = h.begins;
       };
+      under_way = m.under_way;
     }

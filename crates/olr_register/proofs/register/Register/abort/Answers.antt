@@ -1,30 +1,35 @@
 use Rattle.olr_register.proofs.Common.{Some, None, map, refl, ap, Abort, entry_of, items, IsKeptRight, ByState}
 use Rattle.olr_register.proofs.Common.{RegisterState, content_on, batch_of, map_before}
-use Rattle.olr_register.proofs.States.{state, kept_moved, in_states}
+use Rattle.olr_register.proofs.States.{state, register_moved, in_states}
 use Rattle.olr_register.proofs.Outcomes.{answered_refused, answered_uncounted, Keeps}
 use Rattle.olr_commands.specs.Reply as replies
 use Rattle.olr_commands.specs.declared.reply.Reply.TheVariants as reply
 use Rattle.olr_register.proofs.register.Register.abort.Goals as goal
 
-pub undo_all-requires : goal.undo_all-requires
-undo_all-requires c =
+pub undo_edits-requires : goal.undo_edits-requires
+undo_edits-requires c =
     let s = c.self.inside in
     let right : IsKeptRight s.roads (items s.paths) (Some c.in-Some.field-0) s.bounds =
     rw c.in-Some.ensures.value c.self.invariant in
-    right.register.held.undo
+    record { undo = right.register.held.undo; noted = right.register.held.noted }
 
 pub invariant_of-self : goal.invariant_of-self
 invariant_of-self c =
     let s = c.self.inside in
-    rw c.take.ensures.after
-    (kept_moved s.roads c.undo_all.new.self (items s.paths) (Some c.in-Some.field-0) None s.bounds c.undo_all.ensures tt
-    (rw c.in-Some.ensures.value c.self.invariant))
+    let right : IsKeptRight s.roads (items s.paths) (Some c.in-Some.field-0) s.bounds =
+    rw c.in-Some.ensures.value c.self.invariant in
+    rw c.take.ensures.after (record {
+      register =
+          register_moved s.roads c.undo_edits.new.roads (items s.paths) (Some c.in-Some.field-0) None
+          c.undo_edits.ensures.map tt right.register;
+      bounded = c.undo_edits.ensures.bounded (items s.paths) right.bounded;
+    })
 
 pub returns-in-Some : goal.returns-in-Some
 returns-in-Some c =
     let s = c.self.inside in
     let k : RegisterState = record { content = content_on (map_before s.roads c.in-Some.field-0.log) (items s.paths); batch = None } in
-    rw (← c.self.view_is, ← c.in-Some.ensures.value, c.take.ensures.after, c.undo_all.ensures)
+    rw (← c.self.view_is, ← c.in-Some.ensures.value, c.take.ensures.after, c.undo_edits.ensures.map)
     (answered_uncounted _ k Abort (reply.Paths c.new.result) (in_states (record k { batch = Some (batch_of s.roads (items s.paths) c.in-Some.field-0) })
     (Keeps k Abort (reply.Paths c.new.result)) (λ xs i. (
       refl,

@@ -1,4 +1,4 @@
-use Rattle.olr_register.proofs.Common.{refl, sym, ap, ◌∙◌, Add_path, items, map_of, has_name, path_by, string_bytes}
+use Rattle.olr_register.proofs.Common.{[], refl, sym, ap, ◌∙◌, Add_path, items, has_name, path_by, string_bytes}
 use Rattle.olr_register.proofs.Changing.{add_refused}
 use Rattle.olr_register.proofs.Singles.{refused_now, may_refuse, kept_bounds, add_right, add_done}
 use Rattle.olr_commands.specs.declared.fault.CommandFault.TheVariants as rust
@@ -32,7 +32,7 @@ invariant_of-self-2 c =
     add_right r c.self.view_is c.requires c.self.invariant (string_bytes c.args.name) (items c.add.new.list)
     c.in_ok-path.path e.added.0 (rw c.in_ok-path.ensures.ok c.in_ok-path.ensures.good) e.added.1 _
     (ap (has_name (items r.paths)) (sym c.deref.ensures) ∙ sym c.has-taken.ensures ∙ c.in_ok-path.ensures.right) e.added.2
-    (c.renew_bounds.ensures (map_of r.roads) (items r.paths) (kept_bounds r c.self.view_is c.requires c.self.invariant) e.new_origins)
+    (c.renew_bounds.ensures r.roads [] (items r.paths) (kept_bounds r c.self.view_is c.requires c.self.invariant) e.new_origins)
 
 pub returns : goal.returns
 returns c =

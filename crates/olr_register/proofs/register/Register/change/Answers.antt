@@ -1,6 +1,6 @@
 use Rattle.olr_register.proofs.Common.{Some, items, map_before, content_on, change_of, IsKeptRight}
 use Rattle.olr_register.proofs.BatchSteps.{answered_held}
-use Rattle.olr_register.proofs.States.{kept_moved}
+use Rattle.olr_register.proofs.States.{register_moved}
 use Rattle.olr_register.proofs.register.Register.change.Goals as goal
 
 pub hold-requires : goal.hold-requires
@@ -12,8 +12,16 @@ hold-requires c =
 pub invariant_of-self : goal.invariant_of-self
 invariant_of-self c =
     let s = c.self.inside in
-    kept_moved s.roads c.hold.new.roads (items s.paths) (Some c.in-Some.batch) _ s.bounds c.hold.ensures.before
-    c.hold.ensures.held (rw (← c.in-Some.is) c.self.invariant)
+    let right : IsKeptRight s.roads (items s.paths) (Some c.in-Some.batch) s.bounds = rw (← c.in-Some.is) c.self.invariant in
+    record {
+      register =
+          register_moved s.roads c.hold.new.roads (items s.paths) (Some c.in-Some.batch) _ c.hold.ensures.before
+          c.hold.ensures.held right.register;
+      bounded = record {
+        under_way = c.hold.ensures.under_way s.bounds right.bounded.under_way;
+        sources = right.bounded.sources;
+      };
+    }
 
 pub returns-in-Some : goal.returns-in-Some
 returns-in-Some c =

@@ -25,10 +25,16 @@ returns-then-batch-count c =
 
 pub renew-requires : goal.renew-requires
 renew-requires c =
-    let s = c.self.inside in (
-      map_before s.roads c.in-Some.batch.log,
-      can_commit s.roads (items s.paths) c.in-Some.batch s.bounds (rw (← c.in-Some.is) c.self.invariant),
-    )
+    let s = c.self.inside in
+    let right : IsKeptRight s.roads (items s.paths) (Some c.in-Some.batch) s.bounds = rw (← c.in-Some.is) c.self.invariant in
+    record {
+      renewable =
+          (map_before s.roads c.in-Some.batch.log, can_commit s.roads (items s.paths) c.in-Some.batch right.register);
+      bounded = record {
+        under_way = right.bounded.under_way;
+        sources = λ l on. right.bounded.sources l (right.register.held.begins l on);
+      };
+    }
 
 pub invariant_of-self-2 : goal.invariant_of-self-2
 invariant_of-self-2 c =
@@ -56,7 +62,7 @@ returns c =
     let right : IsKeptRight s.roads is (Some b) s.bounds = rw (← c.in-Some.is) c.self.invariant in
     let old : Content = content_on (map_before s.roads b.log) is in
     let new : Content = content_on M js in
-    let count = e.renewed.counted old.map (can_commit s.roads is b s.bounds right).before in
+    let count = e.renewed.counted old.map (can_commit s.roads is b right.register).before in
     let n = c.in_ok-renewed.renewed in
     let r = reply.Paths n.entries in
     let later : Registered = of_parts s.roads js None (raised_work s.work n.work) (raised_count s.retained n.retained) in

@@ -8,7 +8,7 @@ use Rattle.olr_register.proofs.Noted.{noted_idle, is_before}
 use Rattle.olr_register.proofs.Outcomes.{answered_refused, answered_shut}
 use Rattle.olr_register.proofs.Shown.{no_nodes, nodes_asked, dependents}
 use Rattle.olr_register.proofs.Renewed.{made_if_any}
-use Rattle.olr_register.proofs.Common.{◌≡◌, ℕ, None, DistanceBounds}
+use Rattle.olr_register.proofs.Common.{◌≡◌, ℕ, [], None, DistanceBounds, slot_of}
 use Rattle.olr_near.specs.Bounds.{IsRight, IsSource, IsUnderWay}
 use Rattle.olr_list.specs.Origins.{AreBoundsOf}
 use Rattle.olr_register.specs.declared.register.Register.TheInside.{Inside}
@@ -52,9 +52,9 @@ affected_names-requires-clause-before c =
 -- the bounds after they are settled, and the register with them
 module _ (r : Inside) (f : DistanceBounds) (shut : r.batch ≡ None)
     (kept : IsKeptRight r.roads (items r.paths) r.batch r.bounds)
-    (right : IsUnderWay (map_of r.roads) r.bounds → IsRight (map_of r.roads) f)
+    (right : IsUnderWay (map_of r.roads) (slot_of r.roads) [] r.bounds → IsRight (map_of r.roads) (slot_of r.roads) f)
     (sources : (s w : ℕ) → IsSource r.bounds s w → IsSource f s w) where
-  settled : AreBoundsOf (map_of r.roads) f (items r.paths)
+  settled : AreBoundsOf (map_of r.roads) (slot_of r.roads) f (items r.paths)
   settled =
       let h = subst (λ (o : Option Batch). IsKeptRight r.roads (items r.paths) o r.bounds) shut kept in
       record { right = right h.bounded.under_way; sources = λ l on. sources l.from l.within (h.bounded.sources l on) }

@@ -1,7 +1,7 @@
-use Rattle.olr_register.proofs.Common.{◌≡◌, ◌<◌, List, map, length, refl, sym, ap, arith, ◌∙◌, edit_of}
+use Rattle.olr_register.proofs.Common.{◌≡◌, ◌<◌, List, [], map, length, refl, sym, ap, arith, ◌∙◌, edit_of}
 use Rattle.olr_register.proofs.Common.{map_of, On_map, at_once, ByState, entry_of, Entry, Item, items, all_named, Registered}
 use Rattle.olr_register.proofs.Common.{content_on, No_memory, length-map, named_of}
-use Rattle.olr_register.proofs.Bounded.{under_way_without}
+use Rattle.olr_register.proofs.Bounded.{bounds_stay}
 use Rattle.olr_register.proofs.Changing.{edit_refused, edit_lacks}
 use Rattle.olr_register.proofs.Listed.{no_items}
 use Rattle.olr_register.proofs.Singles.{refused_now, same_map, may_refuse, same_right, kept_bounds, bare_right}
@@ -19,7 +19,8 @@ pub invariant_of-self : goal.invariant_of-self
 invariant_of-self c =
     let same = c.in_err-make_kept.ensures.same in
     same_right c.self.inside c.self.view_is c.requires c.self.invariant c.make_kept.new.self _ _ same refl
-    (rw same (kept_bounds c.self.inside c.self.view_is c.requires c.self.invariant))
+    (bounds_stay c.self.inside.roads c.make_kept.new.self c.make_kept.ensures.slots same
+    (kept_bounds c.self.inside c.self.view_is c.requires c.self.invariant))
 
 pub returns-in_err-make_kept : goal.returns-in_err-make_kept
 returns-in_err-make_kept c =
@@ -36,7 +37,7 @@ invariant_of-self-2 c =
     bare_right r c.self.view_is c.requires c.self.invariant (edit_of c.args.edit) c.make_kept.new.self
     c.in_ok-make_kept.ensures.done c.clear.new.self c.in-Ok.ensures.plan.placed
     (no_items (items r.paths) c.len.ensures.len (omega arith)) (record {
-      under_way = under_way_without (map_of c.make_kept.new.self) c.clear.new.self c.clear.ensures.bounds;
+      under_way = c.clear.ensures.under_way _ _ [];
       sources = λ v on. absurd on;
     })
 

@@ -1,6 +1,5 @@
-use Rattle.olr_register.proofs.Common.{None, map_of, content_on}
+use Rattle.olr_register.proofs.Common.{[], None, content_on}
 use Rattle.olr_commands.proofs.HistoryLemmas.{start_sound}
-use Rattle.olr_register.proofs.Bounded.{under_way_without}
 use Rattle.olr_register.proofs.States.{register_of}
 use Rattle.olr_register.proofs.register.Register.new.Goals as goal
 
@@ -16,7 +15,7 @@ invariant_of-result c = record {
     held = tt;
   };
   bounded = record {
-    under_way = under_way_without (map_of c.new.result) c.new-5.result c.new-5.ensures.bounds;
+    under_way = c.new-5.ensures.under_way _ _ [];
     sources = λ v on. absurd (rw c.new-2.ensures at on);
   };
 }

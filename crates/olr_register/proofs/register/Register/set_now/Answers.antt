@@ -1,4 +1,4 @@
-use Rattle.olr_register.proofs.Common.{refl, sym, ap, ◌∙◌, not, not-false, Set_path, items, map_of, map_kept, path_by}
+use Rattle.olr_register.proofs.Common.{refl, sym, ap, ◌∙◌, not, not-false, Set_path, items, map_kept, path_by, []}
 use Rattle.olr_register.proofs.Asking.{some_answer_in}
 use Rattle.olr_register.proofs.Changing.{set_refused}
 use Rattle.olr_register.proofs.Singles.{refused_now, may_refuse, kept_bounds, set_right, set_done}
@@ -32,7 +32,7 @@ invariant_of-self-2 c =
     set_right r c.self.view_is c.requires c.self.invariant c.args.name.now (items c.set.new.list) c.in_ok-path.path
     e.set.0 (rw c.in_ok-path.ensures.ok c.in_ok-path.ensures.good) e.set.1 _
     (sym c.has-missing.ensures ∙ not-false c.has-missing.result c.in_ok-path.ensures.right) e.set.2
-    (c.renew_bounds.ensures (map_of r.roads) (items r.paths) (kept_bounds r c.self.view_is c.requires c.self.invariant) e.new_origins)
+    (c.renew_bounds.ensures r.roads [] (items r.paths) (kept_bounds r c.self.view_is c.requires c.self.invariant) e.new_origins)
 
 pub returns : goal.returns
 returns c =
