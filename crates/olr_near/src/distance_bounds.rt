@@ -97,7 +97,7 @@ fn look_at<M: MapRead>(
 }
 
 impl DistanceBounds {
-    ghost use Rattle.std.specs.Prelude.{◌-◌, ◌↔◌, List, [], None, IsFalse, OnErr, min};
+    ghost use Rattle.std.specs.Prelude.{◌<◌, ◌-◌, ◌↔◌, List, [], None, IsFalse, OnErr, min};
     ghost use Rattle.olr_spec.specs.Map.{Map, has};
     ghost use Rattle.olr_spec.specs.Extension.{limit};
     ghost use Rattle.olr_spec.specs.Detours.{Near};
@@ -109,6 +109,7 @@ impl DistanceBounds {
         ensures known { IsTrue result.known }
         ensures under_way { (M : Map) (s : ℕ → ℕ) (T : List ℕ) → IsUnderWay M s T result }
         ensures sources { (v : ℕ) → source_of result v ≡ None }
+        ensures bounds { (p : ℕ) → limit < bound_at result p }
     {
         DistanceBounds {
             alloc,
@@ -145,6 +146,7 @@ impl DistanceBounds {
         ensures known { IsTrue self.new.known }
         ensures under_way { (M : Map) (s : ℕ → ℕ) (T : List ℕ) → IsUnderWay M s T self.new }
         ensures sources { (v : ℕ) → source_of self.new v ≡ None }
+        ensures bounds { (p : ℕ) → limit < bound_at self.new p }
     {
         if !self.sources.is_empty() {
             self.sources = HashMap::with_hasher(self.alloc, BuildHasherDefault::new());
@@ -211,6 +213,7 @@ impl DistanceBounds {
     pub fn add(&mut self, source: NodeId, within: u32) -> Result<(), AllocError>
         ensures source { IsSource self.new source within }
         ensures lowered { OnOk result (IsLowered self.old self.new source (limit - within)) }
+        ensures bounds { OnOk result ((p : ℕ) → bound_at self.new p ≡ bound_at self.old p) }
         ensures sources { (v w : ℕ) → IsSource self.old v w → IsSource self.new v w }
         ensures under_way { (M : Map) (s : ℕ → ℕ) (T : List ℕ) → IsUnderWay M s T self.old
             → IsUnderWay M s T self.new }
@@ -229,6 +232,7 @@ impl DistanceBounds {
     /// Has these nodes looked at again when the bounds are settled: required of the nodes that edits touched.
     pub fn reopen(&mut self, nodes: &[NodeId]) -> Result<(), AllocError>
         ensures sources { (v w : ℕ) → IsSource self.old v w → IsSource self.new v w }
+        ensures bounds { OnOk result ((p : ℕ) → bound_at self.new p ≡ bound_at self.old p) }
         ensures under_way { (M : Map) (s : ℕ → ℕ) → IsUnderWay M s nodes.now self.old → IsUnderWay M s [] self.new }
         ensures ok { OnOk result (self.new.known ≡ self.old.known) }
         ensures err { OnErr result (IsFalse self.new.known) }

@@ -106,9 +106,9 @@ impl Dijkstra {
     }
 
     /// Settles on as far as bounds let it: a node is labelled only if the sum of its bound (the label of its slot in
-    /// `bounds`) and its label is at most `GREATEST_LIMIT`. If each line that is followed to a node with a bound begins at one whose bound is at most that
-    /// and the line's length together, a label is the least length wherever that sum is within the limit. Afterwards
-    /// only `is_within` and `labelled_slots` may be called, until the search is begun again.
+    /// `bounds`) and its label is at most `GREATEST_LIMIT`. If each line that is followed to a node with a bound begins at
+    /// one whose bound is at most that and the line's length together, a label is the least length wherever that sum is
+    /// within the limit. Afterwards only `is_within` and `labelled_slots` may be called, until the search is begun again.
     pub fn settle_under<M: MapRead>(&mut self, map: &M, bounds: &Frontier) -> Result<(), AllocError>
         requires begun { (direction : _) × (from : List (ℕ × ℕ))
             × IsSearch (M.map map.now) (M.node_slot map.now) direction from self.old }
