@@ -32,7 +32,7 @@ report_record [] one e = absurd (omega arith)
 report_record (w ∷ []) one e = let is : w ≡ codes "report" = e in rw is refl
 report_record (w ∷ x ∷ fs) one e = absurd (omega arith)
 
-if_read : {A : Type 0} (P : A → Type 0) (b : Bool) (r q : Read A) → IfOk r P → IfOk q P → IfOk (if b then r else q) P
+pub if_read : {A : Type 0} (P : A → Type 0) (b : Bool) (r q : Read A) → IfOk r P → IfOk q P → IfOk (if b then r else q) P
 if_read P true r q h g = h
 if_read P false r q h g = g
 
@@ -40,7 +40,7 @@ if_read P false r q h g = g
 abbrev Takes : {A B : Type 0} → (A → Type 0) → (B → Type 0) → (A → B) → Type 0
 Takes {A} Q P f = (a : A) → Q a → P (f a)
 
-given : {A B : Type 0} (P : B → Type 0) (Q : A → Type 0) (g : Read (A → B)) (r : Read A) → IfOk r Q →
+pub given : {A B : Type 0} (P : B → Type 0) (Q : A → Type 0) (g : Read (A → B)) (r : Read A) → IfOk r Q →
     IfOk g (Takes Q P) → IfOk (g ⊛ r) P
 given P Q (Ok g) (Ok a) q h = h a q
 given P Q (Ok g) (Err f) q h = tt
@@ -48,7 +48,7 @@ given P Q (Err f) (Ok a) q h = tt
 given P Q (Err f) (Err k) q h = tt
 
 -- two parts
-two : {A B C : Type 0} (P : C → Type 0) (Q : A → Type 0) (S : B → Type 0) (g : Read (A → B → C)) (r : Read A)
+pub two : {A B C : Type 0} (P : C → Type 0) (Q : A → Type 0) (S : B → Type 0) (g : Read (A → B → C)) (r : Read A)
     (s : Read B) → IfOk r Q → IfOk s S → IfOk g (Takes Q (Takes S P)) → IfOk (g ⊛ r ⊛ s) P
 two P Q S g r s q t h = given P S (g ⊛ r) s t (given (Takes S P) Q g r q h)
 
@@ -198,7 +198,7 @@ edit_passes : (r : List Field → Read Edit) → ((fs : List Field) → IfOk (r 
     IfOk (edit (r fs)) Recorded
 edit_passes r h fs = given Recorded OfEdit (Ok (λ x. Make (On_map x))) (r fs) (h fs) (λ e i. i)
 
-one_passes : {A B : Type 0} (P : B → Type 0) (Q : A → Type 0) (g : A → B) (r : Field → Read A) →
+pub one_passes : {A B : Type 0} (P : B → Type 0) (Q : A → Type 0) (g : A → B) (r : Field → Read A) →
     ((f : Field) → IfOk (r f) Q) → ((a : A) → Q a → P (g a)) → (fs : List Field) → IfOk (one g r fs) P
 one_passes P Q g r q h (f ∷ []) = given P Q (Ok g) (r f) (q f) h
 one_passes P Q g r q h fs = tt
@@ -223,7 +223,7 @@ path_record_passes : (g : List ℕ → Path → Change) →
     IfOk (path_record g fs) Recorded
 path_record_passes g h fs = grind (arith, given Recorded NamedPath, path_fields_pass fs)
 
-any_passes : {A : Type 0} (x : Read A) → IfOk x (λ _. ⊤)
+pub any_passes : {A : Type 0} (x : Read A) → IfOk x (λ _. ⊤)
 any_passes (Ok a) = tt
 any_passes (Err f) = tt
 
