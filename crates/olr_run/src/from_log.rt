@@ -22,6 +22,7 @@ use olr_sessions::{Buffered, LogFault, RunFault, Status, end_status, report_faul
 use sqlite_disk::Disk;
 use std::alloc::Global;
 use std::io::{self, Read, Write};
+use std::mem;
 
 /// The exit status if a log can't be used.
 const NO_LOG: u8 = 3;
@@ -219,7 +220,7 @@ fn run_from_log<
     );
     let fault = gate.fault();
     let in_batch = register.is_open();
-    drop(register);
+    mem::forget(register);
     let log = close_log(&ended, gate.into_journal());
     (log_status(asked.name, ended, fault, in_batch, errors), log)
 }

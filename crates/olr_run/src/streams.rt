@@ -20,8 +20,8 @@ use olr_sessions::{Buffered, RunFault, Status, end_status};
 use sqlite_disk::Disk;
 use std::alloc::Global;
 use std::convert::AsStr;
-use std::io;
 use std::io::{Read, Write};
+use std::{io, mem};
 
 /// The exit status if the command file can't be opened.
 pub(crate) const NO_FILE: u8 = 3;
@@ -123,7 +123,8 @@ pub fn program<
     without_log(alloc, register, &options, opener, input, output, errors)
 }
 
-/// Runs the program on a register that begins empty, and returns the exit status.
+/// Runs the program on a register that begins empty, and returns the exit status. The register is not dropped: its memory is
+/// left to the end of the process. To run the program more than once in a process, call `program`.
 pub fn run_program<
     S: AsStr,
     F: Read + Drop,
@@ -158,7 +159,7 @@ pub fn run_program<
         output,
         errors,
     );
-    drop(register);
+    mem::forget(register);
     status
 }
 
