@@ -28,6 +28,7 @@ effect_for (Make x) = effect.Change
 effect_for Begin = effect.Begin
 effect_for (Commit count) = effect.Commit
 effect_for Abort = effect.Abort
+effect_for Compact = effect.Compact
 effect_for _ = effect.Nothing
 
 pub record KeptAs (word : Field) (fs : List Field) (c : Command) : Type 0 where

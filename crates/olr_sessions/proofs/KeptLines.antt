@@ -95,42 +95,46 @@ commit_closes false rest = refl
 begin_opens : (o : Bool) → stays_open o (codes "begin") ≡ true
 begin_opens o = refl
 
-choose : (change begin commit abort : Bool) → Effect
-choose change begin commit abort =
+choose : (change begin commit abort compact : Bool) → Effect
+choose change begin commit abort compact =
     if change then effect.Change
     else if begin then effect.Begin
     else if commit then effect.Commit
     else if abort then effect.Abort
+    else if compact then effect.Compact
     else effect.Nothing
 
 -- what the effect says of the word, and of the fields after it
-is_of_change : (c b m a : Bool) → choose c b m a ≡ effect.Change → c ≡ true
+is_of_change : (c b m a p : Bool) → choose c b m a p ≡ effect.Change → c ≡ true
 unfolding choose
-is_of_change true b m a h = refl
-is_of_change false true m a h = absurd cc
-is_of_change false false true a h = absurd cc
-is_of_change false false false true h = absurd cc
-is_of_change false false false false h = absurd cc
+is_of_change true b m a p h = refl
+is_of_change false true m a p h = absurd cc
+is_of_change false false true a p h = absurd cc
+is_of_change false false false true p h = absurd cc
+is_of_change false false false false true h = absurd cc
+is_of_change false false false false false h = absurd cc
 
-is_of_begin : (c b m a : Bool) → choose c b m a ≡ effect.Begin → b ≡ true
+is_of_begin : (c b m a p : Bool) → choose c b m a p ≡ effect.Begin → b ≡ true
 unfolding choose
-is_of_begin true b m a h = absurd cc
-is_of_begin false true m a h = refl
-is_of_begin false false true a h = absurd cc
-is_of_begin false false false true h = absurd cc
-is_of_begin false false false false h = absurd cc
+is_of_begin true b m a p h = absurd cc
+is_of_begin false true m a p h = refl
+is_of_begin false false true a p h = absurd cc
+is_of_begin false false false true p h = absurd cc
+is_of_begin false false false false true h = absurd cc
+is_of_begin false false false false false h = absurd cc
 
-is_of_commit : (c b m a : Bool) → choose c b m a ≡ effect.Commit → m ≡ true
+is_of_commit : (c b m a p : Bool) → choose c b m a p ≡ effect.Commit → m ≡ true
 unfolding choose
-is_of_commit true b m a h = absurd cc
-is_of_commit false true m a h = absurd cc
-is_of_commit false false true a h = refl
-is_of_commit false false false true h = absurd cc
-is_of_commit false false false false h = absurd cc
+is_of_commit true b m a p h = absurd cc
+is_of_commit false true m a p h = absurd cc
+is_of_commit false false true a p h = refl
+is_of_commit false false false true p h = absurd cc
+is_of_commit false false false false true h = absurd cc
+is_of_commit false false false false false h = absurd cc
 
 chosen : (word : List ℕ) (alone : Bool) → effect_by word alone
     ≡ choose (is_change word) (bytes_eq word (codes "begin") && alone) (bytes_eq word (codes "commit") && not alone)
-    (bytes_eq word (codes "abort"))
+    (bytes_eq word (codes "abort")) (bytes_eq word (codes "compact") && alone)
 unfolding choose
 chosen word alone = refl
 
@@ -149,19 +153,20 @@ stays_for : (e : Effect) (word : List ℕ) (fs : List (List ℕ)) → effect_by 
 unfolding body_rest
 stays_for effect.Nothing word fs is kept o = absurd cc
 stays_for effect.Abort word fs is kept o = absurd cc
+stays_for effect.Compact word fs is kept o = absurd cc
 stays_for effect.Change word fs is kept o =
-    change_stays o word (body_rest fs) (is_of_change _ _ _ _ (sym (chosen word (length fs == 0)) ∙ is))
+    change_stays o word (body_rest fs) (is_of_change _ _ _ _ _ (sym (chosen word (length fs == 0)) ∙ is))
 stays_for effect.Begin word [] is kept o =
-    let both = and_parts (bytes_eq word (codes "begin")) true (is_of_begin _ _ _ _ (sym (chosen word true) ∙ is)) in
+    let both = and_parts (bytes_eq word (codes "begin")) true (is_of_begin _ _ _ _ _ (sym (chosen word true) ∙ is)) in
     ap (λ (w : List ℕ). stays_open o (w ++ [])) (same_text word (codes "begin") both.0) ∙ begin_opens o
 stays_for effect.Begin word (f ∷ fs) is kept o =
-    let both = and_parts (bytes_eq word (codes "begin")) false (is_of_begin _ _ _ _ (sym (chosen word false) ∙ ap (effect_by word) (sym (nonzero (length fs))) ∙ is)) in
+    let both = and_parts (bytes_eq word (codes "begin")) false (is_of_begin _ _ _ _ _ (sym (chosen word false) ∙ ap (effect_by word) (sym (nonzero (length fs))) ∙ is)) in
     absurd (let no = both.1 in cc)
 stays_for effect.Commit word [] is kept o =
-    let both = and_parts (bytes_eq word (codes "commit")) false (is_of_commit _ _ _ _ (sym (chosen word true) ∙ is)) in
+    let both = and_parts (bytes_eq word (codes "commit")) false (is_of_commit _ _ _ _ _ (sym (chosen word true) ∙ is)) in
     absurd (let no = both.1 in cc)
 stays_for effect.Commit word (f ∷ fs) is kept o =
-    let both = and_parts (bytes_eq word (codes "commit")) true (is_of_commit _ _ _ _ (sym (chosen word false) ∙ ap (effect_by word) (sym (nonzero (length fs))) ∙ is)) in
+    let both = and_parts (bytes_eq word (codes "commit")) true (is_of_commit _ _ _ _ _ (sym (chosen word false) ∙ ap (effect_by word) (sym (nonzero (length fs))) ∙ is)) in
     ap (λ (w : List ℕ). stays_open o (w ++ 44 ∷ join_with_byte 44 (f ∷ fs))) (same_text word (codes "commit") both.0)
     ∙ commit_closes o (join_with_byte 44 (f ∷ fs))
 

@@ -38,6 +38,7 @@ effect_by word alone =
     else if bytes_eq word (codes "begin") && alone then effect.Begin
     else if bytes_eq word (codes "commit") && not alone then effect.Commit
     else if bytes_eq word (codes "abort") then effect.Abort
+    else if bytes_eq word (codes "compact") && alone then effect.Compact
     else effect.Nothing
 
 abbrev pub word_effect : List (List ℕ) → Effect
@@ -48,6 +49,7 @@ word_effect (word ∷ fields) = effect_by word (length fields == 0)
 abbrev pub has_line : Effect → Bool
 has_line effect.Nothing = false
 has_line effect.Abort = false
+has_line effect.Compact = false
 has_line effect.Change = true
 has_line effect.Begin = true
 has_line effect.Commit = true
@@ -80,6 +82,7 @@ settled effect.Change line w =
 settled effect.Begin line w = record { ready = w.ready; batch = w.batch ++ line }
 settled effect.Commit line w = record { ready = w.ready ++ (w.batch ++ line); batch = [] }
 settled effect.Abort line w = record { ready = w.ready; batch = [] }
+settled effect.Compact line w = w
 
 -- ---- which lines are whole
 

@@ -1,9 +1,11 @@
 //! The gate through which the answers of a run with a log leave.
 
-ghost use Rattle.std.specs.Prelude.{◌≡◌, ◌≤◌, ◌++◌, ℕ, List, [], take, length, None, IfOk, IfErr, OnOk, OnErr, IsTrue, false, true};
+ghost use Rattle.std.specs.Prelude.{◌≡◌, ◌≤◌, ◌++◌, ℕ, List, [], take, length, None, IfOk, IfErr, OnOk, OnErr, IsTrue, false, true, ◌&&◌, not};
 ghost use Rattle.csv.specs.Records.{fields_of};
 ghost use Rattle.olr_sessions.specs.Gates.{Keeping, Passes, PassesSome, PassesAll, Untouched, SameBatch, SettledBy, TakesFound, Renews, is_closed, ready, batch};
 ghost use Rattle.olr_sessions.specs.Journals as journals;
+ghost use Rattle.olr_sessions.specs.Journals.{is_empty};
+ghost use Rattle.olr_sessions.specs.declared.unkept.Effect.TheVariants as effect;
 ghost use Rattle.olr_sessions.specs.KeptLines.{effect_of, kept_line};
 ghost use Rattle.olr_sessions.specs.Unkept.{waiting, next_line};
 ghost use Rattle.olr_sessions.specs.Buffers.{held};
@@ -40,8 +42,6 @@ pub struct Gate<J: Drop> {
     renewed_from: usize,
     /// The length from which on it is replaced the next time.
     next_from: usize,
-    /// The record that isn't answered yet asks that it be replaced.
-    is_asked: bool,
     /// It should be replaced as soon as no batch is open.
     is_wanted: bool,
 }
@@ -59,7 +59,6 @@ impl<J: Journal + Drop> Gate<J> {
             fault: None,
             renewed_from,
             next_from: renewed_from,
-            is_asked: false,
             is_wanted: false,
         }
     }
@@ -81,7 +80,6 @@ impl<J: Journal + Drop> Gate<J> {
             fault: _,
             renewed_from: _,
             next_from: _,
-            is_asked: _,
             is_wanted: _,
         } = self;
         drop(unkept);
@@ -106,7 +104,6 @@ impl<J: Journal + Drop> Gate<J> {
             self.journal.report_unreplaced(false);
             self.put_off();
         }
-        self.is_asked = asks_for_records(fields);
         self.unkept.take(fields)
     }
 
@@ -120,7 +117,9 @@ impl<J: Journal + Drop> Gate<J> {
     }
 
     /// Whether the records of all that is accepted are wanted, to be kept in the place of the log.
-    pub fn wants_records(&self) -> bool {
+    pub fn wants_records(&self) -> bool
+        ensures { result ≡ (self.now.is_wanted && not (is_closed self.now) && is_empty (batch self.now)) }
+    {
         self.is_wanted && self.fault.is_none() && !self.unkept.is_in_batch()
     }
 
@@ -186,16 +185,21 @@ impl<J: Journal + Drop> Gate<J> {
     pub fn settle(&mut self, accepted: bool)
         ensures untouched { Untouched self.old self.new }
         ensures settled { SettledBy self.old.unkept accepted self.new.unkept }
+        ensures wanted { IsTrue accepted → self.old.unkept.effect ≡ effect.Compact → IsTrue self.new.is_wanted }
+        ensures still { IsTrue self.old.is_wanted → IsTrue self.new.is_wanted }
     {
+        self.is_wanted = self.is_due(accepted);
         self.unkept.settle(accepted);
-        let is_wanted = self.is_due(accepted);
-        self.is_wanted = is_wanted;
-        self.is_asked = false;
     }
 
     /// Whether the log should be replaced, once the record that was taken last is accepted or rejected.
-    fn is_due(&self, accepted: bool) -> bool {
-        self.is_wanted || (accepted && self.is_asked) || self.journal.len() >= self.next_from
+    fn is_due(&self, accepted: bool) -> bool
+        ensures wanted { IsTrue accepted → self.now.unkept.effect ≡ effect.Compact → IsTrue result }
+        ensures still { IsTrue self.now.is_wanted → IsTrue result }
+    {
+        self.is_wanted
+            || (accepted && self.unkept.is_compact())
+            || self.journal.len() >= self.next_from
     }
 
     /// Keeps what is ready, and returns once it is on the disk. Returns false, and closes the gate, if the log failed.
@@ -295,14 +299,6 @@ impl<J: Journal + Drop> Gate<J> {
 /// Twice a length, and this length at least.
 fn twice(len: usize, least: usize) -> usize {
     len.saturating_mul(2).max(least)
-}
-
-/// Whether a record asks that the log be replaced.
-fn asks_for_records(fields: &ByteRecord) -> bool {
-    match fields.get(0) {
-        Some(word) => word == b"compact".as_slice() && fields.len() == 1,
-        None => false,
-    }
 }
 
 /// Holds back as many bytes as there is room for. `Write` is the fault if an allocation fails.

@@ -1,6 +1,6 @@
 //! Lines of accepted commands that a log doesn't keep yet.
 
-ghost use Rattle.std.specs.Prelude.{◌≡◌, ◌≤◌, ◌<◌, ◌⊎◌, ◌+◌, ◌++◌, ◌∷◌, take, length, vec_len, vec_capacity, IfOk, ℕ, List, [], true, false, IsTrue, Ok, OnOk, OnErr, if◌then◌else◌, slice_index_or};
+ghost use Rattle.std.specs.Prelude.{◌≡◌, ◌↔◌, ◌≤◌, ◌<◌, ◌⊎◌, ◌+◌, ◌++◌, ◌∷◌, take, length, vec_len, vec_capacity, IfOk, ℕ, List, [], true, false, IsTrue, Ok, OnOk, OnErr, if◌then◌else◌, slice_index_or};
 ghost use Rattle.std.specs.List.{join_with_byte};
 ghost use Rattle.std.specs.Str.{bytes_eq};
 ghost use Rattle.csv.specs.Records.{fields_of};
@@ -26,6 +26,8 @@ pub enum Effect {
     Commit,
     /// It drops them.
     Abort,
+    /// It asks that the log be replaced.
+    Compact,
 }
 
 /// Whether a word is this text, byte by byte: words are short, and `==` of slices is made for longer ones.
@@ -62,6 +64,8 @@ fn effect_by(word: &[u8], alone: bool) -> Effect
         Effect::Commit
     } else if is(word, b"abort") {
         Effect::Abort
+    } else if is(word, b"compact") && alone {
+        Effect::Compact
     } else {
         Effect::Nothing
     }
@@ -288,7 +292,7 @@ impl Unkept {
             → IsFront (waiting self.old).ready front ⊎ (front ≡ (waiting self.new).ready) }
     {
         match self.effect {
-            Effect::Nothing => self.cut(),
+            Effect::Nothing | Effect::Compact => self.cut(),
             Effect::Begin => self.hold_all(),
             Effect::Change if self.ready < self.held => self.hold_all(),
             Effect::Change => self.ready_all(),
@@ -309,6 +313,13 @@ impl Unkept {
         } else {
             self.cut();
         }
+    }
+
+    /// Whether the record whose line was taken last asks that the log be replaced.
+    pub fn is_compact(&self) -> bool
+        ensures { IsTrue result ↔ (self.now.effect ≡ Effect.Compact) }
+    {
+        matches!(self.effect, Effect::Compact)
     }
 
     /// Whether a batch is open.
