@@ -1,16 +1,20 @@
 -- Slots in blocks: after another slot is stored in a block, and as a list.
 use Rattle.olr_map.proofs.Common.{IsDistinct-head, IsDistinct-tail, AllByRecursion, common_steps, cases_eq}
-use Rattle.olr_map.proofs.Common.{get_or_past, slice_index, option_or, pairs_of, keys_of, slot_by, slot_in, Blocks, Err}
+use Rattle.olr_map.proofs.Common.{get_or_past, slice_index, option_or, pairs_of, keys_of, slot_by, slot_in, SlotIndex, Err}
 use Rattle.olr_map.proofs.Common.{Option, Result, all_in, eq-eqb, length, lookup, ne_eqb, arith, false, Bool, IsOk}
 use Rattle.olr_map.proofs.Common.{List, None, Some, cond, refl, true, zero, ◌++◌, ◌==◌, suc, ◌%◌, ◌+◌, ◌-◌, ◌/◌, ℕ}
-use Rattle.olr_map.proofs.Common.{◌<◌, ◌≤◌, ◌∙◌, ◌∷◌, ◌≡◌, Ok, [], ap}
-use Rattle.std.proofs.Common.{◌*◌, nat_eq, eqb-true, OnOk}
+use Rattle.olr_map.proofs.Common.{◌<◌, ◌≤◌, ◌∙◌, ◌∷◌, ◌≡◌, Ok, [], ap, sym}
+use Rattle.std.proofs.Common.{◌*◌, nat_eq, eqb-true, OnOk, slice_set}
+use Rattle.std.proofs.lemmas.List.{get_or-set_same, get_or-set_other}
 use Rattle.std.specs.List.{IsDistinct}
 use Rattle.std.specs.Cmp.Lexicographic.{pointwise, same_text, other_text}
 use Rattle.std.proofs.lemmas.Nat.{div-add-mod'}
 use Rattle.std.proofs.Math.Nat.{mod-lt}
 use Rattle.olr_map.specs.Blocked.{number_before, slot_at, found_in, IsBlank, AreUsed, from}
+use Rattle.olr_map.specs.BlockSlots.{block_slot}
+use Rattle.olr_map.specs.SlotIndexes.{dense_slot, slot_in_either}
 use Rattle.olr_map.specs.declared.block.Block.{Block}
+use Rattle.olr_map.specs.declared.blocks.Blocks.{Blocks}
 
 -- ---- a number is its block and its position there
 
@@ -139,5 +143,46 @@ all_listed (b ∷ bs) k apart =
     let whole = div-add-mod' k 4 in
     grind (arith, common_steps, lookup-append, later, none, here, whole, outside b k, or_none, eqb-true)
 
-pub listed_found : (b : Blocks) (k : ℕ) → lookup (λ q. k == q) (pairs_of b) ≡ slot_by b k
-listed_found b k = all_listed b.blocks.entries k b.apart
+-- ---- in an array or in blocks
+
+pub slot_of_either : (xs : List ℕ) (b : Blocks) (k : ℕ) →
+    slot_in_either xs b k ≡ option_or (dense_slot xs k) (block_slot b k)
+unfolding slot_in_either
+slot_of_either xs b k = refl
+
+longer : (xs : List ℕ) (k : ℕ) → slice_index (xs ++ 0 ∷ []) k ≡ slice_index xs k
+longer [] zero = refl
+longer [] (suc k) = refl
+longer (x ∷ xs) zero = refl
+longer (x ∷ xs) (suc k) = longer xs k
+
+-- a number more in the array, without a slot
+pub lengthened : (xs : List ℕ) (b : Blocks) (k : ℕ) → slot_in_either (xs ++ 0 ∷ []) b k ≡ slot_in_either xs b k
+lengthened xs b k = grind (arith, slot_of_either, longer xs k)
+
+-- a number that isn't in the array
+pub beyond : (xs : List ℕ) (b : Blocks) (k : ℕ) → length xs ≤ k → slot_in_either xs b k ≡ block_slot b k
+beyond xs b k past = grind (arith, slot_of_either, get_or_past xs k 0)
+
+-- a number has another slot, or none, in the array or in a block
+pub changed_there : (xs : List ℕ) (b : Blocks) (n v : ℕ) (w : Option ℕ) → n < length xs →
+    option_or (number_before v) (block_slot b n) ≡ w → (k : ℕ) →
+    slot_in_either (slice_set xs n v) b k ≡ cond (n == k) w (slot_in_either xs b k)
+changed_there xs b n v w lt is k =
+    let here = get_or-set_same xs n v 0 lt in
+    grind (arith, common_steps, slot_of_either, here, get_or-set_other xs n k v 0, eqb-true)
+
+pub changed_beyond : (xs : List ℕ) (b b' : Blocks) (n : ℕ) (w : Option ℕ) → length xs ≤ n →
+    ((k : ℕ) → block_slot b' k ≡ cond (n == k) w (block_slot b k)) → (k : ℕ) →
+    slot_in_either xs b' k ≡ cond (n == k) w (slot_in_either xs b k)
+changed_beyond xs b b' n w past now k =
+    grind (arith, common_steps, slot_of_either, now k, eqb-true, beyond xs b n past, beyond xs b' n past)
+
+pub listed_found : (i : SlotIndex) (k : ℕ) → lookup (λ q. k == q) (pairs_of i) ≡ slot_by i k
+listed_found i k =
+    let place : k ≡ 0 + k = omega arith in
+    lookup-append (λ q. k == q) (from 0 i.dense.items) (all_in i.sparse.blocks.entries)
+    ∙ ap (λ (o : Option ℕ). option_or o (lookup (λ q. k == q) (all_in i.sparse.blocks.entries)))
+    (within 0 i.dense.items k k place)
+    ∙ ap (option_or (dense_slot i.dense.items k)) (all_listed i.sparse.blocks.entries k i.sparse.apart)
+    ∙ sym (slot_of_either i.dense.items i.sparse k)

@@ -1,7 +1,7 @@
 -- Empty tables, and tables with more capacity.
 use Rattle.olr_map.proofs.Common.{map, option_map, option_map_or, IsRelinked, spare_numbers, IsRoomWithin, common_steps}
 use Rattle.olr_map.proofs.Common.{◌≡◌, unwrap_or, cond-true, node_slots, links_room, HasRoomFor, tables_map, IsReserved}
-use Rattle.olr_map.proofs.Common.{◌==◌, ◌&&◌, true, cond, Some, None, refl, subst, arith, Coord, IsMap, Blocks, Links}
+use Rattle.olr_map.proofs.Common.{◌==◌, ◌&&◌, true, cond, Some, None, refl, subst, arith, Coord, IsMap, SlotIndex, Links}
 use Rattle.olr_map.proofs.Common.{ℕ, ◌<◌, ◌≤◌, [], sym, ap, ◌∙◌, Map, Line, at, held, Room, Side, Out, In}
 use Rattle.olr_map.proofs.Common.{false, pairs_of, spare_of, all_held, links_at, lines_on, lines_at, links_in, map_from}
 use Rattle.olr_map.proofs.Common.{length, FinMap, lookup, eq-eqb, slot_by, in_slot, IsListed, room_of, room_at, RoadMap}
@@ -23,7 +23,7 @@ use Rattle.olr_spec.specs.Map as maps
 
 -- ---- empty tables
 
-pub kept_none : (b : Blocks) (s : NodeSlots) (ls : LineTable) → pairs_of b ≡ [] → node_slots s ≡ [] →
+pub kept_none : (b : SlotIndex) (s : NodeSlots) (ls : LineTable) → pairs_of b ≡ [] → node_slots s ≡ [] →
     ls.by_number.entries ≡ [] → AreTables b (node_slots s) (all_held ls)
 kept_none b s ls no_nodes no_slots no_lines =
     let none : (v : ℕ) → slot_by b v ≡ None = λ v. sym (listed_found b v) ∙ ap (lookup (λ q. v == q)) no_nodes in
@@ -68,7 +68,7 @@ both_fit s mid new x l p q slots first second out into In = into l.to (first.slo
 
 -- ---- more capacity for numbers
 
-module _ (t : RoadMap) (b' : Blocks) (ls' : LineTable) (slots : (k : ℕ) → slot_by b' k ≡ slot_by t.index k)
+module _ (t : RoadMap) (b' : SlotIndex) (ls' : LineTable) (slots : (k : ℕ) → slot_by b' k ≡ slot_by t.index k)
     (same : (k : ℕ) → held ls' k ≡ held t.lines k) where
   same_indexed : IsIndexed b' (node_slots t.nodes)
   same_indexed =

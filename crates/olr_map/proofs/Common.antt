@@ -15,7 +15,7 @@ pub use Rattle.olr_map.specs.Slotted.{IsInserted, IsRemoved, IsReplaced, IsSlott
 pub use Rattle.olr_map.specs.Tables.{AreTables, IsIndexed, IsListed, end_at, far, lines_at, links_in, map_from, near}
 pub use Rattle.olr_map.specs.Tables.{node_in, node_slot, sides}
 pub use Rattle.olr_map.specs.Undos.{CanMakeAll, made_all}
-pub use Rattle.olr_map.specs.declared.blocks.Blocks.{Blocks}
+pub use Rattle.olr_map.specs.declared.slot_index.SlotIndex.{SlotIndex}
 pub use Rattle.olr_map.specs.declared.change.TableChange.{TableChange}
 pub use Rattle.olr_map.specs.declared.change.TableChange.TheVariants.{MoveNode, PutLine, PutNode, SetLine, TakeLine}
 pub use Rattle.olr_map.specs.declared.change.TableChange.TheVariants.{TakeNode}

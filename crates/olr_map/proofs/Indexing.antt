@@ -2,7 +2,7 @@
 use Rattle.olr_map.proofs.Common.{◌≡◌, ◌==◌, ◌&&◌, ◌⊎◌, ℕ, Bool, true, false, cond, List, Option, Some, None, refl, sym, ap}
 use Rattle.olr_map.proofs.Common.{◌∙◌, inl, inr, option_map, eq-eqb, ne_eqb, cond-true, cond-false, same_Some}
 use Rattle.olr_map.proofs.Common.{Coord, slot_by, at, IsWritten, in_slot, links_at, with_links, IsRelinked, node_in}
-use Rattle.olr_map.proofs.Common.{links_in, IsIndexed, Blocks, Links, NodeEntry, Side, Out, In, common_steps, arith}
+use Rattle.olr_map.proofs.Common.{links_in, IsIndexed, SlotIndex, Links, NodeEntry, Side, Out, In, common_steps, arith}
 use Rattle.std.proofs.Common.{eqb-true}
 use Rattle.olr_map.proofs.Lookups.{over_cond, unchanged_at}
 
@@ -43,8 +43,8 @@ same_place side e l = grind (arith, common_steps)
 
 -- ---- number v has the value w in place of o, in slot p
 
-module _ (b : Blocks) (es : Slots) (filled : (v p : ℕ) → slot_by b v ≡ Some p → (e : NodeEntry) × (at es p ≡ Some e))
-    (apart : (v w p : ℕ) → slot_by b v ≡ Some p → slot_by b w ≡ Some p → v ≡ w) (b' : Blocks) (es' : Slots)
+module _ (b : SlotIndex) (es : Slots) (filled : (v p : ℕ) → slot_by b v ≡ Some p → (e : NodeEntry) × (at es p ≡ Some e))
+    (apart : (v w p : ℕ) → slot_by b v ≡ Some p → slot_by b w ≡ Some p → v ≡ w) (b' : SlotIndex) (es' : Slots)
     (p v : ℕ) (o w : Option NodeEntry) (t : IsWritten es es' p o w) (was : slot_by b v ≡ slot_if p o)
     (now : (k : ℕ) → slot_by b' k ≡ cond (v == k) (slot_if p w) (slot_by b k)) where
   held_was : in_slot es (slot_by b v) ≡ o
@@ -75,14 +75,14 @@ module _ (b : Blocks) (es : Slots) (filled : (v p : ℕ) → slot_by b v ≡ Som
     step false e = inr (e, sym (now k ∙ cond-false (v == k) (slot_if p w) (slot_by b k) e) ∙ h)
 
 -- the lines on one side of node v are others
-pub record Relisted (b : Blocks) (es es' : Slots) (side : Side) (v : ℕ) (old new : Links) : Type 0 where
+pub record Relisted (b : SlotIndex) (es es' : Slots) (side : Side) (v : ℕ) (old new : Links) : Type 0 where
   pub indexed : IsIndexed b es'
   pub places : (k : ℕ) → option_map place_of (node_in b es' k) ≡ option_map place_of (node_in b es k)
   pub was : links_in side b es v ≡ Some old
   pub now : (s : Side) (k : ℕ) → links_in s b es' k
       ≡ cond (same_side s side && (v == k)) (Some new) (links_in s b es k)
 
-module _ (b : Blocks) (es : Slots) (indexed : IsIndexed b es) where
+module _ (b : SlotIndex) (es : Slots) (indexed : IsIndexed b es) where
   -- two nodes are not in one slot
   pub one_node : (v w p : ℕ) → slot_by b v ≡ Some p → slot_by b w ≡ Some p → v ≡ w
   one_node v w p h k = same_Some _ _ (sym (indexed.filled v p h) ∙ indexed.filled w p k)
@@ -101,7 +101,7 @@ module _ (b : Blocks) (es : Slots) (indexed : IsIndexed b es) where
 
   -- ---- node v has the entry w in place of o
 
-  module _ (b' : Blocks) (es' : Slots) (p v : ℕ) (o w : Option NodeEntry) (t : IsWritten es es' p o w)
+  module _ (b' : SlotIndex) (es' : Slots) (p v : ℕ) (o w : Option NodeEntry) (t : IsWritten es es' p o w)
       (was : slot_by b v ≡ slot_if p o) (now : (k : ℕ) → slot_by b' k ≡ cond (v == k) (slot_if p w) (slot_by b k))
       (id : option_map id_of w ≡ slot_if v w) where
     pub node_was : node_in b es v ≡ o

@@ -7,7 +7,7 @@ use Rattle.olr_map.proofs.Common.{in_slot, node_slots, node_room, links_at, IsRe
 use Rattle.olr_map.proofs.Common.{sides, near, far, lines_at, node_in, links_in, map_from, node_slot, IsListed}
 use Rattle.olr_map.proofs.Common.{IsIndexed, AreTables, Room, tables_map, room_of, room_at, change_edit, CanMake}
 use Rattle.olr_map.proofs.Common.{HasRoomFor, IsWhole, map_after, room_after, IsRoomWithin, IsChangeMade, line_puts}
-use Rattle.olr_map.proofs.Common.{Blocks, Links, LineEnd, NodeEntry, NodeSlots, Side, Out, In, LineTable, RoadMap}
+use Rattle.olr_map.proofs.Common.{SlotIndex, Links, LineEnd, NodeEntry, NodeSlots, Side, Out, In, LineTable, RoadMap}
 use Rattle.olr_map.proofs.Common.{TableChange, PutLine, SetLine, TakeLine, common_steps}
 use Rattle.std.specs.Ordering.{nat_cmp}
 use Rattle.olr_map.proofs.ColumnLemmas.{few_nodes}
@@ -181,7 +181,7 @@ module _ {t : RoadMap} {nodes' : NodeSlots} {lines' : LineTable} {x : ℕ} {ends
       }
 
 -- the far end that was stored
-end_seen : (side : Side) (b : Blocks) (l : Line) (q : ℕ) (e : LineEnd) → slot_by b (far side l) ≡ Some q →
+end_seen : (side : Side) (b : SlotIndex) (l : Line) (q : ℕ) (e : LineEnd) → slot_by b (far side l) ≡ Some q →
     e ≡ record { slot = q; len = l.len } → Some e ≡ Some (seen side (node_slot b) l)
 end_seen side b l q e there is = grind (arith, common_steps, place_is)
 

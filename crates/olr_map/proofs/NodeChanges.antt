@@ -6,7 +6,7 @@ use Rattle.olr_map.proofs.Common.{no_coord, has-lines_where, passed_line, slot_b
 use Rattle.olr_map.proofs.Common.{IsRemoved, IsReplaced, all_held, node_slots, node_room, links_at, lines_on, ends_on}
 use Rattle.olr_map.proofs.Common.{links_room, room_kept, sides, near, far, node_in, links_in, map_from, node_slot}
 use Rattle.olr_map.proofs.Common.{lines_at, end_at, IsListed, IsIndexed, AreTables, tables_map, room_of, room_at}
-use Rattle.olr_map.proofs.Common.{changed_at, CanMake, IsRoomWithin, map_after, IsChangeMade, Blocks, Links, NodeEntry}
+use Rattle.olr_map.proofs.Common.{changed_at, CanMake, IsRoomWithin, map_after, IsChangeMade, SlotIndex, Links, NodeEntry}
 use Rattle.olr_map.proofs.Common.{NodeSlots, Side, Out, In, RoadMap, PutNode, MoveNode, TakeNode, common_steps}
 use Rattle.std.proofs.Common.{length-take-le}
 use Rattle.std.specs.Ordering.{nat_cmp}
@@ -26,14 +26,14 @@ use Rattle.olr_spec.specs.Map as maps
 -- ---- a node has another entry
 
 -- node v has the entry w in place of o
-pub record NodeWritten (t : RoadMap) (b' : Blocks) (nodes' : NodeSlots) (v : ℕ) (o w : Option NodeEntry) : Type 0 where
+pub record NodeWritten (t : RoadMap) (b' : SlotIndex) (nodes' : NodeSlots) (v : ℕ) (o w : Option NodeEntry) : Type 0 where
   pub slot : ℕ
   pub is : IsWritten (node_slots t.nodes) (node_slots nodes') slot o w
   pub was : slot_by t.index v ≡ slot_if slot o
   pub now : (k : ℕ) → slot_by b' k ≡ cond (v == k) (slot_if slot w) (slot_by t.index k)
   pub id : option_map id_of w ≡ slot_if v w
 
-node_written : {t : RoadMap} {b' : Blocks} {nodes' : NodeSlots} {v : ℕ} {o w : Option NodeEntry} (p n : ℕ) →
+node_written : {t : RoadMap} {b' : SlotIndex} {nodes' : NodeSlots} {v : ℕ} {o w : Option NodeEntry} (p n : ℕ) →
     IsWritten (node_slots t.nodes) (node_slots nodes') p o w → n ≡ v → slot_by t.index v ≡ slot_if p o →
     ((k : ℕ) → slot_by b' k ≡ cond (n == k) (slot_if p w) (slot_by t.index k)) → option_map id_of w ≡ slot_if v w →
     NodeWritten t b' nodes' v o w
@@ -44,7 +44,7 @@ node_written {t} {b'} {nodes'} {v} {o} {w} p n is number was now id =
 abbrev entry_room : Side → Option NodeEntry → ℕ
 entry_room side e = option_map_or (λ l. links_room l) (option_map (links_at side) e) 0
 
-module _ {t : RoadMap} {b' : Blocks} {nodes' : NodeSlots} {v : ℕ} {o w : Option NodeEntry}
+module _ {t : RoadMap} {b' : SlotIndex} {nodes' : NodeSlots} {v : ℕ} {o w : Option NodeEntry}
     (r : NodeWritten t b' nodes' v o w) where
   abbrev M : Map
   M = tables_map t
@@ -133,7 +133,7 @@ beside : (l : Links) → length (ends_on l) ≡ length (lines_on l)
 beside (Inline f) = length-take-le f.count f.ends (omega arith) ∙ sym (length-take-le f.count f.lines (omega arith))
 beside (Spilled m) = m.value.beside
 
-module _ (t : RoadMap) (b' : Blocks) (nodes' : NodeSlots) (p n v : ℕ) (q : Coord) (o i : EmptyLinks) (outs ins : Links)
+module _ (t : RoadMap) (b' : SlotIndex) (nodes' : NodeSlots) (p n v : ℕ) (q : Coord) (o i : EmptyLinks) (outs ins : Links)
     (bare_outs : IsBare outs o) (bare_ins : IsBare ins i)
     (is : IsInserted (node_slots t.nodes) (node_slots nodes') p (record { id = v; place = q; outs = outs; ins = ins }))
     (number : n ≡ v) (put : (k : ℕ) → slot_by b' k ≡ cond (n == k) (Some p) (slot_by t.index k))
@@ -199,7 +199,7 @@ slot_taken t v can =
     slot_of t.index (node_slots t.nodes) t.kept.indexed (all_held t.lines) v
     (made_as (tables_map t) (TakeNode v) can.accepted).0
 
-module _ (t : RoadMap) (b' : Blocks) (nodes' : NodeSlots) (p n v : ℕ) (e : NodeEntry)
+module _ (t : RoadMap) (b' : SlotIndex) (nodes' : NodeSlots) (p n v : ℕ) (e : NodeEntry)
     (is : IsRemoved (node_slots t.nodes) (node_slots nodes') p e) (number : n ≡ v) (here : slot_by t.index n ≡ Some p)
     (taken : (k : ℕ) → slot_by b' k ≡ cond (n == k) None (slot_by t.index k))
     (can : CanMake (tables_map t) (room_of t) (TakeNode v)) where

@@ -4,7 +4,7 @@ use Rattle.olr_map.proofs.Common.{length, refl, sym, ap, subst, ◌∙◌, arith
 use Rattle.olr_map.proofs.Common.{false_from_ne_true, FinMap, get, Map, Line, IsMap, has_node, has_line}
 use Rattle.olr_map.proofs.Common.{none_of, some_of, pairs_of, slot_by, at, node_slots, links_at, node_in, links_in}
 use Rattle.olr_map.proofs.Common.{lines_at, map_from, node_slot, IsListed, IsIndexed, AreTables, tables_map}
-use Rattle.olr_map.proofs.Common.{Blocks, Links, NodeEntry, Side, RoadMap, held, all_held, in_slot, common_steps}
+use Rattle.olr_map.proofs.Common.{SlotIndex, Links, NodeEntry, Side, RoadMap, held, all_held, in_slot, common_steps}
 use Rattle.std.proofs.Common.{IsTrue, SomeIff}
 use Rattle.std.proofs.lemmas.Map.Made.{lookup-map_values}
 use Rattle.std.specs.Ordering.{nat_cmp}
@@ -16,7 +16,7 @@ use Rattle.olr_map.proofs.SlotLemmas.{holds_within}
 use Rattle.olr_map.proofs.Indexing.{id_of, place_of, entry_of, one_node}
 use Rattle.olr_map.proofs.Listing.{absent_lines}
 
-module _ (b : Blocks) (es : List (Option NodeEntry)) (indexed : IsIndexed b es) where
+module _ (b : SlotIndex) (es : List (Option NodeEntry)) (indexed : IsIndexed b es) where
   pub got_node : (F : FinMap nat_cmp Line) (v : ℕ) →
       get (map_from b es F).nodes v ≡ option_map place_of (node_in b es v)
   got_node F v =
@@ -48,10 +48,10 @@ module _ (b : Blocks) (es : List (Option NodeEntry)) (indexed : IsIndexed b es) 
 within : (es : List (Option NodeEntry)) (p v : ℕ) → option_map id_of (at es p) ≡ Some v → p < length es
 within es p v h = grind (arith, common_steps, holds_within)
 
-pub place_is : (b : Blocks) (v p : ℕ) → slot_by b v ≡ Some p → node_slot b v ≡ p
+pub place_is : (b : SlotIndex) (v p : ℕ) → slot_by b v ≡ Some p → node_slot b v ≡ p
 place_is b v p h = grind (arith, common_steps)
 
-module _ (b : Blocks) (es : List (Option NodeEntry)) (F : FinMap nat_cmp Line) (indexed : IsIndexed b es)
+module _ (b : SlotIndex) (es : List (Option NodeEntry)) (F : FinMap nat_cmp Line) (indexed : IsIndexed b es)
     (few : length es ≤ 2 ^ 32) where
   pub have_slots_apart : HaveSlotsApart (map_from b es F) (node_slot b) (length es)
   have_slots_apart =
@@ -74,7 +74,7 @@ module _ (b : Blocks) (es : List (Option NodeEntry)) (F : FinMap nat_cmp Line) (
 -- ---- tables
 
 module _ (t : RoadMap) where
-  abbrev b : Blocks
+  abbrev b : SlotIndex
   b = t.index
 
   abbrev es : List (Option NodeEntry)

@@ -1,6 +1,6 @@
 -- The slots of an edit's nodes: of an accepted edit, and where no node's slot changes. The faults of a map as returned.
 use Rattle.olr_map.proofs.Common.{common_steps, Node_in_use, TableChange, change_edit, IsReserved, tables_map, AreSlots}
-use Rattle.olr_map.proofs.Common.{node_slot, eqb-true, has_node, RoadMap, slot_by, Blocks, Option, Result, eq-eqb, IsOk}
+use Rattle.olr_map.proofs.Common.{node_slot, eqb-true, has_node, RoadMap, slot_by, SlotIndex, Option, Result, eq-eqb, IsOk}
 use Rattle.olr_map.proofs.Common.{arith, start, subst, List, Some, refl, true, ◌==◌, ◌||◌, Err, Map, end, has, map, sym}
 use Rattle.olr_map.proofs.Common.{◌∙◌, ◌∷◌, ◌≡◌, Ok, [], ap, ℕ}
 use Rattle.std.proofs.Common.{MatchResult}
@@ -17,7 +17,7 @@ use Rattle.olr_map.proofs.Making.{made_from}
 use Rattle.olr_map.proofs.Reading.{slot_is}
 use Rattle.olr_spec.specs.Map as maps
 
-slots_stay : (b b' : Blocks) (M M' : Map) (at : ℕ × ℕ) (e : maps.Edit) →
+slots_stay : (b b' : SlotIndex) (M M' : Map) (at : ℕ × ℕ) (e : maps.Edit) →
     ((v : ℕ) → slot_by b' v ≡ slot_by b v) → M' ≡ M → AreSlots b M at e → AreSlots b' M' at e
 slots_stay b b' M M' at (maps.Add_node v c) same is h = h
 slots_stay b b' M M' at (maps.Move_node v c) same is h = same v ∙ h
@@ -44,7 +44,7 @@ planned_node : (v a b : ℕ) → ((u : ℕ) → has (v ∷ []) u ≡ ((a == u) |
 planned_node v a b h = grind (arith, common_steps, h a, eq-eqb, eqb-true)
 
 module _ (t : RoadMap) where
-  abbrev b : Blocks
+  abbrev b : SlotIndex
   b = t.index
 
   abbrev M : Map

@@ -10,7 +10,7 @@ use Rattle.olr_spec.specs.Map as maps
 use Rattle.olr_spec.specs.Map.{Map, has_node, start, end, edited, touched_nodes, touched_lines, has, HasCoord}
 use Rattle.olr_spec.specs.Detours.{ChangedLine, changes_of}
 use Rattle.olr_map.specs.SlotIndexes.{slot_by}
-use Rattle.olr_map.specs.declared.blocks.Blocks.{Blocks}
+use Rattle.olr_map.specs.declared.slot_index.SlotIndex.{SlotIndex}
 use Rattle.olr_map.specs.declared.judging.EditPlan.{EditPlan}
 
 abbrev pub plan_lines : EditPlan → List ℕ
@@ -28,7 +28,7 @@ pub record IsEditPlan (M : Map) (slot : ℕ → ℕ) (e : maps.Edit) (j : EditPl
   pub first : IsTrue (has_node M j.nodes.0) → slot j.nodes.0 ≡ j.slots.0
   pub second : IsTrue (has_node M j.nodes.1) → slot j.nodes.1 ≡ j.slots.1
 
-abbrev pub AreSlots : Blocks → Map → ℕ × ℕ → maps.Edit → Type 0
+abbrev pub AreSlots : SlotIndex → Map → ℕ × ℕ → maps.Edit → Type 0
 AreSlots b M at (maps.Move_node v c) = slot_by b v ≡ Some at.0
 AreSlots b M at (maps.Add_line x l) = (slot_by b l.from ≡ Some at.0) × (slot_by b l.to ≡ Some at.1)
 AreSlots b M at (maps.Set_line x frc fow len shape) =

@@ -1,4 +1,5 @@
 pub mod Blocked
+pub mod BlockSlots
 pub mod SlotIndexes
 pub mod Linked
 pub mod Slotted

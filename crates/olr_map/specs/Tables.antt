@@ -17,27 +17,27 @@ use Rattle.olr_map.specs.SlotIndexes.{pairs_of, slot_by}
 use Rattle.olr_roads.specs.Ends.{HaveSlotsApart}
 use Rattle.olr_map.specs.Slotted.{at, in_slot}
 use Rattle.olr_map.specs.NodeLinks.{links_at}
-use Rattle.olr_map.specs.declared.blocks.Blocks.{Blocks}
+use Rattle.olr_map.specs.declared.slot_index.SlotIndex.{SlotIndex}
 use Rattle.olr_map.specs.declared.links.Links.{Links}
 use Rattle.olr_roads.specs.declared.read.LineEnd.{LineEnd}
 use Rattle.olr_map.specs.declared.slots.NodeEntry.{NodeEntry}
 use Rattle.olr_map.specs.declared.slots.Side.{Side}
 use Rattle.olr_map.specs.declared.slots.Side.TheVariants.{Out, In}
 
-abbrev pub node_in : Blocks → List (Option NodeEntry) → ℕ → Option NodeEntry
+abbrev pub node_in : SlotIndex → List (Option NodeEntry) → ℕ → Option NodeEntry
 node_in b es v = in_slot es (slot_by b v)
 
-abbrev pub links_in : Side → Blocks → List (Option NodeEntry) → ℕ → Option Links
+abbrev pub links_in : Side → SlotIndex → List (Option NodeEntry) → ℕ → Option Links
 links_in side b es v = option_map (links_at side) (node_in b es v)
 
 abbrev pub coord_in : List (Option NodeEntry) → ℕ → Coord
 coord_in es p = option_map_or (λ (e : NodeEntry). e.place) (at es p) no_coord
 
-abbrev pub map_from : Blocks → List (Option NodeEntry) → FinMap nat_cmp Line → Map
+abbrev pub map_from : SlotIndex → List (Option NodeEntry) → FinMap nat_cmp Line → Map
 map_from b es F =
     record { nodes = from_entries (map (λ (e : ℕ × ℕ). (e.0, coord_in es e.1)) (pairs_of b)); lines = F }
 
-abbrev pub node_slot : Blocks → ℕ → ℕ
+abbrev pub node_slot : SlotIndex → ℕ → ℕ
 node_slot b v = unwrap_or (slot_by b v) 0
 
 -- the one for a side
@@ -65,11 +65,11 @@ pub record IsListed (side : Side) (M : Map) (slot : ℕ → ℕ) (v : ℕ) (l : 
   pub ends : ends_on l ≡ map (end_at side M slot) (lines_at side M v)
 
 -- each node's slot has its entry, and each entry is in the slot of its node
-pub record IsIndexed (b : Blocks) (es : List (Option NodeEntry)) : Type 0 where
+pub record IsIndexed (b : SlotIndex) (es : List (Option NodeEntry)) : Type 0 where
   pub filled : (v p : ℕ) → slot_by b v ≡ Some p → option_map (λ (e : NodeEntry). e.id) (at es p) ≡ Some v
   pub named : (v p : ℕ) → option_map (λ (e : NodeEntry). e.id) (at es p) ≡ Some v → slot_by b v ≡ Some p
 
-pub record AreTables (b : Blocks) (es : List (Option NodeEntry)) (F : FinMap nat_cmp Line) : Type 0 where
+pub record AreTables (b : SlotIndex) (es : List (Option NodeEntry)) (F : FinMap nat_cmp Line) : Type 0 where
   pub sound : IsMap (map_from b es F)
   pub indexed : IsIndexed b es
   pub placed : HaveSlotsApart (map_from b es F) (node_slot b) (length es)
@@ -83,11 +83,11 @@ coded_end =
 IsListed-prop : (side : Side) (M : Map) (slot : ℕ → ℕ) (v : ℕ) (l : Links) → IsProp (IsListed side M slot v l)
 IsListed-prop side M slot v l = hlevel (props, Coded-set (coded_list coded_ℕ), Coded-set (coded_list coded_end))
 
-IsIndexed-prop : (b : Blocks) (es : List (Option NodeEntry)) → IsProp (IsIndexed b es)
+IsIndexed-prop : (b : SlotIndex) (es : List (Option NodeEntry)) → IsProp (IsIndexed b es)
 IsIndexed-prop b es = hlevel (props, Coded-set (coded_option coded_ℕ))
 
 HaveSlotsApart-prop : (M : Map) (slot : ℕ → ℕ) (count : ℕ) → IsProp (HaveSlotsApart M slot count)
 HaveSlotsApart-prop M slot count = hlevel (props, le_prop, Coded-set coded_ℕ)
 
-pub AreTables-prop : (b : Blocks) (es : List (Option NodeEntry)) (F : FinMap nat_cmp Line) → IsProp (AreTables b es F)
+pub AreTables-prop : (b : SlotIndex) (es : List (Option NodeEntry)) (F : FinMap nat_cmp Line) → IsProp (AreTables b es F)
 AreTables-prop b es F = hlevel (props, IsIndexed-prop, IsListed-prop, HaveSlotsApart-prop)

@@ -22,7 +22,7 @@ pub struct Blocks {
 }
 
 impl Blocks {
-    ghost use Rattle.olr_map.specs.SlotIndexes.{slot_by, spare_of};
+    ghost use Rattle.olr_map.specs.BlockSlots.{block_slot, block_spare};
 
     /// No slots. Does not allocate.
     pub fn new(alloc: Global) -> Blocks
@@ -36,7 +36,7 @@ impl Blocks {
 
     /// The slot of this number.
     pub fn get(&self, number: u32) -> Option<u32>
-        ensures { result ≡ slot_by self.now number }
+        ensures { result ≡ block_slot self.now number }
     {
         if number > self.greatest {
             return None;
@@ -49,9 +49,9 @@ impl Blocks {
 
     /// Reserves capacity for `additional` more numbers.
     pub fn reserve(&mut self, additional: usize) -> Result<(), AllocError>
-        ensures same { (k : ℕ) → slot_by self.new k ≡ slot_by self.old k }
-        ensures more { spare_of self.old ≤ spare_of self.new }
-        ensures room { OnOk result (additional ≤ spare_of self.new) }
+        ensures same { (k : ℕ) → block_slot self.new k ≡ block_slot self.old k }
+        ensures more { block_spare self.old ≤ block_spare self.new }
+        ensures room { OnOk result (additional ≤ block_spare self.new) }
     {
         self.blocks.reserve(additional)
     }
@@ -59,10 +59,10 @@ impl Blocks {
     /// Stores the slot of a number. Capacity for it is reserved.
     pub fn put(&mut self, number: u32, slot: u32)
         requires fits { slot + 1 < 2 ^ 32 }
-        requires room { 0 < spare_of self.old }
-        ensures put { (k : ℕ) → slot_by self.new k
-            ≡ cond (number == k) (Some slot) (slot_by self.old k) }
-        ensures spare { spare_of self.old ≤ spare_of self.new + 1 }
+        requires room { 0 < block_spare self.old }
+        ensures put { (k : ℕ) → block_slot self.new k
+            ≡ cond (number == k) (Some slot) (block_slot self.old k) }
+        ensures spare { block_spare self.old ≤ block_spare self.new + 1 }
     {
         self.greatest = self.greatest.max(number);
         let key = number / BLOCK_LEN;
@@ -79,11 +79,11 @@ impl Blocks {
 
     /// Removes the slot of a number, and returns it.
     pub fn take(&mut self, number: u32) -> u32
-        requires { IsSome (slot_by self.old number) }
-        ensures was { slot_by self.old number ≡ Some result }
-        ensures taken { (k : ℕ) → slot_by self.new k
-            ≡ cond (number == k) None (slot_by self.old k) }
-        ensures spare { spare_of self.old ≤ spare_of self.new }
+        requires { IsSome (block_slot self.old number) }
+        ensures was { block_slot self.old number ≡ Some result }
+        ensures taken { (k : ℕ) → block_slot self.new k
+            ≡ cond (number == k) None (block_slot self.old k) }
+        ensures spare { block_spare self.old ≤ block_spare self.new }
     {
         let key = number / BLOCK_LEN;
         let block = self.blocks.get_mut(&key).unwrap();

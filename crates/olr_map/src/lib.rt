@@ -12,6 +12,7 @@ mod line_table;
 mod links;
 pub mod road_map;
 mod slab;
+mod slot_index;
 mod slots;
 mod tables;
 pub mod undo;

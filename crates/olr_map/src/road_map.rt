@@ -4,8 +4,8 @@ ghost use Rattle.olr_map.specs.LineTables.{all_held};
 ghost use Rattle.olr_map.specs.Columns.{node_slots};
 ghost use Rattle.olr_map.specs.Tables.{AreTables, AreTables-prop};
 
-use crate::blocks::Blocks;
 use crate::line_table::LineTable;
+use crate::slot_index::SlotIndex;
 use crate::slots::{NodeSlots, Side};
 use crate::undo::{Undo, UndoLog};
 use olr_coords::Coord;
@@ -15,7 +15,7 @@ use std::alloc::Global;
 /// A road map. The time of a read or an edit depends neither on the order of node and line numbers nor on gaps in them.
 /// It has the slots of the nodes by number, the nodes' entries by slot, and the lines by number.
 pub struct RoadMap {
-    pub(crate) index: Blocks,
+    pub(crate) index: SlotIndex,
     pub(crate) nodes: NodeSlots,
     pub(crate) lines: LineTable,
     pub ghost kept: { AreTables index (node_slots nodes) (all_held lines) } by { AreTables-prop index (node_slots nodes) (all_held lines) },
@@ -106,7 +106,7 @@ impl RoadMap {
         ensures { map_of result ≡ empty_map }
     {
         RoadMap {
-            index: Blocks::new(alloc),
+            index: SlotIndex::new(alloc),
             nodes: NodeSlots::new(alloc),
             lines: LineTable::new(alloc),
         }
