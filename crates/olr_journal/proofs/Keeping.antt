@@ -6,7 +6,7 @@ use Rattle.std.proofs.lemmas.Bool.{and_from, not_from_false}
 use Rattle.sqlite_disk.specs.Disk.{Holds, Torn, Mixed, Only}
 use Rattle.olr_sessions.specs.Journals.{IsFront, is_whole}
 use Rattle.olr_journal.specs.Texts.{counts, ends_blank, text_of, padded}
-use Rattle.olr_journal.specs.Files.{text_in, IsPadded, KeepsFirst}
+use Rattle.olr_journal.specs.Files.{text_in, kept_in, IsPadded, KeepsFirst}
 use Rattle.olr_journal.specs.Outcomes.{LeavesText, MayLeave}
 use Rattle.olr_journal.proofs.Fronts.{counts_append}
 use Rattle.olr_journal.proofs.Padding.{first_bytes, there, text_in_padded, text_of_padded, text_of_kept, written, mixed_text, KeepsFirst-trans, torn_keeps}
@@ -119,3 +119,8 @@ pub room_after : (m len : ℕ) (file longer new records : List ℕ) → m + 1 �
     → Torn (m + 1) (length records) longer new → m + length records + 1 ≤ length new
 room_after m len file longer new [] within keeps holds torn = omega (arith, keeps.no_shorter, torn.no_shorter)
 room_after m len file longer new (b ∷ records) within keeps holds torn = omega (arith, (holds (omega arith)).within)
+
+-- so many bytes are kept
+pub kept_size : (own : Bool) (n : ℕ) (file : List ℕ) → own ≡ true → n + 1 ≤ length file → n ≡ length (kept_in own n file)
+kept_size true n file is within = sym (length-take-le n (drop 1 file) (omega (arith, length-drop 1 file)))
+kept_size false n file is within = absurd (let never : false ≡ true = is in cc)

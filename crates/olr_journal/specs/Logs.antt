@@ -11,6 +11,10 @@ module _ {D F : Type 0} {d : disk.Ghosts D} {f : folder.Ghosts F D} where
   abbrev pub kept_of : LogFile D F d f → List ℕ
   kept_of log = kept_in log.is_own log.text_len (d.seen log.disk)
 
+  -- how many bytes the log counts in its text
+  abbrev pub size_of : LogFile D F d f → ℕ
+  size_of log = log.text_len
+
   abbrev pub left_of : LogFile D F d f → List ℕ → Type 0
   left_of log = MayLeave d.is_clean d.may_leave (f.may_lead log.folder) log.number log.disk log.rival
 

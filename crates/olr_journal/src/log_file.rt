@@ -118,15 +118,18 @@ fn write_in_place<D: Disk + Drop, F: Folder<D>>(
 }
 
 impl<D: Disk + Drop, F: Folder<D>> Journal for LogFile<D, F> {
-    ghost use Rattle.olr_journal.specs.Logs.{kept_of, left_of, refusal_of, is_own_of, is_ready, is_broken_of};
+    ghost use Rattle.olr_journal.specs.Logs.{kept_of, size_of, left_of, refusal_of, is_own_of, is_ready, is_broken_of, is_clean};
 
     ghost kept = { λ j. kept_in j.is_own j.text_len (D.Disk.seen j.disk) };
+
+    ghost size = { λ j. j.text_len };
 
     ghost may_leave = { λ j. MayLeave D.Disk.is_clean D.Disk.may_leave (F.Folder.may_lead j.folder) j.number j.disk j.rival };
 
     fn keep(&mut self, records: &[u8]) -> io::Result<()>
         requires { IsTrue (is_whole records.now) }
         ensures kept { OnOk result (kept_of self.new ≡ kept_of self.old ++ records.now) }
+        ensures counted { OnOk result (size_of self.new ≡ length (kept_of self.new)) }
         ensures durable { OnOk result (Only (kept_of self.new) (left_of self.new)) }
         ensures cut { (c : List ℕ) → left_of self.new c → left_of self.old c
             ⊎ ((front : List ℕ) × IsFront records.now front × (c ≡ kept_of self.old ++ front)) }
@@ -158,6 +161,7 @@ impl<D: Disk + Drop, F: Folder<D>> Journal for LogFile<D, F> {
     fn replace(&mut self, records: &[u8]) -> io::Result<bool>
         requires { IsTrue (is_whole records.now) }
         ensures kept { IfOk result (λ done. kept_of self.new ≡ if done then records.now else kept_of self.old) }
+        ensures counted { IfOk result (λ done. size_of self.new ≡ if done then length records.now else size_of self.old) }
         ensures durable { Only (kept_of self.old) (left_of self.old) → OnOk result (Only (kept_of self.new) (left_of self.new)) }
         ensures cut { (c : List ℕ) → left_of self.new c → left_of self.old c ⊎ (c ≡ records.now) }
         ensures ready { IfOk result (λ done. done ≡ true → is_ready self.new ≡ true) }
@@ -198,7 +202,11 @@ impl<D: Disk + Drop, F: Folder<D>> Journal for LogFile<D, F> {
         self.folder.report_unreplaced(error);
     }
 
-    fn len(&self) -> usize {
+    fn len(&self) -> usize
+        ensures counted { result ≡ size_of self.now }
+        ensures ready { is_ready self.now ≡ true → result ≡ length (kept_of self.now) }
+        ensures opened { is_broken_of self.now ≡ false → is_clean self.now ≡ true → result ≡ length (kept_of self.now) }
+    {
         self.text_len
     }
 

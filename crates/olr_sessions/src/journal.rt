@@ -1,6 +1,6 @@
 //! A log in which the accepted changes of a run are kept.
 
-ghost use Rattle.std.specs.Prelude.{◌≡◌, ◌⊎◌, ℕ, List, ◌++◌, if◌then◌else◌, IsTrue, IfOk, OnOk};
+ghost use Rattle.std.specs.Prelude.{◌≡◌, ◌⊎◌, ℕ, List, ◌++◌, length, if◌then◌else◌, IsTrue, IfOk, OnOk};
 ghost use Rattle.olr_sessions.specs.Journals.{IsFront, Only, is_whole};
 
 use std::io;
@@ -10,6 +10,9 @@ pub trait Journal {
     /// The text that is kept.
     ghost kept: { Self → List ℕ };
 
+    /// How many bytes are kept, as the log counts them: exactly, once records were kept or put in the place of all.
+    ghost size: { Self → ℕ };
+
     /// The texts with which the next run may begin, if this one is cut off now.
     ghost may_leave: { Self → List ℕ → Type 0 };
 
@@ -18,6 +21,7 @@ pub trait Journal {
     fn keep(&mut self, records: &[u8]) -> io::Result<()>
         requires { IsTrue (is_whole records.now) }
         ensures kept { OnOk result (kept self.new ≡ kept self.old ++ records.now) }
+        ensures counted { OnOk result (size self.new ≡ length (kept self.new)) }
         ensures durable { OnOk result (Only (kept self.new) (may_leave self.new)) }
         ensures cut { (c : List ℕ) → may_leave self.new c → may_leave self.old c
             ⊎ ((front : List ℕ) × IsFront records.now front × (c ≡ kept self.old ++ front)) };
@@ -27,6 +31,7 @@ pub trait Journal {
     fn replace(&mut self, records: &[u8]) -> io::Result<bool>
         requires { IsTrue (is_whole records.now) }
         ensures kept { IfOk result (λ done. kept self.new ≡ if done then records.now else kept self.old) }
+        ensures counted { IfOk result (λ done. size self.new ≡ if done then length records.now else size self.old) }
         ensures durable { Only (kept self.old) (may_leave self.old) → OnOk result (Only (kept self.new) (may_leave self.new)) }
         ensures cut { (c : List ℕ) → may_leave self.new c → may_leave self.old c ⊎ (c ≡ records.now) };
 
@@ -35,7 +40,8 @@ pub trait Journal {
     fn report_unreplaced(&self, are_made: bool);
 
     /// How many bytes are kept.
-    fn len(&self) -> usize;
+    fn len(&self) -> usize
+        ensures { result ≡ size self.now };
 
     /// Whether the name of the log still leads to the file that is open, with the length that was written.
     fn is_in_place(&self) -> bool;

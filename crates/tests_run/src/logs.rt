@@ -1,6 +1,6 @@
 //! Tests of runs with a log. The log is one in memory that fails at a call.
 
-ghost use Rattle.std.specs.Prelude.{◌≡◌};
+ghost use Rattle.std.specs.Prelude.{◌≡◌, vec_len};
 
 use olr_register::Register;
 use olr_run::{
@@ -21,6 +21,8 @@ struct Kept {
 
 impl Journal for Kept {
     ghost kept = { λ k. k.text.items };
+
+    ghost size = { λ k. vec_len k.text };
 
     ghost may_leave = { λ k c. c ≡ k.text.items };
 

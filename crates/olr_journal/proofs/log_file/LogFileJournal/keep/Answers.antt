@@ -2,7 +2,7 @@ use Rattle.std.proofs.Common.{rules, ◌≡◌, inr, ◌+◌, ◌-◌, ◌<◌, 
 use Rattle.std.proofs.lemmas.List.{append-nil}
 use Rattle.olr_journal.specs.Texts.{counts, text_of}
 use Rattle.olr_journal.specs.Files.{kept_in, KeepsFirst}
-use Rattle.olr_journal.proofs.Keeping.{led_here, no_records, counts_from, kept_text, padded_after, size_after, text_after, kept_more, room_after}
+use Rattle.olr_journal.proofs.Keeping.{led_here, no_records, counts_from, kept_size, kept_text, padded_after, size_after, text_after, kept_more, room_after}
 use Rattle.olr_journal.proofs.Settled.{more_put}
 use Rattle.olr_journal.proofs.log_file.LogFileJournal.keep.Goals as goal
 
@@ -49,6 +49,16 @@ returns-clause-kept g c =
     ap (λ (b : Bool). kept_in b (self.text_len + length c.args.records.now) (disk.seen c.put.new.disk)) own.1
     ∙ kept_more self.text_len self.file_len (disk.seen self.disk) (disk.seen c.extend.new.disk) (disk.seen c.put.new.disk) c.args.records.now room.1 room.0 c.extend.ensures.keeps c.in_ok-put.ensures.held c.put.ensures.others
     ∙ ap (λ (b : Bool). kept_in b self.text_len (disk.seen self.disk) ++ c.args.records.now) (sym own.1)
+
+pub returns-clause-counted : goal.returns-clause-counted
+returns-clause-counted g c =
+    let self = c.args.self.now in
+    let records = c.args.records.now in
+    let settled = c.if-not-is_settled.false in
+    let own = self.own settled in
+    let room = self.room settled in
+    kept_size self.is_own (self.text_len + length records) (g.D.Disk.seen c.put.new.disk) own.1
+    (room_after self.text_len self.file_len (g.D.Disk.seen self.disk) (g.D.Disk.seen c.extend.new.disk) (g.D.Disk.seen c.put.new.disk) records room.1 c.extend.ensures.keeps c.in_ok-put.ensures.held c.put.ensures.others)
 
 pub returns-clause-durable : goal.returns-clause-durable
 returns-clause-durable g c text left =
