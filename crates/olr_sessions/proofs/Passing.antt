@@ -6,7 +6,7 @@ use Rattle.std.proofs.Math.Seq.{take-add}
 use Rattle.std.proofs.lemmas.List.{append-nil, append_assoc, take-append-drop}
 use Rattle.olr_sessions.specs.Buffers.{held, Sends}
 use Rattle.olr_sessions.specs.Gates.{is_closed, ready, MayHaveKept, Keeping, None_sent, None_ready, All_kept, Cut_off}
-use Rattle.olr_sessions.specs.Gates.{SameBatch, Passes, PassesAll, PassesSome}
+use Rattle.olr_sessions.specs.Gates.{SameBatch, Passes, PassesAll, PassesSome, compaction}
 use Rattle.std.specs.Prelude.{IfOk, IfErr, OnErr, Result}
 use Rattle.olr_sessions.specs.declared.ends.RunFault.{RunFault}
 use Rattle.olr_sessions.specs.Journals.{Only}
@@ -78,6 +78,7 @@ module _ {J : Type 0} (kept : J → List ℕ) (may_leave : J → List ℕ → Ty
           sent = a.sent ++ b.sent;
           keeping = keeping_trans g h i a.sent b.sent a.keeping b.keeping;
           others = same_trans g h i a.others b.others;
+          due = b.due ∙ a.due;
           device = Appends-trans (contents o.device) (contents p.device) (contents q.device) a.sent b.sent a.device b.device;
           bytes = sym (append_assoc (held o) x y) ∙ ap (λ (l : List ℕ). l ++ y) a.bytes
               ∙ append_assoc a.sent (held p) y ∙ ap (λ (l : List ℕ). a.sent ++ l) b.bytes
@@ -92,6 +93,7 @@ module _ {J : Type 0} (kept : J → List ℕ) (may_leave : J → List ℕ → Ty
           sent = [];
           keeping = None_sent refl refl refl (λ c. c);
           others = same_refl g;
+          due = refl;
           device = subst (λ (w : W). Appends (contents o.device) (contents w) []) (sym d) (Appends-nil (contents o.device));
           bytes = sym e;
         }
@@ -101,23 +103,27 @@ module _ {J : Type 0} (kept : J → List ℕ) (may_leave : J → List ℕ → Ty
 
     -- what is held back is sent
     pub passes_sent : (g h : Gate J) (o p : Buffered W) → ((sent : List ℕ) → Keeping kept may_leave g h sent) →
-        SameBatch g h → Sends (contents o.device) (held o) (contents p.device) (held p) → Through g o h p []
-    passes_sent g h o p keeps same s =
+        SameBatch g h → compaction h ≡ compaction g → Sends (contents o.device) (held o) (contents p.device) (held p)
+        → Through g o h p []
+    passes_sent g h o p keeps same due s =
         record {
           sent = s.0;
           keeping = keeps s.0;
           others = same;
+          due = due;
           device = s.1;
           bytes = append-nil (held o) ∙ s.2;
         }
 
     -- or can't be
-    pub passes_kept : (g h : Gate J) (o : Buffered W) → Keeping kept may_leave g h [] → SameBatch g h → Through g o h o []
-    passes_kept g h o keeps same =
+    pub passes_kept : (g h : Gate J) (o : Buffered W) → Keeping kept may_leave g h [] → SameBatch g h →
+        compaction h ≡ compaction g → Through g o h o []
+    passes_kept g h o keeps same due =
         record {
           sent = [];
           keeping = keeps;
           others = same;
+          due = due;
           device = Appends-nil (contents o.device);
           bytes = append-nil (held o);
         }

@@ -7,18 +7,24 @@
 --     SettledBy u accepted v      the record whose line was taken last was accepted or rejected
 --     Renews g records h      these records were given, to be kept in the place of the log
 --     TookLine g fields h, LostLine g h      the line of a record was taken, or could not be
-use Rattle.std.specs.Prelude.{◌≡◌, ◌≢◌, ◌≤◌, ℕ, Bool, true, false, if◌then◌else◌, List, [], ◌++◌, take, length, is_some}
+--     compaction g      when the log is replaced by the records of what is accepted
+--     asks g      whether these records are asked for
+--     is_due len accepted effect c      whether they are wanted after a record of this effect
+--     put_off len c      the same after they were given, or could not be: the next time, the log has twice its length
+use Rattle.std.specs.Prelude.{◌≡◌, ◌≢◌, ◌≤◌, ◌*◌, ◌-◌, ◌^◌, ℕ, min, max, nat_le, Bool, true, false, not, ◌&&◌, ◌||◌}
+use Rattle.std.specs.Prelude.{if◌then◌else◌, List, [], ◌++◌, take, length, is_some}
 use Rattle.std.specs.Prelude.{Result, Ok, Err, ◌⊎◌}
 use Rattle.std.specs.Io.KnownBytes.{Appends}
 use Rattle.olr_sessions.specs.Buffers.{held}
-use Rattle.olr_sessions.specs.Journals.{IsFront, Only}
-use Rattle.olr_sessions.specs.KeptLines.{effect_of, kept_line, settled}
+use Rattle.olr_sessions.specs.Journals.{IsFront, Only, is_empty}
+use Rattle.olr_sessions.specs.KeptLines.{effect_of, is_compact, kept_line, settled}
 use Rattle.olr_sessions.specs.Sessions.{Known}
 use Rattle.olr_sessions.specs.Unkept.{waiting, next_line}
 use Rattle.olr_sessions.specs.declared.buffered.Buffered.{Buffered}
 use Rattle.olr_sessions.specs.declared.ends.RunFault.{RunFault}
 use Rattle.olr_sessions.specs.declared.ends.RunFault.TheVariants as fault
 use Rattle.olr_sessions.specs.declared.gate.Gate.{Gate}
+use Rattle.olr_sessions.specs.declared.unkept.Effect.{Effect}
 use Rattle.olr_sessions.specs.declared.unkept.Unkept.{Unkept}
 
 -- nothing is sent through a gate whose log has failed
@@ -30,6 +36,46 @@ ready g = (waiting g.unkept).ready
 
 abbrev pub batch : {J : Type 0} → Gate J → List ℕ
 batch g = (waiting g.unkept).batch
+
+-- ---- when a log is replaced
+
+-- whether the records of what is accepted are wanted, the length from which on the log is replaced the next time, and the least
+-- such length
+pub record Compaction : Type 0 where
+  pub is_wanted : Bool
+  pub next_from : ℕ
+  pub renewed_from : ℕ
+
+abbrev pub compaction : {J : Type 0} → Gate J → Compaction
+compaction g = record { is_wanted = g.is_wanted; next_from = g.next_from; renewed_from = g.renewed_from }
+
+-- the records are asked for if they are wanted, the log has not failed, and no batch is open
+abbrev pub asks : {J : Type 0} → Gate J → Bool
+asks g = g.is_wanted && not (is_closed g) && is_empty (batch g)
+
+-- whether they are wanted after a record of this effect, while the log has so many bytes: they were before, or the record is a
+-- `compact` that was accepted, or the log has the length from which on it is replaced
+abbrev pub is_due : ℕ → Bool → Effect → Compaction → Bool
+is_due len accepted effect c = c.is_wanted || (accepted && is_compact effect) || nat_le c.next_from len
+
+abbrev pub settled_compaction : ℕ → Bool → Effect → Compaction → Compaction
+settled_compaction len accepted effect c =
+    record { is_wanted = is_due len accepted effect c; next_from = c.next_from; renewed_from = c.renewed_from }
+
+-- twice a length, and the least length at least
+abbrev pub twice : ℕ → ℕ → ℕ
+twice len least = max (min (len * 2) (2 ^ 64 - 1)) least
+
+-- after the records were given, or could not be
+abbrev pub put_off : ℕ → Compaction → Compaction
+put_off len c =
+    record { is_wanted = false; next_from = twice len c.renewed_from; renewed_from = c.renewed_from }
+
+-- records that are still asked for when the next record is taken could not be made
+abbrev pub compaction_taking : {J : Type 0} → (J → ℕ) → Gate J → Compaction
+compaction_taking size g = if asks g then put_off (size g.journal) (compaction g) else compaction g
+
+-- ---- what passes
 
 -- a log that failed to keep these records may leave what it left before, or beside all that it kept a whole front of them
 abbrev pub MayHaveKept : {J : Type 0} → (J → List ℕ) → (J → List ℕ → Type 0) → J → List ℕ → J → Type 0
@@ -64,6 +110,7 @@ pub record Passes {J W : Type 0} (kept : J → List ℕ) (may_leave : J → List
   pub sent : List ℕ
   pub keeping : Keeping kept may_leave g h sent
   pub others : SameBatch g h
+  pub due : compaction h ≡ compaction g
   pub device : Appends (contents o.device) (contents p.device) sent
   pub bytes : held o ++ text ≡ sent ++ held p
 

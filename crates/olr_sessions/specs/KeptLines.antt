@@ -54,6 +54,15 @@ has_line effect.Change = true
 has_line effect.Begin = true
 has_line effect.Commit = true
 
+-- whether it asks that the log be replaced
+abbrev pub is_compact : Effect → Bool
+is_compact effect.Compact = true
+is_compact effect.Nothing = false
+is_compact effect.Change = false
+is_compact effect.Begin = false
+is_compact effect.Commit = false
+is_compact effect.Abort = false
+
 abbrev pub effect_of : List (List ℕ) → Effect
 effect_of fields =
     if has_line (word_effect fields) && not (is_clean (join_with_byte 44 fields)) then effect.Nothing

@@ -1,10 +1,10 @@
 //! The gate through which the answers of a run with a log leave.
 
-ghost use Rattle.std.specs.Prelude.{◌≡◌, ◌≤◌, ◌++◌, ℕ, List, [], take, length, None, IfOk, IfErr, OnOk, OnErr, IsTrue, false, true, ◌&&◌, not};
+ghost use Rattle.std.specs.Prelude.{◌≡◌, ◌≤◌, ◌++◌, ℕ, List, [], take, length, None, Ok, IfOk, IfErr, OnOk, OnErr, IsTrue, false, true};
 ghost use Rattle.csv.specs.Records.{fields_of};
-ghost use Rattle.olr_sessions.specs.Gates.{Keeping, Passes, PassesSome, PassesAll, Untouched, SameBatch, SettledBy, TakesFound, Renews, is_closed, ready, batch};
+ghost use Rattle.olr_sessions.specs.Gates.{Keeping, Passes, PassesSome, PassesAll, Untouched, SameBatch, SettledBy, TakesFound, Renews, is_closed, ready, batch, compaction, asks, compaction_taking, settled_compaction};
+ghost use Rattle.olr_sessions.specs.Gates as gates;
 ghost use Rattle.olr_sessions.specs.Journals as journals;
-ghost use Rattle.olr_sessions.specs.Journals.{is_empty};
 ghost use Rattle.olr_sessions.specs.declared.unkept.Effect.TheVariants as effect;
 ghost use Rattle.olr_sessions.specs.KeptLines.{effect_of, kept_line};
 ghost use Rattle.olr_sessions.specs.Unkept.{waiting, next_line};
@@ -52,6 +52,7 @@ impl<J: Journal + Drop> Gate<J> {
         ensures journal { result.journal ≡ journal }
         ensures waiting { waiting result.unkept ≡ record { ready = []; batch = [] } }
         ensures open { result.fault ≡ None }
+        ensures due { compaction result ≡ record { is_wanted = false; next_from = renewed_from; renewed_from = renewed_from } }
     {
         Gate {
             journal,
@@ -99,6 +100,7 @@ impl<J: Journal + Drop> Gate<J> {
         ensures waiting { waiting self.new.unkept ≡ waiting self.old.unkept }
         ensures effect { OnOk result (self.new.unkept.effect ≡ effect_of (fields_of fields.now)) }
         ensures line { OnOk result (next_line self.new.unkept ≡ kept_line (fields_of fields.now)) }
+        ensures due { compaction self.new ≡ compaction_taking J.size self.old }
     {
         if self.wants_records() {
             self.journal.report_unreplaced(false);
@@ -111,6 +113,7 @@ impl<J: Journal + Drop> Gate<J> {
     fn put_off(&mut self)
         ensures untouched { Untouched self.old self.new }
         ensures unkept { self.new.unkept ≡ self.old.unkept }
+        ensures due { compaction self.new ≡ gates.put_off (J.size self.old.journal) (compaction self.old) }
     {
         self.is_wanted = false;
         self.next_from = twice(self.journal.len(), self.renewed_from);
@@ -118,7 +121,7 @@ impl<J: Journal + Drop> Gate<J> {
 
     /// Whether the records of all that is accepted are wanted, to be kept in the place of the log.
     pub fn wants_records(&self) -> bool
-        ensures { result ≡ (self.now.is_wanted && not (is_closed self.now) && is_empty (batch self.now)) }
+        ensures { result ≡ asks self.now }
     {
         self.is_wanted && self.fault.is_none() && !self.unkept.is_in_batch()
     }
@@ -127,7 +130,8 @@ impl<J: Journal + Drop> Gate<J> {
     /// could not be written. If it isn't known what it holds, the gate is closed.
     #[tactic(auto, using(crate::proofs::Renewing::renews_on))]
     pub fn renew(&mut self, records: &[u8])
-        ensures { Renews J.kept J.may_leave self.old records.now self.new }
+        ensures renews { Renews J.kept J.may_leave self.old records.now self.new }
+        ensures due { compaction self.new ≡ gates.put_off (J.size self.new.journal) (compaction self.old) }
     {
         self.replace_if(records);
         self.put_off();
@@ -136,7 +140,8 @@ impl<J: Journal + Drop> Gate<J> {
     /// The same, if no batch is open, and the records are whole.
     #[tactic(auto, using(crate::proofs::Renewing::renews_none))]
     fn replace_if(&mut self, records: &[u8])
-        ensures { Renews J.kept J.may_leave self.old records.now self.new }
+        ensures renews { Renews J.kept J.may_leave self.old records.now self.new }
+        ensures due { compaction self.new ≡ compaction self.old }
     {
         if self.fault().is_some() {
             return;
@@ -154,7 +159,8 @@ impl<J: Journal + Drop> Gate<J> {
         requires whole { IsTrue (journals.is_whole records.now) }
         requires open { is_closed self.old ≡ false }
         requires none { batch self.old ≡ [] }
-        ensures { Renews J.kept J.may_leave self.old records.now self.new }
+        ensures renews { Renews J.kept J.may_leave self.old records.now self.new }
+        ensures due { compaction self.new ≡ compaction self.old }
     {
         match self.journal.replace(records) {
             Ok(true) => self.unkept.forget_ready(),
@@ -169,7 +175,8 @@ impl<J: Journal + Drop> Gate<J> {
         found: Result<bool, RunFault>,
         fields: &ByteRecord,
     ) -> Result<bool, RunFault>
-        ensures { TakesFound self.old found (fields_of fields.now) self.new result }
+        ensures takes { TakesFound self.old found (fields_of fields.now) self.new result }
+        ensures due { found ≡ Ok true → compaction self.new ≡ compaction_taking J.size self.old }
     {
         match found {
             Ok(true) => match self.take(fields) {
@@ -187,6 +194,8 @@ impl<J: Journal + Drop> Gate<J> {
         ensures settled { SettledBy self.old.unkept accepted self.new.unkept }
         ensures wanted { IsTrue accepted → self.old.unkept.effect ≡ effect.Compact → IsTrue self.new.is_wanted }
         ensures still { IsTrue self.old.is_wanted → IsTrue self.new.is_wanted }
+        ensures due { compaction self.new
+            ≡ settled_compaction (J.size self.old.journal) accepted self.old.unkept.effect (compaction self.old) }
     {
         self.is_wanted = self.is_due(accepted);
         self.unkept.settle(accepted);
@@ -196,6 +205,7 @@ impl<J: Journal + Drop> Gate<J> {
     fn is_due(&self, accepted: bool) -> bool
         ensures wanted { IsTrue accepted → self.now.unkept.effect ≡ effect.Compact → IsTrue result }
         ensures still { IsTrue self.now.is_wanted → IsTrue result }
+        ensures due { result ≡ gates.is_due (J.size self.now.journal) accepted self.now.unkept.effect (compaction self.now) }
     {
         self.is_wanted
             || (accepted && self.unkept.is_compact())
@@ -208,6 +218,7 @@ impl<J: Journal + Drop> Gate<J> {
             → Keeping J.kept J.may_leave self.old self.new sent }
         ensures kept { result ≡ true → (ready self.new ≡ []) × (is_closed self.new ≡ false) }
         ensures others { SameBatch self.old self.new }
+        ensures due { compaction self.new ≡ compaction self.old }
     {
         if self.fault.is_some() {
             return false;
@@ -297,7 +308,9 @@ impl<J: Journal + Drop> Gate<J> {
 }
 
 /// Twice a length, and this length at least.
-fn twice(len: usize, least: usize) -> usize {
+fn twice(len: usize, least: usize) -> usize
+    ensures { result ≡ gates.twice len least }
+{
     len.saturating_mul(2).max(least)
 }
 

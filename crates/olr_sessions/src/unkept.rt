@@ -317,7 +317,8 @@ impl Unkept {
 
     /// Whether the record whose line was taken last asks that the log be replaced.
     pub fn is_compact(&self) -> bool
-        ensures { IsTrue result ↔ (self.now.effect ≡ Effect.Compact) }
+        ensures compact { IsTrue result ↔ (self.now.effect ≡ Effect.Compact) }
+        ensures is { result ≡ lines.is_compact self.now.effect }
     {
         matches!(self.effect, Effect::Compact)
     }

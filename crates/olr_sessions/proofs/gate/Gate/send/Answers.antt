@@ -5,7 +5,7 @@ use Rattle.olr_sessions.proofs.gate.Gate.send.Goals as goal
 pub returns-then-not-keep-clause-passes : goal.returns-then-not-keep-clause-passes
 returns-then-not-keep-clause-passes g c =
     passes_kept g.J.Journal.kept g.J.Journal.may_leave g.W.Write.contents c.args.self.now c.keep.new.self
-    c.args.output.now (c.keep.ensures.keeping [] (λ _. refl)) c.keep.ensures.others
+    c.args.output.now (c.keep.ensures.keeping [] (λ _. refl)) c.keep.ensures.others c.keep.ensures.due
 
 pub returns-in-Ok-clause-passes : goal.returns-in-Ok-clause-passes
 returns-in-Ok-clause-passes g c =
@@ -13,7 +13,7 @@ returns-in-Ok-clause-passes g c =
     c.args.output.now c.send_held.new.self
     (λ sent. c.keep.ensures.keeping sent
     (λ no. absurd (let never : true ≡ false = sym c.if-not-keep.false ∙ no in cc)))
-    c.keep.ensures.others c.send_held.ensures.device
+    c.keep.ensures.others c.keep.ensures.due c.send_held.ensures.device
 
 pub returns-in-Err-clause-passes : goal.returns-in-Err-clause-passes
 returns-in-Err-clause-passes g c =
@@ -21,4 +21,4 @@ returns-in-Err-clause-passes g c =
     c.args.output.now c.send_held.new.self
     (λ sent. c.keep.ensures.keeping sent
     (λ no. absurd (let never : true ≡ false = sym c.if-not-keep.false ∙ no in cc)))
-    c.keep.ensures.others c.send_held.ensures.device
+    c.keep.ensures.others c.keep.ensures.due c.send_held.ensures.device

@@ -12,7 +12,7 @@ returns g c =
     (record { reader = c.read_record-found.new.reader; gate = c.take_found.new.self }) c.send_before.new.self
     c.args.output.now c.send_before.new.output c.read_record-found.result c.take_found.result
     (fields_of c.read_record-found.new.fields) c.send_before.ensures.passes c.read_record-found.ensures
-    c.take_found.ensures
+    c.take_found.ensures.takes
 
 pub returns-in_err-send_before : goal.returns-in_err-send_before
 returns-in_err-send_before g c =
