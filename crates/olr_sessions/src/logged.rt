@@ -1,6 +1,7 @@
 //! A session whose accepted changes are kept in a log.
 
 ghost use Rattle.std.specs.Prelude.{◌≡◌, ◌==◌};
+ghost use Rattle.olr_sessions.specs.Gates.{asks, compaction, put_off};
 ghost use Rattle.olr_sessions.specs.LoggedRuns.{LogHappens};
 ghost use Rattle.olr_sessions.specs.LoggedRuns as runs;
 
@@ -51,6 +52,7 @@ fn is_fault(text: &[u8]) -> bool
 
 impl<R: Read + Drop, W: Write + Drop, J: Journal + Drop> Session<Buffered<W>> for Logged<R, J> {
     ghost use Rattle.olr_sessions.specs.Buffers.{unread};
+    ghost use Rattle.olr_sessions.specs.Sessions.{Renewed};
 
     ghost happens = { λ a e b. LogHappens (unread R.remaining) W.contents J.kept J.may_leave a.0 a.1 b.0 b.1 e };
 
@@ -70,11 +72,17 @@ impl<R: Read + Drop, W: Write + Drop, J: Journal + Drop> Session<Buffered<W>> fo
         self.gate.write(output, text)
     }
 
-    fn wants_records(&self) -> bool {
+    fn wants_records(&self) -> bool
+        ensures { result ≡ asks self.now.gate }
+    {
         self.gate.wants_records()
     }
 
-    fn renew(&mut self, records: &[u8]) {
+    fn renew(&mut self, records: &[u8])
+        ensures renewed { (output : Buffered W) → LogHappens (unread R.remaining) W.contents J.kept J.may_leave
+            self.old output self.new output (Renewed records.now) }
+        ensures due { compaction self.new.gate ≡ put_off (J.size self.new.gate.journal) (compaction self.old.gate) }
+    {
         self.gate.renew(records);
     }
 }
