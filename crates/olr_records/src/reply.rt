@@ -40,7 +40,11 @@ pub fn append_reply(text: &mut Vec<u8>, reply: &Reply) -> Result<(), AllocError>
 }
 
 /// The line of a word and a count.
-fn push_count(text: &mut Vec<u8>, word: &[u8], count: usize) -> Result<(), AllocError>
+fn push_count<const N: usize>(
+    text: &mut Vec<u8>,
+    word: &[u8; N],
+    count: usize,
+) -> Result<(), AllocError>
     ensures { OnOk result (text.new.items
         ≡ text.old.items ++ texts.reply_line (word.now ∷ decimal count ∷ [])) }
 {
@@ -287,7 +291,11 @@ fn push_last(text: &mut Vec<u8>, point: Last) -> Result<(), AllocError>
 }
 
 /// The line of an offset, if there is one.
-fn push_offset(text: &mut Vec<u8>, word: &[u8], offset: Option<u8>) -> Result<(), AllocError>
+fn push_offset<const N: usize>(
+    text: &mut Vec<u8>,
+    word: &[u8; N],
+    offset: Option<u8>,
+) -> Result<(), AllocError>
     ensures { OnOk result (text.new.items
         ≡ text.old.items ++ concat (texts.offset_lines word.now offset)) }
 {

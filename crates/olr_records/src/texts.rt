@@ -99,8 +99,12 @@ fn put_numbers(line: &mut [u8], end: usize, numbers: &[u8]) -> usize
     start
 }
 
-/// The line of a word and a number.
-pub(crate) fn push_byte_line(text: &mut Vec<u8>, word: &[u8], number: u8) -> Result<(), AllocError>
+/// The line of a word and a number. One function for each length of a word, which is copied without a call.
+pub(crate) fn push_byte_line<const N: usize>(
+    text: &mut Vec<u8>,
+    word: &[u8; N],
+    number: u8,
+) -> Result<(), AllocError>
     ensures { OnOk result (text.new.items ≡ text.old.items ++ reply_line (word.now ∷ decimal number ∷ [])) }
 {
     let mut end = [b'\n'; 5];
@@ -110,10 +114,11 @@ pub(crate) fn push_byte_line(text: &mut Vec<u8>, word: &[u8], number: u8) -> Res
     Ok(())
 }
 
-/// The line of an LRP: a word, two coordinates and numbers.
-pub(crate) fn push_point(
+/// The line of an LRP: a word, two coordinates and numbers. One function for each length of a word, which is copied without
+/// a call.
+pub(crate) fn push_point<const N: usize>(
     text: &mut Vec<u8>,
-    word: &[u8],
+    word: &[u8; N],
     lon: i32,
     lat: i32,
     numbers: &[u8],
