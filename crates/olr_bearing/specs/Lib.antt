@@ -1,4 +1,3 @@
 pub mod Ranges
 pub mod Legs
-pub mod Codes
 pub mod Turned

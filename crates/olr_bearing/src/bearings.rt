@@ -1,7 +1,8 @@
 //! The bearings at a line's two ends.
 ghost use Rattle.std.specs.Prelude.{◌≡◌, ◌*◌, ◌<◌, ◌≤◌, pos, ◌+ℤ◌, ◌-ℤ◌, ◌*ℤ◌, IsTrue};
 ghost use Rattle.olr_spec.specs.Map.{is_good};
-ghost use Rattle.olr_spec.specs.Bearings.{bearing_back, bearing_out, direction, direction_back, direction_out, thousandths};
+ghost use Rattle.olr_spec.specs.Bearings.{bearing_back, bearing_out, direction, direction_back, direction_out, sector};
+ghost use Rattle.olr_spec.specs.Bearings.{Vector, thousandths};
 ghost use Rattle.olr_bearing.specs.Legs.{leg_between};
 ghost use Rattle.olr_bearing.specs.Ranges.{IsFactor, IsInRange, IsPart, IsWithin, degree_units};
 
@@ -26,12 +27,7 @@ pub struct Direction {
 }
 
 impl Model for Direction {
-    ghost use Rattle.olr_spec.specs.Bearings.{Vector};
-    ghost use Rattle.olr_bearing.specs.Codes.{coded_vector};
-
     ghost Value = { Vector };
-
-    ghost coded = { coded_vector };
 
     ghost view = { λ v. record { east = v.east; north = v.north } };
 
@@ -67,8 +63,7 @@ pub fn bearing_out(line: &Line, ends: Ends) -> u8
     ensures value { result ≡ bearing_out (leg_between line.now ends) }
     ensures below { result < 32 }
 {
-    let direction = direction_out(line, ends);
-    sector(direction.east, direction.north)
+    sector_of(direction_out(line, ends))
 }
 
 /// The bearing at the last LRP, which a good line enters: the sector, 0 to 31, of its direction there, backwards (White
@@ -78,7 +73,15 @@ pub fn bearing_back(line: &Line, ends: Ends) -> u8
     ensures value { result ≡ bearing_back (leg_between line.now ends) }
     ensures below { result < 32 }
 {
-    let direction = direction_back(line, ends);
+    sector_of(direction_back(line, ends))
+}
+
+/// The sector of a direction, 0 to 31.
+fn sector_of(direction: Direction) -> u8
+    requires { IsPart direction.east × IsPart direction.north }
+    ensures value { result ≡ sector direction.east direction.north }
+    ensures below { result < 32 }
+{
     sector(direction.east, direction.north)
 }
 

@@ -1,7 +1,7 @@
 //! Coordinates along a line.
 ghost use Rattle.std.specs.Prelude.{◌≡◌, ◌<◌, ◌≤◌, IsTrue, pos, ◌+ℤ◌, ◌-ℤ◌, ◌*ℤ◌};
 ghost use Rattle.olr_spec.specs.Map.{is_good};
-ghost use Rattle.olr_spec.specs.Bearings.{scaled_coord, scaled_between};
+ghost use Rattle.olr_spec.specs.Bearings.{Scaled as Record, scaled_coord, scaled_between};
 ghost use Rattle.olr_bearing.specs.Ranges.{IsInRange};
 ghost use Rattle.olr_bearing.specs.Legs.{leg_between};
 
@@ -30,12 +30,7 @@ pub struct Scaled {
 }
 
 impl Model for Scaled {
-    ghost use Rattle.olr_spec.specs.Bearings.{Scaled as Record};
-    ghost use Rattle.olr_bearing.specs.Codes.{coded_scaled};
-
     ghost Value = { Record };
-
-    ghost coded = { coded_scaled };
 
     ghost view = { λ s. record { lon = s.lon; lat = s.lat; width = s.width } };
 
