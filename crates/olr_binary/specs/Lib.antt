@@ -1,4 +1,4 @@
-pub mod Codes
 pub mod Faults
 pub mod Layout
+pub mod Parts
 pub mod Text

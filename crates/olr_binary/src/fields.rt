@@ -1,4 +1,8 @@
 //! The fields of a line location reference.
+ghost use Rattle.olr_spec.specs.Bytes.{IsReference};
+ghost use Rattle.olr_spec.specs.Reference as fields;
+ghost use Rattle.olr_binary.specs.Parts.{reference_from};
+
 use std::marker::Model;
 
 /// The attributes of each location reference point (LRP) but the last: of the line that leaves it, and of the leg to
@@ -18,12 +22,7 @@ pub struct Attrs {
 }
 
 impl Model for Attrs {
-    ghost use Rattle.olr_spec.specs.Reference.{Attrs as Fields};
-    ghost use Rattle.olr_binary.specs.Codes.{coded_attrs};
-
-    ghost Value = { Fields };
-
-    ghost coded = { coded_attrs };
+    ghost Value = { fields.Attrs };
 
     ghost view = { λ a. record { frc = a.frc; fow = a.fow; lfrc = a.lfrc; bearing = a.bearing; dnp = a.dnp } };
 
@@ -42,12 +41,7 @@ pub struct First {
 }
 
 impl Model for First {
-    ghost use Rattle.olr_spec.specs.Reference.{First as Fields};
-    ghost use Rattle.olr_binary.specs.Codes.{coded_first};
-
-    ghost Value = { Fields };
-
-    ghost coded = { coded_first };
+    ghost Value = { fields.First };
 
     ghost view = { λ p. record { lon = p.lon; lat = p.lat; attrs = p.attrs } };
 
@@ -66,12 +60,7 @@ pub struct Middle {
 }
 
 impl Model for Middle {
-    ghost use Rattle.olr_spec.specs.Reference.{Middle as Fields};
-    ghost use Rattle.olr_binary.specs.Codes.{coded_middle};
-
-    ghost Value = { Fields };
-
-    ghost coded = { coded_middle };
+    ghost Value = { fields.Middle };
 
     ghost view = { λ p. record { dlon = p.dlon; dlat = p.dlat; attrs = p.attrs } };
 
@@ -94,12 +83,7 @@ pub struct Last {
 }
 
 impl Model for Last {
-    ghost use Rattle.olr_spec.specs.Reference.{Last as Fields};
-    ghost use Rattle.olr_binary.specs.Codes.{coded_last};
-
-    ghost Value = { Fields };
-
-    ghost coded = { coded_last };
+    ghost Value = { fields.Last };
 
     ghost view = { λ p. record { dlon = p.dlon; dlat = p.dlat; frc = p.frc; fow = p.fow; bearing = p.bearing } };
 
@@ -122,13 +106,7 @@ pub struct Reference {
 }
 
 impl Model for Reference {
-    ghost use Rattle.olr_spec.specs.Reference.{Reference as Fields};
-    ghost use Rattle.olr_spec.specs.Bytes.{IsReference};
-    ghost use Rattle.olr_binary.specs.Codes.{coded_reference, reference_from};
-
-    ghost Value = { Fields };
-
-    ghost coded = { coded_reference };
+    ghost Value = { fields.Reference };
 
     ghost view = { λ r. reference_from r.first r.middle.items r.last r.pos r.neg };
 

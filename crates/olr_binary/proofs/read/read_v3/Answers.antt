@@ -2,7 +2,7 @@ use Rattle.olr_spec.proofs.Common.{◌≡◌, ◌∙◌, ℕ, ◌+◌, ◌*◌, 
 use Rattle.olr_spec.proofs.Common.{flat_map, Reference, IsReference, middle_bytes}
 use Rattle.olr_spec.proofs.Common.{ap, sym, ◌++◌, length}
 use Rattle.olr_spec.proofs.QueryLemmas.{stretch_parts}
-use Rattle.olr_binary.specs.Codes.{reference_from}
+use Rattle.olr_binary.specs.Parts.{reference_from}
 use Rattle.olr_binary.proofs.LayoutLemmas.{last_bytes, no_fault}
 use Rattle.olr_binary.proofs.PointLemmas.{reference_bytes-parts}
 use Rattle.olr_spec.proofs.ReadLemmas.{encoded_passes}
