@@ -8,10 +8,10 @@ use Rattle.std.proofs.lemmas.Str.Parse.{IsNumeralModel, numerals_by_fold, digits
 pub own : IsNumeralModel (λ ds. list_all is_ascii_digit ds ≡ true) digits_value
 own = numerals_by_fold _ (search rules) (λ n ds. fold (λ m d. 10 * m + (d - 48)) n ds) (search rules)
 
--- at most seven digits have a value below 10^7
-pub few-digits : (ds : List ℕ) (k : ℕ) → list_all is_ascii_digit (take k ds) ≡ true → length ds ≤ 7 →
-    digits_value (take k ds) < 10 ^ 7
-few-digits ds k all few = digits_value_short own (take k ds) 7 all (omega (arith, length-take k ds))
+-- at most 18 digits have a value below 10^18
+pub few-digits : (ds : List ℕ) (k : ℕ) → list_all is_ascii_digit (take k ds) ≡ true → length ds ≤ 18 →
+    digits_value (take k ds) < 10 ^ 18
+few-digits ds k all few = digits_value_short own (take k ds) 18 all (omega (arith, length-take k ds))
 
 -- digits have a value below a power of ten
 pub digits-lt : (ds : List ℕ) (k : ℕ) → list_all is_ascii_digit (take k ds) ≡ true → length ds ≤ k →

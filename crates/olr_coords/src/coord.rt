@@ -1,6 +1,6 @@
 //! Coordinates on the earth.
 ghost use Rattle.std.specs.Prelude.{◌≡◌, ◌↔◌, IsTrue, IsSome, IfSome};
-ghost use Rattle.olr_spec.specs.Coordinates.{is_coord, coord};
+ghost use Rattle.olr_spec.specs.Coordinates.{Coord as Place, is_coord, coord};
 ghost use Rattle.olr_coords.specs.Bounds.{is_degrees};
 
 use std::marker::Model;
@@ -21,13 +21,7 @@ pub struct Coord {
 }
 
 impl Model for Coord {
-    ghost use Rattle.std.specs.Prelude.{IsTrue};
-    ghost use Rattle.olr_spec.specs.Coordinates.{Coord as Place, coord, is_coord};
-    ghost use Rattle.olr_spec.specs.Codes.{coded_coord};
-
     ghost Value = { Place };
-
-    ghost coded = { coded_coord };
 
     ghost view = { λ c. coord c.lon c.lat };
 

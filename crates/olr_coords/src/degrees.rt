@@ -1,9 +1,10 @@
 //! Degrees as text: reading.
-ghost use Rattle.std.specs.Prelude.{◌≡◌, ◌^◌, ◌<◌, ◌≤◌, ◌&&◌, length, nat_le, if◌then◌else◌, IfSome, IfOk, IfErr};
-ghost use Rattle.olr_spec.specs.Degrees.{are_digits, before_point, digits_value, whole, fraction, unsigned_degrees};
+ghost use Rattle.std.specs.Prelude.{◌≡◌, ◌^◌, ◌<◌, length, IfSome, IfOk, IfErr};
+ghost use Rattle.olr_spec.specs.Degrees.{before_point, whole, fraction, unsigned_degrees};
 ghost use Rattle.olr_spec.specs.Degrees.{degrees, read_degrees};
 ghost use Rattle.olr_coords.specs.Faults.{coord_fault_of};
 
+use crate::digits::read_digits;
 use crate::text::{GREATEST, STEP, STEPS};
 
 /// The greatest number of digits of the whole degrees.
@@ -22,34 +23,12 @@ pub enum CoordFault {
     Range,
 }
 
-/// The value of decimal digits. None if there are no digits, more than `most`, or another byte among them.
-fn number(digits: &[u8], most: usize) -> Option<u64>
-    requires { most ≤ 7 }
-    ensures value { result
-        ≡ (if are_digits digits.now && nat_le (length digits.now) most
-        then Some (digits_value digits.now)
-        else None) }
-    ensures bound { IfSome result (λ n. n < 10 ^ length digits.now) }
-{
-    if digits.is_empty() || digits.len() > most {
-        return None;
-    }
-    let mut value: u64 = 0;
-    for byte in digits {
-        if !byte.is_ascii_digit() {
-            return None;
-        }
-        value = 10 * value + u64::from(*byte - b'0');
-    }
-    Some(value)
-}
-
 /// The whole degrees, in the finest steps.
 fn whole(digits: &[u8]) -> Option<u64>
     ensures value { result ≡ whole digits.now }
     ensures bound { IfSome result (λ n. n < 10 ^ 10) }
 {
-    number(digits, WHOLE_DIGITS).map(|degrees| degrees * STEPS)
+    read_digits(digits, WHOLE_DIGITS).map(|degrees| degrees * STEPS)
 }
 
 /// What follows the whole degrees, in the finest steps: nothing, or a decimal point and digits.
@@ -63,7 +42,7 @@ fn fraction(text: &[u8]) -> Option<u64>
     if *first != b'.' {
         return None;
     }
-    let value = number(digits, FRACTION_DIGITS)?;
+    let value = read_digits(digits, FRACTION_DIGITS)?;
     let scale = FRACTION_DIGITS - digits.len();
     Some(value * 10_u64.pow(scale as u32))
 }

@@ -5,10 +5,12 @@
 
 mod coord;
 mod degrees;
+mod digits;
 mod steps;
 mod text;
 
 pub use coord::Coord;
 pub use degrees::{CoordFault, read_degrees};
+pub use digits::read_digits;
 pub use steps::{abs24, from_abs24, from_rel16, rel16};
 pub use text::{has_degrees_text, push_degrees};

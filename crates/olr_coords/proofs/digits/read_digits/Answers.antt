@@ -1,6 +1,6 @@
 use Rattle.olr_spec.proofs.Common.{arith}
 use Rattle.olr_coords.proofs.DigitLemmas.{few-digits, digits-lt}
-use Rattle.olr_coords.proofs.degrees.number.Goals as goal
+use Rattle.olr_coords.proofs.digits.read_digits.Goals as goal
 
 pub overflow_mul-value : goal.overflow_mul-value
 overflow_mul-value c = grind (arith, few-digits)
