@@ -1,4 +1,5 @@
 //! Coverage queries.
+ghost use Rattle.olr_spec.specs.Queries as queries;
 
 use olr_roads::NodeId;
 use std::marker::Model;
@@ -16,12 +17,7 @@ pub struct CoverageQuery {
 }
 
 impl Model for CoverageQuery {
-    ghost use Rattle.olr_spec.specs.Queries.{CoverageQuery as Record};
-    ghost use Rattle.olr_answers.specs.Coded.{coded_query};
-
-    ghost Value = { Record };
-
-    ghost coded = { coded_query };
+    ghost Value = { queries.CoverageQuery };
 
     ghost view = { λ l. record { from = l.from; to = l.to; within = l.within } };
 
@@ -43,12 +39,7 @@ pub struct KnownQuery {
 }
 
 impl Model for KnownQuery {
-    ghost use Rattle.olr_spec.specs.Queries.{KnownQuery as Record};
-    ghost use Rattle.olr_answers.specs.Coded.{coded_known};
-
-    ghost Value = { Record };
-
-    ghost coded = { coded_known };
+    ghost Value = { queries.KnownQuery };
 
     ghost view = { λ e. record { query = e.query; first = e.first; last = e.last; covered = e.covered } };
 

@@ -1,6 +1,6 @@
 //! Paths: the lines of a line location, and the lengths that are cut off at each end.
 ghost use Rattle.std.specs.Prelude.{◌≡◌, ◌<◌, IsTrue, IsFalse, IfOk, OnOk, IsErrOf, not, length, ◌⊎◌};
-ghost use Rattle.olr_spec.specs.Extension.{is_path, none_twice};
+ghost use Rattle.olr_spec.specs.Extension.{Path as Record, is_path, none_twice};
 
 use olr_roads::LineId;
 use std::alloc::{AllocError, Global};
@@ -41,13 +41,7 @@ pub struct Path {
 }
 
 impl Model for Path {
-    ghost use Rattle.std.specs.Prelude.{IsTrue};
-    ghost use Rattle.olr_spec.specs.Extension.{Path as Record, is_path};
-    ghost use Rattle.olr_answers.specs.Coded.{coded_path};
-
     ghost Value = { Record };
-
-    ghost coded = { coded_path };
 
     ghost view = { λ p. record { lines = p.lines.items; pos = p.pos; neg = p.neg } };
 
