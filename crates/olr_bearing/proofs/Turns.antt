@@ -49,37 +49,37 @@ sector_turned a b e n j k s p q h is =
 
 -- ---- the sector of a direction
 
--- the sector of a direction
-pub in_sector : (e n : ℤ) (k : ℕ) → k ≡ sector e n → ¬ ((e ≡ pos 0) × (n ≡ pos 0)) → IsSector e n k
-in_sector e n k is ne = subst (IsSector e n) (sym is) (sector_is e n ne)
-
 pub nowhere_sector : (e n : ℤ) → e ≡ pos 0 → n ≡ pos 0 → 0 ≡ sector e n
 nowhere_sector e n p q = sym (ap (λ d. sector d n) p ∙ ap (sector (pos 0)) q)
 
 -- ---- the four quarters, from the sector of the direction (a, b) in the first
 
-the_sector : (e n : ℤ) (k : ℕ) → ¬ ((e ≡ pos 0) × (n ≡ pos 0)) → IsSector e n k → k ≡ sector e n
-the_sector e n k ne s = one_sector e n k (sector e n) s (sector_is e n ne)
+-- k is the only sector of (e, n)
+abbrev pub IsOnly : ℤ → ℤ → ℕ → Type 0
+IsOnly e n k = (k ≡ sector e n) × IsSector e n k
 
-pub first_quarter_is : (e n a b : ℤ) (k : ℕ) → IsSector a b k → a ≡ e → b ≡ n → pos 0 <ℤ n → k ≡ sector e n
+the_sector : (e n : ℤ) (k : ℕ) → ¬ ((e ≡ pos 0) × (n ≡ pos 0)) → IsSector e n k → IsOnly e n k
+the_sector e n k ne s = (one_sector e n k (sector e n) s (sector_is e n ne), s)
+
+pub first_quarter_is : (e n a b : ℤ) (k : ℕ) → IsSector a b k → a ≡ e → b ≡ n → pos 0 <ℤ n → IsOnly e n k
 first_quarter_is e n a b k s p q north =
     the_sector e n k (λ z. omega (arith, ints, z.1)) (subst (λ m. IsSector e m k) q (subst (λ d. IsSector d b k) p s))
 
 pub second_quarter_is : (e n a b : ℤ) (k : ℕ) → IsSector a b k → a ≡ neg_ℤ n → b ≡ e → k < 8 → pos 0 <ℤ e →
-    8 + k ≡ sector e n
+    IsOnly e n (8 + k)
 second_quarter_is e n a b k s p q h east =
     the_sector e n (8 + k) (λ z. omega (arith, ints, z.0))
     (sector_turned a b e n (8 + k) k s (sym q) (omega (arith, ints)) (omega arith) refl)
 
 pub third_quarter_is : (e n a b : ℤ) (k : ℕ) → IsSector a b k → a ≡ neg_ℤ e → b ≡ neg_ℤ n → k < 8 → n <ℤ pos 0 →
-    16 + k ≡ sector e n
+    IsOnly e n (16 + k)
 third_quarter_is e n a b k s p q h south = the_sector e n (16 + k) (λ z. omega (arith, ints, z.1))
     (sector_turned (neg_ℤ n) e e n (16 + k) (8 + k)
     (sector_turned a b (neg_ℤ n) e (8 + k) k s (sym q) (omega (arith, ints)) (omega arith) refl) refl (omega (arith, ints))
     (omega arith) (omega arith))
 
 pub fourth_quarter_is : (e n a b : ℤ) (k : ℕ) → IsSector a b k → a ≡ n → b ≡ neg_ℤ e → k < 8 → e <ℤ pos 0 →
-    24 + k ≡ sector e n
+    IsOnly e n (24 + k)
 fourth_quarter_is e n a b k s p q h west =
     let once : IsSector (neg_ℤ e) (neg_ℤ n) (8 + k) =
     sector_turned a b (neg_ℤ e) (neg_ℤ n) (8 + k) k s (sym q) (omega (arith, ints)) (omega arith) refl in

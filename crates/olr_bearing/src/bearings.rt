@@ -4,7 +4,7 @@ ghost use Rattle.olr_spec.specs.Map.{is_good};
 ghost use Rattle.olr_spec.specs.Bearings.{bearing_back, bearing_out, direction, direction_back, direction_out, sector};
 ghost use Rattle.olr_spec.specs.Bearings.{Vector, thousandths};
 ghost use Rattle.olr_bearing.specs.Legs.{leg_between};
-ghost use Rattle.olr_bearing.specs.Ranges.{IsFactor, IsInRange, IsPart, IsWithin, degree_units};
+ghost use Rattle.olr_bearing.specs.Ranges.{HasParts, IsFactor, IsInRange, IsPart, IsWithin, degree_units};
 
 use crate::places::{Ends, Scaled, place};
 use crate::sectors::sector;
@@ -39,7 +39,7 @@ impl Model for Direction {
 pub fn direction_out(line: &Line, ends: Ends) -> Direction
     requires { IsTrue (is_good line.now) }
     ensures value { result ≡ direction_out (leg_between line.now ends) }
-    ensures in_range { IsPart result.east × IsPart result.north }
+    ensures in_range { HasParts result }
 {
     let at = BEARING_DISTANCE.min(line.len);
     direction_to(ends.from, place(line, ends, at))
@@ -50,7 +50,7 @@ pub fn direction_out(line: &Line, ends: Ends) -> Direction
 pub fn direction_back(line: &Line, ends: Ends) -> Direction
     requires { IsTrue (is_good line.now) }
     ensures value { result ≡ direction_back (leg_between line.now ends) }
-    ensures in_range { IsPart result.east × IsPart result.north }
+    ensures in_range { HasParts result }
 {
     let at = line.len.saturating_sub(BEARING_DISTANCE);
     direction_to(ends.to, place(line, ends, at))
@@ -78,7 +78,7 @@ pub fn bearing_back(line: &Line, ends: Ends) -> u8
 
 /// The sector of a direction, 0 to 31.
 fn sector_of(direction: Direction) -> u8
-    requires { IsPart direction.east × IsPart direction.north }
+    requires { HasParts direction }
     ensures value { result ≡ sector direction.east direction.north }
     ensures below { result < 32 }
 {
@@ -90,7 +90,7 @@ fn direction_to(origin: Coord, place: Scaled) -> Direction
     requires short { place.width ≤ 1000000 }
     requires in_range { IsInRange place }
     ensures value { result ≡ direction origin place }
-    ensures in_range { IsPart result.east × IsPart result.north }
+    ensures in_range { HasParts result }
 {
     let Scaled { lon, lat, width } = place;
     let cosine = cosine_at(origin);

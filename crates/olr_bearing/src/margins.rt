@@ -2,7 +2,7 @@
 ghost use Rattle.std.specs.Prelude.{◌≡◌, ◌<◌, slice_index_or};
 ghost use Rattle.olr_spec.specs.Bearings.{beyond, vector};
 ghost use Rattle.olr_spec.specs.Directions.{first_after, first_before, is_beyond, is_direction, margin_end, margin_start};
-ghost use Rattle.olr_bearing.specs.Ranges.{IsBoundary, IsPart};
+ghost use Rattle.olr_bearing.specs.Ranges.{HasBoundaryParts, HasParts};
 ghost use Rattle.olr_bearing.specs.Turned.{nowhere, turned};
 
 use crate::bearings::Direction;
@@ -18,7 +18,7 @@ pub fn is_direction(direction: Direction) -> bool
 /// (0, 0) is not.
 pub fn is_beyond(sector: u8, direction: Direction) -> bool
     requires below { sector < 32 }
-    requires in_range { IsPart direction.east × IsPart direction.north }
+    requires in_range { HasParts direction }
     ensures { result ≡ is_beyond sector direction }
 {
     let start = beyond(margin_start(sector), direction);
@@ -28,8 +28,8 @@ pub fn is_beyond(sector: u8, direction: Direction) -> bool
 
 /// Greater than 0 if the direction is clockwise of the boundary, by less than a half turn.
 fn beyond(boundary: Direction, direction: Direction) -> i128
-    requires boundary { IsBoundary boundary.east × IsBoundary boundary.north }
-    requires in_range { IsPart direction.east × IsPart direction.north }
+    requires boundary { HasBoundaryParts boundary }
+    requires in_range { HasParts direction }
     ensures { result ≡ beyond boundary direction }
 {
     direction.east * boundary.north - direction.north * boundary.east
@@ -49,7 +49,7 @@ fn at(east: i32, north: i32) -> Direction
 fn first_start(k: u8) -> Direction
     requires { k < 8 }
     ensures value { result ≡ slice_index_or first_before k nowhere }
-    ensures in_range { IsBoundary result.east × IsBoundary result.north }
+    ensures in_range { HasBoundaryParts result }
 {
     match k {
         0 => at(-49_127, 1_000_000),
@@ -67,7 +67,7 @@ fn first_start(k: u8) -> Direction
 fn first_end(k: u8) -> Direction
     requires { k < 8 }
     ensures value { result ≡ slice_index_or first_after k nowhere }
-    ensures in_range { IsBoundary result.east × IsBoundary result.north }
+    ensures in_range { HasBoundaryParts result }
 {
     match k {
         0 => at(49_127, 1_000_000),
@@ -84,9 +84,9 @@ fn first_end(k: u8) -> Direction
 /// A direction after this number of quarter turns to the right, 0 to 3.
 fn turned(direction: Direction, quarters: u8) -> Direction
     requires few { quarters < 4 }
-    requires in_range { IsBoundary direction.east × IsBoundary direction.north }
+    requires in_range { HasBoundaryParts direction }
     ensures value { result ≡ turned quarters direction }
-    ensures in_range { IsBoundary result.east × IsBoundary result.north }
+    ensures in_range { HasBoundaryParts result }
 {
     let Direction { east, north } = direction;
     match quarters {
@@ -110,7 +110,7 @@ fn turned(direction: Direction, quarters: u8) -> Direction
 fn margin_start(sector: u8) -> Direction
     requires { sector < 32 }
     ensures value { result ≡ margin_start sector }
-    ensures in_range { IsBoundary result.east × IsBoundary result.north }
+    ensures in_range { HasBoundaryParts result }
 {
     turned(first_start(sector % 8), sector / 8)
 }
@@ -119,7 +119,7 @@ fn margin_start(sector: u8) -> Direction
 fn margin_end(sector: u8) -> Direction
     requires { sector < 32 }
     ensures value { result ≡ margin_end sector }
-    ensures in_range { IsBoundary result.east × IsBoundary result.north }
+    ensures in_range { HasBoundaryParts result }
 {
     let next = (sector + 1) % 32;
     turned(first_end(next % 8), next / 8)

@@ -1,6 +1,6 @@
 use Rattle.olr_spec.proofs.Common.{◌≡◌, ◌∙◌, ℤ, pos, Bool, true, not, ◌&&◌, int_le, ap, sym, w128, Vector, beyond, to_z-of_z, lies_between}
 use Rattle.std.proofs.Common.{int_lt}
-use Rattle.olr_spec.specs.Directions.{margin_start, margin_end, is_direction}
+use Rattle.olr_spec.specs.Directions.{margin_start, margin_end}
 use Rattle.olr_bearing.proofs.Scaling.{held}
 use Rattle.olr_bearing.proofs.margins.is_beyond.Goals.{then-start-ge0, else-start-ge0}
 use Rattle.olr_bearing.proofs.margins.is_beyond.Goals as goal
