@@ -1,8 +1,6 @@
 //! The fields of a record, each checked for its form and then for its range.
 ghost use Rattle.std.specs.Prelude.{◌≡◌, ◌≤◌, ◌^◌, [], IsTrue, IfOk, IfSome, is_some, length, min, slice_index_or};
 ghost use Rattle.std.specs.Prelude.{◌∷◌, ◌≢◌, drop, string_bytes, IfErr, OnErr, Some, ⊤};
-ghost use Rattle.std.specs.Char.{is_ascii_digit};
-ghost use Rattle.std.specs.List.{list_all};
 ghost use Rattle.csv.specs.Records.{fields_of};
 ghost use Rattle.olr_spec.specs.Degrees.{are_digits, digits_value};
 ghost use Rattle.olr_spec.specs.Degrees as text_of;
@@ -14,7 +12,7 @@ use crate::faults::ReadFault;
 use crate::parts::both;
 use csv::ByteRecord;
 use olr_commands::is_name;
-use olr_coords::{Coord, CoordFault, read_degrees};
+use olr_coords::{Coord, CoordFault, read_degrees, read_digits};
 use olr_roads::{LineId, NodeId, Shape};
 use std::alloc::Global;
 
@@ -50,32 +48,13 @@ pub(crate) fn only_field(fields: &ByteRecord) -> Result<&[u8], ReadFault>
     Ok(field(fields, 1))
 }
 
-/// The value of at most 18 digits, which fits 64 bits. None if there is another byte.
-fn few_digits(field: &[u8]) -> Option<u64>
-    requires { length field.now ≤ 18 }
-    ensures form { is_some result ≡ list_all is_ascii_digit field.now }
-    ensures same { IfSome result (λ n. n ≡ digits_value field.now) }
-{
-    let mut value: u64 = 0;
-    for byte in field {
-        if !byte.is_ascii_digit() {
-            return None;
-        }
-        value = 10 * value + u64::from(*byte - b'0');
-    }
-    Some(value)
-}
-
 /// The value of one or more digits, or 2^32 instead of a greater value. None if there are no digits, or another byte.
 fn value(field: &[u8]) -> Option<u64>
     ensures form { is_some result ≡ are_digits field.now }
     ensures same { IfSome result (λ n. n ≡ min (digits_value field.now) (2 ^ 32)) }
 {
-    if field.is_empty() {
-        return None;
-    }
     if field.len() <= FEW_DIGITS {
-        return few_digits(field).map(|value| TOO_GREAT.min(value));
+        return read_digits(field, FEW_DIGITS).map(|value| TOO_GREAT.min(value));
     }
     let mut value: u64 = 0;
     for byte in field {
