@@ -1,7 +1,6 @@
 //! Sets of nodes.
-ghost use Rattle.std.specs.Prelude.{◌≡◌, ◌↔◌, ◌⊎◌, ℕ, Contains, IsTrue, IfOk, OnOk, OnErr, [], ◌≤◌, length};
+ghost use Rattle.std.specs.Prelude.{◌≡◌, ◌↔◌, ◌⊎◌, ℕ, List, Contains, IsTrue, IfOk, OnOk, OnErr, [], ◌≤◌, length, true};
 ghost use Rattle.std.specs.List.Sorted.{IsStrictlyIncreasing};
-ghost use Rattle.std.specs.Prelude.{true};
 ghost use Rattle.std.specs.Ordering.{nat_cmp};
 ghost use Rattle.std.specs.Set.{sorted_merge};
 
@@ -16,9 +15,6 @@ pub struct Footprint {
 }
 
 impl Model for Footprint {
-    ghost use Rattle.std.specs.Prelude.{List, ℕ};
-    ghost use Rattle.std.specs.List.Sorted.{IsStrictlyIncreasing};
-
     ghost Value = { List ℕ };
 
     ghost view = { λ a. a.nodes.items };

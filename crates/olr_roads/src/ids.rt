@@ -1,5 +1,5 @@
 //! Numbers of nodes and lines, from 1 to 4,294,967,295.
-ghost use Rattle.std.specs.Prelude.{◌≡◌, ◌≤◌, SomeIff};
+ghost use Rattle.std.specs.Prelude.{ℕ, ◌≡◌, ◌≤◌, SomeIff};
 
 use std::marker::Model;
 
@@ -10,8 +10,6 @@ pub struct NodeId {
 }
 
 impl Model for NodeId {
-    ghost use Rattle.std.specs.Prelude.{ℕ, ◌≤◌};
-
     ghost Value = { ℕ };
 
     ghost view = { λ a. a.number };
@@ -58,8 +56,6 @@ pub struct LineId {
 }
 
 impl Model for LineId {
-    ghost use Rattle.std.specs.Prelude.{ℕ, ◌≤◌};
-
     ghost Value = { ℕ };
 
     ghost view = { λ a. a.number };

@@ -1,7 +1,7 @@
 //! Lines of the road map and their shapes.
 ghost use Rattle.std.specs.Prelude.{◌≡◌, IsTrue};
 ghost use Rattle.std.specs.Bool.{OnTrue};
-ghost use Rattle.olr_spec.specs.Map.{is_good, are_coords, ascends_between};
+ghost use Rattle.olr_spec.specs.Map.{Line as Record, ShapePoint, is_good, are_coords, ascends_between};
 
 use crate::ids::NodeId;
 use olr_coords::Coord;
@@ -24,12 +24,7 @@ pub struct Shape {
 }
 
 impl Model for Shape {
-    ghost use Rattle.olr_spec.specs.Map.{ShapePoint};
-    ghost use Rattle.olr_spec.specs.Codes.{coded_shape_point};
-
     ghost Value = { ShapePoint };
-
-    ghost coded = { coded_shape_point };
 
     ghost view = { λ s. record { at = s.at; place = s.place } };
 
@@ -54,12 +49,7 @@ pub struct Line {
 }
 
 impl Model for Line {
-    ghost use Rattle.olr_spec.specs.Map.{Line as Record};
-    ghost use Rattle.olr_spec.specs.Codes.{coded_line};
-
     ghost Value = { Record };
-
-    ghost coded = { coded_line };
 
     ghost view = { λ l. record {
       from = l.from;
