@@ -1,9 +1,9 @@
 //! The read interface of a map, independent of how the map is stored.
-ghost use Rattle.std.specs.Prelude.{◌≡◌, ◌↔◌, ◌+◌, ◌*◌, ◌<◌, ◌^◌, ℕ, Some, IsTrue, SomeIff};
+ghost use Rattle.std.specs.Prelude.{◌≡◌, ◌↔◌, ℕ, Some, IsTrue, SomeIff};
 ghost use Rattle.std.specs.Option.{option_copied};
 ghost use Rattle.std.specs.FinMap.{get};
 ghost use Rattle.olr_spec.specs.Map.{Map, IsMap, has_node, lines_in, lines_out};
-ghost use Rattle.olr_roads.specs.Ends.{ends_in, ends_out, HaveSlotsApart};
+ghost use Rattle.olr_roads.specs.Ends.{ends_in, ends_out, AreLinesAt, HaveSlotsApart};
 
 use crate::ids::{LineId, NodeId};
 use crate::line::Line;
@@ -72,18 +72,12 @@ pub trait MapRead {
     /// The lines that leave the node in this slot, those of `out_lines`, with their far ends.
     fn out_lines_at(&self, slot: u32) -> NodeLines<'_>
         requires { (v : ℕ) × IsTrue (has_node (map self.now) v) × (node_slot self.now v ≡ slot) }
-        ensures lines { (v : ℕ) → IsTrue (has_node (map self.now) v) → node_slot self.now v ≡ slot
-            → result.lines.now ≡ lines_out (map self.now) v }
-        ensures ends { (v : ℕ) → IsTrue (has_node (map self.now) v) → node_slot self.now v ≡ slot
-            → result.ends.now ≡ ends_out (map self.now) (node_slot self.now) v };
+        ensures { AreLinesAt (map self.now) (node_slot self.now) slot lines_out ends_out result.lines.now result.ends.now };
 
     /// The lines that enter the node in this slot, those of `in_lines`, with their far ends.
     fn in_lines_at(&self, slot: u32) -> NodeLines<'_>
         requires { (v : ℕ) × IsTrue (has_node (map self.now) v) × (node_slot self.now v ≡ slot) }
-        ensures lines { (v : ℕ) → IsTrue (has_node (map self.now) v) → node_slot self.now v ≡ slot
-            → result.lines.now ≡ lines_in (map self.now) v }
-        ensures ends { (v : ℕ) → IsTrue (has_node (map self.now) v) → node_slot self.now v ≡ slot
-            → result.ends.now ≡ ends_in (map self.now) (node_slot self.now) v };
+        ensures { AreLinesAt (map self.now) (node_slot self.now) slot lines_in ends_in result.lines.now result.ends.now };
 
     /// Every line is good, both its nodes are on the map, and every coordinate is in range.
     ghost sound: { (m : Self) → IsMap (map m) };
