@@ -5,6 +5,7 @@ use Rattle.olr_search.proofs.Common.{Contains-append_cases, Contains-append_left
 use Rattle.olr_search.proofs.Common.{Contains-one, Contains-get_or, label_of, IsQueued, IsRelaxed, IsAlike}
 use Rattle.olr_search.proofs.Common.{IsCounted, GREATEST_LIMIT, Frontier}
 use Rattle.std.specs.Cmp.{nat_eq_equiv}
+use Rattle.olr_search.specs.Queues.{IsPopped}
 use Rattle.std.specs.List.{remove}
 use Rattle.std.proofs.lemmas.List.Elements.{Contains-push}
 use Rattle.std.proofs.lemmas.List.Quantifiers.{all_pairs_push}
@@ -109,19 +110,18 @@ module _ (f g : Frontier) (alike : IsAlike f g) (fewer : (e q : ℕ) → IsQueue
     ordered = c.ordered;
   }
 
-  -- the slot p is removed at its label d, the least queued length: one more is settled
-  pub counted_more : (d p : ℕ) → ((e q : ℕ) → IsQueued f e q → d ≤ e) → IsQueued f d p → ¬ IsQueued g d p →
-      ((e q : ℕ) → IsQueued f e q → IsQueued g e q ⊎ ((e ≡ d) × (q ≡ p))) → label_of f p ≡ d →
-      (n near next : ℕ) → IsCounted f n near next → IsCounted g (n + 1) d d
-  counted_more d p least there gone others at n near next c = record {
+  -- a slot is removed at its label, the least queued length: one more is settled
+  pub counted_more : (limit : ℕ) (x : ℕ × ℕ) → IsPopped f.queue g.queue limit x → label_of f x.1 ≡ x.0 →
+      (n near next : ℕ) → IsCounted f n near next → IsCounted g (n + 1) x.0 x.0
+  counted_more limit x o at n near next c = let d = x.0 in let p = x.1 in record {
     slots = c.slots ++ p ∷ [];
     many = omega (arith, length-append c.slots (p ∷ []), c.many);
     apart =
         all_pairs_push (λ (q r : ℕ). q ≢ r) c.slots p c.apart (λ k e lt same.
         c.done p (subst (Contains c.slots) same (Contains-get_or c.slots k e lt))
-        (subst (λ (l : ℕ). IsQueued f l p) (sym at) there));
+        (subst (λ (l : ℕ). IsQueued f l p) (sym at) o.there));
     low = λ q t. elim (Contains-append_cases c.slots (p ∷ []) q t) [
-      | inl old ↦ let was = c.low q old in let le = c.ahead d p there in omega (arith, alike_labels f g alike q, c.ordered)
+      | inl old ↦ let was = c.low q old in let le = c.ahead d p o.there in omega (arith, alike_labels f g alike q, c.ordered)
       | inr new ↦ let is = ap (label_of g) (Contains-one p q new) in omega (arith, alike_labels f g alike p)
     ];
     done = λ q t w. elim (Contains-append_cases c.slots (p ∷ []) q t) [
@@ -129,16 +129,16 @@ module _ (f g : Frontier) (alike : IsAlike f g) (fewer : (e q : ℕ) → IsQueue
       | inr new ↦
           let is = Contains-one p q new in
           let label : label_of g q ≡ d = ap (label_of g) is ∙ alike_labels f g alike p ∙ at in
-          gone (coe 0 1 (i. IsQueued g (label i) (is i)) w)
+          o.gone (coe 0 1 (i. IsQueued g (label i) (is i)) w)
     ];
     waits = λ q small. elim (c.waits q (omega (arith, alike_labels f g alike q))) [
       | inl t ↦ inl (Contains-append_left c.slots (p ∷ []) q t)
-      | inr w ↦ elim (others (label_of f q) q w) [
+      | inr w ↦ elim (o.others (label_of f q) q w) [
         | inl still ↦ inr (subst (λ (e : ℕ). IsQueued g e q) (sym (alike_labels f g alike q)) still)
         | inr is ↦ inl (subst (Contains (c.slots ++ p ∷ [])) (sym is.1) (Contains-push c.slots p))
       ]
     ];
-    ahead = λ e q w. least e q (fewer e q w);
+    ahead = λ e q w. o.least e q (fewer e q w);
     ordered = omega arith;
   }
 

@@ -1,7 +1,7 @@
 //! The state of a search: labels by slot, the slots of the labelled nodes, and the queue of slots to continue from.
 ghost use Rattle.std.specs.Prelude.{◌≡◌, ◌<◌, OnErr, OnOk};
 ghost use Rattle.olr_search.specs.Notes.{AreAllReached, AreAllReached-prop, NotesOnce};
-ghost use Rattle.olr_search.specs.Queues.{LowLabels, LowLabels-prop};
+ghost use Rattle.olr_search.specs.Queues.{IsPopped, LowLabels, LowLabels-prop};
 
 use crate::queue::Queue;
 use olr_roads::{MapRead, NodeId};
@@ -38,12 +38,11 @@ fn note(reached: &mut Vec<u32>, label: u32, slot: u32) -> Result<(), AllocError>
 }
 
 impl Frontier {
-    ghost use Rattle.std.specs.Prelude.{◌≤◌, ◌+◌, ◌⊎◌, ◌++◌, ◌∷◌, ℕ, [], cond, IsTrue, IfOk, IfSome, IfNone, nat_le};
+    ghost use Rattle.std.specs.Prelude.{◌≤◌, ◌++◌, ◌∷◌, ℕ, [], cond, IsTrue, IfOk, IfSome, IfNone, nat_le};
     ghost use Rattle.std.specs.List.{filter};
     ghost use Rattle.olr_spec.specs.Map.{has_node};
     ghost use Rattle.olr_search.specs.Notes.{AreFilled, AreNodesIn};
-    ghost use Rattle.olr_search.specs.Frontiers.{label_of, frontier_len, queued_len, IsAlike, IsKept, IsRelaxed, IsEmpty};
-    ghost use Rattle.olr_search.specs.Frontiers.{IsQueued};
+    ghost use Rattle.olr_search.specs.Frontiers.{label_of, frontier_len, IsAlike, IsKept, IsRelaxed, IsEmpty, IsQueued};
 
     /// No labels. Does not allocate.
     pub fn new(alloc: Global) -> Frontier
@@ -156,14 +155,8 @@ impl Frontier {
     /// Removes the least queued length, and returns it with its slot. None if no queued length is at most `limit`.
     pub fn pop_within(&mut self, limit: u32) -> Option<(u32, u32)>
         ensures alike { IsAlike self.old self.new }
-        ensures within { IfSome result (λ x. x.0 ≤ limit) }
-        ensures there { IfSome result (λ x. IsQueued self.old x.0 x.1) }
-        ensures least { IfSome result (λ x. (d p : ℕ) → IsQueued self.old d p → x.0 ≤ d) }
-        ensures others { IfSome result (λ x. (d p : ℕ) → IsQueued self.old d p → IsQueued self.new d p
-            ⊎ ((d ≡ x.0) × (p ≡ x.1))) }
-        ensures gone { IfSome result (λ x. ¬ IsQueued self.new x.0 x.1) }
+        ensures popped { IfSome result (IsPopped self.old.queue self.new.queue limit) }
         ensures fewer { (d p : ℕ) → IsQueued self.new d p → IsQueued self.old d p }
-        ensures len { IfSome result (λ x. queued_len self.new + 1 ≡ queued_len self.old) }
         ensures far { IfNone result ((d p : ℕ) → IsQueued self.new d p → limit < d) }
         ensures same { IfNone result ((d p : ℕ) → IsQueued self.old d p → IsQueued self.new d p) }
     {

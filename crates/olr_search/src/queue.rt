@@ -22,8 +22,8 @@ pub struct Queue {
 }
 
 impl Queue {
-    ghost use Rattle.std.specs.Prelude.{◌≡◌, ◌≤◌, ◌<◌, ◌+◌, ◌⊎◌, ℕ, OnOk, OnErr, IfSome, IfNone};
-    ghost use Rattle.olr_search.specs.Queues.{Queued, queue_len};
+    ghost use Rattle.std.specs.Prelude.{◌≡◌, ◌<◌, ◌+◌, ◌⊎◌, ℕ, OnOk, OnErr, IfSome, IfNone};
+    ghost use Rattle.olr_search.specs.Queues.{Queued, IsPopped, queue_len};
 
     /// The empty queue. Does not allocate.
     pub fn new(alloc: Global) -> Queue
@@ -58,14 +58,8 @@ impl Queue {
 
     /// Removes the least length, and returns it with its slot. None if no length is at most `limit`.
     pub fn pop_within(&mut self, limit: u32) -> Option<(u32, u32)>
-        ensures within { IfSome result (λ x. x.0 ≤ limit) }
-        ensures there { IfSome result (λ x. Queued self.old x.0 x.1) }
-        ensures least { IfSome result (λ x. (d p : ℕ) → Queued self.old d p → x.0 ≤ d) }
-        ensures others { IfSome result (λ x. (d p : ℕ) → Queued self.old d p → Queued self.new d p
-            ⊎ ((d ≡ x.0) × (p ≡ x.1))) }
-        ensures gone { IfSome result (λ x. ¬ Queued self.new x.0 x.1) }
+        ensures popped { IfSome result (IsPopped self.old self.new limit) }
         ensures fewer { (d p : ℕ) → Queued self.new d p → Queued self.old d p }
-        ensures len { IfSome result (λ x. queue_len self.new + 1 ≡ queue_len self.old) }
         ensures far { IfNone result ((d p : ℕ) → Queued self.new d p → limit < d) }
         ensures same { IfNone result (self.new ≡ self.old) }
     {

@@ -1,7 +1,7 @@
 //! Lines of a map with the slots of their ends, so that what is done with them needs no look-up.
 ghost use Rattle.std.specs.Prelude.{SomeIff, IsTrue};
 ghost use Rattle.olr_spec.specs.Map.{has_line};
-ghost use Rattle.olr_search.specs.ResolvedLines.{record_of};
+ghost use Rattle.olr_search.specs.ResolvedLines.{ResolvedLine as Record, coded_resolved_line, record_of, resolved_line};
 
 use olr_roads::{LineId, MapRead, NodeId};
 use std::marker::Model;
@@ -28,22 +28,11 @@ pub struct ResolvedLine {
 }
 
 impl Model for ResolvedLine {
-    ghost use Rattle.olr_search.specs.ResolvedLines.{ResolvedLine as Record, coded_resolved_line};
-
     ghost Value = { Record };
 
     ghost coded = { coded_resolved_line };
 
-    ghost view = { λ r. record {
-      id = r.id;
-      from = r.from;
-      to = r.to;
-      from_slot = r.from_slot;
-      to_slot = r.to_slot;
-      len = r.len;
-      frc = r.frc;
-      fow = r.fow;
-    } };
+    ghost view = { λ r. resolved_line r.id r.from r.to r.from_slot r.to_slot r.len r.frc r.fow };
 
     ghost inverse = { λ r. record {
       id = r.id;

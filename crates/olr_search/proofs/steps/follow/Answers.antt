@@ -1,36 +1,38 @@
 use Rattle.olr_search.proofs.Common.{◌≡◌, ◌≤◌, ◌+◌, ℕ, get_or, sym, ap, subst, ◌∙◌, arith, inl, inr}
 use Rattle.olr_search.proofs.Common.{Leads, near_end, far_end, label_of, below_more, line_short, positive}
-use Rattle.olr_search.proofs.WayLemmas.{end_is, has_end, no_end, far_node, leads_on}
+use Rattle.olr_search.proofs.WayLemmas.{IsEnd, end_is, has_end, no_end, far_node, leads_on}
 use Rattle.olr_search.proofs.SearchLemmas.{moves_then}
 use Rattle.olr_search.proofs.CutLemmas.{stays_then}
+use Rattle.olr_search.proofs.steps.follow.Given.{Over}
+use Rattle.olr_search.proofs.steps.follow.Goals.{In-loop-end}
 use Rattle.olr_search.proofs.steps.follow.Goals as goal
+
+-- the line whose end is looked at
+entered : (g : Over) (c : In-loop-end g) →
+    IsEnd (g.M.MapRead.map c.args.map.now) (g.M.MapRead.node_slot c.args.map.now) c.args.direction c.requires.node.0
+    (get_or c.ends_from-end-items.result.now c.loop-end.end-index no_end)
+entered g c =
+    let own = c.requires.node in
+    end_is (g.M.MapRead.map c.args.map.now) (g.M.MapRead.node_slot c.args.map.now) c.args.direction own.0 _
+    c.loop-end.end-index (c.ends_from-end-items.ensures own.0 own.1 own.2) c.loop-end-test.true
 
 pub overflow_add-dist : goal.overflow_add-dist
 overflow_add-dist g c =
     let M = g.M.MapRead.map c.args.map.now in
-    let own = c.requires.node in
-    let e =
-    end_is M (g.M.MapRead.node_slot c.args.map.now) c.args.direction own.0 _ c.loop-end.end-index
-    (c.ends_from-end-items.ensures own.0 own.1 own.2) c.loop-end-test.true in
+    let e = entered g (goal.at.overflow_add-dist g c).In-loop-end in
     let short = line_short M (g.met.M.MapRead.sound c.args.map.now) e.line e.known in
     omega arith
 
 pub label_node-requires-clause-there : goal.label_node-requires-clause-there
 label_node-requires-clause-there g c =
     let M = g.M.MapRead.map c.args.map.now in
-    let own = c.requires.node in
-    let e =
-    end_is M (g.M.MapRead.node_slot c.args.map.now) c.args.direction own.0 _ c.loop-end.end-index
-    (c.ends_from-end-items.ensures own.0 own.1 own.2) c.loop-end-test.true in
+    let e = entered g (goal.at.label_node-requires-clause-there g c).In-loop-end in
     (far_end M c.args.direction e.line, far_node M (g.met.M.MapRead.sound c.args.map.now) c.args.direction e.line e.known, sym e.there)
 
 pub label_node-requires-clause-room : goal.label_node-requires-clause-room
 label_node-requires-clause-room g c =
     let M = g.M.MapRead.map c.args.map.now in
-    let own = c.requires.node in
-    let e =
-    end_is M (g.M.MapRead.node_slot c.args.map.now) c.args.direction own.0 _ c.loop-end.end-index
-    (c.ends_from-end-items.ensures own.0 own.1 own.2) c.loop-end-test.true in
+    let e = entered g (goal.at.label_node-requires-clause-room g c).In-loop-end in
     let room =
     c.requires.room (far_end M c.args.direction e.line)
     (far_node M (g.met.M.MapRead.sound c.args.map.now) c.args.direction e.line e.known) in
@@ -45,8 +47,7 @@ loop-end-preserved g c =
     let d = c.args.dist in
     let items = c.ends_from-end-items.result.now in
     let n = c.loop-end.end-index in
-    let e =
-    end_is M slot c.args.direction own.0 items n (c.ends_from-end-items.ensures own.0 own.1 own.2) c.loop-end-test.true in
+    let e = entered g (goal.at.loop-end-preserved g c).In-loop-end in
     let inv = c.loop-end.invariant in
     let to = c.in_ok-label_node.ensures in
     let h = c.label_node.new.frontier in

@@ -4,30 +4,18 @@ use Rattle.olr_search.proofs.SearchLemmas.{put_cases, put_labelled, put_moves}
 use Rattle.olr_search.proofs.SettledLemmas.{counted_put}
 use Rattle.olr_search.proofs.steps.label_node.Goals as goal
 
-pub returns-then-admits-clause-moves : goal.returns-then-admits-clause-moves
-returns-then-admits-clause-moves g c =
-    on_ok_weaker c.relax.result
-    (λ k. put_moves c.args.frontier.now c.relax.new.self c.args.slot c.args.length k) c.relax.ensures
-
-pub returns-then-admits-clause-labelled : goal.returns-then-admits-clause-labelled
-returns-then-admits-clause-labelled g c =
-    on_ok_weaker c.relax.result
-    (λ (k : IsRelaxed c.args.frontier.now c.relax.new.self c.args.slot c.args.length) N node_slot way from v.
-    put_labelled N node_slot way from c.args.frontier.now c.relax.new.self v c.args.slot c.args.length k)
-    c.relax.ensures
-
-pub returns-then-admits-clause-only : goal.returns-then-admits-clause-only
-returns-then-admits-clause-only g c =
-    on_ok_weaker c.relax.result
-    (λ k. put_cases c.args.frontier.now c.relax.new.self c.args.slot c.args.length k) c.relax.ensures
-
-pub returns-then-admits-clause-low : goal.returns-then-admits-clause-low
-returns-then-admits-clause-low g c =
-    on_ok_weaker c.relax.result
-    (λ (k : IsRelaxed c.args.frontier.now c.relax.new.self c.args.slot c.args.length) u. let h = k.here in omega arith)
-    c.relax.ensures
-
-pub returns-then-admits-clause-counted : goal.returns-then-admits-clause-counted
-returns-then-admits-clause-counted g c =
-    on_ok_weaker c.relax.result
-    (λ k. counted_put c.args.frontier.now c.relax.new.self c.args.slot c.args.length k) c.relax.ensures
+pub returns-then-admits : goal.returns-then-admits
+returns-then-admits g c =
+    let f = c.args.frontier.now in
+    let h = c.relax.new.self in
+    let p = c.args.slot in
+    let d = c.args.length in
+    let relaxed = c.relax.ensures in
+    record {
+      moves = on_ok_weaker c.relax.result (λ k. put_moves f h p d k) relaxed;
+      labelled = on_ok_weaker c.relax.result
+          (λ (k : IsRelaxed f h p d) N node_slot way from v. put_labelled N node_slot way from f h v p d k) relaxed;
+      low = on_ok_weaker c.relax.result (λ (k : IsRelaxed f h p d) u. let here = k.here in omega arith) relaxed;
+      only = on_ok_weaker c.relax.result (λ k. put_cases f h p d k) relaxed;
+      counted = on_ok_weaker c.relax.result (λ k. counted_put f h p d k) relaxed;
+    }

@@ -18,7 +18,7 @@ pub follow-requires-clause-node : goal.follow-requires-clause-node
 follow-requires-clause-node g c =
     let u = c.loop-next.invariant.cut c.requires.begun.0 c.requires.begun.1 in
     let e = c.in-Some.ensures in
-    u.labelled.nodes c.in-Some.next.1 (omega (arith, e.within, alike_labels _ _ e.alike c.in-Some.next.1))
+    u.labelled.nodes c.in-Some.next.1 (omega (arith, e.popped.within, alike_labels _ _ e.alike c.in-Some.next.1))
 
 pub follow-requires-clause-room : goal.follow-requires-clause-room
 follow-requires-clause-room g c = λ v known.
@@ -33,9 +33,9 @@ overflow_add-settled g c =
     let k = c.loop-next.invariant.counted own.0 own.1 own.2 own.3 in
     let fits =
     counted_fits c.pop_within.new.self (own.0 + c.loop-next.settled + 1) c.in-Some.next.0 c.in-Some.next.0
-    (omega (arith, o.within))
-    (counted_more c.loop-next.frontier c.pop_within.new.self o.alike o.fewer c.in-Some.next.0 c.in-Some.next.1 o.least
-    o.there o.gone o.others (omega (arith, alike_labels _ _ o.alike c.in-Some.next.1)) (own.0 + c.loop-next.settled) k.0 k.1 k.2) in
+    (omega (arith, o.popped.within))
+    (counted_more c.loop-next.frontier c.pop_within.new.self o.alike o.fewer _ c.in-Some.next o.popped
+    (omega (arith, alike_labels _ _ o.alike c.in-Some.next.1)) (own.0 + c.loop-next.settled) k.0 k.1 k.2) in
     omega arith
 
 pub loop-next-preserved-in-Continue-1 : goal.loop-next-preserved-in-Continue-1
@@ -47,7 +47,7 @@ loop-next-preserved-in-Continue-1 g c =
       cut = λ from u.
           cut_more (g.M.MapRead.map c.args.map.now) (g.M.MapRead.node_slot c.args.map.now) c.args.direction from
           (g.A.Admits.lets c.args.admits.now) c.loop-next.frontier c.pop_within.new.self c.follow.new.frontier
-          c.in-Some.next.0 c.in-Some.next.1 o.alike o.others (omega arith) (omega (arith, o.within)) e.moves e.labelled
+          c.in-Some.next.0 c.in-Some.next.1 o.alike o.popped.others (omega arith) (omega (arith, o.popped.within)) e.moves e.labelled
           e.closed (c.loop-next.invariant.cut from u);
       better = λ q.
           let a = e.moves.better q in
@@ -57,18 +57,18 @@ loop-next-preserved-in-Continue-1 g c =
           stays_then _ _ _ _ c.args.frontier.now c.loop-next.frontier c.follow.new.frontier
           (λ p. let le = e.moves.better p in omega (arith, alike_labels _ _ o.alike p)) c.loop-next.invariant.near
           (stays_more _ _ _ _ c.loop-next.frontier c.pop_within.new.self c.follow.new.frontier c.in-Some.next.0 o.alike
-          (omega (arith, o.within)) e.near);
+          (omega (arith, o.popped.within)) e.near);
       counted = λ n near next h.
           let k = c.loop-next.invariant.counted n near next h in
-          let le = k.2.ahead c.in-Some.next.0 c.in-Some.next.1 o.there in
+          let le = k.2.ahead c.in-Some.next.0 c.in-Some.next.1 o.popped.there in
           let now =
           e.counted (n + c.loop-next.settled + 1)
-          (counted_more c.loop-next.frontier c.pop_within.new.self o.alike o.fewer c.in-Some.next.0 c.in-Some.next.1
-          o.least o.there o.gone o.others (omega arith) (n + c.loop-next.settled) k.0 k.1 k.2) in (
+          (counted_more c.loop-next.frontier c.pop_within.new.self o.alike o.fewer _ c.in-Some.next o.popped
+          (omega arith) (n + c.loop-next.settled) k.0 k.1 k.2) in (
             c.in-Some.next.0,
             c.in-Some.next.0,
             subst (λ (m : ℕ). IsCounted c.follow.new.frontier m c.in-Some.next.0 c.in-Some.next.0) (omega arith) now,
-            omega (arith, o.within),
+            omega (arith, o.popped.within),
             omega (arith, k.4),
           );
     }
@@ -79,7 +79,7 @@ still : (g : Over) (c : goal.Else-label-dist g) (q : ℕ) →
     IsQueued c.pop_within.new.self (label_of c.loop-next.frontier q) q
 still g c q w =
     let o = c.in-Some.ensures in
-    elim (o.others (label_of c.loop-next.frontier q) q w) [
+    elim (o.popped.others (label_of c.loop-next.frontier q) q w) [
       | inl kept ↦ kept
       | inr h ↦
           let was : label_of c.loop-next.frontier c.in-Some.next.1 ≡ c.in-Some.next.0 =

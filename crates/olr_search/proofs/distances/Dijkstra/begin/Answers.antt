@@ -1,9 +1,10 @@
 use Rattle.olr_search.proofs.Common.{◌≡◌, ◌≤◌, ℕ, IsTrue, get_or, refl, sym, subst, ◌∙◌, inl, inr, arith, below_more}
-use Rattle.olr_search.proofs.Common.{get_or_default, has_node, label_of, IsQueued, IsLabelled, IsUnderWay, ◌<◌, List, length, Map}
-use Rattle.olr_search.proofs.Common.{Direction, Frontier, GREATEST_LIMIT}
+use Rattle.olr_search.proofs.Common.{get_or_default, has_node, label_of, IsQueued, IsUnderWay}
 use Rattle.olr_search.proofs.SearchLemmas.{empty_labelled}
 use Rattle.olr_search.proofs.SettledLemmas.{counted_none, counted_as}
 use Rattle.olr_search.proofs.CutLemmas.{settled_up_to}
+use Rattle.olr_search.proofs.distances.Dijkstra.begin.Given.{Over}
+use Rattle.olr_search.proofs.distances.Dijkstra.begin.Goals.{After-loop-begin}
 use Rattle.olr_search.proofs.distances.Dijkstra.begin.Goals as goal
 
 pub loop-begin-init : goal.loop-begin-init
@@ -44,28 +45,28 @@ loop-begin-preserved g c =
       limit = inv.limit;
     }
 
--- a search is under way where each label is queued
-under_way : (M : Map) (slot : ℕ → ℕ) (direction : Direction) (from : List (ℕ × ℕ)) (f : Frontier) →
-    IsLabelled M slot direction from f →
-    ((j : ℕ) → j < length from → IsTrue (has_node M (get_or from j (0, 0)).0) →
-    label_of f (slot (get_or from j (0, 0)).0) ≤ (get_or from j (0, 0)).1) →
-    ((p : ℕ) → label_of f p ≤ GREATEST_LIMIT → IsQueued f (label_of f p) p) → IsUnderWay M slot direction from f
-under_way M slot direction from f labelled begun queued = record {
-  labelled = labelled;
-  begun = λ s b listed known.
-      let is : get_or from listed.0 (0, 0) ≡ (s, b) =
-      get_or_default from listed.0 (0, 0) (s, b) listed.1 ∙ listed.2 in
-      subst (λ (x : ℕ × ℕ). IsTrue (has_node M x.0) → label_of f (slot x.0) ≤ x.1) is (begun listed.0 listed.1) known;
-  front = λ v known small. inr (queued (slot v) small);
-}
+-- the search is under way when the loop has ended
+under_way : (g : Over) (c : After-loop-begin g) →
+    IsUnderWay (g.M.MapRead.map c.args.map.now) (g.M.MapRead.node_slot c.args.map.now) c.args.direction c.args.from.now
+    c.loop-begin.self.frontier
+under_way g c =
+    let items = c.args.from.now in
+    let f = c.loop-begin.self.frontier in
+    let inv = c.loop-begin.invariant in
+    let Begun : ℕ × ℕ → Type 0 = λ x.
+    IsTrue (has_node (g.M.MapRead.map c.args.map.now) x.0) → label_of f (g.M.MapRead.node_slot c.args.map.now x.0) ≤ x.1 in
+    record {
+      labelled = inv.labelled;
+      begun = λ s b listed known.
+          let is : get_or items listed.0 (0, 0) ≡ (s, b) =
+          get_or_default items listed.0 (0, 0) (s, b) listed.1 ∙ listed.2 in
+          subst Begun is (inv.begun listed.0 (omega (arith, listed.1))) known;
+      front = λ v known small. inr (inv.front (g.M.MapRead.node_slot c.args.map.now v) small);
+    }
 
 pub settle-requires-clause-begun : goal.settle-requires-clause-begun
 settle-requires-clause-begun g c =
-    let inv = c.loop-begin.invariant in (
-      c.args.from.now,
-      under_way _ _ c.args.direction c.args.from.now c.loop-begin.self.frontier inv.labelled
-          (λ j lt. inv.begun j (omega arith)) inv.front,
-    )
+    (c.args.from.now, under_way g (goal.at.settle-requires-clause-begun g c).After-loop-begin)
 
 pub settle-requires-clause-counted : goal.settle-requires-clause-counted
 settle-requires-clause-counted g c =
@@ -73,22 +74,16 @@ settle-requires-clause-counted g c =
 
 pub returns-clause-search : goal.returns-clause-search
 returns-clause-search g c =
-    let M = g.M.MapRead.map c.args.map.now in
-    let slot = g.M.MapRead.node_slot c.args.map.now in
-    let inv = c.loop-begin.invariant in
     let e = c.in_ok-settled.ensures in
-    let u =
-    e.cut c.args.from.now
-    (under_way M slot c.args.direction c.args.from.now c.loop-begin.self.frontier inv.labelled
-    (λ j lt. inv.begun j (omega arith)) inv.front) in
+    let u = e.cut c.args.from.now (under_way g (goal.at.returns-clause-search g c).After-loop-begin) in
     record {
-      way = inv.way;
+      way = c.loop-begin.invariant.way;
       under_way = u;
       small = omega arith;
       settled = λ v d known le l.
-          settled_up_to M slot c.args.direction c.args.from.now c.settle.new.frontier 0 u (omega arith) e.far v d
+          settled_up_to _ _ c.args.direction c.args.from.now c.settle.new.frontier 0 u (omega arith) e.far v d
           (omega arith) l;
       counted =
           counted_as c.settle.new.frontier _ _ _ _ _ _ (omega arith) (omega arith) (omega arith)
-          (e.counted 0 0 0 (counted_none c.loop-begin.self.frontier inv.front));
+          (e.counted 0 0 0 (counted_none c.loop-begin.self.frontier c.loop-begin.invariant.front));
     }
