@@ -11,7 +11,8 @@ use Rattle.olr_spec.specs.Detours.{Near}
 use Rattle.olr_spec.proofs.RouteLemmas.{IsRoute-append, dm_of-append, route_start}
 use Rattle.olr_spec.proofs.AgreeLemmas.{turned_round, by_leaving, same_known, same_start, same_end, same_dm}
 use Rattle.olr_search.specs.Bounds.{AreBounds}
-use Rattle.olr_search.specs.Frontiers.{label_of, IsQueued, IsAlike, Moves}
+use Rattle.olr_search.specs.Frontiers.{label_of, frontier_len, IsQueued, IsAlike, Moves}
+use Rattle.olr_search.specs.Searches.{CoversSlots}
 use Rattle.olr_search.specs.declared.distances.Direction.TheVariants.{Against}
 use Rattle.olr_search.specs.declared.frontier.Frontier.{Frontier}
 use Rattle.olr_search.proofs.SearchLemmas.{alike_labels}
@@ -221,3 +222,28 @@ module _ (M : Map) (m : IsMap M) (s : ℕ → ℕ) (S : ℕ → Option ℕ) wher
       ]
     ]
   ]
+
+-- ---- all that holds while bounds are settled
+
+-- of the bounds f, which were first those of old, with the nodes xs open
+pub record IsSettling (M : Map) (s : ℕ → ℕ) (old : DistanceBounds) (xs : List ℕ) (f : DistanceBounds) : Type 0 where
+  pub room : CoversSlots M s f.bounds
+  pub sources : (v : ℕ) → source_of f v ≡ source_of old v
+  pub known : f.known ≡ old.known
+  pub settling : AreUnderWay M s [] old → AreSettling M s (source_of old) xs f.bounds
+  pub led : AreLed M s (source_of old) (bound_at old) (bound_at f)
+
+pub settling_on : (M : Map) → IsMap M → (s : ℕ → ℕ) →
+    ((v w : ℕ) → IsTrue (has_node M v) → IsTrue (has_node M w) → s v ≡ s w → v ≡ w) → (old : DistanceBounds)
+    (xs ys : List ℕ) (f g : DistanceBounds) → ((v : ℕ) → source_of g v ≡ source_of f v) → g.known ≡ f.known →
+    frontier_len g.bounds ≡ frontier_len f.bounds →
+    (AreSettling M s (source_of old) xs f.bounds → AreSettling M s (source_of old) ys g.bounds) →
+    AreLed M s (source_of f) (bound_at f) (bound_at g) → IsSettling M s old xs f → IsSettling M s old ys g
+settling_on M m s apart old xs ys f g sources known len next led was = record {
+  room = λ v there. let lt = was.room v there in omega arith;
+  sources = λ v. sources v ∙ was.sources v;
+  known = known ∙ was.known;
+  settling = λ u. next (was.settling u);
+  led = led_then M m s (source_of old) apart (bound_at old) (bound_at f) (bound_at g) was.led
+      (coe 0 1 (i. AreLed M s (λ v. was.sources v i) (bound_at f) (bound_at g)) led);
+}

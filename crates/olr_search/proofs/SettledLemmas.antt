@@ -1,5 +1,5 @@
 -- The slots that are settled, as the frontier changes.
-use Rattle.olr_search.proofs.Common.{◌≡◌, ◌≢◌, ◌==◌, ℕ, ◌+◌, ◌<◌, ◌≤◌, ◌⊎◌, List, [], ◌∷◌, ◌++◌, Contains, length}
+use Rattle.olr_search.proofs.Common.{◌≡◌, ◌≢◌, ◌==◌, ℕ, ◌+◌, ◌<◌, ◌≤◌, List, [], ◌∷◌, ◌++◌, Contains, length}
 use Rattle.olr_search.proofs.Common.{sym, ap, ◌∙◌, ◌^◌, subst, inl, inr, arith, length-append, IsDistinct}
 use Rattle.olr_search.proofs.Common.{Contains-append_cases, Contains-append_left, Contains-here, Contains-later}
 use Rattle.olr_search.proofs.Common.{Contains-one, Contains-get_or, label_of, IsQueued, IsRelaxed, IsAlike}

@@ -1,54 +1,37 @@
-use Rattle.std.proofs.Common.{◌∙◌, inl, sym, arith}
+use Rattle.std.proofs.Common.{List, ℕ, [], ◌∙◌, refl, subst, sym}
 use Rattle.olr_search.specs.Frontiers.{label_of}
-use Rattle.olr_search.proofs.SearchLemmas.{alike_labels}
-use Rattle.olr_near.specs.Bounds.{AreLed, source_of, bound_at}
-use Rattle.olr_near.proofs.BoundLemmas.{settling_looked, settling_popped, settled, led_then}
+use Rattle.olr_search.specs.Notes.{label_in}
+use Rattle.olr_near.specs.Bounds.{AreLed, source_of}
+use Rattle.olr_near.proofs.BoundLemmas.{settling_looked, settling_on, settling_popped, settled}
 use Rattle.olr_near.proofs.distance_bounds.DistanceBounds.settle_open.Goals as goal
 
 pub loop-node-preserved : goal.loop-node-preserved
 loop-node-preserved g c =
-    let M = g.M.MapRead.map c.args.map.now in
     let m = g.met.M.MapRead.sound c.args.map.now in
-    let slot = g.M.MapRead.node_slot c.args.map.now in
-    let S = source_of c.args.self.now in
+    let f = c.loop-node.self in
     let inv = c.loop-node.invariant in
-    let f = c.loop-node.self.bounds in
-    let h = c.look_at.new.bounds in
     let e = c.in_ok-look_at.ensures in
-    record {
-      room = λ v there. let was = inv.room v there in omega (arith, e.moves.len);
-      sources = inv.sources;
-      known = inv.known;
-      settling = λ u. settling_looked M m slot S c.loop-node.self.opened.items c.pop.new.self.items c.in-Some.node f h
-          c.in-Some.ensures.items e.moves e.followed (λ d at there. e.met d (inv.sources c.in-Some.node ∙ at) there)
-          (inv.settling u);
-      led = led_then M m slot S (g.met.M.MapRead.placed c.args.map.now).apart (bound_at c.args.self.now) (label_of f)
-          (label_of h) inv.led (coe 0 1 (i. AreLed M slot (λ v. inv.sources v i) (label_of f) (label_of h)) e.led);
-    }
+    settling_on (g.M.MapRead.map c.args.map.now) m _ (g.met.M.MapRead.placed c.args.map.now).apart c.args.self.now
+    f.opened.items c.pop.new.self.items f (record f { opened = c.pop.new.self; bounds = c.look_at.new.bounds }) (λ v. refl)
+    refl e.moves.len
+    (settling_looked _ m _ _ f.opened.items c.pop.new.self.items c.in-Some.node f.bounds c.look_at.new.bounds
+    c.in-Some.ensures.items e.moves e.followed (λ d at there. e.met d (inv.sources c.in-Some.node ∙ at) there)) e.led inv
 
 pub loop-next-preserved : goal.loop-next-preserved
 loop-next-preserved g c =
     let M = g.M.MapRead.map c.args.map.now in
     let m = g.met.M.MapRead.sound c.args.map.now in
     let slot = g.M.MapRead.node_slot c.args.map.now in
-    let S = source_of c.args.self.now in
-    let apart = (g.met.M.MapRead.placed c.args.map.now).apart in
-    let inv = c.loop-next.invariant in
-    let L = bound_at c.args.self.now in
-    let f = c.loop-next.self.bounds in
-    let p = c.pop_within.new.self in
+    let f = c.loop-next.self in
     let h = c.follow.new.bounds in
     let o = c.in-Some-pop_within.ensures in
+    let x = c.in-Some-pop_within.next in
     let e = c.in_ok-follow.ensures in
-    record {
-      room = λ v there. let was = inv.room v there in omega (arith, e.moves.len, o.alike.len);
-      sources = inv.sources;
-      known = inv.known;
-      settling = λ u. settling_popped M m slot S f p h c.in-Some-pop_within.next.0 c.in-Some-pop_within.next.1 o.alike
-          o.others e.moves e.followed (inv.settling u);
-      led = led_then M m slot S apart L (label_of p) (label_of h)
-          (led_then M m slot S apart L (label_of f) (label_of p) inv.led (λ q. inl (alike_labels f p o.alike q))) (e.led S);
-    }
+    settling_on M m slot (g.met.M.MapRead.placed c.args.map.now).apart c.args.self.now [] [] f (record f { bounds = h })
+    (λ v. refl) refl (e.moves.len ∙ o.alike.len)
+    (settling_popped M m slot _ f.bounds c.pop_within.new.self h x.0 x.1 o.alike o.popped.others e.moves e.followed)
+    (subst (λ (t : List ℕ). AreLed M slot (source_of f) (label_in t) (label_of h)) o.alike.table (e.led (source_of f)))
+    c.loop-next.invariant
 
 pub returns-clause-right : goal.returns-clause-right
 returns-clause-right g c = λ u known.
