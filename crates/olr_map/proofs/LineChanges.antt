@@ -2,20 +2,21 @@
 use Rattle.olr_map.proofs.Common.{◌≡◌, ◌==◌, ℕ, ◌+◌, ◌<◌, ◌≤◌, true, false, cond, Option, Some, None, refl, sym, ap}
 use Rattle.olr_map.proofs.Common.{◌∙◌, length, subst, arith, option_map, option_map_or, IsStrictlyIncreasing, FinMap}
 use Rattle.olr_map.proofs.Common.{get, cond-true, eqb-true, eq-eqb, same_Some, Map, IsMap, Line, has_line, line_at, has}
-use Rattle.olr_map.proofs.Common.{has-lines_where, some_of, back_of, slot_by, at, held, all_held, spare_numbers}
+use Rattle.olr_map.proofs.Common.{has-lines_where, some_of, back_of, slot_by, held, is_some, all_held, spare_numbers}
 use Rattle.olr_map.proofs.Common.{in_slot, node_slots, node_room, links_at, IsRelinked, lines_on, links_room, IsPut}
 use Rattle.olr_map.proofs.Common.{sides, near, far, lines_at, node_in, links_in, map_from, node_slot, IsListed}
 use Rattle.olr_map.proofs.Common.{IsIndexed, AreTables, Room, tables_map, room_of, room_at, change_edit, CanMake}
 use Rattle.olr_map.proofs.Common.{HasRoomFor, IsWhole, map_after, room_after, IsRoomWithin, IsChangeMade, line_puts}
-use Rattle.olr_map.proofs.Common.{SlotIndex, Links, LineEnd, NodeEntry, NodeSlots, Side, Out, In, LineTable, RoadMap}
+use Rattle.olr_map.proofs.Common.{SlotIndex, Links, LineEnd, NodeSlots, Side, Out, In, LineTable, RoadMap}
 use Rattle.olr_map.proofs.Common.{TableChange, PutLine, SetLine, TakeLine, common_steps}
 use Rattle.std.specs.Ordering.{nat_cmp}
+use Rattle.olr_map.specs.NodeLinks.{CanPutEnd}
 use Rattle.olr_map.proofs.ColumnLemmas.{few_nodes}
 use Rattle.olr_map.proofs.Lookups.{all_get, over_cond, unchanged_at, got_insert, got_remove, same_answers}
 use Rattle.olr_map.proofs.Indexing.{Slots, place_of, entry_of, relisted}
 use Rattle.olr_map.proofs.LineRecords.{record_of}
 use Rattle.olr_map.proofs.Listing.{ascends_at, seen, here_listed, other_listed}
-use Rattle.olr_map.proofs.Reading.{got_node, got_line, line_missing, kept_from, place_is}
+use Rattle.olr_map.proofs.Reading.{got_node, got_line, line_found, line_missing, kept_from, place_is}
 use Rattle.olr_map.proofs.Making.{made_as, sound_after, change_made, le_same}
 use Rattle.std.specs.FinMap as finmap
 use Rattle.olr_spec.specs.Map as maps
@@ -41,9 +42,7 @@ module _ (t : RoadMap) (es : Slots) (indexed : IsIndexed t.index es) (side : Sid
   -- a line can be put into the list of a node, or removed from it
   pub can_put : (v p x : ℕ) → slot_by t.index v ≡ Some p →
       (has (lines_at side (tables_map t) v) x ≡ false → length (lines_at side (tables_map t) v) < room_at side t v) →
-      (e : NodeEntry) × (at es p ≡ Some e) × IsStrictlyIncreasing (lines_on (links_at side e))
-      × (has (lines_on (links_at side e)) x ≡ false →
-      length (lines_on (links_at side e)) < links_room (links_at side e))
+      CanPutEnd es side p x
   can_put v p x here fits =
       let e = entry_of t.index es indexed v p here in
       let l : Links = links_at side e.0 in
@@ -61,14 +60,29 @@ module _ (t : RoadMap) (es : Slots) (indexed : IsIndexed t.index es) (side : Sid
       )
 
   -- a line of the map
-  pub can_put_again : (p x : ℕ) → slot_by t.index (near side (line_at (tables_map t) x)) ≡ Some p →
-      has_line (tables_map t) x ≡ true → (e : NodeEntry) × (at es p ≡ Some e)
-      × IsStrictlyIncreasing (lines_on (links_at side e))
-      × (has (lines_on (links_at side e)) x ≡ false →
-      length (lines_on (links_at side e)) < links_room (links_at side e))
+  can_put_again : (p x : ℕ) → slot_by t.index (near side (line_at (tables_map t) x)) ≡ Some p →
+      has_line (tables_map t) x ≡ true → CanPutEnd es side p x
   can_put_again p x here there =
       can_put (near side (line_at (tables_map t) x)) p x here
       (λ gone. let listed = line_listed side (tables_map t) x there in absurd cc)
+
+-- the lists of a line's ends, first that of the node where it begins, and its record
+module _ (t : RoadMap) (x p : ℕ) (known : has_line (tables_map t) x ≡ true)
+    (begin : slot_by t.index (near Out (line_at (tables_map t) x)) ≡ Some p) where
+  pub can_put_out : CanPutEnd (node_slots t.nodes) Out p x
+  can_put_out = can_put_again t (node_slots t.nodes) t.kept.indexed Out (λ k. refl) p x begin known
+
+  pub can_put_in : (mid : NodeSlots) (q : ℕ) {R : Links → Links → Type 0} →
+      IsRelinked (node_slots t.nodes) (node_slots mid) Out p R →
+      slot_by t.index (near In (line_at (tables_map t) x)) ≡ Some q → CanPutEnd (node_slots mid) In q x
+  can_put_in mid q turns end =
+      let r =
+      relisted t.index (node_slots t.nodes) t.kept.indexed (node_slots mid) Out p (near Out (line_at (tables_map t) x))
+      turns begin in
+      can_put_again t (node_slots mid) r.indexed In (r.now In) q x end known
+
+pub is_held : (t : RoadMap) (x n : ℕ) → has_line (tables_map t) x ≡ true → n ≡ x → is_some (held t.lines n) ≡ true
+is_held t x n known same = ap (λ k. is_some (held t.lines k)) same ∙ ap (λ o. is_some o) (line_found t x known).1
 
 -- ---- line x has the record w in place of o
 

@@ -56,8 +56,8 @@ module _ (t : RoadMap) (c : TableChange) (can : CanMake (tables_map t) (room_of 
       ap (λ (m : Map). edited m (change_edit back)) is ∙ ap (edited (map_after M c)) inverse
       ∙ takes_back M t.kept.sound (map_after M c) (change_edit c) ok in
       record {
-        map = is;
-        room = room;
+        changed =
+            record { map = is; room = room; slots = slots; node_numbers = nodes; line_numbers = lines };
         can_back = record {
           accepted = is_ok_of (edited (tables_map new) (change_edit back)) M undone;
           placed = subst HasCoord (sym inverse) (back_placed M (map_after M c) (change_edit c) t.kept.sound ok);
@@ -65,10 +65,7 @@ module _ (t : RoadMap) (c : TableChange) (can : CanMake (tables_map t) (room_of 
           whole = whole;
         };
         before = ap (λ r. result_unwrap_or r (tables_map new)) undone;
-        slots = slots;
         room_before = room_before;
-        node_numbers = nodes;
-        line_numbers = lines;
       }
 
 -- ---- functions that differ at one number

@@ -1,17 +1,15 @@
 -- The slots of an edit's nodes: of an accepted edit, and where no node's slot changes. The faults of a map as returned.
-use Rattle.olr_map.proofs.Common.{common_steps, Node_in_use, TableChange, change_edit, IsReserved, tables_map, AreSlots}
+use Rattle.olr_map.proofs.Common.{common_steps, TableChange, change_edit, IsReserved, tables_map, AreSlots}
 use Rattle.olr_map.proofs.Common.{node_slot, eqb-true, has_node, RoadMap, slot_by, SlotIndex, Option, Result, eq-eqb, IsOk}
 use Rattle.olr_map.proofs.Common.{arith, start, subst, List, Some, refl, true, ◌==◌, ◌||◌, Err, Map, end, has, map, sym}
 use Rattle.olr_map.proofs.Common.{◌∙◌, ◌∷◌, ◌≡◌, Ok, [], ap, ℕ}
 use Rattle.std.proofs.Common.{MatchResult}
 use Rattle.std.specs.Option.{option_to_list}
-use Rattle.olr_spec.specs.Map.{MapFault, Node_exists, No_node, Line_exists, No_line, Bad_shape}
+use Rattle.olr_spec.specs.Map.{MapFault}
 use Rattle.olr_spec.specs.Detours.{ChangedLine, changes_of}
 use Rattle.olr_roads.specs.Edits.{edit_fault_of}
 use Rattle.olr_map.specs.EditPlans.{IsEditPlan}
 use Rattle.olr_roads.specs.declared.edit.EditFault.{EditFault}
-use Rattle.olr_roads.specs.declared.edit.EditFault.TheVariants.{NodeExists, NoNode, LineExists, NoLine, NodeInUse}
-use Rattle.olr_roads.specs.declared.edit.EditFault.TheVariants.{BadShape, Memory}
 use Rattle.olr_map.specs.declared.judging.EditPlan.{EditPlan}
 use Rattle.olr_map.proofs.Making.{made_from}
 use Rattle.olr_map.proofs.Reading.{slot_is}
@@ -83,17 +81,8 @@ module _ (t : RoadMap) where
 
 -- ---- a fault of the map, as it is returned
 
-abbrev map_fault : EditFault → MapFault
-map_fault NodeExists = Node_exists
-map_fault NoNode = No_node
-map_fault LineExists = Line_exists
-map_fault NoLine = No_line
-map_fault NodeInUse = Node_in_use
-map_fault BadShape = Bad_shape
-map_fault Memory = Bad_shape
-
-fault_again : (f : MapFault) → map_fault (edit_fault_of f) ≡ f
-fault_again f = grind (arith, common_steps)
+same_fault : (f g : MapFault) → edit_fault_of f ≡ edit_fault_of g → f ≡ g
+same_fault f g e = grind (arith, common_steps)
 
 abbrev answer : (A : Type 0) → EditFault → Result A EditFault
 answer A x = Err x
@@ -103,4 +92,4 @@ pub refused_as : (A B : Type 0) (r : Result Map MapFault) (x : EditFault) →
     → (f : MapFault) → (◌≡◌ {A = Result B EditFault} (Err x) (Err (edit_fault_of f)) → r ≡ Err f)
     × (r ≡ Err f → ◌≡◌ {A = Result B EditFault} (Err x) (Err (edit_fault_of f)))
 refused_as A B (Ok m) x h f = absurd cc
-refused_as A B (Err g) x h f = grind (arith, common_steps, fault_again)
+refused_as A B (Err g) x h f = (λ e. let same = same_fault g f (cc) in cc, λ e. cc)

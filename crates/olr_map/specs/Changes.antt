@@ -6,7 +6,8 @@
 --     IsReserved old new      the same map, with at least the capacity
 --     KeepsSlots old new      each node that is on both maps has the same slot on both
 --     AddsNoNode old new      each node of the new map was on the old one, in the same slot
---     IsChangeMade old new c back      the change was made, and `back` can undo it
+--     IsChanged old new c      the change was made: its map, with at least its capacity
+--     IsChangeMade old new c back      and `back` can undo it
 use Rattle.std.specs.Prelude.{◌≡◌, ◌==◌, ℕ, ◌+◌, ◌-◌, ◌<◌, ◌≤◌, if◌then◌else◌, List, [], ◌∷◌, length, ⊤, IsOk, IsTrue}
 use Rattle.std.specs.Option.{option_map_or}
 use Rattle.std.specs.Result.{result_unwrap_or}
@@ -133,12 +134,15 @@ AddsNoNode old new =
     (v : ℕ) → IsTrue (has_node (tables_map new) v) →
     IsTrue (has_node (tables_map old) v) × (node_slot new.index v ≡ node_slot old.index v)
 
-pub record IsChangeMade (old new : RoadMap) (c back : TableChange) : Type 0 where
+pub record IsChanged (old new : RoadMap) (c : TableChange) : Type 0 where
   pub map : tables_map new ≡ map_after (tables_map old) c
   pub room : IsRoomWithin (room_after (room_of old) c) (room_of new)
-  pub can_back : CanMake (tables_map new) (room_of new) back
-  pub before : map_after (tables_map new) back ≡ tables_map old
   pub slots : KeepsSlots old new
-  pub room_before : IsRoomWithin (room_of old) (room_after (room_of new) back)
   pub node_numbers : spare_of old.index ≤ spare_of new.index + node_puts c
   pub line_numbers : spare_numbers old.lines ≤ spare_numbers new.lines + line_puts c
+
+pub record IsChangeMade (old new : RoadMap) (c back : TableChange) : Type 0 where
+  pub changed : IsChanged old new c
+  pub can_back : CanMake (tables_map new) (room_of new) back
+  pub before : map_after (tables_map new) back ≡ tables_map old
+  pub room_before : IsRoomWithin (room_of old) (room_after (room_of new) back)

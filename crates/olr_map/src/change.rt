@@ -8,12 +8,7 @@ use olr_roads::{Line, LineId, NodeId};
 #[derive(Drop)]
 pub enum TableChange {
     /// Inserts a node without lines, with the memory for the lines that leave it and that enter it.
-    PutNode {
-        id: NodeId,
-        place: Coord,
-        outs: EmptyLinks,
-        ins: EmptyLinks,
-    },
+    PutNode(NodeId, Coord, EmptyLinks, EmptyLinks),
     /// Moves a node to another coordinate.
     MoveNode(NodeId, Coord),
     /// Removes a node's entry.

@@ -9,16 +9,14 @@ use olr_roads::{Edit, EditFault, Line, NodeId};
 use std::alloc::AllocError;
 
 impl RoadMap {
-    ghost use Rattle.std.specs.Prelude.{◌≡◌, ◌↔◌, ◌+◌, ◌≤◌, IsOk, IfOk, OnOk, OnErr, Ok, Err, IsTrue};
+    ghost use Rattle.std.specs.Prelude.{◌≡◌, ◌↔◌, ◌+◌, IsOk, IfOk, OnOk, OnErr, Ok, Err, IsTrue};
     ghost use Rattle.olr_spec.specs.Map.{MapFault, edited};
-    ghost use Rattle.olr_map.specs.SlotIndexes.{spare_of};
-    ghost use Rattle.olr_map.specs.LineTables.{spare_numbers};
     ghost use Rattle.olr_map.specs.RoadMaps.{map_of, slot_of, CanUndo, map_undone, CanUndoAll, map_before};
     ghost use Rattle.olr_map.specs.EditPlans.{IsEditPlan, AreEnds, AreSlots};
     ghost use Rattle.olr_roads.specs.Edits.{edit_of, edit_fault_of, allocates};
     ghost use Rattle.olr_map.specs.Changes.{tables_map, room_of, change_edit, node_puts, line_puts, node_numbers};
-    ghost use Rattle.olr_map.specs.Changes.{line_numbers, HasRoomFor, HasNumbers, IsWhole, IsRoomWithin, CanMake, IsReserved};
-    ghost use Rattle.olr_map.specs.Changes.{IsChangeMade, KeepsSlots, AddsNoNode, map_after, room_after};
+    ghost use Rattle.olr_map.specs.Changes.{line_numbers, HasRoomFor, HasNumbers, IsWhole, CanMake, IsReserved};
+    ghost use Rattle.olr_map.specs.Changes.{IsChanged, IsChangeMade, KeepsSlots, AddsNoNode};
     ghost use Rattle.olr_map.specs.Undos.{log_changes, dropped_nodes};
 
     /// The slots of the nodes that a change touches and that exist before it.
@@ -33,7 +31,7 @@ impl RoadMap {
             }
             TableChange::PutLine(_, line) => (self.slot(line.from), self.slot(line.to)),
             TableChange::SetLine(id, _) | TableChange::TakeLine(id) => self.end_slots(*id),
-            TableChange::PutNode { .. } | TableChange::TakeNode(_) => (0, 0),
+            TableChange::PutNode(..) | TableChange::TakeNode(_) => (0, 0),
         }
     }
 
@@ -49,12 +47,7 @@ impl RoadMap {
         ensures lines { line_puts change + line_puts result ≡ line_numbers (change_edit change) }
     {
         match change {
-            TableChange::PutNode {
-                id,
-                place,
-                outs,
-                ins,
-            } => {
+            TableChange::PutNode(id, place, outs, ins) => {
                 self.put_node(id, place, outs, ins);
                 TableChange::TakeNode(id)
             }
@@ -82,19 +75,10 @@ impl RoadMap {
         requires can { CanMake (tables_map self.old) (room_of self.old) change }
         requires slots { AreSlots self.old.index (tables_map self.old) slots (change_edit change) }
         requires numbers { HasNumbers self.old (node_puts change) (line_puts change) }
-        ensures map { tables_map self.new ≡ map_after (tables_map self.old) change }
-        ensures slots { KeepsSlots self.old self.new }
-        ensures room { IsRoomWithin (room_after (room_of self.old) change) (room_of self.new) }
-        ensures nodes { spare_of self.old.index ≤ spare_of self.new.index + node_puts change }
-        ensures lines { spare_numbers self.old.lines ≤ spare_numbers self.new.lines + line_puts change }
+        ensures { IsChanged self.old self.new change }
     {
         match change {
-            TableChange::PutNode {
-                id,
-                place,
-                outs,
-                ins,
-            } => self.put_node(id, place, outs, ins),
+            TableChange::PutNode(id, place, outs, ins) => self.put_node(id, place, outs, ins),
             TableChange::MoveNode(id, place) => {
                 self.move_node(id, place, slots.0);
             }
@@ -109,11 +93,7 @@ impl RoadMap {
     fn take_back(&mut self, change: TableChange)
         requires can { CanMake (tables_map self.old) (room_of self.old) change }
         requires numbers { HasNumbers self.old (node_puts change) (line_puts change) }
-        ensures map { tables_map self.new ≡ map_after (tables_map self.old) change }
-        ensures slots { KeepsSlots self.old self.new }
-        ensures room { IsRoomWithin (room_after (room_of self.old) change) (room_of self.new) }
-        ensures nodes { spare_of self.old.index ≤ spare_of self.new.index + node_puts change }
-        ensures lines { spare_numbers self.old.lines ≤ spare_numbers self.new.lines + line_puts change }
+        ensures { IsChanged self.old self.new change }
     {
         let slots = self.slots_for(&change);
         self.make_for_good(change, slots);
@@ -159,12 +139,7 @@ impl RoadMap {
         ensures whole { IsWhole (tables_map self.now) result }
     {
         match edit {
-            Edit::AddNode(id, place) => TableChange::PutNode {
-                id,
-                place,
-                outs: None,
-                ins: None,
-            },
+            Edit::AddNode(id, place) => TableChange::PutNode(id, place, None, None),
             Edit::MoveNode(id, place) => TableChange::MoveNode(id, place),
             Edit::DropNode(id) => TableChange::TakeNode(id),
             Edit::AddLine(id, line) => TableChange::PutLine(id, line),

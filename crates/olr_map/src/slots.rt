@@ -1,9 +1,8 @@
 //! The nodes in their slots, in columns: their numbers, their coordinates, the lines that leave them, and those that
 //! enter them.
 ghost use Rattle.std.specs.Prelude.{◌≡◌, ◌+◌, ◌<◌, ◌≤◌, ◌++◌, ◌∷◌, [], length, set, vec_len, cond, nat_lt, Some};
-ghost use Rattle.std.specs.Prelude.{IsSome, IfOk, OnOk, IsTrue, IsFalse, map, option_map};
+ghost use Rattle.std.specs.Prelude.{IsSome, IfOk, OnOk, map, option_map};
 ghost use Rattle.olr_map.specs.Slotted.{present, at};
-ghost use Rattle.std.specs.List.Sorted.{IsStrictlyIncreasing};
 ghost use Rattle.std.specs.Vec.{vec_capacity};
 
 use crate::links::Links;
@@ -79,9 +78,8 @@ impl NodeSlots {
     ghost use Rattle.olr_map.specs.Slotted.{IsInserted, IsRemoved, IsReplaced};
     ghost use Rattle.olr_map.specs.Columns.{node_slots, node_room};
     ghost use Rattle.olr_map.specs.Slabs.{slots_of};
-    ghost use Rattle.olr_map.specs.NodeLinks.{links_at, IsRelinked};
+    ghost use Rattle.olr_map.specs.NodeLinks.{links_at, CanPutEnd, IsRelinked};
     ghost use Rattle.olr_map.specs.Linked.{lines_on, links_room, IsPut, IsRoomier};
-    ghost use Rattle.olr_spec.specs.Map.{has};
     ghost use Rattle.olr_map.specs.declared.slots.NodeEntry.{NodeEntry as Entry};
 
     /// No slots. Does not allocate.
@@ -212,10 +210,7 @@ impl NodeSlots {
 
     /// Sets the far end of a line on one side of the node in a slot, or removes the line, see `Links::put`.
     pub fn put_end(&mut self, side: Side, slot: u32, id: LineId, end: Option<LineEnd>)
-        requires { (e : Entry) × (at (node_slots self.old) slot ≡ Some e)
-            × IsStrictlyIncreasing (lines_on (links_at side e))
-            × (IsFalse (has (lines_on (links_at side e)) id)
-            → length (lines_on (links_at side e)) < links_room (links_at side e)) }
+        requires { CanPutEnd (node_slots self.old) side slot id }
         ensures turns { IsRelinked (node_slots self.old) (node_slots self.new) side slot (λ o n. IsPut o n id end) }
         ensures room { node_room self.new ≡ node_room self.old }
     {

@@ -1,5 +1,5 @@
 //! The numbers of a road map, and the changes of its tables.
-ghost use Rattle.std.specs.Prelude.{◌≡◌};
+ghost use Rattle.std.specs.Prelude.{◌≡◌, ◌+◌, IfOk};
 
 use crate::change::TableChange;
 use crate::links::{EmptyLinks, Links};
@@ -10,7 +10,7 @@ use olr_roads::{Line, LineEnd, LineId, MapRead, NodeId};
 use std::alloc::{AllocError, Global};
 
 impl RoadMap {
-    ghost use Rattle.std.specs.Prelude.{◌+◌, ◌<◌, ◌≤◌, ℕ, length, IfOk, OnOk, IsTrue, Some, flat_map, ◌↔◌};
+    ghost use Rattle.std.specs.Prelude.{◌<◌, ◌≤◌, ℕ, length, OnOk, IsTrue, Some, flat_map, ◌↔◌};
     ghost use Rattle.olr_map.specs.RoadMaps.{map_of, slot_of};
     ghost use Rattle.std.specs.Prelude.{map as list_map};
     ghost use Rattle.std.specs.FinMap.{entries};
@@ -20,9 +20,8 @@ impl RoadMap {
     ghost use Rattle.olr_map.specs.Tables.{lines_at};
     ghost use Rattle.olr_map.specs.Changes.{tables_map, room_of, room_at, node_puts, line_puts, IsReserved};
     ghost use Rattle.olr_map.specs.Changes.{HasNumbers, CanMake, IsChangeMade};
-    ghost use Rattle.olr_map.specs.declared.change.TableChange.TheVariants.{PutNode, MoveNode, TakeNode, PutLine};
-    ghost use Rattle.olr_map.specs.declared.change.TableChange.TheVariants.{SetLine};
-    ghost use Rattle.olr_map.specs.declared.change.TableChange.TheVariants.{TakeLine};
+    ghost use Rattle.olr_map.specs.declared.change.TableChange.TheVariants.{PutNode, MoveNode, TakeNode};
+    ghost use Rattle.olr_map.specs.declared.change.TableChange.TheVariants.{PutLine, SetLine, TakeLine};
 
     /// The numbers of the nodes, in ascending order. An error means that an allocation failed.
     pub fn node_ids(&self, alloc: Global) -> Result<Vec<NodeId>, AllocError>
@@ -79,10 +78,7 @@ impl RoadMap {
         ensures same { IsReserved self.old self.new }
         ensures room { OnOk result (owed + 1 ≤ spare_of self.new.index) }
     {
-        match owed.checked_add(1) {
-            Some(numbers) => self.index.reserve(numbers),
-            None => Err(AllocError),
-        }
+        self.index.reserve(one_more(owed)?)
     }
 
     /// Reserves capacity for one more line, in addition to `owed` lines that undo records may put back.
@@ -90,10 +86,7 @@ impl RoadMap {
         ensures same { IsReserved self.old self.new }
         ensures room { OnOk result (owed + 1 ≤ spare_numbers self.new.lines) }
     {
-        match owed.checked_add(1) {
-            Some(numbers) => self.lines.reserve(numbers),
-            None => Err(AllocError),
-        }
+        self.lines.reserve(one_more(owed)?)
     }
 
     /// Reserves capacity for one more node's entry.
@@ -148,14 +141,7 @@ impl RoadMap {
             outs,
             ins,
         } = entry;
-        let outs = outs.into_empty();
-        let ins = ins.into_empty();
-        TableChange::PutNode {
-            id,
-            place,
-            outs,
-            ins,
-        }
+        TableChange::PutNode(id, place, outs.into_empty(), ins.into_empty())
     }
 
     /// Moves the node in this slot to another coordinate, and returns the previous one.
@@ -206,6 +192,13 @@ impl RoadMap {
         self.nodes.put_end(Side::In, to, id, Some(begins));
         self.lines.replace(id.number(), line)
     }
+}
+
+/// A count and one more. An error if that is too many.
+fn one_more(count: usize) -> Result<usize, AllocError>
+    ensures { IfOk result (λ more. more ≡ count + 1) }
+{
+    count.checked_add(1).ok_or(AllocError)
 }
 
 /// The start of a line between these slots, as seen from its end, and its end, as seen from its start.

@@ -65,7 +65,7 @@ impl UndoLog {
         ensures lines { self.new.lines ≡ line_puts change + self.old.lines }
     {
         let (nodes, lines) = match &change {
-            TableChange::PutNode { .. } => (1, 0),
+            TableChange::PutNode(..) => (1, 0),
             TableChange::PutLine(..) => (0, 1),
             _ => (0, 0),
         };

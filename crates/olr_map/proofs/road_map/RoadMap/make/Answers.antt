@@ -1,4 +1,4 @@
-use Rattle.olr_map.proofs.Common.{common_steps, arith, edit_of, tables_map}
+use Rattle.olr_map.proofs.Common.{arith, edit_of, tables_map}
 use Rattle.olr_map.proofs.Log.{done_by}
 use Rattle.olr_map.proofs.Verdicts.{plan_slots, slots_reserved}
 use Rattle.olr_map.proofs.road_map.RoadMap.make.Goals as goal
@@ -7,13 +7,7 @@ pub returns-clause-done : goal.returns-clause-done
 returns-clause-done c =
     done_by (tables_map c.args.self.now) (tables_map c.make_room.new.self) _ (edit_of c.args.edit)
     c.change_for-change.result c.change_for-change.ensures.same c.make_room.ensures.same.map c.requires.accepted
-    c.make_change.ensures.made.map
+    c.make_change.ensures.made.changed.map
 
 pub make_change-requires : goal.make_change-requires
 make_change-requires c = grind (arith, plan_slots, slots_reserved)
-
-pub returns-clause-before : goal.returns-clause-before
-returns-clause-before c = grind (arith, common_steps)
-
-pub returns-clause-can_undo : goal.returns-clause-can_undo
-returns-clause-can_undo c = grind (arith, common_steps)

@@ -11,7 +11,7 @@ pub returns-clause-done : goal.returns-clause-done
 returns-clause-done c =
     done_by (tables_map c.args.self.now) (tables_map c.make_room.new.self) _ (edit_of c.args.edit)
     c.change_for-change.result c.change_for-change.ensures.same c.make_room.ensures.same.map
-    c.requires.plan.accepted c.make_change-back.ensures.made.map
+    c.requires.plan.accepted c.make_change-back.ensures.made.changed.map
 
 pub returns-clause-can_undo : goal.returns-clause-can_undo
 returns-clause-can_undo c =

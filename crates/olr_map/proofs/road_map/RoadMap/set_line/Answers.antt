@@ -1,29 +1,23 @@
-use Rattle.olr_map.proofs.Common.{tables_map, is_some, refl, ap, ◌∙◌, arith, node_slots, held, SetLine, Out, In}
-use Rattle.olr_map.proofs.Indexing.{relisted}
-use Rattle.olr_map.proofs.LineChanges.{LineMade, can_put_again, line_reset}
+use Rattle.olr_map.proofs.Common.{tables_map, ◌∙◌, arith, SetLine}
+use Rattle.olr_map.proofs.LineChanges.{LineMade, can_put_in, can_put_out, is_held, line_reset}
 use Rattle.olr_map.proofs.Making.{made_as}
-use Rattle.olr_map.proofs.Reading.{line_found}
 use Rattle.olr_map.proofs.road_map.RoadMap.set_line.Goals as goal
 
 pub put_end-requires : goal.put_end-requires
 put_end-requires c =
     let t = c.args.self.now in
-    can_put_again t (node_slots t.nodes) t.kept.indexed Out (λ k. refl) c.args.from c.args.id c.requires.begin
-    (made_as (tables_map t) (SetLine c.args.id c.args.line) c.requires.can.accepted).0
+    can_put_out t c.args.id c.args.from (made_as (tables_map t) (SetLine c.args.id c.args.line) c.requires.can.accepted).0 c.requires.begin
 
 pub put_end-requires-2 : goal.put_end-requires-2
 put_end-requires-2 c =
     let t = c.args.self.now in
-    let r =
-    relisted t.index (node_slots t.nodes) t.kept.indexed _ Out c.args.from _ c.put_end.ensures.turns c.requires.begin in
-    can_put_again t (node_slots c.put_end.new.self) r.indexed In (r.now In) c.args.to c.args.id c.requires.end
-    (made_as (tables_map t) (SetLine c.args.id c.args.line) c.requires.can.accepted).0
+    can_put_in t c.args.id c.args.from (made_as (tables_map t) (SetLine c.args.id c.args.line) c.requires.can.accepted).0 c.requires.begin
+    c.put_end.new.self c.args.to c.put_end.ensures.turns c.requires.end
 
 pub replace-requires : goal.replace-requires
 replace-requires c =
     let t = c.args.self.now in
-    let l = line_found t c.args.id (made_as (tables_map t) (SetLine c.args.id c.args.line) c.requires.can.accepted).0 in
-    ap (λ o. is_some o) (ap (held t.lines) c.number.ensures.same ∙ l.1)
+    is_held t c.args.id _ (made_as (tables_map t) (SetLine c.args.id c.args.line) c.requires.can.accepted).0 c.number.ensures.same
 
 all : (c : goal.After-replace) → LineMade c.args.self.now c.put_end-2.new.self c.replace.new.self
     (SetLine c.args.id c.args.line) (SetLine c.args.id c.replace.result)

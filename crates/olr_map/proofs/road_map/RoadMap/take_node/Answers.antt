@@ -8,14 +8,14 @@ take-slot-requires c =
     let s = slot_taken t c.args.id c.requires in
     ap (λ o. is_some o) (ap (slot_by t.index) c.number.ensures.same ∙ s.1)
 
-pub into_empty-outs-requires : goal.into_empty-outs-requires
-into_empty-outs-requires c =
+pub into_empty-requires : goal.into_empty-requires
+into_empty-requires c =
     taken_empty c.args.self.now c.take-slot.new.self c.take-entry.new.self c.take-slot.result _ c.args.id
     c.take-entry.result c.take-entry.ensures.removes c.number.ensures.same c.take-slot.ensures.was
     c.take-slot.ensures.taken c.requires Out
 
-pub into_empty-ins-requires : goal.into_empty-ins-requires
-into_empty-ins-requires c =
+pub into_empty-requires-2 : goal.into_empty-requires-2
+into_empty-requires-2 c =
     taken_empty c.args.self.now c.take-slot.new.self c.take-entry.new.self c.take-slot.result _ c.args.id
     c.take-entry.result c.take-entry.ensures.removes c.number.ensures.same c.take-slot.ensures.was
     c.take-slot.ensures.taken c.requires In
@@ -33,5 +33,5 @@ returns-clause-made c =
     take_node_made c.args.self.now c.take-slot.new.self c.take-entry.new.self c.take-slot.result _ c.args.id
     c.take-entry.result c.take-entry.ensures.removes c.number.ensures.same c.take-slot.ensures.was
     c.take-slot.ensures.taken c.requires _ c.take-entry.ensures.room c.take-slot.ensures.spare _ _
-    c.into_empty-outs.ensures.lines c.into_empty-ins.ensures.lines c.into_empty-outs.ensures.room
-    c.into_empty-ins.ensures.room
+    c.into_empty.ensures.lines c.into_empty-2.ensures.lines c.into_empty.ensures.room
+    c.into_empty-2.ensures.room
