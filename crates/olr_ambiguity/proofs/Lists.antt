@@ -39,8 +39,10 @@ line_known : (M : Map) (s : Side) (w y : ℕ) → has (lines_on s M w) y ≡ tru
 line_known M Outgoing w y h = ap is_some ((exactly_out M w y).0 h).1.0
 line_known M Incoming w y h = ap is_some ((exactly_in M w y).0 h).1.0
 
-pub lines_known : (M : Map) (s : Side) (w : ℕ) → All (λ y. IsTrue (has_line M y)) (lines_on s M w)
-lines_known M s w = λ k d lt. line_known M s w _ (has_from (lines_on s M w) _ (Contains-get_or (lines_on s M w) k d lt))
+pub lines_known : (M : Map) (s : Side) (w : ℕ) (ys : List ℕ) → ys ≡ lines_on s M w → All (λ y. IsTrue (has_line M y)) ys
+lines_known M s w ys is =
+    subst (λ (zs : List ℕ). All (λ y. IsTrue (has_line M y)) zs) (sym is)
+    (λ k d lt. line_known M s w _ (has_from (lines_on s M w) _ (Contains-get_or (lines_on s M w) k d lt)))
 
 place_there : (M : Map) (s : Side) (y w : ℕ) → node_on s (leg M y) ≡ w → coordinate_on s (leg M y) ≡ coord_at M w
 place_there M Outgoing y w e = ap (coord_at M) e

@@ -4,8 +4,8 @@ ghost use Rattle.std.specs.List.{All};
 ghost use Rattle.olr_spec.specs.Map.{has_line};
 ghost use Rattle.olr_spec.specs.Reference.{Reference};
 ghost use Rattle.olr_spec.specs.Receiver.{last_number};
-ghost use Rattle.olr_spec.specs.Ambiguity.{Other_bearing, Other_node, Same_sector, is_twin_of, is_unclear, obstacles, obstacles_at, side_at};
-ghost use Rattle.olr_ambiguity.specs.Found.{found_of};
+ghost use Rattle.olr_spec.specs.Ambiguity.{Other_node, obstacles, obstacles_at, side_at};
+ghost use Rattle.olr_ambiguity.specs.Found.{applies, found_of, named};
 ghost use Rattle.olr_ambiguity.specs.Grids.{IsGrid};
 ghost use Rattle.olr_ambiguity.specs.OwnLines.{IsOwnLine, side_of};
 ghost use Rattle.olr_ambiguity.specs.Places.{place_of};
@@ -38,49 +38,36 @@ pub struct Found {
     pub obstacle: Obstacle,
 }
 
-/// Appends the twins among these candidates.
-fn push_twins<M: MapRead>(
-    found: &mut Vec<Found>,
-    map: &M,
-    own: &OwnLine,
-    lrp: usize,
-    lines: &[LineId],
-) -> Result<(), AllocError>
-    requires own { IsOwnLine (M.map map.now) own.now }
-    requires known { All (λ y. IsTrue (has_line (M.map map.now) y)) lines.now }
-    ensures { OnOk result (list_map found_of found.new.items ≡ list_map found_of found.old.items
-        ++ list_map (λ y. (lrp, Same_sector y)) (filter (is_twin_of (M.map map.now) (side_of own.now.side) own.now.id) lines.now)) }
-{
-    for line in lines {
-        if is_twin_of(map, own, *line) {
-            found.push(Found {
-                lrp,
-                obstacle: Obstacle::SameSector(*line),
-            })?;
-        }
-    }
-    Ok(())
+/// Why a candidate at the node of the path's own line stands in the way.
+#[derive(Clone, Copy)]
+pub(crate) enum Cause {
+    /// It is a twin of the own line.
+    Twin,
+    /// It is unclear by its direction.
+    Unclear,
 }
 
-/// Appends the candidates among these that are unclear by their directions.
-fn push_unclear<M: MapRead>(
+/// Appends the candidates among these that stand in the way for this cause.
+fn push_lines<M: MapRead>(
     found: &mut Vec<Found>,
     map: &M,
     own: &OwnLine,
     lrp: usize,
     lines: &[LineId],
+    cause: Cause,
 ) -> Result<(), AllocError>
     requires own { IsOwnLine (M.map map.now) own.now }
     requires known { All (λ y. IsTrue (has_line (M.map map.now) y)) lines.now }
-    ensures { OnOk result (list_map found_of found.new.items ≡ list_map found_of found.old.items
-        ++ list_map (λ y. (lrp, Other_bearing y)) (filter (is_unclear (M.map map.now) (side_of own.now.side) own.now.id) lines.now)) }
+    ensures { OnOk result (list_map found_of found.new.items ≡ list_map found_of found.old.items ++ list_map (λ y. (lrp, named cause y))
+        (filter (applies cause (M.map map.now) (side_of own.now.side) own.now.id) lines.now)) }
 {
     for line in lines {
-        if is_unclear(map, own, *line) {
-            found.push(Found {
-                lrp,
-                obstacle: Obstacle::OtherBearing(*line),
-            })?;
+        let (applies, obstacle) = match cause {
+            Cause::Twin => (is_twin_of(map, own, *line), Obstacle::SameSector(*line)),
+            Cause::Unclear => (is_unclear(map, own, *line), Obstacle::OtherBearing(*line)),
+        };
+        if applies {
+            found.push(Found { lrp, obstacle })?;
         }
     }
     Ok(())
@@ -127,8 +114,8 @@ fn push_at<M: MapRead>(
         ++ list_map (λ o. (lrp, o)) (obstacles_at (M.map map.now) (side_of own.now.side) (place_of own.now.place) own.now.id)) }
 {
     let lines = lines_on(map, own.side, own.node);
-    push_twins(found, map, own, lrp, lines)?;
-    push_unclear(found, map, own, lrp, lines)?;
+    push_lines(found, map, own, lrp, lines, Cause::Twin)?;
+    push_lines(found, map, own, lrp, lines, Cause::Unclear)?;
     let nodes = rivals(alloc, map, grid, own)?;
     push_nodes(found, lrp, nodes.as_slice())?;
     Ok(())

@@ -1,5 +1,5 @@
 //! The path's own line at an LRP, and the candidates beside it.
-ghost use Rattle.std.specs.Prelude.{◌≡◌, ◌<◌, IsTrue};
+ghost use Rattle.std.specs.Prelude.{◌≡◌, ◌<◌, All, IsTrue};
 ghost use Rattle.olr_spec.specs.Map.{coord_at, has_line, has_node, is_good, line_at};
 ghost use Rattle.olr_spec.specs.Reference.{leg};
 ghost use Rattle.olr_spec.specs.Receiver.{are_twins, coordinate_on, node_on, sector_on};
@@ -135,7 +135,8 @@ fn sector_on<M: MapRead>(map: &M, side: Side, id: LineId) -> u8
 
 /// The candidates at a node, in ascending order.
 pub(crate) fn lines_on<M: MapRead>(map: &M, side: Side, node: NodeId) -> &[LineId]
-    ensures { result.now ≡ lines_on (side_of side) (M.map map.now) node }
+    ensures value { result.now ≡ lines_on (side_of side) (M.map map.now) node }
+    ensures known { All (λ y. IsTrue (has_line (M.map map.now) y)) result.now }
 {
     match side {
         Side::Outgoing => map.out_lines(node),

@@ -1,22 +1,10 @@
-use Rattle.olr_spec.proofs.Common.{◌≡◌, ◌∙◌, List, ℕ, All, IsTrue, sym, ap, subst, has_line, filter, map, leg, node_on, ◌++◌}
+use Rattle.olr_spec.proofs.Common.{◌≡◌, ◌∙◌, List, ℕ, ap, filter, map, leg, node_on, ◌++◌}
 use Rattle.olr_spec.specs.Ambiguity.{Other_bearing, Other_node, Same_sector, all_nodes, is_rival, is_twin_of, is_unclear, lines_on}
 use Rattle.olr_ambiguity.specs.Places.{place_of}
 use Rattle.olr_ambiguity.specs.Found.{found_of}
 use Rattle.olr_ambiguity.specs.OwnLines.{side_of}
-use Rattle.olr_ambiguity.proofs.Lists.{lines_known, joined_at, each}
+use Rattle.olr_ambiguity.proofs.Lists.{joined_at, each}
 use Rattle.olr_ambiguity.proofs.finding.push_at.Goals as goal
-
-pub push_twins-requires-clause-known : goal.push_twins-requires-clause-known
-push_twins-requires-clause-known g c =
-    let M = g.M.MapRead.map c.args.map.now in
-    subst (λ (ys : List ℕ). All (λ y. IsTrue (has_line M y)) ys) (sym c.lines_on-lines.ensures)
-    (lines_known M (side_of c.args.own.now.side) c.args.own.now.node)
-
-pub push_unclear-requires-clause-known : goal.push_unclear-requires-clause-known
-push_unclear-requires-clause-known g c =
-    let M = g.M.MapRead.map c.args.map.now in
-    subst (λ (ys : List ℕ). All (λ y. IsTrue (has_line M y)) ys) (sym c.lines_on-lines.ensures)
-    (lines_known M (side_of c.args.own.now.side) c.args.own.now.node)
 
 pub returns : goal.returns
 returns g c =
@@ -25,12 +13,12 @@ returns g c =
     let s = side_of o.side in
     let k = c.args.lrp in
     let lines_are : c.lines_on-lines.result.now ≡ lines_on s M (node_on s (leg M o.id)) =
-    c.lines_on-lines.ensures ∙ ap (lines_on s M) c.requires.own.node_is in
+    c.lines_on-lines.ensures.value ∙ ap (lines_on s M) c.requires.own.node_is in
     let nodes_are = c.as_slice.ensures.same ∙ c.in_ok-nodes.ensures in
-    joined_at k (map found_of c.args.found.now.items) (map found_of c.push_twins.new.found.items)
-    (map found_of c.push_unclear.new.found.items) (map found_of c.push_nodes.new.found.items)
+    joined_at k (map found_of c.args.found.now.items) (map found_of c.push_lines.new.found.items)
+    (map found_of c.push_lines-2.new.found.items) (map found_of c.push_nodes.new.found.items)
     (filter (is_twin_of M s o.id) (lines_on s M (node_on s (leg M o.id)))) (filter (is_unclear M s o.id) (lines_on s M (node_on s (leg M o.id))))
     (filter (is_rival M s (place_of o.place) o.id) (all_nodes M))
-    (c.in_ok-push_twins.ensures ∙ ap (λ (ys : List ℕ). map found_of c.args.found.now.items ++ each k (λ y. Same_sector y) (filter (is_twin_of M s o.id) ys)) lines_are)
-    (c.in_ok-push_unclear.ensures ∙ ap (λ (ys : List ℕ). map found_of c.push_twins.new.found.items ++ each k (λ y. Other_bearing y) (filter (is_unclear M s o.id) ys)) lines_are)
-    (c.in_ok-push_nodes.ensures ∙ ap (λ (vs : List ℕ). map found_of c.push_unclear.new.found.items ++ each k (λ v. Other_node v) vs) nodes_are)
+    (c.in_ok-push_lines.ensures ∙ ap (λ (ys : List ℕ). map found_of c.args.found.now.items ++ each k (λ y. Same_sector y) (filter (is_twin_of M s o.id) ys)) lines_are)
+    (c.in_ok-push_lines-2.ensures ∙ ap (λ (ys : List ℕ). map found_of c.push_lines.new.found.items ++ each k (λ y. Other_bearing y) (filter (is_unclear M s o.id) ys)) lines_are)
+    (c.in_ok-push_nodes.ensures ∙ ap (λ (vs : List ℕ). map found_of c.push_lines-2.new.found.items ++ each k (λ v. Other_node v) vs) nodes_are)

@@ -1,9 +1,9 @@
-use Rattle.olr_spec.proofs.Common.{◌≢◌, ◌==◌, ◌∙◌, List, ℕ, All, IsTrue, not, sym, ap, subst, eq-eqb, eqb-true, both_ways, has_line, leg}
+use Rattle.olr_spec.proofs.Common.{◌≢◌, ◌==◌, ◌∙◌, List, ℕ, not, sym, ap, eq-eqb, eqb-true, both_ways, leg}
 use Rattle.std.specs.List.{list_any}
 use Rattle.olr_spec.specs.Ambiguity.{is_farther, usual_slack, is_outdone_for_all}
 use Rattle.olr_ambiguity.specs.OwnLines.{side_of}
 use Rattle.olr_ambiguity.specs.Places.{place_of}
-use Rattle.olr_ambiguity.proofs.Lists.{not_itself, by_lines, not_far, lines_known}
+use Rattle.olr_ambiguity.proofs.Lists.{not_itself, by_lines, not_far}
 use Rattle.olr_ambiguity.proofs.rivals.is_rival.Goals.{then-eq-via-then-eq, then-eq-via-else-eq+then-is_farther}
 use Rattle.olr_ambiguity.proofs.rivals.is_rival.Goals as goal
 
@@ -20,12 +20,6 @@ returns-then-eq g c =
           (sym (w.if-is_farther.ensures ∙ (λ i. is_farther usual_slack (place_of o.place) (own.here_is i) (c.requires.place i)))))
     ]
 
-pub has_rival-requires-clause-known : goal.has_rival-requires-clause-known
-has_rival-requires-clause-known g c =
-    let M = g.M.MapRead.map c.args.map.now in
-    subst (λ (ys : List ℕ). All (λ y. IsTrue (has_line M y)) ys) (sym c.lines_on.ensures)
-    (lines_known M (side_of c.args.own.now.side) c.args.node)
-
 pub returns : goal.returns
 returns g c =
     let M = g.M.MapRead.map c.args.map.now in
@@ -34,5 +28,5 @@ returns g c =
     let p = place_of o.place in
     let other : c.args.node ≢ o.node = λ e. both_ways (c.args.node == o.node) (sym c.if-eq.ensures) (eq-eqb _ _ e) in
     c.has_rival.ensures
-    ∙ ap (λ (ys : List ℕ). list_any (λ y. not (is_outdone_for_all s p (leg M o.id) (leg M y))) ys) c.lines_on.ensures
+    ∙ ap (λ (ys : List ℕ). list_any (λ y. not (is_outdone_for_all s p (leg M o.id) (leg M y))) ys) c.lines_on.ensures.value
     ∙ sym (by_lines M s p o.id c.args.node (λ e. other (e ∙ sym c.requires.own.node_is)))

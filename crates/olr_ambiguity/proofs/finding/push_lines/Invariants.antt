@@ -1,0 +1,10 @@
+use Rattle.olr_spec.proofs.Common.{◌≡◌, ◌++◌, map, filter, take}
+use Rattle.olr_ambiguity.specs.Found.{applies, found_of, named}
+use Rattle.olr_ambiguity.specs.OwnLines.{side_of}
+use Rattle.olr_ambiguity.proofs.finding.push_lines.Given as goal
+
+-- those of the lines so far
+abbrev pub invariant-loop-line : goal.invariant-loop-line
+invariant-loop-line g l =
+    map found_of l.found.items ≡ map found_of l.initial.found.items ++ map (λ y. (l.lrp, named l.cause y))
+    (filter (applies l.cause (g.M.MapRead.map l.map) (side_of l.own.side) l.own.id) (take l.line-index l.lines))
