@@ -1,7 +1,6 @@
 //! Encoding a path for the list.
-ghost use Rattle.std.specs.Prelude.{◌≡◌, IfOk, option_map, string_bytes};
+ghost use Rattle.std.specs.Prelude.{◌≡◌, IsTrue, IfOk, option_map, string_bytes};
 ghost use Rattle.std.specs.Result.{result_ok};
-ghost use Rattle.std.specs.Prelude.{IsTrue};
 ghost use Rattle.olr_spec.specs.Extension.{is_path};
 ghost use Rattle.olr_spec.specs.Queries.{AreKnown};
 ghost use Rattle.olr_answers.specs.Answers.{answer_of};

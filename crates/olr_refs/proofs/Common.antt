@@ -4,7 +4,7 @@ pub use Rattle.olr_refs.specs.Along.{AreDistances, DistancesTo, IsFar, IsLastWit
 pub use Rattle.olr_refs.specs.Choice.{AreSearched, CountOf, ForPoints, Notes, SeenBy, SettledBy, searches_of}
 pub use Rattle.olr_refs.specs.Extends.{Extends}
 pub use Rattle.olr_refs.specs.Fields.{lowest_class, middle_points_of}
-pub use Rattle.olr_refs.specs.KeptPoints.{AreAlong, AreLinked, ArePoints, AreTrimmed, IsFirstKept, IsLastKept}
+pub use Rattle.olr_refs.specs.KeptPoints.{AreAlong, AreKept, AreLinked, ArePoints, AreTrimmed, IsFirstKept, IsLastKept}
 pub use Rattle.olr_refs.specs.KeptPoints.{distance_at, later, whole_distance}
 pub use Rattle.olr_refs.specs.ResolvedLines.{AreRecords, ids, records_of}
 pub use Rattle.olr_refs.specs.Reuse.{Asks, AsksAfter, AsksOf, Reuses, Searched, known_reach}

@@ -1,7 +1,7 @@
 -- A path's own lines at its LRPs are on the map, one for each LRP of its reference.
 use Rattle.olr_refs.proofs.Common.{◌≡◌, ◌<◌, ◌≤◌, ◌-◌, ◌+◌, ℕ, suc, List, [], ◌∷◌, ◌++◌, length, take, refl, sym, ap, ◌∙◌}
 use Rattle.olr_refs.proofs.Common.{subst, arith, slice_index, map, None, IsTrue, Map, IsMap, has_line, Path, is_path}
-use Rattle.olr_refs.proofs.Common.{extended_path, Each, has_index, Linked, AreLinked, Encodes, legs, kept_points}
+use Rattle.olr_refs.proofs.Common.{extended_path, Each, has_index, Linked, Encodes, legs, kept_points}
 use Rattle.olr_refs.proofs.Common.{Reference, extended_sound, path_fault, Encoding}
 use native.Mathlib.Numerals.{unary_clauses}
 use Rattle.std.specs.List.{All}
@@ -23,18 +23,6 @@ own_by ls [] some = absurd (omega arith)
 own_by ls (i ∷ []) some = refl
 own_by ls (i ∷ j ∷ ks) some =
     simp unary_clauses (ap (λ (xs : List ℕ). slice_index ls i ∷ xs) (simp unary_clauses at (own_by ls (j ∷ ks) (omega arith))))
-
--- the last of at least two is the end of a line
-pub last_within : (M : Map) (ls ks : List ℕ) → AreLinked M ls ks → 2 ≤ length ks →
-    (0 < slice_index ks (length ks - 1)) × (slice_index ks (length ks - 1) ≤ length ls)
-last_within M ls ks linked two =
-    let c = linked (length ks - 1 - 1) (omega arith) in
-    let order = c.after in
-    let upto = c.upto in
-    let at : length ks - 1 - 1 + 1 ≡ length ks - 1 = omega arith in
-    let both : (0 < slice_index ks (length ks - 1 - 1 + 1)) × (slice_index ks (length ks - 1 - 1 + 1) ≤ length ls) =
-    (omega arith, upto) in
-    subst (λ (n : ℕ). (0 < slice_index ks n) × (slice_index ks n ≤ length ls)) at both
 
 own_count : (ls ks : List ℕ) → length (own_lines ls ks) ≡ length ks
 own_count ls [] = refl

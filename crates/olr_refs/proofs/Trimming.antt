@@ -7,7 +7,7 @@ use Rattle.olr_refs.proofs.Common.{AreDistances, later, distance_at, whole_dista
 use Rattle.olr_refs.proofs.Common.{lt-leb, get_or-take, get_or-drop, AllPairs-from_increasing, filter, dm_along}
 use Rattle.olr_refs.proofs.Common.{from_front, to_back, last_where, first_where, first_kept, last_kept, kept_points}
 use Rattle.olr_refs.proofs.Common.{Linked, follow_linked, between, kept_linked, from_front-add, AreAlong, ArePoints}
-use Rattle.olr_refs.proofs.Common.{AreLinked, AreTrimmed, IsFirstKept, IsLastKept}
+use Rattle.olr_refs.proofs.Common.{AreKept, AreLinked, AreTrimmed, IsFirstKept, IsLastKept}
 use Rattle.olr_spec.proofs.KeptLemmas.{dm_along-legs, whole}
 use Rattle.olr_refs.proofs.Stretches.{distances_rise}
 
@@ -87,8 +87,7 @@ first_where_at p d (x ∷ xs) (suc a) h t f =
 -- the remaining LRPs, and the remainders of the offsets, give the reference
 pub record IsCut (M : Map) (ls ds ps : List ℕ) (positive negative : ℕ) (ks : List ℕ) (pos_left neg_left : ℕ) : Type
     0 where
-  pub two : 2 ≤ length ks
-  pub linked : AreLinked M ls ks
+  pub are : AreKept M ls ks
   pub pos_within : pos_left < dm_between (legs M ls) (slice_index ks 0) (slice_index ks 1)
   pub neg_within : neg_left < dm_between (legs M ls) (slice_index ks (length ks - 1 - 1)) (slice_index ks (length ks - 1))
   pub kept : ks ≡ kept_points (legs M ls) positive negative (later ps)
@@ -198,8 +197,7 @@ module _ (M : Map) (ls ds ps : List ℕ) (d : AreDistances M ls ds) (p : ArePoin
       let last_leg = leg_is _ _ (linked_end M ls ks linked (omega arith)) in
       let last_at = at (length ks - 1) b (omega arith) (omega arith) in
       record {
-        two = omega arith;
-        linked = linked;
+        are = record { linked = linked; two = omega arith };
         pos_within = omega (arith, r.pos_cut, at 0 a (omega arith) (omega arith), at 1 (a + 1) refl (omega arith));
         neg_within = omega (arith, r.neg_cut, at (length ks - 1 - 1) (b - 1) (omega arith) (omega arith));
         kept = kept_is;

@@ -2,6 +2,7 @@
 --     later ps      the LRPs after the first
 --     ArePoints M ls ps      ps are position 0 and the LRPs after it, which lead to the end
 --     AreLinked M ls ps      each of ps but the first may follow the one before it
+--     AreKept M ls ps      and they are at least two
 --     AreAlong ds ps      their distances ascend from 0 to that of the end; ds are the distances of all positions
 --     IsFirstKept ds ps positive k      LRP k is the last that is at most the positive offset from the start
 --     IsLastKept ds ps negative k      LRP k is the first that is at most the negative offset from the end
@@ -22,6 +23,10 @@ pub record ArePoints (M : Map) (ls ps : List ℕ) : Type 0 where
 
 abbrev pub AreLinked : Map → List ℕ → List ℕ → Type 0
 AreLinked M ls ps = (k : ℕ) → k + 1 < length ps → Candidate M ls (slice_index ps k) (slice_index ps (k + 1))
+
+pub record AreKept (M : Map) (ls ps : List ℕ) : Type 0 where
+  pub linked : AreLinked M ls ps
+  pub two : 2 ≤ length ps
 
 -- the distance of LRP k, by the distances of all positions
 abbrev pub distance_at : List ℕ → List ℕ → ℕ → ℕ

@@ -4,18 +4,24 @@
 --     OwnLinesAlong M E js A xs      xs are the own lines of the extended path E at the LRPs of its answer; none if it has
 --         no reference
 --     AnsweredAlong M E js A xs      A is the answer of the extended path by these LRPs, and xs are these lines
-use Rattle.std.specs.Prelude.{◌≡◌, ℕ, List, [], ◌∷◌, MatchOption, ⊤}
+--     IsEncoding M P e      e is the encoding of the path: its answer, the own lines at its LRPs, the traversed nodes and the
+--         coverage queries; it counts as one, and its searches settle at most the footprint for each query
+use Rattle.std.specs.Prelude.{◌≡◌, ℕ, ◌*◌, ◌≤◌, ◌↔◌, List, [], ◌∷◌, length, Contains, MatchOption, ⊤}
 use Rattle.olr_spec.specs.Map.{Map}
 use Rattle.olr_spec.specs.Extension.{Path}
 use Rattle.olr_spec.specs.Points.{OfPath}
-use Rattle.olr_spec.specs.Encoding.{path_fault, answer_by_points}
+use Rattle.olr_spec.specs.Encoding.{path_fault, answer_by_points, Encodes}
 use Rattle.olr_spec.specs.Encoding as spec
 use Rattle.olr_spec.specs.Reference.{legs, kept_points}
-use Rattle.olr_spec.specs.Recovery.{own_lines}
+use Rattle.olr_spec.specs.Recovery.{own_lines, OwnLinesOf}
 use Rattle.olr_spec.specs.Joins.{Joined}
+use Rattle.olr_spec.specs.Footprint.{Foot}
+use Rattle.olr_spec.specs.Queries.{TraversedOf, QueriesOf, KnownOf}
+use Rattle.olr_answers.specs.Answers.{answer_of}
 use Rattle.olr_answers.specs.declared.answer.Answer.{Answer}
 use Rattle.olr_answers.specs.declared.answer.Answer.TheVariants.{Points, Refused}
 use Rattle.olr_refs.specs.Choice.{searches_of}
+use Rattle.olr_refs.specs.declared.encoding.Encoding.{Encoding}
 
 abbrev pub JoinsOf : Map → Path → Answer → Type 0
 JoinsOf M P (Refused f) = ⊤
@@ -31,3 +37,13 @@ OwnLinesAlong M E js (spec.Refused refusal) xs = xs ≡ []
 pub record AnsweredAlong (M : Map) (E : Path) (js : List ℕ) (A : spec.Answer) (xs : List ℕ) : Type 0 where
   pub answer : A ≡ answer_by_points M E js
   pub own : OwnLinesAlong M E js A xs
+
+pub record IsEncoding (M : Map) (P : Path) (e : Encoding) : Type 0 where
+  pub answer : Encodes M P (answer_of e.answer)
+  pub joins : JoinsOf M P e.answer
+  pub own : OwnLinesOf M P (answer_of e.answer) e.own.items
+  pub traversed : (v : ℕ) → Contains e.traversed v ↔ TraversedOf M P v
+  pub queries : QueriesOf M P e.queries.items
+  pub known : KnownOf M P e.known.items
+  pub encodings : e.work.encodings ≡ 1
+  pub settled : (all : List ℕ) → ((v : ℕ) → Foot M P v → Contains all v) → e.work.settled ≤ length e.queries.items * length all

@@ -1,6 +1,7 @@
 -- Coverage queries that are not searched again.
 --     Reuses M ls lead own known      the lines ls are lead lines, the path's own lines and others; the known queries are
 --         right along the path's own lines, and in ascending order
+--     IsReuse M ls r      the same of a value
 --     known_reach lead far e      how far the positions are covered and near enough, by a known query
 --     Asks M ls lead own given is queries known work seen noted      queries are the coverage queries of the LRPs is,
 --         known are those of them that are along the path's own lines, and those that are not among the given ones are
@@ -22,6 +23,7 @@ use Rattle.olr_search.specs.declared.work.Work.{Work}
 use Rattle.olr_refs.specs.Along.{IsReach}
 use Rattle.olr_refs.specs.Choice.{AreSearched, SeenBy, Notes}
 use Rattle.olr_refs.specs.declared.chosen.Queries.{Queries}
+use Rattle.olr_refs.specs.declared.reuse.Reuse.{Reuse}
 
 pub record Reuses (M : Map) (ls : List ℕ) (lead own : ℕ) (known : List KnownQuery) : Type 0 where
   pub before : List ℕ
@@ -32,6 +34,9 @@ pub record Reuses (M : Map) (ls : List ℕ) (lead own : ℕ) (known : List Known
   pub owns : length path ≡ own
   pub few : own ≤ 10000
   pub are : AreKnown M path known
+
+abbrev pub IsReuse : Map → List ℕ → Reuse → Type 0
+IsReuse M ls r = Reuses M ls r.lead r.own r.known.now
 
 -- the last position that is covered and near enough, where positions up to far are: the position before the query's last
 -- one if that isn't covered

@@ -5,7 +5,7 @@ ghost use Rattle.olr_search.specs.Searches.{IsSearch, LiesWithin, limit_of};
 ghost use Rattle.olr_refs.specs.Along.{IsFar, IsReach};
 ghost use Rattle.olr_refs.specs.Choice.{ForPoints, FoundFrom, IsChoice, Notes};
 ghost use Rattle.std.specs.Option.{option_to_list};
-ghost use Rattle.olr_refs.specs.Reuse.{Reuses, Asks, AsksAfter};
+ghost use Rattle.olr_refs.specs.Reuse.{IsReuse, Asks, AsksAfter};
 
 use crate::along::ResolvedPath;
 use crate::choice::{last_within_limit, next_of};
@@ -122,8 +122,7 @@ fn query_after<M: MapRead>(
     seen: &mut Option<Footprint>,
 ) -> Result<Found, AllocError>
     requires some { i + 2 < length resolved.now.lines.now }
-    requires reuse { Reuses (M.map resolved.now.map.now) resolved.now.lines.now reuse.now.lead reuse.now.own
-        reuse.now.known.now }
+    requires reuse { IsReuse (M.map resolved.now.map.now) resolved.now.lines.now reuse.now }
     ensures { IfOk result (λ r. IsReach (M.map resolved.now.map.now) resolved.now.lines.now i r.reach
         × Asks (M.map resolved.now.map.now) resolved.now.lines.now reuse.now.lead reuse.now.own reuse.now.known.now
         (i ∷ []) (r.query ∷ []) (option_to_list r.own) r.work seen.old seen.new) }
@@ -161,8 +160,7 @@ fn reach_of<M: MapRead>(
     seen: &mut Option<Footprint>,
 ) -> Result<usize, AllocError>
     requires some { i < length resolved.now.lines.now }
-    requires reuse { Reuses (M.map resolved.now.map.now) resolved.now.lines.now reuse.now.lead reuse.now.own
-        reuse.now.known.now }
+    requires reuse { IsReuse (M.map resolved.now.map.now) resolved.now.lines.now reuse.now }
     ensures { IfOk result (λ reach. IsReach (M.map resolved.now.map.now) resolved.now.lines.now i reach
         × AsksAfter (M.map resolved.now.map.now) resolved.now.lines.now reuse.now.lead reuse.now.own
         reuse.now.known.now i queries.old queries.new seen.old seen.new) }
@@ -192,8 +190,7 @@ pub fn points<M: MapRead>(
     search: &mut Dijkstra,
     seen: &mut Option<Footprint>,
 ) -> Result<Chosen, AllocError>
-    requires { Reuses (M.map resolved.now.map.now) resolved.now.lines.now reuse.now.lead reuse.now.own
-        reuse.now.known.now }
+    requires { IsReuse (M.map resolved.now.map.now) resolved.now.lines.now reuse.now }
     ensures choice { IfOk result (λ chosen. ForPoints (M.map resolved.now.map.now) resolved.now.lines.now
         (λ js. IsChoice resolved.now.lines.now js chosen.choice)) }
     ensures asks { IfOk result (λ chosen. ForPoints (M.map resolved.now.map.now) resolved.now.lines.now

@@ -1,19 +1,15 @@
 //! The encoding of a path on a map.
-ghost use Rattle.std.specs.Prelude.{◌≡◌, ℕ, List, ◌+◌, ◌*◌, ◌<◌, ◌≤◌, ◌↔◌, ◌∷◌, IsTrue, IfOk, OnOk, None};
-ghost use Rattle.std.specs.Prelude.{Contains, length};
+ghost use Rattle.std.specs.Prelude.{◌≡◌, List, ◌+◌, ◌<◌, ◌∷◌, IsTrue, IfOk, OnOk, None, length};
 ghost use Rattle.olr_spec.specs.Extension.{is_path, AreJoined};
-ghost use Rattle.olr_spec.specs.Encoding.{path_fault, Encoding as EncodingRecord, Encodes};
-ghost use Rattle.olr_spec.specs.Footprint.{Foot};
-ghost use Rattle.olr_spec.specs.Queries.{QueriesOf, TraversedOf, TraversedOfExtended, AreKnown, KnownOf, SearchedOf};
-ghost use Rattle.olr_spec.specs.Queries.{CoverageQuery as QueryRecord};
+ghost use Rattle.olr_spec.specs.Encoding.{path_fault};
+ghost use Rattle.olr_spec.specs.Queries.{AreKnown, SearchedOf, CoverageQuery as QueryRecord};
 ghost use Rattle.olr_answers.specs.Answers.{answer_of};
 ghost use Rattle.olr_spec.specs.Routes.{dm_of};
 ghost use Rattle.olr_refs.specs.Choice.{ForPoints, IsChoice, Notes, SeenBy, SettledBy};
 ghost use Rattle.olr_search.specs.Counts.{saturated_count};
-ghost use Rattle.olr_spec.specs.Recovery.{OwnLinesOf};
-ghost use Rattle.olr_refs.specs.Referring.{AnsweredAlong, JoinsOf};
+ghost use Rattle.olr_refs.specs.Referring.{AnsweredAlong, IsEncoding};
 ghost use Rattle.olr_refs.specs.ResolvedLines.{records_of};
-ghost use Rattle.olr_refs.specs.Reuse.{Reuses, Asks, AsksOf, Searched};
+ghost use Rattle.olr_refs.specs.Reuse.{IsReuse, Asks, AsksOf, Searched};
 
 use crate::along::{ResolvedPath, distances};
 use crate::chosen::{Choice, Chosen, Queries, points};
@@ -56,17 +52,9 @@ pub fn encode<M: MapRead>(
     path: &Path,
     search: &mut Dijkstra,
 ) -> Result<Encoding, AllocError>
-    ensures answer { IfOk result (λ e. Encodes (M.map map.now) path.now (answer_of e.answer)) }
-    ensures joins { IfOk result (λ e. JoinsOf (M.map map.now) path.now e.answer) }
-    ensures own { IfOk result (λ e. OwnLinesOf (M.map map.now) path.now (answer_of e.answer) e.own.items) }
-    ensures traversed { IfOk result (λ e. (v : ℕ) → Contains e.traversed v ↔ TraversedOf (M.map map.now) path.now v) }
-    ensures queries { IfOk result (λ e. QueriesOf (M.map map.now) path.now e.queries.items) }
-    ensures known { IfOk result (λ e. KnownOf (M.map map.now) path.now e.known.items) }
+    ensures encoding { IfOk result (IsEncoding (M.map map.now) path.now) }
     ensures path { IsTrue (is_path path.now.lines) }
-    ensures encodings { IfOk result (λ e. e.work.encodings ≡ 1) }
     ensures searches { IfOk result (λ e. e.work.searches ≡ saturated_count (length e.queries.items)) }
-    ensures settled { IfOk result (λ e. (all : List ℕ) → ((v : ℕ) → Foot (M.map map.now) path.now v → Contains all v)
-        → e.work.settled ≤ length e.queries.items * length all) }
     ensures settled_exactly { IfOk result (λ e. SettledBy (M.map map.now) e.queries.items 0 e.work.settled) }
 {
     encode_again(alloc, map, path, &[], search)
@@ -85,17 +73,9 @@ pub fn encode_again<M: MapRead>(
     search: &mut Dijkstra,
 ) -> Result<Encoding, AllocError>
     requires { AreKnown (M.map map.now) path.now.lines known.now }
-    ensures answer { IfOk result (λ e. Encodes (M.map map.now) path.now (answer_of e.answer)) }
-    ensures joins { IfOk result (λ e. JoinsOf (M.map map.now) path.now e.answer) }
-    ensures own { IfOk result (λ e. OwnLinesOf (M.map map.now) path.now (answer_of e.answer) e.own.items) }
-    ensures traversed { IfOk result (λ e. (v : ℕ) → Contains e.traversed v ↔ TraversedOf (M.map map.now) path.now v) }
-    ensures queries { IfOk result (λ e. QueriesOf (M.map map.now) path.now e.queries.items) }
-    ensures known { IfOk result (λ e. KnownOf (M.map map.now) path.now e.known.items) }
+    ensures encoding { IfOk result (IsEncoding (M.map map.now) path.now) }
     ensures path { IsTrue (is_path path.now.lines) }
-    ensures encodings { IfOk result (λ e. e.work.encodings ≡ 1) }
     ensures searched { IfOk result (λ e. Searched (M.map map.now) path.now known.now e.work) }
-    ensures settled { IfOk result (λ e. (all : List ℕ) → ((v : ℕ) → Foot (M.map map.now) path.now v → Contains all v)
-        → e.work.settled ≤ length e.queries.items * length all) }
 {
     let mut seen = None;
     encode_noting(alloc, map, path, known, search, &mut seen)
@@ -115,17 +95,9 @@ pub fn encode_noting<M: MapRead>(
     seen: &mut Option<Footprint>,
 ) -> Result<Encoding, AllocError>
     requires { AreKnown (M.map map.now) path.now.lines known.now }
-    ensures answer { IfOk result (λ e. Encodes (M.map map.now) path.now (answer_of e.answer)) }
-    ensures joins { IfOk result (λ e. JoinsOf (M.map map.now) path.now e.answer) }
-    ensures own { IfOk result (λ e. OwnLinesOf (M.map map.now) path.now (answer_of e.answer) e.own.items) }
-    ensures traversed { IfOk result (λ e. (v : ℕ) → Contains e.traversed v ↔ TraversedOf (M.map map.now) path.now v) }
-    ensures queries { IfOk result (λ e. QueriesOf (M.map map.now) path.now e.queries.items) }
-    ensures known { IfOk result (λ e. KnownOf (M.map map.now) path.now e.known.items) }
+    ensures encoding { IfOk result (IsEncoding (M.map map.now) path.now) }
     ensures path { IsTrue (is_path path.now.lines) }
-    ensures encodings { IfOk result (λ e. e.work.encodings ≡ 1) }
     ensures searched { IfOk result (λ e. Searched (M.map map.now) path.now known.now e.work) }
-    ensures settled { IfOk result (λ e. (all : List ℕ) → ((v : ℕ) → Foot (M.map map.now) path.now v → Contains all v)
-        → e.work.settled ≤ length e.queries.items * length all) }
     ensures seen { OnOk result ((queries : List QueryRecord) × SearchedOf (M.map map.now) path.now known.now queries
         × Notes (SeenBy (M.map map.now) queries) seen.old seen.new) }
 {
@@ -159,12 +131,7 @@ fn encode_whole<M: MapRead>(
     requires sound { path_fault (M.map map.now) path.now ≡ None }
     requires own { own.now ≡ records_of (M.map map.now) (M.node_slot map.now) path.now.lines }
     requires known { AreKnown (M.map map.now) path.now.lines known.now }
-    ensures answer { IfOk result (λ e. EncodingRecord (M.map map.now) path.now (answer_of e.answer)) }
-    ensures joins { IfOk result (λ e. JoinsOf (M.map map.now) path.now e.answer) }
-    ensures own { IfOk result (λ e. OwnLinesOf (M.map map.now) path.now (answer_of e.answer) e.own.items) }
-    ensures traversed { IfOk result (λ e. (v : ℕ) → Contains e.traversed v
-        ↔ TraversedOfExtended (M.map map.now) path.now v) }
-    ensures encodings { IfOk result (λ e. e.work.encodings ≡ 1) }
+    ensures encoding { IfOk result (IsEncoding (M.map map.now) path.now) }
     ensures asks { IfOk result (λ e. AsksOf (M.map map.now) path.now known.now e.queries.items e.known.items e.work
         seen.old seen.new) }
 {
@@ -209,7 +176,7 @@ fn encode_along<M: MapRead>(
     requires joined { AreJoined (M.map map.now) extended.now.path.lines }
     requires records { extended.now.records ≡ records_of (M.map map.now) (M.node_slot map.now) extended.now.path.lines }
     requires short { extended.now.path.pos + extended.now.path.neg < dm_of (M.map map.now) extended.now.path.lines }
-    requires reuse { Reuses (M.map map.now) extended.now.path.lines reuse.now.lead reuse.now.own reuse.now.known.now }
+    requires reuse { IsReuse (M.map map.now) extended.now.path.lines reuse.now }
     ensures { IfOk result (λ r. ForPoints (M.map map.now) extended.now.path.lines
         (λ js. AnsweredAlong (M.map map.now) extended.now.path js (answer_of r.0.answer) r.0.own.items)
         × ForPoints (M.map map.now) extended.now.path.lines
@@ -232,6 +199,7 @@ fn encode_along<M: MapRead>(
 
 /// The answer by the chosen LRPs, and the lines at these. The two offsets, in decimetres, are together less than the length
 /// of the lines.
+#[tactic(auto, using(crate::proofs::Referring::points_answer))]
 fn answer_by<M: MapRead>(
     alloc: Global,
     resolved: &ResolvedPath<M>,

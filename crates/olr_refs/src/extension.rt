@@ -4,7 +4,8 @@ ghost use Rattle.olr_spec.specs.Map.{Map};
 ghost use Rattle.olr_spec.specs.Encoding.{first_unknown};
 ghost use Rattle.olr_spec.specs.Extension.{is_path};
 ghost use Rattle.olr_spec.specs.Queries.{NodeOf};
-ghost use Rattle.olr_refs.specs.Extends.{Extends};
+ghost use Rattle.olr_refs.specs.Coded.{coded_extended};
+ghost use Rattle.olr_refs.specs.Extends.{ExtendedPath, Extends};
 ghost use Rattle.olr_refs.specs.ResolvedLines.{records_of};
 
 use crate::degree_two_runs::longest_run;
@@ -32,9 +33,6 @@ pub struct Extended {
 }
 
 impl Model for Extended {
-    ghost use Rattle.olr_refs.specs.Extends.{ExtendedPath};
-    ghost use Rattle.olr_refs.specs.Coded.{coded_extended};
-
     ghost Value = { ExtendedPath };
 
     ghost coded = { coded_extended };

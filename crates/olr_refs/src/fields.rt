@@ -1,6 +1,6 @@
 //! The fields of a reference: of the location reference points (LRPs) of an extended path, and of its offsets (White
 //! Paper, location reference points and their attributes).
-ghost use Rattle.std.specs.Prelude.{◌≡◌, ℕ, ◌+◌, ◌<◌, ◌≤◌, IsTrue, IfOk, length, slice_index};
+ghost use Rattle.std.specs.Prelude.{◌≡◌, ℕ, ◌+◌, ◌<◌, ◌≤◌, IsTrue, IfOk};
 ghost use Rattle.olr_spec.specs.Coordinates.{fits16, relative};
 ghost use Rattle.olr_coords.specs.Bounds.{is_degrees};
 ghost use Rattle.olr_spec.specs.Map.{has_line, has_node, is_good, line_at, coord_at};
@@ -9,7 +9,7 @@ ghost use Rattle.olr_spec.specs.Extension.{limit, AreJoined};
 ghost use Rattle.olr_spec.specs.Reference.{attrs, first_point, last_point, legs, middle_point, offset, position};
 ghost use Rattle.olr_refs.specs.Along.{AreDistances};
 ghost use Rattle.olr_refs.specs.Fields.{lowest_class, middle_points_of};
-ghost use Rattle.olr_refs.specs.KeptPoints.{AreLinked};
+ghost use Rattle.olr_refs.specs.KeptPoints.{AreKept};
 
 use crate::along::{ResolvedPath, coord_of};
 use olr_bearing::{Ends, bearing_back, bearing_out};
@@ -134,8 +134,7 @@ pub fn middle_points<M: MapRead>(
     resolved: &ResolvedPath<M>,
     points: &[usize],
 ) -> Result<Vec<Middle>, AllocError>
-    requires linked { AreLinked (M.map resolved.now.map.now) resolved.now.lines.now points.now }
-    requires two { 2 ≤ length points.now }
+    requires { AreKept (M.map resolved.now.map.now) resolved.now.lines.now points.now }
     ensures { IfOk result (λ middle. middle.items ≡ middle_points_of
         (legs (M.map resolved.now.map.now) resolved.now.lines.now) points.now) }
 {

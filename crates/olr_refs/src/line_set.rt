@@ -1,5 +1,6 @@
 //! The lines of a list, for lookups.
-ghost use Rattle.std.specs.Prelude.{◌≡◌, ℕ, IfOk};
+ghost use Rattle.std.specs.Prelude.{◌≡◌, ℕ, List, IfOk};
+ghost use Rattle.std.specs.List.Sorted.{IsNonDecreasing};
 ghost use Rattle.olr_spec.specs.Map.{has};
 ghost use Rattle.olr_refs.specs.ResolvedLines.{ids};
 
@@ -16,9 +17,6 @@ pub(crate) struct LineSet {
 }
 
 impl Model for LineSet {
-    ghost use Rattle.std.specs.Prelude.{List, ℕ};
-    ghost use Rattle.std.specs.List.Sorted.{IsNonDecreasing};
-
     ghost Value = { List ℕ };
 
     ghost view = { λ s. s.sorted.items };

@@ -1,5 +1,5 @@
 //! The reference of an extended path.
-ghost use Rattle.std.specs.Prelude.{◌≡◌, ◌+◌, ◌-◌, ◌<◌, ◌≤◌, IfOk, length, slice_index};
+ghost use Rattle.std.specs.Prelude.{◌≡◌, ◌+◌, ◌-◌, ◌<◌, IfOk, length, slice_index};
 ghost use Rattle.olr_spec.specs.Recovery.{own_lines};
 ghost use Rattle.olr_spec.specs.Routes.{dm_of};
 ghost use Rattle.olr_spec.specs.Points.{Candidate};
@@ -7,11 +7,11 @@ ghost use Rattle.olr_spec.specs.Reference.{legs, dm_between, kept_points, offset
 ghost use Rattle.olr_spec.specs.Bytes.{IsReference};
 ghost use Rattle.olr_refs.specs.Along.{AreDistances};
 ghost use Rattle.olr_spec.specs.Extension.{AreJoined};
-ghost use Rattle.olr_refs.specs.KeptPoints.{later, AreLinked, ArePoints};
+ghost use Rattle.olr_refs.specs.KeptPoints.{later, AreKept, ArePoints};
 
 use crate::along::ResolvedPath;
 use crate::fields::{first_point, last_point, middle_points, offset};
-use crate::trim::trim;
+use crate::trim::{Trimmed, trim};
 use olr_binary::Reference;
 use olr_roads::{LineId, MapRead};
 use std::alloc::{AllocError, Global};
@@ -21,26 +21,25 @@ use std::alloc::{AllocError, Global};
 fn reference_by<M: MapRead>(
     alloc: Global,
     resolved: &ResolvedPath<M>,
-    kept: &[usize],
-    pos_left: u128,
-    neg_left: u128,
+    trimmed: &Trimmed,
 ) -> Result<Reference, AllocError>
-    requires linked { AreLinked (M.map resolved.now.map.now) resolved.now.lines.now kept.now }
-    requires two { 2 ≤ length kept.now }
-    requires pos { pos_left < dm_between (legs (M.map resolved.now.map.now) resolved.now.lines.now)
-        (slice_index kept.now 0) (slice_index kept.now 1) }
-    requires neg { neg_left < dm_between (legs (M.map resolved.now.map.now) resolved.now.lines.now)
-        (slice_index kept.now (length kept.now - 1 - 1)) (slice_index kept.now (length kept.now - 1)) }
-    requires fits { IsReference (reference_by (legs (M.map resolved.now.map.now) resolved.now.lines.now) pos_left neg_left
-        kept.now) }
-    ensures { IfOk result (λ r. r ≡ reference_by (legs (M.map resolved.now.map.now) resolved.now.lines.now) pos_left
-        neg_left kept.now) }
+    requires kept { AreKept (M.map resolved.now.map.now) resolved.now.lines.now trimmed.now.points.now }
+    requires pos { trimmed.now.pos < dm_between (legs (M.map resolved.now.map.now) resolved.now.lines.now)
+        (slice_index trimmed.now.points.now 0) (slice_index trimmed.now.points.now 1) }
+    requires neg { trimmed.now.neg < dm_between (legs (M.map resolved.now.map.now) resolved.now.lines.now)
+        (slice_index trimmed.now.points.now (length trimmed.now.points.now - 1 - 1))
+        (slice_index trimmed.now.points.now (length trimmed.now.points.now - 1)) }
+    requires fits { IsReference (reference_by (legs (M.map resolved.now.map.now) resolved.now.lines.now) trimmed.now.pos
+        trimmed.now.neg trimmed.now.points.now) }
+    ensures { IfOk result (λ r. r ≡ reference_by (legs (M.map resolved.now.map.now) resolved.now.lines.now)
+        trimmed.now.pos trimmed.now.neg trimmed.now.points.now) }
 {
+    let kept = trimmed.points;
     let last = kept.len() - 1;
     let (start, next) = (kept[0], kept[1]);
     let (before, end) = (kept[last - 1], kept[last]);
-    let pos = offset_along(resolved, pos_left, start, next);
-    let neg = offset_along(resolved, neg_left, before, end);
+    let pos = offset_along(resolved, trimmed.pos, start, next);
+    let neg = offset_along(resolved, trimmed.neg, before, end);
     let middle = middle_points(alloc, resolved, kept)?;
     Ok(Reference {
         first: first_point(resolved, start, next),
@@ -80,8 +79,7 @@ fn own_lines<M: MapRead>(
     resolved: &ResolvedPath<M>,
     kept: &[usize],
 ) -> Result<Vec<LineId>, AllocError>
-    requires linked { AreLinked (M.map resolved.now.map.now) resolved.now.lines.now kept.now }
-    requires two { 2 ≤ length kept.now }
+    requires { AreKept (M.map resolved.now.map.now) resolved.now.lines.now kept.now }
     ensures { IfOk result (λ own. own.items ≡ own_lines resolved.now.lines.now kept.now) }
 {
     let last = kept.len() - 1;
@@ -120,6 +118,6 @@ pub fn reference_of<M: MapRead>(
 {
     let trimmed = trim(resolved.distances, points, pos, neg);
     let own = own_lines(alloc, resolved, trimmed.points)?;
-    let reference = reference_by(alloc, resolved, trimmed.points, trimmed.pos, trimmed.neg)?;
+    let reference = reference_by(alloc, resolved, &trimmed)?;
     Ok(Referred { reference, own })
 }

@@ -3,7 +3,7 @@ ghost use Rattle.std.specs.Prelude.{◌≡◌, ◌+◌, ◌-◌, ◌^◌, ◌<�
 ghost use Rattle.std.specs.Prelude.{length};
 ghost use Rattle.olr_spec.specs.Queries.{IsKnownAt, IsLastTested, IsReused, query_to, KnownQuery as Query};
 ghost use Rattle.olr_refs.specs.Along.{IsFar, IsReach};
-ghost use Rattle.olr_refs.specs.Reuse.{Reuses, Serves, known_reach};
+ghost use Rattle.olr_refs.specs.Reuse.{IsReuse, Serves, known_reach};
 
 use crate::along::ResolvedPath;
 use crate::reach::Tested;
@@ -47,8 +47,7 @@ pub fn known_after<M: MapRead>(
     far: usize,
 ) -> Option<KnownQuery>
     requires some { i + 1 < length resolved.now.lines.now }
-    requires reuse { Reuses (M.map resolved.now.map.now) resolved.now.lines.now reuse.now.lead reuse.now.own
-        reuse.now.known.now }
+    requires reuse { IsReuse (M.map resolved.now.map.now) resolved.now.lines.now reuse.now }
     requires far { IsFar (M.map resolved.now.map.now) resolved.now.lines.now i far }
     ensures { MatchOption result (¬ IsReused (M.map resolved.now.map.now) resolved.now.lines.now reuse.now.lead
         reuse.now.own reuse.now.known.now i) (Serves (M.map resolved.now.map.now) resolved.now.lines.now reuse.now.lead

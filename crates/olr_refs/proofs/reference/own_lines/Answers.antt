@@ -1,5 +1,6 @@
 use Rattle.olr_refs.proofs.Common.{arith, common_steps, take_more, map-append, ◌<◌, ◌≡◌, ◌-◌, length}
-use Rattle.olr_refs.proofs.OwnLines.{own_by, last_within}
+use Rattle.olr_refs.proofs.OwnLines.{own_by}
+use Rattle.olr_refs.proofs.Trimming.{linked_end}
 use Rattle.olr_refs.proofs.reference.own_lines.Goals as goal
 
 pub loop-k-preserved : goal.loop-k-preserved
@@ -14,15 +15,15 @@ line_at-requires g c =
 
 pub overflow_sub-kept : goal.overflow_sub-kept
 overflow_sub-kept g c =
-    let w = last_within (g.M.MapRead.map c.args.resolved.now.map.now) c.args.resolved.now.lines.now c.args.kept.now
+    let end = linked_end (g.M.MapRead.map c.args.resolved.now.map.now) c.args.resolved.now.lines.now c.args.kept.now
     c.requires.linked c.requires.two in
-    omega (arith, w.0)
+    omega (arith, end.after)
 
 pub line_at-requires-2 : goal.line_at-requires-2
 line_at-requires-2 g c =
-    let w = last_within (g.M.MapRead.map c.args.resolved.now.map.now) c.args.resolved.now.lines.now c.args.kept.now
+    let end = linked_end (g.M.MapRead.map c.args.resolved.now.map.now) c.args.resolved.now.lines.now c.args.kept.now
     c.requires.linked c.requires.two in
-    omega (arith, w.0, w.1)
+    omega (arith, end.after, end.upto)
 
 pub returns : goal.returns
 returns g c =
