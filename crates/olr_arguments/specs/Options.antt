@@ -21,24 +21,37 @@ use Rattle.olr_arguments.specs.declared.arguments.OptionsFault.TheVariants.{Aske
 abbrev pub described_app : App
 described_app = on_top (λ s. record s { has_version = true }) (new_app (codes "olr-keep"))
 
+-- an argument with a value, and one without
+abbrev pub value_rule : List ℕ → Rule
+value_rule id = record (new_rule id) { action = Some Set; value_names = 1 }
+
+abbrev pub flag_rule : List ℕ → Rule
+flag_rule id = record (new_rule id) { action = Some SetTrue }
+
+-- the same, asked for by a letter, or by a long name
+abbrev pub with_short : ℕ → Rule → Rule
+with_short letter r = record r { short = Some letter }
+
+abbrev pub with_long : List ℕ → Rule → Rule
+with_long name r = record r { long = Some name }
+
 abbrev pub file_rule : Rule
-file_rule = record (new_rule (codes "file")) { short = Some 109; action = Some Set; value_names = 1 }
+file_rule = with_short 109 (value_rule (codes "file"))
 
 abbrev pub stop_rule : Rule
-stop_rule = record (new_rule (codes "stop")) { short = Some 115; action = Some SetTrue }
+stop_rule = with_short 115 (flag_rule (codes "stop"))
 
 abbrev pub lines_rule : Rule
-lines_rule = record (new_rule (codes "lines")) { long = Some (codes "lines"); action = Some SetTrue }
+lines_rule = with_long (codes "lines") (flag_rule (codes "lines"))
 
 abbrev pub log_rule : Rule
-log_rule = record (new_rule (codes "log")) { short = Some 108; action = Some Set; value_names = 1 }
+log_rule = with_short 108 (value_rule (codes "log"))
 
 abbrev pub new_log_rule : Rule
-new_log_rule = record (new_rule (codes "new")) { long = Some (codes "new"); action = Some SetTrue }
+new_log_rule = with_long (codes "new") (flag_rule (codes "new"))
 
 abbrev pub size_rule : Rule
-size_rule =
-    record (new_rule (codes "compact-at")) { long = Some (codes "compact-at"); action = Some Set; value_names = 1 }
+size_rule = with_long (codes "compact-at") (value_rule (codes "compact-at"))
 
 abbrev pub keep_app : App
 keep_app =

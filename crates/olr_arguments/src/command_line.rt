@@ -8,7 +8,7 @@ ghost use Rattle.clap.specs.Kinds.{Kinds, HasKind};
 ghost use Rattle.clap.specs.Values.{kind_of};
 ghost use Rattle.clap.specs.declared.error.kind.ErrorKind.TheVariants as kinds;
 ghost use Rattle.clap.specs.Walk.{rule_of};
-ghost use Rattle.olr_arguments.specs.Options.{described_app, file_rule, stop_rule, lines_rule, log_rule, new_log_rule, size_rule, keep_app, options, options_of, is_set, IsOptionsFault};
+ghost use Rattle.olr_arguments.specs.Options.{described_app, value_rule, flag_rule, keep_app, options, options_of, is_set, IsOptionsFault};
 
 use crate::arguments::{Options, OptionsFault};
 use clap::error::ErrorKind;
@@ -32,73 +32,35 @@ Status: 0 all accepted, 1 some rejected, 2 invalid arguments, 3 I/O failed, 4 ou
 5 a record of LOG is rejected, 6 the input ended in a batch, 7 LOG is in use.
 docs/RUNNING.md: maps from a database, a log for restarts, a queue, regions.";
 
-/// The argument that names the command file.
-fn file_argument<'a>(alloc: Global) -> Arg<'a>
-    ensures rule { rule_of result ≡ file_rule }
+const FILE_HELP: &str = "Reads the records of FILE before those of standard input";
+
+const STOP_HELP: &str = "Stops at the first rejected record";
+
+const LINES_HELP: &str = "Takes each line as one record, also one with an open quote";
+
+const LOG_HELP: &str = "Starts from the records of LOG, and keeps each accepted change there";
+
+const NEW_HELP: &str = "Makes LOG, which must not exist";
+
+const SIZE_HELP: &str = "Replaces LOG by a dump when it has SIZE bytes, as 500M";
+
+/// An argument with a value, which help calls `value`.
+fn valued<'a>(alloc: Global, id: &'a str, value: &'a str, help: &'a str) -> Arg<'a>
+    ensures rule { rule_of result ≡ value_rule id.entry.now }
     ensures local { result.global ≡ false }
 {
-    Arg::new(alloc, "file")
-        .short('m')
-        .value_name("FILE")
+    Arg::new(alloc, id)
+        .value_name(value)
         .action(ArgAction::Set)
-        .help("Reads the records of FILE before those of standard input")
+        .help(help)
 }
 
-/// The argument that asks for a stop at the first rejected command.
-fn stop_argument<'a>(alloc: Global) -> Arg<'a>
-    ensures rule { rule_of result ≡ stop_rule }
+/// An argument without a value.
+fn flag<'a>(alloc: Global, id: &'a str, help: &'a str) -> Arg<'a>
+    ensures rule { rule_of result ≡ flag_rule id.entry.now }
     ensures local { result.global ≡ false }
 {
-    Arg::new(alloc, "stop")
-        .short('s')
-        .action(ArgAction::SetTrue)
-        .help("Stops at the first rejected record")
-}
-
-/// The argument that asks for one record a line.
-fn lines_argument<'a>(alloc: Global) -> Arg<'a>
-    ensures rule { rule_of result ≡ lines_rule }
-    ensures local { result.global ≡ false }
-{
-    Arg::new(alloc, "lines")
-        .long("lines")
-        .action(ArgAction::SetTrue)
-        .help("Takes each line as one record, also one with an open quote")
-}
-
-/// The argument that names the log.
-fn log_argument<'a>(alloc: Global) -> Arg<'a>
-    ensures rule { rule_of result ≡ log_rule }
-    ensures local { result.global ≡ false }
-{
-    Arg::new(alloc, "log")
-        .short('l')
-        .value_name("LOG")
-        .action(ArgAction::Set)
-        .help("Starts from the records of LOG, and keeps each accepted change there")
-}
-
-/// The argument that asks for a new log.
-fn new_argument<'a>(alloc: Global) -> Arg<'a>
-    ensures rule { rule_of result ≡ new_log_rule }
-    ensures local { result.global ≡ false }
-{
-    Arg::new(alloc, "new")
-        .long("new")
-        .action(ArgAction::SetTrue)
-        .help("Makes LOG, which must not exist")
-}
-
-/// The argument that says at which size the log is compacted.
-fn size_argument<'a>(alloc: Global) -> Arg<'a>
-    ensures rule { rule_of result ≡ size_rule }
-    ensures local { result.global ≡ false }
-{
-    Arg::new(alloc, "compact-at")
-        .long("compact-at")
-        .value_name("SIZE")
-        .action(ArgAction::Set)
-        .help("Replaces LOG by a dump when it has SIZE bytes, as 500M")
+    Arg::new(alloc, id).action(ArgAction::SetTrue).help(help)
 }
 
 /// The program's texts, without arguments.
@@ -116,12 +78,12 @@ fn command<'a>(alloc: Global) -> Result<Command<'a>, AllocError>
     ensures { IfOk result (λ c. app_of c ≡ keep_app) }
 {
     described(alloc)
-        .arg(file_argument(alloc))?
-        .arg(stop_argument(alloc))?
-        .arg(lines_argument(alloc))?
-        .arg(log_argument(alloc))?
-        .arg(new_argument(alloc))?
-        .arg(size_argument(alloc))
+        .arg(valued(alloc, "file", "FILE", FILE_HELP).short('m'))?
+        .arg(flag(alloc, "stop", STOP_HELP).short('s'))?
+        .arg(flag(alloc, "lines", LINES_HELP).long("lines"))?
+        .arg(valued(alloc, "log", "LOG", LOG_HELP).short('l'))?
+        .arg(flag(alloc, "new", NEW_HELP).long("new"))?
+        .arg(valued(alloc, "compact-at", "SIZE", SIZE_HELP).long("compact-at"))
 }
 
 /// Whether the text of a flag, if it has one, says that the flag is set.
