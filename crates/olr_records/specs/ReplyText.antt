@@ -1,6 +1,7 @@
 -- The bytes of replies and faults. Each line ends with a line feed, and its fields are separated by commas.
 --     reply_text r, fault_text f, outcome_text o
-use Rattle.std.specs.Prelude.{ℕ, List, [], ◌∷◌, ◌++◌, map, length, Option, Some, None, Result, Ok, Err, codes, decimal}
+--     StandsBefore text end most old start new      a text was put before an index of a line
+use Rattle.std.specs.Prelude.{◌≡◌, ◌≤◌, ◌+◌, ℕ, List, [], ◌∷◌, ◌++◌, drop, map, length, Option, Some, None, Result, Ok, Err, codes, decimal}
 use Rattle.std.specs.List.{concat}
 use Rattle.std.specs.Fmt.{signed_decimal}
 use Rattle.olr_spec.specs.Map.{MapFault, Node_exists, No_node, Line_exists, No_line, Node_in_use, Bad_shape}
@@ -18,6 +19,13 @@ use Rattle.olr_spec.specs.Ambiguity.{Obstacle, Same_sector, Other_bearing, Other
 
 abbrev pub reply_line : List (List ℕ) → List ℕ
 reply_line fields = fields_line fields
+
+-- a text of at most `most` bytes, from index `start` on, was put before index `end` of the line `old`, which became `new`
+pub record StandsBefore (text : List ℕ) (end most : ℕ) (old : List ℕ) (start : ℕ) (new : List ℕ) : Type 0 where
+  pub few : end ≤ start + most
+  pub before : start ≤ end
+  pub written : drop start new ≡ text ++ drop end old
+  pub size : length new ≡ length old
 
 -- ---- entries
 

@@ -3,6 +3,7 @@ ghost use Rattle.std.specs.Prelude.{◌≡◌};
 ghost use Rattle.olr_commands.specs.Words.{command_fault_of, map_fault_of, text_fault_of};
 ghost use Rattle.olr_records.specs.ReplyText as texts;
 ghost use Rattle.olr_records.specs.Words.{read_fault_of};
+ghost use Rattle.olr_records.specs.declared.faults.ReadFault.TheVariants.{Memory};
 
 use olr_binary::{TextFault, V3Fault};
 use olr_commands::CommandFault;
@@ -25,9 +26,6 @@ pub enum ReadFault {
 }
 
 impl From<AllocError> for ReadFault {
-    ghost use Rattle.std.specs.Prelude.{◌≡◌};
-    ghost use Rattle.olr_records.specs.declared.faults.ReadFault.TheVariants.{Memory};
-
     ghost from_gives = { λ _ fault. fault ≡ Memory };
 
     fn from(_error: AllocError) -> ReadFault {
@@ -36,9 +34,6 @@ impl From<AllocError> for ReadFault {
 }
 
 impl<T: Drop> From<AllocFailed<T>> for ReadFault {
-    ghost use Rattle.std.specs.Prelude.{◌≡◌};
-    ghost use Rattle.olr_records.specs.declared.faults.ReadFault.TheVariants.{Memory};
-
     ghost from_gives = { λ _ fault. fault ≡ Memory };
 
     fn from(_error: AllocFailed<T>) -> ReadFault {

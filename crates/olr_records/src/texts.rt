@@ -2,7 +2,7 @@
 ghost use Rattle.std.specs.Prelude.{◌≡◌, ◌≤◌, ◌+◌, ◌++◌, ◌∷◌, [], decimal, drop, length, map, OnOk};
 ghost use Rattle.std.specs.Fmt.{signed_decimal};
 ghost use Rattle.olr_commands.specs.RecordText.{after_commas};
-ghost use Rattle.olr_records.specs.ReplyText.{reply_line};
+ghost use Rattle.olr_records.specs.ReplyText.{reply_line, StandsBefore};
 
 use itoa::write_digits;
 use std::alloc::AllocError;
@@ -51,10 +51,7 @@ fn put_byte_number(line: &mut [u8], end: usize, number: u8) -> usize
 fn put_number(line: &mut [u8], end: usize, number: u8) -> usize
     requires within { end ≤ length line.old }
     requires room { 4 ≤ end }
-    ensures start { end ≤ result + 4 }
-    ensures before { result ≤ end }
-    ensures written { drop result line.new ≡ 44 ∷ decimal number ++ drop end line.old }
-    ensures size { length line.new ≡ length line.old }
+    ensures { StandsBefore (44 ∷ decimal number) end 4 line.old result line.new }
 {
     let start = put_byte_number(line, end, number);
     put_byte(line, start, b',')
@@ -66,10 +63,7 @@ fn put_number(line: &mut [u8], end: usize, number: u8) -> usize
 fn put_coordinate(line: &mut [u8], end: usize, coordinate: i32) -> usize
     requires within { end ≤ length line.old }
     requires room { 12 ≤ end }
-    ensures start { end ≤ result + 12 }
-    ensures before { result ≤ end }
-    ensures written { drop result line.new ≡ 44 ∷ signed_decimal coordinate ++ drop end line.old }
-    ensures size { length line.new ≡ length line.old }
+    ensures { StandsBefore (44 ∷ signed_decimal coordinate) end 12 line.old result line.new }
 {
     let digits = write_digits(u64::from(coordinate.unsigned_abs()), line, end);
     let mut start = put_byte(line, digits, b'-');
@@ -84,11 +78,7 @@ fn put_numbers(line: &mut [u8], end: usize, numbers: &[u8]) -> usize
     requires within { end ≤ length line.old }
     requires few { length numbers.now ≤ 5 }
     requires room { 20 ≤ end }
-    ensures start { end ≤ result + 20 }
-    ensures before { result ≤ end }
-    ensures written { drop result line.new
-        ≡ after_commas (map decimal numbers.now) ++ drop end line.old }
-    ensures size { length line.new ≡ length line.old }
+    ensures { StandsBefore (after_commas (map decimal numbers.now)) end 20 line.old result line.new }
 {
     let mut start = end;
     let mut k = numbers.len();
