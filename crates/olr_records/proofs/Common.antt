@@ -12,11 +12,11 @@ pub use Rattle.olr_coords.specs.DegreesText.{after_point, degrees_text, has_degr
 pub use Rattle.olr_records.specs.Recorded.{HaveRecords, IsRecorded, Recorded, StaysRecorded, are_attributes, has_record}
 pub use Rattle.olr_records.specs.Recorded.{is_amount, is_named_path, is_number, is_place, is_point}
 pub use Rattle.olr_records.specs.Records.{Bad_form, Field, HoldsList, Out_of_range, Read, amount, attributes, class}
-pub use Rattle.olr_records.specs.Records.{coordinate, edit, line_between, line_record, max32, name, node_fields}
+pub use Rattle.olr_records.specs.Records.{coordinate, edit, items, line_between, line_record, max32, name, node_fields}
 pub use Rattle.olr_records.specs.Records.{node_record, number, numbers, path_fields, place, point, read}
 pub use Rattle.olr_records.specs.Records.{set_line_record, shape, value_or_fault, whole_line, ◌⊛◌}
 pub use Rattle.olr_records.specs.ReplyText.{count_line, entry_line, middle_line, name_line, obstacle_line}
-pub use Rattle.olr_records.specs.Words.{Gathers, Reads, both}
+pub use Rattle.olr_records.specs.Words.{Gathers, Reads, ReadsBy, both}
 pub use Rattle.olr_records.specs.declared.faults.ReadFault.{ReadFault}
 pub use Rattle.olr_records.specs.declared.faults.ReadFault.TheVariants.{Memory}
 pub use Rattle.olr_records.specs.declared.lines.LineAttributes.{LineAttributes}

@@ -1,7 +1,8 @@
 -- Items of a record, read one after another.
 --     onto x y      the items of x, followed by those of y
+--     ItemsTo Returns view fs start k xs      the items of the fields from `start` up to k are read
 use Rattle.olr_records.proofs.Common.{IfOk, IsOkAnd, append-nil, length-drop, ShapePoint, Field, Read, Bad_form, ◌⊛◌}
-use Rattle.olr_records.proofs.Common.{number, numbers, point, shape, Gathers, ReadFault, Memory, drop_all, Out_of_range}
+use Rattle.olr_records.proofs.Common.{items, point, shape, Gathers, ReadsBy, ReadFault, Memory, drop_all, Out_of_range, ⊤}
 use Rattle.std.proofs.Common.{◌≡◌, ℕ, ◌+◌, ◌<◌, ◌≤◌, List, [], ◌∷◌, ◌++◌, length, drop, Ok, Err, refl, sym, ap, ◌∙◌}
 use Rattle.std.proofs.Common.{append_assoc, arith, drop-cons}
 use Rattle.std.specs.Prelude.{slice_index_or, Result}
@@ -47,16 +48,16 @@ short (a ∷ b ∷ c ∷ fs) some few = absurd (omega arith)
 short fs some few = refl
 
 module _ (fs : List Field) (k : ℕ) where
-  numbers_next : k < length fs → numbers (drop k fs) ≡ Ok (λ x xs. x ∷ xs) ⊛ number (at fs k) ⊛ numbers
-      (drop (k + 1) fs)
-  numbers_next lt = grind (arith, drop-cons)
+  module _ {A : Type 0} (one : Field → Read A) where
+    items_next : k < length fs → items one (drop k fs) ≡ Ok (λ x xs. x ∷ xs) ⊛ one (at fs k) ⊛ items one (drop (k + 1) fs)
+    items_next lt = grind (arith, drop-cons)
 
-  pub numbers-more : (x w : Read (List ℕ)) → k < length fs → onto x (numbers (drop k fs)) ≡ w →
-      onto (with x (number (at fs k))) (numbers (drop (k + 1) fs)) ≡ w
-  numbers-more x w lt e = grind (arith, onto_more, numbers_next)
+    pub items-more : (x w : Read (List A)) → k < length fs → onto x (items one (drop k fs)) ≡ w →
+        onto (with x (one (at fs k))) (items one (drop (k + 1) fs)) ≡ w
+    items-more x w lt e = grind (arith, onto_more, items_next)
 
-  pub numbers-end : (x w : Read (List ℕ)) → length fs ≤ k → onto x (numbers (drop k fs)) ≡ w → x ≡ w
-  numbers-end x w past e = sym (onto-nothing x) ∙ ap (λ y. onto x (numbers y)) (sym (drop_all k fs past)) ∙ e
+    pub items-end : (x w : Read (List A)) → length fs ≤ k → onto x (items one (drop k fs)) ≡ w → x ≡ w
+    items-end x w past e = sym (onto-nothing x) ∙ ap (λ y. onto x (items one y)) (sym (drop_all k fs past)) ∙ e
 
   -- three fields, and those after them
   three : k + 3 ≤ length fs → drop k fs ≡ at fs k ∷ at fs (k + 1) ∷ at fs (k + 2) ∷ drop (k + 3) fs
@@ -80,6 +81,15 @@ module _ (fs : List Field) (k : ℕ) where
   pub shape-over : (x w : Read (List ShapePoint)) → k < length fs → length fs < k + 3 → onto x (shape (drop k fs)) ≡ w →
       w ≡ Err Bad_form
   shape-over x w some few e = sym e ∙ ap (λ y. onto x y) (over some few) ∙ onto-bad x
+
+-- ---- items of one field each
+
+-- if the fields are read as `one` says, the items so far, with those of the fields not read yet, are all from `start` on
+abbrev pub ItemsTo : {A B : Type 0} → (Field → Result B ReadFault → Type 0) → (A → List B) → List Field → ℕ → ℕ →
+    Result A ReadFault → Type 0
+ItemsTo {A} {B} Returns view fs start k xs =
+    (one : Field → Read B) → ReadsBy Returns one → (x : Read (List B)) × Gathers (λ _. ⊤) view x xs
+    × (onto x (items one (drop k fs)) ≡ items one (drop start fs))
 
 -- ---- out of memory
 

@@ -77,9 +77,13 @@ place lon lat = Ok (λ x y. record { lon = x; lat = y }) ⊛ longitude lon ⊛ l
 abbrev pub name : Field → Read (List ℕ)
 name f = if is_name f then Ok f else Err Bad_form
 
+-- the items of fields, one of each
+abbrev pub items : {A : Type 0} → (Field → Read A) → List Field → Read (List A)
+items one [] = Ok []
+items one (f ∷ fs) = Ok (λ x xs. x ∷ xs) ⊛ one f ⊛ items one fs
+
 abbrev pub numbers : List Field → Read (List ℕ)
-numbers [] = Ok []
-numbers (f ∷ fs) = Ok (λ x xs. x ∷ xs) ⊛ number f ⊛ numbers fs
+numbers fs = items number fs
 
 -- a shape point: a distance and a coordinate
 abbrev pub point : Field → Field → Field → Read ShapePoint

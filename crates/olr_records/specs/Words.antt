@@ -1,6 +1,7 @@
 -- What reading a record returns, in terms of Rust's values.
 --     Reads view x r      r is x, seen through `view`; it takes no memory
 --     Gathers Takes view x r      the same, but r may be out of memory if the value of x takes memory
+--     ReadsBy Returns one      a function reads each field as `one` says, where it may return what `Returns` says
 --     IsRead x r      the same for a command, which takes memory if it holds a list
 --     worse_fault f g      of two faults, the one that takes precedence.
 --     both r s      both parts of a record, or the fault that takes precedence
@@ -9,7 +10,7 @@ use Rattle.std.specs.Prelude.{◌≡◌, Result, Ok, Err, IsOkAnd}
 use Rattle.olr_commands.specs.State as state
 use Rattle.olr_commands.specs.Words.{command_of}
 use Rattle.olr_commands.specs.declared.command.Command.{Command}
-use Rattle.olr_records.specs.Records.{Read, Bad_form, Out_of_range, HoldsList}
+use Rattle.olr_records.specs.Records.{Field, Read, Bad_form, Out_of_range, HoldsList}
 use Rattle.olr_records.specs.declared.faults.ReadFault.{ReadFault}
 use Rattle.olr_records.specs.declared.faults.ReadFault.TheVariants.{Syntax, Range, Memory}
 
@@ -18,6 +19,9 @@ Reads view x (Ok a) = x ≡ Ok (view a)
 Reads view x (Err Syntax) = x ≡ Err Bad_form
 Reads view x (Err Range) = x ≡ Err Out_of_range
 Reads view x (Err Memory) = ⊥
+
+abbrev pub ReadsBy : {A : Type 0} → (Field → Result A ReadFault → Type 0) → (Field → Read A) → Type 0
+ReadsBy Returns one = (f : Field) (r : Result _ ReadFault) → Returns f r → Reads (λ a. a) (one f) r
 
 abbrev pub Gathers : {A B : Type 0} → (B → Type 0) → (A → B) → Read B → Result A ReadFault → Type 0
 Gathers Takes view x (Err Memory) = IsOkAnd x Takes

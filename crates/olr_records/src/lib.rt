@@ -5,6 +5,7 @@ mod edits;
 pub mod faults;
 mod fields;
 mod lines;
+mod lists;
 mod parts;
 mod paths;
 mod questions;

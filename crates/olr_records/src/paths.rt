@@ -8,7 +8,8 @@ ghost use Rattle.olr_records.specs.Words.{Gathers, IsRead};
 
 use crate::faults::ReadFault;
 use crate::fields::{amount, field, line_id, name, only_field};
-use crate::parts::{both, room, with_item};
+use crate::lists::items_from;
+use crate::parts::both;
 use csv::ByteRecord;
 use olr_commands::Command;
 use olr_roads::LineId;
@@ -34,11 +35,7 @@ fn path(alloc: Global, fields: &ByteRecord) -> Result<(String, Vec<LineId>, u32,
 fn line_ids(alloc: Global, fields: &ByteRecord) -> Result<Vec<LineId>, ReadFault>
     ensures { Gathers (λ _. ⊤) (λ v. v.items) (records.numbers (drop 4 (fields_of fields.now))) result }
 {
-    let mut ids = room(alloc, fields.len().saturating_sub(4));
-    for k in 4..fields.len() {
-        ids = with_item(ids, line_id(field(fields, k)));
-    }
-    ids
+    items_from(alloc, fields, 4, line_id)
 }
 
 /// `path,NAME,POS,NEG[,LINE]*`

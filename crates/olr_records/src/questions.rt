@@ -8,7 +8,7 @@ ghost use Rattle.olr_records.specs.Words.{Gathers, IsRead};
 
 use crate::faults::ReadFault;
 use crate::fields::{field, line_id, name, node_id, only_field};
-use crate::parts::{room, with_item};
+use crate::lists::items_from;
 use csv::ByteRecord;
 use olr_commands::Command;
 use olr_roads::NodeId;
@@ -37,11 +37,7 @@ pub(crate) fn show_line(fields: &ByteRecord) -> Result<Command, ReadFault>
 fn node_ids(alloc: Global, fields: &ByteRecord) -> Result<Vec<NodeId>, ReadFault>
     ensures { Gathers (λ _. ⊤) (λ v. v.items) (records.numbers (drop 1 (fields_of fields.now))) result }
 {
-    let mut ids = room(alloc, fields.len().saturating_sub(1));
-    for k in 1..fields.len() {
-        ids = with_item(ids, node_id(field(fields, k)));
-    }
-    ids
+    items_from(alloc, fields, 1, node_id)
 }
 
 /// The fault of more nodes than a question may have.
