@@ -47,21 +47,15 @@ word_effect (word ∷ fields) = effect_by word (length fields == 0)
 
 -- whether it is kept as a line
 abbrev pub has_line : Effect → Bool
-has_line effect.Nothing = false
-has_line effect.Abort = false
-has_line effect.Compact = false
 has_line effect.Change = true
 has_line effect.Begin = true
 has_line effect.Commit = true
+has_line _ = false
 
 -- whether it asks that the log be replaced
 abbrev pub is_compact : Effect → Bool
 is_compact effect.Compact = true
-is_compact effect.Nothing = false
-is_compact effect.Change = false
-is_compact effect.Begin = false
-is_compact effect.Commit = false
-is_compact effect.Abort = false
+is_compact _ = false
 
 abbrev pub effect_of : List (List ℕ) → Effect
 effect_of fields =

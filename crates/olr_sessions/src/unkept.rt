@@ -1,6 +1,6 @@
 //! Lines of accepted commands that a log doesn't keep yet.
 
-ghost use Rattle.std.specs.Prelude.{◌≡◌, ◌↔◌, ◌≤◌, ◌<◌, ◌⊎◌, ◌+◌, ◌++◌, ◌∷◌, take, length, vec_len, vec_capacity, IfOk, ℕ, List, [], true, false, IsTrue, Ok, OnOk, OnErr, if◌then◌else◌, slice_index_or};
+ghost use Rattle.std.specs.Prelude.{◌≡◌, ◌≤◌, ◌<◌, ◌⊎◌, ◌+◌, ◌++◌, ◌∷◌, take, length, vec_len, vec_capacity, IfOk, ℕ, List, [], true, false, IsTrue, Ok, OnOk, OnErr, if◌then◌else◌, slice_index_or};
 ghost use Rattle.std.specs.List.{join_with_byte};
 ghost use Rattle.std.specs.Str.{bytes_eq};
 ghost use Rattle.csv.specs.Records.{fields_of};
@@ -317,8 +317,7 @@ impl Unkept {
 
     /// Whether the record whose line was taken last asks that the log be replaced.
     pub fn is_compact(&self) -> bool
-        ensures compact { IsTrue result ↔ (self.now.effect ≡ Effect.Compact) }
-        ensures is { result ≡ lines.is_compact self.now.effect }
+        ensures { result ≡ lines.is_compact self.now.effect }
     {
         matches!(self.effect, Effect::Compact)
     }
