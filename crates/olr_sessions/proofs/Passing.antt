@@ -5,11 +5,11 @@ use Rattle.std.proofs.KnownBytes.{Appends-nil, Appends-trans}
 use Rattle.std.proofs.Math.Seq.{take-add}
 use Rattle.std.proofs.lemmas.List.{append-nil, append_assoc, take-append-drop}
 use Rattle.olr_sessions.specs.Buffers.{held, Sends}
-use Rattle.olr_sessions.specs.Gates.{is_closed, ready, MayHaveKept, Keeping, None_sent, None_ready, All_kept, Cut_off}
+use Rattle.olr_sessions.specs.Gates.{is_closed, ready, Keeping, None_sent, None_ready, All_kept, Cut_off}
 use Rattle.olr_sessions.specs.Gates.{SameBatch, Passes, PassesAll, PassesSome, compaction}
 use Rattle.std.specs.Prelude.{IfOk, IfErr, OnErr, Result}
 use Rattle.olr_sessions.specs.declared.ends.RunFault.{RunFault}
-use Rattle.olr_sessions.specs.Journals.{Only}
+use Rattle.olr_sessions.specs.Journals.{MayHaveKept, Only}
 use Rattle.olr_sessions.specs.Sessions.{Known}
 use Rattle.olr_sessions.specs.declared.buffered.Buffered.{Buffered}
 use Rattle.olr_sessions.specs.declared.gate.Gate.{Gate}

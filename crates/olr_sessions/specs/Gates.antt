@@ -16,7 +16,7 @@ use Rattle.std.specs.Prelude.{if◌then◌else◌, List, [], ◌++◌, take, len
 use Rattle.std.specs.Prelude.{Result, Ok, Err, ◌⊎◌}
 use Rattle.std.specs.Io.KnownBytes.{Appends}
 use Rattle.olr_sessions.specs.Buffers.{held}
-use Rattle.olr_sessions.specs.Journals.{IsFront, Only, is_empty}
+use Rattle.olr_sessions.specs.Journals.{IsFront, MayHaveKept, Only, is_empty}
 use Rattle.olr_sessions.specs.KeptLines.{effect_of, is_compact, kept_line, settled}
 use Rattle.olr_sessions.specs.Sessions.{Known}
 use Rattle.olr_sessions.specs.Unkept.{waiting, next_line}
@@ -76,12 +76,6 @@ abbrev pub compaction_taking : {J : Type 0} → (J → ℕ) → Gate J → Compa
 compaction_taking size g = if asks g then put_off (size g.journal) (compaction g) else compaction g
 
 -- ---- what passes
-
--- a log that failed to keep these records may leave what it left before, or beside all that it kept a whole front of them
-abbrev pub MayHaveKept : {J : Type 0} → (J → List ℕ) → (J → List ℕ → Type 0) → J → List ℕ → J → Type 0
-MayHaveKept kept may_leave old records new =
-    (c : List ℕ) → may_leave new c → may_leave old c
-    ⊎ ((front : List ℕ) × IsFront records front × (c ≡ kept old ++ front))
 
 pub record Untouched {J : Type 0} (g h : Gate J) : Type 0 where
   pub journal : h.journal ≡ g.journal

@@ -1,7 +1,7 @@
 -- A log of records: which texts are whole, and what a run that is cut off may leave of it.
 --     is_whole text      the text consists of lines without carriage returns, and each batch in it has its commit
 --     IsFront text front      the text begins with front, which is whole
-use Rattle.std.specs.Prelude.{◌≡◌, ◌==◌, ℕ, Bool, true, false, not, ◌&&◌, ◌||◌, if◌then◌else◌, List, [], ◌∷◌, ◌++◌, take}
+use Rattle.std.specs.Prelude.{◌≡◌, ◌⊎◌, ◌==◌, ℕ, Bool, true, false, not, ◌&&◌, ◌||◌, if◌then◌else◌, List, [], ◌∷◌, ◌++◌, take}
 use Rattle.std.specs.Prelude.{codes, IsTrue}
 use Rattle.std.specs.Str.{bytes_eq}
 
@@ -31,3 +31,9 @@ pub record IsFront (text front : List ℕ) : Type 0 where
 -- a crash leaves this text and no other
 abbrev pub Only : List ℕ → (List ℕ → Type 0) → Type 0
 Only text may_leave = (c : List ℕ) → may_leave c → c ≡ text
+
+-- a log that was to keep these records may leave what it left before, or beside all that it kept a whole front of them
+abbrev pub MayHaveKept : {J : Type 0} → (J → List ℕ) → (J → List ℕ → Type 0) → J → List ℕ → J → Type 0
+MayHaveKept kept may_leave old records new =
+    (c : List ℕ) → may_leave new c → may_leave old c
+    ⊎ ((front : List ℕ) × IsFront records front × (c ≡ kept old ++ front))

@@ -1,7 +1,7 @@
 //! A log in which the accepted changes of a run are kept.
 
 ghost use Rattle.std.specs.Prelude.{◌≡◌, ◌⊎◌, ℕ, List, ◌++◌, length, if◌then◌else◌, IsTrue, IfOk, OnOk};
-ghost use Rattle.olr_sessions.specs.Journals.{IsFront, Only, is_whole};
+ghost use Rattle.olr_sessions.specs.Journals.{MayHaveKept, Only, is_whole};
 
 use std::io;
 
@@ -23,8 +23,7 @@ pub trait Journal {
         ensures kept { OnOk result (kept self.new ≡ kept self.old ++ records.now) }
         ensures counted { OnOk result (size self.new ≡ length (kept self.new)) }
         ensures durable { OnOk result (Only (kept self.new) (may_leave self.new)) }
-        ensures cut { (c : List ℕ) → may_leave self.new c → may_leave self.old c
-            ⊎ ((front : List ℕ) × IsFront records.now front × (c ≡ kept self.old ++ front)) };
+        ensures cut { MayHaveKept kept may_leave self.old records.now self.new };
 
     /// Puts whole records in the place of all that is kept. Returns false if that failed and the log is as it was. After an
     /// error it is what it was, or these records, and nothing more can be kept.
