@@ -1,5 +1,5 @@
 -- Which lines of records are whole.
-use Rattle.std.proofs.Common.{◌≡◌, ◌∙◌, ◌==◌, ℕ, Bool, true, false, not, ◌&&◌, List, [], ◌∷◌, ◌++◌, length, refl, sym, ap, arith}
+use Rattle.std.proofs.Common.{◌≡◌, ◌∙◌, ◌==◌, ℕ, Bool, true, false, not, ◌&&◌, List, [], ◌∷◌, ◌++◌, length, refl, sym, ap, subst, arith}
 use Rattle.std.proofs.Common.{◌⊎◌, inl, inr, if◌then◌else◌, codes}
 use Rattle.std.proofs.lemmas.Bool.{cases_Bool, and_parts}
 use Rattle.std.proofs.lemmas.List.{append-nil, append_assoc, length-append, take-take, take_at}
@@ -95,48 +95,31 @@ commit_closes false rest = refl
 begin_opens : (o : Bool) → stays_open o (codes "begin") ≡ true
 begin_opens o = refl
 
-choose : (change begin commit abort compact : Bool) → Effect
-choose change begin commit abort compact =
-    if change then effect.Change
+-- what an effect says of the tests of a word by which it was chosen
+IsOf : (change begin commit : Bool) → Effect → Type 0
+IsOf change begin commit effect.Change = change ≡ true
+IsOf change begin commit effect.Begin = begin ≡ true
+IsOf change begin commit effect.Commit = commit ≡ true
+IsOf change begin commit _ = Unit {0}
+
+by_tests : (change begin commit abort compact : Bool) → IsOf change begin commit
+    (if change then effect.Change
     else if begin then effect.Begin
     else if commit then effect.Commit
     else if abort then effect.Abort
     else if compact then effect.Compact
-    else effect.Nothing
+    else effect.Nothing)
+unfolding IsOf
+by_tests true b m a p = refl
+by_tests false true m a p = refl
+by_tests false false true a p = refl
+by_tests false false false true p = tt
+by_tests false false false false true = tt
+by_tests false false false false false = tt
 
--- what the effect says of the word, and of the fields after it
-is_of_change : (c b m a p : Bool) → choose c b m a p ≡ effect.Change → c ≡ true
-unfolding choose
-is_of_change true b m a p h = refl
-is_of_change false true m a p h = absurd cc
-is_of_change false false true a p h = absurd cc
-is_of_change false false false true p h = absurd cc
-is_of_change false false false false true h = absurd cc
-is_of_change false false false false false h = absurd cc
-
-is_of_begin : (c b m a p : Bool) → choose c b m a p ≡ effect.Begin → b ≡ true
-unfolding choose
-is_of_begin true b m a p h = absurd cc
-is_of_begin false true m a p h = refl
-is_of_begin false false true a p h = absurd cc
-is_of_begin false false false true p h = absurd cc
-is_of_begin false false false false true h = absurd cc
-is_of_begin false false false false false h = absurd cc
-
-is_of_commit : (c b m a p : Bool) → choose c b m a p ≡ effect.Commit → m ≡ true
-unfolding choose
-is_of_commit true b m a p h = absurd cc
-is_of_commit false true m a p h = absurd cc
-is_of_commit false false true a p h = refl
-is_of_commit false false false true p h = absurd cc
-is_of_commit false false false false true h = absurd cc
-is_of_commit false false false false false h = absurd cc
-
-chosen : (word : List ℕ) (alone : Bool) → effect_by word alone
-    ≡ choose (is_change word) (bytes_eq word (codes "begin") && alone) (bytes_eq word (codes "commit") && not alone)
-    (bytes_eq word (codes "abort")) (bytes_eq word (codes "compact") && alone)
-unfolding choose
-chosen word alone = refl
+by_word : (e : Effect) (word : List ℕ) (alone : Bool) → effect_by word alone ≡ e → IsOf (is_change word)
+    (bytes_eq word (codes "begin") && alone) (bytes_eq word (codes "commit") && not alone) e
+by_word e word alone is = subst (IsOf _ _ _) is (by_tests _ _ _ (bytes_eq word (codes "abort")) (bytes_eq word (codes "compact") && alone))
 
 pub same_text : (a b : List ℕ) → bytes_eq a b ≡ true → a ≡ b
 same_text a b h = grind (arith, bytes_eq-Decides a b)
@@ -150,23 +133,22 @@ one_more (suc n) = grind arith
 
 stays_for : (e : Effect) (word : List ℕ) (fs : List (List ℕ)) → effect_by word (length fs == 0) ≡ e →
     has_line e ≡ true → (o : Bool) → stays_open o (word ++ body_rest fs) ≡ turned e o
-unfolding body_rest
+unfolding body_rest IsOf
 stays_for effect.Nothing word fs is kept o = absurd cc
 stays_for effect.Abort word fs is kept o = absurd cc
 stays_for effect.Compact word fs is kept o = absurd cc
-stays_for effect.Change word fs is kept o =
-    change_stays o word (body_rest fs) (is_of_change _ _ _ _ _ (sym (chosen word (length fs == 0)) ∙ is))
+stays_for effect.Change word fs is kept o = change_stays o word (body_rest fs) (by_word effect.Change word (length fs == 0) is)
 stays_for effect.Begin word [] is kept o =
-    let both = and_parts (bytes_eq word (codes "begin")) true (is_of_begin _ _ _ _ _ (sym (chosen word true) ∙ is)) in
+    let both = and_parts (bytes_eq word (codes "begin")) true (by_word effect.Begin word true is) in
     ap (λ (w : List ℕ). stays_open o (w ++ [])) (same_text word (codes "begin") both.0) ∙ begin_opens o
 stays_for effect.Begin word (f ∷ fs) is kept o =
-    let both = and_parts (bytes_eq word (codes "begin")) false (is_of_begin _ _ _ _ _ (sym (chosen word false) ∙ ap (effect_by word) (sym (nonzero (length fs))) ∙ is)) in
+    let both = and_parts (bytes_eq word (codes "begin")) false (by_word effect.Begin word false (ap (effect_by word) (sym (nonzero (length fs))) ∙ is)) in
     absurd (let no = both.1 in cc)
 stays_for effect.Commit word [] is kept o =
-    let both = and_parts (bytes_eq word (codes "commit")) false (is_of_commit _ _ _ _ _ (sym (chosen word true) ∙ is)) in
+    let both = and_parts (bytes_eq word (codes "commit")) false (by_word effect.Commit word true is) in
     absurd (let no = both.1 in cc)
 stays_for effect.Commit word (f ∷ fs) is kept o =
-    let both = and_parts (bytes_eq word (codes "commit")) true (is_of_commit _ _ _ _ _ (sym (chosen word false) ∙ ap (effect_by word) (sym (nonzero (length fs))) ∙ is)) in
+    let both = and_parts (bytes_eq word (codes "commit")) true (by_word effect.Commit word false (ap (effect_by word) (sym (nonzero (length fs))) ∙ is)) in
     ap (λ (w : List ℕ). stays_open o (w ++ 44 ∷ join_with_byte 44 (f ∷ fs))) (same_text word (codes "commit") both.0)
     ∙ commit_closes o (join_with_byte 44 (f ∷ fs))
 

@@ -200,8 +200,11 @@ at_line_end p f x at = by_quote (is_quoted p.state) refl
           rejected = λ no. absurd (let never : true ≡ false = ap not (sym q) ∙ no in cc);
         }
 
-next_is : (p : Place) (b : ℕ) → p.mark ≡ mark.Over → is_line_end b ≡ false →
-    next_place p b ≡ record { mark = mark.Over; state = (step default_config p.state b).0; length = p.length + 1 }
+-- after a byte of a line, which csv reads from a state, and which so many bytes come before
+abbrev onward : State → ℕ → ℕ → Place
+onward s n b = record { mark = mark.Over; state = (step default_config s b).0; length = n + 1 }
+
+next_is : (p : Place) (b : ℕ) → p.mark ≡ mark.Over → is_line_end b ≡ false → next_place p b ≡ onward p.state p.length b
 next_is p b over no_end = rw (no_end, over) refl
 
 single_on : (p q : Place) (b : ℕ) (line : List ℕ) → is_line_end b ≡ false → nat_lt p.length most_in_line ≡ true →
@@ -231,39 +234,35 @@ module _ (s : State) (p q : Place) (r : State × Action) (f : List (List ℕ)) (
   one_more : Reads s f x p (b ∷ line)
   one_more = record { fields = h.fields; reads = reads_more; rejected = rejected_more }
 
+no_end_parts : (b : ℕ) (line : List ℕ) → HasNoEnd (b ∷ line) → (is_line_end b ≡ false) × HasNoEnd line
+no_end_parts b line none = (grind arith, grind arith)
+
 -- the rest of a line
 line_reads : (line : List ℕ) (p : Place) (f : List (List ℕ)) (x : List ℕ) → begun p.state ≡ true →
     p.mark ≡ mark.Over → p.length ≤ most_in_line → HasNoEnd line → Reads p.state f x p line
 line_reads [] p f x at over short none = at_line_end p f x at
 line_reads (b ∷ line) p f x at over short none =
-    by_length (nat_lt p.length most_in_line) refl (λ q g y a m l. line_reads line q g y a m l no_more)
+    by_length (nat_lt p.length most_in_line) refl (λ q g y a m l. line_reads line q g y a m l none_in.1)
   where
-    no_end : is_line_end b ≡ false
-    no_end = grind arith
-
-    no_more : HasNoEnd line
-    no_more = grind arith
-
-    r : State × Action
-    r = step default_config p.state b
-
-    q : Place
-    q = record { mark = mark.Over; state = r.0; length = p.length + 1 }
+    none_in : (is_line_end b ≡ false) × HasNoEnd line
+    none_in = no_end_parts b line none
 
     by_length : (l : Bool) → nat_lt p.length most_in_line ≡ l →
         ((q : Place) (g : List (List ℕ)) (y : List ℕ) → begun q.state ≡ true → q.mark ≡ mark.Over
         → q.length ≤ most_in_line → Reads q.state g y q line) → Reads p.state f x p (b ∷ line)
     by_length true less next =
-        let stays = step_stays p.state b at no_end in
-        one_more p.state p q r f x b line refl stays.0 no_end less (next_is p b over no_end)
+        let r = step default_config p.state b in
+        let q = onward p.state p.length b in
+        let stays = step_stays p.state b at none_in.0 in
+        one_more p.state p q r f x b line refl stays.0 none_in.0 less (next_is p b over none_in.0)
         (next q (fields_after r.1 f x) (field_after r.1 b x) stays.1 refl (grind arith))
     by_length false less next =
         record {
           fields = with_further (f ++ x ∷ []);
           reads = λ tail given t left ends.
               ap (next_record default_config p.state f x)
-              (from_long most_in_line p b (line ++ tail) no_end less (let long : nat_lt most_in_line p.length ≡ false = grind arith in neither_is most_in_line p.length less long)
-              ∙ ap (λ (l : List ℕ). ending p.state ++ l) (from_ended line tail no_more ∙ ends.from (ended most_in_line)))
+              (from_long most_in_line p b (line ++ tail) none_in.0 less (let long : nat_lt most_in_line p.length ≡ false = grind arith in neither_is most_in_line p.length less long)
+              ∙ ap (λ (l : List ℕ). ending p.state ++ l) (from_ended line tail none_in.1 ∙ ends.from (ended most_in_line)))
               ∙ ends.further p.state f x at;
           rejected = λ no. (f, x, refl);
         }
@@ -285,31 +284,28 @@ pub line_gives_one : (b : ℕ) (line : List ℕ) → HasNoEnd (b ∷ line) → G
 line_gives_one b line none =
     record {
       fields = rest.fields;
-      reads = λ s at. reads_more s line_start q r [] [] b line (begins_field s b at no_end) stays.0 no_end refl next rest;
-      rejected = rejected_more st.StartRecord line_start q r [] [] b line (begins_field st.StartRecord b (inl refl) no_end) stays.0
-          no_end refl next rest;
+      reads = λ s at. reads_more s line_start q r [] [] b line (begins_field s b at none_in.0) stays.0 none_in.0 refl next rest;
+      rejected = rejected_more st.StartRecord line_start q r [] [] b line (begins_field st.StartRecord b (inl refl) none_in.0) stays.0
+          none_in.0 refl next rest;
     }
   where
-    no_end : is_line_end b ≡ false
-    no_end = grind arith
-
-    no_more : HasNoEnd line
-    no_more = grind arith
+    none_in : (is_line_end b ≡ false) × HasNoEnd line
+    none_in = no_end_parts b line none
 
     r : State × Action
     r = step default_config st.StartField b
 
     q : Place
-    q = record { mark = mark.Over; state = r.0; length = 1 }
+    q = onward st.StartField 0 b
 
     stays : Stays r
-    stays = step_stays st.StartField b refl no_end
+    stays = step_stays st.StartField b refl none_in.0
 
     next : next_place line_start b ≡ q
     next =
-        next_is line_start b refl no_end
+        next_is line_start b refl none_in.0
         ∙ ap (λ (t : State × Action). record { mark = mark.Over; state = t.0; length = 1 })
-        (begins_field st.StartRecord b (inl refl) no_end)
+        (begins_field st.StartRecord b (inl refl) none_in.0)
 
     rest : Reads r.0 (fields_after r.1 [] []) (field_after r.1 b []) q line
-    rest = line_reads line q (fields_after r.1 [] []) (field_after r.1 b []) stays.1 refl (omega arith) no_more
+    rest = line_reads line q (fields_after r.1 [] []) (field_after r.1 b []) stays.1 refl (omega arith) none_in.1

@@ -126,14 +126,7 @@ module _ (l : List ℕ) (r h : ℕ) (e : Effect) (a : AreLines l r h e) where
   cut_lines = lines_are (take h l) r h effect.Nothing _ _ [] cut a.whole a.batch (no_line effect.Nothing refl)
 
   pub noted_lines : (k : Effect) → has_line k ≡ false → drop h l ≡ [] → AreLines l r h k
-  noted_lines k none empty =
-      record {
-        order = a.order;
-        within = a.within;
-        whole = a.whole;
-        batch = a.batch;
-        next = subst (IsLineFor k) (sym empty) (no_line k none);
-      }
+  noted_lines k none empty = lines_are l r h k _ _ _ all a.whole a.batch (subst (IsLineFor k) (sym empty) (no_line k none))
 
   -- after an empty line
   full : drop h l ≡ [] → take h l ≡ l

@@ -2,49 +2,54 @@ use Rattle.std.proofs.Common.{◌≡◌, ◌∙◌, ◌≤◌, ◌++◌, ℕ, Li
 use Rattle.olr_sessions.specs.Blocks.{block_of}
 use Rattle.olr_sessions.specs.Lines.{IsGivable, after_end}
 use Rattle.olr_sessions.proofs.GivenLines.{given_front, given_is, given_of_block, none_given}
+use Rattle.olr_sessions.proofs.lines.Lines.give.Given.{Over}
+use Rattle.olr_sessions.proofs.lines.Lines.give.Goals.{After-consume}
 use Rattle.olr_sessions.proofs.lines.Lines.give.Goals as goal
+
+module _ (g : Over) (c : After-consume g) where
+  abbrev front : List ℕ
+  front = take (length c.args.bytes.now) (block_of c.args.self.now.source)
+
+  abbrev n : ℕ
+  n = c.part_length-count.result
+
+  within : n ≤ length front
+  within = search rules
+
+  copied : c.copy_from_slice.new.self ≡ take n front
+  copied = search rules
+
+  given : take n (c.copy_from_slice.new.self ++ drop n c.args.bytes.now) ≡ take n c.front-most.result.now
+  given =
+      let same : c.copy_from_slice.new.self ≡ take n c.front-most.result.now = search rules in
+      given_is c.copy_from_slice.new.self (drop n c.args.bytes.now) c.front-most.result.now n c.part_length-count.ensures.within same
 
 pub returns-clause-bytes : goal.returns-clause-bytes
 returns-clause-bytes g c =
-    let s = c.args.self.now in
+    let path = (goal.at.returns-clause-bytes g c).After-consume in
+    let block = block_of c.args.self.now.source in
     let n = c.part_length-count.result in
-    let block = block_of s.source in
-    let most = length c.args.bytes.now in
-    let within : n ≤ length (take most block) = search rules in
-    let copied : c.copy_from_slice.new.self ≡ take n (take most block) = search rules in
-    given_front (g.R.Read.remaining s.source.input) (g.R.Read.remaining c.consume.new.self.input) block
+    given_front (g.R.Read.remaining c.args.self.now.source.input) (g.R.Read.remaining c.consume.new.self.input) block
     (block_of c.consume.new.self) (take n (c.copy_from_slice.new.self ++ drop n c.args.bytes.now)) n
     (ap g.R.Read.remaining c.consume.ensures.input) c.consume.ensures.block
-    (given_of_block c.copy_from_slice.new.self (drop n c.args.bytes.now) block n most within copied)
+    (given_of_block c.copy_from_slice.new.self (drop n c.args.bytes.now) block n (length c.args.bytes.now) (within g path) (copied g path))
 
 pub returns-clause-end : goal.returns-clause-end
 returns-clause-end g c =
-    let s = c.args.self.now in
-    let n = c.part_length-count.result in
-    let block = block_of s.source in
-    let most = length c.args.bytes.now in
-    let is : c.front-most.result.now ≡ take most block = search rules in
-    let within : n ≤ length (take most block) = search rules in
-    let copied : c.copy_from_slice.new.self ≡ take n (take most block) = search rules in
-    none_given (g.R.Read.remaining s.source.input) (g.R.Read.remaining c.consume.new.self.input) block
-    (block_of c.consume.new.self) c.copy_from_slice.new.self c.args.bytes.now n
-    (ap g.R.Read.remaining c.consume.ensures.input) c.consume.ensures.block
-    (ap length copied ∙ length-take-le n (take most block) within)
+    let path = (goal.at.returns-clause-end g c).After-consume in
+    let is : c.front-most.result.now ≡ front g path = search rules in
+    none_given (g.R.Read.remaining c.args.self.now.source.input) (g.R.Read.remaining c.consume.new.self.input)
+    (block_of c.args.self.now.source) (block_of c.consume.new.self) c.copy_from_slice.new.self c.args.bytes.now
+    c.part_length-count.result (ap g.R.Read.remaining c.consume.ensures.input) c.consume.ensures.block
+    (ap length (copied g path) ∙ length-take-le c.part_length-count.result (front g path) (within g path))
     (λ none. subst (λ (x : List ℕ). length x ≡ 0) is (c.part_length-count.ensures.some none)) c.requires
 
 pub returns-clause-part : goal.returns-clause-part
 returns-clause-part g c =
-    let n = c.part_length-count.result in
-    let copied : c.copy_from_slice.new.self ≡ take n c.front-most.result.now = search rules in
-    subst (IsGivable c.args.self.now.after_end)
-    (sym (given_is c.copy_from_slice.new.self (drop n c.args.bytes.now) c.front-most.result.now n
-    c.part_length-count.ensures.within copied)) c.part_length-count.ensures.part
+    subst (IsGivable c.args.self.now.after_end) (sym (given g (goal.at.returns-clause-part g c).After-consume))
+    c.part_length-count.ensures.part
 
 pub returns-clause-after : goal.returns-clause-after
 returns-clause-after g c =
-    let n = c.part_length-count.result in
-    let copied : c.copy_from_slice.new.self ≡ take n c.front-most.result.now = search rules in
     c.is_after_end-self.ensures
-    ∙ ap (after_end c.args.self.now.after_end)
-    (sym (given_is c.copy_from_slice.new.self (drop n c.args.bytes.now) c.front-most.result.now n
-    c.part_length-count.ensures.within copied))
+    ∙ ap (after_end c.args.self.now.after_end) (sym (given g (goal.at.returns-clause-after g c).After-consume))

@@ -1,6 +1,6 @@
-use Rattle.std.proofs.Common.{◌≡◌, sym, subst, ◌++◌, List, ℕ, true, rules}
+use Rattle.std.proofs.Common.{◌≡◌, ◌++◌, true, rules}
 use Rattle.csv.specs.Records.{fields_of}
-use Rattle.olr_sessions.specs.KeptLines.{AreLines, line_of, is_clean}
+use Rattle.olr_sessions.specs.KeptLines.{line_of, is_clean}
 use Rattle.std.specs.List.{join_with_byte}
 use Rattle.olr_sessions.proofs.KeptLines.{line_for}
 use Rattle.olr_sessions.proofs.Parts.{added_lines}
@@ -13,7 +13,6 @@ invariant_of-self-then-branch c =
     let clean : is_clean (join_with_byte 44 fs) ≡ true = search rules in
     let items : c.add_line.new.text.items ≡ u.lines.items ++ line_of fs = search rules in
     record {
-      right = subst (λ (l : List ℕ). AreLines l u.ready u.held c.args.effect) (sym items)
-          (added_lines u.lines.items u.ready u.held u.effect u.right c.args.effect (line_of fs) c.requires.none
+      right = rw items (added_lines u.lines.items u.ready u.held u.effect u.right c.args.effect (line_of fs) c.requires.none
           (line_for c.args.effect fs c.requires.effect c.requires.kept clean));
     }

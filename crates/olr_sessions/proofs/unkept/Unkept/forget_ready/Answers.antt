@@ -1,12 +1,7 @@
-use Rattle.std.proofs.Common.{sym, subst, ◌-◌, List, ℕ}
-use Rattle.olr_sessions.specs.KeptLines.{AreLines}
 use Rattle.olr_sessions.proofs.Parts.{forgotten_lines}
 use Rattle.olr_sessions.proofs.unkept.Unkept.forget_ready.Goals as goal
 
 pub invariant_of-self : goal.invariant_of-self
 invariant_of-self c =
     let u = c.args.self.now in
-    record {
-      right = subst (λ (l : List ℕ). AreLines l 0 (u.held - u.ready) u.effect) (sym c.remove_front.ensures)
-          (forgotten_lines u.lines.items u.ready u.held u.effect u.right);
-    }
+    record { right = rw c.remove_front.ensures (forgotten_lines u.lines.items u.ready u.held u.effect u.right) }
