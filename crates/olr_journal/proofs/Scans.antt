@@ -2,7 +2,7 @@
 use Rattle.std.proofs.Common.{◌≡◌, ◌⊎◌, inl, inr, ℕ, suc, ◌+◌, ◌-◌, ◌≤◌, ◌<◌, Bool, true, false, List, [], ◌∷◌, ◌++◌, length, take, drop, get_or, refl, sym, ◌∙◌, ap, subst, arith, length-append, length-take, length-drop, append_assoc}
 use Rattle.std.specs.Prelude.{◌==◌, ◌&&◌, ◌||◌, not, if◌then◌else◌, codes}
 use Rattle.std.specs.Str.{bytes_eq}
-use Rattle.std.proofs.lemmas.List.{take-append-le, take_all, get_or_append_left, get_or-append-add, get_or-drop}
+use Rattle.std.proofs.lemmas.List.{take-append-le, take-take, take_all, get_or_append_left, get_or-append-add, get_or-drop}
 use Rattle.std.proofs.lemmas.Bool.{cases_Bool, cases_lt, and_left, and_right, and_parts, and_cases, not-true, not-false, cond-true, cond-false, ne_eqb}
 use Rattle.olr_sessions.specs.Journals.{is_whole_from, stays_open, is_empty}
 use Rattle.olr_journal.specs.Texts.{counts, is_own, ends_blank, ends_blank_behind, longest_front, recovered}
@@ -45,14 +45,7 @@ begins_front (a ∷ b ∷ c ∷ d ∷ e ∷ []) = refl
 begins_front (a ∷ b ∷ c ∷ d ∷ e ∷ f ∷ line) = refl
 
 commits_front : (line : List ℕ) → take 7 (take 8 line) ≡ take 7 line
-commits_front [] = refl
-commits_front (a ∷ []) = refl
-commits_front (a ∷ b ∷ []) = refl
-commits_front (a ∷ b ∷ c ∷ []) = refl
-commits_front (a ∷ b ∷ c ∷ d ∷ []) = refl
-commits_front (a ∷ b ∷ c ∷ d ∷ e ∷ []) = refl
-commits_front (a ∷ b ∷ c ∷ d ∷ e ∷ f ∷ []) = refl
-commits_front (a ∷ b ∷ c ∷ d ∷ e ∷ f ∷ g ∷ line) = refl
+commits_front line = take-take 7 8 line (omega arith)
 
 empty_front : (line : List ℕ) → is_empty (take 8 line) ≡ is_empty line
 empty_front [] = refl
