@@ -8,8 +8,8 @@ use olr_binary::{Reference, decoded};
 /// A decoded longitude and latitude, in units of 1/327,680,000,000 degree.
 #[derive(Clone, Copy)]
 pub(crate) struct DecodedPlace {
-    pub(crate) lon: i128,
-    pub(crate) lat: i128,
+    pub lon: i128,
+    pub lat: i128,
 }
 
 /// Where LRP k of a reference is decoded, counted from 0.

@@ -24,11 +24,11 @@ const LOWEST_LON: i128 = -58_982_400_000_000;
 #[derive(Clone, Copy)]
 pub(crate) struct Placed {
     /// The number of the cell, row by row.
-    pub(crate) cell: u64,
+    pub cell: u64,
     /// The node.
-    pub(crate) node: NodeId,
+    pub node: NodeId,
     /// Its coordinate.
-    pub(crate) place: Coord,
+    pub place: Coord,
 }
 
 /// The nodes of a map, in ascending order of their cells.

@@ -32,21 +32,21 @@ pub enum Side {
 #[derive(Clone, Copy)]
 pub(crate) struct OwnLine {
     /// Where the LRP is decoded.
-    pub(crate) place: DecodedPlace,
+    pub place: DecodedPlace,
     /// Which lines are candidates.
-    pub(crate) side: Side,
+    pub side: Side,
     /// The line's number.
-    pub(crate) id: LineId,
+    pub id: LineId,
     /// Its node.
-    pub(crate) node: NodeId,
+    pub node: NodeId,
     /// The node's coordinate.
-    pub(crate) here: Coord,
+    pub here: Coord,
     /// Its functional road class.
-    pub(crate) frc: u8,
+    pub frc: u8,
     /// Its form of way.
-    pub(crate) fow: u8,
+    pub fow: u8,
     /// Its bearing at the node.
-    pub(crate) sector: u8,
+    pub sector: u8,
 }
 
 /// A line of the map.

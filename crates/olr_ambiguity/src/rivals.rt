@@ -20,8 +20,8 @@ use std::alloc::{AllocError, Global};
 /// A part of the grid, by its first and last rows and columns.
 #[derive(Clone, Copy)]
 pub(crate) struct Window {
-    pub(crate) rows: (u64, u64),
-    pub(crate) columns: (u64, u64),
+    pub rows: (u64, u64),
+    pub columns: (u64, u64),
 }
 
 /// How far a node may be from the decoded coordinate, in units: the own node's distance along both axes, and the slack.
