@@ -9,7 +9,7 @@ pub mod bytes;
 pub mod changes;
 pub mod commands;
 pub mod coordinates;
-pub mod lines;
+pub mod input_lines;
 pub mod logs;
 pub mod maps;
 pub mod receivers;

@@ -19,7 +19,7 @@ pub use Rattle.olr_records.specs.ReplyText.{count_line, entry_line, middle_line,
 pub use Rattle.olr_records.specs.Words.{Gathers, Reads, ReadsBy, both}
 pub use Rattle.olr_records.specs.declared.faults.ReadFault.{ReadFault}
 pub use Rattle.olr_records.specs.declared.faults.ReadFault.TheVariants.{Memory}
-pub use Rattle.olr_records.specs.declared.lines.LineAttributes.{LineAttributes}
+pub use Rattle.olr_records.specs.declared.attributes.LineAttributes.{LineAttributes}
 pub use Rattle.olr_spec.specs.Coordinates.{Coord, is_coord, is_latitude, is_longitude}
 pub use Rattle.olr_spec.specs.Degrees.{degrees, digits_value, unit7}
 pub use Rattle.olr_spec.specs.Extension.{Path}

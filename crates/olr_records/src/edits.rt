@@ -5,9 +5,9 @@ ghost use Rattle.olr_spec.specs.Map.{Add_node, Move_node, Drop_node, Drop_line};
 ghost use Rattle.olr_records.specs.Records as records;
 ghost use Rattle.olr_records.specs.Words.{IsRead, Reads};
 
+use crate::attributes::attributes_at;
 use crate::faults::ReadFault;
 use crate::fields::{coord, field, line_id, node_id, only_field};
-use crate::lines::attributes_at;
 use crate::parts::both;
 use csv::ByteRecord;
 use olr_commands::Command;

@@ -1,10 +1,10 @@
 //! Records of comma-separated fields read as commands, and the texts of replies and faults.
 #![tactic(auto)]
 
+mod attributes;
 mod edits;
 pub mod faults;
 mod fields;
-mod lines;
 mod lists;
 mod parts;
 mod paths;

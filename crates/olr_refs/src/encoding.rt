@@ -14,7 +14,7 @@ ghost use Rattle.olr_refs.specs.Reuse.{IsReuse, Asks, AsksOf, Searched};
 use crate::along::{ResolvedPath, distances};
 use crate::chosen::{Choice, Chosen, Queries, points};
 use crate::extension::{Extended, extend};
-use crate::faults::own_lines;
+use crate::path_fault::own_lines;
 use crate::reference::{Referred, reference_of};
 use crate::reuse::Reuse;
 use olr_answers::{Answer, CoverageQuery, KnownQuery, Path, Refusal};

@@ -10,7 +10,7 @@ ghost use Rattle.olr_spec.specs.Extension.{AreJoined};
 ghost use Rattle.olr_refs.specs.KeptPoints.{later, AreKept, ArePoints};
 
 use crate::along::ResolvedPath;
-use crate::fields::{first_point, last_point, middle_points, offset};
+use crate::lrp_fields::{first_point, last_point, middle_points, offset};
 use crate::trim::{Trimmed, trim};
 use olr_binary::Reference;
 use olr_roads::{LineId, MapRead};

@@ -1,6 +1,6 @@
 use Rattle.olr_refs.proofs.Common.{rules, arith}
 use Rattle.olr_refs.proofs.LegLemmas.{leg_read, attrs_read}
-use Rattle.olr_refs.proofs.fields.attrs.Goals as goal
+use Rattle.olr_refs.proofs.lrp_fields.attrs.Goals as goal
 
 pub returns : goal.returns
 returns g c =

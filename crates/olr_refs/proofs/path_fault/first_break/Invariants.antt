@@ -1,5 +1,5 @@
 use Rattle.olr_refs.proofs.Common.{◌≡◌, ◌-◌, ℕ, List, drop, Map, first_break, records_of}
-use Rattle.olr_refs.proofs.faults.first_break.Given as goal
+use Rattle.olr_refs.proofs.path_fault.first_break.Given as goal
 
 -- the first break of the remaining lines is the first of all
 abbrev pub invariant-loop-k : goal.invariant-loop-k

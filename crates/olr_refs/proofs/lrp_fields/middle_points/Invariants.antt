@@ -1,5 +1,5 @@
 use Rattle.olr_refs.proofs.Common.{◌≡◌, ◌+◌, take, legs, middle_points_of}
-use Rattle.olr_refs.proofs.fields.middle_points.Given as goal
+use Rattle.olr_refs.proofs.lrp_fields.middle_points.Given as goal
 
 -- the LRPs between the first and the one at index k
 abbrev pub invariant-loop-k : goal.invariant-loop-k

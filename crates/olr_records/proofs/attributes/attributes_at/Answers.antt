@@ -3,7 +3,7 @@ use Rattle.std.proofs.Common.{rules, ℕ, ◌+◌, ◌<◌, List, drop, length, 
 use Rattle.olr_records.specs.Records.{digits}
 use Rattle.olr_records.proofs.LoopLemmas.{at}
 use Rattle.olr_records.proofs.PartLemmas.{no-memory, first-part, parts, both-parts, handed-on}
-use Rattle.olr_records.proofs.lines.attributes_at.Goals as goal
+use Rattle.olr_records.proofs.attributes.attributes_at.Goals as goal
 
 pub returns-in_err-frc : goal.returns-in_err-frc
 returns-in_err-frc c =

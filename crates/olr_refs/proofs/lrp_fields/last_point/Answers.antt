@@ -1,7 +1,7 @@
 use Rattle.olr_refs.proofs.Common.{rules, ◌-◌, ◌∙◌, arith, to_z-of_z, legs, w16}
 use Rattle.olr_refs.proofs.LegLemmas.{leg_read}
 use Rattle.olr_refs.proofs.PointLemmas.{last_read}
-use Rattle.olr_refs.proofs.fields.last_point.Goals as goal
+use Rattle.olr_refs.proofs.lrp_fields.last_point.Goals as goal
 
 pub returns : goal.returns
 returns g c =

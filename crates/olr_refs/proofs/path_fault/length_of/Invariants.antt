@@ -1,5 +1,5 @@
 use Rattle.olr_refs.proofs.Common.{◌≡◌, ◌≤◌, ◌*◌, ℕ, List, take, Map, dm_of, records_of}
-use Rattle.olr_refs.proofs.faults.length_of.Given as goal
+use Rattle.olr_refs.proofs.path_fault.length_of.Given as goal
 
 -- the length of the lines so far
 abbrev pub invariant-loop-record : goal.invariant-loop-record

@@ -1,7 +1,7 @@
 use Rattle.olr_records.proofs.Common.{⊤, fields_of, ShapePoint, Read, shape, Gathers}
 use Rattle.std.proofs.Common.{◌≡◌, List, drop, length, ◌≤◌, ◌-◌}
 use Rattle.olr_records.proofs.LoopLemmas.{onto}
-use Rattle.olr_records.proofs.lines.shape.Given as goal
+use Rattle.olr_records.proofs.attributes.shape.Given as goal
 
 -- the points so far, with those of the fields not read yet, are the whole shape
 abbrev pub invariant-loop-k : goal.invariant-loop-k

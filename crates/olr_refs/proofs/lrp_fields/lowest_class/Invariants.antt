@@ -1,5 +1,5 @@
 use Rattle.olr_refs.proofs.Common.{◌≡◌, take, lowest_class}
-use Rattle.olr_refs.proofs.fields.lowest_class.Given as goal
+use Rattle.olr_refs.proofs.lrp_fields.lowest_class.Given as goal
 
 -- the lowest class so far
 abbrev pub invariant-loop-record : goal.invariant-loop-record

@@ -2,7 +2,7 @@ use Rattle.olr_records.proofs.Common.{⊤, length-drop, fields_of, ShapePoint, R
 use Rattle.std.proofs.Common.{rules, List, ℕ, ◌+◌, ◌<◌, ◌≤◌, drop, length, subst, arith}
 use Rattle.olr_records.proofs.LoopLemmas.{at, with, nothing-onto, shape-end, shape-more, shape-over, gathers-only}
 use Rattle.olr_records.proofs.LoopLemmas.{some-points}
-use Rattle.olr_records.proofs.lines.shape.Goals as goal
+use Rattle.olr_records.proofs.attributes.shape.Goals as goal
 
 pub loop-k-init : goal.loop-k-init
 loop-k-init c = search (rules, arith, nothing-onto)

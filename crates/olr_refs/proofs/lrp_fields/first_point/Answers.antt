@@ -1,6 +1,6 @@
 use Rattle.olr_refs.proofs.Common.{rules, arith, and_parts, to_z-of_z, ap, ◌∙◌, Coord, abs24, legs, w32}
 use Rattle.olr_refs.proofs.PointLemmas.{first_read, stored}
-use Rattle.olr_refs.proofs.fields.first_point.Goals as goal
+use Rattle.olr_refs.proofs.lrp_fields.first_point.Goals as goal
 
 pub abs24-requires : goal.abs24-requires
 abs24-requires g c = grind (arith, and_parts, to_z-of_z)
