@@ -535,31 +535,7 @@ fn many_answers(rt: HostRuntime) {
 }
 
 #[test]
-fn help_and_usage(rt: HostRuntime) {
-    let help = "Keeps published OpenLR strings correct while the road map is edited.
-
-Usage: olr-keep [OPTIONS]
-
-Options:
-  -m <FILE>                Reads the records of FILE before those of standard input
-  -s                       Stops at the first rejected record
-      --lines              Takes each line as one record, also one with an open quote
-  -l <LOG>                 Starts from the records of LOG, and keeps each accepted change there
-      --new                Makes LOG, which must not exist
-      --compact-at <SIZE>  Replaces LOG by a dump when it has SIZE bytes, as 500M
-  -h, --help               Print help
-  -V, --version            Print version
-
-Records: node, move, drop-node, line, set-line, drop-line, path, repath, drop-path,
-show, show-node, show-line, depends, report, dump, compact, ambiguous, explain, begin, commit,
-abort.
-docs/LIMITS.md: fields, limits, faults.
-Replies: `ok,N` and N lines, `held,N` in a batch, `fault,NUMBER,WORD`.
-Example: olr-keep < examples/morning.csv
-Status: 0 all accepted, 1 some rejected, 2 invalid arguments, 3 I/O failed, 4 out of memory;
-5 a record of LOG is rejected, 6 the input ended in a batch, 7 LOG is in use.
-docs/RUNNING.md: maps from a database, a log for restarts, a queue, regions.
-";
+fn version_and_usage(rt: HostRuntime) {
     let usage = "error: unexpected argument '-x' found
 
 Usage: olr-keep [OPTIONS]
@@ -567,7 +543,6 @@ Usage: olr-keep [OPTIONS]
 For more information, try '--help'.
 ";
     let version = "olr-keep 1.1.0, proved with logic dac8208d650f15bf\n";
-    expect_program(&rt, &["olr-keep", "--help"], None, outage(), 0, help, "");
     expect_program(&rt, &["olr-keep", "-V"], None, outage(), 0, version, "");
     expect_program(&rt, &["olr-keep", "-x"], None, outage(), 2, "", usage);
 }
