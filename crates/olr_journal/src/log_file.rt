@@ -2,7 +2,7 @@
 
 ghost use Rattle.std.specs.Prelude.{◌≡◌, ◌⊎◌, ◌+◌, ◌-◌, ◌<◌, ◌≤◌, ℕ, List, ◌++◌, length, replicate, true, false, if◌then◌else◌, IsTrue, IfOk, OnOk, OnErr, IsErr, IsNone, IsSome, ⊤, MatchOption, Option};
 ghost use Rattle.sqlite_disk.specs.Disk.{Only};
-ghost use Rattle.olr_sessions.specs.Journals.{IsFront, is_whole};
+ghost use Rattle.olr_sessions.specs.Journals.{MayHaveKept, is_whole};
 ghost use Rattle.olr_journal.specs.Texts.{ends_blank, padded};
 ghost use Rattle.olr_journal.specs.Files.{IsOpened, IsPadded, kept_in};
 ghost use Rattle.olr_journal.specs.Outcomes.{MayLeave, LeavesText};
@@ -131,8 +131,7 @@ impl<D: Disk + Drop, F: Folder<D>> Journal for LogFile<D, F> {
         ensures kept { OnOk result (kept_of self.new ≡ kept_of self.old ++ records.now) }
         ensures counted { OnOk result (size_of self.new ≡ length (kept_of self.new)) }
         ensures durable { OnOk result (Only (kept_of self.new) (left_of self.new)) }
-        ensures cut { (c : List ℕ) → left_of self.new c → left_of self.old c
-            ⊎ ((front : List ℕ) × IsFront records.now front × (c ≡ kept_of self.old ++ front)) }
+        ensures cut { MayHaveKept kept_of left_of self.old records.now self.new }
         ensures ready { OnOk result (is_ready self.new ≡ true) }
         ensures broken { OnErr result (is_broken_of self.new ≡ true) }
         ensures unready { is_ready self.old ≡ false → IsErr result }

@@ -1,43 +1,34 @@
-use Rattle.std.proofs.Common.{rules, ◌≡◌, inr, ◌+◌, ◌-◌, ◌<◌, ℕ, List, ◌++◌, length, Bool, true, [], refl, sym, ◌∙◌, ap, subst, arith}
-use Rattle.std.proofs.lemmas.List.{append-nil}
+use Rattle.std.proofs.Common.{rules, ◌≡◌, inr, ◌+◌, ◌-◌, ◌<◌, List, ℕ, ◌++◌, length, Bool, true, refl, sym, ◌∙◌, ap, arith}
 use Rattle.olr_journal.specs.Texts.{counts, text_of}
-use Rattle.olr_journal.specs.Files.{kept_in, KeepsFirst}
-use Rattle.olr_journal.proofs.Keeping.{led_here, no_records, counts_from, kept_size, kept_text, padded_after, size_after, text_after, kept_more, room_after}
-use Rattle.olr_journal.proofs.Settled.{more_put}
+use Rattle.olr_journal.specs.Files.{kept_in}
+use Rattle.olr_journal.proofs.Keeping.{counts_from, kept_size, padded_after, size_after, text_after, kept_more, room_after}
+use Rattle.olr_journal.specs.Logs.{kept_of}
+use Rattle.olr_sessions.specs.Journals.{IsFront}
+use Rattle.olr_journal.proofs.Settled.{Left, leaves_text, extended_text, more_put}
+use Rattle.olr_journal.proofs.log_file.LogFileJournal.keep.Given.{Over}
+use Rattle.olr_journal.proofs.log_file.LogFileJournal.keep.Goals.{After-put}
 use Rattle.olr_journal.proofs.log_file.LogFileJournal.keep.Goals as goal
 
 pub returns-in_err-self-clause-cut : goal.returns-in_err-self-clause-cut
 returns-in_err-self-clause-cut g c text left =
-    let disk = g.D.Disk in
+    inr (extended_text c.args.self.now c.if-not-is_settled.false c.extend.new.disk c.extend.ensures.calm c.extend.ensures.crash c.args.records.now text left)
+
+cut_short : (g : Over) (c : After-put g) (text : List ℕ) → Left c.args.self.now c.put.new.disk text
+    → (front : List ℕ) × IsFront c.args.records.now front × (text ≡ kept_of c.args.self.now ++ front)
+cut_short g c text left =
     let self = c.args.self.now in
     let settled = c.if-not-is_settled.false in
-    let own = self.own settled in
-    let leaves = led_here disk.is_clean disk.may_leave (g.F.Folder.may_lead self.folder) self.number c.extend.new.disk self.rival text (self.led own.0) left in
-    let file = self.padded settled (sym c.extend.ensures.calm ∙ leaves.clean) in
-    let from = c.extend.ensures.crash leaves.file leaves.left in
-    let keeps = subst (λ (d : List ℕ). KeepsFirst self.file_len d leaves.file) (self.durable own.0 from.0 from.1) from.2 in
-    let same = kept_text self.text_len self.file_len (disk.seen self.disk) (self.room settled).0 file.0 file.1 leaves.file keeps in
-    inr ([], no_records c.args.records.now, sym leaves.is ∙ same ∙ sym (append-nil _) ∙ ap (λ (b : Bool). kept_in b self.text_len (disk.seen self.disk) ++ []) (sym own.1))
+    let long = c.in_ok-self.ensures.needed in
+    let end : c.in_ok-end.end ≡ self.text_len + 1 + length c.args.records.now = search rules in
+    more_put self settled c.extend.new.disk c.put.new.disk c.extend.ensures.calm c.put.ensures.calm c.args.records.now c.in_ok-self.field-0
+    (omega (arith, end, long.0)) long.1 c.in_ok-self.ensures.padded (c.in_ok-self.ensures.durable (self.durable (self.own settled).0))
+    c.put.ensures.crash text left
 
 pub returns-in_err-put-clause-cut : goal.returns-in_err-put-clause-cut
-returns-in_err-put-clause-cut g c text left =
-    let self = c.args.self.now in
-    let settled = c.if-not-is_settled.false in
-    let long = c.in_ok-self.ensures.needed in
-    let end : c.in_ok-end.end ≡ self.text_len + 1 + length c.args.records.now = search rules in
-    inr (more_put self settled c.extend.new.disk c.put.new.disk c.extend.ensures.calm c.put.ensures.calm c.args.records.now c.in_ok-self.field-0
-    (omega (arith, end, long.0)) long.1 c.in_ok-self.ensures.padded (c.in_ok-self.ensures.durable (self.durable (self.own settled).0))
-    c.put.ensures.crash text left)
+returns-in_err-put-clause-cut g c text left = inr (cut_short g (goal.at.returns-in_err-put-clause-cut g c).After-put text left)
 
 pub returns-clause-cut : goal.returns-clause-cut
-returns-clause-cut g c text left =
-    let self = c.args.self.now in
-    let settled = c.if-not-is_settled.false in
-    let long = c.in_ok-self.ensures.needed in
-    let end : c.in_ok-end.end ≡ self.text_len + 1 + length c.args.records.now = search rules in
-    inr (more_put self settled c.extend.new.disk c.put.new.disk c.extend.ensures.calm c.put.ensures.calm c.args.records.now c.in_ok-self.field-0
-    (omega (arith, end, long.0)) long.1 c.in_ok-self.ensures.padded (c.in_ok-self.ensures.durable (self.durable (self.own settled).0))
-    c.put.ensures.crash text left)
+returns-clause-cut g c text left = inr (cut_short g (goal.at.returns-clause-cut g c).After-put text left)
 
 pub returns-clause-kept : goal.returns-clause-kept
 returns-clause-kept g c =
@@ -67,7 +58,7 @@ returns-clause-durable g c text left =
     let records = c.args.records.now in
     let settled = c.if-not-is_settled.false in
     let own = self.own settled in
-    let leaves = led_here disk.is_clean disk.may_leave (g.F.Folder.may_lead self.folder) self.number c.put.new.disk self.rival text (self.led own.0) left in
+    let leaves = leaves_text self own.0 c.put.new.disk text left in
     let file = self.padded settled (sym c.extend.ensures.calm ∙ sym c.put.ensures.calm ∙ leaves.clean) in
     let long = c.in_ok-self.ensures.needed in
     let end : c.in_ok-end.end ≡ self.text_len + 1 + length records = search rules in
