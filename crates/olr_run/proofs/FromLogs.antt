@@ -14,7 +14,7 @@ use Rattle.olr_run.proofs.Running.{represented}
 use Rattle.olr_run.proofs.Sending.{faulted_sent, ran_sent}
 use Rattle.std.proofs.KnownBytes.{Keeps-refl}
 use Rattle.olr_run.specs.LogEnds.{AreRecordsOf, Begins, BeginsWith, LastsOn, Unbegun}
-use Rattle.olr_run.specs.Logged.{closed, Leads}
+use Rattle.olr_run.specs.Logged.{closed, Leads, Survives, UpTo}
 use Rattle.olr_run.specs.Logs.{LastsWhole, LastsCut}
 use Rattle.olr_run.specs.ProgramEnds.{FromLog, Ran, Cut_off}
 use Rattle.olr_run.specs.Restored.{IsContentOf}
@@ -98,32 +98,27 @@ module _ {D F : Type 0} {d : disk.Ghosts D} {f : folder.Ghosts F D} where
   module _ {W : Type 0} (contents : W → Known) (start last : LogFile D F d f) (o p : Buffered W)
       (g : Gate (LogFile D F d f)) (r : Result Status RunFault)
       (cut : (t : List ℕ) → left_of last t → left_of g.journal t ⊎ (IsTrue (is_ok r) × (t ≡ kept_of g.journal))) where
+    -- what is left of the log at the end was left before, or it is all that is kept, if the run was not cut off
+    closed_survives : (s : State) (rs : List (List Field)) (os : List Outcome) (sent : List ℕ) →
+        Survives s rs os (left_of g.journal) sent
+        → (IsTrue (is_ok r) → (c : Content) × Leads (kept_of g.journal) c × UpTo s rs os c sent)
+        → Survives s rs os (left_of last) sent
+    closed_survives s rs os sent before whole text left = elim (cut text left) [
+      | inl still ↦ before text still
+      | inr all ↦ subst (λ (x : List ℕ). (c : Content) × Leads x c × UpTo s rs os c sent) (sym all.1) (whole all.0)
+    ]
+
     whole_closed : (s : State) (rs : List (List Field)) (os : List Outcome) (t : State) →
         LastsWhole kept_of left_of contents start o g p s rs os t → LastsOn contents start o last p s rs os t
-    whole_closed s rs os t a = (
-      a.0,
-      λ k. let b = a.1 k in (
-        b.0,
-        b.1,
-        λ text left. elim (cut text left) [
-          | inl before ↦ b.2 text before
-          | inr all ↦ (t.content, subst (λ (x : List ℕ). Leads x t.content) (sym all.1) b.4, b.3)
-        ],
-      ),
-    )
+    whole_closed s rs os t a =
+        (a.0, λ k. let b = a.1 k in (b.0, b.1, closed_survives s rs os b.0 b.2 (λ _. (t.content, b.4, b.3))))
 
     cut_closed : (e : RunFault) → r ≡ Err e → (s : State) (rs : List (List Field)) (os : List Outcome) (t : State) →
         LastsCut kept_of left_of contents start o g p s rs os t → LastsOn contents start o last p s rs os t
     cut_closed e is s rs os t a = (
       a.0,
-      λ k. let b = a.1 k in (
-        b.0,
-        b.1,
-        λ text left. elim (cut text left) [
-          | inl before ↦ b.2 text before
-          | inr all ↦ absurd (let never = rw is at all.0 in cc)
-        ],
-      ),
+      λ k. let b = a.1 k in
+          (b.0, b.1, closed_survives s rs os b.0 b.2 (λ ok. absurd (let never = rw is at ok in cc))),
     )
 
   pub ended_from : {W : Type 0} (contents : W → Known) (log read start last : LogFile D F d f) (o p : Buffered W)
