@@ -168,23 +168,26 @@ module _ (l n : Loader) (x : Change) (s : State) (a : Loads l s) (makes : Steps 
             (in_batch ∙ inside.0, more),
       )
 
+-- the register's batch is unchanged, and so is the content
+loads_same : (l n : Loader) (s t : State) → Loads l s → n.register ≡ l.register → n.held ≡ l.held →
+    content_now s ≡ content_now t → InPlace n t.batch → Loads n t
+loads_same l n s t a register held same place =
+    record {
+      state = a.state;
+      represents = subst (λ (r : Registered). Represents r.kept a.state) (sym register) a.represents;
+      changes = a.changes;
+      batch = a.batch;
+      held = held ∙ a.held;
+      same = a.same ∙ same;
+      place = place;
+    }
+
 -- a batch of the log begins and ends
 pub loads_begun : (l n : Loader) (c : Content) (b : Option (List Change)) → Loads l (record { content = c; batch = b }) →
     n.register ≡ l.register → n.held ≡ l.held → l.in_batch ≡ false → n.in_batch ≡ true → n.count ≡ 0
     → (t : State) × (step (record { content = c; batch = b }) Begin ≡ Ok t) × Loads n t
-loads_begun l n c None a register held outside inside count = (
-  holding c [],
-  refl,
-  record {
-    state = a.state;
-    represents = subst (λ (r : Registered). Represents r.kept a.state) (sym register) a.represents;
-    changes = a.changes;
-    batch = a.batch;
-    held = held ∙ a.held;
-    same = a.same;
-    place = (inside, count);
-  },
-)
+loads_begun l n c None a register held outside inside count =
+    (holding c [], refl, loads_same l n (closed c) (holding c []) a register held refl (inside, count))
 loads_begun l n c (Some xs) a register held outside inside count =
     absurd (let never : true ≡ false = sym a.place.0 ∙ outside in cc)
 
@@ -198,15 +201,7 @@ loads_committed l n k c (Some xs) a register held inside count outside =
     let same : (length xs == k) ≡ true = eq-eqb (length xs) k (sym (count ∙ a.place.1)) in (
       closed (after c xs),
       rw same refl,
-      record {
-        state = a.state;
-        represents = subst (λ (r : Registered). Represents r.kept a.state) (sym register) a.represents;
-        changes = a.changes;
-        batch = a.batch;
-        held = held ∙ a.held;
-        same = a.same;
-        place = outside;
-      },
+      loads_same l n (holding c xs) (closed (after c xs)) a register held refl outside,
     )
 
 -- the end of the log
