@@ -49,44 +49,6 @@ fn asks_for_log(options: &Options<'_>) -> bool
     options.log.is_some() || options.new || options.compact_at.is_some()
 }
 
-/// The program without a log, once its arguments were read.
-fn without_log<
-    F: Read + Drop,
-    O: FnOnce(&str) -> io::Result<F>,
-    R: Read + Drop,
-    W: Write + Drop,
-    E: Write,
->(
-    alloc: Global,
-    register: &mut Register,
-    asked: &Options<'_>,
-    opener: O,
-    input: R,
-    output: &mut Buffered<W>,
-    errors: &mut E,
-) -> u8
-    requires { O.IsAlwaysCallable opener }
-    ensures bounded { result ≤ 4 }
-    ensures ends { (arguments : List (List ℕ)) → fault_of keep_app arguments ≡ []
-        → options_of asked.now ≡ options arguments
-        → Ends arguments (Opens O.FnOnce F.remaining opener) (R.remaining input) register.old
-        (written W.contents output.old) register.new (written W.contents output.new) result }
-    ensures sent { result ≤ 1 → held output.new ≡ [] }
-    ensures lacks { length (held output.new) ≤ most_held }
-    ensures quiet { result ≤ 1 → errors.new ≡ errors.old }
-{
-    if asks_for_log(asked) {
-        let _ = errors.write_all(b"olr-keep: --new and --compact-at need -l LOG\n");
-        return WRONG_ARGUMENTS;
-    }
-    let Ok(file) = open_file(opener, asked.file) else {
-        let _ = errors.write_all(b"olr-keep: cannot open the command file\n");
-        return NO_FILE;
-    };
-    let ended = run_inputs(alloc, register, file, input, output, asked);
-    end_status(send_answers(ended, output), errors)
-}
-
 /// Reads the arguments, opens the command file if they name one, carries out its commands and then those of the input,
 /// and returns the exit status. With `--lines`, each line of both is one record. Replies, and help if it was asked for, are
 /// written to `output`, and all of them have been sent if the status is 0 or 1; otherwise the last ones may still be held, at
@@ -116,11 +78,20 @@ pub fn program<
     ensures lacks { length (held output.new) ≤ most_held }
     ensures quiet { result ≤ 1 → errors.new ≡ errors.old }
 {
-    let options = match options(alloc, arguments) {
-        Ok(options) => options,
+    let asked = match options(alloc, arguments) {
+        Ok(asked) => asked,
         Err(fault) => return explain(alloc, &fault, output, errors),
     };
-    without_log(alloc, register, &options, opener, input, output, errors)
+    if asks_for_log(&asked) {
+        let _ = errors.write_all(b"olr-keep: --new and --compact-at need -l LOG\n");
+        return WRONG_ARGUMENTS;
+    }
+    let Ok(file) = open_file(opener, asked.file) else {
+        let _ = errors.write_all(b"olr-keep: cannot open the command file\n");
+        return NO_FILE;
+    };
+    let ended = run_inputs(alloc, register, file, input, output, &asked);
+    end_status(send_answers(ended, output), errors)
 }
 
 /// Runs the program on a register that begins empty, and returns the exit status. The register is not dropped: its memory is
