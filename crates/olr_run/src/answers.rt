@@ -8,8 +8,7 @@ ghost use Rattle.olr_commands.specs.Reply.{published_text};
 ghost use Rattle.olr_commands.specs.State.{Explain, Report};
 ghost use Rattle.olr_list.specs.Items.{made_of};
 ghost use Rattle.olr_records.specs.Records.{read};
-ghost use Rattle.olr_run.specs.Runs.{CarriedOut, IsReport, answer_text, WritesText, AnswersRecord, AreRenewal};
-ghost use Rattle.olr_run.specs.Runs.{RenewsFrom};
+ghost use Rattle.olr_run.specs.Runs.{CarriedOut, IsReport, answer_text, WritesText, AnswersRecord, AreRenewal, RenewsFrom};
 
 use csv::ByteRecord;
 use olr_answers::{Answer, Refusal};
