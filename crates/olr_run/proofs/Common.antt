@@ -20,7 +20,7 @@ pub use Rattle.olr_run.specs.Ends.{Cut_off, Ends, Explained, Not_opened}
 pub use Rattle.olr_run.specs.Output.{AllHadMemory, AreAnswered, Claims, CommandOutcome, In_last, Outcomes}
 pub use Rattle.olr_run.specs.Output.{RecordOutcome, SoundOutcome, SoundOutcomes, most_records, records_of, texts}
 pub use Rattle.olr_run.specs.Runs.{AnsweredOn, AnswersRecord, CarriedOut, CutIn, FaultedOn, HasTooMany, In_text}
-pub use Rattle.olr_run.specs.Runs.{IsAnswer, Past_the_most, RanIn, RanOn, Records, answer_text}
+pub use Rattle.olr_run.specs.Runs.{IsAnswer, LeadsOn, Past_the_most, RanIn, RanOn, Records, answer_text}
 pub use Rattle.olr_run.specs.Runs.{EndedOn, both_records, file_bytes, input_records, joined_records, last_events}
 pub use Rattle.olr_run.specs.Runs.{records_read, status_of}
 pub use Rattle.olr_sessions.specs.Sessions.{CsvHappens, Cut, Ended, Event, History, IsOfTaking, IsPlain, Known}

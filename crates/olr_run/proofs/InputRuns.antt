@@ -88,31 +88,15 @@ AnsweredBy Each stop And old rs texts new =
     (s : State) → Represents old.kept s → (t : State) × Represents new.kept t × (os : List Outcome) × Each s rs os t
     × (map outcome_text os ≡ texts) × StopsAtFault stop os × And os
 
--- the records of a run that was cut off, and the texts of their answers
-abbrev pub cut_records : {S : Type 0} {happens : S → Event → S → Type 0} {stop : Bool} {old new : Registered} {a b : S}
-    {e : RunFault} → CutIn happens stop old a new b e → List (List Field)
-cut_records (In_taking of rs ws ds l k history answered) = rs
-cut_records (runs.Not_sent is rs ws ds l k history answered) = rs
-cut_records (Past_the_most is rs ws ds l k most r history answered) = rs
-cut_records (No_text is rs ws ds l k r w history answered) = rs ++ r ∷ []
-cut_records (In_text is rs ws ds l k r front rest some history answered) = rs ++ r ∷ []
-
-abbrev pub cut_texts : {S : Type 0} {happens : S → Event → S → Type 0} {stop : Bool} {old new : Registered} {a b : S}
-    {e : RunFault} → CutIn happens stop old a new b e → List (List ℕ)
-cut_texts (In_taking of rs ws ds l k history answered) = ws
-cut_texts (runs.Not_sent is rs ws ds l k history answered) = ws
-cut_texts (Past_the_most is rs ws ds l k most r history answered) = ws
-cut_texts (No_text is rs ws ds l k r w history answered) = ws ++ w ∷ []
-cut_texts (In_text is rs ws ds l k r front rest some history answered) = ws ++ (front ++ rest) ∷ []
-
--- and the records that were given after them
-abbrev pub cut_renewals : {S : Type 0} {happens : S → Event → S → Type 0} {stop : Bool} {old new : Registered} {a b : S}
-    {e : RunFault} → CutIn happens stop old a new b e → List (Option (List ℕ))
-cut_renewals (In_taking of rs ws ds l k history answered) = ds
-cut_renewals (runs.Not_sent is rs ws ds l k history answered) = ds
-cut_renewals (Past_the_most is rs ws ds l k most r history answered) = ds
-cut_renewals (No_text is rs ws ds l k r w history answered) = ds ++ None ∷ []
-cut_renewals (In_text is rs ws ds l k r front rest some history answered) = ds ++ None ∷ []
+-- the records of a run that was cut off, the texts of their answers, and the records that were given after them
+abbrev pub cut_parts : {S : Type 0} {happens : S → Event → S → Type 0} {stop : Bool} {old new : Registered} {a b : S}
+    {e : RunFault} → CutIn happens stop old a new b e → List (List Field) × List (List ℕ) × List (Option (List ℕ))
+cut_parts (In_taking of rs ws ds l k history answered) = (rs, ws, ds)
+cut_parts (runs.Not_sent is rs ws ds l k history answered) = (rs, ws, ds)
+cut_parts (Past_the_most is rs ws ds l k most r history answered) = (rs, ws, ds)
+cut_parts (No_text is rs ws ds l k r w history answered) = (rs ++ r ∷ [], ws ++ w ∷ [], ds ++ None ∷ [])
+cut_parts (In_text is rs ws ds l k r front rest some history answered) =
+    (rs ++ r ∷ [], ws ++ (front ++ rest) ∷ [], ds ++ None ∷ [])
 
 -- from outcomes of the first records, with these texts, what is wanted of those of all records
 abbrev pub Gives : (State → List (List Field) → List Outcome → State → Type 0) → List (List Field) → List (List Field) →
@@ -312,7 +296,7 @@ module _ {S R : Type 0} (remaining : R → Known) (reader : S → Reader R) (con
         (λ os are is. inl (sym (length-map os outcome_text) ∙ ap length are ∙ h.each ∙ sym all)) give h.answered
 
     cut_on : (e : RunFault) (h : CutIn happens stop old a new b e) →
-        Gives Each (records_of input) (cut_records h) (cut_texts h) (cut_renewals h) →
+        Gives Each (records_of input) (cut_parts h).0 (cut_parts h).1 (cut_parts h).2 →
         FaultedOn Each stop old (Some (records_of input)) (contents a) new (contents b) e
     cut_on e (In_taking of rs ws ds l k history answered) give =
         let x = exchanged [] rs [] ws ds (Not_taken e ∷ []) a b l k start history in
@@ -369,7 +353,7 @@ module _ {S R : Type 0} (remaining : R → Known) (reader : S → Reader R) (con
   abbrev GivesPart : Known → Result Status RunFault → Type 0
   GivesPart known r =
       IfSome known (λ input. IfErr r (λ e. (h : CutIn happens stop old a new b e) →
-      Gives Part (records_of input) (cut_records h) (cut_texts h) (cut_renewals h)))
+      Gives Part (records_of input) (cut_parts h).0 (cut_parts h).1 (cut_parts h).2))
 
   pub on_known_as : (known : Known) (r : Result Status RunFault) → IsContent old.kept.content →
       Starts remaining (reader a) known → GivesWhole known r → GivesPart known r → IfOk r (RanIn happens stop old a new b)
@@ -412,25 +396,26 @@ on_known remaining reader contents happens seen stop old new a b known r base st
 
     parts : (known : Known) (r : Result Status RunFault) →
         IfSome known (λ input. IfErr r (λ e. (h : CutIn happens stop old a new b e) →
-        Gives Claims (records_of input) (cut_records h) (cut_texts h) (cut_renewals h)))
+        Gives Claims (records_of input) (cut_parts h).0 (cut_parts h).1 (cut_parts h).2))
     parts (Some input) (Ok end) = tt
-    parts (Some input) (Err e) = λ h. all_gives (records_of input) (cut_records h) (cut_texts h) (cut_renewals h)
+    parts (Some input) (Err e) = λ h. all_gives (records_of input) (cut_parts h).0 (cut_parts h).1 (cut_parts h).2
     parts None r = tt
 
 -- a run that lacked memory before it began
-pub cut_at_first : (stop : Bool) (old : Registered) (before known : Known) (e : RunFault) → IsContent old.kept.content →
-    e ≡ fault.Memory → FaultedOn Claims stop old (input_records known) before old before e
-cut_at_first stop old before None e base memory = tt
-cut_at_first stop old before (Some input) e base memory = λ s represents. (
+pub cut_at_first : (Each : State → List (List Field) → List Outcome → State → Type 0) →
+    ((s : State) (rs : List (List Field)) → IsContent s.content → Each s rs [] s) → (stop : Bool) (old : Registered)
+    (before known : Known) → IsContent old.kept.content →
+    FaultedOn Each stop old (input_records known) before old before fault.Memory
+cut_at_first Each none stop old before None base = tt
+cut_at_first Each none stop old before (Some input) base = λ s represents. (
   s,
   represents,
   [],
   Appends-nil before,
   record {
     outcomes = [];
-    each = claims_of s (records_of input) [] s (represented old s base represents) refl;
+    each = none s (records_of input) (represented old s base represents);
     stops = tt;
-    wrote = output.Before_next (λ write. let never : fault.Memory ≡ fault.Write = sym memory ∙ write in cc)
-        (and-false stop) refl;
+    wrote = output.Before_next (λ write. let never : fault.Memory ≡ fault.Write = write in cc) (and-false stop) refl;
   },
 )

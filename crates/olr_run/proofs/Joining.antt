@@ -2,37 +2,42 @@
 use Rattle.olr_run.proofs.Common.{◌&&◌, append_assoc, list_any-append, Outcome, run_longer}
 use Rattle.olr_run.proofs.Common.{Field, outcome_text, Registered, SoundOutcome, Claims, AreAnswered, texts, In_last}
 use Rattle.olr_run.proofs.Common.{Known, input_records, joined_records, status_of, RanOn, FaultedOn, RunFault, cases_Bool}
-use Rattle.olr_run.proofs.Common.{or_from, or_right, csv_on_literals, run_join, Records}
+use Rattle.olr_run.proofs.Common.{or_from, or_right, csv_on_literals, run_join, LeadsOn, Records}
 use Rattle.std.proofs.Common.{arith, ◌≡◌, ◌∙◌, ◌≢◌, ℕ, Bool, true, false, List, [], ◌++◌, length}
 use Rattle.std.proofs.Common.{length-append, Some, inl, inr, refl, sym, ap}
 use Rattle.std.proofs.KnownBytes.{Appends-nil, Appends-trans}
 use Rattle.olr_commands.specs.State.{IsContent, State}
-use Rattle.olr_run.specs.Output.{StopsAtFault, any_refused, Ran, CutOff, Before_next, No_text, greater}
+use Rattle.olr_run.specs.Output.{StopsAtFault, any_refused, Ran, Faulted, CutOff, Before_next, No_text, greater}
 use Rattle.olr_sessions.specs.declared.ends.Status.{Status}
 use Rattle.std.proofs.lemmas.List.Concat.{flat_map-append}
-use Rattle.olr_run.proofs.RunLemmas.{claims_of}
+use Rattle.olr_run.proofs.RunLemmas.{claims_of, none_claimed}
 use Rattle.olr_run.proofs.Running.{represented, status_by, stopped_by, stops_join}
 use Rattle.olr_run.specs.Output as output
 use Rattle.olr_sessions.specs.declared.ends.Status.TheVariants as status
 
 -- no bytes have no records
-pub no_file : (stop : Bool) (old : Registered) (before : Known) → IsContent old.kept.content →
-    RanOn Claims stop old (input_records (Some [])) before old before status.AllAccepted
+pub none_on : (Each : State → List (List Field) → List Outcome → State → Type 0) →
+    ((s : State) → IsContent s.content → Each s [] [] s) → (stop : Bool) (old : Registered) (before : Known) →
+    IsContent old.kept.content → RanOn Each stop old (input_records (Some [])) before old before status.AllAccepted
 unfolding csv_on_literals
-no_file stop old before base s represents = (
+none_on Each none stop old before base s represents = (
   s,
   represents,
   [],
   Appends-nil before,
   record {
     outcomes = [];
-    each = claims_of s [] [] s (represented old s base represents) refl;
+    each = none s (represented old s base represents);
     stops = tt;
     all = inl refl;
     wrote = refl;
     ended = refl;
   },
 )
+
+pub no_file : (stop : Bool) (old : Registered) (before : Known) → IsContent old.kept.content →
+    RanOn Claims stop old (input_records (Some [])) before old before status.AllAccepted
+no_file stop old before base = none_on Claims (λ s sound. none_claimed s [] sound) stop old before base
 
 -- ---- outcomes of both
 
@@ -106,34 +111,60 @@ record Continued (All : State → List (List Field) → List Outcome → State �
   each : All s (rs ++ ms) (os ++ qs) u
   stops : StopsAtFault stop (os ++ qs)
 
+-- a run over the first records, of which is known what it says with more of them
+of_first : (First All : State → List (List Field) → State → List ℕ → Type 0) →
+    ((s t : State) (rs ms : List (List Field)) (w : List ℕ) → IsContent s.content → First s rs t w → All s (rs ++ ms) t w) →
+    (old mid : Registered) (first second : Records) (before later : Known) → IsContent old.kept.content →
+    LeadsOn First old first before mid later → LeadsOn All old (joined_records first second) before mid later
+of_first First All more old mid (Some rs) (Some ms) before later base h = λ s represents.
+    let r = h s represents in
+    (r.0, r.1, r.2, r.3, more s r.0 rs ms r.2 (represented old s base represents) r.4)
+of_first First All more old mid first second before later base h = tt
+
+-- and one over the second records after it
+of_both : (First Second All : State → List (List Field) → State → List ℕ → Type 0) →
+    ((s t u : State) (rs ms : List (List Field)) (v w : List ℕ) → IsContent s.content → First s rs t v → Second t ms u w →
+    All s (rs ++ ms) u (v ++ w)) →
+    (old mid new : Registered) (first second : Records) (before now later : Known) → IsContent old.kept.content →
+    LeadsOn First old first before mid now → LeadsOn Second mid second now new later →
+    LeadsOn All old (joined_records first second) before new later
+of_both First Second All join old mid new (Some rs) (Some ms) before now later base h k = λ s represents.
+    let a = h s represents in
+    let b = k a.0 a.1 in (
+      b.0,
+      b.1,
+      a.2 ++ b.2,
+      Appends-trans before now later a.2 b.2 a.3 b.3,
+      join s a.0 b.0 rs ms a.2 b.2 (represented old s base represents) a.4 b.4,
+    )
+of_both First Second All join old mid new first second before now later base h k = tt
+
 -- where the outcomes of each run have a relation, and those of both
 module _ (First Second All : State → List (List Field) → List Outcome → State → Type 0) where
   pub both_stopped_as : Longer First All → (stop : Bool) (old mid : Registered) (first second : Records)
       (before later : Known) (p : Status) → IsContent old.kept.content → RanOn First stop old first before mid later p →
       p ≡ status.Stopped
       → RanOn All stop old (joined_records first second) before mid later p
-  both_stopped_as more stop old mid (Some rs) (Some ms) before later p base h e =
-      λ s represents.
-      let r = h s represents in
-      let x = r.4 in
-      let each = more s r.0 rs ms x.outcomes (represented old s base represents) x.each in
-      let all = stopped_is stop (any_refused x.outcomes) (ap status_of (sym e) ∙ x.ended) in
-      let ran : Ran All stop s (rs ++ ms) r.0 r.2 (status_of p) =
-      record { outcomes = x.outcomes; each = each; stops = x.stops; all = inr all; wrote = x.wrote; ended = x.ended } in
-      (r.0, r.1, r.2, r.3, ran)
-  both_stopped_as more stop old mid first second before later p base h e = tt
+  both_stopped_as more stop old mid first second before later p base h e =
+      of_first (λ s rs t w. Ran First stop s rs t w (status_of p)) (λ s rs t w. Ran All stop s rs t w (status_of p))
+      (λ s t rs ms w sound x. record {
+        outcomes = x.outcomes;
+        each = more s t rs ms x.outcomes sound x.each;
+        stops = x.stops;
+        all = inr (stopped_is stop (any_refused x.outcomes) (ap status_of (sym e) ∙ x.ended));
+        wrote = x.wrote;
+        ended = x.ended;
+      }) old mid first second before later base h
 
   pub both_faulted_first_as : Longer First All → (stop : Bool) (old mid : Registered) (first second : Records)
       (before later : Known) (e : RunFault) → IsContent old.kept.content →
       FaultedOn First stop old first before mid later e
       → FaultedOn All stop old (joined_records first second) before mid later e
-  both_faulted_first_as more stop old mid (Some rs) (Some ms) before later e base h =
-      λ s represents.
-      let r = h s represents in
-      let cut = r.4 in
-      let each = more s r.0 rs ms cut.outcomes (represented old s base represents) cut.each in
-      (r.0, r.1, r.2, r.3, record { outcomes = cut.outcomes; each = each; stops = cut.stops; wrote = cut.wrote })
-  both_faulted_first_as more stop old mid first second before later e base h = tt
+  both_faulted_first_as more stop old mid first second before later e base h =
+      of_first (λ s rs t w. Faulted First stop s rs t w e) (λ s rs t w. Faulted All stop s rs t w e)
+      (λ s t rs ms w sound x.
+      record { outcomes = x.outcomes; each = more s t rs ms x.outcomes sound x.each; stops = x.stops; wrote = x.wrote })
+      old mid first second before later base h
 
   continued : Joins First Second All → (stop : Bool) (s t u : State) (rs ms : List (List Field)) (w : List ℕ) (p : Status)
       (qs : List Outcome) → IsContent s.content → p ≢ status.Stopped → (one : Ran First stop s rs t w (status_of p)) →
@@ -153,49 +184,30 @@ module _ (First Second All : State → List (List Field) → List Outcome → St
       RanOn First stop old first before mid now p → p ≢ status.Stopped
       → RanOn Second stop mid second now new later q → status_of end ≡ greater (status_of p) (status_of q) →
       RanOn All stop old (joined_records first second) before new later end
-  both_ran_as join stop old mid new (Some rs) (Some ms) before now later p q end base h n k e =
-      λ s represents.
-      let a = h s represents in
-      let b = k a.0 a.1 in
-      let one = a.4 in
-      let two = b.4 in
-      let on =
-      continued join stop s a.0 b.0 rs ms a.2 p two.outcomes (represented old s base represents) n one two.each two.stops in
-      let status = status_join stop one.outcomes two.outcomes on.going in (
-        b.0,
-        b.1,
-        a.2 ++ b.2,
-        Appends-trans before now later a.2 b.2 a.3 b.3,
-        record {
-          outcomes = one.outcomes ++ two.outcomes;
-          each = on.each;
-          stops = on.stops;
-          all = all_join stop rs ms one.outcomes two.outcomes on.size two.all;
-          wrote = (λ i. one.wrote i ++ two.wrote i) ∙ sym (texts_join one.outcomes two.outcomes);
-          ended = e ∙ (λ i. greater (one.ended i) (two.ended i)) ∙ status;
-        },
-      )
-  both_ran_as join stop old mid new first second before now later p q end base h n k e = tt
+  both_ran_as join stop old mid new first second before now later p q end base h n k e =
+      of_both (λ s rs t v. Ran First stop s rs t v (status_of p)) (λ t ms u w. Ran Second stop t ms u w (status_of q))
+      (λ s rs u w. Ran All stop s rs u w (status_of end)) (λ s t u rs ms v w sound one two.
+      let on = continued join stop s t u rs ms v p two.outcomes sound n one two.each two.stops in
+      record {
+        outcomes = one.outcomes ++ two.outcomes;
+        each = on.each;
+        stops = on.stops;
+        all = all_join stop rs ms one.outcomes two.outcomes on.size two.all;
+        wrote = (λ i. one.wrote i ++ two.wrote i) ∙ sym (texts_join one.outcomes two.outcomes);
+        ended =
+            e ∙ (λ i. greater (one.ended i) (two.ended i)) ∙ status_join stop one.outcomes two.outcomes on.going;
+      }) old mid new first second before now later base h k
 
   pub both_faulted_second_as : Joins First Second All → (stop : Bool) (old mid new : Registered) (first second : Records)
       (before now later : Known) (p : Status) (e : RunFault) → IsContent old.kept.content →
       RanOn First stop old first before mid now p
       → p ≢ status.Stopped → FaultedOn Second stop mid second now new later e →
       FaultedOn All stop old (joined_records first second) before new later e
-  both_faulted_second_as join stop old mid new (Some rs) (Some ms) before now later p e base h n k =
-      λ s represents.
-      let a = h s represents in
-      let b = k a.0 a.1 in
-      let one = a.4 in
-      let cut = b.4 in
-      let on =
-      continued join stop s a.0 b.0 rs ms a.2 p cut.outcomes (represented old s base represents) n one cut.each cut.stops in
-      let wrote : CutOff stop (one.outcomes ++ cut.outcomes) (a.2 ++ b.2) e =
-      rw one.wrote (cut_join stop one.outcomes cut.outcomes b.2 e on.going cut.wrote) in (
-        b.0,
-        b.1,
-        a.2 ++ b.2,
-        Appends-trans before now later a.2 b.2 a.3 b.3,
-        record { outcomes = one.outcomes ++ cut.outcomes; each = on.each; stops = on.stops; wrote = wrote },
-      )
-  both_faulted_second_as join stop old mid new first second before now later p e base h n k = tt
+  both_faulted_second_as join stop old mid new first second before now later p e base h n k =
+      of_both (λ s rs t v. Ran First stop s rs t v (status_of p)) (λ t ms u w. Faulted Second stop t ms u w e)
+      (λ s rs u w. Faulted All stop s rs u w e) (λ s t u rs ms v w sound one cut.
+      let on = continued join stop s t u rs ms v p cut.outcomes sound n one cut.each cut.stops in
+      let wrote : CutOff stop (one.outcomes ++ cut.outcomes) (v ++ w) e =
+      rw one.wrote (cut_join stop one.outcomes cut.outcomes w e on.going cut.wrote) in
+      record { outcomes = one.outcomes ++ cut.outcomes; each = on.each; stops = on.stops; wrote = wrote })
+      old mid new first second before now later base h k

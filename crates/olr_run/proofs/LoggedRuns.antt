@@ -7,17 +7,17 @@ use Rattle.std.proofs.Common.{◌≡◌, ◌≢◌, ◌∙◌, ℕ, Bool, false,
 use Rattle.std.proofs.Common.{length-append}
 use Rattle.olr_commands.specs.State.{Content, State}
 use Rattle.std.specs.Io.KnownBytes.{append_known}
-use Rattle.olr_run.specs.Runs.{In_taking, No_text, OutcomesRenewed, IsRenewal}
+use Rattle.olr_run.specs.Runs.{In_taking, No_text, OutcomesRenewed, IsRenewal, once_sent}
 use Rattle.olr_sessions.specs.Sessions.{Renewed, renewing}
 use Rattle.olr_run.specs.Runs as runs
 use Rattle.olr_run.specs.Logged.{UpTo}
 use Rattle.olr_run.specs.Logs.{Going, HoldsBatch, Logs, LogsSome, GoesOn, EndsIn, Began, LastsWhole, LastsCut}
 use Rattle.olr_run.specs.Logged.{Leads}
-use Rattle.olr_run.proofs.InputRuns.{Sees, cut_records, cut_texts, cut_renewals, Gives, last_of, on_known_as}
+use Rattle.olr_run.proofs.InputRuns.{Sees, cut_at_first, cut_parts, Gives, last_of, on_known_as}
 use Rattle.olr_sessions.proofs.SessionLemmas.{Starts}
 use Rattle.olr_run.proofs.Common.{HasTooMany}
 use Rattle.olr_run.proofs.Sending.{faulted_sent, ran_sent, ran_unsent}
-use Rattle.std.specs.Prelude.{IfOk, Ok, Err}
+use Rattle.std.specs.Prelude.{IfOk, OnOk, Ok, Err}
 use Rattle.olr_run.proofs.Logging.{logs_pass, logs_same, logs_settle, logs_longer, logs_renew, no_front, up_later, up_to_all}
 use Rattle.olr_sessions.specs.Buffers.{held, written}
 use Rattle.olr_sessions.specs.Gates.{Passes, ready, is_closed}
@@ -31,20 +31,17 @@ use Rattle.olr_sessions.specs.declared.logged.Logged.{Logged}
 use Rattle.olr_sessions.specs.declared.ends.Status.{Status}
 use Rattle.olr_sessions.specs.declared.ends.Status.TheVariants as ended
 use Rattle.olr_sessions.proofs.Writing.{took_nothing}
-use Rattle.std.proofs.Common.{inl}
 use Rattle.std.proofs.KnownBytes.{Appends-nil, Keeps-refl}
-use Rattle.std.proofs.Math.Bool.{and-false}
 use Rattle.olr_commands.specs.State.{Change, IsContent}
 use Rattle.std.specs.Prelude.{Option, Result}
 use Rattle.olr_run.proofs.Common.{Records}
-use Rattle.olr_run.proofs.Common.{RanOn, FaultedOn, input_records, csv_on_literals}
-use Rattle.olr_run.specs.Logs.{LogsOn, LogsUpTo}
+use Rattle.olr_run.proofs.Common.{input_records}
+use Rattle.olr_run.specs.Logs.{Continues, LoggedOn, LogsOn, LogsUpTo}
 use Rattle.olr_run.specs.Output as output
-use Rattle.olr_run.proofs.Joining.{Longer, Joins, longer, joined_claims, both_stopped_as, both_ran_as}
+use Rattle.olr_run.proofs.Joining.{Longer, Joins, longer, joined_claims, none_on, both_stopped_as, both_ran_as}
 use Rattle.olr_run.proofs.Joining.{both_faulted_first_as, both_faulted_second_as}
 use Rattle.olr_run.proofs.Common.{EndedOn, joined_records, status_of}
-use Rattle.olr_run.proofs.RunLemmas.{claims_of}
-use Rattle.olr_run.proofs.Running.{represented}
+use Rattle.olr_run.proofs.RunLemmas.{none_claimed}
 use Rattle.olr_sessions.specs.declared.ends.RunFault.TheVariants as fault
 
 -- the last step of a run, after which no records were given
@@ -79,6 +76,12 @@ module _ {J W : Type 0} {kept : J → List ℕ} {may_leave : J → List ℕ → 
   passes_keeps : (g h : Gate J) (o p : Buffered W) → Passes kept may_leave contents g o h p [] →
       Keeps (written contents o) (written contents p)
   passes_keeps g h o p a = took_nothing (written contents o) (written contents p) (passes_writes g h o p [] a)
+
+  some_of : {base : Known} {s : State} {rs : List (List Field)} {os : List Outcome} {g : Gate J} {o : Buffered W}
+      (first later : List Outcome) → os ≡ first ++ later → (u : State) (unwritten : List ℕ) →
+      Logs kept may_leave contents base s rs first u unwritten g o → LogsSome kept may_leave contents base s rs os g o
+  some_of first later splits u unwritten logs =
+      record { first = first; later = later; splits = splits; state = u; unwritten = unwritten; logs = logs }
 
 module _ {R W J : Type 0} (remaining : Lines R → Known) (contents : W → Known) (kept : J → List ℕ)
     (may_leave : J → List ℕ → Type 0) where
@@ -217,19 +220,14 @@ module _ {R W J : Type 0} (remaining : Lines R → Known) (contents : W → Know
         Logs kept may_leave contents base s0 (rs0 ++ rs) (os0 ++ first) u unwritten m.0.gate m.1
         → LogsSome kept may_leave contents base s0 (rs0 ++ all) (os0 ++ os) b.0.gate b.1
     some_logs base s0 u rs0 rs rest os0 os first late unwritten m is splits same l =
-        record {
-          first = os0 ++ first;
-          later = late;
-          splits = ap (λ (x : List Outcome). os0 ++ x) splits ∙ sym (append_assoc os0 first late);
-          state = u;
-          unwritten = unwritten;
-          logs = with_rest base s0 u rs0 rs rest (os0 ++ first) unwritten is
-              (subst (λ (x : Logged R J × Buffered W).
-              Logs kept may_leave contents base s0 (rs0 ++ rs) (os0 ++ first) u unwritten x.0.gate x.1) same l);
-        }
+        some_of (os0 ++ first) late (ap (λ (x : List Outcome). os0 ++ x) splits ∙ sym (append_assoc os0 first late)) u
+        unwritten
+        (with_rest base s0 u rs0 rs rest (os0 ++ first) unwritten is
+        (subst (λ (x : Logged R J × Buffered W).
+        Logs kept may_leave contents base s0 (rs0 ++ rs) (os0 ++ first) u unwritten x.0.gate x.1) same l))
 
     pub gives_part : (e : RunFault) (h : CutIn Happens stop old a new b e) →
-        Gives (EndsIn kept may_leave contents a.0.gate a.1 b.0.gate b.1) all (cut_records h) (cut_texts h) (cut_renewals h)
+        Gives (EndsIn kept may_leave contents a.0.gate a.1 b.0.gate b.1) all (cut_parts h).0 (cut_parts h).1 (cut_parts h).2
     gives_part e (In_taking of rs ws ds each k history answered) s t rest os is claims run texts base s0 rs0 os0 size l =
         let x = log_exchanged base s0 rs ws ds (Not_taken e ∷ []) a b rs0 os0 s t os size texts each l run history in
         some_logs base s0 t rs0 rs rest os0 os os [] [] x.2.0 is (sym (append-nil os)) x.2.2
@@ -283,7 +281,7 @@ module _ {R W J : Type 0} (remaining : Lines R → Known) (contents : W → Know
 
   known_part : (known : Known) (r : Result Status RunFault) → IfSome known (λ input. IfErr r (λ e.
       (h : CutIn (Happens remaining contents kept may_leave) stop old a new b e) →
-      Gives Part (records_of input) (cut_records h) (cut_texts h) (cut_renewals h)))
+      Gives Part (records_of input) (cut_parts h).0 (cut_parts h).1 (cut_parts h).2))
   known_part (Some input) (Ok end) = tt
   known_part (Some input) (Err e) = λ h s t rest os is claims run texts.
       (claims, gives_part remaining contents kept may_leave stop old new a b (records_of input) e h s t rest os is claims run texts)
@@ -292,7 +290,7 @@ module _ {R W J : Type 0} (remaining : Lines R → Known) (contents : W → Know
   both_known : (known : Known) (r : Result Status RunFault) → IsContent old.kept.content →
       Starts remaining a.0.reader known → IfOk r (RanIn (Happens remaining contents kept may_leave) stop old a new b)
       → IfErr r (CutIn (Happens remaining contents kept may_leave) stop old a new b)
-      → EndedOn Whole Part stop old (input_records known) (written contents a.1) new (written contents b.1) r
+      → LoggedOn kept may_leave contents a.0.gate a.1 b.0.gate b.1 stop old (input_records known) new r
       × IfErr r (λ e. e ≡ fault.TooMany → HasTooMany known)
   both_known known r base starts h k =
       on_known_as remaining (reader_of remaining contents kept may_leave) (written_of remaining contents kept may_leave)
@@ -302,13 +300,11 @@ module _ {R W J : Type 0} (remaining : Lines R → Known) (contents : W → Know
   pub log_known : (known : Known) (r : Result Status RunFault) (g h : Gate J) → IsContent old.kept.content →
       Starts remaining a.0.reader known → a.0.gate ≡ g → h ≡ b.0.gate → IfOk r (RanIn (Happens remaining contents kept may_leave) stop old a new b)
       → IfErr r (CutIn (Happens remaining contents kept may_leave) stop old a new b)
-      → EndedOn (LogsOn kept may_leave contents g a.1 h b.1) (LogsUpTo kept may_leave contents g a.1 h b.1) stop old
-      (input_records known) (written contents a.1) new (written contents b.1) r
+      → LoggedOn kept may_leave contents g a.1 h b.1 stop old (input_records known) new r
       × IfErr r (λ e. e ≡ fault.TooMany → HasTooMany known)
   log_known known r g h base starts first last ran cut =
       subst (λ (x : Gate J × Gate J).
-      EndedOn (LogsOn kept may_leave contents x.0 a.1 x.1 b.1) (LogsUpTo kept may_leave contents x.0 a.1 x.1 b.1) stop old
-      (input_records known) (written contents a.1) new (written contents b.1) r
+      LoggedOn kept may_leave contents x.0 a.1 x.1 b.1 stop old (input_records known) new r
       × IfErr r (λ e. e ≡ fault.TooMany → HasTooMany known)) (λ n. (first n, sym last n)) (both_known known r base starts ran cut)
 
 -- ---- two runs
@@ -327,14 +323,8 @@ module _ {J W : Type 0} (kept : J → List ℕ) (may_leave : J → List ℕ → 
   some_longer : (base : Known) (s : State) (rs ms : List (List Field)) (os : List Outcome) (g : Gate J) (o : Buffered W) →
       LogsSome kept may_leave contents base s rs os g o → LogsSome kept may_leave contents base s (rs ++ ms) os g o
   some_longer base s rs ms os g o a =
-      record {
-        first = a.first;
-        later = a.later;
-        splits = a.splits;
-        state = a.state;
-        unwritten = a.unwritten;
-        logs = logs_longer kept may_leave contents base s rs ms a.first a.state a.unwritten g o a.logs;
-      }
+      some_of a.first a.later a.splits a.state a.unwritten
+      (logs_longer kept may_leave contents base s rs ms a.first a.state a.unwritten g o a.logs)
 
   pub ends_longer : (g h : Gate J) (o p : Buffered W) →
       Longer (LogsUpTo kept may_leave contents g o h p) (LogsUpTo kept may_leave contents g o h p)
@@ -349,14 +339,21 @@ module _ {J W : Type 0} (kept : J → List ℕ) (may_leave : J → List ℕ → 
       length (os0 ++ os) ≡ length (rs0 ++ rs)
   both_sizes rs0 rs os0 os a b = grind (arith, length-append)
 
+  -- what is known after a second run that continues a first one
+  on_joined : (Both : Known → State → List (List Field) → List Outcome → Type 0) (g h : Gate J) (o p : Buffered W)
+      (s t : State) (rs ms : List (List Field)) (os qs : List Outcome) → length os ≡ length rs →
+      GoesOn kept may_leave contents g o h p s rs os t → Continues kept may_leave contents Both h p t ms qs →
+      Continues kept may_leave contents Both g o s (rs ++ ms) (os ++ qs)
+  on_joined Both g h o p s t rs ms os qs whole a b = λ base s0 rs0 os0 size l.
+      rw (← append_assoc rs0 rs ms, ← append_assoc os0 os qs)
+      (b base s0 (rs0 ++ rs) (os0 ++ os) (both_sizes rs0 rs os0 os size whole) (a base s0 rs0 os0 size l))
+
   pub goes_joined : (g h i : Gate J) (o p q : Buffered W) →
       Joins (LogsOn kept may_leave contents g o h p) (LogsOn kept may_leave contents h p i q)
       (LogsOn kept may_leave contents g o i q)
   goes_joined g h i o p q s t u rs ms os qs sound whole a b = (
     joined_claims s t u rs ms os qs sound whole a.0 b.0,
-    λ base s0 rs0 os0 size l.
-        rw (← append_assoc rs0 rs ms, ← append_assoc os0 os qs)
-        (b.1 base s0 (rs0 ++ rs) (os0 ++ os) (both_sizes rs0 rs os0 os size whole) (a.1 base s0 rs0 os0 size l)),
+    on_joined (λ base s0 ys ps. Logs kept may_leave contents base s0 ys ps u [] i q) g h o p s t rs ms os qs whole a.1 b.1,
   )
 
   pub ends_joined : (g h i : Gate J) (o p q : Buffered W) →
@@ -364,109 +361,65 @@ module _ {J W : Type 0} (kept : J → List ℕ) (may_leave : J → List ℕ → 
       (LogsUpTo kept may_leave contents g o i q)
   ends_joined g h i o p q s t u rs ms os qs sound whole a b = (
     joined_claims s t u rs ms os qs sound whole a.0 b.0,
-    λ base s0 rs0 os0 size l.
-        rw (← append_assoc rs0 rs ms, ← append_assoc os0 os qs)
-        (b.1 base s0 (rs0 ++ rs) (os0 ++ os) (both_sizes rs0 rs os0 os size whole) (a.1 base s0 rs0 os0 size l)),
+    on_joined (λ base s0 ys ps. LogsSome kept may_leave contents base s0 ys ps i q) g h o p s t rs ms os qs whole a.1 b.1,
   )
 
   -- the ends of both
-  pub both_cut_first : (g h : Gate J) (o p : Buffered W) (stop : Bool) (old mid : Registered) (first second : Records)
-      (before now : Known) (e : RunFault) (r : Result Status RunFault) → IsContent old.kept.content → r ≡ Err e
-      → EndedOn (LogsOn kept may_leave contents g o h p) (LogsUpTo kept may_leave contents g o h p) stop old first before
-      mid now r
-      → FaultedOn (LogsUpTo kept may_leave contents g o h p) stop old (joined_records first second) before mid now e
-  both_cut_first g h o p stop old mid first second before now e r base is f =
-      both_faulted_first_as (LogsUpTo kept may_leave contents g o h p) (LogsUpTo kept may_leave contents g o h p)
-      (LogsUpTo kept may_leave contents g o h p) (ends_longer g h o p) stop old mid first second before now e base
-      (rw is at f)
+  module _ (g h : Gate J) (o p : Buffered W) (stop : Bool) (old mid : Registered) (first second : Records)
+      (r : Result Status RunFault) (base : IsContent old.kept.content)
+      (f : LoggedOn kept may_leave contents g o h p stop old first mid r) where
+    pub both_cut_first : (e : RunFault) → r ≡ Err e →
+        LoggedOn kept may_leave contents g o h p stop old (joined_records first second) mid (Err e)
+    both_cut_first e is =
+        both_faulted_first_as (LogsUpTo kept may_leave contents g o h p) (LogsUpTo kept may_leave contents g o h p)
+        (LogsUpTo kept may_leave contents g o h p) (ends_longer g h o p) stop old mid first second (written contents o)
+        (written contents p) e base (rw is at f)
 
-  pub both_stopped_first : (g h : Gate J) (o p : Buffered W) (stop : Bool) (old mid : Registered) (first second : Records)
-      (before now : Known) (end : Status) (r : Result Status RunFault) → IsContent old.kept.content → r ≡ Ok end →
-      end ≡ ended.Stopped
-      → EndedOn (LogsOn kept may_leave contents g o h p) (LogsUpTo kept may_leave contents g o h p) stop old first before
-      mid now r
-      → RanOn (LogsOn kept may_leave contents g o h p) stop old (joined_records first second) before mid now end
-  both_stopped_first g h o p stop old mid first second before now end r base is stopped f =
-      both_stopped_as (LogsOn kept may_leave contents g o h p) (LogsOn kept may_leave contents g o h p)
-      (LogsOn kept may_leave contents g o h p) (goes_longer g h o p) stop old mid first second before now end base
-      (rw is at f) stopped
+    pub both_stopped_first : (end : Status) → r ≡ Ok end → end ≡ ended.Stopped →
+        LoggedOn kept may_leave contents g o h p stop old (joined_records first second) mid (Ok end)
+    both_stopped_first end is stopped =
+        both_stopped_as (LogsOn kept may_leave contents g o h p) (LogsOn kept may_leave contents g o h p)
+        (LogsOn kept may_leave contents g o h p) (goes_longer g h o p) stop old mid first second (written contents o)
+        (written contents p) end base (rw is at f) stopped
 
-  module _ (g h i : Gate J) (o p q : Buffered W) (stop : Bool) (old mid new : Registered) (first second : Records)
-      (before now later : Known) (one : Status) (r s : Result Status RunFault) (base : IsContent old.kept.content)
-      (is : r ≡ Ok one) (goes : one ≢ ended.Stopped)
-      (f : EndedOn (LogsOn kept may_leave contents g o h p) (LogsUpTo kept may_leave contents g o h p) stop old first before
-      mid now r) where
-    pub both_went : (two end : Status) → s ≡ Ok two → status_of end ≡ output.greater (status_of one) (status_of two)
-        → EndedOn (LogsOn kept may_leave contents h p i q) (LogsUpTo kept may_leave contents h p i q) stop mid second now new
-        later s
-        → RanOn (LogsOn kept may_leave contents g o i q) stop old (joined_records first second) before new later end
-    both_went two end same status k =
-        both_ran_as (LogsOn kept may_leave contents g o h p) (LogsOn kept may_leave contents h p i q)
-        (LogsOn kept may_leave contents g o i q) (goes_joined g h i o p q) stop old mid new first second before now later
-        one two end base (rw is at f) goes (rw same at k) status
+    module _ (i : Gate J) (q : Buffered W) (new : Registered) (s : Result Status RunFault) (one : Status) (is : r ≡ Ok one)
+        (goes : one ≢ ended.Stopped) (k : LoggedOn kept may_leave contents h p i q stop mid second new s) where
+      pub both_went : (two end : Status) → s ≡ Ok two → status_of end ≡ output.greater (status_of one) (status_of two) →
+          LoggedOn kept may_leave contents g o i q stop old (joined_records first second) new (Ok end)
+      both_went two end same status =
+          both_ran_as (LogsOn kept may_leave contents g o h p) (LogsOn kept may_leave contents h p i q)
+          (LogsOn kept may_leave contents g o i q) (goes_joined g h i o p q) stop old mid new first second
+          (written contents o) (written contents p) (written contents q) one two end base (rw is at f) goes (rw same at k)
+          status
 
-    pub both_cut_second : (e : RunFault) → s ≡ Err e
-        → EndedOn (LogsOn kept may_leave contents h p i q) (LogsUpTo kept may_leave contents h p i q) stop mid second now new
-        later s
-        → FaultedOn (LogsUpTo kept may_leave contents g o i q) stop old (joined_records first second) before new later e
-    both_cut_second e same k =
-        both_faulted_second_as (LogsOn kept may_leave contents g o h p) (LogsUpTo kept may_leave contents h p i q)
-        (LogsUpTo kept may_leave contents g o i q) (ends_joined g h i o p q) stop old mid new first second before now later
-        one e base (rw is at f) goes (rw same at k)
+      pub both_cut_second : (e : RunFault) → s ≡ Err e →
+          LoggedOn kept may_leave contents g o i q stop old (joined_records first second) new (Err e)
+      both_cut_second e same =
+          both_faulted_second_as (LogsOn kept may_leave contents g o h p) (LogsUpTo kept may_leave contents h p i q)
+          (LogsUpTo kept may_leave contents g o i q) (ends_joined g h i o p q) stop old mid new first second
+          (written contents o) (written contents p) (written contents q) one e base (rw is at f) goes (rw same at k)
 
   -- no records
   goes_none : (g : Gate J) (o : Buffered W) (s : State) → GoesOn kept may_leave contents g o g o s [] [] s
   goes_none g o s base s0 rs0 os0 size l = rw (append-nil rs0, append-nil os0) l
 
-  pub none_logged : (g : Gate J) (o : Buffered W) (stop : Bool) (old : Registered) (before : Known) →
-      IsContent old.kept.content →
-      RanOn (LogsOn kept may_leave contents g o g o) stop old (input_records (Some [])) before old before ended.AllAccepted
-  unfolding csv_on_literals
-  none_logged g o stop old before base s represents = (
-    s,
-    represents,
-    [],
-    Appends-nil before,
-    record {
-      outcomes = [];
-      each = (claims_of s [] [] s (represented old s base represents) refl, goes_none g o s);
-      stops = tt;
-      all = inl refl;
-      wrote = refl;
-      ended = refl;
-    },
-  )
+  pub none_logged : (g : Gate J) (o : Buffered W) (stop : Bool) (old : Registered) → IsContent old.kept.content →
+      LoggedOn kept may_leave contents g o g o stop old (input_records (Some [])) old (Ok ended.AllAccepted)
+  none_logged g o stop old base =
+      none_on (LogsOn kept may_leave contents g o g o) (λ s sound. (none_claimed s [] sound, goes_none g o s)) stop old
+      (written contents o) base
 
   -- out of memory before the first record
-  pub cut_logged : (g : Gate J) (o : Buffered W) (stop : Bool) (old : Registered) (before known : Known) (e : RunFault) →
-      IsContent old.kept.content → e ≡ fault.Memory
-      → FaultedOn (LogsUpTo kept may_leave contents g o g o) stop old (input_records known) before old before e
-  cut_logged g o stop old before None e base memory = tt
-  cut_logged g o stop old before (Some input) e base memory = λ s represents. (
-    s,
-    represents,
-    [],
-    Appends-nil before,
-    record {
-      outcomes = [];
-      each = (
-        claims_of s (records_of input) [] s (represented old s base represents) refl,
+  pub cut_logged : (g : Gate J) (o : Buffered W) (stop : Bool) (old : Registered) (known : Known) →
+      IsContent old.kept.content →
+      LoggedOn kept may_leave contents g o g o stop old (input_records known) old (Err fault.Memory)
+  cut_logged g o stop old known base =
+      cut_at_first (LogsUpTo kept may_leave contents g o g o) (λ s rs sound. (
+        none_claimed s rs sound,
         λ from s0 rs0 os0 size l.
-            record {
-              first = os0 ++ [];
-              later = [];
-              splits = sym (append-nil (os0 ++ []));
-              state = s;
-              unwritten = [];
-              logs = logs_longer kept may_leave contents from s0 rs0 (records_of input) (os0 ++ []) s [] g o
-                  (rw (append-nil os0) l);
-            },
-      );
-      stops = tt;
-      wrote = output.Before_next (λ write. let never : fault.Memory ≡ fault.Write = sym memory ∙ write in cc)
-          (and-false stop) refl;
-    },
-  )
+            some_of (os0 ++ []) [] (sym (append-nil (os0 ++ []))) s []
+            (logs_longer kept may_leave contents from s0 rs0 rs (os0 ++ []) s [] g o (rw (append-nil os0) l)),
+      )) stop old (written contents o) known base
 
 -- ---- from the start to the end
 
@@ -557,27 +510,35 @@ module _ {J W : Type 0} (kept : J → List ℕ) (may_leave : J → List ℕ → 
   later = passes_keeps h i p q last
 
   -- the end of a run, once its answers were sent, or could not be
-  pub ended_lasting : (stop : Bool) (old : Registered) (records : Records) (before : Known) (new : Registered)
-      (end : Status) → ready i ≡ [] → is_closed i ≡ false
-      → RanOn (LogsOn kept may_leave contents g o h p) stop old records before new (written contents p) end
-      → RanOn (LastsWhole kept may_leave contents j o i q) stop old records before new (written contents q) end
-  ended_lasting stop old records before new end all still a =
+  pub lasting : {A : Type 0} (stop : Bool) (old : Registered) (records : Records) (before : Known) (new : Registered)
+      (r : Result Status RunFault) (s : Result A RunFault) → OnOk s ((ready i ≡ []) × (is_closed i ≡ false)) →
+      IfErr s (λ e. e ≡ fault.Write)
+      → EndedOn (LogsOn kept may_leave contents g o h p) (LogsUpTo kept may_leave contents g o h p) stop old records before
+      new (written contents p) r
+      → EndedOn (LastsWhole kept may_leave contents j o i q) (LastsCut kept may_leave contents j o i q) stop old records
+      before new (written contents q) (once_sent r s)
+  lasting stop old records before new (Ok end) (Ok done) all unsent run =
       ran_sent (LogsOn kept may_leave contents g o h p) (LastsWhole kept may_leave contents j o i q)
-      (λ s rs os t. whole_lasts s t rs os all still) stop old before new (written contents p) (written contents q) later
-      records end a
-
-  pub faulted_lasting : (stop : Bool) (old : Registered) (records : Records) (before : Known) (new : Registered)
-      (e : RunFault) → FaultedOn (LogsUpTo kept may_leave contents g o h p) stop old records before new (written contents p) e
-      → FaultedOn (LastsCut kept may_leave contents j o i q) stop old records before new (written contents q) e
-  faulted_lasting stop old records before new e a =
-      faulted_sent (LogsUpTo kept may_leave contents g o h p) (LastsCut kept may_leave contents j o i q)
-      (λ s rs os t. cut_lasts s t rs os) stop old before new (written contents p) (written contents q) later records e a
-
-  pub unsent_lasting : (stop : Bool) (old : Registered) (records : Records) (before : Known) (new : Registered)
-      (end : Status) (e : RunFault) → e ≡ fault.Write
-      → RanOn (LogsOn kept may_leave contents g o h p) stop old records before new (written contents p) end
-      → FaultedOn (LastsCut kept may_leave contents j o i q) stop old records before new (written contents q) e
-  unsent_lasting stop old records before new end e write a =
+      (λ s rs os t. whole_lasts s t rs os all.0 all.1) stop old before new (written contents p) (written contents q) later
+      records end run
+  lasting stop old records before new (Ok end) (Err e) all unsent run =
       ran_unsent (LogsOn kept may_leave contents g o h p) (LastsCut kept may_leave contents j o i q)
-      (λ s rs os t. unsent_lasts s t rs os) stop old before new (written contents p) (written contents q) later records end e
-      write a
+      (λ s rs os t. unsent_lasts s t rs os) stop old before new (written contents p) (written contents q) later records end
+      e unsent run
+  lasting stop old records before new (Err e) s all unsent run =
+      faulted_sent (LogsUpTo kept may_leave contents g o h p) (LastsCut kept may_leave contents j o i q)
+      (λ s rs os t. cut_lasts s t rs os) stop old before new (written contents p) (written contents q) later records e run
+
+-- what is known of the end of a run before its answers were sent
+pub many_sent : {A : Type 0} (P : Type 0) (r : Result Status RunFault) (s : Result A RunFault) →
+    IfErr s (λ e. e ≡ fault.Write) → IfErr r (λ e. e ≡ fault.TooMany → P) →
+    IfErr (once_sent r s) (λ e. e ≡ fault.TooMany → P)
+many_sent P (Ok end) (Ok done) unsent many = tt
+many_sent P (Ok end) (Err e) unsent many = λ is. absurd (let never : fault.Write ≡ fault.TooMany = sym unsent ∙ is in cc)
+many_sent P (Err e) s unsent many = many
+
+pub held_sent : {A : Type 0} (P : Type 0) (r : Result Status RunFault) (s : Result A RunFault) → OnOk s P →
+    OnOk (once_sent r s) P
+held_sent P (Ok end) (Ok done) h = h
+held_sent P (Ok end) (Err e) h = tt
+held_sent P (Err e) s h = tt

@@ -1,7 +1,7 @@
 -- Runs.
 use Rattle.olr_run.proofs.Common.{Outcome, Field, read, CommandOutcome, SoundOutcome, SoundOutcomes, Claims}
 use Rattle.olr_run.proofs.Common.{outcome_leads, is_named, is_refused, is_dumped, Claimed, headline_of}
-use Rattle.std.proofs.Common.{rules, List, [], ◌∷◌, Option, None, Some, Ok, Err, subst, arith}
+use Rattle.std.proofs.Common.{rules, List, [], ◌∷◌, Option, None, Some, Ok, Err, refl, subst, arith}
 use Rattle.olr_commands.specs.State.{IsContent, State, Command}
 use Rattle.olr_records.specs.Records.{Read}
 use Rattle.olr_run.specs.Output.{OutOfMemory, decoded_command}
@@ -36,3 +36,6 @@ sound_after s t (r ∷ rs) (o ∷ os) i p = sound_after p.0 t rs os p.1.1 p.2
 pub claims_of : (s : State) (rs : List (List Field)) (os : List Outcome) (t : State) → IsContent s.content →
     SoundOutcomes s rs os t → Claims s rs os t
 claims_of s rs os t i h = search (rules, arith, headline_of, record_claims, dumps_of)
+
+pub none_claimed : (s : State) (rs : List (List Field)) → IsContent s.content → Claims s rs [] s
+none_claimed s rs sound = claims_of s rs [] s sound refl

@@ -2,7 +2,9 @@
 --     HoldsBatch c batch text      the text has the lines of the open batch
 --     Going      nothing has failed yet: the log keeps what it holds and can go on
 --     Logs      of a run so far: what its log may leave, and what was sent of its answers
-use Rattle.std.specs.Prelude.{◌≡◌, ℕ, false, List, [], ◌∷◌, ◌++◌, length, map, Option, Some, None, Ok}
+--     Continues, GoesOn, EndsIn      what a run adds to one before it
+--     LoggedOn      the end of a run with a log
+use Rattle.std.specs.Prelude.{◌≡◌, ℕ, Bool, false, List, [], ◌∷◌, ◌++◌, length, map, Option, Some, None, Result, Ok}
 use Rattle.std.specs.List.{concat}
 use Rattle.std.specs.Io.KnownBytes.{Appends}
 use Rattle.olr_commands.specs.State.{Content, Change, Make, Begin, State}
@@ -10,13 +12,17 @@ use Rattle.olr_commands.specs.RecordText.{fields_line}
 use Rattle.olr_commands.specs.Dump.{steps}
 use Rattle.olr_commands.specs.Reply.{Outcome}
 use Rattle.olr_records.specs.Records.{Field, read}
+use Rattle.olr_register.specs.Registered.{Registered}
 use Rattle.olr_run.specs.Logged.{closed, Leads, UpTo, Survives}
 use Rattle.olr_run.specs.Output.{Claims, SoundOutcomes, texts}
-use Rattle.olr_sessions.specs.Buffers.{held}
+use Rattle.olr_run.specs.Runs.{EndedOn, Records}
+use Rattle.olr_sessions.specs.Buffers.{held, written}
 use Rattle.olr_sessions.specs.Gates.{is_closed, ready, batch}
 use Rattle.olr_sessions.specs.Journals.{IsFront, Only}
 use Rattle.olr_sessions.specs.Sessions.{Known}
 use Rattle.olr_sessions.specs.declared.buffered.Buffered.{Buffered}
+use Rattle.olr_sessions.specs.declared.ends.RunFault.{RunFault}
+use Rattle.olr_sessions.specs.declared.ends.Status.{Status}
 use Rattle.olr_sessions.specs.declared.gate.Gate.{Gate}
 
 -- the records of the lines open a batch and make its changes
@@ -61,17 +67,20 @@ module _ {J W : Type 0} (kept : J → List ℕ) (may_leave : J → List ℕ → 
     pub unwritten : List ℕ
     pub logs : Logs base s rs first state unwritten g o
 
-  -- a run from s to t continues one that led to s, with its log
-  abbrev pub GoesOn : Gate J → Buffered W → Gate J → Buffered W → State → List (List Field) → List Outcome → State → Type 0
-  GoesOn g o h p s rs os t =
+  -- a run from s continues one that led to s, with its log: what is then known of both
+  abbrev pub Continues : (Known → State → List (List Field) → List Outcome → Type 0) → Gate J → Buffered W → State →
+      List (List Field) → List Outcome → Type 0
+  Continues Both g o s rs os =
       (base : Known) (s0 : State) (rs0 : List (List Field)) (os0 : List Outcome) → length os0 ≡ length rs0 →
-      Logs base s0 rs0 os0 s [] g o → Logs base s0 (rs0 ++ rs) (os0 ++ os) t [] h p
+      Logs base s0 rs0 os0 s [] g o → Both base s0 (rs0 ++ rs) (os0 ++ os)
 
-  -- and so does one that is cut off
+  -- a whole run, to t
+  abbrev pub GoesOn : Gate J → Buffered W → Gate J → Buffered W → State → List (List Field) → List Outcome → State → Type 0
+  GoesOn g o h p s rs os t = Continues (λ base s0 qs ps. Logs base s0 qs ps t [] h p) g o s rs os
+
+  -- one that is cut off
   abbrev pub EndsIn : Gate J → Buffered W → Gate J → Buffered W → State → List (List Field) → List Outcome → State → Type 0
-  EndsIn g o h p s rs os t =
-      (base : Known) (s0 : State) (rs0 : List (List Field)) (os0 : List Outcome) → length os0 ≡ length rs0 →
-      Logs base s0 rs0 os0 s [] g o → LogsSome base s0 (rs0 ++ rs) (os0 ++ os) h p
+  EndsIn g o h p s rs os t = Continues (λ base s0 qs ps. LogsSome base s0 qs ps h p) g o s rs os
 
   abbrev pub LogsOn : Gate J → Buffered W → Gate J → Buffered W → State → List (List Field) → List Outcome → State → Type 0
   LogsOn g o h p s rs os t = Claims s rs os t × GoesOn g o h p s rs os t
@@ -79,6 +88,12 @@ module _ {J W : Type 0} (kept : J → List ℕ) (may_leave : J → List ℕ → 
   abbrev pub LogsUpTo : Gate J → Buffered W → Gate J → Buffered W → State → List (List Field) → List Outcome → State →
       Type 0
   LogsUpTo g o h p s rs os t = Claims s rs os t × EndsIn g o h p s rs os t
+
+  -- the end of a run with a log over these records: whole, or cut off
+  abbrev pub LoggedOn : Gate J → Buffered W → Gate J → Buffered W → Bool → Registered → Records → Registered →
+      Result Status RunFault → Type 0
+  LoggedOn g o h p stop old records new r =
+      EndedOn (LogsOn g o h p) (LogsUpTo g o h p) stop old records (written contents o) new (written contents p) r
 
   -- Of a run from s with a log that led to the content of s: whenever it ended, each text that may be left of the log leads
   -- to the content after the first of its outcomes, and of the texts of later ones nothing was sent

@@ -6,7 +6,7 @@
 --     input_records known      the records of known bytes
 --     both_records file input      those of a file followed by those of the input
 --     records_read single file input      those of both inputs, read as they are or one record a line
---     RanOn, FaultedOn, EndedOn      a run over known records
+--     LeadsOn, RanOn, FaultedOn, EndedOn      a run over known records
 use Rattle.std.specs.Prelude.{◌≡◌, ◌≢◌, ℕ, ◌<◌, Bool, ◌&&◌, List, [], ◌∷◌, ◌++◌, length, map, Option, Some, None}
 use Rattle.std.specs.Prelude.{option_map, Result, Ok, Err, IfSome, is_ok, IsFalse, ◌⊎◌, ⊤}
 use Rattle.std.specs.Io.KnownBytes.{Appends}
@@ -180,27 +180,35 @@ joined_records None second = None
 joined_records (Some rs) None = None
 joined_records (Some rs) (Some qs) = Some (rs ++ qs)
 
--- from each state that the register represented, a whole run leads to a state that it represents
+-- from each state that the register represented, a run leads to a state that it represents, with these bytes written
+abbrev pub LeadsOn : (State → List (List Field) → State → List ℕ → Type 0) → Registered → Records → Known → Registered →
+    Known → Type 0
+LeadsOn Leads old records before new later =
+    IfSome records (λ rs. (s : State) → Represents old.kept s
+    → (t : State) × Represents new.kept t × (written : List ℕ) × Appends before later written × Leads s rs t written)
+
 abbrev pub RanOn : (State → List (List Field) → List Outcome → State → Type 0) → Bool → Registered → Records → Known →
     Registered → Known → Status → Type 0
 RanOn Each stop old records before new later end =
-    IfSome records (λ rs. (s : State) → Represents old.kept s
-    → (t : State) × Represents new.kept t × (written : List ℕ) × Appends before later written
-    × Ran Each stop s rs t written (status_of end))
+    LeadsOn (λ s rs t written. Ran Each stop s rs t written (status_of end)) old records before new later
 
--- and so does a run that was cut off by this fault
+-- of a run that was cut off by this fault
 abbrev pub FaultedOn : (State → List (List Field) → List Outcome → State → Type 0) → Bool → Registered → Records →
     Known → Registered → Known → RunFault → Type 0
 FaultedOn Each stop old records before new later e =
-    IfSome records (λ rs. (s : State) → Represents old.kept s
-    → (t : State) × Represents new.kept t × (written : List ℕ) × Appends before later written
-    × Faulted Each stop s rs t written e)
+    LeadsOn (λ s rs t written. Faulted Each stop s rs t written e) old records before new later
 
 -- the end of a run: whole, or cut off
 abbrev pub EndedOn : (Whole Part : State → List (List Field) → List Outcome → State → Type 0) → Bool → Registered →
     Records → Known → Registered → Known → Result Status RunFault → Type 0
 EndedOn Whole Part stop old records before new later (Ok end) = RanOn Whole stop old records before new later end
 EndedOn Whole Part stop old records before new later (Err e) = FaultedOn Part stop old records before new later e
+
+-- the end of a run once its answers were sent, or could not be
+abbrev pub once_sent : {A : Type 0} → Result Status RunFault → Result A RunFault → Result Status RunFault
+once_sent (Ok end) (Ok sent) = Ok end
+once_sent (Ok end) (Err e) = Err e
+once_sent (Err e) sent = Err e
 
 abbrev pub both_records : Known → Known → Records
 both_records file input = joined_records (input_records file) (input_records input)

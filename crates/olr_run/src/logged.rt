@@ -1,66 +1,41 @@
 //! Runs whose accepted changes are kept in a log before their answers are sent.
 
 ghost use Rattle.std.specs.Prelude.{◌≡◌, ◌⊎◌, [], IfOk, IfErr, OnOk};
-ghost use Rattle.olr_run.specs.Logs.{LogsOn, LogsUpTo, LastsWhole, LastsCut};
-ghost use Rattle.olr_run.specs.Runs.{both_records, file_bytes, input_records, EndedOn, HasTooMany};
+ghost use Rattle.olr_run.specs.Logs.{LoggedOn, LastsWhole, LastsCut};
+ghost use Rattle.olr_run.specs.Runs.{both_records, file_bytes, input_records, once_sent, EndedOn, HasTooMany};
 ghost use Rattle.olr_sessions.specs.Buffers.{held, written};
 
 use crate::both::greater_of;
-use crate::records::run_session;
-use csv::ReaderBuilder;
+use crate::records::{reader_of, run_session};
 use olr_register::Register;
-use olr_sessions::{Buffered, Gate, Journal, Lines, Logged, RunFault, Status};
+use olr_sessions::{Buffered, Gate, Journal, Logged, RunFault, Status};
 use std::alloc::Global;
 use std::io::{Read, Write};
 
-/// Runs the records of the input, as `run` does, with a log: each accepted change is kept before its answer is sent.
+/// Runs the records of an input, as `run` does, or none if there is no input, with a log: each accepted change is kept
+/// before its answer is sent.
 fn run_logged<R: Read + Drop, W: Write + Drop, J: Journal + Drop>(
     alloc: Global,
     register: &mut Register,
-    input: R,
+    input: Option<R>,
     gate: Gate<J>,
     output: &mut Buffered<W>,
     stop: bool,
 ) -> (Result<Status, RunFault>, Gate<J>)
-    ensures ended { EndedOn (LogsOn J.kept J.may_leave W.contents gate output.old result.1 output.new)
-        (LogsUpTo J.kept J.may_leave W.contents gate output.old result.1 output.new) stop register.old
-        (input_records (R.remaining input)) (written W.contents output.old) register.new
-        (written W.contents output.new) result.0 }
-    ensures too_many { IfErr result.0 (λ e. e ≡ RunFault.TooMany → HasTooMany (R.remaining input)) }
+    ensures ended { LoggedOn J.kept J.may_leave W.contents gate output.old result.1 output.new stop register.old
+        (input_records (file_bytes R.remaining input)) register.new result.0 }
+    ensures too_many { IfErr result.0 (λ e. e ≡ RunFault.TooMany → HasTooMany (file_bytes R.remaining input)) }
 {
     register.is_sound();
-    let Ok(lines) = Lines::new(alloc, input) else {
+    let Some(input) = input else {
+        return (Ok(Status::AllAccepted), gate);
+    };
+    let Ok(reader) = reader_of(alloc, input) else {
         return (Err(RunFault::Memory), gate);
     };
-    let reader = ReaderBuilder::new()
-        .has_headers(false)
-        .flexible(true)
-        .from_reader(alloc, lines);
     let mut session = Logged::new(reader, gate);
     let ended = run_session(alloc, register, &mut session, output, stop);
     (ended, session.into_gate())
-}
-
-/// The same for the records of a file, or for none if there is no file.
-fn run_file_logged<F: Read + Drop, W: Write + Drop, J: Journal + Drop>(
-    alloc: Global,
-    register: &mut Register,
-    file: Option<F>,
-    gate: Gate<J>,
-    output: &mut Buffered<W>,
-    stop: bool,
-) -> (Result<Status, RunFault>, Gate<J>)
-    ensures ended { EndedOn (LogsOn J.kept J.may_leave W.contents gate output.old result.1 output.new)
-        (LogsUpTo J.kept J.may_leave W.contents gate output.old result.1 output.new) stop register.old
-        (input_records (file_bytes F.remaining file)) (written W.contents output.old) register.new
-        (written W.contents output.new) result.0 }
-    ensures too_many { IfErr result.0 (λ e. e ≡ RunFault.TooMany → HasTooMany (file_bytes F.remaining file)) }
-{
-    register.is_sound();
-    match file {
-        Some(file) => run_logged(alloc, register, file, gate, output, stop),
-        None => (Ok(Status::AllAccepted), gate),
-    }
 }
 
 /// Runs the records of a file, if there is one, and then those of the input, as `run_both` does, with a log.
@@ -73,15 +48,13 @@ fn run_both_logged<F: Read + Drop, R: Read + Drop, W: Write + Drop, J: Journal +
     output: &mut Buffered<W>,
     stop: bool,
 ) -> (Result<Status, RunFault>, Gate<J>)
-    ensures ended { EndedOn (LogsOn J.kept J.may_leave W.contents gate output.old result.1 output.new)
-        (LogsUpTo J.kept J.may_leave W.contents gate output.old result.1 output.new) stop register.old
-        (both_records (file_bytes F.remaining file) (R.remaining input)) (written W.contents output.old)
-        register.new (written W.contents output.new) result.0 }
+    ensures ended { LoggedOn J.kept J.may_leave W.contents gate output.old result.1 output.new stop register.old
+        (both_records (file_bytes F.remaining file) (R.remaining input)) register.new result.0 }
     ensures too_many { IfErr result.0 (λ e. e ≡ RunFault.TooMany
         → HasTooMany (file_bytes F.remaining file) ⊎ HasTooMany (R.remaining input)) }
 {
     register.is_sound();
-    let (ended, gate) = run_file_logged(alloc, register, file, gate, output, stop);
+    let (ended, gate) = run_logged(alloc, register, file, gate, output, stop);
     let first = match ended {
         Ok(first) => first,
         Err(fault) => return (Err(fault), gate),
@@ -89,10 +62,21 @@ fn run_both_logged<F: Read + Drop, R: Read + Drop, W: Write + Drop, J: Journal +
     if first == Status::Stopped {
         return (Ok(first), gate);
     }
-    let (ended, gate) = run_logged(alloc, register, input, gate, output, stop);
+    let (ended, gate) = run_logged(alloc, register, Some(input), gate, output, stop);
     match ended {
         Ok(second) => (Ok(greater_of(first, second)), gate),
         Err(fault) => (Err(fault), gate),
+    }
+}
+
+/// The end of a run once its answers were sent, or could not be.
+fn end_sent(ended: Result<Status, RunFault>, sent: Result<(), RunFault>) -> Result<Status, RunFault>
+    ensures { result ≡ once_sent ended sent }
+{
+    match (ended, sent) {
+        (Ok(status), Ok(())) => Ok(status),
+        (Ok(_), Err(fault)) => Err(fault),
+        (Err(fault), _) => Err(fault),
     }
 }
 
@@ -126,12 +110,5 @@ pub fn run_with_log<F: Read + Drop, R: Read + Drop, W: Write + Drop, J: Journal 
     let gate = Gate::new(alloc, journal, renewed_from);
     let (ended, mut gate) = run_both_logged(alloc, register, file, input, gate, output, stop);
     let sent = gate.send(output);
-    let status = match ended {
-        Ok(status) => status,
-        Err(fault) => return (Err(fault), gate),
-    };
-    match sent {
-        Ok(()) => (Ok(status), gate),
-        Err(fault) => (Err(fault), gate),
-    }
+    (end_sent(ended, sent), gate)
 }

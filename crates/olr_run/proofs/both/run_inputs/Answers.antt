@@ -2,9 +2,9 @@
 use Rattle.olr_run.proofs.Common.{file_bytes, input_records, Claims}
 use Rattle.olr_run.proofs.InputRuns.{cut_at_first}
 use Rattle.olr_run.proofs.Joining.{longer, both_faulted_first_as}
+use Rattle.olr_run.proofs.RunLemmas.{none_claimed}
 use Rattle.olr_run.proofs.Running.{cut_by}
 use Rattle.olr_sessions.specs.Inputs.{read_as}
-use Rattle.std.proofs.Common.{refl}
 use Rattle.olr_sessions.specs.declared.ends.RunFault.TheVariants as fault
 use Rattle.olr_run.proofs.both.run_inputs.Goals as goal
 
@@ -18,4 +18,4 @@ returns-in_err-file-clause-ended g c =
     cut_by Claims Claims stop register _ before register before c.from_residual.result fault.Memory
     c.from_residual.ensures.1
     (both_faulted_first_as Claims Claims Claims longer stop register register (input_records file) (input_records input) before before fault.Memory
-    c.is_sound.ensures (cut_at_first stop register before file fault.Memory c.is_sound.ensures refl))
+    c.is_sound.ensures (cut_at_first Claims none_claimed stop register before file c.is_sound.ensures))
