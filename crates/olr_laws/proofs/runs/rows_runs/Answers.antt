@@ -1,5 +1,5 @@
-use Rattle.olr_run.proofs.Common.{ByState, In_last, csv_on_literals, Paths}
-use Rattle.std.proofs.Common.{arith, inl, inr, ◌≡◌, [], ◌∷◌, ◌++◌, Ok, Err, refl}
+use Rattle.olr_run.proofs.Common.{ByState, In_last, Outcome, Outcomes, csv_on_literals, Paths, records_of}
+use Rattle.std.proofs.Common.{arith, inl, inr, ◌≡◌, Bool, true, false, List, [], ◌∷◌, ◌++◌, Ok, Err, refl}
 use Rattle.olr_commands.specs.State.{start_state, On_map, Make, Syntax, Range, Map_fault, step}
 use Rattle.std.specs.Cmp.{nat_cmp_total}
 use Rattle.std.specs.FinMap.{insert, empty, get-empty, get-insert}
@@ -7,7 +7,8 @@ use Rattle.std.specs.Prelude.{codes}
 use Rattle.std.specs.Fmt.{digits}
 use Rattle.olr_spec.specs.Map.{Node_exists, No_node, Add_node, Drop_node}
 use Rattle.olr_laws.specs.RecordRows.{zero}
-use Rattle.olr_laws.specs.RunRows.{state20}
+use Rattle.olr_run.specs.Output.{StopsAtFault}
+use Rattle.olr_laws.specs.RunRows.{input20, state20}
 use Rattle.olr_laws.proofs.runs.rows_runs.Goals as goal
 
 add_first : step start_state (Make (On_map (Add_node 1 zero))) ≡ Ok state20
@@ -39,17 +40,22 @@ returns-clause-all c =
       ended = refl;
     }
 
+-- the outcomes of the first two records
+abbrev first_two : List Outcome
+first_two = Ok (Paths []) ∷ Err (Map_fault Node_exists) ∷ []
+
+each_two : Outcomes start_state (records_of input20) first_two state20
+unfolding csv_on_literals digits
+each_two = (state20, inl (add_first, refl), (state20, inl (ByState add_again, refl), refl))
+
+stops_two : (stop : Bool) → StopsAtFault stop first_two
+stops_two true = (λ e. absurd cc, (λ e. refl, tt))
+stops_two false = (λ e. absurd cc, (λ e. refl, tt))
+
 pub returns-clause-stopped : goal.returns-clause-stopped
 unfolding csv_on_literals digits
 returns-clause-stopped c =
-    record {
-      outcomes = Ok (Paths []) ∷ Err (Map_fault Node_exists) ∷ [];
-      each = (state20, inl (add_first, refl), (state20, inl (ByState add_again, refl), refl));
-      stops = (λ e. absurd cc, (λ e. refl, tt));
-      all = inr refl;
-      wrote = refl;
-      ended = refl;
-    }
+    record { outcomes = first_two; each = each_two; stops = stops_two true; all = inr refl; wrote = refl; ended = refl }
 
 pub returns-clause-nothing : goal.returns-clause-nothing
 unfolding csv_on_literals digits
@@ -59,9 +65,9 @@ pub returns-clause-cut : goal.returns-clause-cut
 unfolding csv_on_literals digits
 returns-clause-cut c =
     record {
-      outcomes = Ok (Paths []) ∷ Err (Map_fault Node_exists) ∷ [];
-      each = (state20, inl (add_first, refl), (state20, inl (ByState add_again, refl), refl));
-      stops = (λ e. absurd cc, (λ e. refl, tt));
+      outcomes = first_two;
+      each = each_two;
+      stops = stops_two false;
       wrote =
           In_last refl (Ok (Paths []) ∷ []) (Err (Map_fault Node_exists)) (codes "fau")
           (codes "lt,3,NodeExists" ++ 10 ∷ []) refl refl (λ e. absurd cc) refl;
