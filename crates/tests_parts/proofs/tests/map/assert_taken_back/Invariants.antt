@@ -1,5 +1,5 @@
 use Rattle.olr_map.specs.RoadMaps.{CanUndoAll}
-use Rattle.tests_map.proofs.tests.assert_taken_back.Given as goal
+use Rattle.tests_parts.proofs.tests.map.assert_taken_back.Given as goal
 
 -- the edits of the log can be undone
 abbrev pub invariant-loop-edit : goal.invariant-loop-edit

@@ -5,21 +5,8 @@ use made_maps::{WORKED, diamond, line, make, map_of, node, parallel, plain_line,
 use olr_map::{MapRead, RoadMap};
 use olr_search::{Dijkstra, Direction, GREATEST_LIMIT, resolve_line, settled_search};
 use std::alloc::Global;
-use std::fmt::Debug;
 use std::process::Abort;
 use std::test::Fail;
-
-/// Asserts that two values are equal. One call is proved faster than the branches of `assert_eq!` at each use.
-fn same<T: PartialEq + Debug + Drop>(rt: &impl Abort, found: T, wanted: T, what: &str) {
-    assert_eq!(rt; found, wanted, "{what}");
-}
-
-/// `same`, with the tested expression as the message.
-macro_rules! same {
-    ($rt:expr; $found:expr, $wanted:expr) => {
-        same($rt, $found, $wanted, stringify!($found))
-    };
-}
 
 /// The distances of the nodes from 1 on, by a search from nodes given by number and start value.
 fn distances<M: MapRead>(

@@ -5,7 +5,6 @@ use made_maps::{STRAIGHT, WORKED, diamond, lines, make, map_of, node, other_line
 use olr_map::{Footprint, MapRead, NodeId, RoadMap};
 use olr_route::{GREATEST_LIMIT, Labels, Work, is_least, is_unique_shortest, search};
 use std::alloc::Global;
-use std::fmt::Debug;
 use std::process::Abort;
 use std::test::Fail;
 
@@ -14,18 +13,6 @@ type Label = (Option<u32>, Option<u32>);
 
 /// The label of a node that no route reaches.
 const NONE: Label = (None, None);
-
-/// Asserts that two values are equal. One call is proved faster than the branches of `assert_eq!` at each use.
-fn same<T: PartialEq + Debug + Drop>(rt: &impl Abort, found: T, wanted: T, what: &str) {
-    assert_eq!(rt; found, wanted, "{what}");
-}
-
-/// `same`, with the tested expression as the message.
-macro_rules! same {
-    ($rt:expr; $found:expr, $wanted:expr) => {
-        same($rt, $found, $wanted, stringify!($found))
-    };
-}
 
 /// The labels of a search from a node of the map.
 fn labels_from<M: MapRead>(

@@ -1,4 +1,4 @@
-use Rattle.tests_search.proofs.searches.settle_in_steps.Goals as goal
+use Rattle.tests_parts.proofs.tests.searches.settle_in_steps.Goals as goal
 
 pub settle_to-requires-2-clause-begun : goal.settle_to-requires-2-clause-begun
 settle_to-requires-2-clause-begun g c = (_, _, c.in_ok-settle_to.ensures.search _ _ c.in_ok-begin.ensures.search)

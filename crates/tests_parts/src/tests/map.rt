@@ -3,6 +3,7 @@
 ghost use Rattle.std.specs.Prelude.{IsTrue, IfOk};
 ghost use Rattle.olr_map.specs.RoadMaps.{CanUndo, CanUndoAll};
 
+use crate::tests::same;
 use made_maps::{
     Bend, FIRST, Road, STRAIGHT, WORKED, difference, line, make, map_of, new_node, next, node,
     place, shape,
@@ -15,18 +16,6 @@ use std::alloc::{AllocError, Global};
 use std::fmt::Debug;
 use std::process::Abort;
 use std::test::Fail;
-
-/// Asserts that two values are equal. One call is proved faster than the branches of `assert_eq!` at each use.
-fn same<T: PartialEq + Debug + Drop>(rt: &impl Abort, found: T, wanted: T, what: &str) {
-    assert_eq!(rt; found, wanted, "{what}");
-}
-
-/// `same`, with the tested expression as the message.
-macro_rules! same {
-    ($rt:expr; $found:expr, $wanted:expr) => {
-        same($rt, $found, $wanted, stringify!($found))
-    };
-}
 
 /// `same` for values at a node or a line with this number.
 fn same_at<T: PartialEq + Debug + Drop>(

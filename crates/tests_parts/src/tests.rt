@@ -1,0 +1,27 @@
+//! The tests by part, and their assertion of equality.
+
+use std::fmt::Debug;
+use std::process::Abort;
+
+/// Asserts that two values are equal. One call is proved faster than the branches of `assert_eq!` at each use.
+fn same<T: PartialEq + Debug + Drop>(rt: &impl Abort, found: T, wanted: T, what: &str) {
+    assert_eq!(rt; found, wanted, "{what}");
+}
+
+/// `same`, with the tested expression as the message.
+macro_rules! same {
+    ($rt:expr; $found:expr, $wanted:expr) => {
+        crate::tests::same($rt, $found, $wanted, stringify!($found))
+    };
+}
+
+mod ambiguity;
+mod bearing;
+mod binary;
+mod coords;
+mod distance_bounds;
+mod grid;
+mod index;
+mod map;
+mod routes;
+mod searches;
