@@ -1,9 +1,12 @@
 -- The lines around nodes, and lists that are sorted without duplicates.
 use Rattle.olr_list.proofs.Common.{inl, inr, ◌≡◌, ℕ, ◌+◌, ◌<◌, true, List, ◌++◌, length, take, get_or, eqb, IsTrue, ◌||◌}
 use Rattle.olr_list.proofs.Common.{◌==◌, ◌↔◌, sym, ap, ◌∙◌, eq-eqb, eqb-true, or_left, Map, end, has}
-use Rattle.olr_list.proofs.Common.{IsPermutation, Option, is_some, ◌⊎◌}
+use Rattle.olr_list.proofs.Common.{IsPermutation, IsStrictlyIncreasing, Option, is_some, ◌⊎◌}
 use Rattle.std.specs.Option.{unwrap_or}
 use Rattle.std.specs.List.{dedup}
+use Rattle.std.specs.List.Sorted.{IsSorted}
+use Rattle.std.specs.Ordering.{nat_cmp}
+use Rattle.std.proofs.lemmas.Map.Keys.{IsStrictlyIncreasing-dedup}
 use Rattle.std.proofs.lemmas.Bool.{or_cases, or_right}
 use Rattle.std.proofs.lemmas.List.Folds.{list_any-append, list_any_more}
 use Rattle.std.proofs.lemmas.List.Kept.{Contains-dedup_nat, Contains-from_dedup}
@@ -15,6 +18,9 @@ use Rattle.olr_list.specs.ChangeSets.{IsLineAround}
 use Rattle.olr_list.proofs.Alls.{has_from, in_from}
 
 -- sorted, and each once
+pub once_ascends : (sorted once : List ℕ) → IsSorted nat_cmp sorted → once ≡ dedup eqb sorted → IsStrictlyIncreasing once
+once_ascends sorted once ordered is = rw is (IsStrictlyIncreasing-dedup sorted ordered)
+
 pub once_has : (ns sorted once : List ℕ) → IsPermutation ns sorted → once ≡ dedup eqb sorted → (v : ℕ) →
     IsTrue (has once v) ↔ IsTrue (has ns v)
 once_has ns sorted once moved is v = rw is (

@@ -5,15 +5,18 @@
 --     Covers N T X is found      a path whose position isn't found is not affected
 --     CoversAsked N slot t s is found      the same for the paths for which the search was made.
 --     FindsChanged cs is found      a path whose position isn't found is not changed
-use Rattle.std.specs.Prelude.{◌≡◌, ℕ, ◌<◌, List, All, Some, None, false, length, get_or, slice_get, IsTrue}
+--     AreCandidates N slot t s is found      what a renewal finds before it takes an action for each path
+use Rattle.std.specs.Prelude.{◌≡◌, ℕ, ◌<◌, ◌≤◌, List, All, Some, None, false, length, get_or, slice_get, IsTrue}
+use Rattle.std.specs.List.Sorted.{IsStrictlyIncreasing}
 use Rattle.olr_spec.specs.Map.{Map, has}
 use Rattle.olr_index.specs.PathIds.{holds}
 use Rattle.olr_index.specs.declared.Index.{Index}
+use Rattle.olr_commands.specs.Counts.{most_changed}
 use Rattle.olr_list.specs.Items.{Made, Item}
 use Rattle.olr_list.specs.Actions.{ToSkip}
 use Rattle.olr_list.specs.Overlaid.{Changes, change_at}
-use Rattle.olr_list.specs.ChangeSets.{nodes_of, lines_of}
-use Rattle.olr_list.specs.AffectedSearches.{IsAsked}
+use Rattle.olr_list.specs.ChangeSets.{nodes_of, lines_of, changed_of}
+use Rattle.olr_list.specs.AffectedSearches.{IsAsked, AreAsked, AreDetours}
 use Rattle.olr_list.specs.declared.change_set.ChangeSet.{ChangeSet}
 use Rattle.olr_list.specs.declared.searches.Searches.{Searches}
 
@@ -38,3 +41,12 @@ CoversAsked N slot t s is found =
 abbrev pub FindsChanged : Changes → List Item → List ℕ → Type 0
 FindsChanged cs is found =
     (k : ℕ) (i : Item) → slice_get is k ≡ Some i → has found k ≡ false → change_at cs i.name ≡ None
+
+-- the search from the touched nodes is made, and the positions of the paths that edits may affect are found, in ascending
+-- order;  if there are any, the searches for detours have begun
+pub record AreCandidates (N : Map) (slot : ℕ → ℕ) (t : ChangeSet) (s : Searches) (is : List Item) (found : List ℕ) : Type 0
+  where
+    pub asked : AreAsked N slot t s is
+    pub ascending : IsStrictlyIncreasing found
+    pub covers : Covers N (nodes_of t) (lines_of t) is found
+    pub detours : 0 < length found → length (changed_of t) ≤ most_changed → AreDetours N slot t s.detours

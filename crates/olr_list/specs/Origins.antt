@@ -4,6 +4,7 @@
 --     AreFar N T is      no query reaches one of the nodes T
 --     AreBoundsOf N slot f is      the bounds are right, and they are those of all queries
 --     new_origins_in s      the queries that the last renewal made
+--     AreOriginsNoted s is js      each query of the list js is one of the list is or one of these
 use Rattle.std.specs.Prelude.{ℕ, List, [], ◌∷◌, Contains, Option, Some, None, ◌⊎◌, min}
 use Rattle.olr_spec.specs.Map.{Map}
 use Rattle.olr_spec.specs.Extension.{limit}
@@ -36,3 +37,6 @@ pub record AreBoundsOf (N : Map) (slot : ℕ → ℕ) (f : DistanceBounds) (is :
 
 abbrev pub new_origins_in : Searches → List CoverageQuery
 new_origins_in s = s.new_origins.items
+
+abbrev pub AreOriginsNoted : Searches → List Item → List Item → Type 0
+AreOriginsNoted s is js = (l : CoverageQuery) → Begins js l → Begins is l ⊎ Contains (new_origins_in s) l

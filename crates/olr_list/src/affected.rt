@@ -1,7 +1,6 @@
 //! The searches of a renewal, and which paths the edits of the map affect.
-ghost use Rattle.std.specs.Prelude.{◌≡◌, ◌↔◌, ◌⊎◌, ◌<◌, ◌≤◌, ℕ, min, length, Contains, IsTrue, IfOk, OnOk};
+ghost use Rattle.std.specs.Prelude.{◌≡◌, ◌↔◌, ◌⊎◌, ℕ, min, Contains, IsTrue, IfOk, OnOk};
 ghost use Rattle.std.specs.List.{list_any};
-ghost use Rattle.std.specs.List.Sorted.{IsStrictlyIncreasing};
 ghost use Rattle.olr_spec.specs.Map.{has};
 ghost use Rattle.olr_spec.specs.Extension.{limit};
 ghost use Rattle.olr_spec.specs.Detours.{Near};
@@ -9,12 +8,11 @@ ghost use Rattle.olr_spec.specs.Queries.{CoverageQuery as QueryRecord};
 ghost use Rattle.olr_search.specs.Bounds.{AreLengths};
 ghost use Rattle.olr_near.specs.Bounds.{IsRight, IsSource};
 ghost use Rattle.olr_search.specs.declared.distances.Direction.TheVariants.{Against};
-ghost use Rattle.olr_commands.specs.Counts.{most_changed};
 ghost use Rattle.olr_list.specs.Items.{made_of, items};
 ghost use Rattle.olr_list.specs.Views.{shown_items};
-ghost use Rattle.olr_list.specs.ChangeSets.{nodes_of, lines_of, changed_of};
-ghost use Rattle.olr_list.specs.AffectedSearches.{sources, IsExactAt, IsAsked, AreAsked, AreDetours, LackQueries};
-ghost use Rattle.olr_list.specs.Candidates.{Covers};
+ghost use Rattle.olr_list.specs.ChangeSets.{nodes_of, lines_of};
+ghost use Rattle.olr_list.specs.AffectedSearches.{sources, IsExactAt, IsAsked, AreAsked, LackQueries};
+ghost use Rattle.olr_list.specs.Candidates.{AreCandidates};
 ghost use Rattle.olr_list.specs.Changes.{LineTouched, QueryTouched, TraversedTouched};
 ghost use Rattle.olr_list.specs.Origins.{AreBoundsOf};
 
@@ -104,15 +102,8 @@ pub fn ask<M: MapRead>(
     searches: &mut Searches,
 ) -> Result<Vec<usize>, AllocError>
     requires { AreBoundsOf (M.map map.now) (M.node_slot map.now) bounds.now (shown_items overlaid) }
-    ensures asked { OnOk result
-        (AreAsked (M.map map.now) (M.node_slot map.now) touched.now searches.new (shown_items overlaid.entry)) }
-    ensures ascending { IfOk result (λ found. IsStrictlyIncreasing found.items) }
-    ensures covers { IfOk result
-        (λ found. Covers (M.map map.now) (nodes_of touched.now) (lines_of touched.now) (shown_items overlaid.entry)
-        found.items) }
-    ensures detours { IfOk result
-        (λ found. 0 < length found.items → length (changed_of touched.now) ≤ most_changed
-        → AreDetours (M.map map.now) (M.node_slot map.now) touched.now searches.new.detours) }
+    ensures { IfOk result (λ found. AreCandidates (M.map map.now) (M.node_slot map.now) touched.now searches.new
+        (shown_items overlaid.entry) found.items) }
 {
     if overlaid.at(0).is_none() {
         searches.far = true;

@@ -19,10 +19,7 @@ impl PathList {
         ensures { IfOk result (λ e. (A : Answer) × (answer_in (items self.now) name.now ≡ Some A)
             × (entry_of e ≡ entry name.now A)) }
     {
-        match self.published_of(name) {
-            Some(published) => published.entry(alloc, name),
-            None => unreachable!(),
-        }
+        self.published_of(name).unwrap().entry(alloc, name)
     }
 
     /// The entries of all paths, in order. Each of them was encoded. Takes no memory if there are none.

@@ -28,10 +28,7 @@ impl<'a> Iterator for Iter<'a> {
 
     fn next(&mut self) -> Option<(&'a str, &'a Published)> {
         let (name, named) = self.entries.next()?;
-        let Some(published) = named.published() else {
-            unreachable!()
-        };
-        Some((name.as_str(), published))
+        Some((name.as_str(), named.published().unwrap()))
     }
 
     fn size_hint(&self) -> (usize, Option<usize>) {

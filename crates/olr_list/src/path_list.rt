@@ -227,9 +227,7 @@ impl PathList {
         let Some(position) = self.paths.get_index_of(name) else {
             return;
         };
-        let Some((_, named)) = self.paths.shift_remove_index(position) else {
-            unreachable!()
-        };
+        let (_, named) = self.paths.shift_remove_index(position).unwrap();
         let path_id = self.path_ids.remove(position);
         self.finder.forget(path_id, named.keys(), Keys::none());
     }
@@ -279,9 +277,7 @@ impl PathList {
         let path_id = self.path_ids[position];
         self.finder.replace(path_id, current.keys(), named.keys())?;
         self.held = is_held(self.held, &named);
-        let Some(place) = self.paths.get_index_mut(position) else {
-            unreachable!()
-        };
+        let place = self.paths.get_index_mut(position).unwrap();
         *place = named;
         Ok(())
     }

@@ -112,13 +112,10 @@ impl Published {
     {
         let name = String::from_str(alloc, name)?;
         match &self.answer {
-            Answer::Points(_) => match self.text() {
-                Some(text) => Ok(Entry {
-                    name,
-                    published: Ok(String::from_str(alloc, text)?),
-                }),
-                None => unreachable!(),
-            },
+            Answer::Points(_) => Ok(Entry {
+                name,
+                published: Ok(String::from_str(alloc, self.text().unwrap())?),
+            }),
             Answer::Refused(refusal) => Ok(Entry {
                 name,
                 published: Err(*refusal),

@@ -46,12 +46,9 @@ pub(crate) fn show_under<'a>(
     let Some(change) = changes.get(name) else {
         return show(name, named);
     };
-    match change {
-        Some(path) => PathView {
-            name,
-            path,
-            published: None,
-        },
-        None => unreachable!(),
+    PathView {
+        name,
+        path: change.as_ref().unwrap(),
+        published: None,
     }
 }

@@ -22,19 +22,23 @@ module _ {found : List ℕ} {long k next : ℕ} (up : IsStrictlyIncreasing found
     within = omega arith;
   }
 
-  -- past the last path
-  pub passed_end : long ≤ get_or found k 0 → Passed found long (k + 1) next
-  passed_end past = record {
+  past : long ≤ get_or found k 0 → Passed found long (k + 1) next
+  past end = record {
     below = λ j before. grind (arith, h.below j);
     ahead = λ j after. h.ahead j (omega arith);
     within = h.within;
   }
 
--- after the last path
-pub past_end : (js : List Item) (q : ℕ) → slice_get js q ≡ None → length js ≤ q
+past_end : (js : List Item) (q : ℕ) → slice_get js q ≡ None → length js ≤ q
 past_end [] q at = omega arith
 past_end (j ∷ js) zero at = let never : ⊥ = cc (at) in absurd never
 past_end (j ∷ js) (suc q) at = let le = past_end js q at in omega arith
+
+-- one that is past the last path
+pub passed_end : (is : List Item) {found : List ℕ} {k next : ℕ} → IsStrictlyIncreasing found →
+    Passed found (length is) k next → k < length found → slice_get is (get_or found k 0) ≡ None →
+    Passed found (length is) (k + 1) next
+passed_end is {found} {k} {next} up h lt none = past up h lt (past_end is (get_or found k 0) none)
 
 module _ (is : List Item) (found : List ℕ) (Q : ℕ → Type 0)
     (step : (p : ℕ) (i : Item) → slice_get is p ≡ Some i → has found p ≡ false → Q p → Q (p + 1)) where

@@ -1,15 +1,14 @@
 //! Paths that are added or replaced one at a time, and encoded at once.
-ghost use Rattle.std.specs.Prelude.{◌≡◌, ◌≢◌, ◌⊎◌, [], ◌∷◌, ◌++◌, List, Contains, false};
-ghost use Rattle.std.specs.Prelude.{map as list_map, Some, is_some, string_bytes, option_map, IfOk, OnOk, OnErr};
+ghost use Rattle.std.specs.Prelude.{◌≡◌, ◌≢◌, ◌⊎◌, [], ◌∷◌, ◌++◌, false};
+ghost use Rattle.std.specs.Prelude.{map as list_map, Some, is_some, string_bytes, IfOk, OnOk, OnErr};
 ghost use Rattle.olr_spec.specs.Encoding.{Answer};
 ghost use Rattle.olr_commands.specs.State.{path_named};
 ghost use Rattle.olr_commands.specs.Reply.{entry};
 ghost use Rattle.olr_commands.specs.Words.{entry_of};
-ghost use Rattle.olr_spec.specs.Queries.{CoverageQuery as QueryRecord};
 ghost use Rattle.olr_list.specs.Items.{Made, IsEncodingOf, items, made_of, all_named, answer_in};
 ghost use Rattle.olr_list.specs.Changes.{set_item};
+ghost use Rattle.olr_list.specs.Origins.{AreOriginsNoted, new_origins_in};
 ghost use Rattle.olr_paths.specs.Changes.{SearchedAlone};
-ghost use Rattle.olr_list.specs.Origins.{Begins, new_origins_in};
 
 use crate::encoding::publish;
 use crate::renewal::push_if_changed;
@@ -66,8 +65,7 @@ pub fn add<M: MapRead>(
         × (list_map entry_of r.0.items ≡ entry (string_bytes name) m.answer ∷ [])) }
     ensures counted { IfOk result (λ r. r.1.encodings ≡ 1) }
     ensures searched { IfOk result (λ r. SearchedAlone (M.map map.now) path r.1) }
-    ensures new_origins { OnOk result ((v : QueryRecord) → Begins (items list.new) v
-        → Begins (items list.old) v ⊎ Contains (new_origins_in searches.new) v) }
+    ensures new_origins { OnOk result (AreOriginsNoted searches.new (items list.old) (items list.new)) }
     ensures err { OnErr result (items list.new ≡ items list.old) }
 {
     let (path, published, work) = encode_alone(alloc, map, path, searches)?;
@@ -98,8 +96,7 @@ pub fn set<M: MapRead>(
         × (list_map entry_of r.0.items ≡ entry name.now m.answer ∷ [])))) }
     ensures counted { IfOk result (λ r. r.1.encodings ≡ 1) }
     ensures searched { IfOk result (λ r. SearchedAlone (M.map map.now) path r.1) }
-    ensures new_origins { OnOk result ((v : QueryRecord) → Begins (items list.new) v
-        → Begins (items list.old) v ⊎ Contains (new_origins_in searches.new) v) }
+    ensures new_origins { OnOk result (AreOriginsNoted searches.new (items list.old) (items list.new)) }
     ensures err { OnErr result (items list.new ≡ items list.old) }
 {
     let (path, published, work) = encode_alone(alloc, map, path, searches)?;

@@ -1,11 +1,10 @@
 //! The names of the paths that edits would affect.
 ghost use Rattle.std.specs.Prelude.{◌≡◌, ◌∷◌, ◌++◌, ◌⊎◌, [], map as list_map, string_bytes, IfOk, OnOk};
-ghost use Rattle.std.specs.List.Sorted.{IsStrictlyIncreasing};
 ghost use Rattle.olr_list.specs.Items.{Made, items};
 ghost use Rattle.olr_list.specs.Views.{shown_items, shown_item};
 ghost use Rattle.olr_list.specs.ChangeSets.{nodes_of, lines_of};
-ghost use Rattle.olr_list.specs.AffectedSearches.{IsAsked, AreAsked};
-ghost use Rattle.olr_list.specs.Candidates.{Covers};
+ghost use Rattle.olr_list.specs.AffectedSearches.{IsAsked};
+ghost use Rattle.olr_list.specs.Candidates.{AreCandidates};
 ghost use Rattle.olr_list.specs.Origins.{AreBoundsOf};
 ghost use Rattle.olr_list.specs.Actions.{ToSkip, ToName};
 ghost use Rattle.olr_paths.specs.Changes.{AffectedNames};
@@ -49,10 +48,8 @@ fn names_by<M: MapRead>(
     searches: &Searches,
     found: &[usize],
 ) -> Result<Vec<String>, AllocError>
-    requires asked { AreAsked (M.map map.now) (M.node_slot map.now) touched.now searches.now (shown_items overlaid) }
-    requires ascending { IsStrictlyIncreasing found.now }
-    requires covers { Covers (M.map map.now) (nodes_of touched.now) (lines_of touched.now) (shown_items overlaid)
-        found.now }
+    requires candidates { AreCandidates (M.map map.now) (M.node_slot map.now) touched.now searches.now
+        (shown_items overlaid) found.now }
     requires before { WasBefore (M.map map.now) (M.map map.now) touched.now (shown_items overlaid) }
     ensures { IfOk result (λ names. AffectedNames (M.map map.now) (nodes_of touched.now) (lines_of touched.now)
         (shown_items overlaid.entry) (list_map string_bytes names.items)) }

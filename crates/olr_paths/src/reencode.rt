@@ -1,13 +1,12 @@
 //! Encodes again the paths whose answer a change of the map may have changed, in place or in a list under changes.
-ghost use Rattle.std.specs.Prelude.{◌≡◌, ◌⊎◌, ℕ, [], Contains, IsSome, IfSome, IfOk, OnOk, OnErr};
+ghost use Rattle.std.specs.Prelude.{◌≡◌, ℕ, [], IsSome, IfSome, IfOk, OnOk, OnErr};
 ghost use Rattle.olr_spec.specs.Map.{Map};
 ghost use Rattle.olr_commands.specs.State.{NamesDiffer};
-ghost use Rattle.olr_spec.specs.Queries.{CoverageQuery as QueryRecord};
 ghost use Rattle.olr_near.specs.Bounds.{IsEdit, IsRight, IsUnderWay};
 ghost use Rattle.olr_list.specs.ChangeSets.{nodes_of};
 ghost use Rattle.olr_list.specs.Items.{items, all_named};
 ghost use Rattle.olr_list.specs.Overlaid.{RemovesNone, overlay_changes, under_overlay};
-ghost use Rattle.olr_list.specs.Origins.{Begins, AreBoundsOf, new_origins_in};
+ghost use Rattle.olr_list.specs.Origins.{AreBoundsOf, AreOriginsNoted};
 ghost use Rattle.olr_paths.specs.Changes.{Follows};
 ghost use Rattle.olr_paths.specs.Reencoded.{items_before, WasBefore, IsRenewal};
 
@@ -40,8 +39,8 @@ fn renew_overlaid<M: MapRead>(
         (under_overlay (items list.old) overlay.now) }
     ensures renewed { IfOk result (IsRenewal (M.map map.now) touched.now (items_before before.entry list.old)
         (under_overlay (items list.old) overlay.now) (items list.new)) }
-    ensures new_origins { OnOk result ((v : QueryRecord) → Begins (items list.new) v
-        → Begins (under_overlay (items list.old) overlay.now) v ⊎ Contains (new_origins_in searches.new) v) }
+    ensures new_origins { OnOk result
+        (AreOriginsNoted searches.new (under_overlay (items list.old) overlay.now) (items list.new)) }
     ensures err { OnErr result (items list.new ≡ items list.old) }
 {
     let overlaid = OverlaidList { list, overlay };
@@ -110,8 +109,8 @@ pub fn renew_over<M: MapRead>(
         (under_overlay (items list.old) overlay.now) }
     ensures renewed { IfOk result (IsRenewal (M.map map.now) touched.now (items list.old)
         (under_overlay (items list.old) overlay.now) (items list.new)) }
-    ensures new_origins { OnOk result ((v : QueryRecord) → Begins (items list.new) v
-        → Begins (under_overlay (items list.old) overlay.now) v ⊎ Contains (new_origins_in searches.new) v) }
+    ensures new_origins { OnOk result
+        (AreOriginsNoted searches.new (under_overlay (items list.old) overlay.now) (items list.new)) }
     ensures err { OnErr result (items list.new ≡ items list.old) }
 {
     if !overlay.removes_some() {

@@ -1,6 +1,6 @@
 //! Encodes again the paths whose answer a change of the map may have changed.
 ghost use Rattle.std.specs.Prelude.{◌≡◌, ◌≤◌, ◌↔◌, ℕ, Contains, Some, slice_get, map as list_map, IsTrue, IfOk};
-ghost use Rattle.std.specs.Prelude.{◌<◌, length, OnOk};
+ghost use Rattle.std.specs.Prelude.{length, OnOk};
 ghost use Rattle.olr_spec.specs.Map.{Map};
 ghost use Rattle.olr_commands.specs.Words.{entry_of};
 ghost use Rattle.std.specs.Prelude.{List};
@@ -8,11 +8,10 @@ ghost use Rattle.olr_spec.specs.Detours.{ChangedLine};
 ghost use Rattle.olr_spec.specs.Queries.{CoverageQuery as QueryRecord, AreKnown};
 ghost use Rattle.olr_list.specs.Items.{Item, made_of, items, answer_in};
 ghost use Rattle.olr_list.specs.Views.{shown_items, shown_item};
-ghost use Rattle.olr_list.specs.ChangeSets.{nodes_of, lines_of, changed_of};
-ghost use Rattle.olr_list.specs.AffectedSearches.{AreDetours, AreAsked};
+ghost use Rattle.olr_list.specs.ChangeSets.{changed_of};
+ghost use Rattle.olr_list.specs.AffectedSearches.{AreDetours};
 ghost use Rattle.olr_commands.specs.Counts.{most_changed};
-ghost use Rattle.olr_list.specs.Candidates.{Covers};
-ghost use Rattle.std.specs.List.Sorted.{IsStrictlyIncreasing};
+ghost use Rattle.olr_list.specs.Candidates.{AreCandidates};
 ghost use Rattle.olr_list.specs.Origins.{BeginsPut, AreBoundsOf, new_origins_in};
 ghost use Rattle.olr_list.specs.Actions.{IsActionFor, IsEncode};
 ghost use Rattle.olr_paths.specs.Changes.{Follows};
@@ -195,12 +194,8 @@ fn renewal_by<M: MapRead>(
     searches: &mut Searches,
     found: &[usize],
 ) -> Result<Renewal, AllocError>
-    requires asked { AreAsked (M.map map.now) (M.node_slot map.now) touched.now searches.old (shown_items overlaid) }
-    requires ascending { IsStrictlyIncreasing found.now }
-    requires covers { Covers (M.map map.now) (nodes_of touched.now) (lines_of touched.now) (shown_items overlaid)
-        found.now }
-    requires detours { 0 < length found.now → length (changed_of touched.now) ≤ most_changed
-        → AreDetours (M.map map.now) (M.node_slot map.now) touched.now searches.old.detours }
+    requires candidates { AreCandidates (M.map map.now) (M.node_slot map.now) touched.now searches.old
+        (shown_items overlaid) found.now }
     requires follows { Follows (items before.now) (shown_items overlaid) }
     requires before { (L : Map) × WasBefore L (M.map map.now) touched.now (shown_items overlaid) }
     ensures renewed { IfOk result (λ r. IsRenewal (M.map map.now) touched.now (items before.now)

@@ -19,5 +19,10 @@ returns-then-is_none g c =
       detours = rw c.new.ensures.items (λ lt. absurd (none_below 0 lt));
     }
 
-pub returns-clause-detours : goal.returns-clause-detours
-returns-clause-detours g c = rw c.deref.ensures.value at c.in_ok-begin_detours.ensures
+pub returns : goal.returns
+returns g c = record {
+  asked = c.in_ok-search_touched.ensures;
+  ascending = c.in_ok-found.ensures.ascending;
+  covers = c.in_ok-found.ensures.covers;
+  detours = rw c.deref.ensures.value at c.in_ok-begin_detours.ensures;
+}

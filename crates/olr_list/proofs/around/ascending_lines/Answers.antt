@@ -1,12 +1,11 @@
 use Rattle.std.proofs.lemmas.List.Filters.{dedup_is}
-use Rattle.std.proofs.lemmas.Map.Keys.{IsStrictlyIncreasing-dedup}
-use Rattle.olr_list.proofs.AroundLemmas.{once_has}
+use Rattle.olr_list.proofs.AroundLemmas.{once_ascends, once_has}
 use Rattle.olr_list.proofs.around.ascending_lines.Goals as goal
 
 pub returns-clause-ascend : goal.returns-clause-ascend
 returns-clause-ascend c =
-    rw (dedup_is _ _ _ c.dedup.ensures.filtered)
-    (IsStrictlyIncreasing-dedup c.sort_unstable.new.self.items c.sort_unstable.ensures.sorted)
+    once_ascends c.sort_unstable.new.self.items c.dedup.new.self.items c.sort_unstable.ensures.sorted
+    (dedup_is _ _ _ c.dedup.ensures.filtered)
 
 pub returns-clause-same : goal.returns-clause-same
 returns-clause-same c =

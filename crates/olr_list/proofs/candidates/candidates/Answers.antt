@@ -1,8 +1,7 @@
 use Rattle.olr_list.proofs.Common.{◌≡◌, ◌∙◌, sym, length, arith, length-map, items, overlay_changes, shown_items}
 use Rattle.olr_list.proofs.Common.{nodes_of, lines_of}
 use Rattle.std.proofs.lemmas.List.Filters.{dedup_is}
-use Rattle.std.proofs.lemmas.Map.Keys.{IsStrictlyIncreasing-dedup}
-use Rattle.olr_list.proofs.AroundLemmas.{once_has}
+use Rattle.olr_list.proofs.AroundLemmas.{once_ascends, once_has}
 use Rattle.olr_list.proofs.NamedEntries.{item_of}
 use Rattle.olr_list.proofs.Covering.{covers_more, covers_overlaid, covers_grown, changed_grown}
 use Rattle.olr_list.proofs.candidates.candidates.Goals as goal
@@ -24,13 +23,13 @@ returns g c =
     c.len-count.ensures.len ∙ sym (length-map l.list.now.paths.entries item_of) in
     let more : c.len.result ≡ length ys =
     c.len.ensures.len ∙ sym (length-map l.overlay.now.added.paths.entries item_of) in
+    let sorted = c.sort_unstable.new.self.items in
     let once = dedup_is _ _ _ c.dedup.ensures.filtered in
     record {
-      ascending =
-          rw once (IsStrictlyIncreasing-dedup c.sort_unstable.new.self.items c.sort_unstable.ensures.sorted);
+      ascending = once_ascends sorted _ c.sort_unstable.ensures.sorted once;
       covers =
           covers_more N (nodes_of t) (lines_of t) (shown_items l) two c.dedup.new.self.items
-          (λ v. (once_has two c.sort_unstable.new.self.items c.dedup.new.self.items c.sort_unstable.ensures.permutation once v).1)
+          (λ v. (once_has two sorted c.dedup.new.self.items c.sort_unstable.ensures.permutation once v).1)
           (covers_overlaid cs is ys l.none_removed N slot t s two
           (covers_grown N slot t s is one two grown c.in_ok-put_listed.ensures.asked)
           (changed_grown cs is one two grown c.in_ok-put_listed.ensures.changed)

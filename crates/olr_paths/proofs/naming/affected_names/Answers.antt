@@ -7,8 +7,8 @@ invariant_of-overlaid g c = record {
   none_removed = none_removed_by (overlay_changes c.new-overlay.result) (items c.new-overlay.result.added) c.new-overlay.ensures;
 }
 
-pub names_by-requires-clause-covers : goal.names_by-requires-clause-covers
-names_by-requires-clause-covers g c = rw c.deref.ensures.value c.in_ok-found.ensures.covers
+pub names_by-requires-clause-candidates : goal.names_by-requires-clause-candidates
+names_by-requires-clause-candidates g c = rw c.deref.ensures.value c.in_ok-found.ensures
 
 pub returns : goal.returns
 returns g c = rw (c.new-overlay.ensures (items c.args.list.now)) at c.names_by.ensures

@@ -1,7 +1,7 @@
 use Rattle.olr_paths.proofs.Common.{◌≡◌, ℕ, Some, length, get_or, slice_get, arith, ◌+◌, take_all}
 use Rattle.olr_paths.proofs.Common.{slice_get_within, Item, nodes_of, lines_of, changed_of, shown_items, shown_item}
 use Rattle.olr_list.proofs.Common.{ascends}
-use Rattle.olr_paths.proofs.Passing.{passed_none, passed_one, passed_end, past_end}
+use Rattle.olr_paths.proofs.Passing.{passed_none, passed_one, passed_end}
 use Rattle.olr_paths.proofs.RenewedPrefix.{so_far_none, so_far_step, whole, to_position}
 use Rattle.olr_paths.proofs.renewal.renewal_by.Goals as goal
 
@@ -23,20 +23,17 @@ loop-position-init g c = (
   0,
   so_far_none _ c.none-renewal.ensures.fresh c.none-renewal.ensures.entries c.none-renewal.ensures.work c.none-renewal.ensures.retained,
   passed_none,
-  c.requires.detours,
-  c.requires.asked,
+  c.requires.candidates.detours,
+  c.requires.candidates.asked,
 )
 
 pub loop-position-preserved-in_default : goal.loop-position-preserved-in_default
 loop-position-preserved-in_default g c =
-    let h = c.loop-position.invariant in (
-      h.0,
-      h.1,
-      passed_end c.requires.ascending h.2 c.loop-position-test.true
-          (past_end (shown_items c.args.overlaid) _ c.in_default.ensures.shown),
-      h.3,
-      h.4,
-    )
+    let h = c.loop-position.invariant in
+    let passed =
+    passed_end (shown_items c.args.overlaid) c.requires.candidates.ascending h.2 c.loop-position-test.true
+    c.in_default.ensures.shown in
+    (h.0, h.1, passed, h.3, h.4)
 
 pub loop-position-preserved : goal.loop-position-preserved
 loop-position-preserved g c =
@@ -50,13 +47,13 @@ loop-position-preserved g c =
     let sound = g.met.M.MapRead.sound c.args.map.now in (
       position + 1,
       so_far_step sound c.requires.follows position i at
-          (to_position sound c.args.found.now c.requires.follows c.requires.covers k h.0 position
-          (λ m a b. ascends c.args.found.now c.requires.ascending k m a b) h.2 (h.2.ahead k (omega arith) lt) (omega arith)
+          (to_position sound c.args.found.now c.requires.follows c.requires.candidates.covers k h.0 position
+          (λ m a b. ascends c.args.found.now c.requires.candidates.ascending k m a b) h.2 (h.2.ahead k (omega arith) lt) (omega arith)
           h.1)
           (c.in_ok-advance.ensures (nodes_of c.args.touched.now) (lines_of c.args.touched.now)
           (changed_of c.args.touched.now)
           (λ e. rw c.deref.ensures.value (c.in_ok-known.ensures.given e)) c.in_ok-action.ensures.action),
-      passed_one c.requires.ascending h.2 lt within,
+      passed_one c.requires.candidates.ascending h.2 lt within,
       (λ some. c.in_ok-known.ensures.detours),
       c.in_ok-action.ensures.asked _ h.4,
     )
@@ -68,6 +65,6 @@ returns g c =
     record {
       renewed =
           whole c.loop-position.renewal c.requires.before (rw (take_all (length is) is (omega arith)) at (to_position
-          (g.met.M.MapRead.sound c.args.map.now) c.args.found.now c.requires.follows c.requires.covers c.loop-position.position-index
+          (g.met.M.MapRead.sound c.args.map.now) c.args.found.now c.requires.follows c.requires.candidates.covers c.loop-position.position-index
           h.0 (length is) (λ m a b. absurd (omega arith)) h.2 h.2.within (omega arith) h.1));
     }

@@ -1,11 +1,8 @@
 use Rattle.olr_paths.proofs.renewal.renewal_of.Goals as goal
 
 pub renewal_by-requires : goal.renewal_by-requires
-renewal_by-requires g c = let f = c.in_ok-found.ensures in record {
-  asked = f.asked;
-  ascending = rw c.deref.ensures.value f.ascending;
-  covers = rw c.deref.ensures.value f.covers;
-  detours = rw c.deref.ensures.value f.detours;
+renewal_by-requires g c = record {
+  candidates = rw c.deref.ensures.value c.in_ok-found.ensures;
   follows = c.requires.follows;
   before = c.requires.before;
 }

@@ -50,4 +50,4 @@ pub returns-clause-ok : goal.returns-clause-ok
 returns-clause-ok c =
     let es = c.args.self.now.paths.entries in
     set_items es c.args.name.now c.in-Some.position c.args.named (first_at es _ _ (sym c.in-Some.ensures.index))
-    (names_differ es c.in-Some-get_index_mut.ensures.unique)
+    (names_differ es c.get_index_mut.ensures.unique)
