@@ -3,10 +3,11 @@ use Rattle.olr_register.proofs.Common.{◌≡◌, ◌≢◌, ℕ, true, false, L
 use Rattle.olr_register.proofs.Common.{sym, ap, ◌∙◌, subst, ◌==◌, option_map, option_and_then, MatchOption, IsSomeAnd}
 use Rattle.olr_register.proofs.Common.{result_ok, ne_eqb, length-map, Map, Answer, Encodes, Path, Named, Content}
 use Rattle.olr_register.proofs.Common.{path_named, published_text, Made, Item, IsEncodingOf, AreEncodings, named_of}
-use Rattle.olr_register.proofs.Common.{all_named, made_in, answer_in, content_on, is_some}
+use Rattle.olr_register.proofs.Common.{all_named, made_in, answer_in, content_on, is_some, items, map_kept, IsKeptRight}
 use Rattle.olr_commands.specs.Reply.{Published, PublishedText}
 use Rattle.olr_list.specs.Changes.{AreEncoded}
 use Rattle.olr_register.specs.Registered.{HaveEncodings}
+use Rattle.olr_register.specs.declared.register.Register.TheInside.{Inside}
 use Rattle.olr_register.proofs.Replies.{made_found}
 
 answer_found : (M : Map) (p : Option Path) (o : Option Made) →
@@ -53,12 +54,15 @@ some_answer_in M is name made =
 pub some_named : (is : List Item) → length is ≢ 0 → (length (all_named is) == 0) ≡ false
 some_named is h = ne_eqb (length (all_named is)) 0 (λ e. h (sym (length-map is named_of) ∙ e))
 
-pub all_encoded : (M : Map) (is : List Item) → AreEncodings M is → AreEncoded is
+all_encoded : (M : Map) (is : List Item) → AreEncodings M is → AreEncoded is
 all_encoded M [] made = tt
 all_encoded M (i ∷ is) made = (
   (λ none. let no : ◌≡◌ {A = Option Made} (Some made.0.0) None = sym made.0.1 ∙ none in absurd cc),
   all_encoded M is made.1,
 )
+
+pub kept_encoded : (r : Inside) → IsKeptRight r.roads (items r.paths) r.batch r.bounds → AreEncoded (items r.paths)
+kept_encoded r right = all_encoded (map_kept r.roads r.batch) (items r.paths) right.register.made
 
 pub all_published : (M : Map) (is : List Item) → AreEncodings M is →
     HaveEncodings M (all_named is) (map {B = List ℕ × Option Made} (λ (i : Item). (i.name, i.made)) is)

@@ -8,8 +8,8 @@ use Rattle.olr_register.proofs.Common.{takes_memory, may_want, is_reported_first
 use Rattle.olr_register.proofs.Common.{changed_by, names_of_change, all_nodes, all_lines, all_changed, all_names}
 use Rattle.olr_register.proofs.Common.{command_fault_of, reply_of, Reply, CommandFault, Item, under_overlay}
 use Rattle.olr_register.proofs.Common.{RegisterState, IsBatchOf, content_on, content_under, batch_of, held_of, Answered}
-use Rattle.olr_register.proofs.Common.{AreGiven, MayReport, ByContent, Lacks, HoldsChange, Batch, Option, None, is_some}
-use Rattle.olr_register.proofs.Common.{Command, Begin, IsContent, ByState, DistanceBounds, AreEncodingsIfAny, Begins}
+use Rattle.olr_register.proofs.Common.{AreGiven, MayReport, ByContent, Lacks, HoldsChange, Batch, None}
+use Rattle.olr_register.proofs.Common.{Begin, IsContent, ByState, DistanceBounds, AreEncodingsIfAny, Begins}
 use Rattle.olr_register.proofs.Common.{Follows, nodes_of, lines_of, changed_of, follows_self, named_held, AreEditsNoted}
 use Rattle.olr_register.proofs.Common.{IsKeptRight, IsHeld, HasBounds, flat_map}
 use Rattle.std.proofs.lemmas.Bool.{eq-eqb}
@@ -151,15 +151,6 @@ module _ (c : Content) (old new : RoadMap) (is : List Item) (b d : Batch) (x : C
       answered_refused (register_of c (Some (batch_of old is b)) w n) (register_of c (Some (batch_of new is d)) w n)
       (Make x) (Err f) f (ap (λ e. register_of c (Some e) w n) h.unchanged) refl
       (is_refusal (command_fault_of f) h.refused)
-
-pub open_refused : (roads : RoadMap) (is : List Item) (o : Option Batch) (w : Work) (n : ℕ) (x : Command)
-    (f : CommandFault) → is_some o ≡ true →
-    ((c : Content) (xs : List Change) → step (state c (Some xs)) x ≡ Err (command_fault_of f)) →
-    Answered (of_parts roads is o w n) x (Err f) (of_parts roads is o w n)
-open_refused roads is None w n x f some returned = absurd cc
-open_refused roads is (Some b) w n x f some returned =
-    answered_refused (of_parts roads is (Some b) w n) (of_parts roads is (Some b) w n) x (Err f) f refl refl
-    (λ xs i. ByState (returned _ xs))
 
 -- ---- begin
 

@@ -12,6 +12,7 @@ pub mod Counting
 pub mod Listed
 pub mod Making
 pub mod Outcomes
+pub mod WithoutBatch
 pub mod Renewed
 pub mod Replies
 pub mod Runs

@@ -29,7 +29,7 @@ use Rattle.olr_register.proofs.Noted.{noted_edit, is_before}
 use Rattle.olr_register.proofs.Outcomes.{answered_counted, answered_refused, Accepts}
 use Rattle.olr_register.proofs.Renewed.{remade_made, made_if_any}
 use Rattle.olr_register.proofs.Replies.{planned_changes, reported_add, reported_set, reported_drop}
-use Rattle.olr_register.proofs.States.{state, of_parts, register_moved, in_states}
+use Rattle.olr_register.proofs.States.{state, of_parts, register_moved, in_states, right_as}
 use Rattle.olr_register.specs.declared.batch.Batch.{Batch as Open}
 use Rattle.olr_register.specs.declared.register.Register.TheInside.{Inside}
 use Rattle.olr_commands.specs.Reply as replies
@@ -93,7 +93,7 @@ module _ (r : Inside) {x : Registered} (view : of_parts r.roads (items r.paths) 
 
   module _ (h : IsKeptRight r.roads is r.batch r.bounds) where
     right : IsKeptRight r.roads is None r.bounds
-    right = subst (λ (o : Option Open). IsKeptRight r.roads is o r.bounds) shut h
+    right = right_as r shut h
 
     pub kept_bounds : HasBounds r.roads [] is r.bounds
     kept_bounds = right.bounded

@@ -2,9 +2,10 @@
 use Rattle.olr_register.proofs.Common.{◌≡◌, ℕ, List, Option, Some, None, sym, subst, IfSome, Map, RoadMap, Work}
 use Rattle.olr_register.proofs.Common.{Content, IsContent, Change, State, Item, AreEncodings}
 use Rattle.olr_register.proofs.Common.{RegisterState, IsBatchOf, Represents, Registered, content_on, map_kept, kept_of}
-use Rattle.olr_register.proofs.Common.{IsHeld, IsRegister}
+use Rattle.olr_register.proofs.Common.{IsHeld, IsKeptRight, IsRegister, items}
 use Rattle.olr_register.specs.RegisterState.{Batch, RepresentsBatch}
 use Rattle.olr_register.specs.declared.batch.Batch.{Batch as Open}
+use Rattle.olr_register.specs.declared.register.Register.TheInside.{Inside}
 
 abbrev pub state : Content → Option (List Change) → State
 state c o = record { content = c; batch = o }
@@ -24,6 +25,11 @@ register_moved old new is o p same held h = record {
   made = subst (λ (M : Map). AreEncodings M is) (sym same) h.made;
   held = held;
 }
+
+-- what is true of a register, in terms of what its batch is
+pub right_as : (r : Inside) {o : Option Open} → r.batch ≡ o → IsKeptRight r.roads (items r.paths) r.batch r.bounds →
+    IsKeptRight r.roads (items r.paths) o r.bounds
+right_as r is = subst (λ (o : Option Open). IsKeptRight r.roads (items r.paths) o r.bounds) is
 
 -- P holds of each state that they represent
 abbrev pub InStates : Content → Option Batch → (State → Type 0) → Type 0

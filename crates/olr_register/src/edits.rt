@@ -1,14 +1,12 @@
 //! Edits of the map that are made at once, outside a batch.
-ghost use Rattle.std.specs.Prelude.{◌≡◌, ◌≢◌, ℕ, [], length, map as list_map, None, OnOk};
+ghost use Rattle.std.specs.Prelude.{◌≡◌, ◌≢◌, ℕ, length, map as list_map, None, OnOk};
 ghost use Rattle.std.specs.Option.{option_to_list};
 ghost use Rattle.olr_spec.specs.Map.{Map, Edit as EditRecord};
 ghost use Rattle.olr_roads.specs.Edits.{edit_of};
-ghost use Rattle.olr_map.specs.RoadMaps.{map_of, slot_of};
 ghost use Rattle.olr_map.specs.EditPlans.{IsEditPlan, planned_changes};
 ghost use Rattle.olr_list.specs.ChangeSets.{change_of};
 ghost use Rattle.olr_list.specs.Items.{items};
-ghost use Rattle.olr_register.specs.Contents.{HasBounds};
-ghost use Rattle.olr_register.specs.EditNotes.{IsNotedOf, CanRenewAfter, IsEditMade};
+ghost use Rattle.olr_register.specs.EditNotes.{IsNotedOf, CanMakeEdit, IsEditMade};
 
 use crate::bounds::renew;
 use crate::register::Register;
@@ -54,9 +52,7 @@ fn make_and_search(
     bounds: &mut DistanceBounds,
     searches: &mut Searches,
 ) -> Result<Renewed, AllocError>
-    requires plan { IsEditPlan (map_of roads.old) (slot_of roads.old) (edit_of edit) plan.now }
-    requires bounded { HasBounds roads.old [] (items paths.old) bounds.old }
-    requires renewable { CanRenewAfter (map_of roads.old) (edit_of edit) (items paths.old) touched.now }
+    requires { CanMakeEdit roads.old (edit_of edit) plan.now touched.now (items paths.old) bounds.old }
     ensures { IsEditMade roads.old roads.new (edit_of edit) touched.now (items paths.old) (items paths.new) bounds.new
         result }
 {
@@ -88,9 +84,7 @@ fn make_and_renew(
     bounds: &mut DistanceBounds,
     searches: &mut Searches,
 ) -> Result<Renewed, AllocError>
-    requires plan { IsEditPlan (map_of roads.old) (slot_of roads.old) (edit_of edit) plan.now }
-    requires bounded { HasBounds roads.old [] (items paths.old) bounds.old }
-    requires renewable { CanRenewAfter (map_of roads.old) (edit_of edit) (items paths.old) touched.now }
+    requires { CanMakeEdit roads.old (edit_of edit) plan.now touched.now (items paths.old) bounds.old }
     ensures { IsEditMade roads.old roads.new (edit_of edit) touched.now (items paths.old) (items paths.new) bounds.new
         result }
 {

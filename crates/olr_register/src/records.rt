@@ -23,10 +23,7 @@ fn push_node(text: &mut Vec<u8>, roads: &RoadMap, id: NodeId) -> Result<(), Allo
     ensures { OnOk result (text.new.items
         ≡ text.old.items ++ record_line (node_change (id, coord_at (map_of roads.now) id))) }
 {
-    let Some(coord) = roads.node(id) else {
-        unreachable!()
-    };
-    push_node_record(text, id, coord)
+    push_node_record(text, id, roads.node(id).unwrap())
 }
 
 /// The record of a node of the map.

@@ -1,6 +1,6 @@
-use Rattle.olr_register.proofs.Common.{Some, None, map, refl, ap, Abort, entry_of, items, IsKeptRight, ByState}
+use Rattle.olr_register.proofs.Common.{Some, None, map, refl, sym, ap, Abort, entry_of, items, ByState}
 use Rattle.olr_register.proofs.Common.{RegisterState, content_on, batch_of, map_before}
-use Rattle.olr_register.proofs.States.{state, register_moved, in_states}
+use Rattle.olr_register.proofs.States.{state, register_moved, in_states, right_as}
 use Rattle.olr_register.proofs.Outcomes.{answered_refused, answered_uncounted, Keeps}
 use Rattle.olr_commands.specs.Reply as replies
 use Rattle.olr_commands.specs.declared.reply.Reply.TheVariants as reply
@@ -9,15 +9,13 @@ use Rattle.olr_register.proofs.register.Register.abort.Goals as goal
 pub undo_edits-requires : goal.undo_edits-requires
 undo_edits-requires c =
     let s = c.self.inside in
-    let right : IsKeptRight s.roads (items s.paths) (Some c.in-Some.field-0) s.bounds =
-    rw c.in-Some.ensures.value c.self.invariant in
+    let right = right_as s (sym c.in-Some.ensures.value) c.self.invariant in
     record { undo = right.register.held.undo; noted = right.register.held.noted }
 
 pub invariant_of-self : goal.invariant_of-self
 invariant_of-self c =
     let s = c.self.inside in
-    let right : IsKeptRight s.roads (items s.paths) (Some c.in-Some.field-0) s.bounds =
-    rw c.in-Some.ensures.value c.self.invariant in
+    let right = right_as s (sym c.in-Some.ensures.value) c.self.invariant in
     rw c.take.ensures.after (record {
       register =
           register_moved s.roads c.undo_edits.new.roads (items s.paths) (Some c.in-Some.field-0) None

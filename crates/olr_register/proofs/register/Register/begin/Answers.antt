@@ -1,13 +1,12 @@
 use Rattle.olr_register.proofs.Common.{map, refl, ap, sym, none_of, Begin, entry_of, items}
-use Rattle.olr_register.proofs.BatchSteps.{open_refused, IsEmpty, begun_held, begin_done}
+use Rattle.olr_register.proofs.BatchSteps.{IsEmpty, begun_held, begin_done}
+use Rattle.olr_register.proofs.WithoutBatch.{open_refused}
 use Rattle.olr_commands.specs.Reply as replies
 use Rattle.olr_register.proofs.register.Register.begin.Goals as goal
 
 pub returns-then-is_some : goal.returns-then-is_some
 returns-then-is_some c =
-    let s = c.self.inside in
-    rw (← c.self.view_is)
-    (open_refused s.roads (items s.paths) s.batch _ _ Begin _ (sym c.if-is_some.ensures) (λ d xs. refl))
+    rw (← c.self.view_is) (open_refused c.self.inside Begin _ (sym c.if-is_some.ensures) (λ d xs. refl))
 
 empty : (c : goal.After-new-4) →
     IsEmpty (record { log = c.new.result; overlay = c.new-2.result; count = 0; touched = c.new-3.result })

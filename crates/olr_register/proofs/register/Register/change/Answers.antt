@@ -1,18 +1,15 @@
-use Rattle.olr_register.proofs.Common.{Some, items, map_before, content_on, change_of, IsKeptRight}
+use Rattle.olr_register.proofs.Common.{Some, items, map_before, content_on, change_of}
 use Rattle.olr_register.proofs.BatchSteps.{answered_held}
-use Rattle.olr_register.proofs.States.{register_moved}
+use Rattle.olr_register.proofs.States.{register_moved, right_as}
 use Rattle.olr_register.proofs.register.Register.change.Goals as goal
 
 pub hold-requires : goal.hold-requires
-hold-requires c =
-    let s = c.self.inside in
-    let right : IsKeptRight s.roads (items s.paths) (Some c.in-Some.batch) s.bounds = rw (← c.in-Some.is) c.self.invariant in
-    right.register.held
+hold-requires c = (right_as c.self.inside c.in-Some.is c.self.invariant).register.held
 
 pub invariant_of-self : goal.invariant_of-self
 invariant_of-self c =
     let s = c.self.inside in
-    let right : IsKeptRight s.roads (items s.paths) (Some c.in-Some.batch) s.bounds = rw (← c.in-Some.is) c.self.invariant in
+    let right = right_as s c.in-Some.is c.self.invariant in
     record {
       register =
           register_moved s.roads c.hold.new.roads (items s.paths) (Some c.in-Some.batch) _ c.hold.ensures.before

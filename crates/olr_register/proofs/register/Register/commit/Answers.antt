@@ -1,14 +1,14 @@
 use Rattle.olr_register.proofs.Common.{◌≡◌, arith, true, false, Some, None, Ok, List, map, length, refl, sym, ap, ◌∙◌, subst}
 use Rattle.olr_register.proofs.Common.{ne_eqb, map_of, map_before, Named, Content, Commit, IsContent, ByState, may_want}
 use Rattle.olr_register.proofs.Common.{entry_of, items, all_named, under_overlay, nodes_of, lines_of, changed_of}
-use Rattle.olr_register.proofs.Common.{Registered, content_on, batch_of, IsKeptRight, Lacks_memory}
+use Rattle.olr_register.proofs.Common.{Registered, content_on, batch_of, Lacks_memory}
 use Rattle.olr_register.proofs.BatchSteps.{held_content, right_count}
 use Rattle.olr_register.proofs.Counting.{counted_changes, counted_on}
 use Rattle.olr_register.proofs.Noted.{can_commit}
 use Rattle.olr_register.proofs.Outcomes.{answered_counted, answered_refused, Accepts}
 use Rattle.olr_register.proofs.Renewed.{remade_made}
 use Rattle.olr_register.proofs.Replies.{planned_changes}
-use Rattle.olr_register.proofs.States.{state, of_parts, in_states}
+use Rattle.olr_register.proofs.States.{state, of_parts, in_states, right_as}
 use Rattle.olr_commands.specs.declared.fault.CommandFault.TheVariants as rust
 use Rattle.olr_commands.specs.declared.reply.Reply.TheVariants as reply
 use Rattle.olr_search.specs.Counts.{raised_count, raised_work}
@@ -26,7 +26,7 @@ returns-then-batch-count c =
 pub renew-requires : goal.renew-requires
 renew-requires c =
     let s = c.self.inside in
-    let right : IsKeptRight s.roads (items s.paths) (Some c.in-Some.batch) s.bounds = rw (← c.in-Some.is) c.self.invariant in
+    let right = right_as s c.in-Some.is c.self.invariant in
     record {
       renewable =
           (map_before s.roads c.in-Some.batch.log, can_commit s.roads (items s.paths) c.in-Some.batch right.register);
@@ -39,7 +39,7 @@ renew-requires c =
 pub invariant_of-self-2 : goal.invariant_of-self-2
 invariant_of-self-2 c =
     let s = c.self.inside in
-    let right : IsKeptRight s.roads (items s.paths) (Some c.in-Some.batch) s.bounds = rw (← c.in-Some.is) c.self.invariant in
+    let right = right_as s c.in-Some.is c.self.invariant in
     let e = c.in_ok-renewed.ensures in
     rw c.take.ensures.after (record {
       register = record {
@@ -59,7 +59,7 @@ returns c =
     let b = c.in-Some.batch in
     let M = map_of s.roads in
     let e = c.in_ok-renewed.ensures in
-    let right : IsKeptRight s.roads is (Some b) s.bounds = rw (← c.in-Some.is) c.self.invariant in
+    let right = right_as s c.in-Some.is c.self.invariant in
     let old : Content = content_on (map_before s.roads b.log) is in
     let new : Content = content_on M js in
     let count = e.renewed.counted old.map (can_commit s.roads is b right.register).before in

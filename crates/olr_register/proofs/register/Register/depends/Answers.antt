@@ -1,11 +1,10 @@
-use Rattle.olr_register.proofs.Common.{refl, sym, ap, ◌∙◌, subst, none_of, map_of, items, all_named, content_on, Option}
-use Rattle.olr_register.proofs.Common.{ByState, No_memory, may_want, IsKeptRight, nodes_of, lines_of, changed_of, Batch}
+use Rattle.olr_register.proofs.Common.{refl, sym, ap, ◌∙◌, none_of, map_of, items, all_named}
+use Rattle.olr_register.proofs.Common.{ByState, No_memory, may_want, IsKeptRight, nodes_of, lines_of, changed_of}
 use Rattle.olr_commands.specs.State.{Depends}
 use Rattle.olr_commands.specs.Reply.{Lacks}
 use Rattle.olr_commands.specs.declared.reply.Reply.TheVariants as reply
-use Rattle.olr_register.proofs.BatchSteps.{open_refused}
 use Rattle.olr_register.proofs.Noted.{noted_idle, is_before}
-use Rattle.olr_register.proofs.Outcomes.{answered_refused, answered_shut}
+use Rattle.olr_register.proofs.WithoutBatch.{open_refused, shut_answered, shut_refused}
 use Rattle.olr_register.proofs.Shown.{no_nodes, nodes_asked, dependents}
 use Rattle.olr_register.proofs.Renewed.{made_if_any}
 use Rattle.olr_register.proofs.Common.{◌≡◌, ℕ, [], None, DistanceBounds, slot_of}
@@ -13,27 +12,25 @@ use Rattle.olr_near.specs.Bounds.{IsRight, IsSource, IsUnderWay}
 use Rattle.olr_list.specs.Origins.{AreBoundsOf}
 use Rattle.olr_register.specs.declared.register.Register.TheInside.{Inside}
 use Rattle.olr_register.proofs.Bounded.{settled_bounds}
+use Rattle.olr_register.proofs.States.{right_as}
 use Rattle.olr_register.proofs.register.Register.depends.Goals as goal
 
 pub returns-then-is_some : goal.returns-then-is_some
 returns-then-is_some c =
-    let r = c.self.inside in
-    rw (← c.self.view_is) (open_refused r.roads (items r.paths) r.batch _ _ (Depends c.args.nodes.now) _
-    (sym c.if-is_some.ensures) (λ d xs. refl))
+    rw (← c.self.view_is) (open_refused c.self.inside (Depends c.args.nodes.now) _ (sym c.if-is_some.ensures) (λ d xs. refl))
 
 pub returns-then-not-are_nodes : goal.returns-then-not-are_nodes
 returns-then-not-are_nodes c =
     let r = c.self.inside in
-    rw (← c.self.view_is, none_of r.batch (sym c.if-is_some.ensures))
-    (answered_refused _ _ (Depends c.args.nodes.now) _ _ refl refl
+    rw (← c.self.view_is) (shut_refused c.self.inside (Depends c.args.nodes.now) (sym c.if-is_some.ensures) _ _ refl
     (ByState (no_nodes (map_of r.roads) (all_named (items r.paths)) c.args.nodes.now
     (sym c.are_nodes.ensures ∙ c.if-not-are_nodes.true))))
 
 pub returns-in_err-around : goal.returns-in_err-around
 returns-in_err-around c =
     let r = c.self.inside in
-    rw (← c.self.view_is, none_of r.batch (sym c.if-is_some.ensures))
-    (answered_refused _ _ (Depends c.args.nodes.now) _ No_memory refl c.from_residual.ensures.1
+    rw (← c.self.view_is) (shut_refused c.self.inside (Depends c.args.nodes.now) (sym c.if-is_some.ensures)
+    _ No_memory c.from_residual.ensures.1
     (Lacks refl (ap may_want (nodes_asked (map_of r.roads) (all_named (items r.paths)) c.args.nodes.now
     (sym c.are_nodes.ensures ∙ c.if-not-are_nodes.false)))))
 
@@ -41,9 +38,7 @@ pub affected_names-requires-clause-before : goal.affected_names-requires-clause-
 affected_names-requires-clause-before c =
     let r = c.self.inside in
     let t = c.in_ok-around.around in
-    let right =
-    subst (λ (o : Option Batch). IsKeptRight r.roads (items r.paths) o r.bounds) (none_of r.batch (sym c.if-is_some.ensures))
-    c.self.invariant in
+    let right = right_as r (none_of r.batch (sym c.if-is_some.ensures)) c.self.invariant in
     is_before (map_of r.roads) (map_of r.roads) (nodes_of t) (lines_of t) (changed_of t) (items r.paths)
     (noted_idle (map_of r.roads) (nodes_of t) (lines_of t) (changed_of t) c.in_ok-around.ensures.changed)
     right.register.content.map right.register.content.paths
@@ -56,7 +51,7 @@ module _ (r : Inside) (f : DistanceBounds) (shut : r.batch ≡ None)
     (sources : (s w : ℕ) → IsSource r.bounds s w → IsSource f s w) where
   settled : AreBoundsOf (map_of r.roads) (slot_of r.roads) f (items r.paths)
   settled =
-      let h = subst (λ (o : Option Batch). IsKeptRight r.roads (items r.paths) o r.bounds) shut kept in
+      let h = right_as r shut kept in
       record { right = right h.bounded.under_way; sources = λ l on. sources l.from l.within (h.bounded.sources l on) }
 
   kept_settled : IsKeptRight r.roads (items r.paths) r.batch f
@@ -80,19 +75,16 @@ invariant_of-self-2 c =
 pub returns-in_err-names : goal.returns-in_err-names
 returns-in_err-names c =
     let r = c.self.inside in
-    rw (← c.self.view_is, none_of r.batch (sym c.if-is_some.ensures))
-    (answered_refused _ _ (Depends c.args.nodes.now) _ No_memory refl c.from_residual-in_err-names.ensures.1
+    rw (← c.self.view_is) (shut_refused c.self.inside (Depends c.args.nodes.now) (sym c.if-is_some.ensures)
+    _ No_memory c.from_residual-in_err-names.ensures.1
     (Lacks refl (ap may_want (nodes_asked (map_of r.roads) (all_named (items r.paths)) c.args.nodes.now
     (sym c.are_nodes.ensures ∙ c.if-not-are_nodes.false)))))
 
 pub returns : goal.returns
 returns c =
     let r = c.self.inside in
-    let right =
-    subst (λ (o : Option Batch). IsKeptRight r.roads (items r.paths) o r.bounds) (none_of r.batch (sym c.if-is_some.ensures))
-    c.self.invariant in
-    rw (← c.self.view_is, none_of r.batch (sym c.if-is_some.ensures))
-    (answered_shut (content_on (map_of r.roads) (items r.paths)) r.work r.retained (Depends c.args.nodes.now)
+    let right = right_as r (none_of r.batch (sym c.if-is_some.ensures)) c.self.invariant in
+    rw (← c.self.view_is) (shut_answered c.self.inside (Depends c.args.nodes.now) (sym c.if-is_some.ensures)
     (reply.Names c.in_ok-names.names) refl (
       nodes_asked (map_of r.roads) (all_named (items r.paths)) c.args.nodes.now
           (sym c.are_nodes.ensures ∙ c.if-not-are_nodes.false),

@@ -58,14 +58,14 @@ returns-in_err-renewed c =
 
 -- ---- accepted
 
-pub make_and_renew-requires-clause-bounded : goal.make_and_renew-requires-clause-bounded
-make_and_renew-requires-clause-bounded c =
-    kept_bounds c.self.inside c.self.view_is c.requires.open c.self.invariant
-
-pub make_and_renew-requires-clause-renewable : goal.make_and_renew-requires-clause-renewable
-make_and_renew-requires-clause-renewable c =
-    can_edit c.self.inside c.self.view_is c.requires.open c.self.invariant (edit_of c.args.edit) c.note_only.new.touched
-    (c.in_ok-note_only.ensures _ _ _ c.in-Ok.ensures.plan)
+pub make_and_renew-requires : goal.make_and_renew-requires
+make_and_renew-requires c = record {
+  plan = c.in-Ok.ensures.plan;
+  bounded = kept_bounds c.self.inside c.self.view_is c.requires.open c.self.invariant;
+  renewable =
+      can_edit c.self.inside c.self.view_is c.requires.open c.self.invariant (edit_of c.args.edit) c.note_only.new.touched
+      (c.in_ok-note_only.ensures _ _ _ c.in-Ok.ensures.plan);
+}
 
 pub invariant_of-self-2 : goal.invariant_of-self-2
 invariant_of-self-2 c =

@@ -1,13 +1,11 @@
 use Rattle.olr_register.proofs.Common.{refl, items, map_kept, No_memory, Lacks_memory}
-use Rattle.olr_register.proofs.Asking.{all_encoded, some_named}
+use Rattle.olr_register.proofs.Asking.{kept_encoded, some_named}
 use Rattle.olr_register.proofs.Outcomes.{answered_same, refused_same}
 use Rattle.olr_register.proofs.Replies.{reported_all}
 use Rattle.olr_register.proofs.register.Register.report.Goals as goal
 
 pub entries-requires : goal.entries-requires
-entries-requires c =
-    let r = c.self.inside in
-    record { encoded = all_encoded (map_kept r.roads r.batch) (items r.paths) c.self.invariant.register.made }
+entries-requires c = record { encoded = kept_encoded c.self.inside c.self.invariant }
 
 pub returns : goal.returns
 returns c =
