@@ -67,18 +67,25 @@ if_stays : (c : Bool) (r t : State × Action) → Stays r → Stays t → Stays 
 if_stays true r t g h = g
 if_stays false r t g h = h
 
+-- what holds in each state in a record
+by_begun : (P : State → Type 0) → P st.StartField → P st.InField → P st.InQuoted → P st.AfterQuote → (s : State) →
+    begun s ≡ true → P s
+by_begun P start in_it in_quotes after_it st.StartRecord at = absurd (grind arith)
+by_begun P start in_it in_quotes after_it st.StartField at = start
+by_begun P start in_it in_quotes after_it st.InField at = in_it
+by_begun P start in_it in_quotes after_it st.InQuoted at = in_quotes
+by_begun P start in_it in_quotes after_it st.InEscape at = absurd (grind arith)
+by_begun P start in_it in_quotes after_it st.AfterQuote at = after_it
+by_begun P start in_it in_quotes after_it st.InComment at = absurd (grind arith)
+by_begun P start in_it in_quotes after_it st.AfterCr at = absurd (grind arith)
+
 step_stays : (s : State) (b : ℕ) → begun s ≡ true → is_line_end b ≡ false → Stays (step default_config s b)
-step_stays st.StartRecord b at h = absurd (grind arith)
-step_stays st.StartField b at h =
-    if_stays (b == 34) (st.InQuoted, act.Skip) (in_field default_config b) (refl, refl) (in_field_stays b h)
-step_stays st.InField b at h = in_field_stays b h
-step_stays st.InQuoted b at h =
-    if_stays (b == 34) (st.AfterQuote, act.Skip) (st.InQuoted, act.Copy) (refl, refl) (refl, refl)
-step_stays st.InEscape b at h = absurd (grind arith)
-step_stays st.AfterQuote b at h =
-    if_stays (b == 34) (st.InQuoted, act.Copy) (in_field default_config b) (refl, refl) (in_field_stays b h)
-step_stays st.InComment b at h = absurd (grind arith)
-step_stays st.AfterCr b at h = absurd (grind arith)
+step_stays s b at h =
+    by_begun (λ (t : State). Stays (step default_config t b))
+    (if_stays (b == 34) (st.InQuoted, act.Skip) (in_field default_config b) (refl, refl) (in_field_stays b h))
+    (in_field_stays b h)
+    (if_stays (b == 34) (st.AfterQuote, act.Skip) (st.InQuoted, act.Copy) (refl, refl) (refl, refl))
+    (if_stays (b == 34) (st.InQuoted, act.Copy) (in_field default_config b) (refl, refl) (in_field_stays b h)) s at
 
 -- ---- the end of a line
 
@@ -93,36 +100,30 @@ pub record EndsLine (tail given : List ℕ) (t : State) (left : List ℕ) : Type
   pub further : (s : State) (f : List (List ℕ)) (x : List ℕ) → begun s ≡ true →
       next_record default_config s f x (ending s ++ given) ≡ Some (with_further (f ++ x ∷ []), t, left)
 
-plain_end : (s : State) (f : List (List ℕ)) (x : List ℕ) (e : ℕ) (rest : List ℕ) → begun s ≡ true →
-    is_quoted s ≡ false → IsEnd e → next_record default_config s f x (e ∷ rest) ≡ Some (f ++ x ∷ [], after e, rest)
+-- in this state a byte ends the record, as it is or behind what ends the line with two further fields
+abbrev EndsPlain : List (List ℕ) → List ℕ → ℕ → List ℕ → State → Type 0
+EndsPlain f x e rest s =
+    is_quoted s ≡ false → next_record default_config s f x (e ∷ rest) ≡ Some (f ++ x ∷ [], after e, rest)
+
+abbrev EndsFurther : List (List ℕ) → List ℕ → ℕ → List ℕ → State → Type 0
+EndsFurther f x e rest s =
+    next_record default_config s f x (ending s ++ e ∷ rest) ≡ Some (with_further (f ++ x ∷ []), after e, rest)
+
+plain_end : (s : State) (f : List (List ℕ)) (x : List ℕ) (e : ℕ) (rest : List ℕ) → begun s ≡ true → IsEnd e →
+    EndsPlain f x e rest s
 unfolding next_record
-plain_end st.StartRecord f x e rest at q h = absurd (grind arith)
-plain_end st.StartField f x e rest at q (inl h) = rw h refl
-plain_end st.StartField f x e rest at q (inr h) = rw h refl
-plain_end st.InField f x e rest at q (inl h) = rw h refl
-plain_end st.InField f x e rest at q (inr h) = rw h refl
-plain_end st.InQuoted f x e rest at q h = absurd (grind arith)
-plain_end st.InEscape f x e rest at q h = absurd (grind arith)
-plain_end st.AfterQuote f x e rest at q (inl h) = rw h refl
-plain_end st.AfterQuote f x e rest at q (inr h) = rw h refl
-plain_end st.InComment f x e rest at q h = absurd (grind arith)
-plain_end st.AfterCr f x e rest at q h = absurd (grind arith)
+plain_end s f x e rest at (inl h) =
+    by_begun (EndsPlain f x e rest) (λ _. rw h refl) (λ _. rw h refl) (λ no. absurd (cc no)) (λ _. rw h refl) s at
+plain_end s f x e rest at (inr h) =
+    by_begun (EndsPlain f x e rest) (λ _. rw h refl) (λ _. rw h refl) (λ no. absurd (cc no)) (λ _. rw h refl) s at
 
 further_end : (s : State) (f : List (List ℕ)) (x : List ℕ) (e : ℕ) (rest : List ℕ) → begun s ≡ true → IsEnd e →
-    next_record default_config s f x (ending s ++ e ∷ rest) ≡ Some (with_further (f ++ x ∷ []), after e, rest)
+    EndsFurther f x e rest s
 unfolding next_record
-further_end st.StartRecord f x e rest at h = absurd (grind arith)
-further_end st.StartField f x e rest at (inl h) = rw h refl
-further_end st.StartField f x e rest at (inr h) = rw h refl
-further_end st.InField f x e rest at (inl h) = rw h refl
-further_end st.InField f x e rest at (inr h) = rw h refl
-further_end st.InQuoted f x e rest at (inl h) = rw h refl
-further_end st.InQuoted f x e rest at (inr h) = rw h refl
-further_end st.InEscape f x e rest at h = absurd (grind arith)
-further_end st.AfterQuote f x e rest at (inl h) = rw h refl
-further_end st.AfterQuote f x e rest at (inr h) = rw h refl
-further_end st.InComment f x e rest at h = absurd (grind arith)
-further_end st.AfterCr f x e rest at h = absurd (grind arith)
+further_end s f x e rest at (inl h) =
+    by_begun (EndsFurther f x e rest) (rw h refl) (rw h refl) (rw h refl) (rw h refl) s at
+further_end s f x e rest at (inr h) =
+    by_begun (EndsFurther f x e rest) (rw h refl) (rw h refl) (rw h refl) (rw h refl) s at
 
 is_end_byte : (e : ℕ) → IsEnd e → is_line_end e ≡ true
 is_end_byte e (inl h) = rw h refl
@@ -132,7 +133,7 @@ pub line_end : (e : ℕ) (rest : List ℕ) → IsEnd e → EndsLine (e ∷ rest)
 line_end e rest end =
     record {
       from = λ p. from_end most_in_line p e rest (is_end_byte e end);
-      plain = λ s f x at q. plain_end s f x e (From line_start rest) at q end;
+      plain = λ s f x at. plain_end s f x e (From line_start rest) at end;
       further = λ s f x at. further_end s f x e (From line_start rest) at end;
     }
 
@@ -140,26 +141,15 @@ line_end e rest end =
 plain_last : (s : State) (f : List (List ℕ)) (x : List ℕ) → begun s ≡ true →
     next_record default_config s f x [] ≡ Some (f ++ x ∷ [], st.StartRecord, [])
 unfolding next_record
-plain_last st.StartRecord f x at = absurd (grind arith)
-plain_last st.StartField f x at = refl
-plain_last st.InField f x at = refl
-plain_last st.InQuoted f x at = refl
-plain_last st.InEscape f x at = absurd (grind arith)
-plain_last st.AfterQuote f x at = refl
-plain_last st.InComment f x at = absurd (grind arith)
-plain_last st.AfterCr f x at = absurd (grind arith)
+plain_last s f x at =
+    by_begun (λ (t : State). next_record default_config t f x [] ≡ Some (f ++ x ∷ [], st.StartRecord, [])) refl refl refl refl s at
 
 further_last : (s : State) (f : List (List ℕ)) (x : List ℕ) → begun s ≡ true →
     next_record default_config s f x (ending s ++ []) ≡ Some (with_further (f ++ x ∷ []), st.StartRecord, [])
 unfolding next_record
-further_last st.StartRecord f x at = absurd (grind arith)
-further_last st.StartField f x at = refl
-further_last st.InField f x at = refl
-further_last st.InQuoted f x at = refl
-further_last st.InEscape f x at = absurd (grind arith)
-further_last st.AfterQuote f x at = refl
-further_last st.InComment f x at = absurd (grind arith)
-further_last st.AfterCr f x at = absurd (grind arith)
+further_last s f x at =
+    by_begun (λ (t : State). next_record default_config t f x (ending t ++ []) ≡ Some (with_further (f ++ x ∷ []), st.StartRecord, []))
+    refl refl refl refl s at
 
 from_nothing : (p : Place) → From p [] ≡ ending_of_quotes p.state ++ []
 unfolding one_a_line_from
