@@ -31,8 +31,7 @@ fn node(fields: &ByteRecord) -> Result<(NodeId, Coord), ReadFault>
 
 /// `node,NODE,LON,LAT`
 pub(crate) fn add_node(fields: &ByteRecord) -> Result<Command, ReadFault>
-    ensures { IsRead (records.edit (records.node_record Add_node (drop 1 (fields_of fields.now))))
-        result }
+    ensures { IsRead (records.edit (records.node_record Add_node (drop 1 (fields_of fields.now)))) result }
 {
     let (id, place) = node(fields)?;
     Ok(Command::Edit(Edit::AddNode(id, place)))
@@ -40,8 +39,7 @@ pub(crate) fn add_node(fields: &ByteRecord) -> Result<Command, ReadFault>
 
 /// `move,NODE,LON,LAT`
 pub(crate) fn move_node(fields: &ByteRecord) -> Result<Command, ReadFault>
-    ensures { IsRead (records.edit (records.node_record Move_node (drop 1 (fields_of fields.now))))
-        result }
+    ensures { IsRead (records.edit (records.node_record Move_node (drop 1 (fields_of fields.now)))) result }
 {
     let (id, place) = node(fields)?;
     Ok(Command::Edit(Edit::MoveNode(id, place)))
@@ -49,9 +47,7 @@ pub(crate) fn move_node(fields: &ByteRecord) -> Result<Command, ReadFault>
 
 /// `drop-node,NODE`
 pub(crate) fn drop_node(fields: &ByteRecord) -> Result<Command, ReadFault>
-    ensures { IsRead
-        (records.edit (records.one Drop_node records.number (drop 1 (fields_of fields.now))))
-        result }
+    ensures { IsRead (records.edit (records.one Drop_node records.number (drop 1 (fields_of fields.now)))) result }
 {
     let id = node_id(only_field(fields)?)?;
     Ok(Command::Edit(Edit::DropNode(id)))
@@ -97,9 +93,7 @@ pub(crate) fn set_line(alloc: Global, fields: &ByteRecord) -> Result<Command, Re
 
 /// `drop-line,LINE`
 pub(crate) fn drop_line(fields: &ByteRecord) -> Result<Command, ReadFault>
-    ensures { IsRead
-        (records.edit (records.one Drop_line records.number (drop 1 (fields_of fields.now))))
-        result }
+    ensures { IsRead (records.edit (records.one Drop_line records.number (drop 1 (fields_of fields.now)))) result }
 {
     let id = line_id(only_field(fields)?)?;
     Ok(Command::Edit(Edit::DropLine(id)))
