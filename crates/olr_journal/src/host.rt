@@ -50,16 +50,23 @@ fn size(file: &fs::File) -> io::Result<usize> {
     Ok(file.metadata()?.len() as usize)
 }
 
+/// This number of bytes, or the error if it is 0.
+fn some(count: usize, none: io::ErrorKind) -> io::Result<usize>
+    ensures { IfOk result (λ n. (n ≡ count) × (0 < n)) }
+{
+    match count {
+        0 => Err(none.into()),
+        n => Ok(n),
+    }
+}
+
 fn read(file: &fs::File, at: usize, buf: &mut [u8]) -> io::Result<usize>
     ensures { IfOk result (λ n. (0 < n) × (n ≤ length buf.old) × (at < 2 ^ 63)) }
 {
     if at > MOST {
         return Err(io::ErrorKind::InvalidInput.into());
     }
-    match file.read_at(buf, at as u64)? {
-        0 => Err(io::ErrorKind::UnexpectedEof.into()),
-        n => Ok(n),
-    }
+    some(file.read_at(buf, at as u64)?, io::ErrorKind::UnexpectedEof)
 }
 
 fn write(file: &fs::File, at: usize, bytes: &[u8]) -> io::Result<usize>
@@ -68,10 +75,7 @@ fn write(file: &fs::File, at: usize, bytes: &[u8]) -> io::Result<usize>
     if at > MOST {
         return Err(io::ErrorKind::FileTooLarge.into());
     }
-    match file.write_at(bytes, at as u64)? {
-        0 => Err(io::ErrorKind::WriteZero.into()),
-        n => Ok(n),
-    }
+    some(file.write_at(bytes, at as u64)?, io::ErrorKind::WriteZero)
 }
 
 impl Calls for HostFile {
