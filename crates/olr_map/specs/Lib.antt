@@ -1,3 +1,4 @@
+pub mod SetAt
 pub mod Blocked
 pub mod BlockSlots
 pub mod SlotIndexes

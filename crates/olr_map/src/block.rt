@@ -1,5 +1,6 @@
 //! The slots of four neighbouring numbers.
-ghost use Rattle.std.specs.Prelude.{◌≡◌, ◌==◌, ◌+◌, ◌^◌, ◌<◌, ℕ, cond, length, IsSome, Some, None, IsTrue, ◌↔◌};
+ghost use Rattle.std.specs.Prelude.{◌≡◌, ◌==◌, ◌+◌, ◌^◌, ◌<◌, ℕ, length, IsSome, Some, None, IsTrue, ◌↔◌};
+ghost use Rattle.olr_map.specs.SetAt.{IsSetAt};
 
 use std::mem;
 
@@ -37,7 +38,7 @@ impl Block {
     pub fn put(&mut self, place: usize, slot: u32)
         requires within { place < 4 }
         requires fits { slot + 1 < 2 ^ 32 }
-        ensures { (i : ℕ) → slot_at self.new i ≡ cond (place == i) (Some slot) (slot_at self.old i) }
+        ensures { IsSetAt (slot_at self.old) (slot_at self.new) place (Some slot) }
     {
         self.slots[place] = slot + 1;
     }
@@ -46,7 +47,7 @@ impl Block {
     pub fn take(&mut self, place: usize) -> u32
         requires { IsSome (slot_at self.old place) }
         ensures was { slot_at self.old place ≡ Some result }
-        ensures taken { (i : ℕ) → slot_at self.new i ≡ cond (place == i) None (slot_at self.old i) }
+        ensures taken { IsSetAt (slot_at self.old) (slot_at self.new) place None }
     {
         mem::replace(&mut self.slots[place], 0) - 1
     }

@@ -1,8 +1,9 @@
 //! Slots by number, in blocks of neighbouring numbers that are found by hash.
-ghost use Rattle.std.specs.Prelude.{◌≡◌, ◌==◌, ◌+◌, ◌^◌, ◌<◌, ◌≤◌, ℕ, [], cond, IsSome, Some, None, OnOk};
+ghost use Rattle.std.specs.Prelude.{◌≡◌, ◌==◌, ◌+◌, ◌^◌, ◌<◌, ◌≤◌, ℕ, [], IsSome, Some, None, OnOk};
 ghost use Rattle.std.specs.List.{IsDistinct, IsDistinct-prop};
 ghost use Rattle.std.specs.Map.{keys_of};
 ghost use Rattle.olr_map.specs.Blocked.{found_in, AreUsed, AreUsed-prop};
+ghost use Rattle.olr_map.specs.SetAt.{IsSetAt};
 
 use crate::block::{BLOCK_LEN, Block};
 use olr_roads::NumberHasher;
@@ -60,8 +61,7 @@ impl Blocks {
     pub fn put(&mut self, number: u32, slot: u32)
         requires fits { slot + 1 < 2 ^ 32 }
         requires room { 0 < block_spare self.old }
-        ensures put { (k : ℕ) → block_slot self.new k
-            ≡ cond (number == k) (Some slot) (block_slot self.old k) }
+        ensures put { IsSetAt (block_slot self.old) (block_slot self.new) number (Some slot) }
         ensures spare { block_spare self.old ≤ block_spare self.new + 1 }
     {
         self.greatest = self.greatest.max(number);
@@ -81,8 +81,7 @@ impl Blocks {
     pub fn take(&mut self, number: u32) -> u32
         requires { IsSome (block_slot self.old number) }
         ensures was { block_slot self.old number ≡ Some result }
-        ensures taken { (k : ℕ) → block_slot self.new k
-            ≡ cond (number == k) None (block_slot self.old k) }
+        ensures taken { IsSetAt (block_slot self.old) (block_slot self.new) number None }
         ensures spare { block_spare self.old ≤ block_spare self.new }
     {
         let key = number / BLOCK_LEN;

@@ -1,7 +1,8 @@
 //! The lines by number.
-ghost use Rattle.std.specs.Prelude.{◌≡◌, ◌==◌, ◌+◌, ◌≤◌, ◌<◌, ℕ, [], cond, length, nat_eq, Some, None, IsSome, OnOk};
+ghost use Rattle.std.specs.Prelude.{◌≡◌, ◌+◌, ◌≤◌, ◌<◌, ℕ, [], length, nat_eq, Some, None, IsSome, OnOk};
 ghost use Rattle.std.specs.HashMap.{get};
 ghost use Rattle.std.specs.Option.{option_copied};
+ghost use Rattle.olr_map.specs.SetAt.{IsSetAt};
 
 use olr_roads::{Line, NumberHasher};
 use std::alloc::{AllocError, Global};
@@ -61,7 +62,7 @@ impl LineTable {
     pub fn put(&mut self, number: u32, line: Line)
         requires absent { held self.old number ≡ None }
         requires room { 0 < spare_numbers self.old }
-        ensures put { (k : ℕ) → held self.new k ≡ cond (number == k) (Some line) (held self.old k) }
+        ensures put { IsSetAt (held self.old) (held self.new) number (Some line) }
         ensures spare { spare_numbers self.old ≤ spare_numbers self.new + 1 }
     {
         self.greatest = self.greatest.max(number);
@@ -73,7 +74,7 @@ impl LineTable {
     pub fn replace(&mut self, number: u32, line: Line) -> Line
         requires { IsSome (held self.old number) }
         ensures was { held self.old number ≡ Some result }
-        ensures put { (k : ℕ) → held self.new k ≡ cond (number == k) (Some line) (held self.old k) }
+        ensures put { IsSetAt (held self.old) (held self.new) number (Some line) }
         ensures spare { spare_numbers self.old ≤ spare_numbers self.new }
     {
         mem::replace(self.by_number.get_mut(&number).unwrap(), line)
@@ -83,7 +84,7 @@ impl LineTable {
     pub fn take(&mut self, number: u32) -> Line
         requires { IsSome (held self.old number) }
         ensures was { held self.old number ≡ Some result }
-        ensures taken { (k : ℕ) → held self.new k ≡ cond (number == k) None (held self.old k) }
+        ensures taken { IsSetAt (held self.old) (held self.new) number None }
         ensures spare { spare_numbers self.old ≤ spare_numbers self.new }
     {
         self.by_number.remove(&number).unwrap()

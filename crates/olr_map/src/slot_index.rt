@@ -1,6 +1,7 @@
 //! Slots by number: an array for low numbers, and blocks that are found by hash for the others.
 ghost use Rattle.std.specs.Prelude.{◌≡◌, ◌<◌, ℕ, None, length};
 ghost use Rattle.olr_map.specs.BlockSlots.{block_slot};
+ghost use Rattle.olr_map.specs.SetAt.{IsSetAt};
 
 use crate::blocks::Blocks;
 use std::alloc::{AllocError, Global};
@@ -22,7 +23,7 @@ pub struct SlotIndex {
 }
 
 impl SlotIndex {
-    ghost use Rattle.std.specs.Prelude.{◌==◌, ◌+◌, ◌^◌, ◌≤◌, ◌↔◌, [], cond, IsSome, IsTrue, Some, OnOk, false};
+    ghost use Rattle.std.specs.Prelude.{◌+◌, ◌^◌, ◌≤◌, ◌↔◌, [], IsSome, IsTrue, Some, OnOk, false};
     ghost use Rattle.olr_map.specs.SlotIndexes.{slot_by, spare_of, pairs_of};
 
     /// No slots. Does not allocate.
@@ -101,8 +102,7 @@ impl SlotIndex {
     pub fn put(&mut self, number: u32, slot: u32)
         requires fits { slot + 1 < 2 ^ 32 }
         requires room { 0 < spare_of self.old }
-        ensures put { (k : ℕ) → slot_by self.new k
-            ≡ cond (number == k) (Some slot) (slot_by self.old k) }
+        ensures put { IsSetAt (slot_by self.old) (slot_by self.new) number (Some slot) }
         ensures spare { spare_of self.old ≤ spare_of self.new + 1 }
     {
         self.count = self.count.saturating_add(1);
@@ -118,8 +118,7 @@ impl SlotIndex {
     pub fn take(&mut self, number: u32) -> u32
         requires { IsSome (slot_by self.old number) }
         ensures was { slot_by self.old number ≡ Some result }
-        ensures taken { (k : ℕ) → slot_by self.new k
-            ≡ cond (number == k) None (slot_by self.old k) }
+        ensures taken { IsSetAt (slot_by self.old) (slot_by self.new) number None }
         ensures spare { spare_of self.old ≤ spare_of self.new }
     {
         self.count = self.count.saturating_sub(1);
