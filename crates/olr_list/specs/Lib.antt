@@ -1,4 +1,5 @@
 pub mod Items
+pub mod Texts
 pub mod Finders
 pub mod Changes
 pub mod ChangeSets

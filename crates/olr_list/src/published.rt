@@ -1,10 +1,11 @@
 //! What is published of a path.
 ghost use Rattle.std.specs.Prelude.{◌≡◌, option_map, string_bytes};
-ghost use Rattle.std.specs.Result.{result_ok};
-ghost use Rattle.olr_answers.specs.Answers.{answer_of};
+ghost use Rattle.std.specs.Result.{result_map_both};
+ghost use Rattle.olr_answers.specs.Answers.{answer_of, refusal_of};
 ghost use Rattle.olr_commands.specs.Reply.{published_text};
+ghost use Rattle.olr_list.specs.Texts.{HasText};
 
-use olr_answers::{Answer, CoverageQuery, KnownQuery};
+use olr_answers::{Answer, CoverageQuery, KnownQuery, Refusal};
 use olr_commands::Entry;
 use olr_roads::Footprint;
 use std::alloc::{AllocError, Global};
@@ -17,7 +18,7 @@ pub struct Published {
     pub(crate) traversed: Footprint,
     pub(crate) queries: Vec<CoverageQuery>,
     pub(crate) known: Vec<KnownQuery>,
-    ghost encoded: { option_map string_bytes text ≡ result_ok (published_text (answer_of answer)) },
+    ghost encoded: { HasText (answer_of answer) (option_map string_bytes text) },
 }
 
 impl Published {
@@ -34,7 +35,7 @@ impl Published {
         queries: Vec<CoverageQuery>,
         known: Vec<KnownQuery>,
     ) -> Published
-        requires { option_map string_bytes text ≡ result_ok (published_text (answer_of answer)) }
+        requires { HasText (answer_of answer) (option_map string_bytes text) }
         ensures { made_of result ≡ record {
           answer = answer_of answer;
           traversed = traversed;
@@ -60,11 +61,21 @@ impl Published {
 
     /// The text of the reference. None if the path is not encodable.
     pub fn text(&self) -> Option<&str>
-        ensures { option_map (λ t. t.now) result ≡ result_ok (published_text (made_of self.now).answer) }
+        ensures { HasText (made_of self.now).answer (option_map (λ t. t.now) result) }
     {
         match &self.text {
             Some(text) => Some(text.as_str()),
             None => None,
+        }
+    }
+
+    /// The path's string, or the reason why it has none.
+    pub fn string(&self) -> Result<&str, &Refusal>
+        ensures { result_map_both (λ s. s.now) (λ r. refusal_of r.now) result ≡ published_text (made_of self.now).answer }
+    {
+        match self.answer() {
+            Answer::Points(_) => Ok(self.text().unwrap()),
+            Answer::Refused(refusal) => Err(refusal),
         }
     }
 
@@ -111,15 +122,10 @@ impl Published {
         ensures { IfOk result (λ e. entry_of e ≡ entry name.now (made_of self.now).answer) }
     {
         let name = String::from_str(alloc, name)?;
-        match &self.answer {
-            Answer::Points(_) => Ok(Entry {
-                name,
-                published: Ok(String::from_str(alloc, self.text().unwrap())?),
-            }),
-            Answer::Refused(refusal) => Ok(Entry {
-                name,
-                published: Err(*refusal),
-            }),
-        }
+        let published = match self.string() {
+            Ok(text) => Ok(String::from_str(alloc, text)?),
+            Err(refusal) => Err(*refusal),
+        };
+        Ok(Entry { name, published })
     }
 }

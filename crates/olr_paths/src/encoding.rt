@@ -1,12 +1,11 @@
 //! Encoding a path for the list.
 ghost use Rattle.std.specs.Prelude.{◌≡◌, IsTrue, IfOk, option_map, string_bytes};
-ghost use Rattle.std.specs.Result.{result_ok};
 ghost use Rattle.olr_spec.specs.Extension.{is_path};
 ghost use Rattle.olr_spec.specs.Queries.{AreKnown};
 ghost use Rattle.olr_answers.specs.Answers.{answer_of};
 ghost use Rattle.olr_refs.specs.Reuse.{Searched};
-ghost use Rattle.olr_commands.specs.Reply.{published_text};
 ghost use Rattle.olr_list.specs.Items.{IsEncodingOf, made_of};
+ghost use Rattle.olr_list.specs.Texts.{HasText};
 
 use olr_binary::text::to_text;
 use olr_list::Published;
@@ -17,7 +16,7 @@ use std::alloc::{AllocError, Global};
 
 /// The text of an answer, if it has one.
 fn text_of(alloc: Global, answer: &Answer) -> Result<Option<String>, AllocError>
-    ensures { IfOk result (λ t. option_map string_bytes t ≡ result_ok (published_text (answer_of answer.now))) }
+    ensures { IfOk result (λ t. HasText (answer_of answer.now) (option_map string_bytes t)) }
 {
     match answer {
         Answer::Points(reference) => {

@@ -1,23 +1,18 @@
 //! The answer to one record.
 
 ghost use Rattle.std.specs.Prelude.{◌≡◌, ◌≢◌, ◌++◌, length, Ok, Some, IfOk, OnOk, is_ok};
-ghost use Rattle.std.specs.Result.{result_map_both};
 ghost use Rattle.csv.specs.Records.{fields_of};
-ghost use Rattle.olr_answers.specs.Answers.{refusal_of};
-ghost use Rattle.olr_commands.specs.Reply.{published_text};
 ghost use Rattle.olr_commands.specs.State.{Explain, Report};
-ghost use Rattle.olr_list.specs.Items.{made_of};
 ghost use Rattle.olr_records.specs.Records.{read};
 ghost use Rattle.olr_run.specs.Runs.{CarriedOut, IsReport, answer_text, WritesText, AnswersRecord, AreRenewal, RenewsFrom};
 
 use csv::ByteRecord;
-use olr_answers::{Answer, Refusal};
 use olr_commands::{CommandFault, Reply};
 use olr_records::{
     append_count, append_entry, append_reply, dump_text, fault_text, is_report, read_command,
     read_fault_text, text_to_explain,
 };
-use olr_register::{Published, Register};
+use olr_register::Register;
 use olr_sessions::{RunFault, Session};
 use std::alloc::{AllocError, Global};
 
@@ -96,24 +91,13 @@ fn write_answer<W, S: Session<W>>(
     }
 }
 
-/// A path's string, or the reason why it has none.
-fn string_of(published: &Published) -> Result<&str, &Refusal>
-    ensures { result_map_both (λ s. s.now) (λ r. refusal_of r.now) result
-        ≡ published_text (made_of published.now).answer }
-{
-    match published.answer() {
-        Answer::Points(_) => Ok(published.text().unwrap()),
-        Answer::Refused(refusal) => Err(refusal),
-    }
-}
-
 /// Appends the reply to `report`, path by path: no name and no string is copied but to the text.
 fn append_report(text: &mut Vec<u8>, register: &Register) -> Result<(), AllocError>
     ensures { OnOk result (IsReport register.now (λ lines. text.new.items ≡ text.old.items ++ lines)) }
 {
     append_count(text, register.len())?;
     for (name, published) in register.iter() {
-        append_entry(text, name, string_of(published))?;
+        append_entry(text, name, published.string())?;
     }
     Ok(())
 }

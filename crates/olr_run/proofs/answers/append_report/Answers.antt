@@ -11,8 +11,8 @@ loop-name-preserved c =
       h.0,
       h.1,
       one_more (left c.loop-name.name-iterator) (left c.next.new.self) c.in-Some.name.now (made_of c.in-Some.published.now)
-          (result_map_both (λ s. s.now) (λ r. refusal_of r.now) c.string_of.result) c.loop-name.text.items
-          c.append_entry.new.text.items _ c.in-Some.ensures.steps c.string_of.ensures c.in_ok-append_entry.ensures h.2,
+          (result_map_both (λ s. s.now) (λ r. refusal_of r.now) c.string.result) c.loop-name.text.items
+          c.append_entry.new.text.items _ c.in-Some.ensures.steps c.string.ensures c.in_ok-append_entry.ensures h.2,
     )
 
 pub returns : goal.returns
