@@ -1,7 +1,6 @@
 pub mod Along
 pub mod Runs
 pub mod Choice
-pub mod Coded
 pub mod ResolvedLines
 pub mod ResolvedPaths
 pub mod Extends

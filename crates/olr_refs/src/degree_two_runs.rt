@@ -131,9 +131,9 @@ fn next_within<M: MapRead>(
 ) -> Option<ResolvedLine>
     requires known { MatchOption line ⊤ (λ x. IsTrue (has_line (M.map map.now) x)) }
     requires within { len ≤ limit }
-    ensures some { IfSome result (GrowsBy (M.map map.now) (M.node_slot map.now) line len used.now) }
+    ensures some { IfSome result (GrowsBy (M.map map.now) (M.node_slot map.now) line len used.now.sorted.items) }
     ensures none { IfNone result (MatchOption line ⊤
-        (λ x. IsTrue (has used.now x) ⊎ (limit < len + (record_of (M.map map.now) (M.node_slot map.now) x).len))) }
+        (λ x. IsTrue (has used.now.sorted.items x) ⊎ (limit < len + (record_of (M.map map.now) (M.node_slot map.now) x).len))) }
 {
     let line = line?;
     let record = resolve_line(map, line).unwrap();

@@ -4,7 +4,6 @@ ghost use Rattle.olr_spec.specs.Map.{Map};
 ghost use Rattle.olr_spec.specs.Encoding.{first_unknown};
 ghost use Rattle.olr_spec.specs.Extension.{is_path};
 ghost use Rattle.olr_spec.specs.Queries.{NodeOf};
-ghost use Rattle.olr_refs.specs.Coded.{coded_extended};
 ghost use Rattle.olr_refs.specs.Extends.{ExtendedPath, Extends};
 ghost use Rattle.olr_refs.specs.ResolvedLines.{records_of};
 
@@ -34,8 +33,6 @@ pub struct Extended {
 
 impl Model for Extended {
     ghost Value = { ExtendedPath };
-
-    ghost coded = { coded_extended };
 
     ghost view = { λ e. record {
       path = record { lines = e.lines.items; pos = e.pos; neg = e.neg };

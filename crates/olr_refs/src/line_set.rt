@@ -1,5 +1,5 @@
 //! The lines of a list, for lookups.
-ghost use Rattle.std.specs.Prelude.{◌≡◌, ℕ, List, IfOk};
+ghost use Rattle.std.specs.Prelude.{◌≡◌, ℕ, IfOk};
 ghost use Rattle.std.specs.List.Sorted.{IsNonDecreasing};
 ghost use Rattle.olr_spec.specs.Map.{has};
 ghost use Rattle.olr_refs.specs.ResolvedLines.{ids};
@@ -8,27 +8,19 @@ use crate::resolved::ids_of;
 use olr_roads::LineId;
 use olr_search::ResolvedLine;
 use std::alloc::{AllocError, Global};
-use std::marker::Model;
 
 /// The lines of a list, sorted.
 #[derive(Drop)]
 pub(crate) struct LineSet {
     sorted: Vec<LineId>,
-}
-
-impl Model for LineSet {
-    ghost Value = { List ℕ };
-
-    ghost view = { λ s. s.sorted.items };
-
-    ghost invariant = { λ s. IsNonDecreasing s.sorted.items };
+    ghost ascending: { IsNonDecreasing sorted.items },
 }
 
 impl LineSet {
     /// The lines of this list.
     #[tactic(auto, using(crate::proofs::Sets::same_members))]
     pub(crate) fn of(alloc: Global, records: &[ResolvedLine]) -> Result<LineSet, AllocError>
-        ensures { IfOk result (λ set. (x : ℕ) → has set x ≡ has (ids records.now) x) }
+        ensures { IfOk result (λ set. (x : ℕ) → has set.sorted.items x ≡ has (ids records.now) x) }
     {
         let mut sorted = ids_of(alloc, records)?;
         sorted.sort_unstable();
@@ -37,7 +29,7 @@ impl LineSet {
 
     /// Whether a line is in the list, by binary search.
     pub(crate) fn has(&self, line: LineId) -> bool
-        ensures { result ≡ has self.now line }
+        ensures { result ≡ has self.now.sorted.items line }
     {
         self.sorted.binary_search(&line).is_ok()
     }
