@@ -1,14 +1,28 @@
 //! What is published of a path.
-ghost use Rattle.std.specs.Prelude.{◌≡◌, option_map, string_bytes};
+ghost use Rattle.std.specs.Prelude.{◌≡◌, option_map, string_bytes, IfOk};
 ghost use Rattle.std.specs.Result.{result_map_both};
 ghost use Rattle.olr_answers.specs.Answers.{answer_of, refusal_of};
 ghost use Rattle.olr_commands.specs.Reply.{published_text};
 ghost use Rattle.olr_list.specs.Texts.{HasText};
 
 use olr_answers::{Answer, CoverageQuery, KnownQuery, Refusal};
+use olr_binary::text::to_text;
 use olr_commands::Entry;
 use olr_roads::Footprint;
 use std::alloc::{AllocError, Global};
+
+/// The text of an answer, if it has one.
+fn text_of(alloc: Global, answer: &Answer) -> Result<Option<String>, AllocError>
+    ensures { IfOk result (λ t. HasText (answer_of answer.now) (option_map string_bytes t)) }
+{
+    match answer {
+        Answer::Points(reference) => {
+            let text = to_text(alloc, reference)?;
+            Ok(Some(text))
+        }
+        Answer::Refused(_) => Ok(None),
+    }
+}
 
 /// A path's answer, its text, its traversed nodes, its coverage queries, and those along its own lines.
 #[derive(Drop, Debug)]
@@ -22,34 +36,34 @@ pub struct Published {
 }
 
 impl Published {
-    ghost use Rattle.std.specs.Prelude.{◌≡◌, ◌↔◌, IsTrue, IfOk};
+    ghost use Rattle.std.specs.Prelude.{◌↔◌, IsTrue};
     ghost use Rattle.olr_commands.specs.Reply.{entry};
     ghost use Rattle.olr_commands.specs.Words.{entry_of};
     ghost use Rattle.olr_list.specs.Items.{made_of};
 
-    /// What is published for an answer, whose text this is if it has one.
+    /// What is published for an answer. It fails if there is no memory for the text.
     pub fn new(
+        alloc: Global,
         answer: Answer,
-        text: Option<String>,
         traversed: Footprint,
         queries: Vec<CoverageQuery>,
         known: Vec<KnownQuery>,
-    ) -> Published
-        requires { HasText (answer_of answer) (option_map string_bytes text) }
-        ensures { made_of result ≡ record {
+    ) -> Result<Published, AllocError>
+        ensures { IfOk result (λ p. made_of p ≡ record {
           answer = answer_of answer;
           traversed = traversed;
           queries = queries.items;
           known = known.items;
-        } }
+        }) }
     {
-        Published {
+        let text = text_of(alloc, &answer)?;
+        Ok(Published {
             answer,
             text,
             traversed,
             queries,
             known,
-        }
+        })
     }
 
     /// The answer.
