@@ -4,13 +4,10 @@ pub mod ReceiverLemmas
 pub mod MapLemmas
 pub mod AngleLemmas
 pub mod DirectionLemmas
-pub mod ProjectionLemmas
-mod LineBeforeLemmas
 pub mod RowLemmas
 mod SideRoadLemmas
 pub mod MorningLemmas
 pub mod ForkLemmas
-mod DetourLemmas
 pub mod CommandLemmas
 pub mod RunLemmas
 mod AmbiguityLemmas

@@ -17,9 +17,8 @@ use Rattle.olr_commands.proofs.NameLemmas.{named_path}
 use Rattle.olr_commands.specs.State.{Named, Content, ArePaths, IsContent, path_named, has_asked}
 use Rattle.olr_commands.specs.Reply.{Reply, Obstacles, IsObstacles}
 use Rattle.olr_commands.specs.Ambiguities.{NamedObstacle, named, obstacles_of, Ambiguity, Ambiguities, AskedAmbiguities}
-use Rattle.olr_laws.specs.AmbiguityLaws.{UnnamedIsDistinct, UnnamedByProjection, NamedStands, StandsFor}
+use Rattle.olr_laws.specs.AmbiguityLaws.{UnnamedIsDistinct, NamedStands, StandsFor}
 use Rattle.olr_laws.proofs.AmbiguityLemmas.{clear_is_distinct}
-use Rattle.olr_laws.proofs.ProjectionLemmas.{snapped_is_distinct}
 
 pub one_obstacles : (T : List NamedObstacle → Type 0) → ((x y : List NamedObstacle) → T x → T y → x ≡ y) → (r q : Reply) →
     IsObstacles r T → IsObstacles q T → r ≡ q
@@ -148,12 +147,6 @@ unnamed_is_distinct c i es a p at unnamed r e scale far w slack few =
     none_named p.name (obstacles c.map r q.1) (λ o h. unnamed o (own.2 o
     (subst (λ (xs : List NamedObstacle). Contains xs o) (sym all) h))) in
     clear_is_distinct c.map i.map p.path is r e q.1 lines clear scale far w slack few
-
--- for a receiver that projects, too
-pub unnamed_by_projection : UnnamedByProjection
-unnamed_by_projection c i es a p at unnamed r e scale R w few snapped =
-    snapped_is_distinct R c.map i.map p.path (path_in c.paths p i.paths at) r e
-    (unnamed_is_distinct c i es a p at unnamed r e scale R.rates.far w R.rates.slack few).1 snapped
 
 -- an element of a list that a function gives
 of_map : {A B : Type 0} (f : A → B) (xs : List A) (y : B) → Contains (map f xs) y → (x : A) × Contains xs x × (y ≡ f x)

@@ -15,7 +15,6 @@ use Rattle.olr_spec.specs.Ambiguity.{least_cosine, is_farther, usual_slack, obst
 use Rattle.olr_commands.specs.State.{Named, Content, IsContent}
 use Rattle.olr_commands.specs.Ambiguities.{NamedObstacle, AskedAmbiguities}
 use Rattle.olr_laws.specs.Directions.{DistinctByDirection}
-use Rattle.olr_laws.specs.Projections.{ProjectingReceiver, DistinctByProjection, IsSnappedAlong}
 
 pub record IsWeightedByLatitude (scale : ℕ) (far : Measure) (M : Map) (r : Reference) : Type 0 where
   pub unit : 0 < scale
@@ -42,15 +41,6 @@ UnnamedIsDistinct =
     → (p : Named) → Contains c.paths p → Unnamed p.name es → (r : Reference) → Encodes c.map p.path (Points r)
     → (scale : ℕ) (far : Measure) → IsWeightedByLatitude scale far c.map r → (slack : ℕ) → slack ≤ scale * usual_slack
     → Distinct far c.map p.path r × DistinctByDirection far slack c.map p.path r
-
--- such a path is distinct for a receiver that projects onto lines, too, if this counts points near the ends of lines as
--- these ends, and no point within another line is in the way
-abbrev pub UnnamedByProjection : Type 0
-UnnamedByProjection =
-    (c : Content) → IsContent c → (es : List NamedObstacle) → AskedAmbiguities c None es
-    → (p : Named) → Contains c.paths p → Unnamed p.name es → (r : Reference) → Encodes c.map p.path (Points r)
-    → (scale : ℕ) (R : ProjectingReceiver) → IsWeightedByLatitude scale R.rates.far c.map r
-    → R.rates.slack ≤ scale * usual_slack → IsSnappedAlong R c.map p.path r → DistinctByProjection R 0 c.map p.path r
 
 -- no test of nodes names fewer for all these receivers: where a node isn't farther by more than e units, there is such a
 -- measure, for each map and each LRP, by which it isn't

@@ -1,11 +1,8 @@
 pub mod Rows
 pub mod Directions
 pub mod DirectionLaws
-pub mod Projections
-pub mod ProjectionLaws
 pub mod AmbiguityLaws
 pub mod MapRows
-pub mod ProjectionRows
 pub mod CommandLaws
 pub mod CommandRows
 pub mod RecordLaws

@@ -8,12 +8,10 @@ ghost use Rattle.olr_spec.specs.Receiver.{Outgoing, Incoming, candidates, decode
 ghost use Rattle.olr_spec.specs.Recovery.{Distinct, IsWeighted, are_cosines, are_spaced};
 ghost use Rattle.olr_laws.specs.Rows.{leg10, reference1, leg20, leg30, morning_lines, twin_lines, axes_sum, cosine, by_cosine};
 ghost use Rattle.olr_laws.specs.DirectionLaws;
-ghost use Rattle.olr_laws.specs.ProjectionLaws;
 ghost use Rattle.olr_laws.specs.AmbiguityLaws;
 ghost use Rattle.olr_spec.specs.Directions.{is_beyond};
 ghost use Rattle.olr_laws.specs.Directions.{DistinctByDirection, SeesDirections, exceeded, is_within, middle, stands_out};
 ghost use Rattle.olr_laws.specs.MapRows.{morning_map, morning_path, fork_map, fork_path, fork_reference, fork_lines};
-ghost use Rattle.olr_laws.specs.ProjectionRows.{DistinctPastEnd, RecoversOther, detour_lines, detour_map, detour_path, detour_reference};
 ghost use Rattle.olr_laws.specs.MapRows.{fork10, degrees10, TakesOther};
 
 /// If the path's own line is distinct at each LRP, every receiver recovers the legs between the
@@ -39,24 +37,12 @@ pub fn laws_of_directions()
     ensures weights { DirectionLaws.SomeByWeights }
 {}
 
-/// Receivers that project LRPs onto lines recover the road of the path, but for a stub at each end, if at each LRP the path's
-/// own line stands out among the points of lines that they see. It does so where it stands out at nodes, for receivers
-/// that count points near the ends of lines as these ends, if no point within another line is in the way. The line before an
-/// LRP may be taken if the path's route from there is the unique shortest path.
-pub fn laws_of_projections()
-    ensures recovered { ProjectionLaws.RecoveredByProjection }
-    ensures snapped { ProjectionLaws.SnappedIsDistinct }
-    ensures at_ends { ProjectionLaws.SomeAtEnds }
-    ensures but_before { ProjectionLaws.RecoveredButBefore }
-{}
-
 /// A string in whose way nothing stands is distinct for both kinds of receivers. So is that of each path which the answer
 /// to the question about all paths doesn't name, and what this names stands in the way. No test of nodes names
 /// fewer for all these receivers.
 pub fn laws_of_ambiguity()
     ensures clear { AmbiguityLaws.ClearIsDistinct }
     ensures unnamed { AmbiguityLaws.UnnamedIsDistinct }
-    ensures projected { AmbiguityLaws.UnnamedByProjection }
     ensures named { AmbiguityLaws.NamedStands }
     ensures sharpest { AmbiguityLaws.NoSharperTest }
 {}
@@ -84,18 +70,6 @@ pub fn rows_fork()
     ensures distinct { Distinct axes_sum fork_map fork_path fork_reference }
     ensures other { TakesOther }
     ensures stands_out { stands_out axes_sum 0 Outgoing (decoded_coord fork_reference 0) 10 fork10 fork_lines ≡ false }
-{}
-
-/// A path that goes straight on over the second LRP, where another line is a shorter way: it stands out for receivers that take
-/// candidates at nodes, and for those that don't see line 10, which ends there, as they are past it. A receiver that takes a
-/// point of line 10, 0.3 m before its end, goes on by the shorter way.
-#[tactic(auto, using(crate::proofs::DetourLemmas::detour_candidates, crate::proofs::DetourLemmas::detour_answer, crate::proofs::DetourLemmas::detour_by_direction, crate::proofs::DetourLemmas::recovers_other, crate::proofs::DetourLemmas::distinct_past_end))]
-pub fn rows_detour()
-    ensures lines { candidates detour_map ≡ detour_lines }
-    ensures answer { Encodes detour_map detour_path (Points detour_reference) }
-    ensures by_direction { DistinctByDirection axes_sum 5 detour_map detour_path detour_reference }
-    ensures before { RecoversOther }
-    ensures past_end { DistinctPastEnd }
 {}
 
 /// Directions beside the margin of sector 4, which is from 42.1875 to 59.0625 degrees, and at most 6 degrees from its

@@ -1,5 +1,5 @@
 use Rattle.olr_laws.proofs.AmbiguityLemmas.{clear_is_distinct}
-use Rattle.olr_laws.proofs.NamedObstacles.{unnamed_is_distinct, unnamed_by_projection, named_stands}
+use Rattle.olr_laws.proofs.NamedObstacles.{unnamed_is_distinct, named_stands}
 use Rattle.olr_laws.proofs.NodeTestLemmas.{no_sharper_test}
 use Rattle.olr_laws.proofs.receivers.laws_of_ambiguity.Goals as goal
 
@@ -8,7 +8,6 @@ returns c =
     record {
       clear = clear_is_distinct;
       unnamed = unnamed_is_distinct;
-      projected = unnamed_by_projection;
       named = named_stands;
       sharpest = no_sharper_test;
     }
