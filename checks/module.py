@@ -213,7 +213,7 @@ def calls(kind):
 
 
 def main():
-    same("no module of tools/", [it for it in sys.modules if it in ("replies", "records", "geometry", "geo")], [])
+    same("no module of the tools", [it for it in sys.modules if it.startswith("olr_keep_tools")], [])
     same("a typed package", os.path.exists(os.path.join(os.path.dirname(olr_keep.__file__), "py.typed")), True)
     same("the version", olr_keep.library_version(), olr_keep.__version__)
     check_calls()

@@ -19,13 +19,12 @@ import subprocess
 import tempfile
 from typing import NamedTuple
 
-from command import STREAM, Failure
-from rejected import advice
-from replies import read_reply
+from .command import STREAM, TOP, Failure
+from .rejected import advice
+from .replies import read_reply
 
 UNITS = 10_000_000
 HEAD = re.compile(rb"ok,(\d{1,18})\r?\n")
-TOP = os.path.dirname(os.path.dirname(os.path.realpath(__file__)))
 QUESTIONS = ("show", "show-node", "show-line", "depends", "report", "explain", "dump", "compact", "ambiguous")
 NO_ANSWERS = ("show-node", "show-line", "depends", "explain", "dump", "ambiguous")
 ENDS = ("commit", "abort")

@@ -6,8 +6,8 @@ import os
 from typing import NamedTuple
 from urllib.parse import quote
 
-from command import STREAM, Failure
-from stream import LOST_STREAMS
+from .command import STREAM, Failure
+from .stream import LOST_STREAMS
 
 BLOCK = 1 << 20
 RETAINED = 2

@@ -10,9 +10,9 @@ message of answers changes in them is one transaction.
 import os
 import sqlite3
 
-import stream
-from command import STREAM, Failure, say
-from stream import LOST_STREAMS
+from . import stream
+from .command import STREAM, Failure, say
+from .stream import LOST_STREAMS
 
 try:
     import psycopg2

@@ -17,8 +17,8 @@ import sys
 import time
 from typing import NamedTuple
 
-from command import USAGE, Failure, command_line, say
-from places import Shares, SharesError
+from .command import USAGE, Failure, command_line, say
+from .places import Shares, SharesError
 
 try:
     import pika

@@ -4,9 +4,9 @@ import math
 from collections import defaultdict
 from typing import NamedTuple
 
-from geo import METRES, SECTOR, direction, distance
-from receiver import CELL, STEP_16, STEP_24, bearing, pieces, place, project, shape_length
-from refound import SHORT, are_twins
+from .geo import METRES, SECTOR, direction, distance
+from .receiver import CELL, STEP_16, STEP_24, bearing, pieces, place, project, shape_length
+from .refound import SHORT, are_twins
 
 KINDS = ("twin-lines", "alike-lines", "line-over-node", "open-end", "short-line", "same-coordinate", "near-nodes", "under-straight",
          "over-shape", "over-15-km", "one-way-dead-end", "separate-part", "lone-node")

@@ -4,10 +4,10 @@ import math
 import struct
 from typing import NamedTuple
 
-from courses import Found, Plane, Polyline
-from livesession import held_number, psycopg2, sources_of
-from pathlines import Finder, Known, Wanted, coordinates, number_array, text_array
-from streets import Old, Street, degrees, recut, street_of, wkb_hex
+from .courses import Found, Plane, Polyline
+from .livesession import held_number, psycopg2, sources_of
+from .pathlines import Finder, Known, Wanted, coordinates, number_array, text_array
+from .streets import Old, Street, degrees, recut, street_of, wkb_hex
 
 MANY = 1000  # changed streets after which the statistics of the tables are made again
 FEW = 100  # changed streets up to which each is compared with the paths that are lost

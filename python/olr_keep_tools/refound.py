@@ -3,8 +3,8 @@ import math
 import random
 from typing import NamedTuple
 
-from geo import METRES, distance, on_piece, scale
-from receiver import Failed, Road, RoadMap, cells_along, decode, place, shape_length
+from .geo import METRES, distance, on_piece, scale
+from .receiver import Failed, Road, RoadMap, cells_along, decode, place, shape_length
 
 SHORT = 5.0  # metres; shorter lines are below the precision of the coordinates of a string
 UNDER_5_M = "a line under 5 m"

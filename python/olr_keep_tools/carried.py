@@ -10,10 +10,10 @@ import select
 import subprocess
 from typing import NamedTuple
 
-from command import STREAM, Failure
-from records import ENDS, QUESTIONS, Batch
-from replies import Reply
-from stream import is_plain
+from .command import STREAM, Failure
+from .records import ENDS, QUESTIONS, Batch
+from .replies import Reply
+from .stream import is_plain
 
 OUT_OF_MEMORY, MEMORY = 4, 13
 CHUNK = 1 << 18

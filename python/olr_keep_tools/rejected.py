@@ -6,7 +6,7 @@
 import csv
 import re
 
-from replies import is_one_record
+from .replies import is_one_record
 
 NUMBER = re.compile("[0-9]+", re.ASCII)
 DEGREES = re.compile("-?[0-9]{1,3}([.][0-9]{1,7})?", re.ASCII)

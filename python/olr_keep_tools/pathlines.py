@@ -4,8 +4,8 @@ import math
 from collections import defaultdict
 from typing import NamedTuple, Optional
 
-from courses import DRAWN, Found, Ground, Lost, Plane, Polyline, follow
-from streets import wkb_parts
+from .courses import DRAWN, Found, Ground, Lost, Plane, Polyline, follow
+from .streets import wkb_parts
 
 AGAINST = 1e6  # the cost of a street against its geometry where its direction isn't given
 STRAY = 10.0  # the cost of a metre between an end of the path and that of its lines

@@ -13,7 +13,7 @@ import math
 from collections import defaultdict
 from typing import NamedTuple
 
-from geo import METRES, scale
+from .geo import METRES, scale
 
 SNAP = 1.0  # metres along a line between an end of the course and a node that are taken as none
 DRAWN = 5.0  # the same for a course that was drawn, or is from another map

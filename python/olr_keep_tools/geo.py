@@ -10,8 +10,8 @@ import math
 import os
 from typing import NamedTuple, Optional
 
-from records import UNITS, RecordsError, program_name
-from replies import Keep
+from .records import UNITS, RecordsError, program_name
+from .replies import Keep
 
 EARTH = 6371008.8  # metres, the mean radius
 RADIAN = math.pi / 180  # radians to a degree

@@ -13,6 +13,8 @@ import sys
 
 USAGE, STREAM, INTERRUPTED = 2, 3, 130
 NAME = os.path.basename(sys.argv[0])
+# The folder above those of the tools and of this package.
+TOP = os.path.realpath(os.path.join(os.path.dirname(os.path.realpath(__file__)), "../.."))
 
 
 class Failure(Exception):
@@ -78,5 +80,5 @@ def without_trace(kind, error, trace):
         sys.__excepthook__(kind, error, trace)
 
 
-if os.path.dirname(os.path.realpath(sys.argv[0])) == os.path.dirname(os.path.realpath(__file__)):
+if os.path.dirname(os.path.dirname(os.path.realpath(sys.argv[0]))) == TOP:
     sys.excepthook = without_trace

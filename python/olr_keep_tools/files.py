@@ -6,7 +6,7 @@ import shutil
 import sys
 import tempfile
 
-from command import STREAM, Failure
+from .command import STREAM, Failure
 
 
 class FileFailure(Failure):

@@ -15,8 +15,8 @@ import math
 from collections import defaultdict
 from typing import NamedTuple
 
-from command import USAGE, Failure
-from geo import METRES, Point, Reference, angle_between, direction, distance, on_piece, scale
+from .command import USAGE, Failure
+from .geo import METRES, Point, Reference, angle_between, direction, distance, on_piece, scale
 
 CELL = 0.002  # degrees, the width of a cell of the grid
 STEP_24 = 360 / 2**24  # degrees, the step of the first point's coordinates
