@@ -5,6 +5,7 @@ import os
 import shutil
 import sys
 import tempfile
+from typing import IO, Callable, Iterator, Optional
 
 from .command import STREAM, Failure
 
@@ -12,12 +13,12 @@ from .command import STREAM, Failure
 class FileFailure(Failure):
     """A file that can't be read or written."""
 
-    def __init__(self, text):
+    def __init__(self, text: str):
         super().__init__(STREAM, text)
 
 
 @contextlib.contextmanager
-def replacing(name):
+def replacing(name: Optional[str]) -> Iterator[IO[str]]:
     """A text file in which the new contents of a file are written: it is synced and renamed to it at the end, if all went well.
     Without a name it is printed then."""
     if not name:
@@ -42,7 +43,7 @@ def replacing(name):
 
 
 @contextlib.contextmanager
-def waiting_lock(name, say):
+def waiting_lock(name: str, say: Callable[[str], None]) -> Iterator[None]:
     """Holds a lock on a file, which has the process id of its holder. If another process holds it, that is said, and waited for."""
     try:
         lock = os.open(name, os.O_RDWR | os.O_CREAT, 0o666)

@@ -2,11 +2,12 @@
 import itertools
 import math
 from collections import defaultdict
-from typing import NamedTuple
+from typing import Collection, Dict, FrozenSet, Iterable, Iterator, List, NamedTuple, Sequence, Set, Tuple
 
-from .geo import METRES, SECTOR, direction, distance
-from .receiver import CELL, STEP_16, STEP_24, bearing, pieces, place, project, shape_length
+from .geo import METRES, direction, distance
+from .receiver import CELL, Box, Cell, Road, RoadMap, bearing, cell_of, pieces, place, project, shape_length
 from .refound import SHORT, are_twins
+from .strings import SECTOR, STEP_16, STEP_24
 
 KINDS = ("twin-lines", "alike-lines", "line-over-node", "open-end", "short-line", "same-coordinate", "near-nodes", "under-straight",
          "over-shape", "over-15-km", "one-way-dead-end", "separate-part", "lone-node")
@@ -20,7 +21,7 @@ FIRST_ERROR = STEP_24
 FURTHER_ERROR = STEP_16 / 2
 
 
-def decoding_error(k):
+def decoding_error(k: int) -> float:
     """The bound at LRP k, from 0."""
     return FIRST_ERROR + k * FURTHER_ERROR
 
@@ -29,19 +30,19 @@ class Finding(NamedTuple):
     """A finding: its kind, the affected lines and nodes, and a text with their numbers."""
 
     kind: str
-    lines: tuple
-    nodes: tuple
+    lines: Tuple[int, ...]
+    nodes: Tuple[int, ...]
     text: str
 
 
-def findings(roads, point=0):
+def findings(roads: RoadMap, point: int = 0) -> Iterator[Finding]:
     """All findings; nodes are near if the coordinates of this LRP of a string can't distinguish them."""
     return itertools.chain(
         lines_alike(roads), lines_over_nodes(roads), lines_alone(roads), nodes_near(roads, point), dead_ends(roads), parts(roads)
     )
 
 
-def sector(road, is_last):
+def sector(road: Road, is_last: bool) -> int:
     """The bearing sector of a line at its start, or at its end: of the next 20 m along it, or of the last 20 m, backwards."""
     here, beside = (road.points[-1], road.points[-2]) if is_last else road.points[:2]
     if abs(here[0] - beside[0]) >= min(AHEAD, road.length):
@@ -49,11 +50,11 @@ def sector(road, is_last):
     return int(bearing(road, road.length if is_last else 0.0, is_last) // SECTOR)
 
 
-def lines_alike(roads):
+def lines_alike(roads: RoadMap) -> Iterator[Finding]:
     """Twin lines, and lines with the same attributes at one of their ends."""
     for is_last, sides in ((False, roads.leaving), (True, roads.entering)):
         for node, numbers in sorted(sides.items()):
-            groups = defaultdict(list)
+            groups: Dict[Tuple[int, int], List[int]] = defaultdict(list)
             for it in numbers:
                 groups[roads.lines[it][2:4]].append(it)
             for (frc, fow), group in groups.items():
@@ -72,7 +73,7 @@ def lines_alike(roads):
                 yield Finding("twin-lines", (a, b), one[:2], text)
 
 
-def pairs_alike(roads, numbers, is_last):
+def pairs_alike(roads: RoadMap, numbers: Sequence[int], is_last: bool) -> Iterator[Tuple[int, int]]:
     """Pairs of these lines with the same bearing sector."""
     if len(numbers) > 1:
         sectors = {it: sector(roads.lines[it], is_last) for it in numbers}
@@ -81,7 +82,7 @@ def pairs_alike(roads, numbers, is_last):
                 yield a, b
 
 
-def neighbours(roads):
+def neighbours(roads: RoadMap) -> Dict[int, Set[int]]:
     """The nodes that lines connect with each node."""
     beside = defaultdict(set)
     for road in roads.lines.values():
@@ -90,10 +91,11 @@ def neighbours(roads):
     return beside
 
 
-def lines_over_nodes(roads):
+def lines_over_nodes(roads: RoadMap) -> Iterator[Finding]:
     """Lines that pass a node that isn't their end, and have the class, form and sector of a line that leaves the node; and ends
     of roads beside a line that neither they nor their neighbour are an end of, each with the nearest one."""
-    beside, open_ends = neighbours(roads), {}
+    beside = neighbours(roads)
+    open_ends: Dict[int, Tuple[float, int]] = {}
     ends = {node for node, others in beside.items() if len(others) == 1}
     for node, number in sorted(nodes_beside(roads, ends)):
         road = roads.lines[number]
@@ -114,13 +116,24 @@ def lines_over_nodes(roads):
         yield Finding("open-end", (number,), (node,), text)
 
 
-def nodes_beside(roads, ends):
+class Leaving(NamedTuple):
+    """A node, with the classes and forms of the lines that leave it."""
+
+    lon: float
+    lat: float
+    node: int
+    kinds: FrozenSet[Tuple[int, int]]
+
+
+def nodes_beside(roads: RoadMap, ends: Collection[int]) -> Set[Tuple[int, int]]:
     """Pairs of a node and a line that may pass it: a box of the line, with a margin, contains the node, and the node is one of
     these ends of roads, or a line with the same class and form leaves it."""
-    cells, found, near = defaultdict(list), set(), {}
+    cells: Dict[Cell, List[Leaving]] = defaultdict(list)
+    found: Set[Tuple[int, int]] = set()
+    near: Dict[Tuple[int, int, float, float], List[Leaving]] = {}
     for node, (lon, lat) in roads.nodes.items():
-        kinds = {roads.lines[it][2:4] for it in roads.leaving.get(node, ())}
-        cells[int(lon // CELL), int(lat // CELL)].append((lon, lat, node, kinds))
+        kinds = frozenset(roads.lines[it][2:4] for it in roads.leaving.get(node, ()))
+        cells[cell_of((lon, lat))].append(Leaving(lon, lat, node, kinds))
     for number, road in roads.lines.items():
         _, lons, lats = zip(*road.points)
         # The two directions of a road have the same points, and their sums are exact.
@@ -128,23 +141,23 @@ def nodes_beside(roads, ends):
         if key not in near:
             near[key] = nodes_in(cells, boxes(road, lons, lats), road[:2])
         kind = road[2:4]
-        found.update((node, number) for node, kinds in near[key] if kind in kinds or node in ends)
+        found.update((it.node, number) for it in near[key] if kind in it.kinds or it.node in ends)
     return found
 
 
-def nodes_in(cells, found_boxes, ends):
-    """The nodes within these boxes, but for a line's ends, each with the classes and forms of the lines that leave it."""
+def nodes_in(cells: Dict[Cell, List[Leaving]], found_boxes: Iterable[Box], ends: Sequence[int]) -> List[Leaving]:
+    """The nodes within these boxes, but for a line's ends."""
     found = []
     for west, south, east, north in found_boxes:
         for x in range(int(west // CELL), int(east // CELL) + 1):
             for y in range(int(south // CELL), int(north // CELL) + 1):
-                for lon, lat, node, kinds in cells.get((x, y), ()):
-                    if south <= lat <= north and west <= lon <= east and node not in ends:
-                        found.append((node, kinds))
+                for it in cells.get((x, y), ()):
+                    if south <= it.lat <= north and west <= it.lon <= east and it.node not in ends:
+                        found.append(it)
     return found
 
 
-def boxes(road, lons, lats):
+def boxes(road: Road, lons: Sequence[float], lats: Sequence[float]) -> List[Box]:
     """Boxes that contain a line with a margin of SHORT, as west, south, east, north: one of a short line, and one of each piece
     of a long one."""
     west, south, east, north = min(lons), min(lats), max(lons), max(lats)
@@ -153,13 +166,13 @@ def boxes(road, lons, lats):
     if east - west <= 2 * CELL and north - south <= 2 * CELL:
         return [(west - aside, south - up, east + aside, north + up)]
     found = []
-    for (_, *a), (_, *b) in zip(road.points, road.points[1:]):
-        for (x, y), (u, v) in pieces(a, b):
+    for a, b in zip(road.points, road.points[1:]):
+        for (x, y), (u, v) in pieces(a[1:], b[1:]):
             found.append((min(x, u) - aside, min(y, v) - up, max(x, u) + aside, max(y, v) + up))
     return found
 
 
-def lines_alone(roads):
+def lines_alone(roads: RoadMap) -> Iterator[Finding]:
     """Findings on the length of a line."""
     for number, road in sorted(roads.lines.items()):
         straight = distance(road.points[0][1:], road.points[-1][1:])
@@ -175,11 +188,12 @@ def lines_alone(roads):
             yield Finding("over-15-km", (number,), road[:2], f"line {number}, {road.length / 1000:.1f} km")
 
 
-def nodes_near(roads, point):
+def nodes_near(roads: RoadMap, point: int) -> Iterator[Finding]:
     """Nodes at one coordinate, and nodes too near to each other for the law `Nearest`: in latitude, and in longitude times
     the least cosine of the map, less than three times the decoding error apart. Then another node may be as near to a
     decoded coordinate as the right one."""
-    width, cells = 3 * decoding_error(point), defaultdict(list)
+    width = 3 * decoding_error(point)
+    cells: Dict[Cell, List[int]] = defaultdict(list)
     least = min((math.cos(math.radians(lat)) for _, lat in roads.nodes.values()), default=1.0)
     for number, (lon, lat) in sorted(roads.nodes.items()):
         column, row = math.floor(lon * least / width), math.floor(lat / width)
@@ -193,7 +207,7 @@ def nodes_near(roads, point):
         cells[column, row].append(number)
 
 
-def dead_ends(roads):
+def dead_ends(roads: RoadMap) -> Iterator[Finding]:
     """Nodes with only entering or only leaving lines, and nodes without lines."""
     for node in sorted(roads.nodes):
         entering, leaving = roads.entering.get(node, []), roads.leaving.get(node, [])
@@ -205,9 +219,10 @@ def dead_ends(roads):
             yield Finding("one-way-dead-end", tuple(leaving), (node,), f"node {node}: line {leaving[0]} leaves, none enters")
 
 
-def parts(roads):
+def parts(roads: RoadMap) -> Iterator[Finding]:
     """The parts of the map that are not connected to the largest one; a node without lines is no part."""
-    beside, seen, found = neighbours(roads), set(), []
+    beside, found = neighbours(roads), []
+    seen: Set[int] = set()
     for node in sorted(beside):
         if node not in seen:
             seen.add(node)

@@ -6,68 +6,23 @@
 
 Coordinates are degrees; lengths, distances and offsets metres; bearings degrees, clockwise from north.
 """
-import base64
-import binascii
 import functools
-import heapq
 import itertools
 import math
 from collections import defaultdict
-from typing import NamedTuple
+from typing import Callable, Dict, Iterable, Iterator, List, NamedTuple, Optional, Sequence, Set, Tuple, TypeVar, Union
 
-from .command import USAGE, Failure
-from .geo import METRES, Point, Reference, angle_between, direction, distance, on_piece, scale
+from .geo import METRES, Degrees, angle_between, between, direction, distance, on_piece, scale
+from .records import State
+from .routes import Search, Step
+from .strings import Point, Reference
 
 CELL = 0.002  # degrees, the width of a cell of the grid
-STEP_24 = 360 / 2**24  # degrees, the step of the first point's coordinates
-STEP_16 = 1e-5  # degrees, the step of a further point's coordinates
 
-
-class TextError(Failure):
-    """A text that is not a line location of version 3."""
-
-    def __init__(self, text):
-        super().__init__(USAGE, text)
-
-
-def read_reference(text):
-    """The reference in a base64 text."""
-    try:
-        data = base64.b64decode(text.encode(), validate=True)
-    except (ValueError, binascii.Error):
-        raise TextError(f"{text}: not base64") from None
-    count, more = divmod(len(data) - 16, 7)
-    if len(data) < 16 or more > 2 or data[0] != 0x0B:
-        raise TextError(f"{text}: not a line location of version 3")
-    size = len(data) - more
-    flags = data[size - 1] >> 5 & 3
-    if bin(flags).count("1") != more:
-        raise TextError(f"{text}: its offset flags and its length disagree")
-    at, points = (degrees_24(data[1:4]), degrees_24(data[4:7])), []
-    for k in range(count + 2):
-        begin = 7 + 7 * k
-        if k:
-            at = (at[0] + signed(data[begin - 4 : begin - 2]) * STEP_16, at[1] + signed(data[begin - 2 : begin]) * STEP_16)
-        points.append(point_of(at, data[begin : begin + 3] if k <= count else data[begin : begin + 2]))
-    offsets = iter(data[size:])
-    return Reference(tuple(points), *(next(offsets) if flags & bit else None for bit in (2, 1)))
-
-
-def signed(data):
-    """A whole number in two's complement."""
-    return int.from_bytes(data, "big", signed=True)
-
-
-def degrees_24(data):
-    """The centre of the interval of degrees that a 24-bit number stands for."""
-    number = signed(data)
-    return (number - (number > 0) * 0.5 + (number < 0) * 0.5) * STEP_24
-
-
-def point_of(at, data):
-    """A point by its coordinates and its two or three bytes of attributes."""
-    more = (data[1] >> 5, data[2]) if len(data) == 3 else ()
-    return Point(*at, data[0] >> 3 & 7, data[0] & 7, data[1] & 31, *more)
+Cell = Tuple[int, int]
+Box = Tuple[float, float, float, float]  # west, south, east, north
+Shape = Sequence[Tuple[float, float, float]]  # distance along a line, longitude and latitude
+Content = TypeVar("Content")
 
 
 # ---- the map
@@ -81,63 +36,68 @@ class Road(NamedTuple):
     frc: int
     fow: int
     length: float
-    points: tuple
+    points: Tuple[Tuple[float, float, float], ...]
 
 
 class RoadMap:
     """Lines by number, those that leave and enter each node, and a grid over both, which is made when it is first asked for."""
 
-    def __init__(self, nodes, lines):
+    def __init__(self, nodes: Dict[int, Degrees], lines: Dict[int, Road]):
         self.nodes, self.lines = nodes, lines
-        self.leaving, self.entering = defaultdict(list), defaultdict(list)
+        self.leaving: Dict[int, List[int]] = defaultdict(list)
+        self.entering: Dict[int, List[int]] = defaultdict(list)
         for number, road in lines.items():
             self.leaving[road.start].append(number)
             self.entering[road.end].append(number)
 
     @functools.cached_property
-    def node_cells(self):
+    def node_cells(self) -> Dict[Cell, List[int]]:
         """The nodes in each cell of the grid."""
         cells = defaultdict(list)
-        for number, (lon, lat) in self.nodes.items():
-            cells[int(lon // CELL), int(lat // CELL)].append(number)
+        for number, place in self.nodes.items():
+            cells[cell_of(place)].append(number)
         return cells
 
     @functools.cached_property
-    def line_cells(self):
-        """The lines in each cell of the grid, each with its box: west, south, east, north."""
-        cells = defaultdict(dict)
+    def line_cells(self) -> Dict[Cell, Dict[int, Box]]:
+        """The lines in each cell of the grid, each with its box."""
+        cells: Dict[Cell, Dict[int, Box]] = defaultdict(dict)
         for number, road in self.lines.items():
             _, lons, lats = zip(*road.points)
             box = min(lons), min(lats), max(lons), max(lats)
-            for (_, *a), (_, *b) in zip(road.points, road.points[1:]):
-                for cell in cells_along(a, b):
+            for a, b in zip(road.points, road.points[1:]):
+                for cell in cells_along(a[1:], b[1:]):
                     cells[cell][number] = box
         return cells
 
     @classmethod
-    def of_state(cls, state):
+    def of_state(cls, state: State) -> "RoadMap":
         """The map of a state that `records.read_state` gave. It is made from the texts of the records: a decimal of a coordinate
         is the same number as its whole units divided by their number."""
-        nodes = {number: tuple(map(float, text.split(","))) for number, text in state.nodes.text.items()}
+        nodes = {}
+        for number, text in state.nodes.text.items():
+            lon, lat = text.split(",")
+            nodes[number] = float(lon), float(lat)
         return cls(nodes, {number: road_of(text, nodes) for number, text in state.lines.text.items()})
 
-    def near(self, cells, lon, lat, radius):
+    def near(self, cells: Dict[Cell, Content], lon: float, lat: float, radius: float) -> Iterator[Content]:
         """The contents of each cell within a radius of a coordinate."""
         east, north = radius / scale(lat), radius / METRES
         columns = range(int((lon - east) // CELL), int((lon + east) // CELL) + 1)
         rows = range(int((lat - north) // CELL), int((lat + north) // CELL) + 1)
-        return filter(None, map(cells.get, itertools.product(columns, rows)))
+        return (cells[it] for it in itertools.product(columns, rows) if it in cells)
 
-    def nodes_near(self, lon, lat, radius):
+    def nodes_near(self, lon: float, lat: float, radius: float) -> List[Tuple[int, float]]:
         """The nodes within a radius of a coordinate, each with its distance, in ascending order."""
         numbers = sorted(it for cell in self.near(self.node_cells, lon, lat, radius) for it in cell)
         pairs = ((it, distance((lon, lat), self.nodes[it])) for it in numbers)
         return [(it, far) for it, far in pairs if far <= radius]
 
-    def lines_near(self, lon, lat, radius):
+    def lines_near(self, lon: float, lat: float, radius: float) -> List[Tuple[int, float, float]]:
         """The lines within a radius of a coordinate, each with its distance and the position of its nearest point, in ascending
         order."""
-        east, north, found = radius / scale(lat), radius / METRES, {}
+        east, north = radius / scale(lat), radius / METRES
+        found: Dict[int, Tuple[float, float]] = {}
         for cell in self.near(self.line_cells, lon, lat, radius):
             for it, (west, south, other_east, other_north) in cell.items():
                 if west - east <= lon <= other_east + east and south - north <= lat <= other_north + north and it not in found:
@@ -145,25 +105,29 @@ class RoadMap:
         return [(it, far, at) for it, (far, at) in sorted(found.items()) if far <= radius]
 
 
-def road_of(text, nodes):
+def road_of(text: str, nodes: Dict[int, Degrees]) -> Road:
     """The line with these fields of a record, in metres and degrees."""
     start, end, frc, fow, length, *rest = text.split(",")
-    start, end, length, inner = int(start), int(end), int(length) / 10, ()
-    if rest:
-        inner = zip([int(it) / 10 for it in rest[::3]], map(float, rest[1::3]), map(float, rest[2::3]))
-    return Road(start, end, int(frc), int(fow), length, ((0.0, *nodes[start]), *inner, (length, *nodes[end])))
+    first, last, metres = int(start), int(end), int(length) / 10
+    inner = zip((int(it) / 10 for it in rest[::3]), map(float, rest[1::3]), map(float, rest[2::3])) if rest else ()
+    return Road(first, last, int(frc), int(fow), metres, ((0.0, *nodes[first]), *inner, (metres, *nodes[last])))
 
 
-def pieces(a, b):
+def cell_of(place: Degrees) -> Cell:
+    """The cell of the grid that has a coordinate."""
+    return int(place[0] // CELL), int(place[1] // CELL)
+
+
+def pieces(a: Degrees, b: Degrees) -> Iterable[Tuple[Degrees, Degrees]]:
     """The parts of a straight segment, none wider or higher than a cell of the grid, as pairs of coordinates."""
     count = max(1, math.ceil(max(abs(b[0] - a[0]), abs(b[1] - a[1])) / CELL))
     if count == 1:
         return ((a, b),)
-    stops = [(a[0] + (b[0] - a[0]) * k / count, a[1] + (b[1] - a[1]) * k / count) for k in range(count + 1)]
+    stops = [between(a, b, k / count) for k in range(count + 1)]
     return zip(stops, stops[1:])
 
 
-def cells_along(a, b):
+def cells_along(a: Degrees, b: Degrees) -> Iterator[Cell]:
     """The cells of the grid that a straight segment passes, and some neighbours."""
     for p, q in pieces(a, b):
         for x in {int(p[0] // CELL), int(q[0] // CELL)}:
@@ -174,33 +138,32 @@ def cells_along(a, b):
 # ---- geometry of roads
 
 
-def shape_length(points):
+def shape_length(points: Shape) -> float:
     """The length of a shape along its straight segments."""
     return sum(distance(a[1:], b[1:]) for a, b in zip(points, points[1:]))
 
 
-def place(road, at):
+def place(road: Road, at: float) -> Degrees:
     """The coordinate at this distance along a line."""
-    for (d, *a), (e, *b) in zip(road.points, road.points[1:]):
-        if at <= e:
-            part = max(0.0, (at - d) / (e - d))
-            return a[0] + (b[0] - a[0]) * part, a[1] + (b[1] - a[1]) * part
+    for a, b in zip(road.points, road.points[1:]):
+        if at <= b[0]:
+            return between(a[1:], b[1:], max(0.0, (at - a[0]) / (b[0] - a[0])))
     return road.points[-1][1:]
 
 
-def bearing(road, at, is_last, length=20.0):
+def bearing(road: Road, at: float, is_last: bool, length: float = 20.0) -> float:
     """The bearing from a position on a line to the one 20 m along it, or 20 m back for a last point, or to the line's end."""
     other = max(0.0, at - length) if is_last else min(road.length, at + length)
     return direction(place(road, at), place(road, other))
 
 
-def project(road, lon, lat):
+def project(road: Road, lon: float, lat: float) -> Tuple[float, float]:
     """The distance of a coordinate from a line, and the position of the nearest point along the line."""
     best = (math.inf, 0.0)
-    for (d, *a), (e, *b) in zip(road.points, road.points[1:]):
-        far, part = on_piece(a, b, lon, lat)
+    for a, b in zip(road.points, road.points[1:]):
+        far, share = on_piece(a[1:], b[1:], lon, lat)
         if far < best[0]:
-            best = (far, d + (e - d) * part)
+            best = (far, a[0] + (b[0] - a[0]) * share)
     return best
 
 
@@ -211,11 +174,12 @@ class Rules(NamedTuple):
     """The weights and limits of a receiver; `RULES` has two sets. Each rating and each score is between 0 and 1."""
 
     radius: float  # the greatest distance of a candidate from the point
-    weights: tuple  # of distance, class, form and bearing; together 1
+    weights: Tuple[float, ...]  # of distance, class, form and bearing; together 1
     least: float  # the least rating of a candidate
-    class_scores: tuple  # by the difference of the classes
-    form_scores: tuple  # by the form of the point, and then that of the line
-    bearing_scores: tuple  # (degrees, score) up to each of these differences, in ascending order; empty: 1 - degrees / 180
+    class_scores: Tuple[float, ...]  # by the difference of the classes
+    form_scores: Tuple[Tuple[float, ...], ...]  # by the form of the point, and then that of the line
+    # (degrees, score) up to each of these differences, in ascending order; empty: 1 - degrees / 180
+    bearing_scores: Tuple[Tuple[float, float], ...]
     bearing_limit: float  # the greatest difference of bearings of a candidate
     class_variance: int  # how much lower than LFRCNP a line of a route may be
     dnp_share: float  # the share by which a route may be longer or shorter than the distance to the next point
@@ -264,11 +228,19 @@ class Candidate(NamedTuple):
     bearing: float
 
 
-def candidates(roads, point, is_last, rules):
+class Position(NamedTuple):
+    """A position along a line, and how far away a point is."""
+
+    line: int
+    at: float
+    far: float
+
+
+def candidates(roads: RoadMap, point: Point, is_last: bool, rules: Rules) -> Tuple[List[Candidate], int]:
     """The candidates of a point, the best first, and the number of rated lines."""
-    ways, count = (by_nodes, by_shape) if rules.nodes_first else (by_shape,), 0
-    for places in ways:
-        rated = [rate(roads, point, is_last, rules, *it) for it in places(roads, point, is_last, rules)]
+    count, good = 0, []
+    for positions in (by_nodes, by_shape) if rules.nodes_first else (by_shape,):
+        rated = [rate(roads, point, is_last, rules, it) for it in positions(roads, point, is_last, rules)]
         good = [it for it in rated if it.rating >= rules.least and it.bearing <= rules.bearing_limit]
         count = max(count, len(rated))
         if good:
@@ -276,112 +248,98 @@ def candidates(roads, point, is_last, rules):
     return sorted(good, key=lambda it: (-it.rating, it.line)), count
 
 
-def by_nodes(roads, point, is_last, rules):
+def by_nodes(roads: RoadMap, point: Point, is_last: bool, rules: Rules) -> Iterator[Position]:
     """Lines that leave (for the last point: enter) a node within the radius."""
     sides = roads.entering if is_last else roads.leaving
     for node, far in roads.nodes_near(point.lon, point.lat, rules.radius):
         for line in sides[node]:
-            yield line, roads.lines[line].length if is_last else 0.0, far
+            yield Position(line, roads.lines[line].length if is_last else 0.0, far)
 
 
-def by_shape(roads, point, is_last, rules):
+def by_shape(roads: RoadMap, point: Point, is_last: bool, rules: Rules) -> Iterator[Position]:
     """Lines whose shape is within the radius, from their position nearest to the point."""
     for line, far, at in roads.lines_near(point.lon, point.lat, rules.radius):
         road = roads.lines[line]
         end = road.length if is_last else 0.0
         if abs(at - end) <= rules.snap:
-            yield line, end, distance((point.lon, point.lat), place(road, end))
+            yield Position(line, end, distance((point.lon, point.lat), place(road, end)))
         elif abs(road.length - end - at) > rules.snap:
-            yield line, at, far
+            yield Position(line, at, far)
 
 
-def rate(roads, point, is_last, rules, line, at, far):
+def rate(roads: RoadMap, point: Point, is_last: bool, rules: Rules, it: Position) -> Candidate:
     """A candidate with its rating."""
-    road = roads.lines[line]
-    turned = angle_between(bearing(road, at, is_last), point.bearing)
+    road = roads.lines[it.line]
+    turned = angle_between(bearing(road, it.at, is_last), point.bearing)
     steps = (score for limit, score in rules.bearing_scores if turned <= limit)
     scores = (
-        max(0.0, 1 - far / rules.radius),
+        max(0.0, 1 - it.far / rules.radius),
         rules.class_scores[abs(road.frc - point.frc)],
         rules.form_scores[point.fow][road.fow],
         next(steps, 0.0) if rules.bearing_scores else 1 - turned / 180,
     )
-    return Candidate(sum(a * b for a, b in zip(rules.weights, scores)), line, at, far, turned)
+    return Candidate(sum(a * b for a, b in zip(rules.weights, scores)), it.line, it.at, it.far, turned)
 
 
 # ---- routes
 
 
-class Search:
-    """Dijkstra's algorithm from the end of a line, over lines whose class is at most a limit; each call continues the search."""
-
-    def __init__(self, roads, start, lowest):
-        self.roads, self.lowest = roads, lowest
-        self.far, self.last, self.settled, self.heap = {start: 0.0}, {}, set(), [(0.0, start)]
-
-    def to(self, node, limit):
-        """The length of the shortest route to a node, or None if it is beyond the limit."""
-        while node not in self.settled and self.heap and self.heap[0][0] <= limit:
-            far, here = heapq.heappop(self.heap)
-            if here in self.settled:
-                continue
-            self.settled.add(here)
-            for line in self.roads.leaving[here]:
-                road = self.roads.lines[line]
-                further = far + road.length
-                if road.frc <= self.lowest and further < self.far.get(road.end, math.inf):
-                    self.far[road.end], self.last[road.end] = further, line
-                    heapq.heappush(self.heap, (further, road.end))
-        return self.far[node] if node in self.settled and self.far[node] <= limit else None
-
-    def lines_to(self, node):
-        """The lines of that route."""
-        lines = []
-        while node in self.last and self.far[node] > 0:
-            lines.append(self.last[node])
-            node = self.roads.lines[lines[-1]].start
-        return lines[::-1]
-
-
 class Leg(NamedTuple):
     """A route between two candidates: the lines after that of the first one, up to that of the second, and its length."""
 
-    lines: list
+    lines: List[int]
     length: float
+
+
+class NoLeg(NamedTuple):
+    """Why there is no route between two candidates: `no route` or `another length`, and a text."""
+
+    kind: str
+    why: str
 
 
 class Router:
     """Routes for one string, by its rules. Searches are cached, since many candidates share a node."""
 
-    def __init__(self, roads, rules):
-        self.roads, self.rules, self.searches = roads, rules, {}
+    def __init__(self, roads: RoadMap, rules: Rules):
+        self.roads, self.rules = roads, rules
+        self.searches: Dict[Tuple[int, int], Search] = {}
 
-    def bounds(self, point):
+    def bounds(self, point: Point) -> Tuple[float, float]:
         """The least and the greatest length of the route after a point."""
         more = point.next_m * self.rules.dnp_share + self.rules.dnp_metres
         return point.next_m - more, point.next_m + more
 
-    def route(self, point, a, b):
-        """The leg from one candidate to the next, or the kind and the text of why there is none."""
+    def search(self, start: int, lowest: int) -> Search:
+        """The search from a node over lines whose class is at most a limit."""
+        lines, leaving = self.roads.lines, self.roads.leaving
+
+        def steps(node: int) -> Iterator[Step]:
+            for it in leaving[node]:
+                road = lines[it]
+                if road.frc <= lowest:
+                    yield it, road.end, road.length
+
+        if (start, lowest) not in self.searches:
+            self.searches[start, lowest] = Search(start, steps)
+        return self.searches[start, lowest]
+
+    def route(self, point: Point, a: Candidate, b: Candidate) -> Union[Leg, NoLeg]:
+        """The leg from one candidate to the next, or why there is none."""
         least, most = self.bounds(point)
-        road, lowest = self.roads.lines[a.line], point.lfrcnp + self.rules.class_variance
+        road, lowest = self.roads.lines[a.line], (point.lfrcnp or 0) + self.rules.class_variance
         if a.line == b.line and a.at < b.at:
             leg = Leg([], b.at - a.at)
         else:
-            key = road.end, lowest
-            if key not in self.searches:
-                self.searches[key] = Search(self.roads, *key)
-            search = self.searches[key]
-            ends = road.length - a.at + b.at
-            target = self.roads.lines[b.line].start
-            between = search.to(target, most - ends)
-            if between is None:
+            search, target, ends = self.search(road.end, lowest), self.roads.lines[b.line].start, road.length - a.at + b.at
+            between_ends = search.to(target, most - ends)
+            if between_ends is None:
                 how = f"of at most {most:.0f} m over classes 0 to {min(7, lowest)}"
-                return "no route", f"no route {how} from line {a.line} to line {b.line}"
-            leg = Leg([*search.lines_to(target), b.line], ends + between)
+                return NoLeg("no route", f"no route {how} from line {a.line} to line {b.line}")
+            leg = Leg([*search.lines_to(target), b.line], ends + between_ends)
         if not least <= leg.length <= most:
             how = f"{leg.length:.0f} m and not {max(0, least):.0f} to {most:.0f} m"
-            return "another length", f"the route from line {a.line} to line {b.line} is of {how}"
+            return NoLeg("another length", f"the route from line {a.line} to line {b.line} is of {how}")
         return leg
 
 
@@ -393,15 +351,15 @@ class Found(NamedTuple):
     first and the last point, the positions of these two points on the first and the last line, the chosen candidates, the
     second best of each point or None, and the length of each leg."""
 
-    lines: list
+    lines: List[int]
     positive: float
     negative: float
-    whole: list
+    whole: List[int]
     begin: float
     end: float
-    taken: list
-    second: list
-    lengths: list
+    taken: List[Candidate]
+    second: List[Optional[Candidate]]
+    lengths: List[float]
 
 
 class Failed(NamedTuple):
@@ -412,8 +370,15 @@ class Failed(NamedTuple):
     why: str
 
 
-def decode(roads, reference, rules):
-    """Decodes a reference on a map: a `Found` or a `Failed`."""
+class Joined(NamedTuple):
+    """One candidate for each point, and the legs between them."""
+
+    taken: List[Candidate]
+    legs: List[Leg]
+
+
+def decode(roads: RoadMap, reference: Reference, rules: Rules) -> Union[Found, Failed]:
+    """Decodes a reference on a map."""
     points = reference.points
     ranked = []
     for k, point in enumerate(points):
@@ -423,84 +388,90 @@ def decode(roads, reference, rules):
             return Failed(k, "no candidate", why.format(f"{rules.radius:g}"))
         ranked.append(good)
     joined = joined_candidates(Router(roads, rules), points, ranked)
-    if isinstance(joined, Failed):
-        return joined
-    taken, legs = joined
-    second = [next((it for it in good if it.line != one.line), None) for good, one in zip(ranked, taken)]
-    return cut(roads, reference, taken, second, legs)
+    return joined if isinstance(joined, Failed) else cut(roads, reference, joined, ranked)
 
 
-def pairs_of(starts, ends, rules):
+Pair = Tuple[Candidate, Candidate]
+
+
+def pairs_of(starts: List[Candidate], ends: List[Candidate], rules: Rules) -> Iterator[Pair]:
     """Pairs of candidates, the best rated first."""
 
-    def rating(pair):
+    def rating(pair: Pair) -> float:
         a, b = pair
         return (a.rating + b.rating) * (1 - rules.same_line * (a.line == b.line))
 
     return iter(sorted(itertools.product(starts, ends), key=lambda it: -rating(it))[: rules.pairs])
 
 
-def joined_candidates(router, points, ranked):
+def joined_candidates(router: Router, points: Sequence[Point], ranked: List[List[Candidate]]) -> Union[Joined, Failed]:
     """One candidate for each point and the legs between them. If a leg has no route, the leg before it is tried with its next
     pair (backtracking); a candidate from which the rest failed is not tried again."""
-    waiting, taken, legs, dead = [pairs_of(ranked[0], ranked[1], router.rules)], [], [], set()
-    deepest = Failed(0, "no route", "")
+    waiting, deepest = [pairs_of(ranked[0], ranked[1], router.rules)], Failed(0, "no route", "")
+    taken: List[Pair] = []
+    legs: List[Leg] = []
+    dead: Set[Tuple[int, Candidate]] = set()
     while waiting:
-        k = len(waiting) - 1
-        a, b = next(waiting[-1], (None, None))
-        if a is None:
+        k, pair = len(waiting) - 1, next(waiting[-1], None)
+        if pair is None:
             waiting.pop()
             if taken:
                 dead.add((k, taken.pop()[1]))
                 legs.pop()
             continue
-        if (k + 1, b) in dead:
+        if (k + 1, pair[1]) in dead:
             continue
-        leg = router.route(points[k], a, b)
-        if not isinstance(leg, Leg):
+        leg = router.route(points[k], *pair)
+        if isinstance(leg, NoLeg):
             if k > deepest.point or not deepest.why:
-                deepest = Failed(k, leg[0], f"to point {k + 1}: {leg[1]}")
+                deepest = Failed(k, leg.kind, f"to point {k + 1}: {leg.why}")
             continue
-        taken.append((a, b))
+        taken.append(pair)
         legs.append(leg)
         if k + 2 == len(points):
-            return [taken[0][0], *(b for _, b in taken)], legs
-        waiting.append(pairs_of([b], ranked[k + 2], router.rules))
+            return Joined([taken[0][0], *(b for _, b in taken)], legs)
+        waiting.append(pairs_of([pair[1]], ranked[k + 2], router.rules))
     return deepest
 
 
-def cut(roads, reference, taken, second, legs):
+def within(roads: RoadMap, lines: Sequence[int], begin: float, back: float) -> Tuple[List[int], float, float]:
+    """Lines without those that are cut off whole by metres at the start and at the end, and what is cut off the others."""
+    left = list(lines)
+    while len(left) > 1 and begin >= roads.lines[left[0]].length:
+        begin -= roads.lines[left.pop(0)].length
+    while len(left) > 1 and back >= roads.lines[left[-1]].length:
+        back -= roads.lines[left.pop()].length
+    return left, begin, back
+
+
+def cut(roads: RoadMap, reference: Reference, joined: Joined, ranked: List[List[Candidate]]) -> Found:
     """The whole route with its offsets cut off, each in the middle of its interval."""
-    whole = [taken[0].line, *(line for it in legs for line in it.lines)]
-    begin, end = taken[0].at, taken[-1].at
+    taken, legs = joined
+    whole, begin, end = [taken[0].line, *(line for it in legs for line in it.lines)], taken[0].at, taken[-1].at
     lengths, (positive, negative) = [it.length for it in legs], reference.shares
-    lines, first = whole, begin + sum(positive) / 2 * lengths[0]
-    while len(lines) > 1 and first >= roads.lines[lines[0]].length:
-        first -= roads.lines[lines[0]].length
-        lines = lines[1:]
-    last = roads.lines[lines[-1]].length - end + sum(negative) / 2 * lengths[-1]
-    while len(lines) > 1 and last >= roads.lines[lines[-1]].length:
-        last -= roads.lines[lines[-1]].length
-        lines = lines[:-1]
+    first = begin + sum(positive) / 2 * lengths[0]
+    last = roads.lines[whole[-1]].length - end + sum(negative) / 2 * lengths[-1]
+    lines, first, last = within(roads, whole, first, last)
+    second = [next((it for it in good if it.line != one.line), None) for good, one in zip(ranked, taken)]
     return Found(lines, first, last, whole, begin, end, taken, second, lengths)
 
 
 # ---- the sets of rules as a table
 
 
-def numbers(values):
+def numbers(values: Iterable[float]) -> str:
     """Numbers as a text, with two decimals."""
     return ", ".join(f"{it:.2f}".rstrip("0").rstrip(".") for it in values)
 
 
-def bearings_text(rules):
+def bearings_text(rules: Rules) -> str:
     """The score of a difference of bearings, as a text."""
     if not rules.bearing_scores:
         return "1 - difference / 180"
     return ", ".join(f"{score:g} to {limit:g} degrees" for limit, score in rules.bearing_scores)
 
 
-ROWS = (
+ROWS: Sequence[Tuple[str, Callable[[Rules], str], str]] = (
     ("candidate lines", lambda it: "at nodes within `radius`, else by shape" if it.nodes_first else "by shape",
      "White Paper, candidate nodes and direct search; dereferencer: projection on each line"),
     ("`radius`, in m", lambda it: f"{it.radius:g}", "greatest distance of a node; search radius"),
@@ -529,7 +500,7 @@ ROWS = (
 )
 
 
-def rule_sets():
+def rule_sets() -> str:
     """The two sets of rules as a table."""
     lines = ["| rule | " + " | ".join(f"`{name}`" for name in RULES) + " | from |", "|---|---|---|---|"]
     lines += [f"| {name} | " + " | ".join(text(it) for it in RULES.values()) + f" | {source} |" for name, text, source in ROWS]

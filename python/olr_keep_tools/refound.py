@@ -1,10 +1,12 @@
 """Whether a receiver recovers a path, and if not, why; and maps that differ from the publisher's like a receiver's map."""
 import math
 import random
-from typing import NamedTuple
+from typing import Dict, Iterator, List, NamedTuple, Optional, Sequence, Set, Tuple, Union
 
-from .geo import METRES, distance, on_piece, scale
-from .receiver import Failed, Road, RoadMap, cells_along, decode, place, shape_length
+from .geo import METRES, Degrees, between, distance, on_piece, scale
+from .receiver import Cell, Failed, Found, Road, RoadMap, Rules, cells_along, decode, place, shape_length, within
+from .records import Path
+from .strings import Reference
 
 SHORT = 5.0  # metres; shorter lines are below the precision of the coordinates of a string
 UNDER_5_M = "a line under 5 m"
@@ -17,39 +19,34 @@ APART = 30.0  # metres; up to here two shapes are the same road
 class Location(NamedTuple):
     """Lines, the position on the first of them at which the location begins, and that on the last at which it ends."""
 
-    lines: list
+    lines: List[int]
     begin: float
     end: float
 
 
-def location_of(roads, path):
+Parts = Dict[int, List[int]]  # the lines that a line became on another map; none if it is missing there
+
+
+def location_of(roads: RoadMap, path: Path) -> Location:
     """The part of a registered path between its offsets. Its lines have to be on the map."""
-    lines, begin, back = list(path.lines), path.positive / 10, path.negative / 10
-    while len(lines) > 1 and begin >= roads.lines[lines[0]].length:
-        begin -= roads.lines[lines.pop(0)].length
-    while len(lines) > 1 and back >= roads.lines[lines[-1]].length:
-        back -= roads.lines[lines.pop()].length
+    lines, begin, back = within(roads, path.lines, path.positive / 10, path.negative / 10)
     return Location(lines, begin, roads.lines[lines[-1]].length - back)
 
 
-def carried(location, old, new, parts):
+def carried(location: Location, old: RoadMap, new: RoadMap, parts: Parts) -> Optional[Location]:
     """The location on another map, or None if one of its lines is missing there."""
-    if any(parts[it] is None for it in location.lines):
+    if not all(parts[it] for it in location.lines):
         return None
-    head, tail = parts[location.lines[0]], parts[location.lines[-1]]
-    begin = location.begin / old.lines[location.lines[0]].length * sum(new.lines[it].length for it in head)
-    after = (1 - location.end / old.lines[location.lines[-1]].length) * sum(new.lines[it].length for it in tail)
-    lines = [part for it in location.lines for part in parts[it]]
-    while len(lines) > 1 and begin >= new.lines[lines[0]].length:
-        begin -= new.lines[lines.pop(0)].length
-    while len(lines) > 1 and after >= new.lines[lines[-1]].length:
-        after -= new.lines[lines.pop()].length
+    first, last = location.lines[0], location.lines[-1]
+    begin = location.begin / old.lines[first].length * sum(new.lines[it].length for it in parts[first])
+    after = (1 - location.end / old.lines[last].length) * sum(new.lines[it].length for it in parts[last])
+    lines, begin, after = within(new, [part for it in location.lines for part in parts[it]], begin, after)
     return Location(lines, begin, new.lines[lines[-1]].length - after)
 
 
-def cut_out(roads, location):
+def cut_out(roads: RoadMap, location: Location) -> List[Degrees]:
     """The coordinates of a location, from its start to its end."""
-    coordinates = []
+    coordinates: List[Degrees] = []
     for k, number in enumerate(location.lines):
         road = roads.lines[number]
         begin = location.begin if k == 0 else 0.0
@@ -62,13 +59,13 @@ def cut_out(roads, location):
 # ---- comparing
 
 
-def index_of(whole, lines):
+def index_of(whole: List[int], lines: List[int]) -> Optional[int]:
     """The index at which the lines are consecutive in the whole, or None."""
     starts = (k for k, it in enumerate(whole) if it == lines[0] and whole[k : k + len(lines)] == lines)
     return next(starts, None)
 
 
-def is_same(roads, reference, found, location, slack):
+def is_same(roads: RoadMap, reference: Reference, found: Found, location: Location, slack: float) -> bool:
     """Whether the whole route contains the location's lines, and the offsets' intervals contain its ends."""
     k = index_of(found.whole, location.lines)
     if k is None:
@@ -82,21 +79,22 @@ def is_same(roads, reference, found, location, slack):
     )
 
 
-def farthest(coordinates, others):
+def farthest(coordinates: Sequence[Degrees], others: Sequence[Degrees]) -> float:
     """The greatest distance of a shape from another one, sampled every 10 m."""
-    cells, worst = {}, 0.0
+    cells: Dict[Cell, List[int]] = {}
+    worst = 0.0
     for k, (a, b) in enumerate(zip(others, others[1:])):
         for cell in cells_along(a, b):
             cells.setdefault(cell, []).append(k)
     for a, b in zip(coordinates, coordinates[1:]):
         count = max(1, math.ceil(distance(a, b) / 10))
-        for lon, lat in ((a[0] + (b[0] - a[0]) * k / count, a[1] + (b[1] - a[1]) * k / count) for k in range(count + 1)):
+        for lon, lat in (between(a, b, k / count) for k in range(count + 1)):
             near = {k for cell in cells_along((lon - 4e-4, lat - 4e-4), (lon + 4e-4, lat + 4e-4)) for k in cells.get(cell, ())}
             worst = max(worst, min((on_piece(others[k], others[k + 1], lon, lat)[0] for k in near), default=math.inf))
     return worst
 
 
-def is_near(reference, found, shape, other):
+def is_near(reference: Reference, found: Found, shape: Sequence[Degrees], other: Sequence[Degrees]) -> bool:
     """Whether two shapes follow each other, and their ends are as near as the offsets' intervals allow."""
     more = ((high - low) * leg / 2 for (low, high), leg in zip(reference.shares, (found.lengths[0], found.lengths[-1])))
     ends = ((shape[0], other[0]), (shape[-1], other[-1]))
@@ -109,24 +107,34 @@ def is_near(reference, found, shape, other):
 VERDICTS = ("same lines", "same road", "elsewhere", "not decoded")
 
 
-def verdict(roads, reference, found, location, shape, slack):
-    """How a path was recovered: one of VERDICTS. `location` is None if one of its lines is missing; `shape` is that of the
-    publisher's path."""
+class Published(NamedTuple):
+    """A path that is looked for on a map: its reference, its location there, None if one of its lines is missing, its shape on the
+    publisher's map, and by how many metres its ends may be off."""
+
+    reference: Reference
+    location: Optional[Location]
+    shape: Sequence[Degrees]
+    slack: float
+
+
+def verdict(roads: RoadMap, path: Published, found: Union[Found, Failed]) -> str:
+    """How a path was recovered: one of VERDICTS."""
     if isinstance(found, Failed):
         return "not decoded"
-    if location and is_same(roads, reference, found, location, slack):
+    if path.location and is_same(roads, path.reference, found, path.location, path.slack):
         return "same lines"
     ended = Location(found.lines, found.positive, roads.lines[found.lines[-1]].length - found.negative)
-    return "same road" if is_near(reference, found, cut_out(roads, ended), shape) else "elsewhere"
+    return "same road" if is_near(path.reference, found, path.shape, cut_out(roads, ended)) else "elsewhere"
 
 
-def are_twins(a, b):
+def are_twins(a: Road, b: Road) -> bool:
     """Whether two lines have the same ends, class, form and, within a metre, length."""
     return a[:4] == b[:4] and abs(a.length - b.length) <= 1
 
 
-def cause(roads, reference, rules, found, location):
+def cause(roads: RoadMap, path: Published, rules: Rules, found: Union[Found, Failed]) -> str:
     """Why a path was not recovered as the same lines."""
+    reference, location = path.reference, path.location
     if location is None:
         return "a line is missing"
     if isinstance(found, Failed):
@@ -149,25 +157,26 @@ def cause(roads, reference, rules, found, location):
     return "a class above LFRCNP" if is_by_class(roads, reference, rules, location) else "another route"
 
 
-def is_by_class(roads, reference, rules, location):
+def is_by_class(roads: RoadMap, reference: Reference, rules: Rules, location: Location) -> bool:
     """Whether the path would be recovered if routes could use lines of any class."""
     found = decode(roads, reference, rules._replace(class_variance=7))
     return not isinstance(found, Failed) and index_of(found.whole, location.lines) is not None
 
 
-def has_short(roads, lines, nodes):
+def has_short(roads: RoadMap, lines: Sequence[int], nodes: Set[int]) -> bool:
     """Whether one of the lines is short and begins or ends at one of the nodes."""
     return any(roads.lines[it].length < SHORT and nodes & set(roads.lines[it][:2]) for it in lines)
 
 
-def mistaken_points(roads, reference, found, location):
+def mistaken_points(roads: RoadMap, reference: Reference, found: Found, location: Location) -> Iterator[Tuple[Road, Road]]:
     """The points at which another line was chosen than that of the location: the two lines of each. A first or last point is
     included only if its line is nearer than the chosen one, since the ends of the location may be beyond it."""
     last = len(reference.points) - 1
     for k, (point, taken) in enumerate(zip(reference.points, found.taken)):
-        side = 1 if k == last else 0
-        nearest = min(location.lines, key=lambda it: distance(roads.nodes[roads.lines[it][side]], point[:2]))
-        is_near = distance(roads.nodes[roads.lines[nearest][side]], point[:2]) < max(SHORT, taken.distance)
+        ends = {it: roads.lines[it].end if k == last else roads.lines[it].start for it in location.lines}
+        far = {it: distance(roads.nodes[ends[it]], point[:2]) for it in location.lines}
+        nearest = min(location.lines, key=far.__getitem__)
+        is_near = far[nearest] < max(SHORT, taken.distance)
         if taken.line != nearest and (is_near or 0 < k < last and taken.line not in location.lines):
             yield roads.lines[nearest], roads.lines[taken.line]
 
@@ -185,60 +194,71 @@ class Shake(NamedTuple):
     missing: float = 0.0
     classes: float = 10.0
 
-    def title(self):
+    def title(self) -> str:
         return f"{self.metres:g} m, {self.split:g} % split, {self.missing:g} % missing, {self.classes:g} % classes"
 
 
-def shaken(roads, shake):
-    """The map that differs, and for each line the lines that it became there, or None if it is missing."""
-    rnd, nodes, lines, parts = random.Random(shake.seed), {}, {}, {}
-    for number in sorted(roads.nodes):
-        nodes[number] = off(rnd, roads.nodes[number], shake.metres)
-    free_node, free_line, whole = max(nodes, default=0) + 1, max(roads.lines, default=0) + 1, {}
-    for number in sorted(roads.lines):
-        road = roads.lines[number]
-        whole.setdefault((min(road[:2]), max(road[:2]), round(road.length, 1)), []).append(number)
-    for (low, high, _), numbers in whole.items():
-        is_split, is_missing, is_other, at, step = (rnd.random() for _ in range(5))
-        middle = None
-        for number in numbers:
-            road = moved(rnd, roads.lines[number], nodes, shake.metres)
-            if is_other * 100 < shake.classes:
+class Shaken:
+    """The map that differs, as it is made, and for each line the lines that it became there."""
+
+    def __init__(self, roads: RoadMap, shake: Shake):
+        self.shake, self.rnd = shake, random.Random(shake.seed)
+        self.parts: Parts = {}
+        self.nodes = {number: off(self.rnd, roads.nodes[number], shake.metres) for number in sorted(roads.nodes)}
+        self.lines: Dict[int, Road] = {}
+        self.free_node, self.free_line = max(self.nodes, default=0) + 1, max(roads.lines, default=0) + 1
+        whole: Dict[Tuple[int, int, float], List[int]] = {}
+        for number in sorted(roads.lines):
+            it = roads.lines[number]
+            whole.setdefault((min(it[:2]), max(it[:2]), round(it.length, 1)), []).append(number)
+        for numbers in whole.values():
+            self.add({it: roads.lines[it] for it in numbers})
+
+    def add(self, roads: Dict[int, Road]) -> None:
+        """Adds the lines of a road, all changed alike."""
+        is_split, is_missing, is_other, at, step = (self.rnd.random() for _ in range(5))
+        middle = self.free_node
+        for number, before in roads.items():
+            road = moved(self.rnd, before, self.nodes, self.shake.metres)
+            if is_other * 100 < self.shake.classes:
                 road = road._replace(frc=min(7, max(0, road.frc + (1 if step < 0.5 else -1))))
-            if is_missing * 100 < shake.missing:
-                parts[number] = None
-            elif is_split * 100 < shake.split and low != high:
-                part = 0.3 + 0.4 * at if road.start == low else 0.7 - 0.4 * at
-                middle = middle or (free_node, place(road, part * road.length))
-                nodes[middle[0]] = middle[1]
-                parts[number] = [free_line, free_line + 1]
-                lines.update(zip(parts[number], halves(road, part * road.length, middle)))
-                free_line += 2
+            if is_missing * 100 < self.shake.missing:
+                self.parts[number] = []
+            elif is_split * 100 < self.shake.split and road.start != road.end:
+                far = (0.3 + 0.4 * at if road.start < road.end else 0.7 - 0.4 * at) * road.length
+                self.nodes.setdefault(middle, place(road, far))
+                self.free_node = middle + 1
+                self.parts[number] = [self.free_line, self.free_line + 1]
+                self.lines.update(zip(self.parts[number], halves(road, far, middle, self.nodes[middle])))
+                self.free_line += 2
             else:
-                parts[number], lines[number] = [number], road
-        free_node += middle is not None
-    return RoadMap(nodes, lines), parts
+                self.parts[number], self.lines[number] = [number], road
 
 
-def off(rnd, at, metres):
+def shaken(roads: RoadMap, shake: Shake) -> Tuple[RoadMap, Parts]:
+    """The map that differs, and for each line the lines that it became there."""
+    made = Shaken(roads, shake)
+    return RoadMap(made.nodes, made.lines), made.parts
+
+
+def off(rnd: random.Random, at: Degrees, metres: float) -> Degrees:
     """A coordinate off by up to this many metres, in any direction."""
     far, angle = metres * rnd.random(), 2 * math.pi * rnd.random()
     return at[0] + far * math.sin(angle) / scale(at[1]), at[1] + far * math.cos(angle) / METRES
 
 
-def moved(rnd, road, nodes, metres):
+def moved(rnd: random.Random, road: Road, nodes: Dict[int, Degrees], metres: float) -> Road:
     """A line between its moved nodes, with its shape points moved and its length changed as that of its shape."""
-    inner = [(at, *off(rnd, coordinate, metres)) for at, *coordinate in road.points[1:-1]]
+    inner = [(at, *off(rnd, (lon, lat), metres)) for at, lon, lat in road.points[1:-1]]
     points = [(0.0, *nodes[road.start]), *inner, (road.length, *nodes[road.end])]
     before, after = shape_length(road.points), shape_length(points)
     ratio = after / before if before and after else 1.0
-    return road._replace(length=road.length * ratio, points=tuple((at * ratio, *rest) for at, *rest in points))
+    return road._replace(length=road.length * ratio, points=tuple((at * ratio, lon, lat) for at, lon, lat in points))
 
 
-def halves(road, at, middle):
-    """The two parts of a line that is split at the node `middle`."""
-    node, coordinate = middle
+def halves(road: Road, at: float, node: int, coordinate: Degrees) -> Iterator[Road]:
+    """The two parts of a line that is split at a node."""
     first = [it for it in road.points if it[0] < at]
-    second = [(it[0] - at, *it[1:]) for it in road.points if it[0] > at]
+    second = [(far - at, lon, lat) for far, lon, lat in road.points if far > at]
     yield Road(road.start, node, road.frc, road.fow, at, (*first, (at, *coordinate)))
     yield Road(node, road.end, road.frc, road.fow, road.length - at, ((0.0, *coordinate), *second))

@@ -5,6 +5,8 @@
 """
 import csv
 import re
+from collections import Counter
+from typing import Container, List, NamedTuple, Optional, Pattern, Tuple
 
 from .replies import is_one_record
 
@@ -14,17 +16,26 @@ NAME = re.compile("[A-Za-z0-9_.-]{1,64}")
 TEXT = re.compile(".*", re.DOTALL)
 MOST = 4294967295
 
-# For each kind of field: its form, the text for that form, and its bounds.
+
+
+class Kind(NamedTuple):
+    """A kind of field: its form, the text for that form, and the bounds of its number, if it is one."""
+
+    form: Pattern[str]
+    text: str
+    bounds: Optional[Tuple[float, float]] = None
+
+
 KINDS = {
-    **dict.fromkeys(("NODE", "LINE", "FROM", "TO"), (NUMBER, "a number", (1, MOST))),
-    **dict.fromkeys(("FRC", "FOW"), (NUMBER, "a number", (0, 7))),
-    **dict.fromkeys(("POS", "NEG", "COUNT"), (NUMBER, "a number", (0, MOST))),
-    "LEN": (NUMBER, "a number of decimetres", (1, 1000000)),
-    "AT": (NUMBER, "a number of decimetres", (1, 999999)),
-    "LON": (DEGREES, "degrees with at most 7 decimals", (-180, 179.9999)),
-    "LAT": (DEGREES, "degrees with at most 7 decimals", (-89.9999, 89.9999)),
-    "NAME": (NAME, "1 to 64 of the letters a to z and A to Z, digits, - _ .", None),
-    "TEXT": (TEXT, "text", None),
+    **dict.fromkeys(("NODE", "LINE", "FROM", "TO"), Kind(NUMBER, "a number", (1, MOST))),
+    **dict.fromkeys(("FRC", "FOW"), Kind(NUMBER, "a number", (0, 7))),
+    **dict.fromkeys(("POS", "NEG", "COUNT"), Kind(NUMBER, "a number", (0, MOST))),
+    "LEN": Kind(NUMBER, "a number of decimetres", (1, 1000000)),
+    "AT": Kind(NUMBER, "a number of decimetres", (1, 999999)),
+    "LON": Kind(DEGREES, "degrees with at most 7 decimals", (-180, 179.9999)),
+    "LAT": Kind(DEGREES, "degrees with at most 7 decimals", (-89.9999, 89.9999)),
+    "NAME": Kind(NAME, "1 to 64 of the letters a to z and A to Z, digits, - _ ."),
+    "TEXT": Kind(TEXT, "text"),
 }
 
 # The fields of each record, and those that may be repeated at its end.
@@ -76,13 +87,13 @@ CAUSES = {1: "its length is wrong", 2: "its status byte is wrong", 3: "its offse
 CAUSES |= {4: "a reserved bit is set", 6: "it is not base64"}
 
 
-def fields_of(record):
+def fields_of(record: str) -> List[str]:
     """The fields of a record of one line."""
     csv.field_size_limit(max(1, len(record)))
     return next(csv.reader([record.replace("\0", "\ufffd")]))
 
 
-def named(fields):
+def named(fields: List[str]) -> Optional[List[Tuple[str, str]]]:
     """The fields after the command word with the names of their kinds, or None if their number is wrong."""
     fixed, repeated = (it.split() for it in FORMS[fields[0]])
     more = len(fields) - 1 - len(fixed)
@@ -91,7 +102,7 @@ def named(fields):
     return list(zip(fixed + repeated * (more // max(1, len(repeated))), fields[1:]))
 
 
-def wrong_form(fields):
+def wrong_form(fields: List[str]) -> str:
     """Why fields are not a record."""
     word = fields[0]
     if word not in FORMS:
@@ -104,23 +115,23 @@ def wrong_form(fields):
     if (kinds := named(fields)) is None:
         return f"its form is {form}, and it has {len(fields)} fields"
     for kind, field in kinds:
-        if not KINDS[kind][0].fullmatch(field):
-            return f"{kind} is {field[:40]!r}, and has to be {KINDS[kind][1]}"
+        if not KINDS[kind].form.fullmatch(field):
+            return f"{kind} is {field[:40]!r}, and has to be {KINDS[kind].text}"
     return f"its form is {form}"
 
 
-def out_of_range(fields):
+def out_of_range(fields: List[str]) -> str:
     """Which field is out of its bounds."""
     if fields[0] == "depends" and len(fields) > 10001:
         return f"it has {len(fields) - 1} nodes, and 10,000 at most are allowed"
     for kind, field in named(fields) or []:
-        bounds = KINDS[kind][2]
+        bounds = KINDS[kind].bounds
         if bounds and not bounds[0] <= (float(field) if kind in ("LON", "LAT") else int(field[:30])) <= bounds[1]:
             return f"{kind} is {field[:40]}, and has to be {bounds[0]} to {bounds[1]}"
     return "a value is out of its bounds"
 
 
-def bad_shape(fields):
+def bad_shape(fields: List[str]) -> str:
     """Which shape distance is wrong."""
     first = 7 if fields[0] == "line" else 5
     at = list(map(int, fields[first::3]))
@@ -132,16 +143,16 @@ def bad_shape(fields):
     return f"AT of the last shape point is {at[-1]}, and has to be less than LEN, {fields[first - 1]}"
 
 
-def bad_path(fields):
+def bad_path(fields: List[str]) -> str:
     """Why the lines of a path are not accepted."""
-    lines, seen = list(map(int, fields[4:])), set()
+    lines = list(map(int, fields[4:]))
     if not 1 <= len(lines) <= 10000:
         return f"it has {len(lines)} lines, and has to have 1 to 10,000"
-    twice = next(it for it in lines if it in seen or seen.add(it))
+    twice = next(it for it, times in Counter(lines).items() if times > 1)
     return f"line {twice} is in it twice"
 
 
-def reason(record, number, rest, nodes):
+def reason(record: str, number: int, rest: str, nodes: Optional[Container[int]]) -> str:
     """What is wrong with a record, as a text."""
     if not is_one_record(record):
         return 'a quote " is open at the end of the line' if '"' in record else "a line end is within the record"
@@ -158,13 +169,13 @@ def reason(record, number, rest, nodes):
     return WHAT_TO_DO.get(number, "").format(*fields)
 
 
-def shown(record):
+def shown(record: str) -> str:
     """A record as a person reads it: at most 200 characters, with a mark for each that isn't printed."""
     text = "".join(it if it.isprintable() else "\ufffd" for it in record[:200])
     return text if len(record) <= 200 else f"{text}.. ({len(record)} characters)"
 
 
-def advice(record, head, nodes=None):
+def advice(record: str, head: str, nodes: Optional[Container[int]] = None) -> str:
     """The fault, the record, and what is wrong with it; `nodes` are the numbers of the nodes in the map, if known."""
     _, number, *rest = head.split(",")
     return f"{head}: {shown(record)}: {reason(record, int(number), ','.join(rest[1:]), nodes)}"

@@ -1,32 +1,63 @@
-"""Sends records to olr-keep and reads its replies.
+"""Replies of olr-keep, from a stream of text such as the file of replies of a service.
 
-    with Keep("./olr-keep") as keep:
-        reply = keep.ask("path,a,0,0,10")
-        if reply.accepted:
-            for entry in reply.lines:
-                ...
+    with open("replies", encoding="ascii") as file:
+        while reply := read_reply(file):
+            print(reply.accepted, reply.lines)
+
+`olr_keep_tools.program` runs the program itself.
 """
 import re
-import subprocess
-from typing import NamedTuple
+from typing import List, NamedTuple, Optional, Protocol, Union
 
 # The CSV fields of one line: quoted, with text after the closing quote allowed, or without a quote at the start.
 FIELD = rb'(?:"(?:[^"]|"")*"(?:[^",][^,]*)?|[^",][^,]*|)'
 ONE_RECORD = re.compile(rb"(?=[^\r\n]+\Z)" + FIELD + rb"(?:," + FIELD + rb")*")
 
 # The first line of a reply.
-HEAD = re.compile(r"(ok|held|fault),([0-9]+)(?:,(.*))?")
+HEAD = re.compile(r"(ok|held|fault),([0-9]{1,18})(?:,(.*))?")
 
 # A line that is always rejected, to be sent in place of a record that would continue after its line end.
 NO_RECORD = b"?"
 
 
-def is_one_record(line):
-    """Whether this text, bytes or str, is one record on one line: neither empty, nor with a line end or an open quote."""
+class NoReply(ValueError):
+    """A text that is no reply of olr-keep."""
+
+
+class Readable(Protocol):
+    """A stream of lines of text."""
+
+    def readline(self) -> str:
+        """The next line with its end, or nothing at the end of the stream."""
+
+
+def is_one_record(line: Union[bytes, str]) -> bool:
+    """Whether this text is one record on one line: neither empty, nor with a line end or an open quote."""
     text = line if isinstance(line, bytes) else line.encode("utf-8", "surrogateescape")
     if not any(it in text for it in (b'"', b"\r", b"\n")):
         return bool(text)
     return ONE_RECORD.fullmatch(text) is not None
+
+
+class Head(NamedTuple):
+    """The first line of a reply: `ok` with the number of lines that follow, `held` with that of the record, or `fault` with its
+    number and what follows it."""
+
+    word: str
+    number: int
+    rest: str = ""
+
+    @classmethod
+    def of(cls, line: str) -> "Head":
+        """The first line of a reply. Raises NoReply for another text."""
+        if not (found := HEAD.fullmatch(line)):
+            raise NoReply(f"this is no reply of olr-keep: {line[:200]!r}")
+        return cls(found[1], int(found[2]), found[3] or "")
+
+    @property
+    def following(self) -> int:
+        """How many lines follow."""
+        return self.number if self.word == "ok" else 0
 
 
 class Reply(NamedTuple):
@@ -35,77 +66,45 @@ class Reply(NamedTuple):
     word: str
     number: int
     rest: str
-    lines: list
+    lines: List[str]
 
     @property
-    def accepted(self):
+    def accepted(self) -> bool:
         """Whether the record was accepted, or is held by a batch."""
         return self.word != "fault"
 
-    def text(self):
+    @property
+    def head(self) -> str:
+        """The first line of the reply."""
+        return ",".join([self.word, str(self.number), *([self.rest] if self.rest else [])])
+
+    def text(self) -> str:
         """The reply as it was written."""
-        head = ",".join([self.word, str(self.number), *([self.rest] if self.rest else [])])
-        return "".join(line + "\n" for line in [head, *self.lines])
+        return "".join(f"{line}\n" for line in [self.head, *self.lines])
 
 
-def whole_line(stream, line=None):
-    """The next line without its end, or None at the end of the stream. A line that was cut off raises EOFError. `line` is the
-    line, if it has been read."""
-    line = stream.readline() if line is None else line
+UNCHANGED = Reply("ok", 0, "", [])
+
+
+def whole_line(stream: Readable) -> Optional[str]:
+    """The next line without its end, or None at the end of the stream. A line that was cut off raises EOFError."""
+    line = stream.readline()
     if line and not line.endswith("\n"):
         raise EOFError(f"a reply was cut off: {line[:200]!r}")
     return line[:-1] if line else None
 
 
-def read_reply(stream, line=None):
-    """The next reply of a stream of text, or None at its end; `line` is its first line, if it has been read.
+def read_reply(stream: Readable) -> Optional[Reply]:
+    """The next reply of a stream of text, or None at its end.
 
-    Raises EOFError for a reply that was cut off, and ValueError for a text that is none.
+    Raises EOFError for a reply that was cut off, and NoReply, a ValueError, for a text that is none.
     """
-    head = whole_line(stream, line)
-    if head is None:
+    first = whole_line(stream)
+    if first is None:
         return None
-    found = HEAD.fullmatch(head)
-    if not found:
-        raise ValueError(f"this is no reply of olr-keep: {head[:200]!r}")
-    word, number, rest = found[1], int(found[2]), found[3] or ""
-    lines = [whole_line(stream) for _ in range(number if word == "ok" else 0)]
-    if None in lines:
-        raise EOFError(f"lines are missing after {head}")
-    return Reply(word, number, rest, lines)
-
-
-class Keep:
-    """A running olr-keep: one record to it, then one reply from it."""
-
-    def __init__(self, *arguments):
-        pipe = subprocess.PIPE
-        self.process = subprocess.Popen(arguments, stdin=pipe, stdout=pipe, encoding="utf-8", errors="surrogateescape")
-
-    def ask(self, record):
-        """Sends a record and returns its reply, or None if the program has ended: see `close`.
-
-        Raises ValueError for a text that isn't one record on one line, since it would get no reply, or more than one.
-        """
-        if not is_one_record(record):
-            raise ValueError(f"not one record on one line: {record!r}")
-        try:
-            self.process.stdin.write(record + "\n")
-            self.process.stdin.flush()
-        except BrokenPipeError:
-            return None
-        return read_reply(self.process.stdout)
-
-    def close(self):
-        """Closes the input, and returns the program's exit status."""
-        try:
-            self.process.stdin.close()
-        except BrokenPipeError:
-            pass
-        return self.process.wait()
-
-    def __enter__(self):
-        return self
-
-    def __exit__(self, *_):
-        self.close()
+    head, lines = Head.of(first), []
+    for _ in range(head.following):
+        if (line := whole_line(stream)) is None:
+            raise EOFError(f"lines are missing after {first}")
+        lines.append(line)
+    return Reply(*head, lines)
