@@ -37,11 +37,13 @@ FACTS = {
     "the slack of `ambiguous`": r"more than ([\d.]+) m farther",
     "a step of DNP": r"step(?:s)? of ([\d.]+) m\b",
     "how soon a save is in the table of strings": r"(?:save[^.|]{0,60}|usually )within (an? [a-z ]*second)",
-    "the edits after which memory is compared": r"(?:memory|allocated)[^.|]{0,60} after (?:the first )?([\d,]+) edits",
-    "the seconds of a program that hangs": r"`--deadline` seconds(?: without a reply)? \((\d+)\)",
+    "the edits after which memory is compared": r"(?:memory|allocated|looked at)\b[^.|]{0,60} after (?:the first )?([\d,]+) edits",
     "the lines that may be removed": r"(?:lacks|remove|lack) more than (\d+) ?% of the",
 }
 OPTION = re.compile(r"(?<![\w-])(--[a-z][a-z-]*)")
+# A number before an option in brackets, as `5 m (--tolerance)`, or an option and then its number, as `--deadline (60)`.
+DEFAULT = re.compile(r"\b(\d[\d.,]*) ?(?:%|m|s|MB|GB)?(?: [a-z]+){0,5} \(`(--[a-z-]+)`\)"
+                     r"|`(--[a-z-]+)`(?:,| [^`.|()]{0,40} \() ?(\d[\d.]*)\b")
 CALL = re.compile(r"\b(?:olr-keep-|tools/)([a-z-]+)\b((?:\\\n|[^|;&\n`])*)")
 
 
@@ -56,6 +58,13 @@ class Tool(NamedTuple):
 def pages() -> List[str]:
     """The pages of the repository."""
     return ["README.md", "CHANGELOG.md", "CONTRIBUTING.md", *sorted(it[len(TOP) + 1 :] for it in glob.glob(f"{TOP}/docs/*.md"))]
+
+
+def tracked() -> List[str]:
+    """The names of the files and folders at the top that the repository has, or will have with the next commit."""
+    command = ["git", "-C", TOP, "ls-files", "--cached", "--others", "--exclude-standard"]
+    names = subprocess.run(command, capture_output=True, text=True, check=True).stdout.splitlines()
+    return sorted({it.split("/")[0] for it in names if os.path.exists(f"{TOP}/{it}")})
 
 
 def help_of(tool: str) -> Tuple[str, str]:
@@ -179,14 +188,13 @@ def tool_faults(tools: Dict[str, Tool]) -> List[str]:
 
 
 def default_faults(tools: Dict[str, Tool]) -> List[str]:
-    """Defaults on pages, as in `5 m (--tolerance)`, that are not those of the tool that was named last."""
+    """Defaults on pages that are not those of the tool that was named last and has the option."""
     faults = []
     for page in pages():
-        text, at = prose(text_of(page)), 0
-        for it in re.finditer(r"\b(\d[\d.,]*) ?(?:%|m|s|MB|GB)?(?: [a-z]+){0,5} \(`(--[a-z-]+)`\)|`(--[a-z-]+)`, (\d[\d.]*)\b", text):
+        text = prose(text_of(page))
+        for it in re.finditer(DEFAULT, text):
             option, number = it[2] or it[3], (it[1] or it[4]).rstrip(".,")
-            named = [name for name in re.findall(r"(?:olr-keep-|tools/)([a-z-]+)", text[at : it.start()] or "") if name in tools]
-            named = named or [name for name in re.findall(r"(?:olr-keep-|tools/)([a-z-]+)", text[: it.start()]) if name in tools]
+            named = [name for name in re.findall(r"(?:olr-keep-|tools/)([a-z-]+)", text[: it.start()]) if name in tools]
             having = [name for name in named if option in tools[name].defaults]
             if having and tools[having[-1]].defaults[option] != number:
                 faults.append(f"{page}: {option} of {having[-1]} is {number}, and its --help has {tools[having[-1]].defaults[option]}")
