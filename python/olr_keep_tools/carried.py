@@ -2,7 +2,7 @@
 
     share = Share(Program(["olr-keep"]), 0, Shares.of("2"))
     for outcome in share.carry_out(b"node,1,0,0\\npath,a,0,0,1\\n"):
-        print(outcome.index, outcome.record, outcome.reply)
+        print(outcome.at, outcome.record, outcome.reply)
 """
 import re
 from typing import Dict, Iterator, List, Mapping, NamedTuple, Optional, Tuple
@@ -28,9 +28,9 @@ COUNT_DIFFERS = Reply("fault", 16, "CountDiffers", [])
 
 
 class Outcome(NamedTuple):
-    """A record of a message that was rejected or changed something, with its index in the message and its reply."""
+    """A record of a message that was rejected or changed something, with its index in the message and the reply."""
 
-    index: int
+    at: int
     record: str
     reply: Reply
 
@@ -38,7 +38,7 @@ class Outcome(NamedTuple):
 class Sent(NamedTuple):
     """Records that are sent as they are, with the index of the first one in its message."""
 
-    index: int
+    at: int
     records: int
     text: bytes
 
@@ -46,13 +46,13 @@ class Sent(NamedTuple):
 class Command(NamedTuple):
     """A record that a worker looks at: its index in the message, and its command word."""
 
-    index: int
+    at: int
     record: str
     word: str
 
     def sent(self) -> Sent:
         """The record as it is sent."""
-        return Sent(self.index, 1, self.record.encode() + b"\n")
+        return Sent(self.at, 1, self.record.encode() + b"\n")
 
 
 class Share:
@@ -120,7 +120,7 @@ class Share:
     def report(self, command: Command, reply: Reply) -> Iterator[Outcome]:
         """The outcome of a rejected record that all shares reject."""
         if self.reports:
-            yield Outcome(command.index, command.record, reply)
+            yield Outcome(command.at, command.record, reply)
 
     def commit(self, command: Command) -> Iterator[Outcome]:
         """Commits the edits of a batch, and then carries out its path commands. A batch whose commit is rejected is aborted."""
@@ -135,7 +135,7 @@ class Share:
             self.one("abort")
             yield from self.report(command, reply)
             return
-        yield Outcome(command.index, command.record, reply)
+        yield Outcome(command.at, command.record, reply)
         for it in held:
             yield from self.path_command(it)
 
@@ -195,7 +195,7 @@ class Share:
         if reply.lines or not reply.accepted or part.text.startswith(b"drop-path,"):
             record = part.text.split(b"\n", at + 1)[at].decode("ascii")
             if reply.accepted or self.reports or record.partition(",")[0] in OF_A_PATH:
-                yield Outcome(part.index + at, record, reply)
+                yield Outcome(part.at + at, record, reply)
 
     # ---- the program
 

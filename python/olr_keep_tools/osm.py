@@ -8,11 +8,13 @@ XML is read by the standard library, every other format by Debian's `python3-pyo
 """
 import array
 import bisect
-import collections
 import itertools
 import sys
 import xml.parsers.expat
-from typing import NamedTuple
+from collections import Counter
+from typing import IO, TYPE_CHECKING, Any, Callable, Dict, Iterable, List, Mapping, NamedTuple, Optional, Tuple
+
+from .records import UNITS
 
 # The functional road class of each kind of highway that is used; its links have the same class. And that of ferries.
 CLASSES = {"motorway": 0, "trunk": 1, "primary": 2, "secondary": 3, "tertiary": 4, "unclassified": 5, "road": 5}
@@ -34,8 +36,20 @@ TAGS = {"highway", "route", "area", "junction", "dual_carriageway", *WHO}
 TAGS |= {f"{it}:{way}" for it in WHO for way in ("forward", "backward")} | {"oneway", *(f"oneway:{it}" for it in WHO)}
 
 
+if TYPE_CHECKING:
+    Numbers = array.array[int]
+else:
+    Numbers = array.array
+Tags = Mapping[str, str]
+Fields = Mapping[str, str]  # of an element
+
+
 class OsmError(Exception):
     """A file that is no OpenStreetMap file with roads; the text is printed."""
+
+
+class LeftOut(Exception):
+    """A road that no car uses; the text is the tag that says so."""
 
 
 class Road(NamedTuple):
@@ -51,7 +65,7 @@ class Way(NamedTuple):
     """A way that cars use: its number, the places of its nodes (-1 for one that is not in the file), and what it is."""
 
     number: int
-    nodes: array.array
+    nodes: Numbers
     road: Road
 
 
@@ -59,27 +73,27 @@ class Places:
     """Coordinates in whole numbers of 10^-7 degree, by the place of a node in this table; the nodes of the file are sorted by
     their numbers, and behind them are added ones, which have a text in place of a number."""
 
-    def __init__(self):
-        self.ids, self.lons, self.lats, self.added = array.array("q"), array.array("i"), array.array("i"), []
+    def __init__(self) -> None:
+        self.ids, self.lons, self.lats = array.array("q"), array.array("i"), array.array("i")
+        self.added: List[str] = []
 
-    def put(self, number, lon, lat):
+    def put(self, number: int, lon: float, lat: float) -> None:
         """Adds a node of the file."""
         if not (-180 <= lon <= 180 and -90 <= lat <= 90):
             raise OsmError(f"node {number} has lon {lon} and lat {lat}, which is no place on the earth")
         self.ids.append(number)
-        self.lons.append(round(lon * 1e7))
-        self.lats.append(round(lat * 1e7))
+        self.lons.append(round(lon * UNITS))
+        self.lats.append(round(lat * UNITS))
 
-    def sort(self):
+    def sort(self) -> None:
         """Sorts the nodes; of those with one number the last one stays."""
         if any(a >= b for a, b in zip(self.ids, itertools.islice(self.ids, 1, None))):
             last = {number: k for k, number in enumerate(self.ids)}
             order = [last[number] for number in sorted(last)]
-            for name in ("ids", "lons", "lats"):
-                values = getattr(self, name)
-                setattr(self, name, array.array(values.typecode, map(values.__getitem__, order)))
+            self.ids, self.lons, self.lats = (
+                array.array(it.typecode, map(it.__getitem__, order)) for it in (self.ids, self.lons, self.lats))
 
-    def find(self, numbers):
+    def find(self, numbers: Iterable[int]) -> Numbers:
         """The places of nodes of the file, -1 for one that is not there. Often a node is the next one in the table."""
         ids, size, search, found, k = self.ids, len(self.ids), bisect.bisect_left, array.array("i"), 0
         for number in numbers:
@@ -89,78 +103,86 @@ class Places:
             found.append(k if k < size and ids[k] == number else -1)
         return found
 
-    def add(self, key, lon, lat):
+    def add(self, key: str, lon: int, lat: int) -> int:
         """Adds a node that is not in the file, and returns its place."""
         self.added.append(key)
         self.lons.append(lon)
         self.lats.append(lat)
         return len(self.lons) - 1
 
-    def key(self, place):
+    def key(self, place: int) -> str:
         """The number of a node, or the text of an added one, as text."""
         return str(self.ids[place]) if place < len(self.ids) else self.added[place - len(self.ids)]
 
-    def degrees(self, place):
+    def degrees(self, place: int) -> Tuple[float, float]:
         """The coordinate of a node, in degrees."""
-        return self.lons[place] / 1e7, self.lats[place] / 1e7
+        return self.lons[place] / UNITS, self.lats[place] / UNITS
+
+
+class Access(NamedTuple):
+    """What a tag says of cars: whether the road is open to them, and the tag."""
+
+    is_open: bool
+    tag: str
 
 
 class Extract:
     """What was read: places, ways, how many were left out for which reason, and the values of tags that are not known."""
 
-    def __init__(self, with_ferries):
-        self.with_ferries, self.places, self.roads = with_ferries, Places(), {}
-        self.left_out, self.unknown, self.twice, self.count = collections.Counter(), collections.Counter(), 0, 0
+    def __init__(self, with_ferries: bool):
+        self.with_ferries, self.places = with_ferries, Places()
+        self.roads: Dict[int, Tuple[Numbers, Road]] = {}
+        self.ways: List[Way] = []
+        self.left_out: Counter[str] = Counter()
+        self.unknown: Counter[str] = Counter()
+        self.twice = self.count = 0
 
-    def take_way(self, number, refs, tags):
+    def take_way(self, number: int, refs: Numbers, tags: Tags) -> None:
         """Takes a way with the numbers of its nodes, if cars use it."""
         self.count += 1
-        road = self.road_of(tags)
-        if road is None:
+        try:
+            road = self.road_of(tags)
+        except LeftOut as why:
+            self.left_out[str(why)] += 1
             return
-        self.twice += number in self.roads
-        self.roads[number] = (refs, road)
+        if road:
+            self.twice += number in self.roads
+            self.roads[number] = (refs, road)
 
-    def road_of(self, tags):
-        """The road that a way with these tags is, or None if no car uses it."""
+    def road_of(self, tags: Tags) -> Optional[Road]:
+        """The road that a way with these tags is, or None if it is none. Raises LeftOut for one that isn't used."""
         kind, is_ferry = tags.get("highway", ""), tags.get("route") == "ferry" and "highway" not in tags
         if not kind and not is_ferry:
             return None
         if kind.removesuffix("_link") not in CLASSES and not is_ferry:
-            return self.leave_out(f"highway={kind}")
+            raise LeftOut(f"highway={kind}")
         if is_ferry and not self.with_ferries:
-            return self.leave_out("route=ferry")
+            raise LeftOut("route=ferry")
         if tags.get("area") == "yes":
-            return self.leave_out("area=yes")
-        why = self.closed(tags, "")
-        ways = self.directions(tags)
-        closed = [self.closed(tags, ":forward"), self.closed(tags, ":backward")]
-        if ways is None:
-            return self.leave_out(f"oneway={tags['oneway'].lower()}")
+            raise LeftOut("area=yes")
         # A tag for one direction decides about it, and else the tag for both.
-        closed = [why if it is None else it for it in closed]
-        forward, backward = (is_way and not it for is_way, it in zip(ways, closed))
+        both, ways = self.access(tags, ""), self.directions(tags)
+        each = [self.access(tags, it) or both for it in (":forward", ":backward")]
+        if ways is None:
+            raise LeftOut(f"oneway={tags['oneway'].lower()}")
+        forward, backward = (is_way and (it is None or it.is_open) for is_way, it in zip(ways, each))
         if not forward and not backward:
-            return self.leave_out(next(it for it, is_way in zip(closed, ways) if is_way))
+            raise LeftOut(next(it.tag for it, is_way in zip(each, ways) if it and is_way))
         return Road(FERRY if is_ferry else CLASSES[kind.removesuffix("_link")], form_of_way(tags, ways), forward, backward)
 
-    def leave_out(self, reason):
-        """Counts a way that is not used."""
-        self.left_out[reason] += 1
-
-    def closed(self, tags, direction):
-        """The tag that closes a road to cars, in a direction or in both; empty if it is open; None if no tag says so."""
+    def access(self, tags: Tags, direction: str) -> Optional[Access]:
+        """What the decisive tag says of cars, in a direction or in both; None if no tag says anything."""
         for who in WHO:
             value = tags.get(who + direction, "").lower()
             if value in CLOSED:
-                return f"{who}{direction}={value}"
+                return Access(False, f"{who}{direction}={value}")
             if value in OPEN or any(it.strip() in OPEN for it in value.split(";")):
-                return ""
+                return Access(True, f"{who}{direction}={value}")
             if value:
                 self.unknown[f"{who}{direction}={value}"] += 1
         return None
 
-    def directions(self, tags):
+    def directions(self, tags: Tags) -> Optional[Tuple[bool, bool]]:
         """Whether a road may be driven along its way, and against it, by its tags on one-way roads; None if that changes."""
         is_round = tags.get("junction") in ROUND
         for tag in (*(f"oneway:{who}" for who in WHO), "oneway"):
@@ -178,7 +200,7 @@ class Extract:
         is_one = is_round or tags.get("highway") == "motorway"
         return True, not is_one
 
-    def finish(self):
+    def finish(self) -> None:
         """Replaces the numbers of the ways' nodes by their places. Raises OsmError if there is no way."""
         if not self.count:
             raise OsmError("it has no way")
@@ -187,7 +209,7 @@ class Extract:
         self.roads.clear()
 
 
-def form_of_way(tags, ways):
+def form_of_way(tags: Tags, ways: Tuple[bool, bool]) -> int:
     """The form of way."""
     kind = tags.get("highway", "")
     if tags.get("junction") in ROUND:
@@ -205,23 +227,25 @@ def form_of_way(tags, ways):
 class Xml:
     """The handlers of the elements of a file in XML."""
 
-    def __init__(self, extract):
-        self.extract, self.way, self.refs, self.tags = extract, None, array.array("q"), {}
+    def __init__(self, extract: Extract):
+        self.extract, self.refs = extract, array.array("q")
+        self.way: Optional[int] = None
+        self.tags: Dict[str, str] = {}
         self.begin = self.outside(extract.places.put)
         self.parser = xml.parsers.expat.ParserCreate()
         self.parser.StartElementHandler = self.begin_root
 
-    def begin_root(self, name, _):
+    def begin_root(self, name: str, _: Fields) -> None:
         """Handles the root element."""
         if name != "osm":
             hint = ": apply the changes to a file first, such as by osmium apply-changes" if name == "osmChange" else ""
             raise OsmError(f"its root element is <{name}> and not <osm>{hint}")
         self.parser.StartElementHandler = self.begin
 
-    def outside(self, put):
+    def outside(self, put: Callable[[int, float, float], None]) -> Callable[[str, Fields], None]:
         """A handler of the start of an element that is not in a way. What is deleted is left out."""
 
-        def begin(name, fields):
+        def begin(name: str, fields: Fields) -> None:
             if name == "node":
                 if "lon" in fields and "lat" in fields and is_there(fields):
                     put(int(fields["id"]), float(fields["lon"]), float(fields["lat"]))
@@ -231,14 +255,14 @@ class Xml:
 
         return begin
 
-    def begin_inside(self, name, fields):
+    def begin_inside(self, name: str, fields: Fields) -> None:
         """Handles the start of an element in a way."""
         if name == "nd":
             self.refs.append(int(fields["ref"]))
         elif name == "tag" and fields["k"] in TAGS:
             self.tags[fields["k"]] = fields["v"]
 
-    def end(self, name):
+    def end(self, name: str) -> None:
         """Handles the end of an element in a way, or of the way."""
         if name == "way":
             if self.way is not None:
@@ -246,12 +270,12 @@ class Xml:
             self.parser.StartElementHandler, self.parser.EndElementHandler = self.begin, None
 
 
-def is_there(fields):
+def is_there(fields: Fields) -> bool:
     """Whether an element with these fields is not deleted."""
     return fields.get("action") != "delete" and fields.get("visible") != "false"
 
 
-def read_xml(file, extract):
+def read_xml(file: IO[bytes], extract: Extract) -> None:
     """Reads a file in XML."""
     parser = Xml(extract).parser
     try:
@@ -263,7 +287,7 @@ def read_xml(file, extract):
         raise OsmError(f"not OpenStreetMap XML ({where}{error})") from None
 
 
-def read_other(name, extract):
+def read_other(name: str, extract: Extract) -> None:
     """Reads a file in another format, such as PBF."""
     try:
         import osmium
@@ -278,7 +302,7 @@ def read_other(name, extract):
     class Handler(osmium.SimpleHandler):
         """Takes nodes and ways."""
 
-        def node(self, it):
+        def node(self, it: Any) -> None:
             place = it.location
             lon, lat = place.x, place.y
             if -1_800_000_000 <= lon <= 1_800_000_000 and -900_000_000 <= lat <= 900_000_000 and it.visible:
@@ -286,7 +310,7 @@ def read_other(name, extract):
                 add_lon(lon)
                 add_lat(lat)
 
-        def way(self, it):
+        def way(self, it: Any) -> None:
             if it.visible:
                 tags = {tag.k: tag.v for tag in it.tags if tag.k in TAGS}
                 if "highway" in tags or "route" in tags:
@@ -300,7 +324,7 @@ def read_other(name, extract):
         raise OsmError(f"not an OpenStreetMap file ({error}); to convert it: osmium cat {name} -o FILE.osm") from None
 
 
-def read_osm(name, with_ferries):
+def read_osm(name: str, with_ferries: bool) -> Extract:
     """The extract in a file. Raises OSError if it can't be opened, and OsmError if it is no OpenStreetMap file with ways."""
     extract = Extract(with_ferries)
     with open(name, "rb") as file:

@@ -10,6 +10,10 @@ import hashlib
 import json
 import re
 import zlib
+from typing import List, Optional, Sequence, Tuple
+
+Place = Tuple[int, int]
+Box = Sequence[int]  # west, south, east, north
 
 
 class SharesError(Exception):
@@ -19,13 +23,13 @@ class SharesError(Exception):
 class Shares:
     """A number of shares, by name, or by place with a box (west, south, east, north) for each."""
 
-    def __init__(self, count, boxes=None):
+    def __init__(self, count: int, boxes: Optional[List[Box]] = None):
         self.count, self.boxes = count, boxes
         digest = "" if boxes is None else "-" + hashlib.sha256(json.dumps(boxes).encode()).hexdigest()[:8]
         self.label = f"{count}{digest}"
 
     @classmethod
-    def of(cls, text):
+    def of(cls, text: str) -> "Shares":
         """The shares that an argument names: a number, or a file."""
         if re.fullmatch("[0-9]{1,6}", text):
             if int(text) == 0:
@@ -42,30 +46,32 @@ class Shares:
             raise SharesError(f"{text} is not a file of tools/shares") from None
         return cls(len(boxes), boxes)
 
-    def of_name(self, name):
+    def of_name(self, name: str) -> int:
         """The share of a name, by name. It has to be the same for all workers, of all versions."""
         return zlib.crc32(name.encode()) % self.count
 
-    def of_place(self, place):
+    def of_place(self, place: Optional[Place]) -> int:
         """The share of a path that starts at this coordinate, or whose start isn't known: 0."""
-        if place is None:
+        if place is None or self.boxes is None:
             return 0
-        return min(range(self.count), key=lambda share: distance(self.boxes[share], *place))
+        far = [distance(box, *place) for box in self.boxes]
+        return far.index(min(far))
 
 
-def distance(box, lon, lat):
+def distance(box: Box, lon: int, lat: int) -> int:
     """A measure of the distance of a coordinate from a box; 0 in it."""
     west, south, east, north = box
-    return max(west - lon, lon - east, 0) ** 2 + max(south - lat, lat - north, 0) ** 2
+    aside, up = max(west - lon, lon - east, 0), max(south - lat, lat - north, 0)
+    return aside * aside + up * up
 
 
-def boxes_of(places, count):
+def boxes_of(places: List[Place], count: int) -> List[Box]:
     """This number of boxes with equal numbers of these coordinates, by a k-d tree."""
     lons, lats = [it[0] for it in places], [it[1] for it in places]
     box = [min(lons), min(lats), max(lons), max(lats)]
     if count == 1:
         return [box]
     axis = 0 if box[2] - box[0] >= box[3] - box[1] else 1
-    places, half = sorted(places, key=lambda it: (it[axis], it)), count // 2
-    at = len(places) * half // count
-    return boxes_of(places[:at], half) + boxes_of(places[at:], count - half)
+    in_order, half = sorted(places, key=lambda it: (it[axis], it)), count // 2
+    at = len(in_order) * half // count
+    return boxes_of(in_order[:at], half) + boxes_of(in_order[at:], count - half)

@@ -1,4 +1,5 @@
 """Styles for QGIS of the files that tools/geojson writes: for each kind of feature the text of a .qml file."""
+from typing import Mapping
 from xml.sax.saxutils import quoteattr
 
 BLUE, AMBER, RED = "0,103,177,255", "138,97,0,255", "190,30,45,255"
@@ -9,37 +10,37 @@ HEAD = """<!DOCTYPE qgis PUBLIC 'http://mrcc.com/qgis.dtd' 'SYSTEM'>
 """
 
 
-def options(values):
+def options(values: Mapping[str, object]) -> str:
     """The properties of a layer of a symbol."""
     row = '<Option type="QString" name={} value={}/>'
     rows = "".join(row.format(quoteattr(name), quoteattr(str(value))) for name, value in values.items())
     return f"<Option type=\"Map\">{rows}</Option>"
 
 
-def symbol(name, kind, layer, values):
+def symbol(name: int, kind: str, layer: str, values: Mapping[str, object]) -> str:
     """A symbol of one layer."""
     inner = f"<layer class=\"{layer}\" enabled=\"1\" locked=\"0\" pass=\"0\">{options(values)}</layer>"
     return f"<symbol type=\"{kind}\" name=\"{name}\" alpha=\"1\" clip_to_extent=\"1\">{inner}</symbol>"
 
 
-def line(name, colour, width, **more):
+def line(name: int, colour: str, width: float, **more: object) -> str:
     """A symbol of a line."""
     values = {"line_color": colour, "line_width": width, "line_width_unit": "MM", "capstyle": "round"}
     return symbol(name, "line", "SimpleLine", {**values, **more})
 
 
-def marker(name, colour, size, shape="circle"):
+def marker(name: int, colour: str, size: float, shape: str = "circle") -> str:
     """A symbol of a point."""
     values = {"name": shape, "color": colour, "outline_color": WHITE, "outline_width": 0.3, "size": size, "size_unit": "MM"}
     return symbol(name, "marker", "SimpleMarker", values)
 
 
-def single(symbol_text):
+def single(symbol_text: str) -> str:
     """A renderer with one symbol for all features."""
     return f"<renderer-v2 type=\"singleSymbol\" symbollevels=\"0\"><symbols>{symbol_text}</symbols></renderer-v2>"
 
 
-def by_class():
+def by_class() -> str:
     """A renderer of the lines of the map: the less important their class, the narrower they are."""
     rows = "".join(f"<category render=\"true\" value=\"{k}\" symbol=\"{k}\" label=\"class {k}\"/>" for k in range(8))
     symbols = "".join(line(k, GREY, width) for k, width in enumerate(WIDTHS))
@@ -47,7 +48,7 @@ def by_class():
             f"<symbols>{symbols}</symbols></renderer-v2>")
 
 
-def by_answer():
+def by_answer() -> str:
     """A renderer of paths: those that are not encodable are red."""
     rules = (("&quot;string&quot; is not null", 0, "with a string"), ("ELSE", 1, "not encodable"))
     row = '<rule filter="{}" symbol="{}" label="{}"/>'
@@ -67,14 +68,14 @@ RENDERERS = {
 LABELS = {"point": "number", "path": "path"}
 
 
-def labels(field, colour):
+def labels(field: str, colour: str) -> str:
     """Labels with a field of the features."""
     buffer = f'<text-buffer bufferDraw="1" bufferSize="0.8" bufferColor="{WHITE}"/>'
     text = f'<text-style fieldName="{field}" isExpression="0" fontSize="8" textColor="{colour}">{buffer}</text-style>'
     return f'<labeling type="simple"><settings calloutType="simple">{text}<placement placement="1"/></settings></labeling>\n'
 
 
-def style(kind):
+def style(kind: str) -> str:
     """The style of a kind of feature."""
     field = LABELS.get(kind)
     text = labels(field, INK) if field else ""

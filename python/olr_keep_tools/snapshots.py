@@ -3,13 +3,16 @@ message of commands that it holds, the identity of their stream, the share, and 
 """
 import json
 import os
-from typing import NamedTuple
+from typing import IO, Callable, Dict, List, Mapping, NamedTuple, Optional
 from urllib.parse import quote
 
+from .carried import Share
 from .command import STREAM, Failure
+from .places import Shares
+from .program import Program
+from .records import blocks
 from .stream import LOST_STREAMS
 
-BLOCK = 1 << 20
 RETAINED = 2
 
 
@@ -18,18 +21,19 @@ class Snapshot(NamedTuple):
 
     file: str
     offset: int
-    identity: str = None
-    names: dict = {}
+    identity: Optional[str] = None
+    names: Mapping[str, int] = {}
 
 
 class Snapshots:
     """The snapshots of a share in a folder."""
 
-    def __init__(self, folder, stream, share, shares):
-        self.folder, self.of = folder, {"stream": stream, "share": share, "shares": shares.label}
+    def __init__(self, folder: str, stream: str, share: int, shares: Shares):
+        self.folder = folder
+        self.of: Mapping[str, object] = {"stream": stream, "share": share, "shares": shares.label}
         self.prefix = f"{quote(stream, '')}.{share}.{shares.label}."
 
-    def offsets(self):
+    def offsets(self) -> List[int]:
         """The offsets of the complete snapshots, in ascending order."""
         try:
             names = [it for it in os.listdir(self.folder) if it.startswith(self.prefix) and it.endswith(".json")]
@@ -37,25 +41,27 @@ class Snapshots:
             raise Failure(STREAM, f"{self.folder}: {error.strerror}") from None
         return sorted(int(it) for it in (name[len(self.prefix) : -5] for name in names) if it.isdecimal())
 
-    def newest(self):
+    def newest(self) -> Optional[Snapshot]:
         """The newest snapshot, or None."""
         offsets = self.offsets()
         return described(self.file(offsets[-1]), self.of) if offsets else None
 
-    def file(self, offset):
+    def file(self, offset: int) -> str:
+        """The name of the file of records."""
         return os.path.join(self.folder, f"{self.prefix}{offset}.csv")
 
-    def write(self, program, offset, identity, names):
+    def write(self, program: Program, offset: int, identity: Optional[str], names: Mapping[str, int]) -> None:
         """Writes a snapshot, and removes all but the newest ones. Raises OSError; a part is removed then."""
-        file, about = self.file(offset), {**self.of, "offset": offset, "identity": identity, "names": names}
+        file = self.file(offset)
+        about: Dict[str, object] = {**self.of, "offset": offset, "identity": identity, "names": dict(names)}
         self.put(file, program.write_dump)
-        self.put(f"{file[:-4]}.json", lambda it: it.write(json.dumps(about).encode()))
+        self.put(f"{file[:-4]}.json", lambda it: it.writelines([json.dumps(about).encode()]))
         for old in self.offsets()[:-RETAINED]:
             for name in (f"{self.file(old)[:-4]}.json", self.file(old)):
                 if os.path.exists(name):
                     os.unlink(name)
 
-    def put(self, name, write):
+    def put(self, name: str, write: Callable[[IO[bytes]], None]) -> None:
         """Makes a file, or replaces it: it is whole, and on the disk, before it has its name."""
         part = f"{name}.{os.getpid()}"
         try:
@@ -70,7 +76,7 @@ class Snapshots:
             raise
 
 
-def described(file, of):
+def described(file: str, of: Mapping[str, object]) -> Snapshot:
     """A snapshot with what is beside it, which has to be of this share."""
     try:
         with open(f"{file[:-4]}.json", encoding="utf-8") as beside:
@@ -83,30 +89,27 @@ def described(file, of):
     return Snapshot(file, about["offset"], about["identity"], about["names"])
 
 
-def load(share, name):
+def load(share: Share, name: str) -> None:
     """Carries out the records of a snapshot, which all have to be accepted. The first line may be that of a dump."""
-    share.reports, count, head = True, 0, None
+    share.reports, count, head = True, 0, b""
     try:
         with open(name, "rb") as file:
-            rest = b""
-            while text := file.read(BLOCK):
-                block, end, rest = (rest + text).rpartition(b"\n")
-                block += end
-                if count == 0 and head is None and block.startswith(b"ok,"):
+            for k, block in enumerate(blocks(file)):
+                if not k and block.startswith(b"ok,"):
                     head, _, block = block.partition(b"\n")
+                block += b"\n" * (not block.endswith(b"\n"))
                 carry_out(share, name, block, count)
                 count += block.count(b"\n")
-            carry_out(share, name, rest + b"\n" if rest else b"", count)
     except OSError as error:
         raise Failure(LOST_STREAMS, f"{name}: {error.strerror}") from None
-    if head not in (None, b"ok,%d" % count):
+    if head not in (b"", b"ok,%d" % count):
         raise Failure(LOST_STREAMS, f"{name} is not a whole dump: {count} lines follow {head.decode()}")
     if share.batch.held is not None:
         raise Failure(LOST_STREAMS, f"{name} ends with an open batch")
     share.reports = share.share == 0
 
 
-def carry_out(share, name, block, before):
+def carry_out(share: Share, name: str, block: bytes, before: int) -> None:
     """Carries out some records of a snapshot."""
     for index, record, reply in share.carry_out_part(block):
         if not reply.accepted:

@@ -9,9 +9,11 @@ message of answers changes in them is one transaction.
 """
 import os
 import sqlite3
+from typing import Any, Iterable, Iterator, List, NamedTuple, Optional, Protocol, Sequence, Set, Tuple, Type, Union
 
 from . import stream
-from .command import STREAM, Failure, say
+from .command import STREAM, USAGE, Failure, say
+from .places import Shares
 from .stream import LOST_STREAMS
 
 try:
@@ -31,15 +33,27 @@ create table if not exists streams (identity text primary key);
 PUT = """insert into published values {} on conflict (name) do update
     set answer = excluded.answer, share = excluded.share, "offset" = excluded."offset\""""
 ROWS = 1000
+Row = Tuple[Any, ...]
+Values = Sequence[object]
+
+
+class Message(NamedTuple):
+    """A message of answers: its share, its offset in the stream of the share, its properties and its body."""
+
+    share: int
+    read: int
+    properties: stream.Properties
+    body: bytes
 
 
 class SQLite:
     """A table in a file."""
 
-    def __init__(self, name, must_exist):
+    failures: Tuple[Type[Exception], ...] = (sqlite3.Error,)
+
+    def __init__(self, name: str, must_exist: bool):
         if must_exist and not os.path.exists(name):
-            raise Failure(2, f"there is no table {name}")
-        self.failures = (sqlite3.Error,)
+            raise Failure(USAGE, f"there is no table {name}")
         try:
             self.file = sqlite3.connect(name, isolation_level=None, timeout=60)
             self.file.execute("pragma journal_mode=wal")
@@ -47,89 +61,91 @@ class SQLite:
         except sqlite3.Error as error:
             raise Failure(STREAM, f"the table {name}: {error}") from None
 
-    def rows(self, text, values=()):
+    def rows(self, text: str, values: Values = ()) -> List[Row]:
         return self.file.execute(text, values).fetchall()
 
-    def run(self, text, values=()):
+    def run(self, text: str, values: Values = ()) -> None:
         self.file.execute(text, values)
 
-    def put(self, rows):
+    def put(self, rows: Sequence[Values]) -> None:
         self.file.executemany(PUT.format("(?, ?, ?, ?)"), rows)
 
-    def begin(self):
+    def begin(self) -> None:
         self.file.execute("begin immediate")
 
-    def commit(self):
+    def commit(self) -> None:
         self.file.execute("commit")
 
-    def rollback(self):
+    def rollback(self) -> None:
         if self.file.in_transaction:
             self.file.execute("rollback")
 
-    def close(self):
+    def close(self) -> None:
         self.file.close()
 
 
 class PostgreSQL:
     """Tables in a database. One process writes them at a time."""
 
-    def __init__(self, url, _):
+    failures: Tuple[Type[Exception], ...] = (psycopg2.Error,) if psycopg2 else ()
+
+    def __init__(self, url: str, _: bool):
         if psycopg2 is None:
-            raise Failure(2, "for PostgreSQL install Debian's python3-psycopg2, and run this with /usr/bin/python3")
-        self.failures = (psycopg2.Error,)
+            raise Failure(USAGE, "for PostgreSQL install Debian's python3-psycopg2, and run this with /usr/bin/python3")
         try:
             self.connection = psycopg2.connect(url, connect_timeout=20, application_name="olr-keep")
         except psycopg2.Error as error:
             raise Failure(STREAM, f"the database: {str(error).strip()}") from None
         self.connection.autocommit = True
 
-    def rows(self, text, values=()):
+    def rows(self, text: str, values: Values = ()) -> List[Row]:
         with self.connection.cursor() as cursor:
             cursor.execute(text.replace("?", "%s"), values)
-            return cursor.fetchall()
+            return list(cursor.fetchall())
 
-    def run(self, text, values=()):
+    def run(self, text: str, values: Values = ()) -> None:
         with self.connection.cursor() as cursor:
             cursor.execute(text.replace("?", "%s"), values)
 
-    def put(self, rows):
+    def put(self, rows: Sequence[Values]) -> None:
         with self.connection.cursor() as cursor:
             psycopg2.extras.execute_values(cursor, PUT.format("%s"), rows, page_size=ROWS)
 
-    def begin(self):
+    def begin(self) -> None:
         self.run("begin")
         self.run("lock table shares in share row exclusive mode")
 
-    def commit(self):
+    def commit(self) -> None:
         self.run("commit")
 
-    def rollback(self):
+    def rollback(self) -> None:
         if not self.connection.closed:
             self.run("rollback")
 
-    def close(self):
+    def close(self) -> None:
         self.connection.close()
 
 
 class Table:
     """The tables, with the positions of the shares."""
 
-    def __init__(self, file, shares=None):
-        self.file, self.late = file, set()
+    def __init__(self, file: Union[SQLite, PostgreSQL], shares: Optional[Shares] = None):
+        self.file = file
+        self.late: Set[int] = set()
         if shares:
             self.prepare(shares)
 
     @classmethod
-    def of(cls, name, shares=None):
+    def of(cls, name: str, shares: Optional[Shares] = None) -> "Table":
         """The table of this name: a URL of PostgreSQL, or a file of SQLite. With `shares` it is made if it isn't there."""
-        kind = PostgreSQL if name.startswith(("postgresql://", "postgres://")) else SQLite
+        kind: Type[Union[SQLite, PostgreSQL]] = PostgreSQL if name.startswith(("postgresql://", "postgres://")) else SQLite
         file = kind(name, shares is None)
         try:
             return cls(file, shares)
         except file.failures as error:
             raise Failure(STREAM, f"the table: {str(error).strip()}") from None
 
-    def prepare(self, shares):
+    def prepare(self, shares: Shares) -> None:
         """Makes what is missing, or stops before it has written anything."""
         for statement in TABLES.split(";")[:-1]:
             self.file.run(statement)
@@ -142,20 +158,20 @@ class Table:
             self.file.run("insert into shares values (?, ?, -1, -1, -1, 0)", (share, shares.label))
         self.file.commit()
 
-    def rows(self, text, values=()):
+    def rows(self, text: str, values: Values = ()) -> List[Row]:
         return self.file.rows(text, values)
 
-    def of_share(self, share):
+    def of_share(self, share: int) -> Tuple[Tuple[int, int], int]:
         """The position of a share, and the last offset of its stream that was read."""
         (offset, part, read), = self.rows('select "offset", record, read from shares where share = ?', (share,))
         return (offset, part), read
 
-    def identity(self):
+    def identity(self) -> Optional[str]:
         """The identity of the stream of commands to which the table belongs, if it is known."""
         found = self.rows("select identity from streams")
         return found[0][0] if found else None
 
-    def check_identity(self, identity):
+    def check_identity(self, identity: Optional[str]) -> None:
         """Stops if answers belong to another stream of commands than those before."""
         before = self.identity()
         if identity and before and identity != before:
@@ -164,19 +180,20 @@ class Table:
         if identity and not before:
             self.file.run("insert into streams values (?)", (identity,))
 
-    def apply_all(self, messages):
+    def apply_all(self, messages: Iterable[Message]) -> None:
         """Applies messages of answers in one transaction."""
         try:
             self.file.begin()
             for message in messages:
-                self.apply(*message)
+                self.apply(message)
             self.file.commit()
         except Failure:
             self.file.rollback()
             raise
 
-    def apply(self, share, read, properties, body):
+    def apply(self, message: Message) -> None:
         """Applies one message, unless its position is not after the current one."""
+        share, read, properties, body = message
         position, before = self.of_share(share)
         if read <= before:
             return
@@ -196,23 +213,23 @@ class Table:
         self.file.run('update shares set "offset" = ?, record = ?, read = ?, changes = changes + ? where share = ?',
                       (*position, read, changes, share))
 
-    def wait_for_whole(self, share):
+    def wait_for_whole(self, share: int) -> None:
         """The first answers are no longer in the stream of a share: a message that has all of them is needed."""
         if share not in self.late:
             self.late.add(share)
             say(f"the first answers of share {share} are no longer in their stream: waiting for a message with all"
                             " of them, which its worker sends beside each snapshot")
 
-    def reject(self, share, offset, lines):
+    def reject(self, share: int, offset: int, lines: List[str]) -> None:
         """Adds rows of rejected records."""
         for line in lines:
             index, fault, word, text = line.split(",", 3)
             values = share, offset, int(index), int(fault), word, text
             self.file.run('insert into rejected values (?, ?, ?, ?, ?, ?) on conflict do nothing', values)
 
-    def change(self, share, offset, is_whole, lines):
+    def change(self, share: int, offset: int, is_whole: bool, lines: List[str]) -> int:
         """Changes the rows of these paths, or of all paths of a share, and returns the number of changes."""
-        answers = [line.split(",", 1) for line in lines]
+        answers = [line.partition(",")[::2] for line in lines]
         if is_whole:
             names = {name for name, _ in answers}
             gone = self.rows("select name from published where share = ?", (share,))
@@ -224,15 +241,15 @@ class Table:
                 self.file.run("delete from published where name = ?", (name,))
         return len(answers)
 
-    def offsets(self):
+    def offsets(self) -> Iterator[Tuple[int, Optional[int], int]]:
         """Each share, the last offset up to which it is complete, or None, and its number of changes."""
         for share, offset, part, changes in self.rows('select share, "offset", record, changes from shares order by share'):
             complete = offset if part == stream.END else offset - 1
             yield share, None if complete < 0 else complete, changes
 
-    def is_at(self, until):
+    def is_at(self, until: int) -> bool:
         """Whether the answers of all shares are complete up to this offset."""
         return all(offset is not None and offset >= until for _, offset, _ in self.offsets())
 
-    def close(self):
+    def close(self) -> None:
         self.file.close()
