@@ -248,6 +248,7 @@ class Records:
             lines = self.lines(text)
             self.count += sum(map(bool, lines))
             self.size += self.file.write(b"\n".join(lines) + b"\n" * bool(lines[-1]))
+        self.file.flush()
         self.parts.append(Part(name, begin, self.count - count, int(head is not None)))
         if head and ends != int(head[1]):
             begins = f"it begins with {head[0].decode().strip()}, and {ends} whole lines follow"

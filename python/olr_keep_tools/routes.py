@@ -39,8 +39,8 @@ class Search:
             for it in self.nodes(limit):
                 if it == node:
                     break
-        far = self.settled.get(node, math.inf)
-        return far if far <= limit else None
+        far = self.settled.get(node)
+        return None if far is None or far > limit else far
 
     def lines_to(self, node: int) -> List[int]:
         """The lines of that route."""
