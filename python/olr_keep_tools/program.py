@@ -19,6 +19,7 @@ from .command import STREAM, TOP, Failure
 from .replies import UNCHANGED, Head, NoReply, Reply, is_one_record
 
 CHUNK = 1 << 18
+LINE = 64  # bytes, about the length of a line
 UNCHANGED_REPLIES = re.compile(b"(?:ok,0\n)+")
 BESIDE = [os.path.join(TOP, name) for name in ("crates/olr_keep/out/olr_keep", "../../bin/olr-keep")]
 
@@ -126,9 +127,7 @@ class Program:
             raise ProgramFailed(f"a dump is rejected with fault {head.number}")
         left = head.number
         while left:
-            if self.at == len(self.buffer):
-                self.move()
-            text, self.at = self.buffer[self.at :], len(self.buffer)
+            text = self.take(left)
             left -= text.count(b"\n")
             try:
                 failure or file.write(text)
@@ -141,15 +140,18 @@ class Program:
         """The next lines of replies, so many, without their ends."""
         found: List[bytes] = []
         while len(found) < count:
-            whole = self.buffer.rfind(b"\n", self.at) + 1
-            if not whole:
-                self.move()
-                continue
-            new = self.buffer[self.at : whole].split(b"\n", count - len(found))
-            rest = new.pop()
-            found += new
-            self.at = whole - len(rest)
+            found += self.take(count - len(found)).split(b"\n")[:-1]
         return [it.decode("utf-8", "surrogateescape") for it in found]
+
+    def take(self, most: int) -> bytes:
+        """The whole lines that were read, at least one and at most so many."""
+        while not (end := self.buffer.find(b"\n", self.at) + 1):
+            self.move()
+        text = self.buffer[self.at : max(end, self.buffer.rfind(b"\n", self.at, self.at + LINE * most) + 1)]
+        if text.count(b"\n") > most:
+            text = b"\n".join(text.split(b"\n", most)[:most]) + b"\n"
+        self.at += len(text)
+        return text
 
     def move(self) -> None:
         """Writes and reads what is possible now, and waits until something is."""

@@ -15,7 +15,7 @@ from typing import Callable, Dict, Iterable, Iterator, List, NamedTuple, Optiona
 from .geo import METRES, Degrees, angle_between, between, direction, distance, on_piece, scale
 from .records import State
 from .routes import Search, Step
-from .strings import Point, Reference
+from .strings import Onward, Point, Reference
 
 CELL = 0.002  # degrees, the width of a cell of the grid
 
@@ -305,10 +305,10 @@ class Router:
         self.roads, self.rules = roads, rules
         self.searches: Dict[Tuple[int, int], Search] = {}
 
-    def bounds(self, point: Point) -> Tuple[float, float]:
+    def bounds(self, onward: Onward) -> Tuple[float, float]:
         """The least and the greatest length of the route after a point."""
-        more = point.next_m * self.rules.dnp_share + self.rules.dnp_metres
-        return point.next_m - more, point.next_m + more
+        more = onward.metres * self.rules.dnp_share + self.rules.dnp_metres
+        return onward.metres - more, onward.metres + more
 
     def search(self, start: int, lowest: int) -> Search:
         """The search from a node over lines whose class is at most a limit."""
@@ -324,10 +324,10 @@ class Router:
             self.searches[start, lowest] = Search(start, steps)
         return self.searches[start, lowest]
 
-    def route(self, point: Point, a: Candidate, b: Candidate) -> Union[Leg, NoLeg]:
+    def route(self, onward: Onward, a: Candidate, b: Candidate) -> Union[Leg, NoLeg]:
         """The leg from one candidate to the next, or why there is none."""
-        least, most = self.bounds(point)
-        road, lowest = self.roads.lines[a.line], (point.lfrcnp or 0) + self.rules.class_variance
+        least, most = self.bounds(onward)
+        road, lowest = self.roads.lines[a.line], onward.lfrcnp + self.rules.class_variance
         if a.line == b.line and a.at < b.at:
             leg = Leg([], b.at - a.at)
         else:
@@ -387,7 +387,7 @@ def decode(roads: RoadMap, reference: Reference, rules: Rules) -> Union[Found, F
             why = f"none of the {count} lines within {{}} m matches" if count else "no line within {} m"
             return Failed(k, "no candidate", why.format(f"{rules.radius:g}"))
         ranked.append(good)
-    joined = joined_candidates(Router(roads, rules), points, ranked)
+    joined = joined_candidates(Router(roads, rules), [it.onward for it in points if it.onward], ranked)
     return joined if isinstance(joined, Failed) else cut(roads, reference, joined, ranked)
 
 
@@ -404,7 +404,7 @@ def pairs_of(starts: List[Candidate], ends: List[Candidate], rules: Rules) -> It
     return iter(sorted(itertools.product(starts, ends), key=lambda it: -rating(it))[: rules.pairs])
 
 
-def joined_candidates(router: Router, points: Sequence[Point], ranked: List[List[Candidate]]) -> Union[Joined, Failed]:
+def joined_candidates(router: Router, onward: Sequence[Onward], ranked: List[List[Candidate]]) -> Union[Joined, Failed]:
     """One candidate for each point and the legs between them. If a leg has no route, the leg before it is tried with its next
     pair (backtracking); a candidate from which the rest failed is not tried again."""
     waiting, deepest = [pairs_of(ranked[0], ranked[1], router.rules)], Failed(0, "no route", "")
@@ -421,14 +421,14 @@ def joined_candidates(router: Router, points: Sequence[Point], ranked: List[List
             continue
         if (k + 1, pair[1]) in dead:
             continue
-        leg = router.route(points[k], *pair)
+        leg = router.route(onward[k], *pair)
         if isinstance(leg, NoLeg):
             if k > deepest.point or not deepest.why:
                 deepest = Failed(k, leg.kind, f"to point {k + 1}: {leg.why}")
             continue
         taken.append(pair)
         legs.append(leg)
-        if k + 2 == len(points):
+        if k + 1 == len(onward):
             return Joined([taken[0][0], *(b for _, b in taken)], legs)
         waiting.append(pairs_of([pair[1]], ranked[k + 2], router.rules))
     return deepest

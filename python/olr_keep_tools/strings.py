@@ -34,26 +34,32 @@ class TextError(Failure):
         super().__init__(USAGE, text)
 
 
+class Onward(NamedTuple):
+    """What a point says of the way to the next one: the lowest class (LFRCNP), and the distance in steps (DNP)."""
+
+    lfrcnp: int
+    dnp: int
+
+    @property
+    def metres(self) -> float:
+        """The middle of the step of the distance."""
+        return (self.dnp + 0.5) * STEP
+
+
 class Point(NamedTuple):
-    """A location reference point in degrees; the last one has no lowest class (LFRCNP) and no distance to a next one."""
+    """A location reference point in degrees; the last one has nothing onward."""
 
     lon: float
     lat: float
     frc: int
     fow: int
     sector: int
-    lfrcnp: Optional[int] = None
-    dnp: Optional[int] = None
+    onward: Optional[Onward] = None
 
     @property
     def bearing(self) -> float:
         """The middle of the bearing's sector, in degrees clockwise from north."""
         return (self.sector + 0.5) * SECTOR
-
-    @property
-    def next_m(self) -> float:
-        """The middle of the step of the distance to the next point, in metres; 0 of the last one."""
-        return 0 if self.dnp is None else (self.dnp + 0.5) * STEP
 
     @property
     def compass(self) -> str:
@@ -94,13 +100,11 @@ def reference_of(rows: Iterable[Tuple[str, List[int]]]) -> Reference:
             offsets[word] = x
             continue
         y, frc, fow, *more = rest
+        onward = None if word == "last" else Onward(more.pop(0), more.pop())
         lon, lat = absolute(x), absolute(y)
         if word != "first":
             lon, lat = points[-1].lon + x * STEP_16, points[-1].lat + y * STEP_16
-        if word == "last":
-            points.append(Point(lon, lat, frc, fow, more[0]))
-        else:
-            points.append(Point(lon, lat, frc, fow, more[1], more[0], more[2]))
+        points.append(Point(lon, lat, frc, fow, more[0], onward))
     return Reference(tuple(points), offsets.get("positive"), offsets.get("negative"))
 
 

@@ -73,8 +73,8 @@ class Strings(unittest.TestCase):
 
     def test_reference(self) -> None:
         first, last = read_reference("CwAAAAAAABtoCAGQAAAcNFk=").points
-        self.assertEqual((first.lon, first.lat, first.frc, first.fow, first.sector, first.lfrcnp, first.dnp), (0, 0, 3, 3, 8, 3, 8))
-        self.assertEqual((last.lon, last.lat, last.fow, last.dnp, last.compass), (0.004, 0, 4, None, "SW"))
+        self.assertEqual(first, (0, 0, 3, 3, 8, (3, 8)))
+        self.assertEqual((last.lon, last.lat, last.fow, last.onward, last.compass), (0.004, 0, 4, None, "SW"))
         self.assertEqual(read_reference("CwAAAAAAABtoCAGQAAAcNFk=").negative is None, False)
         for text in ("?", "CwRb", "CgAAAAAAABtoCAGQAAAcNFk=", "CwAAAAAAABtoCAGQAAAcFFk="):
             with self.assertRaises(TextError, msg=text):
