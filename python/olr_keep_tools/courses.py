@@ -11,7 +11,7 @@ import bisect
 import heapq
 import math
 from collections import defaultdict
-from typing import NamedTuple
+from typing import Callable, NamedTuple, Optional
 
 from .geo import METRES, scale
 
@@ -25,22 +25,33 @@ START, END = "start", "end"
 
 
 class Ground(NamedTuple):
-    """A line of the map: its nodes, a name that its stretch of road shares with others, its coordinates, and its length in
-    decimetres."""
+    """A line of the map: its nodes, a name that its stretch of road shares with others, its coordinates, its length in
+    decimetres, and what kind of road it is, as far as that matters."""
 
     start: int
     end: int
     street: str
     points: tuple
     length: int
+    kind: tuple = ()
+
+
+class Rival(NamedTuple):
+    """Two roads that follow a course, by name, and where."""
+
+    taken: str
+    other: str
+    place: tuple
 
 
 class Found(NamedTuple):
-    """The lines that follow a course, and the decimetres of them before its start and after its end."""
+    """The lines that follow a course, the decimetres of them before its start and after its end, and a road that follows it
+    too, if that was asked."""
 
     lines: list
     start: int
     end: int
+    rival: Optional[Rival] = None
 
 
 class Lost(NamedTuple):
@@ -115,22 +126,56 @@ class Plane:
         return point[0] / self.wide, point[1] / METRES
 
 
-class Follower:
-    """The search for the lines that follow one course."""
+class Strip(Polyline):
+    """A polyline with a grid, by which its segments near a point are found."""
 
-    def __init__(self, course, lines, tolerance, preferred, snap):
-        lats = [it[1] for it in course]
-        self.plane = Plane((min(lats) + max(lats)) / 2)
-        self.course = Polyline([self.plane.flat(it) for it in course])
-        self.lines, self.tolerance, self.preferred, self.snap = lines, tolerance, preferred, snap
-        self.shapes, self.positions = {}, {}
-        self.cell = max(tolerance, 50.0)
-        self.cells = defaultdict(set)
-        for k, (a, b) in enumerate(zip(self.course.points, self.course.points[1:])):
+    def __init__(self, points, cell):
+        super().__init__(points)
+        self.cell, self.cells = cell, defaultdict(set)
+        for k, (a, b) in enumerate(zip(self.points, self.points[1:])):
             count = max(1, math.ceil(2 * math.dist(a, b) / self.cell))
             for step in range(count + 1):
                 x, y = a[0] + (b[0] - a[0]) * step / count, a[1] + (b[1] - a[1]) * step / count
                 self.cells[int(x // self.cell), int(y // self.cell)].add(k)
+
+    def segments_near(self, point):
+        """The segments near a point, up to the size of a cell from it."""
+        x, y = int(point[0] // self.cell), int(point[1] // self.cell)
+        return sorted({k for i in (-1, 0, 1) for j in (-1, 0, 1) for k in self.cells.get((x + i, y + j), ())})
+
+    def is_near(self, point, metres):
+        """Whether a point is within this distance, which is at most the size of a cell."""
+        return any(far <= metres for far, _ in self.project(point, self.segments_near(point)))
+
+
+class Ends(NamedTuple):
+    """Whether the start and the end of a course are at junctions, and may only be sought there."""
+
+    start: bool = False
+    end: bool = False
+
+
+class Wish(NamedTuple):
+    """What a search for the lines of a course prefers: lines on these streets, an end within `snap` metres of a node at the node,
+    and, if it is given, lines for which `unlike(number, line, low, high, length)` is least, from 0 to 1: that are the road where the
+    path was, between these positions of the course of that length. `has_rivals` asks for a second road that follows it."""
+
+    preferred: frozenset = frozenset()
+    snap: float = SNAP
+    ends: Ends = Ends()
+    unlike: Optional[Callable] = None
+    has_rivals: bool = False
+
+
+class Follower:
+    """The search for the lines that follow one course."""
+
+    def __init__(self, course, lines, tolerance, wish):
+        lats = [it[1] for it in course]
+        self.plane = Plane((min(lats) + max(lats)) / 2)
+        self.course = Strip([self.plane.flat(it) for it in course], max(tolerance, 50.0))
+        self.lines, self.tolerance, self.wish = lines, tolerance, wish
+        self.shapes, self.positions, self.following, self.avoided = {}, {}, set(), frozenset()
         self.leaving, self.nodes = defaultdict(list), {}
         for number, line in lines.items():
             self.leaving[line.start].append(number)
@@ -142,11 +187,6 @@ class Follower:
             self.shapes[number] = Polyline([self.plane.flat(it) for it in self.lines[number].points])
         return self.shapes[number]
 
-    def segments_near(self, point):
-        """The segments of the course near a point."""
-        x, y = int(point[0] // self.cell), int(point[1] // self.cell)
-        return sorted({k for i in (-1, 0, 1) for j in (-1, 0, 1) for k in self.cells.get((x + i, y + j), ())})
-
     def positions_of(self, node):
         """The positions along the course at which it passes a node: of each pass the nearest one."""
         if node not in self.positions:
@@ -155,7 +195,7 @@ class Follower:
 
     def passes(self, point):
         """The positions along the course at which it passes a point."""
-        near = [(at, far) for far, at in self.course.project(point, self.segments_near(point)) if far <= self.tolerance]
+        near = [(at, far) for far, at in self.course.project(point, self.course.segments_near(point)) if far <= self.tolerance]
         passes = []
         for at, far in sorted(near):
             if passes and at - passes[-1][2] <= 2 * self.tolerance:
@@ -185,14 +225,25 @@ class Follower:
         for k in range(bisect.bisect_right(self.course.far, low), bisect.bisect_left(self.course.far, high)):
             if shape.distance(self.course.points[k], 0, len(shape.far) - 1) > self.tolerance:
                 return None
-        other = 0 if self.lines[number].street in self.preferred else OTHER
-        return (total / count + other) * length + 1e-4
+        self.following.add(number)
+        return (total / count + self.other(number, low, high)) * length + 1e-4
+
+    def other(self, number, low, high):
+        """The added mean distance of a line that isn't wanted as much as another one."""
+        line, wish = self.lines[number], self.wish
+        more = 0.0 if line.street in wish.preferred else OTHER
+        if wish.unlike:
+            more += self.tolerance * wish.unlike(number, line, low, high, self.course.length)
+        return more + (2 * self.tolerance if number in self.avoided else 0.0)
 
     def ends(self):
         """The parts of lines on which the course starts and ends: (distance along the line, distance from it) by number."""
         found = {}
-        for name, point in ((START, self.course.points[0]), (END, self.course.points[-1])):
+        sides = (START, self.course.points[0], self.wish.ends.start), (END, self.course.points[-1], self.wish.ends.end)
+        for name, point, is_at_node in sides:
             found[name] = {}
+            if is_at_node:
+                continue
             lon, lat = self.plane.degrees(point)
             east, north = self.plane.degrees((self.tolerance, self.tolerance))
             for number, line in self.lines.items():
@@ -203,7 +254,7 @@ class Follower:
                 if shape.distance(point, 0, len(shape.far) - 1) > self.tolerance:
                     continue
                 far, at = min(shape.project(point))
-                if far <= self.tolerance and self.snap < at < shape.length - self.snap:
+                if far <= self.tolerance and self.wish.snap < at < shape.length - self.wish.snap:
                     found[name][number] = at
         return found
 
@@ -303,9 +354,29 @@ class Follower:
         return round(metres / (self.shape(number).length or 1) * self.lines[number].length)
 
 
-def follow(course, lines, tolerance=20.0, preferred=frozenset(), snap=SNAP):
-    """The lines that follow a course, or why there are none: `Found` or `Lost`. Lines on preferred streets are taken before
-    others that are as near. An end of the course within `snap` metres of a node along a line is at the node."""
+    def with_rival(self, found):
+        """The same lines, with a road that follows the course too, if there is one: another route that avoids them finds it."""
+        others = self.following - set(found.lines)
+        if not any(self.lines[it].length > 20 * self.tolerance for it in others):
+            return found
+        self.avoided = frozenset(found.lines)
+        second = self.search()
+        other = next((it for it in second.lines if it in others), None) if isinstance(second, Found) else None
+        if other is None:
+            return found
+        middle = self.shape(other).at(self.shape(other).length / 2)
+        taken = min(found.lines, key=lambda it: self.shape(it).distance(middle, 0, len(self.shape(it).far) - 1))
+        return found._replace(rival=Rival(self.name(taken), self.name(other), self.plane.degrees(middle)))
+
+
+def follow(course, lines, tolerance=20.0, wish=Wish()):
+    """The lines that follow a course, or why there are none: `Found` or `Lost`. An end that is to be at a junction is sought along
+    lines if no route leads from junction to junction."""
     if len(course) < 2 or len(set(course)) < 2:
         return Lost("its course has no two different coordinates", course[0] if course else (0.0, 0.0))
-    return Follower(course, lines, tolerance, preferred, snap).search()
+    for ends in dict.fromkeys((wish.ends, Ends())):
+        follower = Follower(course, lines, tolerance, wish._replace(ends=ends))
+        found = follower.search()
+        if isinstance(found, Found):
+            return follower.with_rival(found) if wish.has_rivals else found
+    return found

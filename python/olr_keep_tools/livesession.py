@@ -1,5 +1,5 @@
-"""The session of tools/live: connecting, the lock of the process that works, transactions, and what is
-asked between rounds."""
+"""The session of tools/live: connecting, the lock of the process that works, transactions, and what is asked between rounds."""
+import enum
 from typing import NamedTuple
 
 try:
@@ -10,6 +10,7 @@ except ImportError:
     psycopg2 = None
 
 LOCK = 7165_0029  # of pg_try_advisory_lock
+TRIGGERS = "'olr_keep_row', 'olr_keep_statement', 'olr_keep_truncate'"
 
 
 class Stale(Exception):
@@ -17,7 +18,7 @@ class Stale(Exception):
 
 
 class Busy(Exception):
-    """Another transaction has a table locked, as TRUNCATE does until its end."""
+    """Another transaction has the table of paths or of sources locked."""
 
 
 class Source(NamedTuple):
@@ -32,13 +33,41 @@ class Source(NamedTuple):
     direction: str
     geom: str
     prefix: str
+    search_path: str
+
+
+class Readable(enum.Enum):
+    """Whether a table can be read now."""
+
+    READY = "ready"
+    LOCKED = "locked"
+    MISSING = "missing"
+    BROKEN = "broken"
+
+
+class Table(NamedTuple):
+    """A source, whether it can be read, and why not."""
+
+    source: Source
+    state: Readable
+    words: str = ""
+
+
+class Watched(NamedTuple):
+    """A table whose triggers are looked at: source 0 is that of the paths. `files` changes if the table is written anew."""
+
+    source: int
+    streets: str
+    is_there: bool
+    has_triggers: bool
+    files: str
 
 
 # ---- the session
 
 
 def connect(database, idle):
-    """Opens a session that notices if it is cut."""
+    """Opens a session that notices if it is cut; the server ends it after a pause of `idle` seconds in a transaction."""
     connection = psycopg2.connect(
         database, application_name="olr-keep live", keepalives_idle=10, keepalives_interval=5, keepalives_count=3,
         tcp_user_timeout=30_000, connect_timeout=10)
@@ -50,8 +79,8 @@ def connect(database, idle):
 
 
 def check_schema(cursor):
-    """Fails if the schema is missing."""
-    cursor.execute("select to_regprocedure('olr_keep.records()') is null")
+    """Fails if the schema is missing, or that of another version."""
+    cursor.execute("select to_regclass('olr_keep.waiting') is null or to_regprocedure('olr_keep.mend_triggers(int)') is null")
     if cursor.fetchone()[0]:
         raise psycopg2.ProgrammingError("the database has no schema olr_keep, or that of another version: run tools/live.sql")
 
@@ -63,45 +92,61 @@ def try_lock(cursor):
 
 
 def end_stopped(cursor, seconds):
-    """Ends the session that has the lock if it has no transaction and has asked nothing for so long. A process that runs asks
-    each second."""
+    """Ends the session that has the lock if it has asked nothing for so long, in a transaction or not. A process that runs asks
+    more often."""
     cursor.execute(
         """select pg_terminate_backend(pid) from pg_locks join pg_stat_activity using (pid)
         where locktype = 'advisory' and objid = %s and classid = 0 and granted
             and pg_locks.database = (select oid from pg_database where datname = current_database())
-            and state = 'idle' and state_change < clock_timestamp() - make_interval(secs => %s)""",
+            and state like 'idle%%' and state_change < clock_timestamp() - make_interval(secs => %s)""",
         (LOCK, seconds))
     return cursor.rowcount > 0
 
 
-def listen(cursor):
-    """Asks for a notification of each commit that notes something."""
-    cursor.execute("listen olr_keep_note")
-
-
 def sources_of(cursor):
     """The tables of streets."""
-    cursor.execute("""select source, streets, id, id_type, class, form, direction, geom, prefix from olr_keep.source
-        where to_regclass(streets) is not null order by source""")
+    cursor.execute("""select source, streets, id, id_type, class, form, direction, geom, prefix, search_path
+        from olr_keep.source order by source""")
     return [Source(*it) for it in cursor]
+
+
+class Savepoint:
+    """A part of a transaction that is taken back if it fails. Inside, functions are sought where `search_path` says."""
+
+    def __init__(self, cursor, search_path=None):
+        self.cursor, self.search_path = cursor, search_path
+
+    def __enter__(self):
+        self.cursor.execute("savepoint part")
+        if self.search_path:
+            self.cursor.execute(f"set local search_path = {self.search_path}, public, pg_temp")
+
+    def __exit__(self, kind, error, trace):
+        if kind is None:
+            back = "; set local search_path = public, pg_temp" if self.search_path else ""
+            self.cursor.execute(f"release savepoint part{back}")
+        elif issubclass(kind, psycopg2.Error) and not self.cursor.connection.closed:
+            self.cursor.execute("rollback to savepoint part; release savepoint part")
 
 
 class Transaction:
     """A transaction that sees one state of all tables: they are locked against TRUNCATE before its snapshot is taken. It never
-    waits for a lock while it has others, so it can't be part of a deadlock with an editor."""
+    waits for a lock while it has others, so it can't be part of a deadlock with an editor. A table that can't be locked or read
+    is left out, and `tables` says why."""
 
     def __init__(self, connection, cursor):
-        self.connection, self.cursor, self.is_open = connection, cursor, False
+        self.connection, self.cursor, self.is_open, self.tables = connection, cursor, False, []
 
     def __enter__(self):
         sources = sources_of(self.cursor)
-        names = ", ".join(["olr_keep.path", "olr_keep.source", *(it.streets for it in sources)])
         self.cursor.execute("begin isolation level repeatable read")
         self.is_open = True
         try:
-            self.cursor.execute(f"lock table {names} in access share mode nowait")
+            self.cursor.execute("lock table olr_keep.path, olr_keep.source in access share mode nowait")
+            tables = [self.locked(it) for it in sources]
             if sources_of(self.cursor) != sources:
                 raise Stale("the tables of streets changed")
+            self.tables = [self.probed(it) if it.state is Readable.READY else it for it in tables]
         except psycopg2.errors.LockNotAvailable as error:
             self.__exit__()
             raise Busy(str(error).strip()) from None
@@ -109,6 +154,34 @@ class Transaction:
             self.__exit__()
             raise
         return self
+
+    def locked(self, source):
+        """Locks a table. It is the first command for it, since the snapshot of the transaction isn't taken yet."""
+        try:
+            with Savepoint(self.cursor):
+                self.cursor.execute(f"lock table {source.streets} in access share mode nowait")
+        except psycopg2.errors.LockNotAvailable:
+            return Table(source, Readable.LOCKED, "another transaction has it locked")
+        except (psycopg2.errors.UndefinedTable, psycopg2.errors.InvalidSchemaName):
+            return Table(source, Readable.MISSING, "it is missing")
+        except psycopg2.Error as error:
+            return self.broken(source, error)
+        return Table(source, Readable.READY)
+
+    def probed(self, table):
+        """Whether the expressions of a table can be read."""
+        try:
+            with Savepoint(self.cursor, table.source.search_path):
+                self.cursor.execute(f"select * from ({row_query(table.source)}) as row limit 0", {"prefix": ""})
+        except psycopg2.Error as error:
+            return self.broken(table.source, error)
+        return table
+
+    def broken(self, source, error):
+        """A table that can't be read for this reason, unless the session has ended."""
+        if self.connection.closed:
+            raise error
+        return Table(source, Readable.BROKEN, first_line(error))
 
     def commit(self):
         """Commits."""
@@ -128,61 +201,83 @@ class Transaction:
                 self.connection.close()
 
 
+def first_line(error):
+    """What a message of the database says first."""
+    return (str(error).strip() or type(error).__name__).splitlines()[0]
+
+
+def row_query(source, where=""):
+    """The rows of a table of streets, with the columns that make a street. It is to be run with parameters."""
+    columns = f"({source.id}) as id, ({source.frc})::text as class, ({source.fow})::text as form"
+    columns += f", ({source.direction})::text as direction, ({source.geom}) as geom"
+    inner = f"select {columns} from {source.streets}".replace("%", "%%")
+    return f"""select %(prefix)s || id::text as street, class, form, direction, geom, shape,
+            hashtextextended(concat_ws('|', coalesce(class, '?'), coalesce(form, '?'), shape), 0) as digest
+        from (select *, hashtextextended(concat_ws('|', coalesce(direction, '?'), geom::text), 0) as shape
+            from ({inner} {where}) as it offset 0) as it"""
+
+
 # ---- what is asked between rounds
 
 
-def has_notes(cursor):
-    """Whether something was committed."""
-    cursor.execute("select exists (select from olr_keep.note)")
+def has_work(cursor, unread):
+    """Whether something was committed: a note, but not of these sources, or a release."""
+    cursor.execute("""select exists (select from olr_keep.note where source <> all(%s::int[]))
+        or exists (select from olr_keep.waiting join olr_keep.release using (hold))""", (list(unread),))
     return cursor.fetchone()[0]
 
 
-def signature(cursor):
-    """What differs if another attempt at a held round may end otherwise."""
-    cursor.execute("""select (select count(*) from olr_keep.note), (select max(at) from olr_keep.note),
-        (select state from olr_keep.round where state <> 'done')""")
-    return cursor.fetchone()
+def is_held(cursor):
+    """Whether the strings of a hold wait."""
+    cursor.execute("select exists (select from olr_keep.waiting where hold is not null)")
+    return cursor.fetchone()[0]
 
 
-def held_number(cursor):
-    """The number of the round that is held, or None."""
-    cursor.execute("select round from olr_keep.round where state <> 'done'")
-    return (cursor.fetchone() or (None,))[0]
+def watch(cursor):
+    """The tables with their triggers."""
+    cursor.execute(f"""select source, streets, to_regclass(streets) is not null, coalesce(bool_and(count = 3), false),
+            coalesce(string_agg(part::text || filenode, ' ' order by part), '')
+        from (select source, streets from olr_keep.source union all select 0, 'olr_keep.path') as source
+        left join lateral (
+            select part, coalesce(filenode, 0) as filenode, (select count(*) from pg_trigger where tgrelid = part::oid
+                and tgenabled = 'A' and tgname in ({TRIGGERS})) as count
+            from olr_keep.parts(streets)
+        ) as parts on true
+        group by source, streets order by source""")
+    return [Watched(*it) for it in cursor]
 
 
-def released(cursor):
-    """How many strings a released round may change, or None."""
-    cursor.execute("select changed + refused + dropped from olr_keep.round where state = 'released'")
-    return (cursor.fetchone() or (None,))[0]
+def mend_triggers(cursor, source):
+    """Makes the triggers of a table again. Returns why it can't be done, or an empty text."""
+    try:
+        cursor.execute("select olr_keep.mend_triggers(%s)", (source,))
+    except psycopg2.Error as error:
+        if cursor.connection.closed:
+            raise
+        return first_line(error)
+    return ""
 
 
-def forget_held(cursor):
-    """Removes the held round: nothing of it is left."""
-    cursor.execute("delete from olr_keep.round where state <> 'done'")
-
-
-def check_triggers(cursor, say):
-    """Whether a table has lost its triggers, so that all streets have to be compared. They are made again if possible."""
-    cursor.execute("""select source, streets, id, to_regclass(streets) is null from olr_keep.source
-        where 3 > (select count(*) from pg_trigger where tgrelid = to_regclass(streets) and tgenabled = 'A'
-            and tgname in ('olr_keep_row', 'olr_keep_statement', 'olr_keep_truncate'))""")
-    missing = cursor.fetchall()
-    for source, streets, key, is_gone in missing:
-        if is_gone:
-            say(f"the table {streets} is missing; its streets stay in the map as they were")
-            continue
-        try:
-            cursor.execute("select olr_keep.make_triggers(%s, %s, %s)", (source, streets, key))
-            say(f"the triggers of {streets} were missing or disabled, and are made again")
-        except psycopg2.Error as error:
-            say(f"the triggers of {streets} are missing, and all streets are compared each minute: {str(error).strip()}")
-    return bool(missing)
+def write_table_problems(cursor, problems):
+    """Writes which tables can't be read, or have no triggers: a set of (source, words)."""
+    cursor.execute("select source, words from olr_keep.problem where kind = 'table'")
+    known = set(cursor.fetchall())
+    for source, words in known - problems:
+        cursor.execute("delete from olr_keep.problem where kind = 'table' and source = %s and words = %s", (source, words))
+    for source, words in problems - known:
+        cursor.execute("insert into olr_keep.problem (kind, source, words) values ('table', %s, %s)", (source, words))
 
 
 def metrics(cursor):
     """Numbers of the tables by name."""
-    cursor.execute("""select count(*), count(*) filter (where text is null), (select count(*) from olr_keep.problem),
-        (select count(*) from olr_keep.round where state = 'held'), (select count(*) from olr_keep.note),
-        (select coalesce(extract(epoch from clock_timestamp() - min(at)), 0) from olr_keep.note) from olr_keep.string""")
-    names = ("paths", "paths_refused", "problems", "held", "notes", "oldest_note_seconds")
+    cursor.execute("""select count(*), count(*) filter (where text is null), count(*) filter (where found_elsewhere),
+            (select coalesce(extract(epoch from now() - min(at)), 0) from olr_keep.string join olr_keep.round using (round)
+                where string.text is null),
+            (select count(*) from olr_keep.problem), (select count(*) from olr_keep.held),
+            (select count(*) from olr_keep.waiting where hold is not null), (select count(*) from olr_keep.frozen),
+            (select count(*) from olr_keep.note),
+            (select coalesce(extract(epoch from clock_timestamp() - min(at)), 0) from olr_keep.note)
+        from olr_keep.string""")
+    names = ("paths", "paths_refused", "paths_elsewhere", "oldest_refusal_seconds", "problems", "held", "paths_held",
+             "paths_frozen", "notes", "oldest_note_seconds")
     return dict(zip(names, map(float, cursor.fetchone())))

@@ -87,33 +87,44 @@ class Old(NamedTuple):
         return self.along if self.start == self.end else None
 
 
+class Unfit(NamedTuple):
+    """Why a street can't be lines."""
+
+    words: str
+
+
 # ---- reading
 
 
 def street_of(frc, fow, direction, kind, srid, shape):
-    """The street of these texts and this shape (little-endian WKB in degrees), or a text that says why it can't be lines."""
+    """The street of these texts and this shape (little-endian WKB in degrees), or why it can't be lines: `Unfit`."""
     missing = [name for name, it in (("class", frc), ("form", fow), ("direction", direction), ("geometry", kind)) if it is None]
     if missing:
-        return f"{' and '.join(missing)} {'is' if len(missing) == 1 else 'are'} NULL"
+        return Unfit(f"{' and '.join(missing)} {'is' if len(missing) == 1 else 'are'} NULL")
     for name, text in (("class", frc), ("form", fow)):
         if text not in ("0", "1", "2", "3", "4", "5", "6", "7"):
-            return f"{name} is {text}, and has to be 0 to 7"
+            return Unfit(f"{name} is {text}, and has to be 0 to 7")
     if direction not in DIRECTIONS:
-        return f"direction is {direction}, and has to be both, along or against"
+        return Unfit(f"direction is {direction}, and has to be both, along or against")
     if kind not in ("ST_LineString", "ST_MultiLineString"):
-        return f"the geometry is of type {kind[3:]}, and has to be a LineString or a MultiLineString"
+        return Unfit(f"the geometry is of type {kind[3:]}, and has to be a LineString or a MultiLineString")
     if srid == 0:
-        return "the geometry has no SRID"
+        return Unfit("the geometry has no SRID")
     if shape is None:
-        return f"the geometry of SRID {srid} has no coordinates in degrees"
+        return Unfit(f"the geometry of SRID {srid} has no coordinates in degrees")
     parts = []
     for points in wkb_parts(shape):
-        if not all(-180 <= lon <= 179.9999 and -89.9999 <= lat <= 89.9999 for lon, lat in points):
-            return "the geometry is beyond the longitudes -180 to 179.9999 or the latitudes -89.9999 to 89.9999"
+        if not all(map(is_inside, points)):
+            return Unfit("the geometry is beyond the longitudes -180 to 179.9999 or the latitudes -89.9999 to 89.9999")
         places = [place_of(round(lon * UNITS), round(lat * UNITS)) for lon, lat in points]
         parts.append(tuple(subdivided([place for place, _ in itertools.groupby(places)])))
     parts = tuple(it for it in parts if len(it) > 1)
-    return Street(int(frc), int(fow), direction, parts) if parts else "the geometry has no two different vertices"
+    return Street(int(frc), int(fow), direction, parts) if parts else Unfit("the geometry has no two different vertices")
+
+
+def is_inside(point):
+    """Whether a map can have a node at a coordinate in degrees; NaN is nowhere."""
+    return -180 <= point[0] <= 179.9999 and -89.9999 <= point[1] <= 89.9999
 
 
 def wkb_parts(shape):
@@ -383,44 +394,53 @@ class Cut(NamedTuple):
     added: dict
 
 
-def recut(before, after, lines, nodes, others, new_nodes, new_lines):
-    """The new cut of all streets that a change affects.
+class Recut:
+    """The new cut of all streets that a change affects, in steps.
 
     `before` has the old parts of streets by key, `after` the streets that are there now, `lines` their old lines, `nodes` the
     old places of these lines' nodes, and of those at a place of the streets, and `others` the places of streets beside these.
-    `new_nodes` and `new_lines` give so many numbers.
+    `numbers` gives new numbers of nodes and of lines.
     """
-    meeting = meeting_places(after.values(), others)
-    cuts = set().union(*(cut_places(it, meeting) for it in after.values()))
-    votes, ends, new_keys = defaultdict(set), defaultdict(set), renamed(before, after)
-    for line in lines:
-        ends[line.street].update((line.start, line.end))
-    for key, numbers in ends.items():
-        name = new_keys.get(key, key)
-        now = after[name].parts if name in after else ()
-        where = {} if now == before[key] else images(before[key], now)
-        for node in numbers:
-            place = nodes[node] if now == before[key] else where.get(nodes[node])
-            if place is not None:
-                votes[node].add(place)
-    node_at = kept_nodes({node: votes[node] for numbers in ends.values() for node in numbers}, nodes, cuts)
-    fresh = sorted(cuts - node_at.keys())
-    added = dict(zip(new_nodes(len(fresh)), fresh))
-    moved = {node: place for place, node in node_at.items() if nodes[node] != place}
-    there = set(node_at.values())
-    gone = sorted({node for numbers in ends.values() for node in numbers} - there)
-    node_at.update((place, node) for node, place in added.items())
 
-    made = [line for key, street in after.items() for line in lines_of(key, street, meeting, node_at)]
-    found = kept_lines(made, lines, nodes)
-    numbers = iter(new_lines(len(made) - len(found)))
-    old = {it.number: it for it in lines}
-    same = set(found.values())
-    dropped = [it.number for it in lines if it.number not in same]
-    changed, new = {}, {}
-    for index, line in enumerate(made):
-        if index in found:
-            changed[found[index]] = line, old[found[index]]
-        else:
-            new[next(numbers)] = line
-    return Cut(added, moved, gone, dropped, changed, new)
+    def __init__(self, before, after, lines, nodes, others, numbers):
+        self.before, self.after, self.lines, self.nodes, self.numbers = before, after, lines, nodes, numbers
+        self.meeting = meeting_places(after.values(), others)
+        self.cuts = set().union(*(cut_places(it, self.meeting) for it in after.values()))
+        self.ends = defaultdict(set)
+        for line in lines:
+            self.ends[line.street].update((line.start, line.end))
+
+    def run(self):
+        """The cut."""
+        node_at = kept_nodes(self.votes(), self.nodes, self.cuts)
+        fresh = sorted(self.cuts - node_at.keys())
+        added = dict(zip(self.numbers.take("node", len(fresh)), fresh))
+        moved = {node: place for place, node in node_at.items() if self.nodes[node] != place}
+        gone = sorted(set().union(*self.ends.values()) - set(node_at.values()))
+        node_at.update((place, node) for node, place in added.items())
+        return Cut(added, moved, gone, *self.numbered(self.made(node_at)))
+
+    def votes(self):
+        """Where each node is now by each of the streets that were cut there."""
+        votes, new_keys = {node: set() for ends in self.ends.values() for node in ends}, renamed(self.before, self.after)
+        for key, ends in self.ends.items():
+            name = new_keys.get(key, key)
+            now = self.after[name].parts if name in self.after else ()
+            where = None if now == self.before[key] else images(self.before[key], now)
+            for node in ends:
+                place = self.nodes[node] if where is None else where.get(self.nodes[node])
+                if place is not None:
+                    votes[node].add(place)
+        return votes
+
+    def made(self, node_at):
+        """The lines that the streets are cut into."""
+        return [line for key, street in self.after.items() for line in lines_of(key, street, self.meeting, node_at)]
+
+    def numbered(self, made):
+        """The numbers of lines that are gone, and by number the lines that stay, with the old one, and the new ones."""
+        found, old = kept_lines(made, self.lines, self.nodes), {it.number: it for it in self.lines}
+        dropped = sorted(old.keys() - set(found.values()))
+        changed = {number: (made[index], old[number]) for index, number in found.items()}
+        new = [line for index, line in enumerate(made) if index not in found]
+        return dropped, changed, dict(zip(self.numbers.take("line", len(new)), new))

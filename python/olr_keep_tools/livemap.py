@@ -1,0 +1,340 @@
+"""What a round of tools/live does to the map: the nodes and lines of the streets that differ, block by block."""
+import io
+import math
+import struct
+
+from .livesession import psycopg2
+from .pathlines import number_array, text_array
+from .streets import Old, Recut, Street, degrees, wkb_hex
+
+MANY = 1000  # changed streets after which the statistics of the tables are made again
+FEW = 100  # changed streets up to which each is compared with the paths that are lost
+FEW_LINES = 100  # changed lines up to which their paths are found by the index
+NEAR = 0.005  # degrees of the cells in which changes are near each other
+MOST_CELLS = 20_000  # changed streets of a round of which cells are kept
+GAP = 1.0  # metres between the end of a street and another street that are taken for a fault
+LAST = (1 << 32) - 1  # the greatest number of a node or a line
+ESCAPES = str.maketrans({"\\": "\\\\", "\t": "\\t", "\n": "\\n", "\r": "\\r"})  # of COPY
+
+
+class Numbers:
+    """New numbers of nodes, lines, rounds and holds. They are taken when the round is published."""
+
+    def __init__(self, cursor):
+        self.cursor = cursor
+        cursor.execute("select kind, last from olr_keep.counter")
+        self.last = dict(cursor.fetchall())
+        self.before = dict(self.last)
+
+    def take(self, kind, count):
+        """So many new numbers. When the greatest is reached, they are those that the map doesn't have."""
+        first = self.last[kind] + 1
+        if first + count - 1 <= LAST or kind not in ("node", "line"):
+            self.last[kind] += count
+            return list(range(first, first + count))
+        self.last[kind] = LAST
+        self.cursor.execute(f"""select number from generate_series(1::bigint,
+                (select count(*) from olr_keep.{kind}) + %s) as number
+            where not exists (select from olr_keep.{kind} where {kind} = number) order by number limit %s""", (count, count))
+        return [it for (it,) in self.cursor]
+
+    def write(self):
+        """Writes the last numbers."""
+        for kind, last in self.last.items():
+            if last != self.before[kind]:
+                self.cursor.execute("update olr_keep.counter set last = %s where kind = %s", (last, kind))
+
+
+class Affected:
+    """What the blocks of a round do to the paths: their names, the roads on which they were, the streets that were edited, where
+    they were, and which of them are new, and the lines that lie elsewhere now."""
+
+    def __init__(self):
+        self.names, self.roads, self.moved, self.fresh, self.boxes = set(), {}, set(), set(), []
+        self.keys, self.old_cells = set(), {}
+
+
+class MapUpdate:
+    """The change of one block of streets."""
+
+    def __init__(self, cursor, block, numbers, affected, margin):
+        self.cursor, self.numbers, self.affected, self.margin = cursor, numbers, affected, margin
+        self.plain = {key: block.rows[key] for key in block.plain}
+        self.rows = {key: it for key, it in block.rows.items() if key not in block.plain}
+        self.gone = block.gone
+        self.keys = self.rows.keys() | self.gone
+        self.after = {key: it.street for key, it in self.rows.items() if isinstance(it.street, Street)}
+        self.records = []
+
+    def run(self):
+        """Writes the change to the tables. Returns the records."""
+        self.affected.keys |= self.plain.keys() | self.keys
+        if self.plain:
+            self.set_attributes()
+        if self.keys:
+            self.read_old()
+            cut = self.recut()
+            self.find_affected(cut)
+            self.write_streets()
+            self.write_nodes(cut)
+            self.write_lines(cut)
+            if len(self.keys) > MANY:
+                self.cursor.execute("analyze olr_keep.street, olr_keep.vertex, olr_keep.node, olr_keep.line")
+            self.write_problems(cut)
+        return self.records
+
+    def set_attributes(self):
+        """Streets of which only class or form differ: their lines stay as they are but for that."""
+        rows = [(key, it.digest, it.source, it.street.frc, it.street.fow) for key, it in self.plain.items()]
+        update(self.cursor, """update olr_keep.street set digest = it.digest, source = it.source, class = it.class, form = it.form
+            from (values %s) as it(street, digest, source, class, form) where street.street = it.street""", rows)
+        self.cursor.execute("""update olr_keep.line
+            set fields = class || ',' || form || substr(fields, length(substring(fields from '^[0-9]+,[0-9]+')) + 1)
+            from olr_keep.street where street.street = line.street and street.street = any(%s::text[])
+            returning line, fields""", (text_array(self.plain),))
+        self.records += [f"set-line,{line},{fields}" for line, fields in sorted(self.cursor.fetchall())]
+        if len(self.plain) <= FEW:
+            self.cursor.execute("""select ST_XMin(geom), ST_YMin(geom), ST_XMax(geom), ST_YMax(geom) from olr_keep.line
+                where street = any(%s::text[])""", (text_array(self.plain),))
+            self.affected.boxes += map(self.widened, self.cursor.fetchall())
+
+    def read_old(self):
+        """Reads the streets as they were, and those beside them."""
+        self.before = self.old_parts(self.keys)
+        both = (parts for key in self.keys for parts in (self.before[key], self.after[key].parts if key in self.after else ()))
+        self.touched = {place for parts in both for part in parts for place in part}
+        self.cursor.execute("select distinct street from olr_keep.vertex where place = any(%s::bigint[])",
+                            (number_array(self.touched),))
+        beside = {it for (it,) in self.cursor} - self.keys
+        if beside:
+            self.before.update(self.old_parts(beside))
+            self.cursor.execute("""select street, class, form, direction from olr_keep.street
+                where street = any(%s::text[])""", (text_array(beside),))
+            self.after.update((key, Street(*rest, self.before[key])) for key, *rest in self.cursor)
+        self.cursor.execute("""select line, street, from_node, to_node, along, part, k, nth, fields from olr_keep.line
+            where street = any(%s::text[]) order by line""", (text_array(self.before),))
+        self.lines = [Old(*it) for it in self.cursor]
+
+    def old_parts(self, keys):
+        """The vertices of streets as they were, as parts by key."""
+        self.cursor.execute("""select street, part, place from olr_keep.vertex
+            where street = any(%s::text[]) order by street, part, k""", (text_array(keys),))
+        parts = {key: {} for key in keys}
+        for street, part, place in self.cursor:
+            parts[street].setdefault(part, []).append(place)
+        return {key: tuple(tuple(it[1]) for it in sorted(found.items())) for key, found in parts.items()}
+
+    def recut(self):
+        """The new cut."""
+        places = {place for street in self.after.values() for part in street.parts for place in part}
+        self.cursor.execute("""select distinct place from olr_keep.vertex where place = any(%s::bigint[])
+            and not exists (select from unnest(%s::text[]) as known where known = street)""", (number_array(places), text_array(self.before)))
+        others = {it for (it,) in self.cursor}
+        ends = {it for line in self.lines for it in (line.start, line.end)}
+        self.cursor.execute("""select node, place from olr_keep.node where node = any(%s::bigint[])
+            union select node, place from olr_keep.node where place = any(%s::bigint[])""",
+                            (number_array(ends), number_array(places)))
+        return Recut(self.before, self.after, self.lines, dict(self.cursor.fetchall()), others, self.numbers).run()
+
+    # ---- the paths that it affects
+
+    def find_affected(self, cut):
+        """Adds the paths over lines that are gone or lie elsewhere, and those whose streets these are, before anything is
+        written."""
+        affected = self.affected
+        if len(affected.keys) <= MOST_CELLS:
+            affected.old_cells.update((key, {cell_of(*degrees(it)) for part in self.before[key] for it in part})
+                                      for key in self.keys)
+        affected.fresh |= {key for key in self.rows if not self.before[key]}
+        looked, moved = {*cut.dropped}, set()
+        for number, (line, old) in cut.changed.items():
+            if is_moved(line, old) or line.start in cut.moved or line.end in cut.moved:
+                moved.add(number)
+            if number in moved or (line.street, line.along) != (old.street, old.along):
+                looked.add(number)
+        affected.moved |= moved
+        affected.boxes += self.boxes()
+        self.cursor.execute("select exists (select from olr_keep.string)")
+        if self.cursor.fetchone()[0]:
+            names = self.over_lines(looked) | self.over_streets()
+            self.remember_roads(names - affected.roads.keys())
+            affected.names |= names
+
+    def over_lines(self, numbers):
+        """The paths over these lines."""
+        if not numbers:
+            return set()
+        condition = "lines && %s::bigint[]" if len(numbers) <= FEW_LINES else \
+            "exists (select from unnest(lines) as line where line = any(%s::bigint[]))"
+        self.cursor.execute(f"select name from olr_keep.string where {condition}", (number_array(numbers),))
+        return {it for (it,) in self.cursor}
+
+    def over_streets(self):
+        """The paths by these streets."""
+        if len(self.keys) <= FEW:
+            condition, keys = "streets && %s::text[]", [mark + it for it in self.keys for mark in ("", "<", ">")]
+        else:
+            condition, keys = "exists (select from unnest(streets) as one where ltrim(one, '<>') = any(%s::text[]))", self.keys
+        self.cursor.execute(f"select name from olr_keep.path where {condition}", (text_array(keys),))
+        return {it for (it,) in self.cursor}
+
+    def remember_roads(self, names):
+        """Reads the roads of paths that are where they were given, while their lines are there."""
+        if not names:
+            return
+        self.cursor.execute(
+            """select name, length, line.street, split_part(fields, ',', 1)::int, split_part(fields, ',', 2)::int,
+                direction = 'both'
+            from olr_keep.string cross join unnest(lines) with ordinality as one(number, k)
+            join olr_keep.line on line.line = one.number join olr_keep.street on street.street = line.street
+            where name = any(%s::text[]) and said_course is null order by name, one.k""", (text_array(names),))
+        for name, length, street, *kind in self.cursor:
+            self.affected.roads.setdefault(name, []).append([length, street, *kind])
+
+    def boxes(self):
+        """The boxes of the changed streets as they were and as they are, with a margin; one box if they are many."""
+        if len(self.keys) > FEW:
+            boxes = [box_of(self.touched)]
+        else:
+            both = [self.before[key] for key in self.keys] + [self.after[key].parts for key in self.keys if key in self.after]
+            boxes = [box_of([place for part in parts for place in part]) for parts in both]
+        return [self.widened(it) for it in boxes if it]
+
+    def widened(self, box):
+        """A box with the margin."""
+        return box[0] - self.margin, box[1] - self.margin, box[2] + self.margin, box[3] + self.margin
+
+    # ---- writing
+
+    def write_streets(self):
+        """Writes the changed streets and their vertices."""
+        keys = text_array(self.keys)
+        self.cursor.execute("delete from olr_keep.vertex where street = any(%s::text[])", (keys,))
+        self.cursor.execute("delete from olr_keep.street where street = any(%s::text[])", (keys,))
+        rows, vertices = [], []
+        for key, it in self.rows.items():
+            street = self.after.get(key)
+            rows.append((key, it.digest, it.source, *(street[:3] if street else (None, None, None)), it.shape))
+            for part, places in enumerate(street.parts if street else ()):
+                vertices += [(key, part, k, place) for k, place in enumerate(places)]
+        copy(self.cursor, "street", "street, digest, source, class, form, direction, shape", rows)
+        copy(self.cursor, "vertex", "street, part, k, place", vertices)
+
+    def write_nodes(self, cut):
+        """Writes the nodes of a cut, and their records."""
+        self.records += [f"drop-line,{it}" for it in cut.dropped]
+        self.records += [f"node,{node},{record_place(place)}" for node, place in cut.new_nodes.items()]
+        self.records += [f"move,{node},{record_place(place)}" for node, place in cut.moved.items()]
+        self.cursor.execute("delete from olr_keep.node where node = any(%s::bigint[])", (number_array(cut.dropped_nodes),))
+        update(self.cursor, """update olr_keep.node set place = it.place::bigint, geom = it.geom::geometry
+            from (values %s) as it(node, place, geom) where node.node = it.node""",
+               [(node, place, point_hex(place)) for node, place in cut.moved.items()])
+        copy(self.cursor, "node", "node, place, geom",
+             ((node, place, point_hex(place)) for node, place in cut.new_nodes.items()))
+
+    def write_lines(self, cut):
+        """Writes the lines of a cut, and their records, and then those of nodes that are gone."""
+        self.cursor.execute("delete from olr_keep.line where line = any(%s::bigint[])", (number_array(cut.dropped),))
+        self.records += [f"line,{number},{it.start},{it.end},{it.fields}" for number, it in cut.added.items()]
+        columns = "line, street, part, k, along, from_node, to_node, nth, length, fields, geom"
+        rows = []
+        for number, (line, old) in sorted(cut.changed.items()):
+            is_other = line.fields != old.fields
+            if is_other:
+                self.records.append(f"set-line,{number},{line.fields}")
+            at = old.street, old.part, old.k, old.along, old.nth
+            if is_other or line.start in cut.moved or line.end in cut.moved or line[:4] + (line.nth,) != at:
+                rows.append((number, *line[:9], wkb_hex(line.places)))
+        update(self.cursor, f"""update olr_keep.line set ({columns}) = (it.line, it.street, it.part, it.k, it.along,
+            it.from_node, it.to_node, it.nth, it.length, it.fields, it.geom::geometry)
+            from (values %s) as it({columns}) where line.line = it.line""", rows)
+        copy(self.cursor, "line", columns, ((number, *it[:9], wkb_hex(it.places)) for number, it in cut.added.items()))
+        self.records += [f"drop-node,{node}" for node in cut.dropped_nodes]
+
+    def write_problems(self, cut):
+        """Writes which streets can't be lines, and which ends of streets nearly touch another street."""
+        self.cursor.execute("delete from olr_keep.problem where street = any(%s::text[]) and kind = 'street'",
+                            (text_array(self.keys),))
+        copy(self.cursor, "problem", "street, source, words",
+             ((key, it.source, it.street.words) for key, it in self.rows.items() if not isinstance(it.street, Street)))
+        box = box_of(self.touched)
+        if not box:
+            return
+        high = 1.5 * GAP / 111_000
+        wide = high / max(0.01, math.cos(math.radians(max(abs(box[1]), abs(box[3])))))
+        ends = {it for line in [*cut.added.values(), *(line for line, _ in cut.changed.values())] for it in (line.start, line.end)}
+        values = {"wide": wide, "high": high, "nodes": number_array({*ends, *cut.dropped_nodes}),
+                  "lines": number_array([*cut.added, *cut.changed]), "gap": GAP, **dict(zip("wsen", box))}
+        for statement in OPEN_ENDS:
+            self.cursor.execute(statement, values)
+
+
+# The ends of lines that are a metre from another street: among the nodes of the lines that changed, and those near them.
+OPEN_ENDS = (
+    """create temporary table if not exists checked (node bigint primary key) on commit delete rows;
+    delete from checked;
+    insert into checked select unnest(%(nodes)s::bigint[])
+    union select node from olr_keep.problem where node is not null
+        and geom && ST_Expand(ST_MakeEnvelope(%(w)s, %(s)s, %(e)s, %(n)s, 4326), %(wide)s)
+    union select node from olr_keep.line join olr_keep.node on node.geom && ST_Expand(line.geom, %(wide)s, %(high)s)
+        where line = any(%(lines)s::bigint[])
+    on conflict do nothing""",
+    "delete from olr_keep.problem where node in (select node from checked)",
+    """insert into olr_keep.problem (kind, node, street, words, geom)
+    select 'open end', node.node, own.street,
+        format('an end is %%s m from street %%s, without a common vertex', round(far::numeric, 2), other.street), node.geom
+    from checked join olr_keep.node using (node)
+    join lateral (
+        select count(distinct (street, part, k)) as ways, min(street) as street from olr_keep.line
+        where geom && node.geom and node.node in (from_node, to_node)
+    ) as own on ways = 1
+    join lateral (
+        select street, ST_Distance(node.geom::geography, geom::geography) as far from olr_keep.line
+        where geom && ST_Expand(node.geom, %(wide)s, %(high)s) and node.node not in (from_node, to_node)
+        order by far limit 1
+    ) as other on far < %(gap)s""",
+)
+
+
+def is_moved(line, old):
+    """Whether a line has another length or other shape points."""
+    return line.fields.split(",", 2)[2] != old.fields.split(",", 2)[2]
+
+
+def box_of(places):
+    """The least and greatest degrees of places, or None."""
+    if not places:
+        return None
+    lons, lats = zip(*map(degrees, places))
+    return min(lons), min(lats), max(lons), max(lats)
+
+
+def cell_of(lon, lat):
+    """The cell of a coordinate in degrees."""
+    return math.floor(lon / NEAR), math.floor(lat / NEAR)
+
+
+def record_place(place):
+    """The two fields of a coordinate."""
+    return "{:.7f},{:.7f}".format(*degrees(place))
+
+
+def point_hex(place):
+    """The point of a place, as hexadecimal EWKB."""
+    return struct.pack("<BIIdd", 1, 0x20000001, 4326, *degrees(place)).hex()
+
+
+def copy(cursor, table, columns, rows):
+    """Inserts rows by COPY; None is NULL, and texts may have any characters."""
+    file = io.StringIO()
+    for row in rows:
+        file.write("\t".join("\\N" if it is None else str(it).translate(ESCAPES) for it in row) + "\n")
+    if file.tell():
+        file.seek(0)
+        cursor.copy_expert(f"copy olr_keep.{table} ({columns}) from stdin", file)
+
+
+def update(cursor, statement, rows):
+    """Runs a statement over rows of values."""
+    if rows:
+        psycopg2.extras.execute_values(cursor, statement, rows, page_size=2000)

@@ -1,0 +1,256 @@
+"""What a round of tools/live does to the paths: which ones it looks at, where they are, and their records."""
+import json
+import struct
+from typing import NamedTuple, Optional
+
+from .courses import Ends
+from .livemap import FEW, copy, update
+
+from .pathlines import (Edited, Finder, Known, Lost, PathSearch, Placement, Road, State, Wanted, coordinates, course_of,
+                        number_array, text_array)
+
+PART = 500  # paths that are read at once
+
+
+class Was(NamedTuple):
+    """Where a path was when it was last found as said, beside its course: which ends were at junctions, and on which roads."""
+
+    ends: Ends
+    roads: list
+
+    def json(self):
+        """The same, as it is written."""
+        return json.dumps({"at_junctions": self.ends, "roads": [[it.length, it.street, *it.kind] for it in self.roads]})
+
+
+class Placed(NamedTuple):
+    """The lines of a path, what is cut off them, and how the path will be found again."""
+
+    state: State
+    lines: list
+    streets: list
+    start: int
+    end: int
+    positive: int
+    negative: int
+    nodes: tuple
+    course: Optional[tuple]
+    definition: str
+    said_course: Optional[tuple]
+    was: Optional[Was]
+    why: Optional[Lost]
+    rival: Optional[tuple]
+    was_said: bool
+
+
+class PathsUpdate:
+    """Where the paths of a round are. `records` are collected unless the program is loaded afterwards."""
+
+    def __init__(self, cursor, affected, tolerance):
+        self.cursor, self.affected, self.tolerance = cursor, affected, tolerance
+        self.found, self.gone, self.records = {}, set(), []
+
+    def run(self, change):
+        """Finds the paths, and writes the rows of those that were found; those of removed paths are left."""
+        names = self.names(change)
+        for first in range(0, len(names), PART):
+            self.find(names[first : first + PART])
+        self.cursor.execute("update olr_keep.string set lines = '{}' where name = any(%s::text[])", (text_array(self.gone),))
+
+    def names(self, change):
+        """The paths to look at: noted ones, those that the map's change affects, and of those that are not found as said the
+        ones near it, or all if all is compared."""
+        names = change.paths | self.affected.names
+        if change.every_path:
+            self.cursor.execute("""select name from olr_keep.path full join olr_keep.string using (name)
+                where path.name is null or string.name is null or lost or found_elsewhere
+                    or definition <> md5(concat(path.streets::text, '|', course::text))""")
+            names |= {it for (it,) in self.cursor}
+        elif self.affected.keys:
+            names |= self.open_ones()
+        return sorted(names)
+
+    def open_ones(self):
+        """The paths that are not found as said, and are near a changed street or over it."""
+        keys = self.affected.keys
+        if len(keys) > FEW:
+            self.cursor.execute("select name from olr_keep.string where reason is not null or lost or found_elsewhere")
+            return {it for (it,) in self.cursor}
+        marked = text_array(mark + it for it in keys for mark in ("", "<", ">"))
+        boxes = [[f"{it:.7f}" for it in side] for side in zip(*self.affected.boxes)] or [[]] * 4
+        self.cursor.execute(
+            """select name from olr_keep.string left join olr_keep.path using (name)
+            where (reason is not null or lost or found_elsewhere)
+            and (string.streets && %s::text[] or path.streets && %s::text[] or exists (
+                select from unnest(%s::float8[], %s::float8[], %s::float8[], %s::float8[]) as box(w, s, e, n)
+                where ST_Intersects(coalesce(geom, course), ST_MakeEnvelope(w, s, e, n, 4326))
+                    or ST_Intersects(coalesce(said_course, course), ST_MakeEnvelope(w, s, e, n, 4326))))""",
+            (marked, marked, *map(number_array, boxes)))
+        return {it for (it,) in self.cursor}
+
+    def find(self, names):
+        """Finds some paths."""
+        finder, edited = Finder(self.cursor, self.tolerance), Edited(self.affected.moved, self.affected.fresh)
+        wanted, known = self.read(names, finder)
+        rows = []
+        for name in names:
+            before = known.get(name)
+            if name not in wanted:
+                if before is not None:
+                    self.gone.add(name)
+                    self.records += [f"drop-path,{name}"] if before[0].lines else []
+                continue
+            placed = self.place(finder, wanted[name], before and before[0], edited)
+            self.found[name] = placed._replace(course=None, said_course=None, was=None)
+            self.record(name, placed, before)
+            rows.append(row_of(name, placed))
+        write_rows(self.cursor, rows)
+
+    def record(self, name, placed, before):
+        """Adds the record of a path, if it differs."""
+        had_lines = before is not None and bool(before[0].lines)
+        if placed.lines:
+            fields = ",".join(map(str, (placed.positive, placed.negative, *placed.lines)))
+            if not had_lines:
+                self.records.append(f"path,{name},{fields}")
+            elif before[1:] != (placed.positive, placed.negative) or before[0].lines != placed.lines:
+                self.records.append(f"repath,{name},{fields}")
+        elif had_lines:
+            self.records.append(f"drop-path,{name}")
+
+    def read(self, names, finder):
+        """The paths of these names as operators give them, and as they were found last, with their two offsets."""
+        self.cursor.execute("""select name, streets, ST_AsBinary(course, 'NDR'), cut_start, cut_end,
+                md5(concat(streets::text, '|', course::text))
+            from olr_keep.path where name = any(%s::text[])""", (text_array(names),))
+        wanted = {name: Wanted(name, streets, coordinates(course), *rest) for name, streets, course, *rest in self.cursor}
+        self.cursor.execute("""select name, lines, streets, start_cut, end_cut, start_node, end_node, ST_AsBinary(geom, 'NDR'),
+                definition, lost, found_elsewhere, ST_AsBinary(said_course, 'NDR'), said_roads, start_offset, end_offset
+            from olr_keep.string where name = any(%s::text[])""", (text_array(names),))
+        rows = self.cursor.fetchall()
+        ends = {it for row in rows for it in row[5:7] if it is not None}
+        self.cursor.execute("select node from olr_keep.node where node = any(%s::bigint[])", (number_array(ends),))
+        there = {it for (it,) in self.cursor}
+        finder.read_numbers({it for row in rows for it in row[1]})
+        return wanted, {row[0]: (self.known(row, there, finder), *row[-2:]) for row in rows}
+
+    def known(self, row, there, finder):
+        """A path as it was found last. While it was found as said, its roads are those of its lines before this round."""
+        name, lines, streets, start, end, a, b, course, definition, lost, elsewhere, said, roads, *_ = row
+        state = State.LOST if lost else State.ELSEWHERE if elsewhere else State.SAID
+        course, said = coordinates(course), coordinates(said)
+        if said is None:
+            said, roads, ends = course, self.affected.roads.get(name), (start == 0, end == 0)
+            if roads is None:
+                kept = [finder.rows[it] for it in lines if it in finder.rows]
+                roads = [[it.length, it.street, *it.kind] for it in kept]
+        else:
+            roads, ends = roads["roads"], roads["at_junctions"]
+        roads = [Road(length, street, tuple(kind)) for length, street, *kind in roads]
+        if roads and state is State.SAID:
+            roads[0] = roads[0]._replace(length=roads[0].length - start)
+            roads[-1] = roads[-1]._replace(length=roads[-1].length - end)
+        nodes = (a if a in there else None, b if b in there else None)
+        return Known(lines, streets, start, end, nodes, course, definition, state, said, roads, Ends(*ends))
+
+    def place(self, finder, wanted, known, edited):
+        """Where a path is on the map now."""
+        try:
+            placement = PathSearch(finder, wanted, known, edited).run()
+        except (ArithmeticError, LookupError, TypeError, ValueError) as error:
+            placement = Placement(State.LOST, None, Lost(f"it can't be sought: {type(error).__name__}: {error}", None))
+        cuts = round(10 * wanted.cut_start), round(10 * wanted.cut_end)
+        is_same = known is not None and known.definition == wanted.definition
+        was_said = is_same and known.state is State.SAID
+        is_kept = is_same and placement.state is not State.SAID and known.said_course
+        was = (known.said_course, Was(known.said_ends, known.roads)) if is_kept else (None, None)
+        if placement.found is None:
+            if not is_same or not known.lines:
+                return Placed(State.LOST, [], [], 0, 0, 0, 0, (None, None), None, wanted.definition, *was, placement.why, None,
+                              was_said)
+            return Placed(State.LOST, known.lines, known.streets, known.start, known.end, known.start + cuts[0],
+                          known.end + cuts[1], known.nodes, known.course, known.definition, *was, placement.why, None, was_said)
+        found = placement.found
+        rows = [finder.rows[it] for it in found.lines]
+        streets = [(">" if it.along else "<") + it.street for it in rows]
+        streets = [it for k, it in enumerate(streets) if k == 0 or it != streets[k - 1]]
+        return Placed(placement.state, found.lines, streets, found.start, found.end, found.start + cuts[0], found.end + cuts[1],
+                      (rows[0].start, rows[-1].end), course_of(rows, found.start, found.end), wanted.definition, *was,
+                      placement.why, found.rival, was_said)
+
+
+ROW = ("name, lines, streets, start_offset, end_offset, start_cut, end_cut, start_node, end_node, definition, lost, "
+       "found_elsewhere, geom, said_course, said_roads")
+
+
+def row_of(name, it):
+    """The row of a path."""
+    return (name, it.lines, it.streets, it.positive, it.negative, it.start, it.end, *it.nodes, it.definition,
+            it.state is State.LOST, it.state is State.ELSEWHERE, course_hex(it.course), course_hex(it.said_course), it.was and it.was.json())
+
+
+def write_rows(cursor, rows):
+    """Writes where paths are; their answers are written when the round is published."""
+    update(cursor, f"""insert into olr_keep.string ({ROW}, reason, round)
+        select name, lines::bigint[], streets::text[], start_offset, end_offset, start_cut, end_cut, start_node::bigint,
+            end_node::bigint, definition, lost, found_elsewhere, geom::geometry, said_course::geometry, said_roads::jsonb,
+            'new', 0
+        from (values %s) as it({ROW})
+        on conflict (name) do update set ({ROW}) = (excluded.name, excluded.lines, excluded.streets, excluded.start_offset,
+            excluded.end_offset, excluded.start_cut, excluded.end_cut, excluded.start_node, excluded.end_node,
+            excluded.definition, excluded.lost, excluded.found_elsewhere, excluded.geom, excluded.said_course,
+            excluded.said_roads)""", rows)
+
+
+def course_hex(course):
+    """A course as hexadecimal EWKB, or None."""
+    if not course or len(course) < 2:
+        return None
+    numbers = [it for place in course for it in place]
+    return struct.pack(f"<BIII{len(numbers)}d", 1, 0x20000002, 4326, len(course), *numbers).hex()
+
+
+REASONS = {
+    "1": "it has no lines on the map now: line {} is gone",
+    "2": "its lines do not join: line {} of them, from 0, does not end where the next one begins",
+    "3": "what is cut off at its ends is as long as the path, or longer",
+    "4": "no location reference point can follow position {}: the line there is too long",
+}
+
+
+def write_path_problems(cursor, paths, names):
+    """Writes which of these paths have no string, are found elsewhere, or have two roads near their course, and why. Of paths
+    that were not looked at, only the first changes."""
+    looked = text_array({*paths.found, *paths.gone})
+    cursor.execute("""delete from olr_keep.problem where path = any(%s::text[])
+        or path = any(%s::text[]) and kind = 'no string'""", (looked, text_array(names)))
+    cursor.execute("""select name, coalesce(waiting.reason, string.reason), ST_X(ST_StartPoint(geom)), ST_Y(ST_StartPoint(geom)),
+            waiting.text is not null
+        from olr_keep.string left join olr_keep.waiting using (name) where name = any(%s::text[])""",
+                   (text_array({*paths.found, *names}),))
+    rows = []
+    for name, reason, lon, lat, is_text in cursor.fetchall():
+        placed = paths.found.get(name)
+        start = None if lon is None else (lon, lat)
+        if reason is not None and not is_text:
+            rows.append(("no string", name, *why_no_string(reason, placed, start)))
+        elif placed and placed.state is State.ELSEWHERE:
+            words = f"found elsewhere: {placed.why.words}"
+            rows.append(("found elsewhere", name, words, point(placed.why.place or start)))
+        if placed and placed.rival:
+            words = f"two roads follow its course: it is on {placed.rival.taken}, and {placed.rival.other} is near it too"
+            rows.append(("two roads", name, words, point(placed.rival.place)))
+    copy(cursor, "problem", "kind, path, words, geom", rows)
+
+
+def why_no_string(reason, placed, start):
+    """Why a path has no string, in words, and where."""
+    if placed and placed.why and placed.state is State.LOST:
+        return placed.why.words, point(placed.why.place or start)
+    kind, _, at = reason.partition(",")[2].partition(",")
+    return REASONS.get(kind, "no lines follow it").format(at), point(start)
+
+
+def point(place):
+    """A place as EWKT, or None."""
+    return None if place is None else "SRID=4326;POINT({:.7f} {:.7f})".format(*place)

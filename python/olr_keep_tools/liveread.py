@@ -1,0 +1,341 @@
+"""What a round of tools/live reads: the notes, and of the streets that they name the rows that differ from what was read last."""
+import enum
+from typing import NamedTuple, Optional, Union
+
+from .livesession import Readable, Savepoint, first_line, psycopg2, row_query
+from .pathlines import text_array
+from .streets import UNITS, Street, Unfit, street_of, units
+
+BLOCK = 4000  # streets that are read and cut at once
+CELL = 0.02  # degrees of the cells by which streets are put into blocks
+NO_SOURCE = -1  # of streets whose table is no source any more
+
+
+class StreetRow(NamedTuple):
+    """A street as its table has it now."""
+
+    source: int
+    digest: int
+    shape: int
+    street: Union[Street, Unfit]
+
+
+class Known(NamedTuple):
+    """What was read of a street last; `is_fit` is whether it is in the map."""
+
+    source: int
+    digest: int
+    shape: Optional[int]
+    is_fit: bool
+
+
+class Fate(enum.Enum):
+    """What has become of a street."""
+
+    SAME = "same"
+    GONE = "gone"
+    CHANGED = "changed"
+    TAKEN = "taken"
+
+
+class Block(NamedTuple):
+    """Streets that differ: rows by street, streets that are gone, and those of which only class or form are others."""
+
+    rows: dict
+    gone: set
+    plain: set
+
+    def keys(self):
+        """All streets of it."""
+        return self.rows.keys() | self.gone
+
+
+class Change:
+    """What a round is about: the streets and paths that were noted or differ, by which users, and in which transactions."""
+
+    def __init__(self):
+        self.paths, self.users, self.every_path = set(), set(), False
+        self.keys, self.broken, self.compared = {}, {}, set()
+        self.street_group, self.path_group = {}, {}
+
+    @property
+    def count(self):
+        """How many streets are to be read."""
+        return sum(map(len, self.keys.values()))
+
+
+class Reader:
+    """Reads the changes of the tables that can be read; `stale` are sources of which all rows are compared. A preview leaves the
+    notes where they are."""
+
+    def __init__(self, cursor, tables, stale, is_preview=False):
+        self.cursor, self.tables, self.stale, self.is_preview = cursor, tables, stale, is_preview
+        self.sources = {it.source.source: it.source for it in tables if it.state is Readable.READY}
+        self.change = Change()
+
+    def read(self):
+        """What there is to do."""
+        change = self.change
+        for source, key, who, tx in self.notes("source <= 0"):
+            change.users.add(who)
+            if key is None:
+                change.every_path = True
+            else:
+                change.paths.add(key)
+                change.path_group.setdefault(key, tx)
+        for source in self.sources.values():
+            try:
+                with Savepoint(self.cursor, source.search_path):
+                    self.read_source(source)
+            except psycopg2.Error as error:
+                self.fail(source, error)
+        self.removed_sources()
+        return change
+
+    def notes(self, where, *values):
+        """Takes the notes for which a condition holds: (source, key, who, transaction)."""
+        columns = "source, key, who, tx::text"
+        query = f"select {columns} from olr_keep.note where {where}" if self.is_preview else \
+            f"delete from olr_keep.note where {where} returning {columns}"
+        self.cursor.execute(query, values)
+        return self.cursor.fetchall()
+
+    def fail(self, source, error):
+        """Leaves a table out of this round, since it can't be read; its notes stay."""
+        if self.cursor.connection.closed:
+            raise error
+        self.change.broken[source.source] = first_line(error)
+        self.change.keys.pop(source.source, None)
+
+    def read_source(self, source):
+        """The streets of a table that were noted, and if it is compared all that differ."""
+        keys, is_whole = set(), source.source in self.stale
+        for _, key, who, tx in self.notes("source = %s", source.source):
+            self.change.users.add(who)
+            if key is None:
+                is_whole = True
+            else:
+                keys.add(key)
+                self.change.street_group.setdefault(source.prefix + key, tx)
+        if is_whole:
+            keys |= self.compared(source)
+            self.change.compared.add(source.source)
+        if "" in keys or is_whole:
+            self.nameless(source)
+        keys.discard("")
+        if keys:
+            self.change.keys[source.source] = keys
+
+    def compared(self, source):
+        """The ids of rows that differ from what was read last; if a row can't be read, all ids, so that the others are."""
+        try:
+            with Savepoint(self.cursor):
+                return self.differing(source)
+        except psycopg2.Error:
+            if self.cursor.connection.closed:
+                raise
+        self.cursor.execute(f"select ({source.id})::text from {source.streets}")
+        found = {it for (it,) in self.cursor if it is not None}
+        self.cursor.execute("select street from olr_keep.street where source = %s", (source.source,))
+        return found | {it[len(source.prefix) :] for (it,) in self.cursor}
+
+    def differing(self, source):
+        """The ids of rows that differ from what was read last."""
+        self.cursor.execute(
+            f"""select street
+            from (select street, min(digest) as digest, count(*) as count from ({row_query(source)}) as row group by street)
+                as new
+            full join (select street, digest from olr_keep.street where source = %(source)s) as old using (street)
+            where new.digest is distinct from old.digest or count > 1""",
+            {"prefix": source.prefix, "source": source.source})
+        return {it[len(source.prefix) :] for (it,) in self.cursor if it is not None}
+
+    def nameless(self, source):
+        """Writes how many rows of a table have no id."""
+        self.cursor.execute("delete from olr_keep.problem where kind = 'no id' and source = %s", (source.source,))
+        self.cursor.execute(f"select count(*) from {source.streets} where coalesce(({source.id})::text, '') = ''")
+        count = self.cursor.fetchone()[0]
+        if count:
+            words = f"{count} rows of {source.streets} have no id"
+            self.cursor.execute("insert into olr_keep.problem (kind, source, words) values ('no id', %s, %s)",
+                                (source.source, words))
+
+    def removed_sources(self):
+        """The streets of tables that are no sources any more, and their notes."""
+        self.notes("source > 0 and not exists (select from olr_keep.source where source.source = note.source)")
+        self.cursor.execute("""select street from olr_keep.street
+            where not exists (select from olr_keep.source where source = street.source)""")
+        gone = {street for (street,) in self.cursor}
+        if gone:
+            self.change.keys[NO_SOURCE] = gone
+        self.cursor.execute("""delete from olr_keep.problem
+            where source is not null and not exists (select from olr_keep.source where source = problem.source)""")
+
+    # ---- the rows, in blocks
+
+    def blocks(self):
+        """The streets that differ, in blocks of those that are near each other."""
+        ordered = [(source, key) for source, keys in self.change.keys.items() for key in sorted(keys)]
+        if len(ordered) > BLOCK:
+            cells = {source: self.cells(source, keys) for source, keys in self.change.keys.items()}
+            ordered.sort(key=lambda it: (cells[it[0]].get(it[1], -1), it))
+        self.change.keys = {}
+        for first in range(0, len(ordered), BLOCK):
+            by_source = {}
+            for source, key in ordered[first : first + BLOCK]:
+                by_source.setdefault(source, set()).add(key)
+            yield self.block(by_source)
+
+    def cells(self, number, keys):
+        """The cell of each street: where its row begins now, or where it was."""
+        source, found = self.sources.get(number), {}
+        prefix = source.prefix if source else ""
+        self.cursor.execute("select street, min(place) from olr_keep.vertex where part = 0 and k = 0 group by street")
+        for street, place in self.cursor:
+            if street.startswith(prefix):
+                lon, lat = units(place)
+                found[street[len(prefix) :]] = cell(lon / UNITS, lat / UNITS)
+        if source:
+            try:
+                with Savepoint(self.cursor, source.search_path):
+                    self.cursor.execute(
+                        f"""select street, ST_XMin(geom), ST_YMin(geom)
+                        from (select street, olr_keep.degrees(geom) as geom from ({row_query(source)}) as row) as it""",
+                        {"prefix": prefix})
+                    found.update((street[len(prefix) :], cell(lon, lat)) for street, lon, lat in self.cursor if street)
+            except psycopg2.Error as error:
+                if self.cursor.connection.closed:
+                    raise
+                self.change.broken[number] = first_line(error)
+        return {it: found[it] for it in keys if it in found}
+
+    def block(self, keys):
+        """The streets of these keys that differ, by source."""
+        block = Block({}, set(), set())
+        for number, ids in keys.items():
+            if number == NO_SOURCE:
+                block.gone.update(ids)
+                continue
+            self.read_keys(self.sources[number], ids, block)
+        for source, street in self.freed(block.gone):
+            self.read_keys(self.sources[source], {street[len(self.sources[source].prefix) :]}, block)
+        return block
+
+    def freed(self, gone):
+        """Streets of other tables that were left out since a street that is gone had their id."""
+        if not gone:
+            return []
+        self.cursor.execute("""select source, street from olr_keep.problem
+            where kind = 'same id' and street = any(%s::text[])""", (text_array(gone),))
+        return [it for it in self.cursor.fetchall() if it[0] in self.sources]
+
+    def read_keys(self, source, ids, block):
+        """Reads rows, and adds what differs to a block. If the table can't be read, it is left as it was, and noted again."""
+        try:
+            with Savepoint(self.cursor, source.search_path):
+                rows = self.rows(source, ids)
+        except psycopg2.Error as error:
+            if self.cursor.connection.closed:
+                raise
+            self.change.broken[source.source] = first_line(error)
+            if not self.is_preview:
+                self.cursor.execute("""insert into olr_keep.note (source, key, who)
+                    select %s, key, session_user from unnest(%s::text[]) as key""", (source.source, text_array(ids)))
+            return
+        self.sort_out(source, ids, rows, block)
+
+    def rows(self, source, ids):
+        """The rows of these ids, as lists by street. A row that can't be read alone is unfit; if none can be read, this fails."""
+        try:
+            with Savepoint(self.cursor):
+                return self.fetch(source, ids)
+        except psycopg2.Error as error:
+            if self.cursor.connection.closed:
+                raise
+            if len(ids) == 1:
+                self.fetch(source, set())
+                street = source.prefix + next(iter(ids))
+                return {street: [StreetRow(source.source, 0, 0, Unfit(first_line(error)))]}
+        ordered = sorted(ids)
+        half = len(ordered) // 2
+        return {**self.rows(source, set(ordered[:half])), **self.rows(source, set(ordered[half:]))}
+
+    def fetch(self, source, ids):
+        """The rows of these ids, as lists by street."""
+        where = f"where ({source.id})".replace("%", "%%") + f" = any(%(ids)s::text[]::{source.id_type}[])"
+        self.cursor.execute(
+            f"""select street, digest, shape, class, form, direction, ST_GeometryType(geom), ST_SRID(geom),
+                ST_AsBinary(olr_keep.degrees(geom), 'NDR')
+            from ({row_query(source, where)}) as row""",
+            {"prefix": source.prefix, "ids": text_array(ids)})
+        found = {}
+        for street, digest, shape, *fields, binary in self.cursor:
+            row = StreetRow(source.source, digest, shape, street_of(*fields, None if binary is None else bytes(binary)))
+            found.setdefault(street, []).append(row)
+        return found
+
+    def sort_out(self, source, ids, rows, block):
+        """Adds the streets that differ to a block, and writes which ids another table has."""
+        streets = [source.prefix + it for it in sorted(ids)]
+        known, taken = self.known(streets, block), []
+        for street in streets:
+            fate = fate_of(source.source, known.get(street), rows.get(street, ()))
+            if fate is Fate.GONE:
+                block.gone.add(street)
+            elif fate is Fate.TAKEN:
+                taken.append(street)
+            elif fate is Fate.CHANGED:
+                block.gone.discard(street)
+                block.rows[street] = changed(source.source, rows[street])
+                if is_plain(known.get(street), block.rows[street]):
+                    block.plain.add(street)
+        self.write_taken(source, streets, taken)
+
+    def known(self, streets, block):
+        """What was read of these streets last, or in this block from another table."""
+        self.cursor.execute("""select street, source, digest, shape, class is not null from olr_keep.street
+            where street = any(%s::text[])""", (text_array(streets),))
+        found = {street: Known(*rest) for street, *rest in self.cursor if street not in block.gone}
+        found.update((it, Known(block.rows[it].source, 0, 0, False)) for it in streets if it in block.rows)
+        return found
+
+    def write_taken(self, source, streets, taken):
+        """Writes which streets of a table are left out since another table has their id."""
+        self.cursor.execute("delete from olr_keep.problem where kind = 'same id' and source = %s and street = any(%s::text[])",
+                            (source.source, text_array(streets)))
+        for street in taken:
+            words = f"another table has a street with the same id: that of {source.streets} is left out; a prefix tells them apart"
+            self.cursor.execute("insert into olr_keep.problem (kind, source, street, words) values ('same id', %s, %s, %s)",
+                                (source.source, street, words))
+
+
+def fate_of(source, known, rows):
+    """What has become of a street of this source, whose rows these are."""
+    is_mine = known is None or known.source in (source, None)
+    if not rows:
+        return Fate.GONE if known and is_mine else Fate.SAME
+    if not is_mine:
+        return Fate.TAKEN
+    if len(rows) == 1 and known and known.digest == rows[0].digest and rows[0].digest:
+        return Fate.SAME
+    return Fate.CHANGED
+
+
+def changed(source, rows):
+    """The row of a street; with two rows it is unfit."""
+    return rows[0] if len(rows) == 1 else StreetRow(source, 0, 0, Unfit("another street has the same id"))
+
+
+def is_plain(known, row):
+    """Whether only the class or the form of a street is another one."""
+    return known is not None and known.is_fit and known.shape == row.shape and isinstance(row.street, Street)
+
+
+def cell(lon, lat):
+    """The number of a cell in the order of a Z curve, so that streets of neighbouring numbers are near each other."""
+    if lon is None or not (abs(lon) <= 180 and abs(lat) <= 90):
+        return -1
+    x, y, code = int((lon + 180) / CELL), int((lat + 90) / CELL), 0
+    for bit in range(16):
+        code |= (x >> bit & 1) << 2 * bit + 1 | (y >> bit & 1) << 2 * bit
+    return code

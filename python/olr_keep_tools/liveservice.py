@@ -1,0 +1,393 @@
+"""The process of tools/live: its session and its program, one attempt at a round after the other, and what it watches."""
+import collections
+import enum
+import os
+import select
+import sys
+import time
+from typing import NamedTuple
+
+from . import livesession as session
+from .command import say
+from .liveprogram import LiveProgram
+from .livemap import Affected, MapUpdate, Numbers
+from .livepaths import PathsUpdate
+from .liveread import BLOCK, Reader
+from .liverounds import Limits, Round
+from .livesession import Busy, Readable, Stale, psycopg2
+from .program import ProgramFailed
+
+POLL = 1.0  # seconds without a notification after which the notes are read all the same
+BUSY = 0.05  # seconds until tables that were locked are tried again
+QUIET = 2.0  # seconds after which a round begins though notes still come
+WATCH = 5.0  # seconds between two looks at the tables
+MINUTE = 60.0
+LONGEST_WAIT = 60.0  # seconds between two attempts after failures
+METRE = 1 / 100_000  # degrees that are more than a metre of latitude
+
+
+class Settings(NamedTuple):
+    """What the command line says."""
+
+    database: str
+    command: list
+    limits: Limits
+    tolerance: float
+    quiet: float
+    compare_at: int
+    idle: int
+    stopped: int
+    metrics: str
+    is_once: bool
+    is_preview: bool
+
+
+class Ending(enum.Enum):
+    """How an attempt ends: nothing was there to read, a round was published or all was as before, or it was shown."""
+
+    NOTHING = "nothing"
+    DONE = "done"
+    SHOWN = "shown"
+
+
+class Attempt:
+    """One round, in steps."""
+
+    def __init__(self, live, work, every_path):
+        self.live, self.work, self.cursor, self.settings = live, work, live.cursor, live.settings
+        self.began, self.records, self.fresh = time.monotonic(), [], {}
+        self.reader = Reader(self.cursor, work.tables, live.stale, self.settings.is_preview)
+        self.every_path, self.affected = every_path, Affected()
+
+    def run(self):
+        """Reads, applies, asks the program, and publishes."""
+        change = self.reader.read()
+        change.every_path |= self.every_path or self.live.program is None
+        self.numbers = Numbers(self.cursor)
+        if self.settings.is_preview:
+            self.fresh = self.live.loaded()
+        elif change.count > BLOCK:
+            self.live.drop_program()
+        self.apply_map(change)
+        self.paths = PathsUpdate(self.cursor, self.affected, self.settings.tolerance)
+        self.paths.run(change)
+        self.round = Round(self.cursor, change, self.affected, self.paths, self.numbers)
+        self.outcome = self.round.judge(self.answers(), self.settings.limits)
+        return self.show() if self.settings.is_preview else self.publish(change)
+
+    def apply_map(self, change):
+        """Changes the map, block by block."""
+        count, done, said = change.count, 0, time.monotonic()
+        margin = max(30, 2 * self.settings.tolerance) * METRE
+        for block in self.reader.blocks():
+            records = MapUpdate(self.cursor, block, self.numbers, self.affected, margin).run()
+            if self.live.program:
+                self.records += records
+            done = min(count, done + BLOCK)
+            self.live.progress = done, count
+            if time.monotonic() - said > 10:
+                said = time.monotonic()
+                say(f"{done} of {count} streets")
+                self.live.write_metrics(False)
+        self.live.progress = 0, 0
+
+    def answers(self):
+        """The answers that the round changes; all answers if the program is started for it."""
+        if self.live.program is None:
+            return self.live.loaded()
+        records = self.records + self.paths.records
+        return {**self.fresh, **(self.live.program.answers(records) if records else {})}
+
+    def publish(self, change):
+        """Publishes the round, and commits."""
+        number = self.round.publish(self.outcome, time.monotonic() - self.began)
+        self.work.commit()
+        self.live.has_read(change)
+        if number:
+            self.live.count_round(time.monotonic() - self.began)
+        if self.outcome.published or self.outcome.holds:
+            say(f"round {number}: {len(self.affected.keys)} streets; {self.outcome.counts.text()}")
+        for hold, names, counts, _ in self.outcome.holds:
+            say(f"hold {hold} of {len(names)} paths: {counts.text()}; select olr_keep.release({hold}) publishes them")
+        return Ending.DONE if number else Ending.NOTHING
+
+    def show(self):
+        """Prints what would be published, and what would wait or waits."""
+        self.work.rollback()
+        held = {**{name: it.answer for name, it in self.round.waited.items() if name not in self.outcome.ended},
+                **{name: it.answer for name, it in self.outcome.waiting.items()}}
+        shown = {**{name: after for name, (_, after) in self.outcome.published.items()}, **held}
+        for name, answer in sorted(shown.items()):
+            print(f"{name},{answer.written()}")
+        self.live.would_hold = bool(held)
+        words = f"; {len(held)} paths would be held" if held else ""
+        print(f"live: {self.outcome.counts.text()}{words}", file=sys.stderr)
+        return Ending.SHOWN
+
+
+class Live:
+    """The process. `stale` are the sources of which all rows are compared, `unread` those that couldn't be read."""
+
+    def __init__(self, settings, stopping):
+        self.settings, self.stopping = settings, stopping
+        self.connection = self.program = None
+        self.totals = collections.Counter(rounds=0, restarts=0)
+        self.last_round = self.last_seconds = self.written = 0.0
+        self.progress, self.counts, self.failed, self.would_hold = (0, 0), {}, 0, False
+        self.forget()
+
+    def forget(self):
+        """Forgets what a session has seen of the tables."""
+        self.stale, self.unread, self.files, self.locked_since, self.words = set(), {}, {}, {}, set()
+        self.without_triggers = {}
+
+    # ---- the session
+
+    def connect(self):
+        """Opens the session."""
+        self.connection = session.connect(self.settings.database, self.settings.idle)
+        self.cursor = self.connection.cursor()
+        session.check_schema(self.cursor)
+        self.forget()
+
+    def close(self):
+        """Ends the session and the program."""
+        self.drop_program()
+        if self.connection:
+            self.connection.close()
+        self.connection = None
+
+    def drop_program(self):
+        """Ends the program: its map isn't that of the tables."""
+        if self.program:
+            end(self.program)
+        self.program = None
+
+    def loaded(self):
+        """Starts the program with the map and the paths of the tables, and returns all answers."""
+        program = LiveProgram(self.settings.command, self.tick)
+        try:
+            answers = program.load(self.cursor)
+        except BaseException:
+            end(program)
+            raise
+        self.program = program
+        return answers
+
+    def tick(self):
+        """Asks something, so that the session isn't taken for one that is stopped."""
+        if self.stopping:
+            raise SystemExit(128 + self.stopping[0])
+        if not self.connection.info.transaction_status == psycopg2.extensions.TRANSACTION_STATUS_ACTIVE:
+            self.cursor.execute("select 1")
+
+    def lock(self):
+        """Waits until no other process works on the database."""
+        waited = False
+        while not session.try_lock(self.cursor):
+            if not waited:
+                say("another process works on this database; waiting")
+            waited = True
+            if session.end_stopped(self.cursor, self.settings.stopped):
+                say(f"ended the session of a process that had not asked for {self.settings.stopped} s")
+            time.sleep(POLL)
+
+    def wait(self, seconds):
+        """Waits for a notification, and returns whether one came."""
+        if not self.connection.notifies:
+            select.select([self.connection], [], [], seconds)
+        self.connection.poll()
+        came = bool(self.connection.notifies)
+        self.connection.notifies.clear()
+        return came
+
+    def wait_quiet(self):
+        """Waits until no note has come for a while, since one save of a person may be several commits."""
+        end = time.monotonic() + QUIET
+        while self.settings.quiet and time.monotonic() < end and self.wait(self.settings.quiet):
+            pass
+
+    # ---- rounds
+
+    def attempt(self, every_path=False):
+        """One round, if there is something to read."""
+        with session.Transaction(self.connection, self.cursor) as work:
+            self.unread = {it.source.source: it.state for it in work.tables if it.state is not Readable.READY}
+            broken = {it.source.source: it.words for it in work.tables if it.state in (Readable.BROKEN, Readable.MISSING)}
+            self.stale |= {it.source.source for it in work.tables if it.state is Readable.MISSING}
+            is_new = every_path or self.program is None or bool(self.stale - self.unread.keys())
+            ending = Ending.NOTHING
+            if is_new or session.has_work(self.cursor, self.unread):
+                attempt = Attempt(self, work, every_path)
+                ending = attempt.run()
+                broken.update(attempt.reader.change.broken)
+                self.unread.update((it, Readable.BROKEN) for it in attempt.reader.change.broken)
+        self.report(work.tables, broken)
+        return ending
+
+    def has_read(self, change):
+        """Remembers which tables were compared."""
+        self.stale -= change.compared - change.broken.keys()
+
+    def report(self, tables, broken):
+        """Writes which tables can't be read, or have no triggers, and says what is new."""
+        now, problems = time.monotonic(), set(self.without_triggers.items())
+        names = {it.source.source: it.source.streets for it in tables}
+        locked = {it.source.source for it in tables if it.state is Readable.LOCKED}
+        self.locked_since = {it: self.locked_since.get(it, now) for it in locked}
+        problems |= {(it, f"{names[it]} can't be read, and its streets stay as they were: {broken[it]}") for it in broken}
+        problems |= {(it, f"{names[it]} is locked by another transaction: its changes wait")
+                     for it, since in self.locked_since.items() if now - since > 2 * WATCH}
+        if problems != self.words:
+            for _, words in sorted(problems - self.words):
+                say(words)
+            for source in {it for it, _ in self.words} - {it for it, _ in problems}:
+                say(f"{names.get(source, source)} is as it should be again")
+            self.words = problems
+            if not self.settings.is_preview:
+                session.write_table_problems(self.cursor, problems)
+
+    def count_round(self, seconds):
+        """Counts a round that was published."""
+        self.totals["rounds"] += 1
+        self.last_round, self.last_seconds = time.time(), seconds
+
+    def look(self):
+        """Looks at the tables and their triggers: what was written anew, or has no triggers, is compared. They are made again if
+        that is possible."""
+        missing = {}
+        for it in session.watch(self.cursor):
+            if self.files.setdefault(it.source, it.files) != it.files:
+                self.files[it.source] = it.files
+                self.stale.add(it.source)
+            if not it.is_there or it.has_triggers:
+                continue
+            self.stale.add(it.source)
+            why = session.mend_triggers(self.cursor, it.source)
+            if why:
+                missing[it.source] = f"the triggers of {it.streets} are missing, and it is compared each minute: {why}"
+            else:
+                say(f"the triggers of {it.streets} were missing or disabled, and are made again")
+        if missing.keys() - self.without_triggers.keys() or time.monotonic() - self.compared > MINUTE:
+            self.compared = time.monotonic()
+        else:
+            self.stale -= missing.keys()
+        self.without_triggers = missing
+        self.unread = {}
+
+    def start(self):
+        """Opens the session, waits until no other process works, and finds which tables there are."""
+        self.connect()
+        if not self.settings.is_preview:
+            self.lock()
+        self.cursor.execute("listen olr_keep_note")
+        self.stale = {it.source for it in session.sources_of(self.cursor)}
+        self.compared = time.monotonic()
+
+    def serve(self):
+        """Rounds, until something fails; returns the exit status."""
+        self.start()
+        every_path, looked, day = True, 0.0, time.localtime().tm_yday
+        while not self.stopping:
+            try:
+                if not every_path and session.has_work(self.cursor, self.unread):
+                    self.wait_quiet()
+                ending = self.attempt(every_path)
+            except Busy:
+                self.wait(BUSY)
+                continue
+            every_path, self.failed = False, 0
+            self.write_metrics(ending is Ending.DONE)
+            if self.settings.is_preview or self.settings.is_once and ending is Ending.NOTHING:
+                return int(self.would_hold or self.settings.is_once and session.is_held(self.cursor))
+            if ending is Ending.DONE:
+                continue
+            self.wait(POLL)
+            self.unread = {it: state for it, state in self.unread.items() if state is not Readable.LOCKED}
+            now = time.localtime()
+            if now.tm_hour >= self.settings.compare_at and now.tm_yday != day:
+                every_path, day = True, now.tm_yday
+                self.stale = {it.source for it in session.sources_of(self.cursor)}
+            if time.monotonic() - looked > WATCH:
+                looked = time.monotonic()
+                self.look()
+        return 128 + self.stopping[0]
+
+    def run(self):
+        """Serves, and starts again after failures; returns the exit status."""
+        while True:
+            try:
+                return self.serve()
+            except (psycopg2.Error, ProgramFailed, Stale, OSError, MemoryError) as error:
+                words = str(error).strip() or type(error).__name__
+                if (self.settings.is_once or self.settings.is_preview) and not isinstance(error, Stale) and self.failed > 3:
+                    say(words)
+                    return 3
+                self.totals["restarts"] += 1
+                say(f"{words}; starting again")
+            finally:
+                self.close()
+            self.write_metrics()
+            time.sleep(min(LONGEST_WAIT, 0.1 * 2 ** min(self.failed, 10)))
+            self.failed += 1
+
+    # ---- metrics
+
+    def write_metrics(self, is_needed=True):
+        """Writes the file for Prometheus's textfile collector, if it is some seconds old or has to show something new."""
+        if not self.settings.metrics or not is_needed and time.monotonic() - self.written < POLL * 5:
+            return
+        self.written = time.monotonic()
+        is_up = bool(self.connection) and not self.connection.closed
+        if is_up and not self.progress[1]:
+            self.counts = session.metrics(self.cursor)
+        values = {
+            "rounds_total": self.totals["rounds"], "restarts_total": self.totals["restarts"],
+            "last_round_timestamp_seconds": self.last_round, "last_round_seconds": self.last_seconds, "up": int(is_up),
+            "round_streets": self.progress[1], "round_streets_done": self.progress[0],
+            "tables_unreadable": len({it for it, _ in self.words} - self.without_triggers.keys()),
+            "tables_without_triggers": len(self.without_triggers), **self.counts,
+        }
+        text = "".join(f"# HELP olr_keep_live_{name} {HELP[name]}\n# TYPE olr_keep_live_{name} {kind_of(name)}\n"
+                       f"olr_keep_live_{name} {value:.6f}\n".replace(".000000\n", "\n") for name, value in values.items())
+        try:
+            with open(self.settings.metrics + ".new", "w", encoding="utf-8") as file:
+                file.write(text)
+            os.replace(self.settings.metrics + ".new", self.settings.metrics)
+        except OSError as error:
+            say(f"{self.settings.metrics}: {error.strerror}")
+
+
+def end(program):
+    """Ends a program at once."""
+    program.kill()
+    program.process.stdin.close()
+    program.process.stdout.close()
+
+
+def kind_of(name):
+    """The type of a metric."""
+    return "counter" if name.endswith("_total") else "gauge"
+
+
+HELP = {
+    "rounds_total": "Rounds that were published.",
+    "restarts_total": "Starts after a lost session, an ended program or another failure.",
+    "last_round_timestamp_seconds": "The time of the last round.",
+    "last_round_seconds": "How long the last round took.",
+    "up": "Whether there is a session of the database.",
+    "round_streets": "Streets of the round that is being made, if they are many.",
+    "round_streets_done": "Streets of it that are done.",
+    "tables_unreadable": "Tables of streets that can't be read.",
+    "tables_without_triggers": "Tables whose triggers are missing and can't be made again.",
+    "paths": "Published paths.",
+    "paths_refused": "Paths without a string.",
+    "paths_elsewhere": "Paths that are found elsewhere than their streets or their course say.",
+    "oldest_refusal_seconds": "How long the longest refused path has had no string.",
+    "problems": "Rows of olr_keep.problem.",
+    "held": "Holds that wait for a release.",
+    "paths_held": "Paths whose strings wait for a release.",
+    "paths_frozen": "Paths whose string is frozen.",
+    "notes": "Notes of changes that are not read yet.",
+    "oldest_note_seconds": "The age of the oldest of them.",
+}
