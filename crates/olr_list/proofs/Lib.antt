@@ -12,3 +12,4 @@ pub mod Changed
 pub mod EntryLists
 pub mod Covering
 pub mod AroundLemmas
+pub mod KnownSoFar
