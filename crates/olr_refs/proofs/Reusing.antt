@@ -1,66 +1,32 @@
 -- Known coverage queries on an extended path: how one is found, and what it says there.
-use Rattle.olr_refs.proofs.Common.{cases_lt, ◌≡◌, ◌<◌, ◌≤◌, ◌-◌, ◌+◌, ℕ, min, Bool, true, false, List, length, map}
-use Rattle.olr_refs.proofs.Common.{get_or, Result, Some, None, Contains, refl, sym, ap, ◌∙◌, subst, arith, inl, inr}
-use Rattle.olr_refs.proofs.Common.{cases_order, nat_tests, get_or-map, get_or_default, length-map, IsTrue, ◌↔◌}
-use Rattle.olr_refs.proofs.Common.{IsStrictlyIncreasing, IsBinarySearchResult, nat_cmp, Map, AreJoined, Covered}
-use Rattle.olr_refs.proofs.Common.{KnownQuery, IsKnownAt, IsLastTested, IsFar, IsReach, Reuses, Ok, Err, All-contains}
-use Rattle.olr_refs.proofs.Common.{below_from_sorted, sorted_from_strictly_increasing, if◌then◌else◌, IsNonDecreasingBy}
-use Rattle.olr_refs.proofs.Common.{IsSearchInRange, ordering_index, IsKnown, query_to, lines_with, covered_unique}
-use Rattle.olr_refs.proofs.Common.{query_known, before_known, covered_known, one_last_tested, known_reach}
+use Rattle.olr_refs.proofs.Common.{cases_lt, ◌≡◌, ◌<◌, ◌≤◌, ◌-◌, ◌+◌, ◌∷◌, ℕ, min, Bool, true, false, List, length}
+use Rattle.olr_refs.proofs.Common.{get_or, Result, Some, Contains, refl, sym, ap, ◌∙◌, subst, arith, get_or_default}
+use Rattle.olr_refs.proofs.Common.{IsTrue, ◌↔◌}
+use Rattle.olr_refs.proofs.Common.{IsBinarySearchResult, nat_cmp, Map, AreJoined, Covered, Option, IsAnswered, EndsHere}
+use Rattle.olr_refs.proofs.Common.{KnownQuery, IsKnownAt, IsLastTested, IsFar, IsReach, IsReuse, Ok, Err, All-contains}
+use Rattle.olr_refs.proofs.Common.{IsSearchInRange, IsKnown, query_to, lines_with, covered_unique, if◌then◌else◌}
+use Rattle.olr_refs.proofs.Common.{query_known, before_known, covered_known, one_last_tested, known_reach, no_work, []}
+use Rattle.olr_refs.specs.declared.reuse.Found.{Found}
+use Rattle.olr_refs.specs.declared.reuse.Reuse.{Reuse}
+use Rattle.olr_refs.proofs.Noting.{cost_none}
 use Rattle.std.specs.Result.{result_ok}
 use Rattle.std.proofs.lemmas.Cmp.{ranked}
-use Rattle.olr_refs.proofs.Reaching.{UniqueTo, all_covered, covered_so_far, needed_most, needed_far}
+use Rattle.olr_refs.proofs.Reaching.{UniqueTo, all_covered, covered_so_far}
 use Rattle.olr_refs.proofs.Stretches.{stretch_sum}
 
 -- ---- by the line where it begins
 
-module _ (es : List KnownQuery) (up : IsStrictlyIncreasing (map (λ e. e.first) es)) (x : ℕ) where
-  read_first : (k : ℕ) (d : KnownQuery) → k < length es → get_or (map (λ e. e.first) es) k 0 ≡ (get_or es k d).first
-  read_first k d h = get_or-map (λ e. e.first) es k d 0 h
-
-  rises : (j k : ℕ) (d : KnownQuery) → j < k → k < length es → (get_or es j d).first < (get_or es k d).first
-  rises j k d h g = grind (arith, length-map, below_from_sorted, sorted_from_strictly_increasing, read_first)
-
-  higher : (a b : ℕ) → a ≤ b → ordering_index (nat_cmp a x) ≤ ordering_index (nat_cmp b x)
-  higher a b le = grind (arith, nat_tests)
-
-  non_decreasing : IsNonDecreasingBy (λ e. ordering_index (nat_cmp e.first x)) es
-  non_decreasing i j d le h = grind (arith, cases_order, higher, rises)
-
-  -- the one that begins there
-  found_one : (k : ℕ) → IsBinarySearchResult (λ e. nat_cmp e.first x) es (Ok k) → k < length es →
-      (d : KnownQuery) → (get_or es k d).first ≡ x
-  found_one k found h d = ranked (get_or es k d).first x _ (sym (found d))
-
-  -- only one does
-  pub one_first : (d e : KnownQuery) → Contains es d → Contains es e → d.first ≡ e.first → d ≡ e
-  one_first d e c k same =
-      let at : get_or es c.0 e ≡ d = sym (get_or_default es c.0 d e c.1) ∙ c.2 in
-      elim (cases_order c.0 k.0) [
-        | inl is ↦ sym at ∙ ap (λ (j : ℕ). get_or es j e) is ∙ k.2
-        | inr o ↦ absurd (grind (arith, rises c.0 k.0 e, rises k.0 c.0 e, c.1, k.1))
-      ]
-
-  -- or none does
-  pub none_at : (r : Result ℕ ℕ) → IsBinarySearchResult (λ e. nat_cmp e.first x) es r → None ≡ result_ok r →
-      (e : KnownQuery) → Contains es e → e.first ≡ x → ⊥
-  none_at (Ok k) found none e c at = cc
-  none_at (Err k) parted none e c at =
-      let there : (get_or es c.0 e).first ≡ x = ap (λ (q : KnownQuery). q.first) c.2 ∙ at in
-      let lies = c.1 in
-      elim (cases_lt c.0 k) [
-        | inl lt ↦ let low = ranked _ x _ (sym ((parted non_decreasing).0 c.0 e (omega arith) lt)) in omega arith
-        | inr ge ↦ let high = ranked _ x _ (sym ((parted non_decreasing).1 c.0 e ge c.1)) in omega arith
-      ]
-
-  pub found_at : (r : Result ℕ ℕ) → IsBinarySearchResult (λ e. nat_cmp e.first x) es r →
-      IsSearchInRange r (length es) → (k : ℕ) → Some k ≡ result_ok r → (d : KnownQuery) →
-      Contains es (get_or es k d) × ((get_or es k d).first ≡ x)
-  found_at (Ok j) found inside k is d =
-      let same : k ≡ j = cc in
-      let h : k < length es = omega (arith, inside) in
-      ((k, h, get_or_default es k (get_or es k d) d h), grind (arith, found_one))
-  found_at (Err j) found inside k is d = cc
+-- the one that was found begins there
+pub found_at : (es : List KnownQuery) (x : ℕ) (r : Result ℕ ℕ) → IsBinarySearchResult (λ e. nat_cmp e.first x) es r →
+    IsSearchInRange r (length es) → (k : ℕ) → Some k ≡ result_ok r → (d : KnownQuery) →
+    Contains es (get_or es k d) × ((get_or es k d).first ≡ x)
+found_at es x (Ok j) found inside k is d =
+    let same : k ≡ j = cc in
+    let h : k < length es = omega (arith, inside) in (
+      (k, h, get_or_default es k (get_or es k d) d h),
+      rw same (ranked (get_or es j d).first x _ (sym (found d))),
+    )
+found_at es x (Err j) found inside k is d = cc
 
 -- ---- on the extended path
 
@@ -87,60 +53,49 @@ there_with M b path a joined i e k begins inside =
       covered = covered_known M b path a joined i e begins k.order k.upto inside k;
     }
 
-there_any : (M : Map) (ls : List ℕ) (lead own : ℕ) (known : List KnownQuery) → (r : Reuses M ls lead own known) →
-    AnyThere M r.path ls lead own
-there_any M ls lead own known r =
-    coe 0 1 (i. AnyThere M r.path (r.lines i) (r.leads i) (r.owns i)) (there_with M r.before r.path r.after)
+there_any : (M : Map) (ls : List ℕ) (r : Reuse) → (is : IsReuse M ls r) → AnyThere M is.path ls r.lead r.own
+there_any M ls r is =
+    coe 0 1 (i. AnyThere M is.path (is.lines i) (is.leads i) (is.owns i)) (there_with M is.before is.path is.after)
 
-module _ (M : Map) (ls : List ℕ) (lead own : ℕ) (known : List KnownQuery) (reuse : Reuses M ls lead own known)
-    (joined : AreJoined M ls) (i far : ℕ) (some : i + 1 < length ls) (is_far : IsFar M ls i far) where
-  -- the last position of a query is the last one that is tested
-  abbrev pub EndsHere : KnownQuery → Type 0
-  EndsHere e = (lead + e.last ≤ min far (length ls - 1)) × (IsTrue e.covered → lead + e.last ≡ min far (length ls - 1))
+module _ (M : Map) (ls : List ℕ) (r : Reuse) (is : IsReuse M ls r) (joined : AreJoined M ls) (i far : ℕ)
+    (some : i + 1 < length ls) (is_far : IsFar M ls i far) (e : KnownQuery) (listed : Contains r.known.now e)
+    (begins : i + 1 ≡ r.lead + e.first) (ends : EndsHere r.lead (min far (length ls - 1)) e) where
+  there : KnownThere M ls r.lead r.own i e
+  there =
+      let short = ends.0 in
+      there_any M ls r is joined i e (All-contains (IsKnown M is.path) r.known.now e is.are.right listed) begins
+      (omega arith)
 
-  module _ (e : KnownQuery) (listed : Contains known e) (begins : i + 1 ≡ lead + e.first) (ends : EndsHere e) where
-    there : KnownThere M ls lead own i e
-    there =
-        let short = ends.0 in
-        there_any M ls lead own known reuse joined i e (All-contains (IsKnown M reuse.path) known e reuse.are.right listed)
-        begins (omega arith)
+  found : (b : Bool) → e.covered ≡ b → IsReach M ls i (if b then far else r.lead + e.last - 1)
+      × IsLastTested M ls i (r.lead + e.last)
+  found true t =
+      let order = there.order in
+      let all = ends.1 t in
+      all_covered M ls i far joined is_far (r.lead + e.last) some (omega arith) (there.covered.0 t)
+  found false f =
+      let order = there.order in
+      let short = ends.0 in
+      let k = r.lead + (e.last - 1) in
+      let last : r.lead + e.last ≡ k + 1 = omega arith in
+      let reach : r.lead + e.last - 1 ≡ k = omega arith in
+      let no_more : ¬ UniqueTo M ls i (k + 1) = λ u. let t : e.covered ≡ true = there.covered.1 (rw last u) in cc in
+      rw (reach, last) (covered_so_far M ls i far joined is_far k (omega arith) (omega arith)
+      (there.before (e.last - 1) (omega arith) (omega arith)) no_more)
 
-    found : (b : Bool) → e.covered ≡ b → IsReach M ls i (if b then far else lead + e.last - 1)
-        × IsLastTested M ls i (lead + e.last)
-    found true t =
-        let order = there.order in
-        let all = ends.1 t in
-        all_covered M ls i far joined is_far (lead + e.last) some (omega arith) (there.covered.0 t)
-    found false f =
-        let order = there.order in
-        let short = ends.0 in
-        let k = lead + (e.last - 1) in
-        let last : lead + e.last ≡ k + 1 = omega arith in
-        let reach : lead + e.last - 1 ≡ k = omega arith in
-        let no_more : ¬ UniqueTo M ls i (k + 1) = λ u. let t : e.covered ≡ true = there.covered.1 (rw last u) in cc in
-        rw (reach, last) (covered_so_far M ls i far joined is_far k (omega arith) (omega arith)
-        (there.before (e.last - 1) (omega arith) (omega arith)) no_more)
+  known_at : IsKnownAt M ls r.lead r.own i e
+  known_at = grind (arith, there, found e.covered refl, covered_unique M ls i (r.lead + e.last))
 
-    pub reach_known : IsReach M ls i (known_reach lead far e)
-    reach_known = (found e.covered refl).0
-
-    pub known_at : IsKnownAt M ls lead own i e
-    known_at = grind (arith, there, found e.covered refl, covered_unique M ls i (lead + e.last))
-
-  -- the query of the extended path ends there
-  pub ends_at : (e : KnownQuery) → IsKnownAt M ls lead own i e → EndsHere e
-  ends_at e k =
-      let end = min far (length ls - 1) in
-      let most : lead + e.last ≤ end = elim k.tested.needed [
-        | inl is ↦ absurd (omega arith)
-        | inr n ↦ needed_most M ls i far joined is_far (lead + e.last) n
-      ] in (
-        most,
-        λ t. elim k.tested.last [
-          | inl bare ↦ absurd (bare (k.covered.0 t))
-          | inr all ↦ omega (arith, all end (needed_far M ls i far joined is_far end (omega arith) (omega arith)))
-        ],
-      )
+  -- nothing is searched
+  pub answered_known : (f : Found) → f.reach ≡ known_reach r.lead far e → f.query ≡ e.query → f.own ≡ Some e →
+      f.work ≡ no_work → (seen : Option (List ℕ)) → IsAnswered M ls r i f seen seen
+  answered_known f reach query own work seen =
+      record {
+        reach = rw reach (found e.covered refl).0;
+        query = (r.lead + e.last, known_at.tested, query ∙ known_at.query);
+        own = rw own known_at;
+        cost = cost_none M (f.query ∷ []) f.work work;
+        searched = λ none. grind arith;
+      }
 
 -- ---- the query that a search found
 
