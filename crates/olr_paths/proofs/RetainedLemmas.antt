@@ -11,17 +11,14 @@ use Rattle.olr_list.proofs.Common.{TraversedTouched, dm_of, limit, true}
 use Rattle.olr_list.specs.Actions.{ToName, Retains}
 use Rattle.olr_list.specs.Changes.{StayKnown, Touches}
 use Rattle.olr_spec.proofs.JoinLemmas.{empty_stretch}
-use Rattle.olr_spec.proofs.KnownLemmas.{known_holds}
-use Rattle.olr_spec.proofs.ListLemmas.{Each}
+use Rattle.olr_spec.proofs.KnownLemmas.{known_kept, known_right}
 use Rattle.olr_spec.proofs.QueryLemmas.{stretch_parts}
 use Rattle.olr_spec.proofs.RouteLemmas.{dm_of-append}
-use Rattle.olr_spec.proofs.StayLemmas.{untouched_retained, known_kept}
+use Rattle.olr_spec.proofs.StayLemmas.{untouched_retained}
 use Rattle.olr_spec.proofs.TestedLemmas.{foot_affected}
 use Rattle.olr_spec.specs.Encoding.{path_fault, Refusal}
-use Rattle.olr_spec.specs.Map.{SameRound, SameLine}
 use Rattle.olr_spec.specs.Points.{stretch}
 use Rattle.olr_spec.specs.Queries.{QueriesOfExtended, TraversedOf, query_to, IsClear, IsQuery, Needed}
-use Rattle.std.proofs.lemmas.Bool.{both_ways}
 
 module _ (M : Map) (ls : List ℕ) (i : ℕ) (l : CoverageQuery) where
   by_need : (k : ℕ) → i < k → l ≡ query_to M ls i k → (k ≡ i + 1) ⊎ Needed M ls i k → l.within ≤ limit
@@ -86,7 +83,8 @@ module _ {M N : Map} (n : IsMap N) {T X : List ℕ} {C : List ChangedLine} {is :
 
     -- of its coverage queries along its own lines, those that stay right
     pub given_known : (given : List KnownQuery) → StayKnown N C m.known given → AreKnown N P.lines given
-    given_known given stay = stay M P.lines q.difference.there q.difference.here (known_holds M P path m.known made.known)
+    given_known given stay = stay M P.lines q.difference.there q.difference.here 
+        (known_right M P.lines m.queries m.known made.known)
 
     nodes_off : ¬ TraversedTouched T m → (v : ℕ) → has T v ≡ true → ¬ TraversedOf M P v
     nodes_off free v on o = free (v, on, (made.traversed v).1 o)
@@ -97,19 +95,11 @@ module _ {M N : Map} (n : IsMap N) {T X : List ℕ} {C : List ChangedLine} {is :
         let lines = lines_off lines_free in
         let traversed = nodes_off nodes_free in
         let k = untouched_retained M N q.sound n T X C d P path lines traversed m.queries made.queries clear in
-        let same : Each (SameLine M N) P.lines = λ x on.
-        elim (cases_Bool (has X x)) [
-          | inl e ↦ absurd (both_ways (has P.lines x) (lines x e) on)
-          | inr off ↦ d.lines x off
-        ] in
-        let round : (v : ℕ) → TraversedOf M P v → SameRound M N v = λ v on.
-        elim (cases_Bool (has T v)) [ inl e ↦ absurd (traversed v e on) | inr off ↦ d.nodes v off ] in
         record {
           answer = k.0 m.answer made.answer;
           traversed = λ v. ((λ o. (k.1 v).0 ((made.traversed v).0 o)), (λ o. (made.traversed v).1 ((k.1 v).1 o)));
           queries = k.2;
-          known = known_kept M N q.sound n C d.there d.here P path same m.queries clear round made.queries m.known
-              made.known;
+          known = known_kept M N C d.there d.here P.lines m.queries clear m.known made.known;
         }
 
     -- a detour begins with a route to a touched node

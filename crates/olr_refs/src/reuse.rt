@@ -1,9 +1,9 @@
 //! Coverage queries that are known, and are not searched again.
-ghost use Rattle.std.specs.Prelude.{◌≡◌, ◌+◌, ◌-◌, ◌^◌, ◌<◌, ◌≤◌, ◌↔◌, min, IsTrue, IfSome, MatchOption, length};
+ghost use Rattle.std.specs.Prelude.{◌≡◌, ◌+◌, ◌-◌, ◌^◌, ◌<◌, ◌≤◌, ◌↔◌, min, IsTrue, IfSome, length};
 ghost use Rattle.std.specs.Prelude.{Option, List, ℕ};
-ghost use Rattle.olr_spec.specs.Queries.{IsKnownAt, IsLastTested, query_to, KnownQuery as Query};
+ghost use Rattle.olr_spec.specs.Queries.{IsLastTested, query_to};
 ghost use Rattle.olr_refs.specs.Along.{IsFar, IsReach};
-ghost use Rattle.olr_refs.specs.Reuse.{IsReuse, IsAnswered, EndsHere, known_reach};
+ghost use Rattle.olr_refs.specs.Reuse.{IsReuse, IsOwn, IsAnswered, EndsHere, known_reach};
 
 use crate::along::ResolvedPath;
 use crate::reach::Tested;
@@ -113,14 +113,11 @@ pub fn own_query<M: MapRead>(
     query: CoverageQuery,
     tested: Tested,
 ) -> Option<KnownQuery>
-    requires few { reuse.now.own ≤ 10000 }
-    requires inside { reuse.now.lead + reuse.now.own ≤ length resolved.now.lines.now }
+    requires reuse { IsReuse (M.map resolved.now.map.now) resolved.now.lines.now reuse.now }
     requires reach { IsReach (M.map resolved.now.map.now) resolved.now.lines.now i tested.reach }
     requires last { IsLastTested (M.map resolved.now.map.now) resolved.now.lines.now i tested.last }
     requires query { query ≡ query_to (M.map resolved.now.map.now) resolved.now.lines.now i tested.last }
-    ensures { MatchOption result
-        ((e : Query) → ¬ IsKnownAt (M.map resolved.now.map.now) resolved.now.lines.now reuse.now.lead reuse.now.own i e)
-        (IsKnownAt (M.map resolved.now.map.now) resolved.now.lines.now reuse.now.lead reuse.now.own i) }
+    ensures { IfSome result (IsOwn (M.map resolved.now.map.now) resolved.now.lines.now reuse.now i query) }
 {
     if !is_own(reuse, i, tested.last) {
         return None;

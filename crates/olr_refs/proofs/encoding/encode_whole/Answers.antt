@@ -1,7 +1,7 @@
 use Rattle.olr_refs.proofs.Common.{◌≡◌, length, arith, refl}
 use Rattle.olr_refs.specs.declared.reuse.Reuse.{Reuse}
 use Rattle.olr_refs.proofs.Referring.{whole_joined, whole_short, encoding_of, joins_of, own_of, traversed_of}
-use Rattle.olr_refs.proofs.Asking.{queries_whole, known_whole, settled_few}
+use Rattle.olr_refs.proofs.Asking.{queries_whole, known_whole, reuse_of, settled_few}
 use Rattle.olr_refs.proofs.encoding.encode_whole.Goals as goal
 
 pub encode_along-requires-clause-joined : goal.encode_along-requires-clause-joined
@@ -9,6 +9,11 @@ encode_along-requires-clause-joined g c = grind (arith, whole_joined)
 
 pub encode_along-requires-clause-short : goal.encode_along-requires-clause-short
 encode_along-requires-clause-short g c = grind (arith, whole_short)
+
+pub encode_along-requires-clause-reuse : goal.encode_along-requires-clause-reuse
+encode_along-requires-clause-reuse g c =
+    reuse_of (g.M.MapRead.map c.args.map.now) c.args.path.now _ _ _ _ c.in_ok-extended.ensures.ok c.requires.path _
+    (grind arith) (grind arith) c.requires.known
 
 pub returns-clause-searched : goal.returns-clause-searched
 returns-clause-searched g c = λ none.
