@@ -7,7 +7,7 @@ pub use Rattle.olr_refs.specs.Fields.{lowest_class, middle_points_of}
 pub use Rattle.olr_refs.specs.KeptPoints.{AreAlong, AreKept, AreLinked, ArePoints, AreTrimmed, IsFirstKept, IsLastKept}
 pub use Rattle.olr_refs.specs.KeptPoints.{distance_at, later, whole_distance}
 pub use Rattle.olr_refs.specs.ResolvedLines.{AreRecords, ids, records_of}
-pub use Rattle.olr_refs.specs.Reuse.{AreOwn, Asks, EndsHere, IsAnswered, IsOwn, IsReuse, known_reach, own_of}
+pub use Rattle.olr_refs.specs.Reuse.{Asks, EndsHere, IsAnswered, IsReuse, known_reach, own_of}
 pub use Rattle.olr_refs.specs.Runs.{IsLongest, IsRun, LeadsOn, LiesBeyond, in_order, outermost}
 pub use Rattle.olr_search.proofs.ReadLemmas.{read_at}
 pub use Rattle.olr_search.specs.Counts.{no_work, raised_count, raised_work, saturated_count}
@@ -41,7 +41,7 @@ pub use Rattle.olr_spec.specs.Map.{IsMap, Line, Map, coord_at, dm, end, has, has
 pub use Rattle.olr_spec.specs.Map.{start}
 pub use Rattle.olr_spec.specs.Points.{Candidate, Covered, Follow, Greatest, Next, NoNext, OfPath, ValidCandidate, fit16}
 pub use Rattle.olr_spec.specs.Points.{last_position, node_at, stretch}
-pub use Rattle.olr_spec.specs.Queries.{CoverageQuery, IsKnown, IsLastTested, IsQuery}
+pub use Rattle.olr_spec.specs.Queries.{CoverageQuery, IsKnown, IsKnownOf, IsLastTested, IsQuery}
 pub use Rattle.olr_spec.specs.Queries.{KnownOf, KnownQuery, Needed, NodeOf, QueriesFrom, QueriesOf, QueriesOfExtended}
 pub use Rattle.olr_spec.specs.Queries.{Traversed, TraversedOf, TraversedOfExtended, query_to, querying}
 pub use Rattle.olr_spec.specs.Reference.{Attrs, First, Last, Middle, Reference, attrs, dm_along, dm_between, first_kept}

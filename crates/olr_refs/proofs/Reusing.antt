@@ -5,7 +5,7 @@ use Rattle.olr_refs.proofs.Common.{get_or_default, IsTrue, ◌↔◌, slice_inde
 use Rattle.olr_refs.proofs.Common.{get_or-drop, IsBinarySearchResult, nat_cmp, Map, start, end, AreJoined, IsRoute}
 use Rattle.olr_spec.specs.Routes.{LrpRoute}
 use Rattle.olr_refs.proofs.Common.{Covered, stretch, KnownQuery, CoverageQuery, IsLastTested, IsFar, IsReach, Ok, Err}
-use Rattle.olr_refs.proofs.Common.{IsReuse, IsOwn, IsAnswered, EndsHere, own_of, known_reach, no_work, All-contains}
+use Rattle.olr_refs.proofs.Common.{IsReuse, IsAnswered, IsKnownOf, EndsHere, own_of, Contains-here, known_reach, no_work, All-contains}
 use Rattle.olr_refs.proofs.Common.{IsSearchInRange, IsKnown, query_to, if◌then◌else◌}
 use Rattle.olr_refs.specs.declared.reuse.Found.{Found}
 use Rattle.olr_refs.specs.declared.reuse.Reuse.{Reuse}
@@ -117,7 +117,7 @@ module _ (M : Map) (ls : List ℕ) (r : Reuse) (is : IsReuse M ls r) (joined : A
     (some : i + 1 < length ls) (is_far : IsFar M ls i far) (e : KnownQuery) (listed : Contains r.known.now e)
     (begins : i + 1 ≡ r.lead + e.first) (ends : EndsHere r.lead (min far (length ls - 1)) e) where
   right : IsKnown M (own_of ls r) e
-  right = All-contains (IsKnown M (own_of ls r)) r.known.now e is.known.right listed
+  right = All-contains (IsKnown M (own_of ls r)) r.known.now e is.known listed
 
   order : e.first < e.last
   order = right.order
@@ -154,7 +154,7 @@ module _ (M : Map) (ls : List ℕ) (r : Reuse) (is : IsReuse M ls r) (joined : A
       record {
         reach = rw reach there.0;
         query = (r.lead + e.last, there.1, query ∙ query_known M ls r is joined i e begins order upto within right);
-        own = rw own record { begins = begins; same = sym query; right = right };
+        own = rw (own, query) record { among = Contains-here e.query []; right = right };
         cost = cost_none M (f.query ∷ []) f.work work;
         searched = λ none. grind arith;
       }
@@ -173,13 +173,12 @@ covered_if M ls i reach last r t order b f g = ((λ h. (r.within last (omega ari
 pub own_at : (M : Map) (ls : List ℕ) (r : Reuse) → IsReuse M ls r → AreJoined M ls → (i reach last : ℕ) (e : KnownQuery) →
     IsReach M ls i reach → IsLastTested M ls i last → r.lead ≤ i + 1 → i + 1 < last → last ≤ r.lead + r.own →
     e.query ≡ query_to M ls i last → e.first ≡ i + 1 - r.lead → e.last ≡ last - r.lead →
-    (e.covered ≡ true → last ≤ reach) → (last ≤ reach → e.covered ≡ true) → IsOwn M ls r i e.query e
+    (e.covered ≡ true → last ≤ reach) → (last ≤ reach → e.covered ≡ true) → IsKnownOf M (own_of ls r) (e.query ∷ []) e
 own_at M ls r is joined i reach last e near t leads order upto query first ends f g =
     let same : last ≡ r.lead + e.last = omega arith in
     let inside = t.inside in
     record {
-      begins = omega arith;
-      same = refl;
+      among = Contains-here e.query [];
       right = is_known M ls r is joined i e (omega arith) (omega arith) (omega arith) (omega arith)
           (subst (IsLastTested M ls i) same t) (query ∙ ap (query_to M ls i) same)
           (subst (λ (k : ℕ). IsTrue e.covered ↔ Covered M ls i k) same

@@ -44,7 +44,7 @@ pub record IsEncoding (M : Map) (P : Path) (e : Encoding) : Type 0 where
   pub own : OwnLinesOf M P (answer_of e.answer) e.own.items
   pub traversed : (v : ℕ) → Contains e.traversed v ↔ TraversedOf M P v
   pub queries : QueriesOf M P e.queries.items
-  pub known : KnownOf M P e.queries.items e.known.items
+  pub known : KnownOf M P.lines e.queries.items e.known.items
   pub encodings : e.work.encodings ≡ 1
   pub searches : e.work.searches ≤ length e.queries.items
   pub settled : (all : List ℕ) → ((v : ℕ) → Foot M P v → Contains all v) → e.work.settled ≤ length e.queries.items * length all

@@ -1,20 +1,17 @@
 -- Coverage queries, each of which is known or searched.
 --     own_of ls r      the path's own lines, which are some of the lines ls of an extended path
---     IsReuse M ls r      the known queries are right along the path's own lines, and in ascending order
+--     IsReuse M ls r      the known queries are right along the path's own lines
 --     EndsHere lead end e      a known query ends at the position `end`, the last that can be tested; or before it, if the
 --         query's last position is not covered
 --     known_reach lead far e      how far the positions are covered and near enough, by a known query
---     IsOwn M ls r i query e      the query of the LRP i is the one along the path's own lines e
 --     IsAnswered M ls r i f seen noted      f is the coverage query of the LRP i, and what it shows; if none is known, it
 --         is searched
---     AreOwn M ls r is queries ks      the queries ks along the path's own lines are some of the queries of the LRPs is
 --     Asks M ls r is q seen noted      q are the coverage queries of the LRPs is, and some of them that are along the
 --         path's own lines; if none is known, all are searched
 use Rattle.std.specs.Prelude.{◌≡◌, ℕ, ◌+◌, ◌-◌, ◌≤◌, if◌then◌else◌, List, [], ◌∷◌, length, Option, IfSome, IsTrue}
-use Rattle.std.specs.Prelude.{Contains}
 use Rattle.olr_spec.specs.Map.{Map}
 use Rattle.olr_spec.specs.Points.{stretch}
-use Rattle.olr_spec.specs.Queries.{CoverageQuery, IsQuery, QueriesFrom, querying, KnownQuery, IsKnown, AreKnown}
+use Rattle.olr_spec.specs.Queries.{IsQuery, QueriesFrom, querying, KnownQuery, AreKnown, IsKnownOf, KnownOf}
 use Rattle.olr_refs.specs.Along.{IsReach}
 use Rattle.olr_refs.specs.Choice.{AreSearched, CostsAtMost}
 use Rattle.olr_refs.specs.declared.chosen.Queries.{Queries}
@@ -38,30 +35,17 @@ EndsHere lead end e = (lead + e.last ≤ end) × (IsTrue e.covered → lead + e.
 abbrev pub known_reach : ℕ → ℕ → KnownQuery → ℕ
 known_reach lead far e = if e.covered then far else lead + e.last - 1
 
--- right, and it begins at the end of line i
-pub record IsOwn (M : Map) (ls : List ℕ) (r : Reuse) (i : ℕ) (query : CoverageQuery) (e : KnownQuery) : Type 0 where
-  pub begins : i + 1 ≡ r.lead + e.first
-  pub same : e.query ≡ query
-  pub right : IsKnown M (own_of ls r) e
-
 pub record IsAnswered (M : Map) (ls : List ℕ) (r : Reuse) (i : ℕ) (f : Found) (seen noted : Option (List ℕ)) : Type 0
   where
     pub reach : IsReach M ls i f.reach
     pub query : IsQuery M ls i f.query
-    pub own : IfSome f.own (IsOwn M ls r i f.query)
+    pub own : IfSome f.own (IsKnownOf M (own_of ls r) (f.query ∷ []))
     pub cost : CostsAtMost M (f.query ∷ []) f.work
     pub searched : r.known.now ≡ [] → AreSearched M (f.query ∷ []) f.work seen noted
-
-pub record AreOwn (M : Map) (ls : List ℕ) (r : Reuse) (is : List ℕ) (queries : List CoverageQuery)
-    (ks : List KnownQuery) : Type 0
-  where
-    pub are : AreKnown M (own_of ls r) ks
-    pub among : (e : KnownQuery) → Contains ks e → Contains queries e.query
-    pub begun : (e : KnownQuery) → Contains ks e → (i : ℕ) × Contains is i × (i + 1 ≡ r.lead + e.first)
 
 pub record Asks (M : Map) (ls : List ℕ) (r : Reuse) (is : List ℕ) (q : Queries) (seen noted : Option (List ℕ)) : Type 0
   where
     pub each : QueriesFrom M ls (querying ls is) q.all.items
-    pub own : AreOwn M ls r is q.all.items q.own.items
+    pub own : KnownOf M (own_of ls r) q.all.items q.own.items
     pub cost : CostsAtMost M q.all.items q.work
     pub searched : r.known.now ≡ [] → AreSearched M q.all.items q.work seen noted

@@ -1,5 +1,5 @@
 //! The location reference points of an extended path.
-ghost use Rattle.std.specs.Prelude.{ℕ, List, ◌+◌, ◌<◌, [], ◌∷◌, ◌++◌, IfOk, OnOk, Option as OptionOf, Contains, length};
+ghost use Rattle.std.specs.Prelude.{ℕ, List, ◌+◌, ◌<◌, [], ◌∷◌, ◌++◌, IfOk, OnOk, Option as OptionOf, length};
 ghost use Rattle.olr_search.specs.Searches.{IsSearch, LiesWithin, limit_of};
 ghost use Rattle.olr_refs.specs.Along.{IsFar, IsReach};
 ghost use Rattle.olr_refs.specs.Choice.{ForPoints, IsChoice, Notes};
@@ -140,7 +140,6 @@ fn reach_of<M: MapRead>(
     requires reuse { IsReuse (M.map resolved.now.map.now) resolved.now.lines.now reuse.now }
     ensures reach { IfOk result (IsReach (M.map resolved.now.map.now) resolved.now.lines.now i) }
     ensures asks { OnOk result ((before : List ℕ) (begun : OptionOf (List ℕ))
-        → ((k : ℕ) → Contains before k → k < i)
         → Asks (M.map resolved.now.map.now) resolved.now.lines.now reuse.now before queries.old begun seen.old
         → Asks (M.map resolved.now.map.now) resolved.now.lines.now reuse.now (before ++ i ∷ []) queries.new begun seen.new) }
 {

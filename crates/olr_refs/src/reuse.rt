@@ -1,9 +1,9 @@
 //! Coverage queries that are known, and are not searched again.
-ghost use Rattle.std.specs.Prelude.{◌≡◌, ◌+◌, ◌-◌, ◌^◌, ◌<◌, ◌≤◌, ◌↔◌, min, IsTrue, IfSome, length};
+ghost use Rattle.std.specs.Prelude.{◌≡◌, ◌+◌, ◌-◌, ◌^◌, ◌<◌, ◌≤◌, ◌↔◌, [], ◌∷◌, min, IsTrue, IfSome, length};
 ghost use Rattle.std.specs.Prelude.{Option, List, ℕ};
-ghost use Rattle.olr_spec.specs.Queries.{IsLastTested, query_to};
+ghost use Rattle.olr_spec.specs.Queries.{IsKnownOf, IsLastTested, query_to};
 ghost use Rattle.olr_refs.specs.Along.{IsFar, IsReach};
-ghost use Rattle.olr_refs.specs.Reuse.{IsReuse, IsOwn, IsAnswered, EndsHere, known_reach};
+ghost use Rattle.olr_refs.specs.Reuse.{IsReuse, IsAnswered, EndsHere, known_reach, own_of};
 
 use crate::along::ResolvedPath;
 use crate::reach::Tested;
@@ -14,7 +14,8 @@ use olr_search::Work;
 /// What is known of a path's coverage queries, and where its own lines lie on the extended path.
 #[derive(Clone, Copy)]
 pub struct Reuse<'a> {
-    /// Coverage queries along the path's own lines, in ascending order of the lines where they begin.
+    /// Coverage queries along the path's own lines, in ascending order of the lines where they begin: one that is out of
+    /// order may be searched again.
     pub known: &'a [KnownQuery],
     /// How many lines precede the path's own.
     pub lead: usize,
@@ -117,7 +118,7 @@ pub fn own_query<M: MapRead>(
     requires reach { IsReach (M.map resolved.now.map.now) resolved.now.lines.now i tested.reach }
     requires last { IsLastTested (M.map resolved.now.map.now) resolved.now.lines.now i tested.last }
     requires query { query ≡ query_to (M.map resolved.now.map.now) resolved.now.lines.now i tested.last }
-    ensures { IfSome result (IsOwn (M.map resolved.now.map.now) resolved.now.lines.now reuse.now i query) }
+    ensures { IfSome result (IsKnownOf (M.map resolved.now.map.now) (own_of resolved.now.lines.now reuse.now) (query ∷ [])) }
 {
     if !is_own(reuse, i, tested.last) {
         return None;

@@ -4,6 +4,7 @@ use Rattle.olr_register.proofs.Common.{ap, ◌∙◌, subst, append_assoc, appen
 use Rattle.olr_register.proofs.Common.{Map, Path, Named, Content, step, Item, Made, AreEncodings, IsEncodingOf}
 use Rattle.olr_register.proofs.Common.{all_named, named_of, path_named, No_path, option_map}
 use Rattle.olr_spec.proofs.ListLemmas.{take_more_at}
+use Rattle.olr_spec.proofs.KnownLemmas.{known_right}
 use Rattle.olr_spec.specs.Queries.{AreKnown}
 use Rattle.olr_commands.specs.State.{Ambiguous}
 use Rattle.olr_commands.specs.Ambiguities.{NamedObstacle, named, obstacles_of, Ambiguity, Ambiguities}
@@ -75,7 +76,8 @@ pub known_at : (M : Map) (is : List Item) (k : ℕ) (i : Item) → AreEncodings 
     AreKnown M i.path.lines (known_in i.made)
 known_at M is k i a at =
     let e = encoded_at M is k i a at in
-    subst (λ (o : Option Made). AreKnown M i.path.lines (known_in o)) (sym e.1) e.2.known.are
+    subst (λ (o : Option Made). AreKnown M i.path.lines (known_in o)) (sym e.1)
+    (known_right M i.path.lines e.0.queries e.0.known e.2.known)
 
 -- ---- steps, if no batch is open
 

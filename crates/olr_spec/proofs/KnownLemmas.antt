@@ -1,12 +1,11 @@
 -- Coverage queries along a path's own lines are the same on another map where they are clear.
 use Rattle.olr_spec.proofs.Common.{◌≡◌, ℕ, ◌+◌, List, ◌∷◌, ◌<◌, ◌≤◌, sym, ap, ◌∙◌, subst, arith, slice_index, [], Map, start}
 use Rattle.olr_spec.proofs.Common.{end, SameLine, IsRoute, dm_of, UniqueShortest, stretch, ChangedLine, AccountsFor}
-use Rattle.olr_spec.proofs.Common.{Detour, IsClear, KnownQuery, KnownRetained, All, All-contains, get_or}
+use Rattle.olr_spec.proofs.Common.{Detour, CoverageQuery, IsClear, KnownQuery, KnownRetained, All, All-contains, get_or}
 use Rattle.olr_spec.proofs.Facts.{Each, Each-head, Each-right, IsRoute-split, same_start, same_dm_of, IsRoute-moves}
 use Rattle.olr_spec.proofs.Facts.{same_there, clear_unique, part_stays, stretch_first}
-use Rattle.olr_spec.specs.Queries.{IsKnown}
+use Rattle.olr_spec.specs.Queries.{IsKnown, AreKnown, KnownOf}
 use Rattle.olr_spec.proofs.QueryLemmas.{stretch_parts}
-use Rattle.std.proofs.lemmas.List.Elements.{Contains-get_or}
 
 -- ---- on another map
 
@@ -62,8 +61,14 @@ module _ (M N : Map) (C : List ChangedLine) (there : AccountsFor C M N) (here : 
 -- ---- of a path
 
 pub known_kept : KnownRetained
-known_kept M N C there here P queries clear ks known =
-    let right : All (IsKnown N P.lines) ks = λ k d lt.
-    known_stays M N C there here P.lines (get_or ks k d) (known.are.right k d lt)
-    (All-contains (IsClear N C) queries _ clear (known.among _ (Contains-get_or ks k d lt))) in
-    record { are = record { right = right; ascend = known.are.ascend }; among = known.among }
+known_kept M N C there here ls queries clear ks known k d lt =
+    let e = known k d lt in
+    record {
+      among = e.among;
+      right = known_stays M N C there here ls (get_or ks k d) e.right
+          (All-contains (IsClear N C) queries (get_or ks k d).query clear e.among);
+    }
+
+pub known_right : (M : Map) (ls : List ℕ) (queries : List CoverageQuery) (ks : List KnownQuery) → KnownOf M ls queries ks
+    → AreKnown M ls ks
+known_right M ls queries ks known k d lt = (known k d lt).right

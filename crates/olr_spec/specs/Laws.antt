@@ -380,8 +380,8 @@ AnswersRetained =
 abbrev pub KnownRetained : Type 0
 KnownRetained =
     (M N : Map) (C : List ChangedLine) → AccountsFor C M N → AccountsFor C N M
-    → (P : Path) (queries : List CoverageQuery) → All (IsClear N C) queries
-    → (ks : List KnownQuery) → KnownOf M P queries ks → KnownOf N P queries ks
+    → (ls : List ℕ) (queries : List CoverageQuery) → All (IsClear N C) queries
+    → (ks : List KnownQuery) → KnownOf M ls queries ks → KnownOf N ls queries ks
 
 -- the same conclusion as of AnswersRetained, from what the edits touch and change
 abbrev pub UntouchedRetained : Type 0

@@ -11,9 +11,8 @@
 --         path between
 --     KnownQuery, IsKnown M ls e      a coverage query along a path's own lines ls, by its positions in them; that it
 --         is right
---     AreKnown M ls ks      each of these is, and each begins at a later line than the one before it
---     KnownOf M P queries ks      the queries ks are right along the path's own lines, and are some of its coverage
---         queries
+--     AreKnown M ls ks      each of these is
+--     KnownOf M ls queries ks      each of these is, and is one of the path's coverage queries
 --     IsClear M C l      no detour over the changed lines C is as short
 --     QueriesFrom M ls is queries, QueriesOf M P queries      one coverage query for each LRP of the list is, in order;
 --         the
@@ -21,7 +20,6 @@
 use Rattle.std.specs.Prelude.{◌≡◌, ℕ, ◌+◌, ◌-◌, ◌<◌, ◌≤◌, min, Bool, List, [], ◌∷◌, length, map, filter, nat_lt, slice_index}
 use Rattle.std.specs.Prelude.{MatchOption, Contains, ◌⊎◌, ◌↔◌, IsTrue}
 use Rattle.std.specs.List.{All, AllZip}
-use Rattle.std.specs.List.Sorted.{IsStrictlyIncreasing}
 use Rattle.olr_spec.specs.Map.{Map, start, end, has}
 use Rattle.olr_spec.specs.Routes.{IsRoute, dm_of, LrpRoute}
 use Rattle.olr_spec.specs.Extension.{Path, Tried, extended_path, limit}
@@ -114,14 +112,15 @@ pub record IsKnown (M : Map) (ls : List ℕ) (e : KnownQuery) : Type 0 where
       LrpRoute M e.query.from (start M (slice_index ls m)) (stretch ls e.first m)
   pub covered : IsTrue e.covered ↔ LrpRoute M e.query.from e.query.to (stretch ls e.first e.last)
 
--- in ascending order of the lines where they begin
-pub record AreKnown (M : Map) (ls : List ℕ) (ks : List KnownQuery) : Type 0 where
-  pub right : All (IsKnown M ls) ks
-  pub ascend : IsStrictlyIncreasing (map (λ e. e.first) ks)
+abbrev pub AreKnown : Map → List ℕ → List KnownQuery → Type 0
+AreKnown M ls ks = All (IsKnown M ls) ks
 
-pub record KnownOf (M : Map) (P : Path) (queries : List CoverageQuery) (ks : List KnownQuery) : Type 0 where
-  pub are : AreKnown M P.lines ks
-  pub among : (e : KnownQuery) → Contains ks e → Contains queries e.query
+pub record IsKnownOf (M : Map) (ls : List ℕ) (queries : List CoverageQuery) (e : KnownQuery) : Type 0 where
+  pub among : Contains queries e.query
+  pub right : IsKnown M ls e
+
+abbrev pub KnownOf : Map → List ℕ → List CoverageQuery → List KnownQuery → Type 0
+KnownOf M ls queries ks = All (IsKnownOf M ls queries) ks
 
 -- no detour over the changed lines is as short as the path
 abbrev pub IsClear : Map → List ChangedLine → CoverageQuery → Type 0

@@ -9,15 +9,15 @@ returns-then-resolved-i-le2 g c = record {
   reach = reach_near_end (g.M.MapRead.map c.args.resolved.now.map.now) c.args.resolved.now.lines.now c.args.i
       c.last_within_limit.result c.args.resolved.now.joined c.last_within_limit.ensures
       (g.met.M.MapRead.sound c.args.resolved.now.map.now) c.requires.some (omega arith);
-  asks = λ before begun below x.
+  asks = λ before begun x.
       asks_none (g.M.MapRead.map c.args.resolved.now.map.now) c.args.resolved.now.lines.now c.args.reuse.now before
       c.args.i c.args.queries.now begun _ (omega arith) x;
 }
 
 pub returns-clause-asks : goal.returns-clause-asks
-returns-clause-asks g c = λ before begun below x.
+returns-clause-asks g c = λ before begun x.
     let found = c.in_ok-found.found in
     let own : c.match-found.queries.own.items ≡ c.args.queries.now.own.items ++ option_to_list found.own =
     elim c.match-found.branch [ in-Some+in_ok-push-2 w ↦ grind arith | in_default w ↦ grind (arith, append-nil) ] in
     asks_more (g.M.MapRead.map c.args.resolved.now.map.now) c.args.resolved.now.lines.now c.args.reuse.now before c.args.i
-    c.args.queries.now _ found begun _ _ (omega arith) below x c.in_ok-found.ensures (grind arith) own (grind arith)
+    c.args.queries.now _ found begun _ _ (omega arith) x c.in_ok-found.ensures (grind arith) own (grind arith)
