@@ -12,4 +12,3 @@ pub mod Changed
 pub mod EntryLists
 pub mod Covering
 pub mod AroundLemmas
-pub mod KnownSoFar

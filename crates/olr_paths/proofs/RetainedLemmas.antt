@@ -83,7 +83,7 @@ module _ {M N : Map} (n : IsMap N) {T X : List ℕ} {C : List ChangedLine} {is :
 
     -- of its coverage queries along its own lines, those that stay right
     pub given_known : (given : List KnownQuery) → StayKnown N C m.known given → AreKnown N P.lines given
-    given_known given stay = stay M P.lines q.difference.there q.difference.here 
+    given_known given stay = stay M P.lines q.difference.there q.difference.here
         (known_right M P.lines m.queries m.known made.known)
 
     nodes_off : ¬ TraversedTouched T m → (v : ℕ) → has T v ≡ true → ¬ TraversedOf M P v

@@ -1,8 +1,7 @@
-use Rattle.olr_list.proofs.Common.{◌≡◌, List, ◌∷◌, [], ◌++◌, ap, subst, ◌∙◌, Global, KnownQuery, CoverageQuery, Vec}
-use Rattle.olr_list.proofs.Common.{changed_of}
-use Rattle.olr_list.proofs.KnownSoFar.{stay_none, stay_left, stay_push}
-use Rattle.olr_spec.proofs.KnownLemmas.{none_known}
-use Rattle.olr_spec.specs.Queries.{IsClear}
+use Rattle.olr_list.proofs.Common.{◌≡◌, List, ◌∷◌, [], ◌++◌, ap, sym, subst, ◌∙◌, Global, KnownQuery, CoverageQuery, Vec}
+use Rattle.olr_list.proofs.Common.{changed_of, All-nil, All-push}
+use Rattle.olr_spec.proofs.KnownLemmas.{known_stays}
+use Rattle.olr_spec.specs.Queries.{IsClear, IsKnown}
 use Rattle.olr_list.proofs.detours.clear_known.Goals.{then-branch+in_ok-push, else-branch}
 use Rattle.olr_list.proofs.detours.clear_known.Goals as goal
 
@@ -21,22 +20,24 @@ loop-one-preserved g c =
                 let grown : c.if-branch.clear.items ≡ old ++ item ∷ [] =
                 ap (λ (v : Vec KnownQuery Global). v.items) w.clear-is
                 ∙ (w.in_ok-push.ensures.items ∙ ap (λ (e : KnownQuery). old ++ e ∷ []) c.one.view_is) in
-                rw grown (stay_push h C there here are c.loop-one-test.true item c.one-item.is clear)
+                let known : IsKnown M ls item = subst (IsKnown M ls) (sym c.one-item.is) (are _ item c.loop-one-test.true) in
+                rw grown (All-push (IsKnown N ls) old item h (known_stays M N C there here ls item known clear))
             | else-branch w ↦
                 let same : c.if-branch.clear.items ≡ old = ap (λ (v : Vec KnownQuery Global). v.items) w.clear-is in
-                rw same (stay_left h)
+                rw same h
           ]),
       c.in_ok-is_clear.ensures.detours,
     )
 
 pub loop-one-init : goal.loop-one-init
 loop-one-init g c = (
-  (λ M ls there here are. rw c.new-clear.ensures.items stay_none),
+  (λ M ls there here are. rw c.new-clear.ensures.items (All-nil (IsKnown (g.M.MapRead.map c.args.map.now) ls))),
   c.requires (c.are_few.ensures.0 c.if-not-are_few.false),
 )
 
 pub returns-clause-clear : goal.returns-clause-clear
-returns-clause-clear g c = λ M ls there here are. (c.loop-one.invariant.0 M ls there here are).known
+returns-clause-clear g c = c.loop-one.invariant.0
 
 pub returns-then-not-are_few-clause-clear : goal.returns-then-not-are_few-clause-clear
-returns-then-not-are_few-clause-clear g c = λ M ls there here are. rw c.new-clear.ensures.items (none_known _ ls)
+returns-then-not-are_few-clause-clear g c = λ M ls there here are.
+    rw c.new-clear.ensures.items (All-nil (IsKnown (g.M.MapRead.map c.args.map.now) ls))
