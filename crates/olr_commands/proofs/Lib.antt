@@ -4,4 +4,4 @@ pub mod NameLemmas
 pub mod StateLemmas
 pub mod HistoryLemmas
 pub mod DumpLemmas
-pub mod SearchLemmas
+pub mod CountLemmas

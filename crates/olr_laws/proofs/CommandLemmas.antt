@@ -24,8 +24,8 @@ use Rattle.olr_commands.specs.Dump.{dump_lines, dump_changes, node_changes, line
 use Rattle.olr_commands.specs.Dependents.{Dependents}
 use Rattle.olr_commands.specs.Ambiguities.{AskedAmbiguities}
 use Rattle.olr_commands.specs.State.{has_asked}
-use Rattle.olr_commands.specs.Counts.{Affects, CountIs, Raises, Retains, RaisesRetained}
-use Rattle.olr_commands.proofs.SearchLemmas.{unconcerned}
+use Rattle.olr_commands.specs.Counts.{Affects, CountIs, Raises}
+use Rattle.olr_commands.proofs.CountLemmas.{unconcerned}
 use Rattle.olr_commands.proofs.DumpLemmas.{dumps_lead}
 use Rattle.olr_commands.specs.History.{Run, History, AllHaveCoords, names, Headline}
 use Rattle.olr_commands.proofs.HistoryLemmas.{start_sound, names_changed, SoundOutcome, headline_of_outcomes}
@@ -261,20 +261,6 @@ one_count P (x ∷ xs) n m p q = grind (arith, one_count P xs, one_count P xs n 
 pub no_count : {A : Type 0} (P : A → Type 0) → ((x : A) → ¬ P x) → (xs : List A) (n : ℕ) → CountIs P xs n → n ≡ 0
 no_count P none [] n p = p
 no_count P none (x ∷ xs) n p = elim p [ inl h ↦ absurd (none x h.0) | inr h ↦ no_count P none xs n h.1 ]
-
--- a claim that another one follows from holds of no more elements
-pub count_within : {A : Type 0} (P Q : A → Type 0) → ((x : A) → P x → Q x) → (xs : List A) (n m : ℕ) → CountIs P xs n →
-    CountIs Q xs m → n ≤ m
-count_within P Q implies [] n m p q = omega (arith, p, q)
-count_within P Q implies (x ∷ xs) n m p q = grind (arith, implies x, count_within P Q implies xs)
-
-pub one_retained : (s t : State) (c : Command) (n m : ℕ) → RaisesRetained s c t n → RaisesRetained s c t m → n ≡ m
-one_retained s t c n m = one_count (Retains s.content t.content (changes_made s c)) t.content.paths n m
-
-pub retains_few : (s t : State) (c : Command) (n m : ℕ) → RaisesRetained s c t n → Raises s c t m → n ≤ m
-retains_few s t c n m =
-    count_within (Retains s.content t.content (changes_made s c)) (Affects s.content (changes_made s c))
-    (λ p h. h.affected) t.content.paths n m
 
 pub no_rise : (s t : State) (c : Command) (n : ℕ) → changes_made s c ≡ [] → Raises s c t n → n ≡ 0
 no_rise s t c n none h = grind (arith, no_count, unconcerned)

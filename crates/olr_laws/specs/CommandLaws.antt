@@ -1,5 +1,5 @@
 -- The laws of states, replies and counts.
-use Rattle.std.specs.Prelude.{◌≡◌, ◌≢◌, ◌⊎◌, ℕ, ◌≤◌, List, [], ◌∷◌, None, Ok, Contains, IsTrue, IsFalse}
+use Rattle.std.specs.Prelude.{◌≡◌, ◌≢◌, ◌⊎◌, ℕ, List, [], ◌∷◌, None, Ok, Contains, IsTrue, IsFalse}
 use Rattle.olr_spec.specs.Map.{Map, IsMap, Edit, edited, touched_nodes, touched_lines, has, has_node, has_line}
 use Rattle.olr_spec.specs.Extension.{Path}
 use Rattle.olr_commands.specs.State.{Content, Add_path, Set_path, Make, State, Command, Explain, Begin, Commit, Abort}
@@ -7,7 +7,7 @@ use Rattle.olr_commands.specs.State.{HasCoords, IsState, step, changes_made, Nam
 use Rattle.olr_commands.specs.Dump.{dump_changes, node_changes, line_changes}
 use Rattle.olr_commands.specs.Dependents.{DependsOn}
 use Rattle.olr_commands.specs.Reply.{Reply, IsReply, Outcome, IsOutcome, lacks_memory}
-use Rattle.olr_commands.specs.Counts.{Raises, RaisesRetained, Affects}
+use Rattle.olr_commands.specs.Counts.{Raises, Affects}
 
 abbrev pub StepsKeep : Type 0
 StepsKeep = (s t : State) (c : Command) → IsState s → HasCoords c → step s c ≡ Ok t → IsState t
@@ -50,13 +50,6 @@ PathsRaiseOne =
     (s t : State) (name : List ℕ) (path : Path) → IsState s → s.batch ≡ None
     → (step s (Make (Add_path name path)) ≡ Ok t → Raises s (Make (Add_path name path)) t 1)
     × (step s (Make (Set_path name path)) ≡ Ok t → Raises s (Make (Set_path name path)) t 1)
-
--- the number of retained answers is determined, and at most the number of encodings that are counted
-abbrev pub OneRetained : Type 0
-OneRetained = (s t : State) (c : Command) (n m : ℕ) → RaisesRetained s c t n → RaisesRetained s c t m → n ≡ m
-
-abbrev pub RetainsFew : Type 0
-RetainsFew = (s t : State) (c : Command) (n m : ℕ) → RaisesRetained s c t n → Raises s c t m → n ≤ m
 
 -- the records that show a node, or a line with its ends, are records of a dump
 abbrev pub ShownAreDumped : Type 0

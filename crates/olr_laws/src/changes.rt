@@ -36,10 +36,6 @@ pub fn laws_of_queries()
     ensures affected { Laws.FootAffected }
     ensures queries { Laws.QueriesStay }
     ensures known { Laws.KnownStays }
-    ensures one_known { Laws.OneKnown }
-    ensures known_holds { Laws.KnownHolds }
-    ensures one_searched { Laws.OneSearched }
-    ensures all_searched { Laws.AllSearched }
     ensures kept { Laws.AnswersRetained }
     ensures untouched { Laws.UntouchedRetained }
     ensures known_kept { Laws.KnownRetained }

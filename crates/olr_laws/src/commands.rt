@@ -24,14 +24,12 @@ pub fn laws_of_states()
     ensures some_reply { Laws.SomeReply }
 {}
 
-/// The rises of the counts of encodings and of retained answers are determined.
-#[tactic(auto, using(crate::proofs::CommandLemmas::one_rise, crate::proofs::CommandLemmas::no_rise, crate::proofs::CommandLemmas::one_retained, crate::proofs::CommandLemmas::retains_few))]
+/// The rise of the count of encodings is determined.
+#[tactic(auto, using(crate::proofs::CommandLemmas::one_rise, crate::proofs::CommandLemmas::no_rise, olr_commands::proofs::CountLemmas::paths_raise))]
 pub fn laws_of_counts()
     ensures one { Laws.OneRise }
     ensures none { Laws.NoRise }
     ensures paths { Laws.PathsRaiseOne }
-    ensures one_retained { Laws.OneRetained }
-    ensures few { Laws.RetainsFew }
 {}
 
 /// The claims about whole runs of commands.

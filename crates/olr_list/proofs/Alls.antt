@@ -2,8 +2,8 @@
 use Rattle.olr_list.proofs.Common.{Contains-later, slice_get}
 use Rattle.olr_list.proofs.Common.{Contains-cases, Contains-here, take_more, All-push, Contains, list_any}
 use Rattle.olr_list.proofs.Common.{length, get_or, IsTrue, subst, arith, List, take, Some, ◌≡◌}
-use Rattle.olr_list.proofs.Common.{true, ◌+◌, ◌<◌, ◌∷◌, All, sym, map, ◌↔◌, inl, inr, has, [], ℕ, Picks}
-use Rattle.olr_list.proofs.Common.{Item, zero, suc, refl}
+use Rattle.olr_list.proofs.Common.{true, ◌+◌, ◌<◌, ◌∷◌, All, sym, map, ◌↔◌, inl, inr, has, [], ℕ}
+use Rattle.olr_list.proofs.Common.{Item, zero, suc}
 use Rattle.std.proofs.lemmas.List.Folds.{Any-from_list_any, list_any_at}
 pub use Rattle.olr_spec.proofs.SameNumbers.{has_from, in_from}
 
@@ -37,11 +37,6 @@ shared ws xs = (
   (λ h. let c = in_from xs h.0 h.2 in
       list_any_at (λ x. has ws x) xs c.0 h.0 c.1 (subst (λ (v : ℕ). has ws v ≡ true) (sym c.2) h.1)),
 )
-
--- where none is picked
-pub picks_none : {A : Type 0} (P : A → Type 0) → ((x : A) → ¬ P x) → (xs : List A) → Picks P xs []
-picks_none P none [] = refl
-picks_none P none (x ∷ xs) = inr (none x, picks_none P none xs)
 
 -- what a list says of each of its items is said of the one at a position
 pub at_position : (Q : List Item → Type 0) (P : Item → Type 0) →

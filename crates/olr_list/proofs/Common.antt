@@ -2,7 +2,6 @@
 pub use Rattle.indexmap.specs.IndexMap.{insert_entry}
 pub use Rattle.indexmap.specs.Layout.{set_value_at}
 pub use Rattle.olr_commands.proofs.NameLemmas.{flipped, same_is}
-pub use Rattle.olr_commands.specs.Counts.{IsAgainClear, Picks, most_changed}
 pub use Rattle.olr_commands.specs.Reply.{Entry, entry, published_text}
 pub use Rattle.olr_commands.specs.State.{NamesDiffer, path_named, same_name}
 pub use Rattle.olr_commands.specs.Words.{entry_of}
@@ -10,7 +9,7 @@ pub use Rattle.olr_index.specs.PathIds.{holds, path_ids_of}
 pub use Rattle.olr_index.specs.declared.Index.{Index}
 pub use Rattle.olr_list.specs.Actions.{ToSkip}
 pub use Rattle.olr_list.specs.Candidates.{AreFound, Covers, CoversAsked, Finds, FindsChanged, Includes}
-pub use Rattle.olr_list.specs.Changes.{AreEncoded, IsKnownClear, LineTouched, QueryTouched, Reported, TraversedTouched}
+pub use Rattle.olr_list.specs.Changes.{AreEncoded, LineTouched, QueryTouched, Reported, TraversedTouched}
 pub use Rattle.olr_list.specs.Changes.{set_item}
 pub use Rattle.olr_list.specs.Finders.{AreNoted, AreNotedAt, ArePublished, Grows, AddsOnly, ChangesOnly, NamedNoted}
 pub use Rattle.olr_list.specs.Finders.{IsNoted, KeyLists, Spares, keys_by, keys_in, named_keys}
@@ -18,7 +17,7 @@ pub use Rattle.olr_list.specs.Items.{Item, Made, all_named, answer_in, items, ma
 pub use Rattle.olr_list.specs.Overlaid.{Changes, RemovesNone, change_at, changes_in, drops, overlay_changes, path_in}
 pub use Rattle.olr_list.specs.Overlaid.{under_change, under_changes}
 pub use Rattle.olr_list.specs.Origins.{AreFar, Begins, BeginsIn, BeginsPut}
-pub use Rattle.olr_list.specs.AffectedSearches.{AreAsked, AreDetours, AreFarther, IsAsked, IsExactAt, LackQueries, sources}
+pub use Rattle.olr_list.specs.AffectedSearches.{AreAsked, AreDetours, IsAsked, IsExactAt, LackQueries, sources}
 pub use Rattle.olr_list.specs.AffectedSearches.{sources_in}
 pub use Rattle.olr_list.specs.Views.{shown_item, shown_items}
 pub use Rattle.olr_list.specs.Stored.{Put, all_put, put, puts_of}

@@ -1,8 +1,7 @@
 -- Whether edits affect a path, by two tests: of its nodes and lines, and of its coverage queries.
 use Rattle.olr_list.proofs.Common.{◌≡◌, ◌⊎◌, ◌↔◌, ℕ, Bool, List, IsTrue, false, true≢false, inl, inr, sym, ◌∙◌, Map, Path}
-use Rattle.olr_list.proofs.Common.{Made, TraversedTouched, LineTouched, QueryTouched, ChangedLine}
+use Rattle.olr_list.proofs.Common.{Made, TraversedTouched, LineTouched, QueryTouched}
 use Rattle.olr_list.specs.Changes.{Touches}
-use Rattle.olr_list.specs.Actions.{Retains}
 
 module _ (N : Map) (T X : List ℕ) (m : Made) (P : Path) where
   pub untouched : {a b : Bool} → IsTrue a ↔ (TraversedTouched T m ⊎ LineTouched X P) → IsTrue b ↔ QueryTouched N T m →
@@ -14,8 +13,3 @@ module _ (N : Map) (T X : List ℕ) (m : Made) (P : Path) where
   pub touched_itself : TraversedTouched T m ⊎ LineTouched X P → Touches N T X m P
   touched_itself (inl t) = inl t
   touched_itself (inr x) = inr (inl x)
-
-  -- then its answer is not retained
-  pub not_retained : (C : List ChangedLine) → TraversedTouched T m ⊎ LineTouched X P → ¬ Retains N T X C m P
-  not_retained C (inl t) r = r.traversed t
-  not_retained C (inr x) r = r.lines x

@@ -1,24 +1,21 @@
 -- Which action a renewal takes for a path.
---     Retains N T X C m P      not too many lines have changed, no traversed node and no line of the path is touched, and
---         each coverage query is clear
+--     Retains N T X C m P      no traversed node and no line of the path is touched, and each coverage query is clear
 --     ToName N T X made P      it was not encoded yet, or the edits affect it
 --     IsActionFor      the action for a path
---     IsEncode a      the action is that the path is encoded again
-use Rattle.std.specs.Prelude.{◌≡◌, ℕ, List, All, ◌≤◌, Option, Some, None, ◌⊎◌, length, ⊤}
+use Rattle.std.specs.Prelude.{◌≡◌, ℕ, List, All, Option, Some, None, ◌⊎◌}
 use Rattle.olr_spec.specs.Map.{Map}
 use Rattle.olr_spec.specs.Detours.{ChangedLine}
 use Rattle.olr_spec.specs.Extension.{Path}
-use Rattle.olr_commands.specs.Counts.{most_changed}
+use Rattle.olr_spec.specs.Queries.{IsClear}
 use Rattle.olr_list.specs.Items.{Made}
-use Rattle.olr_list.specs.Changes.{TraversedTouched, LineTouched, Touches, IsKnownClear}
+use Rattle.olr_list.specs.Changes.{TraversedTouched, LineTouched, Touches}
 use Rattle.olr_list.specs.declared.actions.Action.{Action}
 use Rattle.olr_list.specs.declared.actions.Action.TheVariants.{Skip, Retain, Encode}
 
 pub record Retains (N : Map) (T X : List ℕ) (C : List ChangedLine) (m : Made) (P : Path) : Type 0 where
-  pub few : length C ≤ most_changed
   pub traversed : ¬ TraversedTouched T m
   pub lines : ¬ LineTouched X P
-  pub clear : All (IsKnownClear N C) m.queries
+  pub clear : All (IsClear N C) m.queries
 
 abbrev pub ToSkip : Map → List ℕ → List ℕ → Option Made → Path → Type 0
 ToSkip N T X made P = (m : Made) × (made ≡ Some m) × ¬ Touches N T X m P
@@ -29,16 +26,7 @@ ToName N T X made P = (made ≡ None) ⊎ ((m : Made) × (made ≡ Some m) × To
 abbrev pub ToRetain : Map → List ℕ → List ℕ → List ChangedLine → Option Made → Path → Type 0
 ToRetain N T X C made P = (m : Made) × (made ≡ Some m) × Touches N T X m P × Retains N T X C m P
 
-abbrev pub ToEncode : Map → List ℕ → List ℕ → List ChangedLine → Option Made → Path → Type 0
-ToEncode N T X C made P =
-    (made ≡ None) ⊎ ((m : Made) × (made ≡ Some m) × Touches N T X m P × ¬ Retains N T X C m P)
-
 abbrev pub IsActionFor : Map → List ℕ → List ℕ → List ChangedLine → Option Made → Path → Action → Type 0
 IsActionFor N T X C made P Skip = ToSkip N T X made P
 IsActionFor N T X C made P Retain = ToRetain N T X C made P
-IsActionFor N T X C made P Encode = ToEncode N T X C made P
-
-abbrev pub IsEncode : Action → Type 0
-IsEncode Skip = ⊥
-IsEncode Retain = ⊥
-IsEncode Encode = ⊤
+IsActionFor N T X C made P Encode = ToName N T X made P

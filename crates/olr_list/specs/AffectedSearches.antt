@@ -6,9 +6,8 @@
 --     LackQueries is      no path has a query
 --     source_in, sources_in direction      where the search in a direction begins at changed lines, and its start values
 --     AreDetours N slot t d      the searches for the distances to where changed lines begin, and from where they end
---     AreFarther p q d      two distances together are more than d, or one is none
-use Rattle.std.specs.Prelude.{◌≡◌, ℕ, ◌+◌, ◌<◌, ◌≤◌, min, List, map, Contains, Bool, Option, Some, None}
-use Rattle.std.specs.Prelude.{IsTrue, IsFalse, ⊤, slice_get}
+--     AreDetoursIfFew      the same, if not too many lines changed
+use Rattle.std.specs.Prelude.{◌≡◌, ℕ, ◌≤◌, min, List, map, Contains, Bool, Some, IsTrue, IsFalse, slice_get, length}
 use Rattle.olr_spec.specs.Map.{Map, has_node}
 use Rattle.olr_spec.specs.Queries.{CoverageQuery}
 use Rattle.olr_spec.specs.Detours.{ChangedLine}
@@ -61,7 +60,9 @@ pub record AreDetours (N : Map) (slot : ℕ → ℕ) (t : ChangeSet) (d : Detour
   pub before : IsSearch N slot Against (sources_in Against (changed_of t)) d.before
   pub after : IsSearch N slot Along (sources_in Along (changed_of t)) d.after
 
-abbrev pub AreFarther : Option ℕ → Option ℕ → ℕ → Type 0
-AreFarther (Some a) (Some b) d = d < a + b
-AreFarther None _ d = ⊤
-AreFarther (Some a) None d = ⊤
+-- with more changed lines than this, no detours are searched for
+abbrev pub most_changed : ℕ
+most_changed = 8
+
+abbrev pub AreDetoursIfFew : Map → (ℕ → ℕ) → ChangeSet → Detours → Type 0
+AreDetoursIfFew N slot t d = length (changed_of t) ≤ most_changed → AreDetours N slot t d

@@ -6,17 +6,16 @@
 --     CoversAsked N slot t s is found      the same for the paths for which the search was made.
 --     FindsChanged cs is found      a path whose position isn't found is not changed
 --     AreCandidates N slot t s is found      what a renewal finds before it takes an action for each path
-use Rattle.std.specs.Prelude.{◌≡◌, ℕ, ◌<◌, ◌≤◌, List, All, Some, None, false, length, get_or, slice_get, IsTrue}
+use Rattle.std.specs.Prelude.{◌≡◌, ℕ, ◌<◌, List, All, Some, None, false, length, get_or, slice_get, IsTrue}
 use Rattle.std.specs.List.Sorted.{IsStrictlyIncreasing}
 use Rattle.olr_spec.specs.Map.{Map, has}
 use Rattle.olr_index.specs.PathIds.{holds}
 use Rattle.olr_index.specs.declared.Index.{Index}
-use Rattle.olr_commands.specs.Counts.{most_changed}
 use Rattle.olr_list.specs.Items.{Made, Item}
 use Rattle.olr_list.specs.Actions.{ToSkip}
 use Rattle.olr_list.specs.Overlaid.{Changes, change_at}
-use Rattle.olr_list.specs.ChangeSets.{nodes_of, lines_of, changed_of}
-use Rattle.olr_list.specs.AffectedSearches.{IsAsked, AreAsked, AreDetours}
+use Rattle.olr_list.specs.ChangeSets.{nodes_of, lines_of}
+use Rattle.olr_list.specs.AffectedSearches.{IsAsked, AreAsked, AreDetoursIfFew}
 use Rattle.olr_list.specs.declared.change_set.ChangeSet.{ChangeSet}
 use Rattle.olr_list.specs.declared.searches.Searches.{Searches}
 
@@ -49,4 +48,4 @@ pub record AreCandidates (N : Map) (slot : ℕ → ℕ) (t : ChangeSet) (s : Sea
     pub asked : AreAsked N slot t s is
     pub ascending : IsStrictlyIncreasing found
     pub covers : Covers N (nodes_of t) (lines_of t) is found
-    pub detours : 0 < length found → length (changed_of t) ≤ most_changed → AreDetours N slot t s.detours
+    pub detours : 0 < length found → AreDetoursIfFew N slot t s.detours

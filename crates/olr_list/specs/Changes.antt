@@ -1,7 +1,8 @@
 -- What a change of the map, or of one path, means for a list of named paths.
 --     Touches N T X m P      a traversed node or a line of the path is touched, or a touched node is near to where a
 --         coverage query begins, within its length and the limit
---     IsKnownClear N C l      a coverage query within the limit whose ends are on the map, and that is clear
+--     StayKnown N C ks rest      where the coverage queries ks along a path's own lines are right before the changed lines
+--         C, the queries rest are right on N
 --     Reported before js es      an entry for each path whose answer is not the earlier one of its name, in order
 --     AreEncoded is      each path was encoded
 use Rattle.std.specs.Prelude.{◌≡◌, ◌≢◌, ℕ, List, [], ◌∷◌, Contains, Option, Some, None, option_map, ◌⊎◌, IsTrue, ⊤}
@@ -9,10 +10,9 @@ use Rattle.std.specs.Prelude.{min, if◌then◌else◌}
 use Rattle.olr_spec.specs.Map.{Map, has}
 use Rattle.olr_spec.specs.Extension.{Path, limit}
 use Rattle.olr_spec.specs.Encoding.{Answer}
-use Rattle.olr_spec.specs.Detours.{ChangedLine, Near}
-use Rattle.olr_spec.specs.Queries.{CoverageQuery, IsClear}
+use Rattle.olr_spec.specs.Detours.{ChangedLine, Near, AccountsFor}
+use Rattle.olr_spec.specs.Queries.{CoverageQuery, KnownQuery, AreKnown}
 use Rattle.olr_commands.specs.State.{same_name}
-use Rattle.olr_commands.specs.Counts.{IsOnMap}
 use Rattle.olr_commands.specs.Reply.{Entry, entry}
 use Rattle.olr_list.specs.Items.{Made, Item, answer_in}
 
@@ -28,8 +28,9 @@ QueryTouched N T m = (l : CoverageQuery) × Contains m.queries l × Near N T l.f
 abbrev pub Touches : Map → List ℕ → List ℕ → Made → Path → Type 0
 Touches N T X m P = TraversedTouched T m ⊎ (LineTouched X P ⊎ QueryTouched N T m)
 
-abbrev pub IsKnownClear : Map → List ChangedLine → CoverageQuery → Type 0
-IsKnownClear N C l = IsOnMap N l × IsClear N C l
+abbrev pub StayKnown : Map → List ChangedLine → List KnownQuery → List KnownQuery → Type 0
+StayKnown N C ks rest =
+    (M : Map) (ls : List ℕ) → AccountsFor C M N → AccountsFor C N M → AreKnown M ls ks → AreKnown N ls rest
 
 abbrev pub Reported : List Item → List Item → List Entry → Type 0
 Reported before [] es = es ≡ []

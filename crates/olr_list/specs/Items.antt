@@ -53,7 +53,7 @@ pub record IsEncodingOf (M : Map) (P : Path) (m : Made) : Type 0 where
   pub answer : Encodes M P m.answer
   pub traversed : (v : ℕ) → Contains m.traversed v ↔ TraversedOf M P v
   pub queries : QueriesOf M P m.queries
-  pub known : KnownOf M P m.known
+  pub known : KnownOf M P.lines m.queries m.known
 
 abbrev pub AreEncodings : Map → List Item → Type 0
 AreEncodings M [] = ⊤

@@ -1,11 +1,10 @@
 //! Which action a renewal takes for a path.
-ghost use Rattle.std.specs.Prelude.{◌≡◌, ◌↔◌, ◌≤◌, List, length, Some, IsTrue, IsFalse, IfOk, OnOk};
-ghost use Rattle.olr_list.specs.Items.{Made, Item, made_of};
+ghost use Rattle.std.specs.Prelude.{◌≡◌, List, Some, IsTrue, IsFalse, IfOk, OnOk};
+ghost use Rattle.olr_list.specs.Items.{Made, Item};
 ghost use Rattle.olr_list.specs.Views.{shown_item};
 ghost use Rattle.olr_list.specs.ChangeSets.{nodes_of, lines_of, changed_of};
-ghost use Rattle.olr_list.specs.AffectedSearches.{AreDetours, AreAsked, IsAsked};
-ghost use Rattle.olr_commands.specs.Counts.{most_changed};
-ghost use Rattle.olr_list.specs.Actions.{Retains, ToSkip, ToName, IsActionFor};
+ghost use Rattle.olr_list.specs.AffectedSearches.{AreDetoursIfFew, AreAsked, IsAsked};
+ghost use Rattle.olr_list.specs.Actions.{ToSkip, ToName, IsActionFor};
 
 use crate::affected::{is_path_touched, is_query_touched};
 use crate::change_set::ChangeSet;
@@ -56,12 +55,11 @@ pub fn decide<M: MapRead>(
 ) -> Result<Action, AllocError>
     requires asked { (m : Made) → (shown_item shown).made ≡ Some m
         → IsAsked (M.map map.now) (M.node_slot map.now) touched.now searches.old m }
-    requires detours { length (changed_of touched.now) ≤ most_changed
-        → AreDetours (M.map map.now) (M.node_slot map.now) touched.now searches.old.detours }
+    requires detours { AreDetoursIfFew (M.map map.now) (M.node_slot map.now) touched.now searches.old.detours }
     ensures action { IfOk result (λ action. IsActionFor (M.map map.now) (nodes_of touched.now) (lines_of touched.now)
         (changed_of touched.now) (shown_item shown.entry).made (shown_item shown.entry).path action) }
-    ensures detours { OnOk result (length (changed_of touched.now) ≤ most_changed
-        → AreDetours (M.map map.now) (M.node_slot map.now) touched.now searches.new.detours) }
+    ensures detours { OnOk result
+        (AreDetoursIfFew (M.map map.now) (M.node_slot map.now) touched.now searches.new.detours) }
     ensures asked { OnOk result ((is : List Item)
         → AreAsked (M.map map.now) (M.node_slot map.now) touched.now searches.old is
         → AreAsked (M.map map.now) (M.node_slot map.now) touched.now searches.new is) }

@@ -1,12 +1,13 @@
 //! Whether changed lines offer a detour that is as short as a coverage query.
-ghost use Rattle.std.specs.Prelude.{◌≡◌, ◌<◌, ◌≤◌, ◌↔◌, ℕ, length, IsTrue, IfOk, OnOk};
-ghost use Rattle.olr_spec.specs.Map.{has_node};
+ghost use Rattle.std.specs.Prelude.{◌≡◌, ◌<◌, ◌≤◌, ◌↔◌, ℕ, List, length, All, IsTrue, IfOk, OnOk};
+ghost use Rattle.olr_spec.specs.Map.{Map, has_node};
 ghost use Rattle.olr_spec.specs.Detours.{Detour};
+ghost use Rattle.olr_spec.specs.Queries.{IsClear};
 ghost use Rattle.olr_list.specs.ChangeSets.{changed_of};
-ghost use Rattle.olr_list.specs.AffectedSearches.{AreDetours, AreFarther};
-ghost use Rattle.olr_commands.specs.Counts.{Picks, IsAgainClear, most_changed};
-ghost use Rattle.olr_list.specs.Changes.{IsKnownClear};
-ghost use Rattle.std.specs.Prelude.{All};
+ghost use Rattle.olr_search.specs.Distances.{Leads};
+ghost use Rattle.olr_search.specs.Searches.{IsSearch};
+ghost use Rattle.olr_list.specs.AffectedSearches.{AreDetours, AreDetoursIfFew, most_changed};
+ghost use Rattle.olr_list.specs.Changes.{StayKnown};
 
 use crate::change_set::ChangeSet;
 use crate::sources::begin_at;
@@ -53,8 +54,8 @@ pub(crate) fn begin_detours<M: MapRead>(
     found: &[usize],
     detours: &mut Detours,
 ) -> Result<(), AllocError>
-    ensures { OnOk result (0 < length found.now → length (changed_of touched.now) ≤ most_changed
-        → AreDetours (M.map map.now) (M.node_slot map.now) touched.now detours.new) }
+    ensures { OnOk result (0 < length found.now
+        → AreDetoursIfFew (M.map map.now) (M.node_slot map.now) touched.now detours.new) }
 {
     if found.is_empty() {
         return Ok(());
@@ -67,19 +68,43 @@ pub(crate) fn begin_detours<M: MapRead>(
     begin_at(alloc, map, Direction::Along, changed, &mut detours.after)
 }
 
-/// Whether the sum of two distances is more than a length, all in decimetres, or one of them is None.
-fn is_farther(before: Option<u32>, after: Option<u32>, within: u32) -> bool
-    ensures { IsTrue result ↔ AreFarther before after within }
+/// A length in decimetres that no route to the node in this slot is shorter than: its distance, or more than the limit to
+/// which the search is settled.
+fn at_least(search: &Dijkstra, slot: u32) -> u32
+    ensures { (M : Map) (node_slot : ℕ → ℕ) (direction : _) (from : List (ℕ × ℕ)) (v e : ℕ)
+        → IsSearch M node_slot direction from search.now → IsTrue (has_node M v) → node_slot v ≡ slot
+        → Leads M direction from v e → result ≤ e }
 {
-    match (before, after) {
-        (Some(before), Some(after)) => { u64::from(before) + u64::from(after) > u64::from(within) }
-        _ => true,
+    match search.dist_at(slot) {
+        Some(dist) => dist,
+        None => search.limit().saturating_add(1),
     }
 }
 
-/// Whether no detour over the changed lines, from the node in the slot `from` to the node in the slot `to`, is at most
-/// `within` decimetres long. Both searches go half as far, and only if one of them finds its node, the other goes on to
-/// what is left.
+/// Settles both searches half as far as `within`. Only if one of them finds its node, the other goes on to what is left.
+fn settle_both<M: MapRead>(
+    map: &M,
+    touched: &ChangeSet,
+    detours: &mut Detours,
+    from: u32,
+    to: u32,
+    within: u32,
+) -> Result<(), AllocError>
+    requires short { within ≤ GREATEST_LIMIT }
+    requires searches { AreDetours (M.map map.now) (M.node_slot map.now) touched.now detours.old }
+    ensures { OnOk result (AreDetours (M.map map.now) (M.node_slot map.now) touched.now detours.new) }
+{
+    detours.before.settle_to(map, within / 2)?;
+    detours.after.settle_to(map, within / 2)?;
+    match (detours.before.dist_at(from), detours.after.dist_at(to)) {
+        (Some(there), None) => detours.after.settle_to(map, within.saturating_sub(there)),
+        (None, Some(back)) => detours.before.settle_to(map, within.saturating_sub(back)),
+        _ => Ok(()),
+    }
+}
+
+/// True only if no detour over the changed lines, from the node in the slot `from` to the node in the slot `to`, is at
+/// most `within` decimetres long.
 fn has_no_detour<M: MapRead>(
     map: &M,
     touched: &ChangeSet,
@@ -90,31 +115,19 @@ fn has_no_detour<M: MapRead>(
 ) -> Result<bool, AllocError>
     requires short { within ≤ GREATEST_LIMIT }
     requires searches { AreDetours (M.map map.now) (M.node_slot map.now) touched.now detours.old }
-    ensures none { IfOk result (λ none. (v w : ℕ) → IsTrue (has_node (M.map map.now) v)
+    ensures none { IfOk result (λ none. IsTrue none → (v w : ℕ) → IsTrue (has_node (M.map map.now) v)
         → M.node_slot map.now v ≡ from → IsTrue (has_node (M.map map.now) w) → M.node_slot map.now w ≡ to
-        → IsTrue none ↔ ¬ Detour (M.map map.now) (changed_of touched.now) v w within) }
+        → ¬ Detour (M.map map.now) (changed_of touched.now) v w within) }
     ensures detours { OnOk result (AreDetours (M.map map.now) (M.node_slot map.now) touched.now detours.new) }
 {
-    detours.before.settle_to(map, within / 2)?;
-    detours.after.settle_to(map, within / 2)?;
-    let before = detours.before.dist_at(from);
-    let after = detours.after.dist_at(to);
-    match (before, after) {
-        (None, None) => Ok(true),
-        (Some(_), Some(_)) => Ok(is_farther(before, after, within)),
-        (Some(there), None) => {
-            detours.after.settle_to(map, within.saturating_sub(there))?;
-            Ok(is_farther(before, detours.after.dist_at(to), within))
-        }
-        (None, Some(back)) => {
-            detours.before.settle_to(map, within.saturating_sub(back))?;
-            Ok(is_farther(detours.before.dist_at(from), after, within))
-        }
-    }
+    settle_both(map, touched, detours, from, to, within)?;
+    let there = u64::from(at_least(&detours.before, from));
+    let back = u64::from(at_least(&detours.after, to));
+    Ok(there + back > u64::from(within))
 }
 
-/// Whether the coverage query is on the map, within the greatest limit, and no detour over the changed lines is as
-/// short. The searches go no farther than the test needs.
+/// True only if no detour over the changed lines is as short as the coverage query. The searches go no farther than the
+/// test needs.
 fn is_clear<M: MapRead>(
     map: &M,
     touched: &ChangeSet,
@@ -123,7 +136,7 @@ fn is_clear<M: MapRead>(
 ) -> Result<bool, AllocError>
     requires { AreDetours (M.map map.now) (M.node_slot map.now) touched.now detours.old }
     ensures clear { IfOk result
-        (λ clear. IsTrue clear ↔ IsKnownClear (M.map map.now) (changed_of touched.now) query.now) }
+        (λ clear. IsTrue clear → IsClear (M.map map.now) (changed_of touched.now) query.now) }
     ensures detours { OnOk result (AreDetours (M.map map.now) (M.node_slot map.now) touched.now detours.new) }
 {
     if query.within > GREATEST_LIMIT {
@@ -138,7 +151,7 @@ fn is_clear<M: MapRead>(
     has_no_detour(map, touched, detours, from, to, query.within)
 }
 
-/// Whether each coverage query is on the map, within the greatest limit, and clear.
+/// True only if each coverage query is clear.
 pub(crate) fn are_clear<M: MapRead>(
     map: &M,
     touched: &ChangeSet,
@@ -147,7 +160,7 @@ pub(crate) fn are_clear<M: MapRead>(
 ) -> Result<bool, AllocError>
     requires { AreDetours (M.map map.now) (M.node_slot map.now) touched.now detours.old }
     ensures clear { IfOk result
-        (λ clear. IsTrue clear ↔ All (IsKnownClear (M.map map.now) (changed_of touched.now)) queries.now) }
+        (λ clear. IsTrue clear → All (IsClear (M.map map.now) (changed_of touched.now)) queries.now) }
     ensures detours { OnOk result (AreDetours (M.map map.now) (M.node_slot map.now) touched.now detours.new) }
 {
     for query in queries {
@@ -167,12 +180,10 @@ pub fn clear_known<M: MapRead>(
     detours: &mut Detours,
     known: &[KnownQuery],
 ) -> Result<Vec<KnownQuery>, AllocError>
-    requires { length (changed_of touched.now) ≤ most_changed
-        → AreDetours (M.map map.now) (M.node_slot map.now) touched.now detours.old }
+    requires { AreDetoursIfFew (M.map map.now) (M.node_slot map.now) touched.now detours.old }
     ensures clear { IfOk result
-        (λ clear. Picks (λ e. IsAgainClear (M.map map.now) (changed_of touched.now) e.query) known.now clear.items) }
-    ensures detours { OnOk result (length (changed_of touched.now) ≤ most_changed
-        → AreDetours (M.map map.now) (M.node_slot map.now) touched.now detours.new) }
+        (λ clear. StayKnown (M.map map.now) (changed_of touched.now) known.now clear.items) }
+    ensures detours { OnOk result (AreDetoursIfFew (M.map map.now) (M.node_slot map.now) touched.now detours.new) }
 {
     let mut clear = Vec::new(alloc);
     if !are_few(touched) {

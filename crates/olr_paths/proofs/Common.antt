@@ -1,6 +1,5 @@
 -- The names that most proofs of olr_paths cite, passed on from one place. Declares nothing.
 pub use Rattle.olr_commands.proofs.NameLemmas.{not_named}
-pub use Rattle.olr_commands.specs.Counts.{SearchedAgain, SearchedFor, IsUnchanged, IsOnMap}
 pub use Rattle.olr_commands.specs.State.{Named}
 pub use Rattle.olr_list.proofs.Common.{slice_get_within, overlay_changes, CoverageQuery, IfOk-weaker, ChangedLine, None}
 pub use Rattle.olr_list.proofs.Common.{shown_items, shown_item, cases_Bool, map-append, changed_of, option_map, is_some}
@@ -12,17 +11,14 @@ pub use Rattle.olr_list.proofs.Common.{sym, map, ◌≡◌, ◌∙◌, ◌-◌, 
 pub use Rattle.olr_list.specs.Items.{AreEncodingsIfAny, IsEncodingOf}
 pub use Rattle.olr_list.specs.declared.path_list.NamedPath.{NamedPath}
 pub use Rattle.olr_list.specs.declared.published.Published.{Published}
-pub use Rattle.olr_paths.specs.Changes.{IsEncodedAgain, SearchesItem, IsAffected, IsRetained, SearchedAlone}
-pub use Rattle.olr_paths.specs.Changes.{IsBefore, Follows, By_name, By_node, By_line}
-pub use Rattle.olr_paths.specs.Reencoded.{after_renewal, EncodedAgain, Retained, Gives}
+pub use Rattle.olr_paths.specs.Changes.{IsAffected, IsBefore, Follows, By_name, By_node, By_line}
+pub use Rattle.olr_paths.specs.Reencoded.{after_renewal, EncodedAgain, Retained}
 pub use Rattle.olr_paths.specs.declared.renewal.Renewal.{Renewal}
-pub use Rattle.olr_refs.specs.Choice.{AreSearched}
-pub use Rattle.olr_search.specs.declared.work.Work.{Work}
 pub use Rattle.olr_spec.proofs.ListLemmas.{at_index}
 pub use Rattle.olr_spec.proofs.QueryLists.{query_from}
 pub use Rattle.olr_spec.specs.Detours.{AccountsFor}
 pub use Rattle.olr_spec.specs.Extension.{extended_path, is_path, first, last}
-pub use Rattle.olr_spec.specs.Queries.{SearchedOf, QueriesOf, AreKnown, IsKnown}
+pub use Rattle.olr_spec.specs.Queries.{QueriesOf, AreKnown}
 pub use Rattle.std.proofs.Common.{MatchOption, unwrap_or}
 pub use Rattle.std.proofs.lemmas.List.Elements.{Contains-get_or, All-cons, All-nil}
 pub use Rattle.std.proofs.lemmas.List.Kept.{AllPairs-cons}

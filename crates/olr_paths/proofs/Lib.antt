@@ -1,7 +1,6 @@
 pub mod Common
 pub mod RetainedLemmas
 pub mod Following
-pub mod GivenQueries
 pub mod RenewedPrefix
 pub mod Passing
 pub mod NamedPrefix

@@ -1,10 +1,10 @@
 -- The names of the affected paths, as far as a list was passed.
 use Rattle.olr_paths.proofs.Common.{inl, inr, ◌≡◌, ℕ, ◌+◌, List, [], ◌∷◌, ◌++◌, take, slice_get, Some, refl, sym, ap, ◌∙◌}
-use Rattle.olr_paths.proofs.Common.{map-append, Map, IsMap, ChangedLine, Item, IsAffected, IsBefore, By_name}
+use Rattle.olr_paths.proofs.Common.{map-append, Map, IsMap, ChangedLine, Item, IsAffected, IsBefore}
 use Rattle.olr_commands.specs.Counts.{Picks}
 use Rattle.olr_list.proofs.Common.{take_more_at}
 use Rattle.olr_list.specs.Actions.{ToSkip, ToName}
-use Rattle.olr_paths.proofs.RetainedLemmas.{touched_by, affected_by}
+use Rattle.olr_paths.proofs.RetainedLemmas.{touched_by, named_affected}
 use Rattle.olr_paths.specs.Changes.{AffectedNames}
 
 module _ {A : Type 0} (P : A → Type 0) where
@@ -29,14 +29,10 @@ module _ {N : Map} (n : IsMap N) {T X : List ℕ} {C : List ChangedLine} {is : L
     h.2,
   )
 
-  affected : ToName N T X i.made i.path → IsAffected N T X i
-  affected (inl none) = By_name none
-  affected (inr f) = affected_by n q p i at f.1 f.2
-
   pub names_taken : ToName N T X i.made i.path → AffectedNames N T X (take p is) names →
       AffectedNames N T X (take (p + 1) is) (names ++ i.name ∷ [])
   names_taken f h = rw (take_more_at is p i at) (
     h.0 ++ i ∷ [],
-    picks_taken (IsAffected N T X) (take p is) h.0 i h.1 (affected f),
+    picks_taken (IsAffected N T X) (take p is) h.0 i h.1 (named_affected n q p i at f),
     ap (λ (ns : List (List ℕ)). ns ++ i.name ∷ []) h.2 ∙ sym (map-append (λ (j : Item). j.name) h.0 (i ∷ [])),
   )

@@ -3,27 +3,15 @@
 --     IsAffected M T X i      the path was not encoded yet, or its footprint on M has a touched node, or one of its
 --         lines was touched
 --     AffectedNames M T X is names      the names of those of a list, in order
---     IsRetained M N T X C i      the changes affect it, and it retains its answer
---     IsEncodedAgain M N T X C i      they affect it, and it does not
---     SearchesItem M N C i queries      the coverage queries for which the path is searched if it is encoded again
---     Totals, AreTotals M N T X C is t      how many paths are affected and how many of these retain their answers; the
---         coverage queries for which the others are searched
---     SearchedAlone N P w      the work w has the searches of encoding a path from scratch
---     AreCounted N t old new before after      the work and the count of retained answers rise by these totals
 --     AreRemade N is js      each path has results that are right on N
 --     Follows before is      each path that was encoded has the earlier answer of its name
-use Rattle.std.specs.Prelude.{◌≡◌, ◌≢◌, ℕ, List, [], ◌∷◌, map, Contains, Some, None, option_map, ◌⊎◌, IsTrue, ⊤}
-use Rattle.std.specs.Prelude.{MatchOption}
+use Rattle.std.specs.Prelude.{◌≡◌, ℕ, List, [], ◌∷◌, map, Contains, Some, None, option_map, ◌⊎◌, IsTrue, ⊤}
 use Rattle.std.specs.List.{AllByRecursion}
 use Rattle.olr_spec.specs.Map.{Map, IsMap, has}
-use Rattle.olr_spec.specs.Extension.{Path, is_path}
+use Rattle.olr_spec.specs.Extension.{is_path}
 use Rattle.olr_spec.specs.Footprint.{Foot}
 use Rattle.olr_spec.specs.Detours.{ChangedLine, Difference}
-use Rattle.olr_spec.specs.Queries.{CoverageQuery}
-use Rattle.olr_search.specs.declared.work.Work.{Work}
-use Rattle.olr_search.specs.Counts.{no_work, raised_count}
-use Rattle.olr_refs.specs.Choice.{AreSearched}
-use Rattle.olr_commands.specs.Counts.{IsUnchanged, CountIs, Picks, SearchedFor, SearchedAgain, Collects}
+use Rattle.olr_commands.specs.Counts.{Picks}
 use Rattle.olr_list.specs.Items.{Made, Item, IsEncodingOf, AreEncodingsIfAny, answer_in}
 
 abbrev pub with_made : Item → Made → Item
@@ -44,39 +32,6 @@ pub data IsAffected (M : Map) (T X : List ℕ) (i : Item) : Type 0 where
 abbrev pub AffectedNames : Map → List ℕ → List ℕ → List Item → List (List ℕ) → Type 0
 AffectedNames M T X is names =
     (js : List Item) × Picks (IsAffected M T X) is js × (names ≡ map (λ i. i.name) js)
-
-pub record IsRetained (M N : Map) (T X : List ℕ) (C : List ChangedLine) (i : Item) : Type 0 where
-  pub made : i.made ≢ None
-  pub affected : IsAffected M T X i
-  pub unchanged : IsUnchanged M N T X C i.path
-
-abbrev pub IsEncodedAgain : Map → Map → List ℕ → List ℕ → List ChangedLine → Item → Type 0
-IsEncodedAgain M N T X C i = IsAffected M T X i × ¬ IsRetained M N T X C i
-
--- a path that was not encoded yet is encoded from scratch
-abbrev pub SearchesItem : Map → Map → List ChangedLine → Item → List CoverageQuery → Type 0
-SearchesItem M N C i queries =
-    MatchOption i.made (SearchedFor N i.path queries) (λ _. SearchedAgain M N C i.path queries)
-
-pub record Totals : Type 0 where
-  pub affected : ℕ
-  pub retained : ℕ
-  pub queries : List CoverageQuery
-
-pub record AreTotals (M N : Map) (T X : List ℕ) (C : List ChangedLine) (is : List Item) (t : Totals) : Type 0 where
-  pub affected : CountIs (IsAffected M T X) is t.affected
-  pub retained : CountIs (IsRetained M N T X C) is t.retained
-  pub queries : Collects (IsEncodedAgain M N T X C) (SearchesItem M N C) is t.queries
-
-pub record SearchedAlone (N : Map) (P : Path) (w : Work) : Type 0 where
-  pub queries : List CoverageQuery
-  pub those : SearchedFor N P queries
-  pub counts : AreSearched N queries no_work w
-
-pub record AreCounted (N : Map) (t : Totals) (old new : Work) (before after : ℕ) : Type 0 where
-  pub encodings : new.encodings ≡ raised_count old.encodings t.affected
-  pub retained : after ≡ raised_count before t.retained
-  pub searched : AreSearched N t.queries old new
 
 abbrev pub IsRemade : Map → Item → Item → Type 0
 IsRemade N i j = (m : Made) × IsEncodingOf N i.path m × (j ≡ with_made i m)

@@ -8,7 +8,6 @@ ghost use Rattle.olr_commands.specs.Words.{entry_of};
 ghost use Rattle.olr_list.specs.Items.{Made, IsEncodingOf, items, made_of, all_named, answer_in};
 ghost use Rattle.olr_list.specs.Changes.{set_item};
 ghost use Rattle.olr_list.specs.Origins.{AreOriginsNoted, new_origins_in};
-ghost use Rattle.olr_paths.specs.Changes.{SearchedAlone};
 
 use crate::encoding::publish;
 use crate::renewal::push_if_changed;
@@ -30,7 +29,7 @@ fn encode_alone<M: MapRead>(
 ) -> Result<(Rc<Path>, Rc<Published>, Work), AllocError>
     ensures new_origins { IfOk result (λ r. new_origins_in searches.new ≡ (made_of r.1.value).queries) }
     ensures made { IfOk result (λ r. (r.0.value ≡ path) × IsEncodingOf (M.map map.now) path (made_of r.1.value)
-        × (r.2.encodings ≡ 1) × SearchedAlone (M.map map.now) path r.2) }
+        × (r.2.encodings ≡ 1)) }
 {
     let (published, work) = publish(alloc, map, &path, &[], &mut searches.query)?;
     let shared = Rc::new(alloc, published)?;
@@ -64,7 +63,6 @@ pub fn add<M: MapRead>(
         × (items list.new ≡ items list.old ++ record { name = string_bytes name; path = path; made = Some m } ∷ [])
         × (list_map entry_of r.0.items ≡ entry (string_bytes name) m.answer ∷ [])) }
     ensures counted { IfOk result (λ r. r.1.encodings ≡ 1) }
-    ensures searched { IfOk result (λ r. SearchedAlone (M.map map.now) path r.1) }
     ensures new_origins { OnOk result (AreOriginsNoted searches.new (items list.old) (items list.new)) }
     ensures err { OnErr result (items list.new ≡ items list.old) }
 {
@@ -95,7 +93,6 @@ pub fn set<M: MapRead>(
         ⊎ ((answer_in (items list.old) name.now ≢ Some m.answer)
         × (list_map entry_of r.0.items ≡ entry name.now m.answer ∷ [])))) }
     ensures counted { IfOk result (λ r. r.1.encodings ≡ 1) }
-    ensures searched { IfOk result (λ r. SearchedAlone (M.map map.now) path r.1) }
     ensures new_origins { OnOk result (AreOriginsNoted searches.new (items list.old) (items list.new)) }
     ensures err { OnErr result (items list.new ≡ items list.old) }
 {

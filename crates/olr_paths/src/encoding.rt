@@ -2,7 +2,6 @@
 ghost use Rattle.std.specs.Prelude.{◌≡◌, IsTrue, IfOk};
 ghost use Rattle.olr_spec.specs.Extension.{is_path};
 ghost use Rattle.olr_spec.specs.Queries.{AreKnown};
-ghost use Rattle.olr_refs.specs.Reuse.{Searched};
 ghost use Rattle.olr_list.specs.Items.{IsEncodingOf, made_of};
 
 use olr_list::Published;
@@ -24,7 +23,6 @@ pub fn publish<M: MapRead>(
     ensures path { IsTrue (is_path path.now.lines) }
     ensures made { IfOk result (λ r. IsEncodingOf (M.map map.now) path.now (made_of r.0)) }
     ensures counted { IfOk result (λ r. r.1.encodings ≡ 1) }
-    ensures searched { IfOk result (λ r. Searched (M.map map.now) path.now known.now r.1) }
 {
     let Encoding {
         answer,

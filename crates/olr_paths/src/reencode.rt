@@ -86,12 +86,11 @@ pub fn renew_unaffected<M: MapRead>(
 
 /// Makes the changes of the list, and encodes the new and the replaced paths, and those whose answer the edits of the
 /// map may have changed. Returns the paths whose answer differs from the earlier one of their name, and the counts:
-/// each affected path counts as an encoding, some of them retain their answer, and the others are searched for the
-/// coverage queries that are not known from the map before. `map` is the map after the edits; the results in the list
-/// are right on the map before them. The bounds are right on `map` for all coverage queries of the list: they limit
-/// the search from touched nodes. If no path is removed, the changes are made in place, at the cost of the changes and
-/// of the affected paths; otherwise the list under the changes replaces the list, at the cost of all paths. If an
-/// allocation fails, the list is unchanged.
+/// each affected path counts as one encoding. `map` is the map after the edits; the results in the list are right on the
+/// map before them. The bounds are right on `map` for all coverage queries of the list: they limit the search from
+/// touched nodes. If no path is removed, the changes are made in place, at the cost of the changes and of the affected
+/// paths; otherwise the list under the changes replaces the list, at the cost of all paths. If an allocation fails, the
+/// list is unchanged.
 pub fn renew_over<M: MapRead>(
     list: &mut PathList,
     alloc: Global,

@@ -1,6 +1,5 @@
 //! Encodes again the paths whose answer a change of the map may have changed.
-ghost use Rattle.std.specs.Prelude.{◌≡◌, ◌≤◌, ◌↔◌, ℕ, Contains, Some, slice_get, map as list_map, IsTrue, IfOk};
-ghost use Rattle.std.specs.Prelude.{length, OnOk};
+ghost use Rattle.std.specs.Prelude.{◌≡◌, ◌↔◌, ℕ, Contains, Some, slice_get, map as list_map, IsTrue, IfOk, OnOk};
 ghost use Rattle.olr_spec.specs.Map.{Map};
 ghost use Rattle.olr_commands.specs.Words.{entry_of};
 ghost use Rattle.std.specs.Prelude.{List};
@@ -8,14 +7,12 @@ ghost use Rattle.olr_spec.specs.Detours.{ChangedLine};
 ghost use Rattle.olr_spec.specs.Queries.{CoverageQuery as QueryRecord, AreKnown};
 ghost use Rattle.olr_list.specs.Items.{Item, made_of, items, answer_in};
 ghost use Rattle.olr_list.specs.Views.{shown_items, shown_item};
-ghost use Rattle.olr_list.specs.ChangeSets.{changed_of};
-ghost use Rattle.olr_list.specs.AffectedSearches.{AreDetours};
-ghost use Rattle.olr_commands.specs.Counts.{most_changed};
+ghost use Rattle.olr_list.specs.AffectedSearches.{AreDetoursIfFew};
 ghost use Rattle.olr_list.specs.Candidates.{AreCandidates};
 ghost use Rattle.olr_list.specs.Origins.{BeginsPut, AreBoundsOf, new_origins_in};
-ghost use Rattle.olr_list.specs.Actions.{IsActionFor, IsEncode};
+ghost use Rattle.olr_list.specs.Actions.{IsActionFor};
 ghost use Rattle.olr_paths.specs.Changes.{Follows};
-ghost use Rattle.olr_paths.specs.Reencoded.{made_at, after_renewal, after_retained, ReportsIfOther, Gives, IsStep};
+ghost use Rattle.olr_paths.specs.Reencoded.{made_at, after_renewal, ReportsIfOther, IsStep};
 ghost use Rattle.olr_paths.specs.Reencoded.{WasBefore, IsRenewal};
 
 use crate::encoding::publish;
@@ -64,24 +61,8 @@ pub(crate) fn push_if_changed(
 pub struct Renewed {
     /// The paths whose answer differs from the earlier one of their name.
     pub entries: Vec<Entry>,
-    /// The work: each affected path counts as an encoding.
+    /// The work: each affected path counts as an encoding, also if it retains its answer.
     pub work: Work,
-    /// How many of the affected paths retained their answer.
-    pub retained: u64,
-}
-
-impl Renewed {
-    /// Counts an affected path whose answer is retained.
-    fn count_retained(&mut self)
-        ensures { self.new ≡ after_retained self.old }
-    {
-        self.work = self.work.plus(Work {
-            encodings: 1,
-            searches: 0,
-            settled: 0,
-        });
-        self.retained = self.retained.saturating_add(1);
-    }
 }
 
 /// The renewal of a list, before its results are stored.
@@ -102,14 +83,12 @@ impl Renewal {
         ensures fresh { result.fresh.items ≡ [] }
         ensures entries { result.renewed.entries.items ≡ [] }
         ensures work { result.renewed.work ≡ no_work }
-        ensures retained { result.renewed.retained ≡ 0 }
     {
         Renewal {
             fresh: Vec::new(alloc),
             renewed: Renewed {
                 entries: Vec::new(alloc),
                 work: Work::none(),
-                retained: 0,
             },
         }
     }
@@ -130,14 +109,19 @@ impl Renewal {
     ) -> Result<(), AllocError>
         requires known { AreKnown (M.map map.now) (shown_item shown).path.lines known.now }
         ensures { OnOk result ((T X : List ℕ) (C : List ChangedLine)
-            → (IsEncode action → Gives (M.map map.now) C (shown_item shown.entry).made known.now)
             → IsActionFor (M.map map.now) T X C (shown_item shown.entry).made (shown_item shown.entry).path action
             → IsStep (M.map map.now) T X C (items before.now) (shown_item shown.entry)
             position self.old self.new) }
     {
         match action {
             Action::Skip => (),
-            Action::Retain => self.renewed.count_retained(),
+            Action::Retain => {
+                self.renewed.work = self.renewed.work.plus(Work {
+                    encodings: 1,
+                    searches: 0,
+                    settled: 0,
+                });
+            }
             Action::Encode => {
                 let (made, work) = publish(alloc, map, shown.path, known, query)?;
                 let published = Rc::new(alloc, made)?;
@@ -166,15 +150,11 @@ fn known_for<M: MapRead>(
     action: Action,
     shown: PathView<'_>,
 ) -> Result<Vec<KnownQuery>, AllocError>
-    requires detours { length (changed_of touched.now) ≤ most_changed
-        → AreDetours (M.map map.now) (M.node_slot map.now) touched.now detours.old }
+    requires detours { AreDetoursIfFew (M.map map.now) (M.node_slot map.now) touched.now detours.old }
     requires before { (L : Map) × (items : List Item) × (k : ℕ) × (slice_get items k ≡ Some (shown_item shown))
         × WasBefore L (M.map map.now) touched.now items }
     ensures known { IfOk result (λ ks. AreKnown (M.map map.now) (shown_item shown.entry).path.lines ks.items) }
-    ensures given { IfOk result
-        (λ ks. IsEncode action → Gives (M.map map.now) (changed_of touched.now) (shown_item shown.entry).made ks.items) }
-    ensures detours { OnOk result (length (changed_of touched.now) ≤ most_changed
-        → AreDetours (M.map map.now) (M.node_slot map.now) touched.now detours.new) }
+    ensures detours { OnOk result (AreDetoursIfFew (M.map map.now) (M.node_slot map.now) touched.now detours.new) }
 {
     match (action, shown.published) {
         (Action::Encode, Some(published)) => {

@@ -1,98 +1,66 @@
--- The coverage queries of LRPs, which of them are searched, and what that counts and notes.
-use Rattle.olr_refs.proofs.Common.{◌≡◌, ◌<◌, ◌≤◌, ◌+◌, ◌*◌, ℕ, List, [], ◌∷◌, ◌++◌, length, Contains, Option, None}
-use Rattle.olr_refs.proofs.Common.{MatchOption, refl, sym, subst, arith, inl, inr, IsTrue, AllZip, nat_tests, Map}
-use Rattle.olr_refs.proofs.Common.{IsMap, Path, is_path, extended_path, Next, path_fault, Sees, Foot, CoverageQuery}
-use Rattle.olr_refs.proofs.Common.{QueriesOf, KnownQuery, IsKnownAt, Contains-here, Contains-cases, path_also}
-use Rattle.olr_refs.proofs.Common.{all_searched, Work, AreSearched, Notes, Asks, AsksOf}
-use Rattle.olr_refs.proofs.Common.{foot_queried, append-nil, nat_lt, option_to_list, filter-append, IsQuery, querying}
-use Rattle.olr_refs.proofs.Common.{IsReused, IsSearched, FoundFor, KnownOf, SearchedOf, Contains-later, Next-candidate}
-use Rattle.olr_refs.proofs.Common.{AsksAfter, Searched, no_work, raised_work}
+-- The coverage queries of LRPs: what is asked from one LRP to the next, and what that says of a path.
+use Rattle.olr_refs.proofs.Common.{◌≡◌, ◌<◌, ◌≤◌, ◌+◌, ◌-◌, ◌*◌, ℕ, List, [], ◌∷◌, ◌++◌, length, map, Contains, Option}
+use Rattle.olr_refs.proofs.Common.{Some, None, MatchOption, refl, sym, ap, ◌∙◌, subst, arith, inl, inr, IsTrue, nat_tests}
+use Rattle.olr_refs.proofs.Common.{Map, IsMap, Path, is_path, Next, path_fault, Foot, CoverageQuery, KnownQuery, IsKnown}
+use Rattle.olr_refs.proofs.Common.{foot_queried, append-nil, append_assoc, nat_lt, option_to_list, filter-append, querying}
+use Rattle.olr_refs.proofs.Common.{KnownOf, QueriesFrom, QueriesOf, Next-candidate, Asks, IsKnownOf, IsAnswered}
+use Rattle.olr_refs.proofs.Common.{IsReuse, own_of, Extends, ForPoints, raised_work, taken_start, taken_end, from_start}
+use Rattle.olr_refs.proofs.Common.{IsStrictlyIncreasing, slice_index, length-append, length-map, get_or_append_left}
+use Rattle.olr_refs.proofs.Common.{get_or-append_seam, get_or-map, map-append, cases_lt, Contains-append_left, Contains-append_right}
+use Rattle.olr_refs.proofs.Common.{Contains-push, Contains-push_cases}
 use Rattle.olr_refs.specs.declared.chosen.Queries.{Queries}
-use Rattle.std.proofs.Math.Nat.{mul-le-mul_right}
-use Rattle.olr_spec.proofs.KnownLists.{found_append, found_here}
-use Rattle.olr_refs.proofs.Noting.{searched_none, searched_more, searched_on, raised_none, zip_append, Led, led_more, settled_most, notes_same}
-use Rattle.olr_refs.proofs.Noting.{notes_more, seen_one, seen_append, noted_none}
-use Rattle.olr_spec.proofs.TestedLemmas.{one_query}
+use Rattle.olr_refs.specs.declared.reuse.Found.{Found}
+use Rattle.olr_refs.specs.declared.reuse.Reuse.{Reuse}
+use Rattle.std.specs.Prelude.{IfSome}
+use Rattle.std.proofs.Math.Seq.{drop-append_seam, take-append_seam}
+use Rattle.std.proofs.lemmas.List.Elements.{All-push, All-weaker}
+use Rattle.olr_spec.specs.Queries.{AreKnown}
+use Rattle.olr_refs.proofs.Noting.{zip_append, cost_more, searched_more, Led, led_more}
+use Rattle.olr_refs.proofs.Referring.{of_path}
 use Rattle.olr_spec.specs.Encoding as spec
-
--- ---- the LRPs of a list
-
-module _ (M : Map) (ls : List ℕ) (lead own : ℕ) (given : List KnownQuery) where
-  pub asks_append : (is js : List ℕ) (q r : List CoverageQuery) (k l : List KnownQuery) (v w : Work)
-      (s t u : Option (List ℕ)) → Asks M ls lead own given is q k v s t → Asks M ls lead own given js r l w t u →
-      Asks M ls lead own given (is ++ js) (q ++ r) (k ++ l) (raised_work v w) s u
-  asks_append is js q r k l v w s t u x y =
-      let e = filter-append (λ i. nat_lt (i + 2) (length ls)) is js in
-      record {
-        searched = x.searched ++ y.searched;
-        each = rw e (zip_append _ _ _ _ _ x.each y.each);
-        own_queries = rw e (found_append _ _ _ _ _ x.own_queries y.own_queries);
-        others = rw e (found_append _ _ _ _ _ x.others y.others);
-        counts = searched_more M x.searched y.searched no_work v (raised_work v w) x.counts
-            (searched_on M y.searched v w y.counts);
-        notes = notes_more _ _ _ s t u (seen_append M x.searched y.searched) x.notes y.notes;
-      }
-
-  -- ---- one LRP
-
-  -- where at most one line follows line i nothing is searched
-  asks_nowhere : (i : ℕ) (s : Option (List ℕ)) → length ls ≤ i + 2 →
-      Asks M ls lead own given (i ∷ []) [] [] no_work s s
-  asks_nowhere i s h = grind (arith, nat_tests, searched_none, noted_none)
-
-  pub asks_none : (i : ℕ) (q : Queries) (s : Option (List ℕ)) → length ls ≤ i + 2 →
-      AsksAfter M ls lead own given i q q s s
-  asks_none i q s h = record {
-    queries = [];
-    own_queries = [];
-    work = no_work;
-    grown = sym (append-nil _);
-    own_grown = sym (append-nil _);
-    work_grown = raised_none q.work;
-    asks = asks_nowhere i s h;
-  }
-
-  -- or where the query is known
-  pub asks_known : (i : ℕ) (e : KnownQuery) (w : Work) (s : Option (List ℕ)) → i + 2 < length ls →
-      IsKnownAt M ls lead own i e → Contains given e → w ≡ no_work →
-      Asks M ls lead own given (i ∷ []) (e.query ∷ []) (e ∷ []) w s s
-  asks_known i e w s h k c none =
-      let is : querying ls (i ∷ []) ≡ i ∷ [] = grind (arith, nat_tests) in
-      record {
-        searched = [];
-        each = rw is ((lead + e.last, k.tested, k.query), tt);
-        own_queries = rw is (found_here (IsKnownAt M ls lead own) i [] e [] k refl);
-        others = rw is (inl ((λ q x. x.1 (e, c, k)), refl));
-        counts = subst (AreSearched M [] no_work) (sym none) (searched_none M no_work);
-        notes = noted_none M s;
-      }
-
-  own_here : (i : ℕ) (o : Option KnownQuery) →
-      MatchOption o ((e : KnownQuery) → ¬ IsKnownAt M ls lead own i e) (IsKnownAt M ls lead own i) →
-      FoundFor (IsKnownAt M ls lead own) (i ∷ []) (option_to_list o)
-  own_here i v1 none = grind (arith, found_here)
-
-  -- and else there is a search
-  pub asks_searched : (i : ℕ) (query : CoverageQuery) (o : Option KnownQuery) (w : Work) (s t : Option (List ℕ)) →
-      i + 2 < length ls → IsQuery M ls i query → ¬ IsReused M ls lead own given i →
-      MatchOption o ((e : KnownQuery) → ¬ IsKnownAt M ls lead own i e) (IsKnownAt M ls lead own i) →
-      AreSearched M (query ∷ []) no_work w → Notes (Sees M query) s t →
-      Asks M ls lead own given (i ∷ []) (query ∷ []) (option_to_list o) w s t
-  asks_searched i query o w s t h is fresh known counts notes =
-      let here : querying ls (i ∷ []) ≡ i ∷ [] = grind (arith, nat_tests) in
-      record {
-        searched = query ∷ [];
-        each = rw here (is, tt);
-        own_queries = rw here (own_here i o known);
-        others = rw here (found_here (IsSearched M ls lead own given) i [] query [] (is, fresh) refl);
-        counts = counts;
-        notes = notes_same _ _ s t (seen_one M query) notes;
-      }
 
 -- ---- from LRP to LRP
 
--- the LRPs so far, up to the last, from which no search was made yet, and their coverage queries
-pub record Gone (M : Map) (ls : List ℕ) (lead own : ℕ) (given : List KnownQuery) (ps : List ℕ) (last : ℕ) (q : Queries)
+module _ (M : Map) (ls : List ℕ) (r : Reuse) where
+  own_more : (qs : List CoverageQuery) (l : CoverageQuery) (ks : List KnownQuery) (o : Option KnownQuery) →
+      KnownOf M (own_of ls r) qs ks → IfSome o (IsKnownOf M (own_of ls r) (l ∷ [])) →
+      KnownOf M (own_of ls r) (qs ++ l ∷ []) (ks ++ option_to_list o)
+  own_more qs l ks o x t =
+      let own = own_of ls r in
+      let old : KnownOf M own (qs ++ l ∷ []) ks = All-weaker (IsKnownOf M own qs) (IsKnownOf M own (qs ++ l ∷ []))
+      (λ e k. record { among = Contains-append_left qs (l ∷ []) e.query k.among; right = k.right }) ks x in
+      elim o as (λ p. IfSome p (IsKnownOf M own (l ∷ [])) → KnownOf M own (qs ++ l ∷ []) (ks ++ option_to_list p)) [
+        | None ↦ λ none. rw append-nil old
+        | Some e ↦ λ k. All-push (IsKnownOf M own (qs ++ l ∷ [])) ks e old
+            (record { among = Contains-append_right qs (l ∷ []) e.query k.among; right = k.right })
+      ] t
+
+  -- one LRP more
+  pub asks_more : (is : List ℕ) (i : ℕ) (q s : Queries) (f : Found) (a b c : Option (List ℕ)) → i + 2 < length ls →
+      Asks M ls r is q a b → IsAnswered M ls r i f b c → s.all.items ≡ q.all.items ++ f.query ∷ [] →
+      s.own.items ≡ q.own.items ++ option_to_list f.own → s.work ≡ raised_work q.work f.work →
+      Asks M ls r (is ++ i ∷ []) s a c
+  asks_more is i q s f a b c h x y all own work =
+      let here : querying ls (i ∷ []) ≡ i ∷ [] = grind (arith, nat_tests) in
+      let e = filter-append (λ k. nat_lt (k + 2) (length ls)) is (i ∷ []) in
+      record {
+        each = rw (e, here, all) (zip_append _ _ _ _ _ x.each (y.query, tt));
+        own = rw (all, own) (own_more _ _ _ f.own x.own y.own);
+        cost = rw (all, work) (cost_more M _ _ _ _ x.cost y.cost);
+        searched = λ none. rw (all, work) (searched_more M _ _ _ _ a b c (x.searched none) (y.searched none));
+      }
+
+  -- where at most one line follows line i nothing is asked
+  pub asks_none : (is : List ℕ) (i : ℕ) (q : Queries) (a b : Option (List ℕ)) → length ls ≤ i + 2 →
+      Asks M ls r is q a b → Asks M ls r (is ++ i ∷ []) q a b
+  asks_none is i q a b h x =
+      let here : querying ls (i ∷ []) ≡ [] = grind (arith, nat_tests) in
+      let same : querying ls (is ++ i ∷ []) ≡ querying ls is =
+      filter-append (λ k. nat_lt (k + 2) (length ls)) is (i ∷ []) ∙ rw (here, append-nil) refl in
+      record { each = rw same x.each; own = x.own; cost = x.cost; searched = x.searched }
+
+-- the LRPs so far, up to the last, from which nothing was asked yet, and their coverage queries
+pub record Gone (M : Map) (ls : List ℕ) (r : Reuse) (ps : List ℕ) (last : ℕ) (q : Queries)
     (seen noted : Option (List ℕ)) : Type 0
   where
     pub done : List ℕ
@@ -101,22 +69,18 @@ pub record Gone (M : Map) (ls : List ℕ) (lead own : ℕ) (given : List KnownQu
     pub first : done ++ last ∷ [] ≡ 0 ∷ points
     pub led : Led M ls points last
     pub within : last ≤ length ls
-    pub asks : Asks M ls lead own given done q.all.items q.own.items q.work seen noted
+    pub asks : Asks M ls r done q seen noted
 
-module _ (M : Map) (ls : List ℕ) (lead own : ℕ) (given : List KnownQuery) where
-  -- a search was made from the last LRP too
-  asks_more : (done : List ℕ) (last : ℕ) (q r : Queries) (s t u : Option (List ℕ)) →
-      Asks M ls lead own given done q.all.items q.own.items q.work s t → AsksAfter M ls lead own given last q r t u →
-      Asks M ls lead own given (done ++ last ∷ []) r.all.items r.own.items r.work s u
-  asks_more done last q r s t u x y =
-      rw (y.grown, y.own_grown, y.work_grown)
-      (asks_append M ls lead own given done (last ∷ []) q.all.items y.queries q.own.items y.own_queries q.work y.work s t u x
-      y.asks)
+module _ (M : Map) (ls : List ℕ) (r : Reuse) where
+  -- what the queries of LRP i add
+  abbrev pub AsksOn : ℕ → Queries → Queries → Option (List ℕ) → Option (List ℕ) → Type 0
+  AsksOn i q s b c =
+      (before : List ℕ) (a : Option (List ℕ)) → Asks M ls r before q a b → Asks M ls r (before ++ i ∷ []) s a c
 
-  pub gone_more : (ps qs : List ℕ) (last m : ℕ) (q r : Queries) (s t u : Option (List ℕ)) →
-      Gone M ls lead own given ps last q s t → AsksAfter M ls lead own given last q r t u → Next M ls last m →
-      qs ≡ ps ++ m ∷ [] → Gone M ls lead own given qs m r s u
-  gone_more ps qs last m q r s t u g y n e =
+  pub gone_more : (ps qs : List ℕ) (last m : ℕ) (q s : Queries) (a b c : Option (List ℕ)) →
+      Gone M ls r ps last q a b → AsksOn last q s b c → Next M ls last m → qs ≡ ps ++ m ∷ [] →
+      Gone M ls r qs m s a c
+  gone_more ps qs last m q s a b c g on n e =
       record {
         done = g.done ++ last ∷ [];
         points = g.points ++ m ∷ [];
@@ -124,89 +88,64 @@ module _ (M : Map) (ls : List ℕ) (lead own : ℕ) (given : List KnownQuery) wh
         first = rw g.first refl;
         led = led_more M ls g.points last m g.led n;
         within = (Next-candidate M ls last m n).upto;
-        asks = asks_more g.done last q r s t u g.asks y;
+        asks = on g.done a g.asks;
       }
 
-  pub ended : (ps : List ℕ) (last : ℕ) (q r : Queries) (s t u : Option (List ℕ)) →
-      (g : Gone M ls lead own given ps last q s t) → AsksAfter M ls lead own given last q r t u →
-      Asks M ls lead own given (0 ∷ g.points) r.all.items r.own.items r.work s u
-  ended ps last q r s t u g y = grind (arith, asks_more)
+  pub ended : (ps : List ℕ) (last : ℕ) (q s : Queries) (a b c : Option (List ℕ)) → (g : Gone M ls r ps last q a b) →
+      AsksOn last q s b c → Asks M ls r (0 ∷ g.points) s a c
+  ended ps last q s a b c g on = subst (λ (is : List ℕ). Asks M ls r is s a c) g.first (on g.done a g.asks)
 
-  -- no search is made from the end
-  pub ended_there : (ps : List ℕ) (last : ℕ) (q : Queries) (s t : Option (List ℕ)) →
-      (g : Gone M ls lead own given ps last q s t) → length ls ≤ last →
-      Asks M ls lead own given (0 ∷ g.points) q.all.items q.own.items q.work s t
-  ended_there ps last q s t g h =
-      ended ps last q q s t t g (asks_none M ls lead own given last q t (omega arith))
+  -- nothing is asked from the end
+  pub ended_there : (ps : List ℕ) (last : ℕ) (q : Queries) (a b : Option (List ℕ)) →
+      (g : Gone M ls r ps last q a b) → length ls ≤ last → Asks M ls r (0 ∷ g.points) q a b
+  ended_there ps last q a b g h =
+      ended ps last q q a b b g (λ before begun x. asks_none M ls r before last q begun b (omega arith) x)
 
--- ---- of a path
+-- ---- of a path without a fault
 
--- as the work of one encoding
-pub asks_encoding : (M : Map) (P : Path) (given : List KnownQuery) (queries : List CoverageQuery)
-    (known : List KnownQuery) (w : Work) (s t : Option (List ℕ)) → AsksOf M P given queries known w s t →
-    AsksOf M P given queries known (record w { encodings = 1 }) s t
-asks_encoding M P given queries known w s t a = path_also a (record {
-  searched = a.holds.searched;
-  each = a.holds.each;
-  own_queries = a.holds.own_queries;
-  others = a.holds.others;
-  counts = record { searches = a.holds.counts.searches; settled = a.holds.counts.settled };
-  notes = a.holds.notes;
-})
+-- its own lines
+lines_are : (M : Map) (P E : Path) (lead : ℕ) (F G : List ℕ) → (x : Extends M P E lead F G) →
+    E.lines ≡ taken_start M x.before P.lines ++ (P.lines ++ taken_end M (from_start M P x.before) x.after)
+lines_are M P E lead F G x =
+    ap (λ (e : Path). e.lines) x.path ∙ append_assoc (taken_start M x.before P.lines) P.lines _
 
-module _ (M : Map) (P : Path) (given : List KnownQuery) (queries : List CoverageQuery) (known : List KnownQuery)
-    (w : Work) (s t : Option (List ℕ)) (sound : path_fault M P ≡ None) (asks : AsksOf M P given queries known w s t) where
-  -- what holds of a path without a fault
+own_is : (M : Map) (P E : Path) (lead : ℕ) (F G : List ℕ) → Extends M P E lead F G → (r : Reuse) → r.lead ≡ lead →
+    r.own ≡ length P.lines → own_of E.lines r ≡ P.lines
+own_is M P E lead F G x r leads owns =
+    let many : r.lead + r.own - r.lead ≡ length P.lines = omega arith in
+    let at : r.lead ≡ length (taken_start M x.before P.lines) = leads ∙ x.leads in
+    rw (many, at, lines_are M P E lead F G x, drop-append_seam) (take-append_seam P.lines _)
+
+pub reuse_of : (M : Map) (P E : Path) (lead : ℕ) (F G : List ℕ) → Extends M P E lead F G → IsTrue (is_path P.lines) →
+    (r : Reuse) → r.lead ≡ lead → r.own ≡ length P.lines → AreKnown M P.lines r.known.now → IsReuse M E.lines r
+reuse_of M P E lead F G x is r leads owns known = record {
+  inside = omega (
+    arith,
+    ap length (lines_are M P E lead F G x),
+    length-append (taken_start M x.before P.lines) (P.lines ++ taken_end M (from_start M P x.before) x.after),
+    length-append P.lines (taken_end M (from_start M P x.before) x.after),
+    x.leads,
+  );
+  few = grind arith;
+  known = subst (λ (xs : List ℕ). AreKnown M xs r.known.now) (sym (own_is M P E lead F G x r leads owns)) known;
+}
+
+module _ (M : Map) (P E : Path) (lead : ℕ) (F G : List ℕ) (x : Extends M P E lead F G) (sound : path_fault M P ≡ None)
+    (r : Reuse) (leads : r.lead ≡ lead) (owns : r.own ≡ length P.lines) (q : Queries) (a b : Option (List ℕ))
+    (asks : ForPoints M E.lines (λ js. Asks M E.lines r (0 ∷ js) q a b)) where
   whole : (X Y : Type 0) → X → MatchOption (path_fault M P) X (λ _. Y)
-  whole X Y x = subst (λ (o : Option spec.Refusal). MatchOption o X (λ _. Y)) (sym sound) x
+  whole X Y h = subst (λ (o : Option spec.Refusal). MatchOption o X (λ _. Y)) (sym sound) h
 
-  pub queries_whole : QueriesOf M P queries
-  queries_whole = whole _ _ (path_also asks asks.holds.each)
+  pub queries_whole : QueriesOf M P q.all.items
+  queries_whole = whole _ _ (of_path M P E lead F G
+      (λ e _ _ js. QueriesFrom M e.lines (querying e.lines (0 ∷ js)) q.all.items) x (asks.0, asks.1, asks.2.each))
 
-  pub known_whole : KnownOf M P known
-  known_whole = whole _ _ (path_also asks asks.holds.own_queries)
+  pub known_whole : KnownOf M P.lines q.all.items q.own.items
+  known_whole = subst (λ (xs : List ℕ). KnownOf M xs q.all.items q.own.items)
+      (own_is M P E lead F G x r leads owns) asks.2.own
 
-  pub searched_whole : SearchedOf M P given asks.holds.searched
-  searched_whole = whole _ _ (path_also asks asks.holds.others)
-
-  pub searched_of : Searched M P given w
-  searched_of = record { queries = asks.holds.searched; those = searched_whole; counts = asks.holds.counts }
-
--- these are no more than those, and each is one of those
-abbrev Among : List CoverageQuery → List CoverageQuery → Type 0
-Among rs qs = (length rs ≤ length qs) × ((l : CoverageQuery) → Contains rs l → Contains qs l)
-
-among_more : (q : CoverageQuery) (rs qs : List CoverageQuery) → Among rs qs → Among (q ∷ rs) (q ∷ qs)
-among_more q rs qs a = grind (arith, Contains-cases, Contains-here, Contains-later)
-
--- each query that is searched is one of the path's
-searched_among : (M : Map) (ls : List ℕ) (lead own : ℕ) (given : List KnownQuery) (is : List ℕ)
-    (qs rs : List CoverageQuery) → AllZip (IsQuery M ls) is qs → FoundFor (IsSearched M ls lead own given) is rs →
-    Among rs qs
-searched_among M ls lead own given [] qs rs z f = grind arith
-searched_among M ls lead own given (i ∷ is) [] rs z f = absurd z
-searched_among M ls lead own given (i ∷ is) (q ∷ qs) rs z (inl f) =
-    grind (arith, Contains-later, searched_among M ls lead own given is qs rs z.1 f.1)
-searched_among M ls lead own given (i ∷ is) (q ∷ qs) rs z (inr f) =
-    let same = one_query M ls i q f.0 z.0 f.3.0 in
-    rw (f.2, ← same) (among_more q f.1 qs (searched_among M ls lead own given is qs f.1 z.1 f.4))
-
--- and so they settle no more than the footprint each
-pub searched_few : (M : Map) → IsMap M → (P : Path) → IsTrue (is_path P.lines) → path_fault M P ≡ None →
-    (given : List KnownQuery) (queries : List CoverageQuery) (known : List KnownQuery) (w : Work)
-    (s t : Option (List ℕ)) → AsksOf M P given queries known w s t → (all : List ℕ) →
-    ((v : ℕ) → Foot M P v → Contains all v) → w.settled ≤ length queries * length all
-searched_few M m P is sound given queries known w s t asks all h =
-    let ls = (extended_path M P asks.before asks.after).lines in
-    let x = asks.holds in
-    let among = searched_among M ls _ _ given (querying ls (0 ∷ asks.points)) queries x.searched x.each x.others in
-    let most = settled_most M x.searched 0 w.settled x.counts.settled all
-    (λ v r. h v ((foot_queried M m P is queries (queries_whole M P given queries known w s t sound asks) v).1
-    (inr (r.0, among.1 r.0 r.1, r.2)))) in
-    omega (arith, mul-le-mul_right (length all) among.0)
-
--- where nothing is given, all coverage queries are searched
-pub searched_all : (M : Map) → IsMap M → (P : Path) → IsTrue (is_path P.lines) → (given : List KnownQuery)
-    (queries : List CoverageQuery) (w : Work) → given ≡ [] → QueriesOf M P queries → Searched M P given w →
-    AreSearched M queries no_work w
-searched_all M m P is given queries w none o r = grind (arith, all_searched)
+  -- the searches settle no more than the footprint each
+  pub settled_few : IsMap M → IsTrue (is_path P.lines) → (all : List ℕ) → ((v : ℕ) → Foot M P v → Contains all v) →
+      q.work.settled ≤ length q.all.items * length all
+  settled_few m is all h =
+      asks.2.cost.settled all (λ v s. h v ((foot_queried M m P is q.all.items queries_whole v).1 (inr s)))

@@ -1,13 +1,13 @@
 -- The names that most proofs of olr_refs cite, passed on from one place. Declares nothing.
 pub use Rattle.olr_answers.specs.Answers.{answer_of}
 pub use Rattle.olr_refs.specs.Along.{AreDistances, DistancesTo, IsFar, IsLastWithinLimit, IsReach}
-pub use Rattle.olr_refs.specs.Choice.{AreSearched, CountOf, ForPoints, Notes, SeenBy, SettledBy, searches_of}
+pub use Rattle.olr_refs.specs.Choice.{AreSearched, CostsAtMost, ForPoints, Notes, SeenBy, searches_of}
 pub use Rattle.olr_refs.specs.Extends.{Extends}
 pub use Rattle.olr_refs.specs.Fields.{lowest_class, middle_points_of}
 pub use Rattle.olr_refs.specs.KeptPoints.{AreAlong, AreKept, AreLinked, ArePoints, AreTrimmed, IsFirstKept, IsLastKept}
 pub use Rattle.olr_refs.specs.KeptPoints.{distance_at, later, whole_distance}
 pub use Rattle.olr_refs.specs.ResolvedLines.{AreRecords, ids, records_of}
-pub use Rattle.olr_refs.specs.Reuse.{Asks, AsksAfter, AsksOf, Reuses, Searched, known_reach}
+pub use Rattle.olr_refs.specs.Reuse.{Asks, EndsHere, IsAnswered, IsReuse, known_reach, own_of}
 pub use Rattle.olr_refs.specs.Runs.{IsLongest, IsRun, LeadsOn, LiesBeyond, in_order, outermost}
 pub use Rattle.olr_search.proofs.ReadLemmas.{read_at}
 pub use Rattle.olr_search.specs.Counts.{no_work, raised_count, raised_work, saturated_count}
@@ -23,8 +23,6 @@ pub use Rattle.olr_spec.proofs.FieldLemmas.{dm_same, from_front-add, position_is
 pub use Rattle.olr_spec.proofs.FitLemmas.{extended_sound, reference_fits}
 pub use Rattle.olr_spec.proofs.JoinLemmas.{Linked, between, follow_linked, kept_linked, stretch_last}
 pub use Rattle.olr_spec.proofs.JoinedAnswers.{joined}
-pub use Rattle.olr_spec.proofs.KnownLemmas.{all_searched, before_known, covered_known, covered_unique, lines_with}
-pub use Rattle.olr_spec.proofs.KnownLemmas.{query_known}
 pub use Rattle.olr_spec.proofs.ListLemmas.{Contains-cases, Contains-here, Contains-later, Contains-one, Each, Each-cons}
 pub use Rattle.olr_spec.proofs.ListLemmas.{Each-from, Each-nil, has_first, has_here, has_index, has_last, last_index}
 pub use Rattle.olr_spec.proofs.QueryLemmas.{stretch_parts}
@@ -43,9 +41,9 @@ pub use Rattle.olr_spec.specs.Map.{IsMap, Line, Map, coord_at, dm, end, has, has
 pub use Rattle.olr_spec.specs.Map.{start}
 pub use Rattle.olr_spec.specs.Points.{Candidate, Covered, Follow, Greatest, Next, NoNext, OfPath, ValidCandidate, fit16}
 pub use Rattle.olr_spec.specs.Points.{last_position, node_at, stretch}
-pub use Rattle.olr_spec.specs.Queries.{CoverageQuery, FoundFor, IsKnown, IsKnownAt, IsLastTested, IsQuery, IsReused}
-pub use Rattle.olr_spec.specs.Queries.{IsSearched, KnownOf, KnownQuery, Needed, NodeOf, QueriesOf, QueriesOfExtended}
-pub use Rattle.olr_spec.specs.Queries.{SearchedOf, Traversed, TraversedOf, TraversedOfExtended, query_to, querying}
+pub use Rattle.olr_spec.specs.Queries.{CoverageQuery, IsKnown, IsKnownOf, IsLastTested, IsQuery}
+pub use Rattle.olr_spec.specs.Queries.{KnownOf, KnownQuery, Needed, NodeOf, QueriesFrom, QueriesOf, QueriesOfExtended}
+pub use Rattle.olr_spec.specs.Queries.{Traversed, TraversedOf, TraversedOfExtended, query_to, querying}
 pub use Rattle.olr_spec.specs.Reference.{Attrs, First, Last, Middle, Reference, attrs, dm_along, dm_between, first_kept}
 pub use Rattle.olr_spec.specs.Reference.{first_point, first_where, from_front, kept_points, last_kept, last_point}
 pub use Rattle.olr_spec.specs.Reference.{last_two, last_where, leg, leg_at, legs, middle_point, middle_points, no_leg}

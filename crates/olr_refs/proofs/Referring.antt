@@ -1,12 +1,12 @@
 -- The encoding of a path, by its extension, its LRPs, its coverage queries and its reference.
 use Rattle.olr_refs.proofs.Common.{◌≡◌, ◌<◌, ◌+◌, ℕ, List, [], ◌∷◌, length, Option, Some, None, MatchOption, Contains}
-use Rattle.olr_refs.proofs.Common.{ap, ◌∙◌, arith, inl, inr, eq-eqb, IsTrue, IfOk, Map, IsMap, dm_of, Path, is_path}
+use Rattle.olr_refs.proofs.Common.{ap, ◌∙◌, arith, inl, inr, eq-eqb, IsTrue, Map, IsMap, dm_of, Path, is_path}
 use Rattle.olr_refs.proofs.Common.{extended_path, AreJoined, last_position, Reference, legs, reference, path_fault}
-use Rattle.olr_refs.proofs.Common.{CoverageQuery, QueriesOf, KnownQuery, path_nonempty, all_first, all_last, path_also}
-use Rattle.olr_refs.proofs.Common.{Asks, AsksOf, Work, Extends, later, joined, answer_of, Tried, OfPath}
+use Rattle.olr_refs.proofs.Common.{CoverageQuery, QueriesOf, path_nonempty, all_first, all_last, path_also}
+use Rattle.olr_refs.proofs.Common.{Extends, later, joined, answer_of, Tried, OfPath}
 use Rattle.olr_refs.proofs.Common.{answer_by_points, Encoding, Encodes, Traversed, TraversedOfExtended}
 use Rattle.olr_refs.proofs.Common.{QueriesOfExtended, sound_lines, one_tried, extended_sound, ForPoints, searches_of}
-use Rattle.olr_refs.proofs.Common.{◌↔◌, Result}
+use Rattle.olr_refs.proofs.Common.{◌↔◌}
 use Rattle.olr_answers.specs.declared.answer.Answer.{Answer}
 use Rattle.olr_answers.specs.declared.answer.Answer.TheVariants.{Points, Refused}
 use Rattle.std.proofs.lemmas.Slice.Zip.{AllZip-long}
@@ -41,7 +41,7 @@ pub points_answer : (M : Map) (E : Path) (ls ps : List ℕ) (r : Reference) (xs 
 points_answer M E ls ps r xs e c a o = grind (arith, eq-eqb)
 
 -- what holds for the extension and its LRPs, whatever the tried runs
-of_path : (M : Map) (P E : Path) (lead : ℕ) (F G : List ℕ) (Q : Path → List ℕ → List ℕ → List ℕ → Type 0) →
+pub of_path : (M : Map) (P E : Path) (lead : ℕ) (F G : List ℕ) (Q : Path → List ℕ → List ℕ → List ℕ → Type 0) →
     (x : Extends M P E lead F G) → ForPoints M E.lines (Q E x.before x.after) → OfPath M P Q
 of_path M P E lead F G Q x a = grind arith
 
@@ -89,19 +89,6 @@ traversed_of M m P E lead F G is none empty x v =
       ],
       λ t. (x.noted v).1 (inr (rw x.path (one_traversed M m P is none x.before x.after x.tried v t))),
     )
-
--- the coverage queries, by the extension
-pub asks_of : (M : Map) (P E : Path) (lead : ℕ) (F G : List ℕ) (given : List KnownQuery) (queries : List CoverageQuery)
-    (known : List KnownQuery) (w : Work) (s t : Option (List ℕ)) → Extends M P E lead F G →
-    ForPoints M E.lines (λ js. Asks M E.lines lead (length P.lines) given (0 ∷ js) queries known w s t) →
-    AsksOf M P given queries known w s t
-asks_of M P E lead F G given queries known w s t x f = grind (arith, of_path)
-
--- ---- where a result is a success
-
-pub if_both : {A F : Type 0} (r : Result A F) (P Q R : A → Type 0) → ((x : A) → P x → Q x → R x) → IfOk r P →
-    IfOk r Q → IfOk r R
-if_both v0 P Q R f p q = grind arith
 
 -- ---- counts
 

@@ -3,18 +3,18 @@
 --     IsChoice ls js c      the choice is 0 and js where they lead to the end, and else the position that has no next
 --         point
 --     searches_of ls is      how many of the points is are searched from: those that two lines or more follow
---     CountOf near n      n nodes are `near`
---     SettledBy M queries old new      a count rises by the sum of the numbers of nodes that the queries see
---     AreSearched M queries old new      one more search for each query, which settles the nodes that it reaches
 --     SeenBy M queries v      one of the queries reaches node v
 --     Notes near old new      if nodes are recorded at all, those that are `near` are added
+--     CostsAtMost M queries work      at most one search for each query, which settles no more than the nodes that they
+--         reach
+--     AreSearched M queries work seen noted      one search for each query, by which the nodes that it reaches are
+--         recorded
 --     TestedTo M slot ls i far to q      the positions after i are covered and within the limit up to far, and tested up
 --         to the position `to`, by the search q
 --     FoundFrom M ls i far to asked work before noted      by one search for the query asked, with this work, the
 --         positions after i are covered and within the limit up to far, and tested up to the position `to`
-use Rattle.std.specs.Prelude.{◌≡◌, ◌≢◌, ◌==◌, ℕ, ◌+◌, List, ◌∷◌, [], length, count_by, sum, nat_lt}
+use Rattle.std.specs.Prelude.{◌≡◌, ◌≢◌, ℕ, ◌+◌, ◌*◌, ◌≤◌, List, ◌∷◌, [], length, count_by, nat_lt}
 use Rattle.std.specs.Prelude.{Contains, Option, Some, None, ◌↔◌, ◌⊎◌, ⊤, slice_index}
-use Rattle.std.specs.List.{AllZip, IsDistinct}
 use Rattle.olr_spec.specs.Map.{Map, end}
 use Rattle.olr_spec.specs.Routes.{dm_of}
 use Rattle.olr_spec.specs.Points.{Follow, last_position, stretch}
@@ -24,7 +24,7 @@ use Rattle.olr_search.specs.declared.distances.Dijkstra.{Dijkstra}
 use Rattle.olr_search.specs.declared.distances.Direction.TheVariants.{Along}
 use Rattle.olr_search.specs.Searches.{IsSearch, limit_of}
 use Rattle.olr_search.specs.declared.work.Work.{Work}
-use Rattle.olr_search.specs.Counts.{no_work, raised_count}
+use Rattle.olr_search.specs.Counts.{saturated_count}
 use Rattle.olr_refs.specs.Along.{IsReach}
 use Rattle.olr_refs.specs.declared.chosen.Choice.{Choice}
 use Rattle.olr_refs.specs.declared.chosen.Choice.TheVariants.{Positions, NoNext}
@@ -39,20 +39,6 @@ IsChoice ls js (NoNext k) = (last_position 0 js ≢ length ls) × (k ≡ last_po
 abbrev pub searches_of : List ℕ → List ℕ → ℕ
 searches_of ls is = count_by (λ i. nat_lt (i + 2) (length ls)) is
 
-pub record CountOf (near : ℕ → Type 0) (n : ℕ) : Type 0 where
-  pub nodes : List ℕ
-  pub apart : IsDistinct ◌==◌ nodes
-  pub exactly : (v : ℕ) → Contains nodes v ↔ near v
-  pub many : length nodes ≡ n
-
-abbrev pub SettledBy : Map → List CoverageQuery → ℕ → ℕ → Type 0
-SettledBy M queries old new =
-    (counts : List ℕ) × AllZip (λ l n. CountOf (Sees M l) n) queries counts × (new ≡ raised_count old (sum counts))
-
-pub record AreSearched (M : Map) (queries : List CoverageQuery) (old new : Work) : Type 0 where
-  pub searches : new.searches ≡ raised_count old.searches (length queries)
-  pub settled : SettledBy M queries old.settled new.settled
-
 abbrev pub SeenBy : Map → List CoverageQuery → ℕ → Type 0
 SeenBy M queries v = (l : CoverageQuery) × Contains queries l × Sees M l v
 
@@ -63,6 +49,16 @@ Notes near None (Some new) = ⊥
 Notes near (Some old) None = ⊥
 Notes near (Some old) (Some new) = (v : ℕ) → Contains new v ↔ (Contains old v ⊎ near v)
 
+pub record CostsAtMost (M : Map) (queries : List CoverageQuery) (work : Work) : Type 0 where
+  pub searches : work.searches ≤ length queries
+  pub settled : (all : List ℕ) → ((v : ℕ) → SeenBy M queries v → Contains all v) →
+      work.settled ≤ length queries * length all
+
+pub record AreSearched (M : Map) (queries : List CoverageQuery) (work : Work) (seen noted : Option (List ℕ)) : Type 0
+  where
+    pub searches : work.searches ≡ saturated_count (length queries)
+    pub notes : Notes (SeenBy M queries) seen noted
+
 -- the search begins at the end of line i, and is settled as far as position `to`
 pub record TestedTo (M : Map) (slot : ℕ → ℕ) (ls : List ℕ) (i far to : ℕ) (q : Dijkstra) : Type 0 where
   pub reach : IsReach M ls i far
@@ -71,10 +67,10 @@ pub record TestedTo (M : Map) (slot : ℕ → ℕ) (ls : List ℕ) (i far to : �
   pub no_farther : limit_of q ≡ dm_of M (stretch ls (i + 1) to)
 
 pub record FoundFrom (M : Map) (ls : List ℕ) (i far to : ℕ) (asked : CoverageQuery) (work : Work)
-    (before noted : Option (List ℕ)) : Type 0
+    (seen noted : Option (List ℕ)) : Type 0
   where
     pub reach : IsReach M ls i far
     pub last : IsLastTested M ls i to
     pub query : asked ≡ query_to M ls i to
-    pub seen : Notes (Sees M asked) before noted
-    pub counts : AreSearched M (asked ∷ []) no_work work
+    pub cost : CostsAtMost M (asked ∷ []) work
+    pub searched : AreSearched M (asked ∷ []) work seen noted

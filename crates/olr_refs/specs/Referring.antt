@@ -5,7 +5,7 @@
 --         no reference
 --     AnsweredAlong M E js A xs      A is the answer of the extended path by these LRPs, and xs are these lines
 --     IsEncoding M P e      e is the encoding of the path: its answer, the own lines at its LRPs, the traversed nodes and the
---         coverage queries; it counts as one, and its searches settle at most the footprint for each query
+--         coverage queries; it counts as one, with at most one search for each query, which settles at most the footprint
 use Rattle.std.specs.Prelude.{◌≡◌, ℕ, ◌*◌, ◌≤◌, ◌↔◌, List, [], ◌∷◌, length, Contains, MatchOption, ⊤}
 use Rattle.olr_spec.specs.Map.{Map}
 use Rattle.olr_spec.specs.Extension.{Path}
@@ -44,6 +44,7 @@ pub record IsEncoding (M : Map) (P : Path) (e : Encoding) : Type 0 where
   pub own : OwnLinesOf M P (answer_of e.answer) e.own.items
   pub traversed : (v : ℕ) → Contains e.traversed v ↔ TraversedOf M P v
   pub queries : QueriesOf M P e.queries.items
-  pub known : KnownOf M P e.known.items
+  pub known : KnownOf M P.lines e.queries.items e.known.items
   pub encodings : e.work.encodings ≡ 1
+  pub searches : e.work.searches ≤ length e.queries.items
   pub settled : (all : List ℕ) → ((v : ℕ) → Foot M P v → Contains all v) → e.work.settled ≤ length e.queries.items * length all

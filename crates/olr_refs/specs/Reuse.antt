@@ -1,82 +1,51 @@
--- Coverage queries that are not searched again.
---     Reuses M ls lead own known      the lines ls are lead lines, the path's own lines and others; the known queries are
---         right along the path's own lines, and in ascending order
---     IsReuse M ls r      the same of a value
+-- Coverage queries, each of which is known or searched.
+--     own_of ls r      the path's own lines, which are some of the lines ls of an extended path
+--     IsReuse M ls r      the known queries are right along the path's own lines
+--     EndsHere lead end e      a known query ends at the position `end`, the last that can be tested; or before it, if the
+--         query's last position is not covered
 --     known_reach lead far e      how far the positions are covered and near enough, by a known query
---     Asks M ls lead own given is queries known work seen noted      queries are the coverage queries of the LRPs is,
---         known are those of them that are along the path's own lines, and those that are not among the given ones are
---         searched, with this work, and noted
---     AsksAfter M ls lead own given i q r seen noted      what the queries of LRP i add to the queries q
---     AsksOf M P given queries known work seen noted      the same for all LRPs of a path
---     Serves M ls lead own given i far e      e is one of the given queries, and right after i, where positions up to far
---         are near enough
---     Searched M P given work      the coverage queries of a path that are not among the given ones are searched, each by
---         one search, which settles the nodes that it reaches
-use Rattle.std.specs.Prelude.{◌≡◌, ℕ, ◌+◌, ◌-◌, ◌≤◌, if◌then◌else◌, List, [], ◌∷◌, ◌++◌, length, Option, Contains}
+--     IsAnswered M ls r i f seen noted      f is the coverage query of the LRP i, and what it shows; if none is known, it
+--         is searched
+--     Asks M ls r is q seen noted      q are the coverage queries of the LRPs is, and some of them that are along the
+--         path's own lines; if none is known, all are searched
+use Rattle.std.specs.Prelude.{◌≡◌, ℕ, ◌+◌, ◌-◌, ◌≤◌, if◌then◌else◌, List, [], ◌∷◌, length, Option, IfSome, IsTrue}
 use Rattle.olr_spec.specs.Map.{Map}
-use Rattle.olr_spec.specs.Extension.{Path, taken_start}
-use Rattle.olr_spec.specs.Points.{OfPath}
-use Rattle.olr_spec.specs.Queries.{CoverageQuery, QueriesFrom, querying, KnownQuery, AreKnown, IsKnownAt, FoundFor}
-use Rattle.olr_spec.specs.Queries.{IsSearched, SearchedOf}
-use Rattle.olr_search.specs.Counts.{no_work, raised_work}
-use Rattle.olr_search.specs.declared.work.Work.{Work}
+use Rattle.olr_spec.specs.Points.{stretch}
+use Rattle.olr_spec.specs.Queries.{IsQuery, QueriesFrom, querying, KnownQuery, AreKnown, IsKnownOf, KnownOf}
 use Rattle.olr_refs.specs.Along.{IsReach}
-use Rattle.olr_refs.specs.Choice.{AreSearched, SeenBy, Notes}
+use Rattle.olr_refs.specs.Choice.{AreSearched, CostsAtMost}
 use Rattle.olr_refs.specs.declared.chosen.Queries.{Queries}
+use Rattle.olr_refs.specs.declared.reuse.Found.{Found}
 use Rattle.olr_refs.specs.declared.reuse.Reuse.{Reuse}
 
-pub record Reuses (M : Map) (ls : List ℕ) (lead own : ℕ) (known : List KnownQuery) : Type 0 where
-  pub before : List ℕ
-  pub path : List ℕ
-  pub after : List ℕ
-  pub lines : (before ++ path) ++ after ≡ ls
-  pub leads : length before ≡ lead
-  pub owns : length path ≡ own
-  pub few : own ≤ 10000
-  pub are : AreKnown M path known
+abbrev pub own_of : List ℕ → Reuse → List ℕ
+own_of ls r = stretch ls r.lead (r.lead + r.own)
 
-abbrev pub IsReuse : Map → List ℕ → Reuse → Type 0
-IsReuse M ls r = Reuses M ls r.lead r.own r.known.now
+pub record IsReuse (M : Map) (ls : List ℕ) (r : Reuse) : Type 0 where
+  pub inside : r.lead + r.own ≤ length ls
+  pub few : r.own ≤ 10000
+  pub known : AreKnown M (own_of ls r) r.known.now
+
+-- so if its last position is covered, no position after it has to be tested, and else this one has to be
+abbrev pub EndsHere : ℕ → ℕ → KnownQuery → Type 0
+EndsHere lead end e = (lead + e.last ≤ end) × (IsTrue e.covered → lead + e.last ≡ end)
 
 -- the last position that is covered and near enough, where positions up to far are: the position before the query's last
 -- one if that isn't covered
 abbrev pub known_reach : ℕ → ℕ → KnownQuery → ℕ
 known_reach lead far e = if e.covered then far else lead + e.last - 1
 
-pub record Asks (M : Map) (ls : List ℕ) (lead own : ℕ) (given : List KnownQuery) (is : List ℕ)
-    (queries : List CoverageQuery) (known : List KnownQuery) (work : Work) (seen noted : Option (List ℕ)) : Type 0
+pub record IsAnswered (M : Map) (ls : List ℕ) (r : Reuse) (i : ℕ) (f : Found) (seen noted : Option (List ℕ)) : Type 0
   where
-    pub searched : List CoverageQuery
-    pub each : QueriesFrom M ls (querying ls is) queries
-    pub own_queries : FoundFor (IsKnownAt M ls lead own) (querying ls is) known
-    pub others : FoundFor (IsSearched M ls lead own given) (querying ls is) searched
-    pub counts : AreSearched M searched no_work work
-    pub notes : Notes (SeenBy M searched) seen noted
+    pub reach : IsReach M ls i f.reach
+    pub query : IsQuery M ls i f.query
+    pub own : IfSome f.own (IsKnownOf M (own_of ls r) (f.query ∷ []))
+    pub cost : CostsAtMost M (f.query ∷ []) f.work
+    pub searched : r.known.now ≡ [] → AreSearched M (f.query ∷ []) f.work seen noted
 
-pub record AsksAfter (M : Map) (ls : List ℕ) (lead own : ℕ) (given : List KnownQuery) (i : ℕ) (q r : Queries)
-    (seen noted : Option (List ℕ)) : Type 0
+pub record Asks (M : Map) (ls : List ℕ) (r : Reuse) (is : List ℕ) (q : Queries) (seen noted : Option (List ℕ)) : Type 0
   where
-    pub queries : List CoverageQuery
-    pub own_queries : List KnownQuery
-    pub work : Work
-    pub grown : r.all.items ≡ q.all.items ++ queries
-    pub own_grown : r.own.items ≡ q.own.items ++ own_queries
-    pub work_grown : r.work ≡ raised_work q.work work
-    pub asks : Asks M ls lead own given (i ∷ []) queries own_queries work seen noted
-
-abbrev pub AsksOf : Map → Path → List KnownQuery → List CoverageQuery → List KnownQuery → Work → Option (List ℕ) →
-    Option (List ℕ) → Type 0
-AsksOf M P given queries known work seen noted =
-    OfPath M P (λ E b _ js. Asks M E.lines (length (taken_start M b P.lines)) (length P.lines) given (0 ∷ js) queries
-    known work seen noted)
-
-pub record Searched (M : Map) (P : Path) (given : List KnownQuery) (work : Work) : Type 0 where
-  pub queries : List CoverageQuery
-  pub those : SearchedOf M P given queries
-  pub counts : AreSearched M queries no_work work
-
-pub record Serves (M : Map) (ls : List ℕ) (lead own : ℕ) (all : List KnownQuery) (i far : ℕ) (e : KnownQuery) : Type 0
-  where
-    pub known : IsKnownAt M ls lead own i e
-    pub reach : IsReach M ls i (known_reach lead far e)
-    pub given : Contains all e
+    pub each : QueriesFrom M ls (querying ls is) q.all.items
+    pub own : KnownOf M (own_of ls r) q.all.items q.own.items
+    pub cost : CostsAtMost M q.all.items q.work
+    pub searched : r.known.now ≡ [] → AreSearched M q.all.items q.work seen noted

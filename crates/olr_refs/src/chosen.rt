@@ -1,16 +1,14 @@
 //! The location reference points of an extended path.
-ghost use Rattle.std.specs.Prelude.{◌≡◌, ℕ, List, ◌+◌, ◌<◌, ◌≤◌, [], ◌∷◌, ◌++◌, IfOk, OnOk, length};
-ghost use Rattle.olr_spec.specs.Map.{Map};
+ghost use Rattle.std.specs.Prelude.{ℕ, List, ◌+◌, ◌<◌, [], ◌∷◌, ◌++◌, IfOk, OnOk, Option as OptionOf, length};
 ghost use Rattle.olr_search.specs.Searches.{IsSearch, LiesWithin, limit_of};
 ghost use Rattle.olr_refs.specs.Along.{IsFar, IsReach};
-ghost use Rattle.olr_refs.specs.Choice.{ForPoints, FoundFrom, IsChoice, Notes};
-ghost use Rattle.std.specs.Option.{option_to_list};
-ghost use Rattle.olr_refs.specs.Reuse.{IsReuse, Asks, AsksAfter};
+ghost use Rattle.olr_refs.specs.Choice.{ForPoints, IsChoice, Notes};
+ghost use Rattle.olr_refs.specs.Reuse.{IsReuse, IsAnswered, Asks};
 
 use crate::along::ResolvedPath;
 use crate::choice::{last_within_limit, next_of};
-use crate::reach::{Tested, covered_to};
-use crate::reuse::{Reuse, known_after, own_query, query_of, reach_by};
+use crate::reach::covered_to;
+use crate::reuse::{Found, Reuse, known_after, own_query};
 use olr_answers::{CoverageQuery, KnownQuery};
 use olr_roads::{Footprint, MapRead};
 use olr_search::{Dijkstra, Direction, Work};
@@ -34,19 +32,6 @@ pub struct Queries {
     pub own: Vec<KnownQuery>,
     /// The searches for the queries that were not known already.
     pub work: Work,
-}
-
-/// A coverage query from an LRP, and what it shows.
-#[derive(Clone, Copy)]
-struct Found {
-    /// The last position that is covered and near enough.
-    reach: usize,
-    /// The query.
-    query: CoverageQuery,
-    /// The query as one along the path's own lines. None if it is not one.
-    own: Option<KnownQuery>,
-    /// The search for it; none if it was known.
-    work: Work,
 }
 
 /// The LRPs of an extended path, and the coverage queries by which they were found.
@@ -78,21 +63,22 @@ fn note_settled<M: MapRead>(
     seen.note_all(&nodes)
 }
 
-/// Tests by one search how far the positions after `i` are covered and near enough, where two lines or more follow line
-/// `i`. Returns the result, the query for it and the work of the search. If `seen` is `Some`, adds the nodes that the
-/// search settled: those that the query reaches. Positions up to `far` are near enough.
+/// The coverage query from position `i`, by one search, where two lines or more follow line `i`; positions up to `far`
+/// are near enough. If `seen` is `Some`, adds the nodes that the search settled: those that the query reaches.
 fn search_after<M: MapRead>(
     alloc: Global,
     resolved: &ResolvedPath<M>,
+    reuse: &Reuse,
     i: usize,
     far: usize,
     search: &mut Dijkstra,
     seen: &mut Option<Footprint>,
-) -> Result<(Tested, CoverageQuery, Work), AllocError>
+) -> Result<Found, AllocError>
     requires some { i + 2 < length resolved.now.lines.now }
+    requires reuse { IsReuse (M.map resolved.now.map.now) resolved.now.lines.now reuse.now }
     requires far { IsFar (M.map resolved.now.map.now) resolved.now.lines.now i far }
-    ensures { IfOk result (λ r. FoundFrom (M.map resolved.now.map.now) resolved.now.lines.now i r.0.reach r.0.last r.1
-        r.2 seen.old seen.new) }
+    ensures { IfOk result (λ f. IsAnswered (M.map resolved.now.map.now) resolved.now.lines.now reuse.now i f seen.old
+        seen.new) }
 {
     let from = resolved.end(i);
     search.begin(resolved.map, Direction::Along, &[(from, 0)])?;
@@ -103,12 +89,18 @@ fn search_after<M: MapRead>(
         to: resolved.node(tested.last),
         within: resolved.between(i + 1, tested.last) as u32,
     };
+    let own = own_query(resolved, reuse, i, query, tested);
     let work = Work {
         encodings: 0,
         searches: 1,
         settled: search.settled_count() as u64,
     };
-    Ok((tested, query, work))
+    Ok(Found {
+        reach: tested.reach,
+        query,
+        own,
+        work,
+    })
 }
 
 /// The coverage query from position `i`, where two lines or more follow line `i`. If it is not known, it is searched;
@@ -123,28 +115,13 @@ fn query_after<M: MapRead>(
 ) -> Result<Found, AllocError>
     requires some { i + 2 < length resolved.now.lines.now }
     requires reuse { IsReuse (M.map resolved.now.map.now) resolved.now.lines.now reuse.now }
-    ensures { IfOk result (λ r. IsReach (M.map resolved.now.map.now) resolved.now.lines.now i r.reach
-        × Asks (M.map resolved.now.map.now) resolved.now.lines.now reuse.now.lead reuse.now.own reuse.now.known.now
-        (i ∷ []) (r.query ∷ []) (option_to_list r.own) r.work seen.old seen.new) }
+    ensures { IfOk result (λ f. IsAnswered (M.map resolved.now.map.now) resolved.now.lines.now reuse.now i f seen.old
+        seen.new) }
 {
     let far = last_within_limit(resolved, i);
     match known_after(resolved, reuse, i, far) {
-        Some(known) => Ok(Found {
-            reach: reach_by(&known, reuse.lead, far),
-            query: query_of(&known),
-            own: Some(known),
-            work: Work::none(),
-        }),
-        None => {
-            let (tested, query, work) = search_after(alloc, resolved, i, far, search, seen)?;
-            let own = own_query(resolved, reuse, i, query, tested);
-            Ok(Found {
-                reach: tested.reach,
-                query,
-                own,
-                work,
-            })
-        }
+        Some(found) => Ok(found),
+        None => search_after(alloc, resolved, reuse, i, far, search, seen),
     }
 }
 
@@ -161,9 +138,10 @@ fn reach_of<M: MapRead>(
 ) -> Result<usize, AllocError>
     requires some { i < length resolved.now.lines.now }
     requires reuse { IsReuse (M.map resolved.now.map.now) resolved.now.lines.now reuse.now }
-    ensures { IfOk result (λ reach. IsReach (M.map resolved.now.map.now) resolved.now.lines.now i reach
-        × AsksAfter (M.map resolved.now.map.now) resolved.now.lines.now reuse.now.lead reuse.now.own
-        reuse.now.known.now i queries.old queries.new seen.old seen.new) }
+    ensures reach { IfOk result (IsReach (M.map resolved.now.map.now) resolved.now.lines.now i) }
+    ensures asks { OnOk result ((before : List ℕ) (begun : OptionOf (List ℕ))
+        → Asks (M.map resolved.now.map.now) resolved.now.lines.now reuse.now before queries.old begun seen.old
+        → Asks (M.map resolved.now.map.now) resolved.now.lines.now reuse.now (before ++ i ∷ []) queries.new begun seen.new) }
 {
     if resolved.lines.len() - i <= 2 {
         return Ok(last_within_limit(resolved, i));
@@ -194,8 +172,7 @@ pub fn points<M: MapRead>(
     ensures choice { IfOk result (λ chosen. ForPoints (M.map resolved.now.map.now) resolved.now.lines.now
         (λ js. IsChoice resolved.now.lines.now js chosen.choice)) }
     ensures asks { IfOk result (λ chosen. ForPoints (M.map resolved.now.map.now) resolved.now.lines.now
-        (λ js. Asks (M.map resolved.now.map.now) resolved.now.lines.now reuse.now.lead reuse.now.own
-        reuse.now.known.now (0 ∷ js) chosen.queries.all.items chosen.queries.own.items chosen.queries.work seen.old
+        (λ js. Asks (M.map resolved.now.map.now) resolved.now.lines.now reuse.now (0 ∷ js) chosen.queries seen.old
         seen.new)) }
 {
     let mut positions = Vec::new(alloc);

@@ -1,15 +1,15 @@
 //! The encoding of a path on a map.
-ghost use Rattle.std.specs.Prelude.{◌≡◌, List, ◌+◌, ◌<◌, ◌∷◌, IsTrue, IfOk, OnOk, None, length};
+ghost use Rattle.std.specs.Prelude.{◌≡◌, ◌+◌, ◌<◌, [], ◌∷◌, IsTrue, IfOk, None, length};
 ghost use Rattle.olr_spec.specs.Extension.{is_path, AreJoined};
 ghost use Rattle.olr_spec.specs.Encoding.{path_fault};
-ghost use Rattle.olr_spec.specs.Queries.{AreKnown, SearchedOf, CoverageQuery as QueryRecord};
+ghost use Rattle.olr_spec.specs.Queries.{AreKnown};
 ghost use Rattle.olr_answers.specs.Answers.{answer_of};
 ghost use Rattle.olr_spec.specs.Routes.{dm_of};
-ghost use Rattle.olr_refs.specs.Choice.{ForPoints, IsChoice, Notes, SeenBy, SettledBy};
+ghost use Rattle.olr_refs.specs.Choice.{AreSearched, ForPoints, IsChoice};
 ghost use Rattle.olr_search.specs.Counts.{saturated_count};
 ghost use Rattle.olr_refs.specs.Referring.{AnsweredAlong, IsEncoding};
 ghost use Rattle.olr_refs.specs.ResolvedLines.{records_of};
-ghost use Rattle.olr_refs.specs.Reuse.{IsReuse, Asks, AsksOf, Searched};
+ghost use Rattle.olr_refs.specs.Reuse.{IsReuse, Asks};
 
 use crate::along::{ResolvedPath, distances};
 use crate::chosen::{Choice, Chosen, Queries, points};
@@ -55,9 +55,9 @@ pub fn encode<M: MapRead>(
     ensures encoding { IfOk result (IsEncoding (M.map map.now) path.now) }
     ensures path { IsTrue (is_path path.now.lines) }
     ensures searches { IfOk result (λ e. e.work.searches ≡ saturated_count (length e.queries.items)) }
-    ensures settled_exactly { IfOk result (λ e. SettledBy (M.map map.now) e.queries.items 0 e.work.settled) }
 {
-    encode_again(alloc, map, path, &[], search)
+    let mut seen = None;
+    encode_noting(alloc, map, path, &[], search, &mut seen)
 }
 
 /// The encoding of a path on a map, as `encode` returns it, but without searches for the coverage queries in `known`.
@@ -75,7 +75,6 @@ pub fn encode_again<M: MapRead>(
     requires { AreKnown (M.map map.now) path.now.lines known.now }
     ensures encoding { IfOk result (IsEncoding (M.map map.now) path.now) }
     ensures path { IsTrue (is_path path.now.lines) }
-    ensures searched { IfOk result (λ e. Searched (M.map map.now) path.now known.now e.work) }
 {
     let mut seen = None;
     encode_noting(alloc, map, path, known, search, &mut seen)
@@ -97,9 +96,8 @@ pub fn encode_noting<M: MapRead>(
     requires { AreKnown (M.map map.now) path.now.lines known.now }
     ensures encoding { IfOk result (IsEncoding (M.map map.now) path.now) }
     ensures path { IsTrue (is_path path.now.lines) }
-    ensures searched { IfOk result (λ e. Searched (M.map map.now) path.now known.now e.work) }
-    ensures seen { OnOk result ((queries : List QueryRecord) × SearchedOf (M.map map.now) path.now known.now queries
-        × Notes (SeenBy (M.map map.now) queries) seen.old seen.new) }
+    ensures searched { IfOk result (λ e. known.now ≡ []
+        → AreSearched (M.map map.now) e.queries.items e.work seen.old seen.new) }
 {
     match own_lines(alloc, map, path)? {
         Err(refusal) => Ok(Encoding {
@@ -132,8 +130,8 @@ fn encode_whole<M: MapRead>(
     requires own { own.now ≡ records_of (M.map map.now) (M.node_slot map.now) path.now.lines }
     requires known { AreKnown (M.map map.now) path.now.lines known.now }
     ensures encoding { IfOk result (IsEncoding (M.map map.now) path.now) }
-    ensures asks { IfOk result (λ e. AsksOf (M.map map.now) path.now known.now e.queries.items e.known.items e.work
-        seen.old seen.new) }
+    ensures searched { IfOk result (λ e. known.now ≡ []
+        → AreSearched (M.map map.now) e.queries.items e.work seen.old seen.new) }
 {
     let mut traversed = Footprint::new(alloc);
     let extended = extend(alloc, map, path, own, &mut traversed)?;
@@ -180,8 +178,7 @@ fn encode_along<M: MapRead>(
     ensures { IfOk result (λ r. ForPoints (M.map map.now) extended.now.path.lines
         (λ js. AnsweredAlong (M.map map.now) extended.now.path js (answer_of r.0.answer) r.0.own.items)
         × ForPoints (M.map map.now) extended.now.path.lines
-        (λ js. Asks (M.map map.now) extended.now.path.lines reuse.now.lead reuse.now.own reuse.now.known.now (0 ∷ js)
-        r.1.all.items r.1.own.items r.1.work seen.old seen.new)) }
+        (λ js. Asks (M.map map.now) extended.now.path.lines reuse.now (0 ∷ js) r.1 seen.old seen.new)) }
 {
     let lines = extended.lines.as_slice();
     let records = extended.records.as_slice();

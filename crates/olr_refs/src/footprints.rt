@@ -1,12 +1,10 @@
 //! Footprints: the nodes on which an answer depends.
 ghost use Rattle.std.specs.Prelude.{◌≡◌, ℕ, ◌+◌, ◌*◌, ◌^◌, ◌<◌, ◌≤◌, ◌↔◌, ◌⊎◌, IfOk, OnOk, OnErr, MatchOption};
-ghost use Rattle.std.specs.Prelude.{List, Contains, length};
+ghost use Rattle.std.specs.Prelude.{Contains, length};
 ghost use Rattle.olr_spec.specs.Map.{Map, IsMap, Agree};
 ghost use Rattle.olr_spec.specs.Encoding.{Encodes};
 ghost use Rattle.olr_spec.specs.Footprint.{Foot};
-ghost use Rattle.olr_spec.specs.Queries.{CoverageQuery as QueryRecord, QueriesOf};
 ghost use Rattle.olr_answers.specs.Answers.{answer_of};
-ghost use Rattle.olr_refs.specs.Choice.{SettledBy};
 ghost use Rattle.olr_search.specs.Counts.{raised_count};
 ghost use Rattle.olr_refs.specs.Recovered.{RecoveredOf};
 ghost use Rattle.olr_refs.specs.Referring.{JoinsOf, SearchesOf};
@@ -56,9 +54,6 @@ pub fn refer<M: MapRead>(
     ensures settled_rises { OnOk result (work.old.settled < 2 ^ 64 → work.old.settled ≤ work.new.settled) }
     ensures settled { IfOk result (λ r. (n : ℕ) × SearchesOf (M.map map.now) path.now n
         × (work.new.settled ≤ work.old.settled + n * length r.1)) }
-    ensures settled_exactly { IfOk result (λ _. (queries : List QueryRecord)
-        × QueriesOf (M.map map.now) path.now queries
-        × SettledBy (M.map map.now) queries work.old.settled work.new.settled) }
     ensures err_work { OnErr result (work.new ≡ work.old) }
 {
     let mut seen = Some(Footprint::new(alloc));

@@ -1,24 +1,39 @@
-//! Coverage queries along a path's own lines: those that are known are not searched again.
-ghost use Rattle.std.specs.Prelude.{◌≡◌, ◌+◌, ◌-◌, ◌^◌, ◌<◌, ◌≤◌, ◌↔◌, min, IsTrue, MatchOption};
-ghost use Rattle.std.specs.Prelude.{length};
-ghost use Rattle.olr_spec.specs.Queries.{IsKnownAt, IsLastTested, IsReused, query_to, KnownQuery as Query};
+//! Coverage queries that are known, and are not searched again.
+ghost use Rattle.std.specs.Prelude.{◌≡◌, ◌+◌, ◌-◌, ◌^◌, ◌<◌, ◌≤◌, ◌↔◌, [], ◌∷◌, min, IsTrue, IfSome, length};
+ghost use Rattle.std.specs.Prelude.{Option, List, ℕ};
+ghost use Rattle.olr_spec.specs.Queries.{IsKnownOf, IsLastTested, query_to};
 ghost use Rattle.olr_refs.specs.Along.{IsFar, IsReach};
-ghost use Rattle.olr_refs.specs.Reuse.{IsReuse, Serves, known_reach};
+ghost use Rattle.olr_refs.specs.Reuse.{IsReuse, IsAnswered, EndsHere, known_reach, own_of};
 
 use crate::along::ResolvedPath;
 use crate::reach::Tested;
 use olr_answers::{CoverageQuery, KnownQuery};
 use olr_roads::MapRead;
+use olr_search::Work;
 
 /// What is known of a path's coverage queries, and where its own lines lie on the extended path.
 #[derive(Clone, Copy)]
 pub struct Reuse<'a> {
-    /// Coverage queries along the path's own lines, in ascending order of the lines where they begin.
+    /// Coverage queries along the path's own lines, in ascending order of the lines where they begin: one that is out of
+    /// order may be searched again.
     pub known: &'a [KnownQuery],
     /// How many lines precede the path's own.
     pub lead: usize,
     /// How many lines the path has.
     pub own: usize,
+}
+
+/// A coverage query from an LRP, and what it shows.
+#[derive(Clone, Copy)]
+pub struct Found {
+    /// The last position that is covered and near enough.
+    pub reach: usize,
+    /// The query.
+    pub query: CoverageQuery,
+    /// The query as one along the path's own lines. None if it is not one.
+    pub own: Option<KnownQuery>,
+    /// The search for it; none if it was known.
+    pub work: Work,
 }
 
 /// Whether a known query ends at the last position that is tested on an extended path of so many lines, of which `lead`
@@ -27,8 +42,7 @@ pub struct Reuse<'a> {
 fn ends_here(known: &KnownQuery, lead: usize, far: usize, lines: usize) -> bool
     requires some { 0 < lines }
     requires small { lead + known.now.last < 2 ^ 64 }
-    ensures { IsTrue result ↔ ((lead + known.now.last ≤ min far (lines - 1))
-        × (IsTrue known.now.covered → lead + known.now.last ≡ min far (lines - 1))) }
+    ensures { IsTrue result ↔ EndsHere lead (min far (lines - 1)) known.now }
 {
     let last = lead + known.last as usize;
     let end = far.min(lines - 1);
@@ -39,19 +53,31 @@ fn ends_here(known: &KnownQuery, lead: usize, far: usize, lines: usize) -> bool
     }
 }
 
-/// The known coverage query after `i`, where one is known; positions up to `far` are near enough.
+/// How far the positions are covered and near enough, by a known query; positions up to `far` are near enough.
+fn reach_by(known: &KnownQuery, lead: usize, far: usize) -> usize
+    requires some { 0 < known.now.last }
+    requires small { lead + known.now.last < 2 ^ 64 }
+    ensures { result ≡ known_reach lead far known.now }
+{
+    if known.covered {
+        far
+    } else {
+        lead + known.last as usize - 1
+    }
+}
+
+/// The coverage query after `i`, where it is known; positions up to `far` are near enough.
 pub fn known_after<M: MapRead>(
     resolved: &ResolvedPath<M>,
     reuse: &Reuse,
     i: usize,
     far: usize,
-) -> Option<KnownQuery>
+) -> Option<Found>
     requires some { i + 1 < length resolved.now.lines.now }
     requires reuse { IsReuse (M.map resolved.now.map.now) resolved.now.lines.now reuse.now }
     requires far { IsFar (M.map resolved.now.map.now) resolved.now.lines.now i far }
-    ensures { MatchOption result (¬ IsReused (M.map resolved.now.map.now) resolved.now.lines.now reuse.now.lead
-        reuse.now.own reuse.now.known.now i) (Serves (M.map resolved.now.map.now) resolved.now.lines.now reuse.now.lead
-        reuse.now.own reuse.now.known.now i far) }
+    ensures { IfSome result (λ f. (seen : Option (List ℕ))
+        → IsAnswered (M.map resolved.now.map.now) resolved.now.lines.now reuse.now i f seen seen) }
 {
     let first = (i + 1).checked_sub(reuse.lead)?;
     let k = reuse
@@ -62,20 +88,12 @@ pub fn known_after<M: MapRead>(
     if !ends_here(&known, reuse.lead, far, resolved.lines.len()) {
         return None;
     }
-    Some(known)
-}
-
-/// How far the positions are covered and near enough, by a known query; positions up to `far` are near enough.
-pub fn reach_by(known: &KnownQuery, lead: usize, far: usize) -> usize
-    requires some { 0 < known.now.last }
-    requires small { lead + known.now.last < 2 ^ 64 }
-    ensures { result ≡ known_reach lead far known.now }
-{
-    if known.covered {
-        far
-    } else {
-        lead + known.last as usize - 1
-    }
+    Some(Found {
+        reach: reach_by(&known, reuse.lead, far),
+        query: known.query,
+        own: Some(known),
+        work: Work::none(),
+    })
 }
 
 /// Whether the lines from the end of line `i` to position `last` are some of the path's own.
@@ -88,13 +106,6 @@ fn is_own(reuse: &Reuse, i: usize, last: usize) -> bool
     reuse.lead <= i + 1 && i + 1 < last && last <= reuse.lead + reuse.own
 }
 
-/// The coverage query itself.
-pub fn query_of(known: &KnownQuery) -> CoverageQuery
-    ensures { result ≡ known.now.query }
-{
-    known.query
-}
-
 /// A coverage query after `i` as one along the path's own lines, where it is.
 pub fn own_query<M: MapRead>(
     resolved: &ResolvedPath<M>,
@@ -103,14 +114,11 @@ pub fn own_query<M: MapRead>(
     query: CoverageQuery,
     tested: Tested,
 ) -> Option<KnownQuery>
-    requires few { reuse.now.own ≤ 10000 }
-    requires inside { reuse.now.lead + reuse.now.own ≤ length resolved.now.lines.now }
+    requires reuse { IsReuse (M.map resolved.now.map.now) resolved.now.lines.now reuse.now }
     requires reach { IsReach (M.map resolved.now.map.now) resolved.now.lines.now i tested.reach }
     requires last { IsLastTested (M.map resolved.now.map.now) resolved.now.lines.now i tested.last }
     requires query { query ≡ query_to (M.map resolved.now.map.now) resolved.now.lines.now i tested.last }
-    ensures { MatchOption result
-        ((e : Query) → ¬ IsKnownAt (M.map resolved.now.map.now) resolved.now.lines.now reuse.now.lead reuse.now.own i e)
-        (IsKnownAt (M.map resolved.now.map.now) resolved.now.lines.now reuse.now.lead reuse.now.own i) }
+    ensures { IfSome result (IsKnownOf (M.map resolved.now.map.now) (own_of resolved.now.lines.now reuse.now) (query ∷ [])) }
 {
     if !is_own(reuse, i, tested.last) {
         return None;

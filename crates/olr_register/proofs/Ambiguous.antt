@@ -1,12 +1,12 @@
 -- What stands in the way of the strings of a register's paths, path by path; and the steps of the question.
 use Rattle.olr_register.proofs.Common.{◌≡◌, ℕ, suc, List, [], ◌∷◌, ◌++◌, map, Some, None, Ok, Err, refl, sym}
 use Rattle.olr_register.proofs.Common.{ap, ◌∙◌, subst, append_assoc, append-nil, slice_get, take, ◌+◌}
-use Rattle.olr_register.proofs.Common.{Map, Path, is_path, Named, Content, step, Item, Made, AreEncodings, IsEncodingOf}
+use Rattle.olr_register.proofs.Common.{Map, Path, Named, Content, step, Item, Made, AreEncodings, IsEncodingOf}
 use Rattle.olr_register.proofs.Common.{all_named, named_of, path_named, No_path, option_map}
 use Rattle.olr_spec.proofs.ListLemmas.{take_more_at}
-use Rattle.olr_spec.proofs.KnownLemmas.{known_holds}
+use Rattle.olr_spec.proofs.KnownLemmas.{known_right}
 use Rattle.olr_spec.specs.Queries.{AreKnown}
-use Rattle.olr_commands.specs.State.{Ambiguous, ArePaths}
+use Rattle.olr_commands.specs.State.{Ambiguous}
 use Rattle.olr_commands.specs.Ambiguities.{NamedObstacle, named, obstacles_of, Ambiguity, Ambiguities}
 use Rattle.olr_answers.specs.Answers.{answer_of}
 use Rattle.olr_answers.specs.declared.answer.Answer.{Answer}
@@ -20,7 +20,7 @@ use Rattle.olr_register.proofs.States.{state}
 use Rattle.olr_register.proofs.Common.{Option}
 use Rattle.olr_register.specs.Contents.{known_in}
 use Rattle.std.proofs.lemmas.Option.{slice_get-map}
-use Rattle.std.proofs.Common.{zero, IsTrue}
+use Rattle.std.proofs.Common.{zero}
 
 -- ---- of one path
 
@@ -72,18 +72,12 @@ encoded_at M (j ∷ is) zero i a h =
     subst (λ (z : Item). (m : Made) × (z.made ≡ Some m) × IsEncodingOf M z.path m) same a.0
 encoded_at M (j ∷ is) (suc k) i a h = encoded_at M is k i a.1 h
 
-path_at : (is : List Item) (k : ℕ) (i : Item) → ArePaths (all_named is) → slice_get is k ≡ Some i →
-    IsTrue (is_path i.path.lines)
-path_at [] k i a h = absurd cc
-path_at (j ∷ is) zero i a h = let same : j ≡ i = cc in subst (λ (z : Item). IsTrue (is_path z.path.lines)) same a.0
-path_at (j ∷ is) (suc k) i a h = path_at is k i a.1 h
-
-pub known_at : (M : Map) (is : List Item) (k : ℕ) (i : Item) → AreEncodings M is → ArePaths (all_named is) →
-    slice_get is k ≡ Some i → AreKnown M i.path.lines (known_in i.made)
-known_at M is k i a paths at =
+pub known_at : (M : Map) (is : List Item) (k : ℕ) (i : Item) → AreEncodings M is → slice_get is k ≡ Some i →
+    AreKnown M i.path.lines (known_in i.made)
+known_at M is k i a at =
     let e = encoded_at M is k i a at in
     subst (λ (o : Option Made). AreKnown M i.path.lines (known_in o)) (sym e.1)
-    (known_holds M i.path (path_at is k i paths at) e.0.known e.2.known)
+    (known_right M i.path.lines e.0.queries e.0.known e.2.known)
 
 -- ---- steps, if no batch is open
 

@@ -1,11 +1,11 @@
 -- Opening a batch, and one more change in an open batch, in terms of the definitions of commands.
 use Rattle.olr_register.proofs.Common.{◌≡◌, ℕ, suc, arith, Bool, true, false, not, List, [], ◌∷◌, ◌++◌, length, map}
 use Rattle.olr_register.proofs.Common.{Some, Result, Ok, Err, refl, sym, ap, ◌∙◌, subst, append_assoc, ◌==◌, ◌&&◌, ◌||◌}
-use Rattle.olr_register.proofs.Common.{nat_le, append-nil, list_any-append, flat_map-append, has, ChangedLine, map_of}
+use Rattle.olr_register.proofs.Common.{nat_le, append-nil, list_any-append, flat_map-append, has, map_of}
 use Rattle.olr_register.proofs.Common.{map_before, RoadMap, Work, Named, Content, Fault, full, when, Change, On_map}
 use Rattle.olr_register.proofs.Common.{Add_path, Set_path, Drop_path, with_change, after, Make, step, IsRefusal}
 use Rattle.olr_register.proofs.Common.{takes_memory, may_want, is_reported_first, nodes_of_change, lines_of_change}
-use Rattle.olr_register.proofs.Common.{changed_by, names_of_change, all_nodes, all_lines, all_changed, all_names}
+use Rattle.olr_register.proofs.Common.{names_of_change, all_nodes, all_lines, all_names}
 use Rattle.olr_register.proofs.Common.{command_fault_of, reply_of, Reply, CommandFault, Item, under_overlay}
 use Rattle.olr_register.proofs.Common.{RegisterState, IsBatchOf, content_on, content_under, batch_of, held_of, Answered}
 use Rattle.olr_register.proofs.Common.{AreGiven, MayReport, ByContent, Lacks, HoldsChange, Batch, None}
@@ -28,13 +28,6 @@ use Rattle.olr_register.proofs.Renewed.{made_if_any}
 use Rattle.olr_commands.specs.Reply as replies
 
 -- ---- the held changes, with one more
-
-changed_push : (c : Content) (xs : List Change) (x : Change) →
-    all_changed c (xs ++ x ∷ []) ≡ all_changed c xs ++ changed_by (after c xs).map x
-changed_push c [] x = append-nil (changed_by c.map x)
-changed_push c (y ∷ xs) x =
-    ap (λ (cs : List ChangedLine). changed_by c.map y ++ cs) (changed_push (next c y) xs x)
-    ∙ sym (append_assoc (changed_by c.map y) (all_changed (next c y) xs) (changed_by (after (next c y) xs).map x))
 
 nodes_push : (c : Content) (xs : List Change) (x : Change) →
     all_nodes c (xs ++ x ∷ []) ≡ all_nodes c xs ++ nodes_of_change (after c xs).map x
@@ -113,9 +106,6 @@ module _ (c : Content) (old new : RoadMap) (is : List Item) (b d : Batch) (x : C
             h.made.lines y ∙ ap (λ (t : Bool). t || has (lines_of_change x) y) (i.lines y)
             ∙ sym (list_any-append (λ (z : ℕ). z == y) (all_lines xs) (lines_of_change x))
             ∙ ap (λ (ys : List ℕ). has ys y) (sym (flat_push lines_of_change xs x));
-        changed =
-            h.made.changed ∙ ap (λ (cs : List ChangedLine). cs ++ changed_by (map_of old) x) i.changed
-            ∙ ap (λ (e : Content). all_changed c xs ++ changed_by e.map x) (sym content) ∙ sym (changed_push c xs x);
         given =
             subst (λ (names : List (List ℕ)). AreGiven names (map held_of (under_overlay is d.overlay)))
             (sym (flat_push names_of_change xs x)) (h.made.given (all_names xs) i.given);
@@ -130,12 +120,12 @@ module _ (c : Content) (old new : RoadMap) (is : List Item) (b d : Batch) (x : C
       let may = ap may_want (step_given c old is b xs x i) ∙ may_by c (xs ++ x ∷ []) (content_with old is b x) first in
       replies.Lacks e (λ j. held_takes x xs (length c.paths == 0) j && may j)
 
-  pub answered_held : (w : Work) (n : ℕ) (r : Result Reply CommandFault) → HoldsChange old new is b d x r →
-      Answered (register_of c (Some (batch_of old is b)) w n) (Make x) r (register_of c (Some (batch_of new is d)) w n)
-  answered_held w n (Ok r) h =
+  pub answered_held : (w : Work) (r : Result Reply CommandFault) → HoldsChange old new is b d x r →
+      Answered (register_of c (Some (batch_of old is b)) w) (Make x) r (register_of c (Some (batch_of new is d)) w)
+  answered_held w (Ok r) h =
       let taken : content_with old is b x ≡ Ok (content_under new is d) = rw h.room h.made.content in
       let later : RegisterState = record { content = c; batch = Some (batch_of new is d) } in
-      answered_uncounted (register_of c (Some (batch_of old is b)) w n) later (Make x) r
+      answered_uncounted (register_of c (Some (batch_of old is b)) w) later (Make x) r
       (in_states (record { content = c; batch = Some (batch_of old is b) }) (Keeps later (Make x) r) (λ xs i. (
         refl,
         (
@@ -147,9 +137,9 @@ module _ (c : Content) (old new : RoadMap) (is : List Item) (b d : Batch) (x : C
           ),
         ),
       )))
-  answered_held w n (Err f) h =
-      answered_refused (register_of c (Some (batch_of old is b)) w n) (register_of c (Some (batch_of new is d)) w n)
-      (Make x) (Err f) f (ap (λ e. register_of c (Some e) w n) h.unchanged) refl
+  answered_held w (Err f) h =
+      answered_refused (register_of c (Some (batch_of old is b)) w) (register_of c (Some (batch_of new is d)) w)
+      (Make x) (Err f) f (ap (λ e. register_of c (Some e) w) h.unchanged) refl
       (is_refusal (command_fault_of f) h.refused)
 
 -- ---- begin
@@ -203,17 +193,16 @@ module _ (roads : RoadMap) (is : List Item) (b : Batch) (bounds : DistanceBounds
     count = e.count;
     nodes = λ v. ap (λ (vs : List ℕ). has vs v) e.nodes;
     lines = λ y. ap (λ (ys : List ℕ). has ys y) e.lines;
-    changed = e.changed;
     given =
         subst (λ (ks : List Item). AreGiven [] (map held_of ks)) (sym (e.paths is))
         (given_at_first (map_of roads) is h.register.made);
   }
 
-  pub begin_done : (w : Work) (n : ℕ) (r : Reply) → reply_of r ≡ replies.Paths [] →
-      Answered (of_parts roads is None w n) Begin (Ok r) (of_parts roads is (Some b) w n)
-  begin_done w n r empty =
+  pub begin_done : (w : Work) (r : Reply) → reply_of r ≡ replies.Paths [] →
+      Answered (of_parts roads is None w) Begin (Ok r) (of_parts roads is (Some b) w)
+  begin_done w r empty =
       let c : Content = content_on (map_of roads) is in
       let later : RegisterState = record { content = c; batch = Some (batch_of roads is b) } in
-      rw same_before (answered_uncounted (register_of c None w n) later Begin r
+      rw same_before (answered_uncounted (register_of c None w) later Begin r
       (in_states (record { content = c; batch = None }) (Keeps later Begin r)
       (refl, (state c (Some []), (refl, empty_batch), (refl, empty)))))

@@ -2,9 +2,8 @@
 pub use Rattle.olr_commands.proofs.HistoryLemmas.{SoundOutcome}
 pub use Rattle.olr_commands.proofs.NameLemmas.{not_named}
 pub use Rattle.olr_commands.proofs.StateLemmas.{changes_keep}
-pub use Rattle.olr_commands.specs.Counts.{Affects, By_line, By_name, By_node, SearchedFor, all_changed, all_lines}
-pub use Rattle.olr_commands.specs.Counts.{all_names, all_nodes, changed_by, lines_of_change, names_of_change}
-pub use Rattle.olr_commands.specs.Counts.{nodes_of_change}
+pub use Rattle.olr_commands.specs.Counts.{Affects, By_line, By_name, By_node, all_lines, all_names, all_nodes}
+pub use Rattle.olr_commands.specs.Counts.{lines_of_change, names_of_change, nodes_of_change}
 pub use Rattle.olr_commands.specs.Dump.{dump_lines, line_change, node_change, path_change}
 pub use Rattle.olr_commands.specs.RecordText.{record_line}
 pub use Rattle.olr_commands.specs.Recordable.{is_name, is_recordable_map}
@@ -36,8 +35,7 @@ pub use Rattle.olr_map.specs.declared.road_map.RoadMap.{RoadMap}
 pub use Rattle.olr_near.specs.Bounds.{IsSource, IsUnderWay}
 pub use Rattle.olr_near.specs.declared.distance_bounds.DistanceBounds.{DistanceBounds}
 pub use Rattle.olr_paths.proofs.Following.{follows_self}
-pub use Rattle.olr_paths.specs.Changes.{AreCounted, Follows, SearchedAlone, Totals}
-pub use Rattle.olr_refs.specs.Choice.{AreSearched}
+pub use Rattle.olr_paths.specs.Changes.{Follows}
 pub use Rattle.olr_paths.specs.Reencoded.{IsRenewal}
 pub use Rattle.olr_register.specs.Answered.{Answered}
 pub use Rattle.olr_register.specs.Recordables.{is_recordable_line_at, is_recordable_node_at}

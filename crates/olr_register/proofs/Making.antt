@@ -1,9 +1,9 @@
 -- What a change makes of an open batch, by the changed part.
 use Rattle.olr_register.proofs.Common.{◌≡◌, ℕ, List, [], ◌++◌, map, Ok, Err, refl, sym, ap, ◌∙◌, subst, ◌||◌}
 use Rattle.olr_register.proofs.Common.{or-false, Map, Edit, edited, touched_nodes, touched_lines, has, HasCoord}
-use Rattle.olr_register.proofs.Common.{ChangedLine, changes_of, CoverageQuery, map_of, map_before, RoadMap, IsContent}
+use Rattle.olr_register.proofs.Common.{changes_of, CoverageQuery, map_of, map_before, RoadMap, IsContent}
 use Rattle.olr_register.proofs.Common.{Change, On_map, Make, HasCoords, with_map, with_change, nodes_of_change}
-use Rattle.olr_register.proofs.Common.{lines_of_change, changed_by, names_of_change, command_fault_of, CommandFault}
+use Rattle.olr_register.proofs.Common.{lines_of_change, names_of_change, command_fault_of, CommandFault}
 use Rattle.olr_register.proofs.Common.{changes_keep, Item, AreEncodingsIfAny, Follows, Begins, under_overlay, nodes_of}
 use Rattle.olr_register.proofs.Common.{lines_of, changed_of, ChangeSet, content_on, content_under, AreEditsNoted}
 use Rattle.olr_register.proofs.Common.{held_of, IsHeld, AreGiven, MayReport, Batch, Result, IsErrAnd, append-nil, or_right, slot_of, KeepsSlots, IsUnderWay}
@@ -38,7 +38,6 @@ unmade old new is b log l t x (Err g) f failed undo before same list nodes lines
     count = b.count;
     nodes = nodes i;
     lines = lines i;
-    changed = changed i;
   };
   held = λ h. record {
     undo = undo h;
@@ -64,14 +63,14 @@ module _ (roads : RoadMap) (is : List Item) (b : Batch) (l : Overlay) (x : Chang
 
   pub path_made : (ls : List Item) → under_overlay is l ≡ ls →
       with_change (content_under roads is b) x ≡ Ok (content_on (map_of roads) ls) → HasCoords (Make x) →
-      nodes_of_change (map_of roads) x ≡ [] → lines_of_change x ≡ [] → changed_by (map_of roads) x ≡ [] →
+      nodes_of_change (map_of roads) x ≡ [] → lines_of_change x ≡ [] →
       ((names : List (List ℕ)) → AreGiven names (map held_of (under_overlay is b.overlay)) →
       AreGiven (names ++ names_of_change x) (map held_of ls)) →
       ((M : Map) → AreEncodingsIfAny M (under_overlay is b.overlay) → AreEncodingsIfAny M ls) →
       (Follows is (under_overlay is b.overlay) → Follows is ls) →
       ((v : CoverageQuery) → Begins ls v → Begins (under_overlay is b.overlay) v) →
       Makes roads roads is b (record b { overlay = l }) x (Ok tt)
-  path_made ls same ok placed nodes lines changed given made follows begins = record {
+  path_made ls same ok placed nodes lines given made follows begins = record {
     count = refl;
     before = refl;
     made = subst (λ (js : List Item). IsMade roads roads (under_overlay is b.overlay) js b.touched b.touched x) (sym same)
@@ -79,7 +78,6 @@ module _ (roads : RoadMap) (is : List Item) (b : Batch) (l : Overlay) (x : Chang
           content = ok;
           nodes = λ v. sym (ap (λ (vs : List ℕ). has (nodes_of b.touched) v || has vs v) nodes ∙ or-false _);
           lines = λ y. sym (ap (λ (ys : List ℕ). has (lines_of b.touched) y || has ys y) lines ∙ or-false _);
-          changed = sym (ap (λ (cs : List ChangedLine). changed_of b.touched ++ cs) changed ∙ append-nil _);
           given = given;
         });
     refused = tt;
@@ -118,7 +116,6 @@ module _ (old new : RoadMap) (is : List Item) (b : Batch) (log : UndoLog) (t : C
           content = content;
           nodes = nodes;
           lines = lines;
-          changed = changed;
           given = λ names g. subst (λ (ns : List (List ℕ)). AreGiven ns (map held_of (under_overlay is b.overlay)))
               (sym (append-nil names)) g;
         };

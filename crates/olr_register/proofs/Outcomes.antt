@@ -1,18 +1,17 @@
 -- What it takes to answer a command: one that is accepted, one that raises no count, and one that is rejected; and which
 -- reference a text encodes, or why it encodes none.
-use Rattle.olr_register.proofs.Common.{arith, ◌≡◌, ℕ, true, List, [], Option, Some, None, is_some, Ok, Err, refl, sym}
+use Rattle.olr_register.proofs.Common.{◌≡◌, ℕ, true, List, [], Option, Some, None, is_some, Ok, Err, refl, sym}
 use Rattle.olr_register.proofs.Common.{subst, IsFalse, IsErrAnd, Content, Change, Command, State, changes_made}
 use Rattle.olr_register.proofs.Common.{text_fault, IsOutcome, IsRefusal, ByState, may_want, reply_of, command_fault_of}
-use Rattle.olr_register.proofs.Common.{Reply, CommandFault, Totals, AreSearched, AreCounted, RegisterState, Represents}
+use Rattle.olr_register.proofs.Common.{Reply, CommandFault, RegisterState, Represents, Affects}
 use Rattle.olr_register.proofs.Common.{Registered, Answered, encodes, ap, ◌∙◌, option_map, result_ok, Result}
 use Rattle.olr_commands.specs.State.{changes_made_in, unless_fault, Not_a_reference, bytes_fault}
 use Rattle.olr_commands.specs.Reply.{Lacks}
-use Rattle.olr_commands.proofs.SearchLemmas.{unconcerned}
-use Rattle.olr_register.specs.CountChanges.{SameCounts}
+use Rattle.olr_commands.proofs.CountLemmas.{unconcerned}
+use Rattle.olr_commands.specs.Counts.{CountIs}
 use Rattle.olr_register.proofs.States.{state, register_of, InStates, in_states}
 use Rattle.olr_search.specs.declared.work.Work.{Work}
-use Rattle.olr_paths.proofs.RenewedPrefix.{counted_none, no_totals}
-use Rattle.olr_register.proofs.Counting.{AreRises, none_affected}
+use Rattle.olr_register.proofs.Counting.{Rise, none_affected, rise_none}
 use Rattle.base64.specs.Engines.{standard}
 use Rattle.base64.specs.GeneralPurpose.{decode_of, decoded_of}
 use Rattle.base64.specs.declared.decode.DecodeError.{DecodeError}
@@ -31,38 +30,26 @@ use Rattle.olr_commands.specs.State as state
 use Rattle.olr_commands.specs.Reply as returned
 use Rattle.olr_spec.specs.Bytes as spec
 
--- an accepted command, which raises the counts by these totals
-abbrev pub Accepts : Registered → Command → Reply → Totals → State → Type 0
-Accepts new c r u s =
+-- an accepted command, which raises the count of encodings by n
+abbrev pub Accepts : Registered → Command → Reply → ℕ → State → Type 0
+Accepts new c r n s =
     ((t : State) × Represents new.kept t × IsOutcome s c (Ok (reply_of r)) t)
-    × AreRises s.content new.kept.content (changes_made s c) new.kept.content.paths u
+    × CountIs (Affects s.content (changes_made s c)) new.kept.content.paths n
 
-pub answered_counted : (old new : Registered) (c : Command) (r : Reply) (u : Totals) →
-    ((s : State) → Represents old.kept s → Accepts new c r u s) →
-    AreCounted new.kept.content.map u old.work new.work old.retained new.retained →
-    (IsFalse (encodes (is_some old.kept.batch) c) → SameCounts old new) → Answered old c (Ok r) new
-answered_counted old new c r u accepts counts same = record {
+pub answered_counted : (old new : Registered) (c : Command) (r : Reply) (n : ℕ) →
+    ((s : State) → Represents old.kept s → Accepts new c r n s) → Rise old.work new.work n →
+    (IsFalse (encodes (is_some old.kept.batch) c) → new.work ≡ old.work) → Answered old c (Ok r) new
+answered_counted old new c r n accepts rise same = record {
   outcome = λ s h. (accepts s h).0;
-  counted = λ s t h k. (u.affected, (at s t h k).affected, counts.encodings);
-  retains = λ s t h k. (u.retained, (at s t h k).retained, counts.retained);
-  searches = λ s t h k. (
-    u.queries,
-    (at s t h k).queries,
-    subst (λ (e : Content). AreSearched e.map u.queries old.work new.work) k.0 counts.searched,
+  counted = λ s t h k. (
+    n,
+    subst (λ (d : Content). CountIs (Affects s.content (changes_made s c)) d.paths n) k.0 (accepts s h).1,
+    rise.encodings,
   );
-  rises = record {
-    encodings = omega (arith, counts.encodings);
-    searches = omega (arith, counts.searched.searches);
-    settled = omega (arith, counts.searched.settled.2);
-    retained = omega (arith, counts.retained);
-  };
+  rises = rise.rises;
   same = same;
   unchanged = tt;
 }
-  where
-    at : (s t : State) → Represents old.kept s → Represents new.kept t →
-        AreRises s.content t.content (changes_made s c) t.content.paths u
-    at s t h k = subst (λ (e : Content). AreRises s.content e (changes_made s c) e.paths u) k.0 (accepts s h).1
 
 -- one that applies no change
 abbrev pub Keeps : RegisterState → Command → Reply → State → Type 0
@@ -70,14 +57,14 @@ Keeps k c r s = (changes_made s c ≡ []) × ((t : State) × Represents k t × I
 
 pub answered_uncounted : (old : Registered) (k : RegisterState) (c : Command) (r : Reply) →
     ((s : State) → Represents old.kept s → Keeps k c r s) →
-    Answered old c (Ok r) (record { kept = k; work = old.work; retained = old.retained })
+    Answered old c (Ok r) (record { kept = k; work = old.work })
 answered_uncounted old k c r keeps =
-    answered_counted old (record { kept = k; work = old.work; retained = old.retained }) c r no_totals (λ s h. (
+    answered_counted old (record { kept = k; work = old.work }) c r 0 (λ s h. (
       (keeps s h).1,
-      subst (λ (xs : List Change). AreRises s.content k.content xs k.content.paths no_totals) (sym (keeps s h).0)
-          (none_affected s.content k.content [] (unconcerned s.content) k.content.paths),
+      subst (λ (xs : List Change). CountIs (Affects s.content xs) k.content.paths 0) (sym (keeps s h).0)
+          (none_affected s.content [] (unconcerned s.content) k.content.paths),
     ))
-    (counted_none k.content.map old.work old.retained) (λ off. (refl, refl))
+    (rise_none old.work) (λ off. refl)
 
 -- the register is unchanged
 pub answered_refused : (old new : Registered) (c : Command) (r : Result Reply CommandFault) (f : CommandFault) →
@@ -93,20 +80,18 @@ answered_refused old new c (Err g) f same is h =
         (in_states old.kept (λ s. IsRefusal s c (command_fault_of g)) (rw is h) s represents, refl),
       );
       counted = tt;
-      retains = tt;
-      searches = tt;
       rises = tt;
       same = tt;
       unchanged = refl;
     })
 
 -- a question that is answered only if no batch is open: it changes nothing
-pub answered_shut : (c : Content) (w : Work) (n : ℕ) (q : Command) (r : Reply) → changes_made_in None q ≡ [] →
+pub answered_shut : (c : Content) (w : Work) (q : Command) (r : Reply) → changes_made_in None q ≡ [] →
     IsOutcome (state c None) q (Ok (reply_of r)) (state c None) →
-    Answered (register_of c None w n) q (Ok r) (register_of c None w n)
-answered_shut c w n q r none outcome =
+    Answered (register_of c None w) q (Ok r) (register_of c None w)
+answered_shut c w q r none outcome =
     let k : RegisterState = record { content = c; batch = None } in
-    answered_uncounted (register_of c None w n) k q r
+    answered_uncounted (register_of c None w) k q r
     (in_states k (Keeps k q r) (none, (state c None, (refl, tt), outcome)))
 
 -- ---- questions: with a batch open or not, they change nothing

@@ -8,22 +8,21 @@ use Rattle.olr_register.proofs.Common.{Drop_path, with_map, with_change, at_once
 use Rattle.olr_register.proofs.Common.{IsRefusal, takes_memory, may_want, Affects, By_name, By_node, By_line}
 use Rattle.olr_register.proofs.Common.{all_nodes, all_lines, all_names, reply_of}
 use Rattle.olr_register.proofs.Common.{command_fault_of, Reply, CommandFault, changes_keep, DistanceBounds, Made}
-use Rattle.olr_register.proofs.Common.{Item, IsEncodingOf, AreEncodings, all_named, answer_in, Totals, SearchedAlone}
-use Rattle.olr_register.proofs.Common.{AreCounted, set_item, IsRenewal, nodes_of, lines_of, changed_of}
+use Rattle.olr_register.proofs.Common.{Item, IsEncodingOf, AreEncodings, all_named, answer_in, arith}
+use Rattle.olr_register.proofs.Common.{set_item, IsRenewal, nodes_of, lines_of, changed_of}
 use Rattle.olr_register.proofs.Common.{ChangeSet, follows_self, has_name, Registered, content_on, items, kept_of}
 use Rattle.olr_register.proofs.Common.{HasBounds, IsKeptRight, CanRenewAfter, MayReport, ByContent, Lacks, Answered}
 use Rattle.olr_register.proofs.Common.{IsNotedOf, encodes, begins_drop, append-nil, Option}
 use Rattle.olr_register.specs.Contents.{option_batch}
-use Rattle.olr_search.specs.Counts.{raised_count, raised_work}
+use Rattle.olr_search.specs.Counts.{raised_work}
 use Rattle.olr_paths.specs.Reencoded.{entries_of}
 use Rattle.olr_paths.specs.declared.renewal.Renewed.{Renewed}
 use Rattle.olr_commands.specs.State.{IsState}
 use Rattle.olr_commands.specs.Reply.{IsPaths}
-use Rattle.olr_commands.specs.Counts.{Raises}
-use Rattle.olr_commands.proofs.SearchLemmas.{paths_raise, raises_none, searches_one, added_path, replaced_path}
+use Rattle.olr_commands.specs.Counts.{CountIs, Raises}
+use Rattle.olr_commands.proofs.CountLemmas.{paths_raise}
 use Rattle.olr_register.proofs.Changing.{add_ok, set_ok, drop_ok}
-use Rattle.olr_register.proofs.Counting.{AreRises, counted_changes, counted_on, none_affected}
-use Rattle.olr_paths.proofs.RenewedPrefix.{counted_encoded, counted_none, no_totals}
+use Rattle.olr_register.proofs.Counting.{Rise, counted_changes, none_affected, rise_none, rise_on}
 use Rattle.olr_register.proofs.Listed.{given_at_first, each_left, each_add, each_set, each_encoded}
 use Rattle.olr_register.proofs.Noted.{noted_edit, is_before}
 use Rattle.olr_register.proofs.Outcomes.{answered_counted, answered_refused, Accepts}
@@ -53,7 +52,7 @@ drop_affects c name p (By_node v h f) = absurd cc
 drop_affects c name p (By_line x h f) = absurd cc
 
 -- a register with no batch open
-module _ (r : Inside) {x : Registered} (view : of_parts r.roads (items r.paths) r.batch r.work r.retained ≡ x)
+module _ (r : Inside) {x : Registered} (view : of_parts r.roads (items r.paths) r.batch r.work ≡ x)
     (none : x.kept.batch ≡ None) where
   abbrev M : Map
   M = map_of r.roads
@@ -71,25 +70,24 @@ module _ (r : Inside) {x : Registered} (view : of_parts r.roads (items r.paths) 
     by (Some b) h = absurd cc
 
   -- with another map that is the same
-  pub same_map : (later : RoadMap) → map_of later ≡ M → of_parts later is r.batch r.work r.retained ≡ x
+  pub same_map : (later : RoadMap) → map_of later ≡ M → of_parts later is r.batch r.work ≡ x
   same_map later map = rw (← view, shut, map) refl
 
   pub refused_now : (y : Change) (new : Registered) (q : Result Reply CommandFault) (f : CommandFault) → new ≡ x →
       IsErrAnd q (λ g. g ≡ f) → IsRefusal (state c None) (Make y) (command_fault_of f) → Answered x (Make y) q new
   refused_now y new q f same failed why = answered_refused x new (Make y) q f same failed (rw (← view, shut) why)
 
-  accepted_now : (y : Change) (later : RoadMap) (js : List Item) (v : Work) (m : ℕ) (q : Reply) (u : Totals) →
+  accepted_now : (y : Change) (later : RoadMap) (js : List Item) (v : Work) (q : Reply) (n : ℕ) →
       with_change c y ≡ Ok (content_on (map_of later) js) →
       IsPaths (reply_of q) (Differences c (content_on (map_of later) js)) →
-      AreRises c (content_on (map_of later) js) (y ∷ []) (all_named js) u → AreCounted (map_of later) u r.work v r.retained m →
-      (IsFalse (encodes false (Make y)) → (v ≡ r.work) × (m ≡ r.retained)) →
-      Answered x (Make y) (Ok q) (of_parts later js r.batch v m)
-  accepted_now y later js v m q u is_made reply raised counts same =
-      let new : Registered = of_parts later js None v m in
-      rw (← view, shut) (answered_counted (of_parts r.roads is None r.work r.retained) new (Make y) q u
-      (in_states (kept_of r.roads is None) (Accepts new (Make y) q u)
+      CountIs (Affects c (y ∷ [])) (all_named js) n → Rise r.work v n →
+      (IsFalse (encodes false (Make y)) → v ≡ r.work) → Answered x (Make y) (Ok q) (of_parts later js r.batch v)
+  accepted_now y later js v q n is_made reply raised rise same =
+      let new : Registered = of_parts later js None v in
+      rw (← view, shut) (answered_counted (of_parts r.roads is None r.work) new (Make y) q n
+      (in_states (kept_of r.roads is None) (Accepts new (Make y) q n)
       ((state (content_on (map_of later) js) None, (refl, tt), (ap at_once is_made, reply)), raised))
-      counts same)
+      rise same)
 
   module _ (h : IsKeptRight r.roads is r.batch r.bounds) where
     right : IsKeptRight r.roads is None r.bounds
@@ -141,11 +139,10 @@ module _ (r : Inside) {x : Registered} (view : of_parts r.roads (items r.paths) 
       bare_right f placed bare bounded = rw bare (still_right (On_map e) later [] f placed (bare_ok bare) tt bounded)
 
       pub bare_done : (q : Reply) → is ≡ [] → reply_of q ≡ replies.Paths [] →
-          Answered x (Make (On_map e)) (Ok q) (of_parts later is r.batch r.work r.retained)
+          Answered x (Make (On_map e)) (Ok q) (of_parts later is r.batch r.work)
       bare_done q bare says =
-          subst (λ (ks : List Item). Answered x (Make (On_map e)) (Ok q) (of_parts later ks r.batch r.work r.retained)) (sym bare)
-          (accepted_now (On_map e) later [] r.work r.retained q no_totals (bare_ok bare) (rw says refl)
-          (record { affected = refl; retained = refl; queries = refl }) (counted_none (map_of later) r.work r.retained)
+          subst (λ (ks : List Item). Answered x (Make (On_map e)) (Ok q) (of_parts later ks r.batch r.work)) (sym bare)
+          (accepted_now (On_map e) later [] r.work q 0 (bare_ok bare) (rw says refl) refl (rise_none r.work)
           (λ off. let no : true ≡ false = off in absurd cc))
 
       module _ (t : ChangeSet) (noted : IsNotedOf M e t) (js : List Item) (n : Renewed)
@@ -160,19 +157,17 @@ module _ (r : Inside) {x : Registered} (view : of_parts r.roads (items r.paths) 
             still_right (On_map e) later js f placed edit_ok (remade_made (map_of later) is js renewal.remade) bounded
 
         pub edit_done : (q : Reply) → reply_of q ≡ replies.Paths (entries_of n) →
-            Answered x (Make (On_map e)) (Ok q) (of_parts later js r.batch (raised_work r.work n.work)
-            (raised_count r.retained n.retained))
+            Answered x (Make (On_map e)) (Ok q) (of_parts later js r.batch (raised_work r.work n.work))
         edit_done q says =
             let count = renewal.counted M (can_edit e t noted (map_of later) done).before in
-            accepted_now (On_map e) later js _ _ q count.0 edit_ok
+            accepted_now (On_map e) later js _ q count.0 edit_ok
             (rw says (planned_changes M (map_of later) is js (entries_of n) right.register.content
             right.register.made (remade_made (map_of later) is js renewal.remade) renewal.reported))
-            (counted_changes c (content_on (map_of later) js) (On_map e ∷ []) (nodes_of t) (lines_of t) (changed_of t)
+            (counted_changes c (On_map e ∷ []) (nodes_of t) (lines_of t)
             (λ v. noted.nodes v ∙ ap (λ (vs : List ℕ). has vs v) (sym (append-nil (touched_nodes M e))))
-            (λ y. noted.lines y ∙ ap (λ (ys : List ℕ). has ys y) (sym (append-nil (touched_lines e))))
-            (noted.changed ∙ sym (append-nil (changes_of M e))) is count.0 count.1
+            (λ y. noted.lines y ∙ ap (λ (ys : List ℕ). has ys y) (sym (append-nil (touched_lines e)))) is count.0 count.1
             (given_at_first M is right.register.made) (all_named js) renewal.named)
-            (counted_on (map_of later) count.0 r.work n.work r.retained n.retained count.2)
+            (rise_on r.work n.work count.0 count.2)
             (λ off. let no : true ≡ false = off in absurd cc)
 
     -- ---- paths
@@ -190,12 +185,12 @@ module _ (r : Inside) {x : Registered} (view : of_parts r.roads (items r.paths) 
           }))
 
       pub drop_done : (q : Reply) → has_name is name ≡ true → js ≡ left → reply_of q ≡ replies.Paths [] →
-          Answered x (Make (Drop_path name)) (Ok q) (of_parts r.roads js r.batch r.work r.retained)
+          Answered x (Make (Drop_path name)) (Ok q) (of_parts r.roads js r.batch r.work)
       drop_done q there list says =
-          rw list (accepted_now (Drop_path name) r.roads left r.work r.retained q no_totals (drop_ok M is name there)
+          rw list (accepted_now (Drop_path name) r.roads left r.work q 0 (drop_ok M is name there)
           (rw says (reported_drop M is name right.register.content right.register.made))
-          (none_affected c (content_on M left) (Drop_path name ∷ []) (drop_affects c name) (all_named left))
-          (counted_none M r.work r.retained) (λ off. (refl, refl)))
+          (none_affected c (Drop_path name ∷ []) (drop_affects c name) (all_named left)) (rise_none r.work)
+          (λ off. refl))
 
       module _ (path : Path) (m : Made) (good : is_path path.lines ≡ true) (encoded : IsEncodingOf M path m)
         where
@@ -219,7 +214,7 @@ module _ (r : Inside) {x : Registered} (view : of_parts r.roads (items r.paths) 
               (λ i e. (m, refl, encoded)) (λ i e p. p) is right.register.made)) bounded
 
           module _ (w : Work) (q : Reply) (es : List replies.Entry) (says : reply_of q ≡ replies.Paths es)
-              (one : w.encodings ≡ 1) (searches : SearchedAlone M path w) where
+              (one : w.encodings ≡ 1) where
             abbrev v : Work
             v = raised_work r.work w
 
@@ -227,41 +222,27 @@ module _ (r : Inside) {x : Registered} (view : of_parts r.roads (items r.paths) 
             before = record { content = right.register.content; batch = tt }
 
             -- a path that is added or set is encoded, and no other
-            path_done : (y : Change) (ks : List Item) → js ≡ ks →
-                with_change c y ≡ Ok (content_on M ks) → HasCoords (Make y) → all_nodes c (y ∷ []) ≡ [] →
-                all_lines (y ∷ []) ≡ [] → all_names (y ∷ []) ≡ name ∷ [] → path_named (all_named ks) name ≡ Some path →
+            path_done : (y : Change) (ks : List Item) → js ≡ ks → with_change c y ≡ Ok (content_on M ks) →
                 Raises (state c None) (Make y) (state (content_on M ks) None) 1 →
                 Differences c (content_on M ks) es → encodes false (Make y) ≡ true →
-                Answered x (Make y) (Ok q) (of_parts r.roads js r.batch v r.retained)
-            path_done y ks list ok placed nodes lines names there raised differ counted =
-                let d : Content = content_on M ks in
-                rw list (accepted_now y r.roads ks v r.retained q (record { affected = 1; retained = 0; queries = searches.queries }) ok
-                (rw says differ) (record {
-                  affected = raised;
-                  retained = raises_none (state c None) (state d None) y name path before refl nodes lines names;
-                  queries = searches_one (state c None) (state d None) y name path before refl nodes lines names
-                      searches.queries (changes_keep c d y right.register.content placed ok).names there searches.those;
-                })
-                (counted_encoded M searches.queries r.work w r.retained one searches.counts)
+                Answered x (Make y) (Ok q) (of_parts r.roads js r.batch v)
+            path_done y ks list ok raised differ counted =
+                rw list (accepted_now y r.roads ks v q 1 ok (rw says differ) raised (rise_on r.work w 1 (omega (arith, one)))
                 (λ off. let no : true ≡ false = sym counted ∙ off in absurd cc))
 
             pub add_done : has_name is name ≡ false → js ≡ added → es ≡ entry name m.answer ∷ [] →
-                Answered x (Make (Add_path name path)) (Ok q) (of_parts r.roads js r.batch v r.retained)
+                Answered x (Make (Add_path name path)) (Ok q) (of_parts r.roads js r.batch v)
             add_done free list listed =
-                let d : Content = content_on M added in
                 let ok = add_ok M is name path (Some m) free good in
-                path_done (Add_path name path) added list ok tt refl refl refl
-                (added_path (state c None) (state d None) name path refl (ap at_once ok))
-                ((paths_raise (state c None) (state d None) name path before refl).0 (ap at_once ok))
+                path_done (Add_path name path) added list ok
+                ((paths_raise (state c None) (state (content_on M added) None) name path before refl).0 (ap at_once ok))
                 (reported_add M is name path m es right.register.content right.register.made free encoded listed) refl
 
             pub set_done : has_name is name ≡ true → js ≡ replaced → ((answer_in is name ≡ Some m.answer) × (es ≡ []))
                 ⊎ ((answer_in is name ≢ Some m.answer) × (es ≡ entry name m.answer ∷ [])) →
-                Answered x (Make (Set_path name path)) (Ok q) (of_parts r.roads js r.batch v r.retained)
+                Answered x (Make (Set_path name path)) (Ok q) (of_parts r.roads js r.batch v)
             set_done there list listed =
-                let d : Content = content_on M replaced in
                 let ok = set_ok M is name path (Some m) there good in
-                path_done (Set_path name path) replaced list ok tt refl refl refl
-                (replaced_path (state c None) (state d None) name path refl (ap at_once ok))
-                ((paths_raise (state c None) (state d None) name path before refl).1 (ap at_once ok))
+                path_done (Set_path name path) replaced list ok
+                ((paths_raise (state c None) (state (content_on M replaced) None) name path before refl).1 (ap at_once ok))
                 (reported_set M is name path m es right.register.content right.register.made there encoded listed) refl

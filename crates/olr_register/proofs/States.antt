@@ -1,5 +1,5 @@
 -- The states that a register represents, with a batch open or not.
-use Rattle.olr_register.proofs.Common.{◌≡◌, ℕ, List, Option, Some, None, sym, subst, IfSome, Map, RoadMap, Work}
+use Rattle.olr_register.proofs.Common.{◌≡◌, List, Option, Some, None, sym, subst, IfSome, Map, RoadMap, Work}
 use Rattle.olr_register.proofs.Common.{Content, IsContent, Change, State, Item, AreEncodings}
 use Rattle.olr_register.proofs.Common.{RegisterState, IsBatchOf, Represents, Registered, content_on, map_kept, kept_of}
 use Rattle.olr_register.proofs.Common.{IsHeld, IsKeptRight, IsRegister, items}
@@ -10,12 +10,12 @@ use Rattle.olr_register.specs.declared.register.Register.TheInside.{Inside}
 abbrev pub state : Content → Option (List Change) → State
 state c o = record { content = c; batch = o }
 
-abbrev pub register_of : Content → Option Batch → Work → ℕ → Registered
-register_of c o w n = record { kept = record { content = c; batch = o }; work = w; retained = n }
+abbrev pub register_of : Content → Option Batch → Work → Registered
+register_of c o w = record { kept = record { content = c; batch = o }; work = w }
 
 -- by the fields of the struct
-abbrev pub of_parts : RoadMap → List Item → Option Open → Work → ℕ → Registered
-of_parts roads is b w n = record { kept = kept_of roads is b; work = w; retained = n }
+abbrev pub of_parts : RoadMap → List Item → Option Open → Work → Registered
+of_parts roads is b w = record { kept = kept_of roads is b; work = w }
 
 -- what is true of a register, on the same map and list with another batch
 pub register_moved : (old new : RoadMap) (is : List Item) (o p : Option Open) → map_kept new p ≡ map_kept old o →

@@ -11,7 +11,7 @@ use Rattle.olr_register.proofs.States.{state, of_parts}
 
 module _ (r : Inside) (q : Command) where
   abbrev with_batch : Option Open → Registered
-  with_batch o = of_parts r.roads (items r.paths) o r.work r.retained
+  with_batch o = of_parts r.roads (items r.paths) o r.work
 
   pub open_refused : (f : CommandFault) → is_some r.batch ≡ true →
       ((d : Content) (xs : List Change) → step (state d (Some xs)) q ≡ Err (command_fault_of f)) →
@@ -36,4 +36,4 @@ module _ (r : Inside) (q : Command) where
         IsOutcome (state c None) q (Ok (reply_of a)) (state c None) →
         Answered (with_batch r.batch) q (Ok a) (with_batch r.batch)
     shut_answered a none outcome =
-        rw (none_of r.batch shut) (answered_shut c r.work r.retained q a none outcome)
+        rw (none_of r.batch shut) (answered_shut c r.work q a none outcome)

@@ -7,14 +7,12 @@ use Rattle.olr_commands.specs.Words.{outcome_of}
 use Rattle.olr_commands.specs.declared.reply.Reply.{Reply}
 use Rattle.olr_commands.specs.declared.fault.CommandFault.{CommandFault}
 use Rattle.olr_register.specs.Registered.{Registered, Applied, Counted}
-use Rattle.olr_register.specs.CountChanges.{encodes, RetainsCounted, SearchesCounted, NoneFalls, SameCounts}
+use Rattle.olr_register.specs.CountChanges.{encodes, NoneFalls}
 
 pub record Answered (old : Registered) (c : Command) (result : Result Reply CommandFault) (new : Registered) : Type
     0 where
   pub outcome : Applied old c (outcome_of result) new
   pub counted : OnOk result (Counted old c new)
-  pub retains : OnOk result (RetainsCounted old c new)
-  pub searches : OnOk result (SearchesCounted old c new)
-  pub rises : OnOk result (NoneFalls old new)
-  pub same : OnOk result (IsFalse (encodes (is_some old.kept.batch) c) → SameCounts old new)
+  pub rises : OnOk result (NoneFalls old.work new.work)
+  pub same : OnOk result (IsFalse (encodes (is_some old.kept.batch) c) → new.work ≡ old.work)
   pub unchanged : OnErr result (new ≡ old)

@@ -21,13 +21,13 @@ use Rattle.olr_commands.specs.State as state
 use Rattle.olr_commands.specs.State.{Content, Fault, Memory, Batch_full, full, when, with_change, same_name}
 use Rattle.olr_commands.specs.Reply.{is_reported_first}
 use Rattle.olr_commands.specs.Reply as replies
-use Rattle.olr_commands.specs.Counts.{nodes_of_change, lines_of_change, changed_by, names_of_change}
+use Rattle.olr_commands.specs.Counts.{nodes_of_change, lines_of_change, names_of_change}
 use Rattle.olr_commands.specs.Words.{command_fault_of, reply_of, path_along}
 use Rattle.olr_commands.specs.declared.reply.Reply.{Reply}
 use Rattle.olr_commands.specs.declared.fault.CommandFault.{CommandFault}
 use Rattle.olr_list.specs.Items.{Item}
 use Rattle.olr_list.specs.Overlaid.{under_overlay}
-use Rattle.olr_list.specs.ChangeSets.{nodes_of, lines_of, changed_of}
+use Rattle.olr_list.specs.ChangeSets.{nodes_of, lines_of}
 use Rattle.olr_list.specs.declared.change_set.ChangeSet.{ChangeSet}
 use Rattle.olr_register.specs.RegisterState.{Held}
 use Rattle.olr_register.specs.Contents.{held_of, content_on, content_under, batch_of, IsHeld}
@@ -57,7 +57,6 @@ pub record IsMade (old new : RoadMap) (ks ls : List Item) (s t : ChangeSet) (x :
   pub content : with_change (content_on (map_of old) ks) x ≡ Ok (content_on (map_of new) ls)
   pub nodes : (v : ℕ) → has (nodes_of t) v ≡ (has (nodes_of s) v || has (nodes_of_change (map_of old) x) v)
   pub lines : (y : ℕ) → has (lines_of t) y ≡ (has (lines_of s) y || has (lines_of_change x) y)
-  pub changed : changed_of t ≡ changed_of s ++ changed_by (map_of old) x
   pub given : (names : List (List ℕ)) → AreGiven names (map held_of ks) →
       AreGiven (names ++ names_of_change x) (map held_of ls)
 

@@ -48,7 +48,6 @@ batch_as roads ls count touched =
       count = count;
       nodes = nodes_of touched;
       lines = lines_of touched;
-      changed = changed_of touched;
     }
 
 abbrev pub batch_of : RoadMap → List Item → Batch → kept.Batch

@@ -11,8 +11,7 @@ use Rattle.olr_spec.specs.Extension.{Path}
 use Rattle.olr_spec.specs.Codes.{coded_map}
 use Rattle.olr_answers.specs.Coded.{coded_path}
 use Rattle.olr_commands.specs.State.{Named, Content, same_name, Change, after, State}
-use Rattle.olr_spec.specs.Detours.{ChangedLine}
-use Rattle.olr_commands.specs.Counts.{all_nodes, all_lines, all_changed, all_names}
+use Rattle.olr_commands.specs.Counts.{all_nodes, all_lines, all_names}
 
 -- a path of a batch's list, and whether the batch added or replaced it
 pub record Held : Type 0 where
@@ -20,15 +19,13 @@ pub record Held : Type 0 where
   pub path : Path
   pub given : Bool
 
--- the map and the paths after the batch's changes, the number of changes, the nodes and lines that they touch, and the
--- lines that they change, in order
+-- the map and the paths after the batch's changes, the number of changes, and the nodes and lines that they touch
 pub record Batch : Type 0 where
   pub map : Map
   pub paths : List Held
   pub count : ℕ
   pub nodes : List ℕ
   pub lines : List ℕ
-  pub changed : List ChangedLine
 
 pub record RegisterState : Type 0 where
   pub content : Content
@@ -45,7 +42,6 @@ pub record IsBatchOf (c : Content) (b : Batch) (xs : List Change) : Type 0 where
   pub count : b.count ≡ length xs
   pub nodes : (v : ℕ) → has b.nodes v ≡ has (all_nodes c xs) v
   pub lines : (x : ℕ) → has b.lines x ≡ has (all_lines xs) x
-  pub changed : b.changed ≡ all_changed c xs
   pub given : AllByRecursion (λ h. h.given ≡ list_any (same_name h.name) (all_names xs)) b.paths
 
 abbrev pub RepresentsBatch : Content → Option Batch → Option (List Change) → Type 0
@@ -74,25 +70,12 @@ coded_held =
     code_by (List ℕ × (Path × Bool)) (coded× (coded_list coded_ℕ) (coded× coded_path coded_bool))
     (λ h. (h.name, (h.path, h.given))) (λ t. record { name = t.0; path = t.1.0; given = t.1.1 }) (λ _. refl)
 
-abbrev pub coded_changed_line : Coded ChangedLine
-coded_changed_line =
-    code_by (ℕ × (ℕ × ℕ)) (coded× coded_ℕ (coded× coded_ℕ coded_ℕ)) (λ c. (c.from, (c.to, c.len)))
-    (λ t. record { from = t.0; to = t.1.0; len = t.1.1 }) (λ _. refl)
-
 abbrev pub coded_batch : Coded Batch
 coded_batch =
-    code_by (Map × (List Held × (ℕ × (List ℕ × (List ℕ × List ChangedLine)))))
-    (coded× coded_map (coded× (coded_list coded_held)
-    (coded× coded_ℕ (coded× (coded_list coded_ℕ) (coded× (coded_list coded_ℕ) (coded_list coded_changed_line))))))
-    (λ b. (b.map, (b.paths, (b.count, (b.nodes, (b.lines, b.changed))))))
-    (λ t. record {
-      map = t.0;
-      paths = t.1.0;
-      count = t.1.1.0;
-      nodes = t.1.1.1.0;
-      lines = t.1.1.1.1.0;
-      changed = t.1.1.1.1.1;
-    }) (λ _. refl)
+    code_by (Map × (List Held × (ℕ × (List ℕ × List ℕ))))
+    (coded× coded_map (coded× (coded_list coded_held) (coded× coded_ℕ (coded× (coded_list coded_ℕ) (coded_list coded_ℕ)))))
+    (λ b. (b.map, (b.paths, (b.count, (b.nodes, b.lines)))))
+    (λ t. record { map = t.0; paths = t.1.0; count = t.1.1.0; nodes = t.1.1.1.0; lines = t.1.1.1.1 }) (λ _. refl)
 
 abbrev pub coded_kept : Coded RegisterState
 coded_kept =

@@ -1,6 +1,5 @@
 -- A register as its callers see it, and what its calls promise of whole commands.
---     Registered      the state that it represents, and the counts: the work, and how many of the counted
---         encodings were retained
+--     Registered      the state that it represents, and the counts of its work
 --     PublishedWhole c name made      what is published under a name, with traversed nodes and coverage queries
 --     HaveEncodings M ps xs      the names of the paths in order, each with an encoding of the path on the map.
 --     AllPublished c xs      the same for all paths of a content
@@ -22,7 +21,6 @@ use Rattle.olr_register.specs.RegisterState.{RegisterState, Represents, coded_ke
 pub record Registered : Type 0 where
   pub kept : RegisterState
   pub work : Work
-  pub retained : ℕ
 
 abbrev pub coded_work : Coded Work
 coded_work =
@@ -31,9 +29,8 @@ coded_work =
 
 abbrev pub coded_registered : Coded Registered
 coded_registered =
-    code_by (RegisterState × (Work × ℕ)) (coded× coded_kept (coded× coded_work coded_ℕ))
-    (λ r. (r.kept, (r.work, r.retained)))
-    (λ t. record { kept = t.0; work = t.1.0; retained = t.1.1 }) (λ _. refl)
+    code_by (RegisterState × Work) (coded× coded_kept coded_work) (λ r. (r.kept, r.work))
+    (λ t. record { kept = t.0; work = t.1 }) (λ _. refl)
 
 -- no paths, an empty map, and counts of 0
 abbrev pub nothing_registered : Registered
@@ -41,7 +38,6 @@ nothing_registered =
     record {
       kept = record { content = no_content; batch = None };
       work = no_work;
-      retained = 0;
     }
 
 -- an encoding of the path on the map

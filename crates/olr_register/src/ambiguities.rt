@@ -6,7 +6,6 @@ ghost use Rattle.olr_ambiguity.specs.Grids.{IsGrid};
 ghost use Rattle.olr_map.specs.RoadMaps.{map_of};
 ghost use Rattle.olr_commands.specs.Ambiguities as spec;
 ghost use Rattle.olr_commands.specs.Ambiguities.{Ambiguities, Ambiguity, named};
-ghost use Rattle.olr_commands.specs.State.{ArePaths};
 ghost use Rattle.olr_commands.specs.Words.{named_obstacle_of};
 ghost use Rattle.olr_list.specs.Items.{AreEncodings, all_named, items, made_of};
 ghost use Rattle.olr_register.specs.Contents.{known_in};
@@ -88,7 +87,6 @@ fn all_ambiguities<M: MapRead>(
 ) -> Result<Vec<NamedObstacle>, AllocError>
     requires grid { IsGrid (M.map map.now) grid.now.nodes.items }
     requires made { AreEncodings (M.map map.now) (items paths.now) }
-    requires paths { ArePaths (all_named (items paths.now)) }
     ensures { IfOk result (λ all. Ambiguities (M.map map.now) (all_named (items paths.now))
         (list_map named_obstacle_of all.items)) }
 {

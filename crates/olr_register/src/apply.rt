@@ -19,7 +19,7 @@ impl Register {
     ghost use Rattle.olr_register.specs.BatchChanges.{change_of};
     ghost use Rattle.olr_register.specs.Registered.{Applied, Counted};
     ghost use Rattle.olr_register.specs.Answered.{Answered};
-    ghost use Rattle.olr_register.specs.CountChanges.{encodes, RetainsCounted, SearchesCounted, NoneFalls, SameCounts};
+    ghost use Rattle.olr_register.specs.CountChanges.{encodes, NoneFalls};
 
     /// Holds a change in the open batch, or makes it at once if none is open.
     #[inline(never)]
@@ -91,19 +91,16 @@ impl Register {
     /// answers, texts, counts and an open batch are unchanged. `Memory` is returned only if no fault takes precedence
     /// over it.
     ///
-    /// The counts say exactly how many paths are affected, how many of these retain their answer, and for which coverage
-    /// queries of the others searches are made: all those of a path that the command adds or replaces, and of other
-    /// paths those that are not known from the map before.
+    /// The count of encodings rises by exactly the number of paths that the command adds, replaces or affects. No count
+    /// falls.
     pub fn apply(&mut self, command: Command) -> Result<Reply, CommandFault>
         ensures outcome { Applied self.old (command_of command) (outcome_of result) self.new }
         ensures counted { OnOk result (Counted self.old (command_of command) self.new) }
         ensures unchanged { OnErr result (self.new ≡ self.old) }
         ensures sound { IsContent self.new.kept.content }
-        ensures retains { OnOk result (RetainsCounted self.old (command_of command) self.new) }
-        ensures searches { OnOk result (SearchesCounted self.old (command_of command) self.new) }
-        ensures rises { OnOk result (NoneFalls self.old self.new) }
+        ensures rises { OnOk result (NoneFalls self.old.work self.new.work) }
         ensures same { OnOk result
-            (IsFalse (encodes (is_some self.old.kept.batch) (command_of command)) → SameCounts self.old self.new) }
+            (IsFalse (encodes (is_some self.old.kept.batch) (command_of command)) → self.new.work ≡ self.old.work) }
     {
         let result = self.answer_to(command);
         // The content is sound, like that of every register.

@@ -54,7 +54,6 @@ impl Register {
         // The log is dropped with the batch: its edits are permanent.
         drop(self.batch.take());
         self.work = self.work.plus(renewed.work);
-        self.retained = self.retained.saturating_add(renewed.retained);
         Ok(Reply::Paths(renewed.entries))
     }
 

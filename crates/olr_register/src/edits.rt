@@ -141,7 +141,6 @@ impl Register {
             &mut self.searches,
         )?;
         self.work = self.work.plus(renewed.work);
-        self.retained = self.retained.saturating_add(renewed.retained);
         Ok(Reply::Paths(renewed.entries))
     }
 }

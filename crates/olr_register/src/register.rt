@@ -20,8 +20,6 @@ pub struct Register {
     /// What an edit touches, in a buffer that is reused.
     pub(crate) touched: ChangeSet,
     pub(crate) work: Work,
-    /// How many of the counted encodings were not made, because the answer was retained.
-    pub(crate) retained: u64,
     pub(crate) batch: Option<Batch>,
     /// Distance bounds, which show that no coverage query begins near an edit. They are settled when an edit or a commit
     /// needs them; what the edits of an open batch touched is reopened then.
@@ -37,7 +35,7 @@ impl Model for Register {
 
     ghost coded = { coded_registered };
 
-    ghost view = { λ r. record { kept = kept_of r.roads (items r.paths) r.batch; work = r.work; retained = r.retained } };
+    ghost view = { λ r. record { kept = kept_of r.roads (items r.paths) r.batch; work = r.work } };
 
     ghost invariant = { λ r. IsKeptRight r.roads (items r.paths) r.batch r.bounds };
 }
@@ -52,7 +50,6 @@ impl Drop for Register {
             searches,
             touched,
             work: _,
-            retained: _,
             batch,
             bounds,
         } = self;
@@ -83,7 +80,6 @@ impl Register {
             searches: Searches::new(alloc),
             touched: ChangeSet::new(alloc),
             work: Work::none(),
-            retained: 0,
             batch: None,
             bounds: DistanceBounds::new(alloc),
         }
@@ -147,12 +143,5 @@ impl Register {
         ensures { result ≡ self.now.work }
     {
         self.work
-    }
-
-    /// How many of the counted encodings were not made, because the answer was retained.
-    pub fn retained_count(&self) -> u64
-        ensures { result ≡ self.now.retained }
-    {
-        self.retained
     }
 }

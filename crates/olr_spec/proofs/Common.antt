@@ -17,12 +17,12 @@ pub use Rattle.olr_spec.specs.Extension.{StartRun, Tried, extended_path, first, 
 pub use Rattle.olr_spec.specs.Extension.{none_twice, passes_between, passing, taken_end, taken_start}
 pub use Rattle.olr_spec.specs.Footprint.{Foot, Sees}
 pub use Rattle.olr_spec.specs.Joins.{JoinsLast, JoinsTo, Joined, Joins}
-pub use Rattle.olr_spec.specs.Laws.{AllSearched, AnswerFits, AnswersRetained, DecodedNear, DecodedPoints}
+pub use Rattle.olr_spec.specs.Laws.{AnswerFits, AnswersRetained, DecodedNear, DecodedPoints}
 pub use Rattle.olr_spec.specs.Laws.{DifferencesAdd, Distances, EditsDiffer, EditsKeep, EditsUndo, EmptyIsLeast}
-pub use Rattle.olr_spec.specs.Laws.{EmptyIsSound, EmptyIsUnique, FootAffected, FootIsQueried, KnownHolds, LinesAscend}
+pub use Rattle.olr_spec.specs.Laws.{EmptyIsSound, EmptyIsUnique, FootAffected, FootIsQueried, KnownRetained, KnownStays, LinesAscend}
 pub use Rattle.olr_spec.specs.Laws.{LinesIn, LinesOut, NearStays, Nearest, NoDifference, NoFault, NoLongerSuffix}
-pub use Rattle.olr_spec.specs.Laws.{Offsets, OneAnswer, OneEndRun, OneKnown, OneLastTested, OneLeast, OneNext}
-pub use Rattle.olr_spec.specs.Laws.{OnePoints, OneQueries, OneSearched, OneSector, OneStartRun, OneUnique}
+pub use Rattle.olr_spec.specs.Laws.{Offsets, OneAnswer, OneEndRun, OneLastTested, OneLeast, OneNext}
+pub use Rattle.olr_spec.specs.Laws.{OnePoints, OneQueries, OneSector, OneStartRun, OneUnique}
 pub use Rattle.olr_spec.specs.Laws.{PrefixOfLeast, PrefixOfUnique, Recovered, RoutesJoin, SomeAnswer, SomeLastTested}
 pub use Rattle.olr_spec.specs.Laws.{SomeQueries, SomeReceiver, SomeSector, SomeWeighted, StretchesJoin, TwoKept}
 pub use Rattle.olr_spec.specs.Laws.{UniqueIsLeast, UntouchedRetained}
@@ -32,8 +32,8 @@ pub use Rattle.olr_spec.specs.Map.{in_use, is_good, line_at, lines_in, lines_out
 pub use Rattle.olr_spec.specs.Map.{ShapePoint, are_coords, ascends_between, no_coord, no_line, touched_lines, unless}
 pub use Rattle.olr_spec.specs.Points.{Candidate, Covered, Follow, Greatest, Next, OfPath, To_end, To_passing, To_valid}
 pub use Rattle.olr_spec.specs.Points.{ValidCandidate, fit16, last_position, node_at, stretch, NoNext}
-pub use Rattle.olr_spec.specs.Queries.{CoverageQuery, FoundFor, IsClear, IsKnownAt, IsLastTested, IsQuery}
-pub use Rattle.olr_spec.specs.Queries.{KnownOfExtended, KnownQuery, Needed, NodeOf, QueriesOf, QueriesOfExtended}
+pub use Rattle.olr_spec.specs.Queries.{CoverageQuery, IsClear, IsLastTested, IsQuery}
+pub use Rattle.olr_spec.specs.Queries.{KnownQuery, Needed, NodeOf, QueriesOf, QueriesOfExtended}
 pub use Rattle.olr_spec.specs.Queries.{Traversed, TraversedOf, TraversedOfExtended, query_to, querying}
 pub use Rattle.olr_spec.specs.Receiver.{Measure, Receiver, RecoversLast, RecoversTo, Side, Within, candidates}
 pub use Rattle.olr_spec.specs.Receiver.{coordinate_on, has_no_twin, is_nearest, node_on}

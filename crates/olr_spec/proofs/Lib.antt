@@ -34,6 +34,5 @@ pub mod QueryLemmas
 pub mod StayLemmas
 pub mod TestedLemmas
 pub mod LocalLemmas
-pub mod KnownLists
 pub mod KnownLemmas
 pub mod SameNumbers

@@ -7,48 +7,25 @@ use Rattle.olr_spec.proofs.Common.{SameRound, has, IsRoute, dm_of, Path, is_path
 use Rattle.olr_spec.proofs.Common.{taken_start, limit, from_start, taken_end, AreJoined, LongestEnd, stretch, Covered}
 use Rattle.olr_spec.proofs.Common.{Follow, OfPath, last_position, Answer, Refused, Refusal, path_fault}
 use Rattle.olr_spec.proofs.Common.{answer_by_points, Encoding, Points, ChangedLine, AccountsFor, NodeOf, Traversed}
-use Rattle.olr_spec.proofs.Common.{TraversedOfExtended, TraversedOf, IsLastTested, CoverageQuery, query_to, IsQuery}
-use Rattle.olr_spec.proofs.Common.{IsClear, querying, QueriesOfExtended, QueriesOf, KnownQuery, IsKnownAt}
-use Rattle.olr_spec.proofs.Common.{KnownOfExtended, reference, All-contains, No_next_point, UntouchedRetained}
+use Rattle.olr_spec.proofs.Common.{TraversedOfExtended, IsLastTested, CoverageQuery, query_to, IsQuery}
+use Rattle.olr_spec.proofs.Common.{IsClear, querying, QueriesOfExtended}
+use Rattle.olr_spec.proofs.Common.{reference, All-contains, No_next_point, UntouchedRetained}
 use Rattle.olr_spec.proofs.Common.{AnswersRetained}
 use Rattle.olr_spec.proofs.Facts.{Each, Each-from, has_first, has_last, Known, Each-append, Each-left, Each-right}
 use Rattle.olr_spec.proofs.Facts.{Each-to, Each-cons, Each-push, sound_lines, path_nonempty, path_at, by_fault}
 use Rattle.olr_spec.proofs.Facts.{one_tried, extended_keeps, Alike, same_begin, same_finish, longest_start_moves}
 use Rattle.olr_spec.proofs.Facts.{StartRun-known, EndRun-known, longest_end_moves, same_dm_of, same_known, by_entering}
-use Rattle.olr_spec.specs.Queries.{KnownOf, QueriesFrom}
+use Rattle.olr_spec.specs.Queries.{QueriesFrom}
 use Rattle.olr_spec.proofs.PointMoves.{fault_same, close_stays, Traversed-same, follow_moves, legs_same}
 use Rattle.olr_spec.proofs.JoinedLemmas.{extended_joined}
-use Rattle.olr_spec.proofs.QueryLemmas.{RoutesStay, to_same, clear_routes, query_stays, covered_stays, covered_same}
-use Rattle.olr_spec.proofs.QueryLists.{query_for, queries_here, zip_moves}
-use Rattle.olr_spec.proofs.TestedLemmas.{one_last_tested}
-use Rattle.olr_spec.proofs.KnownLists.{found_moves}
+use Rattle.olr_spec.proofs.QueryLemmas.{RoutesStay, to_same, clear_routes, query_stays, covered_stays}
+use Rattle.olr_spec.proofs.QueryLists.{query_for, zip_moves}
 
 -- along any lines of both maps, each of these coverage queries has the same routes
 abbrev pub RoutesOf : Map → Map → List CoverageQuery → Type 0
 RoutesOf M N queries =
     (ls : List ℕ) → Each (SameLine M N) ls → (s t : ℕ) → IsRoute M s t ls → (i k : ℕ) → IsLastTested M ls i k →
     Contains queries (query_to M ls i k) → RoutesStay M N ls i k
-
--- of two maps on which the routes from line i to position k are the same
-module _ (M N : Map) (ls : List ℕ) (same : Each (SameLine M N) ls) (s t : ℕ) (joined : IsRoute M s t ls)
-    (lead own i k : ℕ) (query : IsLastTested M ls i k) (routes : RoutesStay M N ls i k) (e : KnownQuery) where
-  tested : IsLastTested N ls i k
-  tested = query_stays M N ls same s t joined i k query routes
-
-  known_at : k ≡ lead + e.last → IsKnownAt M ls lead own i e ↔ IsKnownAt N ls lead own i e
-  known_at is =
-      grind (
-        arith,
-        (to_same M N ls same s t joined i k query),
-        (covered_same M N ls same s t joined i k query routes k (omega arith)),
-        tested,
-      )
-
-  known_as : IsKnownAt M ls lead own i e ↔ IsKnownAt N ls lead own i e
-  known_as = (
-    (λ a. (known_at (one_last_tested M ls i k (lead + e.last) query a.tested)).0 a),
-    (λ a. (known_at (one_last_tested N ls i k (lead + e.last) tested a.tested)).1 a),
-  )
 
 module _ (M N : Map) (m : IsMap M) (n : IsMap N) (P : Path) (is : IsTrue (is_path P.lines))
     (sound : path_fault M P ≡ None) (same : Each (SameLine M N) P.lines)
@@ -212,25 +189,6 @@ module _ (M N : Map) (m : IsMap M) (n : IsMap N) (P : Path) (is : IsTrue (is_pat
         (querying (path_there o.before o.after o.tried i).lines (0 ∷ o.points)) queries)
         (zip_moves (IsQuery M E.lines) (IsQuery N E.lines) (querying E.lines (0 ∷ o.points)) queries one_query o.holds))
 
-    -- the coverage queries along the path's own lines
-    known_query : (lead own i : ℕ) → has (querying E.lines (0 ∷ o.points)) i ≡ true → (e : KnownQuery)
-        → IsKnownAt M E.lines lead own i e ↔ IsKnownAt N E.lines lead own i e
-    known_query lead own i on e =
-        let at = queries_here E.lines (0 ∷ o.points) i on in
-        let l = query_for M E.lines (0 ∷ o.points) queries o.holds i at.0 at.1 in
-        let k = l.2.0 in
-        known_as M N E.lines all_same _ _ joined lead own i k l.2.1
-        (stay i k l.2.1 (subst (Contains queries) l.2.2 l.1)) e
-
-    known_stay : (ks : List KnownQuery) → KnownOfExtended M P ks → KnownOfExtended N P ks
-    known_stay ks p =
-        let lead = length (taken_start M o.before P.lines) in
-        let own = length P.lines in
-        let there = found_moves (IsKnownAt M E.lines lead own) (IsKnownAt N E.lines lead own)
-        (querying E.lines (0 ∷ o.points)) (known_query lead own) ks (path_at m is sound o p) in
-        let path = path_there o.before o.after o.tried in
-        grind (arith, goes_over, front_same)
-
 -- ---- whether or not the path has a fault
 
 module _ (M N : Map) (m : IsMap M) (n : IsMap N) (P : Path) (is : IsTrue (is_path P.lines))
@@ -243,15 +201,13 @@ module _ (M N : Map) (m : IsMap M) (n : IsMap N) (P : Path) (is : IsTrue (is_pat
       → ((A : Answer) → MatchOption f (Encoding M P A) (λ r. A ≡ Refused r) → MatchOption g (Encoding N P A) (λ r. A ≡ Refused r))
       × ((v : ℕ) → MatchOption f (TraversedOfExtended M P v) (λ _. ⊥) ↔ MatchOption g (TraversedOfExtended N P v) (λ _. ⊥))
       × MatchOption g (QueriesOfExtended N P queries) (λ _. queries ≡ [])
-      × ((ks : List KnownQuery) → MatchOption f (KnownOfExtended M P ks) (λ _. ks ≡ []) → MatchOption g (KnownOfExtended N P ks) (λ _. ks ≡ []))
 
   pub queried_kept : Stay (path_fault M P) (path_fault N P)
   queried_kept = subst (Stay (path_fault M P)) (fault_same M N P same) (by_fault M P (λ f. Stay f f) (λ e traversed o. (
     answer_stays M N m n P is e same traversed queries o routes,
     traversed_stays M N m n P is e same traversed queries o routes,
     queries_stay M N m n P is e same traversed queries o routes,
-    known_stay M N m n P is e same traversed queries o routes,
-  )) (λ r traversed o. ((λ A p. p), (λ v. ((λ h. h), (λ h. h))), o, (λ ks p. p))))
+  )) (λ r traversed o. ((λ A p. p), (λ v. ((λ h. h), (λ h. h))), o)))
 
 -- if each coverage query is clear
 clear : (M N : Map) (C : List ChangedLine) → AccountsFor C M N → AccountsFor C N M → (queries : List CoverageQuery) →
@@ -259,18 +215,9 @@ clear : (M N : Map) (C : List ChangedLine) → AccountsFor C M N → AccountsFor
 clear M N C there here queries all ls each s t joined i k last on =
     clear_routes M N ls each s t joined i k last C there here (All-contains (IsClear N C) queries (query_to M ls i k) all on)
 
--- the coverage queries along the path's own lines too
-pub known_kept : (M N : Map) → IsMap M → IsMap N → (C : List ChangedLine) → AccountsFor C M N → AccountsFor C N M →
-    (P : Path) → IsTrue (is_path P.lines) → Each (SameLine M N) P.lines → (queries : List CoverageQuery) →
-    All (IsClear N C) queries → ((v : ℕ) → TraversedOf M P v → SameRound M N v) → QueriesOf M P queries →
-    (ks : List KnownQuery) → KnownOf M P ks → KnownOf N P ks
-known_kept M N m n C there here P is same queries all traversed o =
-    (queried_kept M N m n P is same queries (clear M N C there here queries all) traversed o).3
-
 pub kept : AnswersRetained
 kept M N m n C there here P is same traversed queries o all =
-    let k = queried_kept M N m n P is (Each-from (SameLine M N) P.lines same) queries (clear M N C there here queries all)
-    traversed o in (k.0, k.1, k.2)
+    queried_kept M N m n P is (Each-from (SameLine M N) P.lines same) queries (clear M N C there here queries all) traversed o
 
 -- the same conclusion from what is touched
 pub untouched_retained : UntouchedRetained

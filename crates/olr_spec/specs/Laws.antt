@@ -38,7 +38,7 @@ use Rattle.olr_spec.specs.Recovery.{IsWeighted, are_cosines, are_spaced, lon_apa
 use Rattle.olr_spec.specs.Footprint.{Sees, Foot}
 use Rattle.olr_spec.specs.Detours.{ChangedLine, changes_of, AccountsFor, Difference, Detour, Near}
 use Rattle.olr_spec.specs.Queries.{TraversedOf, IsLastTested, CoverageQuery, query_to, QueriesOf, IsClear}
-use Rattle.olr_spec.specs.Queries.{KnownQuery, IsKnown, AreKnown, KnownOf, SearchedOf}
+use Rattle.olr_spec.specs.Queries.{KnownQuery, IsKnown, KnownOf}
 
 -- ---- maps
 
@@ -365,28 +365,6 @@ KnownStays =
     (M N : Map) (C : List ChangedLine) → AccountsFor C M N → AccountsFor C N M
     → (ls : List ℕ) (e : KnownQuery) → IsKnown M ls e → IsClear N C e.query → IsKnown N ls e
 
--- a path has at most one list of coverage queries along its own lines; each of them is right, and each begins at a later
--- line than the one before it
-abbrev pub OneKnown : Type 0
-OneKnown =
-    (M : Map) → IsMap M → (P : Path) → IsTrue (is_path P.lines) → (ks ls : List KnownQuery) → KnownOf M P ks →
-    KnownOf M P ls → ks ≡ ls
-
-abbrev pub KnownHolds : Type 0
-KnownHolds =
-    (M : Map) (P : Path) → IsTrue (is_path P.lines) → (ks : List KnownQuery) → KnownOf M P ks → AreKnown M P.lines ks
-
--- by given coverage queries there is at most one list of others, and where none are given these are all
-abbrev pub OneSearched : Type 0
-OneSearched =
-    (M : Map) → IsMap M → (P : Path) → IsTrue (is_path P.lines) → (given : List KnownQuery) (ks ls : List CoverageQuery)
-    → SearchedOf M P given ks → SearchedOf M P given ls → ks ≡ ls
-
-abbrev pub AllSearched : Type 0
-AllSearched =
-    (M : Map) → IsMap M → (P : Path) → IsTrue (is_path P.lines) → (ks ls : List CoverageQuery) → QueriesOf M P ks →
-    SearchedOf M P [] ls → ks ≡ ls
-
 -- if no traversed node of a path is touched, none of its lines is different, and each of its coverage queries is clear,
 -- then its answer, traversed nodes and coverage queries are the same on both maps
 abbrev pub AnswersRetained : Type 0
@@ -398,14 +376,12 @@ AnswersRetained =
     → ((A : Answer) → Encodes M P A → Encodes N P A) × ((v : ℕ) → TraversedOf M P v ↔ TraversedOf N P v)
     × QueriesOf N P queries
 
--- and so are its coverage queries along its own lines
+-- and so are those of its coverage queries that are known, whatever else has changed
 abbrev pub KnownRetained : Type 0
 KnownRetained =
-    (M N : Map) → IsMap M → IsMap N → (C : List ChangedLine) → AccountsFor C M N → AccountsFor C N M
-    → (P : Path) → IsTrue (is_path P.lines) → AllByRecursion (SameLine M N) P.lines →
-    ((v : ℕ) → TraversedOf M P v → SameRound M N v)
-    → (queries : List CoverageQuery) → QueriesOf M P queries → All (IsClear N C) queries
-    → (ks : List KnownQuery) → KnownOf M P ks → KnownOf N P ks
+    (M N : Map) (C : List ChangedLine) → AccountsFor C M N → AccountsFor C N M
+    → (ls : List ℕ) (queries : List CoverageQuery) → All (IsClear N C) queries
+    → (ks : List KnownQuery) → KnownOf M ls queries ks → KnownOf N ls queries ks
 
 -- the same conclusion as of AnswersRetained, from what the edits touch and change
 abbrev pub UntouchedRetained : Type 0

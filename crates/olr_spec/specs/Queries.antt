@@ -11,13 +11,8 @@
 --         path between
 --     KnownQuery, IsKnown M ls e      a coverage query along a path's own lines ls, by its positions in them; that it
 --         is right
---     AreKnown M ls ks      each of these is, and each begins at a later line than the one before it
---     IsKnownAt M E.lines lead own i e      e is the coverage query of the LRP i of an extended path, whose lines are
---         lead lines, own lines and others
---     FoundFor R is xs      each i of the list is has one x with R i x, or none; xs are these, in order
---     KnownOf M P ks      the coverage queries of a path that are along its own lines
---     IsReused M ls lead own given i      the coverage query of the LRP i is one of the given ones
---     SearchedOf M P given queries      the coverage queries of a path that are not among the given ones
+--     AreKnown M ls ks      each of these is
+--     KnownOf M ls queries ks      each of these is, and is one of the path's coverage queries
 --     IsClear M C l      no detour over the changed lines C is as short
 --     QueriesFrom M ls is queries, QueriesOf M P queries      one coverage query for each LRP of the list is, in order;
 --         the
@@ -25,10 +20,9 @@
 use Rattle.std.specs.Prelude.{◌≡◌, ℕ, ◌+◌, ◌-◌, ◌<◌, ◌≤◌, min, Bool, List, [], ◌∷◌, length, map, filter, nat_lt, slice_index}
 use Rattle.std.specs.Prelude.{MatchOption, Contains, ◌⊎◌, ◌↔◌, IsTrue}
 use Rattle.std.specs.List.{All, AllZip}
-use Rattle.std.specs.List.Sorted.{IsStrictlyIncreasing}
 use Rattle.olr_spec.specs.Map.{Map, start, end, has}
 use Rattle.olr_spec.specs.Routes.{IsRoute, dm_of, LrpRoute}
-use Rattle.olr_spec.specs.Extension.{Path, Tried, extended_path, taken_start, limit}
+use Rattle.olr_spec.specs.Extension.{Path, Tried, extended_path, limit}
 use Rattle.olr_spec.specs.Points.{stretch, Covered, OfPath}
 use Rattle.olr_spec.specs.Encoding.{path_fault}
 use Rattle.olr_spec.specs.Detours.{ChangedLine, Detour}
@@ -118,52 +112,15 @@ pub record IsKnown (M : Map) (ls : List ℕ) (e : KnownQuery) : Type 0 where
       LrpRoute M e.query.from (start M (slice_index ls m)) (stretch ls e.first m)
   pub covered : IsTrue e.covered ↔ LrpRoute M e.query.from e.query.to (stretch ls e.first e.last)
 
--- in ascending order of the lines where they begin
-pub record AreKnown (M : Map) (ls : List ℕ) (ks : List KnownQuery) : Type 0 where
-  pub right : All (IsKnown M ls) ks
-  pub ascend : IsStrictlyIncreasing (map (λ e. e.first) ks)
+abbrev pub AreKnown : Map → List ℕ → List KnownQuery → Type 0
+AreKnown M ls ks = All (IsKnown M ls) ks
 
--- of the extended path ls, line lead is the path's first line, and the path has so many lines of its own
-pub record IsKnownAt (M : Map) (ls : List ℕ) (lead own i : ℕ) (e : KnownQuery) : Type 0 where
-  pub begins : i + 1 ≡ lead + e.first
-  pub order : e.first < e.last
-  pub upto : e.last ≤ own
-  pub tested : IsLastTested M ls i (lead + e.last)
-  pub query : e.query ≡ query_to M ls i (lead + e.last)
-  pub covered : IsTrue e.covered ↔ Covered M ls i (lead + e.last)
+pub record IsKnownOf (M : Map) (ls : List ℕ) (queries : List CoverageQuery) (e : KnownQuery) : Type 0 where
+  pub among : Contains queries e.query
+  pub right : IsKnown M ls e
 
-abbrev pub FoundFor : {X : Type 0} → (ℕ → X → Type 0) → List ℕ → List X → Type 0
-FoundFor R [] xs = xs ≡ []
-FoundFor {X} R (i ∷ is) xs =
-    (((x : X) → ¬ R i x) × FoundFor R is xs) ⊎
-    ((x : X) × (rest : List X) × (xs ≡ x ∷ rest) × R i x × FoundFor R is rest)
-
--- Q holds of the extended path's lines, how many of them precede the path's own, and the LRPs with a coverage query
-abbrev pub OfQuerying : Map → Path → (List ℕ → ℕ → List ℕ → Type 0) → Type 0
-OfQuerying M P Q =
-    OfPath M P (λ E b _ js. Q E.lines (length (taken_start M b P.lines)) (querying E.lines (0 ∷ js)))
-
-abbrev pub KnownOfExtended : Map → Path → List KnownQuery → Type 0
-KnownOfExtended M P ks = OfQuerying M P (λ ls lead is. FoundFor (IsKnownAt M ls lead (length P.lines)) is ks)
-
--- none if the path's own lines give a reason
-abbrev pub KnownOf : Map → Path → List KnownQuery → Type 0
-KnownOf M P ks = MatchOption (path_fault M P) (KnownOfExtended M P ks) (λ _. ks ≡ [])
-
-abbrev pub IsReused : Map → List ℕ → ℕ → ℕ → List KnownQuery → ℕ → Type 0
-IsReused M ls lead own given i = (e : KnownQuery) × Contains given e × IsKnownAt M ls lead own i e
-
-abbrev pub IsSearched : Map → List ℕ → ℕ → ℕ → List KnownQuery → ℕ → CoverageQuery → Type 0
-IsSearched M ls lead own given i l = IsQuery M ls i l × (¬ IsReused M ls lead own given i)
-
-abbrev pub SearchedOfExtended : Map → Path → List KnownQuery → List CoverageQuery → Type 0
-SearchedOfExtended M P given queries =
-    OfQuerying M P (λ ls lead is. FoundFor (IsSearched M ls lead (length P.lines) given) is queries)
-
--- none if the path's own lines give a reason
-abbrev pub SearchedOf : Map → Path → List KnownQuery → List CoverageQuery → Type 0
-SearchedOf M P given queries =
-    MatchOption (path_fault M P) (SearchedOfExtended M P given queries) (λ _. queries ≡ [])
+abbrev pub KnownOf : Map → List ℕ → List CoverageQuery → List KnownQuery → Type 0
+KnownOf M ls queries ks = All (IsKnownOf M ls queries) ks
 
 -- no detour over the changed lines is as short as the path
 abbrev pub IsClear : Map → List ChangedLine → CoverageQuery → Type 0

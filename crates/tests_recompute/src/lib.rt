@@ -1,6 +1,6 @@
 //! Tests of the register beside a twin that encodes every path from scratch after every command: answers, traversed
-//! nodes, coverage queries and footprints are the same, and the counts of encodings, of retained answers and of searches
-//! rise as defined.
+//! nodes, coverage queries and footprints are the same, the count of encodings rises as defined, and the count of searches
+//! by no more than is needed.
 #![tactic(auto)]
 
 #[cfg(test)]

@@ -93,7 +93,6 @@ impl Pair {
     fn counts(&self) -> Rise {
         Rise {
             encodings: self.register.work().encodings,
-            retained: self.register.retained_count(),
             searches: self.register.work().searches,
         }
     }
@@ -103,11 +102,6 @@ impl Pair {
         let after = self.counts();
         let encodings = before.encodings.saturating_add(rise.encodings);
         assert!(rt; after.encodings == encodings, "encodings after {record}");
-        let retained = before.retained.saturating_add(rise.retained);
-        assert!(rt;
-            after.retained == retained,
-            "retained answers after {record}"
-        );
         let searches = before.searches.saturating_add(rise.searches);
         assert!(rt; after.searches == searches, "searches after {record}");
     }
@@ -288,12 +282,9 @@ impl Pair {
         Ok(())
     }
 
-    /// How many encodings were counted, and how many of them retained their answer.
-    pub fn encodings(&self) -> (u64, u64) {
-        (
-            self.register.work().encodings,
-            self.register.retained_count(),
-        )
+    /// How many encodings were counted.
+    pub fn encodings(&self) -> u64 {
+        self.register.work().encodings
     }
 
     /// Makes a ring of twelve nodes, some of its lines in both directions, and some short cuts.

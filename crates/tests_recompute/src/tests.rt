@@ -46,29 +46,28 @@ commit,0
 ",
 ];
 
-/// Records after the same ones, with the number of encodings counted after each, and how many of them retained their
-/// answer.
-const COUNTED: &[(&str, u64, u64)] = &[
-    ("path,a,1500,0,10,20,30", 1, 0),
-    ("node,5,7,50", 1, 0),
-    ("node,6,7.001,50", 1, 0),
-    ("line,50,5,6,4,3,1000", 1, 0),
-    ("path,e,0,0,50", 2, 0),
-    ("set-line,50,4,3,2000", 3, 0),
-    ("drop-line,99", 4, 0),
-    ("drop-line,20", 5, 0),
-    ("line,20,2,3,3,3,2000,200,6.1282,49.60389", 6, 0),
-    ("move,4,6.12817,49.60306", 7, 0),
-    ("begin", 7, 0),
-    ("drop-line,30", 7, 0),
-    ("line,30,3,4,5,3,740,540,6.12792,49.60311", 7, 0),
-    ("path,b,0,0,10", 7, 0),
-    ("commit,3", 9, 0),
-    ("node,8,6.13,49.604", 9, 0),
-    ("line,60,2,8,4,3,1000", 11, 0),
-    ("node,9,6.131,49.604", 11, 0),
+/// Records after the same ones, with the number of encodings counted after each.
+const COUNTED: &[(&str, u64)] = &[
+    ("path,a,1500,0,10,20,30", 1),
+    ("node,5,7,50", 1),
+    ("node,6,7.001,50", 1),
+    ("line,50,5,6,4,3,1000", 1),
+    ("path,e,0,0,50", 2),
+    ("set-line,50,4,3,2000", 3),
+    ("drop-line,99", 4),
+    ("drop-line,20", 5),
+    ("line,20,2,3,3,3,2000,200,6.1282,49.60389", 6),
+    ("move,4,6.12817,49.60306", 7),
+    ("begin", 7),
+    ("drop-line,30", 7),
+    ("line,30,3,4,5,3,740,540,6.12792,49.60311", 7),
+    ("path,b,0,0,10", 7),
+    ("commit,3", 9),
+    ("node,8,6.13,49.604", 9),
+    ("line,60,2,8,4,3,1000", 11),
+    ("node,9,6.131,49.604", 11),
     // node 8 is near node 2, where the coverage query begins, and on no route that is as short as line 20
-    ("line,70,8,9,4,3,500", 12, 1),
+    ("line,70,8,9,4,3,500", 12),
 ];
 
 /// Applies each record to the register and to its twin.
@@ -100,42 +99,41 @@ fn fresh_session<R: Abort + AllocGlobal>(rt: &R, session: &str) -> Result<(), Fa
 fn all_counted<R: Abort + AllocGlobal>(
     rt: &R,
     pair: &mut Pair,
-    rows: &[(&str, u64, u64)],
+    rows: &[(&str, u64)],
 ) -> Result<(), Fail> {
     all(rt, pair, RECORDS)?;
-    for (record, encodings, kept) in rows {
+    for (record, encodings) in rows {
         pair.step(rt, record)?;
-        assert!(rt; pair.encodings() == (*encodings, *kept), "after {record}");
+        assert!(rt; pair.encodings() == *encodings, "after {record}");
     }
     Ok(())
 }
 
 /// The same for a new register and its twin, after the records of three LRPs.
-fn fresh_counted<R: Abort + AllocGlobal>(rt: &R, rows: &[(&str, u64, u64)]) -> Result<(), Fail> {
+fn fresh_counted<R: Abort + AllocGlobal>(rt: &R, rows: &[(&str, u64)]) -> Result<(), Fail> {
     let mut pair = Pair::new(rt.alloc());
     let done = all_counted(rt, &mut pair, rows);
     let_go(pair);
     done
 }
 
-/// Makes many commands on a ring. Returns how many answers were retained.
-fn many<R: Abort + AllocGlobal>(rt: &R, pair: &mut Pair, first: u64) -> Result<u64, Fail> {
+/// Makes many commands on a ring.
+fn many<R: Abort + AllocGlobal>(rt: &R, pair: &mut Pair, first: u64) -> Result<(), Fail> {
     pair.ring(rt)?;
     let mut seed = first;
     for _ in 0..200 {
         seed = next(seed);
         pair.step_by(rt, seed)?;
     }
-    let (_, kept) = pair.encodings();
-    Ok(kept)
+    Ok(())
 }
 
 /// The same for a new register and its twin.
-fn fresh_many<R: Abort + AllocGlobal>(rt: &R, first: u64) -> Result<u64, Fail> {
+fn fresh_many<R: Abort + AllocGlobal>(rt: &R, first: u64) -> Result<(), Fail> {
     let mut pair = Pair::new(rt.alloc());
-    let kept = many(rt, &mut pair, first);
+    let done = many(rt, &mut pair, first);
     let_go(pair);
-    kept
+    done
 }
 
 #[test]
@@ -153,10 +151,8 @@ fn counts(rt: HostRuntime) -> Result<(), Fail> {
 
 #[test]
 fn without_pattern(rt: HostRuntime) -> Result<(), Fail> {
-    let mut kept = 0u64;
     for first in [2026, 7, 1900, 54] {
-        kept = kept.saturating_add(fresh_many(&rt, first)?);
+        fresh_many(&rt, first)?;
     }
-    assert!(rt; kept > 0, "no answer was kept");
     Ok(())
 }

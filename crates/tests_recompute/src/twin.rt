@@ -17,14 +17,13 @@ pub struct Named {
     pub neg: u32,
 }
 
-/// With more changed lines than this, no answer is retained and each coverage query is searched again.
+/// With more changed lines than this, each coverage query of an affected path is searched again.
 const MOST_CHANGED: usize = 8;
 
-/// By how much a command raises the counts of encodings, of retained answers and of searches.
+/// By how much a command raises the counts of encodings and of searches.
 #[derive(Clone, Copy, Default)]
 pub struct Rise {
     pub encodings: u64,
-    pub retained: u64,
     pub searches: u64,
 }
 
@@ -212,7 +211,6 @@ impl Twin {
         rise.encodings = rise.encodings.saturating_add(1);
         let old = named.encoding(alloc, before)?;
         if !is_given && self.is_retained(alloc, named, &old)? {
-            rise.retained = rise.retained.saturating_add(1);
             return Ok(());
         }
         let new = named.encoding(alloc, &self.roads)?;

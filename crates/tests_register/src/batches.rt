@@ -1,7 +1,7 @@
 //! Batches over the worked map. The expected texts and counts do not come from the program.
 
 use crate::worked::{
-    TEXT, WITH_TEXT, ends, expect_counts, expect_reported, expect_text, holds, refuses, road,
+    TEXT, WITH_TEXT, ends, expect_encodings, expect_reported, expect_text, holds, refuses, road,
     worked_edits, worked_path,
 };
 use made_maps::{SIDE, line, node, place};
@@ -24,7 +24,7 @@ fn fill(rt: &impl Abort, register: &mut Register, edits: Vec<Edit>, path: Comman
     expect_text(rt, register, "a", None);
     expect_reported(rt, register, Command::Commit(9), &[WITH_TEXT]);
     expect_text(rt, register, "a", Some(TEXT));
-    expect_counts(rt, register, 1, 0);
+    expect_encodings(rt, register, 1);
 }
 
 /// The register of the worked map and path, made by one batch.
@@ -47,7 +47,7 @@ fn a_batch_that_cancels_out(rt: HostRuntime) {
     holds(&rt, &mut register, dropped, 1);
     holds(&rt, &mut register, road(&rt, rt.alloc(), SIDE), 2);
     expect_reported(&rt, &mut register, Command::Commit(2), &[]);
-    ends(&rt, register, 2, 0);
+    ends(&rt, register, 2);
 }
 
 /// Fills an open batch with edits that move a node to where it is.
@@ -67,5 +67,5 @@ fn a_full_batch(rt: HostRuntime) {
     let more = Command::Edit(Edit::DropNode(node(9)));
     refuses(&rt, &mut register, more, CommandFault::BatchFull);
     expect_reported(&rt, &mut register, Command::Commit(100_000), &[]);
-    ends(&rt, register, 2, 0);
+    ends(&rt, register, 2);
 }

@@ -1,7 +1,7 @@
 //! Commands over the worked map. The expected texts and counts do not come from the program.
 
 use crate::worked::{
-    TEXT, WITH_TEXT, add, edits, ends, expect_counts, expect_names, expect_reported, expect_text,
+    TEXT, WITH_TEXT, add, edits, ends, expect_encodings, expect_names, expect_reported, expect_text,
     names, refuses, road, three_points,
 };
 use made_maps::{FIRST, SECOND, STRAIGHT, line, new_node, node, other_line, place, plain_line};
@@ -34,7 +34,7 @@ fn three_points_are_published(rt: HostRuntime) {
     let absent = String::from_str(rt.alloc(), "b").expect(&rt, "memory");
     let show = Command::Show(absent);
     refuses(&rt, &mut register, show, CommandFault::NoPath);
-    ends(&rt, register, 1, 0);
+    ends(&rt, register, 1);
 }
 
 #[test]
@@ -44,10 +44,10 @@ fn a_line_of_the_path_is_dropped_and_added_again(rt: HostRuntime) {
     let unknown = ("a", Err(Refusal::UnknownLine(line(20))));
     expect_reported(&rt, &mut register, dropped, &[unknown]);
     expect_text(&rt, &register, "a", None);
-    expect_counts(&rt, &register, 2, 0);
+    expect_encodings(&rt, &register, 2);
     let back = road(&rt, rt.alloc(), SECOND);
     expect_reported(&rt, &mut register, back, &[WITH_TEXT]);
-    ends(&rt, register, 3, 0);
+    ends(&rt, register, 3);
 }
 
 #[test]
@@ -55,17 +55,17 @@ fn a_node_is_moved_to_its_own_coord(rt: HostRuntime) {
     let mut register = three_points(&rt, rt.alloc());
     let moved = Edit::MoveNode(node(4), place(612_817, 4_960_306));
     edits(&rt, &mut register, moved);
-    ends(&rt, register, 2, 0);
+    ends(&rt, register, 2);
 }
 
 /// Adds a line far from the worked path, so that nothing is encoded.
 fn add_far(rt: &impl Abort, alloc: Global, register: &mut Register) {
     edits(rt, register, new_node((5, 700_000, 5_000_000)));
-    expect_counts(rt, register, 1, 0);
+    expect_encodings(rt, register, 1);
     edits(rt, register, new_node((6, 700_100, 5_000_000)));
-    expect_counts(rt, register, 1, 0);
+    expect_encodings(rt, register, 1);
     edits(rt, register, plain_line(alloc, (50, 5, 6, 1000)));
-    expect_counts(rt, register, 1, 0);
+    expect_encodings(rt, register, 1);
 }
 
 /// Another length for line 50.
@@ -79,12 +79,12 @@ fn each_edit_is_counted(rt: HostRuntime) {
     add_far(&rt, rt.alloc(), &mut register);
     let added = add(&rt, rt.alloc(), "e", &[50], 0);
     names(&rt, &mut register, added, &["e"]);
-    expect_counts(&rt, &register, 2, 0);
+    expect_encodings(&rt, &register, 2);
     names(&rt, &mut register, longer(&rt, rt.alloc()), &["e"]);
-    expect_counts(&rt, &register, 3, 0);
+    expect_encodings(&rt, &register, 3);
     let dropped = Command::Edit(Edit::DropLine(line(99)));
     names(&rt, &mut register, dropped, &["a"]);
-    ends(&rt, register, 4, 0);
+    ends(&rt, register, 4);
 }
 
 /// Eight commands, of which the second and the last have a fault.
@@ -114,6 +114,6 @@ fn a_whole_run(rt: HostRuntime) -> Result<(), Fail> {
     let (register, outcomes) = replay(rt.alloc(), script(&rt, rt.alloc()))?;
     expect_text(&rt, &register, "a", Some(ALONE));
     assert_eq!(rt; (outcomes.len(), accepted_count(&outcomes)), (8, 6));
-    ends(&rt, register, 1, 0);
+    ends(&rt, register, 1);
     Ok(())
 }

@@ -14,14 +14,14 @@ fn the_worked_map_is_dumped(rt: HostRuntime) {
     let path: &[u8] = b"path,a,1500,0,10,20,30\n";
     assert_eq!(rt; dump.text.strip_prefix(RECORDS.as_bytes()), Some(path));
     assert_eq!(rt; dump.count, 9);
-    ends(&rt, register, 1, 0);
+    ends(&rt, register, 1);
 }
 
 #[test]
 fn one_unit_is_no_record(rt: HostRuntime) {
     let mut register = with_finer_node(&rt, rt.alloc());
     refuses(&rt, &mut register, Command::Dump, CommandFault::NotARecord);
-    ends(&rt, register, 1, 0);
+    ends(&rt, register, 1);
 }
 
 #[test]
@@ -30,7 +30,7 @@ fn a_comma_is_no_record(rt: HostRuntime) {
     let named = add(&rt, rt.alloc(), "a,b", &[10], 0);
     names(&rt, &mut register, named, &["a,b"]);
     refuses(&rt, &mut register, Command::Dump, CommandFault::NotARecord);
-    ends(&rt, register, 2, 0);
+    ends(&rt, register, 2);
 }
 
 #[test]
@@ -38,5 +38,5 @@ fn an_open_batch_is_not_dumped(rt: HostRuntime) {
     let mut register = three_points(&rt, rt.alloc());
     expect_reported(&rt, &mut register, Command::Begin, &[]);
     refuses(&rt, &mut register, Command::Dump, CommandFault::BatchOpen);
-    ends(&rt, register, 1, 0);
+    ends(&rt, register, 1);
 }

@@ -1,7 +1,7 @@
-//! Answers that are retained without a search for their LRPs, coverage queries that are not searched again, and footprints.
+//! Answers that stay after an edit near their path, coverage queries that are not searched again, and footprints.
 
 use crate::worked::{
-    TEXT, add, edits, ends, expect_counts, expect_reported, expect_text, holds, three_points,
+    TEXT, add, edits, ends, expect_encodings, expect_reported, expect_text, holds, three_points,
 };
 use made_maps::{STRAIGHT, line, new_node, node, other_line, plain_line};
 use olr_commands::{Command, CommandFault};
@@ -17,7 +17,7 @@ fn add_blind_road(rt: &impl Abort, alloc: Global, register: &mut Register) {
     edits(rt, register, new_node((7, 613_100, 4_960_400)));
     edits(rt, register, plain_line(alloc, (60, 2, 6, 1000)));
     // Line 60 begins at a node of the path, which is encoded again.
-    expect_counts(rt, register, 2, 0);
+    expect_encodings(rt, register, 2);
     edits(rt, register, plain_line(alloc, (70, 6, 7, 500)));
 }
 
@@ -29,10 +29,10 @@ fn with_blind_road(rt: &impl Abort, alloc: Global) -> Register {
 }
 
 #[test]
-fn an_answer_is_retained(rt: HostRuntime) {
+fn an_answer_stays_after_a_near_edit(rt: HostRuntime) {
     let register = with_blind_road(&rt, rt.alloc());
     expect_text(&rt, &register, "a", Some(TEXT));
-    ends(&rt, register, 3, 1);
+    ends(&rt, register, 3);
 }
 
 /// Asserts the number of searches.
@@ -41,17 +41,17 @@ fn expect_searches(rt: &impl Abort, register: &Register, searches: u64) {
 }
 
 #[test]
-fn an_answer_is_retained_by_a_batch(rt: HostRuntime) {
+fn an_answer_stays_after_a_near_batch(rt: HostRuntime) {
     let mut register = with_blind_road(&rt, rt.alloc());
     let before = register.work();
     expect_reported(&rt, &mut register, Command::Begin, &[]);
     let dropped = Command::Edit(Edit::DropLine(line(70)));
     holds(&rt, &mut register, dropped, 1);
-    expect_counts(&rt, &register, 3, 1);
+    expect_encodings(&rt, &register, 3);
     expect_reported(&rt, &mut register, Command::Commit(1), &[]);
     expect_searches(&rt, &register, before.searches);
     expect_text(&rt, &register, "a", Some(TEXT));
-    ends(&rt, register, 4, 2);
+    ends(&rt, register, 4);
 }
 
 /// Has a batch hold two edits, and aborts it.
@@ -79,7 +79,7 @@ fn a_coverage_query_that_is_clear_is_not_searched_again(rt: HostRuntime) {
     // The side road is a detour beside the second line.
     make_longer(&rt, rt.alloc(), &mut register);
     expect_text(&rt, &register, "a", Some(TEXT));
-    ends(&rt, register, 4, 1);
+    ends(&rt, register, 4);
 }
 
 #[test]
@@ -88,7 +88,7 @@ fn a_path_is_found_after_a_batch_is_aborted(rt: HostRuntime) {
     let added = plain_line(rt.alloc(), (80, 7, 8, 500));
     aborts(&rt, &mut register, new_node((8, 613_200, 4_960_400)), added);
     make_longer(&rt, rt.alloc(), &mut register);
-    ends(&rt, register, 4, 1);
+    ends(&rt, register, 4);
 }
 
 #[test]
@@ -101,7 +101,7 @@ fn a_path_is_found_after_a_dropped_node_is_put_back(rt: HostRuntime) {
         Edit::DropNode(node(7)),
     );
     make_longer(&rt, rt.alloc(), &mut register);
-    ends(&rt, register, 4, 1);
+    ends(&rt, register, 4);
 }
 
 /// Asserts that the path's footprint has these nodes, and not node 5.
@@ -128,7 +128,7 @@ fn a_footprint_is_searched_for(rt: HostRuntime) {
     assert_eq!(rt; refused.err(), Some(CommandFault::BatchOpen));
     expect_reported(&rt, &mut register, Command::Abort, &[]);
     assert!(rt; matches!(register.footprint("a"), Ok(Some(_))));
-    ends(&rt, register, 3, 1);
+    ends(&rt, register, 3);
 }
 
 /// Asserts the work of the register.
@@ -146,5 +146,5 @@ fn commands_that_encode_nothing_leave_the_counts(rt: HostRuntime) {
     assert!(rt; register.apply(path).is_ok());
     expect_reported(&rt, &mut register, Command::Abort, &[]);
     expect_work(&rt, &register, before);
-    ends(&rt, register, 3, 1);
+    ends(&rt, register, 3);
 }

@@ -1,7 +1,7 @@
 //! Paths on small maps: encoded when they are added, renewed by edits, and changed by batches.
 
 use crate::worked::{
-    add, change_path, drop_path, edits, ends, expect_counts, expect_names, expect_reported,
+    add, change_path, drop_path, edits, ends, expect_encodings, expect_names, expect_reported,
     expect_text, holds, names, refuses,
 };
 use made_maps::{Plain, STRAIGHT, line, new_node, other_line, plain_line};
@@ -53,7 +53,7 @@ fn paths_are_encoded_as_they_are_given(rt: HostRuntime) {
     let other = change_path(&rt, rt.alloc(), "gone", &[40]);
     expect_reported(&rt, &mut register, other, &[("gone", unknown(40))]);
     expect_names(&rt, &register, &["gone", "way"]);
-    ends(&rt, register, 4, 0);
+    ends(&rt, register, 4);
 }
 
 #[test]
@@ -63,7 +63,7 @@ fn all_paths_are_reported_in_order(rt: HostRuntime) {
     give(&rt, rt.alloc(), &mut register, "a", &[40]);
     let expected = [("b", unknown(30)), ("a", unknown(40))];
     expect_reported(&rt, &mut register, Command::Report, &expected);
-    ends(&rt, register, 2, 0);
+    ends(&rt, register, 2);
 }
 
 /// The text that `show` returns for a path.
@@ -108,7 +108,7 @@ fn one_path_is_shown(rt: HostRuntime) {
     let text = shown_text(&rt, rt.alloc(), &mut register, "way");
     expect_plain(&rt, rt.alloc(), &mut register, &text);
     expect_published(&rt, &register, "way", &text);
-    ends(&rt, register, 1, 0);
+    ends(&rt, register, 1);
 }
 
 #[test]
@@ -136,7 +136,7 @@ fn new_paths_of_a_batch(rt: HostRuntime) {
     names(&rt, &mut register, Command::Commit(5), &["a", "c"]);
     expect_names(&rt, &register, &["a", "c"]);
     expect_text(&rt, &register, "b", None);
-    ends(&rt, register, 2, 0);
+    ends(&rt, register, 2);
 }
 
 /// Asserts that the open batch has a path of that name.
@@ -177,7 +177,7 @@ fn changes_of_a_batch_over_paths(rt: HostRuntime) {
     expect_there(&rt, rt.alloc(), &mut register, "b");
     expect_names(&rt, &register, &["a", "b"]);
     expect_reported(&rt, &mut register, Command::Abort, &[]);
-    ends(&rt, register, 2, 0);
+    ends(&rt, register, 2);
 }
 
 /// Adds the paths b and a on two roads, by one batch.
@@ -186,7 +186,7 @@ fn give_both(rt: &impl Abort, alloc: Global, register: &mut Register) {
     holds(rt, register, add(rt, alloc, "b", &[30], 0), 1);
     holds(rt, register, add(rt, alloc, "a", &[10], 0), 2);
     names(rt, register, Command::Commit(2), &["b", "a"]);
-    expect_counts(rt, register, 2, 0);
+    expect_encodings(rt, register, 2);
 }
 
 #[test]
@@ -195,18 +195,18 @@ fn paths_are_renewed(rt: HostRuntime) {
     give_both(&rt, rt.alloc(), &mut register);
     expect_reported(&rt, &mut register, Command::Begin, &[]);
     expect_reported(&rt, &mut register, Command::Commit(0), &[]);
-    expect_counts(&rt, &register, 2, 0);
+    expect_encodings(&rt, &register, 2);
     // the line of path b is longer
     let longer = other_line(rt.alloc(), 30, 9000, STRAIGHT).expect(&rt, "memory");
     names(&rt, &mut register, Command::Edit(longer), &["b"]);
-    expect_counts(&rt, &register, 3, 0);
+    expect_encodings(&rt, &register, 3);
     // a side road at a node of path a: its answer is the same
     edits(&rt, &mut register, plain_line(rt.alloc(), (40, 6, 2, 1000)));
-    expect_counts(&rt, &register, 4, 0);
+    expect_encodings(&rt, &register, 4);
     // the line of path a is dropped
     let dropped = Command::Edit(Edit::DropLine(line(10)));
     expect_reported(&rt, &mut register, dropped, &[("a", unknown(10))]);
-    ends(&rt, register, 5, 0);
+    ends(&rt, register, 5);
 }
 
 #[test]
@@ -218,5 +218,5 @@ fn one_more_path_by_a_batch(rt: HostRuntime) {
     holds(&rt, &mut register, second, 1);
     names(&rt, &mut register, Command::Commit(1), &["b"]);
     assert!(rt; register.published_of("b").is_some());
-    ends(&rt, register, 2, 0);
+    ends(&rt, register, 2);
 }

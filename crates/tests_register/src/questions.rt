@@ -76,7 +76,7 @@ fn a_node_and_a_line_are_shown(rt: HostRuntime) {
     expect_node(&rt, &mut register, 3, "node,3,6.1279,49.6035\n");
     let records = "node,2,6.12838,49.60399\nnode,3,6.1279,49.6035\nline,99,2,3,4,3,1500\n";
     expect_line(&rt, &mut register, 99, 3, records);
-    ends(&rt, register, 1, 0);
+    ends(&rt, register, 1);
 }
 
 #[test]
@@ -91,7 +91,7 @@ fn the_node_of_a_loop_is_shown_once(rt: HostRuntime) {
         2,
         "node,7,0,0\nline,70,7,7,4,3,1000\n",
     );
-    ends(&rt, register, 0, 0);
+    ends(&rt, register, 0);
 }
 
 #[test]
@@ -103,7 +103,7 @@ fn questions_about_what_is_not_there(rt: HostRuntime) {
     refuses(&rt, &mut register, Command::ShowLine(line(9)), no_line);
     let asked = question(&rt, rt.alloc(), &[1, 9]);
     refuses(&rt, &mut register, asked, no_node);
-    ends(&rt, register, 1, 0);
+    ends(&rt, register, 1);
 }
 
 #[test]
@@ -116,7 +116,7 @@ fn what_no_record_can_write_is_not_shown(rt: HostRuntime) {
     expect_node(&rt, &mut register, 1, "node,1,6.12683,49.60852\n");
     expect_dependents(&rt, rt.alloc(), &mut register, &[9], &[]);
     expect_dependents(&rt, rt.alloc(), &mut register, &[9, 1], &["a"]);
-    ends(&rt, register, 2, 0);
+    ends(&rt, register, 2);
 }
 
 #[test]
@@ -128,7 +128,7 @@ fn no_answers_about_an_open_batch(rt: HostRuntime) {
     refuses(&rt, &mut register, Command::ShowLine(line(9)), fault);
     let asked = question(&rt, rt.alloc(), &[9]);
     refuses(&rt, &mut register, asked, fault);
-    ends(&rt, register, 1, 0);
+    ends(&rt, register, 1);
 }
 
 #[test]
@@ -154,7 +154,7 @@ fn paths_depend_on_nodes(rt: HostRuntime) {
     // line 80 is not on the map
     expect_dependents(&rt, alloc, &mut register, &[8, 9], &[]);
     expect_dependents(&rt, alloc, &mut register, &[], &[]);
-    ends(&rt, register, 3, 0);
+    ends(&rt, register, 3);
 }
 
 #[test]
@@ -173,5 +173,5 @@ fn side_roads_are_searched_too(rt: HostRuntime) {
     expect_dependents(&rt, alloc, &mut register, &[6], &["a"]);
     expect_dependents(&rt, alloc, &mut register, &[7, 8], &[]);
     assert!(rt; register.work() == counted);
-    ends(&rt, register, 4, 1);
+    ends(&rt, register, 4);
 }

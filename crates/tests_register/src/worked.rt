@@ -160,15 +160,14 @@ fn expect_iterated(rt: &impl Abort, register: &Register, names: &[&str]) {
     assert!(rt; paths.next().is_none());
 }
 
-/// Asserts the number of encodings, and how many of them retained an answer.
-pub(crate) fn expect_counts(rt: &impl Abort, register: &Register, encodings: u64, kept: u64) {
+/// Asserts the number of encodings.
+pub(crate) fn expect_encodings(rt: &impl Abort, register: &Register, encodings: u64) {
     assert_eq!(rt; register.work().encodings, encodings);
-    assert_eq!(rt; register.retained_count(), kept);
 }
 
 /// The same at the end of a test. The register is dropped here; that is proved once, and not again in each test.
-pub(crate) fn ends(rt: &impl Abort, register: Register, encodings: u64, kept: u64) {
-    expect_counts(rt, &register, encodings, kept);
+pub(crate) fn ends(rt: &impl Abort, register: Register, encodings: u64) {
+    expect_encodings(rt, &register, encodings);
 }
 
 /// Makes the worked map by single edits.

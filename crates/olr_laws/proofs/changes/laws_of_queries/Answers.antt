@@ -1,11 +1,11 @@
 use Rattle.olr_spec.proofs.Common.{SameLine}
 use Rattle.olr_spec.proofs.Facts.{Each-from}
 use Rattle.olr_spec.proofs.QueryLemmas.{to_same, clear_routes, query_stays, covered_stays}
-use Rattle.olr_spec.proofs.StayLemmas.{kept, known_kept, untouched_retained}
+use Rattle.olr_spec.proofs.StayLemmas.{kept, untouched_retained}
 use Rattle.olr_spec.proofs.TestedLemmas.{one_last_tested, some_last_tested, one_queries, some_queries, foot_queried}
 use Rattle.olr_spec.proofs.TestedLemmas.{foot_affected}
-use Rattle.olr_spec.proofs.KnownLemmas.{known_stays, one_known, known_holds, one_searched, all_searched}
-use Rattle.olr_spec.specs.Laws.{QueriesStay, KnownRetained}
+use Rattle.olr_spec.proofs.KnownLemmas.{known_stays, known_kept}
+use Rattle.olr_spec.specs.Laws.{QueriesStay}
 use Rattle.olr_laws.proofs.changes.laws_of_queries.Goals as goal
 
 queries_stay : QueriesStay
@@ -16,10 +16,6 @@ queries_stay M N C there here ls same s t joined i k query clear =
       to_same M N ls each s t joined i k query,
       covered_stays M N ls each s t joined i k query routes,
     )
-
-known_retained : KnownRetained
-known_retained M N m n C there here P is same traversed queries o clear =
-    known_kept M N m n C there here P is (Each-from (SameLine M N) P.lines same) queries clear traversed o
 
 pub returns : goal.returns
 returns c =
@@ -32,11 +28,7 @@ returns c =
       foot_affected,
       queries_stay,
       known_stays,
-      one_known,
-      known_holds,
-      one_searched,
-      all_searched,
       kept,
       untouched_retained,
-      known_retained,
+      known_kept,
     )

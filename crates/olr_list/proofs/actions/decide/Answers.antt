@@ -1,5 +1,5 @@
-use Rattle.olr_list.proofs.Common.{inl, inr, sym, ◌∙◌, ap, option_map, made_of, true≢false, nodes_of, lines_of, changed_of}
-use Rattle.olr_list.proofs.Touching.{untouched, touched_itself, not_retained}
+use Rattle.olr_list.proofs.Common.{inl, inr, sym, ◌∙◌, ap, option_map, made_of, true≢false, nodes_of, lines_of}
+use Rattle.olr_list.proofs.Touching.{untouched, touched_itself}
 use Rattle.olr_list.proofs.actions.decide.Goals.{else-are_few-via-then-are_few+in_ok-are_clear+else-branch, else-are_few-via-else-are_few}
 use Rattle.olr_list.proofs.actions.decide.Goals as goal
 
@@ -7,16 +7,13 @@ pub is_query_touched-requires : goal.is_query_touched-requires
 is_query_touched-requires g c = c.requires.asked _ (ap (option_map (λ p. made_of p.now)) c.in-Some.is)
 
 pub returns-then-is_path_touched-clause-action : goal.returns-then-is_path_touched-clause-action
-returns-then-is_path_touched-clause-action g c =
-    let own = (rw c.deref.ensures at c.is_path_touched.ensures).0 c.if-is_path_touched.true in inr (
-      made_of c.in-Some.published.now,
-      ap (option_map (λ p. made_of p.now)) c.in-Some.is,
-      touched_itself (g.M.MapRead.map c.args.map.now) (nodes_of c.args.touched.now) (lines_of c.args.touched.now)
-          (made_of c.in-Some.published.now) c.args.shown.path.now.value own,
-      not_retained (g.M.MapRead.map c.args.map.now) (nodes_of c.args.touched.now) (lines_of c.args.touched.now)
-          (made_of c.in-Some.published.now) c.args.shown.path.now.value
-          (changed_of c.args.touched.now) own,
-    )
+returns-then-is_path_touched-clause-action g c = inr (
+  made_of c.in-Some.published.now,
+  ap (option_map (λ p. made_of p.now)) c.in-Some.is,
+  touched_itself (g.M.MapRead.map c.args.map.now) (nodes_of c.args.touched.now) (lines_of c.args.touched.now)
+      (made_of c.in-Some.published.now) c.args.shown.path.now.value
+      ((rw c.deref.ensures at c.is_path_touched.ensures).0 c.if-is_path_touched.true),
+)
 
 pub returns-then-not-is_query_touched-clause-action : goal.returns-then-not-is_query_touched-clause-action
 returns-then-not-is_query_touched-clause-action g c = (
@@ -36,10 +33,9 @@ returns-then-branch-clause-action g c =
       ap (option_map (λ p. made_of p.now)) c.in-Some.is,
       inr (inr (c.is_query_touched.ensures.0 c.if-not-is_query_touched.false)),
       record {
-        few = c.are_few.ensures.0 c.if-are_few.true;
         traversed = λ t. true≢false (sym (own.1 (inl t)) ∙ off);
         lines = λ x. true≢false (sym (own.1 (inr x)) ∙ off);
-        clear = (rw c.deref-then-are_few.ensures.value at c.in_ok-are_clear.ensures.clear).0 c.if-branch.true;
+        clear = (rw c.deref-then-are_few.ensures.value at c.in_ok-are_clear.ensures.clear) c.if-branch.true;
       },
     )
 
@@ -48,11 +44,6 @@ returns-clause-action g c = inr (
   made_of c.in-Some.published.now,
   ap (option_map (λ p. made_of p.now)) c.in-Some.is,
   inr (inr (c.is_query_touched.ensures.0 c.if-not-is_query_touched.false)),
-  elim c.else-are_few.branch [
-    | else-are_few-via-then-are_few+in_ok-are_clear+else-branch w ↦ λ r. true≢false
-        (sym ((rw w.deref-then-are_few.ensures.value at w.in_ok-are_clear.ensures.clear).1 r.clear) ∙ w.if-branch.false)
-    | else-are_few-via-else-are_few w ↦ λ r. true≢false (sym (c.are_few.ensures.1 r.few) ∙ w.if-are_few.false)
-  ],
 )
 
 pub returns-clause-asked : goal.returns-clause-asked

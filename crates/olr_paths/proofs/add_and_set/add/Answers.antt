@@ -9,7 +9,6 @@ returns g c =
     record {
       added = (made_of c.in_ok-path.published.value, e.1, put, rw (← c.as_str.ensures.value, ← c.deref.ensures) c.in_ok-entries.ensures);
       counted = e.2;
-      searched = e.3;
       new_origins = λ v b. grind (arith, begins_add);
       err = tt;
     }

@@ -19,7 +19,6 @@ returns g c =
         ],
       );
       counted = e.2;
-      searched = e.3;
       new_origins = λ v b. grind (arith, begins_set);
       err = tt;
     }

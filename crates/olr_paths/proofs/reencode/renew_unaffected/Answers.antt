@@ -13,7 +13,7 @@ returns-clause-renewed g c = λ L N slot edit was bounds.
     to_position edit.sound [] (follows_self is c.len-names.ensures.names)
     (c.affects_none.ensures.covers c.if-not-affects_none.false N slot edit bounds) 0 0 (length is)
     (λ m a b. absurd (omega arith)) passed_none (omega arith) (omega arith)
-    (so_far_none c.none.result e.fresh e.entries e.work e.retained) in
+    (so_far_none c.none.result e.fresh e.entries e.work) in
     rw e.fresh at (whole {t = t} c.none.result (L, was) (rw (take_all (length is) is (omega arith)) at all))
 
 pub returns-clause-right : goal.returns-clause-right

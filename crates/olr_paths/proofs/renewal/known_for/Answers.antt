@@ -1,14 +1,16 @@
-use Rattle.olr_paths.proofs.Common.{Bor, ap, option_map, IfOk-weaker, made_of, changed_of, shown_item, Published}
-use Rattle.olr_paths.proofs.GivenQueries.{given_known, gives_picked}
+use Rattle.olr_paths.proofs.Common.{ap, option_map, subst, IfOk-weaker, changed_of, made_of, shown_item, List}
+use Rattle.olr_list.proofs.Common.{KnownQuery}
+use Rattle.olr_list.specs.Changes.{StayKnown}
+use Rattle.olr_paths.proofs.RetainedLemmas.{given_known}
 use Rattle.olr_paths.proofs.renewal.known_for.Goals as goal
 
 pub returns-in-Encode-Some-clause-known : goal.returns-in-Encode-Some-clause-known
 returns-in-Encode-Some-clause-known g c =
     let b = c.requires.before in
-    let i = shown_item c.args.shown in
-    let made = ap (option_map (λ (q : Bor Published). made_of q.now)) c.in-Encode-Some.is-1 in
+    let N = g.M.MapRead.map c.args.map.now in
+    let C = changed_of c.args.touched.now in
     IfOk-weaker c.clear_known.result _ _
-    (λ ks picks. given_known (g.met.M.MapRead.sound c.args.map.now) b.4 b.2 i b.3 ks.items
-    (gives_picked (g.M.MapRead.map c.args.map.now) (changed_of c.args.touched.now) i.made
-    (made_of c.in-Encode-Some.published.now) c.known.result.now ks.items made c.known.ensures picks))
+    (λ ks stay. given_known (g.met.M.MapRead.sound c.args.map.now) b.4 b.2 (shown_item c.args.shown) b.3
+    (ap (option_map (λ p. made_of p.now)) c.in-Encode-Some.is-1) ks.items
+    (subst (λ (known : List KnownQuery). StayKnown N C known ks.items) c.known.ensures stay))
     c.clear_known.ensures.clear

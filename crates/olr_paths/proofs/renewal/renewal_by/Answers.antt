@@ -21,7 +21,7 @@ advance-requires g c = record { known = rw c.deref.ensures.value c.in_ok-known.e
 pub loop-position-init : goal.loop-position-init
 loop-position-init g c = (
   0,
-  so_far_none _ c.none-renewal.ensures.fresh c.none-renewal.ensures.entries c.none-renewal.ensures.work c.none-renewal.ensures.retained,
+  so_far_none _ c.none-renewal.ensures.fresh c.none-renewal.ensures.entries c.none-renewal.ensures.work,
   passed_none,
   c.requires.candidates.detours,
   c.requires.candidates.asked,
@@ -51,8 +51,7 @@ loop-position-preserved g c =
           (λ m a b. ascends c.args.found.now c.requires.candidates.ascending k m a b) h.2 (h.2.ahead k (omega arith) lt) (omega arith)
           h.1)
           (c.in_ok-advance.ensures (nodes_of c.args.touched.now) (lines_of c.args.touched.now)
-          (changed_of c.args.touched.now)
-          (λ e. rw c.deref.ensures.value (c.in_ok-known.ensures.given e)) c.in_ok-action.ensures.action),
+          (changed_of c.args.touched.now) c.in_ok-action.ensures.action),
       passed_one c.requires.candidates.ascending h.2 lt within,
       (λ some. c.in_ok-known.ensures.detours),
       c.in_ok-action.ensures.asked _ h.4,

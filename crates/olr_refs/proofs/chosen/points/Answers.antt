@@ -5,10 +5,9 @@ use Rattle.olr_refs.proofs.chosen.points.Goals as goal
 
 pub loop-last-preserved : goal.loop-last-preserved
 loop-last-preserved g c =
-    gone_more (g.M.MapRead.map c.args.resolved.now.map.now) c.args.resolved.now.lines.now c.args.reuse.now.lead
-    c.args.reuse.now.own c.args.reuse.now.known.now c.loop-last.positions.items c.push-in-Some.new.self.items
-    c.loop-last.last c.in-Some.next _ _ _ _ _ c.loop-last.invariant c.in_ok-reach.ensures.1
-    c.in-Some.ensures c.in_ok-push-in-Some.ensures.items
+    gone_more (g.M.MapRead.map c.args.resolved.now.map.now) c.args.resolved.now.lines.now c.args.reuse.now
+    c.loop-last.positions.items c.push-in-Some.new.self.items c.loop-last.last c.in-Some.next _ _ _ _ _
+    c.loop-last.invariant c.in_ok-reach.ensures.asks c.in-Some.ensures c.in_ok-push-in-Some.ensures.items
 
 pub returns-in-None : goal.returns-in-None
 returns-in-None g c =
@@ -21,8 +20,7 @@ returns-in-None g c =
       asks = (
         s.points,
         led.0,
-        ended M ls c.args.reuse.now.lead c.args.reuse.now.own c.args.reuse.now.known.now
-            c.loop-last.positions.items c.loop-last.last _ _ _ _ _ s c.in_ok-reach.ensures.1,
+        ended M ls c.args.reuse.now c.loop-last.positions.items c.loop-last.last _ _ _ _ _ s c.in_ok-reach.ensures.asks,
       );
     }
 
@@ -38,7 +36,6 @@ returns g c =
       asks = (
         s.points,
         led.0,
-        ended_there M ls c.args.reuse.now.lead c.args.reuse.now.own
-            c.args.reuse.now.known.now c.loop-last.positions.items c.loop-last.last _ _ _ s (omega arith),
+        ended_there M ls c.args.reuse.now c.loop-last.positions.items c.loop-last.last _ _ _ s (omega arith),
       );
     }

@@ -4,8 +4,8 @@ use Rattle.olr_refs.proofs.chosen.points.Given as goal
 
 abbrev pub invariant-loop-last : goal.invariant-loop-last
 invariant-loop-last g l =
-    Gone (g.M.MapRead.map l.resolved.map.now) l.resolved.lines.now l.reuse.lead l.reuse.own l.reuse.known.now
-    l.positions.items l.last l.queries l.initial.seen l.seen
+    Gone (g.M.MapRead.map l.resolved.map.now) l.resolved.lines.now l.reuse l.positions.items l.last l.queries
+    l.initial.seen l.seen
 
 -- the remaining positions
 abbrev pub decreases-loop-last : goal.decreases-loop-last

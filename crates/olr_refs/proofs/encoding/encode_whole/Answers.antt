@@ -1,6 +1,7 @@
-use Rattle.olr_refs.proofs.Common.{arith, refl}
-use Rattle.olr_refs.proofs.Referring.{whole_joined, whole_short, asks_of, encoding_of, joins_of, own_of, traversed_of}
-use Rattle.olr_refs.proofs.Asking.{asks_encoding, queries_whole, known_whole, searched_few}
+use Rattle.olr_refs.proofs.Common.{◌≡◌, length, arith, refl}
+use Rattle.olr_refs.specs.declared.reuse.Reuse.{Reuse}
+use Rattle.olr_refs.proofs.Referring.{whole_joined, whole_short, encoding_of, joins_of, own_of, traversed_of}
+use Rattle.olr_refs.proofs.Asking.{queries_whole, known_whole, reuse_of, settled_few}
 use Rattle.olr_refs.proofs.encoding.encode_whole.Goals as goal
 
 pub encode_along-requires-clause-joined : goal.encode_along-requires-clause-joined
@@ -9,9 +10,15 @@ encode_along-requires-clause-joined g c = grind (arith, whole_joined)
 pub encode_along-requires-clause-short : goal.encode_along-requires-clause-short
 encode_along-requires-clause-short g c = grind (arith, whole_short)
 
-pub returns-clause-asks : goal.returns-clause-asks
-returns-clause-asks g c =
-    asks_encoding (g.M.MapRead.map c.args.map.now) c.args.path.now _ _ _ c.in_ok-answered.queries.work _ _ (grind (arith, asks_of))
+pub encode_along-requires-clause-reuse : goal.encode_along-requires-clause-reuse
+encode_along-requires-clause-reuse g c =
+    reuse_of (g.M.MapRead.map c.args.map.now) c.args.path.now _ _ _ _ c.in_ok-extended.ensures.ok c.requires.path _
+    (grind arith) (grind arith) c.requires.known
+
+pub returns-clause-searched : goal.returns-clause-searched
+returns-clause-searched g c = λ none.
+    let s = c.in_ok-answered.ensures.1.2.searched none in
+    record { searches = s.searches; notes = s.notes }
 
 pub returns-clause-encoding : goal.returns-clause-encoding
 returns-clause-encoding g c =
@@ -21,15 +28,19 @@ returns-clause-encoding g c =
     let sound = c.requires.sound in
     let x = c.in_ok-extended.ensures.ok in
     let answered = c.in_ok-answered.ensures.0 in
+    let asks = c.in_ok-answered.ensures.1 in
+    let r : Reuse = record { known = c.args.known; lead = c.extended.inside.lead; own = length c.lines.result.now } in
+    let leads : r.lead ≡ c.in_ok-extended.extended.lead = grind arith in
+    let owns : r.own ≡ length P.lines = grind arith in
     let encoding = encoding_of M P _ _ _ _ _ _ x answered in
-    let asks = returns-clause-asks g c in
     record {
       answer = rw sound encoding;
       joins = joins_of M P _ sound encoding;
       own = own_of M P _ _ _ _ _ _ x answered;
       traversed = λ v. rw sound (traversed_of M m P _ _ _ _ c.requires.path sound c.new-traversed.ensures x v);
-      queries = queries_whole M P _ _ _ _ _ _ sound asks;
-      known = known_whole M P _ _ _ _ _ _ sound asks;
+      queries = queries_whole M P _ _ _ _ x sound r leads owns _ _ _ asks;
+      known = known_whole M P _ _ _ _ x sound r leads owns _ _ _ asks;
       encodings = refl;
-      settled = searched_few M m P c.requires.path sound _ _ _ _ _ _ asks;
+      searches = asks.2.cost.searches;
+      settled = settled_few M P _ _ _ _ x sound r leads owns _ _ _ asks m c.requires.path;
     }

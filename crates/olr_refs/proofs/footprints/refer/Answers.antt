@@ -1,10 +1,7 @@
-use Rattle.olr_refs.proofs.Common.{◌≡◌, refl, arith, ap, subst, sym, answer_of, AreSearched, Work, raised_count}
-use Rattle.olr_refs.proofs.Asking.{searched_all}
+use Rattle.olr_refs.proofs.Common.{◌≡◌, refl, arith, ap, answer_of, Work, raised_count}
 use Rattle.olr_refs.proofs.Referring.{recovered_of, searches_queried}
 use Rattle.olr_spec.proofs.LocalLemmas.{local_answer}
-use Rattle.olr_refs.proofs.Noting.{noted_foot, searched_on}
-use Rattle.olr_refs.proofs.footprints.refer.Given.{Over}
-use Rattle.olr_refs.proofs.footprints.refer.Goals.{After-plus}
+use Rattle.olr_refs.proofs.Noting.{noted_foot}
 use Rattle.olr_refs.proofs.footprints.refer.Goals as goal
 
 pub returns-clause-recovered : goal.returns-clause-recovered
@@ -14,8 +11,8 @@ pub returns-clause-footprint : goal.returns-clause-footprint
 returns-clause-footprint g c =
     let e = c.in_ok-encoding.ensures in
     noted_foot (g.M.MapRead.map c.args.map.now) (g.met.M.MapRead.sound c.args.map.now) c.args.path.now
-    c.encode_noting.ensures.path _ e.seen.0 e.encoding.queries e.seen.1 _ _ _ _ e.encoding.traversed c.new.ensures e.seen.2
-    c.in_ok-footprint.ensures
+    c.encode_noting.ensures.path _ e.encoding.queries _ _ _ _ e.encoding.traversed c.new.ensures
+    (e.searched refl).notes c.in_ok-footprint.ensures
 
 pub returns-clause-local : goal.returns-clause-local
 returns-clause-local g c = λ N n a.
@@ -24,22 +21,16 @@ returns-clause-local g c = λ N n a.
     (record { nodes = λ v h. a.nodes v ((returns-clause-footprint g c v).1 h); lines = a.lines })
     (answer_of c.in_ok-encoding.encoding.answer) c.in_ok-encoding.ensures.encoding.answer
 
--- the work of all coverage queries, added to the work before
-all : (g : Over) (c : After-plus g) →
-    AreSearched (g.M.MapRead.map c.args.map.now) c.in_ok-encoding.encoding.queries.items c.args.work.now c.plus.result
-all g c =
-    let M = g.M.MapRead.map c.args.map.now in
-    let e = c.in_ok-encoding.ensures in
-    subst (AreSearched M c.in_ok-encoding.encoding.queries.items c.args.work.now) (sym c.plus.ensures)
-    (searched_on M _ c.args.work.now _ (searched_all M (g.met.M.MapRead.sound c.args.map.now) c.args.path.now
-    c.encode_noting.ensures.path _ _ _ refl e.encoding.queries e.searched))
-
 pub returns-clause-searches : goal.returns-clause-searches
-returns-clause-searches g c = (
-  _,
-  searches_queried (g.M.MapRead.map c.args.map.now) c.args.path.now _ c.in_ok-encoding.ensures.encoding.queries,
-  (all g c).searches,
-)
+returns-clause-searches g c =
+    let e = c.in_ok-encoding.ensures in
+    let all = e.searched refl in
+    let added : c.plus.result.searches ≡ raised_count c.args.work.now.searches c.in_ok-encoding.encoding.work.searches =
+    ap (λ (w : Work). w.searches) c.plus.ensures in (
+      _,
+      searches_queried (g.M.MapRead.map c.args.map.now) c.args.path.now _ e.encoding.queries,
+      omega (arith, all.searches),
+    )
 
 pub returns-clause-settled : goal.returns-clause-settled
 returns-clause-settled g c =
@@ -50,6 +41,3 @@ returns-clause-settled g c =
       searches_queried (g.M.MapRead.map c.args.map.now) c.args.path.now _ c.in_ok-encoding.ensures.encoding.queries,
       omega arith,
     )
-
-pub returns-clause-settled_exactly : goal.returns-clause-settled_exactly
-returns-clause-settled_exactly g c = (_, c.in_ok-encoding.ensures.encoding.queries, (all g c).settled)

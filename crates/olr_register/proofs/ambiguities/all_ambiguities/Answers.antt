@@ -17,4 +17,4 @@ pub push_ambiguity-requires-clause-known : goal.push_ambiguity-requires-clause-k
 push_ambiguity-requires-clause-known g c =
     let M = g.M.MapRead.map c.args.map.now in
     subst (λ (ks : List KnownQuery). AreKnown M c.in-Some.path.now.lines ks) (sym c.known_of-known.ensures)
-    (known_at M (items c.args.paths.now) c.loop-k.k _ c.requires.made c.requires.paths (sym c.in-Some.ensures))
+    (known_at M (items c.args.paths.now) c.loop-k.k _ c.requires.made (sym c.in-Some.ensures))

@@ -40,7 +40,7 @@ returns c = λ roads.
     ap (has_name ks) (sym c.deref.ensures) ∙ sym c.has-taken.ensures ∙ c.in_ok-path.ensures.right in
     path_made roads is c.args.self.now c.hold.new.self (Add_path name path) _
     (rw (← c.in_ok-path.ensures.ok) (c.in_ok-hold.ensures.ok is))
-    (add_ok (map_of roads) ks name path _ free c.in_ok-path.ensures.good) tt refl refl refl
+    (add_ok (map_of roads) ks name path _ free c.in_ok-path.ensures.good) tt refl refl
     (λ names g. given_add name path names ks free g) (λ M. each_add (each_if_any M) ks _ tt)
     (each_add (each_follows is) ks _ (inl refl))
     (λ v on. elim (begins_add ks _ v on) [ inl old ↦ old | inr never ↦ absurd never ])

@@ -17,7 +17,7 @@ returns c = λ roads.
     let ks = under_overlay is c.args.self.now.overlay in
     let keep = λ (i : Item). not (same_name i.name name) in
     path_made roads is c.args.self.now c.drop_path.new.self (Drop_path name) _ (c.in_ok-drop_path.ensures.ok is c.requires)
-    (drop_ok (map_of roads) ks name (sym c.if-not-has.ensures)) tt refl refl refl
+    (drop_ok (map_of roads) ks name (sym c.if-not-has.ensures)) tt refl refl
     (λ names g. rw (append-nil names) (each_left (each_given names) keep ks g))
     (λ M. each_left (each_if_any M) keep ks) (each_left (each_follows is) keep ks) (begins_drop keep ks)
 

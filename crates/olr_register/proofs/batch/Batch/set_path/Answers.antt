@@ -29,7 +29,7 @@ returns c = λ roads.
     let there = sym c.has-missing.ensures ∙ not-false c.has-missing.result c.in_ok-path.ensures.right in
     path_made roads is b c.hold_other.new.self (Set_path name path) _
     (rw (← c.in_ok-path.ensures.ok) (c.in_ok-hold_other.ensures.ok is c.requires there))
-    (set_ok (map_of roads) ks name path _ there c.in_ok-path.ensures.good) tt refl refl refl
+    (set_ok (map_of roads) ks name path _ there c.in_ok-path.ensures.good) tt refl refl
     (λ names g. given_set name path names ks g)
     (λ M. each_set (each_if_any M) (each_if_any M) name path _ (λ i e. tt) (λ i e p. p) ks)
     (each_set (each_follows is) (each_follows is) name path _ (λ i e. inl refl) (λ i e p. p) ks)

@@ -41,6 +41,6 @@ returns c =
     rw (← c.in_ok-path.ensures.ok, c.plus-self-inside.ensures)
     (add_done r c.self.view_is c.requires c.self.invariant (string_bytes c.args.name) (items c.add.new.list)
     c.in_ok-path.path e.added.0 (rw c.in_ok-path.ensures.ok c.in_ok-path.ensures.good) e.added.1 _ _ _ refl
-    e.counted e.searched
+    e.counted
     (ap (has_name (items r.paths)) (sym c.deref.ensures) ∙ sym c.has-taken.ensures ∙ c.in_ok-path.ensures.right) e.added.2
     e.added.3)

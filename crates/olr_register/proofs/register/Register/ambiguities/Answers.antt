@@ -21,9 +21,6 @@ all_ambiguities-requires-clause-made c =
     let r = c.self.inside in
     (right_as r (none_of r.batch (sym c.if-is_some.ensures)) c.self.invariant).register.made
 
-pub all_ambiguities-requires-clause-paths : goal.all_ambiguities-requires-clause-paths
-all_ambiguities-requires-clause-paths c = c.self.invariant.register.content.paths
-
 pub returns-in_err-all : goal.returns-in_err-all
 returns-in_err-all c =
     rw (← c.self.view_is) (shut_refused c.self.inside (Ambiguous None) (sym c.if-is_some.ensures)

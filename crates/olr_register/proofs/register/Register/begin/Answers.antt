@@ -30,5 +30,5 @@ returns c =
     let s = c.self.inside in
     let none = none_of s.batch (sym c.if-is_some.ensures) in
     rw (← c.self.view_is, none, c.replace.ensures.after)
-    (begin_done s.roads (items s.paths) _ s.bounds (rw none at c.self.invariant) (empty c) _ _ _
+    (begin_done s.roads (items s.paths) _ s.bounds (rw none at c.self.invariant) (empty c) _ _
     (ap (λ es. replies.Paths (map entry_of es)) c.new-4.ensures.items))

@@ -26,4 +26,4 @@ returns-in-Some c =
     let b = c.in-Some.batch in
     rw (← c.self.view_is, c.in-Some.is, c.hold.ensures.before)
     (answered_held (content_on (map_before s.roads b.log) (items s.paths)) s.roads c.hold.new.roads (items s.paths) b
-    c.hold.new.self (change_of c.args.change) s.work s.retained c.hold.result c.hold.ensures)
+    c.hold.new.self (change_of c.args.change) s.work c.hold.result c.hold.ensures)

@@ -1,9 +1,9 @@
 use Rattle.olr_register.proofs.Common.{◌≡◌, arith, true, false, Some, None, Ok, List, map, length, refl, sym, ap, ◌∙◌, subst}
 use Rattle.olr_register.proofs.Common.{ne_eqb, map_of, map_before, Named, Content, Commit, IsContent, ByState, may_want}
-use Rattle.olr_register.proofs.Common.{entry_of, items, all_named, under_overlay, nodes_of, lines_of, changed_of}
+use Rattle.olr_register.proofs.Common.{entry_of, items, all_named, under_overlay, nodes_of, lines_of}
 use Rattle.olr_register.proofs.Common.{Registered, content_on, batch_of, Lacks_memory}
 use Rattle.olr_register.proofs.BatchSteps.{held_content, right_count}
-use Rattle.olr_register.proofs.Counting.{counted_changes, counted_on}
+use Rattle.olr_register.proofs.Counting.{counted_changes, rise_on}
 use Rattle.olr_register.proofs.Noted.{can_commit}
 use Rattle.olr_register.proofs.Outcomes.{answered_counted, answered_refused, Accepts}
 use Rattle.olr_register.proofs.Renewed.{remade_made}
@@ -11,7 +11,7 @@ use Rattle.olr_register.proofs.Replies.{planned_changes}
 use Rattle.olr_register.proofs.States.{state, of_parts, in_states, right_as}
 use Rattle.olr_commands.specs.declared.fault.CommandFault.TheVariants as rust
 use Rattle.olr_commands.specs.declared.reply.Reply.TheVariants as reply
-use Rattle.olr_search.specs.Counts.{raised_count, raised_work}
+use Rattle.olr_search.specs.Counts.{raised_work}
 use Rattle.olr_register.proofs.register.Register.commit.Goals as goal
 
 pub returns-in_default : goal.returns-in_default
@@ -65,9 +65,8 @@ returns c =
     let count = e.renewed.counted old.map (can_commit s.roads is b right.register).before in
     let n = c.in_ok-renewed.renewed in
     let r = reply.Paths n.entries in
-    let later : Registered = of_parts s.roads js None (raised_work s.work n.work) (raised_count s.retained n.retained) in
-    let retained : c.saturating_add-self-inside.result ≡ raised_count s.retained n.retained = omega arith in
-    rw (← c.self.view_is, c.in-Some.is, c.take.ensures.after, c.plus-self-inside.ensures, retained) (answered_counted _ later (Commit c.args.count) r count.0
+    let later : Registered = of_parts s.roads js None (raised_work s.work n.work) in
+    rw (← c.self.view_is, c.in-Some.is, c.take.ensures.after, c.plus-self-inside.ensures) (answered_counted _ later (Commit c.args.count) r count.0
     (in_states (record { content = old; batch = Some (batch_of s.roads is b) })
     (Accepts later (Commit c.args.count) r count.0) (λ xs i. (
       (
@@ -81,10 +80,10 @@ returns c =
               right.register.made (remade_made M _ js e.renewed.remade) e.renewed.reported,
         ),
       ),
-      counted_changes old new xs (nodes_of b.touched) (lines_of b.touched) (changed_of b.touched) i.nodes i.lines
-          i.changed (under_overlay is b.overlay) count.0 count.1 i.given (all_named js) e.renewed.named,
+      counted_changes old xs (nodes_of b.touched) (lines_of b.touched) i.nodes i.lines (under_overlay is b.overlay) count.0
+          count.1 i.given (all_named js) e.renewed.named,
     )))
-    (counted_on M count.0 s.work n.work s.retained n.retained count.2) (λ off. let no : true ≡ false = off in absurd cc))
+    (rise_on s.work n.work count.0 count.2) (λ off. let no : true ≡ false = off in absurd cc))
 
 pub returns-in_err-renewed : goal.returns-in_err-renewed
 returns-in_err-renewed c =

@@ -6,7 +6,6 @@ use Rattle.olr_register.proofs.Singles.{refused_now, same_map, may_refuse, same_
 use Rattle.olr_register.proofs.Singles.{can_edit, edit_right, edit_done}
 use Rattle.olr_register.proofs.States.{state, of_parts}
 use Rattle.olr_commands.specs.State as faults
-use Rattle.olr_search.specs.Counts.{raised_count}
 use Rattle.olr_register.specs.declared.register.Register.TheInside.{Inside}
 use Rattle.olr_register.proofs.register.Register.edit_among_paths.Goals as goal
 
@@ -18,7 +17,7 @@ returns-in-Err c =
 
 -- ---- out of memory
 
-named_some : (r : Inside) {x : Registered} → of_parts r.roads (items r.paths) r.batch r.work r.retained ≡ x →
+named_some : (r : Inside) {x : Registered} → of_parts r.roads (items r.paths) r.batch r.work ≡ x →
     length x.kept.content.paths ≢ 0 → length (all_named (items r.paths)) ≢ 0
 named_some r view some = λ e. some (ap (λ (y : Registered). length y.kept.content.paths) (sym view) ∙ e)
 
@@ -78,8 +77,7 @@ pub returns : goal.returns
 returns c =
     let r = c.self.inside in
     let e = c.in_ok-renewed.ensures in
-    let retained : c.saturating_add-self-inside.result ≡ raised_count r.retained c.in_ok-renewed.renewed.retained = omega arith in
-    rw (c.plus-self-inside.ensures, retained)
+    rw c.plus-self-inside.ensures
     (edit_done r c.self.view_is c.requires.open c.self.invariant (edit_of c.args.edit) c.make_and_renew.new.roads e.done
     c.note_only.new.touched (c.in_ok-note_only.ensures _ _ _ c.in-Ok.ensures.plan)
     (items c.make_and_renew.new.paths) c.in_ok-renewed.renewed e.renewed _ refl)

@@ -5,7 +5,7 @@ use Rattle.olr_register.proofs.register.Register.new.Goals as goal
 
 -- map and list are empty
 pub returns : goal.returns
-returns c = λ i. register_of (content_on (c.new.ensures i) (c.new-2.ensures i)) None (c.none.ensures i) 0
+returns c = λ i. register_of (content_on (c.new.ensures i) (c.new-2.ensures i)) None (c.none.ensures i)
 
 pub invariant_of-result : goal.invariant_of-result
 invariant_of-result c = record {

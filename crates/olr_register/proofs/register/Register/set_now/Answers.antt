@@ -40,5 +40,5 @@ returns c =
     rw (← c.in_ok-path.ensures.ok, c.plus-self-inside.ensures)
     (set_done c.self.inside c.self.view_is c.requires c.self.invariant c.args.name.now (items c.set.new.list)
     c.in_ok-path.path e.set.0 (rw c.in_ok-path.ensures.ok c.in_ok-path.ensures.good) e.set.1 _ _ _ refl e.counted
-    e.searched (sym c.has-missing.ensures ∙ not-false c.has-missing.result c.in_ok-path.ensures.right)
+    (sym c.has-missing.ensures ∙ not-false c.has-missing.result c.in_ok-path.ensures.right)
     e.set.2 e.set.3)

@@ -1,14 +1,12 @@
--- A path that is added or set outside of batches: it is encoded, no answer is retained, and nothing else is searched.
-use Rattle.olr_commands.proofs.Common.{list_any, cases_Bool, both_ways, not-false, bytes_decides, Path, is_path}
+-- A path that is added or set outside of batches is encoded, and no other.
+use Rattle.olr_commands.proofs.Common.{cases_Bool, both_ways, not-false, bytes_decides, Path, is_path}
 use Rattle.std.proofs.Common.{rules, arith, inr, ◌⊎◌, ◌≡◌, ℕ, true, false, not, List, [], ◌∷◌, ◌++◌, map, Option, Some}
-use Rattle.std.proofs.Common.{None, is_some, Ok, refl, ap, append-nil, sym, subst}
+use Rattle.std.proofs.Common.{None, is_some, Ok, refl, ap, sym, subst}
 use Rattle.std.proofs.Math.Bool.{or-false}
-use Rattle.olr_spec.specs.Queries.{CoverageQuery}
 use Rattle.olr_commands.specs.State.{Named, Content, same_name, path_named, with_path, NamesDiffer, Path_exists}
 use Rattle.olr_commands.specs.State.{Bad_path, when, Change, Add_path, Set_path, with_change, State, Make, step}
 use Rattle.olr_commands.specs.State.{changes_made, IsState}
 use Rattle.olr_commands.specs.Counts.{Affects, By_name, By_node, By_line, CountIs, all_nodes, all_lines, all_names}
-use Rattle.olr_commands.specs.Counts.{Retains, EncodesAgain, RaisesRetained, SearchedFor, SearchesFor, Collects, Searches}
 use Rattle.olr_commands.specs.Counts.{Raises}
 use Rattle.olr_commands.proofs.NameLemmas.{same_is, not_named, set_name}
 use Rattle.olr_commands.proofs.StateLemmas.{ends, when_ok, passed, steps_keep}
@@ -22,7 +20,7 @@ found : (p : Named) (ps : List Named) (name : List ℕ) (path : Path) → NamesD
     ⊎ ((same_name p.name name ≡ false) × (path_named ps name ≡ Some path))
 found p ps name path d h = search (rules, arith, cases_Bool, same_is)
 
--- what is counted and collected of it
+-- what is counted of it
 module _ (E : Named → Type 0) (name : List ℕ) (only : (p : Named) → E p → same_name p.name name ≡ true)
     (all : (p : Named) → same_name p.name name ≡ true → E p) where
   other : (p : Named) → same_name p.name name ≡ false → ¬ E p
@@ -32,21 +30,9 @@ module _ (E : Named → Type 0) (name : List ℕ) (only : (p : Named) → E p �
   none_counted [] h = refl
   none_counted (p ∷ ps) h = let r = not_named p ps name h in inr (other p r.0, none_counted ps r.1)
 
-  pub one_counted : (path : Path) (ps : List Named) → NamesDiffer ps → path_named ps name ≡ Some path → CountIs E ps 1
+  one_counted : (path : Path) (ps : List Named) → NamesDiffer ps → path_named ps name ≡ Some path → CountIs E ps 1
   one_counted path [] d h = absurd cc
   one_counted path (p ∷ ps) d h = grind (arith, found, none_counted, other, one_counted path ps d.1)
-
-  module _ (Q : Named → List CoverageQuery → Type 0) where
-    none_collected : (ps : List Named) → is_some (path_named ps name) ≡ false → Collects E Q ps []
-    none_collected [] h = refl
-    none_collected (p ∷ ps) h = let r = not_named p ps name h in inr (other p r.0, none_collected ps r.1)
-
-    one_collected : (path : Path) (own : List CoverageQuery) →
-        ((p : Named) → same_name p.name name ≡ true → p.path ≡ path → Q p own) → (ps : List Named) → NamesDiffer ps →
-        path_named ps name ≡ Some path → Collects E Q ps own
-    one_collected path own made [] d h = absurd cc
-    one_collected path own made (p ∷ ps) d h =
-        grind (arith, found, made, none_collected, append-nil, other, one_collected path own made ps d.1)
 
 -- ---- the path of the name, after the change
 
@@ -63,55 +49,27 @@ path_set name path (p ∷ ps) h = grind (arith, set_name, cases_Bool, path_set n
 -- ---- a change of one name
 
 -- a change of one name affects only the path of that name
-pub only_name : (c : Content) (x : Change) (name : List ℕ) → all_nodes c (x ∷ []) ≡ [] → all_lines (x ∷ []) ≡ [] →
+only_name : (c : Content) (x : Change) (name : List ℕ) → all_nodes c (x ∷ []) ≡ [] → all_lines (x ∷ []) ≡ [] →
     all_names (x ∷ []) ≡ name ∷ [] → (p : Named) → Affects c (x ∷ []) p → same_name p.name name ≡ true
 only_name c x name a b d p (By_name h) = grind (arith, or-false)
 only_name c x name a b d p (By_node v h f) = grind arith
 only_name c x name a b d p (By_line y h f) = grind arith
 
-pub by_name : (c : Content) (x : Change) (name : List ℕ) → all_names (x ∷ []) ≡ name ∷ [] → (p : Named) →
+by_name : (c : Content) (x : Change) (name : List ℕ) → all_names (x ∷ []) ≡ name ∷ [] → (p : Named) →
     same_name p.name name ≡ true → Affects c (x ∷ []) p
 by_name c x name d p h = grind arith
 
-module _ (c d : Content) (x : Change) (name : List ℕ) (nodes : all_nodes c (x ∷ []) ≡ [])
-    (lines : all_lines (x ∷ []) ≡ []) (names : all_names (x ∷ []) ≡ name ∷ []) where
-  is_named : (p : Named) → same_name p.name name ≡ true → list_any (same_name p.name) (all_names (x ∷ [])) ≡ true
-  is_named p same = grind arith
-
-  retains_none : (p : Named) → ¬ Retains c d (x ∷ []) p
-  retains_none p h = grind (arith, both_ways, is_named, only_name)
-
-  none_retained : (ps : List Named) → CountIs (Retains c d (x ∷ [])) ps 0
-  none_retained [] = refl
-  none_retained (p ∷ ps) = inr (retains_none p, none_retained ps)
-
-  one_search : (ps : List Named) (path : Path) (own : List CoverageQuery) → NamesDiffer ps →
-      path_named ps name ≡ Some path → SearchedFor d.map path own →
-      Collects (EncodesAgain c d (x ∷ [])) (SearchesFor c d (x ∷ [])) ps own
-  one_search ps path own differ there made =
-      grind (arith, one_collected, only_name, by_name, retains_none, is_named, made)
-
 -- ---- outside a batch
 
-pub makes : (s : State) (x : Change) → s.batch ≡ None → changes_made s (Make x) ≡ x ∷ []
+makes : (s : State) (x : Change) → s.batch ≡ None → changes_made s (Make x) ≡ x ∷ []
 makes s x closed =
     ap (λ (o : Option (List Change)). changes_made (record { content = s.content; batch = o }) (Make x)) closed
-
-module _ (s t : State) (x : Change) (name : List ℕ) (path : Path) (i : IsState s) (closed : s.batch ≡ None)
-    (nodes : all_nodes s.content (x ∷ []) ≡ []) (lines : all_lines (x ∷ []) ≡ [])
-    (names : all_names (x ∷ []) ≡ name ∷ []) where
-  pub raises_none : RaisesRetained s (Make x) t 0
-  raises_none = grind (arith, makes, none_retained)
-
-  pub searches_one : (own : List CoverageQuery) → NamesDiffer t.content.paths →
-      path_named t.content.paths name ≡ Some path → SearchedFor t.content.map path own → Searches s (Make x) t own
-  searches_one own differ there made = grind (arith, makes, one_search, made)
 
 -- the change that is made
 made : (s t : State) (x : Change) → s.batch ≡ None → step s (Make x) ≡ Ok t → with_change s.content x ≡ Ok t.content
 made s t x b is = ends (λ u. with_change s.content x ≡ Ok u.content) s t (Make x) is (rw b (λ d e. e))
 
-pub added_path : (s t : State) (name : List ℕ) (path : Path) → s.batch ≡ None →
+added_path : (s t : State) (name : List ℕ) (path : Path) → s.batch ≡ None →
     step s (Make (Add_path name path)) ≡ Ok t → path_named t.content.paths name ≡ Some path
 added_path s t name path b is =
     let n : Named = record { name = name; path = path } in
@@ -121,7 +79,7 @@ added_path s t name path b is =
     passed (λ (d : Content). path_named d.paths name ≡ Some path) _ Bad_path to t.content p.1
     (path_at_end s.content.paths n p.0)
 
-pub replaced_path : (s t : State) (name : List ℕ) (path : Path) → s.batch ≡ None →
+replaced_path : (s t : State) (name : List ℕ) (path : Path) → s.batch ≡ None →
     step s (Make (Set_path name path)) ≡ Ok t → path_named t.content.paths name ≡ Some path
 replaced_path s t name path b is = grind (arith, when_ok, made, passed, path_set, not-false)
 
