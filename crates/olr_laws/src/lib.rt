@@ -12,6 +12,7 @@ pub mod coordinates;
 pub mod input_lines;
 pub mod logs;
 pub mod maps;
+pub mod margins;
 pub mod receivers;
 pub mod records;
 pub mod runs;

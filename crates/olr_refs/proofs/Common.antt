@@ -29,6 +29,7 @@ pub use Rattle.olr_spec.proofs.QueryLemmas.{stretch_parts}
 pub use Rattle.olr_spec.proofs.RouteLemmas.{dm_of-append, empty_unique, prefix_of_unique}
 pub use Rattle.olr_spec.proofs.RunLemmas.{last_push, one_tried, same_end_run, same_start_run}
 pub use Rattle.olr_spec.proofs.TestedLemmas.{foot_queried, one_last_tested}
+pub use Rattle.olr_spec.proofs.WayLemmas.{route_known}
 pub use Rattle.olr_spec.specs.Bearings.{Leg, bearing_back, bearing_out}
 pub use Rattle.olr_spec.specs.Bytes.{IsReference}
 pub use Rattle.olr_spec.specs.Coordinates.{Coord, abs24, relative}

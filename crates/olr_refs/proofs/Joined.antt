@@ -2,13 +2,8 @@
 use Rattle.olr_refs.proofs.Common.{◌≡◌, ◌<◌, ◌+◌, ℕ, List, [], ◌∷◌, ◌++◌, length, take, get_or, sym, ap, ◌∙◌, subst}
 use Rattle.olr_refs.proofs.Common.{arith, length-append, cases_order, get_or_default, slice_index, IsTrue, Map, IsMap}
 use Rattle.olr_refs.proofs.Common.{has_line, has_node, start, end, dm, IsRoute, dm_of, AreJoined, dm_of-append, Each}
-use Rattle.olr_refs.proofs.Common.{has_index, DistancesTo, get_or_append_left, take_more, get_or-append_seam, Each-cons}
-use Rattle.olr_refs.proofs.Common.{Each-nil}
-
--- each line of a route is on the map
-pub route_known : (M : Map) (s t : ℕ) (xs : List ℕ) → IsRoute M s t xs → Each (λ x. IsTrue (has_line M x)) xs
-route_known M s t [] w = Each-nil _
-route_known M s t (x ∷ xs) w = Each-cons (λ x. IsTrue (has_line M x)) x xs w.0 (route_known M (end M x) t xs w.2)
+use Rattle.olr_refs.proofs.Common.{has_index, DistancesTo, get_or_append_left, take_more, get_or-append_seam}
+use Rattle.olr_refs.proofs.Common.{route_known}
 
 -- line k is on the map
 pub known_at : (M : Map) (ls : List ℕ) (k : ℕ) → AreJoined M ls → k < length ls → IsTrue (has_line M (slice_index ls k))

@@ -3,10 +3,9 @@ use Rattle.olr_refs.proofs.Common.{arith, ◌≡◌, ◌<◌, ◌-◌, ℕ, List
 use Rattle.olr_refs.proofs.Common.{take-map, slice_index, slice_range, IsTrue, Map, IsMap, has_line, has_node, coord_at}
 use Rattle.olr_refs.proofs.Common.{node_at, stretch, Attrs, attrs, leg, legs, leg_at, position, dm_between, Each}
 use Rattle.olr_refs.proofs.Common.{AreJoined, lowest_class, ResolvedLine, records_of, ◌/◌, drop-map, fold, Line}
-use Rattle.olr_refs.proofs.Common.{is_good, line_at, bearing_out, no_leg, position_is}
+use Rattle.olr_refs.proofs.Common.{is_good, line_at, bearing_out, no_leg, position_is, route_known}
 use Rattle.std.proofs.lemmas.Simd.{map-map}
 use Rattle.olr_bearing.specs.declared.places.Ends.{Ends}
-use Rattle.olr_refs.proofs.Joined.{route_known}
 use Rattle.olr_bearing.specs.Legs as ends
 
 -- each of them is on the map

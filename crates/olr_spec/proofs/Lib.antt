@@ -7,6 +7,8 @@ pub mod OrderLemmas
 pub mod AgreeLemmas
 pub mod EditLemmas
 pub mod UndoLemmas
+pub mod CountedLemmas
+pub mod OwnSums
 pub mod RouteLemmas
 pub mod RunLemmas
 pub mod RunMoves
@@ -19,6 +21,7 @@ pub mod FitLemmas
 pub mod DecodedLemmas
 pub mod RecoverLemmas
 pub mod ReceiverLemmas
+pub mod ElsewhereLemmas
 pub mod SectorLemmas
 pub mod BytesLemmas
 pub mod ReadLemmas

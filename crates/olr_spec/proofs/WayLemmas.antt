@@ -1,6 +1,13 @@
 -- Lines that join are routes between the positions along them, and an extended path's lines join.
 use Rattle.olr_spec.proofs.Common.{◌≡◌, ◌<◌, ◌≤◌, ◌-◌, ◌+◌, ℕ, zero, suc, List, ◌∷◌, length, take, drop, refl, sym}
 use Rattle.olr_spec.proofs.Common.{arith, length-drop, [], get_or-drop, slice_index, Map, start, end, IsRoute, stretch}
+use Rattle.olr_spec.proofs.Common.{IsTrue, has_line}
+use Rattle.olr_spec.proofs.ListLemmas.{Each, Each-nil, Each-cons}
+
+-- each line of a route is on the map
+pub route_known : (M : Map) (s t : ℕ) (xs : List ℕ) → IsRoute M s t xs → Each (λ x. IsTrue (has_line M x)) xs
+route_known M s t [] w = Each-nil (λ x. IsTrue (has_line M x))
+route_known M s t (x ∷ xs) w = Each-cons (λ x. IsTrue (has_line M x)) x xs w.0 (route_known M (end M x) t xs w.2)
 
 -- from line p on
 pub way_from : (M : Map) (s t : ℕ) (ls : List ℕ) (p : ℕ) → IsRoute M s t ls → p < length ls

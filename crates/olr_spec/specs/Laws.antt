@@ -4,6 +4,8 @@
 --         map sound
 --     routes      there is at most one shortest path and one unique shortest path, and their prefixes are such paths
 --         too
+--     margins    where a route's own lines count longer, its fronts are the unique shortest paths too, and it is so on the
+--         map, and on another one whose lengths are nearly the same
 --     answers    a path has exactly one answer; its reference fits its bits; the routes between its LRPs join to the
 --         path
 --     bytes      a direction has one sector, a reference encodes as one sequence of bytes, and bytes have one reference
@@ -22,6 +24,8 @@ use Rattle.std.specs.List.Sorted.{IsStrictlyIncreasing}
 use Rattle.olr_spec.specs.Map.{Map, empty_map, IsMap, Line, has_line, coord_at, lines_in, lines_out, Edit, edited}
 use Rattle.olr_spec.specs.Map.{touched_nodes, touched_lines, Enters, Leaves, Agree, SameLine, SameRound, has, HasCoord}
 use Rattle.olr_spec.specs.Routes.{IsRoute, dm_of, Least, UniqueShortest}
+use Rattle.olr_spec.specs.Margins.{Margin, counted}
+use Rattle.olr_spec.specs.Elsewhere.{HasNoOther, IsNearly, suffices}
 use Rattle.olr_spec.specs.Labels.{Settled}
 use Rattle.olr_spec.specs.Extension.{Path, is_path, first, last, LongestStart, LongestEnd, limit}
 use Rattle.olr_spec.specs.Points.{stretch, Covered, Next, Follow, last_position}
@@ -104,6 +108,27 @@ PrefixOfUnique =
 -- from a node to itself the empty route is the unique shortest path
 abbrev pub EmptyIsUnique : Type 0
 EmptyIsUnique = (M : Map) → IsMap M → (s : ℕ) → UniqueShortest M s s []
+
+-- ---- margins
+
+-- a prefix of the unique shortest path is that to its own end, where each counts its own lines longer, and no others
+abbrev pub PrefixOfCounted : Type 0
+PrefixOfCounted =
+    (g : Margin) (M : Map) → IsMap M → (s v t : ℕ) (xs ys : List ℕ) →
+    UniqueShortest (counted g M (xs ++ ys)) s t (xs ++ ys) → IsRoute M s v xs → IsRoute M v t ys →
+    UniqueShortest (counted g M xs) s v xs
+
+-- the unique shortest path where its own lines count longer is that of the map
+abbrev pub CountedIsUnique : Type 0
+CountedIsUnique =
+    (g : Margin) (M : Map) → IsMap M → (s t : ℕ) (xs : List ℕ) → UniqueShortest (counted g M xs) s t xs →
+    UniqueShortest M s t xs
+
+-- and that of each other map that has no other roads, if what its lengths differ by is within the margin
+abbrev pub UniqueElsewhere : Type 0
+UniqueElsewhere =
+    (g : Margin) (M N : Map) → IsMap N → HasNoOther M N → (a b : ℕ) → IsTrue (suffices g a b) → (xs : List ℕ) →
+    IsNearly a b M N xs → (s t : ℕ) → UniqueShortest (counted g M xs) s t xs → UniqueShortest N s t xs
 
 -- ---- labels
 

@@ -2,6 +2,7 @@ pub mod Coordinates
 pub mod Degrees
 pub mod Map
 pub mod Routes
+pub mod Margins
 pub mod Labels
 pub mod Extension
 pub mod Points
@@ -14,6 +15,7 @@ pub mod Joins
 pub mod Detours
 pub mod Queries
 pub mod Footprint
+pub mod Elsewhere
 pub mod Receiver
 pub mod Recovery
 pub mod Directions

@@ -1,0 +1,274 @@
+-- A route that is the unique shortest one where its own lines count longer is so on a map whose lengths are nearly the
+-- same.
+use Rattle.olr_spec.proofs.Common.{inl, inr, ◌≡◌, ◌≢◌, ◌⊎◌, ℕ, ◌+◌, ◌-◌, ◌*◌, ◌≤◌, ◌<◌, Bool, true, false, List, [], ◌∷◌, ◌++◌, refl, sym, ap, ◌∙◌, not, subst}
+use Rattle.olr_spec.proofs.Common.{arith, IsTrue, ◌&&◌, ◌==◌, cases_Bool, has, none_twice, and_parts, and_from, Map, IsMap, has_line, end, dm, dm_of, IsRoute, LrpRoute, leb-true, le-leb, list_any-append, append_assoc, UniqueShortest}
+use Rattle.olr_spec.proofs.ListLemmas.{Each, Each-head, Each-tail, Each-nil, Each-cons, has_cases}
+use Rattle.olr_spec.proofs.RouteLemmas.{positive, IsRoute-split, IsRoute-append, dm_of-append, prefix_of_unique}
+use Rattle.olr_spec.proofs.DecideLemmas.{dec_same}
+use Rattle.olr_spec.proofs.WayLemmas.{route_known}
+use Rattle.olr_spec.specs.Margins.{Margin, counted, counted_dm}
+use Rattle.olr_spec.specs.Laws.{CountedIsUnique}
+use Rattle.olr_spec.specs.Elsewhere.{HasNoOther, IsNearly, suffices}
+use Rattle.olr_spec.proofs.CountedLemmas.{counted_other, counted_own, counted_route, route_counted, counted_least}
+use Rattle.olr_spec.proofs.OwnSums.{total, parts_total, exchange, others_most}
+use Rattle.std.proofs.Math.Nat.{mul-le-mul_left, mul-le-mul_right, mul-add, lt_of_mul-lt-mul_left}
+
+-- ---- routes without a line twice
+
+-- a list from one of its lines on
+from_line : (y : ℕ) (ys : List ℕ) → has ys y ≡ true → (front : List ℕ) × (back : List ℕ) × (ys ≡ front ++ y ∷ back)
+from_line y [] on = absurd cc
+from_line y (x ∷ ys) on = elim (has_cases x ys y on) [
+  | inl e ↦ ([], ys, ap (λ z. z ∷ ys) e)
+  | inr there ↦ let r = from_line y ys there in (x ∷ r.0, r.1, ap (λ zs. x ∷ zs) r.2)
+]
+
+once_right : (xs ys : List ℕ) → none_twice (xs ++ ys) ≡ true → none_twice ys ≡ true
+once_right [] ys once = once
+once_right (x ∷ xs) ys once = once_right xs ys (and_parts (not (has (xs ++ ys) x)) (none_twice (xs ++ ys)) once).1
+
+-- a route without a line twice, which is shorter unless it is the same
+record Cut (N : Map) (s t : ℕ) (ys : List ℕ) : Type 0 where
+  rest : List ℕ
+  route : IsRoute N s t rest
+  once : none_twice rest ≡ true
+  shorter : (rest ≡ ys) ⊎ (dm_of N rest < dm_of N ys)
+
+cut : (N : Map) → IsMap N → (s t : ℕ) (ys : List ℕ) → IsRoute N s t ys → Cut N s t ys
+cut N n s t [] w = record { rest = []; route = w; once = refl; shorter = inl refl }
+cut N n s t (y ∷ ys) w =
+    let c = cut N n (end N y) t ys w.2 in
+    elim (cases_Bool (has c.rest y)) [
+      | inl on ↦
+          let p = from_line y c.rest on in
+          let part = IsRoute-split N (end N y) t p.0 (y ∷ p.1) (subst (IsRoute N (end N y) t) p.2 c.route) in
+          record {
+            rest = y ∷ p.1;
+            route = (part.2.0, w.1, part.2.2);
+            once = once_right p.0 (y ∷ p.1) (subst (λ zs. none_twice zs ≡ true) p.2 c.once);
+            shorter = inr (grind (arith, c.shorter, positive N n y w.0, p.2, dm_of-append N p.0 (y ∷ p.1)));
+          }
+      | inr off ↦ record {
+        rest = y ∷ c.rest;
+        route = (w.0, w.1, c.route);
+        once = and_from (not (has c.rest y)) (none_twice c.rest) (ap not off) c.once;
+        shorter = grind (arith, c.shorter);
+      }
+    ]
+
+-- ---- lengths
+
+scaled : (c : ℕ) (M : Map) (xs : List ℕ) → total (λ x. c * dm M x) xs ≡ c * dm_of M xs
+scaled c M [] = omega arith
+scaled c M (x ∷ xs) = omega (arith, scaled c M xs, mul-add c (dm M x) (dm_of M xs))
+
+own_weight : (g : Margin) (a d n : ℕ) → 1000 * n ≤ (1000 + a) * d →
+    (1000 + g.routes) * 1000 * n ≤ (1000 + a) * 1000 * counted_dm g d
+own_weight g a d n h =
+    let r = g.routes in
+    let more : (1000 + r) * d ≤ 1000 * counted_dm g d = omega arith in
+    let by_length : (1000 + r) * (1000 * n) ≤ (1000 + r) * ((1000 + a) * d) = mul-le-mul_left (1000 + r) h in
+    let by_margin : (1000 + a) * ((1000 + r) * d) ≤ (1000 + a) * (1000 * counted_dm g d) = mul-le-mul_left (1000 + a) more in
+    omega (arith, by_length, by_margin)
+
+other_weight : (r a c d n : ℕ) → (1000 + a) * 1000 ≤ c * (1000 + r) → c * d ≤ 1000 * n →
+    (1000 + a) * 1000 * d ≤ (1000 + r) * 1000 * n
+other_weight r a c d n enough h =
+    let by_length : (1000 + r) * (c * d) ≤ (1000 + r) * (1000 * n) = mul-le-mul_left (1000 + r) h in
+    let by_margin : (1000 + a) * 1000 * d ≤ c * (1000 + r) * d = mul-le-mul_right d enough in
+    omega (arith, by_length, by_margin)
+
+-- ---- on the other map
+
+module _ (g : Margin) (M N : Map) (n : IsMap N) (no_other : HasNoOther M N) (a b : ℕ)
+    (enough : IsTrue (suffices g a b)) (xs : List ℕ) (nearly : IsNearly a b M N xs) where
+  abbrev K : Map
+  K = counted g M xs
+
+  abbrev here : ℕ → ℕ
+  here x = (1000 + a) * 1000 * dm K x
+
+  abbrev there : ℕ → ℕ
+  there x = (1000 + g.routes) * 1000 * dm N x
+
+  route_there : (s t : ℕ) (ys : List ℕ) → Each (λ x. IsTrue (has_line N x)) ys → IsRoute M s t ys → IsRoute N s t ys
+  route_there s t [] on w = w
+  route_there s t (y ∷ ys) on w =
+      let known = Each-head (λ x. IsTrue (has_line N x)) y ys on in
+      let rest = route_there (end M y) t ys (Each-tail (λ x. IsTrue (has_line N x)) y ys on) w.2 in
+      grind (arith, known, rest, no_other.starts y known, no_other.ends y known)
+
+  route_here : (s t : ℕ) (ys : List ℕ) → IsRoute N s t ys → IsRoute M s t ys × Each (λ x. IsTrue (has_line N x)) ys
+  route_here s t [] w = (w, Each-nil (λ x. IsTrue (has_line N x)))
+  route_here s t (y ∷ ys) w =
+      let rest = route_here (end N y) t ys w.2 in (
+        grind (arith, no_other.known y w.0, no_other.starts y w.0, no_other.ends y w.0, rest.0),
+        Each-cons (λ x. IsTrue (has_line N x)) y ys w.0 rest.1,
+      )
+
+  own_most : Each (λ x. there x ≤ here x) xs
+  own_most x on =
+      let known = no_other.known x (nearly.known x on) in
+      let e = counted_own g M xs x known on in
+      subst (λ k. there x ≤ (1000 + a) * 1000 * k) (sym e) (own_weight g a (dm M x) (dm N x) (nearly.own x on))
+
+  other_most : (y : ℕ) → IsTrue (has_line N y) → has xs y ≡ false → here y ≤ there y
+  other_most y known off =
+      let e = counted_other g M xs y off in
+      subst (λ k. (1000 + a) * 1000 * k ≤ there y) (sym e)
+      (other_weight g.routes a (1000 - b) (dm M y) (dm N y) (leb-true _ _ enough) (nearly.others y known off))
+
+  -- a route without a line twice that is longer here is longer there
+  longer_there : (ys : List ℕ) → Each (λ x. IsTrue (has_line N x)) ys → none_twice ys ≡ true → dm_of K xs < dm_of K ys →
+      dm_of N xs < dm_of N ys
+  longer_there ys known once lt =
+      let less : (1000 + a) * 1000 * dm_of K xs < (1000 + a) * 1000 * dm_of K ys = grind (arith, mul-le-mul_left ((1000 + a) * 1000) lt) in
+      let common = exchange there here xs ys own_most once in
+      let rest = others_most here there xs ys (λ y on off. other_most y (known y on) off) in
+      lt_of_mul-lt-mul_left ((1000 + g.routes) * 1000)
+      (omega (
+        arith,
+        less,
+        common,
+        rest,
+        parts_total here xs ys,
+        parts_total there xs ys,
+        scaled ((1000 + a) * 1000) K xs,
+        scaled ((1000 + a) * 1000) K ys,
+        scaled ((1000 + g.routes) * 1000) N xs,
+        scaled ((1000 + g.routes) * 1000) N ys,
+      ))
+
+  pub unique_there : (s t : ℕ) → LrpRoute K s t xs → LrpRoute N s t xs
+  unique_there s t u = record { route = route_there s t xs nearly.known (route_counted g M xs s t xs u.route); others = others }
+    where
+      others : (ys : List ℕ) → IsRoute N s t ys → ys ≢ xs → dm_of N xs < dm_of N ys
+      others ys w ne =
+          let c = cut N n s t ys w in
+          let r = route_here s t c.rest c.route in
+          let k = counted_route g M xs s t c.rest r.0 in
+          elim (dec_same c.rest xs) [
+            | yes same ↦ grind (arith, c.shorter, same, ne)
+            | no other ↦ grind (arith, longer_there c.rest r.1 c.once (u.others c.rest k other), c.shorter)
+          ]
+
+-- ---- on the same map
+
+-- a route that is the unique shortest one where its own lines count longer is so
+pub counted_unique : CountedIsUnique
+counted_unique g M m s t xs u =
+    unique_there g M M m
+    (record { known = λ x h. h; starts = λ x h. refl; ends = λ x h. refl }) 0 0 (le-leb _ _ (omega (arith, mul-add 1000 1000 g.routes))) xs
+    (record {
+      known = route_known M s t xs (route_counted g M xs s t xs u.route);
+      own = λ x h. omega arith;
+      others = λ y h off. omega arith;
+    }) s t u
+
+-- ---- a part of it
+
+-- the lines of a list before the first one of which a test holds
+record Before (test : ℕ → Bool) (ys : List ℕ) : Type 0 where
+  before : List ℕ
+  line : ℕ
+  after : List ℕ
+  are : ys ≡ before ++ line ∷ after
+  none : Each (λ y. test y ≡ false) before
+  holds : test line ≡ true
+
+before_first : (test : ℕ → Bool) (ys : List ℕ) → Each (λ y. test y ≡ false) ys ⊎ Before test ys
+before_first test [] = inl (Each-nil (λ y. test y ≡ false))
+before_first test (y ∷ ys) = elim (cases_Bool (test y)) [
+  | inl t ↦ inr (record { before = []; line = y; after = ys; are = refl; none = Each-nil (λ y. test y ≡ false); holds = t })
+  | inr f ↦ elim (before_first test ys) [
+    | inl none ↦ inl (Each-cons (λ y. test y ≡ false) y ys f none)
+    | inr p ↦ inr (record {
+      before = y ∷ p.before;
+      line = p.line;
+      after = p.after;
+      are = ap (λ zs. y ∷ zs) p.are;
+      none = Each-cons (λ y. test y ≡ false) y p.before f p.none;
+      holds = p.holds;
+    })
+  ]
+]
+
+-- on lines that are in neither list or in both the lengths are the same
+count_same : (g : Margin) (M : Map) (xs ws ys : List ℕ) → Each (λ x. IsTrue (has_line M x)) ys → Each (λ y. has xs y ≡ has ws y) ys →
+    dm_of (counted g M xs) ys ≡ dm_of (counted g M ws) ys
+count_same g M xs ws [] known same = refl
+count_same g M xs ws (y ∷ ys) known same =
+    grind (
+      arith,
+      count_same g M xs ws ys (Each-tail (λ x. IsTrue (has_line M x)) y ys known) (Each-tail (λ y. has xs y ≡ has ws y) y ys same),
+      Each-head (λ x. IsTrue (has_line M x)) y ys known,
+      Each-head (λ y. has xs y ≡ has ws y) y ys same,
+      cases_Bool (has xs y),
+      counted_own,
+      counted_other,
+    )
+
+-- the front of such a route, where its own lines count longer and no others
+module _ (g : Margin) (M : Map) (m : IsMap M) (s v t : ℕ) (xs rest : List ℕ)
+    (u : LrpRoute (counted g M (xs ++ rest)) s t (xs ++ rest)) (w : IsRoute M s v xs) (z : IsRoute M v t rest) where
+  abbrev Whole : Map
+  Whole = counted g M (xs ++ rest)
+
+  abbrev Front : Map
+  Front = counted g M xs
+
+  abbrev only_later : ℕ → Bool
+  only_later y = has rest y && not (has xs y)
+
+  same_test : (y : ℕ) → only_later y ≡ false → has xs y ≡ has (xs ++ rest) y
+  same_test y off = list_any-append-rule y off
+    where
+      list_any-append-rule : (y : ℕ) → only_later y ≡ false → has xs y ≡ has (xs ++ rest) y
+      list_any-append-rule y off = grind (arith, list_any-append (λ z. z == y) xs rest, cases_Bool (has xs y), cases_Bool (has rest y))
+
+  same_counts : (ys : List ℕ) → Each (λ x. IsTrue (has_line M x)) ys → Each (λ y. only_later y ≡ false) ys → dm_of Front ys ≡ dm_of Whole ys
+  same_counts ys known off = count_same g M xs (xs ++ rest) ys known (λ y on. same_test y (off y on))
+
+  front_same : dm_of Front xs ≡ dm_of Whole xs
+  front_same = same_counts xs (route_known M s v xs w) (λ y on. grind (arith, on, cases_Bool (has rest y)))
+
+  -- a route that comes to a later line is longer than the part up to this line
+  over_later : (ys : List ℕ) → IsRoute M s v ys → Before only_later ys → dm_of Front xs < dm_of Front ys
+  over_later ys r p =
+      let x = p.line in
+      let on = and_parts (has rest x) (not (has xs x)) p.holds in
+      let q = from_line x rest on.0 in
+      let mine = IsRoute-split M s v p.before (x ∷ p.after) (subst (IsRoute M s v) p.are r) in
+      let its = IsRoute-split M v t q.0 (x ∷ q.1) (subst (IsRoute M v t) q.2 z) in
+      let is : xs ++ rest ≡ (xs ++ q.0) ++ x ∷ q.1 = ap (λ zs. xs ++ zs) q.2 ∙ sym (append_assoc xs q.0 (x ∷ q.1)) in
+      let part = prefix_of_unique Whole s its.0 t (xs ++ q.0) (x ∷ q.1) (subst (UniqueShortest Whole s t) is u)
+      (counted_route g M (xs ++ rest) s its.0 (xs ++ q.0) (IsRoute-append M s v its.0 xs q.0 w its.1))
+      (counted_route g M (xs ++ rest) its.0 t (x ∷ q.1) its.2) in
+      let known = route_known M s mine.0 p.before mine.1 in
+      let to_x : IsRoute Whole s its.0 p.before =
+      counted_route g M (xs ++ rest) s its.0 p.before (subst (λ k. IsRoute M s k p.before) (sym mine.2.1 ∙ its.2.1) mine.1) in
+      let no_less : dm_of Whole (xs ++ q.0) ≤ dm_of Whole p.before = grind (arith, dec_same p.before (xs ++ q.0), part.others p.before to_x) in
+      omega (
+        arith,
+        no_less,
+        front_same,
+        same_counts p.before known p.none,
+        dm_of-append Whole xs q.0,
+        dm_of-append Front p.before (x ∷ p.after),
+        ap (dm_of Front) p.are,
+        positive M m x mine.2.0,
+        counted_least g M xs x mine.2.0,
+      )
+
+  pub counted_front : LrpRoute Front s v xs
+  counted_front = record { route = counted_route g M xs s v xs w; others = others }
+    where
+      others : (ys : List ℕ) → IsRoute Front s v ys → ys ≢ xs → dm_of Front xs < dm_of Front ys
+      others ys r ne =
+          let here = route_counted g M xs s v ys r in
+          elim (before_first only_later ys) [
+            | inl none ↦
+                let part = prefix_of_unique Whole s v t xs rest u (counted_route g M (xs ++ rest) s v xs w) (counted_route g M (xs ++ rest) v t rest z) in
+                omega (arith, part.others ys (counted_route g M (xs ++ rest) s v ys here) ne, front_same, same_counts ys (route_known M s v ys here) none)
+            | inr p ↦ over_later ys here p
+          ]
