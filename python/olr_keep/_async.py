@@ -80,6 +80,10 @@ class AsyncKeep:
         """Opens a batch, which holds the changes that follow. `batch` also ends it."""
         return await self._run(self._keep.begin)
 
+    async def preview(self) -> Changes:
+        """What `commit` would change, if it were called now with the right count. Nothing changes, and the batch stays open."""
+        return await self._run(self._keep.preview)
+
     async def commit(self, count: int) -> Changes:
         """Accepts all held changes at once, if their number is `count`."""
         return await self._run(self._keep.commit, count)

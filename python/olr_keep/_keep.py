@@ -120,6 +120,10 @@ class Keep:
         """Opens a batch, which holds the changes that follow. `batch` also ends it."""
         return self._change("begin")
 
+    def preview(self) -> Changes:
+        """What `commit` would change, if it were called now with the right count. Nothing changes, and the batch stays open."""
+        return self._change("preview")
+
     def commit(self, count: int) -> Changes:
         """Accepts all held changes at once, if their number is `count`."""
         return self._change(f"commit,{records.number(count)}")

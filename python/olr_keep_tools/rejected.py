@@ -56,6 +56,7 @@ FORMS = {
     "report": ("", ""),
     "dump": ("", ""),
     "compact": ("", ""),
+    "preview": ("", ""),
     "ambiguous": ("", "NAME"),
     "explain": ("TEXT", ""),
     "begin": ("", ""),

@@ -6,7 +6,7 @@ use Rattle.std.proofs.Common.{None, Result, Ok, Err, refl, ap, subst}
 use Rattle.olr_commands.specs.State.{Content, Fault, when, Change, On_map, Add_path, Set_path, Drop_path, with_map}
 use Rattle.olr_commands.specs.State.{with_change, next, after, Command, Make, Show, Report, Explain, Begin, Commit}
 use Rattle.olr_commands.specs.State.{Abort, State, full, step, step_in, IsContent, AllAccepted, IsBatch, IsState}
-use Rattle.olr_commands.specs.State.{HasCoords, Dump, Compact, Ambiguous, Show_node, Show_line, Depends}
+use Rattle.olr_commands.specs.State.{HasCoords, Dump, Compact, Preview, Ambiguous, Show_node, Show_line, Depends}
 use Rattle.olr_commands.proofs.NameLemmas.{differ_push, differ_set, differ_filter, paths_push, paths_set, paths_filter}
 use Rattle.std.proofs.lemmas.List.{length_push}
 use Rattle.std.proofs.lemmas.Result.{IfOk-at_ok}
@@ -87,6 +87,7 @@ module _ (P : State → Type 0) where
   ends_in c None Compact h = h
   ends_in c None (Ambiguous name) h = grind arith
   ends_in c b (Explain text) h = grind arith
+  ends_in c (Some xs) Preview h = h
   ends_in c (Some xs) (Commit count) h = grind arith
   ends_in c (Some xs) Abort h = h
   ends_in c b Report h = h

@@ -20,7 +20,7 @@ use Rattle.olr_commands.specs.State.{Named, Content, path_named, Fault, Syntax, 
 use Rattle.olr_commands.specs.State.{Bad_path, Not_a_reference, Memory, Batch_open, No_batch, Count_differs, Batch_full}
 use Rattle.olr_commands.specs.State.{Not_a_record, Dump}
 use Rattle.olr_commands.specs.State.{Change, On_map, Drop_path, State, Command, Make, Show, Report, Explain, Begin}
-use Rattle.olr_commands.specs.State.{Commit, Abort, Show_node, Show_line, Depends, Compact, Ambiguous, step}
+use Rattle.olr_commands.specs.State.{Preview, Commit, Abort, Show_node, Show_line, Depends, Compact, Ambiguous, step, with_held}
 use Rattle.olr_commands.specs.RecordText.{record_line}
 use Rattle.olr_commands.specs.Dump.{dump_lines, node_changes, line_changes}
 use Rattle.olr_commands.specs.Dependents.{Dependents}
@@ -126,6 +126,7 @@ IsReply s Compact t reply = reply ≡ Paths []
 IsReply s (Ambiguous name) t reply = IsObstacles reply (AskedAmbiguities s.content name)
 IsReply s (Explain text) t reply = IsFields reply (Explained text)
 IsReply s Begin t reply = reply ≡ Paths []
+IsReply s Preview t reply = IsPaths reply (Differences s.content (with_held s.content s.batch))
 IsReply s (Commit count) t reply = IsPaths reply (Differences s.content t.content)
 IsReply s Abort t reply = reply ≡ Paths []
 

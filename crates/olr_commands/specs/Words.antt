@@ -45,6 +45,7 @@ command_of command.Compact = state.Compact
 command_of (command.Ambiguous name) = state.Ambiguous (option_map string_bytes name)
 command_of (command.Explain text) = state.Explain text.items
 command_of command.Begin = state.Begin
+command_of command.Preview = state.Preview
 command_of (command.Commit count) = state.Commit count
 command_of command.Abort = state.Abort
 

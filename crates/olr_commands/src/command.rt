@@ -33,6 +33,8 @@ pub enum Command {
     Explain(Vec<u8>),
     /// Opens a batch, which holds the commands that follow.
     Begin,
+    /// Asks for the reply that a commit of all held commands would have.
+    Preview,
     /// Accepts all held commands at once, if their number is this one.
     Commit(u32),
     /// Drops all held commands.

@@ -28,6 +28,10 @@ pub trait Folder<D: Disk>: Drop {
     /// Says that the log was not replaced, and why not. None if there was no memory for its records.
     fn report_unreplaced(&self, error: Option<io::Error>);
 
-    /// Whether the name of the log leads to the file that was put there last, and it has so many bytes.
+    /// Whether the name of the log leads to the file that was put there last, it has so many bytes, and it was not changed since
+    /// `note_written`, as far as the clock of the file system shows.
     fn is_in_place(&self, len: usize) -> bool;
+
+    /// Notes when the file was last changed, after this process has changed it.
+    fn note_written(&self);
 }

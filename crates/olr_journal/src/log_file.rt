@@ -152,6 +152,7 @@ impl<D: Disk + Drop, F: Folder<D>> Journal for LogFile<D, F> {
         self.file_len = extend(&mut self.disk, self.file_len, end, &self.returns)?;
         put(&mut self.disk, at, records)?;
         self.text_len += records.len();
+        self.folder.note_written();
         self.is_broken = false;
         self.is_settled = true;
         Ok(())
@@ -186,6 +187,7 @@ impl<D: Disk + Drop, F: Folder<D>> Journal for LogFile<D, F> {
             self.rival = Some(made.disk);
             return Err(error);
         }
+        self.folder.note_written();
         self.disk = made.disk;
         self.number = made.number;
         self.rival = None;

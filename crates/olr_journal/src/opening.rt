@@ -129,6 +129,7 @@ impl<D: Disk + Drop, F: Folder<D>> LogFile<D, F> {
             .ok_or(io::ErrorKind::FileTooLarge)?;
         blank(&mut self.disk, from, to, &self.returns)?;
         self.file_len = self.file_len.max(to);
+        self.folder.note_written();
         self.is_broken = false;
         self.is_settled = true;
         Ok(())

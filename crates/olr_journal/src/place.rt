@@ -9,6 +9,7 @@ use crate::host::HostFile;
 use crate::log_file::LogFile;
 use sqlite_disk::{Modelled, Start};
 use std::alloc::AllocError;
+use std::cell::Cell;
 use std::fs::OpenOptions;
 use std::io::{self, Read, Write};
 use std::os::fd::AsRawFd;
@@ -61,11 +62,27 @@ pub struct LogFolder<'a> {
     /// The same of the file beside it.
     next: Option<u64>,
     next_node: (u64, u64),
+    /// When the file of that name was last changed, if this process changed it last.
+    written: Cell<Option<(i64, i64)>>,
 }
 
 fn node_of(file: &fs::File) -> io::Result<(u64, u64)> {
     let found = file.metadata()?;
     Ok((found.dev(), found.ino()))
+}
+
+/// When a file was last changed: seconds, and nanoseconds of a second.
+fn time_of(found: &fs::Metadata) -> (i64, i64) {
+    (found.mtime(), found.mtime_nsec())
+}
+
+/// Locks a file. Returns whether no other process has locked it.
+fn takes_lock(file: &fs::File) -> io::Result<bool> {
+    match file.try_lock() {
+        Ok(()) => Ok(true),
+        Err(fs::TryLockError::WouldBlock) => Ok(false),
+        Err(fs::TryLockError::Error(error)) => Err(error),
+    }
 }
 
 /// Where a descriptor of a standard stream is free, a file gets another one, so that no answer lands in it.
@@ -91,7 +108,7 @@ fn unless_missing(outcome: io::Result<()>) -> io::Result<()> {
 }
 
 impl LogFolder<'_> {
-    /// Makes a file beside the log, with the log's mode, and its group and owner where this process may set them.
+    /// Makes a file beside the log and locks it, with the log's mode, and its group and owner where this process may set them.
     fn make_beside(&self) -> io::Result<fs::File> {
         unless_missing(fs::remove_file(self.rt, self.beside.as_str()))?;
         let old = fs::metadata(self.rt, self.log.as_str())?;
@@ -103,6 +120,9 @@ impl LogFolder<'_> {
                 .mode(0o600)
                 .open(self.rt, self.beside.as_str())?,
         )?;
+        if !takes_lock(&file)? {
+            return Err(io::ErrorKind::WouldBlock.into());
+        }
         unless_denied(fchown(&file, None, Some(old.gid())))?;
         unless_denied(fchown(&file, Some(old.uid()), None))?;
         file.set_permissions(fs::Permissions::from_mode(old.mode() & 0o7777))?;
@@ -178,9 +198,18 @@ impl<S: Start> Folder<HostDisk<S>> for LogFolder<'_> {
 
     fn is_in_place(&self, len: usize) -> bool {
         match fs::metadata(self.rt, self.log.as_str()) {
-            Ok(found) => (found.dev(), found.ino()) == self.node && found.len() == len as u64,
+            Ok(found) => {
+                (found.dev(), found.ino()) == self.node
+                    && found.len() == len as u64
+                    && self.written.get().unwrap_or(time_of(&found)) == time_of(&found)
+            }
             Err(_) => false,
         }
+    }
+
+    fn note_written(&self) {
+        let found = fs::metadata(self.rt, self.log.as_str());
+        self.written.set(found.ok().map(|it| time_of(&it)));
     }
 }
 
@@ -227,10 +256,8 @@ fn lock(rt: &HostRuntime, log: &str) -> Result<fs::File, OpenError> {
             .mode(0o666)
             .open(rt, name.as_str())?,
     )?;
-    match lock.try_lock() {
-        Ok(()) => {}
-        Err(fs::TryLockError::WouldBlock) => return Err(OpenError::InUse(holder(&mut lock))),
-        Err(fs::TryLockError::Error(error)) => return Err(OpenError::Io(error)),
+    if !takes_lock(&lock)? {
+        return Err(OpenError::InUse(holder(&mut lock)));
     }
     lock.set_len(0)?;
     let text = format!(in rt.alloc(); "{}\n", process::id(rt.process()))?;
@@ -238,7 +265,8 @@ fn lock(rt: &HostRuntime, log: &str) -> Result<fs::File, OpenError> {
     Ok(lock)
 }
 
-/// Locks a log and opens its file, or makes it. Links are followed now, and not later.
+/// Opens the file of a log, or makes it, and locks it too: another name or a mount may lead to it beside another lock file. Links
+/// are followed now, and not later.
 pub fn open_place<'a, S: Start>(
     rt: &'a HostRuntime,
     path: &str,
@@ -262,6 +290,9 @@ pub fn open_place<'a, S: Start>(
     if !file.metadata()?.is_file() {
         return Err(OpenError::Io(io::ErrorKind::Unsupported.into()));
     }
+    if !takes_lock(&file)? {
+        return Err(OpenError::InUse(None));
+    }
     let beside = format!(in rt.alloc(); "{}.compacting", log.as_str())?;
     unless_missing(fs::remove_file(rt, beside.as_str()))?;
     let folder = match log.parent() {
@@ -282,6 +313,7 @@ pub fn open_place<'a, S: Start>(
             node,
             next: None,
             next_node: node,
+            written: Cell::new(None),
         },
     ))
 }

@@ -4,10 +4,11 @@ use Rattle.olr_commands.proofs.Common.{Map, IsMap, Path, Reference, Answer, Enco
 use Rattle.olr_commands.proofs.Common.{both_ways, concat, cases_Bool, cases_eq, bytes_decides, is_path, Refused}
 use Rattle.olr_commands.proofs.Common.{Refusal, some_answer}
 use Rattle.std.proofs.Common.{arith, ◌≡◌, ℕ, List, [], ◌∷◌, Option, Some, None, sym, ap, ◌∙◌, subst, Result, Ok, Err}
+use Rattle.std.specs.Prelude.{IfSome}
 use Rattle.std.proofs.Common.{map, IsFalse, inl, inr, ◌⊎◌, ◌≢◌, suc, true, false, not, length, is_some, IsTrue, refl, ◌≤◌}
 use Rattle.olr_commands.specs.State.{Named, Content, ArePaths, IsContent, Change, State, Command, Make, Show, Report}
 use Rattle.olr_commands.specs.State.{Explain, Begin, Commit, Abort, IsState, Dump, Fault, HasCoords, step, step_in, path_named}
-use Rattle.olr_commands.specs.State.{Show_node, Show_line, Depends, Compact, Ambiguous}
+use Rattle.olr_commands.specs.State.{Show_node, Show_line, Depends, Compact, Preview, Ambiguous}
 use Rattle.olr_commands.specs.RecordText.{record_line}
 use Rattle.olr_commands.specs.State.{same_name, has_path, No_path, changes_made, start_state}
 use Rattle.olr_commands.specs.Reply.{Entry, entry, Reply, Fields, HasAnswer, AllOf, ChangedOf, Differences, Shown}
@@ -23,7 +24,7 @@ use Rattle.olr_spec.proofs.FitLemmas.{encoded_fits}
 use Rattle.olr_commands.specs.Dump.{dump_lines, dump_changes, node_changes, line_changes, DumpsAgain}
 use Rattle.olr_commands.specs.Dependents.{Dependents}
 use Rattle.olr_commands.specs.Ambiguities.{AskedAmbiguities}
-use Rattle.olr_commands.specs.State.{has_asked}
+use Rattle.olr_commands.specs.State.{has_asked, with_held, IsBatch}
 use Rattle.olr_commands.specs.Counts.{Affects, CountIs, Raises}
 use Rattle.olr_commands.proofs.CountLemmas.{unconcerned}
 use Rattle.olr_commands.proofs.DumpLemmas.{dumps_lead}
@@ -84,6 +85,13 @@ one_held : (b : Option (List Change)) (s t : Content) → IsContent t → (r q :
 one_held None s t j r q p g = one_difference s t j r q p g
 one_held (Some xs) s t j r q p g = p ∙ sym g
 
+-- what an open batch would lead to is sound
+held_sound : (s : State) → IsState s → IsContent (with_held s.content s.batch)
+held_sound s i = by s.batch i.batch where
+  by : (b : Option (List Change)) → IfSome b (IsBatch s.content) → IsContent (with_held s.content b)
+  by None h = i.content
+  by (Some xs) h = h.sound
+
 pub one_reply : (s t : State) (c : Command) (r q : Reply) → IsState s → IsState t → IsReply s c t r → IsReply s c t q →
     r ≡ q
 one_reply s t (Make x) r q i j p g = one_held s.batch s.content t.content j.content r q p g
@@ -99,6 +107,8 @@ one_reply s t (Ambiguous name) r q i j p g =
     one_obstacles (AskedAmbiguities s.content name) (one_asked s.content i.content name) r q p g
 one_reply s t (Explain text) r q i j p g = one_fields (Explained text) (one_explained text) r q p g
 one_reply s t Begin r q i j p g = p ∙ sym g
+one_reply s t Preview r q i j p g =
+    one_difference s.content (with_held s.content s.batch) (held_sound s i) r q p g
 one_reply s t (Commit count) r q i j p g = one_difference s.content t.content j.content r q p g
 one_reply s t Abort r q i j p g = p ∙ sym g
 
@@ -247,6 +257,8 @@ some_reply s t (Ambiguous name) i h is n =
     let es = some_asked s.content i.content name (when_asked s t name is) in (Obstacles es.0, es.1)
 some_reply s t (Explain text) i h is n = absurd (n text refl)
 some_reply s t Begin i h is n = (Paths [], refl)
+some_reply s t Preview i h is n =
+    let es = some_difference s.content (with_held s.content s.batch) i.content (held_sound s i) in (Paths es.0, es.1)
 some_reply s t (Commit count) i h is n = let es =
     some_difference s.content t.content i.content (steps_keep s t (Commit count) i h is).content in (Paths es.0, es.1)
 some_reply s t Abort i h is n = (Paths [], refl)

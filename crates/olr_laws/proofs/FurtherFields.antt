@@ -16,7 +16,7 @@ use Rattle.olr_laws.specs.LineLaws.{LineGivesOne, SingleStay, FirstLine, IsRecor
 use Rattle.std.proofs.Common.{◌≡◌, ◌∙◌, ℕ, List, [], ◌∷◌, ◌++◌, Ok, Err, refl, sym, ap, subst, codes, inl, inr}
 use Rattle.std.specs.Prelude.{if◌then◌else◌, Bool, true, false, length, Some, ⊤, IsOkAnd}
 use Rattle.olr_commands.specs.State.{Command, same_name, Make, Add_path, Set_path, Drop_path, Explain, Begin, Commit, Abort}
-use Rattle.olr_commands.specs.State.{Show, Show_node, Show_line, Depends, Report, Dump, Compact, Ambiguous}
+use Rattle.olr_commands.specs.State.{Show, Show_node, Show_line, Depends, Report, Dump, Compact, Preview, Ambiguous}
 use Rattle.olr_spec.specs.Coordinates.{Coord}
 use Rattle.olr_spec.specs.Extension.{Path}
 use Rattle.olr_spec.specs.Map.{ShapePoint, Line, Edit, Add_node, Move_node, Drop_node, Add_line, Set_line, Drop_line}
@@ -207,8 +207,11 @@ all_bad fs = (
                                       (
                                         bad_none Compact fs,
                                         (
-                                          bad_ambiguous fs,
-                                          tt,
+                                          bad_none Preview fs,
+                                          (
+                                            bad_ambiguous fs,
+                                            tt,
+                                          ),
                                         ),
                                       ),
                                     ),

@@ -8,7 +8,7 @@ ghost use Rattle.olr_commands.specs.Dump;
 ghost use Rattle.olr_commands.specs.State.{On_map, Add_path, Not_a_reference, Not_v3, Not_base64, Path_exists};
 ghost use Rattle.olr_commands.specs.State.{No_path, Batch_open, No_batch, Count_differs, Drop_path, Make, Show};
 ghost use Rattle.olr_commands.specs.State.{Report, Explain, Begin, Commit, Abort, start_state, step};
-ghost use Rattle.olr_commands.specs.State.{Show_node, Show_line, Depends, Compact, Ambiguous};
+ghost use Rattle.olr_commands.specs.State.{Show_node, Show_line, Depends, Compact, Preview, Ambiguous};
 ghost use Rattle.olr_commands.specs.Reply.{Paths, Held, Names, Obstacles, IsReply, takes_memory, may_lack};
 ghost use Rattle.olr_laws.specs.CommandLaws as Laws;
 ghost use Rattle.olr_laws.specs.CommandRows.{in_batch, path_a, with_a, with_node};
@@ -106,6 +106,15 @@ pub fn rows_compact()
     ensures of_batch { step (in_batch []) Compact ≡ Err Batch_open }
     ensures reply { IsReply start_state Compact start_state (Paths []) }
     ensures memory { may_lack start_state Compact ≡ false }
+{}
+
+/// What a batch would change, if there is one: without paths it is nothing.
+pub fn rows_preview()
+    ensures same { step (in_batch []) Preview ≡ Ok (in_batch []) }
+    ensures outside { step start_state Preview ≡ Err No_batch }
+    ensures reply { IsReply (in_batch []) Preview (in_batch []) (Paths []) }
+    ensures memory { may_lack (in_batch []) Preview ≡ true }
+    ensures memory_outside { may_lack start_state Preview ≡ false }
 {}
 
 /// What stands in the way of strings, without paths and in a batch.

@@ -6,7 +6,7 @@ ghost use Rattle.olr_spec.specs.Map.{No_node, Line_exists, No_line, Node_in_use,
 ghost use Rattle.olr_spec.specs.Encoding as encoding;
 ghost use Rattle.olr_spec.specs.Bytes as bytes;
 ghost use Rattle.olr_commands.specs.State.{On_map, Add_path, Set_path, Drop_path, Make, Show, Report, Dump, Compact};
-ghost use Rattle.olr_commands.specs.State.{Explain, Begin, Commit, Abort, Ambiguous};
+ghost use Rattle.olr_commands.specs.State.{Explain, Begin, Preview, Commit, Abort, Ambiguous};
 ghost use Rattle.olr_spec.specs.Ambiguity.{Same_sector, Other_bearing, Other_node};
 ghost use Rattle.olr_commands.specs.RecordText.{record_line};
 ghost use Rattle.olr_commands.specs.Reply as reply;
@@ -125,6 +125,7 @@ pub fn rows_paths()
     ensures report { read (codes "report" ∷ []) ≡ Ok Report }
     ensures dump { read (codes "dump" ∷ []) ≡ Ok Dump }
     ensures compact { read (codes "compact" ∷ []) ≡ Ok Compact }
+    ensures preview { read (codes "preview" ∷ []) ≡ Ok Preview }
     ensures ambiguous { read (codes "ambiguous" ∷ []) ≡ Ok (Ambiguous None) }
     ensures ambiguous_one { read (codes "ambiguous" ∷ codes "a" ∷ []) ≡ Ok (Ambiguous (Some (codes "a"))) }
     ensures ambiguous_two { read (codes "ambiguous" ∷ codes "a" ∷ codes "b" ∷ []) ≡ Err Bad_form }

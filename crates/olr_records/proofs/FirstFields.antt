@@ -6,7 +6,7 @@ use Rattle.olr_records.proofs.Common.{line_record, set_line_record, path_fields,
 use Rattle.std.proofs.Common.{◌≡◌, ℕ, Bool, true, false, List, [], ◌∷◌, Some, Ok, Err, refl, subst, sym, length}
 use Rattle.std.specs.Prelude.{codes, slice_index_or}
 use Rattle.olr_commands.specs.State.{Command, Show, Show_node, Show_line, Depends, Report, Dump, Compact, Explain, Begin}
-use Rattle.olr_commands.specs.State.{Commit, Abort, Ambiguous, same_name}
+use Rattle.olr_commands.specs.State.{Preview, Commit, Abort, Ambiguous, same_name}
 use Rattle.olr_records.specs.Records.{ReadFault, Bad_form, one, none, path_record, forms, read_by, depends_record}
 use Rattle.olr_records.specs.Records.{few_nodes, ambiguous_record}
 use Rattle.olr_commands.proofs.NameLemmas.{same_is}
@@ -34,6 +34,7 @@ word (Depends vs) = codes "depends"
 word Report = codes "report"
 word Dump = codes "dump"
 word Compact = codes "compact"
+word Preview = codes "preview"
 word (Ambiguous n) = codes "ambiguous"
 word (Explain text) = codes "explain"
 word Begin = codes "begin"
@@ -121,6 +122,7 @@ forms_begin =
     also none_begins Report
     also none_begins Dump
     also none_begins Compact
+    also none_begins Preview
     also ambiguous_begins
     also tt
 

@@ -12,7 +12,7 @@ use Rattle.std.proofs.Common.{◌≡◌, ℕ, ℤ, Bool, true, false, List, [], 
 use Rattle.std.proofs.Common.{subst, length, nat_le, ◌&&◌, pos, negsuc, arith, ◌%◌}
 use Rattle.std.specs.Prelude.{codes, slice_index_or}
 use Rattle.olr_commands.specs.State.{Command, Show, Show_node, Show_line, Depends, Report, Dump, Compact, Explain, Begin}
-use Rattle.olr_commands.specs.State.{Commit, Abort, Ambiguous, HasCoords}
+use Rattle.olr_commands.specs.State.{Preview, Commit, Abort, Ambiguous, HasCoords}
 use Rattle.olr_coords.specs.Bounds.{is_degrees}
 use Rattle.olr_records.specs.Records.{digits, longitude, latitude, one, none, path_record, forms, read_by}
 use Rattle.olr_records.specs.Records.{depends_record, few_nodes, ambiguous_record}
@@ -269,6 +269,7 @@ forms_pass =
     also none_passes Report tt
     also none_passes Dump tt
     also none_passes Compact tt
+    also none_passes Preview tt
     also ambiguous_passes
     also tt
 

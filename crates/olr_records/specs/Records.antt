@@ -13,7 +13,7 @@ use Rattle.olr_spec.specs.Extension.{Path}
 use Rattle.olr_commands.specs.Recordable.{is_name}
 use Rattle.olr_commands.specs.State.{same_name, Fault, Syntax, Range, Change, On_map, Add_path, Set_path, Drop_path}
 use Rattle.olr_commands.specs.State.{Command, Make, Show, Show_node, Show_line, Depends, Report, Dump, Compact, Explain, Begin}
-use Rattle.olr_commands.specs.State.{Commit, Abort, Ambiguous}
+use Rattle.olr_commands.specs.State.{Preview, Commit, Abort, Ambiguous}
 
 -- the fields of a record, or one field, by their bytes
 abbrev pub Field : Type 0
@@ -187,6 +187,7 @@ forms =
     ∷ (codes "report", λ fs. none Report fs)
     ∷ (codes "dump", λ fs. none Dump fs)
     ∷ (codes "compact", λ fs. none Compact fs)
+    ∷ (codes "preview", λ fs. none Preview fs)
     ∷ (codes "ambiguous", λ fs. ambiguous_record fs)
     ∷ []
 

@@ -120,6 +120,8 @@ fn read_question(alloc: Global, word: &[u8], fields: &ByteRecord) -> Result<Comm
         single_word(fields, Command::Dump)
     } else if is(word, b"compact") {
         single_word(fields, Command::Compact)
+    } else if is(word, b"preview") {
+        single_word(fields, Command::Preview)
     } else if is(word, b"ambiguous") {
         ambiguous(alloc, fields)
     } else {

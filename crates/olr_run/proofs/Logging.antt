@@ -10,7 +10,7 @@ use Rattle.std.proofs.lemmas.List.Concat.{flat_map-append}
 use Rattle.olr_commands.specs.State.{Content, Change, Command, Make, Show, Report, Dump, Explain, Begin, Commit, Abort, State}
 use Rattle.olr_commands.specs.State.{Fault, Map_fault, with_change, after, step, step_in, start_state, full}
 use Rattle.olr_commands.specs.State.{has_path, is_recordable, text_fault, TextFault, unless_fault, No_path, Not_a_record}
-use Rattle.olr_commands.specs.State.{Show_node, Show_line, Depends, Compact, Ambiguous, has_asked}
+use Rattle.olr_commands.specs.State.{Show_node, Show_line, Depends, Compact, Preview, Ambiguous, has_asked}
 use Rattle.olr_commands.specs.Recordable.{has_node_record, has_line_records}
 use Rattle.std.specs.List.{list_all}
 use Rattle.olr_spec.specs.Map.{has_node, has_line as has_line_of}
@@ -266,6 +266,10 @@ module _ (k lines inner : List ℕ) (c : Content) (r : List Field) where
       follows_same k (record { ready = lines; batch = inner }) c b t (explained b (text_fault text) t is) h
   accepted None Begin t e is h = begun t e is h
   accepted (Some xs) Begin t e is h = absurd cc
+  accepted None Preview t e is h = absurd cc
+  accepted (Some xs) Preview t e is h =
+      follows_same k (record { ready = lines; batch = inner }) c (Some xs) t
+      (let same : record { content = c; batch = Some xs } ≡ t = cc in same) h
   accepted None (Commit n) t e is h = absurd cc
   accepted (Some xs) (Commit n) t e is h = committed xs n t e is h
   accepted None Abort t e is h = absurd cc

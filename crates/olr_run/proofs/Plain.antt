@@ -7,7 +7,7 @@ use Rattle.std.proofs.lemmas.Bool.{and_parts}
 use Rattle.olr_spec.specs.Map.{Add_node, Move_node, Drop_node, Drop_line, Edit}
 use Rattle.olr_commands.specs.Recordable.{is_name_byte}
 use Rattle.olr_commands.specs.State.{Change, Command, Make, Add_path, Set_path, Drop_path, On_map, same_name, Show, Report}
-use Rattle.olr_commands.specs.State.{Dump, Explain, Begin, Commit, Abort, Show_node, Show_line, Depends, Compact, Ambiguous}
+use Rattle.olr_commands.specs.State.{Dump, Explain, Begin, Commit, Abort, Show_node, Show_line, Depends, Compact, Preview, Ambiguous}
 use Rattle.olr_records.specs.Records.{Field, Read, ◌⊛◌, number, amount, name, numbers, edit, one, none, node_record, max32}
 use Rattle.olr_records.specs.Records.{forms, read, read_by, few_nodes, depends_record, ambiguous_record, line_record}
 use Rattle.olr_records.specs.Records.{set_line_record, path_fields}
@@ -116,6 +116,7 @@ forms_fit =
     also none_fits (codes "report") Report refl refl
     also none_fits (codes "dump") Dump refl refl
     also none_fits (codes "compact") Compact refl refl
+    also none_fits (codes "preview") Preview refl refl
     also ambiguous
     also tt
 

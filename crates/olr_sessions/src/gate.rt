@@ -143,7 +143,7 @@ impl<J: Journal + Drop> Gate<J> {
         ensures renews { Renews J.kept J.may_leave self.old records.now self.new }
         ensures due { compaction self.new ≡ compaction self.old }
     {
-        if self.fault().is_some() {
+        if self.fault().is_some() || !self.is_in_place() {
             return;
         }
         if self.unkept.is_in_batch() {
@@ -212,7 +212,21 @@ impl<J: Journal + Drop> Gate<J> {
             || self.journal.len() >= self.next_from
     }
 
-    /// Keeps what is ready, and returns once it is on the disk. Returns false, and closes the gate, if the log failed.
+    /// Whether the log is where it was, as it was last written. Closes the gate if it isn't.
+    fn is_in_place(&mut self) -> bool
+        ensures untouched { result ≡ true → self.new ≡ self.old }
+        ensures closed { result ≡ false → is_closed self.new ≡ true }
+        ensures rest { self.new ≡ record self.old { fault = self.new.fault } }
+    {
+        let is_there = self.journal.is_in_place();
+        if !is_there {
+            self.fault = Some(LogFault::Moved);
+        }
+        is_there
+    }
+
+    /// Keeps what is ready, and returns once it is on the disk. Returns false, and closes the gate, if the log failed. Another
+    /// process's change is looked for before this one writes, which would hide it, and again before answers leave.
     fn keep(&mut self) -> bool
         ensures keeping { (sent : List ℕ) → (result ≡ false → sent ≡ [])
             → Keeping J.kept J.may_leave self.old self.new sent }
@@ -220,21 +234,18 @@ impl<J: Journal + Drop> Gate<J> {
         ensures others { SameBatch self.old self.new }
         ensures due { compaction self.new ≡ compaction self.old }
     {
-        if self.fault.is_some() {
+        if self.fault.is_some() || !self.is_in_place() {
             return false;
         }
-        if !self.unkept.ready().is_empty() {
-            if self.journal.keep(self.unkept.ready()).is_err() {
-                self.fault = Some(LogFault::Unwritten);
-                return false;
-            }
-            self.unkept.forget_ready();
+        if self.unkept.ready().is_empty() {
+            return true;
         }
-        if !self.journal.is_in_place() {
-            self.fault = Some(LogFault::Moved);
+        if self.journal.keep(self.unkept.ready()).is_err() {
+            self.fault = Some(LogFault::Unwritten);
             return false;
         }
-        true
+        self.unkept.forget_ready();
+        self.is_in_place()
     }
 
     /// Keeps what is ready, and then sends what the output holds back. `Write` is the fault if either fails; nothing is

@@ -1,0 +1,162 @@
+"""What a crash may leave of the files that a program wrote, by the events that `trace.c` noted.
+
+What a file holds is certain once it is synced, and the names in a folder once the folder is. Of what was written since, each
+sector of 512 bytes may be there or not, in any order; behind the old end of a file anything may stand; of the names that were
+made, changed or removed the first ones may be there.
+"""
+import os
+from dataclasses import dataclass, field
+from random import Random
+from typing import Callable, Dict, Iterator, List, NamedTuple, Optional, Tuple, Union
+
+SECTOR = 512
+CREATE = 0o100
+
+
+class Event(NamedTuple):
+    """A call that succeeded."""
+
+    kind: str
+    file: int
+    at: int
+    data: bytes
+
+    def names(self) -> Tuple[str, str]:
+        """The names of a call that has some."""
+        first, second = self.data.decode().split("\0")
+        return first, second
+
+
+def events(trace: str) -> Iterator[Event]:
+    """The events in a file that `trace.c` wrote."""
+    with open(trace, "rb") as file:
+        while head := file.readline():
+            kind, number, at, size = head.decode().split()
+            yield Event(kind, int(number), int(at), file.read(int(size)))
+
+
+@dataclass
+class File:
+    """A file: what is certain of it, what it holds, and what was done to it since the last sync."""
+
+    synced: bytes = b""
+    now: bytes = b""
+    pending: List[Event] = field(default_factory=list)
+
+    def do(self, event: Event) -> None:
+        """Writes to the file, or cuts it or makes it longer."""
+        self.now = changed(self.now, event)
+        self.pending.append(event)
+
+    def sync(self) -> None:
+        """What the file holds is certain."""
+        self.synced, self.pending = self.now, []
+
+    def after_crash(self, rnd: Random) -> bytes:
+        """One of the contents that a crash may leave."""
+        if not self.pending or rnd.random() < 0.2:
+            return rnd.choice((self.synced, self.now))
+        content = self.synced
+        for event in self.pending:
+            if event.kind == "cut":
+                content = changed(content, event) if rnd.random() < 0.5 else content
+                continue
+            for part in sectors(event):
+                if rnd.random() < 0.5:
+                    content = changed(content, part, rnd)
+        return content
+
+
+def changed(content: bytes, event: Event, rnd: Optional[Random] = None) -> bytes:
+    """A content after a write or a cut. What a write leaves out behind the old end is zero, or anything."""
+    if event.kind == "cut":
+        return content[: event.at].ljust(event.at, b"\0")
+    gap = max(0, event.at - len(content))
+    fill = rnd.choice((b"\0", b"\r", b"node,7777,0,0\n")) if rnd else b"\0"
+    content += (fill * gap)[:gap]
+    return content[: event.at] + event.data + content[event.at + len(event.data) :]
+
+
+def sectors(event: Event) -> Iterator[Event]:
+    """A write, by the sectors of the disk."""
+    at, end = event.at, event.at + len(event.data)
+    while at < end:
+        until = min(end, at // SECTOR * SECTOR + SECTOR)
+        yield event._replace(at=at, data=event.data[at - event.at : until - event.at])
+        at = until
+
+
+class Disk:
+    """The files of one folder, and what is certain of them."""
+
+    def __init__(self, folder: str) -> None:
+        self.folder, self.answered = os.path.realpath(folder), b""
+        self.names: Dict[str, File] = {}
+        self.certain: Dict[str, File] = {}
+        self.renames: List[Callable[[Dict[str, File]], object]] = []
+        self.opened: Dict[int, Union[File, str]] = {}
+
+    def name_in(self, name: str) -> Optional[str]:
+        """The name in the folder, or None if it is another folder's."""
+        path = os.path.join(os.path.realpath(os.path.dirname(name) or "."), os.path.basename(name))
+        return os.path.basename(path) if os.path.dirname(path) == self.folder else None
+
+    def rename(self, change: Callable[[Dict[str, File]], object]) -> None:
+        """Changes the names, which isn't certain yet."""
+        change(self.names)
+        self.renames.append(change)
+
+    def open(self, event: Event) -> None:
+        """A file or the folder is opened, and made if it is missing."""
+        path, self.opened[event.file] = event.names()[0], ""
+        name = self.name_in(path)
+        if os.path.realpath(path) == self.folder:
+            self.opened[event.file] = self.folder
+        elif name is not None:
+            if name not in self.names and event.at & CREATE:
+                made = File()
+                self.rename(lambda names: names.__setitem__(name, made))
+            if name in self.names:
+                self.opened[event.file] = self.names[name]
+
+    def sync(self, event: Event) -> None:
+        """A file, or the names in the folder, are certain."""
+        opened = self.opened.get(event.file, "")
+        if isinstance(opened, File):
+            opened.sync()
+        elif opened == self.folder:
+            self.certain, self.renames = dict(self.names), []
+
+    def take(self, event: Event) -> None:
+        """What the disk is after a call."""
+        opened = self.opened.get(event.file, "")
+        if event.kind == "open":
+            self.open(event)
+        elif event.kind in ("write", "cut") and isinstance(opened, File):
+            opened.do(event)
+        elif event.kind == "sync":
+            self.sync(event)
+        elif event.kind == "answer":
+            self.answered += event.data
+        elif event.kind in ("rename", "remove"):
+            first, second = map(self.name_in, event.names())
+            if event.kind == "remove" and first in self.names:
+                self.rename(lambda names: names.pop(first, None))
+            elif event.kind == "rename" and first in self.names and second is not None:
+                self.rename(lambda names: names.__setitem__(second, names.pop(first)))
+
+    def uncertain(self, name: str) -> str:
+        """Why it isn't certain what a file of this name holds, or nothing."""
+        if self.certain.get(name) is not self.names.get(name):
+            return f"the name {name} is not synced"
+        file = self.names.get(name)
+        return f"{len(file.pending)} writes of {name} are not synced" if file and file.pending else ""
+
+    def crash(self, rnd: Random, into: str) -> None:
+        """Writes the files that a crash at this moment may leave to another folder."""
+        names = dict(self.certain)
+        for change in self.renames[: rnd.randint(0, len(self.renames))]:
+            change(names)
+        for name, file in names.items():
+            with open(f"{into}/{name}", "wb") as copy:
+                copy.write(file.after_crash(rnd))

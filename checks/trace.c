@@ -1,0 +1,106 @@
+// Notes what a program does to files. Loaded before it (LD_PRELOAD), this appends an event to the file that TRACE names for each
+// call that opens, writes, cuts, syncs, renames or removes a file, once it has succeeded, and for each write to standard output.
+// An event is a line `KIND DESCRIPTOR OFFSET SIZE` and so many bytes: what was written, or names with a zero byte between them.
+// With the variable DROP_SYNCS a sync does nothing, isn't noted, and answers that it was made: to show that a test finds it.
+typedef unsigned long size_t;
+typedef long ssize_t;
+typedef long off_t;
+extern char *getenv(const char *name);
+extern long syscall(long number, ...);
+extern int snprintf(char *to, size_t size, const char *format, ...);
+
+enum {
+    WRITE = 1, OPEN = 2, PWRITE = 18, FSYNC = 74, FDATASYNC = 75, TRUNCATE = 77, RENAME = 82, UNLINK = 87, OPENAT = 257,
+    RENAMEAT = 264, UNLINKAT = 263, CREATE = 0100, HERE = -100
+};
+
+static int trace = -1;
+
+static void note(const char *kind, int file, long at, const void *bytes, size_t size) {
+    char head[80];
+    if (trace < 0) {
+        const char *name = getenv("TRACE");
+        if (!name) return;
+        trace = (int)syscall(OPEN, name, 01 | CREATE | 02000, 0600);
+    }
+    int n = snprintf(head, sizeof head, "%s %d %ld %lu\n", kind, file, at, size);
+    syscall(WRITE, trace, head, n);
+    if (size) syscall(WRITE, trace, bytes, size);
+}
+
+static void note_names(const char *kind, int file, long more, const char *first, const char *second) {
+    char names[8192];
+    int n = snprintf(names, sizeof names, "%s%c%s", first, 0, second);
+    note(kind, file, more, names, n);
+}
+
+ssize_t write(int file, const void *from, size_t size) {
+    ssize_t n = syscall(WRITE, file, from, size);
+    if (n > 0 && file == 1) note("answer", file, 0, from, n);
+    return n;
+}
+ssize_t __write(int file, const void *from, size_t size) { return write(file, from, size); }
+
+ssize_t pwrite(int file, const void *from, size_t size, off_t at) {
+    ssize_t n = syscall(PWRITE, file, from, size, at);
+    if (n > 0) note("write", file, at, from, n);
+    return n;
+}
+ssize_t pwrite64(int file, const void *from, size_t size, off_t at) { return pwrite(file, from, size, at); }
+
+static int synced(long number, int file) {
+    if (getenv("DROP_SYNCS")) return 0;
+    int status = (int)syscall(number, file);
+    if (!status) note("sync", file, 0, "", 0);
+    return status;
+}
+int fsync(int file) { return synced(FSYNC, file); }
+int fdatasync(int file) { return synced(FDATASYNC, file); }
+
+int ftruncate(int file, off_t size) {
+    int status = (int)syscall(TRUNCATE, file, size);
+    if (!status) note("cut", file, size, "", 0);
+    return status;
+}
+int ftruncate64(int file, off_t size) { return ftruncate(file, size); }
+
+int renameat(int a, const char *from, int b, const char *to) {
+    int status = (int)syscall(RENAMEAT, a, from, b, to);
+    if (!status) note_names("rename", a, b, from, to);
+    return status;
+}
+int rename(const char *from, const char *to) { return renameat(HERE, from, HERE, to); }
+
+int unlinkat(int folder, const char *name, int flags) {
+    int status = (int)syscall(UNLINKAT, folder, name, flags);
+    if (!status) note_names("remove", folder, 0, name, "");
+    return status;
+}
+int unlink(const char *name) { return unlinkat(HERE, name, 0); }
+
+static int opened(int folder, const char *name, int flags, unsigned mode) {
+    int file = (int)syscall(OPENAT, folder, name, flags, mode);
+    if (file >= 0) note_names("open", file, flags, name, "");
+    return file;
+}
+
+#define OPENS(function)                                                            \
+    int function(const char *name, int flags, ...) {                               \
+        __builtin_va_list more;                                                    \
+        __builtin_va_start(more, flags);                                           \
+        unsigned mode = flags & CREATE ? __builtin_va_arg(more, unsigned) : 0;     \
+        __builtin_va_end(more);                                                    \
+        return opened(HERE, name, flags, mode);                                    \
+    }
+#define OPENS_AT(function)                                                         \
+    int function(int folder, const char *name, int flags, ...) {                   \
+        __builtin_va_list more;                                                    \
+        __builtin_va_start(more, flags);                                           \
+        unsigned mode = flags & CREATE ? __builtin_va_arg(more, unsigned) : 0;     \
+        __builtin_va_end(more);                                                    \
+        return opened(folder, name, flags, mode);                                  \
+    }
+OPENS(open)
+OPENS(open64)
+OPENS_AT(openat)
+OPENS_AT(openat64)
