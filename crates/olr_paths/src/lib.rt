@@ -11,5 +11,5 @@ mod renewal;
 pub use add_and_set::{add, set};
 pub use naming::affected_names;
 pub use olr_list::{ChangeSet, ChangedLine, Iter, Overlay, PathList, Published, Searches};
-pub use reencode::{renew_over, renew_unaffected};
+pub use reencode::{preview_over, renew_over, renew_unaffected};
 pub use renewal::Renewed;

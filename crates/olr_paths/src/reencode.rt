@@ -1,10 +1,11 @@
 //! Encodes again the paths whose answer a change of the map may have changed, in place or in a list under changes.
-ghost use Rattle.std.specs.Prelude.{◌≡◌, ℕ, [], IsSome, IfSome, IfOk, OnOk, OnErr};
+ghost use Rattle.std.specs.Prelude.{◌≡◌, ℕ, List, [], IsSome, IfSome, IfOk, OnOk, OnErr};
 ghost use Rattle.olr_spec.specs.Map.{Map};
 ghost use Rattle.olr_commands.specs.State.{NamesDiffer};
 ghost use Rattle.olr_near.specs.Bounds.{IsEdit, IsRight, IsUnderWay};
 ghost use Rattle.olr_list.specs.ChangeSets.{nodes_of};
-ghost use Rattle.olr_list.specs.Items.{items, all_named};
+ghost use Rattle.olr_list.specs.Items.{Item, items, all_named};
+ghost use Rattle.olr_list.specs.Views.{shown_items};
 ghost use Rattle.olr_list.specs.Overlaid.{RemovesNone, overlay_changes, under_overlay};
 ghost use Rattle.olr_list.specs.Origins.{AreBoundsOf, AreOriginsNoted};
 ghost use Rattle.olr_paths.specs.Changes.{Follows};
@@ -135,6 +136,63 @@ pub fn renew_over<M: MapRead>(
     } else {
         drop(overlaid);
     }
+    renewed
+}
+
+/// What `renew_over` would return for a list under changes that remove no path, of whose paths `before` has the earlier answers.
+fn preview_overlaid<M: MapRead>(
+    overlaid: OverlaidList<'_>,
+    alloc: Global,
+    map: &M,
+    before: &PathList,
+    touched: &ChangeSet,
+    bounds: &DistanceBounds,
+    searches: &mut Searches,
+) -> Result<Renewed, AllocError>
+    requires follows { Follows (items before.now) (shown_items overlaid) }
+    requires before { (L : Map) × WasBefore L (M.map map.now) touched.now (shown_items overlaid) }
+    requires bounds { AreBoundsOf (M.map map.now) (M.node_slot map.now) bounds.now (shown_items overlaid) }
+    ensures { IfOk result (λ r. (js : List Item) × IsRenewal (M.map map.now) touched.now (items before.now)
+        (shown_items overlaid.entry) js r) }
+{
+    let Renewal { fresh, renewed } =
+        renewal_of(alloc, map, overlaid, before, touched, bounds, searches)?;
+    drop(fresh);
+    Ok(renewed)
+}
+
+/// What `renew_over` would return. The affected paths are encoded for it, and nothing is stored.
+pub fn preview_over<M: MapRead>(
+    list: &PathList,
+    alloc: Global,
+    map: &M,
+    overlay: &Overlay,
+    touched: &ChangeSet,
+    bounds: &DistanceBounds,
+    searches: &mut Searches,
+) -> Result<Renewed, AllocError>
+    requires names { NamesDiffer (all_named (under_overlay (items list.now) overlay.now)) }
+    requires follows { Follows (items list.now) (under_overlay (items list.now) overlay.now) }
+    requires bounds { AreBoundsOf (M.map map.now) (M.node_slot map.now) bounds.now
+        (under_overlay (items list.now) overlay.now) }
+    requires before { (L : Map) × WasBefore L (M.map map.now) touched.now
+        (under_overlay (items list.now) overlay.now) }
+    ensures { IfOk result (λ r. (js : List Item) × IsRenewal (M.map map.now) touched.now (items list.now)
+        (under_overlay (items list.now) overlay.now) js r) }
+{
+    if !overlay.removes_some() {
+        let overlaid = OverlaidList { list, overlay };
+        return preview_overlaid(overlaid, alloc, map, list, touched, bounds, searches);
+    }
+    let copy = overlay.overlaid_copy(alloc, list)?;
+    let none = Overlay::new(alloc);
+    let overlaid = OverlaidList {
+        list: &copy,
+        overlay: &none,
+    };
+    let renewed = preview_overlaid(overlaid, alloc, map, list, touched, bounds, searches);
+    drop(none);
+    drop(copy);
     renewed
 }
 

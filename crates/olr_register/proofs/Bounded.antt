@@ -23,8 +23,8 @@ bounded_unknown roads T is bounds off =
     }
 
 -- bounds that are right need not be settled
-pub settled_bounds : {roads : RoadMap} {is : List Item} {bounds : DistanceBounds} →
-    AreBoundsOf (map_of roads) (slot_of roads) bounds is → HasBounds roads [] is bounds
+pub settled_bounds : {roads : RoadMap} {T : List ℕ} {is : List Item} {bounds : DistanceBounds} →
+    AreBoundsOf (map_of roads) (slot_of roads) bounds is → HasBounds roads T is bounds
 settled_bounds h =
     record {
       under_way = λ known.

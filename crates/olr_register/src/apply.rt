@@ -81,6 +81,7 @@ impl Register {
             Command::Ambiguous(name) => self.ambiguous(name),
             Command::Explain(text) => self.explain(&text),
             Command::Begin => self.begin(),
+            Command::Preview => self.preview(),
             Command::Commit(count) => self.commit(count),
             Command::Abort => self.abort(),
         }

@@ -1,8 +1,8 @@
 //! Batches: opening one, commit and abort.
-ghost use Rattle.olr_commands.specs.State.{Begin, Commit, Abort};
+ghost use Rattle.olr_commands.specs.State.{Begin, Preview, Commit, Abort};
 
 use crate::batch::Batch;
-use crate::bounds::{renew, undo_edits};
+use crate::bounds::{preview, renew, undo_edits};
 use crate::register::Register;
 use olr_commands::{CommandFault, Reply};
 use olr_map::UndoLog;
@@ -28,6 +28,27 @@ impl Register {
         // Nothing is dropped: no batch is open.
         drop(self.batch.replace(batch));
         Ok(Reply::Paths(Vec::new(self.alloc)))
+    }
+
+    /// The reply that a commit of all held changes would have. The affected paths are encoded for it, which isn't counted; nothing
+    /// changes.
+    #[inline(never)]
+    pub(crate) fn preview(&mut self) -> Result<Reply, CommandFault>
+        ensures { Answered self.old Preview result self.new }
+    {
+        let Some(batch) = &self.batch else {
+            return Err(CommandFault::NoBatch);
+        };
+        let renewed = preview(
+            self.alloc,
+            &self.roads,
+            &self.paths,
+            &batch.overlay,
+            &batch.touched,
+            &mut self.bounds,
+            &mut self.searches,
+        )?;
+        Ok(Reply::Paths(renewed.entries))
     }
 
     /// Accepts all held changes at once, if their number is `count`, and encodes the affected paths. After a fault the

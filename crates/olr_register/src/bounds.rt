@@ -14,7 +14,7 @@ ghost use Rattle.olr_register.specs.Contents.{AreEditsNoted, HasBounds, CanRenew
 
 use olr_map::{RoadMap, UndoLog};
 use olr_near::DistanceBounds;
-use olr_paths::{ChangeSet, Overlay, PathList, Renewed, Searches, renew_over};
+use olr_paths::{ChangeSet, Overlay, PathList, Renewed, Searches, preview_over, renew_over};
 use olr_refs::CoverageQuery;
 use std::alloc::{AllocError, Global};
 
@@ -123,6 +123,28 @@ pub(crate) fn renew(
             Err(error)
         }
     }
+}
+
+/// What `renew` would return; the list stays as it is.
+pub(crate) fn preview(
+    alloc: Global,
+    roads: &RoadMap,
+    paths: &PathList,
+    overlay: &Overlay,
+    touched: &ChangeSet,
+    bounds: &mut DistanceBounds,
+    searches: &mut Searches,
+) -> Result<Renewed, AllocError>
+    requires renewable { (M : Map) × CanRenew M (map_of roads.now) (items paths.now)
+        (under_overlay (items paths.now) overlay.now) touched.now }
+    requires bounded { HasBounds roads.now (nodes_of touched.now) (under_overlay (items paths.now) overlay.now) bounds.old }
+    ensures renewed { IfOk result (λ r. (js : List Item) × IsRenewal (map_of roads.now) touched.now (items paths.now)
+        (under_overlay (items paths.now) overlay.now) js r) }
+    ensures bounded { (T : List ℕ) (is : List Item) → HasBounds roads.now (nodes_of touched.now) is bounds.old
+        → HasBounds roads.now T is bounds.new }
+{
+    settle_bounds(bounds, roads, touched);
+    preview_over(paths, alloc, roads, overlay, touched, bounds, searches)
 }
 
 /// Undoes the edits of a log, which touched these nodes and lines, and reopens the nodes. The bounds are unknown after that
