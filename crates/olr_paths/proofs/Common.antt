@@ -12,7 +12,7 @@ pub use Rattle.olr_list.specs.Items.{AreEncodingsIfAny, IsEncodingOf}
 pub use Rattle.olr_list.specs.declared.path_list.NamedPath.{NamedPath}
 pub use Rattle.olr_list.specs.declared.published.Published.{Published}
 pub use Rattle.olr_paths.specs.Changes.{IsAffected, IsBefore, Follows, By_name, By_node, By_line}
-pub use Rattle.olr_paths.specs.Reencoded.{after_renewal, EncodedAgain, Retained}
+pub use Rattle.olr_paths.specs.Reencoded.{after_renewal}
 pub use Rattle.olr_paths.specs.declared.renewal.Renewal.{Renewal}
 pub use Rattle.olr_spec.proofs.ListLemmas.{at_index}
 pub use Rattle.olr_spec.proofs.QueryLists.{query_from}

@@ -1,7 +1,7 @@
 -- A list, as far as it was renewed: SoFar says it of the first paths, with the count of encodings.
-use Rattle.olr_paths.proofs.Common.{Answer, ChangedLine, EncodedAgain, Entry, Follows, IsAffected, IsBefore, IsEncodingOf}
+use Rattle.olr_paths.proofs.Common.{Answer, ChangedLine, Entry, Follows, IsAffected, IsBefore, IsEncodingOf}
 use Rattle.olr_paths.proofs.Common.{IsMap, Item, List, Made, Map, Named, NamedPath, None, Option, Renewal, Reported}
-use Rattle.olr_paths.proofs.Common.{Retained, Some, [], after_renewal, all_named, all_put, answer_in, ap, arith}
+use Rattle.olr_paths.proofs.Common.{Some, [], after_renewal, all_named, all_put, answer_in, ap, arith}
 use Rattle.olr_paths.proofs.Common.{changed_of, entry, entry_of, get_or, inl, inr, length, lines_of, map, map-append}
 use Rattle.olr_paths.proofs.Common.{named_of, nodes_of, option_map, puts_of, refl, slice_get, slice_get_within, sym}
 use Rattle.olr_paths.proofs.Common.{take, ℕ, ◌++◌, ◌+◌, ◌<◌, ◌∙◌, ◌∷◌, ◌≡◌, ◌≤◌, ◌⊎◌}
@@ -9,11 +9,14 @@ use Rattle.olr_commands.specs.Counts.{CountIs}
 use Rattle.olr_list.proofs.Alls.{at_position}
 use Rattle.olr_list.proofs.Common.{append_assoc, take_more_at, append-nil, Covers}
 use Rattle.olr_list.proofs.NotedPositions.{all_put-push, put_behind}
+use Rattle.olr_list.specs.Actions.{IsActionFor, ToSkip}
+use Rattle.olr_list.specs.declared.actions.Action.{Action}
+use Rattle.olr_list.specs.declared.actions.Action.TheVariants.{Skip, Retain, Encode}
 use Rattle.olr_list.specs.declared.change_set.ChangeSet.{ChangeSet}
 use Rattle.olr_paths.proofs.RetainedLemmas.{stays_retained, named_affected, stays_unless, touched_by, affected_by}
 use Rattle.olr_paths.proofs.Passing.{Passed, by_steps}
 use Rattle.olr_paths.specs.Changes.{with_made, AreRemade, IsRemade}
-use Rattle.olr_paths.specs.Reencoded.{ReportsIfOther, encodings_of, entries_of, IsRenewal, IsStep, Left, WasBefore, made_at}
+use Rattle.olr_paths.specs.Reencoded.{ReportsIfOther, encodings_of, entries_of, IsRenewal, IsStep, WasBefore, made_at}
 use Rattle.olr_search.specs.Counts.{no_work, raised_count}
 
 AreRemade-push : (N : Map) (is js : List Item) (i j : Item) → AreRemade N is js → IsRemade N i j →
@@ -118,25 +121,33 @@ module _ {N : Map} (n : IsMap N) {T X : List ℕ} {C : List ChangedLine} {before
       grown r s i m.answer u h (λ ys. rw puts (h.put (i ∷ ys))) refl is_A (inl (answered, entries))
       (λ L q. ((m, (one L q).0, (λ k. record { name = i.name; path = i.path; made = some k })), (one L q).1)) counted
 
-  pub so_far_step : {r s : Renewal} → SoFar N T X C before is (take position is) r →
-      IsStep N T X C before i position r s → SoFar N T X C before is (take (position + 1) is) s
-  so_far_step {r} {s} h (Left f same) =
-      rw same (retained r r f.0 0 f.1 h refl refl
+  -- a path that is not affected
+  pub so_far_left : {r : Renewal} → SoFar N T X C before is (take position is) r → ToSkip N T X i.made i.path →
+      SoFar N T X C before is (take (position + 1) is) r
+  so_far_left {r} h f =
+      retained r r f.0 0 f.1 h refl refl
       (λ L q. (stays_unless n q position i at f.1 f.2, inr ((λ o. f.2 (touched_by n q position i at f.1 o)), refl)))
-      (omega arith))
-  so_far_step {r} {s} h (Retained f puts entries one) =
-      retained r s f.0 1 f.1 h puts entries
-      (λ L q. (stays_retained n q position i at f.1 f.3, inl (affected_by n q position i at f.1 f.2, (0, refl, refl)))) one
-  so_far_step {r} {s} h (EncodedAgain f m made puts returned one) =
+      (omega arith)
+
+  pub so_far_step : (a : Action) {r s : Renewal} → SoFar N T X C before is (take position is) r →
+      IsActionFor N T X C i.made i.path a → IsStep N before i position a r s →
+      SoFar N T X C before is (take (position + 1) is) s
+  so_far_step Skip {r} {s} h f same = rw same (so_far_left h f)
+  so_far_step Retain {r} {s} h f step =
+      retained r s f.0 1 f.1 h step.0 step.1
+      (λ L q. (stays_retained n q position i at f.1 f.3, inl (affected_by n q position i at f.1 f.2, (0, refl, refl))))
+      step.2
+  so_far_step Encode {r} {s} h f step =
+      let m : Made = step.0 in
       grown r s (with_made i m) m.answer 1 h
       (λ ys. rw (
-        puts,
+        step.2,
         all_put-push,
         put_behind is position i ys i.path (Some m) (omega (arith, slice_get_within is position i at)),
       )
       (h.put (with_made i m ∷ ys)))
-      refl refl returned
-      (λ L q. ((m, made, refl), inl (named_affected n q position i at f, (0, refl, refl)))) one
+      refl refl step.3
+      (λ L q. ((m, step.1, refl), inl (named_affected n q position i at f, (0, refl, refl)))) step.4
 
 -- ---- from one candidate to the next
 
@@ -148,4 +159,4 @@ module _ {N : Map} (n : IsMap N) {T X : List ℕ} {C : List ChangedLine} {before
       SoFar N T X C before is (take next is) r → SoFar N T X C before is (take q is) r
   to_position =
       by_steps is found (λ p. SoFar N T X C before is (take p is) r)
-      (λ p i at free h. so_far_step n follows p i at h (Left (covers p i at free) refl))
+      (λ p i at free h. so_far_left n follows p i at h (covers p i at free))

@@ -11,7 +11,6 @@
 use Rattle.std.specs.Prelude.{◌≡◌, ◌≢◌, ℕ, List, [], ◌∷◌, ◌++◌, map, Option, Some, option_map, unwrap_or, ◌⊎◌}
 use Rattle.std.specs.Borrow.{Bor}
 use Rattle.olr_spec.specs.Map.{Map}
-use Rattle.olr_spec.specs.Detours.{ChangedLine}
 use Rattle.olr_search.specs.Counts.{raised_count}
 use Rattle.olr_commands.specs.Counts.{CountIs}
 use Rattle.olr_commands.specs.Words.{entry_of}
@@ -20,8 +19,9 @@ use Rattle.olr_commands.specs.Reply.{Entry, entry}
 use Rattle.olr_list.specs.Items.{Made, Item, IsEncodingOf, items, answer_in, all_named}
 use Rattle.olr_list.specs.Changes.{Reported}
 use Rattle.olr_list.specs.Stored.{Put, all_put, puts_of}
-use Rattle.olr_list.specs.Actions.{ToSkip, ToRetain, ToName}
 use Rattle.olr_list.specs.ChangeSets.{nodes_of, lines_of, changed_of}
+use Rattle.olr_list.specs.declared.actions.Action.{Action}
+use Rattle.olr_list.specs.declared.actions.Action.TheVariants.{Skip, Retain, Encode}
 use Rattle.olr_list.specs.declared.change_set.ChangeSet.{ChangeSet}
 use Rattle.olr_list.specs.declared.path_list.PathList.{PathList}
 use Rattle.olr_paths.specs.Changes.{IsBefore, IsAffected, AreRemade}
@@ -49,15 +49,16 @@ ReportsIfOther before name A es fs =
 abbrev pub encodings_of : Renewal → ℕ
 encodings_of r = r.renewed.work.encodings
 
-pub data IsStep (N : Map) (T X : List ℕ) (C : List ChangedLine) (before : List Item) (i : Item) (k : ℕ) (r s : Renewal)
-    : Type 0 where
-  Left : ToSkip N T X i.made i.path → s ≡ r → IsStep N T X C before i k r s
-  Retained : ToRetain N T X C i.made i.path → made_at s ≡ made_at r → entries_of s.renewed ≡ entries_of r.renewed →
-      encodings_of s ≡ raised_count (encodings_of r) 1 → IsStep N T X C before i k r s
-  EncodedAgain : ToName N T X i.made i.path → (m : Made) → IsEncodingOf N i.path m →
-      made_at s ≡ made_at r ++ record { position = k; path = i.path; made = Some m } ∷ [] →
-      ReportsIfOther before i.name m.answer (entries_of r.renewed) (entries_of s.renewed)
-      → encodings_of s ≡ raised_count (encodings_of r) 1 → IsStep N T X C before i k r s
+abbrev pub IsStep : Map → List Item → Item → ℕ → Action → Renewal → Renewal → Type 0
+IsStep N before i k Skip r s = s ≡ r
+IsStep N before i k Retain r s =
+    (made_at s ≡ made_at r) × (entries_of s.renewed ≡ entries_of r.renewed)
+    × (encodings_of s ≡ raised_count (encodings_of r) 1)
+IsStep N before i k Encode r s =
+    (m : Made) × IsEncodingOf N i.path m
+    × (made_at s ≡ made_at r ++ record { position = k; path = i.path; made = Some m } ∷ [])
+    × ReportsIfOther before i.name m.answer (entries_of r.renewed) (entries_of s.renewed)
+    × (encodings_of s ≡ raised_count (encodings_of r) 1)
 
 -- ---- the whole list
 

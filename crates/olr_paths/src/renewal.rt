@@ -3,14 +3,12 @@ ghost use Rattle.std.specs.Prelude.{◌≡◌, ◌↔◌, ℕ, Contains, Some, s
 ghost use Rattle.olr_spec.specs.Map.{Map};
 ghost use Rattle.olr_commands.specs.Words.{entry_of};
 ghost use Rattle.std.specs.Prelude.{List};
-ghost use Rattle.olr_spec.specs.Detours.{ChangedLine};
 ghost use Rattle.olr_spec.specs.Queries.{CoverageQuery as QueryRecord, AreKnown};
 ghost use Rattle.olr_list.specs.Items.{Item, made_of, items, answer_in};
 ghost use Rattle.olr_list.specs.Views.{shown_items, shown_item};
 ghost use Rattle.olr_list.specs.AffectedSearches.{AreDetoursIfFew};
 ghost use Rattle.olr_list.specs.Candidates.{AreCandidates};
 ghost use Rattle.olr_list.specs.Origins.{BeginsPut, AreBoundsOf, new_origins_in};
-ghost use Rattle.olr_list.specs.Actions.{IsActionFor};
 ghost use Rattle.olr_paths.specs.Changes.{Follows};
 ghost use Rattle.olr_paths.specs.Reencoded.{made_at, after_renewal, ReportsIfOther, IsStep};
 ghost use Rattle.olr_paths.specs.Reencoded.{WasBefore, IsRenewal};
@@ -108,10 +106,8 @@ impl Renewal {
         query: &mut Dijkstra,
     ) -> Result<(), AllocError>
         requires known { AreKnown (M.map map.now) (shown_item shown).path.lines known.now }
-        ensures { OnOk result ((T X : List ℕ) (C : List ChangedLine)
-            → IsActionFor (M.map map.now) T X C (shown_item shown.entry).made (shown_item shown.entry).path action
-            → IsStep (M.map map.now) T X C (items before.now) (shown_item shown.entry)
-            position self.old self.new) }
+        ensures { OnOk result
+            (IsStep (M.map map.now) (items before.now) (shown_item shown.entry) position action self.old self.new) }
     {
         match action {
             Action::Skip => (),

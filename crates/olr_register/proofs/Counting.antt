@@ -1,5 +1,5 @@
 -- How many paths the changes affect, counted by the stored results; none if there are no changes.
-use Rattle.olr_register.proofs.Common.{inl, inr, ◌≡◌, ℕ, ◌≤◌, true, List, [], ◌∷◌, map, Option, arith}
+use Rattle.olr_register.proofs.Common.{inl, inr, ◌≡◌, ℕ, true, List, [], ◌∷◌, map, Option, arith}
 use Rattle.olr_register.proofs.Common.{Some, None, refl, sym, ap, ◌∙◌, subst, is_none, list_any}
 use Rattle.olr_register.proofs.Common.{has, Named, Content, same_name, Change}
 use Rattle.olr_register.proofs.Common.{Affects, By_name, By_node, By_line, all_nodes, all_lines, all_names}

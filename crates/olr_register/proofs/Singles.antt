@@ -2,11 +2,11 @@
 use Rattle.olr_register.proofs.Common.{◌⊎◌, ◌≡◌, ◌≢◌, ℕ, true, false, not, List, [], ◌∷◌, ◌++◌, map, filter}
 use Rattle.olr_register.proofs.Common.{length, Some, None, Result, Ok, Err, refl, sym, ap, ◌∙◌, subst, ◌==◌, ◌&&◌}
 use Rattle.olr_register.proofs.Common.{IsFalse, IsErrAnd, Map, Edit, edited, touched_nodes, touched_lines, has}
-use Rattle.olr_register.proofs.Common.{HasCoord, changes_of, Path, is_path, map_of, RoadMap, Work, Named}
-use Rattle.olr_register.proofs.Common.{Content, same_name, path_named, Fault, Change, On_map, Add_path, Set_path}
+use Rattle.olr_register.proofs.Common.{HasCoord, Path, is_path, map_of, RoadMap, Work, Named}
+use Rattle.olr_register.proofs.Common.{Content, same_name, Fault, Change, On_map, Add_path, Set_path}
 use Rattle.olr_register.proofs.Common.{Drop_path, with_map, with_change, at_once, Make, HasCoords, entry, Differences}
 use Rattle.olr_register.proofs.Common.{IsRefusal, takes_memory, may_want, Affects, By_name, By_node, By_line}
-use Rattle.olr_register.proofs.Common.{all_nodes, all_lines, all_names, reply_of}
+use Rattle.olr_register.proofs.Common.{reply_of}
 use Rattle.olr_register.proofs.Common.{command_fault_of, Reply, CommandFault, changes_keep, DistanceBounds, Made}
 use Rattle.olr_register.proofs.Common.{Item, IsEncodingOf, AreEncodings, all_named, answer_in, arith}
 use Rattle.olr_register.proofs.Common.{set_item, IsRenewal, nodes_of, lines_of, changed_of}

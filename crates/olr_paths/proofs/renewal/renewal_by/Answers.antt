@@ -46,12 +46,11 @@ loop-position-preserved g c =
     let lt = c.loop-position-test.true in
     let sound = g.met.M.MapRead.sound c.args.map.now in (
       position + 1,
-      so_far_step sound c.requires.follows position i at
+      so_far_step sound c.requires.follows position i at c.in_ok-action.action
           (to_position sound c.args.found.now c.requires.follows c.requires.candidates.covers k h.0 position
           (λ m a b. ascends c.args.found.now c.requires.candidates.ascending k m a b) h.2 (h.2.ahead k (omega arith) lt) (omega arith)
           h.1)
-          (c.in_ok-advance.ensures (nodes_of c.args.touched.now) (lines_of c.args.touched.now)
-          (changed_of c.args.touched.now) c.in_ok-action.ensures.action),
+          c.in_ok-action.ensures.action c.in_ok-advance.ensures,
       passed_one c.requires.candidates.ascending h.2 lt within,
       (λ some. c.in_ok-known.ensures.detours),
       c.in_ok-action.ensures.asked _ h.4,

@@ -1,4 +1,4 @@
-use Rattle.olr_register.proofs.Common.{◌≡◌, arith, true, false, Some, None, Ok, List, map, length, refl, sym, ap, ◌∙◌, subst}
+use Rattle.olr_register.proofs.Common.{◌≡◌, true, false, Some, None, Ok, List, map, length, refl, sym, ap, ◌∙◌, subst}
 use Rattle.olr_register.proofs.Common.{ne_eqb, map_of, map_before, Named, Content, Commit, IsContent, ByState, may_want}
 use Rattle.olr_register.proofs.Common.{entry_of, items, all_named, under_overlay, nodes_of, lines_of}
 use Rattle.olr_register.proofs.Common.{Registered, content_on, batch_of, Lacks_memory}

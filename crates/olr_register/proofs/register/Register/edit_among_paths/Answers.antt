@@ -1,4 +1,4 @@
-use Rattle.olr_register.proofs.Common.{◌≡◌, ◌≢◌, List, length, None, IsOk, refl, sym, ap, arith, ◌∙◌, Map, Edit, edited, edit_of}
+use Rattle.olr_register.proofs.Common.{◌≡◌, ◌≢◌, List, length, None, IsOk, refl, sym, ap, ◌∙◌, Map, Edit, edited, edit_of}
 use Rattle.olr_register.proofs.Common.{map_of, On_map, Make, at_once, IsRefusal, ByState, Item, items, all_named, Registered}
 use Rattle.olr_register.proofs.Common.{content_on, No_memory, ne_eqb}
 use Rattle.olr_register.proofs.Changing.{edit_refused, edit_lacks}
