@@ -11,7 +11,7 @@ import bisect
 import heapq
 import math
 from collections import defaultdict
-from typing import Callable, NamedTuple, Optional
+from typing import Callable, Mapping, NamedTuple, Optional, Sequence, Tuple, Union
 
 from .geo import METRES, scale
 
@@ -369,7 +369,8 @@ class Follower:
         return found._replace(rival=Rival(self.name(taken), self.name(other), self.plane.degrees(middle)))
 
 
-def follow(course, lines, tolerance=20.0, wish=Wish()):
+def follow(course: Sequence[Tuple[float, float]], lines: Mapping[int, Ground], tolerance: float = 20.0,
+           wish: Wish = Wish()) -> Union[Found, Lost]:
     """The lines that follow a course, or why there are none: `Found` or `Lost`. An end that is to be at a junction is sought along
     lines if no route leads from junction to junction."""
     if len(course) < 2 or len(set(course)) < 2:

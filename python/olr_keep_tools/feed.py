@@ -7,7 +7,8 @@ import re
 import select
 import time
 import uuid
-from typing import Deque, Dict, List, NamedTuple, Optional, Protocol, Tuple, Union
+from argparse import Namespace
+from typing import Deque, Dict, List, NamedTuple, Optional, Tuple, Union
 
 from . import stream
 from .command import STREAM, USAGE, Failure, say
@@ -24,15 +25,6 @@ WHY = {
     "NoCommit": "this batch has no commit in its message, and is aborted",
     "CountDiffers": "the batch holds another number of changes, and is aborted",
 }
-
-
-class Options(Protocol):
-    """The arguments of tools/feed."""
-
-    stream: str
-    name: Optional[str]
-    since: Optional[int]
-    shares: Optional[Shares]
 
 
 class Message(NamedTuple):
@@ -165,10 +157,11 @@ class Marker:
 class Feed:
     """Sends the messages of a source, and reads the stream to confirm that they are there."""
 
-    def __init__(self, options: Options, source: Source):
-        self.stream, self.source = options.stream, source
+    def __init__(self, options: Namespace, source: Source):
+        self.stream: str = options.stream
+        self.source = source
         self.there, self.records = Confirmed(options.name or str(uuid.uuid4())), Records()
-        self.since = -1 if options.name is None else options.since or 0
+        self.since: int = -1 if options.name is None else options.since or 0
         self.is_first = True
         self.identity: Optional[str] = None
         self.message: Optional[Message] = None

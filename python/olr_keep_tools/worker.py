@@ -4,12 +4,12 @@ The two share nothing but two queues.
 import collections
 import queue
 import time
-from typing import Any, Deque, Iterator, List, NamedTuple, Optional, Protocol, Sequence, Tuple, Union
+from argparse import Namespace
+from typing import Any, Deque, Iterator, List, NamedTuple, Optional, Sequence, Tuple, Union
 
 from . import stream
 from .carried import Share
 from .command import STREAM, Failure, say
-from .places import Shares
 from .program import Program
 from .snapshots import Snapshot, Snapshots, load
 from .stream import LOST_STREAMS, Position
@@ -20,19 +20,6 @@ SETTLED, MINUTE = 5, 60
 FIRST = (-1, -1, -1)
 
 Tag = Tuple[int, int]  # the number of a session, and the delivery tag of a message in it
-
-
-class Options(Protocol):
-    """The arguments of tools/worker."""
-
-    program: Sequence[str]
-    deadline: int
-    stream: str
-    share: int
-    shares: Shares
-    snapshots: Optional[str]
-    every: int
-    at: Optional[Tuple[int, int]]
 
 
 class Answers(NamedTuple):
@@ -124,7 +111,7 @@ class Clock:
 class Carrier:
     """Carries out messages in a thread of its own: takes them from one queue, and puts what is published of them into another."""
 
-    def __init__(self, options: Options, snapshot: Optional[Snapshot], work: "queue.SimpleQueue[Work]",
+    def __init__(self, options: Namespace, snapshot: Optional[Snapshot], work: "queue.SimpleQueue[Work]",
                  done: "queue.SimpleQueue[Done]"):
         self.options, self.snapshot, self.work, self.done = options, snapshot, work, done
         self.clock = Clock(options.every, options.at)
@@ -211,7 +198,7 @@ class Carrier:
 class Publisher:
     """Reads the stream of commands, passes its messages on, and publishes their answers while it has the lock of its share."""
 
-    def __init__(self, options: Options, snapshot: Optional[Snapshot], work: "queue.SimpleQueue[Work]",
+    def __init__(self, options: Namespace, snapshot: Optional[Snapshot], work: "queue.SimpleQueue[Work]",
                  done: "queue.SimpleQueue[Done]"):
         self.options, self.work, self.done = options, work, done
         self.answers = stream.answers_name(options.stream, options.share, options.shares)
