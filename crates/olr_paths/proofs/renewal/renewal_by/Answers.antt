@@ -1,5 +1,5 @@
 use Rattle.olr_paths.proofs.Common.{◌≡◌, ℕ, Some, length, get_or, slice_get, arith, ◌+◌, take_all}
-use Rattle.olr_paths.proofs.Common.{slice_get_within, Item, nodes_of, lines_of, changed_of, shown_items, shown_item}
+use Rattle.olr_paths.proofs.Common.{slice_get_within, Item, shown_items, shown_item}
 use Rattle.olr_list.proofs.Common.{ascends}
 use Rattle.olr_paths.proofs.Passing.{passed_none, passed_one, passed_end}
 use Rattle.olr_paths.proofs.RenewedPrefix.{so_far_none, so_far_step, whole, to_position}
