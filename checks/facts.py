@@ -264,7 +264,7 @@ def faults() -> List[str]:
     """All that isn't said alike."""
     shown = helps()
     tools = {name: tool_of(text) for name, text in shown.items()}
-    names = [*glob.glob(f"{TOP}/tools/*"), *glob.glob(f"{TOP}/python/*/*.py")]
+    names = [*glob.glob(f"{TOP}/tools/*"), *glob.glob(f"{TOP}/python/**/*.py", recursive=True)]
     sources = "\n".join(text_of(it[len(TOP) + 1 :]) for it in names if os.path.isfile(it))
     code = text_of("crates/olr_records/src/faults.rt")
     said = {page: text_of(page) for page in [*pages(), MANUAL, "checks/help.txt", "checks/memory"]}
