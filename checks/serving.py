@@ -31,6 +31,8 @@ class Failed(Exception):
 class Served:
     """A service with its log in a folder, and the socket where systemd would listen."""
 
+    started = []
+
     def __init__(self, folder, *options, log="log.csv", env=None):
         self.folder, self.options, self.env = folder, options, env or {}
         self.log, self.errors = f"{folder}/{log}", f"{folder}/errors"
@@ -51,6 +53,7 @@ class Served:
         with open(self.errors, "ab") as errors:
             self.process = subprocess.Popen(command, stdin=subprocess.DEVNULL, stderr=errors, stdout=errors,
                                             env={**os.environ, "NOTIFY_SOCKET": f"{self.folder}/notify", **self.env})
+        self.started.append(self.process)
         if wait:
             self.wait_for("READY=1")
         return self

@@ -8,7 +8,7 @@ from olr_keep_tools.serve.jobs import Change, Job, Kind, Owner
 from olr_keep_tools.serve.program import Program
 
 LEAST_WINDOW, MOST_WINDOW = 32, 65536  # records whose replies are awaited
-SOON, LATE = 0.03, 0.15  # seconds for a reply, after which more or fewer records are passed at once
+SOON, LATE = 0.03, 0.1  # seconds for a reply, after which more or fewer records are passed at once
 MOST_BYTES = 1 << 20
 
 

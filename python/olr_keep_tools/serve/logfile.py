@@ -150,8 +150,7 @@ def own_findings(read: Callable[[int], bytes]) -> List[Finding]:
         rest = block.replace(b"\r", b"")
         if rest:
             first = at + next(k for k, it in enumerate(block) if it != 13)
-            text_ = f"at byte {first}, behind a carriage return, there is more text: the program would set it aside as never answered"
-            return [Finding(text_)]
+            return [Finding(f"byte {first} follows a carriage return: the program would set it aside as never answered, with the rest")]
         at += len(block)
     return [Finding(CUT_OFF)] if is_cut and not is_padding else []
 

@@ -1,7 +1,6 @@
 """The service: the program and everything around it, from the start to the end."""
 import asyncio
 import collections
-import contextlib
 import os
 import signal
 import socket
@@ -15,7 +14,7 @@ from olr_keep_tools.serve.exchange import Exchange
 from olr_keep_tools.serve.framing import NoReply
 from olr_keep_tools.serve.jobs import Change, Job, Kind
 from olr_keep_tools.serve.keeper import Events, Keeper
-from olr_keep_tools.serve.logfile import Last, Scan, read_last, write_last
+from olr_keep_tools.serve.logfile import Contents, Last, Scan, read_last, write_last
 from olr_keep_tools.serve.metrics import Health, State, size_of, write_metrics
 from olr_keep_tools.serve.notify import Systemd
 from olr_keep_tools.serve.program import Ended, Program
@@ -96,13 +95,13 @@ class Service:
         self.ended: "asyncio.Queue[Ended]" = asyncio.Queue()
         self.began = self.down_since = time.monotonic()
         self.is_loaded, self.needs_all = asyncio.Event(), False
-        self.stop_asked, self.changed = asyncio.Event(), asyncio.Event()
+        self.stop_asked = asyncio.Event()
         self.is_reloading = self.was_loaded = self.is_other = False
         self.first_try = time.monotonic()
         self.names: Set[str] = set()
         self.refused: Set[str] = set()
         self.scan, self.last = Scan(settings.log), read_last(settings.log)
-        self.noted_at, self.inode = 0.0, 0
+        self.noted_at, self.inode, self.noting = time.monotonic(), 0, asyncio.Lock()
 
     # ---- what the program writes
 
@@ -240,10 +239,7 @@ class Service:
             servers.append(await loop.create_unix_server(lambda: Writer(self.exchange, self.limits), sock=found))
         self.exchange.dispatch()
         self.systemd.tell("READY=1", f"STATUS={self.status()}")
-        self.noted_at = float("inf")
-        with contextlib.suppress(OSError):
-            await asyncio.get_running_loop().run_in_executor(None, self.scan.update)
-        self.note(seconds)
+        await self.note(seconds)
 
     def take_program_end(self, ended: Ended) -> int:
         """Notes how the program ended. Returns the status with which the service has to end, or 0."""
@@ -298,7 +294,7 @@ class Service:
             self.program.end_input()
             await self.ended.get()
         if was_serving:
-            self.note()
+            await self.note()
         await self.keeper.stop()
         until = time.monotonic() + LAST_MOMENTS
         while self.limits.open and time.monotonic() < until:
@@ -317,7 +313,7 @@ class Service:
             if words:
                 self.systemd.tell(*words)
             if time.monotonic() - self.noted_at > NOTE_EVERY:
-                self.note()
+                await self.note()
 
     def check_deadline(self) -> None:
         """Ends a program that is silent for too long, and answers what waits too long for one that isn't started."""
@@ -348,21 +344,22 @@ class Service:
         health.behind, health.waiting_bytes = self.keeper.behind, self.limits.held
         return health
 
-    def note(self, seconds: float = 0.0) -> None:
+    async def note(self, seconds: float = 0.0) -> None:
         """Notes what is known of the log, and writes the metrics."""
-        self.noted_at = time.monotonic()
         try:
             if self.health.state in (State.SERVING, State.STOPPING):
-                self.note_log(seconds)
+                async with self.noting:
+                    self.note_log(await asyncio.get_running_loop().run_in_executor(None, self.scan.update), seconds)
                 self.systemd.tell(f"STATUS={self.status()}")
             if self.settings.metrics:
                 write_metrics(self.settings.metrics, self.current_health().prometheus())
         except OSError as error:
             say(f"{error.filename or self.settings.log}: {error.strerror}")
+        finally:
+            self.noted_at = time.monotonic()
 
-    def note_log(self, seconds: float) -> None:
+    def note_log(self, found: Contents, seconds: float) -> None:
         """Notes what the log has, for the next start."""
-        found = self.scan.update()
         if self.inode != self.scan.inode:
             self.inode, self.health.compacted_at = self.scan.inode, os.stat(self.settings.log).st_ctime
         self.health.records = found.records
