@@ -28,8 +28,8 @@ FACTS = {
     "the changes of a batch": r"(?:up to |more than |holds )(\d{2,3},?000) changes(?! each)",
     "the answers that leave together": r"(?:up to|at most) (\d+) KB of (?:them|answers|it)\b",
     "the longest line with --lines": r"(?:longer than|of over|more than) (\d+) MB, (?:is|are) rejected",
-    "the end of a road near a line": r"ends? of (?:a road|roads|streets?)\b[^.|]{0,40}within (\d+ m|an? metre)\b",
-    "the version of PostgreSQL": r"PostgreSQL (\d+)\b|postgresql-(\d+)-",
+    "the end of a road near a line": r"ends? of (?:a road|roads)\b[^.|]{0,40}within (\d+ m|an? metre)\b",
+    "the version of PostgreSQL": r"PostgreSQL (\d+)(?:,[^.]{0,60})? or later",
     "the version of Python": r"Python (3\.\d+)\b(?! syntax)",
     "the program logic": r"logic[ =`]+([0-9a-f]{16})\b",
     "the margin of a region": r"nodes within (\d+) km of its paths",
@@ -196,6 +196,7 @@ def default_faults(tools: Dict[str, Tool]) -> List[str]:
             option, number = it[2] or it[3], (it[1] or it[4]).rstrip(".,")
             named = [name for name in re.findall(r"(?:olr-keep-|tools/)([a-z-]+)", text[: it.start()]) if name in tools]
             having = [name for name in named if option in tools[name].defaults]
+            number = str(round(1000 * float(number))) if option.endswith("-ms") and " s (" in it[0] else number
             if having and tools[having[-1]].defaults[option] != number:
                 faults.append(f"{page}: {option} of {having[-1]} is {number}, and its --help has {tools[having[-1]].defaults[option]}")
     return faults
@@ -263,7 +264,7 @@ def faults() -> List[str]:
     """All that isn't said alike."""
     shown = helps()
     tools = {name: tool_of(text) for name, text in shown.items()}
-    names = [*glob.glob(f"{TOP}/tools/*"), *glob.glob(f"{TOP}/python/*/*.py")]
+    names = [*glob.glob(f"{TOP}/tools/*"), *glob.glob(f"{TOP}/python/**/*.py", recursive=True)]
     sources = "\n".join(text_of(it[len(TOP) + 1 :]) for it in names if os.path.isfile(it))
     code = text_of("crates/olr_records/src/faults.rt")
     said = {page: text_of(page) for page in [*pages(), MANUAL, "checks/help.txt", "checks/memory"]}

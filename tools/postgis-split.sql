@@ -1,10 +1,13 @@
 -- Splits streets at their junctions and numbers nodes and parts, for a table of streets that has neither:
 --
 --     psql -q -f tools/postgis-split.sql DATABASE
---     psql -q -v ON_ERROR_STOP=1 -c 'begin; drop table if exists roads; create table roads as select * from split_streets(); commit' DATABASE
+--     psql -q -v ON_ERROR_STOP=1 -c 'create schema if not exists olr_export; begin; drop table if exists olr_export.roads;
+--         create table olr_export.roads as select * from split_streets(); commit' DATABASE
+--     PGOPTIONS='-c search_path=olr_export,public' psql -AtXq -f tools/postgis-records.sql -o map.csv DATABASE
 --
--- The first command creates the function and the tables in which it stores its numbers. The second one, run each night, makes
--- the table `roads` that tools/postgis-records.sql reads. The function reads a table, or a view of this name:
+-- The first command creates the function and the tables in which it stores its numbers. The others are run each night: they make
+-- the table `roads`, in a schema of its own so that no other table is dropped, and read it. The function reads a table, or a
+-- view of this name:
 --
 --     streets(id, class, form, direction, geom)
 --         id      any key

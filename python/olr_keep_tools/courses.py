@@ -13,7 +13,7 @@ import math
 from collections import defaultdict
 from typing import Callable, Mapping, NamedTuple, Optional, Sequence, Tuple, Union
 
-from .geo import METRES, scale
+from .geo import METRES, between, onto_segment, scale
 
 SNAP = 1.0  # metres along a line between an end of the course and a node that are taken as none
 DRAWN = 5.0  # the same for a course that was drawn, or is from another map
@@ -73,33 +73,19 @@ class Polyline:
     def at(self, far):
         """The point at a distance from the first."""
         k = min(max(1, bisect.bisect_left(self.far, far)), len(self.far) - 1)
-        (a, b), (p, q) = self.far[k - 1 : k + 1], self.points[k - 1 : k + 1]
-        part = min(1.0, max(0.0, (far - a) / (b - a))) if b > a else 0.0
-        return p[0] + part * (q[0] - p[0]), p[1] + part * (q[1] - p[1])
+        a, b = self.far[k - 1 : k + 1]
+        return between(self.points[k - 1], self.points[k], min(1.0, max(0.0, (far - a) / (b - a))) if b > a else 0.0)
 
     def project(self, point, segments=None):
         """The distance of a point from each of these segments, and the position of the nearest point there."""
         for k in range(len(self.points) - 1) if segments is None else segments:
-            (x, y), b = self.points[k], self.points[k + 1]
-            dx, dy = b[0] - x, b[1] - y
-            size = dx * dx + dy * dy
-            part = min(1.0, max(0.0, ((point[0] - x) * dx + (point[1] - y) * dy) / size)) if size else 0.0
-            yield math.hypot(x + part * dx - point[0], y + part * dy - point[1]), self.far[k] + part * math.sqrt(size)
+            far, share = onto_segment(self.points[k], self.points[k + 1], *point)
+            yield far, self.far[k] + share * (self.far[k + 1] - self.far[k])
 
     def distance(self, point, first, last):
         """The distance of a point from the segments from `first` up to, but not including, `last`."""
-        px, py = point
-        least = math.inf
-        for (x, y), (u, v) in zip(self.points[first:last], self.points[first + 1 : last + 1]):
-            dx, dy, qx, qy = u - x, v - y, px - x, py - y
-            size = dx * dx + dy * dy
-            part = (qx * dx + qy * dy) / size if size else 0.0
-            part = 0.0 if part < 0 else 1.0 if part > 1 else part
-            ex, ey = qx - part * dx, qy - part * dy
-            far = ex * ex + ey * ey
-            if far < least:
-                least = far
-        return math.sqrt(least)
+        ends = zip(self.points[first:last], self.points[first + 1 : last + 1])
+        return min((onto_segment(a, b, *point)[0] for a, b in ends), default=math.inf)
 
     def samples(self, begin, end):
         """Positions between two positions: those of the points, and further ones so that none are more than SAMPLE apart."""

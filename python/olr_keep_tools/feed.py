@@ -91,12 +91,17 @@ class Source:
             self.blocks += self.batch
             self.batch = []
 
-    def next(self) -> Optional[bytes]:
-        """The records of the next message: nothing if none is available yet, None at the end."""
+    @property
+    def is_done(self) -> bool:
+        """Whether all records were given."""
+        return self.has_ended and not self.blocks
+
+    def next(self) -> bytes:
+        """The records of the next message; nothing if none is available yet."""
         if not self.blocks and not self.has_ended:
             self.read()
         body, self.blocks = b"".join(self.blocks), []
-        return None if self.has_ended and not body else body
+        return body
 
 
 class Confirmed:
@@ -178,9 +183,8 @@ class Feed:
         self.since = self.marker.offset
         if self.verdicts:
             self.verdicts.follow(stream.new_channel(connection))
-        while self.message or (body := self.source.next()) is not None:
-            if not self.message and body:
-                self.message = self.records.message(body, self.there)
+        while self.message or not self.source.is_done:
+            self.message = self.message or self.records.message(self.source.next(), self.there)
             if self.message and self.there.records < self.message.number:
                 self.publish(channel, self.message)
             self.message = None

@@ -2,7 +2,7 @@
 bearings degrees clockwise from north. Those of records, as in records.py, are whole numbers of 10^-7 degree: `degrees` converts them.
 """
 import math
-from typing import NamedTuple, Sequence, Tuple
+from typing import Sequence, Tuple
 
 from .records import UNITS
 
@@ -88,27 +88,24 @@ def angle_between(a: float, b: float) -> float:
     return abs((a - b + 180) % 360 - 180)
 
 
-class Projected(NamedTuple):
-    """The nearest point of a straight segment: how far away it is, and the share of the segment before it."""
-
-    far: float
-    share: float
+# The nearest point of a straight segment: how far away it is, and the share of the segment before it.
+Projected = Tuple[float, float]
 
 
 def onto_segment(a: Sequence[float], b: Sequence[float], x: float, y: float) -> Projected:
     """The projection of a point of the plane onto a segment."""
-    dx, dy, px, py = b[0] - a[0], b[1] - a[1], x - a[0], y - a[1]
+    ax, ay = a
+    dx, dy, px, py = b[0] - ax, b[1] - ay, x - ax, y - ay
     square = dx * dx + dy * dy
-    share = min(1.0, max(0.0, (px * dx + py * dy) / square)) if square else 0.0
-    return Projected(math.hypot(px - share * dx, py - share * dy), share)
+    share = (px * dx + py * dy) / square if square else 0.0
+    share = 0.0 if share < 0 else 1.0 if share > 1 else share
+    return math.hypot(px - share * dx, py - share * dy), share
 
 
 def on_piece(a: Sequence[float], b: Sequence[float], lon: float, lat: float) -> Projected:
     """The projection of a coordinate onto a straight segment between two others."""
     east = scale(lat)
-    flat = ((it[0] - lon) * east for it in (a, b))
-    (ax, bx), ay, by = flat, (a[1] - lat) * METRES, (b[1] - lat) * METRES
-    return onto_segment((ax, ay), (bx, by), 0.0, 0.0)
+    return onto_segment(((a[0] - lon) * east, (a[1] - lat) * METRES), ((b[0] - lon) * east, (b[1] - lat) * METRES), 0.0, 0.0)
 
 
 def between(a: Sequence[float], b: Sequence[float], share: float) -> Degrees:

@@ -3,6 +3,7 @@ import io
 import math
 import struct
 
+from .geo import METRES
 from .livesession import psycopg2
 from .pathlines import number_array, text_array
 from .streets import Old, Recut, Street, degrees, wkb_hex
@@ -260,7 +261,7 @@ class MapUpdate:
         box = box_of(self.touched)
         if not box:
             return
-        high = 1.5 * GAP / 111_000
+        high = 1.5 * GAP / METRES
         wide = high / max(0.01, math.cos(math.radians(max(abs(box[1]), abs(box[3])))))
         ends = {it for line in [*cut.added.values(), *(line for line, _ in cut.changed.values())] for it in (line.start, line.end)}
         values = {"wide": wide, "high": high, "nodes": number_array({*ends, *cut.dropped_nodes}),

@@ -9,6 +9,7 @@ from collections import defaultdict
 from typing import NamedTuple, Optional
 
 from .courses import DRAWN, Ends, Found, Ground, Lost, Plane, Polyline, Strip, Wish, follow
+from .geo import METRES
 from .streets import is_inside, wkb_parts
 
 AGAINST = 1e6  # the cost of a street against its geometry where its direction isn't given
@@ -162,7 +163,7 @@ class Finder:
     def near(self, course):
         """The lines near a course. Its segments are cut, so that each has a small box."""
         lat = max(abs(it[1]) for it in course)
-        high = 1.1 * self.tolerance / 111_000
+        high = 1.1 * self.tolerance / METRES
         wide = high / max(0.01, math.cos(math.radians(lat)))
         text = "LINESTRING(" + ",".join(f"{lon:.8f} {lat:.8f}" for lon, lat in course) + ")"
         self.cursor.execute(

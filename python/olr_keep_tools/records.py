@@ -335,12 +335,18 @@ def read_state(files: Iterable[str], program: Optional[str] = None) -> State:
 
 def state_of(records: Records, program: Optional[str] = None, or_empty: bool = False) -> State:
     """The state after these records, as `read_state` gives it; a file may be empty with `or_empty`."""
+    return state_and(records, (), program, or_empty)[0]
+
+
+def state_and(records: Records, questions: Sequence[str], program: Optional[str] = None,
+              or_empty: bool = False) -> Tuple[State, List[Reply]]:
+    """The state after these records, and the replies to further questions there."""
     state = State()
-    state.rejected, (dump, report) = records.answered(program, ("dump", "report"))
+    state.rejected, (dump, report, *others) = records.answered(program, ("dump", "report", *questions))
     records.check(state.rejected, or_empty)
     for name, reply in (("dump", dump), ("report", report)):
         if not reply.accepted:
             raise ProgramFailed(f"{name} is rejected: {reply.head}")
     state.read_dump(dump.lines)
     state.read_report(report.lines)
-    return state
+    return state, others

@@ -11,10 +11,12 @@ import struct
 from collections import Counter, defaultdict
 from typing import NamedTuple
 
-UNITS = 10_000_000
+from .geo import AXIS, RADIAN, onto_segment
+from .records import UNITS
+
 EAST, NORTH = 180 * UNITS, 90 * UNITS
 LOW = (1 << 31) - 1
-METRES = 6378137 * math.pi / 180 / UNITS  # of a unit of longitude at the equator
+METRES = AXIS * RADIAN / UNITS  # of a unit of longitude at the equator
 LONGEST = 14_900.0  # metres; between two location reference points are 15 km at most
 WIDEST = 3_200_000  # units; between two location reference points is a third of a degree at most
 MOST_SHAPE = 990  # shape points of a line; the program takes 1,000
@@ -342,15 +344,7 @@ def far_from(place, course):
     lon, lat = units(place)
     wide = METRES * math.cos(math.radians(lat / UNITS))
     flat = [((x - lon) * wide, (y - lat) * METRES) for x, y in map(units, course)]
-    return min(from_origin(a, b) for a, b in zip(flat, flat[1:]))
-
-
-def from_origin(a, b):
-    """The distance of a segment of the plane from the origin."""
-    dx, dy = b[0] - a[0], b[1] - a[1]
-    size = dx * dx + dy * dy
-    part = min(1.0, max(0.0, -(a[0] * dx + a[1] * dy) / size)) if size else 0.0
-    return math.hypot(a[0] + part * dx, a[1] + part * dy)
+    return min(onto_segment(a, b, 0.0, 0.0)[0] for a, b in zip(flat, flat[1:]))
 
 
 def renamed(before, after):

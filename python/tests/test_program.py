@@ -57,12 +57,14 @@ class Programs(unittest.TestCase):
         with self.assertRaises(ProgramEnded) as ended, Program(script("import sys; sys.exit(4)"), 10) as keep:
             keep.ask("node,1,0,0")
         self.assertEqual(ended.exception.exit_status, 4)
-        with self.assertRaisesRegex(ProgramFailed, "this is no reply of olr-keep: 'hello'"), Program(script("print('hello')"), 10) as keep:
+        hello = "this is no reply of olr-keep: 'hello'"
+        with self.assertRaisesRegex(ProgramFailed, hello), Program(script("print('hello')"), 10) as keep:
             keep.ask("node,1,0,0")
 
     def test_deadline(self) -> None:
         began = time.monotonic()
-        with self.assertRaisesRegex(ProgramFailed, "no reply within 0.2 seconds"), Program(script("input(); input()"), 0.2) as keep:
+        late = "no reply within 0.2 seconds"
+        with self.assertRaisesRegex(ProgramFailed, late), Program(script("input(); input()"), 0.2) as keep:
             keep.ask("node,1,0,0")
         self.assertLess(time.monotonic() - began, 5)
 

@@ -1,11 +1,11 @@
 -- Two further fields that no command has, as the ending of a line adds them, and the laws of lines.
 use Rattle.std.proofs.lemmas.List.{append_assoc, append-nil}
-use Rattle.csv.specs.Reading.{default_config, strip_bom, Reached}
+use Rattle.csv.specs.Reading.{default_config, strip_bom, AreRecords}
 use Rattle.csv.specs.declared.parser.State.TheVariants as st
 use Rattle.olr_records.specs.Records.{HoldsList}
 use Rattle.olr_records.specs.ReplyText.{outcome_text}
 use Rattle.olr_run.specs.Output.{records_of, CommandOutcome}
-use Rattle.olr_run.proofs.RecordLemmas.{first_records}
+use Rattle.olr_sessions.proofs.CsvRecords.{only_records}
 use Rattle.olr_sessions.specs.Lines.{is_line_end}
 use Rattle.olr_sessions.specs.SingleLines.{most_in_line, start, line_start, next_place, Place, one_a_line, one_a_line_from}
 use Rattle.olr_sessions.specs.SingleLines.{EachIs, HasNoEnd, lines_of}
@@ -287,11 +287,9 @@ record_is b line none = (
 pub records_of_lines : LinesGiveRecords
 records_of_lines bytes =
     let y = yields IsRecordOf record_is (strip_bom bytes) in
-    let reached : Reached default_config st.StartRecord (strip_bom (one_a_line bytes)) y.records y.all.0 y.all.1 =
-    subst (λ (xs : List ℕ). Reached default_config st.StartRecord xs y.records y.all.0 y.all.1) (sym (first_mark bytes)) y.all.2 in
-    let all = first_records (one_a_line bytes) y.records y.all.0 y.all.1 reached in
     let same : records_of (one_a_line bytes) ≡ y.records =
-    all.1 ∙ ap (λ (more : List (List Field)). y.records ++ more) (all.2 y.all.3) ∙ append-nil y.records in
+    only_records (one_a_line bytes) y.records
+    (subst (λ (xs : List ℕ). AreRecords default_config st.StartRecord xs y.records) (sym (first_mark bytes)) y.all) in
     subst (λ (rs : List (List Field)). EachIs IsRecordOf (lines_of (strip_bom bytes)) rs) (sym same) y.each
 
 pub formless_rejected : FormlessRejected

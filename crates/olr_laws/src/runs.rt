@@ -17,7 +17,7 @@ ghost use Rattle.olr_laws.specs.RunRows.{input20, output20, state20};
 /// read determine what is written, the status and the state at the end. Records that are taken one after another are
 /// the first ones. Out of memory is reported only for a command that holds a list, or may run out of memory when it is
 /// carried out. A run over the text of a dump leads to what was dumped.
-#[tactic(auto, using(crate::proofs::RunLemmas::outcomes_keep, olr_run::proofs::RecordLemmas::first_records, crate::proofs::RunLemmas::memory_lacks))]
+#[tactic(auto, using(crate::proofs::RunLemmas::outcomes_keep, olr_sessions::proofs::CsvRecords::first_records, crate::proofs::RunLemmas::memory_lacks))]
 pub fn laws_of_runs()
     ensures kept { Laws.OutcomesKeep }
     ensures one { Laws.OneRun }

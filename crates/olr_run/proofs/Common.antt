@@ -4,7 +4,6 @@ unfoldable pub use Rattle.csv.proofs.OnLiterals.{csv_on_literals}
 pub use Rattle.csv.specs.Machine.{ends_at_end, field_after, fields_after, is_end}
 unfoldable pub use Rattle.csv.specs.Machine.{next_record}
 pub use Rattle.csv.specs.Records.{fields_of}
-pub use Rattle.csv.specs.declared.reader.Reader.{Reader}
 pub use Rattle.olr_arguments.specs.Opens.{IsFile, Opens, OpensFile}
 pub use Rattle.olr_arguments.specs.Options.{Options, keep_app, options, options_of}
 pub use Rattle.olr_commands.proofs.HistoryLemmas.{Claimed, Leads, headline_of, is_dumped, is_named, is_refused}
@@ -23,7 +22,7 @@ pub use Rattle.olr_run.specs.Runs.{AnsweredOn, AnswersRecord, CarriedOut, CutIn,
 pub use Rattle.olr_run.specs.Runs.{IsAnswer, LeadsOn, Past_the_most, RanIn, RanOn, Records, answer_text}
 pub use Rattle.olr_run.specs.Runs.{EndedOn, both_records, file_bytes, input_records, joined_records, last_events}
 pub use Rattle.olr_run.specs.Runs.{records_read, status_of}
-pub use Rattle.olr_sessions.specs.Sessions.{CsvHappens, Cut, Ended, Event, History, IsOfTaking, IsPlain, Known}
+pub use Rattle.olr_sessions.specs.Sessions.{Cut, Ended, Event, History, IsOfTaking, Known}
 pub use Rattle.olr_sessions.specs.Sessions.{Not_sent, Not_taken, Took, Wrote, exchanges}
 pub use Rattle.olr_sessions.specs.Statuses.{exit_code}
 pub use Rattle.olr_sessions.specs.declared.ends.RunFault.{RunFault}

@@ -1,5 +1,5 @@
 -- The ends of the program.
-use Rattle.olr_run.proofs.Common.{Bor, fault_of, Registered, Opens, Ends, Claims, Known, records_read}
+use Rattle.olr_run.proofs.Common.{Bor, fault_of, Registered, Opens, Ends, Claims, Known, input_records, records_read}
 use Rattle.olr_sessions.specs.Inputs.{read_as}
 use Rattle.olr_run.proofs.Common.{HasTooMany, exit_code, RunFault, Options, keep_app, options, IsFile}
 use Rattle.olr_run.proofs.Common.{OpensFile, Not_opened, Cut_off, file_bytes, IfErr}
@@ -61,7 +61,8 @@ module _ {O F E : Type 0} (call : Once O (Bor (List ℕ) × Unit {0}) (Result F 
         OpensFile call opener o.file (Ok file)
         → EndedOn Claims Claims o.stop old (records_read o.lines (file_bytes remaining file) input) before new mid r
         → IfErr r (λ e. e ≡ fault.TooMany
-        → HasTooMany (read_as o.lines (file_bytes remaining file)) ⊎ HasTooMany (read_as o.lines input))
+        → HasTooMany (input_records (read_as o.lines (file_bytes remaining file)))
+        ⊎ HasTooMany (input_records (read_as o.lines input)))
         → SendsAnswers r mid later end
         → code ≡ exit_code end → Ends arguments (Opens call remaining opener) input old before new later code
     ended_as file new mid later (Ok end) r code h run _ (kept, inl same) status =

@@ -1,5 +1,4 @@
 pub mod Common
-pub mod RecordLemmas
 pub mod RunLemmas
 pub mod Answering
 pub mod Reports

@@ -2,7 +2,7 @@
 use Rattle.olr_run.proofs.Common.{IfErr, IfSome, Outcome, Field, outcome_text, SoundOutcome}
 use Rattle.olr_run.proofs.Common.{append-nil, append_assoc, length-map, Known, records_of}
 use Rattle.olr_run.proofs.Common.{Event, Took, Ended, Not_taken, Not_sent, Wrote, Cut, History, exchanges, RanIn, CutIn, Keeps}
-use Rattle.olr_run.proofs.Common.{Past_the_most, In_text, Appends, Reader, Registered, RunFault}
+use Rattle.olr_run.proofs.Common.{Past_the_most, In_text, Appends, Registered, RunFault}
 use Rattle.std.proofs.Common.{◌≡◌, ◌≢◌, ◌∙◌, ℕ, Bool, false, List, [], ◌∷◌, ◌++◌, length, map, Some, None, refl, sym, ap, subst, arith}
 use Rattle.std.proofs.Common.{length-append}
 use Rattle.olr_commands.specs.State.{Content, State}
@@ -13,8 +13,7 @@ use Rattle.olr_run.specs.Runs as runs
 use Rattle.olr_run.specs.Logged.{UpTo}
 use Rattle.olr_run.specs.Logs.{Going, HoldsBatch, Logs, LogsSome, GoesOn, EndsIn, Began, LastsWhole, LastsCut}
 use Rattle.olr_run.specs.Logged.{Leads}
-use Rattle.olr_run.proofs.InputRuns.{Sees, cut_at_first, cut_parts, Gives, last_of, on_known_as}
-use Rattle.olr_sessions.proofs.SessionLemmas.{Starts}
+use Rattle.olr_run.proofs.InputRuns.{Sees, cut_at_first, cut_parts, Gives, last_of, on_records_as, same_left}
 use Rattle.olr_run.proofs.Common.{HasTooMany}
 use Rattle.olr_run.proofs.Sending.{faulted_sent, ran_sent, ran_unsent}
 use Rattle.std.specs.Prelude.{IfOk, OnOk, Ok, Err}
@@ -26,7 +25,6 @@ use Rattle.olr_sessions.specs.Unkept.{waiting}
 use Rattle.olr_sessions.specs.LoggedRuns.{LogHappens}
 use Rattle.olr_sessions.specs.declared.buffered.Buffered.{Buffered}
 use Rattle.olr_sessions.specs.declared.gate.Gate.{Gate}
-use Rattle.olr_sessions.specs.declared.lines.Lines.{Lines}
 use Rattle.olr_sessions.specs.declared.logged.Logged.{Logged}
 use Rattle.olr_sessions.specs.declared.ends.Status.{Status}
 use Rattle.olr_sessions.specs.declared.ends.Status.TheVariants as ended
@@ -83,44 +81,44 @@ module _ {J W : Type 0} {kept : J → List ℕ} {may_leave : J → List ℕ → 
   some_of first later splits u unwritten logs =
       record { first = first; later = later; splits = splits; state = u; unwritten = unwritten; logs = logs }
 
-module _ {R W J : Type 0} (remaining : Lines R → Known) (contents : W → Known) (kept : J → List ℕ)
+module _ {S W J : Type 0} (left : S → List (List Field) → Type 0) (contents : W → Known) (kept : J → List ℕ)
     (may_leave : J → List ℕ → Type 0) where
-  abbrev pub Happens : Logged R J × Buffered W → Event → Logged R J × Buffered W → Type 0
-  Happens a e b = LogHappens remaining contents kept may_leave a.0 a.1 b.0 b.1 e
+  abbrev pub Happens : Logged S J × Buffered W → Event → Logged S J × Buffered W → Type 0
+  Happens a e b = LogHappens left contents kept may_leave a.0 a.1 b.0 b.1 e
 
-  abbrev pub reader_of : Logged R J × Buffered W → Reader (Lines R)
-  reader_of p = p.0.reader
+  abbrev pub left_of : Logged S J × Buffered W → List (List Field) → Type 0
+  left_of p = left p.0.source
 
-  abbrev pub written_of : Logged R J × Buffered W → Known
+  abbrev pub written_of : Logged S J × Buffered W → Known
   written_of p = written contents p.1
 
-  pub log_sees : (a b : Logged R J × Buffered W) (e : Event) → Happens a e b →
-      Sees remaining (reader_of a) (reader_of b) (written_of a) (written_of b) e
+  pub log_sees : (a b : Logged S J × Buffered W) (e : Event) → Happens a e b →
+      Sees (left_of a) (left_of b) (written_of a) (written_of b) e
   log_sees a b (Took fields) h = (h.3, passes_keeps a.0.gate h.0 a.1 b.1 h.1)
   log_sees a b Ended h = (h.1, passes_keeps a.0.gate b.0.gate a.1 b.1 h.0)
   log_sees a b (Not_taken e) h = passes_keeps a.0.gate h.0 a.1 b.1 h.1
   log_sees a b Not_sent h = passes_keeps a.0.gate b.0.gate a.1 b.1 h.1
-  log_sees a b (Wrote text) h = (h.0, passes_writes h.1.0 b.0.gate a.1 b.1 text h.1.2)
-  log_sees a b (Cut front rest) h = (h.0, passes_writes h.1.0 b.0.gate a.1 b.1 front h.1.2)
+  log_sees a b (Wrote text) h = (same_left left a.0.source b.0.source h.0, passes_writes h.1.0 b.0.gate a.1 b.1 text h.1.2)
+  log_sees a b (Cut front rest) h = passes_writes h.1.0 b.0.gate a.1 b.1 front h.1.2
   log_sees a b (Renewed records) h =
-      (h.0, subst (λ (x : Buffered W). Keeps (written contents a.1) (written contents x)) (sym h.1) (Keeps-refl (written contents a.1)))
+      (same_left left a.0.source b.0.source h.0, subst (λ (x : Buffered W). Keeps (written contents a.1) (written contents x)) (sym h.1) (Keeps-refl (written contents a.1)))
 
   module _ (base : Known) (s : State) where
-    abbrev Log : List (List Field) → List Outcome → State → List ℕ → Logged R J × Buffered W → Type 0
+    abbrev Log : List (List Field) → List Outcome → State → List ℕ → Logged S J × Buffered W → Type 0
     Log rs os t unwritten m = Logs kept may_leave contents base s rs os t unwritten m.0.gate m.1
 
-    log_passes : (rs : List (List Field)) (os : List Outcome) (t : State) (m n : Logged R J × Buffered W) →
+    log_passes : (rs : List (List Field)) (os : List Outcome) (t : State) (m n : Logged S J × Buffered W) →
         Log rs os t [] m → Passes kept may_leave contents m.0.gate m.1 n.0.gate n.1 [] → Log rs os t [] n
     log_passes rs os t m n a p =
         logs_pass kept may_leave contents base s rs os t [] [] m.0.gate n.0.gate m.1 n.1 a p
 
-    log_took : (rs : List (List Field)) (os : List Outcome) (t : State) (r : List Field) (m n : Logged R J × Buffered W) →
+    log_took : (rs : List (List Field)) (os : List Outcome) (t : State) (r : List Field) (m n : Logged S J × Buffered W) →
         Log rs os t [] m → Happens m (Took r) n → Log rs os t [] n
     log_took rs os t r m n a h =
         logs_same kept may_leave contents base s rs os t [] h.0 n.0.gate n.1 h.2.untouched h.2.waits
         (logs_pass kept may_leave contents base s rs os t [] [] m.0.gate h.0 m.1 n.1 a h.1)
 
-    log_lost : (rs : List (List Field)) (os : List Outcome) (t : State) (e : RunFault) (m n : Logged R J × Buffered W) →
+    log_lost : (rs : List (List Field)) (os : List Outcome) (t : State) (e : RunFault) (m n : Logged S J × Buffered W) →
         Log rs os t [] m → Happens m (Not_taken e) n → Log rs os t [] n
     log_lost rs os t e m n a h =
         logs_same kept may_leave contents base s rs os t [] h.0 n.0.gate n.1 h.2.untouched h.2.waits
@@ -128,7 +126,7 @@ module _ {R W J : Type 0} (remaining : Lines R → Known) (contents : W → Know
 
     -- a record whose text is written, or only its first bytes
     log_cut : (rs : List (List Field)) (os : List Outcome) (t u : State) (r : List Field) (o : Outcome)
-        (front rest : List ℕ) (m k n : Logged R J × Buffered W) → length os ≡ length rs → Log rs os t [] m →
+        (front rest : List ℕ) (m k n : Logged S J × Buffered W) → length os ≡ length rs → Log rs os t [] m →
         SoundOutcome t r o u → outcome_text o ≡ front ++ rest → Happens m (Took r) k → Happens k (Cut front rest) n
         → Log (rs ++ r ∷ []) (os ++ o ∷ []) u rest n
     log_cut rs os t u r o front rest m k n size a one is h cut =
@@ -137,7 +135,7 @@ module _ {R W J : Type 0} (remaining : Lines R → Known) (contents : W → Know
         h.2.effect h.2.line (log_took rs os t r m k a h) cut.1.1) cut.1.2
 
     log_wrote : (rs : List (List Field)) (os : List Outcome) (t u : State) (r : List Field) (o : Outcome)
-        (text : List ℕ) (m k n : Logged R J × Buffered W) → length os ≡ length rs → Log rs os t [] m →
+        (text : List ℕ) (m k n : Logged S J × Buffered W) → length os ≡ length rs → Log rs os t [] m →
         SoundOutcome t r o u → outcome_text o ≡ text → Happens m (Took r) k → Happens k (Wrote text) n
         → Log (rs ++ r ∷ []) (os ++ o ∷ []) u [] n
     log_wrote rs os t u r o text m k n size a one is h wrote =
@@ -149,9 +147,9 @@ module _ {R W J : Type 0} (remaining : Lines R → Known) (contents : W → Know
 
     -- the records of the content may be given
     log_given : (rs : List (List Field)) (os : List Outcome) (t : State) (d : Option (List ℕ)) (es : List Event)
-        (m b : Logged R J × Buffered W) → Log rs os t [] m → IsContent t.content → IsRenewal t d →
+        (m b : Logged S J × Buffered W) → Log rs os t [] m → IsContent t.content → IsRenewal t d →
         History Happens m (renewing d ++ es) b
-        → (n : Logged R J × Buffered W) × Log rs os t [] n × History Happens n es b
+        → (n : Logged S J × Buffered W) × Log rs os t [] n × History Happens n es b
     log_given rs os t None es m b a sound is h = (m, a, h)
     log_given rs os t (Some records) es m b a sound is h = (
       h.0,
@@ -161,11 +159,11 @@ module _ {R W J : Type 0} (remaining : Lines R → Known) (contents : W → Know
     )
 
     log_exchanged : (rs : List (List Field)) (ws : List (List ℕ)) (ds : List (Option (List ℕ))) (es : List Event)
-        (m b : Logged R J × Buffered W)
+        (m b : Logged S J × Buffered W)
         (dn : List (List Field)) (dos : List Outcome) (t u : State) (os : List Outcome) → length dos ≡ length dn →
         map outcome_text os ≡ ws → length ws ≡ length rs → Log dn dos t [] m → OutcomesRenewed t rs os ds u →
         History Happens m (exchanges rs ws ds ++ es) b
-        → (n : Logged R J × Buffered W) × Log (dn ++ rs) (dos ++ os) u [] n × History Happens n es b
+        → (n : Logged S J × Buffered W) × Log (dn ++ rs) (dos ++ os) u [] n × History Happens n es b
     log_exchanged [] [] [] es m b dn dos t u [] size is l a run h =
         (m, rw (append-nil dn, append-nil dos) (subst (λ (x : State). Log dn dos x [] m) run a), h)
     log_exchanged [] [] (d ∷ ds) es m b dn dos t u [] size is l a run h = absurd run
@@ -186,7 +184,7 @@ module _ {R W J : Type 0} (remaining : Lines R → Known) (contents : W → Know
 
   -- ---- whole runs
 
-  module _ (stop : Bool) (old new : Registered) (a b : Logged R J × Buffered W) (all : List (List Field)) where
+  module _ (stop : Bool) (old new : Registered) (a b : Logged S J × Buffered W) (all : List (List Field)) where
     with_rest : (base : Known) (s t : State) (rs0 rs rest : List (List Field)) (os : List Outcome) (unwritten : List ℕ) →
         all ≡ rs ++ rest → Logs kept may_leave contents base s (rs0 ++ rs) os t unwritten b.0.gate b.1 →
         Logs kept may_leave contents base s (rs0 ++ all) os t unwritten b.0.gate b.1
@@ -198,17 +196,17 @@ module _ {R W J : Type 0} (remaining : Lines R → Known) (contents : W → Know
     gives_whole ended.Stopped h s t rest os is claims run texts base s0 rs0 os0 size l =
         let x = log_exchanged base s0 h.records h.texts h.renewals [] a b rs0 os0 s t os size texts h.each l run h.history in
         with_rest base s0 t rs0 h.records rest (os0 ++ os) [] is
-        (subst (λ (m : Logged R J × Buffered W).
+        (subst (λ (m : Logged S J × Buffered W).
         Logs kept may_leave contents base s0 (rs0 ++ h.records) (os0 ++ os) t [] m.0.gate m.1) x.2 x.1)
     gives_whole end h s t rest os is claims run texts base s0 rs0 os0 size l =
         let x = log_exchanged base s0 h.records h.texts h.renewals (Ended ∷ []) a b rs0 os0 s t os size texts h.each l run h.history in
         let now = log_passes base s0 (rs0 ++ h.records) (os0 ++ os) t x.0 x.2.0 x.1 x.2.1.0 in
         with_rest base s0 t rs0 h.records rest (os0 ++ os) [] is
-        (subst (λ (m : Logged R J × Buffered W).
+        (subst (λ (m : Logged S J × Buffered W).
         Logs kept may_leave contents base s0 (rs0 ++ h.records) (os0 ++ os) t [] m.0.gate m.1) x.2.2 now)
 
     logs_at : (base : Known) (s0 t : State) (rs qs : List (List Field)) (os ps : List Outcome) (unwritten : List ℕ)
-        (m : Logged R J × Buffered W) → rs ≡ qs → os ≡ ps →
+        (m : Logged S J × Buffered W) → rs ≡ qs → os ≡ ps →
         Logs kept may_leave contents base s0 rs os t unwritten m.0.gate m.1
         → Logs kept may_leave contents base s0 qs ps t unwritten m.0.gate m.1
     logs_at base s0 t rs qs os ps unwritten m e f l =
@@ -216,14 +214,14 @@ module _ {R W J : Type 0} (remaining : Lines R → Known) (contents : W → Know
         Logs kept may_leave contents base s0 x.0 x.1 t unwritten m.0.gate m.1) (λ n. (e n, f n)) l
 
     some_logs : (base : Known) (s0 u : State) (rs0 rs rest : List (List Field)) (os0 os first late : List Outcome)
-        (unwritten : List ℕ) (m : Logged R J × Buffered W) → all ≡ rs ++ rest → os ≡ first ++ late → m ≡ b →
+        (unwritten : List ℕ) (m : Logged S J × Buffered W) → all ≡ rs ++ rest → os ≡ first ++ late → m ≡ b →
         Logs kept may_leave contents base s0 (rs0 ++ rs) (os0 ++ first) u unwritten m.0.gate m.1
         → LogsSome kept may_leave contents base s0 (rs0 ++ all) (os0 ++ os) b.0.gate b.1
     some_logs base s0 u rs0 rs rest os0 os first late unwritten m is splits same l =
         some_of (os0 ++ first) late (ap (λ (x : List Outcome). os0 ++ x) splits ∙ sym (append_assoc os0 first late)) u
         unwritten
         (with_rest base s0 u rs0 rs rest (os0 ++ first) unwritten is
-        (subst (λ (x : Logged R J × Buffered W).
+        (subst (λ (x : Logged S J × Buffered W).
         Logs kept may_leave contents base s0 (rs0 ++ rs) (os0 ++ first) u unwritten x.0.gate x.1) same l))
 
     pub gives_part : (e : RunFault) (h : CutIn Happens stop old a new b e) →
@@ -263,49 +261,30 @@ module _ {R W J : Type 0} (remaining : Lines R → Known) (contents : W → Know
         (append_assoc os0 o.0 (o.1 ∷ []) ∙ ap (λ (y : List Outcome). os0 ++ y) (sym o.2)) now)
 
 -- what a run with a log says of the known bytes of its input
-module _ {R W J : Type 0} (remaining : Lines R → Known) (contents : W → Known) (kept : J → List ℕ)
-    (may_leave : J → List ℕ → Type 0) (stop : Bool) (old new : Registered) (a b : Logged R J × Buffered W) where
+module _ {S W J : Type 0} (left : S → List (List Field) → Type 0) (contents : W → Known) (kept : J → List ℕ)
+    (may_leave : J → List ℕ → Type 0) (stop : Bool) (old new : Registered) (a b : Logged S J × Buffered W) where
   abbrev Whole : State → List (List Field) → List Outcome → State → Type 0
   Whole s rs os t = LogsOn kept may_leave contents a.0.gate a.1 b.0.gate b.1 s rs os t
 
   abbrev Part : State → List (List Field) → List Outcome → State → Type 0
   Part s rs os t = LogsUpTo kept may_leave contents a.0.gate a.1 b.0.gate b.1 s rs os t
 
-  known_whole : (known : Known) (r : Result Status RunFault) → IfSome known (λ input. IfOk r (λ end.
-      (h : RanIn (Happens remaining contents kept may_leave) stop old a new b end) →
-      Gives Whole (records_of input) h.records h.texts h.renewals))
-  known_whole (Some input) (Ok end) = λ h s t rest os is claims run texts.
-      (claims, gives_whole remaining contents kept may_leave stop old new a b (records_of input) end h s t rest os is claims run texts)
-  known_whole (Some input) (Err e) = tt
-  known_whole None r = tt
-
-  known_part : (known : Known) (r : Result Status RunFault) → IfSome known (λ input. IfErr r (λ e.
-      (h : CutIn (Happens remaining contents kept may_leave) stop old a new b e) →
-      Gives Part (records_of input) (cut_parts h).0 (cut_parts h).1 (cut_parts h).2))
-  known_part (Some input) (Ok end) = tt
-  known_part (Some input) (Err e) = λ h s t rest os is claims run texts.
-      (claims, gives_part remaining contents kept may_leave stop old new a b (records_of input) e h s t rest os is claims run texts)
-  known_part None r = tt
-
-  both_known : (known : Known) (r : Result Status RunFault) → IsContent old.kept.content →
-      Starts remaining a.0.reader known → IfOk r (RanIn (Happens remaining contents kept may_leave) stop old a new b)
-      → IfErr r (CutIn (Happens remaining contents kept may_leave) stop old a new b)
-      → LoggedOn kept may_leave contents a.0.gate a.1 b.0.gate b.1 stop old (input_records known) new r
-      × IfErr r (λ e. e ≡ fault.TooMany → HasTooMany known)
-  both_known known r base starts h k =
-      on_known_as remaining (reader_of remaining contents kept may_leave) (written_of remaining contents kept may_leave)
-      (Happens remaining contents kept may_leave) (log_sees remaining contents kept may_leave) Whole Part stop old new a b
-      known r base starts (known_whole known r) (known_part known r) h k
-
-  pub log_known : (known : Known) (r : Result Status RunFault) (g h : Gate J) → IsContent old.kept.content →
-      Starts remaining a.0.reader known → a.0.gate ≡ g → h ≡ b.0.gate → IfOk r (RanIn (Happens remaining contents kept may_leave) stop old a new b)
-      → IfErr r (CutIn (Happens remaining contents kept may_leave) stop old a new b)
-      → LoggedOn kept may_leave contents g a.1 h b.1 stop old (input_records known) new r
-      × IfErr r (λ e. e ≡ fault.TooMany → HasTooMany known)
-  log_known known r g h base starts first last ran cut =
+  pub log_known : (records : Records) (r : Result Status RunFault) (g h : Gate J) → IsContent old.kept.content →
+      IfSome records (left a.0.source) → a.0.gate ≡ g → h ≡ b.0.gate → IfOk r (RanIn (Happens left contents kept may_leave) stop old a new b)
+      → IfErr r (CutIn (Happens left contents kept may_leave) stop old a new b)
+      → LoggedOn kept may_leave contents g a.1 h b.1 stop old records new r
+      × IfErr r (λ e. e ≡ fault.TooMany → HasTooMany records)
+  log_known records r g h base begins first last ran cut =
       subst (λ (x : Gate J × Gate J).
-      LoggedOn kept may_leave contents x.0 a.1 x.1 b.1 stop old (input_records known) new r
-      × IfErr r (λ e. e ≡ fault.TooMany → HasTooMany known)) (λ n. (first n, sym last n)) (both_known known r base starts ran cut)
+      LoggedOn kept may_leave contents x.0 a.1 x.1 b.1 stop old records new r
+      × IfErr r (λ e. e ≡ fault.TooMany → HasTooMany records)) (λ n. (first n, sym last n))
+      (on_records_as (left_of left contents kept may_leave) (written_of left contents kept may_leave)
+      (Happens left contents kept may_leave) (log_sees left contents kept may_leave) stop old new a b Whole Part
+      (λ all end h s t rest os is claims run texts.
+      (claims, gives_whole left contents kept may_leave stop old new a b all end h s t rest os is claims run texts))
+      (λ all e h s t rest os is claims run texts.
+      (claims, gives_part left contents kept may_leave stop old new a b all e h s t rest os is claims run texts))
+      records r base begins ran cut)
 
 -- ---- two runs
 
@@ -410,16 +389,16 @@ module _ {J W : Type 0} (kept : J → List ℕ) (may_leave : J → List ℕ → 
       (written contents o) base
 
   -- out of memory before the first record
-  pub cut_logged : (g : Gate J) (o : Buffered W) (stop : Bool) (old : Registered) (known : Known) →
+  pub cut_logged : (g : Gate J) (o : Buffered W) (stop : Bool) (old : Registered) (records : Records) →
       IsContent old.kept.content →
-      LoggedOn kept may_leave contents g o g o stop old (input_records known) old (Err fault.Memory)
-  cut_logged g o stop old known base =
+      LoggedOn kept may_leave contents g o g o stop old records old (Err fault.Memory)
+  cut_logged g o stop old records base =
       cut_at_first (LogsUpTo kept may_leave contents g o g o) (λ s rs sound. (
         none_claimed s rs sound,
         λ from s0 rs0 os0 size l.
             some_of (os0 ++ []) [] (sym (append-nil (os0 ++ []))) s []
             (logs_longer kept may_leave contents from s0 rs0 rs (os0 ++ []) s [] g o (rw (append-nil os0) l)),
-      )) stop old (written contents o) known base
+      )) stop old (written contents o) records base
 
 -- ---- from the start to the end
 

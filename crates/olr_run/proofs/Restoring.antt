@@ -1,5 +1,5 @@
 -- The records of a log, carried out in batches of the register's own.
-use Rattle.olr_run.proofs.Common.{Represents, append-nil, Registered}
+use Rattle.olr_run.proofs.Common.{Represents, append-nil, append_assoc, Registered}
 use Rattle.std.proofs.Common.{◌≡◌, ◌∙◌, ◌+◌, ◌<◌, ℕ, Bool, true, false, not, List, [], ◌∷◌, ◌++◌, length, Option, Some, None}
 use Rattle.std.proofs.Common.{Ok, Err, Result, refl, sym, ap, subst, arith, length-append}
 use Rattle.std.specs.Prelude.{◌==◌, nat_le}
@@ -20,25 +20,13 @@ use Rattle.std.specs.Prelude.{OnOk, IfOk}
 use Rattle.olr_run.specs.declared.loader.Loader.{Loader}
 use Rattle.std.proofs.Common.{map}
 use Rattle.std.specs.List.{AllByRecursion}
-use Rattle.csv.specs.Machine.{next_record, Read as CsvRead}
-use Rattle.csv.specs.Reading.{Reached, default_config, strip_bom}
-use Rattle.csv.specs.declared.parser.Config.{Config}
-use Rattle.csv.specs.declared.parser.State.{State as CsvState}
-use Rattle.csv.specs.declared.parser.State.TheVariants as st
 use Rattle.olr_records.specs.Records.{Field, Read, read}
 use Rattle.olr_run.specs.Logged.{IsKept}
 use Rattle.olr_run.specs.Output.{records_of}
 use Rattle.olr_run.proofs.Logging.{steps_join, one_step, decoded_join, kept_join}
-use Rattle.olr_run.proofs.RecordLemmas.{first_records}
-use Rattle.olr_sessions.specs.InMemory.{csv_state, TookFrom}
+use Rattle.olr_sessions.specs.InMemory.{left_of}
+use Rattle.olr_sessions.specs.Sessions.{HasNone, TakesOne}
 use Rattle.olr_sessions.specs.declared.in_memory.InMemory.{InMemory}
-use Rattle.olr_sessions.specs.declared.in_memory.State.TheVariants as mem
-
-reached_more : (cfg : Config) (s s2 : CsvState) (xs ys : List ℕ) (rows : List (List Field)) (p : CsvRead) →
-    Reached cfg s xs rows s2 ys → next_record cfg s2 [] [] ys ≡ Some p → Reached cfg s xs (rows ++ p.0 ∷ []) p.1 p.2
-unfolding Reached
-reached_more cfg s s2 xs ys [] p h e = (p, rw (h.0, h.1) e, refl, (refl, refl))
-reached_more cfg s s2 xs ys (r ∷ rs) p h e = (h.0, h.1, h.2, reached_more cfg h.0.1 s2 h.0.2 ys rs p h.3 e)
 
 -- a state whose batch holds these changes
 abbrev holding : Content → List Change → State
@@ -225,11 +213,12 @@ loads_finished l new s a outside commits =
 
 -- ---- the records of a text
 
--- the records that were taken so far lead to a state, and the loader to the same
-pub record Loading (text : List ℕ) (m : InMemory) (l : Loader) : Type 0 where
+-- of these records, those that were taken so far lead to a state, and the loader to the same
+pub record Loading (all : List (List Field)) (m : InMemory) (l : Loader) : Type 0 where
   pub records : List (List Field)
-  pub read_so_far : Reached default_config st.StartRecord (strip_bom text) records (csv_state m.state) m.rest.now
-  pub goes : m.failed ≡ false
+  pub rest : List (List Field)
+  pub splits : all ≡ records ++ rest
+  pub are_left : left_of m rest
   pub commands : List Command
   pub decoded : map read records ≡ map (λ x. Ok x) commands
   pub kept : AllByRecursion IsKept commands
@@ -237,14 +226,14 @@ pub record Loading (text : List ℕ) (m : InMemory) (l : Loader) : Type 0 where
   pub leads : steps start_state commands ≡ Ok state
   pub loads : Loads l state
 
-pub loading_start : (text : List ℕ) (m : InMemory) (l : Loader) → m.rest.now ≡ strip_bom text → m.state ≡ mem.StartRecord →
-    m.failed ≡ false → Loads l start_state → Loading text m l
-unfolding Reached
-loading_start text m l rest state goes loads =
+pub loading_start : (all : List (List Field)) (m : InMemory) (l : Loader) → left_of m all → Loads l start_state →
+    Loading all m l
+loading_start all m l are_left loads =
     record {
       records = [];
-      read_so_far = (sym (ap csv_state state), sym rest);
-      goes = goes;
+      rest = all;
+      splits = refl;
+      are_left = are_left;
       commands = [];
       decoded = refl;
       kept = tt;
@@ -253,16 +242,18 @@ loading_start text m l rest state goes loads =
       loads = loads;
     }
 
-pub loading_more : (text : List ℕ) (m n : InMemory) (l k : Loader) (fields : List Field) → Loading text m l →
-    TookFrom m n true fields → LoadsRecord l fields k → Loading text n k
-loading_more text m n l k fields a took record_loads =
+pub loading_more : (all : List (List Field)) (m n : InMemory) (l k : Loader) (fields : List Field) → Loading all m l →
+    TakesOne (left_of m) (left_of n) fields → LoadsRecord l fields k → Loading all n k
+loading_more all m n l k fields a took record_loads =
     let c = record_loads.0 in
     let one = record_loads.3 a.state a.loads in
+    let next = took a.rest a.are_left in
     record {
       records = a.records ++ fields ∷ [];
-      read_so_far = reached_more default_config st.StartRecord (csv_state m.state) (strip_bom text) m.rest.now a.records
-          (fields, csv_state n.state, n.rest.now) a.read_so_far took.2;
-      goes = took.1;
+      rest = next.0;
+      splits = a.splits ∙ ap (λ (rs : List (List Field)). a.records ++ rs) next.1
+          ∙ sym (append_assoc a.records (fields ∷ []) next.0);
+      are_left = next.2;
       commands = a.commands ++ c ∷ [];
       decoded = decoded_join a.records (fields ∷ []) a.commands (c ∷ []) a.decoded
           (ap (λ (r : Read Command). r ∷ []) record_loads.1);
@@ -272,14 +263,13 @@ loading_more text m n l k fields a took record_loads =
       loads = one.2;
     }
 
-pub loading_end : (text : List ℕ) (m n : InMemory) (l : Loader) (new : Registered) → Loading text m l →
-    TookFrom m n false []
+pub loading_end : (text : List ℕ) (m : InMemory) (l : Loader) (new : Registered) → Loading (records_of text) m l →
+    HasNone (left_of m)
     → ((s : State) → Loads l s → (c : Content) × (s ≡ closed c) × Represents new.kept (closed c))
     → (c : Content) × IsContentOf text c × Represents new.kept (closed c)
-loading_end text m n l new a none finished =
-    let all = first_records text a.records (csv_state m.state) m.rest.now a.read_so_far in
+loading_end text m l new a none finished =
     let whole : records_of text ≡ a.records =
-    all.1 ∙ ap (λ (rs : List (List Field)). a.records ++ rs) (all.2 (none.1 a.goes)) ∙ append-nil a.records in
+    a.splits ∙ ap (λ (rs : List (List Field)). a.records ++ rs) (none a.rest a.are_left) ∙ append-nil a.records in
     let f = finished a.state a.loads in (
       f.0,
       record {

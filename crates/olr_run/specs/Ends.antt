@@ -10,7 +10,7 @@ use Rattle.olr_arguments.specs.Opens.{IsFile}
 use Rattle.olr_arguments.specs.Options.{Options, keep_app, options}
 use Rattle.olr_register.specs.Registered.{Registered}
 use Rattle.olr_run.specs.Output.{Claims}
-use Rattle.olr_run.specs.Runs.{records_read, RanOn, FaultedOn, HasTooMany}
+use Rattle.olr_run.specs.Runs.{input_records, records_read, RanOn, FaultedOn, HasTooMany}
 use Rattle.olr_sessions.specs.Inputs.{read_as}
 use Rattle.olr_sessions.specs.Sessions.{Known}
 use Rattle.olr_sessions.specs.Statuses.{exit_code}
@@ -46,5 +46,6 @@ pub data Ends (arguments : List (List ℕ)) (Opened : List ℕ → Option Known 
       (e : RunFault) →
       FaultedOn Claims (options arguments).stop old (records_read (options arguments).lines file input) before new later e
       → (e ≡ fault.TooMany
-      → HasTooMany (read_as (options arguments).lines file) ⊎ HasTooMany (read_as (options arguments).lines input))
+      → HasTooMany (input_records (read_as (options arguments).lines file))
+      ⊎ HasTooMany (input_records (read_as (options arguments).lines input)))
       → code ≡ exit_code (Err e) → Ends arguments Opened input old before new later code

@@ -216,5 +216,5 @@ both_records file input = joined_records (input_records file) (input_records inp
 abbrev pub records_read : Bool → Known → Known → Records
 records_read single file input = both_records (read_as single file) (read_as single input)
 
-abbrev pub HasTooMany : Known → Type 0
-HasTooMany known = IfSome known (λ input. most_records < length (records_of input))
+abbrev pub HasTooMany : Records → Type 0
+HasTooMany records = IfSome records (λ rs. most_records < length rs)

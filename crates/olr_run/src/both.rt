@@ -34,7 +34,7 @@ fn run_file<F: Read + Drop, W: Write>(
 ) -> Result<Status, RunFault>
     ensures ended { EndedOn Claims Claims stop register.old (input_records (file_bytes F.remaining file))
         (W.contents output.old) register.new (W.contents output.new) result }
-    ensures too_many { IfErr result (λ e. e ≡ RunFault.TooMany → HasTooMany (file_bytes F.remaining file)) }
+    ensures too_many { IfErr result (λ e. e ≡ RunFault.TooMany → HasTooMany (input_records (file_bytes F.remaining file))) }
 {
     register.is_sound();
     match file {
@@ -58,7 +58,7 @@ pub fn run_both<F: Read + Drop, R: Read + Drop, W: Write>(
         (both_records (file_bytes F.remaining file) (R.remaining input)) (W.contents output.old) register.new
         (W.contents output.new) result }
     ensures too_many { IfErr result (λ e. e ≡ RunFault.TooMany
-        → HasTooMany (file_bytes F.remaining file) ⊎ HasTooMany (R.remaining input)) }
+        → HasTooMany (input_records (file_bytes F.remaining file)) ⊎ HasTooMany (input_records (R.remaining input))) }
 {
     register.is_sound();
     let first = run_file(alloc, register, file, output, stop)?;
@@ -113,7 +113,8 @@ pub(crate) fn run_inputs<F: Read + Drop, R: Read + Drop, W: Write>(
         (records_read asked.now.lines (file_bytes F.remaining file) (R.remaining input)) (W.contents output.old)
         register.new (W.contents output.new) result }
     ensures too_many { IfErr result (λ e. e ≡ RunFault.TooMany → HasTooMany
-        (read_as asked.now.lines (file_bytes F.remaining file)) ⊎ HasTooMany (read_as asked.now.lines (R.remaining input))) }
+        (input_records (read_as asked.now.lines (file_bytes F.remaining file)))
+        ⊎ HasTooMany (input_records (read_as asked.now.lines (R.remaining input)))) }
 {
     register.is_sound();
     let (file, input) = read_inputs(alloc, file, input, asked.lines)?;

@@ -13,8 +13,8 @@ use csv::ByteRecord;
 use olr_commands::{Command, CommandFault};
 use olr_records::{ReadFault, fault_text, read_command, read_fault_text};
 use olr_register::Register;
-use olr_sessions::InMemory;
-use std::alloc::{AllocError, Global};
+use olr_sessions::{InMemory, RunFault, Source};
+use std::alloc::Global;
 use thiserror::Error;
 
 /// The greatest number of changes in a batch.
@@ -43,13 +43,9 @@ pub enum RestoreFault {
     TooMany,
 }
 
-impl From<AllocError> for RestoreFault {
-    ghost use Rattle.std.specs.Prelude.{◌≡◌};
-    ghost use Rattle.olr_run.specs.declared.loader.RestoreFault.TheVariants.{Memory};
-
-    ghost from_gives = { λ _ fault. fault ≡ Memory };
-
-    fn from(_error: AllocError) -> RestoreFault {
+impl From<RunFault> for RestoreFault {
+    /// Bytes in memory can only lack memory.
+    fn from(_fault: RunFault) -> RestoreFault {
         RestoreFault::Memory
     }
 }
@@ -291,7 +287,7 @@ pub(crate) fn restore_noting(
         taken,
         left: records.left(),
     };
-    'records: while records.take_record(&mut fields)? {
+    'records: while records.next(&mut fields)? {
         if taken == MOST_RECORDS {
             return Err(RestoreFault::TooMany);
         }

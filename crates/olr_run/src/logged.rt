@@ -6,9 +6,9 @@ ghost use Rattle.olr_run.specs.Runs.{both_records, file_bytes, input_records, on
 ghost use Rattle.olr_sessions.specs.Buffers.{held, written};
 
 use crate::both::greater_of;
-use crate::records::{reader_of, run_session};
+use crate::records::run_session;
 use olr_register::Register;
-use olr_sessions::{Buffered, Gate, Journal, Logged, RunFault, Status};
+use olr_sessions::{Buffered, Gate, Journal, Logged, Records, RunFault, Status};
 use std::alloc::Global;
 use std::io::{Read, Write};
 
@@ -24,16 +24,16 @@ fn run_logged<R: Read + Drop, W: Write + Drop, J: Journal + Drop>(
 ) -> (Result<Status, RunFault>, Gate<J>)
     ensures ended { LoggedOn J.kept J.may_leave W.contents gate output.old result.1 output.new stop register.old
         (input_records (file_bytes R.remaining input)) register.new result.0 }
-    ensures too_many { IfErr result.0 (λ e. e ≡ RunFault.TooMany → HasTooMany (file_bytes R.remaining input)) }
+    ensures too_many { IfErr result.0 (λ e. e ≡ RunFault.TooMany → HasTooMany (input_records (file_bytes R.remaining input))) }
 {
     register.is_sound();
     let Some(input) = input else {
         return (Ok(Status::AllAccepted), gate);
     };
-    let Ok(reader) = reader_of(alloc, input) else {
+    let Ok(records) = Records::new(alloc, input) else {
         return (Err(RunFault::Memory), gate);
     };
-    let mut session = Logged::new(reader, gate);
+    let mut session = Logged::new(records, gate);
     let ended = run_session(alloc, register, &mut session, output, stop);
     (ended, session.into_gate())
 }
@@ -51,7 +51,7 @@ fn run_both_logged<F: Read + Drop, R: Read + Drop, W: Write + Drop, J: Journal +
     ensures ended { LoggedOn J.kept J.may_leave W.contents gate output.old result.1 output.new stop register.old
         (both_records (file_bytes F.remaining file) (R.remaining input)) register.new result.0 }
     ensures too_many { IfErr result.0 (λ e. e ≡ RunFault.TooMany
-        → HasTooMany (file_bytes F.remaining file) ⊎ HasTooMany (R.remaining input)) }
+        → HasTooMany (input_records (file_bytes F.remaining file)) ⊎ HasTooMany (input_records (R.remaining input))) }
 {
     register.is_sound();
     let (ended, gate) = run_logged(alloc, register, file, gate, output, stop);
@@ -103,7 +103,7 @@ pub fn run_with_log<F: Read + Drop, R: Read + Drop, W: Write + Drop, J: Journal 
         (both_records (file_bytes F.remaining file) (R.remaining input)) (written W.contents output.old)
         register.new (written W.contents output.new) result.0 }
     ensures too_many { IfErr result.0 (λ e. e ≡ RunFault.TooMany
-        → HasTooMany (file_bytes F.remaining file) ⊎ HasTooMany (R.remaining input)) }
+        → HasTooMany (input_records (file_bytes F.remaining file)) ⊎ HasTooMany (input_records (R.remaining input))) }
     ensures sent { OnOk result.0 (held output.new ≡ []) }
 {
     register.is_sound();

@@ -1,18 +1,14 @@
 //! A whole run: the records of an input, one after another, each answered before the next is taken.
 
-ghost use Rattle.std.specs.Prelude.{◌≡◌, Some, IfOk, IfErr, option_map};
-ghost use Rattle.csv.specs.Reading.{reader_state, source_of, strip_bom};
-ghost use Rattle.csv.specs.declared.parser.State.TheVariants.{StartRecord};
+ghost use Rattle.std.specs.Prelude.{◌≡◌, Some, IfOk, IfErr};
 ghost use Rattle.olr_run.specs.Output.{Claims, records_of};
 ghost use Rattle.olr_run.specs.Runs.{input_records, RanIn, CutIn, EndedOn, HasTooMany};
-ghost use Rattle.olr_sessions.specs.Buffers.{unread};
-ghost use Rattle.olr_sessions.specs.Sessions.{IsPlain};
 
 use crate::answers::{renew, write_outcome};
-use csv::{ByteRecord, Reader, ReaderBuilder};
+use csv::ByteRecord;
 use olr_register::Register;
-use olr_sessions::{InMemory, Lines, RunFault, Session, Status};
-use std::alloc::{AllocError, Global};
+use olr_sessions::{InMemory, Plain, Records, RunFault, Session, Status};
+use std::alloc::Global;
 use std::io::{Read, Write};
 
 /// The greatest number of records in one run, 2^40.
@@ -99,25 +95,6 @@ pub fn run_session<W, S: Session<W>>(
     run_within(alloc, register, session, output, stop, &mut room)
 }
 
-/// A reader of the records of an input, as `csv` reads them: the first one is no header, and each may have any number of
-/// fields.
-pub(crate) fn reader_of<R: Read + Drop>(
-    alloc: Global,
-    input: R,
-) -> Result<Reader<Lines<R>>, AllocError>
-    ensures plain { IfOk result (λ reader. IsPlain reader) }
-    ensures state { IfOk result (λ reader. reader_state reader ≡ StartRecord) }
-    ensures source { IfOk result (λ reader.
-        source_of (unread R.remaining) reader ≡ option_map strip_bom (R.remaining input)) }
-{
-    let lines = Lines::new(alloc, input)?;
-    let reader = ReaderBuilder::new()
-        .has_headers(false)
-        .flexible(true)
-        .from_reader(alloc, lines);
-    Ok(reader)
-}
-
 /// Runs the records of the input, as `csv` reads them, in a session whose answers are written to the output. An output
 /// that holds bytes back is flushed before the run may wait for the input, and where a text doesn't fit; what it holds
 /// at the end is left to the caller. After a fault the register has the state after the answered records. After a fault
@@ -133,11 +110,11 @@ pub fn run<R: Read + Drop, W: Write>(
 ) -> Result<Status, RunFault>
     ensures ended { EndedOn Claims Claims stop register.old (input_records (R.remaining input))
         (W.contents output.old) register.new (W.contents output.new) result }
-    ensures too_many { IfErr result (λ e. e ≡ RunFault.TooMany → HasTooMany (R.remaining input)) }
+    ensures too_many { IfErr result (λ e. e ≡ RunFault.TooMany → HasTooMany (input_records (R.remaining input))) }
 {
     register.is_sound();
-    let mut reader = reader_of(alloc, input)?;
-    run_session(alloc, register, &mut reader, output, stop)
+    let mut session = Plain::new(Records::new(alloc, input)?);
+    run_session(alloc, register, &mut session, output, stop)
 }
 
 /// Runs the records of bytes in memory, with the same contract as `run`. `room` can be reused by later runs.
@@ -151,9 +128,9 @@ pub fn run_bytes<W: Write>(
 ) -> Result<Status, RunFault>
     ensures ended { EndedOn Claims Claims stop register.old (Some (records_of bytes.now)) (W.contents output.old)
         register.new (W.contents output.new) result }
-    ensures too_many { IfErr result (λ e. e ≡ RunFault.TooMany → HasTooMany (Some bytes.now)) }
+    ensures too_many { IfErr result (λ e. e ≡ RunFault.TooMany → HasTooMany (Some (records_of bytes.now))) }
 {
     register.is_sound();
-    let mut records = InMemory::new(alloc, bytes);
-    run_within(alloc, register, &mut records, output, stop, room)
+    let mut session = Plain::new(InMemory::new(alloc, bytes));
+    run_within(alloc, register, &mut session, output, stop, room)
 }

@@ -1,7 +1,7 @@
 pub mod SessionLemmas
 pub mod CsvBytes
+pub mod CsvRecords
 pub mod Writing
-pub mod InMemoryRuns
 pub mod WholeLines
 pub mod GivenLines
 pub mod KeptLines

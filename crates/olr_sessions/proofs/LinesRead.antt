@@ -13,6 +13,7 @@ use Rattle.olr_sessions.specs.SingleLines.{one_a_line, one_a_line_from, are_sing
 use Rattle.olr_sessions.specs.SingleLines.{lines_from, lines_of, EachIs, mark_after, ends_mark}
 use Rattle.olr_sessions.specs.declared.single_lines.Mark.{Mark}
 use Rattle.olr_sessions.specs.declared.single_lines.Mark.TheVariants as mark
+use Rattle.olr_sessions.proofs.CsvRecords.{are_more, are_none}
 use Rattle.olr_sessions.proofs.LineLemmas.{from_end, from_byte, not_quoted}
 use Rattle.olr_sessions.proofs.LineRecords.{From, IsEnd, after, line_gives_one, line_end, input_end, single_same}
 
@@ -68,16 +69,10 @@ same_records s t xs ys [] e h =
     (s, xs, (refl, refl), e ∙ (λ i. next_record default_config (h.2.0 i) [] [] (h.2.1 i)) ∙ h.3)
 same_records s t xs ys (r ∷ rs) e h = (h.0, h.1, (h.2.0, e ∙ h.2.1, h.2.2, h.2.3), h.3)
 
-one_record : (s t : State) (xs ys : List ℕ) (r : List (List ℕ)) (rs : List (List (List ℕ))) →
-    next_record default_config s [] [] xs ≡ Some (r, t, ys) → AreRecords default_config t ys rs →
-    AreRecords default_config s xs (r ∷ rs)
-unfolding Reached
-one_record s t xs ys r rs e h = (h.0, h.1, ((r, t, ys), e, refl, h.2), h.3)
-
 no_records : (s : State) → BetweenRecords s → AreRecords default_config s [] []
-unfolding Reached next_record
-no_records s (inl e) = (s, [], (refl, refl), rw e refl)
-no_records s (inr e) = (s, [], (refl, refl), rw e refl)
+unfolding next_record
+no_records s (inl e) = are_none s [] (rw e refl)
+no_records s (inr e) = are_none s [] (rw e refl)
 
 no_end_more : (line : List ℕ) (b : ℕ) → HasNoEnd line → is_line_end b ≡ false → HasNoEnd (line ++ b ∷ [])
 no_end_more [] b none e = rw e refl
@@ -102,7 +97,7 @@ module _ (Is : List ℕ → List (List ℕ) → Type 0)
       let one = line_gives_one c line none in
       record {
         records = one.fields ∷ [];
-        all = one_record s st.StartRecord _ [] one.fields [] (one.reads s at [] [] st.StartRecord [] input_end)
+        all = are_more s st.StartRecord _ [] one.fields [] (one.reads s at [] [] st.StartRecord [] input_end)
             (no_records st.StartRecord (inl refl));
         each = (is c line none, tt);
       }
@@ -127,7 +122,7 @@ module _ (Is : List ℕ → List (List ℕ) → Type 0)
           let r = rest (after b) (after_is_between b (ends b e)) in
           record {
             records = one.fields ∷ r.records;
-            all = one_record s (after b) _ (From line_start bytes) one.fields r.records
+            all = are_more s (after b) _ (From line_start bytes) one.fields r.records
                 (one.reads s at (b ∷ bytes) (b ∷ From line_start bytes) (after b) (From line_start bytes) (line_end b bytes (ends b e)))
                 r.all;
             each = rw e (is c line none, r.each);

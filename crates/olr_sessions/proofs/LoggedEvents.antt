@@ -3,12 +3,11 @@ use Rattle.std.proofs.Common.{◌≡◌, Bool, true, false, not, ℕ, List, [], 
 use Rattle.std.specs.Prelude.{Result}
 use Rattle.olr_sessions.specs.Gates.{Passes, PassesAll, Untouched, SettledBy, LostLine, TakesFound}
 use Rattle.olr_sessions.specs.LoggedRuns.{LogHappens, Settles, is_fault}
-use Rattle.olr_sessions.specs.Sessions.{Known, Event, ReadsNext, TakesNext, Writes, IsOfTaking}
+use Rattle.olr_sessions.specs.Sessions.{Known, Event, TakesLeft, TakesNext, Writes, IsOfTaking}
 use Rattle.olr_sessions.specs.Unkept.{waiting}
 use Rattle.olr_sessions.specs.declared.buffered.Buffered.{Buffered}
 use Rattle.olr_sessions.specs.declared.ends.RunFault.{RunFault}
 use Rattle.olr_sessions.specs.declared.gate.Gate.{Gate}
-use Rattle.olr_sessions.specs.declared.lines.Lines.{Lines}
 use Rattle.olr_sessions.specs.declared.logged.Logged.{Logged}
 
 pub settles : {J : Type 0} (g h : Gate J) (text : List ℕ) (b : Bool) → b ≡ is_fault text → Untouched g h →
@@ -16,13 +15,13 @@ pub settles : {J : Type 0} (g h : Gate J) (text : List ℕ) (b : Bool) → b ≡
 settles g h text b is u s =
     record { untouched = u; settled = subst (λ (x : Bool). SettledBy g.unkept (not x) h.unkept) is s }
 
-module _ {R W J : Type 0} (remaining : Lines R → Known) (contents : W → Known) (kept : J → List ℕ)
+module _ {S W J : Type 0} (left : S → List (List (List ℕ)) → Type 0) (contents : W → Known) (kept : J → List ℕ)
     (may_leave : J → List ℕ → Type 0) where
-  abbrev Happens : Logged R J × Buffered W → Event → Logged R J × Buffered W → Type 0
-  Happens a e b = LogHappens remaining contents kept may_leave a.0 a.1 b.0 b.1 e
+  abbrev Happens : Logged S J × Buffered W → Event → Logged S J × Buffered W → Type 0
+  Happens a e b = LogHappens left contents kept may_leave a.0 a.1 b.0 b.1 e
 
-  pub writes_logged : (s t : Logged R J) (g : Gate J) (o p : Buffered W) (text : List ℕ)
-      (r : Result (Unit {0}) RunFault) → t.reader ≡ s.reader → Settles s.gate text g →
+  pub writes_logged : (s t : Logged S J) (g : Gate J) (o p : Buffered W) (text : List ℕ)
+      (r : Result (Unit {0}) RunFault) → t.source ≡ s.source → Settles s.gate text g →
       PassesAll kept may_leave contents g o t.gate p text r → Writes Happens (s, o) text (t, p) r
   writes_logged s t g o p text (Ok done) same settled passes = (same, (g, settled, passes))
   writes_logged s t g o p text (Err e) same settled cut = (
@@ -41,17 +40,17 @@ module _ {R W J : Type 0} (remaining : Lines R → Known) (contents : W → Know
         waits = ap (λ (x : Gate J). waiting x.unkept) is;
       }
 
-  pub takes_logged : (s t : Logged R J) (g : Gate J) (o p : Buffered W) (found r : Result Bool RunFault)
+  pub takes_logged : (s t : Logged S J) (g : Gate J) (o p : Buffered W) (failed : Bool) (found r : Result Bool RunFault)
       (fields : List (List ℕ)) → Passes kept may_leave contents s.gate o g p []
-      → ReadsNext remaining s.reader t.reader found fields → TakesFound g found fields t.gate r
+      → TakesLeft (left s.source) (left t.source) failed found fields → TakesFound g found fields t.gate r
       → TakesNext Happens (s, o) (t, p) r fields
-  takes_logged s t g o p (Ok true) (Ok true) fields passes reads takes = (g, passes, takes.1, reads)
-  takes_logged s t g o p (Ok true) (Ok false) fields passes reads takes = absurd (let never : false ≡ true = takes.0 in cc)
-  takes_logged s t g o p (Ok true) (Err e) fields passes reads takes =
+  takes_logged s t g o p failed (Ok true) (Ok true) fields passes reads takes = (g, passes, takes.1, reads)
+  takes_logged s t g o p failed (Ok true) (Ok false) fields passes reads takes = absurd (let never : false ≡ true = takes.0 in cc)
+  takes_logged s t g o p failed (Ok true) (Err e) fields passes reads takes =
       inl ((g, passes, takes.1), subst IsOfTaking (sym takes.0) tt)
-  takes_logged s t g o p (Ok false) r fields passes reads takes =
+  takes_logged s t g o p failed (Ok false) r fields passes reads takes =
       subst (λ (x : Result Bool RunFault). TakesNext Happens (s, o) (t, p) x fields) (sym takes.0)
-      (subst (λ (x : Gate J). Passes kept may_leave contents s.gate o x p []) (sym takes.1) passes, (fields, reads))
-  takes_logged s t g o p (Err e) r fields passes reads takes =
+      (subst (λ (x : Gate J). Passes kept may_leave contents s.gate o x p []) (sym takes.1) passes, reads)
+  takes_logged s t g o p failed (Err e) r fields passes reads takes =
       subst (λ (x : Result Bool RunFault). TakesNext Happens (s, o) (t, p) x fields) (sym takes.0)
       (inl ((g, passes, not_lost g t.gate takes.1), reads.1))

@@ -5,12 +5,15 @@
 --     History happens a es b      these events, in this order, lead from a to b; happens is the relation of one event
 --     exchanges rs texts renewals      each record was taken, and then its text was written; then perhaps records were given
 --     WritesAll before later bytes r      all of the bytes were written, or only the first of them
---     IsPlain r, ReadsOne remaining old new found fields      a reader with csv's defaults, and one read of it
---     ReadsNext      the same, or none can be read
---     CsvHappens      the events of such a reader and a writer whose bytes are known
-use Rattle.std.specs.Prelude.{◌≡◌, ◌≢◌, ◌^◌, ℕ, Bool, true, false, List, [], ◌∷◌, ◌++◌, Option, Some, None, Result, Ok, Err, ⊤, ◌⊎◌}
+--     TakesLeft old new failed r fields      what a call that takes a record says of the records that were left, and of those that are
+--     PlainHappens      the events of a source and a writer whose bytes are known
+--     IsPlain r, csv_left remaining r rs      a reader with csv's defaults, and the records that are left of it
+use Rattle.std.specs.Prelude.{◌≡◌, ◌≢◌, ◌^◌, ℕ, Bool, true, false, List, [], ◌∷◌, ◌++◌, Option, Some, None, Result, Ok, Err, ⊤, ◌⊎◌, IfSome}
+use Rattle.std.specs.Bool.{MatchBool}
 use Rattle.std.specs.Io.KnownBytes.{Appends, Keeps}
-use Rattle.csv.specs.Reading.{ReadRecord, Ready, default_config, reader_config, reader_trim, is_flexible, has_failed}
+use Rattle.csv.specs.Reading.{AreRecords, default_config, names_headers, reader_config, reader_headers, reader_state, reader_trim, is_flexible, has_failed}
+use Rattle.csv.specs.Reading.{records, source_of, strip_bom, took_first}
+use Rattle.csv.specs.declared.parser.State.{State}
 use Rattle.csv.specs.declared.reader.Reader.{Reader}
 use Rattle.csv.specs.declared.reader.Trim.TheVariants as trim
 use Rattle.olr_sessions.specs.declared.ends.RunFault.{RunFault}
@@ -74,30 +77,59 @@ WritesAll before later bytes (Ok done) = Appends before later bytes
 WritesAll before later bytes (Err e) =
     (front rest : List ℕ) × (bytes ≡ front ++ rest) × (rest ≢ []) × Appends before later front × (e ≡ fault.Write)
 
+-- ---- sources of records
+
+-- whichever records were left, this is the first of them, and the others are left
+abbrev pub TakesOne : (old new : List (List (List ℕ)) → Type 0) → List (List ℕ) → Type 0
+TakesOne old new fields =
+    (rs : List (List (List ℕ))) → old rs → (rest : List (List (List ℕ))) × (rs ≡ fields ∷ rest) × new rest
+
+abbrev pub HasNone : (List (List (List ℕ)) → Type 0) → Type 0
+HasNone left = (rs : List (List (List ℕ))) → left rs → rs ≡ []
+
+-- if no record can be taken, because a reader or an allocation failed, then the source has failed
+abbrev pub TakesLeft : (old new : List (List (List ℕ)) → Type 0) → (failed : Bool) → Result Bool RunFault →
+    List (List ℕ) → Type 0
+TakesLeft old new failed (Ok true) fields = TakesOne old new fields
+TakesLeft old new failed (Ok false) fields = HasNone old
+TakesLeft old new failed (Err e) fields = (failed ≡ true) × IsOfTaking e
+
+-- the records of known bytes are left
+abbrev pub BeginsWith : (List ℕ → List (List (List ℕ))) → (List (List (List ℕ)) → Type 0) → Known → Type 0
+BeginsWith records_of left known = IfSome known (λ bytes. left (records_of bytes))
+
+-- the events of a source and a writer whose bytes are known; the writer may be flushed before a record is taken
+abbrev pub PlainHappens : {S : Type 0} → (S → List (List (List ℕ)) → Type 0) → (S → Bool) → S → S → Known → Known → Event → Type 0
+PlainHappens left failed old new before later (Took fields) = TakesOne (left old) (left new) fields × Keeps before later
+PlainHappens left failed old new before later Ended = HasNone (left old) × Keeps before later
+PlainHappens left failed old new before later (Not_taken e) = (failed new ≡ true) × Keeps before later
+PlainHappens left failed old new before later Not_sent = (new ≡ old) × Keeps before later
+PlainHappens left failed old new before later (Wrote text) = (new ≡ old) × Appends before later text
+PlainHappens left failed old new before later (Cut front rest) = (new ≡ old) × Appends before later front
+PlainHappens left failed old new before later (Renewed records) = (new ≡ old) × Keeps before later
+
 -- ---- records as csv reads them
+
+-- all records of an input
+abbrev pub csv_records : List ℕ → List (List (List ℕ))
+csv_records bytes = records default_config (strip_bom bytes)
 
 -- a csv reader with its defaults, no header, any number of fields, and no field trimmed
 pub record IsPlain {R : Type 0} (r : Reader R) : Type 0 where
   pub config : reader_config r ≡ default_config
   pub trim : reader_trim r ≡ trim.None
   pub flexible : is_flexible r ≡ true
-  pub ready : Ready r
+  pub no_header : names_headers r ≡ false
+  pub none : took_first r ≡ false → reader_headers r ≡ None
 
-abbrev pub ReadsOne : {R : Type 0} → (R → Known) → Reader R → Reader R → Bool → List (List ℕ) → Type 0
-ReadsOne remaining old new found fields = IsPlain old → IsPlain new × ReadRecord remaining old new found fields
+abbrev pub StaysPlain : {R : Type 0} → Reader R → Type 0
+StaysPlain r = has_failed r ≡ false → IsPlain r
 
-abbrev pub ReadsNext : {R : Type 0} → (R → Known) → Reader R → Reader R → Result Bool RunFault → List (List ℕ) → Type 0
-ReadsNext remaining old new (Ok found) fields = ReadsOne remaining old new found fields
-ReadsNext remaining old new (Err e) fields = (IsPlain old → has_failed new ≡ true) × IsOfTaking e
+abbrev pub AreKnown : State → Known → List (List (List ℕ)) → Type 0
+AreKnown s None rs = ⊥
+AreKnown s (Some bytes) rs = AreRecords default_config s bytes rs
 
--- if no record can be taken, because the reader below or an allocation failed, then none can be taken afterwards; the
--- writer may be flushed before a record is taken
-abbrev pub CsvHappens : {R : Type 0} → (R → Known) → Reader R → Reader R → Known → Known → Event → Type 0
-CsvHappens remaining old new before later (Took fields) = ReadsOne remaining old new true fields × Keeps before later
-CsvHappens remaining old new before later Ended =
-    ((fields : List (List ℕ)) × ReadsOne remaining old new false fields) × Keeps before later
-CsvHappens remaining old new before later (Not_taken e) = (IsPlain old → has_failed new ≡ true) × Keeps before later
-CsvHappens remaining old new before later Not_sent = (new ≡ old) × Keeps before later
-CsvHappens remaining old new before later (Wrote text) = (new ≡ old) × Appends before later text
-CsvHappens remaining old new before later (Cut front rest) = (new ≡ old) × Appends before later front
-CsvHappens remaining old new before later (Renewed records) = (new ≡ old) × Keeps before later
+-- the records that are left of such a reader
+abbrev pub csv_left : {R : Type 0} → (R → Known) → Reader R → List (List (List ℕ)) → Type 0
+csv_left remaining r rs =
+    MatchBool (has_failed r) (rs ≡ []) (AreKnown (reader_state r) (source_of remaining r) rs)

@@ -5,14 +5,12 @@ ghost use Rattle.csv.specs.Machine.{step, ends_at_end};
 ghost use Rattle.csv.specs.Records.{fields_of, partial_of};
 ghost use Rattle.csv.specs.declared.parser.State.TheVariants as st;
 ghost use Rattle.csv.specs.Reading.{default_config, is_bom, strip_bom};
-ghost use Rattle.olr_sessions.specs.InMemory.{csv_state, csv_step, IsFirst, TookFrom, BytesHappens};
+ghost use Rattle.olr_sessions.specs.InMemory.{csv_state, csv_step, IsFirst};
 
 use crate::ends::RunFault;
-use crate::output::write_all;
-use crate::sessions::Session;
+use crate::sources::Source;
 use csv::ByteRecord;
 use std::alloc::{AllocError, Global};
-use std::io::Write;
 
 /// Where in a record a byte is.
 #[derive(Clone, Copy)]
@@ -185,11 +183,15 @@ pub struct InMemory<'a> {
 }
 
 impl<'a> InMemory<'a> {
+    ghost use Rattle.olr_sessions.specs.InMemory.{left_of};
+    ghost use Rattle.olr_sessions.specs.Sessions.{csv_records};
+
     /// The records of these bytes.
     pub fn new(alloc: Global, bytes: &'a [u8]) -> InMemory<'a>
         ensures rest { result.rest.now ≡ strip_bom bytes.now }
         ensures state { result.state ≡ State.StartRecord }
         ensures fresh { result.failed ≡ false }
+        ensures left { left_of result (csv_records bytes.now) }
     {
         InMemory {
             rest: without_mark(bytes),
@@ -205,11 +207,22 @@ impl<'a> InMemory<'a> {
     {
         self.rest.len()
     }
+}
 
-    /// Takes the next record. Returns false if there is none, or if an allocation failed before.
-    pub fn take_record(&mut self, row: &mut ByteRecord) -> Result<bool, AllocError>
-        ensures took { IfOk result (λ found. TookFrom self.old self.new found (fields_of row.new)) }
-        ensures failed { OnErr result (self.new.failed ≡ true) }
+impl<'a> Source for InMemory<'a> {
+    ghost use Rattle.std.specs.Prelude.{Some};
+    ghost use Rattle.csv.specs.Machine.{next_record};
+    ghost use Rattle.olr_sessions.specs.InMemory.{left_of};
+    ghost use Rattle.olr_sessions.specs.Sessions.{TakesLeft};
+
+    ghost left = { left_of };
+
+    ghost failed = { λ m. m.failed };
+
+    fn next(&mut self, row: &mut ByteRecord) -> Result<bool, RunFault>
+        ensures takes { TakesLeft (left_of self.old) (left_of self.new) self.new.failed result (fields_of row.new) }
+        ensures after { IfOk result (λ found. found ≡ true → next_record default_config (csv_state self.old.state) [] []
+            self.old.rest.now ≡ Some (fields_of row.new, csv_state self.new.state, self.new.rest.now)) }
     {
         if self.failed {
             return Ok(false);
@@ -221,28 +234,14 @@ impl<'a> InMemory<'a> {
                 Ok(true)
             }
             Ok(None) => Ok(false),
-            Err(error) => {
+            Err(_error) => {
                 self.failed = true;
-                Err(error)
+                Err(RunFault::Memory)
             }
         }
     }
-}
 
-impl<'a, W: Write> Session<W> for InMemory<'a> {
-    ghost happens = { λ a e b. BytesHappens a.0 b.0 (W.contents a.1) (W.contents b.1) e };
-
-    fn take(&mut self, _output: &mut W, fields: &mut ByteRecord) -> Result<bool, RunFault> {
-        Ok(self.take_record(fields)?)
-    }
-
-    fn answer(&mut self, output: &mut W, text: &[u8]) -> Result<(), RunFault> {
-        write_all(output, text)
-    }
-
-    fn wants_records(&self) -> bool {
+    fn may_wait(&self) -> bool {
         false
     }
-
-    fn renew(&mut self, _records: &[u8]) {}
 }

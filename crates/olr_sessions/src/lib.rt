@@ -14,6 +14,7 @@ mod logged;
 mod output;
 mod sessions;
 mod single_lines;
+mod sources;
 mod unkept;
 mod whole;
 
@@ -26,7 +27,8 @@ pub use journal::Journal;
 pub use lines::Lines;
 pub use logged::Logged;
 pub use output::write_all;
-pub use sessions::Session;
+pub use sessions::{Plain, Session};
 pub use single_lines::SingleLines;
+pub use sources::{Records, Source};
 pub use unkept::{Effect, Unkept};
 pub use whole::is_whole;

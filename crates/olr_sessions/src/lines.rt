@@ -5,7 +5,6 @@ ghost use Rattle.std.specs.List.{list_all};
 ghost use Rattle.olr_sessions.specs.Lines.{IsWhole, IsGivable, LeavesWhole, after_end, has_line, has_quote, is_line_end};
 
 use crate::blocks::Blocks;
-use csv::Reader;
 use memchr::{memchr, memchr2, memchr3, memrchr2};
 use std::alloc::{AllocError, Global};
 use std::io;
@@ -191,11 +190,6 @@ impl<R: Read + Drop> Lines<R> {
         self.source.consume(count);
         count
     }
-}
-
-/// Whether the next record may need a read of the input, which may wait.
-pub(crate) fn may_wait<R: Read + Drop>(reader: &Reader<Lines<R>>) -> bool {
-    reader.get_ref().may_wait(reader.position().byte())
 }
 
 impl<R: Read + Drop> Read for Lines<R> {

@@ -9,33 +9,33 @@ use crate::buffered::Buffered;
 use crate::ends::RunFault;
 use crate::gate::Gate;
 use crate::journal::Journal;
-use crate::lines::{Lines, may_wait};
-use crate::sessions::{Session, read_record};
-use csv::{ByteRecord, Reader};
-use std::io::{Read, Write};
+use crate::sessions::Session;
+use crate::sources::Source;
+use csv::ByteRecord;
+use std::io::Write;
 
-/// The records of an input, whose accepted changes are kept in a log before their answers are sent.
+/// The records of a source, whose accepted changes are kept in a log before their answers are sent.
 #[derive(Drop)]
-pub struct Logged<R: Drop, J: Drop> {
-    reader: Reader<Lines<R>>,
+pub struct Logged<S: Drop, J: Drop> {
+    source: S,
     gate: Gate<J>,
 }
 
-impl<R: Read + Drop, J: Journal + Drop> Logged<R, J> {
-    /// The records of this reader, with this gate.
-    pub fn new(reader: Reader<Lines<R>>, gate: Gate<J>) -> Logged<R, J>
-        ensures reader { result.reader ≡ reader }
+impl<S: Source + Drop, J: Journal + Drop> Logged<S, J> {
+    /// The records of this source, with this gate.
+    pub fn new(source: S, gate: Gate<J>) -> Logged<S, J>
+        ensures source { result.source ≡ source }
         ensures gate { result.gate ≡ gate }
     {
-        Logged { reader, gate }
+        Logged { source, gate }
     }
 
-    /// The gate, which may go on with the records of another reader.
+    /// The gate, which may go on with the records of another source.
     pub fn into_gate(self) -> Gate<J>
         ensures { result ≡ self.gate }
     {
-        let Logged { reader, gate } = self;
-        drop(reader);
+        let Logged { source, gate } = self;
+        drop(source);
         gate
     }
 }
@@ -50,20 +50,18 @@ fn is_fault(text: &[u8]) -> bool
     }
 }
 
-impl<R: Read + Drop, W: Write + Drop, J: Journal + Drop> Session<Buffered<W>> for Logged<R, J> {
-    ghost use Rattle.olr_sessions.specs.Buffers.{unread};
+impl<S: Source + Drop, W: Write + Drop, J: Journal + Drop> Session<Buffered<W>> for Logged<S, J> {
     ghost use Rattle.olr_sessions.specs.Sessions.{Renewed};
 
-    ghost happens = { λ a e b. LogHappens (unread R.remaining) W.contents J.kept J.may_leave a.0 a.1 b.0 b.1 e };
+    ghost happens = { λ a e b. LogHappens S.left W.contents J.kept J.may_leave a.0 a.1 b.0 b.1 e };
 
     fn take(
         &mut self,
         output: &mut Buffered<W>,
         fields: &mut ByteRecord,
     ) -> Result<bool, RunFault> {
-        let waits = may_wait(&self.reader);
-        self.gate.send_before(waits, output)?;
-        let found = read_record(&mut self.reader, fields);
+        self.gate.send_before(self.source.may_wait(), output)?;
+        let found = self.source.next(fields);
         self.gate.take_found(found, fields)
     }
 
@@ -79,7 +77,7 @@ impl<R: Read + Drop, W: Write + Drop, J: Journal + Drop> Session<Buffered<W>> fo
     }
 
     fn renew(&mut self, records: &[u8])
-        ensures renewed { (output : Buffered W) → LogHappens (unread R.remaining) W.contents J.kept J.may_leave
+        ensures renewed { (output : Buffered W) → LogHappens S.left W.contents J.kept J.may_leave
             self.old output self.new output (Renewed records.now) }
         ensures due { compaction self.new.gate ≡ put_off (J.size self.new.gate.journal) (compaction self.old.gate) }
     {

@@ -3,13 +3,13 @@
 ghost use Rattle.std.specs.Prelude.{◌≡◌, ℕ, List, IfErr};
 ghost use Rattle.std.specs.Io.KnownBytes.{Keeps};
 ghost use Rattle.csv.specs.Records.{fields_of};
-ghost use Rattle.olr_sessions.specs.Sessions.{Event, Renewed, TakesNext, Writes, ReadsNext, CsvHappens};
+ghost use Rattle.olr_sessions.specs.Sessions.{Event, Renewed, TakesNext, Writes, PlainHappens};
 
 use crate::ends::RunFault;
-use crate::lines::{Lines, may_wait};
 use crate::output::{flush, write_all};
-use csv::{ByteRecord, ErrorKind, Reader};
-use std::io::{Read, Write};
+use crate::sources::Source;
+use csv::ByteRecord;
+use std::io::Write;
 
 /// The source of the records of a run, with the output of their answers. What happens at the two ends, and in which
 /// order, is known to a caller only from the contracts of these calls.
@@ -34,23 +34,6 @@ pub trait Session<W> {
         ensures { (output : W) → happens (self.old, output) (Renewed records.now) (self.new, output) };
 }
 
-/// Reads the next record into `fields`. Returns false if there is none.
-#[tactic(auto, using(crate::proofs::SessionLemmas::stopped))]
-pub(crate) fn read_record<R: Read + Drop>(
-    reader: &mut Reader<R>,
-    fields: &mut ByteRecord,
-) -> Result<bool, RunFault>
-    ensures { ReadsNext R.remaining reader.old reader.new result (fields_of fields.new) }
-{
-    match reader.read_byte_record(fields) {
-        Ok(found) => Ok(found),
-        Err(error) => Err(match error.kind() {
-            ErrorKind::OutOfMemory => RunFault::Memory,
-            _ => RunFault::Read,
-        }),
-    }
-}
-
 /// Flushes an output if the source may wait. `Write` is the fault if it fails.
 fn flush_before<W: Write>(waits: bool, output: &mut W) -> Result<(), RunFault>
     ensures bytes { Keeps (W.contents output.old) (W.contents output.new) }
@@ -62,15 +45,27 @@ fn flush_before<W: Write>(waits: bool, output: &mut W) -> Result<(), RunFault>
     flush(output)
 }
 
-impl<R: Read + Drop, W: Write> Session<W> for Reader<Lines<R>> {
-    ghost use Rattle.olr_sessions.specs.Buffers.{unread};
+/// The records of a source, whose answers are written at once and kept nowhere.
+#[derive(Drop)]
+pub struct Plain<S: Drop> {
+    source: S,
+}
 
-    ghost happens = { λ a e b. CsvHappens (unread R.remaining) a.0 b.0 (W.contents a.1) (W.contents b.1) e };
+impl<S: Source + Drop> Plain<S> {
+    /// The records of this source.
+    pub fn new(source: S) -> Plain<S>
+        ensures { result.source ≡ source }
+    {
+        Plain { source }
+    }
+}
+
+impl<S: Source + Drop, W: Write> Session<W> for Plain<S> {
+    ghost happens = { λ a e b. PlainHappens S.left S.failed a.0.source b.0.source (W.contents a.1) (W.contents b.1) e };
 
     fn take(&mut self, output: &mut W, fields: &mut ByteRecord) -> Result<bool, RunFault> {
-        let waits = may_wait(self);
-        flush_before(waits, output)?;
-        read_record(self, fields)
+        flush_before(self.source.may_wait(), output)?;
+        self.source.next(fields)
     }
 
     fn answer(&mut self, output: &mut W, text: &[u8]) -> Result<(), RunFault> {

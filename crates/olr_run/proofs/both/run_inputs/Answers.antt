@@ -18,4 +18,4 @@ returns-in_err-file-clause-ended g c =
     cut_by Claims Claims stop register _ before register before c.from_residual.result fault.Memory
     c.from_residual.ensures.1
     (both_faulted_first_as Claims Claims Claims longer stop register register (input_records file) (input_records input) before before fault.Memory
-    c.is_sound.ensures (cut_at_first Claims none_claimed stop register before file c.is_sound.ensures))
+    c.is_sound.ensures (cut_at_first Claims none_claimed stop register before (input_records file) c.is_sound.ensures))

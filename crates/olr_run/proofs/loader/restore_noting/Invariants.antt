@@ -1,11 +1,12 @@
 use Rattle.std.proofs.Common.{◌-◌, ◌≤◌}
+use Rattle.olr_run.specs.Output.{records_of}
 use Rattle.olr_run.proofs.Restoring.{Loading}
 use Rattle.olr_run.proofs.loader.restore_noting.Given as goal
 
 abbrev pub invariant-records : goal.invariant-records
 invariant-records l = record {
   few : l.taken ≤ 1099511627776;
-  loading : Loading l.text l.records l.loader;
+  loading : Loading (records_of l.text) l.records l.loader;
 }
 
 abbrev pub decreases-records : goal.decreases-records

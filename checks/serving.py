@@ -1,0 +1,435 @@
+"""A service that is started for a test, five writers that send to it, and what has to be true whatever was killed."""
+import contextlib
+import glob
+import os
+import random
+import re
+import select
+import shutil
+import signal
+import socket
+import sqlite3
+import subprocess
+import sys
+import threading
+import time
+from typing import NamedTuple
+
+sys.path.insert(0, f"{os.path.dirname(os.path.abspath(__file__))}/../python")
+from whole import PROGRAM, TOP, run  # noqa: E402
+from olr_keep_tools.replies import read_reply  # noqa: E402
+
+PYTHON = "/usr/bin/python3" if os.access("/usr/bin/python3", os.X_OK) else sys.executable
+SERVED = os.environ.get("SERVED_PROGRAM", PROGRAM)
+ACCEPTED, REJECTED, NOT_SERVED, NOT_KNOWN = "accepted", "rejected", "not served", "not known"
+
+
+class Failed(Exception):
+    """What is wrong."""
+
+
+class Served:
+    """A service with its log in a folder, and the socket where systemd would listen."""
+
+    started = []
+
+    def __init__(self, folder, *options, log="log.csv", env=None):
+        self.folder, self.options, self.env = folder, options, env or {}
+        self.log, self.errors = f"{folder}/{log}", f"{folder}/errors"
+        self.notified, self.process = [], None
+        self.systemd = socket.socket(socket.AF_UNIX, socket.SOCK_DGRAM)
+        with contextlib.suppress(FileNotFoundError):
+            os.unlink(f"{folder}/notify")
+        self.systemd.bind(f"{folder}/notify")
+
+    @property
+    def table(self):
+        return f"{self.log}.published.sqlite"
+
+    def start(self, wait=True):
+        """Starts it, and waits until it serves."""
+        command = [PYTHON, "-B", f"{TOP}/tools/serve", *self.options, self.log, SERVED]
+        self.notified.clear()
+        with open(self.errors, "ab") as errors:
+            self.process = subprocess.Popen(command, stdin=subprocess.DEVNULL, stderr=errors, stdout=errors,
+                                            env={**os.environ, "NOTIFY_SOCKET": f"{self.folder}/notify", **self.env})
+        self.started.append(self.process)
+        if wait:
+            self.wait_for("READY=1")
+        return self
+
+    def wait_for(self, word, seconds=30):
+        """Waits until systemd is told this, from now on."""
+        until = time.monotonic() + seconds
+        while time.monotonic() < until:
+            if select.select([self.systemd], [], [], 0.05)[0]:
+                self.notified += (text := self.systemd.recv(65536).decode()).split("\n")
+                if word in text:
+                    return
+            if self.process.poll() is not None:
+                raise Failed(f"the service ended with status {self.process.returncode}: {self.said()}")
+        raise Failed(f"systemd was not told {word}: {self.notified[-5:]} {self.said()}")
+
+    def said(self):
+        """The last messages."""
+        with open(self.errors, encoding="utf-8", errors="replace") as file:
+            return file.read()[-2000:]
+
+    def program(self):
+        """The process id of its program."""
+        pid = self.process.pid
+        try:
+            with open(f"/proc/{pid}/task/{pid}/children", encoding="ascii") as file:
+                return next(map(int, file.read().split()), None)
+        except FileNotFoundError:
+            return None
+
+    def kill(self, number=signal.SIGKILL):
+        """Kills the service."""
+        self.process.send_signal(number)
+        self.process.wait()
+
+    def kill_program(self, number=signal.SIGKILL):
+        """Kills its program, if it runs."""
+        if pid := self.program():
+            with contextlib.suppress(ProcessLookupError):
+                os.kill(pid, number)
+
+    def stop(self):
+        """Ends it, and returns its status."""
+        if self.process is None:
+            return 0
+        if self.process.poll() is None:
+            self.process.terminate()
+        try:
+            return self.process.wait(20)
+        except subprocess.TimeoutExpired:
+            self.process.kill()
+            raise Failed(f"the service doesn't end: {self.said()}") from None
+
+    def ask(self, text, name="socket", timeout=20):
+        """What a connection gets that sends this and then ends its input."""
+        return asked(f"{self.log}.{name}", text, timeout)
+
+    def health(self):
+        """Its line."""
+        with connected(f"{self.log}.changes") as to:
+            to.sendall(b"health\n")
+            return b"".join(iter(lambda: to.recv(1 << 16), b"")).decode()
+
+    def wait_until_well(self, seconds=40):
+        """Waits until its health has no trouble."""
+        until, line = time.monotonic() + seconds, ""
+        while time.monotonic() < until:
+            with contextlib.suppress(OSError):
+                line = self.health()
+                if line.startswith("OK"):
+                    return
+            if self.process.poll() is not None:
+                raise Failed(f"the service ended with status {self.process.returncode}: {self.said()}")
+            time.sleep(0.05)
+        raise Failed(f"it stays in trouble: {line} {self.said()}")
+
+    def records(self):
+        """The records of the log, up to its padding."""
+        with open(self.log, encoding="latin-1", newline="") as file:
+            return [it for it in file.read().partition("\r")[0].split("\n") if it]
+
+
+def asked(name, text, timeout=20):
+    """What a connection gets that sends this and then ends its input."""
+    with connected(name, timeout) as to:
+        to.sendall(text.encode("latin-1"))
+        to.shutdown(socket.SHUT_WR)
+        return b"".join(iter(lambda: to.recv(1 << 16), b"")).decode("latin-1")
+
+
+def connected(name, timeout=20):
+    """A connection."""
+    found = socket.socket(socket.AF_UNIX)
+    found.settimeout(timeout)
+    try:
+        found.connect(name)
+    except OSError:
+        found.close()
+        raise
+    return found
+
+
+class Database:
+    """A server of PostgreSQL in a folder."""
+
+    bins = sorted(glob.glob("/usr/lib/postgresql/*/bin"))
+
+    def __init__(self, folder):
+        self.folder = folder
+        self.user = ["setpriv", "--reuid", "postgres", "--regid", "postgres", "--clear-groups"] if os.getuid() == 0 else []
+        os.makedirs(folder)
+        if self.user:
+            os.chmod(os.path.dirname(folder), 0o755)
+            shutil.chown(folder, "postgres")
+        self.url = f"postgresql://postgres@/postgres?host={folder}"
+        self.run("initdb", "-A", "trust", "-U", "postgres", "-D", f"{folder}/data", "--no-sync")
+        self.start()
+
+    def run(self, name, *words):
+        subprocess.run([*self.user, f"{self.bins[-1]}/{name}", *words], check=True, stdout=subprocess.DEVNULL, cwd=self.folder)
+
+    def start(self):
+        options = f"-c listen_addresses='' -c unix_socket_directories={self.folder} -c fsync=off"
+        self.run("pg_ctl", "-D", f"{self.folder}/data", "-w", "-o", options, "-l", f"{self.folder}/log", "start")
+
+    def stop(self):
+        self.run("pg_ctl", "-D", f"{self.folder}/data", "-m", "immediate", "stop")
+
+    def rows(self, query="select name, answer from published"):
+        """The rows of a query, as lines."""
+        import psycopg2
+        connection = psycopg2.connect(self.url)
+        with contextlib.closing(connection), connection.cursor() as cursor:
+            cursor.execute(query)
+            return [",".join(map(str, row)) for row in cursor]
+
+
+class Manager:
+    """A systemd of its own in namespaces, with the units as they are, their user, and what they run below /usr/local. It knows no
+    other units, and can write to nothing of this machine: all file systems are read-only, or its own."""
+
+    targets = ("sysinit", "basic", "sockets", "multi-user", "shutdown", "umount", "test")
+    script = """set -e
+        mount --make-rprivate /
+        mount -o remount,bind,ro /
+        mount -t proc proc /proc
+        mount -t tmpfs -o mode=755 tmpfs /run
+        mkdir /run/test /run/units
+        mount --bind "$1" /run/test
+        mount -o remount,bind,ro /run/test
+        for name in /tmp /var/tmp /var/lib; do mount -t tmpfs -o mode=1777 tmpfs $name; done
+        chmod 755 /var/lib
+        cp -r /run/test/units/* /run/units/
+        mount --bind /run/test/local /usr/local
+        for name in passwd group; do mount --bind /run/test/$name /etc/$name; done
+        if touch /etc/written 2> /dev/null; then exit 1; fi
+        exec env -i PATH=/usr/sbin:/usr/bin:/sbin:/bin container=other SYSTEMD_UNIT_PATH=/run/units /lib/systemd/systemd --system \\
+            --unit=test.target --log-target=null"""
+
+    def __init__(self, folder):
+        self.folder, self.init = folder, None
+        local = f"{folder}/local"
+        for name in ("tools", "python"):
+            shutil.copytree(f"{TOP}/{name}", f"{local}/share/olr-keep/{name}", ignore=shutil.ignore_patterns("__pycache__"))
+        os.makedirs(f"{local}/bin")
+        shutil.copy(SERVED, f"{local}/bin/olr-keep")
+        os.makedirs(f"{folder}/units/olr-keep.service.d")
+        for name in ("olr-keep.service", "olr-keep.socket"):
+            shutil.copy(f"{TOP}/packaging/{name}", f"{folder}/units/{name}")
+        for name in self.targets:
+            write(f"{folder}/units/{name}.target", "[Unit]\nDefaultDependencies=no\n")
+        write(f"{folder}/units/olr-keep.service.d/soon.conf", "[Service]\nWatchdogSec=2\nRestartSec=0.1\n")
+        for name, more in (("passwd", "olr-keep:x:61111:61111::/:/bin/false\n"), ("group", "olr-keep:x:61111:\nolr-keep-edit:x:61112:\n")):
+            with open(f"/etc/{name}", encoding="utf-8") as file:
+                write(f"{folder}/{name}", file.read() + more)
+        os.chmod(folder, 0o755)
+
+    def start(self):
+        """Starts it. Whether that is possible here."""
+        namespaces = ("--fork", "--pid", "--mount", "--ipc", "--uts", "--net", "--cgroup")
+        self.process = subprocess.Popen(["unshare", *namespaces, "bash", "-c", self.script, "bash", self.folder],
+                                        stdin=subprocess.DEVNULL, stdout=subprocess.DEVNULL, stderr=subprocess.DEVNULL)
+        until = time.monotonic() + 10
+        while time.monotonic() < until and self.process.poll() is None:
+            with contextlib.suppress(OSError, ValueError, IndexError):
+                pid = self.process.pid
+                with open(f"/proc/{pid}/task/{pid}/children", encoding="ascii") as file:
+                    self.init = int(file.read().split()[0])
+                if self.call("systemctl", "is-system-running").stdout.strip() in ("running", "degraded"):
+                    return True
+            time.sleep(0.1)
+        return False
+
+    def call(self, *words):
+        """Runs a command beside it."""
+        return subprocess.run(["nsenter", "-t", str(self.init), "-m", "-p", *words], capture_output=True, text=True, timeout=60,
+                              stdin=subprocess.DEVNULL)
+
+    def show(self, name):
+        """A property of the service."""
+        return self.call("systemctl", "show", "-P", name, "olr-keep.service").stdout.strip()
+
+    def wait(self, name, wanted):
+        """Waits until a property of the service is this."""
+        until, found = time.monotonic() + 15, None
+        while time.monotonic() < until:
+            if (found := self.show(name)) == wanted:
+                return
+            time.sleep(0.05)
+        raise Failed(f"{name} is {found}, and not {wanted}: {self.show('StatusText')}")
+
+    def path(self, name):
+        """A file of its, as it is named outside."""
+        return f"/proc/{self.init}/root{name}"
+
+    def end(self):
+        """Ends it, with all that it runs."""
+        with contextlib.suppress(ProcessLookupError, TypeError):
+            os.kill(self.init, signal.SIGKILL)
+        self.process.kill()
+        self.process.wait()
+
+
+def write(name, text):
+    """Writes a file."""
+    with open(name, "w", encoding="utf-8") as file:
+        file.write(text)
+
+
+class Sent(NamedTuple):
+    """Records that were sent together, and what their writer knows of them."""
+
+    texts: list
+    outcome: str
+
+
+class Writer(threading.Thread):
+    """Sends single records, several at once, and batches, until it is stopped. Each record has another text, and each batch a
+    node of its own for each change that could be missing."""
+
+    def __init__(self, served, number, lines):
+        super().__init__(daemon=True)
+        self.served, self.lines = served, lines
+        self.rnd, self.stopped, self.sent = random.Random(number), threading.Event(), []
+        self.count, self.names, self.wrong = number * 100_000, [], None
+
+    def run(self):
+        while not self.stopped.is_set():
+            try:
+                with connected(f"{self.served.log}.socket", 60) as to, to.makefile("r", encoding="latin-1", newline="\n") as replies:
+                    for _ in range(self.rnd.randrange(1, 30)):
+                        if self.stopped.is_set() or not self.step(to, replies):
+                            break
+            except (OSError, EOFError):
+                time.sleep(0.02)
+            except (ValueError, AttributeError) as error:
+                self.wrong = repr(error)
+                return
+
+    def change(self):
+        """A change that nobody sends twice."""
+        self.count += 1
+        kind = self.rnd.random()
+        if kind < 0.5:
+            return f"node,{self.count + 1_000_000_000},0,0"
+        line = self.rnd.choice(self.lines)
+        if kind < 0.8:
+            return f"set-line,{line},{self.count // 1_000_000 % 8},{self.count // 8_000_000 % 8},{self.count % 1_000_000 + 1}"
+        if kind < 0.9 or not self.names:
+            self.names.append(f"w{self.count}")
+            return f"path,{self.names[-1]},0,0,{line}"
+        return f"drop-path,{self.names.pop()}" if kind < 0.96 else f"drop-line,{self.count + 2_000_000_000}"
+
+    def step(self, to, replies):
+        """Sends something and reads what becomes of it. Whether the connection can still be used."""
+        kind = self.rnd.random()
+        if kind < 0.4:
+            return self.batch(to, replies)
+        texts = [self.change() for _ in range(1 if kind < 0.8 else 40)]
+        return self.singles(to, replies, texts)
+
+    def singles(self, to, replies, texts):
+        """Sends records that are not in a batch."""
+        done = 0
+        try:
+            to.sendall("".join(f"{it}\n" for it in texts).encode())
+            for it in texts:
+                reply = read_reply(replies)
+                if reply is None:
+                    break
+                self.sent.append(Sent([it], outcome_of(reply)))
+                done += 1
+        finally:
+            self.sent += [Sent([it], NOT_KNOWN) for it in texts[done:]]
+        return done == len(texts)
+
+    def batch(self, to, replies):
+        """Sends a batch; some writers end before its commit, or don't wait for the reply."""
+        texts, outcome = [self.change() for _ in range(self.rnd.randrange(1, 30))], NOT_KNOWN
+        way = self.rnd.random()
+        try:
+            if way < 0.1:
+                outcome = REJECTED
+                to.sendall("\n".join(["begin", *texts, "node,1"]).encode())
+                return False
+            to.sendall("".join(f"{it}\n" for it in ("begin", *texts, f"commit,{len(texts)}")).encode())
+            if way < 0.15:
+                return False
+            last = None
+            for _ in range(len(texts) + 2):
+                last = read_reply(replies)
+                if last is None:
+                    return False
+            outcome = outcome_of(last)
+        finally:
+            self.sent.append(Sent(texts, outcome))
+        return True
+
+
+def outcome_of(reply):
+    """What a reply says of a record or of a batch."""
+    if reply.word == "ok":
+        return ACCEPTED
+    if reply.number:
+        return REJECTED
+    return {"NotKnown": NOT_KNOWN, "NotServed": NOT_SERVED}[reply.rest.split(",")[0]]
+
+
+def check_records(sent, records):
+    """Whether a log has exactly what was accepted, batches as a whole."""
+    there = set(records)
+    for texts, outcome in sent:
+        found = [it in there for it in texts]
+        if outcome == ACCEPTED and not all(found):
+            raise Failed(f"accepted, and not in the log: {texts} {found}")
+        if outcome in (REJECTED, NOT_SERVED) and any(found):
+            raise Failed(f"{outcome}, and in the log: {texts} {found} {[it for it in records if it in texts]}")
+        if any(found) and not all(found):
+            raise Failed(f"a batch is there in part: {texts} {found}")
+
+
+def check_table(served, rows):
+    """Whether the table and the program say the same, and a run over the log does. `rows` returns the rows of the table."""
+    until = time.monotonic() + 20
+    while True:
+        report = served.ask("report\n").split("\n")[1:-1]
+        table = sorted(rows())
+        if table == sorted(report):
+            break
+        if time.monotonic() > until:
+            raise Failed(f"the table differs from report: {set(table) ^ set(report)}")
+        time.sleep(0.05)
+    again = run("".join(f"{it}\n" for it in [*served.records(), "report"])).output.split("\n")
+    if sorted(again[len(again) - len(report) - 1 : -1]) != table:
+        raise Failed("report differs from a run over the log")
+
+
+def sqlite_rows(name):
+    """The rows of a table in a file."""
+    with contextlib.closing(sqlite3.connect(name, timeout=20)) as file:
+        return [f"{path},{answer}" for path, answer in file.execute("select name, answer from published")]
+
+
+def history_is_right(name):
+    """Whether the history of a table leads to its rows, without a gap."""
+    with contextlib.closing(sqlite3.connect(name, timeout=20)) as file:
+        last = {}
+        for number, (position, path, answer) in enumerate(file.execute("select position, name, answer from history order by 1"), 1):
+            if position != number:
+                raise Failed(f"position {position} is the change {number}")
+            last[path] = answer
+        there = dict(file.execute("select name, answer from published"))
+    if {key: it for key, it in last.items() if it != "dropped"} != there:
+        raise Failed("the history doesn't lead to the table")
+
+
+def lines_of(records):
+    """The numbers of the lines of a map."""
+    return [int(it) for it in re.findall(r"^line,(\d+),", records, re.M)]

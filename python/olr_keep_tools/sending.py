@@ -1,0 +1,263 @@
+"""Sends records as whole batches, to the service or to a program, and prints what they answer.
+
+    send(Service("/run/olr-keep/records", 600), steps(read_records("edits.csv")))
+"""
+import contextlib
+import re
+import socket
+from typing import List, NamedTuple, Optional, Tuple, Union
+
+from .command import INTERRUPTED, STREAM, Failure
+from .program import Program, ProgramFailed
+from .records import ENDS, QUESTIONS, word_of
+from .rejected import advice, shown
+from .replies import NoReply, Reply, is_one_record, read_reply
+
+MOST_HELD = 100_000
+AT_ONCE = 500  # records that are sent before their replies are read
+OF_SERVICE = 0  # the number of the faults of the service itself
+CAUSE = re.compile(r"fault,16,CountDiffers,([0-9]+),([0-9]+),(.*)")
+REJECTED, NO_REPLY = 1, 4
+
+
+class Record(NamedTuple):
+    """A record, with its line in the input; 0 for one that was added."""
+
+    line: int
+    text: str
+
+    @property
+    def word(self) -> str:
+        """Its command word."""
+        return word_of(self.text)
+
+
+Step = List[Record]
+
+
+def encoded(records: List[Record]) -> bytes:
+    """Records as they are sent."""
+    return "".join(f"{it.text}\n" for it in records).encode("utf-8", "surrogateescape")
+
+
+# ---- what is sent
+
+
+def read_records(name: Optional[str]) -> List[Record]:
+    """The records of a file, or of the input."""
+    try:
+        with open(name or 0, "rb", closefd=bool(name)) as file:
+            lines = [it.rstrip(b"\r\n") for it in file]
+    except OSError as error:
+        raise Failure(STREAM, f"{name or 'the input'}: {error.strerror}") from None
+    for number, line in enumerate(lines, 1):
+        if line and not is_one_record(line):
+            raise Failure(STREAM, f"line {number} is not one record: {shown(line[:80].decode(errors='replace'))}")
+    return [Record(number, line.decode("utf-8", "surrogateescape")) for number, line in enumerate(lines, 1) if line]
+
+
+def steps(records: List[Record]) -> List[Step]:
+    """The records in steps: each a batch with its `begin` and `commit`, or one record."""
+    if any(it.word == "begin" for it in records):
+        return as_they_stand(records)
+    changes = [k for k, it in enumerate(records) if it.word not in QUESTIONS]
+    if not changes:
+        return [[it] for it in records]
+    first, last = changes[0], changes[-1] + 1
+    for it in records[first:last]:
+        if it.word in QUESTIONS:
+            raise Failure(STREAM, f"line {it.line}: {it.text[:80]} is between changes: put begin and commit around those before it")
+        if it.word in ENDS:
+            raise Failure(STREAM, f"line {it.line}: {it.text[:80]} without begin")
+    if len(changes) > MOST_HELD:
+        many = f"{len(changes)} changes, and a batch holds {MOST_HELD} at most"
+        raise Failure(STREAM, f"{many}: put begin and commit around each part")
+    batch = [Record(0, "begin"), *records[first:last], Record(0, f"commit,{len(changes)}")]
+    return [*([it] for it in records[:first]), batch, *([it] for it in records[last:])]
+
+
+def as_they_stand(records: List[Record]) -> List[Step]:
+    """The steps of records that have their own batches."""
+    found: List[Step] = []
+    batch: Step = []
+    for it in records:
+        if it.word == "begin":
+            if batch:
+                raise Failure(STREAM, f"line {it.line}: begin in the batch of line {batch[0].line}")
+            batch = [it]
+        elif it.word in ENDS:
+            if not batch:
+                raise Failure(STREAM, f"line {it.line}: {it.text[:80]} without begin")
+            count = sum(other.word not in QUESTIONS for other in batch[1:])
+            if it.word == "commit" and (it.text != f"commit,{count}" or count > MOST_HELD):
+                raise Failure(STREAM, f"line {it.line}: {it.text[:80]}, and the batch of line {batch[0].line} has {count} changes")
+            found.append([*batch, it])
+            batch = []
+        elif batch:
+            batch.append(it)
+        else:
+            found.append([it])
+    if batch:
+        raise Failure(STREAM, f"line {batch[0].line}: the batch that begins here has no commit")
+    return found
+
+
+# ---- to whom
+
+
+class Service:
+    """A connection to the service."""
+
+    def __init__(self, name: str, timeout: float):
+        self.name, self.timeout = name, timeout
+        self.socket = socket.socket(socket.AF_UNIX)
+        self.socket.settimeout(timeout)
+        try:
+            self.socket.connect(name)
+        except OSError as error:
+            why = "nobody serves it: start olr-keep-serve" if isinstance(error, ConnectionRefusedError) else error.strerror
+            raise Failure(STREAM, f"{name}: {why}") from None
+        self.lines = self.socket.makefile("r", encoding="utf-8", errors="surrogateescape", newline="\n")
+
+    def send(self, text: bytes) -> None:
+        """Sends records. If the service has ended, its last replies are still read."""
+        try:
+            self.socket.sendall(text)
+        except socket.timeout:
+            raise ProgramFailed(f"{self.name} was not read within {self.timeout:g} seconds") from None
+        except ConnectionError:
+            pass
+
+    def reply(self) -> Reply:
+        """The next reply."""
+        try:
+            found = read_reply(self.lines)
+        except socket.timeout:
+            raise ProgramFailed(f"no reply within {self.timeout:g} seconds") from None
+        except (ConnectionError, EOFError):
+            found = None
+        except NoReply as why:
+            raise ProgramFailed(f"{self.name}: {why}") from None
+        if found is None:
+            raise ProgramFailed("the service has ended")
+        return found
+
+
+Target = Union[Service, Program]
+
+
+# ---- sending
+
+
+class Sender:
+    """Sends steps one after the other, and prints what they answer."""
+
+    def __init__(self, target: "Target"):
+        self.target, self.is_open, self.done = target, False, 0
+        self.step: Step = []
+
+    def send_all(self, all_steps: List[Step]) -> None:
+        """Sends all steps."""
+        for self.step in all_steps:
+            self.send(self.step)
+            self.done += 1
+
+    def send(self, step: Step) -> None:
+        """Sends a batch, or one record. If a record is rejected, the batch is aborted."""
+        if len(step) == 1:
+            self.ask(step)
+            return
+        begin, *changes, last = step
+        self.is_open = True
+        self.answer(begin)
+        for first in range(0, len(changes), AT_ONCE):
+            self.ask(changes[first : first + AT_ONCE])
+        self.ask([last])
+        self.is_open = False
+
+    def answer(self, record: Record) -> Reply:
+        """The reply to one record."""
+        self.target.send(encoded([record]))
+        return self.target.reply()
+
+    def ask(self, records: List[Record]) -> None:
+        """Sends records, reads all their replies, and prints those of questions and of what takes effect."""
+        self.target.send(encoded(records))
+        rejected = []
+        for it in records:
+            reply = self.target.reply()
+            if not reply.accepted:
+                rejected.append(self.cause_of(it, reply))
+            elif it.word in QUESTIONS or it is self.step[-1]:
+                print(reply.text(), end="", flush=True)
+        if rejected:
+            self.stop(*rejected[0])
+
+    def cause_of(self, record: Record, reply: Reply) -> Tuple[Record, Reply]:
+        """The record that was rejected, and its fault. The service gives both with the reply to a `commit`, which ends the batch."""
+        cause = CAUSE.fullmatch(reply.head)
+        if cause:
+            self.is_open = False
+            changes = [it for it in self.step[1:-1] if it.word not in QUESTIONS]
+            return changes[int(cause[1]) - 1], Reply("fault", int(cause[2]), cause[3], [])
+        word, _, text = reply.rest.partition(",")
+        if reply.number == OF_SERVICE and word == "NotKnown":
+            raise ProgramFailed(f"the program ended: {text}")
+        if reply.number == OF_SERVICE and word == "NotServed":
+            raise Failure(NO_REPLY, f"{text}; {self.before()}")
+        return record, reply
+
+    def stop(self, record: Record, reply: Reply) -> None:
+        """Aborts the batch of a rejected record, and ends."""
+        where = f"line {record.line}: " if record.line else ""
+        text = where + advice(record.text, reply.head)
+        if self.is_open:
+            self.abort()
+        if len(self.step) > 1:
+            text += "; its batch is aborted"
+        raise Failure(REJECTED, f"{text}; {self.before()}")
+
+    def before(self) -> str:
+        """What took effect before."""
+        if not self.done:
+            return "nothing took effect"
+        what = "the batch or record" if self.done == 1 else f"{self.done} batches and records"
+        return f"{what} before it took effect"
+
+    def abort(self) -> None:
+        """Aborts the open batch."""
+        self.is_open = False
+        self.answer(Record(0, "abort"))
+
+    def unknown(self) -> str:
+        """What is not known if there was no reply."""
+        lines = [it.line for it in self.step if it.line]
+        if all(it.word in QUESTIONS for it in self.step):
+            return "nothing was sent that changes anything"
+        text = f"whether lines {lines[0]} to {lines[-1]} took effect is not known"
+        return f"{text}; {self.before()}" if self.done else text
+
+    def interrupted(self) -> bool:
+        """Aborts the open batch, as far as that is possible. Whether one was open."""
+        was_open, self.is_open = self.is_open, False
+        if was_open:
+            with contextlib.suppress(Failure, OSError):
+                self.target.send(b"abort\n")
+        return was_open
+
+
+def send(target: Target, all_steps: List[Step]) -> None:
+    """Sends all steps."""
+    sender = Sender(target)
+    try:
+        sender.send_all(all_steps)
+        if isinstance(target, Program) and (status := target.close()) not in (0, REJECTED):
+            raise ProgramFailed(f"{target.name} ended with status {status}")
+    except ProgramFailed as error:
+        sender.interrupted()
+        raise Failure(NO_REPLY, f"{error}: {sender.unknown()}") from None
+    except (Failure, OSError):
+        sender.interrupted()
+        raise
+    except KeyboardInterrupt:
+        raise Failure(INTERRUPTED, "interrupted" + (": the open batch is aborted" if sender.interrupted() else "")) from None

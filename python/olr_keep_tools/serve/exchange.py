@@ -1,0 +1,167 @@
+"""Passes the jobs of all connections to the program in turns, and the replies back."""
+import collections
+import time
+from typing import Callable, Deque, List, Protocol
+
+from olr_keep_tools.serve.framing import NoReply, Replies
+from olr_keep_tools.serve.jobs import Change, Job, Kind, Owner
+from olr_keep_tools.serve.program import Program
+
+LEAST_WINDOW, MOST_WINDOW = 32, 65536  # records whose replies are awaited
+SOON, LATE = 0.03, 0.1  # seconds for a reply, after which more or fewer records are passed at once
+MOST_BYTES = 1 << 20
+
+
+class Source(Owner, Protocol):
+    """Who has jobs for the program."""
+
+    unsent: Deque[Job]
+    is_slow: bool  # it doesn't read its replies
+
+    def sent(self, size: int) -> None:
+        """So many bytes of its jobs were passed to the program."""
+
+
+class Counts:
+    """What was carried out since the service was started, and how long it took."""
+
+    def __init__(self) -> None:
+        self.records = self.rejected = self.changed = self.not_known = 0
+        self.last_seconds = self.longest_seconds = 0.0
+
+    def add(self, job: Job, since: float, now: float) -> None:
+        """Adds a job that has all its replies."""
+        self.records += max(1, job.count - 3) if job.kind is Kind.BATCH else job.count
+        self.rejected += job.rejected
+        self.changed += len(job.changes)
+        if job.kind is not Kind.QUESTION:
+            self.last_seconds = (now - since) / (1 if job.kind is Kind.BATCH else job.count)
+            self.longest_seconds = max(self.longest_seconds, self.last_seconds)
+
+
+class Exchange:
+    """Jobs that wait, jobs that were sent, and the window: how many records are sent before their replies have arrived, so that a
+    connection that sends many holds up no other one for long."""
+
+    def __init__(self, publish: Callable[[List[Change], str], None], may_send: Callable[[], bool]) -> None:
+        self.publish, self.may_send = publish, may_send
+        self.turns: Deque[Source] = collections.deque()
+        self.sent: Deque[Job] = collections.deque()
+        self.counts, self.replies = Counts(), Replies()
+        self.program: "Program | None" = None
+        self.awaited = self.awaited_bytes = 0
+        self.window, self.narrowed_at, self.last_progress, self.last_end = 1024, 0.0, 0.0, 0.0
+
+    def connect(self, program: Program) -> None:
+        """Takes a program that was started: nothing was sent to it yet."""
+        self.program, self.replies, self.last_progress = program, Replies(), time.monotonic()
+
+    def offer(self, source: Source) -> None:
+        """A connection has a job, which waits for its turn."""
+        if source not in self.turns:
+            self.turns.append(source)
+        self.dispatch()
+
+    def dispatch(self) -> None:
+        """Sends jobs, as many as the window has room for."""
+        texts: List[bytes] = []
+        now = time.monotonic()
+        turns = len(self.turns)
+        while turns and self.program and self._has_room() and self.may_send():
+            source = self.turns.popleft()
+            turns -= 1
+            if not source.unsent:
+                continue
+            if source.is_slow:
+                self.turns.append(source)
+                continue
+            texts.append(self._send_one(source, now))
+            if source.unsent:
+                self.turns.append(source)
+                turns += 1
+        if texts and self.program:
+            self.program.write(b"".join(texts))
+
+    def _has_room(self) -> bool:
+        return self.awaited < self.window and self.awaited_bytes < MOST_BYTES
+
+    def _send_one(self, source: Source, now: float) -> bytes:
+        """Moves the first job of a source, or as much of it as there is room for, to those that were sent."""
+        job, room = source.unsent[0], self.window - self.awaited
+        if job.kind is Kind.CHANGES and job.count > room:
+            job = job.split(room)
+        else:
+            source.unsent.popleft()
+        if not self.sent:
+            self.last_progress = self.last_end = now
+        job.sent_at = now
+        self.sent.append(job)
+        self.awaited += job.count
+        self.awaited_bytes += len(job.text)
+        source.sent(len(job.text))
+        return job.text
+
+    def take_output(self, data: bytes) -> None:
+        """Divides output into replies and passes them on. Raises NoReply if it is none."""
+        self.last_progress = now = time.monotonic()
+        self.replies.feed(data)
+        while self.sent:
+            job = self.sent[0]
+            span = self.replies.take(job.next_most())
+            if span is None:
+                break
+            text = job.take(span)
+            if text:
+                job.owner.reply(text)
+            if job.done == job.count:
+                self.sent.popleft()
+                self._finish(job, now)
+        else:
+            if len(self.replies.buffer) > self.replies.at:
+                raise NoReply("a reply to nothing")
+        self.dispatch()
+
+    def _finish(self, job: Job, now: float) -> None:
+        """A job has all its replies."""
+        self.awaited -= job.count
+        self.awaited_bytes -= len(job.text)
+        self.counts.add(job, max(job.sent_at, self.last_end), now)
+        self.last_end = now
+        self._set_window(job, now)
+        if job.changes:
+            self.publish(job.changes, job.owner.user)
+        job.owner.finish(job)
+
+    def _set_window(self, job: Job, now: float) -> None:
+        """Fits the window to the time that the replies take."""
+        age = now - job.sent_at
+        if age > LATE and job.sent_at >= self.narrowed_at:
+            self.window, self.narrowed_at = max(LEAST_WINDOW, self.window // 2), now
+        elif age < SOON:
+            self.window = min(MOST_WINDOW, self.window + job.count)
+
+    def disconnect(self) -> None:
+        """The program has ended: of the jobs that were sent nothing more is known."""
+        lost, self.sent = self.sent, collections.deque()
+        self.program, self.awaited, self.awaited_bytes = None, 0, 0
+        for job in lost:
+            text = job.not_known()
+            self.counts.not_known += text.count(b"\n")
+            if text:
+                job.owner.reply(text)
+            job.owner.finish(job)
+
+    def waits_since(self) -> "float | None":
+        """Since when the program has been silent although replies are awaited."""
+        return self.last_progress if self.sent else None
+
+    def drop_unsent(self, why: str) -> None:
+        """Answers what waits to be sent, when nothing else is awaited: it isn't carried out."""
+        assert not self.sent
+        turns, self.turns = self.turns, collections.deque()
+        for source in turns:
+            while source.unsent:
+                job = source.unsent.popleft()
+                source.sent(len(job.text))
+                job.owner.reply(job.not_served(why))
+                job.owner.finish(job)

@@ -1,0 +1,140 @@
+"""The command olr-keep-serve."""
+import argparse
+import asyncio
+import os
+import re
+import shutil
+import subprocess
+from typing import List
+
+from olr_keep_tools.command import STREAM, USAGE, Failure, command_line, say
+from olr_keep_tools.program import program_name
+from olr_keep_tools.serve.logfile import MOST_FEWER, look
+from olr_keep_tools.serve.notify import Systemd, passed_sockets
+from olr_keep_tools.serve.service import Service, Settings
+from olr_keep_tools.serve.sockets import listening
+from olr_keep_tools.serve.table import is_url
+
+NOT_SERVED = 5
+
+
+def mode(text: str) -> int:
+    """An argument that is the mode of a socket."""
+    if not re.fullmatch("0?[0-7]{3}", text):
+        raise argparse.ArgumentTypeError(f"{text!r} is no mode such as 0660")
+    return int(text, 8)
+
+
+def number(text: str) -> int:
+    """An argument that is a number from 1."""
+    if not re.fullmatch("[0-9]{1,12}", text) or not int(text):
+        raise argparse.ArgumentTypeError(f"{text!r} is no number from 1")
+    return int(text)
+
+
+def amount(text: str) -> float:
+    """An argument that is a number, perhaps with a fraction."""
+    if not re.fullmatch(r"[0-9]{1,9}(\.[0-9]{1,9})?", text):
+        raise argparse.ArgumentTypeError(f"{text!r} is no number")
+    return float(text)
+
+
+def arguments(about: str) -> argparse.Namespace:
+    """The command-line arguments."""
+    parser = command_line(about)
+    add = parser.add_argument
+    add("--check", action="store_true", help="look at LOG, print what speaks against serving it, and end")
+    add("--accept", action="store_true", help="serve LOG whatever speaks against it")
+    add("--new", action="store_true", help="make LOG from the records of --map, and end; LOG must not exist")
+    add("--map", metavar="FILE", help="the records of a new log")
+    add("--most-fewer", type=amount, default=MOST_FEWER, metavar="PERCENT",
+        help="of the records or paths that may be missing beside the last time (1)")
+    add("--socket", metavar="SOCKET", help="where writers connect (LOG.socket)")
+    add("--mode", type=mode, default=0o660, metavar="MODE", help="of SOCKET (0660)")
+    add("--group", default="", metavar="GROUP", help="of SOCKET")
+    add("--changes", metavar="SOCKET", help="where readers connect (LOG.changes)")
+    add("--changes-mode", type=mode, default=0o660, metavar="MODE", help="of the readers' socket (0660)")
+    add("--changes-group", default="", metavar="GROUP", help="of the readers' socket")
+    add("--table", metavar="TABLE", help="an SQLite file or postgresql://.. (LOG.published.sqlite)")
+    add("--notify", nargs="?", const="published", default="", metavar="CHANNEL",
+        help="let PostgreSQL notify this channel (published) of each position")
+    add("--history", type=number, default=0, metavar="N", help="changes that stay in the history (all)")
+    add("--compact-at", default="", metavar="SIZE", help="the program's option")
+    add("--deadline", type=amount, metavar="SECONDS", help="for a reply, before the program is ended (60, and 20 for each MB of LOG)")
+    add("--most-connections", type=number, default=100, metavar="N", help="of writers, and of readers (100)")
+    add("--most-waiting", type=number, default=256, metavar="MB", help="of open batches, and of replies that a writer doesn't read (256)")
+    add("--metrics", default="", metavar="FILE", help="write metrics for Prometheus to this file")
+    add("log", metavar="LOG", help="the log")
+    add("program", nargs="*", metavar="PROGRAM", help="the program (the one beside the tools, or olr-keep)")
+    chosen: argparse.Namespace = parser.parse_args()
+    if chosen.new != bool(chosen.map):
+        parser.error("--new and --map belong together")
+    if chosen.notify and not is_url(chosen.table or ""):
+        parser.error("--notify needs --table postgresql://..")
+    return chosen
+
+
+def check(log: str, most_fewer: float) -> List[str]:
+    """What speaks against serving a log."""
+    if not os.path.exists(log):
+        raise Failure(USAGE, f"{log} is missing: is its disk mounted? --new --map FILE makes one")
+    return [it.text for it in look(log, most_fewer)]
+
+
+def make(log: str, name: str, program: List[str]) -> None:
+    """Makes a log from a file of records. Nothing is left if that fails."""
+    if os.path.lexists(log):
+        raise Failure(USAGE, f"{log} is there, and stays as it is")
+    for why in check(name, 100.0):
+        raise Failure(NOT_SERVED, f"{name}: {why}")
+    beside = f"{log}.making"
+    try:
+        shutil.copyfile(name, beside)
+        ended = subprocess.run([*program, "-l", beside], stdin=subprocess.DEVNULL, capture_output=True, text=True, check=False)
+        said = ended.stderr.strip().replace(beside, name).replace("olr-keep: ", "")
+        if ended.returncode:
+            raise Failure(NOT_SERVED if ended.returncode == NOT_SERVED else STREAM, f"{said or 'the program failed'}")
+        os.link(beside, log)
+        say(f"{log} is made: {said.splitlines()[-1] if said else ''}")
+    except FileExistsError:
+        raise Failure(USAGE, f"{log} is there, and stays as it is") from None
+    except OSError as error:
+        raise Failure(STREAM, f"{error.filename}: {error.strerror}") from None
+    finally:
+        for left in (beside, f"{beside}.lock"):
+            if os.path.lexists(left):
+                os.unlink(left)
+
+
+def settings_of(chosen: argparse.Namespace, program: List[str]) -> Settings:
+    """How the service runs, with its sockets open."""
+    passed = passed_sockets(os.environ)
+    records = passed.get("records") or listening(chosen.socket or f"{chosen.log}.socket", chosen.mode, chosen.group)
+    changes = passed.get("changes") or listening(chosen.changes or f"{chosen.log}.changes", chosen.changes_mode, chosen.changes_group)
+    command = [*program, "-l", chosen.log, "--lines", *(["--compact-at", chosen.compact_at] if chosen.compact_at else [])]
+    table = chosen.table or f"{chosen.log}.published.sqlite"
+    return Settings(chosen.log, command, table, chosen.notify, chosen.history, chosen.deadline, chosen.most_connections,
+                    chosen.most_waiting << 20, chosen.metrics, records, changes)
+
+
+async def serve(settings: Settings, systemd: Systemd) -> int:
+    """Serves in this loop."""
+    return await Service(settings, systemd).run()
+
+
+def main(about: str) -> int:
+    """Checks, makes or serves a log, and returns the exit status."""
+    chosen = arguments(about)
+    program = chosen.program or [program_name()]
+    if chosen.new:
+        make(chosen.log, chosen.map, program)
+        return 0
+    found = check(chosen.log, chosen.most_fewer)
+    for why in found:
+        say(why)
+    if chosen.check:
+        print(f"{chosen.log}: {'to be looked at' if found else 'nothing speaks against serving it'}")
+        return NOT_SERVED if found else 0
+    if found and not chosen.accept:
+        raise Failure(NOT_SERVED, f"{chosen.log} is not served: look at it, and serve it with --accept if it is right")
+    return asyncio.run(serve(settings_of(chosen, program), Systemd(os.environ)))

@@ -1,0 +1,176 @@
+"""Tests of osm.py, osmrecords.py, mapedits.py, mapchecks.py and refound.py."""
+import array
+import os
+import tempfile
+import unittest
+from typing import Dict, List, Tuple
+
+from olr_keep_tools.geo import METRES
+from olr_keep_tools.mapchecks import decoding_error, findings
+from olr_keep_tools.mapedits import Limits, Lines, MapRefused, edits
+from olr_keep_tools.osm import Extract, LeftOut, OsmError, Places, Road, Way, read_osm
+from olr_keep_tools.osmrecords import Numbers, driven, measure_of, number_lines, parts_of, records, splits
+from olr_keep_tools.receiver import RoadMap, bearing, project, shape_length
+from olr_keep_tools.records import State
+from olr_keep_tools.refound import Location, Shake, cut_out, farthest, shaken
+
+
+def roads_of(*lines: str) -> RoadMap:
+    """The road map of a dump."""
+    state = State()
+    state.read_dump(lines)
+    return RoadMap.of_state(state)
+
+
+ROADS = roads_of(
+    "node,1,6,49", "node,2,6.001,49", "node,3,6.001,49.001", "node,9,7,50",
+    "line,1,1,2,3,3,729", "line,2,1,2,3,3,730", "line,3,2,3,3,3,1112,500,6.0012,49.0005")
+
+
+class Tags(unittest.TestCase):
+    """What the tags of a way say of cars."""
+
+    def road(self, **tags: str) -> object:
+        """The road of these tags, or why there is none."""
+        try:
+            return Extract(with_ferries=False).road_of(tags)
+        except LeftOut as why:
+            return str(why)
+
+    def test_roads(self) -> None:
+        both, along = Road(6, 3, True, True), Road(6, 3, True, False)
+        tags: Dict[str, str] = {"highway": "residential"}
+        self.assertEqual([self.road(), self.road(**tags), self.road(**tags, oneway="yes")], [None, both, along])
+        self.assertEqual(self.road(**tags, access="private", motorcar="yes"), both)
+        self.assertEqual(self.road(**tags, access="no"), "access=no")
+        self.assertEqual(self.road(**tags, **{"vehicle:backward": "no"}), along)
+        self.assertEqual(self.road(**tags, oneway="reversible"), "oneway=reversible")
+        self.assertEqual(self.road(highway="trunk_link"), Road(1, 6, True, True))
+        self.assertEqual(self.road(highway="motorway"), Road(0, 1, True, False))
+        self.assertEqual(self.road(highway="primary", junction="roundabout"), Road(2, 4, True, False))
+        self.assertEqual([self.road(highway="footway"), self.road(route="ferry")], ["highway=footway", "route=ferry"])
+
+    def test_xml(self) -> None:
+        text = ('<osm><node id="5" lon="6" lat="49"/><node id="3" lon="6.1" lat="49"/><node id="5" lon="6.2" lat="49"/>'
+                '<way id="1"><nd ref="3"/><nd ref="5"/><nd ref="7"/><tag k="highway" v="service"/></way></osm>')
+        with tempfile.TemporaryDirectory() as folder:
+            name = os.path.join(folder, "map.osm")
+            with open(name, "w", encoding="utf-8") as file:
+                file.write(text)
+            extract = read_osm(name, with_ferries=False)
+            way, = extract.ways
+            self.assertEqual((list(way.nodes), extract.places.degrees(1), way.road.frc), ([0, 1, -1], (6.2, 49.0), 7))
+            for wrong in ("<osm/>", "<html/>", text[:-6], text.replace('ref="3"', "")):
+                with open(name, "w", encoding="utf-8") as file:
+                    file.write(wrong)
+                with self.assertRaises(OsmError, msg=wrong):
+                    read_osm(name, with_ferries=False)
+
+
+class Ways(unittest.TestCase):
+    """The lines of ways, and their numbers."""
+
+    def places(self, *lons: int) -> Places:
+        """Nodes 1, 2, .. at these longitudes, on the equator, in 10^-5 degree."""
+        places = Places()
+        for number, lon in enumerate(lons, 1):
+            places.put(number, lon / 100_000, 0.0)
+        return places
+
+    def test_parts(self) -> None:
+        places, both = self.places(0, 100, 200, 300, 50_000), Road(6, 3, True, True)
+        extract = Extract(with_ferries=False)
+        extract.places = places
+        extract.ways = [Way(7, array.array("i", [0, 1, 2, 3]), both), Way(8, array.array("i", [2, 4]), both)]
+        parts = parts_of(extract, measure_of(places, is_spheroid=False))
+        nodes = [[places.key(node) for node in it.nodes] for it in parts[:2]]
+        self.assertEqual(nodes, [["1", "2", "3"], ["3", "4"]])
+        self.assertEqual((parts[2].nodes[-1], len(parts)), (5, 6))
+        keys = list(driven(parts[:2], places))
+        self.assertEqual(keys, ["7:1:3:+:1", "7:3:1:-:1", "7:3:4:+:1", "7:4:3:-:1"])
+        numbers = Numbers("line")
+        self.assertEqual(list(number_lines(keys, numbers)), [1, 2, 3, 4])
+        rows = list(records(parts[:2], places, Numbers("node"), number_lines(keys, Numbers("line"))))
+        self.assertEqual(rows[3:5], ["line,1,1,2,6,3,2224,1112,0.001,0\n", "line,2,2,1,6,3,2224,1112,0.001,0\n"])
+
+    def test_numbers_stay(self) -> None:
+        before = Numbers("line")
+        for number, key in enumerate(("7:1:3:+:1", "9:5:6:+:1"), 1):
+            before.put(key, number)
+        keys, reported = ["7:1:2:+:1", "7:2:3:+:1", "4:5:6:+:1"], Numbers("split")
+        found = number_lines(keys, before)
+        self.assertEqual(list(found), [3, 4, 2])
+        self.assertEqual(list(splits(keys, found, before, reported)), ["line 1 of way 7 was split at node 2"])
+        self.assertEqual(list(reported.rows()), ["split 7:1:3:+:1 1\n"])
+
+
+class Findings(unittest.TestCase):
+    """What makes strings ambiguous."""
+
+    def test_kinds(self) -> None:
+        found = {it.kind: it for it in findings(ROADS)}
+        self.assertEqual(sorted(found), ["lone-node", "one-way-dead-end", "twin-lines"])
+        self.assertEqual(found["twin-lines"].lines, (1, 2))
+        self.assertLess(decoding_error(0), decoding_error(1))
+
+    def test_near(self) -> None:
+        near = roads_of("node,1,6,49", "node,2,6.00001,49", "line,1,1,2,3,3,7", "line,2,2,1,3,3,7")
+        kinds = {it.kind for it in findings(near)}
+        self.assertEqual(kinds, {"near-nodes", "short-line"})
+
+
+class Edits(unittest.TestCase):
+    """The edits between two maps."""
+
+    OLD = ("node,1,6,49", "node,2,6.002,49", "node,3,6.002,49.001", "line,1,1,2,3,3,1458", "line,2,2,3,3,3,1112",
+           "path,a,5,0,1,2", "path,b,0,0,2")
+
+    def edits(self, *new: str, dropped: float = 1.0) -> Tuple[List[str], Dict[str, Lines]]:
+        """The edits to a new map, and the paths without lines there."""
+        lost: Dict[str, Lines] = {}
+        old, after = State(), State()
+        old.read_dump(self.OLD)
+        after.read_dump(new)
+        return list(edits(old, after, Limits(5.0, 0.001, dropped), lost)), lost
+
+    def test_split(self) -> None:
+        halves = ["line,5,1,7,3,3,729", "line,6,7,2,3,3,729"]
+        new = (*self.OLD[:3], "node,7,6.001,49", *halves, "line,2,2,3,4,3,1112")
+        wanted = ["drop-line,1", "node,7,6.001,49", "set-line,2,4,3,1112", *halves, "repath,a,5,0,5,6,2"]
+        found, lost = self.edits(*new)
+        self.assertEqual((sorted(found), found[0], found[-1], lost), (sorted(wanted), wanted[0], wanted[-1], {}))
+
+    def test_lost(self) -> None:
+        found, lost = self.edits("node,1,6,49.5", "node,2,6.002,49", "node,3,6.002,49.001", "line,2,2,3,3,3,1112")
+        self.assertEqual((found, lost), (["drop-line,1", "move,1,6,49.5"], {"a": (1,)}))
+        self.assertEqual(self.edits(*self.OLD), ([], {}))
+
+    def test_refused(self) -> None:
+        for new in (("node,1,6,49",), ("node,2,6.002,49", "node,3,6.002,49.001", "line,2,2,3,3,3,1112")):
+            with self.assertRaises(MapRefused):
+                self.edits(*new, dropped=0.05)
+
+
+class Shapes(unittest.TestCase):
+    """Lines, and maps that differ."""
+
+    def test_lines(self) -> None:
+        road = ROADS.lines[3]
+        self.assertAlmostEqual(bearing(ROADS.lines[1], 0.0, False), 90)
+        self.assertAlmostEqual(project(ROADS.lines[1], 6.0005, 49.0001)[0], 0.0001 * METRES, 3)
+        self.assertGreater(shape_length(road.points), 111)
+        self.assertEqual([it for it, _, _ in ROADS.lines_near(6.0, 49.0, 30.0)], [1, 2])
+        self.assertEqual([it for it, _ in ROADS.nodes_near(6.0, 49.0, 100.0)], [1, 2])
+
+    def test_shaken(self) -> None:
+        there, parts = shaken(ROADS, Shake(3, 5.0, 100.0, 0.0, 0.0))
+        self.assertEqual([len(parts[it]) for it in (1, 2, 3)], [2, 2, 2])
+        shape = cut_out(ROADS, Location([1, 3], 10.0, 50.0))
+        other = cut_out(there, Location([*parts[1], *parts[3]], 10.0, 50.0))
+        self.assertLess(farthest(shape[:2], other), 20.0)
+        none, parts = shaken(ROADS, Shake(3, 5.0, 0.0, 100.0, 0.0))
+        self.assertEqual((parts, len(none.lines)), ({1: [], 2: [], 3: []}, 0))
+
+
+if __name__ == "__main__":
+    unittest.main()

@@ -1,0 +1,124 @@
+"""Tests of the parts of the service, without the program."""
+import random
+import sqlite3
+import tempfile
+import unittest
+from typing import List, Tuple
+
+from olr_keep_tools.serve.framing import NoReply, Replies
+from olr_keep_tools.serve.jobs import Change, Job, Kind, batch, dropped, question_about
+from olr_keep_tools.serve.lines import Input, Sort
+from olr_keep_tools.serve.table import Entry, Table, TableError
+
+
+class Owner:
+    """Who gets replies."""
+
+    user = "jane"
+
+    def reply(self, text: bytes) -> None:
+        """Nothing is noted."""
+
+    def finish(self, job: Job) -> None:
+        """Nothing is noted."""
+
+
+class Framing(unittest.TestCase):
+    def test_any_division(self) -> None:
+        """However the bytes arrive, and however many are taken at once, the replies are the same."""
+        rnd = random.Random(1)
+        texts = [rnd.choice([b"ok,0\n", b"held,7\n", b"fault,0,Word,text\n", b"ok,1\na,text,AAAA\n", b"ok,3\nok,0\nfault,1\nok,7\n"])
+                 for _ in range(500)]
+        for _ in range(50):
+            replies, data, count = Replies(), b"".join(texts), 0
+            found: List[bytes] = []
+            while data:
+                size = rnd.randrange(1, 400)
+                replies.feed(data[:size])
+                data = data[size:]
+                while span := replies.take(rnd.choice([1, 2, 1000])):
+                    found.append(span.text)
+                    count += span.count
+            self.assertEqual(b"".join(found), b"".join(texts))
+            self.assertEqual(count, len(texts))
+
+    def test_no_reply(self) -> None:
+        replies = Replies()
+        replies.feed(b"node,1,6,49\n")
+        self.assertRaises(NoReply, replies.take, 1)
+
+
+class Lines(unittest.TestCase):
+    def sorts(self, text: bytes, size: int = 1 << 16) -> List[Tuple[Sort, int]]:
+        source = Input()
+        return [(it.sort, it.count) for at in range(0, len(text), size) for it in source.feed(text[at : at + size])]
+
+    def test_sorts(self) -> None:
+        text = b"node,1,0,0\nline,1\n\r\ndrop-path,a\nbegin\n\"node\",2,0,0\ncommit,1\ncommit,x\nabort\nbegin,1\nshow,a\nnodes,1\n"
+        wanted = [(Sort.CHANGES, 2), (Sort.DROP_PATH, 1), (Sort.BEGIN, 1), (Sort.CHANGES, 1), (Sort.COMMIT, 1), (Sort.OTHER, 1),
+                  (Sort.ABORT, 1), (Sort.OTHER, 1), (Sort.OTHER, 1), (Sort.OTHER, 1)]
+        self.assertEqual(self.sorts(text), wanted)
+        self.assertEqual(sum(count for _, count in self.sorts(text, 3)), 11)
+
+    def test_too_long(self) -> None:
+        text = b"node,1," + b"0" * (1 << 20) + b"\nshow,a\n"
+        for size in (1 << 16, 1 << 22):
+            self.assertEqual([it for it, _ in self.sorts(text, size)], [Sort.TOO_LONG, Sort.OTHER])
+        self.assertEqual([it for it, _ in self.sorts(b"x" * (1 << 20) + b"\n")], [Sort.OTHER])
+
+
+class Jobs(unittest.TestCase):
+    def test_batch(self) -> None:
+        """A batch gives the reply to its commit alone, with the first change that was rejected."""
+        for replies, wanted, changes in (
+            (b"ok,0\nheld,1\nheld,2\nok,1\na,text,A\nfault,15,NoBatch\n", b"ok,1\na,text,A\n", [Change("b", None), Change("a", "text,A")]),
+            (b"ok,0\nheld,1\nfault,6,NoLine\nfault,16,CountDiffers\nok,0\n", b"fault,16,CountDiffers,2,6,NoLine\n", []),
+            (b"ok,0\nheld,1\nheld,2\nfault,13,Memory\nok,0\n", b"fault,13,Memory\n", []),
+        ):
+            job, source, found = batch(Owner(), b"drop-path,b\npath,a,0,0,1\n", 2), Replies(), b""
+            source.feed(replies)
+            while job.done < job.count:
+                span = source.take(job.next_most())
+                assert span is not None
+                found += job.take(span)
+            self.assertEqual((found, job.changes), (wanted, changes))
+
+    def test_not_known(self) -> None:
+        job = Job(Owner(), Kind.CHANGES, b"node,1,0,0\nset-line,7,1\nrepath,a,0\n", 3, done=1)
+        self.assertEqual(job.not_known(), b"fault,0,NotKnown,ask show-line,7\nfault,0,NotKnown,ask show,a\n")
+        self.assertEqual(batch(Owner(), b"move,5,0,0\n", 1).not_known(), b"fault,0,NotKnown,of the whole batch; ask show-node,5\n")
+        self.assertEqual(question_about(b"report"), "report")
+
+    def test_dropped(self) -> None:
+        text = b"begin\ndrop-path,a\ndrop-path,b\npath,b,0,0,1\npath,c,0,0,1\ndrop-path,c\ncommit,5\n"
+        self.assertEqual(list(dropped(text)), [Change("a", None), Change("c", None)])
+
+    def test_split(self) -> None:
+        job = Job(Owner(), Kind.CHANGES, b"node,1\nnode,2\nnode,3\n", 3)
+        part = job.split(2)
+        self.assertEqual((part.text, part.count, job.text, job.count), (b"node,1\nnode,2\n", 2, b"node,3\n", 1))
+
+
+class Tables(unittest.TestCase):
+    def test_history(self) -> None:
+        with tempfile.TemporaryDirectory() as folder:
+            table = Table(f"{folder}/table", retained=1000)
+            entries = [Entry(Change("a", "text,A"), "now", "jane"), Entry(Change("b", "text,B"), "now", "joe"), Entry(Change("a", None), "now", "joe")]
+            self.assertEqual(table.write(entries), 3)
+            self.assertEqual(table.published(), [("b", "text,B")])
+            self.assertEqual(table.changes(1, 9), [(2, "b", "text,B"), (3, "a", "dropped")])
+            self.assertEqual(table.set_all({"b": "text,B", "c": "refused,3"}, "-"), 4)
+            self.assertEqual(table.set_all({"c": "refused,3"}, "-"), 5)
+            self.assertEqual(table.published(), [("c", "refused,3")])
+            self.assertTrue(table.has_all_after(0) and table.has_all_after(5) and not table.has_all_after(6))
+            table.write([Entry(Change("d", f"text,{k}"), "now", "joe") for k in range(1200)])
+            self.assertFalse(table.has_all_after(4))
+            self.assertEqual(len(table.changes(0, 9999)), 1000)
+
+    def test_another_writer(self) -> None:
+        with tempfile.TemporaryDirectory() as folder:
+            table = Table(f"{folder}/table")
+            with sqlite3.connect(f"{folder}/table") as other:
+                other.execute("insert into history values (1, 'x', 'text,X', 'now', 'joe')")
+            self.assertRaises(TableError, table.write, [Entry(Change("a", None), "now", "jane")])
+
