@@ -39,7 +39,7 @@ impl Register {
         let Some(batch) = &self.batch else {
             return Err(CommandFault::NoBatch);
         };
-        let renewed = preview(
+        let previewed = preview(
             self.alloc,
             &self.roads,
             &self.paths,
@@ -48,7 +48,7 @@ impl Register {
             &mut self.bounds,
             &mut self.searches,
         )?;
-        Ok(Reply::Paths(renewed.entries))
+        Ok(Reply::Paths(previewed.entries))
     }
 
     /// Accepts all held changes at once, if their number is `count`, and encodes the affected paths. After a fault the

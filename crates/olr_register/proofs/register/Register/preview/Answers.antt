@@ -33,3 +33,56 @@ preview-requires c =
         sources = λ l on. right.bounded.sources l (right.register.held.begins l on);
       };
     }
+
+pub invariant_of-self : goal.invariant_of-self
+invariant_of-self c =
+    let s = c.self.inside in
+    let right = right_as s c.in-Some.is c.self.invariant in
+    record {
+      register = c.self.invariant.register;
+      bounded = c.preview.ensures.bounded _ (items s.paths) (let b = right.bounded in b);
+    }
+
+pub invariant_of-self-2 : goal.invariant_of-self-2
+invariant_of-self-2 c =
+    let s = c.self.inside in
+    let right = right_as s c.in-Some.is c.self.invariant in
+    record {
+      register = c.self.invariant.register;
+      bounded = c.preview.ensures.bounded _ (items s.paths) (let b = right.bounded in b);
+    }
+
+pub returns-in_err-previewed : goal.returns-in_err-previewed
+returns-in_err-previewed c =
+    rw (← c.self.view_is, c.in-Some.is)
+    (answered_refused _ _ Preview _ rust.Memory refl c.from_residual.ensures.1 (λ xs i. Lacks_memory refl refl))
+
+pub returns : goal.returns
+returns c =
+    let s = c.self.inside in
+    let is = items s.paths in
+    let b = c.in-Some.batch in
+    let M = map_of s.roads in
+    let right = right_as s c.in-Some.is c.self.invariant in
+    let old : Content = content_on (map_before s.roads b.log) is in
+    let e = c.in_ok-previewed.ensures.renewed in
+    let js = e.0 in
+    let n = c.in_ok-previewed.previewed in
+    let r = reply.Paths n.entries in
+    let k : RegisterState = record { content = old; batch = Some (batch_of s.roads is b) } in
+    let reported = planned_changes old.map M is js (map entry_of n.entries.items) right.register.content
+    right.register.made (remade_made M _ js e.1.remade) e.1.reported in
+    rw (← c.self.view_is, c.in-Some.is) (answered_uncounted _ k Preview r (λ t h. (
+      no_changes t.batch,
+      (
+        t,
+        h,
+        in_states k (λ (t : State). IsOutcome t Preview (Ok (reply_of r)) t) (λ xs i. (
+          refl,
+          subst (λ (d : Content). IsPaths (reply_of r) (Differences old d))
+              (sym (held_content old s.roads is b xs i
+              ∙ ap (λ (ps : List Named). record { map = M; paths = ps }) (sym e.1.named)))
+              reported,
+        )) t h,
+      ),
+    )))
