@@ -1,45 +1,47 @@
 """The crates of this repository by crates.txt: the dependencies and the source files of each."""
 import os
+from typing import Collection, Dict, Iterator, List
 
 TOP = os.path.dirname(os.path.dirname(os.path.realpath(__file__)))
 
 
-def rows():
+def rows() -> Dict[str, str]:
     """The lines of crates.txt, by the crate's name."""
     with open(f"{TOP}/crates.txt", encoding="utf-8") as file:
         return {line.split()[0].rstrip(":"): line for line in file if line.split("#")[0].strip()}
 
 
-def declarations(crates):
+def declarations(crates: Collection[str]) -> List[str]:
     """The lines of crates.txt about these crates."""
     return [line for name, line in rows().items() if name in crates]
 
 
-def uses():
+def uses() -> Dict[str, List[str]]:
     """The crates that each crate uses, those of the toolchain among them."""
     return {name: line.split("#")[0].partition(":")[2].split() for name, line in rows().items()}
 
 
-def dependencies():
+def dependencies() -> Dict[str, List[str]]:
     """The crates of this repository on which each of them depends."""
     return {name: [it for it in used if it in uses()] for name, used in uses().items()}
 
 
-def libraries(crate):
+def libraries(crate: str) -> List[str]:
     """The crates of the toolchain that a crate uses, but for std."""
     return [it for it in uses()[crate] if it not in uses()]
 
 
-def is_static(crate):
+def is_static(crate: str) -> bool:
     """Whether a crate is a static library for C."""
     return "staticlib" in rows()[crate].partition(":")[0].split()
 
 
-def crates_below(crate):
+def crates_below(crate: str) -> List[str]:
     """A crate and all that it depends on, the lowest first."""
-    below, found = dependencies(), []
+    below = dependencies()
+    found: List[str] = []
 
-    def take(name):
+    def take(name: str) -> None:
         for it in below[name]:
             take(it)
         if name not in found:
@@ -49,7 +51,7 @@ def crates_below(crate):
     return found
 
 
-def sources(crate):
+def sources(crate: str) -> Iterator[str]:
     """The source files of a crate."""
     for part in ("src", "specs", "proofs"):
         for folder, _, files in os.walk(f"{TOP}/crates/{crate}/{part}"):

@@ -1,8 +1,8 @@
 """What is said more than once has to be said alike: on two pages, or on a page and in a `--help`, a unit or the code.
 
-Compared are the options of the program and of each tool, exit statuses, faults, metrics, defaults of options, and the numbers of
-`FACTS`. Each relative link leads to a file and to a heading of it, no page is longer than `LENGTHS`, and no sentence has more than
-40 words outside of THEOREMS.
+Compared are the options of the program and of each tool, exit statuses, faults, metrics, defaults of options, and the numbers
+of `FACTS`. Each relative link leads to a file and to a heading of it, no page is longer than `LENGTHS`, and no sentence has
+more than 40 words outside of THEOREMS.
 """
 import glob
 import os
@@ -37,7 +37,8 @@ FACTS = {
     "the slack of `ambiguous`": r"more than ([\d.]+) m farther",
     "a step of DNP": r"step(?:s)? of ([\d.]+) m\b",
     "how soon a save is in the table of strings": r"(?:save[^.|]{0,60}|usually )within (an? [a-z ]*second)",
-    "the edits after which memory is compared": r"(?:memory|allocated|looked at)\b[^.|]{0,60} after (?:the first )?([\d,]+) edits",
+    "the edits after which memory is compared":
+        r"(?:memory|allocated|looked at)\b[^.|]{0,60} after (?:the first )?([\d,]+) edits",
     "the lines that may be removed": r"(?:lacks|remove|lack) more than (\d+) ?% of the",
 }
 OPTION = re.compile(r"(?<![\w-])(--[a-z][a-z-]*)")
@@ -69,8 +70,8 @@ def tracked() -> List[str]:
 
 def help_of(tool: str) -> Tuple[str, str]:
     """A tool's name and its `--help`."""
-    command = [f"{TOP}/tools/{tool}", "--help"]
-    return tool, subprocess.run(command, capture_output=True, text=True, check=True, env={**os.environ, "COLUMNS": "1000"}).stdout
+    command, env = [f"{TOP}/tools/{tool}", "--help"], {**os.environ, "COLUMNS": "1000"}
+    return tool, subprocess.run(command, capture_output=True, text=True, check=True, env=env).stdout
 
 
 def helps() -> Dict[str, str]:
@@ -85,7 +86,8 @@ def tool_of(text: str) -> Tool:
     listed = re.findall(r"^  (?:-\w(?: [A-Z]+)?, )?(--[a-z-]+)(.*(?:\n {8}.*)*)", text, re.M)
     defaults = {name: found[-1] for name, rest in listed for found in [re.findall(r"\(([\d.]+) ?%?\)", rest)] if found}
     pieces = re.split(r"[;,] ", text.rpartition("status:")[2].replace("\n", " "))
-    statuses = {int(it) for piece in pieces for it in re.findall(r"^ *(\d+)\b(?! \+)|^ *\d+ or (\d+)", piece) for it in it if it}
+    found = [it for piece in pieces for pair in re.findall(r"^ *(\d+)\b(?! \+)|^ *\d+ or (\d+)", piece) for it in pair]
+    statuses = {int(it) for it in found if it}
     return Tool({name for name, _ in listed} | {"--help"}, defaults, statuses)
 
 
@@ -140,29 +142,35 @@ def link_faults() -> List[str]:
     return faults
 
 
+def part(text: str, start: str, end: str) -> str:
+    """What is between two texts."""
+    return text.partition(start)[2].partition(end)[0]
+
+
+def unlike(what: str, said: Dict[str, Set[str]]) -> List[str]:
+    """Where a set is another one than in LIMITS."""
+    wanted = said["docs/LIMITS.md"]
+    return [f"{place}: {what} {sorted(it ^ wanted)} are not alike" for place, it in said.items() if it != wanted]
+
+
 def program_faults() -> List[str]:
-    """Options and statuses of the program that stand in LIMITS, in the man page, in its help and in its units."""
+    """Options and statuses of the program that stand in LIMITS, in the man page, in its help and in its unit."""
     limits, manual, shown = text_of("docs/LIMITS.md"), text_of(MANUAL), text_of("checks/help.txt")
-    rows = re.search(r"^## Options\n(.*?)^## ", limits, re.S | re.M)[1]
+    rows = re.findall(r"^\| (`-.*?) \|", part(limits, "## Options\n", "\n## "), re.M)
+    lines = re.findall(r"^ +(-.*?)(?:  |$)", shown, re.M)
     options = {
-        "checks/help.txt": set(re.findall(r"^ +(?:-\w, )?(--?[\w-]+)", shown.partition("Records:")[0], re.M)) | {"-h", "-V"},
-        "docs/LIMITS.md": {it for row in re.findall(r"^\| (`-.*?) \|", rows, re.M) for it in re.findall(r"(?<![\w-])--?[\w-]+", row)},
+        "docs/LIMITS.md": {it for row in rows for it in re.findall(r"(?<![\w-])--?[\w-]+", row)},
+        "checks/help.txt": {it for row in lines for it in re.findall(r"(?<![\w-])--?[\w-]+", row)},
         MANUAL: {f"-{it}" for row in re.findall(r"^\.It (Fl .*)", manual, re.M) for it in re.findall(r"Fl ([\w-]+)", row)},
     }
-    table = re.search(r"^\| Status \| When \|.*?\n\n", limits, re.S | re.M)[0]
-    units = "".join(text_of(it[len(TOP) + 1 :]) for it in glob.glob(f"{TOP}/packaging/olr-keep.service"))
     statuses = {
-        "docs/LIMITS.md": set(re.findall(r"^\| (\d+) \|", table, re.M)),
-        "checks/help.txt": set(re.findall(r"(?:Status: |, |^)(\d) ", shown.partition("Status:")[1] + shown.partition("Status:")[2], re.M))
-        | set(re.findall(r"; ?\n?(\d) ", shown)),
+        "docs/LIMITS.md": set(re.findall(r"^\| (\d+) \|", part(limits, "## Exit statuses\n", "\n\nWith"), re.M)),
+        "checks/help.txt": set(re.findall(r"(?<![\w.])(\d) ", part(shown, "Status:", "\ndocs/"))),
         MANUAL: set(re.findall(r"^\.It (\d+)$", manual, re.M)),
     }
-    faults = [f"{name}: options {sorted(it ^ options['checks/help.txt'])} are not alike" for name, it in options.items()
-              if it != options["checks/help.txt"]]
-    faults += [f"{name}: statuses {sorted(it ^ statuses['docs/LIMITS.md'])} are not alike" for name, it in statuses.items()
-               if it != statuses["docs/LIMITS.md"]]
-    named = {it for row in re.findall(r"RestartPreventExitStatus=(.*)", units) for it in row.split()}
-    return faults + [f"packaging/olr-keep.service: no status {it}" for it in sorted(named - statuses["docs/LIMITS.md"])]
+    unit = re.findall(r"RestartPreventExitStatus=(.*)", text_of("packaging/olr-keep.service"))
+    lost = {it for row in unit for it in row.split()} - statuses["docs/LIMITS.md"]
+    return unlike("options", options) + unlike("statuses", statuses) + [f"the unit: no status {it}" for it in sorted(lost)]
 
 
 def tool_faults(tools: Dict[str, Tool]) -> List[str]:
@@ -173,7 +181,8 @@ def tool_faults(tools: Dict[str, Tool]) -> List[str]:
     for name, tool in tools.items():
         said = {int(it) for it in re.findall(r"(?:^|; )(\d+):", rows.get(name, ""))}
         if said != tool.statuses - COMMON:
-            faults.append(f"docs/LIMITS.md: {name}: statuses {sorted(said)}, and its --help has {sorted(tool.statuses - COMMON)}")
+            shown = sorted(tool.statuses - COMMON)
+            faults.append(f"docs/LIMITS.md: {name}: statuses {sorted(said)}, and its --help has {shown}")
     own = set(re.findall(r"--[a-z][a-z-]*", text_of("checks/help.txt")))
     every = set().union(own, *(it.options for it in tools.values()))
     for page in pages():
@@ -198,7 +207,8 @@ def default_faults(tools: Dict[str, Tool]) -> List[str]:
             having = [name for name in named if option in tools[name].defaults]
             number = str(round(1000 * float(number))) if option.endswith("-ms") and " s (" in it[0] else number
             if having and tools[having[-1]].defaults[option] != number:
-                faults.append(f"{page}: {option} of {having[-1]} is {number}, and its --help has {tools[having[-1]].defaults[option]}")
+                default = tools[having[-1]].defaults[option]
+                faults.append(f"{page}: {option} of {having[-1]} is {number}, and its --help has {default}")
     return faults
 
 

@@ -18,8 +18,11 @@ begin
         alter table olr_keep.source add search_path text not null default 'public';
         alter table olr_keep.street add shape bigint;
         alter table olr_keep.line set (fillfactor = 80);
+        alter table olr_keep.node add is_end boolean not null default false;
+        update olr_keep.node set is_end = true where 1 = (select count(distinct (street, part, k)) from olr_keep.line
+            where line.geom && node.geom and node in (from_node, to_node));
         alter table olr_keep.string add found_elsewhere boolean not null default false,
-            add said_course geometry(LineString, 4326), add said_roads jsonb;
+            add said_course geometry(LineString, 4326), add said_roads jsonb, add lost_at geometry(MultiPoint, 4326);
         alter table olr_keep.problem add kind text not null default 'street', add source int;
         update olr_keep.problem set kind = case when node is not null then 'open end' else 'no string' end
         where coalesce(node::text, path) is not null;
@@ -86,7 +89,8 @@ comment on table olr_keep.vertex is
     'The vertices of the streets. A place is a coordinate, (lon + 180) * 2^31 + lat + 90, in units of 10^-7 degree.';
 
 create table if not exists olr_keep.node (
-    node bigint primary key, place bigint not null unique deferrable initially deferred, geom geometry(Point, 4326) not null
+    node bigint primary key, place bigint not null unique deferrable initially deferred, geom geometry(Point, 4326) not null,
+    is_end boolean not null default false
 );
 create index if not exists node_geom on olr_keep.node using gist (geom);
 comment on table olr_keep.node is 'The nodes of the map, with the numbers that the program has.';
@@ -112,6 +116,7 @@ create table if not exists olr_keep.string (
     definition text not null,
     last_text text, last_round bigint, lost boolean not null default false, geom geometry(LineString, 4326),
     found_elsewhere boolean not null default false, said_course geometry(LineString, 4326), said_roads jsonb,
+    lost_at geometry(MultiPoint, 4326),
     check (num_nonnulls(text, reason) = 1)
 );
 create index if not exists string_lines on olr_keep.string using gin (lines);
@@ -181,8 +186,9 @@ create table if not exists olr_keep.source (
 );
 comment on table olr_keep.source is 'The tables of streets, with the expressions of their columns. add_streets writes it.';
 
-create index if not exists string_open on olr_keep.string (name)
-    where reason is not null or lost or found_elsewhere;
+create index if not exists node_end on olr_keep.node using gist (geom) where is_end;
+comment on column olr_keep.node.is_end is 'Whether only one stretch of a street ends there, and nothing else is.';
+create index if not exists string_open on olr_keep.string (name) where lost or found_elsewhere;
 comment on column olr_keep.string.found_elsewhere is
     'Whether the lines are not those of the streets or the course that an operator gave, since these can''t be had.';
 comment on column olr_keep.string.said_course is

@@ -7,11 +7,14 @@ A course is a list of coordinates in degrees. Of the routes everywhere within th
 its own or twice the tolerance, that with the least mean distance is found. A search over labels, each a node at a position
 along the course, tries no route twice, however many lines lead from one node to another.
 """
+from __future__ import annotations
+
 import bisect
 import heapq
 import math
 from collections import defaultdict
-from typing import Callable, Mapping, NamedTuple, Optional, Sequence, Tuple, Union
+from typing import (Callable, DefaultDict, Dict, FrozenSet, Iterable, Iterator, List, Mapping, NamedTuple, Optional, Sequence, Set,
+                    Tuple, Union)
 
 from .geo import METRES, between, onto_segment, scale
 
@@ -21,7 +24,12 @@ SAMPLE = 10.0  # metres between the points at which a line is compared with the 
 SHARE = 0.01
 OTHER = 0.01  # the added mean distance of a line that isn't preferred
 SAME = 1e-6  # costs that differ by less are equal
+FORCED = 1e9  # the cost of an end along a line where an end at a junction is sought
 START, END = "start", "end"
+
+Place = Tuple[float, float]
+Label = Union[str, Tuple[int, float]]
+Step = Tuple[Optional[int], float, float]
 
 
 class Ground(NamedTuple):
@@ -31,9 +39,9 @@ class Ground(NamedTuple):
     start: int
     end: int
     street: str
-    points: tuple
+    points: Tuple[Place, ...]
     length: int
-    kind: tuple = ()
+    kind: Tuple[object, ...] = ()
 
 
 class Rival(NamedTuple):
@@ -41,14 +49,14 @@ class Rival(NamedTuple):
 
     taken: str
     other: str
-    place: tuple
+    place: Place
 
 
 class Found(NamedTuple):
     """The lines that follow a course, the decimetres of them before its start and after its end, and a road that follows it
     too, if that was asked."""
 
-    lines: list
+    lines: List[int]
     start: int
     end: int
     rival: Optional[Rival] = None
@@ -58,36 +66,36 @@ class Lost(NamedTuple):
     """Why no lines follow a course, and where."""
 
     words: str
-    place: tuple
+    place: Optional[Place]
 
 
 class Polyline:
     """Points of a plane in metres, with their distances from the first."""
 
-    def __init__(self, points):
+    def __init__(self, points: List[Place]) -> None:
         self.points, self.far = points, [0.0]
         for a, b in zip(points, points[1:]):
             self.far.append(self.far[-1] + math.dist(a, b))
         self.length = self.far[-1]
 
-    def at(self, far):
+    def at(self, far: float) -> Place:
         """The point at a distance from the first."""
         k = min(max(1, bisect.bisect_left(self.far, far)), len(self.far) - 1)
         a, b = self.far[k - 1 : k + 1]
         return between(self.points[k - 1], self.points[k], min(1.0, max(0.0, (far - a) / (b - a))) if b > a else 0.0)
 
-    def project(self, point, segments=None):
+    def project(self, point: Place, segments: Optional[Iterable[int]] = None) -> Iterator[Tuple[float, float]]:
         """The distance of a point from each of these segments, and the position of the nearest point there."""
         for k in range(len(self.points) - 1) if segments is None else segments:
             far, share = onto_segment(self.points[k], self.points[k + 1], *point)
             yield far, self.far[k] + share * (self.far[k + 1] - self.far[k])
 
-    def distance(self, point, first, last):
+    def distance(self, point: Place, first: int, last: int) -> float:
         """The distance of a point from the segments from `first` up to, but not including, `last`."""
         ends = zip(self.points[first:last], self.points[first + 1 : last + 1])
         return min((onto_segment(a, b, *point)[0] for a, b in ends), default=math.inf)
 
-    def samples(self, begin, end):
+    def samples(self, begin: float, end: float) -> Iterator[float]:
         """Positions between two positions: those of the points, and further ones so that none are more than SAMPLE apart."""
         low, high = bisect.bisect_right(self.far, begin), bisect.bisect_left(self.far, end)
         marks = [begin, *self.far[low:high], end]
@@ -100,14 +108,14 @@ class Polyline:
 class Plane:
     """Degrees near a latitude as metres."""
 
-    def __init__(self, lat):
+    def __init__(self, lat: float) -> None:
         self.wide = scale(lat)
 
-    def flat(self, place):
+    def flat(self, place: Place) -> Place:
         """A coordinate in degrees as a point of the plane."""
         return place[0] * self.wide, place[1] * METRES
 
-    def degrees(self, point):
+    def degrees(self, point: Place) -> Place:
         """A point of the plane as a coordinate in degrees."""
         return point[0] / self.wide, point[1] / METRES
 
@@ -115,7 +123,7 @@ class Plane:
 class Strip(Polyline):
     """A polyline with a grid, by which its segments near a point are found."""
 
-    def __init__(self, points, cell):
+    def __init__(self, points: List[Place], cell: float) -> None:
         super().__init__(points)
         self.cell, self.cells = cell, defaultdict(set)
         for k, (a, b) in enumerate(zip(self.points, self.points[1:])):
@@ -124,18 +132,18 @@ class Strip(Polyline):
                 x, y = a[0] + (b[0] - a[0]) * step / count, a[1] + (b[1] - a[1]) * step / count
                 self.cells[int(x // self.cell), int(y // self.cell)].add(k)
 
-    def segments_near(self, point):
+    def segments_near(self, point: Place) -> List[int]:
         """The segments near a point, up to the size of a cell from it."""
         x, y = int(point[0] // self.cell), int(point[1] // self.cell)
         return sorted({k for i in (-1, 0, 1) for j in (-1, 0, 1) for k in self.cells.get((x + i, y + j), ())})
 
-    def is_near(self, point, metres):
+    def is_near(self, point: Place, metres: float) -> bool:
         """Whether a point is within this distance, which is at most the size of a cell."""
         return any(far <= metres for far, _ in self.project(point, self.segments_near(point)))
 
 
 class Ends(NamedTuple):
-    """Whether the start and the end of a course are at junctions, and may only be sought there."""
+    """Whether the start and the end of a course are at junctions, and sought there before any place along a line."""
 
     start: bool = False
     end: bool = False
@@ -146,43 +154,57 @@ class Wish(NamedTuple):
     and, if it is given, lines for which `unlike(number, line, low, high, length)` is least, from 0 to 1: that are the road where the
     path was, between these positions of the course of that length. `has_rivals` asks for a second road that follows it."""
 
-    preferred: frozenset = frozenset()
+    preferred: FrozenSet[str] = frozenset()
     snap: float = SNAP
     ends: Ends = Ends()
-    unlike: Optional[Callable] = None
+    unlike: Optional[Callable[[int, Ground, float, float, float], float]] = None
     has_rivals: bool = False
+
+
+class Best(NamedTuple):
+    """The best way to a label: its cost, its last step, the label before it, and another line that is as good."""
+
+    cost: float
+    step: Optional[Step]
+    before: Optional[Label]
+    other: Optional[int] = None
 
 
 class Follower:
     """The search for the lines that follow one course."""
 
-    def __init__(self, course, lines, tolerance, wish):
+    def __init__(self, course: Sequence[Place], lines: Mapping[int, Ground], tolerance: float, wish: Wish) -> None:
         lats = [it[1] for it in course]
         self.plane = Plane((min(lats) + max(lats)) / 2)
         self.course = Strip([self.plane.flat(it) for it in course], max(tolerance, 50.0))
         self.lines, self.tolerance, self.wish = lines, tolerance, wish
-        self.shapes, self.positions, self.following, self.avoided = {}, {}, set(), frozenset()
-        self.leaving, self.nodes = defaultdict(list), {}
+        self.at = {point: k for k, point in enumerate(self.course.points)}
+        self.shapes: Dict[int, Polyline] = {}
+        self.positions: Dict[int, List[float]] = {}
+        self.following: Set[int] = set()
+        self.avoided: FrozenSet[int] = frozenset()
+        self.leaving: Dict[int, List[int]] = defaultdict(list)
+        self.nodes: Dict[int, Place] = {}
         for number, line in lines.items():
             self.leaving[line.start].append(number)
             self.nodes[line.start], self.nodes[line.end] = map(self.plane.flat, (line.points[0], line.points[-1]))
 
-    def shape(self, number):
+    def shape(self, number: int) -> Polyline:
         """The course of a line in the plane."""
         if number not in self.shapes:
             self.shapes[number] = Polyline([self.plane.flat(it) for it in self.lines[number].points])
         return self.shapes[number]
 
-    def positions_of(self, node):
+    def positions_of(self, node: int) -> List[float]:
         """The positions along the course at which it passes a node: of each pass the nearest one."""
         if node not in self.positions:
             self.positions[node] = self.passes(self.nodes[node])
         return self.positions[node]
 
-    def passes(self, point):
+    def passes(self, point: Place) -> List[float]:
         """The positions along the course at which it passes a point."""
         near = [(at, far) for far, at in self.course.project(point, self.course.segments_near(point)) if far <= self.tolerance]
-        passes = []
+        passes: List[Tuple[float, float, float]] = []
         for at, far in sorted(near):
             if passes and at - passes[-1][2] <= 2 * self.tolerance:
                 best, least, _ = passes[-1]
@@ -191,7 +213,7 @@ class Follower:
                 passes.append((at, far, at))
         return [at for at, _, _ in passes]
 
-    def cost(self, number, begin, end, low, high):
+    def cost(self, number: int, begin: float, end: float, low: float, high: float) -> Optional[float]:
         """How far a part of a line is from a part of the course: the mean distance times the length, or None if it doesn't
         follow it."""
         shape = self.shape(number)
@@ -199,7 +221,10 @@ class Follower:
         slack = max(SHARE * max(length, wanted), 2 * self.tolerance)
         if abs(length - wanted) > slack or high < low and low - high > SNAP:
             return None
-        total = count = 0
+        if length == shape.length and self.is_same_course(shape.points, low):
+            self.following.add(number)
+            return self.other(number, low, high) * length + 1e-4
+        total, count = 0.0, 0
         for at in shape.samples(begin, end):
             along = low + (at - begin) / (length or 1) * wanted
             first = max(0, bisect.bisect_left(self.course.far, along - slack) - 1)
@@ -214,7 +239,12 @@ class Follower:
         self.following.add(number)
         return (total / count + self.other(number, low, high)) * length + 1e-4
 
-    def other(self, number, low, high):
+    def is_same_course(self, points: List[Place], low: float) -> bool:
+        """Whether these points are those of the course from a position on."""
+        k = self.at.get(points[0])
+        return k is not None and abs(self.course.far[k] - low) < SAME and self.course.points[k : k + len(points)] == points
+
+    def other(self, number: int, low: float, high: float) -> float:
         """The added mean distance of a line that isn't wanted as much as another one."""
         line, wish = self.lines[number], self.wish
         more = 0.0 if line.street in wish.preferred else OTHER
@@ -222,14 +252,11 @@ class Follower:
             more += self.tolerance * wish.unlike(number, line, low, high, self.course.length)
         return more + (2 * self.tolerance if number in self.avoided else 0.0)
 
-    def ends(self):
+    def ends(self) -> Dict[str, Dict[int, float]]:
         """The parts of lines on which the course starts and ends: (distance along the line, distance from it) by number."""
-        found = {}
-        sides = (START, self.course.points[0], self.wish.ends.start), (END, self.course.points[-1], self.wish.ends.end)
-        for name, point, is_at_node in sides:
+        found: Dict[str, Dict[int, float]] = {}
+        for name, point in ((START, self.course.points[0]), (END, self.course.points[-1])):
             found[name] = {}
-            if is_at_node:
-                continue
             lon, lat = self.plane.degrees(point)
             east, north = self.plane.degrees((self.tolerance, self.tolerance))
             for number, line in self.lines.items():
@@ -244,45 +271,52 @@ class Follower:
                     found[name][number] = at
         return found
 
-    def from_start(self, ends):
+    def from_start(self, ends: Mapping[str, Mapping[int, float]]) -> Iterator[Tuple[float, Label, Optional[Step]]]:
         """The labels at which a route begins: (cost, label, lines)."""
         for node, point in self.nodes.items():
             far = math.dist(point, self.course.points[0])
             if far <= self.tolerance:
                 yield far * far, (node, 0.0), None
+        forced = FORCED if self.wish.ends.start else 0.0
         for number, begin in ends[START].items():
-            shape = self.shape(number)
-            yield from self.steps(number, begin, 0.0)
+            yield from ((forced + cost, label, step) for cost, label, step in self.steps(number, begin, 0.0))
             if number in ends[END] and ends[END][number] > begin:
-                cost = self.cost(number, begin, ends[END][number], 0.0, self.course.length)
-                if cost is not None:
-                    yield cost, END, (number, begin, shape.length - ends[END][number])
+                for cost, step in self.last_step(number, begin, ends[END][number], 0.0):
+                    yield forced + cost, END, step
 
-    def steps(self, number, begin, low):
+    def last_step(self, number: int, begin: float, end: float, low: float) -> Iterator[Tuple[float, Step]]:
+        """The part of a line that leads to the end of the course, where it ends along the line."""
+        cost = self.cost(number, begin, end, low, self.course.length)
+        if cost is not None:
+            yield cost + (FORCED if self.wish.ends.end else 0.0), (number, begin, self.shape(number).length - end)
+
+    def steps(self, number: int, begin: float, low: float) -> Iterator[Tuple[float, Label, Optional[Step]]]:
         """The labels that a line leads to from a distance along it, where the course is at this position."""
         shape, line = self.shape(number), self.lines[number]
         positions = self.positions_of(line.end)
         if math.dist(shape.points[-1], self.course.points[-1]) <= self.tolerance:
-            positions = {*positions, self.course.length}
+            positions = sorted({*positions, self.course.length})
         for high in positions:
             cost = self.cost(number, begin, shape.length, low, high)
             if cost is not None:
                 yield cost, (line.end, high), (number, begin, 0.0)
 
-    def search(self):
+    def search(self) -> Union[Found, Lost]:
         """The found lines, or why there are none."""
         ends = self.ends()
-        best, waiting, order, furthest = {}, [], 0, 0.0
+        order, furthest = 0, 0.0
+        best: Dict[Label, Best] = {}
+        waiting: List[Tuple[float, int, Label]] = []
 
-        def relax(cost, label, step, before):
+        def relax(cost: float, label: Label, step: Optional[Step], before: Optional[Label]) -> None:
             nonlocal order
             known = best.get(label)
-            if known is None or cost < known[0] - SAME:
-                best[label] = [cost, step, before, None]
+            if known is None or cost < known.cost - SAME:
+                best[label] = Best(cost, step, before)
                 order += 1
                 heapq.heappush(waiting, (cost, order, label))
-            elif abs(cost - known[0]) <= SAME and step and known[1] and step[0] != known[1][0]:
-                known[3] = step[0]
+            elif abs(cost - known.cost) <= SAME and step and known.step and step[0] != known.step[0]:
+                best[label] = known._replace(other=step[0])
 
         for cost, label, step in self.from_start(ends):
             relax(cost, label, step, None)
@@ -290,33 +324,34 @@ class Follower:
             return Lost("no line is near its start", self.plane.degrees(self.course.points[0]))
         while waiting:
             cost, _, label = heapq.heappop(waiting)
-            if cost > best[label][0]:
+            if cost > best[label].cost:
                 continue
-            if label == END:
+            if isinstance(label, str):
                 return self.found(best)
             node, low = label
             furthest = max(furthest, low)
             last = math.dist(self.nodes[node], self.course.points[-1])
-            if last <= self.tolerance and self.course.length - low <= 2 * self.tolerance and best[label][1]:
+            if last <= self.tolerance and self.course.length - low <= 2 * self.tolerance and best[label].step:
                 relax(cost + last * last, END, (None, 0.0, 0.0), label)
             for number in self.leaving[node]:
                 for more, after, step in self.steps(number, 0.0, low):
                     relax(cost + more, after, step, label)
                 if number in ends[END]:
-                    more = self.cost(number, 0.0, ends[END][number], low, self.course.length)
-                    if more is not None:
-                        relax(cost + more, END, (number, 0.0, self.shape(number).length - ends[END][number]), label)
+                    for more, step in self.last_step(number, 0.0, ends[END][number], low):
+                        relax(cost + more, END, step, label)
         words = "no lines follow it from here on" if furthest else "no lines follow it from its start"
         return Lost(words, self.plane.degrees(self.course.at(furthest)))
 
-    def found(self, best):
+    def found(self, best: Dict[Label, Best]) -> Union[Found, Lost]:
         """The route that leads to the end, or why it is none."""
-        label, steps, tie = END, [], None
+        label: Optional[Label] = END
+        steps: List[Tuple[int, float, float]] = []
+        tie: Optional[Tuple[int, int]] = None
         while label is not None:
             _, step, before, other = best[label]
             if step and step[0] is not None:
-                steps.append(step)
-                tie = tie or other and (step[0], other)
+                steps.append((step[0], *step[1:]))
+                tie = tie or (other is not None and (step[0], other)) or None
             label = before
         steps.reverse()
         numbers = [it[0] for it in steps]
@@ -331,16 +366,16 @@ class Follower:
             return Lost("the lines that follow it have another length", self.plane.degrees(self.course.points[0]))
         return Found(numbers, self.cut(numbers[0], steps[0][1]), self.cut(numbers[-1], steps[-1][2]))
 
-    def name(self, number):
+    def name(self, number: int) -> str:
         """What a message calls a line."""
         return f"street {self.lines[number].street}" if self.lines[number].street else f"line {number}"
 
-    def cut(self, number, metres):
+    def cut(self, number: int, metres: float) -> int:
         """Decimetres of a line for metres of the plane."""
         return round(metres / (self.shape(number).length or 1) * self.lines[number].length)
 
 
-    def with_rival(self, found):
+    def with_rival(self, found: Found) -> Found:
         """The same lines, with a road that follows the course too, if there is one: another route that avoids them finds it."""
         others = self.following - set(found.lines)
         if not any(self.lines[it].length > 20 * self.tolerance for it in others):
@@ -357,13 +392,9 @@ class Follower:
 
 def follow(course: Sequence[Tuple[float, float]], lines: Mapping[int, Ground], tolerance: float = 20.0,
            wish: Wish = Wish()) -> Union[Found, Lost]:
-    """The lines that follow a course, or why there are none: `Found` or `Lost`. An end that is to be at a junction is sought along
-    lines if no route leads from junction to junction."""
+    """The lines that follow a course, or why there are none: `Found` or `Lost`."""
     if len(course) < 2 or len(set(course)) < 2:
         return Lost("its course has no two different coordinates", course[0] if course else (0.0, 0.0))
-    for ends in dict.fromkeys((wish.ends, Ends())):
-        follower = Follower(course, lines, tolerance, wish._replace(ends=ends))
-        found = follower.search()
-        if isinstance(found, Found):
-            return follower.with_rival(found) if wish.has_rivals else found
-    return found
+    follower = Follower(course, lines, tolerance, wish)
+    found = follower.search()
+    return follower.with_rival(found) if wish.has_rivals and isinstance(found, Found) else found

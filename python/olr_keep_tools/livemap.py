@@ -1,12 +1,16 @@
 """What a round of tools/live does to the map: the nodes and lines of the streets that differ, block by block."""
+from __future__ import annotations
+
 import io
 import math
 import struct
+from typing import Any, Collection, Dict, Iterable, List, Optional, Sequence, Set, Tuple
 
 from .geo import METRES
 from .livesession import psycopg2
+from .liveread import Block
 from .pathlines import number_array, text_array
-from .streets import Old, Recut, Street, degrees, wkb_hex
+from .streets import Cut, Made, Old, Parts, Recut, Street, degrees, wkb_hex
 
 MANY = 1000  # changed streets after which the statistics of the tables are made again
 FEW = 100  # changed streets up to which each is compared with the paths that are lost
@@ -18,16 +22,19 @@ LAST = (1 << 32) - 1  # the greatest number of a node or a line
 ESCAPES = str.maketrans({"\\": "\\\\", "\t": "\\t", "\n": "\\n", "\r": "\\r"})  # of COPY
 
 
+Box = Tuple[float, float, float, float]
+
+
 class Numbers:
     """New numbers of nodes, lines, rounds and holds. They are taken when the round is published."""
 
-    def __init__(self, cursor):
+    def __init__(self, cursor: Any) -> None:
         self.cursor = cursor
         cursor.execute("select kind, last from olr_keep.counter")
-        self.last = dict(cursor.fetchall())
+        self.last: Dict[str, int] = dict(cursor.fetchall())
         self.before = dict(self.last)
 
-    def take(self, kind, count):
+    def take(self, kind: str, count: int) -> List[int]:
         """So many new numbers. When the greatest is reached, they are those that the map doesn't have."""
         first = self.last[kind] + 1
         if first + count - 1 <= LAST or kind not in ("node", "line"):
@@ -39,7 +46,7 @@ class Numbers:
             where not exists (select from olr_keep.{kind} where {kind} = number) order by number limit %s""", (count, count))
         return [it for (it,) in self.cursor]
 
-    def write(self):
+    def write(self) -> None:
         """Writes the last numbers."""
         for kind, last in self.last.items():
             if last != self.before[kind]:
@@ -50,24 +57,29 @@ class Affected:
     """What the blocks of a round do to the paths: their names, the roads on which they were, the streets that were edited, where
     they were, and which of them are new, and the lines that lie elsewhere now."""
 
-    def __init__(self):
-        self.names, self.roads, self.moved, self.fresh, self.boxes = set(), {}, set(), set(), []
-        self.keys, self.old_cells = set(), {}
+    def __init__(self) -> None:
+        self.names: Set[str] = set()
+        self.roads: Dict[str, List[List[Any]]] = {}
+        self.keys: Set[str] = set()
+        self.fresh: Set[str] = set()
+        self.old_cells: Dict[str, Set[Tuple[int, int]]] = {}
+        self.moved: Set[int] = set()
+        self.boxes: List[Box] = []
 
 
 class MapUpdate:
     """The change of one block of streets."""
 
-    def __init__(self, cursor, block, numbers, affected, margin):
+    def __init__(self, cursor: Any, block: Block, numbers: Numbers, affected: Affected, margin: float) -> None:
         self.cursor, self.numbers, self.affected, self.margin = cursor, numbers, affected, margin
         self.plain = {key: block.rows[key] for key in block.plain}
         self.rows = {key: it for key, it in block.rows.items() if key not in block.plain}
         self.gone = block.gone
         self.keys = self.rows.keys() | self.gone
         self.after = {key: it.street for key, it in self.rows.items() if isinstance(it.street, Street)}
-        self.records = []
+        self.records: List[str] = []
 
-    def run(self):
+    def run(self) -> List[str]:
         """Writes the change to the tables. Returns the records."""
         self.affected.keys |= self.plain.keys() | self.keys
         if self.plain:
@@ -84,9 +96,10 @@ class MapUpdate:
             self.write_problems(cut)
         return self.records
 
-    def set_attributes(self):
+    def set_attributes(self) -> None:
         """Streets of which only class or form differ: their lines stay as they are but for that."""
-        rows = [(key, it.digest, it.source, it.street.frc, it.street.fow) for key, it in self.plain.items()]
+        rows = [(key, it.digest, it.source, street.frc, street.fow) for key, it in self.plain.items()
+                if isinstance(street := it.street, Street)]
         update(self.cursor, """update olr_keep.street set digest = it.digest, source = it.source, class = it.class, form = it.form
             from (values %s) as it(street, digest, source, class, form) where street.street = it.street""", rows)
         self.cursor.execute("""update olr_keep.line
@@ -99,7 +112,7 @@ class MapUpdate:
                 where street = any(%s::text[])""", (text_array(self.plain),))
             self.affected.boxes += map(self.widened, self.cursor.fetchall())
 
-    def read_old(self):
+    def read_old(self) -> None:
         """Reads the streets as they were, and those beside them."""
         self.before = self.old_parts(self.keys)
         both = (parts for key in self.keys for parts in (self.before[key], self.after[key].parts if key in self.after else ()))
@@ -111,21 +124,21 @@ class MapUpdate:
             self.before.update(self.old_parts(beside))
             self.cursor.execute("""select street, class, form, direction from olr_keep.street
                 where street = any(%s::text[])""", (text_array(beside),))
-            self.after.update((key, Street(*rest, self.before[key])) for key, *rest in self.cursor)
+            self.after.update((key, Street(frc, fow, direction, self.before[key])) for key, frc, fow, direction in self.cursor)
         self.cursor.execute("""select line, street, from_node, to_node, along, part, k, nth, fields from olr_keep.line
             where street = any(%s::text[]) order by line""", (text_array(self.before),))
         self.lines = [Old(*it) for it in self.cursor]
 
-    def old_parts(self, keys):
+    def old_parts(self, keys: Iterable[str]) -> Dict[str, Parts]:
         """The vertices of streets as they were, as parts by key."""
         self.cursor.execute("""select street, part, place from olr_keep.vertex
             where street = any(%s::text[]) order by street, part, k""", (text_array(keys),))
-        parts = {key: {} for key in keys}
+        parts: Dict[str, Dict[int, List[int]]] = {key: {} for key in keys}
         for street, part, place in self.cursor:
             parts[street].setdefault(part, []).append(place)
         return {key: tuple(tuple(it[1]) for it in sorted(found.items())) for key, found in parts.items()}
 
-    def recut(self):
+    def recut(self) -> Cut:
         """The new cut."""
         places = {place for street in self.after.values() for part in street.parts for place in part}
         self.cursor.execute("""select distinct place from olr_keep.vertex where place = any(%s::bigint[])
@@ -139,7 +152,7 @@ class MapUpdate:
 
     # ---- the paths that it affects
 
-    def find_affected(self, cut):
+    def find_affected(self, cut: Cut) -> None:
         """Adds the paths over lines that are gone or lie elsewhere, and those whose streets these are, before anything is
         written."""
         affected = self.affected
@@ -161,7 +174,7 @@ class MapUpdate:
             self.remember_roads(names - affected.roads.keys())
             affected.names |= names
 
-    def over_lines(self, numbers):
+    def over_lines(self, numbers: Set[int]) -> Set[str]:
         """The paths over these lines."""
         if not numbers:
             return set()
@@ -170,16 +183,16 @@ class MapUpdate:
         self.cursor.execute(f"select name from olr_keep.string where {condition}", (number_array(numbers),))
         return {it for (it,) in self.cursor}
 
-    def over_streets(self):
+    def over_streets(self) -> Set[str]:
         """The paths by these streets."""
         if len(self.keys) <= FEW:
             condition, keys = "streets && %s::text[]", [mark + it for it in self.keys for mark in ("", "<", ">")]
         else:
-            condition, keys = "exists (select from unnest(streets) as one where ltrim(one, '<>') = any(%s::text[]))", self.keys
+            condition, keys = "exists (select from unnest(streets) as one where ltrim(one, '<>') = any(%s::text[]))", [*self.keys]
         self.cursor.execute(f"select name from olr_keep.path where {condition}", (text_array(keys),))
         return {it for (it,) in self.cursor}
 
-    def remember_roads(self, names):
+    def remember_roads(self, names: Set[str]) -> None:
         """Reads the roads of paths that are where they were given, while their lines are there."""
         if not names:
             return
@@ -192,7 +205,7 @@ class MapUpdate:
         for name, length, street, *kind in self.cursor:
             self.affected.roads.setdefault(name, []).append([length, street, *kind])
 
-    def boxes(self):
+    def boxes(self) -> List[Box]:
         """The boxes of the changed streets as they were and as they are, with a margin; one box if they are many."""
         if len(self.keys) > FEW:
             boxes = [box_of(self.touched)]
@@ -201,13 +214,13 @@ class MapUpdate:
             boxes = [box_of([place for part in parts for place in part]) for parts in both]
         return [self.widened(it) for it in boxes if it]
 
-    def widened(self, box):
+    def widened(self, box: Box) -> Box:
         """A box with the margin."""
         return box[0] - self.margin, box[1] - self.margin, box[2] + self.margin, box[3] + self.margin
 
     # ---- writing
 
-    def write_streets(self):
+    def write_streets(self) -> None:
         """Writes the changed streets and their vertices."""
         keys = text_array(self.keys)
         self.cursor.execute("delete from olr_keep.vertex where street = any(%s::text[])", (keys,))
@@ -221,7 +234,7 @@ class MapUpdate:
         copy(self.cursor, "street", "street, digest, source, class, form, direction, shape", rows)
         copy(self.cursor, "vertex", "street, part, k, place", vertices)
 
-    def write_nodes(self, cut):
+    def write_nodes(self, cut: Cut) -> None:
         """Writes the nodes of a cut, and their records."""
         self.records += [f"drop-line,{it}" for it in cut.dropped]
         self.records += [f"node,{node},{record_place(place)}" for node, place in cut.new_nodes.items()]
@@ -230,10 +243,14 @@ class MapUpdate:
         update(self.cursor, """update olr_keep.node set place = it.place::bigint, geom = it.geom::geometry
             from (values %s) as it(node, place, geom) where node.node = it.node""",
                [(node, place, point_hex(place)) for node, place in cut.moved.items()])
-        copy(self.cursor, "node", "node, place, geom",
-             ((node, place, point_hex(place)) for node, place in cut.new_nodes.items()))
+        copy(self.cursor, "node", "node, place, geom, is_end",
+             ((node, place, point_hex(place), node in cut.ends) for node, place in cut.new_nodes.items()))
+        self.cursor.execute("update olr_keep.node set is_end = not is_end where node = any(%s::bigint[]) and not is_end",
+                            (number_array(cut.ends),))
+        self.cursor.execute("update olr_keep.node set is_end = not is_end where node = any(%s::bigint[]) and is_end",
+                            (number_array(cut.through),))
 
-    def write_lines(self, cut):
+    def write_lines(self, cut: Cut) -> None:
         """Writes the lines of a cut, and their records, and then those of nodes that are gone."""
         self.cursor.execute("delete from olr_keep.line where line = any(%s::bigint[])", (number_array(cut.dropped),))
         self.records += [f"line,{number},{it.start},{it.end},{it.fields}" for number, it in cut.added.items()]
@@ -252,7 +269,7 @@ class MapUpdate:
         copy(self.cursor, "line", columns, ((number, *it[:9], wkb_hex(it.places)) for number, it in cut.added.items()))
         self.records += [f"drop-node,{node}" for node in cut.dropped_nodes]
 
-    def write_problems(self, cut):
+    def write_problems(self, cut: Cut) -> None:
         """Writes which streets can't be lines, and which ends of streets nearly touch another street."""
         self.cursor.execute("delete from olr_keep.problem where street = any(%s::text[]) and kind = 'street'",
                             (text_array(self.keys),))
@@ -263,9 +280,10 @@ class MapUpdate:
             return
         high = 1.5 * GAP / METRES
         wide = high / max(0.01, math.cos(math.radians(max(abs(box[1]), abs(box[3])))))
-        ends = {it for line in [*cut.added.values(), *(line for line, _ in cut.changed.values())] for it in (line.start, line.end)}
-        values = {"wide": wide, "high": high, "nodes": number_array({*ends, *cut.dropped_nodes}),
-                  "lines": number_array([*cut.added, *cut.changed]), "gap": GAP, **dict(zip("wsen", box))}
+        lines = {(it.street, it.part, it.k): number for number, it in cut.added.items()}
+        lines.update(((it.street, it.part, it.k), number) for number, (it, _) in cut.changed.items())
+        values = {"wide": wide, "high": high, "nodes": number_array({*cut.ends, *cut.through, *cut.dropped_nodes}),
+                  "lines": number_array(lines.values()), "gap": GAP, **dict(zip("wsen", box))}
         for statement in OPEN_ENDS:
             self.cursor.execute(statement, values)
 
@@ -277,18 +295,18 @@ OPEN_ENDS = (
     insert into checked select unnest(%(nodes)s::bigint[])
     union select node from olr_keep.problem where node is not null
         and geom && ST_Expand(ST_MakeEnvelope(%(w)s, %(s)s, %(e)s, %(n)s, 4326), %(wide)s)
-    union select node from olr_keep.line join olr_keep.node on node.geom && ST_Expand(line.geom, %(wide)s, %(high)s)
+    union select node from olr_keep.line
+        join olr_keep.node on is_end and node.geom && ST_Expand(line.geom, %(wide)s, %(high)s)
         where line = any(%(lines)s::bigint[])
     on conflict do nothing""",
     "delete from olr_keep.problem where node in (select node from checked)",
     """insert into olr_keep.problem (kind, node, street, words, geom)
     select 'open end', node.node, own.street,
         format('an end is %%s m from street %%s, without a common vertex', round(far::numeric, 2), other.street), node.geom
-    from checked join olr_keep.node using (node)
+    from checked join olr_keep.node on node.node = checked.node and is_end
     join lateral (
-        select count(distinct (street, part, k)) as ways, min(street) as street from olr_keep.line
-        where geom && node.geom and node.node in (from_node, to_node)
-    ) as own on ways = 1
+        select street from olr_keep.line where geom && node.geom and node.node in (from_node, to_node) limit 1
+    ) as own on true
     join lateral (
         select street, ST_Distance(node.geom::geography, geom::geography) as far from olr_keep.line
         where geom && ST_Expand(node.geom, %(wide)s, %(high)s) and node.node not in (from_node, to_node)
@@ -297,12 +315,12 @@ OPEN_ENDS = (
 )
 
 
-def is_moved(line, old):
+def is_moved(line: Made, old: Old) -> bool:
     """Whether a line has another length or other shape points."""
     return line.fields.split(",", 2)[2] != old.fields.split(",", 2)[2]
 
 
-def box_of(places):
+def box_of(places: Collection[int]) -> Optional[Box]:
     """The least and greatest degrees of places, or None."""
     if not places:
         return None
@@ -310,32 +328,39 @@ def box_of(places):
     return min(lons), min(lats), max(lons), max(lats)
 
 
-def cell_of(lon, lat):
+def cell_of(lon: float, lat: float) -> Tuple[int, int]:
     """The cell of a coordinate in degrees."""
     return math.floor(lon / NEAR), math.floor(lat / NEAR)
 
 
-def record_place(place):
+def record_place(place: int) -> str:
     """The two fields of a coordinate."""
     return "{:.7f},{:.7f}".format(*degrees(place))
 
 
-def point_hex(place):
+def point_hex(place: int) -> str:
     """The point of a place, as hexadecimal EWKB."""
     return struct.pack("<BIIdd", 1, 0x20000001, 4326, *degrees(place)).hex()
 
 
-def copy(cursor, table, columns, rows):
+def copy(cursor: Any, table: str, columns: str, rows: Iterable[Sequence[object]]) -> None:
     """Inserts rows by COPY; None is NULL, and texts may have any characters."""
     file = io.StringIO()
-    for row in rows:
-        file.write("\t".join("\\N" if it is None else str(it).translate(ESCAPES) for it in row) + "\n")
+    file.writelines(map(copy_line, rows))
     if file.tell():
         file.seek(0)
         cursor.copy_expert(f"copy olr_keep.{table} ({columns}) from stdin", file)
 
 
-def update(cursor, statement, rows):
+def copy_line(row: Sequence[object]) -> str:
+    """A row as COPY reads it. Most have neither NULL nor a character that is escaped."""
+    text = "\t".join(map(str, row))
+    if None in row or "\\" in text or "\n" in text or "\r" in text or text.count("\t") >= len(row):
+        text = "\t".join("\\N" if it is None else str(it).translate(ESCAPES) for it in row)
+    return text + "\n"
+
+
+def update(cursor: Any, statement: str, rows: Sequence[Sequence[object]]) -> None:
     """Runs a statement over rows of values."""
     if rows:
         psycopg2.extras.execute_values(cursor, statement, rows, page_size=2000)

@@ -1,12 +1,15 @@
 """What a round of tools/live does to the paths: which ones it looks at, where they are, and their records."""
+from __future__ import annotations
+
 import json
 import struct
-from typing import NamedTuple, Optional
+from typing import Any, Container, Dict, List, NamedTuple, Optional, Sequence, Set, Tuple
 
-from .courses import Ends
-from .livemap import FEW, copy, update
+from .courses import Ends, Found, Lost, Rival
+from .livemap import FEW, Affected, copy, update
+from .liveread import Change
 
-from .pathlines import (Edited, Finder, Known, Lost, PathSearch, Placement, Road, State, Wanted, coordinates, course_of,
+from .pathlines import (Course, Edited, Finder, Known, PathSearch, Place, Placement, Road, State, Wanted, coordinates, course_of,
                         number_array, text_array)
 
 PART = 500  # paths that are read at once
@@ -16,9 +19,9 @@ class Was(NamedTuple):
     """Where a path was when it was last found as said, beside its course: which ends were at junctions, and on which roads."""
 
     ends: Ends
-    roads: list
+    roads: List[Road]
 
-    def json(self):
+    def json(self) -> str:
         """The same, as it is written."""
         return json.dumps({"at_junctions": self.ends, "roads": [[it.length, it.street, *it.kind] for it in self.roads]})
 
@@ -27,37 +30,43 @@ class Placed(NamedTuple):
     """The lines of a path, what is cut off them, and how the path will be found again."""
 
     state: State
-    lines: list
-    streets: list
+    lines: List[int]
+    streets: List[str]
     start: int
     end: int
     positive: int
     negative: int
-    nodes: tuple
-    course: Optional[tuple]
+    nodes: Tuple[Optional[int], Optional[int]]
+    course: Optional[Course]
     definition: str
-    said_course: Optional[tuple]
+    said_course: Optional[Course]
     was: Optional[Was]
     why: Optional[Lost]
-    rival: Optional[tuple]
+    lost_at: Tuple[Place, ...]
+    rival: Optional[Rival]
     was_said: bool
+
+
+Before = Tuple[Known, int, int]  # a path as it was found, and the two offsets of its record
 
 
 class PathsUpdate:
     """Where the paths of a round are. `records` are collected unless the program is loaded afterwards."""
 
-    def __init__(self, cursor, affected, tolerance):
+    def __init__(self, cursor: Any, affected: Affected, tolerance: float) -> None:
         self.cursor, self.affected, self.tolerance = cursor, affected, tolerance
-        self.found, self.gone, self.records = {}, set(), []
+        self.found: Dict[str, Placed] = {}
+        self.gone: Set[str] = set()
+        self.records: List[str] = []
 
-    def run(self, change):
+    def run(self, change: Change) -> None:
         """Finds the paths, and writes the rows of those that were found; those of removed paths are left."""
         names = self.names(change)
         for first in range(0, len(names), PART):
             self.find(names[first : first + PART])
         self.cursor.execute("update olr_keep.string set lines = '{}' where name = any(%s::text[])", (text_array(self.gone),))
 
-    def names(self, change):
+    def names(self, change: Change) -> List[str]:
         """The paths to look at: noted ones, those that the map's change affects, and of those that are not found as said the
         ones near it, or all if all is compared."""
         names = change.paths | self.affected.names
@@ -70,25 +79,25 @@ class PathsUpdate:
             names |= self.open_ones()
         return sorted(names)
 
-    def open_ones(self):
+    def open_ones(self) -> Set[str]:
         """The paths that are not found as said, and are near a changed street or over it."""
         keys = self.affected.keys
         if len(keys) > FEW:
-            self.cursor.execute("select name from olr_keep.string where reason is not null or lost or found_elsewhere")
+            self.cursor.execute("select name from olr_keep.string where lost or found_elsewhere")
             return {it for (it,) in self.cursor}
         marked = text_array(mark + it for it in keys for mark in ("", "<", ">"))
         boxes = [[f"{it:.7f}" for it in side] for side in zip(*self.affected.boxes)] or [[]] * 4
         self.cursor.execute(
             """select name from olr_keep.string left join olr_keep.path using (name)
-            where (reason is not null or lost or found_elsewhere)
-            and (string.streets && %s::text[] or path.streets && %s::text[] or exists (
-                select from unnest(%s::float8[], %s::float8[], %s::float8[], %s::float8[]) as box(w, s, e, n)
-                where ST_Intersects(coalesce(geom, course), ST_MakeEnvelope(w, s, e, n, 4326))
-                    or ST_Intersects(coalesce(said_course, course), ST_MakeEnvelope(w, s, e, n, 4326))))""",
+            where (lost or found_elsewhere) and (string.streets && %s::text[] or path.streets && %s::text[] or exists (
+                select from unnest(%s::float8[], %s::float8[], %s::float8[], %s::float8[]) as one(w, s, e, n)
+                cross join lateral (select ST_MakeEnvelope(w, s, e, n, 4326) as box) as it
+                where case when lost_at is not null then ST_Intersects(lost_at, box)
+                    else ST_Intersects(coalesce(geom, course), box) or ST_Intersects(coalesce(said_course, course), box) end))""",
             (marked, marked, *map(number_array, boxes)))
         return {it for (it,) in self.cursor}
 
-    def find(self, names):
+    def find(self, names: Sequence[str]) -> None:
         """Finds some paths."""
         finder, edited = Finder(self.cursor, self.tolerance), Edited(self.affected.moved, self.affected.fresh)
         wanted, known = self.read(names, finder)
@@ -106,19 +115,19 @@ class PathsUpdate:
             rows.append(row_of(name, placed))
         write_rows(self.cursor, rows)
 
-    def record(self, name, placed, before):
+    def record(self, name: str, placed: Placed, before: Optional[Before]) -> None:
         """Adds the record of a path, if it differs."""
-        had_lines = before is not None and bool(before[0].lines)
+        had_lines = bool(before and before[0].lines)
         if placed.lines:
             fields = ",".join(map(str, (placed.positive, placed.negative, *placed.lines)))
             if not had_lines:
                 self.records.append(f"path,{name},{fields}")
-            elif before[1:] != (placed.positive, placed.negative) or before[0].lines != placed.lines:
+            elif before and (before[1:] != (placed.positive, placed.negative) or before[0].lines != placed.lines):
                 self.records.append(f"repath,{name},{fields}")
         elif had_lines:
             self.records.append(f"drop-path,{name}")
 
-    def read(self, names, finder):
+    def read(self, names: Sequence[str], finder: Finder) -> Tuple[Dict[str, Wanted], Dict[str, Before]]:
         """The paths of these names as operators give them, and as they were found last, with their two offsets."""
         self.cursor.execute("""select name, streets, ST_AsBinary(course, 'NDR'), cut_start, cut_end,
                 md5(concat(streets::text, '|', course::text))
@@ -132,9 +141,9 @@ class PathsUpdate:
         self.cursor.execute("select node from olr_keep.node where node = any(%s::bigint[])", (number_array(ends),))
         there = {it for (it,) in self.cursor}
         finder.read_numbers({it for row in rows for it in row[1]})
-        return wanted, {row[0]: (self.known(row, there, finder), *row[-2:]) for row in rows}
+        return wanted, {row[0]: (self.known(row, there, finder), row[-2], row[-1]) for row in rows}
 
-    def known(self, row, there, finder):
+    def known(self, row: Sequence[Any], there: Container[int], finder: Finder) -> Known:
         """A path as it was found last. While it was found as said, its roads are those of its lines before this round."""
         name, lines, streets, start, end, a, b, course, definition, lost, elsewhere, said, roads, *_ = row
         state = State.LOST if lost else State.ELSEWHERE if elsewhere else State.SAID
@@ -146,68 +155,98 @@ class PathsUpdate:
                 roads = [[it.length, it.street, *it.kind] for it in kept]
         else:
             roads, ends = roads["roads"], roads["at_junctions"]
-        roads = [Road(length, street, tuple(kind)) for length, street, *kind in roads]
+        roads = [Road(length, street, (frc, fow, is_both)) for length, street, frc, fow, is_both in roads]
         if roads and state is State.SAID:
             roads[0] = roads[0]._replace(length=roads[0].length - start)
             roads[-1] = roads[-1]._replace(length=roads[-1].length - end)
         nodes = (a if a in there else None, b if b in there else None)
         return Known(lines, streets, start, end, nodes, course, definition, state, said, roads, Ends(*ends))
 
-    def place(self, finder, wanted, known, edited):
+    def place(self, finder: Finder, wanted: Wanted, known: Optional[Known], edited: Edited) -> Placed:
         """Where a path is on the map now."""
         try:
             placement = PathSearch(finder, wanted, known, edited).run()
-        except (ArithmeticError, LookupError, TypeError, ValueError) as error:
+        except (ArithmeticError, AttributeError, LookupError, TypeError, ValueError) as error:
             placement = Placement(State.LOST, None, Lost(f"it can't be sought: {type(error).__name__}: {error}", None))
-        cuts = round(10 * wanted.cut_start), round(10 * wanted.cut_end)
-        is_same = known is not None and known.definition == wanted.definition
-        was_said = is_same and known.state is State.SAID
-        is_kept = is_same and placement.state is not State.SAID and known.said_course
-        was = (known.said_course, Was(known.said_ends, known.roads)) if is_kept else (None, None)
-        if placement.found is None:
-            if not is_same or not known.lines:
-                return Placed(State.LOST, [], [], 0, 0, 0, 0, (None, None), None, wanted.definition, *was, placement.why, None,
-                              was_said)
-            return Placed(State.LOST, known.lines, known.streets, known.start, known.end, known.start + cuts[0],
-                          known.end + cuts[1], known.nodes, known.course, known.definition, *was, placement.why, None, was_said)
-        found = placement.found
-        rows = [finder.rows[it] for it in found.lines]
+        last = known if known is not None and known.definition == wanted.definition else None
+        return Placing(finder, wanted, last, placement).placed()
+
+
+class Placing:
+    """A path that was sought, as its row has it."""
+
+    def __init__(self, finder: Finder, wanted: Wanted, known: Optional[Known], placement: Placement) -> None:
+        self.finder, self.wanted, self.known, self.placement = finder, wanted, known, placement
+        self.cuts = round(10 * wanted.cut_start), round(10 * wanted.cut_end)
+
+    def placed(self) -> Placed:
+        """The row: with the lines that were found, or else with the last ones, or with none."""
+        if self.placement.found:
+            return self.on_lines(self.placement.found)
+        known = self.known
+        if known is None or not known.lines:
+            return self.row([], [], (0, 0), (None, None), None)
+        return self.row(known.lines, known.streets, (known.start, known.end), known.nodes, known.course)
+
+    def on_lines(self, found: Found) -> Placed:
+        """The row with lines."""
+        rows = [self.finder.rows[it] for it in found.lines]
         streets = [(">" if it.along else "<") + it.street for it in rows]
         streets = [it for k, it in enumerate(streets) if k == 0 or it != streets[k - 1]]
-        return Placed(placement.state, found.lines, streets, found.start, found.end, found.start + cuts[0], found.end + cuts[1],
-                      (rows[0].start, rows[-1].end), course_of(rows, found.start, found.end), wanted.definition, *was,
-                      placement.why, found.rival, was_said)
+        nodes, course = (rows[0].start, rows[-1].end), course_of(rows, found.start, found.end)
+        return self.row(found.lines, streets, (found.start, found.end), nodes, course)
+
+    def row(self, lines: List[int], streets: List[str], ends: Tuple[int, int], nodes: Tuple[Optional[int], Optional[int]],
+            course: Optional[Course]) -> Placed:
+        """The row of a path on these lines. While it isn't found as said, where it was is remembered."""
+        known, placement = self.known, self.placement
+        is_said = placement.state is State.SAID
+        said = None if is_said or known is None else known.said_course
+        was = Was(known.said_ends, known.roads) if known is not None and said else None
+        offsets = (ends[0] + self.cuts[0], ends[1] + self.cuts[1]) if lines else (0, 0)
+        return Placed(placement.state, lines, streets, *ends, *offsets, nodes, course, self.wanted.definition, said, was,
+                      placement.why, placement.lost_at, placement.found and placement.found.rival,
+                      known is not None and known.state is State.SAID)
 
 
 ROW = ("name, lines, streets, start_offset, end_offset, start_cut, end_cut, start_node, end_node, definition, lost, "
-       "found_elsewhere, geom, said_course, said_roads")
+       "found_elsewhere, geom, said_course, said_roads, lost_at")
 
 
-def row_of(name, it):
+def row_of(name: str, it: Placed) -> Tuple[object, ...]:
     """The row of a path."""
     return (name, it.lines, it.streets, it.positive, it.negative, it.start, it.end, *it.nodes, it.definition,
-            it.state is State.LOST, it.state is State.ELSEWHERE, course_hex(it.course), course_hex(it.said_course), it.was and it.was.json())
+            it.state is State.LOST, it.state is State.ELSEWHERE, course_hex(it.course), course_hex(it.said_course), it.was and it.was.json(),
+            places_hex(it.lost_at))
 
 
-def write_rows(cursor, rows):
+def write_rows(cursor: Any, rows: Sequence[Sequence[object]]) -> None:
     """Writes where paths are; their answers are written when the round is published."""
     update(cursor, f"""insert into olr_keep.string ({ROW}, reason, round)
         select name, lines::bigint[], streets::text[], start_offset, end_offset, start_cut, end_cut, start_node::bigint,
             end_node::bigint, definition, lost, found_elsewhere, geom::geometry, said_course::geometry, said_roads::jsonb,
-            'new', 0
+            lost_at::geometry, 'new', 0
         from (values %s) as it({ROW})
         on conflict (name) do update set ({ROW}) = (excluded.name, excluded.lines, excluded.streets, excluded.start_offset,
             excluded.end_offset, excluded.start_cut, excluded.end_cut, excluded.start_node, excluded.end_node,
             excluded.definition, excluded.lost, excluded.found_elsewhere, excluded.geom, excluded.said_course,
-            excluded.said_roads)""", rows)
+            excluded.said_roads, excluded.lost_at)""", rows)
 
 
-def course_hex(course):
+def course_hex(course: Optional[Sequence[Place]]) -> Optional[str]:
     """A course as hexadecimal EWKB, or None."""
     if not course or len(course) < 2:
         return None
     numbers = [it for place in course for it in place]
     return struct.pack(f"<BIII{len(numbers)}d", 1, 0x20000002, 4326, len(course), *numbers).hex()
+
+
+def places_hex(places: Sequence[Place]) -> Optional[str]:
+    """Places as hexadecimal EWKB of a MultiPoint, or None."""
+    if not places:
+        return None
+    points = b"".join(struct.pack("<BIdd", 1, 1, *it) for it in places)
+    return (struct.pack("<BIII", 1, 0x20000004, 4326, len(places)) + points).hex()
 
 
 REASONS = {
@@ -218,7 +257,7 @@ REASONS = {
 }
 
 
-def write_path_problems(cursor, paths, names):
+def write_path_problems(cursor: Any, paths: PathsUpdate, names: Set[str]) -> None:
     """Writes which of these paths have no string, are found elsewhere, or have two roads near their course, and why. Of paths
     that were not looked at, only the first changes."""
     looked = text_array({*paths.found, *paths.gone})
@@ -234,7 +273,7 @@ def write_path_problems(cursor, paths, names):
         start = None if lon is None else (lon, lat)
         if reason is not None and not is_text:
             rows.append(("no string", name, *why_no_string(reason, placed, start)))
-        elif placed and placed.state is State.ELSEWHERE:
+        elif placed and placed.state is State.ELSEWHERE and placed.why:
             words = f"found elsewhere: {placed.why.words}"
             rows.append(("found elsewhere", name, words, point(placed.why.place or start)))
         if placed and placed.rival:
@@ -243,7 +282,7 @@ def write_path_problems(cursor, paths, names):
     copy(cursor, "problem", "kind, path, words, geom", rows)
 
 
-def why_no_string(reason, placed, start):
+def why_no_string(reason: str, placed: Optional[Placed], start: Optional[Place]) -> Tuple[str, Optional[str]]:
     """Why a path has no string, in words, and where."""
     if placed and placed.why and placed.state is State.LOST:
         return placed.why.words, point(placed.why.place or start)
@@ -251,6 +290,6 @@ def why_no_string(reason, placed, start):
     return REASONS.get(kind, "no lines follow it").format(at), point(start)
 
 
-def point(place):
+def point(place: Optional[Place]) -> Optional[str]:
     """A place as EWKT, or None."""
     return None if place is None else "SRID=4326;POINT({:.7f} {:.7f})".format(*place)

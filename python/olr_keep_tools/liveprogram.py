@@ -1,6 +1,9 @@
 """The program olr-keep as tools/live uses it: with the map and the paths of the tables."""
+from __future__ import annotations
+
 import select
 import time
+from typing import Any, Callable, Dict, List, Sequence, Tuple
 
 from .program import Program, ProgramFailed
 
@@ -13,18 +16,18 @@ TICK = 1.0  # seconds between two calls of `tick` while replies are awaited
 class LiveProgram(Program):
     """A running program. `tick` is called each second while it works, so that the session of the database isn't silent."""
 
-    def __init__(self, command, tick):
+    def __init__(self, command: Sequence[str], tick: Callable[[], None]) -> None:
         super().__init__(command, HANGING)
         self.tick = tick
 
-    def move(self):
+    def move(self) -> None:
         """Writes and reads what is possible now, and waits until something is."""
         end, inputs = time.monotonic() + HANGING, [self.process.stdin] if self.unsent else []
         while not any(select.select([self.process.stdout], inputs, [], TICK)) and time.monotonic() < end:
             self.tick()
         super().move()
 
-    def carry_out(self, text, count):
+    def carry_out(self, text: bytes, count: int) -> List[str]:
         """Sends so many records, which all have to be accepted, and returns the lines of their replies."""
         self.send(text)
         lines = []
@@ -34,37 +37,44 @@ class LiveProgram(Program):
             lines += run.reply.lines
         return lines
 
-    def answers(self, records):
+    def answers(self, records: Sequence[str]) -> Dict[str, str]:
         """The answers that these records change, after each other, as texts by name."""
-        found = {}
+        found: Dict[str, str] = {}
         for first in range(0, len(records), MOST_HELD):
             part = records[first : first + MOST_HELD]
             text = "\n".join(["begin", *part, f"commit,{len(part)}", ""]).encode()
-            found.update(line.split(",", 1) for line in self.carry_out(text, len(part) + 2))
+            found.update(answer_of(line) for line in self.carry_out(text, len(part) + 2))
         return found
 
-    def load(self, cursor):
+    def load(self, cursor: Any) -> Dict[str, str]:
         """Loads the tables' map and paths, and returns all answers."""
         sent = Sent(self)
         cursor.copy_expert("copy (select olr_keep.records()) to stdout", sent)
         sent.flush()
-        return dict(line.split(",", 1) for line in self.carry_out(b"report\n", 1))
+        return dict(answer_of(line) for line in self.carry_out(b"report\n", 1))
+
+
+def answer_of(line: str) -> Tuple[str, str]:
+    """The path of a line of a reply, and its answer."""
+    name, _, answer = line.partition(",")
+    return name, answer
 
 
 class Sent:
     """A file whose lines are sent to a program, as records that have to be accepted."""
 
-    def __init__(self, program):
-        self.program, self.parts, self.size = program, [], 0
+    def __init__(self, program: LiveProgram) -> None:
+        self.program, self.size = program, 0
+        self.parts: List[bytes] = []
 
-    def write(self, part):
+    def write(self, part: bytes) -> None:
         """Adds whole records."""
         self.parts.append(bytes(part))
         self.size += len(part)
         if self.size >= BLOCK:
             self.flush()
 
-    def flush(self):
+    def flush(self) -> None:
         """Sends what was added."""
         text = b"".join(self.parts)
         self.parts, self.size = [], 0

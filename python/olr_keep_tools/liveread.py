@@ -1,10 +1,12 @@
 """What a round of tools/live reads: the notes, and of the streets that they name the rows that differ from what was read last."""
-import enum
-from typing import NamedTuple, Optional, Union
+from __future__ import annotations
 
-from .livesession import Readable, Savepoint, first_line, psycopg2, row_query
+import enum
+from typing import Any, Container, Dict, Iterable, Iterator, List, Mapping, NamedTuple, Optional, Sequence, Set, Tuple, Union
+
+from .livesession import Readable, Savepoint, Source, Table, first_line, psycopg2, row_query
 from .pathlines import text_array
-from .streets import UNITS, Street, Unfit, street_of, units
+from .streets import Street, Unfit, degrees, street_of
 
 BLOCK = 4000  # streets that are read and cut at once
 CELL = 0.02  # degrees of the cells by which streets are put into blocks
@@ -41,11 +43,11 @@ class Fate(enum.Enum):
 class Block(NamedTuple):
     """Streets that differ: rows by street, streets that are gone, and those of which only class or form are others."""
 
-    rows: dict
-    gone: set
-    plain: set
+    rows: Dict[str, StreetRow]
+    gone: Set[str]
+    plain: Set[str]
 
-    def keys(self):
+    def keys(self) -> Set[str]:
         """All streets of it."""
         return self.rows.keys() | self.gone
 
@@ -53,13 +55,18 @@ class Block(NamedTuple):
 class Change:
     """What a round is about: the streets and paths that were noted or differ, by which users, and in which transactions."""
 
-    def __init__(self):
-        self.paths, self.users, self.every_path = set(), set(), False
-        self.keys, self.broken, self.compared = {}, {}, set()
-        self.street_group, self.path_group = {}, {}
+    def __init__(self) -> None:
+        self.paths: Set[str] = set()
+        self.users: Set[str] = set()
+        self.every_path = False
+        self.keys: Dict[int, Set[str]] = {}
+        self.broken: Dict[int, str] = {}
+        self.compared: Set[int] = set()
+        self.street_group: Dict[str, str] = {}
+        self.path_group: Dict[str, str] = {}
 
     @property
-    def count(self):
+    def count(self) -> int:
         """How many streets are to be read."""
         return sum(map(len, self.keys.values()))
 
@@ -68,12 +75,12 @@ class Reader:
     """Reads the changes of the tables that can be read; `stale` are sources of which all rows are compared. A preview leaves the
     notes where they are."""
 
-    def __init__(self, cursor, tables, stale, is_preview=False):
+    def __init__(self, cursor: Any, tables: Sequence[Table], stale: Container[int], is_preview: bool = False) -> None:
         self.cursor, self.tables, self.stale, self.is_preview = cursor, tables, stale, is_preview
         self.sources = {it.source.source: it.source for it in tables if it.state is Readable.READY}
         self.change = Change()
 
-    def read(self):
+    def read(self) -> Change:
         """What there is to do."""
         change = self.change
         for source, key, who, tx in self.notes("source <= 0"):
@@ -92,22 +99,22 @@ class Reader:
         self.removed_sources()
         return change
 
-    def notes(self, where, *values):
+    def notes(self, where: str, *values: object) -> List[Tuple[Any, ...]]:
         """Takes the notes for which a condition holds: (source, key, who, transaction)."""
         columns = "source, key, who, tx::text"
         query = f"select {columns} from olr_keep.note where {where}" if self.is_preview else \
             f"delete from olr_keep.note where {where} returning {columns}"
         self.cursor.execute(query, values)
-        return self.cursor.fetchall()
+        return list(self.cursor.fetchall())
 
-    def fail(self, source, error):
+    def fail(self, source: Source, error: Exception) -> None:
         """Leaves a table out of this round, since it can't be read; its notes stay."""
         if self.cursor.connection.closed:
             raise error
         self.change.broken[source.source] = first_line(error)
         self.change.keys.pop(source.source, None)
 
-    def read_source(self, source):
+    def read_source(self, source: Source) -> None:
         """The streets of a table that were noted, and if it is compared all that differ."""
         keys, is_whole = set(), source.source in self.stale
         for _, key, who, tx in self.notes("source = %s", source.source):
@@ -126,7 +133,7 @@ class Reader:
         if keys:
             self.change.keys[source.source] = keys
 
-    def compared(self, source):
+    def compared(self, source: Source) -> Set[str]:
         """The ids of rows that differ from what was read last; if a row can't be read, all ids, so that the others are."""
         try:
             with Savepoint(self.cursor):
@@ -139,7 +146,7 @@ class Reader:
         self.cursor.execute("select street from olr_keep.street where source = %s", (source.source,))
         return found | {it[len(source.prefix) :] for (it,) in self.cursor}
 
-    def differing(self, source):
+    def differing(self, source: Source) -> Set[str]:
         """The ids of rows that differ from what was read last."""
         self.cursor.execute(
             f"""select street
@@ -150,7 +157,7 @@ class Reader:
             {"prefix": source.prefix, "source": source.source})
         return {it[len(source.prefix) :] for (it,) in self.cursor if it is not None}
 
-    def nameless(self, source):
+    def nameless(self, source: Source) -> None:
         """Writes how many rows of a table have no id."""
         self.cursor.execute("delete from olr_keep.problem where kind = 'no id' and source = %s", (source.source,))
         self.cursor.execute(f"select count(*) from {source.streets} where coalesce(({source.id})::text, '') = ''")
@@ -160,7 +167,7 @@ class Reader:
             self.cursor.execute("insert into olr_keep.problem (kind, source, words) values ('no id', %s, %s)",
                                 (source.source, words))
 
-    def removed_sources(self):
+    def removed_sources(self) -> None:
         """The streets of tables that are no sources any more, and their notes."""
         self.notes("source > 0 and not exists (select from olr_keep.source where source.source = note.source)")
         self.cursor.execute("""select street from olr_keep.street
@@ -173,7 +180,7 @@ class Reader:
 
     # ---- the rows, in blocks
 
-    def blocks(self):
+    def blocks(self) -> Iterator[Block]:
         """The streets that differ, in blocks of those that are near each other."""
         ordered = [(source, key) for source, keys in self.change.keys.items() for key in sorted(keys)]
         if len(ordered) > BLOCK:
@@ -181,20 +188,19 @@ class Reader:
             ordered.sort(key=lambda it: (cells[it[0]].get(it[1], -1), it))
         self.change.keys = {}
         for first in range(0, len(ordered), BLOCK):
-            by_source = {}
+            by_source: Dict[int, Set[str]] = {}
             for source, key in ordered[first : first + BLOCK]:
                 by_source.setdefault(source, set()).add(key)
             yield self.block(by_source)
 
-    def cells(self, number, keys):
+    def cells(self, number: int, keys: Iterable[str]) -> Dict[str, int]:
         """The cell of each street: where its row begins now, or where it was."""
         source, found = self.sources.get(number), {}
         prefix = source.prefix if source else ""
         self.cursor.execute("select street, min(place) from olr_keep.vertex where part = 0 and k = 0 group by street")
         for street, place in self.cursor:
             if street.startswith(prefix):
-                lon, lat = units(place)
-                found[street[len(prefix) :]] = cell(lon / UNITS, lat / UNITS)
+                found[street[len(prefix) :]] = cell(*degrees(place))
         if source:
             try:
                 with Savepoint(self.cursor, source.search_path):
@@ -209,7 +215,7 @@ class Reader:
                 self.change.broken[number] = first_line(error)
         return {it: found[it] for it in keys if it in found}
 
-    def block(self, keys):
+    def block(self, keys: Mapping[int, Set[str]]) -> Block:
         """The streets of these keys that differ, by source."""
         block = Block({}, set(), set())
         for number, ids in keys.items():
@@ -221,7 +227,7 @@ class Reader:
             self.read_keys(self.sources[source], {street[len(self.sources[source].prefix) :]}, block)
         return block
 
-    def freed(self, gone):
+    def freed(self, gone: Set[str]) -> List[Tuple[int, str]]:
         """Streets of other tables that were left out since a street that is gone had their id."""
         if not gone:
             return []
@@ -229,7 +235,7 @@ class Reader:
             where kind = 'same id' and street = any(%s::text[])""", (text_array(gone),))
         return [it for it in self.cursor.fetchall() if it[0] in self.sources]
 
-    def read_keys(self, source, ids, block):
+    def read_keys(self, source: Source, ids: Set[str], block: Block) -> None:
         """Reads rows, and adds what differs to a block. If the table can't be read, it is left as it was, and noted again."""
         try:
             with Savepoint(self.cursor, source.search_path):
@@ -244,7 +250,7 @@ class Reader:
             return
         self.sort_out(source, ids, rows, block)
 
-    def rows(self, source, ids):
+    def rows(self, source: Source, ids: Set[str]) -> Dict[str, List[StreetRow]]:
         """The rows of these ids, as lists by street. A row that can't be read alone is unfit; if none can be read, this fails."""
         try:
             with Savepoint(self.cursor):
@@ -260,7 +266,7 @@ class Reader:
         half = len(ordered) // 2
         return {**self.rows(source, set(ordered[:half])), **self.rows(source, set(ordered[half:]))}
 
-    def fetch(self, source, ids):
+    def fetch(self, source: Source, ids: Set[str]) -> Dict[str, List[StreetRow]]:
         """The rows of these ids, as lists by street."""
         where = f"where ({source.id})".replace("%", "%%") + f" = any(%(ids)s::text[]::{source.id_type}[])"
         self.cursor.execute(
@@ -268,13 +274,14 @@ class Reader:
                 ST_AsBinary(olr_keep.degrees(geom), 'NDR')
             from ({row_query(source, where)}) as row""",
             {"prefix": source.prefix, "ids": text_array(ids)})
-        found = {}
-        for street, digest, shape, *fields, binary in self.cursor:
-            row = StreetRow(source.source, digest, shape, street_of(*fields, None if binary is None else bytes(binary)))
+        found: Dict[str, List[StreetRow]] = {}
+        for street, digest, shape, frc, fow, direction, kind, srid, binary in self.cursor:
+            read = street_of(frc, fow, direction, kind, srid, None if binary is None else bytes(binary))
+            row = StreetRow(source.source, digest, shape, read)
             found.setdefault(street, []).append(row)
         return found
 
-    def sort_out(self, source, ids, rows, block):
+    def sort_out(self, source: Source, ids: Set[str], rows: Mapping[str, List[StreetRow]], block: Block) -> None:
         """Adds the streets that differ to a block, and writes which ids another table has."""
         streets = [source.prefix + it for it in sorted(ids)]
         known, taken = self.known(streets, block), []
@@ -291,7 +298,7 @@ class Reader:
                     block.plain.add(street)
         self.write_taken(source, streets, taken)
 
-    def known(self, streets, block):
+    def known(self, streets: Sequence[str], block: Block) -> Dict[str, Known]:
         """What was read of these streets last, or in this block from another table."""
         self.cursor.execute("""select street, source, digest, shape, class is not null from olr_keep.street
             where street = any(%s::text[])""", (text_array(streets),))
@@ -299,7 +306,7 @@ class Reader:
         found.update((it, Known(block.rows[it].source, 0, 0, False)) for it in streets if it in block.rows)
         return found
 
-    def write_taken(self, source, streets, taken):
+    def write_taken(self, source: Source, streets: Sequence[str], taken: Sequence[str]) -> None:
         """Writes which streets of a table are left out since another table has their id."""
         self.cursor.execute("delete from olr_keep.problem where kind = 'same id' and source = %s and street = any(%s::text[])",
                             (source.source, text_array(streets)))
@@ -309,7 +316,7 @@ class Reader:
                                 (source.source, street, words))
 
 
-def fate_of(source, known, rows):
+def fate_of(source: int, known: Optional[Known], rows: Sequence[StreetRow]) -> Fate:
     """What has become of a street of this source, whose rows these are."""
     is_mine = known is None or known.source in (source, None)
     if not rows:
@@ -321,17 +328,17 @@ def fate_of(source, known, rows):
     return Fate.CHANGED
 
 
-def changed(source, rows):
+def changed(source: int, rows: Sequence[StreetRow]) -> StreetRow:
     """The row of a street; with two rows it is unfit."""
     return rows[0] if len(rows) == 1 else StreetRow(source, 0, 0, Unfit("another street has the same id"))
 
 
-def is_plain(known, row):
+def is_plain(known: Optional[Known], row: StreetRow) -> bool:
     """Whether only the class or the form of a street is another one."""
     return known is not None and known.is_fit and known.shape == row.shape and isinstance(row.street, Street)
 
 
-def cell(lon, lat):
+def cell(lon: Optional[float], lat: float) -> int:
     """The number of a cell in the order of a Z curve, so that streets of neighbouring numbers are near each other."""
     if lon is None or not (abs(lon) <= 180 and abs(lat) <= 90):
         return -1

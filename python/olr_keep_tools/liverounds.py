@@ -1,11 +1,14 @@
 """What a round of tools/live publishes: the answers that differ, but for those of frozen paths and of clusters of changes that are
 held."""
+from __future__ import annotations
+
 import enum
 import math
-from typing import NamedTuple, Optional
+from typing import Any, Collection, Dict, Iterable, List, Mapping, NamedTuple, Optional, Set, Tuple
 
-from .livemap import MOST_CELLS, NEAR, cell_of, copy, update
-from .livepaths import write_path_problems
+from .livemap import MOST_CELLS, NEAR, Affected, Numbers, cell_of, copy, update
+from .livepaths import PathsUpdate, write_path_problems
+from .liveread import Change
 from .pathlines import State, coordinates, text_array
 
 MOST_NAMED = 1000  # streets that a hold names
@@ -18,13 +21,13 @@ class Answer(NamedTuple):
     reason: Optional[str]
 
     @classmethod
-    def of(cls, answer):
+    def of(cls, answer: str) -> Answer:
         """An answer as the program writes it."""
         return cls(answer[5:], None) if answer.startswith("text,") else cls(None, answer)
 
-    def written(self):
+    def written(self) -> str:
         """The answer as the program writes it."""
-        return self.reason if self.text is None else f"text,{self.text}"
+        return f"text,{self.text}" if self.reason is None else self.reason
 
 
 DROPPED, LOST = Answer(None, "dropped"), Answer(None, "lost")
@@ -48,11 +51,11 @@ class Counts(NamedTuple):
     elsewhere: int = 0
 
     @classmethod
-    def of(cls, effects):
+    def of(cls, effects: Collection[Optional[Effect]]) -> Counts:
         """The counts of effects."""
         return cls(*(sum(it is kind for it in effects) for kind in Effect))
 
-    def text(self):
+    def text(self) -> str:
         """The counts in words."""
         return f"{self.changed} strings changed, {self.refused} refused, {self.dropped} dropped, {self.elsewhere} found elsewhere"
 
@@ -66,7 +69,7 @@ class Limits(NamedTuple):
     elsewhere: float
     least: int
 
-    def are_exceeded(self, counts, paths):
+    def are_exceeded(self, counts: Counts, paths: int) -> bool:
         """Whether so many have to be released."""
         return (counts.changed > max(10 * self.least, self.changed / 100 * paths)
                 or counts.refused + counts.dropped > max(self.least, self.refused / 100 * paths)
@@ -82,24 +85,28 @@ class Waiting(NamedTuple):
     is_released: bool = False
 
 
+Hold = Tuple[int, Set[str], Counts, Set[str]]  # its number, its paths, what it does, and the streets
+Item = Any  # of a cluster: a street, a cell, a transaction or a path
+
+
 class Outcome(NamedTuple):
     """What a round publishes (before and after, by name), what waits, and the counts of what is published. `holds` are the new
     ones: their numbers, with streets and counts."""
 
-    published: dict
-    waiting: dict
-    ended: set
+    published: Dict[str, Tuple[Optional[Answer], Answer]]
+    waiting: Dict[str, Waiting]
+    ended: Set[str]
     counts: Counts
-    holds: list
+    holds: List[Hold]
 
 
 class Round:
     """The end of a round, in steps: the answers that differ, what is frozen, what is held, and writing the rest."""
 
-    def __init__(self, cursor, change, affected, paths, numbers):
+    def __init__(self, cursor: Any, change: Change, affected: Affected, paths: PathsUpdate, numbers: Numbers) -> None:
         self.cursor, self.change, self.affected, self.paths, self.numbers = cursor, change, affected, paths, numbers
 
-    def judge(self, answers, limits):
+    def judge(self, answers: Mapping[str, str], limits: Limits) -> Outcome:
         """What is published, and what waits."""
         names = {*answers, *self.paths.found, *self.paths.gone}
         self.read_waiting()
@@ -123,25 +130,25 @@ class Round:
         counts = Counts.of([self.effect(name, after) for name, (_, after) in published.items()])
         return Outcome(published, still, ended, counts, holds)
 
-    def read_waiting(self):
+    def read_waiting(self) -> None:
         """Reads what waits."""
         self.cursor.execute("""select name, hold, text, reason, effect, release.hold is not null from olr_keep.waiting
             left join olr_keep.release using (hold)""")
         self.waited = {name: Waiting(hold, Answer(text, reason), effect and Effect(effect), is_released)
                        for name, hold, text, reason, effect, is_released in self.cursor}
 
-    def held_with(self, names):
+    def held_with(self, names: Set[str]) -> Set[str]:
         """The paths of released holds, and those that wait in a hold with one of these."""
         touched = {it.hold for name, it in self.waited.items() if it.is_released or it.hold and name in names}
         return {name for name, it in self.waited.items() if it.hold in touched and it.hold is not None}
 
-    def read_published(self, names):
+    def read_published(self, names: Set[str]) -> Dict[str, Answer]:
         """What is published of these paths; a path that is new in this round has no answer yet."""
         self.cursor.execute("""select name, text, reason from olr_keep.string
             where round > 0 and name = any(%s::text[])""", (text_array(names),))
         return {name: Answer(*rest) for name, *rest in self.cursor}
 
-    def answer(self, name, answers):
+    def answer(self, name: str, answers: Mapping[str, str]) -> Optional[Answer]:
         """The answer of a path now, or None if it has none."""
         if name in self.paths.gone:
             return DROPPED if name in self.before else None
@@ -151,7 +158,7 @@ class Round:
             return Answer.of(answers[name])
         return self.waited[name].answer if name in self.waited else self.before.get(name)
 
-    def frozen_answers(self, after):
+    def frozen_answers(self, after: Mapping[str, Answer]) -> Dict[str, Answer]:
         """The answers that frozen paths keep."""
         self.cursor.execute("""select name, history.text, history.reason, frozen.round is not null
             from olr_keep.frozen left join lateral (
@@ -163,9 +170,9 @@ class Round:
                 frozen[name] = Answer(text, reason) if is_round and (text or reason) else self.before[name]
         return frozen
 
-    def held_before(self, differing, limits, count):
+    def held_before(self, differing: Mapping[str, Answer], limits: Limits, count: int) -> Dict[str, Waiting]:
         """The answers of paths that still wait: those of holds that are not released, and still too many."""
-        holds = {}
+        holds: Dict[int, Dict[str, Waiting]] = {}
         for name, it in differing.items():
             known = self.waited.get(name)
             if known and known.hold is not None and not known.is_released:
@@ -173,7 +180,7 @@ class Round:
         return {name: it for held in holds.values() for name, it in held.items()
                 if limits.are_exceeded(Counts.of([it.effect for it in held.values()]), count)}
 
-    def held_now(self, fresh, limits, count):
+    def held_now(self, fresh: Mapping[str, Answer], limits: Limits, count: int) -> List[Hold]:
         """The clusters of changes whose strings have to wait: (number, names, counts, streets)."""
         left = {name: effect for name, it in fresh.items() if name not in self.waited and (effect := self.effect(name, it))}
         if not limits.are_exceeded(Counts.of(left.values()), count):
@@ -188,7 +195,7 @@ class Round:
                     del left[it]
         return holds
 
-    def effect(self, name, after):
+    def effect(self, name: str, after: Answer) -> Optional[Effect]:
         """What an answer does to a string that is published, or None."""
         before, placed, waited = self.before.get(name), self.paths.found.get(name), self.waited.get(name)
         if before is None or before.text is None or after == before:
@@ -203,7 +210,7 @@ class Round:
 
     # ---- writing
 
-    def publish(self, outcome, seconds):
+    def publish(self, outcome: Outcome, seconds: float) -> int:
         """Writes the answers, and the round with its history. Returns its number, or 0 if nothing changed."""
         streets, names = self.affected.keys, {*outcome.published, *outcome.waiting, *outcome.ended}
         if not (streets or self.paths.gone or names):
@@ -218,7 +225,7 @@ class Round:
         self.cursor.execute("select pg_notify('olr_keep_round', %s)", (str(number),))
         return number
 
-    def write_waiting(self, outcome, number):
+    def write_waiting(self, outcome: Outcome, number: int) -> None:
         """Writes the answers that wait, and the new holds."""
         self.cursor.execute("delete from olr_keep.waiting where name = any(%s::text[])",
                             (text_array(outcome.ended | outcome.waiting.keys()),))
@@ -231,7 +238,7 @@ class Round:
                 (hold, number, text_array(sorted(streets)[:MOST_NAMED]), text_array(sorted(self.change.users)), *counts))
             self.cursor.execute("select pg_notify('olr_keep_held', %s)", (str(hold),))
 
-    def write_strings(self, published, number):
+    def write_strings(self, published: Mapping[str, Tuple[Optional[Answer], Answer]], number: int) -> None:
         """Writes the answers that are published."""
         gone = [name for name, (_, after) in published.items() if after == DROPPED]
         gone += [name for name in self.paths.gone if name not in self.before]
@@ -243,7 +250,7 @@ class Round:
                     then case when string.text is null then last_round else string.round end end
             from (values %s) as it(name, text, reason, round) where string.name = it.name""", answers)
 
-    def write_round(self, outcome, number, streets, seconds):
+    def write_round(self, outcome: Outcome, number: int, streets: Set[str], seconds: float) -> None:
         """Writes the row of the round, and its history."""
         self.cursor.execute(
             """insert into olr_keep.round (round, at, streets, paths, users, changed, refused, dropped, elsewhere, seconds)
@@ -257,11 +264,12 @@ class Round:
 class Clusters:
     """Which changes belong together: those of one transaction, and those near each other; and which paths they change."""
 
-    def __init__(self, cursor, change, affected, names):
+    def __init__(self, cursor: Any, change: Change, affected: Affected, names: Iterable[str]) -> None:
         self.cursor, self.change, self.affected, self.names = cursor, change, affected, names
-        self.parents, self.cells, self.streets = {}, {}, {}
+        self.parents: Dict[Item, Item] = {}
+        self.cells: Dict[str, Set[Tuple[int, int]]] = {}
 
-    def root(self, item):
+    def root(self, item: Item) -> Item:
         """The first item of a cluster."""
         self.parents.setdefault(item, item)
         while self.parents[item] != item:
@@ -269,11 +277,11 @@ class Clusters:
             item = self.parents[item]
         return item
 
-    def join(self, a, b):
+    def join(self, a: Item, b: Item) -> None:
         """Makes two clusters one."""
         self.parents[self.root(a)] = self.root(b)
 
-    def run(self):
+    def run(self) -> List[Tuple[Set[str], Set[str]]]:
         """The clusters, as the names of their paths and their streets. A path may be in several."""
         keys = self.affected.keys
         if len(keys) > MOST_CELLS:
@@ -285,7 +293,7 @@ class Clusters:
         for name in self.names:
             for cluster in self.clusters_of(name):
                 self.join(("path", name, cluster), cluster)
-        found = {}
+        found: Dict[Item, Tuple[Set[str], Set[str]]] = {}
         for item in list(self.parents):
             names, streets = found.setdefault(self.root(item), (set(), set()))
             if item[0] == "path":
@@ -294,7 +302,7 @@ class Clusters:
                 streets.add(item[1])
         return sorted(found.values(), key=lambda it: -len(it[0]))
 
-    def place(self, keys):
+    def place(self, keys: Iterable[str]) -> None:
         """Puts the changed streets into cells, as they are, and as they were, and joins those in neighbouring ones."""
         for key, x, y in self.affected_cells(keys):
             cell = "cell", x, y
@@ -304,14 +312,14 @@ class Clusters:
                 if other in self.parents:
                     self.join(("cell", x, y), other)
 
-    def affected_cells(self, keys):
+    def affected_cells(self, keys: Iterable[str]) -> List[Tuple[str, int, int]]:
         """The cells of streets: of their vertices now, and of their boxes before."""
         self.cursor.execute("""select distinct street, floor(olr_keep.lon(place) / %s)::int, floor(olr_keep.lat(place) / %s)::int
             from olr_keep.vertex where street = any(%s::text[])""", (NEAR, NEAR, text_array(keys)))
-        found = self.cursor.fetchall()
+        found: List[Tuple[str, int, int]] = self.cursor.fetchall()
         return found + [(key, *it) for key, cells in self.affected.old_cells.items() for it in cells]
 
-    def clusters_of(self, name):
+    def clusters_of(self, name: str) -> Set[Item]:
         """The clusters that change a path: that of the transaction which noted it, and those near it, or else the nearest one."""
         noted = self.change.path_group.get(name)
         found = {("transaction", noted)} if noted else set()
@@ -323,7 +331,7 @@ class Clusters:
             found = {min(there, key=lambda it: min(math.dist(it[1:], cell) for cell in cells))} if there else found
         return {self.root(it) for it in found} or {"compared"}
 
-    def cells_of(self, name):
+    def cells_of(self, name: str) -> Set[Tuple[int, int]]:
         """The cells of a path's course, as it is and as it was."""
         if not self.cells:
             self.cursor.execute("""select name, ST_AsBinary(geom, 'NDR'), ST_AsBinary(said_course, 'NDR') from olr_keep.string
@@ -334,6 +342,6 @@ class Clusters:
         return self.cells.get(name, set())
 
 
-def around(x, y):
+def around(x: int, y: int) -> List[Item]:
     """A cell and its neighbours."""
     return [("cell", x + i, y + j) for i in (-1, 0, 1) for j in (-1, 0, 1)]

@@ -1,18 +1,20 @@
 """The process of tools/live: its session and its program, one attempt at a round after the other, and what it watches."""
+from __future__ import annotations
+
 import collections
 import enum
 import os
 import select
 import sys
 import time
-from typing import NamedTuple
+from typing import Any, Dict, List, Mapping, NamedTuple, Optional, Sequence, Set, Tuple
 
 from . import livesession as session
 from .command import say
 from .liveprogram import LiveProgram
 from .livemap import Affected, MapUpdate, Numbers
 from .livepaths import PathsUpdate
-from .liveread import BLOCK, Reader
+from .liveread import BLOCK, Change, Reader
 from .liverounds import Limits, Round
 from .livesession import Busy, Readable, Stale, psycopg2
 from .program import ProgramFailed
@@ -30,7 +32,7 @@ class Settings(NamedTuple):
     """What the command line says."""
 
     database: str
-    command: list
+    command: List[str]
     limits: Limits
     tolerance: float
     quiet: float
@@ -53,13 +55,15 @@ class Ending(enum.Enum):
 class Attempt:
     """One round, in steps."""
 
-    def __init__(self, live, work, every_path):
+    def __init__(self, live: Live, work: session.Transaction, every_path: bool) -> None:
         self.live, self.work, self.cursor, self.settings = live, work, live.cursor, live.settings
-        self.began, self.records, self.fresh = time.monotonic(), [], {}
+        self.began = time.monotonic()
+        self.records: List[str] = []
+        self.fresh: Dict[str, str] = {}
         self.reader = Reader(self.cursor, work.tables, live.stale, self.settings.is_preview)
         self.every_path, self.affected = every_path, Affected()
 
-    def run(self):
+    def run(self) -> Ending:
         """Reads, applies, asks the program, and publishes."""
         change = self.reader.read()
         change.every_path |= self.every_path or self.live.program is None
@@ -75,7 +79,7 @@ class Attempt:
         self.outcome = self.round.judge(self.answers(), self.settings.limits)
         return self.show() if self.settings.is_preview else self.publish(change)
 
-    def apply_map(self, change):
+    def apply_map(self, change: Change) -> None:
         """Changes the map, block by block."""
         count, done, said = change.count, 0, time.monotonic()
         margin = max(30, 2 * self.settings.tolerance) * METRE
@@ -91,14 +95,14 @@ class Attempt:
                 self.live.write_metrics(False)
         self.live.progress = 0, 0
 
-    def answers(self):
+    def answers(self) -> Dict[str, str]:
         """The answers that the round changes; all answers if the program is started for it."""
         if self.live.program is None:
             return self.live.loaded()
         records = self.records + self.paths.records
         return {**self.fresh, **(self.live.program.answers(records) if records else {})}
 
-    def publish(self, change):
+    def publish(self, change: Change) -> Ending:
         """Publishes the round, and commits."""
         number = self.round.publish(self.outcome, time.monotonic() - self.began)
         self.work.commit()
@@ -111,7 +115,7 @@ class Attempt:
             say(f"hold {hold} of {len(names)} paths: {counts.text()}; select olr_keep.release({hold}) publishes them")
         return Ending.DONE if number else Ending.NOTHING
 
-    def show(self):
+    def show(self) -> Ending:
         """Prints what would be published, and what would wait or waits."""
         self.work.rollback()
         held = {**{name: it.answer for name, it in self.round.waited.items() if name not in self.outcome.ended},
@@ -128,42 +132,48 @@ class Attempt:
 class Live:
     """The process. `stale` are the sources of which all rows are compared, `unread` those that couldn't be read."""
 
-    def __init__(self, settings, stopping):
+    def __init__(self, settings: Settings, stopping: List[int]) -> None:
         self.settings, self.stopping = settings, stopping
-        self.connection = self.program = None
+        self.connection: Any = None
+        self.program: Optional[LiveProgram] = None
         self.totals = collections.Counter(rounds=0, restarts=0)
-        self.last_round = self.last_seconds = self.written = 0.0
-        self.progress, self.counts, self.failed, self.would_hold = (0, 0), {}, 0, False
+        self.last_round = self.last_seconds = self.written = self.compared = 0.0
+        self.counts: Dict[str, float] = {}
+        self.progress, self.failed, self.would_hold = (0, 0), 0, False
         self.forget()
 
-    def forget(self):
+    def forget(self) -> None:
         """Forgets what a session has seen of the tables."""
-        self.stale, self.unread, self.files, self.locked_since, self.words = set(), {}, {}, {}, set()
-        self.without_triggers = {}
+        self.stale: Set[int] = set()
+        self.unread: Dict[int, Readable] = {}
+        self.files: Dict[int, str] = {}
+        self.locked_since: Dict[int, float] = {}
+        self.words: Set[Tuple[int, str]] = set()
+        self.without_triggers: Dict[int, str] = {}
 
     # ---- the session
 
-    def connect(self):
+    def connect(self) -> None:
         """Opens the session."""
         self.connection = session.connect(self.settings.database, self.settings.idle)
         self.cursor = self.connection.cursor()
         session.check_schema(self.cursor)
         self.forget()
 
-    def close(self):
+    def close(self) -> None:
         """Ends the session and the program."""
         self.drop_program()
         if self.connection:
             self.connection.close()
         self.connection = None
 
-    def drop_program(self):
+    def drop_program(self) -> None:
         """Ends the program: its map isn't that of the tables."""
         if self.program:
             end(self.program)
         self.program = None
 
-    def loaded(self):
+    def loaded(self) -> Dict[str, str]:
         """Starts the program with the map and the paths of the tables, and returns all answers."""
         program = LiveProgram(self.settings.command, self.tick)
         try:
@@ -174,14 +184,14 @@ class Live:
         self.program = program
         return answers
 
-    def tick(self):
+    def tick(self) -> None:
         """Asks something, so that the session isn't taken for one that is stopped."""
         if self.stopping:
             raise SystemExit(128 + self.stopping[0])
         if not self.connection.info.transaction_status == psycopg2.extensions.TRANSACTION_STATUS_ACTIVE:
             self.cursor.execute("select 1")
 
-    def lock(self):
+    def lock(self) -> None:
         """Waits until no other process works on the database."""
         waited = False
         while not session.try_lock(self.cursor):
@@ -192,7 +202,7 @@ class Live:
                 say(f"ended the session of a process that had not asked for {self.settings.stopped} s")
             time.sleep(POLL)
 
-    def wait(self, seconds):
+    def wait(self, seconds: float) -> bool:
         """Waits for a notification, and returns whether one came."""
         if not self.connection.notifies:
             select.select([self.connection], [], [], seconds)
@@ -201,7 +211,7 @@ class Live:
         self.connection.notifies.clear()
         return came
 
-    def wait_quiet(self):
+    def wait_quiet(self) -> None:
         """Waits until no note has come for a while, since one save of a person may be several commits."""
         end = time.monotonic() + QUIET
         while self.settings.quiet and time.monotonic() < end and self.wait(self.settings.quiet):
@@ -209,7 +219,7 @@ class Live:
 
     # ---- rounds
 
-    def attempt(self, every_path=False):
+    def attempt(self, every_path: bool = False) -> Ending:
         """One round, if there is something to read."""
         with session.Transaction(self.connection, self.cursor) as work:
             self.unread = {it.source.source: it.state for it in work.tables if it.state is not Readable.READY}
@@ -225,11 +235,11 @@ class Live:
         self.report(work.tables, broken)
         return ending
 
-    def has_read(self, change):
+    def has_read(self, change: Change) -> None:
         """Remembers which tables were compared."""
         self.stale -= change.compared - change.broken.keys()
 
-    def report(self, tables, broken):
+    def report(self, tables: Sequence[session.Table], broken: Mapping[int, str]) -> None:
         """Writes which tables can't be read, or have no triggers, and says what is new."""
         now, problems = time.monotonic(), set(self.without_triggers.items())
         names = {it.source.source: it.source.streets for it in tables}
@@ -247,12 +257,12 @@ class Live:
             if not self.settings.is_preview:
                 session.write_table_problems(self.cursor, problems)
 
-    def count_round(self, seconds):
+    def count_round(self, seconds: float) -> None:
         """Counts a round that was published."""
         self.totals["rounds"] += 1
         self.last_round, self.last_seconds = time.time(), seconds
 
-    def look(self):
+    def look(self) -> None:
         """Looks at the tables and their triggers: what was written anew, or has no triggers, is compared. They are made again if
         that is possible."""
         missing = {}
@@ -275,7 +285,7 @@ class Live:
         self.without_triggers = missing
         self.unread = {}
 
-    def start(self):
+    def start(self) -> None:
         """Opens the session, waits until no other process works, and finds which tables there are."""
         self.connect()
         if not self.settings.is_preview:
@@ -284,7 +294,7 @@ class Live:
         self.stale = {it.source for it in session.sources_of(self.cursor)}
         self.compared = time.monotonic()
 
-    def serve(self):
+    def serve(self) -> int:
         """Rounds, until something fails; returns the exit status."""
         self.start()
         every_path, looked, day = True, 0.0, time.localtime().tm_yday
@@ -313,7 +323,7 @@ class Live:
                 self.look()
         return 128 + self.stopping[0]
 
-    def run(self):
+    def run(self) -> int:
         """Serves, and starts again after failures; returns the exit status."""
         while True:
             try:
@@ -333,7 +343,7 @@ class Live:
 
     # ---- metrics
 
-    def write_metrics(self, is_needed=True):
+    def write_metrics(self, is_needed: bool = True) -> None:
         """Writes the file for Prometheus's textfile collector, if it is some seconds old or has to show something new."""
         if not self.settings.metrics or not is_needed and time.monotonic() - self.written < POLL * 5:
             return
@@ -358,14 +368,15 @@ class Live:
             say(f"{self.settings.metrics}: {error.strerror}")
 
 
-def end(program):
+def end(program: LiveProgram) -> None:
     """Ends a program at once."""
     program.kill()
-    program.process.stdin.close()
-    program.process.stdout.close()
+    for stream in (program.process.stdin, program.process.stdout):
+        if stream:
+            stream.close()
 
 
-def kind_of(name):
+def kind_of(name: str) -> str:
     """The type of a metric."""
     return "counter" if name.endswith("_total") else "gauge"
 

@@ -1,6 +1,8 @@
 """The session of tools/live: connecting, the lock of the process that works, transactions, and what is asked between rounds."""
+from __future__ import annotations
+
 import enum
-from typing import NamedTuple
+from typing import Any, Dict, Iterable, List, NamedTuple, Optional, Set, Tuple, Type
 
 try:
     import psycopg2
@@ -8,6 +10,8 @@ try:
     import psycopg2.extras
 except ImportError:
     psycopg2 = None
+
+__all__ = ["psycopg2"]
 
 LOCK = 7165_0029  # of pg_try_advisory_lock
 TRIGGERS = "'olr_keep_row', 'olr_keep_statement', 'olr_keep_truncate'"
@@ -66,7 +70,7 @@ class Watched(NamedTuple):
 # ---- the session
 
 
-def connect(database, idle):
+def connect(database: str, idle: int) -> Any:
     """Opens a session that notices if it is cut; the server ends it after a pause of `idle` seconds in a transaction."""
     connection = psycopg2.connect(
         database, application_name="olr-keep live", keepalives_idle=10, keepalives_interval=5, keepalives_count=3,
@@ -78,20 +82,20 @@ def connect(database, idle):
     return connection
 
 
-def check_schema(cursor):
+def check_schema(cursor: Any) -> None:
     """Fails if the schema is missing, or that of another version."""
     cursor.execute("select to_regclass('olr_keep.waiting') is null or to_regprocedure('olr_keep.mend_triggers(int)') is null")
     if cursor.fetchone()[0]:
         raise psycopg2.ProgrammingError("the database has no schema olr_keep, or that of another version: run tools/live.sql")
 
 
-def try_lock(cursor):
+def try_lock(cursor: Any) -> bool:
     """Whether this session is the one that works on the database."""
     cursor.execute("select pg_try_advisory_lock(%s)", (LOCK,))
-    return cursor.fetchone()[0]
+    return bool(cursor.fetchone()[0])
 
 
-def end_stopped(cursor, seconds):
+def end_stopped(cursor: Any, seconds: float) -> bool:
     """Ends the session that has the lock if it has asked nothing for so long, in a transaction or not. A process that runs asks
     more often."""
     cursor.execute(
@@ -100,10 +104,10 @@ def end_stopped(cursor, seconds):
             and pg_locks.database = (select oid from pg_database where datname = current_database())
             and state like 'idle%%' and state_change < clock_timestamp() - make_interval(secs => %s)""",
         (LOCK, seconds))
-    return cursor.rowcount > 0
+    return bool(cursor.rowcount > 0)
 
 
-def sources_of(cursor):
+def sources_of(cursor: Any) -> List[Source]:
     """The tables of streets."""
     cursor.execute("""select source, streets, id, id_type, class, form, direction, geom, prefix, search_path
         from olr_keep.source order by source""")
@@ -113,15 +117,15 @@ def sources_of(cursor):
 class Savepoint:
     """A part of a transaction that is taken back if it fails. Inside, functions are sought where `search_path` says."""
 
-    def __init__(self, cursor, search_path=None):
+    def __init__(self, cursor: Any, search_path: Optional[str] = None) -> None:
         self.cursor, self.search_path = cursor, search_path
 
-    def __enter__(self):
+    def __enter__(self) -> None:
         self.cursor.execute("savepoint part")
         if self.search_path:
             self.cursor.execute(f"set local search_path = {self.search_path}, public, pg_temp")
 
-    def __exit__(self, kind, error, trace):
+    def __exit__(self, kind: Optional[Type[BaseException]], error: object, trace: object) -> None:
         if kind is None:
             back = "; set local search_path = public, pg_temp" if self.search_path else ""
             self.cursor.execute(f"release savepoint part{back}")
@@ -134,10 +138,11 @@ class Transaction:
     waits for a lock while it has others, so it can't be part of a deadlock with an editor. A table that can't be locked or read
     is left out, and `tables` says why."""
 
-    def __init__(self, connection, cursor):
-        self.connection, self.cursor, self.is_open, self.tables = connection, cursor, False, []
+    def __init__(self, connection: Any, cursor: Any) -> None:
+        self.connection, self.cursor, self.is_open = connection, cursor, False
+        self.tables: List[Table] = []
 
-    def __enter__(self):
+    def __enter__(self) -> Transaction:
         sources = sources_of(self.cursor)
         self.cursor.execute("begin isolation level repeatable read")
         self.is_open = True
@@ -155,7 +160,7 @@ class Transaction:
             raise
         return self
 
-    def locked(self, source):
+    def locked(self, source: Source) -> Table:
         """Locks a table. It is the first command for it, since the snapshot of the transaction isn't taken yet."""
         try:
             with Savepoint(self.cursor):
@@ -168,7 +173,7 @@ class Transaction:
             return self.broken(source, error)
         return Table(source, Readable.READY)
 
-    def probed(self, table):
+    def probed(self, table: Table) -> Table:
         """Whether the expressions of a table can be read."""
         try:
             with Savepoint(self.cursor, table.source.search_path):
@@ -177,23 +182,23 @@ class Transaction:
             return self.broken(table.source, error)
         return table
 
-    def broken(self, source, error):
+    def broken(self, source: Source, error: Exception) -> Table:
         """A table that can't be read for this reason, unless the session has ended."""
         if self.connection.closed:
             raise error
         return Table(source, Readable.BROKEN, first_line(error))
 
-    def commit(self):
+    def commit(self) -> None:
         """Commits."""
         self.cursor.execute("commit")
         self.is_open = False
 
-    def rollback(self):
+    def rollback(self) -> None:
         """Takes everything back."""
         self.cursor.execute("rollback")
         self.is_open = False
 
-    def __exit__(self, *_):
+    def __exit__(self, *_: object) -> None:
         if self.is_open and not self.connection.closed:
             try:
                 self.rollback()
@@ -201,12 +206,12 @@ class Transaction:
                 self.connection.close()
 
 
-def first_line(error):
+def first_line(error: Exception) -> str:
     """What a message of the database says first."""
     return (str(error).strip() or type(error).__name__).splitlines()[0]
 
 
-def row_query(source, where=""):
+def row_query(source: Source, where: str = "") -> str:
     """The rows of a table of streets, with the columns that make a street. It is to be run with parameters."""
     columns = f"({source.id}) as id, ({source.frc})::text as class, ({source.fow})::text as form"
     columns += f", ({source.direction})::text as direction, ({source.geom}) as geom"
@@ -220,20 +225,20 @@ def row_query(source, where=""):
 # ---- what is asked between rounds
 
 
-def has_work(cursor, unread):
+def has_work(cursor: Any, unread: Iterable[int]) -> bool:
     """Whether something was committed: a note, but not of these sources, or a release."""
     cursor.execute("""select exists (select from olr_keep.note where source <> all(%s::int[]))
         or exists (select from olr_keep.waiting join olr_keep.release using (hold))""", (list(unread),))
-    return cursor.fetchone()[0]
+    return bool(cursor.fetchone()[0])
 
 
-def is_held(cursor):
+def is_held(cursor: Any) -> bool:
     """Whether the strings of a hold wait."""
     cursor.execute("select exists (select from olr_keep.waiting where hold is not null)")
-    return cursor.fetchone()[0]
+    return bool(cursor.fetchone()[0])
 
 
-def watch(cursor):
+def watch(cursor: Any) -> List[Watched]:
     """The tables with their triggers."""
     cursor.execute(f"""select source, streets, to_regclass(streets) is not null, coalesce(bool_and(count = 3), false),
             coalesce(string_agg(part::text || filenode, ' ' order by part), '')
@@ -247,7 +252,7 @@ def watch(cursor):
     return [Watched(*it) for it in cursor]
 
 
-def mend_triggers(cursor, source):
+def mend_triggers(cursor: Any, source: int) -> str:
     """Makes the triggers of a table again. Returns why it can't be done, or an empty text."""
     try:
         cursor.execute("select olr_keep.mend_triggers(%s)", (source,))
@@ -258,7 +263,7 @@ def mend_triggers(cursor, source):
     return ""
 
 
-def write_table_problems(cursor, problems):
+def write_table_problems(cursor: Any, problems: Set[Tuple[int, str]]) -> None:
     """Writes which tables can't be read, or have no triggers: a set of (source, words)."""
     cursor.execute("select source, words from olr_keep.problem where kind = 'table'")
     known = set(cursor.fetchall())
@@ -268,7 +273,7 @@ def write_table_problems(cursor, problems):
         cursor.execute("insert into olr_keep.problem (kind, source, words) values ('table', %s, %s)", (source, words))
 
 
-def metrics(cursor):
+def metrics(cursor: Any) -> Dict[str, float]:
     """Numbers of the tables by name."""
     cursor.execute("""select count(*), count(*) filter (where text is null), count(*) filter (where found_elsewhere),
             (select coalesce(extract(epoch from now() - min(at)), 0) from olr_keep.string join olr_keep.round using (round)

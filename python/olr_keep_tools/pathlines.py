@@ -1,12 +1,15 @@
 """Finds the lines of the paths of tools/live on the map of its tables. What an operator gave, streets or a course, is tried
 first; if it can't be had, the path is sought where it was, and is found elsewhere."""
+from __future__ import annotations
+
 import bisect
 import enum
 import heapq
 import itertools
 import math
 from collections import defaultdict
-from typing import NamedTuple, Optional
+from typing import (Any, Container, DefaultDict, Dict, FrozenSet, Iterable, Iterator, List, Mapping, NamedTuple, Optional, Sequence, Set,
+                    Tuple, Union)
 
 from .courses import DRAWN, Ends, Found, Ground, Lost, Plane, Polyline, Strip, Wish, follow
 from .geo import METRES
@@ -15,20 +18,28 @@ from .streets import is_inside, wkb_parts
 AGAINST = 1e6  # the cost of a street against its geometry where its direction isn't given
 STRAY = 10.0  # the cost of a metre between an end of the path and that of its lines
 SAME_ROAD = 5.0  # metres from where a path was, within which a line of the same kind is the same road
+PIECE = 6  # segments of a course whose lines are sought at once
+LONG = 0.005  # degrees of the longest segment of them
 FAR = 100_000.0  # metres between two coordinates of a course
+
+
+Place = Tuple[float, float]
+Course = Tuple[Place, ...]
+Kind = Tuple[int, int, bool]
+Result = Union[Found, Lost]
 
 
 class Wanted(NamedTuple):
     """A path as operators give it."""
 
     name: str
-    streets: Optional[list]
-    course: Optional[list]
+    streets: Optional[List[str]]
+    course: Optional[Course]
     cut_start: float
     cut_end: float
     definition: str
 
-    def fault(self):
+    def fault(self) -> Optional[Lost]:
         """Why nothing can be found for it: `Lost`, or None."""
         if self.streets is not None and not all(it and it not in ("<", ">") for it in self.streets):
             return Lost("its streets have an empty or NULL id", None)
@@ -44,7 +55,7 @@ class Road(NamedTuple):
 
     length: int
     street: str
-    kind: tuple
+    kind: Kind
 
 
 class State(enum.Enum):
@@ -59,21 +70,31 @@ class Known(NamedTuple):
     """A path as it was found last; `nodes` are those at its ends, or None where they are no longer there. `said_course`,
     `roads` and `said_ends` are where it was when it was last found as said, and which of its ends were at junctions."""
 
-    lines: list
-    streets: list
+    lines: List[int]
+    streets: List[str]
     start: int
     end: int
-    nodes: tuple
-    course: Optional[list]
+    nodes: Tuple[Optional[int], Optional[int]]
+    course: Optional[Course]
     definition: str
     state: State
-    said_course: Optional[list]
-    roads: list
+    said_course: Optional[Course]
+    roads: List[Road]
     said_ends: Ends
 
-    def at_junctions(self):
+    def at_junctions(self) -> Ends:
         """Which of its ends are at junctions."""
         return Ends(self.start == 0, self.end == 0)
+
+
+class LastEnds(NamedTuple):
+    """Where a path last began and ended: the decimetres that were cut off there, the nodes, as far as they are still there, and
+    its course."""
+
+    start: int
+    end: int
+    nodes: Tuple[Optional[int], Optional[int]]
+    course: Course
 
 
 class Row(NamedTuple):
@@ -90,32 +111,33 @@ class Row(NamedTuple):
     frc: str
     fow: str
     direction: str
-    points: tuple
+    points: Course
 
     @property
-    def kind(self):
+    def kind(self) -> Kind:
         """Its class, its form, and whether its street is two-way."""
         return int(self.frc), int(self.fow), self.direction == "both"
 
     @property
-    def ground(self):
+    def ground(self) -> Ground:
         """The line as a search for a course has it."""
         return Ground(self.start, self.end, self.street, self.points, self.length, self.kind)
 
 
 class Placement(NamedTuple):
-    """Where a path is found, and why not as said."""
+    """Where a path is found, and why not as said; `lost_at` are the places from which on no lines were found."""
 
     state: State
     found: Optional[Found] = None
     why: Optional[Lost] = None
+    lost_at: Tuple[Place, ...] = ()
 
 
 class Edited(NamedTuple):
     """What a round changes under the paths: the numbers of lines that lie elsewhere now, and the streets that are new."""
 
-    moved: set
-    fresh: set
+    moved: Set[int]
+    fresh: Set[str]
 
 
 COLUMNS = """line.line, line.street, part, k, along, from_node, to_node, length, split_part(fields, ',', 1),
@@ -123,63 +145,75 @@ COLUMNS = """line.line, line.street, part, k, along, from_node, to_node, length,
 LINES = "olr_keep.line join olr_keep.street on street.street = line.street"
 
 
-def coordinates(shape):
+def coordinates(shape: Optional[bytes]) -> Optional[Course]:
     """The coordinates of a little-endian WKB LineString, or None."""
     return None if shape is None else tuple(next(wkb_parts(bytes(shape))))
 
 
-def text_array(items):
+def text_array(items: Iterable[object]) -> str:
     """The text of an array of these, as PostgreSQL reads it."""
     quoted = (str(it).replace("\\", "\\\\").replace('"', '\\"') for it in items)
     return "{" + ",".join(f'"{it}"' for it in quoted) + "}"
 
 
-def number_array(items):
+def number_array(items: Iterable[object]) -> str:
     """The text of an array of these numbers."""
     return "{" + ",".join(map(str, items)) + "}"
+
+
+def pieces_of(course: Sequence[Place]) -> List[List[Place]]:
+    """A course in pieces of a few segments, of which long ones are cut."""
+    whole = [course[0]]
+    for a, b in zip(course, course[1:]):
+        count = int(max(abs(b[0] - a[0]), abs(b[1] - a[1])) / LONG) + 1
+        whole += [(a[0] + (b[0] - a[0]) * k / count, a[1] + (b[1] - a[1]) * k / count) for k in range(1, count)] + [b]
+    return [whole[k : k + PIECE + 1] for k in range(0, len(whole) - 1, PIECE)]
 
 
 class Finder:
     """Lines of the table, read as they are needed."""
 
-    def __init__(self, cursor, tolerance):
-        self.cursor, self.tolerance, self.rows = cursor, tolerance, {}
+    def __init__(self, cursor: Any, tolerance: float) -> None:
+        self.cursor, self.tolerance = cursor, tolerance
+        self.rows: Dict[int, Row] = {}
 
-    def read(self, where, values):
+    def read(self, where: str, values: Sequence[object]) -> List[Row]:
         """The lines of the table for which a condition holds."""
         self.cursor.execute(f"select {COLUMNS} from {LINES} where {where}", values)
         return self.take()
 
-    def take(self):
+    def take(self) -> List[Row]:
         """The lines that a query found."""
-        rows = [Row(*it[:-1], coordinates(it[-1])) for it in self.cursor]
+        rows = [Row(*it[:12]) for it in ((*row[:-1], coordinates(row[-1])) for row in self.cursor)]
         self.rows.update((it.number, it) for it in rows)
         return rows
 
-    def read_numbers(self, numbers):
+    def read_numbers(self, numbers: Iterable[int]) -> None:
         """Reads the lines with these numbers."""
         self.read("line = any(%s::bigint[])", (number_array(numbers),))
 
-    def near(self, course):
-        """The lines near a course. Its segments are cut, so that each has a small box."""
+    def near(self, course: Course) -> Dict[int, Ground]:
+        """The lines near a course, which is cut into short parts, so that each has a small box."""
         lat = max(abs(it[1]) for it in course)
         high = 1.1 * self.tolerance / METRES
         wide = high / max(0.01, math.cos(math.radians(lat)))
-        text = "LINESTRING(" + ",".join(f"{lon:.8f} {lat:.8f}" for lon, lat in course) + ")"
+        pieces = ("(" + ",".join(f"{lon:.8f} {lat:.8f}" for lon, lat in it) + ")" for it in pieces_of(course))
+        text = "MULTILINESTRING(" + ",".join(pieces) + ")"
         self.cursor.execute(
             f"""select {COLUMNS} from (
-                select distinct other.line from ST_DumpSegments(ST_Segmentize(ST_GeomFromText(%s, 4326), 0.01)) as segment
+                select distinct other.line from ST_Dump(ST_GeomFromText(%s, 4326)) as segment
                 cross join lateral (
-                    select line from olr_keep.line where line.geom && ST_Expand(segment.geom, %s, %s) offset 0
+                    select line from olr_keep.line where line.geom && ST_Expand(segment.geom, %s, %s)
+                        and ST_DWithin(line.geom, segment.geom, %s) offset 0
                 ) as other
             ) as found cross join lateral (select * from olr_keep.line where line.line = found.line offset 0) as line
             join olr_keep.street on street.street = line.street""",
-            (text, wide, high))
+            (text, wide, high, max(wide, high)))
         return {it.number: it.ground for it in self.take()}
 
-    def by_streets(self, streets, known, tolerance):
-        """The lines of streets in this order; each is left where it meets the next. `known` is the path whose last start and end
-        are sought within the tolerance; without it, it is from the start of the first street to the end of the last."""
+    def by_streets(self, streets: Sequence[str], last: Optional[LastEnds], tolerance: float) -> Result:
+        """The lines of streets in this order; each is left where it meets the next. The ends are sought within the tolerance
+        of the last ones; without these the lines are from the start of the first street to the end of the last."""
         marked = [(it[0], it[1:]) if it[:1] in "<>" else ("", it) for it in streets]
         by_street = defaultdict(list)
         for row in self.read("line.street = any(%s::text[])", (text_array({it for _, it in marked}),)):
@@ -187,20 +221,25 @@ class Finder:
         for _, street in marked:
             if not by_street[street]:
                 return Lost(f"street {street} has no line", None)
-        return Route(marked, by_street, known, tolerance).search()
+        return Route(marked, by_street, last, tolerance).search()
 
 
 class WhereItWas:
-    """Whether a line is the road on which a path was when it was last found as said."""
+    """Where a path was when it was last found as said, and whether a line is the road there."""
 
-    def __init__(self, known, edited):
-        self.course, self.roads, self.edited = known.said_course, known.roads, edited
+    def __init__(self, known: Known, course: Course, edited: Edited) -> None:
+        self.course, self.roads, self.at_junctions, self.edited = course, known.roads, known.said_ends, edited
         self.own = frozenset(known.lines if known.state is State.SAID else ())
         self.ends = list(itertools.accumulate(it.length for it in self.roads)) or [0]
-        self.plane = Plane(self.course[0][1])
-        self.strip = Strip([self.plane.flat(it) for it in self.course], 50.0)
+        self.plane = Plane(course[0][1])
+        self.strip = Strip([self.plane.flat(it) for it in course], 50.0)
 
-    def near(self, low, high, length):
+    @property
+    def streets(self) -> FrozenSet[str]:
+        """The streets of then."""
+        return frozenset(it.street for it in self.roads)
+
+    def near(self, low: float, high: float, length: float) -> List[Road]:
         """The roads that were between these positions of a course of this length, and 40 m or 1 % beyond."""
         scale = self.ends[-1] / (length or 1)
         slack = max(400.0, 0.01 * self.ends[-1])
@@ -208,7 +247,7 @@ class WhereItWas:
         last = bisect.bisect_left(self.ends, high * scale + slack)
         return self.roads[first : last + 1]
 
-    def unlike(self, number, line, low, high, length):
+    def unlike(self, number: int, line: Ground, low: float, high: float, length: float) -> float:
         """How sure it is that a line is another road, from 0 to 1: 0 if it has the number of then, or is of its kind, or of its
         street, and within a few metres; a half if it is of its street elsewhere, or of its kind and a new street."""
         if number in self.own:
@@ -223,47 +262,53 @@ class WhereItWas:
 class PathSearch:
     """The search for one path."""
 
-    def __init__(self, finder, wanted, known, edited):
+    def __init__(self, finder: Finder, wanted: Wanted, known: Optional[Known], edited: Edited) -> None:
         self.finder, self.wanted, self.edited = finder, wanted, edited
         self.known = known if known is not None and known.definition == wanted.definition else None
-        self.was = self.other_road = None
+        self.was: Optional[WhereItWas] = None
         if self.known is not None and self.known.said_course:
-            self.was = WhereItWas(self.known, edited)
+            self.was = WhereItWas(self.known, self.known.said_course, edited)
+        self.other_road: Optional[Found] = None
+        self.lost: List[Lost] = []
 
-    def run(self):
+    def run(self) -> Placement:
         """Where the path is."""
         fault = self.wanted.fault()
         if fault:
             return Placement(State.LOST, None, fault)
-        found = self.as_said()
-        if isinstance(found, Found):
-            return Placement(State.SAID, found)
-        elsewhere = self.elsewhere() if self.known else None
-        return Placement(State.ELSEWHERE if elsewhere else State.LOST, elsewhere, found)
+        said = self.as_said()
+        if isinstance(said, Found):
+            return Placement(State.SAID, said)
+        elsewhere = self.elsewhere(self.known) if self.known else None
+        return Placement(State.ELSEWHERE, elsewhere, said) if elsewhere else Placement(State.LOST, None, said, self.lost_at())
 
-    def as_said(self):
+    def lost_at(self) -> Tuple[Place, ...]:
+        """Where the searches ended: a street that is edited elsewhere doesn't lead to other results."""
+        return tuple(dict.fromkeys(it.place for it in self.lost if it.place))
+
+    # ---- as the operator said
+
+    def as_said(self) -> Result:
         """The lines of the streets, or else of the course, that the operator gave."""
-        lost = Lost("it has neither streets nor a course", None)
+        by_streets: Result = Lost("it has neither streets nor a course", None)
         if self.wanted.streets:
-            lost = found = self.finder.by_streets(self.wanted.streets, None, 0)
-            if isinstance(found, Found):
-                return found
-        if not self.wanted.course:
-            return lost
-        found = self.kept() if self.is_within() else self.by_said_course()
-        return found if isinstance(found, Found) or not self.wanted.streets else lost
+            by_streets = self.finder.by_streets(self.wanted.streets, None, 0)
+        if isinstance(by_streets, Found) or not self.wanted.course:
+            return by_streets
+        by_course = self.within(self.wanted.course) or self.by_said_course(self.wanted.course)
+        return by_course if isinstance(by_course, Found) or not self.wanted.streets else by_streets
 
-    def is_within(self):
-        """Whether the path still has its lines, and follows what was drawn with them as far as they were moved."""
-        if self.known is None or self.known.state is not State.SAID or not self.kept():
-            return False
-        moved = [it for it in self.known.lines if it in self.edited.moved]
-        return not moved or self.follows_drawn(self.kept(), frozenset(moved))
+    def within(self, course: Course) -> Optional[Found]:
+        """The lines that the path has, if it still has them, and follows what was drawn as far as they were moved."""
+        if self.known is None or self.known.state is not State.SAID:
+            return None
+        found, moved = self.kept(self.known), self.edited.moved.intersection(self.known.lines)
+        return found if found and (not moved or self.follows(course, found, moved)) else None
 
-    def follows_drawn(self, found, moved):
-        """Whether the moved ones of these lines, and the ends, are within the tolerance of the drawn course, and the length is
-        its length within 1 % or twice the tolerance."""
-        tolerance, course, rows = self.finder.tolerance, self.wanted.course, [self.finder.rows[it] for it in found.lines]
+    def follows(self, course: Course, found: Found, moved: Container[int]) -> bool:
+        """Whether the moved ones of these lines, and the ends, are within the tolerance of the course, and the length is its
+        length within 1 % or twice the tolerance."""
+        tolerance, rows = self.finder.tolerance, [self.finder.rows[it] for it in found.lines]
         ends = course_of(rows[:1], found.start, found.end if len(rows) == 1 else 0), course_of(rows[-1:], 0, found.end)
         if apart(ends[0][0], course[0]) > tolerance or apart(ends[1][-1], course[-1]) > tolerance:
             return False
@@ -272,61 +317,61 @@ class PathSearch:
         length = sum(it.length for it in rows) - found.start - found.end
         if abs(length / 10 - strip.length) > max(0.01 * strip.length, 2 * tolerance):
             return False
-        points = [it for row in rows[1:-1] if row.number in moved for it in row.points] + [*ends[0], *(ends[1] if len(rows) > 1 else ())]
+        points = [it for row in rows[1:-1] if row.number in moved for it in row.points]
+        points += [*ends[0], *(ends[1] if len(rows) > 1 else ())]
         return all(strip.is_near(plane.flat(it), tolerance) for it in points)
 
-    def by_said_course(self):
+    def by_said_course(self, course: Course) -> Result:
         """The lines that follow the drawn course, if they are the road where the path was."""
-        streets = frozenset(it.street for it in self.known.roads) if self.was else frozenset()
-        ends = self.known.said_ends if self.was else Ends()
-        found = self.follow(self.wanted.course, Wish(streets, DRAWN, ends, self.was and self.was.unlike, True))
-        strange = self.strange(found) if self.was and isinstance(found, Found) else None
-        if strange is None:
+        was = self.was
+        if was is None:
+            return self.follow(course, Wish(snap=DRAWN, has_rivals=True))
+        found = self.follow(course, Wish(was.streets, DRAWN, was.at_junctions, was.unlike, True))
+        strange = self.strange(was, found) if isinstance(found, Found) else None
+        if strange is None or isinstance(found, Lost):
             return found
         self.other_road = found
-        a, b = self.describe(self.was.roads and strange), strange
-        return Lost(f"street {b.street} is not the road that was there{a}", b.points[len(b.points) // 2])
+        words = f"street {strange.street} is not the road that was there"
+        if all(it.kind != strange.kind for it in was.roads):
+            words += ": it has class {}, form {}, {}".format(*strange.kind[:2], "two-way" if strange.kind[2] else "one-way")
+        return Lost(words, strange.points[len(strange.points) // 2])
 
-    def describe(self, row):
-        """How a line differs from what was there, in words."""
-        kinds = {it.kind for it in self.was.roads}
-        return "" if not row or row.kind in kinds else ": it has class {}, form {}, {}".format(
-            row.kind[0], row.kind[1], "two-way" if row.kind[2] else "one-way")
-
-    def strange(self, found):
+    def strange(self, was: WhereItWas, found: Found) -> Optional[Row]:
         """The first line that isn't the road where the path was, or None."""
         rows = [self.finder.rows[it] for it in found.lines]
-        total = sum(it.length for it in rows) - found.start - found.end
-        low = -found.start
+        total, low = sum(it.length for it in rows) - found.start - found.end, -found.start
         for row in rows:
-            span = max(0, low) / 10, min(total, low + row.length) / 10
-            if self.was.unlike(row.number, row.ground, *span, total / 10) == 1:
+            begin, end = max(0, low) / 10, min(total, low + row.length) / 10
+            if was.unlike(row.number, row.ground, begin, end, total / 10) == 1:
                 return row
             low += row.length
         return None
 
-    def elsewhere(self):
+    # ---- where it was
+
+    def elsewhere(self, known: Known) -> Optional[Found]:
         """The lines where the path was, as far as they can be had."""
         attempts = self.by_where_it_was, self.kept, self.by_last_course, self.by_last_streets, self.by_any_streets
-        found = (it for it in (attempt() for attempt in attempts) if isinstance(it, Found))
+        found = (it for it in (attempt(known) for attempt in attempts) if isinstance(it, Found))
         return self.other_road or next(found, None)
 
-    def follow(self, course, wish):
+    def follow(self, course: Course, wish: Wish) -> Result:
         """The lines that follow a course."""
         near = self.finder.near(course)
-        return follow(list(course), near, self.finder.tolerance, wish) if near else Lost("no line is near it", course[0])
+        found = follow(list(course), near, self.finder.tolerance, wish) if near else Lost("no line is near it", course[0])
+        if isinstance(found, Lost):
+            self.lost.append(found)
+        return found
 
-    def by_where_it_was(self):
+    def by_where_it_was(self, _: Known) -> Optional[Result]:
         """The lines that follow the course on which the path was last found as said."""
-        if not self.was:
-            return None
-        streets = frozenset(it.street for it in self.known.roads)
-        return self.follow(self.known.said_course, Wish(streets, ends=self.known.said_ends, unlike=self.was.unlike))
+        was = self.was
+        return self.follow(was.course, Wish(was.streets, ends=was.at_junctions, unlike=was.unlike)) if was else None
 
-    def kept(self):
+    def kept(self, known: Known) -> Optional[Found]:
         """The same lines, if all are there and join; what is cut off them at the ends stays at its coordinates."""
-        known, rows = self.known, [self.finder.rows.get(it) for it in self.known.lines]
-        if not rows or None in rows or any(a.end != b.start for a, b in zip(rows, rows[1:])):
+        rows = [self.finder.rows[it] for it in known.lines if it in self.finder.rows]
+        if not rows or len(rows) < len(known.lines) or any(a.end != b.start for a, b in zip(rows, rows[1:])):
             return None
         start, end = known.start, known.end
         if known.course and (start or end):
@@ -334,23 +379,23 @@ class PathSearch:
             end = rows[-1].length - cut_before(rows[-1], known.course[-1]) if end else 0
         return Found(list(known.lines), start, end)
 
-    def by_last_course(self):
+    def by_last_course(self, known: Known) -> Optional[Result]:
         """The lines that follow the last course."""
-        if not self.known.course:
+        if not known.course or self.was and known.course == self.was.course:
             return None
-        return self.follow(self.known.course, Wish(frozenset(streets_of(self.known)), ends=self.known.at_junctions()))
+        return self.follow(known.course, Wish(frozenset(streets_of(known)), ends=known.at_junctions()))
 
-    def by_last_streets(self):
+    def by_last_streets(self, known: Known) -> Optional[Result]:
         """The lines of the streets that the path led over, from its last start to its last end."""
-        known = self.known
-        return known.streets and known.course and self.finder.by_streets(known.streets, known, self.finder.tolerance)
-
-    def by_any_streets(self):
-        """The same, however far the ends have moved."""
-        known = self.known
         if not (known.streets and known.course):
             return None
-        found = self.finder.by_streets(known.streets, known, math.inf)
+        return self.finder.by_streets(known.streets, last_ends(known, known.course), self.finder.tolerance)
+
+    def by_any_streets(self, known: Known) -> Optional[Result]:
+        """The same, however far the ends have moved."""
+        if not (known.streets and known.course):
+            return None
+        found = self.finder.by_streets(known.streets, last_ends(known, known.course), math.inf)
         if isinstance(found, Found):
             length = sum(self.finder.rows[it].length for it in found.lines) - found.start - found.end
             before = 10 * length_of(known.course)
@@ -359,31 +404,36 @@ class PathSearch:
         return found
 
 
-def streets_of(known):
+def last_ends(known: Known, course: Course) -> LastEnds:
+    """Where a path last began and ended."""
+    return LastEnds(known.start, known.end, known.nodes, course)
+
+
+def streets_of(known: Known) -> Set[str]:
     """The streets of a path without their directions."""
     return {it[1:] if it[:1] in "<>" else it for it in known.streets}
 
 
-def cut_before(row, place):
+def cut_before(row: Row, place: Place) -> int:
     """The decimetres of a line before the point of it that is nearest to a coordinate."""
     at, length = position(row, place)[1:]
     return round(at / (length or 1) * row.length)
 
 
-def position(row, place):
+def position(row: Row, place: Place) -> Tuple[float, float, float]:
     """How far a coordinate is from a line, where along it the nearest point is, and the line's length, in metres."""
     plane = Plane(place[1])
     shape = Polyline([plane.flat(it) for it in row.points])
     return (*min(shape.project(plane.flat(place))), shape.length)
 
 
-def length_of(course):
+def length_of(course: Course) -> float:
     """The length of a course, in metres."""
     plane = Plane(course[0][1])
     return Polyline([plane.flat(it) for it in course]).length
 
 
-def course_of(rows, start, end):
+def course_of(rows: Sequence[Row], start: int, end: int) -> Course:
     """The coordinates of lines in order, without these decimetres at their start and end."""
     points = list(rows[0].points)
     for it in rows[1:]:
@@ -399,129 +449,137 @@ def course_of(rows, start, end):
     return (plane.degrees(shape.at(begin)), *inner, plane.degrees(shape.at(max(begin, finish))))
 
 
-def apart(a, b):
+def apart(a: Place, b: Place) -> float:
     """The metres between two coordinates."""
     plane = Plane(a[1])
     return math.dist(plane.flat(a), plane.flat(b))
 
 
+Mark = Tuple[int, int]  # a leg and a line
+
+
+class Leg(NamedTuple):
+    """A street of a route: how it is marked, its lines by number and by the node where they begin, and the last stretch of each
+    part."""
+
+    mark: str
+    rows: Dict[int, Row]
+    leaving: Mapping[int, List[Row]]
+    final: Mapping[int, int]
+
+
 class Route:
     """The search for a route over streets in their order: the shortest one that takes the lines of a street in theirs."""
 
-    def __init__(self, marked, by_street, known, tolerance):
-        self.marked, self.known, self.tolerance = marked, known, tolerance
-        self.legs, self.starting = [], []
+    def __init__(self, marked: Sequence[Tuple[str, str]], by_street: Mapping[str, List[Row]], last: Optional[LastEnds],
+                 tolerance: float) -> None:
+        self.marked, self.last, self.tolerance = marked, last, tolerance
+        self.legs: List[Leg] = []
         for mark, street in marked:
             rows = {it.number: it for it in by_street[street] if not mark or it.along == (mark == ">")}
-            leaving = defaultdict(list)
+            leaving: Dict[int, List[Row]] = defaultdict(list)
+            final: Dict[int, int] = defaultdict(int)
             for row in rows.values():
                 leaving[row.start].append(row)
-            last = defaultdict(int)
             for row in by_street[street]:
-                last[row.part] = max(last[row.part], row.k)
-            self.legs.append((mark, rows, leaving, last))
+                final[row.part] = max(final[row.part], row.k)
+            self.legs.append(Leg(mark, rows, leaving, final))
+        self.best: Dict[Mark, Tuple[Optional[Mark], Row, int]] = {}
+        self.waiting: List[Tuple[float, int, int, Row, Optional[Mark], int]] = []
+        self.order = 0
 
-    def is_first(self, leg, row):
+    def is_first(self, leg: int, row: Row) -> bool:
         """Whether a line is the first of its part, in its direction."""
-        return row.k == (0 if row.along else self.legs[leg][3][row.part])
+        return row.k == (0 if row.along else self.legs[leg].final[row.part])
 
-    def is_last(self, leg, row):
+    def is_last(self, leg: int, row: Row) -> bool:
         """Whether a line is the last of its part, in its direction."""
-        return row.k == (self.legs[leg][3][row.part] if row.along else 0)
+        return row.k == (self.legs[leg].final[row.part] if row.along else 0)
 
-    def price(self, leg, row):
-        """The cost of a line."""
-        return row.length / 10
-
-    def starts(self):
+    def starts(self) -> Iterator[Tuple[float, Row, int]]:
         """The lines at which the route may begin: (cost, line, decimetres before the start)."""
-        mark, rows, _, _ = self.legs[0]
-        for row in rows.values():
-            against = 0 if mark or row.along else AGAINST
-            if self.known is None:
+        leg = self.legs[0]
+        for row in leg.rows.values():
+            if self.last is None:
                 if self.is_first(0, row):
-                    yield against, row, 0
-                continue
-            place = self.known.course[0]
-            if self.known.start:
-                far, at, length = position(row, place)
+                    yield 0 if leg.mark or row.along else AGAINST, row, 0
+            elif self.last.start:
+                far, at, length = position(row, self.last.course[0])
                 if far <= self.tolerance and at < length - 0.05:
                     yield STRAY * far - at, row, round(at / (length or 1) * row.length)
             else:
-                far = self.stray(0, row.start, row.points[0])
+                far = self.stray(row.start, row.points[0], self.last.nodes[0], self.last.course[0])
                 if far <= self.tolerance:
                     yield STRAY * far, row, 0
 
-    def ending(self, row):
+    def ending(self, row: Row) -> Optional[Tuple[float, int]]:
         """The cost at which the route may end on a line, and the decimetres after its end, or None."""
-        last = len(self.legs) - 1
-        if self.known is None:
-            return (0, 0) if self.is_last(last, row) else None
-        place = self.known.course[-1]
-        if self.known.end:
-            far, at, length = position(row, place)
+        if self.last is None:
+            return (0, 0) if self.is_last(len(self.legs) - 1, row) else None
+        if self.last.end:
+            far, at, length = position(row, self.last.course[-1])
             if far > self.tolerance or at <= 0.05:
                 return None
             return STRAY * far - (length - at), round((length - at) / (length or 1) * row.length)
-        far = self.stray(1, row.end, row.points[-1])
+        far = self.stray(row.end, row.points[-1], self.last.nodes[1], self.last.course[-1])
         return (STRAY * far, 0) if far <= self.tolerance else None
 
-    def stray(self, side, node, place):
-        """How far a node is from the path's last start (0) or end (1), in metres: if that node is still there, only it will do,
-        unless the ends may have moved."""
-        was = self.known.nodes[side]
+    def stray(self, node: int, place: Place, was: Optional[int], last: Place) -> float:
+        """How far a node is from the path's last start or end, in metres: if that node is still there, only it will do, unless
+        the ends may have moved."""
         if node == was:
             return 0
-        return apart(place, self.known.course[-side]) if was is None or self.tolerance == math.inf else math.inf
+        return apart(place, last) if was is None or self.tolerance == math.inf else math.inf
 
-    def following(self, leg, row):
+    def following(self, leg: int, row: Row) -> Iterator[Tuple[float, int, Row]]:
         """The lines that may follow a line: the next ones of its street, and those of the next street at its end."""
-        for it in self.legs[leg][2].get(row.end, ()):
+        for it in self.legs[leg].leaving.get(row.end, ()):
             if it.along != row.along or it.number == row.number:
                 continue
             is_next = it.part == row.part and it.k == row.k + (1 if row.along else -1)
             if is_next or self.is_last(leg, row) and self.is_first(leg, it):
                 yield 0, leg, it
         if leg + 1 < len(self.legs):
-            mark = self.legs[leg + 1][0]
-            for it in self.legs[leg + 1][2].get(row.end, ()):
+            mark = self.legs[leg + 1].mark
+            for it in self.legs[leg + 1].leaving.get(row.end, ()):
                 yield 0 if mark or it.along else AGAINST, leg + 1, it
 
-    def search(self):
+    def push(self, cost: float, leg: int, row: Row, before: Optional[Mark], cut: int) -> None:
+        """Queues a line of a leg, or with the leg after the last one the end."""
+        self.order += 1
+        heapq.heappush(self.waiting, (cost, self.order, leg, row, before, cut))
+
+    def search(self) -> Result:
         """The lines, or why there are none."""
-        waiting, best, order, furthest = [], {}, 0, 0
+        furthest, ends = 0, self.last.course if self.last else (None, None)
         for cost, row, cut in self.starts():
-            waiting.append((cost + self.price(0, row), order, 0, row, None, cut))
-            order += 1
-        if not waiting:
-            return Lost(f"its start is not on street {self.marked[0][1]}", self.known and self.known.course[0])
-        heapq.heapify(waiting)
-        while waiting:
-            cost, _, leg, row, before, cut = heapq.heappop(waiting)
+            self.push(cost + row.length / 10, 0, row, None, cut)
+        if not self.waiting:
+            return Lost(f"its start is not on street {self.marked[0][1]}", ends[0])
+        while self.waiting:
+            cost, _, leg, row, before, cut = heapq.heappop(self.waiting)
             if leg == len(self.legs):
-                return self.found(best, before, cut)
-            if (leg, row.number) in best:
-                continue
-            best[leg, row.number] = before, row, cut
-            furthest = max(furthest, leg)
+                return self.found(before, cut)
             label = leg, row.number
+            if label in self.best:
+                continue
+            self.best[label] = before, row, cut
+            furthest = max(furthest, leg)
             if leg == len(self.legs) - 1 and (end := self.ending(row)):
-                order += 1
-                heapq.heappush(waiting, (cost + end[0], order, leg + 1, row, label, end[1]))
+                self.push(cost + end[0], leg + 1, row, label, end[1])
             for more, after, it in self.following(leg, row):
-                if (after, it.number) not in best:
-                    order += 1
-                    heapq.heappush(waiting, (cost + more + self.price(after, it), order, after, it, label, 0))
+                if (after, it.number) not in self.best:
+                    self.push(cost + more + it.length / 10, after, it, label, 0)
         if furthest < len(self.legs) - 1:
             a, b = self.marked[furthest][1], self.marked[furthest + 1][1]
             return Lost(f"street {a} does not lead to street {b}", None)
-        return Lost(f"its end is not on street {self.marked[-1][1]}", self.known and self.known.course[-1])
+        return Lost(f"its end is not on street {self.marked[-1][1]}", ends[-1])
 
-    def found(self, best, label, after):
+    def found(self, label: Optional[Mark], after: int) -> Result:
         """The lines up to a label, without those that are cut off whole."""
         rows, before = [], 0
         while label is not None:
-            label, row, before = best[label]
+            label, row, before = self.best[label]
             rows.append(row)
         rows.reverse()
         if len({it.number for it in rows}) < len(rows):

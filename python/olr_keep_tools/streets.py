@@ -4,12 +4,15 @@ A place is a coordinate as one number: (lon + 180 degrees) * 2^31 + lat + 90 deg
 parts, each a tuple of places, none twice in a row. It is cut at each place that it shares with another street, or has twice,
 and where a line would be too long. The numbers of nodes and lines are those of tools/live.
 """
+from __future__ import annotations
+
 import difflib
 import itertools
 import math
 import struct
 from collections import Counter, defaultdict
-from typing import NamedTuple
+from typing import (Any, Callable, Collection, Container, Dict, Hashable, Iterable, Iterator, List, Mapping, NamedTuple, Optional,
+                    Protocol, Sequence, Set, Tuple, Union)
 
 from .geo import AXIS, RADIAN, onto_segment
 from .records import UNITS
@@ -25,17 +28,29 @@ ALIKE = 100  # units within which vertices of a street that has another id are t
 NEAR = 20.0  # metres within which a line between the same nodes is the same stretch of road
 
 
-def place_of(lon, lat):
+Place = Tuple[float, float]
+Part = Tuple[int, ...]
+Parts = Tuple[Part, ...]
+
+
+class NumberSource(Protocol):
+    """What gives new numbers."""
+
+    def take(self, kind: str, count: int) -> List[int]:
+        """So many new numbers of nodes or lines."""
+
+
+def place_of(lon: int, lat: int) -> int:
     """The place of a coordinate in units."""
     return lon + EAST << 31 | lat + NORTH
 
 
-def units(place):
+def units(place: int) -> Tuple[int, int]:
     """The coordinate of a place, in units."""
     return (place >> 31) - EAST, (place & LOW) - NORTH
 
 
-def degrees(place):
+def degrees(place: int) -> Place:
     """The coordinate of a place, in degrees."""
     lon, lat = units(place)
     return lon / UNITS, lat / UNITS
@@ -47,7 +62,7 @@ class Street(NamedTuple):
     frc: int
     fow: int
     direction: str
-    parts: tuple
+    parts: Parts
 
 
 class Made(NamedTuple):
@@ -62,10 +77,10 @@ class Made(NamedTuple):
     nth: int
     length: int
     fields: str
-    places: tuple
+    places: Part
 
     @property
-    def loop(self):
+    def loop(self) -> Optional[bool]:
         """What distinguishes two lines of one stretch that have the same ends."""
         return self.along if self.start == self.end else None
 
@@ -84,7 +99,7 @@ class Old(NamedTuple):
     fields: str
 
     @property
-    def loop(self):
+    def loop(self) -> Optional[bool]:
         """What distinguishes two lines of one stretch that have the same ends."""
         return self.along if self.start == self.end else None
 
@@ -98,10 +113,11 @@ class Unfit(NamedTuple):
 # ---- reading
 
 
-def street_of(frc, fow, direction, kind, srid, shape):
+def street_of(frc: Optional[str], fow: Optional[str], direction: Optional[str], kind: Optional[str], srid: Optional[int],
+              shape: Optional[bytes]) -> Union[Street, Unfit]:
     """The street of these texts and this shape (little-endian WKB in degrees), or why it can't be lines: `Unfit`."""
     missing = [name for name, it in (("class", frc), ("form", fow), ("direction", direction), ("geometry", kind)) if it is None]
-    if missing:
+    if frc is None or fow is None or direction is None or kind is None:
         return Unfit(f"{' and '.join(missing)} {'is' if len(missing) == 1 else 'are'} NULL")
     for name, text in (("class", frc), ("form", fow)):
         if text not in ("0", "1", "2", "3", "4", "5", "6", "7"):
@@ -114,22 +130,22 @@ def street_of(frc, fow, direction, kind, srid, shape):
         return Unfit("the geometry has no SRID")
     if shape is None:
         return Unfit(f"the geometry of SRID {srid} has no coordinates in degrees")
-    parts = []
+    found = []
     for points in wkb_parts(shape):
         if not all(map(is_inside, points)):
             return Unfit("the geometry is beyond the longitudes -180 to 179.9999 or the latitudes -89.9999 to 89.9999")
         places = [place_of(round(lon * UNITS), round(lat * UNITS)) for lon, lat in points]
-        parts.append(tuple(subdivided([place for place, _ in itertools.groupby(places)])))
-    parts = tuple(it for it in parts if len(it) > 1)
+        found.append(tuple(subdivided([place for place, _ in itertools.groupby(places)])))
+    parts = tuple(it for it in found if len(it) > 1)
     return Street(int(frc), int(fow), direction, parts) if parts else Unfit("the geometry has no two different vertices")
 
 
-def is_inside(point):
+def is_inside(point: Place) -> bool:
     """Whether a map can have a node at a coordinate in degrees; NaN is nowhere."""
     return -180 <= point[0] <= 179.9999 and -89.9999 <= point[1] <= 89.9999
 
 
-def wkb_parts(shape):
+def wkb_parts(shape: bytes) -> Iterator[List[Place]]:
     """The coordinates of each part of a little-endian WKB LineString or MultiLineString."""
     _, kind, count = struct.unpack_from("<BII", shape)
     at = 9
@@ -144,13 +160,13 @@ def wkb_parts(shape):
         yield list(zip(numbers[::2], numbers[1::2]))
 
 
-def wkb_hex(places):
+def wkb_hex(places: Sequence[int]) -> str:
     """The LineString of these places, as hexadecimal EWKB in degrees."""
     numbers = [it for place in places for it in degrees(place)]
     return struct.pack(f"<BIII{len(numbers)}d", 1, 0x20000002, 4326, len(places), *numbers).hex()
 
 
-def subdivided(places):
+def subdivided(places: Sequence[int]) -> Iterator[int]:
     """The places, with further ones on segments that are too long for a line."""
     for a, b in zip(places, places[1:]):
         yield a
@@ -162,7 +178,7 @@ def subdivided(places):
     yield from places[-1:]
 
 
-def distances(places):
+def distances(places: Sequence[int]) -> List[float]:
     """The metres from the first place to each, on the spheroid, with its two radii at the middle of each segment."""
     found, far = [0.0], 0.0
     lon, lat = units(places[0])
@@ -180,14 +196,14 @@ def distances(places):
 # ---- cutting
 
 
-def meeting_places(streets, others):
+def meeting_places(streets: Iterable[Street], others: Container[int]) -> Set[int]:
     """The places at which streets are cut: that several streets have, or one street twice; `others` are places of streets that
     are not among these."""
     counts = Counter(place for street in streets for part in street.parts for place in part)
     return {place for place, count in counts.items() if count > 1 or place in others}
 
 
-def stretches(part, meeting):
+def stretches(part: Part, meeting: Container[int]) -> Iterator[Tuple[int, int]]:
     """The pairs of indices between which a part is one stretch."""
     far, begin, last = distances(part), 0, len(part) - 1
     for k in range(1, last + 1):
@@ -196,7 +212,7 @@ def stretches(part, meeting):
             begin = k
 
 
-def is_too_long(part, far, begin, end):
+def is_too_long(part: Part, far: Sequence[float], begin: int, end: int) -> bool:
     """Whether the stretch between these two indices is too long for a line."""
     if far[end] - far[begin] > LONGEST or end - begin > MOST_SHAPE:
         return True
@@ -204,12 +220,12 @@ def is_too_long(part, far, begin, end):
     return max(abs(east - lon), abs(north - lat)) > WIDEST
 
 
-def cut_places(street, meeting):
+def cut_places(street: Street, meeting: Container[int]) -> Set[int]:
     """The places at which a street has nodes."""
     return {part[k] for part in street.parts for pair in stretches(part, meeting) for k in pair}
 
 
-def fields_of(street, places):
+def fields_of(street: Street, places: Sequence[int]) -> Tuple[int, str, str]:
     """The length of a line in decimetres, and the fields of its two records after the ends: along the places and against."""
     far = distances(places)
     length, shape, before = max(1, round(10 * far[-1])), [], 0
@@ -224,44 +240,44 @@ def fields_of(street, places):
     return length, along, head + "".join(f",{length - at}{text}" for at, text in reversed(shape))
 
 
-def lines_of(key, street, meeting, node_at):
+def lines_of(key: str, street: Street, meeting: Container[int], node_at: Mapping[int, int]) -> Iterator[Made]:
     """The lines of a street."""
-    counts = Counter()
+    counts: Dict[Hashable, int] = Counter()
     for index, part in enumerate(street.parts):
         for k, (begin, end) in enumerate(stretches(part, meeting)):
             places = part[begin : end + 1]
             length, *fields = fields_of(street, places)
             for along in (True, False):
                 if street.direction in ("both", "along" if along else "against"):
-                    ends = (node_at[places[0]], node_at[places[-1]])[:: 1 if along else -1]
-                    line = Made(key, index, k, along, *ends, 0, length, fields[not along], places[:: 1 if along else -1])
-                    counts[ends, line.loop] += 1
-                    yield line._replace(nth=counts[ends, line.loop])
+                    a, b = node_at[places[0 if along else -1]], node_at[places[-1 if along else 0]]
+                    line = Made(key, index, k, along, a, b, 0, length, fields[not along], places[:: 1 if along else -1])
+                    counts[a, b, line.loop] += 1
+                    yield line._replace(nth=counts[a, b, line.loop])
 
 
 # ---- numbers that stay
 
 
-def images(old, new):
+def images(old: Parts, new: Parts) -> Dict[int, int]:
     """Where each place of a street is after a change, as far as that is clear: old place to new place."""
     if len(old) != len(new):
-        old, new = [tuple(itertools.chain(*old))], [tuple(itertools.chain(*new))]
-    found = {}
+        old, new = (tuple(itertools.chain(*old)),), (tuple(itertools.chain(*new)),)
+    found: Dict[int, int] = {}
     for before, after in zip(old, new):
         pairs = max((aligned(before, it) for it in (after, after[::-1])), key=lambda it: closeness(before, after, it))
         found.update(pairs)
     return found
 
 
-def closeness(before, after, pairs):
-    """How well places are aligned: how many stay, and how near the others are."""
+def closeness(before: Part, after: Part, pairs: Mapping[int, int]) -> Tuple[int, int, int]:
+    """How well places are aligned: how many stay, how many have another place, and how near that is."""
     far = sum(abs(x - y) for a, b in pairs.items() for x, y in zip(units(a), units(b)))
-    return sum(a == b for a, b in pairs.items()), -far / max(1, len(pairs))
+    return sum(a == b for a, b in pairs.items()), len(pairs), -far
 
 
-def aligned(before, after):
+def aligned(before: Part, after: Part) -> Dict[int, int]:
     """The places of one course with those of another that take their positions in it."""
-    pairs = {}
+    pairs: Dict[int, int] = {}
     for word, a, b, c, d in difflib.SequenceMatcher(None, before, after, False).get_opcodes():
         if word == "equal" or word == "replace" and b - a == d - c:
             pairs.update(zip(before[a:b], after[c:d]))
@@ -273,7 +289,7 @@ def aligned(before, after):
     return pairs
 
 
-def kept_nodes(votes, old_places, cuts):
+def kept_nodes(votes: Mapping[int, Set[int]], old_places: Mapping[int, int], cuts: Container[int]) -> Dict[int, int]:
     """The node of each place that keeps its number: place to node.
 
     `votes` has for each node the places at which the streets that were cut there are now. A node whose streets agree on one
@@ -285,7 +301,7 @@ def kept_nodes(votes, old_places, cuts):
             claims[place].add(node)
     found = {}
     for node, places in votes.items():
-        place = next(iter(places), None)
+        place = next(iter(places), 0)
         if len(places) == 1 and place != old_places[node] and place in cuts and claims[place] == {node}:
             found[place] = node
     moved = set(found.values())
@@ -295,7 +311,7 @@ def kept_nodes(votes, old_places, cuts):
     return found
 
 
-def kept_lines(made, old, nodes):
+def kept_lines(made: Sequence[Made], old: Iterable[Old], nodes: Mapping[int, int]) -> Dict[int, int]:
     """The lines that keep their numbers: the index of each in `made`, with its number.
 
     A line is its street and its ends, and on a loop its direction; of several such ones those with equal fields belong
@@ -303,7 +319,7 @@ def kept_lines(made, old, nodes):
     """
     found, free = {}, {it.number: it for it in old}
 
-    def pair(key, is_same):
+    def pair(key: Callable[[Any], Hashable], is_same: Callable[[Made, Old], bool]) -> None:
         groups = defaultdict(list)
         for it in free.values():
             groups[key(it)].append(it)
@@ -324,14 +340,14 @@ def kept_lines(made, old, nodes):
     return found
 
 
-def old_course(line, nodes):
+def old_course(line: Old, nodes: Mapping[int, int]) -> Part:
     """The places of an earlier line, from its fields and the places of its nodes."""
     rest = line.fields.split(",")[3:]
     inner = [place_of(round(float(lon) * UNITS), round(float(lat) * UNITS)) for lon, lat in zip(rest[1::3], rest[2::3])]
     return (nodes[line.start], *inner, nodes[line.end])
 
 
-def is_near(one, other):
+def is_near(one: Part, other: Part) -> bool:
     """Whether two courses have lengths within 1 % or twice NEAR, and each vertex of one is within NEAR of the other."""
     a, b = distances(one)[-1], distances(other)[-1]
     if abs(a - b) > max(0.01 * max(a, b), 2 * NEAR):
@@ -339,7 +355,7 @@ def is_near(one, other):
     return all(far_from(place, them) <= NEAR for us, them in ((one, other), (other, one)) for place in us)
 
 
-def far_from(place, course):
+def far_from(place: int, course: Part) -> float:
     """The metres from a place to a course, in the plane around the place."""
     lon, lat = units(place)
     wide = METRES * math.cos(math.radians(lat / UNITS))
@@ -347,7 +363,7 @@ def far_from(place, course):
     return min(onto_segment(a, b, 0.0, 0.0)[0] for a, b in zip(flat, flat[1:]))
 
 
-def renamed(before, after):
+def renamed(before: Mapping[str, Parts], after: Mapping[str, Street]) -> Dict[str, str]:
     """The streets that have another id now: old key to new key, for streets of the same vertices, each within ALIKE units."""
     fresh, found = defaultdict(list), {}
     for key, street in after.items():
@@ -365,27 +381,30 @@ def renamed(before, after):
     return found
 
 
-def cell(parts):
+def cell(parts: Parts) -> Tuple[int, ...]:
     """The cell of a grid in which a street begins, and how many vertices its parts have."""
     lon, lat = units(parts[0][0])
     return (lon // ALIKE, lat // ALIKE, *map(len, parts))
 
 
-def is_alike(parts, others):
+def is_alike(parts: Parts, others: Parts) -> bool:
     """Whether all vertices of two streets are within ALIKE units of each other, on each axis."""
     pairs = zip(itertools.chain(*parts), itertools.chain(*others))
     return all(abs(x - y) <= ALIKE for a, b in pairs for x, y in zip(units(a), units(b)))
 
 
 class Cut(NamedTuple):
-    """What a change of streets makes of the map: places of new nodes, moved and dropped nodes, and the lines in three kinds."""
+    """What a change of streets makes of the map: places of new nodes, moved and dropped nodes, nodes at which one stretch ends and
+    nothing else is, the other ones, and the lines in three kinds."""
 
-    new_nodes: dict
-    moved: dict
-    dropped_nodes: list
-    dropped: list
-    changed: dict
-    added: dict
+    new_nodes: Dict[int, int]
+    moved: Dict[int, int]
+    dropped_nodes: List[int]
+    ends: Set[int]
+    through: Set[int]
+    dropped: List[int]
+    changed: Dict[int, Tuple[Made, Old]]
+    added: Dict[int, Made]
 
 
 class Recut:
@@ -396,15 +415,17 @@ class Recut:
     `numbers` gives new numbers of nodes and of lines.
     """
 
-    def __init__(self, before, after, lines, nodes, others, numbers):
+    def __init__(self, before: Dict[str, Parts], after: Dict[str, Street], lines: Sequence[Old], nodes: Dict[int, int],
+                 others: Collection[int], numbers: NumberSource) -> None:
         self.before, self.after, self.lines, self.nodes, self.numbers = before, after, lines, nodes, numbers
+        self.others = others
         self.meeting = meeting_places(after.values(), others)
         self.cuts = set().union(*(cut_places(it, self.meeting) for it in after.values()))
-        self.ends = defaultdict(set)
+        self.ends: Dict[str, Set[int]] = defaultdict(set)
         for line in lines:
             self.ends[line.street].update((line.start, line.end))
 
-    def run(self):
+    def run(self) -> Cut:
         """The cut."""
         node_at = kept_nodes(self.votes(), self.nodes, self.cuts)
         fresh = sorted(self.cuts - node_at.keys())
@@ -412,11 +433,21 @@ class Recut:
         moved = {node: place for place, node in node_at.items() if self.nodes[node] != place}
         gone = sorted(set().union(*self.ends.values()) - set(node_at.values()))
         node_at.update((place, node) for node, place in added.items())
-        return Cut(added, moved, gone, *self.numbered(self.made(node_at)))
+        made = self.made(node_at)
+        ends = self.dead_ends(made, node_at)
+        return Cut(added, moved, gone, ends, set(node_at.values()) - ends, *self.numbered(made))
 
-    def votes(self):
+    def dead_ends(self, made: Iterable[Made], node_at: Mapping[int, int]) -> Set[int]:
+        """The nodes at which one stretch ends, and no street of others is."""
+        counts = Counter(node for street, part, k, ends in {(it.street, it.part, it.k, tuple(sorted((it.start, it.end)))): 0
+                                                            for it in made} for node in ends)
+        beside = {node_at[it] for it in self.others if it in node_at}
+        return {node for node, count in counts.items() if count == 1 and node not in beside}
+
+    def votes(self) -> Dict[int, Set[int]]:
         """Where each node is now by each of the streets that were cut there."""
-        votes, new_keys = {node: set() for ends in self.ends.values() for node in ends}, renamed(self.before, self.after)
+        new_keys = renamed(self.before, self.after)
+        votes: Dict[int, Set[int]] = {node: set() for ends in self.ends.values() for node in ends}
         for key, ends in self.ends.items():
             name = new_keys.get(key, key)
             now = self.after[name].parts if name in self.after else ()
@@ -427,11 +458,11 @@ class Recut:
                     votes[node].add(place)
         return votes
 
-    def made(self, node_at):
+    def made(self, node_at: Mapping[int, int]) -> List[Made]:
         """The lines that the streets are cut into."""
         return [line for key, street in self.after.items() for line in lines_of(key, street, self.meeting, node_at)]
 
-    def numbered(self, made):
+    def numbered(self, made: Sequence[Made]) -> Tuple[List[int], Dict[int, Tuple[Made, Old]], Dict[int, Made]]:
         """The numbers of lines that are gone, and by number the lines that stay, with the old one, and the new ones."""
         found, old = kept_lines(made, self.lines, self.nodes), {it.number: it for it in self.lines}
         dropped = sorted(old.keys() - set(found.values()))

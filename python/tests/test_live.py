@@ -1,0 +1,449 @@
+"""Tests of the steps of tools/live: cutting, reading, finding paths, holding, numbers, and what is sent to the program."""
+import os
+import tempfile
+import unittest
+from typing import Any, Dict, Iterator, List, Mapping, Optional, Sequence, Tuple
+
+from olr_keep_tools.courses import DRAWN, Ends, Found, Ground, Lost, Wish, follow
+from olr_keep_tools.liveprogram import LiveProgram, Sent
+from olr_keep_tools.livemap import LAST, Affected, Numbers, cell_of, copy_line
+from olr_keep_tools.livepaths import PathsUpdate, places_hex
+from olr_keep_tools.liveread import Change, Fate, Known, StreetRow, cell, changed, fate_of, is_plain
+from olr_keep_tools.liverounds import DROPPED, Answer, Clusters, Counts, Effect, Limits, Round, Waiting
+from olr_keep_tools.livesession import Source, row_query
+from olr_keep_tools.pathlines import (Edited, Known as KnownPath, Finder, PathSearch, Road, Row, State, Wanted, WhereItWas, pieces_of,
+                                      text_array)
+from olr_keep_tools.program import ProgramFailed
+from olr_keep_tools.streets import Old, Recut, Street, Unfit, place_of, street_of
+
+
+def place(east: int, north: int = 0) -> int:
+    """A place so many metres, about, from 6.1, 49.6."""
+    return place_of(61_000_000 + 138 * east, 496_000_000 + 90 * north)
+
+
+def degrees(east: float, north: float = 0) -> Tuple[float, float]:
+    """The same, in degrees."""
+    return 6.1 + 138e-7 * east, 49.6 + 90e-7 * north
+
+
+class FakeNumbers:
+    """Numbers from 100 on."""
+
+    def __init__(self) -> None:
+        self.last = 99
+
+    def take(self, _: str, count: int) -> List[int]:
+        """So many new numbers."""
+        self.last += count
+        return list(range(self.last - count + 1, self.last + 1))
+
+
+class FakeCursor:
+    """A cursor whose queries have the rows that are given for a part of their text."""
+
+    def __init__(self, rows: Optional[Mapping[str, Sequence[Any]]] = None):
+        self.rows = rows or {}
+        self.found: List[Tuple[Any, ...]] = []
+        self.queries: List[str] = []
+
+    def execute(self, query: str, _: Any = None) -> None:
+        """Remembers a query, and finds its rows."""
+        self.queries.append(query)
+        self.found = next((list(rows) for key, rows in self.rows.items() if key in query), [])
+
+    def fetchall(self) -> List[Tuple[Any, ...]]:
+        """All rows."""
+        return self.found
+
+    def fetchone(self) -> Tuple[Any, ...]:
+        """The first row."""
+        return self.found[0] if self.found else (0,)
+
+    def __iter__(self) -> Iterator[Tuple[Any, ...]]:
+        return iter(self.found)
+
+
+# ---- cutting
+
+
+def recut(before: Mapping[str, Tuple[int, ...]], after: Mapping[str, Tuple[int, ...]], lines: List[Old], nodes: Dict[int, int],
+          others: Sequence[int] = ()) -> Recut:
+    """A cut of streets that are two-way and have one part."""
+    old: Dict[str, Any] = {key: (it,) if it else () for key, it in before.items()}
+    return Recut(old, {key: Street(3, 3, "along", (it,)) for key, it in after.items()}, lines, nodes, set(others), FakeNumbers())
+
+
+class Cutting(unittest.TestCase):
+    """The steps of a cut."""
+
+    def test_new_street(self) -> None:
+        cut = recut({"a": ()}, {"a": (place(0), place(50), place(100))}, [], {}, [place(50)]).run()
+        self.assertEqual(cut.new_nodes, dict(zip((100, 101, 102), sorted((place(0), place(50), place(100))))))
+        self.assertEqual([(it.start, it.end) for it in cut.added.values()], [(100, 101), (101, 102)])
+        self.assertEqual(cut.ends, {100, 102})
+
+    def test_moved_end_keeps_its_node(self) -> None:
+        old = [Old(7, "a", 1, 2, True, 0, 0, 1, "3,3,1000")]
+        step = recut({"a": (place(0), place(100))}, {"a": (place(0), place(100, 9))}, old, {1: place(0), 2: place(100)})
+        self.assertEqual(step.votes(), {1: {place(0)}, 2: {place(100, 9)}})
+        cut = step.run()
+        self.assertEqual((cut.moved, list(cut.changed), cut.dropped), ({2: place(100, 9)}, [7], []))
+
+    def test_streets_that_disagree_part(self) -> None:
+        old = [Old(7, "a", 1, 2, True, 0, 0, 1, "3,3,1000"), Old(8, "b", 2, 3, True, 0, 0, 1, "3,3,1000")]
+        before = {"a": (place(0), place(100)), "b": (place(100), place(200))}
+        after = {"a": (place(0), place(100, 9)), "b": before["b"]}
+        step = recut(before, after, old, {1: place(0), 2: place(100), 3: place(200)})
+        self.assertEqual(step.votes()[2], {place(100, 9), place(100)})
+        cut = step.run()
+        self.assertEqual((cut.moved, list(cut.new_nodes.values())), ({}, [place(100, 9)]))
+
+    def test_new_id_keeps_the_line(self) -> None:
+        old = [Old(7, "a", 1, 2, True, 0, 0, 1, "3,3,1000")]
+        ends = place(0), place(100)
+        cut = recut({"a": ends, "b": ()}, {"b": ends}, old, dict(zip((1, 2), ends))).run()
+        self.assertEqual((list(cut.changed), cut.dropped, cut.added), ([7], [], {}))
+
+    def test_unfit(self) -> None:
+        self.assertEqual(street_of("9", "3", "both", "ST_LineString", 4326, b""), Unfit("class is 9, and has to be 0 to 7"))
+        self.assertEqual(street_of("3", None, None, "ST_LineString", 4326, b""), Unfit("form and direction are NULL"))
+
+
+# ---- reading
+
+
+SOURCE = Source(1, 'public."100%"', "'%' || id", "text", "class", "form", "direction", "geom", "", "public")
+
+
+class Reading(unittest.TestCase):
+    """What has become of streets."""
+
+    def row(self, digest: int = 5, shape: int = 6) -> StreetRow:
+        """A row of source 1."""
+        return StreetRow(1, digest, shape, Street(3, 3, "both", ((place(0), place(1)),)))
+
+    def test_fates(self) -> None:
+        mine, theirs = Known(1, 5, 6, True), Known(2, 5, 6, True)
+        self.assertIs(fate_of(1, mine, [self.row()]), Fate.SAME)
+        self.assertIs(fate_of(1, mine, [self.row(7)]), Fate.CHANGED)
+        self.assertIs(fate_of(1, mine, []), Fate.GONE)
+        self.assertIs(fate_of(1, theirs, []), Fate.SAME)
+        self.assertIs(fate_of(1, theirs, [self.row()]), Fate.TAKEN)
+        self.assertIs(fate_of(1, None, [self.row()]), Fate.CHANGED)
+        self.assertIs(fate_of(1, mine, [self.row(), self.row()]), Fate.CHANGED)
+
+    def test_two_rows_are_unfit(self) -> None:
+        self.assertEqual(changed(1, [self.row(), self.row()]).street, Unfit("another street has the same id"))
+
+    def test_plain(self) -> None:
+        self.assertTrue(is_plain(Known(1, 4, 6, True), self.row()))
+        self.assertFalse(is_plain(Known(1, 4, 7, True), self.row()))
+        self.assertFalse(is_plain(Known(1, 4, 6, False), self.row()))
+        self.assertFalse(is_plain(None, self.row()))
+
+    def test_percent_signs_are_doubled(self) -> None:
+        query = row_query(SOURCE) % {"prefix": "''"}
+        self.assertIn("('%' || id) as id", query)
+        self.assertIn('from public."100%"', query)
+
+    def test_cells(self) -> None:
+        self.assertEqual(cell(float("nan"), 0), -1)
+        self.assertEqual(cell(6.1, 49.6), cell(6.1001, 49.6001))
+        self.assertNotEqual(cell(6.1, 49.6), cell(16.1, 49.6))
+
+
+class Writing(unittest.TestCase):
+    """Numbers, and lines of COPY."""
+
+    def test_copy_line(self) -> None:
+        self.assertEqual(copy_line(("a", 1, 2.5)), "a\t1\t2.5\n")
+        self.assertEqual(copy_line(("a\tb", None, "c\\d\n")), "a\\tb\t\\N\tc\\\\d\\n\n")
+
+    def test_numbers(self) -> None:
+        cursor = FakeCursor({"select kind, last": [("node", 5), ("line", LAST - 1), ("round", 9), ("hold", 0)],
+                               "generate_series": [(3,), (4,)]})
+        numbers = Numbers(cursor)
+        self.assertEqual(numbers.take("node", 3), [6, 7, 8])
+        self.assertEqual(numbers.take("line", 2), [3, 4])
+        numbers.write()
+        self.assertEqual(sum("update olr_keep.counter" in it for it in cursor.queries), 2)
+
+
+# ---- paths
+
+
+def ground(start: int, end: int, street: str, *points: Tuple[float, float], kind: Tuple[int, int, bool] = (3, 3, True)) -> Ground:
+    """A line of the map."""
+    return Ground(start, end, street, points, 1000, kind)
+
+
+def lines_of(course: Sequence[Tuple[float, float]], roads: Mapping[int, Ground], wish: Wish) -> Any:
+    """What is found for a course."""
+    return follow(course, roads, 20.0, wish)
+
+
+class Courses(unittest.TestCase):
+    """The lines that follow a course."""
+
+    ROADS = {1: ground(1, 2, "a", degrees(0), degrees(100)), 2: ground(1, 2, "b", degrees(0), degrees(5, 10), degrees(95, 10),
+                                                                       degrees(100), kind=(6, 3, True))}
+
+    def test_rival(self) -> None:
+        found = lines_of([degrees(0), degrees(100)], self.ROADS, Wish(has_rivals=True))
+        self.assertEqual((found.lines, found.rival.taken, found.rival.other), ([1], "street a", "street b"))
+        self.assertIsNone(lines_of([degrees(0), degrees(100)], {1: self.ROADS[1]}, Wish(has_rivals=True)).rival)
+
+    def test_unlike_decides(self) -> None:
+        found = lines_of([degrees(0), degrees(100)], self.ROADS, Wish(unlike=lambda number, *_: float(number == 1)))
+        self.assertEqual(found.lines, [2])
+
+    def test_ends_at_junctions(self) -> None:
+        roads = {1: ground(1, 2, "a", degrees(0), degrees(100)), 3: ground(3, 1, "c", degrees(0, -100), degrees(0))}
+        course = [degrees(0, -9), degrees(50), degrees(100)]
+        self.assertEqual(lines_of(course, roads, Wish(snap=DRAWN)).lines, [3, 1])
+        self.assertEqual(lines_of(course, roads, Wish(snap=DRAWN, ends=Ends(True, True))).lines, [1])
+        along = lines_of([degrees(30), degrees(70)], roads, Wish(ends=Ends(True, True)))
+        self.assertEqual(along.lines, [1])
+
+    def test_lost_says_where(self) -> None:
+        found = follow([degrees(0), degrees(300)], self.ROADS, 20.0)
+        self.assertIsInstance(found, Lost)
+
+    def test_pieces(self) -> None:
+        pieces = pieces_of([(6.0, 49.0), (6.02, 49.0)])
+        self.assertEqual((pieces[0][0], pieces[-1][-1]), ((6.0, 49.0), (6.02, 49.0)))
+        self.assertTrue(all(abs(a[0] - b[0]) <= 0.0051 for it in pieces for a, b in zip(it, it[1:])))
+
+
+def known(**changes: Any) -> KnownPath:
+    """A path that was found on line 1 of street a."""
+    whole = KnownPath([1], [">a"], 0, 0, (1, 2), (degrees(0), degrees(100)), "d", State.SAID, (degrees(0), degrees(100)),
+                      [Road(1000, "a", (3, 3, True))], Ends(True, True))
+    return whole._replace(**changes)
+
+
+class FakeFinder(Finder):
+    """The lines of a small map."""
+
+    def __init__(self, *rows: Row):
+        super().__init__(None, 20.0)
+        self.rows = {it.number: it for it in rows}
+
+    def near(self, _: Any) -> Dict[int, Ground]:
+        """All lines."""
+        return {number: it.ground for number, it in self.rows.items()}
+
+    def by_streets(self, streets: Sequence[str], *_: Any) -> Any:
+        """The lines of streets."""
+        found = [it.number for street in streets for it in self.rows.values() if it.street == street.lstrip("<>")]
+        return Found(found, 0, 0) if len(found) == len(streets) else Lost(f"street {streets[0]} has no line", None)
+
+
+def row(number: int, street: str, north: float = 0, frc: str = "3") -> Row:
+    """A line of 100 m."""
+    return Row(number, street, 0, 0, True, 1, 2, 1000, frc, "3", "both", (degrees(0, north), degrees(100, north)))
+
+
+NULL_STREET: Any = [None]
+NO_FINDER: Any = None
+
+
+class Searches(unittest.TestCase):
+    """What an operator gave is tried first."""
+
+    COURSE = Wanted("p", None, (degrees(0), degrees(100)), 0, 0, "d")
+    STREETS = Wanted("p", ["a"], None, 0, 0, "d")
+    NOTHING = Edited(set(), set())
+
+    def search(self, wanted: Wanted, was: Optional[KnownPath], edited: Edited, *rows: Row) -> Any:
+        """Where a path is."""
+        return PathSearch(FakeFinder(*rows), wanted, was, edited).run()
+
+    def test_kept(self) -> None:
+        self.assertIs(self.search(self.COURSE, known(), self.NOTHING, row(1, "a")).state, State.SAID)
+
+    def test_other_road_is_elsewhere(self) -> None:
+        for wanted in (self.COURSE, self.STREETS):
+            for frc in "36":
+                found = self.search(wanted, known(), self.NOTHING, row(2, "b", 12, frc))
+                self.assertEqual((found.state, found.found.lines), (State.ELSEWHERE, [2]))
+
+    def test_back(self) -> None:
+        was = known(lines=[2], streets=[">b"], state=State.ELSEWHERE, course=(degrees(0, 12), degrees(100, 12)))
+        for wanted in (self.COURSE, self.STREETS):
+            found = self.search(wanted, was, self.NOTHING, row(2, "b", 12), row(3, "a"))
+            self.assertEqual((found.state, found.found.lines), (State.SAID, [3]))
+
+    def test_new_street_is_the_same_road(self) -> None:
+        found = self.search(self.COURSE, known(), Edited(set(), {"n"}), row(2, "n", 8), row(3, "b", 6, "6"))
+        self.assertEqual((found.state, found.found.lines), (State.SAID, [2]))
+
+    def test_drift(self) -> None:
+        moved = Edited({1}, set())
+        self.assertIs(self.search(self.COURSE, known(), moved, row(1, "a", 15)).state, State.SAID)
+        self.assertIs(self.search(self.COURSE, known(), moved, row(1, "a", 25)).state, State.ELSEWHERE)
+
+    def test_shorter_is_not_kept(self) -> None:
+        half = row(1, "a")._replace(points=(degrees(0), degrees(50)))
+        search = PathSearch(FakeFinder(half), self.COURSE, known(), Edited({1}, set()))
+        self.assertIsNone(search.within((degrees(0), degrees(100))))
+
+    def test_lost_places(self) -> None:
+        found = self.search(self.COURSE, None, self.NOTHING)
+        self.assertEqual((found.state, found.lost_at), (State.LOST, (degrees(0),)))
+        self.assertEqual(len(places_hex(found.lost_at) or ""), 2 * (13 + 21))
+
+    def test_faults(self) -> None:
+        for wanted in (self.STREETS._replace(streets=NULL_STREET), self.STREETS._replace(streets=[""]),
+                       self.COURSE._replace(course=((6.1, 49.6), (float("nan"), 1.0))),
+                       self.COURSE._replace(course=((6.1, 49.6), (100.0, 60.0)))):
+            self.assertIs(self.search(wanted, None, self.NOTHING).state, State.LOST)
+            self.assertIsNotNone(wanted.fault())
+        self.assertIsNone(self.COURSE.fault())
+
+    def test_unlike(self) -> None:
+        where = WhereItWas(known(), (degrees(0), degrees(100)), Edited(set(), {"n"}))
+        points = degrees(0, 12), degrees(100, 12)
+        grade = {key: where.unlike(*key[:1], ground(1, 2, key[1], *points, kind=key[2]), 0, 100, 100)
+                 for key in ((1, "b", (6, 3, True)), (2, "a", (6, 3, True)), (2, "n", (3, 3, True)), (2, "b", (3, 3, True)))}
+        self.assertEqual(list(grade.values()), [0.0, 0.5, 0.5, 1.0])
+        self.assertEqual(where.unlike(2, ground(1, 2, "b", degrees(0, 3), degrees(100, 3)), 0, 100, 100), 0.0)
+
+    def test_failure_is_of_one_path(self) -> None:
+        update = PathsUpdate(FakeCursor(), Affected(), 20.0)
+        placed = update.place(NO_FINDER, self.COURSE, None, self.NOTHING)
+        self.assertIs(placed.state, State.LOST)
+        self.assertIn("can't be sought", placed.why.words if placed.why else "")
+
+    def test_arrays(self) -> None:
+        self.assertEqual(text_array(['a"b', "c\\d"]), '{"a\\"b","c\\\\d"}')
+
+
+# ---- holding
+
+
+class Holding(unittest.TestCase):
+    """What is published, and what waits."""
+
+    LIMITS = Limits(10, 1, 1, 2)
+
+    def test_limits(self) -> None:
+        self.assertFalse(self.LIMITS.are_exceeded(Counts(20, 1, 1, 2), 100))
+        self.assertTrue(self.LIMITS.are_exceeded(Counts(21, 0, 0, 0), 100))
+        self.assertTrue(self.LIMITS.are_exceeded(Counts(0, 2, 1, 0), 100))
+        self.assertTrue(self.LIMITS.are_exceeded(Counts(0, 0, 0, 3), 100))
+        self.assertFalse(self.LIMITS.are_exceeded(Counts(0, 10, 0, 10), 1000))
+
+    def round(self, gone: Sequence[str], rows: Mapping[str, Sequence[Any]]) -> Round:
+        """The end of a round that changes nothing but these."""
+        paths = PathsUpdate(FakeCursor(), Affected(), 20.0)
+        paths.gone = set(gone)
+        cursor, numbers = FakeCursor({"select count(*) from olr_keep.path": [(100,)], **rows}), FakeCursor()
+        numbers.rows = {"select kind, last": [("hold", 99)]}
+        return Round(cursor, Change(), Affected(), paths, Numbers(numbers))
+
+    PUBLISHED = [(name, f"old-{name}", None) for name in "abcd"]
+
+    def test_few_are_published(self) -> None:
+        outcome = self.round("", {"where round > 0": self.PUBLISHED}).judge({"a": "text,new"}, self.LIMITS)
+        self.assertEqual(outcome.published, {"a": (Answer("old-a", None), Answer("new", None))})
+        self.assertEqual((outcome.counts, outcome.waiting), (Counts(changed=1), {}))
+
+    def test_many_wait(self) -> None:
+        outcome = self.round("abc", {"where round > 0": self.PUBLISHED}).judge({"d": "text,new"}, self.LIMITS)
+        self.assertEqual(set(outcome.waiting), set("abcd"))
+        self.assertEqual(outcome.waiting["a"], Waiting(100, DROPPED, Effect.DROPPED))
+        self.assertEqual(outcome.published, {})
+
+    def test_held_before(self) -> None:
+        waiting = [(name, 1, None, "refused,1,5", "refused", False) for name in "abc"]
+        rows: Dict[str, Sequence[Any]] = {"where round > 0": self.PUBLISHED, "olr_keep.waiting": waiting}
+        outcome = self.round("", rows).judge({"a": "refused,1,6"}, self.LIMITS)
+        self.assertEqual((set(outcome.waiting), outcome.ended, outcome.published), (set("abc"), set(), {}))
+        outcome = self.round("", rows).judge({"a": "text,old-a", "b": "text,new"}, self.LIMITS)
+        self.assertEqual((outcome.waiting, outcome.ended, set(outcome.published)), ({}, set("abc"), set("bc")))
+
+    def test_released(self) -> None:
+        waiting = [(name, 1, None, "refused,1,5", "refused", True) for name in "abc"]
+        outcome = self.round("", {"where round > 0": self.PUBLISHED, "olr_keep.waiting": waiting}).judge({}, self.LIMITS)
+        self.assertEqual((set(outcome.published), outcome.ended, outcome.counts.refused), (set("abc"), set("abc"), 3))
+
+    def test_frozen(self) -> None:
+        rows: Dict[str, Sequence[Any]] = {"where round > 0": self.PUBLISHED, "olr_keep.frozen": [("a", None, None, False), ("b", "older", None, True)]}
+        outcome = self.round("", rows).judge({"a": "text,new", "b": "text,newer"}, self.LIMITS)
+        self.assertEqual(outcome.published, {"b": (Answer("old-b", None), Answer("older", None))})
+        self.assertEqual(outcome.waiting, {"a": Waiting(None, Answer("new", None), None), "b": Waiting(None, Answer("newer", None), None)})
+
+    def test_clusters(self) -> None:
+        change, affected = Change(), Affected()
+        affected.keys = {"s", "t", "u"}
+        affected.old_cells = {"s": {cell_of(6.1, 49.6)}, "t": {cell_of(6.1, 49.6)}, "u": {cell_of(6.9, 49.6)}}
+        change.street_group = {"s": "tx1", "t": "tx2", "u": "tx3"}
+        clusters = Clusters(FakeCursor(), change, affected, {"a": Effect.CHANGED, "b": Effect.CHANGED})
+        clusters.cells = {"a": {cell_of(6.1001, 49.6)}, "b": {cell_of(6.91, 49.61)}}
+        self.assertEqual(sorted((sorted(names), sorted(streets)) for names, streets in clusters.run()),
+                         [(["a"], ["s", "t"]), (["b"], ["u"])])
+
+
+# ---- the program
+
+
+SCRIPT = """#!/bin/sh
+while read -r record; do
+    case $record in
+        bad*) echo fault,1,Syntax ;;
+        report) printf 'ok,2\\na,text,X\\nb,refused,1,7\\n' ;;
+        commit*) printf 'ok,1\\na,text,Y\\n' ;;
+        slow) sleep 1.5; echo ok,0 ;;
+        *) echo ok,0 ;;
+    esac
+done
+"""
+
+
+class Programs(unittest.TestCase):
+    """What is sent to the program, and its answers."""
+
+    def setUp(self) -> None:
+        with tempfile.NamedTemporaryFile("w", suffix=".sh", delete=False) as file:
+            file.write(SCRIPT)
+        os.chmod(file.name, 0o755)
+        self.addCleanup(os.unlink, file.name)
+        self.ticks = 0
+        self.program = LiveProgram([file.name], self.tick)
+        self.addCleanup(self.close)
+
+    def tick(self) -> None:
+        """Counts ticks."""
+        self.ticks += 1
+
+    def close(self) -> None:
+        """Ends the program."""
+        self.program.kill()
+        for stream in (self.program.process.stdin, self.program.process.stdout):
+            if stream:
+                stream.close()
+
+    def test_answers(self) -> None:
+        self.assertEqual(self.program.answers(["node,1,0,0"]), {"a": "text,Y"})
+        self.assertEqual(self.program.answers([]), {})
+
+    def test_rejected(self) -> None:
+        with self.assertRaisesRegex(ProgramFailed, "fault,1,Syntax"):
+            self.program.carry_out(b"bad\n", 1)
+
+    def test_sent(self) -> None:
+        sent = Sent(self.program)
+        sent.write(b"node,1,0,0\n")
+        sent.write(b"node,2,0,0\n")
+        sent.flush()
+        self.assertEqual(self.program.carry_out(b"report\n", 1), ["a,text,X", "b,refused,1,7"])
+
+    def test_ticks_while_it_works(self) -> None:
+        self.program.carry_out(b"slow\n", 1)
+        self.assertGreaterEqual(self.ticks, 1)
+
+
+if __name__ == "__main__":
+    unittest.main()
