@@ -155,8 +155,9 @@ fn preview_overlaid<M: MapRead>(
     ensures { IfOk result (λ r. (js : List Item) × IsRenewal (M.map map.now) touched.now (items before.now)
         (shown_items overlaid.entry) js r) }
 {
-    let Renewal { fresh, renewed } =
-        renewal_of(alloc, map, overlaid, before, touched, bounds, searches)?;
+    let Renewal { fresh, renewed } = renewal_of(
+        alloc, map, overlaid, before, touched, bounds, searches,
+    )?;
     drop(fresh);
     Ok(renewed)
 }

@@ -1,6 +1,6 @@
 -- The log of a run, from the history of its session.
 use Rattle.olr_run.proofs.Common.{IfErr, IfSome, Outcome, Field, outcome_text, SoundOutcome}
-use Rattle.olr_run.proofs.Common.{append-nil, append_assoc, length-map, Known, records_of}
+use Rattle.olr_run.proofs.Common.{append-nil, append_assoc, length-map, Known}
 use Rattle.olr_run.proofs.Common.{Event, Took, Ended, Not_taken, Not_sent, Wrote, Cut, History, exchanges, RanIn, CutIn, Keeps}
 use Rattle.olr_run.proofs.Common.{Past_the_most, In_text, Appends, Registered, RunFault}
 use Rattle.std.proofs.Common.{◌≡◌, ◌≢◌, ◌∙◌, ℕ, Bool, false, List, [], ◌∷◌, ◌++◌, length, map, Some, None, refl, sym, ap, subst, arith}
