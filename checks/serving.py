@@ -252,15 +252,15 @@ class Manager:
         return subprocess.run(["nsenter", "-t", str(self.init), "-m", "-p", *words], capture_output=True, text=True, timeout=60,
                               stdin=subprocess.DEVNULL)
 
-    def show(self, name):
-        """A property of the service."""
-        return self.call("systemctl", "show", "-P", name, "olr-keep.service").stdout.strip()
+    def show(self, name, unit="olr-keep.service"):
+        """A property of the service, or of another unit."""
+        return self.call("systemctl", "show", "-P", name, unit).stdout.strip()
 
-    def wait(self, name, wanted):
-        """Waits until a property of the service is this."""
+    def wait(self, name, wanted, unit="olr-keep.service"):
+        """Waits until a property of the service, or of another unit, is this."""
         until, found = time.monotonic() + 15, None
         while time.monotonic() < until:
-            if (found := self.show(name)) == wanted:
+            if (found := self.show(name, unit)) == wanted:
                 return
             time.sleep(0.05)
         raise Failed(f"{name} is {found}, and not {wanted}: {self.show('StatusText')}")
