@@ -220,6 +220,8 @@ class Manager:
             shutil.copytree(f"{TOP}/{name}", f"{local}/share/olr-keep/{name}", ignore=shutil.ignore_patterns("__pycache__"))
         os.makedirs(f"{local}/bin")
         shutil.copy(SERVED, f"{local}/bin/olr-keep")
+        for name in os.listdir(f"{TOP}/tools"):
+            os.symlink(f"../share/olr-keep/tools/{name}", f"{local}/bin/olr-keep-{name}")
         os.makedirs(f"{folder}/units/olr-keep.service.d")
         for name in ("olr-keep.service", "olr-keep.socket"):
             shutil.copy(f"{TOP}/packaging/{name}", f"{folder}/units/{name}")
