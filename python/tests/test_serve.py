@@ -1,10 +1,13 @@
 """Tests of the parts of the service, without the program."""
+import io
+import os
 import random
 import sqlite3
 import tempfile
 import unittest
 from typing import List, Tuple
 
+from olr_keep_tools.serve import logfile
 from olr_keep_tools.serve.framing import NoReply, Replies
 from olr_keep_tools.serve.jobs import Change, Job, Kind, batch, dropped, question_about
 from olr_keep_tools.serve.lines import Input, Sort
@@ -97,6 +100,39 @@ class Jobs(unittest.TestCase):
         job = Job(Owner(), Kind.CHANGES, b"node,1\nnode,2\nnode,3\n", 3)
         part = job.split(2)
         self.assertEqual((part.text, part.count, job.text, job.count), (b"node,1\nnode,2\n", 2, b"node,3\n", 1))
+
+
+class Logs(unittest.TestCase):
+    def test_scan(self) -> None:
+        """A log that grows is counted on, whole records only; one that was replaced is counted again."""
+        with tempfile.TemporaryDirectory() as folder:
+            name, texts = f"{folder}/log", [f"node,{k},0,0\nline,{k},1,1,1,1,1\npath,p{k},0,0,1\n" for k in range(40_000)]
+            with open(name, "w", encoding="ascii") as file:
+                file.write("\n" + "".join(texts) + "drop-path,p1\ndrop-line,1\nrepath,p2,0,0,1\nnode,9")
+            scan = logfile.Scan(name)
+            found = scan.update()
+            self.assertGreater(os.path.getsize(name), logfile.BLOCK)
+            self.assertEqual((found.nodes, found.lines, found.paths), (40_000, 39_999, 39_999))
+            with open(name, "a", encoding="ascii") as file:
+                file.write("9999,0,0\nnode,7,0,0\n")
+            self.assertEqual(scan.update().nodes, 40_002)
+            with open(f"{name}.new", "w", encoding="ascii") as file:
+                file.write("\nnode,1,0,0\n")
+            os.replace(f"{name}.new", name)
+            found = scan.update()
+            self.assertEqual((found.nodes, found.lines, found.paths, found.size), (1, 0, 0, 12))
+
+    def test_findings(self) -> None:
+        """Each byte of an own log that is replaced by another sort of byte is found, and each cut within a record."""
+        own = b"\nnode,1,0,0\nnode,2,0,0\n"
+        for at in range(1, len(own)):
+            for byte in b"\0\r\"\xff":
+                text = own[:at] + bytes([byte]) + own[at + 1 :]
+                is_end = byte == 13 and at == len(own) - 1
+                self.assertEqual(bool(logfile.own_findings(io.BytesIO(text).read)), not is_end, text)
+            is_whole = own[:at].endswith(b"\n")
+            self.assertEqual(bool(logfile.own_findings(io.BytesIO(own[:at]).read)), not is_whole)
+            self.assertEqual(logfile.own_findings(io.BytesIO(own[:at] + b"\r" * 3_000_000).read), [])
 
 
 class Tables(unittest.TestCase):

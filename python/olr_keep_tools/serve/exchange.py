@@ -7,9 +7,10 @@ from olr_keep_tools.serve.framing import NoReply, Replies
 from olr_keep_tools.serve.jobs import Change, Job, Kind, Owner
 from olr_keep_tools.serve.program import Program
 
-LEAST_WINDOW, MOST_WINDOW = 32, 65536  # records whose replies are awaited
-SOON, LATE = 0.03, 0.1  # seconds for a reply, after which more or fewer records are passed at once
-MOST_BYTES = 1 << 20
+LEAST_WINDOW, MOST_WINDOW = 32, 1 << 17  # records whose replies are awaited
+AHEAD, MEASURED = 0.1, 0.05  # seconds of work that are passed to the program; after how many it is measured how many these are
+PAUSE = 0.01  # seconds without a record, which are not part of what is measured
+MOST_BYTES = 4 << 20
 
 
 class Source(Owner, Protocol):
@@ -40,8 +41,8 @@ class Counts:
 
 
 class Exchange:
-    """Jobs that wait, jobs that were sent, and the window: how many records are sent before their replies have arrived, so that a
-    connection that sends many holds up no other one for long."""
+    """Jobs that wait, jobs that were sent, and the window: how many records are sent before their replies have arrived. It is
+    what the program carries out in a moment, so that it never waits, and a connection that sends many holds up no other for long."""
 
     def __init__(self, publish: Callable[[List[Change], str], None], may_send: Callable[[], bool]) -> None:
         self.publish, self.may_send = publish, may_send
@@ -50,7 +51,8 @@ class Exchange:
         self.counts, self.replies = Counts(), Replies()
         self.program: "Program | None" = None
         self.awaited = self.awaited_bytes = 0
-        self.window, self.narrowed_at, self.last_progress, self.last_end = 1024, 0.0, 0.0, 0.0
+        self.window, self.last_progress, self.last_end = 1024, 0.0, 0.0
+        self.measured_since, self.measured = 0.0, 0
 
     def connect(self, program: Program) -> None:
         """Takes a program that was started: nothing was sent to it yet."""
@@ -93,6 +95,8 @@ class Exchange:
         else:
             source.unsent.popleft()
         if not self.sent:
+            if now - self.last_progress > PAUSE:
+                self.measured_since, self.measured = now, 0
             self.last_progress = self.last_end = now
         job.sent_at = now
         self.sent.append(job)
@@ -110,6 +114,7 @@ class Exchange:
             span = self.replies.take(job.next_most())
             if span is None:
                 break
+            self.measured += span.count
             text = job.take(span)
             if text:
                 job.owner.reply(text)
@@ -119,6 +124,7 @@ class Exchange:
         else:
             if len(self.replies.buffer) > self.replies.at:
                 raise NoReply("a reply to nothing")
+        self._set_window(now)
         self.dispatch()
 
     def _finish(self, job: Job, now: float) -> None:
@@ -127,18 +133,17 @@ class Exchange:
         self.awaited_bytes -= len(job.text)
         self.counts.add(job, max(job.sent_at, self.last_end), now)
         self.last_end = now
-        self._set_window(job, now)
         if job.changes:
             self.publish(job.changes, job.owner.user)
         job.owner.finish(job)
 
-    def _set_window(self, job: Job, now: float) -> None:
-        """Fits the window to the time that the replies take."""
-        age = now - job.sent_at
-        if age > LATE and job.sent_at >= self.narrowed_at:
-            self.window, self.narrowed_at = max(LEAST_WINDOW, self.window // 2), now
-        elif age < SOON:
-            self.window = min(MOST_WINDOW, self.window + job.count)
+    def _set_window(self, now: float) -> None:
+        """Fits the window to the replies of the last moment in which some were awaited all the time."""
+        seconds = now - self.measured_since
+        if seconds > MEASURED:
+            fitting = min(4 * self.window, int(self.measured / seconds * AHEAD))
+            self.window = max(LEAST_WINDOW, min(fitting, MOST_WINDOW))
+            self.measured_since, self.measured = now, 0
 
     def disconnect(self) -> None:
         """The program has ended: of the jobs that were sent nothing more is known."""

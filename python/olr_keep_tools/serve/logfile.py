@@ -1,15 +1,14 @@
 """Looks at a log before it is served: what it has, whether it is whole, and whether it lacks what it had."""
 import json
 import os
-import re
 from dataclasses import asdict, dataclass
 from typing import Callable, Dict, List, NamedTuple, Optional
 
 BLOCK = 1 << 20
 # The records that add to what a log leads to, and those that take away from it.
 ADDS = {"nodes": (b"\nnode,", b"\ndrop-node,"), "lines": (b"\nline,", b"\ndrop-line,"), "paths": (b"\npath,", b"\ndrop-path,")}
-# What an own log never has in its records: anything but printed ASCII without quotes.
-NOT_OWN = re.compile(rb"[^\n -!#-~]")
+# What an own log has in its records: printed ASCII without quotes.
+OWN = bytes(it for it in range(32, 127) if it != ord('"')) + b"\n"
 CUT_OFF = "its last line has no end: the file was cut off"
 MOST_FEWER = 1.0  # percent
 ALWAYS_ALLOWED = 10  # records that may be missing whatever the percentage
@@ -56,27 +55,29 @@ class Scan:
 
     def __init__(self, name: str) -> None:
         self.name = name
-        self.contents, self.at, self.tail, self.inode = Contents(), 0, b"\n", 0
+        self.contents, self.at, self.inode = Contents(), 0, 0
 
     def update(self) -> Contents:
         """What the log has now, up to its last whole record."""
         with open(self.name, "rb") as file:
             status = os.fstat(file.fileno())
             if status.st_ino != self.inode or status.st_size < self.at:
-                self.contents, self.at, self.tail, self.inode = Contents(), 0, b"\n", status.st_ino
-            file.seek(self.at)
-            while block := file.read(BLOCK):
-                if not self._count(block):
-                    break
+                self.contents, self.at, self.inode = Contents(), 0, status.st_ino
+            is_counted = True
+            while is_counted:
+                # A record that isn't whole at the end of a block is read again.
+                file.seek(self.at)
+                is_counted = self._count(file.read(BLOCK))
         return self.contents
 
     def _count(self, block: bytes) -> bool:
         """Counts the records of whole lines, and returns whether there were any."""
         end = block.rfind(b"\n") + 1
-        text = self.tail + block[:end]
+        text = b"\n" + block[:end]
+        has_drops = b"\ndrop-" in text
         for name, (adds, takes) in ADDS.items():
-            setattr(self.contents, name, getattr(self.contents, name) + text.count(adds) - text.count(takes))
-        self.tail = b"\n"
+            change = text.count(adds) - (text.count(takes) if has_drops else 0)
+            setattr(self.contents, name, getattr(self.contents, name) + change)
         self.at += end
         self.contents.size = self.at
         return end > 0
@@ -140,9 +141,9 @@ def own_findings(read: Callable[[int], bytes]) -> List[Finding]:
     while block := read(BLOCK):
         if not is_padding:
             text, returned, block = block.partition(b"\r")
-            wrong = NOT_OWN.search(text)
+            wrong = text.translate(None, OWN)[:1]
             if wrong:
-                return [Finding(f"byte {at + wrong.start()} is {wrong[0]!r}: the program writes no such byte into a log")]
+                return [Finding(f"byte {at + text.index(wrong)} is {wrong!r}: the program writes no such byte into a log")]
             at, is_cut = at + len(text) + len(returned), not text.endswith(b"\n") if text else is_cut
             if not returned:
                 continue

@@ -8,7 +8,6 @@ import signal
 from typing import Any, Callable, List, NamedTuple, Optional, Protocol
 
 PIPE_SIZE = 1 << 20
-MOST_UNWRITTEN = 1 << 20
 PR_SET_PDEATHSIG = 1
 STARTED = re.compile(r"olr-keep: .* has \d+ records? and \d+ paths?")
 ENDING = 4096  # bytes of a message that is kept until its line ends
@@ -79,10 +78,6 @@ class Program(asyncio.SubprocessProtocol):
         """Passes records to it. If it has ended, its end is about to be noted."""
         if self.input is not None and not self.input.is_closing():
             self.input.write(text)
-
-    def has_room(self) -> bool:
-        """Whether more records may be passed to it."""
-        return self.input is not None and self.input.get_write_buffer_size() < MOST_UNWRITTEN
 
     def end_input(self) -> None:
         """Closes its input, after which it ends."""
