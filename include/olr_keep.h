@@ -33,8 +33,8 @@ extern "C" {
 #endif
 
 /* The version of this header, and as a number: 10000 times the first part, plus 100 times the second, plus the third. */
-#define OLR_KEEP_VERSION "1.1.0"
-#define OLR_KEEP_VERSION_NUMBER 10100
+#define OLR_KEEP_VERSION "2.0.0"
+#define OLR_KEEP_VERSION_NUMBER 20000
 
 /* A register, or none. */
 typedef struct olr_keep {
@@ -57,7 +57,7 @@ enum {
     OLR_KEEP_BAD_LENGTH = 6   /* a length is greater than PTRDIFF_MAX */
 };
 
-/* The version of the library that is loaded, such as "1.1.0". */
+/* The version of the library that is loaded, such as "2.0.0". */
 const char *olr_keep_version(void);
 
 /* What a status means, in English and without a line end, such as "out of memory". Never NULL. */

@@ -20,7 +20,7 @@ from ._library import ACCEPTED, NO_MEMORY, REJECTED, library_version
 from ._records import Degrees, Shape
 from ._replies import Answer, Changes, Explained, Obstacle, Point, Rejected, Reply
 
-__version__ = "1.1.0"
+__version__ = "2.0.0"
 
 __all__ = [
     "ACCEPTED",

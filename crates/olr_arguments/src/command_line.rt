@@ -19,18 +19,18 @@ use std::convert::AsStr;
 const ABOUT: &str = "Keeps published OpenLR strings correct while the road map is edited.";
 
 /// The version, and the logic with which it was proved, as the end of what `rt version` prints.
-const VERSION: &str = "1.1.0, proved with logic dac8208d650f15bf";
+const VERSION: &str = "2.0.0, proved with logic dac8208d650f15bf";
 
 const AFTER_HELP: &str =
     "Records: node, move, drop-node, line, set-line, drop-line, path, repath, drop-path,
-show, show-node, show-line, depends, report, dump, compact, ambiguous, explain, begin, commit,
-abort.
+show, show-node, show-line, depends, report, dump, compact, ambiguous, explain, begin, preview,
+commit, abort.
 docs/LIMITS.md: fields, limits, faults.
 Replies: `ok,N` and N lines, `held,N` in a batch, `fault,NUMBER,WORD`.
 Example: olr-keep < examples/morning.csv
 Status: 0 all accepted, 1 some rejected, 2 invalid arguments, 3 I/O failed, 4 out of memory;
 5 a record of LOG is rejected, 6 the input ended in a batch, 7 LOG is in use.
-docs/RUNNING.md: maps from a database, a log for restarts, a queue, regions.";
+docs/MAPS.md: maps from a database. docs/SERVICE.md: a log for restarts, a service.";
 
 const FILE_HELP: &str = "Reads the records of FILE before those of standard input";
 

@@ -4,7 +4,7 @@ use Rattle.olr_commands.proofs.Common.{Map, IsMap, Path, Reference, Answer, Enco
 use Rattle.olr_commands.proofs.Common.{both_ways, concat, cases_Bool, cases_eq, bytes_decides, is_path, Refused}
 use Rattle.olr_commands.proofs.Common.{Refusal, some_answer}
 use Rattle.std.proofs.Common.{arith, ◌≡◌, ℕ, List, [], ◌∷◌, Option, Some, None, sym, ap, ◌∙◌, subst, Result, Ok, Err}
-use Rattle.std.specs.Prelude.{IfSome}
+use Rattle.std.specs.Prelude.{IfSome, ◌↔◌, ◌==◌}
 use Rattle.std.proofs.Common.{map, IsFalse, inl, inr, ◌⊎◌, ◌≢◌, suc, true, false, not, length, is_some, IsTrue, refl, ◌≤◌}
 use Rattle.olr_commands.specs.State.{Named, Content, ArePaths, IsContent, Change, State, Command, Make, Show, Report}
 use Rattle.olr_commands.specs.State.{Explain, Begin, Commit, Abort, IsState, Dump, Fault, HasCoords, step, step_in, path_named}
@@ -24,7 +24,8 @@ use Rattle.olr_spec.proofs.FitLemmas.{encoded_fits}
 use Rattle.olr_commands.specs.Dump.{dump_lines, dump_changes, node_changes, line_changes, DumpsAgain}
 use Rattle.olr_commands.specs.Dependents.{Dependents}
 use Rattle.olr_commands.specs.Ambiguities.{AskedAmbiguities}
-use Rattle.olr_commands.specs.State.{has_asked, with_held, IsBatch}
+use Rattle.olr_commands.specs.State.{has_asked, with_held, IsBatch, after, Count_differs}
+use Rattle.olr_laws.specs.CommandLaws.{PreviewsCommit}
 use Rattle.olr_commands.specs.Counts.{Affects, CountIs, Raises}
 use Rattle.olr_commands.proofs.CountLemmas.{unconcerned}
 use Rattle.olr_commands.proofs.DumpLemmas.{dumps_lead}
@@ -262,6 +263,19 @@ some_reply s t Preview i h is n =
 some_reply s t (Commit count) i h is n = let es =
     some_difference s.content t.content i.content (steps_keep s t (Commit count) i h is).content in (Paths es.0, es.1)
 some_reply s t Abort i h is n = (Paths [], refl)
+
+-- a preview has the replies of the commit that may follow
+pub previews_commit : PreviewsCommit
+previews_commit s t count r is = by s.batch is where
+  by : (b : Option (List Change)) → step_in s.content b (Commit count) ≡ Ok t →
+      IsPaths r (Differences s.content (with_held s.content b)) ↔ IsPaths r (Differences s.content t.content)
+  by None e = absurd cc
+  by (Some xs) e =
+      let later : State = record { content = after s.content xs; batch = None } in
+      let made : Ok later ≡ Ok t = (when_ok (not (length xs == count)) Count_differs (Ok later) t e).1 in
+      let there : after s.content xs ≡ t.content = cc in
+      subst (λ (d : Content). IsPaths r (Differences s.content (after s.content xs)) ↔ IsPaths r (Differences s.content d))
+      there ((λ h. h), (λ h. h))
 
 -- ---- counts
 

@@ -1,8 +1,8 @@
 -- The laws of states, replies and counts.
-use Rattle.std.specs.Prelude.{◌≡◌, ◌≢◌, ◌⊎◌, ℕ, List, [], ◌∷◌, None, Ok, Contains, IsTrue, IsFalse}
+use Rattle.std.specs.Prelude.{◌≡◌, ◌≢◌, ◌⊎◌, ◌↔◌, ℕ, List, [], ◌∷◌, None, Ok, Contains, IsTrue, IsFalse}
 use Rattle.olr_spec.specs.Map.{Map, IsMap, Edit, edited, touched_nodes, touched_lines, has, has_node, has_line}
 use Rattle.olr_spec.specs.Extension.{Path}
-use Rattle.olr_commands.specs.State.{Content, Add_path, Set_path, Make, State, Command, Explain, Begin, Commit, Abort}
+use Rattle.olr_commands.specs.State.{Content, Add_path, Set_path, Make, State, Command, Explain, Begin, Preview, Commit, Abort}
 use Rattle.olr_commands.specs.State.{HasCoords, IsState, step, changes_made, Named, Change, On_map}
 use Rattle.olr_commands.specs.Dump.{dump_changes, node_changes, line_changes}
 use Rattle.olr_commands.specs.Dependents.{DependsOn}
@@ -23,6 +23,11 @@ EmptyCommit = (s t u : State) → step s Begin ≡ Ok t → step t (Commit 0) �
 abbrev pub AbortGivesBack : Type 0
 AbortGivesBack =
     (c : Content) (b u : State) → b.content ≡ c → step b Abort ≡ Ok u → u ≡ record { content = c; batch = None }
+
+-- a preview has the replies of the commit that may follow
+abbrev pub PreviewsCommit : Type 0
+PreviewsCommit =
+    (s t : State) (count : ℕ) (r : Reply) → step s (Commit count) ≡ Ok t → IsReply s Preview s r ↔ IsReply s (Commit count) t r
 
 -- the rise of the count is determined, and 0 for commands that apply no change
 abbrev pub OneRise : Type 0

@@ -14,7 +14,7 @@ ghost use Rattle.olr_laws.specs.CommandLaws as Laws;
 ghost use Rattle.olr_laws.specs.CommandRows.{in_batch, path_a, with_a, with_node};
 
 /// What commands preserve, and that a reply is determined.
-#[tactic(auto, using(olr_commands::proofs::StateLemmas::steps_keep, crate::proofs::CommandLemmas::one_reply, crate::proofs::CommandLemmas::one_outcome, crate::proofs::CommandLemmas::some_reply))]
+#[tactic(auto, using(olr_commands::proofs::StateLemmas::steps_keep, crate::proofs::CommandLemmas::one_reply, crate::proofs::CommandLemmas::one_outcome, crate::proofs::CommandLemmas::some_reply, crate::proofs::CommandLemmas::previews_commit))]
 pub fn laws_of_states()
     ensures kept { Laws.StepsKeep }
     ensures one_reply { Laws.OneReply }
@@ -22,6 +22,7 @@ pub fn laws_of_states()
     ensures abort { Laws.AbortGivesBack }
     ensures one_outcome { Laws.OneOutcome }
     ensures some_reply { Laws.SomeReply }
+    ensures previews { Laws.PreviewsCommit }
 {}
 
 /// The rise of the count of encodings is determined.

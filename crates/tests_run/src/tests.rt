@@ -542,7 +542,7 @@ Usage: olr-keep [OPTIONS]
 
 For more information, try '--help'.
 ";
-    let version = "olr-keep 1.1.0, proved with logic dac8208d650f15bf\n";
+    let version = "olr-keep 2.0.0, proved with logic dac8208d650f15bf\n";
     expect_program(&rt, &["olr-keep", "-V"], None, outage(), 0, version, "");
     expect_program(&rt, &["olr-keep", "-x"], None, outage(), 2, "", usage);
 }
