@@ -26,7 +26,7 @@ pub fn laws_of_states()
 {}
 
 /// The rise of the count of encodings is determined.
-#[tactic(auto, using(crate::proofs::CommandLemmas::one_rise, crate::proofs::CommandLemmas::no_rise, olr_commands::proofs::CountLemmas::paths_raise))]
+#[tactic(auto, using(crate::proofs::CommandLemmas::one_rise, crate::proofs::CommandLemmas::no_rise))]
 pub fn laws_of_counts()
     ensures one { Laws.OneRise }
     ensures none { Laws.NoRise }
