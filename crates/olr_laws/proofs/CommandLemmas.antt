@@ -5,7 +5,7 @@ use Rattle.olr_commands.proofs.Common.{both_ways, concat, cases_Bool, cases_eq, 
 use Rattle.olr_commands.proofs.Common.{Refusal, some_answer}
 use Rattle.std.proofs.Common.{arith, ◌≡◌, ℕ, List, [], ◌∷◌, Option, Some, None, sym, ap, ◌∙◌, subst, Result, Ok, Err}
 use Rattle.std.specs.Prelude.{IfSome, ◌↔◌, ◌==◌}
-use Rattle.std.proofs.Common.{map, IsFalse, inl, inr, ◌⊎◌, ◌≢◌, suc, true, false, not, length, is_some, IsTrue, refl, ◌≤◌}
+use Rattle.std.proofs.Common.{map, IsFalse, inl, inr, ◌⊎◌, ◌≢◌, suc, true, false, not, length, is_some, IsTrue, refl}
 use Rattle.olr_commands.specs.State.{Named, Content, ArePaths, IsContent, Change, State, Command, Make, Show, Report}
 use Rattle.olr_commands.specs.State.{Explain, Begin, Commit, Abort, IsState, Dump, Fault, HasCoords, step, step_in, path_named}
 use Rattle.olr_commands.specs.State.{Show_node, Show_line, Depends, Compact, Preview, Ambiguous}
