@@ -445,11 +445,11 @@ group by hold.hold;
 comment on view olr_keep.held is 'The holds that are open, and the paths whose strings wait in them.';
 
 create or replace view olr_keep.path_state as
-select name, case when waiting.name is not null and hold is not null then 'held' when frozen.name is not null then 'frozen'
+select name as path, case when waiting.name is not null and hold is not null then 'held' when frozen.name is not null then 'frozen'
         when lost then 'lost' when string.text is null then 'refused' when found_elsewhere then 'found elsewhere'
         else 'published' end as state,
-    coalesce(string.text, last_text) as text, string.reason, string.round, round.at, now() - round.at as age,
-    (select string_agg(words, '; ' order by problem) from olr_keep.problem where path = name) as problems, geom
+    string.text as string, last_text as last_string, string.reason, string.round, round.at, now() - round.at as age,
+    (select string_agg(words, '; ' order by problem) from olr_keep.problem where problem.path = name) as problems, geom
 from olr_keep.string left join olr_keep.round using (round) left join olr_keep.waiting using (name)
     left join olr_keep.frozen using (name);
 comment on view olr_keep.path_state is 'Each path with its state, the age of its string, its problems in words, and its course.';
