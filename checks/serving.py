@@ -220,6 +220,8 @@ class Manager:
             shutil.copytree(f"{TOP}/{name}", f"{local}/share/olr-keep/{name}", ignore=shutil.ignore_patterns("__pycache__"))
         os.makedirs(f"{local}/bin")
         shutil.copy(SERVED, f"{local}/bin/olr-keep")
+        for name in os.listdir(f"{TOP}/tools"):
+            os.symlink(f"../share/olr-keep/tools/{name}", f"{local}/bin/olr-keep-{name}")
         os.makedirs(f"{folder}/units/olr-keep.service.d")
         for name in ("olr-keep.service", "olr-keep.socket"):
             shutil.copy(f"{TOP}/packaging/{name}", f"{folder}/units/{name}")
@@ -252,15 +254,15 @@ class Manager:
         return subprocess.run(["nsenter", "-t", str(self.init), "-m", "-p", *words], capture_output=True, text=True, timeout=60,
                               stdin=subprocess.DEVNULL)
 
-    def show(self, name):
-        """A property of the service."""
-        return self.call("systemctl", "show", "-P", name, "olr-keep.service").stdout.strip()
+    def show(self, name, unit="olr-keep.service"):
+        """A property of the service, or of another unit."""
+        return self.call("systemctl", "show", "-P", name, unit).stdout.strip()
 
-    def wait(self, name, wanted):
-        """Waits until a property of the service is this."""
+    def wait(self, name, wanted, unit="olr-keep.service"):
+        """Waits until a property of the service, or of another unit, is this."""
         until, found = time.monotonic() + 15, None
         while time.monotonic() < until:
-            if (found := self.show(name)) == wanted:
+            if (found := self.show(name, unit)) == wanted:
                 return
             time.sleep(0.05)
         raise Failed(f"{name} is {found}, and not {wanted}: {self.show('StatusText')}")
