@@ -22,7 +22,8 @@ begin
         update olr_keep.node set is_end = true where 1 = (select count(distinct (street, part, k)) from olr_keep.line
             where line.geom && node.geom and node in (from_node, to_node));
         alter table olr_keep.string add found_elsewhere boolean not null default false,
-            add said_course geometry(LineString, 4326), add said_roads jsonb, add lost_at geometry(MultiPoint, 4326);
+            add said_course geometry(LineString, 4326), add said_roads jsonb, add lost_at geometry(MultiPoint, 4326),
+            add at_junctions boolean[];
         alter table olr_keep.problem add kind text not null default 'street', add source int;
         update olr_keep.problem set kind = case when node is not null then 'open end' else 'no string' end
         where coalesce(node::text, path) is not null;
@@ -116,7 +117,7 @@ create table if not exists olr_keep.string (
     definition text not null,
     last_text text, last_round bigint, lost boolean not null default false, geom geometry(LineString, 4326),
     found_elsewhere boolean not null default false, said_course geometry(LineString, 4326), said_roads jsonb,
-    lost_at geometry(MultiPoint, 4326),
+    lost_at geometry(MultiPoint, 4326), at_junctions boolean[],
     check (num_nonnulls(text, reason) = 1)
 );
 create index if not exists string_lines on olr_keep.string using gin (lines);
@@ -191,6 +192,8 @@ comment on column olr_keep.node.is_end is 'Whether only one stretch of a street 
 create index if not exists string_open on olr_keep.string (name) where lost or found_elsewhere;
 comment on column olr_keep.string.found_elsewhere is
     'Whether the lines are not those of the streets or the course that an operator gave, since these can''t be had.';
+comment on column olr_keep.string.at_junctions is
+    'Whether its start and its end were at junctions when it was first found: there they are sought first.';
 comment on column olr_keep.string.said_course is
     'While that is so, or no lines are found: the course of the lines that were last found as they were given.';
 insert into olr_keep.counter select kind, 0 from unnest('{node,line,round,hold}'::text[]) as kind on conflict do nothing;

@@ -139,7 +139,8 @@ class MapUpdate:
         """The new cut."""
         places = {place for street in self.after.values() for part in street.parts for place in part}
         self.cursor.execute("""select distinct place from olr_keep.vertex where place = any(%s::bigint[])
-            and not exists (select from unnest(%s::text[]) as known where known = street)""", (number_array(places), text_array(self.before)))
+            and not exists (select from unnest(%s::text[]) as known where known = street)""",
+                            (number_array(places), text_array(self.before)))
         others = {it for (it,) in self.cursor}
         ends = {it for line in self.lines for it in (line.start, line.end)}
         self.cursor.execute("""select node, place from olr_keep.node where node = any(%s::bigint[])
