@@ -22,7 +22,8 @@ begin
         update olr_keep.node set is_end = true where 1 = (select count(distinct (street, part, k)) from olr_keep.line
             where line.geom && node.geom and node in (from_node, to_node));
         alter table olr_keep.string add found_elsewhere boolean not null default false,
-            add said_course geometry(LineString, 4326), add said_roads jsonb, add lost_at geometry(MultiPoint, 4326);
+            add said_course geometry(LineString, 4326), add said_roads jsonb, add lost_at geometry(MultiPoint, 4326),
+            add at_junctions boolean[];
         alter table olr_keep.problem add kind text not null default 'street', add source int;
         update olr_keep.problem set kind = case when node is not null then 'open end' else 'no string' end
         where coalesce(node::text, path) is not null;
@@ -116,7 +117,7 @@ create table if not exists olr_keep.string (
     definition text not null,
     last_text text, last_round bigint, lost boolean not null default false, geom geometry(LineString, 4326),
     found_elsewhere boolean not null default false, said_course geometry(LineString, 4326), said_roads jsonb,
-    lost_at geometry(MultiPoint, 4326),
+    lost_at geometry(MultiPoint, 4326), at_junctions boolean[],
     check (num_nonnulls(text, reason) = 1)
 );
 create index if not exists string_lines on olr_keep.string using gin (lines);
@@ -191,6 +192,8 @@ comment on column olr_keep.node.is_end is 'Whether only one stretch of a street 
 create index if not exists string_open on olr_keep.string (name) where lost or found_elsewhere;
 comment on column olr_keep.string.found_elsewhere is
     'Whether the lines are not those of the streets or the course that an operator gave, since these can''t be had.';
+comment on column olr_keep.string.at_junctions is
+    'Whether its start and its end were at junctions when it was first found: there they are sought first.';
 comment on column olr_keep.string.said_course is
     'While that is so, or no lines are found: the course of the lines that were last found as they were given.';
 insert into olr_keep.counter select kind, 0 from unnest('{node,line,round,hold}'::text[]) as kind on conflict do nothing;
@@ -445,11 +448,11 @@ group by hold.hold;
 comment on view olr_keep.held is 'The holds that are open, and the paths whose strings wait in them.';
 
 create or replace view olr_keep.path_state as
-select name, case when waiting.name is not null and hold is not null then 'held' when frozen.name is not null then 'frozen'
+select name as path, case when waiting.name is not null and hold is not null then 'held' when frozen.name is not null then 'frozen'
         when lost then 'lost' when string.text is null then 'refused' when found_elsewhere then 'found elsewhere'
         else 'published' end as state,
-    coalesce(string.text, last_text) as text, string.reason, string.round, round.at, now() - round.at as age,
-    (select string_agg(words, '; ' order by problem) from olr_keep.problem where path = name) as problems, geom
+    string.text as string, last_text as last_string, string.reason, string.round, round.at, now() - round.at as age,
+    (select string_agg(words, '; ' order by problem) from olr_keep.problem where problem.path = name) as problems, geom
 from olr_keep.string left join olr_keep.round using (round) left join olr_keep.waiting using (name)
     left join olr_keep.frozen using (name);
 comment on view olr_keep.path_state is 'Each path with its state, the age of its string, its problems in words, and its course.';

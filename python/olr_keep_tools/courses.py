@@ -13,8 +13,7 @@ import bisect
 import heapq
 import math
 from collections import defaultdict
-from typing import (Callable, DefaultDict, Dict, FrozenSet, Iterable, Iterator, List, Mapping, NamedTuple, Optional, Sequence, Set,
-                    Tuple, Union)
+from typing import Callable, Dict, FrozenSet, Iterable, Iterator, List, Mapping, NamedTuple, Optional, Sequence, Set, Tuple, Union
 
 from .geo import METRES, between, onto_segment, scale
 
@@ -150,9 +149,9 @@ class Ends(NamedTuple):
 
 
 class Wish(NamedTuple):
-    """What a search for the lines of a course prefers: lines on these streets, an end within `snap` metres of a node at the node,
-    and, if it is given, lines for which `unlike(number, line, low, high, length)` is least, from 0 to 1: that are the road where the
-    path was, between these positions of the course of that length. `has_rivals` asks for a second road that follows it."""
+    """What a search for the lines of a course prefers: lines on these streets, an end within `snap` metres of a node at the
+    node, and, if it is given, lines for which `unlike(number, line, low, high, length)` is least, from 0 to 1: that are the road
+    where the path was, between these positions of the course of that length. `has_rivals` asks for a second road that follows."""
 
     preferred: FrozenSet[str] = frozenset()
     snap: float = SNAP

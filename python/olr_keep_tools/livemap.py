@@ -12,7 +12,6 @@ from .liveread import Block
 from .pathlines import number_array, text_array
 from .streets import Cut, Made, Old, Parts, Recut, Street, degrees, wkb_hex
 
-MANY = 1000  # changed streets after which the statistics of the tables are made again
 FEW = 100  # changed streets up to which each is compared with the paths that are lost
 FEW_LINES = 100  # changed lines up to which their paths are found by the index
 NEAR = 0.005  # degrees of the cells in which changes are near each other
@@ -91,8 +90,6 @@ class MapUpdate:
             self.write_streets()
             self.write_nodes(cut)
             self.write_lines(cut)
-            if len(self.keys) > MANY:
-                self.cursor.execute("analyze olr_keep.street, olr_keep.vertex, olr_keep.node, olr_keep.line")
             self.write_problems(cut)
         return self.records
 
@@ -142,7 +139,8 @@ class MapUpdate:
         """The new cut."""
         places = {place for street in self.after.values() for part in street.parts for place in part}
         self.cursor.execute("""select distinct place from olr_keep.vertex where place = any(%s::bigint[])
-            and not exists (select from unnest(%s::text[]) as known where known = street)""", (number_array(places), text_array(self.before)))
+            and not exists (select from unnest(%s::text[]) as known where known = street)""",
+                            (number_array(places), text_array(self.before)))
         others = {it for (it,) in self.cursor}
         ends = {it for line in self.lines for it in (line.start, line.end)}
         self.cursor.execute("""select node, place from olr_keep.node where node = any(%s::bigint[])

@@ -15,17 +15,6 @@ from .pathlines import (Course, Edited, Finder, Known, PathSearch, Place, Placem
 PART = 500  # paths that are read at once
 
 
-class Was(NamedTuple):
-    """Where a path was when it was last found as said, beside its course: which ends were at junctions, and on which roads."""
-
-    ends: Ends
-    roads: List[Road]
-
-    def json(self) -> str:
-        """The same, as it is written."""
-        return json.dumps({"at_junctions": self.ends, "roads": [[it.length, it.street, *it.kind] for it in self.roads]})
-
-
 class Placed(NamedTuple):
     """The lines of a path, what is cut off them, and how the path will be found again."""
 
@@ -40,7 +29,8 @@ class Placed(NamedTuple):
     course: Optional[Course]
     definition: str
     said_course: Optional[Course]
-    was: Optional[Was]
+    roads: List[Road]
+    ends: Optional[Ends]
     why: Optional[Lost]
     lost_at: Tuple[Place, ...]
     rival: Optional[Rival]
@@ -110,7 +100,7 @@ class PathsUpdate:
                     self.records += [f"drop-path,{name}"] if before[0].lines else []
                 continue
             placed = self.place(finder, wanted[name], before and before[0], edited)
-            self.found[name] = placed._replace(course=None, said_course=None, was=None)
+            self.found[name] = placed._replace(course=None, said_course=None, roads=[])
             self.record(name, placed, before)
             rows.append(row_of(name, placed))
         write_rows(self.cursor, rows)
@@ -134,7 +124,8 @@ class PathsUpdate:
             from olr_keep.path where name = any(%s::text[])""", (text_array(names),))
         wanted = {name: Wanted(name, streets, coordinates(course), *rest) for name, streets, course, *rest in self.cursor}
         self.cursor.execute("""select name, lines, streets, start_cut, end_cut, start_node, end_node, ST_AsBinary(geom, 'NDR'),
-                definition, lost, found_elsewhere, ST_AsBinary(said_course, 'NDR'), said_roads, start_offset, end_offset
+                definition, lost, found_elsewhere, ST_AsBinary(said_course, 'NDR'), said_roads, at_junctions,
+                start_offset, end_offset
             from olr_keep.string where name = any(%s::text[])""", (text_array(names),))
         rows = self.cursor.fetchall()
         ends = {it for row in rows for it in row[5:7] if it is not None}
@@ -145,22 +136,21 @@ class PathsUpdate:
 
     def known(self, row: Sequence[Any], there: Container[int], finder: Finder) -> Known:
         """A path as it was found last. While it was found as said, its roads are those of its lines before this round."""
-        name, lines, streets, start, end, a, b, course, definition, lost, elsewhere, said, roads, *_ = row
+        name, lines, streets, start, end, a, b, course, definition, lost, elsewhere, said, roads, ends, *_ = row
         state = State.LOST if lost else State.ELSEWHERE if elsewhere else State.SAID
         course, said = coordinates(course), coordinates(said)
         if said is None:
-            said, roads, ends = course, self.affected.roads.get(name), (start == 0, end == 0)
+            said, roads = course, self.affected.roads.get(name)
             if roads is None:
                 kept = [finder.rows[it] for it in lines if it in finder.rows]
                 roads = [[it.length, it.street, *it.kind] for it in kept]
-        else:
-            roads, ends = roads["roads"], roads["at_junctions"]
         roads = [Road(length, street, (frc, fow, is_both)) for length, street, frc, fow, is_both in roads]
         if roads and state is State.SAID:
             roads[0] = roads[0]._replace(length=roads[0].length - start)
             roads[-1] = roads[-1]._replace(length=roads[-1].length - end)
         nodes = (a if a in there else None, b if b in there else None)
-        return Known(lines, streets, start, end, nodes, course, definition, state, said, roads, Ends(*ends))
+        ends = Ends(*(ends or (start == 0, end == 0)))
+        return Known(lines, streets, start, end, nodes, course, definition, state, said, roads, ends)
 
     def place(self, finder: Finder, wanted: Wanted, known: Optional[Known], edited: Edited) -> Placed:
         """Where a path is on the map now."""
@@ -202,22 +192,26 @@ class Placing:
         known, placement = self.known, self.placement
         is_said = placement.state is State.SAID
         said = None if is_said or known is None else known.said_course
-        was = Was(known.said_ends, known.roads) if known is not None and said else None
+        at_junctions = Ends(ends[0] == 0, ends[1] == 0) if lines else None
+        roads: List[Road] = []
+        if known is not None:
+            at_junctions, roads = known.said_ends, known.roads if said else []
         offsets = (ends[0] + self.cuts[0], ends[1] + self.cuts[1]) if lines else (0, 0)
-        return Placed(placement.state, lines, streets, *ends, *offsets, nodes, course, self.wanted.definition, said, was,
-                      placement.why, placement.lost_at, placement.found and placement.found.rival,
+        return Placed(placement.state, lines, streets, *ends, *offsets, nodes, course, self.wanted.definition, said, roads,
+                      at_junctions, placement.why, placement.lost_at, placement.found and placement.found.rival,
                       known is not None and known.state is State.SAID)
 
 
 ROW = ("name, lines, streets, start_offset, end_offset, start_cut, end_cut, start_node, end_node, definition, lost, "
-       "found_elsewhere, geom, said_course, said_roads, lost_at")
+       "found_elsewhere, geom, said_course, said_roads, lost_at, at_junctions")
 
 
 def row_of(name: str, it: Placed) -> Tuple[object, ...]:
     """The row of a path."""
+    roads = json.dumps([[road.length, road.street, *road.kind] for road in it.roads]) if it.roads else None
     return (name, it.lines, it.streets, it.positive, it.negative, it.start, it.end, *it.nodes, it.definition,
-            it.state is State.LOST, it.state is State.ELSEWHERE, course_hex(it.course), course_hex(it.said_course), it.was and it.was.json(),
-            places_hex(it.lost_at))
+            it.state is State.LOST, it.state is State.ELSEWHERE, course_hex(it.course), course_hex(it.said_course), roads,
+            places_hex(it.lost_at), None if it.ends is None else list(it.ends))
 
 
 def write_rows(cursor: Any, rows: Sequence[Sequence[object]]) -> None:
@@ -225,12 +219,12 @@ def write_rows(cursor: Any, rows: Sequence[Sequence[object]]) -> None:
     update(cursor, f"""insert into olr_keep.string ({ROW}, reason, round)
         select name, lines::bigint[], streets::text[], start_offset, end_offset, start_cut, end_cut, start_node::bigint,
             end_node::bigint, definition, lost, found_elsewhere, geom::geometry, said_course::geometry, said_roads::jsonb,
-            lost_at::geometry, 'new', 0
+            lost_at::geometry, at_junctions::boolean[], 'new', 0
         from (values %s) as it({ROW})
         on conflict (name) do update set ({ROW}) = (excluded.name, excluded.lines, excluded.streets, excluded.start_offset,
             excluded.end_offset, excluded.start_cut, excluded.end_cut, excluded.start_node, excluded.end_node,
             excluded.definition, excluded.lost, excluded.found_elsewhere, excluded.geom, excluded.said_course,
-            excluded.said_roads, excluded.lost_at)""", rows)
+            excluded.said_roads, excluded.lost_at, excluded.at_junctions)""", rows)
 
 
 def course_hex(course: Optional[Sequence[Place]]) -> Optional[str]:

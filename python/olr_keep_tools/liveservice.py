@@ -25,6 +25,7 @@ QUIET = 2.0  # seconds after which a round begins though notes still come
 WATCH = 5.0  # seconds between two looks at the tables
 MINUTE = 60.0
 LONGEST_WAIT = 60.0  # seconds between two attempts after failures
+MANY = 1000  # changed streets after which the statistics of the tables are made, and again when they have doubled
 METRE = 1 / 100_000  # degrees that are more than a metre of latitude
 
 
@@ -81,7 +82,7 @@ class Attempt:
 
     def apply_map(self, change: Change) -> None:
         """Changes the map, block by block."""
-        count, done, said = change.count, 0, time.monotonic()
+        count, done, analyzed, said = change.count, 0, MANY, time.monotonic()
         margin = max(30, 2 * self.settings.tolerance) * METRE
         for block in self.reader.blocks():
             records = MapUpdate(self.cursor, block, self.numbers, self.affected, margin).run()
@@ -89,6 +90,9 @@ class Attempt:
                 self.records += records
             done = min(count, done + BLOCK)
             self.live.progress = done, count
+            if done > 2 * analyzed:
+                analyzed = done
+                self.cursor.execute("analyze olr_keep.street, olr_keep.vertex, olr_keep.node, olr_keep.line")
             if time.monotonic() - said > 10:
                 said = time.monotonic()
                 say(f"{done} of {count} streets")
@@ -225,15 +229,20 @@ class Live:
             self.unread = {it.source.source: it.state for it in work.tables if it.state is not Readable.READY}
             broken = {it.source.source: it.words for it in work.tables if it.state in (Readable.BROKEN, Readable.MISSING)}
             self.stale |= {it.source.source for it in work.tables if it.state is Readable.MISSING}
-            is_new = every_path or self.program is None or bool(self.stale - self.unread.keys())
             ending = Ending.NOTHING
-            if is_new or session.has_work(self.cursor, self.unread):
+            if every_path or self.has_work():
                 attempt = Attempt(self, work, every_path)
                 ending = attempt.run()
                 broken.update(attempt.reader.change.broken)
                 self.unread.update((it, Readable.BROKEN) for it in attempt.reader.change.broken)
         self.report(work.tables, broken)
         return ending
+
+    def has_work(self) -> bool:
+        """Whether there is something to read."""
+        if self.program is None or self.stale - self.unread.keys():
+            return True
+        return session.has_work(self.cursor, self.unread)
 
     def has_read(self, change: Change) -> None:
         """Remembers which tables were compared."""
@@ -297,16 +306,18 @@ class Live:
     def serve(self) -> int:
         """Rounds, until something fails; returns the exit status."""
         self.start()
-        every_path, looked, day = True, 0.0, time.localtime().tm_yday
+        every_path, looked, tried, day = True, 0.0, 0.0, time.localtime().tm_yday
         while not self.stopping:
+            ending = Ending.NOTHING
             try:
-                if not every_path and session.has_work(self.cursor, self.unread):
-                    self.wait_quiet()
-                ending = self.attempt(every_path)
+                if every_path or self.has_work() or time.monotonic() - tried > WATCH:
+                    if not every_path:
+                        self.wait_quiet()
+                    ending, every_path, tried = self.attempt(every_path), False, time.monotonic()
             except Busy:
                 self.wait(BUSY)
                 continue
-            every_path, self.failed = False, 0
+            self.failed = 0
             self.write_metrics(ending is Ending.DONE)
             if self.settings.is_preview or self.settings.is_once and ending is Ending.NOTHING:
                 return int(self.would_hold or self.settings.is_once and session.is_held(self.cursor))

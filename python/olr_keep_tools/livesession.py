@@ -96,14 +96,15 @@ def try_lock(cursor: Any) -> bool:
 
 
 def end_stopped(cursor: Any, seconds: float) -> bool:
-    """Ends the session that has the lock if it has asked nothing for so long, in a transaction or not. A process that runs asks
-    more often."""
+    """Ends the session that has the lock if it has asked nothing for so long, in a transaction or not: a process that runs asks
+    more often. While it reads a long answer it doesn't ask, and may be silent twenty times as long."""
     cursor.execute(
         """select pg_terminate_backend(pid) from pg_locks join pg_stat_activity using (pid)
         where locktype = 'advisory' and objid = %s and classid = 0 and granted
             and pg_locks.database = (select oid from pg_database where datname = current_database())
-            and state like 'idle%%' and state_change < clock_timestamp() - make_interval(secs => %s)""",
-        (LOCK, seconds))
+            and (state like 'idle%%' and state_change < clock_timestamp() - make_interval(secs => %s)
+                or wait_event_type = 'Client' and state_change < clock_timestamp() - make_interval(secs => 20 * %s))""",
+        (LOCK, seconds, seconds))
     return bool(cursor.rowcount > 0)
 
 

@@ -8,8 +8,8 @@ import heapq
 import itertools
 import math
 from collections import defaultdict
-from typing import (Any, Container, DefaultDict, Dict, FrozenSet, Iterable, Iterator, List, Mapping, NamedTuple, Optional, Sequence, Set,
-                    Tuple, Union)
+from typing import Any, Container, Dict, FrozenSet, Iterable, Iterator, List, Mapping, NamedTuple, Optional, Sequence, Set, Tuple
+from typing import Union
 
 from .courses import DRAWN, Ends, Found, Ground, Lost, Plane, Polyline, Strip, Wish, follow
 from .geo import METRES
@@ -67,8 +67,8 @@ class State(enum.Enum):
 
 
 class Known(NamedTuple):
-    """A path as it was found last; `nodes` are those at its ends, or None where they are no longer there. `said_course`,
-    `roads` and `said_ends` are where it was when it was last found as said, and which of its ends were at junctions."""
+    """A path as it was found last; `nodes` are those at its ends, or None where they are no longer there. `said_course`
+    and `roads` are where it was when it was last found as said, and `said_ends` which of its ends were at junctions at first."""
 
     lines: List[int]
     streets: List[str]

@@ -1,6 +1,6 @@
 """Sends records as whole batches, to the service or to a program, and prints what they answer.
 
-    send(Service("/run/olr-keep/records", 600), steps(read_records("edits.csv")))
+    send(Service("/run/olr-keep-records", 600), steps(read_records("edits.csv")))
 """
 import contextlib
 import re

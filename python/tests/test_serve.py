@@ -151,6 +151,16 @@ class Tables(unittest.TestCase):
             self.assertFalse(table.has_all_after(4))
             self.assertEqual(len(table.changes(0, 9999)), 1000)
 
+    def test_read_only(self) -> None:
+        """Once it is closed, it can be read where nothing can be written."""
+        with tempfile.TemporaryDirectory() as folder:
+            table = Table(f"{folder}/table")
+            table.write([Entry(Change("a", "text,A"), "now", "jane")])
+            table.close()
+            self.assertEqual(os.listdir(folder), ["table"])
+            with open(f"{folder}/table", "rb") as file:
+                self.assertEqual(file.read(20)[18:], b"\1\1")
+
     def test_another_writer(self) -> None:
         with tempfile.TemporaryDirectory() as folder:
             table = Table(f"{folder}/table")

@@ -4,6 +4,7 @@
 row for each change, by position, from 1; the answer of a dropped path is `dropped`. What one call of `write` changes in both is
 one transaction.
 """
+import contextlib
 import sqlite3
 import time
 from typing import Any, Dict, Iterable, List, NamedTuple, Protocol, Sequence, Tuple, Type
@@ -79,6 +80,10 @@ class SQLite:
         self.file.executemany(text.format(f"({', '.join('?' * len(rows[0]))})"), rows)
 
     def close(self) -> None:
+        # So that users who may only read it can do so while nobody serves it.
+        with contextlib.suppress(sqlite3.Error):
+            self.file.execute("pragma busy_timeout=0")
+            self.file.execute("pragma journal_mode=delete")
         self.file.close()
 
 
