@@ -7,7 +7,7 @@
 import bisect
 import math
 from collections import Counter, deque
-from typing import Deque, Dict, Iterable, Iterator, List, NamedTuple, Sequence, Set, Tuple
+from typing import Callable, Deque, Dict, Iterable, Iterator, List, NamedTuple, Sequence, Set, Tuple
 
 from .command import Failure
 from .geo import METRES, Degrees, between, degrees, distance
@@ -33,6 +33,27 @@ class Limits(NamedTuple):
     tolerance: float
     length: float
     dropped: float
+
+
+def percent(text: str) -> float:
+    """A share, given as a percentage."""
+    value = float(text[:-1] if text.endswith("%") else text)
+    if not 0 <= value <= 100:
+        raise ValueError
+    return value / 100
+
+
+def above_zero(number: Callable[[str], float]) -> Callable[[str], float]:
+    """A number of this kind that is greater than zero."""
+
+    def positive(text: str) -> float:
+        value = number(text)
+        if not 0 < value < math.inf:
+            raise ValueError
+        return value
+
+    positive.__name__ = "positive"
+    return positive
 
 
 def place_fields(place: Sequence[int]) -> str:

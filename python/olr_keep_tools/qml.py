@@ -1,4 +1,4 @@
-"""Styles for QGIS of the files that tools/geojson writes: for each kind of feature the text of a .qml file."""
+"""Styles for QGIS of the files that tools/geojson and tools/swap write: for each kind of feature the text of a .qml file."""
 from typing import Mapping
 from xml.sax.saxutils import quoteattr
 
@@ -56,6 +56,15 @@ def by_answer() -> str:
     return f'<renderer-v2 type="RuleRenderer" symbollevels="0"><rules>{text}</rules><symbols>{symbols}</symbols></renderer-v2>'
 
 
+def by_verdict() -> str:
+    """A renderer of paths by what becomes of them on the next map, the worst in red."""
+    kinds = (("lost", RED), ("other road", AMBER), ("without a string before", INK), ("same road", BLUE), ("same string", GREY))
+    rows = "".join(f'<category render="true" value="{it}" symbol="{k}" label="{it}"/>' for k, (it, _) in enumerate(kinds))
+    symbols = "".join(line(k, colour, 1.2) for k, (_, colour) in enumerate(kinds))
+    return (f'<renderer-v2 type="categorizedSymbol" attr="verdict" symbollevels="0"><categories>{rows}</categories>'
+            f"<symbols>{symbols}</symbols></renderer-v2>")
+
+
 RENDERERS = {
     "node": single(marker(0, GREY, 1.4)),
     "line": by_class(),
@@ -63,9 +72,10 @@ RENDERERS = {
     "offset": single(line(0, AMBER, 1.6, customdash="2;1.5", use_custom_dash=1)),
     "bearing": single(line(0, INK, 0.6)),
     "point": single(marker(0, INK, 4)),
+    "swap": by_verdict(),
     "refusal": single(marker(0, RED, 4, "cross_fill")),
 }
-LABELS = {"point": "number", "path": "path"}
+LABELS = {"point": "number", "path": "path", "swap": "path"}
 
 
 def labels(field: str, colour: str) -> str:

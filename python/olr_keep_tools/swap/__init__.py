@@ -1,0 +1,1 @@
+"""From one map to the next: what tools/swap does."""

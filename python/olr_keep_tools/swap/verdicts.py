@@ -1,0 +1,163 @@
+"""What becomes of each path on the next map: its string, and whether that is the same road."""
+import enum
+import math
+from typing import Dict, Iterator, List, Mapping, NamedTuple, Optional, Sequence, Tuple
+
+from ..courses import Plane, Strip
+from ..drawn import Course, courses, part
+from ..geo import Degrees, degrees
+from ..records import Path, State
+from ..strings import TextError, read_reference
+from .carry import Carried, Gone, How, Report, Result
+
+SLACK = 0.2  # metres by which rounded positions may be off
+SAMPLE = 10.0  # metres between the points of a course that is compared
+REPORTED = 1000
+
+Answer = Sequence[str]
+
+
+class Kind(enum.Enum):
+    """What becomes of a path, the worst first."""
+
+    LOST = "lost"
+    OTHER_ROAD = "other road"
+    WITHOUT = "without a string before"
+    SAME_ROAD = "same road"
+    SAME_STRING = "same string"
+
+
+class Verdict(NamedTuple):
+    """What becomes of a path: `answers` are the old and the new one, `far` is how many metres its course is off at most,
+    `length` how many metres of its course are off by more than the tolerance, and `ends` by how many metres its ends are
+    elsewhere along the road. `ambiguous` has what its string may be taken for now, and not before. `course` is the old one
+    where it is lost."""
+
+    name: str
+    kind: Kind
+    answers: Tuple[str, str]
+    how: str = ""
+    far: float = 0.0
+    length: float = 0.0
+    ends: Tuple[float, float] = (0.0, 0.0)
+    ambiguous: Tuple[str, ...] = ()
+    why: str = ""
+    place: Sequence[float] = ()
+    course: Sequence[Degrees] = ()
+
+
+class Map(NamedTuple):
+    """A map with its paths, and for each path what its string may be taken for."""
+
+    state: State
+    ambiguous: Mapping[str, Tuple[str, ...]]
+
+
+def ambiguities(lines: Sequence[str]) -> Dict[str, Tuple[str, ...]]:
+    """What the reply to `ambiguous` says, by path."""
+    found: Dict[str, Tuple[str, ...]] = {}
+    for line in lines:
+        name, _, rest = line.partition(",")
+        found[name] = (*found.get(name, ()), rest)
+    return found
+
+
+def shape_of(state: State, path: Path) -> List[Degrees]:
+    """The coordinates of a path between its offsets; of the first connected lines if they don't join."""
+    found = courses(state, path.lines)
+    if not found:
+        return []
+    length = found[0][-1][0]
+    begin = min(path.positive, length)
+    places: Course = [(0.0, *it) for it in part(found[0], begin, max(begin, length - path.negative))]
+    return [degrees(it[1:]) for k, it in enumerate(places) if k == 0 or it[1:] != places[k - 1][1:]]
+
+
+class Apart(NamedTuple):
+    """How many metres a course is off another one at most, and over which length it is off by more than the tolerance."""
+
+    far: float
+    length: float
+
+
+def apart(course: Sequence[Degrees], other: Sequence[Degrees], tolerance: float) -> Apart:
+    """How far a course is off another one."""
+    if course == other:
+        return Apart(0.0, 0.0)
+    plane = Plane(course[0][1])
+    strip = Strip([plane.flat(it) for it in other], 50.0)
+    line = Strip([plane.flat(it) for it in course], 50.0)
+    worst, off, last = 0.0, 0.0, 0.0
+    for at in line.samples(0.0, line.length):
+        point = line.at(at)
+        far = min((it[0] for it in strip.project(point, strip.segments_near(point))), default=math.inf)
+        if far > strip.cell:
+            far = min((it[0] for it in strip.project(point)), default=math.dist(point, strip.points[0]))
+        off += at - last if far > tolerance else 0.0
+        worst, last = max(worst, far), at
+    return Apart(worst, off)
+
+
+def intervals(answer: Answer) -> Tuple[float, float]:
+    """The metres for which the two offsets of a string stand."""
+    try:
+        reference = read_reference(answer[1]) if answer[0] == "text" else None
+    except TextError:
+        reference = None
+    if reference is None:
+        return 0.0, 0.0
+    legs = (reference.points[0].onward, reference.points[-2].onward)
+    first, last = ((high - low) * (leg.metres if leg else 0.0) for (low, high), leg in zip(reference.shares, legs))
+    return first, last
+
+
+class Judge:
+    """Judges each path by its place on both maps."""
+
+    def __init__(self, old: Map, new: Map, tolerance: float):
+        self.old, self.new, self.tolerance = old, new, tolerance
+
+    def verdicts(self, results: Mapping[str, Result], report: Report) -> Iterator[Verdict]:
+        """What becomes of each path."""
+        for count, (name, found) in enumerate(results.items()):
+            if count % REPORTED == 0:
+                report(f"{count} of {len(results)} paths are compared")
+            yield self.verdict(name, found)
+
+    def verdict(self, name: str, found: Result) -> Verdict:
+        """What becomes of a path."""
+        was, now = self.old.state.published[name], self.new.state.published.get(name)
+        answers = ",".join(was), ",".join(now or ["dropped"])
+        if was[0] != "text":
+            return Verdict(name, Kind.WITHOUT, answers)
+        course = shape_of(self.old.state, self.old.state.paths[name])
+        if isinstance(found, Gone):
+            return Verdict(name, Kind.LOST, answers, why=found.why, place=found.place, course=course)
+        if now is None or now[0] != "text":
+            return Verdict(name, Kind.LOST, answers, found.how.value, why="it is not encodable there", course=course)
+        return self.compared(Verdict(name, Kind.SAME_ROAD, answers, found.how.value, course=course), found)
+
+    def compared(self, verdict: Verdict, found: Carried) -> Verdict:
+        """The verdict on a path with a string on both maps."""
+        course = shape_of(self.new.state, self.new.state.paths[verdict.name])
+        there = apart(verdict.course, course, self.tolerance)
+        back = apart(course, verdict.course, self.tolerance)
+        was, now = (intervals(it.split(",")) for it in verdict.answers)
+        fits = all(off <= max(pair) + SLACK for off, *pair in zip(found.off, was, now))
+        before = self.old.ambiguous.get(verdict.name, ())
+        more = tuple(self.new.ambiguous.get(verdict.name, ())) if not before else ()
+        kind = Kind.OTHER_ROAD
+        if fits and max(there.far, back.far) <= self.tolerance:
+            kind = Kind.SAME_STRING if verdict.answers[0] == verdict.answers[1] else Kind.SAME_ROAD
+        return verdict._replace(kind=kind, far=max(there.far, back.far), length=max(there.length, back.length),
+                                ends=found.off, ambiguous=more, course=course)
+
+
+def given(old: State, new: State, name: str) -> Optional[Carried]:
+    """A path that the records of the new map have themselves: its ends are compared with those of the old one."""
+    if name not in new.paths:
+        return None
+    was, now = shape_of(old, old.paths[name]), shape_of(new, new.paths[name])
+    plane = Plane(was[0][1] if was else 0.0)
+    ends = [math.dist(plane.flat(was[k]), plane.flat(now[k])) for k in (0, -1)] if was and now else [0.0, 0.0]
+    return Carried(new.paths[name], How.GIVEN, (ends[0], ends[1]))

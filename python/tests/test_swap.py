@@ -1,0 +1,231 @@
+"""Tests of the modules of tools/swap."""
+import io
+import os
+import tempfile
+import unittest
+from typing import Dict, List, Sequence
+
+from olr_keep_tools.command import Failure
+from olr_keep_tools.mapedits import Limits
+from olr_keep_tools.records import Path, State
+from olr_keep_tools.swap.carry import Carried, Carrier, Gone, How, Result, transferred
+from olr_keep_tools.swap.manual import Fate, Hand, records_of
+from olr_keep_tools.swap.publish import reply, write_folder
+from olr_keep_tools.swap.report import as_json, sentence, text, worst_first, write_strings
+from olr_keep_tools.swap.verdicts import Judge, Kind, Map, Verdict, ambiguities, apart, intervals
+
+LIMITS = Limits(10.0, 0.02, 1.0)
+# Four nodes in a row, each 111 m from the next, a road over them and a side road at the last one.
+NODES = ("node,1,6,49", "node,2,6,49.001", "node,3,6,49.002", "node,4,6,49.003", "node,5,6.001,49.003")
+ROAD = ("line,1,1,2,3,3,1112", "line,2,2,3,3,3,1112", "line,3,3,4,3,3,1112", "line,4,4,5,6,3,730")
+PATH = "path,a,100,200,1,2,3"
+
+
+def state_of(*lines: str, answers: Sequence[str] = ()) -> State:
+    """A map with paths, and what is published of them."""
+    state = State()
+    state.read_dump(lines)
+    state.read_report(answers)
+    return state
+
+
+OLD = state_of(*NODES, *ROAD, PATH)
+
+
+def carried(*lines: str, old: State = OLD) -> Result:
+    """The path on a new map."""
+    return Carrier(old, state_of(*lines), LIMITS).carried(old.paths, lambda _: None)["a"]
+
+
+class Carry(unittest.TestCase):
+    """Paths on another map."""
+
+    def test_by_number(self) -> None:
+        self.assertEqual(carried(*NODES, *ROAD), Carried(OLD.paths["a"], How.NUMBERS))
+        # Another class is the same road.
+        self.assertEqual(carried(*NODES, "line,1,1,2,0,3,1112", *ROAD[1:]), Carried(OLD.paths["a"], How.NUMBERS))
+
+    def test_numbers_of_other_roads(self) -> None:
+        lines = ["line,3,1,2,3,3,1112", "line,1,2,3,3,3,1112", "line,2,3,4,3,3,1112"]
+        self.assertEqual(carried(*NODES, *lines), Carried(Path(100, 200, (3, 1, 2)), How.COURSE))
+
+    def test_split(self) -> None:
+        nodes = [*NODES, "node,9,6,49.0004"]
+        lines = ["line,8,1,9,3,3,445", "line,9,9,2,3,3,667", *ROAD[1:]]
+        self.assertEqual(carried(*nodes, *lines), Carried(Path(100, 200, (8, 9, 2, 3)), How.COURSE))
+
+    def test_merged(self) -> None:
+        nodes = [it for it in NODES if not it.startswith(("node,2,", "node,3,"))]
+        self.assertEqual(carried(*nodes, "line,7,1,4,3,3,3336", ROAD[3]), Carried(Path(100, 200, (7,)), How.COURSE))
+
+    def test_merged_beyond_the_path(self) -> None:
+        old = state_of(*NODES, *ROAD, "path,a,100,0,2")
+        nodes = [it for it in NODES if not it.startswith(("node,2,", "node,3,"))]
+        self.assertEqual(carried(*nodes, "line,7,1,4,3,3,3336", ROAD[3], old=old), Carried(Path(1212, 1112, (7,)), How.COURSE))
+
+    def test_moved_road(self) -> None:
+        # 15 m to the east: by its course no line is the same, and it is found again; no node is the same place.
+        nodes = [it.replace(",6,", ",6.0002,") for it in NODES]
+        found = carried(*nodes, *ROAD)
+        self.assertIsInstance(found, Carried)
+        if isinstance(found, Carried):
+            self.assertEqual((found.how, found.path.lines), (How.FOUND, (1, 2, 3)))
+            self.assertTrue(all(14 < it < 16 for it in found.off))
+
+    def test_gone(self) -> None:
+        found = carried(*NODES, ROAD[0], ROAD[2], ROAD[3])
+        self.assertIsInstance(found, Gone)
+        # What an offset cuts off may be gone.
+        old = state_of(*NODES, *ROAD, "path,a,1200,0,1,2,3")
+        self.assertEqual(carried(*NODES, *ROAD[1:], old=old), Carried(Path(88, 0, (2, 3)), How.NUMBERS))
+
+    def test_near_nodes(self) -> None:
+        # Two nodes 4 m apart, all moved by 3 m along: each is itself.
+        nodes = ("node,1,6,49", "node,2,6,49.001", "node,3,6,49.001036", "node,4,6,49.002")
+        lines = ("line,1,1,2,3,3,1112", "line,2,2,3,3,3,40", "line,3,3,4,3,3,1072", "path,a,0,0,1,2,3")
+        new = ("node,11,6,49.000027", "node,12,6,49.001027", "node,13,6,49.001063", "node,14,6,49.002027")
+        there = ("line,21,11,12,3,3,1112", "line,22,12,13,3,3,40", "line,23,13,14,3,3,1072")
+        self.assertEqual(carried(*new, *there, old=state_of(*nodes, *lines)), Carried(Path(0, 0, (21, 22, 23)), How.COURSE))
+
+    def test_apart(self) -> None:
+        old = state_of(*NODES, *ROAD, "path,a,0,0,1,3")
+        self.assertEqual(carried(*NODES, *ROAD, old=old), Carried(Path(0, 0, (1, 3)), How.COURSE))
+        old = state_of(*NODES, *ROAD, "path,a,0,0,9")
+        self.assertEqual(carried(*NODES, *ROAD, old=old), Gone("its line 9 was not in the old map"))
+
+    def test_positions(self) -> None:
+        anchors = [(0.0, 0.0), (100.0, 200.0), (200.0, 250.0)]
+        self.assertEqual([transferred(anchors, it) for it in (0, 50, 100, 150, 200, 230)], [0, 100, 200, 225, 250, 280])
+
+
+class Verdicts(unittest.TestCase):
+    """What becomes of paths."""
+
+    TEXTS = ("CwRbWyNG9RqsDgCG/d4rWS0=", "CwAAAAAAABtoCAGQAAAcNFw=")
+
+    def verdict(self, answer: str, nodes: Sequence[str] = NODES,
+                found: Result = Carried(OLD.paths["a"], How.NUMBERS)) -> Verdict:
+        """What becomes of the path, with this answer on the new map."""
+        old = state_of(*NODES, *ROAD, PATH, answers=[f"a,text,{self.TEXTS[0]}"])
+        new = state_of(*nodes, *ROAD, PATH, answers=[answer] if answer else [])
+        return Judge(Map(old, {}), Map(new, {"a": ("0,node,7",)}), 10.0).verdict("a", found)
+
+    def test_kinds(self) -> None:
+        other = f"a,text,{self.TEXTS[1]}"
+        self.assertEqual(self.verdict(f"a,text,{self.TEXTS[0]}").kind, Kind.SAME_STRING)
+        self.assertEqual(self.verdict(other).kind, Kind.SAME_ROAD)
+        self.assertEqual(self.verdict(other).ambiguous, ("0,node,7",))
+        far = self.verdict(other, [it.replace(",6,", ",6.0002,") for it in NODES])
+        self.assertEqual(far.kind, Kind.OTHER_ROAD)
+        self.assertTrue(14 < far.far < 16 and 290 < far.length < 310)
+        off = self.verdict(other, found=Carried(OLD.paths["a"], How.FOUND, (0.0, 9.0)))
+        self.assertEqual(off.kind, Kind.OTHER_ROAD)
+        self.assertEqual(self.verdict("a,refused,3").kind, Kind.LOST)
+        self.assertEqual(self.verdict("", found=Gone("no lines follow it")).answers[1], "dropped")
+
+    def test_apart(self) -> None:
+        far, length = apart([(6, 49), (6, 49.001)], [(6, 49), (6, 49.0005)], 10.0)
+        self.assertTrue(55 < far < 56 and 40 < length < 50)
+        self.assertEqual(apart([(6, 49), (6, 49.001)], [(6, 49), (6, 49.001)], 10.0), (0.0, 0.0))
+
+    def test_intervals(self) -> None:
+        # A negative offset of a leg of one step of DNP, and none.
+        first, last = intervals(["text", self.TEXTS[1]])
+        self.assertEqual(first, 0.0)
+        self.assertAlmostEqual(last, 8.5 * 58.6 / 256)
+        self.assertEqual(intervals(["refused", "3"]), (0.0, 0.0))
+
+    def test_ambiguities(self) -> None:
+        self.assertEqual(ambiguities(["a,0,node,7", "b,1,sector,2", "a,1,bearing,3"]),
+                         {"a": ("0,node,7", "1,bearing,3"), "b": ("1,sector,2",)})
+
+
+class Reports(unittest.TestCase):
+    """The report, and the files."""
+
+    VERDICTS = worst_first([
+        Verdict("same", Kind.SAME_STRING, ("text,A", "text,A")),
+        Verdict("road", Kind.SAME_ROAD, ("text,A", "text,B"), far=3.0),
+        Verdict("other", Kind.OTHER_ROAD, ("text,A", "text,B"), far=12.25, length=40.0, ends=(0.0, 9.0)),
+        Verdict("lost", Kind.LOST, ("text,A", "dropped"), why="no lines follow it", place=(6.0, 49.0)),
+    ])
+
+    def test_text(self) -> None:
+        lines = list(text(self.VERDICTS, []))
+        counts = "lost 1, other road 1, without a string before 0, same road 1, same string 1; newly ambiguous 0"
+        self.assertEqual(lines[0], f"paths 4: {counts}")
+        self.assertEqual(lines[1], "lost: lost: no lines follow it; at 6.0000000,49.0000000")
+        self.assertEqual(lines[2], "other road: other: 12.2 m off, over 40 m; its end 9.0 m off along the road")
+        self.assertEqual(len(lines), 4)
+        self.assertEqual(sentence(self.VERDICTS[2]), "3.0 m off")
+        self.assertIn('"path": "lost"', as_json(self.VERDICTS, []))
+
+    def test_strings(self) -> None:
+        file = io.StringIO()
+        write_strings(file, self.VERDICTS)
+        self.assertEqual(file.getvalue(), "name,old,new,road\nlost,A,,\nother,A,B,other\nroad,A,B,same\nsame,A,A,same\n")
+
+    def test_reply(self) -> None:
+        old = state_of(answers=["a,text,A", "b,text,B", "c,text,C"])
+        new = state_of(answers=["a,text,A", "b,refused,3", "d,text,D"])
+        self.assertEqual(list(reply(old, new)), ["ok,3", "b,refused,3", "d,text,D", "c,dropped"])
+
+    def test_folder(self) -> None:
+        with tempfile.TemporaryDirectory() as top:
+            folder = os.path.join(top, "next")
+            write_folder(folder, OLD, OLD, ["a report"])
+            self.assertEqual(sorted(os.listdir(folder)), ["back-reply.txt", "back.csv", "log.csv", "reply.txt", "report.txt"])
+            with open(os.path.join(folder, "log.csv"), encoding="utf-8") as file:
+                self.assertEqual(file.read().splitlines(), [*NODES, *ROAD, PATH])
+            self.assertRaises(Failure, write_folder, folder, OLD, OLD, [])
+            self.assertEqual(os.listdir(top), ["next"])
+
+
+class Manual(unittest.TestCase):
+    """Manual edits on the next map."""
+
+    BASE = state_of(*NODES, *ROAD)
+
+    def fates(self, old: Sequence[str], new: Sequence[str]) -> Dict[str, Fate]:
+        """What becomes of each edit; `records` has those of the edits that survive."""
+        found = Hand(self.BASE, state_of(*old), state_of(*new), LIMITS).edits()
+        self.records: List[str] = records_of(found)
+        return {it.what: it.fate for it in found}
+
+    def test_class(self) -> None:
+        old = [*NODES, "line,1,1,2,1,3,1112", *ROAD[1:]]
+        numbered = [*NODES, "line,11,1,2,3,3,1112", *ROAD[1:]]
+        self.assertEqual(self.fates(old, numbered), {"line 1": Fate.SURVIVES})
+        self.assertEqual(self.records, ["set-line,11,1,3,1112"])
+        self.assertEqual(self.fates(old, old), {"line 1": Fate.ALREADY})
+        self.assertEqual(self.fates(old, [*NODES, "line,11,1,2,0,3,1112", *ROAD[1:]]), {"line 1": Fate.CONFLICT})
+        self.assertEqual(self.records, [])
+
+    def test_length(self) -> None:
+        old = [*NODES, "line,1,1,2,3,3,1120", *ROAD[1:]]
+        self.assertEqual(self.fates(old, [*NODES, *ROAD]), {"line 1": Fate.SURVIVES})
+        self.assertEqual(self.fates(old, [*NODES, "line,1,1,2,3,3,1115", *ROAD[1:]]), {"line 1": Fate.CONFLICT})
+
+    def test_removed(self) -> None:
+        old = [*NODES[:4], *ROAD[:3]]
+        self.assertEqual(self.fates(old, [*NODES, *ROAD]), {"line 4": Fate.SURVIVES, "node 5": Fate.SURVIVES})
+        self.assertEqual(self.records, ["drop-line,4", "drop-node,5"])
+        self.assertEqual(self.fates(old, old), {"line 4": Fate.ALREADY, "node 5": Fate.ALREADY})
+        other = self.fates(old, [*NODES, *ROAD[:3], "line,4,4,5,2,3,730"])
+        self.assertEqual(other, {"line 4": Fate.CONFLICT, "node 5": Fate.CONFLICT})
+
+    def test_split(self) -> None:
+        cut = ["node,9,6,49.0004", "line,8,1,9,3,3,445", "line,9,9,2,3,3,667"]
+        old = [*NODES, cut[0], *ROAD[1:], *cut[1:]]
+        self.assertEqual(set(self.fates(old, [*NODES, *ROAD]).values()), {Fate.SURVIVES})
+        self.assertEqual(self.records, ["drop-line,1", *cut])
+        self.assertEqual(set(self.fates(old, old).values()), {Fate.ALREADY})
+        # The vendor gave it another class: all three edits are in conflict.
+        self.assertEqual(set(self.fates(old, [*NODES, "line,1,1,2,0,3,1112", *ROAD[1:]]).values()), {Fate.CONFLICT})
+
+    def test_moved(self) -> None:
+        old = [*NODES[:4], "node,5,6.001,49.0031", *ROAD]
+        self.assertEqual(self.fates(old, [*NODES, *ROAD]), {"node 5": Fate.SURVIVES})
+        self.assertEqual(self.records, ["move,5,6.001,49.0031"])
+        self.assertEqual(self.fates(old, old), {"node 5": Fate.ALREADY})
+        self.assertEqual(self.fates(old, [*NODES[:4], "node,5,6.00101,49.003", *ROAD]), {"node 5": Fate.CONFLICT})
