@@ -12,7 +12,7 @@ from olr_keep_tools.swap.carry import Carried, Carrier, Gone, How, Result, trans
 from olr_keep_tools.swap.manual import Fate, Hand, records_of
 from olr_keep_tools.swap.publish import reply, write_folder
 from olr_keep_tools.swap.report import as_json, sentence, text, worst_first, write_strings
-from olr_keep_tools.swap.verdicts import Judge, Kind, Map, Verdict, ambiguities, apart, intervals
+from olr_keep_tools.swap.verdicts import Judge, Kind, Map, Verdict, ambiguities, apart, given, intervals
 
 LIMITS = Limits(10.0, 0.02, 1.0)
 # Four nodes in a row, each 111 m from the next, a road over them and a side road at the last one.
@@ -122,6 +122,12 @@ class Verdicts(unittest.TestCase):
         self.assertEqual(off.kind, Kind.OTHER_ROAD)
         self.assertEqual(self.verdict("a,refused,3").kind, Kind.LOST)
         self.assertEqual(self.verdict("", found=Gone("no lines follow it")).answers[1], "dropped")
+
+    def test_given(self) -> None:
+        new = state_of(*NODES, *ROAD, "path,a,100,0,1,2,3")
+        found = given(OLD, new, "a")
+        self.assertTrue(found is not None and found.how == How.GIVEN and found.off[0] == 0 and 19.5 < found.off[1] < 20.5)
+        self.assertIsNone(given(OLD, state_of(*NODES, *ROAD), "a"))
 
     def test_apart(self) -> None:
         far, length = apart([(6, 49), (6, 49.001)], [(6, 49), (6, 49.0005)], 10.0)
