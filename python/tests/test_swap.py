@@ -86,6 +86,8 @@ class Carry(unittest.TestCase):
         new = ("node,11,6,49", "node,12,6,49.001027", "node,13,6,49.001047", "node,14,6,49.002")
         there = ("line,21,11,12,3,3,1115", "line,22,12,13,3,3,22", "line,23,13,14,3,3,1087")
         self.assertEqual(carried(*new, *there, old=state_of(*nodes, *lines)), Carried(Path(0, 0, (21, 22, 23)), How.COURSE))
+        matcher = Carrier(state_of(*nodes, *lines), state_of(*new, *there), LIMITS).matcher
+        self.assertEqual([matcher.same_nodes(it) for it in (1, 2, 3, 4)], [[11], [12], [13], [14]])
 
     def test_apart(self) -> None:
         old = state_of(*NODES, *ROAD, "path,a,0,0,1,3")
