@@ -12,7 +12,7 @@ from olr_keep_tools.swap.carry import Carried, Carrier, Gone, How, Result, trans
 from olr_keep_tools.swap.manual import Fate, Hand, records_of
 from olr_keep_tools.swap.publish import reply, write_folder
 from olr_keep_tools.swap.report import as_json, sentence, text, worst_first, write_strings
-from olr_keep_tools.swap.verdicts import Judge, Kind, Map, Verdict, ambiguities, apart, intervals
+from olr_keep_tools.swap.verdicts import Judge, Kind, Map, Verdict, ambiguities, apart, given, intervals
 
 LIMITS = Limits(10.0, 0.02, 1.0)
 # Four nodes in a row, each 111 m from the next, a road over them and a side road at the last one.
@@ -80,12 +80,14 @@ class Carry(unittest.TestCase):
         self.assertEqual(carried(*NODES, *ROAD[1:], old=old), Carried(Path(88, 0, (2, 3)), How.NUMBERS))
 
     def test_near_nodes(self) -> None:
-        # Two nodes 4 m apart, all moved by 3 m along: each is itself.
-        nodes = ("node,1,6,49", "node,2,6,49.001", "node,3,6,49.001036", "node,4,6,49.002")
-        lines = ("line,1,1,2,3,3,1112", "line,2,2,3,3,3,40", "line,3,3,4,3,3,1072", "path,a,0,0,1,2,3")
-        new = ("node,11,6,49.000027", "node,12,6,49.001027", "node,13,6,49.001063", "node,14,6,49.002027")
-        there = ("line,21,11,12,3,3,1112", "line,22,12,13,3,3,40", "line,23,13,14,3,3,1072")
+        # Two nodes 2 m apart are both moved by 3 m, and the others are not: each is itself.
+        nodes = ("node,1,6,49", "node,2,6,49.001", "node,3,6,49.00102", "node,4,6,49.002")
+        lines = ("line,1,1,2,3,3,1112", "line,2,2,3,3,3,22", "line,3,3,4,3,3,1090", "path,a,0,0,1,2,3")
+        new = ("node,11,6,49", "node,12,6,49.001027", "node,13,6,49.001047", "node,14,6,49.002")
+        there = ("line,21,11,12,3,3,1115", "line,22,12,13,3,3,22", "line,23,13,14,3,3,1087")
         self.assertEqual(carried(*new, *there, old=state_of(*nodes, *lines)), Carried(Path(0, 0, (21, 22, 23)), How.COURSE))
+        matcher = Carrier(state_of(*nodes, *lines), state_of(*new, *there), LIMITS).matcher
+        self.assertEqual([matcher.same_nodes(it) for it in (1, 2, 3, 4)], [[11], [12], [13], [14]])
 
     def test_apart(self) -> None:
         old = state_of(*NODES, *ROAD, "path,a,0,0,1,3")
@@ -122,6 +124,12 @@ class Verdicts(unittest.TestCase):
         self.assertEqual(off.kind, Kind.OTHER_ROAD)
         self.assertEqual(self.verdict("a,refused,3").kind, Kind.LOST)
         self.assertEqual(self.verdict("", found=Gone("no lines follow it")).answers[1], "dropped")
+
+    def test_given(self) -> None:
+        new = state_of(*NODES, *ROAD, "path,a,100,0,1,2,3")
+        found = given(OLD, new, "a")
+        self.assertTrue(found is not None and found.how == How.GIVEN and found.off[0] == 0 and 19.5 < found.off[1] < 20.5)
+        self.assertIsNone(given(OLD, state_of(*NODES, *ROAD), "a"))
 
     def test_apart(self) -> None:
         far, length = apart([(6, 49), (6, 49.001)], [(6, 49), (6, 49.0005)], 10.0)
@@ -211,6 +219,10 @@ class Manual(unittest.TestCase):
         self.assertEqual(self.fates(old, [*NODES, *ROAD]), {"line 4": Fate.SURVIVES, "node 5": Fate.SURVIVES})
         self.assertEqual(self.records, ["drop-line,4", "drop-node,5"])
         self.assertEqual(self.fates(old, old), {"line 4": Fate.ALREADY, "node 5": Fate.ALREADY})
+        # Its number is another road now.
+        self.assertEqual(self.fates(old, [*NODES[:4], *ROAD[:2], "line,4,3,4,3,3,1112"])["line 4"], Fate.ALREADY)
+        longer = self.fates(old, [*NODES, *ROAD[:3], "line,4,4,5,6,3,900"])
+        self.assertEqual(longer, {"line 4": Fate.CONFLICT, "node 5": Fate.CONFLICT})
         other = self.fates(old, [*NODES, *ROAD[:3], "line,4,4,5,2,3,730"])
         self.assertEqual(other, {"line 4": Fate.CONFLICT, "node 5": Fate.CONFLICT})
 

@@ -113,8 +113,9 @@ class Hand:
         what, record, now = f"line {number}", f"drop-line,{number}", self.of_base.line(number)
         nodes = self.base.ends(number)
         if not now or self.retained.intersection(now):
-            fate = Fate.CONFLICT if number in self.new.lines and not now else Fate.ALREADY
-            return Edit(what, fate, record, self.shown(now or (number,)), (), nodes)
+            is_other = not now and number in self.new.lines and self.new.ends(number) == tuple(map(self.node, nodes))
+            fate = Fate.CONFLICT if is_other else Fate.ALREADY
+            return Edit(what, fate, record, self.shown((number,) if is_other else now), (), nodes)
         fate = Fate.SURVIVES if self.kinds(now) == {self.base.lines[number][2:4]} else Fate.CONFLICT
         return Edit(what, fate, record, self.shown(now), tuple(f"drop-line,{it}" for it in now), nodes)
 

@@ -29,9 +29,12 @@ def reply(old: State, new: State) -> Iterator[str]:
 
 
 def refuse_existing(folder: str) -> None:
-    """Fails if the folder is there."""
+    """Fails if the folder is there, or can't be made."""
     if os.path.lexists(folder):
         raise Failure(USAGE, f"{folder} is there already")
+    above = os.path.dirname(os.path.abspath(folder))
+    if not os.path.isdir(above):
+        raise Failure(USAGE, f"{above} is no folder")
 
 
 def write_folder(folder: str, old: State, new: State, report: Iterable[str]) -> None:
