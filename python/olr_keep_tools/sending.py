@@ -246,9 +246,32 @@ class Sender:
         return was_open
 
 
-def send(target: Target, all_steps: List[Step]) -> None:
-    """Sends all steps."""
-    sender = Sender(target)
+class Previewer(Sender):
+    """Sends the changes of one batch, prints what they would change, and aborts the batch."""
+
+    def send_all(self, all_steps: List[Step]) -> None:
+        """Prints each answer that would be another one, with `-` as it is and with `+` as it would be."""
+        if len(all_steps) != 1 or len(all_steps[0]) == 1:
+            raise Failure(STREAM, "--preview takes the changes of one batch, and no questions")
+        (self.step,) = all_steps
+        begin, *changes, _ = self.step
+        self.is_open = True
+        self.answer(begin)
+        for first in range(0, len(changes), AT_ONCE):
+            self.ask(changes[first : first + AT_ONCE])
+        asked = Record(0, "preview")
+        reply = self.answer(asked)
+        if not reply.accepted:
+            self.stop(*self.cause_of(asked, reply))
+        self.abort()
+        for line in reply.lines:
+            before = self.answer(Record(0, f"show,{line.partition(',')[0]}"))
+            print(*(f"-{it}" for it in before.lines), f"+{line}", sep="\n")
+
+
+def send(target: Target, all_steps: List[Step], is_preview: bool = False) -> None:
+    """Sends all steps, or prints what they would change."""
+    sender = Previewer(target) if is_preview else Sender(target)
     try:
         sender.send_all(all_steps)
         if isinstance(target, Program) and (status := target.close()) not in (0, REJECTED):

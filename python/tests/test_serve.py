@@ -9,7 +9,7 @@ from typing import List, Tuple
 
 from olr_keep_tools.serve import logfile
 from olr_keep_tools.serve.framing import NoReply, Replies
-from olr_keep_tools.serve.jobs import Change, Job, Kind, batch, dropped, question_about
+from olr_keep_tools.serve.jobs import Change, Job, Kind, batch, dropped, preview, question_about
 from olr_keep_tools.serve.lines import Input, Sort
 from olr_keep_tools.serve.table import Entry, Table, TableError
 
@@ -85,6 +85,21 @@ class Jobs(unittest.TestCase):
                 assert span is not None
                 found += job.take(span)
             self.assertEqual((found, job.changes), (wanted, changes))
+
+    def test_preview(self) -> None:
+        """A preview gives its own reply, or the first change that was rejected, and changes nothing."""
+        for replies, wanted in (
+            (b"ok,0\nheld,1\nheld,2\nok,1\na,text,A\nok,0\n", b"ok,1\na,text,A\n"),
+            (b"ok,0\nheld,1\nfault,6,NoLine\nok,0\nok,0\n", b"fault,16,CountDiffers,2,6,NoLine\n"),
+            (b"ok,0\nheld,1\nheld,2\nfault,13,Memory\nok,0\n", b"fault,13,Memory\n"),
+        ):
+            job, source, found = preview(Owner(), b"drop-path,b\npath,a,0,0,1\n", 2), Replies(), b""
+            source.feed(replies)
+            while job.done < job.count:
+                span = source.take(job.next_most())
+                assert span is not None
+                found += job.take(span)
+            self.assertEqual((found, job.changes), (wanted, []))
 
     def test_not_known(self) -> None:
         job = Job(Owner(), Kind.CHANGES, b"node,1,0,0\nset-line,7,1\nrepath,a,0\n", 3, done=1)

@@ -32,11 +32,11 @@ class Counts:
 
     def add(self, job: Job, since: float, now: float) -> None:
         """Adds a job that has all its replies."""
-        self.records += max(1, job.count - 3) if job.kind is Kind.BATCH else job.count
+        self.records += max(1, job.count - 3) if job.kind.is_batch else job.count
         self.rejected += job.rejected
         self.changed += len(job.changes)
         if job.kind is not Kind.QUESTION:
-            self.last_seconds = (now - since) / (1 if job.kind is Kind.BATCH else job.count)
+            self.last_seconds = (now - since) / (1 if job.kind.is_batch else job.count)
             self.longest_seconds = max(self.longest_seconds, self.last_seconds)
 
 

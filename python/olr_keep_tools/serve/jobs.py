@@ -19,6 +19,12 @@ class Kind(enum.Enum):
     DROP_PATH = enum.auto()
     QUESTION = enum.auto()
     BATCH = enum.auto()
+    PREVIEW = enum.auto()  # a batch that ends with `preview` and `abort`
+
+    @property
+    def is_batch(self) -> bool:
+        """Whether one reply is given for all records."""
+        return self in (Kind.BATCH, Kind.PREVIEW)
 
 
 class Change(NamedTuple):
@@ -58,14 +64,14 @@ class Job:
 
     def next_most(self) -> int:
         """How many of the next replies may be taken together."""
-        if self.kind is Kind.BATCH:
+        if self.kind.is_batch:
             return max(1, self.count - 2 - self.done)
         return self.count - self.done
 
     def take(self, span: Span) -> bytes:
         """Notes replies, and returns what its owner gets for them."""
         first, self.done = self.done, self.done + span.count
-        if self.kind is Kind.BATCH:
+        if self.kind.is_batch:
             return self._take_of_batch(first, span)
         if not span.lines:
             self.rejected += span.text.count(b"fault,")
@@ -76,7 +82,7 @@ class Job:
         return span.text
 
     def _take_of_batch(self, first: int, span: Span) -> bytes:
-        """The replies to `begin` and to changes were given before; then come those to `commit` and to `abort`."""
+        """The replies to `begin` and to changes were given before; then come those to `commit` or `preview`, and to `abort`."""
         if first < self.count - 2:
             found = None if self.cause else FAULT.search(span.text)
             if found:
@@ -85,8 +91,11 @@ class Job:
             return b""
         if first == self.count - 1:
             return b""
+        if self.kind is Kind.PREVIEW and self.cause:
+            return b"%s,%s\n" % (COUNT_DIFFERS, self.cause)
         if span.text.startswith(b"ok"):
-            self.changes = [*dropped(self.text), *answers(span.text)]
+            if self.kind is Kind.BATCH:
+                self.changes = [*dropped(self.text), *answers(span.text)]
             return span.text
         self.rejected += 1
         return b"%s,%s\n" % (COUNT_DIFFERS, self.cause) if span.text == REJECTED_COUNT and self.cause else span.text
@@ -102,6 +111,8 @@ class Job:
 
     def not_known(self) -> bytes:
         """What its owner gets for the records without a reply if the program ended."""
+        if self.kind is Kind.PREVIEW:
+            return b"" if self.done == self.count - 1 else fault(Word.NOT_KNOWN, "ask for the preview again")
         if self.kind is Kind.BATCH:
             if self.done == self.count - 1:
                 return b""
@@ -112,12 +123,17 @@ class Job:
 
     def not_served(self, why: str) -> bytes:
         """What its owner gets if it was not sent to the program."""
-        return fault(Word.NOT_SERVED, why) * (1 if self.kind is Kind.BATCH else self.count)
+        return fault(Word.NOT_SERVED, why) * (1 if self.kind.is_batch else self.count)
 
 
 def batch(owner: Owner, changes: bytes, count: int) -> Job:
     """A batch with its `begin` and `commit`. An `abort` follows, which is rejected if the commit was accepted."""
     return Job(owner, Kind.BATCH, b"begin\n%scommit,%d\nabort\n" % (changes, count), count + 3)
+
+
+def preview(owner: Owner, changes: bytes, count: int) -> Job:
+    """What a batch of these changes would change. It is aborted."""
+    return Job(owner, Kind.PREVIEW, b"begin\n%spreview\nabort\n" % changes, count + 3)
 
 
 def answers(reply: bytes) -> List[Change]:

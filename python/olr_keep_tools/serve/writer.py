@@ -9,7 +9,7 @@ from typing import Deque, List, Optional, Set, Union
 
 from olr_keep_tools.serve.exchange import Exchange
 from olr_keep_tools.serve.faults import ACCEPTED, BATCH_FULL, BATCH_OPEN, COUNT_DIFFERS, Word, fault
-from olr_keep_tools.serve.jobs import Job, Kind, batch
+from olr_keep_tools.serve.jobs import Job, Kind, batch, preview
 from olr_keep_tools.serve.lines import MOST_LINE, Input, Piece, Sort
 
 MOST_HELD = 100_000
@@ -160,6 +160,8 @@ class Writer(asyncio.Protocol):
             self._say(ACCEPTED)
         elif piece.sort is Sort.COMMIT:
             self._commit(held, int(piece.text[7:]))
+        elif piece.text.rstrip(b"\n") == b"preview":
+            self._offer(preview(self, b"".join(held.texts), held.count))
         else:
             self._offer(Job(self, Kind.QUESTION, piece.text, 1))
 
