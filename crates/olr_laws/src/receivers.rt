@@ -1,6 +1,7 @@
 //! The laws of receivers, and worked rows of candidates.
 ghost use Rattle.std.specs.Prelude.{◌≡◌, ℕ, pos, negsuc, [], ◌∷◌, true, false};
 ghost use Rattle.olr_spec.specs.Laws;
+ghost use Rattle.olr_spec.specs.Margins.{Margin};
 ghost use Rattle.olr_spec.specs.Map.{IsMap};
 ghost use Rattle.olr_spec.specs.Bearings.{vector};
 ghost use Rattle.olr_spec.specs.Encoding.{Encodes, Points};
@@ -18,7 +19,7 @@ ghost use Rattle.olr_laws.specs.MapRows.{fork10, degrees10, TakesOther};
 /// remaining LRPs; offsets are exact within a 256th of a leg. A node is the nearest if the others are
 /// at least three times the bound of decoding away.
 pub fn laws_of_receivers()
-    ensures recovered { Laws.Recovered }
+    ensures recovered { (g : Margin) → Laws.Recovered g }
     ensures stretches_join { Laws.StretchesJoin }
     ensures offsets { Laws.Offsets }
     ensures distances { Laws.Distances }

@@ -121,7 +121,7 @@ module _ (M N : Map) (C : List ChangedLine) (s t d : ℕ) (there : AccountsFor C
   same_there xs w h =
       let parts = parts_of M N C there t s d xs w h in grind (arith, parts, IsRoute-moves, same_dm_of)
 
-  same_here : SameRoutes N M s t d
+  pub same_here : SameRoutes N M s t d
   same_here xs w h = elim (parts_of N M C here t s d xs w h) [ inl each ↦ each | inr p ↦ absurd (clear p.0) ]
 
   pub routes_same : (xs : List ℕ) → (IsRoute M s t xs × (dm_of M xs ≤ d)) ↔ (IsRoute N s t xs × (dm_of N xs ≤ d))
