@@ -1,14 +1,14 @@
 -- Each definition is decidable, so each path has an answer.
 use Rattle.olr_spec.specs.Margins.{no_margin}
-use Rattle.olr_spec.specs.Margins.{Margin, counted, counted_dm_of, CountedRoute, IsSoundFor}
+use Rattle.olr_spec.specs.Margins.{Margin, counted}
 use Rattle.olr_spec.proofs.Common.{◌⊎◌, inl, inr, ◌≡◌, ℕ, zero, suc, ◌+◌, true, false, List, ◌∷◌, ◌++◌, length, ◌<◌}
 use Rattle.olr_spec.proofs.Common.{◌≤◌, None, IsTrue, refl, ap, subst, arith, MatchOption, [], ◌≢◌, cases_lt, cases_eq}
 use Rattle.olr_spec.proofs.Common.{dec_le, Map, IsMap, has_line, end, dm, coord_at, lines_where, has, IsRoute, dm_of}
 use Rattle.olr_spec.proofs.Common.{UniqueShortest, Path, is_path, first, last, passing, MayPrecede, MayFollow}
 use Rattle.olr_spec.proofs.Common.{LongestStart, LongestEnd, Tried, from_start, taken_start, extended_path, limit}
-use Rattle.olr_spec.proofs.Common.{node_at, stretch, CoveredWith, fit16, CandidateWith, ValidCandidateWith, Greatest, Next, NextWith, To_end}
+use Rattle.olr_spec.proofs.Common.{node_at, stretch, CoveredWith, fit16, CandidateWith, ValidCandidateWith, Greatest, NextWith, To_end}
 use Rattle.olr_spec.proofs.Common.{To_valid, To_passing, FollowWith, Answer, Refused, path_fault, answer_by_points_with}
-use Rattle.olr_spec.proofs.Common.{EncodingWith, nat_eq, Bool-discrete, NoNextWith, OneUnique, SomeAnswer}
+use Rattle.olr_spec.proofs.Common.{EncodingWith, Bool-discrete, NoNextWith, OneUnique, SomeAnswer}
 use Rattle.olr_spec.proofs.ListLemmas.{dec_same}
 use Rattle.olr_spec.proofs.CountedLemmas.{counted_known, counted_least}
 use Rattle.olr_spec.proofs.Common.{min, slice_index, start, ◌-◌, sym, ◌∙◌}

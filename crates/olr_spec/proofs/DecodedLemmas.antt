@@ -1,5 +1,5 @@
 -- The coordinates that the LRPs of an answer are decoded as.
-use Rattle.olr_spec.specs.Margins.{Margin, counted, counted_dm_of, CountedRoute, IsSoundFor}
+use Rattle.olr_spec.specs.Margins.{Margin}
 use Rattle.olr_spec.proofs.Common.{◌≡◌, ℕ, zero, suc, ◌+◌, ◌*◌, ℤ, pos, ◌<ℤ◌, ◌-ℤ◌, true, List, ◌∷◌, ◌++◌, length, take}
 use Rattle.olr_spec.proofs.Common.{map, ◌<◌, ◌≤◌, Some, None, IsTrue, refl, ap, ◌∙◌, arith, [], ◌-◌, nat_abs, le-leb}
 use Rattle.olr_spec.proofs.Common.{slice_index, ints, abs24, relative, Map, has, Path, is_path, extended_path, Leg}

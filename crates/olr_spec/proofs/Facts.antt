@@ -16,7 +16,7 @@ pub use Rattle.olr_spec.proofs.OrderLemmas.{exactly_in, exactly_out, has-all_nod
 pub use Rattle.olr_spec.proofs.RouteLemmas.{IsRoute-append, IsRoute-split, dm_of-append, empty_least, empty_unique}
 pub use Rattle.olr_spec.proofs.RouteLemmas.{longer, not_before_itself, nothing_below_nil, one_least, positive}
 pub use Rattle.olr_spec.proofs.RouteLemmas.{prefix_of_least, prefix_of_unique, unique_least}
-pub use Rattle.olr_spec.proofs.RouteMoves.{IsRoute-moves, clear_unique, near_same, part_stays, reach_same, routes_same}
+pub use Rattle.olr_spec.proofs.RouteMoves.{IsRoute-moves, clear_unique, near_same, reach_same, routes_same}
 pub use Rattle.olr_spec.proofs.RouteMoves.{same_there, unique_same, within, within_other}
 pub use Rattle.olr_spec.proofs.RunLemmas.{AreRuns, end_runs, extended_keeps, last_known, last_push, no_longer, one_end}
 pub use Rattle.olr_spec.proofs.RunLemmas.{one_start, one_tried, start_runs}

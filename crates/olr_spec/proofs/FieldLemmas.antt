@@ -1,5 +1,5 @@
 -- The fields of an answer fit their bits.
-use Rattle.olr_spec.specs.Margins.{Margin, counted, counted_dm_of, CountedRoute, IsSoundFor}
+use Rattle.olr_spec.specs.Margins.{Margin}
 use Rattle.olr_spec.proofs.Common.{◌≡◌, ℕ, suc, ◌+◌, ◌-◌, ◌*◌, ◌/◌, max, ℤ, min, Bool, true, false, List, ◌∷◌, length}
 use Rattle.olr_spec.proofs.Common.{take, drop, map, ◌<◌, ◌≤◌, Some, None, IfSome, unwrap_or, IsTrue, ap, ◌∙◌, arith}
 use Rattle.olr_spec.proofs.Common.{◌==◌, take-add, [], ltb-true, fold, find, slice_range, cases_Bool, cases_lt}

@@ -1,7 +1,7 @@
 -- The fields of an answer's reference fit, so it can be encoded as bytes.
 use Rattle.olr_spec.specs.Margins.{no_margin}
 use Rattle.olr_spec.proofs.Common.{Follow, reference}
-use Rattle.olr_spec.specs.Margins.{Margin, counted, counted_dm_of, CountedRoute, IsSoundFor}
+use Rattle.olr_spec.specs.Margins.{Margin}
 use Rattle.olr_spec.proofs.Common.{◌≡◌, ℕ, ◌+◌, ◌-◌, true, List, ◌∷◌, length, ◌<◌, ◌≤◌, None, IsTrue, sym, ap, ◌∙◌}
 use Rattle.olr_spec.proofs.Common.{subst, arith, nat_le, length-append, [], eqb-true, leb-false, cases_Bool, cond_both}
 use Rattle.olr_spec.proofs.Common.{length-map, Map, IsMap, has, dm_of, Path, Tried, is_path, extended_path, from_start}

@@ -1,13 +1,13 @@
 -- The routes between the remaining LRPs join to the extended path.
 use Rattle.olr_spec.specs.Margins.{no_margin}
 use Rattle.olr_spec.proofs.Common.{Follow}
-use Rattle.olr_spec.specs.Margins.{Margin, counted, counted_dm_of, CountedRoute, IsSoundFor}
+use Rattle.olr_spec.specs.Margins.{Margin, CountedRoute, IsSoundFor}
 use Rattle.olr_spec.proofs.Common.{inl, inr, ◌≡◌, ℕ, ◌+◌, ◌-◌, min, Bool, true, false, ◌&&◌, List, ◌∷◌, ◌++◌, length}
 use Rattle.olr_spec.proofs.Common.{take, drop, ◌<◌, ◌≤◌, refl, ap, ◌∙◌, subst, arith, nat_le, length-drop, ◌↔◌, []}
 use Rattle.olr_spec.proofs.Common.{leb-true, le-leb, get_or-drop, slice_index, filter, cases_eq, and_parts, and_from}
 use Rattle.olr_spec.proofs.Common.{cond_both, nat_tests, take_more, ⊤, Map, start, end, LrpRoute, stretch, CoveredWith}
 use Rattle.olr_spec.proofs.Common.{CandidateWith, FollowWith, JoinsTo, JoinsLast, drop_more, Joins, RoutesJoin}
-use Rattle.olr_spec.proofs.RouteLemmas.{IsRoute-split, prefix_of_unique}
+use Rattle.olr_spec.proofs.RouteLemmas.{IsRoute-split}
 use Rattle.olr_spec.proofs.AnswerLemmas.{Next-candidate}
 use Rattle.olr_spec.proofs.ListLemmas.{Each, Each-tail, has_here, has_there, has_filter}
 use Rattle.olr_spec.proofs.CountedLemmas.{counted_zero, route_counted}

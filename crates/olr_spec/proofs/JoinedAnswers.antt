@@ -1,7 +1,7 @@
 -- The routes between the LRPs of an answer join to the extended path.
 use Rattle.olr_spec.specs.Margins.{no_margin}
 use Rattle.olr_spec.proofs.Common.{refl, Joined, inl, Encoding}
-use Rattle.olr_spec.specs.Margins.{Margin, counted, counted_dm_of, CountedRoute, IsSoundFor}
+use Rattle.olr_spec.specs.Margins.{Margin, IsSoundFor}
 use Rattle.olr_spec.proofs.Common.{◌≡◌, ◌<◌, ◌+◌, ℕ, List, length, None, ap, arith, Map, dm_of, Path, extended_path}
 use Rattle.olr_spec.proofs.Common.{Reference, legs, first_kept, last_kept, kept_points, Points, path_fault, EncodingWith}
 use Rattle.olr_spec.proofs.Common.{JoinedWith}

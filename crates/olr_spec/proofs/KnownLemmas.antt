@@ -1,11 +1,11 @@
 -- Coverage queries along a path's own lines are the same on another map where they are clear.
-use Rattle.olr_spec.specs.Margins.{Margin, no_margin, counted_dm_of, CountedRoute}
+use Rattle.olr_spec.specs.Margins.{Margin, counted_dm_of, CountedRoute}
 use Rattle.olr_spec.proofs.WayLemmas.{route_known}
 use Rattle.olr_spec.proofs.CountedLemmas.{route_counted}
 use Rattle.olr_spec.proofs.CountedMoves.{counted_longer, counted_length_same, clear_front, clear_whole}
 use Rattle.olr_spec.proofs.Common.{◌≡◌, ℕ, ◌+◌, List, ◌∷◌, ◌<◌, ◌≤◌, sym, ap, ◌∙◌, subst, arith, slice_index, [], Map, start}
-use Rattle.olr_spec.proofs.Common.{end, SameLine, IsRoute, dm_of, stretch, ChangedLine, AccountsFor}
-use Rattle.olr_spec.proofs.Common.{Detour, CoverageQuery, IsClear, KnownQuery, KnownRetained, All, All-contains, get_or}
+use Rattle.olr_spec.proofs.Common.{end, SameLine, IsRoute, stretch, ChangedLine, AccountsFor}
+use Rattle.olr_spec.proofs.Common.{Detour, CoverageQuery, IsClear, KnownQuery, KnownRetained, All-contains, get_or}
 use Rattle.olr_spec.proofs.Facts.{Each, Each-head, Each-right, IsRoute-split, same_start, IsRoute-moves}
 use Rattle.olr_spec.proofs.Facts.{same_there, stretch_first}
 use Rattle.olr_spec.specs.Queries.{IsKnownWith, AreKnown, KnownOf}

@@ -3,10 +3,10 @@
 use Rattle.olr_spec.specs.Margins.{Margin, counted, counted_dm_of, CountedRoute, IsSoundFor}
 use Rattle.olr_spec.proofs.Common.{inl, inr, ◌≡◌, ℕ, ◌+◌, ◌-◌, min, List, ◌++◌, length, ◌<◌, ◌≤◌, sym, ap, subst, arith}
 use Rattle.olr_spec.proofs.Common.{drop-drop, ◌↔◌, slice_index, cases_lt, Map, start, end, SameLine, SameRound, IsRoute}
-use Rattle.olr_spec.proofs.Common.{dm_of, Reaches, UniqueShortest, limit, stretch, CoveredWith, ChangedLine, AccountsFor}
+use Rattle.olr_spec.proofs.Common.{dm_of, Reaches, limit, stretch, CoveredWith, ChangedLine, AccountsFor}
 use Rattle.olr_spec.proofs.Common.{Detour, Needed, IsLastTestedWith, query_to_with, IsClear}
-use Rattle.olr_spec.proofs.Facts.{dm_of-append, prefix_of_unique, Each, Each-range, has_index, same_start, same_end}
-use Rattle.olr_spec.proofs.Facts.{same_dm_of, IsRoute-moves, unique_same, within, within_other, part_stays, RouteTo}
+use Rattle.olr_spec.proofs.Facts.{Each, Each-range, has_index, same_start, same_end}
+use Rattle.olr_spec.proofs.Facts.{same_dm_of, IsRoute-moves, unique_same, within, within_other}
 use Rattle.olr_spec.proofs.Facts.{way_between, next_start}
 use Rattle.olr_spec.proofs.WayLemmas.{route_known}
 use Rattle.olr_spec.proofs.JoinLemmas.{CountedTo}
@@ -68,9 +68,6 @@ module _ {g : Margin} (M N : Map) (ls : List ℕ) (same : Each (SameLine M N) ls
 
   at_same : (m : ℕ) → m < length ls → at m ≡ start N (slice_index ls m)
   at_same m h = same_start M N (slice_index ls m) (same (slice_index ls m) (has_index ls m h))
-
-  length_same : (p q : ℕ) → dm_of M (stretch ls p q) ≡ dm_of N (stretch ls p q)
-  length_same p q = same_dm_of M N (stretch ls p q) (Each-range (SameLine M N) ls p q same)
 
   parts : (m : ℕ) → i < m → m ≤ k → part k ≡ part m ++ stretch ls m k
   parts m h upto = stretch_parts ls (i + 1) m k (omega arith) upto

@@ -1,7 +1,7 @@
 -- Lists of coverage queries: each LRP of the list has one.
 use Rattle.olr_spec.specs.Margins.{no_margin}
 use Rattle.olr_spec.proofs.Common.{IsQuery}
-use Rattle.olr_spec.specs.Margins.{Margin, counted, counted_dm_of, CountedRoute, IsSoundFor}
+use Rattle.olr_spec.specs.Margins.{Margin}
 use Rattle.olr_spec.proofs.Common.{◌≡◌, ℕ, ◌+◌, true, List, ◌∷◌, length, ◌<◌, Contains, arith, nat_lt, IsTrue, []}
 use Rattle.olr_spec.proofs.Common.{lt-ltb, ltb-true, AllZip, Map, has, CoverageQuery, IsQueryWith, querying}
 use Rattle.olr_spec.proofs.Facts.{has_filter, filter_has, has_here, has_there, has_cases, Contains-here, Contains-later}

@@ -1,12 +1,12 @@
 -- Every receiver recovers the legs between the remaining LRPs.
 use Rattle.olr_spec.specs.Margins.{no_margin}
-use Rattle.olr_spec.specs.Margins.{Margin, counted, counted_dm_of, CountedRoute, IsSoundFor, allowed}
+use Rattle.olr_spec.specs.Margins.{Margin, allowed}
 use Rattle.olr_spec.proofs.Common.{◌≡◌, ◌≢◌, ℕ, Bool, true, ◌↔◌, IsTrue, arith, eqb-true, eq-eqb, ltb-true, cases_Bool}
 use Rattle.olr_spec.proofs.Common.{cases_eq, both_ways, or_cases, Map, has_line, line_at, Leg, leg, candidates}
 use Rattle.olr_spec.proofs.Common.{Receiver, is_nearest, has_no_twin, AllPass-from_list_all, list_all, list_all-map}
 use Rattle.olr_spec.proofs.Common.{suc, ◌+◌, ◌-◌, List, ◌∷◌, length, map, ◌<◌, ℤ, Some, None, refl, sym, ap, ◌∙◌}
 use Rattle.olr_spec.proofs.Common.{slice_get, [], option_map, slice_index, ⊤, get_or-map, IsMap, Path, is_path}
-use Rattle.olr_spec.proofs.Common.{none_twice, extended_path, stretch, OfPathWith, Reference, legs, leg_at, no_leg, attrs, attrs_with}
+use Rattle.olr_spec.proofs.Common.{none_twice, extended_path, stretch, OfPathWith, Reference, legs, leg_at, no_leg, attrs_with}
 use Rattle.olr_spec.proofs.Common.{Middle, middle_points_with, last_two, reference_by_kept_with, Points, path_fault, EncodingWith}
 use Rattle.olr_spec.proofs.Common.{Side, Within, RecoversTo, RecoversLast, Recovered}
 use Rattle.olr_spec.proofs.Facts.{at_index, has_number, Each, has_index, Known, path_also, path_at, LinkedWith, joins_to}

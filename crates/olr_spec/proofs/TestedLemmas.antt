@@ -1,6 +1,6 @@
 -- A path has exactly one list of coverage queries, and they determine its footprint.
 use Rattle.olr_spec.specs.Margins.{no_margin}
-use Rattle.olr_spec.specs.Margins.{Margin, counted, counted_dm_of, CountedRoute, IsSoundFor}
+use Rattle.olr_spec.specs.Margins.{Margin}
 use Rattle.olr_spec.proofs.Common.{inl, inr, ◌≡◌, ℕ, zero, suc, ◌+◌, ◌-◌, min, true, List, ◌∷◌, length, ◌<◌, ◌≤◌, None}
 use Rattle.olr_spec.proofs.Common.{IsTrue, Contains, refl, sym, ap, ◌∙◌, subst, arith, MatchOption, ◌⊎◌, T, []}
 use Rattle.olr_spec.proofs.Common.{cases_lt, cases_eq, cases_order, dec_le, AllZip, Map, IsMap, has, dm_of, Path}
@@ -165,6 +165,3 @@ one_last_tested = one_last_tested_with no_margin
 
 pub foot_affected : FootAffected no_margin
 foot_affected = foot_affected_with no_margin
-
-pub one_queries : OneQueries no_margin
-one_queries = one_queries_with no_margin

@@ -11,7 +11,7 @@ use Rattle.olr_spec.specs.Map.{Map, has_line, start, end}
 use Rattle.olr_spec.specs.Routes.{dm_of}
 use Rattle.olr_spec.specs.Extension.{Path}
 use Rattle.olr_spec.specs.Points.{node_at, last_position, OfPathWith}
-use Rattle.olr_spec.specs.Reference.{Reference, legs, kept_points, reference, reference_with}
+use Rattle.olr_spec.specs.Reference.{Reference, legs, kept_points, reference_with}
 
 -- the reasons, in this order (profile): a line isn't on the map; line k of the path doesn't end where the next starts;
 -- the offsets are at least as long as the path; no position may be the next LRP after position k

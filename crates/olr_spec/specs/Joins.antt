@@ -3,7 +3,8 @@
 --     JoinsTo M ls p q, JoinsLast M ls p q      the leg between two neighbouring LRPs is a line and a unique shortest
 --         path; the last leg is one line, or a line, a unique shortest path and a line
 --     Joins M ls ks      this holds for each two neighbours of ks
---     Joined M P r, JoinedWith g M P r      r is the reference of at least two LRPs, and the routes between them join to the extended path
+--     Joined M P r, JoinedWith g M P r      r is the reference of at least two LRPs, and the routes between them join to
+--         the extended path, with a margin
 use Rattle.std.specs.Prelude.{◌≡◌, ◌≤◌, ℕ, ◌-◌, List, [], ◌∷◌, ◌++◌, length, slice_index, ◌⊎◌, ⊤}
 use Rattle.olr_spec.specs.Margins.{Margin, no_margin}
 use Rattle.olr_spec.specs.Map.{Map, start, end}

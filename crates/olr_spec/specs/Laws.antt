@@ -25,24 +25,26 @@ use Rattle.olr_spec.specs.Map.{Map, empty_map, IsMap, Line, has_line, coord_at, 
 use Rattle.olr_spec.specs.Map.{touched_nodes, touched_lines, Enters, Leaves, Agree, SameLine, SameRound, has, HasCoord}
 use Rattle.olr_spec.specs.Routes.{IsRoute, dm_of, Least, UniqueShortest}
 use Rattle.olr_spec.specs.Margins.{Margin, counted, IsSoundFor}
-use Rattle.olr_spec.specs.Elsewhere.{HasNoOther, IsNearly, IsNearlyAlong, suffices}
+use Rattle.olr_spec.specs.Elsewhere.{HasNoOther, IsNearly, IsNearlyAlong, HasClasses, KeptLines, RecoversLegs, suffices}
 use Rattle.olr_spec.specs.Labels.{Settled}
 use Rattle.olr_spec.specs.Extension.{Path, is_path, first, last, LongestStart, LongestEnd, limit}
-use Rattle.olr_spec.specs.Points.{stretch, Covered, CoveredWith, Next, NextWith, Follow, FollowWith, last_position}
+use Rattle.olr_spec.specs.Points.{stretch, CoveredWith, NextWith, FollowWith, last_position}
 use Rattle.olr_spec.specs.Bearings.{IsSector, sector}
+use Rattle.olr_spec.specs.Points.{OfPathWith}
+use Rattle.olr_spec.specs.Reference.{reference_with}
 use Rattle.olr_spec.specs.Reference.{Reference, leg, legs, first_kept, last_kept, kept_points}
-use Rattle.olr_spec.specs.Encoding.{Answer, Points, Encodes, EncodesWith, IsPoint, IsPointWith}
+use Rattle.olr_spec.specs.Encoding.{Answer, Points, Encodes, EncodesWith, IsPoint}
 use Rattle.olr_spec.specs.Bytes.{IsReference, HasBytes, v3_fault}
 use Rattle.olr_spec.specs.Decoded.{decoded, IsNear}
 use Rattle.olr_spec.specs.Joins.{Joins}
 use Rattle.olr_spec.specs.Receiver.{Outgoing, Incoming, Measure, Receiver, Recovers, attributes, candidates}
 use Rattle.olr_spec.specs.Receiver.{last_number, decoded_coord, is_nearest}
-use Rattle.olr_spec.specs.Recovery.{Distinct, DistinctWith, IsLineAt, IsLineAtWith, IsStretches, IsStretchesWith, IsKeptPart, IsKeptPartWith, IsLeft, IsLeftWith, IsCut, IsClose, IsStep}
+use Rattle.olr_spec.specs.Recovery.{DistinctWith, IsLineAt, IsStretches, IsStretchesWith, IsKeptPart, IsLeft, IsCut, IsClose, IsStep}
 use Rattle.olr_spec.specs.Recovery.{IsWeighted, are_cosines, are_spaced, lon_apart, lat_apart}
-use Rattle.olr_spec.specs.Footprint.{Sees, Foot, FootWith}
+use Rattle.olr_spec.specs.Footprint.{Sees, FootWith}
 use Rattle.olr_spec.specs.Detours.{ChangedLine, changes_of, AccountsFor, Difference, Detour, Near}
-use Rattle.olr_spec.specs.Queries.{TraversedOf, IsLastTested, IsLastTestedWith, CoverageQuery, query_to, query_to_with, QueriesOf, QueriesOfWith, IsClear}
-use Rattle.olr_spec.specs.Queries.{KnownQuery, IsKnown, IsKnownWith, KnownOf, KnownOfWith}
+use Rattle.olr_spec.specs.Queries.{TraversedOf, IsLastTestedWith, CoverageQuery, query_to_with, QueriesOfWith, IsClear}
+use Rattle.olr_spec.specs.Queries.{KnownQuery, IsKnownWith, KnownOfWith}
 
 -- ---- maps
 
@@ -223,6 +225,16 @@ abbrev pub Recovered : Margin → Type 0
 Recovered g =
     (R : Receiver) (M : Map) → IsMap M → (P : Path) → IsTrue (is_path P.lines) → (r : Reference)
     → EncodesWith g M P (Points r) → DistinctWith g R.far M P r → (ws : List (List ℕ)) → Recovers R M r ws ↔ IsStretchesWith g M P ws
+
+-- and on another map that has no other roads, if what its lengths and classes differ by is within the margin: there each
+-- leg of an answer is recovered from the path's own lines at its LRPs, by the reference of the first map
+abbrev pub RecoveredElsewhere : Margin → Type 0
+RecoveredElsewhere g =
+    (M N : Map) → IsMap M → IsMap N → HasNoOther M N → (a b : ℕ) → IsTrue (suffices g a b) → (P : Path) →
+    IsTrue (is_path P.lines) → (r : Reference) → EncodesWith g M P (Points r) → KeptLines g M P (IsNearlyAlong a b M N) →
+    KeptLines g M P (HasClasses g M N) →
+    OfPathWith g M P (λ E _ _ js. (r ≡ reference_with g (legs M E.lines) E.pos E.neg js)
+    × RecoversLegs g M N E.lines (kept_points (legs M E.lines) E.pos E.neg js))
 
 -- together the legs are the lines from the first remaining LRP to the last
 abbrev pub StretchesJoin : Type 0

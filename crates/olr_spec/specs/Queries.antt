@@ -18,7 +18,7 @@
 --     QueriesFrom M ls is queries, QueriesOf M P queries      one coverage query for each LRP of the list is, in order;
 --         the
 --         coverage queries of the path
-use Rattle.std.specs.Prelude.{◌≡◌, ℕ, ◌+◌, ◌-◌, ◌<◌, ◌≤◌, min, Bool, List, [], ◌∷◌, length, map, filter, nat_lt, slice_index}
+use Rattle.std.specs.Prelude.{◌≡◌, ℕ, ◌+◌, ◌-◌, ◌<◌, ◌≤◌, min, Bool, List, [], ◌∷◌, length, filter, nat_lt, slice_index}
 use Rattle.std.specs.Prelude.{MatchOption, Contains, ◌⊎◌, ◌↔◌, IsTrue}
 use Rattle.std.specs.List.{All, AllZip}
 use Rattle.olr_spec.specs.Margins.{Margin, no_margin, CountedRoute, counted_dm_of}
