@@ -18,6 +18,7 @@ use Rattle.olr_laws.proofs.DependLemmas.{one_names, one_dependents, some_depende
 use Rattle.olr_laws.proofs.NamedObstacles.{one_obstacles, one_asked, some_asked}
 use Rattle.olr_commands.proofs.NameLemmas.{named_path}
 use Rattle.olr_commands.proofs.StateLemmas.{steps_keep, when_ok}
+use Rattle.olr_spec.specs.Margins.{no_margin}
 use Rattle.olr_spec.specs.Encoding.{Points, Unknown_line, Broken, Offset_too_long, No_next_point}
 use Rattle.olr_spec.specs.Bytes.{IsReference, reference_bytes}
 use Rattle.olr_spec.proofs.FitLemmas.{encoded_fits}
@@ -176,7 +177,7 @@ answers_decide A B f g = inr (λ e. absurd cc)
 
 answer_fits : (M : Map) → IsMap M → (P : Path) → IsTrue (is_path P.lines) → (A : Answer) → Encodes M P A → Fits A
 unfolding Fits
-answer_fits M m P i (Points r) e = encoded_fits M m P i r e
+answer_fits M m P i (Points r) e = encoded_fits no_margin M m P i r e
 answer_fits M m P i (Refused f) e = refl
 
 -- ---- replies

@@ -5,6 +5,7 @@ use Rattle.std.proofs.Common.{length, map, IsTrue, refl, sym, ap, ◌∙◌, sub
 use Rattle.std.proofs.Common.{◌||◌, Ok, MatchOption, Bool}
 use Rattle.std.proofs.Math.Decide.{dec_lt, map_dec, ℕ_discrete}
 use Rattle.std.proofs.lemmas.Bool.{cases_Bool, both_ways, or_left}
+use Rattle.olr_spec.specs.Margins.{no_margin}
 use Rattle.olr_spec.specs.Map.{Map, IsMap, Edit, Add_node, Move_node, Drop_node, Add_line, Set_line, Drop_line, has, has_line}
 use Rattle.olr_spec.specs.Map.{edited, start, end, dm, lines_out, touched_nodes, touched_lines}
 use Rattle.olr_spec.specs.Routes.{Reaches}
@@ -117,7 +118,7 @@ module _ (M : Map) (m : IsMap M) (v : ℕ) where
   dec_sought ls i = elim (dec_lt (i + 2) (length ls)) [
     | no f ↦ no (λ h. f h.0)
     | yes lt ↦
-        let k = some_last_tested M m ls i (omega (arith, lt)) in
+        let k = some_last_tested no_margin M m ls i (omega (arith, lt)) in
         let q : CoverageQuery = query_to M ls i k.0 in
         elim (dec_reaches (suc q.within) q.within q.from (omega arith)) [
           | yes r ↦ yes (lt, (q, (k.0, k.1, refl), r))
@@ -146,7 +147,7 @@ module _ (M : Map) (m : IsMap M) (v : ℕ) where
   dec_foot : (P : Path) → IsTrue (is_path P.lines) → Dec (Foot M P v)
   dec_foot P is =
       by_fault M P (λ o. Dec (MatchOption o (FootOf M P v) (λ _. ⊥)))
-      (λ none. let p = (some_encoding M m P is none).1 in
+      (λ none. let p = (some_encoding no_margin M m P is none).1 in
       map_dec (λ t. path_also p t) (λ f. path_at m is none p f)
       (dec_touched (extended_path M P p.before p.after).lines p.before p.after p.points))
       (λ r. no (λ h. h))

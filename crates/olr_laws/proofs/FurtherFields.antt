@@ -1,5 +1,5 @@
 -- Two further fields that no command has, as the ending of a line adds them, and the laws of lines.
-use Rattle.std.proofs.lemmas.List.{append_assoc, append-nil}
+use Rattle.std.proofs.lemmas.List.{append_assoc}
 use Rattle.csv.specs.Reading.{default_config, strip_bom, AreRecords}
 use Rattle.csv.specs.declared.parser.State.TheVariants as st
 use Rattle.olr_records.specs.Records.{HoldsList}

@@ -2,6 +2,7 @@ pub mod ByteLemmas
 pub mod LabelLemmas
 pub mod ReceiverLemmas
 pub mod MapLemmas
+pub mod MarginRowLemmas
 pub mod AngleLemmas
 pub mod DirectionLemmas
 pub mod RowLemmas

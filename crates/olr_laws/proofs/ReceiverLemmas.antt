@@ -1,4 +1,5 @@
 -- Where the LRPs of an answer are decoded, that receivers exist, and what the legs between the LRPs say.
+use Rattle.olr_spec.specs.Margins.{no_margin}
 use Rattle.olr_spec.proofs.Common.{◌≡◌, ℕ, zero, suc, ◌+◌, ℤ, true, List, ◌∷◌, length, ◌<◌, ◌≤◌, Some, None, is_some}
 use Rattle.olr_spec.proofs.Common.{IsTrue, ap, ◌∙◌, subst, arith, nat_le, [], slice_get, option_map, leb-true}
 use Rattle.olr_spec.proofs.Common.{slice_index, cases_Bool, Map, IsMap, coord_at, Path, is_path, node_at, Reference}
@@ -201,7 +202,7 @@ module _ (M : Map) (m : IsMap M) (ls : List ℕ) (known : Each (Known M) ls) whe
   cuts_close p q h i js l n some =
       grind (
         arith,
-        last_two_linked M ls h i js l,
+        last_two_linked no_margin M ls h i js l,
         dm_same,
         offset_close,
         stretch_first,
@@ -284,7 +285,7 @@ module _ (M : Map) (m : IsMap M) (P : Path) (is : IsTrue (is_path P.lines)) (non
   abbrev Points_kept : List ℕ
   Points_kept = Kept M P is none r e
 
-  formed : Form M Lines Points_kept (Front M P is none r e) (Back M P is none r e) r
+  formed : Form no_margin M Lines Points_kept (Front M P is none r e) (Back M P is none r e) r
   formed = form M P is none r e
 
   pub size : last_number r + 1 ≡ length Points_kept
@@ -388,7 +389,7 @@ joined : (M : Map) (ls ks : List ℕ) → Linked M ls ks → concat (stretches l
 joined M ls [] l = sym (empty_stretch ls 0 0 (omega arith))
 joined M ls (p ∷ []) l = sym (empty_stretch ls p p (omega arith))
 joined M ls (p ∷ q ∷ ks) l =
-    let here = linked_above M ls q ks l.1 (last (q ∷ ks)) in
+    let here = linked_above no_margin M ls q ks l.1 (last (q ∷ ks)) in
     grind (arith, has_last (q ∷ ks), joined M ls (q ∷ ks) l.1, stretch_parts ls p q (last (q ∷ ks)))
 
 pub stretches_join : StretchesJoin

@@ -3,6 +3,7 @@ pub mod Directions
 pub mod DirectionLaws
 pub mod AmbiguityLaws
 pub mod MapRows
+pub mod MarginRows
 pub mod CommandLaws
 pub mod CommandRows
 pub mod RecordLaws

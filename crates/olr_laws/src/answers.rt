@@ -1,6 +1,7 @@
 //! The laws of answers and their location reference points (LRPs), and worked rows of LRPs and fields.
 ghost use Rattle.std.specs.Prelude.{◌≡◌, ℕ, pos, [], ◌∷◌, Some, None};
 ghost use Rattle.olr_spec.specs.Laws;
+ghost use Rattle.olr_spec.specs.Margins.{Margin};
 ghost use Rattle.olr_spec.specs.Reference.{kept_points, reference};
 ghost use Rattle.olr_spec.specs.Bytes.{reference_bytes};
 ghost use Rattle.olr_spec.specs.Decoded.{decoded};
@@ -11,18 +12,20 @@ ghost use Rattle.olr_laws.specs.Rows.{last_dropped_bytes, both_offsets_bytes, of
 pub fn laws_of_answers()
     ensures one_start_run { Laws.OneStartRun }
     ensures one_end_run { Laws.OneEndRun }
-    ensures one_next { Laws.OneNext }
-    ensures one_points { Laws.OnePoints }
-    ensures one_answer { Laws.OneAnswer }
-    ensures some_answer { Laws.SomeAnswer }
-    ensures fits { Laws.AnswerFits }
+    ensures one_next { (g : Margin) → Laws.OneNext g }
+    ensures one_points { (g : Margin) → Laws.OnePoints g }
+    ensures one_answer { (g : Margin) → Laws.OneAnswer g }
+    ensures some_answer { (g : Margin) → Laws.SomeAnswer g }
+    ensures fits { (g : Margin) → Laws.AnswerFits g }
 {}
 
 /// At least two location reference points (LRPs) remain after the offsets, the routes between them
-/// join to the path, and each is decoded near its coordinate on the map.
+/// join to the path, also on another map without other roads whose lengths are within the margin, and each is decoded near its
+/// coordinate on the map.
 pub fn laws_of_points()
-    ensures two_kept { Laws.TwoKept }
-    ensures routes_join { Laws.RoutesJoin }
+    ensures two_kept { (g : Margin) → Laws.TwoKept g }
+    ensures routes_join { (g : Margin) → Laws.RoutesJoin g }
+    ensures elsewhere { (g : Margin) → Laws.RoutesJoinElsewhere g }
     ensures decoded_near { Laws.DecodedNear }
     ensures decoded_points { Laws.DecodedPoints }
 {}

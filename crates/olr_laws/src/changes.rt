@@ -1,6 +1,7 @@
 //! The laws of footprints, changes and coverage queries, and worked rows of changed lines and queries.
 ghost use Rattle.std.specs.Prelude.{◌≡◌, ℕ, [], ◌∷◌};
 ghost use Rattle.olr_spec.specs.Laws;
+ghost use Rattle.olr_spec.specs.Margins.{Margin};
 ghost use Rattle.olr_spec.specs.Queries.{querying};
 ghost use Rattle.olr_spec.specs.Map.{empty_map, no_coord, Add_node, Add_line};
 ghost use Rattle.olr_spec.specs.Detours.{changes_of};
@@ -8,9 +9,9 @@ ghost use Rattle.olr_laws.specs.Rows.{leg10};
 
 /// An answer and its footprint depend only on the footprint and on the path's own lines.
 pub fn laws_of_footprints()
-    ensures answer { Laws.LocalAnswer }
-    ensures foot { Laws.LocalFoot }
-    ensures edits { Laws.EditsAreLocal }
+    ensures answer { (g : Margin) → Laws.LocalAnswer g }
+    ensures foot { (g : Margin) → Laws.LocalFoot g }
+    ensures edits { (g : Margin) → Laws.EditsAreLocal g }
 {}
 
 /// An edit makes no other difference than what it touches and changes, and the differences of
@@ -28,17 +29,17 @@ pub fn laws_of_changes()
 /// A path has exactly one list of coverage queries, and they determine its footprint; if edits
 /// affect neither these nor its traversed nodes, its answer is retained.
 pub fn laws_of_queries()
-    ensures one_last_tested { Laws.OneLastTested }
-    ensures some_last_tested { Laws.SomeLastTested }
-    ensures one { Laws.OneQueries }
-    ensures some { Laws.SomeQueries }
-    ensures foot { Laws.FootIsQueried }
-    ensures affected { Laws.FootAffected }
-    ensures queries { Laws.QueriesStay }
-    ensures known { Laws.KnownStays }
-    ensures kept { Laws.AnswersRetained }
-    ensures untouched { Laws.UntouchedRetained }
-    ensures known_kept { Laws.KnownRetained }
+    ensures one_last_tested { (g : Margin) → Laws.OneLastTested g }
+    ensures some_last_tested { (g : Margin) → Laws.SomeLastTested g }
+    ensures one { (g : Margin) → Laws.OneQueries g }
+    ensures some { (g : Margin) → Laws.SomeQueries g }
+    ensures foot { (g : Margin) → Laws.FootIsQueried g }
+    ensures affected { (g : Margin) → Laws.FootAffected g }
+    ensures queries { (g : Margin) → Laws.QueriesStay g }
+    ensures known { (g : Margin) → Laws.KnownStays g }
+    ensures kept { (g : Margin) → Laws.AnswersRetained g }
+    ensures untouched { (g : Margin) → Laws.UntouchedRetained g }
+    ensures known_kept { (g : Margin) → Laws.KnownRetained g }
 {}
 
 /// The LRPs with a coverage query: those whose line is followed by two or more lines.

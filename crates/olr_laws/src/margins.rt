@@ -1,8 +1,11 @@
 //! The laws of margins, and worked rows. The program keeps no margin: it encodes with 0 and 0.
-ghost use Rattle.std.specs.Prelude.{◌≡◌, ℕ, true, false};
+ghost use Rattle.std.specs.Prelude.{◌≡◌, ℕ, true, false, [], ◌∷◌};
 ghost use Rattle.olr_spec.specs.Laws;
 ghost use Rattle.olr_spec.specs.Margins.{allowed, counted_dm};
 ghost use Rattle.olr_spec.specs.Elsewhere.{suffices};
+ghost use Rattle.olr_spec.specs.Routes.{UniqueShortest};
+ghost use Rattle.olr_spec.specs.Points.{CoveredWith};
+ghost use Rattle.olr_laws.specs.MarginRows.{fifty, roads, roads_path, loop_map, loop_path};
 
 /// Where the lines of a route count longer and the route is the unique shortest path, each front of it is such a route;
 /// it is the unique shortest path of the map, and of another map, if this has no road that the first one lacks and the
@@ -31,4 +34,16 @@ pub fn rows_counted()
     ensures never { suffices (record { routes = 1000; classes = 7 }) 0 1000 ≡ false }
     ensures class { allowed (record { routes = 50; classes = 1 }) 3 ≡ 4 }
     ensures last_class { allowed (record { routes = 50; classes = 2 }) 6 ≡ 7 }
+{}
+
+/// From node 2 to node 3 line 20 has 1,000 dm and line 21 1,010 dm. Without a margin line 20 is covered; on a partner's map,
+/// where it has 1,012 dm and line 21 1,005 dm, it is not the way. With 50 thousandths it isn't covered, since it counts 1,050.
+/// In the loop line 11 has 100 dm, and the lines 14 and 15 of the same path have 100 dm together: only the lines between
+/// count longer, and not those of other legs, so line 11 isn't covered.
+#[tactic(auto, using(crate::proofs::MarginRowLemmas::covered_without, crate::proofs::MarginRowLemmas::elsewhere_other, crate::proofs::MarginRowLemmas::not_covered, crate::proofs::MarginRowLemmas::loop_not_covered))]
+pub fn rows_partner()
+    ensures here { UniqueShortest (roads 1000 1010) 2 3 (20 ∷ []) }
+    ensures there { ¬ UniqueShortest (roads 1012 1005) 2 3 (20 ∷ []) }
+    ensures not_covered { ¬ CoveredWith fifty (roads 1000 1010) roads_path 0 3 }
+    ensures own_alone { ¬ CoveredWith fifty loop_map loop_path 0 2 }
 {}

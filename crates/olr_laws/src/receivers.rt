@@ -1,6 +1,7 @@
 //! The laws of receivers, and worked rows of candidates.
 ghost use Rattle.std.specs.Prelude.{◌≡◌, ℕ, pos, negsuc, [], ◌∷◌, true, false};
 ghost use Rattle.olr_spec.specs.Laws;
+ghost use Rattle.olr_spec.specs.Margins.{Margin};
 ghost use Rattle.olr_spec.specs.Map.{IsMap};
 ghost use Rattle.olr_spec.specs.Bearings.{vector};
 ghost use Rattle.olr_spec.specs.Encoding.{Encodes, Points};
@@ -15,10 +16,12 @@ ghost use Rattle.olr_laws.specs.MapRows.{morning_map, morning_path, fork_map, fo
 ghost use Rattle.olr_laws.specs.MapRows.{fork10, degrees10, TakesOther};
 
 /// If the path's own line is distinct at each LRP, every receiver recovers the legs between the
-/// remaining LRPs; offsets are exact within a 256th of a leg. A node is the nearest if the others are
+/// remaining LRPs; on another map without other roads whose lengths and classes are within the margin each leg is recovered
+/// from the path's own lines at its LRPs; offsets are exact within a 256th of a leg. A node is the nearest if the others are
 /// at least three times the bound of decoding away.
 pub fn laws_of_receivers()
-    ensures recovered { Laws.Recovered }
+    ensures recovered { (g : Margin) → Laws.Recovered g }
+    ensures elsewhere { (g : Margin) → Laws.RecoveredElsewhere g }
     ensures stretches_join { Laws.StretchesJoin }
     ensures offsets { Laws.Offsets }
     ensures distances { Laws.Distances }

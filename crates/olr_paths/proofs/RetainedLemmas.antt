@@ -17,6 +17,7 @@ use Rattle.olr_spec.proofs.RouteLemmas.{dm_of-append}
 use Rattle.olr_spec.proofs.StayLemmas.{untouched_retained}
 use Rattle.olr_spec.proofs.TestedLemmas.{foot_affected}
 use Rattle.olr_spec.specs.Encoding.{path_fault, Refusal}
+use Rattle.olr_spec.specs.Margins.{no_margin}
 use Rattle.olr_spec.specs.Points.{stretch}
 use Rattle.olr_spec.specs.Queries.{QueriesOfExtended, TraversedOf, query_to, IsClear, IsQuery, Needed}
 
@@ -99,7 +100,7 @@ module _ {M N : Map} (n : IsMap N) {T X : List ℕ} {C : List ChangedLine} {is :
           answer = k.0 m.answer made.answer;
           traversed = λ v. ((λ o. (k.1 v).0 ((made.traversed v).0 o)), (λ o. (made.traversed v).1 ((k.1 v).1 o)));
           queries = k.2;
-          known = known_kept M N C d.there d.here P.lines m.queries clear m.known made.known;
+          known = known_kept no_margin M N C d.there d.here P.lines m.queries clear m.known made.known;
         }
 
     -- a detour begins with a route to a touched node

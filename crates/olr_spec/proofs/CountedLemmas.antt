@@ -3,16 +3,26 @@ use Rattle.olr_spec.proofs.Common.{◌≡◌, ℕ, ◌+◌, ◌*◌, ◌/◌, �
 use Rattle.olr_spec.proofs.Common.{Some, IsTrue, arith, ◌&&◌, ◌==◌, cases_eq, cases_Bool, eq-eqb, ne_eqb, get, Line}
 use Rattle.olr_spec.proofs.Common.{Map, has_line, line_at, start, end, dm, has, IsRoute, eqb-true}
 use Rattle.olr_spec.specs.Margins.{Margin, counted, counted_dm, counted_lines}
-use Rattle.olr_spec.proofs.EditLemmas.{got_same, got_other}
+use Rattle.olr_spec.proofs.Common.{cond_both, FinMap, nat_cmp, insert, get-insert, nat_cmp_total, unsigned_tied, ◌∙◌}
 
-abbrev longer : Margin → Line → Line
+abbrev pub longer : Margin → Line → Line
 longer g l = record l { len = counted_dm g l.len }
 
-get_counted : (g : Margin) (M : Map) (xs : List ℕ) (y : ℕ) →
+inserted : (m : FinMap nat_cmp Line) (k : ℕ) (v : Line) (q : ℕ) → get (insert m k v) q ≡ cond (q == k) (Some v) (get m q)
+inserted m k v q = get-insert nat_cmp_total m k v q ∙ ap (λ b. cond b (Some v) (get m q)) (unsigned_tied q k)
+
+pub get_counted : (g : Margin) (M : Map) (xs : List ℕ) (y : ℕ) →
     get (counted_lines g M xs) y ≡ cond (has xs y && has_line M y) (Some (longer g (line_at M y))) (get M.lines y)
 get_counted g M [] y = refl
 get_counted g M (x ∷ xs) y =
-    grind (arith, get_counted g M xs y, got_same, got_other, cases_eq x y, eq-eqb, ne_eqb, cases_Bool (has_line M x))
+    grind (arith, get_counted g M xs y, inserted, cases_eq x y, eq-eqb, ne_eqb, cases_Bool (has_line M x))
+
+-- without a margin it is the map, and so it is for no lines
+pub counted_zero : (g : Margin) (M : Map) (xs : List ℕ) → g.routes ≡ 0 → counted g M xs ≡ M
+counted_zero g M xs e = ap (λ r. cond (r == 0) M (record M { lines = counted_lines g M xs })) e
+
+pub counted_nil : (g : Margin) (M : Map) → counted g M [] ≡ M
+counted_nil g M = cond_both (g.routes == 0) M (record M { lines = M.lines }) (λ K. K ≡ M) (λ _. refl) (λ _. refl)
 
 pub counted_known : (g : Margin) (M : Map) (xs : List ℕ) (y : ℕ) → has_line (counted g M xs) y ≡ has_line M y
 counted_known g M xs y = grind (arith, get_counted g M xs y, cases_Bool (has xs y), cases_Bool (has_line M y), cases_Bool (g.routes == 0))

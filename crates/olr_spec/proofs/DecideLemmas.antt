@@ -1,17 +1,21 @@
 -- Each definition is decidable, so each path has an answer.
+use Rattle.olr_spec.specs.Margins.{no_margin}
+use Rattle.olr_spec.specs.Margins.{Margin, counted}
 use Rattle.olr_spec.proofs.Common.{◌⊎◌, inl, inr, ◌≡◌, ℕ, zero, suc, ◌+◌, true, false, List, ◌∷◌, ◌++◌, length, ◌<◌}
 use Rattle.olr_spec.proofs.Common.{◌≤◌, None, IsTrue, refl, ap, subst, arith, MatchOption, [], ◌≢◌, cases_lt, cases_eq}
 use Rattle.olr_spec.proofs.Common.{dec_le, Map, IsMap, has_line, end, dm, coord_at, lines_where, has, IsRoute, dm_of}
 use Rattle.olr_spec.proofs.Common.{UniqueShortest, Path, is_path, first, last, passing, MayPrecede, MayFollow}
 use Rattle.olr_spec.proofs.Common.{LongestStart, LongestEnd, Tried, from_start, taken_start, extended_path, limit}
-use Rattle.olr_spec.proofs.Common.{node_at, stretch, Covered, fit16, Candidate, ValidCandidate, Greatest, Next, To_end}
-use Rattle.olr_spec.proofs.Common.{To_valid, To_passing, Follow, Answer, Refused, path_fault, answer_by_points}
-use Rattle.olr_spec.proofs.Common.{Encoding, nat_eq, Bool-discrete, NoNext, OneUnique, SomeAnswer}
+use Rattle.olr_spec.proofs.Common.{node_at, stretch, CoveredWith, fit16, CandidateWith, ValidCandidateWith, Greatest, NextWith, To_end}
+use Rattle.olr_spec.proofs.Common.{To_valid, To_passing, FollowWith, Answer, Refused, path_fault, answer_by_points_with}
+use Rattle.olr_spec.proofs.Common.{EncodingWith, Bool-discrete, NoNextWith, OneUnique, SomeAnswer}
+use Rattle.olr_spec.proofs.ListLemmas.{dec_same}
+use Rattle.olr_spec.proofs.CountedLemmas.{counted_known, counted_least}
+use Rattle.olr_spec.proofs.Common.{min, slice_index, start, ◌-◌, sym, ◌∙◌}
 use Rattle.olr_spec.proofs.Facts.{positive, dm_of-append, Each, Each-nil, Each-cons, Each-head, Each-tail, Known}
 use Rattle.olr_spec.proofs.Facts.{AreRuns, no_longer, start_runs, end_runs, last_known, sound_lines, all_first}
 use Rattle.olr_spec.proofs.Facts.{all_last, path_nonempty, by_fault, EndRun-push, has_number}
 use Rattle.std.proofs.Math.Decide.{dec_lt, map_dec, ℕ_discrete}
-use lib.Pointwise.{pointwise, bytes_decides}
 
 -- ---- decidable propositions
 
@@ -65,18 +69,19 @@ route_numbers : (M : Map) (s t : ℕ) (xs : List ℕ) → IsRoute M s t xs → E
 route_numbers M s t [] w = grind (arith, Each-nil)
 route_numbers M s t (x ∷ xs) w = grind (arith, route_numbers M (end M x) t xs w.2, Each-cons, has_number)
 
-route_length : (M : Map) → IsMap M → (s t : ℕ) (xs : List ℕ) → IsRoute M s t xs → length xs ≤ dm_of M xs
-route_length M m s t [] w = omega arith
-route_length M m s t (x ∷ xs) w = omega (arith, positive M m x w.0, route_length M m (end M x) t xs w.2)
+-- each line has a length
+abbrev AllPositive : Map → Type 0
+AllPositive M = (x : ℕ) → IsTrue (has_line M x) → 0 < dm M x
 
-pub dec_same : (xs ys : List ℕ) → Dec (xs ≡ ys)
-dec_same xs ys = map_dec (bytes_decides xs ys).0 (bytes_decides xs ys).1 (Bool-discrete (pointwise nat_eq xs ys) true)
+route_length : (M : Map) → AllPositive M → (s t : ℕ) (xs : List ℕ) → IsRoute M s t xs → length xs ≤ dm_of M xs
+route_length M m s t [] w = omega arith
+route_length M m s t (x ∷ xs) w = omega (arith, m x w.0, route_length M m (end M x) t xs w.2)
 
 pub one_unique : OneUnique
 one_unique M s t xs ys p q =
     let cases = dec_same xs ys in grind (arith, cases)
 
-pub dec_Unique : (M : Map) → IsMap M → (s t : ℕ) (xs : List ℕ) → Dec (UniqueShortest M s t xs)
+dec_Unique : (M : Map) → AllPositive M → (s t : ℕ) (xs : List ℕ) → Dec (UniqueShortest M s t xs)
 dec_Unique M m s t xs =
     let Clear : List ℕ → Type 0 = λ w. ¬ (IsRoute M s t w × ((w ≢ xs) × (dm_of M w ≤ dm_of M xs))) in
     map_dec (λ p. record {
@@ -91,20 +96,29 @@ dec_Unique M m s t xs =
 
 -- ---- LRPs
 
-pub dec_Covered : (M : Map) → IsMap M → (ls : List ℕ) (i j : ℕ) → Dec (Covered M ls i j)
-dec_Covered M m ls i j = grind (arith, dec_lt, map_dec, dec_Unique)
+pub dec_Covered : (g : Margin) (M : Map) → IsMap M → (ls : List ℕ) (i j : ℕ) → Dec (CoveredWith g M ls i j)
+dec_Covered g M m ls i j =
+    let k = min j (length ls - 1) in
+    let xs = stretch ls (i + 1) k in
+    let longer : AllPositive (counted g M xs) = λ x h. let known = sym (counted_known g M xs x) ∙ h in
+    omega (arith, positive M m x known, counted_least g M xs x known) in
+    let unique = dec_Unique (counted g M xs) longer (end M (slice_index ls i)) (start M (slice_index ls k)) xs in
+    elim (dec_lt i k) [
+      | yes lt ↦ map_dec (λ u _. u) (λ c. c lt) unique
+      | no not_lt ↦ yes (λ lt. absurd (not_lt lt))
+    ]
 
-dec_Candidate : (M : Map) → IsMap M → (ls : List ℕ) (i j : ℕ) → Dec (Candidate M ls i j)
-dec_Candidate M m ls i j =
+dec_Candidate : (g : Margin) (M : Map) → IsMap M → (ls : List ℕ) (i j : ℕ) → Dec (CandidateWith g M ls i j)
+dec_Candidate g M m ls i j =
     map_dec (λ p. record { after = p.0.0; upto = p.0.1; covered = p.1.0; near = p.1.1.0; fits = p.1.1.1 })
     (λ c. ((c.after, c.upto), (c.covered, (c.near, c.fits))))
     (dec_and (dec_and (dec_lt i j) (dec_le j (length ls)))
-    (dec_and (dec_Covered M m ls i j)
+    (dec_and (dec_Covered g M m ls i j)
     (dec_and (dec_le (dm_of M (stretch ls i j)) limit)
     (Bool-discrete (fit16 (coord_at M (node_at M ls i)) (coord_at M (node_at M ls j))) true))))
 
-dec_Valid : (M : Map) → IsMap M → (ls : List ℕ) (i j : ℕ) → Dec (ValidCandidate M ls i j)
-dec_Valid M m ls i j = dec_and (dec_Candidate M m ls i j) (Bool-discrete (passing M (node_at M ls j)) false)
+dec_Valid : (g : Margin) (M : Map) → IsMap M → (ls : List ℕ) (i j : ℕ) → Dec (ValidCandidateWith g M ls i j)
+dec_Valid g M m ls i j = dec_and (dec_Candidate g M m ls i j) (Bool-discrete (passing M (node_at M ls j)) false)
 
 pub greatest_or_none : (Q : ℕ → Type 0) → ((k : ℕ) → Dec (Q k)) → (n : ℕ) → ((k : ℕ) → Q k → k < n) →
     ((j : ℕ) × Greatest Q j) ⊎ ((k : ℕ) → ¬ Q k)
@@ -115,13 +129,13 @@ greatest_or_none Q d (suc n) h = elim (d n) [
       (λ k q. elim (cases_eq k n) [ inl e ↦ absurd (f (subst Q e q)) | inr ne ↦ omega (arith, h k q) ])
 ]
 
-pub next_or_none : (M : Map) → IsMap M → (ls : List ℕ) (i : ℕ) → ((j : ℕ) × Next M ls i j) ⊎ NoNext M ls i
-next_or_none M m ls i = elim (dec_Candidate M m ls i (length ls)) [
+pub next_or_none : (g : Margin) (M : Map) → IsMap M → (ls : List ℕ) (i : ℕ) → ((j : ℕ) × NextWith g M ls i j) ⊎ NoNextWith g M ls i
+next_or_none g M m ls i = elim (dec_Candidate g M m ls i (length ls)) [
   | yes c ↦ inl (length ls, To_end refl c)
-  | no f ↦ elim (greatest_or_none (ValidCandidate M ls i) (dec_Valid M m ls i) (suc (length ls))
+  | no f ↦ elim (greatest_or_none (ValidCandidateWith g M ls i) (dec_Valid g M m ls i) (suc (length ls))
       (λ k c. omega arith)) [
         | inl g ↦ inl (g.0, To_valid f g.1)
-        | inr none ↦ elim (greatest_or_none (Candidate M ls i) (dec_Candidate M m ls i) (suc (length ls))
+        | inr none ↦ elim (greatest_or_none (CandidateWith g M ls i) (dec_Candidate g M m ls i) (suc (length ls))
             (λ k c. omega arith)) [
               | inl g ↦ inl (g.0, To_passing f none g.1)
               | inr h ↦ inr h
@@ -129,14 +143,14 @@ next_or_none M m ls i = elim (dec_Candidate M m ls i (length ls)) [
       ]
 ]
 
-next_after : (M : Map) (ls : List ℕ) (i j : ℕ) → Next M ls i j → (i < j) × (j ≤ length ls)
+next_after : {g : Margin} (M : Map) (ls : List ℕ) (i j : ℕ) → NextWith g M ls i j → (i < j) × (j ≤ length ls)
 next_after M ls i j n = grind arith
 
-pub some_follow : (M : Map) → IsMap M → (ls : List ℕ) (fuel i : ℕ) → length ls ≤ i + fuel → (js : List ℕ) × Follow M ls i js
-some_follow M m ls zero i h = ([], λ j c. absurd (omega arith))
-some_follow M m ls (suc fuel) i h = elim (next_or_none M m ls i) [
+pub some_follow : (g : Margin) (M : Map) → IsMap M → (ls : List ℕ) (fuel i : ℕ) → length ls ≤ i + fuel → (js : List ℕ) × FollowWith g M ls i js
+some_follow g M m ls zero i h = ([], λ j c. absurd (omega arith))
+some_follow g M m ls (suc fuel) i h = elim (next_or_none g M m ls i) [
   | inl n ↦
-      let r = some_follow M m ls fuel n.0 (omega (arith, next_after M ls i n.0 n.1)) in
+      let r = some_follow g M m ls fuel n.0 (omega (arith, next_after M ls i n.0 n.1)) in
       (n.0 ∷ r.0, (n.1, r.1))
   | inr none ↦ ([], none)
 ]
@@ -193,18 +207,23 @@ some_tried M m P n f l =
 
 -- ---- an answer
 
-pub some_encoding : (M : Map) → IsMap M → (P : Path) → IsTrue (is_path P.lines) → path_fault M P ≡ None → (A : Answer)
-    × Encoding M P A
-some_encoding M m P is e =
+pub some_encoding : (g : Margin) (M : Map) → IsMap M → (P : Path) → IsTrue (is_path P.lines) → path_fault M P ≡ None → (A : Answer)
+    × EncodingWith g M P A
+some_encoding g M m P is e =
     let n = path_nonempty P.lines is in
     let known = sound_lines M P e in
     let t = some_tried M m P n (all_first (Known M) P.lines n known) (all_last (Known M) P.lines n known) in
     let E = extended_path M P t.0 t.1 in
-    let js = some_follow M m E.lines (length E.lines) 0 (omega arith) in
-    let p : Encoding M P (answer_by_points M E js.0) = grind (arith) in
-    (answer_by_points M E js.0, p)
+    let js = some_follow g M m E.lines (length E.lines) 0 (omega arith) in
+    let p : EncodingWith g M P (answer_by_points_with g M E js.0) = grind (arith) in
+    (answer_by_points_with g M E js.0, p)
 
-pub some_answer : SomeAnswer
-some_answer M m P is =
-    by_fault M P (λ o. (A : Answer) × MatchOption o (Encoding M P A) (λ r. A ≡ Refused r)) (some_encoding M m P is)
+pub some_answer_with : (g : Margin) → SomeAnswer g
+some_answer_with g M m P is =
+    by_fault M P (λ o. (A : Answer) × MatchOption o (EncodingWith g M P A) (λ r. A ≡ Refused r)) (some_encoding g M m P is)
     (λ r. (Refused r, refl))
+
+-- ---- without a margin
+
+pub some_answer : SomeAnswer no_margin
+some_answer = some_answer_with no_margin

@@ -2,14 +2,13 @@
 -- same.
 use Rattle.olr_spec.proofs.Common.{inl, inr, ◌≡◌, ◌≢◌, ◌⊎◌, ℕ, ◌+◌, ◌-◌, ◌*◌, ◌≤◌, ◌<◌, Bool, true, false, List, [], ◌∷◌, ◌++◌, refl, sym, ap, ◌∙◌, not, subst}
 use Rattle.olr_spec.proofs.Common.{arith, IsTrue, ◌&&◌, ◌==◌, cases_Bool, has, none_twice, and_parts, and_from, Map, IsMap, has_line, end, dm, dm_of, IsRoute, LrpRoute, leb-true, le-leb, list_any-append, append_assoc, UniqueShortest}
-use Rattle.olr_spec.proofs.ListLemmas.{Each, Each-head, Each-tail, Each-nil, Each-cons, has_cases}
+use Rattle.olr_spec.proofs.ListLemmas.{Each, Each-head, Each-tail, Each-nil, Each-cons, has_cases, dec_same}
 use Rattle.olr_spec.proofs.RouteLemmas.{positive, IsRoute-split, IsRoute-append, dm_of-append, prefix_of_unique}
-use Rattle.olr_spec.proofs.DecideLemmas.{dec_same}
 use Rattle.olr_spec.proofs.WayLemmas.{route_known}
-use Rattle.olr_spec.specs.Margins.{Margin, counted, counted_dm}
+use Rattle.olr_spec.specs.Margins.{Margin, counted, counted_dm, CountedRoute, IsSoundFor}
 use Rattle.olr_spec.specs.Laws.{CountedIsUnique}
 use Rattle.olr_spec.specs.Elsewhere.{HasNoOther, IsNearly, suffices}
-use Rattle.olr_spec.proofs.CountedLemmas.{counted_other, counted_own, counted_route, route_counted, counted_least}
+use Rattle.olr_spec.proofs.CountedLemmas.{counted_other, counted_own, counted_route, route_counted, counted_least, counted_zero}
 use Rattle.olr_spec.proofs.OwnSums.{total, parts_total, exchange, others_most}
 use Rattle.std.proofs.Math.Nat.{mul-le-mul_left, mul-le-mul_right, mul-add, lt_of_mul-lt-mul_left}
 
@@ -272,3 +271,11 @@ module _ (g : Margin) (M : Map) (m : IsMap M) (s v t : ℕ) (xs rest : List ℕ)
                 omega (arith, part.others ys (counted_route g M (xs ++ rest) s v ys here) ne, front_same, same_counts ys (route_known M s v ys here) none)
             | inr p ↦ over_later ys here p
           ]
+
+-- the same without a margin on any map
+pub counted_part : (g : Margin) (M : Map) → IsSoundFor g M → (s v t : ℕ) (xs rest : List ℕ) → CountedRoute g M s t (xs ++ rest) →
+    IsRoute M s v xs → IsRoute M v t rest → CountedRoute g M s v xs
+counted_part g M (inl e) s v t xs rest u w z =
+    subst (λ (K : Map). LrpRoute K s v xs) (sym (counted_zero g M xs e))
+    (prefix_of_unique M s v t xs rest (subst (λ (K : Map). LrpRoute K s t (xs ++ rest)) (counted_zero g M (xs ++ rest) e) u) w z)
+counted_part g M (inr m) s v t xs rest u w z = counted_front g M m s v t xs rest u w z

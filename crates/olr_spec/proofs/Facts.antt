@@ -1,10 +1,10 @@
 -- The lemmas that most proofs of olr_spec cite, passed on from one place. Declares nothing.
 pub use Rattle.olr_spec.proofs.AgreeLemmas.{by_entering, known_record, same_coord, same_dm_of, same_end, same_known}
 pub use Rattle.olr_spec.proofs.AgreeLemmas.{same_passing, same_record, same_start, some_is}
-pub use Rattle.olr_spec.proofs.AnswerLemmas.{all_first, all_last, by_fault, map_None, one_answer, one_follow, one_next}
+pub use Rattle.olr_spec.proofs.AnswerLemmas.{all_first, all_last, by_fault, map_None, one_answer, one_answer_with, one_follow, one_next}
 pub use Rattle.olr_spec.proofs.AnswerLemmas.{or_None, path_also, path_at, path_nonempty, same_by, sound_lines}
-pub use Rattle.olr_spec.proofs.JoinLemmas.{Linked, RouteTo, between, between_is, empty_stretch, follow_linked}
-pub use Rattle.olr_spec.proofs.JoinLemmas.{joins_last, joins_to, kept_linked, routes_join, stretch_first}
+pub use Rattle.olr_spec.proofs.JoinLemmas.{Linked, LinkedWith, RouteTo, between, between_is, empty_stretch, follow_linked, follow_linked_with}
+pub use Rattle.olr_spec.proofs.JoinLemmas.{joins_last, joins_to, kept_linked, kept_linked_with, routes_join, stretch_first}
 pub use Rattle.olr_spec.proofs.KeptLemmas.{back_within, dm_along-append, dm_along-legs, front_within, two_kept, whole}
 pub use Rattle.olr_spec.proofs.ListLemmas.{Contains-cases, Contains-here, Contains-later, Each, Each-append, Each-cons}
 pub use Rattle.olr_spec.proofs.ListLemmas.{Each-from, Each-head, Each-left, Each-nil, Each-push, Each-range, Each-right}
@@ -16,7 +16,7 @@ pub use Rattle.olr_spec.proofs.OrderLemmas.{exactly_in, exactly_out, has-all_nod
 pub use Rattle.olr_spec.proofs.RouteLemmas.{IsRoute-append, IsRoute-split, dm_of-append, empty_least, empty_unique}
 pub use Rattle.olr_spec.proofs.RouteLemmas.{longer, not_before_itself, nothing_below_nil, one_least, positive}
 pub use Rattle.olr_spec.proofs.RouteLemmas.{prefix_of_least, prefix_of_unique, unique_least}
-pub use Rattle.olr_spec.proofs.RouteMoves.{IsRoute-moves, clear_unique, near_same, part_stays, reach_same, routes_same}
+pub use Rattle.olr_spec.proofs.RouteMoves.{IsRoute-moves, clear_unique, near_same, reach_same, routes_same}
 pub use Rattle.olr_spec.proofs.RouteMoves.{same_there, unique_same, within, within_other}
 pub use Rattle.olr_spec.proofs.RunLemmas.{AreRuns, end_runs, extended_keeps, last_known, last_push, no_longer, one_end}
 pub use Rattle.olr_spec.proofs.RunLemmas.{one_start, one_tried, start_runs}

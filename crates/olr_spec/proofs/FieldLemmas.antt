@@ -1,15 +1,16 @@
 -- The fields of an answer fit their bits.
+use Rattle.olr_spec.specs.Margins.{Margin}
 use Rattle.olr_spec.proofs.Common.{◌≡◌, ℕ, suc, ◌+◌, ◌-◌, ◌*◌, ◌/◌, max, ℤ, min, Bool, true, false, List, ◌∷◌, length}
 use Rattle.olr_spec.proofs.Common.{take, drop, map, ◌<◌, ◌≤◌, Some, None, IfSome, unwrap_or, IsTrue, ap, ◌∙◌, arith}
 use Rattle.olr_spec.proofs.Common.{◌==◌, take-add, [], ltb-true, fold, find, slice_range, cases_Bool, cases_lt}
 use Rattle.olr_spec.proofs.Common.{and_parts, and_from, cond_both, nat_tests, length-map, get_or-map, AllByRecursion}
 use Rattle.olr_spec.proofs.Common.{Coord, is_coord, abs24, relative, fits16, Map, IsMap, line_at, coord_at, has, dm_of}
-use Rattle.olr_spec.proofs.Common.{node_at, stretch, Candidate, Leg, up_to, vector, boundary, lies_between, leg, legs}
+use Rattle.olr_spec.proofs.Common.{node_at, stretch, CandidateWith, Leg, up_to, vector, boundary, lies_between, leg, legs}
 use Rattle.olr_spec.proofs.Common.{no_leg, leg_at, position, dm_along, dm_between, from_front, last_where, first_where}
-use Rattle.olr_spec.proofs.Common.{attrs, last_two, middle_points, offset, last_point, AreAttrs, IsMiddle, IsLast}
+use Rattle.olr_spec.proofs.Common.{attrs_with, last_two, middle_points_with, offset, last_point, AreAttrs, IsMiddle, IsLast}
 use Rattle.olr_spec.proofs.Common.{fits24, get_or_past, take-map, drop-map, Scaled, scaled_coord, bearing, sector}
 use Rattle.olr_spec.proofs.Facts.{Each, Each-nil, Each-cons, Each-head, Each-tail, Each-range, has_index, has_here}
-use Rattle.olr_spec.proofs.Facts.{last_index, has_there, has_cases, Known, Linked, dm_along-legs, dm_along-append}
+use Rattle.olr_spec.proofs.Facts.{last_index, has_there, has_cases, Known, LinkedWith, dm_along-legs, dm_along-append}
 use Rattle.std.proofs.Common.{div-lt_iff_lt-mul}
 use Rattle.olr_spec.proofs.SectorLemmas.{up_to_below, le_yes, le_test}
 use Rattle.olr_spec.specs.Reference as fields
@@ -17,51 +18,51 @@ use Rattle.olr_spec.specs.Reference as fields
 -- ---- which LRPs remain
 
 -- each LRP is the first of them or after it
-pub linked_above : (M : Map) (ls : List ℕ) (p : ℕ) (ks : List ℕ) → Linked M ls (p ∷ ks) → Each (λ k. p ≤ k) (p ∷ ks)
-linked_above M ls p [] l = Each-cons (λ k. p ≤ k) p [] (omega arith) (Each-nil (λ k. p ≤ k))
-linked_above M ls p (q ∷ ks) l = grind (arith, Each-cons, (linked_above M ls q ks l.1))
+pub linked_above : (g : Margin) (M : Map) (ls : List ℕ) (p : ℕ) (ks : List ℕ) → LinkedWith g M ls (p ∷ ks) → Each (λ k. p ≤ k) (p ∷ ks)
+linked_above g M ls p [] l = Each-cons (λ k. p ≤ k) p [] (omega arith) (Each-nil (λ k. p ≤ k))
+linked_above g M ls p (q ∷ ks) l = grind (arith, Each-cons, (linked_above g M ls q ks l.1))
 
-pub linked_last : (M : Map) (ls : List ℕ) (p q : ℕ) (ks : List ℕ) → Linked M ls (p ∷ q ∷ ks) →
+pub linked_last : (g : Margin) (M : Map) (ls : List ℕ) (p q : ℕ) (ks : List ℕ) → LinkedWith g M ls (p ∷ q ∷ ks) →
     Each (λ k. k ≤ (last_two p q ks).1) (p ∷ q ∷ ks)
-linked_last M ls p q [] l = grind (arith, Each-cons, Each-nil)
-linked_last M ls p q (r ∷ ks) l = grind (arith, linked_last M ls q r ks l.1, Each-cons, has_here q (r ∷ ks))
+linked_last g M ls p q [] l = grind (arith, Each-cons, Each-nil)
+linked_last g M ls p q (r ∷ ks) l = grind (arith, linked_last g M ls q r ks l.1, Each-cons, has_here q (r ∷ ks))
 
 pub has_last_two : (p q : ℕ) (ks : List ℕ) → (has (p ∷ q ∷ ks) (last_two p q ks).0 ≡ true)
     × (has (p ∷ q ∷ ks) (last_two p q ks).1 ≡ true)
 has_last_two p q [] = (has_here p (q ∷ []), has_there p (q ∷ []) q (has_here q []))
 has_last_two p q (r ∷ ks) = grind (arith, has_there, (has_last_two q r ks))
 
-pub last_two_linked : (M : Map) (ls : List ℕ) (p q : ℕ) (ks : List ℕ) → Linked M ls (p ∷ q ∷ ks) →
-    Candidate M ls (last_two p q ks).0 (last_two p q ks).1
-last_two_linked M ls p q [] l = l.0
-last_two_linked M ls p q (r ∷ ks) l = last_two_linked M ls q r ks l.1
+pub last_two_linked : (g : Margin) (M : Map) (ls : List ℕ) (p q : ℕ) (ks : List ℕ) → LinkedWith g M ls (p ∷ q ∷ ks) →
+    CandidateWith g M ls (last_two p q ks).0 (last_two p q ks).1
+last_two_linked g M ls p q [] l = l.0
+last_two_linked g M ls p q (r ∷ ks) l = last_two_linked g M ls q r ks l.1
 
 pub has_last_where : (test : ℕ → Bool) (d : ℕ) (xs : List ℕ) → has (d ∷ xs) (last_where test d xs) ≡ true
 has_last_where test d [] = has_here d []
 has_last_where test d (x ∷ xs) =
     grind (arith, cond_both, has_there, has_cases, has_here, (has_last_where test x xs), (has_last_where test d xs))
 
-at_least : (M : Map) (ls : List ℕ) (test : ℕ → Bool) (d q : ℕ) (ks : List ℕ) → Linked M ls (q ∷ ks) → d ≤ q →
+at_least : (g : Margin) (M : Map) (ls : List ℕ) (test : ℕ → Bool) (d q : ℕ) (ks : List ℕ) → LinkedWith g M ls (q ∷ ks) → d ≤ q →
     d ≤ last_where test d (q ∷ ks)
-at_least M ls test d q ks l h =
+at_least g M ls test d q ks l h =
     grind (arith, (has_cases d (q ∷ ks) (last_where test d (q ∷ ks)) (has_last_where test d (q ∷ ks))), linked_above)
 
 -- after the last that passes, none passes
-pub none_after : (M : Map) (ls : List ℕ) (test : ℕ → Bool) (d p : ℕ) (ks : List ℕ) → Linked M ls (p ∷ ks) → d ≤ p →
+pub none_after : (g : Margin) (M : Map) (ls : List ℕ) (test : ℕ → Bool) (d p : ℕ) (ks : List ℕ) → LinkedWith g M ls (p ∷ ks) → d ≤ p →
     (k : ℕ) → has (p ∷ ks) k ≡ true → last_where test d (p ∷ ks) < k → test k ≡ false
-none_after M ls test d p [] l h k i lt = grind (arith, has_cases, cond_both)
-none_after M ls test d p (q ∷ ks) l h k i lt =
-    let here = none_after M ls test p q ks l.1 in
-    let there = none_after M ls test d q ks l.1 in
-    grind (arith, cases_Bool (test p), has_cases p (q ∷ ks) k i, at_least M ls test p q ks l.1)
+none_after g M ls test d p [] l h k i lt = grind (arith, has_cases, cond_both)
+none_after g M ls test d p (q ∷ ks) l h k i lt =
+    let here = none_after g M ls test p q ks l.1 in
+    let there = none_after g M ls test d q ks l.1 in
+    grind (arith, cases_Bool (test p), has_cases p (q ∷ ks) k i, at_least g M ls test p q ks l.1)
 
 -- before the first that passes, none passes
-pub none_before : (M : Map) (ls : List ℕ) (test : ℕ → Bool) (d p : ℕ) (ks : List ℕ) → Linked M ls (p ∷ ks) → (k : ℕ) →
+pub none_before : (g : Margin) (M : Map) (ls : List ℕ) (test : ℕ → Bool) (d p : ℕ) (ks : List ℕ) → LinkedWith g M ls (p ∷ ks) → (k : ℕ) →
     has (p ∷ ks) k ≡ true → k < first_where test d (p ∷ ks) → test k ≡ false
-none_before M ls test d p [] l k i lt = grind (arith, has_cases, cond_both)
-none_before M ls test d p (q ∷ ks) l k i lt =
-    let here = none_before M ls test d q ks l.1 k in
-    grind (arith, cases_Bool (test p), has_cases p (q ∷ ks) k i, linked_above M ls p (q ∷ ks) l k)
+none_before g M ls test d p [] l k i lt = grind (arith, has_cases, cond_both)
+none_before g M ls test d p (q ∷ ks) l k i lt =
+    let here = none_before g M ls test d q ks l.1 k in
+    grind (arith, cases_Bool (test p), has_cases p (q ∷ ks) k i, linked_above g M ls p (q ∷ ks) l k)
 
 -- ---- parts
 
@@ -117,32 +118,32 @@ module _ (M : Map) (m : IsMap M) (ls : List ℕ) (known : Each (Known M) ls) whe
       let here = greatest_below (max a (line_at M x).frc) xs (Each-tail (Known M) x xs h) in
       grind (arith, Each-head (Known M) x xs h, nat_tests, and_parts)
 
-  pub attrs_fit : (i j : ℕ) → Candidate M ls i j → AreAttrs (attrs (legs M ls) i j)
-  attrs_fit i j c =
-      let here = greatest_below 0 (stretch ls i j) (Each-range (Known M) ls i j known) in
-      let there = bearing_below (leg_at (legs M ls) i).begin
-      (scaled_coord (leg_at (legs M ls) i) (min 200 (leg_at (legs M ls) i).line.len)) in
-      grind (arith, dm_same i j, leg_at_good i, range_legs i j)
-
   -- ---- positions
 
   pub position_is : (i : ℕ) → 0 < length ls → position (legs M ls) i ≡ coord_at M (node_at M ls i)
   position_is i n = grind (arith, length-map, get_or-map, ltb-true, last_index)
 
-  relative_fits : (i j : ℕ) → 0 < length ls → Candidate M ls i j →
+-- with a margin
+module _ (g : Margin) (M : Map) (m : IsMap M) (ls : List ℕ) (known : Each (Known M) ls) where
+  pub attrs_fit : (i j : ℕ) → CandidateWith g M ls i j → AreAttrs (attrs_with g (legs M ls) i j)
+  attrs_fit i j c =
+      let here = greatest_below M m ls known 0 (stretch ls i j) (Each-range (Known M) ls i j known) in
+      let there = bearing_below (leg_at (legs M ls) i).begin
+      (scaled_coord (leg_at (legs M ls) i) (min 200 (leg_at (legs M ls) i).line.len)) in
+      grind (arith, dm_same M m ls known i j, leg_at_good M m ls known i, range_legs M m ls known i j)
+
+  relative_fits : (i j : ℕ) → 0 < length ls → CandidateWith g M ls i j →
       IsTrue (fits16 (relative (position (legs M ls) i).lon (position (legs M ls) j).lon))
       × IsTrue (fits16 (relative (position (legs M ls) i).lat (position (legs M ls) j).lat))
-  relative_fits i j n c = grind (arith, position_is, and_parts)
+  relative_fits i j n c = grind (arith, position_is M m ls known, and_parts)
 
-  -- ---- the LRPs
-
-  pub middles_fit : (h i : ℕ) (js : List ℕ) → 0 < length ls → Linked M ls (h ∷ i ∷ js) →
-      AllByRecursion IsMiddle (middle_points (legs M ls) h i js)
+  pub middles_fit : (h i : ℕ) (js : List ℕ) → 0 < length ls → LinkedWith g M ls (h ∷ i ∷ js) →
+      AllByRecursion IsMiddle (middle_points_with g (legs M ls) h i js)
   middles_fit h i [] n l = tt
   middles_fit h i (j ∷ js) n l = grind (arith, relative_fits h i n l.0, attrs_fit i j l.1.0, middles_fit i j js n l.1)
 
-  pub last_fits : (h i : ℕ) → 0 < length ls → Candidate M ls h i → IsLast (fields.last_point (legs M ls) h i)
-  last_fits h i n c = grind (arith, relative_fits h i n c, leg_at_good (i - 1), bearing_below)
+  pub last_fits : (h i : ℕ) → 0 < length ls → CandidateWith g M ls h i → IsLast (fields.last_point (legs M ls) h i)
+  last_fits h i n c = grind (arith, relative_fits h i n c, leg_at_good M m ls known (i - 1), bearing_below)
 
 -- ---- offsets
 

@@ -1,41 +1,44 @@
 -- The fields of an answer's reference fit, so it can be encoded as bytes.
+use Rattle.olr_spec.specs.Margins.{no_margin}
+use Rattle.olr_spec.proofs.Common.{Follow, reference}
+use Rattle.olr_spec.specs.Margins.{Margin}
 use Rattle.olr_spec.proofs.Common.{◌≡◌, ℕ, ◌+◌, ◌-◌, true, List, ◌∷◌, length, ◌<◌, ◌≤◌, None, IsTrue, sym, ap, ◌∙◌}
 use Rattle.olr_spec.proofs.Common.{subst, arith, nat_le, length-append, [], eqb-true, leb-false, cases_Bool, cond_both}
 use Rattle.olr_spec.proofs.Common.{length-map, Map, IsMap, has, dm_of, Path, Tried, is_path, extended_path, from_start}
-use Rattle.olr_spec.proofs.Common.{taken_start, taken_end, Follow, last_position, Reference, leg, legs, dm_between}
-use Rattle.olr_spec.proofs.Common.{from_front, to_back, first_kept, last_kept, kept_points, last_two, reference_by}
-use Rattle.olr_spec.proofs.Common.{reference, Points, path_fault, answer_by_points, Encoding, Encodes, IsReference}
+use Rattle.olr_spec.proofs.Common.{taken_start, taken_end, FollowWith, last_position, Reference, leg, legs, dm_between}
+use Rattle.olr_spec.proofs.Common.{from_front, to_back, first_kept, last_kept, kept_points, last_two, reference_by_with}
+use Rattle.olr_spec.proofs.Common.{reference_with, Points, path_fault, answer_by_points_with, EncodingWith, EncodesWith, IsReference}
 use Rattle.olr_spec.proofs.Common.{AnswerFits}
 use Rattle.olr_spec.proofs.Facts.{dm_of-append, Each, Each-append, Each-from, has_here, has_there, has_cases}
 use Rattle.olr_spec.proofs.Facts.{has_filter, filter_has, Known, sound_lines, path_nonempty, or_None, by_fault}
-use Rattle.olr_spec.proofs.Facts.{StartRun-known, EndRun-known, Linked, follow_linked, kept_linked, between, between_is}
+use Rattle.olr_spec.proofs.Facts.{StartRun-known, EndRun-known, LinkedWith, follow_linked_with, kept_linked_with, between, between_is}
 use Rattle.olr_spec.proofs.Facts.{whole, front_within, back_within, two_kept}
 use Rattle.olr_spec.proofs.PointMoves.{Each-cond}
 use Rattle.olr_spec.proofs.FieldLemmas.{linked_above, linked_last, has_last_two, last_two_linked, has_last_where}
 use Rattle.olr_spec.proofs.FieldLemmas.{none_after, none_before, attrs_fit, first_fits, middles_fit, last_fits}
 use Rattle.olr_spec.proofs.FieldLemmas.{offset_fits, from_front-add}
 
-module _ (M : Map) (m : IsMap M) (ls : List ℕ) (known : Each (Known M) ls) (n : 0 < length ls)
+module _ (g : Margin) (M : Map) (m : IsMap M) (ls : List ℕ) (known : Each (Known M) ls) (n : 0 < length ls)
     (positive negative a b : ℕ) (two : a < b)
     (front : from_front (legs M ls) a ≤ positive) (back : to_back (legs M ls) b ≤ negative) where
-  by_kept : (ks : List ℕ) → Linked M ls ks → has ks a ≡ true → has ks b ≡ true → Each (λ k. a ≤ k) ks → Each (λ k. k ≤ b) ks
+  by_kept : (ks : List ℕ) → LinkedWith g M ls ks → has ks a ≡ true → has ks b ≡ true → Each (λ k. a ≤ k) ks → Each (λ k. k ≤ b) ks
       → Each (λ k. a < k → positive < from_front (legs M ls) k) ks → Each (λ k. k < b → negative < to_back (legs M ls) k) ks
-      → IsReference (reference_by (legs M ls) (positive - from_front (legs M ls) a) (negative - to_back (legs M ls) b) ks)
+      → IsReference (reference_by_with g (legs M ls) (positive - from_front (legs M ls) a) (negative - to_back (legs M ls) b) ks)
   by_kept [] l ha hb above below after before = absurd cc
   by_kept (h ∷ []) l ha hb above below after before = grind (arith, has_cases h [] a ha, has_cases h [] b hb)
   by_kept (h ∷ i ∷ ks) l ha hb above below after before =
       let gs = legs M ls in
       let t = last_two h i ks in
-      let c = last_two_linked M ls h i ks l in
+      let c = last_two_linked g M ls h i ks l in
       let hx = has_last_two h i ks in
-      let first : h ≡ a = omega (arith, linked_above M ls h (i ∷ ks) l a ha, above h (has_here h (i ∷ ks))) in
-      let last : t.1 ≡ b = omega (arith, linked_last M ls h i ks l b hb, below t.1 hx.1) in
+      let first : h ≡ a = omega (arith, linked_above g M ls h (i ∷ ks) l a ha, above h (has_here h (i ∷ ks))) in
+      let last : t.1 ≡ b = omega (arith, linked_last g M ls h i ks l b hb, below t.1 hx.1) in
       let far = after i (has_there h (i ∷ ks) i (has_here i ks)) (omega arith) in
       let far_back = before t.0 hx.0 (omega arith) in
       record {
-        first = grind (arith, first_fits M m ls known h, attrs_fit M m ls known h i l.0);
-        middle = middles_fit M m ls known h i ks n l;
-        last = last_fits M m ls known t.0 t.1 n c;
+        first = grind (arith, first_fits M m ls known h, attrs_fit g M m ls known h i l.0);
+        middle = middles_fit g M m ls known h i ks n l;
+        last = last_fits g M m ls known t.0 t.1 n c;
         pos = offset_fits (positive - from_front gs a) (dm_between gs h i)
             (omega (arith, ap (from_front gs) first, from_front-add gs h i (omega arith)));
         neg = offset_fits (negative - to_back gs b) (dm_between gs t.0 t.1)
@@ -43,30 +46,30 @@ module _ (M : Map) (m : IsMap M) (ls : List ℕ) (known : Each (Known M) ls) (n 
       }
 
 -- the first and the last LRP by the offsets are among those that remain
-pub kept_ends : (M : Map) (ls js : List ℕ) (positive negative : ℕ) → Follow M ls 0 js → last_position 0 js ≡ length ls →
+pub kept_ends : (g : Margin) (M : Map) (ls js : List ℕ) (positive negative : ℕ) → FollowWith g M ls 0 js → last_position 0 js ≡ length ls →
     positive + negative < dm_of M ls
     → (has (kept_points (legs M ls) positive negative js) (first_kept (legs M ls) positive js) ≡ true)
     × (has (kept_points (legs M ls) positive negative js) (last_kept (legs M ls) negative js) ≡ true)
-kept_ends M ls js positive negative f e less =
-    let here = two_kept M ls js positive negative f e less in
+kept_ends g M ls js positive negative f e less =
+    let here = two_kept g M ls js positive negative f e less in
     grind (arith, has_last_where, back_within, filter_has, has_here 0 js, has_cases 0 (0 ∷ js), length-map ls (leg M))
 
-pub reference_fits : (M : Map) → IsMap M → (ls : List ℕ) → Each (Known M) ls → 0 < length ls →
-    (js : List ℕ) (positive negative : ℕ) → Follow M ls 0 js → last_position 0 js ≡ length ls → positive + negative < dm_of M ls
-    → IsReference (reference (legs M ls) positive negative js)
-reference_fits M m ls known n js positive negative f e less =
+pub reference_fits_with : (g : Margin) (M : Map) → IsMap M → (ls : List ℕ) → Each (Known M) ls → 0 < length ls →
+    (js : List ℕ) (positive negative : ℕ) → FollowWith g M ls 0 js → last_position 0 js ≡ length ls → positive + negative < dm_of M ls
+    → IsReference (reference_with g (legs M ls) positive negative js)
+reference_fits_with g M m ls known n js positive negative f e less =
     let gs = legs M ls in
     let a = first_kept gs positive js in
     let b = last_kept gs negative js in
-    let l = follow_linked M ls 0 js f in
-    let two = two_kept M ls js positive negative f e less in
-    let ends = kept_ends M ls js positive negative f e less in
+    let l = follow_linked_with g M ls 0 js f in
+    let two = two_kept g M ls js positive negative f e less in
+    let ends = kept_ends g M ls js positive negative f e less in
     let back = (back_within gs negative js (e ∙ sym (length-map ls (leg M)))).1 in
     let kept = has_filter (between a b) (0 ∷ js) in
-    let after = none_after M ls (λ i. nat_le (from_front gs i) positive) 0 0 js l in
-    let before = none_before M ls (λ i. nat_le (to_back gs i) negative) 0 0 js l in
-    by_kept M m ls known n positive negative a b two (front_within gs positive js) back (kept_points gs positive negative js)
-    (kept_linked M ls a b (0 ∷ js) l) ends.0 ends.1 (λ k h. grind (arith, kept k h, between_is a b k))
+    let after = none_after g M ls (λ i. nat_le (from_front gs i) positive) 0 0 js l in
+    let before = none_before g M ls (λ i. nat_le (to_back gs i) negative) 0 0 js l in
+    by_kept g M m ls known n positive negative a b two (front_within gs positive js) back (kept_points gs positive negative js)
+    (kept_linked_with g M ls a b (0 ∷ js) l) ends.0 ends.1 (λ k h. grind (arith, kept k h, between_is a b k))
     (λ k h. grind (arith, kept k h, between_is a b k))
     (λ k h lt. grind (arith, kept k h, leb-false (from_front gs k) positive, after (omega arith) k))
     (λ k h lt. grind (arith, kept k h, leb-false (to_back gs k) negative, before k))
@@ -100,19 +103,26 @@ extended_sound M P is none before after tried =
     }
 
 -- an answer with a reference has LRPs up to the end, and the reference is that of these LRPs
-pub answered : (M : Map) (E : Path) (js : List ℕ) (r : Reference) → Points r ≡ answer_by_points M E js →
-    (last_position 0 js ≡ length E.lines) × (r ≡ reference (legs M E.lines) E.pos E.neg js)
-answered M E js r h = grind (arith, cond_both, eqb-true)
+pub answered : (g : Margin) (M : Map) (E : Path) (js : List ℕ) (r : Reference) → Points r ≡ answer_by_points_with g M E js →
+    (last_position 0 js ≡ length E.lines) × (r ≡ reference_with g (legs M E.lines) E.pos E.neg js)
+answered g M E js r h = grind (arith, cond_both, eqb-true)
 
 -- a path whose answer is a reference has no fault, and the reference is its encoding
-pub by_answer : (M : Map) (P : Path) (r : Reference) → Encodes M P (Points r) → (path_fault M P ≡ None) × Encoding M P (Points r)
+pub by_answer : {g : Margin} (M : Map) (P : Path) (r : Reference) → EncodesWith g M P (Points r) → (path_fault M P ≡ None) × EncodingWith g M P (Points r)
 by_answer M P r = grind (arith, by_fault)
 
-pub encoded_fits : AnswerFits
-encoded_fits M m P is r q =
+pub encoded_fits : (g : Margin) → AnswerFits g
+encoded_fits g M m P is r q =
     let x = by_answer M P r q in
     let p = x.1 in
     let E = extended_path M P p.before p.after in
     let s = extended_sound M P is x.0 p.before p.after p.tried in
-    let a = answered M E p.points r p.holds in
-    subst IsReference (sym a.1) (reference_fits M m E.lines s.known s.size p.points E.pos E.neg p.follow a.0 s.long)
+    let a = answered g M E p.points r p.holds in
+    subst IsReference (sym a.1) (reference_fits_with g M m E.lines s.known s.size p.points E.pos E.neg p.follow a.0 s.long)
+
+-- ---- without a margin
+
+pub reference_fits : (M : Map) → IsMap M → (ls : List ℕ) → Each (Known M) ls → 0 < length ls →
+    (js : List ℕ) (positive negative : ℕ) → Follow M ls 0 js → last_position 0 js ≡ length ls → positive + negative < dm_of M ls
+    → IsReference (reference (legs M ls) positive negative js)
+reference_fits = reference_fits_with no_margin

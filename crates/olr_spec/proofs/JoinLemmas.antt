@@ -1,11 +1,18 @@
 -- The routes between the remaining LRPs join to the extended path.
+use Rattle.olr_spec.specs.Margins.{no_margin}
+use Rattle.olr_spec.proofs.Common.{Follow}
+use Rattle.olr_spec.specs.Margins.{Margin, CountedRoute, IsSoundFor}
 use Rattle.olr_spec.proofs.Common.{inl, inr, ◌≡◌, ℕ, ◌+◌, ◌-◌, min, Bool, true, false, ◌&&◌, List, ◌∷◌, ◌++◌, length}
 use Rattle.olr_spec.proofs.Common.{take, drop, ◌<◌, ◌≤◌, refl, ap, ◌∙◌, subst, arith, nat_le, length-drop, ◌↔◌, []}
 use Rattle.olr_spec.proofs.Common.{leb-true, le-leb, get_or-drop, slice_index, filter, cases_eq, and_parts, and_from}
-use Rattle.olr_spec.proofs.Common.{cond_both, nat_tests, take_more, ⊤, Map, start, end, LrpRoute, stretch, Covered}
-use Rattle.olr_spec.proofs.Common.{Candidate, Follow, JoinsTo, JoinsLast, drop_more, Joins, RoutesJoin}
-use Rattle.olr_spec.proofs.RouteLemmas.{IsRoute-split, prefix_of_unique}
+use Rattle.olr_spec.proofs.Common.{cond_both, nat_tests, take_more, ⊤, Map, start, end, LrpRoute, stretch, CoveredWith}
+use Rattle.olr_spec.proofs.Common.{CandidateWith, FollowWith, JoinsTo, JoinsLast, drop_more, Joins, RoutesJoin}
+use Rattle.olr_spec.proofs.RouteLemmas.{IsRoute-split}
 use Rattle.olr_spec.proofs.AnswerLemmas.{Next-candidate}
+use Rattle.olr_spec.proofs.ListLemmas.{Each, Each-tail, has_here, has_there, has_filter}
+use Rattle.olr_spec.proofs.CountedLemmas.{counted_zero, route_counted}
+use Rattle.olr_spec.proofs.ElsewhereLemmas.{counted_unique, counted_part}
+use Rattle.olr_spec.proofs.Common.{sym, kept_points, legs, first_kept, last_kept}
 
 -- ---- parts of a list
 
@@ -28,11 +35,23 @@ empty_stretch ls p q h = let e : q - p ≡ 0 = omega arith in ap (λ (n : ℕ). 
 abbrev pub RouteTo : Map → List ℕ → ℕ → ℕ → Type 0
 RouteTo M ls p k = LrpRoute M (end M (slice_index ls p)) (start M (slice_index ls k)) (stretch ls (p + 1) k)
 
-pub covered_to : (M : Map) (ls : List ℕ) (p q k : ℕ) → min q (length ls - 1) ≡ k → p < k → Covered M ls p q → RouteTo M ls p k
-covered_to M ls p q k is lt c = coe 0 1 (i. p < is i → RouteTo M ls p (is i)) c lt
+-- the same where these lines count longer
+abbrev pub CountedTo : Margin → Map → List ℕ → ℕ → ℕ → Type 0
+CountedTo g M ls p k = CountedRoute g M (end M (slice_index ls p)) (start M (slice_index ls k)) (stretch ls (p + 1) k)
 
-pub joins_to : (M : Map) (ls : List ℕ) (p q : ℕ) → q < length ls → Candidate M ls p q → JoinsTo M ls p q
-joins_to M ls p q h c = grind (arith, stretch_first, covered_to)
+pub covered_to : (g : Margin) (M : Map) (ls : List ℕ) (p q k : ℕ) → min q (length ls - 1) ≡ k → p < k → CoveredWith g M ls p q →
+    CountedTo g M ls p k
+covered_to g M ls p q k is lt c = coe 0 1 (i. p < is i → CountedTo g M ls p (is i)) c lt
+
+-- what is so on M where the lines from position a to position b count longer is so on K
+abbrev pub Carries : Margin → Map → Map → List ℕ → ℕ → ℕ → Type 0
+Carries g M K ls a b = (p k : ℕ) → a ≤ p → p < k → k < b → k < length ls → CountedTo g M ls p k → RouteTo K ls p k
+
+pub carries_here : (g : Margin) (M : Map) → IsSoundFor g M → (ls : List ℕ) (a b : ℕ) → Carries g M M ls a b
+carries_here g M sound ls a b p k from lt to h c = grind (arith, sound, counted_zero, counted_unique)
+
+alone : (M : Map) (ls : List ℕ) (p q : ℕ) → q ≡ p + 1 → p < length ls → JoinsLast M ls p q
+alone M ls p q e h = grind (arith, stretch_first, empty_stretch)
 
 -- up to line k, the last of the leg
 joins_before : (M : Map) (ls : List ℕ) (p k : ℕ) → p < k → k < length ls → RouteTo M ls p k → JoinsLast M ls p (k + 1)
@@ -42,38 +61,58 @@ joins_before M ls p k h g r =
     ∙ ap (λ (zs : List ℕ). slice_index ls p ∷ zs) (stretch_last ls (p + 1) k (omega arith) g) in
     grind (arith)
 
-alone : (M : Map) (ls : List ℕ) (p q : ℕ) → q ≡ p + 1 → p < length ls → JoinsLast M ls p q
-alone M ls p q e h = grind (arith, stretch_first, empty_stretch)
+module _ (g : Margin) (M K : Map) (sound : IsSoundFor g M) (ls : List ℕ) (a b : ℕ) (carries : Carries g M K ls a b) where
+  pub joins_to : (p q : ℕ) → a ≤ p → q < b → q < length ls → CandidateWith g M ls p q → JoinsTo K ls p q
+  joins_to p q from to h c =
+      grind (arith, stretch_first, carries p q from c.after to h (covered_to g M ls p q q (omega arith) c.after c.covered))
 
-pub joins_last : (M : Map) (ls : List ℕ) (p q : ℕ) → Candidate M ls p q → JoinsLast M ls p q
-joins_last M ls p q c = elim (cases_eq q (p + 1)) [
-  | inl e ↦ alone M ls p q e (omega arith)
-  | inr ne ↦
-      let k = q - 1 in
-      let on : k + 1 ≡ q = omega arith in
-      subst (JoinsLast M ls p) on (joins_before M ls p k (omega arith) (omega arith) (elim (cases_eq q (length ls)) [
-        | inl whole ↦ covered_to M ls p q k (omega arith) (omega arith) c.covered
-        | inr within ↦ grind (arith, IsRoute-split, prefix_of_unique, stretch_last, covered_to)
-      ]))
-]
+  pub joins_last : (p q : ℕ) → a ≤ p → q ≤ b → CandidateWith g M ls p q → JoinsLast K ls p q
+  joins_last p q from to c = elim (cases_eq q (p + 1)) [
+    | inl e ↦ alone K ls p q e (omega arith)
+    | inr ne ↦
+        let k = q - 1 in
+        let on : k + 1 ≡ q = omega arith in
+        subst (JoinsLast K ls p) on (joins_before K ls p k (omega arith) (omega arith) (carries p k from (omega arith)
+        (omega arith) (omega arith) (elim (cases_eq q (length ls)) [
+          | inl whole ↦ covered_to g M ls p q k (omega arith) (omega arith) c.covered
+          | inr within ↦
+              let s = end M (slice_index ls p) in
+              let t = start M (slice_index ls q) in
+              let xs = stretch ls (p + 1) k in
+              let x = slice_index ls k in
+              let parts : stretch ls (p + 1) q ≡ xs ++ x ∷ [] = ap (λ (m : ℕ). stretch ls (p + 1) m) (sym on) ∙ stretch_last ls (p + 1) k (omega arith) (omega arith) in
+              let u = subst (CountedRoute g M s t) parts (covered_to g M ls p q q (omega arith) c.after c.covered) in
+              let ends = IsRoute-split M s t xs (x ∷ []) (route_counted g M (xs ++ x ∷ []) s t (xs ++ x ∷ []) u.route) in
+              subst (λ (v : ℕ). CountedRoute g M s v xs) (sym ends.2.1) (counted_part g M sound s ends.0 t xs (x ∷ []) u ends.1 ends.2)
+        ])))
+  ]
 
 -- ---- all legs
 
 -- each LRP is a candidate after the one before
-abbrev pub Linked : Map → List ℕ → List ℕ → Type 0
-Linked M ls [] = ⊤
-Linked M ls (p ∷ []) = ⊤
-Linked M ls (p ∷ q ∷ ks) = Candidate M ls p q × Linked M ls (q ∷ ks)
+abbrev pub LinkedWith : Margin → Map → List ℕ → List ℕ → Type 0
+LinkedWith g M ls [] = ⊤
+LinkedWith g M ls (p ∷ []) = ⊤
+LinkedWith g M ls (p ∷ q ∷ ks) = CandidateWith g M ls p q × LinkedWith g M ls (q ∷ ks)
 
-pub follow_linked : (M : Map) (ls : List ℕ) (i : ℕ) (js : List ℕ) → Follow M ls i js → Linked M ls (i ∷ js)
-follow_linked M ls i [] f = tt
-follow_linked M ls i (j ∷ js) f = (Next-candidate M ls i j f.0, follow_linked M ls j js f.1)
+pub follow_linked_with : (g : Margin) (M : Map) (ls : List ℕ) (i : ℕ) (js : List ℕ) → FollowWith g M ls i js → LinkedWith g M ls (i ∷ js)
+follow_linked_with g M ls i [] f = tt
+follow_linked_with g M ls i (j ∷ js) f = (Next-candidate M ls i j f.0, follow_linked_with g M ls j js f.1)
 
-pub linked_joins : (M : Map) (ls ks : List ℕ) → Linked M ls ks → Joins M ls ks
-linked_joins M ls [] h = tt
-linked_joins M ls (p ∷ []) h = tt
-linked_joins M ls (p ∷ q ∷ []) h = joins_last M ls p q h.0
-linked_joins M ls (p ∷ q ∷ r ∷ ks) h = (joins_to M ls p q (omega arith) h.0, linked_joins M ls (q ∷ r ∷ ks) h.1)
+pub linked_joins : (g : Margin) (M K : Map) → IsSoundFor g M → (ls : List ℕ) (a b : ℕ) → Carries g M K ls a b → (ks : List ℕ) →
+    LinkedWith g M ls ks → Each (λ k. a ≤ k) ks → Each (λ k. k ≤ b) ks → Joins K ls ks
+linked_joins g M K sound ls a b carries [] h above below = tt
+linked_joins g M K sound ls a b carries (p ∷ []) h above below = tt
+linked_joins g M K sound ls a b carries (p ∷ q ∷ []) h above below =
+    joins_last g M K sound ls a b carries p q (above p (has_here p (q ∷ []))) (below q (has_there p (q ∷ []) q (has_here q []))) h.0
+linked_joins g M K sound ls a b carries (p ∷ q ∷ r ∷ ks) h above below =
+    let up = below r (has_there p (q ∷ r ∷ ks) r (has_there q (r ∷ ks) r (has_here r ks))) in
+    let next = h.1.0.after in (
+      joins_to g M K sound ls a b carries p q (above p (has_here p (q ∷ r ∷ ks))) (omega (arith, next, up))
+          (omega (arith, next, h.1.0.upto)) h.0,
+      linked_joins g M K sound ls a b carries (q ∷ r ∷ ks) h.1 (Each-tail (λ k. a ≤ k) p (q ∷ r ∷ ks) above)
+          (Each-tail (λ k. k ≤ b) p (q ∷ r ∷ ks) below),
+    )
 
 abbrev pub between : ℕ → ℕ → ℕ → Bool
 between a b i = nat_le a i && nat_le i b
@@ -82,26 +121,50 @@ pub between_is : (a b i : ℕ) → (between a b i ≡ true) ↔ ((a ≤ i) × (i
 between_is a b i = grind (arith, and_parts, leb-true, and_from, le-leb)
 
 -- no LRP after b remains
-none_beyond : (M : Map) (ls : List ℕ) (a b p : ℕ) (ks : List ℕ) → b < p → Linked M ls (p ∷ ks) →
+none_beyond : (g : Margin) (M : Map) (ls : List ℕ) (a b p : ℕ) (ks : List ℕ) → b < p → LinkedWith g M ls (p ∷ ks) →
     filter (between a b) (p ∷ ks) ≡ []
-none_beyond M ls a b p [] h l = grind (arith, nat_tests)
-none_beyond M ls a b p (q ∷ ks) h l = grind (arith, none_beyond M ls a b q ks (omega arith) l.1, nat_tests)
+none_beyond g M ls a b p [] h l = grind (arith, nat_tests)
+none_beyond g M ls a b p (q ∷ ks) h l = grind (arith, none_beyond g M ls a b q ks (omega arith) l.1, nat_tests)
 
-pub kept_linked : (M : Map) (ls : List ℕ) (a b : ℕ) (ks : List ℕ) → Linked M ls ks → Linked M ls (filter (between a b) ks)
-kept_linked M ls a b [] l = tt
-kept_linked M ls a b (p ∷ []) l = cond_both (between a b p) (p ∷ []) [] (Linked M ls) (λ _. tt) (λ _. tt)
-kept_linked M ls a b (p ∷ q ∷ ks) l =
-    let rest = kept_linked M ls a b (q ∷ ks) l.1 in
+pub kept_linked_with : (g : Margin) (M : Map) (ls : List ℕ) (a b : ℕ) (ks : List ℕ) → LinkedWith g M ls ks → LinkedWith g M ls (filter (between a b) ks)
+kept_linked_with g M ls a b [] l = tt
+kept_linked_with g M ls a b (p ∷ []) l = cond_both (between a b p) (p ∷ []) [] (LinkedWith g M ls) (λ _. tt) (λ _. tt)
+kept_linked_with g M ls a b (p ∷ q ∷ ks) l =
+    let rest = kept_linked_with g M ls a b (q ∷ ks) l.1 in
     let later : List ℕ = filter (between a b) ks in
-    cond_both (between a b p) (p ∷ filter (between a b) (q ∷ ks)) (filter (between a b) (q ∷ ks)) (Linked M ls)
-    (λ e. cond_both (between a b q) (q ∷ later) later (λ zs. Linked M ls zs → Linked M ls (p ∷ zs)) (λ f r. (l.0, r))
-    (λ f r. coe 1 0 (i. Linked M ls (p ∷ after p q ks l e f i)) tt) rest) (λ e. rest)
+    cond_both (between a b p) (p ∷ filter (between a b) (q ∷ ks)) (filter (between a b) (q ∷ ks)) (LinkedWith g M ls)
+    (λ e. cond_both (between a b q) (q ∷ later) later (λ zs. LinkedWith g M ls zs → LinkedWith g M ls (p ∷ zs)) (λ f r. (l.0, r))
+    (λ f r. coe 1 0 (i. LinkedWith g M ls (p ∷ after p q ks l e f i)) tt) rest) (λ e. rest)
   where
-    after : (p q : ℕ) (ks : List ℕ) → Linked M ls (p ∷ q ∷ ks) → between a b p ≡ true → between a b q ≡ false →
+    after : (p q : ℕ) (ks : List ℕ) → LinkedWith g M ls (p ∷ q ∷ ks) → between a b p ≡ true → between a b q ≡ false →
         filter (between a b) ks ≡ []
     after p q [] l e f = refl
     after p q (r ∷ ks) l e f =
-        let high : b < q = grind (arith, nat_tests) in none_beyond M ls a b r ks (omega arith) l.1.1
+        let high : b < q = grind (arith, nat_tests) in none_beyond g M ls a b r ks (omega arith) l.1.1
 
-pub routes_join : RoutesJoin
-routes_join M ls js positive negative f e = search (linked_joins, kept_linked, follow_linked)
+pub kept_joins : (g : Margin) (M K : Map) → IsSoundFor g M → (ls js : List ℕ) (positive negative : ℕ) →
+    Carries g M K ls (first_kept (legs M ls) positive js) (last_kept (legs M ls) negative js) → FollowWith g M ls 0 js →
+    Joins K ls (kept_points (legs M ls) positive negative js)
+kept_joins g M K sound ls js positive negative carries f =
+    let a = first_kept (legs M ls) positive js in
+    let b = last_kept (legs M ls) negative js in
+    let kept = has_filter (between a b) (0 ∷ js) in
+    linked_joins g M K sound ls a b carries (kept_points (legs M ls) positive negative js)
+    (kept_linked_with g M ls a b (0 ∷ js) (follow_linked_with g M ls 0 js f)) (λ k h. grind (arith, kept k h, between_is a b k))
+    (λ k h. grind (arith, kept k h, between_is a b k))
+
+pub routes_join : (g : Margin) → RoutesJoin g
+routes_join g M sound ls js positive negative f e =
+    kept_joins g M M sound ls js positive negative
+    (carries_here g M sound ls (first_kept (legs M ls) positive js) (last_kept (legs M ls) negative js)) f
+
+-- ---- without a margin
+
+abbrev pub Linked : Map → List ℕ → List ℕ → Type 0
+Linked = LinkedWith no_margin
+
+pub follow_linked : (M : Map) (ls : List ℕ) (i : ℕ) (js : List ℕ) → Follow M ls i js → Linked M ls (i ∷ js)
+follow_linked = follow_linked_with no_margin
+
+pub kept_linked : (M : Map) (ls : List ℕ) (a b : ℕ) (ks : List ℕ) → Linked M ls ks → Linked M ls (filter (between a b) ks)
+kept_linked = kept_linked_with no_margin

@@ -9,6 +9,7 @@ pub mod EditLemmas
 pub mod UndoLemmas
 pub mod CountedLemmas
 pub mod OwnSums
+pub mod CountedMoves
 pub mod RouteLemmas
 pub mod RunLemmas
 pub mod RunMoves
@@ -34,6 +35,7 @@ pub mod JoinedLemmas
 pub mod WayLemmas
 pub mod Facts
 pub mod QueryLemmas
+pub mod PartnerLemmas
 pub mod StayLemmas
 pub mod TestedLemmas
 pub mod LocalLemmas

@@ -1,10 +1,13 @@
 -- LRPs, answers and faults are the same on two maps that agree around a path's traversed nodes and on the positions that
 -- are covered from its LRPs.
+use Rattle.olr_spec.specs.Margins.{Margin, counted, CountedRoute}
+use Rattle.olr_spec.proofs.Common.{ap, subst}
+use Rattle.olr_spec.proofs.CountedLemmas.{counted_nil}
 use Rattle.olr_spec.proofs.Common.{◌≡◌, ℕ, ◌+◌, ◌-◌, min, Bool, true, cond, List, ◌∷◌, length, ◌<◌, ◌≤◌, refl, sym, ◌∙◌}
 use Rattle.olr_spec.proofs.Common.{arith, ◌==◌, ◌↔◌, suc, Some, [], ltb-true, slice_index, Map, IsMap, start, end}
 use Rattle.olr_spec.proofs.Common.{coord_at, SameLine, SameRound, has, IsRoute, dm_of, LrpRoute, Path, passing, limit}
-use Rattle.olr_spec.proofs.Common.{node_at, stretch, Covered, fit16, Candidate, ValidCandidate, Greatest, Next, To_end}
-use Rattle.olr_spec.proofs.Common.{To_valid, To_passing, Follow, legs, first_unknown, first_break, path_fault}
+use Rattle.olr_spec.proofs.Common.{node_at, stretch, CoveredWith, fit16, CandidateWith, ValidCandidateWith, Greatest, NextWith, To_end}
+use Rattle.olr_spec.proofs.Common.{To_valid, To_passing, FollowWith, legs, first_unknown, first_break, path_fault}
 use Rattle.olr_spec.proofs.Common.{Traversed}
 use Rattle.olr_spec.proofs.Facts.{empty_unique, empty_stretch, Each, Each-nil, Each-head, Each-tail, Each-range}
 use Rattle.olr_spec.proofs.Facts.{has_last, has_index, map_same, Alike, same_record, same_start, same_end, same_dm_of}
@@ -16,17 +19,24 @@ pub empty_route : (M N : Map) → IsMap N → (s t s' t' : ℕ) (xs : List ℕ) 
 empty_route M N n s t s' t' xs e f g l =
     coe 0 1 (i. LrpRoute N s' ((sym f ∙ (coe 0 1 (i. IsRoute M s t (e i)) l.route) ∙ g) i) (sym e i)) (empty_unique N n s')
 
+empty_counted : (g : Margin) (M N : Map) → IsMap N → (s t s' t' : ℕ) (xs : List ℕ) → xs ≡ [] → s ≡ s' → t ≡ t' →
+    CountedRoute g M s t xs → CountedRoute g N s' t' xs
+empty_counted g M N n s t s' t' xs e p q l =
+    let none = λ (K : Map). ap (counted g K) e ∙ counted_nil g K in
+    subst (λ (K : Map). LrpRoute K s' t' xs) (sym (none N))
+    (empty_route M N n s t s' t' xs e p q (subst (λ (K : Map). LrpRoute K s t xs) (none M) l))
+
 -- if no line is between, a position is covered on any map
-pub close_stays : (M N : Map) → IsMap M → IsMap N → (ls : List ℕ) → Each (SameLine M N) ls → (i j : ℕ) → i < j
-    → j ≤ length ls → length ls ≤ i + 2 → Covered M ls i j ↔ Covered N ls i j
-close_stays M N m n ls same i j h g close =
+pub close_stays : (g : Margin) (M N : Map) → IsMap M → IsMap N → (ls : List ℕ) → Each (SameLine M N) ls → (i j : ℕ) → i < j
+    → j ≤ length ls → length ls ≤ i + 2 → CoveredWith g M ls i j ↔ CoveredWith g N ls i j
+close_stays g M N m n ls same i j h upto close =
     let k = min j (length ls - 1) in
     let none = empty_stretch ls (i + 1) k (omega arith) in
     let from : i < k → end M (slice_index ls i) ≡ end N (slice_index ls i) = grind (arith, same_end, has_index) in
     let to : i < k → start M (slice_index ls k) ≡ start N (slice_index ls k) =
     λ a. same_start M N (slice_index ls k) (same (slice_index ls k) (has_index ls k (omega arith))) in (
-      (λ c a. empty_route M N n _ _ _ _ (stretch ls (i + 1) k) none (from a) (to a) (c a)),
-      (λ c a. empty_route N M m _ _ _ _ (stretch ls (i + 1) k) none (sym (from a)) (sym (to a)) (c a)),
+      (λ c a. empty_counted g M N n _ _ _ _ (stretch ls (i + 1) k) none (from a) (to a) (c a)),
+      (λ c a. empty_counted g N M m _ _ _ _ (stretch ls (i + 1) k) none (sym (from a)) (sym (to a)) (c a)),
     )
 
 pub Each-cond : (Q : ℕ → Type 0) (b : Bool) (xs : List ℕ) → Each Q xs → Each Q (cond b [] xs)
@@ -35,31 +45,31 @@ Each-cond Q b xs h = grind (arith, Each-nil)
 Greatest-moves : (Q S : ℕ → Type 0) (j : ℕ) → ((k : ℕ) → Q k ↔ S k) → Greatest Q j → Greatest S j
 Greatest-moves Q S j same h = record { holds = (same j).0 h.holds; others = λ k s. h.others k ((same k).1 s) }
 
-candidate_by : (M N : Map) (ls : List ℕ) (i j : ℕ) → (Covered M ls i j → Covered N ls i j) →
+candidate_by : (g : Margin) (M N : Map) (ls : List ℕ) (i j : ℕ) → (CoveredWith g M ls i j → CoveredWith g N ls i j) →
     dm_of M (stretch ls i j) ≡ dm_of N (stretch ls i j) →
     fit16 (coord_at M (node_at M ls i)) (coord_at M (node_at M ls j)) ≡ fit16 (coord_at N (node_at N ls i))
-    (coord_at N (node_at N ls j)) → Candidate M ls i j → Candidate N ls i j
-candidate_by M N ls i j covered near fits c = grind arith
+    (coord_at N (node_at N ls j)) → CandidateWith g M ls i j → CandidateWith g N ls i j
+candidate_by g M N ls i j covered near fits c = grind arith
 
 -- the lines ls and the LRPs js, on maps that agree around the lines' ends and on what is covered from the LRPs
-module _ (M N : Map) (ls : List ℕ) (nonempty : 0 < length ls) (alike : Each (Alike M N) ls) (js : List ℕ)
+module _ (g : Margin) (M N : Map) (ls : List ℕ) (nonempty : 0 < length ls) (alike : Each (Alike M N) ls) (js : List ℕ)
     (covers : (i j : ℕ) → has js i ≡ true → i < j → j ≤ length ls → dm_of M (stretch ls i j) ≤ limit
-    → Covered M ls i j ↔ Covered N ls i j) where
+    → CoveredWith g M ls i j ↔ CoveredWith g N ls i j) where
   -- a property of what both maps have at a node
   node_same : {X : Type 0} (f : Map → ℕ → X) → ((v : ℕ) → SameRound M N v → f M v ≡ f N v) → (i : ℕ) →
       f M (node_at M ls i) ≡ f N (node_at N ls i)
-  node_same f g i = grind (arith, g, alike, has_index, has_last, ltb-true, same_start, same_end)
+  node_same f same i = grind (arith, same, alike, has_index, has_last, ltb-true, same_start, same_end)
 
   stretch_same : (i j : ℕ) → dm_of M (stretch ls i j) ≡ dm_of N (stretch ls i j)
   stretch_same i j = same_dm_of M N (stretch ls i j) (Each-range (SameLine M N) ls i j (λ x h. (alike x h).same))
 
-  candidate_same : (i j : ℕ) → has js i ≡ true → Candidate M ls i j ↔ Candidate N ls i j
+  candidate_same : (i j : ℕ) → has js i ≡ true → CandidateWith g M ls i j ↔ CandidateWith g N ls i j
   candidate_same i j on = let place = node_same coord_at (same_coord M N) in grind (arith, stretch_same, place, candidate_by)
 
-  both_valid : (i j : ℕ) → has js i ≡ true → ValidCandidate M ls i j ↔ ValidCandidate N ls i j
+  both_valid : (i j : ℕ) → has js i ≡ true → ValidCandidateWith g M ls i j ↔ ValidCandidateWith g N ls i j
   both_valid i j on = grind (arith, (candidate_same i j on), (node_same passing (same_passing M N)))
 
-  next_moves : (i j : ℕ) → has js i ≡ true → Next M ls i j → Next N ls i j
+  next_moves : (i j : ℕ) → has js i ≡ true → NextWith g M ls i j → NextWith g N ls i j
   next_moves i j on (To_end e c) = To_end e ((candidate_same i (length ls) on).0 c)
   next_moves i j on (To_valid not_end g) =
       To_valid (λ c. not_end ((candidate_same i (length ls) on).1 c)) (Greatest-moves _ _ j (λ k. both_valid i k on) g)
@@ -67,7 +77,7 @@ module _ (M N : Map) (ls : List ℕ) (nonempty : 0 < length ls) (alike : Each (A
       To_passing (λ c. not_end ((candidate_same i (length ls) on).1 c)) (λ k v. none k ((both_valid i k on).1 v))
       (Greatest-moves _ _ j (λ k. candidate_same i k on) g)
 
-  pub follow_moves : (i : ℕ) (ks : List ℕ) → Each (λ k. has js k ≡ true) (i ∷ ks) → Follow M ls i ks → Follow N ls i ks
+  pub follow_moves : (i : ℕ) (ks : List ℕ) → Each (λ k. has js k ≡ true) (i ∷ ks) → FollowWith g M ls i ks → FollowWith g N ls i ks
   follow_moves i [] on f = λ j c. f j ((candidate_same i j (Each-head (λ k. has js k ≡ true) i [] on)).1 c)
   follow_moves i (j ∷ ks) on f = (
     next_moves i j (Each-head (λ k. has js k ≡ true) i (j ∷ ks) on) f.0,

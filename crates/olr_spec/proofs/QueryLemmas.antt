@@ -1,12 +1,17 @@
 -- If the routes that an LRP's coverage query tests are the same, since it is clear of changes or two maps agree on the
 -- nodes that it reaches, then the same positions after the LRP are covered on both maps.
+use Rattle.olr_spec.specs.Margins.{Margin, counted, counted_dm_of, CountedRoute, IsSoundFor}
 use Rattle.olr_spec.proofs.Common.{inl, inr, ◌≡◌, ℕ, ◌+◌, ◌-◌, min, List, ◌++◌, length, ◌<◌, ◌≤◌, sym, ap, subst, arith}
 use Rattle.olr_spec.proofs.Common.{drop-drop, ◌↔◌, slice_index, cases_lt, Map, start, end, SameLine, SameRound, IsRoute}
-use Rattle.olr_spec.proofs.Common.{dm_of, Reaches, UniqueShortest, limit, stretch, Covered, ChangedLine, AccountsFor}
-use Rattle.olr_spec.proofs.Common.{Detour, Needed, IsLastTested, query_to, IsClear}
-use Rattle.olr_spec.proofs.Facts.{dm_of-append, prefix_of_unique, Each, Each-range, has_index, same_start, same_end}
-use Rattle.olr_spec.proofs.Facts.{same_dm_of, IsRoute-moves, unique_same, within, within_other, part_stays, RouteTo}
+use Rattle.olr_spec.proofs.Common.{dm_of, Reaches, limit, stretch, CoveredWith, ChangedLine, AccountsFor}
+use Rattle.olr_spec.proofs.Common.{Detour, Needed, IsLastTestedWith, query_to_with, IsClear}
+use Rattle.olr_spec.proofs.Facts.{Each, Each-range, has_index, same_start, same_end}
+use Rattle.olr_spec.proofs.Facts.{same_dm_of, IsRoute-moves, unique_same, within, within_other}
 use Rattle.olr_spec.proofs.Facts.{way_between, next_start}
+use Rattle.olr_spec.proofs.WayLemmas.{route_known}
+use Rattle.olr_spec.proofs.JoinLemmas.{CountedTo}
+use Rattle.olr_spec.proofs.ElsewhereLemmas.{counted_part}
+use Rattle.olr_spec.proofs.CountedMoves.{counted_length_same, counted_routes, front_counts, clear_front}
 use Rattle.std.proofs.Math.Seq.{take-add}
 
 pub stretch_parts : {A : Type 0} (ls : List A) (p m k : ℕ) → p ≤ m → m ≤ k → stretch ls p k ≡ stretch ls p m ++ stretch ls m k
@@ -20,34 +25,35 @@ pub way_on : (M : Map) (ls : List ℕ) (s t : ℕ) → IsRoute M s t ls → (i m
 way_on M ls s t joined i m h g = grind (arith, next_start, way_between)
 
 -- a position after one that isn't covered isn't covered either
-pub covered_before : (M : Map) (ls : List ℕ) (s t : ℕ) → IsRoute M s t ls → (i k m : ℕ) → i < k → k ≤ m → m ≤ length ls
-    → k < length ls → Covered M ls i m → Covered M ls i k
-covered_before M ls s t joined i k m a h g z c = λ inside.
+pub covered_before : (g : Margin) (M : Map) → IsSoundFor g M → (ls : List ℕ) (s t : ℕ) → IsRoute M s t ls → (i k m : ℕ) → i < k
+    → k ≤ m → m ≤ length ls → k < length ls → CoveredWith g M ls i m → CoveredWith g M ls i k
+covered_before g M sound ls s t joined i k m a h upto z c = λ inside.
     let n = min m (length ls - 1) in
     let is : min k (length ls - 1) ≡ k = omega arith in
-    coe 1 0 (j. RouteTo M ls i (is j)) (prefix_of_unique M (end M (slice_index ls i)) (start M (slice_index ls k))
+    let from = end M (slice_index ls i) in
+    coe 1 0 (j. CountedTo g M ls i (is j)) (counted_part g M sound from (start M (slice_index ls k))
     (start M (slice_index ls n)) (stretch ls (i + 1) k) (stretch ls k n)
-    (subst (UniqueShortest M (end M (slice_index ls i)) (start M (slice_index ls n)))
+    (subst (CountedRoute g M from (start M (slice_index ls n)))
     (stretch_parts ls (i + 1) k n (omega arith) (omega arith)) (c (omega arith)))
     (way_on M ls s t joined i k a z) (way_between M s t ls k n joined (omega arith) (omega arith)))
 
 -- a position that is near enough and after the last tested one isn't covered
-pub covered_known : (M : Map) (ls : List ℕ) (s t : ℕ) → IsRoute M s t ls → (i k : ℕ) → IsLastTested M ls i k → (j : ℕ)
-    → i < j → j ≤ length ls → dm_of M (stretch ls i j) ≤ limit → k < min j (length ls - 1) → ¬ Covered M ls i j
-covered_known M ls s t joined i k query j h g near beyond = λ c.
+pub covered_known : (g : Margin) (M : Map) → IsSoundFor g M → (ls : List ℕ) (s t : ℕ) → IsRoute M s t ls → (i k : ℕ) → IsLastTestedWith g M ls i k → (j : ℕ)
+    → i < j → j ≤ length ls → dm_of M (stretch ls i j) ≤ limit → k < min j (length ls - 1) → ¬ CoveredWith g M ls i j
+covered_known g M sound ls s t joined i k query j h upto near beyond = λ c.
     elim query.last [
-      | inl bare ↦ bare (covered_before M ls s t joined i k j query.after (omega arith) g query.inside c)
-      | inr all ↦ absurd (omega (arith, all (min j (length ls - 1)) (j, g, near, omega arith)))
+      | inl bare ↦ bare (covered_before g M sound ls s t joined i k j query.after (omega arith) upto query.inside c)
+      | inr all ↦ absurd (omega (arith, all (min j (length ls - 1)) (j, upto, near, omega arith)))
     ]
 
 -- the routes from line i up to position k are the same
-abbrev pub RoutesStay : Map → Map → List ℕ → ℕ → ℕ → Type 0
-RoutesStay M N ls i k = (m : ℕ) → i < m → m ≤ k → RouteTo M ls i m ↔ RouteTo N ls i m
+abbrev pub RoutesStay : Margin → Map → Map → List ℕ → ℕ → ℕ → Type 0
+RoutesStay g M N ls i k = (m : ℕ) → i < m → m ≤ k → CountedTo g M ls i m ↔ CountedTo g N ls i m
 
 -- ---- on maps with the same lines
 
-module _ (M N : Map) (ls : List ℕ) (same : Each (SameLine M N) ls) (s t : ℕ) (joined : IsRoute M s t ls) (i k : ℕ)
-    (query : IsLastTested M ls i k) where
+module _ {g : Margin} (M N : Map) (ls : List ℕ) (same : Each (SameLine M N) ls) (s t : ℕ) (joined : IsRoute M s t ls) (i k : ℕ)
+    (query : IsLastTestedWith g M ls i k) where
   abbrev from : ℕ
   from = end M (slice_index ls i)
 
@@ -63,33 +69,44 @@ module _ (M N : Map) (ls : List ℕ) (same : Each (SameLine M N) ls) (s t : ℕ)
   at_same : (m : ℕ) → m < length ls → at m ≡ start N (slice_index ls m)
   at_same m h = same_start M N (slice_index ls m) (same (slice_index ls m) (has_index ls m h))
 
-  length_same : (p q : ℕ) → dm_of M (stretch ls p q) ≡ dm_of N (stretch ls p q)
-  length_same p q = same_dm_of M N (stretch ls p q) (Each-range (SameLine M N) ls p q same)
-
   parts : (m : ℕ) → i < m → m ≤ k → part k ≡ part m ++ stretch ls m k
-  parts m h g = stretch_parts ls (i + 1) m k (omega arith) g
+  parts m h upto = stretch_parts ls (i + 1) m k (omega arith) upto
+
+  part_same : (p q : ℕ) → Each (SameLine M N) (stretch ls p q)
+  part_same p q = Each-range (SameLine M N) ls p q same
 
   -- with the ends that the lines have on the other map
-  moved : (m : ℕ) → m ≤ k → UniqueShortest M from (at m) (part m) ↔ UniqueShortest N from (at m) (part m)
-      → RouteTo M ls i m ↔ RouteTo N ls i m
-  moved m g o = grind (arith, from_same, at_same)
+  moved : (m : ℕ) → m ≤ k → CountedRoute g M from (at m) (part m) ↔ CountedRoute g N from (at m) (part m)
+      → CountedTo g M ls i m ↔ CountedTo g N ls i m
+  moved m upto o =
+      coe 0 1 (j. CountedTo g M ls i m ↔ CountedRoute g N (from_same j) (at_same m (omega (arith, query.inside)) j) (part m)) o
 
-  pub to_same : query_to M ls i k ≡ query_to N ls i k
-  to_same = λ j. record { from = from_same j; to = at_same k query.inside j; within = length_same (i + 1) k j }
+  pub to_same : query_to_with g M ls i k ≡ query_to_with g N ls i k
+  to_same = λ j. record {
+    from = from_same j;
+    to = at_same k query.inside j;
+    within = counted_length_same g M N (part k) (part_same (i + 1) k) j;
+  }
 
-  pub clear_routes : (C : List ChangedLine) → AccountsFor C M N → AccountsFor C N M → IsClear N C (query_to M ls i k)
-      → RoutesStay M N ls i k
-  clear_routes C there here clear m h g =
-      moved m g (part_stays M N C there here from (at m) (at k) (part m) (stretch ls m k)
-      (way_on M ls s t joined i m h (omega arith)) (way_between M s t ls m k joined g query.inside)
-      (coe 0 1 (j. ¬ Detour N C from (at k) (dm_of M (parts m h g j))) clear))
+  pub clear_routes : (C : List ChangedLine) → AccountsFor C M N → AccountsFor C N M → IsClear N C (query_to_with g M ls i k)
+      → RoutesStay g M N ls i k
+  clear_routes C there here clear m h upto =
+      moved m upto (clear_front g M N C there here from (at m) (at k) (part m) (stretch ls m k)
+      (way_on M ls s t joined i m h (omega arith)) (way_between M s t ls m k joined upto query.inside)
+      (coe 0 1 (j. ¬ Detour N C from (at k) (counted_dm_of g M (parts m h upto j))) clear))
 
   -- if the maps agree on the nodes that the coverage query reaches
-  pub seen_routes : ((v : ℕ) → Reaches M from (dm_of M (part k)) v → SameRound M N v) → RoutesStay M N ls i k
-  seen_routes round m h g =
-      let d = dm_of M (part k) in
-      moved m g (unique_same M N from (at m) d (within M N from d round (at m)) (within_other M N from d round (at m)) (part m)
-      (length_same (i + 1) m) (omega (arith, ap (dm_of M) (parts m h g), dm_of-append M (part m) (stretch ls m k))))
+  pub seen_routes : ((v : ℕ) → Reaches M from (counted_dm_of g M (part k)) v → SameRound M N v) → RoutesStay g M N ls i k
+  seen_routes round m h upto =
+      let d = counted_dm_of g M (part k) in
+      let short = front_counts g M (part m) (stretch ls m k)
+      (route_known M from (at m) (part m) (way_on M ls s t joined i m h (omega arith)))
+      (route_known M (at m) (at k) (stretch ls m k) (way_between M s t ls m k joined upto query.inside)) in
+      moved m upto (unique_same (counted g M (part m)) (counted g N (part m)) from (at m) d
+      (counted_routes g M N (part m) from (at m) d (within M N from d round (at m)))
+      (counted_routes g N M (part m) from (at m) d (within_other M N from d round (at m))) (part m)
+      (counted_length_same g M N (part m) (part_same (i + 1) m))
+      (omega (arith, short, ap (counted_dm_of g M) (parts m h upto))))
 
 needed_moves : (M N : Map) (ls : List ℕ) (i m : ℕ) →
     ((p q : ℕ) → dm_of M (stretch ls p q) ≡ dm_of N (stretch ls p q)) → Needed M ls i m → Needed N ls i m
@@ -97,16 +114,19 @@ needed_moves M N ls i m alike n = (n.0, n.1, coe 0 1 (j. alike i n.0 j ≤ limit
 
 -- ---- where the routes are the same
 
-module _ (M N : Map) (ls : List ℕ) (same : Each (SameLine M N) ls) (s t : ℕ) (joined : IsRoute M s t ls) (i k : ℕ)
-    (query : IsLastTested M ls i k) (routes : RoutesStay M N ls i k) where
+module _ {g : Margin} (M N : Map) (ls : List ℕ) (same : Each (SameLine M N) ls) (s t : ℕ) (joined : IsRoute M s t ls) (i k : ℕ)
+    (query : IsLastTestedWith g M ls i k) (routes : RoutesStay g M N ls i k) where
   alike : (p q : ℕ) → dm_of M (stretch ls p q) ≡ dm_of N (stretch ls p q)
   alike p q = same_dm_of M N (stretch ls p q) (Each-range (SameLine M N) ls p q same)
 
-  pub covered_same : (j : ℕ) → min j (length ls - 1) ≤ k → Covered M ls i j ↔ Covered N ls i j
-  covered_same j h = grind arith
+  pub covered_same : (j : ℕ) → min j (length ls - 1) ≤ k → CoveredWith g M ls i j ↔ CoveredWith g N ls i j
+  covered_same j h = (
+    (λ c lt. (routes (min j (length ls - 1)) lt h).0 (c lt)),
+    (λ c lt. (routes (min j (length ls - 1)) lt h).1 (c lt)),
+  )
 
   -- the coverage query is one of the other map too
-  pub query_stays : IsLastTested N ls i k
+  pub query_stays : IsLastTestedWith g N ls i k
   query_stays = record {
     after = query.after;
     inside = query.inside;
@@ -119,15 +139,12 @@ module _ (M N : Map) (ls : List ℕ) (same : Each (SameLine M N) ls) (s t : ℕ)
   }
 
   -- positions that are near enough
-  pub covered_stays : (j : ℕ) → i < j → j ≤ length ls → dm_of M (stretch ls i j) ≤ limit → Covered M ls i j ↔ Covered N ls i j
-  covered_stays j h g near =
-      grind (
-        arith,
-        (alike i j),
-        (IsRoute-moves M N s t ls same joined),
-        cases_lt,
-        covered_known,
-        query_stays,
-        within,
-        covered_same,
-      )
+  pub covered_stays : IsSoundFor g M → IsSoundFor g N → (j : ℕ) → i < j → j ≤ length ls → dm_of M (stretch ls i j) ≤ limit → CoveredWith g M ls i j ↔ CoveredWith g N ls i j
+  covered_stays here there j h upto near = elim (cases_lt k (min j (length ls - 1))) [
+    | inl beyond ↦
+        let not_here = covered_known g M here ls s t joined i k query j h upto near beyond in
+        let not_there = covered_known g N there ls s t (IsRoute-moves M N s t ls same joined) i k query_stays j h upto
+        (subst (λ (d : ℕ). d ≤ limit) (alike i j) near) beyond in
+        ((λ c. absurd (not_here c)), (λ c. absurd (not_there c)))
+    | inr close ↦ covered_same j (omega (arith, close))
+  ]

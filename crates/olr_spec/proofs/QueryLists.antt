@@ -1,6 +1,9 @@
 -- Lists of coverage queries: each LRP of the list has one.
+use Rattle.olr_spec.specs.Margins.{no_margin}
+use Rattle.olr_spec.proofs.Common.{IsQuery}
+use Rattle.olr_spec.specs.Margins.{Margin}
 use Rattle.olr_spec.proofs.Common.{◌≡◌, ℕ, ◌+◌, true, List, ◌∷◌, length, ◌<◌, Contains, arith, nat_lt, IsTrue, []}
-use Rattle.olr_spec.proofs.Common.{lt-ltb, ltb-true, AllZip, Map, has, CoverageQuery, IsQuery, querying}
+use Rattle.olr_spec.proofs.Common.{lt-ltb, ltb-true, AllZip, Map, has, CoverageQuery, IsQueryWith, querying}
 use Rattle.olr_spec.proofs.Facts.{has_filter, filter_has, has_here, has_there, has_cases, Contains-here, Contains-later}
 use Rattle.olr_spec.proofs.Facts.{Contains-cases}
 
@@ -29,16 +32,22 @@ module _ {X : Type 0} (R : ℕ → X → Type 0) where
 pub queries_here : (ls is : List ℕ) (i : ℕ) → has (querying ls is) i ≡ true → IsTrue (has is i) × (i + 2 < length ls)
 queries_here ls is i h = grind (arith, has_filter, ltb-true)
 
-pub query_for : (M : Map) (ls is : List ℕ) (queries : List CoverageQuery) →
-    AllZip (IsQuery M ls) (querying ls is) queries → (i : ℕ)
-    → has is i ≡ true → i + 2 < length ls → (l : CoverageQuery) × Contains queries l × IsQuery M ls i l
-query_for M ls is queries z i h g = zip_right (IsQuery M ls) (querying ls is) queries z i
-    (filter_has (λ y. nat_lt (y + 2) (length ls)) is i h (lt-ltb (i + 2) (length ls) g))
+pub query_for : (g : Margin) (M : Map) (ls is : List ℕ) (queries : List CoverageQuery) →
+    AllZip (IsQueryWith g M ls) (querying ls is) queries → (i : ℕ)
+    → has is i ≡ true → i + 2 < length ls → (l : CoverageQuery) × Contains queries l × IsQueryWith g M ls i l
+query_for g M ls is queries z i h far = zip_right (IsQueryWith g M ls) (querying ls is) queries z i
+    (filter_has (λ y. nat_lt (y + 2) (length ls)) is i h (lt-ltb (i + 2) (length ls) far))
 
-pub query_from : (M : Map) (ls is : List ℕ) (queries : List CoverageQuery) →
-    AllZip (IsQuery M ls) (querying ls is) queries → (l : CoverageQuery) → Contains queries l
-    → (i : ℕ) × IsTrue (has is i) × (i + 2 < length ls) × IsQuery M ls i l
-query_from M ls is queries z l c =
-    let r = zip_left (IsQuery M ls) (querying ls is) queries z l c in
+pub query_from_with : (g : Margin) (M : Map) (ls is : List ℕ) (queries : List CoverageQuery) →
+    AllZip (IsQueryWith g M ls) (querying ls is) queries → (l : CoverageQuery) → Contains queries l
+    → (i : ℕ) × IsTrue (has is i) × (i + 2 < length ls) × IsQueryWith g M ls i l
+query_from_with g M ls is queries z l c =
+    let r = zip_left (IsQueryWith g M ls) (querying ls is) queries z l c in
     let p = queries_here ls is r.0 r.1 in
     (r.0, p.0, p.1, r.2)
+
+-- ---- without a margin
+
+pub query_from : (M : Map) (ls is : List ℕ) (queries : List CoverageQuery) → AllZip (IsQuery M ls) (querying ls is) queries →
+    (l : CoverageQuery) → Contains queries l → (i : ℕ) × IsTrue (has is i) × (i + 2 < length ls) × IsQuery M ls i l
+query_from = query_from_with no_margin

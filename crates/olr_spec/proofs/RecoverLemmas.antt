@@ -1,4 +1,7 @@
 -- A shortest route over lines within the LFRCNP is the leg of the extended path.
+use Rattle.olr_spec.specs.Margins.{Margin, allowed}
+use Rattle.olr_spec.proofs.Common.{IsMap, nat_tests, cases_Bool, ◌==◌}
+use Rattle.olr_spec.proofs.ListLemmas.{Each, Each-head, Each-tail, Known}
 use Rattle.olr_spec.proofs.Common.{inl, inr, ◌≡◌, ◌≢◌, ℕ, zero, suc, ◌+◌, ◌-◌, max, true, false, not, List, ◌∷◌, ◌++◌}
 use Rattle.olr_spec.proofs.Common.{length, ◌<◌, ◌≤◌, ◌↔◌, IsTrue, map, refl, ap, ◌∙◌, subst, arith, [], slice_index}
 use Rattle.olr_spec.proofs.Common.{fold, eq-eqb, ne_eqb, both_ways, and_parts, and_from, or_parts, list_any-append, Map}
@@ -7,7 +10,7 @@ use Rattle.olr_spec.proofs.Common.{stretch, Leg, legs, JoinsTo, JoinsLast, Withi
 use Rattle.olr_spec.proofs.Common.{length-drop, length-append, drop, not_from_false, not-true, length-take-le}
 use Rattle.olr_spec.proofs.Facts.{has_index, extended_keeps}
 use Rattle.olr_spec.specs.Receiver.{Shortest, One_line, More_lines}
-use Rattle.olr_spec.proofs.DecideLemmas.{dec_same}
+use Rattle.olr_spec.proofs.ListLemmas.{dec_same}
 
 -- ---- lists
 
@@ -24,6 +27,16 @@ greatest_from M a (x ∷ xs) = omega (arith, greatest_from M (max a (line_at M x
 pub within_greatest : (M : Map) (a : ℕ) (xs : List ℕ) → Within M (fold max a (map (λ (g : Leg). g.line.frc) (legs M xs))) xs
 within_greatest M a [] = tt
 within_greatest M a (x ∷ xs) = grind (arith, greatest_from, (within_greatest M (max a (line_at M x).frc) xs))
+
+-- and within what a margin allows
+pub within_allowed : (g : Margin) (M : Map) → IsMap M → (c : ℕ) (xs : List ℕ) → Each (Known M) xs → Within M c xs →
+    Within M (allowed g c) xs
+within_allowed g M m c [] known w = tt
+within_allowed g M m c (x ∷ xs) known w =
+    let good = m.good x (Each-head (Known M) x xs known) in (
+      grind (arith, nat_tests, and_parts, good, w.0, cases_Bool (g.classes == 0)),
+      within_allowed g M m c xs (Each-tail (Known M) x xs known) w.1,
+    )
 
 -- ---- a unique shortest path is the only shortest route over any lines that include it
 

@@ -5,7 +5,7 @@ use Rattle.olr_spec.proofs.Common.{Contains, true, false, ◌-◌, [], cases_lt,
 use Rattle.olr_spec.proofs.Common.{SameLine, SameRound, dm, has, IsRoute, dm_of, Reaches, UniqueShortest, ChangedLine}
 use Rattle.olr_spec.proofs.Common.{AccountsFor, Detour, Near, NearStays}
 use Rattle.olr_spec.proofs.RouteLemmas.{IsRoute-append, dm_of-append}
-use Rattle.olr_spec.proofs.ListLemmas.{Each, Each-nil, Each-cons, Each-head, Each-tail, Each-left, Each-right}
+use Rattle.olr_spec.proofs.ListLemmas.{Each, Each-nil, Each-cons, Each-head, Each-tail}
 use Rattle.olr_spec.proofs.AgreeLemmas.{turned_round, by_leaving, same_known, same_start, same_end, same_dm, same_dm_of}
 
 pub turned_lines : (M N : Map) (xs : List ℕ) → Each (SameLine M N) xs → Each (SameLine N M) xs
@@ -121,7 +121,7 @@ module _ (M N : Map) (C : List ChangedLine) (s t d : ℕ) (there : AccountsFor C
   same_there xs w h =
       let parts = parts_of M N C there t s d xs w h in grind (arith, parts, IsRoute-moves, same_dm_of)
 
-  same_here : SameRoutes N M s t d
+  pub same_here : SameRoutes N M s t d
   same_here xs w h = elim (parts_of N M C here t s d xs w h) [ inl each ↦ each | inr p ↦ absurd (clear p.0) ]
 
   pub routes_same : (xs : List ℕ) → (IsRoute M s t xs × (dm_of M xs ≤ d)) ↔ (IsRoute N s t xs × (dm_of N xs ≤ d))
@@ -130,20 +130,6 @@ module _ (M N : Map) (C : List ChangedLine) (s t d : ℕ) (there : AccountsFor C
   pub clear_unique : (xs : List ℕ) → dm_of M xs ≡ dm_of N xs → dm_of M xs ≤ d →
       UniqueShortest M s t xs ↔ UniqueShortest N s t xs
   clear_unique = unique_same M N s t d same_there same_here
-
--- where no detour is as short as a route, its part up to a node is the unique shortest path on both maps or on neither
-pub part_stays : (M N : Map) (C : List ChangedLine) → AccountsFor C M N → AccountsFor C N M → (s v t : ℕ) (xs ys : List ℕ) →
-    IsRoute M s v xs → IsRoute M v t ys → ¬ Detour N C s t (dm_of M (xs ++ ys)) →
-    UniqueShortest M s v xs ↔ UniqueShortest N s v xs
-part_stays M N C there here s v t xs ys w u clear =
-    let same = same_there M N C s t (dm_of M (xs ++ ys)) there here clear (xs ++ ys) (IsRoute-append M s v t xs ys w u)
-    (omega arith) in
-    let front = same_dm_of M N xs (Each-left (SameLine M N) xs ys same) in
-    let rest = Each-right (SameLine M N) xs ys same in
-    let back = same_dm_of M N ys rest in
-    clear_unique M N C s v (dm_of N xs) there here (λ o. clear (detour_of o.first o.last o.first_listed o.last_listed
-    o.before (o.after ++ ys) o.leads (IsRoute-append N o.last.to v t o.after ys o.returns (IsRoute-moves M N v t ys rest u))
-    (omega (arith, dm_of-append N o.after ys, dm_of-append M xs ys)))) xs front (omega arith)
 
 -- ---- near
 

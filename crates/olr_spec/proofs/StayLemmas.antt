@@ -1,33 +1,35 @@
 -- If nothing that a path depends on has changed, its answer, traversed nodes, coverage queries and footprint are the
 -- same.
+use Rattle.olr_spec.specs.Margins.{no_margin}
+use Rattle.olr_spec.specs.Margins.{Margin}
 use Rattle.olr_spec.proofs.Common.{◌⊎◌, inl, inr, ◌≡◌, ℕ, ◌+◌, List, ◌∷◌, length, true, ◌<◌, ◌≤◌, Option, None, IsTrue}
 use Rattle.olr_spec.proofs.Common.{All, Contains, sym, ◌∙◌, subst, arith, MatchOption, ◌↔◌, ◌++◌, length-append, cond}
 use Rattle.olr_spec.proofs.Common.{T, [], ap, ◌==◌, cases_lt, cases_Bool, both_ways, Map, IsMap, start, end, SameLine}
 use Rattle.olr_spec.proofs.Common.{SameRound, has, IsRoute, dm_of, Path, is_path, first, last, Tried, extended_path}
-use Rattle.olr_spec.proofs.Common.{taken_start, limit, from_start, taken_end, AreJoined, LongestEnd, stretch, Covered}
-use Rattle.olr_spec.proofs.Common.{Follow, OfPath, last_position, Answer, Refused, Refusal, path_fault}
-use Rattle.olr_spec.proofs.Common.{answer_by_points, Encoding, Points, ChangedLine, AccountsFor, NodeOf, Traversed}
-use Rattle.olr_spec.proofs.Common.{TraversedOfExtended, IsLastTested, CoverageQuery, query_to, IsQuery}
-use Rattle.olr_spec.proofs.Common.{IsClear, querying, QueriesOfExtended}
-use Rattle.olr_spec.proofs.Common.{reference, All-contains, No_next_point, UntouchedRetained}
+use Rattle.olr_spec.proofs.Common.{taken_start, limit, from_start, taken_end, AreJoined, LongestEnd, stretch, CoveredWith}
+use Rattle.olr_spec.proofs.Common.{FollowWith, OfPathWith, last_position, Answer, Refused, Refusal, path_fault}
+use Rattle.olr_spec.proofs.Common.{answer_by_points_with, EncodingWith, Points, ChangedLine, AccountsFor, NodeOf, Traversed}
+use Rattle.olr_spec.proofs.Common.{TraversedOfExtended, IsLastTestedWith, CoverageQuery, query_to_with, IsQueryWith}
+use Rattle.olr_spec.proofs.Common.{IsClear, querying, QueriesOfExtendedWith}
+use Rattle.olr_spec.proofs.Common.{reference_with, All-contains, No_next_point, UntouchedRetained}
 use Rattle.olr_spec.proofs.Common.{AnswersRetained}
 use Rattle.olr_spec.proofs.Facts.{Each, Each-from, has_first, has_last, Known, Each-append, Each-left, Each-right}
 use Rattle.olr_spec.proofs.Facts.{Each-to, Each-cons, Each-push, sound_lines, path_nonempty, path_at, by_fault}
 use Rattle.olr_spec.proofs.Facts.{one_tried, extended_keeps, Alike, same_begin, same_finish, longest_start_moves}
 use Rattle.olr_spec.proofs.Facts.{StartRun-known, EndRun-known, longest_end_moves, same_dm_of, same_known, by_entering}
-use Rattle.olr_spec.specs.Queries.{QueriesFrom}
+use Rattle.olr_spec.specs.Queries.{QueriesFromWith}
 use Rattle.olr_spec.proofs.PointMoves.{fault_same, close_stays, Traversed-same, follow_moves, legs_same}
 use Rattle.olr_spec.proofs.JoinedLemmas.{extended_joined}
 use Rattle.olr_spec.proofs.QueryLemmas.{RoutesStay, to_same, clear_routes, query_stays, covered_stays}
 use Rattle.olr_spec.proofs.QueryLists.{query_for, zip_moves}
 
 -- along any lines of both maps, each of these coverage queries has the same routes
-abbrev pub RoutesOf : Map → Map → List CoverageQuery → Type 0
-RoutesOf M N queries =
-    (ls : List ℕ) → Each (SameLine M N) ls → (s t : ℕ) → IsRoute M s t ls → (i k : ℕ) → IsLastTested M ls i k →
-    Contains queries (query_to M ls i k) → RoutesStay M N ls i k
+abbrev pub RoutesOf : Margin → Map → Map → List CoverageQuery → Type 0
+RoutesOf g M N queries =
+    (ls : List ℕ) → Each (SameLine M N) ls → (s t : ℕ) → IsRoute M s t ls → (i k : ℕ) → IsLastTestedWith g M ls i k →
+    Contains queries (query_to_with g M ls i k) → RoutesStay g M N ls i k
 
-module _ (M N : Map) (m : IsMap M) (n : IsMap N) (P : Path) (is : IsTrue (is_path P.lines))
+module _ (g : Margin) (M N : Map) (m : IsMap M) (n : IsMap N) (P : Path) (is : IsTrue (is_path P.lines))
     (sound : path_fault M P ≡ None) (same : Each (SameLine M N) P.lines)
     (traversed : (v : ℕ) → TraversedOfExtended M P v → SameRound M N v) where
   nonempty : 0 < length P.lines
@@ -103,24 +105,24 @@ module _ (M N : Map) (m : IsMap M) (n : IsMap N) (P : Path) (is : IsTrue (is_pat
         λ i. record { lines = fs_same i ++ back_same i; pos = P.pos + front i; neg = P.neg + back i }
 
     follow_there : (js : List ℕ) → ((i j : ℕ) → has (0 ∷ js) i ≡ true → i < j → j ≤ length ls
-        → dm_of M (stretch ls i j) ≤ limit → Covered M ls i j ↔ Covered N ls i j) → Follow M ls 0 js →
-        Follow N (extended_path N P b a).lines 0 js
-    follow_there js covers f = coe 0 1 (i. Follow N (path_there i).lines 0 js) (follow_moves M N ls
+        → dm_of M (stretch ls i j) ≤ limit → CoveredWith g M ls i j ↔ CoveredWith g N ls i j) → FollowWith g M ls 0 js →
+        FollowWith g N (extended_path N P b a).lines 0 js
+    follow_there js covers f = coe 0 1 (i. FollowWith g N (path_there i).lines 0 js) (follow_moves g M N ls
         (omega (arith, fs_nonempty, length-append fs (taken_end M fs a))) ls_alike (0 ∷ js) covers 0 js (λ k h. h) f)
 
     answer_there : (js : List ℕ) →
-        answer_by_points M (extended_path M P b a) js ≡ answer_by_points N (extended_path N P b a) js
+        answer_by_points_with g M (extended_path M P b a) js ≡ answer_by_points_with g N (extended_path N P b a) js
     answer_there js =
         let E = extended_path M P b a in
-        (λ i. cond (last_position 0 js == length E.lines) (Points (reference (legs_same M N ls ls_alike i) E.pos E.neg js))
+        (λ i. cond (last_position 0 js == length E.lines) (Points (reference_with g (legs_same M N ls ls_alike i) E.pos E.neg js))
         (Refused (No_next_point (last_position 0 js))))
-        ∙ ap (λ (E : Path). answer_by_points N E js) path_there
+        ∙ ap (λ (E : Path). answer_by_points_with g N E js) path_there
 
     traversed_moves : (v : ℕ) → Traversed M ls b a v ↔ Traversed N (extended_path N P b a).lines b a v
     traversed_moves v = coe 0 1 (i. Traversed M ls b a v ↔ Traversed N (path_there i).lines b a v)
         (Traversed-same M N ls b a v ls_alike b_alike a_alike)
 
-  module _ (queries : List CoverageQuery) (o : QueriesOfExtended M P queries) (routes : RoutesOf M N queries) where
+  module _ (queries : List CoverageQuery) (o : QueriesOfExtendedWith g M P queries) (routes : RoutesOf g M N queries) where
     abbrev E : Path
     E = extended_path M P o.before o.after
 
@@ -130,27 +132,27 @@ module _ (M N : Map) (m : IsMap M) (n : IsMap N) (P : Path) (is : IsTrue (is_pat
     joined : AreJoined M E.lines
     joined = extended_joined M P is sound o.before o.after o.tried
 
-    stay : (i k : ℕ) → IsLastTested M E.lines i k → Contains queries (query_to M E.lines i k) → RoutesStay M N E.lines i k
+    stay : (i k : ℕ) → IsLastTestedWith g M E.lines i k → Contains queries (query_to_with g M E.lines i k) → RoutesStay g M N E.lines i k
     stay = routes E.lines all_same (start M (first E.lines)) (end M (last E.lines)) joined
 
     covers : (i j : ℕ) → has (0 ∷ o.points) i ≡ true → i < j → j ≤ length E.lines → dm_of M (stretch E.lines i j) ≤ limit
-        → Covered M E.lines i j ↔ Covered N E.lines i j
-    covers i j on h g near = elim (cases_lt (i + 2) (length E.lines)) [
+        → CoveredWith g M E.lines i j ↔ CoveredWith g N E.lines i j
+    covers i j on h upto near = elim (cases_lt (i + 2) (length E.lines)) [
       | inl far ↦
-          let l = query_for M E.lines (0 ∷ o.points) queries o.holds i on far in
+          let l = query_for g M E.lines (0 ∷ o.points) queries o.holds i on far in
           let k = l.2 in
           covered_stays M N E.lines all_same _ _ joined i k.0 k.1
-          (stay i k.0 k.1 (subst (Contains queries) k.2 l.1)) j h g near
-      | inr close ↦ close_stays M N m n E.lines all_same i j h g (omega arith)
+          (stay i k.0 k.1 (subst (Contains queries) k.2 l.1)) (inr m) (inr n) j h upto near
+      | inr close ↦ close_stays g M N m n E.lines all_same i j h upto (omega arith)
     ]
 
     -- the same runs and LRPs, with a property of them on the other map
     goes_over : {R : Path → List ℕ → List ℕ → List ℕ → Type 0} →
-        R (extended_path N P o.before o.after) o.before o.after o.points → OfPath N P R
+        R (extended_path N P o.before o.after) o.before o.after o.points → OfPathWith g N P R
     goes_over h = search (tried_there, follow_there, covers) depth 6
 
     -- the answer
-    answer_stays : (A : Answer) → Encoding M P A → Encoding N P A
+    answer_stays : (A : Answer) → EncodingWith g M P A → EncodingWith g N P A
     answer_stays A p = goes_over (path_at m is sound o p ∙ answer_there o.before o.after o.tried o.points)
 
     -- the traversed nodes
@@ -177,50 +179,55 @@ module _ (M N : Map) (m : IsMap M) (n : IsMap N) (P : Path) (is : IsTrue (is_pat
     )
 
     -- the coverage queries
-    one_query : (i : ℕ) (l : CoverageQuery) → Contains queries l → IsQuery M E.lines i l → IsQuery N E.lines i l
+    one_query : (i : ℕ) (l : CoverageQuery) → Contains queries l → IsQueryWith g M E.lines i l → IsQueryWith g N E.lines i l
     one_query i l on k = (
       k.0,
       query_stays M N E.lines all_same _ _ joined i k.0 k.1 (stay i k.0 k.1 (subst (Contains queries) k.2 on)),
       k.2 ∙ to_same M N E.lines all_same _ _ joined i k.0 k.1,
     )
 
-    queries_stay : QueriesOfExtended N P queries
-    queries_stay = goes_over (coe 0 1 (i. QueriesFrom N (path_there o.before o.after o.tried i).lines
+    queries_stay : QueriesOfExtendedWith g N P queries
+    queries_stay = goes_over (coe 0 1 (i. QueriesFromWith g N (path_there o.before o.after o.tried i).lines
         (querying (path_there o.before o.after o.tried i).lines (0 ∷ o.points)) queries)
-        (zip_moves (IsQuery M E.lines) (IsQuery N E.lines) (querying E.lines (0 ∷ o.points)) queries one_query o.holds))
+        (zip_moves (IsQueryWith g M E.lines) (IsQueryWith g N E.lines) (querying E.lines (0 ∷ o.points)) queries one_query o.holds))
 
 -- ---- whether or not the path has a fault
 
-module _ (M N : Map) (m : IsMap M) (n : IsMap N) (P : Path) (is : IsTrue (is_path P.lines))
-    (same : Each (SameLine M N) P.lines) (queries : List CoverageQuery) (routes : RoutesOf M N queries) where
-  -- by the faults f and g of the path on the two maps
+module _ (g : Margin) (M N : Map) (m : IsMap M) (n : IsMap N) (P : Path) (is : IsTrue (is_path P.lines))
+    (same : Each (SameLine M N) P.lines) (queries : List CoverageQuery) (routes : RoutesOf g M N queries) where
+  -- by the faults f and h of the path on the two maps
   abbrev Stay : Option Refusal → Option Refusal → Type 0
-  Stay f g =
+  Stay f h =
       ((v : ℕ) → MatchOption f (TraversedOfExtended M P v) (λ _. ⊥) → SameRound M N v) →
-      MatchOption f (QueriesOfExtended M P queries) (λ _. queries ≡ [])
-      → ((A : Answer) → MatchOption f (Encoding M P A) (λ r. A ≡ Refused r) → MatchOption g (Encoding N P A) (λ r. A ≡ Refused r))
-      × ((v : ℕ) → MatchOption f (TraversedOfExtended M P v) (λ _. ⊥) ↔ MatchOption g (TraversedOfExtended N P v) (λ _. ⊥))
-      × MatchOption g (QueriesOfExtended N P queries) (λ _. queries ≡ [])
+      MatchOption f (QueriesOfExtendedWith g M P queries) (λ _. queries ≡ [])
+      → ((A : Answer) → MatchOption f (EncodingWith g M P A) (λ r. A ≡ Refused r) → MatchOption h (EncodingWith g N P A) (λ r. A ≡ Refused r))
+      × ((v : ℕ) → MatchOption f (TraversedOfExtended M P v) (λ _. ⊥) ↔ MatchOption h (TraversedOfExtended N P v) (λ _. ⊥))
+      × MatchOption h (QueriesOfExtendedWith g N P queries) (λ _. queries ≡ [])
 
   pub queried_kept : Stay (path_fault M P) (path_fault N P)
   queried_kept = subst (Stay (path_fault M P)) (fault_same M N P same) (by_fault M P (λ f. Stay f f) (λ e traversed o. (
-    answer_stays M N m n P is e same traversed queries o routes,
-    traversed_stays M N m n P is e same traversed queries o routes,
-    queries_stay M N m n P is e same traversed queries o routes,
+    answer_stays g M N m n P is e same traversed queries o routes,
+    traversed_stays g M N m n P is e same traversed queries o routes,
+    queries_stay g M N m n P is e same traversed queries o routes,
   )) (λ r traversed o. ((λ A p. p), (λ v. ((λ h. h), (λ h. h))), o)))
 
 -- if each coverage query is clear
-clear : (M N : Map) (C : List ChangedLine) → AccountsFor C M N → AccountsFor C N M → (queries : List CoverageQuery) →
-    All (IsClear N C) queries → RoutesOf M N queries
-clear M N C there here queries all ls each s t joined i k last on =
-    clear_routes M N ls each s t joined i k last C there here (All-contains (IsClear N C) queries (query_to M ls i k) all on)
+clear : (g : Margin) (M N : Map) (C : List ChangedLine) → AccountsFor C M N → AccountsFor C N M → (queries : List CoverageQuery) →
+    All (IsClear N C) queries → RoutesOf g M N queries
+clear g M N C there here queries all ls each s t joined i k last on =
+    clear_routes M N ls each s t joined i k last C there here (All-contains (IsClear N C) queries (query_to_with g M ls i k) all on)
 
-pub kept : AnswersRetained
-kept M N m n C there here P is same traversed queries o all =
-    queried_kept M N m n P is (Each-from (SameLine M N) P.lines same) queries (clear M N C there here queries all) traversed o
+pub kept : (g : Margin) → AnswersRetained g
+kept g M N m n C there here P is same traversed queries o all =
+    queried_kept g M N m n P is (Each-from (SameLine M N) P.lines same) queries (clear g M N C there here queries all) traversed o
 
 -- the same conclusion from what is touched
-pub untouched_retained : UntouchedRetained
-untouched_retained M N m n T X C d P is lines nodes queries =
-    kept M N m n C d.there d.here P is (Each-to (SameLine M N) P.lines (λ x on. d.lines x (grind (arith, lines, cases_Bool, both_ways))))
+pub untouched_retained_with : (g : Margin) → UntouchedRetained g
+untouched_retained_with g M N m n T X C d P is lines nodes queries =
+    kept g M N m n C d.there d.here P is (Each-to (SameLine M N) P.lines (λ x on. d.lines x (grind (arith, lines, cases_Bool, both_ways))))
     (λ v on. d.nodes v (grind (arith, nodes, cases_Bool))) queries
+
+-- ---- without a margin
+
+pub untouched_retained : UntouchedRetained no_margin
+untouched_retained = untouched_retained_with no_margin

@@ -1,19 +1,21 @@
 -- A path has exactly one list of coverage queries, and they determine its footprint.
+use Rattle.olr_spec.specs.Margins.{no_margin}
+use Rattle.olr_spec.specs.Margins.{Margin}
 use Rattle.olr_spec.proofs.Common.{inl, inr, ◌≡◌, ℕ, zero, suc, ◌+◌, ◌-◌, min, true, List, ◌∷◌, length, ◌<◌, ◌≤◌, None}
 use Rattle.olr_spec.proofs.Common.{IsTrue, Contains, refl, sym, ap, ◌∙◌, subst, arith, MatchOption, ◌⊎◌, T, []}
 use Rattle.olr_spec.proofs.Common.{cases_lt, cases_eq, cases_order, dec_le, AllZip, Map, IsMap, has, dm_of, Path}
-use Rattle.olr_spec.proofs.Common.{is_path, extended_path, limit, stretch, Covered, Greatest, path_fault, Sees}
-use Rattle.olr_spec.proofs.Common.{Traversed, TraversedOfExtended, Needed, IsLastTested, CoverageQuery, query_to}
-use Rattle.olr_spec.proofs.Common.{IsQuery, querying, QueriesOfExtended, Near, OneLastTested, SomeLastTested}
+use Rattle.olr_spec.proofs.Common.{is_path, extended_path, limit, stretch, CoveredWith, Greatest, path_fault, Sees}
+use Rattle.olr_spec.proofs.Common.{Traversed, TraversedOfExtended, Needed, IsLastTestedWith, CoverageQuery, query_to_with}
+use Rattle.olr_spec.proofs.Common.{IsQueryWith, querying, QueriesOfExtendedWith, Near, OneLastTested, SomeLastTested}
 use Rattle.olr_spec.proofs.Common.{OneQueries, SomeQueries, FootIsQueried, FootAffected}
 use Rattle.olr_spec.proofs.Facts.{path_also, path_at, same_by, by_fault, has_here, has_there, near_same, empty_stretch}
-use Rattle.olr_spec.specs.Footprint.{Touched, On_path, On_start_run, On_end_run, Within_reach, FootOf}
+use Rattle.olr_spec.specs.Footprint.{TouchedWith, On_path, On_start_run, On_end_run, Within_reach, FootOfWith}
 use Rattle.olr_spec.proofs.DecideLemmas.{dec_and, dec_Covered, greatest_or_none, some_follow, some_encoding}
-use Rattle.olr_spec.proofs.QueryLists.{query_for, query_from, queries_here}
+use Rattle.olr_spec.proofs.QueryLists.{query_for, query_from_with, queries_here}
 
 -- ---- the last position that is tested
 
-no_later : (M : Map) (ls : List ℕ) (i j k : ℕ) → IsLastTested M ls i j → IsLastTested M ls i k → ¬ (j < k)
+no_later : {g : Margin} (M : Map) (ls : List ℕ) (i j k : ℕ) → IsLastTestedWith g M ls i j → IsLastTestedWith g M ls i k → ¬ (j < k)
 no_later M ls i j k p q lt = elim p.last [
   | inl bare ↦ bare (q.before j p.after lt)
   | inr all ↦ elim q.needed [
@@ -22,44 +24,44 @@ no_later M ls i j k p q lt = elim p.last [
   ]
 ]
 
-pub one_last_tested : OneLastTested
-one_last_tested M ls i j k p q = elim (cases_order j k) [
+pub one_last_tested_with : (g : Margin) → OneLastTested g
+one_last_tested_with g M ls i j k p q = elim (cases_order j k) [
   | inl e ↦ e
   | inr (inl lt) ↦ absurd (no_later M ls i j k p q lt)
   | inr (inr gt) ↦ absurd (no_later M ls i k j q p gt)
 ]
 
 -- from position i + 1 on, where f is the farthest position that is near enough
-module _ (M : Map) (m : IsMap M) (ls : List ℕ) (i f : ℕ)
+module _ (g : Margin) (M : Map) (m : IsMap M) (ls : List ℕ) (i f : ℕ)
     (far : Greatest (λ j. (j ≤ length ls) × (dm_of M (stretch ls i j) ≤ limit)) f) where
   abbrev most : ℕ
   most = min f (length ls - 1)
 
-  test_on : (fuel k : ℕ) → length ls ≤ k + fuel → i < k → k < length ls → ((j : ℕ) → i < j → j < k → Covered M ls i j)
-      → (k ≡ i + 1) ⊎ Needed M ls i k → (j : ℕ) × IsLastTested M ls i j
+  test_on : (fuel k : ℕ) → length ls ≤ k + fuel → i < k → k < length ls → ((j : ℕ) → i < j → j < k → CoveredWith g M ls i j)
+      → (k ≡ i + 1) ⊎ Needed M ls i k → (j : ℕ) × IsLastTestedWith g M ls i j
   test_on zero k u a h before n = absurd (omega arith)
   test_on (suc fuel) k u a h before n =
-      let found : (¬ Covered M ls i k) ⊎ ((j : ℕ) → Needed M ls i j → j ≤ k) → (j : ℕ) × IsLastTested M ls i j =
+      let found : (¬ CoveredWith g M ls i k) ⊎ ((j : ℕ) → Needed M ls i j → j ≤ k) → (j : ℕ) × IsLastTestedWith g M ls i j =
       λ l. (k, record { after = a; inside = h; before = before; needed = n; last = l }) in
-      elim (dec_Covered M m ls i k) [
+      elim (dec_Covered g M m ls i k) [
         | no bare ↦ found (inl bare)
         | yes c ↦ elim (cases_lt k most) [
           | inr done ↦ found (inr (λ j w. omega (arith, far.others w.0 (w.1, w.2))))
           | inl more ↦ test_on fuel (k + 1) (omega arith) (omega arith) (omega arith)
-              (λ j b g. elim (cases_eq j k) [
-                | inl e ↦ subst (Covered M ls i) (sym e) c
+              (λ j b before_k. elim (cases_eq j k) [
+                | inl e ↦ subst (CoveredWith g M ls i) (sym e) c
                 | inr ne ↦ before j b (omega arith)
               ])
               (inr (f, far.holds.0, far.holds.1, omega arith))
         ]
       ]
 
-pub some_last_tested : SomeLastTested
-some_last_tested M m ls i h =
+pub some_last_tested : (g : Margin) → SomeLastTested g
+some_last_tested g M m ls i h =
     let Near_enough : ℕ → Type 0 = λ j. (j ≤ length ls) × (dm_of M (stretch ls i j) ≤ limit) in
     elim (greatest_or_none Near_enough (λ j. dec_and (dec_le j (length ls)) (dec_le (dm_of M (stretch ls i j)) limit))
     (suc (length ls)) (λ k n. omega arith)) [
-      | inl g ↦ test_on M m ls i g.0 g.1 (length ls) (i + 1) (omega arith) (omega arith) h
+      | inl far ↦ test_on g M m ls i far.0 far.1 (length ls) (i + 1) (omega arith) (omega arith) h
           (λ j b l. absurd (omega arith)) (inl refl)
       | inr none ↦
           let empty : dm_of M (stretch ls i i) ≡ 0 = ap (dm_of M) (empty_stretch ls i i (omega arith)) in
@@ -68,87 +70,98 @@ some_last_tested M m ls i h =
 
 -- ---- the coverage queries
 
-pub one_query : (M : Map) (ls : List ℕ) (i : ℕ) (k l : CoverageQuery) → IsQuery M ls i k → IsQuery M ls i l → k ≡ l
-one_query M ls i k l p q = p.2 ∙ ap (query_to M ls i) (one_last_tested M ls i p.0 q.0 p.1 q.1) ∙ sym q.2
+pub one_query : {g : Margin} (M : Map) (ls : List ℕ) (i : ℕ) (k l : CoverageQuery) → IsQueryWith g M ls i k → IsQueryWith g M ls i l → k ≡ l
+one_query {g} M ls i k l p q = p.2 ∙ ap (query_to_with g M ls i) (one_last_tested_with g M ls i p.0 q.0 p.1 q.1) ∙ sym q.2
 
-one_zip : (M : Map) (ls is : List ℕ) (ks hs : List CoverageQuery) → AllZip (IsQuery M ls) is ks → AllZip (IsQuery M ls) is hs
+one_zip : (g : Margin) (M : Map) (ls is : List ℕ) (ks hs : List CoverageQuery) → AllZip (IsQueryWith g M ls) is ks → AllZip (IsQueryWith g M ls) is hs
     → ks ≡ hs
-one_zip M ls [] [] [] p q = refl
-one_zip M ls (i ∷ is) (k ∷ ks) (h ∷ hs) p q = λ j. one_query M ls i k h p.0 q.0 j ∷ one_zip M ls is ks hs p.1 q.1 j
-one_zip M ls _ _ _ p q = grind arith
+one_zip g M ls [] [] [] p q = refl
+one_zip g M ls (i ∷ is) (k ∷ ks) (h ∷ hs) p q = λ j. one_query M ls i k h p.0 q.0 j ∷ one_zip g M ls is ks hs p.1 q.1 j
+one_zip g M ls _ _ _ p q = grind arith
 
-some_zip : (M : Map) → IsMap M → (ls is : List ℕ) → ((i : ℕ) → has is i ≡ true → i + 2 < length ls)
-    → (queries : List CoverageQuery) × AllZip (IsQuery M ls) is queries
-some_zip M m ls [] h = ([], tt)
-some_zip M m ls (i ∷ is) h =
-    let k = some_last_tested M m ls i (omega (arith, h i (has_here i is))) in
-    let rest = some_zip M m ls is (λ j on. h j (has_there i is j on)) in
-    (query_to M ls i k.0 ∷ rest.0, ((k.0, k.1, refl), rest.1))
+some_zip : (g : Margin) (M : Map) → IsMap M → (ls is : List ℕ) → ((i : ℕ) → has is i ≡ true → i + 2 < length ls)
+    → (queries : List CoverageQuery) × AllZip (IsQueryWith g M ls) is queries
+some_zip g M m ls [] h = ([], tt)
+some_zip g M m ls (i ∷ is) h =
+    let k = some_last_tested g M m ls i (omega (arith, h i (has_here i is))) in
+    let rest = some_zip g M m ls is (λ j on. h j (has_there i is j on)) in
+    (query_to_with g M ls i k.0 ∷ rest.0, ((k.0, k.1, refl), rest.1))
 
-module _ (M : Map) (m : IsMap M) (P : Path) (is : IsTrue (is_path P.lines)) (sound : path_fault M P ≡ None) where
-  some_list : (queries : List CoverageQuery) × QueriesOfExtended M P queries
+module _ (g : Margin) (M : Map) (m : IsMap M) (P : Path) (is : IsTrue (is_path P.lines)) (sound : path_fault M P ≡ None) where
+  some_list : (queries : List CoverageQuery) × QueriesOfExtendedWith g M P queries
   some_list =
-      let p = (some_encoding M m P is sound).1 in
+      let p = (some_encoding g M m P is sound).1 in
       let ls = (extended_path M P p.before p.after).lines in
-      let z = some_zip M m ls (querying ls (0 ∷ p.points)) (λ i on. (queries_here ls (0 ∷ p.points) i on).1) in
+      let z = some_zip g M m ls (querying ls (0 ∷ p.points)) (λ i on. (queries_here ls (0 ∷ p.points) i on).1) in
       (z.0, path_also p z.1)
 
   -- the footprint
-  foot_there : (queries : List CoverageQuery) → QueriesOfExtended M P queries → (v : ℕ) → FootOf M P v
+  foot_there : (queries : List CoverageQuery) → QueriesOfExtendedWith g M P queries → (v : ℕ) → FootOfWith g M P v
       → TraversedOfExtended M P v ⊎ ((l : CoverageQuery) × Contains queries l × Sees M l v)
   foot_there queries o v f = by (path_at m is sound o f)
     where
       traversed : Traversed M (extended_path M P o.before o.after).lines o.before o.after v → TraversedOfExtended M P v
       traversed h = record { before = o.before; after = o.after; tried = o.tried; traversed = h }
 
-      by : Touched M (extended_path M P o.before o.after).lines o.before o.after o.points v
+      by : TouchedWith g M (extended_path M P o.before o.after).lines o.before o.after o.points v
           → TraversedOfExtended M P v ⊎ ((l : CoverageQuery) × Contains queries l × Sees M l v)
       by (On_path n) = inl (traversed (inl n))
       by (On_start_run n) = inl (traversed (inr (inl n)))
       by (On_end_run n) = inl (traversed (inr (inr n)))
       by (Within_reach (i, on, far, (q, query, sees))) =
-          let l = query_for M _ (0 ∷ o.points) queries o.holds i on far in
+          let l = query_for g M _ (0 ∷ o.points) queries o.holds i on far in
           inr (l.0, l.1, subst (λ (k : CoverageQuery). Sees M k v) (one_query M _ i q l.0 query l.2) sees)
 
-  foot_here : (queries : List CoverageQuery) → QueriesOfExtended M P queries → (v : ℕ)
-      → TraversedOfExtended M P v ⊎ ((l : CoverageQuery) × Contains queries l × Sees M l v) → FootOf M P v
+  foot_here : (queries : List CoverageQuery) → QueriesOfExtendedWith g M P queries → (v : ℕ)
+      → TraversedOfExtended M P v ⊎ ((l : CoverageQuery) × Contains queries l × Sees M l v) → FootOfWith g M P v
   foot_here queries o v (inl p) =
       let ls = (extended_path M P p.before p.after).lines in
-      let js = some_follow M m ls (length ls) 0 (omega arith) in
-      let touched : Touched M ls p.before p.after js.0 v = grind arith in
+      let js = some_follow g M m ls (length ls) 0 (omega arith) in
+      let touched : TouchedWith g M ls p.before p.after js.0 v = grind arith in
       record { before = p.before; after = p.after; points = js.0; tried = p.tried; follow = js.1; holds = touched }
   foot_here queries o v (inr r) =
-      let i = query_from M ((extended_path M P o.before o.after).lines) (0 ∷ o.points) queries o.holds r.0 r.1 in
+      let i = query_from_with g M ((extended_path M P o.before o.after).lines) (0 ∷ o.points) queries o.holds r.0 r.1 in
       path_also o (Within_reach (i.0, i.1, i.2, (r.0, i.3, r.2)))
 
 -- ---- whether or not the path has a fault
 
-pub one_queries : OneQueries
-one_queries M m P is ks ls = same_by (path_fault M P) (QueriesOfExtended M P) (λ _. []) ks ls
-    (λ e p q. one_zip M (extended_path M P p.before p.after).lines _ ks ls p.holds (path_at m is e p q))
+pub one_queries_with : (g : Margin) → OneQueries g
+one_queries_with g M m P is ks ls = same_by (path_fault M P) (QueriesOfExtendedWith g M P) (λ _. []) ks ls
+    (λ e p q. one_zip g M (extended_path M P p.before p.after).lines _ ks ls p.holds (path_at m is e p q))
 
-pub some_queries : SomeQueries
-some_queries M m P is =
-    by_fault M P (λ o. (queries : List CoverageQuery) × MatchOption o (QueriesOfExtended M P queries) (λ _. queries ≡ []))
-    (some_list M m P is) (λ r. ([], refl))
+pub some_queries : (g : Margin) → SomeQueries g
+some_queries g M m P is =
+    by_fault M P (λ o. (queries : List CoverageQuery) × MatchOption o (QueriesOfExtendedWith g M P queries) (λ _. queries ≡ []))
+    (some_list g M m P is) (λ r. ([], refl))
 
-pub foot_queried : FootIsQueried
-foot_queried M m P is queries o v = grind (arith, by_fault, foot_there, foot_here)
+pub foot_queried_with : (g : Margin) → FootIsQueried g
+foot_queried_with g M m P is queries o v = grind (arith, by_fault, foot_there g M m P is, foot_here g M m P is)
 
 -- ---- what touched nodes affect
 
-pub foot_affected : FootAffected
-foot_affected M N m T round P is queries o = (
-  (λ f. elim ((foot_queried M m P is queries o f.0).0 f.2) [
+pub foot_affected_with : (g : Margin) → FootAffected g
+foot_affected_with g M N m T round P is queries o = (
+  (λ f. elim ((foot_queried_with g M m P is queries o f.0).0 f.2) [
     | inl traversed ↦ inl (f.0, f.1, traversed)
     | inr (l, on, r) ↦
         let n : Near M T l.from l.within = record { node = f.0; route = r.0; touched = f.1; leads = r.1; within = r.2 } in
         inr (l, on, (near_same M N T round l.from l.within).0 n)
   ]),
   elim [
-    | inl traversed ↦ (traversed.0, traversed.1, (foot_queried M m P is queries o traversed.0).1 (inl traversed.2))
+    | inl traversed ↦ (traversed.0, traversed.1, (foot_queried_with g M m P is queries o traversed.0).1 (inl traversed.2))
     | inr (l, on, r) ↦
         let n = (near_same M N T round l.from l.within).1 r in
-        (n.node, n.touched, (foot_queried M m P is queries o n.node).1 (inr (l, on, (n.route, n.leads, n.within))))
+        (n.node, n.touched, (foot_queried_with g M m P is queries o n.node).1 (inr (l, on, (n.route, n.leads, n.within))))
   ],
 )
+
+-- ---- without a margin
+
+pub foot_queried : FootIsQueried no_margin
+foot_queried = foot_queried_with no_margin
+
+pub one_last_tested : OneLastTested no_margin
+one_last_tested = one_last_tested_with no_margin
+
+pub foot_affected : FootAffected no_margin
+foot_affected = foot_affected_with no_margin

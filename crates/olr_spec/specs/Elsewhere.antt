@@ -3,10 +3,20 @@
 --     HasNoOther M N      each line of N is a line of M with the same ends
 --     IsNearly a b M N xs      the lines xs are on N, at most a thousandths longer; the others are at most b thousandths
 --         shorter
+--     IsNearlyAlong a b M N ls      so it is for each part of the lines ls: no line is more than b thousandths shorter
+--     HasClasses g M N ls      the classes of these lines are at most as much less important as the margin allows
+--     KeptLines g M P Q      Q holds of the lines from the first remaining LRP of the path to the last
+--     RecoversLegs g M N ls ks      from the path's own line at each LRP to the next, the shortest route on N over lines
+--         of at least the importance that the reference of M names recovers the leg, and nothing else
 --     suffices g a b      these differences are within the margin
-use Rattle.std.specs.Prelude.{◌≡◌, ℕ, ◌+◌, ◌-◌, ◌*◌, ◌≤◌, Bool, List, nat_le, IsTrue, IsFalse}
-use Rattle.olr_spec.specs.Map.{Map, has_line, start, end, dm, has}
-use Rattle.olr_spec.specs.Margins.{Margin}
+use Rattle.std.specs.Prelude.{◌≡◌, ℕ, ◌+◌, ◌-◌, ◌*◌, ◌≤◌, Bool, List, [], ◌∷◌, slice_index, nat_le, ◌↔◌, ⊤, IsTrue}
+use Rattle.std.specs.Prelude.{IsFalse}
+use Rattle.olr_spec.specs.Map.{Map, has_line, line_at, start, end, dm, has}
+use Rattle.olr_spec.specs.Margins.{Margin, allowed}
+use Rattle.olr_spec.specs.Extension.{Path}
+use Rattle.olr_spec.specs.Points.{stretch, OfPathWith}
+use Rattle.olr_spec.specs.Reference.{attrs_with, legs, first_kept, last_kept}
+use Rattle.olr_spec.specs.Receiver.{RecoversTo, RecoversLast}
 
 pub record HasNoOther (M N : Map) : Type 0 where
   pub known : (x : ℕ) → IsTrue (has_line N x) → IsTrue (has_line M x)
@@ -18,6 +28,29 @@ pub record IsNearly (a b : ℕ) (M N : Map) (xs : List ℕ) : Type 0 where
   pub known : (x : ℕ) → IsTrue (has xs x) → IsTrue (has_line N x)
   pub own : (x : ℕ) → IsTrue (has xs x) → 1000 * dm N x ≤ (1000 + a) * dm M x
   pub others : (y : ℕ) → IsTrue (has_line N y) → IsFalse (has xs y) → (1000 - b) * dm M y ≤ 1000 * dm N y
+
+pub record IsNearlyAlong (a b : ℕ) (M N : Map) (ls : List ℕ) : Type 0 where
+  pub known : (x : ℕ) → IsTrue (has ls x) → IsTrue (has_line N x)
+  pub own : (x : ℕ) → IsTrue (has ls x) → 1000 * dm N x ≤ (1000 + a) * dm M x
+  pub all : (y : ℕ) → IsTrue (has_line N y) → (1000 - b) * dm M y ≤ 1000 * dm N y
+
+abbrev pub HasClasses : Margin → Map → Map → List ℕ → Type 0
+HasClasses g M N ls = (x : ℕ) → IsTrue (has ls x) → (line_at N x).frc ≤ allowed g (line_at M x).frc
+
+abbrev pub KeptLines : Margin → Map → Path → (List ℕ → Type 0) → Type 0
+KeptLines g M P Q =
+    OfPathWith g M P (λ E _ _ js.
+    Q (stretch E.lines (first_kept (legs M E.lines) E.pos js) (last_kept (legs M E.lines) E.neg js)))
+
+abbrev pub RecoversLegs : Margin → Map → Map → List ℕ → List ℕ → Type 0
+RecoversLegs g M N ls [] = ⊤
+RecoversLegs g M N ls (p ∷ []) = ⊤
+RecoversLegs g M N ls (p ∷ q ∷ []) =
+    (w : List ℕ) → RecoversLast N (attrs_with g (legs M ls) p q).lfrc (slice_index ls p) (slice_index ls (q - 1)) w
+    ↔ (w ≡ stretch ls p q)
+RecoversLegs g M N ls (p ∷ q ∷ r ∷ ks) =
+    ((w : List ℕ) → RecoversTo N (attrs_with g (legs M ls) p q).lfrc (slice_index ls p) (slice_index ls q) w
+    ↔ (w ≡ stretch ls p q)) × RecoversLegs g M N ls (q ∷ r ∷ ks)
 
 abbrev pub suffices : Margin → ℕ → ℕ → Bool
 suffices g a b = nat_le ((1000 + a) * 1000) ((1000 - b) * (1000 + g.routes))

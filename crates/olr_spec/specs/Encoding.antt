@@ -1,16 +1,17 @@
 -- The answer of a path on a map. It depends on no earlier map or answer.
 --     Answer, Refusal      a reference, or the reason why the path is not encodable
 --     path_fault M P      the first of the reasons that the path's own lines give
---     Encodes M P A      A is the answer
+--     Encodes M P A, EncodesWith g M P A      A is the answer, with a margin
 --     IsPoint M P k v      node v is LRP k of its reference
 use Rattle.std.specs.Prelude.{◌≡◌, ℕ, suc, ◌+◌, List, [], ◌∷◌, length, find, nat_le, ◌==◌, not, slice_get, Option, Some}
 use Rattle.std.specs.Prelude.{None, option_map, MatchOption, if◌then◌else◌}
 use Rattle.std.specs.Option.{option_or}
+use Rattle.olr_spec.specs.Margins.{Margin, no_margin}
 use Rattle.olr_spec.specs.Map.{Map, has_line, start, end}
 use Rattle.olr_spec.specs.Routes.{dm_of}
 use Rattle.olr_spec.specs.Extension.{Path}
-use Rattle.olr_spec.specs.Points.{node_at, last_position, OfPath}
-use Rattle.olr_spec.specs.Reference.{Reference, legs, kept_points, reference}
+use Rattle.olr_spec.specs.Points.{node_at, last_position, OfPathWith}
+use Rattle.olr_spec.specs.Reference.{Reference, legs, kept_points, reference_with}
 
 -- the reasons, in this order (profile): a line isn't on the map; line k of the path doesn't end where the next starts;
 -- the offsets are at least as long as the path; no position may be the next LRP after position k
@@ -42,22 +43,36 @@ path_fault M P =
     (if nat_le (dm_of M P.lines) (P.pos + P.neg) then Some Offset_too_long else None))
 
 -- for an extended path E, by the LRPs after position 0: a reference if the last of them is the end
-abbrev pub answer_by_points : Map → Path → List ℕ → Answer
-answer_by_points M E js =
+abbrev pub answer_by_points_with : Margin → Map → Path → List ℕ → Answer
+answer_by_points_with g M E js =
     if last_position 0 js == length E.lines
-    then Points (reference (legs M E.lines) E.pos E.neg js)
+    then Points (reference_with g (legs M E.lines) E.pos E.neg js)
     else Refused (No_next_point (last_position 0 js))
 
 -- A is the answer of the extended path, by its LRPs
-abbrev pub Encoding : Map → Path → Answer → Type 0
-Encoding M P A = OfPath M P (λ E _ _ js. A ≡ answer_by_points M E js)
+abbrev pub EncodingWith : Margin → Map → Path → Answer → Type 0
+EncodingWith g M P A = OfPathWith g M P (λ E _ _ js. A ≡ answer_by_points_with g M E js)
 
 -- a reason that the path's own lines give, or else the answer by its LRPs (White Paper, encoding steps)
-abbrev pub Encodes : Map → Path → Answer → Type 0
-Encodes M P A = MatchOption (path_fault M P) (Encoding M P A) (λ r. A ≡ Refused r)
+abbrev pub EncodesWith : Margin → Map → Path → Answer → Type 0
+EncodesWith g M P A = MatchOption (path_fault M P) (EncodingWith g M P A) (λ r. A ≡ Refused r)
 
 -- node v is LRP k of the path's reference, counted from 0
-abbrev pub IsPoint : Map → Path → ℕ → ℕ → Type 0
-IsPoint M P k v =
-    OfPath M P (λ E _ _ js. option_map (node_at M E.lines) (slice_get (kept_points (legs M E.lines) E.pos E.neg js) k)
+abbrev pub IsPointWith : Margin → Map → Path → ℕ → ℕ → Type 0
+IsPointWith g M P k v =
+    OfPathWith g M P (λ E _ _ js. option_map (node_at M E.lines) (slice_get (kept_points (legs M E.lines) E.pos E.neg js) k)
     ≡ Some v)
+
+-- ---- without a margin, as the program encodes
+
+abbrev pub answer_by_points : Map → Path → List ℕ → Answer
+answer_by_points = answer_by_points_with no_margin
+
+abbrev pub Encoding : Map → Path → Answer → Type 0
+Encoding = EncodingWith no_margin
+
+abbrev pub Encodes : Map → Path → Answer → Type 0
+Encodes = EncodesWith no_margin
+
+abbrev pub IsPoint : Map → Path → ℕ → ℕ → Type 0
+IsPoint = IsPointWith no_margin

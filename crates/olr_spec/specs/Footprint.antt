@@ -1,13 +1,14 @@
 -- The nodes on which an answer depends (profile).
 --     Sees M l v      a route of at most the coverage query's length leads from where it begins to node v
---     Foot M P v      node v belongs to the footprint of the path
+--     Foot M P v, FootWith g M P v      node v belongs to the footprint of the path, with a margin
 use Rattle.std.specs.Prelude.{ℕ, ◌+◌, ◌<◌, List, ◌∷◌, length, MatchOption, IsTrue}
+use Rattle.olr_spec.specs.Margins.{Margin, no_margin}
 use Rattle.olr_spec.specs.Map.{Map, has}
 use Rattle.olr_spec.specs.Routes.{Reaches}
 use Rattle.olr_spec.specs.Extension.{Path}
-use Rattle.olr_spec.specs.Points.{OfPath}
+use Rattle.olr_spec.specs.Points.{OfPathWith}
 use Rattle.olr_spec.specs.Encoding.{path_fault}
-use Rattle.olr_spec.specs.Queries.{NodeOf, CoverageQuery, IsQuery}
+use Rattle.olr_spec.specs.Queries.{NodeOf, CoverageQuery, IsQueryWith}
 
 -- the search for a coverage query is settled no farther than its length: the standard's 15,000 m limit how far along
 -- the path a position may be, and do not decide whether it is covered
@@ -16,20 +17,34 @@ Sees M l v = Reaches M l.from l.within v
 
 -- reached by the coverage query of an LRP whose line is followed by two or more lines; for later LRPs nothing is
 -- searched
-abbrev pub Searched : Map → List ℕ → List ℕ → ℕ → Type 0
-Searched M ls is v =
-    (i : ℕ) × IsTrue (has is i) × (i + 2 < length ls) × ((l : CoverageQuery) × IsQuery M ls i l × Sees M l v)
+abbrev pub SearchedWith : Margin → Map → List ℕ → List ℕ → ℕ → Type 0
+SearchedWith g M ls is v =
+    (i : ℕ) × IsTrue (has is i) × (i + 2 < length ls) × ((l : CoverageQuery) × IsQueryWith g M ls i l × Sees M l v)
 
 -- on the extended path, on one of the tried runs, or reached by a coverage query
-pub data Touched (M : Map) (ls b a js : List ℕ) (v : ℕ) : Type 0 where
-  On_path : NodeOf M ls v → Touched M ls b a js v
-  On_start_run : NodeOf M b v → Touched M ls b a js v
-  On_end_run : NodeOf M a v → Touched M ls b a js v
-  Within_reach : Searched M ls (0 ∷ js) v → Touched M ls b a js v
+pub data TouchedWith (g : Margin) (M : Map) (ls b a js : List ℕ) (v : ℕ) : Type 0 where
+  On_path : NodeOf M ls v → TouchedWith g M ls b a js v
+  On_start_run : NodeOf M b v → TouchedWith g M ls b a js v
+  On_end_run : NodeOf M a v → TouchedWith g M ls b a js v
+  Within_reach : SearchedWith g M ls (0 ∷ js) v → TouchedWith g M ls b a js v
 
-abbrev pub FootOf : Map → Path → ℕ → Type 0
-FootOf M P v = OfPath M P (λ E b a js. Touched M E.lines b a js v)
+abbrev pub FootOfWith : Margin → Map → Path → ℕ → Type 0
+FootOfWith g M P v = OfPathWith g M P (λ E b a js. TouchedWith g M E.lines b a js v)
 
 -- empty if the path's own lines give a reason
+abbrev pub FootWith : Margin → Map → Path → ℕ → Type 0
+FootWith g M P v = MatchOption (path_fault M P) (FootOfWith g M P v) (λ _. ⊥)
+
+-- ---- without a margin, as the program encodes
+
+abbrev pub Searched : Map → List ℕ → List ℕ → ℕ → Type 0
+Searched = SearchedWith no_margin
+
+abbrev pub Touched : Map → List ℕ → List ℕ → List ℕ → List ℕ → ℕ → Type 0
+Touched = TouchedWith no_margin
+
+abbrev pub FootOf : Map → Path → ℕ → Type 0
+FootOf = FootOfWith no_margin
+
 abbrev pub Foot : Map → Path → ℕ → Type 0
-Foot M P v = MatchOption (path_fault M P) (FootOf M P v) (λ _. ⊥)
+Foot = FootWith no_margin

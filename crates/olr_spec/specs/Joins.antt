@@ -3,13 +3,15 @@
 --     JoinsTo M ls p q, JoinsLast M ls p q      the leg between two neighbouring LRPs is a line and a unique shortest
 --         path; the last leg is one line, or a line, a unique shortest path and a line
 --     Joins M ls ks      this holds for each two neighbours of ks
---     Joined M P r      r is the reference of at least two LRPs, and the routes between them join to the extended path
+--     Joined M P r, JoinedWith g M P r      r is the reference of at least two LRPs, and the routes between them join to
+--         the extended path, with a margin
 use Rattle.std.specs.Prelude.{◌≡◌, ◌≤◌, ℕ, ◌-◌, List, [], ◌∷◌, ◌++◌, length, slice_index, ◌⊎◌, ⊤}
+use Rattle.olr_spec.specs.Margins.{Margin, no_margin}
 use Rattle.olr_spec.specs.Map.{Map, start, end}
 use Rattle.olr_spec.specs.Routes.{LrpRoute}
 use Rattle.olr_spec.specs.Extension.{Path}
-use Rattle.olr_spec.specs.Points.{stretch, last_position, OfPath}
-use Rattle.olr_spec.specs.Reference.{Reference, legs, kept_points, reference}
+use Rattle.olr_spec.specs.Points.{stretch, last_position, OfPathWith}
+use Rattle.olr_spec.specs.Reference.{Reference, legs, kept_points, reference_with}
 
 -- the leg from p to q is line p, and the unique shortest path from its end to the start of line q
 abbrev pub JoinsTo : Map → List ℕ → ℕ → ℕ → Type 0
@@ -33,8 +35,13 @@ Joins M ls (p ∷ q ∷ []) = JoinsLast M ls p q
 Joins M ls (p ∷ q ∷ r ∷ ks) = JoinsTo M ls p q × Joins M ls (q ∷ r ∷ ks)
 
 -- the LRPs lead to the end of the extended path
-abbrev pub Joined : Map → Path → Reference → Type 0
-Joined M P r =
-    OfPath M P (λ E _ _ js. (r ≡ reference (legs M E.lines) E.pos E.neg js) × (last_position 0 js ≡ length E.lines)
+abbrev pub JoinedWith : Margin → Map → Path → Reference → Type 0
+JoinedWith g M P r =
+    OfPathWith g M P (λ E _ _ js. (r ≡ reference_with g (legs M E.lines) E.pos E.neg js) × (last_position 0 js ≡ length E.lines)
     × (2 ≤ length (kept_points (legs M E.lines) E.pos E.neg js))
     × Joins M E.lines (kept_points (legs M E.lines) E.pos E.neg js))
+
+-- ---- without a margin, as the program encodes
+
+abbrev pub Joined : Map → Path → Reference → Type 0
+Joined = JoinedWith no_margin

@@ -24,25 +24,27 @@ use Rattle.std.specs.List.Sorted.{IsStrictlyIncreasing}
 use Rattle.olr_spec.specs.Map.{Map, empty_map, IsMap, Line, has_line, coord_at, lines_in, lines_out, Edit, edited}
 use Rattle.olr_spec.specs.Map.{touched_nodes, touched_lines, Enters, Leaves, Agree, SameLine, SameRound, has, HasCoord}
 use Rattle.olr_spec.specs.Routes.{IsRoute, dm_of, Least, UniqueShortest}
-use Rattle.olr_spec.specs.Margins.{Margin, counted}
-use Rattle.olr_spec.specs.Elsewhere.{HasNoOther, IsNearly, suffices}
+use Rattle.olr_spec.specs.Margins.{Margin, counted, IsSoundFor}
+use Rattle.olr_spec.specs.Elsewhere.{HasNoOther, IsNearly, IsNearlyAlong, HasClasses, KeptLines, RecoversLegs, suffices}
 use Rattle.olr_spec.specs.Labels.{Settled}
 use Rattle.olr_spec.specs.Extension.{Path, is_path, first, last, LongestStart, LongestEnd, limit}
-use Rattle.olr_spec.specs.Points.{stretch, Covered, Next, Follow, last_position}
+use Rattle.olr_spec.specs.Points.{stretch, CoveredWith, NextWith, FollowWith, last_position}
 use Rattle.olr_spec.specs.Bearings.{IsSector, sector}
+use Rattle.olr_spec.specs.Points.{OfPathWith}
+use Rattle.olr_spec.specs.Reference.{reference_with}
 use Rattle.olr_spec.specs.Reference.{Reference, leg, legs, first_kept, last_kept, kept_points}
-use Rattle.olr_spec.specs.Encoding.{Answer, Points, Encodes, IsPoint}
+use Rattle.olr_spec.specs.Encoding.{Answer, Points, Encodes, EncodesWith, IsPoint}
 use Rattle.olr_spec.specs.Bytes.{IsReference, HasBytes, v3_fault}
 use Rattle.olr_spec.specs.Decoded.{decoded, IsNear}
 use Rattle.olr_spec.specs.Joins.{Joins}
 use Rattle.olr_spec.specs.Receiver.{Outgoing, Incoming, Measure, Receiver, Recovers, attributes, candidates}
 use Rattle.olr_spec.specs.Receiver.{last_number, decoded_coord, is_nearest}
-use Rattle.olr_spec.specs.Recovery.{Distinct, IsLineAt, IsStretches, IsKeptPart, IsLeft, IsCut, IsClose, IsStep}
+use Rattle.olr_spec.specs.Recovery.{DistinctWith, IsLineAt, IsStretches, IsStretchesWith, IsKeptPart, IsLeft, IsCut, IsClose, IsStep}
 use Rattle.olr_spec.specs.Recovery.{IsWeighted, are_cosines, are_spaced, lon_apart, lat_apart}
-use Rattle.olr_spec.specs.Footprint.{Sees, Foot}
+use Rattle.olr_spec.specs.Footprint.{Sees, FootWith}
 use Rattle.olr_spec.specs.Detours.{ChangedLine, changes_of, AccountsFor, Difference, Detour, Near}
-use Rattle.olr_spec.specs.Queries.{TraversedOf, IsLastTested, CoverageQuery, query_to, QueriesOf, IsClear}
-use Rattle.olr_spec.specs.Queries.{KnownQuery, IsKnown, KnownOf}
+use Rattle.olr_spec.specs.Queries.{TraversedOf, IsLastTestedWith, CoverageQuery, query_to_with, QueriesOfWith, IsClear}
+use Rattle.olr_spec.specs.Queries.{KnownQuery, IsKnownWith, KnownOfWith}
 
 -- ---- maps
 
@@ -159,42 +161,50 @@ OneEndRun =
     c ≡ d
 
 -- an LRP has at most one next LRP
-abbrev pub OneNext : Type 0
-OneNext = (M : Map) (ls : List ℕ) (i j k : ℕ) → Next M ls i j → Next M ls i k → j ≡ k
+abbrev pub OneNext : Margin → Type 0
+OneNext g = (M : Map) (ls : List ℕ) (i j k : ℕ) → NextWith g M ls i j → NextWith g M ls i k → j ≡ k
 
 -- so there is at most one list of LRPs
-abbrev pub OnePoints : Type 0
-OnePoints = (M : Map) (ls : List ℕ) (i : ℕ) (js ks : List ℕ) → Follow M ls i js → Follow M ls i ks → js ≡ ks
+abbrev pub OnePoints : Margin → Type 0
+OnePoints g = (M : Map) (ls : List ℕ) (i : ℕ) (js ks : List ℕ) → FollowWith g M ls i js → FollowWith g M ls i ks → js ≡ ks
 
 -- a path has at most one answer
-abbrev pub OneAnswer : Type 0
-OneAnswer =
-    (M : Map) → IsMap M → (P : Path) → IsTrue (is_path P.lines) → (A B : Answer) → Encodes M P A → Encodes M P B → A ≡ B
+abbrev pub OneAnswer : Margin → Type 0
+OneAnswer g =
+    (M : Map) → IsMap M → (P : Path) → IsTrue (is_path P.lines) → (A B : Answer) → EncodesWith g M P A → EncodesWith g M P B → A ≡ B
 
 -- and at least one
-abbrev pub SomeAnswer : Type 0
-SomeAnswer = (M : Map) → IsMap M → (P : Path) → IsTrue (is_path P.lines) → (A : Answer) × Encodes M P A
+abbrev pub SomeAnswer : Margin → Type 0
+SomeAnswer g = (M : Map) → IsMap M → (P : Path) → IsTrue (is_path P.lines) → (A : Answer) × EncodesWith g M P A
 
 -- the reference of an answer fits its bits, so that it can be encoded as bytes
-abbrev pub AnswerFits : Type 0
-AnswerFits =
-    (M : Map) → IsMap M → (P : Path) → IsTrue (is_path P.lines) → (r : Reference) → Encodes M P (Points r) →
+abbrev pub AnswerFits : Margin → Type 0
+AnswerFits g =
+    (M : Map) → IsMap M → (P : Path) → IsTrue (is_path P.lines) → (r : Reference) → EncodesWith g M P (Points r) →
     IsReference r
 
 -- ---- LRPs
 
 -- if the offsets leave a part of the path, at least two LRPs remain
-abbrev pub TwoKept : Type 0
-TwoKept =
-    (M : Map) (ls js : List ℕ) (positive negative : ℕ) → Follow M ls 0 js → last_position 0 js ≡ length ls →
+abbrev pub TwoKept : Margin → Type 0
+TwoKept g =
+    (M : Map) (ls js : List ℕ) (positive negative : ℕ) → FollowWith g M ls 0 js → last_position 0 js ≡ length ls →
     positive + negative < dm_of M ls
     → first_kept (legs M ls) positive js < last_kept (legs M ls) negative js
 
 -- and the routes between them join to the path
-abbrev pub RoutesJoin : Type 0
-RoutesJoin =
-    (M : Map) (ls js : List ℕ) (positive negative : ℕ) → Follow M ls 0 js → last_position 0 js ≡ length ls
+abbrev pub RoutesJoin : Margin → Type 0
+RoutesJoin g =
+    (M : Map) → IsSoundFor g M → (ls js : List ℕ) (positive negative : ℕ) → FollowWith g M ls 0 js → last_position 0 js ≡ length ls
     → Joins M ls (kept_points (legs M ls) positive negative js)
+
+-- and to the same lines on another map that has no other roads, if what its lengths differ by is within the margin
+abbrev pub RoutesJoinElsewhere : Margin → Type 0
+RoutesJoinElsewhere g =
+    (M N : Map) → IsMap M → IsMap N → HasNoOther M N → (a b : ℕ) → IsTrue (suffices g a b) →
+    (ls js : List ℕ) (positive negative : ℕ) → FollowWith g M ls 0 js →
+    IsNearlyAlong a b M N (stretch ls (first_kept (legs M ls) positive js) (last_kept (legs M ls) negative js))
+    → Joins N ls (kept_points (legs M ls) positive negative js)
 
 -- each LRP of an answer is decoded near its coordinate on the map
 abbrev pub DecodedNear : Type 0
@@ -211,10 +221,20 @@ DecodedPoints =
 -- ---- receivers
 
 -- if the path's own line is distinct at each LRP, every receiver recovers the legs between the LRPs, and nothing else
-abbrev pub Recovered : Type 0
-Recovered =
+abbrev pub Recovered : Margin → Type 0
+Recovered g =
     (R : Receiver) (M : Map) → IsMap M → (P : Path) → IsTrue (is_path P.lines) → (r : Reference)
-    → Encodes M P (Points r) → Distinct R.far M P r → (ws : List (List ℕ)) → Recovers R M r ws ↔ IsStretches M P ws
+    → EncodesWith g M P (Points r) → DistinctWith g R.far M P r → (ws : List (List ℕ)) → Recovers R M r ws ↔ IsStretchesWith g M P ws
+
+-- and on another map that has no other roads, if what its lengths and classes differ by is within the margin: there each
+-- leg of an answer is recovered from the path's own lines at its LRPs, by the reference of the first map
+abbrev pub RecoveredElsewhere : Margin → Type 0
+RecoveredElsewhere g =
+    (M N : Map) → IsMap M → IsMap N → HasNoOther M N → (a b : ℕ) → IsTrue (suffices g a b) → (P : Path) →
+    IsTrue (is_path P.lines) → (r : Reference) → EncodesWith g M P (Points r) → KeptLines g M P (IsNearlyAlong a b M N) →
+    KeptLines g M P (HasClasses g M N) →
+    OfPathWith g M P (λ E _ _ js. (r ≡ reference_with g (legs M E.lines) E.pos E.neg js)
+    × RecoversLegs g M N E.lines (kept_points (legs M E.lines) E.pos E.neg js))
 
 -- together the legs are the lines from the first remaining LRP to the last
 abbrev pub StretchesJoin : Type 0
@@ -284,24 +304,24 @@ NoFault = (b : List ℕ) → All (λ byte. byte < 256) b → (v3_fault b ≡ Non
 -- ---- locality
 
 -- on a map that agrees on the footprint and on the path's own lines the answer is the same
-abbrev pub LocalAnswer : Type 0
-LocalAnswer =
-    (M N : Map) → IsMap M → IsMap N → (P : Path) → IsTrue (is_path P.lines) → Agree M N P.lines (Foot M P) →
-    (A : Answer) → Encodes M P A → Encodes N P A
+abbrev pub LocalAnswer : Margin → Type 0
+LocalAnswer g =
+    (M N : Map) → IsMap M → IsMap N → (P : Path) → IsTrue (is_path P.lines) → Agree M N P.lines (FootWith g M P) →
+    (A : Answer) → EncodesWith g M P A → EncodesWith g N P A
 
 -- and the footprint is the same
-abbrev pub LocalFoot : Type 0
-LocalFoot =
-    (M N : Map) → IsMap M → IsMap N → (P : Path) → IsTrue (is_path P.lines) → Agree M N P.lines (Foot M P) → (v : ℕ) →
-    Foot M P v ↔ Foot N P v
+abbrev pub LocalFoot : Margin → Type 0
+LocalFoot g =
+    (M N : Map) → IsMap M → IsMap N → (P : Path) → IsTrue (is_path P.lines) → Agree M N P.lines (FootWith g M P) → (v : ℕ) →
+    FootWith g M P v ↔ FootWith g N P v
 
 -- after an edit that touches no node of the footprint and no line of the path, the maps agree
-abbrev pub EditsAreLocal : Type 0
-EditsAreLocal =
+abbrev pub EditsAreLocal : Margin → Type 0
+EditsAreLocal g =
     (M N : Map) (e : Edit) (P : Path) → edited M e ≡ Ok N
-    → ((v : ℕ) → IsTrue (has (touched_nodes M e) v) → ¬ Foot M P v) →
+    → ((v : ℕ) → IsTrue (has (touched_nodes M e) v) → ¬ FootWith g M P v) →
     ((x : ℕ) → IsTrue (has (touched_lines e) x) → IsFalse (has P.lines x))
-    → Agree M N P.lines (Foot M P)
+    → Agree M N P.lines (FootWith g M P)
 
 -- ---- changes
 
@@ -341,79 +361,79 @@ NearStays =
 -- ---- coverage queries
 
 -- from each position with two or more lines after it there is exactly one last position that is tested
-abbrev pub OneLastTested : Type 0
-OneLastTested = (M : Map) (ls : List ℕ) (i j k : ℕ) → IsLastTested M ls i j → IsLastTested M ls i k → j ≡ k
+abbrev pub OneLastTested : Margin → Type 0
+OneLastTested g = (M : Map) (ls : List ℕ) (i j k : ℕ) → IsLastTestedWith g M ls i j → IsLastTestedWith g M ls i k → j ≡ k
 
-abbrev pub SomeLastTested : Type 0
-SomeLastTested = (M : Map) → IsMap M → (ls : List ℕ) (i : ℕ) → i + 1 < length ls → (k : ℕ) × IsLastTested M ls i k
+abbrev pub SomeLastTested : Margin → Type 0
+SomeLastTested g = (M : Map) → IsMap M → (ls : List ℕ) (i : ℕ) → i + 1 < length ls → (k : ℕ) × IsLastTestedWith g M ls i k
 
 -- so a path has exactly one list of coverage queries
-abbrev pub OneQueries : Type 0
-OneQueries =
-    (M : Map) → IsMap M → (P : Path) → IsTrue (is_path P.lines) → (ks ls : List CoverageQuery) → QueriesOf M P ks →
-    QueriesOf M P ls → ks ≡ ls
+abbrev pub OneQueries : Margin → Type 0
+OneQueries g =
+    (M : Map) → IsMap M → (P : Path) → IsTrue (is_path P.lines) → (ks ls : List CoverageQuery) → QueriesOfWith g M P ks →
+    QueriesOfWith g M P ls → ks ≡ ls
 
-abbrev pub SomeQueries : Type 0
-SomeQueries = (M : Map) → IsMap M → (P : Path) → IsTrue (is_path P.lines) → (queries : List CoverageQuery)
-    × QueriesOf M P queries
+abbrev pub SomeQueries : Margin → Type 0
+SomeQueries g = (M : Map) → IsMap M → (P : Path) → IsTrue (is_path P.lines) → (queries : List CoverageQuery)
+    × QueriesOfWith g M P queries
 
 -- the footprint is the traversed nodes, and the nodes that the coverage queries reach
-abbrev pub FootIsQueried : Type 0
-FootIsQueried =
-    (M : Map) → IsMap M → (P : Path) → IsTrue (is_path P.lines) → (queries : List CoverageQuery) → QueriesOf M P queries
-    → (v : ℕ) → Foot M P v ↔ (TraversedOf M P v ⊎ ((l : CoverageQuery) × Contains queries l × Sees M l v))
+abbrev pub FootIsQueried : Margin → Type 0
+FootIsQueried g =
+    (M : Map) → IsMap M → (P : Path) → IsTrue (is_path P.lines) → (queries : List CoverageQuery) → QueriesOfWith g M P queries
+    → (v : ℕ) → FootWith g M P v ↔ (TraversedOf M P v ⊎ ((l : CoverageQuery) × Contains queries l × Sees M l v))
 
 -- so a footprint has a touched node exactly if a traversed node is touched, or a coverage query reaches a touched node
 -- on the changed map
-abbrev pub FootAffected : Type 0
-FootAffected =
+abbrev pub FootAffected : Margin → Type 0
+FootAffected g =
     (M N : Map) → IsMap M → (T : List ℕ) → ((v : ℕ) → IsFalse (has T v) → SameRound M N v)
-    → (P : Path) → IsTrue (is_path P.lines) → (queries : List CoverageQuery) → QueriesOf M P queries
-    → ((v : ℕ) × IsTrue (has T v) × Foot M P v) ↔
+    → (P : Path) → IsTrue (is_path P.lines) → (queries : List CoverageQuery) → QueriesOfWith g M P queries
+    → ((v : ℕ) × IsTrue (has T v) × FootWith g M P v) ↔
     (((v : ℕ) × IsTrue (has T v) × TraversedOf M P v) ⊎ ((l : CoverageQuery) × Contains queries l
     × Near N T l.from l.within))
 
 -- if the coverage query from line i is clear, it is the same on both maps, and of the positions that are near enough
 -- the same are covered on both
-abbrev pub QueriesStay : Type 0
-QueriesStay =
-    (M N : Map) (C : List ChangedLine) → AccountsFor C M N → AccountsFor C N M
+abbrev pub QueriesStay : Margin → Type 0
+QueriesStay g =
+    (M N : Map) → IsSoundFor g M → IsSoundFor g N → (C : List ChangedLine) → AccountsFor C M N → AccountsFor C N M
     → (ls : List ℕ) → AllByRecursion (SameLine M N) ls → (s t : ℕ) → IsRoute M s t ls → (i k : ℕ) →
-    IsLastTested M ls i k →
-    IsClear N C (query_to M ls i k)
-    → IsLastTested N ls i k × (query_to M ls i k ≡ query_to N ls i k)
-    × ((j : ℕ) → i < j → j ≤ length ls → dm_of M (stretch ls i j) ≤ limit → Covered M ls i j ↔ Covered N ls i j)
+    IsLastTestedWith g M ls i k →
+    IsClear N C (query_to_with g M ls i k)
+    → IsLastTestedWith g N ls i k × (query_to_with g M ls i k ≡ query_to_with g N ls i k)
+    × ((j : ℕ) → i < j → j ≤ length ls → dm_of M (stretch ls i j) ≤ limit → CoveredWith g M ls i j ↔ CoveredWith g N ls i j)
 
 -- if a coverage query along a path's own lines is clear, it is right on both maps
-abbrev pub KnownStays : Type 0
-KnownStays =
+abbrev pub KnownStays : Margin → Type 0
+KnownStays g =
     (M N : Map) (C : List ChangedLine) → AccountsFor C M N → AccountsFor C N M
-    → (ls : List ℕ) (e : KnownQuery) → IsKnown M ls e → IsClear N C e.query → IsKnown N ls e
+    → (ls : List ℕ) (e : KnownQuery) → IsKnownWith g M ls e → IsClear N C e.query → IsKnownWith g N ls e
 
 -- if no traversed node of a path is touched, none of its lines is different, and each of its coverage queries is clear,
 -- then its answer, traversed nodes and coverage queries are the same on both maps
-abbrev pub AnswersRetained : Type 0
-AnswersRetained =
+abbrev pub AnswersRetained : Margin → Type 0
+AnswersRetained g =
     (M N : Map) → IsMap M → IsMap N → (C : List ChangedLine) → AccountsFor C M N → AccountsFor C N M
     → (P : Path) → IsTrue (is_path P.lines) → AllByRecursion (SameLine M N) P.lines →
     ((v : ℕ) → TraversedOf M P v → SameRound M N v)
-    → (queries : List CoverageQuery) → QueriesOf M P queries → All (IsClear N C) queries
-    → ((A : Answer) → Encodes M P A → Encodes N P A) × ((v : ℕ) → TraversedOf M P v ↔ TraversedOf N P v)
-    × QueriesOf N P queries
+    → (queries : List CoverageQuery) → QueriesOfWith g M P queries → All (IsClear N C) queries
+    → ((A : Answer) → EncodesWith g M P A → EncodesWith g N P A) × ((v : ℕ) → TraversedOf M P v ↔ TraversedOf N P v)
+    × QueriesOfWith g N P queries
 
 -- and so are those of its coverage queries that are known, whatever else has changed
-abbrev pub KnownRetained : Type 0
-KnownRetained =
+abbrev pub KnownRetained : Margin → Type 0
+KnownRetained g =
     (M N : Map) (C : List ChangedLine) → AccountsFor C M N → AccountsFor C N M
     → (ls : List ℕ) (queries : List CoverageQuery) → All (IsClear N C) queries
-    → (ks : List KnownQuery) → KnownOf M ls queries ks → KnownOf N ls queries ks
+    → (ks : List KnownQuery) → KnownOfWith g M ls queries ks → KnownOfWith g N ls queries ks
 
 -- the same conclusion as of AnswersRetained, from what the edits touch and change
-abbrev pub UntouchedRetained : Type 0
-UntouchedRetained =
+abbrev pub UntouchedRetained : Margin → Type 0
+UntouchedRetained g =
     (M N : Map) → IsMap M → IsMap N → (T X : List ℕ) (C : List ChangedLine) → Difference T X C M N
     → (P : Path) → IsTrue (is_path P.lines) → ((x : ℕ) → IsTrue (has X x) → IsFalse (has P.lines x)) →
     ((v : ℕ) → IsTrue (has T v) → ¬ TraversedOf M P v)
-    → (queries : List CoverageQuery) → QueriesOf M P queries → All (IsClear N C) queries
-    → ((A : Answer) → Encodes M P A → Encodes N P A) × ((v : ℕ) → TraversedOf M P v ↔ TraversedOf N P v)
-    × QueriesOf N P queries
+    → (queries : List CoverageQuery) → QueriesOfWith g M P queries → All (IsClear N C) queries
+    → ((A : Answer) → EncodesWith g M P A → EncodesWith g N P A) × ((v : ℕ) → TraversedOf M P v ↔ TraversedOf N P v)
+    × QueriesOfWith g N P queries

@@ -15,9 +15,9 @@ pub mod Joins
 pub mod Detours
 pub mod Queries
 pub mod Footprint
-pub mod Elsewhere
 pub mod Receiver
 pub mod Recovery
+pub mod Elsewhere
 pub mod Directions
 pub mod Ambiguity
 pub mod Laws

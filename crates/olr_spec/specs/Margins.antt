@@ -4,11 +4,15 @@
 --     Margin, is_margin g, no_margin      the two numbers; that they are in range; both 0
 --     counted_dm g len      the length that an own line counts, in decimetres
 --     counted g M xs      the map as it counts for the lines xs: each of them is longer, all else is as on M
+--     CountedRoute g M s t xs, counted_dm_of g M xs      the route between two LRPs where its own lines count longer, and
+--         what it counts
+--     IsSoundFor g M      the map is sound, or nothing is added
 --     allowed g c      the class of the leg with what the margin allows
-use Rattle.std.specs.Prelude.{ℕ, ◌+◌, ◌*◌, ◌/◌, min, Bool, ◌&&◌, List, [], ◌∷◌, nat_le, ◌==◌, if◌then◌else◌}
+use Rattle.std.specs.Prelude.{◌≡◌, ◌⊎◌, ℕ, ◌+◌, ◌*◌, ◌/◌, min, Bool, ◌&&◌, List, [], ◌∷◌, nat_le, ◌==◌, if◌then◌else◌}
 use Rattle.std.specs.Ordering.{nat_cmp}
 use Rattle.std.specs.FinMap.{FinMap, insert}
-use Rattle.olr_spec.specs.Map.{Map, Line, has_line, line_at}
+use Rattle.olr_spec.specs.Map.{Map, IsMap, Line, has_line, line_at}
+use Rattle.olr_spec.specs.Routes.{dm_of, LrpRoute}
 
 -- routes in thousandths of the length, and classes
 pub record Margin : Type 0 where
@@ -37,6 +41,15 @@ counted_lines g M (x ∷ xs) =
 abbrev pub counted : Margin → Map → List ℕ → Map
 counted g M xs = if g.routes == 0 then M else record M { lines = counted_lines g M xs }
 
+abbrev pub CountedRoute : Margin → Map → ℕ → ℕ → List ℕ → Type 0
+CountedRoute g M s t xs = LrpRoute (counted g M xs) s t xs
+
+abbrev pub counted_dm_of : Margin → Map → List ℕ → ℕ
+counted_dm_of g M xs = dm_of (counted g M xs) xs
+
+abbrev pub IsSoundFor : Margin → Map → Type 0
+IsSoundFor g M = (g.routes ≡ 0) ⊎ IsMap M
+
 -- class 7 is the least important
 abbrev pub allowed : Margin → ℕ → ℕ
-allowed g c = min 7 (c + g.classes)
+allowed g c = if g.classes == 0 then c else min 7 (c + g.classes)

@@ -13,17 +13,19 @@
 --         is right
 --     AreKnown M ls ks      each of these is
 --     KnownOf M ls queries ks      each of these is, and is one of the path's coverage queries
+--     QueriesOfWith g, KnownOfWith g, ..      the same with a margin; a query's length is what its lines count
 --     IsClear M C l      no detour over the changed lines C is as short
 --     QueriesFrom M ls is queries, QueriesOf M P queries      one coverage query for each LRP of the list is, in order;
 --         the
 --         coverage queries of the path
-use Rattle.std.specs.Prelude.{◌≡◌, ℕ, ◌+◌, ◌-◌, ◌<◌, ◌≤◌, min, Bool, List, [], ◌∷◌, length, map, filter, nat_lt, slice_index}
+use Rattle.std.specs.Prelude.{◌≡◌, ℕ, ◌+◌, ◌-◌, ◌<◌, ◌≤◌, min, Bool, List, [], ◌∷◌, length, filter, nat_lt, slice_index}
 use Rattle.std.specs.Prelude.{MatchOption, Contains, ◌⊎◌, ◌↔◌, IsTrue}
 use Rattle.std.specs.List.{All, AllZip}
+use Rattle.olr_spec.specs.Margins.{Margin, no_margin, CountedRoute, counted_dm_of}
 use Rattle.olr_spec.specs.Map.{Map, start, end, has}
-use Rattle.olr_spec.specs.Routes.{IsRoute, dm_of, LrpRoute}
+use Rattle.olr_spec.specs.Routes.{IsRoute, dm_of}
 use Rattle.olr_spec.specs.Extension.{Path, Tried, extended_path, limit}
-use Rattle.olr_spec.specs.Points.{stretch, Covered, OfPath}
+use Rattle.olr_spec.specs.Points.{stretch, CoveredWith, OfPathWith}
 use Rattle.olr_spec.specs.Encoding.{path_fault}
 use Rattle.olr_spec.specs.Detours.{ChangedLine, Detour}
 
@@ -53,12 +55,12 @@ Needed M ls i m = (j : ℕ) × (j ≤ length ls) × (dm_of M (stretch ls i j) �
 
 -- position i + 1 is where the search begins. It is the last one if no position after it is needed, as when line i is
 -- longer than the limit
-pub record IsLastTested (M : Map) (ls : List ℕ) (i k : ℕ) : Type 0 where
+pub record IsLastTestedWith (g : Margin) (M : Map) (ls : List ℕ) (i k : ℕ) : Type 0 where
   pub after : i < k
   pub inside : k < length ls
-  pub before : (m : ℕ) → i < m → m < k → Covered M ls i m
+  pub before : (m : ℕ) → i < m → m < k → CoveredWith g M ls i m
   pub needed : (k ≡ i + 1) ⊎ Needed M ls i k
-  pub last : ¬ Covered M ls i k ⊎ ((m : ℕ) → Needed M ls i m → m ≤ k)
+  pub last : ¬ CoveredWith g M ls i k ⊎ ((m : ℕ) → Needed M ls i m → m ≤ k)
 
 -- ---- coverage queries
 
@@ -70,27 +72,27 @@ pub record CoverageQuery : Type 0 where
 
 -- from the end of line i to the start of line k, with the length of the lines between. If position k isn't covered,
 -- this is still the length along the path, and not that of a shorter route
-abbrev pub query_to : Map → List ℕ → ℕ → ℕ → CoverageQuery
-query_to M ls i k =
-    record { from = end M (slice_index ls i); to = start M (slice_index ls k); within = dm_of M (stretch ls (i + 1) k) }
+abbrev pub query_to_with : Margin → Map → List ℕ → ℕ → ℕ → CoverageQuery
+query_to_with g M ls i k =
+    record { from = end M (slice_index ls i); to = start M (slice_index ls k); within = counted_dm_of g M (stretch ls (i + 1) k) }
 
-abbrev pub IsQuery : Map → List ℕ → ℕ → CoverageQuery → Type 0
-IsQuery M ls i l = (k : ℕ) × IsLastTested M ls i k × (l ≡ query_to M ls i k)
+abbrev pub IsQueryWith : Margin → Map → List ℕ → ℕ → CoverageQuery → Type 0
+IsQueryWith g M ls i l = (k : ℕ) × IsLastTestedWith g M ls i k × (l ≡ query_to_with g M ls i k)
 
 -- the LRPs whose line is followed by two or more lines: for later ones nothing is searched
 abbrev pub querying : List ℕ → List ℕ → List ℕ
 querying ls is = filter (λ i. nat_lt (i + 2) (length ls)) is
 
 -- the coverage query of each LRP, in order
-abbrev pub QueriesFrom : Map → List ℕ → List ℕ → List CoverageQuery → Type 0
-QueriesFrom M ls is queries = AllZip (IsQuery M ls) is queries
+abbrev pub QueriesFromWith : Margin → Map → List ℕ → List ℕ → List CoverageQuery → Type 0
+QueriesFromWith g M ls is queries = AllZip (IsQueryWith g M ls) is queries
 
-abbrev pub QueriesOfExtended : Map → Path → List CoverageQuery → Type 0
-QueriesOfExtended M P queries = OfPath M P (λ E _ _ js. QueriesFrom M E.lines (querying E.lines (0 ∷ js)) queries)
+abbrev pub QueriesOfExtendedWith : Margin → Map → Path → List CoverageQuery → Type 0
+QueriesOfExtendedWith g M P queries = OfPathWith g M P (λ E _ _ js. QueriesFromWith g M E.lines (querying E.lines (0 ∷ js)) queries)
 
 -- none if the path's own lines give a reason
-abbrev pub QueriesOf : Map → Path → List CoverageQuery → Type 0
-QueriesOf M P queries = MatchOption (path_fault M P) (QueriesOfExtended M P queries) (λ _. queries ≡ [])
+abbrev pub QueriesOfWith : Margin → Map → Path → List CoverageQuery → Type 0
+QueriesOfWith g M P queries = MatchOption (path_fault M P) (QueriesOfExtendedWith g M P queries) (λ _. queries ≡ [])
 
 -- ---- coverage queries along a path's own lines
 
@@ -103,25 +105,57 @@ pub record KnownQuery : Type 0 where
 
 -- as far as the line before the last one the lines are the unique shortest path; and with this line exactly if the
 -- position is covered. So nothing but routes from the query's one node to its other says whether this holds
-pub record IsKnown (M : Map) (ls : List ℕ) (e : KnownQuery) : Type 0 where
+pub record IsKnownWith (g : Margin) (M : Map) (ls : List ℕ) (e : KnownQuery) : Type 0 where
   pub order : e.first < e.last
   pub upto : e.last ≤ length ls
   pub route : IsRoute M e.query.from e.query.to (stretch ls e.first e.last)
-  pub within : e.query.within ≡ dm_of M (stretch ls e.first e.last)
+  pub within : e.query.within ≡ counted_dm_of g M (stretch ls e.first e.last)
   pub before : (m : ℕ) → e.first ≤ m → m < e.last →
-      LrpRoute M e.query.from (start M (slice_index ls m)) (stretch ls e.first m)
-  pub covered : IsTrue e.covered ↔ LrpRoute M e.query.from e.query.to (stretch ls e.first e.last)
+      CountedRoute g M e.query.from (start M (slice_index ls m)) (stretch ls e.first m)
+  pub covered : IsTrue e.covered ↔ CountedRoute g M e.query.from e.query.to (stretch ls e.first e.last)
 
-abbrev pub AreKnown : Map → List ℕ → List KnownQuery → Type 0
-AreKnown M ls ks = All (IsKnown M ls) ks
+abbrev pub AreKnownWith : Margin → Map → List ℕ → List KnownQuery → Type 0
+AreKnownWith g M ls ks = All (IsKnownWith g M ls) ks
 
-pub record IsKnownOf (M : Map) (ls : List ℕ) (queries : List CoverageQuery) (e : KnownQuery) : Type 0 where
+pub record IsKnownOfWith (g : Margin) (M : Map) (ls : List ℕ) (queries : List CoverageQuery) (e : KnownQuery) : Type 0 where
   pub among : Contains queries e.query
-  pub right : IsKnown M ls e
+  pub right : IsKnownWith g M ls e
 
-abbrev pub KnownOf : Map → List ℕ → List CoverageQuery → List KnownQuery → Type 0
-KnownOf M ls queries ks = All (IsKnownOf M ls queries) ks
+abbrev pub KnownOfWith : Margin → Map → List ℕ → List CoverageQuery → List KnownQuery → Type 0
+KnownOfWith g M ls queries ks = All (IsKnownOfWith g M ls queries) ks
 
 -- no detour over the changed lines is as short as the path
 abbrev pub IsClear : Map → List ChangedLine → CoverageQuery → Type 0
 IsClear M C l = ¬ Detour M C l.from l.to l.within
+
+-- ---- without a margin, as the program encodes
+
+abbrev pub IsLastTested : Map → List ℕ → ℕ → ℕ → Type 0
+IsLastTested = IsLastTestedWith no_margin
+
+abbrev pub query_to : Map → List ℕ → ℕ → ℕ → CoverageQuery
+query_to = query_to_with no_margin
+
+abbrev pub IsQuery : Map → List ℕ → ℕ → CoverageQuery → Type 0
+IsQuery = IsQueryWith no_margin
+
+abbrev pub QueriesFrom : Map → List ℕ → List ℕ → List CoverageQuery → Type 0
+QueriesFrom = QueriesFromWith no_margin
+
+abbrev pub QueriesOfExtended : Map → Path → List CoverageQuery → Type 0
+QueriesOfExtended = QueriesOfExtendedWith no_margin
+
+abbrev pub QueriesOf : Map → Path → List CoverageQuery → Type 0
+QueriesOf = QueriesOfWith no_margin
+
+abbrev pub IsKnown : Map → List ℕ → KnownQuery → Type 0
+IsKnown = IsKnownWith no_margin
+
+abbrev pub AreKnown : Map → List ℕ → List KnownQuery → Type 0
+AreKnown = AreKnownWith no_margin
+
+abbrev pub IsKnownOf : Map → List ℕ → List CoverageQuery → KnownQuery → Type 0
+IsKnownOf = IsKnownOfWith no_margin
+
+abbrev pub KnownOf : Map → List ℕ → List CoverageQuery → List KnownQuery → Type 0
+KnownOf = KnownOfWith no_margin

@@ -4,6 +4,7 @@
 --     OwnLinesOf M P A xs      of an answer: none if it has no reference
 --     Distinct far M P r      the path's own line at each LRP is the nearest candidate by the measure far, and has no
 --         twin
+--     IsLineAtWith g, DistinctWith g, ..      the same with a margin
 --     stretches ls ks, IsStretches M P ws      the legs: the lines between each two neighbouring LRPs
 --     IsKeptPart M P ls      the lines from the first remaining LRP to the last
 --     IsLeft M P front back      what remains of the two offsets at these LRPs, in decimetres
@@ -18,10 +19,11 @@
 use Rattle.std.specs.Prelude.{◌≡◌, ℕ, ◌+◌, ◌-◌, ◌*◌, ◌<◌, ◌≤◌, ℤ, ◌-ℤ◌, nat_abs, Bool, ◌&&◌, ◌||◌, ◌==◌, nat_le, List}
 use Rattle.std.specs.Prelude.{[], ◌∷◌, slice_index, slice_get, Option, Some, None, option_map, IsTrue}
 use Rattle.std.specs.List.{list_all}
+use Rattle.olr_spec.specs.Margins.{Margin, no_margin}
 use Rattle.olr_spec.specs.Coordinates.{Coord}
 use Rattle.olr_spec.specs.Map.{Map, has_line}
 use Rattle.olr_spec.specs.Extension.{Path, first, last}
-use Rattle.olr_spec.specs.Points.{stretch, OfPath}
+use Rattle.olr_spec.specs.Points.{stretch, OfPathWith}
 use Rattle.olr_spec.specs.Bearings.{Leg, up_to}
 use Rattle.olr_spec.specs.Reference.{Attrs, Reference, leg, legs, from_front, to_back, first_kept, last_kept}
 use Rattle.olr_spec.specs.Reference.{kept_points}
@@ -36,9 +38,9 @@ abbrev pub line_by : Side → List ℕ → ℕ → ℕ
 line_by Outgoing ls i = slice_index ls i
 line_by Incoming ls i = slice_index ls (i - 1)
 
-abbrev pub IsLineAt : Map → Path → Side → ℕ → ℕ → Type 0
-IsLineAt M P s k x =
-    OfPath M P (λ E _ _ js. option_map (line_by s E.lines)
+abbrev pub IsLineAtWith : Margin → Map → Path → Side → ℕ → ℕ → Type 0
+IsLineAtWith g M P s k x =
+    OfPathWith g M P (λ E _ _ js. option_map (line_by s E.lines)
     (slice_get (kept_points (legs M E.lines) E.pos E.neg js) k) ≡ Some x)
 
 -- at the LRPs ks of the extended path ls, the last of which its line enters
@@ -47,23 +49,23 @@ own_lines ls [] = []
 own_lines ls (i ∷ []) = line_by Incoming ls i ∷ []
 own_lines ls (i ∷ j ∷ ks) = line_by Outgoing ls i ∷ own_lines ls (j ∷ ks)
 
-abbrev pub OwnLines : Map → Path → List ℕ → Type 0
-OwnLines M P xs =
-    OfPath M P (λ E _ _ js. xs ≡ own_lines E.lines (kept_points (legs M E.lines) E.pos E.neg js))
+abbrev pub OwnLinesWith : Margin → Map → Path → List ℕ → Type 0
+OwnLinesWith g M P xs =
+    OfPathWith g M P (λ E _ _ js. xs ≡ own_lines E.lines (kept_points (legs M E.lines) E.pos E.neg js))
 
-abbrev pub OwnLinesOf : Map → Path → Answer → List ℕ → Type 0
-OwnLinesOf M P (Points r) xs = OwnLines M P xs
-OwnLinesOf M P (Refused refusal) xs = xs ≡ []
+abbrev pub OwnLinesOfWith : Margin → Map → Path → Answer → List ℕ → Type 0
+OwnLinesOfWith g M P (Points r) xs = OwnLinesWith g M P xs
+OwnLinesOfWith g M P (Refused refusal) xs = xs ≡ []
 
 -- at LRP k, which is decoded as p
-pub record DistinctAt (far : Measure) (M : Map) (P : Path) (s : Side) (k : ℕ) (p : ℤ × ℤ) : Type 0 where
-  pub nearest : (x : ℕ) → IsLineAt M P s k x → IsTrue (is_nearest far s p (leg M x) (candidates M))
-  pub alone : (x : ℕ) → IsLineAt M P s k x → IsTrue (has_no_twin s x (leg M x) (candidates M))
+pub record DistinctAtWith (g : Margin) (far : Measure) (M : Map) (P : Path) (s : Side) (k : ℕ) (p : ℤ × ℤ) : Type 0 where
+  pub nearest : (x : ℕ) → IsLineAtWith g M P s k x → IsTrue (is_nearest far s p (leg M x) (candidates M))
+  pub alone : (x : ℕ) → IsLineAtWith g M P s k x → IsTrue (has_no_twin s x (leg M x) (candidates M))
 
 -- at each LRP of the reference r
-pub record Distinct (far : Measure) (M : Map) (P : Path) (r : Reference) : Type 0 where
-  pub outgoing : (k : ℕ) → k < last_number r → DistinctAt far M P Outgoing k (decoded_coord r k)
-  pub incoming : DistinctAt far M P Incoming (last_number r) (decoded_coord r (last_number r))
+pub record DistinctWith (g : Margin) (far : Measure) (M : Map) (P : Path) (r : Reference) : Type 0 where
+  pub outgoing : (k : ℕ) → k < last_number r → DistinctAtWith g far M P Outgoing k (decoded_coord r k)
+  pub incoming : DistinctAtWith g far M P Incoming (last_number r) (decoded_coord r (last_number r))
 
 -- ---- what is recovered
 
@@ -72,21 +74,21 @@ stretches ls [] = []
 stretches ls (p ∷ []) = []
 stretches ls (p ∷ q ∷ ks) = stretch ls p q ∷ stretches ls (q ∷ ks)
 
-abbrev pub IsStretches : Map → Path → List (List ℕ) → Type 0
-IsStretches M P ws = OfPath M P (λ E _ _ js. ws ≡ stretches E.lines (kept_points (legs M E.lines) E.pos E.neg js))
+abbrev pub IsStretchesWith : Margin → Map → Path → List (List ℕ) → Type 0
+IsStretchesWith g M P ws = OfPathWith g M P (λ E _ _ js. ws ≡ stretches E.lines (kept_points (legs M E.lines) E.pos E.neg js))
 
-abbrev pub IsKeptPart : Map → Path → List ℕ → Type 0
-IsKeptPart M P ls =
-    OfPath M P (λ E _ _ js.
+abbrev pub IsKeptPartWith : Margin → Map → Path → List ℕ → Type 0
+IsKeptPartWith g M P ls =
+    OfPathWith g M P (λ E _ _ js.
     let ks = kept_points (legs M E.lines) E.pos E.neg js in
     ls ≡ stretch E.lines (first ks) (last ks))
 
 -- ---- lengths
 
 -- the offset minus the length that is cut off at its end
-abbrev pub IsLeft : Map → Path → ℕ → ℕ → Type 0
-IsLeft M P front back =
-    OfPath M P (λ E _ _ js.
+abbrev pub IsLeftWith : Margin → Map → Path → ℕ → ℕ → Type 0
+IsLeftWith g M P front back =
+    OfPathWith g M P (λ E _ _ js.
     (front ≡ E.pos - from_front (legs M E.lines) (first_kept (legs M E.lines) E.pos js))
     × (back ≡ E.neg - to_back (legs M E.lines) (last_kept (legs M E.lines) E.neg js)))
 
@@ -148,3 +150,29 @@ is_spaced n d k a b =
 abbrev pub are_spaced : ℕ → ℕ → ℕ → Side → Leg → List (ℕ × Leg) → Bool
 are_spaced n d k s g cs =
     list_all (λ c. node_on s c.1 == node_on s g || is_spaced n d k (coordinate_on s g) (coordinate_on s c.1)) cs
+
+-- ---- without a margin, as the program encodes
+
+abbrev pub IsLineAt : Map → Path → Side → ℕ → ℕ → Type 0
+IsLineAt = IsLineAtWith no_margin
+
+abbrev pub OwnLines : Map → Path → List ℕ → Type 0
+OwnLines = OwnLinesWith no_margin
+
+abbrev pub OwnLinesOf : Map → Path → Answer → List ℕ → Type 0
+OwnLinesOf = OwnLinesOfWith no_margin
+
+abbrev pub DistinctAt : Measure → Map → Path → Side → ℕ → ℤ × ℤ → Type 0
+DistinctAt = DistinctAtWith no_margin
+
+abbrev pub Distinct : Measure → Map → Path → Reference → Type 0
+Distinct = DistinctWith no_margin
+
+abbrev pub IsStretches : Map → Path → List (List ℕ) → Type 0
+IsStretches = IsStretchesWith no_margin
+
+abbrev pub IsKeptPart : Map → Path → List ℕ → Type 0
+IsKeptPart = IsKeptPartWith no_margin
+
+abbrev pub IsLeft : Map → Path → ℕ → ℕ → Type 0
+IsLeft = IsLeftWith no_margin

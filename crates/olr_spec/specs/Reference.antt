@@ -6,9 +6,11 @@
 --     kept_points gs positive negative js      of the LRPs 0 and js, those that remain after the offsets have cut off
 --         whole legs
 --     reference gs positive negative js      the reference of the remaining LRPs
+--     attrs_with g, reference_with g, ..      the same with a margin
 use Rattle.std.specs.Prelude.{ℕ, ◌+◌, ◌-◌, ◌*◌, ◌/◌, max, ℤ, Bool, ◌&&◌, List, [], ◌∷◌, length, filter, take, drop, map}
 use Rattle.std.specs.Prelude.{fold, nat_lt, nat_le, ◌==◌, slice_index_or, slice_range, Option, Some, None}
 use Rattle.std.specs.Prelude.{if◌then◌else◌}
+use Rattle.olr_spec.specs.Margins.{Margin, no_margin, allowed}
 use Rattle.olr_spec.specs.Coordinates.{Coord, abs24, relative}
 use Rattle.olr_spec.specs.Map.{Map, line_at, coord_at, no_line, no_coord}
 use Rattle.olr_spec.specs.Bearings.{Leg, bearing_out, bearing_back}
@@ -112,28 +114,28 @@ kept_points gs positive negative js =
 -- ---- fields
 
 -- the attributes of LRP i with the next LRP j; distances are rounded down (profile)
-abbrev pub attrs : List Leg → ℕ → ℕ → Attrs
-attrs gs i j =
+abbrev pub attrs_with : Margin → List Leg → ℕ → ℕ → Attrs
+attrs_with g gs i j =
     record {
       frc = (leg_at gs i).line.frc;
       fow = (leg_at gs i).line.fow;
-      lfrc = fold max 0 (map (λ g. g.line.frc) (slice_range gs i j));
+      lfrc = allowed g (fold max 0 (map (λ h. h.line.frc) (slice_range gs i j)));
       bearing = bearing_out (leg_at gs i);
       dnp = dm_between gs i j / 586;
     }
 
 -- LRP i, the first, with the next LRP j
-abbrev pub first_point : List Leg → ℕ → ℕ → First
-first_point gs i j = record { lon = abs24 (position gs i).lon; lat = abs24 (position gs i).lat; attrs = attrs gs i j }
+abbrev pub first_point_with : Margin → List Leg → ℕ → ℕ → First
+first_point_with g gs i j = record { lon = abs24 (position gs i).lon; lat = abs24 (position gs i).lat; attrs = attrs_with g gs i j }
 
 -- LRP i, after LRP h and before LRP j
-abbrev pub middle_point : List Leg → ℕ → ℕ → ℕ → Middle
-middle_point gs h i j =
+abbrev pub middle_point_with : Margin → List Leg → ℕ → ℕ → ℕ → Middle
+middle_point_with g gs h i j =
     record {
       dlon = relative (position gs h).lon (position gs i).lon;
       dlat =
           relative (position gs h).lat (position gs i).lat;
-      attrs = attrs gs i j;
+      attrs = attrs_with g gs i j;
     }
 
 -- LRP i, the last, after LRP h
@@ -150,9 +152,9 @@ last_point gs h i =
     }
 
 -- of the LRPs h, i and js, those between the first and the last
-abbrev pub middle_points : List Leg → ℕ → ℕ → List ℕ → List Middle
-middle_points gs h i [] = []
-middle_points gs h i (j ∷ js) = middle_point gs h i j ∷ middle_points gs i j js
+abbrev pub middle_points_with : Margin → List Leg → ℕ → ℕ → List ℕ → List Middle
+middle_points_with g gs h i [] = []
+middle_points_with g gs h i (j ∷ js) = middle_point_with g gs h i j ∷ middle_points_with g gs i j js
 
 -- the last two of h, i and js
 abbrev pub last_two : ℕ → ℕ → List ℕ → ℕ × ℕ
@@ -166,25 +168,48 @@ offset left stretch = if left == 0 then None else Some (256 * left / stretch)
 
 -- of the LRPs h, i and js, with what remains of the offsets: the positive one is a part of the first leg, the negative
 -- one a part of the last
-abbrev pub reference_by_kept : List Leg → ℕ → ℕ → ℕ → ℕ → List ℕ → Reference
-reference_by_kept gs pos_left neg_left h i js =
+abbrev pub reference_by_kept_with : Margin → List Leg → ℕ → ℕ → ℕ → ℕ → List ℕ → Reference
+reference_by_kept_with g gs pos_left neg_left h i js =
     let two = last_two h i js in
     record {
-      first = first_point gs h i;
-      middle = middle_points gs h i js;
+      first = first_point_with g gs h i;
+      middle = middle_points_with g gs h i js;
       last = last_point gs two.0 two.1;
       pos = offset pos_left (dm_between gs h i);
       neg = offset neg_left (dm_between gs two.0 two.1);
     }
 
 -- at least two LRPs always remain, so the result for fewer doesn't matter
-abbrev pub reference_by : List Leg → ℕ → ℕ → List ℕ → Reference
-reference_by gs pos_left neg_left [] = reference_by_kept gs pos_left neg_left 0 0 []
-reference_by gs pos_left neg_left (h ∷ []) = reference_by_kept gs pos_left neg_left h h []
-reference_by gs pos_left neg_left (h ∷ i ∷ js) = reference_by_kept gs pos_left neg_left h i js
+abbrev pub reference_by_with : Margin → List Leg → ℕ → ℕ → List ℕ → Reference
+reference_by_with g gs pos_left neg_left [] = reference_by_kept_with g gs pos_left neg_left 0 0 []
+reference_by_with g gs pos_left neg_left (h ∷ []) = reference_by_kept_with g gs pos_left neg_left h h []
+reference_by_with g gs pos_left neg_left (h ∷ i ∷ js) = reference_by_kept_with g gs pos_left neg_left h i js
 
 -- what remains of an offset is the offset minus the length that is cut off at its end
-abbrev pub reference : List Leg → ℕ → ℕ → List ℕ → Reference
-reference gs positive negative js =
-    reference_by gs (positive - from_front gs (first_kept gs positive js))
+abbrev pub reference_with : Margin → List Leg → ℕ → ℕ → List ℕ → Reference
+reference_with g gs positive negative js =
+    reference_by_with g gs (positive - from_front gs (first_kept gs positive js))
     (negative - to_back gs (last_kept gs negative js)) (kept_points gs positive negative js)
+
+-- ---- without a margin, as the program encodes
+
+abbrev pub attrs : List Leg → ℕ → ℕ → Attrs
+attrs = attrs_with no_margin
+
+abbrev pub first_point : List Leg → ℕ → ℕ → First
+first_point = first_point_with no_margin
+
+abbrev pub middle_point : List Leg → ℕ → ℕ → ℕ → Middle
+middle_point = middle_point_with no_margin
+
+abbrev pub middle_points : List Leg → ℕ → ℕ → List ℕ → List Middle
+middle_points = middle_points_with no_margin
+
+abbrev pub reference_by_kept : List Leg → ℕ → ℕ → ℕ → ℕ → List ℕ → Reference
+reference_by_kept = reference_by_kept_with no_margin
+
+abbrev pub reference_by : List Leg → ℕ → ℕ → List ℕ → Reference
+reference_by = reference_by_with no_margin
+
+abbrev pub reference : List Leg → ℕ → ℕ → List ℕ → Reference
+reference = reference_with no_margin

@@ -1,0 +1,102 @@
+-- What counts the same on two maps, and what the front of a route counts.
+use Rattle.olr_spec.proofs.Common.{inl, inr, ◌≡◌, ℕ, ◌+◌, ◌≤◌, ◌↔◌, cond, List, [], ◌∷◌, ◌++◌, refl, sym, ap, subst}
+use Rattle.olr_spec.proofs.Common.{◌∙◌, Option, Some, is_some, unwrap_or, arith, IsTrue, ◌&&◌, ◌==◌, cases_Bool, has, get}
+use Rattle.olr_spec.proofs.Common.{Line, no_line, Map, has_line, dm_of, SameLine, IsRoute, append-nil}
+use Rattle.olr_spec.proofs.Common.{list_any-append, or_left, ChangedLine, AccountsFor, Detour}
+use Rattle.olr_spec.specs.Margins.{Margin, counted, counted_dm_of, CountedRoute}
+use Rattle.olr_spec.proofs.ListLemmas.{Each, Each-head, Each-tail, Each-left, Each-right}
+use Rattle.olr_spec.proofs.RouteLemmas.{dm_of-append, IsRoute-append}
+use Rattle.olr_spec.proofs.WayLemmas.{route_known}
+use Rattle.olr_spec.proofs.AgreeLemmas.{same_dm_of}
+use Rattle.olr_spec.proofs.RouteMoves.{SameRoutes, IsRoute-moves, unique_same, same_there, same_here, detour_of}
+use Rattle.olr_spec.proofs.CountedLemmas.{longer, get_counted, route_counted, counted_least, counted_own, counted_other}
+
+-- the record that a line counts with, by the one that it has
+abbrev as_counted : Margin → List ℕ → ℕ → Option Line → Option Line
+as_counted g xs x o = cond (g.routes == 0) o (cond (has xs x && is_some o) (Some (longer g (unwrap_or o no_line))) o)
+
+got_counted : (g : Margin) (M : Map) (xs : List ℕ) (x : ℕ) → get (counted g M xs).lines x ≡ as_counted g xs x (get M.lines x)
+got_counted g M xs x = grind (arith, get_counted g M xs x, cases_Bool (g.routes == 0))
+
+counted_line_same : (g : Margin) (M N : Map) (xs : List ℕ) (x : ℕ) → SameLine M N x → SameLine (counted g M xs) (counted g N xs) x
+counted_line_same g M N xs x e = got_counted g M xs x ∙ ap (as_counted g xs x) e ∙ sym (got_counted g N xs x)
+
+pub counted_length_same : (g : Margin) (M N : Map) (xs : List ℕ) → Each (SameLine M N) xs → counted_dm_of g M xs ≡ counted_dm_of g N xs
+counted_length_same g M N xs h =
+    same_dm_of (counted g M xs) (counted g N xs) xs (λ x on. counted_line_same g M N xs x (h x on))
+
+pub counted_longer : (g : Margin) (M : Map) (xs ys : List ℕ) → Each (λ x. IsTrue (has_line M x)) ys → dm_of M ys ≤ dm_of (counted g M xs) ys
+counted_longer g M xs [] known = omega arith
+counted_longer g M xs (y ∷ ys) known =
+    omega (
+      arith,
+      counted_least g M xs y (Each-head (λ x. IsTrue (has_line M x)) y ys known),
+      counted_longer g M xs ys (Each-tail (λ x. IsTrue (has_line M x)) y ys known),
+    )
+
+pub counted_routes : (g : Margin) (M N : Map) (xs : List ℕ) (s t d : ℕ) → SameRoutes M N s t d →
+    SameRoutes (counted g M xs) (counted g N xs) s t d
+counted_routes g M N xs s t d same ys w h =
+    let here = route_counted g M xs s t ys w in
+    let each = same ys here (omega (arith, h, counted_longer g M xs ys (route_known M s t ys here))) in
+    λ x on. counted_line_same g M N xs x (each x on)
+
+-- lines count at least as much where more of them are own ones
+more_counts : (g : Margin) (M : Map) (xs rest ys : List ℕ) → Each (λ x. IsTrue (has_line M x)) ys →
+    dm_of (counted g M xs) ys ≤ dm_of (counted g M (xs ++ rest)) ys
+more_counts g M xs rest [] known = omega arith
+more_counts g M xs rest (y ∷ ys) known =
+    let k = Each-head (λ x. IsTrue (has_line M x)) y ys known in
+    let more = more_counts g M xs rest ys (Each-tail (λ x. IsTrue (has_line M x)) y ys known) in
+    elim (cases_Bool (has xs y)) [
+      | inl on ↦ omega (
+        arith,
+        more,
+        counted_own g M xs y k on,
+        counted_own g M (xs ++ rest) y k
+            (list_any-append (λ z. z == y) xs rest ∙ or_left (has xs y) (has rest y) on),
+      )
+      | inr off ↦ omega (arith, more, counted_other g M xs y off, counted_least g M (xs ++ rest) y k)
+    ]
+
+-- a front counts less by at least the length of the rest
+pub front_counts : (g : Margin) (M : Map) (xs rest : List ℕ) → Each (λ x. IsTrue (has_line M x)) xs →
+    Each (λ x. IsTrue (has_line M x)) rest → counted_dm_of g M xs + dm_of M rest ≤ counted_dm_of g M (xs ++ rest)
+front_counts g M xs rest here there =
+    omega (
+      arith,
+      more_counts g M xs rest xs here,
+      counted_longer g M (xs ++ rest) rest there,
+      dm_of-append (counted g M (xs ++ rest)) xs rest,
+    )
+
+-- where no detour is as short as what a route counts, its part up to a node counts as the unique shortest path on both
+-- maps or on neither
+pub clear_front : (g : Margin) (M N : Map) (C : List ChangedLine) → AccountsFor C M N → AccountsFor C N M → (s v t : ℕ)
+    (xs ys : List ℕ) → IsRoute M s v xs → IsRoute M v t ys → ¬ Detour N C s t (counted_dm_of g M (xs ++ ys)) →
+    CountedRoute g M s v xs ↔ CountedRoute g N s v xs
+clear_front g M N C there here s v t xs ys w u clear =
+    let whole = IsRoute-append M s v t xs ys w u in
+    let same = same_there M N C s t (counted_dm_of g M (xs ++ ys)) there here clear (xs ++ ys) whole
+    (counted_longer g M (xs ++ ys) (xs ++ ys) (route_known M s t (xs ++ ys) whole)) in
+    let rest = Each-right (SameLine M N) xs ys same in
+    let d = counted_dm_of g M xs in
+    let clear_part : ¬ Detour N C s v d = λ o. clear (detour_of o.first o.last o.first_listed o.last_listed o.before
+    (o.after ++ ys) o.leads (IsRoute-append N o.last.to v t o.after ys o.returns (IsRoute-moves M N v t ys rest u))
+    (omega (
+      arith,
+      o.within,
+      front_counts g M xs ys (route_known M s v xs w) (route_known M v t ys u),
+      dm_of-append N o.after ys,
+      same_dm_of M N ys rest,
+    ))) in
+    unique_same (counted g M xs) (counted g N xs) s v d
+    (counted_routes g M N xs s v d (same_there M N C s v d there here clear_part))
+    (counted_routes g N M xs s v d (same_here M N C s v d there here clear_part)) xs
+    (counted_length_same g M N xs (Each-left (SameLine M N) xs ys same)) (omega arith)
+
+pub clear_whole : (g : Margin) (M N : Map) (C : List ChangedLine) → AccountsFor C M N → AccountsFor C N M → (s t : ℕ)
+    (xs : List ℕ) → IsRoute M s t xs → ¬ Detour N C s t (counted_dm_of g M xs) → CountedRoute g M s t xs ↔ CountedRoute g N s t xs
+clear_whole g M N C there here s t xs w clear =
+    clear_front g M N C there here s t t xs [] w refl
+    (subst (λ (zs : List ℕ). ¬ Detour N C s t (counted_dm_of g M zs)) (sym (append-nil xs)) clear)
