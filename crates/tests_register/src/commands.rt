@@ -1,8 +1,8 @@
 //! Commands over the worked map. The expected texts and counts do not come from the program.
 
 use crate::worked::{
-    TEXT, WITH_TEXT, add, edits, ends, expect_encodings, expect_names, expect_reported, expect_text,
-    names, refuses, road, three_points,
+    TEXT, WITH_TEXT, add, edits, ends, expect_encodings, expect_names, expect_reported,
+    expect_text, names, refuses, road, three_points,
 };
 use made_maps::{FIRST, SECOND, STRAIGHT, line, new_node, node, other_line, place, plain_line};
 use olr_commands::{Command, CommandFault, Reply};
