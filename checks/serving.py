@@ -59,7 +59,7 @@ class Served:
         return self
 
     def wait_for(self, word, seconds=30):
-        """Waits until systemd is told this, from now on."""
+        """Waits until this is reported to systemd, from now on."""
         until = time.monotonic() + seconds
         while time.monotonic() < until:
             if select.select([self.systemd], [], [], 0.05)[0]:
@@ -68,7 +68,7 @@ class Served:
                     return
             if self.process.poll() is not None:
                 raise Failed(f"the service ended with status {self.process.returncode}: {self.said()}")
-        raise Failed(f"systemd was not told {word}: {self.notified[-5:]} {self.said()}")
+        raise Failed(f"{word} was not reported to systemd: {self.notified[-5:]} {self.said()}")
 
     def said(self):
         """The last messages."""

@@ -272,7 +272,7 @@ class Live:
         self.last_round, self.last_seconds = time.time(), seconds
 
     def look(self) -> None:
-        """Looks at the tables and their triggers: what was written anew, or has no triggers, is compared. They are made again if
+        """Looks at the tables and their triggers: what was rewritten, or has no triggers, is compared. They are made again if
         that is possible."""
         missing = {}
         for it in session.watch(self.cursor):

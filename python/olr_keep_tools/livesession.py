@@ -58,7 +58,7 @@ class Table(NamedTuple):
 
 
 class Watched(NamedTuple):
-    """A table whose triggers are looked at: source 0 is that of the paths. `files` changes if the table is written anew."""
+    """A table whose triggers are looked at: source 0 is that of the paths. `files` changes if the table is rewritten."""
 
     source: int
     streets: str

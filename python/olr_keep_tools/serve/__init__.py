@@ -2,5 +2,5 @@
 
 `service` puts the parts together: `program` is the process with its log, `exchange` passes jobs to it and replies back, `writer`
 is a connection that sends records, `table` and `keeper` maintain what is published, `changes` is a connection that reads it,
-`logfile` looks at a log before it is served, `notify` talks to systemd.
+`logfile` looks at a log before it is served, `notify` reports to systemd.
 """

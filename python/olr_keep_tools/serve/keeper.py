@@ -43,7 +43,7 @@ Work = Union[Changes, Whole, Read, Stop]
 
 
 class Events(NamedTuple):
-    """What the loop is told: a position was written; the table can be written, and needs all answers; it failed."""
+    """What is reported to the loop: a position was written; the table can be written, and needs all answers; it failed."""
 
     written: Callable[[int, int], None]
     needs_all: Callable[[], None]

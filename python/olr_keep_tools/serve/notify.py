@@ -1,4 +1,4 @@
-"""What systemd passes to a service, and what it is told."""
+"""What systemd passes to a service, and what is reported to it."""
 import os
 import socket
 from typing import Dict, List
