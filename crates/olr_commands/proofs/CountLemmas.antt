@@ -1,12 +1,12 @@
 -- A path that is added or set outside of batches is encoded, and no other.
 use Rattle.olr_commands.proofs.Common.{cases_Bool, both_ways, not-false, bytes_decides, Path, is_path}
 use Rattle.std.proofs.Common.{rules, arith, inr, ◌⊎◌, ◌≡◌, ℕ, true, false, not, List, [], ◌∷◌, ◌++◌, map, Option, Some}
-use Rattle.std.proofs.Common.{None, is_some, Ok, refl, ap, sym, subst}
+use Rattle.std.proofs.Common.{None, is_some, Ok, refl, ap, sym, subst, ◌∙◌}
 use Rattle.std.proofs.Math.Bool.{or-false}
 use Rattle.olr_commands.specs.State.{Named, Content, same_name, path_named, with_path, NamesDiffer, Path_exists}
 use Rattle.olr_commands.specs.State.{Bad_path, when, Change, Add_path, Set_path, with_change, State, Make, step}
 use Rattle.olr_commands.specs.State.{changes_made, IsState}
-use Rattle.olr_commands.specs.Counts.{Affects, By_name, By_node, By_line, CountIs, all_nodes, all_lines, all_names}
+use Rattle.olr_commands.specs.Counts.{Affects, By_name, By_node, By_line, CountIs, all_nodes, all_lines, gives}
 use Rattle.olr_commands.specs.Counts.{Raises}
 use Rattle.olr_commands.proofs.NameLemmas.{same_is, not_named, set_name}
 use Rattle.olr_commands.proofs.StateLemmas.{ends, when_ok, passed, steps_keep}
@@ -50,14 +50,14 @@ path_set name path (p ∷ ps) h = grind (arith, set_name, cases_Bool, path_set n
 
 -- a change of one name affects only the path of that name
 only_name : (c : Content) (x : Change) (name : List ℕ) → all_nodes c (x ∷ []) ≡ [] → all_lines (x ∷ []) ≡ [] →
-    all_names (x ∷ []) ≡ name ∷ [] → (p : Named) → Affects c (x ∷ []) p → same_name p.name name ≡ true
-only_name c x name a b d p (By_name h) = grind (arith, or-false)
+    ((q : List ℕ) → gives q x ≡ same_name q name) → (p : Named) → Affects c (x ∷ []) p → same_name p.name name ≡ true
+only_name c x name a b d p (By_name h) = sym (d p.name) ∙ sym (or-false (gives p.name x)) ∙ h
 only_name c x name a b d p (By_node v h f) = grind arith
 only_name c x name a b d p (By_line y h f) = grind arith
 
-by_name : (c : Content) (x : Change) (name : List ℕ) → all_names (x ∷ []) ≡ name ∷ [] → (p : Named) →
+by_name : (c : Content) (x : Change) (name : List ℕ) → ((q : List ℕ) → gives q x ≡ same_name q name) → (p : Named) →
     same_name p.name name ≡ true → Affects c (x ∷ []) p
-by_name c x name d p h = grind arith
+by_name c x name d p h = By_name (or-false (gives p.name x) ∙ d p.name ∙ h)
 
 -- ---- outside a batch
 
@@ -93,14 +93,14 @@ pub paths_raise : (s t : State) (name : List ℕ) (path : Path) → IsState s �
     → (step s (Make (Add_path name path)) ≡ Ok t → Raises s (Make (Add_path name path)) t 1)
     × (step s (Make (Set_path name path)) ≡ Ok t → Raises s (Make (Set_path name path)) t 1)
 paths_raise s t name path i b = (
-  λ is. one (Add_path name path) refl refl refl (steps_keep s t (Make (Add_path name path)) i tt is)
+  λ is. one (Add_path name path) refl refl (λ q. refl) (steps_keep s t (Make (Add_path name path)) i tt is)
       (added_path s t name path b is),
-  λ is. one (Set_path name path) refl refl refl (steps_keep s t (Make (Set_path name path)) i tt is)
+  λ is. one (Set_path name path) refl refl (λ q. refl) (steps_keep s t (Make (Set_path name path)) i tt is)
       (replaced_path s t name path b is),
 )
   where
-    one : (x : Change) → all_nodes s.content (x ∷ []) ≡ [] → all_lines (x ∷ []) ≡ [] → all_names (x ∷ []) ≡ name ∷ [] →
-        IsState t → path_named t.content.paths name ≡ Some path → Raises s (Make x) t 1
+    one : (x : Change) → all_nodes s.content (x ∷ []) ≡ [] → all_lines (x ∷ []) ≡ [] →
+        ((q : List ℕ) → gives q x ≡ same_name q name) → IsState t → path_named t.content.paths name ≡ Some path → Raises s (Make x) t 1
     one x nodes lines names keeps there =
         subst (λ (xs : List Change). CountIs (Affects s.content xs) t.content.paths 1) (sym (makes s x b))
         (one_counted (Affects s.content (x ∷ [])) name (only_name s.content x name nodes lines names)

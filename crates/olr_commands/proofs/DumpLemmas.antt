@@ -1,6 +1,7 @@
 -- The changes that a content is written as build it from an empty one.
-use Rattle.olr_commands.proofs.Common.{cases_eq, AllByRecursion, Map, IsMap, Line, is_good, got_other, got_same}
-use Rattle.std.proofs.Common.{arith, ◌≡◌, ◌≢◌, ℕ, true, false, T, List, [], ◌∷◌, ◌++◌, map, Option, Some, None, is_some}
+use Rattle.olr_commands.proofs.Common.{cases_eq, AllByRecursion, Map, IsMap, Line, is_good, got_other, got_same, Margin}
+use Rattle.olr_commands.proofs.Common.{no_margin}
+use Rattle.std.proofs.Common.{arith, ◌≡◌, ◌≢◌, ℕ, Bool, true, false, T, if◌then◌else◌, List, [], ◌∷◌, ◌++◌, map, Option, Some, None, is_some}
 use Rattle.std.proofs.Common.{Ok, refl, sym, ap, ◌∙◌, append_assoc, nat_cmp, Ordering, is_lt, is_eq}
 use Rattle.std.proofs.lemmas.Bool.{eq-eqb, ne_eqb}
 use Rattle.std.proofs.lemmas.List.{append-nil}
@@ -10,8 +11,9 @@ use Rattle.std.specs.FinMap.{nat_cmp-IsAntisymmetric}
 use Rattle.std.specs.FinMap.Entries.{below_all, find, is_sorted}
 use Rattle.olr_spec.specs.Coordinates.{Coord}
 use Rattle.olr_commands.specs.State.{Named, Content, no_content, path_named, Change, with_change, next, Make, ArePaths}
-use Rattle.olr_commands.specs.State.{NamesDiffer}
-use Rattle.olr_commands.specs.Dump.{node_change, line_change, path_change, dump_changes, Leads, steps, DumpsLead}
+use Rattle.olr_commands.specs.State.{NamesDiffer, Set_margin}
+use Rattle.olr_commands.specs.Dump.{node_change, line_change, path_change, dump_changes, adds_nothing, margin_changes, Leads}
+use Rattle.olr_commands.specs.Dump.{steps, DumpsLead}
 use Rattle.olr_commands.specs.Dump.{DumpsRun}
 use Rattle.olr_commands.proofs.StateLemmas.{next_ok}
 use Rattle.olr_commands.proofs.NameLemmas.{named_push, not_named, flipped}
@@ -98,26 +100,40 @@ leads_append : (c d e : Content) (xs ys : List Change) → Leads c xs d → Lead
 leads_append c d e [] ys p q = rw p.1 q
 leads_append c d e (x ∷ xs) ys p q = grind (arith, leads_append (next c x) d e xs ys)
 
-abbrev content_of : FinMap nat_cmp Coord → FinMap nat_cmp Line → List Named → Content
-content_of nodes lines ps = record { map = record { nodes = nodes; lines = lines }; paths = ps }
+abbrev content_of : Margin → FinMap nat_cmp Coord → FinMap nat_cmp Line → List Named → Content
+content_of g nodes lines ps = record { map = record { nodes = nodes; lines = lines }; paths = ps; margin = g }
 
-lead_nodes : (m : FinMap nat_cmp Coord) (lines : FinMap nat_cmp Line) (ps : List Named) (es : List (ℕ × Coord)) →
-    T (is_sorted nat_cmp es) → Absent m es → Leads (content_of m lines ps) (map node_change es)
-    (content_of (filled m es) lines ps)
-lead_nodes m lines ps [] s a = (tt, refl)
-lead_nodes m lines ps (e ∷ es) s a =
-    grind (arith, insert, leads_one, still_absent, lead_nodes (insert m e.0 e.1) lines ps es)
+-- a margin that adds nothing is none
+none_added : (g : Margin) → adds_nothing g ≡ true → g ≡ no_margin
+none_added g h =
+    let routes : g.routes ≡ 0 = grind (arith, cases_eq) in
+    let classes : g.classes ≡ 0 = grind (arith, cases_eq) in
+    λ i. record { routes = routes i; classes = classes i }
+
+lead_margin : (g : Margin) → Leads no_content (margin_changes g) (content_of g empty empty [])
+lead_margin g = by (adds_nothing g) refl where
+  by : (b : Bool) → adds_nothing g ≡ b →
+      Leads no_content (if b then [] else Set_margin g ∷ []) (content_of g empty empty [])
+  by true none = (tt, ap (λ (h : Margin). content_of h empty empty []) (sym (none_added g none)))
+  by false some = ((refl, tt), refl)
+
+lead_nodes : (g : Margin) (m : FinMap nat_cmp Coord) (lines : FinMap nat_cmp Line) (ps : List Named) (es : List (ℕ × Coord)) →
+    T (is_sorted nat_cmp es) → Absent m es → Leads (content_of g m lines ps) (map node_change es)
+    (content_of g (filled m es) lines ps)
+lead_nodes g m lines ps [] s a = (tt, refl)
+lead_nodes g m lines ps (e ∷ es) s a =
+    grind (arith, insert, leads_one, still_absent, lead_nodes g (insert m e.0 e.1) lines ps es)
 
 -- the ends of the line are among these nodes, and the line is valid
 abbrev Fits : FinMap nat_cmp Coord → ℕ × Line → Type 0
 Fits nodes e = (is_some (get nodes e.1.from) ≡ true) × (is_some (get nodes e.1.to) ≡ true) × (is_good e.1 ≡ true)
 
-lead_lines : (nodes : FinMap nat_cmp Coord) (m : FinMap nat_cmp Line) (ps : List Named) (es : List (ℕ × Line)) →
+lead_lines : (g : Margin) (nodes : FinMap nat_cmp Coord) (m : FinMap nat_cmp Line) (ps : List Named) (es : List (ℕ × Line)) →
     T (is_sorted nat_cmp es) → Absent m es → AllByRecursion (Fits nodes) es →
-    Leads (content_of nodes m ps) (map line_change es) (content_of nodes (filled m es) ps)
-lead_lines nodes m ps [] s a f = (tt, refl)
-lead_lines nodes m ps (e ∷ es) s a f =
-    grind (arith, insert, leads_one, still_absent, lead_lines nodes (insert m e.0 e.1) ps es)
+    Leads (content_of g nodes m ps) (map line_change es) (content_of g nodes (filled m es) ps)
+lead_lines g nodes m ps [] s a f = (tt, refl)
+lead_lines g nodes m ps (e ∷ es) s a f =
+    grind (arith, insert, leads_one, still_absent, lead_lines g nodes (insert m e.0 e.1) ps es)
 
 -- no path of qs has the name of one of ps
 abbrev NewNames : List Named → List Named → Type 0
@@ -128,16 +144,18 @@ still_new : (qs : List Named) (p : Named) (ps : List Named) → is_some (path_na
 still_new qs p [] h a = tt
 still_new qs p (r ∷ ps) h a = grind (arith, not_named, named_push, flipped, still_new qs p ps)
 
-lead_paths : (M : Map) (qs ps : List Named) → ArePaths ps → NamesDiffer ps → NewNames qs ps →
-    Leads (record { map = M; paths = qs }) (map path_change ps) (record { map = M; paths = qs ++ ps })
-lead_paths M qs [] a d n = (tt, ap (λ (rs : List Named). record { map = M; paths = rs }) (sym (append-nil qs)))
-lead_paths M qs (p ∷ ps) a d n =
+lead_paths : (g : Margin) (M : Map) (qs ps : List Named) → ArePaths ps → NamesDiffer ps → NewNames qs ps →
+    Leads (record { map = M; paths = qs; margin = g }) (map path_change ps)
+    (record { map = M; paths = qs ++ ps; margin = g })
+lead_paths g M qs [] a d n =
+    (tt, ap (λ (rs : List Named). record { map = M; paths = rs; margin = g }) (sym (append-nil qs)))
+lead_paths g M qs (p ∷ ps) a d n =
     grind (
       arith,
       still_new,
       leads_one,
       append_assoc,
-      lead_paths M (qs ++ p ∷ []) ps a.1 d.1 (still_new qs p ps d.0 n.1),
+      lead_paths g M (qs ++ p ∷ []) ps a.1 d.1 (still_new qs p ps d.0 n.1),
     )
 
 all_new : (ps : List Named) → NewNames [] ps
@@ -151,18 +169,20 @@ line_fits M m e is = grind (arith, get)
 
 pub dumps_lead : DumpsLead
 dumps_lead c i =
+    let g = c.margin in
     let N = entries c.map.nodes in
     let L = entries c.map.lines in
     let nodes =
-    rw (filled_all c.map.nodes) at (lead_nodes empty empty [] N (entries_sorted c.map.nodes) (absent_of_empty N)) in
+    rw (filled_all c.map.nodes) at (lead_nodes g empty empty [] N (entries_sorted c.map.nodes) (absent_of_empty N)) in
     let fits =
     of_entries (Fits c.map.nodes) L (entries_sorted c.map.lines)
     (λ e is. line_fits c.map i.map e (get-entries c.map.lines e.0 ∙ is)) in
     let lines =
     rw (filled_all c.map.lines) at
-    (lead_lines c.map.nodes empty [] L (entries_sorted c.map.lines) (absent_of_empty L) fits) in
-    let paths = lead_paths c.map [] c.paths i.paths i.names (all_new c.paths) in
-    leads_append no_content _ c (map node_change N) _ nodes (leads_append _ _ c (map line_change L) _ lines paths)
+    (lead_lines g c.map.nodes empty [] L (entries_sorted c.map.lines) (absent_of_empty L) fits) in
+    let paths = lead_paths g c.map [] c.paths i.paths i.names (all_new c.paths) in
+    leads_append no_content _ c (margin_changes g) _ (lead_margin g)
+    (leads_append _ _ c (map node_change N) _ nodes (leads_append _ _ c (map line_change L) _ lines paths))
 
 -- changes that are accepted one after another are accepted as commands too
 run_leads : (c d : Content) (xs : List Change) → Leads c xs d →

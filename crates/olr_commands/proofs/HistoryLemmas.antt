@@ -1,16 +1,17 @@
 -- Whole runs.
 use Rattle.olr_commands.proofs.Common.{MatchOption, IfSome, AllByRecursion, result_unwrap_or, cases_Bool, both_ways}
 use Rattle.olr_commands.proofs.Common.{not-false, bytes_decides, Map, IsMap, Path, Reference, Answer, Refused, Refusal}
-use Rattle.olr_commands.proofs.Common.{Encodes, one_answer, some_answer}
+use Rattle.olr_commands.proofs.Common.{EncodesWith, one_answer_with, some_answer_with, Margin}
 use Rattle.std.proofs.Common.{rules, inl, inr, ◌≡◌, ℕ, Bool, true, false, cond, List, [], ◌∷◌, ◌++◌, length, Option}
 use Rattle.std.proofs.Common.{Some, None, Result, Ok, Err, refl, sym, ap, ◌∙◌, subst, arith}
-use Rattle.olr_spec.specs.Encoding.{Points, path_fault, Encoding}
+use Rattle.olr_spec.specs.Encoding.{Points, path_fault, EncodingWith}
+use Rattle.olr_spec.specs.Margins.{IsSoundFor}
 use Rattle.olr_spec.proofs.UndoLemmas.{empty_sound}
-use Rattle.olr_spec.specs.Joins.{Joined}
-use Rattle.olr_spec.proofs.JoinedAnswers.{joined}
+use Rattle.olr_spec.specs.Joins.{JoinedWith}
+use Rattle.olr_spec.proofs.JoinedAnswers.{joined_with}
 use Rattle.olr_commands.specs.State.{Named, Content, path_named, same_name, ArePaths, NamesDiffer, IsContent, Fault}
 use Rattle.olr_commands.specs.State.{Change, after, Command, Make, Compact, Begin, Commit, Abort, State, start_state, step}
-use Rattle.olr_commands.specs.State.{changes_made, changes_made_in, IsState, Dump, Show_node, Show_line}
+use Rattle.olr_commands.specs.State.{changes_made, changes_made_in, IsState, Dump, Show_node, Show_line, Show_margin}
 use Rattle.olr_commands.specs.Reply.{Entry, entry, Paths, HasAnswer, Published, ChangedOf, Differences, IsReply}
 use Rattle.olr_commands.specs.Reply.{Outcome, IsOutcome, Dumped, Reply}
 use Rattle.olr_commands.specs.History.{Run, brought_by, next_state, all_changes_made, OneOf, IsPublished, names}
@@ -93,14 +94,15 @@ content_after asked s t (x ∷ xs) (Err fault ∷ os) h = grind (arith, content_
 
 -- ---- answers
 
-pub one_of : (c : Content) → IsContent c → (name : List ℕ) (P : Path) → path_named c.paths name ≡ Some P → OneOf c.map P
+pub one_of : (c : Content) → IsContent c → (name : List ℕ) (P : Path) → path_named c.paths name ≡ Some P →
+    OneOf c.margin c.map P
 one_of c i name P e =
     let sound = named_path c.paths name P i.paths e in
-    let some = some_answer c.map i.map P sound in
-    record { answer = some.0; encodes = some.1; only = λ B h. one_answer c.map i.map P sound B some.0 h some.1 }
+    let some = some_answer_with c.margin c.map i.map P sound in
+    record { answer = some.0; encodes = some.1; only = λ B h. one_answer_with c.margin c.map i.map P sound B some.0 h some.1 }
 
 -- the only answer of a path is the published one
-only_published : (c : Content) (name : List ℕ) (P : Path) (one : OneOf c.map P) (answer : Option Answer) →
+only_published : (c : Content) (name : List ℕ) (P : Path) (one : OneOf c.margin c.map P) (answer : Option Answer) →
     path_named c.paths name ≡ Some P → Published c name answer → answer ≡ Some one.answer
 only_published c name P one None e h = grind arith
 only_published c name P one (Some A) e h = grind (arith, one.only A)
@@ -115,18 +117,19 @@ is_published before later changes sound e =
     }
 
 pub start_sound : IsState start_state
-start_sound = record { content = record { map = empty_sound; paths = tt; names = tt }; batch = tt }
+start_sound = record { content = record { map = empty_sound; paths = tt; names = tt; margin = refl }; batch = tt }
 
 -- ---- joins
 
-joined_by : (M : Map) (P : Path) (r : Reference) (o : Option Refusal) → path_fault M P ≡ o →
-    MatchOption o (Encoding M P (Points r)) (λ f. Points r ≡ Refused f) → Joined M P r
-joined_by M P r None none p = joined M P r none p
-joined_by M P r (Some f) is p = absurd cc
+joined_by : (g : Margin) (M : Map) → IsSoundFor g M → (P : Path) (r : Reference) (o : Option Refusal) → path_fault M P ≡ o →
+    MatchOption o (EncodingWith g M P (Points r)) (λ f. Points r ≡ Refused f) → JoinedWith g M P r
+joined_by g M sound P r None none p = joined_with g M sound P r none p
+joined_by g M sound P r (Some f) is p = absurd cc
 
-pub routes_of : (c : Content) (name : List ℕ) (r : Reference) → HasAnswer c name (Points r) → (P : Path)
-    × (path_named c.paths name ≡ Some P) × Joined c.map P r
-routes_of c name r h = (h.0, h.1, joined_by c.map h.0 r (path_fault c.map h.0) refl h.2)
+pub routes_of : (c : Content) → IsSoundFor c.margin c.map → (name : List ℕ) (r : Reference) → HasAnswer c name (Points r) →
+    (P : Path) × (path_named c.paths name ≡ Some P) × JoinedWith c.margin c.map P r
+routes_of c sound name r h =
+    (h.0, h.1, joined_by c.margin c.map sound h.0 r (path_fault c.map h.0) refl h.2)
 
 -- ---- replies
 
@@ -144,28 +147,28 @@ named_later : (p : Named) (ps : List Named) (name : List ℕ) → same_name p.na
 named_later p ps name h = ap (λ (b : Bool). cond b (Some p.path) (path_named ps name)) h
 
 -- the entry has the answer of a path of this list, which the path did not have before
-Reports : Content → Map → List Named → Entry → Type 0
-Reports before M ps e =
-    (A : Answer) × (P : Path) × (path_named ps e.name ≡ Some P) × Encodes M P A × (e ≡ entry e.name A)
+Reports : Content → Margin → Map → List Named → Entry → Type 0
+Reports before g M ps e =
+    (A : Answer) × (P : Path) × (path_named ps e.name ≡ Some P) × EncodesWith g M P A × (e ≡ entry e.name A)
     × ¬ HasAnswer before e.name A
 
-report_later : (before : Content) (M : Map) (p : Named) (ps : List Named) → NamesDiffer (p ∷ ps) → (es : List Entry) →
-    AllByRecursion (Reports before M ps) es → AllByRecursion (Reports before M (p ∷ ps)) es
+report_later : (before : Content) (g : Margin) (M : Map) (p : Named) (ps : List Named) → NamesDiffer (p ∷ ps) →
+    (es : List Entry) → AllByRecursion (Reports before g M ps) es → AllByRecursion (Reports before g M (p ∷ ps)) es
 unfolding Reports
-report_later before M p ps d [] h = tt
-report_later before M p ps d (e ∷ es) (r, h) = (
+report_later before g M p ps d [] h = tt
+report_later before g M p ps d (e ∷ es) (r, h) = (
   (r.0, r.1, named_later p ps e.name (not_first p ps e.name r.1 d r.2) ∙ r.2, r.3, r.4, r.5),
-  report_later before M p ps d es h,
+  report_later before g M p ps d es h,
 )
 
-report_all : (before : Content) (M : Map) (ps : List Named) (es : List Entry) → NamesDiffer ps →
-    ChangedOf before M ps es → AllByRecursion (Reports before M ps) es
+report_all : (before : Content) (g : Margin) (M : Map) (ps : List Named) (es : List Entry) → NamesDiffer ps →
+    ChangedOf before g M ps es → AllByRecursion (Reports before g M ps) es
 unfolding Reports
-report_all before M [] es d c = rw c tt
-report_all before M (p ∷ ps) es d c =
-    let rest = report_later before M p ps d c.1 (report_all before M ps c.1 d.1 c.3) in
+report_all before g M [] es d c = rw c tt
+report_all before g M (p ∷ ps) es d c =
+    let rest = report_later before g M p ps d c.1 (report_all before g M ps c.1 d.1 c.3) in
     let here = named_first p ps p.name ((bytes_decides p.name p.name).1 refl) in
-    elim c.4 [ inl g ↦ rw g.1 rest | inr g ↦ rw g.1 ((c.0, p.path, here, c.2, refl, g.0), rest) ]
+    elim c.4 [ inl k ↦ rw k.1 rest | inr k ↦ rw k.1 ((c.0, p.path, here, c.2, refl, k.0), rest) ]
 
 -- the entry of a name
 entry_of : (P : Entry → Type 0) (es : List Entry) (name : List ℕ) → AllByRecursion P es → names es name →
@@ -173,37 +176,37 @@ entry_of : (P : Entry → Type 0) (es : List Entry) (name : List ℕ) → AllByR
 entry_of P [] name a h = absurd cc
 entry_of P (e ∷ es) name a h = grind (arith, cases_Bool, same_is, entry_of P es name a.1)
 
-reported : (before later : Content) (es : List Entry) → AllByRecursion (Reports before later.map later.paths) es →
+reported : (before later : Content) (es : List Entry) → AllByRecursion (Reports before later.margin later.map later.paths) es →
     AllByRecursion (λ e. (A : Answer) × HasAnswer later e.name A × (e ≡ entry e.name A)) es
 unfolding Reports
 reported before later [] h = tt
 reported before later (e ∷ es) h = grind (arith, reported before later es)
 
 -- a path with an answer that it did not have before has an entry
-named_by : (before : Content) (M : Map) → IsMap M → (ps : List Named) (es : List Entry) → ArePaths ps →
-    ChangedOf before M ps es → (name : List ℕ) (A : Answer) (P : Path) → path_named ps name ≡ Some P → Encodes M P A →
-    ¬ HasAnswer before name A → names es name
-named_by before M m [] es a c name A P is answer new = absurd cc
-named_by before M m (p ∷ ps) es a c name A P is answer new =
+named_by : (before : Content) (g : Margin) (M : Map) → IsMap M → (ps : List Named) (es : List Entry) → ArePaths ps →
+    ChangedOf before g M ps es → (name : List ℕ) (A : Answer) (P : Path) → path_named ps name ≡ Some P →
+    EncodesWith g M P A → ¬ HasAnswer before name A → names es name
+named_by before g M m [] es a c name A P is answer new = absurd cc
+named_by before g M m (p ∷ ps) es a c name A P is answer new =
     search (
       rules,
       arith,
       cases_Bool,
       named_first,
-      one_answer,
+      one_answer_with g,
       same_is,
       named_later,
-      named_by before M m ps c.1 a.1 c.3 name A P,
+      named_by before g M m ps c.1 a.1 c.3 name A P,
     )
 
 pub names_changed : (before later : Content) (es : List Entry) → IsContent later → Differences before later es →
     NamesChanged before later es
 unfolding Reports
 names_changed before later es i c =
-    let all = report_all before later.map later.paths es i.names c in (
+    let all = report_all before later.margin later.map later.paths es i.names c in (
       λ name. (
-        λ h. grind (arith, entry_of (Reports before later.map later.paths) es name all h),
-        λ h. named_by before later.map i.map later.paths es i.paths c name h.0 h.1.0 h.1.1 h.1.2 h.2,
+        λ h. grind (arith, entry_of (Reports before later.margin later.map later.paths) es name all h),
+        λ h. named_by before later.margin later.map i.map later.paths es i.paths c name h.0 h.1.0 h.1.1 h.1.2 h.2,
       ),
       reported before later es all,
     )
@@ -228,6 +231,7 @@ dumped_of c b t Dump count text i is h = grind (arith, when_ok, not-false, dumps
 dumped_of c (Some xs) t (Make x) count text i is h = absurd cc
 dumped_of c b t (Show_node v) count text i is h = absurd cc
 dumped_of c b t (Show_line x) count text i is h = absurd cc
+dumped_of c b t Show_margin count text i is h = absurd cc
 dumped_of c b t Compact count text i is h = absurd cc
 dumped_of c b t Begin count text i is h = absurd cc
 dumped_of c b t Abort count text i is h = absurd cc
@@ -269,7 +273,7 @@ headline_by P Q asked f s xs os t sound h =
     record {
       run = run_each _ Q (λ a x o b k. k.0) s xs os t each;
       published = is_published s.content t.content _ all.1 (content_after asked s t xs os leads);
-      joined = routes_of t.content;
+      joined = routes_of t.content (inr all.1.map);
       named = run_each _ _ (λ a x o b k. (k.0, k.1.named)) s xs os t each;
       refused = run_each _ _ (λ a x o b k. (k.0, k.1.refused)) s xs os t each;
       dumped = run_each _ _ (λ a x o b k. (k.0, k.1.dumped k.2)) s xs os t each;

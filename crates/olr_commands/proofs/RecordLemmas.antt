@@ -16,6 +16,10 @@ pub commas_three : (t a b c : List ℕ) (fs : List (List ℕ)) →
     (((t ++ 44 ∷ a) ++ 44 ∷ b) ++ 44 ∷ c) ++ after_commas fs ≡ t ++ after_commas (a ∷ b ∷ c ∷ fs)
 commas_three t a b c fs = grind (arith, append_assoc)
 
+-- a record of a word and two fields
+pub line_of_two : (t w a b : List ℕ) → (((t ++ w) ++ 44 ∷ a) ++ 44 ∷ b) ++ 10 ∷ [] ≡ t ++ fields_line (w ∷ a ∷ b ∷ [])
+line_of_two t w a b = simp append_assoc refl
+
 -- a record of a word, three fields and more
 pub line_of_three : (t w a b c : List ℕ) (fs : List (List ℕ)) →
     (((((t ++ w) ++ 44 ∷ a) ++ 44 ∷ b) ++ 44 ∷ c) ++ after_commas fs) ++ 10 ∷ []

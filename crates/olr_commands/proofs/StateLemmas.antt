@@ -3,10 +3,10 @@ use Rattle.olr_commands.proofs.Common.{nat_le, IfSome, IfOk, result_unwrap_or, n
 use Rattle.olr_commands.proofs.Common.{MapFault, edited, edits_keep}
 use Rattle.std.proofs.Common.{◌≡◌, ℕ, ◌+◌, ◌≤◌, arith, Bool, true, false, List, [], ◌∷◌, ◌++◌, length, Option, Some}
 use Rattle.std.proofs.Common.{None, Result, Ok, Err, refl, ap, subst}
-use Rattle.olr_commands.specs.State.{Content, Fault, when, Change, On_map, Add_path, Set_path, Drop_path, with_map}
+use Rattle.olr_commands.specs.State.{Content, Fault, when, Change, On_map, Add_path, Set_path, Drop_path, Set_margin, with_map}
 use Rattle.olr_commands.specs.State.{with_change, next, after, Command, Make, Show, Report, Explain, Begin, Commit}
 use Rattle.olr_commands.specs.State.{Abort, State, full, step, step_in, IsContent, AllAccepted, IsBatch, IsState}
-use Rattle.olr_commands.specs.State.{HasCoords, Dump, Compact, Preview, Ambiguous, Show_node, Show_line, Depends}
+use Rattle.olr_commands.specs.State.{HasCoords, Dump, Compact, Preview, Ambiguous, Show_node, Show_line, Show_margin, Depends}
 use Rattle.olr_commands.proofs.NameLemmas.{differ_push, differ_set, differ_filter, paths_push, paths_set, paths_filter}
 use Rattle.std.proofs.lemmas.List.{length_push}
 use Rattle.std.proofs.lemmas.Result.{IfOk-at_ok}
@@ -36,6 +36,7 @@ changes_keep c d (On_map e) i h is = map_keeps c d (edited c.map e) (λ m ok. ed
 changes_keep c d (Add_path name path) i h is = grind (arith, when_ok, accepted, paths_push, not-false, differ_push)
 changes_keep c d (Set_path name path) i h is = grind (arith, when_ok, accepted, paths_set, not-false, differ_set)
 changes_keep c d (Drop_path name) i h is = grind (arith, passed, paths_filter, differ_filter)
+changes_keep c d (Set_margin g) i h is = grind (arith, accepted)
 
 -- ---- batches
 
@@ -86,6 +87,7 @@ module _ (P : State → Type 0) where
   ends_in c None Dump h = grind arith
   ends_in c None Compact h = h
   ends_in c None (Ambiguous name) h = grind arith
+  ends_in c b Show_margin h = h
   ends_in c b (Explain text) h = grind arith
   ends_in c (Some xs) Preview h = h
   ends_in c (Some xs) (Commit count) h = grind arith

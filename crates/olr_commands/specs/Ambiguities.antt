@@ -2,14 +2,15 @@
 --     NamedObstacle, named name o      a path's name, the number of an LRP, and what stands in the way there
 --     obstacles_of M A xs      what stands in the way of an answer, where xs are the path's own lines at its LRPs: nothing
 --         if it has no reference
---     Ambiguity M p es      es is what stands in the way of the named path's string on M, LRP by LRP
---     Ambiguities M ps es      the same of all these paths, in order
+--     Ambiguity g M p es      es is what stands in the way of the named path's string on M, LRP by LRP
+--     Ambiguities g M ps es      the same of all these paths, in order
 --     AskedAmbiguities c name es      of the path of that name; of all paths if there is no name
 use Rattle.std.specs.Prelude.{◌≡◌, ℕ, List, [], ◌∷◌, ◌++◌, map, Option, Some, None}
 use Rattle.olr_spec.specs.Map.{Map}
+use Rattle.olr_spec.specs.Margins.{Margin}
 use Rattle.olr_spec.specs.Extension.{Path}
-use Rattle.olr_spec.specs.Encoding.{Answer, Points, Refused, Encodes}
-use Rattle.olr_spec.specs.Recovery.{OwnLinesOf}
+use Rattle.olr_spec.specs.Encoding.{Answer, Points, Refused, EncodesWith}
+use Rattle.olr_spec.specs.Recovery.{OwnLinesOfWith}
 use Rattle.olr_spec.specs.Ambiguity.{Obstacle, obstacles}
 use Rattle.olr_commands.specs.State.{Named, Content, path_named}
 
@@ -25,18 +26,18 @@ abbrev pub obstacles_of : Map → Answer → List ℕ → List (ℕ × Obstacle)
 obstacles_of M (Points r) xs = obstacles M r xs
 obstacles_of M (Refused refusal) xs = []
 
-abbrev pub Ambiguity : Map → Named → List NamedObstacle → Type 0
-Ambiguity M p es =
-    (A : Answer) × (xs : List ℕ) × Encodes M p.path A × OwnLinesOf M p.path A xs
+abbrev pub Ambiguity : Margin → Map → Named → List NamedObstacle → Type 0
+Ambiguity g M p es =
+    (A : Answer) × (xs : List ℕ) × EncodesWith g M p.path A × OwnLinesOfWith g M p.path A xs
     × (es ≡ map (named p.name) (obstacles_of M A xs))
 
-abbrev pub Ambiguities : Map → List Named → List NamedObstacle → Type 0
-Ambiguities M [] es = es ≡ []
-Ambiguities M (p ∷ ps) es =
-    (own : List NamedObstacle) × (rest : List NamedObstacle) × Ambiguity M p own × Ambiguities M ps rest
+abbrev pub Ambiguities : Margin → Map → List Named → List NamedObstacle → Type 0
+Ambiguities g M [] es = es ≡ []
+Ambiguities g M (p ∷ ps) es =
+    (own : List NamedObstacle) × (rest : List NamedObstacle) × Ambiguity g M p own × Ambiguities g M ps rest
     × (es ≡ own ++ rest)
 
 abbrev pub AskedAmbiguities : Content → Option (List ℕ) → List NamedObstacle → Type 0
-AskedAmbiguities c None es = Ambiguities c.map c.paths es
+AskedAmbiguities c None es = Ambiguities c.margin c.map c.paths es
 AskedAmbiguities c (Some name) es =
-    (P : Path) × (path_named c.paths name ≡ Some P) × Ambiguity c.map (record { name = name; path = P }) es
+    (P : Path) × (path_named c.paths name ≡ Some P) × Ambiguity c.margin c.map (record { name = name; path = P }) es

@@ -1,16 +1,17 @@
 -- By how much an accepted command raises the count of encodings.
+--     gives name x      the change adds or sets the path of that name, or sets the margin, with which each path is encoded
 --     Affects c xs p      the changes xs, made from the content c, affect the named path p
 --     Picks P xs ys      ys are the elements of xs for which P holds, in order
 --     CountIs P ps n      P holds of n of the elements
 --     Raises s c t n      the accepted command, which leads from s to t, raises the count of encodings by n
-use Rattle.std.specs.Prelude.{◌≡◌, ℕ, suc, List, [], ◌∷◌, ◌++◌, flat_map, ◌⊎◌, IsTrue}
+use Rattle.std.specs.Prelude.{◌≡◌, ℕ, suc, Bool, true, false, List, [], ◌∷◌, ◌++◌, flat_map, ◌⊎◌, IsTrue}
 use Rattle.std.specs.List.{list_any}
 use Rattle.olr_spec.specs.Map.{Map, touched_nodes, touched_lines, has}
-use Rattle.olr_spec.specs.Footprint.{Foot}
-use Rattle.olr_commands.specs.State.{Named, Content, same_name, Change, On_map, Add_path, Set_path, next, State}
+use Rattle.olr_spec.specs.Footprint.{FootWith}
+use Rattle.olr_commands.specs.State.{Named, Content, same_name, Change, On_map, Add_path, Set_path, Set_margin, next, State}
 use Rattle.olr_commands.specs.State.{Command, changes_made}
 
--- the nodes and the lines that a change touches, and the name of the path that it adds or sets
+-- the nodes and the lines that a change touches
 abbrev pub nodes_of_change : Map → Change → List ℕ
 nodes_of_change M (On_map e) = touched_nodes M e
 nodes_of_change M _ = []
@@ -19,10 +20,11 @@ abbrev pub lines_of_change : Change → List ℕ
 lines_of_change (On_map e) = touched_lines e
 lines_of_change _ = []
 
-abbrev pub names_of_change : Change → List (List ℕ)
-names_of_change (Add_path name path) = name ∷ []
-names_of_change (Set_path name path) = name ∷ []
-names_of_change _ = []
+abbrev pub gives : List ℕ → Change → Bool
+gives name (Add_path other path) = same_name name other
+gives name (Set_path other path) = same_name name other
+gives name (Set_margin g) = true
+gives name _ = false
 
 -- the nodes that each change touches, on the map on which it is made
 abbrev pub all_nodes : Content → List Change → List ℕ
@@ -32,13 +34,10 @@ all_nodes c (x ∷ xs) = nodes_of_change c.map x ++ all_nodes (next c x) xs
 abbrev pub all_lines : List Change → List ℕ
 all_lines xs = flat_map lines_of_change xs
 
-abbrev pub all_names : List Change → List (List ℕ)
-all_names xs = flat_map names_of_change xs
-
--- a change names the path, or touches a node of its footprint on the map before all changes, or one of its lines
+-- a change gives the path, or touches a node of its footprint before all changes, or one of its lines
 pub data Affects (c : Content) (xs : List Change) (p : Named) : Type 0 where
-  By_name : IsTrue (list_any (same_name p.name) (all_names xs)) → Affects c xs p
-  By_node : (v : ℕ) → IsTrue (has (all_nodes c xs) v) → Foot c.map p.path v → Affects c xs p
+  By_name : IsTrue (list_any (gives p.name) xs) → Affects c xs p
+  By_node : (v : ℕ) → IsTrue (has (all_nodes c xs) v) → FootWith c.margin c.map p.path v → Affects c xs p
   By_line : (x : ℕ) → IsTrue (has (all_lines xs) x) → IsTrue (has p.path.lines x) → Affects c xs p
 
 abbrev pub Picks : {A : Type 0} → (A → Type 0) → List A → List A → Type 0

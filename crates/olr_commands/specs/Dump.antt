@@ -1,15 +1,16 @@
 -- A content written as changes that build it from an empty one.
---     dump_changes c      an added node for each node, an added line for each line, both in ascending order,
---         and an added path for each path, in order
+--     dump_changes c      the margin, if there is one, an added node for each node, an added line for each line, both in
+--         ascending order, and an added path for each path, in order
 --     dump_lines c      the records of these changes
 --     node_changes M v, line_changes M x      those of a node;  those of the ends of a line, each once, and of the line
 --     Leads c xs d      the changes are accepted one after another and lead from c to d
 --     steps s cs      the state after commands, or the first fault
-use Rattle.std.specs.Prelude.{◌≡◌, ◌==◌, ℕ, List, [], ◌∷◌, ◌++◌, map, if◌then◌else◌, None, Result, Ok, Err}
+use Rattle.std.specs.Prelude.{◌≡◌, ◌==◌, ℕ, Bool, ◌&&◌, List, [], ◌∷◌, ◌++◌, map, if◌then◌else◌, None, Result, Ok, Err}
 use Rattle.std.specs.FinMap.{entries}
 use Rattle.olr_spec.specs.Map.{Map, Line, Add_node, Add_line, coord_at, line_at, start, end}
 use Rattle.olr_spec.specs.Coordinates.{Coord}
-use Rattle.olr_commands.specs.State.{Named, Content, no_content, Fault, Change, On_map, Add_path, after, Command, Make}
+use Rattle.olr_spec.specs.Margins.{Margin}
+use Rattle.olr_commands.specs.State.{Named, Content, no_content, Fault, Change, On_map, Add_path, Set_margin, after, Command, Make}
 use Rattle.olr_commands.specs.State.{State, start_state, step, IsContent, AllAccepted}
 use Rattle.olr_commands.specs.RecordText.{record_line}
 
@@ -22,10 +23,19 @@ line_change e = On_map (Add_line e.0 e.1)
 abbrev pub path_change : Named → Change
 path_change p = Add_path p.name p.path
 
+abbrev pub adds_nothing : Margin → Bool
+adds_nothing g = (g.routes == 0) && (g.classes == 0)
+
+abbrev pub margin_changes : Margin → List Change
+margin_changes g = if adds_nothing g then [] else Set_margin g ∷ []
+
 -- both ends of a line are added before the line
-abbrev pub dump_changes : Content → List Change
-dump_changes c =
+abbrev pub content_changes : Content → List Change
+content_changes c =
     map node_change (entries c.map.nodes) ++ (map line_change (entries c.map.lines) ++ map path_change c.paths)
+
+abbrev pub dump_changes : Content → List Change
+dump_changes c = margin_changes c.margin ++ content_changes c
 
 abbrev pub dump_lines : Content → List (List ℕ)
 dump_lines c = map record_line (dump_changes c)

@@ -12,10 +12,11 @@ use Rattle.std.specs.Prelude.{Err, IsTrue, ◌↔◌}
 use Rattle.std.specs.Result.{result_unwrap_or}
 use Rattle.std.specs.List.{list_any, AllByRecursion, concat}
 use Rattle.olr_spec.specs.Map.{Map}
+use Rattle.olr_spec.specs.Margins.{Margin, IsSoundFor}
 use Rattle.olr_spec.specs.Extension.{Path}
 use Rattle.olr_spec.specs.Reference.{Reference}
-use Rattle.olr_spec.specs.Encoding.{Answer, Points, Encodes}
-use Rattle.olr_spec.specs.Joins.{Joined}
+use Rattle.olr_spec.specs.Encoding.{Answer, Points, EncodesWith}
+use Rattle.olr_spec.specs.Joins.{JoinedWith}
 use Rattle.olr_commands.specs.State.{Content, path_named, same_name, Fault, Change, after, IsContent, State}
 use Rattle.olr_commands.specs.State.{start_state, Command, Make, Commit, HasCoords, step, changes_made, IsState}
 use Rattle.olr_commands.specs.State.{is_recordable}
@@ -60,16 +61,16 @@ all_changes_made asked s (x ∷ xs) (Err fault ∷ os) = all_changes_made asked 
 -- ---- published answers
 
 -- the path has exactly one answer
-pub record OneOf (M : Map) (P : Path) : Type 0 where
+pub record OneOf (g : Margin) (M : Map) (P : Path) : Type 0 where
   pub answer : Answer
-  pub encodes : Encodes M P answer
-  pub only : (B : Answer) → Encodes M P B → B ≡ answer
+  pub encodes : EncodesWith g M P answer
+  pub only : (B : Answer) → EncodesWith g M P B → B ≡ answer
 
--- the later content is the earlier one after these changes; each of its paths has exactly one answer on its map, and
--- this answer is published
+-- the later content is the earlier one after these changes; each of its paths has exactly one answer on its map with its
+-- margin, and this answer is published
 pub record IsPublished (before : Content) (changes : List Change) (later : Content) : Type 0 where
   pub content : later ≡ after before changes
-  pub answers : (name : List ℕ) (P : Path) → path_named later.paths name ≡ Some P → (one : OneOf later.map P)
+  pub answers : (name : List ℕ) (P : Path) → path_named later.paths name ≡ Some P → (one : OneOf later.margin later.map P)
       × ((answer : Option Answer) → Published later name answer → answer ≡ Some one.answer)
 
 -- ---- routes that join
@@ -78,7 +79,7 @@ pub record IsPublished (before : Content) (changes : List Change) (later : Conte
 abbrev pub IsJoined : Content → Type 0
 IsJoined c =
     (name : List ℕ) (r : Reference) → HasAnswer c name (Points r) → (P : Path) × (path_named c.paths name ≡ Some P)
-    × Joined c.map P r
+    × JoinedWith c.margin c.map P r
 
 -- ---- replies that name what changed
 
@@ -139,7 +140,7 @@ HeadlineOfHistories =
     → IsState t × Headline IsOutcome (λ c. Some c) start_state cs os t
 
 abbrev pub RoutesOfReferences : Type 0
-RoutesOfReferences = (c : Content) → IsJoined c
+RoutesOfReferences = (c : Content) → IsSoundFor c.margin c.map → IsJoined c
 
 abbrev pub RepliesName : Type 0
 RepliesName =

@@ -7,7 +7,7 @@ use Rattle.olr_spec.specs.Coordinates.{Coord}
 use Rattle.olr_spec.specs.Map.{ShapePoint, Edit, Add_node, Move_node, Drop_node, Add_line, Set_line, Drop_line}
 use Rattle.olr_spec.specs.Extension.{Path}
 use Rattle.olr_coords.specs.DegreesText.{degrees_text}
-use Rattle.olr_commands.specs.State.{Change, On_map, Add_path, Set_path, Drop_path}
+use Rattle.olr_commands.specs.State.{Change, On_map, Add_path, Set_path, Drop_path, Set_margin}
 
 -- a comma before each field
 abbrev pub after_commas : List (List ℕ) → List ℕ
@@ -50,6 +50,7 @@ fields_of_change (On_map e) = fields_of_edit e
 fields_of_change (Add_path name path) = codes "path" ∷ fields_of_path name path
 fields_of_change (Set_path name path) = codes "repath" ∷ fields_of_path name path
 fields_of_change (Drop_path name) = codes "drop-path" ∷ name ∷ []
+fields_of_change (Set_margin g) = codes "margin" ∷ decimal g.routes ∷ decimal g.classes ∷ []
 
 -- ---- records
 

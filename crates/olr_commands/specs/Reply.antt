@@ -10,9 +10,10 @@ use Rattle.std.specs.List.{concat}
 use Rattle.base64.specs.Engines.{standard}
 use Rattle.base64.specs.GeneralPurpose.{decoded_of}
 use Rattle.olr_spec.specs.Map.{Map}
+use Rattle.olr_spec.specs.Margins.{Margin}
 use Rattle.olr_spec.specs.Extension.{Path}
 use Rattle.olr_spec.specs.Reference.{Reference}
-use Rattle.olr_spec.specs.Encoding.{Answer, Points, Refused, Refusal, Encodes}
+use Rattle.olr_spec.specs.Encoding.{Answer, Points, Refused, Refusal, EncodesWith}
 use Rattle.olr_spec.specs.Bytes.{HasBytes}
 use Rattle.olr_roads.specs.Edits.{allocates}
 use Rattle.olr_binary.specs.Text.{text_of}
@@ -20,7 +21,8 @@ use Rattle.olr_commands.specs.State.{Named, Content, path_named, Fault, Syntax, 
 use Rattle.olr_commands.specs.State.{Bad_path, Not_a_reference, Memory, Batch_open, No_batch, Count_differs, Batch_full}
 use Rattle.olr_commands.specs.State.{Not_a_record, Dump}
 use Rattle.olr_commands.specs.State.{Change, On_map, Drop_path, State, Command, Make, Show, Report, Explain, Begin}
-use Rattle.olr_commands.specs.State.{Preview, Commit, Abort, Show_node, Show_line, Depends, Compact, Ambiguous, step, with_held}
+use Rattle.olr_commands.specs.State.{Preview, Commit, Abort, Show_node, Show_line, Show_margin, Depends, Compact, Ambiguous}
+use Rattle.olr_commands.specs.State.{Set_margin, step, with_held}
 use Rattle.olr_commands.specs.RecordText.{record_line}
 use Rattle.olr_commands.specs.Dump.{dump_lines, node_changes, line_changes}
 use Rattle.olr_commands.specs.Dependents.{Dependents}
@@ -49,13 +51,13 @@ entry name answer = record { name = name; published = published_text answer }
 
 -- ---- what is published
 
--- the path of that name has this answer on the map
+-- the path of that name has this answer on the map, with the margin
 abbrev pub HasAnswer : Content → List ℕ → Answer → Type 0
-HasAnswer c name A = (P : Path) × (path_named c.paths name ≡ Some P) × Encodes c.map P A
+HasAnswer c name A = (P : Path) × (path_named c.paths name ≡ Some P) × EncodesWith c.margin c.map P A
 
 abbrev pub Published : Content → List ℕ → Option Answer → Type 0
 Published c name answer =
-    MatchOption (path_named c.paths name) (answer ≡ None) (λ P. IsSomeAnd answer (λ A. Encodes c.map P A))
+    MatchOption (path_named c.paths name) (answer ≡ None) (λ P. IsSomeAnd answer (λ A. EncodesWith c.margin c.map P A))
 
 -- its string, if it has one
 abbrev pub PublishedText : Content → List ℕ → Option (List ℕ) → Type 0
@@ -66,20 +68,20 @@ PublishedText c name text =
 -- ---- replies
 
 -- each path with its answer
-abbrev pub AllOf : Map → List Named → List Entry → Type 0
-AllOf M [] es = es ≡ []
-AllOf M (p ∷ ps) es =
-    (A : Answer) × (rest : List Entry) × Encodes M p.path A × AllOf M ps rest × (es ≡ entry p.name A ∷ rest)
+abbrev pub AllOf : Margin → Map → List Named → List Entry → Type 0
+AllOf g M [] es = es ≡ []
+AllOf g M (p ∷ ps) es =
+    (A : Answer) × (rest : List Entry) × EncodesWith g M p.path A × AllOf g M ps rest × (es ≡ entry p.name A ∷ rest)
 
 -- the new paths, and those with another answer than before
-abbrev pub ChangedOf : Content → Map → List Named → List Entry → Type 0
-ChangedOf before M [] es = es ≡ []
-ChangedOf before M (p ∷ ps) es =
-    (A : Answer) × (rest : List Entry) × Encodes M p.path A × ChangedOf before M ps rest
+abbrev pub ChangedOf : Content → Margin → Map → List Named → List Entry → Type 0
+ChangedOf before g M [] es = es ≡ []
+ChangedOf before g M (p ∷ ps) es =
+    (A : Answer) × (rest : List Entry) × EncodesWith g M p.path A × ChangedOf before g M ps rest
     × ((HasAnswer before p.name A × (es ≡ rest)) ⊎ ((¬ HasAnswer before p.name A) × (es ≡ entry p.name A ∷ rest)))
 
 abbrev pub Differences : Content → Content → List Entry → Type 0
-Differences before later es = ChangedOf before later.map later.paths es
+Differences before later es = ChangedOf before later.margin later.map later.paths es
 
 abbrev pub Shown : Content → List ℕ → List Entry → Type 0
 Shown c name es = (A : Answer) × HasAnswer c name A × (es ≡ entry name A ∷ [])
@@ -118,8 +120,9 @@ IsReply s (Make x) t reply = IsChangeReply s.batch s.content t.content reply
 IsReply s (Show name) t reply = IsPaths reply (Shown s.content name)
 IsReply s (Show_node v) t reply = IsRecords reply (node_changes s.content.map v)
 IsReply s (Show_line x) t reply = IsRecords reply (line_changes s.content.map x)
+IsReply s Show_margin t reply = IsRecords reply (Set_margin s.content.margin ∷ [])
 IsReply s (Depends nodes) t reply = IsNames reply (Dependents s.content nodes)
-IsReply s Report t reply = IsPaths reply (AllOf s.content.map s.content.paths)
+IsReply s Report t reply = IsPaths reply (AllOf s.content.margin s.content.map s.content.paths)
 IsReply s Dump t reply =
     reply ≡ Dumped (length (dump_lines s.content)) (concat (dump_lines s.content))
 IsReply s Compact t reply = reply ≡ Paths []

@@ -35,9 +35,11 @@ command_of (command.AddPath name lines p n) =
 command_of (command.SetPath name lines p n) =
     state.Make (state.Set_path (string_bytes name) (path_along lines.items p n))
 command_of (command.DropPath name) = state.Make (state.Drop_path (string_bytes name))
+command_of (command.SetMargin g) = state.Make (state.Set_margin g)
 command_of (command.Show name) = state.Show (string_bytes name)
 command_of (command.ShowNode v) = state.Show_node v
 command_of (command.ShowLine x) = state.Show_line x
+command_of command.ShowMargin = state.Show_margin
 command_of (command.Depends nodes) = state.Depends nodes.items
 command_of command.Report = state.Report
 command_of command.Dump = state.Dump

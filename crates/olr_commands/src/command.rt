@@ -1,5 +1,6 @@
 //! Commands to a register of named paths.
 
+use olr_answers::Margin;
 use olr_roads::{Edit, LineId, NodeId};
 
 /// A command. In records a name has 1 to 64 bytes; here it may be any text.
@@ -13,12 +14,16 @@ pub enum Command {
     SetPath(String, Vec<LineId>, u32, u32),
     /// Removes a path.
     DropPath(String),
+    /// Sets the margin with which all paths are encoded.
+    SetMargin(Margin),
     /// Asks for one path's answer.
     Show(String),
     /// Asks for the record of a node.
     ShowNode(NodeId),
     /// Asks for the record of a line, after the records of the nodes where it begins and ends.
     ShowLine(LineId),
+    /// Asks for the record that sets the margin.
+    ShowMargin,
     /// Asks for the names of the paths whose answers an edit may change that touches one of these nodes.
     Depends(Vec<NodeId>),
     /// Asks for the answer of every path.

@@ -11,7 +11,8 @@ pub mod reply;
 pub use command::Command;
 pub use fault::CommandFault;
 pub use record_text::{
-    push_field, push_line_record, push_node_record, push_number, push_path_record,
+    push_field, push_line_record, push_margin_record, push_node_record, push_number,
+    push_path_record,
 };
 pub use recordable::{is_name, is_recordable_coord, is_recordable_line};
 pub use reply::{Dump, Entry, NamedObstacle, Reply};

@@ -5,10 +5,10 @@ ghost use Rattle.olr_commands.specs.Recordable.{is_recordable_coord, is_recordab
 ghost use Rattle.olr_commands.specs.RecordText.{after_commas, fields_of_coord, fields_of_shape, record_line};
 ghost use Rattle.olr_commands.specs.RecordText.{fields_of_attributes};
 ghost use Rattle.olr_coords.specs.DegreesText.{degrees_text, has_degrees_text};
-ghost use Rattle.olr_commands.specs.State.{On_map, Add_path};
+ghost use Rattle.olr_commands.specs.State.{On_map, Add_path, Set_margin};
 
 use itoa::{Buffer, Integer};
-use olr_answers::Path;
+use olr_answers::{Margin, Path};
 use olr_coords::{Coord, push_degrees};
 use olr_roads::{Line, LineId, NodeId, Shape};
 use std::alloc::AllocError;
@@ -75,6 +75,17 @@ pub fn push_path_record(text: &mut Vec<u8>, name: &[u8], path: &Path) -> Result<
     push_number(text, path.pos())?;
     push_number(text, path.neg())?;
     push_lines(text, path.lines())?;
+    text.extend_from_slice(b"\n")
+}
+
+/// Appends the record that sets the margin.
+#[tactic(auto, using(crate::proofs::RecordLemmas::line_of_two))]
+pub fn push_margin_record(text: &mut Vec<u8>, margin: Margin) -> Result<(), AllocError>
+    ensures { OnOk result (text.new.items ≡ text.old.items ++ record_line (Set_margin margin)) }
+{
+    text.extend_from_slice(b"margin")?;
+    push_number(text, margin.routes())?;
+    push_number(text, margin.classes())?;
     text.extend_from_slice(b"\n")
 }
 

@@ -13,8 +13,8 @@ pub struct Entry {
     pub published: Result<String, Refusal>,
 }
 
-/// Records as text. Those of a whole register: its nodes and its lines in ascending order of their numbers, and its
-/// paths in their order.
+/// Records as text. Those of a whole register: its margin if it has one, its nodes and its lines in ascending order of
+/// their numbers, and its paths in their order.
 #[derive(Drop)]
 pub struct Dump {
     /// The number of records.
@@ -43,7 +43,7 @@ pub enum Reply {
     Held(u32),
     /// The records that build the register from an empty one.
     Dump(Dump),
-    /// The record of a node; or the records of a line's nodes, each once, and of the line.
+    /// The record of a node; or the records of a line's nodes, each once, and of the line; or that of the margin.
     Records(Dump),
     /// The names of paths, in the order of the register.
     Names(Vec<String>),

@@ -1,5 +1,5 @@
 -- How far the distance bounds let a search go, and what is searched for the path at a position.
-use Rattle.olr_list.proofs.Common.{ℕ, ◌≤◌, min, IsTrue, arith, Map, has_node, limit, IsUnder, Against, IsRight}
+use Rattle.olr_list.proofs.Common.{ℕ, ◌≤◌, min, IsTrue, arith, Map, has_node, GREATEST_LIMIT, IsUnder, Against, IsRight}
 use Rattle.olr_list.proofs.Common.{IsSource, ◌≡◌, List, slice_get, Contains, Some, true, false}
 use Rattle.olr_list.proofs.Common.{CoverageQuery, AreLengths, Made, Item, nodes_of, sources, IsExactAt, AreAsked}
 use Rattle.olr_list.proofs.Common.{Begins, ChangeSet, Searches, AreFar}
@@ -8,7 +8,7 @@ use Rattle.olr_list.proofs.OriginLemmas.{begins_there}
 
 -- no source is beyond bounds that are right
 pub source_under : (M : Map) (slot : ℕ → ℕ) (f : DistanceBounds) (v w d : ℕ) → IsTrue f.known → IsRight M slot f →
-    IsSource f v w → IsTrue (has_node M v) → d ≤ min w limit → IsUnder f.bounds (slot v) d
+    IsSource f v w → IsTrue (has_node M v) → d ≤ min w GREATEST_LIMIT → IsUnder f.bounds (slot v) d
 source_under M slot f v w d known right source there le =
     let k = source known in
     let low = (right known).sources v k.number k.at there in
@@ -29,7 +29,7 @@ module _ (N : Map) (slot : ℕ → ℕ) (t : ChangeSet) (s : Searches) (is : Lis
 
   -- where it was searched as far as each query reaches
   pub asked_searched : s.far ≡ false → AreLengths N slot Against (sources t) s.near
-      → ((l : CoverageQuery) → Begins is l → IsExactAt N slot t s.near l.from (min l.within limit)) →
+      → ((l : CoverageQuery) → Begins is l → IsExactAt N slot t s.near l.from (min l.within GREATEST_LIMIT)) →
       AreAsked N slot t s is
   asked_searched made lengths returned k i m at some = record {
     lengths = λ _. lengths;

@@ -6,7 +6,8 @@ use Rattle.olr_list.proofs.Common.{cond, List, [], ◌∷◌, ◌++◌, map, len
 use Rattle.olr_list.proofs.Common.{is_some, refl, sym, ap, ◌∙◌, subst, arith, Path, same_name, path_named}
 use Rattle.olr_list.proofs.Common.{NamesDiffer, Entry, Made, Item, all_named, Reported, Changes, RemovesNone, change_at}
 use Rattle.olr_list.proofs.Common.{drops, under_change, under_changes, Put, put, all_put}
-use Rattle.olr_list.proofs.Common.{string_bytes, Rc, same_is, changes_in, path_in, String, Global}
+use Rattle.olr_list.proofs.Common.{string_bytes, Rc, same_is, changes_in, path_in, String, Global, unmade, length-map}
+use Rattle.std.proofs.Common.{length-append}
 use Rattle.olr_list.proofs.NamedEntries.{Entries, First, item_of, items_of, same_flip}
 use Rattle.olr_list.proofs.Overlaying.{Entered, has_name}
 
@@ -75,6 +76,11 @@ module _ (cs : Changes) (is ys : List Item) (none_removed : RemovesNone cs) wher
   pub parts : whole ≡ map (changed_by cs) is ++ ys
   parts = ap (λ (js : List Item). js ++ ys) (all_changed cs is none_removed)
 
+  pub overlaid_long : length whole ≡ length is + length ys
+  overlaid_long =
+      ap (λ (js : List Item). length js) parts ∙ length-append (map (changed_by cs) is) ys
+      ∙ ap (λ (n : ℕ). n + length ys) (length-map is (changed_by cs))
+
   pub overlaid_at : (k : ℕ) (i : Item) → slice_get is k ≡ Some i → slice_get whole k ≡ Some (changed_by cs i)
   overlaid_at k i at = ap (λ (js : List Item). slice_get js k) parts ∙ map_at (changed_by cs) is ys k i at
 
@@ -135,6 +141,17 @@ pub put_on_overlaid : (cs : Changes) (before is ys : List Item) (ps : List Put) 
 put_on_overlaid cs before is ys ps es none_removed returned =
     lies_same before (all_put (is ++ ys) ps) (all_put (under_changes cs is ++ ys) ps) es
     (all_put_lies (is ++ ys) (under_changes cs is ++ ys) ps (overlaid_lies cs is ys none_removed)) returned
+
+-- so it has where no path was encoded yet
+unmade_lies : (is : List Item) → Lies is (map unmade is)
+unmade_lies [] = refl
+unmade_lies (i ∷ is) = (refl, inl refl, unmade_lies is)
+
+pub put_on_unmade : (before is : List Item) (ps : List Put) (es : List Entry) →
+    Reported before (all_put (map unmade is) ps) es → all_put is ps ≡ all_put (map unmade is) ps
+put_on_unmade before is ps es returned =
+    lies_same before (all_put is ps) (all_put (map unmade is) ps) es (all_put_lies is (map unmade is) ps (unmade_lies is))
+    returned
 
 -- ---- names
 

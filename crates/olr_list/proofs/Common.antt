@@ -10,7 +10,7 @@ pub use Rattle.olr_index.specs.declared.Index.{Index}
 pub use Rattle.olr_list.specs.Actions.{ToSkip}
 pub use Rattle.olr_list.specs.Candidates.{AreFound, Covers, CoversAsked, Finds, FindsChanged, Includes}
 pub use Rattle.olr_list.specs.Changes.{AreEncoded, LineTouched, QueryTouched, Reported, TraversedTouched}
-pub use Rattle.olr_list.specs.Changes.{set_item}
+pub use Rattle.olr_list.specs.Changes.{set_item, unmade, anew}
 pub use Rattle.olr_list.specs.Finders.{AreNoted, AreNotedAt, ArePublished, Grows, AddsOnly, ChangesOnly, NamedNoted}
 pub use Rattle.olr_list.specs.Finders.{IsNoted, KeyLists, Spares, keys_by, keys_in, named_keys}
 pub use Rattle.olr_list.specs.Items.{Item, Made, all_named, answer_in, items, made_in, made_of, named_of}
@@ -40,6 +40,7 @@ pub use Rattle.olr_spec.proofs.RouteLemmas.{route_start}
 pub use Rattle.olr_spec.specs.Bytes.{IsReference}
 pub use Rattle.olr_spec.specs.Detours.{ChangedLine, Detour, Near}
 pub use Rattle.olr_spec.specs.Encoding.{Answer}
+pub use Rattle.olr_search.specs.declared.frontier.TheConstants.{GREATEST_LIMIT}
 pub use Rattle.olr_spec.specs.Extension.{Path, limit}
 pub use Rattle.olr_spec.specs.Map.{IsMap, Map, end, has, has_node}
 pub use Rattle.olr_spec.specs.Queries.{CoverageQuery, KnownQuery}

@@ -3,7 +3,7 @@ use Rattle.olr_list.proofs.Common.{All, inl, inr, ◌≡◌, ◌≢◌, ℕ, ◌
 use Rattle.olr_list.proofs.Common.{◌++◌, length, get_or, slice_get, Option, Some, None, IsTrue, refl, sym, ap, ◌∙◌}
 use Rattle.olr_list.proofs.Common.{subst, append_assoc, arith, min, cases_Bool, nat_tests, All-contains}
 use Rattle.olr_list.proofs.Common.{slice_get_within, Map, IsMap, has, holds, Index, Item, Includes, Finds, Covers}
-use Rattle.olr_list.proofs.Common.{FindsChanged, option_map, Rc, has_node, dm_of, CoverageQuery, limit, AreLengths}
+use Rattle.olr_list.proofs.Common.{FindsChanged, option_map, Rc, has_node, dm_of, CoverageQuery, GREATEST_LIMIT, AreLengths}
 use Rattle.olr_list.proofs.Common.{label_at, Against, made_of, items, QueryTouched, nodes_of, lines_of, sources}
 use Rattle.olr_list.proofs.Common.{AreAsked, AreFar, LackQueries, BeginsIn, Begins, ChangeSet, Searches, Finder, Published}
 use Rattle.olr_list.proofs.Common.{NamedPath, PathList, Path, Changes, RemovesNone, change_at, under_change}
@@ -129,7 +129,7 @@ module _ (N : Map) (t : ChangeSet) (l : PathList) (off_held : l.held ≡ false) 
 
   module _ (n : IsMap N) (slot : ℕ → ℕ) (s : Searches) (from : AreFound ms f.by_query_origin (nodes_of t) found)
       (reached : s.far ≡ false → AreLengths N slot Against (sources t) s.near → (v : ℕ) → IsTrue (has_node N v) →
-      label_at s.near (slot v) ≤ limit → Finds ms f.by_query_origin v found) where
+      label_at s.near (slot v) ≤ GREATEST_LIMIT → Finds ms f.by_query_origin v found) where
     never_query : (k : ℕ) (e : String Global × NamedPath) (at : slice_get l.paths.entries k ≡ Some e)
         (p : Rc Published Global) (some : e.1.published ≡ Some p) (off : has found k ≡ false) →
         IsAsked N slot t s (made_of p.value) → ¬ QueryTouched N (nodes_of t) (made_of p.value)
@@ -149,7 +149,7 @@ module _ (N : Map) (t : ChangeSet) (l : PathList) (off_held : l.held ≡ false) 
                 let never : ⊥ = cc (on, off) in never
             | inr lacks ↦
                 missed k e at p some off f.by_query_origin (nodes_of t) from v
-                ((near_absent N n (nodes_of t) v (min h.0.within limit)
+                ((near_absent N n (nodes_of t) v (min h.0.within GREATEST_LIMIT)
                 (λ there. let never : ⊥ = cc (there, lacks) in never)).1 near) held
           ]
         ]

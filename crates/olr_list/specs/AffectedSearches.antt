@@ -17,7 +17,7 @@ use Rattle.olr_search.specs.Searches.{IsSearch}
 use Rattle.olr_search.specs.declared.distances.Dijkstra.{Dijkstra}
 use Rattle.olr_search.specs.declared.distances.Direction.TheVariants.{Along, Against}
 use Rattle.olr_search.specs.declared.distances.Direction.{Direction}
-use Rattle.olr_spec.specs.Extension.{limit}
+use Rattle.olr_search.specs.declared.frontier.TheConstants.{GREATEST_LIMIT}
 use Rattle.olr_list.specs.Items.{Made, Item}
 use Rattle.olr_list.specs.Changes.{QueryTouched}
 use Rattle.olr_list.specs.ChangeSets.{nodes_of, changed_of}
@@ -36,7 +36,7 @@ IsExactAt N slot t s v w =
 pub record Asked (N : Map) (slot : ℕ → ℕ) (t : ChangeSet) (near : Dijkstra) (unmade : Bool) (m : Made) : Type 0 where
   pub lengths : IsFalse unmade → AreLengths N slot Against (sources t) near
   pub returned : IsFalse unmade → (l : CoverageQuery) → Contains m.queries l →
-      IsExactAt N slot t near l.from (min l.within limit)
+      IsExactAt N slot t near l.from (min l.within GREATEST_LIMIT)
   pub far : IsTrue unmade → ¬ QueryTouched N (nodes_of t) m
 
 abbrev pub IsAsked : Map → (ℕ → ℕ) → ChangeSet → Searches → Made → Type 0

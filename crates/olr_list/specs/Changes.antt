@@ -2,16 +2,19 @@
 --     Touches N T X m P      a traversed node or a line of the path is touched, or a touched node is near to where a
 --         coverage query begins, within its length and the limit
 --     StayKnown N C ks rest      where the coverage queries ks along a path's own lines are right before the changed lines
---         C, the queries rest are right on N
+--         C, with any margin, the queries rest are right on N
 --     Reported before js es      an entry for each path whose answer is not the earlier one of its name, in order
 --     AreEncoded is      each path was encoded
+--     anew all is      the list or, where the margin was set, the list of which no path is encoded yet
 use Rattle.std.specs.Prelude.{◌≡◌, ◌≢◌, ℕ, List, [], ◌∷◌, Contains, Option, Some, None, option_map, ◌⊎◌, IsTrue, ⊤}
-use Rattle.std.specs.Prelude.{min, if◌then◌else◌}
+use Rattle.std.specs.Prelude.{min, map, Bool, true, false, if◌then◌else◌}
 use Rattle.olr_spec.specs.Map.{Map, has}
-use Rattle.olr_spec.specs.Extension.{Path, limit}
+use Rattle.olr_search.specs.declared.frontier.TheConstants.{GREATEST_LIMIT}
+use Rattle.olr_spec.specs.Extension.{Path}
+use Rattle.olr_spec.specs.Margins.{Margin}
 use Rattle.olr_spec.specs.Encoding.{Answer}
 use Rattle.olr_spec.specs.Detours.{ChangedLine, Near, AccountsFor}
-use Rattle.olr_spec.specs.Queries.{CoverageQuery, KnownQuery, AreKnown}
+use Rattle.olr_spec.specs.Queries.{CoverageQuery, KnownQuery, AreKnownWith}
 use Rattle.olr_commands.specs.State.{same_name}
 use Rattle.olr_commands.specs.Reply.{Entry, entry}
 use Rattle.olr_list.specs.Items.{Made, Item, answer_in}
@@ -23,14 +26,15 @@ abbrev pub LineTouched : List ℕ → Path → Type 0
 LineTouched X P = (x : ℕ) × IsTrue (has X x) × IsTrue (has P.lines x)
 
 abbrev pub QueryTouched : Map → List ℕ → Made → Type 0
-QueryTouched N T m = (l : CoverageQuery) × Contains m.queries l × Near N T l.from (min l.within limit)
+QueryTouched N T m = (l : CoverageQuery) × Contains m.queries l × Near N T l.from (min l.within GREATEST_LIMIT)
 
 abbrev pub Touches : Map → List ℕ → List ℕ → Made → Path → Type 0
 Touches N T X m P = TraversedTouched T m ⊎ (LineTouched X P ⊎ QueryTouched N T m)
 
 abbrev pub StayKnown : Map → List ChangedLine → List KnownQuery → List KnownQuery → Type 0
 StayKnown N C ks rest =
-    (M : Map) (ls : List ℕ) → AccountsFor C M N → AccountsFor C N M → AreKnown M ls ks → AreKnown N ls rest
+    (g : Margin) (M : Map) (ls : List ℕ) → AccountsFor C M N → AccountsFor C N M → AreKnownWith g M ls ks →
+    AreKnownWith g N ls rest
 
 abbrev pub Reported : List Item → List Item → List Entry → Type 0
 Reported before [] es = es ≡ []
@@ -42,6 +46,13 @@ Reported before (j ∷ js) es =
 abbrev pub AreEncoded : List Item → Type 0
 AreEncoded [] = ⊤
 AreEncoded (i ∷ is) = (i.made ≢ None) × AreEncoded is
+
+abbrev pub unmade : Item → Item
+unmade i = record i { made = None }
+
+abbrev pub anew : Bool → List Item → List Item
+anew false is = is
+anew true is = map unmade is
 
 -- the path of that name is replaced
 abbrev pub set_item : List ℕ → Path → Option Made → Item → Item

@@ -1,16 +1,17 @@
 -- A list of named paths, each with what is published of it.
 --     Made      the results of a path: answer, traversed nodes, coverage queries, and those along its own lines.
---     IsEncodingOf M P m      they are the results of the path on the map
+--     IsEncodingOf g M P m      they are the results of the path on the map, with the margin
 --     Item      a name, its path and, if it was encoded, its results.
 --     items l      the items of a list
---     AreEncodings M is      each path was encoded, with results that are right on the map.
---     AreEncodingsIfAny M is      the same for each path that was encoded
+--     AreEncodings g M is      each path was encoded, with results that are right on the map.
+--     AreEncodingsIfAny g M is      the same for each path that was encoded
 use Rattle.std.specs.Prelude.{◌≡◌, ℕ, List, [], ◌∷◌, map, Contains, if◌then◌else◌, Option, Some, None, option_map}
 use Rattle.std.specs.Prelude.{IfSome, string_bytes, ◌↔◌, ⊤}
 use Rattle.olr_spec.specs.Map.{Map}
 use Rattle.olr_spec.specs.Extension.{Path}
-use Rattle.olr_spec.specs.Encoding.{Answer, Encodes}
-use Rattle.olr_spec.specs.Queries.{CoverageQuery, KnownQuery, TraversedOf, QueriesOf, KnownOf}
+use Rattle.olr_spec.specs.Encoding.{Answer, EncodesWith}
+use Rattle.olr_spec.specs.Margins.{Margin}
+use Rattle.olr_spec.specs.Queries.{CoverageQuery, KnownQuery, TraversedOf, QueriesOfWith, KnownOfWith}
 use Rattle.olr_answers.specs.Answers.{answer_of}
 use Rattle.olr_commands.specs.State.{Named, same_name}
 use Rattle.olr_list.specs.declared.published.Published.{Published as Encoded}
@@ -49,19 +50,19 @@ items l =
 
 -- ---- what is right on a map
 
-pub record IsEncodingOf (M : Map) (P : Path) (m : Made) : Type 0 where
-  pub answer : Encodes M P m.answer
+pub record IsEncodingOf (g : Margin) (M : Map) (P : Path) (m : Made) : Type 0 where
+  pub answer : EncodesWith g M P m.answer
   pub traversed : (v : ℕ) → Contains m.traversed v ↔ TraversedOf M P v
-  pub queries : QueriesOf M P m.queries
-  pub known : KnownOf M P.lines m.queries m.known
+  pub queries : QueriesOfWith g M P m.queries
+  pub known : KnownOfWith g M P.lines m.queries m.known
 
-abbrev pub AreEncodings : Map → List Item → Type 0
-AreEncodings M [] = ⊤
-AreEncodings M (i ∷ is) = ((m : Made) × (i.made ≡ Some m) × IsEncodingOf M i.path m) × AreEncodings M is
+abbrev pub AreEncodings : Margin → Map → List Item → Type 0
+AreEncodings g M [] = ⊤
+AreEncodings g M (i ∷ is) = ((m : Made) × (i.made ≡ Some m) × IsEncodingOf g M i.path m) × AreEncodings g M is
 
-abbrev pub AreEncodingsIfAny : Map → List Item → Type 0
-AreEncodingsIfAny M [] = ⊤
-AreEncodingsIfAny M (i ∷ is) = IfSome i.made (IsEncodingOf M i.path) × AreEncodingsIfAny M is
+abbrev pub AreEncodingsIfAny : Margin → Map → List Item → Type 0
+AreEncodingsIfAny g M [] = ⊤
+AreEncodingsIfAny g M (i ∷ is) = IfSome i.made (IsEncodingOf g M i.path) × AreEncodingsIfAny g M is
 
 -- ---- the list in terms of the register's definitions
 

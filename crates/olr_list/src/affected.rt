@@ -1,8 +1,7 @@
 //! The searches of a renewal, and which paths the edits of the map affect.
-ghost use Rattle.std.specs.Prelude.{◌≡◌, ◌↔◌, ◌⊎◌, ℕ, min, Contains, IsTrue, IfOk, OnOk};
+ghost use Rattle.std.specs.Prelude.{◌≡◌, ◌≤◌, ◌↔◌, ◌⊎◌, ℕ, min, Contains, IsTrue, IfOk, OnOk};
 ghost use Rattle.std.specs.List.{list_any};
 ghost use Rattle.olr_spec.specs.Map.{has};
-ghost use Rattle.olr_spec.specs.Extension.{limit};
 ghost use Rattle.olr_spec.specs.Detours.{Near};
 ghost use Rattle.olr_spec.specs.Queries.{CoverageQuery as QueryRecord};
 ghost use Rattle.olr_search.specs.Bounds.{AreLengths};
@@ -14,7 +13,8 @@ ghost use Rattle.olr_list.specs.ChangeSets.{nodes_of, lines_of};
 ghost use Rattle.olr_list.specs.AffectedSearches.{sources, IsExactAt, IsAsked, AreAsked, LackQueries};
 ghost use Rattle.olr_list.specs.Candidates.{AreCandidates};
 ghost use Rattle.olr_list.specs.Changes.{LineTouched, QueryTouched, TraversedTouched};
-ghost use Rattle.olr_list.specs.Origins.{AreBoundsOf};
+ghost use Rattle.olr_list.specs.Origins as origins;
+ghost use Rattle.olr_list.specs.Origins.{AreBoundsOf, AreShort};
 
 use crate::candidates::candidates;
 use crate::change_set::ChangeSet;
@@ -24,16 +24,28 @@ use crate::path_list::PathList;
 use crate::published::Published;
 use crate::searches::Searches;
 use crate::sources::begin_at;
-use olr_answers::{CoverageQuery, Path};
+use olr_answers::{CoverageQuery, Margin, Path};
 use olr_near::DistanceBounds;
 use olr_roads::{Footprint, LineId, MapRead, NodeId};
-use olr_search::{Dijkstra, Direction, GREATEST_LIMIT};
+use olr_search::{Dijkstra, Direction, GREATEST_LIMIT, LEG_LIMIT};
 use std::alloc::{AllocError, Global};
 
-/// Searches against the lines from all touched nodes. If the distance bounds are known, they limit the search.
+/// The greatest length of a coverage query with a margin, in decimetres.
+fn farthest(margin: Margin) -> u32
+    ensures { result ≡ origins.farthest margin }
+{
+    if margin.routes() == 0 {
+        return LEG_LIMIT;
+    }
+    2 * LEG_LIMIT
+}
+
+/// Searches against the lines from all touched nodes. If the distance bounds are known, they limit the search; otherwise
+/// the length of coverage queries with the margin does.
 pub(crate) fn search_near<M: MapRead>(
     alloc: Global,
     map: &M,
+    margin: Margin,
     touched: &ChangeSet,
     bounds: &DistanceBounds,
     near: &mut Dijkstra,
@@ -41,15 +53,15 @@ pub(crate) fn search_near<M: MapRead>(
     ensures lengths { OnOk result
         (AreLengths (M.map map.now) (M.node_slot map.now) Against (sources touched.now) near.new) }
     ensures returned { OnOk result (IsRight (M.map map.now) (M.node_slot map.now) bounds.now
-        → (v w : ℕ) → IsSource bounds.now v w
-        → IsExactAt (M.map map.now) (M.node_slot map.now) touched.now near.new v (min w limit)) }
+        → (v w : ℕ) → IsSource bounds.now v w → w ≤ origins.farthest margin
+        → IsExactAt (M.map map.now) (M.node_slot map.now) touched.now near.new v (min w GREATEST_LIMIT)) }
 {
     begin_at(alloc, map, Direction::Against, touched.nodes(), near)?;
     if bounds.is_known() {
         near.settle_under(map, bounds.bounds())?;
         return Ok(());
     }
-    near.settle_to(map, GREATEST_LIMIT)?;
+    near.settle_to(map, farthest(margin))?;
     Ok(())
 }
 
@@ -74,12 +86,14 @@ fn is_without_queries(overlaid: OverlaidList<'_>) -> bool
 fn search_touched<M: MapRead>(
     alloc: Global,
     map: &M,
+    margin: Margin,
     touched: &ChangeSet,
     bounds: &DistanceBounds,
     overlaid: OverlaidList<'_>,
     searches: &mut Searches,
 ) -> Result<(), AllocError>
-    requires { AreBoundsOf (M.map map.now) (M.node_slot map.now) bounds.now (shown_items overlaid) }
+    requires bounds { AreBoundsOf (M.map map.now) (M.node_slot map.now) bounds.now (shown_items overlaid) }
+    requires short { AreShort margin (shown_items overlaid) }
     ensures { OnOk result
         (AreAsked (M.map map.now) (M.node_slot map.now) touched.now searches.new (shown_items overlaid.entry)) }
 {
@@ -87,7 +101,7 @@ fn search_touched<M: MapRead>(
     if searches.far {
         return Ok(());
     }
-    search_near(alloc, map, touched, bounds, &mut searches.near)?;
+    search_near(alloc, map, margin, touched, bounds, &mut searches.near)?;
     Ok(())
 }
 
@@ -96,12 +110,14 @@ fn search_touched<M: MapRead>(
 pub fn ask<M: MapRead>(
     alloc: Global,
     map: &M,
+    margin: Margin,
     overlaid: OverlaidList<'_>,
     touched: &ChangeSet,
     bounds: &DistanceBounds,
     searches: &mut Searches,
 ) -> Result<Vec<usize>, AllocError>
-    requires { AreBoundsOf (M.map map.now) (M.node_slot map.now) bounds.now (shown_items overlaid) }
+    requires bounds { AreBoundsOf (M.map map.now) (M.node_slot map.now) bounds.now (shown_items overlaid) }
+    requires short { AreShort margin (shown_items overlaid) }
     ensures { IfOk result (λ found. AreCandidates (M.map map.now) (M.node_slot map.now) touched.now searches.new
         (shown_items overlaid.entry) found.items) }
 {
@@ -109,7 +125,7 @@ pub fn ask<M: MapRead>(
         searches.far = true;
         return Ok(Vec::new(alloc));
     }
-    search_touched(alloc, map, touched, bounds, overlaid, searches)?;
+    search_touched(alloc, map, margin, touched, bounds, overlaid, searches)?;
     let found = candidates(alloc, map, overlaid, touched, searches)?;
     begin_detours(alloc, map, touched, &found, &mut searches.detours)?;
     Ok(found)
@@ -124,8 +140,8 @@ fn is_near<M: MapRead>(
     within: u32,
 ) -> bool
     requires lengths { AreLengths (M.map map.now) (M.node_slot map.now) Against (sources touched.now) near.now }
-    requires returned { IsExactAt (M.map map.now) (M.node_slot map.now) touched.now near.now node (min within limit) }
-    ensures { IsTrue result ↔ Near (M.map map.now) (nodes_of touched.now) node (min within limit) }
+    requires returned { IsExactAt (M.map map.now) (M.node_slot map.now) touched.now near.now node (min within GREATEST_LIMIT) }
+    ensures { IsTrue result ↔ Near (M.map map.now) (nodes_of touched.now) node (min within GREATEST_LIMIT) }
 {
     match map.slot_of(node) {
         Some(slot) => near.is_within(slot, within.min(GREATEST_LIMIT)),
@@ -190,9 +206,9 @@ fn is_any_near<M: MapRead>(
 ) -> bool
     requires lengths { AreLengths (M.map map.now) (M.node_slot map.now) Against (sources touched.now) near.now }
     requires returned { (l : QueryRecord) → Contains queries.now l
-        → IsExactAt (M.map map.now) (M.node_slot map.now) touched.now near.now l.from (min l.within limit) }
+        → IsExactAt (M.map map.now) (M.node_slot map.now) touched.now near.now l.from (min l.within GREATEST_LIMIT) }
     ensures { IsTrue result ↔ ((l : QueryRecord) × Contains queries.now l
-        × Near (M.map map.now) (nodes_of touched.now) l.from (min l.within limit)) }
+        × Near (M.map map.now) (nodes_of touched.now) l.from (min l.within GREATEST_LIMIT)) }
 {
     for query in queries {
         if is_near(map, touched, near, query.from, query.within) {

@@ -4,7 +4,7 @@ ghost use Rattle.std.specs.Prelude.{IfOk, OnOk};
 ghost use Rattle.std.specs.List.Sorted.{IsStrictlyIncreasing};
 ghost use Rattle.olr_spec.specs.Map.{Map, has, has_node};
 ghost use Rattle.std.specs.Prelude.{min};
-ghost use Rattle.olr_spec.specs.Extension.{limit};
+ghost use Rattle.olr_search.specs.declared.frontier.TheConstants.{GREATEST_LIMIT};
 ghost use Rattle.olr_spec.specs.Detours.{Near};
 ghost use Rattle.olr_index.specs.PathIds.{path_ids_of};
 ghost use Rattle.olr_near.specs.Bounds.{IsEdit, IsRight, IsSource, IsUnderWay};
@@ -236,7 +236,7 @@ fn finds_none<T: Numbered>(index: &Index, items: &[T]) -> bool
 fn are_spared<M: MapRead>(map: &M, touched: &ChangeSet, bounds: &DistanceBounds) -> bool
     ensures far { IsTrue result → (N : Map) (slot : ℕ → ℕ) (s w : ℕ)
         → IsEdit (nodes_of touched.now) (M.map map.now) (M.node_slot map.now) N slot → IsRight N slot bounds.now
-        → IsSource bounds.now s w → ¬ Near N (nodes_of touched.now) s (min w limit) }
+        → IsSource bounds.now s w → ¬ Near N (nodes_of touched.now) s (min w GREATEST_LIMIT) }
     ensures right { IsTrue result → (N : Map) (slot : ℕ → ℕ)
         → IsEdit (nodes_of touched.now) (M.map map.now) (M.node_slot map.now) N slot
         → IsUnderWay (M.map map.now) (M.node_slot map.now) [] bounds.now → IsRight N slot bounds.now }

@@ -17,8 +17,15 @@ pub struct OverlaidList<'a> {
 }
 
 impl<'a> OverlaidList<'a> {
-    ghost use Rattle.std.specs.Prelude.{◌≡◌, ◌+◌, ◌<◌, ◌^◌, slice_get, option_map, IsSome};
+    ghost use Rattle.std.specs.Prelude.{◌≡◌, ◌+◌, ◌<◌, ◌^◌, length, slice_get, option_map, IsSome};
     ghost use Rattle.olr_list.specs.Views.{shown_items, shown_item};
+
+    /// The number of paths.
+    pub fn len(self) -> usize
+        ensures { result ≡ length (shown_items self.entry) }
+    {
+        self.list.paths.len() + self.overlay.added.paths.len()
+    }
 
     /// The path at a position, counted from 0. None past the last.
     pub fn at(self, position: usize) -> Option<PathView<'a>>

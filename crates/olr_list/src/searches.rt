@@ -27,7 +27,7 @@ pub struct Searches {
 impl Searches {
     ghost use Rattle.std.specs.Prelude.{◌≡◌, ◌≤◌, ℕ, List, Contains, IsTrue, IsFalse};
     ghost use Rattle.olr_spec.specs.Map.{Map, has_node};
-    ghost use Rattle.olr_spec.specs.Extension.{limit};
+    ghost use Rattle.olr_search.specs.declared.frontier.TheConstants.{GREATEST_LIMIT};
     ghost use Rattle.olr_search.specs.Bounds.{AreLengths, label_at};
 
     /// Searches that have not begun. Takes no memory.
@@ -63,7 +63,7 @@ impl Searches {
     pub(crate) fn reached(&self) -> &[u32]
         ensures { (M : Map) (slot : ℕ → ℕ) (direction : _) (from : List (ℕ × ℕ)) (v : ℕ) → IsFalse self.now.far
             → AreLengths M slot direction from self.now.near → IsTrue (has_node M v)
-            → label_at self.now.near (slot v) ≤ limit → Contains result.now (slot v) }
+            → label_at self.now.near (slot v) ≤ GREATEST_LIMIT → Contains result.now (slot v) }
     {
         if self.far {
             return &[];

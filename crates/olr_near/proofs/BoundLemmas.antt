@@ -6,7 +6,7 @@ use Rattle.std.proofs.lemmas.List.Folds.{list_any-append}
 use Rattle.std.specs.Prelude.{min}
 use Rattle.olr_spec.specs.Map.{Map, IsMap, SameLine, has, has_node, start, end, dm}
 use Rattle.olr_spec.specs.Routes.{IsRoute, dm_of}
-use Rattle.olr_spec.specs.Extension.{limit}
+use Rattle.olr_search.specs.declared.frontier.TheConstants.{GREATEST_LIMIT}
 use Rattle.olr_spec.specs.Detours.{Near}
 use Rattle.olr_spec.proofs.RouteLemmas.{IsRoute-append, dm_of-append, route_start}
 use Rattle.olr_spec.proofs.AgreeLemmas.{turned_round, by_leaving, same_known, same_start, same_end, same_dm}
@@ -78,15 +78,15 @@ module _ (M N : Map) (s r : ℕ → ℕ) (T : List ℕ) (f : DistanceBounds) (e 
 
     -- from a bound on, along a route within the limit
     bound_along : AreRight N r f → (u v b : ℕ) (xs : List ℕ) → IsTrue (has_node M u) → IsTrue (has_node N u) →
-        bound_at f (r u) ≤ b → IsRoute N u v xs → b + dm_of N xs ≤ limit → ¬ IsTrue (has T v)
+        bound_at f (r u) ≤ b → IsRoute N u v xs → b + dm_of N xs ≤ GREATEST_LIMIT → ¬ IsTrue (has T v)
     bound_along right u v b [] known there low is short on = grind (arith, bound_at, has)
     bound_along right u v b (x ∷ xs) known there low way short on =
         grind (arith, bound_at, has, bound_along right (end N x) v (b + dm N x) xs)
 
-    pub far_apart : IsTrue f.known → IsRight N r f → (v w : ℕ) → IsSource f v w → ¬ Near N T v (min w limit)
+    pub far_apart : IsTrue f.known → IsRight N r f → (v w : ℕ) → IsSource f v w → ¬ Near N T v (min w GREATEST_LIMIT)
     far_apart is right v w source near = go near.route near.leads near.within
       where
-        go : (xs : List ℕ) → IsRoute N v near.node xs → dm_of N xs ≤ min w limit → ⊥
+        go : (xs : List ℕ) → IsRoute N v near.node xs → dm_of N xs ≤ min w GREATEST_LIMIT → ⊥
         go [] here short =
             let k = source is in
             let none = (far near.node near.touched).source in
@@ -161,7 +161,7 @@ module _ (M : Map) (m : IsMap M) (s : ℕ → ℕ) (S : ℕ → Option ℕ) wher
       ]) (λ v n at there o. inr o)
 
   -- nothing is left
-  pub settled : (f g : Frontier) → IsAlike f g → ((n q : ℕ) → IsQueued f n q → limit < n) → AreSettling M s S [] f →
+  pub settled : (f g : Frontier) → IsAlike f g → ((n q : ℕ) → IsQueued f n q → GREATEST_LIMIT < n) → AreSettling M s S [] f →
       AreBounds M s Against g × ((v d : ℕ) → S v ≡ Some d → IsTrue (has_node M v) → label_of g (s v) ≤ d)
   settled f g alike far was = (near, met)
     where

@@ -26,7 +26,7 @@ use Rattle.std.specs.Prelude.{length}
 use Rattle.std.specs.HashMap.{get}
 use Rattle.olr_spec.specs.Map.{Map, IsMap, has_node, has_line, start, end, dm, SameRound, has}
 use Rattle.olr_spec.specs.Routes.{IsRoute, dm_of}
-use Rattle.olr_spec.specs.Extension.{limit}
+use Rattle.olr_search.specs.declared.frontier.TheConstants.{GREATEST_LIMIT}
 use Rattle.olr_search.specs.Bounds.{AreBounds}
 use Rattle.olr_search.specs.Frontiers.{label_of, IsQueued}
 use Rattle.olr_search.specs.declared.distances.Direction.TheVariants.{Against}
@@ -48,7 +48,7 @@ pub record Within (S : ℕ → Option ℕ) (v d : ℕ) : Type 0 where
   pub low : number ≤ d
 
 abbrev pub IsSource : DistanceBounds → ℕ → ℕ → Type 0
-IsSource f v w = IsTrue f.known → Within (source_of f) v (limit - w)
+IsSource f v w = IsTrue f.known → Within (source_of f) v (GREATEST_LIMIT - w)
 
 -- ---- what the bounds say of a map
 
@@ -57,7 +57,7 @@ IsClosed M s L x = L (s (end M x)) ≤ L (s (start M x)) + dm M x
 
 abbrev pub AreClosed : Map → (ℕ → ℕ) → (ℕ → ℕ) → (ℕ → Type 0) → Type 0
 AreClosed M s L P =
-    (x : ℕ) → IsTrue (has_line M x) → L (s (start M x)) + dm M x ≤ limit → IsClosed M s L x ⊎ P (start M x)
+    (x : ℕ) → IsTrue (has_line M x) → L (s (start M x)) + dm M x ≤ GREATEST_LIMIT → IsClosed M s L x ⊎ P (start M x)
 
 abbrev pub AreMet : Map → (ℕ → ℕ) → (ℕ → Option ℕ) → (ℕ → ℕ) → (ℕ → Type 0) → Type 0
 AreMet M s S L P = (v d : ℕ) → S v ≡ Some d → IsTrue (has_node M v) → (L (s v) ≤ d) ⊎ P v
@@ -93,7 +93,7 @@ pub record IsEdit (T : List ℕ) (M : Map) (s : ℕ → ℕ) (N : Map) (r : ℕ 
 
 pub record IsFar (M : Map) (s : ℕ → ℕ) (f : DistanceBounds) (v : ℕ) : Type 0 where
   pub source : source_of f v ≡ None
-  pub bound : IsTrue (has_node M v) → limit < bound_at f (s v)
+  pub bound : IsTrue (has_node M v) → GREATEST_LIMIT < bound_at f (s v)
 
 -- ---- how bounds change
 
@@ -128,5 +128,5 @@ AreLed M s S L K = (p : ℕ) → (K p ≡ L p) ⊎ IsLed M s S L p (K p)
 
 abbrev pub IsFollowed : Map → (ℕ → ℕ) → Frontier → ℕ → Type 0
 IsFollowed M s f v =
-    (x : ℕ) → IsTrue (has_line M x) → start M x ≡ v → label_of f (s v) + dm M x ≤ limit →
+    (x : ℕ) → IsTrue (has_line M x) → start M x ≡ v → label_of f (s v) + dm M x ≤ GREATEST_LIMIT →
     IsClosed M s (label_of f) x ⊎ IsQueued f (label_of f (s v)) (s v)

@@ -99,7 +99,6 @@ fn look_at<M: MapRead>(
 impl DistanceBounds {
     ghost use Rattle.std.specs.Prelude.{◌<◌, ◌-◌, ◌↔◌, List, [], None, IsFalse, OnErr, min};
     ghost use Rattle.olr_spec.specs.Map.{Map, has};
-    ghost use Rattle.olr_spec.specs.Extension.{limit};
     ghost use Rattle.olr_spec.specs.Detours.{Near};
     ghost use Rattle.olr_near.specs.Bounds.{source_of, bound_at, bounds_len, IsSource, IsRight, IsUnderWay, IsEdit, IsFar};
     ghost use Rattle.olr_near.specs.Bounds.{IsLowered, IsReopened};
@@ -109,7 +108,7 @@ impl DistanceBounds {
         ensures known { IsTrue result.known }
         ensures under_way { (M : Map) (s : ℕ → ℕ) (T : List ℕ) → IsUnderWay M s T result }
         ensures sources { (v : ℕ) → source_of result v ≡ None }
-        ensures bounds { (p : ℕ) → limit < bound_at result p }
+        ensures bounds { (p : ℕ) → GREATEST_LIMIT < bound_at result p }
     {
         DistanceBounds {
             alloc,
@@ -146,7 +145,7 @@ impl DistanceBounds {
         ensures known { IsTrue self.new.known }
         ensures under_way { (M : Map) (s : ℕ → ℕ) (T : List ℕ) → IsUnderWay M s T self.new }
         ensures sources { (v : ℕ) → source_of self.new v ≡ None }
-        ensures bounds { (p : ℕ) → limit < bound_at self.new p }
+        ensures bounds { (p : ℕ) → GREATEST_LIMIT < bound_at self.new p }
     {
         if !self.sources.is_empty() {
             self.sources = HashMap::with_hasher(self.alloc, BuildHasherDefault::new());
@@ -190,7 +189,7 @@ impl DistanceBounds {
             → IsFar (M.map map.now) (M.node_slot map.now) self.now v)) }
         ensures far { IsTrue result → (N : Map) (r : ℕ → ℕ) (s w : ℕ)
             → IsEdit nodes.now (M.map map.now) (M.node_slot map.now) N r → IsRight N r self.now
-            → IsSource self.now s w → ¬ Near N nodes.now s (min w limit) }
+            → IsSource self.now s w → ¬ Near N nodes.now s (min w GREATEST_LIMIT) }
         ensures spared { IsTrue result → (N : Map) (r : ℕ → ℕ)
             → IsEdit nodes.now (M.map map.now) (M.node_slot map.now) N r
             → IsUnderWay (M.map map.now) (M.node_slot map.now) [] self.now → IsUnderWay N r [] self.now }
@@ -212,7 +211,7 @@ impl DistanceBounds {
     /// Adds a query of a length in decimetres that begins at the source, which is then to be looked at again.
     pub fn add(&mut self, source: NodeId, within: u32) -> Result<(), AllocError>
         ensures source { IsSource self.new source within }
-        ensures lowered { OnOk result (IsLowered self.old self.new source (limit - within)) }
+        ensures lowered { OnOk result (IsLowered self.old self.new source (GREATEST_LIMIT - within)) }
         ensures bounds { OnOk result ((p : ℕ) → bound_at self.new p ≡ bound_at self.old p) }
         ensures sources { (v w : ℕ) → IsSource self.old v w → IsSource self.new v w }
         ensures under_way { (M : Map) (s : ℕ → ℕ) (T : List ℕ) → IsUnderWay M s T self.old

@@ -1,4 +1,4 @@
-use Rattle.olr_list.proofs.Common.{min, ap, arith, limit, label_at, nodes_of}
+use Rattle.olr_list.proofs.Common.{min, ap, arith, GREATEST_LIMIT, label_at, nodes_of}
 use Rattle.olr_list.proofs.Distances.{near_by, near_absent}
 use Rattle.olr_list.proofs.affected.is_near.Goals as goal
 
@@ -7,7 +7,7 @@ returns-in-Some g c =
     let N = g.M.MapRead.map c.args.map.now in
     let slot = g.M.MapRead.node_slot c.args.map.now in
     let there = c.in-Some.ensures.0 in
-    let most = min c.args.within limit in
+    let most = min c.args.within GREATEST_LIMIT in
     let label = label_at c.args.near.now (slot c.args.node) in
     let known =
     near_by N (g.met.M.MapRead.sound c.args.map.now) (nodes_of c.args.touched.now) c.args.node label most there

@@ -9,7 +9,7 @@ returns-then-is_known g c =
     let begun = rw c.nodes.ensures at c.in_ok-begin_at.ensures in
     record {
       lengths = c.in_ok-settle_under.ensures.labelled Against from begun;
-      returned = λ right v w source d le there way.
+      returned = λ right v w source short d le there way.
           let N = g.M.MapRead.map c.args.map.now in
           let f = c.args.bounds.now in
           let known : IsTrue f.known = sym c.is_known.ensures ∙ c.if-is_known.true in
@@ -25,5 +25,6 @@ returns g c =
     let h = c.in_ok-settle_to.ensures.search Against (sources c.args.touched.now) begun in
     record {
       lengths = h.under_way.labelled;
-      returned = λ right v w source d le there way. h.settled v d there (omega (arith, c.in_ok-settle_to.ensures.limit)) way;
+      returned = λ right v w source short d le there way.
+          h.settled v d there (omega (arith, c.in_ok-settle_to.ensures.limit, c.farthest.ensures)) way;
     }

@@ -13,8 +13,8 @@ returns-then-searches g c =
     asked_far N slot c.args.touched.now s (shown_items c.args.overlaid) c.if-searches.true
     (elim c.if-is_far.branch [
       | then-is_far w ↦ λ l b.
-          (rw c.nodes.ensures at c.is_far.ensures.far) w.if-is_far.true N slot l.from l.within same c.requires.right
-          (c.requires.sources l b)
+          (rw c.nodes.ensures at c.is_far.ensures.far) w.if-is_far.true N slot l.from l.within same c.requires.bounds.right
+          (c.requires.bounds.sources l b)
       | else-is_far w ↦ λ l b. absurd (w.is_without_queries-searches.ensures (sym w.searches-is ∙ c.if-searches.true) l b)
     ])
 
@@ -24,4 +24,4 @@ returns g c =
     let e = c.in_ok-search_near.ensures in
     asked_searched (g.M.MapRead.map c.args.map.now) (g.M.MapRead.node_slot c.args.map.now) c.args.touched.now s
     (shown_items c.args.overlaid) c.if-searches.false e.lengths
-    (λ l b. e.returned c.requires.right l.from l.within (c.requires.sources l b))
+    (λ l b. e.returned c.requires.bounds.right l.from l.within (c.requires.bounds.sources l b) (c.requires.short l b))

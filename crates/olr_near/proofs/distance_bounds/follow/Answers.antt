@@ -9,6 +9,7 @@ use Rattle.olr_near.specs.Bounds.{IsLed}
 use Rattle.olr_near.proofs.BoundLemmas.{node_there, moves_none}
 use Rattle.olr_near.proofs.distance_bounds.follow.Goals.{then-end-room+in_ok-relax, else-end-room}
 use Rattle.olr_near.proofs.distance_bounds.follow.Goals as goal
+use Rattle.olr_search.specs.declared.frontier.TheConstants.{GREATEST_LIMIT}
 
 pub ends_from-end-items-requires : goal.ends_from-end-items-requires
 ends_from-end-items-requires g c =
@@ -54,7 +55,7 @@ loop-end-preserved g c =
           rw w.bounds-is (record {
             own = inv.own;
             moves = moves_then c.args.bounds.now f h inv.moves (put_moves f h end'.slot (d + end'.len) k);
-            followed = below_more (λ j. (get_or items j no_end).len ≤ 150000 - d →
+            followed = below_more (λ j. (get_or items j no_end).len ≤ GREATEST_LIMIT - d →
                 label_of h (get_or items j no_end).slot ≤ d + (get_or items j no_end).len) n
                 (λ j low short.
                 let was = inv.followed j low short in
@@ -81,7 +82,7 @@ loop-end-preserved g c =
       | else-end-room w ↦ rw w.bounds-is (record {
         own = inv.own;
         moves = inv.moves;
-        followed = below_more (λ j. (get_or items j no_end).len ≤ 150000 - d →
+        followed = below_more (λ j. (get_or items j no_end).len ≤ GREATEST_LIMIT - d →
             label_of f (get_or items j no_end).slot ≤ d + (get_or items j no_end).len) n inv.followed
             (λ short. absurd (omega arith));
         led = inv.led;
