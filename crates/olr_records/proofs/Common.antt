@@ -4,7 +4,7 @@ pub use Rattle.olr_commands.proofs.RecordLemmas.{joined}
 pub use Rattle.olr_commands.specs.RecordText.{after_commas, fields_of_change, fields_of_coord, fields_of_path}
 pub use Rattle.olr_commands.specs.RecordText.{fields_of_shape, record_line}
 pub use Rattle.olr_commands.specs.Recordable.{is_name, is_name_byte, is_recordable_coord, is_recordable_shape}
-pub use Rattle.olr_commands.specs.State.{Add_path, Change, Drop_path, Make, On_map, Set_path}
+pub use Rattle.olr_commands.specs.State.{Add_path, Change, Drop_path, Make, On_map, Set_margin, Set_path, Show_margin}
 pub use Rattle.olr_commands.specs.Words.{entry_of}
 pub use Rattle.olr_coords.proofs.DegreesTextLemmas.{decimals-digits, degrees-read, degrees-whole}
 pub use Rattle.olr_coords.proofs.DigitLemmas.{own}

@@ -10,6 +10,8 @@ use Rattle.olr_commands.specs.State.{Preview, Commit, Abort, Ambiguous, same_nam
 use Rattle.olr_records.specs.Records.{ReadFault, Bad_form, one, none, path_record, forms, read_by, depends_record}
 use Rattle.olr_records.specs.Records.{few_nodes, ambiguous_record}
 use Rattle.olr_commands.proofs.NameLemmas.{same_is}
+use Rattle.olr_records.proofs.Common.{Set_margin, Show_margin, class}
+use Rattle.olr_records.specs.Records.{digits, margin_record}
 use Rattle.olr_records.proofs.TestLemmas.{◌also◌}
 use Rattle.olr_records.proofs.ReadLemmas.{given, two, any_passes, one_passes}
 
@@ -27,6 +29,7 @@ word (Make (On_map e)) = edit_word e
 word (Make (Add_path n p)) = codes "path"
 word (Make (Set_path n p)) = codes "repath"
 word (Make (Drop_path n)) = codes "drop-path"
+word (Make (Set_margin g)) = codes "margin"
 word (Show n) = codes "show"
 word (Show_node v) = codes "show-node"
 word (Show_line x) = codes "show-line"
@@ -40,6 +43,7 @@ word (Explain text) = codes "explain"
 word Begin = codes "begin"
 word (Commit n) = codes "commit"
 word Abort = codes "abort"
+word Show_margin = codes "show-margin"
 
 abbrev Has : Field → Command → Type 0
 Has w c = word c ≡ w
@@ -100,6 +104,12 @@ ambiguous_begins : (fs : List Field) → IfOk (ambiguous_record fs) (Has (codes 
 ambiguous_begins [] = refl
 ambiguous_begins (f ∷ fs) = one_begins (codes "ambiguous") (λ n. Ambiguous (Some n)) name (λ n. refl) (f ∷ fs)
 
+margin_begins : (fs : List Field) → IfOk (margin_record fs) (Has (codes "margin"))
+margin_begins (r ∷ c ∷ []) =
+    two (Has (codes "margin")) (λ _. ⊤) (λ _. ⊤) (Ok (λ r c. Make (Set_margin (record { routes = r; classes = c })))) (digits 0 1000 r)
+    (class c) (any_passes (digits 0 1000 r)) (any_passes (class c)) (λ r _ c _. refl)
+margin_begins fs = tt
+
 forms_begin : AllByRecursion Begins forms
 forms_begin =
     edit_begins (codes "node") (node_record Add_node) (node_begins (codes "node") Add_node (λ v p. refl))
@@ -124,6 +134,8 @@ forms_begin =
     also none_begins Compact
     also none_begins Preview
     also ambiguous_begins
+    also margin_begins
+    also none_begins Show_margin
     also tt
 
 chosen : (b : Bool) (r : Field × (List Field → Read Command)) (w : Field) (x y : Read Command) → same_name w r.0 ≡ b →

@@ -16,6 +16,8 @@ use Rattle.olr_commands.specs.State.{Preview, Commit, Abort, Ambiguous, HasCoord
 use Rattle.olr_coords.specs.Bounds.{is_degrees}
 use Rattle.olr_records.specs.Records.{digits, longitude, latitude, one, none, path_record, forms, read_by}
 use Rattle.olr_records.specs.Records.{depends_record, few_nodes, ambiguous_record}
+use Rattle.olr_records.proofs.Common.{Set_margin, Show_margin, class}
+use Rattle.olr_records.specs.Records.{margin_record}
 use Rattle.olr_records.proofs.TestLemmas.{all_weaker, ◌also◌}
 
 -- a record of the word explain and one field
@@ -246,6 +248,12 @@ unfolding Passes
 by_passes [] h word fs = tt
 by_passes (r ∷ rs) h word fs = grind (arith, if_read, by_passes rs h.1 word fs)
 
+margin_passes : (fs : List Field) → IfOk (margin_record fs) Recorded
+margin_passes (r ∷ c ∷ []) =
+    two Recorded (λ n. IsTrue (nat_le n 1000)) Class (Ok (λ r c. Make (Set_margin (record { routes = r; classes = c })))) (digits 0 1000 r)
+    (class c) (at_most_pass 0 1000 r) (at_most_pass 0 7 c) (λ r h c g i. h i && g i)
+margin_passes fs = tt
+
 forms_pass : AllByRecursion (λ r. Passes r.1) forms
 unfolding Passes
 forms_pass =
@@ -271,6 +279,8 @@ forms_pass =
     also none_passes Compact tt
     also none_passes Preview tt
     also ambiguous_passes
+    also margin_passes
+    also none_passes Show_margin tt
     also tt
 
 recorded : (fields : List Field) → IfOk (read fields) Recorded
@@ -298,6 +308,7 @@ edit_coords e h = tt
 
 coords : (c : Command) → Recorded c → HasCoords c
 coords (Make (On_map e)) h = edit_coords e h
+coords (Make (Set_margin g)) h = h
 coords c h = tt
 
 pub coords_read : (fields : List Field) (c : Command) → read fields ≡ Ok c → HasCoords c

@@ -2,7 +2,7 @@
 use Rattle.olr_records.proofs.Common.{decimal, if◌then◌else◌, list_all, concat, AllByRecursion, is_ascii_digit}
 use Rattle.olr_records.proofs.Common.{and_parts, leb-true, nat_tests, digits_decimal, length-append, Coord, ShapePoint}
 use Rattle.olr_records.proofs.Common.{Add_node, Move_node, Drop_node, Add_line, Set_line, Drop_line, Path, degrees_text}
-use Rattle.olr_records.proofs.Common.{has_degrees_text, own, Change, On_map, Add_path, Set_path, Drop_path}
+use Rattle.olr_records.proofs.Common.{has_degrees_text, own, Change, On_map, Add_path, Set_path, Drop_path, Set_margin}
 use Rattle.olr_records.proofs.Common.{is_name_byte, is_name, after_commas, fields_of_coord, fields_of_shape}
 use Rattle.olr_records.proofs.Common.{fields_of_path, fields_of_change, Field, max32, is_number, is_place, is_point}
 use Rattle.olr_records.proofs.Common.{are_attributes, is_named_path, has_record, joined, list_any, join_with_byte}
@@ -91,6 +91,9 @@ record_plain (On_map (Drop_line x)) h = (refl, (number_plain x h, tt))
 record_plain (Add_path n p) h = (refl, path_plain n p h)
 record_plain (Set_path n p) h = (refl, path_plain n p h)
 record_plain (Drop_path n) h = (refl, (name_plain n h, tt))
+record_plain (Set_margin g) h =
+    let k = and_parts (nat_le g.routes 1000) (nat_le g.classes 7) h in
+    (refl, (bounded_plain g.routes 1000 (omega arith) k.0, (bounded_plain g.classes 7 (omega arith) k.1, tt)))
 
 -- ---- as csv writes them
 

@@ -1,6 +1,6 @@
 -- Commands whose changes have records lead to contents that have records.
 use Rattle.olr_records.proofs.Common.{IfSome, Line, Add_path, Set_path, is_place, Recorded, cases_eq, MapFault, no_line}
-use Rattle.olr_records.proofs.Common.{list_all, is_coord, Add_node, Add_line, Set_line, Drop_path, is_number, is_amount}
+use Rattle.olr_records.proofs.Common.{list_all, is_coord, Add_node, Add_line, Set_line, Drop_path, Set_margin, is_number, is_amount}
 use Rattle.olr_records.proofs.Common.{AllByRecursion, is_name, are_attributes, is_recordable_coord, is_recordable_shape}
 use Rattle.olr_records.proofs.Common.{and_parts, Move_node, Drop_node, Drop_line, has_record, IsRecorded, StaysRecorded}
 use Rattle.olr_records.proofs.Common.{eq-eqb, Coord, Edit, Path, Change, On_map, Make, ne_eqb, Map, start, end, edited}
@@ -12,7 +12,10 @@ use Rattle.std.specs.Prelude.{◌&&◌}
 use Rattle.std.specs.FinMap.{FinMap, get, insert, remove, empty, entries, entries_sorted, get-entries, get-empty}
 use Rattle.std.specs.FinMap.Entries.{find}
 use Rattle.olr_spec.proofs.EditLemmas.{Made, made_by, got_same, got_other, left_same, left_other}
-use Rattle.olr_commands.specs.Dump.{node_change, line_change, path_change}
+use Rattle.olr_commands.specs.Dump.{adds_nothing, content_changes, margin_changes, node_change, line_change, path_change}
+use Rattle.olr_spec.specs.Margins.{Margin}
+use Rattle.olr_records.proofs.Common.{HaveRecords}
+use Rattle.std.proofs.lemmas.Bool.{cond_both}
 use Rattle.olr_commands.proofs.DumpLemmas.{of_entries}
 use Rattle.olr_commands.proofs.StateLemmas.{Ends, ends, when_ok, accepted, passed, next_ok, after_push}
 use Rattle.olr_records.proofs.TestLemmas.{and_four, and_five, all_weaker}
@@ -80,8 +83,20 @@ record MapRecorded (M : Map) : Type 0 where
   nodes : AllByRecursion HasNode (entries M.nodes)
   lines : AllByRecursion HasLine (entries M.lines)
 
+-- the changes that set a margin, if it isn't the one that there is at first
+abbrev HasMargin : Margin → Type 0
+HasMargin g = AllByRecursion Has (margin_changes g)
+
+margin_of : (c : Content) → IsRecorded c → HasMargin c.margin
+margin_of c h = (split_all Has (margin_changes c.margin) (content_changes c) h).0
+
+margin_has : (g : Margin) → Has (Set_margin g) → HasMargin g
+margin_has g h =
+    cond_both (adds_nothing g) [] (Set_margin g ∷ []) (λ xs. AllByRecursion Has xs) (λ _. tt) (λ _. (h, tt))
+
 parts_of : (c : Content) → IsRecorded c → MapRecorded c.map × AllByRecursion HasPath c.paths
-parts_of c h =
+parts_of c whole =
+    let h = (split_all Has (margin_changes c.margin) (content_changes c) whole).1 in
     let a = split_all Has (map node_change (entries c.map.nodes)) _ h in
     let b = split_all Has (map line_change (entries c.map.lines)) (map path_change c.paths) a.1 in (
       record {
@@ -91,8 +106,11 @@ parts_of c h =
       of_mapped path_change Has c.paths b.1,
     )
 
-of_parts : (c : Content) → MapRecorded c.map → AllByRecursion HasPath c.paths → IsRecorded c
-of_parts c m h = search (rules, arith, join_all, entries, to_mapped)
+content_of_parts : (c : Content) → MapRecorded c.map → AllByRecursion HasPath c.paths → HaveRecords (content_changes c)
+content_of_parts c m h = search (rules, arith, join_all, entries, to_mapped)
+
+of_parts : (c : Content) → HasMargin c.margin → MapRecorded c.map → AllByRecursion HasPath c.paths → IsRecorded c
+of_parts c k m h = join_all Has (margin_changes c.margin) (content_changes c) k (content_of_parts c m h)
 
 line_parts : (x : ℕ) (l : Line) → HasLine (x, l) → IsTrue (is_number x) × IsTrue (is_number l.from)
     × IsTrue (is_number l.to) × IsTrue (are_attributes l.frc l.fow l.len l.shape)
@@ -130,7 +148,7 @@ map_stays M N (Drop_line x) m h made =
 edit_stays : (c d : Content) (e : Edit) (r : Result Map MapFault) → edited c.map e ≡ r → IsRecorded c →
     Has (On_map e) → with_map c r ≡ Ok d → IsRecorded d
 edit_stays c d e (Ok m) is i h to =
-    grind (arith, parts_of c i, accepted IsRecorded, of_parts, map_stays c.map m e, made_by c.map m e is)
+    grind (arith, parts_of c i, margin_of c i, accepted IsRecorded, of_parts, map_stays c.map m e, made_by c.map m e is)
 edit_stays c d e (Err f) is i h to = absurd cc
 
 -- the path of a name is set
@@ -141,9 +159,10 @@ set_stays name path (p ∷ ps) h g = grind (arith, path_parts, set_stays name pa
 
 change_stays : (c d : Content) (x : Change) → IsRecorded c → Has x → with_change c x ≡ Ok d → IsRecorded d
 change_stays c d (On_map e) i h is = edit_stays c d e (edited c.map e) refl i h is
-change_stays c d (Add_path name path) i h is = grind (arith, when_ok, parts_of, passed, of_parts, join_all)
-change_stays c d (Set_path name path) i h is = grind (arith, when_ok, parts_of, passed, of_parts, set_stays)
-change_stays c d (Drop_path name) i h is = grind (arith, parts_of, passed, of_parts, left_all)
+change_stays c d (Add_path name path) i h is = grind (arith, when_ok, parts_of, margin_of c i, passed, of_parts, join_all)
+change_stays c d (Set_path name path) i h is = grind (arith, when_ok, parts_of, margin_of c i, passed, of_parts, set_stays)
+change_stays c d (Drop_path name) i h is = grind (arith, parts_of, margin_of c i, passed, of_parts, left_all)
+change_stays c d (Set_margin g) i h is = grind (arith, parts_of c i, accepted IsRecorded, of_parts, margin_has g h)
 
 -- ---- commands
 
@@ -171,7 +190,7 @@ none_of_empty {X} P =
 
 pub start_recorded : StaysRecorded start_state
 start_recorded = (
-  of_parts no_content (record { nodes = none_of_empty HasNode; lines = none_of_empty HasLine }) tt,
+  of_parts no_content tt (record { nodes = none_of_empty HasNode; lines = none_of_empty HasLine }) tt,
   tt,
 )
 

@@ -10,6 +10,7 @@ use Rattle.olr_records.proofs.Common.{own, Change, On_map, is_name, number, amou
 use Rattle.std.proofs.Common.{◌≡◌, ℕ, ◌<◌, ◌^◌, ℤ, Bool, true, ◌&&◌, List, [], ◌∷◌, map, Ok, nat_le, IsTrue, refl, ◌∙◌}
 use Rattle.std.proofs.Common.{arith}
 use Rattle.std.specs.Prelude.{Err}
+use Rattle.olr_records.proofs.Common.{Set_margin}
 use Rattle.olr_records.specs.Records.{digits}
 use Rattle.olr_records.proofs.TestLemmas.{and_three, and_four, and_five}
 
@@ -77,3 +78,6 @@ record_back (On_map (Drop_line x)) h = λ i. edit (Ok (λ n. Drop_line n) ⊛ nu
 record_back (Add_path n p) h = path_back Add_path n p h
 record_back (Set_path n p) h = path_back Set_path n p h
 record_back (Drop_path n) h = λ i. Ok (λ n. Make (Drop_path n)) ⊛ name_back n h i
+record_back (Set_margin g) h =
+    let k = and_parts (nat_le g.routes 1000) (nat_le g.classes 7) h in
+    grind (arith, digits_back 0 1000 g.routes (omega arith) (le-leb 0 g.routes (omega arith)) k.0, class_back g.classes k.1)

@@ -8,8 +8,9 @@ use Rattle.std.specs.List.{list_all, AllByRecursion}
 use Rattle.olr_spec.specs.Coordinates.{Coord, is_coord}
 use Rattle.olr_spec.specs.Map.{ShapePoint, Add_node, Move_node, Drop_node, Add_line, Set_line, Drop_line}
 use Rattle.olr_spec.specs.Extension.{Path}
+use Rattle.olr_spec.specs.Margins.{is_margin}
 use Rattle.olr_commands.specs.Recordable.{is_name, is_recordable_coord}
-use Rattle.olr_commands.specs.State.{Content, Change, On_map, Add_path, Set_path, Drop_path, after, Command, Make, State}
+use Rattle.olr_commands.specs.State.{Content, Change, On_map, Add_path, Set_path, Drop_path, Set_margin, after, Command, Make, State}
 use Rattle.olr_commands.specs.Dump.{dump_changes}
 use Rattle.olr_records.specs.Records.{max32}
 
@@ -44,6 +45,7 @@ has_record (On_map (Drop_line x)) = is_number x
 has_record (Add_path name p) = is_named_path name p
 has_record (Set_path name p) = is_named_path name p
 has_record (Drop_path name) = is_name name
+has_record (Set_margin g) = is_margin g
 
 abbrev pub HaveRecords : List Change → Type 0
 HaveRecords xs = AllByRecursion (λ x. IsTrue (has_record x)) xs

@@ -11,9 +11,9 @@ use Rattle.olr_spec.specs.Degrees.{are_digits, digits_value, degrees}
 use Rattle.olr_spec.specs.Map.{ShapePoint, Line, Edit, Add_node, Move_node, Drop_node, Add_line, Set_line, Drop_line}
 use Rattle.olr_spec.specs.Extension.{Path}
 use Rattle.olr_commands.specs.Recordable.{is_name}
-use Rattle.olr_commands.specs.State.{same_name, Fault, Syntax, Range, Change, On_map, Add_path, Set_path, Drop_path}
+use Rattle.olr_commands.specs.State.{same_name, Fault, Syntax, Range, Change, On_map, Add_path, Set_path, Drop_path, Set_margin}
 use Rattle.olr_commands.specs.State.{Command, Make, Show, Show_node, Show_line, Depends, Report, Dump, Compact, Explain, Begin}
-use Rattle.olr_commands.specs.State.{Preview, Commit, Abort, Ambiguous}
+use Rattle.olr_commands.specs.State.{Preview, Commit, Abort, Ambiguous, Show_margin}
 
 -- the fields of a record, or one field, by their bytes
 abbrev pub Field : Type 0
@@ -164,6 +164,12 @@ abbrev pub ambiguous_record : List Field → Read Command
 ambiguous_record [] = Ok (Ambiguous None)
 ambiguous_record fs = one (λ n. Ambiguous (Some n)) name fs
 
+-- thousandths, and classes
+abbrev pub margin_record : List Field → Read Command
+margin_record (routes ∷ classes ∷ []) =
+    Ok (λ r c. Make (Set_margin (record { routes = r; classes = c }))) ⊛ digits 0 1000 routes ⊛ class classes
+margin_record _ = Err Bad_form
+
 -- by the first field, how the fields after it are read
 abbrev pub forms : List (Field × (List Field → Read Command))
 forms =
@@ -189,6 +195,8 @@ forms =
     ∷ (codes "compact", λ fs. none Compact fs)
     ∷ (codes "preview", λ fs. none Preview fs)
     ∷ (codes "ambiguous", λ fs. ambiguous_record fs)
+    ∷ (codes "margin", λ fs. margin_record fs)
+    ∷ (codes "show-margin", λ fs. none Show_margin fs)
     ∷ []
 
 abbrev pub read_by : List (Field × (List Field → Read Command)) → Field → List Field → Read Command
@@ -210,6 +218,7 @@ abbrev pub HoldsList : Command → Type 0
 HoldsList (Make (On_map (Add_line x l))) = 0 < length l.shape
 HoldsList (Make (On_map (Set_line x frc fow len shape))) = 0 < length shape
 HoldsList (Make (On_map e)) = ⊥
+HoldsList (Make (Set_margin g)) = ⊥
 HoldsList (Make change) = ⊤
 HoldsList (Show name) = ⊤
 HoldsList (Depends nodes) = ⊤

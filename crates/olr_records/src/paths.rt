@@ -1,4 +1,4 @@
-//! Records of named paths.
+//! Records of named paths, and of the margin with which they are encoded.
 ghost use Rattle.std.specs.Prelude.{drop, string_bytes, ⊤};
 ghost use Rattle.csv.specs.Records.{fields_of};
 ghost use Rattle.olr_commands.specs.State.{Make, Add_path, Set_path, Drop_path, Show};
@@ -7,13 +7,17 @@ ghost use Rattle.olr_records.specs.Records as records;
 ghost use Rattle.olr_records.specs.Words.{Gathers, IsRead};
 
 use crate::faults::ReadFault;
-use crate::fields::{amount, field, line_id, name, only_field};
+use crate::fields::{amount, class, field, line_id, name, number, only_field};
 use crate::lists::items_from;
 use crate::parts::both;
 use csv::ByteRecord;
+use olr_answers::Margin;
 use olr_commands::Command;
 use olr_roads::LineId;
 use std::alloc::Global;
+
+/// The greatest part by which own lines count longer, in thousandths of their length.
+const GREATEST_ROUTES: u32 = 1000;
 
 /// A path: all fields after the first. Returns its name, its lines, and its positive and negative offset in decimetres.
 #[inline(never)]
@@ -70,4 +74,17 @@ pub(crate) fn show(alloc: Global, fields: &ByteRecord) -> Result<Command, ReadFa
 {
     let name = name(alloc, only_field(fields)?)?;
     Ok(Command::Show(name))
+}
+
+/// `margin,ROUTES,CLASSES`
+pub(crate) fn margin(fields: &ByteRecord) -> Result<Command, ReadFault>
+    ensures { IsRead (records.margin_record (drop 1 (fields_of fields.now))) result }
+{
+    if fields.len() != 3 {
+        return Err(ReadFault::Syntax);
+    }
+    let routes = number(field(fields, 1), 0, GREATEST_ROUTES);
+    let (routes, classes) = both(routes, class(field(fields, 2)))?;
+    let margin = Margin::new(routes, classes).ok_or(ReadFault::Range)?;
+    Ok(Command::SetMargin(margin))
 }

@@ -9,7 +9,7 @@ ghost use Rattle.olr_records.specs.Words.{IsRead};
 use crate::edits::{add_line, add_node, drop_line, drop_node, move_node, set_line};
 use crate::faults::ReadFault;
 use crate::fields::{amount, field, only_field};
-use crate::paths::{add_path, drop_path, set_path, show};
+use crate::paths::{add_path, drop_path, margin, set_path, show};
 use crate::questions::{ambiguous, depends, show_line, show_node};
 use csv::ByteRecord;
 use olr_commands::Command;
@@ -102,7 +102,7 @@ fn read_rarer(alloc: Global, word: &[u8], fields: &ByteRecord) -> Result<Command
     }
 }
 
-/// The same, for the words of questions other than `explain`.
+/// The same, for the words of questions other than `explain`, and of the margin.
 fn read_question(alloc: Global, word: &[u8], fields: &ByteRecord) -> Result<Command, ReadFault>
     ensures { IsRead (records.read_by (drop 13 records.forms) word.now (drop 1 (fields_of fields.now))) result }
 {
@@ -124,6 +124,10 @@ fn read_question(alloc: Global, word: &[u8], fields: &ByteRecord) -> Result<Comm
         single_word(fields, Command::Preview)
     } else if is(word, b"ambiguous") {
         ambiguous(alloc, fields)
+    } else if is(word, b"margin") {
+        margin(fields)
+    } else if is(word, b"show-margin") {
+        single_word(fields, Command::ShowMargin)
     } else {
         Err(ReadFault::Syntax)
     }
