@@ -70,6 +70,17 @@ class Lines(unittest.TestCase):
         self.assertEqual([it for it, _ in self.sorts(b"x" * (1 << 20) + b"\n")], [Sort.OTHER])
 
 
+def taken(job: Job, replies: bytes) -> bytes:
+    """What the owner of a job gets for the program's replies to it."""
+    source, found = Replies(), b""
+    source.feed(replies)
+    while job.done < job.count:
+        span = source.take(job.next_most())
+        assert span is not None
+        found += job.take(span)
+    return found
+
+
 class Jobs(unittest.TestCase):
     def test_batch(self) -> None:
         """A batch gives the reply to its commit alone, with the first change that was rejected."""
@@ -78,13 +89,8 @@ class Jobs(unittest.TestCase):
             (b"ok,0\nheld,1\nfault,6,NoLine\nfault,16,CountDiffers\nok,0\n", b"fault,16,CountDiffers,2,6,NoLine\n", []),
             (b"ok,0\nheld,1\nheld,2\nfault,13,Memory\nok,0\n", b"fault,13,Memory\n", []),
         ):
-            job, source, found = batch(Owner(), b"drop-path,b\npath,a,0,0,1\n", 2), Replies(), b""
-            source.feed(replies)
-            while job.done < job.count:
-                span = source.take(job.next_most())
-                assert span is not None
-                found += job.take(span)
-            self.assertEqual((found, job.changes), (wanted, changes))
+            job = batch(Owner(), b"drop-path,b\npath,a,0,0,1\n", 2)
+            self.assertEqual((taken(job, replies), job.changes), (wanted, changes))
 
     def test_preview(self) -> None:
         """A preview gives its own reply, or the first change that was rejected, and changes nothing."""
@@ -93,13 +99,8 @@ class Jobs(unittest.TestCase):
             (b"ok,0\nheld,1\nfault,6,NoLine\nok,0\nok,0\n", b"fault,16,CountDiffers,2,6,NoLine\n"),
             (b"ok,0\nheld,1\nheld,2\nfault,13,Memory\nok,0\n", b"fault,13,Memory\n"),
         ):
-            job, source, found = preview(Owner(), b"drop-path,b\npath,a,0,0,1\n", 2), Replies(), b""
-            source.feed(replies)
-            while job.done < job.count:
-                span = source.take(job.next_most())
-                assert span is not None
-                found += job.take(span)
-            self.assertEqual((found, job.changes), (wanted, []))
+            job = preview(Owner(), b"drop-path,b\npath,a,0,0,1\n", 2)
+            self.assertEqual((taken(job, replies), job.changes), (wanted, []))
 
     def test_not_known(self) -> None:
         job = Job(Owner(), Kind.CHANGES, b"node,1,0,0\nset-line,7,1\nrepath,a,0\n", 3, done=1)
