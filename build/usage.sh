@@ -9,3 +9,10 @@ usage() {
     sed -n '2,/^[^#]/s/^# \{0,1\}//p' "$0"
     exit "$status"
 }
+
+# Sets `into` to the folder that a script has as its one argument, or to the current one.
+into_folder() {
+    [[ ${1-} != -* && $# -le 1 ]] || usage '[FOLDER]' "$@"
+    [[ -d ${1:-.} ]] || { echo "${0##*/}: there is no folder $1" >&2; exit 2; }
+    into=$(readlink -f "${1:-.}")
+}

@@ -1,17 +1,21 @@
 """What is said more than once has to be said alike: on two pages, or on a page and in a `--help`, a unit or the code.
 
-Compared are the options of the program and of each tool, exit statuses, faults, metrics, defaults of options, and the numbers
-of `FACTS`. Each relative link leads to a file and to a heading of it, no page is longer than `LENGTHS`, and no sentence has
+Compared are the options of the program and of each tool, the tools' names, exit statuses, faults, metrics, defaults of options,
+and the numbers of `FACTS`. Each relative link leads to a file and to a heading of it, no page is longer than `LENGTHS`, and no sentence has
 more than 40 words outside of THEOREMS.
 """
 import glob
 import os
 import re
 import subprocess
+import sys
 from concurrent.futures import ThreadPoolExecutor
 from typing import Dict, Iterator, List, NamedTuple, Set, Tuple
 
 from whole import TOP, text_of
+
+sys.path.insert(0, f"{TOP}/python")
+from olr_keep_tools.carried import UNANSWERED  # noqa: E402
 
 # The most words of each page.
 LENGTHS = {
@@ -26,10 +30,10 @@ COMMON = {0, 2, 3, 130}  # the statuses of every tool
 # Numbers that stand in several places: each pattern may find one number only, wherever it is found.
 FACTS = {
     "the changes of a batch": r"(?:up to |more than |holds )(\d{2,3},?000) changes(?! each)",
-    "the answers that leave together": r"(?:up to|at most) (\d+) KB of (?:them|answers|it)\b",
-    "the longest line with --lines": r"(?:longer than|of over|more than) (\d+) MB, (?:is|are) rejected",
-    "the end of a road near a line": r"ends? of (?:a road|roads)\b[^.|]{0,40}within (\d+ m|an? metre)\b",
-    "the version of PostgreSQL": r"PostgreSQL (\d+)(?:,[^.]{0,60})? or later",
+    "the answers that leave together": r"(?:up to|at most) (\d+) KB\b",
+    "the longest line with --lines": r"(?:longer than|of over|more than) (\d+) MB, (?:is|are|has)\b",
+    "the end of a road near a line": r"(?:ends? of (?:a road|roads) within|`olr-keep-check-map`:) (\d+ m|an? metre)\b",
+    "the version of PostgreSQL": r"PostgreSQL (\d+)(?:,(?:[^.]|\.\d){0,60})? or later",
     "the version of Python": r"Python (3\.\d+)\b(?! syntax)",
     "the program logic": r"logic[ =`]+([0-9a-f]{16})\b",
     "the margin of a region": r"nodes within (\d+) km of its paths",
@@ -40,6 +44,15 @@ FACTS = {
     "the edits after which memory is compared":
         r"(?:memory|allocated|looked at)\b[^.|]{0,60} after (?:the first )?([\d,]+) edits",
     "the lines that may be removed": r"(?:lacks|remove|lack) more than (\d+) ?% of the",
+    "minutes of the first build": r"first (?:build|`\./olr-keep`) took (\d+ to \d+) minutes",
+    "hours of the gate": r"(?:gate\*?,? takes|`\./test` takes) (\w+ to \w+) hours",
+    "where packages have the tools' files": r"(/usr[\w/]*/share/olr-keep)\b",
+}
+# What pages have said, and isn't so.
+NOT_SO = {
+    r"opens no file but": "with a log it makes and replaces files beside it",
+    r"too large for memory ends": "`report` and `dump` are rejected with fault 13",
+    r"sends? its own `dump`": "the program replaces its log by itself",
 }
 OPTION = re.compile(r"(?<![\w-])(--[a-z][a-z-]*)")
 # A number before an option in brackets, as `5 m (--tolerance)`, or an option and then its number, as `--deadline (60)`.
@@ -61,11 +74,20 @@ def pages() -> List[str]:
     return ["README.md", "CHANGELOG.md", "CONTRIBUTING.md", *sorted(it[len(TOP) + 1 :] for it in glob.glob(f"{TOP}/docs/*.md"))]
 
 
+def git(*words: str) -> List[str]:
+    """The lines that a command of git prints."""
+    return subprocess.run(["git", "-C", TOP, *words], capture_output=True, text=True, check=True).stdout.splitlines()
+
+
 def tracked() -> List[str]:
     """The names of the files and folders at the top that the repository has, or will have with the next commit."""
-    command = ["git", "-C", TOP, "ls-files", "--cached", "--others", "--exclude-standard"]
-    names = subprocess.run(command, capture_output=True, text=True, check=True).stdout.splitlines()
+    names = git("ls-files", "--cached", "--others", "--exclude-standard")
     return sorted({it.split("/")[0] for it in names if os.path.exists(f"{TOP}/{it}")})
+
+
+def uncommitted() -> List[str]:
+    """The files that are not as they were committed, or not committed at all."""
+    return [*git("diff", "--name-only", "HEAD"), *git("ls-files", "--others", "--exclude-standard")]
 
 
 def help_of(tool: str) -> Tuple[str, str]:
@@ -168,9 +190,31 @@ def program_faults() -> List[str]:
         "checks/help.txt": set(re.findall(r"(?<![\w.])(\d) ", part(shown, "Status:", "\ndocs/"))),
         MANUAL: set(re.findall(r"^\.It (\d+)$", manual, re.M)),
     }
-    unit = re.findall(r"RestartPreventExitStatus=(.*)", text_of("packaging/olr-keep.service"))
-    lost = {it for row in unit for it in row.split()} - statuses["docs/LIMITS.md"]
-    return unlike("options", options) + unlike("statuses", statuses) + [f"the unit: no status {it}" for it in sorted(lost)]
+    return unlike("options", options) + unlike("statuses", statuses)
+
+
+def unit_faults(tools: Dict[str, Tool]) -> List[str]:
+    """Statuses that a unit names and its tool doesn't have, and limits of memory without one on the data of the process."""
+    faults = []
+    for file in sorted(glob.glob(f"{TOP}/packaging/*.service")):
+        text, name = text_of(file[len(TOP) + 1 :]), os.path.basename(file)
+        tool = re.findall(r"^ExecStart=.*?/(?:olr-keep-|tools/)([a-z-]+)", text, re.M)[0]
+        named = {int(it) for row in re.findall(r"^(?:RestartPrevent|Success)ExitStatus=(.*)", text, re.M) for it in row.split()}
+        faults += [f"{name}: {tool} has no status {it}" for it in sorted(named - tools[tool].statuses - {0})]
+        if "\nMemoryMax=" in text and "\nLimitDATA=" not in text:
+            faults.append(f"{name}: without LimitDATA a process that needs more than MemoryMax is killed, and gets no fault")
+    return faults
+
+
+def status_faults(tools: Dict[str, Tool]) -> List[str]:
+    """Statuses of `live` and of `serve` that their pages and `--help` don't say alike."""
+    line = re.findall(r"^Exit statuses: (.*)", text_of("docs/LIVE.md"), re.M)[0]
+    said = {
+        "live": {int(it) for it in re.findall(r"(?:^|[;,] )(\d+)\b", line)} - {0},
+        "serve": {int(it) for it in re.findall(r"^\| (\d) \|", part(text_of("docs/SERVICE.md"), "| Status of the", "\n\n"), re.M)},
+    }
+    return [f"statuses of {name}: its page has {sorted(it)}, and its --help {sorted(tools[name].statuses)}"
+            for name, it in said.items() if it | {130} != (tools[name].statuses | {130}) - {0}]
 
 
 def tool_faults(tools: Dict[str, Tool]) -> List[str]:
@@ -183,10 +227,13 @@ def tool_faults(tools: Dict[str, Tool]) -> List[str]:
         if said != tool.statuses - COMMON:
             shown = sorted(tool.statuses - COMMON)
             faults.append(f"docs/LIMITS.md: {name}: statuses {sorted(said)}, and its --help has {shown}")
+    packages = "".join(text_of(it[len(TOP) + 1 :]) for it in glob.glob(f"{TOP}/packaging/*") + [f"{TOP}/debian/control"])
     own = set(re.findall(r"--[a-z][a-z-]*", text_of("checks/help.txt")))
     every = set().union(own, *(it.options for it in tools.values()))
     for page in pages():
         text = text_of(page)
+        names = {it.rstrip("-") for it in re.findall(r"\bolr-keep-([a-z][a-z-]*)", text)} - set(tools)
+        faults += [f"{page}: there is no olr-keep-{it}" for it in sorted(names) if f"olr-keep-{it}" not in packages]
         for name, rest in CALL.findall(text):
             lost = set(OPTION.findall(rest.partition(" olr-keep ")[0])) - tools[name].options if name in tools else ()
             faults += [f"{page}: {name} has no option {it}" for it in sorted(lost)]
@@ -252,6 +299,21 @@ def number_faults(said: Dict[str, str]) -> List[str]:
     return faults
 
 
+def claim_faults(kinds: List[str]) -> List[str]:
+    """Claims of `NOT_SO`, and lists that lack something: of the kinds of `check-map`, and of what no worker answers."""
+    faults = []
+    for page in pages():
+        for text in re.split(r"\n\n|\n(?=- |\|)", text_of(page)):
+            faults += [f"{page}: {text[:60]} ..: {why}" for claim, why in NOT_SO.items() if re.search(claim, text)]
+            lost = [it for it in kinds if f"`{it}`" not in text]
+            if 3 <= len(kinds) - len(lost) < len(kinds):
+                faults.append(f"{page}: of the kinds of check-map {', '.join(lost)} are missing")
+            if "`NoQuestion` for" in text and "`NoQuestion` for each question but `show`" not in text:
+                lost = [it for it in UNANSWERED if f"`{it}`" not in text]
+                faults += [f"{page}: NoQuestion is also for {', '.join(lost)}"] if lost else []
+    return faults
+
+
 def source_faults() -> List[str]:
     """Blocks of Rust after a comment `<!-- of FILE -->` whose lines FILE doesn't have."""
     faults = []
@@ -279,5 +341,7 @@ def faults() -> List[str]:
     code = text_of("crates/olr_records/src/faults.rt")
     said = {page: text_of(page) for page in [*pages(), MANUAL, "checks/help.txt", "checks/memory"]}
     said.update({f"tools/{name} --help": text for name, text in shown.items()})
+    kinds = re.findall(r"^    ([a-z0-9]+(?:-[a-z0-9]+)+)  ", shown["check-map"], re.M)
     found = long_faults() + link_faults() + program_faults() + tool_faults(tools) + default_faults(tools) + fault_faults(code)
+    found += unit_faults(tools) + status_faults(tools) + claim_faults(kinds)
     return found + metric_faults(sources) + number_faults(said) + source_faults() + session_faults()

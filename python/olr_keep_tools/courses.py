@@ -10,12 +10,12 @@ along the course, tries no route twice, however many lines lead from one node to
 from __future__ import annotations
 
 import bisect
-import heapq
 import math
 from collections import defaultdict
 from typing import Callable, Dict, FrozenSet, Iterable, Iterator, List, Mapping, NamedTuple, Optional, Sequence, Set, Tuple, Union
 
 from .geo import METRES, between, onto_segment, scale
+from .routes import Waiting
 
 SNAP = 1.0  # metres along a line between an end of the course and a node that are taken as none
 DRAWN = 5.0  # the same for a course that was drawn, or is from another map
@@ -303,17 +303,15 @@ class Follower:
     def search(self) -> Union[Found, Lost]:
         """The found lines, or why there are none."""
         ends = self.ends()
-        order, furthest = 0, 0.0
+        furthest = 0.0
         best: Dict[Label, Best] = {}
-        waiting: List[Tuple[float, int, Label]] = []
+        waiting: Waiting[Label] = Waiting()
 
         def relax(cost: float, label: Label, step: Optional[Step], before: Optional[Label]) -> None:
-            nonlocal order
             known = best.get(label)
             if known is None or cost < known.cost - SAME:
                 best[label] = Best(cost, step, before)
-                order += 1
-                heapq.heappush(waiting, (cost, order, label))
+                waiting.add(cost, label)
             elif abs(cost - known.cost) <= SAME and step and known.step and step[0] != known.step[0]:
                 best[label] = known._replace(other=step[0])
 
@@ -322,7 +320,7 @@ class Follower:
         if not waiting:
             return Lost("no line is near its start", self.plane.degrees(self.course.points[0]))
         while waiting:
-            cost, _, label = heapq.heappop(waiting)
+            cost, label = waiting.take()
             if cost > best[label].cost:
                 continue
             if isinstance(label, str):

@@ -28,11 +28,16 @@ class MapRefused(Failure):
 
 class Limits(NamedTuple):
     """How far, in metres, and by which share of their length the courses of the same road may differ, and the greatest share of
-    the lines that may be removed."""
+    the lines that may be removed. `more` is how many metres of their length may differ whatever the share."""
 
     tolerance: float
     length: float
     dropped: float
+    more: float = 0.0
+
+    def slack(self, length: float) -> float:
+        """How many decimetres longer or shorter than a road of this length the same one may be."""
+        return max(length * self.length, 10 * self.more)
 
 
 def percent(text: str) -> float:
@@ -98,7 +103,7 @@ class Matcher:
 
     def __init__(self, old: State, new: State, limits: Limits):
         self.old, self.new = old, new
-        self.tolerance, self.share = limits.tolerance, limits.length
+        self.tolerance, self.limits = limits.tolerance, limits
         self.out: Dict[int, List[int]] = {}
         self.cells: Dict[Tuple[int, int], List[int]] = {}
         self.found: Dict[Lines, Lines] = {}
@@ -137,7 +142,7 @@ class Matcher:
         waiting: Deque[Tuple[int, int, Lines]] = deque([(start, 0, ())])
         while waiting and least:
             node, far, route = waiting.popleft()
-            slack = course.length * self.share + len(route) + 1
+            slack = self.limits.slack(course.length) + len(route) + 1
             if route and node in ends and abs(far - course.length) < min(least, slack + 1):
                 new = Course(self.new, route)
                 if new.is_near(course, self.tolerance) and course.is_near(new, self.tolerance):

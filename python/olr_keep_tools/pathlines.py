@@ -4,7 +4,6 @@ from __future__ import annotations
 
 import bisect
 import enum
-import heapq
 import itertools
 import math
 from collections import defaultdict
@@ -13,6 +12,7 @@ from typing import Union
 
 from .courses import DRAWN, Ends, Found, Ground, Lost, Plane, Polyline, Strip, Wish, follow
 from .geo import METRES
+from .routes import Waiting
 from .streets import is_inside, wkb_parts
 
 AGAINST = 1e6  # the cost of a street against its geometry where its direction isn't given
@@ -101,16 +101,16 @@ class Row(NamedTuple):
     """A line of the table."""
 
     number: int
+    start: int
+    end: int
+    frc: str
+    fow: str
+    length: int
     street: str
+    direction: str
     part: int
     k: int
     along: bool
-    start: int
-    end: int
-    length: int
-    frc: str
-    fow: str
-    direction: str
     points: Course
 
     @property
@@ -140,8 +140,8 @@ class Edited(NamedTuple):
     fresh: Set[str]
 
 
-COLUMNS = """line.line, line.street, part, k, along, from_node, to_node, length, split_part(fields, ',', 1),
-    split_part(fields, ',', 2), street.direction, ST_AsBinary(geom, 'NDR')"""
+COLUMNS = """line.line, from_node, to_node, split_part(fields, ',', 1), split_part(fields, ',', 2), length, line.street,
+    street.direction, part, k, along, ST_AsBinary(geom, 'NDR')"""
 LINES = "olr_keep.line join olr_keep.street on street.street = line.street"
 
 
@@ -485,8 +485,7 @@ class Route:
                 final[row.part] = max(final[row.part], row.k)
             self.legs.append(Leg(mark, rows, leaving, final))
         self.best: Dict[Mark, Tuple[Optional[Mark], Row, int]] = {}
-        self.waiting: List[Tuple[float, int, int, Row, Optional[Mark], int]] = []
-        self.order = 0
+        self.waiting: Waiting[Tuple[int, Row, Optional[Mark], int]] = Waiting()
 
     def is_first(self, leg: int, row: Row) -> bool:
         """Whether a line is the first of its part, in its direction."""
@@ -544,20 +543,15 @@ class Route:
             for it in self.legs[leg + 1].leaving.get(row.end, ()):
                 yield 0 if mark or it.along else AGAINST, leg + 1, it
 
-    def push(self, cost: float, leg: int, row: Row, before: Optional[Mark], cut: int) -> None:
-        """Queues a line of a leg, or with the leg after the last one the end."""
-        self.order += 1
-        heapq.heappush(self.waiting, (cost, self.order, leg, row, before, cut))
-
     def search(self) -> Result:
-        """The lines, or why there are none."""
+        """The lines, or why there are none. What waits is a line of a leg, or with the leg after the last one the end."""
         furthest, ends = 0, self.last.course if self.last else (None, None)
         for cost, row, cut in self.starts():
-            self.push(cost + row.length / 10, 0, row, None, cut)
+            self.waiting.add(cost + row.length / 10, (0, row, None, cut))
         if not self.waiting:
             return Lost(f"its start is not on street {self.marked[0][1]}", ends[0])
         while self.waiting:
-            cost, _, leg, row, before, cut = heapq.heappop(self.waiting)
+            cost, (leg, row, before, cut) = self.waiting.take()
             if leg == len(self.legs):
                 return self.found(before, cut)
             label = leg, row.number
@@ -566,10 +560,10 @@ class Route:
             self.best[label] = before, row, cut
             furthest = max(furthest, leg)
             if leg == len(self.legs) - 1 and (end := self.ending(row)):
-                self.push(cost + end[0], leg + 1, row, label, end[1])
+                self.waiting.add(cost + end[0], (leg + 1, row, label, end[1]))
             for more, after, it in self.following(leg, row):
                 if (after, it.number) not in self.best:
-                    self.push(cost + more + it.length / 10, after, it, label, 0)
+                    self.waiting.add(cost + more + it.length / 10, (after, it, label, 0))
         if furthest < len(self.legs) - 1:
             a, b = self.marked[furthest][1], self.marked[furthest + 1][1]
             return Lost(f"street {a} does not lead to street {b}", None)

@@ -1,8 +1,9 @@
-"""Shortest routes over the lines of a map."""
+"""Shortest routes over the lines of a map, and the queue of any such search."""
 import heapq
 import math
-from typing import Callable, Dict, Iterable, Iterator, List, Optional, Tuple
+from typing import Callable, Dict, Generic, Iterable, Iterator, List, Optional, Tuple, TypeVar
 
+Label = TypeVar("Label")
 
 # A line that leaves a node: its number, the node where it ends, and its length.
 Step = Tuple[int, int, float]
@@ -49,3 +50,24 @@ class Search:
             line, node = self.last[node]
             lines.append(line)
         return lines[::-1]
+
+
+class Waiting(Generic[Label]):
+    """What a search has reached and not settled yet: the cheapest first, of equally cheap ones the one that came first."""
+
+    def __init__(self) -> None:
+        self.heap: List[Tuple[float, int, Label]] = []
+        self.count = 0
+
+    def __bool__(self) -> bool:
+        return bool(self.heap)
+
+    def add(self, cost: float, label: Label) -> None:
+        """Adds a label that is reached at this cost."""
+        self.count += 1
+        heapq.heappush(self.heap, (cost, self.count, label))
+
+    def take(self) -> Tuple[float, Label]:
+        """Takes the next one, with its cost."""
+        cost, _, label = heapq.heappop(self.heap)
+        return cost, label

@@ -79,11 +79,6 @@ class Made(NamedTuple):
     fields: str
     places: Part
 
-    @property
-    def loop(self) -> Optional[bool]:
-        """What distinguishes two lines of one stretch that have the same ends."""
-        return self.along if self.start == self.end else None
-
 
 class Old(NamedTuple):
     """A line of the earlier cut."""
@@ -98,10 +93,10 @@ class Old(NamedTuple):
     nth: int
     fields: str
 
-    @property
-    def loop(self) -> Optional[bool]:
-        """What distinguishes two lines of one stretch that have the same ends."""
-        return self.along if self.start == self.end else None
+
+def ends_of(line: Union[Made, Old]) -> Tuple[int, int, Optional[bool]]:
+    """The ends of a line; if they are the same, also its direction, which distinguishes the two lines of the stretch."""
+    return line.start, line.end, line.along if line.start == line.end else None
 
 
 class Unfit(NamedTuple):
@@ -251,8 +246,8 @@ def lines_of(key: str, street: Street, meeting: Container[int], node_at: Mapping
                 if street.direction in ("both", "along" if along else "against"):
                     a, b = node_at[places[0 if along else -1]], node_at[places[-1 if along else 0]]
                     line = Made(key, index, k, along, a, b, 0, length, fields[not along], places[:: 1 if along else -1])
-                    counts[a, b, line.loop] += 1
-                    yield line._replace(nth=counts[a, b, line.loop])
+                    counts[ends_of(line)] += 1
+                    yield line._replace(nth=counts[ends_of(line)])
 
 
 # ---- numbers that stay
@@ -332,7 +327,7 @@ def kept_lines(made: Sequence[Made], old: Iterable[Old], nodes: Mapping[int, int
                     del free[match.number]
                     found[index] = match.number
 
-    for key in (lambda it: (it.street, it.start, it.end, it.loop)), (lambda it: (it.start, it.end, it.loop)):
+    for key in (lambda it: (it.street, *ends_of(it))), ends_of:
         pair(key, lambda line, it: line.fields == it.fields)
         if not free:
             break

@@ -242,7 +242,7 @@ class FakeFinder(Finder):
 
 def row(number: int, street: str, north: float = 0, frc: str = "3") -> Row:
     """A line of 100 m."""
-    return Row(number, street, 0, 0, True, 1, 2, 1000, frc, "3", "both", (degrees(0, north), degrees(100, north)))
+    return Row(number, 1, 2, frc, "3", 1000, street, "both", 0, 0, True, (degrees(0, north), degrees(100, north)))
 
 
 NULL_STREET: Any = [None]

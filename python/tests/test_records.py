@@ -5,9 +5,12 @@ import tempfile
 import unittest
 from typing import List
 
+from olr_keep._records import is_one_record as is_record
+from olr_keep._replies import Explained
 from olr_keep_tools.records import Batch, Records, RecordsError, State, decimal, is_open_after, line_of, units, word_of
 from olr_keep_tools.rejected import advice
 from olr_keep_tools.replies import Head, NoReply, is_one_record, read_reply
+from olr_keep_tools.strings import reference_of
 
 
 class Fields(unittest.TestCase):
@@ -35,8 +38,10 @@ class Words(unittest.TestCase):
     def test_one_record(self) -> None:
         for text in ("node,1,0,0", '"node",1,0,0', 'no"de,1,0,0', '"a""b",c', "a,\"b,c\""):
             self.assertTrue(is_one_record(text), text)
+            self.assertTrue(is_record(text.encode()), text)
         for text in ("", "a\n", '"a', 'a,"b', "a\rb", '"a\nb"'):
             self.assertFalse(is_one_record(text), text)
+            self.assertFalse(is_record(text.encode()), text)
 
     def test_batch(self) -> None:
         batch: Batch[str] = Batch()
@@ -54,6 +59,17 @@ class Words(unittest.TestCase):
         for word, after in (("node", False), ("begin", True), ("node", True), ("commit", False), ("abort", False)):
             is_open = is_open_after(word, is_open)
             self.assertEqual(is_open, after, word)
+
+
+class Strings(unittest.TestCase):
+    """The module olr_keep, which is installed alone, and the tools read strings alike."""
+
+    def test_coordinates(self) -> None:
+        lines = ("first,285496,2309750,3,3,4,11,9", "next,-2171,150,3,3,5,2,0", "last,155,-454,3,3,20", "positive,12")
+        rows = [it.split(",") for it in lines]
+        found, wanted = Explained.of(lines), reference_of((word, list(map(int, more))) for word, *more in rows)
+        self.assertEqual([(it.lon, it.lat, it.sector) for it in found.points], [(it.lon, it.lat, it.sector) for it in wanted.points])
+        self.assertEqual((found.positive, found.negative), (wanted.positive, wanted.negative))
 
 
 class Replies(unittest.TestCase):

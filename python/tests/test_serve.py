@@ -1,13 +1,15 @@
 """Tests of the parts of the service, without the program."""
+import collections
 import io
 import os
 import random
 import sqlite3
 import tempfile
 import unittest
-from typing import List, Tuple
+from typing import Any, Deque, List, Tuple
+from unittest import mock
 
-from olr_keep_tools.serve import logfile
+from olr_keep_tools.serve import exchange, logfile
 from olr_keep_tools.serve.framing import NoReply, Replies
 from olr_keep_tools.serve.jobs import Change, Job, Kind, batch, dropped, preview, question_about
 from olr_keep_tools.serve.lines import Input, Sort
@@ -24,6 +26,60 @@ class Owner:
 
     def finish(self, job: Job) -> None:
         """Nothing is noted."""
+
+
+class Source(Owner):
+    """A connection with jobs."""
+
+    is_slow = False
+
+    def __init__(self) -> None:
+        self.unsent: Deque[Job] = collections.deque()
+
+    def sent(self, size: int) -> None:
+        """Nothing is noted."""
+
+
+class Windows(unittest.TestCase):
+    """How many records are sent before their replies have arrived."""
+
+    def setUp(self) -> None:
+        self.now, self.written = 0.0, b""
+        clock = mock.patch("time.monotonic", lambda: self.now)
+        clock.start()
+        self.addCleanup(clock.stop)
+        self.passed, self.source = exchange.Exchange(lambda *_: None, lambda: True), Source()
+        program: Any = mock.Mock(write=self.write)
+        self.passed.connect(program)
+
+    def write(self, text: bytes) -> None:
+        self.written += text
+
+    def carry_out(self, records: bytes, rate: float) -> None:
+        """Has records carried out, so many in a second."""
+        kind = Kind.CHANGES if records.startswith(b"node") else Kind.QUESTION
+        self.source.unsent.append(Job(self.source, kind, records, records.count(b"\n")))
+        self.passed.offer(self.source)
+        while self.written:
+            count = min(1000, self.written.count(b"\n"))
+            self.written = self.written.split(b"\n", count)[count]
+            self.now += count / rate
+            self.passed.take_output(b"ok,0\n" * count)
+
+    def test_window(self) -> None:
+        """It is what is carried out in a tenth of a second. A question that takes long, or few records, say nothing of that."""
+        self.carry_out(b"report\n", 1 / 30)
+        self.assertEqual(self.passed.window, exchange.FIRST_WINDOW)
+        nodes = b"node,1,0,0\n" * 200_000
+        self.carry_out(nodes, 500_000)
+        self.assertAlmostEqual(self.passed.window, 50_000, delta=10_000)
+        self.carry_out(nodes[:1100], 100)
+        self.assertAlmostEqual(self.passed.window, 50_000, delta=10_000)
+        self.carry_out(nodes, 1000)
+        self.assertLess(self.passed.window, 200)
+        self.now += 1
+        self.carry_out(nodes, 500_000)
+        self.assertAlmostEqual(self.passed.window, 50_000, delta=10_000)
 
 
 class Framing(unittest.TestCase):
@@ -70,6 +126,17 @@ class Lines(unittest.TestCase):
         self.assertEqual([it for it, _ in self.sorts(b"x" * (1 << 20) + b"\n")], [Sort.OTHER])
 
 
+def taken(job: Job, replies: bytes) -> bytes:
+    """What the owner of a job gets for the program's replies to it."""
+    source, found = Replies(), b""
+    source.feed(replies)
+    while job.done < job.count:
+        span = source.take(job.next_most())
+        assert span is not None
+        found += job.take(span)
+    return found
+
+
 class Jobs(unittest.TestCase):
     def test_batch(self) -> None:
         """A batch gives the reply to its commit alone, with the first change that was rejected."""
@@ -78,13 +145,8 @@ class Jobs(unittest.TestCase):
             (b"ok,0\nheld,1\nfault,6,NoLine\nfault,16,CountDiffers\nok,0\n", b"fault,16,CountDiffers,2,6,NoLine\n", []),
             (b"ok,0\nheld,1\nheld,2\nfault,13,Memory\nok,0\n", b"fault,13,Memory\n", []),
         ):
-            job, source, found = batch(Owner(), b"drop-path,b\npath,a,0,0,1\n", 2), Replies(), b""
-            source.feed(replies)
-            while job.done < job.count:
-                span = source.take(job.next_most())
-                assert span is not None
-                found += job.take(span)
-            self.assertEqual((found, job.changes), (wanted, changes))
+            job = batch(Owner(), b"drop-path,b\npath,a,0,0,1\n", 2)
+            self.assertEqual((taken(job, replies), job.changes), (wanted, changes))
 
     def test_preview(self) -> None:
         """A preview gives its own reply, or the first change that was rejected, and changes nothing."""
@@ -93,13 +155,8 @@ class Jobs(unittest.TestCase):
             (b"ok,0\nheld,1\nfault,6,NoLine\nok,0\nok,0\n", b"fault,16,CountDiffers,2,6,NoLine\n"),
             (b"ok,0\nheld,1\nheld,2\nfault,13,Memory\nok,0\n", b"fault,13,Memory\n"),
         ):
-            job, source, found = preview(Owner(), b"drop-path,b\npath,a,0,0,1\n", 2), Replies(), b""
-            source.feed(replies)
-            while job.done < job.count:
-                span = source.take(job.next_most())
-                assert span is not None
-                found += job.take(span)
-            self.assertEqual((found, job.changes), (wanted, []))
+            job = preview(Owner(), b"drop-path,b\npath,a,0,0,1\n", 2)
+            self.assertEqual((taken(job, replies), job.changes), (wanted, []))
 
     def test_not_known(self) -> None:
         job = Job(Owner(), Kind.CHANGES, b"node,1,0,0\nset-line,7,1\nrepath,a,0\n", 3, done=1)

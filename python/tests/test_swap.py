@@ -89,6 +89,15 @@ class Carry(unittest.TestCase):
         matcher = Carrier(state_of(*nodes, *lines), state_of(*new, *there), LIMITS).matcher
         self.assertEqual([matcher.same_nodes(it) for it in (1, 2, 3, 4)], [[11], [12], [13], [14]])
 
+    def test_near_nodes_by_their_lines(self) -> None:
+        # Two nodes a metre from each other are each moved to where the other one was.
+        nodes = ["node,2,6,49.001", "node,3,6,49.00101"]
+        roads = ["line,1,1,2,3,3,1112", "line,2,2,3,3,3,11", "line,3,3,4,3,3,2213"]
+        old = state_of(*NODES[:1], *nodes, NODES[3], *roads, PATH)
+        new = ["node,22,6,49.00102", "node,23,6,49.001", "line,4,1,22,3,3,1113", "line,5,22,23,3,3,22", "line,6,23,4,3,3,2224"]
+        carrier = Carrier(old, state_of(NODES[0], *new[:2], NODES[3], *new[2:]), LIMITS._replace(more=5.0))
+        self.assertEqual(carrier.carried(old.paths, lambda _: None)["a"], Carried(Path(100, 201, (4, 5, 6)), How.COURSE))
+
     def test_apart(self) -> None:
         old = state_of(*NODES, *ROAD, "path,a,0,0,1,3")
         self.assertEqual(carried(*NODES, *ROAD, old=old), Carried(Path(0, 0, (1, 3)), How.COURSE))

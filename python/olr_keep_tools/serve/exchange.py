@@ -7,9 +7,9 @@ from olr_keep_tools.serve.framing import NoReply, Replies
 from olr_keep_tools.serve.jobs import Change, Job, Kind, Owner
 from olr_keep_tools.serve.program import Program
 
-LEAST_WINDOW, MOST_WINDOW = 32, 1 << 17  # records whose replies are awaited
+LEAST_WINDOW, FIRST_WINDOW, MOST_WINDOW = 32, 1024, 1 << 17  # records whose replies are awaited
 AHEAD, MEASURED = 0.1, 0.05  # seconds of work that are passed to the program; after how many it is measured how many these are
-PAUSE = 0.01  # seconds without a record, which are not part of what is measured
+PAUSE = 0.01  # seconds without a record, after which it is measured anew
 MOST_BYTES = 4 << 20
 
 
@@ -51,8 +51,8 @@ class Exchange:
         self.counts, self.replies = Counts(), Replies()
         self.program: "Program | None" = None
         self.awaited = self.awaited_bytes = 0
-        self.window, self.last_progress, self.last_end = 1024, 0.0, 0.0
-        self.measured_since, self.measured = 0.0, 0
+        self.window, self.last_progress, self.last_end = FIRST_WINDOW, 0.0, 0.0
+        self.measured_since, self.measured, self.was_full = 0.0, 0, False
 
     def connect(self, program: Program) -> None:
         """Takes a program that was started: nothing was sent to it yet."""
@@ -81,6 +81,7 @@ class Exchange:
             if source.unsent:
                 self.turns.append(source)
                 turns += 1
+        self.was_full |= bool(self.turns) and not self._has_room()
         if texts and self.program:
             self.program.write(b"".join(texts))
 
@@ -96,7 +97,8 @@ class Exchange:
             source.unsent.popleft()
         if not self.sent:
             if now - self.last_progress > PAUSE:
-                self.measured_since, self.measured = now, 0
+                self.window = min(self.window, FIRST_WINDOW)
+                self.measured_since, self.measured, self.was_full = now, 0, False
             self.last_progress = self.last_end = now
         job.sent_at = now
         self.sent.append(job)
@@ -138,12 +140,14 @@ class Exchange:
         job.owner.finish(job)
 
     def _set_window(self, now: float) -> None:
-        """Fits the window to the replies of the last moment in which some were awaited all the time."""
-        seconds = now - self.measured_since
-        if seconds > MEASURED:
-            fitting = min(4 * self.window, int(self.measured / seconds * AHEAD))
-            self.window = max(LEAST_WINDOW, min(fitting, MOST_WINDOW))
-            self.measured_since, self.measured = now, 0
+        """Fits the window to the replies of the last moment in which some were awaited all the time, if it was full: else more
+        could not be sent for another reason, and that so few were carried out says nothing."""
+        seconds = max(now - self.measured_since, 1e-6)
+        if seconds > MEASURED or self.measured >= self.window:
+            if self.was_full:
+                fitting = min(4 * self.window, int(self.measured / seconds * AHEAD))
+                self.window = max(LEAST_WINDOW, min(fitting, MOST_WINDOW))
+            self.measured_since, self.measured, self.was_full = now, 0, False
 
     def disconnect(self) -> None:
         """The program has ended: of the jobs that were sent nothing more is known."""

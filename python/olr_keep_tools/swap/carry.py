@@ -23,7 +23,7 @@ from ..records import Path, Place, State
 
 FAR = 20.0  # metres within which a path is found again
 REPORTED = 1000  # paths between two reports
-TOGETHER = 4  # nodes near each other that are told apart by how all of them are moved
+TOGETHER = 4  # nodes near each other that are told apart by their lines, and by how all of them are moved
 
 Report = Callable[[str], None]
 Anchors = List[Tuple[float, float]]  # positions on the old and on the new lines that are the same place
@@ -138,11 +138,12 @@ class Pairing(Matcher):
         return [it for it in numbers if distance(at, degrees(state.nodes[it])) <= self.tolerance]
 
     def nearest(self, node: int, near: List[int]) -> Optional[int]:
-        """The one of these nodes that this one is: as many nodes around it are all moved alike, else it is the nearest to where
-        this one is moved to, unless that is nearer to another old one."""
+        """The one of these nodes that this one is: as many nodes around it have lines from and to the same places as far as
+        possible, and are moved alike, else it is the nearest to where this one is moved to, unless that is nearer to another old
+        one."""
         rivals = self.near(self.old_cells, self.old, self.old.nodes[node])
         if 1 < len(near) == len(rivals) <= TOGETHER:
-            found = min(itertools.permutations(near), key=lambda it: self.spread(rivals, it))
+            found = min(itertools.permutations(near), key=lambda it: (self.parted(rivals, it), self.spread(rivals, it)))
             return found[rivals.index(node)]
         by = self.displacement(node)
 
@@ -152,6 +153,23 @@ class Pairing(Matcher):
 
         best = min(near, key=lambda it: to(node, it), default=None)
         return best if best is not None and all(to(node, best) <= to(it, best) for it in rivals) else None
+
+    @functools.cached_property
+    def leaving(self) -> Dict[int, List[int]]:
+        """The far ends of the lines that leave each node of the old map."""
+        found: Dict[int, List[int]] = {}
+        for start, end in map(self.old.ends, self.old.lines):
+            found.setdefault(start, []).append(end)
+        return found
+
+    def parted(self, old: Sequence[int], new: Sequence[int]) -> int:
+        """How many lines from nodes to others have none that leaves the new node and leads to the same place."""
+        count = 0
+        for a, b in zip(old, new):
+            ends = [degrees(self.new.nodes[self.new.ends(it)[1]]) for it in self.out.get(b, ())]
+            count += sum(all(distance(degrees(self.old.nodes[it]), there) > self.tolerance for there in ends)
+                         for it in self.leaving.get(a, ()))
+        return count
 
     def spread(self, old: Sequence[int], new: Sequence[int]) -> float:
         """How differently nodes are moved to others: the sum of the squares from the mean."""
@@ -260,7 +278,7 @@ class Carrier:
         if new not in self.new.lines:
             return False
         was, now = Course(self.old, (number,)), Course(self.new, (new,))
-        is_long = abs(was.length - now.length) <= was.length * self.limits.length + 1
+        is_long = abs(was.length - now.length) <= self.limits.slack(was.length) + 1
         return is_long and was.is_near(now, self.limits.tolerance) and now.is_near(was, self.limits.tolerance)
 
     def between(self, number: int) -> Lines:
