@@ -10,7 +10,7 @@ use Rattle.std.proofs.lemmas.List.Concat.{flat_map-append}
 use Rattle.olr_commands.specs.State.{Content, Change, Command, Make, Show, Report, Dump, Explain, Begin, Commit, Abort, State}
 use Rattle.olr_commands.specs.State.{Fault, Map_fault, with_change, after, step, step_in, start_state, full}
 use Rattle.olr_commands.specs.State.{has_path, is_recordable, text_fault, TextFault, unless_fault, No_path, Not_a_record}
-use Rattle.olr_commands.specs.State.{Show_node, Show_line, Depends, Compact, Preview, Ambiguous, has_asked}
+use Rattle.olr_commands.specs.State.{Show_node, Show_line, Show_margin, Depends, Compact, Preview, Ambiguous, has_asked}
 use Rattle.olr_commands.specs.Recordable.{has_node_record, has_line_records}
 use Rattle.std.specs.List.{list_all}
 use Rattle.olr_spec.specs.Map.{has_node, has_line as has_line_of}
@@ -245,6 +245,8 @@ module _ (k lines inner : List ℕ) (c : Content) (r : List Field) where
       follows_same k (record { ready = lines; batch = inner }) c None t
       (same_after c None t (not (has_line_of c.map x)) (not (has_line_records c.map x)) (Map_fault No_line) Not_a_record is) h
   accepted (Some xs) (Show_line x) t e is h = absurd cc
+  accepted b Show_margin t e is h =
+      follows_same k (record { ready = lines; batch = inner }) c b t (let same : record { content = c; batch = b } ≡ t = cc in same) h
   accepted None (Depends nodes) t e is h =
       follows_same k (record { ready = lines; batch = inner }) c None t
       (same_state c None t (not (list_all (has_node c.map) nodes)) (Map_fault No_node) is) h

@@ -8,9 +8,10 @@ use Rattle.olr_spec.specs.Map.{Add_node, Move_node, Drop_node, Drop_line, Edit}
 use Rattle.olr_commands.specs.Recordable.{is_name_byte}
 use Rattle.olr_commands.specs.State.{Change, Command, Make, Add_path, Set_path, Drop_path, On_map, same_name, Show, Report}
 use Rattle.olr_commands.specs.State.{Dump, Explain, Begin, Commit, Abort, Show_node, Show_line, Depends, Compact, Preview, Ambiguous}
+use Rattle.olr_commands.specs.State.{Set_margin, Show_margin}
 use Rattle.olr_records.specs.Records.{Field, Read, ◌⊛◌, number, amount, name, numbers, edit, one, none, node_record, max32}
 use Rattle.olr_records.specs.Records.{forms, read, read_by, few_nodes, depends_record, ambiguous_record, line_record}
-use Rattle.olr_records.specs.Records.{set_line_record, path_fields}
+use Rattle.olr_records.specs.Records.{set_line_record, path_fields, margin_record, digits, class}
 use Rattle.olr_records.proofs.TestLemmas.{◌also◌}
 use Rattle.olr_records.proofs.PlainLemmas.{Plain, AllPlain, Where, digits_plain, name_plain, node_plain, one_plain}
 use Rattle.olr_records.proofs.PlainLemmas.{line_plain, set_line_plain, path_fields_plain}
@@ -83,6 +84,17 @@ ambiguous : Fits (codes "ambiguous") ambiguous_record
 ambiguous [] = record { effect = refl; plain = λ k. absurd k }
 ambiguous (f ∷ fs) = one_fits (codes "ambiguous") (λ n. Ambiguous (Some n)) name refl (λ a f. refl) name_plain (f ∷ fs)
 
+margins : Fits (codes "margin") margin_record
+margins (r ∷ c ∷ []) = by (digits 0 1000 r) (class c) (digits_plain 0 1000 r) (digits_plain 0 7 c)
+  where
+    by : (x y : Read ℕ) → Where x (Plain r) → Where y (Plain c) →
+        IfOk (Ok (λ a b. Make (Set_margin (record { routes = a; classes = b }))) ⊛ x ⊛ y) (KeptAs (codes "margin") (r ∷ c ∷ []))
+    by (Ok a) (Ok b) p q = record { effect = refl; plain = λ _. (refl, (p, (q, tt))) }
+    by (Ok a) (Err d) p q = tt
+    by (Err f) (Ok b) p q = tt
+    by (Err f) (Err d) p q = tt
+margins fs = tt
+
 by_fits : (rs : List (Field × (List Field → Read Command))) → AllByRecursion (λ r. Fits r.0 r.1) rs →
     (word : Field) (fs : List Field) → IfOk (read_by rs word fs) (KeptAs word fs)
 by_fits [] h word fs = tt
@@ -118,6 +130,8 @@ forms_fit =
     also none_fits (codes "compact") Compact refl refl
     also none_fits (codes "preview") Preview refl refl
     also ambiguous
+    also margins
+    also none_fits (codes "show-margin") Show_margin refl refl
     also tt
 
 kept_as : (word : Field) (fs : List Field) (c : Command) → read (word ∷ fs) ≡ Ok c → KeptAs word fs c

@@ -8,6 +8,7 @@ use Rattle.std.proofs.lemmas.Bool.{ne_eqb}
 use Rattle.std.specs.List.{concat}
 use Rattle.std.specs.Option.{option_map_or}
 use Rattle.olr_spec.specs.Map.{Map}
+use Rattle.olr_spec.specs.Margins.{Margin}
 use Rattle.olr_spec.specs.Encoding.{Refusal}
 use Rattle.olr_commands.specs.State.{Named, Content, IsContent, State, Memory, Report}
 use Rattle.olr_commands.specs.Reply.{Entry, Paths, AllOf, Lacks, entry, published_text}
@@ -38,11 +39,11 @@ one_more xs rest name m p t u w e q a h =
     ∙ append_assoc t (entry_line (entry name m.answer)) (lines_of rest)
     ∙ ap (λ (ys : List (List ℕ × Option Made)). t ++ lines_of ys) (sym e) ∙ h
 
-all_of : (M : Map) (ps : List Named) (xs : List (List ℕ × Option Made)) → HaveEncodings M ps xs →
-    (es : List Entry) × AllOf M ps es × (length es ≡ length ps) × (concat (map entry_line es) ≡ lines_of xs)
-all_of M [] xs h = ([], refl, refl, rw h refl)
-all_of M (p ∷ ps) xs (m, rest, encoding, more, is) =
-    let r = all_of M ps rest more in (
+all_of : (g : Margin) (M : Map) (ps : List Named) (xs : List (List ℕ × Option Made)) → HaveEncodings g M ps xs →
+    (es : List Entry) × AllOf g M ps es × (length es ≡ length ps) × (concat (map entry_line es) ≡ lines_of xs)
+all_of g M [] xs h = ([], refl, refl, rw h refl)
+all_of g M (p ∷ ps) xs (m, rest, encoding, more, is) =
+    let r = all_of g M ps rest more in (
       entry p.name m.answer ∷ r.0,
       (m.answer, r.0, encoding.answer, r.1, refl),
       ap suc r.2,
@@ -54,7 +55,7 @@ pub report_of : (register : Registered) (xs rest : List (List ℕ × Option Made
     → AllPublished register.kept.content xs → n ≡ length register.kept.content.paths → mid ≡ before ++ count_line n →
     rest ≡ [] → after ++ lines_of rest ≡ mid ++ lines_of xs → IsReport register (λ lines. after ≡ before ++ lines)
 report_of register xs rest before mid after n h count first none last s represents =
-    let r = all_of s.content.map s.content.paths xs (subst (λ (c : Content). AllPublished c xs) represents.0 h) in
+    let r = all_of s.content.margin s.content.map s.content.paths xs (subst (λ (c : Content). AllPublished c xs) represents.0 h) in
     let size : n ≡ length (map entry_line r.0) =
     count ∙ ap (λ (c : Content). length c.paths) represents.0 ∙ sym r.2 ∙ sym (length-map r.0 entry_line) in
     let head : mid ≡ before ++ count_line (length (map entry_line r.0)) = first ∙ ap (λ k. before ++ count_line k) size in (

@@ -70,6 +70,7 @@ kind_by (rust.Edit e) = kind.Change
 kind_by (rust.AddPath name lines p n) = kind.Change
 kind_by (rust.SetPath name lines p n) = kind.Change
 kind_by (rust.DropPath name) = kind.Change
+kind_by (rust.SetMargin g) = kind.Change
 kind_by rust.Begin = kind.Begin
 kind_by (rust.Commit count) = kind.Commit count
 kind_by _ = kind.Other

@@ -55,7 +55,7 @@ answer_text (Err line) = line.now
 abbrev pub IsReport : Registered → (List ℕ → Type 0) → Type 0
 IsReport register P =
     (s : State) → Represents register.kept s
-    → (es : List Entry) × AllOf s.content.map s.content.paths es × P (reply_text (Paths es))
+    → (es : List Entry) × AllOf s.content.margin s.content.map s.content.paths es × P (reply_text (Paths es))
 
 -- the text was written, or an allocation failed, or only its first bytes were written
 abbrev pub WritesText : {S : Type 0} → (S → Event → S → Type 0) → S → List ℕ → S → Result Bool RunFault → Bool → Type 0

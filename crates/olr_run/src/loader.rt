@@ -90,9 +90,11 @@ fn kind_of(command: &Command) -> Kind
     ensures { result ≡ kind_by command.now }
 {
     match command {
-        Command::Edit(_) | Command::AddPath(..) | Command::SetPath(..) | Command::DropPath(_) => {
-            Kind::Change
-        }
+        Command::Edit(_)
+        | Command::AddPath(..)
+        | Command::SetPath(..)
+        | Command::DropPath(_)
+        | Command::SetMargin(_) => Kind::Change,
         Command::Begin => Kind::Begin,
         Command::Commit(count) => Kind::Commit(*count),
         _ => Kind::Other,

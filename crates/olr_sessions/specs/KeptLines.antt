@@ -15,11 +15,11 @@ use Rattle.olr_sessions.specs.declared.unkept.Effect.TheVariants as effect
 
 -- ---- records
 
--- the words of the records that change a map or paths
+-- the words of the records that change a map, paths or the margin
 abbrev pub change_words : List (List ℕ)
 change_words =
     codes "line" ∷ codes "node" ∷ codes "set-line" ∷ codes "move" ∷ codes "drop-node" ∷ codes "drop-line" ∷ codes "path"
-    ∷ codes "repath" ∷ codes "drop-path" ∷ []
+    ∷ codes "repath" ∷ codes "drop-path" ∷ codes "margin" ∷ []
 
 abbrev pub is_change : List ℕ → Bool
 is_change word = list_any (bytes_eq word) change_words

@@ -18,7 +18,7 @@ use std::mem;
 pub enum Effect {
     /// Nothing: it asks a question, or no command has its form.
     Nothing,
-    /// It changes the map or the paths, at once or in the open batch.
+    /// It changes the map, the paths or the margin, at once or in the open batch.
     Change,
     /// It opens a batch.
     Begin,
@@ -37,7 +37,7 @@ fn is(word: &[u8], text: &[u8]) -> bool
     word.iter().eq(text)
 }
 
-/// Whether a word is that of a record that changes the map or the paths.
+/// Whether a word is that of a record that changes the map, the paths or the margin.
 fn is_change(word: &[u8]) -> bool
     ensures { result ≡ lines.is_change word.now }
 {
@@ -50,6 +50,7 @@ fn is_change(word: &[u8]) -> bool
         || is(word, b"path")
         || is(word, b"repath")
         || is(word, b"drop-path")
+        || is(word, b"margin")
 }
 
 /// The effect of a record with this word, alone or with further fields.
