@@ -22,9 +22,9 @@ const ABOUT: &str = "Keeps published OpenLR strings correct while the road map i
 const VERSION: &str = "2.0.0, proved with logic dac8208d650f15bf";
 
 const AFTER_HELP: &str =
-    "Records: node, move, drop-node, line, set-line, drop-line, path, repath, drop-path,
-show, show-node, show-line, depends, report, dump, compact, ambiguous, explain, begin, preview,
-commit, abort.
+    "Records: node, move, drop-node, line, set-line, drop-line, path, repath, drop-path, margin,
+show, show-node, show-line, show-margin, depends, report, dump, compact, ambiguous, explain,
+begin, preview, commit, abort.
 docs/LIMITS.md: fields, limits, faults.
 Replies: `ok,N` and N lines, `held,N` in a batch, `fault,NUMBER,WORD`.
 Example: olr-keep < examples/morning.csv
