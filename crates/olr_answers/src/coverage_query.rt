@@ -11,8 +11,8 @@ pub struct CoverageQuery {
     pub from: NodeId,
     /// The node of the last position that it tested.
     pub to: NodeId,
-    /// The distance between these along the path, in decimetres: at most 150,000. If the position is not covered,
-    /// another route may be shorter.
+    /// The length that the path's lines between these count, in decimetres: at most 300,000, and without a margin at
+    /// most 150,000. If the position is not covered, another route may be shorter.
     pub within: u32,
 }
 

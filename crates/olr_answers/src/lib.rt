@@ -1,11 +1,13 @@
-//! Paths, their answers, and the coverage queries by which an encoding was found: what the encoder makes, and what commands
-//! and records speak of.
+//! Paths, the margin with which they are encoded, their answers, and the coverage queries by which an encoding was found:
+//! what the encoder takes and makes, and what commands and records speak of.
 #![tactic(auto)]
 
 pub mod answer;
 mod coverage_query;
+mod margin;
 mod path;
 
 pub use answer::{Answer, Refusal};
 pub use coverage_query::{CoverageQuery, KnownQuery};
+pub use margin::Margin;
 pub use path::{Path, PathFault};
