@@ -8,7 +8,9 @@ use Rattle.olr_commands.specs.State.{Content, IsContent, State}
 use Rattle.olr_journal.specs.Logs.{kept_of, left_of, is_own_of, is_clean}
 use Rattle.olr_journal.specs.declared.folder.Folder as folder
 use Rattle.olr_journal.specs.declared.log_file.LogFile.{LogFile}
-use Rattle.olr_run.proofs.Dumped.{content_dump_leads}
+use Rattle.std.specs.List.{concat}
+use Rattle.olr_commands.specs.Dump.{dump_lines}
+use Rattle.olr_run.proofs.Dumped.{content_dump_leads, dump_leads}
 use Rattle.olr_run.proofs.LogRecords.{same_content}
 use Rattle.olr_run.proofs.Running.{represented}
 use Rattle.olr_run.proofs.Sending.{faulted_sent, ran_sent}
@@ -39,7 +41,7 @@ module _ {D F : Type 0} {d : disk.Ghosts D} {f : folder.Ghosts F D} where
       is_own_of read ≡ is_own_of log → kept_of read ≡ kept_of log → ((t : List ℕ) → left_of read t → left_of log t)
       → (is_clean read ≡ true → (c : Content) × IsContentOf (kept_of log) c × Represents register.kept (closed c))
       → (is_clean read ≡ true → (c : Content) → Leads (kept_of log) c → Represents register.kept (closed c))
-      → (is_own_of read ≡ true → is_clean start ≡ true → kept_of start ≡ kept_of read)
+      → (is_own_of read ≡ true → is_clean start ≡ true → (kept_of start ≡ kept_of read) ⊎ AreRecordsOf register (kept_of start))
       → (is_own_of read ≡ false → AreRecordsOf register (kept_of start))
       → (Only (kept_of read) (left_of read) → Only (kept_of start) (left_of start)) → Begins log read start register
   begins_from log read start register sound own same less content leads kept renewed durable =
@@ -51,19 +53,26 @@ module _ {D F : Type 0} {d : disk.Ghosts D} {f : folder.Ghosts F D} where
         only = λ before. durable (λ t left. before t (less t left) ∙ sym same);
       }
     where
+      rewritten : (c : Content) → Represents register.kept (closed c) → (IsContent c → Leads (concat (dump_lines c)) c)
+          → AreRecordsOf register (kept_of start) → Leads (kept_of start) c
+      rewritten c represents led records =
+          subst (λ (x : List ℕ). Leads x c) (sym (records c represents)) (led (represented register (closed c) sound represents))
+
       by_own : (b : Bool) → is_own_of read ≡ b → is_clean read ≡ true → is_clean start ≡ true → (c : Content) →
           BeginsWith b (kept_of log) c → Represents register.kept (closed c) × Leads (kept_of start) c
-      by_own true is clean now c l =
-          (leads clean c l, subst (λ (x : List ℕ). Leads x c) (sym (kept is now ∙ same)) l)
+      by_own true is clean now c l = (
+        leads clean c l,
+        elim (kept is now) [
+          | inl still ↦ subst (λ (x : List ℕ). Leads x c) (sym (still ∙ same)) l
+          | inr records ↦ rewritten c (leads clean c l) (dump_leads (kept_of log) c l) records
+        ],
+      )
       by_own false is clean now c l =
           let there = content clean in
           let e : there.0 ≡ c = same_content (kept_of log) there.0 c there.1 l in
           let represents : Represents register.kept (closed c) =
-          subst (λ (x : Content). Represents register.kept (closed x)) e there.2 in (
-            represents,
-            subst (λ (x : List ℕ). Leads x c) (sym (renewed is c represents))
-                (content_dump_leads (kept_of log) c l (represented register (closed c) sound represents)),
-          )
+          subst (λ (x : Content). Represents register.kept (closed x)) e there.2 in
+          (represents, rewritten c represents (content_dump_leads (kept_of log) c l) (renewed is))
 
   -- a log that may have been replaced before the start failed
   pub unbegun_after : (log read last : LogFile D F d f) (register : Registered) → kept_of read ≡ kept_of log →

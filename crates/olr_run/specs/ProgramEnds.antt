@@ -8,7 +8,7 @@ use Rattle.sqlite_disk.specs.declared.Disk as disk
 use Rattle.olr_arguments.specs.Explains.{Explains}
 use Rattle.olr_arguments.specs.Opens.{IsFile}
 use Rattle.olr_arguments.specs.Options.{Options, keep_app, options}
-use Rattle.olr_arguments.specs.Sizes.{NoSize}
+use Rattle.olr_arguments.specs.Sizes.{IsLength, NoSize}
 use Rattle.olr_journal.specs.declared.folder.Folder as folder
 use Rattle.olr_journal.specs.declared.log_file.LogFile.{LogFile}
 use Rattle.olr_register.specs.Registered.{Registered}
@@ -41,7 +41,7 @@ module _ {D F : Type 0} {d : disk.Ghosts D} {f : folder.Ghosts F D} {W : Type 0}
       No_size : (text : List ℕ) → asked.compact_at ≡ Some text → NoSize text → p ≡ o → left ≡ opened → code ≡ 2 → LogEnds asked left code
       Not_opened : (file : List ℕ) → asked.file ≡ Some file → Opened file None → p ≡ o → left ≡ opened → code ≡ 3 →
           LogEnds asked left code
-      From_log : (file : Known) → IsFile asked.file Opened file → (log last : LogFile D F d f) → opened ≡ Some log →
+      From_log : (n : ℕ) → IsLength asked.compact_at (Some n) → (file : Known) → IsFile asked.file Opened file → (log last : LogFile D F d f) → opened ≡ Some log →
           left ≡ Some last
           → FromLog log last asked.stop (records_read asked.lines file input) o p code
           → LogEnds asked left code

@@ -15,7 +15,7 @@ use crate::both::read_inputs;
 use crate::logged::run_with_log;
 use crate::starts::{RejectedRecord, StartFault, begin_with};
 use crate::streams::NO_FILE;
-use olr_arguments::{Options, WRONG_ARGUMENTS, compaction_length, open_file};
+use olr_arguments::{CompactionLength, Options, WRONG_ARGUMENTS, compaction_length, open_file};
 use olr_journal::{Folder, LogFile, OpenError};
 use olr_register::Register;
 use olr_sessions::{Buffered, LogFault, RunFault, Status, end_status, report_fault};
@@ -158,7 +158,7 @@ fn report_begun<E: Write>(name: &str, records: u64, paths: usize, errors: &mut E
 struct Asked<'a> {
     name: &'a str,
     /// The least length of the log that is replaced by the records of the register.
-    renewed_from: usize,
+    from: CompactionLength,
     /// Whether to stop at the first rejected record.
     stop: bool,
 }
@@ -203,7 +203,7 @@ fn run_from_log<
     ensures lacks { length (held output.new) ≤ most_held }
 {
     let mut log = log;
-    let (mut register, records) = match begin_with(alloc, &mut log) {
+    let (mut register, records) = match begin_with(alloc, &mut log, asked.from) {
         Ok(begun) => begun,
         Err(fault) => return (report_start(asked.name, fault, errors), log),
     };
@@ -214,7 +214,7 @@ fn run_from_log<
         file,
         input,
         log,
-        asked.renewed_from,
+        asked.from,
         output,
         asked.stop,
     );
@@ -255,7 +255,7 @@ pub fn with_log<
         let _ = errors.write_all(b"olr-keep: cannot open the command file\n");
         return (NO_FILE, log.ok());
     };
-    let Some(renewed_from) = compaction_length(asked.compact_at) else {
+    let Some(from) = compaction_length(asked.compact_at) else {
         let _ = errors.write_all(
             b"olr-keep: --compact-at takes bytes, or a number with K, M or G, as 500M\n",
         );
@@ -267,7 +267,7 @@ pub fn with_log<
     };
     let run = Asked {
         name,
-        renewed_from,
+        from,
         stop: asked.stop,
     };
     let Ok((file, input)) = read_inputs(alloc, file, input, asked.lines) else {
