@@ -2,7 +2,7 @@
 use Rattle.olr_run.proofs.Common.{IfErr, Outcome, Field, Known, Records, RunFault, Registered}
 use Rattle.olr_run.proofs.Common.{Represents, exit_code, is_ok, EndedOn}
 use Rattle.std.proofs.Common.{◌≡◌, ◌∙◌, ◌⊎◌, ℕ, Bool, true, false, List, inl, inr, refl, sym, subst}
-use Rattle.std.specs.Prelude.{IfOk, OnOk, OnErr, Result, Ok, Err, IsTrue}
+use Rattle.std.specs.Prelude.{IfOk, OnOk, OnErr, Result, Ok, Err, IsTrue, is_some}
 use Rattle.sqlite_disk.specs.declared.Disk as disk
 use Rattle.olr_commands.specs.State.{Content, IsContent, State}
 use Rattle.olr_journal.specs.Logs.{kept_of, left_of, is_own_of, is_clean}
@@ -18,7 +18,7 @@ use Rattle.std.proofs.KnownBytes.{Keeps-refl}
 use Rattle.olr_run.specs.LogEnds.{AreRecordsOf, Begins, BeginsWith, LastsOn, Unbegun}
 use Rattle.olr_run.specs.Logged.{closed, Leads, Survives, UpTo}
 use Rattle.olr_run.specs.Logs.{LastsWhole, LastsCut}
-use Rattle.olr_run.specs.ProgramEnds.{FromLog, Ran, Cut_off}
+use Rattle.olr_run.specs.ProgramEnds.{FromLog, Ran, Cut_off, ended_code}
 use Rattle.olr_run.specs.Restored.{IsContentOf}
 use Rattle.olr_sessions.specs.Buffers.{written}
 use Rattle.olr_sessions.specs.Journals.{Only}
@@ -136,7 +136,7 @@ module _ {D F : Type 0} {d : disk.Ghosts D} {f : folder.Ghosts F D} where
       (stop : Bool) (old new : Registered) (records : Records) (code : ℕ) → Begins log read start old
       → EndedOn (LastsWhole kept_of left_of contents start o g p) (LastsCut kept_of left_of contents start o g p) stop old
       records (written contents o) new (written contents p) r
-      → IfOk r (λ status. (code ≡ exit_code (Ok status)) ⊎ (code ≡ 6))
+      → IfOk r (λ status. code ≡ ended_code status (is_some new.kept.batch))
       → IfErr r (λ e. code ≡ exit_code (Err e)) → FromLog contents log last stop records o p code
   ended_from contents log read start last o p g (Ok end) cut stop old new records code begins run status fault =
       Ran read start old new begins end

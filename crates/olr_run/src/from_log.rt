@@ -4,8 +4,7 @@ ghost use Rattle.std.specs.Prelude.{◌≡◌, ◌≤◌, ◌⊎◌, ℕ, List, 
 ghost use Rattle.olr_arguments.specs.Opens.{Opens};
 ghost use Rattle.olr_arguments.specs.Options.{options_of};
 ghost use Rattle.olr_journal.specs.Logs.{kept_of, left_of};
-ghost use Rattle.olr_run.specs.ProgramEnds.{FromLog, LogEnds};
-ghost use Rattle.std.specs.Result.{result_ok};
+ghost use Rattle.olr_run.specs.ProgramEnds.{FromLog, LogEnds, UnopenedCode, ended_code};
 ghost use Rattle.olr_run.specs.Runs.{both_records, file_bytes};
 ghost use Rattle.olr_sessions.specs.Buffers.{held};
 ghost use Rattle.olr_sessions.specs.Statuses.{exit_code};
@@ -38,8 +37,7 @@ const IN_USE: u8 = 7;
 
 /// Reports why a log can't be opened, and returns the exit status.
 fn report_unopened<E: Write>(name: &str, error: OpenError, errors: &mut E) -> u8
-    ensures least { 2 ≤ result }
-    ensures bounded { result ≤ 7 }
+    ensures { UnopenedCode error result }
 {
     match error {
         OpenError::Missing => {
@@ -64,8 +62,7 @@ fn report_unopened<E: Write>(name: &str, error: OpenError, errors: &mut E) -> u8
 
 /// Reports why a log can't be used, and returns the exit status.
 fn report_unusable<E: Write>(name: &str, error: io::Error, errors: &mut E) -> u8
-    ensures least { 3 ≤ result }
-    ensures bounded { result ≤ 5 }
+    ensures { (result ≡ 3) ⊎ (result ≡ 4) }
 {
     if error.kind() == io::ErrorKind::OutOfMemory {
         return report_fault(RunFault::Memory, errors);
@@ -121,9 +118,9 @@ fn log_status<E: Write>(
     in_batch: bool,
     errors: &mut E,
 ) -> u8
-    ensures ended { IfOk ended (λ status. (result ≡ exit_code (Ok status)) ⊎ (result ≡ 6)) }
+    ensures ended { IfOk ended (λ status. result ≡ ended_code status in_batch) }
     ensures cut { IfErr ended (λ fault. result ≡ exit_code (Err fault)) }
-    ensures whole { result ≤ 1 → is_ok ended ≡ true }
+    ensures whole { (result ≤ 1) ⊎ (result ≡ 6) → is_ok ended ≡ true }
     ensures bounded { result ≤ 7 }
 {
     if let (Err(_), Some(fault)) = (ended, fault) {
@@ -199,7 +196,7 @@ fn run_from_log<
         (both_records (file_bytes F.remaining file) (R.remaining input))
         output.old output.new result.0 }
     ensures bounded { result.0 ≤ 7 }
-    ensures sent { result.0 ≤ 1 → held output.new ≡ [] }
+    ensures sent { (result.0 ≤ 1) ⊎ (result.0 ≡ 6) → held output.new ≡ [] }
     ensures lacks { length (held output.new) ≤ most_held }
 {
     let mut log = log;
@@ -244,10 +241,10 @@ pub fn with_log<
     errors: &mut E,
 ) -> (u8, Option<LogFile<D, G>>)
     requires { O.IsAlwaysCallable opener }
-    ensures ends { LogEnds W.contents (Opens O.FnOnce F.remaining opener) (result_ok log) (R.remaining input) output.old
+    ensures ends { LogEnds W.contents (Opens O.FnOnce F.remaining opener) log (R.remaining input) output.old
         output.new (options_of asked.now) result.1 result.0 }
     ensures bounded { result.0 ≤ 7 }
-    ensures sent { result.0 ≤ 1 → held output.new ≡ [] }
+    ensures sent { (result.0 ≤ 1) ⊎ (result.0 ≡ 6) → held output.new ≡ [] }
     ensures lacks { length (held output.new) ≤ most_held }
 {
     let name = asked.log.unwrap_or("the log");
