@@ -2,7 +2,7 @@
 use Rattle.olr_run.proofs.Common.{IfErr, Outcome, Field, Known, Records, RunFault, Registered}
 use Rattle.olr_run.proofs.Common.{Represents, exit_code, is_ok, EndedOn}
 use Rattle.std.proofs.Common.{◌≡◌, ◌∙◌, ◌⊎◌, ℕ, Bool, true, false, List, inl, inr, refl, sym, subst}
-use Rattle.std.specs.Prelude.{IfOk, OnOk, OnErr, Result, Ok, Err, IsTrue, is_some}
+use Rattle.std.specs.Prelude.{IfOk, OnOk, Result, Ok, Err, IsTrue, is_some}
 use Rattle.sqlite_disk.specs.declared.Disk as disk
 use Rattle.olr_commands.specs.State.{Content, IsContent, State}
 use Rattle.olr_journal.specs.Logs.{kept_of, left_of, is_own_of, is_clean}
@@ -25,10 +25,6 @@ use Rattle.olr_sessions.specs.Journals.{Only}
 use Rattle.olr_sessions.specs.declared.buffered.Buffered.{Buffered}
 use Rattle.olr_sessions.specs.declared.ends.Status.{Status}
 use Rattle.olr_sessions.specs.declared.gate.Gate.{Gate}
-
-pub always_err : {A E : Type 0} (r : Result A E) (P : Type 0) → P → OnErr r P
-always_err (Ok a) P h = tt
-always_err (Err e) P h = h
 
 pub on_true : {A E : Type 0} (r : Result A E) (P : Type 0) → OnOk r P → is_ok r ≡ true → P
 on_true (Ok a) P h e = h
@@ -75,12 +71,12 @@ module _ {D F : Type 0} {d : disk.Ghosts D} {f : folder.Ghosts F D} where
           (represents, rewritten c represents (content_dump_leads (kept_of log) c l) (renewed is))
 
   -- a log that may have been replaced before the start failed
-  pub unbegun_after : (log read last : LogFile D F d f) (register : Registered) → kept_of read ≡ kept_of log →
+  pub unbegun_after : (log read last : LogFile D F d f) (rejected : Bool) (register : Registered) → kept_of read ≡ kept_of log →
       ((t : List ℕ) → left_of read t → left_of log t)
       → (is_clean read ≡ true → (c : Content) × IsContentOf (kept_of log) c × Represents register.kept (closed c))
       → ((t : List ℕ) → left_of last t → left_of read t ⊎ (t ≡ kept_of read) ⊎ AreRecordsOf register t)
-      → Unbegun log last
-  unbegun_after log read last register same less content cut = (
+      → rejected ≡ false → Unbegun log last rejected
+  unbegun_after log read last rejected register same less content cut fails = (
     read,
     same,
     λ t left. elim (cut t left) [
@@ -90,6 +86,7 @@ module _ {D F : Type 0} {d : disk.Ghosts D} {f : folder.Ghosts F D} where
         | inr records ↦ inr (λ clean. let k = content clean in (k.0, k.1, records k.0 k.2))
       ])
     ],
+    λ is. absurd (let never : true ≡ false = sym is ∙ fails in cc),
   )
 
   pub cut_from : (j k last : LogFile D F d f) (ok : Bool) → k ≡ j →
@@ -98,9 +95,11 @@ module _ {D F : Type 0} {d : disk.Ghosts D} {f : folder.Ghosts F D} where
   cut_from j k last ok e cut =
       subst (λ (x : LogFile D F d f). (t : List ℕ) → left_of last t → left_of x t ⊎ (IsTrue ok × (t ≡ kept_of x))) e cut
 
-  pub unbegun_read : (log read : LogFile D F d f) → kept_of read ≡ kept_of log →
-      ((t : List ℕ) → left_of read t → left_of log t) → Unbegun log read
-  unbegun_read log read same less = (read, same, λ t left. inl (less t left))
+  pub unbegun_read : (log read : LogFile D F d f) (rejected : Bool) → kept_of read ≡ kept_of log →
+      ((t : List ℕ) → left_of read t → left_of log t)
+      → (rejected ≡ true → is_clean read ≡ true → (c : Content) → IsContentOf (kept_of log) c → ⊥)
+      → Unbegun log read rejected
+  unbegun_read log read rejected same less refused = (read, same, λ t left. inl (less t left), refused)
 
   -- ---- the end
 

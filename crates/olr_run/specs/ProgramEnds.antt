@@ -2,7 +2,7 @@
 --     FromLog      a run from a log that was opened
 --     LogEnds      by what the arguments ask for
 --     ProgramEnds      by the arguments
-use Rattle.std.specs.Prelude.{◌≡◌, ◌⊎◌, ℕ, Bool, List, [], Option, Some, None, Result, Ok, Err, is_some, if◌then◌else◌}
+use Rattle.std.specs.Prelude.{◌≡◌, ◌⊎◌, ℕ, Bool, true, false, List, [], Option, Some, None, Result, Ok, Err, is_some, if◌then◌else◌}
 use Rattle.clap.specs.Faults.{fault_of}
 use Rattle.sqlite_disk.specs.declared.Disk as disk
 use Rattle.olr_arguments.specs.Explains.{Explains}
@@ -31,6 +31,11 @@ UnopenedCode unopened.Exists code = code ≡ 2
 UnopenedCode (unopened.InUse process) code = code ≡ 7
 UnopenedCode (unopened.Io error) code = (code ≡ 3) ⊎ (code ≡ 4)
 
+-- of a log from which no run began: 5 exactly if it was rejected
+abbrev pub UnbegunCode : Bool → ℕ → Type 0
+UnbegunCode true code = code ≡ 5
+UnbegunCode false code = (code ≡ 3) ⊎ (code ≡ 4)
+
 -- of a run that was not cut off: 6 exactly if a batch is open
 abbrev pub ended_code : Status → Bool → ℕ
 ended_code end in_batch = if in_batch then 6 else exit_code (Ok end)
@@ -38,7 +43,8 @@ ended_code end in_batch = if in_batch then 6 else exit_code (Ok end)
 module _ {D F : Type 0} {d : disk.Ghosts D} {f : folder.Ghosts F D} {W : Type 0} (contents : W → Known) where
   -- A run from a log that was opened: it could not begin, and nothing was answered; or it ended, or was cut off.
   pub data FromLog (log last : LogFile D F d f) (stop : Bool) (records : Records) (o p : Buffered W) (code : ℕ) : Type 0 where
-    Not_begun : p ≡ o → 3 ≤ code → code ≤ 5 → Unbegun log last → FromLog log last stop records o p code
+    Not_begun : p ≡ o → (rejected : Bool) → UnbegunCode rejected code → Unbegun log last rejected →
+        FromLog log last stop records o p code
     Ran : (read start : LogFile D F d f) (old new : Registered) → Begins log read start old → (end : Status) →
         RanOn (LastsOn contents start o last p) stop old records (written contents o) new (written contents p) end
         → code ≡ ended_code end (is_some new.kept.batch) → FromLog log last stop records o p code

@@ -4,7 +4,8 @@ ghost use Rattle.std.specs.Prelude.{◌≡◌, ◌≤◌, ◌⊎◌, ℕ, List, 
 ghost use Rattle.olr_arguments.specs.Opens.{Opens};
 ghost use Rattle.olr_arguments.specs.Options.{options_of};
 ghost use Rattle.olr_journal.specs.Logs.{kept_of, left_of};
-ghost use Rattle.olr_run.specs.ProgramEnds.{FromLog, LogEnds, UnopenedCode, ended_code};
+ghost use Rattle.olr_run.specs.LogEnds.{is_rejected};
+ghost use Rattle.olr_run.specs.ProgramEnds.{FromLog, LogEnds, UnbegunCode, UnopenedCode, ended_code};
 ghost use Rattle.olr_run.specs.Runs.{both_records, file_bytes};
 ghost use Rattle.olr_sessions.specs.Buffers.{held};
 ghost use Rattle.olr_sessions.specs.Statuses.{exit_code};
@@ -92,8 +93,7 @@ fn report_rejected<E: Write>(name: &str, rejected: RejectedRecord, errors: &mut 
 
 /// Reports why a run can't begin with a log, and returns the exit status.
 fn report_start<E: Write>(name: &str, fault: StartFault, errors: &mut E) -> u8
-    ensures least { 3 ≤ result }
-    ensures bounded { result ≤ 5 }
+    ensures { UnbegunCode (is_rejected fault) result }
 {
     match fault {
         StartFault::Unusable(error) => report_unusable(name, error, errors),

@@ -1,12 +1,12 @@
 //! A start from a log in a file.
 
-ghost use Rattle.std.specs.Prelude.{◌≡◌, ◌⊎◌, true, false, ℕ, List, if◌then◌else◌, IfOk, OnOk, OnErr};
+ghost use Rattle.std.specs.Prelude.{◌≡◌, ◌⊎◌, true, false, ℕ, List, IfOk, IfErr, OnOk};
 ghost use Rattle.olr_commands.specs.State.{Content};
 ghost use Rattle.olr_journal.specs.Logs.{kept_of, left_of, is_own_of, is_clean};
 ghost use Rattle.olr_register.specs.RegisterState.{Represents};
 ghost use Rattle.olr_run.specs.Logged.{closed, Leads};
-ghost use Rattle.olr_run.specs.LogEnds.{AreRecordsOf, BegunFrom, Unbegun};
-ghost use Rattle.olr_run.specs.Restored.{IsContentOf};
+ghost use Rattle.olr_run.specs.LogEnds.{AreRecordsOf, BegunFrom, Unbegun, is_rejected};
+ghost use Rattle.olr_run.specs.Restored.{IsContentOf, is_rejection};
 ghost use Rattle.olr_sessions.specs.Journals.{Only};
 
 use crate::answers::records_text;
@@ -46,7 +46,9 @@ pub enum StartFault {
 }
 
 /// The fault of a call on a log that failed.
-fn log_fault(error: io::Error) -> StartFault {
+fn log_fault(error: io::Error) -> StartFault
+    ensures { is_rejected result ≡ false }
+{
     if error.kind() == io::ErrorKind::OutOfMemory {
         return StartFault::Memory;
     }
@@ -54,7 +56,9 @@ fn log_fault(error: io::Error) -> StartFault {
 }
 
 /// The fault of a log whose records can't be carried out, at this record on this line.
-fn records_fault(fault: RestoreFault, record: u64, line: u64) -> StartFault {
+fn records_fault(fault: RestoreFault, record: u64, line: u64) -> StartFault
+    ensures { is_rejected result ≡ is_rejection fault }
+{
     match fault {
         RestoreFault::Memory => StartFault::Memory,
         RestoreFault::Rejected(fault) => StartFault::Rejected(RejectedRecord {
@@ -98,6 +102,8 @@ fn read_log<D: Disk + Drop, G: Folder<D>>(
         → (c : Content) × IsContentOf (kept_of log.old) c × Represents r.0.kept (closed c)) }
     ensures leads { IfOk result (λ r. is_clean log.new ≡ true
         → (c : Content) → Leads (kept_of log.old) c → Represents r.0.kept (closed c)) }
+    ensures refused { IfErr result (λ e. is_rejected e ≡ true → is_clean log.new ≡ true
+        → (c : Content) → IsContentOf (kept_of log.old) c → ⊥) }
     ensures kept { kept_of log.new ≡ kept_of log.old }
     ensures own { is_own_of log.new ≡ is_own_of log.old }
     ensures less { (t : List ℕ) → left_of log.new t → left_of log.old t }
@@ -128,6 +134,7 @@ fn put_records<D: Disk + Drop, G: Folder<D>>(
     ensures own { IfOk result (λ done. done ≡ false → is_own_of log.new ≡ is_own_of log.old) }
     ensures durable { Only (kept_of log.old) (left_of log.old) → OnOk result (Only (kept_of log.new) (left_of log.new)) }
     ensures cut { (t : List ℕ) → left_of log.new t → left_of log.old t ⊎ AreRecordsOf register.now t }
+    ensures fails { IfErr result (λ e. is_rejected e ≡ false) }
 {
     let Ok(text) = records_text(register) else {
         return Ok(false);
@@ -149,6 +156,7 @@ fn rewrite<D: Disk + Drop, G: Folder<D>>(
     ensures kept { OnOk result (AreRecordsOf register.now (kept_of log.new)) }
     ensures durable { Only (kept_of log.old) (left_of log.old) → OnOk result (Only (kept_of log.new) (left_of log.new)) }
     ensures cut { (t : List ℕ) → left_of log.new t → left_of log.old t ⊎ AreRecordsOf register.now t }
+    ensures fails { IfErr result (λ e. is_rejected e ≡ false) }
 {
     let is_done = put_records(log, register)?;
     if is_done {
@@ -165,6 +173,7 @@ fn settle<D: Disk + Drop, G: Folder<D>>(log: &mut LogFile<D, G>) -> Result<(), S
     ensures kept { OnOk result (is_clean log.new ≡ true → kept_of log.new ≡ kept_of log.old) }
     ensures durable { Only (kept_of log.old) (left_of log.old) → OnOk result (Only (kept_of log.new) (left_of log.new)) }
     ensures cut { (t : List ℕ) → left_of log.new t → left_of log.old t ⊎ (t ≡ kept_of log.old) }
+    ensures fails { IfErr result (λ e. is_rejected e ≡ false) }
 {
     match log.settle() {
         Ok(()) => Ok(()),
@@ -183,6 +192,7 @@ fn compact<D: Disk + Drop, G: Folder<D>>(
     ensures durable { Only (kept_of log.old) (left_of log.old) → OnOk result (Only (kept_of log.new) (left_of log.new)) }
     ensures cut { (t : List ℕ) → left_of log.new t
         → left_of log.old t ⊎ (t ≡ kept_of log.old) ⊎ AreRecordsOf register.now t }
+    ensures fails { IfErr result (λ e. is_rejected e ≡ false) }
 {
     let is_done = put_records(log, register)?;
     if is_done {
@@ -206,6 +216,7 @@ fn prepare_log<D: Disk + Drop, G: Folder<D>>(
     ensures durable { Only (kept_of log.old) (left_of log.old) → OnOk result (Only (kept_of log.new) (left_of log.new)) }
     ensures cut { (t : List ℕ) → left_of log.new t
         → left_of log.old t ⊎ (t ≡ kept_of log.old) ⊎ AreRecordsOf register.now t }
+    ensures fails { IfErr result (λ e. is_rejected e ≡ false) }
 {
     if !log.is_own() {
         return rewrite(log, register);
@@ -224,7 +235,7 @@ pub fn begin_with<D: Disk + Drop, G: Folder<D>>(
     from: CompactionLength,
 ) -> Result<(Register, u64), StartFault>
     ensures begun { IfOk result (λ r. BegunFrom log.old log.new r.0) }
-    ensures unbegun { OnErr result (Unbegun log.old log.new) }
+    ensures unbegun { IfErr result (λ e. Unbegun log.old log.new (is_rejected e)) }
 {
     let (register, records) = read_log(alloc, log)?;
     register.is_sound();

@@ -2,6 +2,7 @@
 use Rattle.std.proofs.Common.{◌≡◌, Bool, refl, subst}
 use Rattle.std.specs.Prelude.{IfOk, is_ok}
 use Rattle.olr_run.proofs.Common.{both_records, file_bytes}
+use Rattle.olr_run.specs.LogEnds.{is_rejected}
 use Rattle.olr_run.specs.ProgramEnds.{Not_begun, ended_code}
 use Rattle.olr_sessions.specs.declared.ends.Status.{Status}
 use Rattle.olr_run.proofs.FromLogs.{cut_from, ended_from, on_true}
@@ -9,7 +10,7 @@ use Rattle.olr_run.proofs.from_log.run_from_log.Goals as goal
 
 pub returns-in-Err-clause-ends : goal.returns-in-Err-clause-ends
 returns-in-Err-clause-ends g c =
-    Not_begun refl c.report_start.ensures.least c.report_start.ensures.bounded c.in-Err.ensures.unbegun
+    Not_begun refl (is_rejected c.in-Err.fault) c.report_start.ensures c.in-Err.ensures.unbegun
 
 pub returns-clause-ends : goal.returns-clause-ends
 returns-clause-ends g c =
