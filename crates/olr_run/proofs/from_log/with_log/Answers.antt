@@ -26,9 +26,9 @@ returns-in_default-compaction_length-clause-ends g c =
 pub returns-in_default-read_inputs-clause-ends : goal.returns-in_default-read_inputs-clause-ends
 returns-in_default-read_inputs-clause-ends g c =
     let file = file_bytes g.F.Read.remaining c.in-Ok.file in
-    From_log file
+    From_log c.in-Some.«from».bytes c.in-Some.ensures file
     (file_is g.O.FnOnce g.F.Read.remaining c.args.opener (options_of c.args.asked.now).file c.in-Ok.file
-    c.in-Ok.ensures) c.in-Ok-log.log c.in-Ok-log.log (rw c.in-Ok-log.is refl) refl
+    c.in-Ok.ensures) c.in-Ok-log.log c.in-Ok-log.log c.in-Ok-log.is refl
     (not_read g.W.Write.contents c.in-Ok-log.log c.args.asked.now.stop
     (records_read c.args.asked.now.lines file (g.R.Read.remaining c.args.input)) c.args.output.now c.report_fault.result
     c.report_fault.ensures)
@@ -38,9 +38,9 @@ returns-clause-ends g c =
     let file = file_bytes g.F.Read.remaining c.in-Ok.file in
     let read = c.in-Ok-read_inputs in
     let last = c.run_from_log-status.result.1 in
-    From_log file
+    From_log c.in-Some.«from».bytes c.in-Some.ensures file
     (file_is g.O.FnOnce g.F.Read.remaining c.args.opener (options_of c.args.asked.now).file c.in-Ok.file
-    c.in-Ok.ensures) c.in-Ok-log.log last (rw c.in-Ok-log.is refl) refl
+    c.in-Ok.ensures) c.in-Ok-log.log last c.in-Ok-log.is refl
     (subst (λ (records : Records).
     FromLog g.W.Write.contents c.in-Ok-log.log last c.args.asked.now.stop records c.args.output.now
     c.run_from_log-status.new.output c.run_from_log-status.result.0)
