@@ -12,7 +12,7 @@ from typing import Any, Dict, List, Mapping, NamedTuple, Optional, Sequence, Set
 from . import livesession as session
 from .command import say
 from .liveprogram import LiveProgram
-from .livemap import Affected, MapUpdate, Numbers
+from .livemap import Affected, MapUpdate, Numbers, write_all_open_ends
 from .livepaths import PathsUpdate
 from .liveread import BLOCK, Change, Reader
 from .liverounds import Limits, Round
@@ -85,7 +85,7 @@ class Attempt:
         count, done, analyzed, said = change.count, 0, MANY, time.monotonic()
         margin = max(30, 2 * self.settings.tolerance) * METRE
         for block in self.reader.blocks():
-            records = MapUpdate(self.cursor, block, self.numbers, self.affected, margin).run()
+            records = MapUpdate(self.cursor, block, self.numbers, self.affected, margin, count <= BLOCK).run()
             if self.live.program:
                 self.records += records
             done = min(count, done + BLOCK)
@@ -97,6 +97,8 @@ class Attempt:
                 said = time.monotonic()
                 say(f"{done} of {count} streets")
                 self.live.write_metrics(False)
+        if count > BLOCK:
+            write_all_open_ends(self.cursor)
         self.live.progress = 0, 0
 
     def answers(self) -> Dict[str, str]:
