@@ -18,6 +18,7 @@ NEAR = 0.005  # degrees of the cells in which changes are near each other
 MOST_CELLS = 20_000  # changed streets of a round of which cells are kept
 GAP = 1.0  # metres between the end of a street and another street that are taken for a fault
 LAST = (1 << 32) - 1  # the greatest number of a node or a line
+AHEAD = 1 << 24  # numbers of a preview beyond the last ones
 ESCAPES = str.maketrans({"\\": "\\\\", "\t": "\\t", "\n": "\\n", "\r": "\\r"})  # of COPY
 
 
@@ -25,12 +26,13 @@ Box = Tuple[float, float, float, float]
 
 
 class Numbers:
-    """New numbers of nodes, lines, rounds and holds. They are taken when the round is published."""
+    """New numbers of nodes, lines, rounds and holds. They are taken when the round is published. A preview takes those that are
+    `ahead` by so many, since a round that takes the same ones would wait for its end."""
 
-    def __init__(self, cursor: Any) -> None:
+    def __init__(self, cursor: Any, ahead: int = 0) -> None:
         self.cursor = cursor
         cursor.execute("select kind, last from olr_keep.counter")
-        self.last: Dict[str, int] = dict(cursor.fetchall())
+        self.last: Dict[str, int] = {kind: last + ahead for kind, last in cursor.fetchall()}
         self.before = dict(self.last)
 
     def take(self, kind: str, count: int) -> List[int]:
