@@ -366,6 +366,23 @@ def draft(server):
     print("live: what a draft would make of each path is printed, and is what its edits make of it; nothing changes")
 
 
+def ambiguous(server):
+    """A twin of a street makes a string ambiguous that doesn't change, and is mended again."""
+    with Case(server, "ambiguous") as case:
+        case.save(*comb(3))
+        texts = case.texts()
+        case.save(ROW + f"(9, 3, 3, 'both', {line((6.10081, 49.60001), (6.10081, 49.60199))})")
+        query = "select string_agg(path || ' ' || ambiguous, ' ' order by path) from olr_keep.path_state"
+        case.expect(query, "p6100000 false p6100001 false p6100002 true", "the twin is not named")
+        if case.texts() != texts:
+            fail("ambiguous: a string is another one")
+        if case.ask("select distinct name from olr_keep.ambiguity where geom is not null and words like 'point _: %'") != [("p6100002",)]:
+            fail(f"ambiguous: named are {case.ask('select * from olr_keep.ambiguity')}")
+        case.save("delete from streets where id = 9")
+        case.expect("select count(*) from olr_keep.ambiguity", 0, "what is mended is named")
+    print("live: a string that a twin line makes ambiguous is named, though it does not change")
+
+
 def refused_drafts(case, command):
     """No draft, and one that can't be read."""
     for change, status, words in (("alter table draft.streets rename class to kind", 3, "draft.streets: column"),
@@ -669,7 +686,7 @@ def listens(server):
         fail("docs/LIVE.md: a consumer has to listen before it reads")
 
 
-CASES = (rights, parts, stopped, service_road, drift, two_roads, one_save, held_cluster, limits, during_attempt, frozen, draft,
+CASES = (rights, parts, stopped, service_road, drift, two_roads, one_save, held_cluster, limits, during_attempt, frozen, draft, ambiguous,
          bad_paths, expressions, tables, numbers, upgrade, listens)
 
 

@@ -7,7 +7,7 @@ from typing import Any, Dict, List, Mapping, NamedTuple, Optional, Sequence
 from .files import replacing
 from .geo import Degrees, distance
 from .geojson import collection
-from .liveambiguous import in_words, obstacles
+from .liveambiguous import named_places, obstacles
 from .livepaths import Placed, PathsUpdate
 from .liveprogram import LiveProgram
 from .liverounds import Answer
@@ -52,13 +52,13 @@ class Draft:
         """What becomes of each path, the worst first: `answers` are those that are others now."""
         now = self.published("name = any(%s::text[])", (text_array(paths.found),))
         named = obstacles(self.program)
-        more = in_words(self.cursor, {name: it for name, it in named.items() if name not in self.named})
+        more = named_places(self.cursor, {name: it for name, it in named.items() if name not in self.named})
         found = []
         for name in sorted({*self.before, *answers}):
             was, answer = self.before.get(name), answers.get(name)
             course = now[name].course if name in now else was.course if was else ()
             it = verdict(name, was, answer or (was.answer if was else Answer(None, "new")), paths.found.get(name), course)
-            found.append(it._replace(ambiguous=more.get(name, ())) if it.kind is not Kind.LOST else it)
+            found.append(it._replace(ambiguous=tuple(more.get(name, ()))) if it.kind is not Kind.LOST else it)
         return worst_first(found)
 
 

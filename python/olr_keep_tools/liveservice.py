@@ -11,6 +11,7 @@ from typing import Any, Dict, List, Mapping, NamedTuple, Optional, Sequence, Set
 
 from . import livesession as session
 from .command import STREAM, USAGE, Failure, say
+from .liveambiguous import write_ambiguities
 from .livedraft import Draft, DraftSettings, write_report
 from .liveprogram import LiveProgram
 from .livemap import AHEAD, Affected, MapUpdate, Numbers, write_all_open_ends
@@ -157,6 +158,7 @@ class Live:
         self.program: Optional[LiveProgram] = None
         self.totals = collections.Counter(rounds=0, restarts=0)
         self.last_round = self.last_seconds = self.written = self.compared = 0.0
+        self.changed, self.asked, self.ask_after = time.monotonic(), 0.0, 0.0
         self.counts: Dict[str, float] = {}
         self.progress, self.failed, self.would_hold = (0, 0), 0, False
         self.forget()
@@ -296,6 +298,7 @@ class Live:
 
     def count_round(self, seconds: float) -> None:
         """Counts a round that was published."""
+        self.changed = time.monotonic()
         self.totals["rounds"] += 1
         self.last_round, self.last_seconds = time.time(), seconds
 
@@ -321,6 +324,14 @@ class Live:
             self.stale -= missing.keys()
         self.without_triggers = missing
         self.unread = {}
+
+    def ask_ambiguous(self) -> None:
+        """Asks the program which strings are ambiguous, if some changed, and nothing was saved for a while. On a great map that
+        takes seconds: at most a twentieth of the time is spent on it."""
+        now = time.monotonic()
+        if self.program and self.changed > self.asked and now > max(self.changed + WATCH, self.ask_after):
+            write_ambiguities(self.cursor, self.program)
+            self.asked, self.ask_after = now, now + 20 * (time.monotonic() - now)
 
     def start(self) -> None:
         """Opens the session, waits until no other process works, and finds which tables there are."""
@@ -360,6 +371,7 @@ class Live:
             if time.monotonic() - looked > WATCH:
                 looked = time.monotonic()
                 self.look()
+                self.ask_ambiguous()
         return 128 + self.stopping[0]
 
     def run(self) -> int:

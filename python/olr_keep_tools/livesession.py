@@ -84,7 +84,7 @@ def connect(database: str, idle: int) -> Any:
 
 def check_schema(cursor: Any) -> None:
     """Fails if the schema is missing, or that of another version."""
-    cursor.execute("select to_regclass('olr_keep.waiting') is null or to_regprocedure('olr_keep.mend_triggers(int)') is null")
+    cursor.execute("select to_regclass('olr_keep.ambiguity') is null")
     if cursor.fetchone()[0]:
         raise psycopg2.ProgrammingError("the database has no schema olr_keep, or that of another version: run tools/live.sql")
 

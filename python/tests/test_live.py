@@ -8,6 +8,8 @@ from typing import Any, Dict, Iterator, List, Mapping, Optional, Sequence, Tuple
 
 from olr_keep_tools.courses import CELL, DRAWN, Ends, Found, Ground, Lost, Network, Strip, Wish, cells_along, follow
 from olr_keep_tools.forked import Forked
+from olr_keep_tools.liveambiguous import Obstacle, named_places, obstacles, write_ambiguities
+from olr_keep_tools.livedraft import Was, verdict
 from olr_keep_tools.liveprogram import LiveProgram, Sent
 from olr_keep_tools.livemap import LAST, Affected, Numbers, cell_of, copy_line
 from olr_keep_tools.livepaths import PathsUpdate, Search, is_there, places_hex
@@ -50,11 +52,16 @@ class FakeCursor:
         self.rows = rows or {}
         self.found: List[Tuple[Any, ...]] = []
         self.queries: List[str] = []
+        self.copied: List[Tuple[str, int, str]] = []
 
     def execute(self, query: str, _: Any = None) -> None:
         """Remembers a query, and finds its rows."""
         self.queries.append(query)
         self.found = next((list(rows) for key, rows in self.rows.items() if key in query), [])
+
+    def copy_expert(self, query: str, file: Any, size: int) -> None:
+        """Remembers what is copied."""
+        self.copied.append((query, size, file.read()))
 
     def fetchall(self) -> List[Tuple[Any, ...]]:
         """All rows."""
@@ -476,6 +483,7 @@ SCRIPT = """#!/bin/sh
 while read -r record; do
     case $record in
         bad*) echo fault,1,Syntax ;;
+        ambiguous) printf 'ok,2\\na,0,sector,7\\na,1,node,9\\n' ;;
         report) printf 'ok,2\\na,text,X\\nb,refused,1,7\\n' ;;
         commit*) printf 'ok,1\\na,text,Y\\n' ;;
         slow) sleep 1.5; echo ok,0 ;;
@@ -483,6 +491,31 @@ while read -r record; do
     esac
 done
 """
+
+
+class Drafts(unittest.TestCase):
+    """What becomes of a path in a draft."""
+
+    COURSE = [degrees(0), degrees(1000)]
+    WAS = Was(Answer("CwRWsSNFbxpcYv/+AG8aBg==", None), COURSE)
+
+    def kind(self, was: Optional[Was], now: Answer, course: Sequence[Tuple[float, float]]) -> str:
+        """The verdict."""
+        return verdict("p", was, now, None, course).kind.value
+
+    def test_verdicts(self) -> None:
+        text = self.WAS.answer
+        far = [degrees(0, 15), degrees(1000, 15)]
+        self.assertEqual(self.kind(self.WAS, text, self.COURSE), "same string")
+        self.assertEqual(self.kind(self.WAS, Answer("CwRWsSNFbxpcY//+AG8aBg==", None), self.COURSE), "same road")
+        self.assertEqual(self.kind(self.WAS, text, far), "other road")
+        self.assertEqual(self.kind(self.WAS, DROPPED, []), "lost")
+        self.assertEqual(self.kind(None, text, self.COURSE), "without a string before")
+        self.assertEqual(self.kind(Was(Answer(None, "lost"), []), text, self.COURSE), "without a string before")
+
+    def test_why_lost(self) -> None:
+        self.assertEqual(verdict("p", self.WAS, DROPPED, None, []).why, "an operator removed it")
+        self.assertEqual(verdict("p", self.WAS, Answer(None, "refused,3"), None, []).why, "it is not encodable there")
 
 
 class Programs(unittest.TestCase):
@@ -511,6 +544,16 @@ class Programs(unittest.TestCase):
     def test_answers(self) -> None:
         self.assertEqual(self.program.answers(["node,1,0,0"]), {"a": "text,Y"})
         self.assertEqual(self.program.answers([]), {})
+
+    def test_ambiguities(self) -> None:
+        named = obstacles(self.program)
+        self.assertEqual(named, {"a": [Obstacle(0, "sector", 7), Obstacle(1, "node", 9)]})
+        cursor = FakeCursor({"select line": [(7, "s", "POINT(1 2)")], "select node": [(9, "6.1,49.6", "POINT(6.1 49.6)")]})
+        places = named_places(cursor, named)
+        self.assertEqual(list(places["a"].values()), ["POINT(1 2)", "POINT(6.1 49.6)"])
+        self.assertIn("point 0: another line of street s", next(iter(places["a"])))
+        write_ambiguities(cursor, self.program)
+        self.assertEqual([len(it[2].splitlines()) for it in cursor.copied], [2])
 
     def test_rejected(self) -> None:
         with self.assertRaisesRegex(ProgramFailed, "fault,1,Syntax"):
