@@ -120,8 +120,12 @@ class PathsUpdate:
         finder, edited = Finder(self.cursor, self.tolerance), Edited(self.affected.moved, self.affected.fresh)
         wanted, known = self.read(names, finder)
         good = [it for it in wanted.values() if not it.fault()]
-        finder.read_streets({marked_street(street)[1] for it in good for street in it.streets or ()})
-        finder.read_near(it.course for it in good if it.course and not is_there(known.get(it.name), finder))
+        sought = [it for it in good if not is_there(known.get(it.name), finder)]
+        was = [known[it.name][0] for it in sought if it.name in known]
+        streets = [*(it.streets or () for it in good), *(it.streets for it in was)]
+        finder.read_streets({marked_street(it)[1] for several in streets for it in several})
+        courses = [*(it.course for it in sought), *(it.course for it in was), *(it.said_course for it in was)]
+        finder.read_near(it for it in courses if it)
         return Search(self, names, finder, edited, wanted, known)
 
     def write(self, search: Search) -> None:
