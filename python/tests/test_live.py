@@ -1,18 +1,24 @@
 """Tests of the steps of tools/live: cutting, reading, finding paths, holding, numbers, and what is sent to the program."""
+import functools
 import os
 import tempfile
+import time
 import unittest
 from typing import Any, Dict, Iterator, List, Mapping, Optional, Sequence, Tuple
 
-from olr_keep_tools.courses import DRAWN, Ends, Found, Ground, Lost, Wish, follow
+from olr_keep_tools.courses import CELL, DRAWN, Ends, Found, Ground, Lost, Network, Strip, Wish, cells_along, follow
+from olr_keep_tools.forked import Forked
+from olr_keep_tools.liveambiguous import Obstacle, named_places, obstacles, write_ambiguities
+from olr_keep_tools.livedraft import Was, verdict
 from olr_keep_tools.liveprogram import LiveProgram, Sent
 from olr_keep_tools.livemap import LAST, Affected, Numbers, cell_of, copy_line
-from olr_keep_tools.livepaths import PathsUpdate, places_hex
+from olr_keep_tools.livepaths import PathsUpdate, Search, is_there, places_hex
 from olr_keep_tools.liveread import Change, Fate, Known, StreetRow, cell, changed, fate_of, is_plain
 from olr_keep_tools.liverounds import DROPPED, Answer, Clusters, Counts, Effect, Limits, Round, Waiting
 from olr_keep_tools.livesession import Source, row_query
 from olr_keep_tools.pathlines import Known as KnownPath
-from olr_keep_tools.pathlines import Edited, Finder, PathSearch, Road, Row, State, Wanted, WhereItWas, pieces_of, text_array
+from olr_keep_tools.pathlines import (Edited, Finder, PathSearch, Road, Row, State, Wanted, WhereItWas, boxes_of, cells_near,
+                                      marked_street, text_array)
 from olr_keep_tools.program import ProgramFailed
 from olr_keep_tools.streets import Old, Recut, Street, Unfit, place_of, street_of
 
@@ -46,11 +52,16 @@ class FakeCursor:
         self.rows = rows or {}
         self.found: List[Tuple[Any, ...]] = []
         self.queries: List[str] = []
+        self.copied: List[Tuple[str, int, str]] = []
 
     def execute(self, query: str, _: Any = None) -> None:
         """Remembers a query, and finds its rows."""
         self.queries.append(query)
         self.found = next((list(rows) for key, rows in self.rows.items() if key in query), [])
+
+    def copy_expert(self, query: str, file: Any, size: int) -> None:
+        """Remembers what is copied."""
+        self.copied.append((query, size, file.read()))
 
     def fetchall(self) -> List[Tuple[Any, ...]]:
         """All rows."""
@@ -210,10 +221,46 @@ class Courses(unittest.TestCase):
         found = follow([degrees(0), degrees(300)], self.ROADS, 20.0)
         self.assertIsInstance(found, Lost)
 
-    def test_pieces(self) -> None:
-        pieces = pieces_of([(6.0, 49.0), (6.02, 49.0)])
-        self.assertEqual((pieces[0][0], pieces[-1][-1]), ((6.0, 49.0), (6.02, 49.0)))
-        self.assertTrue(all(abs(a[0] - b[0]) <= 0.0051 for it in pieces for a, b in zip(it, it[1:])))
+    def test_further_lines_change_nothing(self) -> None:
+        course, far = [degrees(0), degrees(100)], ground(8, 9, "far", degrees(0, 500), degrees(100, 500))
+        alone, network = lines_of(course, self.ROADS, Wish()), Network(self.ROADS)
+        network.add({7: far, 1: far})
+        self.assertEqual(follow(course, network, 20.0, Wish()), alone)
+
+
+class Grids(unittest.TestCase):
+    """What is near, by cells."""
+
+    def test_cells_along_have_each_point(self) -> None:
+        for a, b in (((0.1, 0.1), (0.9, 0.2)), ((-3.2, 1.1), (4.4, -2.7)), ((0.5, 0.5), (0.5, 7.5))):
+            cells = set(cells_along(a, b, 1.0))
+            for k in range(101):
+                at = [x + (y - x) * k / 100 for x, y in zip(a, b)]
+                self.assertIn(tuple(int(it // 1) for it in at), cells)
+
+    def test_strip(self) -> None:
+        strip = Strip([(0.0, 0.0), (100.0, 0.0), (100.0, 300.0)], 50.0)
+        self.assertEqual(list(strip.segments_near((30.0, 40.0))), [0])
+        self.assertEqual(list(strip.segments_near((90.0, 10.0))), [0, 1])
+        self.assertEqual(list(strip.segments_near((500.0, 500.0))), [])
+
+    def test_network_near(self) -> None:
+        network = Network({1: ground(1, 2, "a", degrees(0), degrees(100)), 2: ground(3, 4, "b", degrees(0, 40), degrees(100, 40))})
+        metres = 138e-7, 90e-7
+        self.assertEqual(network.near(degrees(50, 5), *(10 * it for it in metres)), [1])
+        self.assertEqual(network.near(degrees(50, 20), *(25 * it for it in metres)), [1, 2])
+        self.assertEqual(network.near(degrees(250), *(10 * it for it in metres)), [])
+
+    def test_cells_near(self) -> None:
+        course = [(6.0011, 49.0011), (6.0019, 49.0011)]
+        self.assertEqual(cells_near(course, 20.0), {(3000, 24500), (3001, 24500)})
+        self.assertEqual(len(cells_near([(6.0011, 49.0011), (6.0611, 49.0011)], 20.0)), 31)
+        self.assertGreater(len(cells_near(course, 500.0)), 20)
+
+    def test_boxes(self) -> None:
+        self.assertEqual(list(boxes_of([(1, 5), (2, 5), (4, 5), (1, 6)])),
+                         [(it[0] * CELL, it[1] * CELL, it[2] * CELL, it[3] * CELL) for it in
+                          ((1, 5, 3, 6), (4, 5, 5, 6), (1, 6, 2, 7))])
 
 
 def known(**changes: Any) -> KnownPath:
@@ -230,9 +277,9 @@ class FakeFinder(Finder):
         super().__init__(None, 20.0)
         self.rows = {it.number: it for it in rows}
 
-    def near(self, _: Any) -> Dict[int, Ground]:
+    def near(self, _: Any) -> Network:
         """All lines."""
-        return {number: it.ground for number, it in self.rows.items()}
+        return Network(self.rows)
 
     def by_streets(self, streets: Sequence[str], *_: Any) -> Any:
         """The lines of streets."""
@@ -316,8 +363,50 @@ class Searches(unittest.TestCase):
         self.assertIs(placed.state, State.LOST)
         self.assertIn("can't be sought", placed.why.words if placed.why else "")
 
+    def test_search_in_another_process(self) -> None:
+        finder, wanted = FakeFinder(row(1, "a")), {"p": self.COURSE, "q": self.STREETS}
+        search = Search(PathsUpdate(FakeCursor(), Affected(), 20.0), ["p", "q", "gone"], finder, self.NOTHING, wanted, {})
+        search.fork()
+        found = search.result()
+        self.assertEqual([(name, it and it.lines) for name, it in found.items()], [("p", [1]), ("q", [1]), ("gone", None)])
+
+    def test_what_is_not_read_is_left(self) -> None:
+        search = Search(PathsUpdate(FakeCursor(), Affected(), 20.0), ["p"], Finder(FakeCursor(), 20.0), self.NOTHING,
+                        {"p": self.COURSE}, {})
+        search.fork()
+        self.assertEqual(search.forked and search.forked.result(), {})
+
+    def test_is_there(self) -> None:
+        finder = FakeFinder(row(1, "a"))
+        self.assertTrue(is_there((known(), 0, 0), finder))
+        self.assertFalse(is_there((known(lines=[1, 2]), 0, 0), finder))
+        self.assertFalse(is_there(None, finder))
+
+    def test_marks(self) -> None:
+        self.assertEqual([marked_street(it) for it in (">7", "<a", "b")], [(">", "7"), ("<", "a"), ("", "b")])
+
     def test_arrays(self) -> None:
         self.assertEqual(text_array(['a"b', "c\\d"]), '{"a\\"b","c\\\\d"}')
+
+
+# ---- another process
+
+
+class Forks(unittest.TestCase):
+    """A computation in a process of its own."""
+
+    def test_result(self) -> None:
+        several = [Forked(functools.partial(list, range(k, 1_000_000))) for k in range(2)]
+        self.assertEqual([(it.result() or [])[:1] for it in several], [[0], [1]])
+
+    def test_failure(self) -> None:
+        self.assertIsNone(Forked(lambda: 1 // 0).result())
+
+    def test_killed(self) -> None:
+        child = Forked(lambda: time.sleep(100))
+        child.end()
+        with self.assertRaises(ChildProcessError):
+            os.waitpid(child.process, 0)
 
 
 # ---- holding
@@ -394,6 +483,7 @@ SCRIPT = """#!/bin/sh
 while read -r record; do
     case $record in
         bad*) echo fault,1,Syntax ;;
+        ambiguous) printf 'ok,2\\na,0,sector,7\\na,1,node,9\\n' ;;
         report) printf 'ok,2\\na,text,X\\nb,refused,1,7\\n' ;;
         commit*) printf 'ok,1\\na,text,Y\\n' ;;
         slow) sleep 1.5; echo ok,0 ;;
@@ -401,6 +491,31 @@ while read -r record; do
     esac
 done
 """
+
+
+class Drafts(unittest.TestCase):
+    """What becomes of a path in a draft."""
+
+    COURSE = [degrees(0), degrees(1000)]
+    WAS = Was(Answer("CwRWsSNFbxpcYv/+AG8aBg==", None), COURSE)
+
+    def kind(self, was: Optional[Was], now: Answer, course: Sequence[Tuple[float, float]]) -> str:
+        """The verdict."""
+        return verdict("p", was, now, None, course).kind.value
+
+    def test_verdicts(self) -> None:
+        text = self.WAS.answer
+        far = [degrees(0, 15), degrees(1000, 15)]
+        self.assertEqual(self.kind(self.WAS, text, self.COURSE), "same string")
+        self.assertEqual(self.kind(self.WAS, Answer("CwRWsSNFbxpcY//+AG8aBg==", None), self.COURSE), "same road")
+        self.assertEqual(self.kind(self.WAS, text, far), "other road")
+        self.assertEqual(self.kind(self.WAS, DROPPED, []), "lost")
+        self.assertEqual(self.kind(None, text, self.COURSE), "without a string before")
+        self.assertEqual(self.kind(Was(Answer(None, "lost"), []), text, self.COURSE), "without a string before")
+
+    def test_why_lost(self) -> None:
+        self.assertEqual(verdict("p", self.WAS, DROPPED, None, []).why, "an operator removed it")
+        self.assertEqual(verdict("p", self.WAS, Answer(None, "refused,3"), None, []).why, "it is not encodable there")
 
 
 class Programs(unittest.TestCase):
@@ -429,6 +544,16 @@ class Programs(unittest.TestCase):
     def test_answers(self) -> None:
         self.assertEqual(self.program.answers(["node,1,0,0"]), {"a": "text,Y"})
         self.assertEqual(self.program.answers([]), {})
+
+    def test_ambiguities(self) -> None:
+        named = obstacles(self.program)
+        self.assertEqual(named, {"a": [Obstacle(0, "sector", 7), Obstacle(1, "node", 9)]})
+        cursor = FakeCursor({"select line": [(7, "s", "POINT(1 2)")], "select node": [(9, "6.1,49.6", "POINT(6.1 49.6)")]})
+        places = named_places(cursor, named)
+        self.assertEqual(list(places["a"].values()), ["POINT(1 2)", "POINT(6.1 49.6)"])
+        self.assertIn("point 0: another line of street s", next(iter(places["a"])))
+        write_ambiguities(cursor, self.program)
+        self.assertEqual([len(it[2].splitlines()) for it in cursor.copied], [2])
 
     def test_rejected(self) -> None:
         with self.assertRaisesRegex(ProgramFailed, "fault,1,Syntax"):

@@ -140,17 +140,19 @@ class Judge:
     def compared(self, verdict: Verdict, found: Carried) -> Verdict:
         """The verdict on a path with a string on both maps."""
         course = shape_of(self.new.state, self.new.state.paths[verdict.name])
-        there = apart(verdict.course, course, self.tolerance)
-        back = apart(course, verdict.course, self.tolerance)
-        was, now = (intervals(it.split(",")) for it in verdict.answers)
-        fits = all(off <= max(pair) + SLACK for off, *pair in zip(found.off, was, now))
-        before = self.old.ambiguous.get(verdict.name, ())
-        more = tuple(self.new.ambiguous.get(verdict.name, ())) if not before else ()
-        kind = Kind.OTHER_ROAD
-        if fits and max(there.far, back.far) <= self.tolerance:
-            kind = Kind.SAME_STRING if verdict.answers[0] == verdict.answers[1] else Kind.SAME_ROAD
-        return verdict._replace(kind=kind, far=max(there.far, back.far), length=max(there.length, back.length),
-                                ends=found.off, ambiguous=more, course=course)
+        more = () if self.old.ambiguous.get(verdict.name) else self.new.ambiguous.get(verdict.name, ())
+        return compared(verdict._replace(ends=found.off, ambiguous=more), course, self.tolerance)
+
+
+def compared(verdict: Verdict, course: Sequence[Degrees], tolerance: float) -> Verdict:
+    """The verdict on a path with a string before and now, whose course was that of the verdict and is this one."""
+    there, back = apart(verdict.course, course, tolerance), apart(course, verdict.course, tolerance)
+    was, now = (intervals(it.split(",")) for it in verdict.answers)
+    fits = all(off <= max(pair) + SLACK for off, *pair in zip(verdict.ends, was, now))
+    kind = Kind.OTHER_ROAD
+    if fits and max(there.far, back.far) <= tolerance:
+        kind = Kind.SAME_STRING if verdict.answers[0] == verdict.answers[1] else Kind.SAME_ROAD
+    return verdict._replace(kind=kind, far=max(there.far, back.far), length=max(there.length, back.length), course=course)
 
 
 def given(old: State, new: State, name: str) -> Optional[Carried]:
