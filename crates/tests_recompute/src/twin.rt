@@ -3,7 +3,7 @@
 use crate::changes::{ChangedLine, changed_line, is_clear};
 use olr_commands::Command;
 use olr_map::{Edit, Footprint, LineId, MapRead, NodeId, RoadMap, judge};
-use olr_refs::{CoverageQuery, Encoding, Path, encode, refer};
+use olr_refs::{CoverageQuery, Encoding, Margin, Path, encode, refer};
 use olr_search::{Dijkstra, Work};
 use std::alloc::Global;
 use std::test::Fail;
@@ -48,7 +48,7 @@ impl Named {
     pub fn encoding(&self, alloc: Global, roads: &RoadMap) -> Result<Encoding, Fail> {
         let path = self.path(alloc)?;
         let mut search = Dijkstra::new(alloc);
-        Ok(encode(alloc, roads, &path, &mut search)?)
+        Ok(encode(alloc, roads, &path, Margin::none(), &mut search)?)
     }
 
     /// The path's footprint on a map.
