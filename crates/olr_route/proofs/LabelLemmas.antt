@@ -84,7 +84,7 @@ module _ (M : Map) (m : IsMap M) (s limit : ℕ)
 pub near_of : (M : Map) (slot : ℕ → ℕ) (s : ℕ) (x : Labels) → AreLabels M slot s x → (v y : ℕ) (front : List ℕ) →
     LeastWithin M s (limit_of x) v (front ++ y ∷ []) → LiesWithin M Along ((s, 0) ∷ []) (limit_of x) v
 near_of M slot s x a v y front l =
-    let m = a.search.under_way.labelled.sound in
+    let m = a.sound in
     grind (
       arith,
       near_leads M slot Along ((s, 0) ∷ []) x.search a.search v,

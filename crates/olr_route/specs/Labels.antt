@@ -12,7 +12,7 @@
 use Rattle.std.specs.Prelude.{◌≡◌, ◌↔◌, ℕ, ◌+◌, ◌<◌, ◌≤◌, List, [], ◌∷◌, Option, Some, None, IsTrue, Contains, length}
 use Rattle.std.specs.Prelude.{slice_index, slice_index_or}
 use Rattle.std.specs.List.Sorted.{IsStrictlyIncreasing}
-use Rattle.olr_spec.specs.Map.{Map, has_line, start, end, dm}
+use Rattle.olr_spec.specs.Map.{Map, IsMap, has_line, start, end, dm}
 use Rattle.olr_spec.specs.Routes.{dm_of, Least, UniqueShortest}
 use Rattle.olr_search.specs.Counts.{saturated_count}
 use Rattle.olr_search.specs.Distances.{IsDistance}
@@ -55,6 +55,7 @@ abbrev pub limit_of : Labels → ℕ
 limit_of x = x.search.limit
 
 pub record AreLabels (M : Map) (slot : ℕ → ℕ) (s : ℕ) (x : Labels) : Type 0 where
+  pub sound : IsMap M
   pub search : IsSearch M slot Along ((s, 0) ∷ []) x.search
   pub ascending : IsStrictlyIncreasing x.nodes.items
   pub near : (v : ℕ) → Contains x.nodes.items v ↔ LiesWithin M Along ((s, 0) ∷ []) (limit_of x) v

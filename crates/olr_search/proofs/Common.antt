@@ -7,7 +7,8 @@ pub use Rattle.olr_search.specs.Notes.{AreAllReached, AreApart, AreFilled, AreNo
 pub use Rattle.olr_search.specs.Queues.{queue_key}
 pub use Rattle.olr_search.specs.Searches.{Counts, CoversSlots, CutAt, IsCut, IsLabelled}
 pub use Rattle.olr_search.specs.Searches.{FromWithin, IsOnlyPredecessor, IsReached, IsSearch, IsUnderWay, LiesWithin}
-pub use Rattle.olr_search.specs.Searches.{StaysWithin}
+pub use Rattle.olr_search.specs.Lengths.{AreFit, IsOver, IsElsewhere, IsSearchedAs, IsSeenAs, MayCount}
+pub use Rattle.olr_search.specs.Searches.{HasEnds, IsBegunAt, LabelsNear, StaysWithin}
 pub use Rattle.olr_search.specs.declared.distances.Dijkstra.{Dijkstra}
 pub use Rattle.olr_search.specs.declared.distances.Direction.{Direction}
 pub use Rattle.olr_search.specs.declared.distances.Direction.TheVariants.{Against, Along}
@@ -16,7 +17,6 @@ pub use Rattle.olr_search.specs.declared.frontier.TheConstants.{GREATEST_LIMIT, 
 pub use Rattle.olr_spec.proofs.ListLemmas.{Contains-cases, Contains-here, Contains-later, Contains-one, at_index}
 pub use Rattle.olr_spec.proofs.ListLemmas.{has_read}
 pub use Rattle.olr_spec.proofs.RouteLemmas.{IsRoute-append, IsRoute-split, dm_of-append, line_short, positive}
-pub use Rattle.olr_spec.proofs.RouteLemmas.{route_start}
 pub use Rattle.olr_spec.specs.Map.{IsMap, Map, dm, end, has, has_line, has_node, lines_in, no_line, start}
 pub use Rattle.olr_spec.specs.Routes.{IsRoute, UniqueShortest, dm_of}
 pub use Rattle.std.proofs.Common.{Bool, Contains, IsTrue, List, Some, [], ap, arith, eqb, false, get_or, inl, inr}

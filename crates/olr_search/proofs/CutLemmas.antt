@@ -3,10 +3,10 @@ use Rattle.olr_search.proofs.Common.{◌≡◌, ℕ, ◌+◌, ◌≤◌, ◌<◌
 use Rattle.olr_search.proofs.Common.{arith, ◌∙◌, refl, sym, ⊤, cases_lt, Map, has_node, has_line, dm, dm_of, Way, Leads}
 use Rattle.olr_search.proofs.Common.{near_end, far_end, label_of, IsQueued, Moves, IsLabelled, IsUnderWay, IsSearch}
 use Rattle.olr_search.proofs.Common.{IsCut, GREATEST_LIMIT, Frontier, Direction, Dijkstra, zero, suc, max, CutAt}
-use Rattle.olr_search.proofs.Common.{IsAlike, StaysWithin, IsCounted}
+use Rattle.olr_search.proofs.Common.{IsAlike, StaysWithin, IsCounted, LabelsNear}
 use Rattle.olr_search.proofs.SearchLemmas.{alike_labels, labelled_same}
 use Rattle.olr_search.proofs.SettledLemmas.{counted_up}
-use Rattle.olr_search.proofs.WayLemmas.{way_ends, near_node}
+use Rattle.olr_search.proofs.WayLemmas.{way_ends, near_there}
 use Rattle.olr_search.proofs.WayLemmas.WayEnds.{stays, continues}
 
 module _ (M : Map) (slot : ℕ → ℕ) (direction : Direction) (from : List (ℕ × ℕ)) (P : ℕ → ℕ → Type 0) where
@@ -86,7 +86,7 @@ module _ (M : Map) (slot : ℕ → ℕ) (direction : Direction) (from : List (�
           subst (λ (n : ℕ). Q n (label_of f (slot w) + dm M x)) (sym to) (less v _ _ short (omega arith)) in
           let here = lets w (label_of f (slot w)) (before x (label_of f (slot w)) known there) in
           let near = here.1 in
-          elim (u.front w (near_node M u.labelled.sound direction x known) near) [
+          elim (u.front w (near_there M u.labelled.sound direction x known) near) [
             | inl cut ↦
                 let le = cut x known refl (lets (far_end M direction x) _ there).0 in
                 subst (λ (n : ℕ). label_of f (slot n) ≤ e + dm M x) to (omega arith)
@@ -156,14 +156,42 @@ module _ (M : Map) (slot : ℕ → ℕ) (direction : Direction) (limit : ℕ) wh
     | inr k ↦ inr (record { line = k.line; known = k.known; to = k.to; near = omega (arith, k.near); sum = k.sum })
   ]
 
+-- labels that come from nodes within a limit do so within a greater one, as the search goes on
+near_on : (M : Map) (slot : ℕ → ℕ) (direction : Direction) (from : List (ℕ × ℕ)) (was limit is : ℕ) (old new : ℕ → ℕ) →
+    was ≤ is → limit ≤ is → ((p : ℕ) → new p ≤ old p) → StaysWithin M slot direction limit old new →
+    LabelsNear M slot direction from was old → LabelsNear M slot direction from is new
+near_on M slot direction from was limit is old new le more better within near p low = elim (within p) [
+  | inr k ↦ inr (record { line = k.line; known = k.known; to = k.to; near = omega (arith, k.near); sum = k.sum })
+  | inl same ↦ elim (near p (omega arith)) [
+    | inl b ↦ inl (record {
+      source = b.source;
+      begun = b.begun;
+      listed = b.listed;
+      there = b.there;
+      at = b.at;
+      least = omega (arith, b.least);
+    })
+    | inr k ↦
+        let less = better (slot (near_end M direction k.line)) in
+        inr (record {
+          line = k.line;
+          known = k.known;
+          to = k.to;
+          near = omega (arith, k.near);
+          sum = omega (arith, k.sum);
+        })
+  ]
+]
+
 -- the search s, in which every node may be labelled, is continued to a limit, up to the search t
 pub settled_on_to : (M : Map) (slot : ℕ → ℕ) (direction : Direction) (from : List (ℕ × ℕ)) (s t : Dijkstra) (limit : ℕ) →
     IsSearch M slot direction from s → t.direction ≡ s.direction → IsCut M slot direction from (λ _ _. ⊤) t.frontier →
     limit ≤ GREATEST_LIMIT → ((d p : ℕ) → IsQueued t.frontier d p → limit < d)
     → ((p : ℕ) → label_of t.frontier p ≤ label_of s.frontier p) → t.limit ≡ max s.limit limit →
+    StaysWithin M slot direction limit (label_of s.frontier) (label_of t.frontier) →
     IsCounted t.frontier t.settled (max s.limit limit) (max (s.limit + 1) (limit + 1)) →
     IsSearch M slot direction from t
-settled_on_to M slot direction from s t limit h way u small far better is counted =
+settled_on_to M slot direction from s t limit h way u small far better is within counted =
     record {
       way = way ∙ h.way;
       under_way = u;
@@ -172,6 +200,8 @@ settled_on_to M slot direction from s t limit h way u small far better is counte
         | inl lt ↦ let low = h.settled v d known (omega arith) l in let less = better (slot v) in omega arith
         | inr near ↦ settled_up_to M slot direction from t.frontier limit u small far v d near l
       ];
+      near = λ p low. near_on M slot direction from s.limit limit t.limit (label_of s.frontier) (label_of t.frontier)
+          (omega arith) (omega arith) better within h.near p low;
       counted =
           counted_up t.frontier t.settled (max s.limit limit) (max (s.limit + 1) (limit + 1)) t.limit (t.limit + 1)
           (omega arith) (omega arith) (λ e p w. let le = counted.ahead e p w in omega arith) counted;

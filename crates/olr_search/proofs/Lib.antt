@@ -9,4 +9,6 @@ pub mod SearchLemmas
 mod SettledLemmas
 pub mod CutLemmas
 mod CountLemmas
+mod MarkLemmas
 pub mod UniqueLemmas
+mod CountingLemmas

@@ -1,7 +1,7 @@
 -- The invariants of a search that can be continued.
 use Rattle.olr_search.proofs.Common.{◌≡◌, ◌≢◌, ℕ, ◌+◌, ◌<◌, ◌≤◌, ◌⊎◌, List, [], ◌∷◌, Contains, IsTrue, length, get_or}
 use Rattle.olr_search.proofs.Common.{sym, ap, ◌∙◌, subst, inl, inr, arith, set, cases_eq, cases_lt, get_or-set_same}
-use Rattle.olr_search.proofs.Common.{get_or-set_other, Contains-append_cases, Map, IsMap, has_node}
+use Rattle.olr_search.proofs.Common.{get_or-set_other, Contains-append_cases, Map, HasEnds, has_node}
 use Rattle.olr_search.proofs.Common.{Contains-one, Leads, IsDistance, label_in, NotesOnce, AreApart, label_of}
 use Rattle.olr_search.proofs.Common.{frontier_len, IsQueued, IsRelaxed, Moves, IsLabelled, IsSearch}
 use Rattle.olr_search.proofs.Common.{LiesWithin, GREATEST_LIMIT, Frontier, Direction, Dijkstra}
@@ -113,7 +113,7 @@ module _ (M : Map) (slot : ℕ → ℕ) (direction : Direction) (from : List (�
     }
 
   -- no labels at all
-  pub empty_labelled : (f : Frontier) → IsMap M →
+  pub empty_labelled : (f : Frontier) → HasEnds M →
       ((v w : ℕ) → IsTrue (has_node M v) → IsTrue (has_node M w) → slot v ≡ slot w → v ≡ w) → CoversSlots M slot f →
       IsEmpty f → IsLabelled M slot direction from f
   empty_labelled f m own room e = grind arith

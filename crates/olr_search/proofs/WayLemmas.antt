@@ -1,7 +1,7 @@
 -- Routes in one direction or the other, and the far ends of the lines at a node.
 use Rattle.olr_search.proofs.Common.{◌≡◌, ℕ, ◌+◌, ◌<◌, List, [], ◌∷◌, ◌++◌, Contains, IsTrue, length, get_or, refl, sym}
 use Rattle.olr_search.proofs.Common.{ap, ◌∙◌, subst, arith, length-append, get_or-map, length-map, get_or_default_zero}
-use Rattle.olr_search.proofs.Common.{Map, IsMap, has_node, has_line, dm, IsRoute, dm_of, LineEnd, Way, Leads}
+use Rattle.olr_search.proofs.Common.{Map, IsMap, HasEnds, has_node, has_line, dm, IsRoute, dm_of, LineEnd, Way, Leads, positive}
 use Rattle.olr_search.proofs.Common.{near_end, far_end, lines_at, Direction, Along, Against, map, ends_at}
 use Rattle.olr_roads.specs.Ends.{end_out, end_in}
 use Rattle.olr_search.proofs.ReadLemmas.{read_at, found_at}
@@ -37,15 +37,26 @@ way_ends M Against s v [] w = stays (sym w) refl
 way_ends M Against s v (x ∷ xs) w =
     continues (record { line = x; front = xs; way = w.2; known = w.0; to = w.1; long = omega arith; size = omega arith })
 
+pub has_ends : (M : Map) → IsMap M → HasEnds M
+has_ends M m = record { starts = m.starts; ends = m.ends; long = positive M m }
+
+pub near_there : (M : Map) → HasEnds M → (direction : Direction) (x : ℕ) → IsTrue (has_line M x) →
+    IsTrue (has_node M (near_end M direction x))
+near_there M m Along x known = m.starts x known
+near_there M m Against x known = m.ends x known
+
+pub far_there : (M : Map) → HasEnds M → (direction : Direction) (x : ℕ) → IsTrue (has_line M x) →
+    IsTrue (has_node M (far_end M direction x))
+far_there M m Along x known = m.ends x known
+far_there M m Against x known = m.starts x known
+
 pub near_node : (M : Map) → IsMap M → (direction : Direction) (x : ℕ) → IsTrue (has_line M x) →
     IsTrue (has_node M (near_end M direction x))
-near_node M m Along x known = m.starts x known
-near_node M m Against x known = m.ends x known
+near_node M m = near_there M (has_ends M m)
 
 pub far_node : (M : Map) → IsMap M → (direction : Direction) (x : ℕ) → IsTrue (has_line M x) →
     IsTrue (has_node M (far_end M direction x))
-far_node M m Along x known = m.ends x known
-far_node M m Against x known = m.starts x known
+far_node M m = far_there M (has_ends M m)
 
 -- a route without lines stays where it begins
 pub leads_first : (M : Map) (direction : Direction) (from : List (ℕ × ℕ)) (s b : ℕ) → Contains from (s, b) →
@@ -69,12 +80,18 @@ leads_on M direction from x d known l =
     let long : l.begun + dm_of M on.0 ≡ d + dm M x = omega (arith, l.long, on.2) in
     record { source = _; begun = _; lines = on.0; listed = l.listed; there = l.there; way = on.1; long = long }
 
-pub leads_node : (M : Map) → IsMap M → (direction : Direction) (from : List (ℕ × ℕ)) (v d : ℕ) →
+pub leads_node : (M : Map) → HasEnds M → (direction : Direction) (from : List (ℕ × ℕ)) (v d : ℕ) →
     Leads M direction from v d → IsTrue (has_node M v)
 leads_node M m direction from v d l = elim (way_ends M direction l.source v l.lines l.way) [
   | stays e none ↦ subst (λ (u : ℕ). IsTrue (has_node M u)) e l.there
-  | continues k ↦ subst (λ (u : ℕ). IsTrue (has_node M u)) k.to (far_node M m direction k.line k.known)
+  | continues k ↦ subst (λ (u : ℕ). IsTrue (has_node M u)) k.to (far_there M m direction k.line k.known)
 ]
+
+-- a route to a node begins at one
+pub way_start : (M : Map) → HasEnds M → (s v : ℕ) (xs : List ℕ) → IsRoute M s v xs → IsTrue (has_node M v) →
+    IsTrue (has_node M s)
+way_start M m s v [] w there = subst (λ (u : ℕ). IsTrue (has_node M u)) (sym w) there
+way_start M m s v (x ∷ xs) w there = subst (λ (u : ℕ). IsTrue (has_node M u)) w.1 (m.starts x w.0)
 
 -- ---- the far ends at a node
 
@@ -171,3 +188,27 @@ pub as_many : (M : Map) (slot : ℕ → ℕ) (direction : Direction) (v : ℕ) (
 as_many M slot direction v lines items same is =
     ap (λ (es : List LineEnd). length es) (is ∙ ends_are M slot direction v)
     ∙ length-map (lines_at M direction v) (far_of M slot direction) ∙ ap (λ (xs : List ℕ). length xs) (sym same)
+
+-- each line that is entered at v is in the lists
+pub record HasEntry (M : Map) (slot : ℕ → ℕ) (direction : Direction) (lines : List ℕ) (items : List LineEnd) (x : ℕ) : Type 0
+  where
+    pub index : ℕ
+    pub within : index < length items
+    pub line : x ≡ get_or lines index 0
+    pub there : slot (far_end M direction x) ≡ (get_or items index no_end).slot
+    pub len : dm M x ≡ (get_or items index no_end).len
+
+pub has_entry : (M : Map) (slot : ℕ → ℕ) (direction : Direction) (v x : ℕ) (lines : List ℕ) (items : List LineEnd) →
+    lines ≡ lines_at M direction v → items ≡ ends_at M slot direction v → IsTrue (has_line M x) → near_end M direction x ≡ v →
+    HasEntry M slot direction lines items x
+has_entry M slot direction v x lines items same is known near =
+    let k = found_at M direction v lines x same known near in
+    let many = as_many M slot direction v lines items same is in
+    let e = entry_is M slot direction v lines items same is k.0 (omega arith) in
+    record {
+      index = k.0;
+      within = omega arith;
+      line = sym k.2;
+      there = ap (λ y. slot (far_end M direction y)) (sym k.2) ∙ sym e.there;
+      len = ap (dm M) (sym k.2) ∙ sym e.len;
+    }

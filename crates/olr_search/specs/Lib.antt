@@ -5,5 +5,6 @@ pub mod Queues
 pub mod Frontiers
 pub mod Distances
 pub mod Searches
+pub mod Lengths
 pub mod Bounds
 pub mod ResolvedLines

@@ -4,12 +4,13 @@ ghost use Rattle.std.specs.Prelude.{◌≡◌, ◌==◌, ◌≢◌, ◌↔◌, �
 ghost use Rattle.std.specs.Prelude.{IsTrue, length, max};
 ghost use Rattle.std.specs.List.{IsDistinct};
 ghost use Rattle.std.specs.List.Sorted.{IsStrictlyIncreasing};
-ghost use Rattle.olr_spec.specs.Map.{Map, has_node, start as start_node, end, dm, lines_in};
+ghost use Rattle.olr_spec.specs.Map.{Map, has_node, has_line, start as start_node, end, dm, lines_in};
+ghost use Rattle.olr_spec.specs.Margins.{Margin, counted};
 ghost use Rattle.olr_roads.specs.Ends.{ends_in};
 ghost use Rattle.olr_spec.specs.Routes.{UniqueShortest, dm_of};
 ghost use Rattle.olr_search.specs.Distances.{IsDistance, Leads};
 ghost use Rattle.olr_search.specs.Frontiers.{label_of};
-ghost use Rattle.olr_search.specs.ResolvedLines.{IsResolved};
+ghost use Rattle.olr_search.specs.Lengths.{AreFit, IsElsewhere, IsSearchedAs, MayCount};
 ghost use Rattle.olr_search.specs.Searches.{IsSearch, LiesWithin, IsReached, Counts, StaysWithin};
 ghost use Rattle.olr_search.specs.Searches.{IsOnlyPredecessor, limit_of};
 ghost use Rattle.olr_search.specs.Bounds.{AreBounds, AreLengths, IsUnder, label_at};
@@ -17,6 +18,7 @@ ghost use Rattle.olr_search.specs.declared.distances.Direction.TheVariants.{Alon
 
 use crate::bounds::Anywhere;
 use crate::frontier::{Frontier, GREATEST_LIMIT};
+use crate::lengths::{AsOnMap, Lengths};
 use crate::resolved::ResolvedLine;
 use crate::steps::{settle, start};
 use olr_roads::{LineEnd, LineId, MapRead, NodeId};
@@ -78,7 +80,7 @@ impl Dijkstra {
             let (node, length) = *begin;
             start(map, direction, node, length, &mut self.frontier)?;
         }
-        let settled = settle(map, direction, 0, &Anywhere, &mut self.frontier)?;
+        let settled = settle(map, direction, 0, &Anywhere, &AsOnMap, &mut self.frontier)?;
         self.settled = settled;
         Ok(())
     }
@@ -99,7 +101,66 @@ impl Dijkstra {
             → StaysWithin (M.map map.now) (M.node_slot map.now) direction limit (label_at self.old)
             (label_at self.new)) }
     {
-        let settled = settle(map, self.direction, limit, &Anywhere, &mut self.frontier)?;
+        self.settle_by(map, &AsOnMap, limit)
+    }
+
+    /// Continues the search along the lines, as `settle_to` does, on the map as it counts for one line more: `own`, whose
+    /// record has the length that it counts, in decimetres, in place of that on the map. Its start must not be settled
+    /// yet, and the starts of those that count already must be (profile, margin).
+    pub fn settle_counting<M: MapRead>(
+        &mut self,
+        map: &M,
+        own: &ResolvedLine,
+        limit: u32,
+    ) -> Result<(), AllocError>
+        requires small { limit ≤ GREATEST_LIMIT }
+        requires begun { (g : Margin) × (xs : List ℕ) × (from : List (ℕ × ℕ))
+            × MayCount (M.map map.now) (M.node_slot map.now) g xs own.now self.old
+            × IsSearch (counted g (M.map map.now) xs) (M.node_slot map.now) Along from self.old }
+        ensures search { OnOk result ((g : Margin) (xs : List ℕ) (from : List (ℕ × ℕ))
+            → MayCount (M.map map.now) (M.node_slot map.now) g xs own.now self.old
+            → IsSearch (counted g (M.map map.now) xs) (M.node_slot map.now) Along from self.old
+            → IsSearch (counted g (M.map map.now) (xs ++ own.now.id ∷ [])) (M.node_slot map.now) Along from self.new) }
+        ensures limit { OnOk result (limit_of self.new ≡ max (limit_of self.old) limit) }
+    {
+        self.settle_by(map, own, limit)
+    }
+
+    /// Continues the search to a limit in decimetres, where lines have these lengths.
+    fn settle_by<M: MapRead, L: Lengths>(
+        &mut self,
+        map: &M,
+        lengths: &L,
+        limit: u32,
+    ) -> Result<(), AllocError>
+        requires small { limit ≤ GREATEST_LIMIT }
+        requires begun { (N : Map) × (direction : _) × (from : List (ℕ × ℕ))
+            × IsSearchedAs (M.map map.now) N (M.node_slot map.now) direction (L.counts lengths.now) self.old.frontier
+            (limit_of self.old + 1)
+            × IsSearch N (M.node_slot map.now) direction from self.old
+            × IsElsewhere (M.map map.now) (M.node_slot map.now) direction (L.begins lengths.now)
+            (L.counts lengths.now) }
+        requires fit { AreFit (L.counts lengths.now) }
+        ensures search { OnOk result ((N : Map) (direction : _) (from : List (ℕ × ℕ))
+            → IsSearchedAs (M.map map.now) N (M.node_slot map.now) direction (L.counts lengths.now) self.old.frontier
+            (limit_of self.old + 1)
+            → IsSearch N (M.node_slot map.now) direction from self.old
+            → IsSearch N (M.node_slot map.now) direction from self.new) }
+        ensures limit { OnOk result (limit_of self.new ≡ max (limit_of self.old) limit) }
+        ensures near { OnOk result ((N : Map) (direction : _) (from : List (ℕ × ℕ))
+            → IsSearchedAs (M.map map.now) N (M.node_slot map.now) direction (L.counts lengths.now) self.old.frontier
+            (limit_of self.old + 1)
+            → IsSearch N (M.node_slot map.now) direction from self.old
+            → StaysWithin N (M.node_slot map.now) direction limit (label_at self.old) (label_at self.new)) }
+    {
+        let settled = settle(
+            map,
+            self.direction,
+            limit,
+            &Anywhere,
+            lengths,
+            &mut self.frontier,
+        )?;
         self.settled += settled;
         self.limit = self.limit.max(limit);
         Ok(())
@@ -126,6 +187,7 @@ impl Dijkstra {
             self.direction,
             GREATEST_LIMIT,
             bounds,
+            &AsOnMap,
             &mut self.frontier,
         )?;
         Ok(())
@@ -242,17 +304,24 @@ impl Dijkstra {
         true
     }
 
-    /// Whether a line extends the unique shortest path to its start to the unique shortest path to its end. Unspecified
-    /// if there is no unique shortest path to its start, or if the extended one is longer than the limit to which the
-    /// search is settled.
+    /// Whether a line extends the unique shortest path to its start to the unique shortest path to its end, on the map as
+    /// it counts for these lines and this one, whose record has the length that it counts. Unspecified if there is no
+    /// unique shortest path to its start, or if the extended one is longer than the limit to which the search is settled
+    /// and one decimetre.
     pub fn extends_unique_shortest<M: MapRead>(&self, map: &M, line: ResolvedLine) -> bool
-        requires { IsResolved (M.map map.now) (M.node_slot map.now) line }
-        ensures { (s : ℕ) (route : List ℕ)
-            → IsSearch (M.map map.now) (M.node_slot map.now) Along ((s, 0) ∷ []) self.now
-            → UniqueShortest (M.map map.now) s (start_node (M.map map.now) line.id) route
-            → dm_of (M.map map.now) route + dm (M.map map.now) line.id ≤ limit_of self.now
-            → (IsTrue result
-            ↔ UniqueShortest (M.map map.now) s (end (M.map map.now) line.id) (route ++ line.id ∷ [])) }
+        requires known { IsTrue (has_line (M.map map.now) line.id) }
+        requires from { line.from_slot ≡ M.node_slot map.now (start_node (M.map map.now) line.id) }
+        requires to { line.to_slot ≡ M.node_slot map.now (end (M.map map.now) line.id) }
+        ensures { (g : Margin) (s b : ℕ) (route : List ℕ)
+            → IsSearch (counted g (M.map map.now) (route ++ line.id ∷ [])) (M.node_slot map.now) Along ((s, b) ∷ [])
+            self.now
+            → line.len ≡ dm (counted g (M.map map.now) (route ++ line.id ∷ [])) line.id
+            → UniqueShortest (counted g (M.map map.now) (route ++ line.id ∷ [])) s
+            (start_node (M.map map.now) line.id) route
+            → b + (dm_of (counted g (M.map map.now) (route ++ line.id ∷ [])) route + line.len)
+            ≤ limit_of self.now + 1
+            → (IsTrue result ↔ UniqueShortest (counted g (M.map map.now) (route ++ line.id ∷ [])) s
+            (end (M.map map.now) line.id) (route ++ line.id ∷ [])) }
     {
         let length = self.frontier.label(line.to_slot);
         if !is_sum(self.frontier.label(line.from_slot), line.len, length) {

@@ -7,11 +7,15 @@ use crate::queue::Queue;
 use olr_roads::{MapRead, NodeId};
 use std::alloc::{AllocError, Global};
 
-/// The greatest limit of a search, in decimetres: the greatest distance of two location reference points.
-pub const GREATEST_LIMIT: u32 = 150_000;
+/// The greatest distance of two location reference points, in decimetres.
+pub const LEG_LIMIT: u32 = 150_000;
+
+/// The greatest limit of a search, in decimetres: lines count at most twice their length, and one more where a search
+/// begins at 1.
+pub const GREATEST_LIMIT: u32 = 300_001;
 
 /// The entry of the table for no label. Each label is less than it.
-pub const UNREACHED: u32 = 150_001;
+pub const UNREACHED: u32 = 300_002;
 
 /// The labels by slot, in decimetres, the slots of the labelled nodes, and the queue of slots to continue from.
 #[derive(Drop)]

@@ -6,13 +6,14 @@
 pub mod bounds;
 pub mod distances;
 mod frontier;
+mod lengths;
 mod queue;
 mod resolved;
 mod steps;
 pub mod work;
 
 pub use distances::{Dijkstra, Direction, settled_search};
-pub use frontier::{Frontier, GREATEST_LIMIT};
+pub use frontier::{Frontier, GREATEST_LIMIT, LEG_LIMIT};
 pub use resolved::{ResolvedLine, resolve_line};
 pub use steps::{ends_from, lines_from};
 pub use work::Work;

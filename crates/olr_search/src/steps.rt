@@ -4,11 +4,13 @@ ghost use Rattle.std.specs.Prelude.{◌≡◌, ◌≤◌, ◌<◌, ◌+◌, ◌�
 ghost use Rattle.olr_spec.specs.Map.{Map, has_node};
 ghost use Rattle.olr_search.specs.Distances.{Leads, ends_at, lines_at};
 ghost use Rattle.olr_search.specs.Frontiers.{Moves, IsQueued, IsCounted, label_of, frontier_len};
-ghost use Rattle.olr_search.specs.Searches.{CoversSlots, IsLabelled, IsUnderWay, CutAt, IsCut, StaysWithin};
+ghost use Rattle.olr_search.specs.Searches.{CoversSlots, IsLabelled, IsUnderWay, CutAt, IsCut, StaysWithin, IsBegunAt};
+ghost use Rattle.olr_search.specs.Lengths.{AreFit, IsElsewhere, IsSeenAs, IsSearchedAs};
 
 use crate::bounds::{Admits, Anywhere};
 use crate::distances::Direction;
 use crate::frontier::{Frontier, GREATEST_LIMIT};
+use crate::lengths::{AsOnMap, Lengths};
 use olr_roads::{LineEnd, MapRead, NodeId, NodeLines};
 use std::alloc::AllocError;
 
@@ -58,6 +60,9 @@ pub fn start<M: MapRead>(
         → IsLabelled (M.map map.now) (M.node_slot map.now) way from frontier.new) }
     ensures begun { OnOk result (IsTrue (has_node (M.map map.now) node) →
         label_of frontier.new (M.node_slot map.now node) ≤ length) }
+    ensures only { OnOk result ((from : List (ℕ × ℕ)) (p : ℕ) → Contains from (node, length)
+        → (label_of frontier.new p ≡ label_of frontier.old p)
+        ⊎ IsBegunAt (M.map map.now) (M.node_slot map.now) from (label_of frontier.new) p) }
 {
     let Some(slot) = map.slot_of(node) else {
         return Ok(());
@@ -91,57 +96,112 @@ pub fn ends_from<M: MapRead>(map: &M, direction: Direction, slot: u32) -> &[Line
 
 /// Follows the lines from the node in this slot, at the distance `dist` in decimetres: labels those of their far ends
 /// that may be labelled.
-fn follow<M: MapRead, A: Admits>(
+fn follow_by<M: MapRead, A: Admits, L: Lengths>(
     map: &M,
     direction: Direction,
     dist: u32,
     slot: u32,
     admits: &A,
+    lengths: &L,
     frontier: &mut Frontier,
 ) -> Result<(), AllocError>
     requires node { (v : ℕ) × IsTrue (has_node (M.map map.now) v) × (M.node_slot map.now v ≡ slot) }
     requires within { dist ≤ GREATEST_LIMIT }
     requires label { label_of frontier.old slot ≤ dist }
     requires room { CoversSlots (M.map map.now) (M.node_slot map.now) frontier.old }
+    requires fit { AreFit (L.counts lengths.now) }
     ensures moves { OnOk result (Moves frontier.old frontier.new) }
-    ensures labelled { OnOk result ((v : ℕ) (from : List (ℕ × ℕ)) → IsTrue (has_node (M.map map.now) v) →
-        M.node_slot map.now v ≡ slot
-        → Leads (M.map map.now) direction from v dist
-        → IsLabelled (M.map map.now) (M.node_slot map.now) direction from frontier.old
-        → IsLabelled (M.map map.now) (M.node_slot map.now) direction from frontier.new) }
-    ensures closed { OnOk result ((v : ℕ) → IsTrue (has_node (M.map map.now) v) → M.node_slot map.now v ≡ slot
-        → CutAt (M.map map.now) (M.node_slot map.now) direction (A.lets admits.now) frontier.new v dist) }
-    ensures near { OnOk result (StaysWithin (M.map map.now) (M.node_slot map.now) direction dist
-        (label_of frontier.old) (label_of frontier.new)) }
+    ensures labelled { OnOk result ((N : Map) (v : ℕ) (from : List (ℕ × ℕ))
+        → IsSeenAs (M.map map.now) N (M.node_slot map.now) direction (L.counts lengths.now) slot
+        → IsTrue (has_node N v) → M.node_slot map.now v ≡ slot → Leads N direction from v dist
+        → IsLabelled N (M.node_slot map.now) direction from frontier.old
+        → IsLabelled N (M.node_slot map.now) direction from frontier.new) }
+    ensures closed { OnOk result ((N : Map) (v : ℕ)
+        → IsSeenAs (M.map map.now) N (M.node_slot map.now) direction (L.counts lengths.now) slot
+        → IsTrue (has_node N v) → M.node_slot map.now v ≡ slot
+        → CutAt N (M.node_slot map.now) direction (A.lets admits.now) frontier.new v dist) }
+    ensures near { OnOk result ((N : Map)
+        → IsSeenAs (M.map map.now) N (M.node_slot map.now) direction (L.counts lengths.now) slot
+        → StaysWithin N (M.node_slot map.now) direction dist (label_of frontier.old) (label_of frontier.new)) }
     ensures counted { OnOk result ((n : ℕ) → IsCounted frontier.old n dist dist
         → IsCounted frontier.new n dist dist) }
 {
-    for end in ends_from(map, direction, slot) {
-        label_node(map, direction, admits, end.slot, dist + end.len, frontier)?;
+    let NodeLines { lines, ends } = lines_from(map, direction, slot);
+    for (index, end) in ends.iter().enumerate() {
+        let length = lengths.counted(lines[index], end.len);
+        label_node(map, direction, admits, end.slot, dist + length, frontier)?;
     }
     Ok(())
 }
 
+/// Follows the lines from the node in this slot, as `follow_by` does. What they count is asked only where a line begins
+/// that has another length than on the map.
+fn follow<M: MapRead, A: Admits, L: Lengths>(
+    map: &M,
+    direction: Direction,
+    dist: u32,
+    slot: u32,
+    admits: &A,
+    lengths: &L,
+    frontier: &mut Frontier,
+) -> Result<(), AllocError>
+    requires node { (v : ℕ) × IsTrue (has_node (M.map map.now) v) × (M.node_slot map.now v ≡ slot) }
+    requires within { dist ≤ GREATEST_LIMIT }
+    requires label { label_of frontier.old slot ≤ dist }
+    requires room { CoversSlots (M.map map.now) (M.node_slot map.now) frontier.old }
+    requires fit { AreFit (L.counts lengths.now) }
+    requires elsewhere { IsElsewhere (M.map map.now) (M.node_slot map.now) direction (L.begins lengths.now)
+        (L.counts lengths.now) }
+    ensures moves { OnOk result (Moves frontier.old frontier.new) }
+    ensures labelled { OnOk result ((N : Map) (v : ℕ) (from : List (ℕ × ℕ))
+        → IsSeenAs (M.map map.now) N (M.node_slot map.now) direction (L.counts lengths.now) slot
+        → IsTrue (has_node N v) → M.node_slot map.now v ≡ slot → Leads N direction from v dist
+        → IsLabelled N (M.node_slot map.now) direction from frontier.old
+        → IsLabelled N (M.node_slot map.now) direction from frontier.new) }
+    ensures closed { OnOk result ((N : Map) (v : ℕ)
+        → IsSeenAs (M.map map.now) N (M.node_slot map.now) direction (L.counts lengths.now) slot
+        → IsTrue (has_node N v) → M.node_slot map.now v ≡ slot
+        → CutAt N (M.node_slot map.now) direction (A.lets admits.now) frontier.new v dist) }
+    ensures near { OnOk result ((N : Map)
+        → IsSeenAs (M.map map.now) N (M.node_slot map.now) direction (L.counts lengths.now) slot
+        → StaysWithin N (M.node_slot map.now) direction dist (label_of frontier.old) (label_of frontier.new)) }
+    ensures counted { OnOk result ((n : ℕ) → IsCounted frontier.old n dist dist
+        → IsCounted frontier.new n dist dist) }
+{
+    if lengths.is_at(slot) {
+        follow_by(map, direction, dist, slot, admits, lengths, frontier)
+    } else {
+        follow_by(map, direction, dist, slot, admits, &AsOnMap, frontier)
+    }
+}
+
 /// Continues a search until nothing is queued at a length of at most `limit` decimetres, and returns how many nodes it
 /// settled. Only nodes that may be labelled get labels.
-pub fn settle<M: MapRead, A: Admits>(
+pub fn settle<M: MapRead, A: Admits, L: Lengths>(
     map: &M,
     direction: Direction,
     limit: u32,
     admits: &A,
+    lengths: &L,
     frontier: &mut Frontier,
 ) -> Result<usize, AllocError>
     requires small { limit ≤ GREATEST_LIMIT }
-    requires begun { (from : List (ℕ × ℕ))
-        × IsUnderWay (M.map map.now) (M.node_slot map.now) direction from frontier.old }
-    requires counted { (n : ℕ) × (near : ℕ) × (next : ℕ) × IsCounted frontier.old n near next × (near ≤ GREATEST_LIMIT) }
-    ensures cut { OnOk result ((from : List (ℕ × ℕ))
-        → IsUnderWay (M.map map.now) (M.node_slot map.now) direction from frontier.old
-        → IsCut (M.map map.now) (M.node_slot map.now) direction from (A.lets admits.now) frontier.new) }
+    requires begun { (N : Map) × (from : List (ℕ × ℕ)) × (n : ℕ) × (near : ℕ) × (next : ℕ)
+        × IsSearchedAs (M.map map.now) N (M.node_slot map.now) direction (L.counts lengths.now) frontier.old next
+        × IsUnderWay N (M.node_slot map.now) direction from frontier.old
+        × IsCounted frontier.old n near next × (near ≤ GREATEST_LIMIT) }
+    requires fit { AreFit (L.counts lengths.now) }
+    requires elsewhere { IsElsewhere (M.map map.now) (M.node_slot map.now) direction (L.begins lengths.now)
+        (L.counts lengths.now) }
+    ensures cut { OnOk result ((N : Map) (from : List (ℕ × ℕ)) (n near next : ℕ) → IsCounted frontier.old n near next
+        → IsSearchedAs (M.map map.now) N (M.node_slot map.now) direction (L.counts lengths.now) frontier.old next
+        → IsUnderWay N (M.node_slot map.now) direction from frontier.old
+        → IsCut N (M.node_slot map.now) direction from (A.lets admits.now) frontier.new) }
     ensures better { OnOk result ((p : ℕ) → label_of frontier.new p ≤ label_of frontier.old p) }
     ensures far { OnOk result ((d p : ℕ) → IsQueued frontier.new d p → limit < d) }
-    ensures near { OnOk result (StaysWithin (M.map map.now) (M.node_slot map.now) direction limit
-        (label_of frontier.old) (label_of frontier.new)) }
+    ensures near { OnOk result ((N : Map) (n near next : ℕ) → IsCounted frontier.old n near next
+        → IsSearchedAs (M.map map.now) N (M.node_slot map.now) direction (L.counts lengths.now) frontier.old next
+        → StaysWithin N (M.node_slot map.now) direction limit (label_of frontier.old) (label_of frontier.new)) }
     ensures counted { IfOk result (λ settled. (n near next : ℕ) → IsCounted frontier.old n near next
         → IsCounted frontier.new (n + settled) (max near limit) (max next (limit + 1))) }
 {
@@ -150,7 +210,7 @@ pub fn settle<M: MapRead, A: Admits>(
         let (dist, slot) = next;
         if frontier.label(slot) == dist {
             settled += 1;
-            follow(map, direction, dist, slot, admits, frontier)?;
+            follow(map, direction, dist, slot, admits, lengths, frontier)?;
         }
     }
     Ok(settled)

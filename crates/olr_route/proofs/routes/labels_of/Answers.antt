@@ -47,6 +47,7 @@ returns-clause-labels g c = λ s h.
     let slot = g.M.MapRead.node_slot c.args.map.now in
     let long = ap (λ (vs : List ℕ). length vs) c.deref-node-items.ensures.value in
     record {
+      sound = g.met.M.MapRead.sound c.args.map.now;
       search = h;
       ascending = c.in_ok-nodes.ensures.ascending Along ((s, 0) ∷ []) h;
       near = λ v. c.in_ok-nodes.ensures.nodes Along ((s, 0) ∷ []) v h;

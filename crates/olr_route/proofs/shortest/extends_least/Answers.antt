@@ -20,7 +20,7 @@ returns-in-Some g c = λ s route a l.
     let to = ap (λ (r : ResolvedLine). r.to) (c.resolved.view_is ∙ c.in-Some.ensures.1) in (
       λ yes.
           let p = k.0 (equal.0 (sym c.eq.ensures ∙ yes)) in
-          same_front M a.search.under_way.labelled.sound s (limit_of c.args.labels.now) x route p.0 l
+          same_front M a.sound s (limit_of c.args.labels.now) x route p.0 l
           (subst (λ (v : ℕ). At v (p.0 ++ x ∷ [])) to p.1),
       λ whole. c.eq.ensures ∙ equal.1 (k.1 (route, subst (λ (v : ℕ). At v (route ++ x ∷ [])) (sym to) whole)),
     )

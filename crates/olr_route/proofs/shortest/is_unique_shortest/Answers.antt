@@ -14,7 +14,7 @@ returns-then-is_least g c = λ s t a w.
     let prefix = prefix_of_unique M s in
     let short = (c.is_least.ensures s t a w).0 c.if-is_least.true in
     let k =
-    tested M s limit unique prefix _ t lines (empty_unique M a.search.under_way.labelled.sound s) w short.within
+    tested M s limit unique prefix _ t lines (empty_unique M a.sound s) w short.within
     (cases_from_all _ _ _ (Extends M s limit unique prefix) (Stops M s limit unique prefix) c.all.ensures.ran
     (YieldsList-from_slice lines cc) (λ x q k. search (rules, tests)) (λ x q k. search (rules, tests))) in
     (λ yes. record { unique = k.0 yes; within = short.within }, λ whole. k.1 whole.unique)

@@ -10,5 +10,5 @@ returns-in_err-line c = λ M slot s x a. (
 
 pub returns : goal.returns
 returns c = λ M slot s x a.
-    last_is M a.search.under_way.labelled.sound s (limit_of c.args.self.now) (label_of M slot s c.args.self.now a)
+    last_is M a.sound s (limit_of c.args.self.now) (label_of M slot s c.args.self.now a)
     c.args.node x _ (c.in_ok-line.ensures M slot s a)

@@ -1,8 +1,9 @@
 use Rattle.olr_search.proofs.Common.{◌≡◌, ◌≤◌, ℕ, IsTrue, get_or, refl, sym, subst, ◌∙◌, inl, inr, arith, below_more}
-use Rattle.olr_search.proofs.Common.{get_or_default, has_node, label_of, IsQueued, IsUnderWay}
+use Rattle.olr_search.proofs.Common.{get_or_default, has_node, label_of, IsQueued, IsUnderWay, IsBegunAt, Map, List}
 use Rattle.olr_search.proofs.SearchLemmas.{empty_labelled}
 use Rattle.olr_search.proofs.SettledLemmas.{counted_none, counted_as}
 use Rattle.olr_search.proofs.CutLemmas.{settled_up_to}
+use Rattle.olr_search.proofs.MarkLemmas.{plain}
 use Rattle.olr_search.proofs.distances.Dijkstra.begin.Given.{Over}
 use Rattle.olr_search.proofs.distances.Dijkstra.begin.Goals.{After-loop-begin}
 use Rattle.olr_search.proofs.distances.Dijkstra.begin.Goals as goal
@@ -14,9 +15,22 @@ loop-begin-init g c =
       labelled = grind (arith, empty_labelled);
       begun = λ j low. absurd (omega arith);
       front = λ p small. absurd (omega (arith, e.labels p));
+      near = λ p small. absurd (omega (arith, e.labels p));
       way = refl;
       limit = refl;
     }
+
+-- a label that stays is still one with which the search begins
+begun_still : (M : Map) (slot : ℕ → ℕ) (from : List (ℕ × ℕ)) (old new : ℕ → ℕ) (p : ℕ) → new p ≡ old p →
+    IsBegunAt M slot from old p → IsBegunAt M slot from new p
+begun_still M slot from old new p same b = record {
+  source = b.source;
+  begun = b.begun;
+  listed = b.listed;
+  there = b.there;
+  at = b.at;
+  least = omega (arith, b.least);
+}
 
 pub loop-begin-preserved : goal.loop-begin-preserved
 loop-begin-preserved g c =
@@ -30,8 +44,7 @@ loop-begin-preserved g c =
     let Begun : ℕ × ℕ → Type 0 = λ x. IsTrue (has_node M x.0) → label_of c.start.new.frontier (slot x.0) ≤ x.1 in
     record {
       labelled =
-          e.labelled c.args.direction items (c.loop-begin.begin-index, c.loop-begin-test.true, sym c.begin-item.is)
-          inv.labelled;
+          e.labelled c.args.direction items (n, c.loop-begin-test.true, sym c.begin-item.is) inv.labelled;
       begun = below_more (λ j. Begun (get_or items j (0, 0))) n
           (λ j low known. let was = inv.begun j low known in let le = e.moves.better (slot (get_or items j (0, 0)).0) in
           omega arith)
@@ -40,6 +53,12 @@ loop-begin-preserved g c =
         | inl same ↦ subst (λ (n : ℕ). IsQueued c.start.new.frontier n p) (sym same)
             (e.moves.kept (label_of c.loop-begin.self.frontier p) p (inv.front p (omega arith)))
         | inr q ↦ q
+      ];
+      near = λ p small. elim (e.only items p (n, c.loop-begin-test.true, sym c.begin-item.is)) [
+        | inr b ↦ b
+        | inl same ↦
+            begun_still M slot items (label_of c.loop-begin.self.frontier) (label_of c.start.new.frontier) p same
+            (inv.near p (omega arith))
       ];
       way = inv.way;
       limit = inv.limit;
@@ -66,16 +85,26 @@ under_way g c =
 
 pub settle-requires-clause-begun : goal.settle-requires-clause-begun
 settle-requires-clause-begun g c =
-    (c.args.from.now, under_way g (goal.at.settle-requires-clause-begun g c).After-loop-begin)
-
-pub settle-requires-clause-counted : goal.settle-requires-clause-counted
-settle-requires-clause-counted g c =
-    (0, 0, 0, counted_none c.loop-begin.self.frontier c.loop-begin.invariant.front, omega arith)
+    let M = g.M.MapRead.map c.args.map.now in (
+      M,
+      c.args.from.now,
+      0,
+      0,
+      0,
+      plain M (g.M.MapRead.node_slot c.args.map.now) c.args.direction c.loop-begin.self.frontier 0,
+      under_way g (goal.at.settle-requires-clause-begun g c).After-loop-begin,
+      counted_none c.loop-begin.self.frontier c.loop-begin.invariant.front,
+      omega arith,
+    )
 
 pub returns-clause-search : goal.returns-clause-search
 returns-clause-search g c =
+    let M = g.M.MapRead.map c.args.map.now in
+    let slot = g.M.MapRead.node_slot c.args.map.now in
     let e = c.in_ok-settled.ensures in
-    let u = e.cut c.args.from.now (under_way g (goal.at.returns-clause-search g c).After-loop-begin) in
+    let none = counted_none c.loop-begin.self.frontier c.loop-begin.invariant.front in
+    let as_is = plain M slot c.args.direction c.loop-begin.self.frontier 0 in
+    let u = e.cut M c.args.from.now 0 0 0 none as_is (under_way g (goal.at.returns-clause-search g c).After-loop-begin) in
     record {
       way = c.loop-begin.invariant.way;
       under_way = u;
@@ -83,7 +112,18 @@ returns-clause-search g c =
       settled = λ v d known le l.
           settled_up_to _ _ c.args.direction c.args.from.now c.settle.new.frontier 0 u (omega arith) e.far v d
           (omega arith) l;
+      near = λ p small. elim (e.near M 0 0 0 none as_is p) [
+        | inr k ↦ inr (record {
+          line = k.line;
+          known = k.known;
+          to = k.to;
+          near = omega (arith, k.near);
+          sum = k.sum;
+        })
+        | inl same ↦ inl (begun_still M slot c.args.from.now (label_of c.loop-begin.self.frontier)
+            (label_of c.settle.new.frontier) p same (c.loop-begin.invariant.near p (omega arith)))
+      ];
       counted =
           counted_as c.settle.new.frontier _ _ _ _ _ _ (omega arith) (omega arith) (omega arith)
-          (e.counted 0 0 0 (counted_none c.loop-begin.self.frontier c.loop-begin.invariant.front));
+          (e.counted 0 0 0 none);
     }

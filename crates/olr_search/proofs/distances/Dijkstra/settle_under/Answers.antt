@@ -1,6 +1,7 @@
 use Rattle.olr_search.proofs.Common.{ℕ, ◌+◌, List, sym, subst, arith, IsSearch, IsUnderWay, IsCut, Direction}
 use Rattle.olr_search.specs.Bounds.{IsUnder}
 use Rattle.olr_search.proofs.CutLemmas.{cut_settled}
+use Rattle.olr_search.proofs.MarkLemmas.{plain}
 use Rattle.olr_search.proofs.distances.Dijkstra.settle_under.Given.{Over}
 use Rattle.olr_search.proofs.distances.Dijkstra.settle_under.Goals as goal
 
@@ -12,14 +13,29 @@ cut : (g : Over) (c : goal.In_ok-settle g) (direction : Direction) (from : List 
 cut g c direction from h =
     let M = g.M.MapRead.map c.args.map.now in
     let slot = g.M.MapRead.node_slot c.args.map.now in
+    let s = c.args.self.now in
     subst (λ (d : Direction). IsCut M slot d from (IsUnder c.args.bounds.now) c.settle.new.frontier) h.way
-    (c.in_ok-settle.ensures.cut from
-    (subst (λ (d : Direction). IsUnderWay M slot d from c.args.self.now.frontier) (sym h.way) h.under_way))
+    (c.in_ok-settle.ensures.cut M from s.settled s.limit (s.limit + 1) h.counted
+    (plain M slot s.direction s.frontier (s.limit + 1))
+    (subst (λ (d : Direction). IsUnderWay M slot d from s.frontier) (sym h.way) h.under_way))
 
-pub settle-requires-clause-counted : goal.settle-requires-clause-counted
-settle-requires-clause-counted g c =
-    let h = c.requires.begun.2 in
-    (c.args.self.now.settled, c.args.self.now.limit, c.args.self.now.limit + 1, h.counted, h.small)
+pub settle-requires-clause-begun : goal.settle-requires-clause-begun
+settle-requires-clause-begun g c =
+    let b = c.requires.begun in
+    let h = b.2 in
+    let M = g.M.MapRead.map c.args.map.now in
+    let slot = g.M.MapRead.node_slot c.args.map.now in
+    let s = c.args.self.now in (
+      M,
+      b.1,
+      s.settled,
+      s.limit,
+      s.limit + 1,
+      plain M slot s.direction s.frontier (s.limit + 1),
+      subst (λ (d : Direction). IsUnderWay M slot d b.1 s.frontier) (sym h.way) h.under_way,
+      h.counted,
+      h.small,
+    )
 
 pub returns-clause-labelled : goal.returns-clause-labelled
 returns-clause-labelled g c = λ direction from h. (cut g c direction from h).labelled
