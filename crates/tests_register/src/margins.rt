@@ -1,7 +1,8 @@
 //! Margins over the worked map. The expected texts and counts do not come from the program.
 
 use crate::worked::{
-    Expected, TEXT, WITH_TEXT, ends, expect_encodings, expect_reported, expect_text, holds, three_points,
+    Expected, TEXT, WITH_TEXT, ends, expect_encodings, expect_reported, expect_text, holds,
+    three_points,
 };
 use olr_commands::{Command, Reply};
 use olr_refs::Margin;
