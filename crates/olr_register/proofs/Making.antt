@@ -8,7 +8,7 @@ use Rattle.olr_register.proofs.Common.{changes_keep, Item, AreEncodingsIfAny, Fo
 use Rattle.olr_register.proofs.Common.{lines_of, changed_of, ChangeSet, Bool, Margin, anew, content_on, content_under, under_batch, AreEditsNoted}
 use Rattle.std.proofs.Common.{IsTrue}
 use Rattle.olr_register.proofs.Common.{all_named, ◌∷◌, Set_margin, follows_unmade, is_margin, true, Named}
-use Rattle.olr_register.proofs.Common.{held_of, IsHeld, AreGiven, MayReport, Batch, Result, IsErrAnd, append-nil, or_right, slot_of, KeepsSlots, IsUnderWay}
+use Rattle.olr_register.proofs.Common.{held_of, IsHeld, AreGiven, MayReport, Batch, Result, IsErrAnd, or_right, slot_of, KeepsSlots, IsUnderWay}
 use Rattle.olr_map.specs.RoadMaps.{CanUndoAll}
 use Rattle.olr_map.specs.declared.undo.UndoLog.{UndoLog}
 use Rattle.olr_list.specs.declared.overlay.Overlay.{Overlay}

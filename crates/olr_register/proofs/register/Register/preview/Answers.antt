@@ -1,6 +1,6 @@
 use Rattle.olr_register.proofs.Common.{◌≡◌, Some, None, Ok, List, map, refl, sym, ap, ◌∙◌, subst, Option, []}
-use Rattle.olr_register.proofs.Common.{map_of, map_before, Named, Content, Change, State, ByState, may_want, RegisterState}
-use Rattle.olr_register.proofs.Common.{entry_of, items, under_overlay, content_on, batch_of, Lacks_memory, IsOutcome, reply_of}
+use Rattle.olr_register.proofs.Common.{map_of, map_before, Named, Content, Change, State, ByState, RegisterState}
+use Rattle.olr_register.proofs.Common.{entry_of, items, content_on, batch_of, Lacks_memory, IsOutcome, reply_of}
 use Rattle.olr_register.proofs.BatchSteps.{held_content}
 use Rattle.olr_register.proofs.Noted.{can_commit}
 use Rattle.olr_register.proofs.Outcomes.{answered_uncounted, answered_refused}

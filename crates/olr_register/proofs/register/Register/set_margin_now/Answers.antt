@@ -1,4 +1,4 @@
-use Rattle.olr_register.proofs.Common.{refl, sym, ap, ◌∙◌, items, map_of, No_memory, Set_margin}
+use Rattle.olr_register.proofs.Common.{refl, items, No_memory, Set_margin}
 use Rattle.olr_register.proofs.Bounded.{bounded_unknown}
 use Rattle.olr_register.proofs.Singles.{refused_now, same_right, margin_requires, margin_right, margin_done, margin_lacks}
 use Rattle.olr_register.proofs.register.Register.set_margin_now.Goals as goal

@@ -1,4 +1,4 @@
-use Rattle.olr_register.proofs.Common.{◌∷◌, [], ◌++◌, List, ℕ, refl, sym, ap, ◌∙◌, No_memory, Set_margin, append-nil, record_line}
+use Rattle.olr_register.proofs.Common.{◌++◌, List, ℕ, refl, sym, ap, ◌∙◌, No_memory, Set_margin, append-nil, record_line}
 use Rattle.olr_commands.specs.Reply.{Lacks, Records}
 use Rattle.olr_register.proofs.Outcomes.{answered_same, refused_same}
 use Rattle.olr_register.proofs.register.Register.show_margin.Goals as goal
