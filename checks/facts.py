@@ -56,6 +56,9 @@ FACTS = {
     "hours of the gate": r"(?:gate\*?,? takes|`\./test` takes) (\w+ to \w+) hours",
     "where packages have the tools' files": r"(/usr[\w/]*/share/olr-keep)\b",
 }
+# What the program doesn't do, and README and CHOOSE have to say.
+NOT_DONE = ("points along a line", "geo coordinates", "POIs", "areas", "closed lines", "XML", "version 2", "DATEX II", "TPEG",
+            "turn restrictions", "times", "heights", "antimeridian", "Kafka", "HTTP")
 # What pages have said, and isn't so.
 NOT_SO = {
     r"opens no file but": "with a log it makes and replaces files beside it",
@@ -308,8 +311,10 @@ def number_faults(said: Dict[str, str]) -> List[str]:
 
 
 def claim_faults(kinds: List[str]) -> List[str]:
-    """Claims of `NOT_SO`, and lists that lack something: of the kinds of `check-map`, and of what no worker answers."""
-    faults = []
+    """Claims of `NOT_SO`, and lists that lack something: of what isn't done, of the kinds of `check-map`, and of what no worker
+    answers."""
+    faults = [f"{page}: it doesn't say that there are no {it}" for page in ("README.md", "docs/CHOOSE.md") for it in NOT_DONE
+              if not re.search(rf"\b{it}\b", text_of(page))]
     for page in pages():
         for text in re.split(r"\n\n|\n(?=- |\|)", text_of(page)):
             faults += [f"{page}: {text[:60]} ..: {why}" for claim, why in NOT_SO.items() if re.search(claim, text)]

@@ -18,6 +18,7 @@ NEAR = 0.005  # degrees of the cells in which changes are near each other
 MOST_CELLS = 20_000  # changed streets of a round of which cells are kept
 GAP = 1.0  # metres between the end of a street and another street that are taken for a fault
 LAST = (1 << 32) - 1  # the greatest number of a node or a line
+LINE_COLUMNS = "line, street, part, k, along, from_node, to_node, nth, length, fields, geom"
 AHEAD = 1 << 24  # numbers of a preview beyond the last ones
 ESCAPES = str.maketrans({"\\": "\\\\", "\t": "\\t", "\n": "\\n", "\r": "\\r"})  # of COPY
 
@@ -253,8 +254,7 @@ class MapUpdate:
         """Writes the lines of a cut, and their records, and then those of nodes that are gone."""
         self.cursor.execute("delete from olr_keep.line where line = any(%s::bigint[])", (number_array(cut.dropped),))
         self.records += [f"line,{number},{it.start},{it.end},{it.fields}" for number, it in cut.added.items()]
-        columns = "line, street, part, k, along, from_node, to_node, nth, length, fields, geom"
-        rows = []
+        columns, rows = LINE_COLUMNS, []
         for number, (line, old) in sorted(cut.changed.items()):
             is_other = line.fields != old.fields
             if is_other:

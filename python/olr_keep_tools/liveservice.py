@@ -14,7 +14,8 @@ from .command import STREAM, USAGE, Failure, say
 from .liveambiguous import write_ambiguities
 from .livedraft import Draft, DraftSettings, write_report
 from .liveprogram import LiveProgram
-from .livemap import AHEAD, Affected, MapUpdate, Numbers, write_all_open_ends
+from .livefirst import FirstLoad, is_first
+from .livemap import AHEAD, LAST, Affected, MapUpdate, Numbers, write_all_open_ends
 from .livepaths import PathsUpdate
 from .liveread import BLOCK, Change, Reader
 from .liverounds import Limits, Round
@@ -91,24 +92,38 @@ class Attempt:
 
     def apply_map(self, change: Change) -> None:
         """Changes the map, block by block."""
-        count, done, analyzed, said = change.count, 0, MANY, time.monotonic()
+        count, done, analyzed, self.said = change.count, 0, MANY, time.monotonic()
+        first = FirstLoad(self.cursor, self.numbers, self.affected) if self.is_first_load(count) else None
         margin = max(30, 2 * self.settings.tolerance) * METRE
         for block in self.reader.blocks():
-            records = MapUpdate(self.cursor, block, self.numbers, self.affected, margin, count <= BLOCK).run()
-            if self.live.program:
-                self.records += records
+            if first:
+                first.read(block)
+            else:
+                records = MapUpdate(self.cursor, block, self.numbers, self.affected, margin, count <= BLOCK).run()
+                self.records += records if self.live.program else []
             done = min(count, done + BLOCK)
-            self.live.progress = done, count
+            self.tell(done // 2 if first else done, count)
             if done > 2 * analyzed:
                 analyzed = done
                 self.cursor.execute("analyze olr_keep.street, olr_keep.vertex, olr_keep.node, olr_keep.line")
-            if time.monotonic() - said > 10:
-                said = time.monotonic()
-                say(f"{done} of {count} streets")
-                self.live.write_metrics(False)
+        if first:
+            first.cut(lambda cut: self.tell((count + cut) // 2, count))
         if count > BLOCK:
             write_all_open_ends(self.cursor)
         self.live.progress = 0, 0
+
+    def is_first_load(self, count: int) -> bool:
+        """Whether there are many streets and no map yet, and no program that has to follow. Numbers have to be left."""
+        are_left = all(self.numbers.last[it] + 100 * count < LAST for it in ("node", "line"))
+        return count > BLOCK and self.live.program is None and are_left and is_first(self.cursor)
+
+    def tell(self, done: int, count: int) -> None:
+        """Says how far a long round is, every few seconds."""
+        self.live.progress = done, count
+        if time.monotonic() - self.said > 10:
+            self.said = time.monotonic()
+            say(f"{done} of {count} streets")
+            self.live.write_metrics(False)
 
     def answers(self) -> Dict[str, str]:
         """The answers that the round changes; all answers if the program is started for it."""

@@ -1,26 +1,30 @@
 """Tests of the steps of tools/live: cutting, reading, finding paths, holding, numbers, and what is sent to the program."""
+import argparse
 import functools
 import os
 import tempfile
 import time
 import unittest
+from collections import Counter
 from typing import Any, Dict, Iterator, List, Mapping, Optional, Sequence, Tuple
 
 from olr_keep_tools.courses import CELL, DRAWN, Ends, Found, Ground, Lost, Network, Strip, Wish, cells_along, follow
 from olr_keep_tools.forked import Forked
 from olr_keep_tools.liveambiguous import Obstacle, named_places, obstacles, write_ambiguities
 from olr_keep_tools.livedraft import Was, verdict
+from olr_keep_tools.livefirst import FirstLoad, Writer
 from olr_keep_tools.liveprogram import LiveProgram, Sent
 from olr_keep_tools.livemap import LAST, Affected, Numbers, cell_of, copy_line
 from olr_keep_tools.livepaths import PathsUpdate, Search, is_there, places_hex
-from olr_keep_tools.liveread import Change, Fate, Known, StreetRow, cell, changed, fate_of, is_plain
+from olr_keep_tools.liveread import Change, Fate, Known, Reader, StreetRow, cell, changed, fate_of, is_plain
 from olr_keep_tools.liverounds import DROPPED, Answer, Clusters, Counts, Effect, Limits, Round, Waiting
-from olr_keep_tools.livesession import Source, row_query
+from olr_keep_tools.liveservice import Attempt
+from olr_keep_tools.livesession import Source, psycopg2, row_query
 from olr_keep_tools.pathlines import Known as KnownPath
 from olr_keep_tools.pathlines import (Edited, Finder, PathSearch, Road, Row, State, Wanted, WhereItWas, boxes_of, cells_near,
                                       marked_street, text_array)
 from olr_keep_tools.program import ProgramFailed
-from olr_keep_tools.streets import Old, Recut, Street, Unfit, place_of, street_of
+from olr_keep_tools.streets import Old, Recut, Street, Unfit, place_of, street_of, wkb_hex
 
 
 def place(east: int, north: int = 0) -> int:
@@ -121,6 +125,46 @@ class Cutting(unittest.TestCase):
         self.assertEqual(street_of("3", None, None, "ST_LineString", 4326, b""), Unfit("form and direction are NULL"))
 
 
+class FirstLoads(unittest.TestCase):
+    """The cut of a first load is that of a change of all streets."""
+
+    STREETS = {
+        "a": Street(3, 3, "both", ((place(0), place(50), place(100)),)), "b": Street(5, 3, "against", ((place(50), place(50, 80)),)),
+        "loop": Street(5, 3, "both", ((place(100), place(150), place(150, 50), place(100)),)),
+        "long": Street(1, 1, "along", (tuple(place(200 + 9000 * k, 500) for k in range(5)),)),
+        "two": Street(4, 3, "both", ((place(0, 300), place(50, 300)), (place(50, 80), place(0, 300)))),
+    }
+
+    def lines(self, made: Any, places: Mapping[int, int]) -> List[Any]:
+        """Lines with the places of their ends in place of numbers."""
+        return sorted((*it[:4], places[it.start], places[it.end], *it[6:]) for it in made)
+
+    def test_same_as_a_change(self) -> None:
+        cut = Recut({key: () for key in self.STREETS}, dict(self.STREETS), [], {}, set(), FakeNumbers()).run()
+        numbers: Any = FakeNumbers()
+        load = FirstLoad(FakeCursor(), numbers, Affected())
+        counts = Counter(it for street in self.STREETS.values() for part in street.parts for it in part)
+        meeting = {it for it, count in counts.items() if count > 1}
+        made = [it for key, street in self.STREETS.items() for it in load.cut_block({key: street}, meeting)]
+        places = {node: it for it, node in load.node_at.items()}
+        self.assertEqual(self.lines(made, places), self.lines(cut.added.values(), cut.new_nodes))
+        ends = {places[node] for node, count in load.ending.items() if count == 1}
+        self.assertEqual(ends, {cut.new_nodes[it] for it in cut.ends})
+
+    def test_rows_are_copied_in_order(self) -> None:
+        cursor = FakeCursor()
+        with Writer(cursor) as writer:
+            for k in range(5):
+                writer.copy("line", "line", [(k,), (None,)])
+            writer.wait()
+        self.assertEqual([it[2] for it in cursor.copied], [f"{k}\n\\N\n" for k in range(5)])
+
+    def test_a_failure_is_raised(self) -> None:
+        with Writer(None) as writer, self.assertRaises(AttributeError):
+            writer.copy("line", "line", [(1,)])
+            writer.wait()
+
+
 # ---- reading
 
 
@@ -162,6 +206,74 @@ class Reading(unittest.TestCase):
         self.assertEqual(cell(float("nan"), 0), -1)
         self.assertEqual(cell(6.1, 49.6), cell(6.1001, 49.6001))
         self.assertNotEqual(cell(6.1, 49.6), cell(16.1, 49.6))
+
+
+class Failing(FakeCursor):
+    """A cursor for which rows with the id 3 can't be read."""
+
+    connection: Any = argparse.Namespace(closed=False)
+
+    def execute(self, query: str, values: Any = None) -> None:
+        """Fails if the row with id 3 is asked for."""
+        super().execute(query, values)
+        ids = values["ids"] if isinstance(values, dict) and "ids" in values else ""
+        if '"3"' in ids:
+            raise psycopg2.DataError("invalid input")
+        if ids:
+            shape = bytes.fromhex(wkb_hex((place(0), place(9)))[:2] + "02000000" + wkb_hex((place(0), place(9)))[18:])
+            self.found = [(it.strip('"'), 1, 2, "3", "3", "both", "ST_LineString", 4326, shape)
+                          for it in ids[1:-1].split(",") if it]
+
+
+@unittest.skipIf(psycopg2 is None, "psycopg2 is not installed")
+class ReadingRows(unittest.TestCase):
+    """The steps of reading: notes, and rows of which one can't be read."""
+
+    def test_notes(self) -> None:
+        cursor = Failing({"source <= 0": [(0, "p", "me", "9"), (0, None, "you", "8")]})
+        change = Reader(cursor, [], set()).read()
+        self.assertEqual((change.paths, change.users, change.every_path, change.path_group), ({"p"}, {"me", "you"}, True, {"p": "9"}))
+
+    def test_a_preview_leaves_the_notes(self) -> None:
+        cursor = Failing()
+        Reader(cursor, [], set(), True).notes("true")
+        self.assertTrue(cursor.queries[0].startswith("select"))
+
+    def test_a_bad_row_is_found(self) -> None:
+        rows = Reader(Failing(), [], set()).rows(SOURCE, {str(k) for k in range(8)})
+        self.assertEqual(sorted(rows), [str(k) for k in range(8)])
+        self.assertEqual(rows["3"][0].street, Unfit("invalid input"))
+        self.assertIsInstance(rows["4"][0].street, Street)
+
+
+class Attempts(unittest.TestCase):
+    """The steps of an attempt."""
+
+    def attempt(self, program: Any) -> Attempt:
+        """An attempt without a database."""
+        live: Any = argparse.Namespace(cursor=FakeCursor(), settings=argparse.Namespace(is_preview=False), stale=set(),
+                                       program=program, loaded=lambda: {"a": "loaded"})
+        work: Any = argparse.Namespace(tables=[])
+        return Attempt(live, work, False)
+
+    def test_answers(self) -> None:
+        program: Any = argparse.Namespace(answers=lambda records: {it: "new" for it in records})
+        attempt = self.attempt(program)
+        attempt.paths = PathsUpdate(FakeCursor(), Affected(), 20.0)
+        attempt.records, attempt.paths.records, attempt.fresh = ["map"], ["path"], {"map": "old", "other": "old"}
+        self.assertEqual(attempt.answers(), {"map": "new", "path": "new", "other": "old"})
+        self.assertEqual(self.attempt(None).answers(), {"a": "loaded"})
+
+    def test_only_an_empty_map_is_loaded_first(self) -> None:
+        attempt = self.attempt(None)
+        cursor: Any = attempt.cursor
+        attempt.numbers = Numbers(FakeCursor({"select kind, last": [("node", 0), ("line", 0)]}))
+        self.assertFalse(attempt.is_first_load(10))
+        self.assertFalse(attempt.is_first_load(10_000))
+        cursor.rows = {"select not exists": [(True,)]}
+        self.assertTrue(attempt.is_first_load(10_000))
+        attempt.numbers.last["line"] = LAST - 10
+        self.assertFalse(attempt.is_first_load(10_000))
 
 
 class Writing(unittest.TestCase):

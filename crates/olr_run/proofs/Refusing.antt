@@ -26,8 +26,8 @@ use Rattle.olr_sessions.specs.declared.in_memory.InMemory.{InMemory}
 
 pub not_accepted : (s t u : State) (c : Command) (f : Fault) → IsOutcome s c (Err f) u → (f ≡ Memory → ⊥) →
     step s c ≡ Ok t → ⊥
-not_accepted s t u c f (ByState e, same) no ok = let never : Err f ≡ Ok t = sym e ∙ ok in absurd cc
-not_accepted s t u c f (Lacks is may, same) no ok = no is
+not_accepted s t u c f (ByState e, same) other ok = let never : Err f ≡ Ok t = sym e ∙ ok in absurd cc
+not_accepted s t u c f (Lacks is may, same) other ok = other is
 
 -- the register's own batch
 own_batch : (l : Loader) (s : State) (a : Loads l s) → Represents l.register.kept (holding a.state.content a.changes)
@@ -121,11 +121,12 @@ kept_later (c ∷ cs) ds h = kept_later cs ds h.1
 
 steps_later : (s t u : State) (cs ds : List Command) → steps s cs ≡ Ok t → steps s (cs ++ ds) ≡ Ok u → steps t ds ≡ Ok u
 steps_later s t u [] ds h k = subst (λ (x : State). steps x ds ≡ Ok u) (let e : s ≡ t = cc in e) k
-steps_later s t u (c ∷ cs) ds h k = by_step (step s c) refl
+steps_later s t u (c ∷ cs) ds h k = by_step (step s c) refl (λ v. steps_later v t u cs ds)
   where
-    by_step : (r : Result State Fault) → step s c ≡ r → steps t ds ≡ Ok u
-    by_step (Ok v) e = steps_later v t u cs ds (rw e at h) (rw e at k)
-    by_step (Err f) e = absurd (let never = rw e at h in cc)
+    by_step : (r : Result State Fault) → step s c ≡ r →
+        ((v : State) → steps v cs ≡ Ok t → steps v (cs ++ ds) ≡ Ok u → steps t ds ≡ Ok u) → steps t ds ≡ Ok u
+    by_step (Ok v) e more = more v (rw e at h) (rw e at k)
+    by_step (Err f) e more = absurd (let never = rw e at h in cc)
 
 first_step : (s u : State) (c : Command) (cs : List Command) → steps s (c ∷ cs) ≡ Ok u → (t : State) × (step s c ≡ Ok t)
 first_step s u c cs h = by_step (step s c) refl

@@ -33,7 +33,7 @@ AreRecordsOf register text = (c : Content) → Represents register.kept (closed 
 
 -- a log is rejected for this fault, whatever memory there is
 abbrev pub is_rejected : StartFault → Bool
-is_rejected (start.Rejected record) = true
+is_rejected (start.Rejected at) = true
 is_rejected start.Open = true
 is_rejected (start.Unusable error) = false
 is_rejected start.TooMany = false

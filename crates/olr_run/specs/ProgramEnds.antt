@@ -11,8 +11,8 @@ use Rattle.olr_arguments.specs.Options.{Options, keep_app, options}
 use Rattle.olr_arguments.specs.Sizes.{IsLength, NoSize}
 use Rattle.olr_journal.specs.declared.folder.Folder as folder
 use Rattle.olr_journal.specs.declared.log_file.LogFile.{LogFile}
-use Rattle.olr_journal.specs.declared.opening.OpenError.{OpenError}
-use Rattle.olr_journal.specs.declared.opening.OpenError.TheVariants as unopened
+use Rattle.olr_journal.specs.declared.place.OpenError.{OpenError}
+use Rattle.olr_journal.specs.declared.place.OpenError.TheVariants as unopened
 use Rattle.olr_register.specs.Registered.{Registered}
 use Rattle.olr_run.specs.LogEnds.{Begins, LastsOn, Unbegun}
 use Rattle.olr_run.specs.Runs.{Records, RanOn, FaultedOn, records_read}

@@ -36,6 +36,10 @@ const OPEN_BATCH: u8 = 6;
 /// The exit status if another process uses the log.
 const IN_USE: u8 = 7;
 
+/// What is said of a log whose last run was cut off.
+const CUT_OFF: &str =
+    "; its last run was cut off, and replies may be missing: report has all answers";
+
 /// Reports why a log can't be opened, and returns the exit status.
 fn report_unopened<E: Write>(name: &str, error: OpenError, errors: &mut E) -> u8
     ensures { UnopenedCode error result }
@@ -140,13 +144,20 @@ fn plural(count: u64) -> &'static str {
     if count == 1 { "" } else { "s" }
 }
 
-/// Says with how many records and paths a run begins.
-fn report_begun<E: Write>(name: &str, records: u64, paths: usize, errors: &mut E) {
+/// Says with how many records and paths a run begins, and whether replies of the run before may be missing.
+fn report_begun<E: Write>(
+    name: &str,
+    records: u64,
+    paths: usize,
+    was_cut_off: bool,
+    errors: &mut E,
+) {
     let more_records = plural(records);
     let more_paths = plural(paths as u64);
+    let missing = if was_cut_off { CUT_OFF } else { "" };
     let _ = writeln!(
         errors,
-        "olr-keep: {name} has {records} record{more_records} and {paths} path{more_paths}"
+        "olr-keep: {name} has {records} record{more_records} and {paths} path{more_paths}{missing}"
     );
 }
 
@@ -200,11 +211,12 @@ fn run_from_log<
     ensures lacks { length (held output.new) ≤ most_held }
 {
     let mut log = log;
+    let was_cut_off = log.is_padded();
     let (mut register, records) = match begin_with(alloc, &mut log, asked.from) {
         Ok(begun) => begun,
         Err(fault) => return (report_start(asked.name, fault, errors), log),
     };
-    report_begun(asked.name, records, register.len(), errors);
+    report_begun(asked.name, records, register.len(), was_cut_off, errors);
     let (ended, gate) = run_with_log(
         alloc,
         &mut register,

@@ -1,13 +1,12 @@
 //! A start from a log.
 
-ghost use Rattle.std.specs.Prelude.{◌≡◌, ◌<◌, true, length, IfOk, IfErr, OnOk};
+ghost use Rattle.std.specs.Prelude.{◌≡◌, ◌<◌, ◌≤◌, true, IfOk, IfErr, OnOk};
 ghost use Rattle.csv.specs.Records.{fields_of};
 ghost use Rattle.olr_commands.specs.State as state;
 ghost use Rattle.olr_commands.specs.State.{start_state, Content, Begin, Commit};
 ghost use Rattle.olr_commands.specs.Words.{command_of, command_fault_of};
 ghost use Rattle.olr_register.specs.RegisterState.{Represents};
 ghost use Rattle.olr_run.specs.Logged.{closed, IsKept, Leads};
-ghost use Rattle.olr_run.specs.Output.{most_records, records_of};
 ghost use Rattle.olr_run.specs.Restored.{IsChange, IsContentOf, Loaded, Loads, LoadsRecord, NeverSteps, Refuses, RefusesRecord, Steps, is_rejection, kind_by};
 ghost use Rattle.olr_run.specs.declared.loader.RestoreFault.TheVariants as restore;
 
@@ -21,6 +20,9 @@ use thiserror::Error;
 
 /// The greatest number of changes in a batch.
 const FULL: u32 = 100_000;
+
+/// The same of the register's own batch while it has no path. A large one costs more for each change, and saves encodings alone.
+const FULL_WITHOUT_PATHS: u32 = 1_000;
 
 /// The greatest number of records of a log, 2^40.
 const MOST_RECORDS: u64 = 1 << 40;
@@ -171,13 +173,23 @@ impl Loader {
         Ok(())
     }
 
+    /// How many changes the register's batch may hold.
+    fn most_held(&self) -> u32
+        ensures { result ≤ 100000 }
+    {
+        if self.register.is_empty() {
+            return FULL_WITHOUT_PATHS;
+        }
+        FULL
+    }
+
     /// Makes a change. A full batch of the register is accepted first.
     fn change(&mut self, command: Command) -> Result<(), RestoreFault>
         requires { IsChange (command_of command) }
         ensures loaded { OnOk result (Loaded self.old (command_of command) self.new) }
         ensures refused { IfErr result (λ e. is_rejection e ≡ true → Refuses self.old (command_of command)) }
     {
-        if self.held < FULL {
+        if self.held < self.most_held() {
             return self.make(command);
         }
         self.renew()?;
@@ -286,7 +298,6 @@ pub fn restore(alloc: Global, text: &[u8], count: &mut u64) -> Result<Register, 
     ensures content { IfOk result (λ r. (c : Content) × IsContentOf text.now c × Represents r.kept (closed c)) }
     ensures leads { IfOk result (λ r. (c : Content) → Leads text.now c → Represents r.kept (closed c)) }
     ensures refused { IfErr result (λ e. is_rejection e ≡ true → (c : Content) → IsContentOf text.now c → ⊥) }
-    ensures too_many { IfErr result (λ e. e ≡ RestoreFault.TooMany → most_records < length (records_of text.now)) }
 {
     let mut progress = Progress::none();
     let restored = restore_noting(alloc, text, &mut progress);
@@ -303,7 +314,6 @@ pub(crate) fn restore_noting(
     ensures content { IfOk result (λ r. (c : Content) × IsContentOf text.now c × Represents r.kept (closed c)) }
     ensures leads { IfOk result (λ r. (c : Content) → Leads text.now c → Represents r.kept (closed c)) }
     ensures refused { IfErr result (λ e. is_rejection e ≡ true → (c : Content) → IsContentOf text.now c → ⊥) }
-    ensures too_many { IfErr result (λ e. e ≡ RestoreFault.TooMany → most_records < length (records_of text.now)) }
 {
     let mut loader = Loader::new(alloc)?;
     let mut records = InMemory::new(alloc, text);

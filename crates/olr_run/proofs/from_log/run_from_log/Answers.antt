@@ -22,7 +22,7 @@ returns-clause-ends g c =
     c.args.asked.now.stop c.in-Ok.begun.0 r.new.register
     (both_records (file_bytes g.F.Read.remaining c.args.file) (g.R.Read.remaining c.args.input))
     c.log_status.result c.in-Ok.ensures.begun.1 r.ensures.ended
-    (subst (λ (b : Bool). IfOk r.result.0 (λ (end : Status). c.log_status.result ≡ ended_code end b)) c.is_open.ensures c.log_status.ensures.ended)
+    (subst (λ (b : Bool). IfOk r.result.0 (λ (end : Status). c.log_status.result ≡ ended_code end b)) c.is_open-in_batch.ensures c.log_status.ensures.ended)
     c.log_status.ensures.cut
 
 pub returns-clause-sent : goal.returns-clause-sent

@@ -4,7 +4,7 @@ use Rattle.olr_arguments.specs.Sizes.{IsLength, NoSize}
 use Rattle.olr_run.proofs.Common.{Records, file_bytes, options_of, records_read}
 use Rattle.olr_run.proofs.Ending.{file_is, name_of}
 use Rattle.olr_run.proofs.ReadInputs.{both_read, not_read}
-use Rattle.olr_run.specs.ProgramEnds.{FromLog, No_size, Not_opened, From_log}
+use Rattle.olr_run.specs.ProgramEnds.{FromLog, Log_not_opened, No_size, Not_opened, From_log}
 use Rattle.olr_sessions.specs.Inputs.{read_from}
 use Rattle.olr_run.proofs.from_log.with_log.Goals as goal
 
@@ -47,3 +47,6 @@ returns-clause-ends g c =
     (both_read c.args.asked.now.lines file (g.R.Read.remaining c.args.input)
     (file_bytes (read_from g.F.Read.remaining) read.file) (read_from g.R.Read.remaining read.input) read.ensures.file
     read.ensures.input) c.run_from_log-status.ensures.ends)
+
+pub returns-in-Err-clause-ends : goal.returns-in-Err-clause-ends
+returns-in-Err-clause-ends g c = Log_not_opened c.in-Err.error c.in-Err.is refl refl c.report_unopened.ensures

@@ -7,8 +7,8 @@ use Rattle.olr_run.proofs.loader.apply.Goals as goal
 pub returns-in-Ok-clause-steps : goal.returns-in-Ok-clause-steps
 returns-in-Ok-clause-steps c = λ s represents. let h = c.in-Ok.ensures.outcome s represents in (h.0, h.1, h.2.0)
 
-pub returns-clause-refused : goal.returns-clause-refused
-returns-clause-refused c = λ is s represents t ok.
+pub returns-in-Err-clause-refused : goal.returns-in-Err-clause-refused
+returns-in-Err-clause-refused c = λ is s represents t ok.
     let h = c.in-Err.ensures.outcome s represents in
     not_accepted s t h.0 (command_of c.args.command) (command_fault_of c.in-Err.fault) h.2
     (c.restore_fault.ensures is) ok

@@ -1,3 +1,4 @@
+use Rattle.std.proofs.lemmas.Result.{err_from_is_err_and}
 use Rattle.std.proofs.Common.{sym, subst, arith}
 use Rattle.csv.specs.Records.{fields_of}
 use Rattle.olr_commands.specs.State.{Content}
@@ -43,3 +44,11 @@ returns-clause-refused c =
     if_err c.finish.result _ _ c.finish.ensures.refused (λ e refused is.
     open_leads c.args.text.now c.records.records c.records.loader c.records.invariant.loading
     (rw c.if-branch.false at c.in_ok-next.ensures.takes) (refused is))
+
+pub returns-in_err-take-clause-refused : goal.returns-in_err-take-clause-refused
+returns-in_err-take-clause-refused c =
+    let p = err_from_is_err_and c.from_residual-in_err-take.result c.from_residual-in_err-take.ensures.1 in
+    rw p.1
+    (rw p.2 (λ is.
+    none_leads c.args.text.now c.records.records c.next.new.self c.records.loader (fields_of c.next.new.row)
+    c.records.invariant.loading (rw c.if-branch.true at c.in_ok-next.ensures.takes) (c.in_err-take.ensures.refused is)))

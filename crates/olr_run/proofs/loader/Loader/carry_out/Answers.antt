@@ -46,5 +46,5 @@ returns-in-Commit-clause-refused c =
 pub returns-in-Change-clause-refused : goal.returns-in-Change-clause-refused
 returns-in-Change-clause-refused c = if_err c.change.result _ _ c.change.ensures.refused (λ e refuses is kept. refuses is)
 
-pub returns-clause-refused : goal.returns-clause-refused
-returns-clause-refused c = λ is kept. absurd (other_kind c.args.command c.in-Other.ensures kept)
+pub returns-in-Other-clause-refused : goal.returns-in-Other-clause-refused
+returns-in-Other-clause-refused c = λ is kept. absurd (other_kind c.args.command c.in-Other.ensures kept)

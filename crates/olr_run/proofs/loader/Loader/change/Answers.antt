@@ -1,3 +1,4 @@
+use Rattle.std.proofs.lemmas.Result.{err_from_is_err_and}
 use Rattle.olr_run.proofs.Common.{command_of}
 use Rattle.olr_run.specs.Restored.{Loaded, Refuses}
 use Rattle.olr_run.proofs.Refusing.{if_err}
@@ -13,3 +14,8 @@ returns-clause-loaded c =
 pub returns-clause-refused : goal.returns-clause-refused
 returns-clause-refused c =
     if_err c.make-2.result _ _ c.make-2.ensures.refused (λ e refuses is s a. refuses is s (c.in_ok-renew.ensures.loads s a))
+
+pub returns-in_err-renew-clause-refused : goal.returns-in_err-renew-clause-refused
+returns-in_err-renew-clause-refused c =
+    let p = err_from_is_err_and c.from_residual.result c.from_residual.ensures.1 in
+    rw p.1 (rw p.2 (λ is s a t ok. c.in_err-renew.ensures.fails s a is))

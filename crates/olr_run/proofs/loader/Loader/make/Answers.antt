@@ -1,5 +1,6 @@
 use Rattle.std.proofs.Common.{◌≡◌, ◌∙◌, true, false, refl, sym}
 use Rattle.olr_run.proofs.Common.{command_of}
+use Rattle.std.proofs.lemmas.Result.{err_from_is_err_and}
 use Rattle.olr_run.proofs.Refusing.{change_full, change_never}
 use Rattle.olr_run.proofs.Restoring.{loaded_change}
 use Rattle.olr_run.proofs.loader.Loader.make.Goals as goal
@@ -18,3 +19,9 @@ returns-clause-loaded c =
 pub returns-then-self-ge-FULL-clause-refused : goal.returns-then-self-ge-FULL-clause-refused
 returns-then-self-ge-FULL-clause-refused c = λ is.
     change_full c.args.self.now (command_of c.args.command) c.requires.change c.if-not-self.false c.if-self-ge-FULL.true
+
+pub returns-in_err-apply-2-clause-refused : goal.returns-in_err-apply-2-clause-refused
+returns-in_err-apply-2-clause-refused c =
+    let p = err_from_is_err_and c.from_residual-in_err-apply-2.result c.from_residual-in_err-apply-2.ensures.1 in
+    rw p.1
+    (rw p.2 (λ is. change_never c.args.self.now (command_of c.args.command) c.requires.change c.requires.room (c.in_err-apply-2.ensures.refused is)))
