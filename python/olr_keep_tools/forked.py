@@ -3,11 +3,13 @@ from __future__ import annotations
 
 import os
 import pickle
+import select
 import signal
 from typing import Callable, Generic, Optional, TypeVar
 
 Result = TypeVar("Result")
 PIECE = 1 << 20  # bytes that are read at once
+TICK = 1.0  # seconds
 
 
 class Forked(Generic[Result]):
@@ -35,11 +37,15 @@ class Forked(Generic[Result]):
         finally:
             os._exit(status)
 
-    def result(self) -> Optional[Result]:
-        """Waits for the result: None if the child was killed, or the function failed."""
-        found = bytearray()
-        while piece := os.read(self.reading, PIECE):
-            found += piece
+    def result(self, tick: Callable[[], None]) -> Optional[Result]:
+        """Waits for the result, and calls `tick` each second: None if the child was killed, or the function failed."""
+        found, piece = bytearray(), b"?"
+        while piece:
+            if select.select([self.reading], [], [], TICK)[0]:
+                piece = os.read(self.reading, PIECE)
+                found += piece
+            else:
+                tick()
         return pickle.loads(bytes(found)) if self.waited() == 0 else None
 
     def end(self) -> None:

@@ -142,6 +142,10 @@ class PathsUpdate:
                 self.records += [f"drop-path,{name}"] if before[0].lines else []
         write_rows(self.cursor, rows)
 
+    def tick(self) -> None:
+        """Asks something, so that the session isn't taken for one that is stopped."""
+        self.cursor.execute("select 1")
+
     def record(self, name: str, placed: Placed, before: Optional[Before]) -> None:
         """Adds the record of a path, if it differs."""
         had_lines = bool(before and before[0].lines)
@@ -235,7 +239,7 @@ class Search:
 
     def result(self) -> Dict[str, Optional[Placed]]:
         """Where the paths are."""
-        found = (self.forked.result() if self.forked else None) or {}
+        found = (self.forked.result(self.update.tick) if self.forked else None) or {}
         return {name: found[name] if name in found else self.place(name) for name in self.names}
 
     def end(self) -> None:

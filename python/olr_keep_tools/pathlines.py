@@ -45,9 +45,14 @@ class Wanted(NamedTuple):
             return Lost("its streets have an empty or NULL id", None)
         if self.course is not None and not all(map(is_inside, self.course)):
             return Lost("its course is beyond the longitudes -180 to 179.9999 or the latitudes -89.9999 to 89.9999", None)
-        if self.course is not None and any(apart(a, b) > FAR for a, b in zip(self.course, self.course[1:])):
+        if self.course is not None and any(is_far(a, b) for a, b in zip(self.course, self.course[1:])):
             return Lost("two coordinates of its course are more than 100 km apart", self.course[0])
         return None
+
+
+def is_far(a: Place, b: Place) -> bool:
+    """Whether two coordinates are more than FAR apart."""
+    return max(abs(a[0] - b[0]), abs(a[1] - b[1])) > 0.6 and apart(a, b) > FAR
 
 
 class Road(NamedTuple):

@@ -2,6 +2,7 @@
 import argparse
 import functools
 import os
+import signal
 import tempfile
 import time
 import unittest
@@ -482,11 +483,20 @@ class Searches(unittest.TestCase):
         found = search.result()
         self.assertEqual([(name, it and it.lines) for name, it in found.items()], [("p", [1]), ("q", [1]), ("gone", None)])
 
+    def test_a_killed_search_is_made_again(self) -> None:
+        search = Search(PathsUpdate(FakeCursor(), Affected(), 20.0), ["p"], FakeFinder(row(1, "a")), self.NOTHING,
+                        {"p": self.COURSE}, {})
+        search.fork()
+        if search.forked:
+            os.kill(search.forked.process, signal.SIGKILL)
+        found = search.result()["p"]
+        self.assertEqual(found and found.lines, [1])
+
     def test_what_is_not_read_is_left(self) -> None:
         search = Search(PathsUpdate(FakeCursor(), Affected(), 20.0), ["p"], Finder(FakeCursor(), 20.0), self.NOTHING,
                         {"p": self.COURSE}, {})
         search.fork()
-        self.assertEqual(search.forked and search.forked.result(), {})
+        self.assertEqual(search.forked and search.forked.result(search.update.tick), {})
 
     def test_is_there(self) -> None:
         finder = FakeFinder(row(1, "a"))
@@ -509,10 +519,15 @@ class Forks(unittest.TestCase):
 
     def test_result(self) -> None:
         several = [Forked(functools.partial(list, range(k, 1_000_000))) for k in range(2)]
-        self.assertEqual([(it.result() or [])[:1] for it in several], [[0], [1]])
+        self.assertEqual([(it.result(self.fail) or [])[:1] for it in several], [[0], [1]])
+
+    def test_ticks(self) -> None:
+        ticks: List[int] = []
+        Forked(functools.partial(time.sleep, 1.5)).result(functools.partial(ticks.append, 1))
+        self.assertEqual(ticks, [1])
 
     def test_failure(self) -> None:
-        self.assertIsNone(Forked(lambda: 1 // 0).result())
+        self.assertIsNone(Forked(lambda: 1 // 0).result(self.fail))
 
     def test_killed(self) -> None:
         child = Forked(lambda: time.sleep(100))
