@@ -21,7 +21,8 @@ from .replies import NO_RECORD, Reply, is_one_record
 
 UNITS = 10_000_000
 HEAD = re.compile(rb"ok,(\d{1,18})\r?\n")
-QUESTIONS = ("show", "show-node", "show-line", "depends", "report", "explain", "dump", "compact", "preview", "ambiguous")
+QUESTIONS = ("show", "show-node", "show-line", "show-margin", "depends", "report", "explain", "dump", "compact", "preview",
+             "ambiguous")
 ENDS = ("commit", "abort")
 BLOCK = 1 << 20
 PADDING = re.compile(rb"\r(?!\n)")
