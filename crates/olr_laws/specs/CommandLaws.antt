@@ -1,8 +1,13 @@
 -- The laws of states, replies and counts.
-use Rattle.std.specs.Prelude.{◌≡◌, ◌≢◌, ◌⊎◌, ◌↔◌, ℕ, List, [], ◌∷◌, None, Ok, Contains, IsTrue, IsFalse}
+use Rattle.std.specs.Prelude.{◌≡◌, ◌≢◌, ◌⊎◌, ◌↔◌, ℕ, List, [], ◌∷◌, length, None, Ok, Contains, IsTrue, IsFalse}
 use Rattle.olr_spec.specs.Map.{Map, IsMap, Edit, edited, touched_nodes, touched_lines, has, has_node, has_line}
+use Rattle.olr_spec.specs.Elsewhere.{HasNoOther, IsNearlyAlong, HasClasses, KeptLines, RecoversLegs, suffices}
+use Rattle.olr_spec.specs.Encoding.{Points, EncodesWith}
 use Rattle.olr_spec.specs.Extension.{Path}
-use Rattle.olr_commands.specs.State.{Content, Add_path, Set_path, Make, State, Command, Explain, Begin, Preview, Commit, Abort}
+use Rattle.olr_spec.specs.Margins.{Margin}
+use Rattle.olr_spec.specs.Points.{OfPathWith}
+use Rattle.olr_spec.specs.Reference.{Reference, legs, kept_points, reference_with}
+use Rattle.olr_commands.specs.State.{Content, IsContent, Add_path, Set_path, Set_margin, Make, State, Command, Explain, Begin, Preview, Commit, Abort}
 use Rattle.olr_commands.specs.State.{HasCoords, IsState, step, changes_made, Named, Change, On_map}
 use Rattle.olr_commands.specs.Dump.{dump_changes, node_changes, line_changes}
 use Rattle.olr_commands.specs.Dependents.{DependsOn}
@@ -56,6 +61,12 @@ PathsRaiseOne =
     → (step s (Make (Add_path name path)) ≡ Ok t → Raises s (Make (Add_path name path)) t 1)
     × (step s (Make (Set_path name path)) ≡ Ok t → Raises s (Make (Set_path name path)) t 1)
 
+-- and setting the margin, also to what it was, by the number of paths
+abbrev pub MarginRaisesAll : Type 0
+MarginRaisesAll =
+    (s t : State) (g : Margin) → s.batch ≡ None → step s (Make (Set_margin g)) ≡ Ok t →
+    Raises s (Make (Set_margin g)) t (length s.content.paths)
+
 -- the records that show a node, or a line with its ends, are records of a dump
 abbrev pub ShownAreDumped : Type 0
 ShownAreDumped =
@@ -73,4 +84,15 @@ abbrev pub AffectedDepend : Type 0
 AffectedDepend =
     (c : Content) (N : Map) (e : Edit) (nodes : List ℕ) (p : Named) → edited c.map e ≡ Ok N →
     ((v : ℕ) → IsTrue (has (touched_nodes c.map e) v) → IsTrue (has nodes v)) → Affects c (On_map e ∷ []) p →
-    DependsOn c.map nodes p.path ⊎ NamesAdded c.map e p.path
+    DependsOn c.margin c.map nodes p.path ⊎ NamesAdded c.map e p.path
+
+-- a partner's map has no road that ours lacks, and its lengths and classes along the path differ from ours within the margin:
+-- there each leg of the path's string is recovered from the path's own lines at its LRPs
+abbrev pub PublishedElsewhere : Type 0
+PublishedElsewhere =
+    (c : Content) → IsContent c → (N : Map) → IsMap N → HasNoOther c.map N → (a b : ℕ) → IsTrue (suffices c.margin a b)
+    → (p : Named) → Contains c.paths p → (r : Reference) → EncodesWith c.margin c.map p.path (Points r)
+    → KeptLines c.margin c.map p.path (IsNearlyAlong a b c.map N)
+    → KeptLines c.margin c.map p.path (HasClasses c.margin c.map N) →
+    OfPathWith c.margin c.map p.path (λ E _ _ js. (r ≡ reference_with c.margin (legs c.map E.lines) E.pos E.neg js)
+    × RecoversLegs c.margin c.map N E.lines (kept_points (legs c.map E.lines) E.pos E.neg js))
