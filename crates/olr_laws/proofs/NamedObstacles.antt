@@ -18,8 +18,6 @@ use Rattle.olr_commands.proofs.NameLemmas.{named_path}
 use Rattle.olr_commands.specs.State.{Named, Content, ArePaths, IsContent, path_named, has_asked}
 use Rattle.olr_commands.specs.Reply.{Reply, Obstacles, IsObstacles}
 use Rattle.olr_commands.specs.Ambiguities.{NamedObstacle, named, obstacles_of, Ambiguity, Ambiguities, AskedAmbiguities}
-use Rattle.olr_spec.proofs.PartnerLemmas.{recovered_elsewhere}
-use Rattle.olr_laws.specs.CommandLaws.{PublishedElsewhere}
 use Rattle.olr_laws.specs.AmbiguityLaws.{UnnamedIsDistinct, NamedStands, StandsFor}
 use Rattle.olr_laws.proofs.AmbiguityLemmas.{clear_is_distinct}
 
@@ -130,16 +128,12 @@ none_named : (n : List ℕ) (os : List (ℕ × Obstacle)) →
 none_named n [] none = refl
 none_named n (o ∷ os) none = absurd (none (named n o) (Contains-here (named n o) (map (named n) os)) refl)
 
-path_in : (ps : List Named) (p : Named) → ArePaths ps → Contains ps p → IsTrue (is_path p.path.lines)
+pub path_in : (ps : List Named) (p : Named) → ArePaths ps → Contains ps p → IsTrue (is_path p.path.lines)
 path_in [] p a c = absurd (let lt = c.1 in omega arith)
 path_in (q ∷ ps) p a c = elim (Contains-cases q p ps c) [
   | inl e ↦ subst (λ (n : Named). IsTrue (is_path n.path.lines)) e a.0
   | inr later ↦ path_in ps p a.1 later
 ]
-
-pub published_elsewhere : PublishedElsewhere
-published_elsewhere c i N n other a b within p at =
-    recovered_elsewhere c.margin c.map N i.map n other a b within p.path (path_in c.paths p i.paths at)
 
 pub unnamed_is_distinct : UnnamedIsDistinct
 unnamed_is_distinct c i es a p at unnamed r e scale far w slack few =

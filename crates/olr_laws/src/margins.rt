@@ -10,12 +10,13 @@ ghost use Rattle.olr_laws.specs.MarginRows.{fifty, roads, roads_path, loop_map, 
 
 /// Where the lines of a route count longer and the route is the unique shortest path, each front of it is such a route;
 /// it is the unique shortest path of the map, and of another map, if this has no road that the first one lacks and the
-/// lengths differ by no more than the margin allows. So each leg of the string of each path is recovered on a partner's map.
+/// lengths differ by no more than the margin allows. So a receiver on such a map that takes the right
+/// line at each location reference point (LRP) of a path's string recovers the path's legs.
 pub fn laws_of_margins()
     ensures fronts { Laws.PrefixOfCounted }
     ensures here { Laws.CountedIsUnique }
     ensures elsewhere { Laws.UniqueElsewhere }
-    ensures published { CommandLaws.PublishedElsewhere }
+    ensures read { CommandLaws.ReadElsewhere }
 {}
 
 /// What lines count is rounded up to a decimetre, and is at most twice their length. With 50 thousandths lengths may
