@@ -147,7 +147,7 @@ pub fn rows_paths()
 {}
 
 /// Records of the margin.
-pub fn rows_margins()
+pub fn rows_margin_records()
     ensures margin { read (codes "margin" ∷ codes "50" ∷ codes "1" ∷ []) ≡ Ok (Make (Set_margin fifty)) }
     ensures greatest { read (codes "margin" ∷ codes "1000" ∷ codes "7" ∷ [])
         ≡ Ok (Make (Set_margin (record { routes = 1000; classes = 7 }))) }
