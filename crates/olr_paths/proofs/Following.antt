@@ -1,5 +1,6 @@
 -- A list follows itself, since no name occurs twice.
 use Rattle.olr_paths.proofs.Common.{if◌then◌else◌, option_map, answer_in, not_named, all_named, named_of, is_some, refl}
+use Rattle.olr_paths.proofs.Common.{map, unmade}
 use Rattle.olr_paths.proofs.Common.{Follows, Option, Answer, false, List, Made, Item, ◌∷◌, inr, ◌≡◌, ◌∙◌, inl, ap, []}
 use Rattle.olr_list.proofs.Common.{bytes_decides, NamesDiffer, path_named, flipped, made_in, Bool}
 
@@ -15,6 +16,11 @@ follows_behind i before (j ∷ js) h f =
     let same : answer_in (i ∷ before) j.name ≡ answer_in before j.name =
     ap (λ (b : Bool). answer_made (if b then i.made else made_in before j.name)) (flipped j.name i.name p.0) in
     (elim f.0 [ inl e ↦ inl e | inr e ↦ inr (same ∙ e) ], follows_behind i before js p.1 f.1)
+
+-- where no path is encoded yet
+pub follows_unmade : (before is : List Item) → Follows before (map unmade is)
+follows_unmade before [] = tt
+follows_unmade before (i ∷ is) = (inl refl, follows_unmade before is)
 
 pub follows_self : (is : List Item) → NamesDiffer (all_named is) → Follows is is
 follows_self [] d = tt

@@ -1,4 +1,5 @@
 pub mod Common
+pub mod LongestQueries
 pub mod RetainedLemmas
 pub mod Following
 pub mod RenewedPrefix

@@ -1,6 +1,6 @@
 -- The names of the affected paths, as far as a list was passed.
 use Rattle.olr_paths.proofs.Common.{inl, inr, ◌≡◌, ℕ, ◌+◌, List, [], ◌∷◌, ◌++◌, take, slice_get, Some, refl, sym, ap, ◌∙◌}
-use Rattle.olr_paths.proofs.Common.{map-append, Map, IsMap, ChangedLine, Item, IsAffected, IsBefore}
+use Rattle.olr_paths.proofs.Common.{map-append, Map, Margin, IsMap, ChangedLine, Item, IsAffected, IsBefore}
 use Rattle.olr_commands.specs.Counts.{Picks}
 use Rattle.olr_list.proofs.Common.{take_more_at}
 use Rattle.olr_list.specs.Actions.{ToSkip, ToName}
@@ -19,20 +19,21 @@ module _ {A : Type 0} (P : A → Type 0) where
   picks_left (y ∷ xs) ys x (inl h) n = inl (h.0, (h.1.0, picks_left xs h.1.0 x h.1.1 n, h.1.2))
   picks_left (y ∷ xs) ys x (inr h) n = inr (h.0, picks_left xs ys x h.1 n)
 
-module _ {N : Map} (n : IsMap N) {T X : List ℕ} {C : List ChangedLine} {is : List Item} (q : IsBefore N N T X C is)
+module _ {g : Margin} {N : Map} (n : IsMap N) {T X : List ℕ} {C : List ChangedLine} {is : List Item}
+    (q : IsBefore g N N T X C is)
     (p : ℕ) (i : Item) (at : slice_get is p ≡ Some i) (names : List (List ℕ)) where
-  pub names_left : ToSkip N T X i.made i.path → AffectedNames N T X (take p is) names →
-      AffectedNames N T X (take (p + 1) is) names
+  pub names_left : ToSkip N T X i.made i.path → AffectedNames g N T X (take p is) names →
+      AffectedNames g N T X (take (p + 1) is) names
   names_left f h = rw (take_more_at is p i at) (
     h.0,
-    picks_left (IsAffected N T X) (take p is) h.0 i h.1 (λ o. f.2 (touched_by n q p i at f.1 o)),
+    picks_left (IsAffected g N T X) (take p is) h.0 i h.1 (λ o. f.2 (touched_by n q p i at f.1 o)),
     h.2,
   )
 
-  pub names_taken : ToName N T X i.made i.path → AffectedNames N T X (take p is) names →
-      AffectedNames N T X (take (p + 1) is) (names ++ i.name ∷ [])
+  pub names_taken : ToName N T X i.made i.path → AffectedNames g N T X (take p is) names →
+      AffectedNames g N T X (take (p + 1) is) (names ++ i.name ∷ [])
   names_taken f h = rw (take_more_at is p i at) (
     h.0 ++ i ∷ [],
-    picks_taken (IsAffected N T X) (take p is) h.0 i h.1 (named_affected n q p i at f),
+    picks_taken (IsAffected g N T X) (take p is) h.0 i h.1 (named_affected n q p i at f),
     ap (λ (ns : List (List ℕ)). ns ++ i.name ∷ []) h.2 ∙ sym (map-append (λ (j : Item). j.name) h.0 (i ∷ [])),
   )

@@ -29,7 +29,7 @@ module _ {found : List ℕ} {long k next : ℕ} (up : IsStrictlyIncreasing found
     within = h.within;
   }
 
-past_end : (js : List Item) (q : ℕ) → slice_get js q ≡ None → length js ≤ q
+pub past_end : (js : List Item) (q : ℕ) → slice_get js q ≡ None → length js ≤ q
 past_end [] q at = omega arith
 past_end (j ∷ js) zero at = let never : ⊥ = cc (at) in absurd never
 past_end (j ∷ js) (suc q) at = let le = past_end js q at in omega arith

@@ -3,7 +3,7 @@
 --     items_before o l      the earlier list if there is one, otherwise l
 --     encodings_of r      how many encodings are counted
 --     IsStep      the effect of the action for a path
---     IsRenewal N t before is js r      the list js is the list is, renewed on N, after changes t that led from a map
+--     IsRenewal g N t before is js r      the list js is the list is, renewed on N, after changes t that led from a map
 --         where its results were right;  r reports the answers that are not those of the list before, and counts an
 --         encoding for each path that was affected
 --     ReportsIfOther before name A es fs      an entry is appended if the answer is not the earlier one of the
@@ -11,6 +11,7 @@
 use Rattle.std.specs.Prelude.{◌≡◌, ◌≢◌, ℕ, List, [], ◌∷◌, ◌++◌, map, Option, Some, option_map, unwrap_or, ◌⊎◌}
 use Rattle.std.specs.Borrow.{Bor}
 use Rattle.olr_spec.specs.Map.{Map}
+use Rattle.olr_spec.specs.Margins.{Margin}
 use Rattle.olr_search.specs.Counts.{raised_count}
 use Rattle.olr_commands.specs.Counts.{CountIs}
 use Rattle.olr_commands.specs.Words.{entry_of}
@@ -49,13 +50,13 @@ ReportsIfOther before name A es fs =
 abbrev pub encodings_of : Renewal → ℕ
 encodings_of r = r.renewed.work.encodings
 
-abbrev pub IsStep : Map → List Item → Item → ℕ → Action → Renewal → Renewal → Type 0
-IsStep N before i k Skip r s = s ≡ r
-IsStep N before i k Retain r s =
+abbrev pub IsStep : Margin → Map → List Item → Item → ℕ → Action → Renewal → Renewal → Type 0
+IsStep g N before i k Skip r s = s ≡ r
+IsStep g N before i k Retain r s =
     (made_at s ≡ made_at r) × (entries_of s.renewed ≡ entries_of r.renewed)
     × (encodings_of s ≡ raised_count (encodings_of r) 1)
-IsStep N before i k Encode r s =
-    (m : Made) × IsEncodingOf N i.path m
+IsStep g N before i k Encode r s =
+    (m : Made) × IsEncodingOf g N i.path m
     × (made_at s ≡ made_at r ++ record { position = k; path = i.path; made = Some m } ∷ [])
     × ReportsIfOther before i.name m.answer (entries_of r.renewed) (entries_of s.renewed)
     × (encodings_of s ≡ raised_count (encodings_of r) 1)
@@ -63,12 +64,12 @@ IsStep N before i k Encode r s =
 -- ---- the whole list
 
 -- the results of the list are right on L, and the changes led from L to N
-abbrev pub WasBefore : Map → Map → ChangeSet → List Item → Type 0
-WasBefore L N t is = IsBefore L N (nodes_of t) (lines_of t) (changed_of t) is
+abbrev pub WasBefore : Margin → Map → Map → ChangeSet → List Item → Type 0
+WasBefore g L N t is = IsBefore g L N (nodes_of t) (lines_of t) (changed_of t) is
 
-pub record IsRenewal (N : Map) (t : ChangeSet) (before is js : List Item) (r : Renewed) : Type 0 where
-  pub remade : AreRemade N is js
+pub record IsRenewal (g : Margin) (N : Map) (t : ChangeSet) (before is js : List Item) (r : Renewed) : Type 0 where
+  pub remade : AreRemade g N is js
   pub named : all_named js ≡ all_named is
   pub reported : Reported before js (entries_of r)
-  pub counted : (L : Map) → WasBefore L N t is → (n : ℕ) × CountIs (IsAffected L (nodes_of t) (lines_of t)) is n
+  pub counted : (L : Map) → WasBefore g L N t is → (n : ℕ) × CountIs (IsAffected g L (nodes_of t) (lines_of t)) is n
       × (r.work.encodings ≡ raised_count 0 n)

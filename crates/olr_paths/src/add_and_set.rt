@@ -13,7 +13,7 @@ use crate::encoding::publish;
 use crate::renewal::push_if_changed;
 use olr_commands::Entry;
 use olr_list::{NamedPath, PathList, Published, Searches};
-use olr_refs::Path;
+use olr_refs::{Margin, Path};
 use olr_roads::MapRead;
 use olr_search::Work;
 use std::alloc::{AllocError, Global};
@@ -25,13 +25,14 @@ fn encode_alone<M: MapRead>(
     alloc: Global,
     map: &M,
     path: Path,
+    margin: Margin,
     searches: &mut Searches,
 ) -> Result<(Rc<Path>, Rc<Published>, Work), AllocError>
     ensures new_origins { IfOk result (λ r. new_origins_in searches.new ≡ (made_of r.1.value).queries) }
-    ensures made { IfOk result (λ r. (r.0.value ≡ path) × IsEncodingOf (M.map map.now) path (made_of r.1.value)
+    ensures made { IfOk result (λ r. (r.0.value ≡ path) × IsEncodingOf margin (M.map map.now) path (made_of r.1.value)
         × (r.2.encodings ≡ 1)) }
 {
-    let (published, work) = publish(alloc, map, &path, &[], &mut searches.query)?;
+    let (published, work) = publish(alloc, map, &path, margin, &[], &mut searches.query)?;
     let shared = Rc::new(alloc, published)?;
     searches.new_origins.clear();
     searches.new_origins.extend_from_slice(shared.queries())?;
@@ -56,17 +57,18 @@ pub fn add<M: MapRead>(
     map: &M,
     name: String,
     path: Path,
+    margin: Margin,
     searches: &mut Searches,
 ) -> Result<(Vec<Entry>, Work), AllocError>
     requires { is_some (path_named (all_named (items list.old)) (string_bytes name)) ≡ false }
-    ensures added { IfOk result (λ r. (m : Made) × IsEncodingOf (M.map map.now) path m
+    ensures added { IfOk result (λ r. (m : Made) × IsEncodingOf margin (M.map map.now) path m
         × (items list.new ≡ items list.old ++ record { name = string_bytes name; path = path; made = Some m } ∷ [])
         × (list_map entry_of r.0.items ≡ entry (string_bytes name) m.answer ∷ [])) }
     ensures counted { IfOk result (λ r. r.1.encodings ≡ 1) }
     ensures new_origins { OnOk result (AreOriginsNoted searches.new (items list.old) (items list.new)) }
     ensures err { OnErr result (items list.new ≡ items list.old) }
 {
-    let (path, published, work) = encode_alone(alloc, map, path, searches)?;
+    let (path, published, work) = encode_alone(alloc, map, path, margin, searches)?;
     let entries = only_entry(alloc, name.as_str(), &published)?;
     let named = NamedPath {
         path,
@@ -84,10 +86,11 @@ pub fn set<M: MapRead>(
     map: &M,
     name: &str,
     path: Path,
+    margin: Margin,
     searches: &mut Searches,
 ) -> Result<(Vec<Entry>, Work), AllocError>
     requires { (A : Answer) × (answer_in (items list.old) name.now ≡ Some A) }
-    ensures set { IfOk result (λ r. (m : Made) × IsEncodingOf (M.map map.now) path m
+    ensures set { IfOk result (λ r. (m : Made) × IsEncodingOf margin (M.map map.now) path m
         × (items list.new ≡ list_map (set_item name.now path (Some m)) (items list.old))
         × (((answer_in (items list.old) name.now ≡ Some m.answer) × (list_map entry_of r.0.items ≡ []))
         ⊎ ((answer_in (items list.old) name.now ≢ Some m.answer)
@@ -96,7 +99,7 @@ pub fn set<M: MapRead>(
     ensures new_origins { OnOk result (AreOriginsNoted searches.new (items list.old) (items list.new)) }
     ensures err { OnErr result (items list.new ≡ items list.old) }
 {
-    let (path, published, work) = encode_alone(alloc, map, path, searches)?;
+    let (path, published, work) = encode_alone(alloc, map, path, margin, searches)?;
     let mut entries = Vec::new(alloc);
     push_if_changed(alloc, list, name, &published, &mut entries)?;
     let named = NamedPath {

@@ -12,6 +12,7 @@ ghost use Rattle.olr_paths.specs.Reencoded.{WasBefore};
 
 use olr_list::{ChangeSet, OverlaidList, Overlay, PathList, PathView, Searches, ask, is_affected};
 use olr_near::DistanceBounds;
+use olr_refs::Margin;
 use olr_roads::MapRead;
 use std::alloc::{AllocError, Global};
 
@@ -43,6 +44,7 @@ fn push_if_affected<M: MapRead>(
 fn names_by<M: MapRead>(
     alloc: Global,
     map: &M,
+    margin: Margin,
     overlaid: OverlaidList<'_>,
     touched: &ChangeSet,
     searches: &Searches,
@@ -50,8 +52,8 @@ fn names_by<M: MapRead>(
 ) -> Result<Vec<String>, AllocError>
     requires candidates { AreCandidates (M.map map.now) (M.node_slot map.now) touched.now searches.now
         (shown_items overlaid) found.now }
-    requires before { WasBefore (M.map map.now) (M.map map.now) touched.now (shown_items overlaid) }
-    ensures { IfOk result (λ names. AffectedNames (M.map map.now) (nodes_of touched.now) (lines_of touched.now)
+    requires before { WasBefore margin (M.map map.now) (M.map map.now) touched.now (shown_items overlaid) }
+    ensures { IfOk result (λ names. AffectedNames margin (M.map map.now) (nodes_of touched.now) (lines_of touched.now)
         (shown_items overlaid.entry) (list_map string_bytes names.items)) }
 {
     let mut names = Vec::new(alloc);
@@ -65,18 +67,19 @@ fn names_by<M: MapRead>(
 }
 
 /// The names of the paths of a list that edits would affect which touch these nodes and lines, in the order of the list.
-/// The results in the list are right on the map, and the bounds are distance bounds for all its coverage queries.
+/// The results in the list are right on the map with the margin, and the bounds are distance bounds for all its coverage queries.
 pub fn affected_names<M: MapRead>(
     alloc: Global,
     map: &M,
+    margin: Margin,
     list: &PathList,
     touched: &ChangeSet,
     bounds: &DistanceBounds,
     searches: &mut Searches,
 ) -> Result<Vec<String>, AllocError>
-    requires before { WasBefore (M.map map.now) (M.map map.now) touched.now (items list.now) }
+    requires before { WasBefore margin (M.map map.now) (M.map map.now) touched.now (items list.now) }
     requires bounds { AreBoundsOf (M.map map.now) (M.node_slot map.now) bounds.now (items list.now) }
-    ensures { IfOk result (λ names. AffectedNames (M.map map.now) (nodes_of touched.now) (lines_of touched.now)
+    ensures { IfOk result (λ names. AffectedNames margin (M.map map.now) (nodes_of touched.now) (lines_of touched.now)
         (items list.now) (list_map string_bytes names.items)) }
 {
     let overlay = Overlay::new(alloc);
@@ -84,6 +87,6 @@ pub fn affected_names<M: MapRead>(
         list,
         overlay: &overlay,
     };
-    let found = ask(alloc, map, overlaid, touched, bounds, searches)?;
-    names_by(alloc, map, overlaid, touched, searches, &found)
+    let found = ask(alloc, map, margin, overlaid, touched, bounds, searches)?;
+    names_by(alloc, map, margin, overlaid, touched, searches, &found)
 }

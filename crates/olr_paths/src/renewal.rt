@@ -2,13 +2,15 @@
 ghost use Rattle.std.specs.Prelude.{◌≡◌, ◌↔◌, ℕ, Contains, Some, slice_get, map as list_map, IsTrue, IfOk, OnOk};
 ghost use Rattle.olr_spec.specs.Map.{Map};
 ghost use Rattle.olr_commands.specs.Words.{entry_of};
-ghost use Rattle.std.specs.Prelude.{List};
-ghost use Rattle.olr_spec.specs.Queries.{CoverageQuery as QueryRecord, AreKnown};
+ghost use Rattle.std.specs.Prelude.{List, true};
+ghost use Rattle.olr_list.specs.declared.change_set.ChangeSet.{ChangeSet as Noted};
+ghost use Rattle.olr_spec.specs.Queries.{CoverageQuery as QueryRecord, AreKnownWith};
 ghost use Rattle.olr_list.specs.Items.{Item, made_of, items, answer_in};
 ghost use Rattle.olr_list.specs.Views.{shown_items, shown_item};
 ghost use Rattle.olr_list.specs.AffectedSearches.{AreDetoursIfFew};
 ghost use Rattle.olr_list.specs.Candidates.{AreCandidates};
 ghost use Rattle.olr_list.specs.Origins.{BeginsPut, AreBoundsOf, new_origins_in};
+ghost use Rattle.olr_list.specs.Changes.{anew};
 ghost use Rattle.olr_paths.specs.Changes.{Follows};
 ghost use Rattle.olr_paths.specs.Reencoded.{made_at, after_renewal, ReportsIfOther, IsStep};
 ghost use Rattle.olr_paths.specs.Reencoded.{WasBefore, IsRenewal};
@@ -20,7 +22,7 @@ use olr_list::{
     ask, clear_known, decide, note_fresh,
 };
 use olr_near::DistanceBounds;
-use olr_refs::KnownQuery;
+use olr_refs::{KnownQuery, Margin};
 use olr_roads::MapRead;
 use olr_search::{Dijkstra, Work};
 use std::alloc::{AllocError, Global};
@@ -98,6 +100,7 @@ impl Renewal {
         &mut self,
         alloc: Global,
         map: &M,
+        margin: Margin,
         before: &PathList,
         action: Action,
         position: usize,
@@ -105,9 +108,9 @@ impl Renewal {
         known: &[KnownQuery],
         query: &mut Dijkstra,
     ) -> Result<(), AllocError>
-        requires known { AreKnown (M.map map.now) (shown_item shown).path.lines known.now }
+        requires known { AreKnownWith margin (M.map map.now) (shown_item shown).path.lines known.now }
         ensures { OnOk result
-            (IsStep (M.map map.now) (items before.now) (shown_item shown.entry) position action self.old self.new) }
+            (IsStep margin (M.map map.now) (items before.now) (shown_item shown.entry) position action self.old self.new) }
     {
         match action {
             Action::Skip => (),
@@ -119,7 +122,7 @@ impl Renewal {
                 });
             }
             Action::Encode => {
-                let (made, work) = publish(alloc, map, shown.path, known, query)?;
+                let (made, work) = publish(alloc, map, shown.path, margin, known, query)?;
                 let published = Rc::new(alloc, made)?;
                 let entries = &mut self.renewed.entries;
                 push_if_changed(alloc, before, shown.name, &published, entries)?;
@@ -141,6 +144,7 @@ impl Renewal {
 fn known_for<M: MapRead>(
     alloc: Global,
     map: &M,
+    margin: Margin,
     touched: &ChangeSet,
     detours: &mut Detours,
     action: Action,
@@ -148,8 +152,8 @@ fn known_for<M: MapRead>(
 ) -> Result<Vec<KnownQuery>, AllocError>
     requires detours { AreDetoursIfFew (M.map map.now) (M.node_slot map.now) touched.now detours.old }
     requires before { (L : Map) × (items : List Item) × (k : ℕ) × (slice_get items k ≡ Some (shown_item shown))
-        × WasBefore L (M.map map.now) touched.now items }
-    ensures known { IfOk result (λ ks. AreKnown (M.map map.now) (shown_item shown.entry).path.lines ks.items) }
+        × WasBefore margin L (M.map map.now) touched.now items }
+    ensures known { IfOk result (λ ks. AreKnownWith margin (M.map map.now) (shown_item shown.entry).path.lines ks.items) }
     ensures detours { OnOk result (AreDetoursIfFew (M.map map.now) (M.node_slot map.now) touched.now detours.new) }
 {
     match (action, shown.published) {
@@ -164,6 +168,7 @@ fn known_for<M: MapRead>(
 fn renewal_by<M: MapRead>(
     alloc: Global,
     map: &M,
+    margin: Margin,
     overlaid: OverlaidList<'_>,
     before: &PathList,
     touched: &ChangeSet,
@@ -173,8 +178,8 @@ fn renewal_by<M: MapRead>(
     requires candidates { AreCandidates (M.map map.now) (M.node_slot map.now) touched.now searches.old
         (shown_items overlaid) found.now }
     requires follows { Follows (items before.now) (shown_items overlaid) }
-    requires before { (L : Map) × WasBefore L (M.map map.now) touched.now (shown_items overlaid) }
-    ensures renewed { IfOk result (λ r. IsRenewal (M.map map.now) touched.now (items before.now)
+    requires before { (L : Map) × WasBefore margin L (M.map map.now) touched.now (shown_items overlaid) }
+    ensures renewed { IfOk result (λ r. IsRenewal margin (M.map map.now) touched.now (items before.now)
         (shown_items overlaid.entry) (after_renewal r (shown_items overlaid.entry)) r.renewed) }
 {
     let mut renewal = Renewal::none(alloc);
@@ -183,17 +188,21 @@ fn renewal_by<M: MapRead>(
             continue;
         };
         let action = decide(map, touched, searches, shown)?;
-        let known = known_for(alloc, map, touched, &mut searches.detours, action, shown)?;
+        let detours = &mut searches.detours;
+        let known = known_for(alloc, map, margin, touched, detours, action, shown)?;
         let query = &mut searches.query;
-        renewal.advance(alloc, map, before, action, *position, shown, &known, query)?;
+        renewal.advance(
+            alloc, map, margin, before, action, *position, shown, &known, query,
+        )?;
     }
     Ok(renewal)
 }
 
-/// The renewal of a list under changes on a map.
-pub(crate) fn renewal_of<M: MapRead>(
+/// The renewal of a list under changes on a map, of which the edits may have changed some answers.
+fn renewal_of_some<M: MapRead>(
     alloc: Global,
     map: &M,
+    margin: Margin,
     overlaid: OverlaidList<'_>,
     before: &PathList,
     touched: &ChangeSet,
@@ -201,17 +210,105 @@ pub(crate) fn renewal_of<M: MapRead>(
     searches: &mut Searches,
 ) -> Result<Renewal, AllocError>
     requires follows { Follows (items before.now) (shown_items overlaid) }
-    requires before { (L : Map) × WasBefore L (M.map map.now) touched.now (shown_items overlaid) }
+    requires before { (L : Map) × WasBefore margin L (M.map map.now) touched.now (shown_items overlaid) }
     requires bounds { AreBoundsOf (M.map map.now) (M.node_slot map.now) bounds.now (shown_items overlaid) }
-    ensures renewed { IfOk result (λ r. IsRenewal (M.map map.now) touched.now (items before.now)
+    ensures { IfOk result (λ r. IsRenewal margin (M.map map.now) touched.now (items before.now)
         (shown_items overlaid.entry) (after_renewal r (shown_items overlaid.entry)) r.renewed) }
+{
+    let found = ask(alloc, map, margin, overlaid, touched, bounds, searches)?;
+    let renewal = renewal_by(
+        alloc, map, margin, overlaid, before, touched, searches, &found,
+    )?;
+    searches.count(renewal.renewed.work.encodings != 0);
+    Ok(renewal)
+}
+
+/// The renewal of a list under changes on a map, each of whose paths is encoded again, without known coverage queries.
+#[inline(never)]
+fn renewal_of_all<M: MapRead>(
+    alloc: Global,
+    map: &M,
+    margin: Margin,
+    overlaid: OverlaidList<'_>,
+    before: &PathList,
+    query: &mut Dijkstra,
+) -> Result<Renewal, AllocError>
+    ensures { IfOk result (λ r. (L : Map) (t : Noted)
+        → WasBefore margin L (M.map map.now) t (anew true (shown_items overlaid.entry))
+        → IsRenewal margin (M.map map.now) t (items before.now)
+        (anew true (shown_items overlaid.entry)) (after_renewal r (anew true (shown_items overlaid.entry))) r.renewed) }
+{
+    let mut renewal = Renewal::none(alloc);
+    for position in 0..overlaid.len() {
+        let Some(shown) = overlaid.at(position) else {
+            unreachable!()
+        };
+        let action = Action::Encode;
+        renewal.advance(
+            alloc,
+            map,
+            margin,
+            before,
+            action,
+            position,
+            shown,
+            &[],
+            query,
+        )?;
+    }
+    Ok(renewal)
+}
+
+/// `renewal_of`, whose new coverage queries are not noted yet.
+fn renewal_unnoted<M: MapRead>(
+    alloc: Global,
+    map: &M,
+    margin: Margin,
+    overlaid: OverlaidList<'_>,
+    before: &PathList,
+    all: bool,
+    touched: &ChangeSet,
+    bounds: &DistanceBounds,
+    searches: &mut Searches,
+) -> Result<Renewal, AllocError>
+    requires follows { Follows (items before.now) (anew all (shown_items overlaid)) }
+    requires before { (L : Map) × WasBefore margin L (M.map map.now) touched.now (anew all (shown_items overlaid)) }
+    requires bounds { AreBoundsOf (M.map map.now) (M.node_slot map.now) bounds.now (anew all (shown_items overlaid)) }
+    ensures { IfOk result (λ r. IsRenewal margin (M.map map.now) touched.now (items before.now)
+        (anew all (shown_items overlaid.entry)) (after_renewal r (anew all (shown_items overlaid.entry))) r.renewed) }
+{
+    if all {
+        return renewal_of_all(alloc, map, margin, overlaid, before, &mut searches.query);
+    }
+    renewal_of_some(
+        alloc, map, margin, overlaid, before, touched, bounds, searches,
+    )
+}
+
+/// The renewal of a list under changes on a map. If the margin was set, each path is encoded again.
+pub(crate) fn renewal_of<M: MapRead>(
+    alloc: Global,
+    map: &M,
+    margin: Margin,
+    overlaid: OverlaidList<'_>,
+    before: &PathList,
+    all: bool,
+    touched: &ChangeSet,
+    bounds: &DistanceBounds,
+    searches: &mut Searches,
+) -> Result<Renewal, AllocError>
+    requires follows { Follows (items before.now) (anew all (shown_items overlaid)) }
+    requires before { (L : Map) × WasBefore margin L (M.map map.now) touched.now (anew all (shown_items overlaid)) }
+    requires bounds { AreBoundsOf (M.map map.now) (M.node_slot map.now) bounds.now (anew all (shown_items overlaid)) }
+    ensures renewed { IfOk result (λ r. IsRenewal margin (M.map map.now) touched.now (items before.now)
+        (anew all (shown_items overlaid.entry)) (after_renewal r (anew all (shown_items overlaid.entry))) r.renewed) }
     ensures new_origins { IfOk result (λ r. (v : QueryRecord) → BeginsPut (made_at r) v →
         Contains (new_origins_in searches.new) v) }
 {
     searches.new_origins.clear();
-    let found = ask(alloc, map, overlaid, touched, bounds, searches)?;
-    let renewal = renewal_by(alloc, map, overlaid, before, touched, searches, &found)?;
-    searches.count(renewal.renewed.work.encodings != 0);
+    let renewal = renewal_unnoted(
+        alloc, map, margin, overlaid, before, all, touched, bounds, searches,
+    )?;
     note_fresh(&renewal.fresh, &mut searches.new_origins)?;
     Ok(renewal)
 }

@@ -1,45 +1,45 @@
 -- The coverage queries of LRPs: what is asked from one LRP to the next, and what that says of a path.
-use Rattle.olr_refs.proofs.Common.{◌≡◌, ◌<◌, ◌≤◌, ◌+◌, ◌-◌, ◌*◌, ℕ, List, [], ◌∷◌, ◌++◌, length, map, Contains, Option}
-use Rattle.olr_refs.proofs.Common.{Some, None, MatchOption, refl, sym, ap, ◌∙◌, subst, arith, inl, inr, IsTrue, nat_tests}
-use Rattle.olr_refs.proofs.Common.{Map, IsMap, Path, is_path, Next, path_fault, Foot, CoverageQuery, KnownQuery, IsKnown}
-use Rattle.olr_refs.proofs.Common.{foot_queried, append-nil, append_assoc, nat_lt, option_to_list, filter-append, querying}
-use Rattle.olr_refs.proofs.Common.{KnownOf, QueriesFrom, QueriesOf, Next-candidate, Asks, IsKnownOf, IsAnswered}
+use Rattle.olr_refs.proofs.Common.{◌≡◌, ◌<◌, ◌≤◌, ◌+◌, ◌-◌, ◌*◌, ℕ, List, [], ◌∷◌, ◌++◌, length, Contains, Option}
+use Rattle.olr_refs.proofs.Common.{Some, None, MatchOption, refl, sym, ap, ◌∙◌, subst, arith, inr, IsTrue, nat_tests}
+use Rattle.olr_refs.proofs.Common.{Map, IsMap, Path, is_path, NextWith, path_fault, FootWith, CoverageQuery, KnownQuery}
+use Rattle.olr_refs.proofs.Common.{foot_queried_with, append-nil, append_assoc, nat_lt, option_to_list, filter-append, querying}
+use Rattle.olr_refs.proofs.Common.{KnownOfWith, QueriesFromWith, QueriesOfWith, Next-candidate, Asks, IsKnownOfWith, IsAnswered}
 use Rattle.olr_refs.proofs.Common.{IsReuse, own_of, Extends, ForPoints, raised_work, taken_start, taken_end, from_start}
-use Rattle.olr_refs.proofs.Common.{IsStrictlyIncreasing, slice_index, length-append, length-map, get_or_append_left}
-use Rattle.olr_refs.proofs.Common.{get_or-append_seam, get_or-map, map-append, cases_lt, Contains-append_left, Contains-append_right}
-use Rattle.olr_refs.proofs.Common.{Contains-push, Contains-push_cases}
+use Rattle.olr_refs.proofs.Common.{length-append}
+use Rattle.olr_refs.proofs.Common.{Contains-append_left, Contains-append_right}
 use Rattle.olr_refs.specs.declared.chosen.Queries.{Queries}
 use Rattle.olr_refs.specs.declared.reuse.Found.{Found}
 use Rattle.olr_refs.specs.declared.reuse.Reuse.{Reuse}
+use Rattle.olr_spec.specs.Margins.{Margin}
 use Rattle.std.specs.Prelude.{IfSome}
 use Rattle.std.proofs.Math.Seq.{drop-append_seam, take-append_seam}
 use Rattle.std.proofs.lemmas.List.Elements.{All-push, All-weaker}
-use Rattle.olr_spec.specs.Queries.{AreKnown}
+use Rattle.olr_spec.specs.Queries.{AreKnownWith}
 use Rattle.olr_refs.proofs.Noting.{zip_append, cost_more, searched_more, Led, led_more}
 use Rattle.olr_refs.proofs.Referring.{of_path}
 use Rattle.olr_spec.specs.Encoding as spec
 
 -- ---- from LRP to LRP
 
-module _ (M : Map) (ls : List ℕ) (r : Reuse) where
+module _ (g : Margin) (M : Map) (ls : List ℕ) (r : Reuse) where
   own_more : (qs : List CoverageQuery) (l : CoverageQuery) (ks : List KnownQuery) (o : Option KnownQuery) →
-      KnownOf M (own_of ls r) qs ks → IfSome o (IsKnownOf M (own_of ls r) (l ∷ [])) →
-      KnownOf M (own_of ls r) (qs ++ l ∷ []) (ks ++ option_to_list o)
+      KnownOfWith g M (own_of ls r) qs ks → IfSome o (IsKnownOfWith g M (own_of ls r) (l ∷ [])) →
+      KnownOfWith g M (own_of ls r) (qs ++ l ∷ []) (ks ++ option_to_list o)
   own_more qs l ks o x t =
       let own = own_of ls r in
-      let old : KnownOf M own (qs ++ l ∷ []) ks = All-weaker (IsKnownOf M own qs) (IsKnownOf M own (qs ++ l ∷ []))
+      let old : KnownOfWith g M own (qs ++ l ∷ []) ks = All-weaker (IsKnownOfWith g M own qs) (IsKnownOfWith g M own (qs ++ l ∷ []))
       (λ e k. record { among = Contains-append_left qs (l ∷ []) e.query k.among; right = k.right }) ks x in
-      elim o as (λ p. IfSome p (IsKnownOf M own (l ∷ [])) → KnownOf M own (qs ++ l ∷ []) (ks ++ option_to_list p)) [
+      elim o as (λ p. IfSome p (IsKnownOfWith g M own (l ∷ [])) → KnownOfWith g M own (qs ++ l ∷ []) (ks ++ option_to_list p)) [
         | None ↦ λ none. rw append-nil old
-        | Some e ↦ λ k. All-push (IsKnownOf M own (qs ++ l ∷ [])) ks e old
+        | Some e ↦ λ k. All-push (IsKnownOfWith g M own (qs ++ l ∷ [])) ks e old
             (record { among = Contains-append_right qs (l ∷ []) e.query k.among; right = k.right })
       ] t
 
   -- one LRP more
   pub asks_more : (is : List ℕ) (i : ℕ) (q s : Queries) (f : Found) (a b c : Option (List ℕ)) → i + 2 < length ls →
-      Asks M ls r is q a b → IsAnswered M ls r i f b c → s.all.items ≡ q.all.items ++ f.query ∷ [] →
+      Asks g M ls r is q a b → IsAnswered g M ls r i f b c → s.all.items ≡ q.all.items ++ f.query ∷ [] →
       s.own.items ≡ q.own.items ++ option_to_list f.own → s.work ≡ raised_work q.work f.work →
-      Asks M ls r (is ++ i ∷ []) s a c
+      Asks g M ls r (is ++ i ∷ []) s a c
   asks_more is i q s f a b c h x y all own work =
       let here : querying ls (i ∷ []) ≡ i ∷ [] = grind (arith, nat_tests) in
       let e = filter-append (λ k. nat_lt (k + 2) (length ls)) is (i ∷ []) in
@@ -52,7 +52,7 @@ module _ (M : Map) (ls : List ℕ) (r : Reuse) where
 
   -- where at most one line follows line i nothing is asked
   pub asks_none : (is : List ℕ) (i : ℕ) (q : Queries) (a b : Option (List ℕ)) → length ls ≤ i + 2 →
-      Asks M ls r is q a b → Asks M ls r (is ++ i ∷ []) q a b
+      Asks g M ls r is q a b → Asks g M ls r (is ++ i ∷ []) q a b
   asks_none is i q a b h x =
       let here : querying ls (i ∷ []) ≡ [] = grind (arith, nat_tests) in
       let same : querying ls (is ++ i ∷ []) ≡ querying ls is =
@@ -60,46 +60,46 @@ module _ (M : Map) (ls : List ℕ) (r : Reuse) where
       record { each = rw same x.each; own = x.own; cost = x.cost; searched = x.searched }
 
 -- the LRPs so far, up to the last, from which nothing was asked yet, and their coverage queries
-pub record Gone (M : Map) (ls : List ℕ) (r : Reuse) (ps : List ℕ) (last : ℕ) (q : Queries)
+pub record Gone (g : Margin) (M : Map) (ls : List ℕ) (r : Reuse) (ps : List ℕ) (last : ℕ) (q : Queries)
     (seen noted : Option (List ℕ)) : Type 0
   where
     pub done : List ℕ
     pub points : List ℕ
     pub positions : ps ≡ done ++ last ∷ []
     pub first : done ++ last ∷ [] ≡ 0 ∷ points
-    pub led : Led M ls points last
+    pub led : Led g M ls points last
     pub within : last ≤ length ls
-    pub asks : Asks M ls r done q seen noted
+    pub asks : Asks g M ls r done q seen noted
 
-module _ (M : Map) (ls : List ℕ) (r : Reuse) where
+module _ (g : Margin) (M : Map) (ls : List ℕ) (r : Reuse) where
   -- what the queries of LRP i add
   abbrev pub AsksOn : ℕ → Queries → Queries → Option (List ℕ) → Option (List ℕ) → Type 0
   AsksOn i q s b c =
-      (before : List ℕ) (a : Option (List ℕ)) → Asks M ls r before q a b → Asks M ls r (before ++ i ∷ []) s a c
+      (before : List ℕ) (a : Option (List ℕ)) → Asks g M ls r before q a b → Asks g M ls r (before ++ i ∷ []) s a c
 
   pub gone_more : (ps qs : List ℕ) (last m : ℕ) (q s : Queries) (a b c : Option (List ℕ)) →
-      Gone M ls r ps last q a b → AsksOn last q s b c → Next M ls last m → qs ≡ ps ++ m ∷ [] →
-      Gone M ls r qs m s a c
-  gone_more ps qs last m q s a b c g on n e =
+      Gone g M ls r ps last q a b → AsksOn last q s b c → NextWith g M ls last m → qs ≡ ps ++ m ∷ [] →
+      Gone g M ls r qs m s a c
+  gone_more ps qs last m q s a b c gone on n e =
       record {
-        done = g.done ++ last ∷ [];
-        points = g.points ++ m ∷ [];
-        positions = rw (e, g.positions) refl;
-        first = rw g.first refl;
-        led = led_more M ls g.points last m g.led n;
+        done = gone.done ++ last ∷ [];
+        points = gone.points ++ m ∷ [];
+        positions = rw (e, gone.positions) refl;
+        first = rw gone.first refl;
+        led = led_more g M ls gone.points last m gone.led n;
         within = (Next-candidate M ls last m n).upto;
-        asks = on g.done a g.asks;
+        asks = on gone.done a gone.asks;
       }
 
-  pub ended : (ps : List ℕ) (last : ℕ) (q s : Queries) (a b c : Option (List ℕ)) → (g : Gone M ls r ps last q a b) →
-      AsksOn last q s b c → Asks M ls r (0 ∷ g.points) s a c
-  ended ps last q s a b c g on = subst (λ (is : List ℕ). Asks M ls r is s a c) g.first (on g.done a g.asks)
+  pub ended : (ps : List ℕ) (last : ℕ) (q s : Queries) (a b c : Option (List ℕ)) → (gone : Gone g M ls r ps last q a b) →
+      AsksOn last q s b c → Asks g M ls r (0 ∷ gone.points) s a c
+  ended ps last q s a b c gone on = subst (λ (is : List ℕ). Asks g M ls r is s a c) gone.first (on gone.done a gone.asks)
 
   -- nothing is asked from the end
   pub ended_there : (ps : List ℕ) (last : ℕ) (q : Queries) (a b : Option (List ℕ)) →
-      (g : Gone M ls r ps last q a b) → length ls ≤ last → Asks M ls r (0 ∷ g.points) q a b
-  ended_there ps last q a b g h =
-      ended ps last q q a b b g (λ before begun x. asks_none M ls r before last q begun b (omega arith) x)
+      (gone : Gone g M ls r ps last q a b) → length ls ≤ last → Asks g M ls r (0 ∷ gone.points) q a b
+  ended_there ps last q a b gone h =
+      ended ps last q q a b b gone (λ before begun x. asks_none g M ls r before last q begun b (omega arith) x)
 
 -- ---- of a path without a fault
 
@@ -116,9 +116,9 @@ own_is M P E lead F G x r leads owns =
     let at : r.lead ≡ length (taken_start M x.before P.lines) = leads ∙ x.leads in
     rw (many, at, lines_are M P E lead F G x, drop-append_seam) (take-append_seam P.lines _)
 
-pub reuse_of : (M : Map) (P E : Path) (lead : ℕ) (F G : List ℕ) → Extends M P E lead F G → IsTrue (is_path P.lines) →
-    (r : Reuse) → r.lead ≡ lead → r.own ≡ length P.lines → AreKnown M P.lines r.known.now → IsReuse M E.lines r
-reuse_of M P E lead F G x is r leads owns known = record {
+pub reuse_of : (g : Margin) (M : Map) (P E : Path) (lead : ℕ) (F G : List ℕ) → Extends M P E lead F G → IsTrue (is_path P.lines) →
+    (r : Reuse) → r.lead ≡ lead → r.own ≡ length P.lines → AreKnownWith g M P.lines r.known.now → IsReuse g M E.lines r
+reuse_of g M P E lead F G x is r leads owns known = record {
   inside = omega (
     arith,
     ap length (lines_are M P E lead F G x),
@@ -127,25 +127,25 @@ reuse_of M P E lead F G x is r leads owns known = record {
     x.leads,
   );
   few = grind arith;
-  known = subst (λ (xs : List ℕ). AreKnown M xs r.known.now) (sym (own_is M P E lead F G x r leads owns)) known;
+  known = subst (λ (xs : List ℕ). AreKnownWith g M xs r.known.now) (sym (own_is M P E lead F G x r leads owns)) known;
 }
 
-module _ (M : Map) (P E : Path) (lead : ℕ) (F G : List ℕ) (x : Extends M P E lead F G) (sound : path_fault M P ≡ None)
+module _ (g : Margin) (M : Map) (P E : Path) (lead : ℕ) (F G : List ℕ) (x : Extends M P E lead F G) (sound : path_fault M P ≡ None)
     (r : Reuse) (leads : r.lead ≡ lead) (owns : r.own ≡ length P.lines) (q : Queries) (a b : Option (List ℕ))
-    (asks : ForPoints M E.lines (λ js. Asks M E.lines r (0 ∷ js) q a b)) where
+    (asks : ForPoints g M E.lines (λ js. Asks g M E.lines r (0 ∷ js) q a b)) where
   whole : (X Y : Type 0) → X → MatchOption (path_fault M P) X (λ _. Y)
   whole X Y h = subst (λ (o : Option spec.Refusal). MatchOption o X (λ _. Y)) (sym sound) h
 
-  pub queries_whole : QueriesOf M P q.all.items
-  queries_whole = whole _ _ (of_path M P E lead F G
-      (λ e _ _ js. QueriesFrom M e.lines (querying e.lines (0 ∷ js)) q.all.items) x (asks.0, asks.1, asks.2.each))
+  pub queries_whole : QueriesOfWith g M P q.all.items
+  queries_whole = whole _ _ (of_path g M P E lead F G
+      (λ e _ _ js. QueriesFromWith g M e.lines (querying e.lines (0 ∷ js)) q.all.items) x (asks.0, asks.1, asks.2.each))
 
-  pub known_whole : KnownOf M P.lines q.all.items q.own.items
-  known_whole = subst (λ (xs : List ℕ). KnownOf M xs q.all.items q.own.items)
+  pub known_whole : KnownOfWith g M P.lines q.all.items q.own.items
+  known_whole = subst (λ (xs : List ℕ). KnownOfWith g M xs q.all.items q.own.items)
       (own_is M P E lead F G x r leads owns) asks.2.own
 
   -- the searches settle no more than the footprint each
-  pub settled_few : IsMap M → IsTrue (is_path P.lines) → (all : List ℕ) → ((v : ℕ) → Foot M P v → Contains all v) →
+  pub settled_few : IsMap M → IsTrue (is_path P.lines) → (all : List ℕ) → ((v : ℕ) → FootWith g M P v → Contains all v) →
       q.work.settled ≤ length q.all.items * length all
   settled_few m is all h =
-      asks.2.cost.settled all (λ v s. h v ((foot_queried M m P is q.all.items queries_whole v).1 (inr s)))
+      asks.2.cost.settled all (λ v s. h v ((foot_queried_with g M m P is q.all.items queries_whole v).1 (inr s)))

@@ -1,7 +1,8 @@
 -- The choice of the next LRP, from the last position that is covered and within the limit back to the first.
 use Rattle.olr_refs.proofs.Common.{◌≡◌, ◌<◌, ◌≤◌, ◌-◌, ℕ, Bool, true, false, List, length, sym, subst, arith, Option}
 use Rattle.olr_refs.proofs.Common.{Some, MatchOption, cases_lt, cases_order, Coord, Map, coord_at, passing, node_at}
-use Rattle.olr_refs.proofs.Common.{fit16, Candidate, Next, IsReach, option_or, ValidCandidate, Greatest}
+use Rattle.olr_refs.proofs.Common.{fit16, CandidateWith, NextWith, IsReach, option_or, ValidCandidateWith, Greatest}
+use Rattle.olr_spec.specs.Margins.{Margin}
 use Rattle.olr_spec.specs.Points.{To_valid}
 
 abbrev pub fit : Map → List ℕ → ℕ → ℕ → Bool
@@ -12,23 +13,23 @@ pub fit_read : (M : Map) (ls : List ℕ) (i j : ℕ) (p q : Coord) (b : Bool) �
     q ≡ coord_at M (node_at M ls j) → b ≡ fit16 p q → fit M ls i j ≡ b
 fit_read M ls i j p q b hp hq hb = simp (hp, hq) at (sym hb)
 
-candidate_of : (M : Map) (ls : List ℕ) (i r j : ℕ) → IsReach M ls i r → i < j → j ≤ r → fit M ls i j ≡ true →
-    Candidate M ls i j
-candidate_of M ls i r j a h k f = grind arith
+candidate_of : (g : Margin) (M : Map) (ls : List ℕ) (i r j : ℕ) → IsReach g M ls i r → i < j → j ≤ r → fit M ls i j ≡ true →
+    CandidateWith g M ls i j
+candidate_of g M ls i r j a h k f = grind arith
 
 -- no candidate from k on, or the greatest of all
-abbrev Last : Map → List ℕ → ℕ → ℕ → Option ℕ → Type 0
-Last M ls i k last = MatchOption last ((j : ℕ) → k ≤ j → ¬ Candidate M ls i j) (λ m. Greatest (Candidate M ls i) m)
+abbrev Last : Margin → Map → List ℕ → ℕ → ℕ → Option ℕ → Type 0
+Last g M ls i k last = MatchOption last ((j : ℕ) → k ≤ j → ¬ CandidateWith g M ls i j) (λ m. Greatest (CandidateWith g M ls i) m)
 
 -- the positions from k on have been tested, and the end is not a candidate among them
-pub record Scanned (M : Map) (ls : List ℕ) (i r k : ℕ) (last : Option ℕ) : Type 0 where
-  pub not_end : ¬ Candidate M ls i (length ls)
-  pub no_valid : (j : ℕ) → k ≤ j → ¬ ValidCandidate M ls i j
-  pub greatest : Last M ls i k last
+pub record Scanned (g : Margin) (M : Map) (ls : List ℕ) (i r k : ℕ) (last : Option ℕ) : Type 0 where
+  pub not_end : ¬ CandidateWith g M ls i (length ls)
+  pub no_valid : (j : ℕ) → k ≤ j → ¬ ValidCandidateWith g M ls i j
+  pub greatest : Last g M ls i k last
 
 -- one more position, which does not fit
-not_fit : (M : Map) (ls : List ℕ) (i k j : ℕ) → fit M ls i (k - 1) ≡ false → j ≡ k - 1 → ¬ Candidate M ls i j
-not_fit M ls i k j f e c = let t : fit M ls i (k - 1) ≡ true = subst (λ (n : ℕ). fit M ls i n ≡ true) e c.fits in cc
+not_fit : (g : Margin) (M : Map) (ls : List ℕ) (i k j : ℕ) → fit M ls i (k - 1) ≡ false → j ≡ k - 1 → ¬ CandidateWith g M ls i j
+not_fit g M ls i k j f e c = let t : fit M ls i (k - 1) ≡ true = subst (λ (n : ℕ). fit M ls i n ≡ true) e c.fits in cc
 
 from_one_less : (Q : ℕ → Type 0) (k : ℕ) → 0 < k → ((j : ℕ) → k ≤ j → ¬ Q j) → ((j : ℕ) → j ≡ k - 1 → ¬ Q j) → (j : ℕ) →
     k - 1 ≤ j → ¬ Q j
@@ -37,33 +38,33 @@ from_one_less Q k p above here j h q = grind (arith, cases_order)
 greatest_here : (Q : ℕ → Type 0) (k : ℕ) → 0 < k → Q (k - 1) → ((j : ℕ) → k ≤ j → ¬ Q j) → Greatest Q (k - 1)
 greatest_here Q k p here above = grind (arith, cases_lt)
 
-last_less : (M : Map) (ls : List ℕ) (i k : ℕ) (last : Option ℕ) → 0 < k → ((j : ℕ) → j ≡ k - 1 → ¬ Candidate M ls i j) →
-    Last M ls i k last → Last M ls i (k - 1) last
-last_less M ls i k v4 p here l = grind (arith, from_one_less)
+last_less : (g : Margin) (M : Map) (ls : List ℕ) (i k : ℕ) (last : Option ℕ) → 0 < k → ((j : ℕ) → j ≡ k - 1 → ¬ CandidateWith g M ls i j) →
+    Last g M ls i k last → Last g M ls i (k - 1) last
+last_less g M ls i k v4 p here l = grind (arith, from_one_less)
 
-pub scan_unfit : (M : Map) (ls : List ℕ) (i r k : ℕ) (last : Option ℕ) → 0 < k → Scanned M ls i r k last →
-    fit M ls i (k - 1) ≡ false → Scanned M ls i r (k - 1) last
-scan_unfit M ls i r k last p s f =
+pub scan_unfit : (g : Margin) (M : Map) (ls : List ℕ) (i r k : ℕ) (last : Option ℕ) → 0 < k → Scanned g M ls i r k last →
+    fit M ls i (k - 1) ≡ false → Scanned g M ls i r (k - 1) last
+scan_unfit g M ls i r k last p s f =
     record {
       not_end = s.not_end;
-      no_valid = from_one_less (ValidCandidate M ls i) k p s.no_valid (λ j e v. not_fit M ls i k j f e v.0);
-      greatest = last_less M ls i k last p (λ j e. not_fit M ls i k j f e) s.greatest;
+      no_valid = from_one_less (ValidCandidateWith g M ls i) k p s.no_valid (λ j e v. not_fit g M ls i k j f e v.0);
+      greatest = last_less g M ls i k last p (λ j e. not_fit g M ls i k j f e) s.greatest;
     }
 
 -- one that fits, at a degree-two node
-last_more : (M : Map) (ls : List ℕ) (i k : ℕ) (last : Option ℕ) → 0 < k → Candidate M ls i (k - 1) →
-    Last M ls i k last → Last M ls i (k - 1) (option_or last (Some (k - 1)))
-last_more M ls i k v4 p c l = grind (arith, greatest_here)
+last_more : (g : Margin) (M : Map) (ls : List ℕ) (i k : ℕ) (last : Option ℕ) → 0 < k → CandidateWith g M ls i (k - 1) →
+    Last g M ls i k last → Last g M ls i (k - 1) (option_or last (Some (k - 1)))
+last_more g M ls i k v4 p c l = grind (arith, greatest_here)
 
-pub scan_passing : (M : Map) (ls : List ℕ) (i r k : ℕ) (last : Option ℕ) → 0 < k → i < k - 1 → k - 1 ≤ r →
-    IsReach M ls i r → Scanned M ls i r k last → fit M ls i (k - 1) ≡ true → passing M (node_at M ls (k - 1)) ≡ true
-    → Scanned M ls i r (k - 1) (option_or last (Some (k - 1)))
-scan_passing M ls i r k last p after upto a s f through = grind (arith, from_one_less, last_more, candidate_of)
+pub scan_passing : (g : Margin) (M : Map) (ls : List ℕ) (i r k : ℕ) (last : Option ℕ) → 0 < k → i < k - 1 → k - 1 ≤ r →
+    IsReach g M ls i r → Scanned g M ls i r k last → fit M ls i (k - 1) ≡ true → passing M (node_at M ls (k - 1)) ≡ true
+    → Scanned g M ls i r (k - 1) (option_or last (Some (k - 1)))
+scan_passing g M ls i r k last p after upto a s f through = grind (arith, from_one_less, last_more, candidate_of)
 
 -- the result
-pub next_valid : (M : Map) (ls : List ℕ) (i r k : ℕ) (last : Option ℕ) → 0 < k → i < k - 1 → k - 1 ≤ r →
-    IsReach M ls i r → Scanned M ls i r k last → fit M ls i (k - 1) ≡ true → passing M (node_at M ls (k - 1)) ≡ false
-    → Next M ls i (k - 1)
-next_valid M ls i r k last p after upto a s f valid =
-    let here : ValidCandidate M ls i (k - 1) = (candidate_of M ls i r (k - 1) a after upto f, valid) in
-    To_valid s.not_end (greatest_here (ValidCandidate M ls i) k p here s.no_valid)
+pub next_valid : (g : Margin) (M : Map) (ls : List ℕ) (i r k : ℕ) (last : Option ℕ) → 0 < k → i < k - 1 → k - 1 ≤ r →
+    IsReach g M ls i r → Scanned g M ls i r k last → fit M ls i (k - 1) ≡ true → passing M (node_at M ls (k - 1)) ≡ false
+    → NextWith g M ls i (k - 1)
+next_valid g M ls i r k last p after upto a s f valid =
+    let here : ValidCandidateWith g M ls i (k - 1) = (candidate_of g M ls i r (k - 1) a after upto f, valid) in
+    To_valid s.not_end (greatest_here (ValidCandidateWith g M ls i) k p here s.no_valid)

@@ -20,35 +20,35 @@ pub use Rattle.olr_search.specs.declared.work.Work.{Work}
 pub use Rattle.olr_spec.proofs.AnswerLemmas.{Next-candidate, all_first, all_last, no_unknown, path_also, path_nonempty}
 pub use Rattle.olr_spec.proofs.AnswerLemmas.{sound_lines}
 pub use Rattle.olr_spec.proofs.FieldLemmas.{dm_same, from_front-add, position_is}
-pub use Rattle.olr_spec.proofs.FitLemmas.{extended_sound, reference_fits}
-pub use Rattle.olr_spec.proofs.JoinLemmas.{Linked, between, follow_linked, kept_linked, stretch_last}
-pub use Rattle.olr_spec.proofs.JoinedAnswers.{joined}
+pub use Rattle.olr_spec.proofs.FitLemmas.{extended_sound, reference_fits_with}
+pub use Rattle.olr_spec.proofs.JoinLemmas.{CountedTo, LinkedWith, between, follow_linked_with, kept_linked_with, stretch_last}
+pub use Rattle.olr_spec.proofs.JoinedAnswers.{joined_with}
 pub use Rattle.olr_spec.proofs.ListLemmas.{Contains-cases, Contains-here, Contains-later, Contains-one, Each, Each-cons}
 pub use Rattle.olr_spec.proofs.ListLemmas.{Each-from, Each-nil, has_first, has_here, has_index, has_last, last_index}
 pub use Rattle.olr_spec.proofs.QueryLemmas.{stretch_parts}
 pub use Rattle.olr_spec.proofs.RouteLemmas.{dm_of-append, empty_unique, prefix_of_unique}
 pub use Rattle.olr_spec.proofs.RunLemmas.{last_push, one_tried, same_end_run, same_start_run}
-pub use Rattle.olr_spec.proofs.TestedLemmas.{foot_queried, one_last_tested}
+pub use Rattle.olr_spec.proofs.TestedLemmas.{foot_queried_with}
 pub use Rattle.olr_spec.proofs.WayLemmas.{route_known}
 pub use Rattle.olr_spec.specs.Bearings.{Leg, bearing_back, bearing_out}
 pub use Rattle.olr_spec.specs.Bytes.{IsReference}
 pub use Rattle.olr_spec.specs.Coordinates.{Coord, abs24, relative}
-pub use Rattle.olr_spec.specs.Encoding.{Encodes, Encoding, answer_by_points, first_break, first_unknown, path_fault}
+pub use Rattle.olr_spec.specs.Encoding.{EncodesWith, EncodingWith, answer_by_points_with, first_break, first_unknown, path_fault}
 pub use Rattle.olr_spec.specs.Extension.{AreJoined, EndRun, LongestEnd, LongestStart, MayFollow, MayPrecede, Path}
 pub use Rattle.olr_spec.specs.Extension.{StartRun, Tried, extended_path, first, from_start, is_path, last, limit}
 pub use Rattle.olr_spec.specs.Extension.{passing, taken_end, taken_start}
-pub use Rattle.olr_spec.specs.Footprint.{Foot, Sees}
+pub use Rattle.olr_spec.specs.Footprint.{FootWith, Sees}
 pub use Rattle.olr_spec.specs.Map.{IsMap, Line, Map, coord_at, dm, end, has, has_line, has_node, is_good, line_at}
 pub use Rattle.olr_spec.specs.Map.{start}
-pub use Rattle.olr_spec.specs.Points.{Candidate, Covered, Follow, Greatest, Next, NoNext, OfPath, ValidCandidate, fit16}
+pub use Rattle.olr_spec.specs.Points.{CandidateWith, CoveredWith, FollowWith, Greatest, NextWith, NoNextWith, OfPathWith, ValidCandidateWith, fit16}
 pub use Rattle.olr_spec.specs.Points.{last_position, node_at, stretch}
-pub use Rattle.olr_spec.specs.Queries.{CoverageQuery, IsKnown, IsKnownOf, IsLastTested, IsQuery}
-pub use Rattle.olr_spec.specs.Queries.{KnownOf, KnownQuery, Needed, NodeOf, QueriesFrom, QueriesOf, QueriesOfExtended}
-pub use Rattle.olr_spec.specs.Queries.{Traversed, TraversedOf, TraversedOfExtended, query_to, querying}
-pub use Rattle.olr_spec.specs.Reference.{Attrs, First, Last, Middle, Reference, attrs, dm_along, dm_between, first_kept}
-pub use Rattle.olr_spec.specs.Reference.{first_point, first_where, from_front, kept_points, last_kept, last_point}
-pub use Rattle.olr_spec.specs.Reference.{last_two, last_where, leg, leg_at, legs, middle_point, middle_points, no_leg}
-pub use Rattle.olr_spec.specs.Reference.{offset, position, reference, reference_by, to_back}
+pub use Rattle.olr_spec.specs.Queries.{CoverageQuery, IsKnownWith, IsKnownOfWith, IsLastTestedWith, IsQueryWith}
+pub use Rattle.olr_spec.specs.Queries.{KnownOfWith, KnownQuery, Needed, NodeOf, QueriesFromWith, QueriesOfWith, QueriesOfExtendedWith}
+pub use Rattle.olr_spec.specs.Queries.{Traversed, TraversedOf, TraversedOfExtended, query_to_with, querying}
+pub use Rattle.olr_spec.specs.Reference.{Attrs, First, Last, Middle, Reference, attrs_with, dm_along, dm_between, first_kept}
+pub use Rattle.olr_spec.specs.Reference.{first_point_with, first_where, from_front, kept_points, last_kept, last_point}
+pub use Rattle.olr_spec.specs.Reference.{last_two, last_where, leg, leg_at, legs, middle_point_with, middle_points_with, no_leg}
+pub use Rattle.olr_spec.specs.Reference.{offset, position, reference_with, reference_by_with, to_back}
 pub use Rattle.olr_spec.specs.Routes.{IsRoute, UniqueShortest, dm_of}
 pub use Rattle.std.proofs.Common.{Bool, Contains, Err, IsPermutation, List, MatchOption, None, Ok, Option, Result, Some}
 pub use Rattle.std.proofs.Common.{[], ap, append_assoc, arith, cond, drop, eqb, false, get_or, inl, inr, is_ok, is_some}

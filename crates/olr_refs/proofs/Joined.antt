@@ -1,7 +1,7 @@
 -- What is known of joined lines.
 use Rattle.olr_refs.proofs.Common.{◌≡◌, ◌<◌, ◌+◌, ℕ, List, [], ◌∷◌, ◌++◌, length, take, get_or, sym, ap, ◌∙◌, subst}
 use Rattle.olr_refs.proofs.Common.{arith, length-append, cases_order, get_or_default, slice_index, IsTrue, Map, IsMap}
-use Rattle.olr_refs.proofs.Common.{has_line, has_node, start, end, dm, IsRoute, dm_of, AreJoined, dm_of-append, Each}
+use Rattle.olr_refs.proofs.Common.{has_line, has_node, start, end, dm, dm_of, AreJoined, dm_of-append}
 use Rattle.olr_refs.proofs.Common.{has_index, DistancesTo, get_or_append_left, take_more, get_or-append_seam}
 use Rattle.olr_refs.proofs.Common.{route_known}
 

@@ -1,9 +1,10 @@
 -- The legs of joined lines, by the lines and their distances.
 use Rattle.olr_refs.proofs.Common.{arith, ◌≡◌, ◌<◌, ◌-◌, ℕ, List, length, take, drop, map, max, ap, ◌∙◌, get_or-map}
 use Rattle.olr_refs.proofs.Common.{take-map, slice_index, slice_range, IsTrue, Map, IsMap, has_line, has_node, coord_at}
-use Rattle.olr_refs.proofs.Common.{node_at, stretch, Attrs, attrs, leg, legs, leg_at, position, dm_between, Each}
+use Rattle.olr_refs.proofs.Common.{node_at, stretch, Attrs, attrs_with, leg, legs, leg_at, position, dm_between, Each}
 use Rattle.olr_refs.proofs.Common.{AreJoined, lowest_class, ResolvedLine, records_of, ◌/◌, drop-map, fold, Line}
 use Rattle.olr_refs.proofs.Common.{is_good, line_at, bearing_out, no_leg, position_is, route_known}
+use Rattle.olr_spec.specs.Margins.{Margin, allowed}
 use Rattle.std.proofs.lemmas.Simd.{map-map}
 use Rattle.olr_bearing.specs.declared.places.Ends.{Ends}
 use Rattle.olr_bearing.specs.Legs as ends
@@ -39,11 +40,11 @@ class_read : (M : Map) (slot : ℕ → ℕ) (ls : List ℕ) (rs : List ResolvedL
     lowest_class (stretch rs i j) ≡ fold max 0 (map (λ g. g.line.frc) (slice_range (legs M ls) i j))
 class_read M slot ls rs i j e = grind (arith, range_map, map-map)
 
-pub attrs_read : (M : Map) (slot : ℕ → ℕ) (ls : List ℕ) (rs : List ResolvedLine) (i j frc fow lfrc bearing d : ℕ) (l : Line)
+pub attrs_read : (g : Margin) (M : Map) (slot : ℕ → ℕ) (ls : List ℕ) (rs : List ResolvedLine) (i j frc fow lfrc bearing d : ℕ) (l : Line)
     (e : Ends) → rs ≡ records_of M slot ls →
     ends.leg_between l e ≡ leg_at (legs M ls) i → frc ≡ l.frc → fow ≡ l.fow
-    → lfrc ≡ lowest_class (stretch rs i j) → bearing ≡ bearing_out (ends.leg_between l e) →
+    → lfrc ≡ allowed g (lowest_class (stretch rs i j)) → bearing ≡ bearing_out (ends.leg_between l e) →
     d ≡ dm_between (legs M ls) i j
     → ◌≡◌ {A = Attrs} (record { frc = frc; fow = fow; lfrc = lfrc; bearing = bearing; dnp = d / 586 })
-    (attrs (legs M ls) i j)
-attrs_read M slot ls rs i j frc fow lfrc bearing d l e resolved is hr hf hl hb hd = grind (arith, class_read)
+    (attrs_with g (legs M ls) i j)
+attrs_read g M slot ls rs i j frc fow lfrc bearing d l e resolved is hr hf hl hb hd = grind (arith, class_read)

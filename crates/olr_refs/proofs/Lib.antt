@@ -1,6 +1,7 @@
 pub mod Common
 pub mod Runs
 pub mod Choosing
+pub mod Counting
 pub mod Ends
 pub mod Extending
 pub mod Faulting

@@ -1,17 +1,19 @@
 -- What the searches for coverage queries note and cost, and the footprint.
 use Rattle.olr_refs.proofs.Common.{append_assoc, ◌≡◌, ◌≤◌, ◌+◌, ◌*◌, ℕ, List, [], ◌∷◌, ◌++◌, length}
-use Rattle.olr_refs.proofs.Common.{Contains, arith, inl, inr, length-append, None, Some, Option}
+use Rattle.olr_refs.proofs.Common.{Contains, arith, inl, inr, length-append, None, Some, Option, subst}
 use Rattle.olr_refs.proofs.Common.{◌⊎◌, IsTrue, ◌↔◌, AllZip, eqb-true, Contains-append_left, Map, has_node, IsMap}
-use Rattle.olr_refs.proofs.Common.{dm_of, Path, is_path, Next, last_position, Sees, Foot, CoverageQuery}
-use Rattle.olr_refs.proofs.Common.{QueriesOf, Contains-here, Contains-cases, Work, Along, Dijkstra}
+use Rattle.olr_refs.proofs.Common.{dm_of, Path, is_path, NextWith, last_position, Sees, FootWith, CoverageQuery}
+use Rattle.olr_refs.proofs.Common.{QueriesOfWith, Contains-here, Contains-cases, Work, Along, Dijkstra}
 use Rattle.olr_refs.proofs.Common.{IsSearch, LiesWithin, limit_of, AreSearched, CostsAtMost, SeenBy, Notes}
-use Rattle.olr_refs.proofs.Common.{no_work, raised_work, foot_queried, Contains-append_right, Contains-append_cases}
-use Rattle.olr_refs.proofs.Common.{NoNext, Follow, TraversedOf, Contains-one, Counts, append-nil}
+use Rattle.olr_refs.proofs.Common.{no_work, raised_work, foot_queried_with, Contains-append_right, Contains-append_cases}
+use Rattle.olr_refs.proofs.Common.{NoNextWith, FollowWith, TraversedOf, Contains-one, Counts, append-nil}
 use Rattle.olr_refs.proofs.Common.{MatchOption}
+use Rattle.olr_spec.specs.Margins.{Margin, counted}
 use Rattle.std.specs.Cmp.{nat_eq_equiv}
 use Rattle.std.proofs.lemmas.Map.Made.{length-le_from_is_member}
 use Rattle.std.proofs.lemmas.Map.Views.{Contains-from_any, list_any-from_Contains}
 use Rattle.olr_search.proofs.SearchLemmas.{near_leads}
+use Rattle.olr_refs.proofs.Counting.{seen_counted}
 
 -- ---- what a search settles
 
@@ -75,11 +77,10 @@ zip_append R (a ∷ ws) xs [] ys z w = absurd z
 zip_append R (a ∷ ws) xs (b ∷ bs) ys z w = (z.0, zip_append R ws xs bs ys z.1 w)
 
 -- one search for a query settles no more than all nodes that the query reaches
-one_settled : (M : Map) (place : ℕ → ℕ) (l : CoverageQuery) (q : Dijkstra) (n : ℕ) →
-    IsSearch M place Along ((l.from, 0) ∷ []) q → IsTrue (has_node M l.from) → limit_of q ≡ l.within
-    → Counts M Along ((l.from, 0) ∷ []) (limit_of q) n → (all : List ℕ) →
+one_settled : (g : Margin) (M : Map) (xs : List ℕ) (b : ℕ) (l : CoverageQuery) (n : ℕ) →
+    Counts (counted g M xs) Along ((l.from, b) ∷ []) l.within n → (all : List ℕ) →
     ((v : ℕ) → SeenBy M (l ∷ []) v → Contains all v) → n ≤ length all
-one_settled M place l q n h there far c all each =
+one_settled g M xs b l n c all each =
     omega (
       arith,
       c.many,
@@ -87,27 +88,26 @@ one_settled M place l q n h there far c all each =
           (λ v is. list_any-from_Contains nat_eq_equiv v all (each v (
             l,
             Contains-here l [],
-            (search_sees M place l q h there far v).0
-                ((c.exactly v).0 (Contains-from_any (λ x y e. eqb-true x y e) v c.nodes is)),
+            seen_counted g M xs l b v ((c.exactly v).0 (Contains-from_any (λ x y e. eqb-true x y e) v c.nodes is)),
           ))),
     )
 
-pub one_cost : (M : Map) (place : ℕ → ℕ) (l : CoverageQuery) (q : Dijkstra) (w : Work) →
-    IsSearch M place Along ((l.from, 0) ∷ []) q → IsTrue (has_node M l.from) → limit_of q ≡ l.within
-    → Counts M Along ((l.from, 0) ∷ []) (limit_of q) w.settled → w.searches ≡ 1 → CostsAtMost M (l ∷ []) w
-one_cost M place l q w h there far c one = record {
+pub one_cost : (g : Margin) (M : Map) (xs : List ℕ) (b : ℕ) (l : CoverageQuery) (q : Dijkstra) (w : Work) →
+    limit_of q ≡ l.within → Counts (counted g M xs) Along ((l.from, b) ∷ []) (limit_of q) w.settled →
+    w.searches ≡ 1 → CostsAtMost M (l ∷ []) w
+one_cost g M xs b l q w far c one = record {
   searches = omega arith;
-  settled = λ all each. omega (arith, one_settled M place l q w.settled h there far c all each);
+  settled = λ all each. omega (
+    arith,
+    one_settled g M xs b l w.settled
+        (subst (λ (n : ℕ). Counts (counted g M xs) Along ((l.from, b) ∷ []) n w.settled) far c) all each,
+  );
 }
 
-pub one_noted : (M : Map) (place : ℕ → ℕ) (l : CoverageQuery) (q : Dijkstra) (w : Work) (a b : Option (List ℕ)) →
-    IsSearch M place Along ((l.from, 0) ∷ []) q → IsTrue (has_node M l.from) → limit_of q ≡ l.within → w.searches ≡ 1 →
-    Notes (LiesWithin M Along ((l.from, 0) ∷ []) (limit_of q)) a b → AreSearched M (l ∷ []) w a b
-one_noted M place l q w a b h there far one noted = record {
-  searches = omega arith;
-  notes = notes_same _ _ a b (λ v. let s = search_sees M place l q h there far v in let t = seen_one M l v in
-      ((λ n. t.0 (s.0 n)), (λ n. s.1 (t.1 n)))) noted;
-}
+pub one_noted : (M : Map) (l : CoverageQuery) (w : Work) (a b : Option (List ℕ)) → w.searches ≡ 1 →
+    Notes (Sees M l) a b → AreSearched M (l ∷ []) w a b
+one_noted M l w a b one noted =
+    record { searches = omega arith; notes = notes_same _ _ a b (λ v. seen_one M l v) noted }
 
 pub cost_none : (M : Map) (ls : List CoverageQuery) (w : Work) → w ≡ no_work → CostsAtMost M ls w
 cost_none M ls w none = rw none record { searches = omega arith; settled = λ all each. omega arith }
@@ -135,22 +135,22 @@ searched_more M ks l v w a b c x y = record {
 -- ---- from LRP to LRP
 
 -- the LRPs so far, up to the last, go on with any that follow it
-abbrev pub Led : Map → List ℕ → List ℕ → ℕ → Type 0
-Led M ls points last =
-    (js : List ℕ) → Follow M ls last js →
-    Follow M ls 0 (points ++ js) × (last_position 0 (points ++ js) ≡ last_position last js)
+abbrev pub Led : Margin → Map → List ℕ → List ℕ → ℕ → Type 0
+Led g M ls points last =
+    (js : List ℕ) → FollowWith g M ls last js →
+    FollowWith g M ls 0 (points ++ js) × (last_position 0 (points ++ js) ≡ last_position last js)
 
-pub led_more : (M : Map) (ls points : List ℕ) (k m : ℕ) → Led M ls points k → Next M ls k m →
-    Led M ls (points ++ m ∷ []) m
-led_more M ls points k m l n = λ js f. rw append_assoc (l (m ∷ js) (n, f))
+pub led_more : (g : Margin) (M : Map) (ls points : List ℕ) (k m : ℕ) → Led g M ls points k → NextWith g M ls k m →
+    Led g M ls (points ++ m ∷ []) m
+led_more g M ls points k m l n = λ js f. rw append_assoc (l (m ∷ js) (n, f))
 
-pub led_end : (M : Map) (ls points : List ℕ) (last : ℕ) → Led M ls points last → NoNext M ls last →
-    Follow M ls 0 points × (last_position 0 points ≡ last)
-led_end M ls points last l n = rw append-nil at (l [] n)
+pub led_end : (g : Margin) (M : Map) (ls points : List ℕ) (last : ℕ) → Led g M ls points last → NoNextWith g M ls last →
+    FollowWith g M ls 0 points × (last_position 0 points ≡ last)
+led_end g M ls points last l n = rw append-nil at (l [] n)
 
 -- no position follows the end
-pub no_next_end : (M : Map) (ls : List ℕ) (k : ℕ) → length ls ≤ k → NoNext M ls k
-no_next_end M ls k h = grind arith
+pub no_next_end : (g : Margin) (M : Map) (ls : List ℕ) (k : ℕ) → length ls ≤ k → NoNextWith g M ls k
+no_next_end g M ls k h = grind arith
 
 -- ---- the footprint
 
@@ -165,11 +165,11 @@ foot_of : (F G T S B N Q : Type 0) → (F ↔ (T ⊎ S)) → (T ↔ N) → (S �
 foot_of F G T S B N Q f o n none law = grind arith
 
 -- of a path's traversed nodes and what its queries reach
-pub noted_foot : (M : Map) → IsMap M → (P : Path) → IsTrue (is_path P.lines) → (queries : List CoverageQuery) →
-    QueriesOf M P queries → (traversed begun : List ℕ) (seen : Option (List ℕ)) (foot : List ℕ) →
+pub noted_foot : (g : Margin) (M : Map) → IsMap M → (P : Path) → IsTrue (is_path P.lines) → (queries : List CoverageQuery) →
+    QueriesOfWith g M P queries → (traversed begun : List ℕ) (seen : Option (List ℕ)) (foot : List ℕ) →
     ((v : ℕ) → Contains traversed v ↔ TraversedOf M P v) → begun ≡ [] → Notes (SeenBy M queries) (Some begun) seen →
     ((v : ℕ) → Contains foot v ↔ (Contains traversed v ⊎ MatchOption seen ⊥ (λ s. Contains s v))) → (v : ℕ) →
-    Contains foot v ↔ Foot M P v
-noted_foot M m P is queries l traversed begun None foot o e n f v = absurd n
-noted_foot M m P is queries l traversed begun (Some seen) foot o e n f v =
-    foot_of _ _ _ _ _ _ _ (f v) (o v) (n v) (λ c. grind arith) (foot_queried M m P is queries l v)
+    Contains foot v ↔ FootWith g M P v
+noted_foot g M m P is queries l traversed begun None foot o e n f v = absurd n
+noted_foot g M m P is queries l traversed begun (Some seen) foot o e n f v =
+    foot_of _ _ _ _ _ _ _ (f v) (o v) (n v) (λ c. grind arith) (foot_queried_with g M m P is queries l v)

@@ -1,14 +1,15 @@
 -- A path's own lines at its LRPs are on the map, one for each LRP of its reference.
 use Rattle.olr_refs.proofs.Common.{◌≡◌, ◌<◌, ◌≤◌, ◌-◌, ◌+◌, ℕ, suc, List, [], ◌∷◌, ◌++◌, length, take, refl, sym, ap, ◌∙◌}
 use Rattle.olr_refs.proofs.Common.{subst, arith, slice_index, map, None, IsTrue, Map, IsMap, has_line, Path, is_path}
-use Rattle.olr_refs.proofs.Common.{extended_path, Each, has_index, Linked, Encodes, legs, kept_points}
-use Rattle.olr_refs.proofs.Common.{Reference, extended_sound, path_fault, Encoding}
+use Rattle.olr_refs.proofs.Common.{extended_path, Each, has_index, LinkedWith, EncodesWith, legs, kept_points}
+use Rattle.olr_refs.proofs.Common.{Reference, extended_sound, path_fault, EncodingWith}
+use Rattle.olr_spec.specs.Margins.{Margin}
 use native.Mathlib.Numerals.{unary_clauses}
 use Rattle.std.specs.List.{All}
 use Rattle.std.proofs.lemmas.List.Elements.{All-nil, All-cons}
 use Rattle.olr_spec.specs.Encoding.{Points}
 use Rattle.olr_spec.specs.Receiver.{last_number}
-use Rattle.olr_spec.specs.Recovery.{OwnLines, own_lines}
+use Rattle.olr_spec.specs.Recovery.{OwnLinesWith, own_lines}
 use Rattle.olr_spec.proofs.DecodedLemmas.{Kept, form, answer_decodes}
 use Rattle.olr_spec.proofs.FitLemmas.{by_answer}
 use Rattle.olr_spec.proofs.ReceiverLemmas.{same_path}
@@ -33,22 +34,22 @@ abbrev Known : Map → ℕ → Type 0
 Known M x = IsTrue (has_line M x)
 
 -- from an LRP on that follows another one
-known_after : (M : Map) (ls : List ℕ) → Each (Known M) ls → (i : ℕ) (ks : List ℕ) → 0 < i → i ≤ length ls →
-    Linked M ls (i ∷ ks) → All (Known M) (own_lines ls (i ∷ ks))
-known_after M ls known i [] after upto l =
+known_after : (g : Margin) (M : Map) (ls : List ℕ) → Each (Known M) ls → (i : ℕ) (ks : List ℕ) → 0 < i → i ≤ length ls →
+    LinkedWith g M ls (i ∷ ks) → All (Known M) (own_lines ls (i ∷ ks))
+known_after g M ls known i [] after upto l =
     All-cons (Known M) _ [] (known _ (has_index ls (i - 1) (omega arith))) (All-nil (Known M))
-known_after M ls known i (j ∷ ks) after upto l =
+known_after g M ls known i (j ∷ ks) after upto l =
     let c = l.0 in
     let order = c.after in
     let end = c.upto in
     All-cons (Known M) _ _ (known _ (has_index ls i (omega arith)))
-    (known_after M ls known j ks (omega arith) end l.1)
+    (known_after g M ls known j ks (omega arith) end l.1)
 
 -- ---- of a path
 
-module _ (M : Map) (m : IsMap M) (P : Path) (is : IsTrue (is_path P.lines)) (r : Reference) (e : Encodes M P (Points r))
-    (xs : List ℕ) (own : OwnLines M P xs) where
-  own_same : (none : path_fault M P ≡ None) (p : Encoding M P (Points r)) →
+module _ (g : Margin) (M : Map) (m : IsMap M) (P : Path) (is : IsTrue (is_path P.lines)) (r : Reference) (e : EncodesWith g M P (Points r))
+    (xs : List ℕ) (own : OwnLinesWith g M P xs) where
+  own_same : (none : path_fault M P ≡ None) (p : EncodingWith g M P (Points r)) →
       xs ≡ own_lines (extended_path M P p.before p.after).lines (Kept M P is none r p)
   own_same none p =
       same_path M m P is none r p (λ E js. xs ≡ own_lines E.lines (kept_points (legs M E.lines) E.pos E.neg js)) own
@@ -65,7 +66,7 @@ module _ (M : Map) (m : IsMap M) (P : Path) (is : IsTrue (is_path P.lines)) (r :
       let lines = (extended_path M P p.before p.after).lines in
       subst (All (Known M)) (sym (own_same a.0 p ∙ ap (own_lines lines) f.kept))
       (All-cons (Known M) _ _ (known _ (has_index lines f.h (omega arith)))
-      (known_after M lines known f.i f.js (omega arith) end f.linked.1))
+      (known_after g M lines known f.i f.js (omega arith) end f.linked.1))
 
   pub own_many : length xs ≡ last_number r + 1
   own_many =

@@ -1,9 +1,10 @@
 -- The LRPs of a reference, as they are read.
 use Rattle.olr_refs.proofs.Common.{◌≡◌, ◌<◌, ◌≤◌, ◌-◌, ◌+◌, ℕ, zero, suc, ℤ, Option, List, [], ◌∷◌, ◌++◌, length, take}
 use Rattle.olr_refs.proofs.Common.{refl, arith, slice_index, Coord, abs24, relative, Map, Attrs, Middle, Reference}
-use Rattle.olr_refs.proofs.Common.{attrs, dm_between, reference_by, legs, leg_at, position, middle_points_of, Leg}
-use Rattle.olr_refs.proofs.Common.{bearing_back, First, Last, offset, last_two, first_point, middle_point}
-use Rattle.olr_refs.proofs.Common.{middle_points, last_point, ◌∙◌, ap, to_z-of_z, Width, w64}
+use Rattle.olr_refs.proofs.Common.{attrs_with, dm_between, reference_by_with, legs, leg_at, position, middle_points_of, Leg}
+use Rattle.olr_refs.proofs.Common.{bearing_back, First, Last, offset, last_two, first_point_with, middle_point_with}
+use Rattle.olr_refs.proofs.Common.{middle_points_with, last_point, ◌∙◌, ap, to_z-of_z, Width, w64}
+use Rattle.olr_spec.specs.Margins.{Margin}
 use mir.Val.{SFits, of_z, to_z}
 
 -- what a call computes from a number that is passed, as it is stored
@@ -11,10 +12,10 @@ pub stored : (w : Width) (f : ℤ → ℤ) (z x r : ℤ) → SFits w64 z → z �
     to_z w (of_z w r) ≡ f x
 stored w f z x r h e g d = to_z-of_z w r g ∙ d ∙ ap f (to_z-of_z w64 z h ∙ e)
 
-pub first_read : (gs : List Leg) (i j : ℕ) (lon lat : ℤ) (a : Attrs) → lon ≡ abs24 (position gs i).lon →
-    lat ≡ abs24 (position gs i).lat → a ≡ attrs gs i j
-    → ◌≡◌ {A = First} (record { lon = lon; lat = lat; attrs = a }) (first_point gs i j)
-first_read gs i j lon lat a hx hy ha = λ k. record { lon = hx k; lat = hy k; attrs = ha k }
+pub first_read : (g : Margin) (gs : List Leg) (i j : ℕ) (lon lat : ℤ) (a : Attrs) → lon ≡ abs24 (position gs i).lon →
+    lat ≡ abs24 (position gs i).lat → a ≡ attrs_with g gs i j
+    → ◌≡◌ {A = First} (record { lon = lon; lat = lat; attrs = a }) (first_point_with g gs i j)
+first_read g gs i j lon lat a hx hy ha = λ k. record { lon = hx k; lat = hy k; attrs = ha k }
 
 pub last_read : (gs : List Leg) (h i frc fow bearing : ℕ) (dlon dlat : ℤ) (g : Leg) (p q : Coord) → g ≡ leg_at gs (i - 1)
     → p ≡ position gs h → q ≡ position gs i → dlon ≡ relative p.lon q.lon → dlat ≡ relative p.lat q.lat →
@@ -24,22 +25,22 @@ last_read gs h i frc fow bearing dlon dlat g p q is hp hq hx hy hr hf hb = grind
 
 -- ---- one more LRP
 
-one_more : (gs : List Leg) (h i : ℕ) (js : List ℕ) (n : ℕ) → n < length js
-    → middle_points gs h i (take (suc n) js) ≡ middle_points gs h i (take n js)
-    ++ middle_point gs (slice_index (h ∷ i ∷ js) n) (slice_index (i ∷ js) n) (slice_index js n) ∷ []
-one_more gs h i [] n lt = absurd (omega arith)
-one_more gs h i (j ∷ js) zero lt = refl
-one_more gs h i (j ∷ js) (suc n) lt = grind (arith, one_more gs i j js n (omega arith))
+one_more : (g : Margin) (gs : List Leg) (h i : ℕ) (js : List ℕ) (n : ℕ) → n < length js
+    → middle_points_with g gs h i (take (suc n) js) ≡ middle_points_with g gs h i (take n js)
+    ++ middle_point_with g gs (slice_index (h ∷ i ∷ js) n) (slice_index (i ∷ js) n) (slice_index js n) ∷ []
+one_more g gs h i [] n lt = absurd (omega arith)
+one_more g gs h i (j ∷ js) zero lt = refl
+one_more g gs h i (j ∷ js) (suc n) lt = grind (arith, one_more g gs i j js n (omega arith))
 
-pub middle_more : (gs : List Leg) (ps : List ℕ) (k : ℕ) → 0 < k → k + 1 < length ps
-    → middle_points_of gs (take (k + 2) ps) ≡ middle_points_of gs (take (k + 1) ps)
-    ++ middle_point gs (slice_index ps (k - 1)) (slice_index ps k) (slice_index ps (k + 1)) ∷ []
-middle_more gs (p ∷ q ∷ ps) (suc n) h lt =
+pub middle_more : (g : Margin) (gs : List Leg) (ps : List ℕ) (k : ℕ) → 0 < k → k + 1 < length ps
+    → middle_points_of g gs (take (k + 2) ps) ≡ middle_points_of g gs (take (k + 1) ps)
+    ++ middle_point_with g gs (slice_index ps (k - 1)) (slice_index ps k) (slice_index ps (k + 1)) ∷ []
+middle_more g gs (p ∷ q ∷ ps) (suc n) h lt =
     let two : suc n + 2 ≡ suc (suc (suc n)) = omega arith in
     let one : suc n + 1 ≡ suc (suc n) = omega arith in
     let less : suc n - 1 ≡ n = omega arith in
-    simp (two, one, less) (one_more gs p q ps n (omega arith))
-middle_more gs _ k h lt = absurd (omega arith)
+    simp (two, one, less) (one_more g gs p q ps n (omega arith))
+middle_more g gs _ k h lt = absurd (omega arith)
 
 -- ---- the whole
 
@@ -52,15 +53,15 @@ last_at h i [] = refl
 last_at h i (j ∷ js) = last_at i j js
 
 -- the reference whose parts are read, with the offsets by distances
-pub reference_read : (M : Map) (ls ks : List ℕ) (pos_left neg_left : ℕ) (first : First) (middle : List Middle)
+pub reference_read : (g : Margin) (M : Map) (ls ks : List ℕ) (pos_left neg_left : ℕ) (first : First) (middle : List Middle)
     (last : Last) (pos neg : Option ℕ) → 2 ≤ length ks
-    → first ≡ first_point (legs M ls) (slice_index ks 0) (slice_index ks 1) → middle ≡ middle_points_of (legs M ls) ks →
+    → first ≡ first_point_with g (legs M ls) (slice_index ks 0) (slice_index ks 1) → middle ≡ middle_points_of g (legs M ls) ks →
     last ≡ last_point (legs M ls) (slice_index ks (length ks - 1 - 1)) (slice_index ks (length ks - 1))
     → pos ≡ offset pos_left (dm_between (legs M ls) (slice_index ks 0) (slice_index ks 1)) →
     neg ≡ offset neg_left (dm_between (legs M ls) (slice_index ks (length ks - 1 - 1)) (slice_index ks (length ks - 1)))
     → ◌≡◌ {A = Reference} (record { first = first; middle = middle; last = last; pos = pos; neg = neg })
-    (reference_by (legs M ls) pos_left neg_left ks)
-reference_read M ls (p ∷ q ∷ ks) pos_left neg_left first middle last pos neg two hf hm hl hp hn =
+    (reference_by_with g (legs M ls) pos_left neg_left ks)
+reference_read g M ls (p ∷ q ∷ ks) pos_left neg_left first middle last pos neg two hf hm hl hp hn =
     let before = last_two_at p q ks in
     let end = last_at p q ks in
     let less : length (p ∷ q ∷ ks) - 1 - 1 ≡ length ks = omega arith in
@@ -68,4 +69,4 @@ reference_read M ls (p ∷ q ∷ ks) pos_left neg_left first middle last pos neg
     let last_is = rw (less, one, ← before, ← end) at hl in
     let neg_is = rw (less, one, ← before, ← end) at hn in
     λ k. record { first = hf k; middle = hm k; last = last_is k; pos = hp k; neg = neg_is k }
-reference_read M ls _ pos_left neg_left first middle last pos neg two hf hm hl hp hn = absurd (omega arith)
+reference_read g M ls _ pos_left neg_left first middle last pos neg two hf hm hl hp hn = absurd (omega arith)

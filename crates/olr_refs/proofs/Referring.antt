@@ -1,11 +1,11 @@
 -- The encoding of a path, by its extension, its LRPs, its coverage queries and its reference.
 use Rattle.olr_refs.proofs.Common.{◌≡◌, ◌<◌, ◌+◌, ℕ, List, [], ◌∷◌, length, Option, Some, None, MatchOption, Contains}
 use Rattle.olr_refs.proofs.Common.{ap, ◌∙◌, arith, inl, inr, eq-eqb, IsTrue, Map, IsMap, dm_of, Path, is_path}
-use Rattle.olr_refs.proofs.Common.{extended_path, AreJoined, last_position, Reference, legs, reference, path_fault}
-use Rattle.olr_refs.proofs.Common.{CoverageQuery, QueriesOf, path_nonempty, all_first, all_last, path_also}
-use Rattle.olr_refs.proofs.Common.{Extends, later, joined, answer_of, Tried, OfPath}
-use Rattle.olr_refs.proofs.Common.{answer_by_points, Encoding, Encodes, Traversed, TraversedOfExtended}
-use Rattle.olr_refs.proofs.Common.{QueriesOfExtended, sound_lines, one_tried, extended_sound, ForPoints, searches_of}
+use Rattle.olr_refs.proofs.Common.{extended_path, AreJoined, last_position, Reference, legs, reference_with, path_fault}
+use Rattle.olr_refs.proofs.Common.{CoverageQuery, QueriesOfWith, path_nonempty, all_first, all_last, path_also}
+use Rattle.olr_refs.proofs.Common.{Extends, later, joined_with, answer_of, Tried, OfPathWith}
+use Rattle.olr_refs.proofs.Common.{answer_by_points_with, EncodingWith, EncodesWith, Traversed, TraversedOfExtended}
+use Rattle.olr_refs.proofs.Common.{QueriesOfExtendedWith, sound_lines, one_tried, extended_sound, ForPoints, searches_of}
 use Rattle.olr_refs.proofs.Common.{◌↔◌}
 use Rattle.olr_answers.specs.declared.answer.Answer.{Answer}
 use Rattle.olr_answers.specs.declared.answer.Answer.TheVariants.{Points, Refused}
@@ -13,10 +13,11 @@ use Rattle.std.proofs.lemmas.Slice.Zip.{AllZip-long}
 use Rattle.std.proofs.lemmas.List.Sums.{length-filter}
 use Rattle.olr_refs.specs.Referring.{JoinsOf, AnsweredAlong, SearchesOf}
 use Rattle.olr_refs.proofs.Common.{kept_points}
-use Rattle.olr_spec.specs.Recovery.{own_lines, OwnLinesOf}
+use Rattle.olr_spec.specs.Recovery.{own_lines, OwnLinesOfWith}
 use Rattle.olr_spec.proofs.JoinedLemmas.{extended_joined}
-use Rattle.olr_spec.proofs.ReceiverLemmas.{recovered}
+use Rattle.olr_spec.proofs.ReceiverLemmas.{recovered_with}
 use Rattle.olr_refs.specs.Recovered.{RecoveredOf}
+use Rattle.olr_spec.specs.Margins.{Margin}
 use Rattle.olr_spec.specs.Encoding as spec
 use Rattle.olr_answers.specs.Answers as answers
 
@@ -33,37 +34,38 @@ whole_short M P E lead F G is none x = grind (arith, extended_sound)
 -- ---- the answer
 
 -- the LRPs lead to the end, and this is their reference, with the lines at them
-pub points_answer : (M : Map) (E : Path) (ls ps : List ℕ) (r : Reference) (xs : List ℕ) → ls ≡ E.lines →
-    ForPoints M ls (λ js. (last_position 0 js ≡ length ls) × (ps ≡ 0 ∷ js))
-    → r ≡ reference (legs M E.lines) E.pos E.neg (later ps) →
+pub points_answer : (g : Margin) (M : Map) (E : Path) (ls ps : List ℕ) (r : Reference) (xs : List ℕ) → ls ≡ E.lines →
+    ForPoints g M ls (λ js. (last_position 0 js ≡ length ls) × (ps ≡ 0 ∷ js))
+    → r ≡ reference_with g (legs M E.lines) E.pos E.neg (later ps) →
     xs ≡ own_lines E.lines (kept_points (legs M E.lines) E.pos E.neg (later ps)) →
-    ForPoints M E.lines (λ js. AnsweredAlong M E js (spec.Points r) xs)
-points_answer M E ls ps r xs e c a o = grind (arith, eq-eqb)
+    ForPoints g M E.lines (λ js. AnsweredAlong g M E js (spec.Points r) xs)
+points_answer g M E ls ps r xs e c a o = grind (arith, eq-eqb)
 
 -- what holds for the extension and its LRPs, whatever the tried runs
-pub of_path : (M : Map) (P E : Path) (lead : ℕ) (F G : List ℕ) (Q : Path → List ℕ → List ℕ → List ℕ → Type 0) →
-    (x : Extends M P E lead F G) → ForPoints M E.lines (Q E x.before x.after) → OfPath M P Q
-of_path M P E lead F G Q x a = grind arith
+pub of_path : (g : Margin) (M : Map) (P E : Path) (lead : ℕ) (F G : List ℕ) (Q : Path → List ℕ → List ℕ → List ℕ → Type 0) →
+    (x : Extends M P E lead F G) → ForPoints g M E.lines (Q E x.before x.after) → OfPathWith g M P Q
+of_path g M P E lead F G Q x a = grind arith
 
-pub encoding_of : (M : Map) (P E : Path) (lead : ℕ) (F G : List ℕ) (A : spec.Answer) (xs : List ℕ) →
+pub encoding_of : (g : Margin) (M : Map) (P E : Path) (lead : ℕ) (F G : List ℕ) (A : spec.Answer) (xs : List ℕ) →
     Extends M P E lead F G →
-    ForPoints M E.lines (λ js. AnsweredAlong M E js A xs) → Encoding M P A
-encoding_of M P E lead F G A xs x a =
-    of_path M P E lead F G (λ e _ _ js. A ≡ answer_by_points M e js) x (a.0, a.1, a.2.answer)
+    ForPoints g M E.lines (λ js. AnsweredAlong g M E js A xs) → EncodingWith g M P A
+encoding_of g M P E lead F G A xs x a =
+    of_path g M P E lead F G (λ e _ _ js. A ≡ answer_by_points_with g M e js) x (a.0, a.1, a.2.answer)
 
-pub own_of : (M : Map) (P E : Path) (lead : ℕ) (F G : List ℕ) (A : spec.Answer) (xs : List ℕ) →
+pub own_of : (g : Margin) (M : Map) (P E : Path) (lead : ℕ) (F G : List ℕ) (A : spec.Answer) (xs : List ℕ) →
     Extends M P E lead F G →
-    ForPoints M E.lines (λ js. AnsweredAlong M E js A xs) → OwnLinesOf M P A xs
-own_of M P E lead F G (spec.Points r) xs x a =
-    of_path M P E lead F G (λ e _ _ js. xs ≡ own_lines e.lines (kept_points (legs M e.lines) e.pos e.neg js)) x
+    ForPoints g M E.lines (λ js. AnsweredAlong g M E js A xs) → OwnLinesOfWith g M P A xs
+own_of g M P E lead F G (spec.Points r) xs x a =
+    of_path g M P E lead F G (λ e _ _ js. xs ≡ own_lines e.lines (kept_points (legs M e.lines) e.pos e.neg js)) x
     (a.0, a.1, a.2.own)
-own_of M P E lead F G (spec.Refused refusal) xs x a = a.2.own
+own_of g M P E lead F G (spec.Refused refusal) xs x a = a.2.own
 
 -- ---- the routes
 
-pub joins_of : (M : Map) (P : Path) (A : Answer) → path_fault M P ≡ None → Encoding M P (answers.answer_of A) →
-    JoinsOf M P A
-joins_of M P v2 none p = grind (arith, joined)
+pub joins_of : (g : Margin) (M : Map) → IsMap M → (P : Path) (A : Answer) → path_fault M P ≡ None → EncodingWith g M P (answers.answer_of A) →
+    JoinsOf g M P A
+joins_of g M m P (Refused f) none p = tt
+joins_of g M m P (Points r) none p = joined_with g M (inr m) P r none p
 
 -- ---- the traversed nodes, and the coverage queries
 
@@ -93,16 +95,16 @@ traversed_of M m P E lead F G is none empty x v =
 -- ---- counts
 
 -- there is one search for each coverage query
-pub searches_queried : (M : Map) (P : Path) (queries : List CoverageQuery) → QueriesOf M P queries →
-    SearchesOf M P (length queries)
-searches_queried M P queries o = by (path_fault M P) o
+pub searches_queried : (g : Margin) (M : Map) (P : Path) (queries : List CoverageQuery) → QueriesOfWith g M P queries →
+    SearchesOf g M P (length queries)
+searches_queried g M P queries o = by (path_fault M P) o
   where
-    by : (f : Option spec.Refusal) → MatchOption f (QueriesOfExtended M P queries) (λ _. queries ≡ []) →
-        MatchOption f (OfPath M P (λ E _ _ js. length queries ≡ searches_of E.lines (0 ∷ js))) (λ _. length queries ≡ 0)
+    by : (f : Option spec.Refusal) → MatchOption f (QueriesOfExtendedWith g M P queries) (λ _. queries ≡ []) →
+        MatchOption f (OfPathWith g M P (λ E _ _ js. length queries ≡ searches_of E.lines (0 ∷ js))) (λ _. length queries ≡ 0)
     by None l = path_also l (AllZip-long _ _ queries l.holds ∙ length-filter _ (0 ∷ l.points))
     by (Some f) e = ap length e
 
-pub recovered_of : (M : Map) → IsMap M → (P : Path) → IsTrue (is_path P.lines) → (A : Answer) →
-    Encodes M P (answer_of A) → RecoveredOf M P A
-recovered_of M m P is (Refused f) e = tt
-recovered_of M m P is (Points r) e = λ R d ws. recovered R M m P is r e d ws
+pub recovered_of : (g : Margin) (M : Map) → IsMap M → (P : Path) → IsTrue (is_path P.lines) → (A : Answer) →
+    EncodesWith g M P (answer_of A) → RecoveredOf g M P A
+recovered_of g M m P is (Refused f) e = tt
+recovered_of g M m P is (Points r) e = λ R d ws. recovered_with g R M m P is r e d ws

@@ -2,13 +2,13 @@
 use Rattle.olr_refs.proofs.Common.{cases_lt, ◌≡◌, ◌<◌, ◌≤◌, ◌-◌, ◌+◌, ◌∷◌, ℕ, min, Bool, true, false, List}
 use Rattle.olr_refs.proofs.Common.{get_or, Result, Some, Contains, Option, [], refl, sym, ap, ◌∙◌, subst, arith}
 use Rattle.olr_refs.proofs.Common.{get_or_default, IsTrue, ◌↔◌, slice_index, length, length-take, length-drop, get_or-take}
-use Rattle.olr_refs.proofs.Common.{get_or-drop, IsBinarySearchResult, nat_cmp, Map, start, end, AreJoined, IsRoute}
-use Rattle.olr_spec.specs.Routes.{LrpRoute}
-use Rattle.olr_refs.proofs.Common.{Covered, stretch, KnownQuery, CoverageQuery, IsLastTested, IsFar, IsReach, Ok, Err}
-use Rattle.olr_refs.proofs.Common.{IsReuse, IsAnswered, IsKnownOf, EndsHere, own_of, Contains-here, known_reach, no_work, All-contains}
-use Rattle.olr_refs.proofs.Common.{IsSearchInRange, IsKnown, query_to, if◌then◌else◌}
+use Rattle.olr_refs.proofs.Common.{get_or-drop, IsBinarySearchResult, nat_cmp, IsMap, Map, start, end, AreJoined, IsRoute}
+use Rattle.olr_refs.proofs.Common.{CountedTo, CoveredWith, stretch, KnownQuery, CoverageQuery, IsLastTestedWith, IsFar, IsReach, Ok, Err}
+use Rattle.olr_refs.proofs.Common.{IsReuse, IsAnswered, IsKnownOfWith, EndsHere, own_of, Contains-here, known_reach, no_work, All-contains}
+use Rattle.olr_refs.proofs.Common.{IsSearchInRange, IsKnownWith, query_to_with, if◌then◌else◌}
 use Rattle.olr_refs.specs.declared.reuse.Found.{Found}
 use Rattle.olr_refs.specs.declared.reuse.Reuse.{Reuse}
+use Rattle.olr_spec.specs.Margins.{Margin, counted, CountedRoute}
 use Rattle.std.specs.Result.{result_ok}
 use Rattle.std.proofs.lemmas.Cmp.{ranked}
 use Rattle.std.proofs.lemmas.List.{drop-drop, drop-take, take-take}
@@ -16,7 +16,7 @@ use Rattle.olr_spec.proofs.KnownLemmas.{one_end}
 use Rattle.olr_spec.proofs.QueryLemmas.{way_on}
 use Rattle.olr_spec.proofs.WayLemmas.{next_start}
 use Rattle.olr_refs.proofs.Noting.{cost_none}
-use Rattle.olr_refs.proofs.Reaching.{UniqueTo, all_covered, covered_so_far, empty_stretch}
+use Rattle.olr_refs.proofs.Reaching.{all_covered, covered_so_far, empty_stretch}
 use Rattle.olr_refs.proofs.Stretches.{stretch_sum}
 
 -- ---- by the line where it begins
@@ -43,19 +43,19 @@ own_length ls r h = grind (arith, length-take, length-drop)
 
 own_stretch : (ls : List ℕ) (r : Reuse) (p q : ℕ) → p ≤ q → q ≤ r.own →
     stretch (own_of ls r) p q ≡ stretch ls (r.lead + p) (r.lead + q)
-own_stretch ls r p q h g =
+own_stretch ls r p q h k =
     let n : r.lead + r.own - r.lead ≡ p + (r.own - p) = omega arith in
     let long : r.lead + q - (r.lead + p) ≡ q - p = omega arith in
     rw (n, drop-take, long, drop-drop) (take-take (q - p) (r.own - p) _ (omega arith))
 
 -- nothing is asked of the last line
-covered_unique : (M : Map) (ls : List ℕ) (i j : ℕ) → i < j → j < length ls → Covered M ls i j ↔ UniqueTo M ls i j
-covered_unique M ls i j h g = grind arith
+covered_unique : (g : Margin) (M : Map) (ls : List ℕ) (i j : ℕ) → i < j → j < length ls → CoveredWith g M ls i j ↔ CountedTo g M ls i j
+covered_unique g M ls i j h k = grind arith
 
 -- ---- on the extended path
 
 -- a query that begins after line i
-module _ (M : Map) (ls : List ℕ) (r : Reuse) (is : IsReuse M ls r) (joined : AreJoined M ls) (i : ℕ) (e : KnownQuery)
+module _ (g : Margin) (M : Map) (ls : List ℕ) (r : Reuse) (is : IsReuse g M ls r) (joined : AreJoined M ls) (i : ℕ) (e : KnownQuery)
     (begins : i + 1 ≡ r.lead + e.first) (order : e.first < e.last) (upto : e.last ≤ r.own)
     (within : r.lead + e.last < length ls) where
   abbrev from : ℕ
@@ -65,7 +65,7 @@ module _ (M : Map) (ls : List ℕ) (r : Reuse) (is : IsReuse M ls r) (joined : A
   to = start M (slice_index ls (r.lead + e.last))
 
   part_is : (m : ℕ) → e.first ≤ m → m ≤ e.last → stretch ls (i + 1) (r.lead + m) ≡ stretch (own_of ls r) e.first m
-  part_is m h g =
+  part_is m h k =
       ap (λ (n : ℕ). stretch ls n (r.lead + m)) begins ∙ sym (own_stretch ls r e.first m h (omega arith))
 
   way : IsRoute M from to (stretch (own_of ls r) e.first e.last)
@@ -73,28 +73,28 @@ module _ (M : Map) (ls : List ℕ) (r : Reuse) (is : IsReuse M ls r) (joined : A
       (way_on M ls _ _ joined i (r.lead + e.last) (omega arith) within)
 
   -- what is right of the path's own lines is right there
-  module _ (k : IsKnown M (own_of ls r) e) where
+  module _ (k : IsKnownWith g M (own_of ls r) e) where
     from_known : e.query.from ≡ from
     from_known =
         let own = own_of ls r in
-        let none = subst (IsRoute M e.query.from (start M (slice_index own e.first))) (sym (empty_stretch own e.first))
+        let none = subst (λ zs. IsRoute (counted g M zs) e.query.from (start M (slice_index own e.first)) zs) (sym (empty_stretch own e.first))
         (k.before e.first (omega arith) order).route in
         none ∙ ap (start M) (own_line ls r e.first (omega arith) ∙ ap (slice_index ls) (sym begins))
         ∙ sym (next_start M _ _ ls i joined (omega arith))
 
-    query_known : e.query ≡ query_to M ls i (r.lead + e.last)
+    query_known : e.query ≡ query_to_with g M ls i (r.lead + e.last)
     query_known = grind (arith, from_known, one_end, way, part_is)
 
-    before_known : (m : ℕ) → e.first ≤ m → m < e.last → UniqueTo M ls i (r.lead + m)
-    before_known m h g = grind (arith, own_line, from_known, part_is)
+    before_known : (m : ℕ) → e.first ≤ m → m < e.last → CountedTo g M ls i (r.lead + m)
+    before_known m h below = grind (arith, own_line, from_known, part_is)
 
-    covered_known : IsTrue e.covered ↔ UniqueTo M ls i (r.lead + e.last)
+    covered_known : IsTrue e.covered ↔ CountedTo g M ls i (r.lead + e.last)
     covered_known = grind (arith, part_is, from_known, one_end, way)
 
   -- and the other way round
-  module _ (tested : IsLastTested M ls i (r.lead + e.last)) (query : e.query ≡ query_to M ls i (r.lead + e.last))
-      (covered : IsTrue e.covered ↔ Covered M ls i (r.lead + e.last)) where
-    is_known : IsKnown M (own_of ls r) e
+  module _ (tested : IsLastTestedWith g M ls i (r.lead + e.last)) (query : e.query ≡ query_to_with g M ls i (r.lead + e.last))
+      (covered : IsTrue e.covered ↔ CoveredWith g M ls i (r.lead + e.last)) where
+    is_known : IsKnownWith g M (own_of ls r) e
     is_known =
         let from_is : from ≡ e.query.from = sym (ap (λ (q : CoverageQuery). q.from) query) in
         let to_is : to ≡ e.query.to = sym (ap (λ (q : CoverageQuery). q.to) query) in
@@ -104,20 +104,20 @@ module _ (M : Map) (ls : List ℕ) (r : Reuse) (is : IsReuse M ls r) (joined : A
           upto = omega arith;
           route = grind (arith, way);
           within = grind (arith, part_is);
-          before = λ m h g.
-              let there = (covered_unique M ls i (r.lead + m) (omega arith) (omega arith)).0
+          before = λ m h below.
+              let there = (covered_unique g M ls i (r.lead + m) (omega arith) (omega arith)).0
               (tested.before (r.lead + m) (omega arith) (omega arith)) in
               let line = sym (own_line ls r m (omega arith)) in
-              coe 0 1 (j. LrpRoute M (from_is j) (start M (line j)) (part_is m h (omega arith) j)) there;
+              coe 0 1 (j. CountedRoute g M (from_is j) (start M (line j)) (part_is m h (omega arith) j)) there;
           covered = grind (arith, part_is);
         }
 
 -- a known query that ends at the last position that is tested
-module _ (M : Map) (ls : List ℕ) (r : Reuse) (is : IsReuse M ls r) (joined : AreJoined M ls) (i far : ℕ)
+module _ (g : Margin) (M : Map) (m : IsMap M) (ls : List ℕ) (r : Reuse) (is : IsReuse g M ls r) (joined : AreJoined M ls) (i far : ℕ)
     (some : i + 1 < length ls) (is_far : IsFar M ls i far) (e : KnownQuery) (listed : Contains r.known.now e)
     (begins : i + 1 ≡ r.lead + e.first) (ends : EndsHere r.lead (min far (length ls - 1)) e) where
-  right : IsKnown M (own_of ls r) e
-  right = All-contains (IsKnown M (own_of ls r)) r.known.now e is.known listed
+  right : IsKnownWith g M (own_of ls r) e
+  right = All-contains (IsKnownWith g M (own_of ls r)) r.known.now e is.known listed
 
   order : e.first < e.last
   order = right.order
@@ -128,32 +128,32 @@ module _ (M : Map) (ls : List ℕ) (r : Reuse) (is : IsReuse M ls r) (joined : A
   within : r.lead + e.last < length ls
   within = let short = ends.0 in omega arith
 
-  unique : IsTrue e.covered ↔ UniqueTo M ls i (r.lead + e.last)
-  unique = covered_known M ls r is joined i e begins order upto within right
+  unique : IsTrue e.covered ↔ CountedTo g M ls i (r.lead + e.last)
+  unique = covered_known g M ls r is joined i e begins order upto within right
 
-  found : (b : Bool) → e.covered ≡ b → IsReach M ls i (if b then far else r.lead + e.last - 1)
-      × IsLastTested M ls i (r.lead + e.last)
+  found : (b : Bool) → e.covered ≡ b → IsReach g M ls i (if b then far else r.lead + e.last - 1)
+      × IsLastTestedWith g M ls i (r.lead + e.last)
   found true t =
       let all = ends.1 t in
-      all_covered M ls i far joined is_far (r.lead + e.last) some (omega (arith, order)) (unique.0 t)
+      all_covered g M m ls i far joined is_far (r.lead + e.last) some (omega (arith, order)) (unique.0 t)
   found false f =
       let ascends = order in
       let short = ends.0 in
       let k = r.lead + (e.last - 1) in
       let last : r.lead + e.last ≡ k + 1 = omega arith in
       let reach : r.lead + e.last - 1 ≡ k = omega arith in
-      let no_more : ¬ UniqueTo M ls i (k + 1) = λ u. let t : e.covered ≡ true = unique.1 (rw last u) in cc in
-      rw (reach, last) (covered_so_far M ls i far joined is_far k (omega arith) (omega arith)
-      (before_known M ls r is joined i e begins order upto within right (e.last - 1) (omega arith) (omega arith)) no_more)
+      let no_more : ¬ CountedTo g M ls i (k + 1) = λ u. let t : e.covered ≡ true = unique.1 (rw last u) in cc in
+      rw (reach, last) (covered_so_far g M m ls i far joined is_far k (omega arith) (omega arith)
+      (before_known g M ls r is joined i e begins order upto within right (e.last - 1) (omega arith) (omega arith)) no_more)
 
   -- nothing is searched
   pub answered_known : (f : Found) → f.reach ≡ known_reach r.lead far e → f.query ≡ e.query → f.own ≡ Some e →
-      f.work ≡ no_work → (seen : Option (List ℕ)) → IsAnswered M ls r i f seen seen
+      f.work ≡ no_work → (seen : Option (List ℕ)) → IsAnswered g M ls r i f seen seen
   answered_known f reach query own work seen =
       let there = found e.covered refl in
       record {
         reach = rw reach there.0;
-        query = (r.lead + e.last, there.1, query ∙ query_known M ls r is joined i e begins order upto within right);
+        query = (r.lead + e.last, there.1, query ∙ query_known g M ls r is joined i e begins order upto within right);
         own = rw (own, query) record { among = Contains-here e.query []; right = right };
         cost = cost_none M (f.query ∷ []) f.work work;
         searched = λ none. grind arith;
@@ -162,25 +162,25 @@ module _ (M : Map) (ls : List ℕ) (r : Reuse) (is : IsReuse M ls r) (joined : A
 -- ---- the query that a search found
 
 -- a position that is tested is covered if it is one of those that are covered and near enough
-covered_if : (M : Map) (ls : List ℕ) (i reach last : ℕ) → IsReach M ls i reach → IsLastTested M ls i last → i + 1 < last
-    → (b : Bool) → (b ≡ true → last ≤ reach) → (last ≤ reach → b ≡ true) → IsTrue b ↔ Covered M ls i last
-covered_if M ls i reach last r t order b f g = ((λ h. (r.within last (omega arith) (f h)).0), back)
+covered_if : (g : Margin) (M : Map) (ls : List ℕ) (i reach last : ℕ) → IsReach g M ls i reach → IsLastTestedWith g M ls i last → i + 1 < last
+    → (b : Bool) → (b ≡ true → last ≤ reach) → (last ≤ reach → b ≡ true) → IsTrue b ↔ CoveredWith g M ls i last
+covered_if g M ls i reach last r t order b f is = ((λ h. (r.within last (omega arith) (f h)).0), back)
   where
-    back : Covered M ls i last → b ≡ true
+    back : CoveredWith g M ls i last → b ≡ true
     back c = let n = t.needed in
         let inside = t.inside in grind (arith, cases_lt reach last, r.beyond last, stretch_sum M ls i last)
 
-pub own_at : (M : Map) (ls : List ℕ) (r : Reuse) → IsReuse M ls r → AreJoined M ls → (i reach last : ℕ) (e : KnownQuery) →
-    IsReach M ls i reach → IsLastTested M ls i last → r.lead ≤ i + 1 → i + 1 < last → last ≤ r.lead + r.own →
-    e.query ≡ query_to M ls i last → e.first ≡ i + 1 - r.lead → e.last ≡ last - r.lead →
-    (e.covered ≡ true → last ≤ reach) → (last ≤ reach → e.covered ≡ true) → IsKnownOf M (own_of ls r) (e.query ∷ []) e
-own_at M ls r is joined i reach last e near t leads order upto query first ends f g =
+pub own_at : (g : Margin) (M : Map) (ls : List ℕ) (r : Reuse) → IsReuse g M ls r → AreJoined M ls → (i reach last : ℕ) (e : KnownQuery) →
+    IsReach g M ls i reach → IsLastTestedWith g M ls i last → r.lead ≤ i + 1 → i + 1 < last → last ≤ r.lead + r.own →
+    e.query ≡ query_to_with g M ls i last → e.first ≡ i + 1 - r.lead → e.last ≡ last - r.lead →
+    (e.covered ≡ true → last ≤ reach) → (last ≤ reach → e.covered ≡ true) → IsKnownOfWith g M (own_of ls r) (e.query ∷ []) e
+own_at g M ls r is joined i reach last e near t leads order upto query first ends f t_is =
     let same : last ≡ r.lead + e.last = omega arith in
     let inside = t.inside in
     record {
       among = Contains-here e.query [];
-      right = is_known M ls r is joined i e (omega arith) (omega arith) (omega arith) (omega arith)
-          (subst (IsLastTested M ls i) same t) (query ∙ ap (query_to M ls i) same)
-          (subst (λ (k : ℕ). IsTrue e.covered ↔ Covered M ls i k) same
-          (covered_if M ls i reach last near t order e.covered f g));
+      right = is_known g M ls r is joined i e (omega arith) (omega arith) (omega arith) (omega arith)
+          (subst (IsLastTestedWith g M ls i) same t) (query ∙ ap (query_to_with g M ls i) same)
+          (subst (λ (k : ℕ). IsTrue e.covered ↔ CoveredWith g M ls i k) same
+          (covered_if g M ls i reach last near t order e.covered f t_is));
     }

@@ -2,40 +2,41 @@
 use Rattle.olr_refs.proofs.Common.{common_steps, inl, inr, ◌≡◌, ◌<◌, ◌≤◌, ◌-◌, ◌+◌, ℕ, zero, suc, Bool, true, false}
 use Rattle.olr_refs.proofs.Common.{cond, List, [], ◌∷◌, length, take, drop, refl, sym, ap, ◌∙◌, subst, arith, cases_lt}
 use Rattle.olr_refs.proofs.Common.{cases_eq, le-leb, nat_tests, take-map, take_all, slice_index, slice_range, Map}
-use Rattle.olr_refs.proofs.Common.{dm_of, Candidate, last_position, leg, legs, dm_between, reference, reference_by}
+use Rattle.olr_refs.proofs.Common.{dm_of, CandidateWith, last_position, leg, legs, dm_between, reference_with, reference_by_with}
 use Rattle.olr_refs.proofs.Common.{AreDistances, later, distance_at, whole_distance, nat_le, length-take, length-drop}
 use Rattle.olr_refs.proofs.Common.{lt-leb, get_or-take, get_or-drop, AllPairs-from_increasing, filter, dm_along}
 use Rattle.olr_refs.proofs.Common.{from_front, to_back, last_where, first_where, first_kept, last_kept, kept_points}
-use Rattle.olr_refs.proofs.Common.{Linked, follow_linked, between, kept_linked, from_front-add, AreAlong, ArePoints}
+use Rattle.olr_refs.proofs.Common.{LinkedWith, follow_linked_with, between, kept_linked_with, from_front-add, AreAlong, ArePoints}
 use Rattle.olr_refs.proofs.Common.{AreKept, AreLinked, AreTrimmed, IsFirstKept, IsLastKept}
+use Rattle.olr_spec.specs.Margins.{Margin}
 use Rattle.olr_spec.proofs.KeptLemmas.{dm_along-legs, whole}
 use Rattle.olr_refs.proofs.Stretches.{distances_rise}
 
 -- ---- the LRPs
 
-linked_at : (M : Map) (ls ps : List ℕ) → Linked M ls ps → AreLinked M ls ps
-linked_at M ls [] l k h = absurd (omega arith)
-linked_at M ls (p ∷ []) l k h = absurd (omega arith)
-linked_at M ls (p ∷ q ∷ ps) l zero h = l.0
-linked_at M ls (p ∷ q ∷ ps) l (suc k) h = grind (arith, linked_at M ls (q ∷ ps) l.1 k (omega arith))
+linked_at : (g : Margin) (M : Map) (ls ps : List ℕ) → LinkedWith g M ls ps → AreLinked g M ls ps
+linked_at g M ls [] l k h = absurd (omega arith)
+linked_at g M ls (p ∷ []) l k h = absurd (omega arith)
+linked_at g M ls (p ∷ q ∷ ps) l zero h = l.0
+linked_at g M ls (p ∷ q ∷ ps) l (suc k) h = grind (arith, linked_at g M ls (q ∷ ps) l.1 k (omega arith))
 
 -- the last two
-pub linked_end : (M : Map) (ls ps : List ℕ) → AreLinked M ls ps → 2 ≤ length ps →
-    Candidate M ls (slice_index ps (length ps - 1 - 1)) (slice_index ps (length ps - 1))
-linked_end M ls ps l h = grind arith
+pub linked_end : (g : Margin) (M : Map) (ls ps : List ℕ) → AreLinked g M ls ps → 2 ≤ length ps →
+    CandidateWith g M ls (slice_index ps (length ps - 1 - 1)) (slice_index ps (length ps - 1))
+linked_end g M ls ps l h = grind arith
 
 -- neighbours ascend, so all do
-linked_less : (M : Map) (ls ps : List ℕ) → AreLinked M ls ps → (j k : ℕ) → j < k → k < length ps →
+linked_less : (g : Margin) (M : Map) (ls ps : List ℕ) → AreLinked g M ls ps → (j k : ℕ) → j < k → k < length ps →
     slice_index ps j < slice_index ps k
-linked_less M ls ps l j k h g = AllPairs-from_increasing ps (λ n i. (l n i).after) j k 0 h g
+linked_less g M ls ps l j k h below = AllPairs-from_increasing ps (λ n i. (l n i).after) j k 0 h below
 
 last_index : (i : ℕ) (js : List ℕ) → slice_index (i ∷ js) (length js) ≡ last_position i js
 last_index i [] = refl
 last_index i (j ∷ js) = last_index j js
 
 -- the last of them is the end
-pub points_end : (M : Map) (ls ps : List ℕ) → ArePoints M ls ps → slice_index ps (length ps - 1) ≡ length ls
-points_end M ls ps a = grind (arith, common_steps, nat_tests, last_index)
+pub points_end : (g : Margin) (M : Map) (ls ps : List ℕ) → ArePoints g M ls ps → slice_index ps (length ps - 1) ≡ length ls
+points_end g M ls ps a = grind (arith, common_steps, nat_tests, last_index)
 
 -- lines with a length are some
 pub some_lines : (M : Map) (ls : List ℕ) (n : ℕ) → n < dm_of M ls → 0 < length ls
@@ -85,27 +86,27 @@ first_where_at p d (x ∷ xs) (suc a) h t f =
 -- ---- the remaining LRPs
 
 -- the remaining LRPs, and the remainders of the offsets, give the reference
-pub record IsCut (M : Map) (ls ds ps : List ℕ) (positive negative : ℕ) (ks : List ℕ) (pos_left neg_left : ℕ) : Type
+pub record IsCut (g : Margin) (M : Map) (ls ds ps : List ℕ) (positive negative : ℕ) (ks : List ℕ) (pos_left neg_left : ℕ) : Type
     0 where
-  pub are : AreKept M ls ks
+  pub are : AreKept g M ls ks
   pub pos_within : pos_left < dm_between (legs M ls) (slice_index ks 0) (slice_index ks 1)
   pub neg_within : neg_left < dm_between (legs M ls) (slice_index ks (length ks - 1 - 1)) (slice_index ks (length ks - 1))
   pub kept : ks ≡ kept_points (legs M ls) positive negative (later ps)
-  pub value : reference_by (legs M ls) pos_left neg_left ks ≡ reference (legs M ls) positive negative (later ps)
+  pub value : reference_by_with g (legs M ls) pos_left neg_left ks ≡ reference_with g (legs M ls) positive negative (later ps)
 
-module _ (M : Map) (ls ds ps : List ℕ) (d : AreDistances M ls ds) (p : ArePoints M ls ps) where
-  linked : AreLinked M ls ps
+module _ (g : Margin) (M : Map) (ls ds ps : List ℕ) (d : AreDistances M ls ds) (p : ArePoints g M ls ps) where
+  linked : AreLinked g M ls ps
   linked =
-      subst (AreLinked M ls) (sym p.from_start) (linked_at M ls (0 ∷ later ps) (follow_linked M ls 0 (later ps) p.follow))
+      subst (AreLinked g M ls) (sym p.from_start) (linked_at g M ls (0 ∷ later ps) (follow_linked_with g M ls 0 (later ps) p.follow))
 
   not_above : (j k : ℕ) → j ≤ k → k < length ps → slice_index ps j ≤ slice_index ps k
-  not_above j k h g = grind (arith, cases_eq j k, linked_less M ls ps linked j k)
+  not_above j k h below = grind (arith, cases_eq j k, linked_less g M ls ps linked j k)
 
   upto : (k : ℕ) → k < length ps → slice_index ps k ≤ length ls
   upto k h = grind (arith, points_end, not_above)
 
   ascend : (j k : ℕ) → j ≤ k → k < length ps → distance_at ds ps j ≤ distance_at ds ps k
-  ascend j k h g = distances_rise M ls ds d _ _ (not_above j k h g) (omega (arith, upto k g))
+  ascend j k h below = distances_rise M ls ds d _ _ (not_above j k h below) (omega (arith, upto k below))
 
   last_distance : whole_distance ds ≡ slice_index ds (length ls)
   last_distance = let long = d.long in let on : length ds - 1 ≡ length ls = omega arith in ap (slice_index ds) on
@@ -115,7 +116,7 @@ module _ (M : Map) (ls ds ps : List ℕ) (d : AreDistances M ls ds) (p : ArePoin
       record {
         some = let e = p.from_start in grind arith;
         start = ap (λ (qs : List ℕ). distance_at ds qs 0) p.from_start ∙ d.each 0 (omega arith);
-        end = ap (slice_index ds) (points_end M ls ps p) ∙ sym last_distance;
+        end = ap (slice_index ds) (points_end g M ls ps p) ∙ sym last_distance;
         within = λ k h. let u = upto k h in let long = d.long in omega arith;
         ascend = ascend;
       }
@@ -154,19 +155,19 @@ module _ (M : Map) (ls ds ps : List ℕ) (d : AreDistances M ls ds) (p : ArePoin
 
   range_is : (a b : ℕ) → a ≤ b → b < length ps → filter (between (slice_index ps a) (slice_index ps b)) ps
       ≡ slice_range ps a (b + 1)
-  range_is a b h g =
+  range_is a b h below =
       range_passes (between (slice_index ps a) (slice_index ps b)) ps a (b + 1 - a) (omega arith)
-      (λ k lt. grind (arith, nat_tests, linked_less M ls ps linked k a))
+      (λ k lt. grind (arith, nat_tests, linked_less g M ls ps linked k a))
       (λ k ge lt. grind (arith, nat_tests, not_above a k, not_above k b))
-      (λ k ge lt. grind (arith, nat_tests, linked_less M ls ps linked b k))
+      (λ k ge lt. grind (arith, nat_tests, linked_less g M ls ps linked b k))
 
   -- the length of a leg, by the distances of its ends
-  leg_is : (i j : ℕ) → Candidate M ls i j → slice_index ds j ≡ slice_index ds i + dm_between (legs M ls) i j
+  leg_is : (i j : ℕ) → CandidateWith g M ls i j → slice_index ds j ≡ slice_index ds i + dm_between (legs M ls) i j
   leg_is i j c = grind (arith, upto, front, from_front-add, legs)
 
   pub trimmed : (positive negative : ℕ) (ks : List ℕ) (pos_left neg_left : ℕ) →
       AreTrimmed ds ps positive negative ks pos_left neg_left → positive + negative < dm_of M ls →
-      IsCut M ls ds ps positive negative ks pos_left neg_left
+      IsCut g M ls ds ps positive negative ks pos_left neg_left
   trimmed positive negative ks pos_left neg_left r less =
       let a = r.first in
       let b = r.last in
@@ -188,18 +189,18 @@ module _ (M : Map) (ls ds ps : List ℕ) (d : AreDistances M ls ds) (p : ArePoin
       rw (← first, front _ (upto a f.within)) (omega (arith, r.pos_cut)) in
       let neg_is : neg_left ≡ negative - to_back (legs M ls) (last_kept (legs M ls) negative (later ps)) =
       rw (← last) (omega (arith, r.neg_cut, back _ (upto b within))) in
-      let linked : AreLinked M ls ks =
-      rw kept_is (linked_at M ls _ (kept_linked M ls (first_kept (legs M ls) positive (later ps))
-      (last_kept (legs M ls) negative (later ps)) (0 ∷ later ps) (follow_linked M ls 0 (later ps) p.follow))) in
+      let linked : AreLinked g M ls ks =
+      rw kept_is (linked_at g M ls _ (kept_linked_with g M ls (first_kept (legs M ls) positive (later ps))
+      (last_kept (legs M ls) negative (later ps)) (0 ∷ later ps) (follow_linked_with g M ls 0 (later ps) p.follow))) in
       let next = f.next (omega arith) in
       let before = l.before (omega arith) in
       let first_leg = leg_is _ _ (linked 0 (omega arith)) in
-      let last_leg = leg_is _ _ (linked_end M ls ks linked (omega arith)) in
+      let last_leg = leg_is _ _ (linked_end g M ls ks linked (omega arith)) in
       let last_at = at (length ks - 1) b (omega arith) (omega arith) in
       record {
         are = record { linked = linked; two = omega arith };
         pos_within = omega (arith, r.pos_cut, at 0 a (omega arith) (omega arith), at 1 (a + 1) refl (omega arith));
         neg_within = omega (arith, r.neg_cut, at (length ks - 1 - 1) (b - 1) (omega arith) (omega arith));
         kept = kept_is;
-        value = λ i. reference_by (legs M ls) (pos_is i) (neg_is i) (kept_is i);
+        value = λ i. reference_by_with g (legs M ls) (pos_is i) (neg_is i) (kept_is i);
       }

@@ -4,7 +4,8 @@ use Rattle.std.specs.Prelude.{◌≡◌, ℕ, ◌+◌, ◌<◌, ◌≤◌, List,
 use Rattle.olr_spec.specs.Map.{Map}
 use Rattle.olr_spec.specs.Routes.{dm_of}
 use Rattle.olr_spec.specs.Extension.{limit}
-use Rattle.olr_spec.specs.Points.{stretch, Covered}
+use Rattle.olr_spec.specs.Margins.{Margin}
+use Rattle.olr_spec.specs.Points.{stretch, CoveredWith}
 
 -- the distances of positions 0 to n
 pub record DistancesTo (M : Map) (ls : List ℕ) (n : ℕ) (ds : List ℕ) : Type 0 where
@@ -22,11 +23,11 @@ pub record IsLastWithinLimit (ds : List ℕ) (i k : ℕ) : Type 0 where
   pub beyond : (j : ℕ) → k < j → j < length ds → slice_index ds i + limit < slice_index ds j
 
 -- the positions after i that are covered and within the limit are those up to k
-pub record IsReach (M : Map) (ls : List ℕ) (i k : ℕ) : Type 0 where
+pub record IsReach (g : Margin) (M : Map) (ls : List ℕ) (i k : ℕ) : Type 0 where
   pub from : i ≤ k
   pub upto : k ≤ length ls
-  pub within : (j : ℕ) → i < j → j ≤ k → Covered M ls i j × (dm_of M (stretch ls i j) ≤ limit)
-  pub beyond : (j : ℕ) → k < j → j ≤ length ls → Covered M ls i j → limit < dm_of M (stretch ls i j)
+  pub within : (j : ℕ) → i < j → j ≤ k → CoveredWith g M ls i j × (dm_of M (stretch ls i j) ≤ limit)
+  pub beyond : (j : ℕ) → k < j → j ≤ length ls → CoveredWith g M ls i j → limit < dm_of M (stretch ls i j)
 
 -- the positions after i within the limit are those up to k
 pub record IsFar (M : Map) (ls : List ℕ) (i k : ℕ) : Type 0 where

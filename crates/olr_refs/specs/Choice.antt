@@ -1,5 +1,5 @@
 -- What a choice of LRPs says, what it searches, and what it costs.
---     ForPoints M ls P      P of the points after position 0, of which there is exactly one list
+--     ForPoints g M ls P      P of the points after position 0, of which there is exactly one list
 --     IsChoice ls js c      the choice is 0 and js where they lead to the end, and else the position that has no next
 --         point
 --     searches_of ls is      how many of the points is are searched from: those that two lines or more follow
@@ -7,21 +7,23 @@
 --     Notes near old new      if nodes are recorded at all, those that are `near` are added
 --     CostsAtMost M queries work      at most one search for each query, which settles no more than the nodes that they
 --         reach
---     AreSearched M queries work seen noted      one search for each query, by which the nodes that it reaches are
---         recorded
---     TestedTo M slot ls i far to q      the positions after i are covered and within the limit up to far, and tested up
---         to the position `to`, by the search q
---     FoundFrom M ls i far to asked work before noted      by one search for the query asked, with this work, the
---         positions after i are covered and within the limit up to far, and tested up to the position `to`
-use Rattle.std.specs.Prelude.{◌≡◌, ◌≢◌, ℕ, ◌+◌, ◌*◌, ◌≤◌, List, ◌∷◌, [], length, count_by, nat_lt}
+--     AreSearched M queries work seen noted      one search for each query, and the nodes that it reaches are recorded
+--     begun_at g      the start value of a search that finds how far lines are covered
+--     MayMark g M slot xs from line s      the line may count longer from now on, where the lines xs do so already
+--     TestedTo g M slot ls i far to within q      the positions after i are covered and within the limit up to far, and
+--         tested up to the position `to`, by the search q, on the map as it counts for the lines between, whose length
+--         it counts is `within`
+use Rattle.std.specs.Prelude.{if◌then◌else◌, ◌==◌, ◌≡◌, ◌≢◌, ℕ, ◌+◌, ◌*◌, ◌≤◌, List, ◌∷◌, [], length, count_by, nat_lt}
 use Rattle.std.specs.Prelude.{Contains, Option, Some, None, ◌↔◌, ◌⊎◌, ⊤, slice_index}
+use Rattle.olr_spec.specs.Margins.{Margin, counted, counted_dm_of}
 use Rattle.olr_spec.specs.Map.{Map, end}
-use Rattle.olr_spec.specs.Routes.{dm_of}
-use Rattle.olr_spec.specs.Points.{Follow, last_position, stretch}
+use Rattle.olr_spec.specs.Points.{FollowWith, last_position, stretch}
 use Rattle.olr_spec.specs.Footprint.{Sees}
-use Rattle.olr_spec.specs.Queries.{CoverageQuery, IsLastTested, query_to}
+use Rattle.olr_spec.specs.Queries.{CoverageQuery, IsLastTestedWith}
 use Rattle.olr_search.specs.declared.distances.Dijkstra.{Dijkstra}
 use Rattle.olr_search.specs.declared.distances.Direction.TheVariants.{Along}
+use Rattle.olr_search.specs.Lengths.{MayCount}
+use Rattle.olr_search.specs.ResolvedLines.{ResolvedLine}
 use Rattle.olr_search.specs.Searches.{IsSearch, limit_of}
 use Rattle.olr_search.specs.declared.work.Work.{Work}
 use Rattle.olr_search.specs.Counts.{saturated_count}
@@ -29,8 +31,8 @@ use Rattle.olr_refs.specs.Along.{IsReach}
 use Rattle.olr_refs.specs.declared.chosen.Choice.{Choice}
 use Rattle.olr_refs.specs.declared.chosen.Choice.TheVariants.{Positions, NoNext}
 
-abbrev pub ForPoints : Map → List ℕ → (List ℕ → Type 0) → Type 0
-ForPoints M ls P = (js : List ℕ) × Follow M ls 0 js × P js
+abbrev pub ForPoints : Margin → Map → List ℕ → (List ℕ → Type 0) → Type 0
+ForPoints g M ls P = (js : List ℕ) × FollowWith g M ls 0 js × P js
 
 abbrev pub IsChoice : List ℕ → List ℕ → Choice → Type 0
 IsChoice ls js (Positions ps) = (last_position 0 js ≡ length ls) × (ps.items ≡ 0 ∷ js)
@@ -59,18 +61,19 @@ pub record AreSearched (M : Map) (queries : List CoverageQuery) (work : Work) (s
     pub searches : work.searches ≡ saturated_count (length queries)
     pub notes : Notes (SeenBy M queries) seen noted
 
--- the search begins at the end of line i, and is settled as far as position `to`
-pub record TestedTo (M : Map) (slot : ℕ → ℕ) (ls : List ℕ) (i far to : ℕ) (q : Dijkstra) : Type 0 where
-  pub reach : IsReach M ls i far
-  pub last : IsLastTested M ls i to
-  pub search : IsSearch M slot Along ((end M (slice_index ls i), 0) ∷ []) q
-  pub no_farther : limit_of q ≡ dm_of M (stretch ls (i + 1) to)
+-- with a margin it begins one step later, so that it isn't settled where the first line begins before that line counts
+abbrev pub begun_at : Margin → ℕ
+begun_at g = if g.routes == 0 then 0 else 1
 
-pub record FoundFrom (M : Map) (ls : List ℕ) (i far to : ℕ) (asked : CoverageQuery) (work : Work)
-    (seen noted : Option (List ℕ)) : Type 0
-  where
-    pub reach : IsReach M ls i far
-    pub last : IsLastTested M ls i to
-    pub query : asked ≡ query_to M ls i to
-    pub cost : CostsAtMost M (asked ∷ []) work
-    pub searched : AreSearched M (asked ∷ []) work seen noted
+-- from now on the line may count longer too, where the lines xs do so already
+abbrev pub MayMark : Margin → Map → (ℕ → ℕ) → List ℕ → List (ℕ × ℕ) → ResolvedLine → Dijkstra → Type 0
+MayMark g M slot xs from line s =
+    ((g.routes ≡ 0) ⊎ MayCount M slot g xs line s) × IsSearch (counted g M xs) slot Along from s
+
+-- the search begins at the end of line i, and is settled as far as position `to`
+pub record TestedTo (g : Margin) (M : Map) (slot : ℕ → ℕ) (ls : List ℕ) (i far to within : ℕ) (q : Dijkstra) : Type 0 where
+  pub reach : IsReach g M ls i far
+  pub last : IsLastTestedWith g M ls i to
+  pub long : within ≡ counted_dm_of g M (stretch ls (i + 1) to)
+  pub search : IsSearch (counted g M (stretch ls (i + 1) to)) slot Along ((end M (slice_index ls i), begun_at g) ∷ []) q
+  pub no_farther : limit_of q ≡ within

@@ -1,8 +1,8 @@
 -- The location reference points (LRPs) of an extended path, by position.
 --     later ps      the LRPs after the first
---     ArePoints M ls ps      ps are position 0 and the LRPs after it, which lead to the end
---     AreLinked M ls ps      each of ps but the first may follow the one before it
---     AreKept M ls ps      and they are at least two
+--     ArePoints g M ls ps      ps are position 0 and the LRPs after it, which lead to the end
+--     AreLinked g M ls ps      each of ps but the first may follow the one before it
+--     AreKept g M ls ps      and they are at least two
 --     AreAlong ds ps      their distances ascend from 0 to that of the end; ds are the distances of all positions
 --     IsFirstKept ds ps positive k      LRP k is the last that is at most the positive offset from the start
 --     IsLastKept ds ps negative k      LRP k is the first that is at most the negative offset from the end
@@ -10,22 +10,23 @@
 --         these remainders of the offsets
 use Rattle.std.specs.Prelude.{◌≡◌, ℕ, ◌+◌, ◌-◌, ◌<◌, ◌≤◌, List, [], ◌∷◌, length, slice_index, slice_range}
 use Rattle.olr_spec.specs.Map.{Map}
-use Rattle.olr_spec.specs.Points.{Candidate, Follow, last_position}
+use Rattle.olr_spec.specs.Margins.{Margin}
+use Rattle.olr_spec.specs.Points.{CandidateWith, FollowWith, last_position}
 
 abbrev pub later : List ℕ → List ℕ
 later [] = []
 later (p ∷ ps) = ps
 
-pub record ArePoints (M : Map) (ls ps : List ℕ) : Type 0 where
+pub record ArePoints (g : Margin) (M : Map) (ls ps : List ℕ) : Type 0 where
   pub from_start : ps ≡ 0 ∷ later ps
-  pub follow : Follow M ls 0 (later ps)
+  pub follow : FollowWith g M ls 0 (later ps)
   pub to_end : last_position 0 (later ps) ≡ length ls
 
-abbrev pub AreLinked : Map → List ℕ → List ℕ → Type 0
-AreLinked M ls ps = (k : ℕ) → k + 1 < length ps → Candidate M ls (slice_index ps k) (slice_index ps (k + 1))
+abbrev pub AreLinked : Margin → Map → List ℕ → List ℕ → Type 0
+AreLinked g M ls ps = (k : ℕ) → k + 1 < length ps → CandidateWith g M ls (slice_index ps k) (slice_index ps (k + 1))
 
-pub record AreKept (M : Map) (ls ps : List ℕ) : Type 0 where
-  pub linked : AreLinked M ls ps
+pub record AreKept (g : Margin) (M : Map) (ls ps : List ℕ) : Type 0 where
+  pub linked : AreLinked g M ls ps
   pub two : 2 ≤ length ps
 
 -- the distance of LRP k, by the distances of all positions

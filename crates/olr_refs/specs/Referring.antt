@@ -1,50 +1,51 @@
--- What is known of an encoding beside its answer: the routes that join, and the searches that it makes.
---     JoinsOf M P A      if the answer has LRPs, this holds for its reference
---     SearchesOf M P n      the path is encoded by n searches
+-- What is known of an encoding with a margin beside its answer: the routes that join, and the searches that it makes.
+--     JoinsOf g M P A      if the answer has LRPs, this holds for its reference
+--     SearchesOf g M P n      the path is encoded by n searches
 --     OwnLinesAlong M E js A xs      xs are the own lines of the extended path E at the LRPs of its answer; none if it has
 --         no reference
---     AnsweredAlong M E js A xs      A is the answer of the extended path by these LRPs, and xs are these lines
---     IsEncoding M P e      e is the encoding of the path: its answer, the own lines at its LRPs, the traversed nodes and the
+--     AnsweredAlong g M E js A xs      A is the answer of the extended path by these LRPs, and xs are these lines
+--     IsEncoding g M P e      e is the encoding of the path: its answer, the own lines at its LRPs, the traversed nodes and the
 --         coverage queries; it counts as one, with at most one search for each query, which settles at most the footprint
 use Rattle.std.specs.Prelude.{◌≡◌, ℕ, ◌*◌, ◌≤◌, ◌↔◌, List, [], ◌∷◌, length, Contains, MatchOption, ⊤}
+use Rattle.olr_spec.specs.Margins.{Margin}
 use Rattle.olr_spec.specs.Map.{Map}
 use Rattle.olr_spec.specs.Extension.{Path}
-use Rattle.olr_spec.specs.Points.{OfPath}
-use Rattle.olr_spec.specs.Encoding.{path_fault, answer_by_points, Encodes}
+use Rattle.olr_spec.specs.Points.{OfPathWith}
+use Rattle.olr_spec.specs.Encoding.{path_fault, answer_by_points_with, EncodesWith}
 use Rattle.olr_spec.specs.Encoding as spec
 use Rattle.olr_spec.specs.Reference.{legs, kept_points}
-use Rattle.olr_spec.specs.Recovery.{own_lines, OwnLinesOf}
-use Rattle.olr_spec.specs.Joins.{Joined}
-use Rattle.olr_spec.specs.Footprint.{Foot}
-use Rattle.olr_spec.specs.Queries.{TraversedOf, QueriesOf, KnownOf}
+use Rattle.olr_spec.specs.Recovery.{own_lines, OwnLinesOfWith}
+use Rattle.olr_spec.specs.Joins.{JoinedWith}
+use Rattle.olr_spec.specs.Footprint.{FootWith}
+use Rattle.olr_spec.specs.Queries.{TraversedOf, QueriesOfWith, KnownOfWith}
 use Rattle.olr_answers.specs.Answers.{answer_of}
 use Rattle.olr_answers.specs.declared.answer.Answer.{Answer}
 use Rattle.olr_answers.specs.declared.answer.Answer.TheVariants.{Points, Refused}
 use Rattle.olr_refs.specs.Choice.{searches_of}
 use Rattle.olr_refs.specs.declared.encoding.Encoding.{Encoding}
 
-abbrev pub JoinsOf : Map → Path → Answer → Type 0
-JoinsOf M P (Refused f) = ⊤
-JoinsOf M P (Points r) = Joined M P r
+abbrev pub JoinsOf : Margin → Map → Path → Answer → Type 0
+JoinsOf g M P (Refused f) = ⊤
+JoinsOf g M P (Points r) = JoinedWith g M P r
 
-abbrev pub SearchesOf : Map → Path → ℕ → Type 0
-SearchesOf M P n = MatchOption (path_fault M P) (OfPath M P (λ E _ _ js. n ≡ searches_of E.lines (0 ∷ js))) (λ _. n ≡ 0)
+abbrev pub SearchesOf : Margin → Map → Path → ℕ → Type 0
+SearchesOf g M P n = MatchOption (path_fault M P) (OfPathWith g M P (λ E _ _ js. n ≡ searches_of E.lines (0 ∷ js))) (λ _. n ≡ 0)
 
 abbrev pub OwnLinesAlong : Map → Path → List ℕ → spec.Answer → List ℕ → Type 0
 OwnLinesAlong M E js (spec.Points r) xs = xs ≡ own_lines E.lines (kept_points (legs M E.lines) E.pos E.neg js)
 OwnLinesAlong M E js (spec.Refused refusal) xs = xs ≡ []
 
-pub record AnsweredAlong (M : Map) (E : Path) (js : List ℕ) (A : spec.Answer) (xs : List ℕ) : Type 0 where
-  pub answer : A ≡ answer_by_points M E js
+pub record AnsweredAlong (g : Margin) (M : Map) (E : Path) (js : List ℕ) (A : spec.Answer) (xs : List ℕ) : Type 0 where
+  pub answer : A ≡ answer_by_points_with g M E js
   pub own : OwnLinesAlong M E js A xs
 
-pub record IsEncoding (M : Map) (P : Path) (e : Encoding) : Type 0 where
-  pub answer : Encodes M P (answer_of e.answer)
-  pub joins : JoinsOf M P e.answer
-  pub own : OwnLinesOf M P (answer_of e.answer) e.own.items
+pub record IsEncoding (g : Margin) (M : Map) (P : Path) (e : Encoding) : Type 0 where
+  pub answer : EncodesWith g M P (answer_of e.answer)
+  pub joins : JoinsOf g M P e.answer
+  pub own : OwnLinesOfWith g M P (answer_of e.answer) e.own.items
   pub traversed : (v : ℕ) → Contains e.traversed v ↔ TraversedOf M P v
-  pub queries : QueriesOf M P e.queries.items
-  pub known : KnownOf M P.lines e.queries.items e.known.items
+  pub queries : QueriesOfWith g M P e.queries.items
+  pub known : KnownOfWith g M P.lines e.queries.items e.known.items
   pub encodings : e.work.encodings ≡ 1
   pub searches : e.work.searches ≤ length e.queries.items
-  pub settled : (all : List ℕ) → ((v : ℕ) → Foot M P v → Contains all v) → e.work.settled ≤ length e.queries.items * length all
+  pub settled : (all : List ℕ) → ((v : ℕ) → FootWith g M P v → Contains all v) → e.work.settled ≤ length e.queries.items * length all

@@ -1,17 +1,18 @@
 -- Coverage queries, each of which is known or searched.
 --     own_of ls r      the path's own lines, which are some of the lines ls of an extended path
---     IsReuse M ls r      the known queries are right along the path's own lines
+--     IsReuse g M ls r      the known queries are right along the path's own lines
 --     EndsHere lead end e      a known query ends at the position `end`, the last that can be tested; or before it, if the
 --         query's last position is not covered
 --     known_reach lead far e      how far the positions are covered and near enough, by a known query
---     IsAnswered M ls r i f seen noted      f is the coverage query of the LRP i, and what it shows; if none is known, it
+--     IsAnswered g M ls r i f seen noted      f is the coverage query of the LRP i, and what it shows; if none is known, it
 --         is searched
---     Asks M ls r is q seen noted      q are the coverage queries of the LRPs is, and some of them that are along the
+--     Asks g M ls r is q seen noted      q are the coverage queries of the LRPs is, and some of them that are along the
 --         path's own lines; if none is known, all are searched
 use Rattle.std.specs.Prelude.{◌≡◌, ℕ, ◌+◌, ◌-◌, ◌≤◌, if◌then◌else◌, List, [], ◌∷◌, length, Option, IfSome, IsTrue}
+use Rattle.olr_spec.specs.Margins.{Margin}
 use Rattle.olr_spec.specs.Map.{Map}
 use Rattle.olr_spec.specs.Points.{stretch}
-use Rattle.olr_spec.specs.Queries.{IsQuery, QueriesFrom, querying, KnownQuery, AreKnown, IsKnownOf, KnownOf}
+use Rattle.olr_spec.specs.Queries.{IsQueryWith, QueriesFromWith, querying, KnownQuery, AreKnownWith, IsKnownOfWith, KnownOfWith}
 use Rattle.olr_refs.specs.Along.{IsReach}
 use Rattle.olr_refs.specs.Choice.{AreSearched, CostsAtMost}
 use Rattle.olr_refs.specs.declared.chosen.Queries.{Queries}
@@ -21,10 +22,10 @@ use Rattle.olr_refs.specs.declared.reuse.Reuse.{Reuse}
 abbrev pub own_of : List ℕ → Reuse → List ℕ
 own_of ls r = stretch ls r.lead (r.lead + r.own)
 
-pub record IsReuse (M : Map) (ls : List ℕ) (r : Reuse) : Type 0 where
+pub record IsReuse (g : Margin) (M : Map) (ls : List ℕ) (r : Reuse) : Type 0 where
   pub inside : r.lead + r.own ≤ length ls
   pub few : r.own ≤ 10000
-  pub known : AreKnown M (own_of ls r) r.known.now
+  pub known : AreKnownWith g M (own_of ls r) r.known.now
 
 -- so if its last position is covered, no position after it has to be tested, and else this one has to be
 abbrev pub EndsHere : ℕ → ℕ → KnownQuery → Type 0
@@ -35,17 +36,17 @@ EndsHere lead end e = (lead + e.last ≤ end) × (IsTrue e.covered → lead + e.
 abbrev pub known_reach : ℕ → ℕ → KnownQuery → ℕ
 known_reach lead far e = if e.covered then far else lead + e.last - 1
 
-pub record IsAnswered (M : Map) (ls : List ℕ) (r : Reuse) (i : ℕ) (f : Found) (seen noted : Option (List ℕ)) : Type 0
+pub record IsAnswered (g : Margin) (M : Map) (ls : List ℕ) (r : Reuse) (i : ℕ) (f : Found) (seen noted : Option (List ℕ)) : Type 0
   where
-    pub reach : IsReach M ls i f.reach
-    pub query : IsQuery M ls i f.query
-    pub own : IfSome f.own (IsKnownOf M (own_of ls r) (f.query ∷ []))
+    pub reach : IsReach g M ls i f.reach
+    pub query : IsQueryWith g M ls i f.query
+    pub own : IfSome f.own (IsKnownOfWith g M (own_of ls r) (f.query ∷ []))
     pub cost : CostsAtMost M (f.query ∷ []) f.work
     pub searched : r.known.now ≡ [] → AreSearched M (f.query ∷ []) f.work seen noted
 
-pub record Asks (M : Map) (ls : List ℕ) (r : Reuse) (is : List ℕ) (q : Queries) (seen noted : Option (List ℕ)) : Type 0
+pub record Asks (g : Margin) (M : Map) (ls : List ℕ) (r : Reuse) (is : List ℕ) (q : Queries) (seen noted : Option (List ℕ)) : Type 0
   where
-    pub each : QueriesFrom M ls (querying ls is) q.all.items
-    pub own : KnownOf M (own_of ls r) q.all.items q.own.items
+    pub each : QueriesFromWith g M ls (querying ls is) q.all.items
+    pub own : KnownOfWith g M (own_of ls r) q.all.items q.own.items
     pub cost : CostsAtMost M q.all.items q.work
     pub searched : r.known.now ≡ [] → AreSearched M q.all.items q.work seen noted

@@ -12,6 +12,7 @@ ghost use Rattle.olr_refs.specs.ResolvedLines.{records_of};
 ghost use Rattle.olr_refs.specs.ResolvedPaths.{AreJoined-prop, AreRecords-prop, AreDistances-prop};
 
 use crate::nodes::passing_at;
+use olr_answers::Margin;
 use olr_coords::Coord;
 use olr_roads::{Line, LineId, MapRead, NodeId};
 use olr_search::ResolvedLine;
@@ -27,6 +28,8 @@ pub struct ResolvedPath<'a, M: MapRead> {
     pub lines: &'a [LineId],
     /// What an encoding needs of each of them.
     pub records: &'a [ResolvedLine],
+    /// The margin with which it is encoded.
+    pub margin: Margin,
     /// The distance of each position from the start, in decimetres.
     pub distances: &'a [u128],
     ghost joined: { AreJoined (M.map map.now) lines.now } by { AreJoined-prop (M.map map.now) lines.now },

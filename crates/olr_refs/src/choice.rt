@@ -3,14 +3,14 @@ ghost use Rattle.std.specs.Prelude.{◌≡◌, ℕ, ◌+◌, ◌<◌, ◌≤◌,
 ghost use Rattle.olr_spec.specs.Map.{coord_at};
 ghost use Rattle.olr_spec.specs.Coordinates.{fits16, relative};
 ghost use Rattle.olr_coords.specs.Bounds.{is_degrees};
-ghost use Rattle.olr_spec.specs.Points.{fit16, Next, NoNext};
+ghost use Rattle.olr_spec.specs.Points.{fit16, NextWith, NoNextWith};
 ghost use Rattle.olr_spec.specs.Extension.{limit};
 ghost use Rattle.olr_refs.specs.Along.{IsFar, IsLastWithinLimit, IsReach};
 
 use crate::along::ResolvedPath;
 use olr_coords::{Coord, rel16};
 use olr_roads::MapRead;
-use olr_search::GREATEST_LIMIT;
+use olr_search::LEG_LIMIT;
 
 /// The last position, from `i` on, that is at most 150,000 dm from position `i`.
 fn last_within(distances: &[u128], i: usize) -> usize
@@ -20,7 +20,7 @@ fn last_within(distances: &[u128], i: usize) -> usize
     ensures { IsLastWithinLimit distances.now i result }
 {
     for k in i + 1..distances.len() {
-        if distances[k] - distances[i] > u128::from(GREATEST_LIMIT) {
+        if distances[k] - distances[i] > u128::from(LEG_LIMIT) {
             return k - 1;
         }
     }
@@ -55,9 +55,9 @@ fn is_fit(from: Coord, to: Coord) -> bool
 /// if it is one of them and fits; else the last at a valid node that fits; else the last that fits. None if none fits.
 pub fn next_of<M: MapRead>(resolved: &ResolvedPath<M>, i: usize, reach: usize) -> Option<usize>
     requires some { i < length resolved.now.lines.now }
-    requires reach { IsReach (M.map resolved.now.map.now) resolved.now.lines.now i reach }
-    ensures { MatchOption result (NoNext (M.map resolved.now.map.now) resolved.now.lines.now i)
-        (Next (M.map resolved.now.map.now) resolved.now.lines.now i) }
+    requires reach { IsReach resolved.now.margin (M.map resolved.now.map.now) resolved.now.lines.now i reach }
+    ensures { MatchOption result (NoNextWith resolved.now.margin (M.map resolved.now.map.now) resolved.now.lines.now i)
+        (NextWith resolved.now.margin (M.map resolved.now.map.now) resolved.now.lines.now i) }
 {
     let here = resolved.place(i);
     if reach == resolved.lines.len() && is_fit(here, resolved.place(reach)) {

@@ -1,6 +1,9 @@
 //! The location reference points of an extended path.
-ghost use Rattle.std.specs.Prelude.{ℕ, List, ◌+◌, ◌<◌, [], ◌∷◌, ◌++◌, IfOk, OnOk, Option as OptionOf, length};
-ghost use Rattle.olr_search.specs.Searches.{IsSearch, LiesWithin, limit_of};
+ghost use Rattle.std.specs.Prelude.{◌≡◌, ℕ, List, ◌+◌, ◌<◌, ◌≤◌, [], ◌∷◌, ◌++◌, IfOk, OnOk, IsTrue, Option as OptionOf, length};
+ghost use Rattle.olr_spec.specs.Map.{has_node};
+ghost use Rattle.olr_spec.specs.Footprint.{Sees};
+ghost use Rattle.olr_search.specs.declared.distances.Direction.TheVariants.{Along};
+ghost use Rattle.olr_search.specs.Searches.{IsSearch, limit_of};
 ghost use Rattle.olr_refs.specs.Along.{IsFar, IsReach};
 ghost use Rattle.olr_refs.specs.Choice.{ForPoints, IsChoice, Notes};
 ghost use Rattle.olr_refs.specs.Reuse.{IsReuse, IsAnswered, Asks};
@@ -9,9 +12,9 @@ use crate::along::ResolvedPath;
 use crate::choice::{last_within_limit, next_of};
 use crate::reach::covered_to;
 use crate::reuse::{Found, Reuse, known_after, own_query};
-use olr_answers::{CoverageQuery, KnownQuery};
+use olr_answers::{CoverageQuery, KnownQuery, Margin};
 use olr_roads::{Footprint, MapRead};
-use olr_search::{Dijkstra, Direction, Work};
+use olr_search::{Dijkstra, Direction, GREATEST_LIMIT, Work};
 use std::alloc::{AllocError, Global};
 
 /// The LRPs of an extended path, or why there are none.
@@ -43,28 +46,53 @@ pub struct Chosen {
     pub queries: Queries,
 }
 
-/// If `seen` is `Some`, adds the nodes that the search has settled.
-fn note_settled<M: MapRead>(
-    alloc: Global,
+/// Settles a search as far as a coverage query is long, from where it begins. Without a margin this is the search that
+/// found the query.
+fn settle_query<M: MapRead>(
     map: &M,
-    search: &Dijkstra,
+    margin: Margin,
+    query: CoverageQuery,
+    search: &mut Dijkstra,
+) -> Result<(), AllocError>
+    requires small { query.within ≤ GREATEST_LIMIT }
+    requires found { margin.routes ≡ 0 → IsSearch (M.map map.now) (M.node_slot map.now) Along
+        ((query.from, 0) ∷ []) search.old × (limit_of search.old ≡ query.within) }
+    ensures search { OnOk result (IsSearch (M.map map.now) (M.node_slot map.now) Along ((query.from, 0) ∷ []) search.new) }
+    ensures limit { OnOk result (limit_of search.new ≡ query.within) }
+{
+    if margin.routes() == 0 {
+        return Ok(());
+    }
+    search.begin(map, Direction::Along, &[(query.from, 0)])?;
+    search.settle_to(map, query.within)
+}
+
+/// If `seen` is `Some`, adds the nodes that a coverage query reaches. Without a margin they are those that the search which
+/// found the query has settled.
+fn note_reached<M: MapRead>(
+    alloc: Global,
+    resolved: &ResolvedPath<M>,
+    query: CoverageQuery,
+    search: &mut Dijkstra,
     seen: &mut Option<Footprint>,
 ) -> Result<(), AllocError>
-    requires { (direction : _) × (from : List (ℕ × ℕ))
-        × IsSearch (M.map map.now) (M.node_slot map.now) direction from search.now }
-    ensures { OnOk result ((direction : _) (from : List (ℕ × ℕ))
-        → IsSearch (M.map map.now) (M.node_slot map.now) direction from search.now
-        → Notes (LiesWithin (M.map map.now) direction from (limit_of search.now)) seen.old seen.new) }
+    requires small { query.within ≤ GREATEST_LIMIT }
+    requires known { IsTrue (has_node (M.map resolved.now.map.now) query.from) }
+    requires found { resolved.now.margin.routes ≡ 0 → IsSearch (M.map resolved.now.map.now)
+        (M.node_slot resolved.now.map.now) Along ((query.from, 0) ∷ []) search.old
+        × (limit_of search.old ≡ query.within) }
+    ensures { OnOk result (Notes (Sees (M.map resolved.now.map.now) query) seen.old seen.new) }
 {
     let Some(seen) = seen else {
         return Ok(());
     };
-    let nodes = search.nodes(alloc, map)?;
+    settle_query(resolved.map, resolved.margin, query, search)?;
+    let nodes = search.nodes(alloc, resolved.map)?;
     seen.note_all(&nodes)
 }
 
 /// The coverage query from position `i`, by one search, where two lines or more follow line `i`; positions up to `far`
-/// are near enough. If `seen` is `Some`, adds the nodes that the search settled: those that the query reaches.
+/// are near enough. If `seen` is `Some`, adds the nodes that the query reaches.
 fn search_after<M: MapRead>(
     alloc: Global,
     resolved: &ResolvedPath<M>,
@@ -75,19 +103,17 @@ fn search_after<M: MapRead>(
     seen: &mut Option<Footprint>,
 ) -> Result<Found, AllocError>
     requires some { i + 2 < length resolved.now.lines.now }
-    requires reuse { IsReuse (M.map resolved.now.map.now) resolved.now.lines.now reuse.now }
+    requires reuse { IsReuse resolved.now.margin (M.map resolved.now.map.now) resolved.now.lines.now reuse.now }
     requires far { IsFar (M.map resolved.now.map.now) resolved.now.lines.now i far }
-    ensures { IfOk result (λ f. IsAnswered (M.map resolved.now.map.now) resolved.now.lines.now reuse.now i f seen.old
+    ensures { IfOk result (λ f. IsAnswered resolved.now.margin (M.map resolved.now.map.now) resolved.now.lines.now reuse.now i f seen.old
         seen.new) }
 {
     let from = resolved.end(i);
-    search.begin(resolved.map, Direction::Along, &[(from, 0)])?;
     let tested = covered_to(resolved, i, far, search)?;
-    note_settled(alloc, resolved.map, search, seen)?;
     let query = CoverageQuery {
         from,
         to: resolved.node(tested.last),
-        within: resolved.between(i + 1, tested.last) as u32,
+        within: tested.within,
     };
     let own = own_query(resolved, reuse, i, query, tested);
     let work = Work {
@@ -95,6 +121,7 @@ fn search_after<M: MapRead>(
         searches: 1,
         settled: search.settled_count() as u64,
     };
+    note_reached(alloc, resolved, query, search, seen)?;
     Ok(Found {
         reach: tested.reach,
         query,
@@ -104,7 +131,7 @@ fn search_after<M: MapRead>(
 }
 
 /// The coverage query from position `i`, where two lines or more follow line `i`. If it is not known, it is searched;
-/// then, if `seen` is `Some`, adds the nodes that the search settled.
+/// then, if `seen` is `Some`, adds the nodes that it reaches.
 fn query_after<M: MapRead>(
     alloc: Global,
     resolved: &ResolvedPath<M>,
@@ -114,8 +141,8 @@ fn query_after<M: MapRead>(
     seen: &mut Option<Footprint>,
 ) -> Result<Found, AllocError>
     requires some { i + 2 < length resolved.now.lines.now }
-    requires reuse { IsReuse (M.map resolved.now.map.now) resolved.now.lines.now reuse.now }
-    ensures { IfOk result (λ f. IsAnswered (M.map resolved.now.map.now) resolved.now.lines.now reuse.now i f seen.old
+    requires reuse { IsReuse resolved.now.margin (M.map resolved.now.map.now) resolved.now.lines.now reuse.now }
+    ensures { IfOk result (λ f. IsAnswered resolved.now.margin (M.map resolved.now.map.now) resolved.now.lines.now reuse.now i f seen.old
         seen.new) }
 {
     let far = last_within_limit(resolved, i);
@@ -137,11 +164,11 @@ fn reach_of<M: MapRead>(
     seen: &mut Option<Footprint>,
 ) -> Result<usize, AllocError>
     requires some { i < length resolved.now.lines.now }
-    requires reuse { IsReuse (M.map resolved.now.map.now) resolved.now.lines.now reuse.now }
-    ensures reach { IfOk result (IsReach (M.map resolved.now.map.now) resolved.now.lines.now i) }
+    requires reuse { IsReuse resolved.now.margin (M.map resolved.now.map.now) resolved.now.lines.now reuse.now }
+    ensures reach { IfOk result (IsReach resolved.now.margin (M.map resolved.now.map.now) resolved.now.lines.now i) }
     ensures asks { OnOk result ((before : List ℕ) (begun : OptionOf (List ℕ))
-        → Asks (M.map resolved.now.map.now) resolved.now.lines.now reuse.now before queries.old begun seen.old
-        → Asks (M.map resolved.now.map.now) resolved.now.lines.now reuse.now (before ++ i ∷ []) queries.new begun seen.new) }
+        → Asks resolved.now.margin (M.map resolved.now.map.now) resolved.now.lines.now reuse.now before queries.old begun seen.old
+        → Asks resolved.now.margin (M.map resolved.now.map.now) resolved.now.lines.now reuse.now (before ++ i ∷ []) queries.new begun seen.new) }
 {
     if resolved.lines.len() - i <= 2 {
         return Ok(last_within_limit(resolved, i));
@@ -159,7 +186,7 @@ fn reach_of<M: MapRead>(
 /// to the end; or the position after which there is no valid LRP (White Paper, intermediate points and the 15,000 m
 /// rule; which LRP is next is the profile's choice). From each LRP that two lines or more follow one search is made,
 /// no farther than is needed to find the next LRP, and none if the coverage query is known. If `seen` is `Some`, adds
-/// the nodes that these searches settled. If an allocation fails, `seen` may have some of these nodes, and the search
+/// the nodes that the searched queries reach, for which a margin needs further searches. If an allocation fails, `seen` may have some of these nodes, and the search
 /// must be started again before its next use.
 pub fn points<M: MapRead>(
     alloc: Global,
@@ -168,11 +195,11 @@ pub fn points<M: MapRead>(
     search: &mut Dijkstra,
     seen: &mut Option<Footprint>,
 ) -> Result<Chosen, AllocError>
-    requires { IsReuse (M.map resolved.now.map.now) resolved.now.lines.now reuse.now }
-    ensures choice { IfOk result (λ chosen. ForPoints (M.map resolved.now.map.now) resolved.now.lines.now
+    requires { IsReuse resolved.now.margin (M.map resolved.now.map.now) resolved.now.lines.now reuse.now }
+    ensures choice { IfOk result (λ chosen. ForPoints resolved.now.margin (M.map resolved.now.map.now) resolved.now.lines.now
         (λ js. IsChoice resolved.now.lines.now js chosen.choice)) }
-    ensures asks { IfOk result (λ chosen. ForPoints (M.map resolved.now.map.now) resolved.now.lines.now
-        (λ js. Asks (M.map resolved.now.map.now) resolved.now.lines.now reuse.now (0 ∷ js) chosen.queries seen.old
+    ensures asks { IfOk result (λ chosen. ForPoints resolved.now.margin (M.map resolved.now.map.now) resolved.now.lines.now
+        (λ js. Asks resolved.now.margin (M.map resolved.now.map.now) resolved.now.lines.now reuse.now (0 ∷ js) chosen.queries seen.old
         seen.new)) }
 {
     let mut positions = Vec::new(alloc);

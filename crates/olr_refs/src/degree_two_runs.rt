@@ -12,7 +12,7 @@ ghost use Rattle.olr_refs.specs.ResolvedLines.{ids, AreRecords};
 use crate::line_set::LineSet;
 use crate::nodes::passing_at;
 use olr_roads::{LineEnd, LineId, MapRead, NodeId};
-use olr_search::{Direction, GREATEST_LIMIT, ResolvedLine, lines_from, resolve_line};
+use olr_search::{Direction, LEG_LIMIT, ResolvedLine, lines_from, resolve_line};
 use std::alloc::{AllocError, Global};
 
 /// A run of degree-two nodes: lines that lead through such nodes to the first line of a list, or on from its last one.
@@ -137,7 +137,7 @@ fn next_within<M: MapRead>(
 {
     let line = line?;
     let record = resolve_line(map, line).unwrap();
-    if used.has(line) || record.len > GREATEST_LIMIT - len {
+    if used.has(line) || record.len > LEG_LIMIT - len {
         return None;
     }
     Some(record)

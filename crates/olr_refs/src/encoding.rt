@@ -1,9 +1,11 @@
-//! The encoding of a path on a map.
-ghost use Rattle.std.specs.Prelude.{◌≡◌, ◌+◌, ◌<◌, [], ◌∷◌, IsTrue, IfOk, None, length};
-ghost use Rattle.olr_spec.specs.Extension.{is_path, AreJoined};
+//! The encoding of a path on a map with a margin.
+ghost use Rattle.std.specs.Prelude.{◌≡◌, ◌+◌, ◌<◌, [], ◌∷◌, IsTrue, IfOk, None, Some, length};
+ghost use Rattle.olr_spec.specs.Map.{Map};
+ghost use Rattle.olr_spec.specs.Margins.{Margin};
+ghost use Rattle.olr_spec.specs.Extension.{Path as Record, is_path, AreJoined};
 ghost use Rattle.olr_spec.specs.Encoding.{path_fault};
-ghost use Rattle.olr_spec.specs.Queries.{AreKnown};
-ghost use Rattle.olr_answers.specs.Answers.{answer_of};
+ghost use Rattle.olr_spec.specs.Queries.{AreKnownWith};
+ghost use Rattle.olr_answers.specs.Answers.{answer_of, refusal_of};
 ghost use Rattle.olr_spec.specs.Routes.{dm_of};
 ghost use Rattle.olr_refs.specs.Choice.{AreSearched, ForPoints, IsChoice};
 ghost use Rattle.olr_search.specs.Counts.{saturated_count};
@@ -17,12 +19,12 @@ use crate::extension::{Extended, extend};
 use crate::path_fault::own_lines;
 use crate::reference::{Referred, reference_of};
 use crate::reuse::Reuse;
-use olr_answers::{Answer, CoverageQuery, KnownQuery, Path, Refusal};
+use olr_answers::{Answer, CoverageQuery, KnownQuery, Margin, Path, Refusal};
 use olr_roads::{Footprint, LineId, MapRead};
 use olr_search::{Dijkstra, ResolvedLine, Work};
 use std::alloc::{AllocError, Global};
 
-/// The answer of a path on a map, and what it depends on. An edit that affects nothing of this leaves the answer
+/// The answer of a path on a map with a margin, and what it depends on. An edit that affects nothing of this leaves the answer
 /// unchanged.
 #[derive(Drop)]
 pub struct Encoding {
@@ -43,45 +45,48 @@ pub struct Encoding {
     pub work: Work,
 }
 
-/// The encoding of a path on a map, by searches that are settled no farther than is needed to find the LRPs.
+/// The encoding of a path on a map with a margin, by searches that are settled no farther than is needed to find the LRPs.
 ///
 /// If an allocation fails, the search must be started again before its next use.
 pub fn encode<M: MapRead>(
     alloc: Global,
     map: &M,
     path: &Path,
+    margin: Margin,
     search: &mut Dijkstra,
 ) -> Result<Encoding, AllocError>
-    ensures encoding { IfOk result (IsEncoding (M.map map.now) path.now) }
+    ensures encoding { IfOk result (IsEncoding margin (M.map map.now) path.now) }
     ensures path { IsTrue (is_path path.now.lines) }
     ensures searches { IfOk result (λ e. e.work.searches ≡ saturated_count (length e.queries.items)) }
 {
     let mut seen = None;
-    encode_noting(alloc, map, path, &[], search, &mut seen)
+    encode_noting(alloc, map, path, margin, &[], search, &mut seen)
 }
 
 /// The encoding of a path on a map, as `encode` returns it, but without searches for the coverage queries in `known`.
 /// These are along the path's own lines, in the order of the lines where they begin, and are known to be right on this
-/// map: for instance those of an earlier encoding that are clear of all changes since.
+/// map with this margin: for instance those of an earlier encoding that are clear of all changes since.
 ///
 /// If an allocation fails, the search must be started again before its next use.
 pub fn encode_again<M: MapRead>(
     alloc: Global,
     map: &M,
     path: &Path,
+    margin: Margin,
     known: &[KnownQuery],
     search: &mut Dijkstra,
 ) -> Result<Encoding, AllocError>
-    requires { AreKnown (M.map map.now) path.now.lines known.now }
-    ensures encoding { IfOk result (IsEncoding (M.map map.now) path.now) }
+    requires { AreKnownWith margin (M.map map.now) path.now.lines known.now }
+    ensures encoding { IfOk result (IsEncoding margin (M.map map.now) path.now) }
     ensures path { IsTrue (is_path path.now.lines) }
 {
     let mut seen = None;
-    encode_noting(alloc, map, path, known, search, &mut seen)
+    encode_noting(alloc, map, path, margin, known, search, &mut seen)
 }
 
-/// The encoding of a path on a map, as `encode_again` returns it. If `seen` is `Some`, adds the nodes that the
-/// searches settled.
+/// The encoding of a path on a map, as `encode_again` returns it. If `seen` is `Some`, adds the nodes that the coverage
+/// queries reach: those that the searches settled. With a margin these count longer lengths, so that each query's nodes
+/// are found by a further search, which the work does not count.
 ///
 /// If an allocation fails, `seen` may have some of these nodes, and the search must be started again before its next
 /// use.
@@ -89,58 +94,29 @@ pub fn encode_noting<M: MapRead>(
     alloc: Global,
     map: &M,
     path: &Path,
+    margin: Margin,
     known: &[KnownQuery],
     search: &mut Dijkstra,
     seen: &mut Option<Footprint>,
 ) -> Result<Encoding, AllocError>
-    requires { AreKnown (M.map map.now) path.now.lines known.now }
-    ensures encoding { IfOk result (IsEncoding (M.map map.now) path.now) }
+    requires { AreKnownWith margin (M.map map.now) path.now.lines known.now }
+    ensures encoding { IfOk result (IsEncoding margin (M.map map.now) path.now) }
     ensures path { IsTrue (is_path path.now.lines) }
     ensures searched { IfOk result (λ e. known.now ≡ []
         → AreSearched (M.map map.now) e.queries.items e.work seen.old seen.new) }
 {
-    match own_lines(alloc, map, path)? {
-        Err(refusal) => Ok(Encoding {
-            answer: Answer::Refused(refusal),
-            own: Vec::new(alloc),
-            traversed: Footprint::new(alloc),
-            queries: Vec::new(alloc),
-            known: Vec::new(alloc),
-            work: Work {
-                encodings: 1,
-                ..Work::none()
-            },
-        }),
-        Ok(own) => encode_whole(alloc, map, path, &own, known, search, seen),
-    }
-}
-
-/// The encoding of a path to which none of reasons 1 to 3 applies.
-fn encode_whole<M: MapRead>(
-    alloc: Global,
-    map: &M,
-    path: &Path,
-    own: &[ResolvedLine],
-    known: &[KnownQuery],
-    search: &mut Dijkstra,
-    seen: &mut Option<Footprint>,
-) -> Result<Encoding, AllocError>
-    requires path { IsTrue (is_path path.now.lines) }
-    requires sound { path_fault (M.map map.now) path.now ≡ None }
-    requires own { own.now ≡ records_of (M.map map.now) (M.node_slot map.now) path.now.lines }
-    requires known { AreKnown (M.map map.now) path.now.lines known.now }
-    ensures encoding { IfOk result (IsEncoding (M.map map.now) path.now) }
-    ensures searched { IfOk result (λ e. known.now ≡ []
-        → AreSearched (M.map map.now) e.queries.items e.work seen.old seen.new) }
-{
+    let own = match own_lines(alloc, map, path)? {
+        Ok(own) => own,
+        Err(refusal) => return Ok(refused(alloc, refusal)),
+    };
     let mut traversed = Footprint::new(alloc);
-    let extended = extend(alloc, map, path, own, &mut traversed)?;
+    let extended = extend(alloc, map, path, &own, &mut traversed)?;
     let reuse = Reuse {
         known,
         lead: extended.lead,
         own: path.lines().len(),
     };
-    let (answered, queries) = encode_along(alloc, map, &extended, &reuse, search, seen)?;
+    let (answered, queries) = encode_along(alloc, map, margin, &extended, &reuse, search, seen)?;
     Ok(Encoding {
         answer: answered.answer,
         own: answered.own,
@@ -154,6 +130,26 @@ fn encode_whole<M: MapRead>(
     })
 }
 
+/// The encoding of a path to which one of reasons 1 to 3 applies.
+fn refused(alloc: Global, refusal: Refusal) -> Encoding
+    ensures encoding { (margin : Margin) (M : Map) (P : Record) → path_fault M P ≡ Some (refusal_of refusal)
+        → IsEncoding margin M P result }
+    ensures none { result.queries.items ≡ [] }
+    ensures work { result.work.searches ≡ 0 }
+{
+    Encoding {
+        answer: Answer::Refused(refusal),
+        own: Vec::new(alloc),
+        traversed: Footprint::new(alloc),
+        queries: Vec::new(alloc),
+        known: Vec::new(alloc),
+        work: Work {
+            encodings: 1,
+            ..Work::none()
+        },
+    }
+}
+
 /// The answer of an extended path, and its own lines at the LRPs of the reference.
 #[derive(Drop)]
 struct Answered {
@@ -161,11 +157,12 @@ struct Answered {
     own: Vec<LineId>,
 }
 
-/// The answer of an extended path, by its LRPs, and the coverage queries.
+/// The answer of an extended path with a margin, by its LRPs, and the coverage queries.
 #[tactic(auto, using(crate::proofs::Referring::points_answer))]
 fn encode_along<M: MapRead>(
     alloc: Global,
     map: &M,
+    margin: Margin,
     extended: &Extended,
     reuse: &Reuse,
     search: &mut Dijkstra,
@@ -174,11 +171,11 @@ fn encode_along<M: MapRead>(
     requires joined { AreJoined (M.map map.now) extended.now.path.lines }
     requires records { extended.now.records ≡ records_of (M.map map.now) (M.node_slot map.now) extended.now.path.lines }
     requires short { extended.now.path.pos + extended.now.path.neg < dm_of (M.map map.now) extended.now.path.lines }
-    requires reuse { IsReuse (M.map map.now) extended.now.path.lines reuse.now }
-    ensures { IfOk result (λ r. ForPoints (M.map map.now) extended.now.path.lines
-        (λ js. AnsweredAlong (M.map map.now) extended.now.path js (answer_of r.0.answer) r.0.own.items)
-        × ForPoints (M.map map.now) extended.now.path.lines
-        (λ js. Asks (M.map map.now) extended.now.path.lines reuse.now (0 ∷ js) r.1 seen.old seen.new)) }
+    requires reuse { IsReuse margin (M.map map.now) extended.now.path.lines reuse.now }
+    ensures { IfOk result (λ r. ForPoints margin (M.map map.now) extended.now.path.lines
+        (λ js. AnsweredAlong margin (M.map map.now) extended.now.path js (answer_of r.0.answer) r.0.own.items)
+        × ForPoints margin (M.map map.now) extended.now.path.lines
+        (λ js. Asks margin (M.map map.now) extended.now.path.lines reuse.now (0 ∷ js) r.1 seen.old seen.new)) }
 {
     let lines = extended.lines.as_slice();
     let records = extended.records.as_slice();
@@ -187,6 +184,7 @@ fn encode_along<M: MapRead>(
         map,
         lines,
         records,
+        margin,
         distances: &distances,
     };
     let Chosen { choice, queries } = points(alloc, &resolved, reuse, search, seen)?;
@@ -204,11 +202,11 @@ fn answer_by<M: MapRead>(
     pos: u64,
     neg: u64,
 ) -> Result<Answered, AllocError>
-    requires choice { ForPoints (M.map resolved.now.map.now) resolved.now.lines.now
+    requires choice { ForPoints resolved.now.margin (M.map resolved.now.map.now) resolved.now.lines.now
         (λ js. IsChoice resolved.now.lines.now js choice) }
     requires short { pos + neg < dm_of (M.map resolved.now.map.now) resolved.now.lines.now }
-    ensures { IfOk result (λ a. ForPoints (M.map resolved.now.map.now) resolved.now.lines.now
-        (λ js. AnsweredAlong (M.map resolved.now.map.now)
+    ensures { IfOk result (λ a. ForPoints resolved.now.margin (M.map resolved.now.map.now) resolved.now.lines.now
+        (λ js. AnsweredAlong resolved.now.margin (M.map resolved.now.map.now)
         (record { lines = resolved.now.lines.now; pos = pos; neg = neg }) js (answer_of a.answer) a.own.items)) }
 {
     match choice {

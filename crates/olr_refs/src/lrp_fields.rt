@@ -4,9 +4,9 @@ ghost use Rattle.std.specs.Prelude.{◌≡◌, ℕ, ◌+◌, ◌<◌, ◌≤◌,
 ghost use Rattle.olr_spec.specs.Coordinates.{fits16, relative};
 ghost use Rattle.olr_coords.specs.Bounds.{is_degrees};
 ghost use Rattle.olr_spec.specs.Map.{has_line, has_node, is_good, line_at, coord_at};
-ghost use Rattle.olr_spec.specs.Points.{fit16, Candidate};
+ghost use Rattle.olr_spec.specs.Points.{fit16, CandidateWith};
 ghost use Rattle.olr_spec.specs.Extension.{limit, AreJoined};
-ghost use Rattle.olr_spec.specs.Reference.{attrs, first_point, last_point, legs, middle_point, offset, position};
+ghost use Rattle.olr_spec.specs.Reference.{attrs_with, first_point_with, last_point, legs, middle_point_with, offset, position};
 ghost use Rattle.olr_refs.specs.Along.{AreDistances};
 ghost use Rattle.olr_refs.specs.Fields.{lowest_class, middle_points_of};
 ghost use Rattle.olr_refs.specs.KeptPoints.{AreKept};
@@ -72,14 +72,16 @@ fn lowest_class(records: &[ResolvedLine]) -> u8
 
 /// The attributes of the LRP at position `i`, where the next one is at position `j`.
 fn attrs<M: MapRead>(resolved: &ResolvedPath<M>, i: usize, j: usize) -> Attrs
-    requires candidate { Candidate (M.map resolved.now.map.now) resolved.now.lines.now i j }
-    ensures { result ≡ attrs (legs (M.map resolved.now.map.now) resolved.now.lines.now) i j }
+    requires candidate { CandidateWith resolved.now.margin (M.map resolved.now.map.now) resolved.now.lines.now i j }
+    ensures { result ≡ attrs_with resolved.now.margin (legs (M.map resolved.now.map.now) resolved.now.lines.now) i j }
 {
     let line = resolved.line(i);
     Attrs {
         frc: line.frc,
         fow: line.fow,
-        lfrc: lowest_class(&resolved.records[i..j]),
+        lfrc: resolved
+            .margin
+            .allowed(lowest_class(&resolved.records[i..j])),
         bearing: bearing_out(line, ends_of(resolved.map, line)),
         dnp: (resolved.between(i, j) / DISTANCE_STEP) as u8,
     }
@@ -87,8 +89,8 @@ fn attrs<M: MapRead>(resolved: &ResolvedPath<M>, i: usize, j: usize) -> Attrs
 
 /// The first LRP, at position `i`, where the next one is at position `j`.
 pub fn first_point<M: MapRead>(resolved: &ResolvedPath<M>, i: usize, j: usize) -> First
-    requires candidate { Candidate (M.map resolved.now.map.now) resolved.now.lines.now i j }
-    ensures { result ≡ first_point (legs (M.map resolved.now.map.now) resolved.now.lines.now) i j }
+    requires candidate { CandidateWith resolved.now.margin (M.map resolved.now.map.now) resolved.now.lines.now i j }
+    ensures { result ≡ first_point_with resolved.now.margin (legs (M.map resolved.now.map.now) resolved.now.lines.now) i j }
 {
     let place = resolved.place(i);
     First {
@@ -100,9 +102,9 @@ pub fn first_point<M: MapRead>(resolved: &ResolvedPath<M>, i: usize, j: usize) -
 
 /// The LRP at position `i`, between those at positions `h` and `j`.
 fn middle_point<M: MapRead>(resolved: &ResolvedPath<M>, h: usize, i: usize, j: usize) -> Middle
-    requires candidate { Candidate (M.map resolved.now.map.now) resolved.now.lines.now h i }
-    requires next { Candidate (M.map resolved.now.map.now) resolved.now.lines.now i j }
-    ensures { result ≡ middle_point (legs (M.map resolved.now.map.now) resolved.now.lines.now) h i j }
+    requires candidate { CandidateWith resolved.now.margin (M.map resolved.now.map.now) resolved.now.lines.now h i }
+    requires next { CandidateWith resolved.now.margin (M.map resolved.now.map.now) resolved.now.lines.now i j }
+    ensures { result ≡ middle_point_with resolved.now.margin (legs (M.map resolved.now.map.now) resolved.now.lines.now) h i j }
 {
     let (dlon, dlat) = differences(resolved.place(h), resolved.place(i));
     Middle {
@@ -114,7 +116,7 @@ fn middle_point<M: MapRead>(resolved: &ResolvedPath<M>, h: usize, i: usize, j: u
 
 /// The last LRP, at position `i`, after the one at position `h`.
 pub fn last_point<M: MapRead>(resolved: &ResolvedPath<M>, h: usize, i: usize) -> Last
-    requires candidate { Candidate (M.map resolved.now.map.now) resolved.now.lines.now h i }
+    requires candidate { CandidateWith resolved.now.margin (M.map resolved.now.map.now) resolved.now.lines.now h i }
     ensures { result ≡ last_point (legs (M.map resolved.now.map.now) resolved.now.lines.now) h i }
 {
     let (dlon, dlat) = differences(resolved.place(h), resolved.place(i));
@@ -134,8 +136,8 @@ pub fn middle_points<M: MapRead>(
     resolved: &ResolvedPath<M>,
     points: &[usize],
 ) -> Result<Vec<Middle>, AllocError>
-    requires { AreKept (M.map resolved.now.map.now) resolved.now.lines.now points.now }
-    ensures { IfOk result (λ middle. middle.items ≡ middle_points_of
+    requires { AreKept resolved.now.margin (M.map resolved.now.map.now) resolved.now.lines.now points.now }
+    ensures { IfOk result (λ middle. middle.items ≡ middle_points_of resolved.now.margin
         (legs (M.map resolved.now.map.now) resolved.now.lines.now) points.now) }
 {
     let mut middle = Vec::with_capacity(alloc, points.len() - 2)?;

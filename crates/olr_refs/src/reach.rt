@@ -1,14 +1,18 @@
 //! How far the lines after a position are the unique shortest path.
-ghost use Rattle.std.specs.Prelude.{◌≡◌, ◌+◌, ◌<◌, ◌≤◌, ◌∷◌, [], IfOk, length, slice_index};
-ghost use Rattle.olr_spec.specs.Map.{end};
+ghost use Rattle.std.specs.Prelude.{◌≡◌, ◌+◌, ◌*◌, ◌<◌, ◌≤◌, ◌∷◌, ◌++◌, [], ℕ, List, IfOk, OnOk, IsTrue, length, max, slice_index};
+ghost use Rattle.olr_spec.specs.Map.{end, dm};
+ghost use Rattle.olr_spec.specs.Extension.{limit};
+ghost use Rattle.olr_spec.specs.Margins.{counted, counted_dm, is_margin};
 ghost use Rattle.olr_search.specs.declared.distances.Direction.TheVariants.{Along};
-ghost use Rattle.olr_refs.specs.Along.{IsFar};
-ghost use Rattle.olr_refs.specs.Choice.{TestedTo};
+ghost use Rattle.olr_search.specs.ResolvedLines.{record_of};
 ghost use Rattle.olr_search.specs.Searches.{IsSearch, limit_of};
+ghost use Rattle.olr_refs.specs.Along.{IsFar};
+ghost use Rattle.olr_refs.specs.Choice.{MayMark, TestedTo, begun_at};
 
 use crate::along::ResolvedPath;
+use olr_answers::Margin;
 use olr_roads::MapRead;
-use olr_search::Dijkstra;
+use olr_search::{Dijkstra, Direction, GREATEST_LIMIT, ResolvedLine};
 use std::alloc::AllocError;
 
 /// How far the lines after a position are the unique shortest path, and how far that was tested.
@@ -18,11 +22,64 @@ pub struct Tested {
     pub reach: usize,
     /// The last position that was tested.
     pub last: usize,
+    /// The length that the lines as far as there count, in decimetres.
+    pub within: u32,
+}
+
+/// The start value of a search that finds how far lines are covered. With a margin it is not settled where the first of
+/// them begins before that line counts longer.
+fn begun_at(margin: Margin) -> u32
+    ensures value { result ≡ begun_at margin }
+    ensures margin { IsTrue (is_margin margin) }
+{
+    if margin.routes() == 0 { 0 } else { 1 }
+}
+
+/// Line `k` with the length that it counts.
+fn counted_line<M: MapRead>(resolved: &ResolvedPath<M>, k: usize) -> ResolvedLine
+    requires within { k < length resolved.now.lines.now }
+    requires short { dm (M.map resolved.now.map.now) (slice_index resolved.now.lines.now k) ≤ limit }
+    ensures value { result ≡ record (record_of (M.map resolved.now.map.now) (M.node_slot resolved.now.map.now)
+        (slice_index resolved.now.lines.now k)) {
+          len = counted_dm resolved.now.margin (dm (M.map resolved.now.map.now) (slice_index resolved.now.lines.now k));
+        } }
+    ensures most { result.len ≤ 2 * dm (M.map resolved.now.map.now) (slice_index resolved.now.lines.now k) }
+{
+    let line = resolved.resolved_line(k);
+    ResolvedLine {
+        len: resolved.margin.counted(line.len) as u32,
+        ..line
+    }
+}
+
+/// Settles a search as far as the end of a line, where the lines before it count longer, and from now on this line too.
+fn settle_counting<M: MapRead>(
+    resolved: &ResolvedPath<M>,
+    line: ResolvedLine,
+    limit: u32,
+    search: &mut Dijkstra,
+) -> Result<(), AllocError>
+    requires begun { (xs : List ℕ) × (from : List (ℕ × ℕ)) × MayMark resolved.now.margin (M.map resolved.now.map.now)
+        (M.node_slot resolved.now.map.now) xs from line search.old }
+    requires small { limit ≤ GREATEST_LIMIT }
+    ensures search { OnOk result ((xs : List ℕ) (from : List (ℕ × ℕ))
+        → MayMark resolved.now.margin (M.map resolved.now.map.now) (M.node_slot resolved.now.map.now) xs from line
+        search.old
+        → IsSearch (counted resolved.now.margin (M.map resolved.now.map.now) (xs ++ line.id ∷ []))
+        (M.node_slot resolved.now.map.now) Along from search.new) }
+    ensures limit { OnOk result (limit_of search.new ≡ max (limit_of search.old) limit) }
+{
+    if resolved.margin.routes() == 0 {
+        search.settle_to(resolved.map, limit)
+    } else {
+        search.settle_counting(resolved.map, &line, limit)
+    }
 }
 
 /// Tests the positions from `i` to `far` in order, up to the first that is not covered, by a search that begins at the
-/// end of line `i` and is settled no farther than the position that is tested. Covered positions are consecutive,
-/// because the first lines of a unique shortest path are a unique shortest path.
+/// end of line `i` and is settled no farther than the position that is tested. The lines from there on count longer as
+/// soon as it comes to them. Covered positions are consecutive, because the first lines of a unique shortest path are a
+/// unique shortest path.
 pub fn covered_to<M: MapRead>(
     resolved: &ResolvedPath<M>,
     i: usize,
@@ -31,24 +88,28 @@ pub fn covered_to<M: MapRead>(
 ) -> Result<Tested, AllocError>
     requires some { i + 1 < length resolved.now.lines.now }
     requires far { IsFar (M.map resolved.now.map.now) resolved.now.lines.now i far }
-    requires begun { IsSearch (M.map resolved.now.map.now) (M.node_slot resolved.now.map.now) Along
-        ((end (M.map resolved.now.map.now) (slice_index resolved.now.lines.now i), 0) ∷ []) search.old }
-    requires at_source { limit_of search.old ≡ 0 }
-    ensures { IfOk result (λ t. TestedTo (M.map resolved.now.map.now) (M.node_slot resolved.now.map.now)
-        resolved.now.lines.now i t.reach t.last search.new) }
+    ensures { IfOk result (λ t. TestedTo resolved.now.margin (M.map resolved.now.map.now)
+        (M.node_slot resolved.now.map.now) resolved.now.lines.now i t.reach t.last t.within search.new) }
 {
+    let begun = begun_at(resolved.margin);
+    search.begin(resolved.map, Direction::Along, &[(resolved.end(i), begun)])?;
     let end = far.min(resolved.lines.len() - 1).max(i + 1);
+    let mut within = 0;
     for k in i + 1..end {
-        search.settle_to(resolved.map, resolved.between(i + 1, k + 1) as u32)?;
-        if !search.extends_unique_shortest(resolved.map, resolved.resolved_line(k)) {
+        let line = counted_line(resolved, k);
+        within += line.len;
+        settle_counting(resolved, line, within, search)?;
+        if !search.extends_unique_shortest(resolved.map, line) {
             return Ok(Tested {
                 reach: k,
                 last: k + 1,
+                within,
             });
         }
     }
     Ok(Tested {
         reach: far,
         last: end,
+        within,
     })
 }

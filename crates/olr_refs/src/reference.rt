@@ -2,8 +2,8 @@
 ghost use Rattle.std.specs.Prelude.{◌≡◌, ◌+◌, ◌-◌, ◌<◌, IfOk, length, slice_index};
 ghost use Rattle.olr_spec.specs.Recovery.{own_lines};
 ghost use Rattle.olr_spec.specs.Routes.{dm_of};
-ghost use Rattle.olr_spec.specs.Points.{Candidate};
-ghost use Rattle.olr_spec.specs.Reference.{legs, dm_between, kept_points, offset, reference, reference_by};
+ghost use Rattle.olr_spec.specs.Points.{CandidateWith};
+ghost use Rattle.olr_spec.specs.Reference.{legs, dm_between, kept_points, offset, reference_with, reference_by_with};
 ghost use Rattle.olr_spec.specs.Bytes.{IsReference};
 ghost use Rattle.olr_refs.specs.Along.{AreDistances};
 ghost use Rattle.olr_spec.specs.Extension.{AreJoined};
@@ -23,15 +23,15 @@ fn reference_by<M: MapRead>(
     resolved: &ResolvedPath<M>,
     trimmed: &Trimmed,
 ) -> Result<Reference, AllocError>
-    requires kept { AreKept (M.map resolved.now.map.now) resolved.now.lines.now trimmed.now.points.now }
+    requires kept { AreKept resolved.now.margin (M.map resolved.now.map.now) resolved.now.lines.now trimmed.now.points.now }
     requires pos { trimmed.now.pos < dm_between (legs (M.map resolved.now.map.now) resolved.now.lines.now)
         (slice_index trimmed.now.points.now 0) (slice_index trimmed.now.points.now 1) }
     requires neg { trimmed.now.neg < dm_between (legs (M.map resolved.now.map.now) resolved.now.lines.now)
         (slice_index trimmed.now.points.now (length trimmed.now.points.now - 1 - 1))
         (slice_index trimmed.now.points.now (length trimmed.now.points.now - 1)) }
-    requires fits { IsReference (reference_by (legs (M.map resolved.now.map.now) resolved.now.lines.now) trimmed.now.pos
+    requires fits { IsReference (reference_by_with resolved.now.margin (legs (M.map resolved.now.map.now) resolved.now.lines.now) trimmed.now.pos
         trimmed.now.neg trimmed.now.points.now) }
-    ensures { IfOk result (λ r. r ≡ reference_by (legs (M.map resolved.now.map.now) resolved.now.lines.now)
+    ensures { IfOk result (λ r. r ≡ reference_by_with resolved.now.margin (legs (M.map resolved.now.map.now) resolved.now.lines.now)
         trimmed.now.pos trimmed.now.neg trimmed.now.points.now) }
 {
     let kept = trimmed.points;
@@ -57,7 +57,7 @@ fn offset_along<M: MapRead>(
     i: usize,
     j: usize,
 ) -> Option<u8>
-    requires candidate { Candidate (M.map resolved.now.map.now) resolved.now.lines.now i j }
+    requires candidate { CandidateWith resolved.now.margin (M.map resolved.now.map.now) resolved.now.lines.now i j }
     requires within { left < dm_between (legs (M.map resolved.now.map.now) resolved.now.lines.now) i j }
     ensures { result ≡ offset left (dm_between (legs (M.map resolved.now.map.now) resolved.now.lines.now) i j) }
 {
@@ -79,7 +79,7 @@ fn own_lines<M: MapRead>(
     resolved: &ResolvedPath<M>,
     kept: &[usize],
 ) -> Result<Vec<LineId>, AllocError>
-    requires { AreKept (M.map resolved.now.map.now) resolved.now.lines.now kept.now }
+    requires { AreKept resolved.now.margin (M.map resolved.now.map.now) resolved.now.lines.now kept.now }
     ensures { IfOk result (λ own. own.items ≡ own_lines resolved.now.lines.now kept.now) }
 {
     let last = kept.len() - 1;
@@ -109,10 +109,10 @@ pub fn reference_of<M: MapRead>(
     pos: u64,
     neg: u64,
 ) -> Result<Referred, AllocError>
-    requires points { ArePoints (M.map resolved.now.map.now) resolved.now.lines.now points.now }
+    requires points { ArePoints resolved.now.margin (M.map resolved.now.map.now) resolved.now.lines.now points.now }
     requires long { pos + neg < dm_of (M.map resolved.now.map.now) resolved.now.lines.now }
     ensures reference { IfOk result (λ r. r.reference
-        ≡ reference (legs (M.map resolved.now.map.now) resolved.now.lines.now) pos neg (later points.now)) }
+        ≡ reference_with resolved.now.margin (legs (M.map resolved.now.map.now) resolved.now.lines.now) pos neg (later points.now)) }
     ensures own { IfOk result (λ r. r.own.items ≡ own_lines resolved.now.lines.now
         (kept_points (legs (M.map resolved.now.map.now) resolved.now.lines.now) pos neg (later points.now))) }
 {

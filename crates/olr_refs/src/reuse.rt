@@ -1,7 +1,7 @@
 //! Coverage queries that are known, and are not searched again.
 ghost use Rattle.std.specs.Prelude.{◌≡◌, ◌+◌, ◌-◌, ◌^◌, ◌<◌, ◌≤◌, ◌↔◌, [], ◌∷◌, min, IsTrue, IfSome, length};
 ghost use Rattle.std.specs.Prelude.{Option, List, ℕ};
-ghost use Rattle.olr_spec.specs.Queries.{IsKnownOf, IsLastTested, query_to};
+ghost use Rattle.olr_spec.specs.Queries.{IsKnownOfWith, IsLastTestedWith, query_to_with};
 ghost use Rattle.olr_refs.specs.Along.{IsFar, IsReach};
 ghost use Rattle.olr_refs.specs.Reuse.{IsReuse, IsAnswered, EndsHere, known_reach, own_of};
 
@@ -74,10 +74,10 @@ pub fn known_after<M: MapRead>(
     far: usize,
 ) -> Option<Found>
     requires some { i + 1 < length resolved.now.lines.now }
-    requires reuse { IsReuse (M.map resolved.now.map.now) resolved.now.lines.now reuse.now }
+    requires reuse { IsReuse resolved.now.margin (M.map resolved.now.map.now) resolved.now.lines.now reuse.now }
     requires far { IsFar (M.map resolved.now.map.now) resolved.now.lines.now i far }
     ensures { IfSome result (λ f. (seen : Option (List ℕ))
-        → IsAnswered (M.map resolved.now.map.now) resolved.now.lines.now reuse.now i f seen seen) }
+        → IsAnswered resolved.now.margin (M.map resolved.now.map.now) resolved.now.lines.now reuse.now i f seen seen) }
 {
     let first = (i + 1).checked_sub(reuse.lead)?;
     let k = reuse
@@ -114,11 +114,11 @@ pub fn own_query<M: MapRead>(
     query: CoverageQuery,
     tested: Tested,
 ) -> Option<KnownQuery>
-    requires reuse { IsReuse (M.map resolved.now.map.now) resolved.now.lines.now reuse.now }
-    requires reach { IsReach (M.map resolved.now.map.now) resolved.now.lines.now i tested.reach }
-    requires last { IsLastTested (M.map resolved.now.map.now) resolved.now.lines.now i tested.last }
-    requires query { query ≡ query_to (M.map resolved.now.map.now) resolved.now.lines.now i tested.last }
-    ensures { IfSome result (IsKnownOf (M.map resolved.now.map.now) (own_of resolved.now.lines.now reuse.now) (query ∷ [])) }
+    requires reuse { IsReuse resolved.now.margin (M.map resolved.now.map.now) resolved.now.lines.now reuse.now }
+    requires reach { IsReach resolved.now.margin (M.map resolved.now.map.now) resolved.now.lines.now i tested.reach }
+    requires last { IsLastTestedWith resolved.now.margin (M.map resolved.now.map.now) resolved.now.lines.now i tested.last }
+    requires query { query ≡ query_to_with resolved.now.margin (M.map resolved.now.map.now) resolved.now.lines.now i tested.last }
+    ensures { IfSome result (IsKnownOfWith resolved.now.margin (M.map resolved.now.map.now) (own_of resolved.now.lines.now reuse.now) (query ∷ [])) }
 {
     if !is_own(reuse, i, tested.last) {
         return None;

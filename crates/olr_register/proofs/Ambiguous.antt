@@ -1,11 +1,10 @@
 -- What stands in the way of the strings of a register's paths, path by path; and the steps of the question.
 use Rattle.olr_register.proofs.Common.{◌≡◌, ℕ, suc, List, [], ◌∷◌, ◌++◌, map, Some, None, Ok, Err, refl, sym}
 use Rattle.olr_register.proofs.Common.{ap, ◌∙◌, subst, append_assoc, append-nil, slice_get, take, ◌+◌}
-use Rattle.olr_register.proofs.Common.{Map, Path, Named, Content, step, Item, Made, AreEncodings, IsEncodingOf}
+use Rattle.olr_register.proofs.Common.{Map, Margin, Path, Named, Content, step, Item, Made, AreEncodings, IsEncodingOf}
 use Rattle.olr_register.proofs.Common.{all_named, named_of, path_named, No_path, option_map}
 use Rattle.olr_spec.proofs.ListLemmas.{take_more_at}
-use Rattle.olr_spec.proofs.KnownLemmas.{known_right}
-use Rattle.olr_spec.specs.Queries.{AreKnown}
+use Rattle.olr_spec.specs.Queries.{AreKnownWith}
 use Rattle.olr_commands.specs.State.{Ambiguous}
 use Rattle.olr_commands.specs.Ambiguities.{NamedObstacle, named, obstacles_of, Ambiguity, Ambiguities}
 use Rattle.olr_answers.specs.Answers.{answer_of}
@@ -13,8 +12,8 @@ use Rattle.olr_answers.specs.declared.answer.Answer.{Answer}
 use Rattle.olr_answers.specs.declared.answer.Answer.TheVariants.{Points, Refused}
 use Rattle.olr_answers.specs.declared.answer.Refusal.{Refusal}
 use Rattle.olr_spec.specs.Reference.{Reference}
-use Rattle.olr_spec.specs.Encoding.{Encodes}
-use Rattle.olr_spec.specs.Recovery.{OwnLinesOf}
+use Rattle.olr_spec.specs.Encoding.{EncodesWith}
+use Rattle.olr_spec.specs.Recovery.{OwnLinesOfWith}
 use Rattle.olr_spec.specs.Ambiguity.{Obstacle, obstacles}
 use Rattle.olr_register.proofs.States.{state}
 use Rattle.olr_register.proofs.Common.{Option}
@@ -24,10 +23,10 @@ use Rattle.std.proofs.Common.{zero}
 
 -- ---- of one path
 
-module _ (M : Map) (p : Named) (a : Answer) (xs : List ℕ) (e : Encodes M p.path (answer_of a))
-    (o : OwnLinesOf M p.path (answer_of a) xs) (old : List NamedObstacle) where
+module _ (g : Margin) (M : Map) (p : Named) (a : Answer) (xs : List ℕ) (e : EncodesWith g M p.path (answer_of a))
+    (o : OwnLinesOfWith g M p.path (answer_of a) xs) (old : List NamedObstacle) where
   abbrev pub Adds : List NamedObstacle → Type 0
-  Adds new = (own : List NamedObstacle) × Ambiguity M p own × (new ≡ old ++ own)
+  Adds new = (own : List NamedObstacle) × Ambiguity g M p own × (new ≡ old ++ own)
 
   adds : (os : List (ℕ × Obstacle)) (new : List NamedObstacle) → obstacles_of M (answer_of a) xs ≡ os →
       new ≡ old ++ map (named p.name) os → Adds new
@@ -44,40 +43,40 @@ module _ (M : Map) (p : Named) (a : Answer) (xs : List ℕ) (e : Encodes M p.pat
 -- ---- path by path
 
 -- with one path more
-pub ambiguities_more : (M : Map) (ps : List Named) (p : Named) (es own : List NamedObstacle) → Ambiguities M ps es →
-    Ambiguity M p own → Ambiguities M (ps ++ p ∷ []) (es ++ own)
-ambiguities_more M [] p es own a o =
+pub ambiguities_more : (g : Margin) (M : Map) (ps : List Named) (p : Named) (es own : List NamedObstacle) → Ambiguities g M ps es →
+    Ambiguity g M p own → Ambiguities g M (ps ++ p ∷ []) (es ++ own)
+ambiguities_more g M [] p es own a o =
     (own, [], o, refl, ap (λ (xs : List NamedObstacle). xs ++ own) a ∙ sym (append-nil own))
-ambiguities_more M (q ∷ ps) p es own a o =
-    let rest = ambiguities_more M ps p a.1 own a.3 o in
+ambiguities_more g M (q ∷ ps) p es own a o =
+    let rest = ambiguities_more g M ps p a.1 own a.3 o in
     (a.0, a.1 ++ own, a.2, rest, ap (λ (xs : List NamedObstacle). xs ++ own) a.4 ∙ append_assoc a.0 a.1 own)
 
-module _ (M : Map) (is : List Item) (k : ℕ) (i : Item) (at : slice_get is k ≡ Some i) where
+module _ (g : Margin) (M : Map) (is : List Item) (k : ℕ) (i : Item) (at : slice_get is k ≡ Some i) where
   named_at : slice_get (all_named is) k ≡ Some (named_of i)
   named_at = slice_get-map named_of is k ∙ ap (λ o. option_map named_of o) at
 
-  pub ambiguities_next : (es own : List NamedObstacle) → Ambiguities M (take k (all_named is)) es →
-      Ambiguity M (named_of i) own → Ambiguities M (take (k + 1) (all_named is)) (es ++ own)
+  pub ambiguities_next : (es own : List NamedObstacle) → Ambiguities g M (take k (all_named is)) es →
+      Ambiguity g M (named_of i) own → Ambiguities g M (take (k + 1) (all_named is)) (es ++ own)
   ambiguities_next es own a o =
-      subst (λ (ps : List Named). Ambiguities M ps (es ++ own)) (sym (take_more_at (all_named is) k (named_of i) named_at))
-      (ambiguities_more M (take k (all_named is)) (named_of i) es own a o)
+      subst (λ (ps : List Named). Ambiguities g M ps (es ++ own)) (sym (take_more_at (all_named is) k (named_of i) named_at))
+      (ambiguities_more g M (take k (all_named is)) (named_of i) es own a o)
 
 -- ---- what is known of a path
 
-encoded_at : (M : Map) (is : List Item) (k : ℕ) (i : Item) → AreEncodings M is → slice_get is k ≡ Some i →
-    (m : Made) × (i.made ≡ Some m) × IsEncodingOf M i.path m
-encoded_at M [] k i a h = absurd cc
-encoded_at M (j ∷ is) zero i a h =
+encoded_at : (g : Margin) (M : Map) (is : List Item) (k : ℕ) (i : Item) → AreEncodings g M is → slice_get is k ≡ Some i →
+    (m : Made) × (i.made ≡ Some m) × IsEncodingOf g M i.path m
+encoded_at g M [] k i a h = absurd cc
+encoded_at g M (j ∷ is) zero i a h =
     let same : j ≡ i = cc in
-    subst (λ (z : Item). (m : Made) × (z.made ≡ Some m) × IsEncodingOf M z.path m) same a.0
-encoded_at M (j ∷ is) (suc k) i a h = encoded_at M is k i a.1 h
+    subst (λ (z : Item). (m : Made) × (z.made ≡ Some m) × IsEncodingOf g M z.path m) same a.0
+encoded_at g M (j ∷ is) (suc k) i a h = encoded_at g M is k i a.1 h
 
-pub known_at : (M : Map) (is : List Item) (k : ℕ) (i : Item) → AreEncodings M is → slice_get is k ≡ Some i →
-    AreKnown M i.path.lines (known_in i.made)
-known_at M is k i a at =
-    let e = encoded_at M is k i a at in
-    subst (λ (o : Option Made). AreKnown M i.path.lines (known_in o)) (sym e.1)
-    (known_right M i.path.lines e.0.queries e.0.known e.2.known)
+pub known_at : (g : Margin) (M : Map) (is : List Item) (k : ℕ) (i : Item) → AreEncodings g M is → slice_get is k ≡ Some i →
+    AreKnownWith g M i.path.lines (known_in i.made)
+known_at g M is k i a at =
+    let e = encoded_at g M is k i a at in
+    subst (λ (o : Option Made). AreKnownWith g M i.path.lines (known_in o)) (sym e.1)
+    (λ j d lt. (e.2.known j d lt).right)
 
 -- ---- steps, if no batch is open
 

@@ -1,7 +1,7 @@
 -- What the register shows of its paths.
 use Rattle.olr_register.proofs.Common.{◌≡◌, ◌≢◌, ℕ, true, false, List, [], ◌∷◌, map, length, Option, Some, None, refl}
 use Rattle.olr_register.proofs.Common.{sym, ap, ◌∙◌, subst, ◌==◌, option_map, option_and_then, MatchOption, IsSomeAnd}
-use Rattle.olr_register.proofs.Common.{result_ok, ne_eqb, length-map, Map, Answer, Encodes, Path, Named, Content}
+use Rattle.olr_register.proofs.Common.{result_ok, ne_eqb, length-map, Map, Margin, Answer, EncodesWith, Path, Named, Content}
 use Rattle.olr_register.proofs.Common.{path_named, published_text, Made, Item, IsEncodingOf, AreEncodings, named_of}
 use Rattle.olr_register.proofs.Common.{all_named, made_in, answer_in, content_on, is_some, items, map_kept, IsKeptRight}
 use Rattle.olr_commands.specs.Reply.{Published, PublishedText}
@@ -10,29 +10,29 @@ use Rattle.olr_register.specs.Registered.{HaveEncodings}
 use Rattle.olr_register.specs.declared.register.Register.TheInside.{Inside}
 use Rattle.olr_register.proofs.Replies.{made_found}
 
-answer_found : (M : Map) (p : Option Path) (o : Option Made) →
-    MatchOption p (o ≡ None) (λ P. IsSomeAnd o (IsEncodingOf M P)) →
+answer_found : (g : Margin) (M : Map) (p : Option Path) (o : Option Made) →
+    MatchOption p (o ≡ None) (λ P. IsSomeAnd o (IsEncodingOf g M P)) →
     MatchOption p (option_map (λ (m : Made). m.answer) o ≡ None)
-    (λ P. IsSomeAnd (option_map (λ (m : Made). m.answer) o) (λ A. Encodes M P A))
-answer_found M None o h = ap (option_map (λ (m : Made). m.answer)) h
-answer_found M (Some P) None h = absurd h
-answer_found M (Some P) (Some m) h = h.answer
+    (λ P. IsSomeAnd (option_map (λ (m : Made). m.answer) o) (λ A. EncodesWith g M P A))
+answer_found g M None o h = ap (option_map (λ (m : Made). m.answer)) h
+answer_found g M (Some P) None h = absurd h
+answer_found g M (Some P) (Some m) h = h.answer
 
 -- of a register with this content
-pub answer_published : (M : Map) (is : List Item) (c : Content) (name : List ℕ) (o : Option Answer) →
-    content_on M is ≡ c → AreEncodings M is → o ≡ answer_in is name → Published c name o
-answer_published M is c name o e made there =
+pub answer_published : (g : Margin) (M : Map) (is : List Item) (c : Content) (name : List ℕ) (o : Option Answer) →
+    content_on g M is ≡ c → AreEncodings g M is → o ≡ answer_in is name → Published c name o
+answer_published g M is c name o e made there =
     subst (λ (d : Content). Published d name o) e
-    (subst (Published (content_on M is) name) (sym there) (answer_found M (path_named (all_named is) name) _
-    (made_found M is name made)))
+    (subst (Published (content_on g M is) name) (sym there) (answer_found g M (path_named (all_named is) name) _
+    (made_found g M is name made)))
 
 -- the stored text is that of the answer
-pub text_published : (M : Map) (is : List Item) (c : Content) (name : List ℕ) (text : Option (List ℕ))
-    (o : Option Made) → content_on M is ≡ c → AreEncodings M is → o ≡ made_in is name
+pub text_published : (g : Margin) (M : Map) (is : List Item) (c : Content) (name : List ℕ) (text : Option (List ℕ))
+    (o : Option Made) → content_on g M is ≡ c → AreEncodings g M is → o ≡ made_in is name
     → text ≡ option_and_then (λ (A : Answer). result_ok (published_text A)) (option_map (λ (m : Made). m.answer) o) →
     PublishedText c name text
-text_published M is c name text o e made of there =
-    (_, answer_published M is c name _ e made (ap (option_map (λ (m : Made). m.answer)) of), there)
+text_published g M is c name text o e made of there =
+    (_, answer_published g M is c name _ e made (ap (option_map (λ (m : Made). m.answer)) of), there)
 
 pub names_of_all : (is : List Item) → map (λ (p : Named). p.name) (all_named is) ≡ map (λ (i : Item). i.name) is
 names_of_all [] = refl
@@ -40,11 +40,11 @@ names_of_all (i ∷ is) = ap (λ (ns : List (List ℕ)). i.name ∷ ns) (names_o
 
 -- ---- if every path was encoded
 
-pub some_answer_in : (M : Map) (is : List Item) (name : List ℕ) → AreEncodings M is →
+pub some_answer_in : (g : Margin) (M : Map) (is : List Item) (name : List ℕ) → AreEncodings g M is →
     is_some (path_named (all_named is) name) ≡ true → (A : Answer) × (answer_in is name ≡ Some A)
-some_answer_in M is name made =
-    by (path_named (all_named is) name) (made_in is name) (made_found M is name made) where
-      by : (p : Option Path) (o : Option Made) → MatchOption p (o ≡ None) (λ P. IsSomeAnd o (IsEncodingOf M P)) →
+some_answer_in g M is name made =
+    by (path_named (all_named is) name) (made_in is name) (made_found g M is name made) where
+      by : (p : Option Path) (o : Option Made) → MatchOption p (o ≡ None) (λ P. IsSomeAnd o (IsEncodingOf g M P)) →
           is_some p ≡ true → (A : Answer) × (option_map (λ (m : Made). m.answer) o ≡ Some A)
       by None o h some = absurd cc
       by (Some P) None h some = absurd h
@@ -54,20 +54,20 @@ some_answer_in M is name made =
 pub some_named : (is : List Item) → length is ≢ 0 → (length (all_named is) == 0) ≡ false
 some_named is h = ne_eqb (length (all_named is)) 0 (λ e. h (sym (length-map is named_of) ∙ e))
 
-all_encoded : (M : Map) (is : List Item) → AreEncodings M is → AreEncoded is
-all_encoded M [] made = tt
-all_encoded M (i ∷ is) made = (
+all_encoded : (g : Margin) (M : Map) (is : List Item) → AreEncodings g M is → AreEncoded is
+all_encoded g M [] made = tt
+all_encoded g M (i ∷ is) made = (
   (λ none. let no : ◌≡◌ {A = Option Made} (Some made.0.0) None = sym made.0.1 ∙ none in absurd cc),
-  all_encoded M is made.1,
+  all_encoded g M is made.1,
 )
 
-pub kept_encoded : (r : Inside) → IsKeptRight r.roads (items r.paths) r.batch r.bounds → AreEncoded (items r.paths)
-kept_encoded r right = all_encoded (map_kept r.roads r.batch) (items r.paths) right.register.made
+pub kept_encoded : (r : Inside) → IsKeptRight r.margin r.roads (items r.paths) r.batch r.bounds → AreEncoded (items r.paths)
+kept_encoded r right = all_encoded r.margin (map_kept r.roads r.batch) (items r.paths) right.register.made
 
-pub all_published : (M : Map) (is : List Item) → AreEncodings M is →
-    HaveEncodings M (all_named is) (map {B = List ℕ × Option Made} (λ (i : Item). (i.name, i.made)) is)
-all_published M [] made = refl
-all_published M (i ∷ is) made =
+pub all_published : (g : Margin) (M : Map) (is : List Item) → AreEncodings g M is →
+    HaveEncodings g M (all_named is) (map {B = List ℕ × Option Made} (λ (i : Item). (i.name, i.made)) is)
+all_published g M [] made = refl
+all_published g M (i ∷ is) made =
     let rest : List (List ℕ × Option Made) = map (λ (j : Item). (j.name, j.made)) is in
     let with_made : Option Made → List (List ℕ × Option Made) = λ o. (i.name, o) ∷ rest in
-    (made.0.0, rest, made.0.2, all_published M is made.1, ap with_made made.0.1)
+    (made.0.0, rest, made.0.2, all_published g M is made.1, ap with_made made.0.1)

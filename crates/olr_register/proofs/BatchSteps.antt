@@ -5,15 +5,15 @@ use Rattle.olr_register.proofs.Common.{nat_le, append-nil, list_any-append, flat
 use Rattle.olr_register.proofs.Common.{map_before, RoadMap, Work, Named, Content, Fault, full, when, Change, On_map}
 use Rattle.olr_register.proofs.Common.{Add_path, Set_path, Drop_path, with_change, after, Make, step, IsRefusal}
 use Rattle.olr_register.proofs.Common.{takes_memory, may_want, is_reported_first, nodes_of_change, lines_of_change}
-use Rattle.olr_register.proofs.Common.{names_of_change, all_nodes, all_lines, all_names}
-use Rattle.olr_register.proofs.Common.{command_fault_of, reply_of, Reply, CommandFault, Item, under_overlay}
+use Rattle.olr_register.proofs.Common.{all_nodes, all_lines, Margin}
+use Rattle.olr_register.proofs.Common.{command_fault_of, reply_of, Reply, CommandFault, Item, under_batch}
 use Rattle.olr_register.proofs.Common.{RegisterState, IsBatchOf, content_on, content_under, batch_of, held_of, Answered}
 use Rattle.olr_register.proofs.Common.{AreGiven, MayReport, ByContent, Lacks, HoldsChange, Batch, None}
 use Rattle.olr_register.proofs.Common.{Begin, IsContent, ByState, DistanceBounds, AreEncodingsIfAny, Begins}
 use Rattle.olr_register.proofs.Common.{Follows, nodes_of, lines_of, changed_of, follows_self, named_held, AreEditsNoted}
-use Rattle.olr_register.proofs.Common.{IsKeptRight, IsHeld, HasBounds, flat_map}
+use Rattle.olr_register.proofs.Common.{IsKeptRight, IsHeld, HasBounds, all_named, flat_map}
 use Rattle.std.proofs.lemmas.Bool.{eq-eqb}
-use Rattle.olr_commands.specs.State.{Commit, Batch_full, next, into_batch}
+use Rattle.olr_commands.specs.State.{Commit, Batch_full, next, into_batch, Set_margin}
 use Rattle.olr_register.specs.RegisterState.{Batch as Outcome}
 use Rattle.std.proofs.lemmas.List.{length_push}
 use Rattle.olr_commands.proofs.StateLemmas.{next_ok, after_push}
@@ -46,8 +46,8 @@ flat_push f xs x = rw (flat_map-append f xs (x ∷ []), append-nil (f x))
 pub held_content : (c : Content) (roads : RoadMap) (is : List Item) (b : Batch) (xs : List Change) →
     IsBatchOf c (batch_of roads is b) xs → after c xs ≡ content_under roads is b
 held_content c roads is b xs i =
-    sym i.content ∙ ap (λ (ps : List Named). record { map = map_of roads; paths = ps })
-    (named_twice (under_overlay is b.overlay))
+    sym i.content ∙ ap (λ (ps : List Named). record { map = map_of roads; paths = ps; margin = b.margin })
+    (named_twice (under_batch is b))
 
 -- a commit of the right count
 pub right_count : (c : Content) (b : Outcome) (xs : List Change) {n : ℕ} → IsBatchOf c b xs → b.count ≡ n →
@@ -80,6 +80,7 @@ held_takes (On_map e) xs bare = refl
 held_takes (Add_path name path) xs bare = refl
 held_takes (Set_path name path) xs bare = refl
 held_takes (Drop_path name) xs bare = refl
+held_takes (Set_margin g) xs bare = refl
 
 module _ (c : Content) (old new : RoadMap) (is : List Item) (b d : Batch) (x : Change) where
   one_more : (r : Reply) (xs : List Change) → IsBatchOf c (batch_of old is b) xs →
@@ -93,8 +94,8 @@ module _ (c : Content) (old new : RoadMap) (is : List Item) (b d : Batch) (x : C
       let later = h.count in
       record {
         content =
-            ap (λ (ps : List Named). record { map = map_of new; paths = ps })
-            (named_twice (under_overlay is d.overlay))
+            ap (λ (ps : List Named). record { map = map_of new; paths = ps; margin = d.margin })
+            (named_twice (under_batch is d))
             ∙ sym (after_push c xs x ∙ next_ok (after c xs) (content_under new is d) x there);
         count = omega arith;
         nodes = λ v.
@@ -106,9 +107,7 @@ module _ (c : Content) (old new : RoadMap) (is : List Item) (b d : Batch) (x : C
             h.made.lines y ∙ ap (λ (t : Bool). t || has (lines_of_change x) y) (i.lines y)
             ∙ sym (list_any-append (λ (z : ℕ). z == y) (all_lines xs) (lines_of_change x))
             ∙ ap (λ (ys : List ℕ). has ys y) (sym (flat_push lines_of_change xs x));
-        given =
-            subst (λ (names : List (List ℕ)). AreGiven names (map held_of (under_overlay is d.overlay)))
-            (sym (flat_push names_of_change xs x)) (h.made.given (all_names xs) i.given);
+        given = h.made.given xs i.given;
       }
 
   -- ---- the answer
@@ -145,16 +144,17 @@ module _ (c : Content) (old new : RoadMap) (is : List Item) (b d : Batch) (x : C
 -- ---- begin
 
 -- a batch without changes
-pub record IsEmpty (b : Batch) : Type 0 where
+pub record IsEmpty (g : Margin) (b : Batch) : Type 0 where
   pub log : log_changes b.log ≡ []
-  pub paths : (js : List Item) → under_overlay js b.overlay ≡ js
+  pub paths : (js : List Item) → under_batch js b ≡ js
+  pub margin : b.margin ≡ g
   pub count : b.count ≡ 0
   pub nodes : nodes_of b.touched ≡ []
   pub lines : lines_of b.touched ≡ []
   pub changed : changed_of b.touched ≡ []
 
-module _ (roads : RoadMap) (is : List Item) (b : Batch) (bounds : DistanceBounds) (h : IsKeptRight roads is None bounds)
-    (e : IsEmpty b) where
+module _ (g : Margin) (roads : RoadMap) (is : List Item) (b : Batch) (bounds : DistanceBounds)
+    (h : IsKeptRight g roads is None bounds) (e : IsEmpty g b) where
   same_before : map_before roads b.log ≡ map_of roads
   same_before = ap (made_all (map_of roads)) e.log
 
@@ -166,42 +166,42 @@ module _ (roads : RoadMap) (is : List Item) (b : Batch) (bounds : DistanceBounds
           let lines : b.log.lines ≡ 0 = b.log.lines_counted ∙ ap all_line_puts e.log in
           record { nodes = omega arith; lines = omega arith },
     );
-    sound = subst (λ (ks : List Item). IsContent (content_on (map_of roads) ks)) (sym (e.paths is))
-        h.register.content;
+    sound = coe 0 1 (i. IsContent (content_on (sym e.margin i) (map_of roads) (sym (e.paths is) i))) h.register.content;
     few = let none_yet = e.count in omega arith;
     noted =
         coe 0 1 (i. AreEditsNoted (sym same_before i) (map_of roads) (sym e.nodes i) (sym e.lines i)
         (sym e.changed i)) (noted_none (map_of roads));
     made =
-        coe 0 1 (i. AreEncodingsIfAny (sym same_before i) (sym (e.paths is) i))
-        (made_if_any (map_of roads) is h.register.made);
+        coe 0 1 (i. AreEncodingsIfAny (sym e.margin i) (sym same_before i) (sym (e.paths is) i))
+        (made_if_any g (map_of roads) is h.register.made);
     follows = subst (Follows is) (sym (e.paths is)) (follows_self is h.register.content.names);
     begins = λ v on. subst (λ (ks : List Item). Begins ks v) (e.paths is) on;
   }
 
-  pub begun_held : IsKeptRight roads is (Some b) bounds
+  pub begun_held : IsKeptRight g roads is (Some b) bounds
   begun_held = record {
-    register = register_moved roads roads is None (Some b) same_before begun h.register;
+    register = register_moved g roads roads is None (Some b) same_before begun (λ off. e.margin) h.register;
     bounded = subst (λ (T : List ℕ). HasBounds roads T is bounds) (sym e.nodes) h.bounded;
   }
 
-  empty_batch : IsBatchOf (content_on (map_of roads) is) (batch_of roads is b) []
+  empty_batch : IsBatchOf (content_on g (map_of roads) is) (batch_of roads is b) []
   empty_batch = record {
     content =
-        ap (λ (ks : List Item). record { map = map_of roads; paths = map named_held (map held_of ks) }) (e.paths is)
-        ∙ ap (λ (ps : List Named). record { map = map_of roads; paths = ps }) (named_twice is);
+        let paths : map named_held (map held_of (under_batch is b)) ≡ all_named is =
+        ap (λ (ks : List Item). map named_held (map held_of ks)) (e.paths is) ∙ named_twice is in
+        λ i. record { map = map_of roads; paths = paths i; margin = e.margin i };
     count = e.count;
     nodes = λ v. ap (λ (vs : List ℕ). has vs v) e.nodes;
     lines = λ y. ap (λ (ys : List ℕ). has ys y) e.lines;
     given =
         subst (λ (ks : List Item). AreGiven [] (map held_of ks)) (sym (e.paths is))
-        (given_at_first (map_of roads) is h.register.made);
+        (given_at_first g (map_of roads) is h.register.made);
   }
 
   pub begin_done : (w : Work) (r : Reply) → reply_of r ≡ replies.Paths [] →
-      Answered (of_parts roads is None w) Begin (Ok r) (of_parts roads is (Some b) w)
+      Answered (of_parts g roads is None w) Begin (Ok r) (of_parts g roads is (Some b) w)
   begin_done w r empty =
-      let c : Content = content_on (map_of roads) is in
+      let c : Content = content_on g (map_of roads) is in
       let later : RegisterState = record { content = c; batch = Some (batch_of roads is b) } in
       rw same_before (answered_uncounted (register_of c None w) later Begin r
       (in_states (record { content = c; batch = None }) (Keeps later Begin r)

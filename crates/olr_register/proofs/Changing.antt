@@ -3,7 +3,7 @@ use Rattle.olr_register.proofs.Common.{◌≡◌, ℕ, Bool, true, false, not, L
 use Rattle.olr_register.proofs.Common.{Ok, Err, IsOk, refl, sym, ap, ◌∙◌, Map, Path, is_path, EditPlan, Named, Content}
 use Rattle.olr_register.proofs.Common.{same_name, has_path, Fault, Memory, No_path, when, Add_path, Set_path, Drop_path}
 use Rattle.olr_register.proofs.Common.{with_map, with_change, is_reported_first, Made, Item, set_item, has_name}
-use Rattle.olr_register.proofs.Common.{content_on, MayReport, Lacks}
+use Rattle.olr_register.proofs.Common.{content_on, Margin, MayReport, Lacks}
 use Rattle.std.specs.Prelude.{MatchResult}
 use Rattle.olr_spec.specs.Map.{MapFault}
 use Rattle.olr_roads.specs.Edits.{edit_fault_of}
@@ -13,8 +13,8 @@ use Rattle.olr_commands.specs.Words.{map_fault_of}
 use Rattle.olr_register.proofs.Listed.{names_add, names_set, names_drop}
 use Rattle.olr_spec.specs.Map as map_faults
 
-abbrev content_from : Map → List Named → Result Content Fault
-content_from M ps = Ok (record { map = M; paths = ps })
+abbrev content_from : Margin → Map → List Named → Result Content Fault
+content_from g M ps = Ok (record { map = M; paths = ps; margin = g })
 
 -- ---- the fault of the name takes precedence, then that of the lines
 
@@ -66,16 +66,16 @@ edit_lacks c (Err g) h = absurd cc
 
 -- ---- accepted, with these results of the path
 
-pub add_ok : (M : Map) (is : List Item) (name : List ℕ) (path : Path) (made : Option Made) → has_name is name ≡ false →
-    is_path path.lines ≡ true → with_change (content_on M is) (Add_path name path)
-    ≡ Ok (content_on M (is ++ record { name = name; path = path; made = made } ∷ []))
-add_ok M is name path made free good = rw (free, good) (ap (content_from M) (sym (names_add is _)))
+pub add_ok : (g : Margin) (M : Map) (is : List Item) (name : List ℕ) (path : Path) (made : Option Made) → has_name is name ≡ false →
+    is_path path.lines ≡ true → with_change (content_on g M is) (Add_path name path)
+    ≡ Ok (content_on g M (is ++ record { name = name; path = path; made = made } ∷ []))
+add_ok g M is name path made free good = rw (free, good) (ap (content_from g M) (sym (names_add is _)))
 
-pub set_ok : (M : Map) (is : List Item) (name : List ℕ) (path : Path) (made : Option Made) → has_name is name ≡ true →
+pub set_ok : (g : Margin) (M : Map) (is : List Item) (name : List ℕ) (path : Path) (made : Option Made) → has_name is name ≡ true →
     is_path path.lines ≡ true
-    → with_change (content_on M is) (Set_path name path) ≡ Ok (content_on M (map (set_item name path made) is))
-set_ok M is name path made there good = rw (there, good) (ap (content_from M) (sym (names_set name path made is)))
+    → with_change (content_on g M is) (Set_path name path) ≡ Ok (content_on g M (map (set_item name path made) is))
+set_ok g M is name path made there good = rw (there, good) (ap (content_from g M) (sym (names_set name path made is)))
 
-pub drop_ok : (M : Map) (is : List Item) (name : List ℕ) → has_name is name ≡ true →
-    with_change (content_on M is) (Drop_path name) ≡ Ok (content_on M (filter (λ i. not (same_name i.name name)) is))
-drop_ok M is name there = rw there (ap (content_from M) (sym (names_drop name is)))
+pub drop_ok : (g : Margin) (M : Map) (is : List Item) (name : List ℕ) → has_name is name ≡ true →
+    with_change (content_on g M is) (Drop_path name) ≡ Ok (content_on g M (filter (λ i. not (same_name i.name name)) is))
+drop_ok g M is name there = rw there (ap (content_from g M) (sym (names_drop name is)))

@@ -1,9 +1,9 @@
 -- How many paths the changes affect, counted by the stored results; none if there are no changes.
 use Rattle.olr_register.proofs.Common.{inl, inr, ◌≡◌, ℕ, true, List, [], ◌∷◌, map, Option, arith}
 use Rattle.olr_register.proofs.Common.{Some, None, refl, sym, ap, ◌∙◌, subst, is_none, list_any}
-use Rattle.olr_register.proofs.Common.{has, Named, Content, same_name, Change}
-use Rattle.olr_register.proofs.Common.{Affects, By_name, By_node, By_line, all_nodes, all_lines, all_names}
-use Rattle.olr_register.proofs.Common.{Made, Item, named_of, all_named, held_of, AreGiven, Work}
+use Rattle.olr_register.proofs.Common.{has, Named, Content, Change}
+use Rattle.olr_register.proofs.Common.{Affects, By_name, By_node, By_line, all_nodes, all_lines, gives}
+use Rattle.olr_register.proofs.Common.{Made, Item, Map, Margin, named_of, all_named, held_of, AreGiven, Work, unmade}
 use Rattle.olr_search.specs.Counts.{raised_count, raised_work}
 use Rattle.olr_commands.specs.Counts.{CountIs}
 use Rattle.olr_paths.specs.Changes.{IsAffected}
@@ -16,13 +16,13 @@ none_made (Some m) e = absurd cc
 
 -- ---- the items of a list, and the paths of a content
 
-abbrev Given : List (List ℕ) → Item → Type 0
-Given names i = is_none i.made ≡ list_any (same_name i.name) names
+abbrev Given : List Change → Item → Type 0
+Given xs i = is_none i.made ≡ list_any (gives i.name) xs
 
-module _ (names : List (List ℕ)) (P : Item → Type 0) (Q : Named → Type 0)
-    (to : (i : Item) → Given names i → P i → Q (named_of i))
-    (back : (i : Item) → Given names i → Q (named_of i) → P i) where
-  count_named : (is : List Item) (n : ℕ) → AreGiven names (map held_of is) → CountIs P is n → CountIs Q (all_named is) n
+module _ (changes : List Change) (P : Item → Type 0) (Q : Named → Type 0)
+    (to : (i : Item) → Given changes i → P i → Q (named_of i))
+    (back : (i : Item) → Given changes i → Q (named_of i) → P i) where
+  count_named : (is : List Item) (n : ℕ) → AreGiven changes (map held_of is) → CountIs P is n → CountIs Q (all_named is) n
   count_named [] n given count = count
   count_named (i ∷ is) n given (inl h) = inl (to i given.0 h.0, (h.1.0, count_named is h.1.0 given.1 h.1.1, h.1.2))
   count_named (i ∷ is) n given (inr h) = inr ((λ k. h.0 (back i given.0 k)), count_named is n given.1 h.1)
@@ -30,22 +30,31 @@ module _ (names : List (List ℕ)) (P : Item → Type 0) (Q : Named → Type 0)
 module _ (c : Content) (changes : List Change) (ns xs : List ℕ)
     (same_nodes : (v : ℕ) → has ns v ≡ has (all_nodes c changes) v)
     (same_lines : (x : ℕ) → has xs x ≡ has (all_lines changes) x) where
-  affects_to : (i : Item) → Given (all_names changes) i → IsAffected c.map ns xs i → Affects c changes (named_of i)
+  affects_to : (i : Item) → Given changes i → IsAffected c.margin c.map ns xs i → Affects c changes (named_of i)
   affects_to i given (made.By_name e) = By_name (sym given ∙ ap (λ (o : Option Made). is_none o) e)
   affects_to i given (made.By_node v h f) = By_node v (sym (same_nodes v) ∙ h) f
   affects_to i given (made.By_line x h f) = By_line x (sym (same_lines x) ∙ h) f
 
-  affects_back : (i : Item) → Given (all_names changes) i → Affects c changes (named_of i) → IsAffected c.map ns xs i
+  affects_back : (i : Item) → Given changes i → Affects c changes (named_of i) → IsAffected c.margin c.map ns xs i
   affects_back i given (By_name h) = made.By_name (none_made i.made (given ∙ h))
   affects_back i given (By_node v h f) = made.By_node v (same_nodes v ∙ h) f
   affects_back i given (By_line x h f) = made.By_line x (same_lines x ∙ h) f
 
-  pub counted_changes : (is : List Item) (n : ℕ) → CountIs (IsAffected c.map ns xs) is n →
-      AreGiven (all_names changes) (map held_of is) → (ps : List Named) → ps ≡ all_named is →
+  pub counted_changes : (is : List Item) (n : ℕ) → CountIs (IsAffected c.margin c.map ns xs) is n →
+      AreGiven changes (map held_of is) → (ps : List Named) → ps ≡ all_named is →
       CountIs (Affects c changes) ps n
   counted_changes is n count given ps same =
       subst (λ (qs : List Named). CountIs (Affects c changes) qs n) (sym same)
-      (count_named (all_names changes) _ _ affects_to affects_back is n given count)
+      (count_named changes _ _ affects_to affects_back is n given count)
+
+-- where no path is encoded yet, each is affected
+pub counted_all : (g : Margin) (M : Map) (ns xs : List ℕ) (c : Content) (changes : List Change) (is : List Item) (n : ℕ) →
+    CountIs (IsAffected g M ns xs) (map unmade is) n → AreGiven changes (map held_of (map unmade is)) →
+    CountIs (Affects c changes) (all_named (map unmade is)) n
+counted_all g M ns xs c changes [] n count given = count
+counted_all g M ns xs c changes (i ∷ is) n (inl h) given =
+    inl (By_name (sym given.0), (h.1.0, counted_all g M ns xs c changes is h.1.0 h.1.1 given.1, h.1.2))
+counted_all g M ns xs c changes (i ∷ is) n (inr h) given = absurd (h.0 (made.By_name refl))
 
 -- changes that affect no path
 pub none_affected : (c : Content) (xs : List Change) → ((p : Named) → ¬ Affects c xs p) → (ps : List Named) →

@@ -20,6 +20,7 @@ use Rattle.olr_spec.proofs.ListLemmas.{has_cases, take_more_at}
 use Rattle.olr_spec.proofs.OrderLemmas.{exactly_out}
 use Rattle.olr_commands.specs.Recordable.{is_recordable_coord, is_recordable_shape}
 use Rattle.olr_commands.proofs.DumpLemmas.{of_entries}
+use Rattle.olr_commands.specs.Dump.{margin_changes}
 
 -- ---- a test of all values of a finite map
 
@@ -174,9 +175,10 @@ texts_of : {A : Type 0} (g : A → Change) (xs : List A) → concat (map record_
 texts_of g [] = refl
 texts_of g (x ∷ xs) = ap (λ (r : List ℕ). record_line (g x) ++ r) (texts_of g xs)
 
--- the records of nodes, lines and paths, after a text
+-- the records of a margin, of nodes, lines and paths, after a text
 pub dump_text : (c : Content) (t : List ℕ) →
-    ((t ++ flat_map (λ e. record_line (node_change e)) (entries c.map.nodes))
+    (((t ++ concat (map record_line (margin_changes c.margin)))
+    ++ flat_map (λ e. record_line (node_change e)) (entries c.map.nodes))
     ++ flat_map (λ e. record_line (line_change e)) (entries c.map.lines))
     ++ flat_map (λ p. record_line (path_change p)) c.paths ≡ t ++ concat (dump_lines c)
 dump_text c t =

@@ -4,7 +4,9 @@ use Rattle.olr_register.proofs.Common.{filter, Option, Some, None, is_some, leng
 use Rattle.olr_register.proofs.Common.{is_none, IfSome, list_any, or-false, or_right, list_any-append, Map, Path, Named}
 use Rattle.olr_register.proofs.Common.{same_name, path_named, not_named, Made, Item, IsEncodingOf, AreEncodings}
 use Rattle.olr_register.proofs.Common.{AreEncodingsIfAny, named_of, all_named, answer_in, Reported, Follows, set_item}
-use Rattle.olr_register.proofs.Common.{named_held, held_of, AreGiven}
+use Rattle.olr_register.proofs.Common.{named_held, held_of, AreGiven, Add_path, Change, Margin, Set_margin, Set_path, anew}
+use Rattle.olr_register.proofs.Common.{gives, unmade}
+use Rattle.std.proofs.lemmas.List.{map-append}
 use lib.Pointwise.{bytes_decides}
 use Rattle.olr_commands.specs.State.{with_path}
 use Rattle.olr_paths.proofs.Following.{answer_made}
@@ -87,60 +89,119 @@ each_left {P} {F} e keep (i ∷ is) f =
       | false ↦ rest
     ]
 
-pub each_encoded : (M : Map) → Each (λ i. (m : Made) × (i.made ≡ Some m) × IsEncodingOf M i.path m) (AreEncodings M)
-each_encoded M = record { none = tt; more = λ i is p f. (p, f); first = λ i is f. f.0; rest = λ i is f. f.1 }
+pub each_encoded : (g : Margin) (M : Map) →
+    Each (λ i. (m : Made) × (i.made ≡ Some m) × IsEncodingOf g M i.path m) (AreEncodings g M)
+each_encoded g M = record { none = tt; more = λ i is p f. (p, f); first = λ i is f. f.0; rest = λ i is f. f.1 }
 
-pub each_if_any : (M : Map) → Each (λ i. IfSome i.made (IsEncodingOf M i.path)) (AreEncodingsIfAny M)
-each_if_any M = record { none = tt; more = λ i is p f. (p, f); first = λ i is f. f.0; rest = λ i is f. f.1 }
+pub each_if_any : (g : Margin) (M : Map) → Each (λ i. IfSome i.made (IsEncodingOf g M i.path)) (AreEncodingsIfAny g M)
+each_if_any g M = record { none = tt; more = λ i is p f. (p, f); first = λ i is f. f.0; rest = λ i is f. f.1 }
 
 pub each_follows : (before : List Item) →
     Each (λ i. (i.made ≡ None) ⊎ (answer_in before i.name ≡ answer_made i.made)) (Follows before)
 each_follows before = record { none = tt; more = λ i is p f. (p, f); first = λ i is f. f.0; rest = λ i is f. f.1 }
 
-pub each_given : (names : List (List ℕ)) →
-    Each (λ i. is_none i.made ≡ list_any (same_name i.name) names) (λ is. AreGiven names (map held_of is))
-each_given names = record { none = tt; more = λ i is p f. (p, f); first = λ i is f. f.0; rest = λ i is f. f.1 }
+pub each_given : (xs : List Change) →
+    Each (λ i. is_none i.made ≡ list_any (gives i.name) xs) (λ is. AreGiven xs (map held_of is))
+each_given xs = record { none = tt; more = λ i is p f. (p, f); first = λ i is f. f.0; rest = λ i is f. f.1 }
 
--- ---- with one name more
+-- ---- with one change more
 
-one_name : (q name : List ℕ) (names : List (List ℕ)) (b : Bool) → same_name q name ≡ b →
-    list_any (same_name q) (names ++ name ∷ []) ≡ (list_any (same_name q) names || b)
-one_name q name names b e =
-    list_any-append (same_name q) names (name ∷ [])
-    ∙ ap (λ (t : Bool). list_any (same_name q) names || t) (or-false (same_name q name) ∙ e)
+one_change : (q : List ℕ) (xs : List Change) (x : Change) (b : Bool) → gives q x ≡ b →
+    list_any (gives q) (xs ++ x ∷ []) ≡ (list_any (gives q) xs || b)
+one_change q xs x b e =
+    list_any-append (gives q) xs (x ∷ [])
+    ∙ ap (λ (t : Bool). list_any (gives q) xs || t) (or-false (gives q x) ∙ e)
 
-given_here : (q name : List ℕ) (names : List (List ℕ)) → same_name q name ≡ true →
-    true ≡ list_any (same_name q) (names ++ name ∷ [])
-given_here q name names e = sym (one_name q name names true e ∙ or_right (list_any (same_name q) names) true refl)
+given_here : (q : List ℕ) (xs : List Change) (x : Change) → gives q x ≡ true → true ≡ list_any (gives q) (xs ++ x ∷ [])
+given_here q xs x e = sym (one_change q xs x true e ∙ or_right (list_any (gives q) xs) true refl)
 
-given_still : (q name : List ℕ) (names : List (List ℕ)) (b : Bool) → same_name q name ≡ false →
-    b ≡ list_any (same_name q) names → b ≡ list_any (same_name q) (names ++ name ∷ [])
-given_still q name names b e h = h ∙ sym (one_name q name names false e ∙ or-false (list_any (same_name q) names))
+given_still : (q : List ℕ) (xs : List Change) (x : Change) (b : Bool) → gives q x ≡ false →
+    b ≡ list_any (gives q) xs → b ≡ list_any (gives q) (xs ++ x ∷ [])
+given_still q xs x b e h = h ∙ sym (one_change q xs x false e ∙ or-false (list_any (gives q) xs))
 
-pub given_add : (name : List ℕ) (path : Path) (names : List (List ℕ)) (is : List Item) →
-    is_some (path_named (all_named is) name) ≡ false → AreGiven names (map held_of is)
-    → AreGiven (names ++ name ∷ []) (map held_of (is ++ record { name = name; path = path; made = None } ∷ []))
-given_add name path names [] free g = (given_here name name names ((bytes_decides name name).1 refl), tt)
-given_add name path names (i ∷ is) free g =
+-- one that gives no path
+pub given_none : (xs : List Change) (x : Change) (is : List Item) → ((q : List ℕ) → gives q x ≡ false) →
+    AreGiven xs (map held_of is) → AreGiven (xs ++ x ∷ []) (map held_of is)
+given_none xs x [] none g = tt
+given_none xs x (i ∷ is) none g =
+    (given_still i.name xs x (is_none i.made) (none i.name) g.0, given_none xs x is none g.1)
+
+pub given_add : (name : List ℕ) (path : Path) (xs : List Change) (is : List Item) →
+    is_some (path_named (all_named is) name) ≡ false → AreGiven xs (map held_of is)
+    → AreGiven (xs ++ Add_path name path ∷ []) (map held_of (is ++ record { name = name; path = path; made = None } ∷ []))
+given_add name path xs [] free g = (given_here name xs (Add_path name path) ((bytes_decides name name).1 refl), tt)
+given_add name path xs (i ∷ is) free g =
     let p = not_named (named_of i) (all_named is) name free in
-    (given_still i.name name names (is_none i.made) p.0 g.0, given_add name path names is p.1 g.1)
+    (given_still i.name xs (Add_path name path) (is_none i.made) p.0 g.0, given_add name path xs is p.1 g.1)
 
-pub given_set : (name : List ℕ) (path : Path) (names : List (List ℕ)) (is : List Item) →
-    AreGiven names (map held_of is) → AreGiven (names ++ name ∷ []) (map held_of (map (set_item name path None) is))
-given_set name path names is g =
-    each_set (each_given names) (each_given (names ++ name ∷ [])) name path None
-    (λ i same. given_here i.name name names same)
-    (λ i other h. given_still i.name name names (is_none i.made) other h) is g
+pub given_set : (name : List ℕ) (path : Path) (xs : List Change) (is : List Item) →
+    AreGiven xs (map held_of is) → AreGiven (xs ++ Set_path name path ∷ []) (map held_of (map (set_item name path None) is))
+given_set name path xs is g =
+    each_set (each_given xs) (each_given (xs ++ Set_path name path ∷ [])) name path None
+    (λ i same. given_here i.name xs (Set_path name path) same)
+    (λ i other h. given_still i.name xs (Set_path name path) (is_none i.made) other h) is g
+
+-- if the margin is set, each path is given
+pub given_all : (g : Margin) (xs : List Change) (is : List Item) →
+    AreGiven (xs ++ Set_margin g ∷ []) (map held_of (map unmade is))
+given_all g xs [] = tt
+given_all g xs (i ∷ is) = (given_here i.name xs (Set_margin g) refl, given_all g xs is)
 
 -- if each path was encoded, no batch added or replaced any
-pub given_at_first : (M : Map) (is : List Item) → AreEncodings M is → AreGiven [] (map held_of is)
-given_at_first M [] a = tt
-given_at_first M (i ∷ is) a = (ap is_none a.0.1, given_at_first M is a.1)
+pub given_at_first : (g : Margin) (M : Map) (is : List Item) → AreEncodings g M is → AreGiven [] (map held_of is)
+given_at_first g M [] a = tt
+given_at_first g M (i ∷ is) a = (ap is_none a.0.1, given_at_first g M is a.1)
+
+-- ---- where no path is encoded yet
+
+pub named_anew : (all : Bool) (is : List Item) → all_named (anew all is) ≡ all_named is
+named_anew false is = refl
+named_anew true [] = refl
+named_anew true (i ∷ is) = ap (λ (ps : List Named). named_of i ∷ ps) (named_anew true is)
+
+pub has_anew : (all : Bool) (is : List Item) (name : List ℕ) →
+    is_some (path_named (all_named (anew all is)) name) ≡ is_some (path_named (all_named is) name)
+has_anew all is name = ap (λ (ps : List Named). is_some (path_named ps name)) (named_anew all is)
+
+pub anew_add : (all : Bool) (is : List Item) (name : List ℕ) (path : Path) →
+    anew all (is ++ record { name = name; path = path; made = None } ∷ [])
+    ≡ anew all is ++ record { name = name; path = path; made = None } ∷ []
+anew_add false is name path = refl
+anew_add true is name path = map-append unmade is (record { name = name; path = path; made = None } ∷ [])
+
+set_unmade : (name : List ℕ) (path : Path) (i : Item) →
+    unmade (set_item name path None i) ≡ set_item name path None (unmade i)
+set_unmade name path i =
+    elim (same_name i.name name) as (λ b. unmade (cond b (record { name = i.name; path = path; made = None }) i)
+    ≡ cond b (record { name = i.name; path = path; made = None }) (unmade i)) [ true ↦ refl | false ↦ refl ]
+
+pub anew_set : (all : Bool) (name : List ℕ) (path : Path) (is : List Item) →
+    anew all (map (set_item name path None) is) ≡ map (set_item name path None) (anew all is)
+anew_set false name path is = refl
+anew_set true name path [] = refl
+anew_set true name path (i ∷ is) =
+    let one = set_unmade name path i in
+    let rest = anew_set true name path is in
+    λ k. one k ∷ rest k
+
+pub anew_drop : (all : Bool) (name : List ℕ) (is : List Item) →
+    anew all (filter (λ i. not (same_name i.name name)) is) ≡ filter (λ i. not (same_name i.name name)) (anew all is)
+anew_drop false name is = refl
+anew_drop true name [] = refl
+anew_drop true name (i ∷ is) =
+    let rest = anew_drop true name is in
+    elim (not (same_name i.name name)) as (λ b.
+    map unmade (cond b (i ∷ filter (λ j. not (same_name j.name name)) is) (filter (λ j. not (same_name j.name name)) is))
+    ≡ cond b (unmade i ∷ filter (λ j. not (same_name j.name name)) (map unmade is))
+    (filter (λ j. not (same_name j.name name)) (map unmade is))) [
+      | true ↦ ap (λ (js : List Item). unmade i ∷ js) rest
+      | false ↦ rest
+    ]
 
 -- if each path was encoded, nothing is reported
-pub follows_untold : (M : Map) (before js : List Item) → AreEncodings M js → Follows before js → Reported before js []
-follows_untold M before [] a f = refl
-follows_untold M before (j ∷ js) a f =
+pub follows_untold : (g : Margin) (M : Map) (before js : List Item) → AreEncodings g M js → Follows before js → Reported before js []
+follows_untold g M before [] a f = refl
+follows_untold g M before (j ∷ js) a f =
     let made : (j.made ≡ Some a.0.0) = a.0.1 in
     let is : answer_made j.made ≡ Some a.0.0.answer = ap answer_made made in
     let was : answer_in before j.name ≡ Some a.0.0.answer =
@@ -149,4 +210,4 @@ follows_untold M before (j ∷ js) a f =
       | inr e ↦ e
           ∙ is
     ] in
-    (a.0.0.answer, [], is, follows_untold M before js a.1 f.1, inl (was, refl))
+    (a.0.0.answer, [], is, follows_untold g M before js a.1 f.1, inl (was, refl))

@@ -3,10 +3,12 @@ use Rattle.olr_register.proofs.Common.{◌≡◌, ℕ, List, [], ◌++◌, map, 
 use Rattle.olr_register.proofs.Common.{or-false, Map, Edit, edited, touched_nodes, touched_lines, has, HasCoord}
 use Rattle.olr_register.proofs.Common.{changes_of, CoverageQuery, map_of, map_before, RoadMap, IsContent}
 use Rattle.olr_register.proofs.Common.{Change, On_map, Make, HasCoords, with_map, with_change, nodes_of_change}
-use Rattle.olr_register.proofs.Common.{lines_of_change, names_of_change, command_fault_of, CommandFault}
+use Rattle.olr_register.proofs.Common.{lines_of_change, command_fault_of, CommandFault}
 use Rattle.olr_register.proofs.Common.{changes_keep, Item, AreEncodingsIfAny, Follows, Begins, under_overlay, nodes_of}
-use Rattle.olr_register.proofs.Common.{lines_of, changed_of, ChangeSet, content_on, content_under, AreEditsNoted}
-use Rattle.olr_register.proofs.Common.{held_of, IsHeld, AreGiven, MayReport, Batch, Result, IsErrAnd, append-nil, or_right, slot_of, KeepsSlots, IsUnderWay}
+use Rattle.olr_register.proofs.Common.{lines_of, changed_of, ChangeSet, Bool, Margin, anew, content_on, content_under, under_batch, AreEditsNoted}
+use Rattle.std.proofs.Common.{IsTrue}
+use Rattle.olr_register.proofs.Common.{all_named, ◌∷◌, Set_margin, follows_unmade, is_margin, true, Named}
+use Rattle.olr_register.proofs.Common.{held_of, IsHeld, AreGiven, MayReport, Batch, Result, IsErrAnd, or_right, slot_of, KeepsSlots, IsUnderWay}
 use Rattle.olr_map.specs.RoadMaps.{CanUndoAll}
 use Rattle.olr_map.specs.declared.undo.UndoLog.{UndoLog}
 use Rattle.olr_list.specs.declared.overlay.Overlay.{Overlay}
@@ -16,16 +18,17 @@ use Rattle.std.proofs.lemmas.Bool.{or_left}
 use Rattle.olr_spec.proofs.ChangeLemmas.{edit_differs}
 use Rattle.olr_near.proofs.BoundLemmas.{edit_under_way}
 use Rattle.olr_register.proofs.Bounded.{is_edit}
-use Rattle.olr_register.proofs.Noted.{noted_more}
+use Rattle.olr_register.proofs.Noted.{begins_none, noted_more, unmade_if_any}
+use Rattle.olr_register.proofs.Listed.{given_all, given_none, named_anew}
 
 -- a change that is not made leaves the batch as it was
 pub unmade : (old new : RoadMap) (is : List Item) (b : Batch) (log : UndoLog) (l : Overlay) (t : ChangeSet) (x : Change)
     (r : Result (Unit {0}) CommandFault) (f : CommandFault) → IsErrAnd r (λ g. g ≡ f) →
     (IsHeld old is b → CanUndoAll new log) → map_before new log ≡ map_before old b.log → map_of new ≡ map_of old →
-    under_overlay is l ≡ under_overlay is b.overlay → nodes_of t ≡ nodes_of b.touched →
+    anew b.all (under_overlay is l) ≡ under_batch is b → nodes_of t ≡ nodes_of b.touched →
     lines_of t ≡ lines_of b.touched → changed_of t ≡ changed_of b.touched →
     StaysUnderWay old new b b → MayReport (with_change (content_under old is b) x) (command_fault_of f) →
-    Makes old new is b (record { log = log; overlay = l; count = b.count; touched = t }) x r
+    Makes old new is b (record b { log = log; overlay = l; touched = t }) x r
 unmade old new is b log l t x (Ok u) f failed undo before same list nodes lines changed stays may = absurd failed
 unmade old new is b log l t x (Err g) f failed undo before same list nodes lines changed stays may = record {
   count = refl;
@@ -35,19 +38,21 @@ unmade old new is b log l t x (Err g) f failed undo before same list nodes lines
   unchanged = λ i. record {
     map = same i;
     paths = map held_of (list i);
+    margin = b.margin;
     count = b.count;
     nodes = nodes i;
     lines = lines i;
   };
   held = λ h. record {
     undo = undo h;
-    sound = coe 0 1 (i. IsContent (content_on (sym same i) (sym list i))) h.sound;
+    sound = coe 0 1 (i. IsContent (content_on b.margin (sym same i) (sym list i))) h.sound;
     few = h.few;
     noted = coe 0 1 (i. AreEditsNoted (sym before i) (sym same i) (sym nodes i) (sym lines i) (sym changed i)) h.noted;
-    made = coe 0 1 (i. AreEncodingsIfAny (sym before i) (sym list i)) h.made;
+    made = coe 0 1 (i. AreEncodingsIfAny b.margin (sym before i) (sym list i)) h.made;
     follows = subst (Follows is) (sym list) h.follows;
     begins = λ v on. h.begins v (subst (λ (ks : List Item). Begins ks v) list on);
   };
+  margin = λ g k. k;
   under_way = λ f h. subst (λ (T : List ℕ). IsUnderWay (map_of new) (slot_of new) T f) (sym nodes) (stays f h);
 }
 
@@ -55,25 +60,25 @@ unmade old new is b log l t x (Err g) f failed undo before same list nodes lines
 
 module _ (roads : RoadMap) (is : List Item) (b : Batch) (l : Overlay) (x : Change) where
   pub path_unmade : (r : Result (Unit {0}) CommandFault) (f : CommandFault) → IsErrAnd r (λ g. g ≡ f) →
-      under_overlay is l ≡ under_overlay is b.overlay →
+      anew b.all (under_overlay is l) ≡ under_batch is b →
       MayReport (with_change (content_under roads is b) x) (command_fault_of f) →
       Makes roads roads is b (record b { overlay = l }) x r
   path_unmade r f failed same may =
       unmade roads roads is b b.log l b.touched x r f failed (λ h. h.undo) refl refl same refl refl refl (λ f h. h) may
 
-  pub path_made : (ls : List Item) → under_overlay is l ≡ ls →
-      with_change (content_under roads is b) x ≡ Ok (content_on (map_of roads) ls) → HasCoords (Make x) →
+  pub path_made : (ls : List Item) → anew b.all (under_overlay is l) ≡ ls →
+      with_change (content_under roads is b) x ≡ Ok (content_on b.margin (map_of roads) ls) → HasCoords (Make x) →
       nodes_of_change (map_of roads) x ≡ [] → lines_of_change x ≡ [] →
-      ((names : List (List ℕ)) → AreGiven names (map held_of (under_overlay is b.overlay)) →
-      AreGiven (names ++ names_of_change x) (map held_of ls)) →
-      ((M : Map) → AreEncodingsIfAny M (under_overlay is b.overlay) → AreEncodingsIfAny M ls) →
-      (Follows is (under_overlay is b.overlay) → Follows is ls) →
-      ((v : CoverageQuery) → Begins ls v → Begins (under_overlay is b.overlay) v) →
+      ((xs : List Change) → AreGiven xs (map held_of (under_batch is b)) → AreGiven (xs ++ x ∷ []) (map held_of ls)) →
+      ((M : Map) → AreEncodingsIfAny b.margin M (under_batch is b) → AreEncodingsIfAny b.margin M ls) →
+      (Follows is (under_batch is b) → Follows is ls) →
+      ((v : CoverageQuery) → Begins ls v → Begins (under_batch is b) v) →
       Makes roads roads is b (record b { overlay = l }) x (Ok tt)
   path_made ls same ok placed nodes lines given made follows begins = record {
     count = refl;
     before = refl;
-    made = subst (λ (js : List Item). IsMade roads roads (under_overlay is b.overlay) js b.touched b.touched x) (sym same)
+    made = subst (λ (js : List Item). IsMade b.margin b.margin roads roads (under_batch is b) js b.touched b.touched x)
+        (sym same)
         (record {
           content = ok;
           nodes = λ v. sym (ap (λ (vs : List ℕ). has (nodes_of b.touched) v || has vs v) nodes ∙ or-false _);
@@ -82,15 +87,16 @@ module _ (roads : RoadMap) (is : List Item) (b : Batch) (l : Overlay) (x : Chang
         });
     refused = tt;
     unchanged = tt;
-    held = λ h. subst (λ (js : List Item). IsHeldAs roads is js b.log b.count b.touched) (sym same) (record {
+    held = λ h. subst (λ (js : List Item). IsHeldAs b.margin roads is js b.log b.count b.touched) (sym same) (record {
       undo = h.undo;
-      sound = changes_keep (content_under roads is b) (content_on (map_of roads) ls) x h.sound placed ok;
+      sound = changes_keep (content_under roads is b) (content_on b.margin (map_of roads) ls) x h.sound placed ok;
       few = h.few;
       noted = h.noted;
       made = made (map_before roads b.log) h.made;
       follows = follows h.follows;
       begins = λ v on. h.begins v (begins v on);
     });
+    margin = λ g k. k;
     under_way = λ f h. h;
   }
 
@@ -99,7 +105,7 @@ module _ (roads : RoadMap) (is : List Item) (b : Batch) (l : Overlay) (x : Chang
 module _ (old new : RoadMap) (is : List Item) (b : Batch) (log : UndoLog) (t : ChangeSet) (e : Edit)
     (undo : CanUndoAll new log) (same_before : map_before new log ≡ map_before old b.log) where
   abbrev edited_batch : Batch
-  edited_batch = record { log = log; overlay = b.overlay; count = b.count; touched = t }
+  edited_batch = record b { log = log; touched = t }
 
   pub edit_made : edited (map_of old) e ≡ Ok (map_of new) → KeepsSlots old new → HasCoord e →
       ((v : ℕ) → has (nodes_of t) v ≡ (has (nodes_of b.touched) v || has (touched_nodes (map_of old) e) v)) →
@@ -108,7 +114,7 @@ module _ (old new : RoadMap) (is : List Item) (b : Batch) (log : UndoLog) (t : C
       Makes old new is b edited_batch (On_map e) (Ok tt)
   edit_made done slots placed nodes lines changed =
       let content : with_change (content_under old is b) (On_map e)
-      ≡ Ok (content_on (map_of new) (under_overlay is b.overlay)) = ap (with_map (content_under old is b)) done in
+      ≡ Ok (content_on b.margin (map_of new) (under_batch is b)) = ap (with_map (content_under old is b)) done in
       record {
         count = refl;
         before = same_before;
@@ -116,14 +122,13 @@ module _ (old new : RoadMap) (is : List Item) (b : Batch) (log : UndoLog) (t : C
           content = content;
           nodes = nodes;
           lines = lines;
-          given = λ names g. subst (λ (ns : List (List ℕ)). AreGiven ns (map held_of (under_overlay is b.overlay)))
-              (sym (append-nil names)) g;
+          given = λ xs g. given_none xs (On_map e) (under_batch is b) (λ q. refl) g;
         };
         refused = tt;
         unchanged = tt;
         held = λ h. record {
           undo = undo;
-          sound = changes_keep (content_under old is b) (content_on (map_of new) (under_overlay is b.overlay))
+          sound = changes_keep (content_under old is b) (content_on b.margin (map_of new) (under_batch is b))
               (On_map e) h.sound placed content;
           few = h.few;
           noted =
@@ -131,13 +136,52 @@ module _ (old new : RoadMap) (is : List Item) (b : Batch) (log : UndoLog) (t : C
               (sym same_before) (noted_more (map_before old b.log) (map_of old) (map_of new) e (nodes_of b.touched)
               (lines_of b.touched) (nodes_of t) (lines_of t) (changed_of b.touched) (changed_of t) h.noted done
               nodes lines changed);
-          made = subst (λ (M : Map). AreEncodingsIfAny M (under_overlay is b.overlay)) (sym same_before) h.made;
+          made = subst (λ (M : Map). AreEncodingsIfAny b.margin M (under_batch is b)) (sym same_before) h.made;
           follows = h.follows;
           begins = h.begins;
         };
+        margin = λ g k. k;
         under_way = λ f. edit_under_way (map_of old) (map_of new) (slot_of old) (slot_of new) (touched_nodes (map_of old) e) f
             (is_edit old new slots e done (touched_nodes (map_of old) e) (edit_differs (map_of old) (map_of new) e done).nodes)
             (nodes_of b.touched) (nodes_of t)
             (λ v on. nodes v ∙ or_left (has (nodes_of b.touched) v) (has (touched_nodes (map_of old) e) v) on)
             (λ v on. nodes v ∙ or_right (has (nodes_of b.touched) v) (has (touched_nodes (map_of old) e) v) on);
       }
+
+-- ---- the margin
+
+-- of the paths of a list under changes, as they are or none of them encoded yet
+named_all : (all : Bool) (is : List Item) → all_named (anew all is) ≡ all_named (anew true is)
+named_all all is = named_anew all is ∙ sym (named_anew true is)
+
+pub margin_made : (g : Margin) → IsTrue (is_margin g) → (roads : RoadMap) (is : List Item) (b : Batch) →
+    Makes roads roads is b (record b { margin = g; all = true }) (Set_margin g) (Ok tt)
+margin_made g most roads is b =
+    let us = under_overlay is b.overlay in
+    let content : with_change (content_under roads is b) (Set_margin g)
+    ≡ Ok (content_on g (map_of roads) (anew true us)) =
+    ap (λ (ps : List Named). Ok (record { map = map_of roads; paths = ps; margin = g })) (named_all b.all us) in
+    record {
+      count = refl;
+      before = refl;
+      made = record {
+        content = content;
+        nodes = λ v. sym (or-false _);
+        lines = λ y. sym (or-false _);
+        given = λ xs h. given_all g xs us;
+      };
+      refused = tt;
+      unchanged = tt;
+      held = λ h. record {
+        undo = h.undo;
+        sound = changes_keep (content_under roads is b) (content_on g (map_of roads) (anew true us)) (Set_margin g) h.sound
+            most content;
+        few = h.few;
+        noted = h.noted;
+        made = unmade_if_any g (map_before roads b.log) us;
+        follows = follows_unmade is us;
+        begins = λ v on. absurd (begins_none us v on);
+      };
+      margin = λ k same off. let never : ⊥ = cc in absurd never;
+      under_way = λ f h. h;
+    }

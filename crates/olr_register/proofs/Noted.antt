@@ -4,14 +4,17 @@ use Rattle.olr_register.proofs.Common.{◌||◌, AllByRecursion, or_right, list_
 use Rattle.olr_register.proofs.Common.{touched_nodes, touched_lines, has, is_path, ChangedLine, changes_of, EditPlan}
 use Rattle.olr_register.proofs.Common.{Item, AreEncodingsIfAny, all_named, nodes_of, lines_of, changed_of, ChangeSet}
 use Rattle.olr_register.proofs.Common.{IsNotedOf, AreEditsNoted, Some, RoadMap, map_of, map_before}
-use Rattle.olr_register.proofs.Common.{under_overlay, IsRegister, CanRenew, Batch, ◌==◌, Contains}
+use Rattle.olr_register.proofs.Common.{under_batch, IsRegister, CanRenew, Batch, ◌==◌, Contains, Margin, IsContent, anew}
+use Rattle.olr_register.proofs.Common.{content_on, follows_unmade, is_margin, map, unmade, Begins, CoverageQuery}
+use Rattle.std.proofs.Common.{IsTrue}
+use Rattle.olr_register.proofs.Listed.{named_anew}
 use Rattle.std.specs.Option.{option_to_list}
 use Rattle.std.proofs.lemmas.Bool.{or_left}
 use Rattle.std.proofs.lemmas.List.Elements.{Contains-append_cases}
 use Rattle.olr_spec.specs.Map.{Add_node, Move_node, Drop_node, Add_line, Set_line, Drop_line, end}
 use Rattle.olr_spec.proofs.ListLemmas.{has_here, Contains-cases}
 use Rattle.olr_spec.proofs.ChangeLemmas.{edit_differs, none_differs, differences_add}
-use Rattle.olr_commands.specs.State.{ArePaths}
+use Rattle.olr_commands.specs.State.{ArePaths, NamesDiffer}
 use Rattle.olr_map.specs.EditPlans.{IsEditPlan, planned_changes}
 use Rattle.olr_paths.specs.Changes.{IsBefore}
 
@@ -107,10 +110,11 @@ are_paths : (is : List Item) → ArePaths (all_named is) → AllByRecursion (λ 
 are_paths [] p = tt
 are_paths (i ∷ is) p = (p.0, are_paths is p.1)
 
-pub is_before : (M N : Map) (T X : List ℕ) (C : List ChangedLine) (is : List Item) → AreEditsNoted M N T X C → IsMap M →
-    ArePaths (all_named is) → AreEncodingsIfAny M is → IsBefore M N T X C is
-is_before M N T X C is noted sound paths made =
+pub is_before : (g : Margin) → IsTrue (is_margin g) → (M N : Map) (T X : List ℕ) (C : List ChangedLine) (is : List Item) → AreEditsNoted M N T X C → IsMap M →
+    ArePaths (all_named is) → AreEncodingsIfAny g M is → IsBefore g M N T X C is
+is_before g most M N T X C is noted sound paths made =
     record {
+      margin = most;
       sound = sound;
       difference = noted.difference;
       starts = noted.starts;
@@ -119,14 +123,39 @@ is_before M N T X C is noted sound paths made =
     }
 
 -- what a commit renews
-pub can_commit : (roads : RoadMap) (is : List Item) (b : Batch) → IsRegister roads is (Some b) →
-    CanRenew (map_before roads b.log) (map_of roads) is (under_overlay is b.overlay) b.touched
-can_commit roads is b h =
+pub can_commit : (g : Margin) (roads : RoadMap) (is : List Item) (b : Batch) → IsRegister g roads is (Some b) →
+    CanRenew b.margin (map_before roads b.log) (map_of roads) is (under_batch is b) b.touched
+can_commit g roads is b h =
     let held = h.held in
     record {
       names = held.sound.names;
       follows = held.follows;
       before =
-          is_before (map_before roads b.log) (map_of roads) (nodes_of b.touched) (lines_of b.touched)
-          (changed_of b.touched) (under_overlay is b.overlay) held.noted h.content.map held.sound.paths held.made;
+          is_before b.margin held.sound.margin (map_before roads b.log) (map_of roads) (nodes_of b.touched)
+          (lines_of b.touched) (changed_of b.touched) (under_batch is b) held.noted h.content.map held.sound.paths held.made;
+    }
+
+-- ---- where the margin is set
+
+pub unmade_if_any : (g : Margin) (M : Map) (is : List Item) → AreEncodingsIfAny g M (map unmade is)
+unmade_if_any g M [] = tt
+unmade_if_any g M (i ∷ is) = (tt, unmade_if_any g M is)
+
+pub begins_none : (is : List Item) (v : CoverageQuery) → ¬ Begins (map unmade is) v
+begins_none [] v h = h
+begins_none (i ∷ is) v (inl h) = h
+begins_none (i ∷ is) v (inr h) = begins_none is v h
+
+-- each path is encoded again, with nothing known
+pub can_set : (g h : Margin) → IsTrue (is_margin h) → (M : Map) (is : List Item) (t : ChangeSet) →
+    changed_of t ≡ [] → IsContent (content_on g M is) → CanRenew h M M is (anew true is) t
+can_set g h most M is t changed sound =
+    let same = sym (named_anew true is) in
+    record {
+      names = subst NamesDiffer same sound.names;
+      follows = follows_unmade is is;
+      before =
+          is_before h most M M (nodes_of t) (lines_of t) (changed_of t) (anew true is)
+          (noted_idle M (nodes_of t) (lines_of t) (changed_of t) changed) sound.map (subst ArePaths same sound.paths)
+          (unmade_if_any h M is);
     }

@@ -1,7 +1,7 @@
 -- Questions about the map: their steps, and the paths that depend on nodes, in terms of the definitions of commands.
 use Rattle.olr_register.proofs.Common.{inl, inr, ◌≡◌, ℕ, true, false, List, [], ◌∷◌, map, Some, None, Ok, Err, refl, ap, ◌∙◌}
 use Rattle.olr_register.proofs.Common.{Map, has_node, list_all, Named, Content, step, Item, AreEncodings, all_named}
-use Rattle.olr_register.proofs.Common.{content_on, ChangeSet, nodes_of, lines_of}
+use Rattle.olr_register.proofs.Common.{content_on, ChangeSet, Margin, nodes_of, lines_of}
 use Rattle.olr_spec.specs.Map.{has_line, No_node, No_line}
 use Rattle.olr_commands.specs.Counts.{Picks}
 use Rattle.olr_commands.specs.Dependents.{DependsOn, Dependents, On_node, On_line}
@@ -14,9 +14,9 @@ use Rattle.olr_register.proofs.States.{state}
 
 -- ---- steps, if no batch is open
 
-module _ (M : Map) (ps : List Named) where
+module _ (g : Margin) (M : Map) (ps : List Named) where
   abbrev c : Content
-  c = record { map = M; paths = ps }
+  c = record { map = M; paths = ps; margin = g }
 
   pub no_node : (v : ℕ) → has_node M v ≡ false → step (state c None) (Show_node v) ≡ Err (Map_fault No_node)
   no_node v off = rw off refl
@@ -49,21 +49,21 @@ module _ (M : Map) (ps : List Named) where
 
 -- ---- the paths that depend on nodes are those that an edit around them would affect
 
-module _ (M : Map) (vs : List ℕ) (t : ChangeSet) (around : IsAround M vs t) where
+module _ (g : Margin) (M : Map) (vs : List ℕ) (t : ChangeSet) (around : IsAround M vs t) where
   abbrev Affected : Item → Type 0
-  Affected = IsAffected M (nodes_of t) (lines_of t)
+  Affected = IsAffected g M (nodes_of t) (lines_of t)
 
-  depends : (i : Item) (m : Made) → i.made ≡ Some m → Affected i → DependsOn M vs i.path
+  depends : (i : Item) (m : Made) → i.made ≡ Some m → Affected i → DependsOn g M vs i.path
   depends i m made (By_name none) = let never : ⊥ = cc in absurd never
   depends i m made (By_node v on foot) = On_node v ((around.nodes v).0 on) foot
   depends i m made (By_line x on own) = let l = (around.lines x).0 on in On_line x l.0 l.1 own
 
-  affected : (i : Item) → DependsOn M vs i.path → Affected i
+  affected : (i : Item) → DependsOn g M vs i.path → Affected i
   affected i (On_node v on foot) = By_node v ((around.nodes v).1 on) foot
   affected i (On_line x there at own) = By_line x ((around.lines x).1 (there, at)) own
 
-  picked : (is js : List Item) → AreEncodings M is → Picks Affected is js →
-      Picks (λ p. DependsOn M vs p.path) (all_named is) (all_named js)
+  picked : (is js : List Item) → AreEncodings g M is → Picks Affected is js →
+      Picks (λ p. DependsOn g M vs p.path) (all_named is) (all_named js)
   picked [] js a h = ap (λ (ks : List Item). all_named ks) h
   picked (i ∷ is) js a (inl h) =
       inl (depends i a.0.0 a.0.1 h.0, (all_named h.1.0, picked is h.1.0 a.1 h.1.1, ap (λ (ks : List Item). all_named ks) h.1.2))
@@ -73,6 +73,6 @@ module _ (M : Map) (vs : List ℕ) (t : ChangeSet) (around : IsAround M vs t) wh
   names_same [] = refl
   names_same (j ∷ js) = ap (λ (ns : List (List ℕ)). j.name ∷ ns) (names_same js)
 
-  pub dependents : (is : List Item) (names : List (List ℕ)) → AreEncodings M is →
-      AffectedNames M (nodes_of t) (lines_of t) is names → Dependents (content_on M is) vs names
+  pub dependents : (is : List Item) (names : List (List ℕ)) → AreEncodings g M is →
+      AffectedNames g M (nodes_of t) (lines_of t) is names → Dependents (content_on g M is) vs names
   dependents is names a h = (all_named h.0, picked is h.0 a h.1, h.2 ∙ names_same h.0)

@@ -12,7 +12,8 @@ use Rattle.olr_register.proofs.Common.{Item, IsEncodingOf, AreEncodings, all_nam
 use Rattle.olr_register.proofs.Common.{set_item, IsRenewal, nodes_of, lines_of, changed_of}
 use Rattle.olr_register.proofs.Common.{ChangeSet, follows_self, has_name, Registered, content_on, items, kept_of}
 use Rattle.olr_register.proofs.Common.{HasBounds, IsKeptRight, CanRenewAfter, MayReport, ByContent, Lacks, Answered}
-use Rattle.olr_register.proofs.Common.{IsNotedOf, encodes, begins_drop, append-nil, Option}
+use Rattle.olr_register.proofs.Common.{IsNotedOf, encodes, begins_drop, append-nil, Option, Margin, Set_margin, anew, is_margin, CanRenew, Memory}
+use Rattle.std.proofs.Common.{IsTrue}
 use Rattle.olr_register.specs.Contents.{option_batch}
 use Rattle.olr_search.specs.Counts.{raised_work}
 use Rattle.olr_paths.specs.Reencoded.{entries_of}
@@ -22,9 +23,9 @@ use Rattle.olr_commands.specs.Reply.{IsPaths}
 use Rattle.olr_commands.specs.Counts.{CountIs, Raises}
 use Rattle.olr_commands.proofs.CountLemmas.{paths_raise}
 use Rattle.olr_register.proofs.Changing.{add_ok, set_ok, drop_ok}
-use Rattle.olr_register.proofs.Counting.{Rise, counted_changes, none_affected, rise_none, rise_on}
-use Rattle.olr_register.proofs.Listed.{given_at_first, each_left, each_add, each_set, each_encoded}
-use Rattle.olr_register.proofs.Noted.{noted_edit, is_before}
+use Rattle.olr_register.proofs.Counting.{Rise, counted_all, counted_changes, none_affected, rise_none, rise_on}
+use Rattle.olr_register.proofs.Listed.{given_all, given_none, given_at_first, each_left, each_add, each_set, each_encoded, named_anew}
+use Rattle.olr_register.proofs.Noted.{begins_none, noted_edit, is_before, can_set}
 use Rattle.olr_register.proofs.Outcomes.{answered_counted, answered_refused, Accepts}
 use Rattle.olr_register.proofs.Renewed.{remade_made, made_if_any}
 use Rattle.olr_register.proofs.Replies.{planned_changes, reported_add, reported_set, reported_drop}
@@ -51,8 +52,18 @@ drop_affects c name p (By_name h) = absurd cc
 drop_affects c name p (By_node v h f) = absurd cc
 drop_affects c name p (By_line x h f) = absurd cc
 
+-- what is required of a renewal with another margin
+pub record MarginRequires (later_g : Margin) (roads : RoadMap) (is : List Item) (t : ChangeSet) (f : DistanceBounds) : Type 0
+  where
+    pub renewable : (M : Map) × CanRenew later_g M (map_of roads) is (anew true is) t
+    pub bounded : HasBounds roads (nodes_of t) (anew true is) f
+
+-- a margin that is not set, since memory lacks
+pub margin_lacks : (c : Content) (later_g : Margin) → IsRefusal (state c None) (Make (Set_margin later_g)) Memory
+margin_lacks c later_g = replies.Lacks refl refl
+
 -- a register with no batch open
-module _ (r : Inside) {x : Registered} (view : of_parts r.roads (items r.paths) r.batch r.work ≡ x)
+module _ (r : Inside) {x : Registered} (view : of_parts r.margin r.roads (items r.paths) r.batch r.work ≡ x)
     (none : x.kept.batch ≡ None) where
   abbrev M : Map
   M = map_of r.roads
@@ -60,8 +71,11 @@ module _ (r : Inside) {x : Registered} (view : of_parts r.roads (items r.paths) 
   abbrev is : List Item
   is = items r.paths
 
+  abbrev g : Margin
+  g = r.margin
+
   abbrev c : Content
-  c = content_on M is
+  c = content_on g M is
 
   shut : r.batch ≡ None
   shut = by r.batch (ap (λ (y : Registered). y.kept.batch) view ∙ none) where
@@ -70,27 +84,27 @@ module _ (r : Inside) {x : Registered} (view : of_parts r.roads (items r.paths) 
     by (Some b) h = absurd cc
 
   -- with another map that is the same
-  pub same_map : (later : RoadMap) → map_of later ≡ M → of_parts later is r.batch r.work ≡ x
+  pub same_map : (later : RoadMap) → map_of later ≡ M → of_parts g later is r.batch r.work ≡ x
   same_map later map = rw (← view, shut, map) refl
 
   pub refused_now : (y : Change) (new : Registered) (q : Result Reply CommandFault) (f : CommandFault) → new ≡ x →
       IsErrAnd q (λ g. g ≡ f) → IsRefusal (state c None) (Make y) (command_fault_of f) → Answered x (Make y) q new
   refused_now y new q f same failed why = answered_refused x new (Make y) q f same failed (rw (← view, shut) why)
 
-  accepted_now : (y : Change) (later : RoadMap) (js : List Item) (v : Work) (q : Reply) (n : ℕ) →
-      with_change c y ≡ Ok (content_on (map_of later) js) →
-      IsPaths (reply_of q) (Differences c (content_on (map_of later) js)) →
+  accepted_now : (k : Margin) (y : Change) (later : RoadMap) (js : List Item) (v : Work) (q : Reply) (n : ℕ) →
+      with_change c y ≡ Ok (content_on k (map_of later) js) →
+      IsPaths (reply_of q) (Differences c (content_on k (map_of later) js)) →
       CountIs (Affects c (y ∷ [])) (all_named js) n → Rise r.work v n →
-      (IsFalse (encodes false (Make y)) → v ≡ r.work) → Answered x (Make y) (Ok q) (of_parts later js r.batch v)
-  accepted_now y later js v q n is_made reply raised rise same =
-      let new : Registered = of_parts later js None v in
-      rw (← view, shut) (answered_counted (of_parts r.roads is None r.work) new (Make y) q n
-      (in_states (kept_of r.roads is None) (Accepts new (Make y) q n)
-      ((state (content_on (map_of later) js) None, (refl, tt), (ap at_once is_made, reply)), raised))
+      (IsFalse (encodes false (Make y)) → v ≡ r.work) → Answered x (Make y) (Ok q) (of_parts k later js r.batch v)
+  accepted_now k y later js v q n is_made reply raised rise same =
+      let new : Registered = of_parts k later js None v in
+      rw (← view, shut) (answered_counted (of_parts g r.roads is None r.work) new (Make y) q n
+      (in_states (kept_of g r.roads is None) (Accepts new (Make y) q n)
+      ((state (content_on k (map_of later) js) None, (refl, tt), (ap at_once is_made, reply)), raised))
       rise same)
 
-  module _ (h : IsKeptRight r.roads is r.batch r.bounds) where
-    right : IsKeptRight r.roads is None r.bounds
+  module _ (h : IsKeptRight g r.roads is r.batch r.bounds) where
+    right : IsKeptRight g r.roads is None r.bounds
     right = right_as r shut h
 
     pub kept_bounds : HasBounds r.roads [] is r.bounds
@@ -98,77 +112,120 @@ module _ (r : Inside) {x : Registered} (view : of_parts r.roads (items r.paths) 
 
     -- where nothing changes but the bounds
     pub same_right : (later : RoadMap) (js : List Item) (f : DistanceBounds) → map_of later ≡ M → js ≡ is →
-        HasBounds later [] js f → IsKeptRight later js r.batch f
+        HasBounds later [] js f → IsKeptRight g later js r.batch f
     same_right later js f map list bounded =
         rw shut (record {
-          register = rw list (register_moved r.roads later is None None map tt right.register);
+          register = rw list (register_moved g r.roads later is None None map tt tt right.register);
           bounded = bounded;
         })
 
     still_right : (y : Change) (later : RoadMap) (js : List Item) (f : DistanceBounds) → HasCoords (Make y) →
-        with_change c y ≡ Ok (content_on (map_of later) js) → AreEncodings (map_of later) js →
-        HasBounds later [] js f → IsKeptRight later js r.batch f
+        with_change c y ≡ Ok (content_on g (map_of later) js) → AreEncodings g (map_of later) js →
+        HasBounds later [] js f → IsKeptRight g later js r.batch f
     still_right y later js f placed ok made bounded = rw shut (record {
       register = record {
-        content = changes_keep c (content_on (map_of later) js) y right.register.content placed ok;
+        content = changes_keep c (content_on g (map_of later) js) y right.register.content placed ok;
         made = made;
         held = tt;
+        margin = tt;
       };
       bounded = bounded;
     })
 
     -- ---- edits
 
-    pub can_edit : (e : Edit) (t : ChangeSet) → IsNotedOf M e t → CanRenewAfter M e is t
+    pub can_edit : (e : Edit) (t : ChangeSet) → IsNotedOf M e t → CanRenewAfter g M e is t
     can_edit e t noted N done = record {
       names = right.register.content.names;
       follows = follows_self is right.register.content.names;
       before =
-          is_before M N (nodes_of t) (lines_of t) (changed_of t) is
+          is_before g right.register.content.margin M N (nodes_of t) (lines_of t) (changed_of t) is
           (noted_edit M N e (nodes_of t) (lines_of t) (changed_of t) done noted.nodes noted.lines noted.changed)
-          right.register.content.map right.register.content.paths (made_if_any M is right.register.made);
+          right.register.content.map right.register.content.paths (made_if_any g M is right.register.made);
     }
 
     module _ (e : Edit) (later : RoadMap) (done : edited M e ≡ Ok (map_of later)) where
       -- where there are no paths
-      bare_ok : is ≡ [] → with_change c (On_map e) ≡ Ok (content_on (map_of later) [])
-      bare_ok bare = rw bare (ap (with_map (content_on M [])) done)
+      bare_ok : is ≡ [] → with_change c (On_map e) ≡ Ok (content_on g (map_of later) [])
+      bare_ok bare = rw bare (ap (with_map (content_on g M [])) done)
 
       pub bare_right : (f : DistanceBounds) → HasCoord e → is ≡ [] → HasBounds later [] [] f →
-          IsKeptRight later is r.batch f
+          IsKeptRight g later is r.batch f
       bare_right f placed bare bounded = rw bare (still_right (On_map e) later [] f placed (bare_ok bare) tt bounded)
 
       pub bare_done : (q : Reply) → is ≡ [] → reply_of q ≡ replies.Paths [] →
-          Answered x (Make (On_map e)) (Ok q) (of_parts later is r.batch r.work)
+          Answered x (Make (On_map e)) (Ok q) (of_parts g later is r.batch r.work)
       bare_done q bare says =
-          subst (λ (ks : List Item). Answered x (Make (On_map e)) (Ok q) (of_parts later ks r.batch r.work)) (sym bare)
-          (accepted_now (On_map e) later [] r.work q 0 (bare_ok bare) (rw says refl) refl (rise_none r.work)
+          subst (λ (ks : List Item). Answered x (Make (On_map e)) (Ok q) (of_parts g later ks r.batch r.work)) (sym bare)
+          (accepted_now g (On_map e) later [] r.work q 0 (bare_ok bare) (rw says refl) refl (rise_none r.work)
           (λ off. let no : true ≡ false = off in absurd cc))
 
       module _ (t : ChangeSet) (noted : IsNotedOf M e t) (js : List Item) (n : Renewed)
-          (renewal : IsRenewal (map_of later) t is is js n) where
-        edit_ok : with_change c (On_map e) ≡ Ok (content_on (map_of later) js)
+          (renewal : IsRenewal g (map_of later) t is is js n) where
+        edit_ok : with_change c (On_map e) ≡ Ok (content_on g (map_of later) js)
         edit_ok =
             ap (with_map c) done
-            ∙ ap (λ (ps : List Named). Ok (record { map = map_of later; paths = ps })) (sym renewal.named)
+            ∙ ap (λ (ps : List Named). Ok (record { map = map_of later; paths = ps; margin = g })) (sym renewal.named)
 
-        pub edit_right : (f : DistanceBounds) → HasCoord e → HasBounds later [] js f → IsKeptRight later js r.batch f
+        pub edit_right : (f : DistanceBounds) → HasCoord e → HasBounds later [] js f → IsKeptRight g later js r.batch f
         edit_right f placed bounded =
-            still_right (On_map e) later js f placed edit_ok (remade_made (map_of later) is js renewal.remade) bounded
+            still_right (On_map e) later js f placed edit_ok (remade_made g (map_of later) is js renewal.remade) bounded
 
         pub edit_done : (q : Reply) → reply_of q ≡ replies.Paths (entries_of n) →
-            Answered x (Make (On_map e)) (Ok q) (of_parts later js r.batch (raised_work r.work n.work))
+            Answered x (Make (On_map e)) (Ok q) (of_parts g later js r.batch (raised_work r.work n.work))
         edit_done q says =
             let count = renewal.counted M (can_edit e t noted (map_of later) done).before in
-            accepted_now (On_map e) later js _ q count.0 edit_ok
-            (rw says (planned_changes M (map_of later) is js (entries_of n) right.register.content
-            right.register.made (remade_made (map_of later) is js renewal.remade) renewal.reported))
+            accepted_now g (On_map e) later js _ q count.0 edit_ok
+            (rw says (planned_changes g g M (map_of later) is js (entries_of n) right.register.content
+            right.register.made (remade_made g (map_of later) is js renewal.remade) renewal.reported))
             (counted_changes c (On_map e ∷ []) (nodes_of t) (lines_of t)
             (λ v. noted.nodes v ∙ ap (λ (vs : List ℕ). has vs v) (sym (append-nil (touched_nodes M e))))
             (λ y. noted.lines y ∙ ap (λ (ys : List ℕ). has ys y) (sym (append-nil (touched_lines e)))) is count.0 count.1
-            (given_at_first M is right.register.made) (all_named js) renewal.named)
+            (given_none [] (On_map e) is (λ q. refl) (given_at_first g M is right.register.made)) (all_named js) renewal.named)
             (rise_on r.work n.work count.0 count.2)
             (λ off. let no : true ≡ false = off in absurd cc)
+
+    -- ---- the margin
+
+    pub margin_requires : (later_g : Margin) → IsTrue (is_margin later_g) → (t : ChangeSet) → nodes_of t ≡ [] →
+        changed_of t ≡ [] → MarginRequires later_g r.roads is t r.bounds
+    margin_requires later_g most t nodes idle = record {
+      renewable = (M, can_set g later_g most M is t idle right.register.content);
+      bounded = record {
+        under_way = rw nodes right.bounded.under_way;
+        sources = λ v on. absurd (begins_none is v on);
+      };
+    }
+
+    module _ (later_g : Margin) (most : IsTrue (is_margin later_g)) (t : ChangeSet) (idle : changed_of t ≡ []) (js : List Item)
+        (n : Renewed) (renewal : IsRenewal later_g M t is (anew true is) js n) where
+      margin_ok : with_change c (Set_margin later_g) ≡ Ok (content_on later_g M js)
+      margin_ok =
+          ap (λ (ps : List Named). Ok (record { map = M; paths = ps; margin = later_g }))
+          (sym (renewal.named ∙ named_anew true is))
+
+      pub margin_right : (f : DistanceBounds) → HasBounds r.roads [] js f → IsKeptRight later_g r.roads js r.batch f
+      margin_right f bounded = rw shut (record {
+        register = record {
+          content = changes_keep c (content_on later_g M js) (Set_margin later_g) right.register.content most margin_ok;
+          made = remade_made later_g M (anew true is) js renewal.remade;
+          held = tt;
+          margin = tt;
+        };
+        bounded = bounded;
+      })
+
+      pub margin_done : (q : Reply) → reply_of q ≡ replies.Paths (entries_of n) →
+          Answered x (Make (Set_margin later_g)) (Ok q) (of_parts later_g r.roads js r.batch (raised_work r.work n.work))
+      margin_done q says =
+          let count = renewal.counted M (can_set g later_g most M is t idle right.register.content).before in
+          accepted_now later_g (Set_margin later_g) r.roads js _ q count.0 margin_ok
+          (rw says (planned_changes g later_g M M is js (entries_of n) right.register.content right.register.made
+          (remade_made later_g M (anew true is) js renewal.remade) renewal.reported))
+          (subst (λ (ps : List Named). CountIs (Affects c (Set_margin later_g ∷ [])) ps count.0) (sym renewal.named)
+          (counted_all later_g M (nodes_of t) (lines_of t) c (Set_margin later_g ∷ []) is count.0 count.1 (given_all later_g [] is)))
+          (rise_on r.work n.work count.0 count.2)
+          (λ off. let no : true ≡ false = off in absurd cc)
 
     -- ---- paths
 
@@ -176,23 +233,23 @@ module _ (r : Inside) {x : Registered} (view : of_parts r.roads (items r.paths) 
       abbrev left : List Item
       left = filter (λ i. not (same_name i.name name)) is
 
-      pub drop_right : has_name is name ≡ true → js ≡ left → IsKeptRight r.roads js r.batch r.bounds
+      pub drop_right : has_name is name ≡ true → js ≡ left → IsKeptRight g r.roads js r.batch r.bounds
       drop_right there list =
-          rw list (still_right (Drop_path name) r.roads left r.bounds tt (drop_ok M is name there)
-          (each_left (each_encoded M) (λ i. not (same_name i.name name)) is right.register.made) (record {
+          rw list (still_right (Drop_path name) r.roads left r.bounds tt (drop_ok g M is name there)
+          (each_left (each_encoded g M) (λ i. not (same_name i.name name)) is right.register.made) (record {
             under_way = right.bounded.under_way;
             sources = λ v on. right.bounded.sources v (begins_drop (λ i. not (same_name i.name name)) is v on);
           }))
 
       pub drop_done : (q : Reply) → has_name is name ≡ true → js ≡ left → reply_of q ≡ replies.Paths [] →
-          Answered x (Make (Drop_path name)) (Ok q) (of_parts r.roads js r.batch r.work)
+          Answered x (Make (Drop_path name)) (Ok q) (of_parts g r.roads js r.batch r.work)
       drop_done q there list says =
-          rw list (accepted_now (Drop_path name) r.roads left r.work q 0 (drop_ok M is name there)
-          (rw says (reported_drop M is name right.register.content right.register.made))
+          rw list (accepted_now g (Drop_path name) r.roads left r.work q 0 (drop_ok g M is name there)
+          (rw says (reported_drop g M is name right.register.content right.register.made))
           (none_affected c (Drop_path name ∷ []) (drop_affects c name) (all_named left)) (rise_none r.work)
           (λ off. refl))
 
-      module _ (path : Path) (m : Made) (good : is_path path.lines ≡ true) (encoded : IsEncodingOf M path m)
+      module _ (path : Path) (m : Made) (good : is_path path.lines ≡ true) (encoded : IsEncodingOf g M path m)
         where
           abbrev added : List Item
           added = is ++ record { name = name; path = path; made = Some m } ∷ []
@@ -201,16 +258,16 @@ module _ (r : Inside) {x : Registered} (view : of_parts r.roads (items r.paths) 
           replaced = map (set_item name path (Some m)) is
 
           pub add_right : (f : DistanceBounds) → has_name is name ≡ false → js ≡ added → HasBounds r.roads [] js f →
-              IsKeptRight r.roads js r.batch f
+              IsKeptRight g r.roads js r.batch f
           add_right f free list bounded =
-              still_right (Add_path name path) r.roads js f tt (rw list (add_ok M is name path (Some m) free good))
-              (rw list (each_add (each_encoded M) is _ (m, refl, encoded) right.register.made)) bounded
+              still_right (Add_path name path) r.roads js f tt (rw list (add_ok g M is name path (Some m) free good))
+              (rw list (each_add (each_encoded g M) is _ (m, refl, encoded) right.register.made)) bounded
 
           pub set_right : (f : DistanceBounds) → has_name is name ≡ true → js ≡ replaced → HasBounds r.roads [] js f →
-              IsKeptRight r.roads js r.batch f
+              IsKeptRight g r.roads js r.batch f
           set_right f there list bounded =
-              still_right (Set_path name path) r.roads js f tt (rw list (set_ok M is name path (Some m) there good))
-              (rw list (each_set (each_encoded M) (each_encoded M) name path (Some m)
+              still_right (Set_path name path) r.roads js f tt (rw list (set_ok g M is name path (Some m) there good))
+              (rw list (each_set (each_encoded g M) (each_encoded g M) name path (Some m)
               (λ i e. (m, refl, encoded)) (λ i e p. p) is right.register.made)) bounded
 
           module _ (w : Work) (q : Reply) (es : List replies.Entry) (says : reply_of q ≡ replies.Paths es)
@@ -222,27 +279,27 @@ module _ (r : Inside) {x : Registered} (view : of_parts r.roads (items r.paths) 
             before = record { content = right.register.content; batch = tt }
 
             -- a path that is added or set is encoded, and no other
-            path_done : (y : Change) (ks : List Item) → js ≡ ks → with_change c y ≡ Ok (content_on M ks) →
-                Raises (state c None) (Make y) (state (content_on M ks) None) 1 →
-                Differences c (content_on M ks) es → encodes false (Make y) ≡ true →
-                Answered x (Make y) (Ok q) (of_parts r.roads js r.batch v)
+            path_done : (y : Change) (ks : List Item) → js ≡ ks → with_change c y ≡ Ok (content_on g M ks) →
+                Raises (state c None) (Make y) (state (content_on g M ks) None) 1 →
+                Differences c (content_on g M ks) es → encodes false (Make y) ≡ true →
+                Answered x (Make y) (Ok q) (of_parts g r.roads js r.batch v)
             path_done y ks list ok raised differ counted =
-                rw list (accepted_now y r.roads ks v q 1 ok (rw says differ) raised (rise_on r.work w 1 (omega (arith, one)))
+                rw list (accepted_now g y r.roads ks v q 1 ok (rw says differ) raised (rise_on r.work w 1 (omega (arith, one)))
                 (λ off. let no : true ≡ false = sym counted ∙ off in absurd cc))
 
             pub add_done : has_name is name ≡ false → js ≡ added → es ≡ entry name m.answer ∷ [] →
-                Answered x (Make (Add_path name path)) (Ok q) (of_parts r.roads js r.batch v)
+                Answered x (Make (Add_path name path)) (Ok q) (of_parts g r.roads js r.batch v)
             add_done free list listed =
-                let ok = add_ok M is name path (Some m) free good in
+                let ok = add_ok g M is name path (Some m) free good in
                 path_done (Add_path name path) added list ok
-                ((paths_raise (state c None) (state (content_on M added) None) name path before refl).0 (ap at_once ok))
-                (reported_add M is name path m es right.register.content right.register.made free encoded listed) refl
+                ((paths_raise (state c None) (state (content_on g M added) None) name path before refl).0 (ap at_once ok))
+                (reported_add g M is name path m es right.register.content right.register.made free encoded listed) refl
 
             pub set_done : has_name is name ≡ true → js ≡ replaced → ((answer_in is name ≡ Some m.answer) × (es ≡ []))
                 ⊎ ((answer_in is name ≢ Some m.answer) × (es ≡ entry name m.answer ∷ [])) →
-                Answered x (Make (Set_path name path)) (Ok q) (of_parts r.roads js r.batch v)
+                Answered x (Make (Set_path name path)) (Ok q) (of_parts g r.roads js r.batch v)
             set_done there list listed =
-                let ok = set_ok M is name path (Some m) there good in
+                let ok = set_ok g M is name path (Some m) there good in
                 path_done (Set_path name path) replaced list ok
-                ((paths_raise (state c None) (state (content_on M replaced) None) name path before refl).1 (ap at_once ok))
-                (reported_set M is name path m es right.register.content right.register.made there encoded listed) refl
+                ((paths_raise (state c None) (state (content_on g M replaced) None) name path before refl).1 (ap at_once ok))
+                (reported_set g M is name path m es right.register.content right.register.made there encoded listed) refl

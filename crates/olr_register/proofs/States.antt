@@ -2,7 +2,8 @@
 use Rattle.olr_register.proofs.Common.{◌≡◌, List, Option, Some, None, sym, subst, IfSome, Map, RoadMap, Work}
 use Rattle.olr_register.proofs.Common.{Content, IsContent, Change, State, Item, AreEncodings}
 use Rattle.olr_register.proofs.Common.{RegisterState, IsBatchOf, Represents, Registered, content_on, map_kept, kept_of}
-use Rattle.olr_register.proofs.Common.{IsHeld, IsKeptRight, IsRegister, items}
+use Rattle.olr_register.proofs.Common.{IsHeld, IsKeptRight, IsRegister, Margin, items}
+use Rattle.olr_register.specs.Contents.{KeepsMargin}
 use Rattle.olr_register.specs.RegisterState.{Batch, RepresentsBatch}
 use Rattle.olr_register.specs.declared.batch.Batch.{Batch as Open}
 use Rattle.olr_register.specs.declared.register.Register.TheInside.{Inside}
@@ -14,22 +15,24 @@ abbrev pub register_of : Content → Option Batch → Work → Registered
 register_of c o w = record { kept = record { content = c; batch = o }; work = w }
 
 -- by the fields of the struct
-abbrev pub of_parts : RoadMap → List Item → Option Open → Work → Registered
-of_parts roads is b w = record { kept = kept_of roads is b; work = w }
+abbrev pub of_parts : Margin → RoadMap → List Item → Option Open → Work → Registered
+of_parts g roads is b w = record { kept = kept_of g roads is b; work = w }
 
 -- what is true of a register, on the same map and list with another batch
-pub register_moved : (old new : RoadMap) (is : List Item) (o p : Option Open) → map_kept new p ≡ map_kept old o →
-    IfSome p (IsHeld new is) → IsRegister old is o → IsRegister new is p
-register_moved old new is o p same held h = record {
-  content = subst (λ (M : Map). IsContent (content_on M is)) (sym same) h.content;
-  made = subst (λ (M : Map). AreEncodings M is) (sym same) h.made;
+pub register_moved : (g : Margin) (old new : RoadMap) (is : List Item) (o p : Option Open) →
+    map_kept new p ≡ map_kept old o → IfSome p (IsHeld new is) → IfSome p (KeepsMargin g) → IsRegister g old is o →
+    IsRegister g new is p
+register_moved g old new is o p same held margin h = record {
+  content = subst (λ (M : Map). IsContent (content_on g M is)) (sym same) h.content;
+  made = subst (λ (M : Map). AreEncodings g M is) (sym same) h.made;
   held = held;
+  margin = margin;
 }
 
 -- what is true of a register, in terms of what its batch is
-pub right_as : (r : Inside) {o : Option Open} → r.batch ≡ o → IsKeptRight r.roads (items r.paths) r.batch r.bounds →
-    IsKeptRight r.roads (items r.paths) o r.bounds
-right_as r is = subst (λ (o : Option Open). IsKeptRight r.roads (items r.paths) o r.bounds) is
+pub right_as : (r : Inside) {o : Option Open} → r.batch ≡ o →
+    IsKeptRight r.margin r.roads (items r.paths) r.batch r.bounds → IsKeptRight r.margin r.roads (items r.paths) o r.bounds
+right_as r is = subst (λ (o : Option Open). IsKeptRight r.margin r.roads (items r.paths) o r.bounds) is
 
 -- P holds of each state that they represent
 abbrev pub InStates : Content → Option Batch → (State → Type 0) → Type 0

@@ -11,7 +11,7 @@ use Rattle.olr_register.proofs.States.{state, of_parts}
 
 module _ (r : Inside) (q : Command) where
   abbrev with_batch : Option Open → Registered
-  with_batch o = of_parts r.roads (items r.paths) o r.work
+  with_batch o = of_parts r.margin r.roads (items r.paths) o r.work
 
   pub open_refused : (f : CommandFault) → is_some r.batch ≡ true →
       ((d : Content) (xs : List Change) → step (state d (Some xs)) q ≡ Err (command_fault_of f)) →
@@ -25,7 +25,7 @@ module _ (r : Inside) (q : Command) where
 
   module _ (shut : is_some r.batch ≡ false) where
     abbrev c : Content
-    c = content_on (map_of r.roads) (items r.paths)
+    c = content_on r.margin (map_of r.roads) (items r.paths)
 
     pub shut_refused : (a : Result Reply CommandFault) (f : CommandFault) → IsErrAnd a (λ g. g ≡ f) →
         IsRefusal (state c None) q (command_fault_of f) → Answered (with_batch r.batch) q a (with_batch r.batch)

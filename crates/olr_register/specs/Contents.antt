@@ -1,16 +1,19 @@
 -- What a register stores, and what is true of it.
---     content_on M is, content_under roads is b      the content of a map and a list;  the content after an open batch
+--     content_on g M is, under_batch is b, content_under roads is b      the content of a margin, a map and a list;  the
+--         list and the content after an open batch
 --     known_in made      the known coverage queries of results, if there are some
 --     AreEditsNoted M N T X C      what is recorded of edits that lead from M to N
---     IsHeld, IsRegister      what is true of an open batch, and of map, list and batch
+--     IsHeld, IsRegister      what is true of an open batch, and of margin, map, list and batch
+--     KeepsMargin g b      the batch has the margin g, unless one of its changes sets another
 --     HasBounds roads T is bounds      each coverage query of the list is a source of the bounds, and once they are settled
 --         they are right on the map, if the nodes T are reopened before
 --     touched_in batch      the nodes that the edits of an open batch touched
 --     IsKeptRight      what is true of the whole
---     CanRenew M N is ls t      the list ls, which the changes of a batch made of the list is, can be renewed after
+--     CanRenew g M N is ls t      the list ls, which the changes of a batch made of the list is, can be renewed after
 --         edits t that led from M to N
-use Rattle.std.specs.Prelude.{ℕ, ◌≤◌, List, [], map, Contains, Option, Some, None, is_none, IfSome, IsTrue}
+use Rattle.std.specs.Prelude.{◌≡◌, ℕ, ◌≤◌, List, [], map, Contains, Option, Some, None, is_none, IfSome, IsTrue, IsFalse}
 use Rattle.olr_spec.specs.Map.{Map, has}
+use Rattle.olr_spec.specs.Margins.{Margin}
 use Rattle.olr_spec.specs.Detours.{ChangedLine, Difference}
 use Rattle.olr_spec.specs.Queries.{CoverageQuery, KnownQuery}
 use Rattle.olr_map.specs.RoadMaps.{map_of, slot_of, CanUndoAll, map_before}
@@ -21,6 +24,7 @@ use Rattle.olr_near.specs.declared.distance_bounds.DistanceBounds.{DistanceBound
 use Rattle.olr_commands.specs.State.{Content, IsContent, NamesDiffer, full}
 use Rattle.olr_list.specs.Items.{Item, Made, AreEncodings, AreEncodingsIfAny, all_named}
 use Rattle.olr_paths.specs.Changes.{Follows, IsBefore}
+use Rattle.olr_list.specs.Changes.{anew}
 use Rattle.olr_list.specs.Origins.{Begins}
 use Rattle.olr_list.specs.Overlaid.{under_overlay}
 use Rattle.olr_list.specs.ChangeSets.{nodes_of, lines_of, changed_of}
@@ -33,25 +37,30 @@ use Rattle.olr_register.specs.declared.batch.Batch.{Batch}
 abbrev pub held_of : Item → kept.Held
 held_of i = record { name = i.name; path = i.path; given = is_none i.made }
 
-abbrev pub content_on : Map → List Item → Content
-content_on M is = record { map = M; paths = all_named is }
+abbrev pub content_on : Margin → Map → List Item → Content
+content_on g M is = record { map = M; paths = all_named is; margin = g }
+
+-- if it set the margin, no path is encoded yet
+abbrev pub under_batch : List Item → Batch → List Item
+under_batch is b = anew b.all (under_overlay is b.overlay)
 
 abbrev pub content_under : RoadMap → List Item → Batch → Content
-content_under roads is b = content_on (map_of roads) (under_overlay is b.overlay)
+content_under roads is b = content_on b.margin (map_of roads) (under_batch is b)
 
 -- with the list ls under its changes
-abbrev pub batch_as : RoadMap → List Item → ℕ → ChangeSet → kept.Batch
-batch_as roads ls count touched =
+abbrev pub batch_as : RoadMap → List Item → Margin → ℕ → ChangeSet → kept.Batch
+batch_as roads ls margin count touched =
     record {
       map = map_of roads;
       paths = map held_of ls;
+      margin = margin;
       count = count;
       nodes = nodes_of touched;
       lines = lines_of touched;
     }
 
 abbrev pub batch_of : RoadMap → List Item → Batch → kept.Batch
-batch_of roads is b = batch_as roads (under_overlay is b.overlay) b.count b.touched
+batch_of roads is b = batch_as roads (under_batch is b) b.margin b.count b.touched
 
 -- while a batch is open, this is the map to which its log leads back
 abbrev pub map_kept : RoadMap → Option Batch → Map
@@ -62,10 +71,10 @@ abbrev pub option_batch : RoadMap → List Item → Option Batch → Option kept
 option_batch roads is None = None
 option_batch roads is (Some b) = Some (batch_of roads is b)
 
-abbrev pub kept_of : RoadMap → List Item → Option Batch → kept.RegisterState
-kept_of roads is batch =
+abbrev pub kept_of : Margin → RoadMap → List Item → Option Batch → kept.RegisterState
+kept_of g roads is batch =
     record {
-      content = content_on (map_kept roads batch) is;
+      content = content_on g (map_kept roads batch) is;
       batch = option_batch roads is batch;
     }
 
@@ -82,24 +91,29 @@ pub record AreEditsNoted (M N : Map) (T X : List ℕ) (C : List ChangedLine) : T
   pub starts : (c : ChangedLine) → Contains C c → IsTrue (has T c.from)
 
 -- with the list ls under its changes
-pub record IsHeldAs (roads : RoadMap) (before ls : List Item) (log : UndoLog) (count : ℕ) (touched : ChangeSet) : Type 0
+pub record IsHeldAs (g : Margin) (roads : RoadMap) (before ls : List Item) (log : UndoLog) (count : ℕ)
+    (touched : ChangeSet) : Type 0
   where
     pub undo : CanUndoAll roads log
-    pub sound : IsContent (content_on (map_of roads) ls)
+    pub sound : IsContent (content_on g (map_of roads) ls)
     pub few : count ≤ full
     pub noted : AreEditsNoted (map_before roads log) (map_of roads) (nodes_of touched) (lines_of touched)
         (changed_of touched)
-    pub made : AreEncodingsIfAny (map_before roads log) ls
+    pub made : AreEncodingsIfAny g (map_before roads log) ls
     pub follows : Follows before ls
     pub begins : (l : CoverageQuery) → Begins ls l → Begins before l
 
 abbrev pub IsHeld : RoadMap → List Item → Batch → Type 0
-IsHeld roads before b = IsHeldAs roads before (under_overlay before b.overlay) b.log b.count b.touched
+IsHeld roads before b = IsHeldAs b.margin roads before (under_batch before b) b.log b.count b.touched
 
-pub record IsRegister (roads : RoadMap) (is : List Item) (batch : Option Batch) : Type 0 where
-  pub content : IsContent (content_on (map_kept roads batch) is)
-  pub made : AreEncodings (map_kept roads batch) is
+abbrev pub KeepsMargin : Margin → Batch → Type 0
+KeepsMargin g b = IsFalse b.all → b.margin ≡ g
+
+pub record IsRegister (g : Margin) (roads : RoadMap) (is : List Item) (batch : Option Batch) : Type 0 where
+  pub content : IsContent (content_on g (map_kept roads batch) is)
+  pub made : AreEncodings g (map_kept roads batch) is
   pub held : IfSome batch (IsHeld roads is)
+  pub margin : IfSome batch (KeepsMargin g)
 
 abbrev pub touched_in : Option Batch → List ℕ
 touched_in None = []
@@ -109,11 +123,12 @@ pub record HasBounds (roads : RoadMap) (T : List ℕ) (is : List Item) (bounds :
   pub under_way : IsUnderWay (map_of roads) (slot_of roads) T bounds
   pub sources : (l : CoverageQuery) → Begins is l → IsSource bounds l.from l.within
 
-pub record IsKeptRight (roads : RoadMap) (is : List Item) (batch : Option Batch) (bounds : DistanceBounds) : Type 0 where
-  pub register : IsRegister roads is batch
-  pub bounded : HasBounds roads (touched_in batch) is bounds
+pub record IsKeptRight (g : Margin) (roads : RoadMap) (is : List Item) (batch : Option Batch) (bounds : DistanceBounds) : Type 0
+  where
+    pub register : IsRegister g roads is batch
+    pub bounded : HasBounds roads (touched_in batch) is bounds
 
-pub record CanRenew (M N : Map) (is ls : List Item) (t : ChangeSet) : Type 0 where
+pub record CanRenew (g : Margin) (M N : Map) (is ls : List Item) (t : ChangeSet) : Type 0 where
   pub names : NamesDiffer (all_named ls)
   pub follows : Follows is ls
-  pub before : IsBefore M N (nodes_of t) (lines_of t) (changed_of t) ls
+  pub before : IsBefore g M N (nodes_of t) (lines_of t) (changed_of t) ls

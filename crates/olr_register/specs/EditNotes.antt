@@ -1,13 +1,14 @@
 -- What is recorded of an edit that was judged, and what making it does to a map and a list.
 --     IsNotedOf M e t      what the edit touches and changes, and nothing else
---     CanRenewAfter M e is t      after the edit, which t records, the list can be renewed
---     CanMakeEdit roads e j t is bounds      the edit was judged, and after it the list can be renewed
---     IsEditMade old new e t is js bounds result      the edit leads from the old map to the new one, and the list is is
+--     CanRenewAfter g M e is t      after the edit, which t records, the list can be renewed
+--     CanMakeEdit g roads e j t is bounds      the edit was judged, and after it the list can be renewed
+--     IsEditMade g old new e t is js bounds result      the edit leads from the old map to the new one, and the list is is
 --         renewed to js; or, if an allocation failed, map and list are unchanged. The bounds are right either way
 use Rattle.std.specs.Prelude.{◌≡◌, ℕ, List, [], Result, Ok, OnOk, OnErr, IfOk}
 use Rattle.std.specs.declared.alloc.AllocError.{AllocError}
 use Rattle.olr_spec.specs.Map.{Map, Edit, edited, touched_nodes, touched_lines, has}
 use Rattle.olr_spec.specs.Detours.{changes_of}
+use Rattle.olr_spec.specs.Margins.{Margin}
 use Rattle.olr_map.specs.RoadMaps.{map_of, slot_of}
 use Rattle.olr_map.specs.EditPlans.{IsEditPlan}
 use Rattle.olr_map.specs.declared.judging.EditPlan.{EditPlan}
@@ -25,20 +26,20 @@ pub record IsNotedOf (M : Map) (e : Edit) (t : ChangeSet) : Type 0 where
   pub lines : (y : ℕ) → has (lines_of t) y ≡ has (touched_lines e) y
   pub changed : changed_of t ≡ changes_of M e
 
-abbrev pub CanRenewAfter : Map → Edit → List Item → ChangeSet → Type 0
-CanRenewAfter M e is t = (N : Map) → edited M e ≡ Ok N → CanRenew M N is is t
+abbrev pub CanRenewAfter : Margin → Map → Edit → List Item → ChangeSet → Type 0
+CanRenewAfter g M e is t = (N : Map) → edited M e ≡ Ok N → CanRenew g M N is is t
 
-pub record CanMakeEdit (roads : RoadMap) (e : Edit) (j : EditPlan) (t : ChangeSet) (is : List Item)
+pub record CanMakeEdit (g : Margin) (roads : RoadMap) (e : Edit) (j : EditPlan) (t : ChangeSet) (is : List Item)
     (bounds : DistanceBounds) : Type 0
   where
     pub plan : IsEditPlan (map_of roads) (slot_of roads) e j
     pub bounded : HasBounds roads [] is bounds
-    pub renewable : CanRenewAfter (map_of roads) e is t
+    pub renewable : CanRenewAfter g (map_of roads) e is t
 
-pub record IsEditMade (old new : RoadMap) (e : Edit) (t : ChangeSet) (is js : List Item) (bounds : DistanceBounds)
+pub record IsEditMade (g : Margin) (old new : RoadMap) (e : Edit) (t : ChangeSet) (is js : List Item) (bounds : DistanceBounds)
     (result : Result Renewed AllocError) : Type 0 where
   pub done : OnOk result (edited (map_of old) e ≡ Ok (map_of new))
-  pub renewed : IfOk result (IsRenewal (map_of new) t is is js)
+  pub renewed : IfOk result (IsRenewal g (map_of new) t is is js)
   pub bounded : HasBounds new [] js bounds
   pub same_map : OnErr result (map_of new ≡ map_of old)
   pub same_list : OnErr result (js ≡ is)

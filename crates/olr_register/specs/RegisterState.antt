@@ -8,21 +8,24 @@ use Rattle.std.specs.Coded.{Coded, code_by, coded_ℕ, coded_bool, coded_list, c
 use Rattle.std.proofs.Common.{refl}
 use Rattle.olr_spec.specs.Map.{Map, has}
 use Rattle.olr_spec.specs.Extension.{Path}
+use Rattle.olr_spec.specs.Margins.{Margin}
 use Rattle.olr_spec.specs.Codes.{coded_map}
 use Rattle.olr_answers.specs.Coded.{coded_path}
-use Rattle.olr_commands.specs.State.{Named, Content, same_name, Change, after, State}
-use Rattle.olr_commands.specs.Counts.{all_nodes, all_lines, all_names}
+use Rattle.olr_commands.specs.State.{Named, Content, Change, after, State}
+use Rattle.olr_commands.specs.Counts.{all_nodes, all_lines, gives}
 
--- a path of a batch's list, and whether the batch added or replaced it
+-- a path of a batch's list, and whether the batch encodes it in any case: it added or replaced it, or set the margin
 pub record Held : Type 0 where
   pub name : List ℕ
   pub path : Path
   pub given : Bool
 
--- the map and the paths after the batch's changes, the number of changes, and the nodes and lines that they touch
+-- the map, the paths and the margin after the batch's changes, the number of changes, and the nodes and lines that they
+-- touch
 pub record Batch : Type 0 where
   pub map : Map
   pub paths : List Held
+  pub margin : Margin
   pub count : ℕ
   pub nodes : List ℕ
   pub lines : List ℕ
@@ -35,14 +38,14 @@ abbrev pub named_held : Held → Named
 named_held h = record { name = h.name; path = h.path }
 
 abbrev pub content_of : Batch → Content
-content_of b = record { map = b.map; paths = map named_held b.paths }
+content_of b = record { map = b.map; paths = map named_held b.paths; margin = b.margin }
 
 pub record IsBatchOf (c : Content) (b : Batch) (xs : List Change) : Type 0 where
   pub content : content_of b ≡ after c xs
   pub count : b.count ≡ length xs
   pub nodes : (v : ℕ) → has b.nodes v ≡ has (all_nodes c xs) v
   pub lines : (x : ℕ) → has b.lines x ≡ has (all_lines xs) x
-  pub given : AllByRecursion (λ h. h.given ≡ list_any (same_name h.name) (all_names xs)) b.paths
+  pub given : AllByRecursion (λ h. h.given ≡ list_any (gives h.name) xs) b.paths
 
 abbrev pub RepresentsBatch : Content → Option Batch → Option (List Change) → Type 0
 RepresentsBatch c None None = Unit {0}
@@ -60,10 +63,15 @@ coded_named =
     code_by (List ℕ × Path) (coded× (coded_list coded_ℕ) coded_path) (λ n. (n.name, n.path))
     (λ t. record { name = t.0; path = t.1 }) (λ _. refl)
 
+abbrev pub coded_margin : Coded Margin
+coded_margin =
+    code_by (ℕ × ℕ) (coded× coded_ℕ coded_ℕ) (λ g. (g.routes, g.classes)) (λ t. record { routes = t.0; classes = t.1 })
+    (λ _. refl)
+
 abbrev pub coded_content : Coded Content
 coded_content =
-    code_by (Map × List Named) (coded× coded_map (coded_list coded_named)) (λ c. (c.map, c.paths))
-    (λ t. record { map = t.0; paths = t.1 }) (λ _. refl)
+    code_by (Map × (List Named × Margin)) (coded× coded_map (coded× (coded_list coded_named) coded_margin))
+    (λ c. (c.map, (c.paths, c.margin))) (λ t. record { map = t.0; paths = t.1.0; margin = t.1.1 }) (λ _. refl)
 
 abbrev pub coded_held : Coded Held
 coded_held =
@@ -72,10 +80,18 @@ coded_held =
 
 abbrev pub coded_batch : Coded Batch
 coded_batch =
-    code_by (Map × (List Held × (ℕ × (List ℕ × List ℕ))))
-    (coded× coded_map (coded× (coded_list coded_held) (coded× coded_ℕ (coded× (coded_list coded_ℕ) (coded_list coded_ℕ)))))
-    (λ b. (b.map, (b.paths, (b.count, (b.nodes, b.lines)))))
-    (λ t. record { map = t.0; paths = t.1.0; count = t.1.1.0; nodes = t.1.1.1.0; lines = t.1.1.1.1 }) (λ _. refl)
+    code_by (Map × (List Held × (Margin × (ℕ × (List ℕ × List ℕ)))))
+    (coded× coded_map (coded× (coded_list coded_held)
+    (coded× coded_margin (coded× coded_ℕ (coded× (coded_list coded_ℕ) (coded_list coded_ℕ))))))
+    (λ b. (b.map, (b.paths, (b.margin, (b.count, (b.nodes, b.lines))))))
+    (λ t. record {
+      map = t.0;
+      paths = t.1.0;
+      margin = t.1.1.0;
+      count = t.1.1.1.0;
+      nodes = t.1.1.1.1.0;
+      lines = t.1.1.1.1.1;
+    }) (λ _. refl)
 
 abbrev pub coded_kept : Coded RegisterState
 coded_kept =

@@ -1,7 +1,7 @@
 -- A register as its callers see it, and what its calls promise of whole commands.
 --     Registered      the state that it represents, and the counts of its work
 --     PublishedWhole c name made      what is published under a name, with traversed nodes and coverage queries
---     HaveEncodings M ps xs      the names of the paths in order, each with an encoding of the path on the map.
+--     HaveEncodings g M ps xs      the names of the paths in order, each with an encoding of the path on the map.
 --     AllPublished c xs      the same for all paths of a content
 --     Applied old c o new      from each state that old represents, the command leads with this outcome to a state
 --         that new represents
@@ -10,6 +10,7 @@ use Rattle.std.specs.Prelude.{◌≡◌, ℕ, List, Option, Some, None, [], ◌�
 use Rattle.std.specs.Coded.{Coded, code_by, coded_ℕ, coded×}
 use Rattle.std.proofs.Common.{refl}
 use Rattle.olr_spec.specs.Map.{Map}
+use Rattle.olr_spec.specs.Margins.{Margin}
 use Rattle.olr_search.specs.declared.work.Work.{Work}
 use Rattle.olr_search.specs.Counts.{no_work, raised_count}
 use Rattle.olr_commands.specs.State.{State, Content, Named, no_content, path_named, Command}
@@ -43,16 +44,16 @@ nothing_registered =
 -- an encoding of the path on the map
 abbrev pub PublishedWhole : Content → List ℕ → Option Made → Type 0
 PublishedWhole c name made =
-    MatchOption (path_named c.paths name) (made ≡ None) (λ P. IsSomeAnd made (IsEncodingOf c.map P))
+    MatchOption (path_named c.paths name) (made ≡ None) (λ P. IsSomeAnd made (IsEncodingOf c.margin c.map P))
 
-abbrev pub HaveEncodings : Map → List Named → List (List ℕ × Option Made) → Type 0
-HaveEncodings M [] xs = xs ≡ []
-HaveEncodings M (p ∷ ps) xs =
-    (m : Made) × (rest : List (List ℕ × Option Made)) × IsEncodingOf M p.path m × HaveEncodings M ps rest
+abbrev pub HaveEncodings : Margin → Map → List Named → List (List ℕ × Option Made) → Type 0
+HaveEncodings g M [] xs = xs ≡ []
+HaveEncodings g M (p ∷ ps) xs =
+    (m : Made) × (rest : List (List ℕ × Option Made)) × IsEncodingOf g M p.path m × HaveEncodings g M ps rest
     × (xs ≡ (p.name, Some m) ∷ rest)
 
 abbrev pub AllPublished : Content → List (List ℕ × Option Made) → Type 0
-AllPublished c xs = HaveEncodings c.map c.paths xs
+AllPublished c xs = HaveEncodings c.margin c.map c.paths xs
 
 abbrev pub Applied : Registered → Command → Outcome → Registered → Type 0
 Applied old c o new = (s : State) → Represents old.kept s → (t : State) × Represents new.kept t × IsOutcome s c o t

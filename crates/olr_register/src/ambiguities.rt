@@ -1,6 +1,6 @@
 //! What stands in the way of reading strings in only one way.
 ghost use Rattle.std.specs.Prelude.{◌≡◌, ◌++◌, List, map as list_map, option_map, IfOk, OnOk};
-ghost use Rattle.olr_spec.specs.Queries.{AreKnown};
+ghost use Rattle.olr_spec.specs.Queries.{AreKnownWith};
 ghost use Rattle.olr_ambiguity.specs.Found.{found_of};
 ghost use Rattle.olr_ambiguity.specs.Grids.{IsGrid};
 ghost use Rattle.olr_map.specs.RoadMaps.{map_of};
@@ -16,7 +16,7 @@ use olr_answers::{Answer, KnownQuery, Path};
 use olr_commands::{CommandFault, NamedObstacle, Reply};
 use olr_map::{MapRead, RoadMap};
 use olr_paths::{PathList, Published};
-use olr_refs::encode_again;
+use olr_refs::{Margin, encode_again};
 use olr_search::Dijkstra;
 use std::alloc::{AllocError, Global};
 
@@ -47,17 +47,18 @@ fn push_ambiguity<M: MapRead>(
     grid: &Grid,
     name: &str,
     path: &Path,
+    margin: Margin,
     known: &[KnownQuery],
     search: &mut Dijkstra,
     all: &mut Vec<NamedObstacle>,
 ) -> Result<(), AllocError>
     requires grid { IsGrid (M.map map.now) grid.now.nodes.items }
-    requires known { AreKnown (M.map map.now) path.now.lines known.now }
+    requires known { AreKnownWith margin (M.map map.now) path.now.lines known.now }
     ensures { OnOk result ((own : List spec.NamedObstacle)
-        × Ambiguity (M.map map.now) (record { name = name.now; path = path.now }) own
+        × Ambiguity margin (M.map map.now) (record { name = name.now; path = path.now }) own
         × (list_map named_obstacle_of all.new.items ≡ list_map named_obstacle_of all.old.items ++ own)) }
 {
-    let encoding = encode_again(alloc, map, path, known, search)?;
+    let encoding = encode_again(alloc, map, path, margin, known, search)?;
     match &encoding.answer {
         Answer::Refused(_) => Ok(()),
         Answer::Points(reference) => {
@@ -83,11 +84,12 @@ fn all_ambiguities<M: MapRead>(
     map: &M,
     grid: &Grid,
     paths: &PathList,
+    margin: Margin,
     search: &mut Dijkstra,
 ) -> Result<Vec<NamedObstacle>, AllocError>
     requires grid { IsGrid (M.map map.now) grid.now.nodes.items }
-    requires made { AreEncodings (M.map map.now) (items paths.now) }
-    ensures { IfOk result (λ all. Ambiguities (M.map map.now) (all_named (items paths.now))
+    requires made { AreEncodings margin (M.map map.now) (items paths.now) }
+    ensures { IfOk result (λ all. Ambiguities margin (M.map map.now) (all_named (items paths.now))
         (list_map named_obstacle_of all.items)) }
 {
     let mut all = Vec::new(alloc);
@@ -96,7 +98,9 @@ fn all_ambiguities<M: MapRead>(
             unreachable!()
         };
         let known = known_of(published);
-        push_ambiguity(alloc, map, grid, name, path, known, search, &mut all)?;
+        push_ambiguity(
+            alloc, map, grid, name, path, margin, known, search, &mut all,
+        )?;
     }
     Ok(all)
 }
@@ -135,7 +139,8 @@ impl Register {
         }
         let grid = grid_of(self.alloc, &self.roads)?;
         let search = &mut self.searches.query;
-        let all = all_ambiguities(self.alloc, &self.roads, &grid, &self.paths, search)?;
+        let margin = self.margin;
+        let all = all_ambiguities(self.alloc, &self.roads, &grid, &self.paths, margin, search)?;
         Ok(Reply::Obstacles(all))
     }
 
@@ -161,6 +166,7 @@ impl Register {
             &grid,
             name,
             path,
+            self.margin,
             &[],
             search,
             &mut own,

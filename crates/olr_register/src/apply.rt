@@ -34,6 +34,7 @@ impl Register {
             Change::AddPath(name, parts) => self.add_now(name, parts),
             Change::SetPath(name, parts) => self.set_now(&name, parts),
             Change::DropPath(name) => self.drop_now(&name),
+            Change::SetMargin(margin) => self.set_margin_now(margin),
         }
     }
 
@@ -71,9 +72,11 @@ impl Register {
                 self.change(Change::SetPath(name, PathParts { lines, pos, neg }))
             }
             Command::DropPath(name) => self.change(Change::DropPath(name)),
+            Command::SetMargin(margin) => self.change(Change::SetMargin(margin)),
             Command::Show(name) => self.show(&name),
             Command::ShowNode(id) => self.show_node(id),
             Command::ShowLine(id) => self.show_line(id),
+            Command::ShowMargin => self.show_margin(),
             Command::Depends(nodes) => self.depends(&nodes),
             Command::Report => self.report(),
             Command::Dump => self.dump(),
@@ -92,8 +95,8 @@ impl Register {
     /// answers, texts, counts and an open batch are unchanged. `Memory` is returned only if no fault takes precedence
     /// over it.
     ///
-    /// The count of encodings rises by exactly the number of paths that the command adds, replaces or affects. No count
-    /// falls.
+    /// The count of encodings rises by exactly the number of paths that the command adds, replaces or affects; a margin
+    /// that is set affects each. No count falls.
     pub fn apply(&mut self, command: Command) -> Result<Reply, CommandFault>
         ensures outcome { Applied self.old (command_of command) (outcome_of result) self.new }
         ensures counted { OnOk result (Counted self.old (command_of command) self.new) }

@@ -5,6 +5,7 @@ use crate::edits::line_changed;
 use olr_commands::{CommandFault, Reply};
 use olr_map::{Edit, RoadMap, UndoLog, judge};
 use olr_paths::{ChangeSet, Overlay, PathList};
+use olr_refs::Margin;
 use std::alloc::Global;
 
 /// The greatest number of changes in a batch.
@@ -17,6 +18,10 @@ pub struct Batch {
     pub(crate) log: UndoLog,
     /// The batch's changes over the register's paths; the paths that it added or replaced are not encoded yet.
     pub(crate) overlay: Overlay,
+    /// The margin after its changes.
+    pub(crate) margin: Margin,
+    /// Whether one of them sets the margin: then each path is encoded again.
+    pub(crate) all: bool,
     /// The number of changes that it holds.
     pub(crate) count: u32,
     /// What its edits touched.
@@ -24,14 +29,13 @@ pub struct Batch {
 }
 
 impl Batch {
-    ghost use Rattle.std.specs.Prelude.{◌≡◌, List, nat_le, string_bytes};
+    ghost use Rattle.std.specs.Prelude.{◌≡◌, List, nat_le, string_bytes, Ok};
     ghost use Rattle.olr_roads.specs.Edits.{edit_of};
     ghost use Rattle.olr_map.specs.RoadMaps.{CanUndoAll};
     ghost use Rattle.olr_map.specs.declared.road_map.RoadMap.{RoadMap as Roads};
-    ghost use Rattle.olr_commands.specs.State.{On_map, Add_path, Set_path, Drop_path, full, NamesDiffer};
+    ghost use Rattle.olr_commands.specs.State.{On_map, Add_path, Set_path, Drop_path, Set_margin, full, NamesDiffer};
     ghost use Rattle.olr_list.specs.Items.{Item, items, all_named};
-    ghost use Rattle.olr_list.specs.Overlaid.{under_overlay};
-    ghost use Rattle.olr_register.specs.Contents.{IsHeld};
+    ghost use Rattle.olr_register.specs.Contents.{IsHeld, under_batch};
     ghost use Rattle.olr_register.specs.BatchChanges.{Makes, HoldsChange, path_by, change_of};
 
     /// Whether it holds the greatest number of changes.
@@ -82,7 +86,7 @@ impl Batch {
         name: &str,
         parts: PathParts,
     ) -> Result<(), CommandFault>
-        requires { NamesDiffer (all_named (under_overlay (items list.now) self.old.overlay)) }
+        requires { NamesDiffer (all_named (under_batch (items list.now) self.old)) }
         ensures { (roads : Roads) → Makes roads roads (items list.now) self.old self.new
             (Set_path name.now (path_by parts)) result }
     {
@@ -94,7 +98,7 @@ impl Batch {
 
     /// Removes a path. After a fault the batch is unchanged.
     fn drop_path(&mut self, alloc: Global, list: &PathList, name: &str) -> Result<(), CommandFault>
-        requires { NamesDiffer (all_named (under_overlay (items list.now) self.old.overlay)) }
+        requires { NamesDiffer (all_named (under_batch (items list.now) self.old)) }
         ensures { (roads : Roads) → Makes roads roads (items list.now) self.old self.new (Drop_path name.now) result }
     {
         if !self.overlay.has(list, name) {
@@ -102,6 +106,16 @@ impl Batch {
         }
         self.overlay.drop_path(alloc, name)?;
         Ok(())
+    }
+
+    /// Sets the margin. Takes no memory.
+    fn set_margin(&mut self, margin: Margin)
+        ensures { (roads : Roads) (is : List Item) → Makes roads roads is self.old self.new (Set_margin margin) (Ok tt) }
+    {
+        // For the proof alone: the margin is in range.
+        let _routes = margin.routes();
+        self.margin = margin;
+        self.all = true;
     }
 
     /// Makes a change. After a fault, map and batch are unchanged.
@@ -120,6 +134,10 @@ impl Batch {
             Change::AddPath(name, parts) => self.add_path(alloc, list, name, parts),
             Change::SetPath(name, parts) => self.set_path(alloc, list, &name, parts),
             Change::DropPath(name) => self.drop_path(alloc, list, &name),
+            Change::SetMargin(margin) => {
+                self.set_margin(margin);
+                Ok(())
+            }
         }
     }
 

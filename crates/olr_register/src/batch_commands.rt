@@ -22,6 +22,8 @@ impl Register {
         let batch = Batch {
             log: UndoLog::new(self.alloc),
             overlay: Overlay::new(self.alloc),
+            margin: self.margin,
+            all: false,
             count: 0,
             touched: ChangeSet::new(self.alloc),
         };
@@ -42,8 +44,10 @@ impl Register {
         let previewed = preview(
             self.alloc,
             &self.roads,
+            batch.margin,
             &self.paths,
             &batch.overlay,
+            batch.all,
             &batch.touched,
             &mut self.bounds,
             &mut self.searches,
@@ -63,17 +67,21 @@ impl Register {
         if batch.count != count {
             return Err(CommandFault::CountDiffers);
         }
+        let margin = batch.margin;
         let renewed = renew(
             self.alloc,
             &self.roads,
+            margin,
             &mut self.paths,
             &batch.overlay,
+            batch.all,
             &batch.touched,
             &mut self.bounds,
             &mut self.searches,
         )?;
         // The log is dropped with the batch: its edits are permanent.
         drop(self.batch.take());
+        self.margin = margin;
         self.work = self.work.plus(renewed.work);
         Ok(Reply::Paths(renewed.entries))
     }

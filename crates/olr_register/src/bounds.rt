@@ -8,6 +8,7 @@ ghost use Rattle.olr_near.specs.Bounds.{IsUnderWay, IsSource};
 ghost use Rattle.olr_list.specs.Items.{Item, items};
 ghost use Rattle.olr_list.specs.Origins.{AreBoundsOf, Begins, new_origins_in};
 ghost use Rattle.olr_list.specs.Overlaid.{under_overlay};
+ghost use Rattle.olr_list.specs.Changes.{anew};
 ghost use Rattle.olr_paths.specs.Reencoded.{IsRenewal};
 ghost use Rattle.olr_list.specs.ChangeSets.{nodes_of, lines_of, changed_of};
 ghost use Rattle.olr_register.specs.Contents.{AreEditsNoted, HasBounds, CanRenew};
@@ -15,7 +16,7 @@ ghost use Rattle.olr_register.specs.Contents.{AreEditsNoted, HasBounds, CanRenew
 use olr_map::{RoadMap, UndoLog};
 use olr_near::DistanceBounds;
 use olr_paths::{ChangeSet, Overlay, PathList, Renewed, Searches, preview_over, renew_over};
-use olr_refs::CoverageQuery;
+use olr_refs::{CoverageQuery, Margin};
 use std::alloc::{AllocError, Global};
 
 /// The bounds are rebuilt only after searches that found no path have labelled more nodes than this.
@@ -91,31 +92,56 @@ pub(crate) fn renew_bounds(
     bounds_from_scratch(alloc, bounds, paths);
 }
 
+/// Adds sources to the bounds where new coverage queries of the list begin; if the margin was set, from scratch.
+fn bounds_after(
+    alloc: Global,
+    bounds: &mut DistanceBounds,
+    paths: &PathList,
+    all: bool,
+    searches: &mut Searches,
+)
+    ensures { (roads : Roads) (T : List ℕ) (is : List Item) → HasBounds roads T is bounds.old
+        → ((l : QueryRecord) → Begins (items paths.now) l → Begins is l ⊎ Contains (new_origins_in searches.old) l)
+        → HasBounds roads T (items paths.now) bounds.new }
+{
+    if all {
+        bounds_from_scratch(alloc, bounds, paths);
+        return;
+    }
+    renew_bounds(alloc, bounds, paths, searches);
+}
+
 /// Encodes the affected paths again after edits that led to the map, with the changes of an overlay, and adds their new
-/// coverage queries to the bounds. If an allocation fails, the list is unchanged, and the bounds are unknown.
+/// coverage queries to the bounds; if the margin was set, all paths, and the bounds begin from scratch. If an allocation
+/// fails, the list is unchanged, and the bounds are unknown.
 #[inline(never)]
 pub(crate) fn renew(
     alloc: Global,
     roads: &RoadMap,
+    margin: Margin,
     paths: &mut PathList,
     overlay: &Overlay,
+    all: bool,
     touched: &ChangeSet,
     bounds: &mut DistanceBounds,
     searches: &mut Searches,
 ) -> Result<Renewed, AllocError>
-    requires renewable { (M : Map) × CanRenew M (map_of roads.now) (items paths.old)
-        (under_overlay (items paths.old) overlay.now) touched.now }
-    requires bounded { HasBounds roads.now (nodes_of touched.now) (under_overlay (items paths.old) overlay.now) bounds.old }
-    ensures renewed { IfOk result (IsRenewal (map_of roads.now) touched.now (items paths.old)
-        (under_overlay (items paths.old) overlay.now) (items paths.new)) }
+    requires renewable { (M : Map) × CanRenew margin M (map_of roads.now) (items paths.old)
+        (anew all (under_overlay (items paths.old) overlay.now)) touched.now }
+    requires bounded { HasBounds roads.now (nodes_of touched.now) (anew all (under_overlay (items paths.old) overlay.now))
+        bounds.old }
+    ensures renewed { IfOk result (IsRenewal margin (map_of roads.now) touched.now (items paths.old)
+        (anew all (under_overlay (items paths.old) overlay.now)) (items paths.new)) }
     ensures bounded { OnOk result (HasBounds roads.now [] (items paths.new) bounds.new) }
     ensures err { OnErr result (items paths.new ≡ items paths.old) }
     ensures unknown { OnErr result (IsFalse bounds.new.known) }
 {
     settle_bounds(bounds, roads, touched);
-    match renew_over(paths, alloc, roads, overlay, touched, bounds, searches) {
+    match renew_over(
+        paths, alloc, roads, margin, overlay, all, touched, bounds, searches,
+    ) {
         Ok(renewed) => {
-            renew_bounds(alloc, bounds, paths, searches);
+            bounds_after(alloc, bounds, paths, all, searches);
             Ok(renewed)
         }
         Err(error) => {
@@ -129,22 +155,27 @@ pub(crate) fn renew(
 pub(crate) fn preview(
     alloc: Global,
     roads: &RoadMap,
+    margin: Margin,
     paths: &PathList,
     overlay: &Overlay,
+    all: bool,
     touched: &ChangeSet,
     bounds: &mut DistanceBounds,
     searches: &mut Searches,
 ) -> Result<Renewed, AllocError>
-    requires renewable { (M : Map) × CanRenew M (map_of roads.now) (items paths.now)
-        (under_overlay (items paths.now) overlay.now) touched.now }
-    requires bounded { HasBounds roads.now (nodes_of touched.now) (under_overlay (items paths.now) overlay.now) bounds.old }
-    ensures renewed { IfOk result (λ r. (js : List Item) × IsRenewal (map_of roads.now) touched.now (items paths.now)
-        (under_overlay (items paths.now) overlay.now) js r) }
+    requires renewable { (M : Map) × CanRenew margin M (map_of roads.now) (items paths.now)
+        (anew all (under_overlay (items paths.now) overlay.now)) touched.now }
+    requires bounded { HasBounds roads.now (nodes_of touched.now) (anew all (under_overlay (items paths.now) overlay.now))
+        bounds.old }
+    ensures renewed { IfOk result (λ r. (js : List Item) × IsRenewal margin (map_of roads.now) touched.now
+        (items paths.now) (anew all (under_overlay (items paths.now) overlay.now)) js r) }
     ensures bounded { (T : List ℕ) (is : List Item) → HasBounds roads.now (nodes_of touched.now) is bounds.old
         → HasBounds roads.now T is bounds.new }
 {
     settle_bounds(bounds, roads, touched);
-    preview_over(paths, alloc, roads, overlay, touched, bounds, searches)
+    preview_over(
+        paths, alloc, roads, margin, overlay, all, touched, bounds, searches,
+    )
 }
 
 /// Undoes the edits of a log, which touched these nodes and lines, and reopens the nodes. The bounds are unknown after that

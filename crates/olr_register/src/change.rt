@@ -1,4 +1,4 @@
-//! Changes of the map and of the paths, as commands give them.
+//! Changes of the map, of the paths and of the margin, as commands give them.
 ghost use Rattle.std.specs.Prelude.{◌≡◌, IsTrue, IsFalse, OnOk, not, Ok};
 ghost use Rattle.std.specs.Result.{IfOk, IfErr};
 ghost use Rattle.olr_spec.specs.Extension.{is_path};
@@ -8,7 +8,7 @@ ghost use Rattle.olr_register.specs.BatchChanges.{path_by, MayReport};
 
 use olr_commands::CommandFault;
 use olr_map::{Edit, LineId};
-use olr_refs::{Path, PathFault};
+use olr_refs::{Margin, Path, PathFault};
 use std::alloc::Global;
 
 /// The lines of a path and its positive and negative offset in decimetres, not tested yet.
@@ -30,6 +30,8 @@ pub(crate) enum Change {
     SetPath(String, PathParts),
     /// The removal of a path.
     DropPath(String),
+    /// Another margin.
+    SetMargin(Margin),
 }
 
 /// The path of these parts, unless its name is wrong: then that fault takes precedence.

@@ -40,6 +40,7 @@ impl Register {
         let names = affected_names(
             self.alloc,
             &self.roads,
+            self.margin,
             &self.paths,
             &around,
             &self.bounds,

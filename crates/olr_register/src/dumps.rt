@@ -8,17 +8,21 @@ ghost use Rattle.olr_map.specs.RoadMaps.{map_of, slot_of};
 ghost use Rattle.olr_commands.specs.State.{Named, is_recordable};
 ghost use Rattle.olr_commands.specs.Recordable as recordable;
 ghost use Rattle.olr_commands.specs.RecordText.{record_line};
-ghost use Rattle.olr_commands.specs.Dump.{node_change, line_change, path_change, dump_lines};
+ghost use Rattle.olr_commands.specs.Dump as spec;
+ghost use Rattle.olr_commands.specs.Dump.{node_change, line_change, path_change, margin_changes, dump_lines};
 ghost use Rattle.olr_list.specs.Items.{items, all_named};
+ghost use Rattle.olr_spec.specs.Margins.{no_margin};
+ghost use Rattle.olr_register.specs.Contents.{content_on};
 ghost use Rattle.olr_register.specs.Recordables as numbered;
 
 use crate::register::Register;
 use olr_commands::{
     CommandFault, Dump, Reply, is_name, is_recordable_coord, is_recordable_line, push_line_record,
-    push_node_record, push_path_record,
+    push_margin_record, push_node_record, push_path_record,
 };
 use olr_map::{LineId, MapRead, NodeId, RoadMap};
 use olr_paths::PathList;
+use olr_refs::Margin;
 use std::alloc::{AllocError, Global};
 
 /// Whether a record can have this line.
@@ -101,9 +105,28 @@ fn are_recordable_names(paths: &PathList) -> bool
 
 /// Whether records can have the whole map and each name.
 fn is_recordable(roads: &RoadMap, paths: &PathList) -> bool
-    ensures { result ≡ is_recordable (record { map = map_of roads.now; paths = all_named (items paths.now) }) }
+    ensures { result ≡ is_recordable (content_on no_margin (map_of roads.now) (items paths.now)) }
 {
     is_recordable_map(roads) && are_recordable_names(paths)
+}
+
+/// Whether a margin adds nothing.
+fn adds_nothing(margin: Margin) -> bool
+    ensures { result ≡ spec.adds_nothing margin }
+{
+    margin.routes() == 0 && margin.classes() == 0
+}
+
+/// Appends the record of the margin, if it adds something. Returns the number of records.
+fn push_margin(text: &mut Vec<u8>, margin: Margin) -> Result<usize, AllocError>
+    ensures { IfOk result (λ n. (n ≡ length (margin_changes margin))
+        × (text.new.items ≡ text.old.items ++ concat (map record_line (margin_changes margin)))) }
+{
+    if adds_nothing(margin) {
+        return Ok(0);
+    }
+    push_margin_record(text, margin)?;
+    Ok(1)
 }
 
 /// Appends the records of all nodes, which have these numbers.
@@ -152,14 +175,20 @@ fn push_paths(text: &mut Vec<u8>, paths: &PathList) -> Result<(), AllocError>
     Ok(())
 }
 
-/// The records of a map and of paths.
-fn dump_of(alloc: Global, roads: &RoadMap, paths: &PathList) -> Result<Dump, AllocError>
+/// The records of a margin, of a map and of paths.
+fn dump_of(
+    alloc: Global,
+    margin: Margin,
+    roads: &RoadMap,
+    paths: &PathList,
+) -> Result<Dump, AllocError>
     requires recordable { IsTrue (recordable.is_recordable_map (map_of roads.now)) }
     ensures { IfOk result (λ d.
-        (d.count ≡ length (dump_lines (record { map = map_of roads.now; paths = all_named (items paths.now) })))
-        × (d.text.items ≡ concat (dump_lines (record { map = map_of roads.now; paths = all_named (items paths.now) })))) }
+        (d.count ≡ length (dump_lines (content_on margin (map_of roads.now) (items paths.now))))
+        × (d.text.items ≡ concat (dump_lines (content_on margin (map_of roads.now) (items paths.now))))) }
 {
     let mut text = Vec::new(alloc);
+    let margins = push_margin(&mut text, margin)?;
     let nodes = roads.node_ids(alloc)?;
     let node_count = nodes.len();
     push_nodes(&mut text, roads, &nodes)?;
@@ -169,7 +198,7 @@ fn dump_of(alloc: Global, roads: &RoadMap, paths: &PathList) -> Result<Dump, All
     push_lines(&mut text, roads, &lines)?;
     push_paths(&mut text, paths)?;
     Ok(Dump {
-        count: node_count + lines.len() + paths.len(),
+        count: margins + node_count + lines.len() + paths.len(),
         text,
     })
 }
@@ -178,8 +207,8 @@ impl Register {
     ghost use Rattle.olr_commands.specs.State.{Dump as Asked};
     ghost use Rattle.olr_register.specs.Answered.{Answered};
 
-    /// The records that build the register from an empty one: its nodes and its lines, each in ascending order of their
-    /// numbers, and its paths in their order. The faults are `BatchOpen`, `NotARecord` and `Memory`, in this order of
+    /// The records that build the register from an empty one: its margin, if it has one, its nodes and its lines, each in
+    /// ascending order of their numbers, and its paths in their order. The faults are `BatchOpen`, `NotARecord` and `Memory`, in this order of
     /// precedence.
     #[inline(never)]
     pub fn dump(&self) -> Result<Reply, CommandFault>
@@ -191,6 +220,6 @@ impl Register {
         if !is_recordable(&self.roads, &self.paths) {
             return Err(CommandFault::NotARecord);
         }
-        Ok(Reply::Dump(dump_of(self.alloc, &self.roads, &self.paths)?))
+        Ok(Reply::Dump(dump_of(self.alloc, self.margin, &self.roads, &self.paths)?))
     }
 }

@@ -14,6 +14,7 @@ use olr_commands::{CommandFault, Reply};
 use olr_map::{Edit, EditPlan, RoadMap, judge};
 use olr_near::DistanceBounds;
 use olr_paths::{ChangeSet, ChangedLine, Overlay, PathList, Renewed, Searches, renew_unaffected};
+use olr_refs::Margin;
 use std::alloc::{AllocError, Global};
 
 /// The line that a judged edit changes: its ends, and the lesser of its lengths before and after. None if the edit is
@@ -45,6 +46,7 @@ fn note_only(touched: &mut ChangeSet, plan: &EditPlan) -> Result<(), AllocError>
 fn make_and_search(
     alloc: Global,
     roads: &mut RoadMap,
+    margin: Margin,
     paths: &mut PathList,
     edit: Edit,
     plan: &EditPlan,
@@ -52,13 +54,15 @@ fn make_and_search(
     bounds: &mut DistanceBounds,
     searches: &mut Searches,
 ) -> Result<Renewed, AllocError>
-    requires { CanMakeEdit roads.old (edit_of edit) plan.now touched.now (items paths.old) bounds.old }
-    ensures { IsEditMade roads.old roads.new (edit_of edit) touched.now (items paths.old) (items paths.new) bounds.new
+    requires { CanMakeEdit margin roads.old (edit_of edit) plan.now touched.now (items paths.old) bounds.old }
+    ensures { IsEditMade margin roads.old roads.new (edit_of edit) touched.now (items paths.old) (items paths.new) bounds.new
         result }
 {
     let undo = roads.make(edit, plan)?;
     let none = Overlay::new(alloc);
-    let renewed = renew(alloc, roads, paths, &none, touched, bounds, searches);
+    let renewed = renew(
+        alloc, roads, margin, paths, &none, false, touched, bounds, searches,
+    );
     drop(none);
     match renewed {
         Ok(renewed) => {
@@ -77,6 +81,7 @@ fn make_and_search(
 fn make_and_renew(
     alloc: Global,
     roads: &mut RoadMap,
+    margin: Margin,
     paths: &mut PathList,
     edit: Edit,
     plan: &EditPlan,
@@ -84,12 +89,14 @@ fn make_and_renew(
     bounds: &mut DistanceBounds,
     searches: &mut Searches,
 ) -> Result<Renewed, AllocError>
-    requires { CanMakeEdit roads.old (edit_of edit) plan.now touched.now (items paths.old) bounds.old }
-    ensures { IsEditMade roads.old roads.new (edit_of edit) touched.now (items paths.old) (items paths.new) bounds.new
+    requires { CanMakeEdit margin roads.old (edit_of edit) plan.now touched.now (items paths.old) bounds.old }
+    ensures { IsEditMade margin roads.old roads.new (edit_of edit) touched.now (items paths.old) (items paths.new) bounds.new
         result }
 {
     let Some(renewed) = renew_unaffected(paths, alloc, roads, touched, bounds) else {
-        return make_and_search(alloc, roads, paths, edit, plan, touched, bounds, searches);
+        return make_and_search(
+            alloc, roads, margin, paths, edit, plan, touched, bounds, searches,
+        );
     };
     roads.make_kept(edit, plan)?;
     Ok(renewed)
@@ -133,6 +140,7 @@ impl Register {
         let renewed = make_and_renew(
             self.alloc,
             &mut self.roads,
+            self.margin,
             &mut self.paths,
             edit,
             &plan,

@@ -2,7 +2,7 @@
 ghost use Rattle.std.specs.Prelude.{◌≡◌, ◌↔◌, ℕ, Contains, is_some, IsTrue, IsFalse, MatchOption, IsSomeAnd, Err, None};
 ghost use Rattle.std.specs.Prelude.{option_map};
 ghost use Rattle.std.specs.Result.{IfOk, IfErr};
-ghost use Rattle.olr_spec.specs.Footprint.{Foot};
+ghost use Rattle.olr_spec.specs.Footprint.{FootWith};
 ghost use Rattle.olr_commands.specs.State.{path_named};
 ghost use Rattle.olr_list.specs.Items.{made_of};
 
@@ -10,7 +10,7 @@ use crate::register::Register;
 use olr_commands::CommandFault;
 use olr_map::Footprint;
 use olr_paths::Published;
-use olr_refs::refer;
+use olr_refs::refer_with;
 use olr_search::Work;
 
 impl Register {
@@ -31,7 +31,7 @@ impl Register {
         ensures open { IsTrue (is_some self.now.kept.batch) → result ≡ Err CommandFault.BatchOpen }
         ensures memory { IfErr result (λ f. IsFalse (is_some self.now.kept.batch) → f ≡ CommandFault.Memory) }
         ensures footprint { IfOk result (λ o. MatchOption (path_named self.now.kept.content.paths name.now) (o ≡ None)
-            (λ P. IsSomeAnd o (λ f. (v : ℕ) → Contains f v ↔ Foot self.now.kept.content.map P v))) }
+            (λ P. IsSomeAnd o (λ f. (v : ℕ) → Contains f v ↔ FootWith self.now.kept.content.margin self.now.kept.content.map P v))) }
     {
         if self.batch.is_some() {
             return Err(CommandFault::BatchOpen);
@@ -39,7 +39,8 @@ impl Register {
         let Some(path) = self.paths.path(name) else {
             return Ok(None);
         };
-        let (_, footprint) = refer(self.alloc, &self.roads, path, &mut Work::none())?;
+        let mut work = Work::none();
+        let (_, footprint) = refer_with(self.alloc, &self.roads, path, self.margin, &mut work)?;
         Ok(Some(footprint))
     }
 }

@@ -11,6 +11,7 @@ mod dependents;
 mod dumps;
 mod edits;
 mod footprints;
+mod margins;
 mod paths;
 mod questions;
 mod records;

@@ -22,8 +22,9 @@ impl Register {
     {
         let taken = self.paths.has(&name);
         let path = path_unless(self.alloc, taken, CommandFault::PathExists, parts)?;
-        let (heap, roads) = (self.alloc, &self.roads);
-        let (entries, work) = add(&mut self.paths, heap, roads, name, path, &mut self.searches)?;
+        let (heap, roads, margin) = (self.alloc, &self.roads, self.margin);
+        let searches = &mut self.searches;
+        let (entries, work) = add(&mut self.paths, heap, roads, name, path, margin, searches)?;
         renew_bounds(heap, &mut self.bounds, &self.paths, &mut self.searches);
         self.work = self.work.plus(work);
         Ok(Reply::Paths(entries))
@@ -37,8 +38,9 @@ impl Register {
     {
         let missing = !self.paths.has(name);
         let path = path_unless(self.alloc, missing, CommandFault::NoPath, parts)?;
-        let (heap, roads) = (self.alloc, &self.roads);
-        let (entries, work) = set(&mut self.paths, heap, roads, name, path, &mut self.searches)?;
+        let (heap, roads, margin) = (self.alloc, &self.roads, self.margin);
+        let searches = &mut self.searches;
+        let (entries, work) = set(&mut self.paths, heap, roads, name, path, margin, searches)?;
         renew_bounds(heap, &mut self.bounds, &self.paths, &mut self.searches);
         self.work = self.work.plus(work);
         Ok(Reply::Paths(entries))

@@ -4,7 +4,7 @@ use crate::batch::Batch;
 use olr_map::RoadMap;
 use olr_near::DistanceBounds;
 use olr_paths::{ChangeSet, Iter, PathList, Searches};
-use olr_refs::Answer;
+use olr_refs::{Answer, Margin};
 use olr_search::Work;
 use std::alloc::Global;
 use std::marker::Model;
@@ -15,6 +15,8 @@ pub struct Register {
     /// The map, or that of the open batch.
     pub(crate) roads: RoadMap,
     pub(crate) paths: PathList,
+    /// The margin with which the paths are encoded.
+    pub(crate) margin: Margin,
     /// The searches of renewals, which keep their buffers.
     pub(crate) searches: Searches,
     /// What an edit touches, in a buffer that is reused.
@@ -35,9 +37,9 @@ impl Model for Register {
 
     ghost coded = { coded_registered };
 
-    ghost view = { λ r. record { kept = kept_of r.roads (items r.paths) r.batch; work = r.work } };
+    ghost view = { λ r. record { kept = kept_of r.margin r.roads (items r.paths) r.batch; work = r.work } };
 
-    ghost invariant = { λ r. IsKeptRight r.roads (items r.paths) r.batch r.bounds };
+    ghost invariant = { λ r. IsKeptRight r.margin r.roads (items r.paths) r.batch r.bounds };
 }
 
 // Written out: a derived drop is proved again in each crate that ends a register.
@@ -47,6 +49,7 @@ impl Drop for Register {
             alloc: _,
             roads,
             paths,
+            margin: _,
             searches,
             touched,
             work: _,
@@ -77,6 +80,7 @@ impl Register {
             alloc,
             roads: RoadMap::new(alloc),
             paths: PathList::new(alloc),
+            margin: Margin::none(),
             searches: Searches::new(alloc),
             touched: ChangeSet::new(alloc),
             work: Work::none(),
@@ -129,6 +133,13 @@ impl Register {
         ensures { AllPublished self.now.kept.content (left result) }
     {
         self.paths.iter()
+    }
+
+    /// The margin with which the paths are encoded, without that of an open batch.
+    pub fn margin(&self) -> Margin
+        ensures { result ≡ self.now.kept.content.margin }
+    {
+        self.margin
     }
 
     /// Whether a batch is open.

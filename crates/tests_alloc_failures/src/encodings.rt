@@ -3,7 +3,7 @@
 use made_maps::{WORKED, lines, map_of, node};
 use olr_binary::{Reference, to_text};
 use olr_map::{Footprint, LineId, MapRead, RoadMap};
-use olr_refs::{Answer, Encoding, Path, encode};
+use olr_refs::{Answer, Encoding, Margin, Path, encode};
 use olr_route::{Dijkstra, Labels, Work, search};
 use std::alloc::Global;
 use std::process::Abort;
@@ -36,9 +36,12 @@ fn some_path(rt: &impl Abort, alloc: Global) -> Path {
 /// The encoding of a path, made again if an allocation failed.
 fn some_encoding(rt: &impl Abort, alloc: Global, map: &RoadMap, path: &Path) -> Encoding {
     let mut search = Dijkstra::new(alloc);
-    match encode(alloc, map, path, &mut search) {
+    let margin = Margin::none();
+    match encode(alloc, map, path, margin, &mut search) {
         Ok(found) => found,
-        Err(_) => encode(alloc, map, path, &mut search).expect(rt, "memory the second time"),
+        Err(_) => {
+            encode(alloc, map, path, margin, &mut search).expect(rt, "memory the second time")
+        }
     }
 }
 

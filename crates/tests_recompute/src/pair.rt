@@ -126,7 +126,7 @@ impl Pair {
             }
             Command::Abort => Ok(None),
             Command::Show(name) => Ok(self.register.answer(&name).map(|_| Rise::default())),
-            Command::Report => Ok(Some(Rise::default())),
+            Command::Report | Command::ShowMargin => Ok(Some(Rise::default())),
             change if self.is_open => self.hold(alloc, change, record),
             change => self.make(alloc, change, record),
         }
@@ -148,7 +148,7 @@ impl Pair {
         if !self.twin.change(alloc, change)? {
             return Ok(None);
         }
-        let rise = self.twin.rise(alloc, &self.spare.roads)?;
+        let rise = self.twin.rise(alloc, &self.spare)?;
         push_line(&mut self.history, record)?;
         replay(alloc, &mut self.spare, record)?;
         Ok(Some(rise))
@@ -158,7 +158,7 @@ impl Pair {
         if !self.is_open || count != self.count {
             return Ok(None);
         }
-        let rise = self.spare.rise(alloc, &self.twin.roads)?;
+        let rise = self.spare.rise(alloc, &self.twin)?;
         replay(alloc, &mut self.twin, &self.pending)?;
         self.history.push_str(&self.pending)?;
         self.is_open = false;
@@ -188,7 +188,7 @@ impl Pair {
         };
         let name = named.name.as_str();
         assert!(rt; self.register.name_at(k) == Some(name), "after {record}");
-        let fresh = named.encoding(rt.alloc(), &self.twin.roads)?;
+        let fresh = named.encoding(rt.alloc(), &self.twin)?;
         self.assert_answer(rt, name, &fresh.answer, record)?;
         self.assert_queries(rt, name, &fresh, record);
         self.assert_footprint(rt, named, record)
@@ -242,7 +242,7 @@ impl Pair {
             return Ok(());
         }
         let name = named.name.as_str();
-        let fresh = named.footprint(rt.alloc(), &self.twin.roads)?;
+        let fresh = named.footprint(rt.alloc(), &self.twin)?;
         let kept = self
             .register
             .footprint(name)?
@@ -269,7 +269,7 @@ impl Pair {
         }
         let mut expected = Vec::new(rt.alloc());
         for named in &self.twin.paths {
-            if named.depends(rt.alloc(), roads, &nodes)? {
+            if named.depends(rt.alloc(), &self.twin, &nodes)? {
                 expected.push(named.name.clone()?)?;
             }
         }
@@ -348,7 +348,8 @@ impl Pair {
             1..=8 => line_record(alloc, seed)?,
             9 | 10 => node_record(alloc, seed)?,
             11..=15 => self.path_record(alloc, seed)?,
-            _ => self.batch_record(alloc, seed)?,
+            16..=19 => self.batch_record(alloc, seed)?,
+            _ => margin_record(alloc, seed)?,
         };
         self.step(rt, &record)
     }
@@ -376,9 +377,9 @@ impl Pair {
     }
 }
 
-/// The kind of command that a number selects, from 0 to 19.
+/// The kind of command that a number selects, from 0 to 20.
 fn kind(seed: u64) -> u64 {
-    (seed >> 56) % 20
+    (seed >> 56) % 21
 }
 
 /// A line's length.
@@ -402,6 +403,16 @@ fn line_record(alloc: Global, seed: u64) -> Result<String, Fail> {
         _ => format!(in alloc; "set-line,{line},{},3,{len}", len % 8)?,
     };
     Ok(record)
+}
+
+/// A record that sets the margin.
+fn margin_record(alloc: Global, seed: u64) -> Result<String, Fail> {
+    let routes = match (seed >> 40) % 5 {
+        0 => 0,
+        1 => 1000,
+        _ => (seed >> 20) % 200,
+    };
+    Ok(format!(in alloc; "margin,{routes},{}", (seed >> 30) % 3)?)
 }
 
 /// A record that moves or adds a node.

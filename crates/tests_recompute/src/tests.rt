@@ -44,6 +44,26 @@ abort
 begin
 commit,0
 ",
+    "path,a,1500,0,10,20,30
+margin,50,1
+path,b,0,0,10
+set-line,99,4,3,2100
+begin
+margin,1000,7
+drop-line,99
+margin,0,2
+repath,b,0,0,10,20
+commit,4
+begin
+margin,20,0
+drop-path,a
+abort
+line,99,2,3,4,3,2001
+margin,1,0
+margin,0,0
+margin,0,0
+show-margin
+",
 ];
 
 /// Records after the same ones, with the number of encodings counted after each.
@@ -68,6 +88,14 @@ const COUNTED: &[(&str, u64)] = &[
     ("node,9,6.131,49.604", 11),
     // node 8 is near node 2, where the coverage query begins, and on no route that is as short as line 20
     ("line,70,8,9,4,3,500", 12),
+    ("margin,50,1", 15),
+    ("begin", 15),
+    ("margin,0,0", 15),
+    ("margin,1,0", 15),
+    ("drop-path,b", 15),
+    ("commit,3", 17),
+    ("show-margin", 17),
+    ("margin,0,0", 19),
 ];
 
 /// Applies each record to the register and to its twin.

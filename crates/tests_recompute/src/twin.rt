@@ -3,7 +3,7 @@
 use crate::changes::{ChangedLine, changed_line, is_clear};
 use olr_commands::Command;
 use olr_map::{Edit, Footprint, LineId, MapRead, NodeId, RoadMap, judge};
-use olr_refs::{CoverageQuery, Encoding, Path, encode, refer};
+use olr_refs::{CoverageQuery, Encoding, Margin, Path, encode, refer_with};
 use olr_search::{Dijkstra, Work};
 use std::alloc::Global;
 use std::test::Fail;
@@ -27,15 +27,18 @@ pub struct Rise {
     pub searches: u64,
 }
 
-/// A map, named paths, and the nodes, lines and names that the commands of a batch touched, and the lines that they changed.
+/// A map, named paths and a margin, and the nodes, lines and names that the commands of a batch touched, the lines that
+/// they changed, and whether they set the margin.
 #[derive(Drop)]
 pub struct Twin {
     pub roads: RoadMap,
     pub paths: Vec<Named>,
+    margin: Margin,
     nodes: Vec<NodeId>,
     lines: Vec<LineId>,
     changed: Vec<ChangedLine>,
     given: Vec<String>,
+    all: bool,
 }
 
 impl Named {
@@ -44,29 +47,29 @@ impl Named {
         Ok(Path::new(alloc, lines, self.pos, self.neg)?)
     }
 
-    /// The path's answer, traversed nodes and coverage queries on a map.
-    pub fn encoding(&self, alloc: Global, roads: &RoadMap) -> Result<Encoding, Fail> {
+    /// The path's answer, traversed nodes and coverage queries in a twin.
+    pub fn encoding(&self, alloc: Global, twin: &Twin) -> Result<Encoding, Fail> {
         let path = self.path(alloc)?;
         let mut search = Dijkstra::new(alloc);
-        Ok(encode(alloc, roads, &path, &mut search)?)
+        Ok(encode(alloc, &twin.roads, &path, twin.margin, &mut search)?)
     }
 
-    /// The path's footprint on a map.
-    pub fn footprint(&self, alloc: Global, roads: &RoadMap) -> Result<Footprint, Fail> {
+    /// The path's footprint in a twin.
+    pub fn footprint(&self, alloc: Global, twin: &Twin) -> Result<Footprint, Fail> {
         let path = self.path(alloc)?;
         let mut work = Work::default();
-        let (_, footprint) = refer(alloc, roads, &path, &mut work)?;
+        let (_, footprint) = refer_with(alloc, &twin.roads, &path, twin.margin, &mut work)?;
         Ok(footprint)
     }
 
     /// Whether the path's footprint has one of the nodes, or one of its lines begins or ends at one.
-    pub fn depends(&self, alloc: Global, roads: &RoadMap, nodes: &[NodeId]) -> Result<bool, Fail> {
-        let footprint = self.footprint(alloc, roads)?;
+    pub fn depends(&self, alloc: Global, twin: &Twin, nodes: &[NodeId]) -> Result<bool, Fail> {
+        let footprint = self.footprint(alloc, twin)?;
         if nodes.iter().any(|node| footprint.has(*node)) {
             return Ok(true);
         }
         for id in &self.lines {
-            if let Some(line) = roads.line(*id) {
+            if let Some(line) = twin.roads.line(*id) {
                 if nodes.contains(&line.from) || nodes.contains(&line.to) {
                     return Ok(true);
                 }
@@ -81,10 +84,12 @@ impl Twin {
         Twin {
             roads: RoadMap::new(alloc),
             paths: Vec::new(alloc),
+            margin: Margin::none(),
             nodes: Vec::new(alloc),
             lines: Vec::new(alloc),
             changed: Vec::new(alloc),
             given: Vec::new(alloc),
+            all: false,
         }
     }
 
@@ -101,6 +106,7 @@ impl Twin {
         self.lines.clear();
         self.changed.clear();
         self.given.clear();
+        self.all = false;
     }
 
     /// Makes a change. Returns whether it was accepted.
@@ -135,6 +141,11 @@ impl Twin {
                 Ok(true)
             }
             Command::DropPath(name) => Ok(self.take(&name)),
+            Command::SetMargin(margin) => {
+                self.margin = margin;
+                self.all = true;
+                Ok(true)
+            }
             _ => Ok(false),
         }
     }
@@ -183,8 +194,8 @@ impl Twin {
         Ok(true)
     }
 
-    /// By how much the changes since `forget`, which began with the map `before`, raise the counts.
-    pub fn rise(&self, alloc: Global, before: &RoadMap) -> Result<Rise, Fail> {
+    /// By how much the changes since `forget`, which began with `before`, raise the counts.
+    pub fn rise(&self, alloc: Global, before: &Twin) -> Result<Rise, Fail> {
         let mut rise = Rise::default();
         for named in &self.paths {
             self.count(alloc, before, named, &mut rise)?;
@@ -196,14 +207,11 @@ impl Twin {
     fn count(
         &self,
         alloc: Global,
-        before: &RoadMap,
+        before: &Twin,
         named: &Named,
         rise: &mut Rise,
     ) -> Result<(), Fail> {
-        let is_given = self
-            .given
-            .iter()
-            .any(|name| name.as_str() == named.name.as_str());
+        let is_given = self.gives(named);
         let footprint = named.footprint(alloc, before)?;
         if !is_given && !self.touches(&footprint) && !self.has_touched_line(named) {
             return Ok(());
@@ -213,7 +221,7 @@ impl Twin {
         if !is_given && self.is_retained(alloc, named, &old)? {
             return Ok(());
         }
-        let new = named.encoding(alloc, &self.roads)?;
+        let new = named.encoding(alloc, self)?;
         let reused = if is_given {
             0
         } else {
@@ -222,6 +230,15 @@ impl Twin {
         let searched = (new.queries.len() as u64).saturating_sub(reused);
         rise.searches = rise.searches.saturating_add(searched);
         Ok(())
+    }
+
+    /// Whether the changes add or set the path, or set the margin.
+    fn gives(&self, named: &Named) -> bool {
+        self.all
+            || self
+                .given
+                .iter()
+                .any(|name| name.as_str() == named.name.as_str())
     }
 
     /// Whether the changes touch a node of the footprint.

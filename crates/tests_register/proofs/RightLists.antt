@@ -1,9 +1,10 @@
 -- Lists whose results are right on a map.
-use Rattle.std.proofs.Common.{◌≡◌, ℕ, not, IsTrue, IsFalse, List, [], ◌∷◌, ◌++◌, None, Result, Ok, OnOk, sym, subst}
+use Rattle.std.proofs.Common.{◌≡◌, ℕ, not, IsTrue, IsFalse, List, [], ◌∷◌, ◌++◌, None, Result, Ok, OnOk, refl, sym, subst}
 use Rattle.std.specs.Result.{IfOk}
 use Rattle.std.specs.List.{filter}
 use Rattle.olr_spec.specs.Map.{Map, IsMap, Edit, edited}
 use Rattle.olr_spec.specs.Extension.{Path, is_path}
+use Rattle.olr_spec.specs.Margins.{no_margin}
 use Rattle.olr_commands.specs.State.{ArePaths, same_name}
 use Rattle.olr_commands.proofs.NameLemmas.{paths_push, paths_filter}
 use Rattle.olr_near.specs.declared.distance_bounds.DistanceBounds.{DistanceBounds}
@@ -34,7 +35,7 @@ right_add M is name path good h =
       paths =
           subst ArePaths (sym (names_add is (record { name = name; path = path; made = None })))
           (paths_push (all_named is) (record { name = name; path = path }) h.paths good);
-      made = each_add (each_if_any M) is (record { name = name; path = path; made = None }) tt h.made;
+      made = each_add (each_if_any no_margin M) is (record { name = name; path = path; made = None }) tt h.made;
     }
 
 pub right_drop : (M : Map) (is : List Item) (name : List ℕ) → IsRight M is →
@@ -44,22 +45,22 @@ right_drop M is name h =
       paths =
           subst ArePaths (sym (names_drop name is))
           (paths_filter (λ p. not (same_name p.name name)) (all_named is) h.paths);
-      made = each_left (each_if_any M) (λ i. not (same_name i.name name)) is h.made;
+      made = each_left (each_if_any no_margin M) (λ i. not (same_name i.name name)) is h.made;
     }
 
-pub right_renewed : (M N : Map) (is js : List Item) → IsRight M is → AreRemade N is js →
+pub right_renewed : (M N : Map) (is js : List Item) → IsRight M is → AreRemade no_margin N is js →
     all_named js ≡ all_named is → IsRight N js
 right_renewed M N is js h remade names =
     record {
       paths = subst ArePaths (sym names) h.paths;
-      made = made_if_any N js (remade_made N is js remade);
+      made = made_if_any no_margin N js (remade_made no_margin N is js remade);
     }
 
 -- what a renewal after an edit requires
 pub right_before : (M N : Map) (e : Edit) (t : ChangeSet) (is : List Item) → IsMap M → edited M e ≡ Ok N →
-    IsNotedOf M e t → IsRight M is → IsBefore M N (nodes_of t) (lines_of t) (changed_of t) is
+    IsNotedOf M e t → IsRight M is → IsBefore no_margin M N (nodes_of t) (lines_of t) (changed_of t) is
 right_before M N e t is sound ok noted h =
-    is_before M N (nodes_of t) (lines_of t) (changed_of t) is
+    is_before no_margin refl M N (nodes_of t) (lines_of t) (changed_of t) is
     (noted_edit M N e (nodes_of t) (lines_of t) (changed_of t) ok noted.nodes noted.lines noted.changed) sound h.paths
     h.made
 

@@ -11,6 +11,8 @@ mod dumps;
 #[cfg(test)]
 mod kept;
 #[cfg(test)]
+mod margins;
+#[cfg(test)]
 mod path_list;
 #[cfg(test)]
 mod paths;

@@ -9,7 +9,7 @@ use made_maps::{Plain, STRAIGHT, line, lines, new_node, node, other_line, plain_
 use olr_map::{Edit, EditPlan, RoadMap, judge};
 use olr_near::DistanceBounds;
 use olr_paths::{ChangeSet, ChangedLine, Overlay, PathList, Searches, renew_over};
-use olr_refs::Path;
+use olr_refs::{Margin, Path};
 use std::alloc::Global;
 use std::process::Abort;
 
@@ -95,7 +95,17 @@ fn renew(rt: &impl Abort, alloc: Global, list: &mut PathList, map: &mut RoadMap,
     let mut searches = Searches::new(alloc);
     let none = Overlay::new(alloc);
     let _names = list.len();
-    let renewed = renew_over(list, alloc, &*map, &none, &touched, &bounds, &mut searches);
+    let renewed = renew_over(
+        list,
+        alloc,
+        &*map,
+        Margin::none(),
+        &none,
+        false,
+        &touched,
+        &bounds,
+        &mut searches,
+    );
     let report = renewed.expect(rt, "memory");
     assert!(rt; report.entries.len() <= list.len());
 }

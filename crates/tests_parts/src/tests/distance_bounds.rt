@@ -3,7 +3,7 @@
 use made_maps::{Plain, STRAIGHT, line, make, new_node, node, other_line, plain_line, plain_map};
 use olr_map::{Edit, RoadMap};
 use olr_near::DistanceBounds;
-use olr_search::GREATEST_LIMIT;
+use olr_search::LEG_LIMIT;
 use std::alloc::Global;
 use std::process::Abort;
 
@@ -57,7 +57,7 @@ fn add_within(
 
 /// As `add_within`, for a query of the greatest length.
 fn add(rt: &impl Abort, bounds: &mut DistanceBounds, map: &RoadMap, source: u32, nodes: &[u32]) {
-    add_within(rt, bounds, map, (source, GREATEST_LIMIT), nodes);
+    add_within(rt, bounds, map, (source, LEG_LIMIT), nodes);
 }
 
 /// The same after a line from one node to another was changed.

@@ -39,7 +39,7 @@ loop-position-preserved g c =
     let names : List (List ℕ) = map string_bytes c.loop-position.names.items in
     let here =
     by_steps is found
-    (λ p. AffectedNames (g.M.MapRead.map c.args.map.now) (nodes_of c.args.touched.now) (lines_of c.args.touched.now)
+    (λ p. AffectedNames c.args.margin (g.M.MapRead.map c.args.map.now) (nodes_of c.args.touched.now) (lines_of c.args.touched.now)
     (take p is) names)
     (λ p j a free o. names_left sound c.requires.before p j a names (c.requires.candidates.covers p j a free) o)
     k h.0 position (λ m a b. ascends found c.requires.candidates.ascending k m a b) h.2 (h.2.ahead k (omega arith) lt) (omega arith) h.1 in (
@@ -58,7 +58,7 @@ returns g c =
     let sound = g.met.M.MapRead.sound c.args.map.now in
     let names : List (List ℕ) = map string_bytes c.loop-position.names.items in
     rw (take_all (length is) is (omega arith)) at (by_steps is c.args.found.now
-    (λ p. AffectedNames (g.M.MapRead.map c.args.map.now) (nodes_of c.args.touched.now) (lines_of c.args.touched.now)
+    (λ p. AffectedNames c.args.margin (g.M.MapRead.map c.args.map.now) (nodes_of c.args.touched.now) (lines_of c.args.touched.now)
     (take p is) names)
     (λ p j a free o. names_left sound c.requires.before p j a names (c.requires.candidates.covers p j a free) o)
     c.loop-position.position-index h.0 (length is) (λ m a b. absurd (omega arith)) h.2 h.2.within (omega arith) h.1)

@@ -7,6 +7,6 @@ use Rattle.olr_paths.proofs.naming.names_by.Given as goal
 -- the names are those of the affected paths before the next position, and the candidates so far are among these paths
 abbrev pub invariant-loop-position : goal.invariant-loop-position
 invariant-loop-position g l =
-    (next : ℕ) × AffectedNames (g.M.MapRead.map l.map) (nodes_of l.touched) (lines_of l.touched)
+    (next : ℕ) × AffectedNames l.fn.margin (g.M.MapRead.map l.map) (nodes_of l.touched) (lines_of l.touched)
     (take next (shown_items l.overlaid)) (map string_bytes l.names.items)
     × Passed l.found (length (shown_items l.overlaid)) l.position-index next

@@ -1,7 +1,10 @@
 use Rattle.olr_paths.proofs.Common.{overlay_changes, after_renewal, option_map, AreEncoded, RemovesNone, unwrap_or, items}
 use Rattle.olr_paths.proofs.Common.{Reported, entry_of, Renewal, all_put, puts_of, Option, Begins, Entry, subst, None}
 use Rattle.olr_paths.proofs.Common.{refl, Some, List, ◌++◌, Item, ◌∷◌, inr, sym, map, ◌≡◌, ◌∙◌, inl, Bor, ap, []}
-use Rattle.olr_list.proofs.Changed.{put_on_overlaid, grown_differ}
+use Rattle.olr_paths.proofs.Common.{anew, false, made_at}
+use Rattle.std.proofs.Common.{Bool, true}
+use Rattle.olr_list.proofs.Common.{Put}
+use Rattle.olr_list.proofs.Changed.{put_on_overlaid, put_on_unmade, grown_differ}
 use Rattle.olr_list.proofs.OriginLemmas.{begins_all_put}
 use Rattle.olr_list.specs.Overlaid.{under_overlay}
 use Rattle.olr_list.specs.declared.overlay.Overlay.{Overlay}
@@ -13,14 +16,24 @@ are_encoded : (before js : List Item) (es : List Entry) → Reported before js e
 are_encoded before [] es h = tt
 are_encoded before (j ∷ js) es h = ((λ none. let lost = rw none at h.2 in cc lost), are_encoded before js h.1 h.3)
 
+-- the results are those for each path, or for the paths that were affected
+put_on_anew : (all : Bool) (before is : List Item) (ps : List Put) (es : List Entry) →
+    Reported before (all_put (anew all is) ps) es → all_put is ps ≡ all_put (anew all is) ps
+put_on_anew false before is ps es returned = refl
+put_on_anew true before is ps es returned = put_on_unmade before is ps es returned
+
 -- the results, stored in the list with the new paths at its end
-module _ (before : List Item) (is : List Item) (o : Overlay) (r : Renewal) (new : List Item)
+module _ (all : Bool) (before : List Item) (is : List Item) (o : Overlay) (r : Renewal) (new : List Item)
     (none_removed : RemovesNone (overlay_changes o))
-    (returned : Reported before (after_renewal r (under_overlay is o)) (map entry_of r.renewed.entries.items))
+    (returned : Reported before (after_renewal r (anew all (under_overlay is o))) (map entry_of r.renewed.entries.items))
     (put : new ≡ all_put (is ++ items o.added) (puts_of r.fresh.items)) where
-  renewed : new ≡ after_renewal r (under_overlay is o)
+  alike : after_renewal r (under_overlay is o) ≡ after_renewal r (anew all (under_overlay is o))
+  alike = put_on_anew all before (under_overlay is o) (made_at r) (map entry_of r.renewed.entries.items) returned
+
+  renewed : new ≡ after_renewal r (anew all (under_overlay is o))
   renewed = put ∙ put_on_overlaid (overlay_changes o) before is (items o.added) (puts_of r.fresh.items)
-      (map entry_of r.renewed.entries.items) none_removed returned
+      (map entry_of r.renewed.entries.items) none_removed
+      (subst (λ (js : List Item). Reported before js (map entry_of r.renewed.entries.items)) (sym alike) returned) ∙ alike
 
   encoded : AreEncoded new
   encoded = subst AreEncoded (sym renewed) (are_encoded before _ (map entry_of r.renewed.entries.items) returned)
@@ -38,13 +51,13 @@ renewal_of-requires g c =
 pub returns : goal.returns
 returns g c =
     let same = c.note_encoded.ensures
-    ∙ renewed (items c.unwrap_or.result.now) (items c.args.list.now) c.args.overlay.now c.in_ok-fresh.field-0
+    ∙ renewed c.args.all (items c.unwrap_or.result.now) (items c.args.list.now) c.args.overlay.now c.in_ok-fresh.field-0
     (items c.put_in.new.list) c.requires.none_removed c.in_ok-fresh.ensures.renewed.reported c.in_ok-put_in.ensures.ok in
     let was = ap (λ (b : Bor PathList). items b.now) c.unwrap_or.ensures ∙ before_is c.args.before _ in
     let e = c.in_ok-fresh.ensures in
     record {
       renewed = rw (same, ← was) e.renewed;
-      new_origins = λ v h. elim (begins_all_put (under_overlay (items c.args.list.now) c.args.overlay.now)
+      new_origins = λ v h. elim (begins_all_put (anew c.args.all (under_overlay (items c.args.list.now) c.args.overlay.now))
           (puts_of c.in_ok-fresh.field-0.fresh.items) v (subst (λ (is : List Item). Begins is v) same h)) [
             | inl a ↦ inl a
             | inr b ↦ inr (e.new_origins v b)
@@ -59,5 +72,5 @@ put_in-requires g c =
 
 pub note_encoded-requires : goal.note_encoded-requires
 note_encoded-requires g c =
-    encoded (items c.unwrap_or.result.now) (items c.args.list.now) c.args.overlay.now c.in_ok-fresh.field-0
+    encoded c.args.all (items c.unwrap_or.result.now) (items c.args.list.now) c.args.overlay.now c.in_ok-fresh.field-0
     (items c.put_in.new.list) c.requires.none_removed c.in_ok-fresh.ensures.renewed.reported c.in_ok-put_in.ensures.ok

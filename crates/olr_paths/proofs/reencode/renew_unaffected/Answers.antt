@@ -5,11 +5,11 @@ use Rattle.olr_paths.proofs.RenewedPrefix.{SoFar, so_far_none, to_position, whol
 use Rattle.olr_paths.proofs.reencode.renew_unaffected.Goals as goal
 
 pub returns-clause-renewed : goal.returns-clause-renewed
-returns-clause-renewed g c = λ L N slot edit was bounds.
+returns-clause-renewed g c = λ m L N slot edit was bounds.
     let is = items c.args.list.now in
     let t = c.args.touched.now in
     let e = c.none.ensures in
-    let all : SoFar N (nodes_of t) (lines_of t) (changed_of t) is is (take (length is) is) c.none.result =
+    let all : SoFar m N (nodes_of t) (lines_of t) (changed_of t) is is (take (length is) is) c.none.result =
     to_position edit.sound [] (follows_self is c.len-names.ensures.names)
     (c.affects_none.ensures.covers c.if-not-affects_none.false N slot edit bounds) 0 0 (length is)
     (λ m a b. absurd (omega arith)) passed_none (omega arith) (omega arith)

@@ -9,7 +9,7 @@ use Rattle.olr_paths.proofs.renewal.renewal_by.Given as goal
 -- searches are right
 abbrev pub invariant-loop-position : goal.invariant-loop-position
 invariant-loop-position g l =
-    (next : ℕ) × SoFar (g.M.MapRead.map l.map) (nodes_of l.touched) (lines_of l.touched) (changed_of l.touched) (items l.before)
+    (next : ℕ) × SoFar l.margin (g.M.MapRead.map l.map) (nodes_of l.touched) (lines_of l.touched) (changed_of l.touched) (items l.before)
     (shown_items l.overlaid) (take next (shown_items l.overlaid)) l.renewal
     × Passed l.found (length (shown_items l.overlaid)) l.position-index next
     × (0 < length l.found

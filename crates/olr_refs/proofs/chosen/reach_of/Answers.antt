@@ -6,11 +6,11 @@ use Rattle.olr_refs.proofs.chosen.reach_of.Goals as goal
 
 pub returns-then-resolved-i-le2 : goal.returns-then-resolved-i-le2
 returns-then-resolved-i-le2 g c = record {
-  reach = reach_near_end (g.M.MapRead.map c.args.resolved.now.map.now) c.args.resolved.now.lines.now c.args.i
-      c.last_within_limit.result c.args.resolved.now.joined c.last_within_limit.ensures
-      (g.met.M.MapRead.sound c.args.resolved.now.map.now) c.requires.some (omega arith);
+  reach = reach_near_end c.args.resolved.now.margin (g.M.MapRead.map c.args.resolved.now.map.now)
+      (g.met.M.MapRead.sound c.args.resolved.now.map.now) c.args.resolved.now.lines.now c.args.i
+      c.last_within_limit.result c.args.resolved.now.joined c.last_within_limit.ensures c.requires.some (omega arith);
   asks = λ before begun x.
-      asks_none (g.M.MapRead.map c.args.resolved.now.map.now) c.args.resolved.now.lines.now c.args.reuse.now before
+      asks_none c.args.resolved.now.margin (g.M.MapRead.map c.args.resolved.now.map.now) c.args.resolved.now.lines.now c.args.reuse.now before
       c.args.i c.args.queries.now begun _ (omega arith) x;
 }
 
@@ -19,5 +19,5 @@ returns-clause-asks g c = λ before begun x.
     let found = c.in_ok-found.found in
     let own : c.match-found.queries.own.items ≡ c.args.queries.now.own.items ++ option_to_list found.own =
     elim c.match-found.branch [ in-Some+in_ok-push-2 w ↦ grind arith | in_default w ↦ grind (arith, append-nil) ] in
-    asks_more (g.M.MapRead.map c.args.resolved.now.map.now) c.args.resolved.now.lines.now c.args.reuse.now before c.args.i
+    asks_more c.args.resolved.now.margin (g.M.MapRead.map c.args.resolved.now.map.now) c.args.resolved.now.lines.now c.args.reuse.now before c.args.i
     c.args.queries.now _ found begun _ _ (omega arith) x c.in_ok-found.ensures (grind arith) own (grind arith)

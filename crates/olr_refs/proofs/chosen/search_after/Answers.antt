@@ -1,32 +1,51 @@
-use Rattle.olr_refs.proofs.Common.{[], ◌∷◌, refl, rules, sym, ◌∙◌, arith, CoverageQuery, Along, IsSearch, Work}
+use Rattle.olr_refs.proofs.Common.{[], ◌∷◌, ◌+◌, ℕ, List, refl, rules, sym, subst, stretch, CoverageQuery, Along}
+use Rattle.olr_refs.proofs.Common.{IsSearch, Map, Work}
+use Rattle.olr_refs.proofs.Counting.{plain_search}
 use Rattle.olr_refs.proofs.Noting.{one_cost, one_noted}
 use Rattle.olr_refs.proofs.chosen.search_after.Given.{Over}
-use Rattle.olr_refs.proofs.chosen.search_after.Goals.{After-settled_count}
+use Rattle.olr_refs.proofs.chosen.search_after.Goals.{In_ok-tested}
 use Rattle.olr_refs.proofs.chosen.search_after.Goals as goal
+use Rattle.olr_refs.specs.Choice.{begun_at}
+use Rattle.olr_spec.specs.Margins.{counted}
 
-pub note_settled-requires : goal.note_settled-requires
-note_settled-requires g c = (_, _, c.in_ok-tested.ensures.search)
+module _ (g : Over) (c : In_ok-tested g) where
+  abbrev M : Map
+  M = g.M.MapRead.map c.args.resolved.now.map.now
 
--- the search, as one from where the query begins
-one_search : (g : Over) (c : After-settled_count g) →
-    IsSearch (g.M.MapRead.map c.args.resolved.now.map.now) (g.M.MapRead.node_slot c.args.resolved.now.map.now) Along
-    ((c.end-from.result, 0) ∷ []) c.covered_to.new.search
-one_search g c = grind arith
+  abbrev slot : ℕ → ℕ
+  slot = g.M.MapRead.node_slot c.args.resolved.now.map.now
+
+  abbrev tested : List ℕ
+  tested = stretch c.args.resolved.now.lines.now (c.args.i + 1) c.in_ok-tested.tested.last
+
+  -- the search, as one from where the query begins
+  one_search : IsSearch (counted c.args.resolved.now.margin M tested) slot Along
+      ((c.end-from.result, begun_at c.args.resolved.now.margin) ∷ []) c.covered_to.new.search
+  one_search =
+      subst (λ (v : ℕ). IsSearch (counted c.args.resolved.now.margin M tested) slot Along
+      ((v, begun_at c.args.resolved.now.margin) ∷ []) c.covered_to.new.search) (sym c.end-from.ensures.value)
+      c.in_ok-tested.ensures.search
+
+pub note_reached-requires-clause-found : goal.note_reached-requires-clause-found
+note_reached-requires-clause-found g c = λ none.
+    let at = (goal.at.note_reached-requires-clause-found g c).In_ok-tested in (
+      plain_search c.args.resolved.now.margin (M g at) (slot g at) (tested g at) c.end-from.result c.covered_to.new.search none
+          (one_search g at),
+      c.in_ok-tested.ensures.no_farther,
+    )
 
 pub returns : goal.returns
 returns g c =
-    let M = g.M.MapRead.map c.args.resolved.now.map.now in
-    let place = g.M.MapRead.node_slot c.args.resolved.now.map.now in
-    let query : CoverageQuery = record { from = c.end-from.result; to = c.node.result; within = c.between.result } in
+    let at = (goal.at.returns g c).In_ok-tested in
+    let query : CoverageQuery =
+    record { from = c.end-from.result; to = c.node.result; within = c.in_ok-tested.tested.within } in
     let work : Work = record { encodings = 0; searches = 1; settled = c.settled_count.result } in
-    let tested = c.in_ok-tested.ensures in
-    let far = tested.no_farther ∙ sym c.between.ensures.value in
+    let here = c.in_ok-tested.ensures in
     record {
-      reach = tested.reach;
-      query = (c.in_ok-tested.tested.last, tested.last, search rules);
+      reach = here.reach;
+      query = (c.in_ok-tested.tested.last, here.last, search rules);
       own = c.own_query-own.ensures;
-      cost = one_cost M place query c.covered_to.new.search work (one_search g c) c.end-from.ensures.known far
-          (c.settled_count.ensures _ _ _ _ (one_search g c)) refl;
-      searched = λ none. one_noted M place query c.covered_to.new.search work _ _ (one_search g c)
-          c.end-from.ensures.known far refl (c.in_ok-note_settled.ensures _ _ (one_search g c));
+      cost = one_cost c.args.resolved.now.margin (M g at) (tested g at) (begun_at c.args.resolved.now.margin) query
+          c.covered_to.new.search work here.no_farther (c.settled_count.ensures _ _ _ _ (one_search g at)) refl;
+      searched = λ none. one_noted (M g at) query work _ _ refl c.in_ok-note_reached.ensures;
     }

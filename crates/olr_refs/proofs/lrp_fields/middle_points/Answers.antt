@@ -12,6 +12,6 @@ loop-k-preserved g c =
     let k = c.loop-k.k in
     let on : k + 2 ≡ k + 1 + 1 = omega arith in
     c.in_ok-push.ensures.items ∙ ap (λ (ps : List Middle). ps ++ c.middle_point-point.result ∷ []) c.loop-k.invariant
-    ∙ ap (λ (p : Middle). middle_points_of gs (take (k + 1) c.args.points.now) ++ p ∷ []) c.middle_point-point.ensures
-    ∙ sym (middle_more gs c.args.points.now k (omega arith) (omega arith))
-    ∙ ap (λ (n : ℕ). middle_points_of gs (take n c.args.points.now)) on
+    ∙ ap (λ (p : Middle). middle_points_of c.args.resolved.now.margin gs (take (k + 1) c.args.points.now) ++ p ∷ []) c.middle_point-point.ensures
+    ∙ sym (middle_more c.args.resolved.now.margin gs c.args.points.now k (omega arith) (omega arith))
+    ∙ ap (λ (n : ℕ). middle_points_of c.args.resolved.now.margin gs (take n c.args.points.now)) on

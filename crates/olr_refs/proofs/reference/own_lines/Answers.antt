@@ -15,13 +15,13 @@ line_at-requires g c =
 
 pub overflow_sub-kept : goal.overflow_sub-kept
 overflow_sub-kept g c =
-    let end = linked_end (g.M.MapRead.map c.args.resolved.now.map.now) c.args.resolved.now.lines.now c.args.kept.now
+    let end = linked_end c.args.resolved.now.margin (g.M.MapRead.map c.args.resolved.now.map.now) c.args.resolved.now.lines.now c.args.kept.now
     c.requires.linked c.requires.two in
     omega (arith, end.after)
 
 pub line_at-requires-2 : goal.line_at-requires-2
 line_at-requires-2 g c =
-    let end = linked_end (g.M.MapRead.map c.args.resolved.now.map.now) c.args.resolved.now.lines.now c.args.kept.now
+    let end = linked_end c.args.resolved.now.margin (g.M.MapRead.map c.args.resolved.now.map.now) c.args.resolved.now.lines.now c.args.kept.now
     c.requires.linked c.requires.two in
     omega (arith, end.after, end.upto)
 

@@ -1,4 +1,4 @@
-use Rattle.olr_refs.proofs.Common.{sym, subst, IsReference, later, reference_fits, ap, ◌∙◌}
+use Rattle.olr_refs.proofs.Common.{sym, subst, IsReference, later, reference_fits_with, ap, ◌∙◌}
 use Rattle.olr_spec.specs.Recovery.{own_lines}
 use Rattle.olr_refs.proofs.LegLemmas.{joined_known}
 use Rattle.olr_refs.proofs.Trimming.{IsCut, some_lines, points_along, trimmed}
@@ -8,17 +8,17 @@ use Rattle.olr_refs.proofs.reference.reference_of.Goals as goal
 
 pub trim-trimmed-requires-clause-along : goal.trim-trimmed-requires-clause-along
 trim-trimmed-requires-clause-along g c =
-    points_along (g.M.MapRead.map c.args.resolved.now.map.now) c.args.resolved.now.lines.now
+    points_along c.args.resolved.now.margin (g.M.MapRead.map c.args.resolved.now.map.now) c.args.resolved.now.lines.now
     c.args.resolved.now.distances.now
     c.args.points.now c.args.resolved.now.measured c.requires.points
 
 -- the remaining LRPs
 cut : (g : Over) (c : After-trim-trimmed g) →
-    IsCut (g.M.MapRead.map c.args.resolved.now.map.now) c.args.resolved.now.lines.now c.args.resolved.now.distances.now
+    IsCut c.args.resolved.now.margin (g.M.MapRead.map c.args.resolved.now.map.now) c.args.resolved.now.lines.now c.args.resolved.now.distances.now
     c.args.points.now c.args.pos c.args.neg c.trim-trimmed.result.points.now c.trim-trimmed.result.pos
     c.trim-trimmed.result.neg
 cut g c =
-    trimmed (g.M.MapRead.map c.args.resolved.now.map.now) c.args.resolved.now.lines.now
+    trimmed c.args.resolved.now.margin (g.M.MapRead.map c.args.resolved.now.map.now) c.args.resolved.now.lines.now
     c.args.resolved.now.distances.now c.args.points.now c.args.resolved.now.measured c.requires.points c.args.pos
     c.args.neg _ _ _ c.trim-trimmed.ensures c.requires.long
 
@@ -35,7 +35,7 @@ reference_by-requires g c =
       kept = rest.are;
       pos = rest.pos_within;
       neg = rest.neg_within;
-      fits = subst IsReference (sym rest.value) (reference_fits M (g.met.M.MapRead.sound c.args.resolved.now.map.now) ls
+      fits = subst IsReference (sym rest.value) (reference_fits_with c.args.resolved.now.margin M (g.met.M.MapRead.sound c.args.resolved.now.map.now) ls
           (joined_known M ls c.args.resolved.now.joined) (some_lines M ls _ c.requires.long) (later c.args.points.now)
           c.args.pos c.args.neg p.follow p.to_end c.requires.long);
     }

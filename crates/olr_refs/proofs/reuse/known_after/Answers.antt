@@ -14,6 +14,6 @@ returns g c =
     let result : Found =
     record { reach = c.reach_by.result; query = c.known.inside.query; own = Some known; work = c.none.result } in
     let query : c.known.inside.query ≡ known.query = grind arith in
-    answered_known (g.M.MapRead.map c.args.resolved.now.map.now) c.args.resolved.now.lines.now c.args.reuse.now
+    answered_known c.args.resolved.now.margin (g.M.MapRead.map c.args.resolved.now.map.now) (g.met.M.MapRead.sound c.args.resolved.now.map.now) c.args.resolved.now.lines.now c.args.reuse.now
     c.requires.reuse c.args.resolved.now.joined c.args.i c.args.far c.requires.some c.requires.far known at.0
     (omega arith) (c.ends_here.ensures.0 c.if-not-ends_here.false) result c.reach_by.ensures query refl c.none.ensures

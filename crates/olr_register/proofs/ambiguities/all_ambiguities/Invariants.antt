@@ -6,4 +6,4 @@ use Rattle.olr_register.proofs.ambiguities.all_ambiguities.Given as goal
 -- of the paths so far
 abbrev pub invariant-loop-k : goal.invariant-loop-k
 invariant-loop-k g l =
-    Ambiguities (g.M.MapRead.map l.map) (take l.k (all_named (items l.paths))) (map named_obstacle_of l.all.items)
+    Ambiguities l.margin (g.M.MapRead.map l.map) (take l.k (all_named (items l.paths))) (map named_obstacle_of l.all.items)

@@ -1,11 +1,14 @@
+use Rattle.olr_register.proofs.Common.{subst}
+use Rattle.olr_commands.specs.State.{NamesDiffer}
 use Rattle.olr_register.proofs.Bounded.{settled_bounds}
+use Rattle.olr_register.proofs.Listed.{named_anew}
 use Rattle.olr_register.proofs.bounds.preview.Goals as goal
 
 pub preview_over-requires : goal.preview_over-requires
 preview_over-requires c =
     let h = c.requires.renewable.1 in
     record {
-      names = h.names;
+      names = subst NamesDiffer (named_anew c.args.all _) h.names;
       follows = h.follows;
       bounds = c.settle_bounds.ensures _ c.requires.bounded;
       before = (c.requires.renewable.0, h.before);

@@ -7,7 +7,7 @@ use Rattle.olr_register.proofs.edits.make_and_renew.Goals as goal
 pub returns-in_err-make_kept : goal.returns-in_err-make_kept
 returns-in_err-make_kept c =
     let same = c.in_err-make_kept.ensures.same in
-    edit_unmade _ _ _ _ _ _ _ _ _ c.from_residual.ensures.1
+    edit_unmade _ _ _ _ _ _ _ _ _ _ c.from_residual.ensures.1
     (bounds_stay c.args.roads.now c.make_kept.new.self c.make_kept.ensures.slots same c.requires.bounded) same refl
 
 pub returns : goal.returns
@@ -25,7 +25,7 @@ returns c =
     } in
     record {
       done = done;
-      renewed = c.in-Some.ensures.renewed (map_of old) (map_of new) (slot_of new) edit can.before right;
+      renewed = c.in-Some.ensures.renewed c.args.margin (map_of old) (map_of new) (slot_of new) edit can.before right;
       bounded = settled_bounds right;
       same_map = tt;
       same_list = tt;

@@ -42,5 +42,5 @@ returns-in-Err c =
 pub returns-in_err-undo : goal.returns-in_err-undo
 returns-in_err-undo c =
     let same = c.in_err-undo.ensures.same in
-    edit_unmade _ _ _ _ _ _ _ _ _ c.from_residual.ensures.1
+    edit_unmade _ _ _ _ _ _ _ _ _ _ c.from_residual.ensures.1
     (bounds_stay c.args.roads.now c.make.new.self c.make.ensures.slots same c.requires.bounded) same refl

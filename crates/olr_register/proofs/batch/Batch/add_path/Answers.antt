@@ -1,8 +1,8 @@
 use Rattle.olr_register.proofs.Common.{◌≡◌, inl, inr, string_bytes, false, refl, sym, ap, ◌∙◌, map_of, Add_path, items}
-use Rattle.olr_register.proofs.Common.{under_overlay, has_name, path_by, No_memory}
+use Rattle.olr_register.proofs.Common.{anew, under_batch, under_overlay, has_name, path_by, No_memory}
 use Rattle.olr_list.proofs.OriginLemmas.{begins_add}
 use Rattle.olr_register.proofs.Changing.{add_refused, add_ok}
-use Rattle.olr_register.proofs.Listed.{each_add, each_if_any, each_follows, given_add}
+use Rattle.olr_register.proofs.Listed.{anew_add, each_add, each_if_any, each_follows, given_add, has_anew}
 use Rattle.olr_register.proofs.Making.{path_unmade, path_made}
 use Rattle.olr_register.proofs.batch.Batch.add_path.Goals as goal
 
@@ -15,19 +15,20 @@ hold-requires c = (
 
 pub returns-in_err-path : goal.returns-in_err-path
 returns-in_err-path c = λ roads.
-    let ks = under_overlay (items c.args.list.now) c.args.self.now.overlay in
+    let us = under_overlay (items c.args.list.now) c.args.self.now.overlay in
     path_unmade roads (items c.args.list.now) c.args.self.now c.args.self.now.overlay _ c.from_residual.result
     c.in_err-path.field-0.0 c.from_residual.ensures.1 refl
     (add_refused _ (string_bytes c.args.name) (path_by c.args.parts) c.has-taken.result _
-    (c.has-taken.ensures ∙ ap (has_name ks) c.deref.ensures) c.in_err-path.ensures.fault)
+    (c.has-taken.ensures ∙ ap (has_name us) c.deref.ensures ∙ sym (has_anew _ us _)) c.in_err-path.ensures.fault)
 
 pub returns-in_err-hold : goal.returns-in_err-hold
 returns-in_err-hold c = λ roads.
     let is = items c.args.list.now in
     path_unmade roads is c.args.self.now c.hold.new.self _ _ No_memory c.from_residual-in_err-hold.ensures.1
-    (c.in_err-hold.ensures.err is)
+    (ap (anew c.args.self.now.all) (c.in_err-hold.ensures.err is))
     (add_refused _ (string_bytes c.args.name) (path_by c.args.parts) c.has-taken.result _
-    (c.has-taken.ensures ∙ ap (has_name (under_overlay is c.args.self.now.overlay)) c.deref.ensures)
+    (c.has-taken.ensures ∙ ap (has_name (under_overlay is c.args.self.now.overlay)) c.deref.ensures
+    ∙ sym (has_anew _ (under_overlay is c.args.self.now.overlay) _))
     c.in_ok-path.ensures.lacks)
 
 pub returns : goal.returns
@@ -35,12 +36,14 @@ returns c = λ roads.
     let is = items c.args.list.now in
     let name = string_bytes c.args.name in
     let path = path_by c.args.parts in
-    let ks = under_overlay is c.args.self.now.overlay in
+    let b = c.args.self.now in
+    let us = under_overlay is b.overlay in
+    let ks = under_batch is b in
     let free : has_name ks name ≡ false =
-    ap (has_name ks) (sym c.deref.ensures) ∙ sym c.has-taken.ensures ∙ c.in_ok-path.ensures.right in
-    path_made roads is c.args.self.now c.hold.new.self (Add_path name path) _
-    (rw (← c.in_ok-path.ensures.ok) (c.in_ok-hold.ensures.ok is))
-    (add_ok (map_of roads) ks name path _ free c.in_ok-path.ensures.good) tt refl refl
-    (λ names g. given_add name path names ks free g) (λ M. each_add (each_if_any M) ks _ tt)
+    has_anew b.all us name ∙ ap (has_name us) (sym c.deref.ensures) ∙ sym c.has-taken.ensures ∙ c.in_ok-path.ensures.right in
+    path_made roads is b c.hold.new.self (Add_path name path) _
+    (rw (← c.in_ok-path.ensures.ok) (ap (anew b.all) (c.in_ok-hold.ensures.ok is) ∙ anew_add b.all us name _))
+    (add_ok b.margin (map_of roads) ks name path _ free c.in_ok-path.ensures.good) tt refl refl
+    (λ xs g. given_add name path xs ks free g) (λ M. each_add (each_if_any b.margin M) ks _ tt)
     (each_add (each_follows is) ks _ (inl refl))
     (λ v on. elim (begins_add ks _ v on) [ inl old ↦ old | inr never ↦ absurd never ])

@@ -12,6 +12,7 @@ returns-then-is_full c = record {
   refused = ByContent (rw (← c.if-is_full.ensures));
   unchanged = refl;
   held = c.requires;
+  margin = λ g k. k;
   under_way = λ f h. h;
 }
 
@@ -28,6 +29,7 @@ returns-in_err-make c =
       refused = rw (← c.if-is_full.ensures) m.refused;
       unchanged = m.unchanged;
       held = m.held c.requires;
+      margin = m.margin;
       under_way = m.under_way;
     })
 
@@ -54,5 +56,6 @@ returns c =
         follows = h.follows;
         begins = h.begins;
       };
+      margin = m.margin;
       under_way = m.under_way;
     }

@@ -18,15 +18,15 @@ invariant_of-self c =
     let right = right_as s (sym c.in-Some.ensures.value) c.self.invariant in
     rw c.take.ensures.after (record {
       register =
-          register_moved s.roads c.undo_edits.new.roads (items s.paths) (Some c.in-Some.field-0) None
-          c.undo_edits.ensures.map tt right.register;
+          register_moved s.margin s.roads c.undo_edits.new.roads (items s.paths) (Some c.in-Some.field-0) None
+          c.undo_edits.ensures.map tt tt right.register;
       bounded = c.undo_edits.ensures.bounded (items s.paths) right.bounded;
     })
 
 pub returns-in-Some : goal.returns-in-Some
 returns-in-Some c =
     let s = c.self.inside in
-    let k : RegisterState = record { content = content_on (map_before s.roads c.in-Some.field-0.log) (items s.paths); batch = None } in
+    let k : RegisterState = record { content = content_on s.margin (map_before s.roads c.in-Some.field-0.log) (items s.paths); batch = None } in
     rw (← c.self.view_is, ← c.in-Some.ensures.value, c.take.ensures.after, c.undo_edits.ensures.map)
     (answered_uncounted _ k Abort (reply.Paths c.new.result) (in_states (record k { batch = Some (batch_of s.roads (items s.paths) c.in-Some.field-0) })
     (Keeps k Abort (reply.Paths c.new.result)) (λ xs i. (

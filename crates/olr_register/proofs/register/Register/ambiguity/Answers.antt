@@ -18,14 +18,14 @@ pub returns-in_default : goal.returns-in_default
 returns-in_default c =
     let r = c.self.inside in
     rw (← c.self.view_is) (shut_refused c.self.inside (Ambiguous (Some c.args.name.now)) (sym c.if-is_some.ensures) _ _ refl
-    (ByState (none_asked (content_on (map_of r.roads) (items r.paths)) c.args.name.now (sym c.in_default.ensures))))
+    (ByState (none_asked (content_on r.margin (map_of r.roads) (items r.paths)) c.args.name.now (sym c.in_default.ensures))))
 
 pub returns-in_err-grid : goal.returns-in_err-grid
 returns-in_err-grid c =
     let r = c.self.inside in
     rw (← c.self.view_is) (shut_refused c.self.inside (Ambiguous (Some c.args.name.now)) (sym c.if-is_some.ensures)
     _ No_memory c.from_residual.ensures.1
-    (Lacks refl (ap may_want (one_asked (content_on (map_of r.roads) (items r.paths)) c.args.name.now c.in-Some.path.now
+    (Lacks refl (ap may_want (one_asked (content_on r.margin (map_of r.roads) (items r.paths)) c.args.name.now c.in-Some.path.now
     (sym c.in-Some.ensures)))))
 
 pub returns-in_err-push_ambiguity : goal.returns-in_err-push_ambiguity
@@ -33,7 +33,7 @@ returns-in_err-push_ambiguity c =
     let r = c.self.inside in
     rw (← c.self.view_is) (shut_refused c.self.inside (Ambiguous (Some c.args.name.now)) (sym c.if-is_some.ensures)
     _ No_memory c.from_residual-in_err-push_ambiguity.ensures.1
-    (Lacks refl (ap may_want (one_asked (content_on (map_of r.roads) (items r.paths)) c.args.name.now c.in-Some.path.now
+    (Lacks refl (ap may_want (one_asked (content_on r.margin (map_of r.roads) (items r.paths)) c.args.name.now c.in-Some.path.now
     (sym c.in-Some.ensures)))))
 
 pub returns : goal.returns
@@ -42,11 +42,11 @@ returns c =
     let own = c.in_ok-push_ambiguity.ensures in
     rw (← c.self.view_is) (shut_answered c.self.inside (Ambiguous (Some c.args.name.now)) (sym c.if-is_some.ensures)
     (reply.Obstacles c.push_ambiguity.new.all) refl (
-      one_asked (content_on (map_of r.roads) (items r.paths)) c.args.name.now c.in-Some.path.now (sym c.in-Some.ensures),
+      one_asked (content_on r.margin (map_of r.roads) (items r.paths)) c.args.name.now c.in-Some.path.now (sym c.in-Some.ensures),
       (
         c.in-Some.path.now,
         sym c.in-Some.ensures,
-        subst (Ambiguity (map_of r.roads) (record { name = c.args.name.now; path = c.in-Some.path.now }))
+        subst (Ambiguity r.margin (map_of r.roads) (record { name = c.args.name.now; path = c.in-Some.path.now }))
             (sym (own.2 ∙ ap (λ es. map named_obstacle_of es ++ own.0) c.new-own.ensures.items)) own.1,
       ),
     ))

@@ -5,7 +5,7 @@ use Rattle.olr_register.proofs.register.Register.answer.Goals as goal
 pub returns-in_err-published : goal.returns-in_err-published
 returns-in_err-published c =
     let r = c.self.inside in
-    answer_published (map_kept r.roads r.batch) (items r.paths) _ c.args.name.now _
+    answer_published r.margin (map_kept r.roads r.batch) (items r.paths) _ c.args.name.now _
     (ap (λ (x : Registered). x.kept.content) c.self.view_is) c.self.invariant.register.made
     (ap (option_map (λ a. _)) c.from_residual.ensures
     ∙ ap (option_map (λ (m : Made). m.answer)) c.in_err-published.ensures)
@@ -13,6 +13,6 @@ returns-in_err-published c =
 pub returns : goal.returns
 returns c =
     let r = c.self.inside in
-    answer_published (map_kept r.roads r.batch) (items r.paths) _ c.args.name.now _
+    answer_published r.margin (map_kept r.roads r.batch) (items r.paths) _ c.args.name.now _
     (ap (λ (x : Registered). x.kept.content) c.self.view_is) c.self.invariant.register.made
     (ap (λ (a : Answer). Some a) c.answer.ensures ∙ ap (option_map (λ (m : Made). m.answer)) c.in_ok-published.ensures)

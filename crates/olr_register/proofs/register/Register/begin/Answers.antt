@@ -1,4 +1,4 @@
-use Rattle.olr_register.proofs.Common.{map, refl, ap, sym, none_of, Begin, entry_of, items}
+use Rattle.olr_register.proofs.Common.{map, false, refl, ap, sym, none_of, Begin, entry_of, items}
 use Rattle.olr_register.proofs.BatchSteps.{IsEmpty, begun_held, begin_done}
 use Rattle.olr_register.proofs.WithoutBatch.{open_refused}
 use Rattle.olr_commands.specs.Reply as replies
@@ -9,10 +9,18 @@ returns-then-is_some c =
     rw (← c.self.view_is) (open_refused c.self.inside Begin _ (sym c.if-is_some.ensures) (λ d xs. refl))
 
 empty : (c : goal.After-new-4) →
-    IsEmpty (record { log = c.new.result; overlay = c.new-2.result; count = 0; touched = c.new-3.result })
+    IsEmpty c.self.inside.margin (record {
+      log = c.new.result;
+      overlay = c.new-2.result;
+      margin = c.self.inside.margin;
+      all = false;
+      count = 0;
+      touched = c.new-3.result;
+    })
 empty c = record {
   log = c.new.ensures;
   paths = c.new-2.ensures;
+  margin = refl;
   count = refl;
   nodes = c.new-3.ensures.nodes;
   lines = c.new-3.ensures.lines;
@@ -23,12 +31,12 @@ pub invariant_of-self : goal.invariant_of-self
 invariant_of-self c =
     let s = c.self.inside in
     let none = none_of s.batch (sym c.if-is_some.ensures) in
-    rw c.replace.ensures.after (begun_held s.roads (items s.paths) _ s.bounds (rw none at c.self.invariant) (empty c))
+    rw c.replace.ensures.after (begun_held s.margin s.roads (items s.paths) _ s.bounds (rw none at c.self.invariant) (empty c))
 
 pub returns : goal.returns
 returns c =
     let s = c.self.inside in
     let none = none_of s.batch (sym c.if-is_some.ensures) in
     rw (← c.self.view_is, none, c.replace.ensures.after)
-    (begin_done s.roads (items s.paths) _ s.bounds (rw none at c.self.invariant) (empty c) _ _
+    (begin_done s.margin s.roads (items s.paths) _ s.bounds (rw none at c.self.invariant) (empty c) _ _
     (ap (λ es. replies.Paths (map entry_of es)) c.new-4.ensures.items))

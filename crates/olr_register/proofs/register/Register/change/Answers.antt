@@ -12,8 +12,8 @@ invariant_of-self c =
     let right = right_as s c.in-Some.is c.self.invariant in
     record {
       register =
-          register_moved s.roads c.hold.new.roads (items s.paths) (Some c.in-Some.batch) _ c.hold.ensures.before
-          c.hold.ensures.held right.register;
+          register_moved s.margin s.roads c.hold.new.roads (items s.paths) (Some c.in-Some.batch) _ c.hold.ensures.before
+          c.hold.ensures.held (c.hold.ensures.margin s.margin right.register.margin) right.register;
       bounded = record {
         under_way = c.hold.ensures.under_way s.bounds right.bounded.under_way;
         sources = right.bounded.sources;
@@ -25,5 +25,5 @@ returns-in-Some c =
     let s = c.self.inside in
     let b = c.in-Some.batch in
     rw (← c.self.view_is, c.in-Some.is, c.hold.ensures.before)
-    (answered_held (content_on (map_before s.roads b.log) (items s.paths)) s.roads c.hold.new.roads (items s.paths) b
+    (answered_held (content_on s.margin (map_before s.roads b.log) (items s.paths)) s.roads c.hold.new.roads (items s.paths) b
     c.hold.new.self (change_of c.args.change) s.work c.hold.result c.hold.ensures)

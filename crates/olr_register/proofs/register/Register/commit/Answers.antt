@@ -1,9 +1,10 @@
 use Rattle.olr_register.proofs.Common.{◌≡◌, true, false, Some, None, Ok, List, map, length, refl, sym, ap, ◌∙◌, subst}
 use Rattle.olr_register.proofs.Common.{ne_eqb, map_of, map_before, Named, Content, Commit, IsContent, ByState, may_want}
 use Rattle.olr_register.proofs.Common.{entry_of, items, all_named, under_overlay, nodes_of, lines_of}
-use Rattle.olr_register.proofs.Common.{Registered, content_on, batch_of, Lacks_memory}
+use Rattle.olr_register.proofs.Common.{Registered, content_on, batch_of, Lacks_memory, Affects, AreGiven, Batch, Bool, Change}
+use Rattle.olr_register.proofs.Common.{Item, Map, Margin, all_lines, all_nodes, anew, has, held_of, under_batch, ℕ}
 use Rattle.olr_register.proofs.BatchSteps.{held_content, right_count}
-use Rattle.olr_register.proofs.Counting.{counted_changes, rise_on}
+use Rattle.olr_register.proofs.Counting.{counted_all, counted_changes, rise_on}
 use Rattle.olr_register.proofs.Noted.{can_commit}
 use Rattle.olr_register.proofs.Outcomes.{answered_counted, answered_refused, Accepts}
 use Rattle.olr_register.proofs.Renewed.{remade_made}
@@ -12,7 +13,33 @@ use Rattle.olr_register.proofs.States.{state, of_parts, in_states, right_as}
 use Rattle.olr_commands.specs.declared.fault.CommandFault.TheVariants as rust
 use Rattle.olr_commands.specs.declared.reply.Reply.TheVariants as reply
 use Rattle.olr_search.specs.Counts.{raised_work}
+use Rattle.olr_commands.specs.Counts.{CountIs}
+use Rattle.olr_paths.specs.Changes.{IsAffected}
+use Rattle.olr_register.specs.Contents.{KeepsMargin}
 use Rattle.olr_register.proofs.register.Register.commit.Goals as goal
+
+-- the affected paths, by the results of the batch's list: if the margin was set, all of them
+counted_held : (g : Margin) (M : Map) (is : List Item) (b : Batch) (xs : List Change) → KeepsMargin g b →
+    ((v : ℕ) → has (nodes_of b.touched) v ≡ has (all_nodes (content_on g M is) xs) v) →
+    ((x : ℕ) → has (lines_of b.touched) x ≡ has (all_lines xs) x) → AreGiven xs (map held_of (under_batch is b)) →
+    (n : ℕ) → CountIs (IsAffected b.margin M (nodes_of b.touched) (lines_of b.touched)) (under_batch is b) n →
+    CountIs (Affects (content_on g M is) xs) (all_named (under_batch is b)) n
+counted_held g M is b xs same nodes lines given n count = by b.all refl given count where
+  us : List Item
+  us = under_overlay is b.overlay
+
+  c : Content
+  c = content_on g M is
+
+  by : (all : Bool) → b.all ≡ all → AreGiven xs (map held_of (anew all us)) →
+      CountIs (IsAffected b.margin M (nodes_of b.touched) (lines_of b.touched)) (anew all us) n →
+      CountIs (Affects c xs) (all_named (anew all us)) n
+  by true some given count =
+      counted_all b.margin M (nodes_of b.touched) (lines_of b.touched) c xs us n count given
+  by false none given count =
+      counted_changes c xs (nodes_of b.touched) (lines_of b.touched) nodes lines us n
+      (subst (λ (h : Margin). CountIs (IsAffected h M (nodes_of b.touched) (lines_of b.touched)) us n) (same none) count)
+      given (all_named us) refl
 
 pub returns-in_default : goal.returns-in_default
 returns-in_default c =
@@ -29,7 +56,7 @@ renew-requires c =
     let right = right_as s c.in-Some.is c.self.invariant in
     record {
       renewable =
-          (map_before s.roads c.in-Some.batch.log, can_commit s.roads (items s.paths) c.in-Some.batch right.register);
+          (map_before s.roads c.in-Some.batch.log, can_commit s.margin s.roads (items s.paths) c.in-Some.batch right.register);
       bounded = record {
         under_way = right.bounded.under_way;
         sources = λ l on. right.bounded.sources l (right.register.held.begins l on);
@@ -43,10 +70,11 @@ invariant_of-self-2 c =
     let e = c.in_ok-renewed.ensures in
     rw c.take.ensures.after (record {
       register = record {
-        content = subst (λ (ps : List Named). IsContent (record { map = map_of s.roads; paths = ps }))
+        content = subst (λ (ps : List Named). IsContent (record { map = map_of s.roads; paths = ps; margin = c.in-Some.batch.margin }))
             (sym e.renewed.named) right.register.held.sound;
-        made = remade_made (map_of s.roads) _ _ e.renewed.remade;
+        made = remade_made _ (map_of s.roads) _ _ e.renewed.remade;
         held = tt;
+        margin = tt;
       };
       bounded = e.bounded;
     })
@@ -60,12 +88,12 @@ returns c =
     let M = map_of s.roads in
     let e = c.in_ok-renewed.ensures in
     let right = right_as s c.in-Some.is c.self.invariant in
-    let old : Content = content_on (map_before s.roads b.log) is in
-    let new : Content = content_on M js in
-    let count = e.renewed.counted old.map (can_commit s.roads is b right.register).before in
+    let old : Content = content_on s.margin (map_before s.roads b.log) is in
+    let new : Content = content_on b.margin M js in
+    let count = e.renewed.counted old.map (can_commit s.margin s.roads is b right.register).before in
     let n = c.in_ok-renewed.renewed in
     let r = reply.Paths n.entries in
-    let later : Registered = of_parts s.roads js None (raised_work s.work n.work) in
+    let later : Registered = of_parts b.margin s.roads js None (raised_work s.work n.work) in
     rw (← c.self.view_is, c.in-Some.is, c.take.ensures.after, c.plus-self-inside.ensures) (answered_counted _ later (Commit c.args.count) r count.0
     (in_states (record { content = old; batch = Some (batch_of s.roads is b) })
     (Accepts later (Commit c.args.count) r count.0) (λ xs i. (
@@ -75,13 +103,13 @@ returns c =
         (
           right_count old (batch_of s.roads is b) xs i c.if-batch-count.false
               ∙ ap (λ (d : Content). Ok (state d None)) (held_content old s.roads is b xs i
-              ∙ ap (λ (ps : List Named). record { map = M; paths = ps }) (sym e.renewed.named)),
-          planned_changes old.map M is js (map entry_of n.entries.items) right.register.content
-              right.register.made (remade_made M _ js e.renewed.remade) e.renewed.reported,
+              ∙ ap (λ (ps : List Named). record { map = M; paths = ps; margin = b.margin }) (sym e.renewed.named)),
+          planned_changes s.margin b.margin old.map M is js (map entry_of n.entries.items) right.register.content
+              right.register.made (remade_made b.margin M _ js e.renewed.remade) e.renewed.reported,
         ),
       ),
-      counted_changes old xs (nodes_of b.touched) (lines_of b.touched) i.nodes i.lines (under_overlay is b.overlay) count.0
-          count.1 i.given (all_named js) e.renewed.named,
+      subst (λ (ps : List Named). CountIs (Affects old xs) ps count.0) (sym e.renewed.named)
+          (counted_held s.margin old.map is b xs right.register.margin i.nodes i.lines i.given count.0 count.1),
     )))
     (rise_on s.work n.work count.0 count.2) (λ off. let no : true ≡ false = off in absurd cc))
 

@@ -23,7 +23,7 @@ pub returns-then-not-are_nodes : goal.returns-then-not-are_nodes
 returns-then-not-are_nodes c =
     let r = c.self.inside in
     rw (← c.self.view_is) (shut_refused c.self.inside (Depends c.args.nodes.now) (sym c.if-is_some.ensures) _ _ refl
-    (ByState (no_nodes (map_of r.roads) (all_named (items r.paths)) c.args.nodes.now
+    (ByState (no_nodes r.margin (map_of r.roads) (all_named (items r.paths)) c.args.nodes.now
     (sym c.are_nodes.ensures ∙ c.if-not-are_nodes.true))))
 
 pub returns-in_err-around : goal.returns-in_err-around
@@ -31,7 +31,7 @@ returns-in_err-around c =
     let r = c.self.inside in
     rw (← c.self.view_is) (shut_refused c.self.inside (Depends c.args.nodes.now) (sym c.if-is_some.ensures)
     _ No_memory c.from_residual.ensures.1
-    (Lacks refl (ap may_want (nodes_asked (map_of r.roads) (all_named (items r.paths)) c.args.nodes.now
+    (Lacks refl (ap may_want (nodes_asked r.margin (map_of r.roads) (all_named (items r.paths)) c.args.nodes.now
     (sym c.are_nodes.ensures ∙ c.if-not-are_nodes.false)))))
 
 pub affected_names-requires-clause-before : goal.affected_names-requires-clause-before
@@ -39,14 +39,14 @@ affected_names-requires-clause-before c =
     let r = c.self.inside in
     let t = c.in_ok-around.around in
     let right = right_as r (none_of r.batch (sym c.if-is_some.ensures)) c.self.invariant in
-    is_before (map_of r.roads) (map_of r.roads) (nodes_of t) (lines_of t) (changed_of t) (items r.paths)
+    is_before r.margin right.register.content.margin (map_of r.roads) (map_of r.roads) (nodes_of t) (lines_of t) (changed_of t) (items r.paths)
     (noted_idle (map_of r.roads) (nodes_of t) (lines_of t) (changed_of t) c.in_ok-around.ensures.changed)
     right.register.content.map right.register.content.paths
-    (made_if_any (map_of r.roads) (items r.paths) right.register.made)
+    (made_if_any r.margin (map_of r.roads) (items r.paths) right.register.made)
 
 -- the bounds after they are settled, and the register with them
 module _ (r : Inside) (f : DistanceBounds) (shut : r.batch ≡ None)
-    (kept : IsKeptRight r.roads (items r.paths) r.batch r.bounds)
+    (kept : IsKeptRight r.margin r.roads (items r.paths) r.batch r.bounds)
     (right : IsUnderWay (map_of r.roads) (slot_of r.roads) [] r.bounds → IsRight (map_of r.roads) (slot_of r.roads) f)
     (sources : (s w : ℕ) → IsSource r.bounds s w → IsSource f s w) where
   settled : AreBoundsOf (map_of r.roads) (slot_of r.roads) f (items r.paths)
@@ -54,7 +54,7 @@ module _ (r : Inside) (f : DistanceBounds) (shut : r.batch ≡ None)
       let h = right_as r shut kept in
       record { right = right h.bounded.under_way; sources = λ l on. sources l.from l.within (h.bounded.sources l on) }
 
-  kept_settled : IsKeptRight r.roads (items r.paths) r.batch f
+  kept_settled : IsKeptRight r.margin r.roads (items r.paths) r.batch f
   kept_settled = record { register = kept.register; bounded = rw shut (settled_bounds settled) }
 
 pub affected_names-requires-clause-bounds : goal.affected_names-requires-clause-bounds
@@ -77,7 +77,7 @@ returns-in_err-names c =
     let r = c.self.inside in
     rw (← c.self.view_is) (shut_refused c.self.inside (Depends c.args.nodes.now) (sym c.if-is_some.ensures)
     _ No_memory c.from_residual-in_err-names.ensures.1
-    (Lacks refl (ap may_want (nodes_asked (map_of r.roads) (all_named (items r.paths)) c.args.nodes.now
+    (Lacks refl (ap may_want (nodes_asked r.margin (map_of r.roads) (all_named (items r.paths)) c.args.nodes.now
     (sym c.are_nodes.ensures ∙ c.if-not-are_nodes.false)))))
 
 pub returns : goal.returns
@@ -86,8 +86,8 @@ returns c =
     let right = right_as r (none_of r.batch (sym c.if-is_some.ensures)) c.self.invariant in
     rw (← c.self.view_is) (shut_answered c.self.inside (Depends c.args.nodes.now) (sym c.if-is_some.ensures)
     (reply.Names c.in_ok-names.names) refl (
-      nodes_asked (map_of r.roads) (all_named (items r.paths)) c.args.nodes.now
+      nodes_asked r.margin (map_of r.roads) (all_named (items r.paths)) c.args.nodes.now
           (sym c.are_nodes.ensures ∙ c.if-not-are_nodes.false),
-      dependents (map_of r.roads) c.args.nodes.now c.in_ok-around.around c.in_ok-around.ensures (items r.paths) _
+      dependents r.margin (map_of r.roads) c.args.nodes.now c.in_ok-around.around c.in_ok-around.ensures (items r.paths) _
           right.register.made c.in_ok-names.ensures,
     ))

@@ -12,7 +12,7 @@ use Rattle.olr_register.proofs.register.Register.edit_now.Goals as goal
 pub returns-in-Err : goal.returns-in-Err
 returns-in-Err c =
     refused_now c.self.inside c.self.view_is c.requires (On_map (edit_of c.args.edit)) _ _ _ refl refl
-    (ByState (ap at_once (edit_refused (content_on (map_of c.self.inside.roads) (items c.self.inside.paths)) _
+    (ByState (ap at_once (edit_refused (content_on c.self.inside.margin (map_of c.self.inside.roads) (items c.self.inside.paths)) _
     c.in-Err.fault c.in-Err.ensures.fault)))
 
 pub invariant_of-self : goal.invariant_of-self
@@ -29,7 +29,7 @@ returns-in_err-make_kept c =
     refused_now r c.self.view_is c.requires (On_map (edit_of c.args.edit)) _ _ No_memory
     (same_map r c.self.view_is c.requires c.make_kept.new.self e.same) c.from_residual.ensures.1
     (may_refuse _ _ _ (rw (no_items (items r.paths) c.len.ensures.len (omega arith)) e.lacks)
-    (edit_lacks (content_on (map_of r.roads) (items r.paths)) _ c.in-Ok.ensures.plan.accepted))
+    (edit_lacks (content_on r.margin (map_of r.roads) (items r.paths)) _ c.in-Ok.ensures.plan.accepted))
 
 pub invariant_of-self-2 : goal.invariant_of-self-2
 invariant_of-self-2 c =

@@ -1,6 +1,6 @@
 use Rattle.olr_register.proofs.Common.{◌≡◌, Some, None, Ok, List, map, refl, sym, ap, ◌∙◌, subst, Option, []}
-use Rattle.olr_register.proofs.Common.{map_of, map_before, Named, Content, Change, State, ByState, may_want, RegisterState}
-use Rattle.olr_register.proofs.Common.{entry_of, items, under_overlay, content_on, batch_of, Lacks_memory, IsOutcome, reply_of}
+use Rattle.olr_register.proofs.Common.{map_of, map_before, Named, Content, Change, State, ByState, RegisterState}
+use Rattle.olr_register.proofs.Common.{entry_of, items, content_on, batch_of, Lacks_memory, IsOutcome, reply_of}
 use Rattle.olr_register.proofs.BatchSteps.{held_content}
 use Rattle.olr_register.proofs.Noted.{can_commit}
 use Rattle.olr_register.proofs.Outcomes.{answered_uncounted, answered_refused}
@@ -27,7 +27,7 @@ preview-requires c =
     let right = right_as s c.in-Some.is c.self.invariant in
     record {
       renewable =
-          (map_before s.roads c.in-Some.batch.log, can_commit s.roads (items s.paths) c.in-Some.batch right.register);
+          (map_before s.roads c.in-Some.batch.log, can_commit s.margin s.roads (items s.paths) c.in-Some.batch right.register);
       bounded = record {
         under_way = right.bounded.under_way;
         sources = λ l on. right.bounded.sources l (right.register.held.begins l on);
@@ -64,14 +64,14 @@ returns c =
     let b = c.in-Some.batch in
     let M = map_of s.roads in
     let right = right_as s c.in-Some.is c.self.invariant in
-    let old : Content = content_on (map_before s.roads b.log) is in
+    let old : Content = content_on s.margin (map_before s.roads b.log) is in
     let e = c.in_ok-previewed.ensures.renewed in
     let js = e.0 in
     let n = c.in_ok-previewed.previewed in
     let r = reply.Paths n.entries in
     let k : RegisterState = record { content = old; batch = Some (batch_of s.roads is b) } in
-    let reported = planned_changes old.map M is js (map entry_of n.entries.items) right.register.content
-    right.register.made (remade_made M _ js e.1.remade) e.1.reported in
+    let reported = planned_changes s.margin b.margin old.map M is js (map entry_of n.entries.items) right.register.content
+    right.register.made (remade_made b.margin M _ js e.1.remade) e.1.reported in
     rw (← c.self.view_is, c.in-Some.is) (answered_uncounted _ k Preview r (λ t h. (
       no_changes t.batch,
       (
@@ -81,7 +81,7 @@ returns c =
           refl,
           subst (λ (d : Content). IsPaths (reply_of r) (Differences old d))
               (sym (held_content old s.roads is b xs i
-              ∙ ap (λ (ps : List Named). record { map = M; paths = ps }) (sym e.1.named)))
+              ∙ ap (λ (ps : List Named). record { map = M; paths = ps; margin = b.margin }) (sym e.1.named)))
               reported,
         )) t h,
       ),

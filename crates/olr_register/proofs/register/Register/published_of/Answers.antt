@@ -7,5 +7,5 @@ pub returns : goal.returns
 returns c =
     let M = map_kept c.self.inside.roads c.self.inside.batch in
     let is = items c.self.inside.paths in
-    rw (← c.self.view_is) (subst (PublishedWhole (content_on M is) c.args.name.now) (sym c.published_of.ensures)
-    (made_found M is c.args.name.now c.self.invariant.register.made))
+    rw (← c.self.view_is) (subst (PublishedWhole (content_on c.self.inside.margin M is) c.args.name.now) (sym c.published_of.ensures)
+    (made_found c.self.inside.margin M is c.args.name.now c.self.invariant.register.made))

@@ -12,7 +12,7 @@ returns c =
     let r = c.self.inside in
     rw (← c.self.view_is) (answered_same _ _ _ refl (λ xs. refl) (λ o. (
       refl,
-      reported_all (map_kept r.roads r.batch) (items r.paths) _
+      reported_all r.margin (map_kept r.roads r.batch) (items r.paths) _
           c.self.invariant.register.made c.in_ok-entries.ensures.reported,
     )))
 

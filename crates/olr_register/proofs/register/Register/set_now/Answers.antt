@@ -7,7 +7,7 @@ use Rattle.olr_register.proofs.register.Register.set_now.Goals as goal
 
 pub set-requires : goal.set-requires
 set-requires c =
-    some_answer_in (map_kept c.self.inside.roads c.self.inside.batch) (items c.self.inside.paths) c.args.name.now
+    some_answer_in c.self.inside.margin (map_kept c.self.inside.roads c.self.inside.batch) (items c.self.inside.paths) c.args.name.now
     c.self.invariant.register.made (sym c.has-missing.ensures ∙ not-false c.has-missing.result c.in_ok-path.ensures.right)
 
 pub returns-in_err-path : goal.returns-in_err-path

@@ -13,7 +13,7 @@ pub entry-requires : goal.entry-requires
 entry-requires c =
     let r = c.self.inside in
     record {
-      encoded = some_answer_in (map_kept r.roads r.batch) (items r.paths) c.args.name.now
+      encoded = some_answer_in r.margin (map_kept r.roads r.batch) (items r.paths) c.args.name.now
           c.self.invariant.register.made (sym c.if-not-has.ensures);
     }
 
@@ -30,7 +30,7 @@ returns c =
       rw (← c.if-not-has.ensures),
       (
         returned.0,
-        (answer_held (map_kept r.roads r.batch) (items r.paths) h.content h.made c.args.name.now returned.0).1 returned.1,
+        (answer_held r.margin (map_kept r.roads r.batch) (items r.paths) h.content h.made c.args.name.now returned.0).1 returned.1,
         ap (λ (es : List Entry). map entry_of es) c.in_ok-one_entry.ensures ∙ ap (λ e. e ∷ []) returned.2,
       ),
     )))

@@ -17,14 +17,14 @@ pub returns-in_default : goal.returns-in_default
 returns-in_default c =
     let r = c.self.inside in
     rw (← c.self.view_is) (shut_refused c.self.inside (Show_line c.args.id) (sym c.if-is_some.ensures) _ _ refl
-    (ByState (no_line (map_of r.roads) (all_named (items r.paths)) c.args.id
+    (ByState (no_line r.margin (map_of r.roads) (all_named (items r.paths)) c.args.id
     (ap (λ (o : Option Line). is_some o) (sym c.line.ensures ∙ ap option_copied c.in_default.is)))))
 
 pub returns-then-not-has_line_records : goal.returns-then-not-has_line_records
 returns-then-not-has_line_records c =
     let r = c.self.inside in
     rw (← c.self.view_is) (shut_refused c.self.inside (Show_line c.args.id) (sym c.if-is_some.ensures) _ _ refl
-    (ByState (line_unwritten (map_of r.roads) (all_named (items r.paths)) c.args.id
+    (ByState (line_unwritten r.margin (map_of r.roads) (all_named (items r.paths)) c.args.id
     (ap (λ (o : Option Line). is_some o) (sym c.line.ensures ∙ ap option_copied c.in-Some.is))
     (sym c.has_line_records.ensures ∙ c.if-not-has_line_records.true))))
 
@@ -33,7 +33,7 @@ returns-in_err-line_records c =
     let r = c.self.inside in
     rw (← c.self.view_is) (shut_refused c.self.inside (Show_line c.args.id) (sym c.if-is_some.ensures)
     _ No_memory c.from_residual.ensures.1
-    (Lacks refl (ap may_want (line_shown (map_of r.roads) (all_named (items r.paths)) c.args.id
+    (Lacks refl (ap may_want (line_shown r.margin (map_of r.roads) (all_named (items r.paths)) c.args.id
     (ap (λ (o : Option Line). is_some o) (sym c.line.ensures ∙ ap option_copied c.in-Some.is))
     (sym c.has_line_records.ensures ∙ c.if-not-has_line_records.false)))))
 
@@ -43,7 +43,7 @@ returns c =
     let d = c.in_ok-line_records.field-0 in
     rw (← c.self.view_is) (shut_answered c.self.inside (Show_line c.args.id) (sym c.if-is_some.ensures)
     (reply.Records d) refl (
-      line_shown (map_of r.roads) (all_named (items r.paths)) c.args.id
+      line_shown r.margin (map_of r.roads) (all_named (items r.paths)) c.args.id
           (ap (λ (o : Option Line). is_some o) (sym c.line.ensures ∙ ap option_copied c.in-Some.is))
           (sym c.has_line_records.ensures ∙ c.if-not-has_line_records.false),
       (λ i. Records (c.in_ok-line_records.ensures.0 i) (c.in_ok-line_records.ensures.1 i)),

@@ -16,14 +16,14 @@ pub returns-then-is_none : goal.returns-then-is_none
 returns-then-is_none c =
     let r = c.self.inside in
     rw (← c.self.view_is) (shut_refused c.self.inside (Show_node c.args.id) (sym c.if-is_some.ensures) _ _ refl
-    (ByState (no_node (map_of r.roads) (all_named (items r.paths)) c.args.id
+    (ByState (no_node r.margin (map_of r.roads) (all_named (items r.paths)) c.args.id
     (ap (λ (o : Option Coord). is_some o) (sym c.node.ensures) ∙ c.is_none.ensures ∙ ap not c.if-is_none.true))))
 
 pub returns-then-not-is_recordable_place : goal.returns-then-not-is_recordable_place
 returns-then-not-is_recordable_place c =
     let r = c.self.inside in
     rw (← c.self.view_is) (shut_refused c.self.inside (Show_node c.args.id) (sym c.if-is_some.ensures) _ _ refl
-    (ByState (node_unwritten (map_of r.roads) (all_named (items r.paths)) c.args.id
+    (ByState (node_unwritten r.margin (map_of r.roads) (all_named (items r.paths)) c.args.id
     (ap (λ (o : Option Coord). is_some o) (sym c.node.ensures) ∙ c.is_none.ensures ∙ ap not c.if-is_none.false)
     (sym c.is_recordable_place.ensures ∙ c.if-not-is_recordable_place.true))))
 
@@ -32,7 +32,7 @@ returns-in_err-node_records c =
     let r = c.self.inside in
     rw (← c.self.view_is) (shut_refused c.self.inside (Show_node c.args.id) (sym c.if-is_some.ensures)
     _ No_memory c.from_residual.ensures.1
-    (Lacks refl (ap may_want (node_shown (map_of r.roads) (all_named (items r.paths)) c.args.id
+    (Lacks refl (ap may_want (node_shown r.margin (map_of r.roads) (all_named (items r.paths)) c.args.id
     (ap (λ (o : Option Coord). is_some o) (sym c.node.ensures) ∙ c.is_none.ensures ∙ ap not c.if-is_none.false)
     (sym c.is_recordable_place.ensures ∙ c.if-not-is_recordable_place.false)))))
 
@@ -42,7 +42,7 @@ returns c =
     let d = c.in_ok-node_records.field-0 in
     rw (← c.self.view_is) (shut_answered c.self.inside (Show_node c.args.id) (sym c.if-is_some.ensures)
     (reply.Records d) refl (
-      node_shown (map_of r.roads) (all_named (items r.paths)) c.args.id
+      node_shown r.margin (map_of r.roads) (all_named (items r.paths)) c.args.id
           (ap (λ (o : Option Coord). is_some o) (sym c.node.ensures) ∙ c.is_none.ensures ∙ ap not c.if-is_none.false)
           (sym c.is_recordable_place.ensures ∙ c.if-not-is_recordable_place.false),
       (λ i. Records (c.in_ok-node_records.ensures.0 i) (c.in_ok-node_records.ensures.1 i)),

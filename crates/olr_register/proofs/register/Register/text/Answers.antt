@@ -5,13 +5,13 @@ use Rattle.olr_register.proofs.register.Register.text.Goals as goal
 pub returns-in_err-shown : goal.returns-in_err-shown
 returns-in_err-shown c =
     let r = c.self.inside in
-    text_published (map_kept r.roads r.batch) (items r.paths) _ c.args.name.now _ _
+    text_published r.margin (map_kept r.roads r.batch) (items r.paths) _ c.args.name.now _ _
     (ap (λ (x : Registered). x.kept.content) c.self.view_is) c.self.invariant.register.made
     c.in_err-shown.ensures (ap (option_map (λ t. _)) c.from_residual.ensures)
 
 pub returns : goal.returns
 returns c =
     let r = c.self.inside in
-    text_published (map_kept r.roads r.batch) (items r.paths) _ c.args.name.now _ _
+    text_published r.margin (map_kept r.roads r.batch) (items r.paths) _ c.args.name.now _ _
     (ap (λ (x : Registered). x.kept.content) c.self.view_is) c.self.invariant.register.made
     c.in_ok-shown.ensures c.text.ensures
