@@ -3,11 +3,12 @@ use Rattle.olr_spec.proofs.Common.{◌≡◌, ◌≢◌, ℕ, zero, suc, ◌+◌
 use Rattle.olr_spec.proofs.Common.{List, [], ◌∷◌, ◌++◌, map, filter, length, slice_get, slice_index, Some, option_map, refl, sym, ap, ◌∙◌, subst, IsTrue, arith}
 use Rattle.olr_spec.proofs.Common.{cases_Bool, cases_eq, or_cases, or_left, or_right, and_parts, and_from, eqb-true, eq-eqb, ne_eqb, both_ways, ltb-true, lt-ltb, le-ltb, None}
 use Rattle.olr_spec.proofs.Common.{list_any_at, Map, IsMap, has, has_line, has_node, line_at, start, end, Path, is_path, path_fault, extended_path, Points}
-use Rattle.olr_spec.proofs.Common.{Encoding, Reference, Leg, leg, legs, kept_points, candidates, Side, Measure, Coord, node_on, coordinate_on}
+use Rattle.olr_spec.specs.Margins.{Margin}
+use Rattle.olr_spec.proofs.Common.{EncodingWith, Reference, Leg, leg, legs, kept_points, candidates, Side, Measure, Coord, node_on, coordinate_on}
 use Rattle.std.specs.List.{list_any}
 use Rattle.std.proofs.Math.Nat.{mul-le-mul_right, mul-lt-mul_of_pos_left, mul-add}
 use Rattle.olr_spec.specs.Receiver.{Outgoing, Incoming, sector_on, are_twins, decoded_coord, last_number, is_nearest, has_no_twin}
-use Rattle.olr_spec.specs.Recovery.{lon_apart, lat_apart, line_by, IsLineAt, OwnLines, own_lines, Weighted, Distinct}
+use Rattle.olr_spec.specs.Recovery.{lon_apart, lat_apart, line_by, IsLineAtWith, OwnLinesWith, own_lines, Weighted, DistinctWith}
 use Rattle.olr_spec.specs.Directions.{direction_on, is_direction, is_beyond}
 use Rattle.olr_spec.specs.Ambiguity.{least_cosine, is_farther, usual_slack, is_outdone_for_all, lines_on, all_nodes, Obstacle, Same_sector}
 use Rattle.olr_spec.specs.Ambiguity.{Other_bearing, Other_node, is_twin_of, is_unclear, is_rival, obstacles_at, side_at, obstacles_from, obstacles}
@@ -15,7 +16,7 @@ use Rattle.olr_spec.proofs.Facts.{at_index, filter_has, exactly_in, exactly_out,
 use Rattle.olr_spec.proofs.FitLemmas.{by_answer}
 use Rattle.olr_spec.proofs.DecodedLemmas.{Kept}
 use Rattle.olr_spec.proofs.ReceiverLemmas.{same_path}
-use Rattle.olr_laws.specs.Directions.{is_outdone, stands_out, DistinctByDirection}
+use Rattle.olr_laws.specs.Directions.{is_outdone, stands_out, DistinctByDirectionWith}
 use Rattle.olr_laws.specs.AmbiguityLaws.{IsWeightedByLatitude, ClearIsDistinct}
 use Rattle.olr_laws.proofs.ReceiverLemmas.{got_index, every_candidate, outdone_of, same_place, known_out, known_in, size}
 
@@ -278,8 +279,8 @@ own_in ls (i ∷ []) (suc k) lt = absurd (omega arith)
 own_in ls (i ∷ j ∷ ks) zero lt = absurd (omega arith)
 own_in ls (i ∷ j ∷ ks) (suc k) lt = own_in ls (j ∷ ks) k (omega arith)
 
-module _ (M : Map) (m : IsMap M) (P : Path) (is : IsTrue (is_path P.lines)) (sound : path_fault M P ≡ None)
-    (r : Reference) (e : Encoding M P (Points r)) (xs : List ℕ) (own : OwnLines M P xs) (none : obstacles M r xs ≡ [])
+module _ {g : Margin} (M : Map) (m : IsMap M) (P : Path) (is : IsTrue (is_path P.lines)) (sound : path_fault M P ≡ None)
+    (r : Reference) (e : EncodingWith g M P (Points r)) (xs : List ℕ) (own : OwnLinesWith g M P xs) (none : obstacles M r xs ≡ [])
     (scale : ℕ) (far : Measure) (w : IsWeightedByLatitude scale far M r) (slack : ℕ) (few : slack ≤ scale * usual_slack) where
   abbrev Lines : List ℕ
   Lines = (extended_path M P e.before e.after).lines
@@ -290,7 +291,7 @@ module _ (M : Map) (m : IsMap M) (P : Path) (is : IsTrue (is_path P.lines)) (sou
   lines_are : xs ≡ own_lines Lines Points_kept
   lines_are = same_path M m P is sound r e (λ E js. xs ≡ own_lines E.lines (kept_points (legs M E.lines) E.pos E.neg js)) own
 
-  at_point : (s : Side) (k x : ℕ) → IsLineAt M P s k x → (k < length Points_kept) × (line_by s Lines (slice_index Points_kept k) ≡ x)
+  at_point : (s : Side) (k x : ℕ) → IsLineAtWith g M P s k x → (k < length Points_kept) × (line_by s Lines (slice_index Points_kept k) ≡ x)
   at_point s k x at =
       got_index (line_by s Lines) Points_kept k x
       (same_path M m P is sound r e (λ E js. option_map (line_by s E.lines) (slice_get (kept_points (legs M E.lines) E.pos E.neg js) k) ≡ Some x) at)
@@ -298,7 +299,7 @@ module _ (M : Map) (m : IsMap M) (P : Path) (is : IsTrue (is_path P.lines)) (sou
   count : last_number r + 1 ≡ length Points_kept
   count = size M m P is sound r e
 
-  clear_out : (k x : ℕ) → k < last_number r → IsLineAt M P Outgoing k x → obstacles_at M Outgoing (decoded_coord r k) x ≡ []
+  clear_out : (k x : ℕ) → k < last_number r → IsLineAtWith g M P Outgoing k x → obstacles_at M Outgoing (decoded_coord r k) x ≡ []
   clear_out k x lt at =
       let there = at_point Outgoing k x at in
       let line : slice_get xs k ≡ Some x =
@@ -309,7 +310,7 @@ module _ (M : Map) (m : IsMap M) (P : Path) (is : IsTrue (is_path P.lines)) (sou
       subst (λ (s : Side). obstacles_at M s (decoded_coord r k) x ≡ []) side
       (subst (λ (n : ℕ). obstacles_at M (side_at r n) (decoded_coord r n) x ≡ []) from_zero clear)
 
-  clear_in : (x : ℕ) → IsLineAt M P Incoming (last_number r) x →
+  clear_in : (x : ℕ) → IsLineAtWith g M P Incoming (last_number r) x →
       obstacles_at M Incoming (decoded_coord r (last_number r)) x ≡ []
   clear_in x at =
       let k = last_number r in
@@ -322,7 +323,7 @@ module _ (M : Map) (m : IsMap M) (P : Path) (is : IsTrue (is_path P.lines)) (sou
       subst (λ (s : Side). obstacles_at M s (decoded_coord r k) x ≡ []) side
       (subst (λ (n : ℕ). obstacles_at M (side_at r n) (decoded_coord r n) x ≡ []) from_zero clear)
 
-  distinct : Distinct far M P r
+  distinct : DistinctWith g far M P r
   distinct =
       record {
         outgoing = λ k lt. record {
@@ -339,7 +340,7 @@ module _ (M : Map) (m : IsMap M) (P : Path) (is : IsTrue (is_path P.lines)) (sou
         };
       }
 
-  by_direction : DistinctByDirection far slack M P r
+  by_direction : DistinctByDirectionWith g far slack M P r
   by_direction =
       record {
         outgoing = λ k x lt at. stands_here M m Outgoing (decoded_coord r k) x (known_out M m P is sound r e k x lt at) (clear_out k x lt at)
@@ -348,8 +349,8 @@ module _ (M : Map) (m : IsMap M) (P : Path) (is : IsTrue (is_path P.lines)) (sou
             scale far w.unit (λ y h. w.all Incoming (last_number r) y (omega arith) h) slack few;
       }
 
-pub clear_is_distinct : ClearIsDistinct
-clear_is_distinct M m P is r enc xs own none scale far w slack few =
+pub clear_is_distinct : (g : Margin) → ClearIsDistinct g
+clear_is_distinct g M m P is r enc xs own none scale far w slack few =
     let p = by_answer M P r enc in (
       distinct M m P is p.0 r p.1 xs own none scale far w slack few,
       by_direction M m P is p.0 r p.1 xs own none scale far w slack few,

@@ -1,16 +1,16 @@
 -- An accepted command has one reply, apart from out of memory a command has one outcome, counts are determined, and the
 -- claims hold of runs from the start.
-use Rattle.olr_commands.proofs.Common.{Map, IsMap, Path, Reference, Answer, Encodes, one_answer, one_decoding}
+use Rattle.olr_commands.proofs.Common.{Map, IsMap, Path, Reference, Answer, EncodesWith, Margin, one_answer_with, one_decoding}
 use Rattle.olr_commands.proofs.Common.{both_ways, concat, cases_Bool, cases_eq, bytes_decides, is_path, Refused}
-use Rattle.olr_commands.proofs.Common.{Refusal, some_answer}
+use Rattle.olr_commands.proofs.Common.{Refusal, some_answer_with}
 use Rattle.std.proofs.Common.{arith, ◌≡◌, ℕ, List, [], ◌∷◌, Option, Some, None, sym, ap, ◌∙◌, subst, Result, Ok, Err}
 use Rattle.std.specs.Prelude.{IfSome, ◌↔◌, ◌==◌}
 use Rattle.std.proofs.Common.{map, IsFalse, inl, inr, ◌⊎◌, ◌≢◌, suc, true, false, not, length, is_some, IsTrue, refl}
 use Rattle.olr_commands.specs.State.{Named, Content, ArePaths, IsContent, Change, State, Command, Make, Show, Report}
 use Rattle.olr_commands.specs.State.{Explain, Begin, Commit, Abort, IsState, Dump, Fault, HasCoords, step, step_in, path_named}
-use Rattle.olr_commands.specs.State.{Show_node, Show_line, Depends, Compact, Preview, Ambiguous}
+use Rattle.olr_commands.specs.State.{Show_node, Show_line, Show_margin, Set_margin, Depends, Compact, Preview, Ambiguous}
 use Rattle.olr_commands.specs.RecordText.{record_line}
-use Rattle.olr_commands.specs.State.{same_name, has_path, No_path, changes_made, start_state}
+use Rattle.olr_commands.specs.State.{same_name, has_path, No_path, changes_made, changes_made_in, start_state}
 use Rattle.olr_commands.specs.Reply.{Entry, entry, Reply, Fields, HasAnswer, AllOf, ChangedOf, Differences, Shown}
 use Rattle.olr_commands.specs.Reply.{Explained, IsPaths, IsFields, IsChangeReply, IsReply, IsRefusal, ByState, Lacks}
 use Rattle.olr_commands.specs.Reply.{Outcome, IsOutcome, lacks_memory, Dumped, Records, Names, Obstacles, Paths, Held}
@@ -18,7 +18,6 @@ use Rattle.olr_laws.proofs.DependLemmas.{one_names, one_dependents, some_depende
 use Rattle.olr_laws.proofs.NamedObstacles.{one_obstacles, one_asked, some_asked}
 use Rattle.olr_commands.proofs.NameLemmas.{named_path}
 use Rattle.olr_commands.proofs.StateLemmas.{steps_keep, when_ok}
-use Rattle.olr_spec.specs.Margins.{no_margin}
 use Rattle.olr_spec.specs.Encoding.{Points, Unknown_line, Broken, Offset_too_long, No_next_point}
 use Rattle.olr_spec.specs.Bytes.{IsReference, reference_bytes}
 use Rattle.olr_spec.proofs.FitLemmas.{encoded_fits}
@@ -26,8 +25,8 @@ use Rattle.olr_commands.specs.Dump.{dump_lines, dump_changes, node_changes, line
 use Rattle.olr_commands.specs.Dependents.{Dependents}
 use Rattle.olr_commands.specs.Ambiguities.{AskedAmbiguities}
 use Rattle.olr_commands.specs.State.{has_asked, with_held, IsBatch, after, Count_differs}
-use Rattle.olr_laws.specs.CommandLaws.{PreviewsCommit}
-use Rattle.olr_commands.specs.Counts.{Affects, CountIs, Raises}
+use Rattle.olr_laws.specs.CommandLaws.{PreviewsCommit, MarginRaisesAll}
+use Rattle.olr_commands.specs.Counts.{Affects, By_name, CountIs, Raises}
 use Rattle.olr_commands.proofs.CountLemmas.{unconcerned}
 use Rattle.olr_commands.proofs.DumpLemmas.{dumps_lead}
 use Rattle.olr_commands.specs.History.{Run, History, AllHaveCoords, names, Headline}
@@ -36,15 +35,15 @@ use Rattle.olr_commands.proofs.HistoryLemmas.{start_sound, names_changed, SoundO
 -- ---- replies are determined
 
 -- each path has one answer, so a list of paths has one list of entries
-one_all : (M : Map) → IsMap M → (ps : List Named) (es fs : List Entry) → ArePaths ps → AllOf M ps es → AllOf M ps fs →
+one_all : (g : Margin) (M : Map) → IsMap M → (ps : List Named) (es fs : List Entry) → ArePaths ps → AllOf g M ps es → AllOf g M ps fs →
     es ≡ fs
-one_all M m [] es fs a p q = p ∙ sym q
-one_all M m (n ∷ ps) es fs a p q = grind (arith, one_answer, one_all M m ps p.1 q.1 a.1 p.3 q.3)
+one_all g M m [] es fs a p q = p ∙ sym q
+one_all g M m (n ∷ ps) es fs a p q = grind (arith, one_answer_with, one_all g M m ps p.1 q.1 a.1 p.3 q.3)
 
-one_changed : (s : Content) (M : Map) → IsMap M → (ps : List Named) (es fs : List Entry) → ArePaths ps →
-    ChangedOf s M ps es → ChangedOf s M ps fs → es ≡ fs
-one_changed s M m [] es fs a p q = p ∙ sym q
-one_changed s M m (n ∷ ps) es fs a p q = grind (arith, one_answer, one_changed s M m ps p.1 q.1 a.1 p.3 q.3)
+one_changed : (s : Content) (g : Margin) (M : Map) → IsMap M → (ps : List Named) (es fs : List Entry) → ArePaths ps →
+    ChangedOf s g M ps es → ChangedOf s g M ps fs → es ≡ fs
+one_changed s g M m [] es fs a p q = p ∙ sym q
+one_changed s g M m (n ∷ ps) es fs a p q = grind (arith, one_answer_with, one_changed s g M m ps p.1 q.1 a.1 p.3 q.3)
 
 one_paths : (T : List Entry → Type 0) → ((es fs : List Entry) → T es → T fs → es ≡ fs) → (r q : Reply) → IsPaths r T →
     IsPaths q T → r ≡ q
@@ -62,8 +61,8 @@ pub one_has : (c : Content) → IsContent c → (name : List ℕ) (A B : Answer)
 one_has c i name A B p q =
     let path_is : Some p.0 ≡ Some q.0 = sym p.1 ∙ q.1 in
     let same_path : p.0 ≡ q.0 = cc in
-    let answer : Encodes c.map p.0 B = subst (λ (Q : Path). Encodes c.map Q B) (sym same_path) q.2 in
-    one_answer c.map i.map p.0 (named_path c.paths name p.0 i.paths p.1) A B p.2 answer
+    let answer : EncodesWith c.margin c.map p.0 B = subst (λ (Q : Path). EncodesWith c.margin c.map Q B) (sym same_path) q.2 in
+    one_answer_with c.margin c.map i.map p.0 (named_path c.paths name p.0 i.paths p.1) A B p.2 answer
 
 one_shown : (c : Content) (name : List ℕ) → IsContent c → (es fs : List Entry) → Shown c name es → Shown c name fs →
     es ≡ fs
@@ -80,7 +79,7 @@ one_explained text x y p q =
 one_difference : (s t : Content) → IsContent t → (r q : Reply) → IsPaths r (Differences s t) →
     IsPaths q (Differences s t) → r ≡ q
 one_difference s t j r q p g =
-    one_paths (Differences s t) (λ es fs. one_changed s t.map j.map t.paths es fs j.paths) r q p g
+    one_paths (Differences s t) (λ es fs. one_changed s t.margin t.map j.map t.paths es fs j.paths) r q p g
 
 one_held : (b : Option (List Change)) (s t : Content) → IsContent t → (r q : Reply) → IsChangeReply b s t r →
     IsChangeReply b s t q → r ≡ q
@@ -100,6 +99,7 @@ one_reply s t (Make x) r q i j p g = one_held s.batch s.content t.content j.cont
 one_reply s t (Show name) r q i j p g = one_paths (Shown s.content name) (one_shown s.content name i.content) r q p g
 one_reply s t (Show_node v) r q i j p g = p ∙ sym g
 one_reply s t (Show_line x) r q i j p g = p ∙ sym g
+one_reply s t Show_margin r q i j p g = p ∙ sym g
 one_reply s t (Depends nodes) r q i j p g =
     one_names (Dependents s.content nodes) (one_dependents s.content nodes) r q p g
 one_reply s t Report r q i j p g = grind (arith, one_paths, one_all)
@@ -175,10 +175,10 @@ answers_decide (Refused x) (Refused y) f g =
     elim (refusals_decide x y) [ inl e ↦ inl (ap (λ (k : Refusal). Refused k) e) | inr ne ↦ inr (λ e. ne cc) ]
 answers_decide A B f g = inr (λ e. absurd cc)
 
-answer_fits : (M : Map) → IsMap M → (P : Path) → IsTrue (is_path P.lines) → (A : Answer) → Encodes M P A → Fits A
+answer_fits : (g : Margin) (M : Map) → IsMap M → (P : Path) → IsTrue (is_path P.lines) → (A : Answer) → EncodesWith g M P A → Fits A
 unfolding Fits
-answer_fits M m P i (Points r) e = encoded_fits no_margin M m P i r e
-answer_fits M m P i (Refused f) e = refl
+answer_fits g M m P i (Points r) e = encoded_fits g M m P i r e
+answer_fits g M m P i (Refused f) e = refl
 
 -- ---- replies
 
@@ -190,28 +190,28 @@ had c i name A f = by_path (path_named c.paths name) refl where
   by_path None e = inr (λ h. absurd (let no : ◌≡◌ {A = Option Path} None (Some h.0) = sym e ∙ h.1 in cc))
   by_path (Some P) e =
       let sound = named_path c.paths name P i.paths e in
-      let some = some_answer c.map i.map P sound in
-      elim (answers_decide A some.0 f (answer_fits c.map i.map P sound some.0 some.1)) [
-        | inl same ↦ inl (P, e, subst (λ (B : Answer). Encodes c.map P B) (sym same) some.1)
+      let some = some_answer_with c.margin c.map i.map P sound in
+      elim (answers_decide A some.0 f (answer_fits c.margin c.map i.map P sound some.0 some.1)) [
+        | inl same ↦ inl (P, e, subst (λ (B : Answer). EncodesWith c.margin c.map P B) (sym same) some.1)
         | inr other ↦ inr (λ h. other (one_has c i name A some.0 h (P, e, some.1)))
       ]
 
-some_changed : (c : Content) → IsContent c → (M : Map) → IsMap M → (ps : List Named) → ArePaths ps → (es : List Entry)
-    × ChangedOf c M ps es
-some_changed c i M m [] a = ([], refl)
-some_changed c i M m (p ∷ ps) a =
-    let some = some_answer M m p.path a.0 in
-    let rest = some_changed c i M m ps a.1 in
-    elim (had c i p.name some.0 (answer_fits M m p.path a.0 some.0 some.1)) [
+some_changed : (c : Content) → IsContent c → (g : Margin) (M : Map) → IsMap M → (ps : List Named) → ArePaths ps → (es : List Entry)
+    × ChangedOf c g M ps es
+some_changed c i g M m [] a = ([], refl)
+some_changed c i g M m (p ∷ ps) a =
+    let some = some_answer_with g M m p.path a.0 in
+    let rest = some_changed c i g M m ps a.1 in
+    elim (had c i p.name some.0 (answer_fits g M m p.path a.0 some.0 some.1)) [
       | inl h ↦ (rest.0, (some.0, rest.0, some.1, rest.1, inl (h, refl)))
       | inr n ↦ (entry p.name some.0 ∷ rest.0, (some.0, rest.0, some.1, rest.1, inr (n, refl)))
     ]
 
-some_all : (M : Map) → IsMap M → (ps : List Named) → ArePaths ps → (es : List Entry) × AllOf M ps es
-some_all M m [] a = ([], refl)
-some_all M m (p ∷ ps) a =
-    let some = some_answer M m p.path a.0 in
-    let rest = some_all M m ps a.1 in
+some_all : (g : Margin) (M : Map) → IsMap M → (ps : List Named) → ArePaths ps → (es : List Entry) × AllOf g M ps es
+some_all g M m [] a = ([], refl)
+some_all g M m (p ∷ ps) a =
+    let some = some_answer_with g M m p.path a.0 in
+    let rest = some_all g M m ps a.1 in
     (entry p.name some.0 ∷ rest.0, (some.0, rest.0, some.1, rest.1, refl))
 
 some_shown : (c : Content) → IsContent c → (name : List ℕ) → not (has_path c name) ≡ false → (es : List Entry)
@@ -220,11 +220,11 @@ some_shown c i name h = by_path (path_named c.paths name) refl where
   by_path : (o : Option Path) → path_named c.paths name ≡ o → (es : List Entry) × Shown c name es
   by_path None e = absurd (both_ways true (ap (λ (o : Option Path). not (is_some o)) (sym e) ∙ h) refl)
   by_path (Some P) e =
-      let some = some_answer c.map i.map P (named_path c.paths name P i.paths e) in
+      let some = some_answer_with c.margin c.map i.map P (named_path c.paths name P i.paths e) in
       (entry name some.0 ∷ [], (some.0, (P, e, some.1), refl))
 
 some_difference : (c d : Content) → IsContent c → IsContent d → (es : List Entry) × Differences c d es
-some_difference c d i j = some_changed c i d.map j.map d.paths j.paths
+some_difference c d i j = some_changed c i d.margin d.map j.map d.paths j.paths
 
 some_held : (b : Option (List Change)) (c d : Content) → IsContent c → IsContent d → (reply : Reply)
     × IsChangeReply b c d reply
@@ -248,11 +248,13 @@ some_reply s t (Show_node v) i h is n =
     let xs = node_changes s.content.map v in (Records (length xs) (concat (map record_line xs)), refl)
 some_reply s t (Show_line x) i h is n =
     let xs = line_changes s.content.map x in (Records (length xs) (concat (map record_line xs)), refl)
+some_reply s t Show_margin i h is n =
+    let xs = Set_margin s.content.margin ∷ [] in (Records (length xs) (concat (map record_line xs)), refl)
 some_reply s t (Depends nodes) i h is n =
-    let d = some_dependents s.content.map i.content.map nodes s.content.paths i.content.paths in
+    let d = some_dependents s.content.margin s.content.map i.content.map nodes s.content.paths i.content.paths in
     (Names (map (λ p. p.name) d.0), (d.0, d.1, refl))
 some_reply s t Report i h is n = let es =
-    some_all s.content.map i.content.map s.content.paths i.content.paths in (Paths es.0, es.1)
+    some_all s.content.margin s.content.map i.content.map s.content.paths i.content.paths in (Paths es.0, es.1)
 some_reply s t Dump i h is n = (Dumped (length (dump_lines s.content)) (concat (dump_lines s.content)), refl)
 some_reply s t Compact i h is n = (Paths [], refl)
 some_reply s t (Ambiguous name) i h is n =
@@ -294,6 +296,22 @@ no_rise s t c n none h = grind (arith, no_count, unconcerned)
 
 pub one_rise : (s t : State) (c : Command) (n m : ℕ) → Raises s c t n → Raises s c t m → n ≡ m
 one_rise s t c n m = one_count (Affects s.content (changes_made s c)) t.content.paths n m
+
+-- a claim that holds of each
+all_counted : {A : Type 0} (P : A → Type 0) → ((x : A) → P x) → (xs : List A) → CountIs P xs (length xs)
+all_counted P all [] = refl
+all_counted P all (x ∷ xs) = inl (all x, (length xs, all_counted P all xs, refl))
+
+pub margin_raises : MarginRaisesAll
+margin_raises s t g closed is = by s.batch closed is where
+  by : (b : Option (List Change)) → b ≡ None → step_in s.content b (Make (Set_margin g)) ≡ Ok t →
+      CountIs (Affects s.content (changes_made_in b (Make (Set_margin g)))) t.content.paths (length s.content.paths)
+  by None closed e =
+      let set : State = record { content = record s.content { margin = g }; batch = None } in
+      let there : set ≡ t = cc in
+      subst (λ (u : State). CountIs (Affects s.content (Set_margin g ∷ [])) u.content.paths (length s.content.paths)) there
+      (all_counted (Affects s.content (Set_margin g ∷ [])) (λ p. By_name refl) s.content.paths)
+  by (Some xs) closed e = absurd cc
 
 pub dumps_again : DumpsAgain
 dumps_again c i = ap (λ (d : Content). dump_changes d) (dumps_lead c i).1

@@ -5,13 +5,13 @@ use Rattle.std.proofs.Common.{length, map, IsTrue, refl, sym, ap, ◌∙◌, sub
 use Rattle.std.proofs.Common.{◌||◌, Ok, MatchOption, Bool}
 use Rattle.std.proofs.Math.Decide.{dec_lt, map_dec, ℕ_discrete}
 use Rattle.std.proofs.lemmas.Bool.{cases_Bool, both_ways, or_left}
-use Rattle.olr_spec.specs.Margins.{no_margin}
+use Rattle.olr_spec.specs.Margins.{Margin}
 use Rattle.olr_spec.specs.Map.{Map, IsMap, Edit, Add_node, Move_node, Drop_node, Add_line, Set_line, Drop_line, has, has_line}
 use Rattle.olr_spec.specs.Map.{edited, start, end, dm, lines_out, touched_nodes, touched_lines}
 use Rattle.olr_spec.specs.Routes.{Reaches}
 use Rattle.olr_spec.specs.Extension.{Path, is_path, extended_path}
-use Rattle.olr_spec.specs.Queries.{NodeOf, CoverageQuery, IsQuery, query_to}
-use Rattle.olr_spec.specs.Footprint.{Foot, FootOf, Sees, Touched, On_path, On_start_run, On_end_run, Within_reach}
+use Rattle.olr_spec.specs.Queries.{NodeOf, CoverageQuery, IsQueryWith, query_to_with}
+use Rattle.olr_spec.specs.Footprint.{FootWith, FootOfWith, Sees, TouchedWith, On_path, On_start_run, On_end_run, Within_reach}
 use Rattle.olr_spec.proofs.AnswerLemmas.{path_also, path_at, by_fault}
 use Rattle.olr_spec.proofs.DecideLemmas.{dec_and, some_encoding}
 use Rattle.olr_spec.proofs.ListLemmas.{has_here, has_there, has_cases}
@@ -44,7 +44,7 @@ pub one_dependents : (c : Content) (nodes : List ℕ) (x y : List (List ℕ)) �
     x ≡ y
 one_dependents c nodes x y p q =
     p.2 ∙ ap (λ (ps : List Named). map (λ n. n.name) ps)
-    (one_picked (λ n. DependsOn c.map nodes n.path) c.paths p.0 q.0 p.1 q.1) ∙ sym q.2
+    (one_picked (λ n. DependsOn c.margin c.map nodes n.path) c.paths p.0 q.0 p.1 q.1) ∙ sym q.2
 
 -- ---- it is decidable
 
@@ -67,7 +67,7 @@ dec_some Q d (x ∷ xs) = elim (d x) [
   ]
 ]
 
-module _ (M : Map) (m : IsMap M) (v : ℕ) where
+module _ (g : Margin) (M : Map) (m : IsMap M) (v : ℕ) where
   -- the first line of a route from s
   Begins : ℕ → ℕ → ℕ → Type 0
   Begins s d x = (IsTrue (has_line M x) × (start M x ≡ s)) × ((dm M x ≤ d) × Reaches M (end M x) (d - dm M x) v)
@@ -111,15 +111,15 @@ module _ (M : Map) (m : IsMap M) (v : ℕ) where
 
   -- the coverage query of an LRP whose line is followed by two or more lines
   Sought : List ℕ → ℕ → Type 0
-  Sought ls i = (i + 2 < length ls) × ((l : CoverageQuery) × IsQuery M ls i l × Sees M l v)
+  Sought ls i = (i + 2 < length ls) × ((l : CoverageQuery) × IsQueryWith g M ls i l × Sees M l v)
 
   dec_sought : (ls : List ℕ) (i : ℕ) → Dec (Sought ls i)
   unfolding Sought
   dec_sought ls i = elim (dec_lt (i + 2) (length ls)) [
     | no f ↦ no (λ h. f h.0)
     | yes lt ↦
-        let k = some_last_tested no_margin M m ls i (omega (arith, lt)) in
-        let q : CoverageQuery = query_to M ls i k.0 in
+        let k = some_last_tested g M m ls i (omega (arith, lt)) in
+        let q : CoverageQuery = query_to_with g M ls i k.0 in
         elim (dec_reaches (suc q.within) q.within q.from (omega arith)) [
           | yes r ↦ yes (lt, (q, (k.0, k.1, refl), r))
           | no g ↦ no (λ h. g (subst (λ (l : CoverageQuery). Sees M l v)
@@ -127,7 +127,7 @@ module _ (M : Map) (m : IsMap M) (v : ℕ) where
         ]
   ]
 
-  dec_touched : (ls b a js : List ℕ) → Dec (Touched M ls b a js v)
+  dec_touched : (ls b a js : List ℕ) → Dec (TouchedWith g M ls b a js v)
   unfolding Sought
   dec_touched ls b a js =
       map_dec (λ s. elim s [
@@ -144,32 +144,32 @@ module _ (M : Map) (m : IsMap M) (v : ℕ) where
       ])
       (dec_or (dec_node ls) (dec_or (dec_node b) (dec_or (dec_node a) (dec_some (Sought ls) (dec_sought ls) (0 ∷ js)))))
 
-  dec_foot : (P : Path) → IsTrue (is_path P.lines) → Dec (Foot M P v)
+  dec_foot : (P : Path) → IsTrue (is_path P.lines) → Dec (FootWith g M P v)
   dec_foot P is =
-      by_fault M P (λ o. Dec (MatchOption o (FootOf M P v) (λ _. ⊥)))
-      (λ none. let p = (some_encoding no_margin M m P is none).1 in
+      by_fault M P (λ o. Dec (MatchOption o (FootOfWith g M P v) (λ _. ⊥)))
+      (λ none. let p = (some_encoding g M m P is none).1 in
       map_dec (λ t. path_also p t) (λ f. path_at m is none p f)
       (dec_touched (extended_path M P p.before p.after).lines p.before p.after p.points))
       (λ r. no (λ h. h))
 
-module _ (M : Map) (m : IsMap M) (nodes : List ℕ) where
+module _ (g : Margin) (M : Map) (m : IsMap M) (nodes : List ℕ) where
   dec_true : (b : Bool) → Dec (IsTrue b)
   dec_true true = yes refl
   dec_true false = no (λ h. absurd cc)
 
-  dec_depends : (P : Path) → IsTrue (is_path P.lines) → Dec (DependsOn M nodes P)
+  dec_depends : (P : Path) → IsTrue (is_path P.lines) → Dec (DependsOn g M nodes P)
   dec_depends P is =
       map_dec (λ s. elim s [
         | inl (v, on, f) ↦ On_node v on f
         | inr (x, own, h) ↦ On_line x h.0 h.1 own
       ])
       (λ d. elim d [ On_node v on f ↦ inl (v, on, f) | On_line x there at own ↦ inr (x, own, (there, at)) ])
-      (dec_or (dec_some (λ v. Foot M P v) (λ v. dec_foot M m v P is) nodes)
+      (dec_or (dec_some (λ v. FootWith g M P v) (λ v. dec_foot g M m v P is) nodes)
       (dec_some (λ x. IsTrue (has_line M x) × IsTrue (has nodes (start M x) || has nodes (end M x)))
       (λ x. dec_and (dec_true (has_line M x)) (dec_true (has nodes (start M x) || has nodes (end M x)))) P.lines))
 
   pub some_dependents : (ps : List Named) → ArePaths ps →
-      (qs : List Named) × Picks (λ p. DependsOn M nodes p.path) ps qs
+      (qs : List Named) × Picks (λ p. DependsOn g M nodes p.path) ps qs
   some_dependents [] a = ([], refl)
   some_dependents (p ∷ ps) a =
       let rest = some_dependents ps a.1 in
@@ -205,7 +205,7 @@ module _ (c : Content) (N : Map) (e : Edit) (nodes : List ℕ) (p : Named) (made
       subst (λ (z : ℕ). IsTrue (has (start M y ∷ end M y ∷ []) (start M z))) (only y x on)
       (has_here (start M y) (end M y ∷ []))
 
-  by_affected : Affects c (On_map e ∷ []) p → DependsOn M nodes p.path ⊎ NamesAdded M e p.path
+  by_affected : Affects c (On_map e ∷ []) p → DependsOn c.margin M nodes p.path ⊎ NamesAdded M e p.path
   by_affected (By_name h) = absurd cc
   by_affected (By_node v on foot) = inl (On_node v (given v (rw append-nil at on)) foot)
   by_affected (By_line x on own) =

@@ -1,5 +1,5 @@
 -- Every receiver that compares directions recovers the legs between the remaining LRPs.
-use Rattle.olr_spec.specs.Margins.{no_margin}
+use Rattle.olr_spec.specs.Margins.{Margin}
 use Rattle.olr_spec.proofs.Common.{◌*◌, lt-ltb, le-ltb, ◌≡◌, ◌≢◌, ℕ, ◌+◌, ◌≤◌, ◌<◌, ◌⊎◌, nat_lt, nat_le, ℤ, pos, Bool, true, false, ◌↔◌, IsTrue, IsFalse, arith, eqb-true, ltb-true, leb-true}
 use Rattle.olr_spec.proofs.Common.{cases_eq, cases_Bool, or_cases, and_parts, nat_abs, ap, sym, ◌∙◌, subst, refl, inl, inr, ◌&&◌, ◌||◌, not, ◌==◌}
 use Rattle.olr_spec.proofs.Common.{Map, has_line, line_at, leg, Leg, candidates, Side, IsSector, sector, Vector}
@@ -108,9 +108,9 @@ module _ (D : DirectionReceiver) (M : Map) (t : Lrp) (x : ℕ) (d : Describes M 
     (λ e. subst (λ (z : ℕ). TakesByDirection D M t z) (sym e) own_taken),
   )
 
-pub recovered_by_direction : RecoveredByDirection
-recovered_by_direction D M m P is r e d =
-    recovered_by no_margin (TakesByDirection D M) (StandsOut D M) M (takes_own D M) m P is r e (λ k lt x at. d.outgoing k x lt at) d.incoming
+pub recovered_by_direction : (g : Margin) → RecoveredByDirection g
+recovered_by_direction g D M m P is r e d =
+    recovered_by g (TakesByDirection D M) (StandsOut D M) M (takes_own D M) m P is r e (λ k lt x at. d.outgoing k x lt at) d.incoming
 
 -- ---- weights
 

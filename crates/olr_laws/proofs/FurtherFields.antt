@@ -16,7 +16,7 @@ use Rattle.olr_laws.specs.LineLaws.{LineGivesOne, SingleStay, FirstLine, IsRecor
 use Rattle.std.proofs.Common.{◌≡◌, ◌∙◌, ℕ, List, [], ◌∷◌, ◌++◌, Ok, Err, refl, sym, ap, subst, codes, inl, inr}
 use Rattle.std.specs.Prelude.{if◌then◌else◌, Bool, true, false, length, Some, ⊤, IsOkAnd}
 use Rattle.olr_commands.specs.State.{Command, same_name, Make, Add_path, Set_path, Drop_path, Explain, Begin, Commit, Abort}
-use Rattle.olr_commands.specs.State.{Show, Show_node, Show_line, Depends, Report, Dump, Compact, Preview, Ambiguous}
+use Rattle.olr_commands.specs.State.{Show, Show_node, Show_line, Show_margin, Depends, Report, Dump, Compact, Preview, Ambiguous}
 use Rattle.olr_spec.specs.Coordinates.{Coord}
 use Rattle.olr_spec.specs.Extension.{Path}
 use Rattle.olr_spec.specs.Map.{ShapePoint, Line, Edit, Add_node, Move_node, Drop_node, Add_line, Set_line, Drop_line}
@@ -24,7 +24,7 @@ use Rattle.olr_records.specs.Records.{line_between, longitude}
 use Rattle.olr_records.specs.Records.{Field, Read, Bad_form, Out_of_range, ◌⊛◌, number, name, numbers, amount, class}
 use Rattle.olr_records.specs.Records.{digits, place, point, shape, one, none, edit, node_fields, node_record, attributes}
 use Rattle.olr_records.specs.Records.{whole_line, line_record, set_line_record, path_fields, few_nodes}
-use Rattle.olr_records.specs.Records.{depends_record, ambiguous_record, forms, read_by, read}
+use Rattle.olr_records.specs.Records.{depends_record, ambiguous_record, margin_record, forms, read_by, read}
 
 abbrev pub bang : Field
 bang = codes "!"
@@ -146,6 +146,12 @@ bad_ambiguous : (fs : List Field) → ambiguous_record (fs ++ further) ≡ Err B
 bad_ambiguous [] = refl
 bad_ambiguous (f ∷ fs) = bad_one (λ n. Ambiguous (Some n)) name (f ∷ fs)
 
+bad_margin : (fs : List Field) → margin_record (fs ++ further) ≡ Err Bad_form
+bad_margin [] = refl
+bad_margin (a ∷ []) = refl
+bad_margin (a ∷ b ∷ []) = refl
+bad_margin (a ∷ b ∷ c ∷ fs) = refl
+
 -- ---- records
 
 abbrev AreBad : List (Field × (List Field → Read Command)) → List Field → Type 0
@@ -210,7 +216,13 @@ all_bad fs = (
                                           bad_none Preview fs,
                                           (
                                             bad_ambiguous fs,
-                                            tt,
+                                            (
+                                              bad_margin fs,
+                                              (
+                                                bad_none Show_margin fs,
+                                                tt,
+                                              ),
+                                            ),
                                           ),
                                         ),
                                       ),

@@ -14,6 +14,7 @@ pub mod RunLemmas
 mod AmbiguityLemmas
 mod NodeTestLemmas
 pub mod NamedObstacles
+pub mod PartnerReceivers
 pub mod DependLemmas
 pub mod ShownLemmas
 mod FurtherFields

@@ -6,13 +6,14 @@ use Rattle.std.proofs.lemmas.Bool.{both_ways}
 use Rattle.std.proofs.lemmas.List.Elements.{Contains-append_left, Contains-append_right, Contains-append_cases}
 use Rattle.olr_spec.specs.Map.{Map, IsMap}
 use Rattle.olr_spec.specs.Extension.{Path, is_path}
-use Rattle.olr_spec.specs.Encoding.{Answer, Points, Refused, Encodes}
-use Rattle.olr_spec.specs.Recovery.{OwnLines, OwnLinesOf}
+use Rattle.olr_spec.specs.Margins.{Margin}
+use Rattle.olr_spec.specs.Encoding.{Answer, Points, Refused, EncodesWith}
+use Rattle.olr_spec.specs.Recovery.{OwnLinesWith, OwnLinesOfWith}
 use Rattle.olr_spec.specs.Ambiguity.{Obstacle, obstacles}
 use Rattle.olr_spec.proofs.AnswerLemmas.{path_also, path_at}
 use Rattle.olr_spec.proofs.FitLemmas.{by_answer}
 use Rattle.olr_spec.proofs.ListLemmas.{Contains-here, Contains-later, Contains-cases}
-use Rattle.olr_commands.proofs.Common.{one_answer, some_answer}
+use Rattle.olr_commands.proofs.Common.{one_answer_with, some_answer_with}
 use Rattle.olr_commands.proofs.NameLemmas.{named_path}
 use Rattle.olr_commands.specs.State.{Named, Content, ArePaths, IsContent, path_named, has_asked}
 use Rattle.olr_commands.specs.Reply.{Reply, Obstacles, IsObstacles}
@@ -28,83 +29,83 @@ one_obstacles T one r q p g = absurd p
 
 -- ---- of one path
 
-module _ (M : Map) (m : IsMap M) (P : Path) (is : IsTrue (is_path P.lines)) where
-  one_own : (A : Answer) → Encodes M P A → (xs ys : List ℕ) → OwnLinesOf M P A xs → OwnLinesOf M P A ys → xs ≡ ys
+module _ (g : Margin) (M : Map) (m : IsMap M) (P : Path) (is : IsTrue (is_path P.lines)) where
+  one_own : (A : Answer) → EncodesWith g M P A → (xs ys : List ℕ) → OwnLinesOfWith g M P A xs → OwnLinesOfWith g M P A ys → xs ≡ ys
   one_own (Points r) e xs ys p q =
       let none = (by_answer M P r e).0 in
       let same = path_at m is none p q in p.holds ∙ sym same
   one_own (Refused f) e xs ys p q = p ∙ sym q
 
-  some_own : (A : Answer) → Encodes M P A → (xs : List ℕ) × OwnLinesOf M P A xs
+  some_own : (A : Answer) → EncodesWith g M P A → (xs : List ℕ) × OwnLinesOfWith g M P A xs
   some_own (Points r) e =
       let p = (by_answer M P r e).1 in (_, path_also p refl)
   some_own (Refused f) e = ([], refl)
 
-one_ambiguity : (M : Map) → IsMap M → (p : Named) → IsTrue (is_path p.path.lines) → (es fs : List NamedObstacle) →
-    Ambiguity M p es → Ambiguity M p fs → es ≡ fs
-one_ambiguity M m p is es fs a b =
-    let same : a.0 ≡ b.0 = one_answer M m p.path is a.0 b.0 a.2 b.2 in
-    let own : a.1 ≡ b.1 = one_own M m p.path is a.0 a.2 a.1 b.1 a.3
-    (subst (λ (A : Answer). OwnLinesOf M p.path A b.1) (sym same) b.3) in
+one_ambiguity : (g : Margin) (M : Map) → IsMap M → (p : Named) → IsTrue (is_path p.path.lines) → (es fs : List NamedObstacle) →
+    Ambiguity g M p es → Ambiguity g M p fs → es ≡ fs
+one_ambiguity g M m p is es fs a b =
+    let same : a.0 ≡ b.0 = one_answer_with g M m p.path is a.0 b.0 a.2 b.2 in
+    let own : a.1 ≡ b.1 = one_own g M m p.path is a.0 a.2 a.1 b.1 a.3
+    (subst (λ (A : Answer). OwnLinesOfWith g M p.path A b.1) (sym same) b.3) in
     a.4 ∙ (λ i. map (named p.name) (obstacles_of M (same i) (own i))) ∙ sym b.4
 
-some_ambiguity : (M : Map) → IsMap M → (p : Named) → IsTrue (is_path p.path.lines) →
-    (es : List NamedObstacle) × Ambiguity M p es
-some_ambiguity M m p is =
-    let some = some_answer M m p.path is in
-    let own = some_own M m p.path is some.0 some.1 in
+some_ambiguity : (g : Margin) (M : Map) → IsMap M → (p : Named) → IsTrue (is_path p.path.lines) →
+    (es : List NamedObstacle) × Ambiguity g M p es
+some_ambiguity g M m p is =
+    let some = some_answer_with g M m p.path is in
+    let own = some_own g M m p.path is some.0 some.1 in
     (map (named p.name) (obstacles_of M some.0 own.0), (some.0, own.0, some.1, own.1, refl))
 
 -- ---- of all
 
-one_all : (M : Map) → IsMap M → (ps : List Named) → ArePaths ps → (es fs : List NamedObstacle) → Ambiguities M ps es →
-    Ambiguities M ps fs → es ≡ fs
-one_all M m [] i es fs a b = a ∙ sym b
-one_all M m (p ∷ ps) i es fs a b =
-    let own = one_ambiguity M m p i.0 a.0 b.0 a.2 b.2 in
-    let rest = one_all M m ps i.1 a.1 b.1 a.3 b.3 in
+one_all : (g : Margin) (M : Map) → IsMap M → (ps : List Named) → ArePaths ps → (es fs : List NamedObstacle) → Ambiguities g M ps es →
+    Ambiguities g M ps fs → es ≡ fs
+one_all g M m [] i es fs a b = a ∙ sym b
+one_all g M m (p ∷ ps) i es fs a b =
+    let own = one_ambiguity g M m p i.0 a.0 b.0 a.2 b.2 in
+    let rest = one_all g M m ps i.1 a.1 b.1 a.3 b.3 in
     a.4 ∙ (λ k. own k ++ rest k) ∙ sym b.4
 
-some_all : (M : Map) → IsMap M → (ps : List Named) → ArePaths ps → (es : List NamedObstacle) × Ambiguities M ps es
-some_all M m [] i = ([], refl)
-some_all M m (p ∷ ps) i =
-    let own = some_ambiguity M m p i.0 in
-    let rest = some_all M m ps i.1 in
+some_all : (g : Margin) (M : Map) → IsMap M → (ps : List Named) → ArePaths ps → (es : List NamedObstacle) × Ambiguities g M ps es
+some_all g M m [] i = ([], refl)
+some_all g M m (p ∷ ps) i =
+    let own = some_ambiguity g M m p i.0 in
+    let rest = some_all g M m ps i.1 in
     (own.0 ++ rest.0, (own.0, rest.0, own.1, rest.1, refl))
 
 pub one_asked : (c : Content) → IsContent c → (name : Option (List ℕ)) → (es fs : List NamedObstacle) →
     AskedAmbiguities c name es → AskedAmbiguities c name fs → es ≡ fs
-one_asked c i None es fs a b = one_all c.map i.map c.paths i.paths es fs a b
+one_asked c i None es fs a b = one_all c.margin c.map i.map c.paths i.paths es fs a b
 one_asked c i (Some name) es fs a b =
     let there : Some a.0 ≡ Some b.0 = sym a.1 ∙ b.1 in
     let same : a.0 ≡ b.0 = cc in
-    one_ambiguity c.map i.map (record { name = name; path = a.0 }) (named_path c.paths name a.0 i.paths a.1) es fs a.2
-    (subst (λ (P : Path). Ambiguity c.map (record { name = name; path = P }) fs) (sym same) b.2)
+    one_ambiguity c.margin c.map i.map (record { name = name; path = a.0 }) (named_path c.paths name a.0 i.paths a.1) es fs a.2
+    (subst (λ (P : Path). Ambiguity c.margin c.map (record { name = name; path = P }) fs) (sym same) b.2)
 
 pub some_asked : (c : Content) → IsContent c → (name : Option (List ℕ)) → not (has_asked c name) ≡ false →
     (es : List NamedObstacle) × AskedAmbiguities c name es
-some_asked c i None h = some_all c.map i.map c.paths i.paths
+some_asked c i None h = some_all c.margin c.map i.map c.paths i.paths
 some_asked c i (Some name) h = by_path (path_named c.paths name) refl where
   by_path : (o : Option Path) → path_named c.paths name ≡ o → (es : List NamedObstacle) × AskedAmbiguities c (Some name) es
   by_path None e = absurd (both_ways true (ap (λ (o : Option Path). not (is_some o)) (sym e) ∙ h) refl)
   by_path (Some P) e =
-      let some = some_ambiguity c.map i.map (record { name = name; path = P }) (named_path c.paths name P i.paths e) in
+      let some = some_ambiguity c.margin c.map i.map (record { name = name; path = P }) (named_path c.paths name P i.paths e) in
       (some.0, (P, e, some.1))
 
 -- ---- what it says
 
 -- what stands in the way of a path is in the answer under its name
-in_answer : (M : Map) (ps : List Named) (es : List NamedObstacle) → Ambiguities M ps es → (p : Named) → Contains ps p →
-    (own : List NamedObstacle) × Ambiguity M p own × ((e : NamedObstacle) → Contains own e → Contains es e)
-in_answer M [] es a p c = absurd (let lt = c.1 in omega arith)
-in_answer M (q ∷ ps) es a p c = elim (Contains-cases q p ps c) [
+in_answer : (g : Margin) (M : Map) (ps : List Named) (es : List NamedObstacle) → Ambiguities g M ps es → (p : Named) → Contains ps p →
+    (own : List NamedObstacle) × Ambiguity g M p own × ((e : NamedObstacle) → Contains own e → Contains es e)
+in_answer g M [] es a p c = absurd (let lt = c.1 in omega arith)
+in_answer g M (q ∷ ps) es a p c = elim (Contains-cases q p ps c) [
   | inl e ↦ (
     a.0,
-    subst (λ (n : Named). Ambiguity M n a.0) e a.2,
+    subst (λ (n : Named). Ambiguity g M n a.0) e a.2,
     λ o h. subst (λ (xs : List NamedObstacle). Contains xs o) (sym a.4) (Contains-append_left a.0 a.1 o h),
   )
   | inr later ↦
-      let rest = in_answer M ps a.1 a.3 p later in (
+      let rest = in_answer g M ps a.1 a.3 p later in (
         rest.0,
         rest.1,
         λ o h. subst (λ (xs : List NamedObstacle). Contains xs o) (sym a.4) (Contains-append_right a.0 a.1 o (rest.2 o h)),
@@ -112,13 +113,13 @@ in_answer M (q ∷ ps) es a p c = elim (Contains-cases q p ps c) [
 ]
 
 -- an entry is of one of the paths
-of_path : (M : Map) (ps : List Named) (es : List NamedObstacle) → Ambiguities M ps es → (e : NamedObstacle) →
-    Contains es e → (p : Named) × Contains ps p × (own : List NamedObstacle) × Ambiguity M p own × Contains own e
-of_path M [] es a e c = absurd (let at = subst (λ (xs : List NamedObstacle). Contains xs e) a c in let lt = at.1 in omega arith)
-of_path M (q ∷ ps) es a e c =
+of_path : (g : Margin) (M : Map) (ps : List Named) (es : List NamedObstacle) → Ambiguities g M ps es → (e : NamedObstacle) →
+    Contains es e → (p : Named) × Contains ps p × (own : List NamedObstacle) × Ambiguity g M p own × Contains own e
+of_path g M [] es a e c = absurd (let at = subst (λ (xs : List NamedObstacle). Contains xs e) a c in let lt = at.1 in omega arith)
+of_path g M (q ∷ ps) es a e c =
     elim (Contains-append_cases a.0 a.1 e (subst (λ (xs : List NamedObstacle). Contains xs e) a.4 c)) [
       | inl here ↦ (q, Contains-here q ps, a.0, a.2, here)
-      | inr later ↦ let r = of_path M ps a.1 a.3 e later in (r.0, Contains-later q r.0 ps r.1, r.2, r.3, r.4)
+      | inr later ↦ let r = of_path g M ps a.1 a.3 e later in (r.0, Contains-later q r.0 ps r.1, r.2, r.3, r.4)
     ]
 
 -- with nothing under its name
@@ -127,7 +128,7 @@ none_named : (n : List ℕ) (os : List (ℕ × Obstacle)) →
 none_named n [] none = refl
 none_named n (o ∷ os) none = absurd (none (named n o) (Contains-here (named n o) (map (named n) os)) refl)
 
-path_in : (ps : List Named) (p : Named) → ArePaths ps → Contains ps p → IsTrue (is_path p.path.lines)
+pub path_in : (ps : List Named) (p : Named) → ArePaths ps → Contains ps p → IsTrue (is_path p.path.lines)
 path_in [] p a c = absurd (let lt = c.1 in omega arith)
 path_in (q ∷ ps) p a c = elim (Contains-cases q p ps c) [
   | inl e ↦ subst (λ (n : Named). IsTrue (is_path n.path.lines)) e a.0
@@ -136,17 +137,17 @@ path_in (q ∷ ps) p a c = elim (Contains-cases q p ps c) [
 
 pub unnamed_is_distinct : UnnamedIsDistinct
 unnamed_is_distinct c i es a p at unnamed r e scale far w slack few =
-    let own = in_answer c.map c.paths es a p at in
+    let own = in_answer c.margin c.map c.paths es a p at in
     let q = own.1 in
     let is = path_in c.paths p i.paths at in
-    let same : q.0 ≡ Points r = one_answer c.map i.map p.path is q.0 (Points r) q.2 e in
-    let lines : OwnLines c.map p.path q.1 = subst (λ (A : Answer). OwnLinesOf c.map p.path A q.1) same q.3 in
+    let same : q.0 ≡ Points r = one_answer_with c.margin c.map i.map p.path is q.0 (Points r) q.2 e in
+    let lines : OwnLinesWith c.margin c.map p.path q.1 = subst (λ (A : Answer). OwnLinesOfWith c.margin c.map p.path A q.1) same q.3 in
     let all : own.0 ≡ map (named p.name) (obstacles c.map r q.1) =
     q.4 ∙ ap (λ (A : Answer). map (named p.name) (obstacles_of c.map A q.1)) same in
     let clear : obstacles c.map r q.1 ≡ [] =
     none_named p.name (obstacles c.map r q.1) (λ o h. unnamed o (own.2 o
     (subst (λ (xs : List NamedObstacle). Contains xs o) (sym all) h))) in
-    clear_is_distinct c.map i.map p.path is r e q.1 lines clear scale far w slack few
+    clear_is_distinct c.margin c.map i.map p.path is r e q.1 lines clear scale far w slack few
 
 -- an element of a list that a function gives
 of_map : {A B : Type 0} (f : A → B) (xs : List A) (y : B) → Contains (map f xs) y → (x : A) × Contains xs x × (y ≡ f x)
@@ -156,9 +157,9 @@ of_map f (x ∷ xs) y c = elim (Contains-cases (f x) y (map f xs) c) [
   | inr later ↦ let r = of_map f xs y later in (r.0, Contains-later x r.0 xs r.1, r.2)
 ]
 
-stands : (M : Map) (p : Named) (own : List NamedObstacle) → Ambiguity M p own → (e : NamedObstacle) → Contains own e →
-    StandsFor M p e
-stands M p own (Points r, xs, encodes, lines, all) e c =
+stands : (g : Margin) (M : Map) (p : Named) (own : List NamedObstacle) → Ambiguity g M p own → (e : NamedObstacle) → Contains own e →
+    StandsFor g M p e
+stands g M p own (Points r, xs, encodes, lines, all) e c =
     let o = of_map (named p.name) (obstacles M r xs) e (subst (λ (ys : List NamedObstacle). Contains ys e) all c) in
     record {
       reference = r;
@@ -168,9 +169,9 @@ stands M p own (Points r, xs, encodes, lines, all) e c =
       name = ap (λ (n : NamedObstacle). n.name) o.2;
       stands = subst (λ (q : ℕ × Obstacle). Contains (obstacles M r xs) q) (λ k. ((sym o.2 k).lrp, (sym o.2 k).obstacle)) o.1;
     }
-stands M p own (Refused f, xs, encodes, lines, all) e c =
+stands g M p own (Refused f, xs, encodes, lines, all) e c =
     absurd (let at = subst (λ (ys : List NamedObstacle). Contains ys e) all c in let lt = at.1 in omega arith)
 
 pub named_stands : NamedStands
 named_stands c es a e at =
-    let r = of_path c.map c.paths es a e at in (r.0, r.1, stands c.map r.0 r.2 r.3 e r.4)
+    let r = of_path c.margin c.map c.paths es a e at in (r.0, r.1, stands c.margin c.map r.0 r.2 r.3 e r.4)

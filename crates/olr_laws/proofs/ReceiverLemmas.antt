@@ -1,30 +1,31 @@
 -- Where the LRPs of an answer are decoded, that receivers exist, and what the legs between the LRPs say.
-use Rattle.olr_spec.specs.Margins.{no_margin}
+use Rattle.olr_spec.specs.Margins.{Margin}
+use Rattle.olr_spec.specs.Encoding.{IsPointWith}
 use Rattle.olr_spec.proofs.Common.{◌≡◌, ℕ, zero, suc, ◌+◌, ℤ, true, List, ◌∷◌, length, ◌<◌, ◌≤◌, Some, None, is_some}
 use Rattle.olr_spec.proofs.Common.{IsTrue, ap, ◌∙◌, subst, arith, nat_le, [], slice_get, option_map, leb-true}
 use Rattle.olr_spec.proofs.Common.{slice_index, cases_Bool, Map, IsMap, coord_at, Path, is_path, node_at, Reference}
-use Rattle.olr_spec.proofs.Common.{Points, path_fault, Encoding, IsNear, slice_get-get_or, IsPoint, decoded}
-use Rattle.olr_spec.proofs.Common.{DecodedNear, DecodedPoints, ◌-◌, refl, nat_lt, ◌==◌, ◌*◌, ◌-ℤ◌, ◌/◌, eqb-true}
+use Rattle.olr_spec.proofs.Common.{Points, path_fault, EncodingWith, IsNear, slice_get-get_or, decoded}
+use Rattle.olr_spec.proofs.Common.{◌-◌, refl, nat_lt, ◌==◌, ◌*◌, ◌-ℤ◌, ◌/◌, eqb-true}
 use Rattle.olr_spec.proofs.Common.{ltb-true, lt-ltb, le-ltb, nat_abs, or_cases, ints, offset, Measure, Coord}
 use Rattle.olr_spec.specs.Recovery.{are_cosines}
 use Rattle.olr_spec.proofs.Common.{decoded_bound, IsWeighted, is_spaced, IsCut, IsClose, SomeReceiver, SomeWeighted}
 use Rattle.olr_spec.proofs.Common.{map, sym, inl, inr, Bool, pos, Option, unwrap_or, cond, AllZip, get_or}
 use Rattle.olr_spec.proofs.Common.{AllPass-from_list_all, cases_lt, or_left, or_right, start, end, extended_path, first}
-use Rattle.olr_spec.proofs.Common.{last, AreJoined, stretch, Leg, leg, legs, attrs, first_kept, last_kept, kept_points}
-use Rattle.olr_spec.proofs.Common.{Middle, middle_points, last_two, reference_by_kept, Side, is_nearest, coordinate_on}
-use Rattle.olr_spec.proofs.Common.{dm_of, concat, list_all-from_AllPass, cond-false, StretchesJoin, Offsets}
-use Rattle.olr_spec.proofs.Common.{Distances, Nearest, has, has_line, candidates, list_all, and_parts, up_to, lines_where}
+use Rattle.olr_spec.proofs.Common.{last, AreJoined, stretch, Leg, leg, legs, attrs_with, first_kept, last_kept, kept_points}
+use Rattle.olr_spec.proofs.Common.{Middle, middle_points_with, last_two, reference_by_kept_with, Side, is_nearest, coordinate_on}
+use Rattle.olr_spec.proofs.Common.{dm_of, concat, list_all-from_AllPass, cond-false}
+use Rattle.olr_spec.proofs.Common.{has, has_line, candidates, list_all, and_parts, up_to, lines_where}
 use Rattle.olr_spec.proofs.Common.{◌&&◌, get_or_default, list_all-map}
 use Rattle.std.specs.List.{AllPass}
-use Rattle.olr_spec.proofs.Facts.{path_also, path_at, Each, has_index, at_index, has-lines_where, has_last, last_index, Known, Linked}
-use Rattle.olr_spec.proofs.Facts.{follow_linked, kept_linked, empty_stretch, stretch_first, positive, next_start}
+use Rattle.olr_spec.proofs.Facts.{path_also, path_at, Each, has_index, at_index, has-lines_where, has_last, last_index, Known, LinkedWith}
+use Rattle.olr_spec.proofs.Facts.{follow_linked_with, kept_linked_with, empty_stretch, stretch_first, positive, next_start}
 use Rattle.olr_spec.proofs.FieldLemmas.{position_is, linked_above, dm_same, last_two_linked}
 use Rattle.olr_spec.proofs.FitLemmas.{extended_sound, by_answer}
 use Rattle.olr_spec.proofs.DecodedLemmas.{Kept, answer_decodes, Back, Form, Front, form}
 use Rattle.std.proofs.Math.Nat.{mul-le-mul_left, mul-le-mul_right, mul-lt-mul_of_pos_left, le_of_mul-le-mul_left}
 use Rattle.std.proofs.Math.Nat.{mul-add, mul_comm, div-mul-le_self, lt-div-mul-add}
 use Rattle.olr_spec.specs.Receiver.{Rating, IsDifference, Outgoing, Incoming, last_number, decoded_coord, attributes}
-use Rattle.olr_spec.specs.Recovery.{lon_apart, lat_apart, line_by, IsLineAt, stretches, IsStretches, IsLeft, IsStep}
+use Rattle.olr_spec.specs.Recovery.{lon_apart, lat_apart, line_by, IsLineAtWith, stretches, IsStretchesWith, IsLeftWith, IsStep}
 use Rattle.olr_spec.specs.Recovery.{are_spaced, Weighted, is_cosine}
 use Rattle.olr_spec.proofs.SectorLemmas.{has_below}
 use Rattle.olr_spec.proofs.JoinedLemmas.{extended_joined}
@@ -32,7 +33,8 @@ use Rattle.olr_spec.proofs.Common.{◌⊎◌, ◌||◌, and_from, le-leb, node_o
 use Rattle.olr_spec.specs.Receiver.{sector_on}
 use Rattle.olr_spec.specs.Directions.{is_direction, is_beyond, direction_on}
 use Rattle.olr_laws.specs.Directions.{is_spaced_by, is_outdone, is_clear, stands_out}
-use Rattle.olr_laws.specs.DirectionLaws.{ClearStandsOut}
+use Rattle.olr_laws.specs.DirectionLaws.{ClearStandsOut, DecodedNearWith, DecodedPointsWith, StretchesJoinWith, OffsetsWith, DistancesWith}
+use Rattle.olr_laws.specs.DirectionLaws.{NearestWith}
 use Rattle.olr_spec.proofs.QueryLemmas.{stretch_parts}
 use Rattle.olr_spec.proofs.ReceiverLemmas.{same_path, passes}
 
@@ -186,10 +188,10 @@ module _ (M : Map) (m : IsMap M) (ls : List ℕ) (known : Each (Known M) ls) whe
   last_length h i [] = refl
   last_length h i (j ∷ js) = last_length i j js
 
-  steps_of : (h i : ℕ) (js : List ℕ) → AllZip (λ a w. IsStep a (dm_of M w))
-      (attrs (legs M ls) h i ∷ map (λ (p : Middle). p.attrs) (middle_points (legs M ls) h i js)) (stretches ls (h ∷ i ∷ js))
-  steps_of h i [] = grind (arith, dm_same)
-  steps_of h i (j ∷ js) = grind (arith, dm_same, (steps_of i j js))
+  steps_of : (g : Margin) (h i : ℕ) (js : List ℕ) → AllZip (λ a w. IsStep a (dm_of M w))
+      (attrs_with g (legs M ls) h i ∷ map (λ (p : Middle). p.attrs) (middle_points_with g (legs M ls) h i js)) (stretches ls (h ∷ i ∷ js))
+  steps_of g h i [] = grind (arith, dm_same)
+  steps_of g h i (j ∷ js) = grind (arith, dm_same, (steps_of g i j js))
 
   -- what remains of the offsets, front and back, is near to what their bytes cut off from the first leg and the last
   abbrev Cuts : ℕ → List (List ℕ) → Reference → ℕ → ℕ → Type 0
@@ -197,12 +199,12 @@ module _ (M : Map) (m : IsMap M) (ls : List ℕ) (known : Each (Known M) ls) whe
       ((c : ℕ) → IsCut n (first (map (dm_of M) ws)) r.pos c → IsClose n (first (map (dm_of M) ws)) front c)
       × ((c : ℕ) → IsCut n (last (map (dm_of M) ws)) r.neg c → IsClose n (last (map (dm_of M) ws)) back c)
 
-  cuts_close : (p q h i : ℕ) (js : List ℕ) → Linked M ls (h ∷ i ∷ js) → (n : ℕ) → 0 < n →
-      Cuts n (stretches ls (h ∷ i ∷ js)) (reference_by_kept (legs M ls) p q h i js) p q
-  cuts_close p q h i js l n some =
+  cuts_close : (g : Margin) (p q h i : ℕ) (js : List ℕ) → LinkedWith g M ls (h ∷ i ∷ js) → (n : ℕ) → 0 < n →
+      Cuts n (stretches ls (h ∷ i ∷ js)) (reference_by_kept_with g (legs M ls) p q h i js) p q
+  cuts_close g p q h i js l n some =
       grind (
         arith,
-        last_two_linked no_margin M ls h i js l,
+        last_two_linked g M ls h i js l,
         dm_same,
         offset_close,
         stretch_first,
@@ -211,12 +213,12 @@ module _ (M : Map) (m : IsMap M) (ls : List ℕ) (known : Each (Known M) ls) whe
         last_length h i js,
       )
 
-linked_bounds : (M : Map) (ls ks : List ℕ) → Linked M ls ks → (k : ℕ) → suc k < length ks →
+linked_bounds : (g : Margin) (M : Map) (ls ks : List ℕ) → LinkedWith g M ls ks → (k : ℕ) → suc k < length ks →
     (slice_index ks k < slice_index ks (suc k)) × (slice_index ks (suc k) ≤ length ls)
-linked_bounds M ls [] l k h = absurd (omega arith)
-linked_bounds M ls (p ∷ []) l k h = absurd (omega arith)
-linked_bounds M ls (p ∷ q ∷ ks) l zero h = (l.0.after, l.0.upto)
-linked_bounds M ls (p ∷ q ∷ ks) l (suc k) h = linked_bounds M ls (q ∷ ks) l.1 k (omega arith)
+linked_bounds g M ls [] l k h = absurd (omega arith)
+linked_bounds g M ls (p ∷ []) l k h = absurd (omega arith)
+linked_bounds g M ls (p ∷ q ∷ ks) l zero h = (l.0.after, l.0.upto)
+linked_bounds g M ls (p ∷ q ∷ ks) l (suc k) h = linked_bounds g M ls (q ∷ ks) l.1 k (omega arith)
 
 at_start : (M : Map) (ls : List ℕ) (i : ℕ) → i < length ls → node_at M ls i ≡ start M (slice_index ls i)
 at_start M ls i h = ap (λ (b : Bool). cond b (start M (slice_index ls i)) (end M (last ls))) (lt-ltb i (length ls) h)
@@ -274,30 +276,30 @@ spaced_nearest n d scale far M r w k up s x known near =
 -- ---- an answer
 
 -- the path's line at the last LRP
-abbrev pub IsLast : Map → Path → Reference → ℕ → Type 0
-IsLast M P r x = IsLineAt M P Incoming (last_number r) x
+abbrev pub IsLast : Margin → Map → Path → Reference → ℕ → Type 0
+IsLast g M P r x = IsLineAtWith g M P Incoming (last_number r) x
 
-module _ (M : Map) (m : IsMap M) (P : Path) (is : IsTrue (is_path P.lines)) (none : path_fault M P ≡ None)
-    (r : Reference) (e : Encoding M P (Points r)) where
+module _ {g : Margin} (M : Map) (m : IsMap M) (P : Path) (is : IsTrue (is_path P.lines)) (none : path_fault M P ≡ None)
+    (r : Reference) (e : EncodingWith g M P (Points r)) where
   abbrev Lines : List ℕ
   Lines = (extended_path M P e.before e.after).lines
 
   abbrev Points_kept : List ℕ
   Points_kept = Kept M P is none r e
 
-  formed : Form no_margin M Lines Points_kept (Front M P is none r e) (Back M P is none r e) r
+  formed : Form g M Lines Points_kept (Front M P is none r e) (Back M P is none r e) r
   formed = form M P is none r e
 
   pub size : last_number r + 1 ≡ length Points_kept
   size = omega (arith, (answer_decodes M P is none r e).count)
 
-  pub line_at_point : (s : Side) (k p : ℕ) → slice_get Points_kept k ≡ Some p → IsLineAt M P s k (line_by s Lines p)
+  pub line_at_point : (s : Side) (k p : ℕ) → slice_get Points_kept k ≡ Some p → IsLineAtWith g M P s k (line_by s Lines p)
   line_at_point s k p at = path_also e (ap (option_map (line_by s Lines)) at)
 
-  pub one_last : (x y : ℕ) → IsLast M P r x → IsLast M P r y → x ≡ y
+  pub one_last : (x y : ℕ) → IsLast g M P r x → IsLast g M P r y → x ≡ y
   one_last x y a b = let two = sym (same_path M m P is none r e _ a) ∙ same_path M m P is none r e _ b in cc two
 
-  near_point : (k v : ℕ) → IsPoint M P k v → (d : ℤ × ℤ) × (decoded r k ≡ Some d) × IsNear k d (coord_at M v)
+  near_point : (k v : ℕ) → IsPointWith g M P k v → (d : ℤ × ℤ) × (decoded r k ≡ Some d) × IsNear k d (coord_at M v)
   near_point k v p =
       let at = got_index (node_at M Lines) Points_kept k v (path_at m is none e p) in
       let near = (answer_decodes M P is none r e).near k at.0 in
@@ -305,7 +307,7 @@ module _ (M : Map) (m : IsMap M) (P : Path) (is : IsTrue (is_path P.lines)) (non
       let place = position_is M m Lines s.known (slice_index Points_kept k) s.size ∙ ap (coord_at M) at.1 in
       (near.0, near.1, subst (IsNear k near.0) place near.2)
 
-  point_at : (k : ℕ) → is_some (decoded r k) ≡ true → (v : ℕ) × IsPoint M P k v
+  point_at : (k : ℕ) → is_some (decoded r k) ≡ true → (v : ℕ) × IsPointWith g M P k v
   point_at k h =
       let count = (answer_decodes M P is none r e).count in
       let within : k ≤ length r.middle + 1 = grind (arith, leb-true, cases_Bool (nat_le k (length r.middle + 1))) in (
@@ -316,18 +318,18 @@ module _ (M : Map) (m : IsMap M) (P : Path) (is : IsTrue (is_path P.lines)) (non
   pub known_lines : Each (Known M) Lines
   known_lines = (extended_sound M P is none e.before e.after e.tried).known
 
-  stretches_are : (ws : List (List ℕ)) → IsStretches M P ws → ws ≡ stretches Lines (formed.h ∷ formed.i ∷ formed.js)
+  stretches_are : (ws : List (List ℕ)) → IsStretchesWith g M P ws → ws ≡ stretches Lines (formed.h ∷ formed.i ∷ formed.js)
   stretches_are ws s = same_path M m P is none r e _ s ∙ ap (stretches Lines) formed.kept
 
-  cuts : (ws : List (List ℕ)) → IsStretches M P ws → (front back : ℕ) → IsLeft M P front back → (n : ℕ) → 0 < n →
+  cuts : (ws : List (List ℕ)) → IsStretchesWith g M P ws → (front back : ℕ) → IsLeftWith g M P front back → (n : ℕ) → 0 < n →
       Cuts M m Lines known_lines n ws r front back
   cuts ws s front back l n some =
       let left = same_path M m P is none r e _ l in
       coe 1 0 (i. Cuts M m Lines known_lines n (stretches_are ws s i) (formed.fields_are i) (left.0 i) (left.1 i))
-      (cuts_close M m Lines known_lines (Front M P is none r e) (Back M P is none r e) formed.h formed.i formed.js formed.linked n some)
+      (cuts_close M m Lines known_lines g (Front M P is none r e) (Back M P is none r e) formed.h formed.i formed.js formed.linked n some)
 
-  all_steps : (ws : List (List ℕ)) → IsStretches M P ws → AllZip (λ a w. IsStep a (dm_of M w)) (attributes r) ws
-  all_steps ws s = grind (arith, formed.fields_are, stretches_are ws s, steps_of M m Lines known_lines formed.h)
+  all_steps : (ws : List (List ℕ)) → IsStretchesWith g M P ws → AllZip (λ a w. IsStep a (dm_of M w)) (attributes r) ws
+  all_steps ws s = grind (arith, formed.fields_are, stretches_are ws s, steps_of M m Lines known_lines g formed.h)
 
   -- ---- the nearest node
 
@@ -335,10 +337,10 @@ module _ (M : Map) (m : IsMap M) (P : Path) (is : IsTrue (is_path P.lines)) (non
       (slice_index Points_kept k < slice_index Points_kept (k + 1)) × (slice_index Points_kept (k + 1) ≤ length Lines)
   bounds k h =
       let on : k + 1 ≡ suc k = omega arith in
-      grind (arith, size, formed.kept, linked_bounds M Lines (formed.h ∷ formed.i ∷ formed.js) formed.linked k)
+      grind (arith, size, formed.kept, linked_bounds g M Lines (formed.h ∷ formed.i ∷ formed.js) formed.linked k)
 
   -- LRP k is decoded near the node of its line x
-  near_line : (s : Side) (k x : ℕ) → k ≤ last_number r → IsLineAt M P s k x →
+  near_line : (s : Side) (k x : ℕ) → k ≤ last_number r → IsLineAtWith g M P s k x →
       ((i : ℕ) → slice_index Points_kept k ≡ i → coord_at M (node_at M Lines i) ≡ coordinate_on s (leg M (line_by s Lines i))) →
       IsNear k (decoded_coord r k) (coordinate_on s (leg M x))
   near_line s k x h at on =
@@ -349,10 +351,10 @@ module _ (M : Map) (m : IsMap M) (P : Path) (is : IsTrue (is_path P.lines)) (non
       ∙ ap (λ (y : ℕ). coordinate_on s (leg M y)) (got_index (line_by s Lines) Points_kept k x there).1 in
       coe 0 1 (i. IsNear k (sym (ap (λ (o : Option (ℤ × ℤ)). unwrap_or o (pos 0, pos 0)) near.1) i) (place_is i)) near.2
 
-  near_out : (k x : ℕ) → k < last_number r → IsLineAt M P Outgoing k x → IsNear k (decoded_coord r k) (leg M x).begin
+  near_out : (k x : ℕ) → k < last_number r → IsLineAtWith g M P Outgoing k x → IsNear k (decoded_coord r k) (leg M x).begin
   near_out k x h at = grind (arith, bounds k h, near_line Outgoing k x, at_start M Lines)
 
-  near_in : (x : ℕ) → IsLineAt M P Incoming (last_number r) x →
+  near_in : (x : ℕ) → IsLineAtWith g M P Incoming (last_number r) x →
       IsNear (last_number r) (decoded_coord r (last_number r)) (leg M x).finish
   near_in x at =
       let b = bounds (length r.middle) (omega arith) in
@@ -360,55 +362,55 @@ module _ (M : Map) (m : IsMap M) (P : Path) (is : IsTrue (is_path P.lines)) (non
       (λ i is_i. ap (coord_at M) (at_end M m Lines known_lines
       (extended_joined M P is none e.before e.after e.tried) i (omega (arith, is_i, b.0)) (omega (arith, is_i, b.1))))
 
-  known_at : (s : Side) (k x : ℕ) → IsLineAt M P s k x →
+  known_at : (s : Side) (k x : ℕ) → IsLineAtWith g M P s k x →
       ((i : ℕ) → slice_index Points_kept k ≡ i → IsTrue (has_line M (line_by s Lines i))) → IsTrue (has_line M x)
   known_at s k x at known =
       let there = same_path M m P is none r e _ at in
       subst (λ (y : ℕ). IsTrue (has_line M y)) (got_index (line_by s Lines) Points_kept k x there).1 (known (slice_index Points_kept k) refl)
 
-  pub known_out : (k x : ℕ) → k < last_number r → IsLineAt M P Outgoing k x → IsTrue (has_line M x)
+  pub known_out : (k x : ℕ) → k < last_number r → IsLineAtWith g M P Outgoing k x → IsTrue (has_line M x)
   known_out k x h at =
       let b = bounds k h in
       known_at Outgoing k x at (λ i is_i. known_lines _ (has_index Lines i (omega (arith, is_i, b.0, b.1))))
 
-  pub known_in : (x : ℕ) → IsLineAt M P Incoming (last_number r) x → IsTrue (has_line M x)
+  pub known_in : (x : ℕ) → IsLineAtWith g M P Incoming (last_number r) x → IsTrue (has_line M x)
   known_in x at =
       let b = bounds (length r.middle) (omega arith) in
       known_at Incoming (last_number r) x at
       (λ i is_i. known_lines _ (has_index Lines (i - 1) (omega (arith, is_i, b.0, b.1))))
 
-pub decoded_near : DecodedNear
-decoded_near M m P is r e = let p = by_answer M P r e in near_point M m P is p.0 r p.1
+pub decoded_near : (g : Margin) → DecodedNearWith g
+decoded_near g M m P is r e = let p = by_answer M P r e in near_point M m P is p.0 r p.1
 
-pub decoded_points : DecodedPoints
-decoded_points M m P is r e = let p = by_answer M P r e in point_at M m P is p.0 r p.1
+pub decoded_points : (g : Margin) → DecodedPointsWith g
+decoded_points g M m P is r e = let p = by_answer M P r e in point_at M m P is p.0 r p.1
 
 -- ---- the legs together
 
-joined : (M : Map) (ls ks : List ℕ) → Linked M ls ks → concat (stretches ls ks) ≡ stretch ls (first ks) (last ks)
-joined M ls [] l = sym (empty_stretch ls 0 0 (omega arith))
-joined M ls (p ∷ []) l = sym (empty_stretch ls p p (omega arith))
-joined M ls (p ∷ q ∷ ks) l =
-    let here = linked_above no_margin M ls q ks l.1 (last (q ∷ ks)) in
-    grind (arith, has_last (q ∷ ks), joined M ls (q ∷ ks) l.1, stretch_parts ls p q (last (q ∷ ks)))
+joined : (g : Margin) (M : Map) (ls ks : List ℕ) → LinkedWith g M ls ks → concat (stretches ls ks) ≡ stretch ls (first ks) (last ks)
+joined g M ls [] l = sym (empty_stretch ls 0 0 (omega arith))
+joined g M ls (p ∷ []) l = sym (empty_stretch ls p p (omega arith))
+joined g M ls (p ∷ q ∷ ks) l =
+    let here = linked_above g M ls q ks l.1 (last (q ∷ ks)) in
+    grind (arith, has_last (q ∷ ks), joined g M ls (q ∷ ks) l.1, stretch_parts ls p q (last (q ∷ ks)))
 
-pub stretches_join : StretchesJoin
-stretches_join M P ws p =
+pub stretches_join : (g : Margin) → StretchesJoinWith g
+stretches_join g M P ws p =
     let E = extended_path M P p.before p.after in
     let gs = legs M E.lines in
     let ks = kept_points gs E.pos E.neg p.points in
-    let linked = kept_linked M E.lines (first_kept gs E.pos p.points) (last_kept gs E.neg p.points) (0 ∷ p.points)
-    (follow_linked M E.lines 0 p.points p.follow) in
-    path_also p (ap concat p.holds ∙ joined M E.lines ks linked)
+    let linked = kept_linked_with g M E.lines (first_kept gs E.pos p.points) (last_kept gs E.neg p.points) (0 ∷ p.points)
+    (follow_linked_with g M E.lines 0 p.points p.follow) in
+    path_also p (ap concat p.holds ∙ joined g M E.lines ks linked)
 
-pub offsets_close : Offsets
-offsets_close M m P is r e = let p = by_answer M P r e in cuts M m P is p.0 r p.1
+pub offsets_close : (g : Margin) → OffsetsWith g
+offsets_close g M m P is r e = let p = by_answer M P r e in cuts M m P is p.0 r p.1
 
-pub steps_close : Distances
-steps_close M m P is r e ws s = let p = by_answer M P r e in all_steps M m P is p.0 r p.1 ws s
+pub steps_close : (g : Margin) → DistancesWith g
+steps_close g M m P is r e ws s = let p = by_answer M P r e in all_steps M m P is p.0 r p.1 ws s
 
-pub nearest_own : Nearest
-nearest_own M m P is r e n d scale far w = let p = by_answer M P r e in (
+pub nearest_own : (g : Margin) → NearestWith g
+nearest_own g M m P is r e n d scale far w = let p = by_answer M P r e in (
   (λ k x h at. spaced_nearest n d scale far M r w k (omega arith) Outgoing x (known_out M m P is p.0 r p.1 k x h at)
       (near_out M m P is p.0 r p.1 k x h at)),
   (λ x at. spaced_nearest n d scale far M r w (last_number r) (omega arith) Incoming x
@@ -471,8 +473,8 @@ module _ (n d scale e : ℕ) (far : Measure) (M : Map) (r : Reference) (w : IsWe
       let p = and_parts (is_direction (direction_on s (leg M x))) _ h in
       and_from _ _ p.0 (all_candidates M _ _ other_outdone p.1)
 
-pub clear_stands_out : ClearStandsOut
-clear_stands_out M m P is r enc n d scale e far w out back = let p = by_answer M P r enc in
+pub clear_stands_out : (g : Margin) → ClearStandsOut g
+clear_stands_out g M m P is r enc n d scale e far w out back = let p = by_answer M P r enc in
     record {
       outgoing = λ k x h at. clear_out n d scale e far M r w k (omega arith) Outgoing x (known_out M m P is p.0 r p.1 k x h at)
           (near_out M m P is p.0 r p.1 k x h at) (out k x h at);

@@ -10,7 +10,7 @@ use Rattle.olr_spec.specs.Map.{Map, IsMap, has_node, has_line, coord_at, line_at
 use Rattle.olr_spec.proofs.AgreeLemmas.{some_is}
 use Rattle.olr_spec.proofs.ListLemmas.{Contains-here, Contains-later, Contains-one}
 use Rattle.olr_commands.specs.State.{Content, Change}
-use Rattle.olr_commands.specs.Dump.{dump_changes, node_change, line_change, node_changes, end_changes}
+use Rattle.olr_commands.specs.Dump.{dump_changes, margin_changes, node_change, line_change, node_changes, end_changes}
 use Rattle.olr_commands.specs.Dump.{line_changes}
 use Rattle.olr_laws.specs.CommandLaws.{ShownAreDumped}
 
@@ -26,16 +26,18 @@ module _ (c : Content) where
 
   node_dumped : (v : ℕ) → has_node M v ≡ true → Contains (dump_changes c) (node_change (v, coord_at M v))
   node_dumped v there =
-      Contains-append_left (map node_change (entries M.nodes)) _ _
+      Contains-append_right (margin_changes c.margin) _ _
+      (Contains-append_left (map node_change (entries M.nodes)) _ _
       (found_in node_change (entries M.nodes) v (coord_at M v)
-      (sym (get-entries M.nodes v) ∙ some_is (get M.nodes v) no_coord there))
+      (sym (get-entries M.nodes v) ∙ some_is (get M.nodes v) no_coord there)))
 
   line_dumped : (x : ℕ) → has_line M x ≡ true → Contains (dump_changes c) (line_change (x, line_at M x))
   line_dumped x there =
-      Contains-append_right (map node_change (entries M.nodes)) _ _
+      Contains-append_right (margin_changes c.margin) _ _
+      (Contains-append_right (map node_change (entries M.nodes)) _ _
       (Contains-append_left (map line_change (entries M.lines)) _ _
       (found_in line_change (entries M.lines) x (line_at M x)
-      (sym (get-entries M.lines x) ∙ some_is (get M.lines x) no_line there)))
+      (sym (get-entries M.lines x) ∙ some_is (get M.lines x) no_line there))))
 
   nodes_dumped : (v : ℕ) (y : Change) → has_node M v ≡ true → Contains (node_changes M v) y → Contains (dump_changes c) y
   nodes_dumped v y there on =

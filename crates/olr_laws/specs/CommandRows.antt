@@ -3,6 +3,7 @@ use Rattle.std.specs.Prelude.{List, [], ◌∷◌, codes, pos, neg_ℤ, Option, 
 use Rattle.std.specs.FinMap.{insert, empty}
 use Rattle.olr_spec.specs.Map.{empty_map, no_coord}
 use Rattle.olr_spec.specs.Reference.{Reference}
+use Rattle.olr_laws.specs.MarginRows.{fifty}
 use Rattle.olr_laws.specs.Rows.{reference1}
 use Rattle.olr_commands.specs.State.{no_content, after, State, Change, Add_path}
 
@@ -28,6 +29,10 @@ path_a = Add_path (codes "a") (record { lines = 10 ∷ []; pos = 0; neg = 0 })
 -- the state in which this path is registered, on the empty map
 abbrev pub with_a : Option (List Change) → State
 with_a batch = record { content = after no_content (path_a ∷ []); batch = batch }
+
+-- the state with a margin of 50 thousandths and one class, and without paths
+abbrev pub with_fifty : State
+with_fifty = record { content = record no_content { margin = fifty }; batch = None }
 
 -- node 1 is on the map, and there are no paths
 abbrev pub with_node : State

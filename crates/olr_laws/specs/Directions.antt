@@ -4,7 +4,8 @@
 --     DirectionReceiver, TakesByDirection D M t x      a receiver with such a difference; it may choose line x for the LRP t
 --     stands_out far slack s p x g cs      every other candidate is farther by more than the slack, or no nearer and
 --         beyond the margin
---     DistinctByDirection far slack M P r      the path's own line at each LRP has a direction, and stands out
+--     DistinctByDirection far slack M P r, DistinctByDirectionWith g      the path's own line at each LRP has a direction,
+--         and stands out; with a margin of routes and classes
 --     is_clear n d e k s x g cs      the same by the map alone, without the decoded coordinate
 use Rattle.std.specs.Prelude.{ℕ, ◌+◌, ◌*◌, ◌+ℤ◌, ◌-ℤ◌, ◌*ℤ◌, int_lt, if◌then◌else◌, ◌<◌, ◌≤◌, ℤ, pos, nat_abs, Bool, not, ◌&&◌, ◌||◌, ◌==◌, nat_le, nat_lt}
 use Rattle.std.specs.Prelude.{List, [], ◌∷◌, slice_index_or, IsTrue, IsFalse}
@@ -12,13 +13,14 @@ use Rattle.std.specs.List.{list_all}
 use Rattle.olr_spec.specs.Coordinates.{Coord}
 use Rattle.olr_spec.specs.Map.{Map, has_line}
 use Rattle.olr_spec.specs.Extension.{Path}
+use Rattle.olr_spec.specs.Margins.{Margin, no_margin}
 use Rattle.olr_spec.specs.Bearings.{Leg, Vector, vector, beyond, quarters, IsSector}
 use Rattle.olr_spec.specs.Directions.{direction_on, is_direction, is_beyond}
 use Rattle.olr_spec.specs.Reference.{Reference, leg}
 use Rattle.olr_spec.specs.Decoded.{decoded_bound}
 use Rattle.olr_spec.specs.Receiver.{Side, Outgoing, Incoming, node_on, coordinate_on, sector_on, Lrp, Measure, Rating, NowhereWorse}
 use Rattle.olr_spec.specs.Receiver.{SomewhereBetter, candidates, decoded_coord, last_number}
-use Rattle.olr_spec.specs.Recovery.{IsLineAt}
+use Rattle.olr_spec.specs.Recovery.{IsLineAtWith}
 
 -- ---- the angle from the middle of a sector
 
@@ -119,11 +121,15 @@ stands_out far slack s p x g cs =
     is_direction (direction_on s g) && list_all (λ c. c.0 == x || is_outdone far slack s p g c.1) cs
 
 -- at each LRP of the reference r
-pub record DistinctByDirection (far : Measure) (slack : ℕ) (M : Map) (P : Path) (r : Reference) : Type 0 where
-  pub outgoing : (k x : ℕ) → k < last_number r → IsLineAt M P Outgoing k x →
+pub record DistinctByDirectionWith (g : Margin) (far : Measure) (slack : ℕ) (M : Map) (P : Path) (r : Reference) : Type 0 where
+  pub outgoing : (k x : ℕ) → k < last_number r → IsLineAtWith g M P Outgoing k x →
       IsTrue (stands_out far slack Outgoing (decoded_coord r k) x (leg M x) (candidates M))
-  pub incoming : (x : ℕ) → IsLineAt M P Incoming (last_number r) x →
+  pub incoming : (x : ℕ) → IsLineAtWith g M P Incoming (last_number r) x →
       IsTrue (stands_out far slack Incoming (decoded_coord r (last_number r)) x (leg M x) (candidates M))
+
+-- without a margin
+abbrev pub DistinctByDirection : Measure → ℕ → Map → Path → Reference → Type 0
+DistinctByDirection = DistinctByDirectionWith no_margin
 
 -- ---- where the map alone shows it
 

@@ -2,7 +2,7 @@
 use Rattle.std.specs.Prelude.{ℕ, List, [], ◌∷◌, codes, None}
 use Rattle.std.specs.FinMap.{insert, empty}
 use Rattle.olr_spec.specs.Map.{empty_map}
-use Rattle.olr_commands.specs.State.{State}
+use Rattle.olr_commands.specs.State.{no_content, State}
 use Rattle.olr_laws.specs.RecordRows.{zero, text_of_lines}
 
 -- a run of five records, four of them rejected
@@ -18,4 +18,11 @@ output20 =
 
 abbrev pub state20 : State
 state20 =
-    record { content = record { map = record empty_map { nodes = insert empty 1 zero }; paths = [] }; batch = None }
+    record { content = record no_content { map = record empty_map { nodes = insert empty 1 zero } }; batch = None }
+
+-- a run that sets the margin and asks for it
+abbrev pub margin_input : List ℕ
+margin_input = text_of_lines (codes "margin,50,1" ∷ codes "show-margin" ∷ [])
+
+abbrev pub margin_output : List ℕ
+margin_output = text_of_lines (codes "ok,0" ∷ codes "ok,1" ∷ codes "margin,50,1" ∷ [])

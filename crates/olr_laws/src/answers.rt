@@ -5,6 +5,7 @@ ghost use Rattle.olr_spec.specs.Margins.{Margin};
 ghost use Rattle.olr_spec.specs.Reference.{kept_points, reference};
 ghost use Rattle.olr_spec.specs.Bytes.{reference_bytes};
 ghost use Rattle.olr_spec.specs.Decoded.{decoded};
+ghost use Rattle.olr_laws.specs.DirectionLaws;
 ghost use Rattle.olr_laws.specs.Rows.{legs1, leg10, reference1, bytes1, side_road_dropped_bytes, first_dropped_bytes};
 ghost use Rattle.olr_laws.specs.Rows.{last_dropped_bytes, both_offsets_bytes, offset_bytes_of};
 
@@ -28,6 +29,8 @@ pub fn laws_of_points()
     ensures elsewhere { (g : Margin) → Laws.RoutesJoinElsewhere g }
     ensures decoded_near { Laws.DecodedNear }
     ensures decoded_points { Laws.DecodedPoints }
+    ensures near_with { (g : Margin) → DirectionLaws.DecodedNearWith g }
+    ensures points_with { (g : Margin) → DirectionLaws.DecodedPointsWith g }
 {}
 
 /// The LRPs that remain after the offsets, in dm from the start and from the end.

@@ -8,13 +8,15 @@ ghost use Rattle.olr_commands.specs.Dump;
 ghost use Rattle.olr_commands.specs.State.{On_map, Add_path, Not_a_reference, Not_v3, Not_base64, Path_exists};
 ghost use Rattle.olr_commands.specs.State.{No_path, Batch_open, No_batch, Count_differs, Drop_path, Make, Show};
 ghost use Rattle.olr_commands.specs.State.{Report, Explain, Begin, Commit, Abort, start_state, step};
-ghost use Rattle.olr_commands.specs.State.{Show_node, Show_line, Depends, Compact, Preview, Ambiguous};
-ghost use Rattle.olr_commands.specs.Reply.{Paths, Held, Names, Obstacles, IsReply, takes_memory, may_lack};
+ghost use Rattle.olr_commands.specs.State.{Show_node, Show_line, Show_margin, Set_margin, Depends, Compact, Preview, Ambiguous};
+ghost use Rattle.olr_commands.specs.Reply.{Paths, Held, Records, Names, Obstacles, IsReply, takes_memory, may_lack};
 ghost use Rattle.olr_laws.specs.CommandLaws as Laws;
-ghost use Rattle.olr_laws.specs.CommandRows.{in_batch, path_a, with_a, with_node};
+ghost use Rattle.olr_laws.specs.CommandRows.{in_batch, path_a, with_a, with_fifty, with_node};
+ghost use Rattle.olr_laws.specs.MarginRows.{fifty};
+ghost use Rattle.olr_laws.specs.RecordRows.{text_of_lines};
 
 /// What commands preserve, and that a reply is determined.
-#[tactic(auto, using(olr_commands::proofs::StateLemmas::steps_keep, crate::proofs::CommandLemmas::one_reply, crate::proofs::CommandLemmas::one_outcome, crate::proofs::CommandLemmas::some_reply, crate::proofs::CommandLemmas::previews_commit))]
+#[tactic(auto, using(crate::proofs::CommandLemmas::one_reply, crate::proofs::CommandLemmas::one_outcome, crate::proofs::CommandLemmas::some_reply, crate::proofs::CommandLemmas::previews_commit))]
 pub fn laws_of_states()
     ensures kept { Laws.StepsKeep }
     ensures one_reply { Laws.OneReply }
@@ -25,12 +27,14 @@ pub fn laws_of_states()
     ensures previews { Laws.PreviewsCommit }
 {}
 
-/// The rise of the count of encodings is determined.
-#[tactic(auto, using(crate::proofs::CommandLemmas::one_rise, crate::proofs::CommandLemmas::no_rise))]
+/// The rise of the count of encodings is determined; a path that is given raises it by one, and the margin by the number of
+/// paths.
+#[tactic(auto, using(crate::proofs::CommandLemmas::one_rise, crate::proofs::CommandLemmas::no_rise, crate::proofs::CommandLemmas::margin_raises))]
 pub fn laws_of_counts()
     ensures one { Laws.OneRise }
     ensures none { Laws.NoRise }
     ensures paths { Laws.PathsRaiseOne }
+    ensures margin { Laws.MarginRaisesAll }
 {}
 
 /// The claims about whole runs of commands.
@@ -127,6 +131,23 @@ pub fn rows_ambiguous()
     ensures nothing { IsReply start_state (Ambiguous None) start_state (Obstacles []) }
     ensures memory { may_lack start_state (Ambiguous None) ≡ true }
     ensures memory_of_none { may_lack start_state (Ambiguous (Some (codes "a"))) ≡ false }
+{}
+
+/// The margin: it is shown without the open batch's, set at once outside of batches, and held in one.
+#[tactic(auto, unfolding(olr_records::proofs::OnLiterals::on_literals))]
+pub fn rows_margin_commands()
+    ensures shown { step start_state Show_margin ≡ Ok start_state }
+    ensures shown_in_batch { step (in_batch (Set_margin fifty ∷ [])) Show_margin ≡ Ok (in_batch (Set_margin fifty ∷ [])) }
+    ensures reply { IsReply start_state Show_margin start_state (Records 1 (text_of_lines (codes "margin,0,0" ∷ []))) }
+    ensures reply_in_batch { IsReply (in_batch (Set_margin fifty ∷ [])) Show_margin (in_batch (Set_margin fifty ∷ []))
+        (Records 1 (text_of_lines (codes "margin,0,0" ∷ []))) }
+    ensures set { step start_state (Make (Set_margin fifty)) ≡ Ok with_fifty }
+    ensures set_reply { IsReply start_state (Make (Set_margin fifty)) with_fifty (Paths []) }
+    ensures shown_again { IsReply with_fifty Show_margin with_fifty (Records 1 (text_of_lines (codes "margin,50,1" ∷ []))) }
+    ensures held { step (in_batch []) (Make (Set_margin fifty)) ≡ Ok (in_batch (Set_margin fifty ∷ [])) }
+    ensures committed { step (in_batch (Set_margin fifty ∷ [])) (Commit 1) ≡ Ok with_fifty }
+    ensures dropped { step (in_batch (Set_margin fifty ∷ [])) Abort ≡ Ok start_state }
+    ensures memory { may_lack start_state (Make (Set_margin fifty)) ≡ true }
 {}
 
 /// Which commands may run out of memory.

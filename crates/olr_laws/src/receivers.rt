@@ -26,6 +26,10 @@ pub fn laws_of_receivers()
     ensures offsets { Laws.Offsets }
     ensures distances { Laws.Distances }
     ensures nearest { Laws.Nearest }
+    ensures stretches_join_with { (g : Margin) → DirectionLaws.StretchesJoinWith g }
+    ensures offsets_with { (g : Margin) → DirectionLaws.OffsetsWith g }
+    ensures distances_with { (g : Margin) → DirectionLaws.DistancesWith g }
+    ensures nearest_with { (g : Margin) → DirectionLaws.NearestWith g }
     ensures some { Laws.SomeReceiver }
     ensures weighted { Laws.SomeWeighted }
 {}
@@ -34,8 +38,8 @@ pub fn laws_of_receivers()
 /// The map alone shows where it does. A count of limits that the angle from the middle of the sector exceeds is such a
 /// difference of bearing, and a weighted sum of differences such a preference.
 pub fn laws_of_directions()
-    ensures recovered { DirectionLaws.RecoveredByDirection }
-    ensures clear { DirectionLaws.ClearStandsOut }
+    ensures recovered { (g : Margin) → DirectionLaws.RecoveredByDirection g }
+    ensures clear { (g : Margin) → DirectionLaws.ClearStandsOut g }
     ensures limits { DirectionLaws.SeesByLimits }
     ensures weights { DirectionLaws.SomeByWeights }
 {}
@@ -44,7 +48,7 @@ pub fn laws_of_directions()
 /// to the question about all paths doesn't name, and what this names stands in the way. No test of nodes names
 /// fewer for all these receivers.
 pub fn laws_of_ambiguity()
-    ensures clear { AmbiguityLaws.ClearIsDistinct }
+    ensures clear { (g : Margin) → AmbiguityLaws.ClearIsDistinct g }
     ensures unnamed { AmbiguityLaws.UnnamedIsDistinct }
     ensures named { AmbiguityLaws.NamedStands }
     ensures sharpest { AmbiguityLaws.NoSharperTest }

@@ -6,7 +6,7 @@ ghost use Rattle.olr_spec.specs.Map.{No_node, Line_exists, No_line, Node_in_use,
 ghost use Rattle.olr_spec.specs.Encoding as encoding;
 ghost use Rattle.olr_spec.specs.Bytes as bytes;
 ghost use Rattle.olr_commands.specs.State.{On_map, Add_path, Set_path, Drop_path, Make, Show, Report, Dump, Compact};
-ghost use Rattle.olr_commands.specs.State.{Explain, Begin, Preview, Commit, Abort, Ambiguous};
+ghost use Rattle.olr_commands.specs.State.{Explain, Begin, Preview, Commit, Abort, Ambiguous, Set_margin, Show_margin};
 ghost use Rattle.olr_spec.specs.Ambiguity.{Same_sector, Other_bearing, Other_node};
 ghost use Rattle.olr_commands.specs.RecordText.{record_line};
 ghost use Rattle.olr_commands.specs.Reply as reply;
@@ -14,6 +14,7 @@ ghost use Rattle.olr_commands.specs.State as state;
 ghost use Rattle.olr_records.specs.Records.{line_between, read, Bad_form, Out_of_range};
 ghost use Rattle.olr_records.specs.ReplyText.{reply_text, fault_text};
 ghost use Rattle.olr_laws.specs.RecordLaws as Laws;
+ghost use Rattle.olr_laws.specs.MarginRows.{fifty};
 ghost use Rattle.olr_laws.specs.RecordRows.{at, zero, text_of_lines, changes1};
 ghost use Rattle.olr_laws.specs.Rows.{reference1};
 ghost use Rattle.olr_laws.specs.CommandRows.{reference2};
@@ -145,6 +146,19 @@ pub fn rows_paths()
     ensures nothing { read [] ≡ Err Bad_form }
 {}
 
+/// Records of the margin.
+pub fn rows_margin_records()
+    ensures margin { read (codes "margin" ∷ codes "50" ∷ codes "1" ∷ []) ≡ Ok (Make (Set_margin fifty)) }
+    ensures greatest { read (codes "margin" ∷ codes "1000" ∷ codes "7" ∷ [])
+        ≡ Ok (Make (Set_margin (record { routes = 1000; classes = 7 }))) }
+    ensures beyond { read (codes "margin" ∷ codes "1001" ∷ codes "0" ∷ []) ≡ Err Out_of_range }
+    ensures class_beyond { read (codes "margin" ∷ codes "0" ∷ codes "8" ∷ []) ≡ Err Out_of_range }
+    ensures routes_alone { read (codes "margin" ∷ codes "50" ∷ []) ≡ Err Bad_form }
+    ensures form_first { read (codes "margin" ∷ codes "1001" ∷ codes "x" ∷ []) ≡ Err Bad_form }
+    ensures show { read (codes "show-margin" ∷ []) ≡ Ok Show_margin }
+    ensures show_more { read (codes "show-margin" ∷ [] ∷ []) ≡ Err Bad_form }
+{}
+
 /// Texts of replies.
 #[tactic(auto, unfolding(olr_records::proofs::OnLiterals::on_literals))]
 pub fn rows_replies()
@@ -169,6 +183,8 @@ pub fn rows_replies()
     ensures records { reply_text (reply.Dumped 4 (concat (map record_line changes1)))
         ≡ text_of_lines (codes "ok,4" ∷ codes "node,1,6.12683,-0.0000001" ∷ codes "node,2,0,-180" ∷ codes
         "line,10,1,2,3,2,5610,200,6.12701,49.60838" ∷ codes "path,a,1500,0,10" ∷ []) }
+    ensures margin { reply_text (reply.Records 1 (concat (map record_line (Set_margin fifty ∷ []))))
+        ≡ text_of_lines (codes "ok,1" ∷ codes "margin,50,1" ∷ []) }
     ensures obstacles { reply_text (reply.Obstacles
         (record { name = codes "a"; lrp = 0; obstacle = Same_sector 11 }
         ∷ record { name = codes "a"; lrp = 1; obstacle = Other_bearing 21 }

@@ -11,7 +11,8 @@ ghost use Rattle.olr_run.specs.Output.{All_accepted};
 ghost use Rattle.olr_sessions.specs.declared.ends.RunFault.TheVariants as fault;
 ghost use Rattle.olr_laws.specs.RunLaws as Laws;
 ghost use Rattle.olr_laws.specs.RecordRows.{text_of_lines};
-ghost use Rattle.olr_laws.specs.RunRows.{input20, output20, state20};
+ghost use Rattle.olr_laws.specs.CommandRows.{with_fifty};
+ghost use Rattle.olr_laws.specs.RunRows.{input20, output20, state20, margin_input, margin_output};
 
 /// Outcomes keep the register's state sound. Apart from out of memory, the state at the start and the bytes that are
 /// read determine what is written, the status and the state at the end. Records that are taken one after another are
@@ -82,6 +83,7 @@ pub fn rows_runs()
     ensures all { Ran Outcomes false start_state (records_of input20) state20 output20 Some_refused }
     ensures stopped { Ran Outcomes true start_state (records_of input20) state20
         (text_of_lines (codes "ok,0" ∷ codes "fault,3,NodeExists" ∷ [])) Stopped }
+    ensures margin { Ran Outcomes false start_state (records_of margin_input) with_fifty margin_output All_accepted }
     ensures cut { Faulted Outcomes false start_state (records_of input20) state20 (codes "ok,0" ++ 10 ∷ codes "fau")
         fault.Write }
     ensures cut_at_once { Faulted Outcomes false start_state (records_of input20) start_state [] fault.Read }

@@ -1,4 +1,5 @@
 use Rattle.olr_spec.proofs.ElsewhereLemmas.{counted_front, counted_unique, unique_there}
+use Rattle.olr_laws.proofs.PartnerReceivers.{read_elsewhere}
 use Rattle.olr_laws.proofs.margins.laws_of_margins.Goals as goal
 
 pub returns : goal.returns
@@ -6,4 +7,5 @@ returns c = assumption (
   counted_front,
   counted_unique,
   unique_there,
+  read_elsewhere,
 )

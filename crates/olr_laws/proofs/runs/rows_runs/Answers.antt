@@ -6,7 +6,9 @@ use Rattle.std.specs.FinMap.{insert, empty, get-empty, get-insert}
 use Rattle.std.specs.Prelude.{codes}
 use Rattle.std.specs.Fmt.{digits}
 use Rattle.olr_spec.specs.Map.{Node_exists, No_node, Add_node, Drop_node}
-use Rattle.olr_laws.specs.RecordRows.{zero}
+use Rattle.olr_commands.specs.Reply.{Records}
+use Rattle.olr_laws.specs.CommandRows.{with_fifty}
+use Rattle.olr_laws.specs.RecordRows.{text_of_lines, zero}
 use Rattle.olr_run.specs.Output.{StopsAtFault}
 use Rattle.olr_laws.specs.RunRows.{input20, state20}
 use Rattle.olr_laws.proofs.runs.rows_runs.Goals as goal
@@ -35,6 +37,18 @@ returns-clause-all c =
         ),
       );
       stops = (λ e. absurd cc, (λ e. absurd cc, (λ e. absurd cc, (λ e. absurd cc, (λ e. refl, tt)))));
+      all = inl refl;
+      wrote = refl;
+      ended = refl;
+    }
+
+pub returns-clause-margin : goal.returns-clause-margin
+unfolding csv_on_literals digits
+returns-clause-margin c =
+    record {
+      outcomes = Ok (Paths []) ∷ Ok (Records 1 (text_of_lines (codes "margin,50,1" ∷ []))) ∷ [];
+      each = (with_fifty, inl (refl, refl), (with_fifty, inl (refl, refl), refl));
+      stops = (λ e. absurd cc, (λ e. absurd cc, tt));
       all = inl refl;
       wrote = refl;
       ended = refl;
