@@ -182,6 +182,7 @@ other_kind (rust.Edit e) is kept = absurd (let never = is in cc)
 other_kind (rust.AddPath name lines p n) is kept = absurd (let never = is in cc)
 other_kind (rust.SetPath name lines p n) is kept = absurd (let never = is in cc)
 other_kind (rust.DropPath name) is kept = absurd (let never = is in cc)
+other_kind (rust.SetMargin g) is kept = absurd (let never = is in cc)
 other_kind rust.Begin is kept = absurd (let never = is in cc)
 other_kind (rust.Commit count) is kept = absurd (let never = is in cc)
 other_kind c is kept = kept

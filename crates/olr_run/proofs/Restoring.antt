@@ -308,6 +308,7 @@ kind_of_command (rust.Edit e) = (_, refl)
 kind_of_command (rust.AddPath name lines p n) = (_, refl)
 kind_of_command (rust.SetPath name lines p n) = (_, refl)
 kind_of_command (rust.DropPath name) = (_, refl)
+kind_of_command (rust.SetMargin g) = (_, refl)
 kind_of_command rust.Begin = refl
 kind_of_command (rust.Commit count) = refl
 kind_of_command c = tt

@@ -25,3 +25,9 @@ returns-in_err-apply-2-clause-refused c =
     let p = err_from_is_err_and c.from_residual-in_err-apply-2.result c.from_residual-in_err-apply-2.ensures.1 in
     rw p.1
     (rw p.2 (λ is. change_never c.args.self.now (command_of c.args.command) c.requires.change c.requires.room (c.in_err-apply-2.ensures.refused is)))
+
+pub returns-in_err-apply-clause-refused : goal.returns-in_err-apply-clause-refused
+returns-in_err-apply-clause-refused c =
+    let p = err_from_is_err_and c.from_residual.result c.from_residual.ensures.1 in
+    rw p.1
+    (rw p.2 (λ is. change_never c.args.self.now (command_of c.args.command) c.requires.change c.requires.room (c.in_err-apply.ensures.refused is)))
