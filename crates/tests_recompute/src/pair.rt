@@ -263,13 +263,13 @@ impl Pair {
         let mut nodes = Vec::new(rt.alloc());
         nodes.push(node(number_in(self.asked >> 20, NODES)))?;
         nodes.push(node(number_in(self.asked >> 40, NODES)))?;
-        let roads = &self.twin.roads;
-        if self.is_open || nodes.iter().any(|it| roads.node(*it).is_none()) {
+        let twin = &self.twin;
+        if self.is_open || nodes.iter().any(|it| twin.roads.node(*it).is_none()) {
             return Ok(());
         }
         let mut expected = Vec::new(rt.alloc());
-        for named in &self.twin.paths {
-            if named.depends(rt.alloc(), &self.twin, &nodes)? {
+        for named in &twin.paths {
+            if named.depends(rt.alloc(), twin, &nodes)? {
                 expected.push(named.name.clone()?)?;
             }
         }

@@ -26,11 +26,11 @@ renew_over-renewed-requires g c =
       names = rw e c.len-names.ensures.names;
       follows = rw e (follows_self is c.len-names.ensures.names);
       bounds = rw e (bounds_unknown (map_of c.keep.new.self) (slot_of c.keep.new.self) is c.forget.new.self c.forget.ensures);
-      before = rw e (
+      before = rw c.none.ensures (rw e (
         M,
         right_before M (map_of c.keep.new.self) (edit_of c.args.edit) c.note.new.self is c.args.map.now.kept.sound
             (done ∙ ap (λ (m : RoadMap). Ok (map_of m)) (sym c.keep.ensures)) noted c.requires,
-      );
+      ));
     }
 
 pub returns : goal.returns
@@ -38,7 +38,7 @@ returns g c =
     let M = map_of c.args.map.now in
     let is = items c.args.list.now in
     let renewed =
-    rw (c.new-none.ensures is) at (if_ok_at c.renew_over-renewed.result c.expect-report.result _
-    c.renew_over-renewed.ensures.renewed c.expect-report.ensures) in
+    rw c.none.ensures at (rw (c.new-none.ensures is) at (if_ok_at c.renew_over-renewed.result c.expect-report.result _
+    c.renew_over-renewed.ensures.renewed c.expect-report.ensures)) in
     right_renewed M (map_of c.keep.new.self) is (items c.renew_over-renewed.new.list) c.requires renewed.remade
     renewed.named
