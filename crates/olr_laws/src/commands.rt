@@ -143,6 +143,7 @@ pub fn rows_margin_commands()
         (Records 1 (text_of_lines (codes "margin,0,0" ∷ []))) }
     ensures set { step start_state (Make (Set_margin fifty)) ≡ Ok with_fifty }
     ensures set_reply { IsReply start_state (Make (Set_margin fifty)) with_fifty (Paths []) }
+    ensures shown_again { IsReply with_fifty Show_margin with_fifty (Records 1 (text_of_lines (codes "margin,50,1" ∷ []))) }
     ensures held { step (in_batch []) (Make (Set_margin fifty)) ≡ Ok (in_batch (Set_margin fifty ∷ [])) }
     ensures committed { step (in_batch (Set_margin fifty ∷ [])) (Commit 1) ≡ Ok with_fifty }
     ensures dropped { step (in_batch (Set_margin fifty ∷ [])) Abort ≡ Ok start_state }
