@@ -1,8 +1,8 @@
 """What is said more than once has to be said alike: on two pages, or on a page and in a `--help`, a unit or the code.
 
 Compared are the options of the program and of each tool, the tools' names, exit statuses, faults, metrics, defaults of options,
-and the numbers of `FACTS`. Each relative link leads to a file and to a heading of it, no page is longer than `LENGTHS`, and no sentence has
-more than 40 words outside of THEOREMS.
+and the numbers of `FACTS`. Each relative link leads to a file and to a heading of it, no page is longer than `LENGTHS`, and no
+sentence has more than 40 words outside of THEOREMS.
 """
 import glob
 import os
@@ -29,7 +29,8 @@ MANUAL = "docs/olr-keep.1"
 COMMON = {0, 2, 3, 130}  # the statuses of every tool
 # Numbers that stand in several places: each pattern may find one number only, wherever it is found.
 FACTS = {
-    "the changes of a batch": r"(?:up to |more than |holds )(\d{2,3},?000) changes(?! each)",
+    "the changes of a batch":
+        r"(?:up to |more than |holds |beyond the |changes of a batch \| )(\d{2,3},?000)(?:th| changes| \|)(?! each)",
     "the answers that leave together": r"(?:up to|at most) (\d+) KB\b",
     "the longest line with --lines": r"(?:longer than|of over|more than) (\d+) MB, (?:is|are|has)\b",
     "the end of a road near a line": r"(?:ends? of (?:a road|roads) within|`olr-keep-check-map`:) (\d+ m|an? metre)\b",
@@ -38,8 +39,15 @@ FACTS = {
     "the program logic": r"logic[ =`]+([0-9a-f]{16})\b",
     "the margin of a region": r"nodes within (\d+) km of its paths",
     "the margin of `ambiguous`": r"margin is a quarter of a sector, ([\d.]+) degrees",
-    "the slack of `ambiguous`": r"more than ([\d.]+) m farther",
+    "the slack of `ambiguous`": r"(?:more than|slack of) ([\d.]+) m(?: farther| by|, cosines)",
     "a step of DNP": r"step(?:s)? of ([\d.]+) m\b",
+    "a sector": r"sectors? of ([\d.]+) degrees",
+    "a step of coordinates": r"steps of (360 / 2\^\d+) degree",
+    "how exact the first point is": r"first (?:LRP is up to|within) ([\d.]+) m\b",
+    "how exact each further point is": r"each further (?:LRP adds up to|one) ([\d.]+) m\b",
+    "memory of a long line": r"at most some (\d+) MB\b",
+    "memory of a long line of commas": r"(\d+) MB if it is commas",
+    "the most records": r"(?:more than|beyond) (2\^\d+)\b",
     "how soon a save is in the table of strings": r"(?:save[^.|]{0,60}|usually )within (an? [a-z ]*second)",
     "the edits after which memory is compared":
         r"(?:memory|allocated|looked at)\b[^.|]{0,60} after (?:the first )?([\d,]+) edits",
@@ -48,6 +56,9 @@ FACTS = {
     "hours of the gate": r"(?:gate\*?,? takes|`\./test` takes) (\w+ to \w+) hours",
     "where packages have the tools' files": r"(/usr[\w/]*/share/olr-keep)\b",
 }
+# What the program doesn't do, and README and CHOOSE have to say.
+NOT_DONE = ("points along a line", "geo coordinates", "POIs", "areas", "closed lines", "XML", "version 2", "DATEX II", "TPEG",
+            "turn restrictions", "times", "heights", "antimeridian", "Kafka", "HTTP")
 # What pages have said, and isn't so.
 NOT_SO = {
     r"opens no file but": "with a log it makes and replaces files beside it",
@@ -300,8 +311,10 @@ def number_faults(said: Dict[str, str]) -> List[str]:
 
 
 def claim_faults(kinds: List[str]) -> List[str]:
-    """Claims of `NOT_SO`, and lists that lack something: of the kinds of `check-map`, and of what no worker answers."""
-    faults = []
+    """Claims of `NOT_SO`, and lists that lack something: of what isn't done, of the kinds of `check-map`, and of what no worker
+    answers."""
+    faults = [f"{page}: it doesn't say that there are no {it}" for page in ("README.md", "docs/CHOOSE.md") for it in NOT_DONE
+              if not re.search(rf"\b{it}\b", text_of(page))]
     for page in pages():
         for text in re.split(r"\n\n|\n(?=- |\|)", text_of(page)):
             faults += [f"{page}: {text[:60]} ..: {why}" for claim, why in NOT_SO.items() if re.search(claim, text)]

@@ -3,6 +3,7 @@ must not stop the rest."""
 import concurrent.futures
 import contextlib
 import io
+import json
 import os
 import signal
 import subprocess
@@ -326,6 +327,72 @@ def frozen(server):
     print("live: freeze, restore and thaw; a preview uses up no numbers")
 
 
+EDITS = ("delete from {}.streets where id = 6100000",
+         "update {}.streets set geom = ST_Translate(geom, 0.00015, 0) where id = 6100001",
+         "update {}.streets set class = 4 where id = 6100002",
+         "insert into {}.streets values (9, 3, 3, 'both', " + line((6.1012, 49.6), (6.10121, 49.602)) + ")")
+VERDICTS = {"p6100000": "lost", "p6100001": "other road", "p6100002": "same road", "p6100003": "same road", "p6100004": "same string"}
+
+
+def draft(server):
+    """A draft of the streets: the report has what becomes of each path, nothing changes, and a save of the same edits leads there."""
+    with Case(server, "draft") as case:
+        case.save(*comb(5))
+        case.do("create schema draft", "create table draft.streets as table streets", *(it.format("draft") for it in EDITS))
+        before = case.texts(), case.ask("select * from olr_keep.counter order by 1"), case.ask("select * from olr_keep.line order by 1")
+        folder, url = f"{server.folder}/draft", server.url("draft")
+        options = ["--json", f"{folder}.json", "--strings", f"{folder}.csv", "--geojson", folder]
+        command = [sys.executable, f"{TOP}/tools/live", "--draft", "draft", *options, url, PROGRAM]
+        ended = subprocess.run(command, capture_output=True, text=True, timeout=LIMIT, check=False)
+        head = "paths 5: lost 1, other road 1, without a string before 0, same road 2, same string 1; newly ambiguous 1"
+        lines = ended.stdout.splitlines()
+        if ended.returncode != 1 or lines[0] != head or not lines[1].startswith("lost: p6100000: no line"):
+            fail(f"draft: status {ended.returncode}: {ended.stdout}{ended.stderr}")
+        with open(f"{folder}.json", encoding="utf-8") as file:
+            paths = {it["path"]: it for it in json.load(file)["paths"]}
+        named = [name for name, it in paths.items() if it["newly_ambiguous"]]
+        if {name: it["verdict"] for name, it in paths.items()} != VERDICTS or named != ["p6100003"]:
+            fail(f"draft: the verdicts are {paths}")
+        after = case.texts(), case.ask("select * from olr_keep.counter order by 1"), case.ask("select * from olr_keep.line order by 1")
+        if after != before or not {"draft.geojson", "draft.qml"} <= set(os.listdir(folder)):
+            fail("draft: the draft changes tables, or a file is missing")
+        case.save(*(it.format("public") for it in EDITS))
+        if case.texts() != {name: it["new"][5:] if it["new"].startswith("text,") else None for name, it in paths.items()}:
+            fail("draft: the strings after the edits are not those of the report")
+        with open(f"{folder}.csv", encoding="utf-8") as file:
+            if "p6100000," not in file.read():
+                fail("draft: a path is missing in the table of strings")
+        refused_drafts(case, command)
+    print("live: what a draft would make of each path is printed, and is what its edits make of it; nothing changes")
+
+
+def ambiguous(server):
+    """A twin of a street makes a string ambiguous that doesn't change, and is mended again."""
+    with Case(server, "ambiguous") as case:
+        case.save(*comb(3))
+        texts = case.texts()
+        case.save(ROW + f"(9, 3, 3, 'both', {line((6.10081, 49.60001), (6.10081, 49.60199))})")
+        query = "select string_agg(path || ' ' || ambiguous, ' ' order by path) from olr_keep.path_state"
+        case.expect(query, "p6100000 false p6100001 false p6100002 true", "the twin is not named")
+        if case.texts() != texts:
+            fail("ambiguous: a string is another one")
+        if case.ask("select distinct name from olr_keep.ambiguity where geom is not null and words like 'point _: %'") != [("p6100002",)]:
+            fail(f"ambiguous: named are {case.ask('select * from olr_keep.ambiguity')}")
+        case.save("delete from streets where id = 9")
+        case.expect("select count(*) from olr_keep.ambiguity", 0, "what is mended is named")
+    print("live: a string that a twin line makes ambiguous is named, though it does not change")
+
+
+def refused_drafts(case, command):
+    """No draft, and one that can't be read."""
+    for change, status, words in (("alter table draft.streets rename class to kind", 3, "draft.streets: column"),
+                                  ("drop table draft.streets", 2, "no table there has the name")):
+        case.do(change)
+        ended = subprocess.run(command, capture_output=True, text=True, timeout=LIMIT, check=False)
+        if ended.returncode != status or words not in ended.stderr:
+            fail(f"draft: after {change}: status {ended.returncode}: {ended.stderr}")
+
+
 # ---- one bad thing
 
 
@@ -554,6 +621,24 @@ def stopped(server):
 OLD_TABLES = ("source", "path", "street", "vertex", "node", "line", "string", "round", "history", "problem")
 
 
+def make_older(server, cursor, name):
+    """Makes a database with the schema of before, and with what another one has."""
+    server.psql("postgres", "-c", f"create database {name}")
+    server.psql(name, "-c", "create extension postgis", "-f", f"{TOP}/checks/releases/live.sql", "-c", STREETS)
+    older = server.connect(name).cursor()
+    copy_rows(cursor, older, "public.streets", "id, class, form, direction, geom")
+    older.execute("alter table olr_keep.round alter state set default 'done'")
+    for table_name in OLD_TABLES:
+        older.execute("""select string_agg(quote_ident(attname), ', ') from pg_attribute
+            where attrelid = %s::regclass and attnum > 0 and attname not in ('state', 'problem')""", (f"olr_keep.{table_name}",))
+        copy_rows(cursor, older, f"olr_keep.{table_name}", older.fetchone()[0])
+    older.execute("""select setval('olr_keep.node_number', 1000), setval('olr_keep.line_number', 1000),
+        olr_keep.make_triggers(1, 'public.streets', 'id')""")
+    older.execute("""insert into olr_keep.round
+        select 99, 'held', at, streets, paths, users, 0, 0, 0, 0 from olr_keep.round limit 1""")
+    older.connection.close()
+
+
 def upgrade(server):
     """A database with the schema of before, and what was published in it: live.sql upgrades it, and all strings stay."""
     with Case(server, "newer") as case:
@@ -561,23 +646,7 @@ def upgrade(server):
         case.save("update streets set class = 4")
         texts, lines = case.texts(), case.ask("select line, street from olr_keep.line order by 1")
         last = case.ask("select max(round) from olr_keep.round")[0][0]
-        server.psql("postgres", "-c", "create database older")
-        server.psql("older", "-c", "create extension postgis", "-f", f"{TOP}/checks/releases/live.sql", "-c", STREETS)
-        older = server.connect("older").cursor()
-        copy_rows(case.connection.cursor(), older, "public.streets", "id, class, form, direction, geom")
-        for name in OLD_TABLES:
-            older.execute("""select string_agg(quote_ident(attname), ', ') from pg_attribute
-                where attrelid = %s::regclass and attnum > 0 and attname not in ('state', 'problem')""", (f"olr_keep.{name}",))
-            if name == "round":
-                older.execute("alter table olr_keep.round alter state set default 'done'")
-                older.execute("""select string_agg(quote_ident(attname), ', ') from pg_attribute
-                    where attrelid = 'olr_keep.round'::regclass and attnum > 0 and attname <> 'state'""")
-            copy_rows(case.connection.cursor(), older, f"olr_keep.{name}", older.fetchone()[0])
-        older.execute("""select setval('olr_keep.node_number', 1000), setval('olr_keep.line_number', 1000),
-            olr_keep.make_triggers(1, 'public.streets', 'id')""")
-        older.execute("""insert into olr_keep.round
-            select 99, 'held', at, streets, paths, users, 0, 0, 0, 0 from olr_keep.round limit 1""")
-        older.connection.close()
+        make_older(server, case.connection.cursor(), "older")
     server.psql("older", "-f", f"{TOP}/tools/live.sql")
     server.psql("older", "-f", f"{TOP}/tools/live.sql")
     case = Work(server, "older")
@@ -617,8 +686,8 @@ def listens(server):
         fail("docs/LIVE.md: a consumer has to listen before it reads")
 
 
-CASES = (rights, parts, stopped, service_road, drift, two_roads, one_save, held_cluster, limits, during_attempt, frozen, bad_paths,
-         expressions, tables, numbers, upgrade, listens)
+CASES = (rights, parts, stopped, service_road, drift, two_roads, one_save, held_cluster, limits, during_attempt, frozen, draft, ambiguous,
+         bad_paths, expressions, tables, numbers, upgrade, listens)
 
 
 def run_cases(server, times, names):

@@ -171,6 +171,12 @@ create index if not exists problem_path on olr_keep.problem (path);
 create index if not exists problem_node on olr_keep.problem (node);
 comment on table olr_keep.problem is 'What the map, a path or a table lacks now. A row is removed when it is mended.';
 
+create table if not exists olr_keep.ambiguity (
+    name text not null, words text not null, geom geometry(Point, 4326), primary key (name, words)
+);
+comment on table olr_keep.ambiguity is
+    'Which published strings a receiver may read in another way: what may be taken at which of their points, from 0, and where.';
+
 -- ---- what triggers write
 
 create table if not exists olr_keep.note (
@@ -452,7 +458,8 @@ select name as path, case when waiting.name is not null and hold is not null the
         when lost then 'lost' when string.text is null then 'refused' when found_elsewhere then 'found elsewhere'
         else 'published' end as state,
     string.text as string, last_text as last_string, string.reason, string.round, round.at, now() - round.at as age,
-    (select string_agg(words, '; ' order by problem) from olr_keep.problem where problem.path = name) as problems, geom
+    (select string_agg(words, '; ' order by problem) from olr_keep.problem where problem.path = name) as problems, geom,
+    exists (select from olr_keep.ambiguity where ambiguity.name = string.name) as ambiguous
 from olr_keep.string left join olr_keep.round using (round) left join olr_keep.waiting using (name)
     left join olr_keep.frozen using (name);
 comment on view olr_keep.path_state is 'Each path with its state, the age of its string, its problems in words, and its course.';

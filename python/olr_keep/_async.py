@@ -76,6 +76,10 @@ class AsyncKeep:
         """Removes a path."""
         return await self._run(self._keep.drop_path, name)
 
+    async def margin(self, routes: int, classes: int) -> Changes:
+        """As `Keep.margin`."""
+        return await self._run(self._keep.margin, routes, classes)
+
     async def begin(self) -> Changes:
         """Opens a batch, which holds the changes that follow. `batch` also ends it."""
         return await self._run(self._keep.begin)
@@ -116,6 +120,10 @@ class AsyncKeep:
     async def show_line(self, line: int) -> Tuple[str, ...]:
         """The records of the nodes where a line begins and ends, each once, and of the line."""
         return await self._run(self._keep.show_line, line)
+
+    async def show_margin(self) -> Tuple[int, int]:
+        """As `Keep.show_margin`."""
+        return await self._run(self._keep.show_margin)
 
     async def depends(self, *nodes: int) -> Tuple[str, ...]:
         """The names of the paths whose answers an edit may change that touches one of these nodes."""

@@ -116,6 +116,11 @@ class Keep:
         """Removes a path."""
         return self._change(f"drop-path,{records.name(name)}")
 
+    def margin(self, routes: int, classes: int) -> Changes:
+        """Sets the margin with which all paths are encoded: thousandths by which their own lines count longer where it is tested
+        whether they are the shortest route, and classes by which LFRCNP is less important."""
+        return self._change(f"margin,{records.number(routes)},{records.number(classes)}")
+
     def begin(self) -> Changes:
         """Opens a batch, which holds the changes that follow. `batch` also ends it."""
         return self._change("begin")
@@ -159,6 +164,11 @@ class Keep:
     def show_line(self, line: int) -> Tuple[str, ...]:
         """The records of the nodes where a line begins and ends, each once, and of the line."""
         return self._accepted(f"show-line,{records.number(line)}").lines
+
+    def show_margin(self) -> Tuple[int, int]:
+        """The margin: thousandths of the routes, and classes."""
+        routes, classes = self._accepted("show-margin").lines[0].split(",")[1:]
+        return int(routes), int(classes)
 
     def depends(self, *nodes: int) -> Tuple[str, ...]:
         """The names of the paths whose answers an edit may change that touches one of these nodes."""

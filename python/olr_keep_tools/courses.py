@@ -12,7 +12,8 @@ from __future__ import annotations
 import bisect
 import math
 from collections import defaultdict
-from typing import Callable, Dict, FrozenSet, Iterable, Iterator, List, Mapping, NamedTuple, Optional, Sequence, Set, Tuple, Union
+from typing import (Callable, Collection, Dict, FrozenSet, Iterable, Iterator, List, Mapping, NamedTuple, Optional, Protocol,
+                    Sequence, Set, Tuple, Union)
 
 from .geo import METRES, between, onto_segment, scale
 from .routes import Waiting
@@ -24,6 +25,7 @@ SHARE = 0.01
 OTHER = 0.01  # the added mean distance of a line that isn't preferred
 SAME = 1e-6  # costs that differ by less are equal
 FORCED = 1e9  # the cost of an end along a line where an end at a junction is sought
+CELL = 0.002  # degrees of the cells by which the lines near a place are found
 START, END = "start", "end"
 
 Place = Tuple[float, float]
@@ -31,9 +33,37 @@ Label = Union[str, Tuple[int, float]]
 Step = Tuple[Optional[int], float, float]
 
 
-class Ground(NamedTuple):
+class Line(Protocol):
     """A line of the map: its nodes, a name that its stretch of road shares with others, its coordinates, its length in
     decimetres, and what kind of road it is, as far as that matters."""
+
+    @property
+    def start(self) -> int:
+        """The node where it begins."""
+
+    @property
+    def end(self) -> int:
+        """The node where it ends."""
+
+    @property
+    def street(self) -> str:
+        """The name that it shares."""
+
+    @property
+    def points(self) -> Tuple[Place, ...]:
+        """Its coordinates."""
+
+    @property
+    def length(self) -> int:
+        """Its decimetres."""
+
+    @property
+    def kind(self) -> Tuple[object, ...]:
+        """What kind of road it is."""
+
+
+class Ground(NamedTuple):
+    """A line of the map."""
 
     start: int
     end: int
@@ -66,6 +96,17 @@ class Lost(NamedTuple):
 
     words: str
     place: Optional[Place]
+
+
+def cells_along(a: Place, b: Place, cell: float) -> Collection[Tuple[int, int]]:
+    """The cells in which a segment has points, and perhaps some beside them."""
+    x, y, right, top = int(a[0] // cell), int(a[1] // cell), int(b[0] // cell), int(b[1] // cell)
+    if x == right and y == top:
+        return ((x, y),)
+    if abs(right - x) <= 1 and abs(top - y) <= 1:
+        return (x, y), (x, top), (right, y), (right, top)
+    middle = (a[0] + b[0]) / 2, (a[1] + b[1]) / 2
+    return {*cells_along(a, middle, cell), *cells_along(middle, b, cell)}
 
 
 class Polyline:
@@ -120,25 +161,59 @@ class Plane:
 
 
 class Strip(Polyline):
-    """A polyline with a grid, by which its segments near a point are found."""
+    """A polyline with a grid, by which its segments near a point are found: each cell has those in it and in its neighbours."""
 
     def __init__(self, points: List[Place], cell: float) -> None:
         super().__init__(points)
-        self.cell, self.cells = cell, defaultdict(set)
-        for k, (a, b) in enumerate(zip(self.points, self.points[1:])):
-            count = max(1, math.ceil(2 * math.dist(a, b) / self.cell))
-            for step in range(count + 1):
-                x, y = a[0] + (b[0] - a[0]) * step / count, a[1] + (b[1] - a[1]) * step / count
-                self.cells[int(x // self.cell), int(y // self.cell)].add(k)
+        self.cell = cell
+        self.cells: Dict[Tuple[int, int], List[int]] = defaultdict(list)
+        for k, (a, b) in enumerate(zip(points, points[1:])):
+            for it in {(x + i, y + j) for x, y in cells_along(a, b, cell) for i in (-1, 0, 1) for j in (-1, 0, 1)}:
+                self.cells[it].append(k)
 
-    def segments_near(self, point: Place) -> List[int]:
+    def segments_near(self, point: Place) -> Sequence[int]:
         """The segments near a point, up to the size of a cell from it."""
-        x, y = int(point[0] // self.cell), int(point[1] // self.cell)
-        return sorted({k for i in (-1, 0, 1) for j in (-1, 0, 1) for k in self.cells.get((x + i, y + j), ())})
+        return self.cells.get((int(point[0] // self.cell), int(point[1] // self.cell)), ())
 
     def is_near(self, point: Place, metres: float) -> bool:
         """Whether a point is within this distance, which is at most the size of a cell."""
         return any(far <= metres for far, _ in self.project(point, self.segments_near(point)))
+
+
+class Network:
+    """Lines of a map, by which searches find those that leave a node and those near a place. Further ones than those near a
+    course don't change what is found for it."""
+
+    def __init__(self, lines: Mapping[int, Line]) -> None:
+        self.lines: Dict[int, Line] = {}
+        self.leaving: Dict[int, List[int]] = defaultdict(list)
+        self.nodes: Dict[int, Place] = {}
+        self.cells: Dict[Tuple[int, int], Set[int]] = defaultdict(set)
+        self.add(lines)
+
+    def add(self, lines: Mapping[int, Line]) -> None:
+        """Adds lines."""
+        for number, line in lines.items():
+            if number not in self.lines:
+                self.lines[number], points = line, line.points
+                self.leaving[line.start].append(number)
+                self.nodes[line.start], self.nodes[line.end] = points[0], points[-1]
+                for a, b in zip(points, points[1:]):
+                    for it in cells_along(a, b, CELL):
+                        self.cells[it].add(number)
+
+    def near(self, place: Place, east: float, north: float) -> List[int]:
+        """The lines whose boxes are within these degrees of a place on both axes."""
+        lon, lat = place
+        low, high, bottom, top = (int(it // CELL) for it in (lon - east, lon + east, lat - north, lat + north))
+        found = set().union(*(self.cells.get((x, y), ()) for x in range(low, high + 1) for y in range(bottom, top + 1)))
+        return sorted(it for it in found if is_in_box(self.lines[it].points, place, east, north))
+
+
+def is_in_box(points: Sequence[Place], place: Place, east: float, north: float) -> bool:
+    """Whether a place is within these degrees of the box of points on both axes."""
+    lons, lats = zip(*points)
+    return bool(min(lons) - east <= place[0] <= max(lons) + east and min(lats) - north <= place[1] <= max(lats) + north)
 
 
 class Ends(NamedTuple):
@@ -156,7 +231,7 @@ class Wish(NamedTuple):
     preferred: FrozenSet[str] = frozenset()
     snap: float = SNAP
     ends: Ends = Ends()
-    unlike: Optional[Callable[[int, Ground, float, float, float], float]] = None
+    unlike: Optional[Callable[[int, Line, float, float, float], float]] = None
     has_rivals: bool = False
 
 
@@ -172,21 +247,24 @@ class Best(NamedTuple):
 class Follower:
     """The search for the lines that follow one course."""
 
-    def __init__(self, course: Sequence[Place], lines: Mapping[int, Ground], tolerance: float, wish: Wish) -> None:
+    def __init__(self, course: Sequence[Place], network: Network, tolerance: float, wish: Wish) -> None:
         lats = [it[1] for it in course]
         self.plane = Plane((min(lats) + max(lats)) / 2)
         self.course = Strip([self.plane.flat(it) for it in course], max(tolerance, 50.0))
-        self.lines, self.tolerance, self.wish = lines, tolerance, wish
+        self.network, self.lines, self.tolerance, self.wish = network, network.lines, tolerance, wish
         self.at = {point: k for k, point in enumerate(self.course.points)}
         self.shapes: Dict[int, Polyline] = {}
         self.positions: Dict[int, List[float]] = {}
         self.following: Set[int] = set()
         self.avoided: FrozenSet[int] = frozenset()
-        self.leaving: Dict[int, List[int]] = defaultdict(list)
-        self.nodes: Dict[int, Place] = {}
-        for number, line in lines.items():
-            self.leaving[line.start].append(number)
-            self.nodes[line.start], self.nodes[line.end] = map(self.plane.flat, (line.points[0], line.points[-1]))
+
+    def node(self, node: int) -> Place:
+        """A node in the plane."""
+        return self.plane.flat(self.network.nodes[node])
+
+    def near(self, point: Place) -> List[int]:
+        """The lines that may be within the tolerance of a point of the plane."""
+        return self.network.near(self.plane.degrees(point), *self.plane.degrees((self.tolerance, self.tolerance)))
 
     def shape(self, number: int) -> Polyline:
         """The course of a line in the plane."""
@@ -195,9 +273,13 @@ class Follower:
         return self.shapes[number]
 
     def positions_of(self, node: int) -> List[float]:
-        """The positions along the course at which it passes a node: of each pass the nearest one."""
+        """The positions along the course at which it passes a node: of each pass the nearest one, and its end, if that is near."""
         if node not in self.positions:
-            self.positions[node] = self.passes(self.nodes[node])
+            point = self.node(node)
+            found = self.passes(point)
+            if math.dist(point, self.course.points[-1]) <= self.tolerance:
+                found = sorted({*found, self.course.length})
+            self.positions[node] = found
         return self.positions[node]
 
     def passes(self, point: Place) -> List[float]:
@@ -256,15 +338,8 @@ class Follower:
         found: Dict[str, Dict[int, float]] = {}
         for name, point in ((START, self.course.points[0]), (END, self.course.points[-1])):
             found[name] = {}
-            lon, lat = self.plane.degrees(point)
-            east, north = self.plane.degrees((self.tolerance, self.tolerance))
-            for number, line in self.lines.items():
-                lons, lats = zip(*line.points)
-                if not (min(lons) - east <= lon <= max(lons) + east and min(lats) - north <= lat <= max(lats) + north):
-                    continue
+            for number in self.near(point):
                 shape = self.shape(number)
-                if shape.distance(point, 0, len(shape.far) - 1) > self.tolerance:
-                    continue
                 far, at = min(shape.project(point))
                 if far <= self.tolerance and self.wish.snap < at < shape.length - self.wish.snap:
                     found[name][number] = at
@@ -272,8 +347,9 @@ class Follower:
 
     def from_start(self, ends: Mapping[str, Mapping[int, float]]) -> Iterator[Tuple[float, Label, Optional[Step]]]:
         """The labels at which a route begins: (cost, label, lines)."""
-        for node, point in self.nodes.items():
-            far = math.dist(point, self.course.points[0])
+        start = self.course.points[0]
+        for node in {it for number in self.near(start) for it in (self.lines[number].start, self.lines[number].end)}:
+            far = math.dist(self.node(node), start)
             if far <= self.tolerance:
                 yield far * far, (node, 0.0), None
         forced = FORCED if self.wish.ends.start else 0.0
@@ -291,14 +367,11 @@ class Follower:
 
     def steps(self, number: int, begin: float, low: float) -> Iterator[Tuple[float, Label, Optional[Step]]]:
         """The labels that a line leads to from a distance along it, where the course is at this position."""
-        shape, line = self.shape(number), self.lines[number]
-        positions = self.positions_of(line.end)
-        if math.dist(shape.points[-1], self.course.points[-1]) <= self.tolerance:
-            positions = sorted({*positions, self.course.length})
-        for high in positions:
-            cost = self.cost(number, begin, shape.length, low, high)
+        node = self.lines[number].end
+        for high in self.positions_of(node):
+            cost = self.cost(number, begin, self.shape(number).length, low, high)
             if cost is not None:
-                yield cost, (line.end, high), (number, begin, 0.0)
+                yield cost, (node, high), (number, begin, 0.0)
 
     def search(self) -> Union[Found, Lost]:
         """The found lines, or why there are none."""
@@ -327,10 +400,10 @@ class Follower:
                 return self.found(best)
             node, low = label
             furthest = max(furthest, low)
-            last = math.dist(self.nodes[node], self.course.points[-1])
+            last = math.dist(self.node(node), self.course.points[-1])
             if last <= self.tolerance and self.course.length - low <= 2 * self.tolerance and best[label].step:
                 relax(cost + last * last, END, (None, 0.0, 0.0), label)
-            for number in self.leaving[node]:
+            for number in self.network.leaving.get(node, ()):
                 for more, after, step in self.steps(number, 0.0, low):
                     relax(cost + more, after, step, label)
                 if number in ends[END]:
@@ -387,11 +460,11 @@ class Follower:
         return found._replace(rival=Rival(self.name(taken), self.name(other), self.plane.degrees(middle)))
 
 
-def follow(course: Sequence[Tuple[float, float]], lines: Mapping[int, Ground], tolerance: float = 20.0,
+def follow(course: Sequence[Tuple[float, float]], lines: Union[Network, Mapping[int, Line]], tolerance: float = 20.0,
            wish: Wish = Wish()) -> Union[Found, Lost]:
     """The lines that follow a course, or why there are none: `Found` or `Lost`."""
     if len(course) < 2 or len(set(course)) < 2:
         return Lost("its course has no two different coordinates", course[0] if course else (0.0, 0.0))
-    follower = Follower(course, lines, tolerance, wish)
+    follower = Follower(course, lines if isinstance(lines, Network) else Network(lines), tolerance, wish)
     found = follower.search()
     return follower.with_rival(found) if wish.has_rivals and isinstance(found, Found) else found

@@ -4,7 +4,7 @@ from __future__ import annotations
 import io
 import math
 import struct
-from typing import Any, Collection, Dict, Iterable, List, Optional, Sequence, Set, Tuple
+from typing import Any, Collection, Dict, Iterable, List, Mapping, Optional, Sequence, Set, Tuple
 
 from .geo import METRES
 from .livesession import psycopg2
@@ -18,6 +18,8 @@ NEAR = 0.005  # degrees of the cells in which changes are near each other
 MOST_CELLS = 20_000  # changed streets of a round of which cells are kept
 GAP = 1.0  # metres between the end of a street and another street that are taken for a fault
 LAST = (1 << 32) - 1  # the greatest number of a node or a line
+LINE_COLUMNS = "line, street, part, k, along, from_node, to_node, nth, length, fields, geom"
+AHEAD = 1 << 24  # numbers of a preview beyond the last ones
 ESCAPES = str.maketrans({"\\": "\\\\", "\t": "\\t", "\n": "\\n", "\r": "\\r"})  # of COPY
 
 
@@ -25,12 +27,13 @@ Box = Tuple[float, float, float, float]
 
 
 class Numbers:
-    """New numbers of nodes, lines, rounds and holds. They are taken when the round is published."""
+    """New numbers of nodes, lines, rounds and holds. They are taken when the round is published. A preview takes those that are
+    `ahead` by so many, since a round that takes the same ones would wait for its end."""
 
-    def __init__(self, cursor: Any) -> None:
+    def __init__(self, cursor: Any, ahead: int = 0) -> None:
         self.cursor = cursor
         cursor.execute("select kind, last from olr_keep.counter")
-        self.last: Dict[str, int] = dict(cursor.fetchall())
+        self.last: Dict[str, int] = {kind: last + ahead for kind, last in cursor.fetchall()}
         self.before = dict(self.last)
 
     def take(self, kind: str, count: int) -> List[int]:
@@ -67,10 +70,10 @@ class Affected:
 
 
 class MapUpdate:
-    """The change of one block of streets."""
+    """The change of one block of streets. If it is one of many, open ends are sought after all of them."""
 
-    def __init__(self, cursor: Any, block: Block, numbers: Numbers, affected: Affected, margin: float) -> None:
-        self.cursor, self.numbers, self.affected, self.margin = cursor, numbers, affected, margin
+    def __init__(self, cursor: Any, block: Block, numbers: Numbers, affected: Affected, margin: float, is_one: bool) -> None:
+        self.cursor, self.numbers, self.affected, self.margin, self.is_one = cursor, numbers, affected, margin, is_one
         self.plain = {key: block.rows[key] for key in block.plain}
         self.rows = {key: it for key, it in block.rows.items() if key not in block.plain}
         self.gone = block.gone
@@ -90,7 +93,9 @@ class MapUpdate:
             self.write_streets()
             self.write_nodes(cut)
             self.write_lines(cut)
-            self.write_problems(cut)
+            self.write_unfit()
+            if self.is_one:
+                self.write_open_ends(cut)
         return self.records
 
     def set_attributes(self) -> None:
@@ -165,7 +170,7 @@ class MapUpdate:
             if number in moved or (line.street, line.along) != (old.street, old.along):
                 looked.add(number)
         affected.moved |= moved
-        affected.boxes += self.boxes()
+        affected.boxes += self.boxes() if len(affected.keys) <= FEW else []
         self.cursor.execute("select exists (select from olr_keep.string)")
         if self.cursor.fetchone()[0]:
             names = self.over_lines(looked) | self.over_streets()
@@ -204,12 +209,9 @@ class MapUpdate:
             self.affected.roads.setdefault(name, []).append([length, street, *kind])
 
     def boxes(self) -> List[Box]:
-        """The boxes of the changed streets as they were and as they are, with a margin; one box if they are many."""
-        if len(self.keys) > FEW:
-            boxes = [box_of(self.touched)]
-        else:
-            both = [self.before[key] for key in self.keys] + [self.after[key].parts for key in self.keys if key in self.after]
-            boxes = [box_of([place for part in parts for place in part]) for parts in both]
+        """The boxes of the changed streets as they were and as they are, with a margin."""
+        both = [self.before[key] for key in self.keys] + [self.after[key].parts for key in self.keys if key in self.after]
+        boxes = (box_of([place for part in parts for place in part]) for parts in both)
         return [self.widened(it) for it in boxes if it]
 
     def widened(self, box: Box) -> Box:
@@ -252,8 +254,7 @@ class MapUpdate:
         """Writes the lines of a cut, and their records, and then those of nodes that are gone."""
         self.cursor.execute("delete from olr_keep.line where line = any(%s::bigint[])", (number_array(cut.dropped),))
         self.records += [f"line,{number},{it.start},{it.end},{it.fields}" for number, it in cut.added.items()]
-        columns = "line, street, part, k, along, from_node, to_node, nth, length, fields, geom"
-        rows = []
+        columns, rows = LINE_COLUMNS, []
         for number, (line, old) in sorted(cut.changed.items()):
             is_other = line.fields != old.fields
             if is_other:
@@ -267,36 +268,53 @@ class MapUpdate:
         copy(self.cursor, "line", columns, ((number, *it[:9], wkb_hex(it.places)) for number, it in cut.added.items()))
         self.records += [f"drop-node,{node}" for node in cut.dropped_nodes]
 
-    def write_problems(self, cut: Cut) -> None:
-        """Writes which streets can't be lines, and which ends of streets nearly touch another street."""
+    def write_unfit(self) -> None:
+        """Writes which streets can't be lines."""
         self.cursor.execute("delete from olr_keep.problem where street = any(%s::text[]) and kind = 'street'",
                             (text_array(self.keys),))
         copy(self.cursor, "problem", "street, source, words",
              ((key, it.source, it.street.words) for key, it in self.rows.items() if not isinstance(it.street, Street)))
+
+    def write_open_ends(self, cut: Cut) -> None:
+        """Writes which ends of streets nearly touch another street: among the nodes of the lines that changed, and those near."""
         box = box_of(self.touched)
         if not box:
             return
-        high = 1.5 * GAP / METRES
-        wide = high / max(0.01, math.cos(math.radians(max(abs(box[1]), abs(box[3])))))
         lines = {(it.street, it.part, it.k): number for number, it in cut.added.items()}
         lines.update(((it.street, it.part, it.k), number) for number, (it, _) in cut.changed.items())
-        values = {"wide": wide, "high": high, "nodes": number_array({*cut.ends, *cut.through, *cut.dropped_nodes}),
-                  "lines": number_array(lines.values()), "gap": GAP, **dict(zip("wsen", box))}
-        for statement in OPEN_ENDS:
-            self.cursor.execute(statement, values)
+        values = {**reach(max(abs(box[1]), abs(box[3]))), "nodes": number_array({*cut.ends, *cut.through, *cut.dropped_nodes}),
+                  "lines": number_array(lines.values()), "w": box[0], "s": box[1], "e": box[2], "n": box[3]}
+        write_open_ends(self.cursor, CHANGED_NODES, values)
 
 
-# The ends of lines that are a metre from another street: among the nodes of the lines that changed, and those near them.
-OPEN_ENDS = (
-    """create temporary table if not exists checked (node bigint primary key) on commit delete rows;
-    delete from checked;
-    insert into checked select unnest(%(nodes)s::bigint[])
+def write_all_open_ends(cursor: Any) -> None:
+    """Writes which ends of streets nearly touch another street, of the whole map."""
+    cursor.execute("analyze olr_keep.node, olr_keep.line; select max(abs(ST_Y(geom))) from olr_keep.node where is_end")
+    write_open_ends(cursor, ALL_NODES, reach(cursor.fetchone()[0] or 0.0))
+
+
+def write_open_ends(cursor: Any, nodes: str, values: Mapping[str, object]) -> None:
+    """Writes which of the nodes that a query finds are ends that nearly touch another street."""
+    for statement in ("create temporary table if not exists checked (node bigint primary key) on commit delete rows",
+                      "delete from checked", f"insert into checked {nodes} on conflict do nothing", *OPEN_ENDS):
+        cursor.execute(statement, values)
+
+
+def reach(lat: float) -> Dict[str, object]:
+    """The distance at which another street is too near, in metres, and somewhat more in degrees, up to this latitude."""
+    high = 1.5 * GAP / METRES
+    return {"wide": high / max(0.01, math.cos(math.radians(lat))), "high": high, "gap": GAP}
+
+
+CHANGED_NODES = """select unnest(%(nodes)s::bigint[])
     union select node from olr_keep.problem where node is not null
         and geom && ST_Expand(ST_MakeEnvelope(%(w)s, %(s)s, %(e)s, %(n)s, 4326), %(wide)s)
     union select node from olr_keep.line
         join olr_keep.node on is_end and node.geom && ST_Expand(line.geom, %(wide)s, %(high)s)
-        where line = any(%(lines)s::bigint[])
-    on conflict do nothing""",
+        where line = any(%(lines)s::bigint[])"""
+ALL_NODES = """select node from olr_keep.node where is_end
+    union select node from olr_keep.problem where node is not null"""
+OPEN_ENDS = (
     "delete from olr_keep.problem where node in (select node from checked)",
     """insert into olr_keep.problem (kind, node, street, words, geom)
     select 'open end', node.node, own.street,
@@ -347,7 +365,7 @@ def copy(cursor: Any, table: str, columns: str, rows: Iterable[Sequence[object]]
     file.writelines(map(copy_line, rows))
     if file.tell():
         file.seek(0)
-        cursor.copy_expert(f"copy olr_keep.{table} ({columns}) from stdin", file)
+        cursor.copy_expert(f"copy olr_keep.{table} ({columns}) from stdin", file, 1 << 18)
 
 
 def copy_line(row: Sequence[object]) -> str:

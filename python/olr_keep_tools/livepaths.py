@@ -2,17 +2,20 @@
 from __future__ import annotations
 
 import json
+import os
 import struct
-from typing import Any, Container, Dict, List, NamedTuple, Optional, Sequence, Set, Tuple
+from collections import deque
+from typing import Any, Container, Deque, Dict, List, NamedTuple, Optional, Sequence, Set, Tuple
 
 from .courses import Ends, Found, Lost, Rival
+from .forked import Forked
 from .livemap import FEW, Affected, copy, update
-from .liveread import Change
-
-from .pathlines import (Course, Edited, Finder, Known, PathSearch, Place, Placement, Road, State, Wanted, coordinates, course_of,
-                        number_array, text_array)
+from .liveread import Change, cell
+from .pathlines import (Course, Edited, Finder, Known, PathSearch, Place, Placement, Road, State, Unread, Wanted, coordinates,
+                        course_of, marked_street, number_array, text_array)
 
 PART = 500  # paths that are read at once
+SEARCHING = 2  # processes that search for paths, if there are several parts
 
 
 class Placed(NamedTuple):
@@ -50,11 +53,36 @@ class PathsUpdate:
         self.records: List[str] = []
 
     def run(self, change: Change) -> None:
-        """Finds the paths, and writes the rows of those that were found; those of removed paths are left."""
-        names = self.names(change)
-        for first in range(0, len(names), PART):
-            self.find(names[first : first + PART])
+        """Finds the paths, and writes the rows of those that were found; those of removed paths are left. While the paths of one
+        part are sought, the next part is read."""
+        names = self.ordered(self.names(change))
+        parts = [names[first : first + PART] for first in range(0, len(names), PART)]
+        most = SEARCHING if len(parts) > 1 and len(os.sched_getaffinity(0)) > 1 else 0
+        searching: Deque[Search] = deque()
+        try:
+            for part in parts:
+                search = self.read_search(part)
+                while searching and len(searching) >= most:
+                    self.write(searching.popleft())
+                if most:
+                    search.fork()
+                searching.append(search)
+            while searching:
+                self.write(searching.popleft())
+        finally:
+            for it in searching:
+                it.end()
         self.cursor.execute("update olr_keep.string set lines = '{}' where name = any(%s::text[])", (text_array(self.gone),))
+
+    def ordered(self, names: Sequence[str]) -> List[str]:
+        """The paths in an order in which those near each other are together, if they are many."""
+        if len(names) <= PART:
+            return list(names)
+        self.cursor.execute("""select name, ST_X(ST_StartPoint(coalesce(string.geom, course))),
+                ST_Y(ST_StartPoint(coalesce(string.geom, course)))
+            from olr_keep.path full join olr_keep.string using (name)""")
+        cells = {name: cell(lon, lat) for name, lon, lat in self.cursor}
+        return sorted(names, key=lambda it: (cells.get(it, -1), it))
 
     def names(self, change: Change) -> List[str]:
         """The paths to look at: noted ones, those that the map's change affects, and of those that are not found as said the
@@ -87,23 +115,36 @@ class PathsUpdate:
             (marked, marked, *map(number_array, boxes)))
         return {it for (it,) in self.cursor}
 
-    def find(self, names: Sequence[str]) -> None:
-        """Finds some paths."""
+    def read_search(self, names: Sequence[str]) -> Search:
+        """The search for some paths, whose streets and lines are read."""
         finder, edited = Finder(self.cursor, self.tolerance), Edited(self.affected.moved, self.affected.fresh)
         wanted, known = self.read(names, finder)
+        good = [it for it in wanted.values() if not it.fault()]
+        sought = [it for it in good if not is_there(known.get(it.name), finder)]
+        was = [known[it.name][0] for it in sought if it.name in known]
+        streets = [*(it.streets or () for it in good), *(it.streets for it in was)]
+        finder.read_streets({marked_street(it)[1] for several in streets for it in several})
+        courses = [*(it.course for it in sought), *(it.course for it in was), *(it.said_course for it in was)]
+        finder.read_near(it for it in courses if it)
+        return Search(self, names, finder, edited, wanted, known)
+
+    def write(self, search: Search) -> None:
+        """Writes the rows of the paths of a search."""
         rows = []
-        for name in names:
-            before = known.get(name)
-            if name not in wanted:
-                if before is not None:
-                    self.gone.add(name)
-                    self.records += [f"drop-path,{name}"] if before[0].lines else []
-                continue
-            placed = self.place(finder, wanted[name], before and before[0], edited)
-            self.found[name] = placed._replace(course=None, said_course=None, roads=[])
-            self.record(name, placed, before)
-            rows.append(row_of(name, placed))
+        for name, placed in search.result().items():
+            before = search.known.get(name)
+            if placed is not None:
+                self.found[name] = placed._replace(course=None, said_course=None, roads=[])
+                self.record(name, placed, before)
+                rows.append(row_of(name, placed))
+            elif before is not None:
+                self.gone.add(name)
+                self.records += [f"drop-path,{name}"] if before[0].lines else []
         write_rows(self.cursor, rows)
+
+    def tick(self) -> None:
+        """Asks something, so that the session isn't taken for one that is stopped."""
+        self.cursor.execute("select 1")
 
     def record(self, name: str, placed: Placed, before: Optional[Before]) -> None:
         """Adds the record of a path, if it differs."""
@@ -160,6 +201,51 @@ class PathsUpdate:
             placement = Placement(State.LOST, None, Lost(f"it can't be sought: {type(error).__name__}: {error}", None))
         last = known if known is not None and known.definition == wanted.definition else None
         return Placing(finder, wanted, last, placement).placed()
+
+
+def is_there(before: Optional[Before], finder: Finder) -> bool:
+    """Whether the lines of a path are still there, so that it needn't be sought near its course."""
+    return before is not None and bool(before[0].lines) and all(it in finder.rows for it in before[0].lines)
+
+
+class Search:
+    """The search for some paths: where each is, by name, or None for a path that is no longer wanted."""
+
+    def __init__(self, update: PathsUpdate, names: Sequence[str], finder: Finder, edited: Edited, wanted: Dict[str, Wanted],
+                 known: Dict[str, Before]) -> None:
+        self.update, self.finder, self.edited = update, finder, edited
+        self.names, self.wanted, self.known = names, wanted, known
+        self.forked: Optional[Forked[Dict[str, Optional[Placed]]]] = None
+
+    def fork(self) -> None:
+        """Searches in a process of its own."""
+        self.forked = Forked(self.without_database)
+
+    def without_database(self) -> Dict[str, Optional[Placed]]:
+        """The paths that can be found with what is read."""
+        self.finder.cursor = None
+        found = {}
+        for name in self.names:
+            try:
+                found[name] = self.place(name)
+            except Unread:
+                pass
+        return found
+
+    def place(self, name: str) -> Optional[Placed]:
+        """Where a path is on the map now."""
+        wanted, before = self.wanted.get(name), self.known.get(name)
+        return wanted and self.update.place(self.finder, wanted, before and before[0], self.edited)
+
+    def result(self) -> Dict[str, Optional[Placed]]:
+        """Where the paths are."""
+        found = (self.forked.result(self.update.tick) if self.forked else None) or {}
+        return {name: found[name] if name in found else self.place(name) for name in self.names}
+
+    def end(self) -> None:
+        """Ends the process that searches."""
+        if self.forked:
+            self.forked.end()
 
 
 class Placing:

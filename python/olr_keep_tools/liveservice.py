@@ -10,9 +10,12 @@ import time
 from typing import Any, Dict, List, Mapping, NamedTuple, Optional, Sequence, Set, Tuple
 
 from . import livesession as session
-from .command import say
+from .command import STREAM, USAGE, Failure, say
+from .liveambiguous import write_ambiguities
+from .livedraft import Draft, DraftSettings, write_report
 from .liveprogram import LiveProgram
-from .livemap import Affected, MapUpdate, Numbers
+from .livefirst import FirstLoad, is_first
+from .livemap import AHEAD, LAST, Affected, MapUpdate, Numbers, write_all_open_ends
 from .livepaths import PathsUpdate
 from .liveread import BLOCK, Change, Reader
 from .liverounds import Limits, Round
@@ -43,6 +46,12 @@ class Settings(NamedTuple):
     metrics: str
     is_once: bool
     is_preview: bool
+    draft: Optional[DraftSettings] = None
+
+    @property
+    def schema(self) -> str:
+        """The schema of the draft, or nothing."""
+        return self.draft.schema if self.draft else ""
 
 
 class Ending(enum.Enum):
@@ -68,9 +77,10 @@ class Attempt:
         """Reads, applies, asks the program, and publishes."""
         change = self.reader.read()
         change.every_path |= self.every_path or self.live.program is None
-        self.numbers = Numbers(self.cursor)
+        self.numbers = Numbers(self.cursor, AHEAD if self.settings.is_preview else 0)
         if self.settings.is_preview:
             self.fresh = self.live.loaded()
+            self.draft = Draft(self.cursor, self.live.program) if self.settings.draft and self.live.program else None
         elif change.count > BLOCK:
             self.live.drop_program()
         self.apply_map(change)
@@ -82,22 +92,38 @@ class Attempt:
 
     def apply_map(self, change: Change) -> None:
         """Changes the map, block by block."""
-        count, done, analyzed, said = change.count, 0, MANY, time.monotonic()
+        count, done, analyzed, self.said = change.count, 0, MANY, time.monotonic()
+        first = FirstLoad(self.cursor, self.numbers, self.affected) if self.is_first_load(count) else None
         margin = max(30, 2 * self.settings.tolerance) * METRE
         for block in self.reader.blocks():
-            records = MapUpdate(self.cursor, block, self.numbers, self.affected, margin).run()
-            if self.live.program:
-                self.records += records
+            if first:
+                first.read(block)
+            else:
+                records = MapUpdate(self.cursor, block, self.numbers, self.affected, margin, count <= BLOCK).run()
+                self.records += records if self.live.program else []
             done = min(count, done + BLOCK)
-            self.live.progress = done, count
+            self.tell(done // 2 if first else done, count)
             if done > 2 * analyzed:
                 analyzed = done
                 self.cursor.execute("analyze olr_keep.street, olr_keep.vertex, olr_keep.node, olr_keep.line")
-            if time.monotonic() - said > 10:
-                said = time.monotonic()
-                say(f"{done} of {count} streets")
-                self.live.write_metrics(False)
+        if first:
+            first.cut(lambda cut: self.tell((count + cut) // 2, count))
+        if count > BLOCK:
+            write_all_open_ends(self.cursor)
         self.live.progress = 0, 0
+
+    def is_first_load(self, count: int) -> bool:
+        """Whether there are many streets and no map yet, and no program that has to follow. Numbers have to be left."""
+        are_left = all(self.numbers.last[it] + 100 * count < LAST for it in ("node", "line"))
+        return count > BLOCK and self.live.program is None and are_left and is_first(self.cursor)
+
+    def tell(self, done: int, count: int) -> None:
+        """Says how far a long round is, every few seconds."""
+        self.live.progress = done, count
+        if time.monotonic() - self.said > 10:
+            self.said = time.monotonic()
+            say(f"{done} of {count} streets")
+            self.live.write_metrics(False)
 
     def answers(self) -> Dict[str, str]:
         """The answers that the round changes; all answers if the program is started for it."""
@@ -120,14 +146,19 @@ class Attempt:
         return Ending.DONE if number else Ending.NOTHING
 
     def show(self) -> Ending:
-        """Prints what would be published, and what would wait or waits."""
-        self.work.rollback()
+        """Prints what would be published, and what would wait or waits; or the report of a draft."""
         held = {**{name: it.answer for name, it in self.round.waited.items() if name not in self.outcome.ended},
                 **{name: it.answer for name, it in self.outcome.waiting.items()}}
         shown = {**{name: after for name, (_, after) in self.outcome.published.items()}, **held}
-        for name, answer in sorted(shown.items()):
-            print(f"{name},{answer.written()}")
         self.live.would_hold = bool(held)
+        if self.draft and self.settings.draft:
+            verdicts = self.draft.verdicts(shown, self.paths)
+            self.work.rollback()
+            self.live.would_hold |= write_report(verdicts, self.settings.draft)
+        else:
+            self.work.rollback()
+            for name, answer in sorted(shown.items()):
+                print(f"{name},{answer.written()}")
         words = f"; {len(held)} paths would be held" if held else ""
         print(f"live: {self.outcome.counts.text()}{words}", file=sys.stderr)
         return Ending.SHOWN
@@ -142,6 +173,7 @@ class Live:
         self.program: Optional[LiveProgram] = None
         self.totals = collections.Counter(rounds=0, restarts=0)
         self.last_round = self.last_seconds = self.written = self.compared = 0.0
+        self.changed, self.asked, self.ask_after = time.monotonic(), 0.0, 0.0
         self.counts: Dict[str, float] = {}
         self.progress, self.failed, self.would_hold = (0, 0), 0, False
         self.forget()
@@ -225,7 +257,8 @@ class Live:
 
     def attempt(self, every_path: bool = False) -> Ending:
         """One round, if there is something to read."""
-        with session.Transaction(self.connection, self.cursor) as work:
+        with session.Transaction(self.connection, self.cursor, self.settings.schema) as work:
+            self.refuse_unreadable(work.tables)
             self.unread = {it.source.source: it.state for it in work.tables if it.state is not Readable.READY}
             broken = {it.source.source: it.words for it in work.tables if it.state in (Readable.BROKEN, Readable.MISSING)}
             self.stale |= {it.source.source for it in work.tables if it.state is Readable.MISSING}
@@ -237,6 +270,18 @@ class Live:
                 self.unread.update((it, Readable.BROKEN) for it in attempt.reader.change.broken)
         self.report(work.tables, broken)
         return ending
+
+    def refuse_unreadable(self, tables: Sequence[session.Table]) -> None:
+        """Fails if a draft has no table of streets, or one that can't be read."""
+        if self.settings.draft:
+            own = {it.streets for it in session.sources_of(self.cursor)}
+            drafted = [it for it in tables if it.source.streets not in own]
+            if not drafted:
+                names = ", ".join(sorted(own)) or "none"
+                raise Failure(USAGE, f"{self.settings.schema}: no table there has the name of a table of streets, of {names}")
+            for it in drafted:
+                if it.state is not Readable.READY:
+                    raise Failure(STREAM, f"{it.source.streets}: {it.words}")
 
     def has_work(self) -> bool:
         """Whether there is something to read."""
@@ -268,6 +313,7 @@ class Live:
 
     def count_round(self, seconds: float) -> None:
         """Counts a round that was published."""
+        self.changed = time.monotonic()
         self.totals["rounds"] += 1
         self.last_round, self.last_seconds = time.time(), seconds
 
@@ -293,6 +339,14 @@ class Live:
             self.stale -= missing.keys()
         self.without_triggers = missing
         self.unread = {}
+
+    def ask_ambiguous(self) -> None:
+        """Asks the program which strings are ambiguous, if some changed, and nothing was saved for a while. On a great map that
+        takes seconds: at most a twentieth of the time is spent on it."""
+        now = time.monotonic()
+        if self.program and self.changed > self.asked and now > max(self.changed + WATCH, self.ask_after):
+            write_ambiguities(self.cursor, self.program)
+            self.asked, self.ask_after = now, now + 20 * (time.monotonic() - now)
 
     def start(self) -> None:
         """Opens the session, waits until no other process works, and finds which tables there are."""
@@ -332,6 +386,7 @@ class Live:
             if time.monotonic() - looked > WATCH:
                 looked = time.monotonic()
                 self.look()
+                self.ask_ambiguous()
         return 128 + self.stopping[0]
 
     def run(self) -> int:

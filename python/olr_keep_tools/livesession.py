@@ -84,7 +84,7 @@ def connect(database: str, idle: int) -> Any:
 
 def check_schema(cursor: Any) -> None:
     """Fails if the schema is missing, or that of another version."""
-    cursor.execute("select to_regclass('olr_keep.waiting') is null or to_regprocedure('olr_keep.mend_triggers(int)') is null")
+    cursor.execute("select to_regclass('olr_keep.ambiguity') is null")
     if cursor.fetchone()[0]:
         raise psycopg2.ProgrammingError("the database has no schema olr_keep, or that of another version: run tools/live.sql")
 
@@ -108,10 +108,12 @@ def end_stopped(cursor: Any, seconds: float) -> bool:
     return bool(cursor.rowcount > 0)
 
 
-def sources_of(cursor: Any) -> List[Source]:
-    """The tables of streets."""
-    cursor.execute("""select source, streets, id, id_type, class, form, direction, geom, prefix, search_path
-        from olr_keep.source order by source""")
+def sources_of(cursor: Any, draft: str = "") -> List[Source]:
+    """The tables of streets; those of the same names in the schema of a draft take their places."""
+    cursor.execute("""select source, case when to_regclass(name) is null then streets else name end, id, id_type, class, form,
+            direction, geom, prefix, search_path
+        from olr_keep.source cross join lateral (select format('%%I.%%I', %s, (parse_ident(streets))[2]) as name) as of_draft
+        order by source""", (draft,))
     return [Source(*it) for it in cursor]
 
 
@@ -139,18 +141,18 @@ class Transaction:
     waits for a lock while it has others, so it can't be part of a deadlock with an editor. A table that can't be locked or read
     is left out, and `tables` says why."""
 
-    def __init__(self, connection: Any, cursor: Any) -> None:
-        self.connection, self.cursor, self.is_open = connection, cursor, False
+    def __init__(self, connection: Any, cursor: Any, draft: str = "") -> None:
+        self.connection, self.cursor, self.draft, self.is_open = connection, cursor, draft, False
         self.tables: List[Table] = []
 
     def __enter__(self) -> Transaction:
-        sources = sources_of(self.cursor)
+        sources = sources_of(self.cursor, self.draft)
         self.cursor.execute("begin isolation level repeatable read")
         self.is_open = True
         try:
             self.cursor.execute("lock table olr_keep.path, olr_keep.source in access share mode nowait")
             tables = [self.locked(it) for it in sources]
-            if sources_of(self.cursor) != sources:
+            if sources_of(self.cursor, self.draft) != sources:
                 raise Stale("the tables of streets changed")
             self.tables = [self.probed(it) if it.state is Readable.READY else it for it in tables]
         except psycopg2.errors.LockNotAvailable as error:

@@ -10,22 +10,22 @@ from collections import defaultdict
 from typing import Any, Container, Dict, FrozenSet, Iterable, Iterator, List, Mapping, NamedTuple, Optional, Sequence, Set, Tuple
 from typing import Union
 
-from .courses import DRAWN, Ends, Found, Ground, Lost, Plane, Polyline, Strip, Wish, follow
-from .geo import METRES
+from .courses import CELL, DRAWN, Ends, Found, Line, Lost, Network, Plane, Polyline, Strip, Wish, follow
+from .geo import METRES, between
 from .routes import Waiting
 from .streets import is_inside, wkb_parts
 
 AGAINST = 1e6  # the cost of a street against its geometry where its direction isn't given
 STRAY = 10.0  # the cost of a metre between an end of the path and that of its lines
 SAME_ROAD = 5.0  # metres from where a path was, within which a line of the same kind is the same road
-PIECE = 6  # segments of a course whose lines are sought at once
-LONG = 0.005  # degrees of the longest segment of them
+RUN = 8  # cells of a row that are read at once
 FAR = 100_000.0  # metres between two coordinates of a course
 
 
 Place = Tuple[float, float]
 Course = Tuple[Place, ...]
 Kind = Tuple[int, int, bool]
+Cell = Tuple[int, int]
 Result = Union[Found, Lost]
 
 
@@ -45,9 +45,14 @@ class Wanted(NamedTuple):
             return Lost("its streets have an empty or NULL id", None)
         if self.course is not None and not all(map(is_inside, self.course)):
             return Lost("its course is beyond the longitudes -180 to 179.9999 or the latitudes -89.9999 to 89.9999", None)
-        if self.course is not None and any(apart(a, b) > FAR for a, b in zip(self.course, self.course[1:])):
+        if self.course is not None and any(is_far(a, b) for a, b in zip(self.course, self.course[1:])):
             return Lost("two coordinates of its course are more than 100 km apart", self.course[0])
         return None
+
+
+def is_far(a: Place, b: Place) -> bool:
+    """Whether two coordinates are more than FAR apart."""
+    return max(abs(a[0] - b[0]), abs(a[1] - b[1])) > 0.6 and apart(a, b) > FAR
 
 
 class Road(NamedTuple):
@@ -118,11 +123,6 @@ class Row(NamedTuple):
         """Its class, its form, and whether its street is two-way."""
         return int(self.frc), int(self.fow), self.direction == "both"
 
-    @property
-    def ground(self) -> Ground:
-        """The line as a search for a course has it."""
-        return Ground(self.start, self.end, self.street, self.points, self.length, self.kind)
-
 
 class Placement(NamedTuple):
     """Where a path is found, and why not as said; `lost_at` are the places from which on no lines were found."""
@@ -161,67 +161,121 @@ def number_array(items: Iterable[object]) -> str:
     return "{" + ",".join(map(str, items)) + "}"
 
 
-def pieces_of(course: Sequence[Place]) -> List[List[Place]]:
-    """A course in pieces of a few segments, of which long ones are cut."""
-    whole = [course[0]]
+def cells_near(course: Sequence[Place], tolerance: float) -> Set[Cell]:
+    """The cells in which lines near a course may have points."""
+    high = 1.1 * tolerance / METRES
+    wide = high / max(0.01, math.cos(math.radians(max(abs(it[1]) for it in course))))
+    found: Set[Cell] = set()
     for a, b in zip(course, course[1:]):
-        count = int(max(abs(b[0] - a[0]), abs(b[1] - a[1])) / LONG) + 1
-        whole += [(a[0] + (b[0] - a[0]) * k / count, a[1] + (b[1] - a[1]) * k / count) for k in range(1, count)] + [b]
-    return [whole[k : k + PIECE + 1] for k in range(0, len(whole) - 1, PIECE)]
+        count = int(max(abs(b[0] - a[0]), abs(b[1] - a[1])) / CELL) + 1
+        ends = [between(a, b, k / count) for k in range(count + 1)]
+        for (lon, lat), (east, north) in zip(ends, ends[1:]):
+            low, right = int((min(lon, east) - wide) // CELL), int((max(lon, east) + wide) // CELL)
+            bottom, top = int((min(lat, north) - high) // CELL), int((max(lat, north) + high) // CELL)
+            found.update((x, y) for x in range(low, right + 1) for y in range(bottom, top + 1))
+    return found
+
+
+def boxes_of(cells: Iterable[Cell]) -> Iterator[Tuple[float, float, float, float]]:
+    """The boxes of cells in degrees; a few that are beside each other have one box."""
+    ordered = sorted((y, x) for x, y in cells)
+    k = 0
+    while k < len(ordered):
+        (y, x), count = ordered[k], 1
+        while count < RUN and k + count < len(ordered) and ordered[k + count] == (y, x + count):
+            count += 1
+        yield x * CELL, y * CELL, (x + count) * CELL, (y + 1) * CELL
+        k += count
+
+
+class Unread(Exception):
+    """Something isn't read yet, and can't be read here."""
 
 
 class Finder:
-    """Lines of the table, read as they are needed."""
+    """Lines of the table, read as they are needed, and many at once where it is known what is needed."""
 
     def __init__(self, cursor: Any, tolerance: float) -> None:
         self.cursor, self.tolerance = cursor, tolerance
         self.rows: Dict[int, Row] = {}
+        self.network = Network({})
+        self.cells: Set[Cell] = set()
+        self.courses: Set[Course] = set()
+        self.unused: List[Tuple[Any, ...]] = []
+        self.streets: Dict[str, List[Row]] = {}
 
     def read(self, where: str, values: Sequence[object]) -> List[Row]:
         """The lines of the table for which a condition holds."""
-        self.cursor.execute(f"select {COLUMNS} from {LINES} where {where}", values)
-        return self.take()
+        self.ask(f"select {COLUMNS} from {LINES} where {where}", values)
+        return self.take(self.cursor)
 
-    def take(self) -> List[Row]:
+    def ask(self, query: str, values: Sequence[object]) -> None:
+        """Asks the database."""
+        if self.cursor is None:
+            raise Unread
+        self.cursor.execute(query, values)
+
+    def take(self, found: Iterable[Tuple[Any, ...]]) -> List[Row]:
         """The lines that a query found."""
-        rows = [Row(*it[:12]) for it in ((*row[:-1], coordinates(row[-1])) for row in self.cursor)]
-        self.rows.update((it.number, it) for it in rows)
+        rows = [self.rows.get(it[0]) or Row(*(*it[:11], coordinates(it[11]) or ())) for it in found]
+        new = {it.number: it for it in rows}
+        self.rows.update(new)
+        self.network.add(new)
         return rows
 
     def read_numbers(self, numbers: Iterable[int]) -> None:
         """Reads the lines with these numbers."""
         self.read("line = any(%s::bigint[])", (number_array(numbers),))
 
-    def near(self, course: Course) -> Dict[int, Ground]:
-        """The lines near a course, which is cut into short parts, so that each has a small box."""
-        lat = max(abs(it[1]) for it in course)
-        high = 1.1 * self.tolerance / METRES
-        wide = high / max(0.01, math.cos(math.radians(lat)))
-        pieces = ("(" + ",".join(f"{lon:.8f} {lat:.8f}" for lon, lat in it) + ")" for it in pieces_of(course))
-        text = "MULTILINESTRING(" + ",".join(pieces) + ")"
-        self.cursor.execute(
+    def read_near(self, courses: Iterable[Course]) -> None:
+        """Reads the lines near courses, by cells. What was read is used when it is needed."""
+        new = {*courses} - self.courses
+        cells = set().union(*(cells_near(it, self.tolerance) for it in new)) - self.cells
+        self.courses |= new
+        if not cells:
+            return
+        sides = [number_array(f"{it:.7f}" for it in side) for side in zip(*boxes_of(cells))]
+        self.ask(
             f"""select {COLUMNS} from (
-                select distinct other.line from ST_Dump(ST_GeomFromText(%s, 4326)) as segment
-                cross join lateral (
-                    select line from olr_keep.line where line.geom && ST_Expand(segment.geom, %s, %s)
-                        and ST_DWithin(line.geom, segment.geom, %s) offset 0
+                select distinct other.line
+                from unnest(%s::float8[], %s::float8[], %s::float8[], %s::float8[]) as box(w, s, e, n) cross join lateral (
+                    select line from olr_keep.line where geom && ST_MakeEnvelope(w, s, e, n, 4326) offset 0
                 ) as other
             ) as found cross join lateral (select * from olr_keep.line where line.line = found.line offset 0) as line
-            join olr_keep.street on street.street = line.street""",
-            (text, wide, high, max(wide, high)))
-        return {it.number: it.ground for it in self.take()}
+            join olr_keep.street on street.street = line.street""", sides)
+        self.unused += self.cursor.fetchall()
+        self.cells |= cells
+
+    def near(self, course: Course) -> Network:
+        """The lines near a course, and others."""
+        self.read_near([course])
+        self.take(self.unused)
+        self.unused.clear()
+        return self.network
+
+    def read_streets(self, streets: Set[str]) -> None:
+        """Reads the lines of streets."""
+        new = streets - self.streets.keys()
+        if new:
+            rows = self.read("line.street = any(%s::text[])", (text_array(new),))
+            self.streets.update((it, []) for it in new)
+            for row in rows:
+                self.streets[row.street].append(row)
 
     def by_streets(self, streets: Sequence[str], last: Optional[LastEnds], tolerance: float) -> Result:
         """The lines of streets in this order; each is left where it meets the next. The ends are sought within the tolerance
         of the last ones; without these the lines are from the start of the first street to the end of the last."""
-        marked = [(it[0], it[1:]) if it[:1] in "<>" else ("", it) for it in streets]
-        by_street = defaultdict(list)
-        for row in self.read("line.street = any(%s::text[])", (text_array({it for _, it in marked}),)):
-            by_street[row.street].append(row)
+        marked = [marked_street(it) for it in streets]
+        self.read_streets({it for _, it in marked})
         for _, street in marked:
-            if not by_street[street]:
+            if not self.streets[street]:
                 return Lost(f"street {street} has no line", None)
-        return Route(marked, by_street, last, tolerance).search()
+        return Route(marked, self.streets, last, tolerance).search()
+
+
+def marked_street(text: str) -> Tuple[str, str]:
+    """The mark of a street's direction, and its id."""
+    return (text[0], text[1:]) if text[:1] in "<>" else ("", text)
 
 
 class WhereItWas:
@@ -247,7 +301,7 @@ class WhereItWas:
         last = bisect.bisect_left(self.ends, high * scale + slack)
         return self.roads[first : last + 1]
 
-    def unlike(self, number: int, line: Ground, low: float, high: float, length: float) -> float:
+    def unlike(self, number: int, line: Line, low: float, high: float, length: float) -> float:
         """How sure it is that a line is another road, from 0 to 1: 0 if it has the number of then, or is of its kind, or of its
         street, and within a few metres; a half if it is of its street elsewhere, or of its kind and a new street."""
         if number in self.own:
@@ -342,7 +396,7 @@ class PathSearch:
         total, low = sum(it.length for it in rows) - found.start - found.end, -found.start
         for row in rows:
             begin, end = max(0, low) / 10, min(total, low + row.length) / 10
-            if was.unlike(row.number, row.ground, begin, end, total / 10) == 1:
+            if was.unlike(row.number, row, begin, end, total / 10) == 1:
                 return row
             low += row.length
         return None
@@ -357,8 +411,7 @@ class PathSearch:
 
     def follow(self, course: Course, wish: Wish) -> Result:
         """The lines that follow a course."""
-        near = self.finder.near(course)
-        found = follow(list(course), near, self.finder.tolerance, wish) if near else Lost("no line is near it", course[0])
+        found = follow(list(course), self.finder.near(course), self.finder.tolerance, wish)
         if isinstance(found, Lost):
             self.lost.append(found)
         return found

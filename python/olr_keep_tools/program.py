@@ -51,7 +51,8 @@ def program_name() -> str:
     beside = next(filter(os.path.exists, BESIDE), None)
     found = os.environ.get("OLR_KEEP") or beside or shutil.which("olr-keep")
     if not found:
-        raise ProgramFailed("olr-keep is neither built here nor installed; the variable OLR_KEEP can name it")
+        raise ProgramFailed("olr-keep is neither built here nor installed: ./olr-keep of a checkout builds it, or the variable "
+                            "OLR_KEEP names it")
     return found
 
 

@@ -21,9 +21,11 @@ from .replies import NO_RECORD, Reply, is_one_record
 
 UNITS = 10_000_000
 HEAD = re.compile(rb"ok,(\d{1,18})\r?\n")
-QUESTIONS = ("show", "show-node", "show-line", "depends", "report", "explain", "dump", "compact", "preview", "ambiguous")
+QUESTIONS = ("show", "show-node", "show-line", "show-margin", "depends", "report", "explain", "dump", "compact", "preview",
+             "ambiguous")
 ENDS = ("commit", "abort")
 BLOCK = 1 << 20
+PADDING = re.compile(rb"\r(?!\n)")
 BOM = b"\xef\xbb\xbf"  # the byte order mark of UTF-8
 # What a file without a record begins with, and what it is.
 OTHER_FILES = (
@@ -210,13 +212,18 @@ class Part(NamedTuple):
 
 
 def blocks(file: IO[bytes]) -> Iterator[bytes]:
-    """The text of a file in blocks of whole lines; the last line may lack its end."""
-    rest = b""
+    """The text of a file in blocks of whole lines; the last line may lack its end. A log of the program, which begins with an empty
+    line, ends before its padding: what it has there of a record that was cut is none."""
+    rest, is_log = b"", None
     while text := file.read(BLOCK):
+        is_log = text.startswith(b"\n") if is_log is None else is_log
         whole, end, rest = (rest + text).rpartition(b"\n")
+        if is_log and (padding := PADDING.search(whole)):
+            yield whole[: whole.rfind(b"\n", 0, padding.start()) + 1]
+            return
         if end:
             yield whole + end
-    if rest:
+    if rest and not (is_log and b"\r" in rest):
         yield rest
 
 

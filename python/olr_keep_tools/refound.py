@@ -1,7 +1,7 @@
 """Whether a receiver recovers a path, and if not, why; and maps that differ from the publisher's like a receiver's map."""
 import math
 import random
-from typing import Dict, Iterator, List, NamedTuple, Optional, Sequence, Set, Tuple, Union
+from typing import Callable, Dict, Iterator, List, NamedTuple, Optional, Sequence, Set, Tuple, Union
 
 from .geo import METRES, Degrees, between, distance, on_piece, scale
 from .receiver import Cell, Failed, Found, Road, RoadMap, Rules, cells_along, decode, place, shape_length, within
@@ -184,18 +184,24 @@ def mistaken_points(roads: RoadMap, reference: Reference, found: Found, location
 # ---- maps that differ
 
 
+Displace = Callable[[Degrees], Degrees]
+
+
 class Shake(NamedTuple):
     """How a map differs: nodes and shape points are off by up to `metres`, and of a hundred roads `split` are split in two,
-    `missing` are missing, and `classes` have a class one lower or higher. A road is all lines with the same ends and length."""
+    `missing` are missing, and `classes` have a class one lower or higher. A road is all lines with the same ends and length.
+    Each point is off by itself, or, with a `reach`, as its neighbours are: from nothing to the most takes so many metres."""
 
     seed: int
     metres: float = 5.0
     split: float = 20.0
     missing: float = 0.0
     classes: float = 10.0
+    reach: float = 0.0
 
     def title(self) -> str:
-        return f"{self.metres:g} m, {self.split:g} % split, {self.missing:g} % missing, {self.classes:g} % classes"
+        over = f" over {self.reach:g} m" if self.reach else ""
+        return f"{self.metres:g} m{over}, {self.split:g} % split, {self.missing:g} % missing, {self.classes:g} % classes"
 
 
 class Shaken:
@@ -203,8 +209,9 @@ class Shaken:
 
     def __init__(self, roads: RoadMap, shake: Shake):
         self.shake, self.rnd = shake, random.Random(shake.seed)
+        self.off = displacement(self.rnd, shake)
         self.parts: Parts = {}
-        self.nodes = {number: off(self.rnd, roads.nodes[number], shake.metres) for number in sorted(roads.nodes)}
+        self.nodes = {number: self.off(roads.nodes[number]) for number in sorted(roads.nodes)}
         self.lines: Dict[int, Road] = {}
         self.free_node, self.free_line = max(self.nodes, default=0) + 1, max(roads.lines, default=0) + 1
         whole: Dict[Tuple[int, int, float], List[int]] = {}
@@ -219,7 +226,7 @@ class Shaken:
         is_split, is_missing, is_other, at, step = (self.rnd.random() for _ in range(5))
         middle = self.free_node
         for number, before in roads.items():
-            road = moved(self.rnd, before, self.nodes, self.shake.metres)
+            road = moved(before, self.nodes, self.off)
             if is_other * 100 < self.shake.classes:
                 road = road._replace(frc=min(7, max(0, road.frc + (1 if step < 0.5 else -1))))
             if is_missing * 100 < self.shake.missing:
@@ -247,9 +254,31 @@ def off(rnd: random.Random, at: Degrees, metres: float) -> Degrees:
     return at[0] + far * math.sin(angle) / scale(at[1]), at[1] + far * math.cos(angle) / METRES
 
 
-def moved(rnd: random.Random, road: Road, nodes: Dict[int, Degrees], metres: float) -> Road:
+class Waves:
+    """Coordinates off by up to so many metres, by a displacement that changes slowly: on each axis two waves, each in a direction
+    of its own, whose length is four times the reach or a third more."""
+
+    def __init__(self, rnd: random.Random, shake: Shake):
+        self.most = shake.metres / math.sqrt(2) / 2
+        self.waves = [(2 * math.pi * rnd.random(), 2 * math.pi * rnd.random(), 4 * shake.reach * longer) for longer in (1, 4 / 3) * 2]
+
+    def __call__(self, at: Degrees) -> Degrees:
+        east, north = at[0] * scale(at[1]), at[1] * METRES
+        a, b, c, d = (math.sin(2 * math.pi * (east * math.sin(to) + north * math.cos(to)) / length + begun)
+                      for to, begun, length in self.waves)
+        return at[0] + self.most * (a + b) / scale(at[1]), at[1] + self.most * (c + d) / METRES
+
+
+def displacement(rnd: random.Random, shake: Shake) -> Displace:
+    """How far off each point of the map is."""
+    if shake.reach:
+        return Waves(rnd, shake)
+    return lambda at: off(rnd, at, shake.metres)
+
+
+def moved(road: Road, nodes: Dict[int, Degrees], displace: Displace) -> Road:
     """A line between its moved nodes, with its shape points moved and its length changed as that of its shape."""
-    inner = [(at, *off(rnd, (lon, lat), metres)) for at, lon, lat in road.points[1:-1]]
+    inner = [(at, *displace((lon, lat))) for at, lon, lat in road.points[1:-1]]
     points = [(0.0, *nodes[road.start]), *inner, (road.length, *nodes[road.end])]
     before, after = shape_length(road.points), shape_length(points)
     ratio = after / before if before and after else 1.0

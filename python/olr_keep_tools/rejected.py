@@ -28,7 +28,8 @@ class Kind(NamedTuple):
 
 KINDS = {
     **dict.fromkeys(("NODE", "LINE", "FROM", "TO"), Kind(NUMBER, "a number", (1, MOST))),
-    **dict.fromkeys(("FRC", "FOW"), Kind(NUMBER, "a number", (0, 7))),
+    **dict.fromkeys(("FRC", "FOW", "CLASSES"), Kind(NUMBER, "a number", (0, 7))),
+    "ROUTES": Kind(NUMBER, "a number of thousandths", (0, 1000)),
     **dict.fromkeys(("POS", "NEG", "COUNT"), Kind(NUMBER, "a number", (0, MOST))),
     "LEN": Kind(NUMBER, "a number of decimetres", (1, 1000000)),
     "AT": Kind(NUMBER, "a number of decimetres", (1, 999999)),
@@ -49,9 +50,11 @@ FORMS = {
     "path": ("NAME POS NEG", "LINE"),
     "repath": ("NAME POS NEG", "LINE"),
     "drop-path": ("NAME", ""),
+    "margin": ("ROUTES CLASSES", ""),
     "show": ("NAME", ""),
     "show-node": ("NODE", ""),
     "show-line": ("LINE", ""),
+    "show-margin": ("", ""),
     "depends": ("NODE", "NODE"),
     "report": ("", ""),
     "dump": ("", ""),

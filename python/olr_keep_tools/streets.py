@@ -215,9 +215,17 @@ def is_too_long(part: Part, far: Sequence[float], begin: int, end: int) -> bool:
     return max(abs(east - lon), abs(north - lat)) > WIDEST
 
 
-def cut_places(street: Street, meeting: Container[int]) -> Set[int]:
-    """The places at which a street has nodes."""
-    return {part[k] for part in street.parts for pair in stretches(part, meeting) for k in pair}
+Stretches = List[List[Tuple[int, int]]]  # of each part
+
+
+def stretches_of(street: Street, meeting: Container[int]) -> Stretches:
+    """The stretches of a street."""
+    return [list(stretches(part, meeting)) for part in street.parts]
+
+
+def cut_places(street: Street, found: Stretches) -> Set[int]:
+    """The places at which a street with these stretches has nodes."""
+    return {part[k] for part, pairs in zip(street.parts, found) for pair in pairs for k in pair}
 
 
 def fields_of(street: Street, places: Sequence[int]) -> Tuple[int, str, str]:
@@ -235,11 +243,11 @@ def fields_of(street: Street, places: Sequence[int]) -> Tuple[int, str, str]:
     return length, along, head + "".join(f",{length - at}{text}" for at, text in reversed(shape))
 
 
-def lines_of(key: str, street: Street, meeting: Container[int], node_at: Mapping[int, int]) -> Iterator[Made]:
-    """The lines of a street."""
+def lines_of(key: str, street: Street, found: Stretches, node_at: Mapping[int, int]) -> Iterator[Made]:
+    """The lines of a street with these stretches."""
     counts: Dict[Hashable, int] = Counter()
-    for index, part in enumerate(street.parts):
-        for k, (begin, end) in enumerate(stretches(part, meeting)):
+    for index, (part, pairs) in enumerate(zip(street.parts, found)):
+        for k, (begin, end) in enumerate(pairs):
             places = part[begin : end + 1]
             length, *fields = fields_of(street, places)
             for along in (True, False):
@@ -313,12 +321,14 @@ def kept_lines(made: Sequence[Made], old: Iterable[Old], nodes: Mapping[int, int
     together. What remains is compared without its street: a line between the same nodes over the same ground.
     """
     found, free = {}, {it.number: it for it in old}
+    starts = {it.start for it in free.values()}
+    near = [(index, line) for index, line in enumerate(made) if line.start in starts]
 
     def pair(key: Callable[[Any], Hashable], is_same: Callable[[Made, Old], bool]) -> None:
         groups = defaultdict(list)
         for it in free.values():
             groups[key(it)].append(it)
-        for index, line in enumerate(made):
+        for index, line in near:
             if index not in found:
                 group = groups.get(key(line), [])
                 match = next((it for it in group if is_same(line, it)), None)
@@ -414,8 +424,9 @@ class Recut:
                  others: Collection[int], numbers: NumberSource) -> None:
         self.before, self.after, self.lines, self.nodes, self.numbers = before, after, lines, nodes, numbers
         self.others = others
-        self.meeting = meeting_places(after.values(), others)
-        self.cuts = set().union(*(cut_places(it, self.meeting) for it in after.values()))
+        meeting = meeting_places(after.values(), others)
+        self.stretches = {key: stretches_of(it, meeting) for key, it in after.items()}
+        self.cuts = set().union(*(cut_places(it, self.stretches[key]) for key, it in after.items()))
         self.ends: Dict[str, Set[int]] = defaultdict(set)
         for line in lines:
             self.ends[line.street].update((line.start, line.end))
@@ -455,7 +466,7 @@ class Recut:
 
     def made(self, node_at: Mapping[int, int]) -> List[Made]:
         """The lines that the streets are cut into."""
-        return [line for key, street in self.after.items() for line in lines_of(key, street, self.meeting, node_at)]
+        return [line for key, street in self.after.items() for line in lines_of(key, street, self.stretches[key], node_at)]
 
     def numbered(self, made: Sequence[Made]) -> Tuple[List[int], Dict[int, Tuple[Made, Old]], Dict[int, Made]]:
         """The numbers of lines that are gone, and by number the lines that stay, with the old one, and the new ones."""

@@ -1,20 +1,31 @@
 """Tests of the steps of tools/live: cutting, reading, finding paths, holding, numbers, and what is sent to the program."""
+import argparse
+import functools
 import os
+import signal
 import tempfile
+import time
 import unittest
+from collections import Counter
 from typing import Any, Dict, Iterator, List, Mapping, Optional, Sequence, Tuple
 
-from olr_keep_tools.courses import DRAWN, Ends, Found, Ground, Lost, Wish, follow
+from olr_keep_tools.courses import CELL, DRAWN, Ends, Found, Ground, Lost, Network, Strip, Wish, cells_along, follow
+from olr_keep_tools.forked import Forked
+from olr_keep_tools.liveambiguous import Obstacle, named_places, obstacles, write_ambiguities
+from olr_keep_tools.livedraft import Was, verdict
+from olr_keep_tools.livefirst import FirstLoad, Writer
 from olr_keep_tools.liveprogram import LiveProgram, Sent
 from olr_keep_tools.livemap import LAST, Affected, Numbers, cell_of, copy_line
-from olr_keep_tools.livepaths import PathsUpdate, places_hex
-from olr_keep_tools.liveread import Change, Fate, Known, StreetRow, cell, changed, fate_of, is_plain
+from olr_keep_tools.livepaths import PathsUpdate, Search, is_there, places_hex
+from olr_keep_tools.liveread import Change, Fate, Known, Reader, StreetRow, cell, changed, fate_of, is_plain
 from olr_keep_tools.liverounds import DROPPED, Answer, Clusters, Counts, Effect, Limits, Round, Waiting
-from olr_keep_tools.livesession import Source, row_query
+from olr_keep_tools.liveservice import Attempt
+from olr_keep_tools.livesession import Source, psycopg2, row_query
 from olr_keep_tools.pathlines import Known as KnownPath
-from olr_keep_tools.pathlines import Edited, Finder, PathSearch, Road, Row, State, Wanted, WhereItWas, pieces_of, text_array
+from olr_keep_tools.pathlines import (Edited, Finder, PathSearch, Road, Row, State, Wanted, WhereItWas, boxes_of, cells_near,
+                                      marked_street, text_array)
 from olr_keep_tools.program import ProgramFailed
-from olr_keep_tools.streets import Old, Recut, Street, Unfit, place_of, street_of
+from olr_keep_tools.streets import Old, Recut, Street, Unfit, place_of, street_of, wkb_hex
 
 
 def place(east: int, north: int = 0) -> int:
@@ -46,11 +57,16 @@ class FakeCursor:
         self.rows = rows or {}
         self.found: List[Tuple[Any, ...]] = []
         self.queries: List[str] = []
+        self.copied: List[Tuple[str, int, str]] = []
 
     def execute(self, query: str, _: Any = None) -> None:
         """Remembers a query, and finds its rows."""
         self.queries.append(query)
         self.found = next((list(rows) for key, rows in self.rows.items() if key in query), [])
+
+    def copy_expert(self, query: str, file: Any, size: int) -> None:
+        """Remembers what is copied."""
+        self.copied.append((query, size, file.read()))
 
     def fetchall(self) -> List[Tuple[Any, ...]]:
         """All rows."""
@@ -110,6 +126,46 @@ class Cutting(unittest.TestCase):
         self.assertEqual(street_of("3", None, None, "ST_LineString", 4326, b""), Unfit("form and direction are NULL"))
 
 
+class FirstLoads(unittest.TestCase):
+    """The cut of a first load is that of a change of all streets."""
+
+    STREETS = {
+        "a": Street(3, 3, "both", ((place(0), place(50), place(100)),)), "b": Street(5, 3, "against", ((place(50), place(50, 80)),)),
+        "loop": Street(5, 3, "both", ((place(100), place(150), place(150, 50), place(100)),)),
+        "long": Street(1, 1, "along", (tuple(place(200 + 9000 * k, 500) for k in range(5)),)),
+        "two": Street(4, 3, "both", ((place(0, 300), place(50, 300)), (place(50, 80), place(0, 300)))),
+    }
+
+    def lines(self, made: Any, places: Mapping[int, int]) -> List[Any]:
+        """Lines with the places of their ends in place of numbers."""
+        return sorted((*it[:4], places[it.start], places[it.end], *it[6:]) for it in made)
+
+    def test_same_as_a_change(self) -> None:
+        cut = Recut({key: () for key in self.STREETS}, dict(self.STREETS), [], {}, set(), FakeNumbers()).run()
+        numbers: Any = FakeNumbers()
+        load = FirstLoad(FakeCursor(), numbers, Affected())
+        counts = Counter(it for street in self.STREETS.values() for part in street.parts for it in part)
+        meeting = {it for it, count in counts.items() if count > 1}
+        made = [it for key, street in self.STREETS.items() for it in load.cut_block({key: street}, meeting)]
+        places = {node: it for it, node in load.node_at.items()}
+        self.assertEqual(self.lines(made, places), self.lines(cut.added.values(), cut.new_nodes))
+        ends = {places[node] for node, count in load.ending.items() if count == 1}
+        self.assertEqual(ends, {cut.new_nodes[it] for it in cut.ends})
+
+    def test_rows_are_copied_in_order(self) -> None:
+        cursor = FakeCursor()
+        with Writer(cursor) as writer:
+            for k in range(5):
+                writer.copy("line", "line", [(k,), (None,)])
+            writer.wait()
+        self.assertEqual([it[2] for it in cursor.copied], [f"{k}\n\\N\n" for k in range(5)])
+
+    def test_a_failure_is_raised(self) -> None:
+        with Writer(None) as writer, self.assertRaises(AttributeError):
+            writer.copy("line", "line", [(1,)])
+            writer.wait()
+
+
 # ---- reading
 
 
@@ -151,6 +207,74 @@ class Reading(unittest.TestCase):
         self.assertEqual(cell(float("nan"), 0), -1)
         self.assertEqual(cell(6.1, 49.6), cell(6.1001, 49.6001))
         self.assertNotEqual(cell(6.1, 49.6), cell(16.1, 49.6))
+
+
+class Failing(FakeCursor):
+    """A cursor for which rows with the id 3 can't be read."""
+
+    connection: Any = argparse.Namespace(closed=False)
+
+    def execute(self, query: str, values: Any = None) -> None:
+        """Fails if the row with id 3 is asked for."""
+        super().execute(query, values)
+        ids = values["ids"] if isinstance(values, dict) and "ids" in values else ""
+        if '"3"' in ids:
+            raise psycopg2.DataError("invalid input")
+        if ids:
+            shape = bytes.fromhex(wkb_hex((place(0), place(9)))[:2] + "02000000" + wkb_hex((place(0), place(9)))[18:])
+            self.found = [(it.strip('"'), 1, 2, "3", "3", "both", "ST_LineString", 4326, shape)
+                          for it in ids[1:-1].split(",") if it]
+
+
+@unittest.skipIf(psycopg2 is None, "psycopg2 is not installed")
+class ReadingRows(unittest.TestCase):
+    """The steps of reading: notes, and rows of which one can't be read."""
+
+    def test_notes(self) -> None:
+        cursor = Failing({"source <= 0": [(0, "p", "me", "9"), (0, None, "you", "8")]})
+        change = Reader(cursor, [], set()).read()
+        self.assertEqual((change.paths, change.users, change.every_path, change.path_group), ({"p"}, {"me", "you"}, True, {"p": "9"}))
+
+    def test_a_preview_leaves_the_notes(self) -> None:
+        cursor = Failing()
+        Reader(cursor, [], set(), True).notes("true")
+        self.assertTrue(cursor.queries[0].startswith("select"))
+
+    def test_a_bad_row_is_found(self) -> None:
+        rows = Reader(Failing(), [], set()).rows(SOURCE, {str(k) for k in range(8)})
+        self.assertEqual(sorted(rows), [str(k) for k in range(8)])
+        self.assertEqual(rows["3"][0].street, Unfit("invalid input"))
+        self.assertIsInstance(rows["4"][0].street, Street)
+
+
+class Attempts(unittest.TestCase):
+    """The steps of an attempt."""
+
+    def attempt(self, program: Any) -> Attempt:
+        """An attempt without a database."""
+        live: Any = argparse.Namespace(cursor=FakeCursor(), settings=argparse.Namespace(is_preview=False), stale=set(),
+                                       program=program, loaded=lambda: {"a": "loaded"})
+        work: Any = argparse.Namespace(tables=[])
+        return Attempt(live, work, False)
+
+    def test_answers(self) -> None:
+        program: Any = argparse.Namespace(answers=lambda records: {it: "new" for it in records})
+        attempt = self.attempt(program)
+        attempt.paths = PathsUpdate(FakeCursor(), Affected(), 20.0)
+        attempt.records, attempt.paths.records, attempt.fresh = ["map"], ["path"], {"map": "old", "other": "old"}
+        self.assertEqual(attempt.answers(), {"map": "new", "path": "new", "other": "old"})
+        self.assertEqual(self.attempt(None).answers(), {"a": "loaded"})
+
+    def test_only_an_empty_map_is_loaded_first(self) -> None:
+        attempt = self.attempt(None)
+        cursor: Any = attempt.cursor
+        attempt.numbers = Numbers(FakeCursor({"select kind, last": [("node", 0), ("line", 0)]}))
+        self.assertFalse(attempt.is_first_load(10))
+        self.assertFalse(attempt.is_first_load(10_000))
+        cursor.rows = {"select not exists": [(True,)]}
+        self.assertTrue(attempt.is_first_load(10_000))
+        attempt.numbers.last["line"] = LAST - 10
+        self.assertFalse(attempt.is_first_load(10_000))
 
 
 class Writing(unittest.TestCase):
@@ -210,10 +334,46 @@ class Courses(unittest.TestCase):
         found = follow([degrees(0), degrees(300)], self.ROADS, 20.0)
         self.assertIsInstance(found, Lost)
 
-    def test_pieces(self) -> None:
-        pieces = pieces_of([(6.0, 49.0), (6.02, 49.0)])
-        self.assertEqual((pieces[0][0], pieces[-1][-1]), ((6.0, 49.0), (6.02, 49.0)))
-        self.assertTrue(all(abs(a[0] - b[0]) <= 0.0051 for it in pieces for a, b in zip(it, it[1:])))
+    def test_further_lines_change_nothing(self) -> None:
+        course, far = [degrees(0), degrees(100)], ground(8, 9, "far", degrees(0, 500), degrees(100, 500))
+        alone, network = lines_of(course, self.ROADS, Wish()), Network(self.ROADS)
+        network.add({7: far, 1: far})
+        self.assertEqual(follow(course, network, 20.0, Wish()), alone)
+
+
+class Grids(unittest.TestCase):
+    """What is near, by cells."""
+
+    def test_cells_along_have_each_point(self) -> None:
+        for a, b in (((0.1, 0.1), (0.9, 0.2)), ((-3.2, 1.1), (4.4, -2.7)), ((0.5, 0.5), (0.5, 7.5))):
+            cells = set(cells_along(a, b, 1.0))
+            for k in range(101):
+                at = [x + (y - x) * k / 100 for x, y in zip(a, b)]
+                self.assertIn(tuple(int(it // 1) for it in at), cells)
+
+    def test_strip(self) -> None:
+        strip = Strip([(0.0, 0.0), (100.0, 0.0), (100.0, 300.0)], 50.0)
+        self.assertEqual(list(strip.segments_near((30.0, 40.0))), [0])
+        self.assertEqual(list(strip.segments_near((90.0, 10.0))), [0, 1])
+        self.assertEqual(list(strip.segments_near((500.0, 500.0))), [])
+
+    def test_network_near(self) -> None:
+        network = Network({1: ground(1, 2, "a", degrees(0), degrees(100)), 2: ground(3, 4, "b", degrees(0, 40), degrees(100, 40))})
+        metres = 138e-7, 90e-7
+        self.assertEqual(network.near(degrees(50, 5), *(10 * it for it in metres)), [1])
+        self.assertEqual(network.near(degrees(50, 20), *(25 * it for it in metres)), [1, 2])
+        self.assertEqual(network.near(degrees(250), *(10 * it for it in metres)), [])
+
+    def test_cells_near(self) -> None:
+        course = [(6.0011, 49.0011), (6.0019, 49.0011)]
+        self.assertEqual(cells_near(course, 20.0), {(3000, 24500), (3001, 24500)})
+        self.assertEqual(len(cells_near([(6.0011, 49.0011), (6.0611, 49.0011)], 20.0)), 31)
+        self.assertGreater(len(cells_near(course, 500.0)), 20)
+
+    def test_boxes(self) -> None:
+        self.assertEqual(list(boxes_of([(1, 5), (2, 5), (4, 5), (1, 6)])),
+                         [(it[0] * CELL, it[1] * CELL, it[2] * CELL, it[3] * CELL) for it in
+                          ((1, 5, 3, 6), (4, 5, 5, 6), (1, 6, 2, 7))])
 
 
 def known(**changes: Any) -> KnownPath:
@@ -230,9 +390,9 @@ class FakeFinder(Finder):
         super().__init__(None, 20.0)
         self.rows = {it.number: it for it in rows}
 
-    def near(self, _: Any) -> Dict[int, Ground]:
+    def near(self, _: Any) -> Network:
         """All lines."""
-        return {number: it.ground for number, it in self.rows.items()}
+        return Network(self.rows)
 
     def by_streets(self, streets: Sequence[str], *_: Any) -> Any:
         """The lines of streets."""
@@ -316,8 +476,64 @@ class Searches(unittest.TestCase):
         self.assertIs(placed.state, State.LOST)
         self.assertIn("can't be sought", placed.why.words if placed.why else "")
 
+    def test_search_in_another_process(self) -> None:
+        finder, wanted = FakeFinder(row(1, "a")), {"p": self.COURSE, "q": self.STREETS}
+        search = Search(PathsUpdate(FakeCursor(), Affected(), 20.0), ["p", "q", "gone"], finder, self.NOTHING, wanted, {})
+        search.fork()
+        found = search.result()
+        self.assertEqual([(name, it and it.lines) for name, it in found.items()], [("p", [1]), ("q", [1]), ("gone", None)])
+
+    def test_a_killed_search_is_made_again(self) -> None:
+        search = Search(PathsUpdate(FakeCursor(), Affected(), 20.0), ["p"], FakeFinder(row(1, "a")), self.NOTHING,
+                        {"p": self.COURSE}, {})
+        search.fork()
+        if search.forked:
+            os.kill(search.forked.process, signal.SIGKILL)
+        found = search.result()["p"]
+        self.assertEqual(found and found.lines, [1])
+
+    def test_what_is_not_read_is_left(self) -> None:
+        search = Search(PathsUpdate(FakeCursor(), Affected(), 20.0), ["p"], Finder(FakeCursor(), 20.0), self.NOTHING,
+                        {"p": self.COURSE}, {})
+        search.fork()
+        self.assertEqual(search.forked and search.forked.result(search.update.tick), {})
+
+    def test_is_there(self) -> None:
+        finder = FakeFinder(row(1, "a"))
+        self.assertTrue(is_there((known(), 0, 0), finder))
+        self.assertFalse(is_there((known(lines=[1, 2]), 0, 0), finder))
+        self.assertFalse(is_there(None, finder))
+
+    def test_marks(self) -> None:
+        self.assertEqual([marked_street(it) for it in (">7", "<a", "b")], [(">", "7"), ("<", "a"), ("", "b")])
+
     def test_arrays(self) -> None:
         self.assertEqual(text_array(['a"b', "c\\d"]), '{"a\\"b","c\\\\d"}')
+
+
+# ---- another process
+
+
+class Forks(unittest.TestCase):
+    """A computation in a process of its own."""
+
+    def test_result(self) -> None:
+        several = [Forked(functools.partial(list, range(k, 1_000_000))) for k in range(2)]
+        self.assertEqual([(it.result(self.fail) or [])[:1] for it in several], [[0], [1]])
+
+    def test_ticks(self) -> None:
+        ticks: List[int] = []
+        Forked(functools.partial(time.sleep, 1.5)).result(functools.partial(ticks.append, 1))
+        self.assertEqual(ticks, [1])
+
+    def test_failure(self) -> None:
+        self.assertIsNone(Forked(lambda: 1 // 0).result(self.fail))
+
+    def test_killed(self) -> None:
+        child = Forked(lambda: time.sleep(100))
+        child.end()
+        with self.assertRaises(ChildProcessError):
+            os.waitpid(child.process, 0)
 
 
 # ---- holding
@@ -394,6 +610,7 @@ SCRIPT = """#!/bin/sh
 while read -r record; do
     case $record in
         bad*) echo fault,1,Syntax ;;
+        ambiguous) printf 'ok,2\\na,0,sector,7\\na,1,node,9\\n' ;;
         report) printf 'ok,2\\na,text,X\\nb,refused,1,7\\n' ;;
         commit*) printf 'ok,1\\na,text,Y\\n' ;;
         slow) sleep 1.5; echo ok,0 ;;
@@ -401,6 +618,31 @@ while read -r record; do
     esac
 done
 """
+
+
+class Drafts(unittest.TestCase):
+    """What becomes of a path in a draft."""
+
+    COURSE = [degrees(0), degrees(1000)]
+    WAS = Was(Answer("CwRWsSNFbxpcYv/+AG8aBg==", None), COURSE)
+
+    def kind(self, was: Optional[Was], now: Answer, course: Sequence[Tuple[float, float]]) -> str:
+        """The verdict."""
+        return verdict("p", was, now, None, course).kind.value
+
+    def test_verdicts(self) -> None:
+        text = self.WAS.answer
+        far = [degrees(0, 15), degrees(1000, 15)]
+        self.assertEqual(self.kind(self.WAS, text, self.COURSE), "same string")
+        self.assertEqual(self.kind(self.WAS, Answer("CwRWsSNFbxpcY//+AG8aBg==", None), self.COURSE), "same road")
+        self.assertEqual(self.kind(self.WAS, text, far), "other road")
+        self.assertEqual(self.kind(self.WAS, DROPPED, []), "lost")
+        self.assertEqual(self.kind(None, text, self.COURSE), "without a string before")
+        self.assertEqual(self.kind(Was(Answer(None, "lost"), []), text, self.COURSE), "without a string before")
+
+    def test_why_lost(self) -> None:
+        self.assertEqual(verdict("p", self.WAS, DROPPED, None, []).why, "an operator removed it")
+        self.assertEqual(verdict("p", self.WAS, Answer(None, "refused,3"), None, []).why, "it is not encodable there")
 
 
 class Programs(unittest.TestCase):
@@ -429,6 +671,16 @@ class Programs(unittest.TestCase):
     def test_answers(self) -> None:
         self.assertEqual(self.program.answers(["node,1,0,0"]), {"a": "text,Y"})
         self.assertEqual(self.program.answers([]), {})
+
+    def test_ambiguities(self) -> None:
+        named = obstacles(self.program)
+        self.assertEqual(named, {"a": [Obstacle(0, "sector", 7), Obstacle(1, "node", 9)]})
+        cursor = FakeCursor({"select line": [(7, "s", "POINT(1 2)")], "select node": [(9, "6.1,49.6", "POINT(6.1 49.6)")]})
+        places = named_places(cursor, named)
+        self.assertEqual(list(places["a"].values()), ["POINT(1 2)", "POINT(6.1 49.6)"])
+        self.assertIn("point 0: another line of street s", next(iter(places["a"])))
+        write_ambiguities(cursor, self.program)
+        self.assertEqual([len(it[2].splitlines()) for it in cursor.copied], [2])
 
     def test_rejected(self) -> None:
         with self.assertRaisesRegex(ProgramFailed, "fault,1,Syntax"):

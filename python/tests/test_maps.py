@@ -1,18 +1,19 @@
 """Tests of osm.py, osmrecords.py, mapedits.py, mapchecks.py and refound.py."""
 import array
 import os
+import random
 import tempfile
 import unittest
 from typing import Dict, List, Tuple
 
-from olr_keep_tools.geo import METRES
+from olr_keep_tools.geo import METRES, distance
 from olr_keep_tools.mapchecks import decoding_error, findings
 from olr_keep_tools.mapedits import Limits, Lines, MapRefused, edits
 from olr_keep_tools.osm import Extract, LeftOut, OsmError, Places, Road, Way, read_osm
 from olr_keep_tools.osmrecords import Numbers, driven, measure_of, number_lines, parts_of, records, splits
 from olr_keep_tools.receiver import RoadMap, bearing, project, shape_length
 from olr_keep_tools.records import State
-from olr_keep_tools.refound import Location, Shake, cut_out, farthest, shaken
+from olr_keep_tools.refound import Location, Shake, Waves, cut_out, farthest, shaken
 
 
 def roads_of(*lines: str) -> RoadMap:
@@ -161,6 +162,15 @@ class Shapes(unittest.TestCase):
         self.assertGreater(shape_length(road.points), 111)
         self.assertEqual([it for it, _, _ in ROADS.lines_near(6.0, 49.0, 30.0)], [1, 2])
         self.assertEqual([it for it, _ in ROADS.nodes_near(6.0, 49.0, 100.0)], [1, 2])
+
+    def test_waves(self) -> None:
+        """Points next to each other are off alike, so that distances stay as they are, nearly."""
+        off = Waves(random.Random(1), Shake(1, 5.0, 0.0, 0.0, 0.0, 500.0))
+        places = [(6 + k / 1000, 49 + k * k % 97 / 1000) for k in range(100)]
+        moved = [distance(it, off(it)) for it in places]
+        self.assertTrue(3.0 < max(moved) <= 5.0, max(moved))
+        for a, b in zip(places, places[1:]):
+            self.assertLess(abs(distance(off(a), off(b)) / distance(a, b) - 1), 0.015)
 
     def test_shaken(self) -> None:
         there, parts = shaken(ROADS, Shake(3, 5.0, 100.0, 0.0, 0.0))

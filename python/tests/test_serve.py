@@ -3,6 +3,7 @@ import collections
 import io
 import os
 import random
+import socket
 import sqlite3
 import tempfile
 import unittest
@@ -13,6 +14,7 @@ from olr_keep_tools.serve import exchange, logfile
 from olr_keep_tools.serve.framing import NoReply, Replies
 from olr_keep_tools.serve.jobs import Change, Job, Kind, batch, dropped, preview, question_about
 from olr_keep_tools.serve.lines import Input, Sort
+from olr_keep_tools.serve.notify import Systemd
 from olr_keep_tools.serve.table import Entry, Table, TableError
 
 
@@ -80,6 +82,19 @@ class Windows(unittest.TestCase):
         self.now += 1
         self.carry_out(nodes, 500_000)
         self.assertAlmostEqual(self.passed.window, 50_000, delta=10_000)
+
+
+class Notifications(unittest.TestCase):
+    def test_unread(self) -> None:
+        """Nobody reads what is reported: the service goes on."""
+        with tempfile.TemporaryDirectory() as folder, socket.socket(socket.AF_UNIX, socket.SOCK_DGRAM) as manager:
+            manager.bind(f"{folder}/notify")
+            manager.setsockopt(socket.SOL_SOCKET, socket.SO_RCVBUF, 4096)
+            environment: Any = {"NOTIFY_SOCKET": f"{folder}/notify"}
+            systemd = Systemd(environment)
+            for _ in range(2000):
+                systemd.tell("STATUS=" + "x" * 1000)
+            self.assertTrue(manager.recv(4096).startswith(b"STATUS=x"))
 
 
 class Framing(unittest.TestCase):

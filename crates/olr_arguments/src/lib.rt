@@ -12,4 +12,4 @@ pub use arguments::{Options, OptionsFault};
 pub use command_line::options;
 pub use explaining::{WRONG_ARGUMENTS, explain};
 pub use files::open_file;
-pub use sizes::compaction_length;
+pub use sizes::{CompactionLength, compaction_length};

@@ -44,12 +44,28 @@ fn size(text: &str) -> Option<usize>
     count.checked_mul(unit)
 }
 
-/// The least length of a log that is compacted; none is if no size was asked for. None if what was asked for is no size.
-pub fn compaction_length(asked: Option<&str>) -> Option<usize>
-    ensures { IsLength (option_map (λ text. text.now) asked.entry) result }
-{
-    match asked {
-        Some(text) => size(text),
-        None => Some(usize::MAX),
+/// The least length of a log that is compacted. It comes from what was asked for, and from nowhere else.
+#[derive(Clone, Copy)]
+pub struct CompactionLength {
+    bytes: usize,
+}
+
+impl CompactionLength {
+    /// The number of bytes.
+    pub fn get(self) -> usize
+        ensures { result ≡ self.bytes }
+    {
+        self.bytes
     }
+}
+
+/// The least length of a log that is compacted; none is if no size was asked for. None if what was asked for is no size.
+pub fn compaction_length(asked: Option<&str>) -> Option<CompactionLength>
+    ensures { IsLength (option_map (λ text. text.now) asked.entry) (option_map (λ l. l.bytes) result) }
+{
+    let bytes = match asked {
+        Some(text) => size(text)?,
+        None => usize::MAX,
+    };
+    Some(CompactionLength { bytes })
 }

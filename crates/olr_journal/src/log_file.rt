@@ -165,7 +165,7 @@ impl<D: Disk + Drop, F: Folder<D>> Journal for LogFile<D, F> {
         ensures durable { Only (kept_of self.old) (left_of self.old) → OnOk result (Only (kept_of self.new) (left_of self.new)) }
         ensures cut { (c : List ℕ) → left_of self.new c → left_of self.old c ⊎ (c ≡ records.now) }
         ensures ready { IfOk result (λ done. done ≡ true → is_ready self.new ≡ true) }
-        ensures own { IfOk result (λ done. done ≡ true → is_own_of self.new ≡ true) }
+        ensures own { IfOk result (λ done. is_own_of self.new ≡ if done then true else is_own_of self.old) }
         ensures unready { IfOk result (λ done. done ≡ false → is_ready self.new ≡ is_ready self.old) }
         ensures refused { IfOk result (λ done. done ≡ false → IsSome (refusal_of self.new)) }
         ensures broken { OnErr result (is_broken_of self.new ≡ true) }

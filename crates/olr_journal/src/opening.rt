@@ -65,6 +65,11 @@ impl<D: Disk + Drop, F: Folder<D>> LogFile<D, F> {
         self.is_own
     }
 
+    /// Whether an opened file has padding behind its text: the run before was cut off.
+    pub fn is_padded(&self) -> bool {
+        self.is_own && !self.is_settled && self.file_len > self.text_len.saturating_add(1)
+    }
+
     /// How many bytes stand behind the text, up to the last that isn't a carriage return. They were never answered.
     pub fn left_over(&self) -> usize
         ensures { is_clean self.now ≡ true → result ≡ length (left_over_of self.now) }

@@ -4,7 +4,9 @@
 #![tactic(auto)]
 
 use olr_arguments::{Options, OptionsFault, WRONG_ARGUMENTS, compaction_length, options};
-use olr_journal::{HostDisk, LogFile, LogFolder, OpenError, Unknown, open_place, set_aside};
+use olr_journal::{
+    HostDisk, LogFile, LogFolder, OpenError, Unknown, open_place, open_records, set_aside,
+};
 use olr_run::{Buffered, RunFault, report_fault, run_program, run_program_with_log};
 use std::process::ExitCode;
 use std::{env, fs, io};
@@ -42,7 +44,7 @@ fn open_log<'a>(
 }
 
 /// The file that was opened, if one was asked for.
-fn opened(file: Option<io::Result<fs::File>>) -> io::Result<fs::File> {
+fn opened(file: Option<io::Result<io::Take<fs::File>>>) -> io::Result<io::Take<fs::File>> {
     match file {
         Some(opened) => opened,
         None => Err(io::ErrorKind::NotFound.into()),
@@ -74,13 +76,13 @@ fn run(rt: &HostRuntime, arguments: &[String]) -> u8 {
         return run_program(
             rt.alloc(),
             arguments,
-            |name: &str| fs::open(rt, name),
+            |name: &str| open_records(rt, name),
             rt.reader(),
             &mut output,
             &mut rt.stderr(),
         );
     };
-    let file = file.map(|name| fs::open(rt, name));
+    let file = file.map(|name| open_records(rt, name));
     let log = match &file {
         Some(Err(_)) => Err(OpenError::Missing),
         _ if compaction_length(compact_at).is_none() => Err(OpenError::Missing),

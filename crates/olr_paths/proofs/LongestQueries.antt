@@ -1,9 +1,9 @@
 -- With a margin a coverage query is at most as long as the farthest one may be.
-use Rattle.olr_paths.proofs.Common.{CoverageQuery, Contains-get_or, IsMap, IsTrue, List, Map, MatchOption, None, Option, Path}
+use Rattle.olr_paths.proofs.Common.{CoverageQuery, IsTrue, List, Map, MatchOption, None, Option, Path}
 use Rattle.olr_paths.proofs.Common.{QueriesOfWith, Some, [], ap, arith, cases_Bool, extended_path, false, inl, inr, length}
-use Rattle.olr_paths.proofs.Common.{query_from_with, refl, sym, ℕ, ◌+◌, ◌∷◌, ◌<◌, ◌≡◌, ◌≤◌, ◌⊎◌, ◌∙◌, subst, has, Margin}
+use Rattle.olr_paths.proofs.Common.{query_from_with, refl, sym, ℕ, ◌+◌, ◌∷◌, ◌<◌, ◌≡◌, ◌≤◌, ◌⊎◌, subst, has, Margin}
 use Rattle.olr_paths.proofs.Common.{is_margin, and_parts}
-use Rattle.std.proofs.Common.{◌*◌, ◌/◌, ◌==◌, Bool, true, mul-le-mul_left}
+use Rattle.std.proofs.Common.{◌*◌, ◌==◌, Bool, mul-le-mul_left}
 use Rattle.std.specs.Prelude.{if◌then◌else◌}
 use Rattle.std.proofs.lemmas.Bool.{eqb-true}
 use Rattle.std.proofs.lemmas.Bool.Decides.{nat_tests}

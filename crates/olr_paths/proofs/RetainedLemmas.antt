@@ -5,7 +5,7 @@ use Rattle.olr_paths.proofs.Common.{List, Made, Map, Margin, Option, Path, Some,
 use Rattle.olr_paths.proofs.Common.{None, is_margin, is_path, min, slice_get, subst, ℕ, All, ◌≡◌, ◌≤◌}
 use Rattle.olr_list.proofs.Alls.{at_position}
 use Rattle.olr_list.proofs.Common.{AllByRecursion, Contains, IfSome, KnownQuery, LineTouched, Near, QueryTouched}
-use Rattle.olr_list.proofs.Common.{Begins, BeginsIn, GREATEST_LIMIT, TraversedTouched, true, ◌∷◌, []}
+use Rattle.olr_list.proofs.Common.{BeginsIn, GREATEST_LIMIT, TraversedTouched, true, ◌∷◌, []}
 use Rattle.olr_list.specs.Origins.{farthest, AreShort}
 use Rattle.olr_list.specs.Actions.{ToName, Retains}
 use Rattle.olr_list.specs.Changes.{StayKnown, Touches}

@@ -2,13 +2,15 @@
 use Rattle.olr_run.proofs.Common.{IfErr, Outcome, Field, Known, Records, RunFault, Registered}
 use Rattle.olr_run.proofs.Common.{Represents, exit_code, is_ok, EndedOn}
 use Rattle.std.proofs.Common.{◌≡◌, ◌∙◌, ◌⊎◌, ℕ, Bool, true, false, List, inl, inr, refl, sym, subst}
-use Rattle.std.specs.Prelude.{IfOk, OnOk, OnErr, Result, Ok, Err, IsTrue}
+use Rattle.std.specs.Prelude.{IfOk, OnOk, Result, Ok, Err, IsTrue, is_some}
 use Rattle.sqlite_disk.specs.declared.Disk as disk
 use Rattle.olr_commands.specs.State.{Content, IsContent, State}
 use Rattle.olr_journal.specs.Logs.{kept_of, left_of, is_own_of, is_clean}
 use Rattle.olr_journal.specs.declared.folder.Folder as folder
 use Rattle.olr_journal.specs.declared.log_file.LogFile.{LogFile}
-use Rattle.olr_run.proofs.Dumped.{content_dump_leads}
+use Rattle.std.specs.List.{concat}
+use Rattle.olr_commands.specs.Dump.{dump_lines}
+use Rattle.olr_run.proofs.Dumped.{content_dump_leads, dump_leads}
 use Rattle.olr_run.proofs.LogRecords.{same_content}
 use Rattle.olr_run.proofs.Running.{represented}
 use Rattle.olr_run.proofs.Sending.{faulted_sent, ran_sent}
@@ -16,17 +18,13 @@ use Rattle.std.proofs.KnownBytes.{Keeps-refl}
 use Rattle.olr_run.specs.LogEnds.{AreRecordsOf, Begins, BeginsWith, LastsOn, Unbegun}
 use Rattle.olr_run.specs.Logged.{closed, Leads, Survives, UpTo}
 use Rattle.olr_run.specs.Logs.{LastsWhole, LastsCut}
-use Rattle.olr_run.specs.ProgramEnds.{FromLog, Ran, Cut_off}
+use Rattle.olr_run.specs.ProgramEnds.{FromLog, Ran, Cut_off, ended_code}
 use Rattle.olr_run.specs.Restored.{IsContentOf}
 use Rattle.olr_sessions.specs.Buffers.{written}
 use Rattle.olr_sessions.specs.Journals.{Only}
 use Rattle.olr_sessions.specs.declared.buffered.Buffered.{Buffered}
 use Rattle.olr_sessions.specs.declared.ends.Status.{Status}
 use Rattle.olr_sessions.specs.declared.gate.Gate.{Gate}
-
-pub always_err : {A E : Type 0} (r : Result A E) (P : Type 0) → P → OnErr r P
-always_err (Ok a) P h = tt
-always_err (Err e) P h = h
 
 pub on_true : {A E : Type 0} (r : Result A E) (P : Type 0) → OnOk r P → is_ok r ≡ true → P
 on_true (Ok a) P h e = h
@@ -39,7 +37,7 @@ module _ {D F : Type 0} {d : disk.Ghosts D} {f : folder.Ghosts F D} where
       is_own_of read ≡ is_own_of log → kept_of read ≡ kept_of log → ((t : List ℕ) → left_of read t → left_of log t)
       → (is_clean read ≡ true → (c : Content) × IsContentOf (kept_of log) c × Represents register.kept (closed c))
       → (is_clean read ≡ true → (c : Content) → Leads (kept_of log) c → Represents register.kept (closed c))
-      → (is_own_of read ≡ true → is_clean start ≡ true → kept_of start ≡ kept_of read)
+      → (is_own_of read ≡ true → is_clean start ≡ true → (kept_of start ≡ kept_of read) ⊎ AreRecordsOf register (kept_of start))
       → (is_own_of read ≡ false → AreRecordsOf register (kept_of start))
       → (Only (kept_of read) (left_of read) → Only (kept_of start) (left_of start)) → Begins log read start register
   begins_from log read start register sound own same less content leads kept renewed durable =
@@ -51,27 +49,34 @@ module _ {D F : Type 0} {d : disk.Ghosts D} {f : folder.Ghosts F D} where
         only = λ before. durable (λ t left. before t (less t left) ∙ sym same);
       }
     where
+      rewritten : (c : Content) → Represents register.kept (closed c) → (IsContent c → Leads (concat (dump_lines c)) c)
+          → AreRecordsOf register (kept_of start) → Leads (kept_of start) c
+      rewritten c represents led records =
+          subst (λ (x : List ℕ). Leads x c) (sym (records c represents)) (led (represented register (closed c) sound represents))
+
       by_own : (b : Bool) → is_own_of read ≡ b → is_clean read ≡ true → is_clean start ≡ true → (c : Content) →
           BeginsWith b (kept_of log) c → Represents register.kept (closed c) × Leads (kept_of start) c
-      by_own true is clean now c l =
-          (leads clean c l, subst (λ (x : List ℕ). Leads x c) (sym (kept is now ∙ same)) l)
+      by_own true is clean now c l = (
+        leads clean c l,
+        elim (kept is now) [
+          | inl still ↦ subst (λ (x : List ℕ). Leads x c) (sym (still ∙ same)) l
+          | inr records ↦ rewritten c (leads clean c l) (dump_leads (kept_of log) c l) records
+        ],
+      )
       by_own false is clean now c l =
           let there = content clean in
           let e : there.0 ≡ c = same_content (kept_of log) there.0 c there.1 l in
           let represents : Represents register.kept (closed c) =
-          subst (λ (x : Content). Represents register.kept (closed x)) e there.2 in (
-            represents,
-            subst (λ (x : List ℕ). Leads x c) (sym (renewed is c represents))
-                (content_dump_leads (kept_of log) c l (represented register (closed c) sound represents)),
-          )
+          subst (λ (x : Content). Represents register.kept (closed x)) e there.2 in
+          (represents, rewritten c represents (content_dump_leads (kept_of log) c l) (renewed is))
 
   -- a log that may have been replaced before the start failed
-  pub unbegun_after : (log read last : LogFile D F d f) (register : Registered) → kept_of read ≡ kept_of log →
+  pub unbegun_after : (log read last : LogFile D F d f) (rejected : Bool) (register : Registered) → kept_of read ≡ kept_of log →
       ((t : List ℕ) → left_of read t → left_of log t)
       → (is_clean read ≡ true → (c : Content) × IsContentOf (kept_of log) c × Represents register.kept (closed c))
       → ((t : List ℕ) → left_of last t → left_of read t ⊎ (t ≡ kept_of read) ⊎ AreRecordsOf register t)
-      → Unbegun log last
-  unbegun_after log read last register same less content cut = (
+      → rejected ≡ false → Unbegun log last rejected
+  unbegun_after log read last rejected register same less content cut fails = (
     read,
     same,
     λ t left. elim (cut t left) [
@@ -81,6 +86,7 @@ module _ {D F : Type 0} {d : disk.Ghosts D} {f : folder.Ghosts F D} where
         | inr records ↦ inr (λ clean. let k = content clean in (k.0, k.1, records k.0 k.2))
       ])
     ],
+    λ is. absurd (let never : true ≡ false = sym is ∙ fails in cc),
   )
 
   pub cut_from : (j k last : LogFile D F d f) (ok : Bool) → k ≡ j →
@@ -89,9 +95,11 @@ module _ {D F : Type 0} {d : disk.Ghosts D} {f : folder.Ghosts F D} where
   cut_from j k last ok e cut =
       subst (λ (x : LogFile D F d f). (t : List ℕ) → left_of last t → left_of x t ⊎ (IsTrue ok × (t ≡ kept_of x))) e cut
 
-  pub unbegun_read : (log read : LogFile D F d f) → kept_of read ≡ kept_of log →
-      ((t : List ℕ) → left_of read t → left_of log t) → Unbegun log read
-  unbegun_read log read same less = (read, same, λ t left. inl (less t left))
+  pub unbegun_read : (log read : LogFile D F d f) (rejected : Bool) → kept_of read ≡ kept_of log →
+      ((t : List ℕ) → left_of read t → left_of log t)
+      → (rejected ≡ true → is_clean read ≡ true → (c : Content) → IsContentOf (kept_of log) c → ⊥)
+      → Unbegun log read rejected
+  unbegun_read log read rejected same less refused = (read, same, λ t left. inl (less t left), refused)
 
   -- ---- the end
 
@@ -127,7 +135,7 @@ module _ {D F : Type 0} {d : disk.Ghosts D} {f : folder.Ghosts F D} where
       (stop : Bool) (old new : Registered) (records : Records) (code : ℕ) → Begins log read start old
       → EndedOn (LastsWhole kept_of left_of contents start o g p) (LastsCut kept_of left_of contents start o g p) stop old
       records (written contents o) new (written contents p) r
-      → IfOk r (λ status. (code ≡ exit_code (Ok status)) ⊎ (code ≡ 6))
+      → IfOk r (λ status. code ≡ ended_code status (is_some new.kept.batch))
       → IfErr r (λ e. code ≡ exit_code (Err e)) → FromLog contents log last stop records o p code
   ended_from contents log read start last o p g (Ok end) cut stop old new records code begins run status fault =
       Ran read start old new begins end

@@ -14,6 +14,7 @@ pub mod Plain
 pub mod Logging
 pub mod LoggedRuns
 pub mod Restoring
+pub mod Refusing
 pub mod LogRecords
 pub mod FromLogs
 pub mod ReadInputs

@@ -19,7 +19,7 @@ use Rattle.olr_run.proofs.Sending.{faulted_sent, ran_sent, ran_unsent}
 use Rattle.std.specs.Prelude.{IfOk, OnOk, Ok, Err}
 use Rattle.olr_run.proofs.Logging.{logs_pass, logs_same, logs_settle, logs_longer, logs_renew, no_front, up_later, up_to_all}
 use Rattle.olr_sessions.specs.Buffers.{held, written}
-use Rattle.olr_sessions.specs.Gates.{Passes, ready, is_closed}
+use Rattle.olr_sessions.specs.Gates.{Compaction, Passes, ready, is_closed}
 use Rattle.olr_sessions.specs.KeptLines.{Waiting}
 use Rattle.olr_sessions.specs.Unkept.{waiting}
 use Rattle.olr_sessions.specs.LoggedRuns.{LogHappens}
@@ -102,6 +102,34 @@ module _ {S W J : Type 0} (left : S → List (List Field) → Type 0) (contents 
   log_sees a b (Cut front rest) h = passes_writes h.1.0 b.0.gate a.1 b.1 front h.1.2
   log_sees a b (Renewed records) h =
       (same_left left a.0.source b.0.source h.0, subst (λ (x : Buffered W). Keeps (written contents a.1) (written contents x)) (sym h.1) (Keeps-refl (written contents a.1)))
+
+  -- a log is replaced from the same length on
+  same_length : (a b : Logged S J × Buffered W) (e : Event) → Happens a e b → b.0.gate.renewed_from ≡ a.0.gate.renewed_from
+  same_length a b (Took fields) h = h.2.untouched.length ∙ ap (λ (c : Compaction). c.renewed_from) h.1.due
+  same_length a b Ended h = ap (λ (c : Compaction). c.renewed_from) h.0.due
+  same_length a b (Not_taken e) h = h.2.untouched.length ∙ ap (λ (c : Compaction). c.renewed_from) h.1.due
+  same_length a b Not_sent h = ap (λ (c : Compaction). c.renewed_from) h.1.due
+  same_length a b (Wrote text) h = ap (λ (c : Compaction). c.renewed_from) h.1.2.due ∙ h.1.1.untouched.length
+  same_length a b (Cut front rest) h = ap (λ (c : Compaction). c.renewed_from) h.1.2.due ∙ h.1.1.untouched.length
+  same_length a b (Renewed records) h = h.2.length
+
+  keeps_length : (es : List Event) (a b : Logged S J × Buffered W) → History Happens a es b →
+      b.0.gate.renewed_from ≡ a.0.gate.renewed_from
+  keeps_length [] a b h = ap (λ (m : Logged S J × Buffered W). m.0.gate.renewed_from) (sym h)
+  keeps_length (e ∷ es) a b h = keeps_length es h.0 b h.2 ∙ same_length a h.0 e h.1
+
+  pub run_length : (stop : Bool) (old new : Registered) (a b : Logged S J × Buffered W) (r : Result Status RunFault) →
+      IfOk r (RanIn Happens stop old a new b) → IfErr r (CutIn Happens stop old a new b) →
+      b.0.gate.renewed_from ≡ a.0.gate.renewed_from
+  run_length stop old new a b (Ok end) ran cut = keeps_length _ a b ran.history
+  run_length stop old new a b (Err e) ran cut = by_cut cut
+    where
+      by_cut : CutIn Happens stop old a new b e → b.0.gate.renewed_from ≡ a.0.gate.renewed_from
+      by_cut (In_taking of rs ws ds l k history answered) = keeps_length _ a b history
+      by_cut (runs.Not_sent is rs ws ds l k history answered) = keeps_length _ a b history
+      by_cut (Past_the_most is rs ws ds l k most r history answered) = keeps_length _ a b history
+      by_cut (No_text is rs ws ds l k r w history answered) = keeps_length _ a b history
+      by_cut (In_text is rs ws ds l k r front rest some history answered) = keeps_length _ a b history
 
   module _ (base : Known) (s : State) where
     abbrev Log : List (List Field) → List Outcome → State → List ℕ → Logged S J × Buffered W → Type 0

@@ -1,6 +1,6 @@
 -- Both inputs of a run, as they are read.
 use Rattle.olr_run.proofs.Common.{Known, Records, both_records, records_read, exit_code}
-use Rattle.std.proofs.Common.{◌≡◌, ℕ, Bool, true, false, [], Some, Err, refl, arith}
+use Rattle.std.proofs.Common.{◌≡◌, ℕ, Bool, true, false, [], Some, Err, refl, inr}
 use Rattle.sqlite_disk.specs.declared.Disk as disk
 use Rattle.olr_journal.specs.declared.folder.Folder as folder
 use Rattle.olr_journal.specs.declared.log_file.LogFile.{LogFile}
@@ -28,5 +28,4 @@ pub not_read : {D F : Type 0} {d : disk.Ghosts D} {f : folder.Ghosts F D} {W : T
     (log : LogFile D F d f) (stop : Bool) (records : Records) (o : Buffered W) (code : ℕ) →
     code ≡ exit_code (Err fault.Memory) → FromLog contents log log stop records o o code
 not_read contents log stop records o code e =
-    let is : code ≡ 4 = e in
-    Not_begun refl (omega (arith, is)) (omega (arith, is)) (unbegun_read log log refl (λ t left. left))
+    Not_begun refl false (inr e) (unbegun_read log log false refl (λ t left. left) (λ is. absurd (let never = is in cc)))

@@ -29,12 +29,12 @@ use Rattle.olr_sessions.specs.Sessions.{HasNone, TakesOne}
 use Rattle.olr_sessions.specs.declared.in_memory.InMemory.{InMemory}
 
 -- a state whose batch holds these changes
-abbrev holding : Content → List Change → State
+abbrev pub holding : Content → List Change → State
 holding c xs = record { content = c; batch = Some xs }
 
 -- ---- what an accepted command leads to
 
-make_leads : (c : Content) (xs : List Change) (x : Change) (t : State) → step (holding c xs) (Make x) ≡ Ok t →
+pub make_leads : (c : Content) (xs : List Change) (x : Change) (t : State) → step (holding c xs) (Make x) ≡ Ok t →
     (d : Content) × (with_change (after c xs) x ≡ Ok d) × (t ≡ holding c (xs ++ x ∷ []))
 make_leads c xs x t e = by_room (nat_le full (length xs)) (with_change (after c xs) x) refl refl
   where
@@ -55,7 +55,7 @@ commit_leads c xs n t e = by_count (not (length xs == n)) refl
 make_closed : (c d : Content) (x : Change) → with_change c x ≡ Ok d → step (closed c) (Make x) ≡ Ok (closed d)
 make_closed c d x e = rw e refl
 
-make_held : (c : Content) (ys : List Change) (d : Content) (x : Change) → nat_le full (length ys) ≡ false →
+pub make_held : (c : Content) (ys : List Change) (d : Content) (x : Change) → nat_le full (length ys) ≡ false →
     with_change (after c ys) x ≡ Ok d → step (holding c ys) (Make x) ≡ Ok (holding c (ys ++ x ∷ []))
 make_held c ys d x f e = rw (f, e) refl
 
@@ -77,7 +77,7 @@ loads_start l old start begins held place =
     }
 
 -- a state by its batch
-by_batch : (s : State) (xs : List Change) → s.batch ≡ Some xs → s ≡ holding s.content xs
+pub by_batch : (s : State) (xs : List Change) → s.batch ≡ Some xs → s ≡ holding s.content xs
 by_batch s xs e = λ i. record { content = s.content; batch = e i }
 
 -- the register's batch is accepted, and another opened

@@ -1,5 +1,6 @@
 -- How a run with a log in a file begins and ends.
 --     AreRecordsOf register text      the text has the records that build the content of the register
+--     is_rejected fault      a log is rejected for it
 --     BeginsWith own text c      what the text of a log says: of one that the program wrote, each record is a line as the
 --         program writes it
 --     Begins log read start register      a register and a log in which records can be kept, from a log that was opened
@@ -21,12 +22,22 @@ use Rattle.olr_run.specs.Logged.{closed, Leads, Survives}
 use Rattle.olr_run.specs.Logs.{Began}
 use Rattle.olr_run.specs.Output.{Claims}
 use Rattle.olr_run.specs.Restored.{IsContentOf}
+use Rattle.olr_run.specs.declared.starts.StartFault.{StartFault}
+use Rattle.olr_run.specs.declared.starts.StartFault.TheVariants as start
 use Rattle.olr_sessions.specs.Journals.{Only}
 use Rattle.olr_sessions.specs.Sessions.{Known}
 use Rattle.olr_sessions.specs.declared.buffered.Buffered.{Buffered}
 
 abbrev pub AreRecordsOf : Registered → List ℕ → Type 0
 AreRecordsOf register text = (c : Content) → Represents register.kept (closed c) → text ≡ concat (dump_lines c)
+
+-- a log is rejected for this fault, whatever memory there is
+abbrev pub is_rejected : StartFault → Bool
+is_rejected (start.Rejected at) = true
+is_rejected start.Open = true
+is_rejected (start.Unusable error) = false
+is_rejected start.TooMany = false
+is_rejected start.Memory = false
 
 abbrev pub BeginsWith : Bool → List ℕ → Content → Type 0
 BeginsWith true text c = Leads text c
@@ -46,12 +57,13 @@ module _ {D F : Type 0} {d : disk.Ghosts D} {f : folder.Ghosts F D} where
   abbrev pub BegunFrom : LogFile D F d f → LogFile D F d f → Registered → Type 0
   BegunFrom log start register = (read : LogFile D F d f) × Begins log read start register
 
-  -- a log from which no run began, since it could not be read or written, or a record is rejected
-  abbrev pub Unbegun : LogFile D F d f → LogFile D F d f → Type 0
-  Unbegun log last =
+  -- a log from which no run began, since it could not be read or written, or was rejected: then its records lead to no content
+  abbrev pub Unbegun : LogFile D F d f → LogFile D F d f → Bool → Type 0
+  Unbegun log last rejected =
       (read : LogFile D F d f) × (kept_of read ≡ kept_of log)
       × ((t : List ℕ) → left_of last t → left_of log t ⊎ (t ≡ kept_of log)
       ⊎ (is_clean read ≡ true → (c : Content) × IsContentOf (kept_of log) c × (t ≡ concat (dump_lines c))))
+      × (rejected ≡ true → is_clean read ≡ true → (c : Content) → IsContentOf (kept_of log) c → ⊥)
 
   module _ {W : Type 0} (contents : W → Known) where
     -- however it ended, each text that may be left of the log leads to the content after the first of the outcomes, and of the

@@ -4,7 +4,9 @@
 --     Steps old c new      the command is accepted
 --     Loads l s      the records so far lead to this state, and the register has its content once its own batch is accepted
 --     Loaded old c new      this command of a log is accepted
-use Rattle.std.specs.Prelude.{◌≡◌, ℕ, true, false, List, map, length, Option, Some, None, Ok, ⊤}
+--     is_rejection fault      a log is rejected for it, whatever memory there is
+--     Refuses l c, RefusesRecord l fields      this command of a log, or a record, is accepted in no state that the loader stands for
+use Rattle.std.specs.Prelude.{◌≡◌, ℕ, Bool, true, false, List, map, length, Option, Some, None, Ok, ⊤}
 use Rattle.std.specs.List.{AllByRecursion}
 use Rattle.olr_commands.specs.State.{Content, Change, Command, Make, Begin, Commit, State, start_state, step, after}
 use Rattle.olr_commands.specs.Dump.{steps}
@@ -18,6 +20,8 @@ use Rattle.olr_run.specs.Output.{records_of}
 use Rattle.olr_run.specs.declared.loader.Kind.{Kind}
 use Rattle.olr_run.specs.declared.loader.Kind.TheVariants as kind
 use Rattle.olr_run.specs.declared.loader.Loader.{Loader}
+use Rattle.olr_run.specs.declared.loader.RestoreFault.{RestoreFault}
+use Rattle.olr_run.specs.declared.loader.RestoreFault.TheVariants as restore
 
 pub record IsContentOf (text : List ℕ) (c : Content) : Type 0 where
   pub commands : List Command
@@ -54,6 +58,23 @@ Loaded old c new = (s : State) → Loads old s → (t : State) × (step s c ≡ 
 
 abbrev pub LoadsRecord : Loader → List Field → Loader → Type 0
 LoadsRecord old fields new = (c : Command) × (read fields ≡ Ok c) × IsKept c × Loaded old c new
+
+abbrev pub is_rejection : RestoreFault → Bool
+is_rejection restore.Memory = false
+is_rejection restore.TooMany = false
+is_rejection (restore.Rejected line) = true
+is_rejection restore.NoChange = true
+is_rejection restore.Open = true
+
+-- in no state that the register represents is the command accepted
+abbrev pub NeverSteps : Registered → Command → Type 0
+NeverSteps old c = (s : State) → Represents old.kept s → (t : State) → step s c ≡ Ok t → ⊥
+
+abbrev pub Refuses : Loader → Command → Type 0
+Refuses l c = (s : State) → Loads l s → (t : State) → step s c ≡ Ok t → ⊥
+
+abbrev pub RefusesRecord : Loader → List Field → Type 0
+RefusesRecord l fields = (c : Command) → read fields ≡ Ok c → IsKept c → Refuses l c
 
 abbrev pub IsChange : Command → Type 0
 IsChange c = (x : Change) × (c ≡ Make x)

@@ -4,8 +4,8 @@ ghost use Rattle.std.specs.Prelude.{◌≡◌, ◌≤◌, ◌⊎◌, ℕ, List, 
 ghost use Rattle.olr_arguments.specs.Opens.{Opens};
 ghost use Rattle.olr_arguments.specs.Options.{options_of};
 ghost use Rattle.olr_journal.specs.Logs.{kept_of, left_of};
-ghost use Rattle.olr_run.specs.ProgramEnds.{FromLog, LogEnds};
-ghost use Rattle.std.specs.Result.{result_ok};
+ghost use Rattle.olr_run.specs.LogEnds.{is_rejected};
+ghost use Rattle.olr_run.specs.ProgramEnds.{FromLog, LogEnds, UnbegunCode, UnopenedCode, ended_code};
 ghost use Rattle.olr_run.specs.Runs.{both_records, file_bytes};
 ghost use Rattle.olr_sessions.specs.Buffers.{held};
 ghost use Rattle.olr_sessions.specs.Statuses.{exit_code};
@@ -15,7 +15,7 @@ use crate::both::read_inputs;
 use crate::logged::run_with_log;
 use crate::starts::{RejectedRecord, StartFault, begin_with};
 use crate::streams::NO_FILE;
-use olr_arguments::{Options, WRONG_ARGUMENTS, compaction_length, open_file};
+use olr_arguments::{CompactionLength, Options, WRONG_ARGUMENTS, compaction_length, open_file};
 use olr_journal::{Folder, LogFile, OpenError};
 use olr_register::Register;
 use olr_sessions::{Buffered, LogFault, RunFault, Status, end_status, report_fault};
@@ -36,10 +36,13 @@ const OPEN_BATCH: u8 = 6;
 /// The exit status if another process uses the log.
 const IN_USE: u8 = 7;
 
+/// What is said of a log whose last run was cut off.
+const CUT_OFF: &str =
+    "; its last run was cut off, and replies may be missing: report has all answers";
+
 /// Reports why a log can't be opened, and returns the exit status.
 fn report_unopened<E: Write>(name: &str, error: OpenError, errors: &mut E) -> u8
-    ensures least { 2 ≤ result }
-    ensures bounded { result ≤ 7 }
+    ensures { UnopenedCode error result }
 {
     match error {
         OpenError::Missing => {
@@ -64,8 +67,7 @@ fn report_unopened<E: Write>(name: &str, error: OpenError, errors: &mut E) -> u8
 
 /// Reports why a log can't be used, and returns the exit status.
 fn report_unusable<E: Write>(name: &str, error: io::Error, errors: &mut E) -> u8
-    ensures least { 3 ≤ result }
-    ensures bounded { result ≤ 5 }
+    ensures { (result ≡ 3) ⊎ (result ≡ 4) }
 {
     if error.kind() == io::ErrorKind::OutOfMemory {
         return report_fault(RunFault::Memory, errors);
@@ -95,8 +97,7 @@ fn report_rejected<E: Write>(name: &str, rejected: RejectedRecord, errors: &mut 
 
 /// Reports why a run can't begin with a log, and returns the exit status.
 fn report_start<E: Write>(name: &str, fault: StartFault, errors: &mut E) -> u8
-    ensures least { 3 ≤ result }
-    ensures bounded { result ≤ 5 }
+    ensures { UnbegunCode (is_rejected fault) result }
 {
     match fault {
         StartFault::Unusable(error) => report_unusable(name, error, errors),
@@ -121,9 +122,9 @@ fn log_status<E: Write>(
     in_batch: bool,
     errors: &mut E,
 ) -> u8
-    ensures ended { IfOk ended (λ status. (result ≡ exit_code (Ok status)) ⊎ (result ≡ 6)) }
+    ensures ended { IfOk ended (λ status. result ≡ ended_code status in_batch) }
     ensures cut { IfErr ended (λ fault. result ≡ exit_code (Err fault)) }
-    ensures whole { result ≤ 1 → is_ok ended ≡ true }
+    ensures whole { (result ≤ 1) ⊎ (result ≡ 6) → is_ok ended ≡ true }
     ensures bounded { result ≤ 7 }
 {
     if let (Err(_), Some(fault)) = (ended, fault) {
@@ -143,13 +144,20 @@ fn plural(count: u64) -> &'static str {
     if count == 1 { "" } else { "s" }
 }
 
-/// Says with how many records and paths a run begins.
-fn report_begun<E: Write>(name: &str, records: u64, paths: usize, errors: &mut E) {
+/// Says with how many records and paths a run begins, and whether replies of the run before may be missing.
+fn report_begun<E: Write>(
+    name: &str,
+    records: u64,
+    paths: usize,
+    was_cut_off: bool,
+    errors: &mut E,
+) {
     let more_records = plural(records);
     let more_paths = plural(paths as u64);
+    let missing = if was_cut_off { CUT_OFF } else { "" };
     let _ = writeln!(
         errors,
-        "olr-keep: {name} has {records} record{more_records} and {paths} path{more_paths}"
+        "olr-keep: {name} has {records} record{more_records} and {paths} path{more_paths}{missing}"
     );
 }
 
@@ -158,7 +166,7 @@ fn report_begun<E: Write>(name: &str, records: u64, paths: usize, errors: &mut E
 struct Asked<'a> {
     name: &'a str,
     /// The least length of the log that is replaced by the records of the register.
-    renewed_from: usize,
+    from: CompactionLength,
     /// Whether to stop at the first rejected record.
     stop: bool,
 }
@@ -199,22 +207,23 @@ fn run_from_log<
         (both_records (file_bytes F.remaining file) (R.remaining input))
         output.old output.new result.0 }
     ensures bounded { result.0 ≤ 7 }
-    ensures sent { result.0 ≤ 1 → held output.new ≡ [] }
+    ensures sent { (result.0 ≤ 1) ⊎ (result.0 ≡ 6) → held output.new ≡ [] }
     ensures lacks { length (held output.new) ≤ most_held }
 {
     let mut log = log;
-    let (mut register, records) = match begin_with(alloc, &mut log) {
+    let was_cut_off = log.is_padded();
+    let (mut register, records) = match begin_with(alloc, &mut log, asked.from) {
         Ok(begun) => begun,
         Err(fault) => return (report_start(asked.name, fault, errors), log),
     };
-    report_begun(asked.name, records, register.len(), errors);
+    report_begun(asked.name, records, register.len(), was_cut_off, errors);
     let (ended, gate) = run_with_log(
         alloc,
         &mut register,
         file,
         input,
         log,
-        asked.renewed_from,
+        asked.from,
         output,
         asked.stop,
     );
@@ -244,10 +253,10 @@ pub fn with_log<
     errors: &mut E,
 ) -> (u8, Option<LogFile<D, G>>)
     requires { O.IsAlwaysCallable opener }
-    ensures ends { LogEnds W.contents (Opens O.FnOnce F.remaining opener) (result_ok log) (R.remaining input) output.old
+    ensures ends { LogEnds W.contents (Opens O.FnOnce F.remaining opener) log (R.remaining input) output.old
         output.new (options_of asked.now) result.1 result.0 }
     ensures bounded { result.0 ≤ 7 }
-    ensures sent { result.0 ≤ 1 → held output.new ≡ [] }
+    ensures sent { (result.0 ≤ 1) ⊎ (result.0 ≡ 6) → held output.new ≡ [] }
     ensures lacks { length (held output.new) ≤ most_held }
 {
     let name = asked.log.unwrap_or("the log");
@@ -255,7 +264,7 @@ pub fn with_log<
         let _ = errors.write_all(b"olr-keep: cannot open the command file\n");
         return (NO_FILE, log.ok());
     };
-    let Some(renewed_from) = compaction_length(asked.compact_at) else {
+    let Some(from) = compaction_length(asked.compact_at) else {
         let _ = errors.write_all(
             b"olr-keep: --compact-at takes bytes, or a number with K, M or G, as 500M\n",
         );
@@ -267,7 +276,7 @@ pub fn with_log<
     };
     let run = Asked {
         name,
-        renewed_from,
+        from,
         stop: asked.stop,
     };
     let Ok((file, input)) = read_inputs(alloc, file, input, asked.lines) else {

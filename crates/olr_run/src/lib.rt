@@ -13,7 +13,7 @@ mod streams;
 pub use both::run_both;
 pub use loader::{RestoreFault, restore};
 pub use logged::run_with_log;
-pub use olr_arguments::WRONG_ARGUMENTS;
+pub use olr_arguments::{CompactionLength, WRONG_ARGUMENTS, compaction_length};
 pub use olr_sessions::{
     Buffered, Gate, Journal, LogFault, RunFault, Session, Status, exit_code, report_fault,
 };

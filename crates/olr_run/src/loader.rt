@@ -1,13 +1,14 @@
 //! A start from a log.
 
-ghost use Rattle.std.specs.Prelude.{◌≡◌, ◌<◌, IfOk, OnOk};
+ghost use Rattle.std.specs.Prelude.{◌≡◌, ◌<◌, ◌≤◌, true, IfOk, IfErr, OnOk};
 ghost use Rattle.csv.specs.Records.{fields_of};
 ghost use Rattle.olr_commands.specs.State as state;
 ghost use Rattle.olr_commands.specs.State.{start_state, Content, Begin, Commit};
-ghost use Rattle.olr_commands.specs.Words.{command_of};
+ghost use Rattle.olr_commands.specs.Words.{command_of, command_fault_of};
 ghost use Rattle.olr_register.specs.RegisterState.{Represents};
 ghost use Rattle.olr_run.specs.Logged.{closed, IsKept, Leads};
-ghost use Rattle.olr_run.specs.Restored.{IsChange, IsContentOf, Loaded, Loads, LoadsRecord, Steps, kind_by};
+ghost use Rattle.olr_run.specs.Restored.{IsChange, IsContentOf, Loaded, Loads, LoadsRecord, NeverSteps, Refuses, RefusesRecord, Steps, is_rejection, kind_by};
+ghost use Rattle.olr_run.specs.declared.loader.RestoreFault.TheVariants as restore;
 
 use csv::ByteRecord;
 use olr_commands::{Command, CommandFault};
@@ -19,6 +20,9 @@ use thiserror::Error;
 
 /// The greatest number of changes in a batch.
 const FULL: u32 = 100_000;
+
+/// The same of the register's own batch while it has no path. A large one costs more for each change, and saves encodings alone.
+const FULL_WITHOUT_PATHS: u32 = 1_000;
 
 /// The greatest number of records of a log, 2^40.
 const MOST_RECORDS: u64 = 1 << 40;
@@ -44,6 +48,8 @@ pub enum RestoreFault {
 }
 
 impl From<RunFault> for RestoreFault {
+    ghost from_gives = { λ _ e. e ≡ restore.Memory };
+
     /// Bytes in memory can only lack memory.
     fn from(_fault: RunFault) -> RestoreFault {
         RestoreFault::Memory
@@ -69,11 +75,14 @@ fn rejected(fault: CommandFault) -> RestoreFault {
 }
 
 /// The fault of a rejected command of a log.
-fn restore_fault(fault: CommandFault) -> RestoreFault {
-    match fault {
-        CommandFault::Memory => RestoreFault::Memory,
-        _ => rejected(fault),
+fn restore_fault(fault: CommandFault) -> RestoreFault
+    ensures { is_rejection result ≡ true → command_fault_of fault ≡ state.Memory → ⊥ }
+{
+    let line = fault_text(fault);
+    if line == fault_text(CommandFault::Memory) {
+        return RestoreFault::Memory;
     }
+    RestoreFault::Rejected(line)
 }
 
 /// What a command is to a log.
@@ -103,7 +112,8 @@ fn kind_of(command: &Command) -> Kind
 
 /// Carries out a command, which has to be accepted.
 fn apply(register: &mut Register, command: Command) -> Result<(), RestoreFault>
-    ensures { OnOk result (Steps register.old (command_of command) register.new) }
+    ensures steps { OnOk result (Steps register.old (command_of command) register.new) }
+    ensures refused { IfErr result (λ e. is_rejection e ≡ true → NeverSteps register.old (command_of command)) }
 {
     match register.apply(command) {
         Ok(reply) => {
@@ -117,7 +127,8 @@ fn apply(register: &mut Register, command: Command) -> Result<(), RestoreFault>
 impl Loader {
     /// Before the first record.
     fn new(alloc: Global) -> Result<Loader, RestoreFault>
-        ensures { IfOk result (λ l. Loads l start_state) }
+        ensures loads { IfOk result (λ l. Loads l start_state) }
+        ensures fails { IfErr result (λ e. is_rejection e ≡ true → ⊥) }
     {
         let mut register = Register::new(alloc);
         apply(&mut register, Command::Begin)?;
@@ -133,6 +144,7 @@ impl Loader {
     fn renew(&mut self) -> Result<(), RestoreFault>
         ensures loads { OnOk result ((s : state.State) → Loads self.old s → Loads self.new s) }
         ensures held { OnOk result (self.new.held ≡ 0) }
+        ensures fails { IfErr result (λ e. (s : state.State) → Loads self.old s → is_rejection e ≡ true → ⊥) }
     {
         apply(&mut self.register, Command::Commit(self.held))?;
         apply(&mut self.register, Command::Begin)?;
@@ -144,7 +156,8 @@ impl Loader {
     fn make(&mut self, command: Command) -> Result<(), RestoreFault>
         requires change { IsChange (command_of command) }
         requires room { self.old.held < 100000 }
-        ensures { OnOk result (Loaded self.old (command_of command) self.new) }
+        ensures loaded { OnOk result (Loaded self.old (command_of command) self.new) }
+        ensures refused { IfErr result (λ e. is_rejection e ≡ true → Refuses self.old (command_of command)) }
     {
         if !self.in_batch {
             apply(&mut self.register, command)?;
@@ -160,12 +173,23 @@ impl Loader {
         Ok(())
     }
 
+    /// How many changes the register's batch may hold.
+    fn most_held(&self) -> u32
+        ensures { result ≤ 100000 }
+    {
+        if self.register.is_empty() {
+            return FULL_WITHOUT_PATHS;
+        }
+        FULL
+    }
+
     /// Makes a change. A full batch of the register is accepted first.
     fn change(&mut self, command: Command) -> Result<(), RestoreFault>
         requires { IsChange (command_of command) }
-        ensures { OnOk result (Loaded self.old (command_of command) self.new) }
+        ensures loaded { OnOk result (Loaded self.old (command_of command) self.new) }
+        ensures refused { IfErr result (λ e. is_rejection e ≡ true → Refuses self.old (command_of command)) }
     {
-        if self.held < FULL {
+        if self.held < self.most_held() {
             return self.make(command);
         }
         self.renew()?;
@@ -174,7 +198,8 @@ impl Loader {
 
     /// A batch of the log begins.
     fn begin(&mut self) -> Result<(), RestoreFault>
-        ensures { OnOk result (Loaded self.old Begin self.new) }
+        ensures loaded { OnOk result (Loaded self.old Begin self.new) }
+        ensures refused { IfErr result (λ e. is_rejection e ≡ true → Refuses self.old Begin) }
     {
         if self.in_batch {
             return Err(rejected(CommandFault::BatchOpen));
@@ -186,7 +211,8 @@ impl Loader {
 
     /// A batch of the log ends.
     fn commit(&mut self, count: u32) -> Result<(), RestoreFault>
-        ensures { OnOk result (Loaded self.old (Commit count) self.new) }
+        ensures loaded { OnOk result (Loaded self.old (Commit count) self.new) }
+        ensures refused { IfErr result (λ e. is_rejection e ≡ true → Refuses self.old (Commit count)) }
     {
         if !self.in_batch {
             return Err(rejected(CommandFault::NoBatch));
@@ -200,7 +226,9 @@ impl Loader {
 
     /// Carries out a command of a log.
     fn carry_out(&mut self, command: Command) -> Result<(), RestoreFault>
-        ensures { OnOk result (IsKept (command_of command) × Loaded self.old (command_of command) self.new) }
+        ensures loaded { OnOk result (IsKept (command_of command) × Loaded self.old (command_of command) self.new) }
+        ensures refused { IfErr result (λ e. is_rejection e ≡ true
+            → IsKept (command_of command) → Refuses self.old (command_of command)) }
     {
         match kind_of(&command) {
             Kind::Change => self.change(command),
@@ -212,7 +240,8 @@ impl Loader {
 
     /// Carries out the command of a record.
     fn take(&mut self, alloc: Global, fields: &ByteRecord) -> Result<(), RestoreFault>
-        ensures { OnOk result (LoadsRecord self.old (fields_of fields.now) self.new) }
+        ensures loads { OnOk result (LoadsRecord self.old (fields_of fields.now) self.new) }
+        ensures refused { IfErr result (λ e. is_rejection e ≡ true → RefusesRecord self.old (fields_of fields.now)) }
     {
         match read_command(alloc, fields) {
             Ok(command) => self.carry_out(command),
@@ -223,8 +252,10 @@ impl Loader {
 
     /// The register, once all records were taken.
     fn finish(self) -> Result<Register, RestoreFault>
-        ensures { IfOk result (λ r. (s : state.State) → Loads self s
+        ensures finished { IfOk result (λ r. (s : state.State) → Loads self s
             → (c : Content) × (s ≡ closed c) × Represents r.kept (closed c)) }
+        ensures refused { IfErr result (λ e. is_rejection e ≡ true
+            → (s : state.State) → Loads self s → (c : Content) → s ≡ closed c → ⊥) }
     {
         let Loader {
             mut register,
@@ -261,10 +292,12 @@ impl Progress {
 
 /// The register with the content of a log: that to which its records lead from the empty register, each accepted, with no
 /// batch open at the end. `count` has the number of records that were taken: after a fault, the number of the record that
-/// is rejected. A log holds changes, `begin` and `commit`, and no other records.
+/// is rejected. A log holds changes, `begin` and `commit`, and no other records. One that leads to a content is rejected only out
+/// of memory, or if it has more than 2^40 records.
 pub fn restore(alloc: Global, text: &[u8], count: &mut u64) -> Result<Register, RestoreFault>
     ensures content { IfOk result (λ r. (c : Content) × IsContentOf text.now c × Represents r.kept (closed c)) }
     ensures leads { IfOk result (λ r. (c : Content) → Leads text.now c → Represents r.kept (closed c)) }
+    ensures refused { IfErr result (λ e. is_rejection e ≡ true → (c : Content) → IsContentOf text.now c → ⊥) }
 {
     let mut progress = Progress::none();
     let restored = restore_noting(alloc, text, &mut progress);
@@ -280,6 +313,7 @@ pub(crate) fn restore_noting(
 ) -> Result<Register, RestoreFault>
     ensures content { IfOk result (λ r. (c : Content) × IsContentOf text.now c × Represents r.kept (closed c)) }
     ensures leads { IfOk result (λ r. (c : Content) → Leads text.now c → Represents r.kept (closed c)) }
+    ensures refused { IfErr result (λ e. is_rejection e ≡ true → (c : Content) → IsContentOf text.now c → ⊥) }
 {
     let mut loader = Loader::new(alloc)?;
     let mut records = InMemory::new(alloc, text);

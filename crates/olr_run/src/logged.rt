@@ -4,9 +4,11 @@ ghost use Rattle.std.specs.Prelude.{◌≡◌, ◌⊎◌, [], IfOk, IfErr, OnOk}
 ghost use Rattle.olr_run.specs.Logs.{LoggedOn, LastsWhole, LastsCut};
 ghost use Rattle.olr_run.specs.Runs.{both_records, file_bytes, input_records, once_sent, EndedOn, HasTooMany};
 ghost use Rattle.olr_sessions.specs.Buffers.{held, written};
+ghost use Rattle.olr_sessions.specs.Gates.{compaction};
 
 use crate::both::greater_of;
 use crate::records::run_session;
+use olr_arguments::CompactionLength;
 use olr_register::Register;
 use olr_sessions::{Buffered, Gate, Journal, Logged, Records, RunFault, Status};
 use std::alloc::Global;
@@ -25,6 +27,7 @@ fn run_logged<R: Read + Drop, W: Write + Drop, J: Journal + Drop>(
     ensures ended { LoggedOn J.kept J.may_leave W.contents gate output.old result.1 output.new stop register.old
         (input_records (file_bytes R.remaining input)) register.new result.0 }
     ensures too_many { IfErr result.0 (λ e. e ≡ RunFault.TooMany → HasTooMany (input_records (file_bytes R.remaining input))) }
+    ensures length { (compaction result.1).renewed_from ≡ (compaction gate).renewed_from }
 {
     register.is_sound();
     let Some(input) = input else {
@@ -52,6 +55,7 @@ fn run_both_logged<F: Read + Drop, R: Read + Drop, W: Write + Drop, J: Journal +
         (both_records (file_bytes F.remaining file) (R.remaining input)) register.new result.0 }
     ensures too_many { IfErr result.0 (λ e. e ≡ RunFault.TooMany
         → HasTooMany (input_records (file_bytes F.remaining file)) ⊎ HasTooMany (input_records (R.remaining input))) }
+    ensures length { (compaction result.1).renewed_from ≡ (compaction gate).renewed_from }
 {
     register.is_sound();
     let (ended, gate) = run_logged(alloc, register, file, gate, output, stop);
@@ -82,10 +86,9 @@ fn end_sent(ended: Result<Status, RunFault>, sent: Result<(), RunFault>) -> Resu
 
 /// Runs the records of a file, if there is one, and then those of the input, as `run_both` does, with a log that leads to
 /// the content of the register. Each accepted change is kept in the log before its answer is sent, a batch as a whole at
-/// its commit; rejected records, questions and dropped batches are not kept. Where no batch is open, a log that has
-/// `renewed_from` bytes, and twice as many as after the last time, is replaced by the records of the register, and so is one
-/// of any length when a record asks for it. So whenever the run ends, and for whatever
-/// reason, what is left of the log leads to the content after the records up to some record, and of the answers to later
+/// its commit; rejected records, questions and dropped batches are not kept. Where no batch is open, a log that has the
+/// length `from`, and twice as many bytes as after the last time, is replaced by the records of the register, and so is one
+/// of any length when a record asks for it. So whenever the run ends, and for whatever reason, what is left of the log leads to the content after the records up to some record, and of the answers to later
 /// ones nothing was sent. After a run that was not cut off the log leads to the content at its end. The answers are sent
 /// at the end, if the log and the output can still be written; the gate, which has the log, says what went wrong with it.
 pub fn run_with_log<F: Read + Drop, R: Read + Drop, W: Write + Drop, J: Journal + Drop>(
@@ -94,7 +97,7 @@ pub fn run_with_log<F: Read + Drop, R: Read + Drop, W: Write + Drop, J: Journal 
     file: Option<F>,
     input: R,
     journal: J,
-    renewed_from: usize,
+    from: CompactionLength,
     output: &mut Buffered<W>,
     stop: bool,
 ) -> (Result<Status, RunFault>, Gate<J>)
@@ -105,9 +108,10 @@ pub fn run_with_log<F: Read + Drop, R: Read + Drop, W: Write + Drop, J: Journal 
     ensures too_many { IfErr result.0 (λ e. e ≡ RunFault.TooMany
         → HasTooMany (input_records (file_bytes F.remaining file)) ⊎ HasTooMany (input_records (R.remaining input))) }
     ensures sent { OnOk result.0 (held output.new ≡ []) }
+    ensures length { (compaction result.1).renewed_from ≡ from.bytes }
 {
     register.is_sound();
-    let gate = Gate::new(alloc, journal, renewed_from);
+    let gate = Gate::new(alloc, journal, from.get());
     let (ended, mut gate) = run_both_logged(alloc, register, file, input, gate, output, stop);
     let sent = gate.send(output);
     (end_sent(ended, sent), gate)

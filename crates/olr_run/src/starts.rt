@@ -1,16 +1,17 @@
 //! A start from a log in a file.
 
-ghost use Rattle.std.specs.Prelude.{◌≡◌, ◌⊎◌, true, false, ℕ, List, IfOk, OnOk, OnErr};
+ghost use Rattle.std.specs.Prelude.{◌≡◌, ◌⊎◌, true, false, ℕ, List, IfOk, IfErr, OnOk};
 ghost use Rattle.olr_commands.specs.State.{Content};
 ghost use Rattle.olr_journal.specs.Logs.{kept_of, left_of, is_own_of, is_clean};
 ghost use Rattle.olr_register.specs.RegisterState.{Represents};
 ghost use Rattle.olr_run.specs.Logged.{closed, Leads};
-ghost use Rattle.olr_run.specs.LogEnds.{AreRecordsOf, BegunFrom, Unbegun};
-ghost use Rattle.olr_run.specs.Restored.{IsContentOf};
+ghost use Rattle.olr_run.specs.LogEnds.{AreRecordsOf, BegunFrom, Unbegun, is_rejected};
+ghost use Rattle.olr_run.specs.Restored.{IsContentOf, is_rejection};
 ghost use Rattle.olr_sessions.specs.Journals.{Only};
 
 use crate::answers::records_text;
 use crate::loader::{Progress, RestoreFault, restore_noting};
+use olr_arguments::CompactionLength;
 use olr_journal::{Folder, LogFile};
 use olr_register::Register;
 use olr_sessions::{Journal, is_whole};
@@ -45,7 +46,9 @@ pub enum StartFault {
 }
 
 /// The fault of a call on a log that failed.
-fn log_fault(error: io::Error) -> StartFault {
+fn log_fault(error: io::Error) -> StartFault
+    ensures { is_rejected result ≡ false }
+{
     if error.kind() == io::ErrorKind::OutOfMemory {
         return StartFault::Memory;
     }
@@ -53,7 +56,9 @@ fn log_fault(error: io::Error) -> StartFault {
 }
 
 /// The fault of a log whose records can't be carried out, at this record on this line.
-fn records_fault(fault: RestoreFault, record: u64, line: u64) -> StartFault {
+fn records_fault(fault: RestoreFault, record: u64, line: u64) -> StartFault
+    ensures { is_rejected result ≡ is_rejection fault }
+{
     match fault {
         RestoreFault::Memory => StartFault::Memory,
         RestoreFault::Rejected(fault) => StartFault::Rejected(RejectedRecord {
@@ -97,6 +102,8 @@ fn read_log<D: Disk + Drop, G: Folder<D>>(
         → (c : Content) × IsContentOf (kept_of log.old) c × Represents r.0.kept (closed c)) }
     ensures leads { IfOk result (λ r. is_clean log.new ≡ true
         → (c : Content) → Leads (kept_of log.old) c → Represents r.0.kept (closed c)) }
+    ensures refused { IfErr result (λ e. is_rejected e ≡ true → is_clean log.new ≡ true
+        → (c : Content) → IsContentOf (kept_of log.old) c → ⊥) }
     ensures kept { kept_of log.new ≡ kept_of log.old }
     ensures own { is_own_of log.new ≡ is_own_of log.old }
     ensures less { (t : List ℕ) → left_of log.new t → left_of log.old t }
@@ -117,6 +124,30 @@ fn read_log<D: Disk + Drop, G: Folder<D>>(
     }
 }
 
+/// Puts the records of the register in the place of a log. Returns false if that failed, and the log is as it was.
+fn put_records<D: Disk + Drop, G: Folder<D>>(
+    log: &mut LogFile<D, G>,
+    register: &Register,
+) -> Result<bool, StartFault>
+    ensures kept { IfOk result (λ done. done ≡ true → AreRecordsOf register.now (kept_of log.new)) }
+    ensures left { IfOk result (λ done. done ≡ false → kept_of log.new ≡ kept_of log.old) }
+    ensures own { IfOk result (λ done. done ≡ false → is_own_of log.new ≡ is_own_of log.old) }
+    ensures durable { Only (kept_of log.old) (left_of log.old) → OnOk result (Only (kept_of log.new) (left_of log.new)) }
+    ensures cut { (t : List ℕ) → left_of log.new t → left_of log.old t ⊎ AreRecordsOf register.now t }
+    ensures fails { IfErr result (λ e. is_rejected e ≡ false) }
+{
+    let Ok(text) = records_text(register) else {
+        return Ok(false);
+    };
+    if !is_whole(text.as_slice()) {
+        return Ok(false);
+    }
+    match log.replace(text.as_slice()) {
+        Ok(done) => Ok(done),
+        Err(error) => Err(log_fault(error)),
+    }
+}
+
 /// Puts the records of the register in the place of a log that the program didn't write.
 fn rewrite<D: Disk + Drop, G: Folder<D>>(
     log: &mut LogFile<D, G>,
@@ -125,55 +156,89 @@ fn rewrite<D: Disk + Drop, G: Folder<D>>(
     ensures kept { OnOk result (AreRecordsOf register.now (kept_of log.new)) }
     ensures durable { Only (kept_of log.old) (left_of log.old) → OnOk result (Only (kept_of log.new) (left_of log.new)) }
     ensures cut { (t : List ℕ) → left_of log.new t → left_of log.old t ⊎ AreRecordsOf register.now t }
+    ensures fails { IfErr result (λ e. is_rejected e ≡ false) }
 {
-    let Ok(text) = records_text(register) else {
-        return Err(StartFault::Memory);
-    };
-    if !is_whole(text.as_slice()) {
-        return Err(StartFault::Open);
+    let is_done = put_records(log, register)?;
+    if is_done {
+        return Ok(());
     }
-    match log.replace(text.as_slice()) {
-        Ok(true) => Ok(()),
-        Ok(false) => match log.refusal() {
-            Some(error) => Err(log_fault(error)),
-            None => Err(StartFault::Memory),
-        },
-        Err(error) => Err(log_fault(error)),
+    match log.refusal() {
+        Some(error) => Err(log_fault(error)),
+        None => Err(StartFault::Memory),
     }
 }
 
-/// Brings a log, from which the register was read, into the form in which records can be kept: what stands behind the
-/// program's own text is overwritten, and another file is replaced by the records of the register.
-fn prepare_log<D: Disk + Drop, G: Folder<D>>(
-    log: &mut LogFile<D, G>,
-    register: &Register,
-) -> Result<(), StartFault>
-    ensures own { is_own_of log.old ≡ true → OnOk result (is_clean log.new ≡ true → kept_of log.new ≡ kept_of log.old) }
-    ensures foreign { is_own_of log.old ≡ false → OnOk result (AreRecordsOf register.now (kept_of log.new)) }
+/// Overwrites what stands behind the text of the program's own log.
+fn settle<D: Disk + Drop, G: Folder<D>>(log: &mut LogFile<D, G>) -> Result<(), StartFault>
+    ensures kept { OnOk result (is_clean log.new ≡ true → kept_of log.new ≡ kept_of log.old) }
     ensures durable { Only (kept_of log.old) (left_of log.old) → OnOk result (Only (kept_of log.new) (left_of log.new)) }
-    ensures cut { (t : List ℕ) → left_of log.new t
-        → left_of log.old t ⊎ (t ≡ kept_of log.old) ⊎ AreRecordsOf register.now t }
+    ensures cut { (t : List ℕ) → left_of log.new t → left_of log.old t ⊎ (t ≡ kept_of log.old) }
+    ensures fails { IfErr result (λ e. is_rejected e ≡ false) }
 {
-    if !log.is_own() {
-        return rewrite(log, register);
-    }
     match log.settle() {
         Ok(()) => Ok(()),
         Err(error) => Err(log_fault(error)),
     }
 }
 
+/// Puts the records of the register in the place of the program's own log, which is due. If that fails, that is said, and the
+/// log is used as it is.
+fn compact<D: Disk + Drop, G: Folder<D>>(
+    log: &mut LogFile<D, G>,
+    register: &Register,
+) -> Result<(), StartFault>
+    ensures kept { OnOk result (is_clean log.new ≡ true
+        → (kept_of log.new ≡ kept_of log.old) ⊎ AreRecordsOf register.now (kept_of log.new)) }
+    ensures durable { Only (kept_of log.old) (left_of log.old) → OnOk result (Only (kept_of log.new) (left_of log.new)) }
+    ensures cut { (t : List ℕ) → left_of log.new t
+        → left_of log.old t ⊎ (t ≡ kept_of log.old) ⊎ AreRecordsOf register.now t }
+    ensures fails { IfErr result (λ e. is_rejected e ≡ false) }
+{
+    let is_done = put_records(log, register)?;
+    if is_done {
+        return Ok(());
+    }
+    log.report_unreplaced(log.refusal().is_some());
+    settle(log)
+}
+
+/// Brings a log, from which the register was read, into the form in which records can be kept: what stands behind the
+/// program's own text is overwritten; that text is replaced by the records of the register if it has the length from which on
+/// it is compacted, and so is another file.
+fn prepare_log<D: Disk + Drop, G: Folder<D>>(
+    log: &mut LogFile<D, G>,
+    register: &Register,
+    from: CompactionLength,
+) -> Result<(), StartFault>
+    ensures own { OnOk result (is_own_of log.old ≡ true → is_clean log.new ≡ true
+        → (kept_of log.new ≡ kept_of log.old) ⊎ AreRecordsOf register.now (kept_of log.new)) }
+    ensures foreign { OnOk result (is_own_of log.old ≡ false → AreRecordsOf register.now (kept_of log.new)) }
+    ensures durable { Only (kept_of log.old) (left_of log.old) → OnOk result (Only (kept_of log.new) (left_of log.new)) }
+    ensures cut { (t : List ℕ) → left_of log.new t
+        → left_of log.old t ⊎ (t ≡ kept_of log.old) ⊎ AreRecordsOf register.now t }
+    ensures fails { IfErr result (λ e. is_rejected e ≡ false) }
+{
+    if !log.is_own() {
+        return rewrite(log, register);
+    }
+    if log.len() >= from.get() {
+        return compact(log, register);
+    }
+    settle(log)
+}
+
 /// Begins with a log that was opened. Returns the register with the log's content, and the number of the log's records. From
-/// then on records can be kept in the log.
+/// then on records can be kept in the log, which has been compacted if it had the length `from`.
 pub fn begin_with<D: Disk + Drop, G: Folder<D>>(
     alloc: Global,
     log: &mut LogFile<D, G>,
+    from: CompactionLength,
 ) -> Result<(Register, u64), StartFault>
     ensures begun { IfOk result (λ r. BegunFrom log.old log.new r.0) }
-    ensures unbegun { OnErr result (Unbegun log.old log.new) }
+    ensures unbegun { IfErr result (λ e. Unbegun log.old log.new (is_rejected e)) }
 {
     let (register, records) = read_log(alloc, log)?;
     register.is_sound();
-    prepare_log(log, &register)?;
+    prepare_log(log, &register, from)?;
     Ok((register, records))
 }

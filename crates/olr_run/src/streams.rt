@@ -1,13 +1,12 @@
 //! The program, over any streams and any way to open the command file.
 
-ghost use Rattle.std.specs.Prelude.{◌≡◌, ◌≢◌, ◌≤◌, ℕ, List, [], length, map, OnOk};
+ghost use Rattle.std.specs.Prelude.{◌≡◌, ◌≢◌, ◌≤◌, ◌⊎◌, ℕ, List, [], length, map, OnOk};
 ghost use Rattle.clap.specs.Faults.{fault_of};
 ghost use Rattle.olr_arguments.specs.Opens.{Opens};
 ghost use Rattle.olr_arguments.specs.Options.{keep_app, options, options_of};
 ghost use Rattle.olr_register.specs.Registered.{Registered, nothing_registered};
 ghost use Rattle.olr_run.specs.Ends.{Ends, SendsAnswers, is_about_log};
 ghost use Rattle.olr_run.specs.ProgramEnds.{ProgramEnds};
-ghost use Rattle.std.specs.Result.{result_ok};
 ghost use Rattle.olr_sessions.specs.Buffers.{held, written};
 ghost use Rattle.olr_sessions.specs.Sessions.{most_held};
 
@@ -158,8 +157,8 @@ pub fn run_program_with_log<
     requires { O.IsAlwaysCallable opener }
     ensures bounded { result.0 ≤ 7 }
     ensures ends { ProgramEnds W.contents (map S.text arguments.now) (Opens O.FnOnce F.remaining opener)
-        (result_ok log) (R.remaining input) output.old output.new result.1 result.0 }
-    ensures sent { result.0 ≤ 1 → held output.new ≡ [] }
+        log (R.remaining input) output.old output.new result.1 result.0 }
+    ensures sent { (result.0 ≤ 1) ⊎ (result.0 ≡ 6) → held output.new ≡ [] }
     ensures lacks { length (held output.new) ≤ most_held }
 {
     match options(alloc, arguments) {

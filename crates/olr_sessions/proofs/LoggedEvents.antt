@@ -36,7 +36,11 @@ module _ {S W J : Type 0} (left : S → List (List (List ℕ)) → Type 0) (cont
   not_lost : (g h : Gate J) → h ≡ g → LostLine g h
   not_lost g h is =
       record {
-        untouched = record { journal = ap (λ (x : Gate J). x.journal) is; fault = ap (λ (x : Gate J). x.fault) is };
+        untouched = record {
+          journal = ap (λ (x : Gate J). x.journal) is;
+          fault = ap (λ (x : Gate J). x.fault) is;
+          length = ap (λ (x : Gate J). x.renewed_from) is;
+        };
         waits = ap (λ (x : Gate J). waiting x.unkept) is;
       }
 

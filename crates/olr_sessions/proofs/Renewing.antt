@@ -10,7 +10,7 @@ module _ {J : Type 0} (kept : J → List ℕ) (may_leave : J → List ℕ → Ty
   -- nothing was done
   pub renews_none : (g : Gate J) (records : List ℕ) → Renews kept may_leave g records g
   renews_none g records =
-      record { cut = λ c h. inl h; going = λ open_now. (open_now, Left_as_it_was refl (λ only. only) refl) }
+      record { cut = λ c h. inl h; going = λ open_now. (open_now, Left_as_it_was refl (λ only. only) refl); length = refl }
 
   renewal_on : (g h k : Gate J) (records : List ℕ) → k.journal ≡ h.journal → k.unkept ≡ h.unkept →
       Renewal kept may_leave g records h → Renewal kept may_leave g records k
@@ -28,4 +28,5 @@ module _ {J : Type 0} (kept : J → List ℕ) (may_leave : J → List ℕ → Ty
         cut = λ c left. a.cut c (subst (λ (x : J). may_leave x c) t.journal left);
         going = λ open_now.
             let b = a.going (ap is_some (sym t.fault) ∙ open_now) in (b.0, renewal_on g h k records t.journal u b.1);
+        length = t.length ∙ a.length;
       }

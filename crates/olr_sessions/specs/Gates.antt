@@ -3,13 +3,14 @@
 --     Passes g o h p text      a text was written: of what was held back before, and of the text, the first bytes were sent,
 --         and the rest is held back
 --     PassesSome, PassesAll      the first bytes of a text were written; or all of it
---     Untouched g h      nothing happened to the log
+--     Untouched g h      nothing happened to the log, and it is replaced from the same length on
 --     SettledBy u accepted v      the record whose line was taken last was accepted or rejected
 --     Renews g records h      these records were given, to be kept in the place of the log
 --     TookLine g fields h, LostLine g h      the line of a record was taken, or could not be
 --     compaction g      when the log is replaced by the records of what is accepted
 --     asks g      whether these records are asked for
 --     is_due len accepted effect c      whether they are wanted after a record of this effect
+--     first_from len least      the length from which on a log of so many bytes is replaced first
 --     put_off len c      the same after they were given, or could not be: the next time, the log has twice its length
 use Rattle.std.specs.Prelude.{◌≡◌, ◌≢◌, ◌≤◌, ◌*◌, ◌-◌, ◌^◌, ℕ, min, max, nat_le, Bool, true, false, not, ◌&&◌, ◌||◌}
 use Rattle.std.specs.Prelude.{if◌then◌else◌, List, [], ◌++◌, take, length, is_some}
@@ -66,6 +67,11 @@ settled_compaction len accepted effect c =
 abbrev pub twice : ℕ → ℕ → ℕ
 twice len least = max (min (len * 2) (2 ^ 64 - 1)) least
 
+-- the length from which on a log of so many bytes is replaced: one that has the least length already was replaced at the start, or
+-- could not be
+abbrev pub first_from : ℕ → ℕ → ℕ
+first_from len least = if nat_le least len then twice len least else least
+
 -- after the records were given, or could not be
 abbrev pub put_off : ℕ → Compaction → Compaction
 put_off len c =
@@ -80,6 +86,7 @@ compaction_taking size g = if asks g then put_off (size g.journal) (compaction g
 pub record Untouched {J : Type 0} (g h : Gate J) : Type 0 where
   pub journal : h.journal ≡ g.journal
   pub fault : h.fault ≡ g.fault
+  pub length : h.renewed_from ≡ g.renewed_from
 
 -- what was ready is kept before anything is sent
 pub data Keeping {J : Type 0} (kept : J → List ℕ) (may_leave : J → List ℕ → Type 0) (old new : Gate J) (sent : List ℕ) :
@@ -141,6 +148,7 @@ pub record Renews {J : Type 0} (kept : J → List ℕ) (may_leave : J → List �
     (h : Gate J) : Type 0 where
   pub cut : (c : List ℕ) → may_leave h.journal c → may_leave g.journal c ⊎ ((c ≡ records) × (is_closed g ≡ false))
   pub going : is_closed h ≡ false → (is_closed g ≡ false) × Renewal kept may_leave g records h
+  pub length : h.renewed_from ≡ g.renewed_from
 
 -- the line of a record was taken
 pub record TookLine {J : Type 0} (g : Gate J) (fields : List (List ℕ)) (h : Gate J) : Type 0 where

@@ -2,7 +2,7 @@
 
 ghost use Rattle.std.specs.Prelude.{◌≡◌, ◌≤◌, ◌++◌, ℕ, List, [], take, length, None, Ok, IfOk, IfErr, OnOk, OnErr, IsTrue, false, true};
 ghost use Rattle.csv.specs.Records.{fields_of};
-ghost use Rattle.olr_sessions.specs.Gates.{Keeping, Passes, PassesSome, PassesAll, Untouched, SameBatch, SettledBy, TakesFound, Renews, is_closed, ready, batch, compaction, asks, compaction_taking, settled_compaction};
+ghost use Rattle.olr_sessions.specs.Gates.{Keeping, Passes, PassesSome, PassesAll, Untouched, SameBatch, SettledBy, TakesFound, Renews, is_closed, ready, batch, compaction, asks, compaction_taking, first_from, settled_compaction};
 ghost use Rattle.olr_sessions.specs.Gates as gates;
 ghost use Rattle.olr_sessions.specs.Journals as journals;
 ghost use Rattle.olr_sessions.specs.declared.unkept.Effect.TheVariants as effect;
@@ -47,19 +47,22 @@ pub struct Gate<J: Drop> {
 }
 
 impl<J: Journal + Drop> Gate<J> {
-    /// A gate with this log, before the first record. A log of so many bytes is replaced by the records of what is accepted.
+    /// A gate with this log, before the first record. A log of so many bytes is replaced by the records of what is accepted. One
+    /// that has them already was replaced at the start, or could not be: it is replaced once it has twice its length.
     pub fn new(alloc: Global, journal: J, renewed_from: usize) -> Gate<J>
         ensures journal { result.journal ≡ journal }
         ensures waiting { waiting result.unkept ≡ record { ready = []; batch = [] } }
         ensures open { result.fault ≡ None }
-        ensures due { compaction result ≡ record { is_wanted = false; next_from = renewed_from; renewed_from = renewed_from } }
+        ensures due { compaction result
+            ≡ record { is_wanted = false; next_from = first_from (J.size journal) renewed_from; renewed_from = renewed_from } }
     {
+        let next_from = first_from(journal.len(), renewed_from);
         Gate {
             journal,
             unkept: Unkept::new(alloc),
             fault: None,
             renewed_from,
-            next_from: renewed_from,
+            next_from,
             is_wanted: false,
         }
     }
@@ -316,6 +319,16 @@ impl<J: Journal + Drop> Gate<J> {
         }
         Ok(())
     }
+}
+
+/// The length from which on a log of so many bytes is replaced first.
+fn first_from(len: usize, least: usize) -> usize
+    ensures { result ≡ gates.first_from len least }
+{
+    if len < least {
+        return least;
+    }
+    twice(len, least)
 }
 
 /// Twice a length, and this length at least.

@@ -2,4 +2,5 @@ mod again;
 mod choices;
 mod extension;
 mod maps;
+mod margins;
 mod queries;

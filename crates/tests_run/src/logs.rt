@@ -4,7 +4,8 @@ ghost use Rattle.std.specs.Prelude.{◌≡◌, vec_len};
 
 use olr_register::Register;
 use olr_run::{
-    Buffered, Journal, LogFault, RestoreFault, RunFault, Status, restore, run, run_with_log,
+    Buffered, Journal, LogFault, RestoreFault, RunFault, Status, compaction_length, restore, run,
+    run_with_log,
 };
 use std::alloc::{AllocError, Global};
 use std::io;
@@ -73,6 +74,9 @@ fn run_logged(
     fails_from: usize,
     in_place: bool,
 ) -> Result<Left, AllocError> {
+    let Some(from) = compaction_length(None) else {
+        return Err(AllocError);
+    };
     let mut register = Register::new(alloc);
     let mut output = Buffered::new(alloc, Vec::new(alloc))?;
     let journal = Kept {
@@ -88,7 +92,7 @@ fn run_logged(
         none,
         records,
         journal,
-        usize::MAX,
+        from,
         &mut output,
         false,
     );

@@ -168,6 +168,8 @@ def question_about(line: bytes) -> str:
         return f"show-line,{number}"
     if word in ("path", "repath", "drop-path"):
         return f"show,{number}"
+    if word == "margin":
+        return "show-margin"
     return line[:SHOWN].decode("latin-1")
 
 

@@ -9,9 +9,9 @@ from olr_keep_tools.replies import NO_RECORD, is_one_record
 
 MOST_LINE = 1 << 20  # bytes of a line
 # Changes of the map and of paths without quotes, other than `drop-path`, which follow each other.
-CHANGES = re.compile(rb"(?:(?:node|move|line|set-line|drop-node|drop-line|path|repath),[^\n]*\n)+")
+CHANGES = re.compile(rb"(?:(?:node|move|line|set-line|drop-node|drop-line|path|repath|margin),[^\n]*\n)+")
 COMMIT = re.compile(rb"commit,[0-9]{1,20}")
-CHANGE_WORDS = frozenset(b"node move line set-line drop-node drop-line path repath drop-path".split())
+CHANGE_WORDS = frozenset(b"node move line set-line drop-node drop-line path repath drop-path margin".split())
 MOST_COUNT = 4294967295
 
 

@@ -4,6 +4,8 @@ import socket
 from typing import Dict, List
 
 FIRST_SOCKET = 3
+MOMENT = 1.0  # seconds for which a change of state waits until there is room for it
+STATES = ("READY=1", "RELOADING=1", "STOPPING=1")
 
 
 class Systemd:
@@ -15,12 +17,14 @@ class Systemd:
         self.watchdog = int(environment.pop("WATCHDOG_USEC", "0")) / 1e6 if self.is_watched else 0.0
 
     def tell(self, *words: str) -> None:
-        """Sends assignments such as READY=1. Nothing happens if nobody listens."""
+        """Sends assignments such as READY=1. Nothing happens if nobody listens, or if what was sent before isn't read: the service
+        never waits for its manager."""
         if not self.address:
             return
         name = "\0" + self.address[1:] if self.address.startswith("@") else self.address
         try:
             with socket.socket(socket.AF_UNIX, socket.SOCK_DGRAM | socket.SOCK_CLOEXEC) as to:
+                to.settimeout(MOMENT if set(words) & set(STATES) else 0.0)
                 to.connect(name)
                 to.sendall("\n".join(words).encode())
         except OSError:

@@ -17,7 +17,7 @@ MOST_UNSENT = 1 << 20  # bytes of records of a connection that wait; no more are
 MOST_TEXTS = 10_000  # replies of the service itself that wait
 OUTPUT_HIGH = 1 << 20
 REFUSED_FOR = 1.0  # seconds until a connection that isn't taken is closed
-IN_BATCH = (b"show", b"report", b"explain")  # questions that are answered while a batch is open
+IN_BATCH = (b"show", b"show-margin", b"report", b"explain")  # questions that are answered while a batch is open
 ASKED_OUTSIDE = (b"dump", b"compact", b"ambiguous", b"show-node", b"show-line", b"depends")
 
 

@@ -138,11 +138,12 @@ class Pairing(Matcher):
         return [it for it in numbers if distance(at, degrees(state.nodes[it])) <= self.tolerance]
 
     def nearest(self, node: int, near: List[int]) -> Optional[int]:
-        """The one of these nodes that this one is: as many nodes around it have lines from and to the same places as far as
-        possible, and are moved alike, else it is the nearest to where this one is moved to, unless that is nearer to another old
-        one."""
+        """The one of these nodes that this one is. If there are as many around it, and no others near, they have lines to the
+        same places as far as possible, and are moved alike. Else it is the nearest to where this one is moved to, unless that is
+        nearer to another old one."""
         rivals = self.near(self.old_cells, self.old, self.old.nodes[node])
-        if 1 < len(near) == len(rivals) <= TOGETHER:
+        others = (it for number in near for it in self.near(self.old_cells, self.old, self.new.nodes[number]))
+        if 1 < len(near) == len(rivals) <= TOGETHER and set(rivals).issuperset(others):
             found = min(itertools.permutations(near), key=lambda it: (self.parted(rivals, it), self.spread(rivals, it)))
             return found[rivals.index(node)]
         by = self.displacement(node)

@@ -3,7 +3,7 @@ import enum
 import math
 from typing import Dict, Iterator, List, Mapping, NamedTuple, Optional, Sequence, Tuple
 
-from ..courses import Plane, Strip
+from ..courses import Plane, Polyline, Strip
 from ..drawn import Course, courses, part
 from ..geo import Degrees, degrees
 from ..records import Path, State
@@ -12,6 +12,8 @@ from .carry import Carried, Gone, How, Report, Result
 
 SLACK = 0.2  # metres by which rounded positions may be off
 SAMPLE = 10.0  # metres between the points of a course that is compared
+CLOSE = 0.01  # metres by which a course may be farther off than what is found
+BESIDE = 6  # segments of a course that are compared with a segment of the other one
 REPORTED = 1000
 
 Answer = Sequence[str]
@@ -80,21 +82,35 @@ class Apart(NamedTuple):
     length: float
 
 
+def nearest(strip: Strip, point: Degrees) -> Tuple[float, int]:
+    """How far a course is from a point, and which segment of it is the nearest."""
+    near = strip.segments_near(point)
+    found = min(((far, k) for k, (far, _) in zip(near, strip.project(point, near))), default=(math.inf, 0))
+    if found[0] > strip.cell:
+        found = min(((far, k) for k, (far, _) in enumerate(strip.project(point))), default=(math.dist(point, strip.points[0]), 0))
+    return found
+
+
 def apart(course: Sequence[Degrees], other: Sequence[Degrees], tolerance: float) -> Apart:
     """How far a course is off another one."""
     if course == other:
         return Apart(0.0, 0.0)
     plane = Plane(course[0][1])
-    strip = Strip([plane.flat(it) for it in other], 50.0)
-    line = Strip([plane.flat(it) for it in course], 50.0)
-    worst, off, last = 0.0, 0.0, 0.0
-    for at in line.samples(0.0, line.length):
-        point = line.at(at)
-        far = min((it[0] for it in strip.project(point, strip.segments_near(point))), default=math.inf)
-        if far > strip.cell:
-            far = min((it[0] for it in strip.project(point)), default=math.dist(point, strip.points[0]))
-        off += at - last if far > tolerance else 0.0
-        worst, last = max(worst, far), at
+    strip, line = Strip([plane.flat(it) for it in other], 50.0), Polyline([plane.flat(it) for it in course])
+    (worst, first), off = nearest(strip, line.points[0]), 0.0
+    for k, (a, b) in enumerate(zip(line.points, line.points[1:])):
+        far, last = nearest(strip, b)
+        worst = max(worst, far)
+        # A segment is no farther from any point between two than from one of these.
+        beside = range(max(0, min(first, last) - 1), min(max(first, last) + 2, min(first, last) + BESIDE, len(other) - 1))
+        ends = zip(strip.project(a, beside), strip.project(b, beside))
+        if min((max(one[0], two[0]) for one, two in ends), default=math.inf) > min(worst + CLOSE, tolerance):
+            before = line.far[k]
+            for at in line.samples(before, line.far[k + 1]):
+                far, _ = nearest(strip, line.at(at))
+                off += at - before if far > tolerance else 0.0
+                worst, before = max(worst, far), at
+        first = last
     return Apart(worst, off)
 
 
@@ -140,17 +156,19 @@ class Judge:
     def compared(self, verdict: Verdict, found: Carried) -> Verdict:
         """The verdict on a path with a string on both maps."""
         course = shape_of(self.new.state, self.new.state.paths[verdict.name])
-        there = apart(verdict.course, course, self.tolerance)
-        back = apart(course, verdict.course, self.tolerance)
-        was, now = (intervals(it.split(",")) for it in verdict.answers)
-        fits = all(off <= max(pair) + SLACK for off, *pair in zip(found.off, was, now))
-        before = self.old.ambiguous.get(verdict.name, ())
-        more = tuple(self.new.ambiguous.get(verdict.name, ())) if not before else ()
-        kind = Kind.OTHER_ROAD
-        if fits and max(there.far, back.far) <= self.tolerance:
-            kind = Kind.SAME_STRING if verdict.answers[0] == verdict.answers[1] else Kind.SAME_ROAD
-        return verdict._replace(kind=kind, far=max(there.far, back.far), length=max(there.length, back.length),
-                                ends=found.off, ambiguous=more, course=course)
+        more = () if self.old.ambiguous.get(verdict.name) else self.new.ambiguous.get(verdict.name, ())
+        return compared(verdict._replace(ends=found.off, ambiguous=more), course, self.tolerance)
+
+
+def compared(verdict: Verdict, course: Sequence[Degrees], tolerance: float) -> Verdict:
+    """The verdict on a path with a string before and now, whose course was that of the verdict and is this one."""
+    there, back = apart(verdict.course, course, tolerance), apart(course, verdict.course, tolerance)
+    was, now = (intervals(it.split(",")) for it in verdict.answers)
+    fits = all(off <= max(pair) + SLACK for off, *pair in zip(verdict.ends, was, now))
+    kind = Kind.OTHER_ROAD
+    if fits and max(there.far, back.far) <= tolerance:
+        kind = Kind.SAME_STRING if verdict.answers[0] == verdict.answers[1] else Kind.SAME_ROAD
+    return verdict._replace(kind=kind, far=max(there.far, back.far), length=max(there.length, back.length), course=course)
 
 
 def given(old: State, new: State, name: str) -> Optional[Carried]:

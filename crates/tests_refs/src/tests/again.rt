@@ -5,7 +5,7 @@ use super::maps::{BARE, LONG, PlainPath, path_of};
 use super::queries::{DETOUR, EQUAL, ROAD, ROUND, TOO_LONG_FIRST, WHOLE, grid_map};
 use made_maps::{Plan, WORKED, map_of};
 use olr_map::RoadMap;
-use olr_refs::{Encoding, KnownQuery, Path, encode, encode_again};
+use olr_refs::{Encoding, KnownQuery, Margin, Path, encode, encode_again};
 use olr_route::Dijkstra;
 use std::alloc::Global;
 use std::process::Abort;
@@ -45,10 +45,15 @@ fn expect_same(rt: &impl Abort, first: &Encoding, second: &Encoding) {
 }
 
 /// A path encoded, and encoded again with its known coverage queries.
-fn encode_twice(alloc: Global, map: &RoadMap, path: &Path) -> Result<(Encoding, Encoding), Fail> {
+fn encode_twice(
+    alloc: Global,
+    map: &RoadMap,
+    path: &Path,
+    margin: Margin,
+) -> Result<(Encoding, Encoding), Fail> {
     let mut search = Dijkstra::new(alloc);
-    let first = encode(alloc, map, path, &mut search)?;
-    let second = encode_again(alloc, map, path, &first.known, &mut search)?;
+    let first = encode(alloc, map, path, margin, &mut search)?;
+    let second = encode_again(alloc, map, path, margin, &first.known, &mut search)?;
     Ok((first, second))
 }
 
@@ -61,7 +66,7 @@ fn expect_again(
     wanted: &[Known],
 ) -> Result<(), Fail> {
     let path = path_of(rt, alloc, plain);
-    let (first, second) = encode_twice(alloc, map, &path)?;
+    let (first, second) = encode_twice(alloc, map, &path, Margin::none())?;
     let (work, more) = (first.work, second.work);
     expect_known(rt, &first.known, wanted);
     expect_same(rt, &first, &second);

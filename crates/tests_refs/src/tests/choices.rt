@@ -7,7 +7,7 @@ ghost use Rattle.olr_spec.specs.Extension.{AreJoined};
 use super::maps::{BARE, LONG, LONG_BARE, PASSING, PlainPath, path_of};
 use made_maps::{Place, Plan, STRAIGHT, WORKED, end_of, map_of, start_of};
 use olr_map::{Footprint, LineId, MapRead, RoadMap};
-use olr_refs::{Choice, Reuse, distances, extend, points, resolve};
+use olr_refs::{Choice, Margin, Reuse, distances, extend, points, resolve};
 use olr_route::Dijkstra;
 use std::alloc::{AllocError, Global};
 use std::process::Abort;
@@ -66,6 +66,7 @@ fn expect_chosen(
         map,
         lines,
         records: &records,
+        margin: Margin::none(),
         distances: &distances,
     };
     let mut search = Dijkstra::new(alloc);

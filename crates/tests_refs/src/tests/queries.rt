@@ -6,21 +6,21 @@ use made_maps::{
     plain_line,
 };
 use olr_map::{Edit, Footprint, RoadMap};
-use olr_refs::{Encoding, Path, encode, refer};
+use olr_refs::{Encoding, Margin, Path, encode, refer};
 use olr_route::{Dijkstra, Direction, GREATEST_LIMIT, Work, settled_search};
 use std::alloc::{AllocError, Global};
 use std::process::Abort;
 use std::test::Fail;
 
-/// A coverage query: the node where it begins, that of the last position that it tested, and their distance along the
-/// path, in decimetres.
-type Seen = (u32, u32, u32);
+/// A coverage query: the node where it begins, that of the last position that it tested, and what the path between
+/// counts, in decimetres.
+pub type Seen = (u32, u32, u32);
 
 /// What is expected of an encoding: its traversed nodes, and its coverage queries.
 type Wanted = (&'static [u32], &'static [Seen]);
 
 /// The traversed nodes, and those that a route of at most the length of a coverage query reaches from its start.
-fn seen(alloc: Global, map: &RoadMap, encoding: &Encoding) -> Result<Footprint, Fail> {
+pub fn seen(alloc: Global, map: &RoadMap, encoding: &Encoding) -> Result<Footprint, Fail> {
     let mut nodes = Footprint::new(alloc);
     nodes.note_all(encoding.traversed.as_slice())?;
     for query in &encoding.queries {
@@ -61,7 +61,7 @@ fn traversed_of(alloc: Global, encoding: &Encoding) -> Result<Vec<u32>, AllocErr
 }
 
 /// The coverage queries of an encoding.
-fn queries_of(alloc: Global, encoding: &Encoding) -> Result<Vec<Seen>, AllocError> {
+pub fn queries_of(alloc: Global, encoding: &Encoding) -> Result<Vec<Seen>, AllocError> {
     let mut queries = Vec::new(alloc);
     for query in &encoding.queries {
         queries.push((query.from.number(), query.to.number(), query.within))?;
@@ -96,7 +96,7 @@ fn expect_queries(
 ) -> Result<(), Fail> {
     let path = path_of(rt, alloc, plain);
     let mut search = Dijkstra::new(alloc);
-    let encoding = encode(alloc, map, &path, &mut search)?;
+    let encoding = encode(alloc, map, &path, Margin::none(), &mut search)?;
     expect_seen(rt, alloc, &encoding, wanted, plain);
     let searches = encoding.queries.len() as u64;
     let counted = (encoding.work.encodings, encoding.work.searches);

@@ -1,14 +1,16 @@
 -- How a run from a log ends, from the contracts of its parts.
-use Rattle.std.proofs.Common.{refl}
-use Rattle.std.specs.Prelude.{is_ok}
+use Rattle.std.proofs.Common.{◌≡◌, Bool, refl, subst}
+use Rattle.std.specs.Prelude.{IfOk, is_ok}
 use Rattle.olr_run.proofs.Common.{both_records, file_bytes}
-use Rattle.olr_run.specs.ProgramEnds.{Not_begun}
+use Rattle.olr_run.specs.LogEnds.{is_rejected}
+use Rattle.olr_run.specs.ProgramEnds.{Not_begun, ended_code}
+use Rattle.olr_sessions.specs.declared.ends.Status.{Status}
 use Rattle.olr_run.proofs.FromLogs.{cut_from, ended_from, on_true}
 use Rattle.olr_run.proofs.from_log.run_from_log.Goals as goal
 
 pub returns-in-Err-clause-ends : goal.returns-in-Err-clause-ends
 returns-in-Err-clause-ends g c =
-    Not_begun refl c.report_start.ensures.least c.report_start.ensures.bounded c.in-Err.ensures.unbegun
+    Not_begun refl (is_rejected c.in-Err.fault) c.report_start.ensures c.in-Err.ensures.unbegun
 
 pub returns-clause-ends : goal.returns-clause-ends
 returns-clause-ends g c =
@@ -19,7 +21,8 @@ returns-clause-ends g c =
     c.close_log-log.ensures.cut)
     c.args.asked.now.stop c.in-Ok.begun.0 r.new.register
     (both_records (file_bytes g.F.Read.remaining c.args.file) (g.R.Read.remaining c.args.input))
-    c.log_status.result c.in-Ok.ensures.begun.1 r.ensures.ended c.log_status.ensures.ended
+    c.log_status.result c.in-Ok.ensures.begun.1 r.ensures.ended
+    (subst (λ (b : Bool). IfOk r.result.0 (λ (end : Status). c.log_status.result ≡ ended_code end b)) c.is_open-in_batch.ensures c.log_status.ensures.ended)
     c.log_status.ensures.cut
 
 pub returns-clause-sent : goal.returns-clause-sent

@@ -1,3 +1,4 @@
+use Rattle.std.proofs.lemmas.Result.{err_from_is_err_and}
 use Rattle.std.proofs.Common.{sym, subst, arith}
 use Rattle.csv.specs.Records.{fields_of}
 use Rattle.olr_commands.specs.State.{Content}
@@ -5,6 +6,7 @@ use Rattle.olr_register.specs.RegisterState.{Represents}
 use Rattle.olr_run.specs.Logged.{closed}
 use Rattle.olr_run.specs.Output.{records_of}
 use Rattle.olr_run.proofs.LogRecords.{one_content}
+use Rattle.olr_run.proofs.Refusing.{if_err, none_leads, open_leads}
 use Rattle.olr_run.proofs.Restoring.{if_ok, loading_start, loading_more, loading_end}
 use Rattle.olr_run.proofs.loader.restore_noting.Goals as goal
 
@@ -12,7 +14,7 @@ pub records-init : goal.records-init
 records-init c = record {
   few = omega arith;
   loading = loading_start (records_of c.args.text.now) c.new-records.result c.in_ok-loader.loader c.new-records.ensures.left
-      c.in_ok-loader.ensures;
+      c.in_ok-loader.ensures.loads;
 }
 
 pub records-preserved : goal.records-preserved
@@ -20,19 +22,33 @@ records-preserved c = record {
   few = omega (arith, c.records.invariant.few, c.if-taken-eq-MOST_RECORDS.false);
   loading = loading_more (records_of c.args.text.now) c.records.records c.next.new.self c.records.loader c.take.new.self
       (fields_of c.next.new.row) c.records.invariant.loading (rw c.if-branch.true at c.in_ok-next.ensures.takes)
-      c.in_ok-take.ensures;
+      c.in_ok-take.ensures.loads;
 }
 
 pub returns-clause-content : goal.returns-clause-content
 returns-clause-content c =
-    if_ok c.finish.result _ _ c.finish.ensures (λ r finished.
+    if_ok c.finish.result _ _ c.finish.ensures.finished (λ r finished.
     loading_end c.args.text.now c.records.records c.records.loader r c.records.invariant.loading
     (rw c.if-branch.false at c.in_ok-next.ensures.takes) finished)
 
 pub returns-clause-leads : goal.returns-clause-leads
 returns-clause-leads c =
-    if_ok c.finish.result _ _ c.finish.ensures (λ r finished d l.
+    if_ok c.finish.result _ _ c.finish.ensures.finished (λ r finished d l.
     let e =
     loading_end c.args.text.now c.records.records c.records.loader r c.records.invariant.loading
     (rw c.if-branch.false at c.in_ok-next.ensures.takes) finished in
     subst (λ (x : Content). Represents r.kept (closed x)) (sym (one_content c.args.text.now d e.0 l e.1)) e.2)
+
+pub returns-clause-refused : goal.returns-clause-refused
+returns-clause-refused c =
+    if_err c.finish.result _ _ c.finish.ensures.refused (λ e refused is.
+    open_leads c.args.text.now c.records.records c.records.loader c.records.invariant.loading
+    (rw c.if-branch.false at c.in_ok-next.ensures.takes) (refused is))
+
+pub returns-in_err-take-clause-refused : goal.returns-in_err-take-clause-refused
+returns-in_err-take-clause-refused c =
+    let p = err_from_is_err_and c.from_residual-in_err-take.result c.from_residual-in_err-take.ensures.1 in
+    rw p.1
+    (rw p.2 (λ is.
+    none_leads c.args.text.now c.records.records c.next.new.self c.records.loader (fields_of c.next.new.row)
+    c.records.invariant.loading (rw c.if-branch.true at c.in_ok-next.ensures.takes) (c.in_err-take.ensures.refused is)))

@@ -1,10 +1,11 @@
 -- A run with a log over an input, from its session.
-use Rattle.std.proofs.Common.{Option, sym, subst}
+use Rattle.std.proofs.Common.{◌∙◌, Option, sym, ap, subst}
 use Rattle.olr_run.proofs.Common.{file_bytes, input_records, IfSome}
 use Rattle.olr_run.proofs.InputRuns.{known_left}
-use Rattle.olr_run.proofs.LoggedRuns.{cut_logged, log_known, none_logged}
+use Rattle.olr_run.proofs.LoggedRuns.{cut_logged, log_known, none_logged, run_length}
 use Rattle.olr_sessions.specs.Buffers.{unread}
 use Rattle.olr_sessions.specs.Sessions.{csv_left}
+use Rattle.olr_sessions.specs.declared.gate.Gate.{Gate}
 use Rattle.olr_sessions.specs.declared.sources.Records.{Records}
 use Rattle.olr_run.proofs.logged.run_logged.Goals as goal
 
@@ -23,7 +24,17 @@ returns g c =
     (subst (λ (s : Records g.row.R.Denot). IfSome (input_records (g.R.Read.remaining c.in-Some.input)) (left s))
     (sym c.new-session.ensures.source) begins)) c.new-session.ensures.gate
     c.into_gate.ensures c.run_session-ended.ensures.ran c.run_session-ended.ensures.cut in
-    record { ended = k.0; too_many = k.1 }
+    let length =
+    run_length left g.W.Write.contents g.J.Journal.kept g.J.Journal.may_leave c.args.stop c.args.register.now
+    c.run_session-ended.new.register (c.new-session.result, c.args.output.now)
+    (c.run_session-ended.new.session, c.run_session-ended.new.output) c.run_session-ended.result
+    c.run_session-ended.ensures.ran c.run_session-ended.ensures.cut in
+    record {
+      ended = k.0;
+      too_many = k.1;
+      length = ap (λ (x : Gate g.row.J.Denot). x.renewed_from) c.into_gate.ensures ∙ length
+          ∙ ap (λ (x : Gate g.row.J.Denot). x.renewed_from) c.new-session.ensures.gate;
+    }
 
 pub returns-in_default-clause-ended : goal.returns-in_default-clause-ended
 returns-in_default-clause-ended g c =

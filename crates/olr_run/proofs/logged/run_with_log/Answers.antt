@@ -1,6 +1,8 @@
 use Rattle.olr_run.proofs.Common.{both_records, file_bytes}
 use Rattle.olr_run.proofs.LoggedRuns.{held_sent, lasting, many_sent}
 use Rattle.olr_sessions.specs.Buffers.{written}
+use Rattle.olr_sessions.specs.Gates.{Compaction}
+use Rattle.std.proofs.Common.{◌∙◌, ap}
 use Rattle.olr_run.proofs.logged.run_with_log.Goals as goal
 
 pub returns-clause-ended : goal.returns-clause-ended
@@ -14,6 +16,11 @@ returns-clause-ended g c =
     (both_records (file_bytes g.F.Read.remaining c.args.file) (g.R.Read.remaining c.args.input))
     (written g.W.Write.contents c.args.output.now) b.new.register b.result.0 s.result s.ensures.kept s.ensures.fault
     b.ensures.ended)
+
+pub returns-clause-length : goal.returns-clause-length
+returns-clause-length g c =
+    ap (λ (x : Compaction). x.renewed_from) c.send-sent.ensures.passes.due ∙ c.run_both_logged-ended.ensures.length
+    ∙ ap (λ (x : Compaction). x.renewed_from) c.new-gate.ensures.due ∙ c.get.ensures
 
 pub returns-clause-too_many : goal.returns-clause-too_many
 returns-clause-too_many g c =

@@ -1,5 +1,6 @@
 -- A start, from the contracts of its parts.
-use Rattle.olr_run.proofs.FromLogs.{always_err, begins_from, unbegun_after, unbegun_read}
+use Rattle.olr_run.proofs.FromLogs.{begins_from, unbegun_after, unbegun_read}
+use Rattle.std.proofs.lemmas.Result.{err_from_is_err_and}
 use Rattle.olr_run.proofs.starts.begin_with.Goals as goal
 
 pub returns-clause-begun : goal.returns-clause-begun
@@ -13,11 +14,17 @@ returns-clause-begun g c = (
 
 pub returns-in_err-register-clause-unbegun : goal.returns-in_err-register-clause-unbegun
 returns-in_err-register-clause-unbegun g c =
-    always_err c.from_residual.result _
-    (unbegun_read c.args.log.now c.read_log.new.log c.read_log.ensures.kept c.read_log.ensures.less)
+    let p = err_from_is_err_and c.from_residual.result c.from_residual.ensures.1 in
+    rw p.1
+    (rw p.2
+    (unbegun_read c.args.log.now c.read_log.new.log _ c.read_log.ensures.kept
+    c.read_log.ensures.less c.in_err-register.ensures.refused))
 
 pub returns-in_err-prepare_log-clause-unbegun : goal.returns-in_err-prepare_log-clause-unbegun
 returns-in_err-prepare_log-clause-unbegun g c =
-    always_err c.from_residual-in_err-prepare_log.result _
-    (unbegun_after c.args.log.now c.read_log.new.log c.prepare_log.new.log c.in_ok-register.register c.read_log.ensures.kept
-    c.read_log.ensures.less c.in_ok-register.ensures.content c.prepare_log.ensures.cut)
+    let p = err_from_is_err_and c.from_residual-in_err-prepare_log.result c.from_residual-in_err-prepare_log.ensures.1 in
+    rw p.1
+    (rw p.2
+    (unbegun_after c.args.log.now c.read_log.new.log c.prepare_log.new.log _ c.in_ok-register.register
+    c.read_log.ensures.kept c.read_log.ensures.less c.in_ok-register.ensures.content c.prepare_log.ensures.cut
+    c.in_err-prepare_log.ensures.fails))

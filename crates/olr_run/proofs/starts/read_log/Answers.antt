@@ -15,3 +15,8 @@ pub returns-in-Ok-restore_noting-clause-leads : goal.returns-in-Ok-restore_notin
 returns-in-Ok-restore_noting-clause-leads g c = λ clean k l.
     c.in-Ok-restore_noting.ensures.leads k
     (subst (λ (x : List ℕ). Leads x k) (sym (c.as_slice.ensures.value ∙ c.in-Ok.ensures.text clean)) l)
+
+pub returns-clause-refused : goal.returns-clause-refused
+returns-clause-refused g c = λ is clean k l.
+    c.in-Err-restore_noting.ensures.refused (sym c.records_fault.ensures ∙ is) k
+    (subst (λ (x : List ℕ). IsContentOf x k) (sym (c.as_slice.ensures.value ∙ c.in-Ok.ensures.text clean)) l)

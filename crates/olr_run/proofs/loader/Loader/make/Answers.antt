@@ -1,15 +1,27 @@
 use Rattle.std.proofs.Common.{◌≡◌, ◌∙◌, true, false, refl, sym}
 use Rattle.olr_run.proofs.Common.{command_of}
+use Rattle.std.proofs.lemmas.Result.{err_from_is_err_and}
+use Rattle.olr_run.proofs.Refusing.{change_full, change_never}
 use Rattle.olr_run.proofs.Restoring.{loaded_change}
 use Rattle.olr_run.proofs.loader.Loader.make.Goals as goal
 
-pub returns-then-not-self : goal.returns-then-not-self
-returns-then-not-self c =
-    loaded_change c.args.self.now _ (command_of c.args.command) c.requires.change c.in_ok-apply.ensures refl refl
+pub returns-then-not-self-clause-loaded : goal.returns-then-not-self-clause-loaded
+returns-then-not-self-clause-loaded c =
+    loaded_change c.args.self.now _ (command_of c.args.command) c.requires.change c.in_ok-apply.ensures.steps refl refl
     (λ inside. absurd (let never : true ≡ false = sym inside ∙ c.if-not-self.true in cc))
     (λ inside. absurd (let never : true ≡ false = sym inside ∙ c.if-not-self.true in cc))
 
-pub returns : goal.returns
-returns c =
-    loaded_change c.args.self.now _ (command_of c.args.command) c.requires.change c.in_ok-apply-2.ensures refl refl
+pub returns-clause-loaded : goal.returns-clause-loaded
+returns-clause-loaded c =
+    loaded_change c.args.self.now _ (command_of c.args.command) c.requires.change c.in_ok-apply-2.ensures.steps refl refl
     (λ _. refl) (λ _. c.if-self-ge-FULL.false)
+
+pub returns-then-self-ge-FULL-clause-refused : goal.returns-then-self-ge-FULL-clause-refused
+returns-then-self-ge-FULL-clause-refused c = λ is.
+    change_full c.args.self.now (command_of c.args.command) c.requires.change c.if-not-self.false c.if-self-ge-FULL.true
+
+pub returns-in_err-apply-2-clause-refused : goal.returns-in_err-apply-2-clause-refused
+returns-in_err-apply-2-clause-refused c =
+    let p = err_from_is_err_and c.from_residual-in_err-apply-2.result c.from_residual-in_err-apply-2.ensures.1 in
+    rw p.1
+    (rw p.2 (λ is. change_never c.args.self.now (command_of c.args.command) c.requires.change c.requires.room (c.in_err-apply-2.ensures.refused is)))

@@ -1,9 +1,11 @@
 use Rattle.std.proofs.Common.{sym, subst}
-use Rattle.olr_spec.specs.Queries.{AreKnown}
-use Rattle.olr_spec.proofs.KnownLemmas.{known_right}
+use Rattle.std.proofs.lemmas.List.Elements.{All-weaker}
+use Rattle.olr_spec.specs.Queries.{AreKnownWith, IsKnownOfWith, IsKnownWith}
 use Rattle.tests_refs.proofs.tests.again.encode_twice.Goals as goal
 
 pub encode_again-requires : goal.encode_again-requires
 encode_again-requires c =
-    subst (AreKnown _ c.args.path.now.lines) (sym c.deref.ensures.value)
-    (known_right _ c.args.path.now.lines _ _ c.in_ok-first.ensures.encoding.known)
+    let lines = c.args.path.now.lines in
+    subst (AreKnownWith c.args.margin _ lines) (sym c.deref.ensures.value)
+    (All-weaker (IsKnownOfWith c.args.margin _ lines _) (IsKnownWith c.args.margin _ lines) (λ _ k. k.right) _
+    c.in_ok-first.ensures.encoding.known)

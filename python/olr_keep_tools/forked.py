@@ -1,0 +1,59 @@
+"""A computation in a process of its own, which shares what this one has in memory, and nothing else."""
+from __future__ import annotations
+
+import os
+import pickle
+import select
+import signal
+from typing import Callable, Generic, Optional, TypeVar
+
+Result = TypeVar("Result")
+PIECE = 1 << 20  # bytes that are read at once
+TICK = 1.0  # seconds
+
+
+class Forked(Generic[Result]):
+    """A function that is called in a child process. The child closes all files that it inherits, and writes the pickled result
+    to a pipe. There must be no other thread."""
+
+    def __init__(self, work: Callable[[], Result]) -> None:
+        self.reading, writing = os.pipe()
+        self.process = os.fork()
+        if self.process == 0:
+            self.run(work, writing)
+        os.close(writing)
+
+    def run(self, work: Callable[[], Result], writing: int) -> None:
+        """What the child does: it never returns."""
+        status = 1
+        try:
+            for it in (signal.SIGTERM, signal.SIGINT):
+                signal.signal(it, signal.SIG_DFL)
+            os.dup2(writing, 3)
+            os.closerange(4, max(map(int, os.listdir("/proc/self/fd"))) + 1)
+            with open(3, "wb") as file:
+                pickle.dump(work(), file, pickle.HIGHEST_PROTOCOL)
+            status = 0
+        finally:
+            os._exit(status)
+
+    def result(self, tick: Callable[[], None]) -> Optional[Result]:
+        """Waits for the result, and calls `tick` each second: None if the child was killed, or the function failed."""
+        found, piece = bytearray(), b"?"
+        while piece:
+            if select.select([self.reading], [], [], TICK)[0]:
+                piece = os.read(self.reading, PIECE)
+                found += piece
+            else:
+                tick()
+        return pickle.loads(bytes(found)) if self.waited() == 0 else None
+
+    def end(self) -> None:
+        """Kills the child."""
+        os.kill(self.process, signal.SIGKILL)
+        self.waited()
+
+    def waited(self) -> int:
+        """Waits for the end of the child, and returns its status."""
+        os.close(self.reading)
+        return os.waitpid(self.process, 0)[1]
